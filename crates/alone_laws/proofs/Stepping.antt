@@ -20,7 +20,7 @@ use Rattle.flat_model.specs.declared.calls.SystemCall.{SystemCall}
 use Rattle.flat_model.specs.Calls.{call_of}
 use Rattle.flat_model.specs.Instruction.{instruction_in}
 use Rattle.flat_model.specs.Step.{Step, data_pages_of, pages_down_to, replied_step, reply_behind, called_step, step_behind, step_of, flat_step}
-use Rattle.flat_model.specs.Run.{Point, is_refused, step_at, behind_first, due, due_at, first_if, act, behind, point_after, same_entry, same_as, process_of_entry, may_follow, where_so, flat_entry_of, flat_entry_if, flat_entry_by, flat_entry, flat_units}
+use Rattle.flat_model.specs.Run.{Point, is_refused, step_at, behind_first, due, due_at, first_if, entry_of_step, behind, point_after, same_entry, same_as, process_of_entry, may_follow, where_so, flat_entry_of, flat_entry_if, flat_entry_by, flat_entry, flat_units}
 use Rattle.flat_laws.proofs.Numbers.{step_numbered}
 use Rattle.run_laws.proofs.Others.{number_of_found}
 use Rattle.economy_laws.proofs.Idle.{found_after}
@@ -189,7 +189,7 @@ behind_leads A p q pid (x ∷ y ∷ es) d e = Stays (ap (λ (z : Point). z.flat)
 
 leads : (A : Inputs) (p q : Point) (pid : ℕ) (u : Entry) → flat_entry_of A p pid u ≡ Some q → Leads A p q pid
 leads A p q pid (entries.Refused n) e = Stays (ap (λ (x : Point). x.flat) (sym (where_is (can_step p.flat pid) (record p { last = Some (entries.Refused n) }) q e).1))
-leads A p q pid u e = behind_leads A p q pid (due_at A p pid) refl (where_is (same_as (act A p pid) u) (point_after A p pid) q e).1
+leads A p q pid u e = behind_leads A p q pid (due_at A p pid) refl (where_is (same_as (entry_of_step A p pid) u) (point_after A p pid) q e).1
 
 -- a plain entry may follow where nothing of a step is there yet
 open_due : (o : Option Entry) (pid : ℕ) (u : Entry) → may_follow o u ≡ true → makes_no_call u ≡ true → (is_refused o pid ≡ false) ×
@@ -204,7 +204,7 @@ open_due _ pid u m i = (refl, λ es. refl)
 
 -- a plain one of the process is its next own step
 unit_own : (A : Inputs) (p q : Point) (u : Entry) (pid : ℕ) (o : Belongings) → HasBelongings p.flat pid o → may_follow p.last u ≡ true → makes_no_call u ≡ true
-    → same_as (act A p pid) u ≡ true → point_after A p pid ≡ q → (own : Belongings) × ((own_step (Some o) ≡ Some own) × HasBelongings q.flat pid own)
+    → same_as (entry_of_step A p pid) u ≡ true → point_after A p pid ≡ q → (own : Belongings) × ((own_step (Some o) ≡ Some own) × HasBelongings q.flat pid own)
 unit_own A p q u pid o h follows plain same is =
     let open_is = open_due p.last pid u follows plain in
     let st : step_at A p pid ≡ step_of A.images p.flat h.process o.space false (instruction_in o.space (let x : Process = h.process in x.regs)) =
@@ -232,10 +232,11 @@ unit_numbered A p q of nums (Stays e) = subst IsNumbered (sym e) nums
 unit_numbered A p q of nums (Steps e some) = subst IsNumbered (sym e) (step_numbered A p.flat of (is_refused p.last of) nums)
 
 -- a plain entry isn't a refusal
-plain_of : (A : Inputs) (p q : Point) (pid : ℕ) (u : Entry) → makes_no_call u ≡ true → flat_entry_of A p pid u ≡ Some q → (same_as (act A p pid) u ≡ true) ×
+plain_of : (A : Inputs) (p q : Point) (pid : ℕ) (u : Entry) → makes_no_call u ≡ true → flat_entry_of A p pid u ≡ Some q
+    → (same_as (entry_of_step A p pid) u ≡ true) ×
     (point_after A p pid ≡ q)
-plain_of A p q pid (entries.Ran n m) i e = where_is (same_as (act A p pid) (entries.Ran n m)) (point_after A p pid) q e
-plain_of A p q pid (entries.Grew n m) i e = where_is (same_as (act A p pid) (entries.Grew n m)) (point_after A p pid) q e
+plain_of A p q pid (entries.Ran n m) i e = where_is (same_as (entry_of_step A p pid) (entries.Ran n m)) (point_after A p pid) q e
+plain_of A p q pid (entries.Grew n m) i e = where_is (same_as (entry_of_step A p pid) (entries.Grew n m)) (point_after A p pid) q e
 plain_of A p q pid _ i e = absurd cc
 
 -- ---- units in a row

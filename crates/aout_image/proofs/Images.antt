@@ -8,7 +8,7 @@ use Rattle.aout_image.specs.declared.Kind.TheVariants.{Impure, Shared, Paged}
 use Rattle.aout_image.specs.declared.Image.{Image}
 use Rattle.aout_image.specs.declared.Judged.{Judged}
 use Rattle.aout_image.specs.declared.Judged.TheVariants.{Is, NotImage}
-use Rattle.aout_image.specs.Image.{word_at, facts_of, kind_of, judged_facts, judged_kind, judgement, IfImage, IsSound, file_length_of, is_ragged, is_too_large, is_cut_short, starts_outside, is_paged, Loaded, loaded, loaded_if, image_of, judged_of, page_at, page_from, in_pages, text_pages_of, data_pages_of, text_given, data_given, text_offset, segment_of, pages_of, given_of, offset_of, has_text_segment, pages_for, magic_of, HasPages, FillsPage, header_of}
+use Rattle.aout_image.specs.Image.{word_at, facts_of, kind_of, judged_facts, judged_kind, judgement, IfImage, IsSound, file_length_of, is_ragged, is_too_large, is_cut_short, starts_outside, is_paged, Loaded, loaded, loaded_if, judged_image, judged_of, page_at, page_from, in_pages, text_pages_of, image_data_pages, text_given, data_given, text_offset, segment_of, pages_of, given_of, offset_of, has_text_segment, pages_for, magic_of, HasPages, FillsPage, header_of}
 
 -- a word of the front
 pub word_at-take : (n : ℕ) (bytes : List ℕ) (at : ℕ) → at + 4 ≤ n → word_at (take n bytes) at ≡ word_at bytes at
@@ -61,8 +61,8 @@ sound_from : (image : Image) → is_ragged image ≡ false → is_too_large imag
 sound_from image ragged large outside = record {
   whole_text = λ paged. let h = (both_of (is_paged image.kind) (image.text_len % 1024 == 0) (image.data_len % 1024 == 0) ragged paged).0 in grind (arith, nat_tests);
   whole_data = λ paged. let h = (both_of (is_paged image.kind) (image.text_len % 1024 == 0) (image.data_len % 1024 == 0) ragged paged).1 in grind (arith, nat_tests);
-  text_fits = let h = (neither_of (nat_lt 2048 (text_pages_of image)) (nat_lt 4096 (data_pages_of image)) large).0 in grind (arith, nat_tests);
-  data_fits = let h = (neither_of (nat_lt 2048 (text_pages_of image)) (nat_lt 4096 (data_pages_of image)) large).1 in grind (arith, nat_tests);
+  text_fits = let h = (neither_of (nat_lt 2048 (text_pages_of image)) (nat_lt 4096 (image_data_pages image)) large).0 in grind (arith, nat_tests);
+  data_fits = let h = (neither_of (nat_lt 2048 (text_pages_of image)) (nat_lt 4096 (image_data_pages image)) large).1 in grind (arith, nat_tests);
   starts_inside = grind (arith, nat_tests);
 }
 
@@ -140,8 +140,8 @@ loaded_if-is (Is i) bytes image h e =
     subst (λ (m : Loaded). IsFileOf m bytes) same (record { sound = h.0; whole = h.1; is = refl })
 loaded_if-is (NotImage reason) bytes image h e = cc
 
-pub image_of-is : (bytes : List ℕ) (image : Loaded) → image_of bytes ≡ Ok image → IsFileOf image bytes
-unfolding image_of
+pub image_of-is : (bytes : List ℕ) (image : Loaded) → judged_image bytes ≡ Ok image → IsFileOf image bytes
+unfolding judged_image
 image_of-is bytes image e =
     loaded_if-is (judgement bytes (length bytes)) bytes image (judgement-is bytes (length bytes)) e
 
@@ -163,8 +163,8 @@ judgement-kind head len kind h e =
     ∙ ap (λ (b : Bool). if b then NotImage 1 else judged_kind (kind_of (word_at head 0)) head len) (sym (le-ltb _ _ h))
 
 -- a file is judged by its first 32 bytes and its length
-pub judgement-front : (bytes head : List ℕ) (len : ℕ) → take 32 bytes ≡ head → length bytes ≡ len → judgement head len ≡ judged_of (image_of bytes)
-unfolding image_of
+pub judgement-front : (bytes head : List ℕ) (len : ℕ) → take 32 bytes ≡ head → length bytes ≡ len → judgement head len ≡ judged_of (judged_image bytes)
+unfolding judged_image
 judgement-front bytes head len front size =
     ap (λ (xs : List ℕ). judgement xs len) (sym front) ∙ ap (λ (n : ℕ). judgement (take 32 bytes) n) (sym size)
     ∙ judgement-take bytes (length bytes) ∙ sym (judged_of-loaded_if (judgement bytes (length bytes)) bytes)
@@ -179,7 +179,7 @@ length-take-at-most n xs = simp length-take (omega arith)
 le_pages : (n m : ℕ) → m ≤ n → m ≤ 1024 * pages_for n
 le_pages n m h = omega arith
 
-length-text : (bytes : List ℕ) (image : Loaded) → image_of bytes ≡ Ok image → length image.text ≡ 1024 * text_pages_of image.facts
+length-text : (bytes : List ℕ) (image : Loaded) → judged_image bytes ≡ Ok image → length image.text ≡ 1024 * text_pages_of image.facts
 unfolding loaded
 length-text bytes image e =
     let file = image_of-is bytes image e in
@@ -188,19 +188,19 @@ length-text bytes image e =
     subst (λ (m : Loaded). length m.text ≡ 1024 * text_pages_of m.facts) (sym file.is)
     (length-in_pages (text_pages_of i) (take (text_given i) (drop (text_offset i) bytes)) (le_pages (text_given i) _ few))
 
-length-data : (bytes : List ℕ) (image : Loaded) → image_of bytes ≡ Ok image → length image.data ≡ 1024 * data_pages_of image.facts
+length-data : (bytes : List ℕ) (image : Loaded) → judged_image bytes ≡ Ok image → length image.data ≡ 1024 * image_data_pages image.facts
 unfolding loaded
 length-data bytes image e =
     let file = image_of-is bytes image e in
     let i = image.facts in
     let xs = take (data_given i) (drop (text_offset i + text_given i) bytes) in
     let few = length-take-at-most (data_given i) (drop (text_offset i + text_given i) bytes) in
-    subst (λ (m : Loaded). length m.data ≡ 1024 * data_pages_of m.facts) (sym file.is)
-    (length-in_pages (data_pages_of i) xs (le_pages (data_given i + i.bss_len) (length xs) (omega (arith, few))))
+    subst (λ (m : Loaded). length m.data ≡ 1024 * image_data_pages m.facts) (sym file.is)
+    (length-in_pages (image_data_pages i) xs (le_pages (data_given i + i.bss_len) (length xs) (omega (arith, few))))
 
 pub has_pages : (facts : Image) (text : Bool) → HasPages facts text (pages_of text facts)
 has_pages facts true bytes image e same = length-text bytes image e ∙ ap (λ (i : Image). 1024 * text_pages_of i) same
-has_pages facts false bytes image e same = length-data bytes image e ∙ ap (λ (i : Image). 1024 * data_pages_of i) same
+has_pages facts false bytes image e same = length-data bytes image e ∙ ap (λ (i : Image). 1024 * image_data_pages i) same
 
 -- the two segments share the bytes of text and data among them
 given_all : (apart : Bool) (text «data» : ℕ) → (if apart then text else 0) + (if apart then «data» else text + «data») ≡ text + «data»
@@ -208,7 +208,7 @@ given_all true text «data» = refl
 given_all false text «data» = omega arith
 
 -- a page of an image's segment comes from its file
-segment_page : (bytes : List ℕ) (image : Loaded) (text : Bool) (v : ℕ) → image_of bytes ≡ Ok image → v < pages_of text image.facts
+segment_page : (bytes : List ℕ) (image : Loaded) (text : Bool) (v : ℕ) → judged_image bytes ≡ Ok image → v < pages_of text image.facts
     → page_at v (segment_of text image)
     ≡ page_from bytes (offset_of text image.facts + min (1024 * v) (given_of text image.facts)) (min 1024 (given_of text image.facts - 1024 * v))
 unfolding loaded
@@ -223,7 +223,7 @@ segment_page bytes image false v e below =
     let i = image.facts in
     let given = given_all (has_text_segment i.kind) i.text_len i.data_len in
     subst (λ (m : Loaded). page_at v m.data ≡ page_from bytes (text_offset i + text_given i + min (1024 * v) (data_given i)) (min 1024 (data_given i - 1024 * v))) (sym file.is)
-    (page_at-in_pages (text_offset i + text_given i) (data_given i) (data_pages_of i) v bytes (omega (arith, given, file.whole))
+    (page_at-in_pages (text_offset i + text_given i) (data_given i) (image_data_pages i) v bytes (omega (arith, given, file.whole))
     (le_pages (data_given i + i.bss_len) (data_given i) (omega arith)) below)
 
 pub fills_page : (facts : Image) (text : Bool) (v offset count : ℕ) → v < pages_of text facts
@@ -307,7 +307,7 @@ judged_facts-sound image len sound whole =
     none_of_four (is_ragged image) (is_too_large image) (is_cut_short image len) (starts_outside image) image
     (not_ragged (is_paged image.kind) (image.text_len % 1024 == 0) (image.data_len % 1024 == 0)
     (λ paged. eq-eqb (image.text_len % 1024) 0 (sound.whole_text paged)) (λ paged. eq-eqb (image.data_len % 1024) 0 (sound.whole_data paged)))
-    (neither (nat_lt 2048 (text_pages_of image)) (nat_lt 4096 (data_pages_of image)) (le-ltb _ _ sound.text_fits) (le-ltb _ _ sound.data_fits))
+    (neither (nat_lt 2048 (text_pages_of image)) (nat_lt 4096 (image_data_pages image)) (le-ltb _ _ sound.text_fits) (le-ltb _ _ sound.data_fits))
     (le-ltb _ _ whole)
     (grind (arith, nat_tests, sound.starts_inside))
 
@@ -352,7 +352,7 @@ loaded-take : (image : Image) (bytes : List ℕ) (n : ℕ) → file_length_of im
 unfolding loaded
 loaded-take image bytes n enough =
     let given = given_all (has_text_segment image.kind) image.text_len image.data_len in
-    let text : List ℕ → List ℕ → Loaded = λ t d. record { facts = image; text = in_pages (text_pages_of image) t; «data» = in_pages (data_pages_of image) d } in
+    let text : List ℕ → List ℕ → Loaded = λ t d. record { facts = image; text = in_pages (text_pages_of image) t; «data» = in_pages (image_data_pages image) d } in
     ap (λ (t : List ℕ). text t (take (data_given image) (drop (text_offset image + text_given image) (take n bytes))))
     (take-drop-take (text_offset image) (text_given image) n bytes (omega (arith, given, enough)))
     ∙ ap (λ (d : List ℕ). text (take (text_given image) (drop (text_offset image) bytes)) d)
@@ -366,8 +366,9 @@ loaded_if-Is (Is i) bytes image e =
 loaded_if-Is (NotImage reason) bytes image e = cc
 
 -- the front of an image's file, as far as its bytes go, is the same image
-pub image_of-take : (bytes : List ℕ) (n : ℕ) (image : Loaded) → image_of bytes ≡ Ok image → file_length_of image.facts ≤ n → image_of (take n bytes) ≡ Ok image
-unfolding image_of
+pub image_of-take : (bytes : List ℕ) (n : ℕ) (image : Loaded) → judged_image bytes ≡ Ok image → file_length_of image.facts ≤ n
+    → judged_image (take n bytes) ≡ Ok image
+unfolding judged_image
 image_of-take bytes n image e enough =
     let file = image_of-is bytes image e in
     let i = image.facts in

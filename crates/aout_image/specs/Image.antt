@@ -73,8 +73,8 @@ abbrev pub text_pages_of : Image → ℕ
 text_pages_of image = pages_for (text_given image)
 
 -- the pages of the data segment, with the zeros of the bss
-abbrev pub data_pages_of : Image → ℕ
-data_pages_of image = pages_for (data_given image + image.bss_len)
+abbrev pub image_data_pages : Image → ℕ
+image_data_pages image = pages_for (data_given image + image.bss_len)
 
 -- the address of the data segment: the first page after the text segment
 abbrev pub data_start_of : Image → ℕ
@@ -96,7 +96,7 @@ is_ragged image = is_paged image.kind && not ((image.text_len % 1024 == 0) && (i
 
 -- reason 4: more pages than a segment may have
 abbrev pub is_too_large : Image → Bool
-is_too_large image = nat_lt 2048 (text_pages_of image) || nat_lt 4096 (data_pages_of image)
+is_too_large image = nat_lt 2048 (text_pages_of image) || nat_lt 4096 (image_data_pages image)
 
 -- reason 5: a file that ends before its text and data do
 abbrev pub is_cut_short : Image → ℕ → Bool
@@ -140,7 +140,7 @@ unfoldable pub loaded : Image → List ℕ → Loaded
 loaded image bytes = record {
   facts = image;
   text = in_pages (text_pages_of image) (take (text_given image) (drop (text_offset image) bytes));
-  «data» = in_pages (data_pages_of image) (take (data_given image) (drop (text_offset image + text_given image) bytes));
+  «data» = in_pages (image_data_pages image) (take (data_given image) (drop (text_offset image + text_given image) bytes));
 }
 
 -- the image with its two segments, where the file is judged to be one; else the reason
@@ -149,8 +149,8 @@ loaded_if (Is image) bytes = Ok (loaded image bytes)
 loaded_if (NotImage reason) bytes = Err reason
 
 -- the image that a file of these bytes is, or the first reason why it is none
-unfoldable pub image_of : List ℕ → Result Loaded ℕ
-image_of bytes = loaded_if (judgement bytes (length bytes)) bytes
+unfoldable pub judged_image : List ℕ → Result Loaded ℕ
+judged_image bytes = loaded_if (judgement bytes (length bytes)) bytes
 
 -- the same without the segments' bytes
 abbrev pub judged_of : Result Loaded ℕ → Judged
@@ -164,7 +164,7 @@ pub record IsSound (image : Image) : Type 0 where
   pub whole_text : IsTrue (is_paged image.kind) → image.text_len % 1024 ≡ 0
   pub whole_data : IsTrue (is_paged image.kind) → image.data_len % 1024 ≡ 0
   pub text_fits : text_pages_of image ≤ 2048
-  pub data_fits : data_pages_of image ≤ 4096
+  pub data_fits : image_data_pages image ≤ 4096
   pub starts_inside : image.entry + 2 < end_of image
 
 -- a fact of the image, where there is one
@@ -182,7 +182,7 @@ segment_of false image = image.data
 -- how many pages an image's text has, or else its data
 abbrev pub pages_of : Bool → Image → ℕ
 pages_of true image = text_pages_of image
-pages_of false image = data_pages_of image
+pages_of false image = image_data_pages image
 
 -- the bytes that the file gives to a segment, and the place of their first one
 abbrev pub given_of : Bool → Image → ℕ
@@ -205,21 +205,21 @@ page_from file offset count = take count (drop offset file) ++ replicate (1024 -
 -- every image with these facts has so many pages in the segment
 abbrev pub HasPages : Image → Bool → ℕ → Type 0
 HasPages facts text pages =
-    (bytes : List ℕ) (image : Loaded) → image_of bytes ≡ Ok image → image.facts ≡ facts
+    (bytes : List ℕ) (image : Loaded) → judged_image bytes ≡ Ok image → image.facts ≡ facts
     → length (segment_of text image) ≡ 1024 * pages
 
 -- in every image with these facts, page v of the segment is the count bytes of its file at the offset
 -- and zeros
 abbrev pub FillsPage : Image → Bool → ℕ → ℕ → ℕ → Type 0
 FillsPage facts text v offset count =
-    (bytes : List ℕ) (image : Loaded) → image_of bytes ≡ Ok image → image.facts ≡ facts
+    (bytes : List ℕ) (image : Loaded) → judged_image bytes ≡ Ok image → image.facts ≡ facts
     → page_at v (segment_of text image) ≡ page_from bytes offset count
 
 -- the file of an image with these facts needs no more than so many bytes at its front
 abbrev pub NeedsNoMore : Image → ℕ → Type 0
 NeedsNoMore facts n =
-    (bytes : List ℕ) (image : Loaded) → image_of bytes ≡ Ok image → image.facts ≡ facts
-    → image_of (take n bytes) ≡ Ok image
+    (bytes : List ℕ) (image : Loaded) → judged_image bytes ≡ Ok image → image.facts ≡ facts
+    → judged_image (take n bytes) ≡ Ok image
 
 -- The header as it is written.
 

@@ -1,7 +1,7 @@
 // Reading and writing the header.
 
 ghost use Rattle.std.specs.Prelude.{◌≡◌, ◌≤◌, ◌+◌, ℕ, List, length, min, take};
-ghost use Rattle.aout_image.specs.Image.{IfImage, IsSound, file_length_of, header_of, image_of, judged_of, judged_facts, judgement, kind_of, magic_of, word_at, facts_of};
+ghost use Rattle.aout_image.specs.Image.{IfImage, IsSound, file_length_of, header_of, judged_image, judged_of, judged_facts, judgement, kind_of, magic_of, word_at, facts_of};
 
 use crate::{Image, Judged, Kind};
 use byteorder::{ByteOrder, LittleEndian};
@@ -72,7 +72,7 @@ pub fn read_image(head: &[u8], len: u64) -> Judged
     requires { length head.now ≡ min 32 len }
     ensures judged { result ≡ judgement head.now len }
     ensures of_the_file { (bytes : List ℕ) → take 32 bytes ≡ head.now → length bytes ≡ len
-        → result ≡ judged_of (image_of bytes) }
+        → result ≡ judged_of (judged_image bytes) }
     ensures sound { IfImage result IsSound }
     ensures whole { IfImage result (λ image. file_length_of image ≤ len) }
 {

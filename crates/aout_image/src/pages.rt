@@ -1,7 +1,7 @@
 // The segments of an image in pages, and the bytes of the file that fill them.
 
 ghost use Rattle.std.specs.Prelude.{◌≡◌, ◌+◌, ◌-◌, ◌*◌, ◌^◌, ◌<◌, ◌≤◌, ℕ, List, IsTrue, length, min, true, false};
-ghost use Rattle.aout_image.specs.Image.{FillsPage, HasPages, IsSound, NeedsNoMore, data_given, data_pages_of, data_start_of, end_of, file_length_of, given_of, has_text_segment, image_of, is_paged, is_ragged, is_too_large, offset_of, page_at, page_from, pages_for, pages_of, segment_of, starts_outside, text_given, text_offset, text_pages_of};
+ghost use Rattle.aout_image.specs.Image.{FillsPage, HasPages, IsSound, NeedsNoMore, data_given, image_data_pages, data_start_of, end_of, file_length_of, given_of, has_text_segment, judged_image, is_paged, is_ragged, is_too_large, offset_of, page_at, page_from, pages_for, pages_of, segment_of, starts_outside, text_given, text_offset, text_pages_of};
 
 use crate::{Image, Kind};
 
@@ -79,7 +79,7 @@ impl Image {
     }
 
     fn data_page_count(&self) -> u64
-        ensures { result ≡ data_pages_of self.now }
+        ensures { result ≡ image_data_pages self.now }
     {
         pages(self.data_given() + u64::from(self.bss_len))
     }
@@ -125,7 +125,7 @@ impl Image {
     /// before them.
     pub fn data_pages(&self) -> u32
         requires { IsSound self.now }
-        ensures value { result ≡ data_pages_of self.now }
+        ensures value { result ≡ image_data_pages self.now }
         ensures segment { HasPages self.now false result }
     {
         self.data_page_count() as u32

@@ -9,7 +9,7 @@ use Rattle.page_model.specs.Hands.{wants_moves}
 use Rattle.run_model.specs.declared.mark.Mark.{Mark}
 use Rattle.run_model.specs.declared.mark.Mark.TheVariants as marks
 use Rattle.run_model.specs.State.{State}
-use Rattle.run_model.specs.Wanted.{running, touched_by, before_absent, locked_by, locked}
+use Rattle.run_model.specs.Wanted.{running, touched_of, before_absent, locked_by, locked}
 use Rattle.run_model.specs.Next.{when, or_else, due_unit, move_unit, under, next_mark, next_unit}
 use Rattle.clock_hands.specs.Moved.{Moves}
 
@@ -18,7 +18,7 @@ some_left n l = grind (arith, nat_tests)
 
 -- no page is locked where nothing is due and no process runs
 none_locked : (A : Inputs) (s : State) (n : ℕ) → s.mark ≡ marks.Hands n → s.place.due ≡ [] → locked A s ≡ []
-none_locked A s n m d = ap (locked_by A s) d ∙ ap (λ (x : Mark). before_absent s.place (touched_by A s.point.flat (running x))) m
+none_locked A s n m d = ap (locked_by A s) d ∙ ap (λ (x : Mark). before_absent s.place (touched_of A s.point.flat (running x))) m
 
 asked_under : (A : Inputs) (s : State) (n : ℕ) (e : Entry) (us : List Entry) (r : Placement) → s.mark ≡ marks.Hands n → s.place.due ≡ []
     → Moves (e ∷ us) n s.place r → under A s s.mark ≡ Some e

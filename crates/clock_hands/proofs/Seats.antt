@@ -9,7 +9,7 @@ use Rattle.vm_facts.specs.Lists.{times}
 use Rattle.frame_state.specs.Frame.{Frame}
 use Rattle.core_map.specs.declared.slot.Slot.{Slot as Token}
 use Rattle.core_map.specs.declared.slot.Slot.TheVariants as tokens
-use Rattle.core_map.specs.Slots.{slot_at, listings, is_resident, is_dirty as token_dirty, page_of as token_page}
+use Rattle.core_map.specs.Slots.{slot_at, listings, is_resident, is_slot_dirty as token_dirty, slot_page as token_page}
 use Rattle.core_map.specs.Frames.{Frames}
 use Rattle.page_model.specs.Pages.{frame_of}
 use Rattle.page_model.specs.Placement.{Placement, IsFrame, state_of, page_of, is_dirty, parts_of, flying}

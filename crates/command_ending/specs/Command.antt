@@ -4,7 +4,7 @@ use Rattle.io_edge.specs.Count.{Rose}
 use Rattle.io_edge.specs.FileHolding.{NamedFile}
 use Rattle.io_edge.specs.Written.{Appends, AppendsSome}
 use Rattle.command_ending.specs.declared.fault.Fault.TheVariants.{NoMemory}
-use Rattle.command_ending.specs.Ending.{Ending, text_of, status_of, sink_fault, CanBeLost}
+use Rattle.command_ending.specs.Ending.{Ending, ending_text, status_of, sink_fault, CanBeLost}
 
 -- the two counts of the files' faults, before and after
 pub record Faults : Type 0 where
@@ -49,7 +49,7 @@ pub data Writes (before after : Option (List ℕ)) (old_faults new_faults : ℕ)
 -- the text of an ending was written, with its status; or the output failed, and a prefix was written
 abbrev pub WritesEnding : Option (List ℕ) → Option (List ℕ) → ℕ → ℕ → Ending → ℕ → Type 0
 WritesEnding before after old_faults new_faults ending status =
-    Writes before after old_faults new_faults (text_of ending) (status_of ending) status
+    Writes before after old_faults new_faults (ending_text ending) (status_of ending) status
 
 -- an ending is written; or, where its text could be lost, want of memory
 abbrev pub WritesSome : Option (List ℕ) → Option (List ℕ) → ℕ → ℕ → Ending → ℕ → Type 0

@@ -112,9 +112,9 @@ CanBeLost (Ok output) = ⊥
 CanBeLost (Err fault) = NeedsMemory fault
 
 -- what is written at an ending: what was made, or the line of the fault
-abbrev pub text_of : Ending → List ℕ
-text_of (Ok output) = output
-text_of (Err fault) = fault_line fault
+abbrev pub ending_text : Ending → List ℕ
+ending_text (Ok output) = output
+ending_text (Err fault) = fault_line fault
 
 -- the status of an ending: 0 where something was made, or else the fault's
 abbrev pub status_of : Ending → ℕ

@@ -1,4 +1,4 @@
-ghost use Rattle.command_ending.specs.Ending.{ending_of, text_of, status_of};
+ghost use Rattle.command_ending.specs.Ending.{ending_of, ending_text, status_of};
 ghost use Rattle.command_ending.specs.Command.{Writes, WritesSome};
 
 use crate::fault::Fault;

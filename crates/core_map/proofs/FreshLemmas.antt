@@ -8,8 +8,8 @@ use Rattle.core_map.specs.declared.slot.Slot.{Slot}
 use Rattle.core_map.specs.declared.slot.Slot.TheVariants.{Free, Away}
 use Rattle.frame_state.specs.Frame.{zero_frame}
 use Rattle.vm_facts.specs.Lists.{times}
-use Rattle.core_map.specs.Slots.{slot_at, listings, number_of, page_of, text_of, IsWhole}
-use Rattle.core_map.specs.Frames.{IsSound}
+use Rattle.core_map.specs.Slots.{slot_at, listings, slot_number, slot_page, text_of, IsWhole}
+use Rattle.core_map.specs.Frames.{IsSoundMap}
 use Rattle.core_map.specs.Fresh.{first_frames, fresh_slots}
 use Rattle.vm_facts.proofs.Lists.{times-append, times_head, times_other}
 
@@ -31,10 +31,10 @@ slots_more P slots n s long all here g = elim (cases_order g n) [
   ]
 ]
 
-pub numbered_fresh : (n : ℕ) (g : ℕ) → number_of (slot_at (fresh_slots n) g) g ≡ g
+pub numbered_fresh : (n : ℕ) (g : ℕ) → slot_number (slot_at (fresh_slots n) g) g ≡ g
 numbered_fresh zero zero = refl
 numbered_fresh zero (suc g) = refl
-numbered_fresh (suc n) g = slots_more (λ s k. number_of s k ≡ k) (fresh_slots n) (suc n) (Free (zero_frame (suc n)) None) (omega (arith, length-fresh n)) (numbered_fresh n) refl g
+numbered_fresh (suc n) g = slots_more (λ s k. slot_number s k ≡ k) (fresh_slots n) (suc n) (Free (zero_frame (suc n)) None) (omega (arith, length-fresh n)) (numbered_fresh n) refl g
 
 pub whole_fresh : (n : ℕ) (g : ℕ) → IsWhole (slot_at (fresh_slots n) g)
 whole_fresh zero zero = tt
@@ -90,17 +90,17 @@ none_away n g positive low away =
     omega (arith, times-first n g positive (omega (arith, length-fresh n)), listed_fresh n g, ap listings away)
 
 -- a new map holds no page
-pub no_page_fresh : (n g : ℕ) → page_of (slot_at (fresh_slots n) g) ≡ None
+pub no_page_fresh : (n g : ℕ) → slot_page (slot_at (fresh_slots n) g) ≡ None
 no_page_fresh zero zero = refl
 no_page_fresh zero (suc g) = refl
-no_page_fresh (suc n) g = slots_more (λ s k. page_of s ≡ None) (fresh_slots n) (suc n) (Free (zero_frame (suc n)) None) (omega (arith, length-fresh n)) (no_page_fresh n) refl g
+no_page_fresh (suc n) g = slots_more (λ s k. slot_page s ≡ None) (fresh_slots n) (suc n) (Free (zero_frame (suc n)) None) (omega (arith, length-fresh n)) (no_page_fresh n) refl g
 
 pub text_fresh : (n : ℕ) → replicate (n + 1) None ≡ map text_of (fresh_slots n)
 text_fresh zero = refl
 text_fresh (suc n) = let one : suc n + 1 ≡ n + 1 + 1 = omega arith in ap (λ (k : ℕ). replicate {A = Option TextKey} k None) one ∙ sym (replicate_more (n + 1) None)
     ∙ ap (λ (k : List (Option TextKey)). k ++ None ∷ []) (text_fresh n) ∙ sym (map_push text_of (fresh_slots n) (Free (zero_frame (suc n)) None))
 
-pub fresh_sound : (n : ℕ) → n < 2 ^ 32 → IsSound (first_frames n) (fresh_slots n)
+pub fresh_sound : (n : ℕ) → n < 2 ^ 32 → IsSoundMap (first_frames n) (fresh_slots n)
 fresh_sound n small = record {
   has_none = omega (arith, length-fresh n);
   small = omega (arith, length-fresh n);

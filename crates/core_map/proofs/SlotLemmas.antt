@@ -12,8 +12,8 @@ use Rattle.core_map.specs.declared.slot.Slot.TheVariants.{Free, Resident, Away}
 use Rattle.vm_facts.specs.Lists.{times, without}
 use Rattle.core_map.specs.declared.text_index.TextKey.{TextKey}
 use Rattle.core_map.specs.Chains.{key_at}
-use Rattle.core_map.specs.Slots.{slot_at, listings, is_free, is_resident, number_of, page_of, text_of, key_of, with_byte, with_dirty, IsWhole}
-use Rattle.core_map.specs.Frames.{IsSound}
+use Rattle.core_map.specs.Slots.{slot_at, listings, is_free, is_resident, slot_number, slot_page, text_of, key_of, with_byte, with_dirty, IsWhole}
+use Rattle.core_map.specs.Frames.{IsSoundMap}
 use Rattle.vm_facts.proofs.Lists.{times-append, times_head, times_other, times-without_same, times-without_other}
 
 -- a slot that is not away is in range
@@ -44,18 +44,18 @@ listings_other (Free t p) h = absurd (false≢true (sym h))
 listings_other (Resident t p d) h = refl
 listings_other Away h = refl
 
-pub free_above_zero : (free : List ℕ) (slots : List Slot) (f : ℕ) → IsSound free slots → is_free (slot_at slots f) ≡ true → 0 < f
+pub free_above_zero : (free : List ℕ) (slots : List Slot) (f : ℕ) → IsSoundMap free slots → is_free (slot_at slots f) ≡ true → 0 < f
 free_above_zero free slots zero sound frees = absurd (false≢true (sym (ap is_free sound.none) ∙ frees))
 free_above_zero free slots (suc f) sound frees = omega arith
 
 -- what stands in the free list is free
-pub listed_free : (free : List ℕ) (slots : List Slot) (f : ℕ) → IsSound free slots → 0 < times f free → is_free (slot_at slots f) ≡ true
+pub listed_free : (free : List ℕ) (slots : List Slot) (f : ℕ) → IsSoundMap free slots → 0 < times f free → is_free (slot_at slots f) ≡ true
 listed_free free slots f sound h = go (is_free (slot_at slots f)) refl where
   go : (b : Bool) → is_free (slot_at slots f) ≡ b → is_free (slot_at slots f) ≡ true
   go true e = e
   go false e = absurd (omega (arith, sound.listed f, listings_other (slot_at slots f) e))
 
-pub head_free : (free rest : List ℕ) (slots : List Slot) (f : ℕ) → IsSound free slots → free ≡ f ∷ rest → is_free (slot_at slots f) ≡ true
+pub head_free : (free rest : List ℕ) (slots : List Slot) (f : ℕ) → IsSoundMap free slots → free ≡ f ∷ rest → is_free (slot_at slots f) ≡ true
 head_free free rest slots f sound e = listed_free free slots f sound (subst (λ (l : List ℕ). 0 < times f l) (sym e) (omega (arith, times_head f rest)))
 
 -- a slot that was read, at any default
@@ -63,16 +63,17 @@ pub slot_read : (slots : List Slot) (f : ℕ) (x : Slot) → f < length slots �
 slot_read slots f x low e = get_or_read slots f x low e Away
 
 -- a change of one slot, and of how often its frame stands in the free list
-pub sound_change : (free new : List ℕ) (slots : List Slot) (f : ℕ) (s : Slot) → IsSound free slots → 0 < f → f < length slots → number_of s f ≡ f → IsWhole s
+pub sound_change : (free new : List ℕ) (slots : List Slot) (f : ℕ) (s : Slot) → IsSoundMap free slots → 0 < f → f < length slots
+    → slot_number s f ≡ f → IsWhole s
     → ((g : ℕ) → g ≢ f → times g new ≡ times g free) → times f new ≡ listings s
-    → ((p : Page) → page_of s ≡ Some p → (g : ℕ) → g ≢ f → page_of (slot_at slots g) ≢ Some p) → IsSound new (set slots f s)
+    → ((p : Page) → slot_page s ≡ Some p → (g : ℕ) → g ≢ f → slot_page (slot_at slots g) ≢ Some p) → IsSoundMap new (set slots f s)
 sound_change free new slots f s sound positive low number whole others here fresh = record {
   has_none = omega (arith, sound.has_none, length-set slots f s);
   small = omega (arith, sound.small, length-set slots f s);
   none = let ne : 0 ≢ f = omega arith in get_or-set_other slots f 0 s Away ne ∙ sound.none;
   numbered = λ g. elim (cases_eq g f) [
-    | inl e ↦ subst (λ (k : ℕ). number_of (slot_at (set slots f s) k) k ≡ k) (sym e) (ap (λ (t : Slot). number_of t f) (get_or-set_same slots f s Away low) ∙ number)
-    | inr ne ↦ ap (λ (t : Slot). number_of t g) (get_or-set_other slots f g s Away ne) ∙ sound.numbered g
+    | inl e ↦ subst (λ (k : ℕ). slot_number (slot_at (set slots f s) k) k ≡ k) (sym e) (ap (λ (t : Slot). slot_number t f) (get_or-set_same slots f s Away low) ∙ number)
+    | inr ne ↦ ap (λ (t : Slot). slot_number t g) (get_or-set_other slots f g s Away ne) ∙ sound.numbered g
   ];
   whole = λ g. elim (cases_eq g f) [
     | inl e ↦ subst (λ (k : ℕ). IsWhole (slot_at (set slots f s) k)) (sym e) (subst IsWhole (sym (get_or-set_same slots f s Away low)) whole)
@@ -93,34 +94,35 @@ sound_change free new slots f s sound positive low number whole others here fres
     | inr ne ↦ others g ne ∙ sound.listed g ∙ sym (ap listings (get_or-set_other slots f g s Away ne))
   ];
 } where
-  at_new : (p : Page) (g : ℕ) → g ≡ f → page_of (slot_at (set slots f s) g) ≡ Some p → page_of s ≡ Some p
-  at_new p g e h = sym (ap page_of (ap (slot_at (set slots f s)) e ∙ get_or-set_same slots f s Away low)) ∙ h
+  at_new : (p : Page) (g : ℕ) → g ≡ f → slot_page (slot_at (set slots f s) g) ≡ Some p → slot_page s ≡ Some p
+  at_new p g e h = sym (ap slot_page (ap (slot_at (set slots f s)) e ∙ get_or-set_same slots f s Away low)) ∙ h
 
-  at_old : (p : Page) (g : ℕ) → g ≢ f → page_of (slot_at (set slots f s) g) ≡ Some p → page_of (slot_at slots g) ≡ Some p
-  at_old p g ne h = sym (ap page_of (get_or-set_other slots f g s Away ne)) ∙ h
+  at_old : (p : Page) (g : ℕ) → g ≢ f → slot_page (slot_at (set slots f s) g) ≡ Some p → slot_page (slot_at slots g) ≡ Some p
+  at_old p g ne h = sym (ap slot_page (get_or-set_other slots f g s Away ne)) ∙ h
 
 -- a slot with no page may come anywhere
-pub no_page : (slots : List Slot) (f : ℕ) (s : Slot) → page_of s ≡ None → (p : Page) → page_of s ≡ Some p → (g : ℕ) → g ≢ f → page_of (slot_at slots g) ≢ Some p
+pub no_page : (slots : List Slot) (f : ℕ) (s : Slot) → slot_page s ≡ None → (p : Page) → slot_page s ≡ Some p → (g : ℕ) → g ≢ f
+    → slot_page (slot_at slots g) ≢ Some p
 no_page slots f s e p h g ne k = none-some p (sym e ∙ h)
 
 -- a page that no frame holds may come to one
-pub held_by_none : (slots : List Slot) (f : ℕ) (s : Slot) (q : Page) → page_of s ≡ Some q → ((g : ℕ) → page_of (slot_at slots g) ≢ Some q)
-    → (p : Page) → page_of s ≡ Some p → (g : ℕ) → g ≢ f → page_of (slot_at slots g) ≢ Some p
+pub held_by_none : (slots : List Slot) (f : ℕ) (s : Slot) (q : Page) → slot_page s ≡ Some q → ((g : ℕ) → slot_page (slot_at slots g) ≢ Some q)
+    → (p : Page) → slot_page s ≡ Some p → (g : ℕ) → g ≢ f → slot_page (slot_at slots g) ≢ Some p
 held_by_none slots f s q e none p h g ne k = none g (k ∙ sym h ∙ e)
 
 -- the page that the slot held may stay
-pub same_page : (free : List ℕ) (slots : List Slot) (f : ℕ) (s : Slot) → IsSound free slots → page_of s ≡ page_of (slot_at slots f) → (p : Page)
-    → page_of s ≡ Some p → (g : ℕ) → g ≢ f → page_of (slot_at slots g) ≢ Some p
+pub same_page : (free : List ℕ) (slots : List Slot) (f : ℕ) (s : Slot) → IsSoundMap free slots → slot_page s ≡ slot_page (slot_at slots f) → (p : Page)
+    → slot_page s ≡ Some p → (g : ℕ) → g ≢ f → slot_page (slot_at slots g) ≢ Some p
 same_page free slots f s sound e p h g ne k = ne (sound.unique g f p k (sym e ∙ h))
 
 -- a frame that the slots do not show as free does not stand in the list
-pub unlisted : (free : List ℕ) (slots : List Slot) (f : ℕ) → IsSound free slots → slot_at slots f ≡ Away → times f free ≡ 0
+pub unlisted : (free : List ℕ) (slots : List Slot) (f : ℕ) → IsSoundMap free slots → slot_at slots f ≡ Away → times f free ≡ 0
 unlisted free slots f sound e = sound.listed f ∙ ap listings e
 
 -- a frame that was away comes to the tail of the list
-pub sound_tail : (free : List ℕ) (slots : List Slot) (f : ℕ) (s : Slot) → IsSound free slots → 0 < f → f < length slots → slot_at slots f ≡ Away
-    → number_of s f ≡ f → IsWhole s → is_free s ≡ true
-    → ((p : Page) → page_of s ≡ Some p → (g : ℕ) → g ≢ f → page_of (slot_at slots g) ≢ Some p) → IsSound (free ++ f ∷ []) (set slots f s)
+pub sound_tail : (free : List ℕ) (slots : List Slot) (f : ℕ) (s : Slot) → IsSoundMap free slots → 0 < f → f < length slots → slot_at slots f ≡ Away
+    → slot_number s f ≡ f → IsWhole s → is_free s ≡ true
+    → ((p : Page) → slot_page s ≡ Some p → (g : ℕ) → g ≢ f → slot_page (slot_at slots g) ≢ Some p) → IsSoundMap (free ++ f ∷ []) (set slots f s)
 sound_tail free slots f s sound positive low away number whole frees fresh =
     let off : times f free ≡ 0 = unlisted free slots f sound away in
     let one = listings_free s frees in
@@ -130,9 +132,9 @@ sound_tail free slots f s sound positive low away number whole frees fresh =
     fresh
 
 -- a frame that was away comes to the head of the list
-pub sound_head : (free : List ℕ) (slots : List Slot) (f : ℕ) (s : Slot) → IsSound free slots → 0 < f → f < length slots → slot_at slots f ≡ Away
-    → number_of s f ≡ f → IsWhole s → is_free s ≡ true
-    → page_of s ≡ None → IsSound (f ∷ free) (set slots f s)
+pub sound_head : (free : List ℕ) (slots : List Slot) (f : ℕ) (s : Slot) → IsSoundMap free slots → 0 < f → f < length slots → slot_at slots f ≡ Away
+    → slot_number s f ≡ f → IsWhole s → is_free s ≡ true
+    → slot_page s ≡ None → IsSoundMap (f ∷ free) (set slots f s)
 sound_head free slots f s sound positive low away number whole frees none =
     let off : times f free ≡ 0 = unlisted free slots f sound away in
     let one = listings_free s frees in
@@ -142,8 +144,8 @@ sound_head free slots f s sound positive low away number whole frees none =
     (no_page slots f s none)
 
 -- a frame of the list leaves it
-pub sound_without : (free : List ℕ) (slots : List Slot) (f : ℕ) → IsSound free slots → is_free (slot_at slots f) ≡ true
-    → IsSound (without f free) (set slots f Away)
+pub sound_without : (free : List ℕ) (slots : List Slot) (f : ℕ) → IsSoundMap free slots → is_free (slot_at slots f) ≡ true
+    → IsSoundMap (without f free) (set slots f Away)
 sound_without free slots f sound frees =
     let positive : 0 < f = free_above_zero free slots f sound frees in
     sound_change free (without f free) slots f Away sound positive (free_below slots f frees) refl tt
@@ -152,9 +154,9 @@ sound_without free slots f sound frees =
     (no_page slots f Away refl)
 
 -- a free frame moves to the head of the list
-pub sound_forget : (free : List ℕ) (slots : List Slot) (f : ℕ) (s : Slot) → IsSound free slots → is_free (slot_at slots f) ≡ true → number_of s f ≡ f
-    → IsWhole s → is_free s ≡ true → page_of s ≡ None
-    → IsSound (f ∷ without f free) (set slots f s)
+pub sound_forget : (free : List ℕ) (slots : List Slot) (f : ℕ) (s : Slot) → IsSoundMap free slots → is_free (slot_at slots f) ≡ true → slot_number s f ≡ f
+    → IsWhole s → is_free s ≡ true → slot_page s ≡ None
+    → IsSoundMap (f ∷ without f free) (set slots f s)
 sound_forget free slots f s sound frees number whole frees_new none =
     let positive : 0 < f = free_above_zero free slots f sound frees in
     let one = listings_free s frees_new in
@@ -164,7 +166,7 @@ sound_forget free slots f s sound frees number whole frees_new none =
     (no_page slots f s none)
 
 -- the head of the list is taken
-pub sound_taken : (free rest : List ℕ) (slots : List Slot) (f : ℕ) → IsSound free slots → free ≡ f ∷ rest → IsSound rest (set slots f Away)
+pub sound_taken : (free rest : List ℕ) (slots : List Slot) (f : ℕ) → IsSoundMap free slots → free ≡ f ∷ rest → IsSoundMap rest (set slots f Away)
 sound_taken free rest slots f sound e =
     let frees = head_free free rest slots f sound e in
     let count : (g : ℕ) → times g free ≡ times g (f ∷ rest) = λ g. ap (times g) e in
@@ -174,20 +176,20 @@ sound_taken free rest slots f sound e =
     (no_page slots f Away refl)
 
 -- a slot changes, and its frame stays on or off the list
-pub sound_same : (free : List ℕ) (slots : List Slot) (f : ℕ) (s : Slot) → IsSound free slots → 0 < f → f < length slots → number_of s f ≡ f
+pub sound_same : (free : List ℕ) (slots : List Slot) (f : ℕ) (s : Slot) → IsSoundMap free slots → 0 < f → f < length slots → slot_number s f ≡ f
     → IsWhole s → listings s ≡ listings (slot_at slots f)
-    → ((p : Page) → page_of s ≡ Some p → (g : ℕ) → g ≢ f → page_of (slot_at slots g) ≢ Some p) → IsSound free (set slots f s)
+    → ((p : Page) → slot_page s ≡ Some p → (g : ℕ) → g ≢ f → slot_page (slot_at slots g) ≢ Some p) → IsSoundMap free (set slots f s)
 sound_same free slots f s sound positive low number whole listing fresh =
     sound_change free free slots f s sound positive low number whole (λ g ne. refl) (sound.listed f ∙ sym listing) fresh
 
-pub resident_above_zero : (free : List ℕ) (slots : List Slot) (f : ℕ) → IsSound free slots → is_resident (slot_at slots f) ≡ true → 0 < f
+pub resident_above_zero : (free : List ℕ) (slots : List Slot) (f : ℕ) → IsSoundMap free slots → is_resident (slot_at slots f) ≡ true → 0 < f
 resident_above_zero free slots zero sound res = absurd (false≢true (sym (ap is_resident sound.none) ∙ res))
 resident_above_zero free slots (suc f) sound res = omega arith
 
 -- a resident slot keeps its token's number and its page
-pub sound_resident : (free : List ℕ) (slots : List Slot) (f : ℕ) (s : Slot) → IsSound free slots → is_resident (slot_at slots f) ≡ true
+pub sound_resident : (free : List ℕ) (slots : List Slot) (f : ℕ) (s : Slot) → IsSoundMap free slots → is_resident (slot_at slots f) ≡ true
     → is_resident s ≡ true → IsWhole s
-    → number_of s f ≡ number_of (slot_at slots f) f → page_of s ≡ page_of (slot_at slots f) → IsSound free (set slots f s)
+    → slot_number s f ≡ slot_number (slot_at slots f) f → slot_page s ≡ slot_page (slot_at slots f) → IsSoundMap free (set slots f s)
 sound_resident free slots f s sound res new whole number page =
     let was = resident_parts (slot_at slots f) res in
     let is = resident_parts s new in
@@ -196,7 +198,8 @@ sound_resident free slots f s sound res new whole number page =
     (same_page free slots f s sound page)
 
 -- a resident frame goes
-pub sound_lifted : (free : List ℕ) (slots : List Slot) (f : ℕ) → IsSound free slots → is_resident (slot_at slots f) ≡ true → IsSound free (set slots f Away)
+pub sound_lifted : (free : List ℕ) (slots : List Slot) (f : ℕ) → IsSoundMap free slots → is_resident (slot_at slots f) ≡ true
+    → IsSoundMap free (set slots f Away)
 sound_lifted free slots f sound res =
     let was = resident_parts (slot_at slots f) res in
     sound_same free slots f Away sound (resident_above_zero free slots f sound res) (resident_below slots f res) refl tt (sym (ap listings was.3)) (no_page slots f Away refl)
@@ -217,7 +220,7 @@ text_same text slots f s e same =
     e ∙ sym (set-get_or (map text_of slots) f None) ∙ ap (set (map text_of slots) f) (key_at_map slots f ∙ sym same) ∙ sym (map-set text_of slots f s)
 
 -- a slot whose key is that of a text page holds the page
-pub text_held : (s : Slot) (image v : ℕ) → page_of s ≡ Some (Text image v) → text_of s ≡ Some (record { image = image; v = v })
+pub text_held : (s : Slot) (image v : ℕ) → slot_page s ≡ Some (Text image v) → text_of s ≡ Some (record { image = image; v = v })
 text_held s image v e = ap key_of e
 
 -- a byte or a mark changes neither who holds the frame nor its page
@@ -226,12 +229,12 @@ is_resident-with_byte (Free t p) at b = refl
 is_resident-with_byte (Resident t p d) at b = refl
 is_resident-with_byte Away at b = refl
 
-pub number_of-with_byte : (s : Slot) (at b f : ℕ) → number_of (with_byte s at b) f ≡ number_of s f
+pub number_of-with_byte : (s : Slot) (at b f : ℕ) → slot_number (with_byte s at b) f ≡ slot_number s f
 number_of-with_byte (Free t p) at b f = refl
 number_of-with_byte (Resident t p d) at b f = refl
 number_of-with_byte Away at b f = refl
 
-pub page_of-with_byte : (s : Slot) (at b : ℕ) → page_of (with_byte s at b) ≡ page_of s
+pub page_of-with_byte : (s : Slot) (at b : ℕ) → slot_page (with_byte s at b) ≡ slot_page s
 page_of-with_byte (Free t p) at b = refl
 page_of-with_byte (Resident t p d) at b = refl
 page_of-with_byte Away at b = refl
@@ -241,12 +244,12 @@ is_resident-with_dirty (Free t p) m = refl
 is_resident-with_dirty (Resident t p d) m = refl
 is_resident-with_dirty Away m = refl
 
-pub number_of-with_dirty : (s : Slot) (m : Bool) (f : ℕ) → number_of (with_dirty s m) f ≡ number_of s f
+pub number_of-with_dirty : (s : Slot) (m : Bool) (f : ℕ) → slot_number (with_dirty s m) f ≡ slot_number s f
 number_of-with_dirty (Free t p) m f = refl
 number_of-with_dirty (Resident t p d) m f = refl
 number_of-with_dirty Away m f = refl
 
-pub page_of-with_dirty : (s : Slot) (m : Bool) → page_of (with_dirty s m) ≡ page_of s
+pub page_of-with_dirty : (s : Slot) (m : Bool) → slot_page (with_dirty s m) ≡ slot_page s
 page_of-with_dirty (Free t p) m = refl
 page_of-with_dirty (Resident t p d) m = refl
 page_of-with_dirty Away m = refl
@@ -261,23 +264,23 @@ IsWhole-with_dirty (Free t p) m h = h
 IsWhole-with_dirty (Resident t p d) m h = h
 IsWhole-with_dirty Away m h = tt
 
-pub sound_byte : (free : List ℕ) (slots : List Slot) (f at b : ℕ) → IsSound free slots → is_resident (slot_at slots f) ≡ true
-    → IsSound free (set slots f (with_byte (slot_at slots f) at b))
+pub sound_byte : (free : List ℕ) (slots : List Slot) (f at b : ℕ) → IsSoundMap free slots → is_resident (slot_at slots f) ≡ true
+    → IsSoundMap free (set slots f (with_byte (slot_at slots f) at b))
 sound_byte free slots f at b sound res =
     let s = slot_at slots f in
     sound_resident free slots f (with_byte s at b) sound res (is_resident-with_byte s at b ∙ res) (IsWhole-with_byte s at b (sound.whole f)) (number_of-with_byte s at b f) (page_of-with_byte s at b)
 
-pub sound_dirty : (free : List ℕ) (slots : List Slot) (f : ℕ) (m : Bool) → IsSound free slots → is_resident (slot_at slots f) ≡ true
-    → IsSound free (set slots f (with_dirty (slot_at slots f) m))
+pub sound_dirty : (free : List ℕ) (slots : List Slot) (f : ℕ) (m : Bool) → IsSoundMap free slots → is_resident (slot_at slots f) ≡ true
+    → IsSoundMap free (set slots f (with_dirty (slot_at slots f) m))
 sound_dirty free slots f m sound res =
     let s = slot_at slots f in
     sound_resident free slots f (with_dirty s m) sound res (is_resident-with_dirty s m ∙ res) (IsWhole-with_dirty s m (sound.whole f)) (number_of-with_dirty s m f) (page_of-with_dirty s m)
 
 -- a page whose frame went is held by no other
-pub page_gone : (free : List ℕ) (slots : List Slot) (f : ℕ) → IsSound free slots → f < length slots → (o : Option Page)
-    → page_of (slot_at slots f) ≡ o → IfSome o (λ p. (g : ℕ) → page_of (slot_at (set slots f Away) g) ≢ Some p)
+pub page_gone : (free : List ℕ) (slots : List Slot) (f : ℕ) → IsSoundMap free slots → f < length slots → (o : Option Page)
+    → slot_page (slot_at slots f) ≡ o → IfSome o (λ p. (g : ℕ) → slot_page (slot_at (set slots f Away) g) ≢ Some p)
 page_gone free slots f sound low None e = tt
 page_gone free slots f sound low (Some p) e = λ g h. elim (cases_eq g f) [
-  | inl same ↦ none-some p (sym (ap page_of (ap (slot_at (set slots f Away)) same ∙ get_or-set_same slots f Away Away low)) ∙ h)
-  | inr ne ↦ ne (sound.unique g f p (sym (ap page_of (get_or-set_other slots f g Away Away ne)) ∙ h) e)
+  | inl same ↦ none-some p (sym (ap slot_page (ap (slot_at (set slots f Away)) same ∙ get_or-set_same slots f Away Away low)) ∙ h)
+  | inr ne ↦ ne (sound.unique g f p (sym (ap slot_page (get_or-set_other slots f g Away Away ne)) ∙ h) e)
 ]

@@ -1,6 +1,6 @@
 -- The core map by its fields.
 use Rattle.std.specs.Prelude.{◌≡◌, length, map}
-use Rattle.core_map.specs.Frames.{Frames, IsSound}
+use Rattle.core_map.specs.Frames.{Frames, IsSoundMap}
 use Rattle.core_map.specs.Slots.{text_of}
 use Rattle.core_map.specs.declared.map.CoreMap.TheInside.{Inside}
 
@@ -12,4 +12,4 @@ map_of a = record { free = a.free.frames; slots = a.slots.items }
 pub record IsCoreMap (a : Inside) : Type 0 where
   pub bound : a.free.bound ≡ length a.slots.items
   pub text : a.text ≡ map text_of a.slots.items
-  pub sound : IsSound a.free.frames a.slots.items
+  pub sound : IsSoundMap a.free.frames a.slots.items

@@ -26,21 +26,21 @@ is_resident (Resident token page dirty) = true
 is_resident Away = false
 
 -- whose the frame is
-abbrev pub owner_of : Slot → Whose
-owner_of (Free token page) = FreeOwner page
-owner_of (Resident token page dirty) = ResidentOwner page
-owner_of Away = AwayOwner
+abbrev pub slot_owner : Slot → Whose
+slot_owner (Free token page) = FreeOwner page
+slot_owner (Resident token page dirty) = ResidentOwner page
+slot_owner Away = AwayOwner
 
 -- the page that the frame holds
-abbrev pub page_of : Slot → Option Page
-page_of (Free token page) = page
-page_of (Resident token page dirty) = Some page
-page_of Away = None
+abbrev pub slot_page : Slot → Option Page
+slot_page (Free token page) = page
+slot_page (Resident token page dirty) = Some page
+slot_page Away = None
 
 -- what it says of the slot that a frame is so owned
 abbrev pub ShowsOwner : Whose → Slot → Type 0
-ShowsOwner (FreeOwner page) slot = IsTrue (is_free slot) × (page_of slot ≡ page)
-ShowsOwner (ResidentOwner page) slot = IsTrue (is_resident slot) × (page_of slot ≡ Some page)
+ShowsOwner (FreeOwner page) slot = IsTrue (is_free slot) × (slot_page slot ≡ page)
+ShowsOwner (ResidentOwner page) slot = IsTrue (is_resident slot) × (slot_page slot ≡ Some page)
 ShowsOwner AwayOwner slot = slot ≡ Away
 
 -- the token, where there is one
@@ -50,10 +50,10 @@ token_of (Resident token page dirty) = token
 token_of Away = record { number = 0; bytes = [] }
 
 -- the frame is off the free list with the mark that its page is dirty
-abbrev pub is_dirty : Slot → Bool
-is_dirty (Free token page) = false
-is_dirty (Resident token page dirty) = dirty
-is_dirty Away = false
+abbrev pub is_slot_dirty : Slot → Bool
+is_slot_dirty (Free token page) = false
+is_slot_dirty (Resident token page dirty) = dirty
+is_slot_dirty Away = false
 
 -- a resident frame after one of its bytes was written
 abbrev pub with_byte : Slot → ℕ → ℕ → Slot
@@ -74,10 +74,10 @@ listings (Resident token page dirty) = 0
 listings Away = 0
 
 -- the number of the token, or the frame's own where it is away
-abbrev pub number_of : Slot → ℕ → ℕ
-number_of (Free token page) frame = token.number
-number_of (Resident token page dirty) frame = token.number
-number_of Away frame = frame
+abbrev pub slot_number : Slot → ℕ → ℕ
+slot_number (Free token page) frame = token.number
+slot_number (Resident token page dirty) frame = token.number
+slot_number Away frame = frame
 
 -- a token has the 1,024 bytes of a page
 abbrev pub IsWhole : Slot → Type 0
@@ -94,4 +94,4 @@ key_of (Some (Text image v)) = Some (record { image = image; v = v })
 
 -- the key of the text page that the frame holds
 abbrev pub text_of : Slot → Option TextKey
-text_of slot = key_of (page_of slot)
+text_of slot = key_of (slot_page slot)

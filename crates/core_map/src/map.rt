@@ -3,9 +3,9 @@
 ghost use Rattle.std.specs.Prelude.{◌≡◌, ℕ, ◌+◌, ◌<◌, ◌≤◌, List, [], ◌∷◌, ◌++◌, length, slice_set, IsTrue, IfSome, IfNone, IsNone, ◌↔◌, None, Some, is_some, false, IfOk, ◌-◌, ◌^◌};
 ghost use Rattle.core_map.specs.Fresh.{first_frames, fresh_slots};
 ghost use Rattle.core_map.specs.Order.{place_from};
-ghost use Rattle.core_map.specs.Frames.{IsAway, IsSound, HoldsNot, TakesHead};
+ghost use Rattle.core_map.specs.Frames.{IsAway, IsSoundMap, HoldsNot, TakesHead};
 ghost use Rattle.vm_facts.specs.Lists.{without};
-ghost use Rattle.core_map.specs.Slots.{ShowsOwner, slot_at, is_free, is_resident, is_dirty, owner_of, page_of, token_of, with_byte, with_dirty};
+ghost use Rattle.core_map.specs.Slots.{ShowsOwner, slot_at, is_free, is_resident, is_slot_dirty, slot_owner, slot_page, token_of, with_byte, with_dirty};
 ghost use Rattle.core_map.specs.declared.slot.Slot.TheVariants.{Free as FreeSlot, Resident as ResidentSlot, Away as AwaySlot};
 ghost use Rattle.vm_facts.specs.declared.page.Page.TheVariants.{Text as TextPage};
 
@@ -55,7 +55,7 @@ impl CoreMap {
     /// How many frames there are.
     pub fn frames(&self) -> u32
         ensures count { result + 1 ≡ length self.now.slots }
-        ensures sound { IsSound self.now.free self.now.slots }
+        ensures sound { IsSoundMap self.now.free self.now.slots }
     {
         (self.slots.len() - 1) as u32
     }
@@ -136,7 +136,7 @@ impl CoreMap {
     /// The frame that holds page `v` of the image's text, free or resident. None where no frame of the
     /// map holds it; one that is away may.
     pub fn find_text(&self, image: u32, v: u32) -> Option<u32>
-        ensures found { IfSome result (λ frame. page_of (slot_at self.now.slots frame) ≡ Some (TextPage image v)) }
+        ensures found { IfSome result (λ frame. slot_page (slot_at self.now.slots frame) ≡ Some (TextPage image v)) }
         ensures none { IfNone result (HoldsNot self.now (TextPage image v)) }
     {
         self.text.find(TextKey { image, v })
@@ -145,13 +145,13 @@ impl CoreMap {
     /// Takes a free frame off the list, whose page is used again.
     pub fn reclaim(&mut self, frame: u32) -> Resident
         requires free { IsTrue (is_free (slot_at self.old.slots frame)) }
-        requires holds { IsTrue (is_some (page_of (slot_at self.old.slots frame))) }
+        requires holds { IsTrue (is_some (slot_page (slot_at self.old.slots frame))) }
         ensures token { result ≡ token_of (slot_at self.old.slots frame) }
         ensures number { result.number ≡ frame }
         ensures free { self.new.free ≡ without frame self.old.free }
         ensures slots { self.new.slots ≡ slice_set self.old.slots frame AwaySlot }
         ensures away { IsAway self.new frame }
-        ensures gone { IfSome (page_of (slot_at self.old.slots frame)) (HoldsNot self.new) }
+        ensures gone { IfSome (slot_page (slot_at self.old.slots frame)) (HoldsNot self.new) }
     {
         self.free.remove(frame);
         let (token, page) = slot::take_free(&mut self.slots, frame);
@@ -187,7 +187,7 @@ impl CoreMap {
         ensures free { self.new.free ≡ self.old.free }
         ensures slots { self.new.slots ≡ slice_set self.old.slots frame AwaySlot }
         ensures away { IsAway self.new frame }
-        ensures gone { IfSome (page_of (slot_at self.old.slots frame)) (HoldsNot self.new) }
+        ensures gone { IfSome (slot_page (slot_at self.old.slots frame)) (HoldsNot self.new) }
     {
         let (token, page, _dirty) = slot::take_resident(&mut self.slots, frame);
         text_index::leave(&mut self.text, frame, Some(page));
@@ -219,7 +219,7 @@ impl CoreMap {
 
     /// Whose the frame is. A number that is no frame's is away.
     pub fn owner(&self, frame: u32) -> Whose
-        ensures owner { result ≡ owner_of (slot_at self.now.slots frame) }
+        ensures owner { result ≡ slot_owner (slot_at self.now.slots frame) }
         ensures slot { ShowsOwner result (slot_at self.now.slots frame) }
     {
         match self.slots.get(frame as usize) {
@@ -232,7 +232,7 @@ impl CoreMap {
     /// Whether a resident frame is marked dirty.
     pub fn is_dirty(&self, frame: u32) -> bool
         requires { IsTrue (is_resident (slot_at self.now.slots frame)) }
-        ensures { result ≡ is_dirty (slot_at self.now.slots frame) }
+        ensures { result ≡ is_slot_dirty (slot_at self.now.slots frame) }
     {
         match &self.slots[frame as usize] {
             Slot::Resident { dirty, .. } => *dirty,

@@ -1,7 +1,7 @@
 -- A byte goes to its slot.
 use Rattle.std.proofs.Common.{◌≡◌, ℕ, zero, suc, ◌<◌, ◌==◌, ◌||◌, Bool, true, false, cond, List, [], ◌∷◌, ◌++◌, length, map, take, drop, set, get_or, Option, Some, refl, sym, ap, ◌∙◌, arith}
 use Rattle.std.proofs.lemmas.Bool.Decides.{nat_tests}
-use Rattle.vm_facts.specs.Answers.{Answers, ByteWrite, read_by, put}
+use Rattle.vm_facts.specs.Answers.{Answers, ByteWrite, read_by, put_byte}
 use Rattle.vm_facts.specs.declared.memory.MayWrite.{MayWrite}
 use Rattle.vm_facts.specs.declared.memory.MayWrite.TheVariants as tests
 use Rattle.dry_run.specs.declared.slots.Slot.{Slot}
@@ -60,7 +60,7 @@ may_slot false tests.Text e = absurd cc
 may_slot false tests.Outside e = absurd cc
 
 over_put : (memory : Answers) (slots : List Slot) (w : ByteWrite) → has_slot slots w.address ≡ true
-    → over memory (map (stored w) slots) ≡ put (over memory slots) w
+    → over memory (map (stored w) slots) ≡ put_byte (over memory slots) w
 over_put memory slots w there = λ i. record {
   read = λ x. read_put x (x == w.address) refl i;
   may_write = λ x. may_where (kept_slot slots w x i) (memory.may_write x);

@@ -10,7 +10,7 @@ use Rattle.user_vax.specs.declared.refused.Refused.{Refused}
 use Rattle.user_vax.specs.declared.refused.Refused.TheVariants.{Miss, Below, Signal}
 use Rattle.user_vax.specs.declared.stepping.Stepped.{Stepped}
 use Rattle.user_vax.specs.declared.stepping.Stepped.TheVariants as steps
-use Rattle.user_vax.specs.Program.{Program, run, Access, ReadOf, TestOf, accesses}
+use Rattle.user_vax.specs.Program.{Program, run, ByteAccess, ReadOf, TestOf, accesses}
 use Rattle.user_vax.specs.Effects.{Effect}
 use Rattle.user_vax.specs.Instruction.{answer_of, answer_of_call, writes_of}
 use Rattle.user_vax.specs.Laws.{refusal, read_refusal, test_refusal, AllGranted, Covers}
@@ -72,13 +72,13 @@ covers memory slots h = record { reads = λ x. inr (empty_read memory slots x h)
 
 missed_at : (memory : Answers) (slots : List Slot) (p : Program Effect) (address : ℕ) (write : Bool) → AllEmpty slots
     → run (over memory slots) p ≡ Err (Miss address write)
-    → (front : List Access) × (last : Access) × (rest : List Access) × (accesses memory p ≡ front ++ last ∷ rest)
+    → (front : List ByteAccess) × (last : ByteAccess) × (rest : List ByteAccess) × (accesses memory p ≡ front ++ last ∷ rest)
     × (refusal (over memory slots) last ≡ Some (Miss address write))
 missed_at memory slots p address write h e =
     let ends = (keeps_order (over memory slots) p).misses address write e in
     elim (same_or_misses (over memory slots) memory p (covers memory slots h)) [
       | inl same ↦ (ends.0, ends.1, [], sym same.1 ∙ ends.2, ends.4)
-      | inr more ↦ (ends.0, ends.1, more.3, more.4 ∙ ap (λ (l : List Access). l ++ more.3) ends.2 ∙ append_assoc ends.0 (ends.1 ∷ []) more.3, ends.4)
+      | inr more ↦ (ends.0, ends.1, more.3, more.4 ∙ ap (λ (l : List ByteAccess). l ++ more.3) ends.2 ∙ append_assoc ends.0 (ends.1 ∷ []) more.3, ends.4)
     ]
 
 read_miss : (answer : ByteRead) (x address : ℕ) (write : Bool) → read_refusal answer x ≡ Some (Miss address write) → write ≡ false
@@ -106,7 +106,7 @@ some_none : (o : Option Refused) (refused : Refused) → o ≡ Some refused → 
 some_none o refused e f = absurd cc
 
 -- it is one that is read, and misses in the memory too; or one that is tested
-what_missed : (memory : Answers) (slots : List Slot) (last : Access) (address : ℕ) (write : Bool) → AllEmpty slots
+what_missed : (memory : Answers) (slots : List Slot) (last : ByteAccess) (address : ℕ) (write : Bool) → AllEmpty slots
     → refusal (over memory slots) last ≡ Some (Miss address write)
     → ((write ≡ false) × (refusal memory last ≢ None))
     ⊎ ((write ≡ true) × (last ≡ TestOf address) × (may_where (has_slot slots address) (memory.may_write address) ≡ tests.Miss))
@@ -118,13 +118,14 @@ what_missed memory slots (TestOf x) address write h e =
     let t = test_miss ((over memory slots).may_write x) x address write e in
     inr (t.0, ap TestOf t.1, subst (λ (y : ℕ). may_where (has_slot slots y) (memory.may_write y) ≡ tests.Miss) t.1 t.2)
 
-granted_last : (memory : Answers) (front : List Access) (last : Access) (rest : List Access) → AllGranted memory (front ++ last ∷ rest)
+granted_last : (memory : Answers) (front : List ByteAccess) (last : ByteAccess) (rest : List ByteAccess) → AllGranted memory (front ++ last ∷ rest)
     → refusal memory last ≡ None
 granted_last memory [] last rest h = h.0
 granted_last memory (access ∷ front) last rest h = granted_last memory front last rest h.1
 
 -- an access that is refused is of no instruction that is carried out
-undone : (memory : Answers) (p : Program Effect) (front : List Access) (last : Access) (rest : List Access) → accesses memory p ≡ front ++ last ∷ rest
+undone : (memory : Answers) (p : Program Effect) (front : List ByteAccess) (last : ByteAccess) (rest : List ByteAccess)
+    → accesses memory p ≡ front ++ last ∷ rest
     → refusal memory last ≢ None
     → answer_of (run memory p) ≢ steps.Done
 undone memory p front last rest e f d =
@@ -190,7 +191,7 @@ one_left true = 0
 one_left false = 1
 
 -- how many tests are of bytes that have no slot
-abbrev pub left : List Slot → List Access → ℕ
+abbrev pub left : List Slot → List ByteAccess → ℕ
 left slots [] = 0
 left slots (ReadOf x ∷ list) = left slots list
 left slots (TestOf x ∷ list) = one_left (has_slot slots x) + left slots list
@@ -216,7 +217,7 @@ one_less true c h = rw (h refl) (omega arith)
 one_less false true h = omega arith
 one_less false false h = omega arith
 
-left_less : (slots : List Slot) (slot : Slot) (list : List Access) → left (slots ++ slot ∷ []) list ≤ left slots list
+left_less : (slots : List Slot) (slot : Slot) (list : List ByteAccess) → left (slots ++ slot ∷ []) list ≤ left slots list
 left_less slots slot [] = omega arith
 left_less slots slot (ReadOf x ∷ list) = left_less slots slot list
 left_less slots slot (TestOf x ∷ list) =
@@ -224,7 +225,7 @@ left_less slots slot (TestOf x ∷ list) =
     let rest = left_less slots slot list in
     omega arith
 
-left_fewer : (slots : List Slot) (slot : Slot) (front rest : List Access) → has_slot slots slot.address ≡ false
+left_fewer : (slots : List Slot) (slot : Slot) (front rest : List ByteAccess) → has_slot slots slot.address ≡ false
     → left (slots ++ slot ∷ []) (front ++ TestOf slot.address ∷ rest) < left slots (front ++ TestOf slot.address ∷ rest)
 left_fewer slots slot [] rest h =
     let now = ap one_left (slot_there slots slot) in
@@ -250,9 +251,9 @@ fewer memory slots p s address h e some =
     elim (what_missed memory slots at.1 address true h at.4) [
       | inl read ↦ (let z : true ≡ false = read.0 in absurd cc)
       | inr test ↦
-          let list : accesses memory p ≡ at.0 ++ TestOf address ∷ at.2 = at.3 ∙ ap (λ (a : Access). at.0 ++ a ∷ at.2) test.1 in
+          let list : accesses memory p ≡ at.0 ++ TestOf address ∷ at.2 = at.3 ∙ ap (λ (a : ByteAccess). at.0 ++ a ∷ at.2) test.1 in
           let none : has_slot slots address ≡ false = may_miss (has_slot slots address) (sym (ap (may_where (has_slot slots address)) want.1) ∙ test.2) in
-          subst (λ (l : List Access). left (slots ++ record { address = address; byte = None } ∷ []) l < left slots l) (sym list)
+          subst (λ (l : List ByteAccess). left (slots ++ record { address = address; byte = None } ∷ []) l < left slots l) (sym list)
           (left_fewer slots (record { address = address; byte = None }) at.0 at.2 none)
     ]
 

@@ -170,7 +170,7 @@ fork_calm p parent child w c = add_calm p (record {
 enter_calm : (p : Placement) (sid image : ℕ) (facts : Option Image) (w : Page) → Calm p w → Calm (enter_image p sid image facts) w
 enter_calm p sid image None w c = c
 enter_calm p sid image (Some facts) w c = add_calm p (new_pages sid image facts) (enter_space p sid image facts).due w
-    (unfilled_blank facts 0 (Rattle.aout_image.specs.Image.data_pages_of facts)) ((refl, refl), tt) c
+    (unfilled_blank facts 0 (Rattle.aout_image.specs.Image.image_data_pages facts)) ((refl, refl), tt) c
 
 -- A space that goes, and its text.
 

@@ -19,7 +19,7 @@ use Rattle.page_laws.proofs.Moves.Units.{unit_is}
 use Rattle.run_laws.proofs.Flows.{Acted, Settles, Refuses, Steps, acted, steps_own}
 use Rattle.run_laws.proofs.Plain.{IsPaging, serve_paging, zero_paging, copy_paging}
 use Rattle.run_model.specs.Next.{fill_unit, when, turn_of, next_turned, last_turned, line_or_turn, next_mark, next_unit, goes_on, turn_instructions}
-use Rattle.run_model.specs.Kinds.{GoesOn, Runs, Comes, Kind, Fills, Brings, Copies, Serves, Acts, ComesIn, Interrupts, Moves, PutsOut, Notes, Begins}
+use Rattle.run_model.specs.Kinds.{GoesOn, ProcessRuns, Comes, Kind, Fills, Brings, Copies, Serves, Acts, ComesIn, Interrupts, Moves, PutsOut, Notes, Begins}
 use Rattle.run_model.proofs.NextUnits.{kind_of}
 use Rattle.economy_laws.specs.Stretch.{begins_stretch, IsClosing}
 
@@ -28,8 +28,8 @@ pub data Closes (A : Inputs) (s : State) (u : Entry) (pid : ℕ) : Type 0 where
   Bring : (q parent : Page) (ds : List Due) → s.place.due ≡ CopyOf q parent ∷ ds → serve_unit s.place parent true ≡ Some u → Closes A s u pid
   CopyIt : (q parent : Page) (ds : List Due) → s.place.due ≡ CopyOf q parent ∷ ds → serve_unit s.place parent true ≡ None
       → u ≡ fill_unit s.place (entries.Copy q) → Closes A s u pid
-  Serve : (q : Page) → Runs A s pid true → wanted A s ≡ Some q → serve_unit s.place q true ≡ Some u → Closes A s u pid
-  Act : Runs A s pid true → wanted A s ≡ None → act A s pid ≡ Some u → Closes A s u pid
+  Serve : (q : Page) → ProcessRuns A s pid true → wanted A s ≡ Some q → serve_unit s.place q true ≡ Some u → Closes A s u pid
+  Act : ProcessRuns A s pid true → wanted A s ≡ None → act A s pid ≡ Some u → Closes A s u pid
   In : s.place.due ≡ [] → is_out s.place pid ≡ true → u ≡ entries.SwapIn pid → Closes A s u pid
 
 mark_begins : (A : Inputs) (s : State) (u : Entry) → length A.lines ≤ s.lines → next_mark A s ≡ Some u → begins_stretch u ≡ true
@@ -60,7 +60,7 @@ on_turn A s m pid since p now e g = go now (subst (λ (x : Mark). GoesOn A s x p
 pub closes : (A : Inputs) (s : State) (u : Entry) (pid : ℕ) → IsClosing A s pid → next_unit A s ≡ Some u → begins_stretch u ≡ false → Closes A s u pid
 closes A s u pid c h n = go (kind_of A s u h)
   where
-    runs : (p : ℕ) (now : Bool) → Runs A s p now → (now ≡ true) × (pid ≡ p)
+    runs : (p : ℕ) (now : Bool) → ProcessRuns A s p now → (now ≡ true) × (pid ≡ p)
     runs p now r = on_turn A s s.mark pid c.since p now c.mark r.on
 
     go : Kind A s u → Closes A s u pid
@@ -69,10 +69,10 @@ closes A s u pid c h n = go (kind_of A s u h)
     go (Copies q parent ds e k i) = CopyIt q parent ds e k i
     go (Serves p now q r w i) =
         let k = runs p now r in
-        Serve q (subst (λ (x : ℕ). Runs A s x true) (sym k.1) (subst (Runs A s p) k.0 r)) w (subst (λ (b : Bool). serve_unit s.place q b ≡ Some u) k.0 i)
+        Serve q (subst (λ (x : ℕ). ProcessRuns A s x true) (sym k.1) (subst (ProcessRuns A s p) k.0 r)) w (subst (λ (b : Bool). serve_unit s.place q b ≡ Some u) k.0 i)
     go (Acts p now r w a) =
         let k = runs p now r in
-        Act (subst (λ (x : ℕ). Runs A s x true) (sym k.1) (subst (Runs A s p) k.0 r)) w (subst (λ (x : ℕ). act A s x ≡ Some u) (sym k.1) a)
+        Act (subst (λ (x : ℕ). ProcessRuns A s x true) (sym k.1) (subst (ProcessRuns A s p) k.0 r)) w (subst (λ (x : ℕ). act A s x ≡ Some u) (sym k.1) a)
     go (ComesIn p e k i) =
         let z : (pid ≡ p) × (goes_on A s p (c.since + turn_instructions) ≡ true) × (is_out s.place p ≡ true) = subst (λ (m : Mark). Comes A s m p) c.mark k in
         In e (subst (λ (x : ℕ). is_out s.place x ≡ true) (sym z.0) z.2) (i ∙ ap (λ (x : ℕ). entries.SwapIn x) (sym z.0))

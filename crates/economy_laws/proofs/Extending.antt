@@ -12,7 +12,7 @@ use Rattle.vm_facts.specs.declared.memory.MayWrite.{MayWrite}
 use Rattle.vm_facts.specs.declared.memory.MayWrite.TheVariants as tests
 use Rattle.vm_facts.specs.declared.page.Page.{Page}
 use Rattle.vm_facts.specs.declared.page.Page.TheVariants.{Data, Stack, Text}
-use Rattle.user_vax.specs.Program.{Program, Reads, Tests, Access, ReadOf, TestOf, run, after_read, after_test, accesses, rest_of_read, rest_of_test}
+use Rattle.user_vax.specs.Program.{Program, Reads, Tests, ByteAccess, ReadOf, TestOf, run, after_read, after_test, accesses, rest_of_read, rest_of_test}
 use Rattle.user_vax.specs.declared.refused.Refused.TheVariants.{Below}
 use Rattle.flat_state.specs.declared.spot.Spot.{Spot}
 use Rattle.flat_state.specs.declared.spot.Spot.TheVariants as spots
@@ -133,18 +133,18 @@ not_grown s d t a _ q b w e = absurd cc
 
 -- An instruction that found no stack at an address.
 
-abbrev Kept : Space → ℕ → ℕ → ℕ → Access → Type 0
+abbrev Kept : Space → ℕ → ℕ → ℕ → ByteAccess → Type 0
 Kept s d t a y = (page_of_access (resized s d t) y ≡ page_of_access s y) × ((q : Page) → page_of_access s y ≡ Some q → same_page q (grown_page s a) ≡ false)
 
-abbrev AllKept : Space → ℕ → ℕ → ℕ → List Access → Type 0
+abbrev AllKept : Space → ℕ → ℕ → ℕ → List ByteAccess → Type 0
 AllKept s d t a [] = Unit {0}
 AllKept s d t a (y ∷ ys) = Kept s d t a y × AllKept s d t a ys
 
 -- its accesses: those that are answered, and the one at the address; after growth these and others
 pub record Reached (X : Type 0) (s : Space) (d t a : ℕ) (p : Program X) : Type 0 where
-  pub before : List Access
-  pub last : Access
-  pub rest : List Access
+  pub before : List ByteAccess
+  pub last : ByteAccess
+  pub rest : List ByteAccess
   pub old : accesses (answers_of s) p ≡ before ++ last ∷ []
   pub new : accesses (answers_of (resized s d t)) p ≡ before ++ last ∷ rest
   pub kept : AllKept s d t a before
@@ -178,9 +178,9 @@ read_on X s d t a b next spot v g e f w k = record {
   before = ReadOf b ∷ k.before;
   last = k.last;
   rest = k.rest;
-  old = ap (λ (r : ByteRead). ReadOf b ∷ rest_of_read r (λ byte. accesses (answers_of s) (next byte))) (ap (byte_at s) e ∙ w) ∙ ap (λ (l : List Access). ReadOf b ∷ l) k.old;
+  old = ap (λ (r : ByteRead). ReadOf b ∷ rest_of_read r (λ byte. accesses (answers_of s) (next byte))) (ap (byte_at s) e ∙ w) ∙ ap (λ (l : List ByteAccess). ReadOf b ∷ l) k.old;
   new = ap (λ (r : ByteRead). ReadOf b ∷ rest_of_read r (λ byte. accesses (answers_of (resized s d t)) (next byte)))
-      (ap (byte_at (resized s d t)) (spot_kept s d t a b spot g e f) ∙ byte_kept s d t a spot g f (spot_within s b spot g.paged e) ∙ w) ∙ ap (λ (l : List Access). ReadOf b ∷ l) k.new;
+      (ap (byte_at (resized s d t)) (spot_kept s d t a b spot g e f) ∙ byte_kept s d t a spot g f (spot_within s b spot g.paged e) ∙ w) ∙ ap (λ (l : List ByteAccess). ReadOf b ∷ l) k.new;
   kept = (read_kept s d t a b spot g e f, k.kept);
   none = k.none;
   some = k.some;
@@ -192,9 +192,9 @@ test_on X s d t a b next spot g e f w k = record {
   before = TestOf b ∷ k.before;
   last = k.last;
   rest = k.rest;
-  old = ap (λ (r : MayWrite). TestOf b ∷ rest_of_test r (accesses (answers_of s) next)) (ap may_write_at e ∙ w) ∙ ap (λ (l : List Access). TestOf b ∷ l) k.old;
+  old = ap (λ (r : MayWrite). TestOf b ∷ rest_of_test r (accesses (answers_of s) next)) (ap may_write_at e ∙ w) ∙ ap (λ (l : List ByteAccess). TestOf b ∷ l) k.old;
   new = ap (λ (r : MayWrite). TestOf b ∷ rest_of_test r (accesses (answers_of (resized s d t)) next)) (ap may_write_at (spot_kept s d t a b spot g e f) ∙ w)
-      ∙ ap (λ (l : List Access). TestOf b ∷ l) k.new;
+      ∙ ap (λ (l : List ByteAccess). TestOf b ∷ l) k.new;
   kept = (test_kept s d t a b spot g e f, k.kept);
   none = k.none;
   some = k.some;
@@ -253,15 +253,16 @@ cons_both : (o : Option Page) (xs ys : List Page) → cons_option o (xs ++ ys) �
 cons_both None xs ys = refl
 cons_both (Some x) xs ys = refl
 
-map_both : (f : Access → Option Page) (xs ys : List Access) → filter_map f (xs ++ ys) ≡ filter_map f xs ++ filter_map f ys
+map_both : (f : ByteAccess → Option Page) (xs ys : List ByteAccess) → filter_map f (xs ++ ys) ≡ filter_map f xs ++ filter_map f ys
 map_both f [] ys = refl
 map_both f (x ∷ xs) ys = ap (cons_option (f x)) (map_both f xs ys) ∙ cons_both (f x) (filter_map f xs) (filter_map f ys)
 
-kept_pages : (s : Space) (d t a : ℕ) (ys : List Access) → AllKept s d t a ys → filter_map (page_of_access (resized s d t)) ys ≡ filter_map (page_of_access s) ys
+kept_pages : (s : Space) (d t a : ℕ) (ys : List ByteAccess) → AllKept s d t a ys
+    → filter_map (page_of_access (resized s d t)) ys ≡ filter_map (page_of_access s) ys
 kept_pages s d t a [] k = refl
 kept_pages s d t a (y ∷ ys) k = ap (λ (o : Option Page). cons_option o (filter_map (page_of_access (resized s d t)) ys)) k.0.0 ∙ ap (cons_option (page_of_access s y)) (kept_pages s d t a ys k.1)
 
-kept_unseen : (s : Space) (d t a : ℕ) (ys : List Access) → AllKept s d t a ys → NotSeen (filter_map (page_of_access s) ys) (grown_page s a)
+kept_unseen : (s : Space) (d t a : ℕ) (ys : List ByteAccess) → AllKept s d t a ys → NotSeen (filter_map (page_of_access s) ys) (grown_page s a)
 kept_unseen s d t a [] k = tt
 kept_unseen s d t a (y ∷ ys) k = go (page_of_access s y) refl (kept_unseen s d t a ys k.1)
   where
@@ -270,7 +271,7 @@ kept_unseen s d t a (y ∷ ys) k = go (page_of_access s y) refl (kept_unseen s d
     go (Some q) e n = (k.0.1 q e, n)
 
 -- the pages of these accesses, before and after growth
-pub pages_extend : (X : Type 0) (s : Space) (d t a : ℕ) (p : Program X) (more : List Access) → Reached X s d t a p
+pub pages_extend : (X : Type 0) (s : Space) (d t a : ℕ) (p : Program X) (more : List ByteAccess) → Reached X s d t a p
     → Extends (distinct (filter_map (page_of_access s) (accesses (answers_of s) p)))
     (distinct (filter_map (page_of_access (resized s d t)) (accesses (answers_of (resized s d t)) p ++ more)))
 pages_extend X s d t a p more r =
@@ -280,7 +281,7 @@ pages_extend X s d t a p more r =
     ∙ append-nil (filter_map (page_of_access s) r.before) in
     let new : filter_map (page_of_access (resized s d t)) (accesses (answers_of (resized s d t)) p ++ more)
     ≡ filter_map (page_of_access s) r.before ++ grown_page s a ∷ filter_map (page_of_access (resized s d t)) (r.rest ++ more) =
-    ap (λ (l : List Access). filter_map (page_of_access (resized s d t)) (l ++ more)) r.new
+    ap (λ (l : List ByteAccess). filter_map (page_of_access (resized s d t)) (l ++ more)) r.new
     ∙ ap (filter_map (page_of_access (resized s d t))) (append_assoc r.before (r.last ∷ r.rest) more)
     ∙ map_both (page_of_access (resized s d t)) r.before (r.last ∷ r.rest ++ more)
     ∙ ap (λ (l : List Page). l ++ filter_map (page_of_access (resized s d t)) (r.last ∷ r.rest ++ more)) (kept_pages s d t a r.before r.kept)

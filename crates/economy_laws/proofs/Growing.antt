@@ -33,11 +33,11 @@ use Rattle.flat_model.specs.Step.{Step, data_pages_of, pages_down_to}
 use Rattle.flat_model.specs.Touched.{touched}
 use Rattle.run_model.specs.Wanted.{AllValid}
 use Rattle.run_model.specs.After.{written_in, written_by, pages_written, place_at, after}
-use Rattle.run_model.specs.Kinds.{Runs}
+use Rattle.run_model.specs.Kinds.{ProcessRuns}
 use Rattle.run_laws.specs.Standing.{machine_of, Placed}
 use Rattle.run_laws.proofs.Acts.{Stepper, stepper, Completes, completes}
 use Rattle.run_laws.proofs.Flows.{Acted, Settles, Refuses, Steps, acted, on_steps}
-use Rattle.economy_laws.specs.Stretch.{Extends, Grown, AllGrown, GrowthTouches}
+use Rattle.economy_laws.specs.Stretch.{Extends, TouchesMore, AllGrown, GrowthTouches}
 use Rattle.economy_laws.proofs.Stretching.{open_last}
 use Rattle.economy_laws.proofs.Sleeping.{Does, does}
 use Rattle.economy_laws.proofs.Steps.{step_is, Grows, grows_of}
@@ -173,11 +173,11 @@ all_grown A touches s pid pages r h = by (acted A s pid (entries.Grew pid pages)
     d : Does A s (entries.Grew pid pages) pid
     d = does A s (entries.Grew pid pages) pid h refl
 
-    by : Acted A s pid (entries.Grew pid pages) → Grown A s (after A s (entries.Grew pid pages)) pid
+    by : Acted A s pid (entries.Grew pid pages) → TouchesMore A s (after A s (entries.Grew pid pages)) pid
     by (Settles i) = absurd cc
     by (Refuses i) = absurd cc
     by (Steps f g i) =
-        let run : Runs A s pid d.now = d.runs in
+        let run : ProcessRuns A s pid d.now = d.runs in
         let steps = on_steps A s s.mark pid d.now run.on in
         let w : Stepper s.point.flat pid = stepper s.point.flat pid steps in
         let q : Process = w.process in

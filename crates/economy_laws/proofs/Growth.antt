@@ -7,7 +7,7 @@ use Rattle.vm_facts.specs.declared.page.Page.{Page}
 use Rattle.vm_facts.specs.declared.entry.Entry.TheVariants as entries
 use Rattle.user_vax.specs.Effects.{Effect}
 use Rattle.user_vax.specs.Instruction.{instruction}
-use Rattle.user_vax.specs.Program.{Access, accesses}
+use Rattle.user_vax.specs.Program.{ByteAccess, accesses}
 use Rattle.user_vax.specs.declared.refused.Refused.{Refused}
 use Rattle.user_vax.specs.declared.refused.Refused.TheVariants.{Below}
 use Rattle.flat_state.specs.declared.change.Change.TheVariants.{Resize}
@@ -23,7 +23,7 @@ use Rattle.flat_model.specs.Run.{step_at, is_refused}
 use Rattle.flat_model.specs.Step.{Step, data_pages_of, pages_down_to}
 use Rattle.flat_model.specs.Touched.{page_of_access, accesses_after, step_accesses, distinct, touched}
 use Rattle.run_model.specs.After.{after}
-use Rattle.run_model.specs.Kinds.{Runs}
+use Rattle.run_model.specs.Kinds.{ProcessRuns}
 use Rattle.run_laws.specs.Standing.{machine_of, Placed}
 use Rattle.run_laws.proofs.Acts.{Stepper, stepper, Stepped, Completes, completes}
 use Rattle.run_laws.proofs.Flows.{Acted, Settles, Refuses, Steps, acted, on_steps}
@@ -88,7 +88,7 @@ growth_touches A s pid pages r h = by (acted A s pid (entries.Grew pid pages) d.
     by (Settles i) = absurd cc
     by (Refuses i) = absurd cc
     by (Steps f g i) =
-        let run : Runs A s pid d.now = d.runs in
+        let run : ProcessRuns A s pid d.now = d.runs in
         let steps = on_steps A s s.mark pid d.now run.on in
         let w : Stepper s.point.flat pid = stepper s.point.flat pid steps in
         let q : Process = w.process in
@@ -121,7 +121,7 @@ growth_touches A s pid pages r h = by (acted A s pid (entries.Grew pid pages) d.
         reached Effect w.space (data_pages_of w.space) (pages_down_to gr.address) gr.address (instruction q.regs) bigger gr.below in
         let old : touched A s.point.flat pid ≡ distinct (filter_map (page_of_access w.space) (accesses (answers_of w.space) (instruction q.regs))) =
         is_touched A s.point.flat pid w.process w.space w.here ready w.holds
-        ∙ ap (λ (l : List Access). distinct (filter_map (page_of_access w.space) l)) (refused_accesses A.images s.point.flat w.process w.space gr.address gr.below) in
+        ∙ ap (λ (l : List ByteAccess). distinct (filter_map (page_of_access w.space) l)) (refused_accesses A.images s.point.flat w.process w.space gr.address gr.below) in
         behind (after A s (entries.Grew pid pages)).point.flat w.process (resized w.space (data_pages_of w.space) (pages_down_to gr.address)) found (still_ready q.asleep q.holding ready)
         (λ more. extends_as (distinct (filter_map (page_of_access w.space) (accesses (answers_of w.space) (instruction q.regs)))) (distinct (filter_map (page_of_access (resized w.space
         (data_pages_of w.space) (pages_down_to gr.address))) (accesses (answers_of (resized w.space (data_pages_of w.space) (pages_down_to gr.address))) (instruction q.regs) ++ more)))
@@ -130,7 +130,7 @@ growth_touches A s pid pages r h = by (acted A s pid (entries.Grew pid pages) d.
         (pages_extend Effect w.space (data_pages_of w.space) (pages_down_to gr.address) gr.address (instruction q.regs) more reach))
       where
         behind : (G : FlatState) (p : Process) (z : Space) → process_of G pid ≡ Some (record p { regs = p.regs; holding = Holds z }) → (if p.asleep then false else true) ≡ true
-            → ((more : List Access) → Extends (touched A s.point.flat pid) (distinct (filter_map (page_of_access z) (accesses (answers_of z) (instruction p.regs) ++ more))))
+            → ((more : List ByteAccess) → Extends (touched A s.point.flat pid) (distinct (filter_map (page_of_access z) (accesses (answers_of z) (instruction p.regs) ++ more))))
             → Extends (touched A s.point.flat pid) (touched A G pid)
         behind G p z e k more =
             let x = more (accesses_after A.images G (record p { regs = p.regs; holding = Holds z }) z (instruction_in z p.regs)) in
@@ -138,4 +138,4 @@ growth_touches A s pid pages r h = by (acted A s pid (entries.Grew pid pages) d.
             (filter_map (page_of_access z) (accesses (answers_of z) (instruction p.regs) ++ accesses_after A.images G (record p { regs = p.regs; holding = Holds z }) z (instruction_in z p.regs))))
             (touched A s.point.flat pid) (touched A G pid) refl
             (is_touched A G pid (record p { regs = p.regs; holding = Holds z }) z e k refl
-            ∙ ap (λ (l : List Access). distinct (filter_map (page_of_access z) l)) (all_accesses A.images G (record p { regs = p.regs; holding = Holds z }) z)) x
+            ∙ ap (λ (l : List ByteAccess). distinct (filter_map (page_of_access z) l)) (all_accesses A.images G (record p { regs = p.regs; holding = Holds z }) z)) x

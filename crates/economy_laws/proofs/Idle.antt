@@ -22,7 +22,7 @@ use Rattle.run_laws.proofs.Finding.{found_by_number, found_passes}
 use Rattle.run_laws.proofs.Others.{number_of_found}
 use Rattle.run_model.specs.declared.mark.Mark.{Mark}
 use Rattle.run_model.specs.declared.mark.Mark.TheVariants as marks
-use Rattle.flat_model.specs.Run.{Point, process_of_entry, step_at, is_refused, act as next_of_step, due}
+use Rattle.flat_model.specs.Run.{Point, process_of_entry, step_at, is_refused, entry_of_step as next_of_step, due}
 use Rattle.run_model.specs.State.{State}
 use Rattle.flat_model.specs.Step.{Step, data_pages_of, pages_down_to, step_of}
 use Rattle.run_model.specs.Wanted.{wanted, locked}
@@ -30,7 +30,7 @@ use Rattle.run_model.specs.After.{after}
 use Rattle.run_model.proofs.After.{after_count}
 use Rattle.run_model.proofs.Wanting.{wanted_splits}
 use Rattle.run_model.specs.Next.{when, work_by, turn_by, turn_unit, goes_on, turn_instructions, under, pid_if, next_ready, or_else, next_turned, last_turned, turn_of, line_or_turn, next_mark, next_unit}
-use Rattle.run_model.specs.Kinds.{GoesOn, Runs, Kind, Fills, Brings, Copies, Serves, Acts, ComesIn, Interrupts, Moves, PutsOut, Notes, Begins}
+use Rattle.run_model.specs.Kinds.{GoesOn, ProcessRuns, Kind, Fills, Brings, Copies, Serves, Acts, ComesIn, Interrupts, Moves, PutsOut, Notes, Begins}
 use Rattle.run_model.specs.Lawful.{Follows}
 use Rattle.run_model.proofs.NextUnits.{kind_of}
 use Rattle.std.proofs.lemmas.Bool.{and_parts}
@@ -157,7 +157,7 @@ pub stepped_by : (A : Inputs) (s : State) (u : Entry) (h : Stepped A s u) → Is
     → (after A s u).point.flat ≡ apply_change A.images (apply_writes s.point.flat h.pid (step_at A s.point h.pid).writes) h.pid (step_at A s.point h.pid).regs
     (step_at A s.point h.pid).change
 stepped_by A s u h r =
-    let run : Runs A s h.pid h.now = h.runs in
+    let run : ProcessRuns A s h.pid h.now = h.runs in
     let w : Stepper s.point.flat h.pid = stepper s.point.flat h.pid (on_steps A s s.mark h.pid h.now run.on) in
     let form = stepped_form A s u h w r.numbers in
     let p : Process = w.process in
@@ -168,7 +168,7 @@ stepped_by A s u h r =
 sleeps_leave : (A : Inputs) (s : State) (pid : ℕ) (h : Stepped A s (entries.Sleeps pid)) → h.pid ≡ pid → IsRun A s
     → Leaves s.point.flat (after A s (entries.Sleeps pid)).point.flat h.pid
 sleeps_leave A s pid h same r =
-    let run : Runs A s h.pid h.now = h.runs in
+    let run : ProcessRuns A s h.pid h.now = h.runs in
     let steps = on_steps A s s.mark h.pid h.now run.on in
     let w : Stepper s.point.flat h.pid = stepper s.point.flat h.pid steps in
     let form = stepped_form A s (entries.Sleeps pid) h w r.numbers in
@@ -188,7 +188,7 @@ open_due _ pid es h = refl
 grew_leaves : (A : Inputs) (s : State) (p n : ℕ) (h : Stepped A s (entries.Grew p n)) → is_closed s.point.last ≡ false → IsRun A s
     → Leaves s.point.flat (after A s (entries.Grew p n)).point.flat h.pid
 grew_leaves A s p n h o r =
-    let run : Runs A s h.pid h.now = h.runs in
+    let run : ProcessRuns A s h.pid h.now = h.runs in
     let steps = on_steps A s s.mark h.pid h.now run.on in
     let w : Stepper s.point.flat h.pid = stepper s.point.flat h.pid steps in
     let q : Process = w.process in
@@ -317,7 +317,7 @@ turn_goes A s pid since r m c steps l d h = by (is_out s.place pid) refl (sym (a
     goes = all (can_step s.point.flat pid) (nat_lt s.count A.limit) (nat_lt s.count (since + turn_instructions)) steps (below s.count A.limit l)
         (below s.count (since + turn_instructions) (omega (arith, c)))
 
-    runs : is_out s.place pid ≡ false → Runs A s pid true
+    runs : is_out s.place pid ≡ false → ProcessRuns A s pid true
     runs o = record { clear = d; on = subst (λ (x : Mark). GoesOn A s x pid true) (sym m) (refl, goes); resident = o }
 
     works : is_out s.place pid ≡ false → (w : Option Page) → wanted A s ≡ w → work_by A s pid true w ≡ None → ⊥
@@ -443,7 +443,7 @@ idle_turns A (u ∷ us) s t k images r l f n i = elim (unit_kind u n.0) [
         d = does A s u p f.0 e
 
         same : p ≡ pid
-        same = let run : Runs A s p d.now = d.runs in sym (on_turn A s s.mark pid since p d.now m run.on).1
+        same = let run : ProcessRuns A s p d.now = d.runs in sym (on_turn A s s.mark pid since p d.now m run.on).1
 
         cl : IsClosing A s pid
         cl = record { since = since; mark = m; lines = l }
@@ -472,7 +472,7 @@ many_behind A s u r l h = go (process_of_entry u) refl
 
     stepped : (pid : ℕ) (st : Stepped A s u) → length (after A s u).point.flat.processes ≤ 64
     stepped pid st =
-        let run : Runs A s st.pid st.now = st.runs in
+        let run : ProcessRuns A s st.pid st.now = st.runs in
         let w : Stepper s.point.flat st.pid = stepper s.point.flat st.pid (on_steps A s s.mark st.pid st.now run.on) in
         let q : Process = w.process in
         let n : q.pid ≡ st.pid = number_of_found s.point.flat.processes st.pid w.process w.here in
@@ -486,7 +486,7 @@ many_behind A s u r l h = go (process_of_entry u) refl
         subst (λ (F : FlatState). length F.processes ≤ 64) (sym (stepped_by A s u st r))
         (many_applied A.images (apply_writes s.point.flat st.pid (step_at A s.point st.pid).writes) st.pid (step_at A s.point st.pid).regs (step_at A s.point st.pid).change room (omega arith))
 
-    by : (pid : ℕ) (now : Bool) → Runs A s pid now → Acted A s pid u → length (after A s u).point.flat.processes ≤ 64
+    by : (pid : ℕ) (now : Bool) → ProcessRuns A s pid now → Acted A s pid u → length (after A s u).point.flat.processes ≤ 64
     by pid now run (Settles i) = same (after A s u).point.flat (ap (λ (x : Point). x.flat) (plain_point A s u (ap process_of_entry i)))
     by pid now run (Refuses i) =
         subst (λ (y : Entry). length (after A s y).point.flat.processes ≤ 64) (sym i) (subst (λ (t : State). length t.point.flat.processes ≤ 64) (sym (refused_after A s pid)) l)

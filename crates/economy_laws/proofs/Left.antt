@@ -24,7 +24,7 @@ use Rattle.page_laws.proofs.Moves.Units.{unit_is, entry_steps}
 use Rattle.flat_model.specs.Run.{process_of_entry}
 use Rattle.run_model.specs.State.{State}
 use Rattle.flat_model.specs.Touched.{touched}
-use Rattle.run_model.specs.Wanted.{running, touched_next, touched_by, AllValid, first_absent, before_absent, wanted_by, wanted, locked_by, locked, Splits, present_by}
+use Rattle.run_model.specs.Wanted.{running, touched_next, touched_of, AllValid, first_absent, before_absent, wanted_by, wanted, locked_by, locked, Splits, present_by}
 use Rattle.run_model.specs.After.{place_at, after}
 use Rattle.run_model.proofs.Wanting.{split_absent, none_absent, before_past, all_before}
 use Rattle.run_laws.specs.Running.{IsRun}
@@ -165,7 +165,7 @@ stays_in A s u pid n l o h = elim (entry_out (locked A s) (place_at s u) s.place
 -- What is wanted and locked while a process runs.
 
 pub next_on : (A : Inputs) (s : State) (pid : ℕ) → running s.mark ≡ Some pid → touched_next A s ≡ touched A s.point.flat pid
-next_on A s pid m = ap (touched_by A s.point.flat) m
+next_on A s pid m = ap (touched_of A s.point.flat) m
 
 pub wanted_on : (A : Inputs) (s : State) (pid : ℕ) → running s.mark ≡ Some pid → s.place.due ≡ []
     → wanted A s ≡ first_absent s.place (touched A s.point.flat pid)

@@ -19,7 +19,7 @@ use Rattle.run_model.specs.Wanted.{locked}
 use Rattle.run_model.specs.After.{place_at, pages_written, after}
 use Rattle.run_model.specs.Act.{act}
 use Rattle.run_model.specs.Next.{next_unit}
-use Rattle.run_model.specs.Kinds.{Runs, Kind, Fills, Brings, Copies, Serves, Acts, ComesIn, Interrupts, Moves, PutsOut, Notes, Begins}
+use Rattle.run_model.specs.Kinds.{ProcessRuns, Kind, Fills, Brings, Copies, Serves, Acts, ComesIn, Interrupts, Moves, PutsOut, Notes, Begins}
 use Rattle.run_model.proofs.NextUnits.{kind_of}
 use Rattle.run_laws.proofs.Acts.{Stepper, stepper, Stepped, stepped_flat, stepped_form, Completes, completes}
 use Rattle.run_laws.proofs.Flows.{Acted, Settles, Refuses, Steps, acted, steps_own, on_steps}
@@ -56,7 +56,7 @@ sleeps_idle images G pid regs = go (process_of G pid) refl
 -- a flat unit is what a process does that runs
 pub record Does (A : Inputs) (s : State) (u : Entry) (pid : ℕ) : Type 0 where
   pub now : Bool
-  pub runs : Runs A s pid now
+  pub runs : ProcessRuns A s pid now
   pub act : act A s pid ≡ Some u
 
 pub does : (A : Inputs) (s : State) (u : Entry) (pid : ℕ) → next_unit A s ≡ Some u → process_of_entry u ≡ Some pid → Does A s u pid
@@ -68,7 +68,7 @@ does A s u pid h e = go (kind_of A s u h)
     same : (p : ℕ) → Some p ≡ Some pid → p ≡ pid
     same p k = cc
 
-    acts : (p : ℕ) (now : Bool) → Runs A s p now → act A s p ≡ Some u → Acted A s p u → Does A s u pid
+    acts : (p : ℕ) (now : Bool) → ProcessRuns A s p now → act A s p ≡ Some u → Acted A s p u → Does A s u pid
     acts p now r a (Settles i) = none (ap process_of_entry i)
     acts p now r a (Refuses i) = subst (Does A s u) (same p (ap process_of_entry (sym i) ∙ e)) (record { now = now; runs = r; act = a })
     acts p now r a (Steps f g i) = subst (Does A s u) (same p (sym (steps_own A s.point p u i) ∙ e)) (record { now = now; runs = r; act = a })
@@ -103,7 +103,7 @@ sleep_stops A s pid r h = by (acted A s pid (entries.Sleeps pid) d.act)
     by (Refuses i) = absurd cc
     by (Steps f g i) =
         let st : Stepped A s (entries.Sleeps pid) = record { pid = pid; now = d.now; runs = d.runs; ends = tt; unrefused = f; unsettling = g; next = i } in
-        let run : Runs A s pid d.now = d.runs in
+        let run : ProcessRuns A s pid d.now = d.runs in
         let x : Stepper s.point.flat pid = stepper s.point.flat pid (on_steps A s s.mark pid d.now run.on) in
         let form = stepped_form A s (entries.Sleeps pid) st x r.numbers in
         let c : Completes A s.point pid (entries.Sleeps pid) = completes A s.point pid (entries.Sleeps pid) tt i in

@@ -20,7 +20,7 @@ use Rattle.flat_model.specs.Step.{Step, replied_step, reply_behind, called_step,
 use Rattle.flat_model.specs.Run.{step_at, is_refused, behind_first, due, due_at, first_if}
 use Rattle.run_model.specs.State.{State}
 use Rattle.run_model.specs.Act.{must_refuse, must_settle, act_by, act_if, act}
-use Rattle.run_model.specs.Kinds.{Runs}
+use Rattle.run_model.specs.Kinds.{ProcessRuns}
 use Rattle.run_laws.specs.Running.{IsRun}
 use Rattle.run_laws.specs.Flowing.{Awaits, WaitsBy, Flows}
 use Rattle.run_laws.proofs.Acts.{Stepper, stepper}
@@ -64,7 +64,7 @@ entries_some A F pid refused c h =
     (sym (ap (λ (S : Step). S.entries) (step_is A F pid refused x.process x.space x.here x.holds)) ∙ h)
 
 -- A process that runs acts.
-pub act_some : (A : Inputs) (s : State) (pid : ℕ) (now : Bool) → IsRun A s → Runs A s pid now → act A s pid ≡ None → ⊥
+pub act_some : (A : Inputs) (s : State) (pid : ℕ) (now : Bool) → IsRun A s → ProcessRuns A s pid now → act A s pid ≡ None → ⊥
 unfolding act
 act_some A s pid now r run h =
     let es : List Entry = (step_at A s.point pid).entries in

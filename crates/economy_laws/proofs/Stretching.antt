@@ -8,7 +8,7 @@ use Rattle.vm_facts.specs.declared.entry.Entry.{Entry}
 use Rattle.vm_facts.specs.declared.entry.Entry.TheVariants as entries
 use Rattle.flat_state.specs.Flat.{Inputs, can_step}
 use Rattle.page_model.specs.Pages.{is_valid, numbered}
-use Rattle.page_model.specs.Placement.{Placement, Residence, Due, Start, CopyOf, due_at, state_of, IsThere}
+use Rattle.page_model.specs.Placement.{Placement, Residence, Due, Start, CopyOf, due_of_page, state_of, IsThere}
 use Rattle.page_model.specs.Moves.{done}
 use Rattle.page_model.specs.Place.{due_after, filled, moved, place_entry}
 use Rattle.page_model.specs.Serve.{force, serve_step, serve_entry, serve_unit}
@@ -31,7 +31,7 @@ use Rattle.run_model.specs.Act.{act}
 use Rattle.run_model.proofs.Acting.{next_flat}
 use Rattle.run_model.proofs.Wanting.{none_absent, before_past, split_first, split_before, all_present}
 use Rattle.run_model.specs.Next.{fill_by, fill_unit, next_unit}
-use Rattle.run_model.specs.Kinds.{Runs}
+use Rattle.run_model.specs.Kinds.{ProcessRuns}
 use Rattle.run_model.specs.Lawful.{Follows}
 use Rattle.run_model.proofs.NextUnits.{kind_of}
 use Rattle.run_laws.specs.Running.{IsRun}
@@ -44,7 +44,7 @@ use Rattle.run_laws.proofs.Settling.{settles}
 use Rattle.run_laws.proofs.Units.{plain_place, owns, not_due}
 use Rattle.run_laws.proofs.Wholes.{unit_run}
 use Rattle.span_laws.specs.Spans.{is_hands, adds, added, takes, takings}
-use Rattle.economy_laws.specs.Stretch.{begins_stretch, NoneBegins, copies, copies_of, IsClosing, FewTouched, Grown, AllGrown}
+use Rattle.economy_laws.specs.Stretch.{begins_stretch, NoneBegins, copies, copies_of, IsClosing, FewTouched, TouchesMore, AllGrown}
 use Rattle.span_laws.proofs.Spanning.{adds_most}
 use Rattle.span_laws.proofs.Serving.{done_less}
 use Rattle.economy_laws.proofs.Closing.{Closes, Fill, Bring, CopyIt, Serve, Act, In, closes, stays_closing, no_event}
@@ -148,7 +148,7 @@ start_next A s u pid b n m q ds few r r2 c2 l d i = go s.place.free refl i (l.st
 -- A child's page, and its parent's.
 
 pub source_of : (A : Inputs) (s : State) (q parent : Page) (ds : List Due) → IsRun A s → s.place.due ≡ CopyOf q parent ∷ ds → IsDue s.place q (CopyOf q parent)
-source_of A s q parent ds r d = let st = r.placed in st.dues q (CopyOf q parent) (ap (λ (l : List Due). due_at l q) d ∙ first_due (CopyOf q parent) ds)
+source_of A s q parent ds r d = let st = r.placed in st.dues q (CopyOf q parent) (ap (λ (l : List Due). due_of_page l q) d ∙ first_due (CopyOf q parent) ds)
 
 bring_next : (A : Inputs) (s : State) (u : Entry) (pid : ℕ) (b : Bool) (n m : ℕ) (q parent : Page) (ds : List Due) → IsRun A s → IsRun A (after A s u)
     → Left A s pid b n m
@@ -287,7 +287,7 @@ some_same a b e = cc
 
 page_next : (A : Inputs) (s : State) (u : Entry) (pid : ℕ) (b : Bool) (n m : ℕ) (q : Page) → FewTouched A → IsRun A s → IsClosing A s pid
     → IsRun A (after A s u) → IsClosing A (after A s u) pid → Left A s pid b n m
-    → Runs A s pid true → wanted A s ≡ Some q → serve_unit s.place q true ≡ Some u → Next A s pid b u n m
+    → ProcessRuns A s pid true → wanted A s ≡ Some q → serve_unit s.place q true ≡ Some u → Next A s pid b u n m
 page_next A s u pid b n m q few r c r2 c2 l run w i =
     let pages : List Page = touched A s.point.flat pid in
     let sp : Placement = serve_step s.place k.before q in
@@ -303,7 +303,7 @@ page_next A s u pid b n m q few r c r2 c2 l run w i =
     plain = ap process_of_entry unit ∙ serve_flat s.place q
 
     pl : (after A s u).place ≡ serve_step s.place k.before q
-    pl = after_served A s u k.before q (locked_is A s pid c run.clear ∙ split_before s.place (touched A s.point.flat pid) k.before q k.splits) (ap (λ (x : List Due). due_at x q) run.clear) i
+    pl = after_served A s u k.before q (locked_is A s pid c run.clear ∙ split_before s.place (touched A s.point.flat pid) k.before q k.splits) (ap (λ (x : List Due). due_of_page x q) run.clear) i
 
     due : (after A s u).place.due ≡ []
     due = ap (λ (p : Placement). p.due) pl ∙ serve_due_same s.place k.before q (owns A s r.placed) ∙ run.clear
@@ -437,7 +437,7 @@ SleepStops A = (s : State) (pid : ℕ) → IsRun A s → next_unit A s ≡ Some 
 act_next : (A : Inputs) (s : State) (u : Entry) (pid : ℕ) (b : Bool) (n m : ℕ) → FewTouched A → AllGrown A → SleepStops A → IsRun A s
     → IsClosing A s pid → IsRun A (after A s u)
     → IsClosing A (after A s u) pid → next_unit A s ≡ Some u → begins_stretch u ≡ false → Left A s pid b n m
-    → Runs A s pid true → wanted A s ≡ None → act A s pid ≡ Some u → Next A s pid b u n m
+    → ProcessRuns A s pid true → wanted A s ≡ None → act A s pid ≡ Some u → Next A s pid b u n m
 act_next A s u pid b n m few grows stops r c r2 c2 h nb l run w a = by (acted A s pid u a)
   where
     k : ActLeft A s pid n m
@@ -489,7 +489,7 @@ act_next A s u pid b n m few grows stops r c r2 c2 h nb l run w a = by (acted A 
 
     grown : (pages : ℕ) → u ≡ entries.Grew pid pages → is_closed s.point.last ≡ false → Next A s pid b u n m
     grown pages i o =
-        let g : Grown A s (after A s u) pid = subst (λ (x : Entry). Grown A s (after A s x) pid) (sym i) (grows s pid pages r (h ∙ ap (λ (x : Entry). Some x) i)) in
+        let g : TouchesMore A s (after A s u) pid = subst (λ (x : Entry). TouchesMore A s (after A s x) pid) (sym i) (grows s pid pages r (h ∙ ap (λ (x : Entry). Some x) i)) in
         let y = k.some o in
         let x = k.takers o in
         let z = ap takes i in
@@ -530,7 +530,7 @@ act_next A s u pid b n m few grows stops r c r2 c2 h nb l run w a = by (acted A 
           takers = omega arith;
         }
 
-    stepped : (x : Entry) → u ≡ x → Rattle.flat_model.specs.Run.act A s.point pid ≡ Some u → process_of_entry x ≡ Some pid → begins_stretch x ≡ false
+    stepped : (x : Entry) → u ≡ x → Rattle.flat_model.specs.Run.entry_of_step A s.point pid ≡ Some u → process_of_entry x ≡ Some pid → begins_stretch x ≡ false
         → is_closed s.point.last ≡ false → Next A s pid b u n m
     stepped (entries.Out p bytes) i f e z o = waits o (ap (λ (y : Entry). is_closed (Some y)) i) (ap takes i)
         (subst (λ (y : Entry). after A s y ≡ noted s y) (sym i) (out_after A s pid p bytes (out_of A s.point pid p bytes (f ∙ ap (λ (y : Entry). Some y) i))))

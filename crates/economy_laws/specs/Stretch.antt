@@ -48,7 +48,7 @@ FewTouched A = (s : State) (pid : ℕ) → IsRun A s → length (touched A s.poi
 
 -- After `Grew` the process's instruction touches what it touched before, and at least one page more; what was touched
 -- and valid stays so.
-pub record Grown (A : Inputs) (s t : State) (pid : ℕ) : Type 0 where
+pub record TouchesMore (A : Inputs) (s t : State) (pid : ℕ) : Type 0 where
   pub next : Page
   pub more : List Page
   pub touches : touched A t.point.flat pid ≡ touched A s.point.flat pid ++ next ∷ more
@@ -59,7 +59,7 @@ pub record Grown (A : Inputs) (s t : State) (pid : ℕ) : Type 0 where
 
 -- this is so of each `Grew` that comes next in a run
 abbrev pub AllGrown : Inputs → Type 0
-AllGrown A = (s : State) (pid pages : ℕ) → IsRun A s → next_unit A s ≡ Some (entries.Grew pid pages) → Grown A s (after A s (entries.Grew pid pages)) pid
+AllGrown A = (s : State) (pid pages : ℕ) → IsRun A s → next_unit A s ≡ Some (entries.Grew pid pages) → TouchesMore A s (after A s (entries.Grew pid pages)) pid
 
 -- a list and at least one page more
 pub record Extends (xs ys : List Page) : Type 0 where

@@ -9,7 +9,7 @@ use Rattle.swap_book.specs.Holdings.{Holdings, lengths}
 use Rattle.swap_book.specs.Placing.{place_all}
 use Rattle.flat_state.specs.declared.change.Change.TheVariants.{Resize}
 use Rattle.page_model.specs.Pages.{SpacePages, numbered, stack_in}
-use Rattle.page_model.specs.Placement.{Placement, Due, space_number, slots_of, due_at}
+use Rattle.page_model.specs.Placement.{Placement, Due, space_number, slots_of, due_of_page}
 use Rattle.page_model.specs.Conditions.{LosesPages}
 use Rattle.page_model.specs.Moves.{drop_all}
 use Rattle.page_model.specs.Place.{data_count, stack_count, data_from, stack_from, sized, cut_space, resize}
@@ -127,7 +127,7 @@ serves_new : (p : Placement) (sid d pages : ℕ) → HasSpace p sid → p.due �
 serves_new p sid d pages there clear some = record {
   there = let a = stack_cut p sid d pages there in omega arith;
   shared = tt;
-  fresh = ap (λ (ds : List Due). due_at ds (page_names.Stack sid (pages - 1))) clear;
+  fresh = ap (λ (ds : List Due). due_of_page ds (page_names.Stack sid (pages - 1))) clear;
   blank = λ e. clear;
 }
 

@@ -7,7 +7,7 @@ use Rattle.vm_facts.specs.declared.page.PageState.{PageState}
 use Rattle.vm_facts.specs.declared.page.PageState.TheVariants.{Unfilled, Valid, Invalid, Coming, Going, OnSwap}
 use Rattle.flat_state.specs.PageNames.{number_of, beside}
 use Rattle.page_model.specs.Pages.{OfImage, frame_of, is_on_swap, is_unfilled}
-use Rattle.page_model.specs.Placement.{Placement, Source, FromSwap, FromFile, Due, due_at, slots_of, state_of, filling_of, IsThere}
+use Rattle.page_model.specs.Placement.{Placement, Source, FromSwap, FromFile, Due, due_of_page, slots_of, state_of, filling_of, IsThere}
 use Rattle.page_model.specs.Runs.{Run, pages_of_run, passing_above, run_both, run_up, run_alone, run_in, run_in_by, comes_from_swap, comes_from_file, spare_frames, desired_free, is_near}
 use Rattle.page_model.specs.Serve.{source_for}
 use Rattle.page_model.specs.Conditions.{EachPage, IsShared}
@@ -20,10 +20,10 @@ use Rattle.page_laws.proofs.Moves.Parts.{run_some}
 use Rattle.machine_state.specs.Conditions.{CanBringIn}
 
 -- text is never due
-text_not_due : (p : Placement) (image v : ℕ) → DueStand p → due_at p.due (Text image v) ≡ None
-text_not_due p image v due = go (due_at p.due (Text image v)) refl
+text_not_due : (p : Placement) (image v : ℕ) → DueStand p → due_of_page p.due (Text image v) ≡ None
+text_not_due p image v due = go (due_of_page p.due (Text image v)) refl
   where
-    go : (o : Option Due) → due_at p.due (Text image v) ≡ o → o ≡ None
+    go : (o : Option Due) → due_of_page p.due (Text image v) ≡ o → o ≡ None
     go None e = refl
     go (Some d) e = absurd (let i : IsDue p (Text image v) d = due (Text image v) d e in i.writable)
 

@@ -13,7 +13,7 @@ use Rattle.vm_facts.specs.declared.entry.Entry.{Entry}
 use Rattle.vm_facts.specs.declared.entry.Entry.TheVariants as entries
 use Rattle.flat_state.specs.PageNames.{same_page}
 use Rattle.page_model.specs.Pages.{Slot, Filling, Zeros, OfImage, frame_of}
-use Rattle.page_model.specs.Placement.{Placement, Transfer, Due, due_page, due_at, slot_of, state_of, mark_of, filling_by, filling_of, IsThere, sharers}
+use Rattle.page_model.specs.Placement.{Placement, Transfer, Due, due_page, due_of_page, slot_of, state_of, mark_of, filling_by, filling_of, IsThere, sharers}
 use Rattle.page_model.specs.Moves.{evict, fill, fill_at, reclaim, reclaim_to, done, done_of}
 use Rattle.page_model.specs.Runs.{pages_of_run, run_in}
 use Rattle.page_model.specs.Place.{due_after}
@@ -43,7 +43,7 @@ pub due_same : (ds : List Due) (q : Page) → NotDue ds q → due_after ds q ≡
 due_same [] q n = refl
 due_same (d ∷ ds) q n = go (same_page (due_page d) q) refl n
   where
-    go : (b : Bool) → same_page (due_page d) q ≡ b → cond b (Some d) (due_at ds q) ≡ None → cond b ds (d ∷ ds) ≡ d ∷ ds
+    go : (b : Bool) → same_page (due_page d) q ≡ b → cond b (Some d) (due_of_page ds q) ≡ None → cond b ds (d ∷ ds) ≡ d ∷ ds
     go true e k = absurd cc
     go false e k = refl
 

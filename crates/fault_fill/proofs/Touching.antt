@@ -21,7 +21,7 @@ use Rattle.kernel_model.specs.Asks.{HasSpace}
 use Rattle.kernel_model.specs.ChangeStep.{space_of_life, life_of_proc}
 use Rattle.machine_state.specs.Views.{IsNamedBy, ShowsSpace}
 use Rattle.machine_state.specs.Alike.{AreRecords}
-use Rattle.machine_state.specs.Machine.{proc_of, processes_of}
+use Rattle.machine_state.specs.Machine.{proc_of_record, processes_of}
 use Rattle.machine_state.specs.UserMemory.{CanLend}
 use Rattle.machine_state.proofs.Listed.{process_is}
 use Rattle.machine_state.proofs.Entries.{data_hit, stack_hit, text_hit}
@@ -36,7 +36,7 @@ use Rattle.fault_fill.proofs.Accesses.{IsOf, of_space, access_there}
 -- The record.
 
 pub record_shown : (k : Kernel) (ps : List Record) (pid : ℕ) → k.processes ≡ processes_of ps k.next_pid → AreRecords ps k.next_pid
-    → proc_in k pid ≡ proc_of (find pid ps)
+    → proc_in k pid ≡ proc_of_record (find pid ps)
 record_shown k ps pid e h = ap (λ (qs : List Proc). numbered (λ (p : Proc). p.pid) pid qs) e ∙ process_is ps k.next_pid pid h
 
 none_holds : (o : Option Proc) (sid : ℕ) → life_of_proc o ≡ HoldsSpace sid → o ≡ None → ⊥

@@ -10,7 +10,7 @@ use Rattle.user_vax.specs.Effects.{bytes_at, store_effect}
 use Rattle.flat_model.specs.Calls.{argument, exit_reply, reply_of}
 use Rattle.resource_map.specs.Room.{lowest_room, lowest as lowest_of, has_room, all_pass}
 use Rattle.swap_book.specs.Holdings.{Holdings, fit, is_in, is_held, kept}
-use Rattle.swap_dmap.specs.Chunks.{pieces, chunk, chunk_start, lowest, chunks_holding, chunk_reached, counted_from, last_piece, text_pieces}
+use Rattle.swap_dmap.specs.Chunks.{pieces, chunk, chunk_start, lowest_below, chunks_holding, chunk_reached, counted_from, last_piece, text_pieces}
 use Rattle.flat_model.specs.Asked.{first_held, start_held, or_before, asks, held_step}
 use Rattle.aout_image.specs.declared.Kind.TheVariants.{Paged}
 use Rattle.flat_state.specs.Flat.{NamedImage, Inputs, image_numbered, argument_area, start_regs}
@@ -23,7 +23,7 @@ use Rattle.kernel_model.specs.Start.{ImageFits}
 use Rattle.aout_image.specs.Image.{page_at}
 use Rattle.page_model.specs.PageBytes.{zeros}
 use Rattle.page_opt.specs.Plans.{has}
-use Rattle.page_opt.specs.Cache.{bit, times}
+use Rattle.page_opt.specs.Cache.{bit, count_in}
 use Rattle.page_opt.proofs.Counts.{bit_le}
 use Rattle.plan_laws.specs.Memory.{NoneFewer}
 use Rattle.plan_laws.proofs.Cold.{pages_fault}
@@ -44,7 +44,7 @@ use Rattle.swap_book.specs.Placing.{place_all}
 use Rattle.user_vax.specs.Computation.{computation}
 use Rattle.user_vax.specs.Instruction.{fetch, evaluations, write_tests, tested_effect, execution, execution_by, instruction}
 use Rattle.user_vax.specs.Operands.{number_at, address_of, evaluation_at, evaluation_through, evaluation}
-use Rattle.vax_code.specs.Reading.{byte_at, number_at as number_read, signed_at, displacement_at, base_at, indexed_at, specifier_at, operand_at, counted, place_at, operands_at, instruction_at, decoded}
+use Rattle.vax_code.specs.Reading.{next_byte, next_number as number_read, next_signed, next_displacement, base_at, indexed_at, next_specifier, next_operand, with_count, operand_in_place, next_operands, instruction_at, decoded}
 use Rattle.vax_code.specs.Table.{all_rows, row_for}
 use Rattle.replay_check.specs.Verdicts.{references_from, references_of}
 
@@ -111,13 +111,13 @@ copied_makes : (units_from 21 copied_run (start copied_run copied_held) ≡ copi
 unfolding units_from more copied_run copied_held copied_image next_unit after state_after act asks held_step flat_step distinct step_accesses touched
     argument exit_reply reply_of replaced returned apply_change apply_writes argument_area start_regs spot_at kept place_all computation bytes_at store_effect
     fetch evaluations write_tests tested_effect execution execution_by instruction number_at address_of evaluation_at evaluation_through evaluation
-    byte_at number_read signed_at displacement_at base_at indexed_at specifier_at operand_at counted place_at operands_at instruction_at decoded all_rows row_for
-    first_held pieces chunk chunk_start lowest chunks_holding chunk_reached counted_from last_piece text_pieces fit is_in is_held lowest_room lowest_of
+    next_byte number_read next_signed next_displacement base_at indexed_at next_specifier next_operand with_count operand_in_place next_operands instruction_at decoded all_rows row_for
+    first_held pieces chunk chunk_start lowest_below chunks_holding chunk_reached counted_from last_piece text_pieces fit is_in is_held lowest_room lowest_of
     has_room all_pass references_from flat_entry
 copied_makes = (refl, refl)
 
 copied_holds : start_held copied_run ≡ Ok copied_held
-unfolding copied_run copied_held copied_image first_held place_all pieces chunk chunk_start lowest chunks_holding chunk_reached counted_from last_piece
+unfolding copied_run copied_held copied_image first_held place_all pieces chunk chunk_start lowest_below chunks_holding chunk_reached counted_from last_piece
     text_pieces fit is_in is_held lowest_room lowest_of has_room all_pass
 copied_holds = refl
 
@@ -152,18 +152,18 @@ copied_can = record {
 -- The least.
 
 -- no two pages have one number
-apart_once : (number : Page → ℕ) (qs : List Page) → IsNumbering number → AllApart qs → (x : ℕ) → times x (map number qs) ≤ 1
+apart_once : (number : Page → ℕ) (qs : List Page) → IsNumbering number → AllApart qs → (x : ℕ) → count_in x (map number qs) ≤ 1
 apart_once number [] is a x = omega arith
 apart_once number (q ∷ qs) is a x = elim (cases_eq (number q) x) [
   | inl e ↦
       let none = other_none number q qs is a.0 in
-      let same = ap (λ (n : ℕ). times n (map number qs)) e in
+      let same = ap (λ (n : ℕ). count_in n (map number qs)) e in
       let one = bit_le (number q == x) in
       omega arith
   | inr n ↦ let none = ap bit (ne_eqb (number q) x n) in let rest = apart_once number qs is a.1 x in omega arith
 ]
   where
-    other_none : (number : Page → ℕ) (q : Page) (qs : List Page) → IsNumbering number → EachPage (λ r. r ≡ q → ⊥) qs → times (number q) (map number qs) ≡ 0
+    other_none : (number : Page → ℕ) (q : Page) (qs : List Page) → IsNumbering number → EachPage (λ r. r ≡ q → ⊥) qs → count_in (number q) (map number qs) ≡ 0
     other_none number q [] is a = refl
     other_none number q (r ∷ rs) is a =
         let none = ap bit (ne_eqb (number r) (number q) (λ e. a.0 (is r q e))) in

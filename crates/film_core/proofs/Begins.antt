@@ -18,7 +18,7 @@ use Rattle.run_model.specs.State.{State, start}
 use Rattle.run_model.specs.Next.{next_unit, next_turned, under, last_turned}
 use Rattle.run_model.specs.Lawful.{Follows}
 use Rattle.run_model.proofs.After.{units_journal}
-use Rattle.run_laws.specs.Longwords.{AllFit}
+use Rattle.run_laws.specs.Longwords.{ProcessesFit}
 use Rattle.run_laws.specs.Machine.{Makes}
 use Rattle.run_laws.specs.Running.{CanRun}
 use Rattle.run_laws.proofs.Lawful.{follows_state}
@@ -34,7 +34,7 @@ use Rattle.run_start.specs.Lines.{IsOver}
 use Rattle.run_start.specs.Stepped.{StopsNext}
 use Rattle.journal_laws.specs.Stops.{StaysPut}
 use Rattle.run_start.proofs.Led.{stands_at_start}
-use Rattle.proc_run.specs.Choosing.{next_turned as chosen_next}
+use Rattle.proc_run.specs.Choosing.{turn_after as chosen_next}
 use Rattle.proc_run.proofs.Ready.{turned_same}
 use Rattle.vm_core.specs.Cores.{InputsOf, StandsIn}
 use Rattle.vm_core.specs.RunEnds.{IsAskedOf}
@@ -126,7 +126,7 @@ module _ (A : Inputs) (old new : Filming) (numbers : List ℕ) (lines : List Eve
       told = told;
       inputs = inputs_on A old.machine new.machine inputs params images;
       longwords = record {
-        fit = subst (λ (x : State). AllFit x.point.flat.processes) is_start (start_regs_are A asked.octets);
+        fit = subst (λ (x : State). ProcessesFit x.point.flat.processes) is_start (start_regs_are A asked.octets);
         next = let e = ap (λ (x : State). x.point.flat.next_pid) is_start in omega (arith, e);
       };
       crowd = subst (λ (x : State). length x.point.flat.processes ≤ 64) is_start (let most = few_started A.images 1 A.first in let f = few_first in omega (arith, most, f));

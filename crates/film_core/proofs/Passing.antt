@@ -23,7 +23,7 @@ use Rattle.run_start.specs.Stepped.{StopLeads}
 use Rattle.run_start.specs.Lines.{IsOver, LineBegun, TurnBegun, TurnDue, StopsNoting}
 use Rattle.run_start.proofs.StepUnitsBeginning.{line_begins, line_stops, turn_stops}
 use Rattle.run_start.proofs.Turning.{turn_begins}
-use Rattle.proc_run.specs.Choosing.{next_turned as chosen_next}
+use Rattle.proc_run.specs.Choosing.{turn_after as chosen_next}
 use Rattle.proc_run.proofs.Ready.{turned_same}
 use Rattle.vm_core.specs.Cores.{StandsIn}
 use Rattle.vm_core.specs.Schedules.{HaveFewMoves}

@@ -8,7 +8,7 @@ ghost use Rattle.machine_state.specs.Files.{AreFiles};
 ghost use Rattle.machine_state.specs.Outside.{stop_of, TransfersPages};
 ghost use Rattle.journal_laws.specs.LastMoves.{last_moves};
 ghost use Rattle.run_start.specs.Sizes.{KeptAtStop};
-ghost use Rattle.proc_run.specs.Choosing.{next_turned};
+ghost use Rattle.proc_run.specs.Choosing.{turn_after};
 ghost use Rattle.proc_run.specs.Runs.{IsSteady};
 ghost use Rattle.vm_core.specs.Schedules.{HaveFewMoves};
 ghost use Rattle.film_core.specs.Films.{IsFilming, FilmGoes, FilmStops, one_wider};
@@ -44,10 +44,10 @@ enum Next {
 // What comes after a mark, where so many lines are taken, so many instructions are counted, and this process had the last turn.
 fn next_of(m: &Machine, lines: &[Event], taken: u32, counted: u32, last: u32) -> Next
     requires running { IsRunning m.now }
-    ensures over { result ≡ Next.Over → (m.now.params.limit ≤ counted) ⊎ ((slice_get lines.now taken ≡ None) × (next_turned m.now.kernel last ≡ None)) }
+    ensures over { result ≡ Next.Over → (m.now.params.limit ≤ counted) ⊎ ((slice_get lines.now taken ≡ None) × (turn_after m.now.kernel last ≡ None)) }
     ensures line { (e : AnyEvent) → result ≡ Next.Line e → (counted < m.now.params.limit) × (slice_get lines.now taken ≡ Some e) }
     ensures turn { (pid : ℕ) → result ≡ Next.Turn pid → (counted < m.now.params.limit) × (slice_get lines.now taken ≡ None)
-        × (next_turned m.now.kernel last ≡ Some pid) }
+        × (turn_after m.now.kernel last ≡ Some pid) }
 {
     if counted >= m.params().limit {
         return Next::Over;
@@ -141,7 +141,7 @@ fn take_turn<F: Files, D: SwapDev>(
     requires wide { m.old.params.journal ≤ length m.old.kernel.journal + 1 }
     requires below { counted < m.old.params.limit }
     requires behind { slice_get lines.now taken ≡ None }
-    requires turned { next_turned m.old.kernel _last ≡ Some pid }
+    requires turned { turn_after m.old.kernel _last ≡ Some pid }
     requires count { length lines.now < 2 ^ 32 }
     requires past { IsPast m.old lines.now taken counted _last (F.holds files.old) (D.image swap.old) }
     requires area { m.old.params.swap_blocks ≤ D.blocks swap.old }

@@ -7,7 +7,7 @@ ghost use Rattle.machine_state.specs.Files.{AreFiles};
 ghost use Rattle.machine_state.specs.Outside.{stop_of, TransfersPages};
 ghost use Rattle.run_start.specs.Starting.{AreAmong, StartsFrom};
 ghost use Rattle.run_start.specs.Leading.{IsTold};
-ghost use Rattle.proc_run.specs.Choosing.{next_turned};
+ghost use Rattle.proc_run.specs.Choosing.{turn_after};
 ghost use Rattle.vm_core.specs.Starting.{StopsStartingRun};
 ghost use Rattle.film_core.specs.Films.{IsUnbegun, BeginsFilm};
 
@@ -21,7 +21,7 @@ use vm_facts::{Event, Stop};
 // Whether no line of a schedule comes, and no turn of a process.
 fn none_comes(m: &Machine, lines: &[Event]) -> bool
     requires running { IsRunning m.now }
-    ensures { (result ≡ true) ↔ ((lines.now ≡ []) × (next_turned m.now.kernel 0 ≡ None)) }
+    ensures { (result ≡ true) ↔ ((lines.now ≡ []) × (turn_after m.now.kernel 0 ≡ None)) }
 {
     lines.is_empty() && next_turned(m, 0).is_none()
 }

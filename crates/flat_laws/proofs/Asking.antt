@@ -4,7 +4,7 @@ use Rattle.std.proofs.lemmas.List.{length-map, drop-map}
 use Rattle.flat_state.specs.Space.{Space}
 use Rattle.flat_state.specs.Flat.{Holding, Holds, Lends, Zombie, Process, FlatState, NamedImage, Inputs, image_numbered, process_of, can_step, is_ready, ready_if, space_held, spaces_of}
 use Rattle.vm_facts.specs.declared.page.Page.TheVariants.{Text}
-use Rattle.aout_image.specs.Image.{text_pages_of, data_pages_of}
+use Rattle.aout_image.specs.Image.{text_pages_of, image_data_pages}
 use Rattle.swap_dmap.specs.Chunks.{pieces, text_pieces}
 use Rattle.swap_book.specs.declared.Owner.{Owner}
 use Rattle.swap_book.specs.declared.Owner.TheVariants as owners
@@ -16,7 +16,7 @@ use Rattle.page_model.specs.Pages.{SpacePages, numbered, data_in, stack_in}
 use Rattle.page_model.specs.Placement.{space_number, slots_of, sharers, sharers_in}
 use Rattle.page_model.specs.Place.{data_count, stack_count, facts_of}
 use Rattle.kernel_model.specs.Kernel.{Life, HoldsSpace, Kernel, Proc}
-use Rattle.kernel_model.specs.Coupled.{SameTables, Fits, text_of}
+use Rattle.kernel_model.specs.Coupled.{SameTables, Fits, image_text}
 use Rattle.kernel_model.specs.Sound.{TextFits}
 use Rattle.kernel_model.specs.ChangeStep.{space_of_life, life_of_proc}
 use Rattle.flat_state.specs.Numbers.{IsAbsent, AllDistinct, IsNumbered}
@@ -178,15 +178,15 @@ image_same images k flat image None i x c n t e = refl
 image_same images k flat image (Some named) i x c n t e =
     let shared : is_shared flat image ≡ is_some_of image_of_pages image k.place.spaces = shared_same k flat image c n t in
     let size : 2 * length (slots_of k.place (Text image 0)) ≡ 2 * text_pages_of named.image.facts =
-    let l : length named.image.text ≡ 1024 * length (slots_of k.place (Text image 0)) = sym (ap (λ (o : Option NamedImage). length (text_of o)) e) ∙ x image in
+    let l : length named.image.text ≡ 1024 * length (slots_of k.place (Text image 0)) = sym (ap (λ (o : Option NamedImage). length (image_text o)) e) ∙ x image in
     let r : length named.image.text ≡ 1024 * text_pages_of named.image.facts = (i image named e).text in
     omega (arith, l, r) in
     let text : text_asked (sharers k.place image) image (2 * length (slots_of k.place (Text image 0))) ≡ text_wanted (is_shared flat image) image named.image =
     text_same image (sharers k.place image) (2 * length (slots_of k.place (Text image 0))) (is_shared flat image) named
     (λ z. shared ∙ no_sharers image k.place.spaces z) (λ m z. shared ∙ some_sharers image m k.place.spaces z) size in
     ap (λ (sid : ℕ). image_asked k.place sid image (Some named.image.facts)) t.next_sid
-    ∙ ap (λ (ws : List Wanted). ws ++ (wanted (owners.Data flat.next_sid) (pieces (2 * data_pages_of named.image.facts)) ++ wanted (owners.Stack flat.next_sid) (pieces 2))) text
-    ∙ sym (append_assoc (text_wanted (is_shared flat image) image named.image) (wanted (owners.Data flat.next_sid) (pieces (2 * data_pages_of named.image.facts)))
+    ∙ ap (λ (ws : List Wanted). ws ++ (wanted (owners.Data flat.next_sid) (pieces (2 * image_data_pages named.image.facts)) ++ wanted (owners.Stack flat.next_sid) (pieces 2))) text
+    ∙ sym (append_assoc (text_wanted (is_shared flat image) image named.image) (wanted (owners.Data flat.next_sid) (pieces (2 * image_data_pages named.image.facts)))
     (wanted (owners.Stack flat.next_sid) (pieces 2)))
 
 -- Changes.

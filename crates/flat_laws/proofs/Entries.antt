@@ -7,7 +7,7 @@ use Rattle.flat_state.specs.Flat.{FlatState, Inputs, can_step}
 use Rattle.vm_facts.specs.declared.entry.Entry.{Entry}
 use Rattle.vm_facts.specs.declared.entry.Entry.TheVariants as entries
 use Rattle.flat_model.specs.Step.{Step, flat_step}
-use Rattle.flat_model.specs.Run.{Point, is_refused, step_at, behind_first, due, due_at, first_if, act, point_after, same_carry, same_entry, same_as, process_of_entry, may_follow, where_so, flat_entry_of, flat_entry_if, flat_entry_by, flat_entry}
+use Rattle.flat_model.specs.Run.{Point, is_refused, step_at, behind_first, due, due_at, first_if, entry_of_step, point_after, same_carry, same_entry, same_as, process_of_entry, may_follow, where_so, flat_entry_of, flat_entry_if, flat_entry_by, flat_entry}
 use Rattle.flat_laws.specs.Others.{is_refusal, is_writing}
 
 -- By the state.
@@ -44,7 +44,7 @@ due_same (Some (entries.SwapIn a)) pid es = refl
 due_same (Some (entries.Owners a b c d)) pid es = refl
 
 pub next_same : (A : Inputs) (point other : Point) (pid : ℕ) → other.flat ≡ point.flat → is_refused other.last pid ≡ is_refused point.last pid
-    → is_writing other.last pid ≡ is_writing point.last pid → act A other pid ≡ act A point pid
+    → is_writing other.last pid ≡ is_writing point.last pid → entry_of_step A other pid ≡ entry_of_step A point pid
 next_same A point other pid flat refused writing =
     let step : step_at A other pid ≡ step_at A point pid =
     ap (λ (F : FlatState). flat_step A F pid (is_refused other.last pid)) flat ∙ ap (λ (b : Bool). flat_step A point.flat pid b) refused in
@@ -90,14 +90,14 @@ entry_is _ _ h = absurd cc
 -- An entry that may come next is the one that the step gives.
 
 record Comes (A : Inputs) (point p : Point) (pid : ℕ) (e : Entry) : Type 0 where
-  same : same_as (act A point pid) e ≡ true
+  same : same_as (entry_of_step A point pid) e ≡ true
   behind : point_after A point pid ≡ p
 
-of_where : (A : Inputs) (point p : Point) (pid : ℕ) (e : Entry) → where_so (same_as (act A point pid) e) (point_after A point pid) ≡ Some p
+of_where : (A : Inputs) (point p : Point) (pid : ℕ) (e : Entry) → where_so (same_as (entry_of_step A point pid) e) (point_after A point pid) ≡ Some p
     → Comes A point p pid e
-of_where A point p pid e h = go (same_as (act A point pid) e) refl h
+of_where A point p pid e h = go (same_as (entry_of_step A point pid) e) refl h
   where
-    go : (b : Bool) → same_as (act A point pid) e ≡ b → where_so b (point_after A point pid) ≡ Some p → Comes A point p pid e
+    go : (b : Bool) → same_as (entry_of_step A point pid) e ≡ b → where_so b (point_after A point pid) ≡ Some p → Comes A point p pid e
     go true k l = record { same = k; behind = same_Some (point_after A point pid) p l }
     go false k l = absurd cc
 
@@ -124,4 +124,4 @@ pub one_entry : (A : Inputs) (point p q : Point) (pid : ℕ) (e f : Entry) → p
     → is_refusal e ≡ false → is_refusal f ≡ false
     → flat_entry A point e ≡ Some p → flat_entry A point f ≡ Some q → e ≡ f
 one_entry A point p q pid e f of_e of_f plain_e plain_f h k =
-    same_both (act A point pid) e f (comes A point p pid e of_e plain_e h).same (comes A point q pid f of_f plain_f k).same
+    same_both (entry_of_step A point pid) e f (comes A point p pid e of_e plain_e h).same (comes A point q pid f of_f plain_f k).same

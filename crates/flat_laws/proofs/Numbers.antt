@@ -22,7 +22,7 @@ use Rattle.flat_model.specs.declared.calls.SystemCall.{SystemCall}
 use Rattle.flat_model.specs.Calls.{call_of}
 use Rattle.flat_model.specs.Instruction.{instruction_in}
 use Rattle.flat_model.specs.Step.{step_of, step_behind, called_step, replied_step, step_holding, step_if, flat_step, written_process, reply_behind}
-use Rattle.flat_model.specs.Run.{Point, step_at, due_at, act, behind, point_after, same_as, process_of_entry, may_follow, where_so, flat_entry_of, flat_entry_if, flat_entry_by, flat_entry, flat_units, flat_run, start_point}
+use Rattle.flat_model.specs.Run.{Point, step_at, due_at, entry_of_step, behind, point_after, same_as, process_of_entry, may_follow, where_so, flat_entry_of, flat_entry_if, flat_entry_by, flat_entry, flat_units, flat_run, start_point}
 use Rattle.flat_laws.proofs.Finding.{pids}
 use Rattle.flat_laws.proofs.Replies.{ReplyFits, reply_fits}
 use Rattle.flat_laws.proofs.Others.{pids_written}
@@ -132,7 +132,7 @@ where_numbered false p q e h = absurd cc
 of_numbered : (A : Inputs) (point q : Point) (pid : ℕ) (e : Entry) → flat_entry_of A point pid e ≡ Some q → IsNumbered point.flat → IsNumbered q.flat
 of_numbered A point q pid (Refused p) h k = where_numbered (can_step point.flat pid) (record point { last = Some (Refused p) }) q h k
 of_numbered A point q pid e h k =
-    where_numbered (same_as (act A point pid) e) (point_after A point pid) q h
+    where_numbered (same_as (entry_of_step A point pid) e) (point_after A point pid) q h
     (behind_numbered point (step_at A point pid).after (due_at A point pid) k (step_numbered A point.flat pid (Rattle.flat_model.specs.Run.is_refused point.last pid) k))
 
 if_numbered : (b : Bool) (A : Inputs) (point q : Point) (pid : ℕ) (e : Entry) → flat_entry_if b A point pid e ≡ Some q → IsNumbered point.flat

@@ -2,7 +2,7 @@
 use Rattle.std.proofs.Common.{◌≡◌, ℕ, ◌/◌, Bool, true, false, List, [], ◌∷◌, ◌++◌, filter_map, Option, Some, None, Result, Ok, Err, ℤ, refl, sym, ap, ◌∙◌, subst}
 use Rattle.std.specs.List.{cons_option}
 use Rattle.vm_facts.specs.Answers.{Answers, ByteWrite}
-use Rattle.flat_state.specs.Space.{Space, address_in, byte_at, may_write_at, answers_of, put_at, put, puts}
+use Rattle.flat_state.specs.Space.{Space, address_in, byte_at, may_write_at, answers_of, put_at, put_in_space, puts}
 use Rattle.flat_state.specs.Flat.{Holds, Process, FlatState, NamedImage, Inputs, process_of, is_ready}
 use Rattle.vm_facts.specs.declared.memory.ByteRead.{ByteRead}
 use Rattle.vm_facts.specs.declared.memory.ByteRead.TheVariants as bytes
@@ -10,7 +10,7 @@ use Rattle.vm_facts.specs.declared.memory.MayWrite.{MayWrite}
 use Rattle.vm_facts.specs.declared.memory.MayWrite.TheVariants as tests
 use Rattle.vm_facts.specs.declared.page.Page.{Page}
 use Rattle.vm_facts.specs.declared.page.Page.TheVariants.{Data, Stack}
-use Rattle.user_vax.specs.Program.{Program, Reads, Tests, Access, ReadOf, TestOf, run, after_read, after_test, accesses, rest_of_read, rest_of_test}
+use Rattle.user_vax.specs.Program.{Program, Reads, Tests, ByteAccess, ReadOf, TestOf, run, after_read, after_test, accesses, rest_of_read, rest_of_test}
 use Rattle.user_vax.specs.Effects.{Effect}
 use Rattle.user_vax.specs.Instruction.{instruction, MayAll}
 use Rattle.user_vax.specs.declared.refused.Refused.{Refused}
@@ -35,11 +35,11 @@ use Rattle.flat_laws.proofs.Pages.{among_distinct}
 
 -- Answers that are alike.
 
-abbrev IsAlike : Answers → Answers → Access → Type 0
+abbrev IsAlike : Answers → Answers → ByteAccess → Type 0
 IsAlike some other (ReadOf a) = some.read a ≡ other.read a
 IsAlike some other (TestOf a) = some.may_write a ≡ other.may_write a
 
-abbrev AreAlike : Answers → Answers → List Access → Type 0
+abbrev AreAlike : Answers → Answers → List ByteAccess → Type 0
 AreAlike some other [] = Unit {0}
 AreAlike some other (a ∷ list) = IsAlike some other a × AreAlike some other list
 
@@ -68,11 +68,11 @@ same_run some other _ h = refl
 
 -- Accesses to pages that are there.
 
-abbrev AreShown : Space → List Page → List Access → Type 0
+abbrev AreShown : Space → List Page → List ByteAccess → Type 0
 AreShown s pages [] = Unit {0}
 AreShown s pages (a ∷ list) = (is_shown pages (page_of_access s a) ≡ true) × AreShown s pages list
 
-alike : (s : Space) (pages : List Page) (list : List Access) → AreShown s pages list → AreAlike (shown s pages) (answers_of s) list
+alike : (s : Space) (pages : List Page) (list : List ByteAccess) → AreShown s pages list → AreAlike (shown s pages) (answers_of s) list
 alike s pages [] h = tt
 alike s pages (ReadOf a ∷ list) h = (ap (λ (b : Bool). read_where b (byte_at s (address_in s a))) h.0, alike s pages list h.1)
 alike s pages (TestOf a ∷ list) h = (ap (λ (b : Bool). test_where b (may_write_at (address_in s a))) h.0, alike s pages list h.1)
@@ -85,23 +85,23 @@ first_among : (pages rest : List Page) (o : Option Page) → AreAmong pages (con
 first_among pages rest None h = (refl, h)
 first_among pages rest (Some r) h = (h r (among_first r rest), λ q i. h q (among_later q r rest i))
 
-all_shown : (s : Space) (pages : List Page) (list : List Access) → AreAmong pages (filter_map (page_of_access s) list) → AreShown s pages list
+all_shown : (s : Space) (pages : List Page) (list : List ByteAccess) → AreAmong pages (filter_map (page_of_access s) list) → AreShown s pages list
 all_shown s pages [] h = tt
 all_shown s pages (a ∷ list) h =
     let parts = first_among pages (filter_map (page_of_access s) list) (page_of_access s a) h in
     (parts.0, all_shown s pages list parts.1)
 
-front_shown : (s : Space) (pages : List Page) (list bs : List Access) → AreShown s pages (list ++ bs) → AreShown s pages list
+front_shown : (s : Space) (pages : List Page) (list bs : List ByteAccess) → AreShown s pages (list ++ bs) → AreShown s pages list
 front_shown s pages [] bs h = tt
 front_shown s pages (a ∷ list) bs h = (h.0, front_shown s pages list bs h.1)
 
-back_shown : (s : Space) (pages : List Page) (list bs : List Access) → AreShown s pages (list ++ bs) → AreShown s pages bs
+back_shown : (s : Space) (pages : List Page) (list bs : List ByteAccess) → AreShown s pages (list ++ bs) → AreShown s pages bs
 back_shown s pages [] bs h = h
 back_shown s pages (a ∷ list) bs h = back_shown s pages list bs h.1
 
 -- Writes leave the pages of a space as they are.
 
-access_after_at : (s : Space) (p : Spot) (byte : ℕ) (a : Access) → page_of_access (put_at s p byte) a ≡ page_of_access s a
+access_after_at : (s : Space) (p : Spot) (byte : ℕ) (a : ByteAccess) → page_of_access (put_at s p byte) a ≡ page_of_access s a
 access_after_at s p byte (ReadOf a) = ap (page_read (put_at s p byte)) (spot_after s p byte a) ∙ named p (address_in s a)
   where
     named : (p q : Spot) → page_read (put_at s p byte) q ≡ page_read s q
@@ -135,11 +135,11 @@ access_after_at s p byte (TestOf a) = ap (page_tested (put_at s p byte)) (spot_a
     named spots.Below q = refl
     named spots.Outside q = refl
 
-access_after : (s : Space) (ws : List ByteWrite) (a : Access) → page_of_access (puts s ws) a ≡ page_of_access s a
+access_after : (s : Space) (ws : List ByteWrite) (a : ByteAccess) → page_of_access (puts s ws) a ≡ page_of_access s a
 access_after s [] a = refl
-access_after s (w ∷ ws) a = access_after (put s w) ws a ∙ access_after_at s (address_in s w.address) w.byte a
+access_after s (w ∷ ws) a = access_after (put_in_space s w) ws a ∙ access_after_at s (address_in s w.address) w.byte a
 
-shown_after : (s : Space) (ws : List ByteWrite) (pages : List Page) (list : List Access) → AreShown s pages list → AreShown (puts s ws) pages list
+shown_after : (s : Space) (ws : List ByteWrite) (pages : List Page) (list : List ByteAccess) → AreShown s pages list → AreShown (puts s ws) pages list
 shown_after s ws pages [] h = tt
 shown_after s ws pages (a ∷ list) h = (ap (is_shown pages) (access_after s ws a) ∙ h.0, shown_after s ws pages list h.1)
 
@@ -187,7 +187,7 @@ unfolding step_accesses
 reply_shown A F pid p s effect call here ready holds ok is =
     let back = back_shown s (touched A F pid) (accesses (answers_of s) (instruction p.regs)) (accesses_after A.images F p s (instruction_in s p.regs)) (steps_shown A F pid p s here ready holds) in
     let reply : AreShown s (touched A F pid) (accesses (answers_of (puts s effect.writes)) (reply_program A.images F p s effect call)) =
-    subst (λ (list : List Access). AreShown s (touched A F pid) list) (after_is A F p s effect call ok is) back in
+    subst (λ (list : List ByteAccess). AreShown s (touched A F pid) list) (after_is A F p s effect call ok is) back in
     same_run (shown (puts s effect.writes) (touched A F pid)) (answers_of (puts s effect.writes)) (reply_program A.images F p s effect call)
     (alike (puts s effect.writes) (touched A F pid) (accesses (answers_of (puts s effect.writes)) (reply_program A.images F p s effect call))
     (shown_after s effect.writes (touched A F pid) (accesses (answers_of (puts s effect.writes)) (reply_program A.images F p s effect call)) reply))

@@ -7,7 +7,7 @@ use Rattle.flat_state.specs.Space.{Space}
 use Rattle.flat_state.specs.Flat.{Holding, Holds, Lends, Zombie, Process, FlatState, NamedImage, Inputs, image_numbered, process_of, can_step}
 use Rattle.vm_facts.specs.declared.entry.Entry.{Entry}
 use Rattle.vm_facts.specs.declared.entry.Entry.TheVariants.{Grew, Call, Ended}
-use Rattle.flat_state.specs.AoutImageImageSpecs.{Loaded, text_pages_of, data_pages_of}
+use Rattle.flat_state.specs.AoutImageImageSpecs.{Loaded, text_pages_of, image_data_pages}
 use Rattle.swap_book.specs.declared.Owner.{Owner}
 use Rattle.swap_book.specs.declared.Owner.TheVariants as owners
 use Rattle.swap_book.specs.Owners.{pieces_of}
@@ -55,7 +55,7 @@ text_wanted false image loaded = pieces_for (owners.Text image) (text_pages_of l
 abbrev pub image_wanted : Bool → ℕ → ℕ → Option NamedImage → List Wanted
 image_wanted shared sid image None = []
 image_wanted shared sid image (Some named) =
-    text_wanted shared image named.image ++ pieces_for (owners.Data sid) (data_pages_of named.image.facts)
+    text_wanted shared image named.image ++ pieces_for (owners.Data sid) (image_data_pages named.image.facts)
     ++ pieces_for (owners.Stack sid) 1
 
 -- the data, the stack and the u page of a child with a copy of the space

@@ -42,8 +42,8 @@ first_if true [] = None
 first_if false es = None
 
 -- the next entry of a process's step
-abbrev pub act : Inputs → Point → ℕ → Option Entry
-act A point pid = first_if (can_step point.flat pid) (due_at A point pid)
+abbrev pub entry_of_step : Inputs → Point → ℕ → Option Entry
+entry_of_step A point pid = first_if (can_step point.flat pid) (due_at A point pid)
 
 -- the point after the next of these entries: the step is complete with the last of them
 abbrev pub behind : Point → FlatState → List Entry → Point
@@ -113,7 +113,7 @@ where_so false point = None
 -- that its pieces found no place
 abbrev pub flat_entry_of : Inputs → Point → ℕ → Entry → Option Point
 flat_entry_of A point pid (Refused p) = where_so (can_step point.flat pid) record point { last = Some (Refused p) }
-flat_entry_of A point pid e = where_so (same_as (act A point pid) e) (point_after A point pid)
+flat_entry_of A point pid e = where_so (same_as (entry_of_step A point pid) e) (point_after A point pid)
 
 -- the point after an entry of a process, by whether it may follow the last one: none where it may not
 abbrev pub flat_entry_if : Bool → Inputs → Point → ℕ → Entry → Option Point

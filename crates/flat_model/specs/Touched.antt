@@ -4,7 +4,7 @@ use Rattle.flat_state.specs.Space.{Space, answers_of, puts, address_in}
 use Rattle.flat_state.specs.Flat.{Holding, Holds, Lends, Zombie, Process, FlatState, NamedImage, Inputs, process_of, is_ready}
 use Rattle.vm_facts.specs.declared.page.Page.{Page}
 use Rattle.vm_facts.specs.declared.page.Page.TheVariants as pages
-use Rattle.user_vax.specs.Program.{Access, ReadOf, TestOf, accesses}
+use Rattle.user_vax.specs.Program.{ByteAccess, ReadOf, TestOf, accesses}
 use Rattle.user_vax.specs.Effects.{Effect}
 use Rattle.user_vax.specs.Instruction.{instruction}
 use Rattle.user_vax.specs.declared.refused.Refused.{Refused}
@@ -34,7 +34,7 @@ page_tested s Below = None
 page_tested s Outside = None
 
 -- the page of a byte that is read or tested; none where that is refused
-abbrev pub page_of_access : Space → Access → Option Page
+abbrev pub page_of_access : Space → ByteAccess → Option Page
 page_of_access s (ReadOf address) = page_read s (address_in s address)
 page_of_access s (TestOf address) = page_tested s (address_in s address)
 
@@ -44,24 +44,24 @@ distinct [] = []
 distinct (page ∷ more) = page ∷ filter (λ other. not (same_page page other)) (distinct more)
 
 -- the accesses of a call in the space that its instruction left
-abbrev pub call_accesses : List NamedImage → FlatState → Process → Space → Effect → Option SystemCall → List Access
+abbrev pub call_accesses : List NamedImage → FlatState → Process → Space → Effect → Option SystemCall → List ByteAccess
 call_accesses images F p s effect None = []
 call_accesses images F p s effect (Some call) =
     accesses (answers_of (puts s effect.writes))
     (reply_of images (apply_writes F p.pid effect.writes) (written_process p s effect.writes) (puts s effect.writes) call effect.regs)
 
 -- the accesses of the call that an instruction makes, by its number; none where it makes none
-abbrev pub accesses_behind : List NamedImage → FlatState → Process → Space → Effect → Option ℤ → List Access
+abbrev pub accesses_behind : List NamedImage → FlatState → Process → Space → Effect → Option ℤ → List ByteAccess
 accesses_behind images F p s effect None = []
 accesses_behind images F p s effect (Some number) = call_accesses images F p s effect (call_of number)
 
 -- the accesses after an instruction: those of its call, and none where the instruction is refused
-abbrev pub accesses_after : List NamedImage → FlatState → Process → Space → Result Effect Refused → List Access
+abbrev pub accesses_after : List NamedImage → FlatState → Process → Space → Result Effect Refused → List ByteAccess
 accesses_after images F p s (Ok effect) = accesses_behind images F p s effect effect.call
 accesses_after images F p s (Err refused) = []
 
 -- all accesses of the next instruction, and of its call where it is one, in order
-unfoldable pub step_accesses : List NamedImage → FlatState → Process → Space → List Access
+unfoldable pub step_accesses : List NamedImage → FlatState → Process → Space → List ByteAccess
 step_accesses images F p s =
     accesses (answers_of s) (instruction p.regs) ++ accesses_after images F p s (instruction_in s p.regs)
 

@@ -8,7 +8,7 @@ use Rattle.vm_facts.specs.declared.memory.ByteRead.TheVariants as reads
 use Rattle.vm_facts.specs.declared.memory.MayWrite.{MayWrite}
 use Rattle.vm_facts.specs.declared.memory.MayWrite.TheVariants as tests
 use Rattle.user_vax.specs.declared.refused.Refused.TheVariants.{Below as Fell}
-use Rattle.user_vax.specs.Program.{Program, run, Access, ReadOf, TestOf}
+use Rattle.user_vax.specs.Program.{Program, run, ByteAccess, ReadOf, TestOf}
 use Rattle.user_vax.specs.Laws.{read_refusal, test_refusal, refusal}
 use Rattle.user_vax.proofs.Order.{keeps_order}
 use Rattle.flat_state.specs.declared.spot.Spot.{Spot}
@@ -68,7 +68,7 @@ fell_below s p address e =
     by_test tests.Text a k = absurd cc
     by_test tests.Outside a k = absurd cc
 
-    go : (last : Access) → refusal (answers_of s) last ≡ Some (Fell address) → address_in s address ≡ Below
+    go : (last : ByteAccess) → refusal (answers_of s) last ≡ Some (Fell address) → address_in s address ≡ Below
     go (ReadOf a) k =
         let found = by_read (byte_at s (address_in s a)) a k in
         subst (λ (x : ℕ). address_in s x ≡ Below) found.1 (below_read s (address_in s a) found.0)

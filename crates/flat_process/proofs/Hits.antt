@@ -1,7 +1,7 @@
 -- No access to a space misses.
 use Rattle.std.proofs.Common.{◌≡◌, ℕ, Bool, Some, Err}
 use Rattle.flat_state.specs.Space.{Space, answers_of, byte_at, may_write_at, address_in}
-use Rattle.user_vax.specs.Program.{Program, run, Access, ReadOf, TestOf}
+use Rattle.user_vax.specs.Program.{Program, run, ByteAccess, ReadOf, TestOf}
 use Rattle.user_vax.specs.declared.refused.Refused.TheVariants as refusals
 use Rattle.user_vax.specs.Laws.{read_refusal, test_refusal, refusal}
 use Rattle.user_vax.proofs.Order.{keeps_order}
@@ -25,6 +25,6 @@ space_hits s p address write e = let ends = (keeps_order (answers_of s) p).misse
     by_test Below a k = cc
     by_test Outside a k = cc
 
-    go : (last : Access) → refusal (answers_of s) last ≡ Some (refusals.Miss address write) → ⊥
+    go : (last : ByteAccess) → refusal (answers_of s) last ≡ Some (refusals.Miss address write) → ⊥
     go (ReadOf a) k = by_read (address_in s a) a k
     go (TestOf a) k = by_test (address_in s a) a k

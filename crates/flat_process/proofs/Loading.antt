@@ -7,14 +7,14 @@ use Rattle.std.proofs.lemmas.Option.{slice_get-get_or}
 use Rattle.aout_image.specs.declared.Image.{Image}
 use Rattle.aout_image.specs.declared.Judged.{Judged}
 use Rattle.aout_image.specs.declared.Judged.TheVariants.{Is, NotImage}
-use Rattle.aout_image.specs.Image.{Loaded, image_of, judgement, loaded, loaded_if, judged_of}
+use Rattle.aout_image.specs.Image.{Loaded, judged_image, judgement, loaded, loaded_if, judged_of}
 use Rattle.flat_state.specs.Flat.{NamedImage, image_numbered}
 use Rattle.flat_model.specs.Calls.{image_named, numbered_by}
 use Rattle.flat_process.specs.Images.{FlatFile, IsImageFile, AreImageFiles, AreNumbers, named_as, images_of}
 
 -- an image that was judged is the one with these facts
-pub judged_back : (bytes : List ℕ) (facts : Image) → Is facts ≡ judged_of (image_of bytes) → image_of bytes ≡ Ok (loaded facts bytes)
-unfolding image_of loaded
+pub judged_back : (bytes : List ℕ) (facts : Image) → Is facts ≡ judged_of (judged_image bytes) → judged_image bytes ≡ Ok (loaded facts bytes)
+unfolding judged_image loaded
 judged_back bytes facts h = go (judgement bytes (length bytes)) h
   where
     go : (j : Judged) → Is facts ≡ judged_of (loaded_if j bytes) → loaded_if j bytes ≡ Ok (loaded facts bytes)
@@ -25,7 +25,7 @@ pub judged_so : (r : Result Loaded ℕ) (reason : ℕ) → IsTrue (is_ok r) → 
 judged_so (Ok image) reason h e = absurd cc
 judged_so (Err n) reason h e = absurd cc
 
-pub images_one : (f : FlatFile) (image : Loaded) → image_of f.bytes ≡ Ok image → images_of (f ∷ []) ≡ record { name = f.name; image = image } ∷ []
+pub images_one : (f : FlatFile) (image : Loaded) → judged_image f.bytes ≡ Ok image → images_of (f ∷ []) ≡ record { name = f.name; image = image } ∷ []
 images_one f image h = ap (λ (r : Result Loaded ℕ). named_as f.name r ++ []) h
 
 -- The search for a name.
@@ -66,7 +66,7 @@ named_count f (Err reason) rest ok = absurd cc
 pub images_count : (files : List FlatFile) → All IsImageFile files → length (images_of files) ≡ length files
 images_count [] h = refl
 images_count (f ∷ fs) h =
-    named_count f (image_of f.bytes) (images_of fs) (recursion_from_All IsImageFile (f ∷ fs) h).0.image
+    named_count f (judged_image f.bytes) (images_of fs) (recursion_from_All IsImageFile (f ∷ fs) h).0.image
     ∙ ap suc (images_count fs (All-tail IsImageFile f fs h))
 
 some_below : (images : List NamedImage) (n : ℕ) → 1 ≤ n → n ≤ length images → IsSome (image_numbered images n)

@@ -3,8 +3,8 @@ use Rattle.std.proofs.Common.{◌≡◌, ℕ, ◌+◌, ◌-◌, ◌≤◌, ◌<�
 use Rattle.std.specs.Prelude.{◌/◌, ◌%◌, ◌*◌, ℤ, nat_le, slice_index}
 use Rattle.std.specs.List.{cons_option}
 use Rattle.std.proofs.lemmas.Bool.Decides.{nat_tests}
-use Rattle.vm_facts.specs.Answers.{Answers, ByteWrite, read_by, put as put_in}
-use Rattle.flat_state.specs.Space.{Space, address_in, byte_at, may_write_at, answers_of, put_at, put, puts}
+use Rattle.vm_facts.specs.Answers.{Answers, ByteWrite, read_by, put_byte as put_in}
+use Rattle.flat_state.specs.Space.{Space, address_in, byte_at, may_write_at, answers_of, put_at, put_in_space, puts}
 use Rattle.flat_state.specs.Flat.{Holding, Holds, Process, FlatState, NamedImage, Inputs, process_of, ready_if, can_step}
 use Rattle.vm_facts.specs.declared.page.Page.{Page}
 use Rattle.vm_facts.specs.declared.page.Page.TheVariants as pages
@@ -12,7 +12,7 @@ use Rattle.vm_facts.specs.declared.memory.ByteRead.TheVariants as reads
 use Rattle.vm_facts.specs.declared.memory.MayWrite.{MayWrite}
 use Rattle.vm_facts.specs.declared.memory.MayWrite.TheVariants as tests
 use Rattle.vm_facts.specs.declared.regs.Regs.{Regs}
-use Rattle.user_vax.specs.Program.{Program, Gives, Refuses, Reads, Tests, ◌>>=◌, run, after_read, after_test, Access, ReadOf, TestOf, accesses, rest_of_read, rest_of_test}
+use Rattle.user_vax.specs.Program.{Program, Gives, Refuses, Reads, Tests, ◌>>=◌, run, after_read, after_test, ByteAccess, ReadOf, TestOf, accesses, rest_of_read, rest_of_test}
 use Rattle.user_vax.specs.declared.refused.Refused.{Refused}
 use Rattle.user_vax.specs.declared.refused.Refused.TheVariants.{Miss, Below as Falls, Signal}
 use Rattle.flat_state.specs.declared.spot.Spot.{Spot}
@@ -462,15 +462,15 @@ put_image s (Stack i) byte = refl
 put_image s Below byte = refl
 put_image s Outside byte = refl
 
-pub read_put : (s : Space) (w : ByteWrite) (a : ℕ) → page_read (put s w) (address_in (put s w) a) ≡ page_read s (address_in s a)
+pub read_put : (s : Space) (w : ByteWrite) (a : ℕ) → page_read (put_in_space s w) (address_in (put_in_space s w) a) ≡ page_read s (address_in s a)
 read_put s w a =
-    ap (page_read (put s w)) (spot_after s (address_in s w.address) w.byte a)
-    ∙ read_kept s (put s w) (address_in s a) (put_sid s (address_in s w.address) w.byte) (put_image s (address_in s w.address) w.byte)
+    ap (page_read (put_in_space s w)) (spot_after s (address_in s w.address) w.byte a)
+    ∙ read_kept s (put_in_space s w) (address_in s a) (put_sid s (address_in s w.address) w.byte) (put_image s (address_in s w.address) w.byte)
 
-pub tested_put : (s : Space) (w : ByteWrite) (a : ℕ) → page_tested (put s w) (address_in (put s w) a) ≡ page_tested s (address_in s a)
+pub tested_put : (s : Space) (w : ByteWrite) (a : ℕ) → page_tested (put_in_space s w) (address_in (put_in_space s w) a) ≡ page_tested s (address_in s a)
 tested_put s w a =
-    ap (page_tested (put s w)) (spot_after s (address_in s w.address) w.byte a)
-    ∙ tested_kept s (put s w) (address_in s a) (put_sid s (address_in s w.address) w.byte)
+    ap (page_tested (put_in_space s w)) (spot_after s (address_in s w.address) w.byte a)
+    ∙ tested_kept s (put_in_space s w) (address_in s a) (put_sid s (address_in s w.address) w.byte)
 
 byte_put : (present : List Page) (s : Space) (w : ByteWrite) (a : ℕ) → (shown s present).may_write w.address ≡ tests.May
     → read_where (is_shown present (page_read s (address_in s a))) (read_by (a == w.address) w.byte (byte_at s (address_in s a)))
@@ -487,15 +487,15 @@ byte_put present s w a may = go (a == w.address) refl
     go false h = refl
 
 shown_put : (present : List Page) (s : Space) (w : ByteWrite) → MayPut s w.address → (shown s present).may_write w.address ≡ tests.May
-    → shown (put s w) present ≡ put_in (shown s present) w
+    → shown (put_in_space s w) present ≡ put_in (shown s present) w
 shown_put present s w may test = λ i. record {
   read = λ a. (
-      ap (λ (o : Option Page). read_where (is_shown present o) (byte_at (put s w) (address_in (put s w) a))) (read_put s w a)
+      ap (λ (o : Option Page). read_where (is_shown present o) (byte_at (put_in_space s w) (address_in (put_in_space s w) a))) (read_put s w a)
       ∙ ap (read_where (is_shown present (page_read s (address_in s a)))) (ap (λ (m : Answers). m.read a) (put_answers s w may))
       ∙ byte_put present s w a test
       ) i;
   may_write = λ a. (
-      ap (λ (o : Option Page). test_where (is_shown present o) (may_write_at (address_in (put s w) a))) (tested_put s w a)
+      ap (λ (o : Option Page). test_where (is_shown present o) (may_write_at (address_in (put_in_space s w) a))) (tested_put s w a)
       ∙ ap (λ (spot : Spot). test_where (is_shown present (page_tested s (address_in s a))) (may_write_at spot)) (spot_after s (address_in s w.address) w.byte a)
       ) i;
 }
@@ -526,12 +526,12 @@ after_call images F p s t (Err (Miss a w)) number call regs e found registers sp
 after_call images F p s t (Err (Falls a)) number call regs e found registers space = absurd cc
 after_call images F p s t (Err (Signal n)) number call regs e found registers space = absurd cc
 
-puts_page : (s : Space) (ws : List ByteWrite) (access : Access) → page_of_access (puts s ws) access ≡ page_of_access s access
+puts_page : (s : Space) (ws : List ByteWrite) (access : ByteAccess) → page_of_access (puts s ws) access ≡ page_of_access s access
 puts_page s [] access = refl
-puts_page s (w ∷ ws) (ReadOf a) = puts_page (put s w) ws (ReadOf a) ∙ read_put s w a
-puts_page s (w ∷ ws) (TestOf a) = puts_page (put s w) ws (TestOf a) ∙ tested_put s w a
+puts_page s (w ∷ ws) (ReadOf a) = puts_page (put_in_space s w) ws (ReadOf a) ∙ read_put s w a
+puts_page s (w ∷ ws) (TestOf a) = puts_page (put_in_space s w) ws (TestOf a) ∙ tested_put s w a
 
-pub puts_pages : (s : Space) (ws : List ByteWrite) (list : List Access) → pages_of (puts s ws) list ≡ pages_of s list
+pub puts_pages : (s : Space) (ws : List ByteWrite) (list : List ByteAccess) → pages_of (puts s ws) list ≡ pages_of s list
 puts_pages s ws [] = refl
 puts_pages s ws (access ∷ list) = ap₂ (λ (o : Option Page) (ps : List Page). cons_option o ps) (puts_page s ws access) (puts_pages s ws list)
 
@@ -541,7 +541,7 @@ pub stepped_pages : (images : List NamedImage) (F : FlatState) (p : Process) (s 
     → after ≡ gathered first (pages_of s (step_accesses images F p s))
 unfolding step_accesses
 stepped_pages images F p s t regs first present after same instr space rest =
-    let more : List Access = accesses_after images F p s (instruction_in s regs) in
+    let more : List ByteAccess = accesses_after images F p s (instruction_in s regs) in
     rest
     ∙ ap (λ (x : Space). gathered present (pages_of x more)) space
     ∙ ap (gathered present) (puts_pages s (writes_of (instruction_in s regs)) more)

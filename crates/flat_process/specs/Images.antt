@@ -1,6 +1,6 @@
 -- The images of a run, as their files' bytes say.
 use Rattle.std.specs.Prelude.{◌≡◌, ℕ, ◌+◌, ◌*◌, ◌<◌, ◌≤◌, ◌^◌, List, [], ◌∷◌, ◌++◌, length, All, Option, Some, None, Result, Ok, Err, is_ok, IsTrue, IsSome}
-use Rattle.aout_image.specs.Image.{Loaded, image_of}
+use Rattle.aout_image.specs.Image.{Loaded, judged_image}
 use Rattle.flat_state.specs.Flat.{NamedImage, image_numbered}
 use Rattle.flat_state.specs.declared.change.Change.{Change}
 use Rattle.flat_state.specs.declared.change.Change.TheVariants.{Keep, Resize, Fork, Lend, Exec, Reap, Sleep, End}
@@ -16,7 +16,7 @@ pub record FlatFile : Type 0 where
 
 -- the file is an image, whose name is short enough to be an argument
 pub record IsImageFile (f : FlatFile) : Type 0 where
-  pub image : IsTrue (is_ok (image_of f.bytes))
+  pub image : IsTrue (is_ok (judged_image f.bytes))
   pub short : length f.name < 64
 
 -- the image that a file is, with this name; none where the file is no image
@@ -27,7 +27,7 @@ named_as name (Err reason) = []
 -- the images of these files
 abbrev pub images_of : List FlatFile → List NamedImage
 images_of [] = []
-images_of (f ∷ fs) = named_as f.name (image_of f.bytes) ++ images_of fs
+images_of (f ∷ fs) = named_as f.name (judged_image f.bytes) ++ images_of fs
 
 -- segments and a first instruction within their limits, and a name that may be an argument
 pub record IsFit (n : NamedImage) : Type 0 where

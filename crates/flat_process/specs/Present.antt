@@ -4,7 +4,7 @@ use Rattle.std.proofs.Common.{refl, sym, ap, ◌∙◌}
 use Rattle.vm_facts.specs.Answers.{Answers, ByteWrite, written}
 use Rattle.flat_state.specs.Space.{Space}
 use Rattle.vm_facts.specs.declared.page.Page.{Page}
-use Rattle.user_vax.specs.Program.{Access, ReadOf, TestOf}
+use Rattle.user_vax.specs.Program.{ByteAccess, ReadOf, TestOf}
 use Rattle.user_vax.specs.declared.refused.Refused.{Refused}
 use Rattle.user_vax.specs.ArrayMemory.{written-append}
 use Rattle.flat_state.specs.PageNames.{is_among}
@@ -41,12 +41,12 @@ pub present_after : (some more : List Page) (s t : Space) (xs : List ByteWrite) 
 present_after some more s t xs h = ap (λ (ps : List Page). shown t ps) h.kept ∙ h.answers
 
 -- the access of a byte, which is to be written or read
-abbrev pub access_of : ℕ → Bool → Access
+abbrev pub access_of : ℕ → Bool → ByteAccess
 access_of address true = TestOf address
 access_of address false = ReadOf address
 
 -- the pages of accesses, in order
-abbrev pub pages_of : Space → List Access → List Page
+abbrev pub pages_of : Space → List ByteAccess → List Page
 pages_of s list = filter_map (page_of_access s) list
 
 -- a page more, unless it is there

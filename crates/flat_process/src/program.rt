@@ -1,5 +1,5 @@
 ghost use Rattle.std.specs.Prelude.{◌≡◌, ◌↔◌, ℕ, ◌+◌, ◌-◌, ◌*◌, ◌^◌, ◌<◌, ◌≤◌, ◌++◌, ◌∷◌, [], List, length, take, drop, slice_get, string_bytes, bytes_eq, min, All, IfOk, OnOk, Ok, true, false, IsTrue, is_ok, IsSome, Some};
-ghost use Rattle.aout_image.specs.Image.{Loaded, IsSound, image_of, loaded, in_pages, text_offset, text_given, data_given, text_pages_of, data_pages_of, file_length_of};
+ghost use Rattle.aout_image.specs.Image.{Loaded, IsSound, judged_image, loaded, in_pages, text_offset, text_given, data_given, text_pages_of, image_data_pages, file_length_of};
 ghost use Rattle.flat_state.specs.Flat.{NamedImage, image_numbered};
 ghost use Rattle.flat_process.specs.Images.{FlatFile, IsImageFile, AreNumbers, images_of, IsFit, IsNumbered};
 
@@ -114,7 +114,7 @@ fn head(bytes: &[u8]) -> &[u8]
 #[tactic(auto, unfolding(aout_image::specs::Image::loaded))]
 fn load_as(alloc: Global, flat: &Flat, facts: Image) -> Result<Program, NoMemory>
     requires sound { IsSound facts }
-    requires image { image_of flat.now.bytes ≡ Ok (loaded facts flat.now.bytes) }
+    requires image { judged_image flat.now.bytes ≡ Ok (loaded facts flat.now.bytes) }
     requires whole { file_length_of facts ≤ length flat.now.bytes }
     requires short { length flat.now.name < 64 }
     ensures { IfOk result (λ p. p ≡ record { name = flat.now.name; image = loaded facts flat.now.bytes }) }

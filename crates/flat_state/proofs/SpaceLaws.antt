@@ -4,8 +4,8 @@ use Rattle.std.proofs.lemmas.Bool.{cases_eq}
 use Rattle.std.proofs.lemmas.Bool.Decides.{nat_tests}
 use Rattle.std.proofs.lemmas.Grind.{common_steps}
 use Rattle.std.proofs.lemmas.List.{length-set, get_or-set_same, get_or-set_other}
-use Rattle.vm_facts.specs.Answers.{Answers, ByteWrite, read_by, put as put_in, written}
-use Rattle.flat_state.specs.Space.{Space, spot_at, stack_top, address_in, byte_at, may_write_at, answers_of, put_at, put, puts}
+use Rattle.vm_facts.specs.Answers.{Answers, ByteWrite, read_by, put_byte as put_in, written}
+use Rattle.flat_state.specs.Space.{Space, spot_at, stack_top, address_in, byte_at, may_write_at, answers_of, put_at, put_in_space, puts}
 use Rattle.vm_facts.specs.declared.memory.ByteRead.TheVariants as reads
 use Rattle.vm_facts.specs.declared.memory.MayWrite.TheVariants as tests
 use Rattle.flat_state.specs.declared.spot.Spot.{Spot}
@@ -77,12 +77,12 @@ spot_once s a b Outside may e f = absurd cc
 
 -- what is read after a write
 read_after : (s : Space) (w : ByteWrite) (a : ℕ) → MayPut s w.address
-    → byte_at (put s w) (address_in s a) ≡ read_by (a == w.address) w.byte (byte_at s (address_in s a))
+    → byte_at (put_in_space s w) (address_in s a) ≡ read_by (a == w.address) w.byte (byte_at s (address_in s a))
 read_after s w a may = go (cases_eq a w.address)
   where
-    go : (a ≡ w.address) ⊎ (a ≡ w.address → ⊥) → byte_at (put s w) (address_in s a) ≡ read_by (a == w.address) w.byte (byte_at s (address_in s a))
+    go : (a ≡ w.address) ⊎ (a ≡ w.address → ⊥) → byte_at (put_in_space s w) (address_in s a) ≡ read_by (a == w.address) w.byte (byte_at s (address_in s a))
     go (inl e) =
-        ap (λ (x : ℕ). byte_at (put s w) (address_in s x)) e
+        ap (λ (x : ℕ). byte_at (put_in_space s w) (address_in s x)) e
         ∙ read_there s (address_in s w.address) w.byte may.within may.may
         ∙ ap (λ (b : Bool). read_by b w.byte (byte_at s (address_in s a))) (sym (eq-eqb a w.address e))
     go (inr other) =
@@ -90,25 +90,25 @@ read_after s w a may = go (cases_eq a w.address)
         ∙ ap (λ (b : Bool). read_by b w.byte (byte_at s (address_in s a))) (let test : false ≡ (a == w.address) = grind (arith, nat_tests) in test)
 
 -- after a write the space answers as before, but for the byte that was written
-pub put_answers : (s : Space) (w : ByteWrite) → MayPut s w.address → answers_of (put s w) ≡ put_in (answers_of s) w
+pub put_answers : (s : Space) (w : ByteWrite) → MayPut s w.address → answers_of (put_in_space s w) ≡ put_in (answers_of s) w
 put_answers s w may = λ i. record {
-  read = λ a. (ap (byte_at (put s w)) (spot_after s (address_in s w.address) w.byte a) ∙ read_after s w a may) i;
+  read = λ a. (ap (byte_at (put_in_space s w)) (spot_after s (address_in s w.address) w.byte a) ∙ read_after s w a may) i;
   may_write = λ a. ap may_write_at (spot_after s (address_in s w.address) w.byte a) i;
 }
 
 -- so it is after writes in a row
 pub wrote_answers : (old new : Space) (ws : List ByteWrite) → Wrote old ws new → answers_of new ≡ written (answers_of old) ws
 wrote_answers old new [] h = ap answers_of (sym h)
-wrote_answers old new (w ∷ ws) h = wrote_answers (put old w) new ws h.1 ∙ ap (λ (x : Answers). written x ws) (put_answers old w h.0)
+wrote_answers old new (w ∷ ws) h = wrote_answers (put_in_space old w) new ws h.1 ∙ ap (λ (x : Answers). written x ws) (put_answers old w h.0)
 
 pub wrote_more : (a b c : Space) (xs ys : List ByteWrite) → Wrote a xs b → Wrote b ys c → Wrote a (xs ++ ys) c
 wrote_more a b c [] ys h k = subst (λ (x : Space). Wrote x ys c) (sym h) k
-wrote_more a b c (x ∷ xs) ys h k = (h.0, wrote_more (put a x) b c xs ys h.1 k)
+wrote_more a b c (x ∷ xs) ys h k = (h.0, wrote_more (put_in_space a x) b c xs ys h.1 k)
 
 -- what was written is the bytes put in order
 pub wrote_puts : (old new : Space) (ws : List ByteWrite) → Wrote old ws new → new ≡ puts old ws
 wrote_puts old new [] h = sym h
-wrote_puts old new (w ∷ ws) h = wrote_puts (put old w) new ws h.1
+wrote_puts old new (w ∷ ws) h = wrote_puts (put_in_space old w) new ws h.1
 
 -- A write leaves the number of the space.
 
@@ -121,7 +121,7 @@ put_sid s Outside byte = refl
 
 pub puts_sid : (ws : List ByteWrite) (s : Space) → (puts s ws).sid ≡ s.sid
 puts_sid [] s = refl
-puts_sid (w ∷ ws) s = puts_sid ws (put s w) ∙ put_sid s (address_in s w.address) w.byte
+puts_sid (w ∷ ws) s = puts_sid ws (put_in_space s w) ∙ put_sid s (address_in s w.address) w.byte
 
 -- Other sizes.
 

@@ -82,10 +82,10 @@ put_at s Below byte = s
 put_at s Outside byte = s
 
 -- a space after one byte was written
-abbrev pub put : Space → ByteWrite → Space
-put s w = put_at s (address_in s w.address) w.byte
+abbrev pub put_in_space : Space → ByteWrite → Space
+put_in_space s w = put_at s (address_in s w.address) w.byte
 
 -- a space after these bytes were written, in order
 abbrev pub puts : Space → List ByteWrite → Space
 puts s [] = s
-puts s (w ∷ ws) = puts (put s w) ws
+puts s (w ∷ ws) = puts (put_in_space s w) ws

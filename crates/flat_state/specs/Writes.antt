@@ -1,7 +1,7 @@
 -- Bytes written into a space, each where it might be.
 use Rattle.std.specs.Prelude.{◌≡◌, ℕ, ◌/◌, ◌%◌, ◌<◌, List, [], ◌∷◌, length}
 use Rattle.vm_facts.specs.Answers.{ByteWrite}
-use Rattle.flat_state.specs.Space.{Space, address_in, may_write_at, put}
+use Rattle.flat_state.specs.Space.{Space, address_in, may_write_at, put_in_space}
 use Rattle.vm_facts.specs.declared.page.Page.{Page}
 use Rattle.vm_facts.specs.declared.page.Page.TheVariants as pages
 use Rattle.vm_facts.specs.declared.memory.MayWrite.TheVariants as tests
@@ -24,7 +24,7 @@ pub record MayPut (s : Space) (address : ℕ) : Type 0 where
 -- these bytes were written in order, each where it might be
 abbrev pub Wrote : Space → List ByteWrite → Space → Type 0
 Wrote old [] new = old ≡ new
-Wrote old (w ∷ ws) new = MayPut old w.address × Wrote (put old w) ws new
+Wrote old (w ∷ ws) new = MayPut old w.address × Wrote (put_in_space old w) ws new
 
 -- the page of a byte of data or stack, and the byte's place in it
 abbrev pub IsByteOf : Space → Spot → Page → ℕ → Type 0

@@ -4,7 +4,7 @@ use Rattle.std.proofs.lemmas.Option.{same_Some}
 use Rattle.vm_facts.specs.declared.entry.Entry.{Entry}
 use Rattle.vm_facts.specs.declared.entry.Entry.TheVariants as entries
 use Rattle.flat_state.specs.Flat.{Inputs, can_step}
-use Rattle.flat_model.specs.Run.{is_refused, process_of_entry, act as next_of_step}
+use Rattle.flat_model.specs.Run.{is_refused, process_of_entry, entry_of_step as next_of_step}
 use Rattle.run_model.specs.State.{State}
 use Rattle.run_model.specs.Act.{must_refuse, must_settle, act_by, act_if, act}
 use Rattle.run_model.specs.Next.{next_unit}

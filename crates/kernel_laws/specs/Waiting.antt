@@ -5,7 +5,7 @@ use Rattle.swap_book.specs.Placing.{place_all}
 use Rattle.flat_state.specs.Flat.{NamedImage}
 use Rattle.flat_state.specs.declared.change.Change.{Change as AnyChange}
 use Rattle.kernel_model.specs.Asks.{asked}
-use Rattle.kernel_model.specs.Unit.{KernelState, FindUnit, DoneUnit, state_after, states_after}
+use Rattle.kernel_model.specs.Unit.{KernelState, FindUnit, DoneUnit, kernel_after, states_after}
 use Rattle.kernel_model.specs.Invariant.{Invariant, MayAll, Waits}
 use Rattle.page_model.specs.Place.{facts_of}
 
@@ -15,7 +15,7 @@ FoundPiecesWait = (size : ℕ) (images : List NamedImage) (m : KernelState) (fou
     (change : AnyChange)
     → Invariant size images m
     → place_all size m.kernel.holdings (asked (facts_of images) m.kernel pid change) ≡ Ok found
-    → Waits size images (state_after images m (FindUnit found)) pid change
+    → Waits size images (kernel_after images m (FindUnit found)) pid change
 
 -- they wait still after any number of transfers that end
 abbrev pub PiecesWaitOn : Type 0

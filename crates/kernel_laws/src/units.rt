@@ -5,7 +5,7 @@ ghost use Rattle.page_model.specs.Placement.{Starting};
 ghost use Rattle.kernel_model.specs.Kernel.{image_after};
 ghost use Rattle.kernel_model.specs.Coupled.{Coupled};
 ghost use Rattle.kernel_model.specs.Start.{ImagesFit};
-ghost use Rattle.kernel_model.specs.Unit.{KernelUnit, KernelState, with_found, state_after, states_after};
+ghost use Rattle.kernel_model.specs.Unit.{KernelUnit, KernelState, with_found, kernel_after, states_after};
 ghost use Rattle.kernel_model.specs.Invariant.{Invariant, May, MayAll, CanStart, started};
 ghost use Rattle.kernel_laws.specs.Waiting.{FoundPiecesWait, PiecesWaitOn};
 
@@ -17,7 +17,7 @@ pub fn machine_kept()
     ensures start { (A : Inputs) (first : List Starting) (hs : Holdings) (frames : List (List ℕ)) (image : List ℕ)
         → CanStart A first hs frames image → Invariant A.swap_blocks A.images (started A first hs frames image) }
     ensures unit { (size : ℕ) (images : List NamedImage) (m : KernelState) (u : KernelUnit) → ImagesFit images
-        → Invariant size images m → May size images m u → Invariant size images (state_after images m u) }
+        → Invariant size images m → May size images m u → Invariant size images (kernel_after images m u) }
     ensures units { (size : ℕ) (images : List NamedImage) (us : List KernelUnit) (m : KernelState) → ImagesFit images
         → Invariant size images m → MayAll size images m us → Invariant size images (states_after images m us) }
 {}

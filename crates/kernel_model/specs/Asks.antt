@@ -4,7 +4,7 @@
 use Rattle.std.specs.Prelude.{◌≡◌, ◌≢◌, ℕ, zero, suc, ◌+◌, ◌*◌, ◌==◌, Bool, true, false, cond, List, [], ◌∷◌, ◌++◌, length, drop, Option, Some, None, Result}
 use Rattle.vm_facts.specs.declared.page.Page.TheVariants.{Text}
 use Rattle.flat_state.specs.AoutImageImage.{Image}
-use Rattle.flat_state.specs.AoutImageImageSpecs.{data_pages_of}
+use Rattle.flat_state.specs.AoutImageImageSpecs.{image_data_pages}
 use Rattle.page_model.specs.Chunks.{pieces, text_pieces}
 use Rattle.page_model.specs.Owner.{Owner}
 use Rattle.page_model.specs.Owner.TheVariants as owners
@@ -34,7 +34,7 @@ text_asked (suc n) image blocks = []
 abbrev pub image_pieces : Placement → ℕ → ℕ → Image → List Wanted
 image_pieces p sid image facts =
     text_asked (sharers p image) image (2 * length (slots_of p (Text image 0)))
-    ++ (wanted (owners.Data sid) (pieces (2 * data_pages_of facts)) ++ wanted (owners.Stack sid) (pieces 2))
+    ++ (wanted (owners.Data sid) (pieces (2 * image_data_pages facts)) ++ wanted (owners.Stack sid) (pieces 2))
 
 -- the pieces that a new space of an image wants; none where there is no such image
 abbrev pub image_asked : Placement → ℕ → ℕ → Option Image → List Wanted
@@ -97,7 +97,7 @@ abbrev pub start_asks : Placement → List ℕ → ℕ → List Starting → Lis
 start_asks p earlier pid [] = []
 start_asks p earlier pid (a ∷ more) =
     text_asked (times a.image earlier) a.image (2 * length (slots_of p (Text a.image 0)))
-    ++ (wanted (owners.Data pid) (pieces (2 * data_pages_of a.facts))
+    ++ (wanted (owners.Data pid) (pieces (2 * image_data_pages a.facts))
     ++ (wanted (owners.Stack pid) (pieces 2) ++ (wanted (owners.U pid) (u_pieces 2) ++ start_asks p (a.image ∷ earlier) (pid + 1) more)))
 
 -- the holdings once they have found their places one after another

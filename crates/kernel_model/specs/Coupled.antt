@@ -18,9 +18,9 @@ use Rattle.page_model.specs.Stored.{stored_at, stored}
 use Rattle.kernel_model.specs.UPage.{u_page}
 
 -- the text bytes of an image; none where there is no such image
-abbrev pub text_of : Option NamedImage → List ℕ
-text_of None = []
-text_of (Some named) = named.image.text
+abbrev pub image_text : Option NamedImage → List ℕ
+image_text None = []
+image_text (Some named) = named.image.text
 
 -- the data bytes of an image; none where there is no such image
 abbrev pub data_of : Option NamedImage → List ℕ
@@ -41,13 +41,13 @@ stack_bytes_in (Some s) = s.stack_bytes
 abbrev pub memory_of : List NamedImage → FlatState → Page → List ℕ
 memory_of images flat (Data sid v) = page_at v (data_bytes_in (numbered (λ (s : Space). s.sid) sid (spaces_of flat)))
 memory_of images flat (Stack sid v) = page_at v (stack_bytes_in (numbered (λ (s : Space). s.sid) sid (spaces_of flat)))
-memory_of images flat (Text image v) = page_at v (text_of (image_numbered images image))
+memory_of images flat (Text image v) = page_at v (image_text (image_numbered images image))
 
 -- a page as its image's file has it
 abbrev pub file_of : List NamedImage → Placement → Page → List ℕ
 file_of images p (Data sid v) = page_at v (data_of (image_numbered images (image_of p sid)))
 file_of images p (Stack sid v) = zeros
-file_of images p (Text image v) = page_at v (text_of (image_numbered images image))
+file_of images p (Text image v) = page_at v (image_text (image_numbered images image))
 
 -- the bytes beside the machine's placement: of its frames, swap, files, kept stack pages, and the flat memory
 abbrev pub beside_kernel : Kernel → List NamedImage → List ℕ → FlatState → Bytes

@@ -15,7 +15,7 @@ use Rattle.flat_state.specs.Change.{NamesChild}
 use Rattle.flat_state.specs.declared.change.Change.{Change}
 use Rattle.flat_state.specs.declared.change.Change.TheVariants.{Exec}
 use Rattle.page_model.specs.Pages.{Zeros}
-use Rattle.page_model.specs.Placement.{Placement, Due, CopyOf, Starting, IsThere, due_at, state_of, filling_of}
+use Rattle.page_model.specs.Placement.{Placement, Due, CopyOf, Starting, IsThere, due_of_page, state_of, filling_of}
 use Rattle.page_model.specs.Hands.{hand_move}
 use Rattle.page_model.specs.Place.{due_after, put_step, facts_of}
 use Rattle.page_model.specs.Serve.{source_for}
@@ -31,7 +31,7 @@ use Rattle.kernel_model.specs.Stands.{Stands}
 use Rattle.kernel_model.specs.Numbers.{Numbered, ReadySpace}
 use Rattle.kernel_model.specs.Asks.{asked, first_found}
 use Rattle.kernel_model.specs.Start.{AreStarting, ImagesFit, start_kernel}
-use Rattle.kernel_model.specs.Unit.{KernelUnit, ZeroUnit, CopyUnit, GetUnit, ReclaimUnit, HandsUnit, PutUnit, DoneUnit, WriteUnit, NoteUnit, RanUnit, FindUnit, ChangeUnit, OutUnit, InUnit, KernelState, has_lender, state_after}
+use Rattle.kernel_model.specs.Unit.{KernelUnit, ZeroUnit, CopyUnit, GetUnit, ReclaimUnit, HandsUnit, PutUnit, DoneUnit, WriteUnit, NoteUnit, RanUnit, FindUnit, ChangeUnit, OutUnit, InUnit, KernelState, has_lender, kernel_after}
 
 -- some pieces were found, one after another, that lead from these holdings to those
 pub record WereFound (size : ℕ) (before now : Holdings) : Type 0 where
@@ -78,13 +78,13 @@ pub record MayZero (p : Placement) (q : Page) : Type 0 where
   pub there : IsThere p q
   pub unfilled : state_of p q ≡ Unfilled
   pub zeros : filling_of p q ≡ Zeros
-  pub own : IsNoCopy (due_at p.due q)
+  pub own : IsNoCopy (due_of_page p.due q)
   pub once : NotDue (due_after p.due q) q
   pub some : 0 < length p.free
 
 -- a page for which a valid page of its parent is due, and a free frame
 pub record MayCopy (p : Placement) (q : Page) : Type 0 where
-  pub parent : IsCopied p (due_at p.due q)
+  pub parent : IsCopied p (due_of_page p.due q)
   pub once : NotDue (due_after p.due q) q
   pub some : 0 < length p.free
 
@@ -171,7 +171,7 @@ May size images m (InUnit pid) = MayReturn m.kernel m.flat pid
 -- each of these units, one after another
 abbrev pub MayAll : ℕ → List NamedImage → KernelState → List KernelUnit → Type 0
 MayAll size images m [] = Unit {0}
-MayAll size images m (u ∷ us) = May size images m u × MayAll size images (state_after images m u) us
+MayAll size images m (u ∷ us) = May size images m u × MayAll size images (kernel_after images m u) us
 
 -- all is so that is between two units, and the pieces that wait are those that a change of the process asks for
 pub record Waits (size : ℕ) (images : List NamedImage) (m : KernelState) (pid : ℕ) (change : Change) : Type 0 where

@@ -10,7 +10,7 @@ use Rattle.flat_state.specs.Journal.{append}
 use Rattle.page_model.specs.Pages.{frame_of}
 use Rattle.flat_state.specs.PageNames.{same_page}
 use Rattle.page_model.specs.Frames.{at_frame, set_frame}
-use Rattle.page_model.specs.Placement.{Placement, Transfer, Part, Errand, Writes, Reads, Due, Start, CopyOf, state_of, due_at}
+use Rattle.page_model.specs.Placement.{Placement, Transfer, Part, Errand, Writes, Reads, Due, Start, CopyOf, state_of, due_of_page}
 use Rattle.page_model.specs.Moves.{touch}
 use Rattle.page_model.specs.Place.{filled, place_entry}
 use Rattle.page_model.specs.Ownership.{block_of}
@@ -100,7 +100,7 @@ zero_step k q = record k {
 abbrev pub copy_step : Kernel → Page → Kernel
 copy_step k q = record k {
   place = filled k.place q;
-  frames = put_first k.place.free k.frames (copied_bytes k (due_at k.place.due q));
+  frames = put_first k.place.free k.frames (copied_bytes k (due_of_page k.place.due q));
   journal = append k.journal (entries.Copy q);
 }
 

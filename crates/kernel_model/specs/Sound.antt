@@ -2,16 +2,16 @@
 use Rattle.std.specs.Prelude.{◌≡◌, ℕ, ◌*◌, ◌≤◌, Bool, true, false, ◌||◌, List, [], ◌∷◌, length, Option, Some, None, ◌<◌}
 use Rattle.vm_facts.specs.declared.page.Page.{Page}
 use Rattle.vm_facts.specs.declared.page.Page.TheVariants.{Text}
-use Rattle.flat_state.specs.AoutImageImageSpecs.{Loaded, data_given, data_pages_of, page_at}
+use Rattle.flat_state.specs.AoutImageImageSpecs.{Loaded, data_given, image_data_pages, page_at}
 use Rattle.flat_state.specs.Flat.{NamedImage, image_numbered}
 use Rattle.page_model.specs.Pages.{numbered}
 use Rattle.flat_state.specs.PageNames.{same_page}
-use Rattle.page_model.specs.Placement.{Placement, Due, Start, CopyOf, due_at, slots_of}
+use Rattle.page_model.specs.Placement.{Placement, Due, Start, CopyOf, due_of_page, slots_of}
 use Rattle.page_model.specs.Rank.{HandsStand}
 use Rattle.page_model.specs.Ownership.{OneOwner}
 use Rattle.page_model.specs.PageBytes.{zeros}
 use Rattle.kernel_model.specs.Kernel.{Life, Ended, Proc, StartBytes, Kernel}
-use Rattle.kernel_model.specs.Coupled.{text_of}
+use Rattle.kernel_model.specs.Coupled.{image_text}
 
 -- What is so of each machine that hasn't stopped.
 
@@ -37,8 +37,8 @@ pub record Sound (size : ℕ) (k : Kernel) : Type 0 where
   pub few_transfers : length k.place.transfers ≤ 16
 
 -- the machine stopped, or all this is so of it
-abbrev pub IsSound : ℕ → Kernel → Type 0
-IsSound size k = k.stopped ≡ false → Sound size k
+abbrev pub StoppedOrSound : ℕ → Kernel → Type 0
+StoppedOrSound size k = k.stopped ≡ false → Sound size k
 
 -- bytes are kept for the page
 abbrev pub has_start : List StartBytes → Page → Bool
@@ -53,13 +53,13 @@ is_start (Some (CopyOf q parent)) = false
 
 -- bytes are kept for no page but one that is due with them
 abbrev pub KeepsStarts : Kernel → Type 0
-KeepsStarts k = (q : Page) → is_start (due_at k.place.due q) ≡ false → has_start k.starts q ≡ false
+KeepsStarts k = (q : Page) → is_start (due_of_page k.place.due q) ≡ false → has_start k.starts q ≡ false
 
 -- the data of an image is as long as its pages, and zeros after what its file gives
 pub record DataFits (image : Loaded) : Type 0 where
-  pub size : length image.data ≡ 1024 * data_pages_of image.facts
-  pub rest : (v : ℕ) → data_given image.facts ≤ 1024 * v → v < data_pages_of image.facts → page_at v image.data ≡ zeros
+  pub size : length image.data ≡ 1024 * image_data_pages image.facts
+  pub rest : (v : ℕ) → data_given image.facts ≤ 1024 * v → v < image_data_pages image.facts → page_at v image.data ≡ zeros
 
 -- the text of each image is as long as its pages
 abbrev pub TextFits : List NamedImage → Placement → Type 0
-TextFits images p = (image : ℕ) → length (text_of (image_numbered images image)) ≡ 1024 * length (slots_of p (Text image 0))
+TextFits images p = (image : ℕ) → length (image_text (image_numbered images image)) ≡ 1024 * length (slots_of p (Text image 0))

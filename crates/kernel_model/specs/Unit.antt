@@ -158,11 +158,11 @@ flat_after images flat (ChangeUnit pid regs e change) = apply_change images flat
 flat_after images flat u = flat
 
 -- the kernel after a unit: the machine, the pieces that were found, the swap image and the flat state
-abbrev pub state_after : List NamedImage → KernelState → KernelUnit → KernelState
-state_after images m u =
+abbrev pub kernel_after : List NamedImage → KernelState → KernelUnit → KernelState
+kernel_after images m u =
     record { kernel = kernel_step (facts_of images) m u; found = found_after (facts_of images) m u; image = swap_after m u; flat = flat_after images m.flat u }
 
 -- the kernel after these units, one after another
 abbrev pub states_after : List NamedImage → KernelState → List KernelUnit → KernelState
 states_after images m [] = m
-states_after images m (u ∷ us) = states_after images (state_after images m u) us
+states_after images m (u ∷ us) = states_after images (kernel_after images m u) us

@@ -12,14 +12,14 @@ use Rattle.vm_facts.specs.declared.page.Page.TheVariants.{Stack}
 use Rattle.vax_pte.specs.declared.Place.{Place}
 use Rattle.vax_pte.specs.declared.Place.TheVariants as places
 use Rattle.aout_image.specs.declared.Image.{Image}
-use Rattle.aout_image.specs.Image.{IsSound, text_pages_of, data_pages_of, given_of}
+use Rattle.aout_image.specs.Image.{IsSound, text_pages_of, image_data_pages, given_of}
 use Rattle.core_map.specs.declared.slot.Slot.{Slot as Token}
 use Rattle.space_map.specs.Space.{Places, first_place, first_places}
-use Rattle.text_table.specs.Texts.{IsTable}
+use Rattle.text_table.specs.Texts.{IsTextTable}
 use Rattle.flat_state.specs.Numbers.{AllBelow}
 use Rattle.flat_state.specs.PageNames.{same_page}
 use Rattle.page_model.specs.Pages.{Slot, SpacePages, Zeros, OfImage, stack_in}
-use Rattle.page_model.specs.Placement.{Due, due_page, due_at, data_filling, unfilled, unfilled_data, new_pages, slots_of}
+use Rattle.page_model.specs.Placement.{Due, due_page, due_of_page, data_filling, unfilled, unfilled_data, new_pages, slots_of}
 use Rattle.page_model.specs.Place.{facts_numbered}
 use Rattle.page_model.specs.Conditions.{EachPage, AllApart}
 use Rattle.page_model.specs.Dues.{DueStand}
@@ -93,7 +93,7 @@ image_space sid image facts = record {
   image = image;
   facts = facts;
   text = first_places facts true (text_pages_of facts);
-  «data» = first_places facts false (data_pages_of facts);
+  «data» = first_places facts false (image_data_pages facts);
   stack = replicate 1 places.Zero;
 }
 
@@ -110,17 +110,17 @@ fresh_pages slots facts a (suc n) =
 
 pub image_shown_new : (slots : List Token) (sid image : ℕ) (facts : Image) → space_shown slots (image_space sid image facts) ≡ new_pages sid image facts
 image_shown_new slots sid image facts =
-    ap (λ (xs : List Slot). record { sid = sid; image = image; data_pages = xs; stack_pages = unfilled Zeros ∷ [] }) (fresh_pages slots facts 0 (data_pages_of facts))
+    ap (λ (xs : List Slot). record { sid = sid; image = image; data_pages = xs; stack_pages = unfilled Zeros ∷ [] }) (fresh_pages slots facts 0 (image_data_pages facts))
 
 fresh_by : (pages v : ℕ) (b : Bool) → v < pages → IsFresh pages v (if b then places.Image v else places.Zero)
 fresh_by pages v true l = (refl, l)
 fresh_by pages v false l = tt
 
-fresh_at : (facts : Image) (v : ℕ) (x : Place) → slice_get (first_places facts false (data_pages_of facts)) v ≡ Some x → IsFresh (data_pages_of facts) v x
+fresh_at : (facts : Image) (v : ℕ) (x : Place) → slice_get (first_places facts false (image_data_pages facts)) v ≡ Some x → IsFresh (image_data_pages facts) v x
 fresh_at facts v x e =
-    subst (IsFresh (data_pages_of facts) v)
-    (ap (first_place facts false) (let z : v ≡ 0 + v = omega arith in z) ∙ sym (at_range (first_place facts false) 0 (data_pages_of facts) v x e))
-    (fresh_by (data_pages_of facts) v (nat_lt (1024 * v) (given_of false facts)) (range_below (first_place facts false) 0 (data_pages_of facts) v x e))
+    subst (IsFresh (image_data_pages facts) v)
+    (ap (first_place facts false) (let z : v ≡ 0 + v = omega arith in z) ∙ sym (at_range (first_place facts false) 0 (image_data_pages facts) v x e))
+    (fresh_by (image_data_pages facts) v (nat_lt (1024 * v) (given_of false facts)) (range_below (first_place facts false) 0 (image_data_pages facts) v x e))
 
 zero_at : (v : ℕ) (x : Place) → slice_get (replicate 1 places.Zero) v ≡ Some x → x ≡ places.Zero
 zero_at zero x e = sym (same_Some places.Zero x e)
@@ -131,7 +131,7 @@ pub image_is_new : (t : Lists) (sid image : ℕ) (facts : Image) → AllBelow si
 image_is_new t sid image facts above is sound = record {
   above = above;
   facts_are = is;
-  few = (let l = length-map-range_with_len (first_place facts false) 0 (data_pages_of facts) in let f = sound.data_fits in (omega arith, omega arith));
+  few = (let l = length-map-range_with_len (first_place facts false) 0 (image_data_pages facts) in let f = sound.data_fits in (omega arith, omega arith));
   fresh_data = fresh_at facts;
   fresh_stack = zero_at;
 }
@@ -154,24 +154,24 @@ due_last : (ds : List DueFill) (d : DueFill) → map due_page (map due_shown (ds
 due_last [] d = refl
 due_last (x ∷ ds) d = ap (λ (qs : List Page). due_page (due_shown x) ∷ qs) (due_last ds d)
 
-none_due : (ds : List Due) (q : Page) → due_at ds q ≡ None → EachPage (λ r. q ≡ r → ⊥) (map due_page ds)
+none_due : (ds : List Due) (q : Page) → due_of_page ds q ≡ None → EachPage (λ r. q ≡ r → ⊥) (map due_page ds)
 none_due [] q e = tt
 none_due (d ∷ ds) q e = go (same_page (due_page d) q) refl e (none_due ds q)
   where
-    go : (b : Bool) → same_page (due_page d) q ≡ b → cond b (Some d) (due_at ds q) ≡ None → (due_at ds q ≡ None → EachPage (λ r. q ≡ r → ⊥) (map due_page ds))
+    go : (b : Bool) → same_page (due_page d) q ≡ b → cond b (Some d) (due_of_page ds q) ≡ None → (due_of_page ds q ≡ None → EachPage (λ r. q ≡ r → ⊥) (map due_page ds))
         → EachPage (λ r. q ≡ r → ⊥) (map due_page (d ∷ ds))
     go true k f later = absurd cc
     go false k f later =
         ((λ same. let yes : same_page (due_page d) q ≡ true = ap (same_page (due_page d)) same ∙ same_page_self (due_page d) in absurd (let z : true ≡ false = sym yes ∙ k in cc)), later f)
 
 -- no page of a space that isn't there is due
-pub stack_not_due : (t : Lists) (sid : ℕ) → AllBelow sid (sids_of t.spaces) → DueStand (placement_of t) → due_at (placement_of t).due (Stack sid 0) ≡ None
-stack_not_due t sid below due = go (due_at (placement_of t).due (Stack sid 0)) refl
+pub stack_not_due : (t : Lists) (sid : ℕ) → AllBelow sid (sids_of t.spaces) → DueStand (placement_of t) → due_of_page (placement_of t).due (Stack sid 0) ≡ None
+stack_not_due t sid below due = go (due_of_page (placement_of t).due (Stack sid 0)) refl
   where
     none : length (slots_of (placement_of t) (Stack sid 0)) ≡ 0
     none = ap (λ (o : Option SpacePages). length (stack_in o)) (is_new t.slots t.spaces sid below)
 
-    go : (o : Option Due) → due_at (placement_of t).due (Stack sid 0) ≡ o → o ≡ None
+    go : (o : Option Due) → due_of_page (placement_of t).due (Stack sid 0) ≡ o → o ≡ None
     go None e = refl
     go (Some d) e = absurd (let there : 0 < length (slots_of (placement_of t) (Stack sid 0)) = (due (Stack sid 0) d e).there in omega (arith, there, none))
 
@@ -189,7 +189,7 @@ pub record Entering (t u : Tables) (image : ℕ) (facts : Image) (top : List ℕ
   pub is : facts_numbered (lists_of t).facts image ≡ Some facts
   pub whole : length top ≡ 1024
   pub spaces : u.spaces ≡ t.spaces ++ with_text_places (lists_of t) (image_space t.next_sid image facts) ∷ []
-  pub table : IsTable t.texts
+  pub table : IsTextTable t.texts
   pub texts : u.texts ≡ entered_texts t.texts image
   pub fills : u.fills.items ≡ t.fills.items ++ fills.Start (Stack t.next_sid 0) top ∷ []
   pub number : u.next_sid ≡ t.next_sid + 1

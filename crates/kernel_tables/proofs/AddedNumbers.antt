@@ -2,7 +2,7 @@
 use Rattle.std.proofs.Common.{ℕ, suc, ◌+◌, ◌<◌, ◌≤◌, ◌==◌, Bool, true, false, cond, List, [], ◌∷◌, ◌++◌, length, map, sym, subst, arith}
 use Rattle.std.proofs.lemmas.List.{length-map}
 use Rattle.space_map.specs.Space.{Places}
-use Rattle.text_table.specs.Texts.{text_of}
+use Rattle.text_table.specs.Texts.{text_numbered}
 use Rattle.flat_state.specs.Numbers.{AllBelow}
 use Rattle.page_model.specs.Pages.{SpacePages}
 use Rattle.page_model.specs.Placement.{sharers_in}
@@ -44,7 +44,7 @@ few_sharers image (x ∷ xs) = go (x.image == image) (few_sharers image xs)
     go false h = omega arith
 
 -- the text table counts no more than there are spaces
-pub few_share : (t : Lists) (image : ℕ) → Tied t → 1 ≤ image → image ≤ 16 → (text_of t.texts image).sharers ≤ length t.spaces
+pub few_share : (t : Lists) (image : ℕ) → Tied t → 1 ≤ image → image ≤ 16 → (text_numbered t.texts image).sharers ≤ length t.spaces
 few_share t image tied l m =
     let c = tied.counted image l m in
     let f = few_sharers image (map (space_shown t.slots) t.spaces) in

@@ -12,7 +12,7 @@ use Rattle.aout_image.specs.declared.Image.{Image}
 use Rattle.aout_image.specs.Image.{text_pages_of}
 use Rattle.core_map.specs.declared.slot.Slot.{Slot as Token}
 use Rattle.space_map.specs.Space.{Places, place_in}
-use Rattle.text_table.specs.Texts.{is_saved, text_of, entered, unused_text, Text as SharedText}
+use Rattle.text_table.specs.Texts.{is_saved, text_numbered, entered, unused_text, Text as SharedText}
 use Rattle.page_model.specs.Pages.{Slot, TextPages}
 use Rattle.page_model.specs.Placement.{Placement}
 use Rattle.kernel_tables.specs.declared.fill.DueFill.{DueFill}
@@ -80,13 +80,13 @@ saved_still_at (y ∷ ts) zero (suc m) = refl
 saved_still_at (y ∷ ts) (suc n) zero = refl
 saved_still_at (y ∷ ts) (suc n) (suc m) = saved_still_at ts n m
 
-pub saved_still : (ts : List SharedText) (image i v : ℕ) → is_saved (text_of (entered_texts ts image) i) v ≡ is_saved (text_of ts i) v
+pub saved_still : (ts : List SharedText) (image i v : ℕ) → is_saved (text_numbered (entered_texts ts image) i) v ≡ is_saved (text_numbered ts i) v
 saved_still ts image i v = ap (λ (bs : List Bool). slice_index_or bs v false) (saved_still_at ts (image - 1) (i - 1))
 
 slot_still : (t : Lists) (s : Places) (fills : List DueFill) (i v : ℕ) → text_slot (with_space t s fills) i v ≡ text_slot t i v
 slot_still t s fills i v =
     ap (λ (b : Bool). text_shown t.slots b (text_place (t.spaces ++ with_text_places t s ∷ []) t.slots (Text i v) v)) (saved_still t.texts s.image i v)
-    ∙ ap (text_shown t.slots (is_saved (text_of t.texts i) v)) (text_place_still t s i v)
+    ∙ ap (text_shown t.slots (is_saved (text_numbered t.texts i) v)) (text_place_still t s i v)
 
 slots_still : (f g : ℕ → Slot) (ns : List ℕ) → ((n : ℕ) → f n ≡ g n) → map f ns ≡ map g ns
 slots_still f g [] e = refl

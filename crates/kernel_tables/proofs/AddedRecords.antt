@@ -5,7 +5,7 @@ use Rattle.std.specs.List.{range_with_len}
 use Rattle.proc_table.specs.declared.process.Proc.{Proc as Record}
 use Rattle.proc_table.specs.Records.{find, Changes}
 use Rattle.page_model.specs.Placement.{Residence}
-use Rattle.kernel_tables.specs.Machine.{proc_shown, proc_of, processes_of, residence_by, residence_of, residents_of}
+use Rattle.kernel_tables.specs.Machine.{proc_shown, proc_of_record, processes_of, residence_by, residence_of, residents_of}
 use Rattle.kernel_tables.proofs.Records.{keeps_none, keeps_some}
 
 -- over the numbers up to the last, of which that one alone has something else
@@ -27,8 +27,9 @@ one_more next l = omega arith
 pub added_processes : (old new : List Record) (next : ℕ) (p : Record) → 1 ≤ next → Changes old new next (Some p)
     → processes_of new (next + 1) ≡ processes_of old next ++ proc_shown p ∷ []
 added_processes old new next p l c =
-    ap (λ (n : ℕ). filter_map (λ pid. proc_of (find pid new)) (range_with_len 1 n)) (one_more next l)
-    ∙ added_from (λ pid. proc_of (find pid new)) (λ pid. proc_of (find pid old)) next (proc_shown p) (ap proc_of c.changed) (λ m d. ap proc_of (c.others m d)) 1 (next - 1) (omega arith)
+    ap (λ (n : ℕ). filter_map (λ pid. proc_of_record (find pid new)) (range_with_len 1 n)) (one_more next l)
+    ∙ added_from (λ pid. proc_of_record (find pid new)) (λ pid. proc_of_record (find pid old)) next (proc_shown p) (ap proc_of_record c.changed) (λ m d. ap proc_of_record (c.others m d)) 1
+    (next - 1) (omega arith)
 
 pub added_residents : (old new : List Record) (next : ℕ) (p : Record) (r : Residence) → 1 ≤ next → Changes old new next (Some p)
     → residence_by p p.state ≡ Some r → residents_of new (next + 1) ≡ residents_of old next ++ r ∷ []

@@ -11,10 +11,10 @@ use Rattle.vm_facts.specs.declared.page.Page.TheVariants.{Data, Stack, Text}
 use Rattle.vax_pte.specs.declared.Place.{Place}
 use Rattle.vax_pte.specs.declared.Place.TheVariants as places
 use Rattle.aout_image.specs.declared.Image.{Image}
-use Rattle.aout_image.specs.Image.{text_pages_of, data_pages_of}
+use Rattle.aout_image.specs.Image.{text_pages_of, image_data_pages}
 use Rattle.core_map.specs.declared.slot.Slot.{Slot as Token}
 use Rattle.space_map.specs.Space.{Places, place_in}
-use Rattle.text_table.specs.Texts.{IsTable, text_of, entered, unused_text, Text as SharedText}
+use Rattle.text_table.specs.Texts.{IsTextTable, text_numbered, entered, unused_text, Text as SharedText}
 use Rattle.flat_state.specs.Numbers.{IsAbsent, AllDistinct, AllBelow}
 use Rattle.page_model.specs.Pages.{Slot, SpacePages}
 use Rattle.page_model.specs.Placement.{Placement, Due, sharers, sharers_in}
@@ -94,7 +94,7 @@ fresh_image pages v w x e h = subst (IsFresh pages v) e h
 added_entries : (t : Lists) (s : Places) → EachSpace (IsFilled t.facts) t.spaces → IsNewSpace t s
     → (q : Page) (w : ℕ) → place_in (with_text_places t s) q ≡ Some (places.Image w) → IsFilledAt (with_text_places t s) q w
 added_entries t s h new (Data n v) w e = elim (cases_eq n s.sid) [
-  | inl is ↦ fresh_image (data_pages_of s.facts) v w (places.Image w) refl (new.fresh_data v (places.Image w) (sym (data_hit (with_text_places t s) n v is) ∙ e))
+  | inl is ↦ fresh_image (image_data_pages s.facts) v w (places.Image w) refl (new.fresh_data v (places.Image w) (sym (data_hit (with_text_places t s) n v is) ∙ e))
   | inr miss ↦ absurd (let k = sym (data_miss (with_text_places t s) n v miss) ∙ e in cc)
 ]
 added_entries t s h new (Stack n v) w e = elim (cases_eq n s.sid) [
@@ -140,15 +140,15 @@ facts_number n image (x ∷ more) facts e = elim (cases_eq n image) [
 pub image_range : (t : Lists) (image : ℕ) (facts : Image) → Tied t → facts_in 1 image t.facts ≡ Some facts → (1 ≤ image) × (image ≤ 16)
 image_range t image facts tied e = let r = facts_number 1 image t.facts facts e in let m = tied.few_images in (r.0, omega (arith, r.1))
 
-added_counted : (t : Lists) (s : Places) (fills : List DueFill) → Tied t → IsTable t.texts → IsNewSpace t s → (i : ℕ) → 1 ≤ i → i ≤ 16
-    → (text_of (entered_texts t.texts s.image) i).sharers ≡ sharers (placement_of (with_space t s fills)) i
+added_counted : (t : Lists) (s : Places) (fills : List DueFill) → Tied t → IsTextTable t.texts → IsNewSpace t s → (i : ℕ) → 1 ≤ i → i ≤ 16
+    → (text_numbered (entered_texts t.texts s.image) i).sharers ≡ sharers (placement_of (with_space t s fills)) i
 added_counted t s fills tied table new i l m =
     let range = image_range t s.image s.facts tied new.facts_are in
     elim (cases_eq s.image i) [
       | inl e ↦
-          let is = ap (λ (n : ℕ). (text_of (entered_texts t.texts s.image) n).sharers) (sym e) in
+          let is = ap (λ (n : ℕ). (text_numbered (entered_texts t.texts s.image) n).sharers) (sym e) in
           let size = table.images in
-          let at = ap (λ (x : SharedText). x.sharers) (set_at t.texts (s.image - 1) (entered (text_of t.texts s.image)) (omega (arith, range.0, range.1))) in
+          let at = ap (λ (x : SharedText). x.sharers) (set_at t.texts (s.image - 1) (entered (text_numbered t.texts s.image)) (omega (arith, range.0, range.1))) in
           let was = tied.counted s.image range.0 range.1 in
           let more = added_sharers t s fills i in
           let one : added (s.image == i) ≡ 1 = ap added (eq-eqb s.image i e) in
@@ -156,7 +156,7 @@ added_counted t s fills tied table new i l m =
           omega (arith, is, at, was, more, one, same)
       | inr d ↦
           let at = ap (λ (x : SharedText). x.sharers)
-          (set_beside t.texts (s.image - 1) (i - 1) (entered (text_of t.texts s.image)) (λ k. d (let f = range.0 in omega arith))) in
+          (set_beside t.texts (s.image - 1) (i - 1) (entered (text_numbered t.texts s.image)) (λ k. d (let f = range.0 in omega arith))) in
           let was = tied.counted i l m in
           let more = added_sharers t s fills i in
           let none : added (s.image == i) ≡ 0 = ap added (ne_eqb s.image i d) in
@@ -224,7 +224,7 @@ new_changed t s new n v = elim (cases_eq n s.sid) [
   where
     go : (o : Option Place) → slice_get s.data v ≡ o → changed_named o ≡ false
     go None e = refl
-    go (Some x) e = fresh_changed (data_pages_of s.facts) v x (new.fresh_data v x e)
+    go (Some x) e = fresh_changed (image_data_pages s.facts) v x (new.fresh_data v x e)
 
 new_unchanged : (t : Lists) (s : Places) → IsNewSpace t s → (n v : ℕ) → changed_named (place_in (with_text_places t s) (Stack n v)) ≡ false
 new_unchanged t s new n v = elim (cases_eq n s.sid) [
@@ -248,7 +248,7 @@ dirty_still t s new (Text i v) = ap not (saved_still t.texts s.image i v)
 
 -- The whole tie.
 
-pub added_tied : (t : Lists) (s : Places) (fills : List DueFill) → Tied t → IsTable t.texts → IsNewSpace t s → AreWhole fills → DueOnce fills
+pub added_tied : (t : Lists) (s : Places) (fills : List DueFill) → Tied t → IsTextTable t.texts → IsNewSpace t s → AreWhole fills → DueOnce fills
     → Tied (with_space t s fills)
 added_tied t s fills tied table new whole once =
     let n : Places = with_text_places t s in
@@ -288,8 +288,8 @@ zeros_blank slots xs h = all_fresh slots 0 0 xs (λ v x e. subst (IsFresh 0 (0 +
 
 pub new_data_blank : (t : Lists) (s : Places) → IsNewSpace t s → AllBlank (map (slot_shown t.slots) s.data)
 new_data_blank t s new =
-    all_fresh t.slots (data_pages_of s.facts) 0 s.data
-    (λ v x e. subst (λ (k : ℕ). IsFresh (data_pages_of s.facts) k x) (let z : v ≡ 0 + v = omega arith in z) (new.fresh_data v x e))
+    all_fresh t.slots (image_data_pages s.facts) 0 s.data
+    (λ v x e. subst (λ (k : ℕ). IsFresh (image_data_pages s.facts) k x) (let z : v ≡ 0 + v = omega arith in z) (new.fresh_data v x e))
 
 pub new_stack_blank : (t : Lists) (s : Places) → IsNewSpace t s → AllBlank (map (slot_shown t.slots) s.stack)
 new_stack_blank t s new = zeros_blank t.slots s.stack new.fresh_stack
@@ -318,7 +318,7 @@ is_new slots (r ∷ ss) sid h =
 
 -- The whole.
 
-pub added_known : (t : Lists) (s : Places) (fills : List DueFill) → Known t → IsTable t.texts → IsNewSpace t s → AreWhole fills → DueOnce fills
+pub added_known : (t : Lists) (s : Places) (fills : List DueFill) → Known t → IsTextTable t.texts → IsNewSpace t s → AreWhole fills → DueOnce fills
     → Known (with_space t s fills)
 added_known t s fills known table new whole once =
     let p : Placement = placement_of t in

@@ -7,7 +7,7 @@ use Rattle.vax_pte.specs.declared.Place.{Place}
 use Rattle.core_map.specs.declared.slot.Slot.{Slot as Token}
 use Rattle.core_map.specs.Slots.{slot_at}
 use Rattle.space_map.specs.Space.{Places}
-use Rattle.text_table.specs.Texts.{is_saved, text_of}
+use Rattle.text_table.specs.Texts.{is_saved, text_numbered}
 use Rattle.page_model.specs.Pages.{Slot, SpacePages, numbered, data_in, stack_in, frame_of}
 use Rattle.page_model.specs.Placement.{space_number, slot_of, state_of, IsThere}
 use Rattle.flat_state.specs.Numbers.{AllDistinct}
@@ -21,7 +21,7 @@ use Rattle.kernel_laws.proofs.Machine.Done.{some_of}
 
 -- what a place shows of a page
 abbrev pub page_shown : Lists → Page → Place → Slot
-page_shown t (Text i v) place = text_shown t.slots (is_saved (text_of t.texts i) v) place
+page_shown t (Text i v) place = text_shown t.slots (is_saved (text_numbered t.texts i) v) place
 page_shown t _ place = slot_shown t.slots place
 
 -- the page, and beside it at most the frame's token, is all that changes
@@ -31,7 +31,7 @@ pub record Arrives (t u : Lists) (q : Page) (f : ℕ) (place : Place) : Type 0 w
   pub slots : (g : ℕ) → g ≢ f → slot_at u.slots g ≡ slot_at t.slots g
   pub cached : (image v : ℕ) → Text image v ≢ q → frame_holding u.slots (Text image v) ≡ frame_holding t.slots (Text image v)
   pub spaces : u.spaces ≡ map (placed q place) t.spaces
-  pub saved : (image v : ℕ) → Text image v ≢ q → 1 ≤ image → is_saved (text_of u.texts image) v ≡ is_saved (text_of t.texts image) v
+  pub saved : (image v : ℕ) → Text image v ≢ q → 1 ≤ image → is_saved (text_numbered u.texts image) v ≡ is_saved (text_numbered t.texts image) v
   pub facts : u.facts ≡ t.facts
   pub there : IsThere (placement_of t) q
   pub entry : IsSome (entry_in t.spaces q)
@@ -61,7 +61,7 @@ arrived t u q f place a = go q a.there (some_of (entry_in t.spaces q) a.entry).0
         stack_shown u.slots u.spaces n v differ ∙ ap (slot_or (slot_shown u.slots)) (ap (λ (ss : List Places). entry_in ss (Stack n v)) s ∙ entry_same t.spaces (Stack n v) place was e)
     go (Text i v) th was e s =
         text_at u i v (subst (λ (fs : List Rattle.aout_image.specs.declared.Image.Image). v < pages_in 1 i fs) (sym a.facts) (text_within t i v th))
-        ∙ ap (λ (o : Option Place). text_shown u.slots (is_saved (text_of u.texts i) v) (text_place_by o u.slots (Text i v) v))
+        ∙ ap (λ (o : Option Place). text_shown u.slots (is_saved (text_numbered u.texts i) v) (text_place_by o u.slots (Text i v) v))
         (ap (λ (ss : List Places). entry_in ss (Text i v)) s ∙ entry_same t.spaces (Text i v) place was e)
 
 -- a data or stack page that is there has an entry

@@ -10,8 +10,8 @@ use Rattle.frame_state.specs.Frame.{Frame}
 use Rattle.core_map.specs.declared.slot.Slot.{Slot as Token}
 use Rattle.core_map.specs.declared.slot.Slot.TheVariants as tokens
 use Rattle.core_map.specs.Slots.{slot_at}
-use Rattle.core_map.specs.Frames.{IsSound}
-use Rattle.text_table.specs.Texts.{is_saved, text_of}
+use Rattle.core_map.specs.Frames.{IsSoundMap}
+use Rattle.text_table.specs.Texts.{is_saved, text_numbered}
 use Rattle.page_model.specs.Frames.{set_frame}
 use Rattle.vm_facts.specs.Lists.{times, without}
 use Rattle.page_model.specs.Pages.{Slot, Zeros, frame_of}
@@ -40,7 +40,7 @@ use Rattle.kernel_tables.proofs.Fills.{Took, took_is, took_apart, took_there}
 use Rattle.kernel_tables.proofs.Likes.{placed_alike, evicted_alike, placed_filled, evicted_filled, frame_fits}
 use Rattle.kernel_tables.proofs.Kept.{Ties, tied_still, still_there, evicted_there, evicted_heads}
 use Rattle.kernel_tables.proofs.Marks.{marks_entered, set_resident}
-use Rattle.core_map.specs.Slots.{page_of as token_page}
+use Rattle.core_map.specs.Slots.{slot_page as token_page}
 
 -- a page of a space, or of text that a space shares, has an entry
 pub shared_entry : (t : Lists) (q : Page) → Tied t → IsShared (placement_of t) q → IsThere (placement_of t) q → IsSome (entry_in t.spaces q)
@@ -68,9 +68,9 @@ come_shown : (t n : Lists) (q : Page) (f : ℕ) → Known t → n.texts ≡ t.te
     → frame_of (state_of (placement_of t) q) ≡ None
     → page_shown n q (places.Frame f false false) ≡ record { state = Coming f; mark = mark_of (placement_of t) q; filling = Zeros }
 come_shown t n (Text i v) f k e a there fr =
-    ap (λ (s : Token). let z : Slot = record { state = idle_state f (is_away s) false; mark = is_saved (text_of n.texts i) v; filling = Zeros } in z) a
+    ap (λ (s : Token). let z : Slot = record { state = idle_state f (is_away s) false; mark = is_saved (text_numbered n.texts i) v; filling = Zeros } in z) a
     ∙ ap (λ (b : Bool). let z : Slot = record { state = Coming f; mark = b; filling = Zeros } in z)
-    (ap (λ (x : List Rattle.text_table.specs.Texts.Text). is_saved (text_of x i) v) e ∙ sym (ap (λ (y : Slot). y.mark) (text_at t i v (text_within t i v there))))
+    (ap (λ (x : List Rattle.text_table.specs.Texts.Text). is_saved (text_numbered x i) v) e ∙ sym (ap (λ (y : Slot). y.mark) (text_at t i v (text_within t i v there))))
 come_shown t n x f k e a there fr =
     ap (λ (s : Token). let z : Slot = record { state = idle_state f (is_away s) false; mark = false; filling = Zeros } in z) a
     ∙ ap (λ (b : Bool). let z : Slot = record { state = Coming f; mark = b; filling = Zeros } in z) (sym (frameless_clean (placement_of t) x k.owns fr))
@@ -157,7 +157,7 @@ come_ties t page rest token q ts k e none = record {
 
 pub come_known : (t : Lists) (page : Option Page) (rest : List ℕ) (token was : Frame) (q demanded : Page) (source : Source) → Known t
     → Head t token.number was page rest → IsShared (placement_of t) q → CanEnter (placement_of t) q
-    → IsOpen t.transfers (Reads source demanded) → IsSound rest (set t.slots token.number tokens.Away)
+    → IsOpen t.transfers (Reads source demanded) → IsSoundMap rest (set t.slots token.number tokens.Away)
     → Known (coming (taken t token.number page rest) token q (join_last t.transfers (Reads source demanded) (record { page = q; frame = token.number })))
 come_known t page rest token was q demanded source known h sh can latest core =
     let e : Errand = Reads source demanded in

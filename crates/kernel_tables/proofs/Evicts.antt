@@ -11,9 +11,9 @@ use Rattle.vax_pte.specs.declared.Place.TheVariants as places
 use Rattle.frame_state.specs.Frame.{Frame}
 use Rattle.core_map.specs.declared.slot.Slot.{Slot as Token}
 use Rattle.core_map.specs.declared.slot.Slot.TheVariants as tokens
-use Rattle.core_map.specs.Slots.{slot_at, page_of as token_page}
+use Rattle.core_map.specs.Slots.{slot_at, slot_page as token_page}
 use Rattle.space_map.specs.Space.{Places}
-use Rattle.text_table.specs.Texts.{is_saved, text_of}
+use Rattle.text_table.specs.Texts.{is_saved, text_numbered}
 use Rattle.page_model.specs.Frames.{set_frame}
 use Rattle.vm_facts.specs.Lists.{times}
 use Rattle.page_model.specs.Pages.{Slot, Zeros, no_slot, frame_of, left_state, filling_behind}
@@ -116,32 +116,33 @@ here_some t f token e rest k h =
     unshared zero z = refl
     unshared (suc n) z = absurd (z (omega arith))
 
-    left_of : (i v : ℕ) (b : Bool) → is_saved (text_of t.texts i) v ≡ b → (o : Option Place) → entry_in t.spaces (Text i v) ≡ o
-        → (sharers (placement_of t) i ≡ 0 → is_saved (text_of t.texts i) v ≡ false) → (0 < sharers (placement_of t) i → IsSome (entry_in t.spaces (Text i v)))
+    left_of : (i v : ℕ) (b : Bool) → is_saved (text_numbered t.texts i) v ≡ b → (o : Option Place) → entry_in t.spaces (Text i v) ≡ o
+        → (sharers (placement_of t) i ≡ 0 → is_saved (text_numbered t.texts i) v ≡ false) → (0 < sharers (placement_of t) i → IsSome (entry_in t.spaces (Text i v)))
         → token_page (slot_at t.slots f) ≡ Some (Text i v)
-        → text_shown (set t.slots f tokens.Away) (is_saved (text_of t.texts i) v)
-        (text_place (map (placed (Text i v) (left_text (is_saved (text_of t.texts i) v) v)) t.spaces) (set t.slots f tokens.Away) (Text i v) v)
+        → text_shown (set t.slots f tokens.Away) (is_saved (text_numbered t.texts i) v)
+        (text_place (map (placed (Text i v) (left_text (is_saved (text_numbered t.texts i) v) v)) t.spaces) (set t.slots f tokens.Away) (Text i v) v)
         ≡ record {
-          state = left_state (Text i v) (is_saved (text_of t.texts i) v);
-          mark = is_saved (text_of t.texts i) v;
-          filling = filling_behind (left_state (Text i v) (is_saved (text_of t.texts i) v)) Zeros;
+          state = left_state (Text i v) (is_saved (text_numbered t.texts i) v);
+          mark = is_saved (text_numbered t.texts i) v;
+          filling = filling_behind (left_state (Text i v) (is_saved (text_numbered t.texts i) v)) Zeros;
         }
     left_of i v b eb (Some x) eo z sh pg =
-        ap (λ (y : Option Place). text_shown (set t.slots f tokens.Away) (is_saved (text_of t.texts i) v) (text_place_by y (set t.slots f tokens.Away) (Text i v) v))
-        (entry_same t.spaces (Text i v) (left_text (is_saved (text_of t.texts i) v) v) x eo)
-        ∙ swapped i v (is_saved (text_of t.texts i) v)
+        ap (λ (y : Option Place). text_shown (set t.slots f tokens.Away) (is_saved (text_numbered t.texts i) v) (text_place_by y (set t.slots f tokens.Away) (Text i v) v))
+        (entry_same t.spaces (Text i v) (left_text (is_saved (text_numbered t.texts i) v) v) x eo)
+        ∙ swapped i v (is_saved (text_numbered t.texts i) v)
     left_of i v b eb None eo z sh pg =
         let none : sharers (placement_of t) i ≡ 0 = unshared (sharers (placement_of t) i) (λ l. absurd (let y = subst IsSome eo (sh l) in cc)) in
-        let clean : is_saved (text_of t.texts i) v ≡ false = z none in
-        let spaces : map (placed (Text i v) (left_text (is_saved (text_of t.texts i) v) v)) t.spaces ≡ t.spaces = entry_none t.spaces (Text i v) (left_text (is_saved (text_of t.texts i) v) v) eo in
+        let clean : is_saved (text_numbered t.texts i) v ≡ false = z none in
+        let spaces : map (placed (Text i v) (left_text (is_saved (text_numbered t.texts i) v) v)) t.spaces ≡ t.spaces =
+        entry_none t.spaces (Text i v) (left_text (is_saved (text_numbered t.texts i) v) v) eo in
         let gone : frame_holding (set t.slots f tokens.Away) (Text i v) ≡ None = holding_none (set t.slots f tokens.Away) (Text i v) (λ g. elim (cases_eq g f) [
           | inl eq ↦ λ m. absurd (let y = sym (ap (λ (n : ℕ). token_page (slot_at (set t.slots f tokens.Away) n)) eq
               ∙ ap token_page (get_or-set_same t.slots f tokens.Away tokens.Away (head_below t f token (Some e) h.was))) ∙ m in cc)
           | inr n ↦ λ m. n (sym (k.core.unique f g (Text i v) pg (sym (ap token_page (get_or-set_other t.slots f g tokens.Away tokens.Away n)) ∙ m)))
         ]) in
-        ap (λ (ss : List Places). text_shown (set t.slots f tokens.Away) (is_saved (text_of t.texts i) v) (text_place ss (set t.slots f tokens.Away) (Text i v) v)) spaces
-        ∙ ap (λ (y : Option Place). text_shown (set t.slots f tokens.Away) (is_saved (text_of t.texts i) v) (text_place_by y (set t.slots f tokens.Away) (Text i v) v)) eo
-        ∙ ap (λ (y : Option ℕ). text_shown (set t.slots f tokens.Away) (is_saved (text_of t.texts i) v) (cached_by y v)) gone
+        ap (λ (ss : List Places). text_shown (set t.slots f tokens.Away) (is_saved (text_numbered t.texts i) v) (text_place ss (set t.slots f tokens.Away) (Text i v) v)) spaces
+        ∙ ap (λ (y : Option Place). text_shown (set t.slots f tokens.Away) (is_saved (text_numbered t.texts i) v) (text_place_by y (set t.slots f tokens.Away) (Text i v) v)) eo
+        ∙ ap (λ (y : Option ℕ). text_shown (set t.slots f tokens.Away) (is_saved (text_numbered t.texts i) v) (cached_by y v)) gone
         ∙ ap (λ (c : Bool). let y : Slot = record { state = Unfilled; mark = c; filling = Zeros } in y) clean
         ∙ sym (ap (λ (c : Bool). let y : Slot = record { state = left_state (Text i v) c; mark = c; filling = filling_behind (left_state (Text i v) c) Zeros } in y) clean)
 
@@ -172,10 +173,10 @@ here_some t f token e rest k h =
         let u : Lists = taken t f (Some (Text i v)) rest in
         let l : v < pages_in 1 i t.facts = text_within t i v th in
         let was : slot_of (placement_of t) (Text i v) ≡ text_slot t i v = text_at t i v l in
-        let mark : is_saved (text_of t.texts i) v ≡ mark_of (placement_of t) (Text i v) = sym (ap (λ (y : Slot). y.mark) was) in
+        let mark : is_saved (text_numbered t.texts i) v ≡ mark_of (placement_of t) (Text i v) = sym (ap (λ (y : Slot). y.mark) was) in
         let filling : Zeros ≡ (slot_of (placement_of t) (Text i v)).filling = sym (ap (λ (y : Slot). y.filling) was) in
         text_at u i v l
-        ∙ left_of i v (is_saved (text_of t.texts i) v) refl (entry_in t.spaces (Text i v)) refl
+        ∙ left_of i v (is_saved (text_numbered t.texts i) v) refl (entry_in t.spaces (Text i v)) refl
         (λ z. let a = k.aside i v z in mark ∙ a.unsaved)
         (λ z. k.tied.shared i v z l) pg
         ∙ ap (λ (b : Bool). let z : Slot = record { state = left_state (Text i v) b; mark = b; filling = filling_behind (left_state (Text i v) b) Zeros } in z) mark

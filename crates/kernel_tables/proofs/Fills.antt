@@ -9,7 +9,7 @@ use Rattle.vax_pte.specs.declared.Place.TheVariants as places
 use Rattle.frame_state.specs.Frame.{Frame}
 use Rattle.core_map.specs.declared.slot.Slot.{Slot as Token}
 use Rattle.core_map.specs.declared.slot.Slot.TheVariants as tokens
-use Rattle.core_map.specs.Slots.{slot_at, page_of as token_page}
+use Rattle.core_map.specs.Slots.{slot_at, slot_page as token_page}
 use Rattle.page_model.specs.Frames.{set_frame}
 use Rattle.vm_facts.specs.Lists.{times, without}
 use Rattle.page_model.specs.Pages.{Slot, frame_of, filling_behind}
@@ -24,7 +24,7 @@ use Rattle.std.proofs.lemmas.Option.{same_Some}
 use Rattle.kernel_laws.proofs.PageLawsMovesSteps.{EvictRest, evict_rest, evict_owner, evict_page}
 use Rattle.kernel_tables.specs.Shown.{entry_in}
 use Rattle.kernel_tables.specs.View.{Lists, flown_at, page_by, bytes_by, page_held, bytes_held, placement_of, frames_of}
-use Rattle.kernel_tables.specs.Steps.{evicted, taken, seated}
+use Rattle.kernel_tables.specs.Steps.{evicted, taken, seated_in}
 use Rattle.kernel_tables.proofs.Entries.{placed_heads}
 use Rattle.kernel_tables.proofs.Shows.{SameLists, segments_are, frames_set, head_sids}
 use Rattle.kernel_tables.proofs.Finds.{holding_set}
@@ -79,7 +79,7 @@ entry_there u (Stack n v) w there = stack_there u.slots u.spaces n v there
 entry_there u (Text i v) w there = absurd w
 
 seat_arrives : (t u : Lists) (token : Frame) (q : Page) (dirty : Bool) → Took t u token.number → IsWritable q → IsThere (placement_of t) q
-    → Arrives u (seated u token q dirty) q token.number (places.Frame token.number true dirty)
+    → Arrives u (seated_in u token q dirty) q token.number (places.Frame token.number true dirty)
 seat_arrives t u token q dirty k w there = record {
   differ = k.differ;
   apart = λ r n. took_apart t u token.number k r;
@@ -99,10 +99,11 @@ seat_shown u _ f dirty w = refl
 
 -- The page is in the frame: that is `enter`.
 pub seat_is : (t u : Lists) (token : Frame) (q : Page) (dirty : Bool) → Took t u token.number → IsWritable q → IsThere (placement_of t) q
-    → placement_of (seated u token q dirty) ≡ enter (evict (placement_of t) token.number) q token.number (Valid token.number) dirty (placement_of u).transfers
+    → placement_of (seated_in u token q dirty)
+    ≡ enter (evict (placement_of t) token.number) q token.number (Valid token.number) dirty (placement_of u).transfers
 seat_is t u token q dirty k w there =
     let f : ℕ = token.number in
-    let n : Lists = seated u token q dirty in
+    let n : Lists = seated_in u token q dirty in
     let a : Arrives u n q f (places.Frame f true dirty) = seat_arrives t u token q dirty k w there in
     let s : SameLists n (put (placement_of u) q (Valid f) dirty) =
     segments_are u n q f (Valid f) dirty (arrives_moved u n q f (places.Frame f true dirty) a)
@@ -127,10 +128,10 @@ seat_is t u token q dirty k w there =
 -- The bytes of the frames.
 pub seat_frames : (t u : Lists) (token : Frame) (q : Page) (dirty : Bool) → Took t u token.number
     → ((g : ℕ) → g ≢ token.number → bytes_held u g ≡ bytes_held t g) → length u.slots ≡ length t.slots
-    → frames_of (seated u token q dirty) ≡ set_frame (frames_of t) token.number token.bytes
+    → frames_of (seated_in u token q dirty) ≡ set_frame (frames_of t) token.number token.bytes
 seat_frames t u token q dirty k same count =
     let f : ℕ = token.number in
-    let n : Lists = seated u token q dirty in
+    let n : Lists = seated_in u token q dirty in
     let counts : length n.slots - 1 ≡ length t.slots - 1 = ap (λ (m : ℕ). m - 1) (length-set u.slots f (tokens.Resident token q dirty) ∙ count) in
     let here : bytes_held n f ≡ token.bytes = ap (λ (y : Token). bytes_by y (flown_at u.flown f)) (get_or-set_same u.slots f (tokens.Resident token q dirty) tokens.Away k.below) in
     ap (λ (m : ℕ). map (bytes_held n) (range_with_len 1 m)) counts
@@ -139,7 +140,7 @@ seat_frames t u token q dirty k same count =
     ∙ ap (set_frame (frames_of t) f) here
 
 pub fill_is : (t u : Lists) (token : Frame) (q : Page) → Took t u token.number → IsWritable q → IsThere (placement_of t) q → u.transfers ≡ t.transfers
-    → placement_of (seated u token q true) ≡ fill (placement_of t) q
+    → placement_of (seated_in u token q true) ≡ fill (placement_of t) q
 fill_is t u token q k w there e =
     seat_is t u token q true k w there
     ∙ ap (λ (ts : List Rattle.page_model.specs.Placement.Transfer). enter (evict (placement_of t) token.number) q token.number (Valid token.number) true ts) e

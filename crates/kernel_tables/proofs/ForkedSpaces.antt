@@ -12,7 +12,7 @@ use Rattle.vax_pte.specs.declared.Place.{Place}
 use Rattle.vax_pte.specs.declared.Place.TheVariants as places
 use Rattle.vax_pte.specs.Words.{IsInRange}
 use Rattle.aout_image.specs.declared.Image.{Image}
-use Rattle.aout_image.specs.Image.{data_pages_of, IsSound as IsSoundImage}
+use Rattle.aout_image.specs.Image.{image_data_pages, IsSound as IsSoundImage}
 use Rattle.space_map.specs.Space.{Places, first_place, first_places}
 use Rattle.flat_state.specs.Numbers.{AllBelow}
 use Rattle.page_model.specs.Pages.{Slot, SpacePages, numbered, data_in, stack_in}
@@ -104,7 +104,7 @@ module _ (t : Lists) (parent : ℕ) (s : Places) (known : Known t) (found : numb
   parent_sound = facts_sound 1 s.image t.facts s.facts known.tied.sound parent_facts
 
   -- the child's entries wait for a fill, as the parent's did where they were never filled
-  data_fresh : (v : ℕ) (x : Place) → slice_get s.data v ≡ Some x → IsFresh (data_pages_of s.facts) v (forked x)
+  data_fresh : (v : ℕ) (x : Place) → slice_get s.data v ≡ Some x → IsFresh (image_data_pages s.facts) v (forked x)
   data_fresh v (places.Image w) e = filled.entries (Data s.sid v) w (data_hit s s.sid v refl ∙ e)
   data_fresh v _ e = tt
 
@@ -135,8 +135,8 @@ module _ (t : Lists) (parent : ℕ) (s : Places) (known : Known t) (found : numb
     );
     fresh_data = λ v x e.
         let was = at_map forked s.data v x e in
-        subst (λ (y : Image). IsFresh (data_pages_of y) v x) (sym facts)
-        (subst (IsFresh (data_pages_of s.facts) v) (sym was.2) (data_fresh v was.0 was.1));
+        subst (λ (y : Image). IsFresh (image_data_pages y) v x) (sym facts)
+        (subst (IsFresh (image_data_pages s.facts) v) (sym was.2) (data_fresh v was.0 was.1));
     fresh_stack = λ v x e. let was = at_map forked s.stack v x e in was.2 ∙ stack_fresh v was.0 was.1;
   }
 

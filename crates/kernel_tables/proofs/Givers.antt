@@ -13,7 +13,7 @@ use Rattle.kernel_model.specs.ChangeStep.{pass_from, passed_life, life_of_proc, 
 use Rattle.kernel_model.specs.Sound.{lives_in, lives as are_alive}
 use Rattle.kernel_tables.specs.declared.tables.Tables.{Tables}
 use Rattle.kernel_tables.specs.Alike.{lends_to_by, lends_to, is_borrower_in, HoldsBorrowed, AreRecords}
-use Rattle.kernel_tables.specs.Machine.{life_shown, proc_shown, proc_of, processes_of, residence_by, residence_of, residents_of}
+use Rattle.kernel_tables.specs.Machine.{life_shown, proc_shown, proc_of_record, processes_of, residence_by, residence_of, residents_of}
 use Rattle.kernel_tables.specs.Applying.{MayPass}
 use Rattle.kernel_tables.specs.Changing.{HasProcesses, processes_in, residents_in, life_at, passed_procs}
 use Rattle.kernel_tables.specs.Families.{HasPassed}
@@ -33,32 +33,32 @@ module _ (t u : Tables) (from to sid : ℕ) (receiver : Life) (g b giver taker :
   abbrev passes_by : Bool → Bool → Proc → Proc
   passes_by x y q = record q { life = cond x (pass_from sid to receiver) (cond y (HoldsSpace sid) q.life) }
 
-  other : (n : ℕ) (o : Option Record) → find n t.processes ≡ o → n ≢ from → n ≢ to → proc_of o ≡ step_in passes (proc_of o)
+  other : (n : ℕ) (o : Option Record) → find n t.processes ≡ o → n ≢ from → n ≢ to → proc_of_record o ≡ step_in passes (proc_of_record o)
   other n None f d c = refl
   other n (Some q) f d c =
       let i = found_pid n t.processes q f in
       sym (ap (λ (x : Bool). Some (passes_by x (q.pid == to) (proc_shown q))) (ne_eqb q.pid from (λ k. d (sym i ∙ k)))
       ∙ ap (λ (y : Bool). Some (passes_by false y (proc_shown q))) (ne_eqb q.pid to (λ k. c (sym i ∙ k))))
 
-  each : (n : ℕ) → proc_of (find n u.processes) ≡ step_in passes (proc_of (find n t.processes))
+  each : (n : ℕ) → proc_of_record (find n u.processes) ≡ step_in passes (proc_of_record (find n t.processes))
   each n = elim (cases_eq n from) [
     | inl i ↦
-        ap (λ (m : ℕ). proc_of (find m u.processes)) i ∙ ap proc_of passed.gives ∙ ap (λ (p : Proc). Some p) gives
+        ap (λ (m : ℕ). proc_of_record (find m u.processes)) i ∙ ap proc_of_record passed.gives ∙ ap (λ (p : Proc). Some p) gives
         ∙ sym (ap (λ (x : Bool). Some (passes_by x (g.pid == to) (proc_shown g))) (ap (λ (m : ℕ). m == from) (found_pid from t.processes g gave) ∙ eq_self from))
-        ∙ sym (ap (λ (m : ℕ). step_in passes (proc_of (find m t.processes))) i ∙ ap (λ (o : Option Record). step_in passes (proc_of o)) gave)
+        ∙ sym (ap (λ (m : ℕ). step_in passes (proc_of_record (find m t.processes))) i ∙ ap (λ (o : Option Record). step_in passes (proc_of_record o)) gave)
     | inr d ↦ elim (cases_eq n to) [
       | inl i ↦
           let is = found_pid to t.processes b took in
-          ap (λ (m : ℕ). proc_of (find m u.processes)) i ∙ ap proc_of passed.takes ∙ ap (λ (p : Proc). Some p) takes
+          ap (λ (m : ℕ). proc_of_record (find m u.processes)) i ∙ ap proc_of_record passed.takes ∙ ap (λ (p : Proc). Some p) takes
           ∙ sym (ap (λ (x : Bool). Some (passes_by x (b.pid == to) (proc_shown b))) (ne_eqb b.pid from (λ k. apart (sym k ∙ is)))
           ∙ ap (λ (y : Bool). Some (passes_by false y (proc_shown b))) (ap (λ (m : ℕ). m == to) is ∙ eq_self to))
-          ∙ sym (ap (λ (m : ℕ). step_in passes (proc_of (find m t.processes))) i ∙ ap (λ (o : Option Record). step_in passes (proc_of o)) took)
-      | inr c ↦ ap proc_of (passed.others n d c) ∙ other n (find n t.processes) refl d c
+          ∙ sym (ap (λ (m : ℕ). step_in passes (proc_of_record (find m t.processes))) i ∙ ap (λ (o : Option Record). step_in passes (proc_of_record o)) took)
+      | inr c ↦ ap proc_of_record (passed.others n d c) ∙ other n (find n t.processes) refl d c
     ]
   ]
 
   pub passed_processes : processes_of u.processes t.next_pid ≡ map (λ (q : Proc). record q { life = passed_life sid from to receiver q }) (processes_in t)
-  passed_processes = over_map (λ n. proc_of (find n u.processes)) (λ n. proc_of (find n t.processes)) passes (range_with_len 1 (t.next_pid - 1)) each
+  passed_processes = over_map (λ n. proc_of_record (find n u.processes)) (λ n. proc_of_record (find n t.processes)) passes (range_with_len 1 (t.next_pid - 1)) each
 
   pub passed_residents : residence_by giver giver.state ≡ residence_by g g.state → residence_by taker taker.state ≡ residence_by b b.state
       → residents_of u.processes t.next_pid ≡ residents_in t
@@ -151,7 +151,7 @@ returned_records t u from to sid lent g b h gave took apart gs bs p =
 pub alive_there : (t : Tables) (pid : ℕ) → AreRecords t.processes t.next_pid → are_alive (processes_in t) pid ≡ true → IsSome (find pid t.processes)
 alive_there t pid h a = go (find pid t.processes) (ap lives_in (sym (process_is t.processes t.next_pid pid h)) ∙ a)
   where
-    go : (o : Option Record) → lives_in (proc_of o) ≡ true → IsSome o
+    go : (o : Option Record) → lives_in (proc_of_record o) ≡ true → IsSome o
     go None k = absurd cc
     go (Some p) k = refl
 
@@ -159,7 +159,7 @@ pub gives_there : (t : Tables) (pid from : ℕ) (taker : Life) → AreRecords t.
     → IsSome (find pid t.processes)
 gives_there t pid from taker h m = go (find pid t.processes) (subst (λ (o : Option Proc). MayPass (life_of_proc o) taker from) (process_is t.processes t.next_pid pid h) m)
   where
-    go : (o : Option Record) → MayPass (life_of_proc (proc_of o)) taker from → IsSome o
+    go : (o : Option Record) → MayPass (life_of_proc (proc_of_record o)) taker from → IsSome o
     go None k = absurd k
     go (Some p) k = refl
 

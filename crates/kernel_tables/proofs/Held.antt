@@ -8,7 +8,7 @@ use Rattle.vm_facts.specs.declared.page.Page.{Page}
 use Rattle.core_map.specs.declared.slot.Slot.{Slot as Token}
 use Rattle.core_map.specs.declared.slot.Slot.TheVariants as tokens
 use Rattle.core_map.specs.Slots.{slot_at}
-use Rattle.core_map.specs.Frames.{IsSound}
+use Rattle.core_map.specs.Frames.{IsSoundMap}
 use Rattle.transfer_ring.specs.declared.transfer.Inbound.{Inbound}
 use Rattle.transfer_ring.specs.declared.transfer.Outbound.{Outbound}
 use Rattle.transfer_ring.specs.declared.transfer.Transfer.{Transfer as Flight}
@@ -33,7 +33,7 @@ pub holds_length : (t : Lists) → length (placement_of t).holds ≡ length t.sl
 holds_length t = length-map-range_with_len (page_held t) 1 (length t.slots - 1)
 
 -- a frame whose slot isn't away is a frame
-pub above_zero : (free : List ℕ) (slots : List Token) (f : ℕ) → IsSound free slots → slot_at slots f ≢ tokens.Away → 0 < f
+pub above_zero : (free : List ℕ) (slots : List Token) (f : ℕ) → IsSoundMap free slots → slot_at slots f ≢ tokens.Away → 0 < f
 above_zero free slots f c n = elim (cases_eq f 0) [
   | inl e ↦ absurd (n (ap (slot_at slots) e ∙ c.none))
   | inr m ↦ omega arith

@@ -6,9 +6,9 @@ use Rattle.vax_pte.specs.declared.Place.{Place}
 use Rattle.aout_image.specs.declared.Image.{Image}
 use Rattle.core_map.specs.declared.slot.Slot.{Slot as Token}
 use Rattle.space_map.specs.Space.{Places}
-use Rattle.text_table.specs.Texts.{text_of, Text as SharedText}
+use Rattle.text_table.specs.Texts.{text_numbered, Text as SharedText}
 use Rattle.flat_state.specs.PageNames.{same_page}
-use Rattle.page_model.specs.Placement.{Due, Start, due_page, due_at, sharers_in}
+use Rattle.page_model.specs.Placement.{Due, Start, due_page, due_of_page, sharers_in}
 use Rattle.page_model.specs.Place.{due_after}
 use Rattle.page_model.specs.Dues.{NotDue}
 use Rattle.page_model.specs.Conditions.{EachPage}
@@ -69,7 +69,7 @@ pub record Ties (t u : Lists) : Type 0 where
   pub entries : (r : Page) → IsSome (entry_in t.spaces r) → IsSome (entry_in u.spaces r)
   pub alike : AreAlike t.spaces → AreAlike u.spaces
   pub filled : EachSpace (IsFilled t.facts) t.spaces → EachSpace (IsFilled t.facts) u.spaces
-  pub counts : (image : ℕ) → (text_of u.texts image).sharers ≡ (text_of t.texts image).sharers
+  pub counts : (image : ℕ) → (text_numbered u.texts image).sharers ≡ (text_numbered t.texts image).sharers
   pub marked : AreMarked t.slots t.spaces t.texts → AreMarked u.slots u.spaces u.texts
   pub whole : AreWhole t.fills → AreWhole u.fills
   pub once : DueOnce t.fills → DueOnce u.fills
@@ -119,7 +119,7 @@ pub none_due : (ds : List Due) (q : Page) → EachPage (λ (r : Page). r ≡ q �
 none_due [] q h = refl
 none_due (d ∷ ds) q h = go (same_page (due_page d) q) refl (none_due ds q h.1)
   where
-    go : (b : Bool) → same_page (due_page d) q ≡ b → NotDue ds q → cond b (Some d) (due_at ds q) ≡ None
+    go : (b : Bool) → same_page (due_page d) q ≡ b → NotDue ds q → cond b (Some d) (due_of_page ds q) ≡ None
     go true e rest = absurd (h.0 (same_page_is (due_page d) q e))
     go false e rest = rest
 

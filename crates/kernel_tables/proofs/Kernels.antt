@@ -6,7 +6,7 @@ use Rattle.vm_facts.specs.declared.page.Page.TheVariants.{Text}
 use Rattle.vm_facts.specs.declared.entry.Entry.{Entry}
 use Rattle.vm_facts.specs.declared.entry.Entry.TheVariants as entries
 use Rattle.frame_state.specs.Frame.{Frame}
-use Rattle.core_map.specs.Slots.{slot_at, page_of as token_page}
+use Rattle.core_map.specs.Slots.{slot_at, slot_page as token_page}
 use Rattle.core_map.specs.declared.slot.Slot.TheVariants as tokens
 use Rattle.page_model.specs.Holdings.{Holdings}
 use Rattle.page_model.specs.Pages.{frame_of}

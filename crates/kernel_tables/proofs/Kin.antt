@@ -6,7 +6,7 @@ use Rattle.std.proofs.lemmas.Option.{same_Some}
 use Rattle.proc_table.specs.declared.process.Proc.{Proc as Record}
 use Rattle.proc_table.specs.declared.process.Life.{Life as RecordLife}
 use Rattle.proc_table.specs.declared.process.Life.TheVariants as lives
-use Rattle.proc_table.specs.Records.{find, Changes, IsTable}
+use Rattle.proc_table.specs.Records.{find, Changes, IsProcTable}
 use Rattle.kernel_laws.proofs.Local.{none_some}
 use Rattle.kernel_tables.specs.Alike.{lends_to_by, lends_to, is_borrower_in, HoldsBorrowed, AreRecords}
 use Rattle.kernel_tables.specs.Families.{left_life, left_by, left_in, IsAlone}
@@ -45,7 +45,7 @@ unknown ps next h = go (find next ps) refl
     go None e = refl
     go (Some p) e = absurd (let b = h.known next p e in omega (arith, b.1))
 
-pub added_records : (old new : List Record) (next : ℕ) (p : Record) → AreRecords old next → IsTable new → Changes old new next (Some p)
+pub added_records : (old new : List Record) (next : ℕ) (p : Record) → AreRecords old next → IsProcTable new → Changes old new next (Some p)
     → IsAlone p → AreRecords new (next + 1)
 added_records old new next p h after c a =
     let is_new : (k : ℕ) (q : Record) → k ≡ next → find k new ≡ Some q → p ≡ q = λ k q i e. same_Some p q (sym c.changed ∙ ap (λ (l : ℕ). find l new) (sym i) ∙ e) in
@@ -82,7 +82,7 @@ added_records old new next p h after c a =
 
 -- The children of one have left it.
 
-module _ (old new : List Record) (next pid : ℕ) (h : AreRecords old next) (after : IsTable new) (left : (n : ℕ) → find n new ≡ left_in pid (find n old)) where
+module _ (old new : List Record) (next pid : ℕ) (h : AreRecords old next) (after : IsProcTable new) (left : (n : ℕ) → find n new ≡ left_in pid (find n old)) where
   stays : (k : ℕ) (q : Record) → find k old ≡ Some q → StandsFor (record q { parent = 0 }) q
   stays k q e = record { lends = λ n. refl; borrowed = refl; holds = h.holds k q e }
 
@@ -115,7 +115,7 @@ pub record Follows (m k : ℕ) (p q : Record) : Type 0 where
   pub borrowed : k ≢ m → p.borrowed ≡ q.borrowed
   pub holds : p.borrowed ≡ true → HoldsBorrowed p.state
 
-module _ (old new : List Record) (next m from to : ℕ) (g b giver taker : Record) (h : AreRecords old next) (after : IsTable new) (apart : from ≢ to)
+module _ (old new : List Record) (next m from to : ℕ) (g b giver taker : Record) (h : AreRecords old next) (after : IsProcTable new) (apart : from ≢ to)
     (gave : find from old ≡ Some g) (took : find to old ≡ Some b) (gives : find from new ≡ Some giver) (takes : find to new ≡ Some taker)
     (others : (n : ℕ) → n ≢ from → n ≢ to → find n new ≡ find n old) (gf : Follows m from giver g) (tf : Follows m to taker b) where
   at_new : (k a : ℕ) (x p : Record) → find a new ≡ Some x → k ≡ a → find k new ≡ Some p → x ≡ p

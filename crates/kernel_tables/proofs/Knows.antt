@@ -6,7 +6,7 @@ use Rattle.vm_facts.specs.declared.page.Page.{Page}
 use Rattle.vm_facts.specs.declared.page.Page.TheVariants.{Text}
 use Rattle.core_map.specs.declared.slot.Slot.{Slot as Token}
 use Rattle.core_map.specs.declared.slot.Slot.TheVariants as tokens
-use Rattle.core_map.specs.Slots.{slot_at, page_of as token_page}
+use Rattle.core_map.specs.Slots.{slot_at, slot_page as token_page}
 use Rattle.page_model.specs.Pages.{frame_of}
 use Rattle.page_model.specs.Placement.{state_of, IsThere}
 use Rattle.kernel_laws.proofs.Local.{none_some}

@@ -6,7 +6,7 @@ use Rattle.vax_pte.specs.declared.Place.{Place}
 use Rattle.vax_pte.specs.declared.Place.TheVariants as places
 use Rattle.aout_image.specs.declared.Image.{Image}
 use Rattle.space_map.specs.Space.{Places, place_in}
-use Rattle.text_table.specs.Texts.{is_saved, text_of, Text as SharedText}
+use Rattle.text_table.specs.Texts.{is_saved, text_numbered, Text as SharedText}
 use Rattle.kernel_laws.proofs.Local.{none_some}
 use Rattle.std.proofs.lemmas.Option.{same_Some}
 use Rattle.kernel_laws.proofs.PageLawsListsPages.{page_cases}
@@ -97,7 +97,7 @@ pub frame_fits : (q : Page) (f : ℕ) (valid changed : Bool) → FitsPage q (pla
 frame_fits q f valid changed w e = absurd cc
 
 left_fits : (texts : List SharedText) (q : Page) → FitsPage q (left_place texts q)
-left_fits texts (Text i v) w e = go (is_saved (text_of texts i) v) e
+left_fits texts (Text i v) w e = go (is_saved (text_numbered texts i) v) e
   where
     go : (b : Bool) → left_text b v ≡ places.Image w → w ≡ v
     go true k = absurd cc

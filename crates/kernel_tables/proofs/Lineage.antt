@@ -7,7 +7,7 @@ use Rattle.vm_facts.proofs.Tests.{eq_self}
 use Rattle.proc_table.specs.declared.process.Proc.{Proc as Record}
 use Rattle.proc_table.specs.declared.process.Life.{Life as RecordLife}
 use Rattle.proc_table.specs.declared.process.Life.TheVariants as lives
-use Rattle.proc_table.specs.Records.{find, Changes, IsTable}
+use Rattle.proc_table.specs.Records.{find, Changes, IsProcTable}
 use Rattle.page_model.specs.Placement.{Residence}
 use Rattle.kernel_model.specs.Kernel.{Life, Ended, Proc}
 use Rattle.vm_facts.specs.declared.regs.Regs.{Regs}
@@ -17,7 +17,7 @@ use Rattle.kernel_model.specs.Sound.{has_life, lives_in, lives as are_alive}
 use Rattle.kernel_model.specs.Unit.{has_lender}
 use Rattle.kernel_tables.specs.declared.tables.Tables.{Tables}
 use Rattle.kernel_tables.specs.Alike.{lends_to_by, AreRecords}
-use Rattle.kernel_tables.specs.Machine.{life_shown, proc_shown, proc_of, processes_of, residence_by, residence_of, residents_of}
+use Rattle.kernel_tables.specs.Machine.{life_shown, proc_shown, proc_of_record, processes_of, residence_by, residence_of, residents_of}
 use Rattle.kernel_tables.specs.Changing.{HasProcesses, HasOneMore, HasChanged, HasEnded, HoldsOrNew, processes_in, residents_in, process_in, life_at}
 use Rattle.kernel_tables.specs.Families.{left_life, left_by, left_in, LeftChildren, IsAlone, IsBuried}
 use Rattle.kernel_tables.proofs.Records.{found_pid, set_is}
@@ -44,17 +44,17 @@ has_processes t u ps rs e p r h =
 pub found_there : (t : Tables) (pid : ℕ) → AreRecords t.processes t.next_pid → IsSome (process_in t pid) → IsSome (find pid t.processes)
 found_there t pid h s = go (find pid t.processes) (subst (λ (o : Option Proc). IsSome o) (process_is t.processes t.next_pid pid h) s)
   where
-    go : (o : Option Record) → IsSome (proc_of o) → IsSome o
+    go : (o : Option Record) → IsSome (proc_of_record o) → IsSome o
     go None k = k
     go (Some p) k = k
 
 pub shown_is : (t : Tables) (pid : ℕ) (was : Record) (p : Proc) → AreRecords t.processes t.next_pid → find pid t.processes ≡ Some was
     → process_in t pid ≡ Some p → proc_shown was ≡ p
-shown_is t pid was p h f e = same_Some (proc_shown was) p (sym (process_is t.processes t.next_pid pid h ∙ ap proc_of f) ∙ e)
+shown_is t pid was p h f e = same_Some (proc_shown was) p (sym (process_is t.processes t.next_pid pid h ∙ ap proc_of_record f) ∙ e)
 
 pub life_shown_at : (t : Tables) (pid : ℕ) (was : Record) → AreRecords t.processes t.next_pid → find pid t.processes ≡ Some was
     → life_at t pid ≡ life_shown was.state
-life_shown_at t pid was h f = ap life_of_proc (process_is t.processes t.next_pid pid h ∙ ap proc_of f)
+life_shown_at t pid was h f = ap life_of_proc (process_is t.processes t.next_pid pid h ∙ ap proc_of_record f)
 
 lends_none : (n : ℕ) (l : RecordLife) → HoldsOrNew (life_shown l) → lends_to_by n l ≡ false
 lends_none n (lives.Lends sid child) h = absurd h
@@ -86,7 +86,7 @@ residence_orphan p _ = refl
 
 pub one_more : (t u : Tables) (p : Record) → AreRecords t.processes t.next_pid → p.pid ≡ t.next_pid → HoldsOrNew (life_shown p.state)
     → p.borrowed ≡ false → p.out ≡ false
-    → Changes t.processes u.processes t.next_pid (Some p) → IsTable u.processes
+    → Changes t.processes u.processes t.next_pid (Some p) → IsProcTable u.processes
     → u ≡ record t { processes = u.processes; next_pid = u.next_pid } → u.next_pid ≡ t.next_pid + 1
     → HasOneMore t u (proc_shown p) p.since
 one_more t u p h i f b o c s e n =
@@ -105,7 +105,7 @@ one_more t u p h i f b o c s e n =
 -- Another record.
 
 pub has_changed : (t u : Tables) (was now : Record) → AreRecords t.processes t.next_pid → find now.pid t.processes ≡ Some was
-    → Changes t.processes u.processes now.pid (Some now) → IsTable u.processes
+    → Changes t.processes u.processes now.pid (Some now) → IsProcTable u.processes
     → u ≡ record t { processes = u.processes } → StandsFor now was → residence_by now now.state ≡ residence_by was was.state → HasChanged t u (proc_shown now)
 has_changed t u was now h f c s e x r = has_processes t u _ _ e
     (set_is t.processes u.processes now was t.next_pid c f)
@@ -115,7 +115,7 @@ has_changed t u was now h f c s e x r = has_processes t u _ _ e
 -- Gone.
 
 pub has_gone : (t u : Tables) (pid : ℕ) (was : Record) → AreRecords t.processes t.next_pid → find pid t.processes ≡ Some was
-    → Changes t.processes u.processes pid None → IsTable u.processes
+    → Changes t.processes u.processes pid None → IsProcTable u.processes
     → u ≡ record t { processes = u.processes } → IsAlone was
     → HasProcesses t u t.next_pid (without_proc (processes_in t) pid) (filter (λ (r : Residence). not (r.pid == pid)) (residents_in t))
 has_gone t u pid was h f c s e a = has_processes t u _ _ e
@@ -129,20 +129,20 @@ ended_state _ e = absurd cc
 
 -- who isn't there, or has ended
 pub has_reaped : (t u : Tables) (pid : ℕ) → AreRecords t.processes t.next_pid → are_alive (processes_in t) pid ≡ false
-    → Changes t.processes u.processes pid None → IsTable u.processes
+    → Changes t.processes u.processes pid None → IsProcTable u.processes
     → u ≡ record t { processes = u.processes } → HasProcesses t u t.next_pid (without_proc (processes_in t) pid) (residents_in t)
 has_reaped t u pid h d c s e = has_processes t u _ _ e
     (gone_processes t.processes u.processes t.next_pid pid c)
     (still_residents t.processes u.processes t.next_pid pid None c (sym (none (find pid t.processes) dead)))
     (by (find pid t.processes) refl)
   where
-    dead : lives_in (proc_of (find pid t.processes)) ≡ false
+    dead : lives_in (proc_of_record (find pid t.processes)) ≡ false
     dead = ap lives_in (sym (process_is t.processes t.next_pid pid h)) ∙ d
 
     none_at : (p : Record) (l : RecordLife) → has_life (life_shown l) ≡ false → residence_by p l ≡ None
     none_at p l k = let z = ended_state l k in ap (residence_by p) z.1
 
-    none : (o : Option Record) → lives_in (proc_of o) ≡ false → residence_of o ≡ None
+    none : (o : Option Record) → lives_in (proc_of_record o) ≡ false → residence_of o ≡ None
     none None k = refl
     none (Some p) k = none_at p p.state k
 
@@ -160,7 +160,7 @@ has_reaped t u pid h d c s e = has_processes t u _ _ e
         (λ k p f. let m : find k t.processes ≡ Some p = sym (same g k) ∙ f in (p, m, itself k p m))
         (λ k q f. subst (λ (o : Option Record). Comes o q) (sym (same g k ∙ f)) (itself k q f))
     by (Some p) g =
-        let z = ended_state p.state (sym (ap (λ (o : Option Record). lives_in (proc_of o)) g) ∙ dead) in
+        let z = ended_state p.state (sym (ap (λ (o : Option Record). lives_in (proc_of_record o)) g) ∙ dead) in
         changed_records t.processes u.processes t.next_pid pid p None s g c (zombie_alone t.processes t.next_pid pid p z.0 h g z.1) h
 
 -- Awake.
@@ -172,27 +172,27 @@ woken_other : (pid : ℕ) (q : Record) → q.pid ≢ pid → Some (proc_shown q)
 woken_other pid q d = ap (λ (b : Bool). Some (let z : Proc = record (proc_shown q) { asleep = cond b false q.asleep } in z)) (sym (ne_eqb q.pid pid d))
 
 woken_over : (old new : List Record) (next pid : ℕ) → ((n : ℕ) → n ≢ pid → find n new ≡ find n old)
-    → proc_of (find pid new) ≡ step_in (wakes pid) (proc_of (find pid old))
+    → proc_of_record (find pid new) ≡ step_in (wakes pid) (proc_of_record (find pid old))
     → processes_of new next ≡ woken_procs (processes_of old next) pid
 woken_over old new next pid others here =
-    let each : (n : ℕ) → proc_of (find n new) ≡ step_in (wakes pid) (proc_of (find n old)) = λ n. elim (cases_eq n pid) [
-      | inl i ↦ subst (λ (m : ℕ). proc_of (find m new) ≡ step_in (wakes pid) (proc_of (find m old))) (sym i) here
-      | inr d ↦ ap proc_of (others n d) ∙ other n (find n old) refl d
+    let each : (n : ℕ) → proc_of_record (find n new) ≡ step_in (wakes pid) (proc_of_record (find n old)) = λ n. elim (cases_eq n pid) [
+      | inl i ↦ subst (λ (m : ℕ). proc_of_record (find m new) ≡ step_in (wakes pid) (proc_of_record (find m old))) (sym i) here
+      | inr d ↦ ap proc_of_record (others n d) ∙ other n (find n old) refl d
     ] in
-    over_map (λ n. proc_of (find n new)) (λ n. proc_of (find n old)) (wakes pid) (range_with_len 1 (next - 1)) each
+    over_map (λ n. proc_of_record (find n new)) (λ n. proc_of_record (find n old)) (wakes pid) (range_with_len 1 (next - 1)) each
   where
-    other : (n : ℕ) (o : Option Record) → find n old ≡ o → n ≢ pid → proc_of o ≡ step_in (wakes pid) (proc_of o)
+    other : (n : ℕ) (o : Option Record) → find n old ≡ o → n ≢ pid → proc_of_record o ≡ step_in (wakes pid) (proc_of_record o)
     other n None f d = refl
     other n (Some q) f d = woken_other pid q (λ i. d (sym (found_pid n old q f) ∙ i))
 
 pub has_woken : (t u : Tables) (was : Record) → AreRecords t.processes t.next_pid → find was.pid t.processes ≡ Some was
-    → Changes t.processes u.processes was.pid (Some (record was { asleep = false })) → IsTable u.processes
+    → Changes t.processes u.processes was.pid (Some (record was { asleep = false })) → IsProcTable u.processes
     → u ≡ record t { processes = u.processes } → HasProcesses t u t.next_pid (woken_procs (processes_in t) was.pid) (residents_in t)
 has_woken t u was h f c s e =
-    let here : proc_of (find was.pid u.processes) ≡ step_in (wakes was.pid) (proc_of (find was.pid t.processes)) =
-    ap proc_of c.changed
+    let here : proc_of_record (find was.pid u.processes) ≡ step_in (wakes was.pid) (proc_of_record (find was.pid t.processes)) =
+    ap proc_of_record c.changed
     ∙ ap (λ (b : Bool). Some (let z : Proc = record (proc_shown was) { asleep = cond b false was.asleep } in z)) (sym (eq_self was.pid))
-    ∙ sym (ap (λ (o : Option Record). step_in (wakes was.pid) (proc_of o)) f) in
+    ∙ sym (ap (λ (o : Option Record). step_in (wakes was.pid) (proc_of_record o)) f) in
     has_processes t u _ _ e
     (woken_over t.processes u.processes t.next_pid was.pid c.others here)
     (still_residents t.processes u.processes t.next_pid was.pid (Some (record was { asleep = false })) c (residence_asleep was false was.state ∙ sym (ap residence_of f)))
@@ -201,7 +201,7 @@ has_woken t u was h f c s e =
 pub none_woken : (t : Tables) (pid : ℕ) → AreRecords t.processes t.next_pid → find pid t.processes ≡ None
     → HasProcesses t t t.next_pid (woken_procs (processes_in t) pid) (residents_in t)
 none_woken t pid h f = has_processes t t _ _ refl
-    (woken_over t.processes t.processes t.next_pid pid (λ n d. refl) (ap proc_of f ∙ sym (ap (λ (o : Option Record). step_in (wakes pid) (proc_of o)) f)))
+    (woken_over t.processes t.processes t.next_pid pid (λ n d. refl) (ap proc_of_record f ∙ sym (ap (λ (o : Option Record). step_in (wakes pid) (proc_of_record o)) f)))
     refl h
 
 -- Orphans.
@@ -212,16 +212,17 @@ stays pid q = not ((q.parent == pid) && is_ended q.life)
 abbrev orphan : ℕ → Proc → Proc
 orphan pid q = record q { parent = cond (q.parent == pid) 0 q.parent }
 
-orphan_life : (q : Record) (l : RecordLife) → proc_of (left_life q l) ≡ kept_by (not (true && is_ended (life_shown l))) (record (proc_shown q) { parent = 0 })
+orphan_life : (q : Record) (l : RecordLife)
+    → proc_of_record (left_life q l) ≡ kept_by (not (true && is_ended (life_shown l))) (record (proc_shown q) { parent = 0 })
 orphan_life q lives.New = refl
 orphan_life q _ = refl
 
 orphan_by : (q : Record) (b : Bool)
-    → proc_of (left_by b q) ≡ kept_by (not (b && is_ended (life_shown q.state))) (record (proc_shown q) { parent = cond b 0 q.parent })
+    → proc_of_record (left_by b q) ≡ kept_by (not (b && is_ended (life_shown q.state))) (record (proc_shown q) { parent = cond b 0 q.parent })
 orphan_by q true = orphan_life q q.state
 orphan_by q false = refl
 
-orphan_in : (pid : ℕ) (o : Option Record) → proc_of (left_in pid o) ≡ kept_in (stays pid) (orphan pid) (proc_of o)
+orphan_in : (pid : ℕ) (o : Option Record) → proc_of_record (left_in pid o) ≡ kept_in (stays pid) (orphan pid) (proc_of_record o)
 orphan_in pid None = refl
 orphan_in pid (Some q) = orphan_by q (q.parent == pid)
 
@@ -240,8 +241,8 @@ orphan_residence pid (Some q) = orphan_resides q (q.parent == pid)
 pub has_left : (t u : Tables) (pid : ℕ) → AreRecords t.processes t.next_pid → LeftChildren t u pid
     → HasProcesses t u t.next_pid (orphaned_procs (processes_in t) pid) (residents_in t)
 has_left t u pid h l = has_processes t u _ _ l.rest
-    (over_left (λ n. proc_of (find n u.processes)) (λ n. proc_of (find n t.processes)) (stays pid) (orphan pid) (range_with_len 1 (t.next_pid - 1))
-    (λ n. ap proc_of (l.left n) ∙ orphan_in pid (find n t.processes)))
+    (over_left (λ n. proc_of_record (find n u.processes)) (λ n. proc_of_record (find n t.processes)) (stays pid) (orphan pid) (range_with_len 1 (t.next_pid - 1))
+    (λ n. ap proc_of_record (l.left n) ∙ orphan_in pid (find n t.processes)))
     (over_same (λ n. residence_of (find n u.processes)) (λ n. residence_of (find n t.processes)) (range_with_len 1 (t.next_pid - 1))
     (λ n. ap residence_of (l.left n) ∙ orphan_residence pid (find n t.processes)))
     (left_records t.processes u.processes t.next_pid pid h l.sound l.left)
@@ -254,7 +255,7 @@ IsZombie t u p status =
 
 pub has_died : (t u : Tables) (was now : Record) (status : ℕ) → AreRecords t.processes t.next_pid → find now.pid t.processes ≡ Some was
     → IsAlone was → now.borrowed ≡ false
-    → Changes t.processes u.processes now.pid (Some (record now { state = lives.Zombie status })) → IsTable u.processes
+    → Changes t.processes u.processes now.pid (Some (record now { state = lives.Zombie status })) → IsProcTable u.processes
     → u ≡ record t { processes = u.processes }
     → IsZombie t u now status
 has_died t u was now status h f a b c s e =
@@ -287,7 +288,7 @@ others_of pid rs = filter (λ (r : Residence). not (r.pid == pid)) rs
 -- a zombie of no parent is gone
 pub buried : (t u : Tables) (p : Record) (status : ℕ) → AreRecords t.processes t.next_pid → IsSome (find p.pid t.processes)
     → ((was : Record) → find p.pid t.processes ≡ Some was → IsAlone was)
-    → p.parent ≡ 0 → Changes t.processes u.processes p.pid None → IsTable u.processes → u ≡ record t { processes = u.processes }
+    → p.parent ≡ 0 → Changes t.processes u.processes p.pid None → IsProcTable u.processes → u ≡ record t { processes = u.processes }
     → IsBuried t u p status
 buried t u p status h there alone none c s e =
     let w = some_there (find p.pid t.processes) there in
@@ -297,7 +298,7 @@ buried t u p status h there alone none c s e =
 -- a zombie that its parent may wait for
 pub zombie_stands : (t u : Tables) (p : Record) (status : ℕ) → AreRecords t.processes t.next_pid → IsSome (find p.pid t.processes)
     → ((was : Record) → find p.pid t.processes ≡ Some was → IsAlone was)
-    → p.borrowed ≡ false → Changes t.processes u.processes p.pid (Some (record p { state = lives.Zombie status })) → IsTable u.processes
+    → p.borrowed ≡ false → Changes t.processes u.processes p.pid (Some (record p { state = lives.Zombie status })) → IsProcTable u.processes
     → u ≡ record t { processes = u.processes }
     → IsZombie t u p status
 zombie_stands t u p status h there alone b c s e =

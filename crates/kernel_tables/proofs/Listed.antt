@@ -17,7 +17,7 @@ use Rattle.kernel_model.specs.ChangeStep.{without_proc}
 use Rattle.kernel_model.specs.Unit.{lends_life, has_lender}
 use Rattle.kernel_tables.specs.Alike.{lends_to_by, lends_to, is_borrower_in, AreRecords}
 use Rattle.kernel_tables.specs.Lives.{AreMarked}
-use Rattle.kernel_tables.specs.Machine.{life_shown, proc_shown, proc_of, processes_of, residence_of, residents_of}
+use Rattle.kernel_tables.specs.Machine.{life_shown, proc_shown, proc_of_record, processes_of, residence_of, residents_of}
 use Rattle.kernel_tables.proofs.Records.{keeps_none, keeps_some, found_pid, shown_pid, find_hit, find_miss, any_found, found_any, map_same}
 use Rattle.kernel_tables.proofs.MovedRecords.{same_first, found_residence}
 use Rattle.kernel_tables.proofs.Lives.{pid_of, hit, miss, HasRecord, record_of}
@@ -96,7 +96,7 @@ module _ {A : Type 0} (show : Option Record → Option A) (key : A → ℕ) (pid
       ∙ map_same (filter (λ (x : A). not (key x == pid)) (filter_map (λ n. show (find n old)) ns))
 
 pub gone_processes : (old new : List Record) (next pid : ℕ) → Changes old new pid None → processes_of new next ≡ without_proc (processes_of old next) pid
-gone_processes old new next pid c = gone_over proc_of (λ (p : Proc). p.pid) pid old new (ap proc_of c.changed) c.others (λ n x k. shown_pid n old x k) (range_with_len 1 (next - 1))
+gone_processes old new next pid c = gone_over proc_of_record (λ (p : Proc). p.pid) pid old new (ap proc_of_record c.changed) c.others (λ n x k. shown_pid n old x k) (range_with_len 1 (next - 1))
 
 pub gone_residents : (old new : List Record) (next pid : ℕ) (found : Option Record) → Changes old new pid found → residence_of found ≡ None
     → residents_of new next ≡ filter (λ (r : Residence). not (r.pid == pid)) (residents_of old next)
@@ -116,27 +116,27 @@ still_residents old new next pid found c e =
 -- A process by its number is its record's.
 
 there_over : (k a pid : ℕ) (ps : List Record) (p : Record) → find pid ps ≡ Some p → a ≤ pid → pid < a + k
-    → numbered pid_of pid (filter_map (λ n. proc_of (find n ps)) (range_with_len a k)) ≡ Some (proc_shown p)
+    → numbered pid_of pid (filter_map (λ n. proc_of_record (find n ps)) (range_with_len a k)) ≡ Some (proc_shown p)
 there_over zero a pid ps p f l u = absurd (omega arith)
 there_over (suc k) a pid ps p f l u =
-    let g : ℕ → Option Proc = λ n. proc_of (find n ps) in
+    let g : ℕ → Option Proc = λ n. proc_of_record (find n ps) in
     go (find a ps) refl (λ z w. there_over k (a + 1) pid ps p f z w)
   where
     go : (o : Option Record) → find a ps ≡ o
-        → (a + 1 ≤ pid → pid < a + 1 + k → numbered pid_of pid (filter_map (λ n. proc_of (find n ps)) (range_with_len (a + 1) k)) ≡ Some (proc_shown p))
-        → numbered pid_of pid (filter_map (λ n. proc_of (find n ps)) (range_with_len a (suc k))) ≡ Some (proc_shown p)
+        → (a + 1 ≤ pid → pid < a + 1 + k → numbered pid_of pid (filter_map (λ n. proc_of_record (find n ps)) (range_with_len (a + 1) k)) ≡ Some (proc_shown p))
+        → numbered pid_of pid (filter_map (λ n. proc_of_record (find n ps)) (range_with_len a (suc k))) ≡ Some (proc_shown p)
     go None e more = elim (cases_eq a pid) [
       | inl i ↦ none_some p (sym e ∙ ap (λ (n : ℕ). find n ps) i ∙ f)
-      | inr d ↦ ap (numbered pid_of pid) (keeps_none (λ n. proc_of (find n ps)) a (range_with_len (a + 1) k) (ap proc_of e)) ∙ more (omega arith) (omega arith)
+      | inr d ↦ ap (numbered pid_of pid) (keeps_none (λ n. proc_of_record (find n ps)) a (range_with_len (a + 1) k) (ap proc_of_record e)) ∙ more (omega arith) (omega arith)
     ]
     go (Some x) e more = elim (cases_eq a pid) [
       | inl i ↦
-          ap (numbered pid_of pid) (keeps_some (λ n. proc_of (find n ps)) a (range_with_len (a + 1) k) (proc_shown x) (ap proc_of e))
-          ∙ hit pid (proc_shown x) (filter_map (λ n. proc_of (find n ps)) (range_with_len (a + 1) k)) (found_pid a ps x e ∙ i)
+          ap (numbered pid_of pid) (keeps_some (λ n. proc_of_record (find n ps)) a (range_with_len (a + 1) k) (proc_shown x) (ap proc_of_record e))
+          ∙ hit pid (proc_shown x) (filter_map (λ n. proc_of_record (find n ps)) (range_with_len (a + 1) k)) (found_pid a ps x e ∙ i)
           ∙ ap (λ (q : Record). Some (proc_shown q)) (same_Some x p (sym e ∙ ap (λ (n : ℕ). find n ps) i ∙ f))
       | inr d ↦
-          ap (numbered pid_of pid) (keeps_some (λ n. proc_of (find n ps)) a (range_with_len (a + 1) k) (proc_shown x) (ap proc_of e))
-          ∙ miss pid (proc_shown x) (filter_map (λ n. proc_of (find n ps)) (range_with_len (a + 1) k)) (λ i. d (sym (found_pid a ps x e) ∙ i))
+          ap (numbered pid_of pid) (keeps_some (λ n. proc_of_record (find n ps)) a (range_with_len (a + 1) k) (proc_shown x) (ap proc_of_record e))
+          ∙ miss pid (proc_shown x) (filter_map (λ n. proc_of_record (find n ps)) (range_with_len (a + 1) k)) (λ i. d (sym (found_pid a ps x e) ∙ i))
           ∙ more (omega arith) (omega arith)
     ]
 
@@ -144,10 +144,10 @@ pub shown_there : (ps : List Record) (next pid : ℕ) (p : Record) → AreRecord
     → numbered pid_of pid (processes_of ps next) ≡ Some (proc_shown p)
 shown_there ps next pid p h f = let b = h.known pid p f in let l = h.first in there_over (next - 1) 1 pid ps p f b.0 (omega (arith, b.1, l))
 
-pub process_is : (ps : List Record) (next pid : ℕ) → AreRecords ps next → numbered pid_of pid (processes_of ps next) ≡ proc_of (find pid ps)
+pub process_is : (ps : List Record) (next pid : ℕ) → AreRecords ps next → numbered pid_of pid (processes_of ps next) ≡ proc_of_record (find pid ps)
 process_is ps next pid h = go (find pid ps) (numbered pid_of pid (processes_of ps next)) refl refl
   where
-    go : (o : Option Record) (m : Option Proc) → find pid ps ≡ o → numbered pid_of pid (processes_of ps next) ≡ m → m ≡ proc_of o
+    go : (o : Option Record) (m : Option Proc) → find pid ps ≡ o → numbered pid_of pid (processes_of ps next) ≡ m → m ≡ proc_of_record o
     go (Some p) m e k = sym k ∙ shown_there ps next pid p h e
     go None None e k = refl
     go None (Some q) e k = let r : HasRecord ps pid q = record_of ps next pid q k in none_some r.found (sym e ∙ r.there)
@@ -187,12 +187,13 @@ pub not_borrowed : (ps : List Record) (next pid : ℕ) (p : Record) → AreRecor
 not_borrowed ps next pid p h f e = sym (ap is_borrower_in f) ∙ h.marked pid ∙ none_lends ps next pid h e
 
 -- who lends in the list has a record that lends
-lender_over : (ns : List ℕ) (ps : List Record) (pid : ℕ) → has_lender (filter_map (λ n. proc_of (find n ps)) ns) pid ≡ true → list_any (lends_to pid) ps ≡ true
+lender_over : (ns : List ℕ) (ps : List Record) (pid : ℕ) → has_lender (filter_map (λ n. proc_of_record (find n ps)) ns) pid ≡ true
+    → list_any (lends_to pid) ps ≡ true
 lender_over [] ps pid e = absurd cc
 lender_over (n ∷ ns) ps pid e = go (find n ps) refl (lender_over ns ps pid)
   where
     g : ℕ → Option Proc
-    g m = proc_of (find m ps)
+    g m = proc_of_record (find m ps)
 
     by : (x : Record) (b : Bool) → find n ps ≡ Some x → lends_life pid (life_shown x.state) ≡ b → (b || has_lender (filter_map g ns) pid) ≡ true
         → (has_lender (filter_map g ns) pid ≡ true → list_any (lends_to pid) ps ≡ true) → list_any (lends_to pid) ps ≡ true
@@ -200,9 +201,9 @@ lender_over (n ∷ ns) ps pid e = go (find n ps) refl (lender_over ns ps pid)
     by x false f l k more = more k
 
     go : (o : Option Record) → find n ps ≡ o → (has_lender (filter_map g ns) pid ≡ true → list_any (lends_to pid) ps ≡ true) → list_any (lends_to pid) ps ≡ true
-    go None f more = more (sym (ap (λ (qs : List Proc). has_lender qs pid) (keeps_none g n ns (ap proc_of f))) ∙ e)
+    go None f more = more (sym (ap (λ (qs : List Proc). has_lender qs pid) (keeps_none g n ns (ap proc_of_record f))) ∙ e)
     go (Some x) f more =
-        let shown : filter_map g (n ∷ ns) ≡ proc_shown x ∷ filter_map g ns = keeps_some g n ns (proc_shown x) (ap proc_of f) in
+        let shown : filter_map g (n ∷ ns) ≡ proc_shown x ∷ filter_map g ns = keeps_some g n ns (proc_shown x) (ap proc_of_record f) in
         by x (lends_life pid (life_shown x.state)) f refl (sym (ap (λ (qs : List Proc). has_lender qs pid) shown) ∙ e) more
 
 -- the marks are those of the list
@@ -244,13 +245,13 @@ module _ {A : Type 0} (g h : ℕ → Option A) (pid : ℕ) (x : A) (fewer : h pi
           omega (arith, p, q, more)
 
 counted_over : (ps : List Record) (a k : ℕ) → ArePidsApart ps → ((pid : ℕ) (p : Record) → find pid ps ≡ Some p → (a ≤ pid) × (pid < a + k))
-    → length ps ≤ length (filter_map (λ n. proc_of (find n ps)) (range_with_len a k))
+    → length ps ≤ length (filter_map (λ n. proc_of_record (find n ps)) (range_with_len a k))
 counted_over [] a k apart known = omega arith
 counted_over (q ∷ qs) a k apart known =
     let hits : find q.pid (q ∷ qs) ≡ Some q = find_hit q.pid q qs refl in
     let w = known q.pid q hits in
-    let one = one_over (λ n. proc_of (find n (q ∷ qs))) (λ n. proc_of (find n qs)) q.pid (proc_shown q) (ap proc_of apart.0) (ap proc_of hits)
-    (λ n d. ap proc_of (find_miss n q qs (λ i. d (sym i)))) k a w.0 w.1 in
+    let one = one_over (λ n. proc_of_record (find n (q ∷ qs))) (λ n. proc_of_record (find n qs)) q.pid (proc_shown q) (ap proc_of_record apart.0) (ap proc_of_record hits)
+    (λ n d. ap proc_of_record (find_miss n q qs (λ i. d (sym i)))) k a w.0 w.1 in
     let more = counted_over qs a k apart.1 (λ pid p f. known pid p (find_miss pid q qs (λ i. none_some p (sym apart.0 ∙ ap (λ (n : ℕ). find n qs) i ∙ f)) ∙ f)) in
     omega (arith, one, more)
 

@@ -11,7 +11,7 @@ use Rattle.proc_table.specs.Records.{find}
 use Rattle.page_model.specs.Pages.{numbered}
 use Rattle.kernel_model.specs.Kernel.{HoldsSpace, Proc}
 use Rattle.kernel_model.specs.ChangeStep.{life_of_proc}
-use Rattle.kernel_tables.specs.Machine.{life_shown, proc_shown, proc_of, processes_of}
+use Rattle.kernel_tables.specs.Machine.{life_shown, proc_shown, proc_of_record, processes_of}
 use Rattle.kernel_tables.specs.Lives.{space_by, space_held}
 use Rattle.kernel_tables.proofs.Records.{keeps_none, keeps_some, found_pid}
 
@@ -33,23 +33,23 @@ pub record HasRecord (ps : List Record) (pid : ℕ) (q : Proc) : Type 0 where
   pub there : find pid ps ≡ Some found
   pub shows : proc_shown found ≡ q
 
-record_over : (ns : List ℕ) (ps : List Record) (pid : ℕ) (q : Proc) → numbered pid_of pid (filter_map (λ n. proc_of (find n ps)) ns) ≡ Some q
+record_over : (ns : List ℕ) (ps : List Record) (pid : ℕ) (q : Proc) → numbered pid_of pid (filter_map (λ n. proc_of_record (find n ps)) ns) ≡ Some q
     → HasRecord ps pid q
 record_over [] ps pid q e = absurd cc
 record_over (n ∷ ns) ps pid q e = go (find n ps) refl (λ k. record_over ns ps pid q k)
   where
-    go : (o : Option Record) → find n ps ≡ o → (numbered pid_of pid (filter_map (λ n. proc_of (find n ps)) ns) ≡ Some q → HasRecord ps pid q) → HasRecord ps pid q
-    go None f more = more (sym (ap (numbered pid_of pid) (keeps_none (λ m. proc_of (find m ps)) n ns (ap proc_of f))) ∙ e)
+    go : (o : Option Record) → find n ps ≡ o → (numbered pid_of pid (filter_map (λ n. proc_of_record (find n ps)) ns) ≡ Some q → HasRecord ps pid q) → HasRecord ps pid q
+    go None f more = more (sym (ap (numbered pid_of pid) (keeps_none (λ m. proc_of_record (find m ps)) n ns (ap proc_of_record f))) ∙ e)
     go (Some x) f more =
-        let here : numbered pid_of pid (proc_shown x ∷ filter_map (λ m. proc_of (find m ps)) ns) ≡ Some q =
-        sym (ap (numbered pid_of pid) (keeps_some (λ m. proc_of (find m ps)) n ns (proc_shown x) (ap proc_of f))) ∙ e in
+        let here : numbered pid_of pid (proc_shown x ∷ filter_map (λ m. proc_of_record (find m ps)) ns) ≡ Some q =
+        sym (ap (numbered pid_of pid) (keeps_some (λ m. proc_of_record (find m ps)) n ns (proc_shown x) (ap proc_of_record f))) ∙ e in
         elim (cases_eq x.pid pid) [
           | inl i ↦ record {
             found = x;
             there = ap (λ (m : ℕ). find m ps) (sym i ∙ found_pid n ps x f) ∙ f;
-            shows = some_is (proc_shown x) q (sym (hit pid (proc_shown x) (filter_map (λ m. proc_of (find m ps)) ns) i) ∙ here);
+            shows = some_is (proc_shown x) q (sym (hit pid (proc_shown x) (filter_map (λ m. proc_of_record (find m ps)) ns) i) ∙ here);
           }
-          | inr d ↦ more (sym (miss pid (proc_shown x) (filter_map (λ m. proc_of (find m ps)) ns) d) ∙ here)
+          | inr d ↦ more (sym (miss pid (proc_shown x) (filter_map (λ m. proc_of_record (find m ps)) ns) d) ∙ here)
         ]
 
 pub record_of : (ps : List Record) (next pid : ℕ) (q : Proc) → numbered pid_of pid (processes_of ps next) ≡ Some q → HasRecord ps pid q

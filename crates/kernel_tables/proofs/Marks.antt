@@ -10,9 +10,9 @@ use Rattle.vax_pte.specs.declared.Place.TheVariants as places
 use Rattle.frame_state.specs.Frame.{Frame}
 use Rattle.core_map.specs.declared.slot.Slot.{Slot as Token}
 use Rattle.core_map.specs.declared.slot.Slot.TheVariants as tokens
-use Rattle.core_map.specs.Slots.{slot_at, page_of as token_page}
+use Rattle.core_map.specs.Slots.{slot_at, slot_page as token_page}
 use Rattle.space_map.specs.Space.{Places}
-use Rattle.text_table.specs.Texts.{is_saved, text_of, Text as SharedText}
+use Rattle.text_table.specs.Texts.{is_saved, text_numbered, Text as SharedText}
 use Rattle.page_model.specs.Pages.{frame_of}
 use Rattle.page_model.specs.Placement.{state_of}
 use Rattle.page_model.specs.PageBytes.{IsWritable}
@@ -27,7 +27,7 @@ use Rattle.kernel_tables.proofs.Knows.{held_named, texts_here}
 use Rattle.kernel_laws.proofs.Machine.Done.{some_of}
 
 same_dirty : (ss rs : List Places) (ts us : List SharedText) (w : Page) → entry_in rs w ≡ entry_in ss w
-    → ((i v : ℕ) → w ≡ Text i v → is_saved (text_of us i) v ≡ is_saved (text_of ts i) v) → dirty_shown rs us w ≡ dirty_shown ss ts w
+    → ((i v : ℕ) → w ≡ Text i v → is_saved (text_numbered us i) v ≡ is_saved (text_numbered ts i) v) → dirty_shown rs us w ≡ dirty_shown ss ts w
 same_dirty ss rs ts us (Text i v) e h = ap not (h i v refl)
 same_dirty ss rs ts us _ e h = ap changed_named e
 
@@ -43,7 +43,7 @@ marks_kept t u f slots others here k g token q mark e = elim (cases_eq g f) [
 -- one page takes its place with one frame
 pub marks_placed : (t u : Lists) (q : Page) (f : ℕ) (place : Place) → AreTextsHere t.slots → ((g : ℕ) → g ≢ f → slot_at u.slots g ≡ slot_at t.slots g)
     → u.spaces ≡ map (placed q place) t.spaces
-    → ((i v : ℕ) → Text i v ≢ q → 1 ≤ i → is_saved (text_of u.texts i) v ≡ is_saved (text_of t.texts i) v)
+    → ((i v : ℕ) → Text i v ≢ q → 1 ≤ i → is_saved (text_numbered u.texts i) v ≡ is_saved (text_numbered t.texts i) v)
     → ((g : ℕ) → token_page (slot_at t.slots g) ≡ Some q → g ≡ f)
     → ((token : Frame) (r : Page) (mark : Bool) → slot_at u.slots f ≡ tokens.Resident token r mark → mark ≡ dirty_shown u.spaces u.texts r)
     → AreMarked t.slots t.spaces t.texts → AreMarked u.slots u.spaces u.texts
@@ -56,7 +56,7 @@ marks_placed t u q f place low slots spaces saved alone here =
 
 -- what the place of a page says of its mark, and the text table
 abbrev pub placed_mark : List SharedText → Place → Page → Bool
-placed_mark ts place (Text i v) = not (is_saved (text_of ts i) v)
+placed_mark ts place (Text i v) = not (is_saved (text_numbered ts i) v)
 placed_mark ts place _ = changed_named (Some place)
 
 pub placed_dirty : (ss : List Places) (ts : List SharedText) (place : Place) (q : Page) → IsSome (entry_in ss q)
@@ -135,7 +135,7 @@ pub marks_entered : (t : Lists) (f g : ℕ) (page : Option Page) (rest : List �
     → ((token : Frame) (r : Page) (mark : Bool) → slot_at u.slots g ≡ tokens.Resident token r mark → mark ≡ dirty_shown u.spaces u.texts r)
     → AreMarked t.slots t.spaces t.texts → AreMarked u.slots u.spaces u.texts
 marks_entered t f g page rest q place u k e n slots spaces texts here m =
-    marks_placed (taken t f page rest) u q g place (texts_left t f k) slots spaces (λ i v d l. ap (λ (ts : List SharedText). is_saved (text_of ts i) v) texts)
+    marks_placed (taken t f page rest) u q g place (texts_left t f k) slots spaces (λ i v d l. ap (λ (ts : List SharedText). is_saved (text_numbered ts i) v) texts)
     (λ h x. none_some h (sym n ∙ held_named t h q k (stayed t f h q x))) here (marks_taken t f page rest k e m)
 
 -- A frame that holds a page is off the free list.

@@ -16,7 +16,7 @@ use Rattle.page_model.specs.Placement.{Residence}
 use Rattle.page_model.specs.Swapper as swapper
 use Rattle.kernel_laws.proofs.Local.{none_some}
 use Rattle.kernel_model.specs.Kernel.{Proc, with_regs}
-use Rattle.kernel_tables.specs.Machine.{proc_shown, proc_of, processes_of, residence_by, residence_of, residents_of}
+use Rattle.kernel_tables.specs.Machine.{proc_shown, proc_of_record, processes_of, residence_by, residence_of, residents_of}
 use Rattle.kernel_tables.specs.Alike.{AreRecords}
 use Rattle.kernel_tables.specs.Swapping.{Lasts, MovedRecord}
 use Rattle.kernel_tables.proofs.Records.{keeps_none, keeps_some, found_pid, shown_pid, changed_over}
@@ -41,16 +41,16 @@ now_of was regs out since = record was { regs = regs; out = out; since = since }
 pub moved_processes : (old new : List Record) (next pid : ℕ) (regs : Regs) (out : Bool) (since : ℕ) → MovedRecord old new pid regs out since
     → processes_of new next ≡ map (with_regs pid regs) (processes_of old next)
 moved_processes old new next pid regs out since m =
-    let changed_is : (p : Proc) → proc_of (find pid old) ≡ Some p → proc_of (find pid new) ≡ Some (with_regs pid regs p) = λ p h.
-    let is : proc_shown m.was ≡ p = same_Some (proc_shown m.was) p (sym (ap proc_of m.found) ∙ h) in
-    ap proc_of m.changes.changed
+    let changed_is : (p : Proc) → proc_of_record (find pid old) ≡ Some p → proc_of_record (find pid new) ≡ Some (with_regs pid regs p) = λ p h.
+    let is : proc_shown m.was ≡ p = same_Some (proc_shown m.was) p (sym (ap proc_of_record m.found) ∙ h) in
+    ap proc_of_record m.changes.changed
     ∙ ap (λ (b : Bool). Some (let z : Proc = cond b (record (proc_shown m.was) { regs = regs }) (proc_shown m.was) in z))
     (sym (ap (λ (n : ℕ). n == pid) (found_pid pid old m.was m.found) ∙ eq_self pid))
     ∙ ap (λ (q : Proc). Some (with_regs pid regs q)) is in
-    let gone : proc_of (find pid old) ≡ None → proc_of (find pid new) ≡ None = λ h. none_some (proc_shown m.was) (sym h ∙ ap proc_of m.found) in
-    let still : (n : ℕ) (p : Proc) → n ≢ pid → proc_of (find n old) ≡ Some p → with_regs pid regs p ≡ p = λ n p d h.
+    let gone : proc_of_record (find pid old) ≡ None → proc_of_record (find pid new) ≡ None = λ h. none_some (proc_shown m.was) (sym h ∙ ap proc_of_record m.found) in
+    let still : (n : ℕ) (p : Proc) → n ≢ pid → proc_of_record (find n old) ≡ Some p → with_regs pid regs p ≡ p = λ n p d h.
     ap (λ (b : Bool). let z : Proc = cond b (record p { regs = regs }) p in z) (ne_eqb p.pid pid (λ i. d (sym (shown_pid n old p h) ∙ i))) in
-    changed_over proc_of refl (with_regs pid regs) pid old new m.changes.others changed_is gone still (range_with_len 1 (next - 1))
+    changed_over proc_of_record refl (with_regs pid regs) pid old new m.changes.others changed_is gone still (range_with_len 1 (next - 1))
 
 -- Residents.
 
@@ -152,46 +152,46 @@ lasting p (lives.Zombie status) r e = none_some r e
 lasting p _ r e = tt
 
 out_over : (ns : List ℕ) (ps : List Record) (pid : ℕ) → (swapper.residence_of (filter_map (λ n. residence_of (find n ps)) ns) pid).out ≡ true
-    → IsOutThere ps pid (filter_map (λ n. proc_of (find n ps)) ns)
+    → IsOutThere ps pid (filter_map (λ n. proc_of_record (find n ps)) ns)
 out_over [] ps pid e = absurd cc
 out_over (n ∷ ns) ps pid e = go (find n ps) refl (λ k. out_over ns ps pid k)
   where
     procs : List Proc
-    procs = filter_map (λ k. proc_of (find k ps)) ns
+    procs = filter_map (λ k. proc_of_record (find k ps)) ns
 
     rs : List Residence
     rs = filter_map (λ k. residence_of (find k ps)) ns
 
     -- the next of another pid
-    later : (x : Record) → find n ps ≡ Some x → x.pid ≢ pid → IsOutThere ps pid procs → IsOutThere ps pid (filter_map (λ k. proc_of (find k ps)) (n ∷ ns))
+    later : (x : Record) → find n ps ≡ Some x → x.pid ≢ pid → IsOutThere ps pid procs → IsOutThere ps pid (filter_map (λ k. proc_of_record (find k ps)) (n ∷ ns))
     later x f d o = record {
       was = o.was;
       found = o.found;
       lasts = o.lasts;
-      kept = ap (numbered pid_of pid) (keeps_some (λ k. proc_of (find k ps)) n ns (proc_shown x) (ap proc_of f)) ∙ miss pid (proc_shown x) procs d ∙ o.kept;
+      kept = ap (numbered pid_of pid) (keeps_some (λ k. proc_of_record (find k ps)) n ns (proc_shown x) (ap proc_of_record f)) ∙ miss pid (proc_shown x) procs d ∙ o.kept;
     }
 
-    found : (x : Record) → find n ps ≡ Some x → x.pid ≡ pid → Lasts x.state → IsOutThere ps pid (filter_map (λ k. proc_of (find k ps)) (n ∷ ns))
+    found : (x : Record) → find n ps ≡ Some x → x.pid ≡ pid → Lasts x.state → IsOutThere ps pid (filter_map (λ k. proc_of_record (find k ps)) (n ∷ ns))
     found x f h l = record {
       was = x;
       found = ap (λ (k : ℕ). find k ps) (sym h ∙ found_pid n ps x f) ∙ f;
       lasts = l;
-      kept = ap (numbered pid_of pid) (keeps_some (λ k. proc_of (find k ps)) n ns (proc_shown x) (ap proc_of f)) ∙ hit pid (proc_shown x) procs h;
+      kept = ap (numbered pid_of pid) (keeps_some (λ k. proc_of_record (find k ps)) n ns (proc_shown x) (ap proc_of_record f)) ∙ hit pid (proc_shown x) procs h;
     }
 
     -- a record of the pid, after all
-    same : (x : Record) → find n ps ≡ Some x → x.pid ≡ pid → IsOutThere ps pid procs → IsOutThere ps pid (filter_map (λ k. proc_of (find k ps)) (n ∷ ns))
+    same : (x : Record) → find n ps ≡ Some x → x.pid ≡ pid → IsOutThere ps pid procs → IsOutThere ps pid (filter_map (λ k. proc_of_record (find k ps)) (n ∷ ns))
     same x f h o = found x f h (subst (λ (y : Record). Lasts y.state) (same_Some o.was x (sym o.found ∙ ap (λ (k : ℕ). find k ps) (sym h ∙ found_pid n ps x f) ∙ f)) o.lasts)
 
     behind : (x : Record) → find n ps ≡ Some x → (swapper.residence_of rs pid).out ≡ true → ((swapper.residence_of rs pid).out ≡ true → IsOutThere ps pid procs)
-        → IsOutThere ps pid (filter_map (λ k. proc_of (find k ps)) (n ∷ ns))
+        → IsOutThere ps pid (filter_map (λ k. proc_of_record (find k ps)) (n ∷ ns))
     behind x f k more = elim (cases_eq x.pid pid) [
       | inl h ↦ same x f h (more k)
       | inr d ↦ later x f d (more k)
     ]
 
     by : (x : Record) → find n ps ≡ Some x → (o : Option Residence) → residence_by x x.state ≡ o → ((swapper.residence_of rs pid).out ≡ true → IsOutThere ps pid procs)
-        → IsOutThere ps pid (filter_map (λ k. proc_of (find k ps)) (n ∷ ns))
+        → IsOutThere ps pid (filter_map (λ k. proc_of_record (find k ps)) (n ∷ ns))
     by x f None z more = behind x f (sym (ap (λ (l : List Residence). (swapper.residence_of l pid).out) (keeps_none (λ k. residence_of (find k ps)) n ns (ap residence_of f ∙ z))) ∙ e) more
     by x f (Some r) z more = elim (cases_eq r.pid pid) [
       | inl h ↦ found x f (sym (residence_pid x x.state r z) ∙ h) (lasting x x.state r z)
@@ -199,10 +199,10 @@ out_over (n ∷ ns) ps pid e = go (find n ps) refl (λ k. out_over ns ps pid k)
           ∙ sym (ap (λ (l : List Residence). (swapper.residence_of l pid).out) (keeps_some (λ k. residence_of (find k ps)) n ns r (ap residence_of f ∙ z))) ∙ e) more
     ]
 
-    go : (o : Option Record) → find n ps ≡ o → ((swapper.residence_of rs pid).out ≡ true → IsOutThere ps pid procs) → IsOutThere ps pid (filter_map (λ k. proc_of (find k ps)) (n ∷ ns))
+    go : (o : Option Record) → find n ps ≡ o → ((swapper.residence_of rs pid).out ≡ true → IsOutThere ps pid procs) → IsOutThere ps pid (filter_map (λ k. proc_of_record (find k ps)) (n ∷ ns))
     go None f more =
         let o : IsOutThere ps pid procs = more (sym (ap (λ (l : List Residence). (swapper.residence_of l pid).out) (keeps_none (λ k. residence_of (find k ps)) n ns (ap residence_of f))) ∙ e) in
-        record { was = o.was; found = o.found; lasts = o.lasts; kept = ap (numbered pid_of pid) (keeps_none (λ k. proc_of (find k ps)) n ns (ap proc_of f)) ∙ o.kept }
+        record { was = o.was; found = o.found; lasts = o.lasts; kept = ap (numbered pid_of pid) (keeps_none (λ k. proc_of_record (find k ps)) n ns (ap proc_of_record f)) ∙ o.kept }
     go (Some x) f more = by x f (residence_by x x.state) refl more
 
 pub out_there : (ps : List Record) (next pid : ℕ) → (swapper.residence_of (residents_of ps next) pid).out ≡ true → IsOutThere ps pid (processes_of ps next)

@@ -4,7 +4,7 @@ use Rattle.vm_facts.proofs.Tests.{eq_self}
 use Rattle.proc_table.specs.declared.process.Proc.{Proc as Record}
 use Rattle.proc_table.specs.declared.process.Life.{Life as RecordLife}
 use Rattle.proc_table.specs.declared.process.Life.TheVariants as lives
-use Rattle.proc_table.specs.Records.{find, Changes, IsTable}
+use Rattle.proc_table.specs.Records.{find, Changes, IsProcTable}
 use Rattle.kernel_tables.specs.declared.tables.Tables.{Tables}
 use Rattle.kernel_tables.specs.Families.{left_life, left_by, left_in}
 
@@ -27,5 +27,5 @@ left_orphan old new child parent p f i e alive c =
 pub record Leaving (t u : Tables) (pid last : ℕ) : Type 0 where
   pub left : (n : ℕ) → n ≤ last → find n u.processes ≡ left_in pid (find n t.processes)
   pub others : (n : ℕ) → last < n → find n u.processes ≡ find n t.processes
-  pub sound : IsTable u.processes
+  pub sound : IsProcTable u.processes
   pub rest : u ≡ record t { processes = u.processes }

@@ -10,8 +10,8 @@ use Rattle.vax_pte.specs.declared.Place.{Place}
 use Rattle.vax_pte.specs.declared.Place.TheVariants as places
 use Rattle.aout_image.specs.Image.{text_pages_of, IsSound as IsSoundImage}
 use Rattle.core_map.specs.declared.slot.Slot.{Slot as Token}
-use Rattle.core_map.specs.Slots.{slot_at, page_of as token_page}
-use Rattle.core_map.specs.Frames.{IsSound}
+use Rattle.core_map.specs.Slots.{slot_at, slot_page as token_page}
+use Rattle.core_map.specs.Frames.{IsSoundMap}
 use Rattle.space_map.specs.Space.{Places}
 use Rattle.page_model.specs.Pages.{Slot, Zeros, OfImage, SpacePages, numbered, data_in, stack_in}
 use Rattle.page_model.specs.Placement.{IsThere, space_number, state_of, filling_of}
@@ -128,7 +128,7 @@ held_first n (s ∷ ss) (suc f) q e one = go (holds_it (token_page s) q) refl (h
     go true h more = absurd (let j = one 0 (suc f) (held_is (token_page s) h) e in omega arith)
     go false h more = more ∙ ap (λ (m : ℕ). Some m) (omega arith)
 
-pub cached_found : (free : List ℕ) (ss : List Token) (f : ℕ) (q : Page) (v : ℕ) → IsSound free ss → token_page (slot_at ss f) ≡ Some q
+pub cached_found : (free : List ℕ) (ss : List Token) (f : ℕ) (q : Page) (v : ℕ) → IsSoundMap free ss → token_page (slot_at ss f) ≡ Some q
     → cached_place ss q v ≡ places.Frame f false false
 cached_found free ss f q v s e =
     let same : 0 + f ≡ f = omega arith in

@@ -5,7 +5,7 @@ use Rattle.std.proofs.lemmas.Bool.{cases_eq}
 use Rattle.std.proofs.lemmas.Option.{same_Some}
 use Rattle.vm_facts.specs.declared.regs.Regs.{Regs}
 use Rattle.proc_table.specs.declared.process.Proc.{Proc as Record}
-use Rattle.proc_table.specs.Records.{find, Changes, IsTable}
+use Rattle.proc_table.specs.Records.{find, Changes, IsProcTable}
 use Rattle.kernel_laws.proofs.Local.{none_some}
 use Rattle.kernel_tables.specs.Alike.{lends_to_by, lends_to, is_borrower_in, HoldsBorrowed, AreRecords}
 use Rattle.kernel_tables.specs.Families.{IsAlone}
@@ -33,7 +33,7 @@ Comes None q = IsAlone q
 Comes (Some p) q = StandsFor p q
 
 -- each record stands in the place of one that was there, and only those have gone that neither lend nor borrow
-module _ (old new : List Record) (next : ℕ) (h : AreRecords old next) (after : IsTable new)
+module _ (old new : List Record) (next : ℕ) (h : AreRecords old next) (after : IsProcTable new)
     (back : (k : ℕ) (p : Record) → find k new ≡ Some p → (q : Record) × (find k old ≡ Some q) × StandsFor p q)
     (forth : (k : ℕ) (q : Record) → find k old ≡ Some q → Comes (find k new) q) where
   forth_by : (k : ℕ) (q : Record) (o : Option Record) → find k new ≡ o → find k old ≡ Some q → Comes o q
@@ -74,7 +74,7 @@ module _ (old new : List Record) (next : ℕ) (h : AreRecords old next) (after :
 itself : (k : ℕ) (p : Record) (ps : List Record) (next : ℕ) → AreRecords ps next → find k ps ≡ Some p → StandsFor p p
 itself k p ps next h e = record { lends = λ n. refl; borrowed = refl; holds = h.holds k p e }
 
-pub changed_records : (old new : List Record) (next pid : ℕ) (was : Record) (found : Option Record) → IsTable new → find pid old ≡ Some was
+pub changed_records : (old new : List Record) (next pid : ℕ) (was : Record) (found : Option Record) → IsProcTable new → find pid old ≡ Some was
     → Changes old new pid found → Comes found was
     → AreRecords old next → AreRecords new next
 changed_records old new next pid was found b e c s h =
@@ -103,6 +103,6 @@ same_life old next pid was now h e s b = record {
 
 pub regs_records : (old new : List Record) (next pid : ℕ) (regs : Regs) (was : Record) → find pid old ≡ Some was
     → Changes old new pid (Some (record was { regs = regs }))
-    → IsTable new → AreRecords old next → AreRecords new next
+    → IsProcTable new → AreRecords old next → AreRecords new next
 regs_records old new next pid regs was e c b h =
     changed_records old new next pid was (Some (record was { regs = regs })) b e c (same_life old next pid was (record was { regs = regs }) h e refl refl) h

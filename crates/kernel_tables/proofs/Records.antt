@@ -13,7 +13,7 @@ use Rattle.proc_table.specs.Records.{find, Changes, ArePidsApart}
 use Rattle.kernel_model.specs.Kernel.{Proc}
 use Rattle.kernel_model.specs.ChangeStep.{with_proc}
 use Rattle.vm_facts.proofs.Tests.{eq_self}
-use Rattle.kernel_tables.specs.Machine.{proc_shown, proc_of, processes_of, residence_by, residence_of, residents_of}
+use Rattle.kernel_tables.specs.Machine.{proc_shown, proc_of_record, processes_of, residence_by, residence_of, residents_of}
 
 pub keeps_none : {A B : Type 0} (h : A → Option B) (x : A) (xs : List A) → h x ≡ None → filter_map h (x ∷ xs) ≡ filter_map h xs
 keeps_none h x xs e = rw e refl
@@ -37,10 +37,10 @@ found_pid n (q ∷ qs) p e = elim (cases_eq q.pid n) [
   | inr d ↦ found_pid n qs p (sym (find_miss n q qs d) ∙ e)
 ]
 
-pub shown_pid : (n : ℕ) (ps : List Record) (p : Proc) → proc_of (find n ps) ≡ Some p → p.pid ≡ n
+pub shown_pid : (n : ℕ) (ps : List Record) (p : Proc) → proc_of_record (find n ps) ≡ Some p → p.pid ≡ n
 shown_pid n ps p h = go (find n ps) refl h
   where
-    go : (o : Option Record) → find n ps ≡ o → proc_of o ≡ Some p → p.pid ≡ n
+    go : (o : Option Record) → find n ps ≡ o → proc_of_record o ≡ Some p → p.pid ≡ n
     go None e k = absurd cc
     go (Some x) e k = ap (λ (q : Proc). q.pid) (sym (same_Some (proc_shown x) p k)) ∙ found_pid n ps x e
 
@@ -79,12 +79,12 @@ pub set_is : (old new : List Record) (p was : Record) (next : ℕ) → Changes o
     → processes_of new next ≡ with_proc (processes_of old next) (proc_shown p)
 set_is old new p was next c e =
     let step : Proc → Proc = λ q. cond (q.pid == p.pid) (proc_shown p) q in
-    let changed : (q : Proc) → proc_of (find p.pid old) ≡ Some q → proc_of (find p.pid new) ≡ Some (step q) = λ q h.
-    ap proc_of c.changed ∙ ap (λ (b : Bool). Some (let z : Proc = cond b (proc_shown p) q in z)) (sym (ap (λ (n : ℕ). n == p.pid) (shown_pid p.pid old q h) ∙ eq_self p.pid)) in
-    let gone : proc_of (find p.pid old) ≡ None → proc_of (find p.pid new) ≡ None = λ h. absurd (let x : Some (proc_shown was) ≡ None = sym (ap proc_of e) ∙ h in cc) in
-    let still : (n : ℕ) (q : Proc) → n ≢ p.pid → proc_of (find n old) ≡ Some q → step q ≡ q = λ n q d h.
+    let changed : (q : Proc) → proc_of_record (find p.pid old) ≡ Some q → proc_of_record (find p.pid new) ≡ Some (step q) = λ q h.
+    ap proc_of_record c.changed ∙ ap (λ (b : Bool). Some (let z : Proc = cond b (proc_shown p) q in z)) (sym (ap (λ (n : ℕ). n == p.pid) (shown_pid p.pid old q h) ∙ eq_self p.pid)) in
+    let gone : proc_of_record (find p.pid old) ≡ None → proc_of_record (find p.pid new) ≡ None = λ h. absurd (let x : Some (proc_shown was) ≡ None = sym (ap proc_of_record e) ∙ h in cc) in
+    let still : (n : ℕ) (q : Proc) → n ≢ p.pid → proc_of_record (find n old) ≡ Some q → step q ≡ q = λ n q d h.
     ap (λ (b : Bool). let z : Proc = cond b (proc_shown p) q in z) (ne_eqb q.pid p.pid (λ i. d (sym (shown_pid n old q h) ∙ i))) in
-    changed_over proc_of refl step p.pid old new c.others changed gone still (range_with_len 1 (next - 1))
+    changed_over proc_of_record refl step p.pid old new c.others changed gone still (range_with_len 1 (next - 1))
 
 -- Other registers of a process.
 
@@ -92,15 +92,15 @@ pub regs_are : (old new : List Record) (pid : ℕ) (regs : Regs) (was : Record) 
     → Changes old new pid (Some (record was { regs = regs }))
     → processes_of new next ≡ map (λ (q : Proc). cond (q.pid == pid) (record q { regs = regs }) q) (processes_of old next)
 regs_are old new pid regs was next e c =
-    let changed : (p : Proc) → proc_of (find pid old) ≡ Some p → proc_of (find pid new) ≡ Some (cond (p.pid == pid) (record p { regs = regs }) p) = λ p h.
-    let is : proc_shown was ≡ p = same_Some (proc_shown was) p (sym (ap proc_of e) ∙ h) in
-    ap proc_of c.changed
+    let changed : (p : Proc) → proc_of_record (find pid old) ≡ Some p → proc_of_record (find pid new) ≡ Some (cond (p.pid == pid) (record p { regs = regs }) p) = λ p h.
+    let is : proc_shown was ≡ p = same_Some (proc_shown was) p (sym (ap proc_of_record e) ∙ h) in
+    ap proc_of_record c.changed
     ∙ ap (λ (b : Bool). Some (let z : Proc = cond b (record (proc_shown was) { regs = regs }) (proc_shown was) in z)) (sym (ap (λ (n : ℕ). n == pid) (found_pid pid old was e) ∙ eq_self pid))
     ∙ ap (λ (q : Proc). Some (let z : Proc = cond (q.pid == pid) (record q { regs = regs }) q in z)) is in
-    let gone : proc_of (find pid old) ≡ None → proc_of (find pid new) ≡ None = λ h. absurd (let x : Some (proc_shown was) ≡ None = sym (ap proc_of e) ∙ h in cc) in
-    let still : (n : ℕ) (p : Proc) → n ≢ pid → proc_of (find n old) ≡ Some p → (let z : Proc = cond (p.pid == pid) (record p { regs = regs }) p in z) ≡ p = λ n p d h.
+    let gone : proc_of_record (find pid old) ≡ None → proc_of_record (find pid new) ≡ None = λ h. absurd (let x : Some (proc_shown was) ≡ None = sym (ap proc_of_record e) ∙ h in cc) in
+    let still : (n : ℕ) (p : Proc) → n ≢ pid → proc_of_record (find n old) ≡ Some p → (let z : Proc = cond (p.pid == pid) (record p { regs = regs }) p in z) ≡ p = λ n p d h.
     ap (λ (b : Bool). let z : Proc = cond b (record p { regs = regs }) p in z) (ne_eqb p.pid pid (λ i. d (sym (shown_pid n old p h) ∙ i))) in
-    changed_over proc_of refl (λ q. cond (q.pid == pid) (record q { regs = regs }) q) pid old new c.others changed gone still (range_with_len 1 (next - 1))
+    changed_over proc_of_record refl (λ q. cond (q.pid == pid) (record q { regs = regs }) q) pid old new c.others changed gone still (range_with_len 1 (next - 1))
 
 residence_regs : (p : Record) (regs : Regs) (l : Life) → residence_by (record p { regs = regs }) l ≡ residence_by p l
 residence_regs p regs lives.New = refl

@@ -6,9 +6,9 @@ use Rattle.frame_state.specs.Frame.{Frame}
 use Rattle.core_map.specs.declared.slot.Slot.{Slot as Token}
 use Rattle.core_map.specs.declared.slot.Slot.TheVariants as tokens
 use Rattle.core_map.specs.declared.slot.Whose.TheVariants as owners
-use Rattle.core_map.specs.Slots.{slot_at, page_of, is_free, token_of, with_dirty, owner_of, listings}
+use Rattle.core_map.specs.Slots.{slot_at, slot_page, is_free, token_of, with_dirty, slot_owner, listings}
 use Rattle.vm_facts.specs.Lists.{times, without}
-use Rattle.core_map.specs.Frames.{IsSound}
+use Rattle.core_map.specs.Frames.{IsSoundMap}
 use Rattle.kernel_laws.proofs.Local.{none_some}
 use Rattle.vm_facts.proofs.Lists.{without_absent}
 use Rattle.kernel_tables.specs.Steps.{revived}
@@ -18,8 +18,8 @@ free_is : (s : Token) (q : Page) (c : Bool) → IsTrue (is_free s) → tokens.Re
 free_is (tokens.Free token page) q c h = refl
 free_is _ q c h = absurd cc
 
-pub below_held : (slots : List Token) (f : ℕ) (q : Page) → page_of (slot_at slots f) ≡ Some q → f < length slots
-below_held slots f q e = below_length slots f (λ n. none_some q (sym (ap page_of n) ∙ e))
+pub below_held : (slots : List Token) (f : ℕ) (q : Page) → slot_page (slot_at slots f) ≡ Some q → f < length slots
+below_held slots f q e = below_length slots f (λ n. none_some q (sym (ap slot_page n) ∙ e))
 
 pub revive_slots : (old one two three : List Token) (f : ℕ) (token : Frame) (q : Page) (c : Bool) → f < length old → IsTrue (is_free (slot_at old f))
     → token ≡ token_of (slot_at old f) → token.number ≡ f → one ≡ set old f tokens.Away
@@ -37,13 +37,13 @@ pub record Stays (free : List ℕ) (slots : List Token) (f : ℕ) (q : Page) (c 
   pub free_stays : free ≡ without f free
   pub slots_stay : slots ≡ set slots f (revived (slot_at slots f) q c)
 
-pub revive_stays : (free : List ℕ) (slots : List Token) (f : ℕ) (q : Page) (c : Bool) → IsSound free slots → page_of (slot_at slots f) ≡ Some q
-    → ((p : Option Page) → owner_of (slot_at slots f) ≢ owners.Free p) → Stays free slots f q c
+pub revive_stays : (free : List ℕ) (slots : List Token) (f : ℕ) (q : Page) (c : Bool) → IsSoundMap free slots → slot_page (slot_at slots f) ≡ Some q
+    → ((p : Option Page) → slot_owner (slot_at slots f) ≢ owners.Free p) → Stays free slots f q c
 revive_stays free slots f q c so e n = go (slot_at slots f) refl
   where
     go : (s : Token) → slot_at slots f ≡ s → Stays free slots f q c
-    go (tokens.Free token page) h = absurd (n page (ap owner_of h))
-    go tokens.Away h = none_some q (sym (ap page_of h) ∙ e)
+    go (tokens.Free token page) h = absurd (n page (ap slot_owner h))
+    go tokens.Away h = none_some q (sym (ap slot_page h) ∙ e)
     go (tokens.Resident token page dirty) h =
         let z : times f free ≡ 0 = so.listed f ∙ ap listings h in
         record {

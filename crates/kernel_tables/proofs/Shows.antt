@@ -15,7 +15,7 @@ use Rattle.aout_image.specs.Image.{text_pages_of}
 use Rattle.core_map.specs.declared.slot.Slot.{Slot as Token}
 use Rattle.core_map.specs.Slots.{slot_at}
 use Rattle.space_map.specs.Space.{Places}
-use Rattle.text_table.specs.Texts.{is_saved, text_of}
+use Rattle.text_table.specs.Texts.{is_saved, text_numbered}
 use Rattle.page_model.specs.Frames.{set_frame}
 use Rattle.page_model.specs.Pages.{Slot, Zeros, no_slot, SpacePages, TextPages, numbered, changed, with_data, with_stack, with_text, data_in, stack_in, text_in, frame_of, filling_behind}
 use Rattle.page_model.specs.Placement.{Placement, space_number, image_number, slots_of, slot_of, state_of, IsThere, put}
@@ -131,7 +131,7 @@ pub record Moved (t u : Lists) (E : Page → Type 0) (f : ℕ) : Type 0 where
   pub entries : (w : Page) → E w → entry_in u.spaces w ≡ entry_in t.spaces w
   pub apart : (w : Page) → E w → frame_of (state_of (placement_of t) w) ≢ Some f
   pub cached : (image v : ℕ) → E (Text image v) → frame_holding u.slots (Text image v) ≡ frame_holding t.slots (Text image v)
-  pub saved : (image v : ℕ) → E (Text image v) → 1 ≤ image → is_saved (text_of u.texts image) v ≡ is_saved (text_of t.texts image) v
+  pub saved : (image v : ℕ) → E (Text image v) → 1 ≤ image → is_saved (text_numbered u.texts image) v ≡ is_saved (text_numbered t.texts image) v
   pub facts : u.facts ≡ t.facts
 
 pub head_sids : (ss rs : List Places) → map head_of ss ≡ map head_of rs → sids_of ss ≡ sids_of rs
@@ -259,9 +259,9 @@ other_slots t u E f m (Text i v) d = elim (within_or_past v (pages_in 1 i t.fact
       let same : text_place u.spaces u.slots (Text i v) v ≡ text_place t.spaces t.slots (Text i v) v =
       ap (λ (o : Option Place). text_place_by o u.slots (Text i v) v) (m.entries (Text i v) d) ∙ place (entry_in t.spaces (Text i v)) in
       text_at u i v (subst (λ (fs : List Image). v < pages_in 1 i fs) (sym m.facts) l)
-      ∙ ap (λ (x : Place). text_shown u.slots (is_saved (text_of u.texts i) v) x) same
+      ∙ ap (λ (x : Place). text_shown u.slots (is_saved (text_numbered u.texts i) v) x) same
       ∙ ap (λ (b : Bool). text_shown u.slots b (text_place t.spaces t.slots (Text i v) v)) (m.saved i v d (let h = pages_low 1 i t.facts (omega arith) in h.0))
-      ∙ ap (λ (y : PageState). let z : Slot = record { state = y; mark = is_saved (text_of t.texts i) v; filling = Zeros } in z)
+      ∙ ap (λ (y : PageState). let z : Slot = record { state = y; mark = is_saved (text_numbered t.texts i) v; filling = Zeros } in z)
       (same_shown t.slots u.slots f (text_place t.spaces t.slots (Text i v) v) m.slots (λ e. m.apart (Text i v) d (ap (λ (x : Slot). frame_of x.state) was ∙ e)))
       ∙ sym was
   | inr l ↦ text_past u i v (subst (λ (fs : List Image). pages_in 1 i fs ≤ v) (sym m.facts) l) ∙ sym (text_past t i v l)

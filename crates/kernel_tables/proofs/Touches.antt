@@ -12,7 +12,7 @@ use Rattle.vax_pte.specs.declared.Place.TheVariants as places
 use Rattle.frame_state.specs.Frame.{Frame}
 use Rattle.core_map.specs.declared.slot.Slot.{Slot as Token}
 use Rattle.core_map.specs.declared.slot.Slot.TheVariants as tokens
-use Rattle.core_map.specs.Slots.{slot_at, page_of as token_page, listings}
+use Rattle.core_map.specs.Slots.{slot_at, slot_page as token_page, listings}
 use Rattle.page_model.specs.Frames.{set_frame, at_frame}
 use Rattle.vm_facts.specs.Lists.{times}
 use Rattle.page_model.specs.Pages.{Zeros, frame_of}

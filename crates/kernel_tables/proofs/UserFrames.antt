@@ -13,7 +13,7 @@ use Rattle.aout_image.specs.declared.Image.{Image}
 use Rattle.aout_image.specs.Image.{text_pages_of}
 use Rattle.core_map.specs.declared.slot.Slot.{Slot as Token}
 use Rattle.core_map.specs.Slots.{slot_at, is_resident, token_of, IsWhole}
-use Rattle.core_map.specs.Frames.{IsSound}
+use Rattle.core_map.specs.Frames.{IsSoundMap}
 use Rattle.space_map.specs.Space.{Places, place_in, entry_frame}
 use Rattle.flat_state.specs.Numbers.{IsAbsent, AllDistinct}
 use Rattle.page_model.specs.Pages.{Slot, SpacePages, numbered, no_slot, data_in, stack_in}
@@ -36,7 +36,7 @@ use Rattle.kernel_tables.proofs.Held.{bytes_at, flown_numbers}
 use Rattle.kernel_tables.proofs.Touches.{in_frame}
 use Rattle.kernel_tables.proofs.Marks.{within}
 
-pub known_by : (t : Tables) (j : List Entry) (b : Bool) → IsSound t.core.free t.core.slots → Stands t j b → Known (lists_of t)
+pub known_by : (t : Tables) (j : List Entry) (b : Bool) → IsSoundMap t.core.free t.core.slots → Stands t j b → Known (lists_of t)
 known_by t j b c s = record {
   core = c;
   owns = s.runs.sound.owner.frames;

@@ -5,7 +5,7 @@ use Rattle.vm_facts.specs.declared.page.Page.{Page}
 use Rattle.frame_state.specs.Frame.{Frame}
 use Rattle.core_map.specs.declared.slot.Slot.{Slot as Token}
 use Rattle.core_map.specs.declared.slot.Slot.TheVariants as tokens
-use Rattle.core_map.specs.Slots.{slot_at, page_of}
+use Rattle.core_map.specs.Slots.{slot_at, slot_page}
 use Rattle.space_map.specs.Space.{Places}
 use Rattle.page_model.specs.Frames.{set_frame}
 use Rattle.flat_state.specs.PageNames.{same_page}
@@ -21,7 +21,7 @@ use Rattle.kernel_tables.specs.declared.fill.DueFill.{DueFill}
 use Rattle.kernel_tables.specs.declared.fill.DueFill.TheVariants as fills
 use Rattle.kernel_tables.specs.View.{Lists, flown_at, bytes_by, due_shown, starts_of, placement_of, frames_of}
 use Rattle.kernel_tables.specs.Due.{first_bytes, IsFirstStart, DueOnce}
-use Rattle.kernel_tables.specs.Steps.{taken, seated}
+use Rattle.kernel_tables.specs.Steps.{taken, seated_in}
 use Rattle.kernel_tables.specs.Moves.{TookFrame, SeatedPage, FinishedFill}
 use Rattle.kernel_tables.specs.Machine.{lists_of}
 use Rattle.kernel_tables.specs.Known.{Known}
@@ -64,13 +64,13 @@ starts_first (fills.Start r bytes ∷ ds) q o h =
 -- The lists.
 
 pub took_lists : (t u : Tables) (token : Frame) → TookFrame t u token
-    → lists_of u ≡ taken (lists_of t) token.number (page_of (slot_at t.core.slots token.number)) u.core.free
+    → lists_of u ≡ taken (lists_of t) token.number (slot_page (slot_at t.core.slots token.number)) u.core.free
 took_lists t u token k =
     ap lists_of k.rest
     ∙ ap (λ (ss : List Token). record (lists_of t) { slots = ss; free = u.core.free; spaces = u.spaces }) k.slots
     ∙ ap (λ (ss : List Places). record (lists_of t) { slots = set t.core.slots token.number tokens.Away; free = u.core.free; spaces = ss }) k.spaces
 
-pub seated_lists : (t u : Tables) (token : Frame) (q : Page) (dirty : Bool) → SeatedPage t u token q dirty → lists_of u ≡ seated (lists_of t) token q dirty
+pub seated_lists : (t u : Tables) (token : Frame) (q : Page) (dirty : Bool) → SeatedPage t u token q dirty → lists_of u ≡ seated_in (lists_of t) token q dirty
 seated_lists t u token q dirty k =
     ap lists_of k.rest
     ∙ ap (λ (ss : List Token). record (lists_of t) { slots = ss; free = u.core.free; spaces = u.spaces }) k.slots
@@ -95,14 +95,14 @@ pub record Zeroing (t u v w : Tables) (token filling : Frame) (q : Page) : Type 
 
 -- the lists after the step
 abbrev pub zeroed : Lists → ℕ → Option Page → List ℕ → Frame → Page → Lists
-zeroed t f page rest filling q = record (seated (taken t f page rest) filling q true) { fills = drop 1 t.fills }
+zeroed t f page rest filling q = record (seated_in (taken t f page rest) filling q true) { fills = drop 1 t.fills }
 
 pub zeroing_lists : (t u v w : Tables) (token filling : Frame) (q : Page) → Zeroing t u v w token filling q
-    → lists_of w ≡ zeroed (lists_of t) token.number (page_of (slot_at t.core.slots token.number)) u.core.free filling q
+    → lists_of w ≡ zeroed (lists_of t) token.number (slot_page (slot_at t.core.slots token.number)) u.core.free filling q
 zeroing_lists t u v w token filling q z =
     finished_lists v w z.finish
     ∙ ap (λ (ds : List DueFill). record (lists_of v) { fills = drop 1 ds }) (ap (λ (x : Tables). x.fills.items) z.seat.rest ∙ ap (λ (x : Tables). x.fills.items) z.took.rest)
-    ∙ ap (λ (l : Lists). record l { fills = drop 1 t.fills.items }) (seated_lists u v filling q true z.seat ∙ ap (λ (l : Lists). seated l filling q true) (took_lists t u token z.took))
+    ∙ ap (λ (l : Lists). record l { fills = drop 1 t.fills.items }) (seated_lists u v filling q true z.seat ∙ ap (λ (l : Lists). seated_in l filling q true) (took_lists t u token z.took))
 
 pub zero_place : (t : Lists) (f : ℕ) (token filling : Frame) (page : Option Page) (rest : List ℕ) (q : Page) → Known t → Head t f token page rest
     → filling.number ≡ f → IsWritable q

@@ -4,9 +4,9 @@ use Rattle.std.specs.List.{range_with_len}
 use Rattle.vm_facts.specs.declared.page.Page.TheVariants.{Text}
 use Rattle.vax_pte.specs.declared.Place.{Place}
 use Rattle.vax_pte.specs.declared.Place.TheVariants as places
-use Rattle.aout_image.specs.Image.{text_pages_of, data_pages_of}
+use Rattle.aout_image.specs.Image.{text_pages_of, image_data_pages}
 use Rattle.space_map.specs.Space.{Places}
-use Rattle.text_table.specs.Texts.{IsTable, text_of, with_text, entered, Text as SharedText}
+use Rattle.text_table.specs.Texts.{IsTextTable, text_numbered, table_with_text, entered, Text as SharedText}
 use Rattle.flat_state.specs.Numbers.{AllBelow}
 use Rattle.kernel_tables.specs.declared.fill.DueFill.{DueFill}
 use Rattle.kernel_tables.specs.declared.tables.Tables.{Tables}
@@ -25,7 +25,7 @@ with_text_places t s = record s { text = text_places t s.image (text_pages_of s.
 
 -- one more shares the text of an image
 abbrev pub entered_texts : List SharedText → ℕ → List SharedText
-entered_texts texts image = with_text texts image (entered (text_of texts image))
+entered_texts texts image = table_with_text texts image (entered (text_numbered texts image))
 
 -- it stands last, and shares the text of its image; and these fills are due
 abbrev pub with_space : Lists → Places → List DueFill → Lists
@@ -43,13 +43,13 @@ pub record IsNewSpace (t : Lists) (s : Places) : Type 0 where
   pub above : AllBelow s.sid (sids_of t.spaces)
   pub facts_are : facts_in 1 s.image t.facts ≡ Some s.facts
   pub few : HasFewPages s
-  pub fresh_data : (v : ℕ) (x : Place) → slice_get s.data v ≡ Some x → IsFresh (data_pages_of s.facts) v x
+  pub fresh_data : (v : ℕ) (x : Place) → slice_get s.data v ≡ Some x → IsFresh (image_data_pages s.facts) v x
   pub fresh_stack : (v : ℕ) (x : Place) → slice_get s.stack v ≡ Some x → x ≡ places.Zero
 
 -- it is there, with the places of its text, and the next space has the next number
 pub record AddedSpace (t u : Tables) (s : Places) : Type 0 where
   pub spaces : u.spaces ≡ t.spaces ++ with_text_places (lists_of t) s ∷ []
-  pub table : IsTable t.texts
+  pub table : IsTextTable t.texts
   pub texts : u.texts ≡ entered_texts t.texts s.image
   pub number : u.next_sid ≡ t.next_sid + 1
   pub rest : u ≡ record t { spaces = u.spaces; texts = u.texts; next_sid = u.next_sid }

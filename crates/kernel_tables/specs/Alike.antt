@@ -6,12 +6,12 @@ use Rattle.vm_facts.specs.declared.page.Page.TheVariants.{Data, Stack, Text}
 use Rattle.vax_pte.specs.declared.Place.{Place}
 use Rattle.vax_pte.specs.declared.Place.TheVariants as places
 use Rattle.aout_image.specs.declared.Image.{Image}
-use Rattle.aout_image.specs.Image.{data_pages_of}
+use Rattle.aout_image.specs.Image.{image_data_pages}
 use Rattle.space_map.specs.Space.{Places, place_in}
 use Rattle.proc_table.specs.declared.process.Proc.{Proc as Record}
 use Rattle.proc_table.specs.declared.process.Life.{Life as RecordLife}
 use Rattle.proc_table.specs.declared.process.Life.TheVariants as lives
-use Rattle.proc_table.specs.Records.{find, IsTable}
+use Rattle.proc_table.specs.Records.{find, IsProcTable}
 use Rattle.kernel_tables.specs.Shown.{entry_in}
 
 -- something is so of each of these spaces
@@ -29,7 +29,7 @@ AreAlike ss = EachSpace (IsLikeFirst ss) ss
 
 -- what is to be filled from the image's file: text, or a data page that the image has, each with its own page
 abbrev pub IsFilledAt : Places → Page → ℕ → Type 0
-IsFilledAt s (Data sid v) w = (w ≡ v) × (v < data_pages_of s.facts)
+IsFilledAt s (Data sid v) w = (w ≡ v) × (v < image_data_pages s.facts)
 IsFilledAt s (Stack sid v) w = ⊥
 IsFilledAt s (Text image v) w = w ≡ v
 
@@ -75,7 +75,7 @@ HoldsBorrowed _ = ⊥
 -- lends it a space, and none is where there is no record; one lends it at most; and who borrowed a space holds it, or
 -- lends it in turn.
 pub record AreRecords (ps : List Record) (next : ℕ) : Type 0 where
-  pub table : IsTable ps
+  pub table : IsProcTable ps
   pub first : 1 ≤ next
   pub known : (pid : ℕ) (p : Record) → find pid ps ≡ Some p → (1 ≤ pid) × (pid < next)
   pub marked : (pid : ℕ) → is_borrower_in (find pid ps) ≡ list_any (lends_to pid) ps

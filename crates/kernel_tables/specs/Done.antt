@@ -75,14 +75,14 @@ SpoilsAll k image (x ∷ xs) after =
     ⊎ SpoilsAll k (store_at image (block_of k.holdings x.page) (frame_bytes k x.frame)) xs after
 
 -- what a write that failed leaves of the image: the oldest transfer is that write
-abbrev pub SpoilsBy : Kernel → List ℕ → List Transfer → List ℕ → Type 0
-SpoilsBy k image [] after = ⊥
-SpoilsBy k image (t ∷ ts) after = (t.errand ≡ Writes) × SpoilsAll k image t.parts after
+abbrev pub SpoilsFirst : Kernel → List ℕ → List Transfer → List ℕ → Type 0
+SpoilsFirst k image [] after = ⊥
+SpoilsFirst k image (t ∷ ts) after = (t.errand ≡ Writes) × SpoilsAll k image t.parts after
 
 -- the swap image, where it is told, after the oldest transfer's write failed
 abbrev pub SpoilsAfter : Kernel → Option (List ℕ) → Option (List ℕ) → Type 0
 SpoilsAfter k None after = after ≡ None
-SpoilsAfter k (Some image) after = (spoiled : List ℕ) × (after ≡ Some spoiled) × SpoilsBy k image k.place.transfers spoiled
+SpoilsAfter k (Some image) after = (spoiled : List ℕ) × (after ≡ Some spoiled) × SpoilsFirst k image k.place.transfers spoiled
 
 -- what the oldest transfer is for
 abbrev pub IsReadFrom : Source → Errand → Type 0

@@ -3,7 +3,7 @@ use Rattle.std.specs.Prelude.{◌≡◌, ◌≢◌, ℕ, ◌==◌, Bool, true, f
 use Rattle.proc_table.specs.declared.process.Proc.{Proc as Record}
 use Rattle.proc_table.specs.declared.process.Life.{Life as RecordLife}
 use Rattle.proc_table.specs.declared.process.Life.TheVariants as lives
-use Rattle.proc_table.specs.Records.{find, IsTable}
+use Rattle.proc_table.specs.Records.{find, IsProcTable}
 use Rattle.kernel_tables.specs.declared.tables.Tables.{Tables}
 use Rattle.page_model.specs.Placement.{Residence}
 use Rattle.kernel_model.specs.ChangeStep.{left_procs}
@@ -31,7 +31,7 @@ left_in parent (Some p) = left_by (p.parent == parent) p
 -- the zombie children of a process that ends are gone, and its other children have no parent
 pub record LeftChildren (t u : Tables) (pid : ℕ) : Type 0 where
   pub left : (n : ℕ) → find n u.processes ≡ left_in pid (find n t.processes)
-  pub sound : IsTable u.processes
+  pub sound : IsProcTable u.processes
   pub rest : u ≡ record t { processes = u.processes }
 
 -- a record that neither lends nor borrows
@@ -50,5 +50,5 @@ pub record HasPassed (t u : Tables) (from to : ℕ) (giver taker : Record) : Typ
   pub gives : find from u.processes ≡ Some giver
   pub takes : find to u.processes ≡ Some taker
   pub others : (n : ℕ) → n ≢ from → n ≢ to → find n u.processes ≡ find n t.processes
-  pub sound : IsTable u.processes
+  pub sound : IsProcTable u.processes
   pub rest : u ≡ record t { processes = u.processes }

@@ -4,7 +4,7 @@ use Rattle.vm_facts.specs.declared.page.Page.{Page}
 use Rattle.vax_pte.specs.declared.Place.{Place}
 use Rattle.vax_pte.specs.declared.Place.TheVariants as places
 use Rattle.core_map.specs.declared.slot.Slot.{Slot as Token}
-use Rattle.core_map.specs.Slots.{page_of}
+use Rattle.core_map.specs.Slots.{slot_page}
 use Rattle.flat_state.specs.PageNames.{same_page}
 
 -- what a frame holds is this page
@@ -15,7 +15,7 @@ holds_it (Some r) q = same_page r q
 -- the first of the slots from number n on that has the page
 abbrev pub found_from : ℕ → List Token → Page → Option ℕ
 found_from n [] q = None
-found_from n (s ∷ ss) q = cond (holds_it (page_of s) q) (Some n) (found_from (n + 1) ss q)
+found_from n (s ∷ ss) q = cond (holds_it (slot_page s) q) (Some n) (found_from (n + 1) ss q)
 
 -- the frame that holds the page, free or not, by the core map; none where no frame does
 abbrev pub frame_holding : List Token → Page → Option ℕ

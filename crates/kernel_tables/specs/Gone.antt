@@ -11,7 +11,7 @@ use Rattle.space_map.specs.Space.{Places}
 use Rattle.page_model.specs.Owner.TheVariants as owners
 use Rattle.page_model.specs.Holdings.{Holdings, kept}
 use Rattle.page_model.specs.Book.{with_holdings}
-use Rattle.text_table.specs.Texts.{text_of, with_text, left}
+use Rattle.text_table.specs.Texts.{text_numbered, table_with_text, left}
 use Rattle.page_model.specs.Pages.{numbered}
 use Rattle.kernel_tables.specs.declared.tables.Tables.{Tables}
 use Rattle.kernel_tables.specs.Found.{frame_holding}
@@ -62,6 +62,6 @@ text_left_by (Some s) hs image = hs
 pub record LeftText (t u : Tables) (image n : ℕ) : Type 0 where
   pub whole : HasWholeText t.spaces image
   pub core : u.core ≡ left_by (sharing t.spaces image) t.core image n
-  pub texts : u.texts ≡ with_text t.texts image (left (text_of t.texts image))
+  pub texts : u.texts ≡ table_with_text t.texts image (left (text_numbered t.texts image))
   pub book : u.book ≡ with_holdings t.book (text_left_by (sharing t.spaces image) t.book.holdings image)
   pub rest : u ≡ record t { core = u.core; texts = u.texts; book = u.book }

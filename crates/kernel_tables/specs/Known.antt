@@ -1,7 +1,7 @@
 -- What is known of the tables of a machine that runs, also within a call that begins a read.
 use Rattle.std.specs.Prelude.{◌≡◌, ℕ, ◌≤◌, map, length}
 use Rattle.vm_facts.specs.declared.page.Page.{Page}
-use Rattle.core_map.specs.Frames.{IsSound}
+use Rattle.core_map.specs.Frames.{IsSoundMap}
 use Rattle.flat_state.specs.PageNames.{pages_from}
 use Rattle.page_model.specs.Placement.{parts_of, flying}
 use Rattle.page_model.specs.Ownership.{OwnsFrames, TextAside}
@@ -13,7 +13,7 @@ use Rattle.kernel_tables.specs.Rising.{sids_of}
 
 -- each frame has one owner, text that nobody shares is aside, no two spaces have one number, and the tables are tied
 pub record Known (t : Lists) : Type 0 where
-  pub core : IsSound t.free t.slots
+  pub core : IsSoundMap t.free t.slots
   pub owns : OwnsFrames (placement_of t)
   pub aside : TextAside (placement_of t)
   pub tied : Tied t

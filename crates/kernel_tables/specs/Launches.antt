@@ -82,7 +82,7 @@ pub record MayRetire (p : Placement) (q : Page) : Type 0 where
   pub clean : is_marked_dirty q (mark_of p q) ≡ false
 
 -- pages of a run that are written at once
-pub record MayWrite (p : Placement) (q : Page) (lo n : ℕ) : Type 0 where
+pub record MayWriteRun (p : Placement) (q : Page) (lo n : ℕ) : Type 0 where
   pub seats : EachPage (HasSeat p) (pages_from q lo n)
   pub dirty : EachPage (λ r. is_dirty p r ≡ true) (pages_from q lo n)
   pub most : n ≤ 16
@@ -93,7 +93,7 @@ pub record MayWrite (p : Placement) (q : Page) (lo n : ℕ) : Type 0 where
 -- what this asks: a run that may be written, or a clean page in a frame off the free list
 abbrev pub MayPutOut : Placement → Page → ℕ → ℕ → Type 0
 MayPutOut p q lo zero = MayRetire p q
-MayPutOut p q lo (suc m) = MayWrite p q lo (suc m)
+MayPutOut p q lo (suc m) = MayWriteRun p q lo (suc m)
 
 -- the placement that this leaves
 abbrev pub put_out : Placement → Page → ℕ → ℕ → Placement

@@ -40,9 +40,9 @@ residence_by p (lives.Zombie status) = None
 residence_by p life = Some (let r : Residence = record { pid = p.pid; out = p.out; since = p.since } in r)
 
 -- the process that a record stands for, if there is a record
-abbrev pub proc_of : Option Record → Option Proc
-proc_of None = None
-proc_of (Some p) = Some (proc_shown p)
+abbrev pub proc_of_record : Option Record → Option Proc
+proc_of_record None = None
+proc_of_record (Some p) = Some (proc_shown p)
 
 -- whether the process of a record is in or out, if there is a record
 abbrev pub residence_of : Option Record → Option Residence
@@ -51,7 +51,7 @@ residence_of (Some p) = residence_by p p.state
 
 -- the processes that have records, of all numbers below the next one
 abbrev pub processes_of : List Record → ℕ → List Proc
-processes_of ps next = filter_map (λ pid. proc_of (find pid ps)) (range_with_len 1 (next - 1))
+processes_of ps next = filter_map (λ pid. proc_of_record (find pid ps)) (range_with_len 1 (next - 1))
 
 -- who of these is in or out, and since when
 abbrev pub residents_of : List Record → ℕ → List Residence

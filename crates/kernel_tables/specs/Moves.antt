@@ -15,14 +15,14 @@ use Rattle.kernel_tables.specs.Machine.{lists_of, images_of, image_at}
 use Rattle.kernel_tables.specs.Sourced.{IsFilePage, IsSourced, AreSourcedIn, IsFlightSourced}
 use Rattle.vm_facts.specs.declared.page.Page.{Page}
 use Rattle.vm_facts.specs.declared.page.Page.TheVariants.{Text}
-use Rattle.text_table.specs.Texts.{IsTable}
+use Rattle.text_table.specs.Texts.{IsTextTable}
 use Rattle.vax_pte.specs.declared.Place.TheVariants as places
 use Rattle.frame_state.specs.Frame.{Frame}
 use Rattle.core_map.specs.declared.slot.Slot.TheVariants as tokens
-use Rattle.core_map.specs.Slots.{slot_at, page_of, with_byte, with_dirty}
+use Rattle.core_map.specs.Slots.{slot_at, slot_page, with_byte, with_dirty}
 use Rattle.vm_facts.specs.declared.regs.Regs.{Regs}
 use Rattle.proc_table.specs.declared.process.Proc.{Proc as Record}
-use Rattle.proc_table.specs.Records.{find, Changes, IsTable as AreRecords}
+use Rattle.proc_table.specs.Records.{find, Changes, IsProcTable as AreRecords}
 use Rattle.kernel_tables.specs.declared.tables.Tables.{Tables}
 use Rattle.kernel_tables.specs.Shown.{placed}
 use Rattle.vm_facts.specs.Lists.{without}
@@ -31,9 +31,9 @@ use Rattle.kernel_tables.specs.Steps.{evicted, revived, saved_texts, source_by}
 -- the first free frame is taken: its token has left the core map, and a page that it still held has lost it
 pub record TookFrame (t u : Tables) (token : Frame) : Type 0 where
   pub free : t.core.free ≡ token.number ∷ u.core.free
-  pub was : slot_at t.core.slots token.number ≡ tokens.Free token (page_of (slot_at t.core.slots token.number))
+  pub was : slot_at t.core.slots token.number ≡ tokens.Free token (slot_page (slot_at t.core.slots token.number))
   pub slots : u.core.slots ≡ slice_set t.core.slots token.number tokens.Away
-  pub spaces : u.spaces ≡ evicted t.texts (page_of (slot_at t.core.slots token.number)) t.spaces
+  pub spaces : u.spaces ≡ evicted t.texts (slot_page (slot_at t.core.slots token.number)) t.spaces
   pub rest : u ≡ record t { core = u.core; spaces = u.spaces }
 
 -- a page is in the frame of this token, usable, dirty or not
@@ -56,9 +56,9 @@ HasSource t false q = IsSome (block_of t.book.holdings q)
 -- the frame that a page is read into, and where its bytes come from
 pub record BroughtPage (t u : Tables) (q : Page) (from_file : Bool) (x : Inbound) : Type 0 where
   pub free : t.core.free ≡ x.token.number ∷ u.core.free
-  pub was : slot_at t.core.slots x.token.number ≡ tokens.Free x.token (page_of (slot_at t.core.slots x.token.number))
+  pub was : slot_at t.core.slots x.token.number ≡ tokens.Free x.token (slot_page (slot_at t.core.slots x.token.number))
   pub slots : u.core.slots ≡ slice_set t.core.slots x.token.number tokens.Away
-  pub spaces : u.spaces ≡ map (placed q (places.Frame x.token.number false false)) (evicted t.texts (page_of (slot_at t.core.slots x.token.number)) t.spaces)
+  pub spaces : u.spaces ≡ map (placed q (places.Frame x.token.number false false)) (evicted t.texts (slot_page (slot_at t.core.slots x.token.number)) t.spaces)
   pub page : x.page ≡ q
   pub kind : source_of x.source ≡ source_by from_file
   pub range : IsSource x.source
@@ -120,7 +120,7 @@ pub record LandedOut (t u : Tables) (token : Frame) (q : Page) : Type 0 where
   pub slots : u.core.slots ≡ slice_set t.core.slots token.number (tokens.Free token (Some q))
   pub spaces : u.spaces ≡ map (placed q (places.Frame token.number false false)) t.spaces
   pub texts : u.texts ≡ saved_texts t.texts q
-  pub table : (image v : ℕ) → q ≡ Text image v → IsTable t.texts
+  pub table : (image v : ℕ) → q ≡ Text image v → IsTextTable t.texts
   pub rest : u ≡ record t { core = u.core; spaces = u.spaces; texts = u.texts }
 
 -- the tables with a transfer that has left the ring, of which these pages have to land

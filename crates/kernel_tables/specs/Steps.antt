@@ -7,9 +7,9 @@ use Rattle.vax_pte.specs.declared.Place.TheVariants as places
 use Rattle.frame_state.specs.Frame.{Frame}
 use Rattle.core_map.specs.declared.slot.Slot.{Slot as Token}
 use Rattle.core_map.specs.declared.slot.Slot.TheVariants as tokens
-use Rattle.core_map.specs.Slots.{slot_at, page_of}
+use Rattle.core_map.specs.Slots.{slot_at, slot_page}
 use Rattle.space_map.specs.Space.{Places}
-use Rattle.text_table.specs.Texts.{is_saved, text_of, with_text, marked, Text as SharedText}
+use Rattle.text_table.specs.Texts.{is_saved, text_numbered, table_with_text, marked, Text as SharedText}
 use Rattle.kernel_tables.specs.Shown.{placed, entry_in, changed_named}
 use Rattle.vm_facts.specs.Lists.{without}
 use Rattle.page_model.specs.Placement.{Transfer, Source, FromSwap, FromFile}
@@ -24,7 +24,7 @@ left_text false v = places.Image v
 abbrev pub left_place : List SharedText → Page → Place
 left_place texts (Data sid v) = places.Swap
 left_place texts (Stack sid v) = places.Swap
-left_place texts (Text image v) = left_text (is_saved (text_of texts image) v) v
+left_place texts (Text image v) = left_text (is_saved (text_numbered texts image) v) v
 
 -- the page that a frame held has lost it
 abbrev pub evicted : List SharedText → Option Page → List Places → List Places
@@ -36,13 +36,13 @@ abbrev pub taken : Lists → ℕ → Option Page → List ℕ → Lists
 taken t f page rest = record t { slots = slice_set t.slots f tokens.Away; free = rest; spaces = evicted t.texts page t.spaces }
 
 -- a page is in a frame, and usable
-abbrev pub seated : Lists → Frame → Page → Bool → Lists
-seated t token q dirty =
+abbrev pub seated_in : Lists → Frame → Page → Bool → Lists
+seated_in t token q dirty =
     record t { slots = slice_set t.slots token.number (tokens.Resident token q dirty); spaces = map (placed q (places.Frame token.number true dirty)) t.spaces }
 
 -- the pages of text that frames hold are of images that there may be
 abbrev pub AreTextsHere : List Token → Type 0
-AreTextsHere slots = (frame image v : ℕ) → page_of (slot_at slots frame) ≡ Some (Text image v) → (1 ≤ image) × (image ≤ 16) × (v < 2048)
+AreTextsHere slots = (frame image v : ℕ) → slot_page (slot_at slots frame) ≡ Some (Text image v) → (1 ≤ image) × (image ≤ 16) × (v < 2048)
 
 -- a page is in flight into a frame
 abbrev pub coming : Lists → Frame → Page → List Transfer → Lists
@@ -71,13 +71,13 @@ landed t q f x place free texts transfers flown =
 abbrev pub saved_texts : List SharedText → Page → List SharedText
 saved_texts texts (Data sid v) = texts
 saved_texts texts (Stack sid v) = texts
-saved_texts texts (Text image v) = with_text texts image (marked (text_of texts image) v true)
+saved_texts texts (Text image v) = table_with_text texts image (marked (text_numbered texts image) v true)
 
 -- a demanded page of data or stack that came from a file is dirty, and text that isn't saved
 abbrev pub arrives_dirty : List SharedText → Page → Bool → Bool
 arrives_dirty texts (Data sid v) from_file = from_file
 arrives_dirty texts (Stack sid v) from_file = from_file
-arrives_dirty texts (Text image v) from_file = not (is_saved (text_of texts image) v)
+arrives_dirty texts (Text image v) from_file = not (is_saved (text_numbered texts image) v)
 
 -- where a page is read from: its image's file, or else swap
 abbrev pub source_by : Bool → Source
@@ -88,4 +88,4 @@ source_by false = FromSwap
 abbrev pub dirty_shown : List Places → List SharedText → Page → Bool
 dirty_shown spaces texts (Data sid v) = changed_named (entry_in spaces (Data sid v))
 dirty_shown spaces texts (Stack sid v) = changed_named (entry_in spaces (Stack sid v))
-dirty_shown spaces texts (Text image v) = not (is_saved (text_of texts image) v)
+dirty_shown spaces texts (Text image v) = not (is_saved (text_numbered texts image) v)

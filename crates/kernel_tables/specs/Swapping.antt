@@ -10,7 +10,7 @@ use Rattle.space_map.specs.Space.{Places}
 use Rattle.proc_table.specs.declared.process.Proc.{Proc as Record}
 use Rattle.proc_table.specs.declared.process.Life.{Life as RecordLife}
 use Rattle.proc_table.specs.declared.process.Life.TheVariants as lives
-use Rattle.proc_table.specs.Records.{find, Changes, IsTable}
+use Rattle.proc_table.specs.Records.{find, Changes, IsProcTable}
 use Rattle.page_model.specs.Pages.{numbered}
 use Rattle.page_model.specs.Stored.{stored_at, store_at}
 use Rattle.kernel_model.specs.Kernel.{Kernel, in_step}
@@ -79,8 +79,8 @@ pub record MovedRecord (old new : List Record) (pid : ℕ) (regs : Regs) (out : 
   pub was : Record
   pub found : find pid old ≡ Some was
   pub changes : Changes old new pid (Some (record was { regs = regs; out = out; since = since }))
-  pub before : IsTable old
-  pub after : IsTable new
+  pub before : IsProcTable old
+  pub after : IsProcTable new
 
 -- the u page of a process that holds a space
 pub record IsUPage (t : Tables) (pid : ℕ) (bytes : List ℕ) : Type 0 where

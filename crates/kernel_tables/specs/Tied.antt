@@ -4,7 +4,7 @@ use Rattle.vm_facts.specs.declared.page.Page.TheVariants.{Text}
 use Rattle.page_model.specs.Placement.{sharers}
 use Rattle.kernel_tables.specs.Shown.{entry_in}
 use Rattle.kernel_tables.specs.View.{Lists, pages_in, placement_of}
-use Rattle.text_table.specs.Texts.{text_of}
+use Rattle.text_table.specs.Texts.{text_numbered}
 use Rattle.kernel_tables.specs.Alike.{EachSpace, IsFilled, HasFewPages, AreAlike}
 use Rattle.kernel_tables.specs.New.{AreSound}
 use Rattle.kernel_tables.specs.Marked.{AreMarked}
@@ -24,7 +24,7 @@ pub record Tied (t : Lists) : Type 0 where
   pub alike : AreAlike t.spaces
   pub filled : EachSpace (IsFilled t.facts) t.spaces
   -- the text table counts the spaces that share a text
-  pub counted : (image : ℕ) → 1 ≤ image → image ≤ 16 → (text_of t.texts image).sharers ≡ sharers (placement_of t) image
+  pub counted : (image : ℕ) → 1 ≤ image → image ≤ 16 → (text_numbered t.texts image).sharers ≡ sharers (placement_of t) image
   -- the mark of a frame off the free list says whether its page is dirty
   pub marked : AreMarked t.slots t.spaces t.texts
   pub whole : AreWhole t.fills

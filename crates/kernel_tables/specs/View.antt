@@ -59,7 +59,7 @@ text_place spaces slots q v = text_place_by (entry_in spaces q) slots q v
 
 -- what is said of a page of an image's text
 abbrev pub text_slot : Lists → ℕ → ℕ → Slot
-text_slot t image v = text_shown t.slots (text_table.is_saved (text_table.text_of t.texts image) v) (text_place t.spaces t.slots (Text image v) v)
+text_slot t image v = text_shown t.slots (text_table.is_saved (text_table.text_numbered t.texts image) v) (text_place t.spaces t.slots (Text image v) v)
 
 -- what is said of the first n pages of an image's text
 abbrev pub text_slots : Lists → ℕ → ℕ → List Slot

@@ -1,6 +1,6 @@
 //! The records of processes that come, change what they hold, sleep and go.
 ghost use Rattle.std.specs.Prelude.{◌≡◌, ◌≢◌, ◌<◌, ◌+◌, true, false, length, Some, None, IsSome, OnOk};
-ghost use Rattle.proc_table.specs.Records.{find, Changes, IsTable};
+ghost use Rattle.proc_table.specs.Records.{find, Changes, IsProcTable};
 ghost use Rattle.proc_table.specs.declared.process.Proc.{Proc as Record};
 ghost use Rattle.proc_table.specs.declared.process.Life.TheVariants as lives;
 ghost use Rattle.kernel_model.specs.Kernel.{Proc as Process, HoldsSpace};
@@ -23,7 +23,7 @@ fn put_in(processes: &mut ProcTable, process: Proc)
     requires none { find process.pid processes.old ≡ None }
     requires few { length processes.old < 64 }
     ensures record { Changes processes.old processes.new process.pid (Some process) }
-    ensures sound { IsTable processes.new }
+    ensures sound { IsProcTable processes.new }
 {
     let Added::Ok = processes.add(process) else {
         unreachable!()
@@ -34,7 +34,7 @@ fn put_in(processes: &mut ProcTable, process: Proc)
 // The record of a process goes, if it is there.
 fn take_out(processes: &mut ProcTable, pid: u32)
     ensures record { Changes processes.old processes.new pid None }
-    ensures sound { IsTable processes.new }
+    ensures sound { IsProcTable processes.new }
 {
     let _gone = processes.remove(pid);
     let _known = processes.get(pid);
@@ -145,7 +145,7 @@ impl Tables {
     fn leave_parent(&mut self, child: u32, parent: u32)
         requires { IsSome (find child self.old.processes) }
         ensures record { Changes self.old.processes self.new.processes child (left_in parent (find child self.old.processes)) }
-        ensures sound { IsTable self.new.processes }
+        ensures sound { IsProcTable self.new.processes }
         ensures rest { self.new ≡ record self.old { processes = self.new.processes } }
     {
         let process = self.process(child);

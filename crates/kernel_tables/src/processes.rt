@@ -1,6 +1,6 @@
 //! The records of the processes.
 ghost use Rattle.std.specs.Prelude.{◌≡◌, Some, IsSome};
-ghost use Rattle.proc_table.specs.Records.{find, Changes, IsTable};
+ghost use Rattle.proc_table.specs.Records.{find, Changes, IsProcTable};
 ghost use Rattle.kernel_tables.specs.Lives.{space_held};
 ghost use Rattle.kernel_tables.specs.Moves.{LeftRegs};
 
@@ -12,7 +12,7 @@ use vm_facts::Regs;
 pub fn record_of(processes: &ProcTable, pid: u32) -> Proc
     requires { IsSome (find pid processes.now) }
     ensures found { find pid processes.now ≡ Some result }
-    ensures table { IsTable processes.now }
+    ensures table { IsProcTable processes.now }
 {
     match processes.get(pid) {
         Some(process) => *process,
@@ -25,7 +25,7 @@ impl Tables {
     pub fn process(&self, pid: u32) -> Proc
         requires { IsSome (find pid self.now.processes) }
         ensures record { find pid self.now.processes ≡ Some result }
-        ensures sound { IsTable self.now.processes }
+        ensures sound { IsProcTable self.now.processes }
     {
         record_of(&self.processes, pid)
     }
@@ -34,7 +34,7 @@ impl Tables {
     pub fn set_process(&mut self, process: Proc)
         requires { IsSome (find process.pid self.old.processes) }
         ensures record { Changes self.old.processes self.new.processes process.pid (Some process) }
-        ensures sound { IsTable self.new.processes }
+        ensures sound { IsProcTable self.new.processes }
         ensures rest { self.new ≡ record self.old { processes = self.new.processes } }
     {
         let _known = self.processes.set(process);

@@ -8,7 +8,7 @@ ghost use Rattle.vax_pte.specs.Words.{IsInRange};
 ghost use Rattle.vax_pte.specs.declared.Place.TheVariants.{Frame as FramePlace};
 ghost use Rattle.core_map.specs.Frames.{IsAway, HoldsNot};
 ghost use Rattle.vm_facts.specs.Lists.{without};
-ghost use Rattle.core_map.specs.Slots.{slot_at, page_of, is_resident, with_byte, with_dirty};
+ghost use Rattle.core_map.specs.Slots.{slot_at, slot_page, is_resident, with_byte, with_dirty};
 ghost use Rattle.core_map.specs.declared.slot.Slot.TheVariants.{Free as FreeSlot, Resident as ResidentSlot, Away as AwaySlot};
 ghost use Rattle.kernel_tables.specs.Rising.{IsHome};
 ghost use Rattle.kernel_tables.specs.Shown.{placed};
@@ -98,7 +98,7 @@ pub fn beside(page: Page, v: u32) -> Page
 
 // The frame that holds a page leaves the free list, if it is there.
 fn revive_frame(core: &mut CoreMap, page: Page, frame: u32, changed: bool)
-    requires { page_of (slot_at core.old.slots frame) ≡ Some page }
+    requires { slot_page (slot_at core.old.slots frame) ≡ Some page }
     ensures free { core.new.free ≡ without frame core.old.free }
     ensures slots { core.new.slots ≡ slice_set core.old.slots frame (revived (slot_at core.old.slots frame) page changed) }
 {
@@ -147,10 +147,10 @@ impl Tables {
         requires free { 0 < length self.old.core.free }
         requires texts { AreTextsHere self.old.core.slots }
         ensures free { self.old.core.free ≡ result.number ∷ self.new.core.free }
-        ensures was { slot_at self.old.core.slots result.number ≡ FreeSlot result (page_of (slot_at self.old.core.slots result.number)) }
+        ensures was { slot_at self.old.core.slots result.number ≡ FreeSlot result (slot_page (slot_at self.old.core.slots result.number)) }
         ensures slots { self.new.core.slots ≡ slice_set self.old.core.slots result.number AwaySlot }
         ensures away { IsAway self.new.core result.number }
-        ensures spaces { self.new.spaces ≡ evicted self.old.texts (page_of (slot_at self.old.core.slots result.number)) self.old.spaces }
+        ensures spaces { self.new.spaces ≡ evicted self.old.texts (slot_page (slot_at self.old.core.slots result.number)) self.old.spaces }
         ensures rest { self.new ≡ record self.old { core = self.new.core; spaces = self.new.spaces } }
     {
         let Some((token, held)) = self.core.take_free() else {
@@ -186,7 +186,7 @@ impl Tables {
 
     /// A page that a frame holds is usable again, and its frame leaves the free list if it is there.
     pub fn revive(&mut self, page: Page, frame: u32, changed: bool)
-        requires holds { page_of (slot_at self.old.core.slots frame) ≡ Some page }
+        requires holds { slot_page (slot_at self.old.core.slots frame) ≡ Some page }
         requires above { 1 ≤ frame }
         requires small { frame < 2 ^ 21 }
         ensures { RevivedPage self.old self.new page frame changed }

@@ -12,7 +12,7 @@ use Rattle.flat_state.specs.declared.change.Change.{Change}
 use Rattle.flat_state.specs.declared.change.Change.TheVariants.{Resize, Fork, Lend, Exec, End}
 use Rattle.flat_state.specs.Change.{is_borrower}
 use Rattle.page_model.specs.Pages.{Filling, Zeros, OfImage, Slot}
-use Rattle.page_model.specs.Placement.{Placement, Transfer, Due, Start, CopyOf, due_at, state_of, filling_of, slots_of}
+use Rattle.page_model.specs.Placement.{Placement, Transfer, Due, Start, CopyOf, due_of_page, state_of, filling_of, slots_of}
 use Rattle.page_model.specs.Moves.{touch_all}
 use Rattle.page_model.specs.Place.{due_after, filled, place_entry, copy_due, copies_from, enter_image, give_up_unless, place_change, space_of_process, facts_of, facts_numbered}
 use Rattle.page_model.specs.Serve.{force, force_entry, is_full, read_entry_if, bring_entry_by, feed_entry_by, serve_entry_by, serve_entry, serve_unit}
@@ -175,7 +175,7 @@ own_copies _ pid e = refl
 
 -- a unit that completes a step
 stepped_copies : (A : Inputs) (s : State) (u : Entry) (pid : ℕ) → PlaceSized s.place → s.place.due ≡ [] → Rattle.run_laws.proofs.Flows.Ends u
-    → Rattle.flat_model.specs.Run.act A s.point pid ≡ Some u
+    → Rattle.flat_model.specs.Run.entry_of_step A s.point pid ≡ Some u
     → FewCopies A s u
 stepped_copies A s u pid z d e h =
     let own : process_of_entry u ≡ Some pid = steps_own A s.point pid u h in
@@ -263,7 +263,7 @@ unit_copies A s u images r z h = go (kind_of A s u h)
         let st = r.placed in
         served parent (not_due s.place parent st.dues (du.source).1) i
     go (Copies q parent ds d k i) = copied q parent ds s.place.free d refl i
-    go (Serves pid now q run w i) = served q (ap (λ (x : List Due). due_at x q) run.clear) (served_now s.place q now u i)
+    go (Serves pid now q run w i) = served q (ap (λ (x : List Due). due_of_page x q) run.clear) (served_now s.place q now u i)
     go (Acts pid now run w a) = acts pid run.clear (acted A s pid u a)
     go (ComesIn pid d c i) = kept_as A s u (entries.SwapIn pid) (sym i) refl (ap (λ (p : Placement). p.due) (plain_place A s (entries.SwapIn pid) refl))
     go (Interrupts d k i) = kept_as A s u entries.Done (sym i) refl (done_due A s r)

@@ -23,7 +23,7 @@ use Rattle.flat_model.specs.Run.{Point, is_refused, step_at, behind_first, due, 
 use Rattle.run_model.specs.State.{State}
 use Rattle.run_model.specs.After.{after}
 use Rattle.run_model.specs.Next.{next_unit}
-use Rattle.run_model.specs.Kinds.{Runs}
+use Rattle.run_model.specs.Kinds.{ProcessRuns}
 use Rattle.run_laws.specs.Running.{IsRun}
 use Rattle.run_laws.proofs.Acts.{Stepper, stepper, Stepped, stepped_form, Completes, completes}
 use Rattle.run_laws.proofs.Flows.{Acted, Settles, Refuses, Steps, acted, steps_shape, on_steps, refused_after, out_of, out_after, plain_point}
@@ -200,7 +200,7 @@ stepped_count A s u r st =
     let F : FlatState = s.point.flat in
     let pid : ℕ = st.pid in
     let step : Step = step_at A s.point st.pid in
-    let run : Runs A s st.pid st.now = st.runs in
+    let run : ProcessRuns A s st.pid st.now = st.runs in
     let can : can_step s.point.flat st.pid ≡ true = on_steps A s s.mark st.pid st.now run.on in
     let x : Stepper s.point.flat st.pid = stepper s.point.flat st.pid can in
     let form = stepped_form A s u st x r.numbers in
@@ -234,7 +234,7 @@ unit_count A s u r h = go (process_of_entry u) refl
         let m = ap sleeps_one i in
         omega (arith, k, l, m, z)
 
-    by : (pid : ℕ) (now : Bool) → process_of_entry u ≡ Some pid → Runs A s pid now → Acted A s pid u
+    by : (pid : ℕ) (now : Bool) → process_of_entry u ≡ Some pid → ProcessRuns A s pid now → Acted A s pid u
         → awake_count (after A s u).point.flat.processes + sleeps_one u ≤ awake_count s.point.flat.processes + forks_one u
     by pid now e run (Settles i) = absurd (let z : None ≡ Some pid = sym (ap process_of_entry i) ∙ e in cc)
     by pid now e run (Refuses i) = same (entries.Refused pid) i refl (ap (λ (t : State). t.point.flat) (refused_after A s pid))

@@ -19,7 +19,7 @@ use Rattle.run_model.specs.State.{State, start, starting_as, starting, runners}
 use Rattle.run_model.specs.Wanted.{running}
 use Rattle.run_model.specs.After.{interrupt_mark, swap_mark, mark_of_event, mark_of_line, after}
 use Rattle.run_model.specs.Next.{when, turn_of, next_turned, last_turned, line_or_turn, next_mark, next_unit}
-use Rattle.run_model.specs.Kinds.{Runs}
+use Rattle.run_model.specs.Kinds.{ProcessRuns}
 use Rattle.run_model.specs.Lawful.{Follows, Reaches}
 use Rattle.run_laws.specs.Sized.{InputsSized, PlaceSized}
 use Rattle.run_laws.specs.Running.{IsRun, CanRun, IsReady}
@@ -114,7 +114,7 @@ total (u ∷ us) A s t b n images r z f rest =
         d : Does A s u pid
         d = does A s u pid f.0 own
 
-        run : Runs A s pid d.now
+        run : ProcessRuns A s pid d.now
         run = d.runs
 
         mark : running (after A s u).mark ≡ Some pid

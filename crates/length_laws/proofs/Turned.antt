@@ -17,11 +17,11 @@ use Rattle.page_model.specs.Swapper.{is_out}
 use Rattle.run_model.specs.declared.mark.Mark.{Mark}
 use Rattle.run_model.specs.declared.mark.Mark.TheVariants as marks
 use Rattle.run_model.specs.State.{State}
-use Rattle.run_model.specs.Wanted.{running, touched_by, before_absent, wanted, locked_by, locked}
+use Rattle.run_model.specs.Wanted.{running, touched_of, before_absent, wanted, locked_by, locked}
 use Rattle.run_model.specs.After.{place_at, after}
 use Rattle.run_model.specs.Act.{must_refuse, must_settle, act_by, act_if, act}
 use Rattle.run_model.specs.Next.{when, or_else, fill_unit, copy_unit_by, due_unit, goes_on, work_by, work, turn_by, turn_instructions, under, next_mark, next_unit}
-use Rattle.run_model.specs.Kinds.{GoesOn, Runs, Comes, Kind, Fills, Brings, Copies, Serves, Acts, ComesIn, Interrupts, Moves, PutsOut, Notes, Begins}
+use Rattle.run_model.specs.Kinds.{GoesOn, ProcessRuns, Comes, Kind, Fills, Brings, Copies, Serves, Acts, ComesIn, Interrupts, Moves, PutsOut, Notes, Begins}
 use Rattle.run_model.specs.Lawful.{Follows}
 use Rattle.run_model.proofs.NextUnits.{kind_of}
 use Rattle.run_model.proofs.After.{after_count}
@@ -78,7 +78,7 @@ goes_turn A s (marks.Turn q since) pid k p true f g =
     (same, ap (λ (x : ℕ). goes_on A s x (k + 1000)) (sym same) ∙ ap (λ (x : ℕ). goes_on A s p (x + 1000)) (sym f.1) ∙ g.1)
 goes_turn A s _ pid k p now f g = absurd g
 
-runs_turn : (A : Inputs) (s : State) (pid k p : ℕ) (now : Bool) → TurnsFor s.mark pid k s.count → Runs A s p now → (p ≡ pid) × Runs A
+runs_turn : (A : Inputs) (s : State) (pid k p : ℕ) (now : Bool) → TurnsFor s.mark pid k s.count → ProcessRuns A s p now → (p ≡ pid) × ProcessRuns A
     (turned A s pid k) pid true
 runs_turn A s pid k p now f r =
     let g = goes_turn A s s.mark pid k p now f r.on in
@@ -93,7 +93,7 @@ locked_turn : (A : Inputs) (s : State) (pid k : ℕ) → running s.mark ≡ Some
 locked_turn A s pid k m = go s.place.due
   where
     go : (ds : List Due) → locked_by A (turned A s pid k) ds ≡ locked_by A s ds
-    go [] = ap (λ (o : Option ℕ). before_absent s.place (touched_by A s.point.flat o)) (sym m)
+    go [] = ap (λ (o : Option ℕ). before_absent s.place (touched_of A s.point.flat o)) (sym m)
     go (Start q ∷ ds) = refl
     go (CopyOf q parent ∷ ds) = refl
 
@@ -108,7 +108,7 @@ under_turn : (A : Inputs) (s : State) (u : Entry) → s.place.due ≡ [] → und
 unfolding next_unit
 under_turn A s u d h = ap (λ (x : List Due). or_else (due_unit s.place x) (or_else (under A s s.mark) (next_mark A s))) d ∙ ap (λ (o : Option Entry). or_else o (next_mark A s)) h
 
-works_turn : (A : Inputs) (s : State) (pid : ℕ) (u : Entry) → Runs A s pid true → work A s pid true ≡ Some u → next_unit A s ≡ Some u
+works_turn : (A : Inputs) (s : State) (pid : ℕ) (u : Entry) → ProcessRuns A s pid true → work A s pid true ≡ Some u → next_unit A s ≡ Some u
 works_turn A s pid u r h = under_turn A s u r.clear (runs_work A s pid true r ∙ h)
 
 -- a page that is served without waiting is so served in a turn
@@ -254,8 +254,8 @@ waits_turn A s pid k f o w = go o w
     awaits : (p : ℕ) → Awaits A s p → Awaits A (turned A s pid k) p
     awaits p a =
         let x = runs_turn A s pid k p a.now f a.runs in
-        let run : Runs A (turned A s pid k) p true = subst (λ (y : ℕ). Runs A (turned A s pid k) y true) (sym x.0) x.1 in
-        let r : Runs A s p a.now = a.runs in
+        let run : ProcessRuns A (turned A s pid k) p true = subst (λ (y : ℕ). ProcessRuns A (turned A s pid k) y true) (sym x.0) x.1 in
+        let r : ProcessRuns A s p a.now = a.runs in
         record { now = true; runs = run; unwanted = wanted_turn A s pid k (for_running s.mark pid k s.count f) r.clear ∙ a.unwanted; left = a.left }
 
     go : (o : Option Entry) → WaitsBy A s o → WaitsBy A (turned A s pid k) o

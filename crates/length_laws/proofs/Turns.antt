@@ -15,7 +15,7 @@ use Rattle.kernel_model.specs.Start.{ImagesFit}
 use Rattle.page_laws.proofs.Moves.Units.{now_unit}
 use Rattle.flat_model.specs.Instruction.{instruction_in}
 use Rattle.flat_model.specs.Step.{Step, data_pages_of, pages_down_to}
-use Rattle.flat_model.specs.Run.{Point, process_of_entry, is_refused, step_at, act as next_of_step}
+use Rattle.flat_model.specs.Run.{Point, process_of_entry, is_refused, step_at, entry_of_step as next_of_step}
 use Rattle.run_model.specs.declared.mark.Mark.{Mark}
 use Rattle.run_model.specs.declared.mark.Mark.TheVariants as marks
 use Rattle.run_model.specs.State.{State}
@@ -23,7 +23,7 @@ use Rattle.run_model.specs.Wanted.{wanted}
 use Rattle.run_model.specs.After.{after}
 use Rattle.run_model.specs.Act.{must_refuse, must_settle}
 use Rattle.run_model.specs.Next.{when, or_else, work_by, turn_by, turn_unit, goes_on, turn_instructions, under, pid_if, next_ready, next_turned, last_turned, turn_of, line_or_turn, next_mark, next_unit}
-use Rattle.run_model.specs.Kinds.{GoesOn, Runs, Kind, Fills, Brings, Copies, Serves, Acts, ComesIn, Interrupts, Moves, PutsOut, Notes, Begins}
+use Rattle.run_model.specs.Kinds.{GoesOn, ProcessRuns, Kind, Fills, Brings, Copies, Serves, Acts, ComesIn, Interrupts, Moves, PutsOut, Notes, Begins}
 use Rattle.run_model.specs.Lawful.{Follows}
 use Rattle.run_model.proofs.After.{after_count}
 use Rattle.run_model.proofs.NextUnits.{kind_of}
@@ -181,7 +181,7 @@ on_under : (A : Inputs) (s : State) (pid since : ℕ) → IsRun A s → s.mark �
     → under A s s.mark ≡ None → ⊥
 on_under A s pid since r m goes d h = by (is_out s.place pid) refl (sym (ap (λ (b : Bool). when b (turn_unit A s pid)) goes) ∙ sym (ap (under A s) m) ∙ h)
   where
-    runs : is_out s.place pid ≡ false → Runs A s pid true
+    runs : is_out s.place pid ≡ false → ProcessRuns A s pid true
     runs o = record { clear = d; on = subst (λ (x : Mark). GoesOn A s x pid true) (sym m) (refl, goes); resident = o }
 
     works : is_out s.place pid ≡ false → (w : Option Page) → wanted A s ≡ w → work_by A s pid true w ≡ None → ⊥
@@ -197,7 +197,7 @@ on_under A s pid since r m goes d h = by (is_out s.place pid) refl (sym (ap (λ 
 grown_steps : (A : Inputs) (s : State) (p n : ℕ) (h : Stepped A s (entries.Grew p n)) → is_closed s.point.last ≡ false → IsRun A s
     → can_step (after A s (entries.Grew p n)).point.flat h.pid ≡ true
 grown_steps A s p n h o r =
-    let run : Runs A s h.pid h.now = h.runs in
+    let run : ProcessRuns A s h.pid h.now = h.runs in
     let steps = on_steps A s s.mark h.pid h.now run.on in
     let w : Stepper s.point.flat h.pid = stepper s.point.flat h.pid steps in
     let q : Process = w.process in
@@ -309,7 +309,7 @@ other_turning A s u k r h n a (On pid since e m g) = On pid since e (mark_lasts 
     by None p = goes (ap (λ (x : Point). can_step x.flat pid) (plain_point A s u p) ∙ parts.0)
     by (Some q) p =
         let d : Does A s u q = does A s u q h p in
-        let run : Runs A s q d.now = d.runs in
+        let run : ProcessRuns A s q d.now = d.runs in
         let same : q ≡ pid = sym (Rattle.economy_laws.proofs.Closing.on_turn A s s.mark pid since q d.now m run.on).1 in
         goes (still_steps A s u pid r h (p ∙ ap (λ (x : ℕ). Some x) same) n a parts.0)
 

@@ -23,7 +23,7 @@ use Rattle.flat_model.specs.Calls.{call_numbered, number_of, or_fault, argument,
 use Rattle.flat_model.specs.Instruction.{instruction_in}
 use Rattle.flat_model.specs.Step.{Step, step_of, written_process, replied_step, called_step}
 use Rattle.load_maker.specs.Programs.{w_bytes, v_bytes}
-use Rattle.load_laws.specs.Stages.{LoadProgram, W, V, Stage, program_of, text_page, address_of, end_at, Bank, file, IsAt}
+use Rattle.load_laws.specs.Stages.{LoadProgram, W, V, Stage, program_of, text_page, stage_address, end_at, Bank, file, IsAt}
 use Rattle.load_laws.specs.Stages.{AtBreak, AtFork, AtWait, AtWrite, AtExit, AtExecve}
 use Rattle.load_laws.specs.Left.{images_for}
 use Rattle.load_laws.proofs.Numbers.{all_below, below}
@@ -57,7 +57,7 @@ pub record Called (images : List NamedImage) (F : FlatState) (pages : ℕ) (t : 
 
 pub called : (images : List NamedImage) (F : FlatState) (pages : ℕ) (k : Stage) (p : Process) (at : IsAt pages k p) (b : Bank) (pc number : ℕ)
     (call : SystemCall)
-    → call_numbered number ≡ Some call → Leaves (known pages (program_of k) (address_of k) p at.space at.bank) b pc (Some (pos number))
+    → call_numbered number ≡ Some call → Leaves (known pages (program_of k) (stage_address k) p at.space at.bank) b pc (Some (pos number))
     → Called images F pages (program_of k) p at.space b pc number call
 called images F pages k p at b pc number call which l = record {
   n = l.n;

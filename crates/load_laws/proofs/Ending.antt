@@ -9,7 +9,7 @@ use Rattle.vm_facts.specs.declared.entry.Entry.{Entry}
 use Rattle.vm_facts.specs.declared.entry.Entry.TheVariants as entries
 use Rattle.aout_image.specs.Image.{pages_for}
 use Rattle.resource_map.specs.Room.{lowest_room, lowest, has_room, all_pass}
-use Rattle.swap_dmap.specs.Chunks.{pieces, chunk, chunk_start, lowest as lowest_chunk, chunks_holding, last_piece, text_pieces}
+use Rattle.swap_dmap.specs.Chunks.{pieces, chunk, chunk_start, lowest_below as lowest_chunk, chunks_holding, last_piece, text_pieces}
 use Rattle.swap_book.specs.Holdings.{Holdings, fit, is_in, is_held}
 use Rattle.swap_book.specs.Placing.{place_all}
 use Rattle.flat_state.specs.Flat.{Holding, Process, NamedImage, Inputs, holds_space, is_ready, ready_if, can_step, start_process, start_processes, start_regs, new_space, argument_area}
@@ -20,7 +20,7 @@ use Rattle.flat_state.proofs.Joins.{append_counted}
 use Rattle.flat_model.specs.Asked.{first_held, start_held}
 use Rattle.run_model.specs.State.{State, start}
 use Rattle.run_model.specs.Next.{next_unit}
-use Rattle.run_model.specs.Kinds.{Runs as RunsUnder}
+use Rattle.run_model.specs.Kinds.{ProcessRuns as RunsUnder}
 use Rattle.run_model.specs.Lawful.{Reaches, IsLawful}
 use Rattle.run_laws.specs.Flowing.{Awaits, WaitsBy, Flows}
 use Rattle.run_laws.specs.Running.{IsRun, CanRun, IsIdle}

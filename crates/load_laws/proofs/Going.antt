@@ -13,7 +13,7 @@ use Rattle.flat_state.specs.Flat.{Holds, Process, FlatState, NamedImage}
 use Rattle.flat_state.specs.declared.change.Change.TheVariants.{Keep}
 use Rattle.flat_model.specs.Instruction.{instruction_in}
 use Rattle.flat_model.specs.Step.{Step, step_of}
-use Rattle.load_laws.specs.Stages.{LoadProgram, W, V, Stage, program_of, text_page, address_of, data_pages, rounds_at, Bank, file, Says, AreLongwords, HasRounds, HasPages, is_first, IsAt}
+use Rattle.load_laws.specs.Stages.{LoadProgram, W, V, Stage, program_of, text_page, stage_address, data_pages, rounds_at, Bank, file, Says, AreLongwords, HasRounds, HasPages, is_first, IsAt}
 use Rattle.load_laws.specs.Stages.{BeforeBreak, AtBreak, AtParting, AtBegin, AtRound, AtCount, AtChange, AtMove, AtPageEnd, AtRoundEnd, AtWait, BeforeWrite, AtWrite, BeforeExit, AtExit, BeforeExecve, AtExecve}
 use Rattle.load_laws.proofs.Numbers.{Fallen, fallen, risen, page_word}
 use Rattle.load_laws.proofs.Spaces.{SameSizes, puts_sizes, text_long, has_word}
@@ -38,12 +38,12 @@ known pages t pc p s b =
     let r : Regs = p.regs in instruction_in (space_of pages t s.sid s.image s.data_bytes s.stack_bytes) (regs_of b pc r.n r.z r.v r.c)
 
 pub known_is : (pages : ℕ) (k : Stage) (p : Process) (at : IsAt pages k p)
-    → instruction_in at.space p.regs ≡ known pages (program_of k) (address_of k) p at.space at.bank
+    → instruction_in at.space p.regs ≡ known pages (program_of k) (stage_address k) p at.space at.bank
 known_is pages k p at =
     ap (λ (s : Space). instruction_in s p.regs) (same_space pages (program_of k) at.space at.text)
     ∙ ap (instruction_in (space_of pages (program_of k) (let s : Space = at.space in s.sid) (let s : Space = at.space in s.image) (let s : Space = at.space in s.data_bytes)
     (let s : Space = at.space in s.stack_bytes)))
-    (same_regs at.bank (address_of k) p.regs at.registers)
+    (same_regs at.bank (stage_address k) p.regs at.registers)
 
 -- ---- a process that goes on
 
@@ -75,7 +75,7 @@ pub record Alike (pages : ℕ) (k new : Stage) : Type 0 where
   pub first : is_first new ≡ true → is_first k ≡ true
 
 pub goes_to : (pages : ℕ) (k new : Stage) (p : Process) (at : IsAt pages k p) (S : Step) (b : Bank) → Alike pages k new
-    → (let r : Regs = S.regs in r.r) ≡ file b (address_of new) → AreLongwords b → Says pages new b → p.asleep ≡ false
+    → (let r : Regs = S.regs in r.r) ≡ file b (stage_address new) → AreLongwords b → Says pages new b → p.asleep ≡ false
     → IsAt pages new (gone_on p at.space S)
 goes_to pages k new p at S b alike regs longwords says awake =
     let z : SameSizes at.space (puts at.space S.writes) = puts_sizes S.writes at.space in
@@ -115,18 +115,18 @@ pub record Kept (images : List NamedImage) (F : FlatState) (pages : ℕ) (p : Pr
   pub stands : IsAt pages new (gone_on p s (step_from images F p s))
 
 kept_ran : (images : List NamedImage) (F : FlatState) (pages : ℕ) (k new : Stage) (p : Process) (at : IsAt pages k p) (b : Bank) → Alike pages k new
-    → Ran p (step_of images F p at.space false (known pages (program_of k) (address_of k) p at.space at.bank)) b (address_of new)
+    → Ran p (step_of images F p at.space false (known pages (program_of k) (stage_address k) p at.space at.bank)) b (stage_address new)
     → AreLongwords b → Says pages new b → p.asleep ≡ false → Kept images F pages p at.space new
 kept_ran images F pages k new p at b alike ran longwords says awake =
-    let r : Ran p (step_from images F p at.space) b (address_of new) =
-    subst (λ (x : Result Effect Refused). Ran p (step_of images F p at.space false x) b (address_of new)) (sym (known_is pages k p at)) ran in
+    let r : Ran p (step_from images F p at.space) b (stage_address new) =
+    subst (λ (x : Result Effect Refused). Ran p (step_of images F p at.space false x) b (stage_address new)) (sym (known_is pages k p at)) ran in
     record { entries = r.entries; change = r.change; stands = goes_to pages k new p at (step_from images F p at.space) b alike r.regs longwords says awake }
 
 kept_by : (images : List NamedImage) (F : FlatState) (pages : ℕ) (k new : Stage) (p : Process) (at : IsAt pages k p) (b : Bank) → Alike pages k new
-    → Leaves (known pages (program_of k) (address_of k) p at.space at.bank) b (address_of new) None → AreLongwords b → Says pages new b → p.asleep ≡ false
+    → Leaves (known pages (program_of k) (stage_address k) p at.space at.bank) b (stage_address new) None → AreLongwords b → Says pages new b → p.asleep ≡ false
     → Kept images F pages p at.space new
 kept_by images F pages k new p at b alike l longwords says awake =
-    kept_ran images F pages k new p at b alike (ran_of images F p at.space (known pages (program_of k) (address_of k) p at.space at.bank) b (address_of new) l) longwords says awake
+    kept_ran images F pages k new p at b alike (ran_of images F p at.space (known pages (program_of k) (stage_address k) p at.space at.bank) b (stage_address new) l) longwords says awake
 
 with_ap : (b : Bank) (value : ℕ) → AreLongwords b → value < 2 ^ 32 → AreLongwords (record b { ap = stored b.ap value })
 with_ap b value l v = let e = stored_is b.ap value l.ap v in record { r3 = l.r3; r4 = l.r4; r5 = l.r5; ap = omega (arith, e, v) }

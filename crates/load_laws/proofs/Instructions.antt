@@ -18,7 +18,7 @@ use Rattle.flat_model.specs.Instruction.{instruction_in}
 use Rattle.user_vax.specs.Computation.{computation}
 use Rattle.user_vax.specs.Instruction.{fetch, evaluations, write_tests, tested_effect, execution, execution_by, instruction}
 use Rattle.user_vax.specs.Operands.{past, number_at, address_of, evaluation_at, evaluation_through, evaluation}
-use Rattle.vax_code.specs.Reading.{byte_at, number_at as number_read, signed_at, displacement_at, base_at, indexed_at, specifier_at, operand_at, counted, place_at, operands_at, instruction_at, decoded}
+use Rattle.vax_code.specs.Reading.{next_byte, next_number as number_read, next_signed, next_displacement, base_at, indexed_at, next_specifier, next_operand, with_count, operand_in_place, next_operands, instruction_at, decoded}
 use Rattle.vax_code.specs.Table.{all_rows, row_for}
 use Rattle.load_maker.specs.Programs.{w_bytes, v_bytes}
 use Rattle.load_laws.specs.Stages.{LoadProgram, W, V, text_page, rounds_at, end_at, Bank, file}
@@ -46,56 +46,64 @@ pub record Leaves (r : Result Effect Refused) (b : Bank) (pc : ℕ) (call : Opti
 pub w_will_break : (pages sid image : ℕ) (bytes stack : List ℕ) (b : Bank) (n z v c : Bool)
     → Leaves (instruction_in (space_of pages W sid image bytes stack) (regs_of b 0x02 n z v c)) (record b { ap = stored b.ap 0xA0 }) 0x09 None
 unfolding space_of regs_of stored text_page w_bytes v_bytes spot_at bytes_at store_effect computation fetch evaluations write_tests tested_effect execution execution_by instruction
-    number_at address_of evaluation_at evaluation_through evaluation byte_at number_read signed_at displacement_at base_at indexed_at specifier_at operand_at counted place_at operands_at
+    number_at address_of evaluation_at evaluation_through evaluation next_byte number_read next_signed next_displacement base_at indexed_at next_specifier next_operand with_count
+    operand_in_place next_operands
     instruction_at decoded row_for all_rows
 w_will_break pages sid image bytes stack b n z v c = record { n = _; z = _; v = _; c = _; is = refl }
 
 pub w_breaks : (pages sid image : ℕ) (bytes stack : List ℕ) (b : Bank) (n z v c : Bool)
     → Leaves (instruction_in (space_of pages W sid image bytes stack) (regs_of b 0x09 n z v c)) (b) 0x0b (Some (pos 17))
 unfolding space_of regs_of stored text_page w_bytes v_bytes spot_at bytes_at store_effect computation fetch evaluations write_tests tested_effect execution execution_by instruction
-    number_at address_of evaluation_at evaluation_through evaluation byte_at number_read signed_at displacement_at base_at indexed_at specifier_at operand_at counted place_at operands_at
+    number_at address_of evaluation_at evaluation_through evaluation next_byte number_read next_signed next_displacement base_at indexed_at next_specifier next_operand with_count
+    operand_in_place next_operands
     instruction_at decoded row_for all_rows
 w_breaks pages sid image bytes stack b n z v c = record { n = _; z = _; v = _; c = _; is = refl }
 
 pub w_forks : (pages sid image : ℕ) (bytes stack : List ℕ) (b : Bank) (n z v c : Bool)
     → Leaves (instruction_in (space_of pages W sid image bytes stack) (regs_of b 0x0b n z v c)) (b) 0x0d (Some (pos 2))
 unfolding space_of regs_of stored text_page w_bytes v_bytes spot_at bytes_at store_effect computation fetch evaluations write_tests tested_effect execution execution_by instruction
-    number_at address_of evaluation_at evaluation_through evaluation byte_at number_read signed_at displacement_at base_at indexed_at specifier_at operand_at counted place_at operands_at
+    number_at address_of evaluation_at evaluation_through evaluation next_byte number_read next_signed next_displacement base_at indexed_at next_specifier next_operand with_count
+    operand_in_place next_operands
     instruction_at decoded row_for all_rows
 w_forks pages sid image bytes stack b n z v c = record { n = _; z = _; v = _; c = _; is = refl }
 
 pub w_waits : (pages sid image : ℕ) (bytes stack : List ℕ) (b : Bank) (n z v c : Bool)
     → Leaves (instruction_in (space_of pages W sid image bytes stack) (regs_of b 0x30 n z v c)) (b) 0x34 (Some (pos 84))
 unfolding space_of regs_of stored text_page w_bytes v_bytes spot_at bytes_at store_effect computation fetch evaluations write_tests tested_effect execution execution_by instruction
-    number_at address_of evaluation_at evaluation_through evaluation byte_at number_read signed_at displacement_at base_at indexed_at specifier_at operand_at counted place_at operands_at
+    number_at address_of evaluation_at evaluation_through evaluation next_byte number_read next_signed next_displacement base_at indexed_at next_specifier next_operand with_count
+    operand_in_place next_operands
     instruction_at decoded row_for all_rows
 w_waits pages sid image bytes stack b n z v c = record { n = _; z = _; v = _; c = _; is = refl }
 
 pub w_will_run : (pages sid image : ℕ) (bytes stack : List ℕ) (b : Bank) (n z v c : Bool)
     → Leaves (instruction_in (space_of pages W sid image bytes stack) (regs_of b 0x46 n z v c)) (record b { ap = stored b.ap 0xC0 }) 0x4d None
 unfolding space_of regs_of stored text_page w_bytes v_bytes spot_at bytes_at store_effect computation fetch evaluations write_tests tested_effect execution execution_by instruction
-    number_at address_of evaluation_at evaluation_through evaluation byte_at number_read signed_at displacement_at base_at indexed_at specifier_at operand_at counted place_at operands_at
+    number_at address_of evaluation_at evaluation_through evaluation next_byte number_read next_signed next_displacement base_at indexed_at next_specifier next_operand with_count
+    operand_in_place next_operands
     instruction_at decoded row_for all_rows
 w_will_run pages sid image bytes stack b n z v c = record { n = _; z = _; v = _; c = _; is = refl }
 
 pub w_runs : (pages sid image : ℕ) (bytes stack : List ℕ) (b : Bank) (n z v c : Bool)
     → Leaves (instruction_in (space_of pages W sid image bytes stack) (regs_of b 0x4d n z v c)) (b) 0x4f (Some (pos 59))
 unfolding space_of regs_of stored text_page w_bytes v_bytes spot_at bytes_at store_effect computation fetch evaluations write_tests tested_effect execution execution_by instruction
-    number_at address_of evaluation_at evaluation_through evaluation byte_at number_read signed_at displacement_at base_at indexed_at specifier_at operand_at counted place_at operands_at
+    number_at address_of evaluation_at evaluation_through evaluation next_byte number_read next_signed next_displacement base_at indexed_at next_specifier next_operand with_count
+    operand_in_place next_operands
     instruction_at decoded row_for all_rows
 w_runs pages sid image bytes stack b n z v c = record { n = _; z = _; v = _; c = _; is = refl }
 
 pub w_begins : (pages sid image : ℕ) (bytes stack : List ℕ) (b : Bank) (n z v c : Bool)
     → Leaves (instruction_in (space_of pages W sid image bytes stack) (regs_of b 0x10 n z v c)) (record b { r3 = stored b.r3 30 }) 0x13 None
 unfolding space_of regs_of stored text_page w_bytes v_bytes spot_at bytes_at store_effect computation fetch evaluations write_tests tested_effect execution execution_by instruction
-    number_at address_of evaluation_at evaluation_through evaluation byte_at number_read signed_at displacement_at base_at indexed_at specifier_at operand_at counted place_at operands_at
+    number_at address_of evaluation_at evaluation_through evaluation next_byte number_read next_signed next_displacement base_at indexed_at next_specifier next_operand with_count
+    operand_in_place next_operands
     instruction_at decoded row_for all_rows
 w_begins pages sid image bytes stack b n z v c = record { n = _; z = _; v = _; c = _; is = refl }
 
 pub w_rounds : (pages sid image : ℕ) (bytes stack : List ℕ) (b : Bank) (n z v c : Bool)
     → Leaves (instruction_in (space_of pages W sid image bytes stack) (regs_of b 0x13 n z v c)) (record b { r4 = stored b.r4 0x400 }) 0x1a None
 unfolding space_of regs_of stored text_page w_bytes v_bytes spot_at bytes_at store_effect computation fetch evaluations write_tests tested_effect execution execution_by instruction
-    number_at address_of evaluation_at evaluation_through evaluation byte_at number_read signed_at displacement_at base_at indexed_at specifier_at operand_at counted place_at operands_at
+    number_at address_of evaluation_at evaluation_through evaluation next_byte number_read next_signed next_displacement base_at indexed_at next_specifier next_operand with_count
+    operand_in_place next_operands
     instruction_at decoded row_for all_rows
 w_rounds pages sid image bytes stack b n z v c = record { n = _; z = _; v = _; c = _; is = refl }
 
@@ -103,35 +111,40 @@ pub w_loads : (pages sid image : ℕ) (bytes stack : List ℕ) (b : Bank) (n z v
     → Leaves (instruction_in (space_of pages W sid image bytes stack) (regs_of b 0x1a n z v c))
     (record b { r5 = stored b.r5 (from_le_bytes w32 (word_bytes pages)) }) 0x21 None
 unfolding space_of regs_of stored text_page w_bytes v_bytes spot_at bytes_at store_effect computation fetch evaluations write_tests tested_effect execution execution_by instruction
-    number_at address_of evaluation_at evaluation_through evaluation byte_at number_read signed_at displacement_at base_at indexed_at specifier_at operand_at counted place_at operands_at
+    number_at address_of evaluation_at evaluation_through evaluation next_byte number_read next_signed next_displacement base_at indexed_at next_specifier next_operand with_count
+    operand_in_place next_operands
     instruction_at decoded row_for all_rows
 w_loads pages sid image bytes stack b n z v c = record { n = _; z = _; v = _; c = _; is = refl }
 
 pub w_will_write : (pages sid image : ℕ) (bytes stack : List ℕ) (b : Bank) (n z v c : Bool)
     → Leaves (instruction_in (space_of pages W sid image bytes stack) (regs_of b 0x34 n z v c)) (record b { ap = stored b.ap 0xA8 }) 0x3b None
 unfolding space_of regs_of stored text_page w_bytes v_bytes spot_at bytes_at store_effect computation fetch evaluations write_tests tested_effect execution execution_by instruction
-    number_at address_of evaluation_at evaluation_through evaluation byte_at number_read signed_at displacement_at base_at indexed_at specifier_at operand_at counted place_at operands_at
+    number_at address_of evaluation_at evaluation_through evaluation next_byte number_read next_signed next_displacement base_at indexed_at next_specifier next_operand with_count
+    operand_in_place next_operands
     instruction_at decoded row_for all_rows
 w_will_write pages sid image bytes stack b n z v c = record { n = _; z = _; v = _; c = _; is = refl }
 
 pub w_writes : (pages sid image : ℕ) (bytes stack : List ℕ) (b : Bank) (n z v c : Bool)
     → Leaves (instruction_in (space_of pages W sid image bytes stack) (regs_of b 0x3b n z v c)) (b) 0x3d (Some (pos 4))
 unfolding space_of regs_of stored text_page w_bytes v_bytes spot_at bytes_at store_effect computation fetch evaluations write_tests tested_effect execution execution_by instruction
-    number_at address_of evaluation_at evaluation_through evaluation byte_at number_read signed_at displacement_at base_at indexed_at specifier_at operand_at counted place_at operands_at
+    number_at address_of evaluation_at evaluation_through evaluation next_byte number_read next_signed next_displacement base_at indexed_at next_specifier next_operand with_count
+    operand_in_place next_operands
     instruction_at decoded row_for all_rows
 w_writes pages sid image bytes stack b n z v c = record { n = _; z = _; v = _; c = _; is = refl }
 
 pub w_will_exit : (pages sid image : ℕ) (bytes stack : List ℕ) (b : Bank) (n z v c : Bool)
     → Leaves (instruction_in (space_of pages W sid image bytes stack) (regs_of b 0x3d n z v c)) (record b { ap = stored b.ap 0xB8 }) 0x44 None
 unfolding space_of regs_of stored text_page w_bytes v_bytes spot_at bytes_at store_effect computation fetch evaluations write_tests tested_effect execution execution_by instruction
-    number_at address_of evaluation_at evaluation_through evaluation byte_at number_read signed_at displacement_at base_at indexed_at specifier_at operand_at counted place_at operands_at
+    number_at address_of evaluation_at evaluation_through evaluation next_byte number_read next_signed next_displacement base_at indexed_at next_specifier next_operand with_count
+    operand_in_place next_operands
     instruction_at decoded row_for all_rows
 w_will_exit pages sid image bytes stack b n z v c = record { n = _; z = _; v = _; c = _; is = refl }
 
 pub w_exits : (pages sid image : ℕ) (bytes stack : List ℕ) (b : Bank) (n z v c : Bool)
     → Leaves (instruction_in (space_of pages W sid image bytes stack) (regs_of b 0x44 n z v c)) (b) 0x46 (Some (pos 1))
 unfolding space_of regs_of stored text_page w_bytes v_bytes spot_at bytes_at store_effect computation fetch evaluations write_tests tested_effect execution execution_by instruction
-    number_at address_of evaluation_at evaluation_through evaluation byte_at number_read signed_at displacement_at base_at indexed_at specifier_at operand_at counted place_at operands_at
+    number_at address_of evaluation_at evaluation_through evaluation next_byte number_read next_signed next_displacement base_at indexed_at next_specifier next_operand with_count
+    operand_in_place next_operands
     instruction_at decoded row_for all_rows
 w_exits pages sid image bytes stack b n z v c = record { n = _; z = _; v = _; c = _; is = refl }
 
@@ -139,21 +152,24 @@ pub w_moves : (pages sid image : ℕ) (bytes stack : List ℕ) (b : Bank) (n z v
     → Leaves (instruction_in (space_of pages W sid image bytes stack) (regs_of b 0x23 n z v c))
     (record b { r4 = stored b.r4 (let s : Sum = sum_of (b.r4 % 256 ^ 4) 0x400 in s.value) }) 0x2a None
 unfolding space_of regs_of stored text_page w_bytes v_bytes spot_at bytes_at store_effect computation fetch evaluations write_tests tested_effect execution execution_by instruction
-    number_at address_of evaluation_at evaluation_through evaluation byte_at number_read signed_at displacement_at base_at indexed_at specifier_at operand_at counted place_at operands_at
+    number_at address_of evaluation_at evaluation_through evaluation next_byte number_read next_signed next_displacement base_at indexed_at next_specifier next_operand with_count
+    operand_in_place next_operands
     instruction_at decoded row_for all_rows
 w_moves pages sid image bytes stack b n z v c = record { n = _; z = _; v = _; c = _; is = refl }
 
 pub v_begins : (pages sid image : ℕ) (bytes stack : List ℕ) (b : Bank) (n z v c : Bool)
     → Leaves (instruction_in (space_of pages V sid image bytes stack) (regs_of b 0x2 n z v c)) (record b { r3 = stored b.r3 30 }) 0x5 None
 unfolding space_of regs_of stored text_page w_bytes v_bytes spot_at bytes_at store_effect computation fetch evaluations write_tests tested_effect execution execution_by instruction
-    number_at address_of evaluation_at evaluation_through evaluation byte_at number_read signed_at displacement_at base_at indexed_at specifier_at operand_at counted place_at operands_at
+    number_at address_of evaluation_at evaluation_through evaluation next_byte number_read next_signed next_displacement base_at indexed_at next_specifier next_operand with_count
+    operand_in_place next_operands
     instruction_at decoded row_for all_rows
 v_begins pages sid image bytes stack b n z v c = record { n = _; z = _; v = _; c = _; is = refl }
 
 pub v_rounds : (pages sid image : ℕ) (bytes stack : List ℕ) (b : Bank) (n z v c : Bool)
     → Leaves (instruction_in (space_of pages V sid image bytes stack) (regs_of b 0x5 n z v c)) (record b { r4 = stored b.r4 0x400 }) 0xc None
 unfolding space_of regs_of stored text_page w_bytes v_bytes spot_at bytes_at store_effect computation fetch evaluations write_tests tested_effect execution execution_by instruction
-    number_at address_of evaluation_at evaluation_through evaluation byte_at number_read signed_at displacement_at base_at indexed_at specifier_at operand_at counted place_at operands_at
+    number_at address_of evaluation_at evaluation_through evaluation next_byte number_read next_signed next_displacement base_at indexed_at next_specifier next_operand with_count
+    operand_in_place next_operands
     instruction_at decoded row_for all_rows
 v_rounds pages sid image bytes stack b n z v c = record { n = _; z = _; v = _; c = _; is = refl }
 
@@ -161,35 +177,40 @@ pub v_loads : (pages sid image : ℕ) (bytes stack : List ℕ) (b : Bank) (n z v
     → Leaves (instruction_in (space_of pages V sid image bytes stack) (regs_of b 0xc n z v c))
     (record b { r5 = stored b.r5 (from_le_bytes w32 (word_bytes pages)) }) 0x13 None
 unfolding space_of regs_of stored text_page w_bytes v_bytes spot_at bytes_at store_effect computation fetch evaluations write_tests tested_effect execution execution_by instruction
-    number_at address_of evaluation_at evaluation_through evaluation byte_at number_read signed_at displacement_at base_at indexed_at specifier_at operand_at counted place_at operands_at
+    number_at address_of evaluation_at evaluation_through evaluation next_byte number_read next_signed next_displacement base_at indexed_at next_specifier next_operand with_count
+    operand_in_place next_operands
     instruction_at decoded row_for all_rows
 v_loads pages sid image bytes stack b n z v c = record { n = _; z = _; v = _; c = _; is = refl }
 
 pub v_will_write : (pages sid image : ℕ) (bytes stack : List ℕ) (b : Bank) (n z v c : Bool)
     → Leaves (instruction_in (space_of pages V sid image bytes stack) (regs_of b 0x22 n z v c)) (record b { ap = stored b.ap 0xA8 }) 0x29 None
 unfolding space_of regs_of stored text_page w_bytes v_bytes spot_at bytes_at store_effect computation fetch evaluations write_tests tested_effect execution execution_by instruction
-    number_at address_of evaluation_at evaluation_through evaluation byte_at number_read signed_at displacement_at base_at indexed_at specifier_at operand_at counted place_at operands_at
+    number_at address_of evaluation_at evaluation_through evaluation next_byte number_read next_signed next_displacement base_at indexed_at next_specifier next_operand with_count
+    operand_in_place next_operands
     instruction_at decoded row_for all_rows
 v_will_write pages sid image bytes stack b n z v c = record { n = _; z = _; v = _; c = _; is = refl }
 
 pub v_writes : (pages sid image : ℕ) (bytes stack : List ℕ) (b : Bank) (n z v c : Bool)
     → Leaves (instruction_in (space_of pages V sid image bytes stack) (regs_of b 0x29 n z v c)) (b) 0x2b (Some (pos 4))
 unfolding space_of regs_of stored text_page w_bytes v_bytes spot_at bytes_at store_effect computation fetch evaluations write_tests tested_effect execution execution_by instruction
-    number_at address_of evaluation_at evaluation_through evaluation byte_at number_read signed_at displacement_at base_at indexed_at specifier_at operand_at counted place_at operands_at
+    number_at address_of evaluation_at evaluation_through evaluation next_byte number_read next_signed next_displacement base_at indexed_at next_specifier next_operand with_count
+    operand_in_place next_operands
     instruction_at decoded row_for all_rows
 v_writes pages sid image bytes stack b n z v c = record { n = _; z = _; v = _; c = _; is = refl }
 
 pub v_will_exit : (pages sid image : ℕ) (bytes stack : List ℕ) (b : Bank) (n z v c : Bool)
     → Leaves (instruction_in (space_of pages V sid image bytes stack) (regs_of b 0x2b n z v c)) (record b { ap = stored b.ap 0xB8 }) 0x32 None
 unfolding space_of regs_of stored text_page w_bytes v_bytes spot_at bytes_at store_effect computation fetch evaluations write_tests tested_effect execution execution_by instruction
-    number_at address_of evaluation_at evaluation_through evaluation byte_at number_read signed_at displacement_at base_at indexed_at specifier_at operand_at counted place_at operands_at
+    number_at address_of evaluation_at evaluation_through evaluation next_byte number_read next_signed next_displacement base_at indexed_at next_specifier next_operand with_count
+    operand_in_place next_operands
     instruction_at decoded row_for all_rows
 v_will_exit pages sid image bytes stack b n z v c = record { n = _; z = _; v = _; c = _; is = refl }
 
 pub v_exits : (pages sid image : ℕ) (bytes stack : List ℕ) (b : Bank) (n z v c : Bool)
     → Leaves (instruction_in (space_of pages V sid image bytes stack) (regs_of b 0x32 n z v c)) (b) 0x34 (Some (pos 1))
 unfolding space_of regs_of stored text_page w_bytes v_bytes spot_at bytes_at store_effect computation fetch evaluations write_tests tested_effect execution execution_by instruction
-    number_at address_of evaluation_at evaluation_through evaluation byte_at number_read signed_at displacement_at base_at indexed_at specifier_at operand_at counted place_at operands_at
+    number_at address_of evaluation_at evaluation_through evaluation next_byte number_read next_signed next_displacement base_at indexed_at next_specifier next_operand with_count
+    operand_in_place next_operands
     instruction_at decoded row_for all_rows
 v_exits pages sid image bytes stack b n z v c = record { n = _; z = _; v = _; c = _; is = refl }
 
@@ -197,21 +218,24 @@ pub v_moves : (pages sid image : ℕ) (bytes stack : List ℕ) (b : Bank) (n z v
     → Leaves (instruction_in (space_of pages V sid image bytes stack) (regs_of b 0x15 n z v c))
     (record b { r4 = stored b.r4 (let s : Sum = sum_of (b.r4 % 256 ^ 4) 0x400 in s.value) }) 0x1c None
 unfolding space_of regs_of stored text_page w_bytes v_bytes spot_at bytes_at store_effect computation fetch evaluations write_tests tested_effect execution execution_by instruction
-    number_at address_of evaluation_at evaluation_through evaluation byte_at number_read signed_at displacement_at base_at indexed_at specifier_at operand_at counted place_at operands_at
+    number_at address_of evaluation_at evaluation_through evaluation next_byte number_read next_signed next_displacement base_at indexed_at next_specifier next_operand with_count
+    operand_in_place next_operands
     instruction_at decoded row_for all_rows
 v_moves pages sid image bytes stack b n z v c = record { n = _; z = _; v = _; c = _; is = refl }
 
 pub w_parts_1 : (pages sid image : ℕ) (bytes stack : List ℕ) (b : Bank) (n z v c : Bool)
     → Leaves (instruction_in (space_of pages W sid image bytes stack) (regs_of (record b { r1 = 1 }) 0x0d n z v c)) (record b { r1 = 1 }) 0x46 None
 unfolding space_of regs_of stored text_page w_bytes v_bytes spot_at bytes_at store_effect computation fetch evaluations write_tests tested_effect execution execution_by instruction
-    number_at address_of evaluation_at evaluation_through evaluation byte_at number_read signed_at displacement_at base_at indexed_at specifier_at operand_at counted place_at operands_at
+    number_at address_of evaluation_at evaluation_through evaluation next_byte number_read next_signed next_displacement base_at indexed_at next_specifier next_operand with_count
+    operand_in_place next_operands
     instruction_at decoded row_for all_rows
 w_parts_1 pages sid image bytes stack b n z v c = record { n = _; z = _; v = _; c = _; is = refl }
 
 pub w_parts_0 : (pages sid image : ℕ) (bytes stack : List ℕ) (b : Bank) (n z v c : Bool)
     → Leaves (instruction_in (space_of pages W sid image bytes stack) (regs_of (record b { r1 = 0 }) 0x0d n z v c)) (record b { r1 = 0 }) 0x10 None
 unfolding space_of regs_of stored text_page w_bytes v_bytes spot_at bytes_at store_effect computation fetch evaluations write_tests tested_effect execution execution_by instruction
-    number_at address_of evaluation_at evaluation_through evaluation byte_at number_read signed_at displacement_at base_at indexed_at specifier_at operand_at counted place_at operands_at
+    number_at address_of evaluation_at evaluation_through evaluation next_byte number_read next_signed next_displacement base_at indexed_at next_specifier next_operand with_count
+    operand_in_place next_operands
     instruction_at decoded row_for all_rows
 w_parts_0 pages sid image bytes stack b n z v c = record { n = _; z = _; v = _; c = _; is = refl }
 
@@ -272,32 +296,36 @@ pub w_closes : (pages sid image : ℕ) (bytes stack : List ℕ) (b : Bank) (n z 
     → instruction_in (space_of pages W sid image bytes stack) (regs_of b 0x2a n z v c) ≡ Ok
     (counts_five b 0x2d n z v c 0x21 (difference_of (b.r5 % 256 ^ 4) 1))
 unfolding counts_five space_of regs_of stored text_page w_bytes v_bytes spot_at bytes_at store_effect computation fetch evaluations write_tests tested_effect execution execution_by
-    instruction number_at address_of evaluation_at evaluation_through evaluation byte_at number_read signed_at displacement_at base_at indexed_at specifier_at operand_at counted place_at
-    operands_at instruction_at decoded row_for all_rows
+    instruction number_at address_of evaluation_at evaluation_through evaluation next_byte number_read next_signed next_displacement base_at indexed_at next_specifier next_operand
+    with_count operand_in_place
+    next_operands instruction_at decoded row_for all_rows
 w_closes pages sid image bytes stack b n z v c = refl
 
 pub w_repeats : (pages sid image : ℕ) (bytes stack : List ℕ) (b : Bank) (n z v c : Bool)
     → instruction_in (space_of pages W sid image bytes stack) (regs_of b 0x2d n z v c) ≡ Ok
     (counts_three b 0x30 n z v c 0x13 (difference_of (b.r3 % 256 ^ 4) 1))
 unfolding counts_three space_of regs_of stored text_page w_bytes v_bytes spot_at bytes_at store_effect computation fetch evaluations write_tests tested_effect execution execution_by
-    instruction number_at address_of evaluation_at evaluation_through evaluation byte_at number_read signed_at displacement_at base_at indexed_at specifier_at operand_at counted place_at
-    operands_at instruction_at decoded row_for all_rows
+    instruction number_at address_of evaluation_at evaluation_through evaluation next_byte number_read next_signed next_displacement base_at indexed_at next_specifier next_operand
+    with_count operand_in_place
+    next_operands instruction_at decoded row_for all_rows
 w_repeats pages sid image bytes stack b n z v c = refl
 
 pub v_closes : (pages sid image : ℕ) (bytes stack : List ℕ) (b : Bank) (n z v c : Bool)
     → instruction_in (space_of pages V sid image bytes stack) (regs_of b 0x1c n z v c) ≡ Ok
     (counts_five b 0x1f n z v c 0x13 (difference_of (b.r5 % 256 ^ 4) 1))
 unfolding counts_five space_of regs_of stored text_page w_bytes v_bytes spot_at bytes_at store_effect computation fetch evaluations write_tests tested_effect execution execution_by
-    instruction number_at address_of evaluation_at evaluation_through evaluation byte_at number_read signed_at displacement_at base_at indexed_at specifier_at operand_at counted place_at
-    operands_at instruction_at decoded row_for all_rows
+    instruction number_at address_of evaluation_at evaluation_through evaluation next_byte number_read next_signed next_displacement base_at indexed_at next_specifier next_operand
+    with_count operand_in_place
+    next_operands instruction_at decoded row_for all_rows
 v_closes pages sid image bytes stack b n z v c = refl
 
 pub v_repeats : (pages sid image : ℕ) (bytes stack : List ℕ) (b : Bank) (n z v c : Bool)
     → instruction_in (space_of pages V sid image bytes stack) (regs_of b 0x1f n z v c) ≡ Ok
     (counts_three b 0x22 n z v c 0x5 (difference_of (b.r3 % 256 ^ 4) 1))
 unfolding counts_three space_of regs_of stored text_page w_bytes v_bytes spot_at bytes_at store_effect computation fetch evaluations write_tests tested_effect execution execution_by
-    instruction number_at address_of evaluation_at evaluation_through evaluation byte_at number_read signed_at displacement_at base_at indexed_at specifier_at operand_at counted place_at
-    operands_at instruction_at decoded row_for all_rows
+    instruction number_at address_of evaluation_at evaluation_through evaluation next_byte number_read next_signed next_displacement base_at indexed_at next_specifier next_operand
+    with_count operand_in_place
+    next_operands instruction_at decoded row_for all_rows
 v_repeats pages sid image bytes stack b n z v c = refl
 
 -- ---- a page that is changed
@@ -360,8 +388,9 @@ w_change_is : (pages sid image : ℕ) (bytes stack : List ℕ) (b : Bank) (n z v
     ((answers_of s).may_write b.r4) ((answers_of s).may_write (past b.r4 1)) ((answers_of s).may_write (past (past b.r4 1) 1))
     ((answers_of s).may_write (past (past (past b.r4 1) 1) 1)))
 unfolding change_by space_of regs_of stored text_page w_bytes v_bytes spot_at bytes_at store_effect computation fetch evaluations write_tests tested_effect execution execution_by
-    instruction number_at address_of evaluation_at evaluation_through evaluation byte_at number_read signed_at displacement_at base_at indexed_at specifier_at operand_at counted place_at
-    operands_at instruction_at decoded row_for all_rows
+    instruction number_at address_of evaluation_at evaluation_through evaluation next_byte number_read next_signed next_displacement base_at indexed_at next_specifier next_operand
+    with_count operand_in_place
+    next_operands instruction_at decoded row_for all_rows
 w_change_is pages sid image bytes stack b n z v c = refl
 
 pub w_changes : (pages sid image : ℕ) (bytes stack : List ℕ) (b : Bank) (n z v c : Bool) → HasWord (space_of pages W sid image bytes stack) b.r4
@@ -377,8 +406,9 @@ v_change_is : (pages sid image : ℕ) (bytes stack : List ℕ) (b : Bank) (n z v
     ((answers_of s).may_write b.r4) ((answers_of s).may_write (past b.r4 1)) ((answers_of s).may_write (past (past b.r4 1) 1))
     ((answers_of s).may_write (past (past (past b.r4 1) 1) 1)))
 unfolding change_by space_of regs_of stored text_page w_bytes v_bytes spot_at bytes_at store_effect computation fetch evaluations write_tests tested_effect execution execution_by
-    instruction number_at address_of evaluation_at evaluation_through evaluation byte_at number_read signed_at displacement_at base_at indexed_at specifier_at operand_at counted place_at
-    operands_at instruction_at decoded row_for all_rows
+    instruction number_at address_of evaluation_at evaluation_through evaluation next_byte number_read next_signed next_displacement base_at indexed_at next_specifier next_operand
+    with_count operand_in_place
+    next_operands instruction_at decoded row_for all_rows
 v_change_is pages sid image bytes stack b n z v c = refl
 
 pub v_changes : (pages sid image : ℕ) (bytes stack : List ℕ) (b : Bank) (n z v c : Bool) → HasWord (space_of pages V sid image bytes stack) b.r4

@@ -24,13 +24,13 @@ use Rattle.flat_model.specs.declared.calls.SystemCall.{SystemCall}
 use Rattle.flat_model.specs.Calls.{call_of}
 use Rattle.flat_model.specs.Instruction.{instruction_in}
 use Rattle.flat_model.specs.Step.{Step, replied_step, reply_behind, called_step, step_behind, step_of, flat_step}
-use Rattle.flat_model.specs.Run.{Point, is_refused, step_at, due, act as next_of_step, behind, process_of_entry}
+use Rattle.flat_model.specs.Run.{Point, is_refused, step_at, due, entry_of_step as next_of_step, behind, process_of_entry}
 use Rattle.flat_model.specs.Asked.{change_wanted, wanted_in, wanted_if, asks_by, asks, given_up}
 use Rattle.run_model.specs.State.{State}
 use Rattle.run_model.specs.After.{after}
 use Rattle.run_model.specs.Act.{must_refuse, must_settle, act_by, act_if, act, awaits, IsNext, LastSays}
 use Rattle.run_model.specs.Next.{next_unit}
-use Rattle.run_model.specs.Kinds.{Runs as RunsUnder}
+use Rattle.run_model.specs.Kinds.{ProcessRuns as RunsUnder}
 use Rattle.run_model.specs.Lawful.{Follows}
 use Rattle.run_model.proofs.NextUnits.{kind_of}
 use Rattle.run_laws.specs.Flowing.{Flows}

@@ -5,7 +5,7 @@ use Rattle.vm_facts.specs.declared.entry.Entry.{Entry}
 use Rattle.vm_facts.specs.declared.entry.Entry.TheVariants as entries
 use Rattle.swap_book.specs.Holdings.{Holdings}
 use Rattle.flat_state.specs.Flat.{NamedImage, Inputs, image_numbered}
-use Rattle.aout_image.specs.Image.{data_pages_of}
+use Rattle.aout_image.specs.Image.{image_data_pages}
 use Rattle.flat_state.specs.Journal.{instructions_of}
 use Rattle.run_model.specs.State.{State}
 use Rattle.run_model.specs.Lawful.{Reaches}
@@ -42,12 +42,12 @@ same_counted : (us : List Entry) → counted_in (λ u. cond (is_fork u) 1 0) us 
 same_counted [] = refl
 same_counted (u ∷ us) = let k = same_counted us in let l = ap {B = ℕ} (λ (b : Bool). cond b 1 0) (same_fork u) in omega (arith, k, l)
 
-is_few : (x named : NamedImage) → Some x ≡ Some named → data_pages_of x.image.facts ≤ 4096 → data_pages_of named.image.facts ≤ 4096
-is_few x named e l = subst (λ (n : NamedImage). data_pages_of n.image.facts ≤ 4096) (same_Some x named e) l
+is_few : (x named : NamedImage) → Some x ≡ Some named → image_data_pages x.image.facts ≤ 4096 → image_data_pages named.image.facts ≤ 4096
+is_few x named e l = subst (λ (n : NamedImage). image_data_pages n.image.facts ≤ 4096) (same_Some x named e) l
 
 -- the two images have few pages
 few_pages : (pages number : ℕ) (named : NamedImage) → pages ≤ 64 → image_numbered (images_for pages) number ≡ Some named
-    → data_pages_of named.image.facts ≤ 4096
+    → image_data_pages named.image.facts ≤ 4096
 few_pages pages zero named l e = absurd cc
 few_pages pages (suc zero) named l e = is_few _ named e (omega arith)
 few_pages pages (suc (suc zero)) named l e = is_few _ named e (omega (arith, l))

@@ -7,7 +7,7 @@ use Rattle.vm_facts.specs.declared.memory.ByteRead.TheVariants as reads
 use Rattle.vm_facts.specs.declared.memory.MayWrite.TheVariants as tests
 use Rattle.flat_state.specs.declared.spot.Spot.{Spot}
 use Rattle.flat_state.specs.declared.spot.Spot.TheVariants.{Text, Data, Stack, Below, Outside}
-use Rattle.flat_state.specs.Space.{Space, stack_top, stack_reach, spot_by, spot_at, address_in, byte_at, may_write_at, answers_of, put_at, put, puts}
+use Rattle.flat_state.specs.Space.{Space, stack_top, stack_reach, spot_by, spot_at, address_in, byte_at, may_write_at, answers_of, put_at, put_in_space, puts}
 use Rattle.user_vax.specs.Operands.{past}
 use Rattle.load_maker.specs.Programs.{w_bytes, v_bytes}
 use Rattle.load_laws.specs.Stages.{W, V, text_page}
@@ -33,8 +33,8 @@ put_sizes s Outside byte = record { sid = refl; image = refl; text = refl; size 
 pub puts_sizes : (ws : List ByteWrite) (s : Space) → SameSizes s (puts s ws)
 puts_sizes [] s = record { sid = refl; image = refl; text = refl; size = refl; stack = refl }
 puts_sizes (w ∷ ws) s =
-    let a : SameSizes s (put s w) = put_sizes s (address_in s w.address) w.byte in
-    let b : SameSizes (put s w) (puts (put s w) ws) = puts_sizes ws (put s w) in
+    let a : SameSizes s (put_in_space s w) = put_sizes s (address_in s w.address) w.byte in
+    let b : SameSizes (put_in_space s w) (puts (put_in_space s w) ws) = puts_sizes ws (put_in_space s w) in
     record { sid = b.sid ∙ a.sid; image = b.image ∙ a.image; text = b.text ∙ a.text; size = b.size ∙ a.size; stack = b.stack ∙ a.stack }
 
 -- ---- a longword of the data

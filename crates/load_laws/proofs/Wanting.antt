@@ -2,7 +2,7 @@
 use Rattle.std.proofs.Common.{◌≡◌, ℕ, zero, suc, ◌+◌, ◌-◌, ◌*◌, ◌/◌, ◌<◌, ◌≤◌, Bool, true, false, ◌&&◌, nat_lt, nat_le, List, [], ◌∷◌, ◌++◌, length, drop, refl, sym, ap, ◌∙◌, subst, arith}
 use Rattle.std.proofs.lemmas.Bool.{and_parts, leb-true, ltb-true}
 use Rattle.aout_image.specs.Image.{Loaded, pages_for, text_pages_of}
-use Rattle.swap_dmap.specs.Chunks.{pieces, chunk, chunk_start, lowest, chunks_holding, last_piece, text_pieces}
+use Rattle.swap_dmap.specs.Chunks.{pieces, chunk, chunk_start, lowest_below, chunks_holding, last_piece, text_pieces}
 use Rattle.swap_book.specs.declared.Owner.{Owner}
 use Rattle.swap_book.specs.declared.Owner.TheVariants as owners
 use Rattle.swap_book.specs.Placing.{Wanted, wanted}
@@ -72,11 +72,11 @@ is_few : ℕ → List ℕ → Bool
 is_few most ns = all_within ns && nat_le (sum_of ns) most
 
 data_few : all_below (λ j. is_few 224 (pieces (2 * (40 + j)))) 25 ≡ true
-unfolding all_below is_few all_within sum_of pieces chunk chunk_start lowest chunks_holding
+unfolding all_below is_few all_within sum_of pieces chunk chunk_start lowest_below chunks_holding
 data_few = refl
 
 more_few : all_below (λ j. is_few 192 (drop 1 (pieces (2 * (40 + j))))) 25 ≡ true
-unfolding all_below is_few all_within sum_of pieces chunk chunk_start lowest chunks_holding
+unfolding all_below is_few all_within sum_of pieces chunk chunk_start lowest_below chunks_holding
 more_few = refl
 
 at_pages : (test : ℕ → Bool) (pages : ℕ) → all_below (λ j. test (40 + j)) 25 ≡ true → 40 ≤ pages → pages < 65 → test pages ≡ true
@@ -89,7 +89,7 @@ unfolding is_few
 data_asks sid pages low high = by_lengths (owners.Data sid) (pieces (2 * pages)) 224 (at_pages (λ x. is_few 224 (pieces (2 * x))) pages data_few low high)
 
 stack_asks : (sid : ℕ) → Asks (pieces_for (owners.Stack sid) 1) 32
-unfolding all_within sum_of pieces chunk chunk_start lowest chunks_holding
+unfolding all_within sum_of pieces chunk chunk_start lowest_below chunks_holding
 stack_asks sid = by_lengths (owners.Stack sid) (pieces 2) 32 refl
 
 u_asks : (pid : ℕ) → Asks (pieces_for (owners.U pid) 1) 2
@@ -104,13 +104,13 @@ text_asks false image e = subst (λ (n : ℕ). Asks (pieces_for (owners.Text 2) 
 -- ---- what each change asks for
 
 more_asks : (sid pages : ℕ) → 40 ≤ pages → pages < 65 → Asks (further_pieces (owners.Data sid) 8 pages) 192
-unfolding is_few pieces chunk chunk_start lowest chunks_holding
+unfolding is_few pieces chunk chunk_start lowest_below chunks_holding
 more_asks sid pages low high =
     subst (λ (ws : List Wanted). Asks ws 192) (sym (drop_wanted (owners.Data sid) 1 (pieces (2 * pages))))
     (by_lengths (owners.Data sid) (drop 1 (pieces (2 * pages))) 192 (at_pages (λ x. is_few 192 (drop 1 (pieces (2 * x)))) pages more_few low high))
 
 no_more_asks : (sid : ℕ) → Asks (further_pieces (owners.Stack sid) 1 1) 0
-unfolding pieces chunk chunk_start lowest chunks_holding
+unfolding pieces chunk chunk_start lowest_below chunks_holding
 no_more_asks sid = record { within = tt; few = omega arith }
 
 pub resize_asks : (images : List NamedImage) (F : FlatState) (s : Space) (pages : ℕ) → 40 ≤ pages → pages < 65 → length s.data_bytes ≡ 8192

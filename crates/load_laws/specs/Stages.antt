@@ -78,26 +78,26 @@ end_at W = 0x34
 end_at V = 0x22
 
 -- the address of the instruction that comes next
-abbrev pub address_of : Stage → ℕ
-address_of BeforeBreak = 0x02
-address_of AtBreak = 0x09
-address_of AtFork = 0x0b
-address_of (AtParting child) = 0x0d
-address_of (AtBegin t) = rounds_at t
-address_of (AtRound t r) = rounds_at t + 3
-address_of (AtCount t r) = rounds_at t + 10
-address_of (AtChange t r p) = rounds_at t + 17
-address_of (AtMove t r p) = rounds_at t + 19
-address_of (AtPageEnd t r p) = rounds_at t + 26
-address_of (AtRoundEnd t r) = rounds_at t + 29
-address_of AtWait = 0x30
-address_of (BeforeWrite t) = end_at t
-address_of (AtWrite t) = end_at t + 7
-address_of (BeforeExit t) = end_at t + 9
-address_of (AtExit t) = end_at t + 16
-address_of BeforeExecve = 0x46
-address_of AtExecve = 0x4d
-address_of Gone = 0
+abbrev pub stage_address : Stage → ℕ
+stage_address BeforeBreak = 0x02
+stage_address AtBreak = 0x09
+stage_address AtFork = 0x0b
+stage_address (AtParting child) = 0x0d
+stage_address (AtBegin t) = rounds_at t
+stage_address (AtRound t r) = rounds_at t + 3
+stage_address (AtCount t r) = rounds_at t + 10
+stage_address (AtChange t r p) = rounds_at t + 17
+stage_address (AtMove t r p) = rounds_at t + 19
+stage_address (AtPageEnd t r p) = rounds_at t + 26
+stage_address (AtRoundEnd t r) = rounds_at t + 29
+stage_address AtWait = 0x30
+stage_address (BeforeWrite t) = end_at t
+stage_address (AtWrite t) = end_at t + 7
+stage_address (BeforeExit t) = end_at t + 9
+stage_address (AtExit t) = end_at t + 16
+stage_address BeforeExecve = 0x46
+stage_address AtExecve = 0x4d
+stage_address Gone = 0
 
 -- the pages of data at a stage
 abbrev pub data_pages : ℕ → Stage → ℕ
@@ -207,7 +207,7 @@ pub record IsAt (pages : ℕ) (stage : Stage) (p : Process) : Type 0 where
   pub text : space.text_bytes ≡ text_page pages (program_of stage)
   pub size : length space.data_bytes ≡ 1024 * data_pages pages stage
   pub stack : length space.stack_bytes ≡ 1024
-  pub registers : (let regs : Regs = p.regs in regs.r) ≡ file bank (address_of stage)
+  pub registers : (let regs : Regs = p.regs in regs.r) ≡ file bank (stage_address stage)
   pub longwords : AreLongwords bank
   pub says : Says pages stage bank
   pub orphan : is_first stage ≡ true → p.parent ≡ 0

@@ -1,7 +1,7 @@
 -- The files of the load are images of one page of text.
 use Rattle.std.proofs.Common.{◌≡◌, ◌≤◌, ◌<◌, ℕ, [], ◌∷◌, length, map, Ok, refl, ap, ◌∙◌, arith}
 use Rattle.io_edge.specs.FileHolding.{NamedFile}
-use Rattle.aout_image.specs.Image.{Loaded, image_of}
+use Rattle.aout_image.specs.Image.{Loaded, judged_image}
 use Rattle.source_commands.specs.ProgramFile.{program_file, program_image}
 use Rattle.source_commands.specs.Command.{IsFileFrom}
 use Rattle.source_commands.proofs.Programs.{is_image, file_long}
@@ -23,10 +23,10 @@ v_one_page : (pages : ℕ) → program_image (v_bytes pages) (v_bss pages) ≡ o
 unfolding program_image v_bytes
 v_one_page pages = refl
 
-w_image : (pages : ℕ) → 40 ≤ pages → pages < 65 → image_of (program_file (w_bytes pages) w_bss) ≡ Ok (one_page_image (w_bytes pages) w_bss)
+w_image : (pages : ℕ) → 40 ≤ pages → pages < 65 → judged_image (program_file (w_bytes pages) w_bss) ≡ Ok (one_page_image (w_bytes pages) w_bss)
 w_image pages low high = is_image (w_source pages) (w_bytes pages) w_bss (w_program pages low high) ∙ ap (λ (l : Loaded). Ok l) (w_one_page pages)
 
-v_image : (pages : ℕ) → 40 ≤ pages → pages < 65 → image_of (program_file (v_bytes pages) (v_bss pages)) ≡ Ok (one_page_image (v_bytes pages) (v_bss pages))
+v_image : (pages : ℕ) → 40 ≤ pages → pages < 65 → judged_image (program_file (v_bytes pages) (v_bss pages)) ≡ Ok (one_page_image (v_bytes pages) (v_bss pages))
 v_image pages low high = is_image (v_source pages) (v_bytes pages) (v_bss pages) (v_program pages low high) ∙ ap (λ (l : Loaded). Ok l) (v_one_page pages)
 
 w_long : (pages : ℕ) → length (program_file (w_bytes pages) w_bss) ≡ 2048
@@ -49,7 +49,7 @@ are_files number =
     record { bytes = _; bss = _; program = v_program (load_pages number) (pages_low number) (pages_high number); file = refl } in
     (w, (v, tt))
 
-pub are_images : (number : ℕ) → map (λ (file : NamedFile). image_of file.bytes) (load_files number) ≡ map (λ (l : Loaded). Ok l) (load_images number)
+pub are_images : (number : ℕ) → map (λ (file : NamedFile). judged_image file.bytes) (load_files number) ≡ map (λ (l : Loaded). Ok l) (load_images number)
 unfolding load_files load_images
 are_images number =
     pair _ _ _ _ (w_image (load_pages number) (pages_low number) (pages_high number)) (v_image (load_pages number) (pages_low number) (pages_high number))

@@ -1,6 +1,6 @@
 ghost use Rattle.std.specs.Prelude.{◌≡◌, [], ◌∷◌, Ok, All, IfOk, length, map};
 ghost use Rattle.io_edge.specs.FileHolding.{named_file};
-ghost use Rattle.aout_image.specs.Image.{image_of};
+ghost use Rattle.aout_image.specs.Image.{judged_image};
 ghost use Rattle.run_text.specs.Schedule.{IsInRanges};
 ghost use Rattle.load_maker.specs.Load.{load_files, load_lines, load_images, load_sources, AreFilesFrom};
 
@@ -37,7 +37,7 @@ pub fn make_load(alloc: Global, number: u32) -> Result<Load, NoMemory>
     ensures files { IfOk result (λ load. map named_file load.files.items ≡ load_files number) }
     ensures lines { IfOk result (λ load. load.lines.items ≡ load_lines number) }
     ensures sources { IfOk result (λ load. AreFilesFrom (load_sources number) (map named_file load.files.items)) }
-    ensures images { IfOk result (λ load. map (λ file. image_of file.bytes) (map named_file load.files.items) ≡ map Ok (load_images number)) }
+    ensures images { IfOk result (λ load. map (λ file. judged_image file.bytes) (map named_file load.files.items) ≡ map Ok (load_images number)) }
     ensures sizes { IfOk result (λ load. map (λ file. length file.bytes) (map named_file load.files.items) ≡ 2048 ∷ 2048 ∷ []) }
     ensures ranges { IfOk result (λ load. All IsInRanges load.lines.items) }
 {

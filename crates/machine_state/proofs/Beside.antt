@@ -16,7 +16,7 @@ use Rattle.flat_state.proofs.SpotsBeside.{text_beside, data_beside, stack_beside
 use Rattle.page_model.specs.Placement.{state_of, image_of, slots_of}
 use Rattle.kernel_model.specs.Kernel.{Kernel, frame_bytes}
 use Rattle.table_steps.specs.UserMemory.{spot_in, text_len, data_len, stack_len, read_by_state, read_page, read_spot, valid_frame, may_write_by, may_write_spot, kernel_answers, IsLaidOut}
-use Rattle.machine_state.specs.Ahead.{ReadsFrom, MayFrom}
+use Rattle.machine_state.specs.Ahead.{LendsFrom, MayFrom}
 
 same_page : (i j : ℕ) → i % 1024 + j < 1024 → (i + j) / 1024 ≡ i / 1024
 same_page i j near = omega (arith, near)
@@ -36,7 +36,7 @@ abbrev AreBeside : Kernel → ℕ → ℕ → ℕ → (ℕ → Spot) → Type 0
 AreBeside k sid a i make = (j : ℕ) → i % 1024 + j < 1024 → spot_in k.place sid (a + j) ≡ make (i + j)
 
 reads_ahead : (k : Kernel) (sid a i : ℕ) (make : ℕ → Spot) (q : ℕ → Page) → ((x : ℕ) → read_spot k sid (make x) ≡ read_page k (q (x / 1024)) (x % 1024))
-    → AreBeside k sid a i make → a + 1024 ≤ 2 ^ 32 → (bytes : List ℕ) → ReadsFrom k (q (i / 1024)) (i % 1024) bytes → AreAhead (kernel_answers k sid) a bytes
+    → AreBeside k sid a i make → a + 1024 ≤ 2 ^ 32 → (bytes : List ℕ) → LendsFrom k (q (i / 1024)) (i % 1024) bytes → AreAhead (kernel_answers k sid) a bytes
 reads_ahead k sid a i make q by beside low bytes from j below =
     let near : i % 1024 + j < 1024 = (from j below).0 in
     ap (λ (x : ℕ). read_spot k sid (spot_in k.place sid x)) (no_wrap a i j low near)
@@ -60,7 +60,7 @@ may_ahead k sid a i make q by beside low count from j below =
 
 module _ (k : Kernel) (index sid image t d s : ℕ) (laid : IsLaidOut k index sid image t d s) where
   pub text_ahead : (a i : ℕ) (bytes : List ℕ) → spot_in k.place sid a ≡ Text i
-      → ReadsFrom k (pages.Text (image_of k.place sid) (i / 1024)) (i % 1024) bytes → AreAhead (kernel_answers k sid) a bytes
+      → LendsFrom k (pages.Text (image_of k.place sid) (i / 1024)) (i % 1024) bytes → AreAhead (kernel_answers k sid) a bytes
   text_ahead a i bytes e from =
       let at : (a ≡ i) × (i < text_len k.place sid) = text_spot (text_len k.place sid) (data_len k.place sid) (stack_len k.place sid) a i e in
       reads_ahead k sid a i (λ x. Text x) (λ v. pages.Text (image_of k.place sid) v) (λ x. refl)
@@ -79,7 +79,7 @@ module _ (k : Kernel) (index sid image t d s : ℕ) (laid : IsLaidOut k index si
       data_beside (text_len k.place sid) (data_len k.place sid) (stack_len k.place sid) a i j e (whole_within (length (slots_of k.place (pages.Data sid 0))) i j at.1 near)
 
   pub data_ahead : (a i : ℕ) (bytes : List ℕ) → spot_in k.place sid a ≡ Data i
-      → ReadsFrom k (pages.Data sid (i / 1024)) (i % 1024) bytes → AreAhead (kernel_answers k sid) a bytes
+      → LendsFrom k (pages.Data sid (i / 1024)) (i % 1024) bytes → AreAhead (kernel_answers k sid) a bytes
   data_ahead a i bytes e from = reads_ahead k sid a i (λ x. Data x) (λ v. pages.Data sid v) (λ x. refl) (beside_data a i e) (below_data a i e) bytes from
 
   pub data_writable : (a i count : ℕ) → spot_in k.place sid a ≡ Data i
@@ -95,7 +95,7 @@ module _ (k : Kernel) (index sid image t d s : ℕ) (laid : IsLaidOut k index si
   beside_stack a i e j near = stack_beside (text_len k.place sid) (data_len k.place sid) (stack_len k.place sid) a i j e near
 
   pub stack_ahead : (a i : ℕ) (bytes : List ℕ) → spot_in k.place sid a ≡ Stack i
-      → ReadsFrom k (pages.Stack sid (i / 1024)) (i % 1024) bytes → AreAhead (kernel_answers k sid) a bytes
+      → LendsFrom k (pages.Stack sid (i / 1024)) (i % 1024) bytes → AreAhead (kernel_answers k sid) a bytes
   stack_ahead a i bytes e from = reads_ahead k sid a i (λ x. Stack x) (λ v. pages.Stack sid v) (λ x. refl) (beside_stack a i e) (below_stack a i e) bytes from
 
   pub stack_writable : (a i count : ℕ) → spot_in k.place sid a ≡ Stack i
@@ -113,7 +113,7 @@ in_frame k OnSwap f e = absurd cc
 
 -- the bytes of a frame from a place on are those of its page
 pub frame_reads : (k : Kernel) (q : Page) (f at : ℕ) (bytes : List ℕ) → Some f ≡ valid_frame (state_of k.place q)
-    → bytes ≡ drop at (frame_bytes k f) → length (frame_bytes k f) ≡ 1024 → at < 1024 → ReadsFrom k q at bytes
+    → bytes ≡ drop at (frame_bytes k f) → length (frame_bytes k f) ≡ 1024 → at < 1024 → LendsFrom k q at bytes
 frame_reads k q f at bytes valid is whole within i below =
     let held : List ℕ = frame_bytes k f in
     let count : length bytes ≡ length (drop at held) = ap length is in

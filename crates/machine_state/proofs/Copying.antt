@@ -9,11 +9,11 @@ use Rattle.vm_facts.specs.declared.entry.Entry.TheVariants as entries
 use Rattle.frame_state.specs.Frame.{Frame}
 use Rattle.core_map.specs.declared.slot.Slot.{Slot as Token}
 use Rattle.core_map.specs.declared.slot.Slot.TheVariants as tokens
-use Rattle.core_map.specs.Slots.{slot_at, token_of, page_of}
+use Rattle.core_map.specs.Slots.{slot_at, token_of, slot_page}
 use Rattle.page_model.specs.Frames.{set_frame}
 use Rattle.page_model.specs.Pages.{frame_of}
 use Rattle.flat_state.specs.PageNames.{same_page}
-use Rattle.page_model.specs.Placement.{Placement, Due, CopyOf, due_page, due_at, state_of, IsThere}
+use Rattle.page_model.specs.Placement.{Placement, Due, CopyOf, due_page, due_of_page, state_of, IsThere}
 use Rattle.page_model.specs.Moves.{fill}
 use Rattle.page_model.specs.Place.{filled, due_after}
 use Rattle.page_model.specs.Conditions.{EachPage}
@@ -30,7 +30,7 @@ use Rattle.table_steps.specs.DueFill.{DueFill}
 use Rattle.table_steps.specs.DueFill.TheVariants as fills
 use Rattle.table_steps.specs.View.{Lists, flown_at, bytes_by, due_shown, starts_of, placement_of, frames_of}
 use Rattle.table_steps.specs.Due.{DueOnce}
-use Rattle.table_steps.specs.Steps.{taken, seated}
+use Rattle.table_steps.specs.Steps.{taken, seated_in}
 use Rattle.table_steps.specs.Moves.{TookFrame, SeatedPage, FinishedFill}
 use Rattle.table_steps.specs.Machine.{Runs, lists_of, kernel_by}
 use Rattle.table_steps.specs.Known.{Known}
@@ -59,8 +59,8 @@ starts_next [] q parent others e = absurd cc
 starts_next (fills.Start r bytes ∷ ds) q parent others e = absurd cc
 starts_next (fills.Copy child from ∷ ds) q parent others e = refl
 
-due_copied : (ds : List Due) (q parent : Page) (others : List Due) → ds ≡ CopyOf q parent ∷ others → due_at ds q ≡ Some (CopyOf q parent)
-due_copied ds q parent others e = ap (λ (x : List Due). due_at x q) e ∙ ap (λ (b : Bool). cond b (Some (CopyOf q parent)) (due_at others q)) (same_page_self q)
+due_copied : (ds : List Due) (q parent : Page) (others : List Due) → ds ≡ CopyOf q parent ∷ others → due_of_page ds q ≡ Some (CopyOf q parent)
+due_copied ds q parent others e = ap (λ (x : List Due). due_of_page x q) e ∙ ap (λ (b : Bool). cond b (Some (CopyOf q parent)) (due_of_page others q)) (same_page_self q)
 
 pub left_due : (ds : List DueFill) (q parent : Page) (others : List Due) → DueOnce ds → map due_shown ds ≡ CopyOf q parent ∷ others
     → NotDue (due_after (map due_shown ds) q) q
@@ -86,11 +86,11 @@ pub record Copying (t u v w : Tables) (token copy : Frame) (q parent : Page) (f 
   pub once : DueOnce t.fills.items
 
 copying_lists : (t u v w : Tables) (token copy : Frame) (q parent : Page) (f : ℕ) (others : List Due) → Copying t u v w token copy q parent f others
-    → lists_of w ≡ zeroed (lists_of t) token.number (page_of (slot_at t.core.slots token.number)) u.core.free copy q
+    → lists_of w ≡ zeroed (lists_of t) token.number (slot_page (slot_at t.core.slots token.number)) u.core.free copy q
 copying_lists t u v w token copy q parent f others z =
     finished_lists v w z.finish
     ∙ ap (λ (ds : List DueFill). record (lists_of v) { fills = drop 1 ds }) (ap (λ (x : Tables). x.fills.items) z.seat.rest ∙ ap (λ (x : Tables). x.fills.items) z.took.rest)
-    ∙ ap (λ (l : Lists). record l { fills = drop 1 t.fills.items }) (seated_lists u v copy q true z.seat ∙ ap (λ (l : Lists). seated l copy q true) (took_lists t u token z.took))
+    ∙ ap (λ (l : Lists). record l { fills = drop 1 t.fills.items }) (seated_lists u v copy q true z.seat ∙ ap (λ (l : Lists). seated_in l copy q true) (took_lists t u token z.took))
 
 pub copying_rest : (t u v w : Tables) (token copy : Frame) (q parent : Page) (f : ℕ) (others : List Due)
     → Copying t u v w token copy q parent f others → w ≡ record t { core = v.core; spaces = v.spaces; fills = w.fills }
@@ -103,20 +103,20 @@ pub copy_ties : (t u v w : Tables) (token copy : Frame) (q parent : Page) (f : �
     → frame_of (state_of (placement_of (lists_of t)) q) ≡ None → Ties (lists_of t) (lists_of w)
 copy_ties t u v w token copy q parent f others z none =
     subst (Ties (lists_of t)) (sym (copying_lists t u v w token copy q parent f others z))
-    (zeroed_ties (lists_of t) token.number (page_of (slot_at t.core.slots token.number)) u.core.free copy q z.known refl z.writable z.there none)
+    (zeroed_ties (lists_of t) token.number (slot_page (slot_at t.core.slots token.number)) u.core.free copy q z.known refl z.writable z.there none)
 
 -- the first free frame was taken
 copying_took : (t u v w : Tables) (token copy : Frame) (q parent : Page) (f : ℕ) (others : List Due) → Copying t u v w token copy q parent f others
-    → Took (lists_of t) (taken (lists_of t) token.number (page_of (slot_at t.core.slots token.number)) u.core.free) copy.number
+    → Took (lists_of t) (taken (lists_of t) token.number (slot_page (slot_at t.core.slots token.number)) u.core.free) copy.number
 copying_took t u v w token copy q parent f others z =
-    let page = page_of (slot_at t.core.slots token.number) in
+    let page = slot_page (slot_at t.core.slots token.number) in
     let head : Head (lists_of t) token.number token page u.core.free = record { free = z.took.free; was = z.took.was } in
     subst (Took (lists_of t) (taken (lists_of t) token.number page u.core.free)) (sym (ap (λ (x : Frame). x.number) z.is)) (took_is (lists_of t) token.number token page u.core.free z.known head)
 
 copy_place : (t u v w : Tables) (token copy : Frame) (q parent : Page) (f : ℕ) (others : List Due) → Copying t u v w token copy q parent f others
     → placement_of (lists_of w) ≡ filled (placement_of (lists_of t)) q
 copy_place t u v w token copy q parent f others z =
-    let l : Lists = taken (lists_of t) token.number (page_of (slot_at t.core.slots token.number)) u.core.free in
+    let l : Lists = taken (lists_of t) token.number (slot_page (slot_at t.core.slots token.number)) u.core.free in
     ap placement_of (copying_lists t u v w token copy q parent f others z)
     ∙ ap (λ (p : Placement). record p { due = map due_shown (drop 1 t.fills.items) }) (fill_is (lists_of t) l copy q (copying_took t u v w token copy q parent f others z) z.writable z.there refl)
     ∙ ap (λ (ds : List Due). record (fill (placement_of (lists_of t)) q) { due = ds }) (due_next t.fills.items q parent others z.due)
@@ -125,7 +125,7 @@ copy_place t u v w token copy q parent f others z =
 copied_is : (t : Tables) (journal : List Entry) (stopped : Bool) (q parent : Page) (f : ℕ) (others : List Due) → Known (lists_of t)
     → state_of (placement_of (lists_of t)) parent ≡ Valid f
     → map due_shown t.fills.items ≡ CopyOf q parent ∷ others
-    → copied_bytes (kernel_by t journal stopped) (due_at (map due_shown t.fills.items) q) ≡ (token_of (slot_at t.core.slots f)).bytes
+    → copied_bytes (kernel_by t journal stopped) (due_of_page (map due_shown t.fills.items) q) ≡ (token_of (slot_at t.core.slots f)).bytes
 copied_is t journal stopped q parent f others known valid due =
     let k : Kernel = kernel_by t journal stopped in
     let r : Resides (lists_of t) parent f = seat_resides (lists_of t) parent f known (record { state = inl valid }) in
@@ -140,7 +140,7 @@ pub copy_kernel : (t u v w : Tables) (token copy : Frame) (q parent : Page) (f :
     → kernel_by w (journal ++ entries.Copy q ∷ []) stopped ≡ copy_step (kernel_by t journal stopped) q
 copy_kernel t u v w token copy q parent f others journal stopped z =
     let g : ℕ = token.number in
-    let l : Lists = taken (lists_of t) g (page_of (slot_at t.core.slots g)) u.core.free in
+    let l : Lists = taken (lists_of t) g (slot_page (slot_at t.core.slots g)) u.core.free in
     let rest = copying_rest t u v w token copy q parent f others z in
     let n : copy.number ≡ g = ap (λ (x : Frame). x.number) z.is in
     kernel_ext (kernel_by w (journal ++ entries.Copy q ∷ []) stopped) (copy_step (kernel_by t journal stopped) q)
@@ -156,7 +156,7 @@ copy_kernel t u v w token copy q parent f others journal stopped z =
     (length-set t.core.slots g tokens.Away)
     ∙ ap (λ (h : ℕ). set_frame (frames_of (lists_of t)) h copy.bytes) n
     ∙ ap (set_frame (frames_of (lists_of t)) g) (ap (λ (x : Frame). x.bytes) z.is ∙ sym (copied_is t journal stopped q parent f others z.known z.valid z.due))
-    ∙ sym (ap (λ (fs : List ℕ). put_first fs (frames_of (lists_of t)) (copied_bytes (kernel_by t journal stopped) (due_at (map due_shown t.fills.items) q))) z.took.free))
+    ∙ sym (ap (λ (fs : List ℕ). put_first fs (frames_of (lists_of t)) (copied_bytes (kernel_by t journal stopped) (due_of_page (map due_shown t.fills.items) q))) z.took.free))
     refl
     refl
 
@@ -172,7 +172,7 @@ head_is (f ∷ rest) l = (f, rest, refl)
 pub copy_same : (size : ℕ) (k : Kernel) (q parent : Page) → Sound size k → CanCopy k.place q parent → SameElsewhere k (copy_step k q) q
 copy_same size k q parent so can images image flat w n =
     let h = head_is k.place.free can.free in
-    let bytes : List ℕ = copied_bytes k (due_at k.place.due q) in
+    let bytes : List ℕ = copied_bytes k (due_of_page k.place.due q) in
     let b : Bytes = beside_kernel k images image flat in
     let s : SamePage k.place (filled k.place q) b (with_frame b h.0 bytes) w = filled_same k.place q h.0 h.1 b bytes w so.owner.frames h.2 n in
     record {

@@ -24,9 +24,9 @@ use Rattle.table_steps.specs.Sourced.{ImageNamed, IsFlightSourced, AreSourced}
 use Rattle.table_steps.specs.Files.{AreFiles, AreImages}
 use Rattle.table_steps.specs.Machine.{Standing, lists_of, kernel_by, image_at, images_of}
 use Rattle.table_steps.specs.Moves.{LandedAll, ending}
-use Rattle.table_steps.specs.Done.{ReadsTold, IsWholeFlight, ImageAfter, SpoilsBy, SpoilsAfter, StandsTold}
+use Rattle.table_steps.specs.Done.{ReadsTold, IsWholeFlight, ImageAfter, SpoilsFirst, SpoilsAfter, StandsTold}
 use Rattle.table_steps.proofs.Kernels.{kernel_ext}
-use Rattle.core_map.specs.Frames.{IsSound}
+use Rattle.core_map.specs.Frames.{IsSoundMap}
 use Rattle.machine_state.specs.declared.machine.Machine.TheInside.{Inside}
 use Rattle.machine_state.specs.Fields.{standing_of, RunsInside}
 use Rattle.machine_state.specs.Going.{CanGoOn}
@@ -111,7 +111,7 @@ pub record Before (t : Tables) (ns : List ImageNamed) (k : Kernel) (o : Flight) 
   pub sourced : IsFlightSourced ns (image_of k.place) k.holdings size o
 
 pub before : (m : Inside) (s : Standing) (o : Flight) (rest : List Flight) → RunsInside m → standing_of m ≡ s → CanGoOn s
-    → IsSound m.tables.core.free m.tables.core.slots → m.tables.ring ≡ o ∷ rest
+    → IsSoundMap m.tables.core.free m.tables.core.slots → m.tables.ring ≡ o ∷ rest
     → Before m.tables (images_of m.tables) (kernel_by m.tables m.journal.items m.stopped) o rest m.tables.book.size
 before m s o rest h e g core ring = record {
   place = refl;
@@ -155,7 +155,7 @@ spoiled_image t ns k (flights.Read demanded parts) n rest size holds before afte
 spoiled_image t ns k (flights.Write parts) n rest size holds None after b e = none_spoiled parts.items after e.1
 spoiled_image t ns k (flights.Write parts) n rest size holds (Some image) after b e =
     let s = pages_spoiled k size image parts.items after b.sourced (own_bytes t ns k (flights.Write parts) rest size parts.items b refl (out_numbers parts.items)) e.1 in
-    (s.0, s.1, subst (λ (ts : List Transfer). SpoilsBy k image ts s.0) (sym (oldest_first t ns k (flights.Write parts) rest size b)) (refl, s.2))
+    (s.0, s.1, subst (λ (ts : List Transfer). SpoilsFirst k image ts s.0) (sym (oldest_first t ns k (flights.Write parts) rest size b)) (refl, s.2))
 
 done_read : (t : Tables) (ns : List ImageNamed) (k : Kernel) (o n : Flight) (rest : List Flight) (size : ℕ) (holds : Option (List NamedFile)) (image : List ℕ)
     (after : Option (List ℕ)) (images : List NamedImage) (flat : FlatState)

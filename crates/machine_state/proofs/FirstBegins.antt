@@ -8,7 +8,7 @@ use Rattle.vm_facts.specs.declared.stop.NoMemory.{NoMemory}
 use Rattle.vm_facts.specs.declared.page.Page.TheVariants.{Text}
 use Rattle.vm_facts.specs.declared.params.Params.{Params}
 use Rattle.aout_image.specs.declared.Image.{Image}
-use Rattle.core_map.specs.Frames.{IsSound as IsCore}
+use Rattle.core_map.specs.Frames.{IsSoundMap as IsCore}
 use Rattle.swap_dmap.specs.Chunks.{pieces}
 use Rattle.swap_book.specs.declared.Owner.TheVariants as owners
 use Rattle.swap_book.specs.Owners.{u_pieces}

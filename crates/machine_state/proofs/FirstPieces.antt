@@ -6,7 +6,7 @@ use Rattle.std.proofs.Math.Nat.{mul-mod_right}
 use Rattle.vm_facts.specs.declared.stop.NoMemory.{NoMemory}
 use Rattle.vm_facts.specs.declared.page.Page.TheVariants.{Text}
 use Rattle.aout_image.specs.declared.Image.{Image}
-use Rattle.aout_image.specs.Image.{text_pages_of, data_pages_of}
+use Rattle.aout_image.specs.Image.{text_pages_of, image_data_pages}
 use Rattle.swap_dmap.specs.Chunks.{pieces, text_pieces}
 use Rattle.swap_book.specs.declared.Owner.{Owner}
 use Rattle.swap_book.specs.declared.Owner.TheVariants as owners
@@ -15,7 +15,7 @@ use Rattle.swap_book.specs.Owners.{pieces_of, u_pieces}
 use Rattle.swap_book.specs.Holdings.{Holdings, of_owner, lengths}
 use Rattle.swap_book.specs.Placing.{Wanted, wanted, more_pieces, place_all}
 use Rattle.swap_book.specs.Book.{Book, grown_book}
-use Rattle.text_table.specs.Texts.{text_of}
+use Rattle.text_table.specs.Texts.{text_numbered}
 use Rattle.page_model.specs.Placement.{Placement, slots_of, sharers}
 use Rattle.page_model.specs.Place.{facts_numbered}
 use Rattle.kernel_model.specs.Asks.{text_asked, begin_asks}
@@ -35,7 +35,7 @@ want owner blocks = record { owner = owner; blocks = blocks }
 
 -- what a first process wants beside the text
 abbrev pub own_wants : ℕ → Image → List Want
-own_wants pid facts = want (owners.Data pid) (2 * data_pages_of facts) ∷ want (owners.Stack pid) 2 ∷ want (owners.U pid) 2 ∷ []
+own_wants pid facts = want (owners.Data pid) (2 * image_data_pages facts) ∷ want (owners.Stack pid) 2 ∷ want (owners.U pid) 2 ∷ []
 
 -- and with it
 abbrev pub all_wants : ℕ → ℕ → Image → List Want
@@ -50,11 +50,11 @@ all_more hs owner blocks e = ap (λ (k : ℕ). wanted owner (drop k (pieces_of o
 
 own_asks : (p : Placement) (hs : Holdings) (pid image : ℕ) (facts : Image) → HoldsNone p hs pid image
     → wanted_of hs (own_wants pid facts)
-    ≡ wanted (owners.Data pid) (pieces (2 * data_pages_of facts)) ++ (wanted (owners.Stack pid) (pieces 2) ++ wanted (owners.U pid) (u_pieces 2))
+    ≡ wanted (owners.Data pid) (pieces (2 * image_data_pages facts)) ++ (wanted (owners.Stack pid) (pieces 2) ++ wanted (owners.U pid) (u_pieces 2))
 own_asks p hs pid image facts h =
-    let d : List Wanted = wanted (owners.Data pid) (pieces (2 * data_pages_of facts)) in
+    let d : List Wanted = wanted (owners.Data pid) (pieces (2 * image_data_pages facts)) in
     let s : List Wanted = wanted (owners.Stack pid) (pieces 2) in
-    ap (λ (l : List Wanted). l ++ (more_pieces hs (owners.Stack pid) 2 ++ (more_pieces hs (owners.U pid) 2 ++ []))) (all_more hs (owners.Data pid) (2 * data_pages_of facts) h.of_data)
+    ap (λ (l : List Wanted). l ++ (more_pieces hs (owners.Stack pid) 2 ++ (more_pieces hs (owners.U pid) 2 ++ []))) (all_more hs (owners.Data pid) (2 * image_data_pages facts) h.of_data)
     ∙ ap (λ (l : List Wanted). d ++ (l ++ (more_pieces hs (owners.U pid) 2 ++ []))) (all_more hs (owners.Stack pid) 2 h.of_stack)
     ∙ ap (λ (l : List Wanted). d ++ (s ++ l)) (append-nil (more_pieces hs (owners.U pid) 2) ∙ all_more hs (owners.U pid) 2 h.of_u)
 
@@ -64,7 +64,7 @@ in_three t d s u = sym (append_assoc t (d ++ s) u ∙ ap (λ (l : List Wanted). 
 -- the pieces of a first process, by how many share its text
 abbrev asks_by : Placement → ℕ → ℕ → ℕ → Image → List Wanted
 asks_by p n pid image facts =
-    (text_asked n image (2 * length (slots_of p (Text image 0))) ++ (wanted (owners.Data pid) (pieces (2 * data_pages_of facts)) ++ wanted (owners.Stack pid) (pieces 2)))
+    (text_asked n image (2 * length (slots_of p (Text image 0))) ++ (wanted (owners.Data pid) (pieces (2 * image_data_pages facts)) ++ wanted (owners.Stack pid) (pieces 2)))
     ++ wanted (owners.U pid) (u_pieces 2)
 
 -- where a space shares the text
@@ -73,7 +73,7 @@ pub asks_shared : (p : Placement) (hs : Holdings) (pid image : ℕ) (facts : Ima
 asks_shared p hs pid image facts h l = own_asks p hs pid image facts h ∙ go (sharers p image) refl l
   where
     d : List Wanted
-    d = wanted (owners.Data pid) (pieces (2 * data_pages_of facts))
+    d = wanted (owners.Data pid) (pieces (2 * image_data_pages facts))
 
     s : List Wanted
     s = wanted (owners.Stack pid) (pieces 2)
@@ -90,7 +90,7 @@ asks_first p hs pid image facts h none size =
     ap (λ (l : List Wanted). l ++ wanted_of hs (own_wants pid facts))
     (all_more hs (owners.Text image) (2 * text_pages_of facts) (h.of_text none) ∙ ap (λ (n : ℕ). wanted (owners.Text image) (text_pieces n)) size)
     ∙ ap (λ (l : List Wanted). t ++ l) (own_asks p hs pid image facts h)
-    ∙ in_three t (wanted (owners.Data pid) (pieces (2 * data_pages_of facts))) (wanted (owners.Stack pid) (pieces 2)) (wanted (owners.U pid) (u_pieces 2))
+    ∙ in_three t (wanted (owners.Data pid) (pieces (2 * image_data_pages facts))) (wanted (owners.Stack pid) (pieces 2)) (wanted (owners.U pid) (u_pieces 2))
     ∙ ap (λ (k : ℕ). asks_by p k pid image facts) (sym none)
 
 -- a text has the pages that its image's header says
@@ -126,7 +126,7 @@ abbrev no_want : Want
 no_want = want (owners.Data 0) 0
 
 abbrev three_wants : ℕ → ℕ → Image → List Want
-three_wants sid image facts = want (owners.Text image) (2 * text_pages_of facts) ∷ want (owners.Data sid) (2 * data_pages_of facts) ∷ want (owners.Stack sid) 2 ∷ []
+three_wants sid image facts = want (owners.Text image) (2 * text_pages_of facts) ∷ want (owners.Data sid) (2 * image_data_pages facts) ∷ want (owners.Stack sid) 2 ∷ []
 
 -- what is asked for, of what an image wants
 abbrev pub all_asked : List Want → ℕ → List Want
@@ -139,16 +139,16 @@ pub wants_all : (rs : List Want) (pid sid image : ℕ) (facts : Image) → rs �
     → all_asked rs pid ≡ all_wants pid image facts
 wants_all rs pid sid image facts e same =
     ap (λ (xs : List Want). all_asked xs pid) e
-    ∙ ap (λ (n : ℕ). want (owners.Text image) (2 * text_pages_of facts) ∷ want (owners.Data n) (2 * data_pages_of facts) ∷ want (owners.Stack n) 2 ∷ want (owners.U pid) 2 ∷ []) (sym same)
+    ∙ ap (λ (n : ℕ). want (owners.Text image) (2 * text_pages_of facts) ∷ want (owners.Data n) (2 * image_data_pages facts) ∷ want (owners.Stack n) 2 ∷ want (owners.U pid) 2 ∷ []) (sym same)
 
 pub wants_own : (rs : List Want) (pid sid image : ℕ) (facts : Image) → rs ≡ three_wants sid image facts → pid ≡ sid
     → own_asked rs pid ≡ own_wants pid facts
 wants_own rs pid sid image facts e same =
     ap (λ (xs : List Want). own_asked xs pid) e
-    ∙ ap (λ (n : ℕ). want (owners.Data n) (2 * data_pages_of facts) ∷ want (owners.Stack n) 2 ∷ want (owners.U pid) 2 ∷ []) (sym same)
+    ∙ ap (λ (n : ℕ). want (owners.Data n) (2 * image_data_pages facts) ∷ want (owners.Stack n) 2 ∷ want (owners.U pid) 2 ∷ []) (sym same)
 
 -- what the table of texts counts
-pub shares : (t : Tables) (pid image : ℕ) → MayLookFirst t pid image → (text_of t.texts image).sharers ≡ sharers (placement_of (lists_of t)) image
+pub shares : (t : Tables) (pid image : ℕ) → MayLookFirst t pid image → (text_numbered t.texts image).sharers ≡ sharers (placement_of (lists_of t)) image
 shares t pid image m =
     let e = length-map t.images.items (λ (n : Named). n.facts) in
     let few = m.tied.few_images in

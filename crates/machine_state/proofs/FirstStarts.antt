@@ -13,7 +13,7 @@ use Rattle.kernel_model.specs.Kernel.{Proc, HoldsSpace}
 use Rattle.table_steps.specs.Tables.{Tables}
 use Rattle.table_steps.specs.Alike.{AreRecords}
 use Rattle.table_steps.specs.Sourced.{ImageNamed, AreNames, named_at}
-use Rattle.table_steps.specs.Machine.{processes_of, proc_of, images_of}
+use Rattle.table_steps.specs.Machine.{processes_of, proc_of_record, images_of}
 use Rattle.table_steps.specs.Changing.{EnteredImage, HasOneMore}
 use Rattle.machine_state.specs.Beginning.{BeganFirst}
 use Rattle.table_steps.proofs.Records.{keeps_none, keeps_some}
@@ -40,7 +40,7 @@ few_kept {A = A} g a (suc n) = go (g a) refl (few_kept g (a + 1) n)
     go (Some x) e h = let k = ap (λ (xs : List A). length xs) (keeps_some g a (range_with_len (a + 1) n) x e) in omega (arith, k, h)
 
 pub few_processes : (ps : List Record) (next : ℕ) → length (processes_of ps next) ≤ next - 1
-few_processes ps next = few_kept (λ pid. proc_of (find pid ps)) 1 (next - 1)
+few_processes ps next = few_kept (λ pid. proc_of_record (find pid ps)) 1 (next - 1)
 
 -- What a space that comes leaves as it was.
 

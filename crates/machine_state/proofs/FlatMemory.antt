@@ -19,7 +19,7 @@ use Rattle.page_model.specs.Placement.{space_number, image_of, image_in, state_o
 use Rattle.page_model.specs.PageBytes.{IsInFrame}
 use Rattle.kernel_model.specs.Kernel.{Kernel, frame_bytes}
 use Rattle.kernel_model.specs.Sound.{TextFits}
-use Rattle.kernel_model.specs.Coupled.{Coupled, Fits, IsSized, beside_kernel, memory_of, text_of, data_bytes_in, stack_bytes_in}
+use Rattle.kernel_model.specs.Coupled.{Coupled, Fits, IsSized, beside_kernel, memory_of, image_text, data_bytes_in, stack_bytes_in}
 use Rattle.table_steps.proofs.PageLawsBytesPages.{keeps_at}
 use Rattle.table_steps.proofs.PageLawsMovesSteps.{page_in}
 use Rattle.table_steps.specs.UserMemory.{bytes_of, text_len, data_len, stack_len, spot_in, read_by_state, read_page, read_spot, may_write_by, may_write_spot, kernel_answers}
@@ -58,7 +58,7 @@ paged k x None e h = absurd h
 paged k x (Some y) e h = record { pages = y; there = e; sized = h }
 
 module _ (images : List NamedImage) (k : Kernel) (image : List ℕ) (flat : FlatState) (x : Space) (coupled : Coupled k images image flat) (fits : TextFits images k.place)
-    (own : numbered (λ (s : Space). s.sid) x.sid (spaces_of flat) ≡ Some x) (text : x.text_bytes ≡ text_of (image_numbered images x.image)) where
+    (own : numbered (λ (s : Space). s.sid) x.sid (spaces_of flat) ≡ Some x) (text : x.text_bytes ≡ image_text (image_numbered images x.image)) where
   there : IsPaged k x
   there = paged k x (numbered space_number x.sid k.place.spaces) refl (subst (λ (o : Option Space). Fits o (numbered space_number x.sid k.place.spaces)) own (coupled.tables.spaces x.sid))
 
@@ -94,7 +94,7 @@ module _ (images : List NamedImage) (k : Kernel) (image : List ℕ) (flat : Flat
   spot_reads : (p : Spot) → (read_spot k x.sid p ≡ reads.Miss) ⊎ (read_spot k x.sid p ≡ byte_at x p)
   spot_reads (Text i) =
       page_reads (pages.Text (image_of k.place x.sid) (i / 1024)) x.text_bytes i
-      (ap (λ (n : ℕ). page_at (i / 1024) (text_of (image_numbered images n))) image_same ∙ sym (ap (page_at (i / 1024)) text))
+      (ap (λ (n : ℕ). page_at (i / 1024) (image_text (image_numbered images n))) image_same ∙ sym (ap (page_at (i / 1024)) text))
   spot_reads (Data i) = page_reads (pages.Data x.sid (i / 1024)) x.data_bytes i (ap (λ (o : Option Space). page_at (i / 1024) (data_bytes_in o)) own)
   spot_reads (Stack i) = page_reads (pages.Stack x.sid (i / 1024)) x.stack_bytes i (ap (λ (o : Option Space). page_at (i / 1024) (stack_bytes_in o)) own)
   spot_reads Below = inr refl

@@ -9,7 +9,7 @@ use Rattle.vm_facts.specs.declared.params.Params.{Params}
 use Rattle.vm_facts.specs.declared.entry.Entry.{Entry}
 use Rattle.vm_facts.specs.declared.entry.Entry.TheVariants as entries
 use Rattle.aout_image.specs.declared.Image.{Image}
-use Rattle.core_map.specs.Frames.{IsSound}
+use Rattle.core_map.specs.Frames.{IsSoundMap}
 use Rattle.swap_book.specs.Holdings.{Holdings}
 use Rattle.swap_book.specs.Book.{Book, with_holdings}
 use Rattle.swap_book.specs.Placing.{place_all}
@@ -51,7 +51,7 @@ use Rattle.table_steps.specs.Machine.{Standing, WereFound, Stands, lists_of, ker
 use Rattle.table_steps.specs.Machine.{before_of}
 use Rattle.table_steps.specs.Changing.{processes_in, process_in}
 use Rattle.table_steps.specs.Applying.{facts_named, IsEntryOf, MayAct, CanApply}
-use Rattle.table_steps.specs.Applied.{place_in, NamesNext, MayApply, Applied, AppliesAs}
+use Rattle.table_steps.specs.Applied.{placement_in, NamesNext, MayApply, Applied, AppliesAs}
 use Rattle.table_steps.proofs.Shows.{sids_shown}
 use Rattle.table_steps.proofs.Lives.{pid_of, HasRecord, record_of}
 use Rattle.table_steps.proofs.Records.{regs_are, residents_are}
@@ -147,12 +147,12 @@ apart_of p ps sid b next (End status) m = tt
 pub record Ready (t : Tables) (j : List Entry) (b : Bool) (pid : ℕ) (e : Entry) (change : Change) : Type 0 where
   pub room : Option ℕ
   pub can : CanApply (record { kernel = kernel_by t j b; params = t.params; images = images_of t; before = before_of t; room = room }) pid e change
-  pub core : IsSound t.core.free t.core.slots
+  pub core : IsSoundMap t.core.free t.core.slots
   pub stands : Stands t j b
 
 pub ready_of : (m : Inside) (s : Standing) (pid : ℕ) (e : Entry) (change : Change) → RunsInside m → standing_of m ≡ s
     → s.kernel.stopped ≡ false → CanApply s pid e change
-    → IsSound m.tables.core.free m.tables.core.slots → Ready m.tables m.journal.items m.stopped pid e change
+    → IsSoundMap m.tables.core.free m.tables.core.slots → Ready m.tables m.journal.items m.stopped pid e change
 ready_of m s pid e change h view run can core = record {
   room = m.room;
   can = subst (λ (x : Standing). CanApply x pid e change) (sym view) can;
@@ -193,7 +193,7 @@ module _ (t u : Tables) (j : List Entry) (b : Bool) (pid : ℕ) (regs : Regs) (e
   sound : Sound t.book.size (record (kernel_by t j b) { holdings = before_of t })
   sound = r.stands.runs.sound
 
-  owns : OwnsFrames (place_in t)
+  owns : OwnsFrames (placement_in t)
   owns = sound.owner.frames
 
   may : MayChange (lists_of t).facts (kernel_by t j b) pid change
@@ -233,11 +233,11 @@ module _ (t u : Tables) (j : List Entry) (b : Bool) (pid : ℕ) (regs : Regs) (e
     there = left_there;
     acts = subst (λ (l : Life). MayAct l change) life r.can.acts;
     space = subst (λ (x : Lists). ReadySpace (placement_of x) (space_of_life process.life) (gave_back process.life) change) (sym left_lists)
-        (subst (λ (l : Life). ReadySpace (place_in t) (space_of_life l) (gave_back l) change) life r.can.ready.space);
+        (subst (λ (l : Life). ReadySpace (placement_in t) (space_of_life l) (gave_back l) change) life r.can.ready.space);
     can = subst (λ (x : Lists). CanChange (placement_of x) (space_of_life process.life) (gave_back process.life) t.next_sid change) (sym left_lists)
-        (subst (λ (l : Life). CanChange (place_in t) (space_of_life l) (gave_back l) t.next_sid change) life may.can);
+        (subst (λ (l : Life). CanChange (placement_in t) (space_of_life l) (gave_back l) t.next_sid change) life may.can);
     forgets = subst (λ (x : Lists). MayForget (lists_of t).facts (placement_of x) (space_of_life process.life) (gave_back process.life) t.next_sid change) (sym left_lists)
-        (subst (λ (l : Life). MayForget (lists_of t).facts (place_in t) (space_of_life l) (gave_back l) t.next_sid change) life may.forgets);
+        (subst (λ (l : Life). MayForget (lists_of t).facts (placement_in t) (space_of_life l) (gave_back l) t.next_sid change) life may.forgets);
     next = names_next (kernel_by t j b) t.next_pid change refl r.can.ready.next;
     reaps = reaps_same (processes_in t) (processes_in left_tables) change
         (λ n. ap (λ (ps : List Proc). lives ps n) left_processes ∙ regs_lives (processes_in t) process regs only (ap (λ (m : ℕ). numbered pid_of m (processes_in t)) number ∙ there) n)
@@ -262,7 +262,7 @@ module _ (t u : Tables) (j : List Entry) (b : Bool) (pid : ℕ) (regs : Regs) (e
 
     -- the kernel's own step
     abbrev next_place : Placement
-    next_place = place_change (facts_named (images_of t)) (place_in t) process.pid (space_of_life process.life) (gave_back process.life) t.next_sid (length (append j e)) change
+    next_place = place_change (facts_named (images_of t)) (placement_in t) process.pid (space_of_life process.life) (gave_back process.life) t.next_sid (length (append j e)) change
 
     entry_added : append j e ≡ j ++ e ∷ []
     entry_added = entry_append pid j e change r.can.entry
@@ -270,18 +270,19 @@ module _ (t u : Tables) (j : List Entry) (b : Bool) (pid : ℕ) (regs : Regs) (e
     since_is : since ≡ length (append j e)
     since_is = counts ∙ sym (ap (λ (es : List Entry). length es) entry_added ∙ length-append j (e ∷ []))
 
-    place_is : place_in w ≡ next_place
+    place_is : placement_in w ≡ next_place
     place_is =
         made.place
         ∙ ap (λ (x : Lists). place_change (lists_of t).facts (placement_of x) process.pid (space_of_life process.life) (gave_back process.life) t.next_sid since change) left_lists
-        ∙ ap (λ (fs : List Image). place_change fs (place_in t) process.pid (space_of_life process.life) (gave_back process.life) t.next_sid since change) (sym (shown_facts t.images.items))
-        ∙ ap (λ (n : ℕ). place_change (facts_named (images_of t)) (place_in t) process.pid (space_of_life process.life) (gave_back process.life) t.next_sid n change) since_is
+        ∙ ap (λ (fs : List Image). place_change fs (placement_in t) process.pid (space_of_life process.life) (gave_back process.life) t.next_sid since change) (sym (shown_facts t.images.items))
+        ∙ ap (λ (n : ℕ). place_change (facts_named (images_of t)) (placement_in t) process.pid (space_of_life process.life) (gave_back process.life) t.next_sid n change) since_is
 
-    book_is : w.book ≡ with_holdings t.book (holdings_after t.book.holdings (place_in t) next_place process.pid (space_of_life process.life) (gave_back process.life) change)
+    book_is : w.book ≡ with_holdings t.book (holdings_after t.book.holdings (placement_in t) next_place process.pid (space_of_life process.life) (gave_back process.life) change)
     book_is =
         made.book
-        ∙ ap (λ (x : Lists). with_holdings t.book (holdings_after t.book.holdings (placement_of x) (place_in w) process.pid (space_of_life process.life) (gave_back process.life) change)) left_lists
-        ∙ ap (λ (q : Placement). with_holdings t.book (holdings_after t.book.holdings (place_in t) q process.pid (space_of_life process.life) (gave_back process.life) change)) place_is
+        ∙ ap (λ (x : Lists). with_holdings t.book (holdings_after t.book.holdings (placement_of x) (placement_in w) process.pid (space_of_life process.life) (gave_back process.life) change))
+        left_lists
+        ∙ ap (λ (q : Placement). with_holdings t.book (holdings_after t.book.holdings (placement_in t) q process.pid (space_of_life process.life) (gave_back process.life) change)) place_is
 
     step_is : change_by (facts_named (images_of t)) (kernel_by t j b) (record process { regs = regs }) e change ≡ change_step (facts_named (images_of t)) (kernel_by t j b) pid regs e change
     step_is = ap (change_if (facts_named (images_of t)) (kernel_by t j b) regs e change) (sym there)
@@ -321,10 +322,10 @@ module _ (t u : Tables) (j : List Entry) (b : Bool) (pid : ℕ) (regs : Regs) (e
     wants = wants_these (kernel_by t j b) pid change is_numbered r.can.ready
 
     step_due : DueStand next_place
-    step_due = change_due (facts_named (images_of t)) (place_in t) process.pid (space_of_life process.life) (gave_back process.life) t.next_sid (length (append j e)) change r.can.clear
-        (subst (λ (l : Life). CanChange (place_in t) (space_of_life l) (gave_back l) t.next_sid change) life may.can)
-        (apart_of (place_in t) (processes_in t) (space_of_life process.life) (gave_back process.life) t.next_sid change
-        (subst (λ (l : Life). MayAsk (place_in t) (processes_in t) (space_of_life l) (gave_back l) t.next_sid change) life wants.may))
+    step_due = change_due (facts_named (images_of t)) (placement_in t) process.pid (space_of_life process.life) (gave_back process.life) t.next_sid (length (append j e)) change r.can.clear
+        (subst (λ (l : Life). CanChange (placement_in t) (space_of_life l) (gave_back l) t.next_sid change) life may.can)
+        (apart_of (placement_in t) (processes_in t) (space_of_life process.life) (gave_back process.life) t.next_sid change
+        (subst (λ (l : Life). MayAsk (placement_in t) (processes_in t) (space_of_life l) (gave_back l) t.next_sid change) life wants.may))
 
     module _ (journal : List Entry) (stopped : Bool) (ej : journal ≡ j ++ e ∷ []) (es : stopped ≡ b) where
       now_sound : Sound w.book.size (kernel_by after journal stopped)
@@ -342,12 +343,13 @@ module _ (t u : Tables) (j : List Entry) (b : Bool) (pid : ℕ) (regs : Regs) (e
           let sid : ℕ = space_of_life process.life in
           let gave : Bool = gave_back process.life in
           let at : ℕ = length (append j e) in
-          Behind (facts_named (images_of t)) t.book.size holds (place_in t) process.pid sid gave t.next_sid at change (before_of t) t.book.holdings w.book.holdings
+          Behind (facts_named (images_of t)) t.book.size holds (placement_in t) process.pid sid gave t.next_sid at change (before_of t) t.book.holdings w.book.holdings
       behind =
           let s : Sound w.book.size (kernel_by after journal stopped) = now_sound in
-          let o : OneOwner t.book.size (lives (processes_in w)) (place_in w) w.book.holdings = subst (λ (n : ℕ). OneOwner n (lives (processes_in w)) (place_in w) w.book.holdings) size_is s.owner in
-          let h : Unhanded (place_in t) next_place =
-          change_unhanded (facts_named (images_of t)) (place_in t) process.pid (space_of_life process.life) (gave_back process.life) t.next_sid (length (append j e)) change in
+          let o : OneOwner t.book.size (lives (processes_in w)) (placement_in w) w.book.holdings =
+          subst (λ (n : ℕ). OneOwner n (lives (processes_in w)) (placement_in w) w.book.holdings) size_is s.owner in
+          let h : Unhanded (placement_in t) next_place =
+          change_unhanded (facts_named (images_of t)) (placement_in t) process.pid (space_of_life process.life) (gave_back process.life) t.next_sid (length (append j e)) change in
           record {
             owns = subst (λ (q : Placement). OneOwner t.book.size (lives (processes_in w)) q w.book.holdings) place_is o;
             same = h.transfers;
@@ -360,7 +362,7 @@ module _ (t u : Tables) (j : List Entry) (b : Bool) (pid : ℕ) (regs : Regs) (e
       now_ring : AreSourced (images_of w) (image_at w) w.book.holdings w.book.size w.ring
       now_ring =
           let s : AreSourced (images_of t) (image_of next_place) w.book.holdings t.book.size t.ring =
-          sourced_behind (images_of t) (facts_named (images_of t)) t.book.size (lives (processes_in w)) (place_in t) process.pid (space_of_life process.life) (gave_back process.life) t.next_sid
+          sourced_behind (images_of t) (facts_named (images_of t)) t.book.size (lives (processes_in w)) (placement_in t) process.pid (space_of_life process.life) (gave_back process.life) t.next_sid
           (length (append j e)) change
           (before_of t) t.book.holdings w.book.holdings t.ring behind refl owns r.stands.ring in
           subst (λ (ts : List Flight). AreSourced (images_of w) (image_at w) w.book.holdings w.book.size ts) (sym made.ring)

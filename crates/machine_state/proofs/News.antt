@@ -10,9 +10,9 @@ use Rattle.aout_image.specs.Image.{text_pages_of}
 use Rattle.frame_state.specs.Frame.{zero_frame}
 use Rattle.core_map.specs.declared.slot.Slot.{Slot as Token}
 use Rattle.core_map.specs.declared.slot.Slot.TheVariants as tokens
-use Rattle.core_map.specs.Slots.{slot_at, page_of as token_page}
+use Rattle.core_map.specs.Slots.{slot_at, slot_page as token_page}
 use Rattle.core_map.specs.Fresh.{first_frames, fresh_slots}
-use Rattle.text_table.specs.Texts.{unused_texts, unused_text, no_pages, text_of, is_saved}
+use Rattle.text_table.specs.Texts.{unused_texts, unused_text, no_pages, text_numbered, is_saved}
 use Rattle.swap_book.specs.Placing.{place_all}
 use Rattle.page_model.specs.Frames.{count_up}
 use Rattle.page_model.specs.Pages.{Slot, Zeros, TextPages}
@@ -107,11 +107,11 @@ same_at zero i x = refl
 same_at (suc n) zero x = refl
 same_at (suc n) (suc i) x = same_at n i x
 
-none_saved : (i v : ℕ) → is_saved (text_of unused_texts i) v ≡ false
+none_saved : (i v : ℕ) → is_saved (text_numbered unused_texts i) v ≡ false
 unfolding unused_texts no_pages
 none_saved i v = ap (λ (t : Rattle.text_table.specs.Texts.Text). is_saved t v) (same_at 16 (i - 1) unused_text) ∙ same_at 2048 v false
 
-none_shared : (i : ℕ) → (text_of unused_texts i).sharers ≡ 0
+none_shared : (i : ℕ) → (text_numbered unused_texts i).sharers ≡ 0
 unfolding unused_texts
 none_shared i = ap (λ (t : Rattle.text_table.specs.Texts.Text). t.sharers) (same_at 16 (i - 1) unused_text)
 

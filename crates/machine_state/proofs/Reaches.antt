@@ -14,7 +14,7 @@ use Rattle.transfer_ring.specs.declared.transfer.Transfer.{Transfer as Flight}
 use Rattle.transfer_ring.specs.declared.transfer.Transfer.TheVariants as flights
 use Rattle.transfer_ring.specs.declared.transfer.Source.{Source as From}
 use Rattle.transfer_ring.specs.declared.transfer.Source.TheVariants as froms
-use Rattle.transfer_ring.specs.Sound.{IsBlock, IsThere, AreThere, AreBlocks, IsReachable, AreReachable}
+use Rattle.transfer_ring.specs.Sound.{IsBlock, IsSourceThere, AreThere, AreBlocks, IsReachable, AreReachable}
 use Rattle.page_model.specs.Placement.{Source}
 use Rattle.table_steps.specs.View.{source_shown}
 use Rattle.table_steps.specs.Sourced.{ImageNamed, named_at, IsRange, IsRangeOf, IsPageRange, IsSourced, AreSourcedIn, AreOwnBlocks, IsFlightSourced, AreSourced}
@@ -79,7 +79,7 @@ block_there : (size blocks b : ℕ) → size ≤ blocks → IsBlock size b → I
 block_there size blocks b l h = let k = h.1 in (h.0, omega arith)
 
 source_there : (ns : List ImageNamed) (f : ℕ → ℕ) (hs : Holdings) (size blocks : ℕ) (holds : Option (List NamedFile)) (q : Page) (x : From)
-    → size ≤ blocks → AreFiles ns holds → IsSourced ns f hs size q x → IsThere holds blocks x
+    → size ≤ blocks → AreFiles ns holds → IsSourced ns f hs size q x → IsSourceThere holds blocks x
 source_there ns f hs size blocks holds q (froms.Swap block) l h s = block_there size blocks block l s.place
 source_there ns f hs size blocks holds q (froms.File id offset count) l h s = page_range ns f holds q id offset count h s
 

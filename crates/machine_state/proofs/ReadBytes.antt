@@ -12,12 +12,12 @@ use Rattle.transfer_ring.specs.declared.transfer.Inbound.{Inbound}
 use Rattle.transfer_ring.specs.declared.transfer.Outbound.{Outbound}
 use Rattle.transfer_ring.specs.declared.transfer.Source.{Source as From}
 use Rattle.transfer_ring.specs.declared.transfer.Source.TheVariants as froms
-use Rattle.transfer_ring.specs.Parts.{HasRead, AreSameParts, AreRead as AreReadParts, WritesParts, SpoilsParts}
+use Rattle.transfer_ring.specs.Parts.{HasRead, AreSameParts, PartsAreRead as AreReadParts, WritesParts, SpoilsParts}
 use Rattle.page_model.specs.Placement.{Placement, Part, Source, image_of}
 use Rattle.page_model.specs.Ownership.{block_of}
 use Rattle.page_model.specs.PageBytes.{source_bytes}
 use Rattle.kernel_model.specs.Kernel.{Kernel, store_all, frame_bytes}
-use Rattle.kernel_model.specs.Coupled.{beside_kernel, file_of, text_of, data_of}
+use Rattle.kernel_model.specs.Coupled.{beside_kernel, file_of, image_text, data_of}
 use Rattle.page_model.specs.Stored.{store_at}
 use Rattle.table_steps.specs.View.{source_of, in_part, out_part}
 use Rattle.table_steps.specs.Sourced.{ImageNamed, named_at, IsRange, IsRangeOf, IsPageRange, IsSourced, AreSourcedIn, AreOwnBlocks}
@@ -76,13 +76,13 @@ text_read : (ns : List ImageNamed) (files : List NamedFile) (images : List Named
     → HaveFiles ns files
     → AreLoaded ns files images → named_at ns i ≡ o → IsRangeOf o true v id offset count → length bytes ≡ 1024
     → HoldsRange (Some files) id offset (take count bytes) → drop count bytes ≡ replicate (1024 - count) 0
-    → bytes ≡ page_at v (text_of (image_numbered images i))
+    → bytes ≡ page_at v (image_text (image_numbered images i))
 text_read ns files images i v id offset count bytes None f l e r w h z = absurd r
 text_read ns files images zero v id offset count bytes (Some n) f l e r w h z = absurd cc
 text_read ns files images (suc i) v id offset count bytes (Some n) f l e r w h z =
     let x = loaded_at ns files images i n l e in
     range_read n files true v id offset count bytes (file_at ns files i n f e) r w h z
-    ∙ ap (λ (y : Loaded). page_at v y.text) (sym x.2) ∙ sym (ap (λ (y : Option NamedImage). page_at v (text_of y)) x.1)
+    ∙ ap (λ (y : Loaded). page_at v y.text) (sym x.2) ∙ sym (ap (λ (y : Option NamedImage). page_at v (image_text y)) x.1)
 
 data_read : (ns : List ImageNamed) (files : List NamedFile) (images : List NamedImage) (i v id offset count : ℕ) (bytes : List ℕ) (o : Option ImageNamed)
     → HaveFiles ns files

@@ -3,7 +3,7 @@ use Rattle.std.proofs.Common.{◌≡◌, ℕ, ◌<◌, Bool, cond, List, [], ◌
 use Rattle.vm_facts.specs.declared.page.Page.{Page}
 use Rattle.page_model.specs.Pages.{frame_of}
 use Rattle.flat_state.specs.PageNames.{same_page}
-use Rattle.page_model.specs.Placement.{Due, Start, due_at}
+use Rattle.page_model.specs.Placement.{Due, Start, due_of_page}
 use Rattle.page_model.specs.Place.{filled}
 use Rattle.page_model.specs.Conditions.{CanEnter}
 use Rattle.page_model.specs.PageBytes.{Bytes, SamePage, with_frame, bytes_in}
@@ -28,9 +28,10 @@ zero_keeps size k q ds so can due starts images image flat c = go ds due starts 
 
     go : (es : List DueFill) → k.place.due ≡ map due_shown es → k.starts ≡ starts_of es → IsFirstStart (map due_shown es) q → Coupled (zero_step k q) images image flat
     go [] d s f =
-        zero_coupled size k images image flat q so (λ r e. ap (λ (ss : List StartBytes). has_start ss r) s) enter can.writable can.frame can.unfilled (ap (λ (x : List Due). due_at x q) d) can.zeros c
+        zero_coupled size k images image flat q so (λ r e. ap (λ (ss : List StartBytes). has_start ss r) s) enter can.writable can.frame can.unfilled
+        (ap (λ (x : List Due). due_of_page x q) d) can.zeros c
     go (fills.Start r bytes ∷ es) d s f = start_coupled size k images image flat q r so enter can.writable can.frame can.unfilled
-        (ap (λ (x : List Due). due_at x q) d ∙ ap (λ (b : Bool). cond b (Some (Start r)) (due_at (map due_shown es) q)) (ap (λ (x : Page). same_page r x) (sym f) ∙ same_page_self r)) c
+        (ap (λ (x : List Due). due_of_page x q) d ∙ ap (λ (b : Bool). cond b (Some (Start r)) (due_of_page (map due_shown es) q)) (ap (λ (x : Page). same_page r x) (sym f) ∙ same_page_self r)) c
     go (fills.Copy child parent ∷ es) d s f = absurd f
 
 head_is : (fs : List ℕ) → 0 < length fs → (f : ℕ) × (rest : List ℕ) × (fs ≡ f ∷ rest)

@@ -8,8 +8,8 @@ use Rattle.kernel_model.specs.Kernel.{Kernel}
 use Rattle.table_steps.specs.UserMemory.{read_page, may_write_by}
 
 -- these bytes are read of a page from a place on, and end within it
-abbrev pub ReadsFrom : Kernel → Page → ℕ → List ℕ → Type 0
-ReadsFrom k q at bytes = (i : ℕ) → i < length bytes → (at + i < 1024) × (read_page k q (at + i) ≡ reads.Is (slice_index bytes i))
+abbrev pub LendsFrom : Kernel → Page → ℕ → List ℕ → Type 0
+LendsFrom k q at bytes = (i : ℕ) → i < length bytes → (at + i < 1024) × (read_page k q (at + i) ≡ reads.Is (slice_index bytes i))
 
 -- so many bytes of a page in this state may be written from a place on, and end within it
 abbrev pub MayFrom : PageState → ℕ → ℕ → Type 0

@@ -4,7 +4,7 @@ use Rattle.std.specs.Prelude.{slice_index}
 use Rattle.std.proofs.lemmas.Bool.{cases_eq}
 use Rattle.std.proofs.lemmas.Bool.Decides.{nat_tests}
 use Rattle.std.proofs.lemmas.List.{get_or-set_same, get_or-set_other}
-use Rattle.vm_facts.specs.Answers.{Answers, ByteWrite, read_by, put, written}
+use Rattle.vm_facts.specs.Answers.{Answers, ByteWrite, read_by, put_byte, written}
 use Rattle.vm_facts.specs.declared.memory.ByteRead.TheVariants as reads
 use Rattle.vm_facts.specs.declared.memory.MayWrite.TheVariants as tests
 use Rattle.vm_facts.specs.declared.page.Page.{Page}
@@ -237,7 +237,7 @@ may_after k sid byte q f at (Stack i) t = ap may_write_by (touch_state k.place q
 may_after k sid byte q f at Below t = refl
 may_after k sid byte q f at Outside t = refl
 
-put_answers : (k : Kernel) (sid : ℕ) (w : ByteWrite) → IsWritten k sid w.address → kernel_answers (write_in k sid w) sid ≡ put (kernel_answers k sid) w
+put_answers : (k : Kernel) (sid : ℕ) (w : ByteWrite) → IsWritten k sid w.address → kernel_answers (write_in k sid w) sid ≡ put_byte (kernel_answers k sid) w
 put_answers k sid w h =
     let m : MayPut k sid (spot_in k.place sid w.address) = may_put k sid (spot_in k.place sid w.address) h.may h.owner h.whole in
     let n : Kernel = write_step k m.page m.frame m.at w.byte in

@@ -5,7 +5,7 @@ ghost use Rattle.flat_state.specs.Flat.{FlatState, NamedImage, image_numbered, s
 ghost use Rattle.page_model.specs.Pages.{numbered};
 ghost use Rattle.kernel_model.specs.Kernel.{Kernel};
 ghost use Rattle.kernel_model.specs.Sound.{TextFits};
-ghost use Rattle.kernel_model.specs.Coupled.{Coupled, text_of};
+ghost use Rattle.kernel_model.specs.Coupled.{Coupled, image_text};
 ghost use Rattle.table_steps.specs.Machine.{Standing};
 ghost use Rattle.table_steps.specs.UserMemory.{kernel_answers, Wrote};
 ghost use Rattle.machine_state.specs.Going.{CanGoOn};
@@ -15,7 +15,7 @@ ghost use Rattle.vm_facts.specs.Answers.{ByteWrite};
 /// address where it doesn't miss; so do its tests of writes.
 pub fn memory_is_flat()
     ensures { (images : List NamedImage) (k : Kernel) (image : List ℕ) (flat : FlatState) (x : Space) → Coupled k images image flat → TextFits images k.place
-        → numbered (λ s. s.sid) x.sid (spaces_of flat) ≡ Some x → x.text_bytes ≡ text_of (image_numbered images x.image)
+        → numbered (λ s. s.sid) x.sid (spaces_of flat) ≡ Some x → x.text_bytes ≡ image_text (image_numbered images x.image)
         → Covers (kernel_answers k x.sid) (answers_of x) }
 {}
 

@@ -10,7 +10,7 @@ ghost use Rattle.page_model.specs.Ownership.{OwnsFrames};
 ghost use Rattle.kernel_model.specs.Kernel.{frame_bytes, write_step, HoldsSpace};
 ghost use Rattle.table_steps.specs.Calls.{life_in};
 ghost use Rattle.machine_state.specs.Going.{CanGoOn};
-ghost use Rattle.machine_state.specs.Ahead.{MayFrom, ReadsFrom};
+ghost use Rattle.machine_state.specs.Ahead.{MayFrom, LendsFrom};
 ghost use Rattle.table_steps.specs.UserMemory.{spot_in, page_in, read_page, valid_frame, may_write_by, NamesFrames, IsOwnPage, IsLaidOut, HasLengths, CanLend, IsHeld, AreWhole, WrotePage};
 
 use crate::machine::Machine;
@@ -263,7 +263,7 @@ impl SpaceMemory<'_> {
         requires held { IfSome frame (IsHeld self.now.machine.now.kernel.place) }
         requires within { at < 1024 }
         ensures { (page : Page) → frame ≡ valid_frame (state_of self.now.machine.now.kernel.place page)
-            → ReadsFrom self.now.machine.now.kernel page at result.now }
+            → LendsFrom self.now.machine.now.kernel page at result.now }
     {
         match frame {
             Some(frame) => self.machine.frame_from(frame, at),

@@ -16,7 +16,7 @@ use Rattle.flat_model.specs.declared.calls.SystemCall.{SystemCall}
 use Rattle.flat_model.specs.Calls.{call_of}
 use Rattle.flat_model.specs.Instruction.{instruction_in}
 use Rattle.flat_model.specs.Step.{Step, ended_step, step_of, step_behind, called_step, replied_step, step_holding, step_if, flat_step, reply_behind}
-use Rattle.flat_model.specs.Run.{Point, is_refused, step_at, behind_first, due, due_at, first_if, act, behind, point_after, same_entry, same_as, process_of_entry, may_follow, flat_entry_of, flat_entry_if, flat_entry_by, flat_entry, flat_units}
+use Rattle.flat_model.specs.Run.{Point, is_refused, step_at, behind_first, due, due_at, first_if, entry_of_step, behind, point_after, same_entry, same_as, process_of_entry, may_follow, flat_entry_of, flat_entry_if, flat_entry_by, flat_entry, flat_units}
 use Rattle.outcome_laws.specs.Visible.{is_visible, is_end, has_end}
 use Rattle.outcome_laws.proofs.Numbers.{Only, only_found, only_written, end_applied}
 use Rattle.outcome_laws.proofs.Steps.{of_where, point_where, only_entry}
@@ -113,8 +113,8 @@ stops_entry_of : (n : ℕ) (A : Inputs) (point q : Point) (pid : ℕ) (e : Entry
     → can_step q.flat n ≡ false
 stops_entry_of n A point q pid (entries.Ended p status) h end k =
     let e : Entry = entries.Ended p status in
-    subst (λ (x : Point). can_step x.flat n ≡ false) (point_where (same_as (act A point pid) e) (point_after A point pid) q h)
-    (stops_point n point (step_at A point pid).after (can_step point.flat pid) (due_at A point pid) e (of_where (same_as (act A point pid) e) (point_after A point pid) q h) end
+    subst (λ (x : Point). can_step x.flat n ≡ false) (point_where (same_as (entry_of_step A point pid) e) (point_after A point pid) q h)
+    (stops_point n point (step_at A point pid).after (can_step point.flat pid) (due_at A point pid) e (of_where (same_as (entry_of_step A point pid) e) (point_after A point pid) q h) end
     (due_ends point.last pid (step_at A point pid).entries (can_step (step_at A point pid).after n ≡ false) (stops_step n A point.flat pid (is_refused point.last pid) k)))
 stops_entry_of n A point q pid _ h end k = absurd cc
 

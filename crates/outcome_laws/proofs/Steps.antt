@@ -20,7 +20,7 @@ use Rattle.flat_model.specs.declared.calls.SystemCall.{SystemCall}
 use Rattle.flat_model.specs.Calls.{call_of}
 use Rattle.flat_model.specs.Instruction.{instruction_in}
 use Rattle.flat_model.specs.Step.{step_of, step_behind, called_step, replied_step, step_holding, step_if, flat_step, written_process, reply_behind}
-use Rattle.flat_model.specs.Run.{Point, is_refused, step_at, behind_first, due, due_at, first_if, act, behind, point_after, same_carry, same_entry, same_as, process_of_entry, may_follow, where_so, flat_entry_of, flat_entry_if, flat_entry_by, flat_entry}
+use Rattle.flat_model.specs.Run.{Point, is_refused, step_at, behind_first, due, due_at, first_if, entry_of_step, behind, point_after, same_carry, same_entry, same_as, process_of_entry, may_follow, where_so, flat_entry_of, flat_entry_if, flat_entry_by, flat_entry}
 use Rattle.outcome_laws.specs.Visible.{is_fork_reply, is_fork}
 use Rattle.outcome_laws.proofs.Numbers.{Only, BringsNone, only_applied, only_written}
 use Rattle.outcome_laws.proofs.Children.{Spares, reply_spares}
@@ -130,8 +130,8 @@ only_entry_of : (n : ℕ) (A : Inputs) (point q : Point) (pid : ℕ) (e : Entry)
 only_entry_of n A point q pid (entries.Refused p) h none k =
     subst (λ (x : Point). Only n x.flat.processes) (point_where (can_step point.flat pid) (record point { last = Some (entries.Refused p) }) q h) k
 only_entry_of n A point q pid e h none k =
-    let same : same_as (act A point pid) e ≡ true = of_where (same_as (act A point pid) e) (point_after A point pid) q h in
-    subst (λ (x : Point). Only n x.flat.processes) (point_where (same_as (act A point pid) e) (point_after A point pid) q h)
+    let same : same_as (entry_of_step A point pid) e ≡ true = of_where (same_as (entry_of_step A point pid) e) (point_after A point pid) q h in
+    subst (λ (x : Point). Only n x.flat.processes) (point_where (same_as (entry_of_step A point pid) e) (point_after A point pid) q h)
     (only_point n point (step_at A point pid).after (due_at A point pid) k
     (λ f one.
     let is : same_entry f e ≡ true = first_same (can_step point.flat pid) f e (subst (λ (es : List Entry). same_as (first_if (can_step point.flat pid) es) e ≡ true) one same) in
@@ -160,7 +160,7 @@ first_steps false es e h = absurd cc
 
 of_steps : (A : Inputs) (point q : Point) (pid : ℕ) (e : Entry) → flat_entry_of A point pid e ≡ Some q → can_step point.flat pid ≡ true
 of_steps A point q pid (entries.Refused p) h = of_where (can_step point.flat pid) (record point { last = Some (entries.Refused p) }) q h
-of_steps A point q pid e h = first_steps (can_step point.flat pid) (due_at A point pid) e (of_where (same_as (act A point pid) e) (point_after A point pid) q h)
+of_steps A point q pid e h = first_steps (can_step point.flat pid) (due_at A point pid) e (of_where (same_as (entry_of_step A point pid) e) (point_after A point pid) q h)
 
 -- the process of a flat entry can step
 pub entry_steps : (A : Inputs) (point q : Point) (pid : ℕ) (e : Entry) → process_of_entry e ≡ Some pid → flat_entry A point e ≡ Some q

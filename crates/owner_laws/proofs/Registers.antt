@@ -19,7 +19,7 @@ use Rattle.kernel_laws.proofs.Flat.Numbered.{absent_none}
 use Rattle.machine_state.specs.Machine.{Standing}
 use Rattle.run_model.specs.State.{State}
 use Rattle.run_text.specs.Text.{parts}
-use Rattle.owner_lines.specs.Owners.{life_text, registers_text, process_line, process_lines, entries_line, hands_line, frame_lines, transfers_from, due_line, swap_lines, owners_text, owners_of}
+use Rattle.owner_lines.specs.Owners.{life_text, registers_text, process_line, process_lines, entries_line, hands_line, frame_lines, transfers_from, due_line, swap_lines, owners_text, owners_lines}
 use Rattle.owner_laws.specs.Account.{text_at, IsMachineAt}
 
 abbrev kept_pid : Proc → ℕ
@@ -105,7 +105,7 @@ spelled : (entries : ℕ) (over : Bool) (p : Placement) (hs : Holdings) (size : 
 unfolding owners_text
 spelled entries over p hs size ks = refl
 
-pub machine_told : (A : Inputs) (s : State) (m : Standing) (over : Bool) → IsMachineAt A s m → owners_of m over ≡ text_at A (length m.kernel.journal) over s
+pub machine_told : (A : Inputs) (s : State) (m : Standing) (over : Bool) → IsMachineAt A s m → owners_lines m over ≡ text_at A (length m.kernel.journal) over s
 machine_told A s m over is =
     let at = is.at in
     let keeps = at.keeps in

@@ -11,7 +11,7 @@ use Rattle.machine_state.specs.Machine.{Standing}
 use Rattle.run_model.specs.State.{State}
 use Rattle.run_model.specs.Next.{owners_of}
 use Rattle.run_laws.specs.Machine.{StandsAt}
-use Rattle.owner_lines.specs.Owners.{entries_line, hands_line, transfers_from, process_lines, due_line, owners_text, owners_of as machine_text}
+use Rattle.owner_lines.specs.Owners.{entries_line, hands_line, transfers_from, process_lines, due_line, owners_text, owners_lines as machine_text}
 use Rattle.owner_laws.specs.Lines.{FrameLine, frame_text, counted, free_one, used_one, moving_one, Extent, extent_text, blocks_told}
 use Rattle.owner_laws.specs.Told.{FramesTold, SwapTold}
 

@@ -14,7 +14,7 @@ ghost use Rattle.run_model.specs.declared.mark.Mark.TheVariants.{Audit};
 ghost use Rattle.run_model.specs.Next.{owners_of, next_unit};
 ghost use Rattle.run_model.specs.Lawful.{Reaches};
 ghost use Rattle.run_laws.specs.Running.{CanRun};
-ghost use Rattle.owner_lines.specs.Owners.{frame_lines, swap_lines, owners_text, owners_of as machine_text};
+ghost use Rattle.owner_lines.specs.Owners.{frame_lines, swap_lines, owners_text, owners_lines as machine_text};
 ghost use Rattle.owner_laws.specs.Lines.{FrameLine, frame_text, Extent, extent_text};
 ghost use Rattle.owner_laws.specs.Told.{FramesTold, SwapTold};
 ghost use Rattle.owner_laws.specs.Account.{OwnersTold, text_at, IsToldAt, IsMachineAt};

@@ -17,7 +17,7 @@ use Rattle.core_map.specs.declared.slot.Slot.{Slot}
 use Rattle.core_map.specs.declared.slot.Slot.TheVariants as slots
 use Rattle.core_map.specs.declared.slot.Whose.{Whose}
 use Rattle.core_map.specs.declared.slot.Whose.TheVariants as whose
-use Rattle.core_map.specs.Slots.{slot_at, listings, owner_of, is_dirty}
+use Rattle.core_map.specs.Slots.{slot_at, listings, slot_owner, is_slot_dirty}
 use Rattle.core_map.specs.Frames.{Frames}
 use Rattle.page_model.specs.Pages.{frame_of, is_valid, is_dirty_by}
 use Rattle.page_model.specs.Placement.{is_dirty as is_dirty_in, Errand, Writes, Reads, Part, Transfer, Moving, Placement, IsFrame, state_of, mark_of, page_of, parts_of, flying, moving, moving_state}
@@ -176,40 +176,40 @@ module _ (p : Placement) (core : Frames) (owns : OwnsFrames p) (shows : ShowsCor
   slot : Slot
   slot = slot_at core.slots f
 
-  pub free_owner : (page : Option Page) → owner_of (slot_at core.slots f) ≡ whose.Free page → owner_text p f (free_place p f) ≡ free_text (place_from 1 f core.free) page
+  pub free_owner : (page : Option Page) → slot_owner (slot_at core.slots f) ≡ whose.Free page → owner_text p f (free_place p f) ≡ free_text (place_from 1 f core.free) page
   free_owner page e = go (slot_at core.slots f) refl
     where
       go : (s : Slot) → slot_at core.slots f ≡ s → owner_text p f (free_place p f) ≡ free_text (place_from 1 f core.free) page
       go (slots.Free token held) is =
-          let same : held ≡ page = ap page_owned (sym (ap owner_of is) ∙ e) in
+          let same : held ≡ page = ap page_owned (sym (ap slot_owner is) ∙ e) in
           let there : 0 < times f core.free = let l = shows.listed f ∙ ap listings is in omega (arith, l) in
           let some : 0 < place_from 1 f core.free = place_some 1 f core.free (omega arith) there in
           ap (λ (xs : List ℕ). owner_text p f (place_from 1 f xs)) shows.free
           ∙ placed_text p f (place_from 1 f core.free) some
           ∙ ap (free_text (place_from 1 f core.free)) (shows.still f token held is ∙ same)
-      go (slots.Resident token held mark) is = absurd (let x : whose.Resident held ≡ whose.Free page = sym (ap owner_of is) ∙ e in cc)
-      go slots.Away is = absurd (let x : whose.Away ≡ whose.Free page = sym (ap owner_of is) ∙ e in cc)
+      go (slots.Resident token held mark) is = absurd (let x : whose.Resident held ≡ whose.Free page = sym (ap slot_owner is) ∙ e in cc)
+      go slots.Away is = absurd (let x : whose.Away ≡ whose.Free page = sym (ap slot_owner is) ∙ e in cc)
 
   -- off the free list
   off_list : listings (slot_at core.slots f) ≡ 0 → owner_text p f (free_place p f) ≡ used_text p (page_of p f)
   off_list h = ap (λ (xs : List ℕ). owner_text p f (place_from 1 f xs)) shows.free ∙ ap (owner_text p f) (place_none 1 f core.free (shows.listed f ∙ h))
 
-  pub used_owner : (q : Page) → owner_of (slot_at core.slots f) ≡ whose.Resident q → owner_text p f (free_place p f) ≡ used_by p q (state_of p q)
+  pub used_owner : (q : Page) → slot_owner (slot_at core.slots f) ≡ whose.Resident q → owner_text p f (free_place p f) ≡ used_by p q (state_of p q)
   used_owner q e = go (slot_at core.slots f) refl
     where
       go : (s : Slot) → slot_at core.slots f ≡ s → owner_text p f (free_place p f) ≡ used_by p q (state_of p q)
-      go (slots.Free token held) is = absurd (let x : whose.Free held ≡ whose.Resident q = sym (ap owner_of is) ∙ e in cc)
+      go (slots.Free token held) is = absurd (let x : whose.Free held ≡ whose.Resident q = sym (ap slot_owner is) ∙ e in cc)
       go (slots.Resident token held mark) is =
-          let same : Some held ≡ Some q = ap page_owned (sym (ap owner_of is) ∙ e) in
+          let same : Some held ≡ Some q = ap page_owned (sym (ap slot_owner is) ∙ e) in
           off_list (ap listings is) ∙ ap (used_text p) ((shows.kept f token held mark is).0 ∙ same)
-      go slots.Away is = absurd (let x : whose.Away ≡ whose.Resident q = sym (ap owner_of is) ∙ e in cc)
+      go slots.Away is = absurd (let x : whose.Away ≡ whose.Resident q = sym (ap slot_owner is) ∙ e in cc)
 
-  pub away_owner : IsFrame p f → owner_of (slot_at core.slots f) ≡ whose.Away → owner_text p f (free_place p f) ≡ carried_text (carried_from 1 f p.transfers)
+  pub away_owner : IsFrame p f → slot_owner (slot_at core.slots f) ≡ whose.Away → owner_text p f (free_place p f) ≡ carried_text (carried_from 1 f p.transfers)
   away_owner w e = go (slot_at core.slots f) refl
     where
       go : (s : Slot) → slot_at core.slots f ≡ s → owner_text p f (free_place p f) ≡ carried_text (carried_from 1 f p.transfers)
-      go (slots.Free token held) is = absurd (let x : whose.Free held ≡ whose.Away = sym (ap owner_of is) ∙ e in cc)
-      go (slots.Resident token held mark) is = absurd (let x : whose.Resident held ≡ whose.Away = sym (ap owner_of is) ∙ e in cc)
+      go (slots.Free token held) is = absurd (let x : whose.Free held ≡ whose.Away = sym (ap slot_owner is) ∙ e in cc)
+      go (slots.Resident token held mark) is = absurd (let x : whose.Resident held ≡ whose.Away = sym (ap slot_owner is) ∙ e in cc)
       go slots.Away is =
           let some : 0 < times f (flying (parts_of p.transfers)) = some_fly (times f (flying (parts_of p.transfers))) (sym (ap is_away is) ∙ shows.away f w) in
           let c : IsCarried p 1 f p.transfers = is_carried p 1 f p.transfers owns.moves some in
@@ -221,12 +221,12 @@ module _ (p : Placement) (core : Frames) (owns : OwnsFrames p) (shows : ShowsCor
           ∙ ap carried_text (sym c.found)
 
   -- a page in a frame that is neither free nor in a transfer is valid or invalid
-  pub kept_owner : (q : Page) (valid : Bool) → IsFrame p f → owner_of (slot_at core.slots f) ≡ whose.Resident q → is_valid (state_of p q) ≡ valid
-      → used_by p q (state_of p q) ≡ kept_text (cond valid (codes " valid") (codes " invalid")) q (is_marked_dirty q (is_dirty (slot_at core.slots f)))
+  pub kept_owner : (q : Page) (valid : Bool) → IsFrame p f → slot_owner (slot_at core.slots f) ≡ whose.Resident q → is_valid (state_of p q) ≡ valid
+      → used_by p q (state_of p q) ≡ kept_text (cond valid (codes " valid") (codes " invalid")) q (is_marked_dirty q (is_slot_dirty (slot_at core.slots f)))
   kept_owner q valid w e v = go (slot_at core.slots f) refl
     where
       Goal : Type 0
-      Goal = used_by p q (state_of p q) ≡ kept_text (cond valid (codes " valid") (codes " invalid")) q (is_marked_dirty q (is_dirty (slot_at core.slots f)))
+      Goal = used_by p q (state_of p q) ≡ kept_text (cond valid (codes " valid") (codes " invalid")) q (is_marked_dirty q (is_slot_dirty (slot_at core.slots f)))
 
       unseated : (n : ℕ) → times f core.free ≡ 0 → times f (flying (parts_of p.transfers)) ≡ 0 → page_of p f ≡ Some q → n ≡ 0 → seats (times f p.free) (state_of p q) ≡ n → ⊥
       unseated n free fly page none s =
@@ -235,26 +235,26 @@ module _ (p : Placement) (core : Frames) (owns : OwnsFrames p) (shows : ShowsCor
           let list : times f p.free ≡ 0 = ap (times f) shows.free ∙ free in
           omega (arith, once, seat, list, fly, none)
 
-      by : (s : PageState) → state_of p q ≡ s → is_unsaved p q ≡ is_marked_dirty q (is_dirty (slot_at core.slots f)) → times f core.free ≡ 0 → times f (flying (parts_of p.transfers)) ≡ 0
+      by : (s : PageState) → state_of p q ≡ s → is_unsaved p q ≡ is_marked_dirty q (is_slot_dirty (slot_at core.slots f)) → times f core.free ≡ 0 → times f (flying (parts_of p.transfers)) ≡ 0
           → page_of p f ≡ Some q → Goal
       by Unfilled s d free fly page = absurd (unseated 0 free fly page refl (ap (seats (times f p.free)) s))
       by (Valid g) s d free fly page =
           ap (used_by p q) s ∙ ap (kept_text (codes " valid") q) d
-          ∙ ap (λ (b : Bool). kept_text (cond b (codes " valid") (codes " invalid")) q (is_marked_dirty q (is_dirty (slot_at core.slots f)))) (sym (ap is_valid s) ∙ v)
+          ∙ ap (λ (b : Bool). kept_text (cond b (codes " valid") (codes " invalid")) q (is_marked_dirty q (is_slot_dirty (slot_at core.slots f)))) (sym (ap is_valid s) ∙ v)
       by (Invalid g) s d free fly page =
           ap (used_by p q) s ∙ ap (kept_text (codes " invalid") q) d
-          ∙ ap (λ (b : Bool). kept_text (cond b (codes " valid") (codes " invalid")) q (is_marked_dirty q (is_dirty (slot_at core.slots f)))) (sym (ap is_valid s) ∙ v)
+          ∙ ap (λ (b : Bool). kept_text (cond b (codes " valid") (codes " invalid")) q (is_marked_dirty q (is_slot_dirty (slot_at core.slots f)))) (sym (ap is_valid s) ∙ v)
       by (Coming g) s d free fly page = absurd (unseated 0 free fly page refl (ap (seats (times f p.free)) s))
       by (Going g) s d free fly page = absurd (unseated 0 free fly page refl (ap (seats (times f p.free)) s))
       by OnSwap s d free fly page = absurd (unseated 0 free fly page refl (ap (seats (times f p.free)) s))
 
       go : (s : Slot) → slot_at core.slots f ≡ s → Goal
-      go (slots.Free token held) is = absurd (let x : whose.Free held ≡ whose.Resident q = sym (ap owner_of is) ∙ e in cc)
+      go (slots.Free token held) is = absurd (let x : whose.Free held ≡ whose.Resident q = sym (ap slot_owner is) ∙ e in cc)
       go (slots.Resident token held mark) is =
           let kept = shows.kept f token held mark is in
-          let same : held ≡ q = same_Some held q (ap page_owned (sym (ap owner_of is) ∙ e)) in
+          let same : held ≡ q = same_Some held q (ap page_owned (sym (ap slot_owner is) ∙ e)) in
           let page : page_of p f ≡ Some q = kept.0 ∙ ap (λ (r : Page). Some r) same in
-          let dirty : is_unsaved p q ≡ is_marked_dirty q (is_dirty (slot_at core.slots f)) =
-          sym (marked q (mark_of p q)) ∙ ap (is_marked_dirty q) (sym (ap is_dirty is ∙ kept.1 ∙ ap (is_dirty_in p) same)) in
+          let dirty : is_unsaved p q ≡ is_marked_dirty q (is_slot_dirty (slot_at core.slots f)) =
+          sym (marked q (mark_of p q)) ∙ ap (is_marked_dirty q) (sym (ap is_slot_dirty is ∙ kept.1 ∙ ap (is_dirty_in p) same)) in
           by (state_of p q) refl dirty (shows.listed f ∙ ap listings is) (none_fly (times f (flying (parts_of p.transfers))) (sym (ap is_away is) ∙ shows.away f w)) page
-      go slots.Away is = absurd (let x : whose.Away ≡ whose.Resident q = sym (ap owner_of is) ∙ e in cc)
+      go slots.Away is = absurd (let x : whose.Away ≡ whose.Resident q = sym (ap slot_owner is) ∙ e in cc)

@@ -11,7 +11,7 @@ use Rattle.page_model.specs.Swapper.{is_out}
 use Rattle.page_model.specs.Swapper as swapper
 use Rattle.kernel_model.specs.Kernel.{Proc}
 use Rattle.machine_state.specs.Alike.{AreRecords}
-use Rattle.machine_state.specs.Machine.{life_shown, proc_shown, proc_of, processes_of, residence_by, residence_of, residents_of}
+use Rattle.machine_state.specs.Machine.{life_shown, proc_shown, proc_of_record, processes_of, residence_by, residence_of, residents_of}
 use Rattle.machine_state.proofs.Records.{keeps_none, keeps_some, found_pid}
 use Rattle.machine_state.proofs.ByNumber.{over, over_some, next_follows, none_follows, residence_over}
 use Rattle.owner_lines.specs.Owners.{life_text, registers_in, registers_text, process_line, process_lines}
@@ -45,18 +45,18 @@ module _ (p : Placement) (ps : List Record) (next : ℕ) (residents : p.resident
   line_by : (n : ℕ) (x : Record) → find n ps ≡ Some x → process_lines p (proc_shown x) ≡ record_lines x
   line_by n x e = lines_by n x e x.state refl
 
-  lines_over : (ns : List ℕ) → flat_map (process_lines p) (filter_map (λ n. proc_of (find n ps)) ns) ≡ flat_map record_lines (filter_map (λ n. find n ps) ns)
+  lines_over : (ns : List ℕ) → flat_map (process_lines p) (filter_map (λ n. proc_of_record (find n ps)) ns) ≡ flat_map record_lines (filter_map (λ n. find n ps) ns)
   lines_over [] = refl
   lines_over (n ∷ ns) = go (find n ps) refl (lines_over ns)
     where
-      go : (o : Option Record) → find n ps ≡ o → flat_map (process_lines p) (filter_map (λ n. proc_of (find n ps)) ns) ≡ flat_map record_lines (filter_map (λ n. find n ps) ns)
-          → flat_map (process_lines p) (filter_map (λ n. proc_of (find n ps)) (n ∷ ns)) ≡ flat_map record_lines (filter_map (λ n. find n ps) (n ∷ ns))
+      go : (o : Option Record) → find n ps ≡ o → flat_map (process_lines p) (filter_map (λ n. proc_of_record (find n ps)) ns) ≡ flat_map record_lines (filter_map (λ n. find n ps) ns)
+          → flat_map (process_lines p) (filter_map (λ n. proc_of_record (find n ps)) (n ∷ ns)) ≡ flat_map record_lines (filter_map (λ n. find n ps) (n ∷ ns))
       go None e more =
-          ap (λ (qs : List Proc). flat_map (process_lines p) qs) (keeps_none (λ n. proc_of (find n ps)) n ns (ap proc_of e))
+          ap (λ (qs : List Proc). flat_map (process_lines p) qs) (keeps_none (λ n. proc_of_record (find n ps)) n ns (ap proc_of_record e))
           ∙ more
           ∙ sym (ap (flat_map record_lines) (keeps_none (λ n. find n ps) n ns e))
       go (Some x) e more =
-          ap (λ (qs : List Proc). flat_map (process_lines p) qs) (keeps_some (λ n. proc_of (find n ps)) n ns (proc_shown x) (ap proc_of e))
+          ap (λ (qs : List Proc). flat_map (process_lines p) qs) (keeps_some (λ n. proc_of_record (find n ps)) n ns (proc_shown x) (ap proc_of_record e))
           ∙ ap₂ ◌++◌ (line_by n x e) more
           ∙ sym (ap (flat_map record_lines) (keeps_some (λ n. find n ps) n ns x e))
 

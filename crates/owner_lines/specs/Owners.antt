@@ -249,5 +249,5 @@ owners_text entries over p hs size processes = entries_line entries over ++ hand
     ++ flat_map (process_lines p) processes ++ flat_map due_line p.due ++ swap_lines size hs
 
 -- the lines of a machine, whose holdings are those before the pieces that were found for an entry to come
-abbrev pub owners_of : Standing → Bool → List ℕ
-owners_of m over = owners_text (length m.kernel.journal) over m.kernel.place m.before m.params.swap_blocks m.kernel.processes
+abbrev pub owners_lines : Standing → Bool → List ℕ
+owners_lines m over = owners_text (length m.kernel.journal) over m.kernel.place m.before m.params.swap_blocks m.kernel.processes

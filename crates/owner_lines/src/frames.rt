@@ -2,7 +2,7 @@
 #![tactic(auto, using(run_text::proofs::Putting::text_none))]
 
 ghost use Rattle.std.specs.Prelude.{◌≡◌, ◌+◌, ◌<◌, ◌^◌, map, slice_get};
-ghost use Rattle.core_map.specs.Slots.{owner_of, slot_at, is_dirty};
+ghost use Rattle.core_map.specs.Slots.{slot_owner, slot_at, is_slot_dirty};
 ghost use Rattle.core_map.specs.declared.slot.Whose.TheVariants.{Resident as ResidentOwner};
 ghost use Rattle.page_model.specs.Pages.{is_valid};
 ghost use Rattle.page_model.specs.Placement.{state_of, IsFrame};
@@ -133,8 +133,8 @@ fn is_valid(machine: &Machine, page: Page) -> bool
 
 // Whether the page of a frame off the free list is data or stack that swap hasn't.
 fn is_unsaved(core: &CoreMap, frame: u32, page: Page) -> bool
-    requires { owner_of (slot_at core.now.slots frame) ≡ ResidentOwner page }
-    ensures { result ≡ is_marked_dirty page (is_dirty (slot_at core.now.slots frame)) }
+    requires { slot_owner (slot_at core.now.slots frame) ≡ ResidentOwner page }
+    ensures { result ≡ is_marked_dirty page (is_slot_dirty (slot_at core.now.slots frame)) }
 {
     match page {
         Page::Data { .. } | Page::Stack { .. } => core.is_dirty(frame),
@@ -188,7 +188,7 @@ fn put_used<S: Sink>(
     requires running { IsRunning machine.now }
     requires shows { ShowsCore machine.now.kernel.place core.now }
     requires frame { IsFrame machine.now.kernel.place frame }
-    requires owner { owner_of (slot_at core.now.slots frame) ≡ ResidentOwner page }
+    requires owner { slot_owner (slot_at core.now.slots frame) ≡ ResidentOwner page }
     ensures { PutsText S.Sink result (used_by machine.now.kernel.place page (state_of machine.now.kernel.place page)) out.old out.new }
 {
     let dirty = is_unsaved(core, frame, page);

@@ -4,7 +4,7 @@ ghost use Rattle.std.specs.Prelude.{length};
 ghost use Rattle.io_edge.specs.Calls.{PutsBytes};
 ghost use Rattle.machine_state.specs.Going.{IsRunning};
 ghost use Rattle.run_text.specs.Writing.{PutsText, WritesText};
-ghost use Rattle.owner_lines.specs.Owners.{entries_line, hands_line, swap_lines, owners_of};
+ghost use Rattle.owner_lines.specs.Owners.{entries_line, hands_line, swap_lines, owners_lines};
 
 use crate::due::put_due;
 use crate::frames::put_frames;
@@ -54,7 +54,7 @@ fn put_head<S: Sink>(out: &mut Writer<'_, S>, machine: &Machine, over: bool) -> 
 // Puts all lines.
 fn put_lines<S: Sink>(out: &mut Writer<'_, S>, machine: &Machine, over: bool) -> Result<(), Failed>
     requires { IsRunning machine.now }
-    ensures { PutsText S.Sink result (owners_of machine.now over) out.old out.new }
+    ensures { PutsText S.Sink result (owners_lines machine.now over) out.old out.new }
 {
     put_head(out, machine, over)?;
     put_hands(out, machine)?;
@@ -68,7 +68,7 @@ fn put_lines<S: Sink>(out: &mut Writer<'_, S>, machine: &Machine, over: bool) ->
 // Writes all lines through a buffer of its own.
 fn write_lines<S: Sink>(sink: &mut S, machine: &Machine, over: bool) -> Result<(), Failed>
     requires { IsRunning machine.now }
-    ensures { WritesText S.Sink result (owners_of machine.now over) sink.old sink.new }
+    ensures { WritesText S.Sink result (owners_lines machine.now over) sink.old sink.new }
 {
     let mut out = Writer::new(sink);
     put_lines(&mut out, machine, over)?;
@@ -81,7 +81,7 @@ fn write_lines<S: Sink>(sink: &mut S, machine: &Machine, over: bool) -> Result<(
 /// tells, a prefix of all this is written.
 pub fn write_owners<S: Sink>(sink: &mut S, machine: &Machine, over: bool) -> Moved
     requires { IsRunning machine.now }
-    ensures { PutsBytes S.Sink (owners_of machine.now over) result sink.old sink.new }
+    ensures { PutsBytes S.Sink (owners_lines machine.now over) result sink.old sink.new }
 {
     match write_lines(sink, machine, over) {
         Ok(()) => Moved::Done,

@@ -6,7 +6,7 @@ use Rattle.page_laws.proofs.Moves.Steps.{marked_false}
 use Rattle.vm_facts.specs.declared.page.Page.{Page}
 use Rattle.vm_facts.specs.declared.page.Page.TheVariants.{Data, Stack, Text}
 use Rattle.aout_image.specs.declared.Image.{Image}
-use Rattle.aout_image.specs.Image.{data_pages_of, text_pages_of}
+use Rattle.aout_image.specs.Image.{image_data_pages, text_pages_of}
 use Rattle.page_model.specs.Pages.{Filling, Zeros, SpacePages, TextPages, frame_of, numbered, data_in, stack_in, text_in}
 use Rattle.page_model.specs.Frames.{at_frame, count_up}
 use Rattle.vm_facts.specs.Lists.{times}
@@ -54,7 +54,7 @@ blank_text image (t ∷ ts) b = go (image_number t == image) (blank_text image t
 
 spaces_blank : (n : ℕ) (first : List Starting) → BlankSpaces (spaces_from n first)
 spaces_blank n [] = tt
-spaces_blank n (a ∷ more) = (unfilled_blank a.facts 0 (data_pages_of a.facts), ((refl, refl), tt), spaces_blank (n + 1) more)
+spaces_blank n (a ∷ more) = (unfilled_blank a.facts 0 (image_data_pages a.facts), ((refl, refl), tt), spaces_blank (n + 1) more)
 
 many_blank : (n : ℕ) (x : Filling) → AllBlank (replicate n (unfilled x))
 many_blank zero x = tt

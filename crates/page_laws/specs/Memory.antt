@@ -4,7 +4,7 @@ use Rattle.vm_facts.specs.declared.page.Page.{Page}
 use Rattle.vm_facts.specs.declared.page.Page.TheVariants.{Data, Stack, Text}
 use Rattle.vm_facts.specs.declared.page.PageState.TheVariants.{Valid}
 use Rattle.aout_image.specs.declared.Image.{Image}
-use Rattle.aout_image.specs.Image.{data_pages_of}
+use Rattle.aout_image.specs.Image.{image_data_pages}
 use Rattle.flat_state.specs.PageNames.{number_of}
 use Rattle.page_model.specs.Placement.{Placement, Source, Reads, slots_of, state_of, IsThere, data_filling}
 use Rattle.page_model.specs.Moves.{touch, get_run, drop_all}
@@ -43,7 +43,7 @@ ForkKeepsBytes = (p : Placement) (parent child : ℕ) (b c : Bytes)
 abbrev pub NewSpaceKeepsBytes : Type 0
 NewSpaceKeepsBytes = (p : Placement) (sid image : ℕ) (facts : Image) (b c : Bytes)
     → CouplesPages p b → IsNew p sid → p.due ≡ [] → ((w : Page) → IsThere p w → SameBytes b c w)
-    → ((v : ℕ) → v < data_pages_of facts → FillsBy c (Data sid v) (data_filling facts v))
+    → ((v : ℕ) → v < image_data_pages facts → FillsBy c (Data sid v) (data_filling facts v))
     → c.start (Stack sid 0) ≡ c.memory (Stack sid 0) → ((i v : ℕ) → c.file (Text i v) ≡ c.memory (Text i v))
     → CouplesPages (enter_space p sid image facts) c
 

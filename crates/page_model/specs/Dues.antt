@@ -6,7 +6,7 @@ use Rattle.vm_facts.specs.declared.entry.Entry.{Entry}
 use Rattle.vm_facts.specs.declared.entry.Entry.TheVariants as entries
 use Rattle.page_model.specs.Pages.{Zeros}
 use Rattle.flat_state.specs.PageNames.{pages_from}
-use Rattle.page_model.specs.Placement.{Placement, Due, Start, CopyOf, due_at, state_of, filling_of, IsThere}
+use Rattle.page_model.specs.Placement.{Placement, Due, Start, CopyOf, due_of_page, state_of, filling_of, IsThere}
 use Rattle.page_model.specs.Place.{due_after}
 use Rattle.page_model.specs.Conditions.{EachPage}
 use Rattle.page_model.specs.PageBytes.{IsWritable}
@@ -26,11 +26,11 @@ pub record IsDue (p : Placement) (q : Page) (d : Due) : Type 0 where
 
 -- each page that is due still has to be filled, and what it is copied from is there
 abbrev pub DueStand : Placement → Type 0
-DueStand p = (q : Page) (d : Due) → due_at p.due q ≡ Some d → IsDue p q d
+DueStand p = (q : Page) (d : Due) → due_of_page p.due q ≡ Some d → IsDue p q d
 
 -- the page isn't due
 abbrev pub NotDue : List Due → Page → Type 0
-NotDue ds q = due_at ds q ≡ None
+NotDue ds q = due_of_page ds q ≡ None
 
 -- a page that an entry fills isn't due after it, and one that it reads wasn't
 abbrev pub LeavesDue : Placement → Entry → Type 0

@@ -7,7 +7,7 @@ use Rattle.vm_facts.specs.declared.page.PageState.{PageState}
 use Rattle.vm_facts.specs.declared.page.PageState.TheVariants.{Unfilled, Valid, Invalid, Coming, Going, OnSwap}
 use Rattle.page_model.specs.Pages.{Filling, Zeros, OfImage, frame_of}
 use Rattle.page_model.specs.Frames.{at_frame, set_frame}
-use Rattle.page_model.specs.Placement.{Placement, Transfer, Part, Source, Errand, Writes, Reads, FromSwap, FromFile, Due, Start, CopyOf, state_of, mark_of, is_dirty, filling_of, errand_at, due_at, parts_of, IsThere}
+use Rattle.page_model.specs.Placement.{Placement, Transfer, Part, Source, Errand, Writes, Reads, FromSwap, FromFile, Due, Start, CopyOf, state_of, mark_of, is_dirty, filling_of, errand_at, due_of_page, parts_of, IsThere}
 
 -- the 1,024 bytes of a page of zeros
 unfoldable pub zeros : List ℕ
@@ -65,7 +65,7 @@ IfSaved b (Text image v) saved = saved ≡ true → b.swap (Text image v) ≡ b.
 
 -- where a page's flat bytes are, by its state
 abbrev pub KeepsBy : Placement → Bytes → Page → PageState → Type 0
-KeepsBy p b q Unfilled = KeepsUnfilled b q (due_at p.due q) (filling_of p q) × IsUnsaved q (mark_of p q)
+KeepsBy p b q Unfilled = KeepsUnfilled b q (due_of_page p.due q) (filling_of p q) × IsUnsaved q (mark_of p q)
 KeepsBy p b q (Valid f) = IsInFrame b (is_dirty p q) f q
 KeepsBy p b q (Invalid f) = IsInFrame b (is_dirty p q) f q
 KeepsBy p b q (Coming f) = KeepsComing b q (mark_of p q) (errand_at (parts_of p.transfers) f)
@@ -81,7 +81,7 @@ pub record CouplesPages (p : Placement) (b : Bytes) : Type 0 where
   pub each : (q : Page) → IsThere p q → Keeps p b q
   -- text is never written, and never due
   pub text : (image v : ℕ) → b.file (Text image v) ≡ b.memory (Text image v)
-  pub text_due : (image v : ℕ) → due_at p.due (Text image v) ≡ None
+  pub text_due : (image v : ℕ) → due_of_page p.due (Text image v) ≡ None
 
 -- One page in two machines: where it has a frame in both, the frames have the same bytes, and so have its two blocks,
 -- and what is kept for it.
@@ -126,7 +126,7 @@ IsWritable (Text image n) = ⊥
 -- what a page that is read from swap, or from its file, was
 abbrev pub ReadsFrom : Placement → Source → Page → Page → Type 0
 ReadsFrom p FromSwap demanded v = state_of p v ≡ OnSwap
-ReadsFrom p FromFile demanded v = (state_of p v ≡ Unfilled) × (filling_of p v ≡ OfImage) × (due_at p.due v ≡ None) × (IsWritable v → v ≡ demanded)
+ReadsFrom p FromFile demanded v = (state_of p v ≡ Unfilled) × (filling_of p v ≡ OfImage) × (due_of_page p.due v ≡ None) × (IsWritable v → v ≡ demanded)
 
 -- after a read the frames have what was read
 abbrev pub bytes_read : Bytes → Source → List Part → Bytes

@@ -5,7 +5,7 @@ use Rattle.vm_facts.specs.declared.page.Page.TheVariants.{Data, Stack, Text}
 use Rattle.vm_facts.specs.declared.page.PageState.{PageState}
 use Rattle.vm_facts.specs.declared.page.PageState.TheVariants.{Unfilled, Coming, Going}
 use Rattle.flat_state.specs.AoutImageImage.{Image}
-use Rattle.flat_state.specs.AoutImageImageSpecs.{data_given, data_pages_of, text_pages_of}
+use Rattle.flat_state.specs.AoutImageImageSpecs.{data_given, image_data_pages, text_pages_of}
 use Rattle.page_model.specs.Pages.{Slot, Filling, Zeros, OfImage, SpacePages, TextPages, numbered, changed, data_in, stack_in, text_in, with_data, with_stack, with_text, no_slot, is_dirty_by}
 use Rattle.flat_state.specs.PageNames.{number_of, same_page}
 use Rattle.page_model.specs.Frames.{at_frame, count_up}
@@ -170,9 +170,9 @@ due_page (Start q) = q
 due_page (CopyOf q parent) = q
 
 -- what is due of a page
-abbrev pub due_at : List Due → Page → Option Due
-due_at [] q = None
-due_at (d ∷ ds) q = cond (same_page (due_page d) q) (Some d) (due_at ds q)
+abbrev pub due_of_page : List Due → Page → Option Due
+due_of_page [] q = None
+due_of_page (d ∷ ds) q = cond (same_page (due_page d) q) (Some d) (due_of_page ds q)
 
 -- Changes.
 
@@ -212,7 +212,7 @@ abbrev pub new_pages : ℕ → ℕ → Image → SpacePages
 new_pages sid image facts = record {
   sid = sid;
   image = image;
-  data_pages = unfilled_data facts 0 (data_pages_of facts);
+  data_pages = unfilled_data facts 0 (image_data_pages facts);
   stack_pages = unfilled Zeros ∷ [];
 }
 

@@ -4,7 +4,7 @@ use Rattle.std.specs.Prelude.{◌==◌, ◌||◌}
 use Rattle.std.proofs.lemmas.Bool.{cases_eq, cases_Bool, eq-eqb, ne_eqb, eqb-true, false≢true, or_cases, or_left, or_right, or_parts}
 use Rattle.page_opt.specs.Plans.{has}
 use Rattle.vm_facts.specs.Lists.{without_first}
-use Rattle.page_opt.specs.Cache.{bit, tally, times}
+use Rattle.page_opt.specs.Cache.{bit, tally, count_in}
 
 -- how many pages of the cache are among some references
 abbrev pub count : List ℕ → List ℕ → ℕ
@@ -31,7 +31,7 @@ tally_all f (q ∷ qs) all =
     let one = ap bit here in
     omega arith
 
-pub has_times : (p : ℕ) (qs : List ℕ) → has p qs ≡ true → 1 ≤ times p qs
+pub has_times : (p : ℕ) (qs : List ℕ) → has p qs ≡ true → 1 ≤ count_in p qs
 unfolding has
 has_times p [] h = absurd (false≢true h)
 has_times p (q ∷ qs) h = elim (or_cases (q == p) (has p qs) h) [
@@ -39,7 +39,7 @@ has_times p (q ∷ qs) h = elim (or_cases (q == p) (has p qs) h) [
   | inr later ↦ let more = has_times p qs later in omega arith
 ]
 
-pub hasnt_times : (p : ℕ) (qs : List ℕ) → has p qs ≡ false → times p qs ≡ 0
+pub hasnt_times : (p : ℕ) (qs : List ℕ) → has p qs ≡ false → count_in p qs ≡ 0
 unfolding has
 hasnt_times p [] h = refl
 hasnt_times p (q ∷ qs) h =
@@ -48,13 +48,13 @@ hasnt_times p (q ∷ qs) h =
     let rest = hasnt_times p qs parts.1 in
     omega arith
 
-pub times_has : (p : ℕ) (qs : List ℕ) → 1 ≤ times p qs → has p qs ≡ true
+pub times_has : (p : ℕ) (qs : List ℕ) → 1 ≤ count_in p qs → has p qs ≡ true
 times_has p qs some = elim (cases_Bool (has p qs)) [
   | inl there ↦ there
   | inr away ↦ absurd (let none = hasnt_times p qs away in omega arith)
 ]
 
-pub times_hasnt : (p : ℕ) (qs : List ℕ) → times p qs ≡ 0 → has p qs ≡ false
+pub times_hasnt : (p : ℕ) (qs : List ℕ) → count_in p qs ≡ 0 → has p qs ≡ false
 times_hasnt p qs none = elim (cases_Bool (has p qs)) [
   | inl there ↦ absurd (let some = has_times p qs there in omega arith)
   | inr away ↦ away
@@ -91,7 +91,7 @@ length-without v qs h =
     lengths (r ∷ rs) = let rest = lengths rs in omega arith
 
 -- the pages among some references, one more before them
-pub count_more : (p : ℕ) (xs qs : List ℕ) → count (p ∷ xs) qs ≡ count xs qs + cond (has p xs) 0 (times p qs)
+pub count_more : (p : ℕ) (xs qs : List ℕ) → count (p ∷ xs) qs ≡ count xs qs + cond (has p xs) 0 (count_in p qs)
 unfolding has
 count_more p xs [] = at (has p xs)
   where
@@ -101,7 +101,7 @@ count_more p xs [] = at (has p xs)
 count_more p xs (q ∷ qs) =
     let rest = count_more p xs qs in
     let first = one q in
-    let sums = add (has p xs) (bit (q == p)) (times p qs) in
+    let sums = add (has p xs) (bit (q == p)) (count_in p qs) in
     omega arith
   where
     add : (b : Bool) (m n : ℕ) → cond b 0 (m + n) ≡ cond b 0 m + cond b 0 n

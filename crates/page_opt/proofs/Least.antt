@@ -6,7 +6,7 @@ use Rattle.page_opt.specs.declared.Victim.{Victim}
 use Rattle.page_opt.specs.Plans.{Run, has, then, serve, runs, all_left, faults_of, plan_faults}
 use Rattle.vm_facts.specs.Lists.{without_first}
 use Rattle.page_opt.specs.Furthest.{furthest_victims}
-use Rattle.page_opt.specs.Cache.{bit, times, IsCache}
+use Rattle.page_opt.specs.Cache.{bit, count_in, IsCache}
 use Rattle.page_opt.proofs.Counts.{count, count_more, tally_all, tally_le, hasnt_times, tally-without}
 use Rattle.page_opt.proofs.Uses.{furthest_last}
 use Rattle.page_opt.proofs.Served.{Step, serve_gives, step_small, runs_none}
@@ -18,12 +18,12 @@ Ahead ps best b other c = (xs ys : List ℕ) → ps ≡ xs ++ ys → count xs ot
 
 -- what the best cache is after a reference, for a front xs of the references to come
 pub record BestHit (p : ℕ) (xs best later : List ℕ) (b b' : ℕ) : Type 0 where
-  pub there : times p best ≤ 1
+  pub there : count_in p best ≤ 1
   pub same : count xs later ≡ count xs best
   pub faults : b' ≡ b
 
 pub record BestMiss (n p : ℕ) (xs best later : List ℕ) (b b' : ℕ) : Type 0 where
-  pub away : times p best ≡ 0
+  pub away : count_in p best ≡ 0
   pub faults : b' ≡ b + 1
   pub kept : (count xs later ≡ count xs best + bit (has p xs)) ⊎ (count xs later + 1 ≡ n + bit (has p xs))
 
@@ -72,8 +72,8 @@ zero_count (q ∷ qs) = let rest = zero_count qs in omega arith
 -- the invariant at the front p ∷ xs, at p alone and at none
 pub record Fronts (p : ℕ) (xs best : List ℕ) (b : ℕ) (other : List ℕ) (c : ℕ) : Type 0 where
   pub none : b ≤ c
-  pub one : times p other + b ≤ times p best + c
-  pub more : count xs other + cond (has p xs) 0 (times p other) + b ≤ count xs best + cond (has p xs) 0 (times p best) + c
+  pub one : count_in p other + b ≤ count_in p best + c
+  pub more : count xs other + cond (has p xs) 0 (count_in p other) + b ≤ count xs best + cond (has p xs) 0 (count_in p best) + c
 
 pub fronts : (p : ℕ) (xs ys best : List ℕ) (b : ℕ) (other : List ℕ) (c : ℕ) → Ahead (p ∷ (xs ++ ys)) best b other c → Fronts p xs best b other c
 unfolding Ahead has
@@ -96,7 +96,7 @@ added true other best = inl (refl, refl, refl)
 added false other best = inr (refl, refl, refl)
 
 -- the two caches hold at most this many of the front's pages
-most : (n p : ℕ) (xs : List ℕ) (c : Run) → length c.cache ≤ n → count xs c.cache + cond (has p xs) 0 (times p c.cache) ≤ n
+most : (n p : ℕ) (xs : List ℕ) (c : Run) → length c.cache ≤ n → count xs c.cache + cond (has p xs) 0 (count_in p c.cache) ≤ n
 unfolding has
 most n p xs c l =
     let m = count_more p xs c.cache in
@@ -110,14 +110,14 @@ ahead_step : (n p : ℕ) (xs best later : List ℕ) (b b' : ℕ) (c c' : Run) �
 ahead_step n p xs best later b b' c c' f l (inl s) (inl t) =
     let same = ap (λ (qs : List ℕ). count xs qs) t.cache in
     let m = f.more in let o = t.there in let u = s.there in let e = s.same in let g = s.faults in let h = t.faults in
-    elim (added (has p xs) (times p c.cache) (times p best)) [
+    elim (added (has p xs) (count_in p c.cache) (count_in p best)) [
       | inl a ↦ let a₁ = a.1 in let a₂ = a.2 in omega arith
       | inr a ↦ let a₁ = a.1 in let a₂ = a.2 in omega arith
     ]
 ahead_step n p xs best later b b' c c' f l (inl s) (inr t) =
     let k = t.kept xs in
     let m = f.more in let o = t.away in let u = s.there in let e = s.same in let g = s.faults in let h = t.faults in
-    elim (added (has p xs) (times p c.cache) (times p best)) [
+    elim (added (has p xs) (count_in p c.cache) (count_in p best)) [
       | inl a ↦ let a₀ = a.0 in let a₁ = a.1 in let a₂ = a.2 in omega arith
       | inr a ↦ let a₀ = a.0 in let a₁ = a.1 in let a₂ = a.2 in omega arith
     ]
@@ -125,7 +125,7 @@ ahead_step n p xs best later b b' c c' f l (inr s) (inl t) =
     let same = ap (λ (qs : List ℕ). count xs qs) t.cache in
     let top = most n p xs c l in
     let m = f.more in let i = f.one in let o = t.there in let u = s.away in let g = s.faults in let h = t.faults in
-    elim (added (has p xs) (times p c.cache) (times p best)) [
+    elim (added (has p xs) (count_in p c.cache) (count_in p best)) [
       | inl a ↦ let a₀ = a.0 in let a₁ = a.1 in let a₂ = a.2 in elim s.kept [ inl k ↦ omega arith | inr k ↦ omega arith ]
       | inr a ↦ let a₀ = a.0 in let a₁ = a.1 in let a₂ = a.2 in elim s.kept [ inl k ↦ omega arith | inr k ↦ omega arith ]
     ]
@@ -133,7 +133,7 @@ ahead_step n p xs best later b b' c c' f l (inr s) (inr t) =
     let k' = t.kept xs in
     let r = t.room xs in
     let m = f.more in let z = f.none in let o = t.away in let u = s.away in let g = s.faults in let h = t.faults in
-    elim (added (has p xs) (times p c.cache) (times p best)) [
+    elim (added (has p xs) (count_in p c.cache) (count_in p best)) [
       | inl a ↦ let a₀ = a.0 in let a₁ = a.1 in let a₂ = a.2 in elim s.kept [ inl k ↦ omega arith | inr k ↦ omega arith ]
       | inr a ↦ let a₀ = a.0 in let a₁ = a.1 in let a₂ = a.2 in elim s.kept [ inl k ↦ omega arith | inr k ↦ omega arith ]
     ]

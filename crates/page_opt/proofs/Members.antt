@@ -5,7 +5,7 @@ use Rattle.std.proofs.Math.Bool.{and-true, and-false}
 use Rattle.std.proofs.lemmas.Bool.{cases_eq, cases_Bool, eq-eqb, ne_eqb, and_left}
 use Rattle.page_opt.specs.Plans.{has}
 use Rattle.vm_facts.specs.Lists.{without_first}
-use Rattle.page_opt.specs.Cache.{bit, times}
+use Rattle.page_opt.specs.Cache.{bit, count_in}
 use Rattle.page_opt.proofs.Counts.{has_times, hasnt_times, times_has, times_hasnt, tally-without}
 use Rattle.page_opt.proofs.Holding.{others, plus}
 
@@ -31,7 +31,7 @@ has_first p q cache = elim (cases_eq q p) [
   | inr other ↦ ap (λ (b : Bool). b || has q cache) (ne_eqb p q (λ e. other (sym e))) ∙ ap (λ (b : Bool). b || has q cache) (sym (ne_eqb q p other))
 ]
 
-pub has-without : (v q : ℕ) (cache : List ℕ) → ((r : ℕ) → times r cache ≤ 1) → has v cache ≡ true
+pub has-without : (v q : ℕ) (cache : List ℕ) → ((r : ℕ) → count_in r cache ≤ 1) → has v cache ≡ true
     → has q (without_first v cache) ≡ (has q cache && not (q == v))
 has-without v q cache once there = elim (cases_eq q v) [
   | inl same ↦
@@ -45,17 +45,17 @@ has-without v q cache once there = elim (cases_eq q v) [
       by_times (omega arith) ∙ sym (ap (λ (b : Bool). has q cache && not b) (ne_eqb q v other) ∙ and-true (has q cache))
 ]
   where
-    by_times : times q (without_first v cache) ≡ times q cache → has q (without_first v cache) ≡ has q cache
+    by_times : count_in q (without_first v cache) ≡ count_in q cache → has q (without_first v cache) ≡ has q cache
     by_times e = elim (cases_Bool (has q cache)) [
       | inl in_it ↦ times_has q (without_first v cache) (let s = has_times q cache in_it in omega arith) ∙ sym in_it
       | inr out ↦ times_hasnt q (without_first v cache) (let z = hasnt_times q cache out in omega arith) ∙ sym out
     ]
 
 -- a page that wasn't there enters
-pub times_enter : (p q : ℕ) (cache : List ℕ) → times p cache ≡ 0 → ((r : ℕ) → times r cache ≤ 1) → times q (p ∷ cache) ≤ 1
+pub times_enter : (p q : ℕ) (cache : List ℕ) → count_in p cache ≡ 0 → ((r : ℕ) → count_in r cache ≤ 1) → count_in q (p ∷ cache) ≤ 1
 times_enter p q cache away once = elim (cases_eq p q) [
   | inl same ↦
-      let none = ap (λ (r : ℕ). times r cache) same in
+      let none = ap (λ (r : ℕ). count_in r cache) same in
       let one = ap bit (eq-eqb p q same) in
       omega arith
   | inr other ↦

@@ -3,18 +3,18 @@ use Rattle.std.proofs.Common.{◌≡◌, ℕ, ◌+◌, ◌<◌, ◌≤◌, Bool,
 use Rattle.std.proofs.lemmas.Bool.{ltb-true}
 use Rattle.page_opt.specs.Plans.{Run, has, due, entered, left, then, served, serve, runs}
 use Rattle.vm_facts.specs.Lists.{without_first}
-use Rattle.page_opt.specs.Cache.{bit, times}
+use Rattle.page_opt.specs.Cache.{bit, count_in}
 use Rattle.page_opt.proofs.Counts.{count, cond_some, tally_le, has_times, hasnt_times, tally-without}
 
 -- a hit
 pub record Hit (p : ℕ) (c d : Run) : Type 0 where
-  pub there : 1 ≤ times p c.cache
+  pub there : 1 ≤ count_in p c.cache
   pub cache : d.cache ≡ c.cache
   pub faults : d.faults ≡ c.faults
 
 -- a fault in n frames: a page may leave, and the page enters
 pub record Miss (n p : ℕ) (c d : Run) : Type 0 where
-  pub away : times p c.cache ≡ 0
+  pub away : count_in p c.cache ≡ 0
   pub faults : d.faults ≡ c.faults + 1
   pub kept : (xs : List ℕ) → count xs d.cache ≤ count xs c.cache + bit (has p xs)
   pub room : (xs : List ℕ) → count xs d.cache + 1 ≤ n + bit (has p xs)

@@ -13,12 +13,12 @@ tally f [] = 0
 tally f (q ∷ qs) = bit (f q) + tally f qs
 
 -- how often a page is in the cache
-abbrev pub times : ℕ → List ℕ → ℕ
-times p = tally (λ q. q == p)
+abbrev pub count_in : ℕ → List ℕ → ℕ
+count_in p = tally (λ q. q == p)
 
 -- each page is in the cache at most once, and there are at most n
 pub record IsCache (n : ℕ) (cache : List ℕ) : Type 0 where
-  pub once : (q : ℕ) → times q cache ≤ 1
+  pub once : (q : ℕ) → count_in q cache ≤ 1
   pub small : length cache ≤ n
 
 -- the place of a page's next use, if there is one; the references to come begin at a place

@@ -4,14 +4,14 @@ use Rattle.std.specs.BTreeSet.{BTreeSet, btree_set_len}
 use Rattle.page_opt.specs.declared.Victim.{Victim}
 use Rattle.page_opt.specs.declared.replay.Replay.{Replay}
 use Rattle.page_opt.specs.Plans.{Run, has, serve, runs, faults_of, plan_faults}
-use Rattle.page_opt.specs.Cache.{bit, times}
+use Rattle.page_opt.specs.Cache.{bit, count_in}
 use Rattle.page_opt.specs.Held.{in_set, Changes}
 
 -- the set has the pages of the cache
 pub record Tracks (cache : List ℕ) (set : BTreeSet ℕ) : Type 0 where
   pub same : (q : ℕ) → in_set set q ≡ has q cache
   pub size : btree_set_len set ≡ length cache
-  pub once : (q : ℕ) → times q cache ≤ 1
+  pub once : (q : ℕ) → count_in q cache ≤ 1
 
 -- the run that the code is in
 abbrev pub run_of : List ℕ → Replay → Run

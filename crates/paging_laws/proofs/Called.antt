@@ -7,7 +7,7 @@ use Rattle.vm_facts.specs.declared.entry.Entry.{Entry}
 use Rattle.vm_facts.specs.declared.entry.Entry.TheVariants as entries
 use Rattle.flat_state.specs.Flat.{Inputs, process_of}
 use Rattle.page_model.specs.Pages.{Filling, Zeros, OfImage}
-use Rattle.page_model.specs.Placement.{Placement, Transfer, Due, CopyOf, due_at, state_of, filling_of}
+use Rattle.page_model.specs.Placement.{Placement, Transfer, Due, CopyOf, due_of_page, state_of, filling_of}
 use Rattle.page_model.specs.Place.{space_of_process}
 use Rattle.page_model.specs.Runs.{run_in}
 use Rattle.page_model.specs.Serve.{force_entry, is_full, read_entry_if, bring_entry_by, feed_entry_by, serve_entry_by, serve_entry}
@@ -160,8 +160,8 @@ unit_names A s u h = kind_names A s u (kind_of A s u h)
 -- what a copy is made from was filled
 parent_filled : (p : Placement) (q : Page) → DueStand p → IsParentOfDue p q → state_of p q ≡ Unfilled → ⊥
 parent_filled p q d w e =
-    let first : due_at (CopyOf w.child q ∷ w.rest) w.child ≡ Some (CopyOf w.child q) = ap (λ (b : Bool). cond b (Some (CopyOf w.child q)) (due_at w.rest w.child)) (same_page_self w.child) in
-    let due : IsDue p w.child (CopyOf w.child q) = d w.child (CopyOf w.child q) (ap (λ (ds : List Due). due_at ds w.child) w.first ∙ first) in
+    let first : due_of_page (CopyOf w.child q ∷ w.rest) w.child ≡ Some (CopyOf w.child q) = ap (λ (b : Bool). cond b (Some (CopyOf w.child q)) (due_of_page w.rest w.child)) (same_page_self w.child) in
+    let due : IsDue p w.child (CopyOf w.child q) = d w.child (CopyOf w.child q) (ap (λ (ds : List Due). due_of_page ds w.child) w.first ∙ first) in
     let source : HasSource p (CopyOf w.child q) = due.source in
     source.1 e
 

@@ -11,13 +11,13 @@ use Rattle.page_model.specs.PageBytes.{IsWritable}
 use Rattle.page_model.specs.Runs.{chunk_of, desired_free}
 use Rattle.run_model.specs.State.{State}
 use Rattle.run_model.specs.Wanted.{wanted}
-use Rattle.run_model.specs.Kinds.{Runs}
+use Rattle.run_model.specs.Kinds.{ProcessRuns}
 
 -- a process runs, with nothing due, and this is the first page that its next instruction touches and that isn't valid
 pub record IsWanted (A : Inputs) (s : State) (q : Page) : Type 0 where
   pub pid : ℕ
   pub now : Bool
-  pub runs : Runs A s pid now
+  pub runs : ProcessRuns A s pid now
   pub wanted : wanted A s ≡ Some q
 
 -- a new stack page, which is due first

@@ -5,7 +5,7 @@ use Rattle.std.proofs.Common.{◌≡◌, true, false, List, [], ◌∷◌, Some,
 use Rattle.vm_facts.specs.declared.page.Page.TheVariants.{Data, Stack, Text}
 use Rattle.vm_facts.specs.declared.entry.Entry.TheVariants as entries
 use Rattle.aout_image.specs.declared.Kind.TheVariants.{Paged}
-use Rattle.swap_dmap.specs.Chunks.{chunk, chunk_start, lowest, chunk_reached, counted_from, spot, text_spot}
+use Rattle.swap_dmap.specs.Chunks.{chunk, chunk_start, lowest_below, chunk_reached, counted_from, spot, text_spot}
 use Rattle.flat_state.specs.Flat.{NamedImage}
 use Rattle.place_vectors.proofs.Walk.{Operation, Fixed, Serve, Wants, Seen, Made, Moves, named, starting, walk, chosen, rows}
 
@@ -78,5 +78,5 @@ seen =
     Made (Some (entries.Reclaim (Data 1 14))) ∷ []
 
 hands_rest : chosen (walk images operations (starting images (1 ∷ []) 64)) ≡ seen
-unfolding images operations seen spot chunk_reached lowest chunk_start chunk counted_from text_spot
+unfolding images operations seen spot chunk_reached lowest_below chunk_start chunk counted_from text_spot
 hands_rest = refl

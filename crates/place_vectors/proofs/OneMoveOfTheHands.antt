@@ -5,7 +5,7 @@ use Rattle.vm_facts.specs.declared.page.Page.{Page}
 use Rattle.vm_facts.specs.declared.page.Page.TheVariants.{Data}
 use Rattle.vm_facts.specs.declared.page.PageState.TheVariants.{Valid, Invalid, Going}
 use Rattle.vm_facts.specs.declared.entry.Entry.TheVariants as entries
-use Rattle.swap_dmap.specs.Chunks.{chunk, chunk_start, lowest, chunk_reached, counted_from, spot, text_spot}
+use Rattle.swap_dmap.specs.Chunks.{chunk, chunk_start, lowest_below, chunk_reached, counted_from, spot, text_spot}
 use Rattle.page_model.specs.Pages.{Slot, Zeros}
 use Rattle.page_model.specs.Placement.{Placement, Transfer, Part, Writes}
 use Rattle.place_vectors.proofs.Walk.{Seen, Ends, Fixed, slot, empty, frames, walk}
@@ -46,7 +46,7 @@ front_hand_first :
     move [] 2 1
     ≡ Ends (held (slot (Going 1) true Zeros ∷ slot (Going 2) true Zeros ∷ slot (Going 3) true Zeros ∷ slot (Invalid 4) false Zeros ∷ slot (Invalid 5) true Zeros ∷ []) (frames 5 4)
     (write_of (0 ∷ 1 ∷ 2 ∷ [])) 3 2) ∷ []
-unfolding held pages move part write_of spot chunk_reached lowest chunk_start chunk counted_from text_spot
+unfolding held pages move part write_of spot chunk_reached lowest_below chunk_start chunk counted_from text_spot
 front_hand_first = refl
 
 -- a locked page of the front hand stays valid, and ends the run
@@ -54,14 +54,14 @@ front_locked :
     move (Data 1 1 ∷ []) 2 1
     ≡ Ends (held (slot (Going 1) true Zeros ∷ slot (Valid 2) true Zeros ∷ slot (Invalid 3) true Zeros ∷ slot (Invalid 4) false Zeros ∷ slot (Invalid 5) true Zeros ∷ []) (frames 5 4)
     (write_of (0 ∷ [])) 3 2) ∷ []
-unfolding held pages move part write_of spot chunk_reached lowest chunk_start chunk counted_from text_spot
+unfolding held pages move part write_of spot chunk_reached lowest_below chunk_start chunk counted_from text_spot
 front_locked = refl
 
 -- a locked page of the back hand isn't written
 back_locked :
     move (Data 1 0 ∷ []) 2 1
     ≡ Ends (held (slot (Invalid 1) true Zeros ∷ slot (Invalid 2) true Zeros ∷ slot (Invalid 3) true Zeros ∷ slot (Invalid 4) false Zeros ∷ slot (Invalid 5) true Zeros ∷ []) (frames 5 4) [] 3 2) ∷ []
-unfolding held pages move part write_of spot chunk_reached lowest chunk_start chunk counted_from text_spot
+unfolding held pages move part write_of spot chunk_reached lowest_below chunk_start chunk counted_from text_spot
 back_locked = refl
 
 -- a locked neighbour isn't written either
@@ -69,15 +69,15 @@ neighbour_locked :
     move (Data 1 2 ∷ []) 2 1
     ≡ Ends (held (slot (Going 1) true Zeros ∷ slot (Going 2) true Zeros ∷ slot (Invalid 3) true Zeros ∷ slot (Invalid 4) false Zeros ∷ slot (Invalid 5) true Zeros ∷ []) (frames 5 4)
     (write_of (0 ∷ 1 ∷ [])) 3 2) ∷ []
-unfolding held pages move part write_of spot chunk_reached lowest chunk_start chunk counted_from text_spot
+unfolding held pages move part write_of spot chunk_reached lowest_below chunk_start chunk counted_from text_spot
 neighbour_locked = refl
 
 -- a clean page's frame goes to the tail of the free list, and after the last frame comes the first
 clean_page_to_the_tail : move [] 8 4 ≡ Ends (held pages (frames 5 4 ++ 4 ∷ []) [] 1 5) ∷ []
-unfolding held pages move part write_of spot chunk_reached lowest chunk_start chunk counted_from text_spot
+unfolding held pages move part write_of spot chunk_reached lowest_below chunk_start chunk counted_from text_spot
 clean_page_to_the_tail = refl
 
 -- a page in a free frame stays where it is
 free_page_stays : move [] 8 5 ≡ Ends (held pages (frames 5 4) [] 1 6) ∷ []
-unfolding held pages move part write_of spot chunk_reached lowest chunk_start chunk counted_from text_spot
+unfolding held pages move part write_of spot chunk_reached lowest_below chunk_start chunk counted_from text_spot
 free_page_stays = refl

@@ -3,7 +3,7 @@ use Rattle.std.proofs.Common.{◌≡◌, ℕ, false, List, [], ◌∷◌, ◌++�
 use Rattle.aout_image.specs.declared.Image.{Image}
 use Rattle.aout_image.specs.declared.Kind.TheVariants.{Paged}
 use Rattle.resource_map.specs.Room.{lowest_room, has_room, all_pass}
-use Rattle.swap_dmap.specs.Chunks.{chunk, chunk_start, lowest, chunks_holding, pieces, last_piece, text_pieces}
+use Rattle.swap_dmap.specs.Chunks.{chunk, chunk_start, lowest_below, chunks_holding, pieces, last_piece, text_pieces}
 use Rattle.swap_book.specs.declared.Owner.{Owner}
 use Rattle.swap_book.specs.declared.Owner.TheVariants as owners
 use Rattle.swap_book.specs.declared.Held.{Held}
@@ -34,21 +34,21 @@ first_pieces : List Held
 first_pieces = piece (owners.Text 1) 0 2 ∷ piece (owners.Data 1) 2 32 ∷ piece (owners.Stack 1) 34 32 ∷ piece (owners.U 1) 66 2 ∷ []
 
 start_finds_its_pieces : place_all 256 [] (start_asks begun [] 1 (record { image = 1; facts = breaking } ∷ [])) ≡ Ok first_pieces
-unfolding begun breaking first_pieces piece place_all fit lowest_room Rattle.resource_map.specs.Room.lowest has_room all_pass is_held is_in pieces chunks_holding lowest chunk_start
+unfolding begun breaking first_pieces piece place_all fit lowest_room Rattle.resource_map.specs.Room.lowest has_room all_pass is_held is_in pieces chunks_holding lowest_below chunk_start
     chunk text_pieces last_piece
 start_finds_its_pieces = refl
 
 break_takes_a_chunk : place_all 256 first_pieces (change_asks [] begun 1 2 (Resize 17 1)) ≡ Ok (first_pieces ++ piece (owners.Data 1) 68 64 ∷ [])
-unfolding begun breaking first_pieces piece place_all fit lowest_room Rattle.resource_map.specs.Room.lowest has_room all_pass is_held is_in pieces chunks_holding lowest chunk_start chunk
+unfolding begun breaking first_pieces piece place_all fit lowest_room Rattle.resource_map.specs.Room.lowest has_room all_pass is_held is_in pieces chunks_holding lowest_below chunk_start chunk
 break_takes_a_chunk = refl
 
 break_finds_no_place : place_all 256 (first_pieces ++ piece (owners.Data 1) 68 64 ∷ []) (change_asks [] (resize begun 1 17 1) 1 2 (Resize 49 1)) ≡ Err 128
-unfolding begun breaking first_pieces piece place_all fit lowest_room Rattle.resource_map.specs.Room.lowest has_room all_pass is_held is_in pieces chunks_holding lowest chunk_start chunk
+unfolding begun breaking first_pieces piece place_all fit lowest_room Rattle.resource_map.specs.Room.lowest has_room all_pass is_held is_in pieces chunks_holding lowest_below chunk_start chunk
 break_finds_no_place = refl
 
 -- a smaller break gives the chunk back
 smaller_break_gives_back : holdings_after (first_pieces ++ piece (owners.Data 1) 68 64 ∷ []) (resize begun 1 17 1) begun 1 1 false (Resize 16 1) ≡ first_pieces
-unfolding begun breaking first_pieces piece kept pieces chunks_holding lowest chunk_start chunk
+unfolding begun breaking first_pieces piece kept pieces chunks_holding lowest_below chunk_start chunk
 smaller_break_gives_back = refl
 
 -- a piece lies in one unit of 1,024 blocks: 32 blocks after the 1,000 first begin the next unit, which is the other

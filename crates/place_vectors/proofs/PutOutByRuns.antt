@@ -5,7 +5,7 @@ use Rattle.std.proofs.Common.{◌≡◌, ℕ, Bool, true, false, List, [], ◌�
 use Rattle.vm_facts.specs.declared.page.Page.TheVariants.{Data, Stack, Text}
 use Rattle.vm_facts.specs.declared.page.PageState.TheVariants.{Valid, Invalid, Coming, OnSwap}
 use Rattle.vm_facts.specs.declared.entry.Entry.TheVariants as entries
-use Rattle.swap_dmap.specs.Chunks.{chunk, chunk_start, lowest, chunk_reached, counted_from, spot, text_spot}
+use Rattle.swap_dmap.specs.Chunks.{chunk, chunk_start, lowest_below, chunk_reached, counted_from, spot, text_spot}
 use Rattle.page_model.specs.Pages.{Slot, Zeros, SpacePages}
 use Rattle.page_model.specs.Placement.{Placement, Residence, Reads, FromFile}
 use Rattle.page_model.specs.Swapper.{put_out_unit}
@@ -45,7 +45,7 @@ put_out_by_runs :
     (held
     (slot (Invalid 1) false Zeros ∷ slot (Invalid 2) false Zeros ∷ slot (Invalid 3) false Zeros ∷ slot (Invalid 4) false Zeros ∷ slot (Invalid 5) true Zeros ∷ [])
     (slot (Invalid 6) false Zeros ∷ []) (5 ∷ 7 ∷ 8 ∷ 1 ∷ 2 ∷ 3 ∷ 4 ∷ 6 ∷ []) (resident true 17 ∷ [])) ∷ []
-unfolding space resident held spot chunk_reached lowest chunk_start chunk counted_from text_spot
+unfolding space resident held spot chunk_reached lowest_below chunk_start chunk counted_from text_spot
 put_out_by_runs = refl
 
 -- pages 14 to 17 are dirty: 14 and 15 are the last of chunk 0
@@ -66,7 +66,7 @@ across_chunks = record {
 }
 
 within_a_chunk : put_out_unit across_chunks 1 1 ≡ entries.Put (Data 1 14) 2
-unfolding space across_chunks spot chunk_reached lowest chunk_start chunk counted_from text_spot
+unfolding space across_chunks spot chunk_reached lowest_below chunk_start chunk counted_from text_spot
 within_a_chunk = refl
 
 -- a text page is on its way in, and a stack page of space 1 is clean
@@ -86,5 +86,5 @@ text_coming others = record {
 text_of_its_own_waits :
     put_out_unit (text_coming []) 1 1 ∷ put_out_unit (text_coming (space 2 [] [] ∷ [])) 1 1 ∷ []
     ≡ entries.Done ∷ entries.Put (Stack 1 0) 1 ∷ []
-unfolding space text_coming spot chunk_reached lowest chunk_start chunk counted_from text_spot
+unfolding space text_coming spot chunk_reached lowest_below chunk_start chunk counted_from text_spot
 text_of_its_own_waits = refl

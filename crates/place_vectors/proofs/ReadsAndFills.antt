@@ -6,7 +6,7 @@ use Rattle.vm_facts.specs.declared.page.Page.{Page}
 use Rattle.vm_facts.specs.declared.page.Page.TheVariants.{Data, Stack, Text}
 use Rattle.vm_facts.specs.declared.page.PageState.TheVariants.{Unfilled, Valid, Invalid, OnSwap}
 use Rattle.vm_facts.specs.declared.entry.Entry.TheVariants as entries
-use Rattle.swap_dmap.specs.Chunks.{chunk, chunk_start, lowest, chunk_reached, counted_from, spot, text_spot}
+use Rattle.swap_dmap.specs.Chunks.{chunk, chunk_start, lowest_below, chunk_reached, counted_from, spot, text_spot}
 use Rattle.flat_state.specs.declared.change.Change.TheVariants.{Keep}
 use Rattle.page_model.specs.Pages.{Slot, Zeros, OfImage}
 use Rattle.page_model.specs.Placement.{Placement}
@@ -48,7 +48,7 @@ reads_and_fills :
     (slot (Valid 4) true Zeros ∷ []) (slot (Valid 5) false Zeros ∷ slot (Invalid 6) false Zeros ∷ [])
     (Some (Data 1 0) ∷ Some (Data 1 1) ∷ Some (Data 1 2) ∷ Some (Stack 1 0) ∷ Some (Text 1 0) ∷ Some (Text 1 1) ∷ Some (Data 1 3) ∷ None ∷ [])
     (8 ∷ 6 ∷ [])) ∷ []
-unfolding placed serve spot chunk_reached lowest chunk_start chunk counted_from text_spot
+unfolding placed serve spot chunk_reached lowest_below chunk_start chunk counted_from text_spot
 reads_and_fills = refl
 
 -- what is read from swap and not written stays clean
@@ -56,7 +56,7 @@ read_and_not_written :
     walk [] (serve (Data 1 0) ∷ serve (Data 1 0) ∷ []) (placed (slot OnSwap false Zeros ∷ []) [] [] (empty 8) (frames 1 8))
     ≡ Made (Some (entries.Get (Data 1 0) 0 1)) ∷ Made (Some entries.Done) ∷
     Ends (placed (slot (Valid 1) false Zeros ∷ []) [] [] (Some (Data 1 0) ∷ empty 7) (frames 2 7)) ∷ []
-unfolding placed serve spot chunk_reached lowest chunk_start chunk counted_from text_spot
+unfolding placed serve spot chunk_reached lowest_below chunk_start chunk counted_from text_spot
 read_and_not_written = refl
 
 -- three free frames that hold a saved text page, one that isn't saved, and a clean data page are taken
@@ -72,5 +72,5 @@ frames_taken :
     (slot OnSwap false Zeros ∷ slot (Valid 1) true Zeros ∷ slot (Valid 2) true Zeros ∷ slot (Valid 3) true Zeros ∷ [])
     [] (slot OnSwap true Zeros ∷ slot Unfilled false Zeros ∷ [])
     (Some (Data 1 1) ∷ Some (Data 1 2) ∷ Some (Data 1 3) ∷ empty 5) (frames 4 5)) ∷ []
-unfolding placed serve spot chunk_reached lowest chunk_start chunk counted_from text_spot
+unfolding placed serve spot chunk_reached lowest_below chunk_start chunk counted_from text_spot
 frames_taken = refl

@@ -5,7 +5,7 @@ use Rattle.std.proofs.Common.{◌≡◌, true, false, List, [], ◌∷◌, refl,
 use Rattle.vm_facts.specs.declared.page.Page.TheVariants.{Data, Stack, Text}
 use Rattle.vm_facts.specs.declared.entry.Entry.TheVariants as entries
 use Rattle.aout_image.specs.declared.Kind.TheVariants.{Paged}
-use Rattle.swap_dmap.specs.Chunks.{chunk, chunk_start, lowest, chunk_reached, counted_from, spot, text_spot}
+use Rattle.swap_dmap.specs.Chunks.{chunk, chunk_start, lowest_below, chunk_reached, counted_from, spot, text_spot}
 use Rattle.flat_state.specs.Flat.{NamedImage}
 use Rattle.flat_state.specs.declared.change.Change.TheVariants.{Keep}
 use Rattle.place_vectors.proofs.Walk.{Operation, Fixed, Serve, Step, Seen, named, starting, walk, chosen, rows, made}
@@ -104,5 +104,5 @@ seen =
     rows 32 7 (λ k. entries.Done ∷ entries.Get (Data 1 k) k 1 ∷ []))
 
 ring_of_200_pages : chosen (walk images operations (starting images (1 ∷ []) 64)) ≡ seen
-unfolding images operations seen spot chunk_reached lowest chunk_start chunk counted_from text_spot
+unfolding images operations seen spot chunk_reached lowest_below chunk_start chunk counted_from text_spot
 ring_of_200_pages = refl

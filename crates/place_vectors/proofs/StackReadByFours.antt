@@ -5,7 +5,7 @@ use Rattle.vm_facts.specs.declared.page.Page.TheVariants.{Data, Stack, Text}
 use Rattle.vm_facts.specs.declared.page.PageState.TheVariants.{Unfilled, Valid, Invalid, OnSwap}
 use Rattle.vm_facts.specs.declared.entry.Entry.TheVariants as entries
 use Rattle.aout_image.specs.declared.Kind.TheVariants.{Paged}
-use Rattle.swap_dmap.specs.Chunks.{chunk, chunk_start, lowest, chunk_reached, counted_from, spot, text_spot}
+use Rattle.swap_dmap.specs.Chunks.{chunk, chunk_start, lowest_below, chunk_reached, counted_from, spot, text_spot}
 use Rattle.flat_state.specs.Flat.{NamedImage}
 use Rattle.flat_state.specs.declared.change.Change.TheVariants.{Keep, Resize, Fork, End}
 use Rattle.page_model.specs.Pages.{Zeros}
@@ -913,5 +913,5 @@ seen =
     Ends last ∷ []
 
 stack_read_by_fours : walk images operations (starting images (1 ∷ 1 ∷ 1 ∷ []) 64) ≡ seen
-unfolding images operations last seen spot chunk_reached lowest chunk_start chunk counted_from text_spot
+unfolding images operations last seen spot chunk_reached lowest_below chunk_start chunk counted_from text_spot
 stack_read_by_fours = refl

@@ -5,7 +5,7 @@ use Rattle.std.proofs.Common.{◌≡◌, true, false, List, [], ◌∷◌, refl,
 use Rattle.vm_facts.specs.declared.page.Page.TheVariants.{Data, Stack, Text}
 use Rattle.vm_facts.specs.declared.entry.Entry.TheVariants as entries
 use Rattle.aout_image.specs.declared.Kind.TheVariants.{Paged}
-use Rattle.swap_dmap.specs.Chunks.{chunk, chunk_start, lowest, chunk_reached, counted_from, spot, text_spot}
+use Rattle.swap_dmap.specs.Chunks.{chunk, chunk_start, lowest_below, chunk_reached, counted_from, spot, text_spot}
 use Rattle.flat_state.specs.Flat.{NamedImage}
 use Rattle.flat_state.specs.declared.change.Change.TheVariants.{End}
 use Rattle.place_vectors.proofs.Walk.{Operation, Fixed, Serve, Step, Seen, named, starting, walk, chosen, rows, made}
@@ -74,5 +74,5 @@ seen =
     entries.Get (Text 1 1) 1 1 ∷ entries.Done ∷ entries.Get (Text 1 3) 3 1 ∷ entries.Done ∷ [])
 
 text_on_swap : chosen (walk images operations (starting images (1 ∷ []) 64)) ≡ seen
-unfolding images operations seen spot chunk_reached lowest chunk_start chunk counted_from text_spot
+unfolding images operations seen spot chunk_reached lowest_below chunk_start chunk counted_from text_spot
 text_on_swap = refl

@@ -9,7 +9,7 @@ use Rattle.flat_model.specs.Calls.{string_from, arguments_from, execve_reply, im
 use Rattle.resource_map.specs.Room.{lowest_room, lowest as lowest_of, has_room, all_pass}
 use Rattle.vm_facts.specs.declared.event.Event.TheVariants as events
 use Rattle.swap_book.specs.Holdings.{Holdings, fit, is_in, is_held, kept}
-use Rattle.swap_dmap.specs.Chunks.{pieces, chunk, chunk_start, lowest, chunks_holding, chunk_reached, counted_from, last_piece, text_pieces}
+use Rattle.swap_dmap.specs.Chunks.{pieces, chunk, chunk_start, lowest_below, chunks_holding, chunk_reached, counted_from, last_piece, text_pieces}
 use Rattle.flat_model.specs.Asked.{first_held, start_held, or_before, asks, held_step}
 use Rattle.aout_image.specs.declared.Kind.TheVariants.{Paged}
 use Rattle.flat_state.specs.Flat.{NamedImage, Inputs, argument_area, start_regs}
@@ -25,7 +25,7 @@ use Rattle.swap_book.specs.Placing.{place_all}
 use Rattle.user_vax.specs.Computation.{computation}
 use Rattle.user_vax.specs.Instruction.{fetch, evaluations, write_tests, tested_effect, execution, execution_by, instruction}
 use Rattle.user_vax.specs.Operands.{number_at, address_of, evaluation_at, evaluation_through, evaluation}
-use Rattle.vax_code.specs.Reading.{byte_at, number_at as number_read, signed_at, displacement_at, base_at, indexed_at, specifier_at, operand_at, counted, place_at, operands_at, instruction_at, decoded}
+use Rattle.vax_code.specs.Reading.{next_byte, next_number as number_read, next_signed, next_displacement, base_at, indexed_at, next_specifier, next_operand, with_count, operand_in_place, next_operands, instruction_at, decoded}
 use Rattle.vax_code.specs.Table.{all_rows, row_for}
 
 more : Option Entry → Inputs → State → (State → List Entry) → List Entry
@@ -147,8 +147,10 @@ hi_units = Zero (Stack 1 0) ∷ Turn 1 ∷ Get (Text 1 0) 0 1 ∷ Done ∷ Ran 1
 hi_makes : units_from 10 hi (start hi hi_held) ≡ hi_units
 unfolding units_from more hi hi_held hi_image next_unit after state_after act asks held_step flat_step distinct step_accesses touched argument three_arguments bytes_from exit_reply written_to
     write_reply reply_of replaced returned apply_change apply_writes argument_area start_regs spot_at kept place_all computation bytes_at store_effect fetch evaluations write_tests tested_effect
-    execution execution_by instruction number_at address_of evaluation_at evaluation_through evaluation byte_at number_read signed_at displacement_at base_at indexed_at specifier_at operand_at
-    counted place_at operands_at instruction_at decoded all_rows row_for first_held pieces chunk chunk_start lowest chunks_holding chunk_reached counted_from last_piece text_pieces fit is_in is_held
+    execution execution_by instruction number_at address_of evaluation_at evaluation_through evaluation next_byte number_read next_signed next_displacement base_at indexed_at
+    next_specifier next_operand
+    with_count operand_in_place next_operands instruction_at decoded all_rows row_for first_held pieces chunk chunk_start lowest_below chunks_holding chunk_reached counted_from last_piece
+    text_pieces fit is_in is_held
     lowest_room lowest_of has_room all_pass push_onto procedure_call with_frame push_all saved registers_returned procedure_return pop unwound linkage pop_into restored arguments_dropped string_from
     arguments_from execve_reply image_named
 hi_makes = refl
@@ -166,8 +168,10 @@ auto_run_units = Zero (Stack 1 0) ∷ Turn 1 ∷ Get (Text 1 0) 0 1 ∷ Done ∷
 auto_run_makes : units_from 12 auto_run (start auto_run auto_run_held) ≡ auto_run_units
 unfolding units_from more auto_run auto_run_held auto_image next_unit after state_after act asks held_step flat_step distinct step_accesses touched argument three_arguments bytes_from exit_reply
     written_to write_reply reply_of replaced returned apply_change apply_writes argument_area start_regs spot_at kept place_all computation bytes_at store_effect fetch evaluations write_tests
-    tested_effect execution execution_by instruction number_at address_of evaluation_at evaluation_through evaluation byte_at number_read signed_at displacement_at base_at indexed_at specifier_at
-    operand_at counted place_at operands_at instruction_at decoded all_rows row_for first_held pieces chunk chunk_start lowest chunks_holding chunk_reached counted_from last_piece text_pieces fit
+    tested_effect execution execution_by instruction number_at address_of evaluation_at evaluation_through evaluation next_byte number_read next_signed next_displacement base_at
+    indexed_at next_specifier
+    next_operand with_count operand_in_place next_operands instruction_at decoded all_rows row_for first_held pieces chunk chunk_start lowest_below chunks_holding chunk_reached counted_from
+    last_piece text_pieces fit
     is_in is_held lowest_room lowest_of has_room all_pass push_onto procedure_call with_frame push_all saved registers_returned procedure_return pop unwound linkage pop_into restored arguments_dropped
     string_from arguments_from execve_reply image_named
 auto_run_makes = refl
@@ -193,8 +197,10 @@ both_units = Zero (Stack 1 0) ∷ Zero (Stack 2 0) ∷ Event 1 ∷ Get (Text 1 0
 both_makes : units_from 29 both (start both both_held) ≡ both_units
 unfolding units_from more both both_held hi_image auto_image next_unit after state_after act asks held_step flat_step distinct step_accesses touched argument three_arguments bytes_from exit_reply
     written_to write_reply reply_of replaced returned apply_change apply_writes argument_area start_regs spot_at kept place_all computation bytes_at store_effect fetch evaluations write_tests
-    tested_effect execution execution_by instruction number_at address_of evaluation_at evaluation_through evaluation byte_at number_read signed_at displacement_at base_at indexed_at specifier_at
-    operand_at counted place_at operands_at instruction_at decoded all_rows row_for first_held pieces chunk chunk_start lowest chunks_holding chunk_reached counted_from last_piece text_pieces fit
+    tested_effect execution execution_by instruction number_at address_of evaluation_at evaluation_through evaluation next_byte number_read next_signed next_displacement base_at
+    indexed_at next_specifier
+    next_operand with_count operand_in_place next_operands instruction_at decoded all_rows row_for first_held pieces chunk chunk_start lowest_below chunks_holding chunk_reached counted_from
+    last_piece text_pieces fit
     is_in is_held lowest_room lowest_of has_room all_pass push_onto procedure_call with_frame push_all saved registers_returned procedure_return pop unwound linkage pop_into restored arguments_dropped
     string_from arguments_from execve_reply image_named
 both_makes = refl
@@ -213,8 +219,10 @@ forks_units = Zero (Stack 1 0) ∷ Turn 1 ∷ Get (Text 1 0) 0 1 ∷ Done ∷ Ca
 forks_makes : units_from 25 forks (start forks forks_held) ≡ forks_units
 unfolding units_from more forks forks_held forky_image next_unit after state_after act asks held_step flat_step distinct step_accesses touched argument three_arguments bytes_from exit_reply written_to
     write_reply reply_of replaced returned apply_change apply_writes argument_area start_regs spot_at kept place_all computation bytes_at store_effect fetch evaluations write_tests tested_effect
-    execution execution_by instruction number_at address_of evaluation_at evaluation_through evaluation byte_at number_read signed_at displacement_at base_at indexed_at specifier_at operand_at
-    counted place_at operands_at instruction_at decoded all_rows row_for first_held pieces chunk chunk_start lowest chunks_holding chunk_reached counted_from last_piece text_pieces fit is_in is_held
+    execution execution_by instruction number_at address_of evaluation_at evaluation_through evaluation next_byte number_read next_signed next_displacement base_at indexed_at
+    next_specifier next_operand
+    with_count operand_in_place next_operands instruction_at decoded all_rows row_for first_held pieces chunk chunk_start lowest_below chunks_holding chunk_reached counted_from last_piece
+    text_pieces fit is_in is_held
     lowest_room lowest_of has_room all_pass push_onto procedure_call with_frame push_all saved registers_returned procedure_return pop unwound linkage pop_into restored arguments_dropped string_from
     arguments_from execve_reply image_named
 forks_makes = refl
@@ -232,8 +240,10 @@ calling_units = Zero (Stack 1 0) ∷ Turn 1 ∷ Get (Text 1 0) 0 1 ∷ Done ∷ 
 calling_makes : units_from 14 calling (start calling calling_held) ≡ calling_units
 unfolding units_from more calling calling_held calls_image next_unit after state_after act asks held_step flat_step distinct step_accesses touched argument three_arguments bytes_from exit_reply
     written_to write_reply reply_of replaced returned apply_change apply_writes argument_area start_regs spot_at kept place_all computation bytes_at store_effect fetch evaluations write_tests
-    tested_effect execution execution_by instruction number_at address_of evaluation_at evaluation_through evaluation byte_at number_read signed_at displacement_at base_at indexed_at specifier_at
-    operand_at counted place_at operands_at instruction_at decoded all_rows row_for first_held pieces chunk chunk_start lowest chunks_holding chunk_reached counted_from last_piece text_pieces fit
+    tested_effect execution execution_by instruction number_at address_of evaluation_at evaluation_through evaluation next_byte number_read next_signed next_displacement base_at
+    indexed_at next_specifier
+    next_operand with_count operand_in_place next_operands instruction_at decoded all_rows row_for first_held pieces chunk chunk_start lowest_below chunks_holding chunk_reached counted_from
+    last_piece text_pieces fit
     is_in is_held lowest_room lowest_of has_room all_pass push_onto procedure_call with_frame push_all saved registers_returned procedure_return pop unwound linkage pop_into restored arguments_dropped
     string_from arguments_from execve_reply image_named
 calling_makes = refl
@@ -252,8 +262,10 @@ lends_units = Zero (Stack 1 0) ∷ Turn 1 ∷ Get (Text 1 0) 0 1 ∷ Done ∷ Ca
 lends_makes : units_from 20 lends (start lends lends_held) ≡ lends_units
 unfolding units_from more lends lends_held lendy_image next_unit after state_after act asks held_step flat_step distinct step_accesses touched argument three_arguments bytes_from exit_reply written_to
     write_reply reply_of replaced returned apply_change apply_writes argument_area start_regs spot_at kept place_all computation bytes_at store_effect fetch evaluations write_tests tested_effect
-    execution execution_by instruction number_at address_of evaluation_at evaluation_through evaluation byte_at number_read signed_at displacement_at base_at indexed_at specifier_at operand_at
-    counted place_at operands_at instruction_at decoded all_rows row_for first_held pieces chunk chunk_start lowest chunks_holding chunk_reached counted_from last_piece text_pieces fit is_in is_held
+    execution execution_by instruction number_at address_of evaluation_at evaluation_through evaluation next_byte number_read next_signed next_displacement base_at indexed_at
+    next_specifier next_operand
+    with_count operand_in_place next_operands instruction_at decoded all_rows row_for first_held pieces chunk chunk_start lowest_below chunks_holding chunk_reached counted_from last_piece
+    text_pieces fit is_in is_held
     lowest_room lowest_of has_room all_pass push_onto procedure_call with_frame push_all saved registers_returned procedure_return pop unwound linkage pop_into restored arguments_dropped string_from
     arguments_from execve_reply image_named
 lends_makes = refl
@@ -272,8 +284,10 @@ execs_units = Zero (Stack 1 0) ∷ Zero (Stack 2 0) ∷ Turn 1 ∷ Get (Text 1 0
 execs_makes : units_from 23 execs (start execs execs_held) ≡ execs_units
 unfolding units_from more execs execs_held hi_image ex_image next_unit after state_after act asks held_step flat_step distinct step_accesses touched argument three_arguments bytes_from exit_reply
     written_to write_reply reply_of replaced returned apply_change apply_writes argument_area start_regs spot_at kept place_all computation bytes_at store_effect fetch evaluations write_tests
-    tested_effect execution execution_by instruction number_at address_of evaluation_at evaluation_through evaluation byte_at number_read signed_at displacement_at base_at indexed_at specifier_at
-    operand_at counted place_at operands_at instruction_at decoded all_rows row_for first_held pieces chunk chunk_start lowest chunks_holding chunk_reached counted_from last_piece text_pieces fit
+    tested_effect execution execution_by instruction number_at address_of evaluation_at evaluation_through evaluation next_byte number_read next_signed next_displacement base_at
+    indexed_at next_specifier
+    next_operand with_count operand_in_place next_operands instruction_at decoded all_rows row_for first_held pieces chunk chunk_start lowest_below chunks_holding chunk_reached counted_from
+    last_piece text_pieces fit
     is_in is_held lowest_room lowest_of has_room all_pass push_onto procedure_call with_frame push_all saved registers_returned procedure_return pop unwound linkage pop_into restored arguments_dropped
     string_from arguments_from execve_reply image_named
 execs_makes = refl
@@ -291,8 +305,10 @@ deeper_units = Zero (Stack 1 0) ∷ Turn 1 ∷ Get (Text 1 0) 0 1 ∷ Done ∷ G
 deeper_makes : units_from 9 deeper (start deeper deeper_held) ≡ deeper_units
 unfolding units_from more deeper deeper_held deep_image next_unit after state_after act asks held_step flat_step distinct step_accesses touched argument three_arguments bytes_from exit_reply
     written_to write_reply reply_of replaced returned apply_change apply_writes argument_area start_regs spot_at kept place_all computation bytes_at store_effect fetch evaluations write_tests
-    tested_effect execution execution_by instruction number_at address_of evaluation_at evaluation_through evaluation byte_at number_read signed_at displacement_at base_at indexed_at specifier_at
-    operand_at counted place_at operands_at instruction_at decoded all_rows row_for first_held pieces chunk chunk_start lowest chunks_holding chunk_reached counted_from last_piece text_pieces fit
+    tested_effect execution execution_by instruction number_at address_of evaluation_at evaluation_through evaluation next_byte number_read next_signed next_displacement base_at
+    indexed_at next_specifier
+    next_operand with_count operand_in_place next_operands instruction_at decoded all_rows row_for first_held pieces chunk chunk_start lowest_below chunks_holding chunk_reached counted_from
+    last_piece text_pieces fit
     is_in is_held lowest_room lowest_of has_room all_pass push_onto procedure_call with_frame push_all saved registers_returned procedure_return pop unwound linkage pop_into restored arguments_dropped
     string_from arguments_from execve_reply image_named
 deeper_makes = refl
@@ -311,8 +327,10 @@ nested_units = Zero (Stack 1 0) ∷ Turn 1 ∷ Get (Text 1 0) 0 1 ∷ Done ∷ C
 nested_makes : units_from 28 nested (start nested nested_held) ≡ nested_units
 unfolding units_from more nested nested_held nest_image next_unit after state_after act asks held_step flat_step distinct step_accesses touched argument three_arguments bytes_from exit_reply
     written_to write_reply reply_of replaced returned apply_change apply_writes argument_area start_regs spot_at kept place_all computation bytes_at store_effect fetch evaluations write_tests
-    tested_effect execution execution_by instruction number_at address_of evaluation_at evaluation_through evaluation byte_at number_read signed_at displacement_at base_at indexed_at specifier_at
-    operand_at counted place_at operands_at instruction_at decoded all_rows row_for first_held pieces chunk chunk_start lowest chunks_holding chunk_reached counted_from last_piece text_pieces fit
+    tested_effect execution execution_by instruction number_at address_of evaluation_at evaluation_through evaluation next_byte number_read next_signed next_displacement base_at
+    indexed_at next_specifier
+    next_operand with_count operand_in_place next_operands instruction_at decoded all_rows row_for first_held pieces chunk chunk_start lowest_below chunks_holding chunk_reached counted_from
+    last_piece text_pieces fit
     is_in is_held lowest_room lowest_of has_room all_pass push_onto procedure_call with_frame push_all saved registers_returned procedure_return pop unwound linkage pop_into restored arguments_dropped
     string_from arguments_from execve_reply image_named
 nested_makes = refl
@@ -333,8 +351,10 @@ bomb_units = Zero (Stack 1 0) ∷ Turn 1 ∷ Get (Text 1 0) 0 1 ∷ Done ∷ Cal
 bomb_makes : units_from 32 bomb (start bomb bomb_held) ≡ bomb_units
 unfolding units_from more bomb bomb_held bomb_image next_unit after state_after act asks held_step flat_step distinct step_accesses touched argument three_arguments bytes_from exit_reply written_to
     write_reply reply_of replaced returned apply_change apply_writes argument_area start_regs spot_at kept place_all computation bytes_at store_effect fetch evaluations write_tests tested_effect
-    execution execution_by instruction number_at address_of evaluation_at evaluation_through evaluation byte_at number_read signed_at displacement_at base_at indexed_at specifier_at operand_at
-    counted place_at operands_at instruction_at decoded all_rows row_for first_held pieces chunk chunk_start lowest chunks_holding chunk_reached counted_from last_piece text_pieces fit is_in is_held
+    execution execution_by instruction number_at address_of evaluation_at evaluation_through evaluation next_byte number_read next_signed next_displacement base_at indexed_at
+    next_specifier next_operand
+    with_count operand_in_place next_operands instruction_at decoded all_rows row_for first_held pieces chunk chunk_start lowest_below chunks_holding chunk_reached counted_from last_piece
+    text_pieces fit is_in is_held
     lowest_room lowest_of has_room all_pass push_onto procedure_call with_frame push_all saved registers_returned procedure_return pop unwound linkage pop_into restored arguments_dropped string_from
     arguments_from execve_reply image_named
 bomb_makes = refl

@@ -5,7 +5,7 @@ use Rattle.std.proofs.lemmas.Bool.{cases_eq, cases_Bool, false≢true, eq-eqb, o
 use Rattle.vm_facts.specs.Lists.{without_first}
 use Rattle.page_opt.specs.declared.Victim.{Victim}
 use Rattle.page_opt.specs.Plans.{Run, has, then, serve, runs, all_left, faults_of, plan_faults}
-use Rattle.page_opt.specs.Cache.{bit, times}
+use Rattle.page_opt.specs.Cache.{bit, count_in}
 use Rattle.page_opt.proofs.Counts.{count, times_hasnt, tally-without, length-without}
 use Rattle.page_opt.proofs.Served.{Step, serve_gives, runs_none}
 use Rattle.plan_laws.specs.Memory.{NoneFewer}
@@ -13,14 +13,14 @@ use Rattle.plan_laws.proofs.Lacking.{tally_less, without_other}
 
 -- These pages are still to be referenced for the first time: each stands once, among the references, and the cache has none.
 record Awaited (pages refs cache : List ℕ) : Type 0 where
-  once : (p : ℕ) → times p pages ≤ 1
+  once : (p : ℕ) → count_in p pages ≤ 1
   ahead : (p : ℕ) → has p pages ≡ true → has p refs ≡ true
   away : count pages cache ≡ 0
 
 -- One reference.
 
 -- the cache has a page as often as it has pages of a list with it, at most
-one_counts : (p : ℕ) (pages cache : List ℕ) → has p pages ≡ true → times p cache ≤ count pages cache
+one_counts : (p : ℕ) (pages cache : List ℕ) → has p pages ≡ true → count_in p cache ≤ count pages cache
 one_counts p pages cache there = tally_less (λ q. q == p) (λ q. has q pages) cache (λ q k e. ap (λ (r : ℕ). has r pages) (eqb-true q p e) ∙ there)
 
 without_has : (p q : ℕ) (pages : List ℕ) → has p pages ≡ true → has q (without_first p pages) ≡ true → has q pages ≡ true
@@ -39,7 +39,7 @@ other_ahead p pages refs away ahead q h = elim (or_cases (p == q) (has q refs) (
 ]
 
 -- a page that is awaited stands once
-gone : (p : ℕ) (pages : List ℕ) → ((q : ℕ) → times q pages ≤ 1) → has p pages ≡ true → has p (without_first p pages) ≡ false
+gone : (p : ℕ) (pages : List ℕ) → ((q : ℕ) → count_in q pages ≤ 1) → has p pages ≡ true → has p (without_first p pages) ≡ false
 gone p pages once there =
     let t = tally-without (λ q. q == p) p pages there in
     let one = ap bit (eq-eqb p p refl) in
@@ -124,7 +124,7 @@ unfolding all_left
 left_faults [] m faults e = cc
 left_faults (v ∷ vs) m faults e = cc
 
-pub pages_fault : (refs pages : List ℕ) (n : ℕ) → ((p : ℕ) → times p pages ≤ 1) → ((p : ℕ) → has p pages ≡ true → has p refs ≡ true)
+pub pages_fault : (refs pages : List ℕ) (n : ℕ) → ((p : ℕ) → count_in p pages ≤ 1) → ((p : ℕ) → has p pages ≡ true → has p refs ≡ true)
     → NoneFewer refs n (length pages)
 unfolding plan_faults faults_of
 pages_fault refs pages n once ahead victims faults e = go (runs n 1 refs (Some (record { cache = []; victims = victims; faults = 0 }))) refl e

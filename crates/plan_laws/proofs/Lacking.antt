@@ -4,7 +4,7 @@ use Rattle.std.specs.Prelude.{◌==◌, ◌||◌, ◌&&◌, cond}
 use Rattle.std.proofs.lemmas.Bool.{cases_eq, cases_Bool, eq-eqb, ne_eqb, eqb-true, false≢true, or_cases, or_left, or_right, or_parts, and_parts, and_from, not-true, not_from_false}
 use Rattle.vm_facts.specs.Lists.{without_first}
 use Rattle.page_opt.specs.Plans.{has}
-use Rattle.page_opt.specs.Cache.{bit, tally, times, IsCache}
+use Rattle.page_opt.specs.Cache.{bit, tally, count_in, IsCache}
 use Rattle.page_opt.proofs.Counts.{tally_all}
 use Rattle.plan_laws.specs.Memory.{lacking}
 
@@ -62,7 +62,7 @@ tally_same f g (q ∷ qs) h =
 -- Lists in which each page stands once.
 
 -- one page counts once at most
-tally_one : (f : ℕ → Bool) (y : ℕ) (xs : List ℕ) → times y xs ≤ 1 → tally (λ p. (y == p) && f p) xs ≤ bit (f y)
+tally_one : (f : ℕ → Bool) (y : ℕ) (xs : List ℕ) → count_in y xs ≤ 1 → tally (λ p. (y == p) && f p) xs ≤ bit (f y)
 tally_one f y xs once = elim (cases_Bool (f y)) [
   | inl passes ↦
       let all = tally_less (λ p. (y == p) && f p) (λ p. p == y) xs (λ p k h. eq-eqb p y (sym (eqb-true y p (and_parts (y == p) (f p) h).0))) in
@@ -76,7 +76,7 @@ tally_one f y xs once = elim (cases_Bool (f y)) [
 ]
 
 -- those of a list that stand in another one are at most as many as the other has
-tally_within : (f : ℕ → Bool) (xs ys : List ℕ) → ((q : ℕ) → times q xs ≤ 1) → tally (λ p. has p ys && f p) xs ≤ tally f ys
+tally_within : (f : ℕ → Bool) (xs ys : List ℕ) → ((q : ℕ) → count_in q xs ≤ 1) → tally (λ p. has p ys && f p) xs ≤ tally f ys
 unfolding has
 tally_within f xs [] once = let none = tally_none xs in omega arith
 tally_within f xs (y ∷ ys) once =
@@ -93,7 +93,7 @@ tally_within f xs (y ∷ ys) once =
 -- What isn't held.
 
 -- what isn't held wasn't there before, or was there and isn't held
-pub lacking_through : (held before pages : List ℕ) → ((q : ℕ) → times q pages ≤ 1) → lacking held pages ≤ lacking before pages + lacking held before
+pub lacking_through : (held before pages : List ℕ) → ((q : ℕ) → count_in q pages ≤ 1) → lacking held pages ≤ lacking before pages + lacking held before
 lacking_through held before pages once =
     let all = tally_either (λ p. not (has p held)) (λ p. not (has p before)) (λ p. has p before && not (has p held)) pages
     (λ p h. elim (cases_Bool (has p before)) [
@@ -155,7 +155,7 @@ lacking_none held pages all =
     omega arith
 
 -- or all but one
-pub lacking_one : (p : ℕ) (held pages : List ℕ) → times p pages ≤ 1 → ((q : ℕ) → has q pages ≡ true → (has q held ≡ true) ⊎ (q ≡ p)) → lacking held pages ≤ 1
+pub lacking_one : (p : ℕ) (held pages : List ℕ) → count_in p pages ≤ 1 → ((q : ℕ) → has q pages ≡ true → (has q held ≡ true) ⊎ (q ≡ p)) → lacking held pages ≤ 1
 lacking_one p held pages once all =
     let fewer = tally_less (λ q. not (has q held)) (λ q. q == p) pages (λ q there h. elim (all q there) [
       | inl held_too ↦ absurd (false≢true (sym (not-true (has q held) h) ∙ held_too))

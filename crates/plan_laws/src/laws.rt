@@ -1,6 +1,6 @@
 ghost use Rattle.std.specs.Prelude.{◌≡◌, ℕ, ◌≤◌, true, List, [], length};
 ghost use Rattle.page_opt.specs.Plans.{has};
-ghost use Rattle.page_opt.specs.Cache.{times};
+ghost use Rattle.page_opt.specs.Cache.{count_in};
 ghost use Rattle.plan_laws.specs.Memory.{Moment, used_in, brought, IsMemory, HasPlan, NoneFewer};
 
 /// Demand paging brings in no more pages than any other memory (Mattson, Gecsei, Slutz and Traiger, "Evaluation Techniques
@@ -16,6 +16,6 @@ pub fn demand_paging_brings_least()
 /// Each page of the references faults at least once, when it is first referenced, however many frames there are. So a plan
 /// has at least as many faults as there are pages.
 pub fn each_page_faults()
-    ensures { (refs pages : List ℕ) (n : ℕ) → ((p : ℕ) → times p pages ≤ 1) → ((p : ℕ) → has p pages ≡ true → has p refs ≡ true)
+    ensures { (refs pages : List ℕ) (n : ℕ) → ((p : ℕ) → count_in p pages ≤ 1) → ((p : ℕ) → has p pages ≡ true → has p refs ≡ true)
         → NoneFewer refs n (length pages) }
 {}

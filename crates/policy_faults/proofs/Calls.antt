@@ -3,7 +3,7 @@ use Rattle.std.proofs.Common.{◌≡◌, ℕ, ◌<◌, ◌≤◌, Bool, true, fa
 use Rattle.std.specs.Prelude.{is_some, unwrap_or}
 use Rattle.std.proofs.lemmas.Bool.{cases_lt, false≢true}
 use Rattle.page_opt.specs.Plans.{has}
-use Rattle.page_opt.specs.Cache.{times}
+use Rattle.page_opt.specs.Cache.{count_in}
 use Rattle.policy_faults.specs.Ring.{MarkedPage, is_in_memory, marked_page, unmarked_at, is_hand_marked, hand_passed, paged_in}
 use Rattle.policy_faults.specs.Kept.{with_marks, HaveMarks}
 use Rattle.policy_faults.proofs.Rings.{Marks, has_at, length-with_marks, ring_marked, ring_unmarked, unmarked_past, ring_passed, ring_left, ring_paged_in, marked_kept, passed_kept, left_kept, paged_in_kept}
@@ -81,7 +81,7 @@ module _ (marks : ℕ → Option Bool) (ps : List ℕ) (now : List MarkedPage) (
 
   pub left : (new : ℕ → Option Bool) (page : ℕ) (qs : List ℕ) → ps ≡ page ∷ qs → HaveMarks marks ps → Marks marks new page None → with_marks new qs ≡ drop 1 now
   left new page qs first are m =
-      ring_left marks new page qs m (subst (λ (xs : List ℕ). times page xs ≤ 1) first (are.once page))
+      ring_left marks new page qs m (subst (λ (xs : List ℕ). count_in page xs ≤ 1) first (are.once page))
       ∙ ap (λ (xs : List ℕ). drop 1 (with_marks marks xs)) (sym first) ∙ ap (λ (ms : List MarkedPage). drop 1 ms) view
 
   pub came : (new : ℕ → Option Bool) (page : ℕ) (qs : List ℕ) → qs ≡ ps ++ page ∷ [] → is_in_memory page now ≡ false → Marks marks new page (Some true)

@@ -3,7 +3,7 @@ use Rattle.std.proofs.Common.{◌≡◌, ℕ, zero, suc, ◌+◌, ◌<◌, ◌�
 use Rattle.std.specs.Prelude.{◌==◌, ◌||◌, is_some, unwrap_or}
 use Rattle.std.proofs.lemmas.Bool.{cases_eq, eq-eqb, ne_eqb, false≢true, cond-false, or_left, or_right}
 use Rattle.page_opt.specs.Plans.{has}
-use Rattle.page_opt.specs.Cache.{bit, tally, times}
+use Rattle.page_opt.specs.Cache.{bit, tally, count_in}
 use Rattle.page_opt.proofs.Counts.{times_hasnt, hasnt_times}
 use Rattle.policy_faults.specs.Ring.{MarkedPage, marked_page, unmarked_at, hand_passed, paged_in}
 use Rattle.policy_faults.specs.Kept.{with_marks, HaveMarks}
@@ -18,7 +18,7 @@ pub tally-append : (f : ℕ → Bool) (xs ys : List ℕ) → tally f (xs ++ ys) 
 tally-append f [] ys = omega arith
 tally-append f (x ∷ xs) ys = let rest = tally-append f xs ys in omega arith
 
-pub times_here : (p : ℕ) (ps : List ℕ) → times p (p ∷ ps) ≡ 1 + times p ps
+pub times_here : (p : ℕ) (ps : List ℕ) → count_in p (p ∷ ps) ≡ 1 + count_in p ps
 times_here p ps = let one = ap bit (eq-eqb p p refl) in omega arith
 
 pub has_push : (q p : ℕ) (ps : List ℕ) → has q (ps ++ p ∷ []) ≡ ((p == q) || has q ps)
@@ -38,7 +38,7 @@ has_at (p ∷ ps) zero h = or_left (p == p) (has p ps) (eq-eqb p p refl)
 has_at (p ∷ ps) (suc k) h = or_right (p == get_or ps k 0) (has (get_or ps k 0) ps) (has_at ps k (omega arith))
 
 -- the page at the front stands nowhere else
-pub first_away : (p : ℕ) (ps : List ℕ) → times p (p ∷ ps) ≤ 1 → has p ps ≡ false
+pub first_away : (p : ℕ) (ps : List ℕ) → count_in p (p ∷ ps) ≤ 1 → has p ps ≡ false
 first_away p ps once = times_hasnt p ps (let here = times_here p ps in omega arith)
 
 -- ---- the ring by its marks
@@ -86,7 +86,7 @@ ring_marked old new page (p ∷ ps) m =
     head true ms = refl
     head false ms = refl
 
-pub ring_unmarked : (old new : ℕ → Option Bool) (ps : List ℕ) (place : ℕ) → place < length ps → ((q : ℕ) → times q ps ≤ 1)
+pub ring_unmarked : (old new : ℕ → Option Bool) (ps : List ℕ) (place : ℕ) → place < length ps → ((q : ℕ) → count_in q ps ≤ 1)
     → Marks old new (get_or ps place 0) (Some false) → with_marks new ps ≡ unmarked_at place (with_marks old ps)
 unfolding with_marks unmarked_at at
 ring_unmarked old new [] place h once m = absurd (omega arith)
@@ -111,7 +111,7 @@ pub ring_passed : (marks : ℕ → Option Bool) (p : ℕ) (ps : List ℕ) → wi
 unfolding with_marks hand_passed
 ring_passed marks p ps = with_marks-append marks ps (p ∷ [])
 
-pub ring_left : (old new : ℕ → Option Bool) (p : ℕ) (ps : List ℕ) → Marks old new p None → times p (p ∷ ps) ≤ 1
+pub ring_left : (old new : ℕ → Option Bool) (p : ℕ) (ps : List ℕ) → Marks old new p None → count_in p (p ∷ ps) ≤ 1
     → with_marks new ps ≡ drop 1 (with_marks old (p ∷ ps))
 unfolding with_marks
 ring_left old new p ps m once = others_same old new p None ps m (first_away p ps once)
@@ -159,7 +159,7 @@ paged_in_kept old new page ps k away m = record {
   once = λ q. elim (cases_eq page q) [
     | inl same ↦ (
         let none = hasnt_times page ps away in
-        let same_count : times q ps ≡ times page ps = ap (λ (r : ℕ). times r ps) (sym same) in
+        let same_count : count_in q ps ≡ count_in page ps = ap (λ (r : ℕ). count_in r ps) (sym same) in
         let here = ap bit (eq-eqb page q same) in
         let pushed = tally-append (λ (r : ℕ). r == q) ps (page ∷ []) in
         omega arith)

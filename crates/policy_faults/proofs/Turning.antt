@@ -2,7 +2,7 @@
 use Rattle.std.proofs.Common.{◌≡◌, ℕ, zero, suc, ◌/◌, ◌<◌, ◌≤◌, Bool, true, false, cond, nat_lt, List, [], ◌∷◌, ◌++◌, length, drop, Option, refl, sym, ap, ◌∙◌, arith}
 use Rattle.std.specs.Prelude.{◌==◌}
 use Rattle.page_opt.specs.Plans.{has}
-use Rattle.page_opt.specs.Cache.{tally, times}
+use Rattle.page_opt.specs.Cache.{tally, count_in}
 use Rattle.page_opt.proofs.Counts.{times_hasnt, hasnt_times}
 use Rattle.policy_faults.specs.Ring.{MarkedPage, ring_pages, is_in_memory, marked_page, unmarked_at, is_hand_marked, hand_passed, paged_in}
 use Rattle.std.proofs.lemmas.Bool.{lt-ltb, le-ltb}
@@ -123,7 +123,7 @@ tally-hands_room f n ms = go (nat_lt (length ms) n)
         omega arith
 
 -- a page that isn't there isn't there when room was made
-fewer_away : (page : ℕ) (old new : List ℕ) → has page old ≡ false → times page new ≤ times page old → has page new ≡ false
+fewer_away : (page : ℕ) (old new : List ℕ) → has page old ≡ false → count_in page new ≤ count_in page old → has page new ≡ false
 fewer_away page old new away fewer = times_hasnt page new (let none = hasnt_times page old away in omega arith)
 
 pub fifo_away : (page n : ℕ) (qs : List ℕ) → has page qs ≡ false → has page (fifo_room n qs) ≡ false

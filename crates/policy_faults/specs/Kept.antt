@@ -2,7 +2,7 @@
 use Rattle.std.specs.Prelude.{◌≡◌, ◌≤◌, ℕ, Bool, false, List, [], ◌∷◌, nat_eq, Option, is_some, unwrap_or}
 use Rattle.std.specs.HashMap.{get}
 use Rattle.page_opt.specs.Plans.{has}
-use Rattle.page_opt.specs.Cache.{times}
+use Rattle.page_opt.specs.Cache.{count_in}
 use Rattle.policy_faults.specs.Ring.{MarkedPage}
 use Rattle.policy_faults.specs.declared.page_ring.PageRing.TheInside.{Inside}
 
@@ -13,7 +13,7 @@ with_marks marks (page ∷ pages) = record { page = page; marked = unwrap_or (ma
 
 -- each page stands once, and just these have a mark, set or not
 pub record HaveMarks (marks : ℕ → Option Bool) (pages : List ℕ) : Type 0 where
-  pub once : (page : ℕ) → times page pages ≤ 1
+  pub once : (page : ℕ) → count_in page pages ≤ 1
   pub inside : (page : ℕ) → is_some (marks page) ≡ has page pages
 
 -- the ring as its callers see it: each page with its mark

@@ -5,7 +5,7 @@ use Rattle.std.proofs.lemmas.Bool.{cases_Bool, cases_lt, lt-ltb, le-ltb}
 use Rattle.std.proofs.lemmas.List.{length-take, length-drop}
 use Rattle.vm_facts.specs.Lists.{without_first}
 use Rattle.page_opt.specs.Plans.{has}
-use Rattle.page_opt.specs.Cache.{bit, tally, times, IsCache}
+use Rattle.page_opt.specs.Cache.{bit, tally, count_in, IsCache}
 use Rattle.page_opt.proofs.Counts.{hasnt_times, tally-without}
 use Rattle.stack_dist.specs.Lru.{holds, referenced, faults_from, lru_faults}
 use Rattle.policy_faults.specs.Ring.{MarkedPage, ring_pages, is_in_memory, marked_page, paged_in}
@@ -18,10 +18,10 @@ use Rattle.policy_laws.specs.Policies.{IsAboveLeast}
 
 -- ---- a page that comes last
 
-pushed_times : (p : ℕ) (room : List ℕ) (q : ℕ) → times q (room ++ p ∷ []) ≡ times q room + bit (p == q)
+pushed_times : (p : ℕ) (room : List ℕ) (q : ℕ) → count_in q (room ++ p ∷ []) ≡ count_in q room + bit (p == q)
 pushed_times p room q = let both = tally-append (λ (r : ℕ). r == q) room (p ∷ []) in omega arith
 
-pushed : (n p : ℕ) (before room : List ℕ) → has p before ≡ false → IsCache n before → ((q : ℕ) → times q room ≤ times q before) → length room + 1 ≤ n
+pushed : (n p : ℕ) (before room : List ℕ) → has p before ≡ false → IsCache n before → ((q : ℕ) → count_in q room ≤ count_in q before) → length room + 1 ≤ n
     → Stepped n p before (room ++ p ∷ []) false
 pushed n p before room away cache fewer fits =
     comes n p before room (room ++ p ∷ []) false away cache fewer (let none = hasnt_times p before away in let less = fewer p in omega arith) fits (pushed_times p room) (length-append room (p ∷ []))
@@ -107,10 +107,10 @@ tally-other f p qs = elim (cases_Bool (has p qs)) [
   | inr away ↦ let e = ap (λ (rs : List ℕ). tally f rs) (without_same p qs away) in omega arith
 ]
 
-gone : (p : ℕ) (qs : List ℕ) → times p qs ≤ 1 → times p (without_first p qs) ≡ 0
+gone : (p : ℕ) (qs : List ℕ) → count_in p qs ≤ 1 → count_in p (without_first p qs) ≡ 0
 gone p qs once = elim (cases_Bool (has p qs)) [
   | inl there ↦ let t = tally-without (λ (r : ℕ). r == p) p qs there in let one = ap bit (self p) in omega arith
-  | inr away ↦ let e = ap (λ (rs : List ℕ). times p rs) (without_same p qs away) in let none = hasnt_times p qs away in omega arith
+  | inr away ↦ let e = ap (λ (rs : List ℕ). count_in p rs) (without_same p qs away) in let none = hasnt_times p qs away in omega arith
 ]
   where
     self : (k : ℕ) → (k == k) ≡ true

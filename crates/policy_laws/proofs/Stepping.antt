@@ -3,7 +3,7 @@ use Rattle.std.proofs.Common.{◌≡◌, ℕ, ◌+◌, ◌≤◌, Bool, true, fa
 use Rattle.std.specs.Prelude.{◌==◌}
 use Rattle.std.proofs.lemmas.Bool.{cases_eq, eq-eqb, ne_eqb}
 use Rattle.page_opt.specs.Plans.{has}
-use Rattle.page_opt.specs.Cache.{bit, times, IsCache}
+use Rattle.page_opt.specs.Cache.{bit, count_in, IsCache}
 use Rattle.page_opt.proofs.Counts.{has_times, times_has}
 use Rattle.plan_laws.specs.Memory.{lacking}
 use Rattle.plan_laws.proofs.Lacking.{lacking_none, lacking_one}
@@ -21,8 +21,8 @@ stays n p before after same cache there =
     (record { cache = cache; there = there; few = let none = lacking_none before before (λ q h. h) in omega arith })
 
 -- the page comes to those for which there is room
-pub comes : (n p : ℕ) (before room after : List ℕ) (hit : Bool) → has p before ≡ hit → IsCache n before → ((q : ℕ) → times q room ≤ times q before)
-    → times p room ≡ 0 → length room + 1 ≤ n → ((q : ℕ) → times q after ≡ times q room + bit (p == q)) → length after ≡ length room + 1
+pub comes : (n p : ℕ) (before room after : List ℕ) (hit : Bool) → has p before ≡ hit → IsCache n before → ((q : ℕ) → count_in q room ≤ count_in q before)
+    → count_in p room ≡ 0 → length room + 1 ≤ n → ((q : ℕ) → count_in q after ≡ count_in q room + bit (p == q)) → length after ≡ length room + 1
     → Stepped n p before after hit
 comes n p before room after hit is cache fewer none fits counts size = record {
   cache = record { once = once; small = omega arith };
@@ -30,12 +30,12 @@ comes n p before room after hit is cache fewer none fits counts size = record {
   few = by hit is;
 }
   where
-    once : (q : ℕ) → times q after ≤ 1
+    once : (q : ℕ) → count_in q after ≤ 1
     once q = elim (cases_eq p q) [
       | inl same ↦ (
           let c = counts q in
           let one = ap bit (eq-eqb p q same) in
-          let gone : times q room ≡ times p room = ap (λ (r : ℕ). times r room) (sym same) in
+          let gone : count_in q room ≡ count_in p room = ap (λ (r : ℕ). count_in r room) (sym same) in
           omega arith)
       | inr other ↦ (
           let c = counts q in

@@ -18,7 +18,7 @@ use Rattle.page_model.specs.Place.{stack_count}
 use Rattle.page_model.specs.Placement.{space_number, image_in, slots_of}
 use Rattle.kernel_model.specs.Kernel.{Kernel}
 use Rattle.kernel_model.specs.Sound.{TextFits}
-use Rattle.kernel_model.specs.Coupled.{SameTables, Fits, text_of}
+use Rattle.kernel_model.specs.Coupled.{SameTables, Fits, image_text}
 use Rattle.machine_state.proofs.FlatMemory.{IsPaged}
 use Rattle.machine_state.specs.UserMemory.{text_len}
 use Rattle.proc_calls.specs.Callers.{space_held}
@@ -32,7 +32,7 @@ whole_pages : (n bytes : ℕ) → bytes ≡ 1024 * n → n ≡ bytes / 1024
 whole_pages n bytes e = omega (arith, e)
 
 module _ (images : List NamedImage) (k : Kernel) (flat : FlatState) (x : Space) (tables : SameTables k flat) (fits : TextFits images k.place)
-    (own : numbered (λ (s : Space). s.sid) x.sid (spaces_of flat) ≡ Some x) (text : x.text_bytes ≡ text_of (image_numbered images x.image)) where
+    (own : numbered (λ (s : Space). s.sid) x.sid (spaces_of flat) ≡ Some x) (text : x.text_bytes ≡ image_text (image_numbered images x.image)) where
   there : IsPaged k x
   there = paged k x (numbered space_number x.sid k.place.spaces) refl (subst (λ (o : Option Space). Fits o (numbered space_number x.sid k.place.spaces)) own (tables.spaces x.sid))
 

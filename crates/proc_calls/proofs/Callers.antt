@@ -18,7 +18,7 @@ use Rattle.proc_table.specs.declared.process.Proc.{Proc as Record}
 use Rattle.proc_table.specs.Records.{find}
 use Rattle.machine_state.specs.Alike.{AreRecords}
 use Rattle.machine_state.specs.Going.{CanGoOn}
-use Rattle.machine_state.specs.Machine.{Standing, proc_of, processes_of}
+use Rattle.machine_state.specs.Machine.{Standing, proc_of_record, processes_of}
 use Rattle.machine_state.proofs.Listed.{process_is}
 use Rattle.machine_state.specs.Calls.{life_in}
 use Rattle.machine_state.specs.Applying.{CanApply, IsEntryOf, MayAct, facts_named}
@@ -27,7 +27,7 @@ use Rattle.proc_calls.specs.Callers.{proc_in, IsCaller}
 
 -- its record shows it
 pub record_shown : (k : Kernel) (ps : List Record) (pid : ℕ) → k.processes ≡ processes_of ps k.next_pid → AreRecords ps k.next_pid
-    → proc_in k pid ≡ proc_of (find pid ps)
+    → proc_in k pid ≡ proc_of_record (find pid ps)
 record_shown k ps pid e h = ap (λ (qs : List Proc). numbered pid_of pid qs) e ∙ process_is ps k.next_pid pid h
 
 pub not_there : (o : Option Proc) → IsSome o → o ≡ None → ⊥

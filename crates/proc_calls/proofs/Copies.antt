@@ -12,7 +12,7 @@ use Rattle.flat_state.specs.PageNames.{number_of, is_among}
 use Rattle.flat_state.specs.Journal.{append}
 use Rattle.flat_state.proofs.PageNames.{same_page_self}
 use Rattle.page_model.specs.Pages.{Filling, Slot, no_slot, is_valid}
-use Rattle.page_model.specs.Placement.{Placement, Due, CopyOf, due_at, state_of, filling_of, slots_of, IsThere}
+use Rattle.page_model.specs.Placement.{Placement, Due, CopyOf, due_of_page, state_of, filling_of, slots_of, IsThere}
 use Rattle.page_model.specs.Place.{due_after, filled}
 use Rattle.page_model.specs.Serve.{Serves, serve_step, Forces, force}
 use Rattle.page_model.specs.Conditions.{IsShared, Spares}
@@ -34,14 +34,14 @@ use Rattle.proc_calls.specs.Copying.{IsCopyFirst}
 
 -- What is due first.
 
-first_at : (child parent : Page) (ds : List Due) → due_at (CopyOf child parent ∷ ds) child ≡ Some (CopyOf child parent)
-first_at child parent ds = ap (λ (b : Bool). cond b (Some (CopyOf child parent)) (due_at ds child)) (same_page_self child)
+first_at : (child parent : Page) (ds : List Due) → due_of_page (CopyOf child parent ∷ ds) child ≡ Some (CopyOf child parent)
+first_at child parent ds = ap (λ (b : Bool). cond b (Some (CopyOf child parent)) (due_of_page ds child)) (same_page_self child)
 
 pub first_gone : (child parent : Page) (ds : List Due) → due_after (CopyOf child parent ∷ ds) child ≡ ds
 first_gone child parent ds = ap (λ (b : Bool). cond b ds (CopyOf child parent ∷ ds)) (same_page_self child)
 
 pub first_due : (p : Placement) (child parent : Page) → DueStand p → IsCopyFirst p child parent → IsDue p child (CopyOf child parent)
-first_due p child parent d f = d child (CopyOf child parent) (ap (λ (ds : List Due). due_at ds child) f.first ∙ first_at child parent f.others)
+first_due p child parent d f = d child (CopyOf child parent) (ap (λ (ds : List Due). due_of_page ds child) f.first ∙ first_at child parent f.others)
 
 -- The parent's page may be served.
 
@@ -65,9 +65,9 @@ not_blank (Going f) x e = absurd cc
 not_blank OnSwap x e = absurd cc
 
 parent_fresh : (p : Placement) (q : Page) → DueStand p → state_of p q ≢ Unfilled → NotDue p.due q
-parent_fresh p q d n = go (due_at p.due q) refl
+parent_fresh p q d n = go (due_of_page p.due q) refl
   where
-    go : (o : Option Due) → due_at p.due q ≡ o → o ≡ None
+    go : (o : Option Due) → due_of_page p.due q ≡ o → o ≡ None
     go None e = refl
     go (Some x) e = absurd (n (d q x e).unfilled)
 

@@ -6,7 +6,7 @@ use Rattle.std.proofs.lemmas.Bool.{cases_eq}
 use Rattle.proc_table.specs.declared.process.Proc.{Proc as Record}
 use Rattle.proc_table.specs.Records.{find, ArePidsApart}
 use Rattle.kernel_model.specs.Kernel.{Proc}
-use Rattle.machine_state.specs.Machine.{proc_shown, proc_of, processes_of}
+use Rattle.machine_state.specs.Machine.{proc_shown, proc_of_record, processes_of}
 use Rattle.machine_state.proofs.Records.{keeps_none, keeps_some, find_hit, find_miss}
 
 -- over numbers at which two functions are one, they find as many
@@ -48,13 +48,13 @@ none_over g a (suc k) e = keeps_none g a (range_with_len (a + 1) k) (e a) ∙ no
 -- each record's number is below the next
 pub crowd : (ps : List Record) (next : ℕ) → ArePidsApart ps → ((pid : ℕ) (p : Record) → find pid ps ≡ Some p → (1 ≤ pid) × (pid < next))
     → length (processes_of ps next) ≡ length ps
-crowd [] next apart known = ap (λ (xs : List Proc). length xs) (none_over (λ pid. proc_of (find pid [])) 1 (next - 1) (λ m. refl))
+crowd [] next apart known = ap (λ (xs : List Proc). length xs) (none_over (λ pid. proc_of_record (find pid [])) 1 (next - 1) (λ m. refl))
 crowd (p ∷ ps) next apart known =
     let range : (1 ≤ p.pid) × (p.pid < next) = known p.pid p (find_hit p.pid p ps refl) in
     let low = range.0 in
     let high = range.1 in
-    one_more (λ pid. proc_of (find pid (p ∷ ps))) (λ pid. proc_of (find pid ps)) p.pid (proc_shown p) (ap proc_of (find_hit p.pid p ps refl)) (ap proc_of apart.0)
-    (λ m d. ap proc_of (find_miss m p ps (λ i. d (sym i)))) 1 (next - 1) low (omega arith)
+    one_more (λ pid. proc_of_record (find pid (p ∷ ps))) (λ pid. proc_of_record (find pid ps)) p.pid (proc_shown p) (ap proc_of_record (find_hit p.pid p ps refl)) (ap proc_of_record apart.0)
+    (λ m d. ap proc_of_record (find_miss m p ps (λ i. d (sym i)))) 1 (next - 1) low (omega arith)
     ∙ ap suc (crowd ps next apart.1 later)
   where
     later : (pid : ℕ) (q : Record) → find pid ps ≡ Some q → (1 ≤ pid) × (pid < next)

@@ -7,7 +7,7 @@ use Rattle.vm_facts.specs.declared.entry.Entry.TheVariants as entries
 use Rattle.vm_facts.specs.declared.stop.Stop.{Stop}
 use Rattle.io_edge.specs.FileHolding.{NamedFile}
 use Rattle.flat_state.proofs.PageNames.{same_page_self}
-use Rattle.page_model.specs.Placement.{Placement, Due, Start, due_at}
+use Rattle.page_model.specs.Placement.{Placement, Due, Start, due_of_page}
 use Rattle.page_model.specs.Serve.{Forces, force}
 use Rattle.page_model.specs.Ownership.{OwnsFrames}
 use Rattle.page_model.specs.Dues.{IsDue}
@@ -31,14 +31,14 @@ due_stays [] p r locked o s = ap (λ (x : Placement). x.due) (sym s)
 due_stays (e ∷ us) p r locked o s =
     due_stays us (force p locked) r locked (force_owner p locked o) s.2 ∙ (let t : Stays p (force p locked) = force_stays p locked o in t.due)
 
-start_at : (page : Page) (ds : List Due) → due_at (Start page ∷ ds) page ≡ Some (Start page)
-start_at page ds = ap (λ (b : Bool). cond b (Some (Start page)) (due_at ds page)) (same_page_self page)
+start_at : (page : Page) (ds : List Due) → due_of_page (Start page ∷ ds) page ≡ Some (Start page)
+start_at page ds = ap (λ (b : Bool). cond b (Some (Start page)) (due_of_page ds page)) (same_page_self page)
 
 pub can_fill : (page : Page) (old roomy : Standing) (holds : Option (List NamedFile)) (i j : Option (List ℕ)) → CanGoOn old
     → CanGoOn roomy → IsStartFirst old.kernel.place page → Forced [] old roomy holds i j → CanZero roomy.kernel.place page
 can_fill page old roomy holds i j on later s f =
     let e : roomy.kernel.place.due ≡ Start page ∷ s.others = due_stays f.units old.kernel.place roomy.kernel.place [] on.running.sound.owner.frames f.forces ∙ s.first in
-    let due : IsDue roomy.kernel.place page (Start page) = later.running.due page (Start page) (ap (λ (ds : List Due). due_at ds page) e ∙ start_at page s.others) in
+    let due : IsDue roomy.kernel.place page (Start page) = later.running.due page (Start page) (ap (λ (ds : List Due). due_of_page ds page) e ∙ start_at page s.others) in
     record {
       writable = due.writable;
       there = due.there;

@@ -42,7 +42,7 @@ use Rattle.machine_state.specs.UserMemory.{CanLend}
 use Rattle.machine_state.specs.Wants.{wanted_of, found_for}
 use Rattle.machine_state.specs.Want.{Want}
 use Rattle.proc_calls.specs.Callers.{space_held, IsCaller}
-use Rattle.proc_calls.specs.Sizing.{data_pages_of, stack_pages_of, break_at, pieces_found, with_pieces}
+use Rattle.proc_calls.specs.Sizing.{process_data_pages, process_stack_pages, break_at, pieces_found, with_pieces}
 use Rattle.proc_calls.specs.Leaving.{HasSettled}
 use Rattle.proc_calls.proofs.Callers.{caller_lives}
 use Rattle.proc_calls.proofs.Leaving.{GoesOn, settled_goes, space_stays}
@@ -167,9 +167,9 @@ none_placed : (size : ℕ) (before now : Holdings) (ws : List Wanted) → before
 unfolding place_all
 none_placed size before now ws e none = ap (place_all size before) none ∙ ap (λ (hs : Holdings). Ok hs) e
 
-module _ (m : Standing) (pid : ℕ) (regs : Regs) (c : IsCaller m pid) (wanted stack : ℕ) (is : stack ≡ stack_pages_of m.kernel pid) (short : stack ≤ 512) (few : wanted ≤ 4096) where
+module _ (m : Standing) (pid : ℕ) (regs : Regs) (c : IsCaller m pid) (wanted stack : ℕ) (is : stack ≡ process_stack_pages m.kernel pid) (short : stack ≤ 512) (few : wanted ≤ 4096) where
   -- with as many pages as before
-  pub can_stay : wanted ≡ data_pages_of m.kernel pid → CanApply m pid (call_entry pid Break regs) (Resize wanted stack)
+  pub can_stay : wanted ≡ process_data_pages m.kernel pid → CanApply m pid (call_entry pid Break regs) (Resize wanted stack)
   can_stay same =
       can_size m pid regs c.lends wanted stack c.clear
       (λ loses. elim loses [
@@ -183,7 +183,7 @@ module _ (m : Standing) (pid : ℕ) (regs : Regs) (c : IsCaller m pid) (wanted s
 
   -- with more, whose pieces are found
   module _ (sid : ℕ) (own : sid ≡ space_held m.kernel pid) where
-    held : lengths (owners.Data (space_held m.kernel pid)) m.kernel.holdings ≡ pieces (2 * data_pages_of m.kernel pid)
+    held : lengths (owners.Data (space_held m.kernel pid)) m.kernel.holdings ≡ pieces (2 * process_data_pages m.kernel pid)
     held = ap (λ (hs : Holdings). lengths (owners.Data (space_held m.kernel pid)) hs) (sym c.ready.whole) ∙ c.ready.running.sound.owner.blocks.data_held (space_held m.kernel pid)
 
     asks : asked (facts_named m.images) m.kernel pid (Resize wanted stack) ≡ wanted_of m.kernel.holdings (data_want sid wanted)
@@ -198,7 +198,7 @@ module _ (m : Standing) (pid : ℕ) (regs : Regs) (c : IsCaller m pid) (wanted s
         ∙ ap (place_all m.params.swap_blocks m.kernel.holdings) asks
 
     pub can_grow : (n : Standing) (hs : Holdings) → found_for m.params.swap_blocks m.kernel.holdings (data_want sid wanted) ≡ Ok hs → n ≡ with_pieces m hs
-        → data_pages_of m.kernel pid < wanted → CanApply n pid (call_entry pid Break regs) (Resize wanted stack)
+        → process_data_pages m.kernel pid < wanted → CanApply n pid (call_entry pid Break regs) (Resize wanted stack)
     can_grow n hs found e more =
         subst (λ (x : Standing). CanApply x pid (call_entry pid Break regs) (Resize wanted stack)) (sym e)
         (can_size (with_pieces m hs) pid regs (record { sid = c.lends.sid; holds = c.lends.holds; there = c.lends.there; resident = c.lends.resident }) wanted stack c.clear
@@ -248,22 +248,22 @@ module _ (m n : Standing) (pid : ℕ) (regs : Regs) (c : IsCaller m pid) (holds 
         ∙ further_by (owners.Stack sid) (stack_count n.kernel.place sid) (stack_count m.kernel.place sid) (stack_count m.kernel.place sid) (same_stacks sid)
         ∙ same_stack sid (stack_count m.kernel.place sid)
 
-    pub can_cut : (wanted stack : ℕ) → stack ≡ stack_pages_of m.kernel pid → stack ≤ 512 → wanted ≤ 4096 → wanted < data_pages_of m.kernel pid
+    pub can_cut : (wanted stack : ℕ) → stack ≡ process_stack_pages m.kernel pid → stack ≤ 512 → wanted ≤ 4096 → wanted < process_data_pages m.kernel pid
         → CanApply n pid (call_entry pid Break regs) (Resize wanted stack)
     can_cut wanted stack is short few fewer =
         can_size n pid regs lends_on wanted stack (on.due ∙ c.clear) (λ _. ap (is_settled n.kernel.place) same_space ∙ s.settled.settled) few short
         (none_placed n.params.swap_blocks n.before n.kernel.holdings (asked (facts_named n.images) n.kernel pid (Resize wanted stack)) (s.rest.before ∙ c.ready.whole ∙ sym on.holdings)
         (ap (λ (t : ℕ). asked (facts_named n.images) n.kernel pid (Resize wanted t)) is
-        ∙ ap (λ (x : ℕ). change_asks (facts_named n.images) n.kernel.place x n.kernel.next_sid (Resize wanted (stack_pages_of m.kernel pid))) same_space
+        ∙ ap (λ (x : ℕ). change_asks (facts_named n.images) n.kernel.place x n.kernel.next_sid (Resize wanted (process_stack_pages m.kernel pid))) same_space
         ∙ still_none (facts_named n.images) (space_held m.kernel pid) n.kernel.next_sid wanted (omega (arith, fewer))))
 
 -- The reply.
 
-pub replies : (k : Kernel) (pid : ℕ) (regs : Regs) (wanted stack : ℕ) → wanted ≤ 4096 → stack ≡ stack_pages_of k pid
+pub replies : (k : Kernel) (pid : ℕ) (regs : Regs) (wanted stack : ℕ) → wanted ≤ 4096 → stack ≡ process_stack_pages k pid
     → Does (replied regs false 0) (Resize wanted stack) ≡ break_at k pid regs wanted
 replies k pid regs wanted stack few is =
     ap (λ (t : ℕ). Does (replied regs false 0) (Resize wanted t)) is
-    ∙ sym (ap (λ (b : Bool). break_by b regs wanted (stack_pages_of k pid)) (le-leb wanted 4096 few))
+    ∙ sym (ap (λ (b : Bool). break_by b regs wanted (process_stack_pages k pid)) (le-leb wanted 4096 few))
 
 pub fails : (k : Kernel) (pid : ℕ) (regs : Regs) (wanted : ℕ) → 4096 < wanted → Fails 12 ≡ break_at k pid regs wanted
-fails k pid regs wanted many = sym (ap (λ (b : Bool). break_by b regs wanted (stack_pages_of k pid)) (lt-leb wanted 4096 many))
+fails k pid regs wanted many = sym (ap (λ (b : Bool). break_by b regs wanted (process_stack_pages k pid)) (lt-leb wanted 4096 many))

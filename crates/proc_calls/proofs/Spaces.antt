@@ -9,7 +9,7 @@ use Rattle.io_edge.specs.FileHolding.{NamedFile}
 use Rattle.vm_facts.specs.declared.stop.Stop.{Stop}
 use Rattle.vm_facts.specs.declared.page.Page.TheVariants.{Text}
 use Rattle.aout_image.specs.declared.Image.{Image}
-use Rattle.aout_image.specs.Image.{text_pages_of, data_pages_of}
+use Rattle.aout_image.specs.Image.{text_pages_of, image_data_pages}
 use Rattle.swap_dmap.specs.Chunks.{pieces, text_pieces}
 use Rattle.swap_book.specs.declared.Owner.{Owner}
 use Rattle.swap_book.specs.declared.Owner.TheVariants as owners
@@ -150,18 +150,18 @@ abbrev pub own_asked : List Want → List Want
 own_asked rs = slice_index_or rs 1 no_want ∷ slice_index_or rs 2 no_want ∷ []
 
 abbrev own_wants : ℕ → Image → List Want
-own_wants sid facts = want (owners.Data sid) (2 * data_pages_of facts) ∷ want (owners.Stack sid) 2 ∷ []
+own_wants sid facts = want (owners.Data sid) (2 * image_data_pages facts) ∷ want (owners.Stack sid) 2 ∷ []
 
 own_asks : (p : Placement) (hs : Holdings) (sid image : ℕ) (facts : Image) → HoldsNone p hs sid image
-    → wanted_of hs (own_wants sid facts) ≡ wanted (owners.Data sid) (pieces (2 * data_pages_of facts)) ++ wanted (owners.Stack sid) (pieces 2)
+    → wanted_of hs (own_wants sid facts) ≡ wanted (owners.Data sid) (pieces (2 * image_data_pages facts)) ++ wanted (owners.Stack sid) (pieces 2)
 own_asks p hs sid image facts h =
-    let d : List Wanted = wanted (owners.Data sid) (pieces (2 * data_pages_of facts)) in
-    ap (λ (l : List Wanted). l ++ (more_pieces hs (owners.Stack sid) 2 ++ [])) (all_more hs (owners.Data sid) (2 * data_pages_of facts) h.of_data)
+    let d : List Wanted = wanted (owners.Data sid) (pieces (2 * image_data_pages facts)) in
+    ap (λ (l : List Wanted). l ++ (more_pieces hs (owners.Stack sid) 2 ++ [])) (all_more hs (owners.Data sid) (2 * image_data_pages facts) h.of_data)
     ∙ ap (λ (l : List Wanted). d ++ l) (append-nil (more_pieces hs (owners.Stack sid) 2) ∙ all_more hs (owners.Stack sid) 2 h.of_stack)
 
 abbrev pieces_by : Placement → ℕ → ℕ → ℕ → Image → List Wanted
 pieces_by p n sid image facts =
-    text_asked n image (2 * length (slots_of p (Text image 0))) ++ (wanted (owners.Data sid) (pieces (2 * data_pages_of facts)) ++ wanted (owners.Stack sid) (pieces 2))
+    text_asked n image (2 * length (slots_of p (Text image 0))) ++ (wanted (owners.Data sid) (pieces (2 * image_data_pages facts)) ++ wanted (owners.Stack sid) (pieces 2))
 
 asks_shared : (p : Placement) (hs : Holdings) (sid image : ℕ) (facts : Image) → HoldsNone p hs sid image → 0 < sharers p image
     → wanted_of hs (own_wants sid facts) ≡ image_pieces p sid image facts
@@ -223,7 +223,7 @@ module _ (m : Standing) (image : ℕ) (ws : List Want) (on : CanGoOn m) (next : 
 abbrev wanted_by : Placement → ℕ → ℕ → ℕ → ℕ → Option Image → List Wanted
 wanted_by p n t sid image None = []
 wanted_by p n t sid image (Some facts) =
-    text_asked n image (2 * t) ++ (wanted (owners.Data sid) (pieces (2 * data_pages_of facts)) ++ wanted (owners.Stack sid) (pieces 2))
+    text_asked n image (2 * t) ++ (wanted (owners.Data sid) (pieces (2 * image_data_pages facts)) ++ wanted (owners.Stack sid) (pieces 2))
 
 by_counts : (p : Placement) (sid image : ℕ) (o : Option Image)
     → image_asked p sid image o ≡ wanted_by p (sharers p image) (length (slots_of p (Text image 0))) sid image o

@@ -19,7 +19,7 @@ use Rattle.proc_calls.specs.Leaving.{HasSettled, HasLeftBy, HasLeft, StopsLeavin
 use Rattle.proc_calls.specs.Making.{with_pieces}
 use Rattle.proc_calls.specs.Starting.{StopsFinding}
 use Rattle.proc_calls.specs.Writing.{StopsOut}
-use Rattle.proc_calls.specs.Sizing.{data_pages_of, StopsPlain, StopsCutting}
+use Rattle.proc_calls.specs.Sizing.{process_data_pages, StopsPlain, StopsCutting}
 
 same_stop : {A : Type 0} (s t : Stop) → (let r : Result A Stop = Err s in r) ≡ Err t → s ≡ t
 same_stop s t e = cc
@@ -56,7 +56,7 @@ grown_stops (Ok x) m asked new pid pages hs e w room s = tt
 grown_stops (Err stop) m asked new pid pages hs e w room s = inl (found_stops m asked new hs stop e w room s)
 
 pub cut_stops : {A : Type 0} (r : Result A Stop) (m b new : Standing) (pid pages : ℕ) (holds : Option (List NamedFile)) (i j : Option (List ℕ))
-    → pages < data_pages_of m.kernel pid
+    → pages < process_data_pages m.kernel pid
     → HasSettled m b (space_held m.kernel pid) holds i j → b.before ≡ b.kernel.holdings → IfErr r (StopsEntering b new)
     → IfErr r (StopsCutting m new pid pages holds i j)
 cut_stops (Ok x) m b new pid pages holds i j l h w s = tt

@@ -9,7 +9,7 @@ use Rattle.user_vax.proofs.Runs.{ok_of_bind}
 use Rattle.flat_model.specs.declared.calls.Reply.{Reply}
 use Rattle.flat_model.specs.declared.calls.Reply.TheVariants.{Fails, Writes}
 use Rattle.flat_model.specs.Calls.{three_arguments, bytes_from, written_to, write_reply, write_limit}
-use Rattle.proc_calls.specs.Writing.{IsWrite, MayWrite}
+use Rattle.proc_calls.specs.Writing.{IsWrite, IsWriteReply}
 
 bytes_count : (memory : Answers) (count address : ℕ) (bytes : List ℕ) → run memory (bytes_from count address) ≡ Ok bytes → length bytes ≡ count
 unfolding bytes_from
@@ -31,7 +31,7 @@ written_so memory true buffer count reply e =
     let long = bytes_count memory (min count write_limit) buffer wrote.0 wrote.1 in
     subst IsWrite is (let few : length wrote.0 ≤ 1024 = omega arith in few)
 
-pub may_write : (memory : Answers) (regs : Regs) (asked : Result Reply Refused) → asked ≡ run memory (write_reply regs) → MayWrite asked
+pub may_write : (memory : Answers) (regs : Regs) (asked : Result Reply Refused) → asked ≡ run memory (write_reply regs) → IsWriteReply asked
 unfolding write_reply
 may_write memory regs (Err refused) e = tt
 may_write memory regs (Ok reply) e =

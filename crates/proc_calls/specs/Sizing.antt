@@ -29,12 +29,12 @@ use Rattle.proc_calls.specs.declared.replying.Called.{Called}
 -- The sizes.
 
 -- the pages of the data of a process
-abbrev pub data_pages_of : Kernel → ℕ → ℕ
-data_pages_of k pid = data_count k.place (space_held k pid)
+abbrev pub process_data_pages : Kernel → ℕ → ℕ
+process_data_pages k pid = data_count k.place (space_held k pid)
 
 -- the pages of the stack of a process
-abbrev pub stack_pages_of : Kernel → ℕ → ℕ
-stack_pages_of k pid = stack_count k.place (space_held k pid)
+abbrev pub process_stack_pages : Kernel → ℕ → ℕ
+process_stack_pages k pid = stack_count k.place (space_held k pid)
 
 -- the pages of data that end at an address; none where the address is below the data
 abbrev pub pages_to : Kernel → ℕ → ℕ → ℕ
@@ -44,11 +44,11 @@ pages_to k pid address = pages_for (address - text_len k.place (space_held k pid
 
 -- the data gets so many pages, and the stack keeps its own
 abbrev pub data_sized : Kernel → ℕ → ℕ → Change
-data_sized k pid pages = Resize pages (stack_pages_of k pid)
+data_sized k pid pages = Resize pages (process_stack_pages k pid)
 
 -- what break replies where the pieces are found
 abbrev pub break_at : Kernel → ℕ → Regs → ℕ → Reply
-break_at k pid regs pages = break_by (nat_le pages data_limit) regs pages (stack_pages_of k pid)
+break_at k pid regs pages = break_by (nat_le pages data_limit) regs pages (process_stack_pages k pid)
 
 -- by what the argument reads as
 abbrev pub break_read : Kernel → ℕ → Regs → Result ℕ Refused → Result Reply Refused
@@ -71,12 +71,12 @@ with_refusal m pid = record m { kernel = note_step m.kernel (entries.Refused pid
 
 -- as many pages as before, or more than data may have: only the reply
 pub record SameData (old new : Standing) (pid : ℕ) (regs : Regs) (pages : ℕ) (called : Called) : Type 0 where
-  pub which : (pages ≡ data_pages_of old.kernel pid) ⊎ (data_limit < pages)
+  pub which : (pages ≡ process_data_pages old.kernel pid) ⊎ (data_limit < pages)
   pub replied : Replied old new pid Break regs (break_at old.kernel pid regs pages) called
 
 -- more pages, whose pieces were found before the reply
 pub record GrownData (old new : Standing) (pid : ℕ) (regs : Regs) (pages : ℕ) (called : Called) : Type 0 where
-  pub more : data_pages_of old.kernel pid < pages
+  pub more : process_data_pages old.kernel pid < pages
   pub few : pages ≤ data_limit
   pub found : Holdings
   pub finds : pieces_found old pid pages ≡ Ok found
@@ -84,7 +84,7 @@ pub record GrownData (old new : Standing) (pid : ℕ) (regs : Regs) (pages : ℕ
 
 -- more pages, whose pieces find no place: that is an entry, and then the call fails
 pub record NoPieces (old new : Standing) (pid : ℕ) (regs : Regs) (pages : ℕ) (called : Called) : Type 0 where
-  pub more : data_pages_of old.kernel pid < pages
+  pub more : process_data_pages old.kernel pid < pages
   pub few : pages ≤ data_limit
   pub none : is_ok (pieces_found old pid pages) ≡ false
   pub replied : Replied (with_refusal old pid) new pid Break regs (Fails no_memory) called
@@ -92,7 +92,7 @@ pub record NoPieces (old new : Standing) (pid : ℕ) (regs : Regs) (pages : ℕ)
 -- fewer pages: transfers end until the space is settled, before the reply
 pub record CutData (old new : Standing) (pid : ℕ) (regs : Regs) (pages : ℕ) (holds : Option (List NamedFile)) (before after : Option (List ℕ)) (called : Called)
     : Type 0 where
-  pub fewer : pages < data_pages_of old.kernel pid
+  pub fewer : pages < process_data_pages old.kernel pid
   pub between : Standing
   pub settled : HasSettled old between (space_held old.kernel pid) holds before after
   pub replied : Replied between new pid Break regs (break_at old.kernel pid regs pages) called
@@ -119,7 +119,7 @@ BreakComes old new pid regs (Err refused) holds before after called = Comes old 
 
 -- after the entry that says that the pieces of more pages find no place
 pub record StopsRefused (old new : Standing) (pid pages : ℕ) (stop : Stop) : Type 0 where
-  pub more : data_pages_of old.kernel pid < pages
+  pub more : process_data_pages old.kernel pid < pages
   pub few : pages ≤ data_limit
   pub none : is_ok (pieces_found old pid pages) ≡ false
   pub stops : StopsBefore (with_refusal old pid) new stop
@@ -136,16 +136,16 @@ pub record StopsOnceSettled (old new : Standing) (sid : ℕ) (holds : Option (Li
 
 -- with fewer pages: while the space settles, or so
 pub record StopsCutting (old new : Standing) (pid pages : ℕ) (holds : Option (List NamedFile)) (before after : Option (List ℕ)) (stop : Stop) : Type 0 where
-  pub fewer : pages < data_pages_of old.kernel pid
+  pub fewer : pages < process_data_pages old.kernel pid
   pub stops : StopsSettling (space_held old.kernel pid) old new holds before after stop
       ⊎ StopsOnceSettled old new (space_held old.kernel pid) holds before after stop
 
 -- a break stops with no call of a device, or as it cuts the data
-abbrev pub StopsMoving : Standing → Standing → ℕ → ℕ → Option (List NamedFile) → Option (List ℕ) → Option (List ℕ) → Stop → Type 0
-StopsMoving old new pid pages holds before after stop =
+abbrev pub StopsBreaking : Standing → Standing → ℕ → ℕ → Option (List NamedFile) → Option (List ℕ) → Option (List ℕ) → Stop → Type 0
+StopsBreaking old new pid pages holds before after stop =
     (StopsPlain old new pid pages stop × (after ≡ before)) ⊎ StopsCutting old new pid pages holds before after stop
 
 -- by what the argument reads as
 abbrev pub StopsBreak : Standing → Standing → ℕ → Result ℕ Refused → Option (List NamedFile) → Option (List ℕ) → Option (List ℕ) → Stop → Type 0
-StopsBreak old new pid (Ok address) holds before after stop = StopsMoving old new pid (pages_to old.kernel pid address) holds before after stop
+StopsBreak old new pid (Ok address) holds before after stop = StopsBreaking old new pid (pages_to old.kernel pid address) holds before after stop
 StopsBreak old new pid (Err refused) holds before after stop = StopsReading old new refused stop × (after ≡ before)

@@ -7,7 +7,7 @@ use Rattle.vm_facts.specs.declared.stop.Stop.{Stop}
 use Rattle.user_vax.specs.Program.{run}
 use Rattle.user_vax.specs.declared.refused.Refused.{Refused}
 use Rattle.aout_image.specs.declared.Image.{Image}
-use Rattle.aout_image.specs.Image.{text_pages_of, data_pages_of}
+use Rattle.aout_image.specs.Image.{text_pages_of, image_data_pages}
 use Rattle.swap_book.specs.declared.Owner.TheVariants as owners
 use Rattle.swap_book.specs.Holdings.{Holdings}
 use Rattle.swap_book.specs.Placing.{Wanted, place_all}
@@ -61,7 +61,7 @@ is_shared p image = nat_lt 0 (sharers p image)
 abbrev pub three_wants : ℕ → ℕ → Image → List Want
 three_wants sid image facts =
     record { owner = owners.Text image; blocks = 2 * text_pages_of facts }
-    ∷ record { owner = owners.Data sid; blocks = 2 * data_pages_of facts }
+    ∷ record { owner = owners.Data sid; blocks = 2 * image_data_pages facts }
     ∷ record { owner = owners.Stack sid; blocks = 2 } ∷ []
 
 -- this is what the image of this number wants in the next space

@@ -24,25 +24,25 @@ abbrev pub is_ended_child : ℕ → Proc → Bool
 is_ended_child pid q = q.parent == pid && is_ended q.life
 
 -- the status with which a process ended; 0 where it hasn't
-abbrev pub status_of : Life → ℕ
-status_of New = 0
-status_of (HoldsSpace sid) = 0
-status_of (LendsSpace sid child) = 0
-status_of (Ended status) = status
+abbrev pub exit_status : Life → ℕ
+exit_status New = 0
+exit_status (HoldsSpace sid) = 0
+exit_status (LendsSpace sid child) = 0
+exit_status (Ended status) = status
 
 -- of the first child, and the first that has ended: the processes stand by rising pid
-abbrev pub wait_by : Option Proc → Option Proc → Regs → Reply
-wait_by None ended regs = Fails no_children
-wait_by (Some child) None regs = Waits
-wait_by (Some child) (Some z) regs = Does (replied_both regs z.pid (status_of z.life)) (Reap z.pid)
+abbrev pub wait_by_records : Option Proc → Option Proc → Regs → Reply
+wait_by_records None ended regs = Fails no_children
+wait_by_records (Some child) None regs = Waits
+wait_by_records (Some child) (Some z) regs = Does (replied_both regs z.pid (exit_status z.life)) (Reap z.pid)
 
 -- what a wait of this process replies among these
 abbrev pub wait_among : List Proc → ℕ → Regs → Reply
-wait_among ps pid regs = wait_by (find (is_child pid) ps) (find (is_ended_child pid) ps) regs
+wait_among ps pid regs = wait_by_records (find (is_child pid) ps) (find (is_ended_child pid) ps) regs
 
 -- what a wait of this process replies
-abbrev pub wait_reply : Kernel → ℕ → Regs → Reply
-wait_reply k pid regs = wait_among k.processes pid regs
+abbrev pub wait_answer : Kernel → ℕ → Regs → Reply
+wait_answer k pid regs = wait_among k.processes pid regs
 
 -- What a process waits for, by the records of the processes.
 

@@ -20,9 +20,9 @@ IsWrite Waits = ⊥
 IsWrite (Exits status) = ⊥
 
 -- what a write reads gives a reply of a write, or is refused
-abbrev pub MayWrite : Result Reply Refused → Type 0
-MayWrite (Ok reply) = IsWrite reply
-MayWrite (Err refused) = Unit {0}
+abbrev pub IsWriteReply : Result Reply Refused → Type 0
+IsWriteReply (Ok reply) = IsWrite reply
+IsWriteReply (Err refused) = Unit {0}
 
 -- The write stops before the bytes that go out, or after them, before the call's own entry. The journal was full only where
 -- it was at its bound there.

@@ -8,7 +8,7 @@ ghost use Rattle.machine_state.specs.Going.{CanGoOn};
 ghost use Rattle.machine_state.specs.Conditions.{HasStopped};
 ghost use Rattle.proc_calls.specs.Answered.{Replied};
 ghost use Rattle.proc_calls.specs.Callers.{parent_of, IsCaller};
-ghost use Rattle.proc_calls.specs.Waiting.{wait_reply, FoundAmong};
+ghost use Rattle.proc_calls.specs.Waiting.{wait_answer, FoundAmong};
 
 use crate::replying::{Called, fail, process, replied_both, reply};
 use flat_model::{ECHILD, SystemCall};
@@ -51,7 +51,7 @@ fn children_of(processes: &ProcTable, parent: u32) -> Children
 /// The process waits for the end of a child.
 pub fn wait(m: &mut Machine, pid: u32, regs: &Regs) -> Result<Called, Stop>
     requires calls { IsCaller m.old pid }
-    ensures replied { IfOk result (Replied m.old m.new pid Wait regs.now (wait_reply m.old.kernel pid regs.now)) }
+    ensures replied { IfOk result (Replied m.old m.new pid Wait regs.now (wait_answer m.old.kernel pid regs.now)) }
     ensures stop { OnErr result (HasStopped m.old m.new) }
     ensures cause { OnErr result ((result ≡ Err Stop.JournalFull) ⊎ (result ≡ Err Stop.NoMemory)) }
     ensures full { (result ≡ Err Stop.JournalFull) ↔ (m.old.params.journal ≤ length m.old.kernel.journal) }

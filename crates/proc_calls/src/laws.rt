@@ -9,7 +9,7 @@ ghost use Rattle.flat_model.specs.declared.calls.SystemCall.TheVariants.{Break};
 ghost use Rattle.page_model.specs.Pages.{numbered};
 ghost use Rattle.kernel_model.specs.Kernel.{Kernel};
 ghost use Rattle.kernel_model.specs.Sound.{TextFits};
-ghost use Rattle.kernel_model.specs.Coupled.{SameTables, text_of};
+ghost use Rattle.kernel_model.specs.Coupled.{SameTables, image_text};
 ghost use Rattle.proc_calls.specs.Callers.{space_held};
 ghost use Rattle.proc_calls.specs.Sizing.{break_read};
 
@@ -18,6 +18,6 @@ ghost use Rattle.proc_calls.specs.Sizing.{break_read};
 pub fn break_is_flat()
     ensures { (images : List NamedImage) (k : Kernel) (flat : FlatState) (p : Process) (x : Space) (pid : ℕ) (regs : Regs) (memory : Answers)
         → SameTables k flat → TextFits images k.place → space_held k pid ≡ x.sid
-        → numbered (λ s. s.sid) x.sid (spaces_of flat) ≡ Some x → x.text_bytes ≡ text_of (image_numbered images x.image)
+        → numbered (λ s. s.sid) x.sid (spaces_of flat) ≡ Some x → x.text_bytes ≡ image_text (image_numbered images x.image)
         → run memory (reply_of images flat p x Break regs) ≡ break_read k pid regs (run memory (argument regs 1)) }
 {}

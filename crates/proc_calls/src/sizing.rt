@@ -17,7 +17,7 @@ ghost use Rattle.machine_state.specs.UserMemory.{CanLend, kernel_answers};
 ghost use Rattle.machine_state.specs.Outside.{stop_of, TransfersPages};
 ghost use Rattle.proc_calls.specs.Answered.{Replied, StopsEntering};
 ghost use Rattle.proc_calls.specs.Callers.{space_held, IsCaller};
-ghost use Rattle.proc_calls.specs.Sizing.{data_pages_of, stack_pages_of, pages_to, Grows, CutData, MovesEnd, BreakComes, StopsPlain, StopsCutting, StopsMoving, StopsBreak};
+ghost use Rattle.proc_calls.specs.Sizing.{process_data_pages, process_stack_pages, pages_to, Grows, CutData, MovesEnd, BreakComes, StopsPlain, StopsCutting, StopsBreaking, StopsBreak};
 
 use crate::replying::{Called, fail, process, refuse, replied_one, reply};
 use flat_model::{Asked, DATA_LIMIT, ENOMEM, SystemCall, argument};
@@ -60,8 +60,8 @@ fn sizes_to(m: &Machine, pid: u32, address: u32) -> Sizes
     requires running { IsRunning m.now }
     requires lends { CanLend m.now.kernel pid }
     ensures named { result.sid ≡ space_held m.now.kernel pid }
-    ensures holds { result.data_pages ≡ data_pages_of m.now.kernel pid }
-    ensures stack { result.stack_pages ≡ stack_pages_of m.now.kernel pid }
+    ensures holds { result.data_pages ≡ process_data_pages m.now.kernel pid }
+    ensures stack { result.stack_pages ≡ process_stack_pages m.now.kernel pid }
     ensures wanted { result.wanted ≡ pages_to m.now.kernel pid address }
     ensures few { result.stack_pages ≤ 512 }
 {
@@ -95,10 +95,10 @@ fn resize(m: &mut Machine, pid: u32, regs: &Regs, sizes: Sizes) -> Result<Called
 fn grow(m: &mut Machine, pid: u32, regs: &Regs, sizes: Sizes) -> Result<Called, Stop>
     requires calls { IsCaller m.old pid }
     requires named { sizes.sid ≡ space_held m.old.kernel pid }
-    requires stack { sizes.stack_pages ≡ stack_pages_of m.old.kernel pid }
+    requires stack { sizes.stack_pages ≡ process_stack_pages m.old.kernel pid }
     requires few { sizes.stack_pages ≤ 512 }
     requires most { sizes.wanted ≤ data_limit }
-    requires more { data_pages_of m.old.kernel pid < sizes.wanted }
+    requires more { process_data_pages m.old.kernel pid < sizes.wanted }
     ensures grows { IfOk result (Grows m.old m.new pid regs.now sizes.wanted) }
     ensures stops { IfErr result (StopsPlain m.old m.new pid sizes.wanted) }
     ensures goes_on { OnOk result (CanGoOn m.new) }
@@ -127,10 +127,10 @@ fn cut<F: Files, D: SwapDev>(
     requires area { m.old.params.swap_blocks ≤ D.blocks swap.old }
     requires files { AreFiles m.old.images (F.holds files.old) }
     requires named { sizes.sid ≡ space_held m.old.kernel pid }
-    requires stack { sizes.stack_pages ≡ stack_pages_of m.old.kernel pid }
+    requires stack { sizes.stack_pages ≡ process_stack_pages m.old.kernel pid }
     requires few { sizes.stack_pages ≤ 512 }
     requires most { sizes.wanted ≤ data_limit }
-    requires fewer { sizes.wanted < data_pages_of m.old.kernel pid }
+    requires fewer { sizes.wanted < process_data_pages m.old.kernel pid }
     ensures cut { IfOk result (CutData m.old m.new pid regs.now sizes.wanted (F.holds files.old) (D.image swap.old) (D.image swap.new)) }
     ensures stops { IfErr result (StopsCutting m.old m.new pid sizes.wanted (F.holds files.old) (D.image swap.old) (D.image swap.new)) }
     ensures outside { TransfersPages F.Files D.SwapDev (stop_of result) files.old files.new swap.old swap.new }
@@ -164,7 +164,7 @@ fn move_end<F: Files, D: SwapDev>(
     requires files { AreFiles m.old.images (F.holds files.old) }
     ensures moves { IfOk result
         (MovesEnd m.old m.new pid regs.now (pages_to m.old.kernel pid address) (F.holds files.old) (D.image swap.old) (D.image swap.new)) }
-    ensures stops { IfErr result (StopsMoving m.old m.new pid (pages_to m.old.kernel pid address) (F.holds files.old) (D.image swap.old) (D.image swap.new)) }
+    ensures stops { IfErr result (StopsBreaking m.old m.new pid (pages_to m.old.kernel pid address) (F.holds files.old) (D.image swap.old) (D.image swap.new)) }
     ensures outside { TransfersPages F.Files D.SwapDev (stop_of result) files.old files.new swap.old swap.new }
     ensures goes_on { OnOk result (CanGoOn m.new) }
 {

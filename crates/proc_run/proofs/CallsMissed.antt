@@ -20,7 +20,7 @@ use Rattle.steady_laws.specs.Leaving.{ExitComes}
 use Rattle.steady_laws.specs.Reading.{AreNamed}
 use Rattle.steady_laws.specs.Sizing.{BreakComes, MovesEnd, break_at, pages_to, with_pieces, with_refusal}
 use Rattle.steady_laws.specs.Starting.{ExecComes}
-use Rattle.steady_laws.specs.Waiting.{wait_reply}
+use Rattle.steady_laws.specs.Waiting.{wait_answer}
 use Rattle.proc_run.specs.Calls.{own_answers, CallComes}
 
 -- Only a call whose read misses answers so.
@@ -86,4 +86,4 @@ module _ (old new : Standing) (pid : ℕ) (regs : Regs) (address : ℕ) where
     call_missed known named system_calls.Getpid h = absurd (replied old new pid regs address system_calls.Getpid (Does (replied_both regs pid (parent_of old.kernel pid)) Keep) h.0)
     call_missed known named system_calls.Execve h = exec_missed (run (own_answers old pid) (execve_reply known regs)) (h known named)
     call_missed known named system_calls.Vfork h = let e = h.0 in absurd cc
-    call_missed known named system_calls.Wait h = absurd (replied old new pid regs address system_calls.Wait (wait_reply old.kernel pid regs) h.0)
+    call_missed known named system_calls.Wait h = absurd (replied old new pid regs address system_calls.Wait (wait_answer old.kernel pid regs) h.0)

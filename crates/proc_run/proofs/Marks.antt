@@ -13,12 +13,12 @@ use Rattle.kernel_model.specs.Kernel.{Kernel, Proc}
 use Rattle.kernel_model.specs.Unit.{proc_of}
 use Rattle.run_model.specs.declared.mark.Mark.{Mark}
 use Rattle.run_model.specs.declared.mark.Mark.TheVariants as marks
-use Rattle.run_model.specs.Kinds.{Runs as Goes, GoesOn}
+use Rattle.run_model.specs.Kinds.{ProcessRuns as Goes, GoesOn}
 use Rattle.run_model.specs.Next.{goes_on, turn_instructions, turn_unit, under, work, when}
 use Rattle.run_model.specs.State.{State}
 use Rattle.touched_pages.specs.Serving.{At}
 use Rattle.touched_pages.specs.RunUnitsTouching.{IsRunning}
-use Rattle.proc_run.specs.Choosing.{holds_space, steps_by, may_run}
+use Rattle.proc_run.specs.Choosing.{is_space_holder, steps_by, may_run}
 use Rattle.proc_run.specs.Running.{AsksRun}
 use Rattle.proc_run.proofs.Ready.{ready_one}
 
@@ -26,7 +26,7 @@ use Rattle.proc_run.proofs.Ready.{ready_one}
 
 abbrev steps_outline : Option Outline → Bool
 steps_outline None = false
-steps_outline (Some o) = holds_space o.life && not o.asleep
+steps_outline (Some o) = is_space_holder o.life && not o.asleep
 
 kept_steps : (n : ℕ) (ps : List Proc)
     → steps_by (numbered (λ (p : Proc). p.pid) n ps) ≡ steps_outline (find (λ (o : Outline). o.pid == n) (map outline_kept ps))

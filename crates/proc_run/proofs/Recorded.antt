@@ -8,12 +8,12 @@ use Rattle.page_model.specs.Swapper.{is_out}
 use Rattle.kernel_model.specs.Kernel.{Kernel, Proc}
 use Rattle.kernel_model.specs.Unit.{proc_of}
 use Rattle.machine_state.specs.Alike.{AreRecords}
-use Rattle.machine_state.specs.Machine.{proc_shown, life_shown, proc_of as shown_of, processes_of, residents_of}
+use Rattle.machine_state.specs.Machine.{proc_shown, life_shown, proc_of_record as shown_of, processes_of, residents_of}
 use Rattle.machine_state.proofs.Listed.{process_is}
 use Rattle.machine_state.proofs.Records.{found_pid}
 use Rattle.steady_laws.proofs.Numbers.{placed}
 use Rattle.steady_laws.specs.Callers.{regs_by, regs_of}
-use Rattle.proc_run.specs.Choosing.{holds_space, can_step, steps_by, may_run}
+use Rattle.proc_run.specs.Choosing.{is_space_holder, can_run, steps_by, may_run}
 
 module _ (k : Kernel) (ps : List Record) (pid : ℕ) (procs : k.processes ≡ processes_of ps k.next_pid) (residents : k.place.residents ≡ residents_of ps k.next_pid)
     (known : AreRecords ps k.next_pid) where
@@ -28,7 +28,7 @@ module _ (k : Kernel) (ps : List Record) (pid : ℕ) (procs : k.processes ≡ pr
   record_regs p e = sym (ap regs_by (process ∙ ap shown_of e))
 
   -- where it holds a space, it is out where its record says so
-  held_out : (p : Record) (l : RecordLife) → find pid ps ≡ Some p → p.state ≡ l → holds_space (life_shown l) ≡ true → p.out ≡ is_out k.place pid
+  held_out : (p : Record) (l : RecordLife) → find pid ps ≡ Some p → p.state ≡ l → is_space_holder (life_shown l) ≡ true → p.out ≡ is_out k.place pid
   held_out p lives.New e s h = absurd cc
   held_out p (lives.Holds sid) e s h =
       let b = known.known pid p e in
@@ -36,9 +36,9 @@ module _ (k : Kernel) (ps : List Record) (pid : ℕ) (procs : k.processes ≡ pr
   held_out p (lives.Lends sid child) e s h = absurd cc
   held_out p (lives.Zombie status) e s h = absurd cc
 
-  pub record_runs : (p : Record) → find pid ps ≡ Some p → may_run k pid ≡ (can_step (proc_shown p) && not p.out)
-  record_runs p e = ap (λ (o : Option Proc). steps_by o && not (is_out k.place pid)) (process ∙ ap shown_of e) ∙ go (holds_space (life_shown p.state)) refl
+  pub record_runs : (p : Record) → find pid ps ≡ Some p → may_run k pid ≡ (can_run (proc_shown p) && not p.out)
+  record_runs p e = ap (λ (o : Option Proc). steps_by o && not (is_out k.place pid)) (process ∙ ap shown_of e) ∙ go (is_space_holder (life_shown p.state)) refl
     where
-      go : (b : Bool) → holds_space (life_shown p.state) ≡ b → (can_step (proc_shown p) && not (is_out k.place pid)) ≡ (can_step (proc_shown p) && not p.out)
-      go true h = ap (λ (o : Bool). can_step (proc_shown p) && not o) (sym (held_out p p.state e refl h))
+      go : (b : Bool) → is_space_holder (life_shown p.state) ≡ b → (can_run (proc_shown p) && not (is_out k.place pid)) ≡ (can_run (proc_shown p) && not p.out)
+      go true h = ap (λ (o : Bool). can_run (proc_shown p) && not o) (sym (held_out p p.state e refl h))
       go false h = ap (λ (b : Bool). (b && not p.asleep) && not (is_out k.place pid)) h ∙ sym (ap (λ (b : Bool). (b && not p.asleep) && not p.out) h)

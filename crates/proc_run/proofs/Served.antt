@@ -27,7 +27,7 @@ use Rattle.run_model.proofs.Wanting.{split_before, all_before}
 use Rattle.touched_pages.proofs.Units.{leads_at}
 use Rattle.step_units.specs.Machines.{MachineAt, RunsOn}
 use Rattle.step_units.specs.Stepped.{StepLeads, MarkEnds, StopLeads}
-use Rattle.step_units.specs.Running.{Waits, EndsRefused, ServeLeads}
+use Rattle.step_units.specs.Running.{WaitsForPage, EndsUngrown, ServeLeads}
 use Rattle.step_units.proofs.Accessing.{serve_made, serve_now_made, access_stops}
 use Rattle.step_units.proofs.Entering.{leads_then, stopped_short, stops_then}
 use Rattle.step_units.proofs.Ending.{ended, end_stops}
@@ -54,7 +54,7 @@ brought_on (Ok answer) old new pid address write holds i j c h = access_now_cont
 -- In a run.
 
 module _ (A : Inputs) (s : State) (old mid : Standing) (holds : Option (List NamedFile)) (i j : Option (List ℕ)) (image : List ℕ) (pid : ℕ) (now : Bool) (p : Process) (x : Space)
-    (address : ℕ) (write : Bool) (before : List Page) (r : RunsAt A s old holds i image pid now p x) (w : Waits A s old p x address write before) where
+    (address : ℕ) (write : Bool) (before : List Page) (r : RunsAt A s old holds i image pid now p x) (w : WaitsForPage A s old p x address write before) where
   kept : locked A s ≡ before
   kept = elim w [
     | inl y ↦ (
@@ -66,7 +66,8 @@ module _ (A : Inputs) (s : State) (old mid : Standing) (holds : Option (List Nam
 -- by whether it is served by waiting
 pub served_leads : (now : Bool) (A : Inputs) (s : State) (old mid : Standing) (holds : Option (List NamedFile)) (i j : Option (List ℕ)) (image : List ℕ)
     (pid : ℕ) (p : Process) (x : Space)
-    (address : ℕ) (write : Bool) (before : List Page) (answer : Served) → RunsAt A s old holds i image pid now p x → Waits A s old p x address write before
+    (address : ℕ) (write : Bool) (before : List Page) (answer : Served) → RunsAt A s old holds i image pid now p x
+    → WaitsForPage A s old p x address write before
     → ServedBy now old mid pid address write holds i j answer → ServeLeads A s old mid holds image j pid now p x answer
 served_leads true A s old mid holds i j image pid p x address write before answer r w h =
     let same = h.kept A s image p x r ∙ kept A s old mid holds i j image pid true p x address write before r w in
@@ -78,7 +79,7 @@ served_leads false A s old mid holds i j image pid p x address write before answ
 
 pub served_stops : (now : Bool) (A : Inputs) (s : State) (old new : Standing) (holds : Option (List NamedFile)) (i j : Option (List ℕ)) (image : List ℕ)
     (pid : ℕ) (p : Process) (x : Space)
-    (address : ℕ) (write : Bool) (before : List Page) (stop : Stop) → RunsAt A s old holds i image pid now p x → Waits A s old p x address write before
+    (address : ℕ) (write : Bool) (before : List Page) (stop : Stop) → RunsAt A s old holds i image pid now p x → WaitsForPage A s old p x address write before
     → StopsServed now old new pid address write holds i j stop → StopLeads A s old.kernel image stop new j
 served_stops true A s old new holds i j image pid p x address write before stop r w h = elim h [
   | inl o ↦ subst (λ (z : Option (List ℕ)). StopLeads A s old.kernel image stop new z) (sym (o.image ∙ r.told)) (stopped_short A s old new image stop o.stopped o.cause o.whole)
@@ -95,7 +96,7 @@ served_stops false A s old new holds i j image pid p x address write before stop
 -- The process ends after the entry that says that its stack finds no place.
 
 module _ (A : Inputs) (s : State) (old mid : Standing) (holds : Option (List NamedFile)) (told : Option (List ℕ)) (image : List ℕ) (pid : ℕ) (now : Bool) (p : Process) (x : Space)
-    (on : RunsOn A s old holds image pid now p x) (params : mid.params ≡ old.params) (images : mid.images ≡ old.images) (e : EndsRefused A s old mid holds image pid now p x)
+    (on : RunsOn A s old holds image pid now p x) (params : mid.params ≡ old.params) (images : mid.images ≡ old.images) (e : EndsUngrown A s old mid holds image pid now p x)
     (t : told ≡ Some image) where
   at_refusal : MachineAt A e.state mid holds image
   at_refusal = record {
@@ -147,7 +148,7 @@ ends_there false old new pid address write holds i j answer e h c =
 pub advances_valid : (now : Bool) (A : Inputs) (s : State) (old mid : Standing) (holds : Option (List NamedFile)) (i j : Option (List ℕ)) (image : List ℕ)
     (pid : ℕ) (p : Process) (x : Space)
     (address : ℕ) (write : Bool) (before : List Page) (answer : Served) → answer ≡ served.Valid → RunsAt A s old holds i image pid now p x
-    → Waits A s old p x address write before
+    → WaitsForPage A s old p x address write before
     → ServedBy now old mid pid address write holds i j answer → AdvancesTo A s old.kernel image advances.Served mid.kernel j
 advances_valid now A s old mid holds i j image pid p x address write before answer e r w h =
     let m = subst (ServeLeads A s old mid holds image j pid now p x) e (served_leads now A s old mid holds i j image pid p x address write before answer r w h) in
@@ -161,7 +162,7 @@ IsStuck _ = ⊥
 pub advances_stuck : (now : Bool) (A : Inputs) (s : State) (old mid : Standing) (holds : Option (List NamedFile)) (i j : Option (List ℕ)) (image : List ℕ)
     (pid : ℕ) (p : Process) (x : Space)
     (address : ℕ) (write : Bool) (before : List Page) (answer : Served) → IsStuck answer → RunsAt A s old holds i image pid now p x
-    → Waits A s old p x address write before
+    → WaitsForPage A s old p x address write before
     → ServedBy now old mid pid address write holds i j answer → AdvancesTo A s old.kernel image advances.Stuck mid.kernel j
 advances_stuck now A s old mid holds i j image pid p x address write before answer e r w h = go answer e (served_leads now A s old mid holds i j image pid p x address write before answer r w h)
   where
@@ -193,7 +194,7 @@ pub advances_ended : (now : Bool) (A : Inputs) (s : State) (old mid new : Standi
     (image : List ℕ) (pid : ℕ) (p : Process) (x : Space)
     (address : ℕ) (write : Bool) (before : List Page) (answer : Served) (status : ℕ) → EndsBy answer status → Continues old mid 0
     → RunsAt A s old holds i image pid now p x
-    → Waits A s old p x address write before → ServedBy now old mid pid address write holds i told answer → HasEnded mid new pid status holds told j
+    → WaitsForPage A s old p x address write before → ServedBy now old mid pid address write holds i told answer → HasEnded mid new pid status holds told j
     → StepLeads A s old.kernel image 1 new.kernel j
 advances_ended now A s old mid new holds i told j image pid p x address write before answer status e c r w h d =
     go answer e (served_leads now A s old mid holds i told image pid p x address write before answer r w h)
@@ -208,7 +209,7 @@ pub stops_ended : (now : Bool) (A : Inputs) (s : State) (old mid new : Standing)
     (pid : ℕ) (p : Process) (x : Space)
     (address : ℕ) (write : Bool) (before : List Page) (answer : Served) (status : ℕ) (stop : Stop) → EndsBy answer status → Continues old mid 0
     → RunsAt A s old holds i image pid now p x
-    → Waits A s old p x address write before → ServedBy now old mid pid address write holds i told answer → StopsAlive mid new pid holds told j stop
+    → WaitsForPage A s old p x address write before → ServedBy now old mid pid address write holds i told answer → StopsAlive mid new pid holds told j stop
     → StopLeads A s old.kernel image stop new j
 stops_ended now A s old mid new holds i told j image pid p x address write before answer status stop e c r w h d =
     go answer e (served_leads now A s old mid holds i told image pid p x address write before answer r w h)

@@ -31,7 +31,7 @@ use Rattle.step_units.specs.Lines.{IsClear}
 use Rattle.steady_laws.specs.Ready.{Continues}
 use Rattle.steady_laws.proofs.Running.{continues_self, continues_both}
 use Rattle.proc_run.specs.declared.advancing.Advance.TheVariants as advances
-use Rattle.proc_run.specs.Choosing.{holds_space, steps_by, may_run}
+use Rattle.proc_run.specs.Choosing.{is_space_holder, steps_by, may_run}
 use Rattle.proc_run.specs.Runs.{IsSteady, RunsAt, Advances, StopsAdvancing}
 use Rattle.proc_run.specs.Stretch.{RanOne, RanOn}
 use Rattle.proc_run.specs.Running.{AsksRun, UnderMark, RunLeads, Runs, StopsRunning}
@@ -220,7 +220,7 @@ lends_there m pid s r =
     in_by true e = absurd cc
     in_by false e = refl
 
-    life_by : (life : Life) → holds_space life ≡ true → (sid : ℕ) × (life ≡ HoldsSpace sid)
+    life_by : (life : Life) → is_space_holder life ≡ true → (sid : ℕ) × (life ≡ HoldsSpace sid)
     life_by New e = absurd cc
     life_by (HoldsSpace sid) e = (sid, refl)
     life_by (LendsSpace sid child) e = absurd cc
@@ -229,7 +229,7 @@ lends_there m pid s r =
     holds_by : (o : Option Proc) → proc_of m.kernel pid ≡ o → steps_by o ≡ true → (sid : ℕ) × (life_in m.kernel pid ≡ HoldsSpace sid)
     holds_by None e t = absurd cc
     holds_by (Some p) e t =
-        let h = life_by p.life (and_parts (holds_space p.life) (not p.asleep) t).0 in
+        let h = life_by p.life (and_parts (is_space_holder p.life) (not p.asleep) t).0 in
         (h.0, ap life_of_proc e ∙ h.1)
 
 -- Instructions that were counted one after another.

@@ -40,7 +40,7 @@ use Rattle.touched_pages.proofs.Instructing.{hit_ready, miss_wanted}
 use Rattle.touched_pages.proofs.Stepping.{step_known, none_asked}
 use Rattle.touched_pages.proofs.Units.{none_leads}
 use Rattle.step_units.specs.Machines.{MakesCall}
-use Rattle.step_units.specs.Running.{Waits}
+use Rattle.step_units.specs.Running.{WaitsForPage}
 use Rattle.step_units.specs.Stepped.{StepLeads, StopLeads, StopsBy}
 use Rattle.step_units.proofs.Begun.{begins, none_lost}
 use Rattle.step_units.proofs.Ending.{ended, end_stops}
@@ -72,7 +72,7 @@ module _ (A : Inputs) (s : State) (m : Standing) (holds : Option (List NamedFile
   -- Pages that it waits for.
 
   pub waits_missed : (address : ℕ) (write : Bool) → run (own_answers m pid) (instruction before) ≡ Err (Miss address write)
-      → (qs : List Page) × Waits A s m p x address write qs
+      → (qs : List Page) × WaitsForPage A s m p x address write qs
   waits_missed address write e =
       let w = miss_wanted A s m.kernel image pid now p x address write r.on.machine.at r.on.running (sym own ∙ e) in
       (w.before, inl (w, refl))
@@ -80,7 +80,7 @@ module _ (A : Inputs) (s : State) (m : Standing) (holds : Option (List NamedFile
   ready : (y : Result Effect Refused) → run (own_answers m pid) (instruction before) ≡ y → IsWhole y → IsReadyFor A s p x y
   ready y e w = subst (IsReadyFor A s p x) (sym own ∙ e) (hit_ready A s m.kernel image pid now p x r.on.machine.at r.on.running (subst IsWhole (sym (sym own ∙ e)) w))
 
-  pub waits_below : (address : ℕ) → run (own_answers m pid) (instruction before) ≡ Err (Below address) → (qs : List Page) × Waits A s m p x address false qs
+  pub waits_below : (address : ℕ) → run (own_answers m pid) (instruction before) ≡ Err (Below address) → (qs : List Page) × WaitsForPage A s m p x address false qs
   waits_below address e =
       (touched_next A s, inr (sym own ∙ e, refl, refl, wanted_none A s r.on.running.runs.clear (ready (Err (Below address)) e tt).unwanted))
 

@@ -34,8 +34,8 @@ use Rattle.machine_state.proofs.Further.{more_at_last, some_last}
 use Rattle.machine_state.proofs.Joins.{last_is, runs_kind}
 use Rattle.steady_laws.specs.Callers.{space_held, regs_of, regs_by}
 use Rattle.proc_run.specs.Calls.{own_answers}
-use Rattle.proc_run.specs.Choosing.{can_step, steps_by, may_run}
-use Rattle.proc_run.specs.Stretch.{GoesOn, Stretch, StretchOf, RanOne, RanOn}
+use Rattle.proc_run.specs.Choosing.{can_run, steps_by, may_run}
+use Rattle.proc_run.specs.Stretch.{CarriesOn, Stretch, StretchOf, RanOne, RanOn}
 use Rattle.proc_run.proofs.Attempts.{no_room, writes_none}
 use Rattle.proc_run.proofs.Tried.{ran_advances, ran_goes_on}
 use Rattle.proc_run.proofs.Written.{writes_same}
@@ -116,7 +116,7 @@ still f pid regs h p = go (p.pid == pid)
 
 steps_mapped : (pid : ℕ) (regs : Regs) (o : Option Proc) → steps_by (mapped (with_regs pid regs) o) ≡ steps_by o
 steps_mapped pid regs None = refl
-steps_mapped pid regs (Some p) = still can_step pid regs (λ q. refl) p
+steps_mapped pid regs (Some p) = still can_run pid regs (λ q. refl) p
 
 life_mapped : (pid : ℕ) (regs : Regs) (o : Option Proc) → life_of_proc (mapped (with_regs pid regs) o) ≡ life_of_proc o
 life_mapped pid regs None = refl
@@ -234,7 +234,7 @@ module _ (old : Standing) (pid : ℕ) (regs : Regs) (clear : old.kernel.place.du
 
   -- the machine after an instruction more
   module _ (n : ℕ) (ws : List ByteWrite) (mid after : Regs) (is : IsAt n mid) (none_due : (at n ws mid).kernel.place.due ≡ []) (each : AreWritten old.kernel sid ws)
-      (goes : GoesOn (written (kernel_answers old.kernel sid) ws) mid after)
+      (goes : CarriesOn (written (kernel_answers old.kernel sid) ws) mid after)
       (more : AreWritten (after_writes ws) sid (writes_of (run (written (kernel_answers old.kernel sid) ws) (instruction mid)))) where
     abbrev outcome : Result Effect Refused
     outcome = run (written (kernel_answers old.kernel sid) ws) (instruction mid)

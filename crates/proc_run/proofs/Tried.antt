@@ -26,7 +26,7 @@ use Rattle.steady_laws.proofs.Stopping.{held_here}
 use Rattle.steady_laws.specs.Callers.{space_held, regs_of}
 use Rattle.steady_laws.specs.Leaving.{HasEnded, StopsAlive}
 use Rattle.run_model.specs.State.{State}
-use Rattle.step_units.specs.Running.{Waits}
+use Rattle.step_units.specs.Running.{WaitsForPage}
 use Rattle.step_units.specs.Stepped.{StopLeads}
 use Rattle.steady_laws.specs.Ready.{Continues}
 use Rattle.steady_laws.proofs.Running.{continues_from}
@@ -115,10 +115,10 @@ module _ (old at last : Standing) (pid : ℕ) (now : Bool) (holds : Option (List
       ⊎ ((answer_of (run (own_answers at pid) (instruction before)) ≡ steps.Below address) × (write ≡ false))
 
   module _ (address : ℕ) (write : Bool) (e : Misses address write) (A : Inputs) (s : State) (image : List ℕ) (p : Process) (x : Space) (r : RunsAt A s at holds i image pid now p x) where
-    waits : (qs : List Page) × Waits A s at p x address write qs
+    waits : (qs : List Page) × WaitsForPage A s at p x address write qs
     waits = let here = room_regs old at pid before o same in elim e [
       | inl m ↦ waits_missed A s at holds i image pid now p x before r here address write (missed (run (own_answers at pid) (instruction before)) address write m)
-      | inr b ↦ subst (λ (w : Bool). (qs : List Page) × Waits A s at p x address w qs) (sym b.1)
+      | inr b ↦ subst (λ (w : Bool). (qs : List Page) × WaitsForPage A s at p x address w qs) (sym b.1)
           (waits_below A s at holds i image pid now p x before r here address (fell (run (own_answers at pid) (instruction before)) address b.0))
     ]
 

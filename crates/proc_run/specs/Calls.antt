@@ -26,7 +26,7 @@ use Rattle.steady_laws.specs.Making.{Vforked, StopsMaking}
 use Rattle.steady_laws.specs.Reading.{AreNamed}
 use Rattle.steady_laws.specs.Sizing.{BreakComes, StopsBreak}
 use Rattle.steady_laws.specs.Starting.{ExecComes, StopsExec}
-use Rattle.steady_laws.specs.Waiting.{wait_reply}
+use Rattle.steady_laws.specs.Waiting.{wait_answer}
 use Rattle.steady_laws.specs.Writing.{StopsOut}
 
 -- what a process reads of its space, over the frames
@@ -50,7 +50,7 @@ CallComes system_calls.Getpid old new pid regs holds i j called =
 CallComes system_calls.Execve old new pid regs holds i j called =
     (known : List NamedImage) → AreNamed known old.images → ExecComes old new pid regs (run (own_answers old pid) (execve_reply known regs)) holds i j called
 CallComes system_calls.Vfork old new pid regs holds i j called = (called ≡ calls.Ready) × Vforked old new pid regs × (j ≡ i)
-CallComes system_calls.Wait old new pid regs holds i j called = Replied old new pid system_calls.Wait regs (wait_reply old.kernel pid regs) called × (j ≡ i)
+CallComes system_calls.Wait old new pid regs holds i j called = Replied old new pid system_calls.Wait regs (wait_answer old.kernel pid regs) called × (j ≡ i)
 
 -- where the run stops in a call, by which one it is
 abbrev pub CallStops : SystemCall → Standing → Standing → ℕ → Regs → Option (List NamedFile) → Option (List ℕ) → Option (List ℕ) → Stop → Type 0

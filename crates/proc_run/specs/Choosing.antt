@@ -10,35 +10,35 @@ use Rattle.proc_table.specs.Records.{find as find_record}
 use Rattle.machine_state.specs.Machine.{proc_shown}
 
 -- what a process has is a space in which it can run
-abbrev pub holds_space : Life → Bool
-holds_space New = false
-holds_space (HoldsSpace sid) = true
-holds_space (LendsSpace sid child) = false
-holds_space (Ended status) = false
+abbrev pub is_space_holder : Life → Bool
+is_space_holder New = false
+is_space_holder (HoldsSpace sid) = true
+is_space_holder (LendsSpace sid child) = false
+is_space_holder (Ended status) = false
 
 -- it holds a space and doesn't sleep
-abbrev pub can_step : Proc → Bool
-can_step p = holds_space p.life && not p.asleep
+abbrev pub can_run : Proc → Bool
+can_run p = is_space_holder p.life && not p.asleep
 
 -- the number of a process, if there is one
-abbrev pub pid_if : Option Proc → Option ℕ
-pid_if None = None
-pid_if (Some p) = Some p.pid
+abbrev pub pid_of_record : Option Proc → Option ℕ
+pid_of_record None = None
+pid_of_record (Some p) = Some p.pid
 
 -- the first process above this one that can step: the processes stand by rising pid
-abbrev pub next_ready : Kernel → ℕ → Option ℕ
-next_ready k above = pid_if (find (λ p. can_step p && nat_lt above p.pid) k.processes)
+abbrev pub next_runner : Kernel → ℕ → Option ℕ
+next_runner k above = pid_of_record (find (λ p. can_run p && nat_lt above p.pid) k.processes)
 
 -- the process of the next turn: the lowest above the last turn's that can step, or else the lowest that can step
-abbrev pub next_turned : Kernel → ℕ → Option ℕ
-next_turned k last = or_else (next_ready k last) (next_ready k 0)
+abbrev pub turn_after : Kernel → ℕ → Option ℕ
+turn_after k last = or_else (next_runner k last) (next_runner k 0)
 
 -- The process that runs.
 
 -- a process that is there, and can step
 abbrev pub steps_by : Option Proc → Bool
 steps_by None = false
-steps_by (Some p) = can_step p
+steps_by (Some p) = can_run p
 
 -- the process is there, can step, and is in
 abbrev pub may_run : Kernel → ℕ → Bool
@@ -48,13 +48,13 @@ may_run k pid = steps_by (proc_of k pid) && not (is_out k.place pid)
 
 -- none of the records with these numbers can step
 abbrev pub NoneReady : (ℕ → Type 0) → List Record → Type 0
-NoneReady P ps = (n : ℕ) (p : Record) → P n → find_record n ps ≡ Some p → can_step (proc_shown p) ≡ false
+NoneReady P ps = (n : ℕ) (p : Record) → P n → find_record n ps ≡ Some p → can_run (proc_shown p) ≡ false
 
 -- the record of this number is there, and its process can step
 pub record IsReadyRecord (ps : List Record) (n : ℕ) : Type 0 where
   pub there : Record
   pub found : find_record n ps ≡ Some there
-  pub ready : can_step (proc_shown there) ≡ true
+  pub ready : can_run (proc_shown there) ≡ true
 
 -- the lowest number above this one whose record can step, or none
 abbrev pub FoundReady : List Record → ℕ → Option ℕ → Type 0

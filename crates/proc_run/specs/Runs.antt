@@ -14,7 +14,7 @@ use Rattle.run_model.specs.State.{State}
 use Rattle.run_model.specs.Wanted.{locked}
 use Rattle.step_units.specs.Machines.{RunsOn}
 use Rattle.step_units.specs.Stepped.{StepLeads, MarkEnds, StopLeads}
-use Rattle.step_units.specs.Running.{Waits}
+use Rattle.step_units.specs.Running.{WaitsForPage}
 use Rattle.proc_run.specs.declared.advancing.Patience.{Patience}
 use Rattle.proc_run.specs.declared.advancing.Patience.TheVariants as patience
 use Rattle.proc_run.specs.declared.advancing.Advance.{Advance}
@@ -64,14 +64,14 @@ StopsAdvancing old new pid now holds i j stop =
 abbrev pub AdvancesWaiting : Standing → Standing → ℕ → Bool → ℕ → Bool → Option (List NamedFile) → Option (List ℕ) → Option (List ℕ) → Advance → Type 0
 AdvancesWaiting old new pid now address write holds i j advance =
     (A : Inputs) (s : State) (image : List ℕ) (p : Process) (x : Space) (before : List Page) → RunsAt A s old holds i image pid now p x
-    → Waits A s old p x address write before
+    → WaitsForPage A s old p x address write before
     → AdvancesTo A s old.kernel image advance new.kernel j
 
 -- and where it stops as it waits so
 abbrev pub StopsWaiting : Standing → Standing → ℕ → Bool → ℕ → Bool → Option (List NamedFile) → Option (List ℕ) → Option (List ℕ) → Stop → Type 0
 StopsWaiting old new pid now address write holds i j stop =
     (A : Inputs) (s : State) (image : List ℕ) (p : Process) (x : Space) (before : List Page) → RunsAt A s old holds i image pid now p x
-    → Waits A s old p x address write before
+    → WaitsForPage A s old p x address write before
     → StopLeads A s old.kernel image stop new j
 
 -- the instructions that it counts

@@ -21,20 +21,20 @@ Leaves _ old new = new ≡ old
 -- Over a memory.
 
 -- the instruction of these registers is carried out, makes no call, and leaves those
-pub record GoesOn (memory : Answers) (before after : Regs) : Type 0 where
+pub record CarriesOn (memory : Answers) (before after : Regs) : Type 0 where
   pub done : answer_of (run memory (instruction before)) ≡ steps.Done
   pub left : after ≡ registers_after before (run memory (instruction before))
 
 -- it does, and what it wrote is so; or nothing changed, where nothing written is so
 abbrev pub GoesOr : Bool → Answers → Regs → Regs → (List ByteWrite → Type 0) → Type 0
-GoesOr true memory before after Wrote = GoesOn memory before after × Wrote (writes_of (run memory (instruction before)))
+GoesOr true memory before after Wrote = CarriesOn memory before after × Wrote (writes_of (run memory (instruction before)))
 GoesOr false memory before after Wrote = (after ≡ before) × Wrote []
 
 -- so many instructions from these registers on wrote these bytes, and left those registers
 abbrev pub Stretch : Answers → Regs → ℕ → List ByteWrite → Regs → Type 0
 Stretch memory before zero writes after = (writes ≡ []) × (after ≡ before)
 Stretch memory before (suc count) writes after =
-    (earlier : List ByteWrite) × (mid : Regs) × Stretch memory before count earlier mid × GoesOn (written memory earlier) mid after
+    (earlier : List ByteWrite) × (mid : Regs) × Stretch memory before count earlier mid × CarriesOn (written memory earlier) mid after
     × (writes ≡ earlier ++ writes_of (run (written memory earlier) (instruction mid)))
 
 -- and what they wrote is so

@@ -3,7 +3,7 @@ ghost use Rattle.std.specs.Prelude.{◌≡◌, true, false, Some, None, IfSome};
 ghost use Rattle.machine_state.specs.Going.{IsRunning};
 ghost use Rattle.machine_state.specs.Machine.{proc_shown};
 ghost use Rattle.steady_laws.specs.Callers.{regs_of};
-ghost use Rattle.proc_run.specs.Choosing.{can_step, may_run, next_turned, next_ready, FoundReady};
+ghost use Rattle.proc_run.specs.Choosing.{can_run, may_run, turn_after, next_runner, FoundReady};
 
 use machine_state::Machine;
 use proc_table::{Life, Proc, ProcTable};
@@ -11,7 +11,7 @@ use vm_facts::Regs;
 
 /// Whether a process holds a space and doesn't sleep.
 pub fn can_step(process: &Proc) -> bool
-    ensures { result ≡ can_step (proc_shown process.now) }
+    ensures { result ≡ can_run (proc_shown process.now) }
 {
     matches!(process.state, Life::Holds(_)) && !process.asleep
 }
@@ -34,7 +34,7 @@ fn ready_above(processes: &ProcTable, above: u32) -> Option<u32>
 // The lowest process of a machine above this one that can step.
 fn next_ready(m: &Machine, above: u32) -> Option<u32>
     requires { IsRunning m.now }
-    ensures { result ≡ next_ready m.now.kernel above }
+    ensures { result ≡ next_runner m.now.kernel above }
 {
     ready_above(m.processes(), above)
 }
@@ -42,7 +42,7 @@ fn next_ready(m: &Machine, above: u32) -> Option<u32>
 /// The process of the next turn, after a turn of this one; 0 stands for none. None comes where no process can step.
 pub fn next_turned(m: &Machine, last: u32) -> Option<u32>
     requires { IsRunning m.now }
-    ensures { result ≡ next_turned m.now.kernel last }
+    ensures { result ≡ turn_after m.now.kernel last }
 {
     match next_ready(m, last) {
         Some(pid) => Some(pid),

@@ -5,7 +5,7 @@ use Rattle.std.proofs.lemmas.List.Sums.{sum_by-set}
 use Rattle.slab.specs.Slab.{Slab, get, slab_len, ContainsKey, with_value, Updates}
 use Rattle.slab.proofs.SlabLemmas.{ContainsKey-within}
 use Rattle.proc_table.specs.declared.process.Proc.{Proc}
-use Rattle.proc_table.specs.Records.{find, Changes, IsTable}
+use Rattle.proc_table.specs.Records.{find, Changes, IsProcTable}
 use Rattle.proc_table.specs.Fields.{records_of, HasPid, AreKeysApart, IsSound}
 use Rattle.proc_table.proofs.FindLemmas.{found_or_not}
 use Rattle.proc_table.proofs.SlotLemmas.{none_some, some_same, length-records_of, ArePidsApart-from_slots, stands, stands_not, found, found_not}
@@ -110,7 +110,7 @@ slab_len-with_value s key pid p held =
     let was : one (get s key) ≡ 1 = ap one held.there in
     omega (arith, was, sum_by-set one s.slots key (Some p) None (ContainsKey-within s key (ContainsKey-held s key pid held)))
 
-pub IsTable-from_sound : (s : Slab Proc) → IsSound s → IsTable (records_of s.slots)
+pub IsTable-from_sound : (s : Slab Proc) → IsSound s → IsProcTable (records_of s.slots)
 IsTable-from_sound s sound = record {
   few = let few = sound.few in omega (arith, few, length-records_of s.slots);
   apart = ArePidsApart-from_slots s.slots sound.apart;

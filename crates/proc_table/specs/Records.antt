@@ -15,7 +15,7 @@ ArePidsApart [] = Unit {0}
 ArePidsApart (p ∷ ps) = (find p.pid ps ≡ None) × ArePidsApart ps
 
 -- what holds of every table
-pub record IsTable (ps : List Proc) : Type 0 where
+pub record IsProcTable (ps : List Proc) : Type 0 where
   pub few : length ps ≤ 64
   pub apart : ArePidsApart ps
 

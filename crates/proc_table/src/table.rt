@@ -2,7 +2,7 @@
 
 ghost use Rattle.std.specs.Prelude.{◌≡◌, ◌≢◌, ℕ, ◌+◌, ◌<◌, [], length, Some, None, is_some, IsSome, IsTrue, false, IfOk, IfSome, IfNone, OnSome, option_copied};
 ghost use Rattle.slab.specs.Slab.{get as slot_at};
-ghost use Rattle.proc_table.specs.Records.{find, answer_of, Adds, Changes, Lowest, IsTable};
+ghost use Rattle.proc_table.specs.Records.{find, answer_of, Adds, Changes, Lowest, IsProcTable};
 ghost use Rattle.proc_table.specs.Fields.{HasPid, lower_of};
 ghost use Rattle.proc_table.specs.declared.process.Proc.{Proc as Record};
 
@@ -80,7 +80,7 @@ impl ProcTable {
     /// The record with this pid; None exactly where there is none.
     pub fn get(&self, pid: u32) -> Option<&Proc>
         ensures value { option_copied result ≡ find pid self.now }
-        ensures sound { IsTable self.now }
+        ensures sound { IsProcTable self.now }
     {
         let key = key_near(&self.records, self.near, pid)?;
         self.records.get(key)
@@ -104,7 +104,7 @@ impl ProcTable {
         ensures records { IsTrue result → Changes self.old self.new p.pid (Some p) }
         ensures absent { result ≡ false → self.new ≡ self.old }
         ensures count { length self.new ≡ length self.old }
-        ensures sound { IsTable self.new }
+        ensures sound { IsProcTable self.new }
     {
         let Some(key) = key_near(&self.records, self.near, p.pid) else {
             return false;

@@ -6,7 +6,7 @@ use Rattle.std.proofs.lemmas.Bool.{lt-ltb}
 use Rattle.std.proofs.lemmas.List.Elements.{All-head, All-tail}
 use Rattle.std.proofs.lemmas.Slice.Eq.{bytes_eq-Decides}
 use Rattle.io_edge.specs.FileHolding.{NamedFile, place_of, bytes_at}
-use Rattle.aout_image.specs.Image.{Loaded, image_of}
+use Rattle.aout_image.specs.Image.{Loaded, judged_image}
 use Rattle.flat_state.specs.Flat.{NamedImage}
 use Rattle.run_files.specs.ImageWords.{name_in, distinct, image_names}
 use Rattle.replay_check.specs.Images.{FlatFile, IsImageFile, named_as, images_of}
@@ -108,10 +108,10 @@ bytes_there [] image more = refl
 bytes_there (d ∷ done) image more = bytes_there done image more
 
 found_one : (done : List FlatFile) (image : FlatFile) (more : List FlatFile) → AllDiffer (names_of (done ++ image ∷ more))
-    → image_found (map file_of (done ++ image ∷ more)) image.name ≡ named_image image.name (image_of image.bytes)
+    → image_found (map file_of (done ++ image ∷ more)) image.name ≡ named_image image.name (judged_image image.bytes)
 found_one done image more all =
     let files = map file_of (done ++ image ∷ more) in
-    ap (image_found_at files image.name) (found_place done image more all) ∙ ap (λ (bytes : List ℕ). named_image image.name (image_of bytes)) (bytes_there done image more)
+    ap (image_found_at files image.name) (found_place done image more all) ∙ ap (λ (bytes : List ℕ). named_image image.name (judged_image bytes)) (bytes_there done image more)
 
 -- all of them are found
 
@@ -133,8 +133,8 @@ found_from done (image ∷ more) all good =
     = subst (λ (xs : List FlatFile). images_found (map file_of xs) (names_of more) ≡ Ok (images_of more)) is
     (found_from (done ++ image ∷ []) more (subst (λ (xs : List FlatFile). AllDiffer (names_of xs)) (sym is) all) (All-tail IsImageFile image more good)) in
     ap (λ (r : Result NamedImage Why). before r (images_found (map file_of (done ++ image ∷ more)) (names_of more))) (found_one done image more all)
-    ∙ ap (before (named_image image.name (image_of image.bytes))) rest
-    ∙ one_before image.name (image_of image.bytes) (images_of more) (All-head IsImageFile image more good).image
+    ∙ ap (before (named_image image.name (judged_image image.bytes))) rest
+    ∙ one_before image.name (judged_image image.bytes) (images_of more) (All-head IsImageFile image more good).image
 
 pub all_found : (images : List FlatFile) → AllDiffer (names_of images) → All IsImageFile images
     → images_found (map file_of images) (names_of images) ≡ Ok (images_of images)

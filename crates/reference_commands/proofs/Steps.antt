@@ -13,7 +13,7 @@ use Rattle.flat_state.specs.Journal.{append}
 use Rattle.run_model.specs.State.{State}
 use Rattle.run_model.specs.Next.{next_unit}
 use Rattle.film_core.specs.Films.{Filming, FilmAt, IsFilming, FilmBegun, BeginsFilm, OneMore, FilmGoes}
-use Rattle.owner_lines.specs.Owners.{word_if, owners_of}
+use Rattle.owner_lines.specs.Owners.{word_if, owners_lines}
 use Rattle.command_words.specs.declared.command.FilmSteps.{FilmSteps}
 use Rattle.reference_commands.specs.Answering.{IsEnd, has_step, step_numbers, step_line, TellsStep, TellSteps, SaysFilm}
 use Rattle.reference_commands.specs.Filmed.{IsAskable, step_text, Filmed}
@@ -40,7 +40,7 @@ end_there A s f holds i image entries at within reached = ends_by A s f.machine.
 step_told : (A : Inputs) (s : State) (f : Filming) (holds : Option (List NamedFile)) (i : Option (List ℕ)) (image : List ℕ) → FilmAt A s f holds i image
     → TellsStep A (length f.machine.kernel.journal) (step_text f)
 step_told A s f holds i image at = record {
-  owners = owners_of f.machine f.over;
+  owners = owners_lines f.machine f.over;
   says = record {
     journal = f.machine.kernel.journal;
     state = s;

@@ -8,7 +8,7 @@ use Rattle.machine_state.specs.Machine.{Standing}
 use Rattle.run_model.specs.State.{State}
 use Rattle.vm_core.specs.RunEnds.{IsAskedOf}
 use Rattle.film_core.specs.Films.{Filming, FilmAt}
-use Rattle.owner_lines.specs.Owners.{owners_of}
+use Rattle.owner_lines.specs.Owners.{owners_lines}
 use Rattle.command_words.specs.declared.command.FilmSteps.{FilmSteps}
 use Rattle.reference_commands.specs.Answering.{step_numbers, step_line, TellSteps}
 
@@ -21,7 +21,7 @@ pub record IsAskable (m : Standing) (first : List ℕ) (lines : List Event) (hol
 
 -- the step of a film after the entries so far
 abbrev pub step_text : Filming → List ℕ
-step_text f = step_line f.machine.kernel.journal ++ owners_of f.machine f.over
+step_text f = step_line f.machine.kernel.journal ++ owners_lines f.machine f.over
 
 -- The film stands at a state of the run, and the text has its steps so far.
 pub record Filmed (A : Inputs) (steps : FilmSteps) (f : Filming) (holds : Option (List NamedFile)) (i : Option (List ℕ)) (text : List ℕ) : Type 0 where

@@ -9,7 +9,7 @@ ghost use Rattle.run_command.specs.RunEnds.{RunEnds};
 ghost use Rattle.replay_command.specs.Reading.{items_of};
 ghost use Rattle.command_ending.specs.Ending.{ending_of};
 ghost use Rattle.io_edge.specs.Octets.{AreOctetFiles};
-ghost use Rattle.owner_lines.specs.Owners.{owners_of};
+ghost use Rattle.owner_lines.specs.Owners.{owners_lines};
 ghost use Rattle.run_command.specs.Machines.{journal_entries};
 ghost use Rattle.reference_commands.specs.Answering.{blank_swap};
 ghost use Rattle.reference_commands.specs.InMemory.{file_of, inputs_with, AreOpened, IsRunnable, HasRun, RunsOn, EndsRun, EndsAnswer, AllDiffer};
@@ -57,7 +57,7 @@ fn references_at_end<'a>(
 // The lines of a machine that runs.
 pub(crate) fn lines_of(alloc: Global, machine: &Machine, over: bool) -> Result<Vec<u8>, NoMemory>
     requires running { IsRunning machine.now }
-    ensures { IfOk result (λ text. text.items ≡ owners_of machine.now over) }
+    ensures { IfOk result (λ text. text.items ≡ owners_lines machine.now over) }
 {
     let mut text = GrowingText::new(alloc);
     match write_owners(&mut text, machine, over) {

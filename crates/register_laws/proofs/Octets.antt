@@ -3,7 +3,7 @@ use Rattle.std.proofs.Common.{ℕ, zero, suc, ◌+◌, ◌-◌, ◌*◌, ◌<◌
 use Rattle.vm_facts.specs.Answers.{ByteWrite}
 use Rattle.flat_state.specs.declared.spot.Spot.{Spot}
 use Rattle.flat_state.specs.declared.spot.Spot.TheVariants as spots
-use Rattle.flat_state.specs.Space.{Space, address_in, put_at, put, puts}
+use Rattle.flat_state.specs.Space.{Space, address_in, put_at, put_in_space, puts}
 use Rattle.flat_state.specs.Flat.{strings_of, in_longwords, string_area, strings_at, pointers_from, argument_area, start_page}
 use Rattle.flat_state.specs.Change.{resized_bytes}
 use Rattle.aout_image.specs.Image.{word_bytes}
@@ -45,7 +45,7 @@ put_octets s _ byte b o = o
 
 pub puts_octets : (ws : List ByteWrite) (s : Space) → AreWritten ws → HasOctets s → HasOctets (puts s ws)
 puts_octets [] s w o = o
-puts_octets (x ∷ ws) s w o = puts_octets ws (put s x) w.1 (put_octets s (address_in s x.address) x.byte w.0 o)
+puts_octets (x ∷ ws) s w o = puts_octets ws (put_in_space s x) w.1 (put_octets s (address_in s x.address) x.byte w.0 o)
 
 -- The page on which arguments stand.
 

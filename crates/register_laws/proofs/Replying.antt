@@ -34,7 +34,7 @@ use Rattle.flat_model.specs.Calls.{stack_pages_of, data_limit, path_image, image
 use Rattle.flat_model.specs.Calls.{reply_of, or_fault, refused_reply, unless_refused, wants_space, string_limit, write_limit, process_limit, replied, call_of}
 use Rattle.flat_model.specs.Instruction.{instruction_in}
 use Rattle.flat_model.specs.Step.{step_of, step_behind, called_step, replied_step, step_holding, step_if, flat_step, written_process, reply_behind}
-use Rattle.register_laws.specs.Longwords.{HasOctets, HeldFits, AllFit, ImageFits, AllImages, ChangeFits, AreWritten, EffectFits, LeavesLongwords}
+use Rattle.register_laws.specs.Longwords.{HasOctets, HeldFits, ProcessesFit, ImageFits, AllImages, ChangeFits, AreWritten, EffectFits, LeavesLongwords}
 use Rattle.register_laws.proofs.Octets.{AreStrings, index_octets, puts_octets, start_page_octets}
 use Rattle.register_laws.proofs.Leaving.{AllLeave, leave_bind, number_small}
 use Rattle.register_laws.proofs.Decoding.{leaves_longwords}
@@ -203,7 +203,8 @@ status_small : (held : Holding) → HeldFits held → status_of held < 2 ^ 32
 status_small (Zombie status) k = k
 status_small _ k = omega arith
 
-wait_keeps : (F : FlatState) (pid : ℕ) (regs : Regs) → AllFit F.processes → AllBelow (2 ^ 32) (pids_of F) → AreRegs regs → ReplyKeeps (wait_reply F pid regs)
+wait_keeps : (F : FlatState) (pid : ℕ) (regs : Regs) → ProcessesFit F.processes → AllBelow (2 ^ 32) (pids_of F) → AreRegs regs
+    → ReplyKeeps (wait_reply F pid regs)
 wait_keeps F pid regs all low h = go (find (λ q. q.parent == pid) F.processes) (find (is_zombie_child pid) F.processes) refl
   where
     go : (child zombie : Option Process) → find (is_zombie_child pid) F.processes ≡ zombie → ReplyKeeps (wait_by child zombie regs)
@@ -219,7 +220,7 @@ wait_keeps F pid regs all low h = go (find (λ q. q.parent == pid) F.processes) 
 -- what the reply of a call may leave in registers is longwords
 pub record RepliesFit (images : List NamedImage) (F : FlatState) (p : Process) : Type 0 where
   pub every : AllImages images
-  pub regs : AllFit F.processes
+  pub regs : ProcessesFit F.processes
   pub numbers : AllBelow (2 ^ 32) (pids_of F)
   pub next : F.next_pid < 2 ^ 32
   pub own : p.pid < 2 ^ 32
@@ -297,7 +298,7 @@ fits_written images F p q ws w same above f = record {
 
 after_regs : (images : List NamedImage) (F : FlatState) (p : Process) (ws : List ByteWrite) (regs : Regs) (change : Change) → AreWritten ws
     → RepliesFit images F p → AreRegs regs → ChangeFits change
-    → AllFit (apply_change images (apply_writes F p.pid ws) p.pid regs change).processes
+    → ProcessesFit (apply_change images (apply_writes F p.pid ws) p.pid regs change).processes
 after_regs images F p ws regs change w f h fits = change_regs images (apply_writes F p.pid ws) p.pid regs change f.every h f.own fits (writes_regs F p.pid ws w f.regs)
 
 replied_are : (regs : Regs) (carry : Bool) (r0 : ℕ) → r0 < 2 ^ 32 → AreRegs regs → AreRegs (replied regs carry r0)
@@ -305,7 +306,7 @@ replied_are regs carry r0 small h = let r = regs_set regs 0 r0 small h in record
 
 replied_regs : (images : List NamedImage) (F : FlatState) (p : Process) (call : SystemCall) (effect : Effect) (reply : Reply) → RepliesFit images F p
     → AreRegs p.regs → EffectFits effect → ReplyKeeps reply
-    → AllFit (replied_step images F p call effect reply).after.processes
+    → ProcessesFit (replied_step images F p call effect reply).after.processes
 replied_regs images F p call effect (Fails error) f was h k = after_regs images F p effect.writes _ Keep h.1 f (replied_are effect.regs true error k h.0) tt
 replied_regs images F p call effect (Does regs change) f was h k = after_regs images F p effect.writes regs change h.1 f k.0 k.1
 replied_regs images F p call effect (Writes bytes) f was h k = after_regs images F p effect.writes _ Keep h.1 f (replied_are effect.regs false (length bytes) k h.0) tt
@@ -328,7 +329,7 @@ answers_small s o address byte e = go (address_in s address) e
 
 called_regs : (images : List NamedImage) (F : FlatState) (p : Process) (t : Space) (refused : Bool) (effect : Effect) (call : Option SystemCall)
     → HasOctets t → RepliesFit images F p → AreRegs p.regs → EffectFits effect
-    → AllFit (called_step images F p t refused effect call).after.processes
+    → ProcessesFit (called_step images F p t refused effect call).after.processes
 called_regs images F p t refused effect None o f was h = after_regs images F p effect.writes p.regs (End 12) h.1 f was (omega arith)
 called_regs images F p t refused effect (Some call) o f was h =
     replied_regs images F p call effect (reply_behind images F p t refused call effect) f was h
@@ -338,21 +339,21 @@ called_regs images F p t refused effect (Some call) o f was h =
 
 behind_regs : (images : List NamedImage) (F : FlatState) (p : Process) (t : Space) (refused : Bool) (effect : Effect) (number : Option ℤ)
     → HasOctets t → RepliesFit images F p → AreRegs p.regs → EffectFits effect
-    → AllFit (step_behind images F p t refused effect number).after.processes
+    → ProcessesFit (step_behind images F p t refused effect number).after.processes
 behind_regs images F p t refused effect None o f was h = after_regs images F p effect.writes effect.regs Keep h.1 f h.0 tt
 behind_regs images F p t refused effect (Some number) o f was h = called_regs images F p t refused effect (call_of number) o f was h
 
 of_regs : (images : List NamedImage) (F : FlatState) (p : Process) (t : Space) (refused : Bool) (result : Result Effect Refusal) → HasOctets t
     → RepliesFit images F p → AreRegs p.regs → LeavesLongwords result
-    → AllFit (step_of images F p t refused result).after.processes
+    → ProcessesFit (step_of images F p t refused result).after.processes
 of_regs images F p t refused (Ok effect) o f was h = behind_regs images F p t refused effect effect.call o f was h
 of_regs images F p t refused (Err (Miss a w)) o f was h = f.regs
 of_regs images F p t true (Err (Below a)) o f was h = after_regs images F p [] p.regs (End 11) tt f was (omega arith)
 of_regs images F p t false (Err (Below a)) o f was h = after_regs images F p [] p.regs _ tt f was tt
 of_regs images F p t refused (Err (Signal n)) o f was h = after_regs images F p [] p.regs (End n) tt f was h
 
-pub step_regs : (A : Inputs) (F : FlatState) (pid : ℕ) (refused : Bool) → AllImages A.images → IsNumbered F → F.next_pid < 2 ^ 32 → AllFit F.processes
-    → AllFit (flat_step A F pid refused).after.processes
+pub step_regs : (A : Inputs) (F : FlatState) (pid : ℕ) (refused : Bool) → AllImages A.images → IsNumbered F → F.next_pid < 2 ^ 32 → ProcessesFit F.processes
+    → ProcessesFit (flat_step A F pid refused).after.processes
 unfolding flat_step
 step_regs A F pid refused images own small h = go (process_of F pid) refl
   where
@@ -369,7 +370,7 @@ step_regs A F pid refused images own small h = go (process_of F pid) refl
           parent = omega (arith, low, under, small);
         }
 
-    by : (p : Process) → process_of F pid ≡ Some p → (held : Holding) → p.holding ≡ held → AllFit (step_holding A.images F p refused held).after.processes
+    by : (p : Process) → process_of F pid ≡ Some p → (held : Holding) → p.holding ≡ held → ProcessesFit (step_holding A.images F p refused held).after.processes
     by p e (Holds t) holds =
         let now = found_regs (λ q. q.pid == pid) F.processes p e h in
         let o : HasOctets t = subst HeldFits holds now.1 in
@@ -377,6 +378,6 @@ step_regs A F pid refused images own small h = go (process_of F pid) refl
     by p e (Lends sid child) holds = h
     by p e (Zombie status) holds = h
 
-    go : (o : Option Process) → process_of F pid ≡ o → AllFit (step_if A.images F refused o).after.processes
+    go : (o : Option Process) → process_of F pid ≡ o → ProcessesFit (step_if A.images F refused o).after.processes
     go None e = h
     go (Some p) e = by p e p.holding refl

@@ -22,12 +22,12 @@ use Rattle.flat_model.specs.declared.calls.SystemCall.{SystemCall}
 use Rattle.flat_model.specs.Calls.{replied, call_of}
 use Rattle.flat_model.specs.Instruction.{instruction_in}
 use Rattle.flat_model.specs.Step.{data_pages_of, pages_down_to, out_entries, call_entry, replied_step, reply_behind, called_step, step_behind, step_of, step_holding, step_if, flat_step}
-use Rattle.flat_model.specs.Run.{Point, is_refused, step_at, due, behind_first, due_at, first_if, act, behind, point_after, same_entry}
+use Rattle.flat_model.specs.Run.{Point, is_refused, step_at, due, behind_first, due_at, first_if, entry_of_step, behind, point_after, same_entry}
 use Rattle.flat_model.specs.Run.{same_as, process_of_entry, may_follow, where_so, flat_entry_of, flat_entry_if, flat_entry_by, flat_entry, flat_units, flat_run, start_point}
 use Rattle.flat_laws.proofs.Numbers.{step_numbered}
 use Rattle.flat_laws.proofs.Starts.{start_numbered}
 use Rattle.run_model.proofs.After.{count_of_units}
-use Rattle.register_laws.specs.Longwords.{AllFit, AllImages}
+use Rattle.register_laws.specs.Longwords.{ProcessesFit, AllImages}
 use Rattle.register_laws.proofs.Registers.{start_regs_are}
 use Rattle.register_laws.proofs.Replying.{next_written, step_regs}
 
@@ -43,7 +43,7 @@ of_so : (P : FlatState → Type 0) (A : Inputs) (point q : Point) (pid : ℕ) (e
     → ((n : ℕ) (refused : Bool) → P (flat_step A point.flat n refused).after) → flat_entry_of A point pid e ≡ Some q → P point.flat → P q.flat
 of_so P A point q pid (Refused p) step h k = where_is_so P (can_step point.flat pid) (record point { last = Some (Refused p) }) q h k
 of_so P A point q pid e step h k =
-    where_is_so P (same_as (act A point pid) e) (point_after A point pid) q h
+    where_is_so P (same_as (entry_of_step A point pid) e) (point_after A point pid) q h
     (behind_so P point (step_at A point pid).after (due_at A point pid) k (step pid (is_refused point.last pid)))
 
 if_so : (P : FlatState → Type 0) (b : Bool) (A : Inputs) (point q : Point) (pid : ℕ) (e : Entry)
@@ -227,7 +227,7 @@ entry_next A point q e h = entry_by A point q (process_of_entry e) e h
 -- Runs.
 
 abbrev Fits : FlatState → Type 0
-Fits F = IsNumbered F × AllFit F.processes
+Fits F = IsNumbered F × ProcessesFit F.processes
 
 units_fit : (A : Inputs) (us : List Entry) (point q : Point) → AllImages A.images → point.flat.next_pid + instructions_of us < 2 ^ 32
     → flat_units A (Some point) us ≡ Some q → Fits point.flat → Fits q.flat
@@ -243,5 +243,5 @@ units_fit A (u ∷ us) point q w l h k = go (λ next m. units_fit A us next q w 
         (entry_so Fits A point next u (λ pid refused. (step_numbered A point.flat pid refused k.0, step_regs A point.flat pid refused w k.0 (omega arith) k.1)) e k)
 
 pub run_fits : (A : Inputs) (journal : List Entry) (point : Point) → AllImages A.images → length A.first + 1 + instructions_of journal < 2 ^ 32
-    → flat_run A journal ≡ Some point → AllFit point.flat.processes
+    → flat_run A journal ≡ Some point → ProcessesFit point.flat.processes
 run_fits A journal point w l h = (units_fit A (units_of journal) (start_point A) point w (let a = count_of_units journal in omega arith) h (start_numbered A, start_regs_are A w)).1

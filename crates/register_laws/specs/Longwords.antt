@@ -28,9 +28,9 @@ abbrev pub ProcessFits : Process → Type 0
 ProcessFits q = AreRegs q.regs × HeldFits q.holding
 
 -- each of these processes has registers that are longwords, and what it holds fits
-abbrev pub AllFit : List Process → Type 0
-AllFit [] = Unit {0}
-AllFit (q ∷ qs) = ProcessFits q × AllFit qs
+abbrev pub ProcessesFit : List Process → Type 0
+ProcessesFit [] = Unit {0}
+ProcessesFit (q ∷ qs) = ProcessFits q × ProcessesFit qs
 
 -- an image starts at a longword, after its entry mask, and its name, text and data are bytes
 pub record ImageFits (named : NamedImage) : Type 0 where

@@ -9,7 +9,7 @@ use Rattle.vm_facts.specs.declared.entry.Entry.{Entry}
 use Rattle.vm_facts.specs.declared.entry.Entry.TheVariants as entries
 use Rattle.flat_state.specs.Journal.{units_of, units_with, repeated, instructions_of}
 use Rattle.flat_model.specs.Step.{flat_step}
-use Rattle.flat_model.specs.Run.{Point, is_refused, step_at, behind_first, due, due_at, first_if, act, behind, point_after, same_entry, same_as, may_follow, where_so, flat_entry_of, flat_entry_if, flat_entry, flat_units, flat_run, start_point}
+use Rattle.flat_model.specs.Run.{Point, is_refused, step_at, behind_first, due, due_at, first_if, entry_of_step, behind, point_after, same_entry, same_as, may_follow, where_so, flat_entry_of, flat_entry_if, flat_entry, flat_units, flat_run, start_point}
 use Rattle.flat_model.specs.Touched.{touched}
 use Rattle.flat_model.proofs.StepEnds.{IsStepEnd, Shape, Empty, One, Two, step_shape}
 use Rattle.flat_machine.specs.Machine.{state_if}
@@ -88,7 +88,7 @@ so_taken true point next h = (refl, cc)
 so_taken false point next h = absurd cc
 
 entry_taken : (A : Inputs) (point : Point) (pid : ℕ) (u : Entry) (next : Point) → IsStepEnd pid u → flat_entry A point u ≡ Some next
-    → (same_as (act A point pid) u ≡ true) × (next ≡ point_after A point pid)
+    → (same_as (entry_of_step A point pid) u ≡ true) × (next ≡ point_after A point pid)
 unfolding flat_entry
 entry_taken A point pid (entries.Ran p n) next ends h =
     so_taken _ _ next (if_taken _ A point pid (entries.Ran p n) next (subst (λ (q : ℕ). flat_entry_if (may_follow point.last (entries.Ran p n)) A point q (entries.Ran p n) ≡ Some next) ends h))

@@ -9,7 +9,7 @@ use Rattle.vm_facts.specs.declared.entry.Entry.{Entry}
 use Rattle.vm_facts.specs.declared.entry.Entry.TheVariants as entries
 use Rattle.flat_model.specs.declared.calls.SystemCall.{SystemCall}
 use Rattle.flat_model.specs.Step.{Step, flat_step, call_entry}
-use Rattle.flat_model.specs.Run.{Point, flat_entry, flat_entry_by, flat_entry_of, flat_entry_if, where_so, same_as, same_entry, act, first_if, due, due_at, is_refused, step_at, point_after, behind, may_follow, is_outcome_of, is_call_of, process_of_entry}
+use Rattle.flat_model.specs.Run.{Point, flat_entry, flat_entry_by, flat_entry_of, flat_entry_if, where_so, same_as, same_entry, entry_of_step, first_if, due, due_at, is_refused, step_at, point_after, behind, may_follow, is_outcome_of, is_call_of, process_of_entry}
 use Rattle.flat_machine.specs.declared.deed.Did.{Did}
 use Rattle.flat_machine.specs.declared.deed.Did.TheVariants as deeds
 use Rattle.replay_check.specs.declared.replaying.Last.{Last}
@@ -113,7 +113,7 @@ shut_at A F (lasts.Wrote q number regs) pid e point taken at outcome call = ap (
 -- an entry of a step of this process
 pub record IsOf (pid : ℕ) (e : Entry) : Type 0 where
   pub owner : process_of_entry e ≡ Some pid
-  pub made : (A : Inputs) (point : Point) → flat_entry_of A point pid e ≡ where_so (same_as (act A point pid) e) (point_after A point pid)
+  pub made : (A : Inputs) (point : Point) → flat_entry_of A point pid e ≡ where_so (same_as (entry_of_step A point pid) e) (point_after A point pid)
 
 pub followed : (A : Inputs) (point : Point) (pid : ℕ) (e : Entry) (may : Bool) → process_of_entry e ≡ Some pid → may_follow point.last e ≡ may
     → flat_entry A point e ≡ flat_entry_if may A point pid e
@@ -127,7 +127,7 @@ pub blocked : (A : Inputs) (point : Point) (G : FlatState) (new : Last) (pid : �
 blocked A point G new pid e owner follows = subst (λ (o : Option Point). IsVerdict A false G new o) (sym (followed A point pid e false owner follows)) tt
 
 made : (A : Inputs) (point : Point) (F : FlatState) (pid : ℕ) (refused : Bool) (e : Entry) → Opens F pid refused point
-    → where_so (same_as (act A point pid) e) (point_after A point pid)
+    → where_so (same_as (entry_of_step A point pid) e) (point_after A point pid)
     ≡ where_so (same_as (first_if (can_step F pid) (flat_step A F pid refused).entries) e)
     (behind point (flat_step A F pid refused).after (flat_step A F pid refused).entries)
 made A point F pid refused e opens =

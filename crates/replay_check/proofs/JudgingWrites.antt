@@ -8,7 +8,7 @@ use Rattle.vm_facts.specs.declared.entry.Entry.{Entry}
 use Rattle.vm_facts.specs.declared.entry.Entry.TheVariants as entries
 use Rattle.flat_model.specs.declared.calls.SystemCall.{SystemCall}
 use Rattle.flat_model.specs.Step.{Step, flat_step, call_entry}
-use Rattle.flat_model.specs.Run.{Point, flat_entry, where_so, same_as, same_entry, act, first_if, due, due_at, is_refused, step_at, point_after, behind, may_follow}
+use Rattle.flat_model.specs.Run.{Point, flat_entry, where_so, same_as, same_entry, entry_of_step, first_if, due, due_at, is_refused, step_at, point_after, behind, may_follow}
 use Rattle.flat_machine.specs.declared.deed.Did.{Did}
 use Rattle.flat_machine.specs.declared.deed.Did.TheVariants as deeds
 use Rattle.replay_check.specs.declared.replaying.Last.{Last}
@@ -73,7 +73,7 @@ wrote_busy A point F G last new pid bytes other at =
 
 -- the reply after bytes is the rest of their step
 replied : (A : Inputs) (point : Point) (F : FlatState) (pid : ℕ) (reply e : Entry) → IsWriting A F pid reply point
-    → where_so (same_as (act A point pid) e) (point_after A point pid) ≡ where_so (same_entry reply e) (record { flat = F; last = Some reply })
+    → where_so (same_as (entry_of_step A point pid) e) (point_after A point pid) ≡ where_so (same_entry reply e) (record { flat = F; last = Some reply })
 replied A point F pid reply e at =
     let step : step_at A point pid ≡ flat_step A point.flat pid false = ap (λ (o : Option Entry). flat_step A point.flat pid (is_refused o pid)) at.out in
     let rest : due_at A point pid ≡ reply ∷ [] =

@@ -12,7 +12,7 @@ use Rattle.vm_facts.proofs.Tests.{eq_self}
 use Rattle.flat_state.specs.Journal.{units_with, repeated, counted, instructions_of}
 use Rattle.flat_model.specs.declared.calls.SystemCall.{SystemCall}
 use Rattle.flat_model.specs.Step.{Step, flat_step, call_entry}
-use Rattle.flat_model.specs.Run.{Point, act, due, due_at, first_if, flat_entry, flat_units, is_outcome_of, is_refused, may_follow, process_of_entry, step_at}
+use Rattle.flat_model.specs.Run.{Point, entry_of_step, due, due_at, first_if, flat_entry, flat_units, is_outcome_of, is_refused, may_follow, process_of_entry, step_at}
 use Rattle.flat_machine.specs.declared.deed.Did.{Did}
 use Rattle.flat_machine.specs.declared.deed.Did.TheVariants as deeds
 use Rattle.replay_check.specs.declared.replaying.Last.{Last}
@@ -44,7 +44,7 @@ if_first true step = refl
 if_first false step = refl
 
 act_of : (A : Inputs) (point : Point) (F : FlatState) (pid : ℕ) (refused : Bool) (did : Did) → Opens F pid refused point
-    → entries_of pid did ≡ entries_if (can_step F pid) (flat_step A F pid refused) → act A point pid ≡ first_if true (entries_of pid did)
+    → entries_of pid did ≡ entries_if (can_step F pid) (flat_step A F pid refused) → entry_of_step A point pid ≡ first_if true (entries_of pid did)
 act_of A point F pid refused did opens es =
     let step : step_at A point pid ≡ flat_step A F pid refused =
     ap (λ (b : Bool). flat_step A point.flat pid b) opens.refuses ∙ ap (λ (G : FlatState). flat_step A G pid refused) opens.flat in
@@ -249,7 +249,7 @@ reply_next A point F pid call regs at =
     ap (λ (s : Step). due point.last pid s.entries) step ∙ ap (λ (xs : List Entry). due point.last pid xs) at.due
     ∙ ap (λ (o : Option Entry). due o pid (entries.Out pid at.bytes ∷ reply ∷ [])) at.out
     ∙ ap (λ (b : Bool). if b then reply ∷ [] else (entries.Out pid at.bytes ∷ reply ∷ [])) (eq_self pid) in
-    let next : act A point pid ≡ Some reply = ap (first_if (can_step point.flat pid)) rest ∙ ap (λ (c : Bool). first_if c (reply ∷ [])) at.can in
+    let next : entry_of_step A point pid ≡ Some reply = ap (first_if (can_step point.flat pid)) rest ∙ ap (λ (c : Bool). first_if c (reply ∷ [])) at.can in
     sym (ap (expected_by point pid) next ∙ ap (λ (o : Option Entry). comes_if (may_follow o reply) reply) at.out ∙ ap (λ (b : Bool). comes_if b reply) (eq_self pid))
 
 pub wrote_expected : (A : Inputs) (point : Point) (F : FlatState) (last : Last) (pid count : ℕ) (call : SystemCall) (regs : Regs)

@@ -4,7 +4,7 @@ use Rattle.flat_state.specs.Flat.{Process, Inputs, process_of}
 use Rattle.vm_facts.specs.declared.entry.Entry.{Entry}
 use Rattle.vm_facts.specs.declared.entry.Entry.TheVariants.{Ran, Out, Refused}
 use Rattle.flat_state.specs.Journal.{units_with, counted, instructions_of}
-use Rattle.flat_model.specs.Run.{Point, act, may_follow, is_outcome_of, process_of_entry, flat_units, flat_run}
+use Rattle.flat_model.specs.Run.{Point, entry_of_step, may_follow, is_outcome_of, process_of_entry, flat_units, flat_run}
 use Rattle.replay_check.specs.declared.expecting.Expected.{Expected}
 use Rattle.replay_check.specs.declared.expecting.Expected.TheVariants.{Comes, Unrefused, CannotStep, NoProcess, TooMany}
 use Rattle.replay_check.specs.declared.expecting.Misfit.{Misfit}
@@ -42,7 +42,7 @@ expected_by point pid None = missing pid (process_of point.flat pid)
 
 -- the next entry of a process's step, or why it has none
 abbrev pub expected_of : Inputs → Point → ℕ → Expected
-expected_of A point pid = expected_by point pid (act A point pid)
+expected_of A point pid = expected_by point pid (entry_of_step A point pid)
 
 -- whether an entry follows where the pieces of a process found no place or not
 abbrev pub follows_if : Bool → ℕ → Entry → Bool

@@ -14,7 +14,7 @@ use Rattle.command_ending.specs.Ending.{Ending}
 use Rattle.command_ending.specs.Named.{Why, AnswersNamed}
 use Rattle.command_ending.specs.Command.{Faults, NoFaults, OneFailed, Made}
 use Rattle.command_ending.proofs.Makings.{made_where, made_nothing}
-use Rattle.replay_command.specs.Reading.{Read, HasEntries, EndsTranscript, FaultsBy, images_told, read_told}
+use Rattle.replay_command.specs.Reading.{Read, HasEntries, EndsTranscript, FaultsBy, images_told, read_of_transcript}
 use Rattle.replay_command.specs.Command.{EndsVerdict, EndsReplay}
 
 abbrev whole : List ℕ → List NamedFile → Result (Option (List ℕ)) Unread
@@ -32,17 +32,17 @@ transcript_fault name words f _ read ends = absurd ends
 
 pub transcript_ends : (name : List ℕ) (words : List (List ℕ)) (holds : Option (List NamedFile)) (f : Faults) (fault : Fault)
     → Made {E = Result (List Entry) Fault} (EndsTranscript name) (whole name) holds f (Err fault)
-    → Made (EndsReplay name words) (read_told name words) holds f (Err fault)
+    → Made (EndsReplay name words) (read_of_transcript name words) holds f (Err fault)
 transcript_ends name words holds f fault made =
     made_where (λ (read : Read). EndsTranscript name read.transcript f (Err fault)) (EndsReplay name words) (record { transcript = made.read; images = Ok [] })
-    (read_told name words) holds f (Err fault)
+    (read_of_transcript name words) holds f (Err fault)
     made.ends (λ list told. subst (λ (read : Result (Option (List ℕ)) Unread). EndsTranscript name read f (Err fault)) (made.is_told list told) made.ends)
     (transcript_fault name words f fault)
 
 pub refused : (name : List ℕ) (words : List (List ℕ)) (holds : Option (List NamedFile)) (f : Faults)
-    → Made (EndsReplay name words) (read_told name words) holds f (Err faults.NoMemory)
+    → Made (EndsReplay name words) (read_of_transcript name words) holds f (Err faults.NoMemory)
 refused name words holds f =
-    made_nothing (EndsReplay name words) (record { transcript = Ok None; images = Ok [] }) (read_told name words) holds f (Err faults.NoMemory) (λ read. tt)
+    made_nothing (EndsReplay name words) (record { transcript = Ok None; images = Ok [] }) (read_of_transcript name words) holds f (Err faults.NoMemory) (λ read. tt)
 
 -- counts that stayed, and then rose or stayed
 none_before : (open_before open_between open_after page_before page_between page_after : ℕ)
@@ -68,9 +68,10 @@ record HasRead (entries : List Entry) (images : Result (List FlatFile) Why) (rea
 
 made_read : (name : List ℕ) (words : List (List ℕ)) (holds : Option (List NamedFile)) (f : Faults) (entries : List Entry) (images : Result (List FlatFile) Why)
     (ending : Ending) → Reads name words holds entries images
-    → ((read : Read) → HasRead entries images read → EndsReplay name words read f ending) → Made (EndsReplay name words) (read_told name words) holds f ending
+    → ((read : Read) → HasRead entries images read → EndsReplay name words read f ending)
+    → Made (EndsReplay name words) (read_of_transcript name words) holds f ending
 made_read name words holds f entries images ending reads ends =
-    made_where (HasRead entries images) (EndsReplay name words) (record { transcript = reads.read; images = images }) (read_told name words) holds f ending
+    made_where (HasRead entries images) (EndsReplay name words) (record { transcript = reads.read; images = images }) (read_of_transcript name words) holds f ending
     (record { has = reads.has; images_are = refl })
     (λ list told. record {
       has = subst (λ (read : Result (Option (List ℕ)) Unread). HasEntries read entries) (reads.transcript_told list told) reads.has;
@@ -86,7 +87,7 @@ pub images_end : (name : List ℕ) (words : List (List ℕ)) (holds : Option (Li
     → {A : Type 0} → (view : A → List FlatFile)
     → ((list : List NamedFile) → holds ≡ Some list → AnswersNamed view (images_told list (image_names words)) (Err fault))
     → FaultsBy {A = A} (Err fault) (record { open_before = open_between; open_after = open_after; page_before = page_between; page_after = page_after })
-    → Made (EndsReplay name words) (read_told name words) holds
+    → Made (EndsReplay name words) (read_of_transcript name words) holds
     (record { open_before = open_before; open_after = open_after; page_before = page_before; page_after = page_after }) (Err fault)
 images_end name words holds open_before open_between open_after page_before page_between page_after entries (faults.Absent absent) made view answers by =
     made_read name words holds _ entries (Err (absent.now, unreads.Absent)) (Err (faults.Absent absent))
@@ -97,7 +98,8 @@ images_end name words holds open_before open_between open_after page_before page
     (record { read = made.read; has = made.ends.1; transcript_told = made.is_told; images_are = answers })
     (λ read has. ((entries, has.has), has.images_are))
 images_end name words holds open_before open_between open_after page_before page_between page_after entries faults.FileFault made view answers by =
-    made_where (λ (read : Read). HasEntries read.transcript entries) (EndsReplay name words) (record { transcript = made.read; images = Ok [] }) (read_told name words) holds _ (Err faults.FileFault)
+    made_where (λ (read : Read). HasEntries read.transcript entries) (EndsReplay name words) (record { transcript = made.read; images = Ok [] })
+    (read_of_transcript name words) holds _ (Err faults.FileFault)
     made.ends.1 (λ list told. subst (λ (read : Result (Option (List ℕ)) Unread). HasEntries read entries) (made.is_told list told) made.ends.1)
     (λ read has. elim (none_before open_before open_between open_after page_before page_between page_after made.ends.0 by) [ inl first ↦ inl first | inr behind ↦ inr (behind, (entries, has)) ])
 images_end name words holds open_before open_between open_after page_before page_between page_after entries faults.NoMemory made view answers by = refused name words holds _
@@ -121,7 +123,7 @@ pub judged_ends : (name : List ℕ) (words : List (List ℕ)) (holds : Option (L
     → ((list : List NamedFile) → holds ≡ Some list → images_told list (image_names words) ≡ Ok images)
     → NoFaults (record { open_before = open_between; open_after = open_after; page_before = page_between; page_after = page_after })
     → EndsVerdict images (first_images (image_names words) words) entries ending
-    → Made (EndsReplay name words) (read_told name words) holds
+    → Made (EndsReplay name words) (read_of_transcript name words) holds
     (record { open_before = open_before; open_after = open_after; page_before = page_before; page_after = page_after }) ending
 judged_ends name words holds open_before open_between open_after page_before page_between page_after entries images ending made answers none verdict =
     made_read name words holds _ entries (Ok images) ending

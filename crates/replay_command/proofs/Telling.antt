@@ -14,7 +14,7 @@ use Rattle.command_ending.specs.declared.fault.Fault.{Fault}
 use Rattle.command_ending.specs.declared.fault.Fault.TheVariants as faults
 use Rattle.command_ending.specs.Command.{Faults}
 use Rattle.command_ending.specs.Named.{Why}
-use Rattle.replay_command.specs.Reading.{Read, EndsTranscript, FaultsBy, images_told, read_told}
+use Rattle.replay_command.specs.Reading.{Read, EndsTranscript, FaultsBy, images_told, read_of_transcript}
 use Rattle.replay_command.specs.Explaining.{explanation, Explained, IsUnjudged}
 
 pub told_some : (A : Inputs) (entries : List Entry) (r : Result (Option Misfit) NoMemory) (misfit : Misfit) (text : List ℕ)
@@ -30,7 +30,7 @@ told_none A entries r h e = subst (λ (s : Result (Option Misfit) NoMemory). IfO
 pub read_is : (name : List ℕ) (words : List (List ℕ)) (files : List NamedFile) (transcript : Result (Option (List ℕ)) Unread)
     (images : Result (List FlatFile) Why)
     → transcript ≡ whole_told files name 67108864 → images_told files (image_names words) ≡ images
-    → (let read : Read = record { transcript = transcript; images = images } in read) ≡ read_told name words files
+    → (let read : Read = record { transcript = transcript; images = images } in read) ≡ read_of_transcript name words files
 read_is name words files transcript images t i =
     ap (λ (x : Result (Option (List ℕ)) Unread). let read : Read = record { transcript = x; images = images } in read) t
     ∙ ap (λ (y : Result (List FlatFile) Why). let read : Read = record { transcript = whole_told files name 67108864; images = y } in read) (sym i)

@@ -11,7 +11,7 @@ use Rattle.command_ending.specs.declared.fault.Fault.TheVariants.{Absent, NotIma
 use Rattle.command_ending.specs.Ending.{Ending}
 use Rattle.command_ending.specs.Named.{Why}
 use Rattle.command_ending.specs.Command.{Faults, NoFaults, FailedBehind, Completes}
-use Rattle.replay_command.specs.Reading.{Read, HasEntries, HasBadLine, read_told}
+use Rattle.replay_command.specs.Reading.{Read, HasEntries, HasBadLine, read_of_transcript}
 
 -- the line of a run
 abbrev pub run_line : ℕ → List ℕ
@@ -69,4 +69,4 @@ EndsReplay name words read f (Err _) = ⊥
 -- replaying the transcript of this name over the images of these words
 abbrev pub Replays : List ℕ → List (List ℕ) → Option (List NamedFile) → Faults → Option (List ℕ) → Option (List ℕ) → ℕ → ℕ → ℕ → Type 0
 Replays name words holds f before after old_faults new_faults status =
-    Completes (EndsReplay name words) (read_told name words) holds f before after old_faults new_faults status
+    Completes (EndsReplay name words) (read_of_transcript name words) holds f before after old_faults new_faults status

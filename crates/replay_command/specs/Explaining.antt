@@ -13,7 +13,7 @@ use Rattle.replay_check.specs.declared.expecting.Misfit.{Misfit}
 use Rattle.command_ending.specs.declared.fault.Fault.{Fault}
 use Rattle.command_ending.specs.declared.fault.Fault.TheVariants.{NotFlatRun}
 use Rattle.command_ending.specs.Command.{Faults, Made}
-use Rattle.replay_command.specs.Reading.{Read, HasEntries, read_told}
+use Rattle.replay_command.specs.Reading.{Read, HasEntries, read_of_transcript}
 use Rattle.replay_command.specs.Command.{EndsReplay}
 
 -- a text, and then the line of an entry
@@ -44,7 +44,7 @@ Explained A entries (Some text) = (misfit : Misfit) × IsExplained A entries (So
 -- What is told of the transcript of this name over the images of these words, by what is read.
 pub record ExplainsTranscript (name : List ℕ) (words : List (List ℕ)) (holds : Option (List NamedFile)) (text : Option (List ℕ)) : Type 0 where
   pub read : Read
-  pub is_told : (files : List NamedFile) → holds ≡ Some files → read ≡ read_told name words files
+  pub is_told : (files : List NamedFile) → holds ≡ Some files → read ≡ read_of_transcript name words files
   pub entries : List Entry
   pub has : HasEntries read.transcript entries
   pub images : List FlatFile
@@ -58,4 +58,4 @@ IsUnjudged fault = Unit {0}
 
 -- no reason is told: a replay of this transcript over the images of these words ends by the same fault
 abbrev pub LacksTranscript : List ℕ → List (List ℕ) → Option (List NamedFile) → Faults → Fault → Type 0
-LacksTranscript name words holds f fault = Made (EndsReplay name words) (read_told name words) holds f (Err fault) × IsUnjudged fault
+LacksTranscript name words holds f fault = Made (EndsReplay name words) (read_of_transcript name words) holds f (Err fault) × IsUnjudged fault

@@ -85,5 +85,5 @@ abbrev pub transcript_bytes : ℕ
 transcript_bytes = 67108864
 
 -- what is read where the files are told, for a transcript's name and words of images
-abbrev pub read_told : List ℕ → List (List ℕ) → List NamedFile → Read
-read_told name words files = record { transcript = whole_told files name transcript_bytes; images = images_told files (image_names words) }
+abbrev pub read_of_transcript : List ℕ → List (List ℕ) → List NamedFile → Read
+read_of_transcript name words files = record { transcript = whole_told files name transcript_bytes; images = images_told files (image_names words) }

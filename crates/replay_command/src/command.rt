@@ -4,7 +4,7 @@ ghost use Rattle.run_files.specs.ImageWords.{name_in};
 ghost use Rattle.replay_check.specs.Images.{AreImageFiles, AreNumbers};
 ghost use Rattle.command_ending.specs.Ending.{ending_of};
 ghost use Rattle.command_ending.specs.Command.{Made};
-ghost use Rattle.replay_command.specs.Reading.{read_told};
+ghost use Rattle.replay_command.specs.Reading.{read_of_transcript};
 ghost use Rattle.replay_command.specs.Command.{run_line, EndsReplay, EndsVerdict, Replays};
 
 use crate::images::load_images;
@@ -60,7 +60,7 @@ fn line_from<'a, F: Files>(
     requires few { length words.now < 2 ^ 31 }
     requires names { All (λ word. length (name_in word.now) < 64) words.now }
     ensures made { Made (EndsReplay transcript.now (map (λ word. word.now) words.now))
-        (read_told transcript.now (map (λ word. word.now) words.now)) (F.holds files.old)
+        (read_of_transcript transcript.now (map (λ word. word.now) words.now)) (F.holds files.old)
         (record {
           open_before = F.open_faults files.old;
           open_after = F.open_faults files.new;

@@ -1,7 +1,7 @@
 -- A replay has the images that a run has of the same names.
 use Rattle.std.proofs.Common.{◌≡◌, ℕ, ◌≤◌, List, [], ◌∷◌, ◌++◌, take, Option, Some, None, Result, Ok, Err, refl, sym, ap, ◌∙◌, subst, arith}
 use Rattle.io_edge.specs.FileHolding.{NamedFile, place_of, bytes_at}
-use Rattle.aout_image.specs.Image.{Loaded, image_of, file_length_of}
+use Rattle.aout_image.specs.Image.{Loaded, judged_image, file_length_of}
 use Rattle.aout_image.proofs.Images.{image_of-take}
 use Rattle.flat_state.specs.Flat.{NamedImage}
 use Rattle.replay_check.specs.Images.{FlatFile, named_as, images_of}
@@ -10,18 +10,18 @@ use Rattle.command_ending.specs.Named.{Why, before}
 use Rattle.replay_command.specs.Reading.{flat_in, images_told}
 use Rattle.run_opening.specs.Images.{named_image, image_found_at, image_found, images_found}
 
-judged : (name bytes : List ℕ) (image : NamedImage) (r : Result Loaded ℕ) → image_of bytes ≡ r → named_image name r ≡ Ok image
-    → (file : FlatFile) × (flat_in name (image_in bytes r) ≡ Ok file) × (named_as file.name (image_of file.bytes) ≡ image ∷ [])
+judged : (name bytes : List ℕ) (image : NamedImage) (r : Result Loaded ℕ) → judged_image bytes ≡ r → named_image name r ≡ Ok image
+    → (file : FlatFile) × (flat_in name (image_in bytes r) ≡ Ok file) × (named_as file.name (judged_image file.bytes) ≡ image ∷ [])
 judged name bytes image (Err reason) e h = absurd cc
 judged name bytes image (Ok loaded) e h =
-    let whole : image_of (take (file_length_of loaded.facts) bytes) ≡ Ok loaded = image_of-take bytes (file_length_of loaded.facts) loaded e (omega arith) in
+    let whole : judged_image (take (file_length_of loaded.facts) bytes) ≡ Ok loaded = image_of-take bytes (file_length_of loaded.facts) loaded e (omega arith) in
     let same : (let n : NamedImage = record { name = name; image = loaded } in n) ≡ image = cc in
     (record { name = name; bytes = take (file_length_of loaded.facts) bytes }, refl, ap (named_as name) whole ∙ ap (λ (n : NamedImage). n ∷ []) same)
 
 found_at : (files : List NamedFile) (name : List ℕ) (image : NamedImage) (o : Option ℕ) → image_found_at files name o ≡ Ok image
-    → (file : FlatFile) × (flat_in name (image_told_at files o) ≡ Ok file) × (named_as file.name (image_of file.bytes) ≡ image ∷ [])
+    → (file : FlatFile) × (flat_in name (image_told_at files o) ≡ Ok file) × (named_as file.name (judged_image file.bytes) ≡ image ∷ [])
 found_at files name image None h = absurd cc
-found_at files name image (Some place) h = judged name (bytes_at files place) image (image_of (bytes_at files place)) refl h
+found_at files name image (Some place) h = judged name (bytes_at files place) image (judged_image (bytes_at files place)) refl h
 
 both : (files : List NamedFile) (name : List ℕ) (names : List (List ℕ)) (images : List NamedImage) (r : Result NamedImage Why)
     (rs : Result (List NamedImage) Why)

@@ -12,16 +12,16 @@ use Rattle.transcript_laws.proofs.Texts.{text_flat, empty_flat}
 use Rattle.command_ending.specs.declared.fault.Fault.{Fault}
 use Rattle.command_ending.specs.declared.fault.Fault.TheVariants.{FileFault, SwapReadFault, SwapWriteFault, NoMemory, JournalFull, NoSpace}
 use Rattle.run_command.specs.Seen.{Seen}
-use Rattle.run_command.specs.Ends.{Ending, NoneFaulted, HaltCaused, RunCaused, FaultEnded, RunEnded, CanBeLost}
+use Rattle.run_command.specs.Ends.{RunEnding, NoneFaulted, HaltCaused, RunCaused, FaultEnded, RunEnded, CanBeLost}
 use Rattle.run_command.specs.Paired.{unfinished_of, IsRunFault}
 
 -- the cause of an ending, before its line is written
-abbrev pub StopCaused : Seen → List Entry → Ending → Type 0
+abbrev pub StopCaused : Seen → List Entry → RunEnding → Type 0
 StopCaused seen es (Ok done) = NoneFaulted seen
 StopCaused seen es (Err fault) = HaltCaused seen es fault
 
 module _ (seen : Seen) (es : List Entry) where
-  pub caused_as : (r : Ending) → IfErr r IsRunFault → StopCaused seen es r → RunCaused seen es r
+  pub caused_as : (r : RunEnding) → IfErr r IsRunFault → StopCaused seen es r → RunCaused seen es r
   caused_as (Ok done) kind c = c
   caused_as (Err FileFault) kind c = c
   caused_as (Err (SwapReadFault device)) kind c = c
@@ -32,7 +32,7 @@ module _ (seen : Seen) (es : List Entry) where
   caused_as (Err _) kind c = absurd kind
 
   -- Where the line of a halt is lost, that is want of memory.
-  pub lost_caused : (r : Ending) → IfErr r IsRunFault → CanBeLost r → StopCaused seen es r → RunCaused seen es (Err NoMemory)
+  pub lost_caused : (r : RunEnding) → IfErr r IsRunFault → CanBeLost r → StopCaused seen es r → RunCaused seen es (Err NoMemory)
   lost_caused (Ok done) kind lost c = absurd lost
   lost_caused (Err (SwapReadFault device)) kind lost c = inr (SwapReadFault device, lost, c)
   lost_caused (Err (SwapWriteFault device)) kind lost c = inr (SwapWriteFault device, lost, c)
@@ -43,7 +43,7 @@ module _ (seen : Seen) (es : List Entry) where
   lost_caused (Err _) kind lost c = absurd kind
 
 module _ (seen : Seen) (A : Inputs) (es : List Entry) (image : List ℕ) where
-  pub run_ended : (r : Ending) → IfErr r IsRunFault → StopCaused seen es r → RunEnds A es image (unfinished_of r) seen.swap_after → RunEnded seen A es image r
+  pub run_ended : (r : RunEnding) → IfErr r IsRunFault → StopCaused seen es r → RunEnds A es image (unfinished_of r) seen.swap_after → RunEnded seen A es image r
   run_ended (Ok done) kind c e = e
   run_ended (Err FileFault) kind c e = e
   run_ended (Err (SwapReadFault device)) kind c e = e
@@ -53,7 +53,7 @@ module _ (seen : Seen) (A : Inputs) (es : List Entry) (image : List ℕ) where
   run_ended (Err NoMemory) kind c e = inl (c, e)
   run_ended (Err _) kind c e = absurd kind
 
-  pub lost_ended : (r : Ending) → IfErr r IsRunFault → CanBeLost r → StopCaused seen es r → RunEnded seen A es image r → RunEnded seen A es image (Err NoMemory)
+  pub lost_ended : (r : RunEnding) → IfErr r IsRunFault → CanBeLost r → StopCaused seen es r → RunEnded seen A es image r → RunEnded seen A es image (Err NoMemory)
   lost_ended (Ok done) kind lost c e = absurd lost
   lost_ended (Err (SwapReadFault device)) kind lost c e = inr (SwapReadFault device, lost, (c, e))
   lost_ended (Err (SwapWriteFault device)) kind lost c e = inr (SwapWriteFault device, lost, (c, e))
@@ -79,7 +79,7 @@ module _ (A : Inputs) (es : List Entry) (image : List ℕ) (after : Option (List
   fault_flat (NoSpace pid) e = none_flat e.0.0
   fault_flat _ e = absurd e
 
-pub ended_flat : (seen : Seen) (A : Inputs) (es : List Entry) (image : List ℕ) (r : Ending) → A.limit ≤ 1000000 → HaveNumbers es → RunEnded seen A es image r
+pub ended_flat : (seen : Seen) (A : Inputs) (es : List Entry) (image : List ℕ) (r : RunEnding) → A.limit ≤ 1000000 → HaveNumbers es → RunEnded seen A es image r
     → (traced : Bool) → IsFlatText A traced es
 ended_flat seen A es image (Ok done) limit numbers e traced = made_flat A es image seen.swap_after limit numbers traced e.state e.made
 ended_flat seen A es image (Err NoMemory) limit numbers (inl (calm, inl none)) traced = none_flat A es image seen.swap_after limit numbers traced none.0

@@ -15,7 +15,7 @@ use Rattle.load_laws.specs.Few.{moves_asked}
 use Rattle.load_laws.proofs.Short.{loads_short}
 use Rattle.run_command.specs.Machines.{journal_entries}
 use Rattle.run_command.specs.Seen.{Seen}
-use Rattle.run_command.specs.Ends.{Ending, status_of}
+use Rattle.run_command.specs.Ends.{RunEnding, status_of}
 use Rattle.run_command.specs.Loads.{load_inputs, load_written, IsLoadCaused, LoadEnded}
 use Rattle.run_command.proofs.Counted.{is_load}
 
@@ -63,14 +63,14 @@ never_full number seen journal image caused ended =
     let moves = few_moves number in
     absurd (omega (arith, k, full, lines, moves))
 
-ending_fits : (number : ℕ) (seen : Seen) (journal : List Entry) (image : List ℕ) (ending : Ending) → IsLoadCaused seen journal ending
+ending_fits : (number : ℕ) (seen : Seen) (journal : List Entry) (image : List ℕ) (ending : RunEnding) → IsLoadCaused seen journal ending
     → LoadEnded number seen journal image ending → 10 ≡ status_of ending → ⊥
 ending_fits number seen journal image (Ok done) caused ended e = absurd cc
 ending_fits number seen journal image (Err faults.JournalFull) caused ended e = never_full number seen journal image caused ended
 ending_fits number seen journal image (Err _) caused ended e = absurd cc
 
 -- so its status is never 10
-pub load_fits : (number : ℕ) (seen : Seen) (status : ℕ) (journal : List Entry) (ending : Ending)
+pub load_fits : (number : ℕ) (seen : Seen) (status : ℕ) (journal : List Entry) (ending : RunEnding)
     → Writes seen.written_before seen.written_after seen.sink_faults_before seen.sink_faults_after (load_written number journal ending)
     (status_of ending) status
     → IsLoadCaused seen journal ending

@@ -2,7 +2,7 @@
 use Rattle.std.proofs.Common.{◌≡◌, ℕ, Bool, true, Result, Ok, Err, refl, sym, ap, ◌∙◌}
 use Rattle.std.specs.Prelude.{is_ok}
 use Rattle.resource_map.specs.Room.{lowest_room, lowest, has_room, all_pass}
-use Rattle.swap_dmap.specs.Chunks.{pieces, chunk, chunk_start, lowest as lowest_chunk, chunks_holding, last_piece, text_pieces}
+use Rattle.swap_dmap.specs.Chunks.{pieces, chunk, chunk_start, lowest_below as lowest_chunk, chunks_holding, last_piece, text_pieces}
 use Rattle.swap_book.specs.Holdings.{Holdings, fit, is_in, is_held}
 use Rattle.swap_book.specs.Placing.{place_all}
 use Rattle.flat_model.specs.Asked.{first_held, start_held}

@@ -19,7 +19,7 @@ use Rattle.run_opening.specs.Opening.{CountsAt}
 use Rattle.run_command.specs.Seen.{Seen}
 use Rattle.run_command.specs.Paired.{unfinished_of, IsRunFault, ReadsFail, WritesFail}
 use Rattle.run_command.specs.Machines.{journal_entries}
-use Rattle.run_command.specs.Ends.{Ending, NothingDone, Unbegun, NoneFaulted, RunCaused, DevicesSuffice, RunEnded}
+use Rattle.run_command.specs.Ends.{RunEnding, NothingDone, Unbegun, NoneFaulted, RunCaused, DevicesSuffice, RunEnded}
 use Rattle.run_command.specs.Loads.{load_inputs, load_numbers, load_written, CountsBeLost, WritesCounts, IsLoadCaused, LoadEnded, IsRunEnding, Loads, LoadRuns}
 use Rattle.run_command.proofs.LoadSpace.{all_start}
 use Rattle.run_command.proofs.Counted.{counted_by}
@@ -36,7 +36,7 @@ counts_written number journal done text before after old new status is (inl w) =
 counts_written number journal done text before after old new status is (inr lost) = absurd lost.0
 
 -- lines that found no memory
-pub counts_lost : (number : ℕ) (journal : List Entry) (ending : Ending) (before after : Option (List ℕ)) (old new status : ℕ) → CountsBeLost ending
+pub counts_lost : (number : ℕ) (journal : List Entry) (ending : RunEnding) (before after : Option (List ℕ)) (old new status : ℕ) → CountsBeLost ending
     → WritesSome before after old new (Err faults.NoMemory) status → WritesCounts number journal ending before after old new status
 counts_lost number journal ending before after old new status lost (inl w) = inr (lost, w)
 counts_lost number journal ending before after old new status lost (inr never) = absurd never.0
@@ -54,7 +54,7 @@ no_file_fault A (inl low) = absurd (omega arith)
 no_file_fault A (inr last) = absurd (let most = last.0 in omega arith)
 
 -- so the run didn't halt by one
-files_hold : (r : Ending) → IfErr r IsRunFault → CountsFileFaults (stop_of (stopped_as (unfinished_of r))) 0 0 → IsRunEnding r
+files_hold : (r : RunEnding) → IfErr r IsRunFault → CountsFileFaults (stop_of (stopped_as (unfinished_of r))) 0 0 → IsRunEnding r
 files_hold (Ok done) kind pages = tt
 files_hold (Err faults.FileFault) kind pages = no_file_fault (IsRunEnding (Err faults.FileFault)) pages
 files_hold (Err (faults.SwapReadFault device)) kind pages = tt
@@ -64,7 +64,7 @@ files_hold (Err (faults.NoSpace pid)) kind pages = tt
 files_hold (Err faults.NoMemory) kind pages = tt
 files_hold (Err _) kind pages = absurd kind
 
-as_run : (r : Ending) → IsRunEnding r → IfErr r IsRunFault
+as_run : (r : RunEnding) → IsRunEnding r → IfErr r IsRunFault
 as_run (Ok done) began = tt
 as_run (Err faults.FileFault) began = absurd began
 as_run (Err (faults.SwapReadFault device)) began = tt
@@ -74,7 +74,7 @@ as_run (Err (faults.NoSpace pid)) began = tt
 as_run (Err faults.NoMemory) began = tt
 as_run (Err _) began = absurd began
 
-load_stops : (seen : Seen) (journal : List Entry) (r : Ending) → IsRunEnding r → NoFaults seen.faults → ReadsFail r seen.reads → WritesFail r seen.writes
+load_stops : (seen : Seen) (journal : List Entry) (r : RunEnding) → IsRunEnding r → NoFaults seen.faults → ReadsFail r seen.reads → WritesFail r seen.writes
     → ((pid : ℕ) → r ≡ Err (faults.NoSpace pid) → journal ≡ [])
     → ((pid : ℕ) → r ≡ Err (faults.NoSpace pid) → seen.swap_after ≡ seen.swap_before) → (r ≡ Err faults.JournalFull → length journal ≡ journal_entries)
     → StopCaused seen journal r
@@ -90,21 +90,21 @@ load_stops seen journal (Err _) began files reads writes none same full = absurd
 
 -- The lines of an ending found no memory: that is want of memory, also of a run that is finished.
 
-counts_lost_caused : (seen : Seen) (journal : List Entry) (r : Ending) → IsRunEnding r → CountsBeLost r → StopCaused seen journal r
+counts_lost_caused : (seen : Seen) (journal : List Entry) (r : RunEnding) → IsRunEnding r → CountsBeLost r → StopCaused seen journal r
     → RunCaused seen journal (Err faults.NoMemory)
 counts_lost_caused seen journal (Ok done) began lost c = inl c
 counts_lost_caused seen journal (Err fault) began lost c = lost_caused seen journal (Err fault) (as_run (Err fault) began) lost c
 
-counts_starve : (seen : Seen) (A : Inputs) (journal : List Entry) (image : List ℕ) (r : Ending) → IsRunEnding r → CountsBeLost r → StopCaused seen journal r
+counts_starve : (seen : Seen) (A : Inputs) (journal : List Entry) (image : List ℕ) (r : RunEnding) → IsRunEnding r → CountsBeLost r → StopCaused seen journal r
     → RunEnded seen A journal image r → RunEnded seen A journal image (Err faults.NoMemory)
 counts_starve seen A journal image (Ok done) began lost c e = inl (c, inr (record { state = e.state; made = e.made; left = e.left }))
 counts_starve seen A journal image (Err fault) began lost c e = lost_ended seen A journal image (Err fault) (as_run (Err fault) began) lost c e
 
-other_fault : (pid : ℕ) → (let r : Ending = Err faults.NoMemory in r) ≡ Err (faults.NoSpace pid) → ⊥
+other_fault : (pid : ℕ) → (let r : RunEnding = Err faults.NoMemory in r) ≡ Err (faults.NoSpace pid) → ⊥
 other_fault pid e = cc
 
 -- the run of a machine, as it was written
-load_runs : (IsOf : Inputs → List ℕ → Type 0) (Starts : Inputs → Type 0) (number : ℕ) (seen : Seen) (status : ℕ) (journal : List Entry) (r : Ending)
+load_runs : (IsOf : Inputs → List ℕ → Type 0) (Starts : Inputs → Type 0) (number : ℕ) (seen : Seen) (status : ℕ) (journal : List Entry) (r : RunEnding)
     → IsRunEnding r → length journal ≤ journal_entries → StopCaused seen journal r
     → ((A : Inputs) → Starts A → (pid : ℕ) → r ≡ Err (faults.NoSpace pid) → start_held A ≡ Err pid)
     → ((A : Inputs) (image : List ℕ) → IsOf A image → seen.swap_before ≡ Some image → RunEnded seen A journal image r)
@@ -123,7 +123,7 @@ load_runs IsOf Starts number seen status journal r began within caused space end
   ended = λ A image is told. counts_starve seen A journal image r began lost caused (ended A image is told);
 }
 
-pub load_ran : (IsOf : Inputs → List ℕ → Type 0) (Starts : Inputs → Type 0) (number : ℕ) (seen : Seen) (status : ℕ) (journal : List Entry) (r : Ending)
+pub load_ran : (IsOf : Inputs → List ℕ → Type 0) (Starts : Inputs → Type 0) (number : ℕ) (seen : Seen) (status : ℕ) (journal : List Entry) (r : RunEnding)
     → IfErr r IsRunFault → CountsFileFaults (stop_of (stopped_as (unfinished_of r))) 0 0
     → NoFaults seen.faults
     → ReadsFail r seen.reads → WritesFail r seen.writes → ((pid : ℕ) → r ≡ Err (faults.NoSpace pid) → journal ≡ [])
@@ -149,7 +149,7 @@ load_unmade IsOf Starts number seen status same none w =
 -- Loads.
 
 -- the devices were judged to be long enough
-load_caused : (seen : Seen) (journal : List Entry) (r : Ending) → IsRunEnding r → ((pid : ℕ) → r ≡ Err (faults.NoSpace pid) → ⊥) → RunCaused seen journal r
+load_caused : (seen : Seen) (journal : List Entry) (r : RunEnding) → IsRunEnding r → ((pid : ℕ) → r ≡ Err (faults.NoSpace pid) → ⊥) → RunCaused seen journal r
     → DevicesSuffice load_numbers.swap seen
     → IsLoadCaused seen journal r
 load_caused seen journal (Ok done) began never c d = (c, d)
@@ -162,7 +162,7 @@ load_caused seen journal (Err faults.NoMemory) began never (inl none) d = inl no
 load_caused seen journal (Err faults.NoMemory) began never (inr lost) d = inr (lost, d)
 load_caused seen journal (Err _) began never c d = absurd began
 
-load_ended : (number : ℕ) (seen : Seen) (journal : List Entry) (image : List ℕ) (r : Ending) → IsRunEnding r
+load_ended : (number : ℕ) (seen : Seen) (journal : List Entry) (image : List ℕ) (r : RunEnding) → IsRunEnding r
     → RunEnded seen (load_inputs number) journal image r → LoadEnded number seen journal image r
 load_ended number seen journal image (Ok done) began e = e
 load_ended number seen journal image (Err faults.FileFault) began e = e

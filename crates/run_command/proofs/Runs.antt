@@ -31,7 +31,7 @@ use Rattle.run_command.specs.Naming.{shown_as}
 use Rattle.run_command.specs.Machines.{journal_entries, params_up_to, machine_up_to, IsOfOpening}
 use Rattle.run_command.specs.Seen.{Seen, NoneFailed}
 use Rattle.run_command.specs.Paired.{image_together, unfinished_of, IsRunFault, ReadsFail, WritesFail}
-use Rattle.run_command.specs.Ends.{Ending, NothingDone, Unbegun, NoneFaulted, RunCaused, DevicesSuffice, IsCaused, AllGood, IsJudged, RunEnded, RunOfWords, EndsTold, WritesSome, Writing, RunsOpened, Runs}
+use Rattle.run_command.specs.Ends.{RunEnding, NothingDone, Unbegun, NoneFaulted, RunCaused, DevicesSuffice, IsCaused, AllGood, IsJudged, RunEnded, RunOfWords, EndsTold, WritesRun, Writing, RunsOpened, Runs}
 use Rattle.run_command.proofs.Openings.{shown_facts}
 use Rattle.run_command.proofs.Inputs.{KnownOpening, inputs_of, asks_for, is_asked_of}
 use Rattle.run_command.proofs.Endings.{StopCaused, caused_as, lost_caused, lost_ended, ended_flat}
@@ -83,7 +83,7 @@ room_told zero_size one_size swap zero one image zero_whole one_whole meets most
 
 -- Why a run that was opened isn't finished.
 
-pub run_caused : (seen : Seen) (es : List Entry) (r : Ending) → IfErr r IsRunFault → seen.faults.open_after ≡ seen.faults.open_before
+pub run_caused : (seen : Seen) (es : List Entry) (r : RunEnding) → IfErr r IsRunFault → seen.faults.open_after ≡ seen.faults.open_before
     → CountsFileFaults (stop_of (stopped_as (unfinished_of r))) seen.faults.page_before seen.faults.page_after
     → ReadsFail r seen.reads → WritesFail r seen.writes → ((pid : ℕ) → r ≡ Err (NoSpace pid) → es ≡ [])
     → ((pid : ℕ) → r ≡ Err (NoSpace pid) → seen.swap_after ≡ seen.swap_before)
@@ -106,8 +106,8 @@ run_caused seen es (Err _) kind opens pages reads writes none same full = absurd
 
 -- A run over a machine, as it was written.
 
-pub opened_runs : (IsOf : Inputs → List ℕ → Type 0) (traced : Bool) (seen : Seen) (es : List Entry) (r : Ending) (status : ℕ)
-    → WritesSome traced es r seen.written_before seen.written_after seen.sink_faults_before seen.sink_faults_after status → HaveNumbers es
+pub opened_runs : (IsOf : Inputs → List ℕ → Type 0) (traced : Bool) (seen : Seen) (es : List Entry) (r : RunEnding) (status : ℕ)
+    → WritesRun traced es r seen.written_before seen.written_after seen.sink_faults_before seen.sink_faults_after status → HaveNumbers es
     → length es ≤ journal_entries → StopCaused seen es r → IfErr r IsRunFault
     → ((A : Inputs) (image : List ℕ) → IsOf A image → seen.swap_before ≡ Some image → RunEnded seen A es image r) → RunsOpened IsOf traced seen status
 opened_runs IsOf traced seen es r status (inl writes) numbers within caused kind ended =
@@ -123,7 +123,7 @@ opened_runs IsOf traced seen es r status (inr (lost, writes)) numbers within cau
 }
 
 pub opened_lacking : (IsOf : Inputs → List ℕ → Type 0) (traced : Bool) (seen : Seen) (status : ℕ)
-    → WritesSome traced [] (Err NoMemory) seen.written_before seen.written_after seen.sink_faults_before seen.sink_faults_after status
+    → WritesRun traced [] (Err NoMemory) seen.written_before seen.written_after seen.sink_faults_before seen.sink_faults_after status
     → seen.swap_after ≡ seen.swap_before → NoneFaulted seen → RunsOpened IsOf traced seen status
 opened_lacking IsOf traced seen status (inl writes) same none =
     record { ending = Err NoMemory; journal = []; writes = writes; within = omega arith; caused = inl none; numbers = tt; ended = λ A image is told. inl (none, inl (refl, same ∙ told)) }
@@ -131,7 +131,7 @@ opened_lacking IsOf traced seen status (inr (lost, writes)) same none = absurd l
 
 -- The same for the words.
 
-caused_so : (request : Request) (seen : Seen) (es : List Entry) (r : Ending) → RunCaused seen es r → DevicesSuffice request.numbers.swap seen
+caused_so : (request : Request) (seen : Seen) (es : List Entry) (r : RunEnding) → RunCaused seen es r → DevicesSuffice request.numbers.swap seen
     → IsCaused request seen es r
 caused_so request seen es (Ok done) c d = (c, d)
 caused_so request seen es (Err FileFault) c d = inr (c, d)
@@ -143,7 +143,7 @@ caused_so request seen es (Err NoMemory) (inr lost) d = inr (lost, d)
 caused_so request seen es (Err (NoSpace pid)) c d = (c, d)
 caused_so request seen es (Err _) c d = absurd c
 
-judged_good : (request : Request) (seen : Seen) (files : List NamedFile) (es : List Entry) (r : Ending) → RunCaused seen es r → AllGood request seen files
+judged_good : (request : Request) (seen : Seen) (files : List NamedFile) (es : List Entry) (r : RunEnding) → RunCaused seen es r → AllGood request seen files
     → IsJudged request seen files r
 judged_good request seen files es (Ok done) c good = good
 judged_good request seen files es (Err FileFault) c good = inr (c.page, good)
@@ -154,7 +154,7 @@ judged_good request seen files es (Err NoMemory) c good = inr good
 judged_good request seen files es (Err (NoSpace pid)) c good = good
 judged_good request seen files es (Err _) c good = absurd c
 
-told_so : (request : Request) (seen : Seen) (files : List NamedFile) (es : List Entry) (image : List ℕ) (r : Ending) → RunCaused seen es r
+told_so : (request : Request) (seen : Seen) (files : List NamedFile) (es : List Entry) (image : List ℕ) (r : RunEnding) → RunCaused seen es r
     → AllGood request seen files
     → RunOfWords request seen files es image r → EndsTold request seen files es image r
 told_so request seen files es image (Ok done) c good x = x
@@ -166,7 +166,7 @@ told_so request seen files es image (Err NoMemory) c good x = inr x
 told_so request seen files es image (Err (NoSpace pid)) c good x = x
 told_so request seen files es image (Err _) c good x = absurd c
 
-of_words : (request : Request) (seen : Seen) (files : List NamedFile) (opening : Opening) (es : List Entry) (image : List ℕ) (r : Ending)
+of_words : (request : Request) (seen : Seen) (files : List NamedFile) (opening : Opening) (es : List Entry) (image : List ℕ) (r : RunEnding)
     → KnownOpening request files opening → AreAllowed request.numbers → HaveNumbers es
     → RunEnded seen (inputs_of request files opening) es image r → RunOfWords request seen files es image r
 of_words request seen files opening es image r known allowed numbers ended = record {
@@ -229,7 +229,7 @@ module _ (request : Request) (seen : Seen) (same : seen.swap_after ≡ seen.swap
     told = λ files image told octets swap. inl (unbegun opens, (refl, same ∙ swap));
   }
 
-  pub lacking_runs : (status : ℕ) → WritesSome request.traced [] (Err NoMemory) seen.written_before seen.written_after seen.sink_faults_before seen.sink_faults_after status
+  pub lacking_runs : (status : ℕ) → WritesRun request.traced [] (Err NoMemory) seen.written_before seen.written_after seen.sink_faults_before seen.sink_faults_after status
       → seen.faults.open_after ≡ seen.faults.open_before → Runs request seen status
   lacking_runs status (inl w) opens = starved_runs status opens w
   lacking_runs status (inr (lost, w)) opens = absurd lost
@@ -263,7 +263,7 @@ module _ (request : Request) (seen : Seen) (same : seen.swap_after ≡ seen.swap
   unopened_told NoMemory found files image ends opens swap = inl (unbegun opens, (refl, same ∙ swap))
   unopened_told _ found files image ends opens swap = absurd ends
 
-  pub unopened_runs : (fault : Fault) (status : ℕ) → WritesSome request.traced [] (Err fault) seen.written_before seen.written_after seen.sink_faults_before seen.sink_faults_after status
+  pub unopened_runs : (fault : Fault) (status : ℕ) → WritesRun request.traced [] (Err fault) seen.written_before seen.written_after seen.sink_faults_before seen.sink_faults_after status
       → (made : Made (EndsOpening request.schedule request.words request.numbers.swap seen.zero_blocks seen.one_blocks) (found_told request.schedule request.words) seen.files seen.faults
       (let r : Result Opening Fault = Err fault in r))
       → CountsAt fault seen.faults.open_before seen.faults.open_after → Runs request seen status

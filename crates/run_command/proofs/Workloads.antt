@@ -9,7 +9,7 @@ use Rattle.vm_facts.specs.declared.event.Event.{Event}
 use Rattle.io_edge.specs.FileHolding.{NamedFile, HasRange}
 use Rattle.io_edge.specs.Striping.{pair_blocks, zero_needs, one_needs, device_of, MeetsNeeds}
 use Rattle.io_edge.specs.StripeSizes.{tell_blocks, pair_whole}
-use Rattle.aout_image.specs.Image.{Loaded, image_of, word_bytes, in_pages, pages_for, file_length_of}
+use Rattle.aout_image.specs.Image.{Loaded, judged_image, word_bytes, in_pages, pages_for, file_length_of}
 use Rattle.vax_code.specs.Grammar.{AreOctets}
 use Rattle.flat_state.specs.Flat.{NamedImage, image_numbered}
 use Rattle.machine_state.specs.Files.{AreFiles, AreImages}
@@ -94,13 +94,14 @@ two_named w v = record { name = codes "w"; bytes = w } ∷ record { name = codes
 abbrev two_loaded : Loaded → Loaded → List NamedImage
 two_loaded w v = record { name = codes "w"; image = w } ∷ record { name = codes "v"; image = v } ∷ []
 
-two_found : (w_file v_file : List ℕ) (w v : Loaded) → image_of w_file ≡ Ok w → image_of v_file ≡ Ok v
+two_found : (w_file v_file : List ℕ) (w v : Loaded) → judged_image w_file ≡ Ok w → judged_image v_file ≡ Ok v
     → images_found (two_named w_file v_file) load_names ≡ Ok (two_loaded w v)
 two_found w_file v_file w v e d =
-    ap (λ (r : Result Loaded ℕ). before (named_image (codes "w") r) (before (named_image (codes "v") (image_of v_file)) (Ok []))) e
+    ap (λ (r : Result Loaded ℕ). before (named_image (codes "w") r) (before (named_image (codes "v") (judged_image v_file)) (Ok []))) e
     ∙ ap (λ (r : Result Loaded ℕ). before (Ok (record { name = codes "w"; image = w })) (before (named_image (codes "v") r) (Ok []))) d
 
-pub load_found : (number : ℕ) → map (λ (file : NamedFile). image_of file.bytes) (load_files number) ≡ map (λ (image : Loaded). Ok image) (load_images number)
+pub load_found : (number : ℕ) → map (λ (file : NamedFile). judged_image file.bytes) (load_files number)
+    ≡ map (λ (image : Loaded). Ok image) (load_images number)
     → images_found (load_files number) load_names ≡ Ok (load_inputs number).images
 unfolding load_files load_images
 load_found number e = two_found _ _ _ _ (first_is _ _ _ _ e) (first_is _ _ _ _ (more_is _ _ _ _ e))
@@ -109,15 +110,15 @@ same_Ok : (a b : List NamedImage) → ◌≡◌ {A = Result (List NamedImage) Wh
 same_Ok a b e = cc
 
 pub found_in : (number : ℕ) (files : List NamedFile) → files ≡ load_files number
-    → map (λ (file : NamedFile). image_of file.bytes) files ≡ map (λ (image : Loaded). Ok image) (load_images number)
+    → map (λ (file : NamedFile). judged_image file.bytes) files ≡ map (λ (image : Loaded). Ok image) (load_images number)
     → images_found (load_files number) load_names ≡ Ok (load_inputs number).images
 found_in number files is images =
-    load_found number (subst (λ (fs : List NamedFile). map (λ (file : NamedFile). image_of file.bytes) fs ≡ map (λ (image : Loaded). Ok image) (load_images number)) is images)
+    load_found number (subst (λ (fs : List NamedFile). map (λ (file : NamedFile). judged_image file.bytes) fs ≡ map (λ (image : Loaded). Ok image) (load_images number)) is images)
 
 -- the images that were opened are those of the load
 pub same_images : (number : ℕ) (holds : Option (List NamedFile)) (files : List NamedFile) (os : List OpenedImage) → holds ≡ Some files
     → files ≡ load_files number
-    → map (λ (file : NamedFile). image_of file.bytes) files ≡ map (λ (image : Loaded). Ok image) (load_images number)
+    → map (λ (file : NamedFile). judged_image file.bytes) files ≡ map (λ (image : Loaded). Ok image) (load_images number)
     → ((list : List NamedFile) → holds ≡ Some list → images_found list load_names ≡ Ok (images_in list os))
     → images_in (load_files number) os ≡ (load_inputs number).images
 same_images number holds files os told is images answers =

@@ -23,16 +23,16 @@ use Rattle.run_command.specs.Seen.{Seen, NoneFailed, DeviceFailed}
 use Rattle.run_command.specs.Machines.{journal_entries}
 
 -- a run is finished, or this is why it isn't
-abbrev pub Ending : Type 0
-Ending = Result (Unit {0}) Fault
+abbrev pub RunEnding : Type 0
+RunEnding = Result (Unit {0}) Fault
 
 -- the status of an ending: 0 where the run is finished, or else the fault's
-abbrev pub status_of : Ending → ℕ
+abbrev pub status_of : RunEnding → ℕ
 status_of (Ok done) = 0
 status_of (Err fault) = fault_status fault
 
 -- the line after the transcript; none where the run is finished
-abbrev pub line_of : Ending → List ℕ
+abbrev pub line_of : RunEnding → List ℕ
 line_of (Ok done) = []
 line_of (Err fault) = fault_line fault
 
@@ -89,7 +89,7 @@ abbrev pub LineLost : (Fault → Type 0) → Type 0
 LineLost IsSo = (fault : Fault) × NeedsMemory fault × IsSo fault
 
 -- Of a run that may have begun. Where memory is wanted, that may be for the line of another fault, which has its own cause.
-abbrev pub RunCaused : Seen → List Entry → Ending → Type 0
+abbrev pub RunCaused : Seen → List Entry → RunEnding → Type 0
 RunCaused seen journal (Ok done) = NoneFaulted seen
 RunCaused seen journal (Err NoMemory) = HaltCaused seen journal NoMemory ⊎ LineLost (HaltCaused seen journal)
 RunCaused seen journal (Err fault) = HaltCaused seen journal fault
@@ -103,7 +103,7 @@ abbrev pub FailsBefore : Seen → List Entry → Type 0
 FailsBefore seen journal = OpenFailed seen.faults × NothingDone seen journal
 
 -- the ending has its cause in what the run saw and in its journal
-abbrev pub IsCaused : Request → Seen → List Entry → Ending → Type 0
+abbrev pub IsCaused : Request → Seen → List Entry → RunEnding → Type 0
 IsCaused request seen journal (Err (Absent name)) = Unbegun seen journal
 IsCaused request seen journal (Err (NotImage name reason)) = Unbegun seen journal
 IsCaused request seen journal (Err (BadSchedule line)) = Unbegun seen journal
@@ -129,7 +129,7 @@ EndsUnopened request seen files fault =
     (found_told request.schedule request.words files) seen.faults (let r : Result Opening Fault = Err fault in r)
 
 -- the ending is one that fits what is judged before the run: the told files, and then the devices
-abbrev pub IsJudged : Request → Seen → List NamedFile → Ending → Type 0
+abbrev pub IsJudged : Request → Seen → List NamedFile → RunEnding → Type 0
 IsJudged request seen files (Err (Absent name)) = EndsUnopened request seen files (Absent name)
 IsJudged request seen files (Err (NotImage name reason)) = EndsUnopened request seen files (NotImage name reason)
 IsJudged request seen files (Err (BadSchedule line)) = EndsUnopened request seen files (BadSchedule line)
@@ -151,7 +151,7 @@ FaultEnded A journal image after _ = ⊥
 
 -- Want of memory may come at any place, before anything was done too. It may also come for the line of another fault, by which the run
 -- had halted then.
-abbrev pub RunEnded : Seen → Inputs → List Entry → List ℕ → Ending → Type 0
+abbrev pub RunEnded : Seen → Inputs → List Entry → List ℕ → RunEnding → Type 0
 RunEnded seen A journal image (Ok done) = RunFinished A journal image seen.swap_after
 RunEnded seen A journal image (Err NoMemory) =
     (NoneFaulted seen × (NoneMade journal image seen.swap_after ⊎ RunStarved A journal image seen.swap_after))
@@ -160,7 +160,7 @@ RunEnded seen A journal image (Err fault) = FaultEnded A journal image seen.swap
 
 -- It ended so for inputs that the words ask for. A judge of transcripts accepts the text of its journal over the images of these inputs,
 -- with the trace of the paging and without.
-pub record RunOfWords (request : Request) (seen : Seen) (files : List NamedFile) (journal : List Entry) (image : List ℕ) (ending : Ending) : Type 0 where
+pub record RunOfWords (request : Request) (seen : Seen) (files : List NamedFile) (journal : List Entry) (image : List ℕ) (ending : RunEnding) : Type 0 where
   pub inputs : Inputs
   pub asks : AsksFor inputs request files
   pub ended : RunEnded seen inputs journal image ending
@@ -174,7 +174,7 @@ FileFaultTold request seen files journal image =
     ⊎ (PageFailed seen.faults × AllGood request seen files × RunOfWords request seen files journal image (Err FileFault))
 
 -- where files and devices are told: nothing was done, or the ending is that of a run which the words ask for
-abbrev pub EndsTold : Request → Seen → List NamedFile → List Entry → List ℕ → Ending → Type 0
+abbrev pub EndsTold : Request → Seen → List NamedFile → List Entry → List ℕ → RunEnding → Type 0
 EndsTold request seen files journal image (Err (Absent name)) = NoneMade journal image seen.swap_after
 EndsTold request seen files journal image (Err (NotImage name reason)) = NoneMade journal image seen.swap_after
 EndsTold request seen files journal image (Err (BadSchedule line)) = NoneMade journal image seen.swap_after
@@ -187,18 +187,18 @@ EndsTold request seen files journal image ending = RunOfWords request seen files
 -- Whole runs.
 
 -- an ending whose line needs memory
-abbrev pub CanBeLost : Ending → Type 0
+abbrev pub CanBeLost : RunEnding → Type 0
 CanBeLost (Ok done) = ⊥
 CanBeLost (Err fault) = NeedsMemory fault
 
 -- a run is written as it ended; or, where its line could be lost, as one that found no memory
-abbrev pub WritesSome : Bool → List Entry → Ending → Option (List ℕ) → Option (List ℕ) → ℕ → ℕ → ℕ → Type 0
-WritesSome traced journal ending before after old_faults new_faults status =
+abbrev pub WritesRun : Bool → List Entry → RunEnding → Option (List ℕ) → Option (List ℕ) → ℕ → ℕ → ℕ → Type 0
+WritesRun traced journal ending before after old_faults new_faults status =
     Writes before after old_faults new_faults (text_of traced journal ++ line_of ending) (status_of ending) status
     ⊎ (CanBeLost ending × Writes before after old_faults new_faults (text_of traced journal ++ fault_line NoMemory) (fault_status NoMemory) status)
 
 -- the text of the journal and the line of the ending were written, with its status; or the output failed, and a prefix was
-abbrev pub Writing : Bool → Seen → List Entry → Ending → ℕ → Type 0
+abbrev pub Writing : Bool → Seen → List Entry → RunEnding → ℕ → Type 0
 Writing traced seen journal ending status =
     Writes seen.written_before seen.written_after seen.sink_faults_before seen.sink_faults_after (text_of traced journal ++ line_of ending)
     (status_of ending) status
@@ -209,7 +209,7 @@ Writing traced seen journal ending status =
 -- the first thing met decides before the run; and where the devices are told too, the journal is that of a run of the inputs that the
 -- words ask for, and the swap devices are left as it says.
 pub record Runs (request : Request) (seen : Seen) (status : ℕ) : Type 0 where
-  pub ending : Ending
+  pub ending : RunEnding
   pub journal : List Entry
   pub writes : Writing request.traced seen journal ending status
   pub within : length journal ≤ journal_entries
@@ -220,7 +220,7 @@ pub record Runs (request : Request) (seen : Seen) (status : ℕ) : Type 0 where
 
 -- A run that was opened, over a machine: the same, for the inputs that are the machine's. Its entries are at hand.
 pub record RunsOpened (IsOf : Inputs → List ℕ → Type 0) (traced : Bool) (seen : Seen) (status : ℕ) : Type 0 where
-  pub ending : Ending
+  pub ending : RunEnding
   pub journal : List Entry
   pub writes : Writing traced seen journal ending status
   pub within : length journal ≤ journal_entries

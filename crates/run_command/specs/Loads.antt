@@ -17,7 +17,7 @@ use Rattle.load_laws.specs.Left.{load_counts}
 use Rattle.run_command.specs.Seen.{Seen}
 use Rattle.run_command.specs.Machines.{journal_entries}
 use Rattle.run_command.specs.Paired.{IsRunFault}
-use Rattle.run_command.specs.Ends.{Ending, status_of, Unbegun, HaltCaused, LineLost, RunCaused, DevicesSuffice, RunEnded}
+use Rattle.run_command.specs.Ends.{RunEnding, status_of, Unbegun, HaltCaused, LineLost, RunCaused, DevicesSuffice, RunEnded}
 
 -- ---- the inputs
 
@@ -53,7 +53,7 @@ load_inputs number = record {
 -- ---- the text
 
 -- the six lines that count over the journal where the run is finished, else the line of the fault
-abbrev pub load_written : ℕ → List Entry → Ending → List ℕ
+abbrev pub load_written : ℕ → List Entry → RunEnding → List ℕ
 load_written number journal (Ok done) = load_text number (counts_of 4 journal)
 load_written number journal (Err fault) = fault_line fault
 
@@ -62,12 +62,12 @@ abbrev pub finished_lines : ℕ → List ℕ
 finished_lines number = load_text number (load_counts number)
 
 -- an ending whose lines need memory
-abbrev pub CountsBeLost : Ending → Type 0
+abbrev pub CountsBeLost : RunEnding → Type 0
 CountsBeLost (Ok done) = Unit {0}
 CountsBeLost (Err fault) = NeedsMemory fault
 
 -- the lines of an ending are written; or, where they could be lost, that of one that found no memory
-abbrev pub WritesCounts : ℕ → List Entry → Ending → Option (List ℕ) → Option (List ℕ) → ℕ → ℕ → ℕ → Type 0
+abbrev pub WritesCounts : ℕ → List Entry → RunEnding → Option (List ℕ) → Option (List ℕ) → ℕ → ℕ → ℕ → Type 0
 WritesCounts number journal ending before after old_faults new_faults status =
     Writes before after old_faults new_faults (load_written number journal ending) (status_of ending) status
     ⊎ (CountsBeLost ending × Writes before after old_faults new_faults (fault_line NoMemory) (fault_status NoMemory) status)
@@ -76,7 +76,7 @@ WritesCounts number journal ending before after old_faults new_faults status =
 
 -- The cause of an ending: that of a run, over devices that suffice; or a device is too short, and nothing was done. A file is never the
 -- cause, since the files are in memory; nor is want of swap space for a first process, since the pieces of all find their places.
-abbrev pub IsLoadCaused : Seen → List Entry → Ending → Type 0
+abbrev pub IsLoadCaused : Seen → List Entry → RunEnding → Type 0
 IsLoadCaused seen journal (Err (ShortDevice device blocks needed)) =
     Unbegun seen journal × (device_fault load_numbers.swap seen.zero_blocks seen.one_blocks ≡ Some (ShortDevice device blocks needed))
 IsLoadCaused seen journal (Err FileFault) = ⊥
@@ -86,7 +86,7 @@ IsLoadCaused seen journal (Err NoMemory) =
 IsLoadCaused seen journal ending = RunCaused seen journal ending × DevicesSuffice load_numbers.swap seen
 
 -- How the run ended, where the devices are told. Where a device is short, nothing was done.
-abbrev pub LoadEnded : ℕ → Seen → List Entry → List ℕ → Ending → Type 0
+abbrev pub LoadEnded : ℕ → Seen → List Entry → List ℕ → RunEnding → Type 0
 LoadEnded number seen journal image (Err (ShortDevice device blocks needed)) = NoneMade journal image seen.swap_after
 LoadEnded number seen journal image ending = RunEnded seen (load_inputs number) journal image ending
 
@@ -95,7 +95,7 @@ LoadEnded number seen journal image ending = RunEnded seen (load_inputs number) 
 -- has its cause, and no file was touched. Where the devices are told the journal is that of a run of the workload of the number, and
 -- the devices are left as it says; with status 0 the six lines are those of the counts that the number has; and the status is never 10.
 pub record Loads (number : ℕ) (seen : Seen) (status : ℕ) : Type 0 where
-  pub ending : Ending
+  pub ending : RunEnding
   pub journal : List Entry
   pub writes : Writes seen.written_before seen.written_after seen.sink_faults_before seen.sink_faults_after (load_written number journal ending)
       (status_of ending) status
@@ -107,13 +107,13 @@ pub record Loads (number : ℕ) (seen : Seen) (status : ℕ) : Type 0 where
   pub fits : (image : List ℕ) → seen.swap_before ≡ Some image → status ≡ 10 → ⊥
 
 -- it ended as a run does that began, whose files never fail
-abbrev pub IsRunEnding : Ending → Type 0
+abbrev pub IsRunEnding : RunEnding → Type 0
 IsRunEnding (Err FileFault) = ⊥
 IsRunEnding ending = IfErr ending IsRunFault
 
 -- A run of images that were opened, which is counted: the same, for the inputs that are its own, and for those with which it starts.
 pub record LoadRuns (IsOf : Inputs → List ℕ → Type 0) (Starts : Inputs → Type 0) (number : ℕ) (seen : Seen) (status : ℕ) : Type 0 where
-  pub ending : Ending
+  pub ending : RunEnding
   pub journal : List Entry
   pub writes : Writes seen.written_before seen.written_after seen.sink_faults_before seen.sink_faults_after (load_written number journal ending)
       (status_of ending) status

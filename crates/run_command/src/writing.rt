@@ -3,7 +3,7 @@ ghost use Rattle.std.specs.Prelude.{◌++◌};
 ghost use Rattle.run_text.specs.Text.{text_of};
 ghost use Rattle.run_text.specs.Transcript.{HaveNumbers};
 ghost use Rattle.command_ending.specs.Command.{Writes};
-ghost use Rattle.run_command.specs.Ends.{WritesSome};
+ghost use Rattle.run_command.specs.Ends.{WritesRun};
 
 use command_ending::{Fault, NO_MEMORY};
 use io_edge::{Moved, Sink};
@@ -33,7 +33,7 @@ pub(crate) fn write_run<S: Sink>(
     ending: Result<(), Fault<'_>>,
 ) -> u8
     ensures numbers { HaveNumbers journal.now }
-    ensures writes { WritesSome traced journal.now ending.entry (S.written sink.old) (S.written sink.new) (S.faults sink.old) (S.faults sink.new) result }
+    ensures writes { WritesRun traced journal.now ending.entry (S.written sink.old) (S.written sink.new) (S.faults sink.old) (S.faults sink.new) result }
     ensures leads { S.leads sink.old sink.new }
 {
     have_numbers(journal);

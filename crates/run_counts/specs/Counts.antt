@@ -116,10 +116,10 @@ process_of (SwapIn pid) = pid
 process_of _ = 0
 
 -- whose a page is
-abbrev pub owner_of : Page → Owner
-owner_of (Data sid v) = Space sid
-owner_of (Stack sid v) = Space sid
-owner_of (Text image v) = Image image
+abbrev pub page_owner : Page → Owner
+page_owner (Data sid v) = Space sid
+page_owner (Stack sid v) = Space sid
+page_owner (Text image v) = Image image
 
 -- both are one space, or one image
 abbrev pub is_same_owner : Owner → Owner → Bool
@@ -129,11 +129,11 @@ is_same_owner _ _ = false
 
 -- an entry of a page of this owner
 abbrev pub is_owned : Owner → Entry → Bool
-is_owned owner (Zero page) = is_same_owner (owner_of page) owner
-is_owned owner (Get page lo n) = is_same_owner (owner_of page) owner
-is_owned owner (Copy page) = is_same_owner (owner_of page) owner
-is_owned owner (Reclaim page) = is_same_owner (owner_of page) owner
-is_owned owner (Put lo n) = is_same_owner (owner_of lo) owner
+is_owned owner (Zero page) = is_same_owner (page_owner page) owner
+is_owned owner (Get page lo n) = is_same_owner (page_owner page) owner
+is_owned owner (Copy page) = is_same_owner (page_owner page) owner
+is_owned owner (Reclaim page) = is_same_owner (page_owner page) owner
+is_owned owner (Put lo n) = is_same_owner (page_owner lo) owner
 is_owned owner _ = false
 
 -- what an entry of a process adds under a head

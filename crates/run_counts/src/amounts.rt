@@ -1,7 +1,7 @@
 // What an entry adds to a count.
 ghost use Rattle.std.specs.Prelude.{◌≡◌};
 ghost use Rattle.run_counts.specs.declared.amounts.Count.TheVariants.{OfProcess, OfPages};
-ghost use Rattle.run_counts.specs.Counts.{instructions, bytes_out, calls, growths, refusals, waits, times_out, times_in, zero_fills, reads, pages_read, reclaims, copies, puts, pages_put, moves, transfers, process_of, owner_of, is_same_owner, is_owned, process_amount, page_amount, amount};
+ghost use Rattle.run_counts.specs.Counts.{instructions, bytes_out, calls, growths, refusals, waits, times_out, times_in, zero_fills, reads, pages_read, reclaims, copies, puts, pages_put, moves, transfers, process_of, page_owner, is_same_owner, is_owned, process_amount, page_amount, amount};
 
 use vm_facts::{Entry, Page};
 
@@ -260,7 +260,7 @@ fn process_of(entry: &Entry) -> u32
 
 /// Whose a page is.
 pub fn owner_of(page: Page) -> Owner
-    ensures { result ≡ owner_of page }
+    ensures { result ≡ page_owner page }
 {
     match page {
         Page::Data { sid, .. } | Page::Stack { sid, .. } => Owner::Space(sid),

@@ -10,7 +10,7 @@ use Rattle.io_edge.specs.Count.{Rose}
 use Rattle.io_edge.specs.FileHolding.{NamedFile, place_of, bytes_at, file_range, HoldsRange}
 use Rattle.aout_image.specs.declared.Image.{Image}
 use Rattle.aout_image.specs.declared.Judged.TheVariants.{Is, NotImage as No}
-use Rattle.aout_image.specs.Image.{Loaded, image_of, judged_of, file_length_of, is_paged, NeedsNoMore}
+use Rattle.aout_image.specs.Image.{Loaded, judged_image, judged_of, file_length_of, is_paged, NeedsNoMore}
 use Rattle.run_files.specs.declared.answers.Unread.{Unread}
 use Rattle.run_files.specs.declared.answers.Unread.TheVariants.{Absent, NotImage, FileFault, NoMemory}
 use Rattle.run_files.specs.Answering.{Answers, CountsFault, CountsFaults, FailsInOrder, IsFailure, IsOfFoundFile}
@@ -129,15 +129,15 @@ of_judged (Err reason) facts e = absurd cc
 -- The bytes up to the end of text and data are an image with the facts that their header was judged to have, whatever
 -- stands after them in the file.
 pub image_of_front : (facts : Image) (len n : ℕ) (head bytes : List ℕ)
-    → ((whole : List ℕ) → take 32 whole ≡ head → length whole ≡ len → Is facts ≡ judged_of (image_of whole))
-    → NeedsNoMore facts n → n ≤ len → 32 ≤ n → length bytes ≡ n → take 32 bytes ≡ head → IsImageOf (image_of bytes) facts
+    → ((whole : List ℕ) → take 32 whole ≡ head → length whole ≡ len → Is facts ≡ judged_of (judged_image whole))
+    → NeedsNoMore facts n → n ≤ len → 32 ≤ n → length bytes ≡ n → take 32 bytes ≡ head → IsImageOf (judged_image bytes) facts
 image_of_front facts len n head bytes judged enough within above size front =
     let whole : List ℕ = bytes ++ replicate (len - n) 0 in
     let long : length whole ≡ len = omega (arith, length-append bytes (replicate (len - n) 0), length-replicate {A = ℕ} (len - n) 0, size, within) in
     let begins : take 32 whole ≡ head = take-append-le 32 bytes (replicate (len - n) 0) (omega (arith, size, above)) ∙ front in
-    let is = is_image (image_of whole) facts (of_judged (image_of whole) facts (judged whole begins long)) in
+    let is = is_image (judged_image whole) facts (of_judged (judged_image whole) facts (judged whole begins long)) in
     let back : take n whole ≡ bytes = ap (λ (k : ℕ). take k whole) (sym size) ∙ take-append_seam bytes (replicate (len - n) 0) in
-    let same : image_of bytes ≡ Ok is.0 = ap image_of (sym back) ∙ enough whole is.0 is.1 is.2 in
+    let same : judged_image bytes ≡ Ok is.0 = ap judged_image (sym back) ∙ enough whole is.0 is.1 is.2 in
     subst (λ (r : Result Loaded ℕ). IsImageOf r facts) (sym same) is.2
 
 behind_mid : (a n : ℕ) (xs ys : List ℕ) → n ≡ length xs → a ≤ n → length ys ≡ n - a → drop a (put_mid a (n - a) xs ys) ≡ ys

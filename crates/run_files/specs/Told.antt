@@ -2,7 +2,7 @@
 use Rattle.std.specs.Prelude.{◌≡◌, ℕ, Bool, true, false, nat_le, List, length, take, Option, Some, None, Result, Ok, Err}
 use Rattle.io_edge.specs.FileHolding.{NamedFile, place_of, bytes_at}
 use Rattle.aout_image.specs.declared.Image.{Image}
-use Rattle.aout_image.specs.Image.{Loaded, image_of, file_length_of}
+use Rattle.aout_image.specs.Image.{Loaded, judged_image, file_length_of}
 use Rattle.run_files.specs.declared.answers.Unread.{Unread}
 use Rattle.run_files.specs.declared.answers.Unread.TheVariants.{Absent, NotImage}
 
@@ -37,7 +37,7 @@ facts_in (Err reason) = Err (NotImage reason)
 -- the facts of the image at a place; it is absent where there is no place
 abbrev pub facts_told_at : List NamedFile → Option ℕ → Result Image Unread
 facts_told_at files None = Err Absent
-facts_told_at files (Some place) = facts_in (image_of (bytes_at files place))
+facts_told_at files (Some place) = facts_in (judged_image (bytes_at files place))
 
 -- the facts of the image of this name
 abbrev pub facts_told : List NamedFile → List ℕ → Result Image Unread
@@ -51,7 +51,7 @@ image_in bytes (Err reason) = Err (NotImage reason)
 -- the image of the file at a place; it is absent where there is no place
 abbrev pub image_told_at : List NamedFile → Option ℕ → Result (Image × List ℕ) Unread
 image_told_at files None = Err Absent
-image_told_at files (Some place) = image_in (bytes_at files place) (image_of (bytes_at files place))
+image_told_at files (Some place) = image_in (bytes_at files place) (judged_image (bytes_at files place))
 
 -- the image of this name
 abbrev pub image_told : List NamedFile → List ℕ → Result (Image × List ℕ) Unread

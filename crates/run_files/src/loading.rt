@@ -2,7 +2,7 @@ ghost use Rattle.std.specs.Prelude.{◌≡◌, ◌≤◌, ℕ, List, Some, IfOk,
 ghost use Rattle.io_edge.specs.Calls.{KeepsFiles};
 ghost use Rattle.io_edge.specs.FileHolding.{NamedFile, place_of, bytes_at, HasRange, HoldsRange};
 ghost use Rattle.io_edge.specs.Transfer.{CountsErr};
-ghost use Rattle.aout_image.specs.Image.{IsSound, file_length_of, image_of, judged_of};
+ghost use Rattle.aout_image.specs.Image.{IsSound, file_length_of, judged_image, judged_of};
 ghost use Rattle.run_files.specs.Answering.{Answers, CountsFault, CountsFaults, FailsInOrder, IsFailure, IsOfFoundFile};
 ghost use Rattle.run_files.specs.Told.{facts_in, facts_told, image_told, image_in, IsImageOf};
 
@@ -48,11 +48,11 @@ fn read_rest<F: Files>(files: &mut F, id: u32, head: Vec<u8>, len: usize) -> Res
 fn read_header<F: Files>(alloc: Global, files: &mut F, id: u32, len: u64) -> Result<Headed, Unread>
     requires range { HasRange (F.holds files.old) id 0 len }
     ensures answers { (list : List NamedFile) → F.holds files.old ≡ Some list → len ≡ length (bytes_at list id)
-        → Answers (λ headed. headed.image) (facts_in (image_of (bytes_at list id))) result }
+        → Answers (λ headed. headed.image) (facts_in (judged_image (bytes_at list id))) result }
     ensures header { IfOk result (λ headed. HoldsRange (F.holds files.old) id 0 headed.header.items) }
     ensures size { IfOk result (λ headed. length headed.header.items ≡ 32) }
     ensures judged { IfOk result (λ headed. (bytes : List ℕ) → take 32 bytes ≡ headed.header.items → length bytes ≡ len
-        → Judged.Is headed.image ≡ judged_of (image_of bytes)) }
+        → Judged.Is headed.image ≡ judged_of (judged_image bytes)) }
     ensures sound { IfOk result (λ headed. IsSound headed.image) }
     ensures whole { IfOk result (λ headed. file_length_of headed.image ≤ len) }
     ensures error { IfErr result IsOfFoundFile }
@@ -71,11 +71,11 @@ fn read_header<F: Files>(alloc: Global, files: &mut F, id: u32, len: u64) -> Res
 fn load_found<F: Files>(alloc: Global, files: &mut F, id: u32, len: u64) -> Result<Loaded, Unread>
     requires range { HasRange (F.holds files.old) id 0 len }
     ensures answers { (list : List NamedFile) → F.holds files.old ≡ Some list → len ≡ length (bytes_at list id)
-        → Answers (λ loaded. (loaded.image, loaded.bytes.items)) (image_in (bytes_at list id) (image_of (bytes_at list id))) result }
+        → Answers (λ loaded. (loaded.image, loaded.bytes.items)) (image_in (bytes_at list id) (judged_image (bytes_at list id))) result }
     ensures order { (list : List NamedFile) → F.holds files.old ≡ Some list → len ≡ length (bytes_at list id)
-        → FailsInOrder (image_in (bytes_at list id) (image_of (bytes_at list id))) result (F.open_faults files.old) (F.open_faults files.new)
+        → FailsInOrder (image_in (bytes_at list id) (judged_image (bytes_at list id))) result (F.open_faults files.old) (F.open_faults files.new)
         (F.page_faults files.old) (F.page_faults files.new) }
-    ensures image { IfOk result (λ loaded. IsImageOf (image_of loaded.bytes.items) loaded.image) }
+    ensures image { IfOk result (λ loaded. IsImageOf (judged_image loaded.bytes.items) loaded.image) }
     ensures sound { IfOk result (λ loaded. IsSound loaded.image) }
     ensures size { IfOk result (λ loaded. length loaded.bytes.items ≡ file_length_of loaded.image) }
     ensures kept { KeepsFiles F.Files files.old files.new }
@@ -121,7 +121,7 @@ pub fn load_image<F: Files>(alloc: Global, files: &mut F, name: &str) -> Result<
     ensures order { (list : List NamedFile) → F.holds files.old ≡ Some list
         → FailsInOrder (image_told list name.now) result (F.open_faults files.old) (F.open_faults files.new) (F.page_faults files.old)
         (F.page_faults files.new) }
-    ensures image { IfOk result (λ loaded. IsImageOf (image_of loaded.bytes.items) loaded.image) }
+    ensures image { IfOk result (λ loaded. IsImageOf (judged_image loaded.bytes.items) loaded.image) }
     ensures sound { IfOk result (λ loaded. IsSound loaded.image) }
     ensures size { IfOk result (λ loaded. length loaded.bytes.items ≡ file_length_of loaded.image) }
     ensures kept { KeepsFiles F.Files files.old files.new }

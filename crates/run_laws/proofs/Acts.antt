@@ -16,14 +16,14 @@ use Rattle.flat_state.specs.Numbers.{IsNumbered}
 use Rattle.flat_state.specs.Lenders.{LendsStand}
 use Rattle.kernel_laws.proofs.Machine.Swaps.{found_at}
 use Rattle.flat_model.specs.Step.{Step, flat_step}
-use Rattle.flat_model.specs.Run.{Point, is_refused, step_at, behind_first, due_at, first_if, act as next_of_step, behind, point_after, process_of_entry}
+use Rattle.flat_model.specs.Run.{Point, is_refused, step_at, behind_first, due_at, first_if, entry_of_step as next_of_step, behind, point_after, process_of_entry}
 use Rattle.flat_model.specs.Asked.{given_up, change_wanted, wanted_in, wanted_if, asks_by, asks, or_before, held_in, held_if, held_step, held_entry}
 use Rattle.run_model.specs.State.{State}
 use Rattle.run_model.specs.After.{pages_written, place_behind, after}
 use Rattle.run_model.specs.Act.{loses_pages, settled_in, settled_if, settled, loses_in, loses_if, step_loses, must_refuse, must_settle}
 use Rattle.flat_model.proofs.StepEnds.{Shape, Empty, One, Two, step_shape}
 use Rattle.register_laws.specs.Others.{is_writing}
-use Rattle.run_model.specs.Kinds.{Runs}
+use Rattle.run_model.specs.Kinds.{ProcessRuns}
 use Rattle.run_laws.specs.Standing.{Placed}
 use Rattle.kernel_model.specs.Invariant.{EntersImage}
 use Rattle.run_laws.proofs.Flows.{Ends, steps_own, on_steps}
@@ -234,7 +234,7 @@ settled_when A s pid q t f h settle l = got (settled s.point.flat s.place pid) r
 pub record Stepped (A : Inputs) (s : State) (u : Entry) : Type 0 where
   pub pid : ℕ
   pub now : Bool
-  pub runs : Runs A s pid now
+  pub runs : ProcessRuns A s pid now
   pub ends : Ends u
   pub unrefused : must_refuse A s pid ≡ false
   pub unsettling : must_settle A s pid ≡ false
@@ -269,7 +269,7 @@ pub stepped_placed : (A : Inputs) (s : State) (u : Entry) → ImagesFit A.images
 stepped_placed A s u images execs numbers lenders h st =
     let pid : ℕ = h.pid in
     let step : Step = step_at A s.point pid in
-    let runs : Runs A s pid h.now = h.runs in
+    let runs : ProcessRuns A s pid h.now = h.runs in
     let can : can_step s.point.flat pid ≡ true = on_steps A s s.mark pid h.now runs.on in
     let x : Stepper s.point.flat pid = stepper s.point.flat pid can in
     let own : process_of_entry u ≡ Some pid = steps_own A s.point pid u h.next in

@@ -7,7 +7,7 @@ use Rattle.vm_facts.specs.declared.entry.Entry.{Entry}
 use Rattle.vm_facts.specs.declared.entry.Entry.TheVariants as entries
 use Rattle.page_model.specs.Pages.{Filling, Zeros, OfImage, frame_of, is_valid}
 use Rattle.flat_state.specs.PageNames.{same_page}
-use Rattle.page_model.specs.Placement.{Placement, Transfer, Due, Start, CopyOf, due_page, due_at, state_of, filling_of, IsThere, is_dirty}
+use Rattle.page_model.specs.Placement.{Placement, Transfer, Due, Start, CopyOf, due_page, due_of_page, state_of, filling_of, IsThere, is_dirty}
 use Rattle.page_model.specs.Moves.{done}
 use Rattle.page_model.specs.Place.{due_after, place_entry}
 use Rattle.page_model.specs.Runs.{run_put, spare_frames}
@@ -38,15 +38,15 @@ pub not_due_after : (ds : List Due) (q : Page) → NotDue ds q → due_after ds 
 not_due_after [] q n = refl
 not_due_after (d ∷ ds) q n = go (same_page (due_page d) q) n
   where
-    go : (b : Bool) → cond b (Some d) (due_at ds q) ≡ None → cond b ds (d ∷ ds) ≡ d ∷ ds
+    go : (b : Bool) → cond b (Some d) (due_of_page ds q) ≡ None → cond b ds (d ∷ ds) ≡ d ∷ ds
     go true n = absurd cc
     go false n = refl
 
 pub first_after : (d : Due) (ds : List Due) → due_after (d ∷ ds) (due_page d) ≡ ds
 first_after d ds = ap (λ (b : Bool). cond b ds (d ∷ ds)) (same_page_self (due_page d))
 
-pub first_due : (d : Due) (ds : List Due) → due_at (d ∷ ds) (due_page d) ≡ Some d
-first_due d ds = ap (λ (b : Bool). cond b (Some d) (due_at ds (due_page d))) (same_page_self (due_page d))
+pub first_due : (d : Due) (ds : List Due) → due_of_page (d ∷ ds) (due_page d) ≡ Some d
+first_due d ds = ap (λ (b : Bool). cond b (Some d) (due_of_page ds (due_page d))) (same_page_self (due_page d))
 
 some_length : {A : Type 0} (xs : List A) (x : A) (rest : List A) → xs ≡ x ∷ rest → 0 < length xs
 some_length xs x rest e = subst (λ l. 0 < length l) (sym e) (omega arith)
@@ -154,7 +154,7 @@ pub fill_allowed : (p : Placement) (d : Due) (ds : List Due) (e : Entry) → p.d
 fill_allowed p d ds e h s once make = go p.free refl
   where
     due : IsDue p (due_page d) d
-    due = s (due_page d) d (ap (λ (l : List Due). due_at l (due_page d)) h ∙ first_due d ds)
+    due = s (due_page d) d (ap (λ (l : List Due). due_of_page l (due_page d)) h ∙ first_due d ds)
 
     rest : due_after p.due (due_page d) ≡ ds
     rest = ap (λ (l : List Due). due_after l (due_page d)) h ∙ first_after d ds

@@ -4,7 +4,7 @@ use Rattle.std.proofs.lemmas.List.{length-replicate}
 use Rattle.flat_state.specs.Flat.{NamedImage, Inputs, image_numbered, start_process, start_if, start_processes, start_state}
 use Rattle.vm_facts.specs.declared.page.Page.TheVariants as pages
 use Rattle.aout_image.specs.declared.Image.{Image}
-use Rattle.aout_image.specs.Image.{data_pages_of, text_pages_of}
+use Rattle.aout_image.specs.Image.{image_data_pages, text_pages_of}
 use Rattle.swap_dmap.specs.Chunks.{pieces}
 use Rattle.swap_book.specs.declared.Owner.TheVariants as owners
 use Rattle.swap_book.specs.Owners.{u_pieces}
@@ -13,7 +13,7 @@ use Rattle.swap_book.specs.Placing.{Wanted, wanted, and_then, place_all}
 use Rattle.swap_book.proofs.GrowthLaws.{place_all-append}
 use Rattle.page_model.specs.Pages.{numbered}
 use Rattle.vm_facts.specs.Lists.{times}
-use Rattle.page_model.specs.Placement.{Placement, Starting, Due, Start, due_page, due_at, due_from, slots_of, start_placement}
+use Rattle.page_model.specs.Placement.{Placement, Starting, Due, Start, due_page, due_of_page, due_from, slots_of, start_placement}
 use Rattle.page_model.specs.Rank.{HandsStand}
 use Rattle.page_model.specs.Dues.{NotDue}
 use Rattle.page_model.specs.Ownership.{OneOwner}
@@ -69,11 +69,11 @@ first_same : (images : List NamedImage) (p : Placement) (earlier : List ℕ) (pi
     → image_numbered images n ≡ Some named
     → 2 * length (slots_of p (pages.Text n 0)) ≡ 2 * text_pages_of named.image.facts
     → first_wanted images (contains earlier n) pid n ++ rest
-    ≡ text_asked (times n earlier) n (2 * length (slots_of p (pages.Text n 0))) ++ (wanted (owners.Data pid) (pieces (2 * data_pages_of named.image.facts))
+    ≡ text_asked (times n earlier) n (2 * length (slots_of p (pages.Text n 0))) ++ (wanted (owners.Data pid) (pieces (2 * image_data_pages named.image.facts))
     ++ (wanted (owners.Stack pid) (pieces 2) ++ (wanted (owners.U pid) (u_pieces 2) ++ rest)))
 first_same images p earlier pid n named rest e size =
     let t : List Wanted = text_wanted (contains earlier n) n named.image in
-    let d : List Wanted = pieces_for (owners.Data pid) (data_pages_of named.image.facts) in
+    let d : List Wanted = pieces_for (owners.Data pid) (image_data_pages named.image.facts) in
     let k : List Wanted = pieces_for (owners.Stack pid) 1 in
     let u : List Wanted = pieces_for (owners.U pid) 1 in
     ap (λ (o : Option NamedImage). (image_wanted (contains earlier n) pid n o ++ u) ++ rest) e
@@ -128,7 +128,8 @@ started_count images (n ∷ ns) h = ap (λ (o : Option NamedImage). length (star
 
 later_not_due : (m n : ℕ) (first : List Starting) → m < n → NotDue (due_from n first) (pages.Stack m 0)
 later_not_due m n [] l = refl
-later_not_due m n (a ∷ more) l = ap (λ (b : Bool). cond (b && (0 == 0)) (Some (Start (pages.Stack n 0))) (due_at (due_from (n + 1) more) (pages.Stack m 0))) (ne_eqb n m (λ e. absurd (omega arith)))
+later_not_due m n (a ∷ more) l =
+    ap (λ (b : Bool). cond (b && (0 == 0)) (Some (Start (pages.Stack n 0))) (due_of_page (due_from (n + 1) more) (pages.Stack m 0))) (ne_eqb n m (λ e. absurd (omega arith)))
     ∙ later_not_due m (n + 1) more (omega arith)
 
 start_once : (n : ℕ) (first : List Starting) → EachOnce (due_from n first)
@@ -149,7 +150,7 @@ run_start A hs images there some found =
     let beside : Stands A.images k (start_state A) = start_beside A first hs frames are images in
     let sizes : (n : ℕ) (named : NamedImage) → image_numbered A.images n ≡ Some named → 2 * length (slots_of p (pages.Text n 0)) ≡ 2 * text_pages_of named.image.facts = λ n named e.
     let i : ImageFits named = images n named e in
-    let t : length named.image.text ≡ 1024 * length (slots_of p (pages.Text n 0)) = sym (ap (λ (o : Option NamedImage). length (Rattle.kernel_model.specs.Coupled.text_of o)) e) ∙ beside.texts n in
+    let t : length named.image.text ≡ 1024 * length (slots_of p (pages.Text n 0)) = sym (ap (λ (o : Option NamedImage). length (Rattle.kernel_model.specs.Coupled.image_text o)) e) ∙ beside.texts n in
     let r = i.text in omega (arith, t, r) in
     let owner : OneOwner A.swap_blocks (is_started 1 first) p hs = start_found A.swap_blocks facts first A.frames hs (first_joined A p [] 1 A.first [] hs there sizes found) in
     let sound : Sound A.swap_blocks k =

@@ -45,9 +45,9 @@ use Rattle.run_model.specs.State.{State}
 use Rattle.run_model.specs.Wanted.{AllValid}
 use Rattle.run_model.specs.After.{written_by, written_in, pages_written, place_at, after}
 use Rattle.run_model.specs.Act.{loses_pages}
-use Rattle.run_model.specs.Kinds.{Runs}
+use Rattle.run_model.specs.Kinds.{ProcessRuns}
 use Rattle.kernel_model.specs.Unit.{passing_change}
-use Rattle.run_laws.specs.Machine.{write_bytes, write_held, write_by, written_step, taken_step, takes_step, process_step, ran_step, OutRegs, Keeps, StandsAt}
+use Rattle.run_laws.specs.Machine.{write_bytes, write_held, process_written, written_step, taken_step, takes_step, process_step, ran_step, OutRegs, Keeps, StandsAt}
 use Rattle.run_laws.proofs.Writing.{SameSpace, space_tables}
 use Rattle.run_laws.proofs.Written.{Mid, Rest, IsValidAt, AllWritable, WroteAll, write_all}
 use Rattle.run_laws.proofs.Landing.{Landed, Found, step_landed}
@@ -118,7 +118,7 @@ step_reaches A s k image u images execs numbers lenders at h valid =
     (all_writable k.place x.space (touched A flat pid) step.writes (subst (λ (p : Placement). AllValid p (touched A flat pid)) (sym at.place) valid)
     (writes_shown A flat pid x.process x.space (is_refused s.point.last pid) x.here (ready_here flat pid x.process can x.here) x.holds)) in
     let rest : Rest k k1 = bytes.rest in
-    let k1_is : written_step A s k pid ≡ k1 = ap (λ (o : Option Process). write_by k o step.writes) x.here ∙ ap (λ (y : Holding). write_held k y step.writes) x.holds in
+    let k1_is : written_step A s k pid ≡ k1 = ap (λ (o : Option Process). process_written k o step.writes) x.here ∙ ap (λ (y : Holding). write_held k y step.writes) x.holds in
     let written_is : written ≡ pages = ap (λ (o : Option Process). written_by o step.writes) x.here ∙ ap (λ (y : Holding). written_in y step.writes) x.holds in
     let p1 : Placement = touch_all s.place written in
     let place1 : k1.place ≡ p1 = bytes.place ∙ ap₂ (λ (p : Placement) (qs : List Page). touch_all p qs) at.place (sym written_is) in
@@ -232,7 +232,7 @@ step_reaches A s k image u images execs numbers lenders at h valid =
     step : Step
     step = step_at A s.point pid
 
-    runs : Runs A s pid h.now
+    runs : ProcessRuns A s pid h.now
     runs = h.runs
 
     can : can_step flat pid ≡ true

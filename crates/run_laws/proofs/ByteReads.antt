@@ -16,7 +16,7 @@ use Rattle.page_model.specs.Pages.{frame_of, numbered}
 use Rattle.page_model.specs.Placement.{state_of, is_dirty}
 use Rattle.page_model.specs.PageBytes.{IsInFrame}
 use Rattle.kernel_model.specs.Kernel.{Kernel, frame_bytes}
-use Rattle.kernel_model.specs.Coupled.{Coupled, beside_kernel, memory_of, text_of, data_bytes_in, stack_bytes_in}
+use Rattle.kernel_model.specs.Coupled.{Coupled, beside_kernel, memory_of, image_text, data_bytes_in, stack_bytes_in}
 use Rattle.flat_model.specs.Touched.{page_read}
 use Rattle.run_model.specs.State.{State}
 use Rattle.page_laws.proofs.Bytes.Pages.{keeps_at}
@@ -66,7 +66,7 @@ byte_read A s k image pid q x spot v f run at here holds named valid = go spot n
     go : (spot : Spot) → page_read x spot ≡ Some v → byte_at x spot ≡ reads.Is (slice_index (frame_bytes k f) (place_in spot))
     go (spots.Text i) e =
         let same : pages.Text x.image (i / 1024) ≡ v = cc in
-        let whole : text_of (image_numbered A.images x.image) ≡ x.text_bytes = ap text_of text.image ∙ sym text.same in
+        let whole : image_text (image_numbered A.images x.image) ≡ x.text_bytes = ap image_text text.image ∙ sym text.same in
         ap (λ (n : ℕ). reads.Is n) (at_byte x.text_bytes i (bytes (pages.Text x.image (i / 1024)) same ∙ ap (page_at (i / 1024)) whole))
     go (spots.Data i) e =
         let same : pages.Data x.sid (i / 1024) ≡ v = cc in

@@ -19,7 +19,7 @@ use Rattle.flat_state.specs.declared.change.Change.TheVariants.{Resize, Fork, Ex
 use Rattle.flat_state.specs.Change.{is_borrower}
 use Rattle.page_model.specs.Pages.{Slot}
 use Rattle.flat_state.specs.PageNames.{same_page}
-use Rattle.page_model.specs.Placement.{Placement, Due, CopyOf, due_page, due_at, image_of, sharers, slots_of}
+use Rattle.page_model.specs.Placement.{Placement, Due, CopyOf, due_page, due_of_page, image_of, sharers, slots_of}
 use Rattle.page_model.specs.Place.{place_change, copy_due, copies_from, give_up_unless, facts_numbered}
 use Rattle.page_model.specs.Dues.{NotDue}
 use Rattle.kernel_model.specs.ChangeStep.{holdings_after, given_back_unless, text_given_back}
@@ -96,10 +96,10 @@ absent_copies : (child parent : ℕ → Page) (r : Page) (v : ℕ) (xs : List Sl
 absent_copies child parent r v [] h = refl
 absent_copies child parent r v (x ∷ xs) h = go x.state (absent_copies child parent r (v + 1) xs (λ w l. h w (omega arith)))
   where
-    skip : NotDue (copies_from child parent (v + 1) xs) r → cond (same_page (child v) r) (Some (CopyOf (child v) (parent v))) (due_at (copies_from child parent (v + 1) xs) r) ≡ None
-    skip ih = ap (λ (b : Bool). cond b (Some (CopyOf (child v) (parent v))) (due_at (copies_from child parent (v + 1) xs) r)) (h v (omega arith)) ∙ ih
+    skip : NotDue (copies_from child parent (v + 1) xs) r → cond (same_page (child v) r) (Some (CopyOf (child v) (parent v))) (due_of_page (copies_from child parent (v + 1) xs) r) ≡ None
+    skip ih = ap (λ (b : Bool). cond b (Some (CopyOf (child v) (parent v))) (due_of_page (copies_from child parent (v + 1) xs) r)) (h v (omega arith)) ∙ ih
 
-    go : (t : PageState) → NotDue (copies_from child parent (v + 1) xs) r → due_at (copy_due (child v) (parent v) t ++ copies_from child parent (v + 1) xs) r ≡ None
+    go : (t : PageState) → NotDue (copies_from child parent (v + 1) xs) r → due_of_page (copy_due (child v) (parent v) t ++ copies_from child parent (v + 1) xs) r ≡ None
     go Unfilled ih = ih
     go (Valid f) ih = skip ih
     go (Invalid f) ih = skip ih
@@ -114,21 +114,21 @@ append_absent : (xs ys : List Due) (r : Page) → NotDue xs r → NotDue ys r �
 append_absent [] ys r a b = b
 append_absent (d ∷ xs) ys r a b = go (same_page (due_page d) r) a (append_absent xs ys r)
   where
-    go : (c : Bool) → cond c (Some d) (due_at xs r) ≡ None → (NotDue xs r → NotDue ys r → NotDue (xs ++ ys) r) → cond c (Some d) (due_at (xs ++ ys) r) ≡ None
+    go : (c : Bool) → cond c (Some d) (due_of_page xs r) ≡ None → (NotDue xs r → NotDue ys r → NotDue (xs ++ ys) r) → cond c (Some d) (due_of_page (xs ++ ys) r) ≡ None
     go true a ih = absurd cc
     go false a ih = ih a b
 
-append_once : (xs ys : List Due) → EachOnce xs → EachOnce ys → ((d : Page) → (due_at xs d ≡ None → ⊥) → NotDue ys d) → EachOnce (xs ++ ys)
+append_once : (xs ys : List Due) → EachOnce xs → EachOnce ys → ((d : Page) → (due_of_page xs d ≡ None → ⊥) → NotDue ys d) → EachOnce (xs ++ ys)
 append_once [] ys a b h = b
 append_once (d ∷ xs) ys a b h = (
   append_absent xs ys (due_page d) a.0 (h (due_page d) (λ e. absurd (let z : Some d ≡ None = sym (Rattle.run_laws.proofs.Allowed.first_due d xs) ∙ e in cc))),
   append_once xs ys a.1 b (λ r n. h r (λ e. n (later r e))),
 )
   where
-    later : (r : Page) → due_at (d ∷ xs) r ≡ None → due_at xs r ≡ None
+    later : (r : Page) → due_of_page (d ∷ xs) r ≡ None → due_of_page xs r ≡ None
     later r e = go (same_page (due_page d) r) e
       where
-        go : (c : Bool) → cond c (Some d) (due_at xs r) ≡ None → due_at xs r ≡ None
+        go : (c : Bool) → cond c (Some d) (due_of_page xs r) ≡ None → due_of_page xs r ≡ None
         go true e = absurd cc
         go false e = e
 
@@ -146,7 +146,7 @@ copies_once child parent v (x ∷ xs) h = go x.state (copies_once child parent (
     go (Going f) ih n = (n, ih)
     go OnSwap ih n = (n, ih)
 
-stack_absent : (child parent : ℕ) (xs ys : List Slot) (r : Page) → (due_at (copies_from (pages.Data child) (pages.Data parent) 0 xs) r ≡ None → ⊥)
+stack_absent : (child parent : ℕ) (xs ys : List Slot) (r : Page) → (due_of_page (copies_from (pages.Data child) (pages.Data parent) 0 xs) r ≡ None → ⊥)
     → NotDue (copies_from (pages.Stack child) (pages.Stack parent) 0 ys) r
 stack_absent child parent xs ys (pages.Stack sid n) h = absurd (h (absent_copies (pages.Data child) (pages.Data parent) (pages.Stack sid n) 0 xs (λ w l. refl)))
 stack_absent child parent xs ys x h = absent_copies (pages.Stack child) (pages.Stack parent) x 0 ys (λ w l. refl)

@@ -7,7 +7,7 @@ use Rattle.vm_facts.specs.declared.entry.Entry.{Entry}
 use Rattle.vm_facts.specs.declared.entry.Entry.TheVariants as entries
 use Rattle.flat_state.specs.Flat.{Inputs, process_of}
 use Rattle.page_model.specs.Pages.{Filling, frame_of, is_valid}
-use Rattle.page_model.specs.Placement.{Placement, Transfer, Due, Start, CopyOf, IsThere, due_at, state_of, filling_of}
+use Rattle.page_model.specs.Placement.{Placement, Transfer, Due, Start, CopyOf, IsThere, due_of_page, state_of, filling_of}
 use Rattle.page_model.specs.Runs.{run_put}
 use Rattle.page_model.specs.Place.{space_of_process, pages_of_space}
 use Rattle.page_model.specs.Serve.{force_entry, is_full, feed_unit_by, serve_unit_by, serve_unit, serve_entry}
@@ -23,7 +23,7 @@ use Rattle.page_laws.proofs.Swapper.PuttingOut.{unit_case, seated_first, run_sea
 use Rattle.page_laws.proofs.Moves.Units.{unit_is}
 use Rattle.flat_model.specs.Run.{process_of_entry}
 use Rattle.run_model.specs.State.{State}
-use Rattle.run_model.specs.Wanted.{touched_next, touched_by, locked, Splits}
+use Rattle.run_model.specs.Wanted.{touched_next, touched_of, locked, Splits}
 use Rattle.run_model.proofs.Wanting.{wanted_splits}
 use Rattle.run_model.specs.Next.{fill_by, fill_unit, begins_write, move_by, owners_entry}
 use Rattle.run_model.specs.Kinds.{Kind, Fills, Brings, Copies, Serves, Acts, ComesIn, Interrupts, Moves, PutsOut, Notes, Begins}
@@ -94,24 +94,24 @@ served A s k image read u q now x there n h =
 
 -- what is due at the machine
 due_here : (A : Inputs) (s : State) (k : Kernel) (q : Page) (d : Due) (ds : List Due) → k.place ≡ s.place
-    → Rattle.page_model.specs.Placement.due_page d ≡ q → s.place.due ≡ d ∷ ds → due_at k.place.due q ≡ Some d
-due_here A s k q d ds same i e = ap (λ (p : Placement). due_at p.due q) same ∙ ap (λ (l : List Due). due_at l q) e ∙ ap (due_at (d ∷ ds)) (sym i) ∙ first_due d ds
+    → Rattle.page_model.specs.Placement.due_page d ≡ q → s.place.due ≡ d ∷ ds → due_of_page k.place.due q ≡ Some d
+due_here A s k q d ds same i e = ap (λ (p : Placement). due_of_page p.due q) same ∙ ap (λ (l : List Due). due_of_page l q) e ∙ ap (due_of_page (d ∷ ds)) (sym i) ∙ first_due d ds
 
 pub kind_goes : (A : Inputs) (s : State) (k : Kernel) (image : List ℕ) (read : List (List ℕ)) (u : Entry) → StandsAt A s k image read → Stood A s
     → IsNumbered s.point.flat
     → TextsHeld A.images s.point.flat → Kind A s u → process_of_entry u ≡ None → Stays u → Couples A s k image read u
 kind_goes A s k image read u x st nums texts (Fills q due e i) n y =
     let make : 0 < length k.place.free → Couples A s k image read (entries.Zero q) = λ some.
-    let h : due_at k.place.due q ≡ Some (Start q) = due_here A s k q (Start q) due x.same refl e in
+    let h : due_of_page k.place.due q ≡ Some (Start q) = due_here A s k q (Start q) due x.same refl e in
     let d : IsDue k.place q (Start q) = subst DueStand (sym x.same) st.dues q (Start q) h in
     goes_start A.swap_blocks k A.images image s.point.flat (locked A s) read q q x.machine (record { there = d.there; frameless = ap frame_of d.unfilled }) d.writable some d.unfilled h in
     subst (Couples A s k image read) (sym i) (filled A s k image read (entries.Zero q) x make)
 kind_goes A s k image read u x st nums texts (Brings q parent due e i) n y =
-    let d : IsDue s.place q (CopyOf q parent) = st.dues q (CopyOf q parent) (ap (λ (l : List Due). due_at l q) e ∙ first_due (CopyOf q parent) due) in
+    let d : IsDue s.place q (CopyOf q parent) = st.dues q (CopyOf q parent) (ap (λ (l : List Due). due_of_page l q) e ∙ first_due (CopyOf q parent) due) in
     served A s k image read u parent true x (Rattle.page_laws.proofs.Ownership.Serve.state_there s.place parent (d.source).1) (not_due s.place parent st.dues (d.source).1) i
 kind_goes A s k image read u x st nums texts (Copies q parent due e none i) n y =
     let make : 0 < length k.place.free → Couples A s k image read (entries.Copy q) = λ some.
-    let h : due_at k.place.due q ≡ Some (CopyOf q parent) = due_here A s k q (CopyOf q parent) due x.same refl e in
+    let h : due_of_page k.place.due q ≡ Some (CopyOf q parent) = due_here A s k q (CopyOf q parent) due x.same refl e in
     let d : IsDue k.place q (CopyOf q parent) = subst DueStand (sym x.same) st.dues q (CopyOf q parent) h in
     let v : (f : ℕ) × (state_of s.place parent ≡ Valid f) = served_none s.place parent none in
     goes_copy A.swap_blocks k A.images image s.point.flat (locked A s) read q q parent v.0 x.machine (record { there = d.there; frameless = ap frame_of d.unfilled }) d.writable some d.unfilled h
@@ -119,10 +119,10 @@ kind_goes A s k image read u x st nums texts (Copies q parent due e none i) n y 
     subst (Couples A s k image read) (sym i) (filled A s k image read (entries.Copy q) x make)
 kind_goes A s k image read u x st nums texts (Serves pid now q r w i) n y =
     let j : Splits s.place (touched_next A s) (locked A s) q = wanted_splits A s q r.clear w in
-    let all = subst (Rattle.page_model.specs.Conditions.EachPage (Present s.place)) (ap (touched_by A s.point.flat) (sym (on_running A s s.mark pid now r.on)))
+    let all = subst (Rattle.page_model.specs.Conditions.EachPage (Present s.place)) (ap (touched_of A s.point.flat) (sym (on_running A s s.mark pid now r.on)))
     (touched_present A s.point.flat s.place s.holdings pid nums texts st) in
     let here : Present s.place q = each_split (Present s.place) (locked A s) q j.behind (subst (Rattle.page_model.specs.Conditions.EachPage (Present s.place)) j.whole all) in
-    served A s k image read u q now x here.there (ap (λ (l : List Due). due_at l q) r.clear) i
+    served A s k image read u q now x here.there (ap (λ (l : List Due). due_of_page l q) r.clear) i
 kind_goes A s k image read u x st nums texts (Acts pid now r w a) n y = subst (Couples A s k image read) (sym (act_plain A s pid u a n)) (finish A s k image read x)
 kind_goes A s k image read u x st nums texts (ComesIn pid e c i) n y = absurd (subst Stays i y)
 kind_goes A s k image read u x st nums texts (Interrupts e m i) n y = subst (Couples A s k image read) (sym i) (finish A s k image read x)

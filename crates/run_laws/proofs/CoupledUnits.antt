@@ -8,7 +8,7 @@ use Rattle.vm_facts.specs.declared.entry.Entry.{Entry}
 use Rattle.vm_facts.specs.declared.entry.Entry.TheVariants as entries
 use Rattle.flat_state.specs.PageNames.{number_of, pages_from}
 use Rattle.page_model.specs.Pages.{Filling, Zeros, OfImage, frame_of, is_valid}
-use Rattle.page_model.specs.Placement.{Transfer, Start, CopyOf, IsThere, due_at, state_of, filling_of}
+use Rattle.page_model.specs.Placement.{Transfer, Start, CopyOf, IsThere, due_of_page, state_of, filling_of}
 use Rattle.page_model.specs.Runs.{run_in}
 use Rattle.page_model.specs.Serve.{force_entry, is_full, source_for, read_entry_if, bring_entry_by, feed_entry_by, serve_entry_by, serve_entry}
 use Rattle.page_model.specs.Conditions.{CanEnter, EachPage, HasSeat}
@@ -84,7 +84,7 @@ goes_put size k images image flat locked read q n x h hs = record {
 pub goes_start : (size : ℕ) (k : Kernel) (images : List NamedImage) (image : List ℕ) (flat : FlatState) (locked : List Page) (read : List (List ℕ)) (q r : Page)
     → Machine size k images image flat read
     → CanEnter k.place q → IsWritable q → 0 < length k.place.free
-    → state_of k.place q ≡ Unfilled → due_at k.place.due q ≡ Some (Start r) → Goes k images image flat locked read (entries.Zero q)
+    → state_of k.place q ≡ Unfilled → due_of_page k.place.due q ≡ Some (Start r) → Goes k images image flat locked read (entries.Zero q)
 goes_start size k images image flat locked read q r x c w some e d = record {
   coupled = start_coupled size k images image flat q r x.sound c w some e d x.coupled;
   stands = zero_stands images k flat q x.stands;
@@ -94,12 +94,12 @@ goes_start size k images image flat locked read q r x c w some e d = record {
 pub goes_copy : (size : ℕ) (k : Kernel) (images : List NamedImage) (image : List ℕ) (flat : FlatState) (locked : List Page) (read : List (List ℕ))
     (q r parent : Page) (f : ℕ)
     → Machine size k images image flat read → CanEnter k.place q → IsWritable q → 0 < length k.place.free
-    → state_of k.place q ≡ Unfilled → due_at k.place.due q ≡ Some (CopyOf r parent) → state_of k.place parent ≡ Valid f
+    → state_of k.place q ≡ Unfilled → due_of_page k.place.due q ≡ Some (CopyOf r parent) → state_of k.place parent ≡ Valid f
     → Goes k images image flat locked read (entries.Copy q)
 goes_copy size k images image flat locked read q r parent f x c w some e d v = record {
   coupled = copy_coupled size k images image flat q r parent f x.sound c w some e d v x.coupled;
   stands = copy_stands images k flat q r parent d x.stands;
-  tokens = first_length k.place.free k.frames (Rattle.kernel_model.specs.Kernel.copied_bytes k (due_at k.place.due q));
+  tokens = first_length k.place.free k.frames (Rattle.kernel_model.specs.Kernel.copied_bytes k (due_of_page k.place.due q));
 }
 
 pub serve_goes : (size : ℕ) (k : Kernel) (images : List NamedImage) (image : List ℕ) (flat : FlatState) (locked : List Page) (read : List (List ℕ)) (q : Page)

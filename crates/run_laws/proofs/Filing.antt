@@ -3,7 +3,7 @@ use Rattle.std.proofs.Common.{◌≡◌, inl, inr, ℕ, zero, suc, ◌+◌, ◌-
 use Rattle.std.specs.Prelude.{slice_get, if◌then◌else◌}
 use Rattle.std.proofs.lemmas.List.{length-replicate, length-take}
 use Rattle.aout_image.specs.declared.Image.{Image}
-use Rattle.aout_image.specs.Image.{IsSound, Loaded, loaded, image_of, in_pages, text_pages_of, data_pages_of, text_given, data_given, text_offset, has_text_segment, pages_for, file_length_of, page_at}
+use Rattle.aout_image.specs.Image.{IsSound, Loaded, loaded, judged_image, in_pages, text_pages_of, image_data_pages, text_given, data_given, text_offset, has_text_segment, pages_for, file_length_of, page_at}
 use Rattle.aout_image.proofs.Images.{IsFileOf, image_of-is, page_at-in_pages}
 use Rattle.swap_book.specs.Holdings.{Holdings}
 use Rattle.flat_state.specs.Flat.{NamedImage, Inputs, argument_area}
@@ -44,9 +44,9 @@ loaded_fits image bytes whole = (
   in_pages_length (text_pages_of image) (take (text_given image) (drop (text_offset image) bytes))
       (let a = taken (text_given image) (text_offset image) bytes in let b = pages_hold (text_given image) in omega arith),
   record {
-    size = in_pages_length (data_pages_of image) (take (data_given image) (drop (text_offset image + text_given image) bytes))
+    size = in_pages_length (image_data_pages image) (take (data_given image) (drop (text_offset image + text_given image) bytes))
         (let a = taken (data_given image) (text_offset image + text_given image) bytes in let b = pages_more (data_given image) image.bss_len in omega arith);
-    rest = λ v past below. page_at-in_pages (text_offset image + text_given image) (data_given image) (data_pages_of image) v bytes (let s = given_sum image in omega (arith, whole))
+    rest = λ v past below. page_at-in_pages (text_offset image + text_given image) (data_given image) (image_data_pages image) v bytes (let s = given_sum image in omega (arith, whole))
         (pages_more (data_given image) image.bss_len) below
         ∙ ap (λ (n : ℕ). Rattle.aout_image.specs.Image.page_from bytes (text_offset image + text_given image + min (1024 * v) (data_given image)) n)
         (let e : min 1024 (data_given image - 1024 * v) ≡ 0 = omega (arith, past) in e);

@@ -29,7 +29,7 @@ use Rattle.run_model.specs.After.{after}
 use Rattle.run_model.specs.Act.{act}
 use Rattle.run_model.proofs.After.{after_count}
 use Rattle.run_model.specs.Next.{when, or_else, due_unit, under, pid_if, next_ready, last_turned, turn_of, line_or_turn, next_mark, next_unit}
-use Rattle.run_model.specs.Kinds.{Runs}
+use Rattle.run_model.specs.Kinds.{ProcessRuns}
 use Rattle.run_model.specs.Lawful.{Follows, Reaches, IsFinished}
 use Rattle.run_laws.specs.Flowing.{Awaits, WaitsBy, Flows}
 use Rattle.run_laws.specs.Running.{IsRun, IsReady, IsIdle}
@@ -156,7 +156,8 @@ step_some A F pid refused c =
     (of_some A.images F x.process x.space refused (instruction_in x.space x.process.regs) (λ a w e. never_misses x.space (instruction x.process.regs) a w e)))
 
 -- a process that runs, all of whose pages are valid, has a next unit
-pub runs_some : (A : Inputs) (s : State) (pid : ℕ) (now : Bool) → IsRun A s → Runs A s pid now → wanted A s ≡ None → (u : Entry) × (next_unit A s ≡ Some u)
+pub runs_some : (A : Inputs) (s : State) (pid : ℕ) (now : Bool) → IsRun A s → ProcessRuns A s pid now → wanted A s ≡ None
+    → (u : Entry) × (next_unit A s ≡ Some u)
 runs_some A s pid now r x w =
     let f : Flows A s = r.flows in
     let a : (u : Entry) × (act A s pid ≡ Some u) = acts_some A s pid c (left s.point.last refl f.waits) in
@@ -170,7 +171,7 @@ runs_some A s pid now r x w =
 
     -- bytes that are out are the running process's
     own : (p : ℕ) → Awaits A s p → p ≡ pid
-    own p y = let z : Runs A s p y.now = y.runs in let k : Some p ≡ Some pid = sym (on_running A s s.mark p y.now z.on) ∙ on_running A s s.mark pid now x.on in cc
+    own p y = let z : ProcessRuns A s p y.now = y.runs in let k : Some p ≡ Some pid = sym (on_running A s s.mark p y.now z.on) ∙ on_running A s s.mark pid now x.on in cc
 
     left : (o : Option Entry) → s.point.last ≡ o → WaitsBy A s o → due_at A s.point pid ≡ [] → ⊥
     left (Some (entries.Out p bytes)) e y z = y.left (ap (λ (n : ℕ). due_at A s.point n) (own p y) ∙ z)

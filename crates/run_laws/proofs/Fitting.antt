@@ -6,7 +6,7 @@ use Rattle.swap_book.specs.Holdings.{Holdings}
 use Rattle.flat_state.specs.Flat.{Process, Inputs}
 use Rattle.flat_state.specs.Journal.{appended}
 use Rattle.kernel_model.specs.Kernel.{Kernel}
-use Rattle.register_laws.specs.Longwords.{AllFit, AllImages}
+use Rattle.register_laws.specs.Longwords.{ProcessesFit, AllImages}
 use Rattle.register_laws.proofs.Registers.{found_regs}
 use Rattle.register_laws.proofs.Runs.{run_fits}
 use Rattle.run_model.specs.State.{State, start}
@@ -22,7 +22,7 @@ use Rattle.run_laws.proofs.Wholes.{reached_lawful}
 use Rattle.run_laws.proofs.SwapImages.{OutFits, OutsFit, given_at, run_swaps}
 
 pub reached_fits : (A : Inputs) (hs : Holdings) (journal : List Entry) (s : State) → CanRun A hs → AllImages A.images
-    → length A.first + 1 + A.limit < 2 ^ 32 → Reaches A journal s → AllFit s.point.flat.processes
+    → length A.first + 1 + A.limit < 2 ^ 32 → Reaches A journal s → ProcessesFit s.point.flat.processes
 reached_fits A hs journal s c w l r =
     let k : IsLawful A journal s = reached_lawful A hs journal s c r in
     let n = units_below A r.units (start A r.holdings) s r.follows (omega arith) in
@@ -30,10 +30,10 @@ reached_fits A hs journal s c w l r =
     run_fits A journal s.point w (omega arith) k.flat
 
 follows_fit : (A : Inputs) (hs : Holdings) (us : List Entry) (t : State) → CanRun A hs → AllImages A.images → length A.first + 1 + A.limit < 2 ^ 32
-    → Follows A (start A hs) us t → AllFit t.point.flat.processes
+    → Follows A (start A hs) us t → ProcessesFit t.point.flat.processes
 follows_fit A hs us t c w l f = reached_fits A hs (appended [] us) t c w l (record { holdings = hs; found = c.pieces; units = us; follows = f; joined = refl })
 
-out_fits : (s : State) (u : Entry) → AllFit s.point.flat.processes → OutFits s u
+out_fits : (s : State) (u : Entry) → ProcessesFit s.point.flat.processes → OutFits s u
 out_fits s (entries.SwapOut pid) h = λ q e. (found_regs (λ (x : Process). x.pid == pid) s.point.flat.processes q e h).0
 out_fits s _ h = tt
 
@@ -47,7 +47,7 @@ outs_from A hs vs (u ∷ us) s t c w l f g = (
 
 -- what a machine is told of a process that goes out
 pub given_out : (A : Inputs) (s : State) (k : Kernel) (image : List ℕ) (read : List (List ℕ)) (pid : ℕ) → Next A s k image (entries.SwapOut pid)
-    → AllFit s.point.flat.processes → IsGiven A s k image read (entries.SwapOut pid)
+    → ProcessesFit s.point.flat.processes → IsGiven A s k image read (entries.SwapOut pid)
 given_out A s k image read pid x h = given_at A s k image (entries.SwapOut pid) x (out_fits s (entries.SwapOut pid) h)
 
 pub run_swapped : (A : Inputs) (hs : Holdings) (us journal : List Entry) (t : State) (image : List ℕ) → CanRun A hs → AllImages A.images

@@ -25,14 +25,14 @@ use Rattle.run_model.proofs.Wanting.{wanted_none, all_unwanted}
 use Rattle.run_model.specs.declared.mark.Mark.{Mark}
 use Rattle.run_model.specs.declared.mark.Mark.TheVariants as marks
 use Rattle.flat_model.specs.Step.{flat_step}
-use Rattle.flat_model.specs.Run.{Point, is_refused, step_at, behind_first, due_at, first_if, act as next_of_step, process_of_entry, flat_entry}
+use Rattle.flat_model.specs.Run.{Point, is_refused, step_at, behind_first, due_at, first_if, entry_of_step as next_of_step, process_of_entry, flat_entry}
 use Rattle.run_model.specs.State.{State}
 use Rattle.run_model.specs.Wanted.{running, touched_next, AllValid, wanted, locked}
 use Rattle.run_model.specs.After.{after, completed}
 use Rattle.run_model.specs.Act.{must_refuse, must_settle, act_by, act_if, act, awaits, IsNext, LastSays}
 use Rattle.run_model.proofs.Acting.{next_says}
 use Rattle.run_model.specs.Next.{when, or_else, goes_on, turn_instructions, work, work_by, turn_by, turn_unit, under, next_mark, next_unit}
-use Rattle.run_model.specs.Kinds.{GoesOn, Runs, Kind, Fills, Brings, Copies, Serves, Acts, ComesIn, Interrupts, Moves, PutsOut, Notes, Begins}
+use Rattle.run_model.specs.Kinds.{GoesOn, ProcessRuns, Kind, Fills, Brings, Copies, Serves, Acts, ComesIn, Interrupts, Moves, PutsOut, Notes, Begins}
 use Rattle.run_model.proofs.NextUnits.{kind_of}
 use Rattle.std.proofs.lemmas.Bool.{and_parts}
 use Rattle.std.proofs.lemmas.Option.{same_Some}
@@ -53,7 +53,7 @@ on_running A s (marks.Turn p since) pid true g = ap (λ (x : ℕ). Some x) g.0
 on_running A s _ pid now g = absurd g
 
 -- under its mark a process works
-pub runs_work : (A : Inputs) (s : State) (pid : ℕ) (now : Bool) → Runs A s pid now → under A s s.mark ≡ work A s pid now
+pub runs_work : (A : Inputs) (s : State) (pid : ℕ) (now : Bool) → ProcessRuns A s pid now → under A s s.mark ≡ work A s pid now
 runs_work A s pid now r = go s.mark now r.on
   where
     turn : (b : Bool) → b ≡ false → turn_by A s pid b ≡ work A s pid true
@@ -69,7 +69,7 @@ runs_work A s pid now r = go s.mark now r.on
     go _ now g = absurd g
 
 -- where all its pages are valid, it acts
-pub runs_next : (A : Inputs) (s : State) (pid : ℕ) (now : Bool) (u : Entry) → Runs A s pid now → wanted A s ≡ None → act A s pid ≡ Some u
+pub runs_next : (A : Inputs) (s : State) (pid : ℕ) (now : Bool) (u : Entry) → ProcessRuns A s pid now → wanted A s ≡ None → act A s pid ≡ Some u
     → next_unit A s ≡ Some u
 unfolding next_unit
 runs_next A s pid now u r w a =
@@ -98,17 +98,17 @@ acts_some A s pid c n = can (can_step s.point.flat pid) c
 -- after `Refused` and `Out` their process acts
 pub awaits_next : (A : Inputs) (s : State) (u : Entry) (pid : ℕ) → Awaits A s pid → next_unit A s ≡ Some u → act A s pid ≡ Some u
 awaits_next A s u pid a h =
-    let r : Runs A s pid a.now = a.runs in
+    let r : ProcessRuns A s pid a.now = a.runs in
     let x = acts_some A s pid (on_steps A s s.mark pid a.now r.on) a.left in
     x.1 ∙ (sym (runs_next A s pid a.now x.0 r a.unwanted x.1) ∙ h)
 
 -- who acts is no other than the one that the last flat entry leaves next
-awaited_by : (A : Inputs) (s : State) (u : Entry) (pid : ℕ) (now : Bool) → Runs A s pid now → (o : Option Entry) → WaitsBy A s o → awaits o pid ≡ true
+awaited_by : (A : Inputs) (s : State) (u : Entry) (pid : ℕ) (now : Bool) → ProcessRuns A s pid now → (o : Option Entry) → WaitsBy A s o → awaits o pid ≡ true
 awaited_by A s u pid now r o w = go o w
   where
     one : (p : ℕ) → Awaits A s p → p ≡ pid
     one p a =
-        let q : Runs A s p a.now = a.runs in
+        let q : ProcessRuns A s p a.now = a.runs in
         let k : Some p ≡ Some pid = sym (on_running A s s.mark p a.now q.on) ∙ on_running A s s.mark pid now r.on in cc
 
     go : (o : Option Entry) → WaitsBy A s o → awaits o pid ≡ true
@@ -229,7 +229,7 @@ noted_on A s u (marks.Dispatch p count since) pid false g = g
 noted_on A s u (marks.Turn p since) pid true g = g
 noted_on A s u _ pid now g = absurd g
 
-noted_awaits : (A : Inputs) (s : State) (u : Entry) (pid : ℕ) (now : Bool) → Runs A s pid now → wanted A s ≡ None
+noted_awaits : (A : Inputs) (s : State) (u : Entry) (pid : ℕ) (now : Bool) → ProcessRuns A s pid now → wanted A s ≡ None
     → (due_at A (noted s u).point pid ≡ [] → ⊥) → Awaits A (noted s u) pid
 noted_awaits A s u pid now r w n =
     let unwanted : wanted A (noted s u) ≡ None = all_unwanted A (noted s u) r.clear (wanted_none A s r.clear w) in
@@ -263,7 +263,7 @@ spared p r rs v s (t ∷ ts) k = (s t (k t (among_first t ts)) (valid_among p rs
 done_awaits : (A : Inputs) (s : State) (pid : ℕ) → OwnsFrames s.place → Awaits A s pid → Awaits A (after A s entries.Done) pid
 unfolding after
 done_awaits A s pid o a =
-    let r : Runs A s pid a.now = a.runs in
+    let r : ProcessRuns A s pid a.now = a.runs in
     let st : Steady s.place (done s.place) = done_steady s.place o in
     let v : AllValid s.place (touched_next A s) = wanted_none A s r.clear a.unwanted in
     let m : running s.mark ≡ Some pid = on_running A s s.mark pid a.now r.on in
@@ -276,7 +276,7 @@ done_awaits A s pid o a =
         resident = ap (λ (rs : List Residence). (residence_of rs pid).out) (done_shaped s.place).residents ∙ r.resident;
       };
       unwanted = all_unwanted A (after A s entries.Done) (st.due ∙ r.clear)
-          (subst (AllValid (done s.place)) (sym (ap (Rattle.run_model.specs.Wanted.touched_by A s.point.flat) n))
+          (subst (AllValid (done s.place)) (sym (ap (Rattle.run_model.specs.Wanted.touched_of A s.point.flat) n))
           (spared s.place (done s.place) (touched_next A s) v (done_spares s.place (touched_next A s) o) (touched_next A s) (λ q e. e)));
       left = a.left;
     }
@@ -480,14 +480,14 @@ has_some [] h e = h
 has_some (x ∷ xs) h e = absurd cc
 
 -- an entry of the process's step
-step_waits : (A : Inputs) (s : State) (pid : ℕ) (now : Bool) (u : Entry) → Runs A s pid now → wanted A s ≡ None → next_of_step A s.point pid ≡ Some u
+step_waits : (A : Inputs) (s : State) (pid : ℕ) (now : Bool) (u : Entry) → ProcessRuns A s pid now → wanted A s ≡ None → next_of_step A s.point pid ≡ Some u
     → LastSays A (after A s u).point.flat (after A s u).point.last → WaitsBy A (after A s u) (after A s u).point.last
 unfolding after
 step_waits A s pid now (entries.Out p bytes) r w h says =
     let o : IsOut A s.point pid p bytes = out_of A s.point pid p bytes h in
     let e : after A s (entries.Out p bytes) ≡ noted s (entries.Out p bytes) = out_after A s pid p bytes o in
     subst (λ (t : State). WaitsBy A t t.point.last) (sym e)
-    (noted_awaits A s (entries.Out p bytes) p now (subst (λ (x : ℕ). Runs A s x now) (sym o.own) r) w
+    (noted_awaits A s (entries.Out p bytes) p now (subst (λ (x : ℕ). ProcessRuns A s x now) (sym o.own) r) w
     (left (subst (λ (t : State). LastSays A t.point.flat t.point.last) e says)))
   where
     left : LastSays A s.point.flat (Some (entries.Out p bytes)) → due_at A (noted s (entries.Out p bytes)).point p ≡ [] → ⊥
@@ -568,7 +568,7 @@ flows_on A s u o f h = go (kind_of A s u h)
     plain : process_of_entry u ≡ None → Flows A (after A s u)
     plain k = record { says = says; waits = plain_waits A s u o h k f.waits }
 
-    act_by_kind : (pid : ℕ) (now : Bool) → Runs A s pid now → wanted A s ≡ None → Acted A s pid u → Flows A (after A s u)
+    act_by_kind : (pid : ℕ) (now : Bool) → ProcessRuns A s pid now → wanted A s ≡ None → Acted A s pid u → Flows A (after A s u)
     act_by_kind pid now r w (Settles e) = plain (ap process_of_entry e)
     act_by_kind pid now r w (Refuses e) =
         let refuses : u ≡ entries.Refused pid → WaitsBy A (after A s u) (after A s u).point.last = λ e. subst (λ (x : Entry). WaitsBy A (after A s x) (after A s x).point.last) (sym e)

@@ -21,9 +21,9 @@ use Rattle.flat_model.specs.Touched.{page_tested}
 use Rattle.flat_model.specs.Run.{step_at}
 use Rattle.run_model.specs.State.{State}
 use Rattle.kernel_model.specs.Unit.{lender_among, keeps_step, back_step, passing_change}
-use Rattle.run_laws.specs.Machine.{place_in, write_into, write_page, write_byte, write_bytes, write_held, write_by, written_step, taken_step, process_step, unit_step}
+use Rattle.run_laws.specs.Machine.{place_in, write_into, frame_written, write_byte, write_bytes, write_held, process_written, written_step, taken_step, process_step, unit_step}
 
-page_goes : (k : Kernel) (o : Option Page) (at byte : ℕ) → (write_page k o at byte).stopped ≡ k.stopped
+page_goes : (k : Kernel) (o : Option Page) (at byte : ℕ) → (frame_written k o at byte).stopped ≡ k.stopped
 page_goes k None at byte = refl
 page_goes k (Some q) at byte = go (state_of k.place q)
   where
@@ -39,7 +39,7 @@ bytes_go : (ws : List ByteWrite) (k : Kernel) (s : Space) → (write_bytes k s w
 bytes_go [] k s = refl
 bytes_go (w ∷ ws) k s = bytes_go ws (write_byte k s w) s ∙ page_goes k (page_tested s (address_in s w.address)) (place_in (address_in s w.address)) w.byte
 
-by_goes : (k : Kernel) (o : Option Process) (ws : List ByteWrite) → (write_by k o ws).stopped ≡ k.stopped
+by_goes : (k : Kernel) (o : Option Process) (ws : List ByteWrite) → (process_written k o ws).stopped ≡ k.stopped
 by_goes k None ws = refl
 by_goes k (Some q) ws = go q.holding
   where

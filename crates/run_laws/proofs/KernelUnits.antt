@@ -14,14 +14,14 @@ use Rattle.page_model.specs.Placement.{state_of}
 use Rattle.page_model.specs.Place.{facts_of}
 use Rattle.kernel_model.specs.Kernel.{Kernel, Proc, plain_step}
 use Rattle.kernel_model.specs.Coupled.{Coupled}
-use Rattle.kernel_model.specs.Unit.{KernelUnit, WriteUnit, RanUnit, FindUnit, ChangeUnit, KernelState, has_lender, passing_change, state_after, states_after}
+use Rattle.kernel_model.specs.Unit.{KernelUnit, WriteUnit, RanUnit, FindUnit, ChangeUnit, KernelState, has_lender, passing_change, kernel_after, states_after}
 use Rattle.kernel_laws.proofs.Kept.Borrowed.{borrows_is}
 use Rattle.flat_model.specs.Touched.{page_tested}
 use Rattle.flat_model.specs.Run.{step_at}
 use Rattle.run_model.specs.State.{State}
 use Rattle.run_model.specs.Wanted.{locked}
 use Rattle.run_model.specs.Next.{next_unit}
-use Rattle.run_laws.specs.Machine.{place_in, write_into, write_page, write_byte, write_bytes, write_held, write_by, written_step, taken_step, process_step, unit_step, unit_image, Keeps, StandsAt}
+use Rattle.run_laws.specs.Machine.{place_in, write_into, frame_written, write_byte, write_bytes, write_held, process_written, written_step, taken_step, process_step, unit_step, unit_image, Keeps, StandsAt}
 use Rattle.run_laws.specs.KernelUnits.{resting, write_unit, byte_units, write_units, held_units, process_units, written_units, step_units, units_behind}
 use Rattle.run_laws.proofs.Lawful.{next_is_unit}
 
@@ -45,7 +45,7 @@ writes_lead images pid s (w ∷ ws) m = go (page_tested s (address_in s w.addres
 
     by : (q : Page) (t : PageState) → ((l : KernelState) → Leads images l (write_units pid l.kernel s ws) (write_bytes l.kernel s ws))
         → Leads images m (write_unit pid w q at t ++ write_units pid (write_into m.kernel q t at w.byte) s ws) (write_bytes (write_into m.kernel q t at w.byte) s ws)
-    by q (Valid f) ih = let r = ih (state_after images m (WriteUnit pid w q f at)) in (r.0, λ vs. r.1 vs)
+    by q (Valid f) ih = let r = ih (kernel_after images m (WriteUnit pid w q f at)) in (r.0, λ vs. r.1 vs)
     by q Unfilled ih = ih m
     by q (Invalid f) ih = ih m
     by q (Coming f) ih = ih m
@@ -53,12 +53,12 @@ writes_lead images pid s (w ∷ ws) m = go (page_tested s (address_in s w.addres
     by q OnSwap ih = ih m
 
     go : (o : Option Page) → ((l : KernelState) → Leads images l (write_units pid l.kernel s ws) (write_bytes l.kernel s ws))
-        → Leads images m (byte_units pid m.kernel w at o ++ write_units pid (write_page m.kernel o at w.byte) s ws) (write_bytes (write_page m.kernel o at w.byte) s ws)
+        → Leads images m (byte_units pid m.kernel w at o ++ write_units pid (frame_written m.kernel o at w.byte) s ws) (write_bytes (frame_written m.kernel o at w.byte) s ws)
     go None ih = ih m
     go (Some q) ih = by q (state_of m.kernel.place q) ih
 
 process_leads : (images : List NamedImage) (pid : ℕ) (ws : List ByteWrite) (o : Option Process) (m : KernelState)
-    → Leads images m (process_units pid m.kernel ws o) (write_by m.kernel o ws)
+    → Leads images m (process_units pid m.kernel ws o) (process_written m.kernel o ws)
 process_leads images pid ws None m = (m.flat, λ vs. refl)
 process_leads images pid ws (Some q) m = go q.holding
   where
@@ -80,11 +80,11 @@ writes_table s (w ∷ ws) k = writes_table s ws (write_byte k s w) ∙ go (page_
     by q (Going f) = refl
     by q OnSwap = refl
 
-    go : (o : Option Page) → Kernel.processes (write_page k o (place_in (address_in s w.address)) w.byte) ≡ k.processes
+    go : (o : Option Page) → Kernel.processes (frame_written k o (place_in (address_in s w.address)) w.byte) ≡ k.processes
     go None = refl
     go (Some q) = by q (state_of k.place q)
 
-written_table : (k : Kernel) (o : Option Process) (ws : List ByteWrite) → Kernel.processes (write_by k o ws) ≡ k.processes
+written_table : (k : Kernel) (o : Option Process) (ws : List ByteWrite) → Kernel.processes (process_written k o ws) ≡ k.processes
 written_table k None ws = refl
 written_table k (Some q) ws = go q.holding
   where

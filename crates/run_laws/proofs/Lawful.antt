@@ -25,7 +25,7 @@ use Rattle.flat_model.specs.declared.calls.Reply.TheVariants.{Writes}
 use Rattle.flat_model.specs.declared.calls.SystemCall.{SystemCall}
 use Rattle.flat_model.specs.Calls.{call_of}
 use Rattle.flat_model.specs.Step.{replied_step, reply_behind, called_step, step_behind, step_of, step_holding, step_if, flat_step}
-use Rattle.flat_model.specs.Run.{is_refused, step_at, behind_first, due_at, first_if, act as next_of_step, flat_run}
+use Rattle.flat_model.specs.Run.{is_refused, step_at, behind_first, due_at, first_if, entry_of_step as next_of_step, flat_run}
 use Rattle.flat_model.specs.Asked.{start_held, held}
 use Rattle.run_model.specs.State.{State, start}
 use Rattle.run_model.specs.Wanted.{locked}

@@ -6,7 +6,7 @@ use Rattle.page_model.specs.Pages.{is_valid}
 use Rattle.page_model.specs.Placement.{Placement, Due, Start, CopyOf, state_of}
 use Rattle.page_model.specs.Rank.{HasRoom}
 use Rattle.run_model.specs.State.{State}
-use Rattle.run_model.specs.Wanted.{running, touched_by, touched_next, present_by, before_absent, locked_by, locked}
+use Rattle.run_model.specs.Wanted.{running, touched_of, touched_next, present_by, before_absent, locked_by, locked}
 use Rattle.register_laws.specs.Whole.{EachWhole}
 use Rattle.register_laws.proofs.TouchLawsFew.{touched_few, room}
 
@@ -19,7 +19,7 @@ before_few p (q ∷ qs) = go (is_valid (state_of p q)) (before_few p qs)
     go true h = omega (arith, h)
     go false h = omega arith
 
-next_few : (A : Inputs) (F : FlatState) (o : Option ℕ) → EachWhole F → length (touched_by A F o) ≤ 28
+next_few : (A : Inputs) (F : FlatState) (o : Option ℕ) → EachWhole F → length (touched_of A F o) ≤ 28
 next_few A F None w = omega arith
 next_few A F (Some pid) w = touched_few A F pid (w pid)
 

@@ -42,11 +42,11 @@ use Rattle.flat_model.specs.Run.{Point, process_of_entry, step_at}
 use Rattle.flat_state.specs.Change.{apply_writes}
 use Rattle.flat_model.specs.Touched.{touched}
 use Rattle.run_model.specs.State.{State}
-use Rattle.run_model.specs.Wanted.{touched_by, AllValid, locked}
+use Rattle.run_model.specs.Wanted.{touched_of, AllValid, locked}
 use Rattle.run_model.specs.After.{place_at, after}
 use Rattle.run_model.proofs.Wanting.{wanted_none}
 use Rattle.run_model.specs.Next.{next_unit}
-use Rattle.run_model.specs.Kinds.{Runs, Kind}
+use Rattle.run_model.specs.Kinds.{ProcessRuns, Kind}
 use Rattle.run_model.proofs.NextUnits.{kind_of}
 use Rattle.run_laws.specs.Standing.{machine_of, Placed}
 use Rattle.run_laws.specs.Running.{IsRun}
@@ -469,9 +469,9 @@ unit_stands A s k image read u images execs r at h g = go (sort_of A s u r.mark 
         let x = said_is A s k image read u y in
         subst (λ (l : Kernel). P l (unit_image k image u)) x.0 (subst (P (note_step k u)) x.1 (stands_behind A (after A s u) (note_step k u) image run.placed (said_behind A s k image u r at e)))
     go (Makes x w) =
-        let runs : Runs A s x.pid x.now = x.runs in
+        let runs : ProcessRuns A s x.pid x.now = x.runs in
         let valid : AllValid s.place (touched A s.point.flat x.pid) =
-        subst (AllValid s.place) (ap (touched_by A s.point.flat) (on_running A s s.mark x.pid x.now runs.on)) (wanted_none A s runs.clear w) in
+        subst (AllValid s.place) (ap (touched_of A s.point.flat) (on_running A s s.mark x.pid x.now runs.on)) (wanted_none A s runs.clear w) in
         let z : Whole A s k u image x = step_reaches A s k image u images execs r.numbers r.lenders at x valid in
         stepped_is A s k image read u x.pid P x.ends (steps_own A s.point x.pid u x.next)
         (reach_behind A s u (process_step A s k x.pid u) image kp.room run.placed z.out_regs z.changes)
@@ -499,9 +499,9 @@ mid_stands A s k image u pid images execs r at h ends own = go (sort_of A s u r.
         says (entries.Refused p) e y = e
         says _ e y = y
     go (Makes x w) =
-        let runs : Runs A s x.pid x.now = x.runs in
+        let runs : ProcessRuns A s x.pid x.now = x.runs in
         let valid : AllValid s.place (touched A s.point.flat x.pid) =
-        subst (AllValid s.place) (ap (touched_by A s.point.flat) (on_running A s s.mark x.pid x.now runs.on)) (wanted_none A s runs.clear w) in
+        subst (AllValid s.place) (ap (touched_of A s.point.flat) (on_running A s s.mark x.pid x.now runs.on)) (wanted_none A s runs.clear w) in
         let z : Whole A s k u image x = step_reaches A s k image u images execs r.numbers r.lenders at x valid in
         let i : x.pid ≡ pid = same_Some x.pid pid (sym (steps_own A s.point x.pid u x.next) ∙ own) in
         subst (λ (n : ℕ). Mid A (apply_writes s.point.flat n (step_at A s.point n).writes) (written_step A s k n) image

@@ -28,7 +28,7 @@ use Rattle.run_model.specs.State.{State}
 use Rattle.run_model.specs.Wanted.{locked}
 use Rattle.run_model.specs.After.{after}
 use Rattle.run_model.specs.Next.{fill_unit, move_unit, begins_write, next_mark, next_unit}
-use Rattle.run_model.specs.Kinds.{Runs, Kind, Fills, Brings, Copies, Serves, Acts, ComesIn, Interrupts, Moves, PutsOut, Notes, Begins}
+use Rattle.run_model.specs.Kinds.{ProcessRuns, Kind, Fills, Brings, Copies, Serves, Acts, ComesIn, Interrupts, Moves, PutsOut, Notes, Begins}
 use Rattle.run_model.specs.Lawful.{Follows}
 use Rattle.run_model.proofs.NextUnits.{kind_of}
 use Rattle.run_laws.specs.Standing.{Placed, TextsHeld, MarkStands}
@@ -57,7 +57,7 @@ step_kept A s u images execs h k =
     let pid : ℕ = h.pid in
     let flat : FlatState = s.point.flat in
     let step : Step = step_at A s.point pid in
-    let runs : Runs A s pid h.now = h.runs in
+    let runs : ProcessRuns A s pid h.now = h.runs in
     let x : Stepper flat pid = stepper flat pid (on_steps A s s.mark pid h.now runs.on) in
     let form : Formed A.images flat x.process x.space (is_refused s.point.last pid) step = stepped_form A s u h x k.numbers in
     let number : x.process.pid ≡ pid = (found_at flat pid x.process x.here).0 in
@@ -154,7 +154,7 @@ core_on A s u images execs r k = go k
     noted_core : after A s u ≡ noted s u → Core A (after A s u)
     noted_core e = subst (Core A) (sym e) (record { placed = r.placed; flat = flat })
 
-    step : (pid : ℕ) (now : Bool) → Runs A s pid now → Acted A s pid u → Core A (after A s u)
+    step : (pid : ℕ) (now : Bool) → ProcessRuns A s pid now → Acted A s pid u → Core A (after A s u)
     step pid now x (Settles e) = plain (ap process_of_entry e)
     step pid now x (Refuses e) = noted_core (subst (λ (y : Entry). after A s y ≡ noted s y) (sym e) (refused_after A s pid))
     step pid now x (Steps f g e) = elim (steps_shape A s.point pid u e) [

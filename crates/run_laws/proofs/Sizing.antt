@@ -39,7 +39,7 @@ use Rattle.flat_model.specs.declared.calls.SystemCall.TheVariants as calls
 use Rattle.flat_model.specs.Calls.{call_of, argument, three_arguments, bytes_from, string_from, arguments_at, exit_reply, child_by, written_to, write_reply, break_by, break_reply, pages_up_to, stack_pages_of, data_limit, path_image, starts, execve_of, execve_reply, wait_by, reply_of, or_fault, refused_reply, unless_refused, wants_space, string_limit, write_limit, process_limit}
 use Rattle.flat_model.specs.Instruction.{instruction_in}
 use Rattle.flat_model.specs.Step.{pages_down_to, data_pages_of as data_pages_in, replied_step, reply_behind, called_step, step_behind, step_of, step_holding, step_if, flat_step, written_process}
-use Rattle.flat_model.specs.Run.{Point, step_at, due_at, act, behind, point_after, same_as, process_of_entry, may_follow, where_so, flat_entry_of, flat_entry_if, flat_entry_by, flat_entry, flat_units, flat_run, start_point}
+use Rattle.flat_model.specs.Run.{Point, step_at, due_at, entry_of_step, behind, point_after, same_as, process_of_entry, may_follow, where_so, flat_entry_of, flat_entry_if, flat_entry_by, flat_entry, flat_units, flat_run, start_point}
 use Rattle.run_model.specs.State.{State}
 use Rattle.run_laws.specs.Standing.{EachProcess, Placed, machine_of}
 use Rattle.kernel_model.specs.Invariant.{EntersImage}
@@ -421,7 +421,7 @@ of_entry : (A : Inputs) (point q : Point) (pid : ℕ) (e : Entry) → InputsSize
     → FlatSized point.flat → FlatSized q.flat
 of_entry A point q pid (IsRefused p) sz fit h k = where_sized (can_step point.flat pid) (record point { last = Some (IsRefused p) }) q h k
 of_entry A point q pid e sz fit h k =
-    where_sized (same_as (act A point pid) e) (point_after A point pid) q h
+    where_sized (same_as (entry_of_step A point pid) e) (point_after A point pid) q h
     (behind_point point (step_at A point pid).after (due_at A point pid) k (step_sized A point.flat pid (Rattle.flat_model.specs.Run.is_refused point.last pid) sz fit k))
 
 if_entry : (b : Bool) (A : Inputs) (point q : Point) (pid : ℕ) (e : Entry) → InputsSized A → ImagesFit A.images

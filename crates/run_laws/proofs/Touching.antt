@@ -5,7 +5,7 @@ use Rattle.flat_state.specs.Space.{Space, address_in}
 use Rattle.flat_state.specs.Flat.{Holding, Holds, Lends, Zombie, Process, FlatState, NamedImage, Inputs, process_of, is_ready, image_numbered}
 use Rattle.vm_facts.specs.declared.page.Page.{Page}
 use Rattle.vm_facts.specs.declared.page.Page.TheVariants as pages
-use Rattle.user_vax.specs.Program.{Access, ReadOf, TestOf}
+use Rattle.user_vax.specs.Program.{ByteAccess, ReadOf, TestOf}
 use Rattle.swap_book.specs.Holdings.{Holdings}
 use Rattle.flat_state.specs.declared.spot.Spot.{Spot}
 use Rattle.flat_state.specs.declared.spot.Spot.TheVariants.{Text, Data, Stack}
@@ -14,7 +14,7 @@ use Rattle.page_model.specs.Pages.{SpacePages, numbered}
 use Rattle.flat_state.specs.PageNames.{same_page}
 use Rattle.page_model.specs.Placement.{Placement, space_number, slots_of, IsThere, sharers_in}
 use Rattle.page_model.specs.Conditions.{EachPage, IsShared}
-use Rattle.kernel_model.specs.Coupled.{SameTables, Fits, IsSized, text_of}
+use Rattle.kernel_model.specs.Coupled.{SameTables, Fits, IsSized, image_text}
 use Rattle.flat_state.proofs.SpaceLaws.{IsPaged, spot_within}
 use Rattle.flat_state.specs.Numbers.{IsNumbered}
 use Rattle.kernel_model.specs.Stands.{Stands}
@@ -82,10 +82,10 @@ pub record Present (p : Placement) (q : Page) : Type 0 where
 
 page_present : (images : List NamedImage) (p : Placement) (s : Space) (x : SpacePages) → numbered space_number s.sid p.spaces ≡ Some x → IsSized s x
     → IsText images s
-    → ((i : ℕ) → length (text_of (image_numbered images i)) ≡ 1024 * length (slots_of p (pages.Text i 0))) → (spot : Spot) → IsWithin s spot → (q : Page)
+    → ((i : ℕ) → length (image_text (image_numbered images i)) ≡ 1024 * length (slots_of p (pages.Text i 0))) → (spot : Spot) → IsWithin s spot → (q : Page)
     → page_read s spot ≡ Some q → Present p q
 page_present images p s x e z t fits (Text i) w q h = subst (Present p) (let k : pages.Text s.image (i / 1024) ≡ q = cc in k) (record {
-  there = let f = fits s.image in let l = ap (λ (o : Option NamedImage). length (text_of o)) t.image in let m = ap length t.same in omega (arith, w);
+  there = let f = fits s.image in let l = ap (λ (o : Option NamedImage). length (image_text o)) t.image in let m = ap length t.same in omega (arith, w);
   shared = image_shared s.sid s.image p.spaces x e z.image;
 })
 page_present images p s x e z t fits (Data i) w q h = subst (Present p) (let k : pages.Data s.sid (i / 1024) ≡ q = cc in k) (record {
@@ -116,14 +116,14 @@ touched_present A flat p hs pid nums texts s = go (process_of flat pid) refl
     stands = s.stands
 
     space : (q : Process) (t : Space) → process_of flat pid ≡ Some q → q.holding ≡ Holds t → (o : Option SpacePages) → numbered space_number t.sid p.spaces ≡ o → Fits (Some t) o → IsText A.images t
-        → (xs : List Access) → EachPage (Present p) (distinct (filter_map (page_of_access t) xs))
+        → (xs : List ByteAccess) → EachPage (Present p) (distinct (filter_map (page_of_access t) xs))
     space q t e h None k f i xs = absurd f
     space q t e h (Some x) k f i xs = each_distinct (Present p) (filter_map (page_of_access t) xs) (each_map (Present p) (page_of_access t) xs one)
       where
         paged : IsPaged t
         paged = let k = f.stack_size in omega arith
 
-        one : (a : Access) (r : Page) → page_of_access t a ≡ Some r → Present p r
+        one : (a : ByteAccess) (r : Page) → page_of_access t a ≡ Some r → Present p r
         one (ReadOf address) r z = page_present A.images p t x k f i stands.texts (address_in t address) (spot_within t address (address_in t address) paged refl) r z
         one (TestOf address) r z =
             page_present A.images p t x k f i stands.texts (address_in t address) (spot_within t address (address_in t address) paged refl) r (tested_read t (address_in t address) r z)

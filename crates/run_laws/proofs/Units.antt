@@ -6,7 +6,7 @@ use Rattle.vm_facts.specs.declared.entry.Entry.{Entry}
 use Rattle.vm_facts.specs.declared.entry.Entry.TheVariants as entries
 use Rattle.swap_book.specs.Holdings.{Holdings}
 use Rattle.flat_state.specs.Flat.{Inputs, process_of}
-use Rattle.page_model.specs.Placement.{Placement, Due, CopyOf, due_at, state_of}
+use Rattle.page_model.specs.Placement.{Placement, Due, CopyOf, due_of_page, state_of}
 use Rattle.page_model.specs.Place.{place_entry, space_of_process}
 use Rattle.page_model.specs.Serve.{serve_entry, serve_unit}
 use Rattle.page_model.specs.Swapper.{put_out_unit, is_out}
@@ -120,9 +120,9 @@ parent_present p q parent ds e d = record { there = state_there p parent (d.sour
     go (Rattle.vm_facts.specs.declared.page.Page.TheVariants.Text image v) w = absurd w
 
 pub not_due : (p : Placement) (r : Page) → Rattle.page_model.specs.Dues.DueStand p → (state_of p r ≡ Unfilled → ⊥) → NotDue p.due r
-not_due p r s n = go (due_at p.due r) refl
+not_due p r s n = go (due_of_page p.due r) refl
   where
-    go : (o : Option Due) → due_at p.due r ≡ o → o ≡ None
+    go : (o : Option Due) → due_of_page p.due r ≡ o → o ≡ None
     go None e = refl
     go (Some d) e = absurd (let was : IsDue p r d = s r d e in n was.unfilled)
 
@@ -134,7 +134,7 @@ kind_good A s u st nums texts m (Fills q due e i) n =
     (fill_few (locked A s) (place_at s (fill_unit s.place (entries.Zero q))) s.place (entries.Zero q) (sixteen A s st)
     (let l = sixteen A s st in let k = entry_count (locked A s) (place_at s (fill_unit s.place (entries.Zero q))) s.place (entries.Zero q) in omega arith))
 kind_good A s u st nums texts m (Brings q parent due e i) n =
-    let d : IsDue s.place q (CopyOf q parent) = st.dues q (CopyOf q parent) (ap (λ (l : List Due). due_at l q) e ∙ first_due (CopyOf q parent) due) in
+    let d : IsDue s.place q (CopyOf q parent) = st.dues q (CopyOf q parent) (ap (λ (l : List Due). due_of_page l q) e ∙ first_due (CopyOf q parent) due) in
     served A s u parent true st (parent_present s.place q parent due e d) (not_due s.place parent st.dues (d.source).1) i
 kind_good A s u st nums texts m (Copies q parent due e k i) n =
     paged A s u (fill_unit s.place (entries.Copy q)) i (copy_paging s.place q) (copy_allowed s.place q parent due e st.dues st.once)
@@ -142,10 +142,10 @@ kind_good A s u st nums texts m (Copies q parent due e k i) n =
     (let l = sixteen A s st in let k = entry_count (locked A s) (place_at s (fill_unit s.place (entries.Copy q))) s.place (entries.Copy q) in omega arith))
 kind_good A s u st nums texts m (Serves pid now q r w i) n =
     let k : Splits s.place (touched_next A s) (locked A s) q = wanted_splits A s q r.clear w in
-    let all = subst (Rattle.page_model.specs.Conditions.EachPage (Present s.place)) (ap (Rattle.run_model.specs.Wanted.touched_by A s.point.flat) (sym (on_running A s s.mark pid now r.on)))
+    let all = subst (Rattle.page_model.specs.Conditions.EachPage (Present s.place)) (ap (Rattle.run_model.specs.Wanted.touched_of A s.point.flat) (sym (on_running A s s.mark pid now r.on)))
     (touched_present A s.point.flat s.place s.holdings pid nums texts st) in
     let here : Present s.place q = each_split (Present s.place) (locked A s) q k.behind (subst (Rattle.page_model.specs.Conditions.EachPage (Present s.place)) k.whole all) in
-    served A s u q now st here (ap (λ (l : List Due). due_at l q) r.clear) i
+    served A s u q now st here (ap (λ (l : List Due). due_of_page l q) r.clear) i
 kind_good A s u st nums texts m (Acts pid now r w a) n =
     let e : u ≡ entries.Done = act_plain A s pid u a n in
     paged A s u entries.Done e tt (settling_allowed a) (let l = sixteen A s st in let k = done_count s.place in omega arith)

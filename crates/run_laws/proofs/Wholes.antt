@@ -16,7 +16,7 @@ use Rattle.run_model.specs.Wanted.{running, touched_next, AllValid, wanted, lock
 use Rattle.run_model.specs.After.{after}
 use Rattle.run_model.proofs.Wanting.{wanted_none}
 use Rattle.run_model.specs.Next.{turn_instructions, next_unit}
-use Rattle.run_model.specs.Kinds.{GoesOn, Runs, Kind, Fills, Brings, Copies, Serves, Acts, ComesIn, Interrupts, Moves, PutsOut, Notes, Begins}
+use Rattle.run_model.specs.Kinds.{GoesOn, ProcessRuns, Kind, Fills, Brings, Copies, Serves, Acts, ComesIn, Interrupts, Moves, PutsOut, Notes, Begins}
 use Rattle.run_model.specs.Lawful.{Follows, Reaches, IsLawful}
 use Rattle.run_model.proofs.NextUnits.{kind_of}
 use Rattle.std.proofs.lemmas.Bool.{and_parts}
@@ -90,16 +90,16 @@ unit_ready A s u pid h e = go (kind_of A s u h)
     same : (p : ℕ) → Some p ≡ Some pid → p ≡ pid
     same p k = cc
 
-    ready : (p : ℕ) (now : Bool) → Runs A s p now → wanted A s ≡ None → p ≡ pid → IsReady A s pid
+    ready : (p : ℕ) (now : Bool) → ProcessRuns A s p now → wanted A s ≡ None → p ≡ pid → IsReady A s pid
     ready p now r w i = subst (IsReady A s) i (record {
       steps = on_steps A s s.mark p now r.on;
       resident = r.resident;
       clear = r.clear;
-      pages = subst (AllValid s.place) (ap (Rattle.run_model.specs.Wanted.touched_by A s.point.flat) (on_running A s s.mark p now r.on)) (wanted_none A s r.clear w);
+      pages = subst (AllValid s.place) (ap (Rattle.run_model.specs.Wanted.touched_of A s.point.flat) (on_running A s s.mark p now r.on)) (wanted_none A s r.clear w);
       below = on_below A s s.mark p now r.on;
     })
 
-    acts : (p : ℕ) (now : Bool) → Runs A s p now → wanted A s ≡ None → Acted A s p u → IsReady A s pid
+    acts : (p : ℕ) (now : Bool) → ProcessRuns A s p now → wanted A s ≡ None → Acted A s p u → IsReady A s pid
     acts p now r w (Settles i) = none (ap process_of_entry i)
     acts p now r w (Refuses i) = ready p now r w (same p (ap process_of_entry (sym i) ∙ e))
     acts p now r w (Steps f g i) = ready p now r w (same p (sym (steps_own A s.point p u i) ∙ e))

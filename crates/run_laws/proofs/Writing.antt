@@ -3,7 +3,7 @@ use Rattle.std.proofs.Common.{◌≡◌, inl, inr, ℕ, ◌*◌, true, List, [],
 use Rattle.std.proofs.lemmas.Bool.{cases_eq}
 use Rattle.std.proofs.lemmas.List.{length-set}
 use Rattle.vm_facts.specs.Answers.{ByteWrite}
-use Rattle.flat_state.specs.Space.{Space, address_in, put_at, put, puts}
+use Rattle.flat_state.specs.Space.{Space, address_in, put_at, put_in_space, puts}
 use Rattle.flat_state.specs.Flat.{Holding, Holds, Lends, Zombie, Process, FlatState, Inputs, process_of, holds_space, spaces_of}
 use Rattle.vm_facts.specs.declared.page.Page.{Page}
 use Rattle.vm_facts.specs.declared.page.Page.TheVariants as pages
@@ -66,7 +66,7 @@ pub record SameSpace (s t : Space) : Type 0 where
   pub data_size : length t.data_bytes ≡ length s.data_bytes
   pub stack_size : length t.stack_bytes ≡ length s.stack_bytes
 
-put_same : (s : Space) (w : ByteWrite) → SameSpace s (put s w)
+put_same : (s : Space) (w : ByteWrite) → SameSpace s (put_in_space s w)
 put_same s w = go (address_in s w.address)
   where
     go : (spot : Spot) → SameSpace s (put_at s spot w.byte)
@@ -79,8 +79,8 @@ put_same s w = go (address_in s w.address)
 pub puts_same : (ws : List ByteWrite) (s : Space) → SameSpace s (puts s ws)
 puts_same [] s = record { sid = refl; image = refl; text = refl; data_size = refl; stack_size = refl }
 puts_same (w ∷ ws) s =
-    let a : SameSpace s (put s w) = put_same s w in
-    let b : SameSpace (put s w) (puts (put s w) ws) = puts_same ws (put s w) in
+    let a : SameSpace s (put_in_space s w) = put_same s w in
+    let b : SameSpace (put_in_space s w) (puts (put_in_space s w) ws) = puts_same ws (put_in_space s w) in
     record { sid = b.sid ∙ a.sid; image = b.image ∙ a.image; text = b.text ∙ a.text; data_size = b.data_size ∙ a.data_size; stack_size = b.stack_size ∙ a.stack_size }
 
 -- a process whose space has other bytes

@@ -2,7 +2,7 @@
 use Rattle.std.proofs.Common.{◌≡◌, ◌≢◌, ◌⊎◌, inl, inr, ℕ, ◌/◌, ◌%◌, ◌==◌, Bool, true, false, List, [], ◌∷◌, length, Option, Some, None, refl, sym, ap, ◌∙◌, subst}
 use Rattle.std.specs.Prelude.{filter_map}
 use Rattle.vm_facts.specs.Answers.{ByteWrite}
-use Rattle.flat_state.specs.Space.{Space, spot_at, address_in, put}
+use Rattle.flat_state.specs.Space.{Space, spot_at, address_in, put_in_space}
 use Rattle.flat_state.specs.Flat.{Holding, Holds, Process, FlatState, Inputs, process_of}
 use Rattle.vm_facts.specs.declared.page.Page.{Page}
 use Rattle.vm_facts.specs.declared.page.Page.TheVariants as pages
@@ -34,7 +34,7 @@ use Rattle.kernel_laws.proofs.Stands.Changes.{write_stands}
 use Rattle.kernel_laws.proofs.Sound.Steps.{write_sound}
 use Rattle.kernel_laws.proofs.Sound.NumbersApart.{write_numbered}
 use Rattle.flat_model.specs.Touched.{page_tested}
-use Rattle.run_laws.specs.Machine.{place_in, write_into, write_page, write_byte, write_bytes}
+use Rattle.run_laws.specs.Machine.{place_in, write_into, frame_written, write_byte, write_bytes}
 use Rattle.run_laws.proofs.Writing.{SameSpace, puts_same}
 use Rattle.run_laws.proofs.Stepping.{wrote_process}
 
@@ -154,7 +154,7 @@ write_one A flat k image pid q t s w m due nums f h same valid = go (address_in 
     at_spot : (x : Spot) (v : Page) (at : ℕ) → address_in s w.address ≡ x → IsByteOf t x v at → IsByteOf t (address_in t w.address) v at
     at_spot x v at e b = subst (λ (y : Spot). IsByteOf t y v at) (sym (same_spot s t w.address same ∙ e)) b
 
-    go : (x : Spot) → address_in s w.address ≡ x → IsValidAt k.place (page_tested s x) → WroteOne A after k (write_page k (page_tested s x) (place_in x) w.byte) image (page_tested s x)
+    go : (x : Spot) → address_in s w.address ≡ x → IsValidAt k.place (page_tested s x) → WroteOne A after k (frame_written k (page_tested s x) (place_in x) w.byte) image (page_tested s x)
     go (Text i) e a = absurd a
     go (Data i) e a = into (pages.Data s.sid (i / 1024)) (i % 1024) (at_spot (Data i) (pages.Data s.sid (i / 1024)) (i % 1024) e (ap (λ (n : ℕ). pages.Data n (i / 1024)) (sym same.sid), refl))
         (state_of k.place (pages.Data s.sid (i / 1024))) refl a
@@ -223,12 +223,13 @@ write_all (w ∷ ws) A flat k image pid q t s m due nums f h same a =
     let flat1 : FlatState = apply_writes flat pid (w ∷ []) in
     let k1 : Kernel = write_byte k s w in
     let o : Option Page = page_tested s (address_in s w.address) in
-    let q1 : Process = record q { holding = Holds (put t w) } in
+    let q1 : Process = record q { holding = Holds (put_in_space t w) } in
     let one : WroteOne A flat1 k k1 image o = write_one A flat k image pid q t s w m due nums f h same a.0 in
     let r : Rest k k1 = one.rest in
-    let here : process_of flat1 pid ≡ Some q1 = subst (λ (x : FlatState). process_of x pid ≡ Some q1) (sym (written flat pid w q t f h)) (wrote_process flat pid q (put t w) f) in
+    let here : process_of flat1 pid ≡ Some q1 = subst (λ (x : FlatState). process_of x pid ≡ Some q1) (sym (written flat pid w q t f h)) (wrote_process flat pid q (put_in_space t w) f) in
     let more : WroteAll A (apply_writes flat1 pid ws) k1 (write_bytes k1 s ws) image (filter_map (λ (w : ByteWrite). page_tested s (address_in s w.address)) ws) =
-    write_all ws A flat1 k1 image pid q1 (put t w) s one.mid (r.due ∙ due) (writes_numbered flat pid (w ∷ []) q t f h nums) here refl (same_both s t (put t w) same (puts_same (w ∷ []) t))
+    write_all ws A flat1 k1 image pid q1 (put_in_space t w) s one.mid (r.due ∙ due) (writes_numbered flat pid (w ∷ []) q t f h nums) here refl
+    (same_both s t (put_in_space t w) same (puts_same (w ∷ []) t))
     (still_writable k.place k1.place s ws (λ v. ap (λ (p : Placement). state_of p v) one.place ∙ touched_states k.place o v) a.1) in
     record {
       mid = subst (λ (x : FlatState). Mid A x (write_bytes k1 s ws) image) (sym (writes_one flat pid w ws q t f h)) more.mid;

@@ -1,6 +1,6 @@
 -- Inputs of a run that stand in files.
 use Rattle.std.specs.Prelude.{◌≡◌, ◌⊎◌, ℕ, ◌<◌, ◌≤◌, List, [], ◌∷◌, length, Some, Ok, Err}
-use Rattle.aout_image.specs.Image.{image_of}
+use Rattle.aout_image.specs.Image.{judged_image}
 use Rattle.swap_book.specs.Holdings.{Holdings}
 use Rattle.flat_state.specs.Flat.{NamedImage, Inputs, image_numbered}
 use Rattle.flat_model.specs.Asked.{start_held}
@@ -9,7 +9,7 @@ use Rattle.run_laws.specs.Running.{CanRun}
 -- the image is that of a file, and its name is a word of at most 63 bytes
 pub record IsFiled (named : NamedImage) : Type 0 where
   pub file : List ℕ
-  pub is : image_of file ≡ Ok named.image
+  pub is : judged_image file ≡ Ok named.image
   pub name : length named.name < 64
 
 -- each is the number of an image

@@ -7,12 +7,12 @@ use Rattle.flat_model.specs.Run.{due_at}
 use Rattle.run_model.specs.State.{State}
 use Rattle.run_model.specs.Wanted.{wanted}
 use Rattle.run_model.specs.Act.{LastSays}
-use Rattle.run_model.specs.Kinds.{Runs}
+use Rattle.run_model.specs.Kinds.{ProcessRuns}
 
 -- the process runs, all its pages are valid, and an entry of its step isn't there yet
 pub record Awaits (A : Inputs) (s : State) (pid : ℕ) : Type 0 where
   pub now : Bool
-  pub runs : Runs A s pid now
+  pub runs : ProcessRuns A s pid now
   pub unwanted : wanted A s ≡ None
   pub left : due_at A s.point pid ≡ [] → ⊥
 

@@ -52,13 +52,13 @@ write_into k q (Valid f) at byte = write_step k q f at byte
 write_into k q _ at byte = k
 
 -- a byte goes into the frame of a page, if it has a page
-abbrev pub write_page : Kernel → Option Page → ℕ → ℕ → Kernel
-write_page k None at byte = k
-write_page k (Some q) at byte = write_into k q (state_of k.place q) at byte
+abbrev pub frame_written : Kernel → Option Page → ℕ → ℕ → Kernel
+frame_written k None at byte = k
+frame_written k (Some q) at byte = write_into k q (state_of k.place q) at byte
 
 -- a byte goes into the frame of its page
 abbrev pub write_byte : Kernel → Space → ByteWrite → Kernel
-write_byte k s w = write_page k (page_tested s (address_in s w.address)) (place_in (address_in s w.address)) w.byte
+write_byte k s w = frame_written k (page_tested s (address_in s w.address)) (place_in (address_in s w.address)) w.byte
 
 -- these bytes go into the frames of a space's pages, one after another
 abbrev pub write_bytes : Kernel → Space → List ByteWrite → Kernel
@@ -72,9 +72,9 @@ write_held k (Lends sid child) ws = k
 write_held k (Zombie status) ws = k
 
 -- the bytes of a process, if there is one
-abbrev pub write_by : Kernel → Option Process → List ByteWrite → Kernel
-write_by k None ws = k
-write_by k (Some q) ws = write_held k q.holding ws
+abbrev pub process_written : Kernel → Option Process → List ByteWrite → Kernel
+process_written k None ws = k
+process_written k (Some q) ws = write_held k q.holding ws
 
 -- Changes.
 
@@ -84,7 +84,7 @@ takes_step A k ws = record k { holdings = with_pieces A ws k.holdings }
 
 -- the bytes of a process's step, as its frames have them
 abbrev pub written_step : Inputs → State → Kernel → ℕ → Kernel
-written_step A s k pid = write_by k (process_of s.point.flat pid) (step_at A s.point pid).writes
+written_step A s k pid = process_written k (process_of s.point.flat pid) (step_at A s.point pid).writes
 
 -- and with the pieces that it takes
 abbrev pub taken_step : Inputs → State → Kernel → ℕ → Kernel

@@ -3,7 +3,7 @@ use Rattle.std.specs.Prelude.{◌≡◌, ℕ, ◌*◌, ◌<◌, ◌≤◌, lengt
 use Rattle.flat_state.specs.Space.{Space}
 use Rattle.flat_state.specs.Flat.{Holding, Holds, Lends, Zombie, FlatState, NamedImage, Inputs, image_numbered}
 use Rattle.vm_facts.specs.declared.page.Page.TheVariants.{Data, Stack}
-use Rattle.aout_image.specs.Image.{data_pages_of}
+use Rattle.aout_image.specs.Image.{image_data_pages}
 use Rattle.flat_state.specs.declared.change.Change.{Change}
 use Rattle.flat_state.specs.declared.change.Change.TheVariants.{Resize, Fork, Lend}
 use Rattle.page_model.specs.Placement.{Placement, slots_of}
@@ -27,7 +27,7 @@ pub record FlatSized (flat : FlatState) : Type 0 where
 
 -- so it is of the images, and of the first processes
 pub record InputsSized (A : Inputs) : Type 0 where
-  pub images : (number : ℕ) (named : NamedImage) → image_numbered A.images number ≡ Some named → data_pages_of named.image.facts ≤ 4096
+  pub images : (number : ℕ) (named : NamedImage) → image_numbered A.images number ≡ Some named → image_data_pages named.image.facts ≤ 4096
   pub first : length A.first ≤ 64
 
 -- a change by which spaces and processes stay as few

@@ -8,7 +8,7 @@ ghost use Rattle.run_model.specs.State.{State, start};
 ghost use Rattle.run_model.specs.After.{after};
 ghost use Rattle.run_model.specs.Next.{next_unit};
 ghost use Rattle.run_model.specs.Lawful.{Follows, Reaches, IsLawful, IsFinished};
-ghost use Rattle.run_model.specs.Kinds.{Runs};
+ghost use Rattle.run_model.specs.Kinds.{ProcessRuns};
 ghost use Rattle.page_model.specs.Rank.{HasRoom};
 ghost use Rattle.register_laws.specs.Whole.{EachWhole};
 ghost use Rattle.flat_model.specs.Touched.{touched};
@@ -44,7 +44,7 @@ pub fn lawful_is_flat()
 pub fn runs_end()
     ensures finished { (A : Inputs) (journal : List Entry) (s : State) → IsFinished A journal s → (s.count ≡ A.limit) ⊎ IsIdle A s }
     ensures below { (A : Inputs) (us : List Entry) (s t : State) → Follows A s us t → s.count ≤ A.limit → t.count ≤ A.limit }
-    ensures goes { (A : Inputs) (s : State) (pid : ℕ) (now : Bool) → IsRun A s → Runs A s pid now → wanted A s ≡ None
+    ensures goes { (A : Inputs) (s : State) (pid : ℕ) (now : Bool) → IsRun A s → ProcessRuns A s pid now → wanted A s ≡ None
         → (u : Entry) × (next_unit A s ≡ Some u) }
 {}
 

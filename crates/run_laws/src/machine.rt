@@ -6,7 +6,7 @@ ghost use Rattle.swap_book.specs.Holdings.{Holdings};
 ghost use Rattle.flat_state.specs.Flat.{Inputs, start_state, FlatState, process_of};
 ghost use Rattle.flat_model.specs.Step.{flat_step};
 ghost use Rattle.flat_model.specs.Run.{Point, flat_run};
-ghost use Rattle.register_laws.specs.Longwords.{AllFit, AllImages};
+ghost use Rattle.register_laws.specs.Longwords.{ProcessesFit, AllImages};
 ghost use Rattle.run_laws.specs.Files.{AreInputs, MayBegin};
 ghost use Rattle.page_model.specs.Place.{space_of_process};
 ghost use Rattle.page_model.specs.PuttingOut.{IsResident, EndsPuttingOut};
@@ -122,9 +122,9 @@ pub fn residents_stand()
 /// process that goes out.
 pub fn registers_stand()
     ensures reached { (A : Inputs) (hs : Holdings) (journal : List Entry) (s : State) → CanRun A hs → AllImages A.images
-        → length A.first + 1 + A.limit < 2 ^ 32 → Reaches A journal s → AllFit s.point.flat.processes }
+        → length A.first + 1 + A.limit < 2 ^ 32 → Reaches A journal s → ProcessesFit s.point.flat.processes }
     ensures given { (A : Inputs) (s : State) (k : Kernel) (image : List ℕ) (read : List (List ℕ)) (pid : ℕ)
-        → Next A s k image (entries.SwapOut pid) → AllFit s.point.flat.processes → IsGiven A s k image read (entries.SwapOut pid) }
+        → Next A s k image (entries.SwapOut pid) → ProcessesFit s.point.flat.processes → IsGiven A s k image read (entries.SwapOut pid) }
 {}
 
 /// What a process reads in the flat machine is what the frames hold: a byte of a page that is valid, of text, data or stack,

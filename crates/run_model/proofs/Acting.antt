@@ -12,7 +12,7 @@ use Rattle.swap_book.specs.Placing.{place_all, fits}
 use Rattle.flat_state.specs.Journal.{appended, AllUnits}
 use Rattle.flat_state.proofs.Joins.{appended_units}
 use Rattle.flat_model.specs.Step.{flat_step}
-use Rattle.flat_model.specs.Run.{Point, is_refused, step_at, behind_first, due_at, first_if, act as next_of_step, behind, point_after, same_carry, same_entry, same_as, process_of_entry, may_follow, where_so, flat_entry_if, flat_entry_by, flat_entry, flat_units, flat_run, start_point}
+use Rattle.flat_model.specs.Run.{Point, is_refused, step_at, behind_first, due_at, first_if, entry_of_step as next_of_step, behind, point_after, same_carry, same_entry, same_as, process_of_entry, may_follow, where_so, flat_entry_if, flat_entry_by, flat_entry, flat_units, flat_run, start_point}
 use Rattle.flat_model.specs.Asked.{asks}
 use Rattle.run_model.specs.State.{State, start}
 use Rattle.run_model.specs.After.{after, state_after, AllFlat}

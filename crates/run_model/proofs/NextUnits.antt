@@ -15,12 +15,12 @@ use Rattle.run_model.specs.declared.mark.Mark.TheVariants as marks
 use Rattle.run_model.specs.State.{State}
 use Rattle.run_model.specs.Wanted.{wanted, locked}
 use Rattle.run_model.specs.Next.{when, or_else, fill_unit, copy_unit_by, due_unit, goes_on, work_by, work, turn_by, turn_unit, turn_instructions, move_unit, owners_entry, under, next_mark, next_unit}
-use Rattle.run_model.specs.Kinds.{GoesOn, Runs, Comes, Kind, Fills, Brings, Copies, Serves, Acts, ComesIn, Interrupts, Moves, PutsOut, Notes, Begins}
+use Rattle.run_model.specs.Kinds.{GoesOn, ProcessRuns, Comes, Kind, Fills, Brings, Copies, Serves, Acts, ComesIn, Interrupts, Moves, PutsOut, Notes, Begins}
 
 some_entry : (x y : Entry) → Some x ≡ Some y → y ≡ x
 some_entry x y e = cc
 
-works : (A : Inputs) (s : State) (u : Entry) (pid : ℕ) (now : Bool) → Runs A s pid now → (o : Option Page) → wanted A s ≡ o
+works : (A : Inputs) (s : State) (u : Entry) (pid : ℕ) (now : Bool) → ProcessRuns A s pid now → (o : Option Page) → wanted A s ≡ o
     → work_by A s pid now o ≡ Some u → Kind A s u
 works A s u pid now r None e h = Acts pid now r e h
 works A s u pid now r (Some q) e h = Serves pid now q r e h
@@ -33,7 +33,7 @@ of_mark A s u clear (marks.Dispatch pid count since) e h = go (goes_on A s pid (
     go : (b : Bool) → (goes_on A s pid (since + count) && not (is_out s.place pid)) ≡ b → when b (work A s pid false) ≡ Some u → Kind A s u
     go true k h =
         let b = and_parts (goes_on A s pid (since + count)) (not (is_out s.place pid)) k in
-        let r : Runs A s pid false = record { clear = clear; on = subst (λ (x : Mark). GoesOn A s x pid false) (sym e) (refl, b.0); resident = not-true (is_out s.place pid) b.1 } in
+        let r : ProcessRuns A s pid false = record { clear = clear; on = subst (λ (x : Mark). GoesOn A s x pid false) (sym e) (refl, b.0); resident = not-true (is_out s.place pid) b.1 } in
         works A s u pid false r (wanted A s) refl h
     go false k h = absurd cc
 of_mark A s u clear marks.Interrupt e h = Interrupts clear e (some_entry entries.Done u h)
@@ -52,7 +52,7 @@ of_mark A s u clear (marks.Turn pid since) e h = go (goes_on A s pid (since + tu
     out : (b : Bool) → goes_on A s pid (since + turn_instructions) ≡ true → is_out s.place pid ≡ b → turn_by A s pid b ≡ Some u → Kind A s u
     out true k o h = ComesIn pid clear (subst (λ (x : Mark). Comes A s x pid) (sym e) (refl, k, o)) (some_entry (entries.SwapIn pid) u h)
     out false k o h =
-        let r : Runs A s pid true = record { clear = clear; on = subst (λ (x : Mark). GoesOn A s x pid true) (sym e) (refl, k); resident = o } in
+        let r : ProcessRuns A s pid true = record { clear = clear; on = subst (λ (x : Mark). GoesOn A s x pid true) (sym e) (refl, k); resident = o } in
         works A s u pid true r (wanted A s) refl h
 
     go : (b : Bool) → goes_on A s pid (since + turn_instructions) ≡ b → when b (turn_unit A s pid) ≡ Some u → Kind A s u

@@ -115,7 +115,7 @@ unfolding act
 idle_acts A s pid h = ap (λ (b : Bool). act_if b A s pid) h
 
 idle_next : (A : Inputs) (s : State) (pid : ℕ) → running s.mark ≡ Some pid → can_step s.point.flat pid ≡ false → touched_next A s ≡ []
-idle_next A s pid r h = ap (here.touched_by A s.point.flat) r ∙ idle_touches A s.point.flat pid h
+idle_next A s pid r h = ap (here.touched_of A s.point.flat) r ∙ idle_touches A s.point.flat pid h
 
 pub idle_wants : (A : Inputs) (s : State) (pid : ℕ) → s.place.due ≡ [] → running s.mark ≡ Some pid → can_step s.point.flat pid ≡ false → wanted A s ≡ None
 idle_wants A s pid d r h = wanted_plain A s d ∙ ap (first_absent s.place) (idle_next A s pid r h)

@@ -12,7 +12,7 @@ use Rattle.flat_state.specs.Change.{is_borrower}
 use Rattle.page_model.specs.Swapper.{is_settled}
 use Rattle.flat_model.specs.Calls.{stack_pages_of}
 use Rattle.flat_model.specs.Step.{flat_step, data_pages_of}
-use Rattle.flat_model.specs.Run.{step_at, is_refused, process_of_entry, act as next_of_step}
+use Rattle.flat_model.specs.Run.{step_at, is_refused, process_of_entry, entry_of_step as next_of_step}
 use Rattle.flat_model.specs.Asked.{asks}
 use Rattle.run_model.specs.State.{State}
 use Rattle.run_model.specs.After.{after}

@@ -23,7 +23,7 @@ GoesOn A s (marks.Turn p since) pid true = (p ≡ pid) × (goes_on A s pid (sinc
 GoesOn A s mark pid now = ⊥
 
 -- nothing is due, and a process that is in goes on under the last mark
-pub record Runs (A : Inputs) (s : State) (pid : ℕ) (now : Bool) : Type 0 where
+pub record ProcessRuns (A : Inputs) (s : State) (pid : ℕ) (now : Bool) : Type 0 where
   pub clear : s.place.due ≡ []
   pub on : GoesOn A s s.mark pid now
   pub resident : is_out s.place pid ≡ false
@@ -44,9 +44,9 @@ pub data Kind (A : Inputs) (s : State) (u : Entry) : Type 0 where
   Copies : (q parent : Page) (due : List Due) → s.place.due ≡ CopyOf q parent ∷ due → serve_unit s.place parent true ≡ None
       → u ≡ fill_unit s.place (entries.Copy q) → Kind A s u
   -- the page that a process wants is served
-  Serves : (pid : ℕ) (now : Bool) (q : Page) → Runs A s pid now → wanted A s ≡ Some q → serve_unit s.place q now ≡ Some u → Kind A s u
+  Serves : (pid : ℕ) (now : Bool) (q : Page) → ProcessRuns A s pid now → wanted A s ≡ Some q → serve_unit s.place q now ≡ Some u → Kind A s u
   -- a process all of whose touched pages are valid acts
-  Acts : (pid : ℕ) (now : Bool) → Runs A s pid now → wanted A s ≡ None → act A s pid ≡ Some u → Kind A s u
+  Acts : (pid : ℕ) (now : Bool) → ProcessRuns A s pid now → wanted A s ≡ None → act A s pid ≡ Some u → Kind A s u
   ComesIn : (pid : ℕ) → s.place.due ≡ [] → Comes A s s.mark pid → u ≡ entries.SwapIn pid → Kind A s u
   Interrupts : s.place.due ≡ [] → s.mark ≡ marks.Interrupt → u ≡ entries.Done → Kind A s u
   Moves : (count : ℕ) → s.place.due ≡ [] → s.mark ≡ marks.Hands count → 0 < count → wants_moves s.place ≡ true → u ≡ move_unit s.place (locked A s) → Kind A s u

@@ -17,13 +17,13 @@ running (marks.Turn pid since) = Some pid
 running _ = None
 
 -- the pages that the next instruction of this process touches, in order; none without a process
-abbrev pub touched_by : Inputs → FlatState → Option ℕ → List Page
-touched_by A F None = []
-touched_by A F (Some pid) = touched A F pid
+abbrev pub touched_of : Inputs → FlatState → Option ℕ → List Page
+touched_of A F None = []
+touched_of A F (Some pid) = touched A F pid
 
 -- the pages that the next instruction of the running process touches, in order
 abbrev pub touched_next : Inputs → State → List Page
-touched_next A s = touched_by A s.point.flat (running s.mark)
+touched_next A s = touched_of A s.point.flat (running s.mark)
 
 -- each of these pages is valid
 abbrev pub AllValid : Placement → List Page → Type 0

@@ -5,7 +5,7 @@ use Rattle.std.proofs.lemmas.List.{map-append, take_more}
 use Rattle.std.proofs.lemmas.List.Elements.{All-push, All-same}
 use Rattle.io_edge.specs.FileHolding.{NamedFile, place_of, bytes_at}
 use Rattle.aout_image.specs.declared.Image.{Image}
-use Rattle.aout_image.specs.Image.{Loaded, loaded, image_of}
+use Rattle.aout_image.specs.Image.{Loaded, loaded, judged_image}
 use Rattle.aout_image.proofs.Images.{image_of-is}
 use Rattle.flat_state.specs.Flat.{NamedImage}
 use Rattle.run_files.specs.Told.{facts_in, facts_told, facts_told_at}
@@ -14,7 +14,8 @@ use Rattle.command_ending.proofs.Behind.{behind}
 use Rattle.run_opening.specs.declared.images.OpenedImage.{OpenedImage}
 use Rattle.run_opening.specs.Images.{named_image, image_found_at, image_found, images_found, image_in, images_in, IsIn, opened_heading, AreOpened}
 
-loaded_of : (bytes : List ℕ) (r : Result Loaded ℕ) (facts : Image) → image_of bytes ≡ r → facts_in r ≡ Ok facts → image_of bytes ≡ Ok (loaded facts bytes)
+loaded_of : (bytes : List ℕ) (r : Result Loaded ℕ) (facts : Image) → judged_image bytes ≡ r → facts_in r ≡ Ok facts
+    → judged_image bytes ≡ Ok (loaded facts bytes)
 loaded_of bytes (Ok image) facts e told =
     let same : image.facts ≡ facts = cc in
     let whole = image_of-is bytes image e in
@@ -25,7 +26,7 @@ pub opened_is_in : (files : List NamedFile) (image : OpenedImage) → place_of f
     → facts_told files image.name.now ≡ Ok image.facts → IsIn files image
 opened_is_in files image place told = record {
   place = place;
-  is = loaded_of (bytes_at files image.file) (image_of (bytes_at files image.file)) image.facts refl (subst (λ (p : Option ℕ). facts_told_at files p ≡ Ok image.facts) place told);
+  is = loaded_of (bytes_at files image.file) (judged_image (bytes_at files image.file)) image.facts refl (subst (λ (p : Option ℕ). facts_told_at files p ≡ Ok image.facts) place told);
 }
 
 pub opened_is_found : (files : List NamedFile) (image : OpenedImage) → IsIn files image → image_found files image.name.now ≡ Ok (image_in files image)

@@ -2,7 +2,7 @@
 use Rattle.std.specs.Prelude.{◌≡◌, ℕ, List, [], ◌∷◌, map, Option, Some, None, Result, Ok, Err}
 use Rattle.io_edge.specs.FileHolding.{NamedFile, place_of, bytes_at}
 use Rattle.aout_image.specs.declared.Image.{Image}
-use Rattle.aout_image.specs.Image.{Loaded, loaded, image_of}
+use Rattle.aout_image.specs.Image.{Loaded, loaded, judged_image}
 use Rattle.flat_state.specs.Flat.{NamedImage}
 use Rattle.run_files.specs.declared.answers.Unread.TheVariants as unreads
 use Rattle.command_ending.specs.declared.fault.Fault.{Fault}
@@ -18,7 +18,7 @@ named_image name (Err reason) = Err (name, unreads.NotImage reason)
 -- the image of this name, by its place among the files; absent where there is no place
 abbrev pub image_found_at : List NamedFile → List ℕ → Option ℕ → Result NamedImage Why
 image_found_at files name None = Err (name, unreads.Absent)
-image_found_at files name (Some place) = named_image name (image_of (bytes_at files place))
+image_found_at files name (Some place) = named_image name (judged_image (bytes_at files place))
 
 -- the image of this name, where the files are told
 abbrev pub image_found : List NamedFile → List ℕ → Result NamedImage Why
@@ -40,7 +40,7 @@ images_in files images = map (image_in files) images
 -- the image is the one of its name, and its file is judged to be just it
 pub record IsIn (files : List NamedFile) (image : OpenedImage) : Type 0 where
   pub place : place_of files image.name.now ≡ Some image.file
-  pub is : image_of (bytes_at files image.file) ≡ Ok (loaded image.facts (bytes_at files image.file))
+  pub is : judged_image (bytes_at files image.file) ≡ Ok (loaded image.facts (bytes_at files image.file))
 
 -- what is said of an image before its bytes are read
 abbrev pub heading_of : NamedImage → List ℕ × Image

@@ -11,7 +11,7 @@ use Rattle.std.proofs.lemmas.List.Sums.{prefix_len-le-length}
 use Rattle.std.proofs.lemmas.Slice.Eq.{bytes_eq-Decides}
 use Rattle.std.proofs.Math.Seq.{get_or-append_seam}
 use Rattle.io_edge.specs.FileHolding.{NamedFile, no_file, place_of, bytes_at}
-use Rattle.aout_image.specs.Image.{image_of}
+use Rattle.aout_image.specs.Image.{judged_image}
 use Rattle.flat_state.specs.Flat.{NamedImage}
 use Rattle.run_files.specs.Told.{bytes_if, whole_told_at, whole_told}
 use Rattle.command_ending.specs.Named.{Why, before}
@@ -67,7 +67,7 @@ module _ (files : List NamedFile) (file : NamedFile) where
   image_kept : (name : List ℕ) (k : ℕ) → place_of files name ≡ Some k → image_found (files ++ file ∷ []) name ≡ image_found files name
   image_kept name k is =
       ap (image_found_at (files ++ file ∷ []) name) (name_kept name k is)
-      ∙ ap (λ (bytes : List ℕ). named_image name (image_of bytes)) (bytes_kept k (place_found (λ (f : NamedFile). bytes_eq f.name name) files k no_file is).1)
+      ∙ ap (λ (bytes : List ℕ). named_image name (judged_image bytes)) (bytes_kept k (place_found (λ (f : NamedFile). bytes_eq f.name name) files k no_file is).1)
       ∙ sym (ap (image_found_at files name) is)
 
   both_kept : (name : List ℕ) (names : List (List ℕ)) (images : List NamedImage) (o : Option ℕ) (r : Result NamedImage Why) (rs : Result (List NamedImage) Why)

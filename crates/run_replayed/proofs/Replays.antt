@@ -13,11 +13,11 @@ use Rattle.run_files.specs.Told.{bytes_if}
 use Rattle.run_files.specs.ImageWords.{image_names}
 use Rattle.run_files.specs.declared.answers.Unread.{Unread}
 use Rattle.command_ending.specs.declared.fault.Fault.TheVariants as faults
-use Rattle.command_ending.specs.Ending.{Ending, text_of as written_at, status_of}
+use Rattle.command_ending.specs.Ending.{Ending, ending_text as written_at, status_of}
 use Rattle.command_ending.specs.Command.{Faults, All, Prefix, WritesEnding}
 use Rattle.command_words.specs.Words.{is_plain, is_name}
 use Rattle.command_words.specs.Asked.{Asked, Replay, asked_of}
-use Rattle.replay_laws.specs.Reading.{Read, HasEntries, transcript_bytes, images_told, read_told}
+use Rattle.replay_laws.specs.Reading.{Read, HasEntries, transcript_bytes, images_told, read_of_transcript}
 use Rattle.replay_laws.specs.Command.{run_line, EndsReplay}
 use Rattle.replay_laws.specs.Replayed.{entries_shown}
 use Rattle.replay_laws.specs.Accepting.{ReadsText, IsAccepted}
@@ -129,7 +129,7 @@ module _ (traced : Bool) (words : List (List ℕ)) (files : List NamedFile) (wri
 
   -- the replay of the text, as a file of a new name beside the files
   text_replayed : (transcript : List ℕ) (swap after : Option (List ℕ)) (failed status : ℕ) → place_of files transcript ≡ None
-      → CompletesTold (EndsReplay transcript words) (read_told transcript words (files ++ record { name = transcript; bytes = text_of traced run.journal ++ [] } ∷ []))
+      → CompletesTold (EndsReplay transcript words) (read_of_transcript transcript words (files ++ record { name = transcript; bytes = text_of traced run.journal ++ [] } ∷ []))
       (seen_of (files ++ record { name = transcript; bytes = text_of traced run.journal ++ [] } ∷ []) 0 0 swap after failed) status
       → IsReplayed (text_of traced run.journal ++ []) status after
   text_replayed transcript swap after failed status new done = go (nat_le (length (text_of traced run.journal ++ [])) transcript_bytes) refl
@@ -138,7 +138,7 @@ module _ (traced : Bool) (words : List (List ℕ)) (files : List NamedFile) (wri
       file = record { name = transcript; bytes = text_of traced run.journal ++ [] }
 
       read : Read
-      read = read_told transcript words (files ++ file ∷ [])
+      read = read_of_transcript transcript words (files ++ file ∷ [])
 
       go : (short : Bool) → nat_le (length (text_of traced run.journal ++ [])) transcript_bytes ≡ short → IsReplayed (text_of traced run.journal ++ []) status after
       go true short =

@@ -4,7 +4,7 @@ use Rattle.std.specs.Prelude.{is_ok}
 use Rattle.vm_facts.specs.declared.page.Page.TheVariants.{Text}
 use Rattle.vm_facts.specs.Lists.{times}
 use Rattle.aout_image.specs.declared.Image.{Image}
-use Rattle.aout_image.specs.Image.{text_pages_of, data_pages_of}
+use Rattle.aout_image.specs.Image.{text_pages_of, image_data_pages}
 use Rattle.swap_dmap.specs.Chunks.{pieces}
 use Rattle.swap_book.specs.declared.Owner.TheVariants as owners
 use Rattle.swap_book.specs.Holdings.{Holdings}
@@ -81,7 +81,7 @@ asks_as : (A : Inputs) (earlier : List ℕ) (pid n : ℕ) (m : Standing) (there 
     → begin_asks m.kernel.place m.kernel.next_pid n there.facts ≡ first_wanted A.images (contains earlier n) pid n
 asks_as A earlier pid n m there b e =
     ap (λ (p : ℕ). begin_asks m.kernel.place p n there.facts) b.number
-    ∙ ap (λ (f : Image). (asked ++ (wanted (owners.Data pid) (pieces (2 * data_pages_of f)) ++ stack)) ++ u) (sym i.facts)
+    ∙ ap (λ (f : Image). (asked ++ (wanted (owners.Data pid) (pieces (2 * image_data_pages f)) ++ stack)) ++ u) (sym i.facts)
     ∙ ap (λ (t : List Wanted). (t ++ (bytes ++ stack)) ++ u) text
     ∙ ap (λ (ws : List Wanted). ws ++ u) (sym (append_assoc (text_wanted (contains earlier n) n i.named.image) bytes stack))
     ∙ sym (ap (λ (o : Option NamedImage). image_wanted (contains earlier n) pid n o ++ u) i.is)
@@ -93,7 +93,7 @@ asks_as A earlier pid n m there b e =
     asked = text_asked (sharers m.kernel.place n) n (2 * length (slots_of m.kernel.place (Text n 0)))
 
     bytes : List Wanted
-    bytes = pieces_for (owners.Data pid) (data_pages_of i.named.image.facts)
+    bytes = pieces_for (owners.Data pid) (image_data_pages i.named.image.facts)
 
     stack : List Wanted
     stack = pieces_for (owners.Stack pid) 1

@@ -7,7 +7,7 @@ use Rattle.vm_facts.specs.Lists.{times}
 use Rattle.core_map.specs.declared.slot.Slot.{Slot}
 use Rattle.core_map.specs.declared.slot.Slot.TheVariants as slots
 use Rattle.core_map.specs.declared.slot.Whose.{Whose}
-use Rattle.core_map.specs.Slots.{slot_at, listings, owner_of}
+use Rattle.core_map.specs.Slots.{slot_at, listings, slot_owner}
 use Rattle.core_map.specs.Frames.{Frames}
 use Rattle.page_model.specs.Pages.{frame_of}
 use Rattle.page_model.specs.Placement.{Errand, Writes, Reads, Placement, IsFrame, page_of, parts_of, flying, moving_state}
@@ -31,21 +31,21 @@ module _ (p : Placement) (core : Frames) (owns : OwnsFrames p) (shows : ShowsCor
   still_invalid None e there = refl
   still_invalid (Some q) e there = ap valid_one (owns.listed f q there e).state
 
-  pub frame_valid : (w : Whose) → owner_of (slot_at core.slots f) ≡ w → IsFrame p f → valid_frame p f ≡ valid_by p w
+  pub frame_valid : (w : Whose) → slot_owner (slot_at core.slots f) ≡ w → IsFrame p f → valid_frame p f ≡ valid_by p w
   frame_valid w e frame = subst (λ (x : Whose). valid_frame p f ≡ valid_by p x) e (go (slot_at core.slots f) refl)
     where
       some_fly : (n : ℕ) → true ≡ nat_lt 0 n → 0 < n
       some_fly n h = grind (arith, nat_tests)
 
-      go : (s : Slot) → slot_at core.slots f ≡ s → valid_frame p f ≡ valid_by p (owner_of (slot_at core.slots f))
+      go : (s : Slot) → slot_at core.slots f ≡ s → valid_frame p f ≡ valid_by p (slot_owner (slot_at core.slots f))
       go (slots.Free token held) is =
           let list = ap (times f) shows.free in
           let there : 0 < times f p.free = let l = shows.listed f ∙ ap listings is in omega (arith, l, list) in
-          still_invalid (page_of p f) refl there ∙ sym (ap (λ (x : Slot). valid_by p (owner_of x)) is)
+          still_invalid (page_of p f) refl there ∙ sym (ap (λ (x : Slot). valid_by p (slot_owner x)) is)
       go (slots.Resident token held mark) is =
-          ap (valid_of p) (shows.kept f token held mark is).0 ∙ sym (ap (λ (x : Slot). valid_by p (owner_of x)) is)
+          ap (valid_of p) (shows.kept f token held mark is).0 ∙ sym (ap (λ (x : Slot). valid_by p (slot_owner x)) is)
       go slots.Away is =
           let some : 0 < times f (flying (parts_of p.transfers)) = some_fly (times f (flying (parts_of p.transfers))) (sym (ap is_away is) ∙ shows.away f frame) in
           let c : IsCarried p 1 f p.transfers = is_carried p 1 f p.transfers owns.moves some in
           let page : page_of p f ≡ Some c.page = owns.names c.page f (ap frame_of c.state ∙ in_flight c.errand f) in
-          ap (valid_of p) page ∙ ap valid_one c.state ∙ still_moving c.errand f ∙ sym (ap (λ (x : Slot). valid_by p (owner_of x)) is)
+          ap (valid_of p) page ∙ ap valid_one c.state ∙ still_moving c.errand f ∙ sym (ap (λ (x : Slot). valid_by p (slot_owner x)) is)

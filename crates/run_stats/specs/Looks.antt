@@ -11,7 +11,7 @@ use Rattle.run_model.specs.declared.mark.Mark.{Mark}
 use Rattle.run_model.specs.declared.mark.Mark.TheVariants as marks
 use Rattle.run_model.specs.State.{State}
 use Rattle.run_model.specs.Next.{blocks_held}
-use Rattle.run_counts.specs.Counts.{owner_of}
+use Rattle.run_counts.specs.Counts.{page_owner}
 use Rattle.run_stats.specs.declared.look.Flight.{Flight}
 use Rattle.run_stats.specs.declared.look.Flight.TheVariants as flights
 use Rattle.run_stats.specs.declared.look.Look.{Look}
@@ -37,7 +37,7 @@ valid_frames p = sum_by (valid_frame p) (count_up 1 (length p.holds))
 -- a transfer by where its pages go: how many they are, and of those that are written whose the first one is
 abbrev pub flight_by : Errand → List Part → Flight
 flight_by Writes [] = flights.Empty
-flight_by Writes (x ∷ xs) = flights.ToSwap (owner_of x.page) (length (x ∷ xs))
+flight_by Writes (x ∷ xs) = flights.ToSwap (page_owner x.page) (length (x ∷ xs))
 flight_by (Reads FromSwap demanded) xs = flights.OfSwap (length xs)
 flight_by (Reads FromFile demanded) xs = flights.OfFile (length xs)
 

@@ -5,7 +5,7 @@ ghost use Rattle.page_model.specs.Placement.{Reads, Writes};
 ghost use Rattle.machine_state.specs.Going.{IsRunning};
 ghost use Rattle.machine_state.specs.View.{in_part, out_part, source_shown, transfer_shown};
 ghost use Rattle.run_model.specs.Next.{blocks_held};
-ghost use Rattle.run_counts.specs.Counts.{owner_of};
+ghost use Rattle.run_counts.specs.Counts.{page_owner};
 ghost use Rattle.run_stats.specs.Looks.{flight_by, flight_of, newest_of, runner_of, look_of};
 
 use crate::valid::valid_frames;

@@ -6,7 +6,7 @@ use Rattle.vm_facts.specs.declared.entry.Entry.{Entry}
 use Rattle.vm_facts.specs.declared.entry.Entry.TheVariants.{Event, Turn, Ran, Out, Grew, Call, Refused, Sleeps, Ended, Zero, Get, Copy, Reclaim, Hands, Put, SwapOut, SwapIn, Owners}
 use Rattle.vm_facts.specs.declared.entry.Entry.TheVariants as entry
 use Rattle.run_text.specs.declared.waiting.Run.{Run}
-use Rattle.run_text.specs.Text.{part, parts, line_of, lines_of, is_paging, join, join_ran, joined, unless, without_paging}
+use Rattle.run_text.specs.Text.{part, parts, line_of, lines_of, is_paging, join_before, join_ran, joined, unless, without_paging}
 use Rattle.run_text.specs.Running.{waiting, waiting_text, text_unless_same, lengthened, text_at, run_after}
 use Rattle.std.proofs.lemmas.Bool.Decides.{nat_tests}
 
@@ -22,33 +22,34 @@ same_process : (p : ℕ) → (p == p) ≡ true
 same_process p = grind (arith, nat_tests)
 
 -- two `Ran` of one process before joined entries
-join_same_by : (p m n q k : ℕ) (es : List Entry) (b : Bool) → (p == q) ≡ b → join (Ran p m) (join_ran b p n q k es) ≡ join_ran b p (m + n) q k es
+join_same_by : (p m n q k : ℕ) (es : List Entry) (b : Bool) → (p == q) ≡ b → join_before (Ran p m) (join_ran b p n q k es) ≡ join_ran b p (m + n) q k es
 join_same_by p m n q k es true h = ap (λ (t : Bool). join_ran t p m p (n + k) es) (same_process p) ∙ ap (λ (c : ℕ). Ran p c ∷ es) (sym (add_assoc m n k))
 join_same_by p m n q k es false h = ap (λ (t : Bool). join_ran t p m p n (Ran q k ∷ es)) (same_process p)
 
-join_same : (p m n : ℕ) (xs : List Entry) → join (Ran p m) (join (Ran p n) xs) ≡ join (Ran p (m + n)) xs
+join_same : (p m n : ℕ) (xs : List Entry) → join_before (Ran p m) (join_before (Ran p n) xs) ≡ join_before (Ran p (m + n)) xs
 join_same p m n [] = ap (λ (t : Bool). join_ran t p m p n []) (same_process p)
 join_same p m n (Ran q k ∷ es) = join_same_by p m n q k es (p == q) refl
 join_same p m n (e ∷ es) = ap (λ (t : Bool). join_ran t p m p n (e ∷ es)) (same_process p)
 
 -- a `Ran` of another process before joined entries
-join_other_by : (a m p n q k : ℕ) (es : List Entry) (b : Bool) → (a == p) ≡ false → join (Ran a m) (join_ran b p n q k es) ≡ Ran a m ∷ join_ran b p n q k es
+join_other_by : (a m p n q k : ℕ) (es : List Entry) (b : Bool) → (a == p) ≡ false
+    → join_before (Ran a m) (join_ran b p n q k es) ≡ Ran a m ∷ join_ran b p n q k es
 join_other_by a m p n q k es true h = ap (λ (t : Bool). join_ran t a m p (n + k) es) h
 join_other_by a m p n q k es false h = ap (λ (t : Bool). join_ran t a m p n (Ran q k ∷ es)) h
 
-join_other : (a m p n : ℕ) (xs : List Entry) → (a == p) ≡ false → join (Ran a m) (join (Ran p n) xs) ≡ Ran a m ∷ join (Ran p n) xs
+join_other : (a m p n : ℕ) (xs : List Entry) → (a == p) ≡ false → join_before (Ran a m) (join_before (Ran p n) xs) ≡ Ran a m ∷ join_before (Ran p n) xs
 join_other a m p n [] h = ap (λ (t : Bool). join_ran t a m p n []) h
 join_other a m p n (Ran q k ∷ es) h = join_other_by a m p n q k es (p == q) h
 join_other a m p n (e ∷ es) h = ap (λ (t : Bool). join_ran t a m p n (e ∷ es)) h
 
 -- where a `Ran` comes
 step_ran : (r : Run) (p n : ℕ) (xs : List Entry) (b : Bool) → (r.pid == p) ≡ b
-    → lines_of (join (Ran r.pid r.count) (join (Ran p n) xs))
-    ≡ text_unless_same b r ++ lines_of (join (Ran (lengthened b r p n).pid (lengthened b r p n).count) xs)
+    → lines_of (join_before (Ran r.pid r.count) (join_before (Ran p n) xs))
+    ≡ text_unless_same b r ++ lines_of (join_before (Ran (lengthened b r p n).pid (lengthened b r p n).count) xs)
 step_ran r p n xs true h =
     let e : r.pid ≡ p = grind (arith, nat_tests) in
     ap (λ (es : List Entry). lines_of es)
-    (subst (λ (q : ℕ). join (Ran r.pid r.count) (join (Ran q n) xs) ≡ join (Ran r.pid (r.count + n)) xs) e (join_same r.pid r.count n xs))
+    (subst (λ (q : ℕ). join_before (Ran r.pid r.count) (join_before (Ran q n) xs) ≡ join_before (Ran r.pid (r.count + n)) xs) e (join_same r.pid r.count n xs))
 step_ran r p n xs false h = ap (λ (es : List Entry). lines_of es) (join_other r.pid r.count p n xs h)
 
 -- where an entry comes

@@ -97,14 +97,14 @@ join_ran true p m q n es = Ran p (m + n) ∷ es
 join_ran false p m q n es = Ran p m ∷ Ran q n ∷ es
 
 -- an entry before others that are joined already
-abbrev pub join : Entry → List Entry → List Entry
-join (Ran p m) (Ran q n ∷ es) = join_ran (p == q) p m q n es
-join e es = e ∷ es
+abbrev pub join_before : Entry → List Entry → List Entry
+join_before (Ran p m) (Ran q n ∷ es) = join_ran (p == q) p m q n es
+join_before e es = e ∷ es
 
 -- neighbouring `Ran` of one process become one
 abbrev pub joined : List Entry → List Entry
 joined [] = []
-joined (e ∷ es) = join e (joined es)
+joined (e ∷ es) = join_before e (joined es)
 
 -- the text of a journal: every entry's line, or, without the trace of the paging, the lines of the
 -- other entries, neighbouring `Ran` of one process joined

@@ -5,7 +5,7 @@ use Rattle.std.proofs.lemmas.List.Elements.{filter_map-append}
 use Rattle.vm_facts.specs.Answers.{Answers, ByteWrite}
 use Rattle.vm_facts.specs.declared.page.Page.{Page}
 use Rattle.vm_facts.specs.declared.page.Page.TheVariants as pages
-use Rattle.user_vax.specs.Program.{Program, run, Access, ReadOf, TestOf, accesses}
+use Rattle.user_vax.specs.Program.{Program, run, ByteAccess, ReadOf, TestOf, accesses}
 use Rattle.user_vax.specs.Laws.{refusal, AllGranted, EndsRefused, Covers, SameOrMisses, read_refusal, test_refusal}
 use Rattle.user_vax.specs.Effects.{Effect}
 use Rattle.user_vax.specs.Instruction.{instruction}
@@ -27,7 +27,7 @@ use Rattle.page_model.specs.Pages.{SpacePages, is_valid, numbered, data_in, stac
 use Rattle.page_model.specs.Placement.{Placement, space_number, image_in, image_of, state_of}
 use Rattle.page_model.specs.Conditions.{EachPage}
 use Rattle.kernel_model.specs.Kernel.{Kernel}
-use Rattle.kernel_model.specs.Coupled.{Coupled, Fits, IsSized, text_of}
+use Rattle.kernel_model.specs.Coupled.{Coupled, Fits, IsSized, image_text}
 use Rattle.machine_state.specs.UserMemory.{bytes_of, text_len, data_len, stack_len, spot_in, read_spot, may_write_spot, page_at_spot, page_in, kernel_answers}
 use Rattle.machine_state.proofs.FlatMemory.{memory_covers}
 use Rattle.flat_model.specs.declared.calls.Reply.{Reply}
@@ -38,7 +38,7 @@ use Rattle.flat_model.specs.Instruction.{instruction_in}
 use Rattle.flat_model.specs.Touched.{page_of_access, step_accesses, accesses_after, distinct, touched, touched_by, touched_in, touched_if}
 use Rattle.run_model.specs.State.{State}
 use Rattle.run_model.specs.Wanted.{touched_next, wanted, AllValid}
-use Rattle.run_model.specs.Kinds.{Runs}
+use Rattle.run_model.specs.Kinds.{ProcessRuns}
 use Rattle.run_model.proofs.Wanting.{all_unwanted}
 use Rattle.economy_laws.proofs.FlatLawsAsking.{own_space}
 use Rattle.economy_laws.specs.Standing.{IsText, HasText}
@@ -79,8 +79,8 @@ lent A s k image pid p x at here holds = record {
     text : IsText A.images x
     text = subst (HasText A.images) holds (found_process (λ y. HasText A.images y.holding) flat.processes pid p at.run.texts here)
 
-    same_text : x.text_bytes ≡ text_of (image_numbered A.images x.image)
-    same_text = text.same ∙ sym (ap text_of text.image)
+    same_text : x.text_bytes ≡ image_text (image_numbered A.images x.image)
+    same_text = text.same ∙ sym (ap image_text text.image)
 
     sized : (y : SpacePages) × (numbered space_number x.sid k.place.spaces ≡ Some y) × IsSized x y
     sized =
@@ -117,7 +117,7 @@ unfolding touched
 touched_ready A flat pid p x here ready holds =
     ap (touched_if A.images flat) here ∙ ap (λ (b : Bool). touched_by b A.images flat p) ready ∙ ap (touched_in A.images flat p) holds
 
-ready_of : (A : Inputs) (s : State) (pid : ℕ) (now : Bool) (p : Process) → Runs A s pid now → process_of s.point.flat pid ≡ Some p → is_ready p ≡ true
+ready_of : (A : Inputs) (s : State) (pid : ℕ) (now : Bool) (p : Process) → ProcessRuns A s pid now → process_of s.point.flat pid ≡ Some p → is_ready p ≡ true
 ready_of A s pid now p r here = ap ready_if (sym here) ∙ on_steps A s s.mark pid now r.on
 
 runs_touch : (A : Inputs) (s : State) (pid : ℕ) (now : Bool) (p : Process) (x : Space) → IsRunning A s pid now p x
@@ -127,7 +127,7 @@ runs_touch A s pid now p x r =
 
 -- A byte that misses.
 
-missing_at : (k : Kernel) (x : Space) (e : SameSpots k x) (a : Access) (address : ℕ) (write : Bool)
+missing_at : (k : Kernel) (x : Space) (e : SameSpots k x) (a : ByteAccess) (address : ℕ) (write : Bool)
     → refusal (kernel_answers k x.sid) a ≡ Some (Miss address write)
     → (spot : Spot) × (page_in k.place x.sid address ≡ page_at_spot k.place x.sid spot) × Missing k x (page_of_access x a) spot
 missing_at k x e (ReadOf b) address write h =
@@ -175,7 +175,7 @@ test_asks k x (spots.Stack i) b address write page m e = ap (λ (q : Page). acce
 test_asks k x spots.Below b address write page m e = absurd cc
 test_asks k x spots.Outside b address write page m e = absurd cc
 
-asks_page : (k : Kernel) (x : Space) (e : SameSpots k x) (a : Access) (address : ℕ) (write : Bool) (page : Page)
+asks_page : (k : Kernel) (x : Space) (e : SameSpots k x) (a : ByteAccess) (address : ℕ) (write : Bool) (page : Page)
     → refusal (kernel_answers k x.sid) a ≡ Some (Miss address write)
     → page_in k.place x.sid address ≡ Some page → access_to k.place x.sid address write ≡ accesses.Page page
 asks_page k x e (ReadOf b) address write page m h = go (read_spot k x.sid (spot_in k.place x.sid b)) m
@@ -203,16 +203,17 @@ asks_page k x e (TestOf b) address write page m h = go (may_write_spot k.place x
     go tests.Text i n = absurd cc
     go tests.Outside i n = absurd cc
 
-append_one : (xs ys zs : List Access) → (xs ++ ys) ++ zs ≡ xs ++ (ys ++ zs)
+append_one : (xs ys zs : List ByteAccess) → (xs ++ ys) ++ zs ≡ xs ++ (ys ++ zs)
 append_one [] ys zs = refl
-append_one (x ∷ xs) ys zs = ap (λ (list : List Access). x ∷ list) (append_one xs ys zs)
+append_one (x ∷ xs) ys zs = ap (λ (list : List ByteAccess). x ∷ list) (append_one xs ys zs)
 
-found_first : (x : Space) (a : Access) (q : Page) (list : List Access) → page_of_access x a ≡ Some q
+found_first : (x : Space) (a : ByteAccess) (q : Page) (list : List ByteAccess) → page_of_access x a ≡ Some q
     → filter_map (page_of_access x) (a ∷ list) ≡ q ∷ filter_map (page_of_access x) list
 found_first x a q list e = ap (λ (o : Option Page). cons_option o (filter_map (page_of_access x) list)) e
 
 -- the byte of an access that misses, after others that don't, is of the page that the process waits for
-wanted_at : (A : Inputs) (s : State) (k : Kernel) (image : List ℕ) (pid : ℕ) (now : Bool) (p : Process) (x : Space) (front rest : List Access) (last : Access)
+wanted_at : (A : Inputs) (s : State) (k : Kernel) (image : List ℕ) (pid : ℕ) (now : Bool) (p : Process) (x : Space)
+    (front rest : List ByteAccess) (last : ByteAccess)
     (address : ℕ) (write : Bool)
     → At A s k image → IsRunning A s pid now p x → step_accesses A.images s.point.flat p x ≡ front ++ last ∷ rest → AllHit (kernel_answers k x.sid) front
     → refusal (kernel_answers k x.sid) last ≡ Some (Miss address write) → WantsPage A s k x address write
@@ -241,7 +242,7 @@ wanted_at A s k image pid now p x front rest last address write at r e hits miss
     }
 
 -- where no access misses the process waits for none
-ready_at : (A : Inputs) (s : State) (k : Kernel) (image : List ℕ) (pid : ℕ) (now : Bool) (p : Process) (x : Space) (list : List Access)
+ready_at : (A : Inputs) (s : State) (k : Kernel) (image : List ℕ) (pid : ℕ) (now : Bool) (p : Process) (x : Space) (list : List ByteAccess)
     → At A s k image → IsRunning A s pid now p x
     → step_accesses A.images s.point.flat p x ≡ list → AllHit (kernel_answers k x.sid) list → wanted A s ≡ None
 ready_at A s k image pid now p x list at r e hits =
@@ -249,15 +250,15 @@ ready_at A s k image pid now p x list at r e hits =
     let valid : AllValid s.place (distinct (filter_map (page_of_access x) list)) =
     each_distinct (λ q. is_valid (state_of s.place q) ≡ true) (filter_map (page_of_access x) list)
     (subst (λ (y : Placement). AllValid y (filter_map (page_of_access x) list)) at.stands.place (pages_valid k x l.spots list hits)) in
-    all_unwanted A s r.runs.clear (subst (AllValid s.place) (sym (runs_touch A s pid now p x r ∙ ap (λ (qs : List Access). distinct (filter_map (page_of_access x) qs)) e)) valid)
+    all_unwanted A s r.runs.clear (subst (AllValid s.place) (sym (runs_touch A s pid now p x r ∙ ap (λ (qs : List ByteAccess). distinct (filter_map (page_of_access x) qs)) e)) valid)
 
-append_none : (list : List Access) → list ++ [] ≡ list
+append_none : (list : List ByteAccess) → list ++ [] ≡ list
 append_none [] = refl
-append_none (a ∷ list) = ap (λ (others : List Access). a ∷ others) (append_none list)
+append_none (a ∷ list) = ap (λ (others : List ByteAccess). a ∷ others) (append_none list)
 
 -- A computation over the frames, and over the flat memory.
 
-others : {B : Type 0} (memory flat : Answers) (q : Program B) → Covers memory flat → (more : List Access) × (accesses flat q ≡ accesses memory q ++ more)
+others : {B : Type 0} (memory flat : Answers) (q : Program B) → Covers memory flat → (more : List ByteAccess) × (accesses flat q ≡ accesses memory q ++ more)
 others memory flat q c = elim (same_or_misses memory flat q c) [
   | inl e ↦ ([], sym e.1 ∙ sym (append_none (accesses memory q)))
   | inr h ↦ (h.3, h.4)
@@ -271,15 +272,15 @@ same memory flat q c n = elim (same_or_misses memory flat q c) [
 ]
 
 -- its accesses end with one that misses, after others that don't
-record EndsMissed (memory : Answers) (list : List Access) (address : ℕ) (write : Bool) : Type 0 where
-  front : List Access
-  last : Access
-  rest : List Access
+record EndsMissed (memory : Answers) (list : List ByteAccess) (address : ℕ) (write : Bool) : Type 0 where
+  front : List ByteAccess
+  last : ByteAccess
+  rest : List ByteAccess
   whole : list ≡ front ++ last ∷ rest
   hits : AllHit memory front
   misses : refusal memory last ≡ Some (Miss address write)
 
-missed : {B : Type 0} (memory flat : Answers) (q : Program B) (address : ℕ) (write : Bool) (after : List Access) → Covers memory flat
+missed : {B : Type 0} (memory flat : Answers) (q : Program B) (address : ℕ) (write : Bool) (after : List ByteAccess) → Covers memory flat
     → run memory q ≡ Err (Miss address write)
     → EndsMissed memory (accesses flat q ++ after) address write
 missed memory flat q address write after c m =
@@ -289,13 +290,13 @@ missed memory flat q address write after c m =
       front = ends.0;
       last = ends.1;
       rest = more.0 ++ after;
-      whole = ap (λ (list : List Access). list ++ after) (more.1 ∙ ap (λ (list : List Access). list ++ more.0) ends.2)
+      whole = ap (λ (list : List ByteAccess). list ++ after) (more.1 ∙ ap (λ (list : List ByteAccess). list ++ more.0) ends.2)
           ∙ append_one (ends.0 ++ ends.1 ∷ []) more.0 after ∙ append_one ends.0 (ends.1 ∷ []) (more.0 ++ after);
       hits = granted_hit memory ends.0 ends.3;
       misses = ends.4;
     }
 
-hit_both : (memory : Answers) (xs ys : List Access) → AllHit memory xs → AllHit memory ys → AllHit memory (xs ++ ys)
+hit_both : (memory : Answers) (xs ys : List ByteAccess) → AllHit memory xs → AllHit memory ys → AllHit memory (xs ++ ys)
 hit_both memory [] ys h k = k
 hit_both memory (x ∷ xs) ys h k = (h.0, hit_both memory xs ys h.1 k)
 
@@ -310,7 +311,7 @@ pub miss_wanted : (A : Inputs) (s : State) (k : Kernel) (image : List ℕ) (pid 
     → At A s k image
     → IsRunning A s pid now p x → run (kernel_answers k x.sid) (instruction p.regs) ≡ Err (Miss address write) → WantsPage A s k x address write
 miss_wanted A s k image pid now p x address write at r m =
-    let after : List Access = accesses_after A.images s.point.flat p x (instruction_in x p.regs) in
+    let after : List ByteAccess = accesses_after A.images s.point.flat p x (instruction_in x p.regs) in
     let l : Lent A k x = lent A s k image pid p x at r.here r.holds in
     let e : EndsMissed (kernel_answers k x.sid) (accesses (answers_of x) (instruction p.regs) ++ after) address write =
     missed (kernel_answers k x.sid) (answers_of x) (instruction p.regs) address write after l.covers m in
@@ -342,7 +343,7 @@ hit_ready A s k image pid now p x at r w =
     ap (accesses_after A.images s.point.flat p x) (sym both.0) ∙ none_after A.images s.point.flat p x (run memory (instruction p.regs)) w in
     record {
       unwanted = ready_at A s k image pid now p x (accesses memory (instruction p.regs)) at r
-          (stepped A s p x ∙ ap (λ (list : List Access). accesses (answers_of x) (instruction p.regs) ++ list) none ∙ append_none (accesses (answers_of x) (instruction p.regs)) ∙ sym both.1)
+          (stepped A s p x ∙ ap (λ (list : List ByteAccess). accesses (answers_of x) (instruction p.regs) ++ list) none ∙ append_none (accesses (answers_of x) (instruction p.regs)) ∙ sym both.1)
           (all_hit memory (instruction p.regs) n);
       same = sym both.0;
     }
@@ -372,8 +373,8 @@ call_wanted A s k image pid now p x effect call address write at r i c m =
     let after : accesses_after A.images s.point.flat p x (instruction_in x p.regs) ≡ e.front ++ e.last ∷ e.rest =
     ap (accesses_after A.images s.point.flat p x) (sym both.0 ∙ i) ∙ call_after A.images s.point.flat p x effect call c w ∙ sym (append_none (accesses (answers_of x) q)) ∙ e.whole in
     wanted_at A s k image pid now p x (accesses memory (instruction p.regs) ++ e.front) e.rest e.last address write at r
-    (stepped A s p x ∙ ap (λ (list : List Access). list ++ accesses_after A.images s.point.flat p x (instruction_in x p.regs)) (sym both.1)
-    ∙ ap (λ (list : List Access). accesses memory (instruction p.regs) ++ list) after ∙ sym (append_one (accesses memory (instruction p.regs)) e.front (e.last ∷ e.rest)))
+    (stepped A s p x ∙ ap (λ (list : List ByteAccess). list ++ accesses_after A.images s.point.flat p x (instruction_in x p.regs)) (sym both.1)
+    ∙ ap (λ (list : List ByteAccess). accesses memory (instruction p.regs) ++ list) after ∙ sym (append_one (accesses memory (instruction p.regs)) e.front (e.last ∷ e.rest)))
     (hit_both memory (accesses memory (instruction p.regs)) e.front (all_hit memory (instruction p.regs) n) e.hits) e.misses
 
 pub call_ready : (A : Inputs) (s : State) (k : Kernel) (image : List ℕ) (pid : ℕ) (now : Bool) (p : Process) (x : Space) (effect : Effect) (call : SystemCall)
@@ -393,8 +394,8 @@ call_ready A s k image pid now p x effect call at r i c answered =
     ap (accesses_after A.images s.point.flat p x) (sym both.0 ∙ i) ∙ call_after A.images s.point.flat p x effect call c w ∙ sym read.1 in
     record {
       unwanted = ready_at A s k image pid now p x (accesses memory (instruction p.regs) ++ accesses memory q) at r
-          (stepped A s p x ∙ ap (λ (list : List Access). list ++ accesses_after A.images s.point.flat p x (instruction_in x p.regs)) (sym both.1)
-          ∙ ap (λ (list : List Access). accesses memory (instruction p.regs) ++ list) after)
+          (stepped A s p x ∙ ap (λ (list : List ByteAccess). list ++ accesses_after A.images s.point.flat p x (instruction_in x p.regs)) (sym both.1)
+          ∙ ap (λ (list : List ByteAccess). accesses memory (instruction p.regs) ++ list) after)
           (hit_both memory (accesses memory (instruction p.regs)) (accesses memory q) (all_hit memory (instruction p.regs) n) (all_hit memory q replied));
       same = sym both.0 ∙ i;
       writes = w;

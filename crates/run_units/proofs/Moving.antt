@@ -16,7 +16,7 @@ use Rattle.economy_laws.specs.Spans.{moves, moves_of}
 use Rattle.run_model.specs.declared.mark.Mark.{Mark}
 use Rattle.run_model.specs.declared.mark.Mark.TheVariants as marks
 use Rattle.run_model.specs.State.{State}
-use Rattle.run_model.specs.Wanted.{running, touched_by, before_absent, locked_by, locked}
+use Rattle.run_model.specs.Wanted.{running, touched_of, before_absent, locked_by, locked}
 use Rattle.run_model.specs.After.{after, completed, moved_on}
 use Rattle.run_model.specs.Next.{when, begins_write, move_by, move_unit, under, next_unit}
 use Rattle.economy_laws.specs.Machine.{unit_image}
@@ -31,7 +31,7 @@ use Rattle.run_units.proofs.Units.{one_made, none_leads, first_leads, leads_at}
 use Rattle.run_units.proofs.Serving.{moving_locked}
 
 none_locked : (A : Inputs) (s : State) (n : ℕ) → AsksMoves s n → locked A s ≡ []
-none_locked A s n h = ap (locked_by A s) h.clear ∙ ap (λ (x : Mark). before_absent s.place (touched_by A s.point.flat (running x))) h.mark
+none_locked A s n h = ap (locked_by A s) h.clear ∙ ap (λ (x : Mark). before_absent s.place (touched_of A s.point.flat (running x))) h.mark
 
 pub move_next : (A : Inputs) (s : State) (n : ℕ) → AsksMoves s n → 0 < n → wants_moves s.place ≡ true → next_unit A s ≡ Some (move_unit s.place [])
 move_next A s n h l w = moves_next A s n (move_unit s.place []) [] (place_entry [] 0 s.place (move_unit s.place [])) h.mark h.clear (l, w, refl, refl)

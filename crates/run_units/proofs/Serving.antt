@@ -21,10 +21,10 @@ use Rattle.kernel_model.specs.Kernel.{Kernel}
 use Rattle.run_model.specs.declared.mark.Mark.{Mark}
 use Rattle.run_model.specs.declared.mark.Mark.TheVariants as marks
 use Rattle.run_model.specs.State.{State}
-use Rattle.run_model.specs.Wanted.{running, touched_by, wanted, locked, touched_next, AllValid, Splits}
+use Rattle.run_model.specs.Wanted.{running, touched_of, wanted, locked, touched_next, AllValid, Splits}
 use Rattle.run_model.specs.After.{after, place_at, completed, moved_on, audited}
 use Rattle.run_model.specs.Next.{next_unit, under, work, work_by, when, or_else, due_unit, next_mark, goes_on, turn_unit, turn_instructions}
-use Rattle.run_model.specs.Kinds.{Runs, GoesOn}
+use Rattle.run_model.specs.Kinds.{ProcessRuns, GoesOn}
 use Rattle.run_model.proofs.Wanting.{splits_wanted, splits_locked}
 use Rattle.economy_laws.specs.Machine.{unit_image}
 use Rattle.economy_laws.proofs.Plain.{IsPaging, paging_stays, serve_paging}
@@ -36,12 +36,12 @@ use Rattle.economy_laws.proofs.Left.{serve_due_same, next_on}
 use Rattle.fault_fill.specs.Made.{Ground, Made}
 use Rattle.fault_fill.proofs.PagingUnitsUnits.{served_place}
 use Rattle.run_units.specs.Leads.{KeepsLocked, MadeAs, Leads}
-use Rattle.run_units.specs.Serving.{SameBut, IsWaiting, At, Served}
+use Rattle.run_units.specs.Serving.{SameBut, IsWaiting, At, ServingLeads}
 use Rattle.run_units.proofs.Units.{one_made, none_leads, first_leads, leads_at}
 
 -- What a process that runs does is what comes under the mark.
 
-works_next : (A : Inputs) (s : State) (pid : ℕ) (now : Bool) (u : Entry) → Runs A s pid now → work A s pid now ≡ Some u → next_unit A s ≡ Some u
+works_next : (A : Inputs) (s : State) (pid : ℕ) (now : Bool) (u : Entry) → ProcessRuns A s pid now → work A s pid now ≡ Some u → next_unit A s ≡ Some u
 unfolding next_unit
 works_next A s pid now u r w =
     ap (λ (ds : List Due). or_else (due_unit s.place ds) (or_else (under A s s.mark) (next_mark A s))) r.clear
@@ -117,8 +117,8 @@ stays_in A s pid u i g h =
     (not_out s.place (place_entry (locked A s) (place_at s u) s.place u) pid
     (λ e. elim (entry_out (locked A s) (place_at s u) s.place u pid e) [ inl k ↦ k | inr l ↦ absurd (paging_stays u pid i l) ]) h)
 
-pub runs_on : (A : Inputs) (s : State) (pid : ℕ) (now : Bool) (u : Entry) → IsPaging u → Paged A s u → (after A s u).place.due ≡ [] → Runs A s pid now
-    → Runs A (after A s u) pid now
+pub runs_on : (A : Inputs) (s : State) (pid : ℕ) (now : Bool) (u : Entry) → IsPaging u → Paged A s u → (after A s u).place.due ≡ [] → ProcessRuns A s pid now
+    → ProcessRuns A (after A s u) pid now
 runs_on A s pid now u i g d r = record {
   clear = d;
   on = subst (λ (m : Mark). GoesOn A (after A s u) m pid now) (sym g.same.mark) (goes_same A s (after A s u) pid now s.mark g.same.point g.same.count r.on);
@@ -216,7 +216,7 @@ waits_on A g s k image pid now before q u at w h p =
       images = w.images;
       runs = runs_on A s pid now u i p (ap (λ (x : Placement). x.due) place ∙ serve_due_same s.place before q own ∙ w.runs.clear) w.runs;
       rest = w.rest;
-      touched = ap (λ (x : Point). touched_by A x.flat (running (after A s u).mark)) p.same.point ∙ ap (λ (x : Mark). touched_by A s.point.flat (running x)) p.same.mark ∙ w.touched;
+      touched = ap (λ (x : Point). touched_of A x.flat (running (after A s u).mark)) p.same.point ∙ ap (λ (x : Mark). touched_of A s.point.flat (running x)) p.same.mark ∙ w.touched;
       valid = subst (λ (x : Placement). AllValid x before) (sym place) (spared s.place (serve_step s.place before q) before w.valid (serve_spares s.place before q own there) before (λ r e. e));
       locked = w.locked;
     }
@@ -227,7 +227,7 @@ same_both s t r a b = record { point = b.point ∙ a.point; holdings = b.holding
 pub served : (us : List Entry) (A : Inputs) (g : Ground) (s : State) (k l : Kernel) (image : List ℕ) (j : Option (List ℕ)) (pid : ℕ) (now : Bool)
     (before : List Page) (q : Page)
     → At A s k image → IsWaiting A g s pid now before q → Serves us k.place g.locked q now l.place → Made g us k (Some image) l j
-    → Served A g s k image pid now before q us l j
+    → ServingLeads A g s k image pid now before q us l j
 served [] A g s k l image j pid now before q at w h m = record {
   state = s;
   leads = subst (λ (x : Kernel). Leads A s k image [] s x j) m.0 (subst (λ (o : Option (List ℕ)). Leads A s k image [] s k o) m.1 (none_leads A s k image));
@@ -250,7 +250,7 @@ served (u ∷ us) A g s k l image j pid now before q at w h m =
     ap (λ (y : Placement). due_after y.due q) here ∙ ap (λ (ds : List Due). due_after ds q) w.runs.clear ∙ sym (ap (λ (y : Placement). y.due) here ∙ w.runs.clear) in
     let rest : Serves us m.next.place g.locked q now l.place =
     subst (λ (y : Placement). Serves us y g.locked q now l.place) (sym (served_place g q now u k m.next (Some image) h.0 due m.made)) h.1 in
-    let more : Served A g (after A s u) m.next x pid now before q us l j =
+    let more : ServingLeads A g (after A s u) m.next x pid now before q us l j =
     served us A g (after A s u) m.next l x j pid now before q (leads_at A s (after A s u) k m.next image x (u ∷ []) at first) (waits_on A g s k image pid now before q u at w asked p) rest
     (subst (λ (o : Option (List ℕ)). Made g us m.next o l j) one.told m.rest) in
     record {

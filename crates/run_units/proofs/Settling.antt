@@ -14,11 +14,11 @@ use Rattle.kernel_model.specs.Kernel.{Kernel}
 use Rattle.flat_model.specs.Run.{Point}
 use Rattle.run_model.specs.declared.mark.Mark.{Mark}
 use Rattle.run_model.specs.State.{State}
-use Rattle.run_model.specs.Wanted.{running, touched_by, touched_next, AllValid, wanted}
+use Rattle.run_model.specs.Wanted.{running, touched_of, touched_next, AllValid, wanted}
 use Rattle.run_model.specs.After.{after}
 use Rattle.run_model.specs.Act.{act, act_if, act_by, settled, must_refuse, must_settle, step_loses}
 use Rattle.run_model.specs.Next.{next_unit}
-use Rattle.run_model.specs.Kinds.{Runs}
+use Rattle.run_model.specs.Kinds.{ProcessRuns}
 use Rattle.run_model.proofs.Wanting.{wanted_none, all_unwanted}
 use Rattle.economy_laws.specs.Machine.{unit_image}
 use Rattle.economy_laws.proofs.Marks.{on_free}
@@ -56,7 +56,7 @@ leaves_on A s pid now sid o h p =
     let place : t.place ≡ done s.place = p.place in
     let clear : t.place.due ≡ [] = ap (λ (x : Placement). x.due) place ∙ st.due ∙ h.runs.clear in
     let touched : touched_next A t ≡ touched_next A s =
-    ap (λ (x : Point). touched_by A x.flat (running t.mark)) p.same.point ∙ ap (λ (x : Mark). touched_by A s.point.flat (running x)) p.same.mark in
+    ap (λ (x : Point). touched_of A x.flat (running t.mark)) p.same.point ∙ ap (λ (x : Mark). touched_of A s.point.flat (running x)) p.same.mark in
     let v : AllValid s.place (touched_next A s) = wanted_none A s h.runs.clear h.unwanted in
     let w : AllValid t.place (touched_next A t) =
     subst (λ (x : Placement). AllValid x (touched_next A t)) (sym place)

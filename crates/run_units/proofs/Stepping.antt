@@ -46,7 +46,7 @@ use Rattle.flat_model.specs.Asked.{or_before, with_pieces, wanted_if, wanted_in,
 use Rattle.flat_model.specs.Touched.{page_tested}
 use Rattle.economy_laws.proofs.FlatLawsAsking.{own_space, data_counted, stack_counted, change_same}
 use Rattle.run_model.specs.State.{State}
-use Rattle.economy_laws.specs.Machine.{place_in, write_into, write_page as write_tested, write_byte, write_bytes, write_held, write_by, takes_step, written_step, taken_step, process_step, ran_step, unit_step, Completes}
+use Rattle.economy_laws.specs.Machine.{place_in, write_into, frame_written as write_tested, write_byte, write_bytes, write_held, process_written, takes_step, written_step, taken_step, process_step, ran_step, unit_step, Completes}
 use Rattle.io_edge.specs.FileHolding.{NamedFile}
 use Rattle.aout_image.specs.declared.Image.{Image}
 use Rattle.aout_image.specs.Image.{Loaded, loaded}
@@ -68,13 +68,13 @@ none_held k (Holds x) = refl
 none_held k (Lends sid child) = refl
 none_held k (Zombie status) = refl
 
-none_written : (k : Kernel) (o : Option Process) → write_by k o [] ≡ k
+none_written : (k : Kernel) (o : Option Process) → process_written k o [] ≡ k
 none_written k None = refl
 none_written k (Some p) = none_held k p.holding
 
 unwritten : (A : Inputs) (s : State) (k : Kernel) (pid : ℕ) (step : Step) → step_at A s.point pid ≡ step → step.writes ≡ [] → written_step A s k pid ≡ k
 unwritten A s k pid step e w =
-    ap (λ (x : Step). write_by k (process_of s.point.flat pid) x.writes) e ∙ ap (write_by k (process_of s.point.flat pid)) w ∙ none_written k (process_of s.point.flat pid)
+    ap (λ (x : Step). process_written k (process_of s.point.flat pid) x.writes) e ∙ ap (process_written k (process_of s.point.flat pid)) w ∙ none_written k (process_of s.point.flat pid)
 
 wanted_is : (A : Inputs) (s : State) (k : Kernel) (image : List ℕ) (pid : ℕ) (now : Bool) (p : Process) (x : Space) (change : Change) → At A s k image
     → IsRunning A s pid now p x
@@ -185,7 +185,7 @@ pub ran_made : (A : Inputs) (s : State) (k l : Kernel) (image : List ℕ) (pid :
     → MadeAs A s k image (entries.Ran pid 1) l (Some image)
 ran_made A s k l image pid now p x step at r e m =
     let written : written_step A s k pid ≡ writes_in k x.sid step.writes =
-    ap (λ (z : Step). write_by k (process_of s.point.flat pid) z.writes) e ∙ ap (λ (o : Option Process). write_by k o step.writes) r.here
+    ap (λ (z : Step). process_written k (process_of s.point.flat pid) z.writes) e ∙ ap (λ (o : Option Process). process_written k o step.writes) r.here
     ∙ ap (λ (h : Holding). write_held k h step.writes) r.holds ∙ sym (same_writes step.writes k x (same_spots A s k image pid p x at r.here r.holds)) in
     let whole : ran_step A s k pid 1 ≡ ran_by (writes_in k x.sid step.writes) pid step.regs (entries.Ran pid 1) =
     ap (λ (z : Step). ran_by (written_step A s k pid) pid z.regs (entries.Ran pid 1)) e ∙ ap (λ (y : Kernel). ran_by y pid step.regs (entries.Ran pid 1)) written in

@@ -10,7 +10,7 @@ use Rattle.vm_facts.specs.declared.page.Page.{Page}
 use Rattle.vm_facts.specs.declared.page.Page.TheVariants as pages
 use Rattle.vm_facts.specs.declared.page.PageState.{PageState}
 use Rattle.vm_facts.specs.declared.page.PageState.TheVariants.{Unfilled, Valid, Invalid, Coming, Going, OnSwap}
-use Rattle.user_vax.specs.Program.{Program, Gives, Refuses, Reads, Tests, run, Access, ReadOf, TestOf, accesses, rest_of_read, rest_of_test, after_read, after_test}
+use Rattle.user_vax.specs.Program.{Program, Gives, Refuses, Reads, Tests, run, ByteAccess, ReadOf, TestOf, accesses, rest_of_read, rest_of_test, after_read, after_test}
 use Rattle.user_vax.specs.Laws.{refusal, read_refusal, test_refusal, AllGranted, EndsRefused, Covers, SameOrMisses}
 use Rattle.user_vax.specs.Effects.{Effect}
 use Rattle.user_vax.specs.Instruction.{instruction}
@@ -36,7 +36,7 @@ abbrev pub IsHit : Option Refused → Type 0
 IsHit (Some (Miss address write)) = ⊥
 IsHit _ = Unit {0}
 
-abbrev pub AllHit : Answers → List Access → Type 0
+abbrev pub AllHit : Answers → List ByteAccess → Type 0
 AllHit memory [] = Unit {0}
 AllHit memory (a ∷ list) = IsHit (refusal memory a) × AllHit memory list
 
@@ -67,7 +67,7 @@ all_hit {A} memory (Tests address next) h = go (λ n. all_hit memory next n) (me
     go later tests.Text e n = (subst (λ (x : MayWrite). IsHit (test_refusal x address)) (sym e) tt, tt)
     go later tests.Outside e n = (subst (λ (x : MayWrite). IsHit (test_refusal x address)) (sym e) tt, tt)
 
-pub granted_hit : (memory : Answers) (list : List Access) → AllGranted memory list → AllHit memory list
+pub granted_hit : (memory : Answers) (list : List ByteAccess) → AllGranted memory list → AllHit memory list
 granted_hit memory [] h = tt
 granted_hit memory (a ∷ list) h = (subst IsHit (sym h.0) tt, granted_hit memory list h.1)
 
@@ -197,14 +197,14 @@ pub record SameSpots (k : Kernel) (x : Space) : Type 0 where
   pub image : image_of k.place x.sid ≡ x.image
   pub spots : (a : ℕ) → spot_in k.place x.sid a ≡ address_in x a
 
-access_valid : (k : Kernel) (x : Space) (e : SameSpots k x) (a : Access) (q : Page) → IsHit (refusal (kernel_answers k x.sid) a)
+access_valid : (k : Kernel) (x : Space) (e : SameSpots k x) (a : ByteAccess) (q : Page) → IsHit (refusal (kernel_answers k x.sid) a)
     → page_of_access x a ≡ Some q → is_valid (state_of k.place q) ≡ true
 access_valid k x e (ReadOf address) q h p =
     hit_valid k x e.image (address_in x address) address q (subst (λ (spot : Spot). IsHit (read_refusal (read_spot k x.sid spot) address)) (e.spots address) h) p
 access_valid k x e (TestOf address) q h p =
     tested_valid k x (address_in x address) address q (subst (λ (spot : Spot). IsHit (test_refusal (may_write_spot k.place x.sid spot) address)) (e.spots address) h) p
 
-pub pages_valid : (k : Kernel) (x : Space) (e : SameSpots k x) (list : List Access) → AllHit (kernel_answers k x.sid) list
+pub pages_valid : (k : Kernel) (x : Space) (e : SameSpots k x) (list : List ByteAccess) → AllHit (kernel_answers k x.sid) list
     → EachPage (λ q. is_valid (state_of k.place q) ≡ true) (filter_map (page_of_access x) list)
 pages_valid k x e [] h = tt
 pages_valid k x e (a ∷ list) h = go (page_of_access x a) refl (pages_valid k x e list h.1)

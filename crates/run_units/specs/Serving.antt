@@ -8,7 +8,7 @@ use Rattle.kernel_model.specs.Start.{ImagesFit}
 use Rattle.page_model.specs.Serve.{serve_unit, Serves}
 use Rattle.run_model.specs.State.{State}
 use Rattle.run_model.specs.Wanted.{touched_next, AllValid}
-use Rattle.run_model.specs.Kinds.{Runs}
+use Rattle.run_model.specs.Kinds.{ProcessRuns}
 use Rattle.run_model.specs.Next.{next_unit}
 use Rattle.economy_laws.specs.Machine.{StandsAt}
 use Rattle.economy_laws.specs.RunLawsRunning.{IsRun}
@@ -27,7 +27,7 @@ pub record SameBut (s t : State) : Type 0 where
 -- forced for it, the hands pass over these.
 pub record IsWaiting (A : Inputs) (g : Ground) (s : State) (pid : ℕ) (now : Bool) (before : List Page) (q : Page) : Type 0 where
   pub images : HasImages g A
-  pub runs : Runs A s pid now
+  pub runs : ProcessRuns A s pid now
   pub rest : List Page
   pub touched : touched_next A s ≡ before ++ q ∷ rest
   pub valid : AllValid s.place before
@@ -41,7 +41,8 @@ pub record At (A : Inputs) (s : State) (k : Kernel) (image : List ℕ) : Type 0 
 
 -- Units that served the page are next units of the run, and lead to a state with the same but for pages and journal, at
 -- which the process still waits for the page, or finds it valid.
-pub record Served (A : Inputs) (g : Ground) (s : State) (k : Kernel) (image : List ℕ) (pid : ℕ) (now : Bool) (before : List Page) (q : Page) (us : List Entry)
+pub record ServingLeads (A : Inputs) (g : Ground) (s : State) (k : Kernel) (image : List ℕ) (pid : ℕ) (now : Bool) (before : List Page)
+    (q : Page) (us : List Entry)
     (l : Kernel) (j : Option (List ℕ)) : Type 0 where
   pub state : State
   pub leads : Leads A s k image us state l j
@@ -54,7 +55,7 @@ ServingIsNext =
     (A : Inputs) (g : Ground) (s : State) (k l : Kernel) (image : List ℕ) (j : Option (List ℕ)) (pid : ℕ) (now : Bool) (before : List Page)
     (q : Page) (us : List Entry)
     → At A s k image → IsWaiting A g s pid now before q → Serves us k.place g.locked q now l.place → Made g us k (Some image) l j
-    → Served A g s k image pid now before q us l j
+    → ServingLeads A g s k image pid now before q us l j
 
 -- and so is the one that serving asks for next
 abbrev pub ServedNext : Type 0

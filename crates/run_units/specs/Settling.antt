@@ -9,7 +9,7 @@ use Rattle.kernel_model.specs.Kernel.{Kernel}
 use Rattle.machine_state.specs.Settled.{EndsWhile}
 use Rattle.run_model.specs.State.{State}
 use Rattle.run_model.specs.Wanted.{wanted}
-use Rattle.run_model.specs.Kinds.{Runs}
+use Rattle.run_model.specs.Kinds.{ProcessRuns}
 use Rattle.run_model.specs.Act.{settled, must_refuse, step_loses}
 use Rattle.run_model.specs.Next.{next_unit}
 use Rattle.fault_fill.specs.Made.{Ground}
@@ -19,7 +19,7 @@ use Rattle.run_units.specs.Serving.{SameBut, At}
 -- All pages that a process touches are valid, its pieces find their places, and its step gives up this space, or drops pages
 -- of it.
 pub record IsLeaving (A : Inputs) (s : State) (pid : ℕ) (now : Bool) (sid : ℕ) : Type 0 where
-  pub runs : Runs A s pid now
+  pub runs : ProcessRuns A s pid now
   pub unwanted : wanted A s ≡ None
   pub fits : must_refuse A s pid ≡ false
   pub loses : step_loses A s pid ≡ true

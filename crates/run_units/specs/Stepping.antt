@@ -30,7 +30,7 @@ use Rattle.run_model.specs.State.{State}
 use Rattle.run_model.specs.Wanted.{wanted}
 use Rattle.run_model.specs.Act.{act}
 use Rattle.run_model.specs.Next.{next_unit}
-use Rattle.run_model.specs.Kinds.{Runs}
+use Rattle.run_model.specs.Kinds.{ProcessRuns}
 use Rattle.economy_laws.specs.Machine.{Completes}
 use Rattle.run_units.specs.Leads.{HasImages, MadeAs}
 use Rattle.run_units.specs.Serving.{At}
@@ -39,7 +39,7 @@ use Rattle.run_units.specs.Touching.{IsRunning, IsReadyFor, IsCalledFor}
 -- what a process does next is the next unit of the run, once it waits for no page
 abbrev pub ActIsNext : Type 0
 ActIsNext =
-    (A : Inputs) (s : State) (pid : ℕ) (now : Bool) (u : Entry) → Runs A s pid now → wanted A s ≡ None → act A s pid ≡ Some u → next_unit A s ≡ Some u
+    (A : Inputs) (s : State) (pid : ℕ) (now : Bool) (u : Entry) → ProcessRuns A s pid now → wanted A s ≡ None → act A s pid ≡ Some u → next_unit A s ≡ Some u
 
 -- the machine with the pieces that were found
 abbrev pub with_holdings : Kernel → Holdings → Kernel

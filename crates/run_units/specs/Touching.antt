@@ -22,14 +22,14 @@ use Rattle.flat_model.specs.Instruction.{instruction_in}
 use Rattle.economy_laws.specs.Shown.{IsCallOf}
 use Rattle.run_model.specs.State.{State}
 use Rattle.run_model.specs.Wanted.{wanted, touched_next, AllValid}
-use Rattle.run_model.specs.Kinds.{Runs}
+use Rattle.run_model.specs.Kinds.{ProcessRuns}
 use Rattle.fault_fill.specs.declared.access.Access.TheVariants as accesses
 use Rattle.fault_fill.specs.Growth.{access_to}
 use Rattle.run_units.specs.Serving.{At}
 
 -- a process that runs, and its space
 pub record IsRunning (A : Inputs) (s : State) (pid : ℕ) (now : Bool) (p : Process) (x : Space) : Type 0 where
-  pub runs : Runs A s pid now
+  pub runs : ProcessRuns A s pid now
   pub here : process_of s.point.flat pid ≡ Some p
   pub holds : p.holding ≡ Holds x
 

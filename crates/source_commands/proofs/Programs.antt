@@ -3,7 +3,7 @@ use Rattle.std.proofs.Common.{◌≡◌, ◌≤◌, ◌<◌, ◌+◌, ◌-◌, �
 use Rattle.std.proofs.lemmas.List.{append-nil, append_assoc, length-append, length-replicate, take_all, take_at, drop_at}
 use Rattle.aout_image.specs.declared.Judged.{Judged}
 use Rattle.aout_image.specs.declared.Judged.TheVariants.{Is}
-use Rattle.aout_image.specs.Image.{IsSound, Loaded, loaded, loaded_if, judgement, image_of, file_length_of, pages_for, in_pages, header_of}
+use Rattle.aout_image.specs.Image.{IsSound, Loaded, loaded, loaded_if, judgement, judged_image, file_length_of, pages_for, in_pages, header_of}
 use Rattle.aout_image.proofs.Images.{judgement-take, judgement-header_of}
 use Rattle.vax_asm.specs.Program.{IsProgramOf}
 use Rattle.source_commands.specs.ProgramFile.{program_pages, program_facts, program_file, program_image}
@@ -111,10 +111,10 @@ judged bytes bss few small =
     at_most : (n m : ℕ) → m ≡ n → n ≤ m
     at_most n m e = omega (arith, e)
 
-small_is_image : (bytes : List ℕ) (bss : ℕ) → length bytes ≤ 65536 → bss ≤ 4194304 → image_of (program_file bytes bss) ≡ Ok (program_image bytes bss)
-unfolding image_of
+small_is_image : (bytes : List ℕ) (bss : ℕ) → length bytes ≤ 65536 → bss ≤ 4194304 → judged_image (program_file bytes bss) ≡ Ok (program_image bytes bss)
+unfolding judged_image
 small_is_image bytes bss few small =
     ap (λ (j : Judged). loaded_if j (program_file bytes bss)) (judged bytes bss few small) ∙ ap (λ (image : Loaded). Ok image) (holds bytes bss)
 
-pub is_image : (source bytes : List ℕ) (bss : ℕ) → IsProgramOf source bytes bss → image_of (program_file bytes bss) ≡ Ok (program_image bytes bss)
+pub is_image : (source bytes : List ℕ) (bss : ℕ) → IsProgramOf source bytes bss → judged_image (program_file bytes bss) ≡ Ok (program_image bytes bss)
 is_image source bytes bss program = small_is_image bytes bss (program_limit source bytes bss program) (bss_limit source bytes bss program)

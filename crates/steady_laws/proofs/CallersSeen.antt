@@ -14,7 +14,7 @@ use Rattle.page_model.specs.Swapper as swapper
 use Rattle.page_laws.proofs.Lists.Local.{none_some}
 use Rattle.kernel_model.specs.ChangeStep.{life_of_proc}
 use Rattle.machine_state.specs.Going.{CanGoOn}
-use Rattle.machine_state.specs.Machine.{Standing, life_shown, processes_of, proc_of, residence_by, residence_of, residents_of}
+use Rattle.machine_state.specs.Machine.{Standing, life_shown, processes_of, proc_of_record, residence_by, residence_of, residents_of}
 use Rattle.machine_state.specs.Alike.{AreRecords}
 use Rattle.machine_state.proofs.Records.{keeps_none, keeps_some}
 use Rattle.machine_state.proofs.MovedRecords.{found_residence}
@@ -71,4 +71,4 @@ is_caller m ps p pid sid ready clear procs residents records f s o = record {
 }
   where
     holds : life_in m.kernel pid ≡ HoldsSpace sid
-    holds = ap life_of_proc (record_shown m.kernel ps pid procs records ∙ ap proc_of f) ∙ ap life_shown s
+    holds = ap life_of_proc (record_shown m.kernel ps pid procs records ∙ ap proc_of_record f) ∙ ap life_shown s

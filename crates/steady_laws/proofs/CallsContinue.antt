@@ -28,9 +28,9 @@ use Rattle.proc_calls.specs.Answered.{GoneOut, Written, Replied, Comes}
 use Rattle.proc_calls.specs.Callers.{proc_in, space_held, regs_of, IsCaller}
 use Rattle.proc_calls.specs.Leaving.{HasSettled, HasLeftBy, HasLeft, HasEnded, ExitComes}
 use Rattle.proc_calls.specs.Making.{is_below_limit, finds_pieces, with_pieces, without_pieces, IsRefused, MakesChildBy, HasLentSpace, Vforked}
-use Rattle.proc_calls.specs.Sizing.{pages_to, stack_pages_of, GrownData, NoPieces, CutData, MovesEnd, BreakComes}
-use Rattle.proc_calls.specs.Waiting.{is_child, is_ended_child, wait_by, wait_reply}
-use Rattle.proc_calls.specs.Writing.{MayWrite}
+use Rattle.proc_calls.specs.Sizing.{pages_to, process_stack_pages, GrownData, NoPieces, CutData, MovesEnd, BreakComes}
+use Rattle.proc_calls.specs.Waiting.{is_child, is_ended_child, wait_by_records, wait_answer}
+use Rattle.proc_calls.specs.Writing.{IsWriteReply}
 use Rattle.proc_calls.proofs.Writes.{may_write}
 use Rattle.proc_calls.proofs.Callers.{caller_there, still_calls}
 use Rattle.steady_laws.specs.Calls.{called_count, RepliesNone, AnswersNone}
@@ -86,7 +86,7 @@ call_continues old new pid call regs (Err (Signal number)) called c n h = reply_
 
 -- A write and a wait.
 
-written_none : (r : Result Reply Refused) → MayWrite r → AnswersNone r
+written_none : (r : Result Reply Refused) → IsWriteReply r → AnswersNone r
 written_none (Ok (Fails error)) w = tt
 written_none (Ok (Does after change)) w = absurd w
 written_none (Ok (Writes bytes)) w = tt
@@ -100,15 +100,15 @@ write_continues old new pid regs memory called c h =
     call_continues old new pid system_calls.Write regs (run memory (write_reply regs)) called c
     (written_none (run memory (write_reply regs)) (may_write memory regs (run memory (write_reply regs)) refl)) h
 
-waits_none : (child ended : Option Proc) (regs : Regs) → RepliesNone (wait_by child ended regs)
+waits_none : (child ended : Option Proc) (regs : Regs) → RepliesNone (wait_by_records child ended regs)
 waits_none None ended regs = tt
 waits_none (Some child) None regs = tt
 waits_none (Some child) (Some z) regs = tt
 
 pub wait_continues : (old new : Standing) (pid : ℕ) (regs : Regs) (called : Called) → IsCaller old pid
-    → Replied old new pid system_calls.Wait regs (wait_reply old.kernel pid regs) called → Continues old new (called_count called)
+    → Replied old new pid system_calls.Wait regs (wait_answer old.kernel pid regs) called → Continues old new (called_count called)
 wait_continues old new pid regs called c h =
-    reply_continues old new pid system_calls.Wait regs (wait_reply old.kernel pid regs) called c
+    reply_continues old new pid system_calls.Wait regs (wait_answer old.kernel pid regs) called c
     (waits_none (find (is_child pid) old.kernel.processes) (find (is_ended_child pid) old.kernel.processes) regs) h
 
 -- A call whose pieces find no place.
@@ -232,7 +232,7 @@ grown_on : (old new : Standing) (pid : ℕ) (regs : Regs) (pages : ℕ) (called 
     → Continues old new (called_count called)
 grown_on old new pid regs pages called c s =
     from_found old new s.found (called_count called)
-    (break_on (nat_le pages data_limit) (with_pieces old s.found) new pid regs pages (stack_pages_of old.kernel pid) called
+    (break_on (nat_le pages data_limit) (with_pieces old s.found) new pid regs pages (process_stack_pages old.kernel pid) called
     (found_enters old s.found pid (may_enter old pid c)) s.replied)
 
 none_on : (old new : Standing) (pid : ℕ) (regs : Regs) (pages : ℕ) (called : Called) → IsCaller old pid → NoPieces old new pid regs pages called
@@ -245,13 +245,13 @@ cut_on : (old new : Standing) (pid : ℕ) (regs : Regs) (pages : ℕ) (holds : O
 cut_on old new pid regs pages holds i j called c s =
     let l = left_settled old s.between pid holds i j c s.settled in
     continues_from old s.between new (called_count called) l.on
-    (break_on (nat_le pages data_limit) s.between new pid regs pages (stack_pages_of old.kernel pid) called l.may s.replied)
+    (break_on (nat_le pages data_limit) s.between new pid regs pages (process_stack_pages old.kernel pid) called l.may s.replied)
 
 sized_on : (old new : Standing) (pid : ℕ) (regs : Regs) (pages : ℕ) (holds : Option (List NamedFile)) (i j : Option (List ℕ)) (called : Called)
     → IsCaller old pid
     → MovesEnd old new pid regs pages holds i j called → Continues old new (called_count called)
 sized_on old new pid regs pages holds i j called c (inl (inl s, e)) =
-    break_on (nat_le pages data_limit) old new pid regs pages (stack_pages_of old.kernel pid) called (may_enter old pid c) s.replied
+    break_on (nat_le pages data_limit) old new pid regs pages (process_stack_pages old.kernel pid) called (may_enter old pid c) s.replied
 sized_on old new pid regs pages holds i j called c (inl (inr (inl s), e)) = grown_on old new pid regs pages called c s
 sized_on old new pid regs pages holds i j called c (inl (inr (inr s), e)) = none_on old new pid regs pages called c s
 sized_on old new pid regs pages holds i j called c (inr s) = cut_on old new pid regs pages holds i j called c s

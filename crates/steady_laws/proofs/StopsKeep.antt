@@ -34,7 +34,7 @@ use Rattle.proc_calls.specs.Filling.{FillsStart, StopsStart}
 use Rattle.proc_calls.specs.Forking.{HasNewSpace, ForkAnswered, StopsForking}
 use Rattle.proc_calls.specs.Leaving.{HasLeftBy, StopsLeaving, StopsAlive, StopsExit}
 use Rattle.proc_calls.specs.Making.{without_pieces, MakesChildBy, StopsMaking}
-use Rattle.proc_calls.specs.Sizing.{StopsPlain, StopsMoving, StopsBreak}
+use Rattle.proc_calls.specs.Sizing.{StopsPlain, StopsBreaking, StopsBreak}
 use Rattle.proc_calls.specs.Starting.{image_found, HasStarted, LeavesFor, StopsFinding, StopsStarting, StopsImage, StopsExec}
 use Rattle.proc_calls.specs.Writing.{bytes_of, StopsWriting, StopsOut}
 use Rattle.steady_laws.specs.Sizes.{SameSizes, KeptAtStop}
@@ -271,7 +271,7 @@ plain_same old new pid pages stop h = elim h [
 ]
 
 moving_same : (old new : Standing) (pid pages : ℕ) (holds : Option (List NamedFile)) (i j : Option (List ℕ)) (stop : Stop)
-    → StopsMoving old new pid pages holds i j stop → KeptAtStop old new stop
+    → StopsBreaking old new pid pages holds i j stop → KeptAtStop old new stop
 moving_same old new pid pages holds i j stop h = elim h [
   | inl x ↦ plain_same old new pid pages stop x.0
   | inr x ↦ elim x.stops [

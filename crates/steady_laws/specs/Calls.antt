@@ -25,7 +25,7 @@ use Rattle.proc_calls.specs.Leaving.{HasEnded, ExitComes}
 use Rattle.proc_calls.specs.Making.{IsRefused, Vforked}
 use Rattle.proc_calls.specs.Sizing.{BreakComes}
 use Rattle.proc_calls.specs.Starting.{HasStarted, ExecComes}
-use Rattle.proc_calls.specs.Waiting.{wait_reply}
+use Rattle.proc_calls.specs.Waiting.{wait_answer}
 use Rattle.steady_laws.specs.Entries.{LeavesNone}
 use Rattle.steady_laws.specs.Ready.{Continues}
 
@@ -74,7 +74,7 @@ WriteContinues =
 -- a wait
 abbrev pub WaitContinues : Type 0
 WaitContinues =
-    (old new : Standing) (pid : ℕ) (regs : Regs) (called : Called) → IsCaller old pid → Replied old new pid Wait regs (wait_reply old.kernel pid regs) called
+    (old new : Standing) (pid : ℕ) (regs : Regs) (called : Called) → IsCaller old pid → Replied old new pid Wait regs (wait_answer old.kernel pid regs) called
     → Continues old new (called_count called)
 
 -- A vfork.

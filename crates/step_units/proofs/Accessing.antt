@@ -21,7 +21,7 @@ use Rattle.run_model.specs.Wanted.{touched_next, AllValid, before_absent, locked
 use Rattle.run_model.proofs.Wanting.{split_before, all_before}
 use Rattle.run_units.specs.Touching.{IsRunning, WantsPage}
 use Rattle.step_units.specs.Machines.{RunsOn}
-use Rattle.step_units.specs.Running.{Waits, ServeLeads}
+use Rattle.step_units.specs.Running.{WaitsForPage, ServeLeads}
 use Rattle.step_units.specs.Stepped.{StopLeads}
 use Rattle.step_units.proofs.Falling.{Falls, falls, asks_growth}
 use Rattle.step_units.proofs.Growing.{growth_refused, GrownBefore, growth_before, grown_more, grown_ends, grown_stops, growth_stops}
@@ -96,7 +96,7 @@ pub access_leads : (Touched : Served → Page → Standing → Type 0) (A : Inpu
     (image : List ℕ) (j : Option (List ℕ)) (pid : ℕ)
     (now : Bool) (p : Process) (x : Space) (address : ℕ) (write : Bool) (before : List Page) (answer : Served)
     → Leading Touched A new holds image j pid now before
-    → RunsOn A s old holds image pid now p x → Waits A s old p x address write before
+    → RunsOn A s old holds image pid now p x → WaitsForPage A s old p x address write before
     → AccessComes Touched (access_by old.kernel pid address write) answer pid old new (Some image) j
     → ServeLeads A s old new holds image j pid now p x answer
 access_leads Touched A s old new holds image j pid now p x address write before answer lead r (inl w) h =
@@ -138,7 +138,7 @@ access_leads Touched A s old new holds image j pid now p x address write before 
 
 pub serve_made : (A : Inputs) (s : State) (old new : Standing) (holds : Option (List NamedFile)) (image : List ℕ) (j : Option (List ℕ)) (pid : ℕ) (p : Process)
     (x : Space) (address : ℕ)
-    (write : Bool) (before : List Page) (answer : Served) → RunsOn A s old holds image pid false p x → Waits A s old p x address write before
+    (write : Bool) (before : List Page) (answer : Served) → RunsOn A s old holds image pid false p x → WaitsForPage A s old p x address write before
     → AccessComes (λ came q from. TouchedAs came q from new holds (Some image) j) (access_by old.kernel pid address write) answer pid old new (Some image) j
     → ServeLeads A s old new holds image j pid false p x answer
 serve_made A s old new holds image j pid p x address write before answer r w h =
@@ -147,7 +147,7 @@ serve_made A s old new holds image j pid p x address write before answer r w h =
 
 pub serve_now_made : (A : Inputs) (s : State) (old new : Standing) (holds : Option (List NamedFile)) (image : List ℕ) (j : Option (List ℕ)) (pid : ℕ)
     (p : Process) (x : Space) (address : ℕ)
-    (write : Bool) (before : List Page) (answer : Served) → RunsOn A s old holds image pid true p x → Waits A s old p x address write before
+    (write : Bool) (before : List Page) (answer : Served) → RunsOn A s old holds image pid true p x → WaitsForPage A s old p x address write before
     → AccessComes (λ came q from. TouchedNow before came q from new holds (Some image) j)
     (access_by old.kernel pid address write) answer pid old new (Some image) j
     → ServeLeads A s old new holds image j pid true p x answer
@@ -160,7 +160,7 @@ serve_now_made A s old new holds image j pid p x address write before answer r w
 pub access_stops : (A : Inputs) (s : State) (old new : Standing) (holds : Option (List NamedFile)) (image : List ℕ) (j : Option (List ℕ)) (pid : ℕ) (now : Bool)
     (p : Process) (x : Space)
     (address : ℕ) (write : Bool) (before kept : List Page) (stop : Stop) → (now ≡ true → kept ≡ before) → RunsOn A s old holds image pid now p x
-    → Waits A s old p x address write before
+    → WaitsForPage A s old p x address write before
     → AccessStops now kept (access_by old.kernel pid address write) pid old new holds (Some image) j stop → StopLeads A s old.kernel image stop new j
 access_stops A s old new holds image j pid now p x address write before kept stop k r (inl w) h =
     let asked : access_by old.kernel pid address write ≡ accesses.Page w.0.page = same_access A s old holds image pid now p x address write r ∙ w.0.asks in

@@ -21,10 +21,10 @@ use Rattle.flat_model.specs.Run.{step_at, due_at, behind, point_after}
 use Rattle.run_model.specs.declared.mark.Mark.{Mark}
 use Rattle.run_model.specs.declared.mark.Mark.TheVariants as marks
 use Rattle.run_model.specs.State.{State}
-use Rattle.run_model.specs.Wanted.{wanted, wanted_by, running, touched_by, first_absent}
+use Rattle.run_model.specs.Wanted.{wanted, wanted_by, running, touched_of, first_absent}
 use Rattle.run_model.specs.After.{after}
 use Rattle.run_model.specs.Next.{goes_on, turn_instructions}
-use Rattle.run_model.specs.Kinds.{GoesOn, Runs}
+use Rattle.run_model.specs.Kinds.{GoesOn, ProcessRuns}
 use Rattle.run_model.proofs.After.{after_count}
 use Rattle.run_units.specs.Machine.{EndsStep}
 use Rattle.run_units.specs.Touching.{IsRunning}
@@ -107,7 +107,7 @@ same_on A s t (marks.Dispatch q n since) pid false f c g = (g.0, same_goes A s t
 same_on A s t (marks.Turn q since) pid true f c g = (g.0, same_goes A s t pid (since + turn_instructions) f c ∙ g.1)
 same_on A s t _ pid now f c g = absurd g
 
-pub runs_same : (A : Inputs) (s t : State) (e : Entry) (pid : ℕ) (now : Bool) → StepWaits A s e t → Runs A s pid now → Runs A t pid now
+pub runs_same : (A : Inputs) (s t : State) (e : Entry) (pid : ℕ) (now : Bool) → StepWaits A s e t → ProcessRuns A s pid now → ProcessRuns A t pid now
 runs_same A s t e pid now w r = record {
   clear = ap (λ (p : Placement). p.due) w.place ∙ r.clear;
   on = subst (λ (m : Mark). GoesOn A t m pid now) (sym w.mark) (same_on A s t s.mark pid now w.flat w.count r.on);
@@ -120,15 +120,15 @@ running_same A s t e pid now p x w r =
     record { runs = runs_same A s t e pid now w r.runs; here = ap (λ (F : FlatState). process_of F pid) w.flat ∙ r.here; holds = r.holds }
 
 -- it wants the same page
-wanted_clear : (A : Inputs) (s : State) → s.place.due ≡ [] → wanted A s ≡ first_absent s.place (touched_by A s.point.flat (running s.mark))
+wanted_clear : (A : Inputs) (s : State) → s.place.due ≡ [] → wanted A s ≡ first_absent s.place (touched_of A s.point.flat (running s.mark))
 wanted_clear A s c = ap (wanted_by A s) c
 
 pub wanted_same : (A : Inputs) (s t : State) (e : Entry) → s.place.due ≡ [] → StepWaits A s e t → wanted A t ≡ wanted A s
 wanted_same A s t e c w =
     wanted_clear A t (ap (λ (p : Placement). p.due) w.place ∙ c)
-    ∙ ap (λ (p : Placement). first_absent p (touched_by A t.point.flat (running t.mark))) w.place
-    ∙ ap (λ (F : FlatState). first_absent s.place (touched_by A F (running t.mark))) w.flat
-    ∙ ap (λ (m : Mark). first_absent s.place (touched_by A s.point.flat (running m))) w.mark ∙ sym (wanted_clear A s c)
+    ∙ ap (λ (p : Placement). first_absent p (touched_of A t.point.flat (running t.mark))) w.place
+    ∙ ap (λ (F : FlatState). first_absent s.place (touched_of A F (running t.mark))) w.flat
+    ∙ ap (λ (m : Mark). first_absent s.place (touched_of A s.point.flat (running m))) w.mark ∙ sym (wanted_clear A s c)
 
 -- Pages that are due.
 

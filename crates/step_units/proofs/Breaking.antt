@@ -20,7 +20,7 @@ use Rattle.flat_state.specs.declared.change.Change.TheVariants.{Resize}
 use Rattle.page_model.specs.Place.{facts_of, data_count, stack_count}
 use Rattle.kernel_model.specs.Kernel.{Kernel}
 use Rattle.kernel_model.specs.Asks.{asked}
-use Rattle.kernel_model.specs.Coupled.{text_of}
+use Rattle.kernel_model.specs.Coupled.{image_text}
 use Rattle.machine_state.specs.Machine.{Standing}
 use Rattle.machine_state.specs.Settled.{StopsSettling}
 use Rattle.machine_state.specs.Applying.{facts_named}
@@ -37,7 +37,7 @@ use Rattle.proc_calls.specs.declared.replying.Called.{Called}
 use Rattle.proc_calls.specs.Answered.{Replied}
 use Rattle.proc_calls.specs.Callers.{space_held}
 use Rattle.proc_calls.specs.Leaving.{HasSettled}
-use Rattle.proc_calls.specs.Sizing.{data_pages_of as pages_held, stack_pages_of as stack_held, pages_to, data_sized, break_at, break_read, with_pieces, SameData, GrownData, NoPieces, CutData, Plain, MovesEnd, BreakComes, StopsPlain, StopsOnceSettled, StopsCutting, StopsMoving, StopsBreak}
+use Rattle.proc_calls.specs.Sizing.{process_data_pages as pages_held, process_stack_pages as stack_held, pages_to, data_sized, break_at, break_read, with_pieces, SameData, GrownData, NoPieces, CutData, Plain, MovesEnd, BreakComes, StopsPlain, StopsOnceSettled, StopsCutting, StopsBreaking, StopsBreak}
 use Rattle.proc_calls.proofs.Sizes.{replies as sized_reply, fails as sized_failure, none_asked as none_sized}
 use Rattle.proc_calls.proofs.Breaks.{break_flat}
 use Rattle.run_model.specs.State.{State}
@@ -123,7 +123,7 @@ module _ (A : Inputs) (s : State) (old : Standing) (holds : Option (List NamedFi
   asked_is =
       asked_plainly A s old holds image pid now p x effect system_calls.Break h m
       ∙ break_flat A.images k flat x h.machine.at.stands.keeps.coupled.tables h.machine.at.stands.keeps.stands.texts
-      (own_space flat pid p x h.machine.at.run.numbers h.running.here h.running.holds) (text.same ∙ sym (ap text_of text.image)) pid effect.regs held p memory
+      (own_space flat pid p x h.machine.at.run.numbers h.running.here h.running.holds) (text.same ∙ sym (ap image_text text.image)) pid effect.regs held p memory
 
   -- By a number of pages.
 
@@ -286,7 +286,7 @@ module _ (A : Inputs) (s : State) (old : Standing) (holds : Option (List NamedFi
             (stops_then A s t.state k y.between.kernel image t.behind (Some t.behind) t.units stop new t.leads
             (stopped_here A t.state y.between new t.behind pid now p x left.0 [] stop t.machine.at t.running t.unwanted left.1 left.2 y.stops))
 
-    stops_moving : (new : Standing) (j : Option (List ℕ)) (stop : Stop) → StopsMoving old new pid pages holds (Some image) j stop → StopLeads A s k image stop new j
+    stops_moving : (new : Standing) (j : Option (List ℕ)) (stop : Stop) → StopsBreaking old new pid pages holds (Some image) j stop → StopLeads A s k image stop new j
     stops_moving new j stop (inl g) = subst (λ (o : Option (List ℕ)). StopLeads A s k image stop new o) (sym g.1) (stops_plainly new stop g.0)
     stops_moving new j stop (inr g) = stops_cutting new j stop g
 

@@ -8,7 +8,7 @@ use Rattle.kernel_model.specs.Kernel.{Kernel, Life, New, HoldsSpace, LendsSpace,
 use Rattle.kernel_model.specs.Coupled.{Outline, outline_of, outline_kept, SameTables}
 use Rattle.kernel_model.specs.Unit.{has_lender}
 use Rattle.kernel_laws.proofs.Kept.Borrowed.{borrows_is}
-use Rattle.swapper.specs.Runners.{runner_by, runners_of}
+use Rattle.swapper.specs.Runners.{runner_among, runners_of}
 use Rattle.run_model.specs.State.{runner_by as flat_runner_by, runners}
 
 -- what the swapper asks of a process, by all of it but its registers, and by who borrows
@@ -22,13 +22,13 @@ abbrev outlined : (ℕ → Bool) → List Outline → List Runner
 outlined borrows [] = []
 outlined borrows (o ∷ os) = cons_option (outlined_by borrows o o.life) (outlined borrows os)
 
-kept_one : (all : List Proc) (q : Proc) (life : Life) → runner_by all q life ≡ outlined_by (has_lender all) (outline_kept q) life
+kept_one : (all : List Proc) (q : Proc) (life : Life) → runner_among all q life ≡ outlined_by (has_lender all) (outline_kept q) life
 kept_one all q New = refl
 kept_one all q (HoldsSpace sid) = refl
 kept_one all q (LendsSpace sid child) = refl
 kept_one all q (Ended status) = refl
 
-kept_all : (all ps : List Proc) → filter_map (λ q. runner_by all q q.life) ps ≡ outlined (has_lender all) (map outline_kept ps)
+kept_all : (all ps : List Proc) → filter_map (λ q. runner_among all q q.life) ps ≡ outlined (has_lender all) (map outline_kept ps)
 kept_all all [] = refl
 kept_all all (q ∷ ps) = ap₂ cons_option (kept_one all q q.life) (kept_all all ps)
 

@@ -33,7 +33,7 @@ use Rattle.run_model.specs.Wanted.{wanted}
 use Rattle.run_model.specs.After.{after}
 use Rattle.run_model.specs.Act.{act, must_settle}
 use Rattle.run_model.specs.Next.{next_unit}
-use Rattle.run_model.specs.Kinds.{Runs}
+use Rattle.run_model.specs.Kinds.{ProcessRuns}
 use Rattle.run_units.specs.Machine.{unit_image, Completes, EndsStep}
 use Rattle.run_units.proofs.Flows.{runs_next}
 use Rattle.run_units.specs.Acting.{IsBetween}
@@ -55,7 +55,7 @@ pub headers : (A : Inputs) (s : State) (m : Standing) (holds : Option (List Name
     → facts_named m.images ≡ facts_of A.images
 headers A s m holds image h = headers_agree A (ground m holds []) h.images
 
-pub entry_leads : (A : Inputs) (s : State) (k l : Kernel) (image : List ℕ) (pid : ℕ) (now : Bool) (e : Entry) → Runs A s pid now → wanted A s ≡ None
+pub entry_leads : (A : Inputs) (s : State) (k l : Kernel) (image : List ℕ) (pid : ℕ) (now : Bool) (e : Entry) → ProcessRuns A s pid now → wanted A s ≡ None
     → act A s pid ≡ Some e
     → MadeAs A s k image e l (Some image) → Leads A s k image (e ∷ []) (after A s e) l (Some image)
 entry_leads A s k l image pid now e r w a m =
@@ -76,7 +76,7 @@ pub record IsComplete (A : Inputs) (s : State) (k l : Kernel) (image : List ℕ)
   pub between : IsBetween (after A s e).point.last
   pub ends : StepEnds A s pid e (after A s e)
 
-pub completes : (A : Inputs) (s : State) (k l : Kernel) (image : List ℕ) (pid : ℕ) (now : Bool) (e : Entry) → At A s k image → Runs A s pid now
+pub completes : (A : Inputs) (s : State) (k l : Kernel) (image : List ℕ) (pid : ℕ) (now : Bool) (e : Entry) → At A s k image → ProcessRuns A s pid now
     → wanted A s ≡ None → act A s pid ≡ Some e
     → EndsStep pid e → due_at A s.point pid ≡ e ∷ [] → MadeAs A s k image e l (Some image) → l.place.due ≡ []
     → IsComplete A s k l image pid e
@@ -219,7 +219,7 @@ stops_by A s k new image e stop n o h = go h.cause
     go (inr c) = subst (λ (z : Stop). StopsBy A s k image z new (Some image)) (sym c) refl
 
 pub stopped_in : (A : Inputs) (s : State) (k : Kernel) (new : Standing) (image : List ℕ) (pid : ℕ) (now : Bool) (e : Entry) (stop : Stop)
-    → Runs A s pid now → wanted A s ≡ None → act A s pid ≡ Some e
+    → ProcessRuns A s pid now → wanted A s ≡ None → act A s pid ≡ Some e
     → IsOwn e → StopsIn k new stop → StopLeads A s k image stop new (Some image)
 stopped_in A s k new image pid now e stop r w a o h = record {
   units = [];
@@ -234,7 +234,7 @@ stopped_in A s k new image pid now e stop r w a o h = record {
 
 -- before an entry of a process the run stops where that entry is next
 pub stopped_before : (A : Inputs) (s : State) (old new : Standing) (image : List ℕ) (pid : ℕ) (now : Bool) (e : Entry) (stop : Stop)
-    → Runs A s pid now → wanted A s ≡ None → act A s pid ≡ Some e
+    → ProcessRuns A s pid now → wanted A s ≡ None → act A s pid ≡ Some e
     → IsOwn e → StopsBefore old new stop → StopLeads A s old.kernel image stop new (Some image)
 stopped_before A s old new image pid now e stop r w a o h = stopped_in A s old.kernel new image pid now e stop r w a o (stops_in old new stop h)
 

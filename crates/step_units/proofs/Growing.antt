@@ -46,7 +46,7 @@ use Rattle.run_units.proofs.Flows.{on_running, on_steps}
 use Rattle.run_units.proofs.Growing.{all_grown}
 use Rattle.run_units.proofs.Growth.{growth_touches}
 use Rattle.run_units.proofs.Left.{next_on}
-use Rattle.run_units.specs.Stretch.{Grown as Touches}
+use Rattle.run_units.specs.Stretch.{TouchesMore as Touches}
 use Rattle.run_units.specs.Acting.{IsBetween}
 use Rattle.run_units.specs.Leads.{MadeAs, Leads}
 use Rattle.run_units.specs.Serving.{At}
@@ -55,7 +55,7 @@ use Rattle.run_units.specs.Touching.{IsRunning}
 use Rattle.run_units.proofs.Stepping.{step_known, growth_made, headers_agree}
 use Rattle.run_units.proofs.Units.{none_leads, first_leads, leads_at}
 use Rattle.step_units.specs.Machines.{RunsOn}
-use Rattle.step_units.specs.Running.{EndsRefused}
+use Rattle.step_units.specs.Running.{EndsUngrown}
 use Rattle.step_units.specs.Stepped.{StepLeads, MarkEnds, StopsNext, StopsBy, StopLeads}
 use Rattle.step_units.proofs.Falling.{refused_none, due_all, Falls, low, grown_first, growth_next, refusal_next}
 use Rattle.step_units.proofs.Grown.{grown_process, grown_ready, grown_sizes, touched_grown}
@@ -94,7 +94,7 @@ noted A s pid = record { point = refl; place = refl; count = refl; lines = refl;
 pub growth_refused : (A : Inputs) (s : State) (old new : Standing) (holds : Option (List NamedFile)) (image : List ℕ) (pid : ℕ) (now : Bool) (p : Process)
     (x : Space) (address : ℕ)
     → RunsOn A s old holds image pid now p x → Falls A s old pid p x address → GrowthRefused old new pid (pages_down_to address)
-    → EndsRefused A s old new holds image pid now p x
+    → EndsUngrown A s old new holds image pid now p x
 growth_refused A s old new holds image pid now p x address r f g = record {
   state = t;
   leads = first_leads A s t old.kernel new.kernel new.kernel image (Some image) (Some image) (entries.Refused pid) []

@@ -15,7 +15,7 @@ use Rattle.vm_facts.specs.declared.regs.Regs.{Regs}
 use Rattle.user_vax.specs.Effects.{Effect}
 use Rattle.user_vax.specs.Instruction.{instruction}
 use Rattle.user_vax.specs.Laws.{refusal, read_refusal, test_refusal, EndsRefused}
-use Rattle.user_vax.specs.Program.{Program, Access, ReadOf, TestOf, accesses}
+use Rattle.user_vax.specs.Program.{Program, ByteAccess, ReadOf, TestOf, accesses}
 use Rattle.user_vax.specs.declared.refused.Refused.{Refused}
 use Rattle.user_vax.specs.declared.refused.Refused.TheVariants.{Below}
 use Rattle.user_vax.proofs.Order.{keeps_order}
@@ -81,16 +81,17 @@ spot_grown a b l n x e low high =
     go false false false w k = ap (λ (y : Bool). spot_by false false y w a x) now
 
 -- the last of a list, or this where there is none
-abbrev last_of : Option Access → List Access → Option Access
+abbrev last_of : Option ByteAccess → List ByteAccess → Option ByteAccess
 last_of o [] = o
 last_of o (x ∷ xs) = last_of (Some x) xs
 
-last_is : (o : Option Access) (xs : List Access) (x : Access) → last_of o (xs ++ x ∷ []) ≡ Some x
+last_is : (o : Option ByteAccess) (xs : List ByteAccess) (x : ByteAccess) → last_of o (xs ++ x ∷ []) ≡ Some x
 last_is o [] x = refl
 last_is o (y ∷ xs) x = last_is (Some y) xs x
 
 -- the page of an access of that byte
-page_there : (x : Space) (d t a : ℕ) (last : Access) → refusal (answers_of x) last ≡ Some (Below a) → address_in (resized x d t) a ≡ spots.Stack (stack_index a)
+page_there : (x : Space) (d t a : ℕ) (last : ByteAccess) → refusal (answers_of x) last ≡ Some (Below a)
+    → address_in (resized x d t) a ≡ spots.Stack (stack_index a)
     → page_of_access (resized x d t) last ≡ Some (Stack x.sid (stack_index a / 1024))
 page_there x d t a (ReadOf b) h e = go (byte_at x (address_in x b)) h
   where
@@ -135,19 +136,20 @@ new_page x d a regs b e r =
 
 -- Its pages.
 
-abbrev Kept : Space → ℕ → ℕ → ℕ → Access → Type 0
+abbrev Kept : Space → ℕ → ℕ → ℕ → ByteAccess → Type 0
 Kept s d t a y = (page_of_access (resized s d t) y ≡ page_of_access s y) × ((q : Page) → page_of_access s y ≡ Some q → same_page q (grown_page s a) ≡ false)
 
-abbrev AllKept : Space → ℕ → ℕ → ℕ → List Access → Type 0
+abbrev AllKept : Space → ℕ → ℕ → ℕ → List ByteAccess → Type 0
 AllKept s d t a [] = Unit {0}
 AllKept s d t a (y ∷ ys) = Kept s d t a y × AllKept s d t a ys
 
-kept_pages : (s : Space) (d t a : ℕ) (ys : List Access) → AllKept s d t a ys → filter_map (page_of_access (resized s d t)) ys ≡ filter_map (page_of_access s) ys
+kept_pages : (s : Space) (d t a : ℕ) (ys : List ByteAccess) → AllKept s d t a ys
+    → filter_map (page_of_access (resized s d t)) ys ≡ filter_map (page_of_access s) ys
 kept_pages s d t a [] k = refl
 kept_pages s d t a (y ∷ ys) k =
     ap (λ (o : Option Page). cons_option o (filter_map (page_of_access (resized s d t)) ys)) k.0.0 ∙ ap (cons_option (page_of_access s y)) (kept_pages s d t a ys k.1)
 
-kept_unseen : (s : Space) (d t a : ℕ) (ys : List Access) → AllKept s d t a ys → NotSeen (filter_map (page_of_access s) ys) (grown_page s a)
+kept_unseen : (s : Space) (d t a : ℕ) (ys : List ByteAccess) → AllKept s d t a ys → NotSeen (filter_map (page_of_access s) ys) (grown_page s a)
 kept_unseen s d t a [] k = tt
 kept_unseen s d t a (y ∷ ys) k = go (page_of_access s y) refl (kept_unseen s d t a ys k.1)
   where
@@ -156,17 +158,17 @@ kept_unseen s d t a (y ∷ ys) k = go (page_of_access s y) refl (kept_unseen s d
     go (Some q) e n = (k.0.1 q e, n)
 
 -- the pages of the accesses before growth, and of those after it
-pages_grown : (s : Space) (d t a : ℕ) (p : Program Effect) (after : List Access) → Reached Effect s d t a p
+pages_grown : (s : Space) (d t a : ℕ) (p : Program Effect) (after : List ByteAccess) → Reached Effect s d t a p
     → (more : List Page) × (distinct (filter_map (page_of_access (resized s d t)) (accesses (answers_of (resized s d t)) p ++ after))
     ≡ distinct (filter_map (page_of_access s) (accesses (answers_of s) p)) ++ grown_page s a ∷ more)
 pages_grown s d t a p after r =
-    let old_page : Access → Option Page = page_of_access s in
-    let new_page : Access → Option Page = page_of_access (resized s d t) in
+    let old_page : ByteAccess → Option Page = page_of_access s in
+    let new_page : ByteAccess → Option Page = page_of_access (resized s d t) in
     let xs : List Page = filter_map old_page r.before in
     let old : filter_map old_page (accesses (answers_of s) p) ≡ xs =
     ap (filter_map old_page) r.old ∙ filter_map-append old_page r.before (r.last ∷ []) ∙ ap (λ (o : Option Page). xs ++ cons_option o []) r.none ∙ append-nil xs in
     let new : filter_map new_page (accesses (answers_of (resized s d t)) p ++ after) ≡ xs ++ grown_page s a ∷ filter_map new_page (r.rest ++ after) =
-    ap (λ (l : List Access). filter_map new_page (l ++ after)) r.new ∙ ap (filter_map new_page) (append_assoc r.before (r.last ∷ r.rest) after)
+    ap (λ (l : List ByteAccess). filter_map new_page (l ++ after)) r.new ∙ ap (filter_map new_page) (append_assoc r.before (r.last ∷ r.rest) after)
     ∙ filter_map-append new_page r.before (r.last ∷ r.rest ++ after)
     ∙ ap (λ (l : List Page). l ++ filter_map new_page (r.last ∷ r.rest ++ after)) (kept_pages s d t a r.before r.kept)
     ∙ ap (λ (o : Option Page). xs ++ cons_option o (filter_map new_page (r.rest ++ after))) r.some in
@@ -227,7 +229,7 @@ touched_grown A F G pid p x d a here holds ready there b e =
     let r : Reached Effect x d t a (instruction p.regs) = reached Effect x d t a (instruction p.regs) b e in
     let g = pages_grown x d t a (instruction p.regs) (accesses_after A.images G q z (instruction_in z p.regs)) r in
     let old : touched A F pid ≡ distinct (filter_map (page_of_access x) (accesses (answers_of x) (instruction p.regs))) =
-    is_touched A F pid p x here ready holds ∙ ap (λ (l : List Access). distinct (filter_map (page_of_access x) l)) (refused_accesses A.images F p x a e) in
+    is_touched A F pid p x here ready holds ∙ ap (λ (l : List ByteAccess). distinct (filter_map (page_of_access x) l)) (refused_accesses A.images F p x a e) in
     let new : touched A G pid ≡ distinct (filter_map (page_of_access z) (accesses (answers_of z) (instruction p.regs) ++ accesses_after A.images G q z (instruction_in z p.regs))) =
-    is_touched A G pid q z there (grown_ready p z ready) refl ∙ ap (λ (l : List Access). distinct (filter_map (page_of_access z) l)) (all_accesses A.images G q z) in
+    is_touched A G pid q z there (grown_ready p z ready) refl ∙ ap (λ (l : List ByteAccess). distinct (filter_map (page_of_access z) l)) (all_accesses A.images G q z) in
     (g.0, new ∙ g.1 ∙ ap (λ (l : List Page). l ++ grown_page x a ∷ g.0) (sym old) ∙ ap (λ (n : Page). touched A F pid ++ n ∷ g.0) (new_page x d a p.regs b e r))

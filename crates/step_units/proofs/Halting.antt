@@ -15,7 +15,7 @@ use Rattle.page_model.specs.Swapper.{names_page, is_settled}
 use Rattle.machine_state.specs.Machine.{Standing}
 use Rattle.swapper.proofs.Stopping.{held_here}
 use Rattle.proc_calls.specs.Answered.{StopsBefore}
-use Rattle.flat_model.specs.Run.{due_at, first_if, act as next_of_step}
+use Rattle.flat_model.specs.Run.{due_at, first_if, entry_of_step as next_of_step}
 use Rattle.run_model.specs.State.{State}
 use Rattle.run_model.specs.Wanted.{wanted}
 use Rattle.run_model.specs.Act.{act, act_if, act_by, settled, settled_in, settled_if, step_loses, must_refuse, must_settle}

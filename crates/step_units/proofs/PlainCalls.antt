@@ -23,8 +23,8 @@ use Rattle.flat_model.specs.Calls.{reply_of, replied, replied_both, write_reply,
 use Rattle.flat_model.specs.Step.{call_entry, reply_asked, replied_step}
 use Rattle.proc_calls.specs.Answered.{GoneOut, StopsBefore}
 use Rattle.proc_calls.specs.Callers.{parent_of}
-use Rattle.proc_calls.specs.Waiting.{wait_by, wait_reply}
-use Rattle.proc_calls.specs.Writing.{MayWrite, StopsWriting, StopsOut, bytes_of}
+use Rattle.proc_calls.specs.Waiting.{wait_by_records, wait_answer}
+use Rattle.proc_calls.specs.Writing.{IsWriteReply, StopsWriting, StopsOut, bytes_of}
 use Rattle.proc_calls.proofs.Writes.{may_write}
 use Rattle.run_units.specs.Shown.{IsCallOf}
 use Rattle.run_model.specs.State.{State}
@@ -69,7 +69,7 @@ writes_run images F p x regs memory = refl
 wait_asked : (A : Inputs) (s : State) (old : Standing) (holds : Option (List NamedFile)) (image : List ℕ) (pid : ℕ) (now : Bool) (p : Process)
     (x : Space) (effect : Effect)
     → RunsOn A s old holds image pid now p x → MakesCall old p x effect system_calls.Wait
-    → run (kernel_answers old.kernel x.sid) (reply_asked A.images s.point.flat p x system_calls.Wait effect) ≡ Ok (wait_reply old.kernel pid effect.regs)
+    → run (kernel_answers old.kernel x.sid) (reply_asked A.images s.point.flat p x system_calls.Wait effect) ≡ Ok (wait_answer old.kernel pid effect.regs)
 wait_asked A s old holds image pid now p x effect h m =
     let kept : IsKept old.kernel pid p x = is_kept A s old.kernel image pid now p x h.machine.at h.running in
     asked_plainly A s old holds image pid now p x effect system_calls.Wait h m ∙ waits_run A.images s.point.flat p x effect.regs (kernel_answers old.kernel x.sid)
@@ -94,12 +94,12 @@ write_asked : (A : Inputs) (s : State) (old : Standing) (holds : Option (List Na
 write_asked A s old holds image pid now p x effect h m =
     asked_plainly A s old holds image pid now p x effect system_calls.Write h m ∙ writes_run A.images s.point.flat p x effect.regs (kernel_answers old.kernel x.sid)
 
-quiet_wait : (child ended : Option Proc) (regs : Regs) → IsQuiet (wait_by child ended regs)
+quiet_wait : (child ended : Option Proc) (regs : Regs) → IsQuiet (wait_by_records child ended regs)
 quiet_wait None ended regs = tt
 quiet_wait (Some child) None regs = tt
 quiet_wait (Some child) (Some z) regs = tt
 
-quiet_write : (r : Result Reply Refused) → MayWrite r → IsQuietRead r
+quiet_write : (r : Result Reply Refused) → IsWriteReply r → IsQuietRead r
 quiet_write (Ok (Fails error)) h = tt
 quiet_write (Ok (Does regs change)) h = absurd h
 quiet_write (Ok (Writes bytes)) h = tt
@@ -111,7 +111,7 @@ quiet_write (Err refused) h = tt
 
 pub wait_made : WaitIsMade
 wait_made A s old new holds image pid now p x effect called h m g =
-    comes_made A s old new holds image pid now p x effect system_calls.Wait (Ok (wait_reply old.kernel pid effect.regs)) called h m
+    comes_made A s old new holds image pid now p x effect system_calls.Wait (Ok (wait_answer old.kernel pid effect.regs)) called h m
     (wait_asked A s old holds image pid now p x effect h m) (quiet_wait _ _ effect.regs) g
 
 pub getpid_made : GetpidIsMade
@@ -133,7 +133,7 @@ refused_made A s old new holds image pid now p x effect call refused called h m 
 
 pub plain_stops : PlainCallStops
 plain_stops A s old new holds image pid now p x effect system_calls.Wait stop h m a g =
-    let r : Result Reply Refused = Ok (wait_reply old.kernel pid effect.regs) in
+    let r : Result Reply Refused = Ok (wait_answer old.kernel pid effect.regs) in
     stops_quiet A s old new holds image pid now p x effect system_calls.Wait r stop h m.names
     (ready A s old holds image pid now p x effect system_calls.Wait r h m (wait_asked A s old holds image pid now p x effect h m) tt) (quiet_wait _ _ effect.regs) g
 plain_stops A s old new holds image pid now p x effect system_calls.Getpid stop h m a g =

@@ -33,7 +33,7 @@ use Rattle.swapper.specs.declared.Turned.TheVariants as turns
 use Rattle.swapper.specs.Runners.{runners_of, choice_of}
 use Rattle.swapper.specs.Putting.{HoldsThere, PutOut, StopsPutting}
 use Rattle.swapper.specs.Turns.{Turns, StopsTurning}
-use Rattle.run_units.specs.Longwords.{AllFit}
+use Rattle.run_units.specs.Longwords.{ProcessesFit}
 use Rattle.run_model.specs.declared.mark.Mark.{Mark}
 use Rattle.run_model.specs.declared.mark.Mark.TheVariants as marks
 use Rattle.run_model.specs.State.{State, runners}
@@ -129,7 +129,7 @@ own_space : (flat : FlatState) (pid sid : ℕ) → Holder flat pid sid → space
 own_space flat pid sid h = ap space_of_process h.here ∙ ap space_of_holding h.holds ∙ h.own
 
 -- its registers are longwords
-fits_found : (qs : List Process) (pid : ℕ) (q : Process) → AllFit qs → find (λ (x : Process). x.pid == pid) qs ≡ Some q → AreRegs q.regs
+fits_found : (qs : List Process) (pid : ℕ) (q : Process) → ProcessesFit qs → find (λ (x : Process). x.pid == pid) qs ≡ Some q → AreRegs q.regs
 fits_found [] pid q h e = absurd cc
 fits_found (x ∷ qs) pid q h e = go (fits_found qs pid q h.1) (x.pid == pid) e
   where
@@ -138,7 +138,7 @@ fits_found (x ∷ qs) pid q h e = go (fits_found qs pid q h.1) (x.pid == pid) e
     go later false k = later k
 
 kept_registers : (A : Inputs) (s : State) (k : Kernel) (image : List ℕ) (pid sid : ℕ) → At A s k image → Holder s.point.flat pid sid
-    → is_out s.place pid ≡ false → AllFit s.point.flat.processes
+    → is_out s.place pid ≡ false → ProcessesFit s.point.flat.processes
     → (p : Proc) → proc_of k pid ≡ Some p → AreRegs p.regs
 kept_registers A s k image pid sid at h o fit p e =
     let number : h.process.pid ≡ pid = (found_at s.point.flat pid h.process h.here).0 in
@@ -188,7 +188,7 @@ puts_process s k pid sid c m h = record { mark = m; clear = c.clear; own = own_s
 -- after the units that put a process out it goes out
 last_out : (A : Inputs) (s : State) (k l : Kernel) (image : List ℕ) (j : Option (List ℕ)) (pid sid : ℕ) → At A s k image → IsBetween s.point.last
     → PutsProcess s pid sid → Holder s.point.flat pid sid
-    → is_out s.place pid ≡ false → AllFit s.point.flat.processes → entries.SwapOut pid ≡ put_out_unit s.place pid sid → l ≡ out_step k pid
+    → is_out s.place pid ≡ false → ProcessesFit s.point.flat.processes → entries.SwapOut pid ≡ put_out_unit s.place pid sid → l ≡ out_step k pid
     → WritesU k pid (Some image) j → LineLeads A s k image l j
 unfolding after
 last_out A s k l image j pid sid at b p h o fit e step w =
@@ -208,7 +208,7 @@ last_out A s k l image j pid sid at b p h o fit e step w =
 
 pub out_comes : (A : Inputs) (s : State) (old new : Standing) (holds : Option (List NamedFile)) (image : List ℕ) (j : Option (List ℕ)) (pid sid : ℕ)
     → MachineAt A s old holds image → IsClear s
-    → AllFit s.point.flat.processes → s.mark ≡ marks.PutOut pid → HoldsThere old.kernel pid sid → PutOut pid sid old new holds (Some image) j
+    → ProcessesFit s.point.flat.processes → s.mark ≡ marks.PutOut pid → HoldsThere old.kernel pid sid → PutOut pid sid old new holds (Some image) j
     → LineLeads A s old.kernel image new.kernel j
 out_comes A s old new holds image j pid sid at c fit m there o =
     let g : Ground = ground old holds [] in
@@ -226,7 +226,7 @@ out_comes A s old new holds image j pid sid at c fit m there o =
     let more : LineLeads A led.state o.at b new.kernel j =
     last_out A led.state o.at new.kernel b j pid sid behind (subst (λ (p : Point). IsBetween p.last) (sym led.same.point) c.between) led.puts
     (subst (λ (p : Point). Holder p.flat pid sid) (sym led.same.point) h) (ap (λ (y : Placement). is_out y pid) (sym here) ∙ x.behind.0)
-    (subst (λ (p : Point). AllFit p.flat.processes) (sym led.same.point) fit) (x.behind.1 ∙ ap (λ (y : Placement). put_out_unit y pid sid) here) o.step
+    (subst (λ (p : Point). ProcessesFit p.flat.processes) (sym led.same.point) fit) (x.behind.1 ∙ ap (λ (y : Placement). put_out_unit y pid sid) here) o.step
     (subst (λ (z : Option (List ℕ)). WritesU o.at pid z j) led.leads.told o.wrote) in
     record {
       units = o.units ++ more.units;
@@ -242,7 +242,7 @@ out_comes A s old new holds image j pid sid at c fit m there o =
 
 pub swapper_made : (A : Inputs) (s : State) (old new : Standing) (holds : Option (List NamedFile)) (image : List ℕ) (j : Option (List ℕ)) (t : Turned)
     → MachineAt A s old holds image → IsClear s
-    → AllFit s.point.flat.processes → s.mark ≡ swap_mark (swap_choice s.place (runners s.point.flat))
+    → ProcessesFit s.point.flat.processes → s.mark ≡ swap_mark (swap_choice s.place (runners s.point.flat))
     → choice_of t ≡ swap_choice old.kernel.place (runners_of old.kernel)
     → Turns t old new holds (Some image) j → LineLeads A s old.kernel image new.kernel j
 swapper_made A s old new holds image j turns.Nothing at c fit m e t = nothing_made A s old new image j c (chosen_mark A s old holds image turns.Nothing at m e) t.0 t.1

@@ -37,7 +37,7 @@ use Rattle.machine_state.specs.Applying.{facts_named}
 use Rattle.proc_calls.proofs.Writes.{may_write}
 use Rattle.run_model.specs.State.{State}
 use Rattle.run_model.specs.Wanted.{wanted}
-use Rattle.run_model.specs.Kinds.{Runs}
+use Rattle.run_model.specs.Kinds.{ProcessRuns}
 use Rattle.run_model.specs.Act.{LastSays}
 use Rattle.run_model.proofs.Wanting.{splits_wanted}
 use Rattle.run_laws.specs.Flowing.{Awaits, WaitsBy}
@@ -119,7 +119,7 @@ module _ (A : Inputs) (s : State) (m : Standing) (image : List ℕ) (pid : ℕ) 
 
 -- The process that runs.
 
-runs_there : (A : Inputs) (s : State) (pid : ℕ) (now : Bool) → Runs A s pid now → (p : Process) × (x : Space) × IsRunning A s pid now p x
+runs_there : (A : Inputs) (s : State) (pid : ℕ) (now : Bool) → ProcessRuns A s pid now → (p : Process) × (x : Space) × IsRunning A s pid now p x
 runs_there A s pid now r = go (process_of s.point.flat pid) refl (on_steps A s s.mark pid now r.on)
   where
     held : (p : Process) → process_of s.point.flat pid ≡ Some p → (a : Bool) (h : Holding) → p.holding ≡ h → (if a then false else holds_space h) ≡ true

@@ -28,13 +28,13 @@ use Rattle.proc_calls.specs.FaultFillTouchServed.TheVariants as served
 use Rattle.run_model.specs.State.{State}
 use Rattle.run_model.specs.Wanted.{touched_next, AllValid, before_absent, locked_by, locked, Splits}
 use Rattle.run_units.proofs.Left.{split_longer}
-use Rattle.run_model.specs.Kinds.{Runs}
+use Rattle.run_model.specs.Kinds.{ProcessRuns}
 use Rattle.run_model.specs.Next.{next_unit, under, work_by}
 use Rattle.run_model.proofs.Wanting.{splits_wanted}
 use Rattle.run_units.proofs.Flows.{runs_work}
 use Rattle.run_units.specs.Acting.{IsBetween}
 use Rattle.run_units.specs.Leads.{Leads}
-use Rattle.run_units.specs.Serving.{At, IsWaiting, Served}
+use Rattle.run_units.specs.Serving.{At, IsWaiting, ServingLeads}
 use Rattle.run_units.specs.Touching.{IsRunning}
 use Rattle.run_units.proofs.Serving.{served, served_next}
 use Rattle.run_units.proofs.Units.{leads_at}
@@ -53,7 +53,7 @@ same_space A s k image pid now p x at r =
 pub record WaitsFor (A : Inputs) (s : State) (m : Standing) (holds : Option (List NamedFile)) (image : List ℕ) (pid : ℕ) (now : Bool) (before : List Page)
     (q : Page) : Type 0 where
   pub machine : MachineAt A s m holds image
-  pub runs : Runs A s pid now
+  pub runs : ProcessRuns A s pid now
   pub between : IsBetween s.point.last
   pub rest : List Page
   pub touched : touched_next A s ≡ before ++ q ∷ rest
@@ -74,7 +74,7 @@ waiting A s m holds image pid now before kept q w f = record {
 
 pub leads_on : (A : Inputs) (g : Ground) (s : State) (k l : Kernel) (image : List ℕ) (j : Option (List ℕ)) (pid : ℕ) (now : Bool) (before : List Page)
     (q : Page) (us : List Entry)
-    → IsBetween s.point.last → Served A g s k image pid now before q us l j → StepLeads A s k image 0 l j
+    → IsBetween s.point.last → ServingLeads A g s k image pid now before q us l j → StepLeads A s k image 0 l j
 leads_on A g s k l image j pid now before q us b v = record {
   units = us;
   state = v.state;
@@ -120,7 +120,7 @@ nothing_more A g s pid before q w n u =
 
 pub ends_mark : (A : Inputs) (g : Ground) (s : State) (k l : Kernel) (image : List ℕ) (j : Option (List ℕ)) (pid : ℕ) (before : List Page)
     (q : Page) (us : List Entry)
-    → At A s k image → IsBetween s.point.last → Served A g s k image pid false before q us l j
+    → At A s k image → IsBetween s.point.last → ServingLeads A g s k image pid false before q us l j
     → (is_valid (state_of l.place q) ≡ false) × (serve_unit l.place q false ≡ None)
     → MarkEnds A s k image l j
 unfolding leads_on
@@ -148,7 +148,7 @@ PageLeads A s k image before l j (served.Signal number) = ⊥
 
 leads_more : (A : Inputs) (g : Ground) (s : State) (k l : Kernel) (image : List ℕ) (j : Option (List ℕ)) (pid : ℕ) (now : Bool) (before : List Page)
     (q : Page) (us : List Entry)
-    → At A s k image → IsBetween s.point.last → Served A g s k image pid now before q us l j → is_valid (state_of l.place q) ≡ true
+    → At A s k image → IsBetween s.point.last → ServingLeads A g s k image pid now before q us l j → is_valid (state_of l.place q) ≡ true
     → LeadsMore A s k image before l j
 unfolding leads_on
 leads_more A g s k l image j pid now before q us at b v h =
@@ -165,7 +165,7 @@ leads_more A g s k l image j pid now before q us at b v h =
 pub served_to : (A : Inputs) (s : State) (old new : Standing) (holds : Option (List NamedFile)) (image : List ℕ) (j : Option (List ℕ)) (pid : ℕ) (now : Bool)
     (before kept : List Page) (q : Page)
     → WaitsFor A s old holds image pid now before q → (now ≡ true → kept ≡ before) → (t : ServesTo now kept q old new holds (Some image) j)
-    → Served A (ground old holds kept) s old.kernel image pid now before q t.units new.kernel j
+    → ServingLeads A (ground old holds kept) s old.kernel image pid now before q t.units new.kernel j
 served_to A s old new holds image j pid now before kept q w f t =
     served t.units A (ground old holds kept) s old.kernel new.kernel image j pid now before q w.machine.at (waiting A s old holds image pid now before kept q w f) t.leads t.makes.made
 
@@ -175,7 +175,7 @@ pub page_leads : (A : Inputs) (s : State) (old new : Standing) (holds : Option (
     → PageLeads A s old.kernel image before new.kernel j answer
 page_leads A s old new holds image j pid before q answer w h = go answer h
   where
-    done : (t : ServesTo false [] q old new holds (Some image) j) → Served A (ground old holds []) s old.kernel image pid false before q t.units new.kernel j
+    done : (t : ServesTo false [] q old new holds (Some image) j) → ServingLeads A (ground old holds []) s old.kernel image pid false before q t.units new.kernel j
     done t = served_to A s old new holds image j pid false before [] q w (λ e. absurd cc) t
 
     go : (answer : Touch) → TouchedAs answer q old new holds (Some image) j → PageLeads A s old.kernel image before new.kernel j answer
@@ -232,7 +232,7 @@ pub page_stops : (A : Inputs) (s : State) (old new : Standing) (holds : Option (
 page_stops A s old new holds image j pid now before kept q stop w f c =
     let g : Ground = ground old holds kept in
     let d : StopsServing now kept q old new holds (Some image) j stop = c.serving in
-    let v : Served A g s old.kernel image pid now before q d.units d.kernel d.image =
+    let v : ServingLeads A g s old.kernel image pid now before q d.units d.kernel d.image =
     served d.units A g s old.kernel d.kernel image d.image pid now before q w.machine.at (waiting A s old holds image pid now before kept q w f) d.leads d.made in
     let led : Leads A s old.kernel image d.units v.state d.kernel (Some v.leads.behind) =
     subst (λ (o : Option (List ℕ)). Leads A s old.kernel image d.units v.state d.kernel o) v.leads.told v.leads in

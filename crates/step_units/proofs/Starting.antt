@@ -3,7 +3,7 @@ use Rattle.std.proofs.Common.{◌≡◌, ℕ, ◌*◌, List, [], ◌∷◌, ◌+
 use Rattle.vm_facts.specs.declared.page.Page.TheVariants.{Text, Stack}
 use Rattle.vm_facts.specs.declared.params.Params.{Params}
 use Rattle.aout_image.specs.declared.Image.{Image}
-use Rattle.aout_image.specs.Image.{data_pages_of}
+use Rattle.aout_image.specs.Image.{image_data_pages}
 use Rattle.swap_dmap.specs.Chunks.{pieces}
 use Rattle.swap_book.specs.declared.Owner.TheVariants as owners
 use Rattle.swap_book.specs.Holdings.{Holdings}
@@ -64,7 +64,7 @@ use Rattle.step_units.proofs.Leaving.{GivesUp, Left, has_left, step_stays, due_l
 asked_back : (k l : Kernel) (sid image : ℕ) (o : Option Image) → StaysFor k l → image_asked l.place sid image o ≡ image_asked k.place sid image o
 asked_back k l sid image None r = refl
 asked_back k l sid image (Some facts) r =
-    let rest : List Wanted = wanted (owners.Data sid) (pieces (2 * data_pages_of facts)) ++ wanted (owners.Stack sid) (pieces 2) in
+    let rest : List Wanted = wanted (owners.Data sid) (pieces (2 * image_data_pages facts)) ++ wanted (owners.Stack sid) (pieces 2) in
     ap (λ (n : ℕ). text_asked n image (2 * length (slots_of l.place (Text image 0))) ++ rest) (r.sharing image)
     ∙ ap (λ (n : ℕ). text_asked (sharers k.place image) image (2 * n) ++ rest) (r.texts image)
 

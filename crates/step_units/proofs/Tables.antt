@@ -17,7 +17,7 @@ use Rattle.kernel_laws.proofs.Machine.Swaps.{found_at}
 use Rattle.kernel_laws.proofs.Machine.Tables.{kept_at, outline_at}
 use Rattle.machine_state.specs.Calls.{life_in}
 use Rattle.proc_calls.specs.Callers.{proc_in, space_held, regs_of, regs_by, parent_of, parent_by}
-use Rattle.proc_calls.specs.Waiting.{is_child, is_ended_child, status_of as kept_status, wait_by as kept_wait, wait_reply as wait_among}
+use Rattle.proc_calls.specs.Waiting.{is_child, is_ended_child, exit_status as kept_status, wait_by_records as kept_wait, wait_answer as wait_among}
 use Rattle.run_model.specs.State.{State}
 use Rattle.run_units.specs.Serving.{At}
 use Rattle.run_units.specs.Touching.{IsRunning}

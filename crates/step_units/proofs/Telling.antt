@@ -5,7 +5,7 @@ use Rattle.vm_facts.specs.declared.entry.Entry.{Entry}
 use Rattle.vm_facts.specs.declared.entry.Entry.TheVariants as entries
 use Rattle.flat_state.specs.Flat.{Inputs, can_step}
 use Rattle.flat_state.specs.Journal.{join, join_by, append, append_after, append_joined}
-use Rattle.flat_model.specs.Run.{Point, step_at, due_at, behind, first_if, point_after, process_of_entry, act as next_of_step}
+use Rattle.flat_model.specs.Run.{Point, step_at, due_at, behind, first_if, point_after, process_of_entry, entry_of_step as next_of_step}
 use Rattle.kernel_model.specs.Start.{ImagesFit}
 use Rattle.run_model.specs.State.{State, start}
 use Rattle.run_model.specs.After.{after}

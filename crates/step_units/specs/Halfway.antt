@@ -14,7 +14,7 @@ use Rattle.swapper.specs.Putting.{HoldsThere, PutOut, StopsPutting}
 use Rattle.run_model.specs.declared.mark.Mark.TheVariants as marks
 use Rattle.run_model.specs.State.{State}
 use Rattle.run_model.specs.After.{interrupt_mark}
-use Rattle.run_units.specs.Longwords.{AllFit}
+use Rattle.run_units.specs.Longwords.{ProcessesFit}
 use Rattle.run_units.specs.Serving.{At}
 use Rattle.step_units.specs.Machines.{MachineAt}
 use Rattle.step_units.specs.Stepped.{StopLeads}
@@ -44,7 +44,7 @@ PutOutIsIn =
 abbrev pub PuttingIsMade : Type 0
 PuttingIsMade =
     (A : Inputs) (s : State) (old new : Standing) (holds : Option (List NamedFile)) (image : List ℕ) (j : Option (List ℕ)) (pid sid : ℕ)
-    → MachineAt A s old holds image → IsClear s → AllFit s.point.flat.processes → s.mark ≡ marks.PutOut pid → HoldsThere old.kernel pid sid
+    → MachineAt A s old holds image → IsClear s → ProcessesFit s.point.flat.processes → s.mark ≡ marks.PutOut pid → HoldsThere old.kernel pid sid
     → PutOut pid sid old new holds (Some image) j → LineLeads A s old.kernel image new.kernel j
 
 -- or to where the run stops

@@ -18,7 +18,7 @@ use Rattle.proc_calls.specs.Moved.{Moved, StopsMoving}
 use Rattle.swapper.specs.declared.Turned.{Turned}
 use Rattle.swapper.specs.Runners.{runners_of, choice_of}
 use Rattle.swapper.specs.Turns.{Turns, StopsTurning}
-use Rattle.run_units.specs.Longwords.{AllFit}
+use Rattle.run_units.specs.Longwords.{ProcessesFit}
 use Rattle.run_model.specs.declared.mark.Mark.TheVariants as marks
 use Rattle.run_model.specs.State.{State, runners}
 use Rattle.run_model.specs.After.{interrupt_mark, swap_mark, mark_of_event}
@@ -128,7 +128,7 @@ abbrev pub SwapperIsMade : Type 0
 SwapperIsMade =
     (A : Inputs) (s : State) (old new : Standing) (holds : Option (List NamedFile)) (image : List ℕ) (j : Option (List ℕ)) (t : Turned)
     → MachineAt A s old holds image → IsClear s
-    → AllFit s.point.flat.processes → s.mark ≡ swap_mark (swap_choice s.place (runners s.point.flat))
+    → ProcessesFit s.point.flat.processes → s.mark ≡ swap_mark (swap_choice s.place (runners s.point.flat))
     → choice_of t ≡ swap_choice old.kernel.place (runners_of old.kernel)
     → Turns t old new holds (Some image) j → LineLeads A s old.kernel image new.kernel j
 

@@ -18,7 +18,7 @@ use Rattle.machine_state.specs.UserMemory.{kernel_answers}
 use Rattle.proc_calls.specs.declared.replying.Called.{Called}
 use Rattle.proc_calls.specs.Callers.{parent_of}
 use Rattle.proc_calls.specs.Answered.{Replied, Comes, StopsBefore, StopsReading}
-use Rattle.proc_calls.specs.Waiting.{wait_reply}
+use Rattle.proc_calls.specs.Waiting.{wait_answer}
 use Rattle.proc_calls.specs.Writing.{StopsOut}
 use Rattle.run_model.specs.State.{State}
 use Rattle.step_units.specs.Machines.{RunsOn, MakesCall}
@@ -30,7 +30,7 @@ WaitIsMade =
     (A : Inputs) (s : State) (old new : Standing) (holds : Option (List NamedFile)) (image : List ℕ) (pid : ℕ) (now : Bool) (p : Process) (x : Space)
     (effect : Effect) (called : Called)
     → RunsOn A s old holds image pid now p x → MakesCall old p x effect system_calls.Wait
-    → Replied old new pid system_calls.Wait effect.regs (wait_reply old.kernel pid effect.regs) called
+    → Replied old new pid system_calls.Wait effect.regs (wait_answer old.kernel pid effect.regs) called
     → CallLeads A s old.kernel image x called new.kernel (Some image)
 
 -- So is a question for its number.

@@ -3,7 +3,7 @@ use Rattle.std.specs.Prelude.{ℕ, ◌+◌, ◌<◌, ◌≤◌, ◌^◌, List, l
 use Rattle.vm_facts.specs.declared.entry.Entry.{Entry}
 use Rattle.flat_state.specs.Flat.{Inputs}
 use Rattle.kernel_model.specs.Kernel.{Kernel}
-use Rattle.run_units.specs.Longwords.{AllFit, AllImages}
+use Rattle.run_units.specs.Longwords.{ProcessesFit, AllImages}
 use Rattle.run_model.specs.State.{State}
 use Rattle.run_units.specs.Leads.{Leads}
 use Rattle.run_units.specs.Serving.{At}
@@ -11,7 +11,7 @@ use Rattle.run_units.specs.Serving.{At}
 -- Each process has registers that are longwords and holds a space of bytes, and the next process's number is no more than the
 -- first processes and the instructions so far make it.
 pub record HasLongwords (A : Inputs) (s : State) : Type 0 where
-  pub fit : AllFit s.point.flat.processes
+  pub fit : ProcessesFit s.point.flat.processes
   pub next : s.point.flat.next_pid ≤ length A.first + 1 + s.count
 
 -- next units keep that, while the numbers of processes are longwords

@@ -35,15 +35,15 @@ InstructionIsMade =
     → l ≡ ran_by (writes_in m.kernel x.sid effect.writes) pid effect.regs (entries.Ran pid 1) → StepLeads A s m.kernel image 1 l (Some image)
 
 -- The instruction waits for the page of this byte, or for the growth of its stack to it; these are the pages that it touches before.
-abbrev pub Waits : Inputs → State → Standing → Process → Space → ℕ → Bool → List Page → Type 0
-Waits A s m p x address write before =
+abbrev pub WaitsForPage : Inputs → State → Standing → Process → Space → ℕ → Bool → List Page → Type 0
+WaitsForPage A s m p x address write before =
     ((wants : WantsPage A s m.kernel x address write) × (wants.before ≡ before))
     ⊎ ((run (kernel_answers m.kernel x.sid) (instruction p.regs) ≡ Err (Below address)) × (write ≡ false) × (touched_next A s ≡ before)
     × AllValid s.place before)
 
 -- units lead to a state under the same mark, between two steps and with nothing due, or after the entry that says that the pieces
 -- of growth find no place; that ends the process by signal 11
-pub record EndsRefused (A : Inputs) (s : State) (m new : Standing) (holds : Option (List NamedFile)) (image : List ℕ) (pid : ℕ) (now : Bool) (p : Process)
+pub record EndsUngrown (A : Inputs) (s : State) (m new : Standing) (holds : Option (List NamedFile)) (image : List ℕ) (pid : ℕ) (now : Bool) (p : Process)
     (x : Space) : Type 0 where
   pub state : State
   pub leads : Leads A s m.kernel image (entries.Refused pid ∷ []) state new.kernel (Some image)
@@ -63,7 +63,7 @@ abbrev pub ServeLeads : Inputs → State → Standing → Standing → Option (L
 ServeLeads A s old new holds image j pid now p x served.Valid = ServedMore A s old.kernel image new.kernel j
 ServeLeads A s old new holds image j pid now p x (served.Asleep q) = MarkEnds A s old.kernel image new.kernel j
 ServeLeads A s old new holds image j pid now p x served.NoFrame = MarkEnds A s old.kernel image new.kernel j
-ServeLeads A s old new holds image j pid now p x served.NoSpace = EndsRefused A s old new holds image pid now p x × (j ≡ Some image)
+ServeLeads A s old new holds image j pid now p x served.NoSpace = EndsUngrown A s old new holds image pid now p x × (j ≡ Some image)
 ServeLeads A s old new holds image j pid now p x (served.Signal number) = ⊥
 
 -- a page is served as far as that needs no waiting
@@ -72,7 +72,7 @@ ServeIsMade =
     (A : Inputs) (s : State) (old new : Standing) (holds : Option (List NamedFile)) (image : List ℕ) (j : Option (List ℕ)) (pid : ℕ) (p : Process) (x : Space)
     (address : ℕ) (write : Bool)
     (before : List Page) (answer : Served)
-    → RunsOn A s old holds image pid false p x → Waits A s old p x address write before
+    → RunsOn A s old holds image pid false p x → WaitsForPage A s old p x address write before
     → AccessComes (λ came q from. TouchedAs came q from new holds (Some image) j) (access_by old.kernel pid address write) answer pid old new (Some image) j
     → ServeLeads A s old new holds image j pid false p x answer
 
@@ -82,7 +82,7 @@ ServeStops =
     (A : Inputs) (s : State) (old new : Standing) (holds : Option (List NamedFile)) (image : List ℕ) (j : Option (List ℕ)) (pid : ℕ) (p : Process) (x : Space)
     (address : ℕ) (write : Bool)
     (before : List Page) (stop : Stop)
-    → RunsOn A s old holds image pid false p x → Waits A s old p x address write before
+    → RunsOn A s old holds image pid false p x → WaitsForPage A s old p x address write before
     → AccessStops false [] (access_by old.kernel pid address write) pid old new holds (Some image) j stop → StopLeads A s old.kernel image stop new j
 
 -- in a turn it is served until it is valid, by hands that pass over the pages before it
@@ -91,7 +91,7 @@ ServeNowIsMade =
     (A : Inputs) (s : State) (old new : Standing) (holds : Option (List NamedFile)) (image : List ℕ) (j : Option (List ℕ)) (pid : ℕ) (p : Process) (x : Space)
     (address : ℕ) (write : Bool)
     (before : List Page) (answer : Served)
-    → RunsOn A s old holds image pid true p x → Waits A s old p x address write before
+    → RunsOn A s old holds image pid true p x → WaitsForPage A s old p x address write before
     → AccessComes (λ came q from. TouchedNow before came q from new holds (Some image) j)
     (access_by old.kernel pid address write) answer pid old new (Some image) j
     → ServeLeads A s old new holds image j pid true p x answer
@@ -102,5 +102,5 @@ ServeNowStops =
     (A : Inputs) (s : State) (old new : Standing) (holds : Option (List NamedFile)) (image : List ℕ) (j : Option (List ℕ)) (pid : ℕ) (p : Process) (x : Space)
     (address : ℕ) (write : Bool)
     (before : List Page) (stop : Stop)
-    → RunsOn A s old holds image pid true p x → Waits A s old p x address write before
+    → RunsOn A s old holds image pid true p x → WaitsForPage A s old p x address write before
     → AccessStops true before (access_by old.kernel pid address write) pid old new holds (Some image) j stop → StopLeads A s old.kernel image stop new j

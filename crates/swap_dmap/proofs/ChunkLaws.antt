@@ -4,37 +4,37 @@ use Rattle.std.proofs.lemmas.Bool.{cond-true, cond-false, cond_both, cases_Bool,
 use Rattle.std.proofs.lemmas.Nat.{pow_pos}
 use Rattle.std.proofs.lemmas.List.FromFn.{length-map-range_with_len}
 use Rattle.std.proofs.Math.Pow.{pow_mono}
-use Rattle.swap_dmap.specs.Chunks.{chunk, chunk_start, lowest, chunks_holding, pieces, chunk_reached, counted_from, spot}
+use Rattle.swap_dmap.specs.Chunks.{chunk, chunk_start, lowest_below, chunks_holding, pieces, chunk_reached, counted_from, spot}
 
 -- ---- the lowest number that passes
 
-pub lowest_is : (passes : ℕ → Bool) (n m : ℕ) → m ≤ n → passes m ≡ true → ((k : ℕ) → k < m → passes k ≡ false) → lowest passes n ≡ m
-unfolding lowest
+pub lowest_is : (passes : ℕ → Bool) (n m : ℕ) → m ≤ n → passes m ≡ true → ((k : ℕ) → k < m → passes k ≡ false) → lowest_below passes n ≡ m
+unfolding lowest_below
 lowest_is passes zero m le holds none = omega arith
-lowest_is passes (suc n) zero le holds none = cond-true (passes 0) 0 (suc (lowest (λ k. passes (suc k)) n)) holds
+lowest_is passes (suc n) zero le holds none = cond-true (passes 0) 0 (suc (lowest_below (λ k. passes (suc k)) n)) holds
 lowest_is passes (suc n) (suc m) le holds none =
-    cond-false (passes 0) 0 (suc (lowest (λ k. passes (suc k)) n)) (none 0 (omega arith)) ∙
+    cond-false (passes 0) 0 (suc (lowest_below (λ k. passes (suc k)) n)) (none 0 (omega arith)) ∙
     ap suc (lowest_is (λ k. passes (suc k)) n m (omega arith) holds (λ k h. none (suc k) (omega arith)))
 
-pub lowest_passes : (passes : ℕ → Bool) (n : ℕ) → passes n ≡ true → passes (lowest passes n) ≡ true
-unfolding lowest
+pub lowest_passes : (passes : ℕ → Bool) (n : ℕ) → passes n ≡ true → passes (lowest_below passes n) ≡ true
+unfolding lowest_below
 lowest_passes passes zero holds = holds
 lowest_passes passes (suc n) holds =
-    cond_both (passes 0) 0 (suc (lowest (λ k. passes (suc k)) n)) (λ m. passes m ≡ true)
+    cond_both (passes 0) 0 (suc (lowest_below (λ k. passes (suc k)) n)) (λ m. passes m ≡ true)
     (λ here. here)
     (λ not_here. lowest_passes (λ k. passes (suc k)) n holds)
 
-pub lowest_fails : (passes : ℕ → Bool) (n k : ℕ) → k < lowest passes n → passes k ≡ false
-unfolding lowest
+pub lowest_fails : (passes : ℕ → Bool) (n k : ℕ) → k < lowest_below passes n → passes k ≡ false
+unfolding lowest_below
 lowest_fails passes zero k h = absurd (omega arith)
 lowest_fails passes (suc n) zero h = elim (cases_Bool (passes 0)) [
-  | inl here ↦ let e = cond-true (passes 0) 0 (suc (lowest (λ k. passes (suc k)) n)) here in absurd (omega arith)
+  | inl here ↦ let e = cond-true (passes 0) 0 (suc (lowest_below (λ k. passes (suc k)) n)) here in absurd (omega arith)
   | inr not_here ↦ not_here
 ]
 lowest_fails passes (suc n) (suc k) h = elim (cases_Bool (passes 0)) [
-  | inl here ↦ let e = cond-true (passes 0) 0 (suc (lowest (λ k. passes (suc k)) n)) here in absurd (omega arith)
+  | inl here ↦ let e = cond-true (passes 0) 0 (suc (lowest_below (λ k. passes (suc k)) n)) here in absurd (omega arith)
   | inr not_here ↦
-      let e = cond-false (passes 0) 0 (suc (lowest (λ k. passes (suc k)) n)) not_here in
+      let e = cond-false (passes 0) 0 (suc (lowest_below (λ k. passes (suc k)) n)) not_here in
       lowest_fails (λ k. passes (suc k)) n k (omega arith)
 ]
 

@@ -6,7 +6,7 @@ use Rattle.std.proofs.lemmas.Bool.{cases_lt, cases_eq, le-leb, leb-true, lt-ltb,
 use Rattle.std.proofs.lemmas.List.{append-nil, length-append, length-replicate, take-append-le, take-replicate}
 use Rattle.std.proofs.lemmas.List.FromFn.{length-map-range_with_len, get_or-map-range_with_len, take-map-range_with_len}
 use Rattle.std.proofs.lemmas.Option.{slice_get-get_or}
-use Rattle.swap_dmap.specs.Chunks.{chunk, chunk_start, lowest, chunks_holding, pieces, chunk_reached, counted_from, spot, last_piece, text_pieces, text_spot}
+use Rattle.swap_dmap.specs.Chunks.{chunk, chunk_start, lowest_below, chunks_holding, pieces, chunk_reached, counted_from, spot, last_piece, text_pieces, text_spot}
 use Rattle.swap_dmap.proofs.ChunkLaws.{lowest_passes, lowest_fails, counted_is, chunk_least, chunk_even, chunk_start_even, chunk_start_least, chunk_start_after}
 
 -- ---- pieces
@@ -32,7 +32,7 @@ pieces_enough blocks =
     let s = chunk_start_least blocks in
     let passes = lowest_passes (λ n. nat_le blocks (chunk_start n)) blocks (le-leb blocks (chunk_start blocks) (omega arith)) in
     subst (λ (n : ℕ). blocks ≤ chunk_start n) (sym (length-pieces blocks))
-    (leb-true blocks (chunk_start (lowest (λ n. nat_le blocks (chunk_start n)) blocks)) passes)
+    (leb-true blocks (chunk_start (lowest_below (λ n. nat_le blocks (chunk_start n)) blocks)) passes)
 
 -- as many chunks as are before chunk k are the pieces of the blocks before chunk k
 pub pieces_at_start : (k : ℕ) → pieces (chunk_start k) ≡ map chunk (range_with_len 0 k)
@@ -72,8 +72,8 @@ unfolding chunk_reached chunk_start
 reaches v =
     let passes : ℕ → Bool = λ i. nat_lt (2 * v) (chunk_start (suc i)) in
     let last = chunk_start_least (suc (2 * v)) in
-    let ends = ltb-true (2 * v) (chunk_start (suc (lowest passes (2 * v)))) (lowest_passes passes (2 * v) (lt-ltb (2 * v) (chunk_start (suc (2 * v))) (omega arith))) in
-    let begun = begun (lowest passes (2 * v)) (λ k lt. lowest_fails passes (2 * v) k lt) in
+    let ends = ltb-true (2 * v) (chunk_start (suc (lowest_below passes (2 * v)))) (lowest_passes passes (2 * v) (lt-ltb (2 * v) (chunk_start (suc (2 * v))) (omega arith))) in
+    let begun = begun (lowest_below passes (2 * v)) (λ k lt. lowest_fails passes (2 * v) k lt) in
     record { total = omega arith; within = omega arith }
   where
     begun : (i : ℕ) → ((k : ℕ) → k < i → nat_lt (2 * v) (chunk_start (suc k)) ≡ false) → chunk_start i ≤ 2 * v

@@ -12,13 +12,13 @@ chunk_start zero = 0
 chunk_start (suc i) = chunk_start i + chunk i
 
 -- the lowest number that passes, of those below a bound; the bound where none does
-unfoldable pub lowest : (ℕ → Bool) → ℕ → ℕ
-lowest passes zero = 0
-lowest passes (suc n) = cond (passes 0) 0 (suc (lowest (λ k. passes (suc k)) n))
+unfoldable pub lowest_below : (ℕ → Bool) → ℕ → ℕ
+lowest_below passes zero = 0
+lowest_below passes (suc n) = cond (passes 0) 0 (suc (lowest_below (λ k. passes (suc k)) n))
 
 -- how few chunks have at least `blocks` blocks
 unfoldable pub chunks_holding : ℕ → ℕ
-chunks_holding blocks = lowest (λ n. nat_le blocks (chunk_start n)) blocks
+chunks_holding blocks = lowest_below (λ n. nat_le blocks (chunk_start n)) blocks
 
 -- the shortest list chunk 0, chunk 1, .. that has at least `blocks` blocks
 unfoldable pub pieces : ℕ → List ℕ
@@ -26,7 +26,7 @@ pieces blocks = map chunk (range_with_len 0 (chunks_holding blocks))
 
 -- the chunk in which a walk of `blocks` blocks from the start of chunk 0 ends
 unfoldable pub chunk_reached : ℕ → ℕ
-chunk_reached blocks = lowest (λ i. nat_lt blocks (chunk_start (suc i))) blocks
+chunk_reached blocks = lowest_below (λ i. nat_lt blocks (chunk_start (suc i))) blocks
 
 -- where the two blocks of a page begin in a chunk, walked blocks from its start or from its end
 unfoldable pub counted_from : Bool → ℕ → ℕ → ℕ

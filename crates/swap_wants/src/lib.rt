@@ -5,7 +5,7 @@
 #![tactic(auto)]
 
 ghost use Rattle.std.specs.Prelude.{◌≡◌, ◌<◌, ◌*◌, ◌∷◌, [], length, IfOk, OnOk, OnErr};
-ghost use Rattle.aout_image.specs.Image.{IsSound, text_pages_of, data_pages_of};
+ghost use Rattle.aout_image.specs.Image.{IsSound, text_pages_of, image_data_pages};
 ghost use Rattle.swap_book.specs.declared.Owner.TheVariants.{Text as TextOf, Data as DataOf, Stack as StackOf};
 ghost use Rattle.swap_dmap.specs.Chunks.{pieces, chunk_start};
 ghost use Rattle.swap_book.specs.Owners.{same_owner as is_same_owner};
@@ -31,7 +31,7 @@ pub struct Want {
 pub fn image_wants(facts: &Image, image: u32, sid: u32) -> [Want; 3]
     requires { IsSound facts.now }
     ensures { result ≡ record { owner = TextOf image; blocks = 2 * text_pages_of facts.now }
-        ∷ record { owner = DataOf sid; blocks = 2 * data_pages_of facts.now }
+        ∷ record { owner = DataOf sid; blocks = 2 * image_data_pages facts.now }
         ∷ record { owner = StackOf sid; blocks = 2 } ∷ [] }
 {
     [

@@ -12,11 +12,11 @@ use Rattle.page_model.specs.Swapper as swapper
 use Rattle.kernel_model.specs.Kernel.{Proc}
 use Rattle.kernel_model.specs.Unit.{has_lender}
 use Rattle.machine_state.specs.Alike.{AreRecords}
-use Rattle.machine_state.specs.Machine.{life_shown, proc_shown, proc_of, processes_of, residence_by, residence_of}
+use Rattle.machine_state.specs.Machine.{life_shown, proc_shown, proc_of_record, processes_of, residence_by, residence_of}
 use Rattle.machine_state.proofs.Records.{keeps_none, keeps_some, found_pid}
 use Rattle.machine_state.proofs.ByNumber.{over, over_none, over_some, next_follows, none_follows, residence_over}
 use Rattle.machine_state.proofs.Listed.{are_marked}
-use Rattle.swapper.specs.Runners.{runner_by, runner_from, runners_in, runners_above, HasResidents, kept, longer_of, longer_with, longest_from}
+use Rattle.swapper.specs.Runners.{runner_among, runner_from, runners_in, runners_above, HasResidents, kept, longer_of, longer_with, longest_from}
 
 -- Of all runners, those that pass a test.
 
@@ -42,12 +42,12 @@ filter_both f g (x ∷ xs) = go (g x) refl (f x) refl (filter_both f g xs)
 
 module _ (test : Runner → Bool) (all : List Proc) (h : ℕ → Option Proc) where
   abbrev show : Proc → Option Runner
-  show q = runner_by all q q.life
+  show q = runner_among all q q.life
 
   abbrev one : ℕ → Option Runner
   one n = kept test (runner_from all (h n))
 
-  pub runners_over : (ns : List ℕ) → filter test (filter_map (λ q. runner_by all q q.life) (filter_map h ns)) ≡ filter_map (λ n. kept test (runner_from all (h n))) ns
+  pub runners_over : (ns : List ℕ) → filter test (filter_map (λ q. runner_among all q q.life) (filter_map h ns)) ≡ filter_map (λ n. kept test (runner_from all (h n))) ns
   runners_over [] = refl
   runners_over (n ∷ ns) = go (h n) refl (runners_over ns)
     where
@@ -89,15 +89,15 @@ module _ (test : Runner → Bool) (all : List Proc) (h : ℕ → Option Proc) wh
 -- Those above a pid, by the next pid.
 
 pub all_above : (test : Runner → Bool) (ps : List Record) (next : ℕ) → runners_above test ps next 0 ≡ filter test (runners_in (processes_of ps next))
-all_above test ps next = sym (runners_over test (processes_of ps next) (λ n. proc_of (find n ps)) (range_with_len 1 (next - 1)))
+all_above test ps next = sym (runners_over test (processes_of ps next) (λ n. proc_of_record (find n ps)) (range_with_len 1 (next - 1)))
 
 pub above_next : (test : Runner → Bool) (ps : List Record) (next last pid : ℕ) → AreRecords ps next → Lowest (λ q. (last < q) × IsSome (find q ps)) (Some pid)
-    → runners_above test ps next last ≡ over (λ n. kept test (runner_from (processes_of ps next) (proc_of (find n ps)))) pid next
-above_next test ps next last pid h low = next_follows (λ o. kept test (runner_from (processes_of ps next) (proc_of o))) ps next last pid refl h low
+    → runners_above test ps next last ≡ over (λ n. kept test (runner_from (processes_of ps next) (proc_of_record (find n ps)))) pid next
+above_next test ps next last pid h low = next_follows (λ o. kept test (runner_from (processes_of ps next) (proc_of_record o))) ps next last pid refl h low
 
 pub above_none : (test : Runner → Bool) (ps : List Record) (next last : ℕ) → Lowest (λ q. (last < q) × IsSome (find q ps)) None
     → runners_above test ps next last ≡ []
-above_none test ps next last low = none_follows (λ o. kept test (runner_from (processes_of ps next) (proc_of o))) ps next last refl low
+above_none test ps next last low = none_follows (λ o. kept test (runner_from (processes_of ps next) (proc_of_record o))) ps next last refl low
 
 -- The one that is in or out longest.
 
@@ -135,11 +135,11 @@ lent ps next pid x h e = are_marked ps next h pid x e ∙ ap (has_lender (proces
 
 pub seen_from : (ps : List Record) (next pid : ℕ) (x : Record) (sid : ℕ) → AreRecords ps next → find pid ps ≡ Some x → x.state ≡ lives.Holds sid
     → Some (let r : Runner = record { pid = x.pid; sid = sid; borrowed = x.borrowed; asleep = x.asleep } in r)
-    ≡ runner_from (processes_of ps next) (proc_of (find pid ps))
+    ≡ runner_from (processes_of ps next) (proc_of_record (find pid ps))
 seen_from ps next pid x sid h e s =
     ap (λ (b : Bool). Some (let r : Runner = record { pid = x.pid; sid = sid; borrowed = b; asleep = x.asleep } in r)) (lent ps next pid x h e)
-    ∙ sym (ap (λ (l : RecordLife). runner_by (processes_of ps next) (proc_shown x) (life_shown l)) s)
-    ∙ sym (ap (λ (o : Option Record). runner_from (processes_of ps next) (proc_of o)) e)
+    ∙ sym (ap (λ (l : RecordLife). runner_among (processes_of ps next) (proc_shown x) (life_shown l)) s)
+    ∙ sym (ap (λ (o : Option Record). runner_from (processes_of ps next) (proc_of_record o)) e)
 
 -- What the placement has of a record.
 

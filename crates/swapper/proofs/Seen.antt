@@ -10,7 +10,7 @@ use Rattle.vax_pte.specs.declared.Place.TheVariants.{Frame}
 use Rattle.core_map.specs.declared.slot.Slot.{Slot}
 use Rattle.core_map.specs.declared.slot.Slot.TheVariants.{Free, Resident, Away}
 use Rattle.core_map.specs.Slots.{slot_at, is_resident, listings}
-use Rattle.core_map.specs.Frames.{Frames, IsSound}
+use Rattle.core_map.specs.Frames.{Frames, IsSoundMap}
 use Rattle.flat_state.specs.PageNames.{beside, pages_from}
 use Rattle.space_map.specs.Space.{Places, place_in}
 use Rattle.page_model.specs.Pages.{frame_of}
@@ -40,7 +40,7 @@ frame_shown : (slots : List Slot) (f : ℕ) (valid changed : Bool)
 frame_shown slots f true changed = refl
 frame_shown slots f false changed = refl
 
-pub seat_shown : (p : Placement) (free : List ℕ) (slots : List Slot) (f : ℕ) (valid changed dirty : Bool) → IsSound free slots → p.free ≡ free
+pub seat_shown : (p : Placement) (free : List ℕ) (slots : List Slot) (f : ℕ) (valid changed dirty : Bool) → IsSoundMap free slots → p.free ≡ free
     → ShowsMark slots (Frame f valid changed) dirty → is_resident (slot_at slots f) ≡ is_seated_by p (state_shown slots (Frame f valid changed))
 seat_shown p free slots f valid changed dirty s e m =
     seat_by p f (slot_at slots f) valid changed dirty (ap (times f) e ∙ s.listed f) m ∙ ap (is_seated_by p) (frame_shown slots f valid changed)

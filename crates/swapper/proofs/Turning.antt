@@ -23,7 +23,7 @@ use Rattle.swapper.specs.declared.Turned.{Turned}
 use Rattle.swapper.specs.declared.Turned.TheVariants as turns
 use Rattle.swapper.specs.declared.candidates.Seen.{Seen}
 use Rattle.swapper.specs.declared.candidates.Kind.TheVariants as kinds
-use Rattle.swapper.specs.Runners.{runner_by, runners_of, runner_of, passes, choice_of}
+use Rattle.swapper.specs.Runners.{runner_among, runners_of, runner_of, passes, choice_of}
 use Rattle.swapper.specs.Turns.{MayTurn}
 use Rattle.swapper.proofs.Numbers.{filter_both}
 
@@ -78,7 +78,7 @@ record Shown (all : List Proc) (q : Proc) (r : Runner) : Type 0 where
   holds : q.life ≡ HoldsSpace r.sid
   lent : has_lender all r.pid ≡ r.borrowed
 
-shown_by : (all : List Proc) (q : Proc) (r : Runner) (l : Life) → q.life ≡ l → runner_by all q l ≡ Some r → Shown all q r
+shown_by : (all : List Proc) (q : Proc) (r : Runner) (l : Life) → q.life ≡ l → runner_among all q l ≡ Some r → Shown all q r
 shown_by all q r New e s = none_some r s
 shown_by all q r (HoldsSpace sid) e s =
     let same = same_Some (let x : Runner = record { pid = q.pid; sid = sid; borrowed = has_lender all q.pid; asleep = q.asleep } in x) r s in
@@ -87,9 +87,9 @@ shown_by all q r (LendsSpace sid child) e s = none_some r s
 shown_by all q r (Ended status) e s = none_some r s
 
 holder : (all qs : List Proc) (r : Runner) → AllDistinct (map (λ (q : Proc). q.pid) qs)
-    → OneOf r (filter_map (λ q. runner_by all q q.life) qs) → Holder all qs r
+    → OneOf r (filter_map (λ q. runner_among all q q.life) qs) → Holder all qs r
 holder all [] r d o = absurd o
-holder all (q ∷ qs) r d o = go (runner_by all q q.life) refl (holder all qs r d.1)
+holder all (q ∷ qs) r d o = go (runner_among all q q.life) refl (holder all qs r d.1)
   where
     later : Holder all qs r → Holder all (q ∷ qs) r
     later h = elim (cases_eq q.pid r.pid) [
@@ -100,10 +100,10 @@ holder all (q ∷ qs) r d o = go (runner_by all q q.life) refl (holder all qs r 
     here : Shown all q r → Holder all (q ∷ qs) r
     here s = record { process = q; found = numbered_hit pid_of r.pid q qs s.number; holds = s.holds; lent = s.lent }
 
-    go : (w : Option Runner) → runner_by all q q.life ≡ w → (OneOf r (filter_map (λ q. runner_by all q q.life) qs) → Holder all qs r) → Holder all (q ∷ qs) r
-    go None e more = later (more (subst (OneOf r) (keeps_none (λ q. runner_by all q q.life) q qs e) o))
+    go : (w : Option Runner) → runner_among all q q.life ≡ w → (OneOf r (filter_map (λ q. runner_among all q q.life) qs) → Holder all qs r) → Holder all (q ∷ qs) r
+    go None e more = later (more (subst (OneOf r) (keeps_none (λ q. runner_among all q q.life) q qs e) o))
     go (Some y) e more =
-        let one : OneOf r (y ∷ filter_map (λ q. runner_by all q q.life) qs) = subst (OneOf r) (keeps_some (λ q. runner_by all q q.life) q qs y e) o in
+        let one : OneOf r (y ∷ filter_map (λ q. runner_among all q q.life) qs) = subst (OneOf r) (keeps_some (λ q. runner_among all q q.life) q qs y e) o in
         elim one [
           | inl s ↦ here (shown_by all q r q.life refl (e ∙ ap (λ (x : Runner). Some x) (sym s)))
           | inr t ↦ later (more t)

@@ -7,7 +7,7 @@ use Rattle.page_model.specs.Placement.{Placement}
 use Rattle.page_model.specs.Swapper.{Runner, Choice, In, Out, Nothing, since, is_out, is_longer, is_larger, size_in_frames, longest_of, may_come_in, may_go_out}
 use Rattle.kernel_model.specs.Kernel.{Kernel, Life, New, HoldsSpace, LendsSpace, Ended, Proc}
 use Rattle.kernel_model.specs.Unit.{has_lender}
-use Rattle.machine_state.specs.Machine.{proc_of, processes_of, residents_of}
+use Rattle.machine_state.specs.Machine.{proc_of_record, processes_of, residents_of}
 use Rattle.swapper.specs.declared.candidates.Seen.{Seen}
 use Rattle.swapper.specs.declared.largest.Measured.{Measured}
 use Rattle.swapper.specs.declared.largest.Largest.{Largest}
@@ -17,15 +17,15 @@ use Rattle.swapper.specs.declared.candidates.Kind.{Kind}
 use Rattle.swapper.specs.declared.candidates.Kind.TheVariants as kinds
 
 -- what the swapper asks of a process that holds a space, among all processes
-abbrev pub runner_by : List Proc → Proc → Life → Option Runner
-runner_by all q New = None
-runner_by all q (HoldsSpace sid) = Some (let r : Runner = record { pid = q.pid; sid = sid; borrowed = has_lender all q.pid; asleep = q.asleep } in r)
-runner_by all q (LendsSpace sid child) = None
-runner_by all q (Ended status) = None
+abbrev pub runner_among : List Proc → Proc → Life → Option Runner
+runner_among all q New = None
+runner_among all q (HoldsSpace sid) = Some (let r : Runner = record { pid = q.pid; sid = sid; borrowed = has_lender all q.pid; asleep = q.asleep } in r)
+runner_among all q (LendsSpace sid child) = None
+runner_among all q (Ended status) = None
 
 -- those of these processes that hold a space
 abbrev pub runners_in : List Proc → List Runner
-runners_in all = filter_map (λ q. runner_by all q q.life) all
+runners_in all = filter_map (λ q. runner_among all q q.life) all
 
 -- the processes that hold a space, by rising pid
 abbrev pub runners_of : Kernel → List Runner
@@ -65,12 +65,12 @@ kept test (Some r) = cond (test r) (Some r) None
 -- what the swapper asks of a process, if there is one that holds a space
 abbrev pub runner_from : List Proc → Option Proc → Option Runner
 runner_from all None = None
-runner_from all (Some q) = runner_by all q q.life
+runner_from all (Some q) = runner_among all q q.life
 
 -- those above a pid that pass a test
 abbrev pub runners_above : (Runner → Bool) → List Record → ℕ → ℕ → List Runner
 runners_above test ps next last =
-    filter_map (λ n. kept test (runner_from (processes_of ps next) (proc_of (find n ps)))) (range_with_len (last + 1) (next - (last + 1)))
+    filter_map (λ n. kept test (runner_from (processes_of ps next) (proc_of_record (find n ps)))) (range_with_len (last + 1) (next - (last + 1)))
 
 -- the one of the two that is in or out longer, the first where they are equally long by name
 abbrev pub longer_of : Placement → Option Runner → Runner → Runner

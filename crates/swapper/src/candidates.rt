@@ -4,7 +4,7 @@ ghost use Rattle.proc_table.specs.Records.{find};
 ghost use Rattle.page_model.specs.Placement.{Placement};
 ghost use Rattle.page_model.specs.Swapper.{is_longer, longest};
 ghost use Rattle.machine_state.specs.Alike.{AreRecords};
-ghost use Rattle.machine_state.specs.Machine.{proc_of, processes_of};
+ghost use Rattle.machine_state.specs.Machine.{proc_of_record, processes_of};
 ghost use Rattle.swapper.specs.Runners.{runners_in, runner_seen, runner_of, runner_from, IsPlaced, HasResidents, passes, kept, longer_of, longer_with};
 ghost use Rattle.std.specs.List.{filter};
 
@@ -39,7 +39,7 @@ fn look_at(processes: &ProcTable, _next: u32, pid: u32) -> Option<Seen>
     requires records { AreRecords processes.now _next }
     requires low { 1 ≤ pid }
     requires high { pid < _next }
-    ensures runner { runner_of result ≡ runner_from (processes_of processes.now _next) (proc_of (find pid processes.now)) }
+    ensures runner { runner_of result ≡ runner_from (processes_of processes.now _next) (proc_of_record (find pid processes.now)) }
     ensures placed { (p : Placement) → HasResidents p processes.now _next → IsPlaced p result }
 {
     let process = processes.get(pid)?;
@@ -73,7 +73,7 @@ pub(crate) fn candidate(processes: &ProcTable, next: u32, kind: Kind, pid: u32) 
     requires low { 1 ≤ pid }
     requires high { pid < next }
     ensures runner { (p : Placement) → HasResidents p processes.now next
-        → runner_of result ≡ kept (passes p kind) (runner_from (processes_of processes.now next) (proc_of (find pid processes.now))) }
+        → runner_of result ≡ kept (passes p kind) (runner_from (processes_of processes.now next) (proc_of_record (find pid processes.now))) }
     ensures placed { (p : Placement) → HasResidents p processes.now next → IsPlaced p result }
 {
     let seen = look_at(processes, next, pid)?;

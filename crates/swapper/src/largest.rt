@@ -7,7 +7,7 @@ ghost use Rattle.page_model.specs.Place.{pages_of_space};
 ghost use Rattle.page_model.specs.Swapper.{is_larger, longest, ranked, seated_count};
 ghost use Rattle.machine_state.specs.Going.{IsRunning};
 ghost use Rattle.machine_state.specs.Alike.{AreRecords};
-ghost use Rattle.machine_state.specs.Machine.{proc_of, processes_of, residents_of};
+ghost use Rattle.machine_state.specs.Machine.{proc_of_record, processes_of, residents_of};
 ghost use Rattle.swapper.specs.declared.candidates.Kind.TheVariants as kinds;
 ghost use Rattle.swapper.specs.Runners.{
   runners_in,
@@ -67,7 +67,7 @@ fn measure(m: &Machine, processes: &ProcTable, next: u32, pid: u32) -> Option<Me
     requires low { 1 ≤ pid }
     requires high { pid < next }
     ensures runner { runner_measured result
-        ≡ kept (passes m.now.kernel.place kinds.GoesOut) (runner_from (processes_of processes.now next) (proc_of (find pid processes.now))) }
+        ≡ kept (passes m.now.kernel.place kinds.GoesOut) (runner_from (processes_of processes.now next) (proc_of_record (find pid processes.now))) }
     ensures measured { IsMeasured m.now.kernel.place result }
 {
     let seen = candidate(processes, next, Kind::GoesOut, pid)?;

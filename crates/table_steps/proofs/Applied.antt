@@ -21,7 +21,7 @@ use Rattle.kernel_tables.specs.Tied.{Tied}
 use Rattle.kernel_tables.specs.Machine.{lists_of, image_at}
 use Rattle.kernel_tables.specs.Changing.{Resized, GaveUp, started_place, EnteredImage, Forked, HasProcesses, HasOneMore, HasChanged}
 use Rattle.kernel_tables.specs.Changing.{HasEnded, processes_in, residents_in}
-use Rattle.table_steps.specs.Applied.{place_in, Applied}
+use Rattle.table_steps.specs.Applied.{placement_in, Applied}
 use Rattle.table_steps.proofs.ProcessLists.{OnlyOne, with_self, without_self}
 use Rattle.table_steps.proofs.Moved.{tied_moved}
 
@@ -32,7 +32,7 @@ module _ (v u : Tables) (next : ℕ) (ps : List Proc) (rs : List Residence) (h :
       ap lists_of h.rest
       ∙ ap (λ (xs : List Residence). let x : Lists = record (lists_of v) { residents = xs } in x) h.residents
 
-  procs_place : place_in u ≡ record (place_in v) { residents = rs }
+  procs_place : placement_in u ≡ record (placement_in v) { residents = rs }
   procs_place = ap placement_of procs_lists
 
   procs_frames : frames_of (lists_of u) ≡ frames_of (lists_of v)
@@ -136,10 +136,10 @@ lend_applied t u p since child e o tied h = subst (λ (c : ℕ). Applied t u p s
 pub resize_applied : (t u : Tables) (p : Proc) (since sid d s : ℕ) → p.life ≡ HoldsSpace sid → OnlyOne p (processes_in t)
     → AreRecords t.processes t.next_pid → Resized t u sid d s → Applied t u p since (Resize d s)
 resize_applied t u p since sid d s life o r z = record {
-  place = z.shows.place ∙ ap (λ (l : Life). resize (place_in t) (space_of_life l) d s) (sym life);
+  place = z.shows.place ∙ ap (λ (l : Life). resize (placement_in t) (space_of_life l) d s) (sym life);
   frames = z.shows.frames;
   tied = z.shows.known.tied;
-  book = z.book ∙ ap (λ (l : Life). with_holdings t.book (holdings_after t.book.holdings (place_in t) (place_in u) p.pid (space_of_life l) (gave_back l) (Resize d s))) (sym life);
+  book = z.book ∙ ap (λ (l : Life). with_holdings t.book (holdings_after t.book.holdings (placement_in t) (placement_in u) p.pid (space_of_life l) (gave_back l) (Resize d s))) (sym life);
   processes = ap processes_in z.rest ∙ sym (with_self (processes_in t) p o);
   records = subst (λ (x : Tables). AreRecords x.processes x.next_pid) (sym z.rest) r;
   next_pid = ap (λ (x : Tables). x.next_pid) z.rest;
@@ -160,9 +160,9 @@ fork_applied t v u p since parent life o clear f h =
     record {
       place =
           procs_place v u (v.next_pid + 1) (processes_in v ++ child_proc p v.next_pid (HoldsSpace t.next_sid) ∷ []) (residents_in v ++ record { pid = v.next_pid; out = false; since = since } ∷ []) h
-          ∙ ap (λ (n : ℕ). record (place_in v) { residents = (place_in v).residents ++ record { pid = n; out = false; since = since } ∷ [] }) pid_same
+          ∙ ap (λ (n : ℕ). record (placement_in v) { residents = (placement_in v).residents ++ record { pid = n; out = false; since = since } ∷ [] }) pid_same
           ∙ ap (λ (q : Placement). record q { residents = q.residents ++ record { pid = t.next_pid; out = false; since = since } ∷ [] }) f.shows.place
-          ∙ ap (λ (l : Life). place_change (lists_of t).facts (place_in t) p.pid (space_of_life l) (gave_back l) t.next_sid since (Fork t.next_pid)) (sym life);
+          ∙ ap (λ (l : Life). place_change (lists_of t).facts (placement_in t) p.pid (space_of_life l) (gave_back l) t.next_sid since (Fork t.next_pid)) (sym life);
       frames = procs_frames v u (v.next_pid + 1) (processes_in v ++ child_proc p v.next_pid (HoldsSpace t.next_sid) ∷ [])
           (residents_in v ++ record { pid = v.next_pid; out = false; since = since } ∷ []) h ∙ f.shows.frames;
       tied = procs_tied v u (v.next_pid + 1) (processes_in v ++ child_proc p v.next_pid (HoldsSpace t.next_sid) ∷ [])
@@ -183,15 +183,15 @@ fork_applied t v u p since parent life o clear f h =
 
 -- what enters is the placement's new space, where nothing was due
 pub entered_place : (t : Tables) (image : ℕ) (facts : Image) → t.fills.items ≡ [] → facts_numbered (lists_of t).facts image ≡ Some facts
-    → started_place (place_in t) t.next_sid image facts ≡ enter_image (place_in t) t.next_sid image (facts_numbered (lists_of t).facts image)
+    → started_place (placement_in t) t.next_sid image facts ≡ enter_image (placement_in t) t.next_sid image (facts_numbered (lists_of t).facts image)
 entered_place t image facts clear e =
-    let with_due : List Due → Placement = λ ds. record (place_in t) { spaces = (place_in t).spaces ++ new_pages t.next_sid image facts ∷ []; due = ds } in
+    let with_due : List Due → Placement = λ ds. record (placement_in t) { spaces = (placement_in t).spaces ++ new_pages t.next_sid image facts ∷ []; due = ds } in
     ap (λ (ds : List Due). with_due (ds ++ Start (Stack t.next_sid 0) ∷ [])) (ap (map due_shown) clear)
-    ∙ ap (enter_image (place_in t) t.next_sid image) (sym e)
+    ∙ ap (enter_image (placement_in t) t.next_sid image) (sym e)
 
 module _ (t v w u : Tables) (p : Proc) (since image : ℕ) (facts : Image) (top : List ℕ) (o : OnlyOne p (processes_in t)) (clear : t.fills.items ≡ [])
     (known : facts_numbered (lists_of t).facts image ≡ Some facts) (e : EnteredImage t v image facts top) where
-  entered : place_in v ≡ enter_image (place_in t) t.next_sid image (facts_numbered (lists_of t).facts image)
+  entered : placement_in v ≡ enter_image (placement_in t) t.next_sid image (facts_numbered (lists_of t).facts image)
   entered = e.shows.place ∙ entered_place t image facts clear known
 
   -- the process had none
@@ -200,11 +200,11 @@ module _ (t v w u : Tables) (p : Proc) (since image : ℕ) (facts : Image) (top 
     place =
         procs_place v u v.next_pid (with_proc (processes_in v) record p { life = HoldsSpace t.next_sid }) (residents_in v) h
         ∙ entered
-        ∙ ap (λ (l : Life). place_change (lists_of t).facts (place_in t) p.pid (space_of_life l) (gave_back l) t.next_sid since (Exec image top)) (sym life);
+        ∙ ap (λ (l : Life). place_change (lists_of t).facts (placement_in t) p.pid (space_of_life l) (gave_back l) t.next_sid since (Exec image top)) (sym life);
     frames = procs_frames v u v.next_pid (with_proc (processes_in v) record p { life = HoldsSpace t.next_sid }) (residents_in v) h ∙ e.shows.frames;
     tied = procs_tied v u v.next_pid (with_proc (processes_in v) record p { life = HoldsSpace t.next_sid }) (residents_in v) h e.shows.known.tied;
     book = ap (λ (x : Tables). x.book) h.rest ∙ ap (λ (x : Tables). x.book) e.rest
-        ∙ ap (λ (l : Life). with_holdings t.book (holdings_after t.book.holdings (place_in t) (place_in u) p.pid (space_of_life l) (gave_back l) (Exec image top))) (sym life);
+        ∙ ap (λ (l : Life). with_holdings t.book (holdings_after t.book.holdings (placement_in t) (placement_in u) p.pid (space_of_life l) (gave_back l) (Exec image top))) (sym life);
     processes = h.processes ∙ ap (λ (x : Tables). with_proc (processes_in x) record p { life = HoldsSpace t.next_sid }) e.rest;
     records = h.records;
     next_pid = h.number ∙ ap (λ (x : Tables). x.next_pid) e.rest;
@@ -219,22 +219,22 @@ module _ (t v w u : Tables) (p : Proc) (since image : ℕ) (facts : Image) (top 
   pub exec_held : (sid : ℕ) → p.life ≡ HoldsSpace sid → t.next_sid ≢ sid → GaveUp v w sid
       → HasChanged w u (record p { life = HoldsSpace t.next_sid }) → Applied t u p since (Exec image top)
   exec_held sid life d g h =
-      let now : place_in u ≡ place_in w = procs_place w u w.next_pid (with_proc (processes_in w) record p { life = HoldsSpace t.next_sid }) (residents_in w) h in
+      let now : placement_in u ≡ placement_in w = procs_place w u w.next_pid (with_proc (processes_in w) record p { life = HoldsSpace t.next_sid }) (residents_in w) h in
       let image_same : image_at v sid ≡ image_at t sid =
-      ap (λ (q : Placement). image_of q sid) e.shows.place ∙ ap image_in (added_other sid (place_in t).spaces (new_pages t.next_sid image facts) d) in
+      ap (λ (q : Placement). image_of q sid) e.shows.place ∙ ap image_in (added_other sid (placement_in t).spaces (new_pages t.next_sid image facts) d) in
       record {
         place =
             now
             ∙ g.shows.place
             ∙ ap (λ (q : Placement). give_up q sid) entered
-            ∙ ap (λ (l : Life). place_change (lists_of t).facts (place_in t) p.pid (space_of_life l) (gave_back l) t.next_sid since (Exec image top)) (sym life);
+            ∙ ap (λ (l : Life). place_change (lists_of t).facts (placement_in t) p.pid (space_of_life l) (gave_back l) t.next_sid since (Exec image top)) (sym life);
         frames = procs_frames w u w.next_pid (with_proc (processes_in w) record p { life = HoldsSpace t.next_sid }) (residents_in w) h ∙ g.shows.frames ∙ e.shows.frames;
         tied = procs_tied w u w.next_pid (with_proc (processes_in w) record p { life = HoldsSpace t.next_sid }) (residents_in w) h g.shows.known.tied;
         book = ap (λ (x : Tables). x.book) h.rest ∙ g.book
-            ∙ ap (λ (x : Tables). with_holdings x.book (space_given_back x.book.holdings sid (image_at v sid) (sharers (place_in w) (image_at v sid)))) e.rest
-            ∙ ap (λ (i : ℕ). with_holdings t.book (space_given_back t.book.holdings sid i (sharers (place_in w) i))) image_same
+            ∙ ap (λ (x : Tables). with_holdings x.book (space_given_back x.book.holdings sid (image_at v sid) (sharers (placement_in w) (image_at v sid)))) e.rest
+            ∙ ap (λ (i : ℕ). with_holdings t.book (space_given_back t.book.holdings sid i (sharers (placement_in w) i))) image_same
             ∙ ap (λ (q : Placement). with_holdings t.book (space_given_back t.book.holdings sid (image_at t sid) (sharers q (image_at t sid)))) (sym now)
-            ∙ ap (λ (l : Life). with_holdings t.book (holdings_after t.book.holdings (place_in t) (place_in u) p.pid (space_of_life l) (gave_back l) (Exec image top))) (sym life);
+            ∙ ap (λ (l : Life). with_holdings t.book (holdings_after t.book.holdings (placement_in t) (placement_in u) p.pid (space_of_life l) (gave_back l) (Exec image top))) (sym life);
         processes = h.processes ∙ ap (λ (x : Tables). with_proc (processes_in x) record p { life = HoldsSpace t.next_sid }) g.rest
             ∙ ap (λ (x : Tables). with_proc (processes_in x) record p { life = HoldsSpace t.next_sid }) e.rest;
         records = h.records;
@@ -258,10 +258,10 @@ module _ (t v w u : Tables) (p : Proc) (since status : ℕ) (same : w ≡ withou
   abbrev staying : List Residence
   staying = filter (λ (r : Residence). not (r.pid == p.pid)) (residents_in w)
 
-  ended_place : place_in u ≡ record (place_in v) { residents = filter (λ (r : Residence). not (r.pid == p.pid)) (residents_in v) }
+  ended_place : placement_in u ≡ record (placement_in v) { residents = filter (λ (r : Residence). not (r.pid == p.pid)) (residents_in v) }
   ended_place =
       procs_place w u w.next_pid gone staying h
-      ∙ ap (λ (x : Tables). record (place_in x) { residents = filter (λ (r : Residence). not (r.pid == p.pid)) (residents_in x) }) same
+      ∙ ap (λ (x : Tables). record (placement_in x) { residents = filter (λ (r : Residence). not (r.pid == p.pid)) (residents_in x) }) same
 
   ended_frames : frames_of (lists_of u) ≡ frames_of (lists_of v)
   ended_frames = procs_frames w u w.next_pid gone staying h ∙ ap (λ (x : Tables). frames_of (lists_of x)) same
@@ -278,13 +278,13 @@ module _ (t v w u : Tables) (p : Proc) (since status : ℕ) (same : w ≡ withou
   -- the process had no space
   pub end_new : p.life ≡ New → v ≡ t → Tied (lists_of t) → Applied t u p since (End status)
   end_new life e k = record {
-    place = ended_place ∙ ap (λ (x : Tables). record (place_in x) { residents = filter (λ (r : Residence). not (r.pid == p.pid)) (residents_in x) }) e
-        ∙ ap (λ (l : Life). place_change (lists_of t).facts (place_in t) p.pid (space_of_life l) (gave_back l) t.next_sid since (End status)) (sym life);
+    place = ended_place ∙ ap (λ (x : Tables). record (placement_in x) { residents = filter (λ (r : Residence). not (r.pid == p.pid)) (residents_in x) }) e
+        ∙ ap (λ (l : Life). place_change (lists_of t).facts (placement_in t) p.pid (space_of_life l) (gave_back l) t.next_sid since (End status)) (sym life);
     frames = ended_frames ∙ ap (λ (x : Tables). frames_of (lists_of x)) e;
     tied = ended_tied (subst (λ (x : Tables). Tied (lists_of x)) (sym e) k);
     book = ap (λ (x : Tables). x.book) h.rest ∙ ap (λ (x : Tables). x.book) same
         ∙ ap (λ (x : Tables). with_holdings x.book (kept (owners.U p.pid) 0 x.book.holdings)) e
-        ∙ ap (λ (l : Life). with_holdings t.book (holdings_after t.book.holdings (place_in t) (place_in u) p.pid (space_of_life l) (gave_back l) (End status))) (sym life);
+        ∙ ap (λ (l : Life). with_holdings t.book (holdings_after t.book.holdings (placement_in t) (placement_in u) p.pid (space_of_life l) (gave_back l) (End status))) (sym life);
     processes = ended_processes ∙ ap (λ (x : Tables). left_procs (p.parent == 0) (orphaned_procs (processes_in x) p.pid) p status) e;
     records = h.records;
     next_pid = h.number ∙ ap (λ (x : Tables). x.next_pid) same ∙ ap (λ (x : Tables). x.next_pid) e;
@@ -299,16 +299,16 @@ module _ (t v w u : Tables) (p : Proc) (since status : ℕ) (same : w ≡ withou
   -- or it left it
   pub end_held : (sid : ℕ) → p.life ≡ HoldsSpace sid → GaveUp t v sid → Applied t u p since (End status)
   end_held sid life g =
-      let sharing : sharers (place_in u) (image_at t sid) ≡ sharers (place_in v) (image_at t sid) = ap (λ (q : Placement). sharers q (image_at t sid)) ended_place in
+      let sharing : sharers (placement_in u) (image_at t sid) ≡ sharers (placement_in v) (image_at t sid) = ap (λ (q : Placement). sharers q (image_at t sid)) ended_place in
       record {
         place = ended_place ∙ ap (λ (q : Placement). record q { residents = filter (λ (r : Residence). not (r.pid == p.pid)) q.residents }) g.shows.place
-            ∙ ap (λ (l : Life). place_change (lists_of t).facts (place_in t) p.pid (space_of_life l) (gave_back l) t.next_sid since (End status)) (sym life);
+            ∙ ap (λ (l : Life). place_change (lists_of t).facts (placement_in t) p.pid (space_of_life l) (gave_back l) t.next_sid since (End status)) (sym life);
         frames = ended_frames ∙ g.shows.frames;
         tied = ended_tied g.shows.known.tied;
         book = ap (λ (x : Tables). x.book) h.rest ∙ ap (λ (x : Tables). x.book) same
             ∙ ap (λ (x : Book). with_holdings x (kept (owners.U p.pid) 0 x.holdings)) g.book
             ∙ ap (λ (n : ℕ). with_holdings t.book (kept (owners.U p.pid) 0 (space_given_back t.book.holdings sid (image_at t sid) n))) (sym sharing)
-            ∙ ap (λ (l : Life). with_holdings t.book (holdings_after t.book.holdings (place_in t) (place_in u) p.pid (space_of_life l) (gave_back l) (End status))) (sym life);
+            ∙ ap (λ (l : Life). with_holdings t.book (holdings_after t.book.holdings (placement_in t) (placement_in u) p.pid (space_of_life l) (gave_back l) (End status))) (sym life);
         processes = ended_processes ∙ ap (λ (x : Tables). left_procs (p.parent == 0) (orphaned_procs (processes_in x) p.pid) p status) g.rest;
         records = h.records;
         next_pid = h.number ∙ ap (λ (x : Tables). x.next_pid) same ∙ ap (λ (x : Tables). x.next_pid) g.rest;

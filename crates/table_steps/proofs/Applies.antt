@@ -26,7 +26,7 @@ use Rattle.kernel_tables.specs.Machine.{life_shown, processes_of, lists_of, imag
 use Rattle.kernel_tables.specs.Changing.{Resized, EnteredImage, Forked, HasProcesses, HasOneMore, HasChanged, HasEnded, HoldsOrNew}
 use Rattle.kernel_tables.specs.Changing.{processes_in, residents_in, process_in, life_at}
 use Rattle.kernel_tables.specs.Applying.{MayAct}
-use Rattle.table_steps.specs.Applied.{place_in, MayGiveUp, MayLeave, LeftSpace, space_at, MayApply, Applied, AppliesAs}
+use Rattle.table_steps.specs.Applied.{placement_in, MayGiveUp, MayLeave, LeftSpace, space_at, MayApply, Applied, AppliesAs}
 use Rattle.kernel_tables.proofs.Lives.{HasRecord, record_of}
 use Rattle.kernel_tables.proofs.UserFrames.{map_length}
 use Rattle.table_steps.proofs.ProcessLists.{OnlyOne, only_one, found_number}
@@ -82,14 +82,15 @@ module _ (t : Tables) (pid : ℕ) (change : Change) (m : MayApply t pid change) 
 pub resize_some : (t : Tables) (pid d s : ℕ) → MayApply t pid (Resize d s) → None ≡ space_at t pid → ⊥
 resize_some t pid d s m e = acts_resize m.process.life d s m.acts (e ∙ space_is t pid m.process m.there)
 
-pub resize_there : (t : Tables) (pid d s sid : ℕ) → MayApply t pid (Resize d s) → Some sid ≡ space_at t pid → HasSpace (place_in t) sid
+pub resize_there : (t : Tables) (pid d s sid : ℕ) → MayApply t pid (Resize d s) → Some sid ≡ space_at t pid → HasSpace (placement_in t) sid
 resize_there t pid d s sid m e =
-    let r : ReadySpace (place_in t) sid false (Resize d s) = subst (λ (l : Life). ReadySpace (place_in t) (space_of_life l) (gave_back l) (Resize d s)) (life_is t pid (Resize d s) m sid e) m.space in
+    let r : ReadySpace (placement_in t) sid false (Resize d s) =
+    subst (λ (l : Life). ReadySpace (placement_in t) (space_of_life l) (gave_back l) (Resize d s)) (life_is t pid (Resize d s) m sid e) m.space in
     r.0
 
 pub resize_settled : (t : Tables) (pid d s sid : ℕ) → MayApply t pid (Resize d s) → Some sid ≡ space_at t pid
-    → CanChange (place_in t) sid false t.next_sid (Resize d s)
-resize_settled t pid d s sid m e = subst (λ (l : Life). CanChange (place_in t) (space_of_life l) (gave_back l) t.next_sid (Resize d s)) (life_is t pid (Resize d s) m sid e) m.can
+    → CanChange (placement_in t) sid false t.next_sid (Resize d s)
+resize_settled t pid d s sid m e = subst (λ (l : Life). CanChange (placement_in t) (space_of_life l) (gave_back l) t.next_sid (Resize d s)) (life_is t pid (Resize d s) m sid e) m.can
 
 pub resize_all : (t u : Tables) (pid d s sid : ℕ) → MayApply t pid (Resize d s) → Some sid ≡ space_at t pid → Resized t u sid d s
     → (since : ℕ) → AppliesAs t u pid since (Resize d s)
@@ -102,8 +103,8 @@ resize_all t u pid d s sid m e z since =
 pub fork_some : (t : Tables) (pid child : ℕ) → MayApply t pid (Fork child) → None ≡ space_at t pid → ⊥
 fork_some t pid child m e = acts_fork m.process.life child m.acts (e ∙ space_is t pid m.process m.there)
 
-pub fork_there : (t : Tables) (pid child sid : ℕ) → MayApply t pid (Fork child) → Some sid ≡ space_at t pid → HasSpace (place_in t) sid
-fork_there t pid child sid m e = subst (λ (l : Life). ReadySpace (place_in t) (space_of_life l) (gave_back l) (Fork child)) (life_is t pid (Fork child) m sid e) m.space
+pub fork_there : (t : Tables) (pid child sid : ℕ) → MayApply t pid (Fork child) → Some sid ≡ space_at t pid → HasSpace (placement_in t) sid
+fork_there t pid child sid m e = subst (λ (l : Life). ReadySpace (placement_in t) (space_of_life l) (gave_back l) (Fork child)) (life_is t pid (Fork child) m sid e) m.space
 
 pub fork_all : (t v u : Tables) (pid since parent sid : ℕ) → MayApply t pid (Fork t.next_pid) → Some parent ≡ space_at t pid
     → Forked t v parent → sid ≡ t.next_sid
@@ -174,39 +175,39 @@ image_facts t pid image top m =
 
 module _ (t v : Tables) (pid image : ℕ) (top : List ℕ) (m : MayApply t pid (Exec image top)) (facts : Image) (known : facts_numbered (lists_of t).facts image ≡ Some facts)
     (e : EnteredImage t v image facts top) where
-  entered_is : place_in v ≡ enter_image (place_in t) t.next_sid image (facts_numbered (lists_of t).facts image)
+  entered_is : placement_in v ≡ enter_image (placement_in t) t.next_sid image (facts_numbered (lists_of t).facts image)
   entered_is = e.shows.place ∙ entered_place t image facts m.clear known
 
   entered_records : SameRecords t v
   entered_records = record { processes = ap (λ (x : Tables). x.processes) e.rest; next_pid = ap (λ (x : Tables). x.next_pid) e.rest }
 
-  exec_can : (sid : ℕ) → m.process.life ≡ HoldsSpace sid → CanChange (place_in t) sid false t.next_sid (Exec image top)
-  exec_can sid life = subst (λ (l : Life). CanChange (place_in t) (space_of_life l) (gave_back l) t.next_sid (Exec image top)) life m.can
+  exec_can : (sid : ℕ) → m.process.life ≡ HoldsSpace sid → CanChange (placement_in t) sid false t.next_sid (Exec image top)
+  exec_can sid life = subst (λ (l : Life). CanChange (placement_in t) (space_of_life l) (gave_back l) t.next_sid (Exec image top)) life m.can
 
-  exec_ready : (sid : ℕ) → m.process.life ≡ HoldsSpace sid → HasSpace (place_in t) sid
+  exec_ready : (sid : ℕ) → m.process.life ≡ HoldsSpace sid → HasSpace (placement_in t) sid
   exec_ready sid life =
-      let r : ReadySpace (place_in t) sid false (Exec image top) = subst (λ (l : Life). ReadySpace (place_in t) (space_of_life l) (gave_back l) (Exec image top)) life m.space in
+      let r : ReadySpace (placement_in t) sid false (Exec image top) = subst (λ (l : Life). ReadySpace (placement_in t) (space_of_life l) (gave_back l) (Exec image top)) life m.space in
       (r refl).0
 
   exec_apart : (sid : ℕ) → m.process.life ≡ HoldsSpace sid → t.next_sid ≢ sid
-  exec_apart sid life i = exec_ready sid life (subst (IsNew (place_in t)) i (exec_can sid life).0)
+  exec_apart sid life i = exec_ready sid life (subst (IsNew (placement_in t)) i (exec_can sid life).0)
 
   exec_spaces : (sid : ℕ) → m.process.life ≡ HoldsSpace sid
-      → numbered space_number sid (place_in v).spaces ≡ numbered space_number sid (place_in t).spaces
-  exec_spaces sid life = ap (λ (q : Placement). numbered space_number sid q.spaces) e.shows.place ∙ added_other sid (place_in t).spaces (new_pages t.next_sid image facts) (exec_apart sid life)
+      → numbered space_number sid (placement_in v).spaces ≡ numbered space_number sid (placement_in t).spaces
+  exec_spaces sid life = ap (λ (q : Placement). numbered space_number sid q.spaces) e.shows.place ∙ added_other sid (placement_in t).spaces (new_pages t.next_sid image facts) (exec_apart sid life)
 
   exec_gives : (sid : ℕ) → m.process.life ≡ HoldsSpace sid → MayGiveUp v sid
   exec_gives sid life = record {
     there = λ i. exec_ready sid life (sym (exec_spaces sid life) ∙ i);
     settled =
-        let s : IsSettled (place_in t) sid = (exec_can sid life).1 refl in
+        let s : IsSettled (placement_in t) sid = (exec_can sid life).1 refl in
         record {
           data_rests = λ n. subst (λ (o : Option SpacePages). AtRest (get_or (data_in o) n no_slot).state) (sym (exec_spaces sid life)) (s.data_rests n);
           stack_rests = λ n. subst (λ (o : Option SpacePages). AtRest (get_or (stack_in o) n no_slot).state) (sym (exec_spaces sid life)) (s.stack_rests n);
         };
     forgets =
-        let f : MayForget (lists_of t).facts (place_in t) sid false t.next_sid (Exec image top) =
-        subst (λ (l : Life). MayForget (lists_of t).facts (place_in t) (space_of_life l) (gave_back l) t.next_sid (Exec image top)) life m.forgets in
+        let f : MayForget (lists_of t).facts (placement_in t) sid false t.next_sid (Exec image top) =
+        subst (λ (l : Life). MayForget (lists_of t).facts (placement_in t) (space_of_life l) (gave_back l) t.next_sid (Exec image top)) life m.forgets in
         subst (λ (q : Placement). CanForget q sid) (sym entered_is) (f refl);
   }
 
@@ -269,10 +270,10 @@ module _ (t : Tables) (pid status : ℕ) (m : MayApply t pid (End status)) where
       go : (l : Life) → m.process.life ≡ l → MayAct l (End status) → MayLeave t (life_held l)
       go New i a = tt
       go (HoldsSpace sid) i a =
-          let r : ReadySpace (place_in t) sid false (End status) = subst (λ (l : Life). ReadySpace (place_in t) (space_of_life l) (gave_back l) (End status)) i m.space in
-          let k : CanChange (place_in t) sid false t.next_sid (End status) = subst (λ (l : Life). CanChange (place_in t) (space_of_life l) (gave_back l) t.next_sid (End status)) i m.can in
-          let f : MayForget (lists_of t).facts (place_in t) sid false t.next_sid (End status) =
-          subst (λ (l : Life). MayForget (lists_of t).facts (place_in t) (space_of_life l) (gave_back l) t.next_sid (End status)) i m.forgets in
+          let r : ReadySpace (placement_in t) sid false (End status) = subst (λ (l : Life). ReadySpace (placement_in t) (space_of_life l) (gave_back l) (End status)) i m.space in
+          let k : CanChange (placement_in t) sid false t.next_sid (End status) = subst (λ (l : Life). CanChange (placement_in t) (space_of_life l) (gave_back l) t.next_sid (End status)) i m.can in
+          let f : MayForget (lists_of t).facts (placement_in t) sid false t.next_sid (End status) =
+          subst (λ (l : Life). MayForget (lists_of t).facts (placement_in t) (space_of_life l) (gave_back l) t.next_sid (End status)) i m.forgets in
           record { there = (r refl).0; settled = k refl; forgets = f refl }
       go (LendsSpace sid child) i a = absurd a
       go (Ended s) i a = absurd a

@@ -8,7 +8,7 @@ use Rattle.vax_pte.specs.declared.Place.{Place}
 use Rattle.vax_pte.specs.declared.Place.TheVariants as places
 use Rattle.core_map.specs.declared.slot.Slot.{Slot as Token}
 use Rattle.core_map.specs.declared.slot.Slot.TheVariants as tokens
-use Rattle.core_map.specs.Slots.{slot_at, page_of as token_page}
+use Rattle.core_map.specs.Slots.{slot_at, slot_page as token_page}
 use Rattle.page_model.specs.Pages.{Slot, frame_of}
 use Rattle.page_model.specs.Placement.{Placement, Errand, Writes, Reads, state_of, IsThere, moving_state, sharers}
 use Rattle.page_model.specs.Conditions.{IsShared}
@@ -20,7 +20,7 @@ use Rattle.kernel_tables.specs.Shown.{slot_shown, text_shown, entry_in}
 use Rattle.kernel_tables.specs.TableViewShown.{is_away, idle_state, state_shown}
 use Rattle.kernel_tables.specs.View.{Lists, text_place_by, placement_of}
 use Rattle.kernel_tables.specs.Known.{Known}
-use Rattle.text_table.specs.Texts.{is_saved, text_of}
+use Rattle.text_table.specs.Texts.{is_saved, text_numbered}
 use Rattle.kernel_tables.proofs.Shows.{slot_or, data_shown, stack_shown, text_at, text_within}
 use Rattle.kernel_tables.proofs.Held.{holds_length}
 use Rattle.kernel_tables.proofs.Knows.{held_named}
@@ -106,5 +106,6 @@ in_flight t q e f k h =
     go (Data n v) m th x i = away_named t.slots x e f (sym (ap (λ (y : Slot). y.state) (data_shown t.slots t.spaces n v k.differ ∙ ap (slot_or (slot_shown t.slots)) i)) ∙ m)
     go (Stack n v) m th x i = away_named t.slots x e f (sym (ap (λ (y : Slot). y.state) (stack_shown t.slots t.spaces n v k.differ ∙ ap (slot_or (slot_shown t.slots)) i)) ∙ m)
     go (Text a v) m th x i = away_named t.slots x e f (sym
-        (ap (λ (y : Slot). y.state) (text_at t a v (text_within t a v th) ∙ ap (λ (o : Option Place). text_shown t.slots (is_saved (text_of t.texts a) v) (text_place_by o t.slots (Text a v) v)) i))
+        (ap (λ (y : Slot). y.state)
+        (text_at t a v (text_within t a v th) ∙ ap (λ (o : Option Place). text_shown t.slots (is_saved (text_numbered t.texts a) v) (text_place_by o t.slots (Text a v) v)) i))
         ∙ m)

@@ -13,8 +13,8 @@ use Rattle.vax_pte.specs.declared.Place.TheVariants as places
 use Rattle.frame_state.specs.Frame.{Frame}
 use Rattle.core_map.specs.declared.slot.Slot.{Slot as Token}
 use Rattle.core_map.specs.declared.slot.Slot.TheVariants as tokens
-use Rattle.core_map.specs.Slots.{slot_at, token_of, page_of as token_page}
-use Rattle.core_map.specs.Frames.{Frames, IsSound}
+use Rattle.core_map.specs.Slots.{slot_at, token_of, slot_page as token_page}
+use Rattle.core_map.specs.Frames.{Frames, IsSoundMap}
 use Rattle.space_map.specs.Space.{Places}
 use Rattle.page_model.specs.Frames.{set_frame}
 use Rattle.page_model.specs.Pages.{Slot, Filling, Zeros, frame_of}
@@ -292,7 +292,7 @@ unfilled_is t q x m e h =
 
 forgets : (t u : Tables) (q : Page) (n : Lists) → MayForgetPage (lists_of t) q → lists_of u ≡ n → placement_of n ≡ drop_page (placement_of (lists_of t)) q
     → frames_of n ≡ frames_of (lists_of t) → Ties (lists_of t) n
-    → IsSound u.core.free u.core.slots → n.transfers ≡ (lists_of t).transfers → n.flown ≡ (lists_of t).flown
+    → IsSoundMap u.core.free u.core.slots → n.transfers ≡ (lists_of t).transfers → n.flown ≡ (lists_of t).flown
     → u ≡ record t { core = u.core; spaces = u.spaces } → Dropped t u (q ∷ [])
 forgets t u q n m is place frames ties core ts fs rest =
     let was : Lists = lists_of t in
@@ -345,7 +345,7 @@ pub forgets_swapped : (t u : Tables) (q : Page) → MayForgetPage (lists_of t) q
 forgets_swapped t u q m e is =
     let l : Lists = lists_of t in
     let core = ap (λ (x : Tables). x.core) is in
-    forgets t u q (blanked l q) m (ap lists_of is) (blank_is l q m e) refl (blank_ties l q m e) (subst (λ (c : Frames). IsSound c.free c.slots) (sym core) m.known.core) refl refl
+    forgets t u q (blanked l q) m (ap lists_of is) (blank_is l q m e) refl (blank_ties l q m e) (subst (λ (c : Frames). IsSoundMap c.free c.slots) (sym core) m.known.core) refl refl
     (is ∙ ap (λ (c : Frames). record t { core = c; spaces = map (placed q places.Zero) t.spaces }) (sym core)
     ∙ ap (λ (ss : List Places). record t { core = u.core; spaces = ss }) (sym (ap (λ (x : Tables). x.spaces) is)))
 

@@ -10,7 +10,7 @@ use Rattle.transfer_ring.specs.declared.transfer.Inbound.{Inbound}
 use Rattle.transfer_ring.specs.declared.transfer.Transfer.{Transfer as Flight}
 use Rattle.transfer_ring.specs.Sound.{IsRun, Rise, IsBefore}
 use Rattle.flat_state.specs.PageNames.{pages_from, beside}
-use Rattle.page_model.specs.Placement.{Placement, Transfer, Errand, Reads, Source, FromSwap, FromFile, Due, state_of, due_at}
+use Rattle.page_model.specs.Placement.{Placement, Transfer, Errand, Reads, Source, FromSwap, FromFile, Due, state_of, due_of_page}
 use Rattle.page_model.specs.Moves.{begin, get_all, get_run}
 use Rattle.page_model.specs.Serve.{read_errand, source_for}
 use Rattle.page_model.specs.Conditions.{EachPage, CanEnter, IsShared}
@@ -139,9 +139,9 @@ get_kernel t w q lo n journal stopped g =
 -- what is due is unfilled with zeros or as its parent's page is, and what is read from its file isn't due
 pub reads_fresh : (p : Placement) (s : Source) (q r : Page) → DueStand p → ReadsFrom p s q r → NotDue p.due r
 reads_fresh p FromFile q r d e = e.2
-reads_fresh p FromSwap q r d e = go (due_at p.due r) refl
+reads_fresh p FromSwap q r d e = go (due_of_page p.due r) refl
   where
-    go : (o : Option Due) → due_at p.due r ≡ o → o ≡ None
+    go : (o : Option Due) → due_of_page p.due r ≡ o → o ≡ None
     go None h = refl
     go (Some x) h = absurd (let i : IsDue p r x = d r x h in let y : Unfilled ≡ OnSwap = sym i.unfilled ∙ e in cc)
 

@@ -5,9 +5,9 @@ use Rattle.std.proofs.lemmas.Option.{same_Some}
 use Rattle.vm_facts.specs.declared.page.Page.{Page}
 use Rattle.vm_facts.specs.declared.page.Page.TheVariants.{Text}
 use Rattle.aout_image.specs.Image.{text_pages_of}
-use Rattle.core_map.specs.Frames.{Frames, IsSound}
+use Rattle.core_map.specs.Frames.{Frames, IsSoundMap}
 use Rattle.space_map.specs.Space.{Places}
-use Rattle.text_table.specs.Texts.{Text as SharedText, text_of, with_text, left}
+use Rattle.text_table.specs.Texts.{Text as SharedText, text_numbered, table_with_text, left}
 use Rattle.swap_book.specs.declared.Owner.TheVariants as owners
 use Rattle.swap_book.specs.Holdings.{Holdings, kept}
 use Rattle.swap_book.specs.Book.{Book, with_holdings}
@@ -89,13 +89,13 @@ goes l sid index image pages k h e f = go (slice_get l.spaces index) (stands_num
 
 -- What its image's text asks of the table.
 pub image_here : (l : Lists) (sid image pages : ℕ) → Known l → Goes l sid image pages
-    → (1 ≤ image) × (image ≤ 16) × (0 < (text_of l.texts image).sharers)
+    → (1 ≤ image) × (image ≤ 16) × (0 < (text_numbered l.texts image).sharers)
 image_here l sid image pages k x =
     let b = image_low l sid x.space k x.there in
     let low = b.0 in
     let high = b.1 in
     let e = x.image_is in
-    let n : (text_of l.texts image).sharers ≡ (text_of l.texts x.space.image).sharers = ap (λ (i : ℕ). (text_of l.texts i).sharers) e in
+    let n : (text_numbered l.texts image).sharers ≡ (text_numbered l.texts x.space.image).sharers = ap (λ (i : ℕ). (text_numbered l.texts i).sharers) e in
     let m = shared_by l sid x.space k x.there b in
     (omega arith, omega arith, omega arith)
 
@@ -105,7 +105,7 @@ pub text_asks : (t u : Tables) (sid index image pages : ℕ)
     → StandsAt t.spaces sid index
     → Some image ≡ option_map (λ (s : Places). s.image) (slice_get u.spaces index)
     → Some pages ≡ option_map (λ (s : Places). text_pages_of s.facts) (slice_get u.spaces index)
-    → (1 ≤ image) × (image ≤ 16) × (0 < (text_of u.texts image).sharers)
+    → (1 ≤ image) × (image ≤ 16) × (0 < (text_numbered u.texts image).sharers)
 text_asks t u sid index image pages k n h a b =
     image_here (lists_of u) sid image pages k (goes (lists_of u) sid index image pages k (still_stands t.spaces u.spaces sid index n h) a b)
 
@@ -118,7 +118,7 @@ text_pieces_back (Some x) (suc n) image hs z m = refl
 
 -- The whole.
 pub given_up : (t u a w : Tables) (sid index image pages : ℕ) → Parts t u a w sid index image pages → LeftText a w image pages
-    → IsSound w.core.free w.core.slots → GaveUp t w sid
+    → IsSoundMap w.core.free w.core.slots → GaveUp t w sid
 given_up t u a w sid index image pages h lt sound =
     let before : Placement = placement_of (lists_of t) in
     let qs : List Page = pages_of_space before sid in
@@ -155,8 +155,8 @@ given_up t u a w sid index image pages h lt sound =
     ∙ ap (left_by (sharing (without_space sid l.spaces) s.image) u.core s.image) (x.pages_are ∙ sym (gives_pages l sid s gives)) in
     let texts_are : w.texts ≡ texts_then l s =
     lt.texts
-    ∙ ap (λ (ts : List SharedText). with_text ts image (left (text_of ts image))) (ap (λ (y : Tables). y.texts) h.rest)
-    ∙ ap (λ (i : ℕ). with_text u.texts i (left (text_of u.texts i))) x.image_is in
+    ∙ ap (λ (ts : List SharedText). table_with_text ts image (left (text_numbered ts image))) (ap (λ (y : Tables). y.texts) h.rest)
+    ∙ ap (λ (i : ℕ). table_with_text u.texts i (left (text_numbered u.texts i))) x.image_is in
     let is : lists_of w ≡ gone l sid s =
     ap lists_of lt.rest
     ∙ ap (λ (y : Tables). record (lists_of y) { slots = w.core.slots; free = w.core.free; texts = w.texts }) h.rest
@@ -173,7 +173,7 @@ given_up t u a w sid index image pages h lt sound =
     (data_rest before sid (data_count before sid) h.settled) (stack_rest before sid (stack_count before sid) h.settled) in
     let owns : OwnsFrames (placement_of (gone l sid s)) = subst OwnsFrames (sym then_is) (give_up_owner before sid h.known.owns rest_all) in
     let aside : TextAside (placement_of (gone l sid s)) = subst TextAside (sym then_is) (give_up_aside before sid h.known.aside h.forgets) in
-    let core : IsSound (gone l sid s).free (gone l sid s).slots = subst (λ (y : Lists). IsSound y.free y.slots) is sound in
+    let core : IsSoundMap (gone l sid s).free (gone l sid s).slots = subst (λ (y : Lists). IsSoundMap y.free y.slots) is sound in
     -- the pieces
     let book_before : u.book ≡ t.book = ap (λ (y : Tables). y.book) h.dropped.rest in
     let returned : Holdings = kept (owners.Stack sid) 0 (kept (owners.Data sid) 0 t.book.holdings) in

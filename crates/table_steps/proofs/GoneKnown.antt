@@ -8,10 +8,10 @@ use Rattle.vm_facts.specs.declared.page.PageState.{PageState}
 use Rattle.frame_state.specs.Frame.{Frame}
 use Rattle.core_map.specs.declared.slot.Slot.{Slot as Token}
 use Rattle.core_map.specs.declared.slot.Slot.TheVariants as tokens
-use Rattle.core_map.specs.Slots.{slot_at, page_of as token_page}
-use Rattle.core_map.specs.Frames.{Frames, IsSound}
+use Rattle.core_map.specs.Slots.{slot_at, slot_page as token_page}
+use Rattle.core_map.specs.Frames.{Frames, IsSoundMap}
 use Rattle.space_map.specs.Space.{Places, place_in}
-use Rattle.text_table.specs.Texts.{Text as SharedText, is_saved, text_of, with_text, left as left_by_one}
+use Rattle.text_table.specs.Texts.{Text as SharedText, is_saved, text_numbered, table_with_text, left as left_by_one}
 use Rattle.page_model.specs.Pages.{Slot, no_slot, SpacePages, numbered, data_in, stack_in, frame_of}
 use Rattle.page_model.specs.Placement.{Placement, space_number, slots_of, slot_of, state_of, sharers, sharers_in}
 use Rattle.page_model.specs.Moves.{leave_all}
@@ -51,7 +51,7 @@ abbrev pub map_then : Lists → ℕ → Places → Frames
 map_then l sid s = left_by (sharing (without_space sid l.spaces) s.image) (core_of l) s.image (pages_in 1 s.image l.facts)
 
 abbrev pub texts_then : Lists → Places → List SharedText
-texts_then l s = with_text l.texts s.image (left_by_one (text_of l.texts s.image))
+texts_then l s = table_with_text l.texts s.image (left_by_one (text_numbered l.texts s.image))
 
 abbrev pub gone : Lists → ℕ → Places → Lists
 gone l sid s = gone_to l (map_then l sid s) sid (texts_then l s)
@@ -62,7 +62,8 @@ state_at xs v = (get_or xs v no_slot).state
 -- Sharers.
 
 pub shared_by : (l : Lists) (sid : ℕ) (s : Places) → Known l → numbered (λ (x : Places). x.sid) sid l.spaces ≡ Some s
-    → (1 ≤ s.image) × (s.image ≤ 16) → (text_of l.texts s.image).sharers ≡ suc (sharers_in s.image (map (space_shown l.slots) (without_space sid l.spaces)))
+    → (1 ≤ s.image) × (s.image ≤ 16)
+    → (text_numbered l.texts s.image).sharers ≡ suc (sharers_in s.image (map (space_shown l.slots) (without_space sid l.spaces)))
 shared_by l sid s k e b = k.tied.counted s.image b.0 b.1 ∙ sharers_gone l.slots sid s l.spaces k.differ e
 
 pub rest_sharers : (l : Lists) (sid i : ℕ)
@@ -83,15 +84,15 @@ module _ (l : Lists) (sid : ℕ) (s : Places) (g : Gives l sid s) where
   low j v b = let h = pages_low 1 j l.facts (omega arith) in h.0
 
   shared_texts : (x : Places) → sharing (without_space sid l.spaces) s.image ≡ Some x → (j v : ℕ) → 1 ≤ j
-      → is_saved (text_of (texts_then l s) j) v ≡ is_saved (text_of l.texts j) v
+      → is_saved (text_numbered (texts_then l s) j) v ≡ is_saved (text_numbered l.texts j) v
   shared_texts x e j v b = elim (cases_eq j s.image) [
     | inl h ↦
         let n = shared_by l sid s g.known g.there (gives_image l sid s g) in
         let more = some_shares l.slots (without_space sid l.spaces) s.image x e in
-        subst (λ (k : ℕ). is_saved (text_of (texts_then l s) k) v ≡ is_saved (text_of l.texts k) v) (sym h)
-        (ap (λ (y : SharedText). is_saved y v) (left_same l.texts s.image (left_by_one (text_of l.texts s.image)) (omega arith))
-        ∙ others_saved (text_of l.texts s.image) v (λ one. absurd (omega arith)))
-    | inr n ↦ ap (λ (y : SharedText). is_saved y v) (left_other l.texts s.image j (left_by_one (text_of l.texts s.image)) (gives_image l sid s g).0 b n)
+        subst (λ (k : ℕ). is_saved (text_numbered (texts_then l s) k) v ≡ is_saved (text_numbered l.texts k) v) (sym h)
+        (ap (λ (y : SharedText). is_saved y v) (left_same l.texts s.image (left_by_one (text_numbered l.texts s.image)) (omega arith))
+        ∙ others_saved (text_numbered l.texts s.image) v (λ one. absurd (omega arith)))
+    | inr n ↦ ap (λ (y : SharedText). is_saved y v) (left_other l.texts s.image j (left_by_one (text_numbered l.texts s.image)) (gives_image l sid s g).0 b n)
   ]
 
   shared_entry : (x : Places) → sharing (without_space sid l.spaces) s.image ≡ Some x → (j v : ℕ) → v < pages_in 1 j l.facts
@@ -115,13 +116,13 @@ module _ (l : Lists) (sid : ℕ) (s : Places) (g : Gives l sid s) where
 
   -- Nobody shares it.
 
-  one_shared : sharing (without_space sid l.spaces) s.image ≡ None → (text_of l.texts s.image).sharers ≡ 1
+  one_shared : sharing (without_space sid l.spaces) s.image ≡ None → (text_numbered l.texts s.image).sharers ≡ 1
   one_shared e = let n = shared_by l sid s g.known g.there (gives_image l sid s g) in let z = none_shares l.slots (without_space sid l.spaces) s.image e in omega arith
 
-  last_texts : sharing (without_space sid l.spaces) s.image ≡ None → (v : ℕ) → is_saved (text_of (texts_then l s) s.image) v ≡ false
+  last_texts : sharing (without_space sid l.spaces) s.image ≡ None → (v : ℕ) → is_saved (text_numbered (texts_then l s) s.image) v ≡ false
   last_texts e v =
       let one = one_shared e in
-      ap (λ (y : SharedText). is_saved y v) (left_same l.texts s.image (left_by_one (text_of l.texts s.image)) (omega arith)) ∙ last_saved (text_of l.texts s.image) v one
+      ap (λ (y : SharedText). is_saved y v) (left_same l.texts s.image (left_by_one (text_numbered l.texts s.image)) (omega arith)) ∙ last_saved (text_numbered l.texts s.image) v one
 
   listed_core : AreListed (core_of l)
   listed_core f = g.known.core.listed f
@@ -161,7 +162,7 @@ module _ (l : Lists) (sid : ℕ) (s : Places) (g : Gives l sid s) where
         | inl h ↦ subst (λ (k : ℕ). slot_of (placement_of (gone_to l m sid (texts_then l s))) (Text k v) ≡ slot_of left (Text k v)) (sym h) (own v)
         | inr d ↦
             same_text l m sid (texts_then l s) same j v (λ b. other_entry l sid s g j v d)
-            (λ b. ap (λ (y : SharedText). is_saved y v) (left_other l.texts i j (left_by_one (text_of l.texts i)) (gives_image l sid s g).0 (low j v b) d))
+            (λ b. ap (λ (y : SharedText). is_saved y v) (left_other l.texts i j (left_by_one (text_numbered l.texts i)) (gives_image l sid s g).0 (low j v b) d))
             ∙ sym (leave_all_other (first_pages i n) p (Text j v) (pages_from_each (λ r. Text j v ≢ r) (Text i 0) 0 n (λ w a b k. d (image_is j v w k))))
       ] in
       let z = none_shares l.slots (without_space sid l.spaces) i e in
@@ -243,25 +244,25 @@ module _ (l : Lists) (sid : ℕ) (s : Places) (g : Gives l sid s) where
         within = text_within l j v (page_in (placement_of l) (Text j v) f (held_named l f (Text j v) g.known (ap token_page was)))
 
         go : (o : Option Places) → sharing (without_space sid l.spaces) s.image ≡ o
-            → is_saved (text_of (texts_then l s) j) v ≡ is_saved (text_of l.texts j) v
+            → is_saved (text_numbered (texts_then l s) j) v ≡ is_saved (text_numbered l.texts j) v
         go None e = elim (cases_eq j s.image) [
           | inl k ↦
               let past : pages_in 1 s.image l.facts ≤ v = then_gone f token v mark e (h ∙ ap (λ (i : ℕ). tokens.Resident token (Text i v) mark) k) in
               let b : v < pages_in 1 s.image l.facts = subst (λ (i : ℕ). v < pages_in 1 i l.facts) k within in
               absurd (omega arith)
-          | inr d ↦ ap (λ (y : SharedText). is_saved y v) (left_other l.texts s.image j (left_by_one (text_of l.texts s.image)) (gives_image l sid s g).0 here.0 d)
+          | inr d ↦ ap (λ (y : SharedText). is_saved y v) (left_other l.texts s.image j (left_by_one (text_numbered l.texts s.image)) (gives_image l sid s g).0 here.0 d)
         ]
         go (Some x) e = shared_texts x e j v here.0
 
-    counted_then : (j : ℕ) → 1 ≤ j → j ≤ 16 → (text_of (texts_then l s) j).sharers ≡ sharers (placement_of (gone l sid s)) j
+    counted_then : (j : ℕ) → 1 ≤ j → j ≤ 16 → (text_numbered (texts_then l s) j).sharers ≡ sharers (placement_of (gone l sid s)) j
     counted_then j a b = elim (cases_eq j s.image) [
-      | inl h ↦ subst (λ (k : ℕ). (text_of (texts_then l s) k).sharers ≡ sharers (placement_of (gone l sid s)) k) (sym h)
+      | inl h ↦ subst (λ (k : ℕ). (text_numbered (texts_then l s) k).sharers ≡ sharers (placement_of (gone l sid s)) k) (sym h)
           (let n = shared_by l sid s g.known g.there (gives_image l sid s g) in
-          let k : (text_of (texts_then l s) s.image).sharers ≡ (text_of l.texts s.image).sharers - 1 =
-          ap (λ (y : SharedText). y.sharers) (left_same l.texts s.image (left_by_one (text_of l.texts s.image)) (omega arith)) in
+          let k : (text_numbered (texts_then l s) s.image).sharers ≡ (text_numbered l.texts s.image).sharers - 1 =
+          ap (λ (y : SharedText). y.sharers) (left_same l.texts s.image (left_by_one (text_numbered l.texts s.image)) (omega arith)) in
           k ∙ (omega arith) ∙ sharers_heads l.slots (gone l sid s).slots (without_space sid l.spaces) (without_space sid l.spaces) s.image refl)
       | inr d ↦
-          ap (λ (y : SharedText). y.sharers) (left_other l.texts s.image j (left_by_one (text_of l.texts s.image)) (gives_image l sid s g).0 a d)
+          ap (λ (y : SharedText). y.sharers) (left_other l.texts s.image j (left_by_one (text_numbered l.texts s.image)) (gives_image l sid s g).0 a d)
           ∙ g.known.tied.counted j a b
           ∙ sym (sharers_stay l.slots sid j l.spaces (each_imp l.spaces (only_space l.spaces sid s g.known.differ g.there) d))
           ∙ sharers_heads l.slots (gone l sid s).slots (without_space sid l.spaces) (without_space sid l.spaces) j refl
@@ -314,7 +315,7 @@ module _ (l : Lists) (sid : ℕ) (s : Places) (g : Gives l sid s) where
           once = k.once;
         }
 
-    pub known_then : IsSound (gone l sid s).free (gone l sid s).slots → TextAside (placement_of (gone l sid s)) → Known (gone l sid s)
+    pub known_then : IsSoundMap (gone l sid s).free (gone l sid s).slots → TextAside (placement_of (gone l sid s)) → Known (gone l sid s)
     known_then core aside = record {
       core = core;
       owns = owns;

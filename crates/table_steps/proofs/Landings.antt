@@ -12,10 +12,10 @@ use Rattle.frame_state.specs.Frame.{Frame}
 use Rattle.core_map.specs.declared.slot.Slot.{Slot as Token}
 use Rattle.core_map.specs.declared.slot.Slot.TheVariants as tokens
 use Rattle.core_map.specs.Slots.{slot_at}
-use Rattle.core_map.specs.Frames.{IsSound, IsAway, HoldsNot}
+use Rattle.core_map.specs.Frames.{IsSoundMap, IsAway, HoldsNot}
 use Rattle.kernel_tables.proofs.Knows.{text_low}
 use Rattle.space_map.specs.Space.{Places}
-use Rattle.text_table.specs.Texts.{IsTable, is_saved, text_of, marked, unused_text, Text as SharedText}
+use Rattle.text_table.specs.Texts.{IsTextTable, is_saved, text_numbered, marked, unused_text, Text as SharedText}
 use Rattle.transfer_ring.specs.declared.transfer.Inbound.{Inbound}
 use Rattle.transfer_ring.specs.declared.transfer.Outbound.{Outbound}
 use Rattle.page_model.specs.Pages.{Slot, Zeros, written_mark}
@@ -50,46 +50,47 @@ use Rattle.page_laws.proofs.Moves.Steps.{page_in}
 
 -- Text that was written is saved.
 
-pub save_marked : (ts : List SharedText) (i v : ℕ) → IsTable ts → (1 ≤ i) × (i ≤ 16) × (v < 2048) → is_saved (text_of (saved_texts ts (Text i v)) i) v ≡ true
+pub save_marked : (ts : List SharedText) (i v : ℕ) → IsTextTable ts → (1 ≤ i) × (i ≤ 16) × (v < 2048)
+    → is_saved (text_numbered (saved_texts ts (Text i v)) i) v ≡ true
 save_marked ts i v t l =
     let a = t.images in
     let b = t.pages i in
     let low = l.0 in
     let high = l.1 in
     let within = l.2 in
-    ap (λ (x : SharedText). is_saved x v) (get_or-set_same ts (i - 1) (marked (text_of ts i) v true) unused_text (omega arith))
-    ∙ get_or-set_same (text_of ts i).saved v true false (omega arith)
+    ap (λ (x : SharedText). is_saved x v) (get_or-set_same ts (i - 1) (marked (text_numbered ts i) v true) unused_text (omega arith))
+    ∙ get_or-set_same (text_numbered ts i).saved v true false (omega arith)
 
-pub save_others : (ts : List SharedText) (q : Page) (j w : ℕ) → ((i v : ℕ) → q ≡ Text i v → IsTable ts)
+pub save_others : (ts : List SharedText) (q : Page) (j w : ℕ) → ((i v : ℕ) → q ≡ Text i v → IsTextTable ts)
     → ((i v : ℕ) → q ≡ Text i v → (1 ≤ i) × (i ≤ 16) × (v < 2048)) → 1 ≤ j → Text j w ≢ q
-    → is_saved (text_of (saved_texts ts q) j) w ≡ is_saved (text_of ts j) w
+    → is_saved (text_numbered (saved_texts ts q) j) w ≡ is_saved (text_numbered ts j) w
 save_others ts (Text i v) j w t l m d = elim (cases_eq j i) [
   | inl e ↦
       let other : w ≢ v = λ h. d (ap (λ (x : ℕ). Text x w) e ∙ ap (λ (x : ℕ). Text i x) h) in
-      let table : IsTable ts = t i v refl in
+      let table : IsTextTable ts = t i v refl in
       let a = table.images in
       let low = (l i v refl).0 in
       let high = (l i v refl).1 in
-      subst (λ (x : ℕ). is_saved (text_of (saved_texts ts (Text i v)) x) w ≡ is_saved (text_of ts x) w) (sym e)
-      (ap (λ (x : SharedText). is_saved x w) (get_or-set_same ts (i - 1) (marked (text_of ts i) v true) unused_text (omega arith))
-      ∙ get_or-set_other (text_of ts i).saved v w true false other)
+      subst (λ (x : ℕ). is_saved (text_numbered (saved_texts ts (Text i v)) x) w ≡ is_saved (text_numbered ts x) w) (sym e)
+      (ap (λ (x : SharedText). is_saved x w) (get_or-set_same ts (i - 1) (marked (text_numbered ts i) v true) unused_text (omega arith))
+      ∙ get_or-set_other (text_numbered ts i).saved v w true false other)
   | inr n ↦
       let low = (l i v refl).0 in
-      ap (λ (x : SharedText). is_saved x w) (get_or-set_other ts (i - 1) (j - 1) (marked (text_of ts i) v true) unused_text (λ h. n (omega arith)))
+      ap (λ (x : SharedText). is_saved x w) (get_or-set_other ts (i - 1) (j - 1) (marked (text_numbered ts i) v true) unused_text (λ h. n (omega arith)))
 ]
 save_others ts _ j w t l m d = refl
 
 pub save_counts : (ts : List SharedText) (q : Page) → ((i v : ℕ) → q ≡ Text i v → (1 ≤ i) × (i ≤ 16) × (v < 2048)) → (j : ℕ)
-    → (text_of (saved_texts ts q) j).sharers ≡ (text_of ts j).sharers
+    → (text_numbered (saved_texts ts q) j).sharers ≡ (text_numbered ts j).sharers
 save_counts ts (Text i v) l j =
     let within : (a b : ℕ) → Rattle.std.proofs.Common.◌⊎◌ (a < b) (b ≤ a) = λ a b. grind arith in
     elim (cases_eq (j - 1) (i - 1)) [
       | inl e ↦ elim (within (i - 1) (length ts)) [
-        | inl m ↦ subst (λ (x : ℕ). (get_or (set ts (i - 1) (marked (text_of ts i) v true)) x unused_text).sharers ≡ (get_or ts x unused_text).sharers) (sym e)
-            (ap (λ (x : SharedText). x.sharers) (get_or-set_same ts (i - 1) (marked (text_of ts i) v true) unused_text m))
-        | inr m ↦ ap (λ (xs : List SharedText). (get_or xs (j - 1) unused_text).sharers) (set_past ts (i - 1) (marked (text_of ts i) v true) m)
+        | inl m ↦ subst (λ (x : ℕ). (get_or (set ts (i - 1) (marked (text_numbered ts i) v true)) x unused_text).sharers ≡ (get_or ts x unused_text).sharers) (sym e)
+            (ap (λ (x : SharedText). x.sharers) (get_or-set_same ts (i - 1) (marked (text_numbered ts i) v true) unused_text m))
+        | inr m ↦ ap (λ (xs : List SharedText). (get_or xs (j - 1) unused_text).sharers) (set_past ts (i - 1) (marked (text_numbered ts i) v true) m)
       ]
-      | inr n ↦ ap (λ (x : SharedText). x.sharers) (get_or-set_other ts (i - 1) (j - 1) (marked (text_of ts i) v true) unused_text n)
+      | inr n ↦ ap (λ (x : SharedText). x.sharers) (get_or-set_other ts (i - 1) (j - 1) (marked (text_numbered ts i) v true) unused_text n)
     ]
   where
     set_past : (xs : List SharedText) (k : ℕ) (x : SharedText) → length xs ≤ k → set xs k x ≡ xs
@@ -100,7 +101,7 @@ save_counts ts _ l j = refl
 
 -- What a page that landed shows.
 
-valid_shown : (n : Lists) (q : Page) (f : ℕ) (b m : Bool) → is_marked_dirty q m ≡ false → ((i v : ℕ) → q ≡ Text i v → m ≡ is_saved (text_of n.texts i) v)
+valid_shown : (n : Lists) (q : Page) (f : ℕ) (b m : Bool) → is_marked_dirty q m ≡ false → ((i v : ℕ) → q ≡ Text i v → m ≡ is_saved (text_numbered n.texts i) v)
     → page_shown n q (places.Frame f true (arrives_dirty n.texts q b)) ≡ record { state = Valid f; mark = arrived_mark (source_by b) q m; filling = Zeros }
 valid_shown n (Text i v) f true m c t = ap (λ (x : Bool). let z : Slot = record { state = Valid f; mark = x; filling = Zeros } in z) (sym (t i v refl))
 valid_shown n _ f true m c t = refl
@@ -108,10 +109,10 @@ valid_shown n (Text i v) f false m c t = ap (λ (x : Bool). let z : Slot = recor
 valid_shown n _ f false m c t = ap (λ (x : Bool). let z : Slot = record { state = Valid f; mark = x; filling = Zeros } in z) (sym c)
 
 pub rested_shown : (n : Lists) (q : Page) (f : ℕ) (m : Bool) → is_away (slot_at n.slots f) ≡ false → is_marked_dirty q m ≡ false
-    → ((i v : ℕ) → q ≡ Text i v → m ≡ is_saved (text_of n.texts i) v)
+    → ((i v : ℕ) → q ≡ Text i v → m ≡ is_saved (text_numbered n.texts i) v)
     → page_shown n q (places.Frame f false false) ≡ record { state = Invalid f; mark = m; filling = Zeros }
 rested_shown n (Text i v) f m a c t =
-    ap (λ (x : Bool). let z : Slot = record { state = idle_state f x false; mark = is_saved (text_of n.texts i) v; filling = Zeros } in z) a
+    ap (λ (x : Bool). let z : Slot = record { state = idle_state f x false; mark = is_saved (text_numbered n.texts i) v; filling = Zeros } in z) a
     ∙ ap (λ (x : Bool). let z : Slot = record { state = Invalid f; mark = x; filling = Zeros } in z) (sym (t i v refl))
 rested_shown n _ f m a c t =
     ap (λ (x : Bool). let z : Slot = record { state = idle_state f x false; mark = false; filling = Zeros } in z) a
@@ -144,7 +145,7 @@ landed_by : (t u : Tables) (e : Errand) (xs : List Part) (q : Page) (token : Fra
     (record { errand = e; parts = xs } ∷ map transfer_shown t.ring)
     ≡ land (placement_of (closing t e (record { page = q; frame = token.number } ∷ xs) (record { page = q; token = token } ∷ fs))) e
     (record { page = q; frame = token.number }) (record { errand = e; parts = xs } ∷ map transfer_shown t.ring)
-    → IsSound u.core.free u.core.slots → u ≡ record t { core = u.core; spaces = u.spaces; texts = u.texts } → map head_of u.spaces ≡ map head_of t.spaces
+    → IsSoundMap u.core.free u.core.slots → u ≡ record t { core = u.core; spaces = u.spaces; texts = u.texts } → map head_of u.spaces ≡ map head_of t.spaces
     → Landed t u e (record { page = q; frame = token.number }) xs (record { page = q; token = token }) fs
 landed_by t u e xs q token fs x place texts free s m l is turns core rest heads =
     let f : ℕ = token.number in
@@ -193,13 +194,15 @@ first_flight t e xs q token fs k =
     (landing_state (placement_of (closing t e (record { page = q; frame = token.number } ∷ xs) (record { page = q; token = token } ∷ fs))) e (record { page = q; frame = token.number })
     (record { errand = e; parts = xs } ∷ map transfer_shown t.ring) k.owns (record { parts = refl }))
 
-pub text_mark : (t : Lists) (q : Page) → IsThere (placement_of t) q → (i v : ℕ) → q ≡ Text i v → mark_of (placement_of t) q ≡ is_saved (text_of t.texts i) v
+pub text_mark : (t : Lists) (q : Page) → IsThere (placement_of t) q → (i v : ℕ) → q ≡ Text i v
+    → mark_of (placement_of t) q ≡ is_saved (text_numbered t.texts i) v
 text_mark t q there i v e =
-    subst (λ (r : Page). IsThere (placement_of t) r → mark_of (placement_of t) r ≡ is_saved (text_of t.texts i) v) (sym e) (λ h. ap (λ (s : Slot). s.mark) (text_at t i v (text_within t i v h))) there
+    subst (λ (r : Page). IsThere (placement_of t) r → mark_of (placement_of t) r ≡ is_saved (text_numbered t.texts i) v) (sym e)
+    (λ h. ap (λ (s : Slot). s.mark) (text_at t i v (text_within t i v h))) there
 
 pub seat_lands : (t u : Tables) (b : Bool) (demanded : Page) (xs : List Part) (q : Page) (token : Frame) (fs : List Flown) → same_page q demanded ≡ true
     → Known (closing t (Reads (source_by b) demanded) (record { page = q; frame = token.number } ∷ xs) (record { page = q; token = token } ∷ fs))
-    → SeatedPage t u token q (arrives_dirty t.texts q b) → IsSound u.core.free u.core.slots
+    → SeatedPage t u token q (arrives_dirty t.texts q b) → IsSoundMap u.core.free u.core.slots
     → Landed t u (Reads (source_by b) demanded) (record { page = q; frame = token.number }) xs (record { page = q; token = token }) fs
 seat_lands t u b demanded xs q token fs same k s core =
     let e : Errand = Reads (source_by b) demanded in
@@ -238,7 +241,7 @@ seat_lands t u b demanded xs q token fs same k s core =
 
 pub rest_lands : (t u : Tables) (b : Bool) (demanded : Page) (xs : List Part) (q : Page) (token : Frame) (fs : List Flown) → same_page q demanded ≡ false
     → Known (closing t (Reads (source_by b) demanded) (record { page = q; frame = token.number } ∷ xs) (record { page = q; token = token } ∷ fs))
-    → RestedPage t u token q → IsSound u.core.free u.core.slots
+    → RestedPage t u token q → IsSoundMap u.core.free u.core.slots
     → Landed t u (Reads (source_by b) demanded) (record { page = q; frame = token.number }) xs (record { page = q; token = token }) fs
 rest_lands t u b demanded xs q token fs same k s core =
     let e : Errand = Reads (source_by b) demanded in
@@ -277,7 +280,7 @@ rest_lands t u b demanded xs q token fs same k s core =
 
 pub read_lands : (t u : Tables) (b : Bool) (demanded : Page) (xs : List Part) (q : Page) (token : Frame) (fs : List Flown)
     → Known (closing t (Reads (source_by b) demanded) (record { page = q; frame = token.number } ∷ xs) (record { page = q; token = token } ∷ fs))
-    → LandedIn (same_page q demanded) t u token q (arrives_dirty t.texts q b) → IsSound u.core.free u.core.slots
+    → LandedIn (same_page q demanded) t u token q (arrives_dirty t.texts q b) → IsSoundMap u.core.free u.core.slots
     → Landed t u (Reads (source_by b) demanded) (record { page = q; frame = token.number }) xs (record { page = q; token = token }) fs
 read_lands t u b demanded xs q token fs k l core = go (same_page q demanded) refl l
   where
@@ -288,7 +291,7 @@ read_lands t u b demanded xs q token fs k l core = go (same_page q demanded) ref
 
 pub write_lands : (t u : Tables) (xs : List Part) (q : Page) (token : Frame) (fs : List Flown) → ((i v : ℕ) → q ≡ Text i v → (1 ≤ i) × (i ≤ 16) × (v < 2048))
     → Known (closing t Writes (record { page = q; frame = token.number } ∷ xs) (record { page = q; token = token } ∷ fs)) → LandedOut t u token q
-    → IsSound u.core.free u.core.slots
+    → IsSoundMap u.core.free u.core.slots
     → Landed t u Writes (record { page = q; frame = token.number }) xs (record { page = q; token = token }) fs
 write_lands t u xs q token fs low k s core =
     let f : ℕ = token.number in
@@ -314,7 +317,7 @@ write_lands t u xs q token fs low k s core =
       filling = λ y. refl;
       shows = λ free rest. rested_shown (landed was q f x (places.Frame f false false) free texts rest (fs ++ flown t.ring)) q f (written_mark q)
           (ap is_away (get_or-set_same t.core.slots f x tokens.Away g.below)) (written_clean q)
-          (λ i v e. subst (λ (r : Page). written_mark r ≡ is_saved (text_of (saved_texts t.texts r) i) v) (sym e) (sym (save_marked t.texts i v (s.table i v e) (low i v e))));
+          (λ i v e. subst (λ (r : Page). written_mark r ≡ is_saved (text_numbered (saved_texts t.texts r) i) v) (sym e) (sym (save_marked t.texts i v (s.table i v e) (low i v e))));
     })
     (ap (λ (z : Tables). closing z Writes xs fs) s.rest
     ∙ ap (λ (z : List Token). record (closing t Writes xs fs) { slots = z; free = u.core.free; spaces = u.spaces; texts = u.texts }) s.slots
@@ -368,13 +371,13 @@ may_write t xs rest x e k = may_land t Writes (map out_part rest) x.page x.token
 -- The loops.
 
 pub reads_step : (t u : Tables) (b : Bool) (demanded : Page) (xs rest : List Inbound) (x : Inbound) → xs ≡ x ∷ rest → Known (closing_in t b demanded xs)
-    → LandedIn (same_page x.page demanded) t u x.token x.page (arrives_dirty t.texts x.page b) → IsSound u.core.free u.core.slots
+    → LandedIn (same_page x.page demanded) t u x.token x.page (arrives_dirty t.texts x.page b) → IsSoundMap u.core.free u.core.slots
     → Landed t u (Reads (source_by b) demanded) (in_part x) (map in_part rest) (inbound_flown x) (map inbound_flown rest)
 reads_step t u b demanded xs rest x e k l core =
     read_lands t u b demanded (map in_part rest) x.page x.token (map inbound_flown rest) (subst (λ (ys : List Inbound). Known (closing_in t b demanded ys)) e k) l core
 
 pub writes_step : (t u : Tables) (xs rest : List Outbound) (x : Outbound) → xs ≡ x ∷ rest → Known (closing_out t xs) → LandedOut t u x.token x.page
-    → IsSound u.core.free u.core.slots
+    → IsSoundMap u.core.free u.core.slots
     → Landed t u Writes (out_part x) (map out_part rest) (outbound_flown x) (map outbound_flown rest)
 writes_step t u xs rest x e k l core =
     write_lands t u (map out_part rest) x.page x.token (map outbound_flown rest) (may_write t xs rest x e k).texts (subst (λ (ys : List Outbound). Known (closing_out t ys)) e k) l core

@@ -10,8 +10,8 @@ use Rattle.vax_pte.specs.declared.Place.{Place}
 use Rattle.frame_state.specs.Frame.{Frame}
 use Rattle.core_map.specs.declared.slot.Slot.{Slot as Token}
 use Rattle.core_map.specs.declared.slot.Slot.TheVariants as tokens
-use Rattle.core_map.specs.Slots.{slot_at, page_of as token_page}
-use Rattle.text_table.specs.Texts.{is_saved, text_of, Text as SharedText}
+use Rattle.core_map.specs.Slots.{slot_at, slot_page as token_page}
+use Rattle.text_table.specs.Texts.{is_saved, text_numbered, Text as SharedText}
 use Rattle.page_model.specs.Pages.{Slot, Filling, Zeros, frame_of, filling_behind}
 use Rattle.page_model.specs.Placement.{Placement, Transfer, slot_of, state_of, page_of, IsThere, put}
 use Rattle.page_model.specs.Moves.{turn}
@@ -43,8 +43,8 @@ pub record Landing (t : Lists) (q : Page) (f : ℕ) (token : Frame) (rest : List
   pub first : t.flown ≡ record { page = q; token = token } ∷ rest
   pub holds : token_page x ≡ Some q
   pub bytes : (o : Option Flown) → bytes_by x o ≡ token.bytes
-  pub saved : (image v : ℕ) → Text image v ≢ q → 1 ≤ image → is_saved (text_of texts image) v ≡ is_saved (text_of t.texts image) v
-  pub counts : (image : ℕ) → (text_of texts image).sharers ≡ (text_of t.texts image).sharers
+  pub saved : (image v : ℕ) → Text image v ≢ q → 1 ≤ image → is_saved (text_numbered texts image) v ≡ is_saved (text_numbered t.texts image) v
+  pub counts : (image : ℕ) → (text_numbered texts image).sharers ≡ (text_numbered t.texts image).sharers
   pub marks : (a : Frame) (r : Page) (mark : Bool) → x ≡ tokens.Resident a r mark → (r ≡ q) × (mark ≡ placed_mark texts place q)
   pub fits : FitsPage q place
   pub filling : (y : Filling) → filling_behind s y ≡ Zeros

@@ -9,11 +9,11 @@ use Rattle.vax_pte.specs.declared.Place.TheVariants as places
 use Rattle.frame_state.specs.Frame.{Frame}
 use Rattle.core_map.specs.declared.slot.Slot.{Slot as Token}
 use Rattle.core_map.specs.declared.slot.Slot.TheVariants as tokens
-use Rattle.core_map.specs.Slots.{slot_at, token_of, page_of as token_page}
-use Rattle.core_map.specs.Frames.{IsSound}
+use Rattle.core_map.specs.Slots.{slot_at, token_of, slot_page as token_page}
+use Rattle.core_map.specs.Frames.{IsSoundMap}
 use Rattle.space_map.specs.Space.{Places}
 use Rattle.swap_book.specs.Holdings.{Holdings}
-use Rattle.text_table.specs.Texts.{is_saved, text_of}
+use Rattle.text_table.specs.Texts.{is_saved, text_numbered}
 use Rattle.transfer_ring.specs.declared.transfer.Outbound.{Outbound}
 use Rattle.transfer_ring.specs.Sound.{outbound_pages}
 use Rattle.flat_state.specs.PageNames.{beside, pages_from}
@@ -66,9 +66,9 @@ going_shown : (t n : Lists) (q : Page) (f : ℕ) → n.texts ≡ t.texts → slo
     → is_dirty (placement_of t) q ≡ true
     → page_shown n q (places.Frame f false true) ≡ record { state = Going f; mark = mark_of (placement_of t) q; filling = Zeros }
 going_shown t n (Text i v) f e a there d =
-    ap (λ (s : Token). let z : Slot = record { state = idle_state f (is_away s) true; mark = is_saved (text_of n.texts i) v; filling = Zeros } in z) a
+    ap (λ (s : Token). let z : Slot = record { state = idle_state f (is_away s) true; mark = is_saved (text_numbered n.texts i) v; filling = Zeros } in z) a
     ∙ ap (λ (b : Bool). let z : Slot = record { state = Going f; mark = b; filling = Zeros } in z)
-    (ap (λ (x : List Rattle.text_table.specs.Texts.Text). is_saved (text_of x i) v) e ∙ sym (ap (λ (y : Slot). y.mark) (text_at t i v (text_within t i v there))))
+    (ap (λ (x : List Rattle.text_table.specs.Texts.Text). is_saved (text_numbered x i) v) e ∙ sym (ap (λ (y : Slot). y.mark) (text_at t i v (text_within t i v there))))
 going_shown t n _ f e a there d =
     ap (λ (s : Token). let z : Slot = record { state = idle_state f (is_away s) true; mark = true; filling = Zeros } in z) a
     ∙ ap (λ (b : Bool). let z : Slot = record { state = Going f; mark = b; filling = Zeros } in z) (sym d)
@@ -127,7 +127,7 @@ launch_is t q f k r dirty =
     ∙ sym (launch_as (placement_of t) q f r.valid (resides_state t q f r))
 
 pub launch_known : (t : Lists) (q : Page) (f : ℕ) → Known t → (r : Resides t q f) → is_dirty (placement_of t) q ≡ true → IsOpen t.transfers Writes
-    → IsSound t.free (set t.slots f tokens.Away)
+    → IsSoundMap t.free (set t.slots f tokens.Away)
     → Known (launched t q f r.token (join_last t.transfers Writes (record { page = q; frame = f })))
 launch_known t q f k r dirty latest core =
     let p : Placement = placement_of t in
@@ -195,7 +195,7 @@ pub record Launched (t u : Tables) (xs : List Outbound) (q : Page) (x : Outbound
 
 pub launched_by : (t u : Tables) (xs : List Outbound) (q : Page) (f : ℕ) (x : Outbound) (lo m : ℕ) → MayLaunch (launching t xs) q lo (suc m)
     → (r : Resides (launching t xs) (beside q lo) f)
-    → LaunchedPage t u (beside q lo) f x → IsSound u.core.free u.core.slots → Launched t u xs q x lo m
+    → LaunchedPage t u (beside q lo) f x → IsSoundMap u.core.free u.core.slots → Launched t u xs q x lo m
 launched_by t u xs q f x lo m may r b core =
     let l : Lists = launching t xs in
     let p : Placement = placement_of l in
@@ -207,7 +207,8 @@ launched_by t u xs q f x lo m may r b core =
     let place : placement_of (launching u (xs ++ x ∷ [])) ≡ launch p v = ap placement_of step ∙ launch_is l v f may.known r may.dirty.0 in
     let d = launches l v f ts may.known r may.dirty.0 in
     let heads : map head_of n.spaces ≡ map head_of l.spaces = turn_heads l n v f (places.Frame f false true) (Going f) (mark_of p v) d in
-    let sound : IsSound t.core.free (set t.core.slots f tokens.Away) = subst (λ (ss : List Token). IsSound t.core.free ss) b.slots (subst (λ (fs : List ℕ). IsSound fs u.core.slots) b.free core) in
+    let sound : IsSoundMap t.core.free (set t.core.slots f tokens.Away) =
+    subst (λ (ss : List Token). IsSoundMap t.core.free ss) b.slots (subst (λ (fs : List ℕ). IsSoundMap fs u.core.slots) b.free core) in
     record {
       place = place;
       frames = ap frames_of step ∙ turn_frames l n v f (places.Frame f false true) (Going f) (mark_of p v) d;
@@ -291,7 +292,7 @@ first_resides t xs q v lo n m e is may =
 
 pub launched_first : (t u : Tables) (xs : List Outbound) (q v : Page) (x : Outbound) (lo n m : ℕ) → n ≡ suc m → v ≡ beside q lo
     → MayLaunch (launching t xs) q lo n
-    → LaunchedPage t u v (frame_named (entry_in t.spaces v)) x → IsSound u.core.free u.core.slots → Launched t u xs q x lo m
+    → LaunchedPage t u v (frame_named (entry_in t.spaces v)) x → IsSoundMap u.core.free u.core.slots → Launched t u xs q x lo m
 launched_first t u xs q v x lo n m e is may b core =
     launched_by t u xs q (frame_named (entry_in t.spaces (beside q lo))) x lo m (subst (MayLaunch (launching t xs) q lo) e may)
     (first_resides t xs q (beside q lo) lo n m e refl may)

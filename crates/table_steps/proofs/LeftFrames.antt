@@ -9,7 +9,7 @@ use Rattle.frame_state.specs.Frame.{Frame}
 use Rattle.core_map.specs.declared.slot.Slot.{Slot as Token}
 use Rattle.core_map.specs.declared.slot.Slot.TheVariants as tokens
 use Rattle.core_map.specs.declared.slot.Whose.TheVariants as owners
-use Rattle.core_map.specs.Slots.{slot_at, page_of as token_page, token_of, owner_of, listings}
+use Rattle.core_map.specs.Slots.{slot_at, slot_page as token_page, token_of, slot_owner, listings}
 use Rattle.vm_facts.specs.Lists.{times}
 use Rattle.vm_facts.proofs.Lists.{times-append}
 use Rattle.page_laws.proofs.Lists.Frames.{times_one}
@@ -261,7 +261,7 @@ pub found_none : (map : Frames) (q : Page) → ((g : ℕ) → token_page (slot_a
 found_none map q h = sym (left_none map q (holding_none map.slots q h))
 
 pub found_idle : (map : Frames) (q : Page) (f : ℕ) → AreApart map.slots → token_page (slot_at map.slots f) ≡ Some q
-    → ((page : Page) → owner_of (slot_at map.slots f) ≢ owners.Resident page) → map ≡ left_page map q
+    → ((page : Page) → slot_owner (slot_at map.slots f) ≢ owners.Resident page) → map ≡ left_page map q
 found_idle map q f u e n = go (slot_at map.slots f) refl
   where
     found : frame_holding map.slots q ≡ Some f
@@ -269,14 +269,14 @@ found_idle map q f u e n = go (slot_at map.slots f) refl
 
     go : (s : Token) → slot_at map.slots f ≡ s → map ≡ left_page map q
     go (tokens.Free token page) k = sym (left_some map q f (tokens.Free token page) found k)
-    go (tokens.Resident token page dirty) k = absurd (n page (ap owner_of k))
+    go (tokens.Resident token page dirty) k = absurd (n page (ap slot_owner k))
     go tokens.Away k = sym (left_some map q f tokens.Away found k)
 
 frames_ext : (a b : Frames) → a.free ≡ b.free → a.slots ≡ b.slots → a ≡ b
 frames_ext a b e k = ap (λ (x : List ℕ). record a { free = x }) e ∙ ap (λ (x : List Token). record b { slots = x }) k
 
 pub found_resident : (map lifted next : Frames) (token given : Frame) (page q : Page) (f : ℕ) → AreApart map.slots
-    → token_page (slot_at map.slots f) ≡ Some q → owners.Resident page ≡ owner_of (slot_at map.slots f)
+    → token_page (slot_at map.slots f) ≡ Some q → owners.Resident page ≡ slot_owner (slot_at map.slots f)
     → token ≡ token_of (slot_at map.slots f) → token.number ≡ f → lifted.free ≡ map.free → lifted.slots ≡ set map.slots f tokens.Away → given ≡ token
     → next.free ≡ lifted.free ++ given.number ∷ [] → next.slots ≡ set lifted.slots given.number (tokens.Free given (Some page)) → next ≡ left_page map q
 found_resident map lifted next token given page q f u e o t n lf ls g nf ns = go (slot_at map.slots f) refl
@@ -285,10 +285,10 @@ found_resident map lifted next token given page q f u e o t n lf ls g nf ns = go
     number = ap (λ (x : Frame). x.number) g ∙ n
 
     go : (s : Token) → slot_at map.slots f ≡ s → next ≡ left_page map q
-    go (tokens.Free a b) k = absurd (let z : owners.Resident page ≡ owners.Free b = o ∙ ap owner_of k in cc)
-    go tokens.Away k = absurd (let z : owners.Resident page ≡ owners.Away = o ∙ ap owner_of k in cc)
+    go (tokens.Free a b) k = absurd (let z : owners.Resident page ≡ owners.Free b = o ∙ ap slot_owner k in cc)
+    go tokens.Away k = absurd (let z : owners.Resident page ≡ owners.Away = o ∙ ap slot_owner k in cc)
     go (tokens.Resident a b d) k =
-        let same : page ≡ b = (let z : owners.Resident page ≡ owners.Resident b = o ∙ ap owner_of k in cc) in
+        let same : page ≡ b = (let z : owners.Resident page ≡ owners.Resident b = o ∙ ap slot_owner k in cc) in
         let is : given ≡ a = g ∙ t ∙ ap token_of k in
         frames_ext next (left_at map f (tokens.Resident a b d))
         (nf ∙ ap (λ (x : List ℕ). x ++ given.number ∷ []) lf ∙ ap (λ (m : ℕ). map.free ++ m ∷ []) number)

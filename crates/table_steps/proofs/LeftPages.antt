@@ -10,7 +10,7 @@ use Rattle.vm_facts.specs.Lists.{times}
 use Rattle.frame_state.specs.Frame.{Frame}
 use Rattle.core_map.specs.declared.slot.Slot.{Slot as Token}
 use Rattle.core_map.specs.declared.slot.Slot.TheVariants as tokens
-use Rattle.core_map.specs.Slots.{slot_at, page_of as token_page, listings}
+use Rattle.core_map.specs.Slots.{slot_at, slot_page as token_page, listings}
 use Rattle.core_map.specs.Frames.{Frames}
 use Rattle.flat_state.specs.PageNames.{beside, pages_from}
 use Rattle.page_model.specs.Pages.{Slot, Filling, Zeros, frame_of}

@@ -11,10 +11,10 @@ use Rattle.vax_pte.specs.declared.Place.{Place}
 use Rattle.vax_pte.specs.declared.Place.TheVariants as places
 use Rattle.aout_image.specs.Image.{text_pages_of}
 use Rattle.core_map.specs.declared.slot.Slot.{Slot as Token}
-use Rattle.core_map.specs.Slots.{slot_at, page_of as token_page}
+use Rattle.core_map.specs.Slots.{slot_at, slot_page as token_page}
 use Rattle.core_map.specs.Frames.{Frames}
 use Rattle.space_map.specs.Space.{Places, place_in}
-use Rattle.text_table.specs.Texts.{Text as SharedText, is_saved, text_of}
+use Rattle.text_table.specs.Texts.{Text as SharedText, is_saved, text_numbered}
 use Rattle.flat_state.specs.PageNames.{pages_from}
 use Rattle.page_model.specs.Pages.{Slot, Zeros, SpacePages, numbered}
 use Rattle.page_model.specs.Placement.{Placement, image_number, slots_of, slot_of, state_of}
@@ -82,13 +82,14 @@ module _ (l : Lists) (m : Frames) (sid : ℕ) (texts : List SharedText) (s : Sam
 
   -- a page of text whose entry and mark are the same
   pub same_text : (j v : ℕ) → (v < pages_in 1 j l.facts → entry_in (without_space sid l.spaces) (Text j v) ≡ entry_in l.spaces (Text j v))
-      → (v < pages_in 1 j l.facts → is_saved (text_of texts j) v ≡ is_saved (text_of l.texts j) v) → slot_of (placement_of (gone_to l m sid texts)) (Text j v) ≡ slot_of (placement_of l) (Text j v)
+      → (v < pages_in 1 j l.facts → is_saved (text_numbered texts j) v ≡ is_saved (text_numbered l.texts j) v)
+      → slot_of (placement_of (gone_to l m sid texts)) (Text j v) ≡ slot_of (placement_of l) (Text j v)
   same_text j v e k = elim (cases_lt v (pages_in 1 j l.facts)) [
     | inl b ↦
         text_at (gone_to l m sid texts) j v b
-        ∙ ap (λ (o : Option Place). text_shown m.slots (is_saved (text_of texts j) v) (text_place_by o m.slots (Text j v) v)) (e b)
+        ∙ ap (λ (o : Option Place). text_shown m.slots (is_saved (text_numbered texts j) v) (text_place_by o m.slots (Text j v) v)) (e b)
         ∙ ap (λ (x : Bool). text_shown m.slots x (text_place_by (entry_in l.spaces (Text j v)) m.slots (Text j v) v)) (k b)
-        ∙ ap (λ (x : PageState). let z : Slot = record { state = x; mark = is_saved (text_of l.texts j) v; filling = Zeros } in z) (state (entry_in l.spaces (Text j v)))
+        ∙ ap (λ (x : PageState). let z : Slot = record { state = x; mark = is_saved (text_numbered l.texts j) v; filling = Zeros } in z) (state (entry_in l.spaces (Text j v)))
         ∙ sym (text_at l j v b)
     | inr b ↦ text_past (gone_to l m sid texts) j v b ∙ sym (text_past l j v b)
   ]
@@ -100,12 +101,12 @@ module _ (l : Lists) (m : Frames) (sid : ℕ) (texts : List SharedText) (s : Sam
 
   -- a page of text that no space shares any more, of which nothing is saved
   pub left_text : (i v : ℕ) → v < pages_in 1 i l.facts → entry_in (without_space sid l.spaces) (Text i v) ≡ None
-      → is_saved (text_of texts i) v ≡ false
+      → is_saved (text_numbered texts i) v ≡ false
       → ((f : ℕ) → token_page (slot_at l.slots f) ≡ Some (Text i v) → is_away (slot_at l.slots f) ≡ false)
       → slot_of (placement_of (gone_to l m sid texts)) (Text i v) ≡ rest_slot (frame_holding l.slots (Text i v))
   left_text i v b e k here =
       text_at (gone_to l m sid texts) i v b
-      ∙ ap (λ (o : Option Place). text_shown m.slots (is_saved (text_of texts i) v) (text_place_by o m.slots (Text i v) v)) e
+      ∙ ap (λ (o : Option Place). text_shown m.slots (is_saved (text_numbered texts i) v) (text_place_by o m.slots (Text i v) v)) e
       ∙ ap (λ (x : Bool). text_shown m.slots x (cached_place m.slots (Text i v) v)) k
       ∙ ap (λ (x : PageState). let z : Slot = record { state = x; mark = false; filling = Zeros } in z)
       (ap (λ (o : Option ℕ). state_shown m.slots (cached_by o v)) (same_found l.slots m.slots (Text i v) s) ∙ same_state l.slots m.slots s (cached_place l.slots (Text i v) v)

@@ -4,8 +4,8 @@ use Rattle.std.proofs.lemmas.List.{map-append}
 use Rattle.vm_facts.specs.declared.page.Page.{Page}
 use Rattle.core_map.specs.declared.slot.Slot.{Slot as Token}
 use Rattle.core_map.specs.declared.slot.Slot.TheVariants as tokens
-use Rattle.core_map.specs.Slots.{slot_at, page_of as token_page}
-use Rattle.core_map.specs.Frames.{IsSound}
+use Rattle.core_map.specs.Slots.{slot_at, slot_page as token_page}
+use Rattle.core_map.specs.Frames.{IsSoundMap}
 use Rattle.space_map.specs.Space.{Places}
 use Rattle.transfer_ring.specs.declared.transfer.Inbound.{Inbound}
 use Rattle.flat_state.specs.PageNames.{pages_from, beside}
@@ -67,7 +67,7 @@ pub record Brings (t u : Tables) (xs : List Inbound) (s : Source) (q : Page) (x 
   pub may : MayBring (opened u (xs ++ x ∷ []) s q) q (lo + 1) m
 
 pub brings : (t u : Tables) (xs : List Inbound) (s : Source) (q : Page) (b : Bool) (x : Inbound) (lo m : ℕ) → x.page ≡ beside q lo
-    → BroughtPage t u x.page b x → IsSound u.core.free u.core.slots
+    → BroughtPage t u x.page b x → IsSoundMap u.core.free u.core.slots
     → MayBring (opened t xs s q) q lo (suc m) → Brings t u xs s q x lo m
 brings t u xs s q c x lo m is b core may =
     let l : Lists = opened t xs s q in
@@ -77,7 +77,7 @@ brings t u xs s q c x lo m is b core may =
     let sh : IsShared (placement_of l) x.page = subst (IsShared (placement_of l)) (sym is) may.shared.0 in
     let step = opened_step t u xs s q c x b in
     let latest : IsOpen l.transfers e = open_last (map transfer_shown t.ring) e (map in_part xs) in
-    let sound : IsSound u.core.free (set t.core.slots x.token.number tokens.Away) = subst (IsSound u.core.free) b.slots core in
+    let sound : IsSoundMap u.core.free (set t.core.slots x.token.number tokens.Away) = subst (IsSoundMap u.core.free) b.slots core in
     let place : placement_of (opened u (xs ++ x ∷ []) s q) ≡ get_one (placement_of l) e (beside q lo) =
     ap placement_of step ∙ come_is l (token_page (slot_at t.core.slots x.token.number)) u.core.free x.token x.token x.page e may.known h sh can ∙ ap (get_one (placement_of l) e) is in
     record {

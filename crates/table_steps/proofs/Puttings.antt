@@ -29,7 +29,7 @@ use Rattle.kernel_tables.specs.View.{Lists, Flown, out_part, outbound_flown, tra
 use Rattle.kernel_tables.specs.Tied.{Tied}
 use Rattle.kernel_tables.specs.Known.{Known}
 use Rattle.kernel_tables.specs.Machine.{lists_of, image_at}
-use Rattle.kernel_tables.specs.Launches.{launching, IsOwnWrite, MayRetire, MayWrite, MayPutOut, HasBlocks, MovedOn, put_out}
+use Rattle.kernel_tables.specs.Launches.{launching, IsOwnWrite, MayRetire, MayWriteRun, MayPutOut, HasBlocks, MovedOn, put_out}
 use Rattle.table_steps.proofs.Gets.{flown-append}
 use Rattle.table_steps.proofs.Residing.{Resides, seat_resides}
 use Rattle.table_steps.proofs.Launchings.{begun_place, begun_frames, named_resides}
@@ -90,7 +90,7 @@ pub put_some : (p : Placement) (q : Page) (lo n : ℕ) → 0 < n → put_out p q
 put_some p q lo zero l = absurd (omega arith)
 put_some p q lo (suc m) l = refl
 
-pub may_write : (p : Placement) (q : Page) (lo n : ℕ) → 0 < n → MayPutOut p q lo n → MayWrite p q lo n
+pub may_write : (p : Placement) (q : Page) (lo n : ℕ) → 0 < n → MayPutOut p q lo n → MayWriteRun p q lo n
 may_write p q lo zero l h = absurd (omega arith)
 may_write p q lo (suc m) l h = h
 
@@ -116,7 +116,7 @@ pub push_is : (p : Placement) (q : Page) (n : ℕ) (d : Bool) → is_dirty p q �
 push_is p q n true e l = put_some p q (number_of q) n l ∙ sym (ap (put_by p q (pages_from q (number_of q) n)) e)
 push_is p q n false e l = sym (ap (put_by p q (pages_from q (number_of q) n)) e)
 
-put_may : (p : Placement) (q : Page) (lo n : ℕ) → 0 < n → MayWrite p q lo n → MayPutOut p q lo n
+put_may : (p : Placement) (q : Page) (lo n : ℕ) → 0 < n → MayWriteRun p q lo n → MayPutOut p q lo n
 put_may p q lo zero l h = absurd (omega arith)
 put_may p q lo (suc m) l h = h
 

@@ -12,10 +12,10 @@ use Rattle.vax_pte.specs.declared.Place.{Place}
 use Rattle.vax_pte.specs.declared.Place.TheVariants as places
 use Rattle.core_map.specs.declared.slot.Slot.{Slot as Token}
 use Rattle.core_map.specs.declared.slot.Slot.TheVariants as tokens
-use Rattle.core_map.specs.Slots.{slot_at, page_of as token_page}
+use Rattle.core_map.specs.Slots.{slot_at, slot_page as token_page}
 use Rattle.vm_facts.specs.Lists.{without}
 use Rattle.space_map.specs.Space.{Places}
-use Rattle.text_table.specs.Texts.{is_saved, text_of}
+use Rattle.text_table.specs.Texts.{is_saved, text_numbered}
 use Rattle.page_model.specs.Pages.{Slot, Zeros, frame_of}
 use Rattle.page_model.specs.Placement.{Placement, slot_of, state_of, mark_of, page_of, IsThere, put}
 use Rattle.page_model.specs.Moves.{reclaim, reclaim_to}
@@ -107,8 +107,8 @@ invalid_entry t q f k sh e = go q sh e (page_in (placement_of t) q f (ap frame_o
               (ap changed_named (h ∙ ap (λ (y : Place). Some y) d.1) ∙ sym (ap (λ (y : Slot). y.mark) was ∙ ap changed_shown d.1));
         }
     go (Text a v) s i th x h =
-        let was : slot_of (placement_of t) (Text a v) ≡ text_shown t.slots (is_saved (text_of t.texts a) v) x =
-        text_at t a v (text_within t a v th) ∙ ap (λ (o : Option Place). text_shown t.slots (is_saved (text_of t.texts a) v) (text_place_by o t.slots (Text a v) v)) h in
+        let was : slot_of (placement_of t) (Text a v) ≡ text_shown t.slots (is_saved (text_numbered t.texts a) v) x =
+        text_at t a v (text_within t a v th) ∙ ap (λ (o : Option Place). text_shown t.slots (is_saved (text_numbered t.texts a) v) (text_place_by o t.slots (Text a v) v)) h in
         let d = idle_is t.slots x f (sym (ap (λ (y : Slot). y.state) was) ∙ i) in
         record {
           changed = d.0;

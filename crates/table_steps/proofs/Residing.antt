@@ -9,8 +9,8 @@ use Rattle.vax_pte.specs.declared.Place.TheVariants as places
 use Rattle.frame_state.specs.Frame.{Frame}
 use Rattle.core_map.specs.declared.slot.Slot.{Slot as Token}
 use Rattle.core_map.specs.declared.slot.Slot.TheVariants as tokens
-use Rattle.core_map.specs.Slots.{slot_at, page_of as token_page, listings, number_of}
-use Rattle.text_table.specs.Texts.{is_saved, text_of}
+use Rattle.core_map.specs.Slots.{slot_at, slot_page as token_page, listings, slot_number}
+use Rattle.text_table.specs.Texts.{is_saved, text_numbered}
 use Rattle.vm_facts.specs.Lists.{times}
 use Rattle.page_model.specs.Pages.{Slot, frame_of}
 use Rattle.page_model.specs.Placement.{Placement, slot_of, state_of, page_of, IsThere, sharers, parts_of, flying}
@@ -39,7 +39,7 @@ pub entry_shown : (t : Lists) (q : Page) (x : Place) → AllDistinct (sids_of t.
     → slot_of (placement_of t) q ≡ page_shown t q x
 entry_shown t (Data n v) x d th e = data_shown t.slots t.spaces n v d ∙ ap (slot_or (slot_shown t.slots)) e
 entry_shown t (Stack n v) x d th e = stack_shown t.slots t.spaces n v d ∙ ap (slot_or (slot_shown t.slots)) e
-entry_shown t (Text i v) x d th e = text_at t i v (text_within t i v th) ∙ ap (λ (o : Option Place). text_shown t.slots (is_saved (text_of t.texts i) v) (text_place_by o t.slots (Text i v) v)) e
+entry_shown t (Text i v) x d th e = text_at t i v (text_within t i v th) ∙ ap (λ (o : Option Place). text_shown t.slots (is_saved (text_numbered t.texts i) v) (text_place_by o t.slots (Text i v) v)) e
 
 pub shown_state : (t : Lists) (q : Page) (x : Place) → (page_shown t q x).state ≡ state_shown t.slots x
 shown_state t (Data n v) x = refl
@@ -98,7 +98,7 @@ resides t q f token dirty k h =
       token = token;
       dirty = dirty;
       slot = h;
-      number = sym (ap (λ (s : Token). number_of s f) h) ∙ k.core.numbered f;
+      number = sym (ap (λ (s : Token). slot_number s f) h) ∙ k.core.numbered f;
       above = above_zero t.free t.slots f k.core on;
       below = below_length t.slots f on;
       unlisted = off;

@@ -9,7 +9,7 @@ use Rattle.vax_pte.specs.declared.Place.TheVariants as places
 use Rattle.frame_state.specs.Frame.{Frame}
 use Rattle.core_map.specs.declared.slot.Slot.{Slot as Token}
 use Rattle.core_map.specs.declared.slot.Slot.TheVariants as tokens
-use Rattle.core_map.specs.Slots.{slot_at, token_of, page_of as token_page}
+use Rattle.core_map.specs.Slots.{slot_at, token_of, slot_page as token_page}
 use Rattle.space_map.specs.Space.{Places}
 use Rattle.page_model.specs.Placement.{Placement, state_of, mark_of}
 use Rattle.page_model.specs.Moves.{turn, retire, retire_to}

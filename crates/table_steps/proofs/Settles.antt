@@ -144,7 +144,7 @@ settled_none t sid k e m =
     ∙ ap (λ (n : ℕ). not ((n == 1) && names_page (is_of_text 0) (parts_of (map transfer_shown t.ring)))) (none_shares (lists_of t).facts t.core.slots t.spaces k.filled)
 
 pub settled_text : (t : Tables) (sid i count : ℕ) → Tied (lists_of t) → list_any (names_space sid) t.ring ≡ false → image_found t.spaces sid ≡ Some i
-    → count ≡ (Rattle.text_table.specs.Texts.text_of t.texts i).sharers
+    → count ≡ (Rattle.text_table.specs.Texts.text_numbered t.texts i).sharers
     → is_settled (placement_of (lists_of t)) sid ≡ not ((count == 1) && list_any (names_text i) t.ring)
 settled_text t sid i count k e m c =
     let r = image_range t sid i k m in

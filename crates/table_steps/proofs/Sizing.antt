@@ -15,9 +15,9 @@ use Rattle.vax_pte.specs.declared.Place.TheVariants as places
 use Rattle.aout_image.specs.declared.Image.{Image}
 use Rattle.aout_image.specs.Image.{text_pages_of}
 use Rattle.core_map.specs.declared.slot.Slot.{Slot as Token}
-use Rattle.core_map.specs.Slots.{slot_at, page_of as token_page}
+use Rattle.core_map.specs.Slots.{slot_at, slot_page as token_page}
 use Rattle.space_map.specs.Space.{Places, resized, place_in}
-use Rattle.text_table.specs.Texts.{is_saved, text_of}
+use Rattle.text_table.specs.Texts.{is_saved, text_numbered}
 use Rattle.page_model.specs.Pages.{Slot, Zeros, SpacePages, TextPages, numbered, changed, with_data, with_stack, data_in, stack_in, frame_of}
 use Rattle.page_model.specs.Placement.{Placement, space_number, state_of, IsThere, image_in, sharers, sharers_in, unfilled, put}
 use Rattle.page_model.specs.Moves.{drop_at, drop_page, drop_all}
@@ -240,7 +240,8 @@ abbrev pub cut_lists : Lists → ℕ → ℕ → ℕ → Lists
 cut_lists t i d s = record t { spaces = with_sizes_at t.spaces i d s }
 
 text_slot_stays : (t : Lists) (i d s image v : ℕ) → text_slot (cut_lists t i d s) image v ≡ text_slot t image v
-text_slot_stays t i d s image v = ap (λ (o : Option Place). text_shown t.slots (is_saved (text_of t.texts image) v) (text_place_by o t.slots (Text image v) v)) (text_stays t.spaces i d s image v)
+text_slot_stays t i d s image v =
+    ap (λ (o : Option Place). text_shown t.slots (is_saved (text_numbered t.texts image) v) (text_place_by o t.slots (Text image v) v)) (text_stays t.spaces i d s image v)
 
 texts_stay : (t : Lists) (i d s n : ℕ) (facts : List Image) → texts_of (cut_lists t i d s) n facts ≡ texts_of t n facts
 texts_stay t i d s n [] = refl

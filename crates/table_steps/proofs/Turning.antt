@@ -6,7 +6,7 @@ use Rattle.vm_facts.specs.declared.page.Page.TheVariants.{Text}
 use Rattle.vm_facts.specs.declared.page.PageState.{PageState}
 use Rattle.vax_pte.specs.declared.Place.{Place}
 use Rattle.core_map.specs.Slots.{slot_at}
-use Rattle.text_table.specs.Texts.{is_saved, text_of, Text as SharedText}
+use Rattle.text_table.specs.Texts.{is_saved, text_numbered, Text as SharedText}
 use Rattle.page_model.specs.Pages.{Slot, Filling, Zeros, frame_of, filling_behind}
 use Rattle.page_model.specs.Placement.{Placement, slot_of, state_of, page_of, put}
 use Rattle.page_model.specs.Moves.{turn}
@@ -72,7 +72,7 @@ turn_is t n q f place s m d =
       slots = d.others;
       cached = d.cached;
       spaces = d.spaces;
-      saved = λ i v x l. ap (λ (ts : List SharedText). is_saved (text_of ts i) v) d.texts;
+      saved = λ i v x l. ap (λ (ts : List SharedText). is_saved (text_numbered ts i) v) d.texts;
       facts = d.facts;
       there = there;
       entry = shared_entry t q d.known.tied d.shared there;
@@ -103,8 +103,8 @@ turn_tied t n q f place s m d = tied_still t n (record {
   entries = λ r h. subst_spaces (λ (ss : List Places). Rattle.std.proofs.Common.IsSome (entry_in ss r)) (still_there t.spaces q r place h);
   alike = λ h. subst_spaces AreAlike (placed_alike t.spaces q place h);
   filled = λ h. subst_spaces (EachSpace (IsFilled t.facts)) (placed_filled t.facts t.spaces q place d.fits h);
-  counts = λ i. ap (λ (ts : List SharedText). (text_of ts i).sharers) d.texts;
-  marked = λ k. marks_placed t n q f place (texts_here t d.known) d.others d.spaces (λ i v x l. ap (λ (ts : List SharedText). is_saved (text_of ts i) v) d.texts) (alone_in t q f d.known d.named)
+  counts = λ i. ap (λ (ts : List SharedText). (text_numbered ts i).sharers) d.texts;
+  marked = λ k. marks_placed t n q f place (texts_here t d.known) d.others d.spaces (λ i v x l. ap (λ (ts : List SharedText). is_saved (text_numbered ts i) v) d.texts) (alone_in t q f d.known d.named)
       (λ a r mark h. let y = d.marks k a r mark h in
       Rattle.std.proofs.Common.subst (λ (ss : List Places). mark ≡ dirty_shown ss n.texts r) (sym d.spaces)
       (Rattle.std.proofs.Common.subst (λ (ts : List SharedText). mark ≡ dirty_shown (map (placed q place) t.spaces) ts r) (sym d.texts)

@@ -26,16 +26,16 @@ use Rattle.kernel_tables.specs.Changing.{GaveUp, processes_in, process_in}
 use Rattle.kernel_tables.specs.Applying.{MayAct, IsWholeChange, leaves_space, makes_process}
 
 -- the placement that the tables stand for
-abbrev pub place_in : Tables → Placement
-place_in t = placement_of (lists_of t)
+abbrev pub placement_in : Tables → Placement
+placement_in t = placement_of (lists_of t)
 
 -- A space that a process leaves.
 
 -- a space that may be given up
 pub record MayGiveUp (t : Tables) (sid : ℕ) : Type 0 where
-  pub there : HasSpace (place_in t) sid
-  pub settled : IsSettled (place_in t) sid
-  pub forgets : CanForget (place_in t) sid
+  pub there : HasSpace (placement_in t) sid
+  pub settled : IsSettled (placement_in t) sid
+  pub forgets : CanForget (placement_in t) sid
 
 -- the space that a process leaves, if it leaves one, may be given up
 abbrev pub MayLeave : Tables → Option ℕ → Type 0
@@ -70,9 +70,9 @@ pub record MayApply (t : Tables) (pid : ℕ) (change : Change) : Type 0 where
   pub process : Proc
   pub there : process_in t pid ≡ Some process
   pub acts : MayAct process.life change
-  pub space : ReadySpace (place_in t) (space_of_life process.life) (gave_back process.life) change
-  pub can : CanChange (place_in t) (space_of_life process.life) (gave_back process.life) t.next_sid change
-  pub forgets : MayForget (lists_of t).facts (place_in t) (space_of_life process.life) (gave_back process.life) t.next_sid change
+  pub space : ReadySpace (placement_in t) (space_of_life process.life) (gave_back process.life) change
+  pub can : CanChange (placement_in t) (space_of_life process.life) (gave_back process.life) t.next_sid change
+  pub forgets : MayForget (lists_of t).facts (placement_in t) (space_of_life process.life) (gave_back process.life) t.next_sid change
   pub next : NamesNext t.next_pid change
   pub reaps : MayReap (processes_in t) change
   pub alone : leaves_space change ≡ true → has_lender (processes_in t) pid ≡ false
@@ -82,10 +82,11 @@ pub record MayApply (t : Tables) (pid : ℕ) (change : Change) : Type 0 where
 -- the tables are as the kernel is after the change, with what is known of them; the sizes, the images and the transfers
 -- in flight are as before
 pub record Applied (t u : Tables) (p : Proc) (since : ℕ) (change : Change) : Type 0 where
-  pub place : place_in u ≡ place_change (lists_of t).facts (place_in t) p.pid (space_of_life p.life) (gave_back p.life) t.next_sid since change
+  pub place : placement_in u ≡ place_change (lists_of t).facts (placement_in t) p.pid (space_of_life p.life) (gave_back p.life) t.next_sid since change
   pub frames : frames_of (lists_of u) ≡ frames_of (lists_of t)
   pub tied : Tied (lists_of u)
-  pub book : u.book ≡ with_holdings t.book (holdings_after t.book.holdings (place_in t) (place_in u) p.pid (space_of_life p.life) (gave_back p.life) change)
+  pub book : u.book
+      ≡ with_holdings t.book (holdings_after t.book.holdings (placement_in t) (placement_in u) p.pid (space_of_life p.life) (gave_back p.life) change)
   pub processes : processes_in u ≡ procs_after (processes_in t) p t.next_sid change
   pub records : AreRecords u.processes u.next_pid
   pub next_pid : u.next_pid ≡ pid_after t.next_pid change

@@ -5,7 +5,7 @@ use Rattle.vm_facts.specs.Lists.{without}
 use Rattle.vax_pte.specs.declared.Place.TheVariants as places
 use Rattle.core_map.specs.declared.slot.Slot.TheVariants as tokens
 use Rattle.core_map.specs.Slots.{slot_at, token_of}
-use Rattle.core_map.specs.Frames.{IsSound}
+use Rattle.core_map.specs.Frames.{IsSoundMap}
 use Rattle.kernel_tables.specs.declared.tables.Tables.{Tables}
 use Rattle.kernel_tables.specs.Shown.{placed}
 
@@ -13,6 +13,6 @@ use Rattle.kernel_tables.specs.Shown.{placed}
 pub record ForgotPage (t u : Tables) (q : Page) (f : ℕ) : Type 0 where
   pub free : u.core.free ≡ f ∷ without f t.core.free
   pub slots : u.core.slots ≡ slice_set t.core.slots f (tokens.Free (token_of (slot_at t.core.slots f)) None)
-  pub sound : IsSound u.core.free u.core.slots
+  pub sound : IsSoundMap u.core.free u.core.slots
   pub spaces : u.spaces ≡ map (placed q places.Zero) t.spaces
   pub rest : u ≡ record t { core = u.core; spaces = u.spaces }

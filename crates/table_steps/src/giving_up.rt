@@ -1,7 +1,7 @@
 //! Spaces that go, and text that nobody shares any more.
 ghost use Rattle.std.specs.Prelude.{◌≡◌, ◌<◌, ◌≤◌};
 ghost use Rattle.vm_facts.specs.declared.page.Page.TheVariants.{Text as TextPage};
-ghost use Rattle.text_table.specs.Texts.{text_of};
+ghost use Rattle.text_table.specs.Texts.{text_numbered};
 ghost use Rattle.page_model.specs.Conditions.{IsSettled, CanForget};
 ghost use Rattle.page_model.specs.Place.{pages_of_space};
 ghost use Rattle.kernel_model.specs.Asks.{HasSpace};
@@ -58,7 +58,7 @@ fn drop_space(tables: &mut Tables, sid: u32, index: usize)
 fn leave_text(tables: &mut Tables, image: u32, pages: u32)
     requires from_one { 1 ≤ image }
     requires to_last { image ≤ 16 }
-    requires shared { 0 < (text_of tables.old.texts image).sharers }
+    requires shared { 0 < (text_numbered tables.old.texts image).sharers }
     ensures { LeftText tables.old tables.new image pages }
 {
     tables.texts.leave(image);

@@ -1,7 +1,7 @@
 //! The pages of a transfer that was completed land.
 ghost use Rattle.std.specs.Prelude.{◌≡◌, ◌&&◌, ℕ, ◌<◌, ◌≤◌, ◌^◌, ◌∷◌, ◌++◌, [], map, false, Some, slice_set};
 ghost use Rattle.vm_facts.specs.declared.page.Page.TheVariants.{Text as TextPage};
-ghost use Rattle.text_table.specs.Texts.{IsTable};
+ghost use Rattle.text_table.specs.Texts.{IsTextTable};
 ghost use Rattle.core_map.specs.Frames.{IsAway, HoldsNot};
 ghost use Rattle.core_map.specs.declared.slot.Slot.TheVariants.{Free as FreeSlot};
 ghost use Rattle.vax_pte.specs.declared.Place.TheVariants.{Frame as FramePlace};
@@ -83,7 +83,7 @@ pub fn is_dirty(spaces: &Spaces, texts: &TextTable, page: Page) -> bool
 fn save_text(texts: &mut TextTable, page: Page)
     requires { (image v : ℕ) → page ≡ TextPage image v → (1 ≤ image) × (image ≤ 16) × (v < 2048) }
     ensures saved { texts.new ≡ saved_texts texts.old page }
-    ensures table { (image v : ℕ) → page ≡ TextPage image v → IsTable texts.old }
+    ensures table { (image v : ℕ) → page ≡ TextPage image v → IsTextTable texts.old }
 {
     match page {
         Page::Text { image, v } => {

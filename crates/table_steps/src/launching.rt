@@ -1,7 +1,7 @@
 //! Moves of the clock's hands, and writes that begin.
 ghost use Rattle.std.specs.Prelude.{◌≡◌, ℕ, ◌+◌, ◌-◌, ◌<◌, ◌≤◌, ◌^◌, ◌++◌, [], length, true, Some, IsSome, IsTrue, IfOk};
 ghost use Rattle.std.specs.Vec.{vec_len, vec_capacity};
-ghost use Rattle.core_map.specs.Slots.{slot_at, page_of as page_held, is_resident};
+ghost use Rattle.core_map.specs.Slots.{slot_at, slot_page as page_held, is_resident};
 ghost use Rattle.transfer_ring.specs.Sound.{outbound_pages};
 ghost use Rattle.flat_state.specs.PageNames.{pages_from, is_among};
 ghost use Rattle.page_model.specs.Frames.{next_frame};

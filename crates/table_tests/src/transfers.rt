@@ -1,7 +1,7 @@
 // Transfers in flight: that the calls that take memory succeed, what a caller does with the transfers, and that a device is
 // called once for each page, in rising order, up to the first call that fails.
 ghost use Rattle.std.specs.Prelude.{◌≡◌, ℕ, ◌<◌, ◌∷◌, ◌++◌, [], length, drop};
-ghost use Rattle.transfer_ring.specs.Sound.{AreReachable, IsBlock, IsReachable, IsRead, IsSource, IsThere, IsWrite};
+ghost use Rattle.transfer_ring.specs.Sound.{AreReachable, IsBlock, IsReachable, IsRead, IsSource, IsSourceThere, IsWrite};
 
 use frame_state::Free;
 use io_edge::{Files, Found, MemFiles, MemSwap, SwapDev};
@@ -15,7 +15,7 @@ use vm_facts::Page;
 fn read_from(rt: &impl Abort, alloc: Global, v: u32, source: Source) -> Transfer
     requires { IsSource source }
     ensures read { IsRead result }
-    ensures reachable { (holds : _) (blocks : ℕ) → IsThere holds blocks source → IsReachable holds blocks result }
+    ensures reachable { (holds : _) (blocks : ℕ) → IsSourceThere holds blocks source → IsReachable holds blocks result }
 {
     let page = Page::Data { sid: 1, v };
     let token = Free::make(alloc, 7)

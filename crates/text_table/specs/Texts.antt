@@ -20,12 +20,12 @@ unfoldable pub unused_texts : List Text
 unused_texts = replicate 16 unused_text
 
 -- the text of an image; images are numbered from 1
-abbrev pub text_of : List Text → ℕ → Text
-text_of texts image = slice_index_or texts (image - 1) unused_text
+abbrev pub text_numbered : List Text → ℕ → Text
+text_numbered texts image = slice_index_or texts (image - 1) unused_text
 
 -- the table with another text for one image
-abbrev pub with_text : List Text → ℕ → Text → List Text
-with_text texts image text = slice_set texts (image - 1) text
+abbrev pub table_with_text : List Text → ℕ → Text → List Text
+table_with_text texts image text = slice_set texts (image - 1) text
 
 -- page v of the text is saved
 abbrev pub is_saved : Text → ℕ → Bool
@@ -44,6 +44,6 @@ abbrev pub marked : Text → ℕ → Bool → Text
 marked text v mark = record text { saved = slice_set text.saved v mark }
 
 -- what holds of every table: there are 16 texts, each with a mark for each of 2,048 pages
-pub record IsTable (texts : List Text) : Type 0 where
+pub record IsTextTable (texts : List Text) : Type 0 where
   pub images : length texts ≡ 16
-  pub pages : (image : ℕ) → length (text_of texts image).saved ≡ 2048
+  pub pages : (image : ℕ) → length (text_numbered texts image).saved ≡ 2048

@@ -1,6 +1,6 @@
 // The table itself, over its entries.
 ghost use Rattle.std.specs.Prelude.{◌≡◌, ◌+◌, ◌-◌, ◌<◌, ◌≤◌, ◌^◌};
-ghost use Rattle.text_table.specs.Texts.{IsTable, unused_texts, text_of, with_text, is_saved, entered, left, marked};
+ghost use Rattle.text_table.specs.Texts.{IsTextTable, unused_texts, text_numbered, table_with_text, is_saved, entered, left, marked};
 
 use crate::entry::Entry;
 use std::marker::Model;
@@ -37,8 +37,8 @@ impl TextTable {
     pub fn enter(&mut self, image: u32)
         requires from_one { 1 ≤ image }
         requires to_last { image ≤ 16 }
-        requires room { (text_of self.old image).sharers < 2 ^ 32 - 1 }
-        ensures { self.new ≡ with_text self.old image (entered (text_of self.old image)) }
+        requires room { (text_numbered self.old image).sharers < 2 ^ 32 - 1 }
+        ensures { self.new ≡ table_with_text self.old image (entered (text_numbered self.old image)) }
     {
         self.entries[place(image)].enter();
     }
@@ -48,9 +48,9 @@ impl TextTable {
     pub fn leave(&mut self, image: u32) -> u32
         requires from_one { 1 ≤ image }
         requires to_last { image ≤ 16 }
-        requires shared { 0 < (text_of self.old image).sharers }
-        ensures sharers { result + 1 ≡ (text_of self.old image).sharers }
-        ensures left { self.new ≡ with_text self.old image (left (text_of self.old image)) }
+        requires shared { 0 < (text_numbered self.old image).sharers }
+        ensures sharers { result + 1 ≡ (text_numbered self.old image).sharers }
+        ensures left { self.new ≡ table_with_text self.old image (left (text_numbered self.old image)) }
     {
         self.entries[place(image)].leave()
     }
@@ -59,8 +59,8 @@ impl TextTable {
     pub fn sharers(&self, image: u32) -> u32
         requires from_one { 1 ≤ image }
         requires to_last { image ≤ 16 }
-        ensures count { result ≡ (text_of self.now image).sharers }
-        ensures table { IsTable self.now }
+        ensures count { result ≡ (text_numbered self.now image).sharers }
+        ensures table { IsTextTable self.now }
     {
         self.entries[place(image)].sharers()
     }
@@ -70,7 +70,7 @@ impl TextTable {
         requires from_one { 1 ≤ image }
         requires to_last { image ≤ 16 }
         requires page { v < 2048 }
-        ensures { result ≡ is_saved (text_of self.now image) v }
+        ensures { result ≡ is_saved (text_numbered self.now image) v }
     {
         self.entries[place(image)].is_saved(v)
     }
@@ -80,7 +80,7 @@ impl TextTable {
         requires from_one { 1 ≤ image }
         requires to_last { image ≤ 16 }
         requires page { v < 2048 }
-        ensures { self.new ≡ with_text self.old image (marked (text_of self.old image) v saved) }
+        ensures { self.new ≡ table_with_text self.old image (marked (text_numbered self.old image) v saved) }
     {
         self.entries[place(image)].set_saved(v, saved);
     }

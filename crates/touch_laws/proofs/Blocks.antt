@@ -6,7 +6,7 @@ use Rattle.std.proofs.lemmas.Bool.Decides.{nat_tests}
 use Rattle.flat_state.specs.Space.{Space, spot_by, spot_at, stack_top, address_in}
 use Rattle.vm_facts.specs.declared.page.Page.{Page}
 use Rattle.vm_facts.specs.declared.page.Page.TheVariants as pages
-use Rattle.user_vax.specs.Program.{Access, ReadOf, TestOf}
+use Rattle.user_vax.specs.Program.{ByteAccess, ReadOf, TestOf}
 use Rattle.flat_state.specs.declared.spot.Spot.{Spot}
 use Rattle.flat_state.specs.declared.spot.Spot.TheVariants.{Text, Data, Stack, Below, Outside}
 use Rattle.flat_state.specs.PageNames.{same_page, is_among}
@@ -107,7 +107,7 @@ of_block : (s : Space) (x : ℕ) (q r : Page) (o : Option Page) → o ≡ Some q
 of_block s x q r o e f h = let same : r ≡ q = cc in subst (λ (p : Page). IsBlock s x p) same h
 
 -- the page of an access is that of its address's block
-access_block : (s : Space) (access : Access) (q : Page) → IsWhole s → page_of_access s access ≡ Some q → IsBlock s (address_of_access access) q
+access_block : (s : Space) (access : ByteAccess) (q : Page) → IsWhole s → page_of_access s access ≡ Some q → IsBlock s (address_of_access access) q
 access_block s (ReadOf x) q w h = go (address_in s x) refl h
   where
     go : (spot : Spot) → address_in s x ≡ spot → page_read s spot ≡ Some q → IsBlock s x q
@@ -158,7 +158,7 @@ near_among s (start ∷ starts) x q (inl h) b = elim (near_block start x h b.low
       (among_is q (page_in s (second_block start)) (pages_of s starts) (b.page ∙ ap (page_in s) e))
 ]
 
-all_among : (s : Space) (starts : List ℕ) (list : List Access) (q : Page) → IsWhole s → AreNear starts list
+all_among : (s : Space) (starts : List ℕ) (list : List ByteAccess) (q : Page) → IsWhole s → AreNear starts list
     → is_among q (filter_map (page_of_access s) list) ≡ true → is_among q (pages_of s starts) ≡ true
 all_among s starts [] q w h k = absurd cc
 all_among s starts (access ∷ list) q w h k = go (λ l. all_among s starts list q w h.1 l) (page_of_access s access) refl k
@@ -175,7 +175,7 @@ all_among s starts (access ∷ list) q w h k = go (λ l. all_among s starts list
     go later (Some r) e l = here r e later (same_page q r) refl l
 
 -- accesses near so many starts are of twice as many pages at most
-pub few_pages : (s : Space) (starts : List ℕ) (list : List Access) → IsWhole s → AreNear starts list
+pub few_pages : (s : Space) (starts : List ℕ) (list : List ByteAccess) → IsWhole s → AreNear starts list
     → length (distinct (filter_map (page_of_access s) list)) ≤ 2 * length starts
 few_pages s starts list w h =
     let few = few_distinct (filter_map (page_of_access s) list) (pages_of s starts) (λ q k. all_among s starts list q w h k) in

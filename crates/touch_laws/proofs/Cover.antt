@@ -6,7 +6,7 @@ use Rattle.vm_facts.specs.declared.memory.ByteRead.TheVariants as bytes
 use Rattle.vm_facts.specs.declared.memory.MayWrite.{MayWrite}
 use Rattle.vm_facts.specs.declared.memory.MayWrite.TheVariants as tests
 use Rattle.user_vax.specs.declared.refused.Refused.{Refused}
-use Rattle.user_vax.specs.Program.{Program, Gives, Refuses, Reads, Tests, ◌>>=◌, run, after_read, after_test, Access, ReadOf, TestOf, accesses, rest_of_read, rest_of_test}
+use Rattle.user_vax.specs.Program.{Program, Gives, Refuses, Reads, Tests, ◌>>=◌, run, after_read, after_test, ByteAccess, ReadOf, TestOf, accesses, rest_of_read, rest_of_test}
 use Rattle.touch_laws.proofs.Near.{IsAt, IsNear, near_left, near_right}
 
 -- Whatever is read, each access is near this start, and what is given is so.
@@ -69,13 +69,13 @@ within_yields start Q (Tests address next) h = within_yields start Q next h.1
 
 -- The accesses of a sequence.
 
-abbrev accesses_then : {A B : Type 0} → Answers → Result A Refused → (A → Program B) → List Access
+abbrev accesses_then : {A B : Type 0} → Answers → Result A Refused → (A → Program B) → List ByteAccess
 accesses_then memory (Ok x) f = accesses memory (f x)
 accesses_then memory (Err refused) f = []
 
 accesses_bind : {A B : Type 0} (memory : Answers) (p : Program A) (f : A → Program B)
     → accesses memory (p >>= f) ≡ accesses memory p ++ accesses_then memory (run memory p) f
-accesses_bind memory (Reads address next) f = ap (λ (list : List Access). ReadOf address ∷ list) (go (λ byte. accesses_bind memory (next byte) f) (memory.read address))
+accesses_bind memory (Reads address next) f = ap (λ (list : List ByteAccess). ReadOf address ∷ list) (go (λ byte. accesses_bind memory (next byte) f) (memory.read address))
   where
     go : ((byte : ℕ) → accesses memory (next byte >>= f) ≡ accesses memory (next byte) ++ accesses_then memory (run memory (next byte)) f) → (answer : ByteRead) → rest_of_read answer
         (λ byte. accesses memory (next byte >>= f)) ≡ rest_of_read answer (λ byte. accesses memory (next byte)) ++ accesses_then memory (after_read answer address (λ byte. run memory (next byte))) f
@@ -83,7 +83,7 @@ accesses_bind memory (Reads address next) f = ap (λ (list : List Access). ReadO
     go later bytes.Miss = refl
     go later bytes.Below = refl
     go later bytes.Outside = refl
-accesses_bind memory (Tests address next) f = ap (λ (list : List Access). TestOf address ∷ list) (go (accesses_bind memory next f) (memory.may_write address))
+accesses_bind memory (Tests address next) f = ap (λ (list : List ByteAccess). TestOf address ∷ list) (go (accesses_bind memory next f) (memory.may_write address))
   where
     go : accesses memory (next >>= f) ≡ accesses memory next ++ accesses_then memory (run memory next) f → (answer : MayWrite)
         → rest_of_test answer (accesses memory (next >>= f)) ≡ rest_of_test answer (accesses memory next) ++ accesses_then memory (after_test answer address (run memory next)) f
@@ -94,20 +94,20 @@ accesses_bind memory (Tests address next) f = ap (λ (list : List Access). TestO
     go later tests.Outside = refl
 accesses_bind memory _ f = refl
 
-abbrev pub address_of_access : Access → ℕ
+abbrev pub address_of_access : ByteAccess → ℕ
 address_of_access (ReadOf address) = address
 address_of_access (TestOf address) = address
 
-abbrev pub AreNear : List ℕ → List Access → Type 0
+abbrev pub AreNear : List ℕ → List ByteAccess → Type 0
 AreNear starts [] = Unit {0}
 AreNear starts (access ∷ list) = IsNear starts (address_of_access access) × AreNear starts list
 
-pub all_near_append : (starts : List ℕ) (xs ys : List Access) → AreNear starts xs → AreNear starts ys → AreNear starts (xs ++ ys)
+pub all_near_append : (starts : List ℕ) (xs ys : List ByteAccess) → AreNear starts xs → AreNear starts ys → AreNear starts (xs ++ ys)
 all_near_append starts [] ys h k = k
 all_near_append starts (x ∷ xs) ys h k = (h.0, all_near_append starts xs ys h.1 k)
 
 -- near more starts
-pub all_near_more : (some more : List ℕ) → ((x : ℕ) → IsNear some x → IsNear more x) → (list : List Access) → AreNear some list → AreNear more list
+pub all_near_more : (some more : List ℕ) → ((x : ℕ) → IsNear some x → IsNear more x) → (list : List ByteAccess) → AreNear some list → AreNear more list
 all_near_more some more f [] h = tt
 all_near_more some more f (x ∷ list) h = (f (address_of_access x) h.0, all_near_more some more f list h.1)
 
@@ -170,7 +170,7 @@ pub covered_along : {A B : Type 0} (memory : Answers) (base a b : ℕ) (p : Prog
 covered_along {A = A} memory base a b p f x e h last = record {
   starts = h.starts ++ last.starts;
   few = (let l = h.few in let m = last.few in let n = length-append h.starts last.starts in omega arith);
-  near = subst (λ (list : List Access). AreNear (base ∷ (h.starts ++ last.starts)) list)
+  near = subst (λ (list : List ByteAccess). AreNear (base ∷ (h.starts ++ last.starts)) list)
       (sym (accesses_bind memory p f ∙ ap (λ (r : Result A Refused). accesses memory p ++ accesses_then memory r f) e))
       (all_near_append (base ∷ (h.starts ++ last.starts)) (accesses memory p) (accesses memory (f x))
       (all_near_more (base ∷ h.starts) (base ∷ (h.starts ++ last.starts)) (λ y n. near_left (base ∷ h.starts) last.starts y n) (accesses memory p) h.near)
@@ -182,7 +182,7 @@ covered_refused : {A B : Type 0} (memory : Answers) (base most : ℕ) (p : Progr
 covered_refused {A = A} memory base most p f refused e h = record {
   starts = h.starts;
   few = h.few;
-  near = subst (λ (list : List Access). AreNear (base ∷ h.starts) list)
+  near = subst (λ (list : List ByteAccess). AreNear (base ∷ h.starts) list)
       (sym (accesses_bind memory p f ∙ ap (λ (r : Result A Refused). accesses memory p ++ accesses_then memory r f) e))
       (all_near_append (base ∷ h.starts) (accesses memory p) [] h.near tt);
 }

@@ -5,7 +5,7 @@ use Rattle.flat_state.specs.Space.{Space, answers_of, puts}
 use Rattle.flat_state.specs.Flat.{Holding, Holds, Lends, Zombie, Process, FlatState, NamedImage, Inputs, process_of, is_ready}
 use Rattle.vm_facts.specs.declared.page.Page.{Page}
 use Rattle.user_vax.specs.declared.refused.Refused.{Refused}
-use Rattle.user_vax.specs.Program.{Program, Access, accesses, run}
+use Rattle.user_vax.specs.Program.{Program, ByteAccess, accesses, run}
 use Rattle.user_vax.specs.Operands.{register}
 use Rattle.user_vax.specs.Effects.{Effect}
 use Rattle.user_vax.specs.Instruction.{instruction}
@@ -25,7 +25,7 @@ use Rattle.touch_laws.proofs.Instructions.{instruction_covered, call_instruction
 use Rattle.touch_laws.proofs.Blocks.{few_pages}
 
 -- accesses near fourteen starts
-record AreFew (list : List Access) : Type 0 where
+record AreFew (list : List ByteAccess) : Type 0 where
   pub starts : List ℕ
   pub few : length starts ≤ 14
   pub near : AreNear starts list

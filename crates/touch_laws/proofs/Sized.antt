@@ -4,7 +4,7 @@ use Rattle.std.proofs.lemmas.List.{length-set}
 use Rattle.std.proofs.lemmas.Bool.Decides.{nat_tests}
 use Rattle.flat_state.proofs.SpaceLaws.{length-resized_bytes}
 use Rattle.vm_facts.specs.Answers.{Answers, ByteWrite}
-use Rattle.flat_state.specs.Space.{Space, address_in, answers_of, put_at, put, puts}
+use Rattle.flat_state.specs.Space.{Space, address_in, answers_of, put_at, put_in_space, puts}
 use Rattle.flat_state.specs.Flat.{Holding, Holds, Lends, Zombie, Process, FlatState, NamedImage, Inputs, image_numbered, process_of, can_step, start_if, start_processes, start_state}
 use Rattle.vm_facts.specs.declared.entry.Entry.{Entry}
 use Rattle.vm_facts.specs.declared.entry.Entry.TheVariants.{Refused}
@@ -13,7 +13,7 @@ use Rattle.user_vax.specs.Program.{Program, run}
 use Rattle.user_vax.specs.Effects.{Effect}
 use Rattle.user_vax.specs.declared.refused.Refused.{Refused as Refusal}
 use Rattle.user_vax.specs.declared.refused.Refused.TheVariants.{Miss, Below, Signal}
-use Rattle.aout_image.specs.Image.{image_of}
+use Rattle.aout_image.specs.Image.{judged_image}
 use Rattle.aout_image.proofs.Images.{image_of-is, has_pages}
 use Rattle.flat_state.specs.declared.spot.Spot.{Spot}
 use Rattle.flat_state.specs.declared.spot.Spot.TheVariants as spots
@@ -28,7 +28,7 @@ use Rattle.flat_model.specs.declared.calls.SystemCall.TheVariants as calls
 use Rattle.flat_model.specs.Calls.{argument, three_arguments, bytes_from, string_from, arguments_at, exit_reply, child_by, written_to, write_reply, break_by, break_reply, pages_up_to, stack_pages_of, data_limit, path_image, starts, execve_of, execve_reply, wait_by, reply_of, or_fault, refused_reply, unless_refused, wants_space, string_limit, write_limit, process_limit, call_of}
 use Rattle.flat_model.specs.Instruction.{instruction_in}
 use Rattle.flat_model.specs.Step.{step_of, step_behind, called_step, replied_step, step_holding, step_if, flat_step, written_process, reply_behind}
-use Rattle.flat_model.specs.Run.{Point, step_at, due_at, act, behind, point_after, same_as, process_of_entry, may_follow, where_so, flat_entry_of, flat_entry_if, flat_entry_by, flat_entry, flat_units, flat_run, start_point}
+use Rattle.flat_model.specs.Run.{Point, step_at, due_at, entry_of_step, behind, point_after, same_as, process_of_entry, may_follow, where_so, flat_entry_of, flat_entry_if, flat_entry_by, flat_entry, flat_units, flat_run, start_point}
 use Rattle.touch_laws.specs.Whole.{EachWhole, ImageWhole, ImagesWhole, IsSized, HasSize, AllSized}
 use Rattle.touch_laws.proofs.Cover.{Yields, yields_bind, yields_any, yields_ok}
 
@@ -90,7 +90,7 @@ put_at_sized s _ byte h = h
 
 puts_sized : (s : Space) (ws : List ByteWrite) → IsSized s → IsSized (puts s ws)
 puts_sized s [] h = h
-puts_sized s (w ∷ ws) h = puts_sized (put s w) ws (put_at_sized s (address_in s w.address) w.byte h)
+puts_sized s (w ∷ ws) h = puts_sized (put_in_space s w) ws (put_at_sized s (address_in s w.address) w.byte h)
 
 resized_sized : (s : Space) (data_pages stack_pages : ℕ) → data_pages ≤ 4096 → IsSized s → IsSized (resized s data_pages stack_pages)
 resized_sized s data_pages stack_pages l h =
@@ -321,7 +321,7 @@ of_point : (A : Inputs) (point q : Point) (pid : ℕ) (e : Entry) → ImagesWhol
     → AllSized point.flat.processes → AllSized q.flat.processes
 of_point A point q pid (Refused p) w h k = where_sized (can_step point.flat pid) (record point { last = Some (Refused p) }) q h k
 of_point A point q pid e w h k =
-    where_sized (same_as (act A point pid) e) (point_after A point pid) q h
+    where_sized (same_as (entry_of_step A point pid) e) (point_after A point pid) q h
     (behind_stays point (step_at A point pid).after (due_at A point pid) k (step_sized A point.flat pid (Rattle.flat_model.specs.Run.is_refused point.last pid) w k))
 
 if_point : (b : Bool) (A : Inputs) (point q : Point) (pid : ℕ) (e : Entry) → ImagesWhole A.images → flat_entry_if b A point pid e ≡ Some q
@@ -365,7 +365,7 @@ sized_whole F h = λ pid p s here holds.
     record { text = sized.text; «data» = sized.data; fits = omega arith }
 
 -- an image that a file is has whole pages, no more than it may have
-pub image_whole : (named : NamedImage) (bytes : List ℕ) → image_of bytes ≡ Ok named.image → ImageWhole named
+pub image_whole : (named : NamedImage) (bytes : List ℕ) → judged_image bytes ≡ Ok named.image → ImageWhole named
 image_whole named bytes e =
     let file = image_of-is bytes named.image e in
     record {

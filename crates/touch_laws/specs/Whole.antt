@@ -2,7 +2,7 @@
 use Rattle.std.specs.Prelude.{◌≡◌, ℕ, ◌+◌, ◌*◌, ◌%◌, ◌^◌, ◌≤◌, List, [], ◌∷◌, length, Some}
 use Rattle.flat_state.specs.Space.{Space}
 use Rattle.flat_state.specs.Flat.{Holding, Holds, Lends, Zombie, Process, FlatState, NamedImage, image_numbered, process_of}
-use Rattle.aout_image.specs.Image.{text_pages_of, data_pages_of}
+use Rattle.aout_image.specs.Image.{text_pages_of, image_data_pages}
 
 -- text and data are whole pages, and end no higher than addresses do
 pub record IsWhole (s : Space) : Type 0 where
@@ -17,9 +17,9 @@ HoldsWhole F pid = (p : Process) (s : Space) → process_of F pid ≡ Some p →
 -- an image's text and data are those of its pages, of which there are no more than may be
 pub record ImageWhole (named : NamedImage) : Type 0 where
   pub text : length named.image.text ≡ 1024 * text_pages_of named.image.facts
-  pub «data» : length named.image.data ≡ 1024 * data_pages_of named.image.facts
+  pub «data» : length named.image.data ≡ 1024 * image_data_pages named.image.facts
   pub text_fits : text_pages_of named.image.facts ≤ 2048
-  pub data_fits : data_pages_of named.image.facts ≤ 4096
+  pub data_fits : image_data_pages named.image.facts ≤ 4096
 
 -- each image is such
 abbrev pub ImagesWhole : List NamedImage → Type 0

@@ -11,7 +11,7 @@ ghost use Rattle.std.specs.Prelude.{◌≡◌, ℕ, ◌≤◌, Bool, List, lengt
 ghost use Rattle.flat_state.specs.Flat.{FlatState, NamedImage, Inputs, start_state};
 ghost use Rattle.vm_facts.specs.declared.entry.Entry.{Entry};
 ghost use Rattle.vm_facts.specs.declared.page.Page.{Page};
-ghost use Rattle.aout_image.specs.Image.{image_of};
+ghost use Rattle.aout_image.specs.Image.{judged_image};
 ghost use Rattle.page_model.specs.Placement.{Placement};
 ghost use Rattle.page_model.specs.Rank.{HasRoom};
 ghost use Rattle.flat_model.specs.Run.{Point, flat_run};
@@ -37,7 +37,7 @@ pub fn spaces_are_whole()
     ensures run { (A : Inputs) (journal : List Entry) (point : Point) → ImagesWhole A.images → flat_run A journal ≡ Some point
         → AllSized point.flat.processes }
     ensures whole { (F : FlatState) → AllSized F.processes → EachWhole F }
-    ensures image { (named : NamedImage) (bytes : List ℕ) → image_of bytes ≡ Ok named.image → ImageWhole named }
+    ensures image { (named : NamedImage) (bytes : List ℕ) → judged_image bytes ≡ Ok named.image → ImageWhole named }
 {}
 
 /// So in each run the next instruction of each process touches 28 pages at most.

@@ -11,7 +11,7 @@ use Rattle.vm_facts.specs.declared.page.Page.{Page}
 use Rattle.vm_facts.specs.declared.page.Page.TheVariants as pages
 use Rattle.vm_facts.specs.declared.page.PageState.{PageState}
 use Rattle.vm_facts.specs.declared.page.PageState.TheVariants.{Unfilled, Valid, Invalid, Coming, Going, OnSwap}
-use Rattle.user_vax.specs.Program.{Program, run, Access, ReadOf, TestOf, accesses}
+use Rattle.user_vax.specs.Program.{Program, run, ByteAccess, ReadOf, TestOf, accesses}
 use Rattle.user_vax.specs.Laws.{refusal, EndsRefused, Covers, read_refusal, test_refusal}
 use Rattle.user_vax.specs.declared.refused.Refused.TheVariants.{Miss}
 use Rattle.user_vax.proofs.Order.{keeps_order, same_or_misses}
@@ -89,7 +89,7 @@ hidden_test k x spots.Outside e = absurd cc
 shown_of : (ps : List Page) (o : Option Page) (q : Page) → o ≡ Some q → is_shown ps o ≡ true → is_among q ps ≡ true
 shown_of ps o q e h = sym (ap (is_shown ps) e) ∙ h
 
-access_among : (k : Kernel) (x : Space) (e : SameSpots k x) (ps : List Page) (a : Access) (q : Page) → IsHit (refusal (shown_in k x.sid ps) a)
+access_among : (k : Kernel) (x : Space) (e : SameSpots k x) (ps : List Page) (a : ByteAccess) (q : Page) → IsHit (refusal (shown_in k x.sid ps) a)
     → page_of_access x a ≡ Some q → is_among q ps ≡ true
 access_among k x e ps (ReadOf a) q h p =
     let at : page_in k.place x.sid a ≡ Some q =
@@ -109,7 +109,7 @@ access_among k x e ps (TestOf a) q h p =
     go true m n = refl
     go false m n = absurd (subst (λ (answer : MayWrite). IsHit (test_refusal answer a)) m n)
 
-pub hit_among : (k : Kernel) (x : Space) (e : SameSpots k x) (ps : List Page) (list : List Access) → AllHit (shown_in k x.sid ps) list
+pub hit_among : (k : Kernel) (x : Space) (e : SameSpots k x) (ps : List Page) (list : List ByteAccess) → AllHit (shown_in k x.sid ps) list
     → AllAmong ps (filter_map (page_of_access x) list)
 hit_among k x e ps [] h = tt
 hit_among k x e ps (a ∷ list) h = go (page_of_access x a) refl (hit_among k x e ps list h.1)
@@ -119,7 +119,7 @@ hit_among k x e ps (a ∷ list) h = go (page_of_access x a) refl (hit_among k x 
     go (Some q) p rest = (access_among k x e ps a q h.0 p, rest)
 
 -- An access that misses is of a page that isn't shown, where all that are shown are valid.
-record Beyond (k : Kernel) (x : Space) (ps : List Page) (a : Access) (address : ℕ) : Type 0 where
+record Beyond (k : Kernel) (x : Space) (ps : List Page) (a : ByteAccess) (address : ℕ) : Type 0 where
   page : Page
   of_access : page_of_access x a ≡ Some page
   new : is_among page ps ≡ false
@@ -137,7 +137,7 @@ shown_valid k x ps o spot v h m =
     let absent = m.absent in
     cc
 
-beyond : (k : Kernel) (x : Space) (e : SameSpots k x) (ps : List Page) (a : Access) (address : ℕ) (write : Bool) → AllValid k.place ps
+beyond : (k : Kernel) (x : Space) (e : SameSpots k x) (ps : List Page) (a : ByteAccess) (address : ℕ) (write : Bool) → AllValid k.place ps
     → refusal (shown_in k x.sid ps) a ≡ Some (Miss address write) → Beyond k x ps a address
 beyond k x e ps (ReadOf b) address write v h = go (is_shown ps (page_in k.place x.sid b)) refl h
   where
@@ -188,7 +188,7 @@ beyond k x e ps (TestOf b) address write v h = go (is_shown ps (page_in k.place 
 -- Accesses, one after another.
 
 -- the pages of these accesses are shown, up to one that isn't, which is that of the address
-pub record NextAt (k : Kernel) (x : Space) (ps : List Page) (list : List Access) (address : ℕ) : Type 0 where
+pub record NextAt (k : Kernel) (x : Space) (ps : List Page) (list : List ByteAccess) (address : ℕ) : Type 0 where
   pub page : Page
   pub front : List Page
   pub back : List Page
@@ -197,7 +197,7 @@ pub record NextAt (k : Kernel) (x : Space) (ps : List Page) (list : List Access)
   pub new : is_among page ps ≡ false
   pub at : page_in k.place x.sid address ≡ Some page
 
-next_at : (k : Kernel) (x : Space) (e : SameSpots k x) (ps : List Page) (list front rest : List Access) (last : Access) (address : ℕ) (write : Bool)
+next_at : (k : Kernel) (x : Space) (e : SameSpots k x) (ps : List Page) (list front rest : List ByteAccess) (last : ByteAccess) (address : ℕ) (write : Bool)
     → AllValid k.place ps
     → list ≡ front ++ last ∷ rest → AllHit (shown_in k x.sid ps) front → refusal (shown_in k x.sid ps) last ≡ Some (Miss address write)
     → NextAt k x ps list address
@@ -215,20 +215,20 @@ next_at k x e ps list front rest last address write v whole hits miss =
       at = b.at;
     }
 
-append_parts : (xs ys zs : List Access) → (xs ++ ys) ++ zs ≡ xs ++ (ys ++ zs)
+append_parts : (xs ys zs : List ByteAccess) → (xs ++ ys) ++ zs ≡ xs ++ (ys ++ zs)
 append_parts [] ys zs = refl
-append_parts (x ∷ xs) ys zs = ap (λ (list : List Access). x ∷ list) (append_parts xs ys zs)
+append_parts (x ∷ xs) ys zs = ap (λ (list : List ByteAccess). x ∷ list) (append_parts xs ys zs)
 
-pub append_none : (list : List Access) → list ++ [] ≡ list
+pub append_none : (list : List ByteAccess) → list ++ [] ≡ list
 append_none [] = refl
-append_none (a ∷ list) = ap (λ (others : List Access). a ∷ others) (append_none list)
+append_none (a ∷ list) = ap (λ (others : List ByteAccess). a ∷ others) (append_none list)
 
-pub hit_both : (memory : Answers) (xs ys : List Access) → AllHit memory xs → AllHit memory ys → AllHit memory (xs ++ ys)
+pub hit_both : (memory : Answers) (xs ys : List ByteAccess) → AllHit memory xs → AllHit memory ys → AllHit memory (xs ++ ys)
 hit_both memory [] ys h k = k
 hit_both memory (x ∷ xs) ys h k = (h.0, hit_both memory xs ys h.1 k)
 
 -- a computation that misses, after accesses that don't, and before others
-pub program_misses : {B : Type 0} (k : Kernel) (x : Space) (e : SameSpots k x) (ps : List Page) (q : Program B) (before after : List Access)
+pub program_misses : {B : Type 0} (k : Kernel) (x : Space) (e : SameSpots k x) (ps : List Page) (q : Program B) (before after : List ByteAccess)
     (address : ℕ) (write : Bool)
     → AllValid k.place ps
     → Covers (shown_in k x.sid ps) (answers_of x) → AllHit (shown_in k x.sid ps) before → run (shown_in k x.sid ps) q ≡ Err (Miss address write)
@@ -236,13 +236,13 @@ pub program_misses : {B : Type 0} (k : Kernel) (x : Space) (e : SameSpots k x) (
 program_misses k x e ps q before after address write v c hits m =
     let memory : Answers = shown_in k x.sid ps in
     let ends : EndsRefused memory (accesses memory q) (Miss address write) = (keeps_order memory q).misses address write m in
-    let more : (list : List Access) × (accesses (answers_of x) q ≡ accesses memory q ++ list) = elim (same_or_misses memory (answers_of x) q c) [
+    let more : (list : List ByteAccess) × (accesses (answers_of x) q ≡ accesses memory q ++ list) = elim (same_or_misses memory (answers_of x) q c) [
       | inl s ↦ ([], sym s.1 ∙ sym (append_none (accesses memory q)))
       | inr h ↦ (h.3, h.4)
     ] in
     next_at k x e ps (before ++ (accesses (answers_of x) q ++ after)) (before ++ ends.0) (more.0 ++ after) ends.1 address write v
-    (ap (λ (list : List Access). before ++ (list ++ after)) (more.1 ∙ ap (λ (list : List Access). list ++ more.0) ends.2)
-    ∙ ap (λ (list : List Access). before ++ list) (append_parts (ends.0 ++ ends.1 ∷ []) more.0 after ∙ append_parts ends.0 (ends.1 ∷ []) (more.0 ++ after))
+    (ap (λ (list : List ByteAccess). before ++ (list ++ after)) (more.1 ∙ ap (λ (list : List ByteAccess). list ++ more.0) ends.2)
+    ∙ ap (λ (list : List ByteAccess). before ++ list) (append_parts (ends.0 ++ ends.1 ∷ []) more.0 after ∙ append_parts ends.0 (ends.1 ∷ []) (more.0 ++ after))
     ∙ sym (append_parts before ends.0 (ends.1 ∷ (more.0 ++ after))))
     (hit_both memory before ends.0 hits (granted_hit memory ends.0 ends.3)) ends.4
 

@@ -2,7 +2,7 @@
 use Rattle.std.proofs.Common.{◌≡◌, ℕ, List, [], ◌++◌, filter_map, Option, Some, None, Result, Ok, Err, ℤ, refl, sym, ap, ◌∙◌, subst}
 use Rattle.vm_facts.specs.Answers.{Answers, ByteWrite}
 use Rattle.vm_facts.specs.declared.page.Page.{Page}
-use Rattle.user_vax.specs.Program.{Program, run, Access, accesses}
+use Rattle.user_vax.specs.Program.{Program, run, ByteAccess, accesses}
 use Rattle.user_vax.specs.Laws.{Covers}
 use Rattle.user_vax.specs.Effects.{Effect}
 use Rattle.user_vax.specs.Instruction.{instruction, writes_of}
@@ -27,7 +27,7 @@ use Rattle.touched_pages.proofs.Firsts.{AllAmong}
 use Rattle.touched_pages.proofs.Missing.{NextAt, hit_among, hit_both, append_none, program_misses, Whole, program_whole}
 
 -- what the first byte that misses says of accesses: it is of the first page that isn't shown; where none misses all are
-abbrev pub NextOf : Kernel → Space → List Page → List Access → Option ℕ → Type 0
+abbrev pub NextOf : Kernel → Space → List Page → List ByteAccess → Option ℕ → Type 0
 NextOf k x ps list None = AllAmong ps (filter_map (page_of_access x) list)
 NextOf k x ps list (Some address) = NextAt k x ps list address
 
@@ -40,27 +40,27 @@ module _ (images : List NamedImage) (F : FlatState) (p : Process) (x : Space) (k
   abbrev pub flat : Answers
   flat = answers_of x
 
-  abbrev pub first : List Access
+  abbrev pub first : List ByteAccess
   first = accesses flat (instruction p.regs)
 
   stepped : step_accesses images F p x ≡ first ++ accesses_after images F p x (instruction_in x p.regs)
   unfolding step_accesses
   stepped = refl
 
-  abbrev pub Next : List Access → Option ℕ → Type 0
+  abbrev pub Next : List ByteAccess → Option ℕ → Type 0
   Next list o = NextOf k x ps list o
 
   -- no access after the instruction
   ends_here : (r : Result Effect Refused) → Whole memory flat (instruction p.regs) → run memory (instruction p.regs) ≡ r → accesses_after images F p x r ≡ [] → Next (step_accesses images F p x) None
   ends_here r w i none =
       let after : accesses_after images F p x (instruction_in x p.regs) ≡ [] = ap (accesses_after images F p x) (sym w.same ∙ i) ∙ none in
-      subst (λ (list : List Access). Next list None) (sym (stepped ∙ ap (λ (list : List Access). first ++ list) after ∙ append_none first)) (hit_among k x e ps first w.hits)
+      subst (λ (list : List ByteAccess). Next list None) (sym (stepped ∙ ap (λ (list : List ByteAccess). first ++ list) after ∙ append_none first)) (hit_among k x e ps first w.hits)
 
   -- the reads of a call after it
   reads_behind : (q : Program Reply) → Whole memory flat (instruction p.regs) → accesses_after images F p x (instruction_in x p.regs) ≡ accesses flat q
       → Next (step_accesses images F p x) (missed_byte (run memory q))
   reads_behind q w after =
-      subst (λ (list : List Access). Next list (missed_byte (run memory q))) (sym (stepped ∙ ap (λ (list : List Access). first ++ list) (after ∙ sym (append_none (accesses flat q)))))
+      subst (λ (list : List ByteAccess). Next list (missed_byte (run memory q))) (sym (stepped ∙ ap (λ (list : List ByteAccess). first ++ list) (after ∙ sym (append_none (accesses flat q)))))
       (go (run memory q) refl)
     where
       hits : NotMissed (run memory q) → Next (first ++ (accesses flat q ++ [])) None
@@ -105,7 +105,7 @@ module _ (images : List NamedImage) (F : FlatState) (p : Process) (x : Space) (k
       (missed_behind images (apply_writes F p.pid (writes_of r)) (written_process p x (writes_of r)) (puts x (writes_of r)) memory r)
   step_next (Ok effect) i = behind effect i
   step_next (Err (Miss address write)) i =
-      subst (λ (list : List Access). Next list (Some address)) (sym stepped)
+      subst (λ (list : List ByteAccess). Next list (Some address)) (sym stepped)
       (program_misses k x e ps (instruction p.regs) [] (accesses_after images F p x (instruction_in x p.regs)) address write v c tt i)
   step_next (Err (Below address)) i =
       ends_here (Err (Below address)) (program_whole memory flat (instruction p.regs) c (subst NotMissed (sym i) tt)) i refl

@@ -12,7 +12,7 @@ use Rattle.flat_state.specs.Change.{apply_writes}
 use Rattle.page_model.specs.Pages.{is_valid, numbered}
 use Rattle.page_model.specs.Placement.{Placement, state_of}
 use Rattle.kernel_model.specs.Kernel.{Kernel, life_of}
-use Rattle.kernel_model.specs.Coupled.{Outline, outline_kept, outline_of, SameTables, text_of}
+use Rattle.kernel_model.specs.Coupled.{Outline, outline_kept, outline_of, SameTables, image_text}
 use Rattle.kernel_model.specs.ChangeStep.{life_of_proc, space_of_life}
 use Rattle.kernel_laws.proofs.Machine.Swaps.{found_at}
 use Rattle.kernel_laws.proofs.Machine.Tables.{kept_at, outline_at}
@@ -59,7 +59,7 @@ held_is A s k image pid now p x at r =
 frames_cover : (A : Inputs) (s : State) (k : Kernel) (image : List ℕ) (pid : ℕ) (now : Bool) (p : Process) (x : Space) → At A s k image
     → IsRunning A s pid now p x
     → Covers (kernel_answers k x.sid) (answers_of x)
-frames_cover A s k image pid now p x at r = memory_covers A.images k image flat x keeps.coupled keeps.stands.texts own (text.same ∙ sym (ap text_of text.image))
+frames_cover A s k image pid now p x at r = memory_covers A.images k image flat x keeps.coupled keeps.stands.texts own (text.same ∙ sym (ap image_text text.image))
   where
     flat : FlatState
     flat = s.point.flat

@@ -3,7 +3,7 @@ use Rattle.std.proofs.Common.{◌≡◌, ℕ, ◌*◌, ◌/◌, ◌%◌, ◌==�
 use Rattle.std.specs.Borrow.{MutBor}
 use Rattle.std.proofs.lemmas.Bool.{cases_eq}
 use Rattle.std.proofs.lemmas.Bool.Decides.{nat_tests}
-use Rattle.vm_facts.specs.Answers.{Answers, ByteWrite, read_by, put}
+use Rattle.vm_facts.specs.Answers.{Answers, ByteWrite, read_by, put_byte}
 use Rattle.vm_facts.specs.declared.memory.ByteRead.{ByteRead}
 use Rattle.vm_facts.specs.declared.memory.MayWrite.{MayWrite}
 use Rattle.vm_facts.specs.declared.memory.MayWrite.TheVariants as tests
@@ -81,7 +81,7 @@ may_shown false tests.Outside e = absurd cc
 
 -- What is shown after such a write is what was shown, with the byte.
 only_put : (p : Placement) (sid : ℕ) (ps : List Page) (memory : Answers) (w : ByteWrite) → is_shown ps (page_in p sid w.address) ≡ true
-    → only p sid ps (put memory w) ≡ put (only p sid ps memory) w
+    → only p sid ps (put_byte memory w) ≡ put_byte (only p sid ps memory) w
 only_put p sid ps memory w there = λ i. record {
   read = λ a. read_same a (cases_eq a w.address) i;
   may_write = λ a. may_where (is_shown ps (page_in p sid a)) (memory.may_write a);
@@ -105,9 +105,9 @@ only_same p r sid ps memory h = λ i. record {
   may_write = λ a. may_where (is_shown ps (h a i)) (memory.may_write a);
 }
 
-written_shown : (k : Kernel) (sid : ℕ) (ps : List Page) (w : ByteWrite) → kernel_answers (write_in k sid w) sid ≡ put (kernel_answers k sid) w
+written_shown : (k : Kernel) (sid : ℕ) (ps : List Page) (w : ByteWrite) → kernel_answers (write_in k sid w) sid ≡ put_byte (kernel_answers k sid) w
     → is_shown ps (page_in k.place sid w.address) ≡ true
-    → shown_in (write_in k sid w) sid ps ≡ put (shown_in k sid ps) w
+    → shown_in (write_in k sid w) sid ps ≡ put_byte (shown_in k sid ps) w
 written_shown k sid ps w e there =
     only_same k.place (write_in k sid w).place sid ps (kernel_answers (write_in k sid w) sid) (λ a. spot_written k sid w.byte a (spot_in k.place sid w.address))
     ∙ ap (only k.place sid ps) e ∙ only_put k.place sid ps (kernel_answers k sid) w there

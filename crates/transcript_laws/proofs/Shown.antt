@@ -6,7 +6,7 @@ use Rattle.vm_facts.specs.declared.entry.Entry.TheVariants.{Event, Turn, Ran, Ou
 use Rattle.flat_state.specs.Flat.{Inputs}
 use Rattle.flat_state.specs.Journal.{repeated, units_with, units_of, counted, instructions_of}
 use Rattle.flat_model.specs.Run.{Point, process_of_entry, flat_entry_by, flat_entry, flat_units, start_point, flat_run}
-use Rattle.run_text.specs.Text.{is_paging, unless, without_paging, join_ran, join, joined}
+use Rattle.run_text.specs.Text.{is_paging, unless, without_paging, join_ran, join_before, joined}
 use Rattle.run_text.specs.Transcript.{IsWithin, AreWithin}
 use Rattle.transcript_laws.specs.Replayed.{entries_shown}
 
@@ -21,7 +21,7 @@ ran_units : (b : Bool) (p m q n : ℕ) (es : List Entry) → (p == q) ≡ b
 ran_units true p m q n es e = repeated_sum (Ran p 1) m n (units_of es) ∙ ap (λ (x : ℕ). repeated (Ran p 1) m (repeated (Ran x 1) n (units_of es))) (eqb-true p q e)
 ran_units false p m q n es e = refl
 
-join_units : (e : Entry) (es : List Entry) → units_of (join e es) ≡ units_with e (units_of es)
+join_units : (e : Entry) (es : List Entry) → units_of (join_before e es) ≡ units_with e (units_of es)
 join_units (Ran p m) [] = refl
 join_units (Ran p m) (Ran q n ∷ es) = ran_units (p == q) p m q n es refl
 join_units (Ran p m) (x ∷ es) = refl
@@ -35,7 +35,7 @@ ran_count : (b : Bool) (p m q n : ℕ) (es : List Entry) → instructions_of (jo
 ran_count true p m q n es = omega arith
 ran_count false p m q n es = refl
 
-join_count : (e : Entry) (es : List Entry) → instructions_of (join e es) ≡ counted e + instructions_of es
+join_count : (e : Entry) (es : List Entry) → instructions_of (join_before e es) ≡ counted e + instructions_of es
 join_count (Ran p m) [] = refl
 join_count (Ran p m) (Ran q n ∷ es) = ran_count (p == q) p m q n es
 join_count (Ran p m) (x ∷ es) = refl
@@ -151,7 +151,7 @@ ran_within : (b : Bool) (p m q n : ℕ) (es : List Entry) → m + (n + instructi
 ran_within true p m q n es l h k = (((h.0.0, (omega arith, tt)), (let a = h.1 in omega arith)), k.1)
 ran_within false p m q n es l h k = (h, k)
 
-join_within : (e : Entry) (es : List Entry) → counted e + instructions_of es < 4294967296 → IsWithin e → AreWithin es → AreWithin (join e es)
+join_within : (e : Entry) (es : List Entry) → counted e + instructions_of es < 4294967296 → IsWithin e → AreWithin es → AreWithin (join_before e es)
 join_within (Ran p m) [] l h k = (h, k)
 join_within (Ran p m) (Ran q n ∷ es) l h k = ran_within (p == q) p m q n es l h k
 join_within (Ran p m) (x ∷ es) l h k = (h, k)

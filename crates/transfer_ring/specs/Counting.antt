@@ -5,16 +5,16 @@ use Rattle.transfer_ring.specs.declared.transfer.Transfer.TheVariants.{Read, Wri
 use Rattle.transfer_ring.specs.Sound.{HasSources}
 
 -- how many pages a transfer has
-abbrev pub pages_of : Transfer → ℕ
-pages_of (Read demanded parts) = length parts.items
-pages_of (Write parts) = length parts.items
+abbrev pub transfer_pages : Transfer → ℕ
+transfer_pages (Read demanded parts) = length parts.items
+transfer_pages (Write parts) = length parts.items
 
 -- the pages of all these together
 abbrev pub pages_of_all : List Transfer → ℕ
 pages_of_all [] = 0
-pages_of_all (transfer ∷ rest) = pages_of transfer + pages_of_all rest
+pages_of_all (transfer ∷ rest) = transfer_pages transfer + pages_of_all rest
 
 -- what holds of a transfer in flight
 pub record IsFlight (transfer : Transfer) : Type 0 where
   pub sources : HasSources transfer
-  pub few : pages_of transfer ≤ 16
+  pub few : transfer_pages transfer ≤ 16

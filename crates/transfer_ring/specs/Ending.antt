@@ -8,7 +8,7 @@ use Rattle.transfer_ring.specs.declared.transfer.Transfer.TheVariants.{Read, Wri
 use Rattle.transfer_ring.specs.declared.transfer.Inbound.{Inbound}
 use Rattle.transfer_ring.specs.declared.transfer.Finished.{Finished}
 use Rattle.transfer_ring.specs.declared.transfer.Finished.TheVariants.{Done, FileFault, SwapReadFault, SwapWriteFault, Idle}
-use Rattle.transfer_ring.specs.Parts.{AreSameParts, AreRead, WritesParts, SpoilsParts, IsSwap, IsFile, SomeFrom}
+use Rattle.transfer_ring.specs.Parts.{AreSameParts, PartsAreRead, WritesParts, SpoilsParts, IsSwap, IsFile, SomeFrom}
 
 -- the same read: its pages, frames and sources
 abbrev pub IsSameRead : Page → List Inbound → Transfer → Type 0
@@ -17,7 +17,7 @@ IsSameRead demanded parts (Write news) = ⊥
 
 -- each page of the read has the bytes of its source
 abbrev pub IsReadWhole : Option (List NamedFile) → Option (List ℕ) → Transfer → Type 0
-IsReadWhole holds image (Read page parts) = AreRead holds image parts.items
+IsReadWhole holds image (Read page parts) = PartsAreRead holds image parts.items
 IsReadWhole holds image (Write parts) = ⊥
 
 -- how a read of these parts ends, a fault only where some part has a source of its kind

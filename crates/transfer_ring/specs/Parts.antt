@@ -41,9 +41,9 @@ AreSameParts (old ∷ olds) (new ∷ news) = IsSamePart old new × AreSameParts 
 AreSameParts olds news = ⊥
 
 -- every part was read
-abbrev pub AreRead : Option (List NamedFile) → Option (List ℕ) → List Inbound → Type 0
-AreRead holds image [] = ⊤
-AreRead holds image (part ∷ rest) = HasRead holds image part.source part.token.bytes × AreRead holds image rest
+abbrev pub PartsAreRead : Option (List NamedFile) → Option (List ℕ) → List Inbound → Type 0
+PartsAreRead holds image [] = ⊤
+PartsAreRead holds image (part ∷ rest) = HasRead holds image part.source part.token.bytes × PartsAreRead holds image rest
 
 -- the swap image after all parts were written, one after another
 abbrev pub WritesParts : List Outbound → Option (List ℕ) → Option (List ℕ) → Type 0

@@ -67,14 +67,14 @@ abbrev pub IsBlock : ℕ → ℕ → Type 0
 IsBlock blocks block = (block % 2 ≡ 0) × (block + 2 ≤ blocks)
 
 -- the source is there
-abbrev pub IsThere : Option (List NamedFile) → ℕ → Source → Type 0
-IsThere holds blocks (Swap block) = IsBlock blocks block
-IsThere holds blocks (File id offset count) = HasRange holds id offset count
+abbrev pub IsSourceThere : Option (List NamedFile) → ℕ → Source → Type 0
+IsSourceThere holds blocks (Swap block) = IsBlock blocks block
+IsSourceThere holds blocks (File id offset count) = HasRange holds id offset count
 
 -- the source of each part is there
 abbrev pub AreThere : Option (List NamedFile) → ℕ → List Inbound → Type 0
 AreThere holds blocks [] = ⊤
-AreThere holds blocks (part ∷ rest) = IsThere holds blocks part.source × AreThere holds blocks rest
+AreThere holds blocks (part ∷ rest) = IsSourceThere holds blocks part.source × AreThere holds blocks rest
 
 -- the block of each part is that of a page of the device
 abbrev pub AreBlocks : ℕ → List Outbound → Type 0

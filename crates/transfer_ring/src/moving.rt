@@ -1,8 +1,8 @@
 // The calls of the devices that complete a transfer, one for each page.
 ghost use Rattle.std.specs.Prelude.{◌≡◌, length, take, drop, replicate, ◌-◌, ◌<◌, ◌≤◌};
 ghost use Rattle.transfer_ring.specs.Moving.{OnFilled, FailsFrom, FailsFromSome, CountsFile, CountsSwap};
-ghost use Rattle.transfer_ring.specs.Sound.{IsSource, IsThere, AreSources, AreThere, AreBlocks};
-ghost use Rattle.transfer_ring.specs.Parts.{HasRead, IsSamePart, AreSameParts, AreRead, WritesParts, SpoilsParts};
+ghost use Rattle.transfer_ring.specs.Sound.{IsSource, IsSourceThere, AreSources, AreThere, AreBlocks};
+ghost use Rattle.transfer_ring.specs.Parts.{HasRead, IsSamePart, AreSameParts, PartsAreRead, WritesParts, SpoilsParts};
 ghost use Rattle.io_edge.specs.Calls.{ReadsPages, ReadsSwap, WritesSwap};
 ghost use Rattle.io_edge.specs.Count.{Counts, OnDone, OnFailed};
 ghost use Rattle.io_edge.specs.FileHolding.{HasRange, HoldsRange};
@@ -42,7 +42,7 @@ fn fill_from_file<F: Files>(
 // Fills the page of one part.
 fn fill<F: Files, D: SwapDev>(part: &mut Inbound, files: &mut F, swap: &mut D) -> Filled
     requires source { IsSource part.old.source }
-    requires there { IsThere (F.holds files.old) (D.blocks swap.old) part.old.source }
+    requires there { IsSourceThere (F.holds files.old) (D.blocks swap.old) part.old.source }
     ensures same { IsSamePart part.old part.new }
     ensures read { OnFilled result (HasRead (F.holds files.old) (D.image swap.old) part.old.source part.new.token.bytes) }
     ensures fault { FailsFrom result part.old.source }
@@ -75,7 +75,7 @@ pub(crate) fn fill_all<F: Files, D: SwapDev>(
     requires sources { AreSources parts.old }
     requires there { AreThere (F.holds files.old) (D.blocks swap.old) parts.old }
     ensures same { AreSameParts parts.old parts.new }
-    ensures read { OnFilled result (AreRead (F.holds files.old) (D.image swap.old) parts.new) }
+    ensures read { OnFilled result (PartsAreRead (F.holds files.old) (D.image swap.old) parts.new) }
     ensures fault { FailsFromSome result parts.old }
     ensures files { ReadsPages F.Files files.old files.new }
     ensures swap { ReadsSwap D.SwapDev swap.old swap.new }

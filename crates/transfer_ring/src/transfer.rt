@@ -1,7 +1,7 @@
 //! A transfer, its parts, and what the ring answers.
 ghost use Rattle.std.specs.Prelude.{◌≡◌, ◌<◌, ◌^◌};
 ghost use Rattle.vm_facts.specs.Pages.{is_of_space, is_of_text};
-ghost use Rattle.transfer_ring.specs.Counting.{pages_of};
+ghost use Rattle.transfer_ring.specs.Counting.{transfer_pages};
 ghost use Rattle.transfer_ring.specs.Naming.{is_page_of, reads_of, writes_of, names_page_of};
 
 use frame_state::{Cleaning, Filling};
@@ -119,8 +119,8 @@ fn is_write_of(parts: &[Outbound], owner: Owner) -> bool
 impl Transfer {
     /// How many pages it has; no transfer in flight has more than 16.
     pub fn pages(&self) -> u32
-        requires { pages_of self.now < 2 ^ 32 }
-        ensures { result ≡ pages_of self.now }
+        requires { transfer_pages self.now < 2 ^ 32 }
+        ensures { result ≡ transfer_pages self.now }
     {
         match self {
             Transfer::Read { parts, .. } => parts.len() as u32,

@@ -3,7 +3,7 @@ use Rattle.std.proofs.Common.{◌≡◌, ℕ, ◌<◌, Bool, true, false, List, 
 use Rattle.std.specs.Prelude.{◌==◌, slice_set}
 use Rattle.std.proofs.lemmas.List.{get_or-set_same, get_or-set_other}
 use Rattle.std.proofs.lemmas.Bool.Decides.{eqb_tells, nat_tests}
-use Rattle.vm_facts.specs.Answers.{put, read_by}
+use Rattle.vm_facts.specs.Answers.{put_byte, read_by}
 use Rattle.vm_facts.specs.declared.memory.ByteRead.TheVariants as bytes
 use Rattle.vm_facts.specs.declared.memory.MayWrite.TheVariants as tests
 use Rattle.user_vax.specs.ArrayMemory.{array_answers, read_in, test_in}
@@ -33,6 +33,6 @@ test_set : (held : List ℕ) (missing address byte x : ℕ)
 test_set held missing address byte x = rw (length-set held address byte) refl
 
 pub array_answers_set : (held : List ℕ) (missing address byte : ℕ) → (array_answers held missing).may_write address ≡ tests.May
-    → array_answers (slice_set held address byte) missing ≡ put (array_answers held missing) (record { address = address; byte = byte })
+    → array_answers (slice_set held address byte) missing ≡ put_byte (array_answers held missing) (record { address = address; byte = byte })
 array_answers_set held missing address byte may =
     λ i. record { read = λ x. read_set held missing address byte x may i; may_write = λ x. test_set held missing address byte x i }

@@ -8,15 +8,15 @@ use Rattle.vm_facts.specs.declared.memory.MayWrite.TheVariants as tests
 use Rattle.vm_facts.specs.declared.regs.Regs.{Regs}
 use Rattle.user_vax.specs.declared.refused.Refused.TheVariants.{Signal}
 use Rattle.user_vax.specs.Signals.{sigill, sigfpe, sigbus, sigsegv}
-use Rattle.user_vax.specs.Program.{Program, Gives, Refuses, Reads, Tests, run, after_read, after_test, Access, ReadOf, TestOf, accesses, rest_of_read, rest_of_test}
+use Rattle.user_vax.specs.Program.{Program, Gives, Refuses, Reads, Tests, run, after_read, after_test, ByteAccess, ReadOf, TestOf, accesses, rest_of_read, rest_of_test}
 use Rattle.user_vax.specs.Laws.{refusal, read_refusal, test_refusal, SignalFrom}
 use Rattle.user_vax.specs.Instruction.{instruction}
 use Rattle.user_vax.proofs.OwnSignals.{HasOwnSignals, instruction_signals}
 
-later : (memory : Answers) (access : Access) (list : List Access) (number : ℕ) → refusal memory access ≡ None → SignalFrom memory list number
+later : (memory : Answers) (access : ByteAccess) (list : List ByteAccess) (number : ℕ) → refusal memory access ≡ None → SignalFrom memory list number
     → SignalFrom memory (access ∷ list) number
 later memory access list number here (inl last) =
-    inl (last.0, (access ∷ last.1.0, last.1.1, ap (λ (l : List Access). access ∷ l) last.1.2, (here, last.1.3), last.1.4))
+    inl (last.0, (access ∷ last.1.0, last.1.1, ap (λ (l : List ByteAccess). access ∷ l) last.1.2, (here, last.1.3), last.1.4))
 later memory access list number here (inr all) = inr (all.0, (here, all.1))
 
 signal_read : {A : Type 0} (memory : Answers) (address : ℕ) (next : ℕ → Program A) (number : ℕ)

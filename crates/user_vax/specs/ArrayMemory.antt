@@ -1,7 +1,7 @@
 -- A memory of some bytes from address 0 on, of which those from a place on are missing.
 use Rattle.std.specs.Prelude.{◌≡◌, ℕ, Bool, true, false, List, [], ◌∷◌, ◌++◌, length, nat_le, nat_lt, slice_index}
 use Rattle.std.proofs.Common.{refl}
-use Rattle.vm_facts.specs.Answers.{Answers, ByteWrite, put, written}
+use Rattle.vm_facts.specs.Answers.{Answers, ByteWrite, put_byte, written}
 use Rattle.vm_facts.specs.declared.memory.ByteRead.{ByteRead}
 use Rattle.vm_facts.specs.declared.memory.ByteRead.TheVariants as bytes
 use Rattle.vm_facts.specs.declared.memory.MayWrite.{MayWrite}
@@ -29,4 +29,4 @@ array_answers held missing = record {
 -- writes and then further ones are the writes of both in a row
 pub written-append : (memory : Answers) (xs ys : List ByteWrite) → written memory (xs ++ ys) ≡ written (written memory xs) ys
 written-append memory [] ys = refl
-written-append memory (x ∷ xs) ys = written-append (put memory x) xs ys
+written-append memory (x ∷ xs) ys = written-append (put_byte memory x) xs ys

@@ -8,7 +8,7 @@ use Rattle.vm_facts.specs.declared.memory.MayWrite.TheVariants as tests
 use Rattle.user_vax.specs.declared.refused.Refused.{Refused}
 use Rattle.user_vax.specs.declared.refused.Refused.TheVariants.{Miss, Below, Signal}
 use Rattle.user_vax.specs.Signals.{sigill, sigfpe, sigbus, sigsegv}
-use Rattle.user_vax.specs.Program.{Program, run, Access, ReadOf, TestOf, accesses}
+use Rattle.user_vax.specs.Program.{Program, run, ByteAccess, ReadOf, TestOf, accesses}
 
 -- how a read of an address is refused, by what the memory answers to it
 abbrev pub read_refusal : ByteRead → ℕ → Option Refused
@@ -26,23 +26,23 @@ test_refusal tests.Text address = Some (Signal sigbus)
 test_refusal tests.Outside address = Some (Signal sigsegv)
 
 -- how a memory refuses an access, if it does
-abbrev pub refusal : Answers → Access → Option Refused
+abbrev pub refusal : Answers → ByteAccess → Option Refused
 refusal memory (ReadOf address) = read_refusal (memory.read address) address
 refusal memory (TestOf address) = test_refusal (memory.may_write address) address
 
 -- the memory refuses none of these accesses
-abbrev pub AllGranted : Answers → List Access → Type 0
+abbrev pub AllGranted : Answers → List ByteAccess → Type 0
 AllGranted memory [] = Unit {0}
 AllGranted memory (access ∷ more) = (refusal memory access ≡ None) × AllGranted memory more
 
 -- all are granted but the last, which is refused so
-abbrev pub EndsRefused : Answers → List Access → Refused → Type 0
+abbrev pub EndsRefused : Answers → List ByteAccess → Refused → Type 0
 EndsRefused memory list refused =
-    (front : List Access) × (last : Access) × (list ≡ front ++ last ∷ []) × AllGranted memory front × (refusal memory last ≡ Some refused)
+    (front : List ByteAccess) × (last : ByteAccess) × (list ≡ front ++ last ∷ []) × AllGranted memory front × (refusal memory last ≡ Some refused)
 
 -- A signal comes of the last access, which was refused so: SIGBUS and SIGSEGV. Or each access was granted and the
 -- instruction itself is at fault: SIGILL and SIGFPE.
-abbrev pub SignalFrom : Answers → List Access → ℕ → Type 0
+abbrev pub SignalFrom : Answers → List ByteAccess → ℕ → Type 0
 SignalFrom memory list number =
     (((number ≡ sigbus) ⊎ (number ≡ sigsegv)) × EndsRefused memory list (Signal number))
     ⊎ (((number ≡ sigill) ⊎ (number ≡ sigfpe)) × AllGranted memory list)
@@ -64,4 +64,4 @@ pub record Covers (some other : Answers) : Type 0 where
 abbrev pub SameOrMisses : {A : Type 0} → Answers → Answers → Program A → Type 0
 SameOrMisses some other p =
     ((run some p ≡ run other p) × (accesses some p ≡ accesses other p))
-    ⊎ ((address : ℕ) × (write : Bool) × (run some p ≡ Err (Miss address write)) × (more : List Access) × (accesses other p ≡ accesses some p ++ more))
+    ⊎ ((address : ℕ) × (write : Bool) × (run some p ≡ Err (Miss address write)) × (more : List ByteAccess) × (accesses other p ≡ accesses some p ++ more))

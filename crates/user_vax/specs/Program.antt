@@ -49,22 +49,22 @@ run memory (Reads address next) = after_read (memory.read address) address (λ b
 run memory (Tests address next) = after_test (memory.may_write address) address (run memory next)
 
 -- an access to a byte, by its address: a read, or a test whether it may be written
-pub data Access : Type 0 where
-  ReadOf : ℕ → Access
-  TestOf : ℕ → Access
+pub data ByteAccess : Type 0 where
+  ReadOf : ℕ → ByteAccess
+  TestOf : ℕ → ByteAccess
 
 -- the accesses after a read, which depend on its byte; none where it is refused
-abbrev pub rest_of_read : ByteRead → (ℕ → List Access) → List Access
+abbrev pub rest_of_read : ByteRead → (ℕ → List ByteAccess) → List ByteAccess
 rest_of_read (bytes.Is byte) next = next byte
 rest_of_read _ next = []
 
 -- the accesses after a test; none where it is refused
-abbrev pub rest_of_test : MayWrite → List Access → List Access
+abbrev pub rest_of_test : MayWrite → List ByteAccess → List ByteAccess
 rest_of_test tests.May next = next
 rest_of_test _ next = []
 
 -- the accesses in order, ending at the first that is refused
-abbrev pub accesses : {A : Type 0} → Answers → Program A → List Access
+abbrev pub accesses : {A : Type 0} → Answers → Program A → List ByteAccess
 accesses memory (Gives x) = []
 accesses memory (Refuses signal) = []
 accesses memory (Reads address next) = ReadOf address ∷ rest_of_read (memory.read address) (λ byte. accesses memory (next byte))

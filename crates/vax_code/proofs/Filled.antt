@@ -11,7 +11,7 @@ use Rattle.vax_code.specs.declared.table.Name.TheVariants as names
 use Rattle.vax_code.specs.declared.table.Row.{Row}
 use Rattle.vax_code.specs.Table.{all_rows, row_for, slot_in}
 use Rattle.vax_code.specs.Operands.{assembled, from_end}
-use Rattle.vax_code.specs.Reading.{Read, byte_at, operand_at, row_or_bad, counted, place_at, operands_at, instruction_at, decoding_of, decoded}
+use Rattle.vax_code.specs.Reading.{Read, next_byte, next_operand, row_or_bad, with_count, operand_in_place, next_operands, instruction_at, decoding_of, decoded}
 use Rattle.vax_code.proofs.Rule.{found_passes}
 use Rattle.vax_code.proofs.Readers.{bind_ok}
 
@@ -29,12 +29,12 @@ one_operand op row h chmk =
     let passed = found_passes (λ r. r.op == op) has_one all_rows row refl h in
     eqb-true row.count 1 (sym (ap (λ (b : Bool). not b || (row.count == 1)) chmk) ∙ passed)
 
-place_filled : (row : Row) (place : ℕ) (bytes : List ℕ) (x : Spelled × List ℕ) → nat_lt place row.count ≡ false → place_at row place bytes ≡ Ok x
+place_filled : (row : Row) (place : ℕ) (bytes : List ℕ) (x : Spelled × List ℕ) → nat_lt place row.count ≡ false → operand_in_place row place bytes ≡ Ok x
     → x.0.operand ≡ operands.Literal 0
-unfolding place_at
+unfolding operand_in_place
 place_filled row place bytes x none h = go (nat_lt place row.count) none h
   where
-    go : (b : Bool) → b ≡ false → cond b (counted (operand_at (slot_in row place)) bytes) (Ok (record { operand = operands.Literal 0; size = 0 }, bytes)) ≡ Ok x → x.0.operand ≡ operands.Literal 0
+    go : (b : Bool) → b ≡ false → cond b (with_count (next_operand (slot_in row place)) bytes) (Ok (record { operand = operands.Literal 0; size = 0 }, bytes)) ≡ Ok x → x.0.operand ≡ operands.Literal 0
     go true e k = absurd cc
     go false e k = let same : (record { operand = operands.Literal 0; size = 0 }, bytes) ≡ x = cc in sym (ap (λ (y : Spelled × List ℕ). y.0.operand) same)
 
@@ -52,21 +52,21 @@ made_op op row a b c rest x h =
     let same : (assembled op row a b c, rest) ≡ x = cc in
     sym (ap (λ (y : Instr × List ℕ). y.0.op) same)
 
-operands_filled : (op : ℕ) (row : Row) (bytes : List ℕ) (x : Instr × List ℕ) → row.count ≡ 1 → operands_at op row bytes ≡ Ok x
+operands_filled : (op : ℕ) (row : Row) (bytes : List ℕ) (x : Instr × List ℕ) → row.count ≡ 1 → next_operands op row bytes ≡ Ok x
     → (x.0.b ≡ operands.Literal 0) × (x.0.c ≡ operands.Literal 0)
-unfolding operands_at
+unfolding next_operands
 operands_filled op row bytes x one h =
-    let a = bind_ok (place_at row 0 bytes) _ x h in
-    let b = bind_ok (place_at row 1 a.0.1) _ x a.2 in
-    let c = bind_ok (place_at row 2 b.0.1) _ x b.2 in
+    let a = bind_ok (operand_in_place row 0 bytes) _ x h in
+    let b = bind_ok (operand_in_place row 1 a.0.1) _ x a.2 in
+    let c = bind_ok (operand_in_place row 2 b.0.1) _ x b.2 in
     made_filled op row a.0.0 b.0.0 c.0.0 c.0.1 x c.2 (place_filled row 1 a.0.1 b.0 (ap (nat_lt 1) one) b.1) (place_filled row 2 b.0.1 c.0 (ap (nat_lt 2) one) c.1)
 
-op_of : (op : ℕ) (row : Row) (bytes : List ℕ) (x : Instr × List ℕ) → operands_at op row bytes ≡ Ok x → x.0.op ≡ op
-unfolding operands_at
+op_of : (op : ℕ) (row : Row) (bytes : List ℕ) (x : Instr × List ℕ) → next_operands op row bytes ≡ Ok x → x.0.op ≡ op
+unfolding next_operands
 op_of op row bytes x h =
-    let a = bind_ok (place_at row 0 bytes) _ x h in
-    let b = bind_ok (place_at row 1 a.0.1) _ x a.2 in
-    let c = bind_ok (place_at row 2 b.0.1) _ x b.2 in
+    let a = bind_ok (operand_in_place row 0 bytes) _ x h in
+    let b = bind_ok (operand_in_place row 1 a.0.1) _ x a.2 in
+    let c = bind_ok (operand_in_place row 2 b.0.1) _ x b.2 in
     made_op op row a.0.0 b.0.0 c.0.0 c.0.1 x c.2
 
 row_is : (o : Option Row) (row : Row) → row_or_bad o ≡ Ok row → o ≡ Some row
@@ -77,7 +77,7 @@ read_filled : (bytes : List ℕ) (x : Instr × List ℕ) (row : Row) → instruc
     → (x.0.b ≡ operands.Literal 0) × (x.0.c ≡ operands.Literal 0)
 unfolding instruction_at
 read_filled bytes x row h listed chmk =
-    let first = bind_ok (byte_at bytes) _ x h in
+    let first = bind_ok (next_byte bytes) _ x h in
     let found = bind_ok (row_or_bad (row_for first.0.0)) _ x first.2 in
     let op : x.0.op ≡ first.0.0 = op_of first.0.0 found.0 first.0.1 x found.2 in
     let here : row_for first.0.0 ≡ Some found.0 = row_is (row_for first.0.0) found.0 found.1 in

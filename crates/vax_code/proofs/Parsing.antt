@@ -11,7 +11,7 @@ use Rattle.vax_code.specs.declared.instr.Base.{Base}
 use Rattle.vax_code.specs.declared.instr.Base.TheVariants as bases
 use Rattle.vax_code.specs.declared.table.Slot.{Slot}
 use Rattle.vax_code.specs.declared.table.Row.{Row}
-use Rattle.vax_code.specs.Reading.{Read, ◌>>=◌, byte_at, signed_at, displacement_at, base_at, indexed_at, specifier_at, operand_at, counted, place_at, operands_at, instruction_at}
+use Rattle.vax_code.specs.Reading.{Read, ◌>>=◌, next_byte, next_signed, next_displacement, base_at, indexed_at, next_specifier, next_operand, with_count, operand_in_place, next_operands, instruction_at}
 use Rattle.vax_code.specs.Operands.{operand_of, is_read, is_address, is_branch}
 use Rattle.vax_code.specs.Table.{slot_in}
 use Rattle.vax_code.specs.Grammar.{SpellsNumber, SpellsSigned, specifier, SpellsDisplaced, SpellsBase, LeavesIndex, SpellsSpecifier, SpellsBranch, SpellsOperand, SpellsPlace, spelled, IsInstruction}
@@ -60,11 +60,11 @@ unfolding base_at
 absolute_9 address digits h = rw (number_read 4 address digits h) refl
 
 displaced_read : (mode size reg : ℕ) (by : ℤ) (digits : List ℕ) → cond (nat_lt mode 12) 1 (cond (nat_lt mode 14) 2 4) ≡ size
-    → SpellsSigned size by digits → displacement_at mode reg digits ≡ Ok (bases.Disp reg by (mode % 2 == 1), [])
-unfolding displacement_at
+    → SpellsSigned size by digits → next_displacement mode reg digits ≡ Ok (bases.Disp reg by (mode % 2 == 1), [])
+unfolding next_displacement
 displaced_read mode size reg by digits e h = rw (e, signed_read size by digits h) refl
 
-displaced_base : (mode reg : ℕ) (digits : List ℕ) → 9 < mode → base_at mode reg digits ≡ displacement_at mode reg digits
+displaced_base : (mode reg : ℕ) (digits : List ℕ) → 9 < mode → base_at mode reg digits ≡ next_displacement mode reg digits
 unfolding base_at
 displaced_base mode reg digits h = rw (le-ltb mode 6 (omega arith), lt-ltb 9 mode h) refl
 
@@ -157,7 +157,7 @@ base_begun (bases.Disp reg by true) bytes (inr (inr h)) = displaced_begun 15 4 r
 
 indexed_read : (index : ℕ) (base : Base) (bytes : List ℕ) → index < 15 → LeavesIndex index base → SpellsBase base bytes
     → indexed_at index bytes ≡ Ok (operands.Indexed index base, [])
-unfolding indexed_at byte_at changes
+unfolding indexed_at next_byte changes
 indexed_read index base bytes small leaves h =
     let b = base_begun base bytes h in
     rw (b.split, high_half b.mode b.reg b.register, low_half b.mode b.reg b.register, b.free index small leaves, b.reads) refl
@@ -169,14 +169,14 @@ record SpecifierBegun (slot : Slot) (operand : Operand) (bytes : List ℕ) : Typ
   pub rest : List ℕ
   pub register : reg < 16
   pub split : bytes ≡ specifier mode reg ∷ rest
-  pub reads : specifier_at slot mode reg rest ≡ Ok (operand, [])
+  pub reads : next_specifier slot mode reg rest ≡ Ok (operand, [])
 
 isnt : (mode other : ℕ) → other < mode → (mode == other) ≡ false
 isnt mode other h = grind (arith, nat_tests)
 
 base_specifier : (slot : Slot) (mode reg : ℕ) (rest : List ℕ) → 5 < mode → ((mode == 8) && (reg == 15)) ≡ false
-    → specifier_at slot mode reg rest ≡ (base_at mode reg rest >>= mapping operand_of)
-unfolding specifier_at
+    → next_specifier slot mode reg rest ≡ (base_at mode reg rest >>= mapping operand_of)
+unfolding next_specifier
 base_specifier slot mode reg rest high h =
     rw (le-ltb mode 4 (omega arith), isnt mode 4 (omega arith), isnt mode 5 (omega arith), h) refl
 
@@ -193,25 +193,25 @@ base_begins slot base bytes h =
     }
 
 literal_read : (slot : Slot) (value : ℕ) → is_read slot.access ≡ true → value < 64
-    → specifier_at slot (value / 16) (value % 16) [] ≡ Ok (operands.Literal value, [])
-unfolding specifier_at
+    → next_specifier slot (value / 16) (value % 16) [] ≡ Ok (operands.Literal value, [])
+unfolding next_specifier
 literal_read slot value reads small =
     let low : value / 16 < 4 = omega arith in
     let same : 16 * (value / 16) + value % 16 ≡ value = omega arith in
     rw (lt-ltb (value / 16) 4 low, reads, same) refl
 
-register_read : (slot : Slot) (reg : ℕ) → IsTrue (not (is_address slot.access)) → reg < 15 → specifier_at slot 5 reg [] ≡ Ok (operands.Register reg, [])
-unfolding specifier_at
+register_read : (slot : Slot) (reg : ℕ) → IsTrue (not (is_address slot.access)) → reg < 15 → next_specifier slot 5 reg [] ≡ Ok (operands.Register reg, [])
+unfolding next_specifier
 register_read slot reg value small = rw (not_pc reg small, not-true (is_address slot.access) value) refl
 
 immediate_read : (slot : Slot) (number : ℕ) (digits : List ℕ) → is_read slot.access ≡ true → SpellsNumber slot.size number digits
-    → specifier_at slot 8 15 digits ≡ Ok (operands.Immediate number, [])
-unfolding specifier_at
+    → next_specifier slot 8 15 digits ≡ Ok (operands.Immediate number, [])
+unfolding next_specifier
 immediate_read slot number digits reads h = rw (reads, number_read slot.size number digits h) refl
 
 mode_4_read : (slot : Slot) (index : ℕ) (base : Base) (rest : List ℕ) → index < 15 → LeavesIndex index base → SpellsBase base rest
-    → specifier_at slot 4 index rest ≡ Ok (operands.Indexed index base, [])
-unfolding specifier_at
+    → next_specifier slot 4 index rest ≡ Ok (operands.Indexed index base, [])
+unfolding next_specifier
 mode_4_read slot index base rest small leaves h = rw (not_pc index small) (indexed_read index base rest small leaves h)
 
 specifier_begun : (slot : Slot) (operand : Operand) (bytes : List ℕ) → SpellsSpecifier slot operand bytes → SpecifierBegun slot operand bytes
@@ -258,7 +258,7 @@ specifier_begun slot (operands.Branch by) bytes h = absurd h
 -- ---- operands and places
 
 branch_read : (slot : Slot) (operand : Operand) (bytes : List ℕ) → SpellsBranch slot operand bytes
-    → (signed_at slot.size bytes >>= mapping operands.Branch) ≡ Ok (operand, [])
+    → (next_signed slot.size bytes >>= mapping operands.Branch) ≡ Ok (operand, [])
 branch_read slot (operands.Branch by) bytes h = ap (λ (r : Read ℤ). r >>= mapping operands.Branch) (signed_read slot.size by bytes h)
 branch_read slot (operands.Literal value) bytes h = absurd h
 branch_read slot (operands.Register reg) bytes h = absurd h
@@ -272,53 +272,54 @@ branch_read slot (operands.Disp reg by deferred) bytes h = absurd h
 branch_read slot (operands.Indexed index base) bytes h = absurd h
 
 specifier_read : (slot : Slot) (operand : Operand) (bytes : List ℕ) → SpellsSpecifier slot operand bytes
-    → (byte_at bytes >>= λ first. specifier_at slot (first.0 / 16) (first.0 % 16) first.1) ≡ Ok (operand, [])
-unfolding byte_at
+    → (next_byte bytes >>= λ first. next_specifier slot (first.0 / 16) (first.0 % 16) first.1) ≡ Ok (operand, [])
+unfolding next_byte
 specifier_read slot operand bytes h =
     let s = specifier_begun slot operand bytes h in
     rw (s.split, high_half s.mode s.reg s.register, low_half s.mode s.reg s.register) s.reads
 
 either_read : (branch : Bool) (slot : Slot) (operand : Operand) (bytes : List ℕ) → SpellsOperand branch slot operand bytes
-    → cond branch (signed_at slot.size bytes >>= mapping operands.Branch) (byte_at bytes >>= λ first. specifier_at slot (first.0 / 16) (first.0 % 16) first.1)
+    → cond branch (next_signed slot.size bytes >>= mapping operands.Branch)
+    (next_byte bytes >>= λ first. next_specifier slot (first.0 / 16) (first.0 % 16) first.1)
     ≡ Ok (operand, [])
 either_read true slot operand bytes h = branch_read slot operand bytes h
 either_read false slot operand bytes h = specifier_read slot operand bytes h
 
 operand_read : (slot : Slot) (operand : Operand) (bytes : List ℕ) → SpellsOperand (is_branch slot.access) slot operand bytes
-    → operand_at slot bytes ≡ Ok (operand, [])
-unfolding operand_at
+    → next_operand slot bytes ≡ Ok (operand, [])
+unfolding next_operand
 operand_read slot operand bytes h = either_read (is_branch slot.access) slot operand bytes h
 
 counted_read : (slot : Slot) (operand : Operand) (bytes : List ℕ) → SpellsOperand (is_branch slot.access) slot operand bytes
-    → counted (operand_at slot) bytes ≡ Ok (spelled operand bytes, [])
+    → with_count (next_operand slot) bytes ≡ Ok (spelled operand bytes, [])
 counted_read slot operand bytes h =
     let none : List ℕ = [] in
     let size : length bytes - length none ≡ length bytes = omega arith in
-    counted_ok (operand_at slot) bytes operand [] (operand_read slot operand bytes h) ∙ ap (λ (n : ℕ). Ok (with_size operand n, [])) size
+    counted_ok (next_operand slot) bytes operand [] (operand_read slot operand bytes h) ∙ ap (λ (n : ℕ). Ok (with_size operand n, [])) size
 
 filled_read : (operand : Operand) (bytes : List ℕ) → operand ≡ operands.Literal 0 → bytes ≡ []
     → (let read : Read Spelled = Ok (record { operand = operands.Literal 0; size = 0 }, bytes) in read) ≡ Ok (spelled operand bytes, [])
 filled_read operand bytes e f = rw (e, f) refl
 
 present_read : (present : Bool) (slot : Slot) (operand : Operand) (bytes : List ℕ) → SpellsPlace present slot operand bytes
-    → cond present (counted (operand_at slot) bytes) (Ok (record { operand = operands.Literal 0; size = 0 }, bytes)) ≡ Ok (spelled operand bytes, [])
+    → cond present (with_count (next_operand slot) bytes) (Ok (record { operand = operands.Literal 0; size = 0 }, bytes)) ≡ Ok (spelled operand bytes, [])
 present_read true slot operand bytes h = counted_read slot operand bytes h
 present_read false slot operand bytes h = filled_read operand bytes h.0 h.1
 
 place_read : (row : Row) (place : ℕ) (operand : Operand) (bytes : List ℕ) → SpellsPlace (nat_lt place row.count) (slot_in row place) operand bytes
-    → place_at row place bytes ≡ Ok (spelled operand bytes, [])
-unfolding place_at
+    → operand_in_place row place bytes ≡ Ok (spelled operand bytes, [])
+unfolding operand_in_place
 place_read row place operand bytes h = present_read (nat_lt place row.count) (slot_in row place) operand bytes h
 
 -- ---- instructions
 
 front_read : (row : Row) (place : ℕ) (operand : Operand) (front rest : List ℕ)
-    → SpellsPlace (nat_lt place row.count) (slot_in row place) operand front → place_at row place (front ++ rest) ≡ Ok (spelled operand front, rest)
+    → SpellsPlace (nat_lt place row.count) (slot_in row place) operand front → operand_in_place row place (front ++ rest) ≡ Ok (spelled operand front, rest)
 front_read row place operand front rest h =
     (place_reader row place).extends front rest (spelled operand front) [] (place_read row place operand front h)
 
-operands_read : (bytes : List ℕ) (instr : Instr) (h : IsInstruction bytes instr) → operands_at h.op h.row (h.one ++ (h.two ++ h.three)) ≡ Ok (instr, [])
-unfolding operands_at
+operands_read : (bytes : List ℕ) (instr : Instr) (h : IsInstruction bytes instr) → next_operands h.op h.row (h.one ++ (h.two ++ h.three)) ≡ Ok (instr, [])
+unfolding next_operands
 operands_read bytes instr h =
     rw (
       front_read h.row 0 h.first h.one (h.two ++ h.three) h.spells_first,
@@ -328,5 +329,5 @@ operands_read bytes instr h =
     (ap (λ (i : Instr). Ok (i, [])) (sym h.made))
 
 pub instruction_read : (bytes : List ℕ) (instr : Instr) → IsInstruction bytes instr → instruction_at bytes ≡ Ok (instr, [])
-unfolding instruction_at byte_at
+unfolding instruction_at next_byte
 instruction_read bytes instr h = rw (h.split, h.listed) (operands_read bytes instr h)

@@ -6,7 +6,7 @@ use Rattle.std.proofs.lemmas.Grind.{common_steps}
 use Rattle.std.specs.Int.{from_le_bytes}
 use Rattle.vax_code.specs.declared.reader.Fault.{Fault}
 use Rattle.vax_code.specs.declared.reader.Fault.TheVariants.{Short, Bad}
-use Rattle.vax_code.specs.Reading.{Read, ◌>>=◌, byte_at, number_at, counted}
+use Rattle.vax_code.specs.Reading.{Read, ◌>>=◌, next_byte, next_number, with_count}
 use Rattle.vax_code.specs.Operands.{width_of}
 use Rattle.vax_code.specs.Operands.{Spelled}
 use Rattle.vax_code.specs.declared.instr.Operand.{Operand}
@@ -103,8 +103,8 @@ with_rest : {A : Type 0} → (List ℕ → List ℕ) → Read A → Read A
 with_rest change (Ok r) = Ok (r.0, change r.1)
 with_rest change (Err e) = Err e
 
-pub byte_reader : IsReader byte_at
-unfolding byte_at with_rest
+pub byte_reader : IsReader next_byte
+unfolding next_byte with_rest
 byte_reader = record {
   extends = extends;
   stuck = stuck;
@@ -112,37 +112,37 @@ byte_reader = record {
   completes = completes;
 }
   where
-    extends : (bytes more : List ℕ) (x : ℕ) (rest : List ℕ) → byte_at bytes ≡ Ok (x, rest) → byte_at (bytes ++ more) ≡ Ok (x, rest ++ more)
+    extends : (bytes more : List ℕ) (x : ℕ) (rest : List ℕ) → next_byte bytes ≡ Ok (x, rest) → next_byte (bytes ++ more) ≡ Ok (x, rest ++ more)
     extends [] more x rest h = absurd (cc)
     extends (b ∷ bs) more x rest h = ap (λ (r : Read ℕ). with_rest (λ l. l ++ more) r) h
 
-    stuck : (bytes more : List ℕ) → byte_at bytes ≡ Err Bad → byte_at (bytes ++ more) ≡ Err Bad
+    stuck : (bytes more : List ℕ) → next_byte bytes ≡ Err Bad → next_byte (bytes ++ more) ≡ Err Bad
     stuck [] more h = absurd (cc)
     stuck (b ∷ bs) more h = absurd (cc)
 
-    fronts : (bytes : List ℕ) (x : ℕ) (rest : List ℕ) → byte_at bytes ≡ Ok (x, rest) → (front : List ℕ) × (bytes ≡ front ++ rest) × (byte_at front ≡ Ok (x, []))
+    fronts : (bytes : List ℕ) (x : ℕ) (rest : List ℕ) → next_byte bytes ≡ Ok (x, rest) → (front : List ℕ) × (bytes ≡ front ++ rest) × (next_byte front ≡ Ok (x, []))
     fronts [] x rest h = absurd (cc)
     fronts (b ∷ bs) x rest h =
         let e : b ≡ x = ap (value_of b) h in
         let k : bs ≡ rest = ap (rest_of bs) h in
         (b ∷ [], ap (λ (l : List ℕ). b ∷ l) k, ap (λ (n : ℕ). Ok (n, [])) e)
 
-    completes : (bytes : List ℕ) → byte_at bytes ≡ Err Short → Completion byte_at bytes
+    completes : (bytes : List ℕ) → next_byte bytes ≡ Err Short → Completion next_byte bytes
     completes [] h = record { more = 0 ∷ []; octets = (omega arith, tt); value = 0; reads = refl }
     completes (b ∷ bs) h = absurd (cc)
 
 -- a byte, and something that one byte at least can begin
 pub begins_byte : {B : Type 0} (f : ℕ → List ℕ → Read B) (byte : ℕ) → byte < 256 → Completion (f byte) []
-    → Completion (λ bytes. byte_at bytes >>= λ r. f r.0 r.1) []
-unfolding byte_at
+    → Completion (λ bytes. next_byte bytes >>= λ r. f r.0 r.1) []
+unfolding next_byte
 begins_byte f byte small tail = record { more = byte ∷ tail.more; octets = (small, tail.octets); value = tail.value; reads = tail.reads }
 
-pub byte_then : {B : Type 0} {f : ℕ → List ℕ → Read B} → ((byte : ℕ) → IsReader (f byte)) → Completion (λ bytes. byte_at bytes >>= λ r. f r.0 r.1) []
-    → IsReader (λ bytes. byte_at bytes >>= λ r. f r.0 r.1)
-unfolding byte_at
+pub byte_then : {B : Type 0} {f : ℕ → List ℕ → Read B} → ((byte : ℕ) → IsReader (f byte)) → Completion (λ bytes. next_byte bytes >>= λ r. f r.0 r.1) []
+    → IsReader (λ bytes. next_byte bytes >>= λ r. f r.0 r.1)
+unfolding next_byte
 byte_then {f = f} then begins = bind_with byte_reader then none_left
   where
-    none_left : (bytes : List ℕ) → byte_at bytes ≡ Err Short → Completion (λ bytes. byte_at bytes >>= λ r. f r.0 r.1) bytes
+    none_left : (bytes : List ℕ) → next_byte bytes ≡ Err Short → Completion (λ bytes. next_byte bytes >>= λ r. f r.0 r.1) bytes
     none_left [] h = begins
     none_left (b ∷ bs) h = absurd (cc)
 
@@ -173,8 +173,8 @@ if_reader true first second = first
 if_reader false first second = second
 
 number_front : (size : ℕ) (bytes more : List ℕ) → size ≤ length bytes
-    → number_at size (bytes ++ more) ≡ Ok (from_le_bytes (width_of size) (take size bytes), drop size bytes ++ more)
-unfolding number_at
+    → next_number size (bytes ++ more) ≡ Ok (from_le_bytes (width_of size) (take size bytes), drop size bytes ++ more)
+unfolding next_number
 number_front size bytes more h = grind (arith, common_steps)
 
 -- a choice of the first or the second answer, by a test
@@ -183,9 +183,9 @@ choice true x y = inr (refl, refl)
 choice false x y = inl (refl, refl)
 
 number_cases : (size : ℕ) (bytes : List ℕ)
-    → ((size ≤ length bytes) × (number_at size bytes ≡ Ok (from_le_bytes (width_of size) (take size bytes), drop size bytes)))
-    ⊎ ((length bytes < size) × (number_at size bytes ≡ Err Short))
-unfolding number_at
+    → ((size ≤ length bytes) × (next_number size bytes ≡ Ok (from_le_bytes (width_of size) (take size bytes), drop size bytes)))
+    ⊎ ((length bytes < size) × (next_number size bytes ≡ Err Short))
+unfolding next_number
 number_cases size bytes =
     let found : Read ℕ = Ok (from_le_bytes (width_of size) (take size bytes), drop size bytes) in
     elim (choice (nat_lt (length bytes) size) (Err Short) found) [
@@ -193,7 +193,7 @@ number_cases size bytes =
       | inr short ↦ inr (ltb-true (length bytes) size short.0, short.1)
     ]
 
-pub number_long : (size : ℕ) (bytes : List ℕ) (x : ℕ) (rest : List ℕ) → number_at size bytes ≡ Ok (x, rest)
+pub number_long : (size : ℕ) (bytes : List ℕ) (x : ℕ) (rest : List ℕ) → next_number size bytes ≡ Ok (x, rest)
     → (size ≤ length bytes) × (x ≡ from_le_bytes (width_of size) (take size bytes)) × (rest ≡ drop size bytes)
 number_long size bytes x rest h = elim (number_cases size bytes) [
   | inl long ↦ (long.0, ap (value_of 0) (sym h ∙ long.1), ap (rest_of []) (sym h ∙ long.1))
@@ -201,11 +201,11 @@ number_long size bytes x rest h = elim (number_cases size bytes) [
 ]
 
 pub number_whole : (size : ℕ) (bytes : List ℕ) → size ≤ length bytes
-    → number_at size (take size bytes) ≡ Ok (from_le_bytes (width_of size) (take size bytes), [])
-unfolding number_at
+    → next_number size (take size bytes) ≡ Ok (from_le_bytes (width_of size) (take size bytes), [])
+unfolding next_number
 number_whole size bytes h = grind (arith, common_steps)
 
-number_short : (size : ℕ) (bytes : List ℕ) → number_at size bytes ≡ Err Short → length bytes ≤ size
+number_short : (size : ℕ) (bytes : List ℕ) → next_number size bytes ≡ Err Short → length bytes ≤ size
 number_short size bytes h = elim (number_cases size bytes) [
   | inl long ↦ absurd (cc (h, long.1))
   | inr short ↦ omega arith
@@ -225,11 +225,11 @@ unfolding zeros
 octets-zeros zero = tt
 octets-zeros (suc n) = (omega arith, octets-zeros n)
 
-pub number_exact : (size : ℕ) (bytes : List ℕ) → length bytes ≡ size → number_at size bytes ≡ Ok (from_le_bytes (width_of size) bytes, [])
-unfolding number_at
+pub number_exact : (size : ℕ) (bytes : List ℕ) → length bytes ≡ size → next_number size bytes ≡ Ok (from_le_bytes (width_of size) bytes, [])
+unfolding next_number
 number_exact size bytes h = grind (arith, common_steps)
 
-number_completion : (size : ℕ) (bytes : List ℕ) → length bytes ≤ size → Completion (number_at size) bytes
+number_completion : (size : ℕ) (bytes : List ℕ) → length bytes ≤ size → Completion (next_number size) bytes
 number_completion size bytes h =
     let more = zeros (size - length bytes) in
     let exact : length (bytes ++ more) ≡ size = omega (arith, length-append bytes more, length-zeros (size - length bytes)) in
@@ -240,10 +240,10 @@ number_completion size bytes h =
       reads = number_exact size (bytes ++ more) exact;
     }
 
-pub begins_number : (size : ℕ) → Completion (number_at size) []
+pub begins_number : (size : ℕ) → Completion (next_number size) []
 begins_number size = number_completion size [] (omega arith)
 
-pub number_reader : (size : ℕ) → IsReader (number_at size)
+pub number_reader : (size : ℕ) → IsReader (next_number size)
 number_reader size = record {
   extends = λ bytes more x rest h.
       let long = number_long size bytes x rest h in
@@ -267,8 +267,8 @@ abbrev pub sized : ℕ → Operand × List ℕ → Read Spelled
 sized n operand = Ok (with_size operand.0 (n - length operand.1), operand.1)
 
 pub counted_ok : (read : List ℕ → Read Operand) (bytes : List ℕ) (operand : Operand) (rest : List ℕ) → read bytes ≡ Ok (operand, rest)
-    → counted read bytes ≡ Ok (with_size operand (length bytes - length rest), rest)
-unfolding counted
+    → with_count read bytes ≡ Ok (with_size operand (length bytes - length rest), rest)
+unfolding with_count
 counted_ok read bytes operand rest h = rw h refl
 
 settled : (bytes : List ℕ) (read : Read Operand) (operand : Operand) (tail : List ℕ) (x : Spelled) (rest : List ℕ) → read ≡ Ok (operand, tail)
@@ -281,9 +281,9 @@ settled bytes read operand tail x rest h k =
       sym (ap (value_of x) k) ∙ ap (λ (l : List ℕ). with_size operand (length bytes - length l)) same,
     )
 
-pub counted_parts : (read : List ℕ → Read Operand) (bytes : List ℕ) (x : Spelled) (rest : List ℕ) → counted read bytes ≡ Ok (x, rest)
+pub counted_parts : (read : List ℕ → Read Operand) (bytes : List ℕ) (x : Spelled) (rest : List ℕ) → with_count read bytes ≡ Ok (x, rest)
     → (operand : Operand) × (read bytes ≡ Ok (operand, rest)) × (x ≡ with_size operand (length bytes - length rest))
-unfolding counted
+unfolding with_count
 counted_parts read bytes x rest h =
     let parts = bind_ok (read bytes) (sized (length bytes)) (x, rest) h in
     settled bytes (read bytes) parts.0.0 parts.0.1 x rest parts.1 parts.2
@@ -292,15 +292,15 @@ refused : (n : ℕ) (read : Read Operand) (fault : Fault) → (read >>= sized n)
 refused n (Ok x) fault h = absurd (cc)
 refused n (Err e) fault h = let same : e ≡ fault = cc in ap (λ (e' : Fault). Err e') same
 
-counted_refused : (read : List ℕ → Read Operand) (bytes : List ℕ) (fault : Fault) → counted read bytes ≡ Err fault → read bytes ≡ Err fault
-unfolding counted
+counted_refused : (read : List ℕ → Read Operand) (bytes : List ℕ) (fault : Fault) → with_count read bytes ≡ Err fault → read bytes ≡ Err fault
+unfolding with_count
 counted_refused read bytes fault h = refused (length bytes) (read bytes) fault h
 
-counted_err : (read : List ℕ → Read Operand) (bytes : List ℕ) (fault : Fault) → read bytes ≡ Err fault → counted read bytes ≡ Err fault
-unfolding counted
+counted_err : (read : List ℕ → Read Operand) (bytes : List ℕ) (fault : Fault) → read bytes ≡ Err fault → with_count read bytes ≡ Err fault
+unfolding with_count
 counted_err read bytes fault h = rw h refl
 
-pub counted_completion : {read : List ℕ → Read Operand} (bytes : List ℕ) → Completion read bytes → Completion (counted read) bytes
+pub counted_completion : {read : List ℕ → Read Operand} (bytes : List ℕ) → Completion read bytes → Completion (with_count read) bytes
 counted_completion {read = read} bytes one = let none : List ℕ = [] in record {
   more = one.more;
   octets = one.octets;
@@ -309,24 +309,24 @@ counted_completion {read = read} bytes one = let none : List ℕ = [] in record 
 }
 
 counted_as : (read : List ℕ → Read Operand) (bytes : List ℕ) (operand : Operand) (rest : List ℕ) (n : ℕ) (x : Spelled)
-    → read bytes ≡ Ok (operand, rest) → length bytes - length rest ≡ n → x ≡ with_size operand n → counted read bytes ≡ Ok (x, rest)
-unfolding counted
+    → read bytes ≡ Ok (operand, rest) → length bytes - length rest ≡ n → x ≡ with_size operand n → with_count read bytes ≡ Ok (x, rest)
+unfolding with_count
 counted_as read bytes operand rest n x h size e = rw (h, size, e) refl
 
 counted_extends : (read : List ℕ → Read Operand) → IsReader read → (bytes more : List ℕ) (x : Spelled) (rest : List ℕ) (operand : Operand)
-    → read bytes ≡ Ok (operand, rest) → x ≡ with_size operand (length bytes - length rest) → counted read (bytes ++ more) ≡ Ok (x, rest ++ more)
+    → read bytes ≡ Ok (operand, rest) → x ≡ with_size operand (length bytes - length rest) → with_count read (bytes ++ more) ≡ Ok (x, rest ++ more)
 counted_extends read first bytes more x rest operand h e =
     counted_as read (bytes ++ more) operand (rest ++ more) (length bytes - length rest) x (first.extends bytes more operand rest h)
     (omega (arith, length-append bytes more, length-append rest more)) e
 
 counted_front : (read : List ℕ → Read Operand) (bytes front rest : List ℕ) (x : Spelled) (operand : Operand) → bytes ≡ front ++ rest
-    → read front ≡ Ok (operand, []) → x ≡ with_size operand (length bytes - length rest) → counted read front ≡ Ok (x, [])
+    → read front ≡ Ok (operand, []) → x ≡ with_size operand (length bytes - length rest) → with_count read front ≡ Ok (x, [])
 counted_front read bytes front rest x operand split h e =
     let long : length bytes ≡ length front + length rest = ap length split ∙ length-append front rest in
     let none : List ℕ = [] in
     counted_as read front operand none (length bytes - length rest) x h (omega arith) e
 
-pub counted_reader : {read : List ℕ → Read Operand} → IsReader read → IsReader (counted read)
+pub counted_reader : {read : List ℕ → Read Operand} → IsReader read → IsReader (with_count read)
 counted_reader {read = read} first = record {
   extends = λ bytes more x rest h.
       let read_parts = counted_parts read bytes x rest h in

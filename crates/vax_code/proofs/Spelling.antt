@@ -13,7 +13,7 @@ use Rattle.vax_code.specs.declared.instr.Base.{Base}
 use Rattle.vax_code.specs.declared.instr.Base.TheVariants as bases
 use Rattle.vax_code.specs.declared.table.Slot.{Slot}
 use Rattle.vax_code.specs.declared.table.Row.{Row}
-use Rattle.vax_code.specs.Reading.{Read, ◌>>=◌, byte_at, number_at, signed_at, displacement_at, base_at, indexed_at, specifier_at, operand_at, counted, place_at, operands_at, instruction_at, row_or_bad}
+use Rattle.vax_code.specs.Reading.{Read, ◌>>=◌, next_byte, next_number, next_signed, next_displacement, base_at, indexed_at, next_specifier, next_operand, with_count, operand_in_place, next_operands, instruction_at, row_or_bad}
 use Rattle.vax_code.specs.Operands.{width_of, operand_of, is_read, is_address, is_branch, assembled}
 use Rattle.vax_code.specs.Table.{slot_in, row_for}
 use Rattle.vax_code.specs.Grammar.{AreOctets, SpellsNumber, SpellsSigned, specifier, SpellsPlain, SpellsOnPc, SpellsDisplaced, SpellsBase, LeavesIndex, SpellsIndexed, SpellsSpecifier, SpellsBranch, SpellsOperand, SpellsPlace, spelled, IsInstruction}
@@ -45,24 +45,24 @@ nothing_left size bytes h k = omega (arith, length-drop size bytes, ap (λ (l : 
 take_all : (bytes : List ℕ) (size : ℕ) → length bytes ≡ size → take size bytes ≡ bytes
 take_all bytes size h = grind (arith, common_steps)
 
-number_spelled : (size n : ℕ) (bytes : List ℕ) → number_at size bytes ≡ Ok (n, []) → SpellsNumber size n bytes
+number_spelled : (size n : ℕ) (bytes : List ℕ) → next_number size bytes ≡ Ok (n, []) → SpellsNumber size n bytes
 number_spelled size n bytes h =
     let long = number_long size bytes n [] h in
     let sized : length bytes ≡ size = nothing_left size bytes long.0 long.2 in
     record { sized = sized; valued = long.1 ∙ ap (λ (l : List ℕ). from_le_bytes (width_of size) l) (take_all bytes size sized) }
 
-pub number_read : (size n : ℕ) (bytes : List ℕ) → SpellsNumber size n bytes → number_at size bytes ≡ Ok (n, [])
+pub number_read : (size n : ℕ) (bytes : List ℕ) → SpellsNumber size n bytes → next_number size bytes ≡ Ok (n, [])
 number_read size n bytes h = number_exact size bytes h.sized ∙ ap (λ (m : ℕ). Ok (m, [])) (sym h.valued)
 
-signed_spelled : (size : ℕ) (by : ℤ) (bytes : List ℕ) → signed_at size bytes ≡ Ok (by, []) → SpellsSigned size by bytes
-unfolding signed_at
+signed_spelled : (size : ℕ) (by : ℤ) (bytes : List ℕ) → next_signed size bytes ≡ Ok (by, []) → SpellsSigned size by bytes
+unfolding next_signed
 signed_spelled size by bytes h =
-    let number = mapped_parts (number_at size bytes) (cast_signed (width_of size)) by [] h in
+    let number = mapped_parts (next_number size bytes) (cast_signed (width_of size)) by [] h in
     let spells = number_spelled size number.0 bytes number.1 in
     record { sized = spells.sized; valued = number.2 ∙ ap (cast_signed (width_of size)) spells.valued }
 
-pub signed_read : (size : ℕ) (by : ℤ) (bytes : List ℕ) → SpellsSigned size by bytes → signed_at size bytes ≡ Ok (by, [])
-unfolding signed_at
+pub signed_read : (size : ℕ) (by : ℤ) (bytes : List ℕ) → SpellsSigned size by bytes → next_signed size bytes ≡ Ok (by, [])
+unfolding next_signed
 signed_read size by bytes h = rw (number_exact size bytes h.sized) (ap (λ (b : ℤ). Ok (b, [])) (sym h.valued))
 
 -- ---- bases, as they are read
@@ -116,12 +116,12 @@ displaces reg tail = by_mode (Displaces reg tail)
     (λ by small s. inr (inr (displaced 14 4 reg by tail small s)))
     (λ by small s. inr (inr (displaced 15 4 reg by tail small s)))
 
-displacement_spelled : (mode reg : ℕ) (tail : List ℕ) (base : Base) → 9 < mode → mode < 16 → reg < 16 → displacement_at mode reg tail ≡ Ok (base, [])
+displacement_spelled : (mode reg : ℕ) (tail : List ℕ) (base : Base) → 9 < mode → mode < 16 → reg < 16 → next_displacement mode reg tail ≡ Ok (base, [])
     → SpellsBase base (specifier mode reg ∷ tail)
-unfolding displacement_at Displaces
+unfolding next_displacement Displaces
 displacement_spelled mode reg tail base low high small h =
     let size = cond (nat_lt mode 12) 1 (cond (nat_lt mode 14) 2 4) in
-    let by = mapped_parts (signed_at size tail) (λ by. bases.Disp reg by (mode % 2 == 1)) base [] h in
+    let by = mapped_parts (next_signed size tail) (λ by. bases.Disp reg by (mode % 2 == 1)) base [] h in
     subst (λ (b : Base). SpellsBase b (specifier mode reg ∷ tail)) (sym by.2)
     (displaces reg tail mode low high by.0 small (signed_spelled size by.0 tail by.1))
 
@@ -131,10 +131,10 @@ number_leaf mode number tail reg known size e f spells =
     record { digits = tail; split = ap (λ (m : ℕ). specifier m reg ∷ tail) e ∙ ap (λ (r : ℕ). specifier known r ∷ tail) f; spells = spells }
 
 absolute_spelled : (mode reg : ℕ) (tail : List ℕ) (base : Base) → ((mode == 9) && (reg == 15)) ≡ true
-    → (number_at 4 tail >>= mapping bases.Absolute) ≡ Ok (base, []) → SpellsBase base (specifier mode reg ∷ tail)
+    → (next_number 4 tail >>= mapping bases.Absolute) ≡ Ok (base, []) → SpellsBase base (specifier mode reg ∷ tail)
 absolute_spelled mode reg tail base test h =
     let both = and_parts (mode == 9) (reg == 15) test in
-    let number = mapped_parts (number_at 4 tail) bases.Absolute base [] h in
+    let number = mapped_parts (next_number 4 tail) bases.Absolute base [] h in
     subst (λ (b : Base). SpellsBase b (specifier mode reg ∷ tail)) (sym number.2)
     (number_leaf mode number.0 tail reg 9 4 (eqb-true mode 9 both.0) (eqb-true reg 15 both.1) (number_spelled 4 number.0 tail number.1))
 
@@ -220,7 +220,7 @@ index_rest index byte tail operand small octet test h =
 
 indexed_spelled : (index : ℕ) (tail : List ℕ) (operand : Operand) → index < 15 → AreOctets tail → indexed_at index tail ≡ Ok (operand, [])
     → (base : Base) × (operand ≡ operands.Indexed index base) × SpellsIndexed index base (specifier 4 index ∷ tail)
-unfolding indexed_at byte_at changes
+unfolding indexed_at next_byte changes
 indexed_spelled index [] operand small octets h = absurd (cc)
 indexed_spelled index (byte ∷ tail) operand small octets h =
     by_test (nat_lt 6 (byte / 16) && nat_lt (byte / 16) 10 && (byte % 16 == index)) h
@@ -247,11 +247,11 @@ not_true true h = absurd (cc)
 not_true false h = refl
 
 immediate_spelled : (slot : Slot) (mode reg : ℕ) (tail : List ℕ) (operand : Operand) → ((mode == 8) && (reg == 15)) ≡ true
-    → is_read slot.access ≡ true → (number_at slot.size tail >>= mapping operands.Immediate) ≡ Ok (operand, [])
+    → is_read slot.access ≡ true → (next_number slot.size tail >>= mapping operands.Immediate) ≡ Ok (operand, [])
     → SpellsSpecifier slot operand (specifier mode reg ∷ tail)
 immediate_spelled slot mode reg tail operand test reads h =
     let both = and_parts (mode == 8) (reg == 15) test in
-    let number = mapped_parts (number_at slot.size tail) operands.Immediate operand [] h in
+    let number = mapped_parts (next_number slot.size tail) operands.Immediate operand [] h in
     subst (λ (o : Operand). SpellsSpecifier slot o (specifier mode reg ∷ tail)) (sym number.2)
     (reads, number_leaf mode number.0 tail reg 8 slot.size (eqb-true mode 8 both.0) (eqb-true reg 15 both.1) (number_spelled slot.size number.0 tail number.1))
 
@@ -264,8 +264,8 @@ of_base slot (bases.Absolute address) bytes h = h
 of_base slot (bases.Disp reg by deferred) bytes h = h
 
 specifier_spelled : (slot : Slot) (mode reg : ℕ) (tail : List ℕ) (operand : Operand) → mode < 16 → reg < 16 → AreOctets tail
-    → specifier_at slot mode reg tail ≡ Ok (operand, []) → SpellsSpecifier slot operand (specifier mode reg ∷ tail)
-unfolding specifier_at
+    → next_specifier slot mode reg tail ≡ Ok (operand, []) → SpellsSpecifier slot operand (specifier mode reg ∷ tail)
+unfolding next_specifier
 specifier_spelled slot mode reg tail operand high small octets h =
     by_test (nat_lt mode 4) h
     (λ literal k. by_test (is_read slot.access) k
@@ -295,28 +295,28 @@ specifier_spelled slot mode reg tail operand high small octets h =
     (of_base slot base.0 (specifier mode reg ∷ tail) (base_spelled mode reg tail base.0 high small base.1))))))
 
 with_specifier : (slot : Slot) (byte : ℕ) (tail : List ℕ) (operand : Operand) → byte < 256 → AreOctets tail
-    → specifier_at slot (byte / 16) (byte % 16) tail ≡ Ok (operand, []) → SpellsSpecifier slot operand (byte ∷ tail)
+    → next_specifier slot (byte / 16) (byte % 16) tail ≡ Ok (operand, []) → SpellsSpecifier slot operand (byte ∷ tail)
 with_specifier slot byte tail operand octet octets h =
     subst (λ (b : ℕ). SpellsSpecifier slot operand (b ∷ tail)) (halves byte)
     (specifier_spelled slot (byte / 16) (byte % 16) tail operand (omega arith) (omega arith) octets h)
 
 -- ---- operands and places, as they are read
 
-branch_spelled : (slot : Slot) (bytes : List ℕ) (operand : Operand) → (signed_at slot.size bytes >>= mapping operands.Branch) ≡ Ok (operand, [])
+branch_spelled : (slot : Slot) (bytes : List ℕ) (operand : Operand) → (next_signed slot.size bytes >>= mapping operands.Branch) ≡ Ok (operand, [])
     → SpellsBranch slot operand bytes
 branch_spelled slot bytes operand h =
-    let by = mapped_parts (signed_at slot.size bytes) operands.Branch operand [] h in
+    let by = mapped_parts (next_signed slot.size bytes) operands.Branch operand [] h in
     subst (λ (o : Operand). SpellsBranch slot o bytes) (sym by.2) (signed_spelled slot.size by.0 bytes by.1)
 
 specified : (slot : Slot) (bytes : List ℕ) (operand : Operand) → AreOctets bytes
-    → (byte_at bytes >>= λ first. specifier_at slot (first.0 / 16) (first.0 % 16) first.1) ≡ Ok (operand, []) → SpellsSpecifier slot operand bytes
-unfolding byte_at
+    → (next_byte bytes >>= λ first. next_specifier slot (first.0 / 16) (first.0 % 16) first.1) ≡ Ok (operand, []) → SpellsSpecifier slot operand bytes
+unfolding next_byte
 specified slot [] operand octets h = absurd (cc)
 specified slot (byte ∷ tail) operand octets h = with_specifier slot byte tail operand octets.0 octets.1 h
 
-operand_spelled : (slot : Slot) (bytes : List ℕ) (operand : Operand) → AreOctets bytes → operand_at slot bytes ≡ Ok (operand, [])
+operand_spelled : (slot : Slot) (bytes : List ℕ) (operand : Operand) → AreOctets bytes → next_operand slot bytes ≡ Ok (operand, [])
     → SpellsOperand (is_branch slot.access) slot operand bytes
-unfolding operand_at
+unfolding next_operand
 operand_spelled slot bytes operand octets h =
     by_test (is_branch slot.access) h
     (λ is k. subst (λ (b : Bool). SpellsOperand b slot operand bytes) (sym is) (branch_spelled slot bytes operand k))
@@ -329,10 +329,10 @@ record Placed (row : Row) (place : ℕ) (found : Spelled) (bytes : List ℕ) : T
   pub spells : SpellsPlace (nat_lt place row.count) (slot_in row place) operand bytes
 
 counted_place : (row : Row) (place : ℕ) (bytes : List ℕ) (found : Spelled) → AreOctets bytes → nat_lt place row.count ≡ true
-    → counted (operand_at (slot_in row place)) bytes ≡ Ok (found, []) → Placed row place found bytes
+    → with_count (next_operand (slot_in row place)) bytes ≡ Ok (found, []) → Placed row place found bytes
 counted_place row place bytes found octets is h =
     let slot = slot_in row place in
-    let read = counted_parts (operand_at slot) bytes found [] h in
+    let read = counted_parts (next_operand slot) bytes found [] h in
     let none : List ℕ = [] in
     let size : length bytes - length none ≡ length bytes = omega arith in
     record {
@@ -352,9 +352,9 @@ empty_place row place bytes found is h =
       spells = subst (λ (b : Bool). SpellsPlace b (slot_in row place) (operands.Literal 0) bytes) (sym is) (refl, both.1);
     }
 
-place_spelled : (row : Row) (place : ℕ) (bytes : List ℕ) (found : Spelled) → AreOctets bytes → place_at row place bytes ≡ Ok (found, [])
+place_spelled : (row : Row) (place : ℕ) (bytes : List ℕ) (found : Spelled) → AreOctets bytes → operand_in_place row place bytes ≡ Ok (found, [])
     → Placed row place found bytes
-unfolding place_at
+unfolding operand_in_place
 place_spelled row place bytes found octets h =
     by_test (nat_lt place row.count) h
     (λ is k. counted_place row place bytes found octets is k)
@@ -375,7 +375,7 @@ octets_rest : (xs ys : List ℕ) → AreOctets (xs ++ ys) → AreOctets ys
 octets_rest [] ys h = h
 octets_rest (x ∷ xs) ys h = octets_rest xs ys h.1
 
-front_spelled : (row : Row) (place : ℕ) (bytes rest : List ℕ) (found : Spelled) → AreOctets bytes → place_at row place bytes ≡ Ok (found, rest)
+front_spelled : (row : Row) (place : ℕ) (bytes rest : List ℕ) (found : Spelled) → AreOctets bytes → operand_in_place row place bytes ≡ Ok (found, rest)
     → Fronted row place found bytes rest
 front_spelled row place bytes rest found octets h =
     let front = (place_reader row place).fronts bytes found rest h in
@@ -412,29 +412,29 @@ whole op row a b c bytes after_a after_b instr listed one two three made = recor
 }
 
 abbrev last_at : ℕ → Row → Spelled → Spelled × List ℕ → Read Instr
-last_at op row a b = place_at row 2 b.1 >>= mapping (λ c. assembled op row a b.0 c)
+last_at op row a b = operand_in_place row 2 b.1 >>= mapping (λ c. assembled op row a b.0 c)
 
 abbrev later_at : ℕ → Row → Spelled × List ℕ → Read Instr
-later_at op row a = place_at row 1 a.1 >>= last_at op row a.0
+later_at op row a = operand_in_place row 1 a.1 >>= last_at op row a.0
 
 operands_spelled : (op : ℕ) (row : Row) (bytes : List ℕ) (instr : Instr) → row_for op ≡ Some row → AreOctets bytes
-    → operands_at op row bytes ≡ Ok (instr, []) → IsInstruction (op ∷ bytes) instr
-unfolding operands_at
+    → next_operands op row bytes ≡ Ok (instr, []) → IsInstruction (op ∷ bytes) instr
+unfolding next_operands
 operands_spelled op row bytes instr listed octets h =
-    let a = bind_ok (place_at row 0 bytes) (later_at op row) (instr, []) h in
+    let a = bind_ok (operand_in_place row 0 bytes) (later_at op row) (instr, []) h in
     let one = front_spelled row 0 bytes a.0.1 a.0.0 octets a.1 in
-    let b = bind_ok (place_at row 1 a.0.1) (last_at op row a.0.0) (instr, []) a.2 in
+    let b = bind_ok (operand_in_place row 1 a.0.1) (last_at op row a.0.0) (instr, []) a.2 in
     let two = front_spelled row 1 a.0.1 b.0.1 b.0.0 one.octets b.1 in
-    let c = mapped_parts (place_at row 2 b.0.1) (λ c. assembled op row a.0.0 b.0.0 c) instr [] b.2 in
+    let c = mapped_parts (operand_in_place row 2 b.0.1) (λ c. assembled op row a.0.0 b.0.0 c) instr [] b.2 in
     let three = place_spelled row 2 b.0.1 c.0 two.octets c.1 in
     whole op row a.0.0 b.0.0 c.0 bytes a.0.1 b.0.1 instr listed one two three c.2
 
 listed_spelled : (op : ℕ) (found : Option Row) (bytes : List ℕ) (instr : Instr) → row_for op ≡ found → AreOctets bytes
-    → (row_or_bad found >>= λ row. operands_at op row bytes) ≡ Ok (instr, []) → IsInstruction (op ∷ bytes) instr
+    → (row_or_bad found >>= λ row. next_operands op row bytes) ≡ Ok (instr, []) → IsInstruction (op ∷ bytes) instr
 listed_spelled op None bytes instr listed octets h = absurd (cc)
 listed_spelled op (Some row) bytes instr listed octets h = operands_spelled op row bytes instr listed octets h
 
 pub instruction_spelled : (bytes : List ℕ) (instr : Instr) → AreOctets bytes → instruction_at bytes ≡ Ok (instr, []) → IsInstruction bytes instr
-unfolding instruction_at byte_at
+unfolding instruction_at next_byte
 instruction_spelled [] instr octets h = absurd (cc)
 instruction_spelled (op ∷ bytes) instr octets h = listed_spelled op (row_for op) bytes instr refl octets.1 h

@@ -28,34 +28,34 @@ abbrev pub Read : Type 0 → Type 0
 Read A = Result (A × List ℕ) Fault
 
 -- the next byte; `Short` where there is none
-unfoldable pub byte_at : List ℕ → Read ℕ
-byte_at [] = Err Short
-byte_at (byte ∷ rest) = Ok (byte, rest)
+unfoldable pub next_byte : List ℕ → Read ℕ
+next_byte [] = Err Short
+next_byte (byte ∷ rest) = Ok (byte, rest)
 
 -- the little-endian number of 1, 2 or 4 bytes
-unfoldable pub number_at : ℕ → List ℕ → Read ℕ
-number_at size bytes =
+unfoldable pub next_number : ℕ → List ℕ → Read ℕ
+next_number size bytes =
     if nat_lt (length bytes) size then Err Short
     else Ok (from_le_bytes (width_of size) (take size bytes), drop size bytes)
 
 -- the little-endian number of 1, 2 or 4 bytes in two's complement
-unfoldable pub signed_at : ℕ → List ℕ → Read ℤ
-signed_at size bytes = do
-  number ← number_at size bytes
+unfoldable pub next_signed : ℕ → List ℕ → Read ℤ
+next_signed size bytes = do
+  number ← next_number size bytes
   Ok (cast_signed (width_of size) number.0, number.1)
 
 -- modes A to F: a displacement of 1, 2 or 4 bytes, deferred in the odd ones
-unfoldable pub displacement_at : ℕ → ℕ → List ℕ → Read Base
-displacement_at mode reg bytes = do
-  by ← signed_at (if nat_lt mode 12 then 1 else (if nat_lt mode 14 then 2 else 4)) bytes
+unfoldable pub next_displacement : ℕ → ℕ → List ℕ → Read Base
+next_displacement mode reg bytes = do
+  by ← next_signed (if nat_lt mode 12 then 1 else (if nat_lt mode 14 then 2 else 4)) bytes
   Ok (bases.Disp reg by.0 (mode % 2 == 1), by.1)
 
 -- modes 6 to F, which give an address
 unfoldable pub base_at : ℕ → ℕ → List ℕ → Read Base
 base_at mode reg bytes =
     if nat_lt mode 6 then Err Bad
-    else (if nat_lt 9 mode then displacement_at mode reg bytes
-    else (if (mode == 9) && (reg == 15) then (number_at 4 bytes >>= λ number. Ok (bases.Absolute number.0, number.1))
+    else (if nat_lt 9 mode then next_displacement mode reg bytes
+    else (if (mode == 9) && (reg == 15) then (next_number 4 bytes >>= λ number. Ok (bases.Absolute number.0, number.1))
     else (if reg == 15 then Err Bad
     else (if mode == 6 then Ok (bases.Deferred reg, bytes)
     else (if mode == 7 then Ok (bases.AutoDec reg, bytes)
@@ -65,25 +65,25 @@ base_at mode reg bytes =
 -- the base of an index: no immediate, and no change of the index register itself
 unfoldable pub indexed_at : ℕ → List ℕ → Read Operand
 indexed_at index bytes = do
-  first ← byte_at bytes
+  first ← next_byte bytes
   if nat_lt 6 (first.0 / 16) && nat_lt (first.0 / 16) 10 && (first.0 % 16 == index) then Err Bad
       else (base_at (first.0 / 16) (first.0 % 16) first.1 >>= λ base. Ok (operands.Indexed index base.0, base.1))
 
 -- the operand that a mode and a register begin
-unfoldable pub specifier_at : Slot → ℕ → ℕ → List ℕ → Read Operand
-specifier_at slot mode reg bytes =
+unfoldable pub next_specifier : Slot → ℕ → ℕ → List ℕ → Read Operand
+next_specifier slot mode reg bytes =
     if nat_lt mode 4 then (if is_read slot.access then Ok (operands.Literal (16 * mode + reg), bytes) else Err Bad)
     else (if mode == 4 then (if reg == 15 then Err Bad else indexed_at reg bytes)
     else (if mode == 5 then (if (reg == 15) || is_address slot.access then Err Bad else Ok (operands.Register reg, bytes))
     else (if (mode == 8) && (reg == 15) then
-    (if is_read slot.access then (number_at slot.size bytes >>= λ number. Ok (operands.Immediate number.0, number.1)) else Err Bad)
+    (if is_read slot.access then (next_number slot.size bytes >>= λ number. Ok (operands.Immediate number.0, number.1)) else Err Bad)
     else (base_at mode reg bytes >>= λ base. Ok (operand_of base.0, base.1)))))
 
 -- the operand of a slot: a branch displacement, or what its specifier begins
-unfoldable pub operand_at : Slot → List ℕ → Read Operand
-operand_at slot bytes =
-    if is_branch slot.access then (signed_at slot.size bytes >>= λ by. Ok (operands.Branch by.0, by.1))
-    else (byte_at bytes >>= λ first. specifier_at slot (first.0 / 16) (first.0 % 16) first.1)
+unfoldable pub next_operand : Slot → List ℕ → Read Operand
+next_operand slot bytes =
+    if is_branch slot.access then (next_signed slot.size bytes >>= λ by. Ok (operands.Branch by.0, by.1))
+    else (next_byte bytes >>= λ first. next_specifier slot (first.0 / 16) (first.0 % 16) first.1)
 
 -- what a function returned is what reading gives
 abbrev pub Gives : {X Y : Type 0} → (X → Y) → Result X Fault → Result Y Fault → Type 0
@@ -96,31 +96,31 @@ row_or_bad None = Err Bad
 row_or_bad (Some row) = Ok row
 
 -- what was read, and how many bytes it took
-unfoldable pub counted : (List ℕ → Read Operand) → List ℕ → Read Spelled
-counted read bytes = do
+unfoldable pub with_count : (List ℕ → Read Operand) → List ℕ → Read Spelled
+with_count read bytes = do
   operand ← read bytes
   Ok (record { operand = operand.0; size = length bytes - length operand.1 }, operand.1)
 
 -- the operand in a place of the row, or the filler where the instruction has none there
-unfoldable pub place_at : Row → ℕ → List ℕ → Read Spelled
-place_at row place bytes =
-    if nat_lt place row.count then counted (operand_at (slot_in row place)) bytes
+unfoldable pub operand_in_place : Row → ℕ → List ℕ → Read Spelled
+operand_in_place row place bytes =
+    if nat_lt place row.count then with_count (next_operand (slot_in row place)) bytes
     else Ok (record { operand = operands.Literal 0; size = 0 }, bytes)
 
 -- the operands that follow the opcode
-unfoldable pub operands_at : ℕ → Row → List ℕ → Read Instr
-operands_at op row bytes = do
-  a ← place_at row 0 bytes
-  b ← place_at row 1 a.1
-  c ← place_at row 2 b.1
+unfoldable pub next_operands : ℕ → Row → List ℕ → Read Instr
+next_operands op row bytes = do
+  a ← operand_in_place row 0 bytes
+  b ← operand_in_place row 1 a.1
+  c ← operand_in_place row 2 b.1
   Ok (assembled op row a.0 b.0 c.0, c.1)
 
 -- the instruction at the front of the bytes
 unfoldable pub instruction_at : List ℕ → Read Instr
 instruction_at bytes = do
-  first ← byte_at bytes
+  first ← next_byte bytes
   row ← row_or_bad (row_for first.0)
-  operands_at first.0 row first.1
+  next_operands first.0 row first.1
 
 -- what reading an instruction says: the instruction, that more bytes are needed, or that it is reserved
 abbrev pub decoding_of : Read Instr → Decoded

@@ -10,7 +10,7 @@ use Rattle.proc_table.specs.Records.{find, Lowest}
 use Rattle.kernel_model.specs.Kernel.{Proc}
 use Rattle.kernel_model.specs.Unit.{lends_life, has_lender, lender_among}
 use Rattle.machine_state.specs.Alike.{lends_to_by}
-use Rattle.machine_state.specs.Machine.{life_shown, proc_shown, proc_of, processes_of}
+use Rattle.machine_state.specs.Machine.{life_shown, proc_shown, proc_of_record, processes_of}
 use Rattle.machine_state.proofs.Records.{keeps_none, keeps_some, found_pid}
 use Rattle.machine_state.proofs.Kin.{true_false}
 use Rattle.vfork_pass.specs.Lenders.{lends_in, IsLender}
@@ -29,7 +29,7 @@ pub record IsFirst (ps : List Record) (borrower a n : ℕ) : Type 0 where
 
 module _ (ps : List Record) (borrower : ℕ) where
   abbrev shown : ℕ → Option Proc
-  shown n = proc_of (find n ps)
+  shown n = proc_of_record (find n ps)
 
   earlier : (a n : ℕ) → lends_in borrower (find a ps) ≡ false → IsFirst ps borrower (a + 1) n → IsFirst ps borrower a n
   earlier a n here f = record {
@@ -41,8 +41,8 @@ module _ (ps : List Record) (borrower : ℕ) where
     ];
   }
 
-  pub first_over : (k a : ℕ) → has_lender (filter_map (λ n. proc_of (find n ps)) (range_with_len a k)) borrower ≡ true
-      → IsFirst ps borrower a (lender_among (filter_map (λ n. proc_of (find n ps)) (range_with_len a k)) borrower)
+  pub first_over : (k a : ℕ) → has_lender (filter_map (λ n. proc_of_record (find n ps)) (range_with_len a k)) borrower ≡ true
+      → IsFirst ps borrower a (lender_among (filter_map (λ n. proc_of_record (find n ps)) (range_with_len a k)) borrower)
   first_over zero a e = absurd (let z : false ≡ true = e in cc)
   first_over (suc k) a e = go (find a ps) refl (first_over k (a + 1))
     where
@@ -65,11 +65,11 @@ module _ (ps : List Record) (borrower : ℕ) where
       go : (o : Option Record) → find a ps ≡ o → (has_lender rest borrower ≡ true → IsFirst ps borrower (a + 1) (lender_among rest borrower))
           → IsFirst ps borrower a (lender_among all borrower)
       go None f more =
-          let is : all ≡ rest = keeps_none shown a (range_with_len (a + 1) k) (ap proc_of f) in
+          let is : all ≡ rest = keeps_none shown a (range_with_len (a + 1) k) (ap proc_of_record f) in
           subst (λ (ls : List Proc). IsFirst ps borrower a (lender_among ls borrower)) (sym is)
           (earlier a (lender_among rest borrower) (ap (lends_in borrower) f) (more (sym (ap (λ (ls : List Proc). has_lender ls borrower) is) ∙ e)))
       go (Some x) f more =
-          let is : all ≡ proc_shown x ∷ rest = keeps_some shown a (range_with_len (a + 1) k) (proc_shown x) (ap proc_of f) in
+          let is : all ≡ proc_shown x ∷ rest = keeps_some shown a (range_with_len (a + 1) k) (proc_shown x) (ap proc_of_record f) in
           subst (λ (ls : List Proc). IsFirst ps borrower a (lender_among ls borrower)) (sym is)
           (by x (lends_life borrower (life_shown x.state)) f refl (sym (ap (λ (ls : List Proc). has_lender ls borrower) is) ∙ e) more)
 

@@ -16,7 +16,7 @@ use Rattle.kernel_model.specs.Unit.{lends_life, has_lender, lender_among}
 use Rattle.machine_state.specs.Alike.{lends_to_by, lends_to, AreRecords}
 use Rattle.machine_state.specs.Applying.{MayPass}
 use Rattle.machine_state.specs.Calls.{life_in}
-use Rattle.machine_state.specs.Machine.{life_shown, proc_shown, proc_of, processes_of}
+use Rattle.machine_state.specs.Machine.{life_shown, proc_shown, proc_of_record, processes_of}
 use Rattle.machine_state.proofs.Records.{keeps_none, keeps_some, found_pid}
 use Rattle.machine_state.proofs.Listed.{process_is}
 use Rattle.machine_state.proofs.Kin.{true_false}
@@ -39,22 +39,22 @@ found_lender (Some p) pid e = (p, refl, e)
 -- where no process lends in its new record, none does
 none_over : (ps : List Record) (g : Proc → Proc) (pid : ℕ)
     → ((n : ℕ) (x : Record) → find n ps ≡ Some x → (let y : Proc = g (proc_shown x) in lends_life pid y.life) ≡ false)
-    → (ns : List ℕ) → has_lender (map g (filter_map (λ n. proc_of (find n ps)) ns)) pid ≡ false
+    → (ns : List ℕ) → has_lender (map g (filter_map (λ n. proc_of_record (find n ps)) ns)) pid ≡ false
 none_over ps g pid each [] = refl
 none_over ps g pid each (n ∷ ns) = go (find n ps) refl (none_over ps g pid each ns)
   where
     shown : ℕ → Option Proc
-    shown m = proc_of (find m ps)
+    shown m = proc_of_record (find m ps)
 
     go : (o : Option Record) → find n ps ≡ o → has_lender (map g (filter_map shown ns)) pid ≡ false → has_lender (map g (filter_map shown (n ∷ ns))) pid ≡ false
-    go None f more = ap (λ (qs : List Proc). has_lender (map g qs) pid) (keeps_none shown n ns (ap proc_of f)) ∙ more
+    go None f more = ap (λ (qs : List Proc). has_lender (map g qs) pid) (keeps_none shown n ns (ap proc_of_record f)) ∙ more
     go (Some x) f more =
-        ap (λ (qs : List Proc). has_lender (map g qs) pid) (keeps_some shown n ns (proc_shown x) (ap proc_of f))
+        ap (λ (qs : List Proc). has_lender (map g qs) pid) (keeps_some shown n ns (proc_shown x) (ap proc_of_record f))
         ∙ ap (λ (b : Bool). b || has_lender (map g (filter_map shown ns)) pid) (each n x f) ∙ more
 
 module _ (k : Kernel) (ps : List Record) (next child : ℕ) (is : k.processes ≡ processes_of ps next) (h : AreRecords ps next) (holds : IsHolder (life_in k child))
     (borrowed : has_lender k.processes child ≡ true) where
-  at : (n : ℕ) → numbered (λ (p : Proc). p.pid) n k.processes ≡ proc_of (find n ps)
+  at : (n : ℕ) → numbered (λ (p : Proc). p.pid) n k.processes ≡ proc_of_record (find n ps)
   at n = ap (numbered (λ (p : Proc). p.pid) n) is ∙ process_is ps next n h
 
   lends_there : lends_in child (find (lender_among k.processes child) ps) ≡ true
@@ -66,7 +66,7 @@ module _ (k : Kernel) (ps : List Record) (next child : ℕ) (is : k.processes �
   lending =
       let x = found_lender (find (lender_among k.processes child) ps) child lends_there in
       let l = lends_life_is x.0.state child x.2 in
-      (l.0, ap life_of_proc (at (lender_among k.processes child) ∙ ap proc_of x.1) ∙ l.1)
+      (l.0, ap life_of_proc (at (lender_among k.processes child) ∙ ap proc_of_record x.1) ∙ l.1)
 
   pub may_return : MayPass (life_in k child) (life_in k (lender_among k.processes child)) child
   may_return =
@@ -77,7 +77,7 @@ module _ (k : Kernel) (ps : List Record) (next child : ℕ) (is : k.processes �
   lender_alive =
       let x = found_lender (find (lender_among k.processes child) ps) child lends_there in
       let l = lends_life_is x.0.state child x.2 in
-      ap lives_in (at (lender_among k.processes child) ∙ ap proc_of x.1) ∙ ap has_life l.1
+      ap lives_in (at (lender_among k.processes child) ∙ ap proc_of_record x.1) ∙ ap has_life l.1
 
   apart : lender_among k.processes child ≢ child
   apart i =

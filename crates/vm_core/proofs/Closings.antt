@@ -22,7 +22,7 @@ use Rattle.journal_laws.proofs.Idle.{count_most, few_turns}
 use Rattle.journal_laws.specs.Leads.{Leads}
 use Rattle.journal_laws.proofs.Units.{none_leads, both_lead}
 use Rattle.run_start.specs.Lines.{IsOver, TurnDue}
-use Rattle.proc_run.specs.Choosing.{next_turned as chosen_next}
+use Rattle.proc_run.specs.Choosing.{turn_after as chosen_next}
 use Rattle.proc_run.proofs.Ready.{turned_same}
 use Rattle.vm_core.specs.Cores.{Underway, StandsIn, CoreAt}
 use Rattle.vm_core.specs.Closing.{TurnHad, HasTurn, StopsTurn, IdleSince, LinesAre, ClosesTo, Closes, StopsClosing, StopsClosingRun, CountsTurn, EndsPhase}

@@ -16,7 +16,7 @@ use Rattle.page_model.specs.Ownership.{block_of}
 use Rattle.page_model.specs.Stored.{store_at}
 use Rattle.kernel_model.specs.Kernel.{Kernel}
 use Rattle.kernel_model.specs.Coupled.{memory_of}
-use Rattle.machine_state.specs.Done.{SpoilsAll, SpoilsBy as SpoilsTransfers}
+use Rattle.machine_state.specs.Done.{SpoilsAll, SpoilsFirst as SpoilsTransfers}
 use Rattle.machine_state.specs.Machine.{Standing}
 use Rattle.machine_state.specs.Failing.{LosesOldest}
 use Rattle.journal_laws.specs.Stops.{CauseBy, SpoilsBy, StaysPut, StaysStarved, StaysReturned, StopsLess, StopsPut, LeftBy}

@@ -17,7 +17,7 @@ use Rattle.kernel_laws.proofs.Machine.Swaps.{found_at}
 use Rattle.kernel_laws.proofs.Machine.Tables.{kept_at, outline_at}
 use Rattle.machine_state.specs.Alike.{AreRecords}
 use Rattle.machine_state.specs.Calls.{life_in}
-use Rattle.machine_state.specs.Machine.{Standing, life_shown, proc_of as shown_of, processes_of, residents_of}
+use Rattle.machine_state.specs.Machine.{Standing, life_shown, proc_of_record as shown_of, processes_of, residents_of}
 use Rattle.machine_state.proofs.Listed.{process_is}
 use Rattle.machine_state.proofs.Records.{found_pid}
 use Rattle.run_laws.proofs.Acts.{Stepper, stepper}

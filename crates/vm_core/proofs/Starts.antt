@@ -7,7 +7,7 @@ use Rattle.swap_book.specs.Holdings.{Holdings}
 use Rattle.flat_state.specs.Flat.{Inputs}
 use Rattle.flat_model.specs.Run.{Point}
 use Rattle.machine_state.specs.Machine.{Standing}
-use Rattle.run_laws.specs.Longwords.{AllFit}
+use Rattle.run_laws.specs.Longwords.{ProcessesFit}
 use Rattle.run_laws.proofs.Registers.{start_regs_are}
 use Rattle.run_model.specs.State.{start}
 use Rattle.run_model.specs.Next.{under, last_turned}
@@ -46,7 +46,7 @@ module _ (A : Inputs) (old new : Underway) (numbers : List ℕ) (holds : Option 
     told = l.leads.told;
     inputs = inputs_on A old.machine new.machine inputs on.params on.images;
     longwords = record {
-      fit = subst (λ (p : Point). AllFit p.flat.processes) (sym l.same.point) (start_regs_are A inputs.images);
+      fit = subst (λ (p : Point). ProcessesFit p.flat.processes) (sym l.same.point) (start_regs_are A inputs.images);
       next = let e = ap (λ (p : Point). p.flat.next_pid) l.same.point in omega (arith, e);
     };
     crowd = subst (λ (p : Point). length p.flat.processes ≤ 64) (sym l.same.point) crowd;

@@ -17,7 +17,7 @@ use Rattle.journal_laws.specs.Stretch.{turns_of, NoneCounts}
 use Rattle.journal_laws.specs.Leads.{Leads}
 use Rattle.run_start.specs.Stepped.{StopLeads}
 use Rattle.run_start.specs.Lines.{IsOver, IsClear, TurnDue}
-use Rattle.proc_run.specs.Choosing.{next_turned as chosen_next}
+use Rattle.proc_run.specs.Choosing.{turn_after as chosen_next}
 use Rattle.journal_laws.specs.Accounts.{Account}
 use Rattle.journal_laws.specs.Economy.{Economy}
 use Rattle.vm_core.specs.Accounts.{StopsAccounted}

@@ -5,7 +5,7 @@ use Rattle.vm_facts.specs.declared.stop.Stop.{Stop}
 use Rattle.io_edge.specs.FileHolding.{NamedFile}
 use Rattle.flat_state.specs.Flat.{Inputs}
 use Rattle.machine_state.specs.Machine.{Standing}
-use Rattle.run_laws.specs.Longwords.{AllFit}
+use Rattle.run_laws.specs.Longwords.{ProcessesFit}
 use Rattle.run_model.specs.State.{State}
 use Rattle.run_model.specs.After.{mark_of_event}
 use Rattle.run_start.specs.Machines.{MachineAt}
@@ -18,7 +18,7 @@ pub record LineAt (A : Inputs) (s : State) (m : Standing) (holds : Option (List 
   pub told : i ≡ Some image
   pub clear : IsClear s
   pub mark : s.mark ≡ mark_of_event s e
-  pub fit : AllFit s.point.flat.processes
+  pub fit : ProcessesFit s.point.flat.processes
 
 -- for every such state, next units lead to where the line is over
 abbrev pub MakesLine : Event → Standing → Standing → Option (List NamedFile) → Option (List ℕ) → Option (List ℕ) → Type 0

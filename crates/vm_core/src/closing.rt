@@ -8,7 +8,7 @@ ghost use Rattle.machine_state.specs.Calls.{life_in};
 ghost use Rattle.machine_state.specs.Files.{AreFiles};
 ghost use Rattle.machine_state.specs.Outside.{stop_of, TransfersPages};
 ghost use Rattle.run_start.specs.Sizes.{KeptAtStop};
-ghost use Rattle.proc_run.specs.Choosing.{next_turned};
+ghost use Rattle.proc_run.specs.Choosing.{turn_after};
 ghost use Rattle.proc_run.specs.Runs.{IsSteady};
 ghost use Rattle.proc_run.specs.Running.{CountsTo};
 ghost use Rattle.vm_core.specs.Steady.{StaysSteady};
@@ -96,7 +96,7 @@ fn turn<F: Files, D: SwapDev>(
 // process can step.
 fn next_turn(m: &Machine, count: u32, last: u32, idle: u32) -> Option<u32>
     requires { IsRunning m.now }
-    ensures some { IfSome result (λ pid. next_turned m.now.kernel last ≡ Some pid) }
+    ensures some { IfSome result (λ pid. turn_after m.now.kernel last ≡ Some pid) }
     ensures below { IfSome result (λ pid. count < m.now.params.limit) }
     ensures few { IfSome result (λ pid. idle ≤ 64) }
     ensures none { result ≡ None → EndsPhase m.now count last idle }

@@ -20,10 +20,10 @@ read_by true byte was = Is byte
 read_by false byte was = was
 
 -- a memory after one byte was written
-abbrev pub put : Answers → ByteWrite → Answers
-put memory w = record memory { read = λ address. read_by (address == w.address) w.byte (memory.read address) }
+abbrev pub put_byte : Answers → ByteWrite → Answers
+put_byte memory w = record memory { read = λ address. read_by (address == w.address) w.byte (memory.read address) }
 
 -- a memory after these bytes were written, in order
 abbrev pub written : Answers → List ByteWrite → Answers
 written memory [] = memory
-written memory (w ∷ ws) = written (put memory w) ws
+written memory (w ∷ ws) = written (put_byte memory w) ws

@@ -16,7 +16,7 @@ use Rattle.run_opening.specs.Opening.{FoundFiles, HasAll, FailsAtImage}
 use Rattle.reference_commands.specs.RunCommandAsking.{Request}
 use Rattle.reference_commands.specs.Seen.{Seen}
 use Rattle.reference_commands.specs.Machines.{journal_entries}
-use Rattle.reference_commands.specs.RunCommandEnds.{Ending, status_of, DevicesSuffice, IsCaused, IsJudged, EndsTold}
+use Rattle.reference_commands.specs.RunCommandEnds.{RunEnding, status_of, DevicesSuffice, IsCaused, IsJudged, EndsTold}
 use Rattle.reference_commands.specs.Loads.{load_numbers, IsLoadCaused}
 use Rattle.vm_run.specs.Complete.{IsSound, NoneRose, RunsComplete, LoadsComplete, ToldLoadsComplete}
 
@@ -51,11 +51,11 @@ no_failed_image found why all fails =
     cc
 
 -- what is left for an ending
-abbrev Left : Ending → List Entry → Type 0
+abbrev Left : RunEnding → List Entry → Type 0
 Left ending journal = (status_of ending ≡ 0) ⊎ ((status_of ending ≡ 9) ⊎ ((status_of ending ≡ 10) × (length journal ≡ journal_entries)))
 
 module _ (request : Request) (seen : Seen) (files : List NamedFile) (image : List ℕ) (journal : List Entry) (is : IsSound request seen files image) (none : NoneRose seen) where
-  left : (ending : Ending) → IsCaused request seen journal ending → IsJudged request seen files ending → EndsTold request seen files journal image ending → Left ending journal
+  left : (ending : RunEnding) → IsCaused request seen journal ending → IsJudged request seen files ending → EndsTold request seen files journal image ending → Left ending journal
   left (Ok done) caused judged told = inl refl
   left (Err NoMemory) caused judged told = inr (inl refl)
   left (Err JournalFull) caused judged told = inr (inr (refl, caused.0.1))
@@ -82,7 +82,7 @@ runs_complete request seen status files image runs is none =
 -- Loads.
 
 module _ (seen : Seen) (journal : List Entry) (devices : DevicesSuffice load_numbers.swap seen) (none : NoneRose seen) where
-  left_of_load : (ending : Ending) → IsLoadCaused seen journal ending → Left ending journal
+  left_of_load : (ending : RunEnding) → IsLoadCaused seen journal ending → Left ending journal
   left_of_load (Ok done) caused = inl refl
   left_of_load (Err NoMemory) caused = inr (inl refl)
   left_of_load (Err JournalFull) caused = inr (inr (refl, caused.0.1))

@@ -9,13 +9,13 @@ use Rattle.command_words.specs.Asked.{Asked, Run, Load, Replay, Assemble, Show, 
 use Rattle.command_ending.specs.Ending.{Ending as CommandEnding}
 use Rattle.command_ending.specs.Command.{Faults, Writes, WritesEnding}
 use Rattle.source_commands.specs.Command.{source_bytes, EndsAssembly, EndsListing}
-use Rattle.replay_command.specs.Reading.{read_told as replay_told}
+use Rattle.replay_command.specs.Reading.{read_of_transcript as replay_told}
 use Rattle.replay_command.specs.Command.{EndsReplay}
 use Rattle.reference_commands.specs.RunCommandAsking.{Request}
 use Rattle.reference_commands.specs.Seen.{Seen}
 use Rattle.reference_commands.specs.Machines.{journal_entries}
 use Rattle.reference_commands.specs.Paired.{image_together}
-use Rattle.reference_commands.specs.RunCommandEnds.{Ending, status_of, Writing, IsCaused, IsJudged, EndsTold}
+use Rattle.reference_commands.specs.RunCommandEnds.{RunEnding, status_of, Writing, IsCaused, IsJudged, EndsTold}
 use Rattle.reference_commands.specs.Loads.{load_written, finished_lines, IsLoadCaused, LoadEnded}
 use Rattle.reference_commands.specs.declared.question.Question.{Question}
 use Rattle.reference_commands.specs.declared.question.Question.TheVariants as questions
@@ -52,7 +52,7 @@ seen_of files zero_blocks one_blocks swap written faults = record {
 
 -- a run, whose files and swap image are told
 pub record RunsTold (request : Request) (seen : Seen) (files : List NamedFile) (image : List ℕ) (status : ℕ) : Type 0 where
-  pub ending : Ending
+  pub ending : RunEnding
   pub journal : List Entry
   pub writes : Writing request.traced seen journal ending status
   pub within : length journal ≤ journal_entries
@@ -62,7 +62,7 @@ pub record RunsTold (request : Request) (seen : Seen) (files : List NamedFile) (
 
 -- a load, whose swap image is told
 pub record LoadsTold (number : ℕ) (seen : Seen) (image : List ℕ) (status : ℕ) : Type 0 where
-  pub ending : Ending
+  pub ending : RunEnding
   pub journal : List Entry
   pub writes : Writes seen.written_before seen.written_after seen.sink_faults_before seen.sink_faults_after (load_written number journal ending)
       (status_of ending) status

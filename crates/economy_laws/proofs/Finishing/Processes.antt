@@ -6,7 +6,7 @@ use Rattle.vm_facts.specs.declared.entry.Entry.{Entry}
 use Rattle.vm_facts.specs.declared.entry.Entry.TheVariants as entries
 use Rattle.flat_state.specs.Flat.{Inputs, can_step}
 use Rattle.page_model.specs.Pages.{is_valid}
-use Rattle.page_model.specs.Placement.{Placement, Residence, Due, due_at, state_of, IsThere}
+use Rattle.page_model.specs.Placement.{Placement, Residence, Due, due_of_page, state_of, IsThere}
 use Rattle.page_model.specs.Moves.{done}
 use Rattle.page_model.specs.Place.{moved, place_entry}
 use Rattle.page_model.specs.Rank.{rank, HasRoom}
@@ -17,7 +17,7 @@ use Rattle.page_laws.proofs.Moves.Locks.{done_spares, serve_spares}
 use Rattle.page_laws.proofs.Moves.Stays.{Steady, done_steady}
 use Rattle.page_laws.proofs.Moves.Units.{unit_is, now_unit}
 use Rattle.page_laws.proofs.Swapper.Residences.{moved_own}
-use Rattle.flat_model.specs.Run.{Point, process_of_entry, act as next_of_step}
+use Rattle.flat_model.specs.Run.{Point, process_of_entry, entry_of_step as next_of_step}
 use Rattle.flat_model.specs.Touched.{touched}
 use Rattle.run_model.specs.declared.mark.Mark.{Mark}
 use Rattle.run_model.specs.declared.mark.Mark.TheVariants as marks
@@ -26,7 +26,7 @@ use Rattle.run_model.specs.Wanted.{AllValid, running, first_absent, before_absen
 use Rattle.run_model.specs.After.{place_at, after}
 use Rattle.run_model.specs.Act.{act}
 use Rattle.run_model.specs.Next.{next_unit}
-use Rattle.run_model.specs.Kinds.{Runs, Comes, Kind, Fills, Brings, Copies, Serves, Acts, ComesIn, Interrupts, Moves, PutsOut, Notes, Begins}
+use Rattle.run_model.specs.Kinds.{ProcessRuns, Comes, Kind, Fills, Brings, Copies, Serves, Acts, ComesIn, Interrupts, Moves, PutsOut, Notes, Begins}
 use Rattle.run_model.proofs.NextUnits.{kind_of}
 use Rattle.run_model.proofs.Wanting.{split_absent, none_absent, split_first, split_before, all_present}
 use Rattle.run_laws.specs.Running.{IsRun}
@@ -36,7 +36,7 @@ use Rattle.run_laws.proofs.Plain.{paging_stays, serve_paging, serve_flat}
 use Rattle.run_laws.proofs.Room.{run_few, run_room}
 use Rattle.run_laws.proofs.Settling.{settles}
 use Rattle.run_laws.proofs.Units.{plain_place, owns}
-use Rattle.economy_laws.specs.Stretch.{Grown}
+use Rattle.economy_laws.specs.Stretch.{TouchesMore}
 use Rattle.economy_laws.specs.Finishes.{Finishes}
 use Rattle.economy_laws.proofs.Growing.{all_grown}
 use Rattle.economy_laws.proofs.Growth.{growth_touches}
@@ -56,9 +56,9 @@ pub record Inside (A : Inputs) (s : State) (pid : ℕ) : Type 0 where
 
 -- its units between two boundaries
 pub data Works (A : Inputs) (s : State) (pid : ℕ) (u : Entry) : Type 0 where
-  Serving : (now : Bool) (q : Page) → Runs A s pid now → wanted A s ≡ Some q → is_valid (state_of s.place q) ≡ false
+  Serving : (now : Bool) (q : Page) → ProcessRuns A s pid now → wanted A s ≡ Some q → is_valid (state_of s.place q) ≡ false
       → u ≡ serve_entry s.place q → Works A s pid u
-  Acting : (now : Bool) → Runs A s pid now → wanted A s ≡ None → act A s pid ≡ Some u → Works A s pid u
+  Acting : (now : Bool) → ProcessRuns A s pid now → wanted A s ≡ None → act A s pid ≡ Some u → Works A s pid u
   Entering : is_out s.place pid ≡ true → u ≡ entries.SwapIn pid → Works A s pid u
 
 running_lasts : (m : Mark) (pid : ℕ) → running m ≡ Some pid → IsLasting m
@@ -78,7 +78,7 @@ works A s pid u m d h n = go (kind_of A s u h)
     some : (a b : ℕ) → Some a ≡ Some b → a ≡ b
     some a b e = cc
 
-    same : (p : ℕ) (now : Bool) → Runs A s p now → p ≡ pid
+    same : (p : ℕ) (now : Bool) → ProcessRuns A s p now → p ≡ pid
     same p now r = some p pid (sym (on_running A s s.mark p now r.on) ∙ m)
 
     other : (x : Mark) → s.mark ≡ x → running x ≡ None → ⊥
@@ -88,8 +88,8 @@ works A s pid u m d h n = go (kind_of A s u h)
     go (Fills q ds e i) = absurd (let z : [] ≡ _ ∷ ds = sym d ∙ e in cc)
     go (Brings q parent ds e i) = absurd (let z : [] ≡ _ ∷ ds = sym d ∙ e in cc)
     go (Copies q parent ds e k i) = absurd (let z : [] ≡ _ ∷ ds = sym d ∙ e in cc)
-    go (Serves p now q r w i) = let k = unit_is s.place q now u i in Serving now q (subst (λ (x : ℕ). Runs A s x now) (same p now r) r) w k.0 k.1
-    go (Acts p now r w a) = Acting now (subst (λ (x : ℕ). Runs A s x now) (same p now r) r) w (subst (λ (x : ℕ). act A s x ≡ Some u) (same p now r) a)
+    go (Serves p now q r w i) = let k = unit_is s.place q now u i in Serving now q (subst (λ (x : ℕ). ProcessRuns A s x now) (same p now r) r) w k.0 k.1
+    go (Acts p now r w a) = Acting now (subst (λ (x : ℕ). ProcessRuns A s x now) (same p now r) r) w (subst (λ (x : ℕ). act A s x ≡ Some u) (same p now r) a)
     go (ComesIn p e c i) =
         let k = comes_out A s s.mark p pid m c in
         Entering (subst (λ (x : ℕ). is_out s.place x ≡ true) k.0 k.1) (i ∙ ap (λ (x : ℕ). entries.SwapIn x) k.0)
@@ -107,7 +107,7 @@ still_on A s pid u m n = ap running (mark_lasts A s u (running_lasts s.mark pid 
 idle_ends : (A : Inputs) (P : State → Type 0) (s : State) (pid : ℕ) → Stage A P → P s → Inside A s pid → can_step s.point.flat pid ≡ false → Finishes A s
 idle_ends A P s pid g p i c = finish_on A P s g p (λ u h n p2. absurd (go u (works A s pid u i.on i.clear h n)))
   where
-    runs : (now : Bool) → Runs A s pid now → ⊥
+    runs : (now : Bool) → ProcessRuns A s pid now → ⊥
     runs now r = absurd (let z : true ≡ false = sym (on_steps A s s.mark pid now r.on) ∙ c in cc)
 
     go : (u : Entry) → Works A s pid u → ⊥
@@ -151,7 +151,7 @@ serve_ends (suc n) A P pid q pages front s g on p i ts fs w lt = finish_on A P s
         plain = ap process_of_entry is ∙ serve_flat s.place q
 
         pl : (after A s u).place ≡ serve_step s.place front q
-        pl = after_served A s u front q locks (ap (λ (x : List Due). due_at x q) i.clear) (now_unit s.place q nv ∙ ap (λ (x : Entry). Some x) (sym is))
+        pl = after_served A s u front q locks (ap (λ (x : List Due). due_of_page x q) i.clear) (now_unit s.place q nv ∙ ap (λ (x : Entry). Some x) (sym is))
 
         due : (after A s u).place.due ≡ []
         due = ap (λ (x : Placement). x.due) pl ∙ serve_due_same s.place front q (owns A s r.placed) ∙ i.clear
@@ -280,7 +280,8 @@ act_ends (suc n) A P pid most s g on p i w m lt = finish_on A P s g p (λ u h b 
 
     grown : (u : Entry) (pages : ℕ) → next_unit A s ≡ Some u → is_boundary u ≡ false → P (after A s u) → u ≡ entries.Grew pid pages → Finishes A (after A s u)
     grown u pages h b p2 is =
-        let x : Grown A s (after A s u) pid = subst (λ (y : Entry). Grown A s (after A s y) pid) (sym is) (all_grown A (growth_touches A) s pid pages r (h ∙ ap (λ (y : Entry). Some y) is)) in
+        let x : TouchesMore A s (after A s u) pid =
+        subst (λ (y : Entry). TouchesMore A s (after A s y) pid) (sym is) (all_grown A (growth_touches A) s pid pages r (h ∙ ap (λ (y : Entry). Some y) is)) in
         let len = ap length x.touches in
         let len2 = length-append (touched A s.point.flat pid) (x.next ∷ x.more) in
         on (after A s u) p2 (record { on = still_on A s pid u i.on b; clear = x.clear; inside = x.resident i.inside }) (omega arith)

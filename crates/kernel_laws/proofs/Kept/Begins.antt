@@ -4,7 +4,7 @@ use Rattle.std.proofs.lemmas.List.{append-nil, map-append}
 use Rattle.vm_facts.specs.declared.page.Page.{Page}
 use Rattle.vm_facts.specs.declared.page.Page.TheVariants.{Data, Stack, Text}
 use Rattle.aout_image.specs.declared.Image.{Image}
-use Rattle.aout_image.specs.Image.{data_pages_of}
+use Rattle.aout_image.specs.Image.{image_data_pages}
 use Rattle.swap_dmap.specs.Chunks.{pieces}
 use Rattle.swap_book.specs.declared.Owner.TheVariants as owners
 use Rattle.swap_book.specs.declared.Held.{Held}
@@ -134,7 +134,7 @@ starting_more A first number named a e = go A.first first a
 abbrev last_asks : Placement → ℕ → ℕ → Starting → List Wanted
 last_asks p n pid a =
     text_asked n a.image (2 * length (slots_of p (Text a.image 0)))
-    ++ (wanted (owners.Data pid) (pieces (2 * data_pages_of a.facts)) ++ (wanted (owners.Stack pid) (pieces 2) ++ wanted (owners.U pid) (u_pieces 2)))
+    ++ (wanted (owners.Data pid) (pieces (2 * image_data_pages a.facts)) ++ (wanted (owners.Stack pid) (pieces 2) ++ wanted (owners.U pid) (u_pieces 2)))
 
 in_order : (t d s u r z : List Wanted) → (t ++ (d ++ (s ++ (u ++ r)))) ++ z ≡ t ++ (d ++ (s ++ (u ++ (r ++ z))))
 in_order t d s u r z = append_assoc t (d ++ (s ++ (u ++ r))) z
@@ -145,12 +145,12 @@ asks_last : (p : Placement) (earlier : List ℕ) (pid : ℕ) (first : List Start
     → start_asks p earlier pid (first ++ a ∷ []) ≡ start_asks p earlier pid first ++ last_asks p n (pid + length first) a
 asks_last p earlier pid [] a n e =
     ap (λ (l : List Wanted). text_asked (times a.image earlier) a.image (2 * length (slots_of p (Text a.image 0)))
-    ++ (wanted (owners.Data pid) (pieces (2 * data_pages_of a.facts)) ++ (wanted (owners.Stack pid) (pieces 2) ++ l))) (append-nil (wanted (owners.U pid) (u_pieces 2)))
+    ++ (wanted (owners.Data pid) (pieces (2 * image_data_pages a.facts)) ++ (wanted (owners.Stack pid) (pieces 2) ++ l))) (append-nil (wanted (owners.U pid) (u_pieces 2)))
     ∙ ap (λ (m : ℕ). last_asks p m pid a) (let z : times a.image earlier ≡ n = omega arith in z)
     ∙ ap (λ (m : ℕ). last_asks p n m a) (let z : pid ≡ pid + 0 = omega arith in z)
 asks_last p earlier pid (x ∷ first) a n e =
     let t : List Wanted = text_asked (times x.image earlier) x.image (2 * length (slots_of p (Text x.image 0))) in
-    let d : List Wanted = wanted (owners.Data pid) (pieces (2 * data_pages_of x.facts)) in
+    let d : List Wanted = wanted (owners.Data pid) (pieces (2 * image_data_pages x.facts)) in
     let s : List Wanted = wanted (owners.Stack pid) (pieces 2) in
     let u : List Wanted = wanted (owners.U pid) (u_pieces 2) in
     let r : List Wanted = start_asks p (x.image ∷ earlier) (pid + 1) first in
@@ -168,7 +168,7 @@ asks_same : (p q : Placement) → q.texts ≡ p.texts → (earlier : List ℕ) (
     → start_asks q earlier pid first ≡ start_asks p earlier pid first
 asks_same p q e earlier pid [] = refl
 asks_same p q e earlier pid (a ∷ more) =
-    let d : List Wanted = wanted (owners.Data pid) (pieces (2 * data_pages_of a.facts)) in
+    let d : List Wanted = wanted (owners.Data pid) (pieces (2 * image_data_pages a.facts)) in
     let s : List Wanted = wanted (owners.Stack pid) (pieces 2) in
     let u : List Wanted = wanted (owners.U pid) (u_pieces 2) in
     ap (λ (ts : List TextPages).
@@ -187,7 +187,8 @@ start_finds size images first a frames hs e =
     ap (place_all size []) (asks_same p q refl [] 1 (first ++ a ∷ []) ∙ asks_last p [] 1 first a (sharers p a.image) (omega arith))
     ∙ place_all-append size [] (start_asks p [] 1 first) (last_asks p (sharers p a.image) (1 + length first) a)
     ∙ ap (λ (r : Result (List Held) ℕ). and_then r (λ now. place_all size now (last_asks p (sharers p a.image) (1 + length first) a))) e
-    ∙ ap (place_all size hs) (whole (text_asked (sharers p a.image) a.image (2 * length (slots_of p (Text a.image 0)))) (wanted (owners.Data (1 + length first)) (pieces (2 * data_pages_of a.facts)))
+    ∙ ap (place_all size hs)
+    (whole (text_asked (sharers p a.image) a.image (2 * length (slots_of p (Text a.image 0)))) (wanted (owners.Data (1 + length first)) (pieces (2 * image_data_pages a.facts)))
     (wanted (owners.Stack (1 + length first)) (pieces 2)) (wanted (owners.U (1 + length first)) (u_pieces 2)))
 
 -- What is due.

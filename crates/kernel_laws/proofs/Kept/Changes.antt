@@ -28,7 +28,7 @@ use Rattle.kernel_model.specs.Taken.{MayReap, MayChange}
 use Rattle.kernel_model.specs.Asks.{asked, MayAsk, WantsThese}
 use Rattle.kernel_model.specs.Numbers.{Numbered, TakesNext, ReadySpace, ReadyBy, ReadyFor, SettlesFor}
 use Rattle.kernel_model.specs.Start.{ImageFits, ImagesFit}
-use Rattle.kernel_model.specs.Unit.{KernelState, ChangeUnit, lender_among, has_lender, keeps_step, back_step, passing_change, with_found, state_after}
+use Rattle.kernel_model.specs.Unit.{KernelState, ChangeUnit, lender_among, has_lender, keeps_step, back_step, passing_change, with_found, kernel_after}
 use Rattle.kernel_model.specs.Invariant.{WereFound, Invariant, Acts, EntersImage, MayComplete}
 use Rattle.page_laws.proofs.Lists.Local.{none_some}
 use Rattle.page_laws.proofs.Bytes.Others.{settled_rests}
@@ -456,7 +456,7 @@ no_pieces size hs = record { pieces = []; placed = refl }
 
 pub change_kept : (size : ℕ) (images : List NamedImage) (m : KernelState) (pid : ℕ) (regs : Regs) (e : Entry) (change : Change) → ImagesFit images
     → Invariant size images m
-    → MayComplete size images m pid change → Invariant size images (state_after images m (ChangeUnit pid regs e change))
+    → MayComplete size images m pid change → Invariant size images (kernel_after images m (ChangeUnit pid regs e change))
 change_kept size images m pid regs e change fits i may =
     let k : Kernel = with_found m in
     let acts : Acts m.kernel m.flat pid may.process may.space = may.acts in

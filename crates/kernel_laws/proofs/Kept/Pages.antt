@@ -10,7 +10,7 @@ use Rattle.swap_book.specs.Holdings.{Holdings, block_in}
 use Rattle.flat_state.specs.Flat.{NamedImage}
 use Rattle.flat_state.specs.Journal.{append}
 use Rattle.page_model.specs.Pages.{Zeros, frame_of}
-use Rattle.page_model.specs.Placement.{Placement, Due, Start, CopyOf, slots_of, due_at, filling_of}
+use Rattle.page_model.specs.Placement.{Placement, Due, Start, CopyOf, slots_of, due_of_page, filling_of}
 use Rattle.page_model.specs.Place.{place_entry, space_of_holding}
 use Rattle.page_model.specs.PuttingOut.{IsResident}
 use Rattle.page_model.specs.Stored.{stored_at, store_at}
@@ -25,7 +25,7 @@ use Rattle.kernel_model.specs.Coupled.{Coupled, KeepsRegs}
 use Rattle.kernel_model.specs.Sound.{Sound, lives, lives_in, has_life}
 use Rattle.kernel_model.specs.Numbers.{Numbered}
 use Rattle.kernel_model.specs.Stands.{Stands}
-use Rattle.kernel_model.specs.Unit.{KernelState, ZeroUnit, CopyUnit, GetUnit, ReclaimUnit, HandsUnit, PutUnit, DoneUnit, NoteUnit, FindUnit, OutUnit, InUnit, state_after, u_bytes}
+use Rattle.kernel_model.specs.Unit.{KernelState, ZeroUnit, CopyUnit, GetUnit, ReclaimUnit, HandsUnit, PutUnit, DoneUnit, NoteUnit, FindUnit, OutUnit, InUnit, kernel_after, u_bytes}
 use Rattle.kernel_model.specs.Invariant.{WereFound, Invariant, Acts, IsNoCopy, IsCopied, MayZero, MayCopy, MayGet, MayPut, MayLeave, MayReturn, May}
 use Rattle.page_laws.proofs.Due.Entries.{entry_due}
 use Rattle.page_laws.proofs.Moves.Parts.{entry_parts}
@@ -66,11 +66,11 @@ writable_shared p (Text image v) w = absurd w
 writable_shared p _ w = tt
 
 pub zero_kept : (size : ℕ) (images : List NamedImage) (m : KernelState) (q : Page) → Invariant size images m → MayZero m.kernel.place q
-    → Invariant size images (state_after images m (ZeroUnit q))
+    → Invariant size images (kernel_after images m (ZeroUnit q))
 zero_kept size images m q i may = record {
   sound = zero_sound size k q i.sound enter (writable_shared k.place q writable);
   numbered = zero_numbered k q i.numbered;
-  coupled = coupled (due_at k.place.due q) refl may.own;
+  coupled = coupled (due_of_page k.place.due q) refl may.own;
   stands = zero_stands images k m.flat q st;
   dues = dues_kept size images m [] 0 (entries.Zero q) i enter may.once;
   parts = parts_kept size images m [] 0 (entries.Zero q) i enter tt;
@@ -92,19 +92,19 @@ zero_kept size images m q i may = record {
     enter : CanEnter k.place q
     enter = record { there = may.there; frameless = ap frame_of may.unfilled }
 
-    coupled : (d : Option Due) → due_at k.place.due q ≡ d → IsNoCopy d → Coupled (zero_step k q) images m.image m.flat
+    coupled : (d : Option Due) → due_of_page k.place.due q ≡ d → IsNoCopy d → Coupled (zero_step k q) images m.image m.flat
     coupled None e n = zero_coupled size k images m.image m.flat q i.sound st.starts enter writable may.some may.unfilled e may.zeros i.coupled
     coupled (Some (Start r)) e n = start_coupled size k images m.image m.flat q r i.sound enter writable may.some may.unfilled e i.coupled
     coupled (Some (CopyOf r parent)) e n = absurd n
 
 pub copy_kept : (size : ℕ) (images : List NamedImage) (m : KernelState) (q : Page) → Invariant size images m → MayCopy m.kernel.place q
-    → Invariant size images (state_after images m (CopyUnit q))
-copy_kept size images m q i may = go (due_at k.place.due q) refl may.parent
+    → Invariant size images (kernel_after images m (CopyUnit q))
+copy_kept size images m q i may = go (due_of_page k.place.due q) refl may.parent
   where
     k : Kernel
     k = m.kernel
 
-    go : (d : Option Due) → due_at k.place.due q ≡ d → IsCopied k.place d → Invariant size images (state_after images m (CopyUnit q))
+    go : (d : Option Due) → due_of_page k.place.due q ≡ d → IsCopied k.place d → Invariant size images (kernel_after images m (CopyUnit q))
     go None e n = absurd n
     go (Some (Start r)) e n = absurd n
     go (Some (CopyOf r parent)) e (f, v) =
@@ -126,7 +126,7 @@ copy_kept size images m q i may = go (due_at k.place.due q) refl may.parent
 -- Transfers.
 
 pub get_kept : (size : ℕ) (images : List NamedImage) (m : KernelState) (q : Page) (lo n : ℕ) → Invariant size images m → MayGet m.kernel.place q lo n
-    → Invariant size images (state_after images m (GetUnit q lo n))
+    → Invariant size images (kernel_after images m (GetUnit q lo n))
 get_kept size images m q lo n i may = let k : Kernel = m.kernel in record {
   sound = plain_sound size k [] (entries.Get q lo n) i.sound may.enter may.shared (let l = may.few in omega arith);
   numbered = plain_numbered k [] (entries.Get q lo n) i.numbered;
@@ -141,7 +141,7 @@ get_kept size images m q lo n i may = let k : Kernel = m.kernel in record {
 }
 
 pub reclaim_kept : (size : ℕ) (images : List NamedImage) (m : KernelState) (q : Page) → Invariant size images m → IsShared m.kernel.place q
-    → Invariant size images (state_after images m (ReclaimUnit q))
+    → Invariant size images (kernel_after images m (ReclaimUnit q))
 reclaim_kept size images m q i shared = let k : Kernel = m.kernel in let so : Sound size k = i.sound in record {
   sound = plain_sound size k [] (entries.Reclaim q) i.sound tt shared (let l = so.few_transfers in omega arith);
   numbered = plain_numbered k [] (entries.Reclaim q) i.numbered;
@@ -156,7 +156,7 @@ reclaim_kept size images m q i shared = let k : Kernel = m.kernel in let so : So
 }
 
 pub hands_kept : (size : ℕ) (images : List NamedImage) (m : KernelState) (locked : List Page) → Invariant size images m
-    → May size images m (HandsUnit locked) → Invariant size images (state_after images m (HandsUnit locked))
+    → May size images m (HandsUnit locked) → Invariant size images (kernel_after images m (HandsUnit locked))
 hands_kept size images m locked i few = let k : Kernel = m.kernel in record {
   sound = entry_sound size k locked (entries.Hands 1) i.sound tt tt few;
   numbered = plain_numbered k locked (entries.Hands 1) i.numbered;
@@ -171,7 +171,7 @@ hands_kept size images m locked i few = let k : Kernel = m.kernel in record {
 }
 
 pub put_kept : (size : ℕ) (images : List NamedImage) (m : KernelState) (q : Page) (n : ℕ) → Invariant size images m → MayPut m.kernel.place q n
-    → Invariant size images (state_after images m (PutUnit q n))
+    → Invariant size images (kernel_after images m (PutUnit q n))
 put_kept size images m q n i may = let k : Kernel = m.kernel in record {
   sound = entry_sound size k [] (entries.Put q n) i.sound (may.first, may.seats) tt may.few;
   numbered = plain_numbered k [] (entries.Put q n) i.numbered;
@@ -186,7 +186,7 @@ put_kept size images m q n i may = let k : Kernel = m.kernel in record {
 }
 
 pub done_kept : (size : ℕ) (images : List NamedImage) (m : KernelState) (read : List (List ℕ)) → Invariant size images m
-    → May size images m (DoneUnit read) → Invariant size images (state_after images m (DoneUnit read))
+    → May size images m (DoneUnit read) → Invariant size images (kernel_after images m (DoneUnit read))
 done_kept size images m read i are = let k : Kernel = m.kernel in let st : Stands images k m.flat = i.stands in record {
   sound = done_sound size k read i.sound;
   numbered = done_numbered k read i.numbered;
@@ -203,7 +203,7 @@ done_kept size images m read i are = let k : Kernel = m.kernel in let st : Stand
 -- An entry alone, and pieces that are found.
 
 pub note_kept : (size : ℕ) (images : List NamedImage) (m : KernelState) (e : Entry) → Invariant size images m
-    → Invariant size images (state_after images m (NoteUnit e))
+    → Invariant size images (kernel_after images m (NoteUnit e))
 note_kept size images m e i = let k : Kernel = m.kernel in record {
   sound = note_sound size k e i.sound;
   numbered = note_numbered k e i.numbered;
@@ -218,7 +218,7 @@ note_kept size images m e i = let k : Kernel = m.kernel in record {
 }
 
 pub find_kept : (size : ℕ) (images : List NamedImage) (m : KernelState) (found : Holdings) → Invariant size images m
-    → WereFound size m.kernel.holdings found → Invariant size images (state_after images m (FindUnit found))
+    → WereFound size m.kernel.holdings found → Invariant size images (kernel_after images m (FindUnit found))
 find_kept size images m found i were = record {
   sound = i.sound;
   numbered = i.numbered;
@@ -235,7 +235,7 @@ find_kept size images m found i were = record {
 -- Processes that go out and come in.
 
 pub out_kept : (size : ℕ) (images : List NamedImage) (m : KernelState) (pid : ℕ) → Invariant size images m → MayLeave m.kernel m.flat pid
-    → Invariant size images (state_after images m (OutUnit pid))
+    → Invariant size images (kernel_after images m (OutUnit pid))
 out_kept size images m pid i may =
     let k : Kernel = m.kernel in
     let n : Numbered k = i.numbered in
@@ -267,7 +267,7 @@ out_kept size images m pid i may =
     }
 
 pub in_kept : (size : ℕ) (images : List NamedImage) (m : KernelState) (pid : ℕ) → Invariant size images m → MayReturn m.kernel m.flat pid
-    → Invariant size images (state_after images m (InUnit pid))
+    → Invariant size images (kernel_after images m (InUnit pid))
 in_kept size images m pid i may = let k : Kernel = m.kernel in let regs : Regs = regs_in (stored_at m.image (block_in k.holdings (owners.U pid) 0)) in record {
   sound = in_sound size k pid regs i.sound;
   numbered = in_numbered k pid regs i.numbered;

@@ -9,7 +9,7 @@ use Rattle.vm_facts.specs.declared.entry.Entry.TheVariants as entries
 use Rattle.flat_state.specs.Flat.{NamedImage}
 use Rattle.flat_state.specs.PageNames.{pages_from, number_of, same_page}
 use Rattle.page_model.specs.Pages.{Filling, Zeros, OfImage, frame_of, is_valid}
-use Rattle.page_model.specs.Placement.{Placement, Transfer, Due, IsThere, due_at, due_page, state_of, filling_of}
+use Rattle.page_model.specs.Placement.{Placement, Transfer, Due, IsThere, due_of_page, due_page, state_of, filling_of}
 use Rattle.page_model.specs.Runs.{run_in, spare_frames}
 use Rattle.page_model.specs.Place.{due_after, place_entry}
 use Rattle.page_model.specs.Serve.{force_entry, is_full, source_for, read_entry_if, bring_entry_by, feed_entry_by, serve_entry_by, serve_entry, serve_unit}
@@ -68,9 +68,9 @@ not_again : (ds : List Due) (q : Page) → NotDue ds q → NotDue (due_after ds 
 not_again [] q n = refl
 not_again (d ∷ ds) q n = go (same_page (due_page d) q) refl n
   where
-    go : (b : Bool) → same_page (due_page d) q ≡ b → cond b (Some d) (due_at ds q) ≡ None → NotDue (cond b ds (d ∷ ds)) q
+    go : (b : Bool) → same_page (due_page d) q ≡ b → cond b (Some d) (due_of_page ds q) ≡ None → NotDue (cond b ds (d ∷ ds)) q
     go true e k = absurd cc
-    go false e k = ap (λ (b : Bool). cond b (Some d) (due_at ds q)) e ∙ k
+    go false e k = ap (λ (b : Bool). cond b (Some d) (due_of_page ds q)) e ∙ k
 
 -- with no transfer in flight the hands may move
 pub force_allowed : (size : ℕ) (images : List NamedImage) (m : KernelState) (locked : List Page) (read : List (List ℕ))

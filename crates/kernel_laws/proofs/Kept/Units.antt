@@ -9,7 +9,7 @@ use Rattle.flat_state.specs.declared.change.Change.TheVariants.{Keep}
 use Rattle.page_model.specs.Conditions.{HaveParts}
 use Rattle.kernel_model.specs.Kernel.{Kernel}
 use Rattle.kernel_model.specs.Start.{ImagesFit}
-use Rattle.kernel_model.specs.Unit.{KernelUnit, ZeroUnit, CopyUnit, GetUnit, ReclaimUnit, HandsUnit, PutUnit, DoneUnit, WriteUnit, NoteUnit, RanUnit, FindUnit, ChangeUnit, OutUnit, InUnit, KernelState, state_after, states_after}
+use Rattle.kernel_model.specs.Unit.{KernelUnit, ZeroUnit, CopyUnit, GetUnit, ReclaimUnit, HandsUnit, PutUnit, DoneUnit, WriteUnit, NoteUnit, RanUnit, FindUnit, ChangeUnit, OutUnit, InUnit, KernelState, kernel_after, states_after}
 use Rattle.kernel_model.specs.Invariant.{Invariant, Acts, MayWriteByte, MayRun, May, MayAll}
 use Rattle.page_laws.proofs.Due.Changes.{touch_due}
 use Rattle.kernel_laws.proofs.Flat.Numbers.{writes_numbered, changes_numbered}
@@ -26,7 +26,7 @@ use Rattle.kernel_laws.proofs.Kept.Changes.{change_kept}
 
 write_kept : (size : ℕ) (images : List NamedImage) (m : KernelState) (pid : ℕ) (w : ByteWrite) (q : Page) (f at : ℕ) → Invariant size images m
     → MayWriteByte m.kernel m.flat pid w q f at
-    → Invariant size images (state_after images m (WriteUnit pid w q f at))
+    → Invariant size images (kernel_after images m (WriteUnit pid w q f at))
 write_kept size images m pid w q f at i may = let k : Kernel = m.kernel in let a : Acts k m.flat pid may.process may.space = may.acts in record {
   sound = write_sound size k q f at w.byte i.sound;
   numbered = write_numbered k q f at w.byte i.numbered;
@@ -41,7 +41,7 @@ write_kept size images m pid w q f at i may = let k : Kernel = m.kernel in let a
 }
 
 ran_kept : (size : ℕ) (images : List NamedImage) (m : KernelState) (pid : ℕ) (regs : Regs) (e : Entry) → Invariant size images m
-    → MayRun m.kernel m.flat pid → Invariant size images (state_after images m (RanUnit pid regs e))
+    → MayRun m.kernel m.flat pid → Invariant size images (kernel_after images m (RanUnit pid regs e))
 ran_kept size images m pid regs e i may = let k : Kernel = m.kernel in let a : Acts k m.flat pid may.process may.space = may.acts in record {
   sound = ran_sound size k pid regs e i.sound;
   numbered = ran_numbered k pid regs e i.numbered;
@@ -58,7 +58,7 @@ ran_kept size images m pid regs e i may = let k : Kernel = m.kernel in let a : A
 -- All units.
 
 pub unit_kept : (size : ℕ) (images : List NamedImage) (m : KernelState) (u : KernelUnit) → ImagesFit images → Invariant size images m
-    → May size images m u → Invariant size images (state_after images m u)
+    → May size images m u → Invariant size images (kernel_after images m u)
 unit_kept size images m (ZeroUnit q) fits i may = zero_kept size images m q i may
 unit_kept size images m (CopyUnit q) fits i may = copy_kept size images m q i may
 unit_kept size images m (GetUnit q lo n) fits i may = get_kept size images m q lo n i may
@@ -77,4 +77,4 @@ unit_kept size images m (InUnit pid) fits i may = in_kept size images m pid i ma
 pub units_kept : (size : ℕ) (images : List NamedImage) (us : List KernelUnit) (m : KernelState) → ImagesFit images → Invariant size images m
     → MayAll size images m us → Invariant size images (states_after images m us)
 units_kept size images [] m fits i may = i
-units_kept size images (u ∷ us) m fits i may = units_kept size images us (state_after images m u) fits (unit_kept size images m u fits i may.0) may.1
+units_kept size images (u ∷ us) m fits i may = units_kept size images us (kernel_after images m u) fits (unit_kept size images m u fits i may.0) may.1

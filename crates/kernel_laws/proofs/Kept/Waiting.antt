@@ -1,7 +1,7 @@
 -- Pieces that wait change nothing of what the kernel stands for, nor does the end of a transfer change what is asked.
 use Rattle.std.proofs.Common.{◌≡◌, ℕ, ◌*◌, List, [], ◌∷◌, ◌++◌, Option, Some, None, Ok, refl, sym, ap, ap₂, ◌∙◌, map}
 use Rattle.vm_facts.specs.declared.page.Page.TheVariants.{Data, Stack, Text}
-use Rattle.aout_image.specs.Image.{data_pages_of}
+use Rattle.aout_image.specs.Image.{image_data_pages}
 use Rattle.swap_dmap.specs.Chunks.{pieces}
 use Rattle.swap_book.specs.declared.Owner.TheVariants as owners
 use Rattle.swap_book.specs.Holdings.{Holdings}
@@ -20,7 +20,7 @@ use Rattle.kernel_model.specs.Coupled.{Coupled}
 use Rattle.kernel_model.specs.Sound.{Sound, lives}
 use Rattle.kernel_model.specs.Stands.{Stands}
 use Rattle.kernel_model.specs.Asks.{further, text_asked, image_asked, change_asks, asked}
-use Rattle.kernel_model.specs.Unit.{KernelState, FindUnit, DoneUnit, with_found, state_after, states_after}
+use Rattle.kernel_model.specs.Unit.{KernelState, FindUnit, DoneUnit, with_found, kernel_after, states_after}
 use Rattle.kernel_model.specs.Invariant.{WereFound, Invariant, MayAll, Waits}
 use Rattle.page_laws.proofs.Moves.Stays.{Steady, done_steady}
 use Rattle.kernel_laws.proofs.Kept.Pages.{done_kept, find_kept}
@@ -82,7 +82,7 @@ asks_steady images p q sid next (Exec image top) s = by (facts_numbered images i
     by : (o : Option Image) → image_asked q next image o ≡ image_asked p next image o
     by None = refl
     by (Some facts) =
-        ap₂ (λ (a b : ℕ). text_asked a image (2 * b) ++ (wanted (owners.Data next) (pieces (2 * data_pages_of facts)) ++ wanted (owners.Stack next) (pieces 2))) (s.sharing image)
+        ap₂ (λ (a b : ℕ). text_asked a image (2 * b) ++ (wanted (owners.Data next) (pieces (2 * image_data_pages facts)) ++ wanted (owners.Stack next) (pieces 2))) (s.sharing image)
         (s.sizes (Text image 0))
 asks_steady images p q sid next _ s = refl
 
@@ -95,7 +95,7 @@ done_asks size images k read pid change so =
 
 pub finds_wait : (size : ℕ) (images : List NamedImage) (m : KernelState) (found : Holdings) (pid : ℕ) (change : Change) → Invariant size images m
     → place_all size m.kernel.holdings (asked (facts_of images) m.kernel pid change) ≡ Ok found
-    → Waits size images (state_after images m (FindUnit found)) pid change
+    → Waits size images (kernel_after images m (FindUnit found)) pid change
 finds_wait size images m found pid change i e = record { invariant = find_kept size images m found i (record { pieces = asked (facts_of images) m.kernel pid change; placed = e }); pieces = e }
 
 pub dones_wait : (size : ℕ) (images : List NamedImage) (reads : List (List (List ℕ))) (m : KernelState) (pid : ℕ) (change : Change)
@@ -104,5 +104,5 @@ pub dones_wait : (size : ℕ) (images : List NamedImage) (reads : List (List (Li
 dones_wait size images [] m pid change w may = w
 dones_wait size images (read ∷ reads) m pid change w may =
     let i : Invariant size images m = w.invariant in
-    dones_wait size images reads (state_after images m (DoneUnit read)) pid change
+    dones_wait size images reads (kernel_after images m (DoneUnit read)) pid change
     (record { invariant = done_kept size images m read i may.0; pieces = ap (place_all size m.kernel.holdings) (done_asks size images m.kernel read pid change i.sound) ∙ w.pieces }) may.1

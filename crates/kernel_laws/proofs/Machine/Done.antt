@@ -19,7 +19,7 @@ use Rattle.page_model.specs.Moves.{done}
 use Rattle.page_model.specs.Ownership.{OwnsFrames, OwnsBlocks, OneOwner, Each, IsMoving, owner_of, block_of, needs_blocks, needs_blocks_by}
 use Rattle.page_model.specs.PageBytes.{Bytes, IfSaved, bytes_in, source_bytes, BytesAfter, BytesBy}
 use Rattle.kernel_model.specs.Kernel.{Kernel, frame_bytes, store_all, image_after, image_after_of, image_after_by, landed, landed_by, plain_step, done_step}
-use Rattle.kernel_model.specs.Coupled.{Coupled, Fits, SameTables, AreRead, AreReadBy, text_of, memory_of, data_bytes_in, stack_bytes_in, beside_kernel}
+use Rattle.kernel_model.specs.Coupled.{Coupled, Fits, SameTables, AreRead, AreReadBy, image_text, memory_of, data_bytes_in, stack_bytes_in, beside_kernel}
 use Rattle.kernel_model.specs.Sound.{Sound, TextFits, lives}
 use Rattle.page_model.specs.Stored.{stored, store_at}
 use Rattle.vm_facts.specs.Swap.{put_blocks}
@@ -58,7 +58,7 @@ memory_length k images flat (Data sid v) t x there = page_length v (length (slot
     (fit_data (numbered (λ (s : Space). s.sid) sid (spaces_of flat)) (numbered space_number sid k.place.spaces) (t.spaces sid)) there
 memory_length k images flat (Stack sid v) t x there = page_length v (length (slots_of k.place (Stack sid 0))) (stack_bytes_in (numbered (λ (s : Space). s.sid) sid (spaces_of flat)))
     (fit_stack (numbered (λ (s : Space). s.sid) sid (spaces_of flat)) (numbered space_number sid k.place.spaces) (t.spaces sid)) there
-memory_length k images flat (Text image v) t x there = page_length v (length (slots_of k.place (Text image 0))) (text_of (image_numbered images image)) (x image) there
+memory_length k images flat (Text image v) t x there = page_length v (length (slots_of k.place (Text image 0))) (image_text (image_numbered images image)) (x image) there
 
 -- The pages of a write have blocks.
 

@@ -14,7 +14,7 @@ use Rattle.flat_state.specs.declared.change.Change.TheVariants.{End}
 use Rattle.flat_state.specs.Change.{with_process, replaced, returned, is_zombie, is_zombie_child, without_parent, orphaned, awake, woken, left, ended, without_process, apply_change, is_borrower}
 use Rattle.flat_state.specs.Journal.{append}
 use Rattle.page_model.specs.Pages.{numbered}
-use Rattle.page_model.specs.Placement.{Placement, Residence, Due, due_at, space_number, image_of, sharers, IsThere}
+use Rattle.page_model.specs.Placement.{Placement, Residence, Due, due_of_page, space_number, image_of, sharers, IsThere}
 use Rattle.page_model.specs.Place.{give_up_unless, end_residence, space_of_holding, facts_of}
 use Rattle.page_model.specs.Swapper.{is_out, residence_of}
 use Rattle.page_model.specs.Conditions.{IsSettled, MayForget}
@@ -363,7 +363,7 @@ pub end_core : (k : Kernel) (images : List NamedImage) (image : List ℕ) (flat 
     → AllFit after (end_kernel k pid sid borrowed ps journal).place
     × CouplesPages (end_kernel k pid sid borrowed ps journal).place (beside_kernel (end_kernel k pid sid borrowed ps journal) images image after)
 end_core k images image flat after pid sid borrowed ps journal a all pages =
-    let no_copy : (w : Page) → NoCopy (due_at p1.due w) = λ w. subst (λ (ds : List Due). NoCopy (due_at ds w)) (sym (g.due ∙ a.due)) tt in
+    let no_copy : (w : Page) → NoCopy (due_of_page p1.due w) = λ w. subst (λ (ds : List Due). NoCopy (due_of_page ds w)) (sym (g.due ∙ a.due)) tt in
     let coupled : CouplesPages l.place (beside_kernel l images image after) = still_coupled p1 l.place (beside_kernel l images image after) (λ w. refl) refl refl
     (other_coupled p1 (beside_kernel k images image flat) (beside_kernel l images image after)
     (unless_coupled borrowed k.place sid (beside_kernel k images image flat) a.frames a.settled pages) no_copy refl others (λ i v. refl)) in

@@ -11,14 +11,14 @@ use Rattle.vm_facts.specs.declared.page.Page.TheVariants.{Data, Stack, Text}
 use Rattle.vm_facts.specs.declared.regs.Regs.{Regs}
 use Rattle.vm_facts.specs.declared.entry.Entry.{Entry}
 use Rattle.aout_image.specs.declared.Image.{Image}
-use Rattle.aout_image.specs.Image.{page_at, data_given, data_pages_of}
+use Rattle.aout_image.specs.Image.{page_at, data_given, image_data_pages}
 use Rattle.swap_book.specs.Holdings.{Holdings}
 use Rattle.flat_state.specs.declared.change.Change.TheVariants.{Exec}
 use Rattle.flat_state.specs.Change.{with_process, replaced, replaced_by, returned, returned_by, entered, apply_change, is_borrower}
 use Rattle.flat_state.specs.Journal.{append}
 use Rattle.page_model.specs.Pages.{Zeros, OfImage, SpacePages, numbered, data_in, stack_in}
 use Rattle.flat_state.specs.PageNames.{same_page}
-use Rattle.page_model.specs.Placement.{Placement, Residence, Due, Start, due_at, space_number, slots_of, image_in, image_of, sharers, data_filling, new_pages, IsThere}
+use Rattle.page_model.specs.Placement.{Placement, Residence, Due, Start, due_of_page, space_number, slots_of, image_in, image_of, sharers, data_filling, new_pages, IsThere}
 use Rattle.page_model.specs.Place.{enter_space, enter_image, give_up_unless, place_change, facts_of}
 use Rattle.page_model.specs.Swapper.{is_out, residence_of}
 use Rattle.page_model.specs.Conditions.{IsNew, IsSettled, MayForget}
@@ -111,7 +111,7 @@ exec_core k images image flat after next sid number borrowed named top ps journa
     -- tables
     let sized : IsSized z x = record {
       image = refl;
-      data_size = let f : DataFits named.image = a.fits in f.size ∙ ap (λ (m : ℕ). 1024 * m) (sym (unfilled_length facts 0 (data_pages_of facts)));
+      data_size = let f : DataFits named.image = a.fits in f.size ∙ ap (λ (m : ℕ). 1024 * m) (sym (unfilled_length facts 0 (image_data_pages facts)));
       stack_size = a.whole;
     } in
     let kept_fits : (m : ℕ) → m ≢ next → (borrowed ≡ false → m ≢ sid) → Fits (numbered sid_of m (spaces_of after)) (numbered space_number m l.place.spaces) = λ m n d.
@@ -215,7 +215,7 @@ exec_core k images image flat after next sid number borrowed named top ps journa
     not_lt : (m n : ℕ) → nat_lt m n ≡ false → n ≤ m
     not_lt m n e = grind (arith, nat_tests)
 
-    datas : (v : ℕ) → v < data_pages_of facts → FillsBy c1 (Data next v) (data_filling facts v)
+    datas : (v : ℕ) → v < image_data_pages facts → FillsBy c1 (Data next v) (data_filling facts v)
     datas v w = go (nat_lt (1024 * v) (data_given facts)) refl
       where
         go : (t : Bool) → nat_lt (1024 * v) (data_given facts) ≡ t → FillsBy c1 (Data next v) (cond t OfImage Zeros)
@@ -223,11 +223,11 @@ exec_core k images image flat after next sid number borrowed named top ps journa
         go false e = let f : DataFits named.image = a.fits in sym (new_data v ∙ f.rest v (not_lt (1024 * v) (data_given facts) e) w)
 
     start : c1.start (Stack next 0) ≡ c1.memory (Stack next 0)
-    start = start_new k.starts (record { page = Stack next 0; bytes = top }) (a.starts (Stack next 0) (ap (λ (ds : List Due). is_start (due_at ds (Stack next 0))) a.due))
+    start = start_new k.starts (record { page = Stack next 0; bytes = top }) (a.starts (Stack next 0) (ap (λ (ds : List Due). is_start (due_of_page ds (Stack next 0))) a.due))
         ∙ sym (ap (λ (o : Option Space). page_at 0 (stack_bytes_in o)) both_own ∙ take_all 1024 top (let h = a.whole in omega arith))
 
-    no_copy : (w : Page) → NoCopy (due_at l.place.due w)
-    no_copy w = subst (λ (ds : List Due). NoCopy (due_at ds w)) (sym g.due) (go (same_page (Stack next 0) w))
+    no_copy : (w : Page) → NoCopy (due_of_page l.place.due w)
+    no_copy w = subst (λ (ds : List Due). NoCopy (due_of_page ds w)) (sym g.due) (go (same_page (Stack next 0) w))
       where
         go : (t : Bool) → NoCopy (cond t (Some (Start (Stack next 0))) None)
         go true = tt

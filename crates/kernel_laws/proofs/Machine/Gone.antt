@@ -11,7 +11,7 @@ use Rattle.swap_book.specs.Holdings.{Holdings, block_in, kept}
 use Rattle.page_model.specs.Pages.{Slot, SpacePages, no_slot, numbered, data_in, stack_in, is_dirty_by}
 use Rattle.flat_state.specs.PageNames.{number_of}
 use Rattle.page_model.specs.Frames.{at_frame}
-use Rattle.page_model.specs.Placement.{Placement, Transfer, Due, space_number, slots_of, is_dirty, due_at, errand_at, parts_of, image_of, sharers, IsThere}
+use Rattle.page_model.specs.Placement.{Placement, Transfer, Due, space_number, slots_of, is_dirty, due_of_page, errand_at, parts_of, image_of, sharers, IsThere}
 use Rattle.page_model.specs.Moves.{drop_all}
 use Rattle.page_model.specs.Place.{data_count, stack_count, data_from, stack_from, remove_space, pages_of_space, pages_of_text, leave_text, leave_text_by, give_up, give_up_unless}
 use Rattle.page_model.specs.Conditions.{IsSettled}
@@ -97,7 +97,7 @@ removed_keeps p sid b k =
         slot = ap (λ (xs : List Slot). get_or xs (number_of w) no_slot) r.2
             ∙ drop_all_other (pages_of_space p sid) p w (each_page_append (λ x. w ≢ x) (data_from sid 0 (data_count p sid)) (stack_from sid 0 (stack_count p sid))
             (apart_data sid 0 (data_count p sid) w (λ v l. r.0 v)) (apart_stack sid 0 (stack_count p sid) w (λ v l. r.1 v)));
-        due = ap (λ (ds : List Due). due_at ds w) rest.1;
+        due = ap (λ (ds : List Due). due_of_page ds w) rest.1;
         frames = λ g e. (refl, ap (λ (ts : List Transfer). errand_at (parts_of ts) g) rest.0);
         swap = refl;
         file = refl;
@@ -106,7 +106,7 @@ removed_keeps p sid b k =
         copied = inl (λ x. refl);
       },
     ) in
-    changed_coupled p q b b k one k.text (λ i v. ap (λ (ds : List Due). due_at ds (Text i v)) rest.1 ∙ k.text_due i v)
+    changed_coupled p q b b k one k.text (λ i v. ap (λ (ds : List Due). due_of_page ds (Text i v)) rest.1 ∙ k.text_due i v)
 
 pub unless_coupled : (borrowed : Bool) (p : Placement) (sid : ℕ) (b : Bytes) → OwnsFrames p → (borrowed ≡ false → IsSettled p sid) → CouplesPages p b
     → CouplesPages (give_up_unless borrowed p sid) b
@@ -137,7 +137,7 @@ aside_keeps p b c image v k f m t there a = elim a.rests [
       }))
 ]
 
-pub other_coupled : (p : Placement) (b c : Bytes) → CouplesPages p b → ((w : Page) → NoCopy (due_at p.due w)) → c.frames ≡ b.frames
+pub other_coupled : (p : Placement) (b c : Bytes) → CouplesPages p b → ((w : Page) → NoCopy (due_of_page p.due w)) → c.frames ≡ b.frames
     → ((w : Page) → IsThere p w → OtherBytes p b c w)
     → ((image v : ℕ) → c.file (Text image v) ≡ c.memory (Text image v)) → CouplesPages p c
 other_coupled p b c k due f h text =

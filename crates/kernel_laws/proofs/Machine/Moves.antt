@@ -16,7 +16,7 @@ use Rattle.flat_state.specs.Journal.{append}
 use Rattle.page_model.specs.Pages.{Filling, Zeros, OfImage, numbered}
 use Rattle.flat_state.specs.PageNames.{number_of, pages_from, same_page}
 use Rattle.page_model.specs.Frames.{at_frame}
-use Rattle.page_model.specs.Placement.{Placement, Residence, Due, Start, CopyOf, Reads, Source, state_of, is_dirty, filling_of, due_at, image_of, slots_of, IsThere}
+use Rattle.page_model.specs.Placement.{Placement, Residence, Due, Start, CopyOf, Reads, Source, state_of, is_dirty, filling_of, due_of_page, image_of, slots_of, IsThere}
 use Rattle.page_model.specs.Moves.{fill_at, evict}
 use Rattle.page_model.specs.Hands.{hand_move, hand_moves}
 use Rattle.page_model.specs.Place.{filled, space_of_holding}
@@ -257,9 +257,9 @@ after_other (s ∷ ss) v w n = go (same_page s.page v) refl (after_other ss v w 
 
 unfilled_is : (k : Kernel) (images : List NamedImage) (image : List ℕ) (flat : FlatState) (q : Page) → Coupled k images image flat → IsThere k.place q
     → state_of k.place q ≡ Unfilled
-    → KeepsUnfilled (beside_kernel k images image flat) q (due_at k.place.due q) (filling_of k.place q)
+    → KeepsUnfilled (beside_kernel k images image flat) q (due_of_page k.place.due q) (filling_of k.place q)
 unfilled_is k images image flat q cp there e =
-    let h : KeepsUnfilled (beside_kernel k images image flat) q (due_at k.place.due q) (filling_of k.place q)
+    let h : KeepsUnfilled (beside_kernel k images image flat) q (due_of_page k.place.due q) (filling_of k.place q)
     × Rattle.page_model.specs.PageBytes.IsUnsaved q (Rattle.page_model.specs.Placement.mark_of k.place q) =
     keeps_at k.place (beside_kernel k images image flat) q Unfilled cp.pages there e in
     h.0
@@ -276,7 +276,7 @@ no_start (s ∷ ss) q e = go (same_page s.page q) e (no_start ss q)
 -- A page of zeros.
 pub zero_coupled : (size : ℕ) (k : Kernel) (images : List NamedImage) (image : List ℕ) (flat : FlatState) (q : Page) → Sound size k → KeepsStarts k
     → CanEnter k.place q → IsWritable q → 0 < length k.place.free
-    → state_of k.place q ≡ Unfilled → due_at k.place.due q ≡ None → filling_of k.place q ≡ Zeros → Coupled k images image flat
+    → state_of k.place q ≡ Unfilled → due_of_page k.place.due q ≡ None → filling_of k.place q ≡ Zeros → Coupled k images image flat
     → Coupled (zero_step k q) images image flat
 zero_coupled size k images image flat q so ks c w some e d x cp =
     let u : zeros ≡ memory_of images flat q = subst (KeepsUnfilled (beside_kernel k images image flat) q None) x
@@ -287,7 +287,7 @@ zero_coupled size k images image flat q so ks c w some e d x cp =
 -- A new stack page 0 with what is kept for it.
 pub start_coupled : (size : ℕ) (k : Kernel) (images : List NamedImage) (image : List ℕ) (flat : FlatState) (q r : Page) → Sound size k
     → CanEnter k.place q → IsWritable q → 0 < length k.place.free
-    → state_of k.place q ≡ Unfilled → due_at k.place.due q ≡ Some (Start r) → Coupled k images image flat → Coupled (zero_step k q) images image flat
+    → state_of k.place q ≡ Unfilled → due_of_page k.place.due q ≡ Some (Start r) → Coupled k images image flat → Coupled (zero_step k q) images image flat
 start_coupled size k images image flat q r so c w some e d cp =
     let u : start_bytes k.starts q ≡ memory_of images flat q =
     subst (λ (o : Option Due). KeepsUnfilled (beside_kernel k images image flat) q o (filling_of k.place q)) d (unfilled_is k images image flat q cp c.there e) in
@@ -296,12 +296,12 @@ start_coupled size k images image flat q r so c w some e d cp =
 -- A child's page with the bytes of its parent's.
 pub copy_coupled : (size : ℕ) (k : Kernel) (images : List NamedImage) (image : List ℕ) (flat : FlatState) (q r parent : Page) (f : ℕ) → Sound size k
     → CanEnter k.place q → IsWritable q → 0 < length k.place.free
-    → state_of k.place q ≡ Unfilled → due_at k.place.due q ≡ Some (CopyOf r parent) → state_of k.place parent ≡ Valid f → Coupled k images image flat
+    → state_of k.place q ≡ Unfilled → due_of_page k.place.due q ≡ Some (CopyOf r parent) → state_of k.place parent ≡ Valid f → Coupled k images image flat
     → Coupled (copy_step k q) images image flat
 copy_coupled size k images image flat q r parent f so c w some e d h cp =
     let u : memory_of images flat parent ≡ memory_of images flat q =
     subst (λ (o : Option Due). KeepsUnfilled (beside_kernel k images image flat) q o (filling_of k.place q)) d (unfilled_is k images image flat q cp c.there e) in
     let i : IsInFrame (beside_kernel k images image flat) (is_dirty k.place parent) f parent =
     keeps_at k.place (beside_kernel k images image flat) parent (Valid f) cp.pages (page_in k.place parent f (ap Rattle.page_model.specs.Pages.frame_of h)) h in
-    let b : copied_bytes k (due_at k.place.due q) ≡ frame_bytes k f = ap (copied_bytes k) d ∙ ap (λ (s : PageState). bytes_at k (Rattle.page_model.specs.Pages.frame_of s)) h in
-    fill_coupled_step size k images image flat q (copied_bytes k (due_at k.place.due q)) k.starts (entries.Copy q) so c w some (b ∙ i.here ∙ u) (λ v n. refl) cp
+    let b : copied_bytes k (due_of_page k.place.due q) ≡ frame_bytes k f = ap (copied_bytes k) d ∙ ap (λ (s : PageState). bytes_at k (Rattle.page_model.specs.Pages.frame_of s)) h in
+    fill_coupled_step size k images image flat q (copied_bytes k (due_of_page k.place.due q)) k.starts (entries.Copy q) so c w some (b ∙ i.here ∙ u) (λ v n. refl) cp

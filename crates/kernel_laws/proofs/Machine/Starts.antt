@@ -10,10 +10,10 @@ use Rattle.vm_facts.specs.declared.page.Page.{Page}
 use Rattle.vm_facts.specs.declared.page.Page.TheVariants.{Data, Stack, Text}
 use Rattle.vm_facts.specs.declared.page.PageState.TheVariants.{Unfilled}
 use Rattle.aout_image.specs.declared.Image.{Image}
-use Rattle.aout_image.specs.Image.{page_at, data_given, data_pages_of}
+use Rattle.aout_image.specs.Image.{page_at, data_given, image_data_pages}
 use Rattle.swap_book.specs.Holdings.{Holdings}
 use Rattle.page_model.specs.Pages.{Slot, Zeros, OfImage, SpacePages, no_slot, numbered, data_in, stack_in}
-use Rattle.page_model.specs.Placement.{Residence, Starting, Due, Start, due_at, space_number, slot_of, state_of, mark_of, filling_of, image_in, IsThere, unfilled, data_filling, new_pages, spaces_from, residents_from, due_from}
+use Rattle.page_model.specs.Placement.{Residence, Starting, Due, Start, due_of_page, space_number, slot_of, state_of, mark_of, filling_of, image_in, IsThere, unfilled, data_filling, new_pages, spaces_from, residents_from, due_from}
 use Rattle.page_model.specs.Swapper.{residence_of}
 use Rattle.page_model.specs.PageBytes.{Bytes, KeepsUnfilled, KeepsBy, Keeps}
 use Rattle.kernel_model.specs.Coupled.{IsSized, Fits, AllFit, Outline, Coupled, outline_kept, outline_of, memory_of, file_of, data_of, data_bytes_in, stack_bytes_in, beside_kernel}
@@ -36,7 +36,7 @@ record StartAt (images : List NamedImage) (ss : List Space) (xs : List SpacePage
   pub image : image_numbered images number ≡ Some named
   pub flat : numbered sid_of sid ss ≡ Some (new_space sid number named.image (named.name ∷ []))
   pub pages : numbered space_number sid xs ≡ Some (new_pages sid number named.image.facts)
-  pub due : due_at ds (Stack sid 0) ≡ Some (Start (Stack sid 0))
+  pub due : due_of_page ds (Stack sid 0) ≡ Some (Start (Stack sid 0))
   pub start : start_bytes (map start_of ss) (Stack sid 0) ≡ start_page (named.name ∷ [])
 
 abbrev NoneAt : List Space → List SpacePages → ℕ → Type 0
@@ -56,7 +56,7 @@ one_more images n number named ss xs ds sid im r = elim (cases_eq n sid) [
     image = im;
     flat = numbered_hit sid_of n (new_space n number named.image (named.name ∷ [])) ss refl;
     pages = numbered_hit space_number n (new_pages n number named.image.facts) xs refl;
-    due = ap (λ (b : Bool). cond b (Some (Start (Stack n 0))) (due_at ds (Stack n 0))) (same_page_self (Stack n 0));
+    due = ap (λ (b : Bool). cond b (Some (Start (Stack n 0))) (due_of_page ds (Stack n 0))) (same_page_self (Stack n 0));
     start = ap (λ (b : Bool). cond b (start_page (named.name ∷ [])) (start_bytes (map start_of ss) (Stack n 0))) (same_page_self (Stack n 0));
   }))
   | inr d ↦ elim r [
@@ -67,7 +67,7 @@ one_more images n number named ss xs ds sid im r = elim (cases_eq n sid) [
       image = a.image;
       flat = numbered_miss sid_of sid (new_space n number named.image (named.name ∷ [])) ss d ∙ a.flat;
       pages = numbered_miss space_number sid (new_pages n number named.image.facts) xs d ∙ a.pages;
-      due = ap (λ (b : Bool). cond b (Some (Start (Stack n 0))) (due_at ds (Stack sid 0))) (apart_page (Stack n 0) (Stack sid 0) (λ e. d (stack_sid n sid 0 0 e))) ∙ a.due;
+      due = ap (λ (b : Bool). cond b (Some (Start (Stack n 0))) (due_of_page ds (Stack sid 0))) (apart_page (Stack n 0) (Stack sid 0) (λ e. d (stack_sid n sid 0 0 e))) ∙ a.due;
       start = ap (λ (b : Bool). cond b (start_page (named.name ∷ [])) (start_bytes (map start_of ss) (Stack sid 0))) (apart_page (Stack n 0) (Stack sid 0) (λ e. d (stack_sid n sid 0 0 e))) ∙ a.start;
     })
   ]
@@ -92,9 +92,9 @@ start_at images (number ∷ numbers) (x ∷ first) n sid a =
     (one_more images n number a.0 (held (start_processes images (n + 1) numbers)) (spaces_from (n + 1) first) (due_from (n + 1) first) sid a.1 (start_at images numbers first (n + 1) sid a.4))))
 
 -- no other page is due
-due_stacks : (first : List Starting) (n : ℕ) (w : Page) → ((sid : ℕ) → Stack sid 0 ≢ w) → due_at (due_from n first) w ≡ None
+due_stacks : (first : List Starting) (n : ℕ) (w : Page) → ((sid : ℕ) → Stack sid 0 ≢ w) → due_of_page (due_from n first) w ≡ None
 due_stacks [] n w d = refl
-due_stacks (a ∷ first) n w d = ap (λ (b : Bool). cond b (Some (Start (Stack n 0))) (due_at (due_from (n + 1) first) w)) (apart_page (Stack n 0) w (d n)) ∙ due_stacks first (n + 1) w d
+due_stacks (a ∷ first) n w d = ap (λ (b : Bool). cond b (Some (Start (Stack n 0))) (due_of_page (due_from (n + 1) first) w)) (apart_page (Stack n 0) w (d n)) ∙ due_stacks first (n + 1) w d
 
 -- everybody is in
 pub all_in : (first : List Starting) (n pid : ℕ) → (residence_of (residents_from n first) pid).out ≡ false
@@ -125,7 +125,7 @@ start_coupled_all A first hs frames image a fit =
           let d : DataFits s.named.image = f.data in
           let sized : IsSized (new_space sid s.number s.named.image (s.named.name ∷ [])) (new_pages sid s.number s.named.image.facts) = record {
             image = refl;
-            data_size = d.size ∙ ap (λ (m : ℕ). 1024 * m) (sym (unfilled_length s.named.image.facts 0 (data_pages_of s.named.image.facts)));
+            data_size = d.size ∙ ap (λ (m : ℕ). 1024 * m) (sym (unfilled_length s.named.image.facts 0 (image_data_pages s.named.image.facts)));
             stack_size = page_whole s.named.name f.name;
           } in
           subst (λ (o : Option Space). Fits o (numbered space_number sid k.place.spaces)) (sym s.flat)
@@ -153,38 +153,38 @@ start_coupled_all A first hs frames image a fit =
     not_lt m n e = grind (arith, nat_tests)
 
     -- a data page, which is filled from its file or with zeros
-    data_page : (sid v : ℕ) → IsThere k.place (Data sid v) → KeepsUnfilled b (Data sid v) (due_at k.place.due (Data sid v)) (filling_of k.place (Data sid v))
+    data_page : (sid v : ℕ) → IsThere k.place (Data sid v) → KeepsUnfilled b (Data sid v) (due_of_page k.place.due (Data sid v)) (filling_of k.place (Data sid v))
     data_page sid v there = subst (λ (o : Option Due). KeepsUnfilled b (Data sid v) o (filling_of k.place (Data sid v))) (sym (due_stacks first 1 (Data sid v) (λ n e. cc))) (elim (at sid) [
       | inl z ↦ absurd (let w : v < length (data_in (numbered space_number sid k.place.spaces)) = there in let y = ap (λ (o : Option SpacePages). length (data_in o)) z.1 in omega arith)
       | inr s ↦ (let f : ImageFits s.named = fit s.number s.named s.image in
           let d : DataFits s.named.image = f.data in
-          let w : v < data_pages_of s.named.image.facts =
+          let w : v < image_data_pages s.named.image.facts =
           (let x : v < length (data_in (numbered space_number sid k.place.spaces)) = there in
-          let y = ap (λ (o : Option SpacePages). length (data_in o)) s.pages in let z = unfilled_length s.named.image.facts 0 (data_pages_of s.named.image.facts) in omega arith) in
+          let y = ap (λ (o : Option SpacePages). length (data_in o)) s.pages in let z = unfilled_length s.named.image.facts 0 (image_data_pages s.named.image.facts) in omega arith) in
           let zero_plus : 0 + v ≡ v = omega arith in
           let slot : slot_of k.place (Data sid v) ≡ unfilled (data_filling s.named.image.facts v) = ap (λ (o : Option SpacePages). get_or (data_in o) v no_slot) s.pages
-          ∙ unfilled_at s.named.image.facts 0 (data_pages_of s.named.image.facts) v w ∙ ap (λ (m : ℕ). unfilled (data_filling s.named.image.facts m)) zero_plus in
+          ∙ unfilled_at s.named.image.facts 0 (image_data_pages s.named.image.facts) v w ∙ ap (λ (m : ℕ). unfilled (data_filling s.named.image.facts m)) zero_plus in
           let memory : b.memory (Data sid v) ≡ page_at v s.named.image.data = ap (λ (o : Option Space). page_at v (data_bytes_in o)) s.flat in
           let file : b.file (Data sid v) ≡ page_at v s.named.image.data =
           ap (λ (o : Option SpacePages). page_at v (data_of (image_numbered A.images (image_in o)))) s.pages ∙ ap (λ (o : Option NamedImage). page_at v (data_of o)) s.image in
           subst (KeepsUnfilled b (Data sid v) None) (sym (ap (λ (x : Slot). x.filling) slot)) (by_filling s.named d v w memory file (nat_lt (1024 * v) (data_given s.named.image.facts)) refl))
     ])
       where
-        by_filling : (named : NamedImage) → DataFits named.image → (u : ℕ) → u < data_pages_of named.image.facts → b.memory (Data sid v) ≡ page_at u named.image.data
+        by_filling : (named : NamedImage) → DataFits named.image → (u : ℕ) → u < image_data_pages named.image.facts → b.memory (Data sid v) ≡ page_at u named.image.data
             → b.file (Data sid v) ≡ page_at u named.image.data
             → (t : Bool) → nat_lt (1024 * u) (data_given named.image.facts) ≡ t → KeepsUnfilled b (Data sid v) None (cond t OfImage Zeros)
         by_filling named d u w m f true e = f ∙ sym m
         by_filling named d u w m f false e = sym (m ∙ d.rest u (not_lt (1024 * u) (data_given named.image.facts) e) w)
 
     -- stack page 0, with what is kept for it
-    stack_page : (sid v : ℕ) → IsThere k.place (Stack sid v) → KeepsUnfilled b (Stack sid v) (due_at k.place.due (Stack sid v)) (filling_of k.place (Stack sid v))
+    stack_page : (sid v : ℕ) → IsThere k.place (Stack sid v) → KeepsUnfilled b (Stack sid v) (due_of_page k.place.due (Stack sid v)) (filling_of k.place (Stack sid v))
     stack_page sid v there = elim (at sid) [
       | inl z ↦ absurd (let w : v < length (stack_in (numbered space_number sid k.place.spaces)) = there in let y = ap (λ (o : Option SpacePages). length (stack_in o)) z.1 in omega arith)
       | inr s ↦ (let f : ImageFits s.named = fit s.number s.named s.image in
           let i : v ≡ 0 = (let w : v < length (stack_in (numbered space_number sid k.place.spaces)) = there in let y = ap (λ (o : Option SpacePages). length (stack_in o)) s.pages in omega arith) in
           let memory : b.memory (Stack sid 0) ≡ start_page (s.named.name ∷ []) =
           ap (λ (o : Option Space). page_at 0 (stack_bytes_in o)) s.flat ∙ take_all 1024 (start_page (s.named.name ∷ [])) (let l = page_whole s.named.name f.name in omega arith) in
-          subst (λ (u : ℕ). KeepsUnfilled b (Stack sid u) (due_at k.place.due (Stack sid u)) (filling_of k.place (Stack sid u))) (sym i)
+          subst (λ (u : ℕ). KeepsUnfilled b (Stack sid u) (due_of_page k.place.due (Stack sid u)) (filling_of k.place (Stack sid u))) (sym i)
           (subst (λ (o : Option Due). KeepsUnfilled b (Stack sid 0) o (filling_of k.place (Stack sid 0))) (sym s.due) (s.start ∙ sym memory)))
     ]
 

@@ -19,7 +19,7 @@ use Rattle.swap_book.proofs.GrowthLaws.{Added, place_all_adds}
 use Rattle.swap_book.proofs.KeptLaws.{block_in_more}
 use Rattle.page_model.specs.Pages.{Filling, Zeros, OfImage}
 use Rattle.flat_state.specs.PageNames.{number_of}
-use Rattle.page_model.specs.Placement.{Placement, Due, Start, CopyOf, Errand, Writes, Reads, FromSwap, FromFile, state_of, mark_of, filling_of, due_at, errand_at, parts_of, slots_of, IsThere}
+use Rattle.page_model.specs.Placement.{Placement, Due, Start, CopyOf, Errand, Writes, Reads, FromSwap, FromFile, state_of, mark_of, filling_of, due_of_page, errand_at, parts_of, slots_of, IsThere}
 use Rattle.page_model.specs.Place.{space_of_holding}
 use Rattle.page_model.specs.Swapper.{is_out}
 use Rattle.page_model.specs.Ownership.{owner_of, block_of}
@@ -79,7 +79,7 @@ without_blocks p b swap w s z l k = go s k
     saved (Text image v) m n h = λ e. absurd (n (h e))
 
     go : (s : PageState) → KeepsBy p b w s → KeepsBy p (record b { swap = swap }) w s
-    go Unfilled h = (unfilled_swap b swap w (due_at p.due w) (filling_of p w) h.0, h.1)
+    go Unfilled h = (unfilled_swap b swap w (due_of_page p.due w) (filling_of p w) h.0, h.1)
     go (Valid f) h = record { here = h.here; there = λ d. never (h.there d) }
     go (Invalid f) h = record { here = h.here; there = λ d. never (h.there d) }
     go (Coming f) h = coming (mark_of p w) (errand_at (parts_of p.transfers) f) h

@@ -6,7 +6,7 @@ use Rattle.flat_state.specs.Flat.{Holds, Process, FlatState, Lends, Zombie, Name
 use Rattle.vm_facts.specs.declared.page.Page.TheVariants.{Data, Stack}
 use Rattle.vm_facts.specs.declared.regs.Regs.{Regs}
 use Rattle.vm_facts.specs.declared.entry.Entry.{Entry}
-use Rattle.aout_image.specs.Image.{data_pages_of}
+use Rattle.aout_image.specs.Image.{image_data_pages}
 use Rattle.flat_state.specs.declared.change.Change.TheVariants.{Fork, Lend, Resize, Exec, End, Keep, Reap, Sleep}
 use Rattle.flat_state.specs.Change.{replaced, with_results, child_of, forked, apply_change, lent, with_process, resized_bytes, resized, replaced_by, returned, returned_by, entered, is_zombie, is_zombie_child, without_parent, orphaned, awake, woken, left, ended, without_process, lends_to, is_borrower}
 use Rattle.flat_state.specs.Journal.{append}
@@ -208,7 +208,7 @@ enter_fits k flat after next sid number borrowed named top ps journal a all =
     let place_other : (m : ℕ) → m ≢ next → numbered space_number m p1.spaces ≡ numbered space_number m k.place.spaces = λ m d. added_other m k.place.spaces x (λ i. d (sym i)) in
     let sized : IsSized z x = record {
       image = refl;
-      data_size = let f : DataFits named.image = a.fits in f.size ∙ ap (λ (m : ℕ). 1024 * m) (sym (unfilled_length facts 0 (data_pages_of facts)));
+      data_size = let f : DataFits named.image = a.fits in f.size ∙ ap (λ (m : ℕ). 1024 * m) (sym (unfilled_length facts 0 (image_data_pages facts)));
       stack_size = a.whole;
     } in
     let kept_fits : (m : ℕ) → m ≢ next → (borrowed ≡ false → m ≢ sid) → Fits (numbered sid_of m (spaces_of after)) (numbered space_number m l.place.spaces) = λ m n d.

@@ -4,7 +4,7 @@ use Rattle.std.proofs.lemmas.List.{length-set, drop-set-lt, drop-set-add, take-s
 use Rattle.std.proofs.Math.Seq.{take-set-lt}
 use Rattle.std.proofs.lemmas.Bool.{cases_eq}
 use Rattle.vm_facts.specs.Answers.{ByteWrite}
-use Rattle.flat_state.specs.Space.{Space, address_in, put_at, put, puts}
+use Rattle.flat_state.specs.Space.{Space, address_in, put_at, put_in_space, puts}
 use Rattle.flat_state.specs.Flat.{Holding, Holds, Process, FlatState, NamedImage, process_of, spaces_of}
 use Rattle.vm_facts.specs.declared.page.Page.{Page}
 use Rattle.vm_facts.specs.declared.page.Page.TheVariants.{Data, Stack, Text}
@@ -74,7 +74,7 @@ record PutIn (s z : Space) (v : Page) (at byte : ℕ) : Type 0 where
   pub other_stack : (n : ℕ) → Stack s.sid n ≢ v → page_at n z.stack_bytes ≡ page_at n s.stack_bytes
   pub kind : ((n : ℕ) × (v ≡ Data s.sid n)) ⊎ ((n : ℕ) × (v ≡ Stack s.sid n))
 
-put_in : (s : Space) (w : ByteWrite) (v : Page) (at : ℕ) → IsByteOf s (address_in s w.address) v at → PutIn s (put s w) v at w.byte
+put_in : (s : Space) (w : ByteWrite) (v : Page) (at : ℕ) → IsByteOf s (address_in s w.address) v at → PutIn s (put_in_space s w) v at w.byte
 put_in s w v at h = go (address_in s w.address) h
   where
     data_number : (a m n : ℕ) → Data a m ≡ Data a n → m ≡ n
@@ -117,7 +117,7 @@ put_in s w v at h = go (address_in s w.address) h
     go spots.Outside h = absurd h
 
 pub written : (flat : FlatState) (pid : ℕ) (w : ByteWrite) (q : Process) (s : Space) → process_of flat pid ≡ Some q → q.holding ≡ Holds s
-    → apply_writes flat pid (w ∷ []) ≡ with_process flat (record q { holding = Holds (put s w) })
+    → apply_writes flat pid (w ∷ []) ≡ with_process flat (record q { holding = Holds (put_in_space s w) })
 unfolding apply_writes
 written flat pid w q s e h = ap (wrote_if flat (w ∷ [])) e ∙ ap (wrote_by flat q (w ∷ [])) h
 
@@ -159,7 +159,7 @@ write_coupled size k images image flat pid q s w v f at so due nums fq hq is e c
     regs_now)
   where
     z : Space
-    z = put s w
+    z = put_in_space s w
 
     i : PutIn s z v at w.byte
     i = put_in s w v at is
@@ -244,9 +244,9 @@ pub writes_one : (flat : FlatState) (pid : ℕ) (w : ByteWrite) (ws : List ByteW
     → q.holding ≡ Holds s
     → apply_writes flat pid (w ∷ ws) ≡ apply_writes (apply_writes flat pid (w ∷ [])) pid ws
 writes_one flat pid w ws q s e h =
-    let p : Process = record q { holding = Holds (put s w) } in
-    let r : Process = record q { holding = Holds (puts (put s w) ws) } in
+    let p : Process = record q { holding = Holds (put_in_space s w) } in
+    let r : Process = record q { holding = Holds (puts (put_in_space s w) ws) } in
     let at : process_of (with_process flat p) pid ≡ Some p = found_is (replaced flat.processes p) pid ∙ ap (λ (n : ℕ). numbered pid_of n (replaced flat.processes p)) (sym (found_at flat pid q e).0)
     ∙ replaced_at flat.processes q p (found_self flat pid q e) in
     written_all flat pid (w ∷ ws) q s e h ∙ ap (λ (l : List Process). let x : FlatState = record flat { processes = l } in x) (sym (replaced_twice flat.processes p r refl))
-    ∙ sym (written_all (with_process flat p) pid ws p (put s w) at refl) ∙ ap (λ (x : FlatState). apply_writes x pid ws) (sym (written flat pid w q s e h))
+    ∙ sym (written_all (with_process flat p) pid ws p (put_in_space s w) at refl) ∙ ap (λ (x : FlatState). apply_writes x pid ws) (sym (written flat pid w q s e h))

@@ -5,7 +5,7 @@ use Rattle.std.proofs.lemmas.List.{append-nil}
 use Rattle.std.proofs.lemmas.Bool.{eqb-true, ne_eqb}
 use Rattle.vm_facts.specs.declared.page.Page.TheVariants.{Data, Stack, Text}
 use Rattle.aout_image.specs.declared.Image.{Image}
-use Rattle.aout_image.specs.Image.{data_pages_of}
+use Rattle.aout_image.specs.Image.{image_data_pages}
 use Rattle.swap_dmap.specs.Chunks.{pieces, text_pieces}
 use Rattle.swap_dmap.proofs.PieceLaws.{pieces_none}
 use Rattle.swap_book.specs.declared.Owner.{Owner}
@@ -36,13 +36,13 @@ apart a b e = grind (arith, nat_tests)
 parts : (p : Placement) (earlier : List ℕ) (pid : ℕ) (a : Starting) (more : List Starting) (owner : Owner)
     → wanted_lengths owner (start_asks p earlier pid (a ∷ more))
     ≡ wanted_lengths owner (text_asked (times a.image earlier) a.image (2 * length (slots_of p (Text a.image 0))))
-    ++ (wanted_lengths owner (wanted (owners.Data pid) (pieces (2 * data_pages_of a.facts))) ++ (wanted_lengths owner (wanted (owners.Stack pid) (pieces 2))
+    ++ (wanted_lengths owner (wanted (owners.Data pid) (pieces (2 * image_data_pages a.facts))) ++ (wanted_lengths owner (wanted (owners.Stack pid) (pieces 2))
     ++ (wanted_lengths owner (wanted (owners.U pid) (u_pieces 2)) ++ wanted_lengths owner (start_asks p (a.image ∷ earlier) (pid + 1) more))))
 parts p earlier pid a more owner =
     let rest = start_asks p (a.image ∷ earlier) (pid + 1) more in
     let u = wanted (owners.U pid) (u_pieces 2) in
     let s = wanted (owners.Stack pid) (pieces 2) in
-    let d = wanted (owners.Data pid) (pieces (2 * data_pages_of a.facts)) in
+    let d = wanted (owners.Data pid) (pieces (2 * image_data_pages a.facts)) in
     let t = text_asked (times a.image earlier) a.image (2 * length (slots_of p (Text a.image 0))) in
     lengths_both owner t (d ++ (s ++ (u ++ rest))) ∙ ap (λ (xs : List ℕ). wanted_lengths owner t ++ xs)
     (lengths_both owner d (s ++ (u ++ rest)) ∙ ap (λ (xs : List ℕ). wanted_lengths owner d ++ xs)
@@ -61,11 +61,11 @@ data_later : (p : Placement) (earlier : List ℕ) (pid : ℕ) (first : List Star
 data_later p earlier pid [] t l = refl
 data_later p earlier pid (a ∷ more) t l = parts p earlier pid a more (owners.Data t)
     ∙ put_parts (wanted_lengths (owners.Data t) (text_asked (times a.image earlier) a.image (2 * length (slots_of p (Text a.image 0)))))
-    (wanted_lengths (owners.Data t) (wanted (owners.Data pid) (pieces (2 * data_pages_of a.facts))))
+    (wanted_lengths (owners.Data t) (wanted (owners.Data pid) (pieces (2 * image_data_pages a.facts))))
     (wanted_lengths (owners.Data t) (wanted (owners.Stack pid) (pieces 2))) (wanted_lengths (owners.Data t) (wanted (owners.U pid) (u_pieces 2)))
     (wanted_lengths (owners.Data t) (start_asks p (a.image ∷ earlier) (pid + 1) more)) [] [] [] [] []
     (text_none (times a.image earlier) a.image (2 * length (slots_of p (Text a.image 0))) (owners.Data t) refl)
-    (lengths_other (owners.Data pid) (owners.Data t) (pieces (2 * data_pages_of a.facts)) (ne_eqb pid t (λ e. absurd (omega arith))))
+    (lengths_other (owners.Data pid) (owners.Data t) (pieces (2 * image_data_pages a.facts)) (ne_eqb pid t (λ e. absurd (omega arith))))
     (lengths_other (owners.Stack pid) (owners.Data t) (pieces 2) refl) (lengths_other (owners.U pid) (owners.Data t) (u_pieces 2) refl)
     (data_later p (a.image ∷ earlier) (pid + 1) more t (omega arith))
 
@@ -85,7 +85,7 @@ data_asked p earlier pid (a ∷ more) t = parts p earlier pid a more (owners.Dat
         (lengths_other (owners.U pid) (owners.Data t) (u_pieces 2) refl) y
 
     own : List ℕ
-    own = pieces (2 * data_pages_of a.facts)
+    own = pieces (2 * image_data_pages a.facts)
 
     go : (b : Bool) → (pid == t) ≡ b → rest ≡ pieces (2 * length (data_in (numbered space_number t (spaces_from (pid + 1) more))))
         → in_order (wanted_lengths (owners.Data t) (text_asked (times a.image earlier) a.image (2 * length (slots_of p (Text a.image 0))))) (wanted_lengths (owners.Data t)
@@ -94,7 +94,7 @@ data_asked p earlier pid (a ∷ more) t = parts p earlier pid a more (owners.Dat
     go true e ih = with (wanted_lengths (owners.Data t) (wanted (owners.Data pid) own)) rest own []
         (subst (λ (n : ℕ). wanted_lengths (owners.Data n) (wanted (owners.Data pid) own) ≡ own) (eqb-true pid t e) (lengths_own (owners.Data pid) own))
         (data_later p (a.image ∷ earlier) (pid + 1) more t (let k = eqb-true pid t e in omega arith)) ∙ append-nil own
-        ∙ ap (λ (n : ℕ). pieces (2 * n)) (sym (unfilled_length a.facts 0 (data_pages_of a.facts)))
+        ∙ ap (λ (n : ℕ). pieces (2 * n)) (sym (unfilled_length a.facts 0 (image_data_pages a.facts)))
     go false e ih = with (wanted_lengths (owners.Data t) (wanted (owners.Data pid) own)) rest [] (pieces (2 * length (data_in (numbered space_number t (spaces_from (pid + 1) more)))))
         (lengths_other (owners.Data pid) (owners.Data t) own e) ih
 
@@ -103,11 +103,11 @@ stack_later : (p : Placement) (earlier : List ℕ) (pid : ℕ) (first : List Sta
 stack_later p earlier pid [] t l = refl
 stack_later p earlier pid (a ∷ more) t l = parts p earlier pid a more (owners.Stack t)
     ∙ put_parts (wanted_lengths (owners.Stack t) (text_asked (times a.image earlier) a.image (2 * length (slots_of p (Text a.image 0)))))
-    (wanted_lengths (owners.Stack t) (wanted (owners.Data pid) (pieces (2 * data_pages_of a.facts))))
+    (wanted_lengths (owners.Stack t) (wanted (owners.Data pid) (pieces (2 * image_data_pages a.facts))))
     (wanted_lengths (owners.Stack t) (wanted (owners.Stack pid) (pieces 2))) (wanted_lengths (owners.Stack t) (wanted (owners.U pid) (u_pieces 2)))
     (wanted_lengths (owners.Stack t) (start_asks p (a.image ∷ earlier) (pid + 1) more)) [] [] [] [] []
     (text_none (times a.image earlier) a.image (2 * length (slots_of p (Text a.image 0))) (owners.Stack t) refl)
-    (lengths_other (owners.Data pid) (owners.Stack t) (pieces (2 * data_pages_of a.facts)) refl)
+    (lengths_other (owners.Data pid) (owners.Stack t) (pieces (2 * image_data_pages a.facts)) refl)
     (lengths_other (owners.Stack pid) (owners.Stack t) (pieces 2) (ne_eqb pid t (λ e. absurd (omega arith)))) (lengths_other (owners.U pid) (owners.Stack t) (u_pieces 2) refl)
     (stack_later p (a.image ∷ earlier) (pid + 1) more t (omega arith))
 
@@ -120,18 +120,18 @@ stack_asked p earlier pid (a ∷ more) t = parts p earlier pid a more (owners.St
     rest = wanted_lengths (owners.Stack t) (start_asks p (a.image ∷ earlier) (pid + 1) more)
 
     with : (s r c f : List ℕ) → s ≡ c → r ≡ f → in_order (wanted_lengths (owners.Stack t) (text_asked (times a.image earlier) a.image (2 * length (slots_of p (Text a.image 0)))))
-        (wanted_lengths (owners.Stack t) (wanted (owners.Data pid) (pieces (2 * data_pages_of a.facts)))) s (wanted_lengths (owners.Stack t) (wanted (owners.U pid) (u_pieces 2))) r ≡ c ++ f
+        (wanted_lengths (owners.Stack t) (wanted (owners.Data pid) (pieces (2 * image_data_pages a.facts)))) s (wanted_lengths (owners.Stack t) (wanted (owners.U pid) (u_pieces 2))) r ≡ c ++ f
     with s r c f x y = put_parts (wanted_lengths (owners.Stack t) (text_asked (times a.image earlier) a.image (2 * length (slots_of p (Text a.image 0)))))
-        (wanted_lengths (owners.Stack t) (wanted (owners.Data pid) (pieces (2 * data_pages_of a.facts)))) s (wanted_lengths (owners.Stack t) (wanted (owners.U pid) (u_pieces 2))) r [] [] c [] f
+        (wanted_lengths (owners.Stack t) (wanted (owners.Data pid) (pieces (2 * image_data_pages a.facts)))) s (wanted_lengths (owners.Stack t) (wanted (owners.U pid) (u_pieces 2))) r [] [] c [] f
         (text_none (times a.image earlier) a.image (2 * length (slots_of p (Text a.image 0))) (owners.Stack t) refl)
-        (lengths_other (owners.Data pid) (owners.Stack t) (pieces (2 * data_pages_of a.facts)) refl) x (lengths_other (owners.U pid) (owners.Stack t) (u_pieces 2) refl) y
+        (lengths_other (owners.Data pid) (owners.Stack t) (pieces (2 * image_data_pages a.facts)) refl) x (lengths_other (owners.U pid) (owners.Stack t) (u_pieces 2) refl) y
 
     own : List ℕ
     own = pieces 2
 
     go : (b : Bool) → (pid == t) ≡ b → rest ≡ pieces (2 * length (stack_in (numbered space_number t (spaces_from (pid + 1) more))))
         → in_order (wanted_lengths (owners.Stack t) (text_asked (times a.image earlier) a.image (2 * length (slots_of p (Text a.image 0)))))
-        (wanted_lengths (owners.Stack t) (wanted (owners.Data pid) (pieces (2 * data_pages_of a.facts)))) (wanted_lengths (owners.Stack t) (wanted (owners.Stack pid) own))
+        (wanted_lengths (owners.Stack t) (wanted (owners.Data pid) (pieces (2 * image_data_pages a.facts)))) (wanted_lengths (owners.Stack t) (wanted (owners.Stack pid) own))
         (wanted_lengths (owners.Stack t) (wanted (owners.U pid) (u_pieces 2))) rest
         ≡ pieces (2 * length (stack_in (cond b (Some (Rattle.page_model.specs.Placement.new_pages pid a.image a.facts)) (numbered space_number t (spaces_from (pid + 1) more)))))
     go true e ih = with (wanted_lengths (owners.Stack t) (wanted (owners.Stack pid) own)) rest own []
@@ -145,10 +145,10 @@ u_later : (p : Placement) (earlier : List ℕ) (pid : ℕ) (first : List Startin
 u_later p earlier pid [] t l = refl
 u_later p earlier pid (a ∷ more) t l = parts p earlier pid a more (owners.U t)
     ∙ put_parts (wanted_lengths (owners.U t) (text_asked (times a.image earlier) a.image (2 * length (slots_of p (Text a.image 0)))))
-    (wanted_lengths (owners.U t) (wanted (owners.Data pid) (pieces (2 * data_pages_of a.facts))))
+    (wanted_lengths (owners.U t) (wanted (owners.Data pid) (pieces (2 * image_data_pages a.facts))))
     (wanted_lengths (owners.U t) (wanted (owners.Stack pid) (pieces 2))) (wanted_lengths (owners.U t) (wanted (owners.U pid) (u_pieces 2)))
     (wanted_lengths (owners.U t) (start_asks p (a.image ∷ earlier) (pid + 1) more)) [] [] [] [] []
-    (text_none (times a.image earlier) a.image (2 * length (slots_of p (Text a.image 0))) (owners.U t) refl) (lengths_other (owners.Data pid) (owners.U t) (pieces (2 * data_pages_of a.facts)) refl)
+    (text_none (times a.image earlier) a.image (2 * length (slots_of p (Text a.image 0))) (owners.U t) refl) (lengths_other (owners.Data pid) (owners.U t) (pieces (2 * image_data_pages a.facts)) refl)
     (lengths_other (owners.Stack pid) (owners.U t) (pieces 2) refl) (lengths_other (owners.U pid) (owners.U t) (u_pieces 2) (ne_eqb pid t (λ e. absurd (omega arith))))
     (u_later p (a.image ∷ earlier) (pid + 1) more t (omega arith))
 
@@ -161,15 +161,15 @@ u_asked p earlier pid (a ∷ more) t = parts p earlier pid a more (owners.U t) �
     rest = wanted_lengths (owners.U t) (start_asks p (a.image ∷ earlier) (pid + 1) more)
 
     with : (u r c f : List ℕ) → u ≡ c → r ≡ f → in_order (wanted_lengths (owners.U t) (text_asked (times a.image earlier) a.image (2 * length (slots_of p (Text a.image 0)))))
-        (wanted_lengths (owners.U t) (wanted (owners.Data pid) (pieces (2 * data_pages_of a.facts)))) (wanted_lengths (owners.U t) (wanted (owners.Stack pid) (pieces 2))) u r ≡ c ++ f
+        (wanted_lengths (owners.U t) (wanted (owners.Data pid) (pieces (2 * image_data_pages a.facts)))) (wanted_lengths (owners.U t) (wanted (owners.Stack pid) (pieces 2))) u r ≡ c ++ f
     with u r c f x y = put_parts (wanted_lengths (owners.U t) (text_asked (times a.image earlier) a.image (2 * length (slots_of p (Text a.image 0)))))
-        (wanted_lengths (owners.U t) (wanted (owners.Data pid) (pieces (2 * data_pages_of a.facts)))) (wanted_lengths (owners.U t) (wanted (owners.Stack pid) (pieces 2))) u r [] [] [] c f
+        (wanted_lengths (owners.U t) (wanted (owners.Data pid) (pieces (2 * image_data_pages a.facts)))) (wanted_lengths (owners.U t) (wanted (owners.Stack pid) (pieces 2))) u r [] [] [] c f
         (text_none (times a.image earlier) a.image (2 * length (slots_of p (Text a.image 0))) (owners.U t) refl)
-        (lengths_other (owners.Data pid) (owners.U t) (pieces (2 * data_pages_of a.facts)) refl) (lengths_other (owners.Stack pid) (owners.U t) (pieces 2) refl) x y
+        (lengths_other (owners.Data pid) (owners.U t) (pieces (2 * image_data_pages a.facts)) refl) (lengths_other (owners.Stack pid) (owners.U t) (pieces 2) refl) x y
 
     go : (b : Bool) → (pid == t) ≡ b → rest ≡ u_pieces (u_blocks (is_started (pid + 1) more t))
         → in_order (wanted_lengths (owners.U t) (text_asked (times a.image earlier) a.image (2 * length (slots_of p (Text a.image 0)))))
-        (wanted_lengths (owners.U t) (wanted (owners.Data pid) (pieces (2 * data_pages_of a.facts)))) (wanted_lengths (owners.U t) (wanted (owners.Stack pid) (pieces 2)))
+        (wanted_lengths (owners.U t) (wanted (owners.Data pid) (pieces (2 * image_data_pages a.facts)))) (wanted_lengths (owners.U t) (wanted (owners.Stack pid) (pieces 2)))
         (wanted_lengths (owners.U t) (wanted (owners.U pid) (u_pieces 2))) rest
         ≡ u_pieces (u_blocks (cond b true (is_started (pid + 1) more t)))
     go true e ih = with (wanted_lengths (owners.U t) (wanted (owners.U pid) (u_pieces 2))) rest (u_pieces 2) []
@@ -192,11 +192,11 @@ text_other earlier image i blocks (inl n) = text_none (times image earlier) imag
 text_other earlier image i blocks (inr l) = text_shared (times image earlier) image blocks (owners.Text i) l
 
 text_rest : (p : Placement) (earlier : List ℕ) (pid : ℕ) (a : Starting) (more : List Starting) (i : ℕ) (t r b f : List ℕ) → t ≡ b → r ≡ f
-    → in_order t (wanted_lengths (owners.Text i) (wanted (owners.Data pid) (pieces (2 * data_pages_of a.facts))))
+    → in_order t (wanted_lengths (owners.Text i) (wanted (owners.Data pid) (pieces (2 * image_data_pages a.facts))))
     (wanted_lengths (owners.Text i) (wanted (owners.Stack pid) (pieces 2))) (wanted_lengths (owners.Text i) (wanted (owners.U pid) (u_pieces 2))) r ≡ b ++ f
-text_rest p earlier pid a more i t r b f x y = put_parts t (wanted_lengths (owners.Text i) (wanted (owners.Data pid) (pieces (2 * data_pages_of a.facts))))
+text_rest p earlier pid a more i t r b f x y = put_parts t (wanted_lengths (owners.Text i) (wanted (owners.Data pid) (pieces (2 * image_data_pages a.facts))))
     (wanted_lengths (owners.Text i) (wanted (owners.Stack pid) (pieces 2))) (wanted_lengths (owners.Text i) (wanted (owners.U pid) (u_pieces 2))) r b [] [] [] f
-    x (lengths_other (owners.Data pid) (owners.Text i) (pieces (2 * data_pages_of a.facts)) refl) (lengths_other (owners.Stack pid) (owners.Text i) (pieces 2) refl)
+    x (lengths_other (owners.Data pid) (owners.Text i) (pieces (2 * image_data_pages a.facts)) refl) (lengths_other (owners.Stack pid) (owners.Text i) (pieces 2) refl)
     (lengths_other (owners.U pid) (owners.Text i) (u_pieces 2) refl) y
 
 counted : (b : Bool) (n : ℕ) → n ≤ cond b 1 0 + n
@@ -239,7 +239,7 @@ text_all p earlier pid (a ∷ more) i z = parts p earlier pid a more (owners.Tex
         ∙ ap (λ (n : ℕ). wanted_lengths (owners.Text i) (text_asked n i blocks)) z ∙ lengths_own (owners.Text i) (text_pieces blocks)
 
     go : (b : Bool) → (a.image == i) ≡ b → (times i (a.image ∷ earlier) ≡ 0 → rest ≡ text_pieces_while (sharers_in i (spaces_from (pid + 1) more)) blocks)
-        → in_order mine (wanted_lengths (owners.Text i) (wanted (owners.Data pid) (pieces (2 * data_pages_of a.facts)))) (wanted_lengths (owners.Text i) (wanted (owners.Stack pid) (pieces 2)))
+        → in_order mine (wanted_lengths (owners.Text i) (wanted (owners.Data pid) (pieces (2 * image_data_pages a.facts)))) (wanted_lengths (owners.Text i) (wanted (owners.Stack pid) (pieces 2)))
         (wanted_lengths (owners.Text i) (wanted (owners.U pid) (u_pieces 2))) rest
         ≡ text_pieces_while (cond b 1 0 + sharers_in i (spaces_from (pid + 1) more)) blocks
     go true e ih = text_rest p earlier pid a more i mine rest (text_pieces blocks) [] (first_text (eqb-true a.image i e))

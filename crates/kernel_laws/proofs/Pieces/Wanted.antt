@@ -8,7 +8,7 @@ use Rattle.vm_facts.specs.declared.page.PageState.{PageState}
 use Rattle.vm_facts.specs.declared.page.PageState.TheVariants.{Unfilled}
 use Rattle.vm_facts.specs.declared.regs.Regs.{Regs}
 use Rattle.vm_facts.specs.declared.entry.Entry.{Entry}
-use Rattle.aout_image.specs.Image.{data_pages_of}
+use Rattle.aout_image.specs.Image.{image_data_pages}
 use Rattle.swap_dmap.specs.Chunks.{pieces, text_pieces}
 use Rattle.swap_dmap.proofs.PieceLaws.{pieces_none}
 use Rattle.swap_book.specs.declared.Owner.{Owner}
@@ -575,7 +575,7 @@ exec_asks k next image ns sid borrowed facts new apart e texts l = by
     t = text_asked (sharers p image) image blocks
 
     d : List ℕ
-    d = pieces (2 * data_pages_of facts)
+    d = pieces (2 * image_data_pages facts)
 
     s : List ℕ
     s = pieces 2
@@ -608,9 +608,9 @@ exec_asks k next image ns sid borrowed facts new apart e texts l = by
         (lengths_other (owners.Data ns) (owners.Text image) d refl) (lengths_other (owners.Stack ns) (owners.Text image) s refl))
         ∙ append-nil (wanted_lengths (owners.Text image) t)
 
-    new_data : data_count next.place ns ≡ data_pages_of facts
+    new_data : data_count next.place ns ≡ image_data_pages facts
     new_data = ap (λ (q : Placement). data_count q ns) e ∙ unless_data_same borrowed r sid ns apart ∙ ap (λ (o : Option SpacePages). length (data_in o)) (added_same ns p.spaces x refl new)
-        ∙ unfilled_length facts 0 (data_pages_of facts)
+        ∙ unfilled_length facts 0 (image_data_pages facts)
 
     new_stack : stack_count next.place ns ≡ 1
     new_stack = ap (λ (q : Placement). stack_count q ns) e ∙ unless_stack_same borrowed r sid ns apart ∙ ap (λ (o : Option SpacePages). length (stack_in o)) (added_same ns p.spaces x refl new)

@@ -12,7 +12,7 @@ use Rattle.swap_book.specs.Owners.{u_pieces}
 use Rattle.swap_book.specs.Holdings.{Holdings}
 use Rattle.page_model.specs.Pages.{numbered}
 use Rattle.page_model.specs.Frames.{set_frame}
-use Rattle.page_model.specs.Placement.{Placement, Transfer, Part, Errand, Writes, Reads, state_of, due_at}
+use Rattle.page_model.specs.Placement.{Placement, Transfer, Part, Errand, Writes, Reads, state_of, due_of_page}
 use Rattle.page_model.specs.Moves.{fill, begin, touch, touch_to, done}
 use Rattle.page_model.specs.Place.{place_entry}
 use Rattle.page_model.specs.Conditions.{begins, CanPlace, EntryShared, CanEnter, IsShared}
@@ -72,7 +72,7 @@ zero_sound size k q s c sh =
 
 pub copy_sound : (size : ℕ) (k : Kernel) (q : Page) → Sound size k → CanEnter k.place q → IsShared k.place q → Sound size (copy_step k q)
 copy_sound size k q s c sh =
-    let t = fill_sound size k q (entries.Copy q) (plain_sound size k [] (entries.Copy q) s c sh (let l = s.few_transfers in omega arith)) (copied_bytes k (due_at k.place.due q)) in
+    let t = fill_sound size k q (entries.Copy q) (plain_sound size k [] (entries.Copy q) s c sh (let l = s.few_transfers in omega arith)) (copied_bytes k (due_of_page k.place.due q)) in
     record { owner = t.owner; tokens = t.tokens; hands = t.hands; few_transfers = t.few_transfers }
 
 read_length : (xs : List Part) (read frames : List (List ℕ)) → length (read_into xs read frames) ≡ length frames

@@ -3,7 +3,7 @@ use Rattle.std.proofs.Common.{◌≡◌, ◌≢◌, inl, inr, ℕ, ◌*◌, ◌=
 use Rattle.std.proofs.Math.Bool.{and-false}
 use Rattle.std.proofs.lemmas.Bool.{cases_eq}
 use Rattle.vm_facts.specs.Answers.{ByteWrite}
-use Rattle.flat_state.specs.Space.{Space, put}
+use Rattle.flat_state.specs.Space.{Space, put_in_space}
 use Rattle.flat_state.specs.Flat.{Holding, Holds, Lends, Zombie, Process, FlatState, NamedImage, process_of, holds_space, image_numbered, space_with}
 use Rattle.vm_facts.specs.declared.page.Page.{Page}
 use Rattle.vm_facts.specs.declared.page.Page.TheVariants.{Stack, Text}
@@ -15,7 +15,7 @@ use Rattle.flat_state.specs.Change.{with_process, without_process, replaced, res
 use Rattle.flat_state.specs.Journal.{append}
 use Rattle.page_model.specs.Pages.{numbered}
 use Rattle.flat_state.specs.PageNames.{same_page}
-use Rattle.page_model.specs.Placement.{Placement, Residence, Due, Start, due_at, slots_of}
+use Rattle.page_model.specs.Placement.{Placement, Residence, Due, Start, due_of_page, slots_of}
 use Rattle.page_model.specs.Moves.{drop_all, touch}
 use Rattle.page_model.specs.Place.{enter_image, give_up_unless, facts_of}
 use Rattle.page_model.specs.Swapper.{is_out, residence_of}
@@ -85,7 +85,7 @@ still_out : (images : List NamedImage) (k l : Kernel) (flat after : FlatState) �
     → ((n : ℕ) → is_out l.place n ≡ true → (is_out k.place n ≡ true) × (Held flat.processes n → Held after.processes n))
     → Stands images k flat → Stands images l after
 still_out images k l flat after ss ds ts h s = record {
-  starts = λ q e. ap (λ (x : List StartBytes). has_start x q) ss ∙ s.starts q (ap (λ (x : List Due). is_start (due_at x q)) (sym ds) ∙ e);
+  starts = λ q e. ap (λ (x : List StartBytes). has_start x q) ss ∙ s.starts q (ap (λ (x : List Due). is_start (due_of_page x q)) (sym ds) ∙ e);
   texts = λ i. s.texts i ∙ ap (λ (n : ℕ). 1024 * n) (sym (ts i));
   out = out_held k.place l.place flat after s.out h;
 }
@@ -112,8 +112,12 @@ pub write_stands : (images : List NamedImage) (k : Kernel) (flat : FlatState) (p
 write_stands images k flat pid q s w v f at fq hq st = subst (Stands images (write_step k v f at w.byte)) (sym (written flat pid w q s fq hq))
     (let sh : Shaped k.place (touch k.place v) = touch_shaped k.place v in
     let t : Steady k.place (touch k.place v) = touch_steady k.place v in
-    still_out images k (write_step k v f at w.byte) flat (with_process flat (record q { holding = Holds (put s w) })) refl t.due (λ i. sizes_kept k.place (touch k.place v) sh (Text i 0))
-    (λ n e. (ap (λ (rs : List Residence). (residence_of rs n).out) (sym sh.residents) ∙ e, held_holder flat.processes q (record q { holding = Holds (put s w) }) n (found_self flat pid q fq) refl)) st)
+    still_out images k (write_step k v f at w.byte) flat (with_process flat (record q { holding = Holds (put_in_space s w) })) refl t.due (λ i. sizes_kept k.place (touch k.place v) sh (Text i 0))
+    (λ n e. (
+      ap (λ (rs : List Residence).
+          (residence_of rs n).out) (sym sh.residents) ∙ e,
+      held_holder flat.processes q (record q { holding = Holds (put_in_space s w) }) n (found_self flat pid q fq) refl,
+    )) st)
 
 -- An entry of a process, by the process of the machine.
 by_step : (images : List NamedImage) (k : Kernel) (flat : FlatState) (pid : ℕ) (regs : Regs) (e : Entry) (change : Change) (q : Process) (s : Space)
@@ -172,7 +176,7 @@ resize_stands images k flat pid regs e d t q s tb f h out st = by_step images k 
 
 -- nothing is kept where nothing is due
 none_kept : (images : List NamedImage) (k : Kernel) (flat : FlatState) → k.place.due ≡ [] → Stands images k flat → (w : Page) → has_start k.starts w ≡ false
-none_kept images k flat due st w = st.starts w (ap (λ (ds : List Due). is_start (due_at ds w)) due)
+none_kept images k flat due st w = st.starts w (ap (λ (ds : List Due). is_start (due_of_page ds w)) due)
 
 pub fork_stands : (images : List NamedImage) (k : Kernel) (flat : FlatState) (pid : ℕ) (regs : Regs) (e : Entry) (q : Process) (s : Space)
     → SameTables k flat → k.place.due ≡ []
@@ -271,8 +275,8 @@ exec_stands_core images k flat after next sid number borrowed named top ps journ
     let l : Kernel = exec_kernel k next sid borrowed number (Some named.image.facts) top ps journal in
     let p1 : Placement = enter_image k.place next number (Some named.image.facts) in
     let g : Gone p1 l.place borrowed sid = gone_unless borrowed p1 sid in
-    let due_there : (w : Page) → Stack next 0 ≡ w → is_start (due_at l.place.due w) ≡ false → ⊥ = λ w i e.
-    let a : is_start (due_at l.place.due w) ≡ true = ap (λ (ds : List Due). is_start (due_at ds w)) g.due ∙ ap (λ (x : Page). is_start (due_at (Start (Stack next 0) ∷ []) x)) (sym i)
+    let due_there : (w : Page) → Stack next 0 ≡ w → is_start (due_of_page l.place.due w) ≡ false → ⊥ = λ w i e.
+    let a : is_start (due_of_page l.place.due w) ≡ true = ap (λ (ds : List Due). is_start (due_of_page ds w)) g.due ∙ ap (λ (x : Page). is_start (due_of_page (Start (Stack next 0) ∷ []) x)) (sym i)
     ∙ ap (λ (b : Bool). is_start (cond b (Some (Start (Stack next 0))) None)) (same_page_self (Stack next 0)) in
     let z : true ≡ false = sym a ∙ e in cc in
     record {

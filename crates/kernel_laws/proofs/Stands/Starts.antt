@@ -12,12 +12,12 @@ use Rattle.aout_image.specs.Image.{text_pages_of}
 use Rattle.swap_book.specs.Holdings.{Holdings}
 use Rattle.page_model.specs.Pages.{TextPages, Zeros, Slot, text_in, numbered}
 use Rattle.flat_state.specs.PageNames.{same_page}
-use Rattle.page_model.specs.Placement.{Starting, Due, Start, due_at, image_number, slots_of, unfilled, texts_from, due_from}
+use Rattle.page_model.specs.Placement.{Starting, Due, Start, due_of_page, image_number, slots_of, unfilled, texts_from, due_from}
 use Rattle.flat_state.specs.Numbers.{IsAbsent, AllDistinct, AllBelow, AllLower, IsNumbered}
 use Rattle.flat_state.specs.Lenders.{LendsStand}
 use Rattle.kernel_model.specs.Stands.{Stands}
 use Rattle.kernel_model.specs.Sound.{is_start, has_start}
-use Rattle.kernel_model.specs.Coupled.{text_of}
+use Rattle.kernel_model.specs.Coupled.{image_text}
 use Rattle.kernel_model.specs.Start.{start_of, start_kernel, AreStarting, ImageFits, ImagesFit}
 use Rattle.page_laws.proofs.Lists.Local.{none_some}
 use Rattle.std.proofs.lemmas.Option.{same_Some}
@@ -112,7 +112,7 @@ start_lent A = record {
 -- What is kept is due.
 
 starts_due : (images : List NamedImage) (numbers : List ℕ) (first : List Starting) (n : ℕ) (w : Page) → AreStarting images numbers first
-    → is_start (due_at (due_from n first) w) ≡ false
+    → is_start (due_of_page (due_from n first) w) ≡ false
     → has_start (map start_of (held (start_processes images n numbers))) w ≡ false
 starts_due images [] [] n w a e = refl
 starts_due images [] (y ∷ first) n w a e = absurd a
@@ -121,8 +121,8 @@ starts_due images (x ∷ numbers) (y ∷ first) n w a e =
     subst (λ (o : Option NamedImage). has_start (map start_of (held (start_if n x o ++ start_processes images (n + 1) numbers))) w ≡ false) (sym a.1)
     (go (same_page (Stack n 0) w) e (starts_due images numbers first (n + 1) w a.4))
   where
-    go : (b : Bool) → is_start (cond b (Some (Start (Stack n 0))) (due_at (due_from (n + 1) first) w)) ≡ false
-        → (is_start (due_at (due_from (n + 1) first) w) ≡ false → has_start (map start_of (held (start_processes images (n + 1) numbers))) w ≡ false)
+    go : (b : Bool) → is_start (cond b (Some (Start (Stack n 0))) (due_of_page (due_from (n + 1) first) w)) ≡ false
+        → (is_start (due_of_page (due_from (n + 1) first) w) ≡ false → has_start (map start_of (held (start_processes images (n + 1) numbers))) w ≡ false)
         → (b || has_start (map start_of (held (start_processes images (n + 1) numbers))) w) ≡ false
     go true h ih = absurd cc
     go false h ih = ih h
@@ -131,7 +131,7 @@ starts_due images (x ∷ numbers) (y ∷ first) n w a e =
 
 -- the text of the image at a place
 text_at : (images : List NamedImage) (m j i : ℕ) → i ≡ m + j → ((named : NamedImage) → slice_get images j ≡ Some named → ImageFits named)
-    → length (text_of (slice_get images j))
+    → length (image_text (slice_get images j))
     ≡ 1024 * length (text_in (numbered image_number i (texts_from m (map (λ (named : NamedImage). named.image.facts) images))))
 text_at [] m j i e fit = refl
 text_at (named ∷ images) m zero i e fit =
@@ -157,6 +157,6 @@ start_beside A first hs frames a fit = record {
   out = λ pid e. absurd (let z : true ≡ false = sym e ∙ all_in first 1 pid in cc);
 }
   where
-    texts : (i : ℕ) → length (text_of (image_numbered A.images i)) ≡ 1024 * length (slots_of (start_kernel A first hs frames).place (Text i 0))
+    texts : (i : ℕ) → length (image_text (image_numbered A.images i)) ≡ 1024 * length (slots_of (start_kernel A first hs frames).place (Text i 0))
     texts zero = sym (ap (λ (o : Option TextPages). 1024 * length (text_in o)) (no_text (map (λ (named : NamedImage). named.image.facts) A.images) 1 (omega arith)))
     texts (suc j) = text_at A.images 1 j (suc j) (omega arith) (λ named e. fit (suc j) named e)

@@ -12,7 +12,7 @@ use Rattle.vm_facts.specs.declared.entry.Entry.{Entry}
 use Rattle.vm_facts.specs.declared.entry.Entry.TheVariants as entries
 use Rattle.flat_state.specs.Journal.{append}
 use Rattle.flat_state.specs.PageNames.{number_of, pages_from, same_page}
-use Rattle.page_model.specs.Placement.{Placement, Residence, Due, CopyOf, due_at}
+use Rattle.page_model.specs.Placement.{Placement, Residence, Due, CopyOf, due_of_page}
 use Rattle.page_model.specs.Moves.{begin, reclaim, done}
 use Rattle.page_model.specs.Hands.{hand_move, hand_moves}
 use Rattle.page_model.specs.Place.{filled, put_step}
@@ -35,7 +35,7 @@ use Rattle.kernel_laws.proofs.Machine.Swaps.{out_other, out_same}
 pub stands_still : (images : List NamedImage) (k l : Kernel) (flat : FlatState) → l.starts ≡ k.starts → l.place.due ≡ k.place.due
     → Shaped k.place l.place → Stands images k flat → Stands images l flat
 stands_still images k l flat ss ds sh s = record {
-  starts = λ q e. ap (λ (x : List StartBytes). has_start x q) ss ∙ s.starts q (ap (λ (x : List Due). is_start (due_at x q)) (sym ds) ∙ e);
+  starts = λ q e. ap (λ (x : List StartBytes). has_start x q) ss ∙ s.starts q (ap (λ (x : List Due). is_start (due_of_page x q)) (sym ds) ∙ e);
   texts = λ i. s.texts i ∙ ap (λ (n : ℕ). 1024 * n) (sym (sizes_kept k.place l.place sh (Text i 0)));
   out = λ pid e. s.out pid (ap (λ (rs : List Residence). (residence_of rs pid).out) (sym sh.residents) ∙ e);
 }
@@ -108,11 +108,11 @@ zero_stands images k flat q s = record {
 }
 
 -- a page that is copied has nothing that is kept for it
-pub copy_stands : (images : List NamedImage) (k : Kernel) (flat : FlatState) (q r parent : Page) → due_at k.place.due q ≡ Some (CopyOf r parent)
+pub copy_stands : (images : List NamedImage) (k : Kernel) (flat : FlatState) (q r parent : Page) → due_of_page k.place.due q ≡ Some (CopyOf r parent)
     → Stands images k flat → Stands images (copy_step k q) flat
 copy_stands images k flat q r parent d s = record {
   starts = λ w e. elim (page_cases w q) [
-    | inl i ↦ s.starts w (ap (λ (x : Page). is_start (due_at k.place.due x)) i ∙ ap is_start d)
+    | inl i ↦ s.starts w (ap (λ (x : Page). is_start (due_of_page k.place.due x)) i ∙ ap is_start d)
     | inr n ↦ s.starts w (ap is_start (sym (due_other k.place.due q w n)) ∙ e)
   ];
   texts = λ i. s.texts i ∙ ap (λ (n : ℕ). 1024 * n) (sym (sizes_kept k.place (filled k.place q) (filled_shaped k.place q) (Text i 0)));

@@ -5,7 +5,7 @@ use Rattle.vm_facts.specs.declared.page.Page.{Page}
 use Rattle.vm_facts.specs.declared.page.Page.TheVariants.{Data, Stack, Text}
 use Rattle.page_model.specs.Pages.{Slot, Filling, Zeros, no_slot, SpacePages, numbered, data_in, stack_in, frame_of}
 use Rattle.flat_state.specs.PageNames.{number_of}
-use Rattle.page_model.specs.Placement.{Placement, Transfer, Due, space_number, slots_of, slot_of, state_of, errand_at, due_at, parts_of, IsThere, unfilled}
+use Rattle.page_model.specs.Placement.{Placement, Transfer, Due, space_number, slots_of, slot_of, state_of, errand_at, due_of_page, parts_of, IsThere, unfilled}
 use Rattle.page_model.specs.Moves.{drop_at, drop_page, drop_all}
 use Rattle.page_model.specs.Place.{sized, cut_space, resize, data_count, stack_count, data_from, stack_from, remove_space, pages_of_space}
 use Rattle.page_model.specs.Conditions.{EachPage}
@@ -18,7 +18,7 @@ use Rattle.page_laws.proofs.Bytes.Couples.{NoCopy, Unmoved, unmoved_keeps}
 
 -- each page that is there is as it was, or is right by itself
 pub changed_coupled : (p q : Placement) (b c : Bytes) → CouplesPages p b → ((w : Page) → IsThere q w → (IsThere p w × Unmoved p q b c w) ⊎ Keeps q c w)
-    → ((image v : ℕ) → c.file (Text image v) ≡ c.memory (Text image v)) → ((image v : ℕ) → due_at q.due (Text image v) ≡ None) → CouplesPages q c
+    → ((image v : ℕ) → c.file (Text image v) ≡ c.memory (Text image v)) → ((image v : ℕ) → due_of_page q.due (Text image v) ≡ None) → CouplesPages q c
 changed_coupled p q b c k h text due = record {
   each = λ w there. elim (h w there) [
     | inl u ↦ unmoved_keeps p q b c w u.1 (k.each w u.0)
@@ -42,8 +42,8 @@ drop_all_rest [] p = (refl, refl)
 drop_all_rest (v ∷ qs) p = let a = drop_all_rest qs (drop_page p v) in let b = drop_rest p v in (a.0 ∙ b.0, a.1 ∙ b.1)
 
 -- a page whose slot stays, with the same transfers and nothing due
-pub still_unmoved : (p q : Placement) (b c : Bytes) (w : Page) → slot_of q w ≡ slot_of p w → q.transfers ≡ p.transfers → due_at q.due w ≡ None
-    → due_at p.due w ≡ None → SameBytes b c w → Unmoved p q b c w
+pub still_unmoved : (p q : Placement) (b c : Bytes) (w : Page) → slot_of q w ≡ slot_of p w → q.transfers ≡ p.transfers → due_of_page q.due w ≡ None
+    → due_of_page p.due w ≡ None → SameBytes b c w → Unmoved p q b c w
 still_unmoved p q b c w s t d e x = record {
   slot = s;
   due = d ∙ sym e;
@@ -79,12 +79,12 @@ abbrev pub cut : ℕ → ℕ → SpacePages → SpacePages
 cut d s x = record x { data_pages = sized d x.data_pages; stack_pages = sized s x.stack_pages }
 
 -- a new page, of zeros
-pub zero_keeps : (q : Placement) (c : Bytes) (w : Page) → slot_of q w ≡ unfilled Zeros → ((image v : ℕ) → w ≢ Text image v) → due_at q.due w ≡ None
+pub zero_keeps : (q : Placement) (c : Bytes) (w : Page) → slot_of q w ≡ unfilled Zeros → ((image v : ℕ) → w ≢ Text image v) → due_of_page q.due w ≡ None
     → zeros ≡ c.memory w → Keeps q c w
 zero_keeps q c (Text image v) e n d z = absurd (n image v refl)
 zero_keeps q c y e n d z = subst (KeepsBy q c y) (sym (ap (λ (x : Slot). x.state) e)) (
   subst (λ (f : Filling). Rattle.page_model.specs.PageBytes.KeepsUnfilled c y
-      (due_at q.due y) f) (sym (ap (λ (x : Slot). x.filling) e)) (subst (λ (o : Option Due). Rattle.page_model.specs.PageBytes.KeepsUnfilled c y o Zeros) (sym d) z),
+      (due_of_page q.due y) f) (sym (ap (λ (x : Slot). x.filling) e)) (subst (λ (o : Option Due). Rattle.page_model.specs.PageBytes.KeepsUnfilled c y o Zeros) (sym d) z),
   tt,
 )
 
@@ -171,8 +171,8 @@ kept_apart p p0 sid d s w there = each_page_append (λ r. w ≢ r) (data_from si
     (apart_data sid d (data_count p0 sid - d) w (λ v l e. absurd (let h = data_bound p sid d s v (subst (IsThere (cut_space p sid d s)) e there) in omega arith)))
     (apart_stack sid s (stack_count p0 sid - s) w (λ v l e. absurd (let h = stack_bound p sid d s v (subst (IsThere (cut_space p sid d s)) e there) in omega arith)))
 
-pub due_none : (ds : List Due) (w : Page) → ds ≡ [] → due_at ds w ≡ None
-due_none ds w e = ap (λ (x : List Due). due_at x w) e
+pub due_none : (ds : List Due) (w : Page) → ds ≡ [] → due_of_page ds w ≡ None
+due_none ds w e = ap (λ (x : List Due). due_of_page x w) e
 
 -- Growth and break: the pages that stay have their bytes, and the new ones have zeros.
 pub resize_coupled : (p : Placement) (sid d s : ℕ) (b c : Bytes) → CouplesPages p b → p.due ≡ []

@@ -5,7 +5,7 @@ use Rattle.vm_facts.specs.declared.page.Page.TheVariants.{Text}
 use Rattle.vm_facts.specs.declared.page.PageState.{PageState}
 use Rattle.vm_facts.specs.declared.page.PageState.TheVariants.{Unfilled, Valid, Invalid, Coming, Going, OnSwap}
 use Rattle.page_model.specs.Pages.{Slot, Filling, Zeros, OfImage, frame_of, is_dirty_by}
-use Rattle.page_model.specs.Placement.{Placement, Errand, Reads, FromSwap, FromFile, Due, Start, CopyOf, filling_by, slot_of, state_of, mark_of, is_dirty, filling_of, page_of, errand_at, due_at, parts_of, IsThere}
+use Rattle.page_model.specs.Placement.{Placement, Errand, Reads, FromSwap, FromFile, Due, Start, CopyOf, filling_by, slot_of, state_of, mark_of, is_dirty, filling_of, page_of, errand_at, due_of_page, parts_of, IsThere}
 use Rattle.page_model.specs.Ownership.{OwnsFrames}
 use Rattle.page_model.specs.PageBytes.{Bytes, bytes_in, IsInFrame, KeepsUnfilled, IsUnsaved, KeepsComing, IfSaved, KeepsBy, Keeps, CouplesPages}
 use Rattle.page_laws.proofs.Lists.Pages.{page_cases}
@@ -21,8 +21,8 @@ pub record Beside (p q : Placement) (v : Page) (f : ℕ) (b c : Bytes) : Type 0 
   -- text is never written, and no page that is written is to be copied
   pub text : (image n : ℕ) → c.memory (Text image n) ≡ b.memory (Text image n)
   pub copied : ((w : Page) → c.memory w ≡ b.memory w) ⊎ (q.due ≡ [])
-  pub due : (w : Page) → w ≢ v → due_at q.due w ≡ due_at p.due w
-  pub text_due : (image n : ℕ) → due_at p.due (Text image n) ≡ None → due_at q.due (Text image n) ≡ None
+  pub due : (w : Page) → w ≢ v → due_of_page q.due w ≡ due_of_page p.due w
+  pub text_due : (image n : ℕ) → due_of_page p.due (Text image n) ≡ None → due_of_page q.due (Text image n) ≡ None
   pub errands : (g : ℕ) → g ≢ f → errand_at (parts_of q.transfers) g ≡ errand_at (parts_of p.transfers) g
 
 -- nothing is due of a page that is copied from another
@@ -48,14 +48,14 @@ coming_same b c w m _ fi sw me k = k
 -- what a page was, and what stands beside it, it still is
 pub record Unmoved (p q : Placement) (b c : Bytes) (w : Page) : Type 0 where
   pub slot : slot_of q w ≡ slot_of p w
-  pub due : due_at q.due w ≡ due_at p.due w
+  pub due : due_of_page q.due w ≡ due_of_page p.due w
   pub frames : (g : ℕ) → frame_of (state_of p w) ≡ Some g
       → (bytes_in c g ≡ bytes_in b g) × (errand_at (parts_of q.transfers) g ≡ errand_at (parts_of p.transfers) g)
   pub swap : c.swap w ≡ b.swap w
   pub file : c.file w ≡ b.file w
   pub start : c.start w ≡ b.start w
   pub memory : c.memory w ≡ b.memory w
-  pub copied : ((parent : Page) → c.memory parent ≡ b.memory parent) ⊎ NoCopy (due_at q.due w)
+  pub copied : ((parent : Page) → c.memory parent ≡ b.memory parent) ⊎ NoCopy (due_of_page q.due w)
 
 mark_same : (p q : Placement) (b c : Bytes) (w : Page) → Unmoved p q b c w → mark_of q w ≡ mark_of p w
 mark_same p q b c w u = ap (λ (x : Slot). x.mark) u.slot
@@ -73,8 +73,8 @@ saved_same b c _ m s e k = tt
 
 keeps_same : (p q : Placement) (b c : Bytes) (w : Page) (s : PageState) → state_of p w ≡ s → Unmoved p q b c w → KeepsBy p b w s → KeepsBy q c w s
 keeps_same p q b c w Unfilled e u k = (
-  unfilled_same b c w (due_at q.due w) (filling_of q w) u.file u.start u.memory u.copied
-      (subst (λ (d : Option Due). KeepsUnfilled b w d (filling_of q w)) (sym u.due) (subst (KeepsUnfilled b w (due_at p.due w)) (sym (filling_same p q b c w u)) k.0)),
+  unfilled_same b c w (due_of_page q.due w) (filling_of q w) u.file u.start u.memory u.copied
+      (subst (λ (d : Option Due). KeepsUnfilled b w d (filling_of q w)) (sym u.due) (subst (KeepsUnfilled b w (due_of_page p.due w)) (sym (filling_same p q b c w u)) k.0)),
   subst (IsUnsaved w) (sym (mark_same p q b c w u)) k.1,
 )
 keeps_same p q b c w (Valid f) e u k = in_frame_same p q b c w f u (ap frame_of e) k
@@ -101,7 +101,7 @@ unmoved p q v f b c o l s w n = record {
   memory = s.memory w n;
   copied = elim s.copied [
     | inl h ↦ inl h
-    | inr h ↦ inr (subst (λ (ds : List Due). NoCopy (due_at ds w)) (sym h) tt)
+    | inr h ↦ inr (subst (λ (ds : List Due). NoCopy (due_of_page ds w)) (sym h) tt)
   ];
 }
 

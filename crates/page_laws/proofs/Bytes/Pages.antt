@@ -8,7 +8,7 @@ use Rattle.page_model.specs.Pages.{Filling, OfImage, frame_of, is_dirty_by, left
 use Rattle.flat_state.specs.PageNames.{same_page, is_among}
 use Rattle.page_model.specs.Frames.{at_frame}
 use Rattle.vm_facts.specs.Lists.{times, without}
-use Rattle.page_model.specs.Placement.{Placement, Transfer, Part, Moving, Errand, Writes, Reads, Source, FromSwap, FromFile, Due, due_page, moving, state_of, mark_of, is_dirty, filling_of, page_of, errand_at, due_at, parts_of, IsFrame, IsThere}
+use Rattle.page_model.specs.Placement.{Placement, Transfer, Part, Moving, Errand, Writes, Reads, Source, FromSwap, FromFile, Due, due_page, moving, state_of, mark_of, is_dirty, filling_of, page_of, errand_at, due_of_page, parts_of, IsFrame, IsThere}
 use Rattle.page_model.specs.Moves.{evict, evict_at, enter, turn, fill_at, join_last, get_one, get_at, launch, launch_to, land, land_read, arrived_mark, reclaim, reclaim_to, retire, retire_to, touch, touch_to}
 use Rattle.page_model.specs.Place.{filled, due_after}
 use Rattle.page_model.specs.Hands.{expire, expire_of, expire_if, expire_to}
@@ -36,8 +36,8 @@ beside_still p q v f b d e = record {
   memory = λ w n. refl;
   text = λ i n. refl;
   copied = inl (λ w. refl);
-  due = λ w n. ap (λ (ds : List Due). due_at ds w) d;
-  text_due = λ i n h. ap (λ (ds : List Due). due_at ds (Text i n)) d ∙ h;
+  due = λ w n. ap (λ (ds : List Due). due_of_page ds w) d;
+  text_due = λ i n h. ap (λ (ds : List Due). due_of_page ds (Text i n)) d ∙ h;
   errands = e;
 }
 
@@ -51,8 +51,8 @@ beside_frame p q v f b bytes d e = record {
   memory = λ w n. refl;
   text = λ i n. refl;
   copied = inl (λ w. refl);
-  due = λ w n. ap (λ (ds : List Due). due_at ds w) d;
-  text_due = λ i n h. ap (λ (ds : List Due). due_at ds (Text i n)) d ∙ h;
+  due = λ w n. ap (λ (ds : List Due). due_of_page ds w) d;
+  text_due = λ i n h. ap (λ (ds : List Due). due_of_page ds (Text i n)) d ∙ h;
   errands = e;
 }
 
@@ -76,7 +76,7 @@ marked p v f s m free ts c there k = subst (λ (d : Bool). IsInFrame c d f v) (s
 
 left_keeps : (p : Placement) (b : Bytes) (f : ℕ) (v : Page) (m : Bool) → mark_of (evict_at p f (Some v)) v ≡ m → is_marked_dirty v m ≡ false
     → b.file v ≡ b.memory v ⊎ ((image n : ℕ) → v ≢ Text image n)
-    → ((image n : ℕ) → v ≡ Text image n → due_at p.due v ≡ None) → IsInFrame b (is_dirty_by v m) f v → KeepsBy (evict_at p f (Some v)) b v (left_state v m)
+    → ((image n : ℕ) → v ≡ Text image n → due_of_page p.due v ≡ None) → IsInFrame b (is_dirty_by v m) f v → KeepsBy (evict_at p f (Some v)) b v (left_state v m)
 left_keeps p b f (Data sid n) m e c h d k = k.there c
 left_keeps p b f (Stack sid n) m e c h d k = k.there c
 left_keeps p b f (Text image n) true e c h d k = k.there refl
@@ -98,10 +98,10 @@ evict_coupled p f b o l k = go (page_of p f) refl
         local_coupled p (evict_at p f (Some v)) v f b b o (evict_local p f v o e) (beside_still p (evict_at p f (Some v)) v f b refl (λ g n. refl)) k
         (λ _. subst (KeepsBy (evict_at p f (Some v)) b v) (sym (put_state p v (left_state v (mark_of p v)) (mark_of p v) there))
         (left_keeps p b f v (mark_of p v) (put_mark p v (left_state v (mark_of p v)) (mark_of p v) there) was.clean (text_or p b v k)
-        (λ i n h. subst (λ (x : Page). due_at p.due x ≡ None) (sym h) (k.text_due i n)) (keeps_at p b v (Invalid f) k there was.state)))
+        (λ i n h. subst (λ (x : Page). due_of_page p.due x ≡ None) (sym h) (k.text_due i n)) (keeps_at p b v (Invalid f) k there was.state)))
 
 -- the fill of the first due page, and no other page's
-pub due_other : (ds : List Due) (v w : Page) → w ≢ v → due_at (due_after ds v) w ≡ due_at ds w
+pub due_other : (ds : List Due) (v w : Page) → w ≢ v → due_of_page (due_after ds v) w ≡ due_of_page ds w
 due_other [] v w n = refl
 due_other (d ∷ ds) v w n = go (same_page (due_page d) v) refl
   where
@@ -112,18 +112,18 @@ due_other (d ∷ ds) v w n = go (same_page (due_page d) v) refl
         no_page true h = absurd (n (sym (same_page_is (due_page d) w h) ∙ same_page_is (due_page d) v e))
         no_page false h = refl
 
-    go : (x : Bool) → same_page (due_page d) v ≡ x → due_at (cond x ds (d ∷ ds)) w ≡ due_at (d ∷ ds) w
-    go true e = sym (ap (λ (y : Bool). cond y (Some d) (due_at ds w)) (miss e))
+    go : (x : Bool) → same_page (due_page d) v ≡ x → due_of_page (cond x ds (d ∷ ds)) w ≡ due_of_page (d ∷ ds) w
+    go true e = sym (ap (λ (y : Bool). cond y (Some d) (due_of_page ds w)) (miss e))
     go false e = refl
 
-due_text : (ds : List Due) (v w : Page) → due_at ds w ≡ None → due_at (due_after ds v) w ≡ None
+due_text : (ds : List Due) (v w : Page) → due_of_page ds w ≡ None → due_of_page (due_after ds v) w ≡ None
 due_text [] v w e = e
 due_text (d ∷ ds) v w e = go (same_page (due_page d) v) (same_page (due_page d) w) refl
   where
-    go : (x y : Bool) → same_page (due_page d) w ≡ y → due_at (cond x ds (d ∷ ds)) w ≡ None
+    go : (x y : Bool) → same_page (due_page d) w ≡ y → due_of_page (cond x ds (d ∷ ds)) w ≡ None
     go false y h = e
-    go true true h = absurd (let k : Some d ≡ None = sym (ap (λ (z : Bool). cond z (Some d) (due_at ds w)) h) ∙ e in cc)
-    go true false h = sym (ap (λ (z : Bool). cond z (Some d) (due_at ds w)) h) ∙ e
+    go true true h = absurd (let k : Some d ≡ None = sym (ap (λ (z : Bool). cond z (Some d) (due_of_page ds w)) h) ∙ e in cc)
+    go true false h = sym (ap (λ (z : Bool). cond z (Some d) (due_of_page ds w)) h) ∙ e
 
 writable_dirty : (v : Page) → IsWritable v → is_dirty_by v true ≡ true
 writable_dirty (Text image n) w = absurd w
@@ -159,8 +159,8 @@ filled_coupled p v f rest b bytes o c fr tokens w is k =
       memory = λ x n. refl;
       text = λ i n. refl;
       copied = inl (λ x. refl);
-      due = λ x n. due_other p.due v x n ∙ ap (λ (ds : List Due). due_at ds x) (sym r.due);
-      text_due = λ i n h. due_text p.due v (Text i n) (ap (λ (ds : List Due). due_at ds (Text i n)) (sym r.due) ∙ h);
+      due = λ x n. due_other p.due v x n ∙ ap (λ (ds : List Due). due_of_page ds x) (sym r.due);
+      text_due = λ i n h. due_text p.due v (Text i n) (ap (λ (ds : List Due). due_of_page ds (Text i n)) (sym r.due) ∙ h);
       errands = λ g n. ap (λ (ts : List Transfer). errand_at (parts_of ts) g) (sym r.transfers);
     } in
     subst (λ (q : Placement). CouplesPages q (with_frame b f bytes)) (sym (ap (λ (l : List ℕ). record (fill_at p v l) { due = due_after p.due v }) fr))
@@ -179,7 +179,7 @@ coming_keeps : (p : Placement) (b : Bytes) (source : Source) (demanded v : Page)
     → KeepsComing b v (mark_of p v) (Some (Reads source demanded))
 coming_keeps p b FromSwap demanded v k there h = keeps_at p b v OnSwap k there h
 coming_keeps p b FromFile demanded v k there h =
-    let u : KeepsUnfilled b v (due_at p.due v) (filling_of p v) × IsUnsaved v (mark_of p v) = keeps_at p b v Unfilled k there h.0 in
+    let u : KeepsUnfilled b v (due_of_page p.due v) (filling_of p v) × IsUnsaved v (mark_of p v) = keeps_at p b v Unfilled k there h.0 in
     (subst (λ (x : Filling). KeepsUnfilled b v None x) h.1 (subst (λ (d : Option Due). KeepsUnfilled b v d (filling_of p v)) h.2 u.0), from_file v (mark_of p v) demanded u.1 h.3)
 
 pub get_coupled : (p : Placement) (source : Source) (demanded v : Page) (b : Bytes) → OwnsFrames p → CanEnter p v

@@ -6,7 +6,7 @@ use Rattle.vm_facts.specs.declared.page.PageState.{PageState}
 use Rattle.vm_facts.specs.declared.page.PageState.TheVariants.{Unfilled, Valid, Invalid, Coming, Going, OnSwap}
 use Rattle.page_model.specs.Pages.{Slot, frame_of, is_on_swap, is_unfilled}
 use Rattle.flat_state.specs.PageNames.{beside, number_of}
-use Rattle.page_model.specs.Placement.{Placement, Transfer, Part, Moving, Errand, Writes, Reads, Source, FromSwap, FromFile, Due, filling_by, slots_of, slot_of, state_of, mark_of, is_dirty, errand_at, due_at, parts_of}
+use Rattle.page_model.specs.Placement.{Placement, Transfer, Part, Moving, Errand, Writes, Reads, Source, FromSwap, FromFile, Due, filling_by, slots_of, slot_of, state_of, mark_of, is_dirty, errand_at, due_of_page, parts_of}
 use Rattle.page_model.specs.Moves.{evict, get_one, get_at, get_all, get_run, begin, launch, launch_all, launch_run, land, land_read, land_all, done, done_of}
 use Rattle.page_model.specs.Runs.{run_out, run_in, run_in_by, pages_of_run, run_both, run_up, run_alone, comes_from_swap, comes_from_file, is_near, spare_frames}
 use Rattle.page_model.specs.Hands.{expire, sweep, hand_move}
@@ -36,7 +36,7 @@ pub still_coupled : (p q : Placement) (b : Bytes) → ((w : Page) → slots_of q
 still_coupled p q b s d t k = record {
   each = λ w there. unmoved_keeps p q b b w (record {
     slot = ap (λ (xs : List Slot). Rattle.std.specs.Prelude.get_or xs (number_of w) Rattle.page_model.specs.Pages.no_slot) (s w);
-    due = ap (λ (ds : List Due). due_at ds w) d;
+    due = ap (λ (ds : List Due). due_of_page ds w) d;
     frames = λ g e. (refl, ap (λ (ms : List Moving). errand_at ms g) t);
     swap = refl;
     file = refl;
@@ -45,7 +45,7 @@ still_coupled p q b s d t k = record {
     copied = inl (λ x. refl);
   }) (k.each w (subst (λ (n : ℕ). number_of w < n) (ap length (s w)) there));
   text = k.text;
-  text_due = λ i n. ap (λ (ds : List Due). due_at ds (Text i n)) d ∙ k.text_due i n;
+  text_due = λ i n. ap (λ (ds : List Due). due_of_page ds (Text i n)) d ∙ k.text_due i n;
 }
 
 pub begin_coupled : (p : Placement) (e : Errand) (b : Bytes) → CouplesPages p b → CouplesPages (begin p e) b
@@ -69,7 +69,7 @@ reads_still p e FromSwap demanded v w o n c h = ap (λ (x : Slot). x.state) (get
 reads_still p e FromFile demanded v w o n c h = (
   ap (λ (x : Slot). x.state) (get_slot p e v w o n c.frameless) ∙ h.0,
   ap (λ (x : Slot). filling_by w x.filling) (get_slot p e v w o n c.frameless) ∙ h.1,
-  ap (λ (ds : List Due). due_at ds w) (get_due p e v) ∙ h.2,
+  ap (λ (ds : List Due). due_of_page ds w) (get_due p e v) ∙ h.2,
   h.3,
 )
 

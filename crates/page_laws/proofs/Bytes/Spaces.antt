@@ -6,11 +6,11 @@ use Rattle.vm_facts.specs.declared.page.Page.TheVariants.{Data, Stack, Text}
 use Rattle.vm_facts.specs.declared.page.PageState.{PageState}
 use Rattle.vm_facts.specs.declared.page.PageState.TheVariants.{Unfilled, Valid, Invalid, Coming, Going, OnSwap}
 use Rattle.aout_image.specs.declared.Image.{Image}
-use Rattle.aout_image.specs.Image.{data_pages_of}
+use Rattle.aout_image.specs.Image.{image_data_pages}
 use Rattle.page_model.specs.Pages.{Slot, Filling, Zeros, OfImage, no_slot, SpacePages, data_in, stack_in, frame_of, is_dirty_by}
 use Rattle.flat_state.specs.PageNames.{number_of, same_page}
 use Rattle.vm_facts.specs.Lists.{times}
-use Rattle.page_model.specs.Placement.{Placement, Due, Start, CopyOf, due_page, slots_of, slot_of, state_of, filling_of, is_dirty, due_at, image_of, sharers, IsThere, unfilled, unfilled_data, data_filling, new_pages, put}
+use Rattle.page_model.specs.Placement.{Placement, Due, Start, CopyOf, due_page, slots_of, slot_of, state_of, filling_of, is_dirty, due_of_page, image_of, sharers, IsThere, unfilled, unfilled_data, data_filling, new_pages, put}
 use Rattle.page_model.specs.Moves.{turn, leave_by, leave_page, leave_all, listed, listed_of}
 use Rattle.page_model.specs.Place.{child_slot, child_slot_by, copy_due, copies_from, fork_space, enter_space, leave_text, leave_text_by, pages_of_text}
 use Rattle.page_model.specs.Conditions.{EachPage, IsNew}
@@ -100,10 +100,10 @@ leave_text_coupled p image b o k = go (sharers p image)
 
 -- what is known of a page once a space was added
 pub added_coupled : (p : Placement) (x : SpacePages) (due : List Due) (b c : Bytes) → CouplesPages p b → IsNew p x.sid → p.due ≡ []
-    → ((w : Page) → IsThere p w → SameBytes b c w × (due_at due w ≡ None))
+    → ((w : Page) → IsThere p w → SameBytes b c w × (due_of_page due w ≡ None))
     → ((v : ℕ) → v < length x.data_pages → Keeps (record p { spaces = p.spaces ++ x ∷ []; due = due }) c (Data x.sid v))
     → ((v : ℕ) → v < length x.stack_pages → Keeps (record p { spaces = p.spaces ++ x ∷ []; due = due }) c (Stack x.sid v))
-    → ((image v : ℕ) → c.file (Text image v) ≡ c.memory (Text image v)) → ((image v : ℕ) → due_at due (Text image v) ≡ None)
+    → ((image v : ℕ) → c.file (Text image v) ≡ c.memory (Text image v)) → ((image v : ℕ) → due_of_page due (Text image v) ≡ None)
     → CouplesPages (record p { spaces = p.spaces ++ x ∷ []; due = due }) c
 added_coupled p x due b c k new none old datas stacks text tdue = changed_coupled p q b c k one text tdue
   where
@@ -131,11 +131,12 @@ added_coupled p x due b c k new none old datas stacks text tdue = changed_couple
 
 -- What is due of a child's pages.
 
-due_skip : (ds es : List Due) (q : Page) → due_at ds q ≡ None → due_at (ds ++ es) q ≡ due_at es q
+due_skip : (ds es : List Due) (q : Page) → due_of_page ds q ≡ None → due_of_page (ds ++ es) q ≡ due_of_page es q
 due_skip [] es q e = refl
 due_skip (d ∷ ds) es q e = go (same_page (due_page d) q) e (due_skip ds es q)
   where
-    go : (b : Bool) → cond b (Some d) (due_at ds q) ≡ None → (due_at ds q ≡ None → due_at (ds ++ es) q ≡ due_at es q) → cond b (Some d) (due_at (ds ++ es) q) ≡ due_at es q
+    go : (b : Bool) → cond b (Some d) (due_of_page ds q) ≡ None → (due_of_page ds q ≡ None → due_of_page (ds ++ es) q ≡ due_of_page es q)
+        → cond b (Some d) (due_of_page (ds ++ es) q) ≡ due_of_page es q
     go true h k = absurd (let z : Some d ≡ None = h in cc)
     go false h k = k h
 
@@ -150,81 +151,81 @@ apart_page q r n = go (same_page q r) refl
     go true e = absurd (n (same_page_is q r e))
     go false e = refl
 
-copies_later : (child parent : ℕ → Page) → Numbers child → (v w : ℕ) (xs : List Slot) → w < v → due_at (copies_from child parent v xs) (child w) ≡ None
+copies_later : (child parent : ℕ → Page) → Numbers child → (v w : ℕ) (xs : List Slot) → w < v → due_of_page (copies_from child parent v xs) (child w) ≡ None
 copies_later child parent num v w [] l = refl
 copies_later child parent num v w (x ∷ xs) l = go x.state (copies_later child parent num (v + 1) w xs (omega arith))
   where
     one : same_page (child v) (child w) ≡ false
     one = apart_page (child v) (child w) (λ e. absurd (let h = num v w e in omega arith))
 
-    go : (s : PageState) → due_at (copies_from child parent (v + 1) xs) (child w) ≡ None → due_at (copy_due (child v) (parent v) s ++ copies_from child parent (v + 1) xs) (child w) ≡ None
+    go : (s : PageState) → due_of_page (copies_from child parent (v + 1) xs) (child w) ≡ None → due_of_page (copy_due (child v) (parent v) s ++ copies_from child parent (v + 1) xs) (child w) ≡ None
     go Unfilled ih = ih
-    go (Valid f) ih = ap (λ (b : Bool). cond b (Some (CopyOf (child v) (parent v))) (due_at (copies_from child parent (v + 1) xs) (child w))) one ∙ ih
-    go (Invalid f) ih = ap (λ (b : Bool). cond b (Some (CopyOf (child v) (parent v))) (due_at (copies_from child parent (v + 1) xs) (child w))) one ∙ ih
-    go (Coming f) ih = ap (λ (b : Bool). cond b (Some (CopyOf (child v) (parent v))) (due_at (copies_from child parent (v + 1) xs) (child w))) one ∙ ih
-    go (Going f) ih = ap (λ (b : Bool). cond b (Some (CopyOf (child v) (parent v))) (due_at (copies_from child parent (v + 1) xs) (child w))) one ∙ ih
-    go OnSwap ih = ap (λ (b : Bool). cond b (Some (CopyOf (child v) (parent v))) (due_at (copies_from child parent (v + 1) xs) (child w))) one ∙ ih
+    go (Valid f) ih = ap (λ (b : Bool). cond b (Some (CopyOf (child v) (parent v))) (due_of_page (copies_from child parent (v + 1) xs) (child w))) one ∙ ih
+    go (Invalid f) ih = ap (λ (b : Bool). cond b (Some (CopyOf (child v) (parent v))) (due_of_page (copies_from child parent (v + 1) xs) (child w))) one ∙ ih
+    go (Coming f) ih = ap (λ (b : Bool). cond b (Some (CopyOf (child v) (parent v))) (due_of_page (copies_from child parent (v + 1) xs) (child w))) one ∙ ih
+    go (Going f) ih = ap (λ (b : Bool). cond b (Some (CopyOf (child v) (parent v))) (due_of_page (copies_from child parent (v + 1) xs) (child w))) one ∙ ih
+    go OnSwap ih = ap (λ (b : Bool). cond b (Some (CopyOf (child v) (parent v))) (due_of_page (copies_from child parent (v + 1) xs) (child w))) one ∙ ih
 
 -- a page of the parent that was never filled isn't copied; each other is
 abbrev pub DueOf : Page → Page → PageState → Option Due
 DueOf child parent Unfilled = None
 DueOf child parent _ = Some (CopyOf child parent)
 
-copies_here : (child parent : ℕ → Page) (s : PageState) (v : ℕ) (rest : List Due) → due_at rest (child v) ≡ None
-    → due_at (copy_due (child v) (parent v) s ++ rest) (child v) ≡ DueOf (child v) (parent v) s
+copies_here : (child parent : ℕ → Page) (s : PageState) (v : ℕ) (rest : List Due) → due_of_page rest (child v) ≡ None
+    → due_of_page (copy_due (child v) (parent v) s ++ rest) (child v) ≡ DueOf (child v) (parent v) s
 copies_here child parent Unfilled v rest e = e
-copies_here child parent _ v rest e = ap (λ (b : Bool). cond b (Some (CopyOf (child v) (parent v))) (due_at rest (child v))) (same_page_self (child v))
+copies_here child parent _ v rest e = ap (λ (b : Bool). cond b (Some (CopyOf (child v) (parent v))) (due_of_page rest (child v))) (same_page_self (child v))
 
 copies_skip : (child parent : ℕ → Page) → Numbers child → (s : PageState) (v w : ℕ) (rest : List Due) → w ≢ v
-    → due_at (copy_due (child v) (parent v) s ++ rest) (child w) ≡ due_at rest (child w)
+    → due_of_page (copy_due (child v) (parent v) s ++ rest) (child w) ≡ due_of_page rest (child w)
 copies_skip child parent num s v w rest n = go s
   where
     one : same_page (child v) (child w) ≡ false
     one = apart_page (child v) (child w) (λ e. n (sym (num v w e)))
 
-    go : (s : PageState) → due_at (copy_due (child v) (parent v) s ++ rest) (child w) ≡ due_at rest (child w)
+    go : (s : PageState) → due_of_page (copy_due (child v) (parent v) s ++ rest) (child w) ≡ due_of_page rest (child w)
     go Unfilled = refl
-    go (Valid f) = ap (λ (b : Bool). cond b (Some (CopyOf (child v) (parent v))) (due_at rest (child w))) one
-    go (Invalid f) = ap (λ (b : Bool). cond b (Some (CopyOf (child v) (parent v))) (due_at rest (child w))) one
-    go (Coming f) = ap (λ (b : Bool). cond b (Some (CopyOf (child v) (parent v))) (due_at rest (child w))) one
-    go (Going f) = ap (λ (b : Bool). cond b (Some (CopyOf (child v) (parent v))) (due_at rest (child w))) one
-    go OnSwap = ap (λ (b : Bool). cond b (Some (CopyOf (child v) (parent v))) (due_at rest (child w))) one
+    go (Valid f) = ap (λ (b : Bool). cond b (Some (CopyOf (child v) (parent v))) (due_of_page rest (child w))) one
+    go (Invalid f) = ap (λ (b : Bool). cond b (Some (CopyOf (child v) (parent v))) (due_of_page rest (child w))) one
+    go (Coming f) = ap (λ (b : Bool). cond b (Some (CopyOf (child v) (parent v))) (due_of_page rest (child w))) one
+    go (Going f) = ap (λ (b : Bool). cond b (Some (CopyOf (child v) (parent v))) (due_of_page rest (child w))) one
+    go OnSwap = ap (λ (b : Bool). cond b (Some (CopyOf (child v) (parent v))) (due_of_page rest (child w))) one
 
 pub copies_at : (child parent : ℕ → Page) → Numbers child → (xs : List Slot) (v i : ℕ) → i < length xs
-    → due_at (copies_from child parent v xs) (child (v + i)) ≡ DueOf (child (v + i)) (parent (v + i)) (get_or xs i no_slot).state
+    → due_of_page (copies_from child parent v xs) (child (v + i)) ≡ DueOf (child (v + i)) (parent (v + i)) (get_or xs i no_slot).state
 copies_at child parent num [] v i l = absurd (omega arith)
 copies_at child parent num (x ∷ xs) v zero l = let e : v + 0 ≡ v = omega arith in
-    subst (λ (w : ℕ). due_at (copies_from child parent v (x ∷ xs)) (child w) ≡ DueOf (child w) (parent w) x.state) (sym e)
+    subst (λ (w : ℕ). due_of_page (copies_from child parent v (x ∷ xs)) (child w) ≡ DueOf (child w) (parent w) x.state) (sym e)
     (copies_here child parent x.state v (copies_from child parent (v + 1) xs) (copies_later child parent num (v + 1) v xs (omega arith)))
 copies_at child parent num (x ∷ xs) v (suc i) l = let e : (v + 1) + i ≡ v + suc i = omega arith in
     copies_skip child parent num x.state v (v + suc i) (copies_from child parent (v + 1) xs) (λ h. absurd (omega arith))
-    ∙ subst (λ (w : ℕ). due_at (copies_from child parent (v + 1) xs) (child w) ≡ DueOf (child w) (parent w) (get_or xs i no_slot).state) e (copies_at child parent num xs (v + 1) i (omega arith))
+    ∙ subst (λ (w : ℕ). due_of_page (copies_from child parent (v + 1) xs) (child w) ≡ DueOf (child w) (parent w) (get_or xs i no_slot).state) e (copies_at child parent num xs (v + 1) i (omega arith))
 
 copies_start : (child parent : ℕ → Page) → Numbers child → (xs : List Slot) (i : ℕ) → i < length xs
-    → due_at (copies_from child parent 0 xs) (child i) ≡ DueOf (child i) (parent i) (get_or xs i no_slot).state
+    → due_of_page (copies_from child parent 0 xs) (child i) ≡ DueOf (child i) (parent i) (get_or xs i no_slot).state
 copies_start child parent num xs i l = let e : 0 + i ≡ i = omega arith in
-    subst (λ (w : ℕ). due_at (copies_from child parent 0 xs) (child w) ≡ DueOf (child w) (parent w) (get_or xs i no_slot).state) e (copies_at child parent num xs 0 i l)
+    subst (λ (w : ℕ). due_of_page (copies_from child parent 0 xs) (child w) ≡ DueOf (child w) (parent w) (get_or xs i no_slot).state) e (copies_at child parent num xs 0 i l)
 
 -- copies name no page of another kind
-copies_apart : (child parent : ℕ → Page) (q : Page) → ((v : ℕ) → child v ≢ q) → (v : ℕ) (xs : List Slot) → due_at (copies_from child parent v xs) q ≡ None
+copies_apart : (child parent : ℕ → Page) (q : Page) → ((v : ℕ) → child v ≢ q) → (v : ℕ) (xs : List Slot) → due_of_page (copies_from child parent v xs) q ≡ None
 copies_apart child parent q n v [] = refl
 copies_apart child parent q n v (x ∷ xs) = go x.state (copies_apart child parent q n (v + 1) xs)
   where
     one : same_page (child v) q ≡ false
     one = apart_page (child v) q (n v)
 
-    go : (s : PageState) → due_at (copies_from child parent (v + 1) xs) q ≡ None → due_at (copy_due (child v) (parent v) s ++ copies_from child parent (v + 1) xs) q ≡ None
+    go : (s : PageState) → due_of_page (copies_from child parent (v + 1) xs) q ≡ None → due_of_page (copy_due (child v) (parent v) s ++ copies_from child parent (v + 1) xs) q ≡ None
     go Unfilled ih = ih
-    go (Valid f) ih = ap (λ (b : Bool). cond b (Some (CopyOf (child v) (parent v))) (due_at (copies_from child parent (v + 1) xs) q)) one ∙ ih
-    go (Invalid f) ih = ap (λ (b : Bool). cond b (Some (CopyOf (child v) (parent v))) (due_at (copies_from child parent (v + 1) xs) q)) one ∙ ih
-    go (Coming f) ih = ap (λ (b : Bool). cond b (Some (CopyOf (child v) (parent v))) (due_at (copies_from child parent (v + 1) xs) q)) one ∙ ih
-    go (Going f) ih = ap (λ (b : Bool). cond b (Some (CopyOf (child v) (parent v))) (due_at (copies_from child parent (v + 1) xs) q)) one ∙ ih
-    go OnSwap ih = ap (λ (b : Bool). cond b (Some (CopyOf (child v) (parent v))) (due_at (copies_from child parent (v + 1) xs) q)) one ∙ ih
+    go (Valid f) ih = ap (λ (b : Bool). cond b (Some (CopyOf (child v) (parent v))) (due_of_page (copies_from child parent (v + 1) xs) q)) one ∙ ih
+    go (Invalid f) ih = ap (λ (b : Bool). cond b (Some (CopyOf (child v) (parent v))) (due_of_page (copies_from child parent (v + 1) xs) q)) one ∙ ih
+    go (Coming f) ih = ap (λ (b : Bool). cond b (Some (CopyOf (child v) (parent v))) (due_of_page (copies_from child parent (v + 1) xs) q)) one ∙ ih
+    go (Going f) ih = ap (λ (b : Bool). cond b (Some (CopyOf (child v) (parent v))) (due_of_page (copies_from child parent (v + 1) xs) q)) one ∙ ih
+    go OnSwap ih = ap (λ (b : Bool). cond b (Some (CopyOf (child v) (parent v))) (due_of_page (copies_from child parent (v + 1) xs) q)) one ∙ ih
 
-pub due_both : (ds es : List Due) (q : Page) → due_at ds q ≡ None → due_at es q ≡ None → due_at (ds ++ es) q ≡ None
+pub due_both : (ds es : List Due) (q : Page) → due_of_page ds q ≡ None → due_of_page es q ≡ None → due_of_page (ds ++ es) q ≡ None
 due_both ds es q a b = due_skip ds es q a ∙ b
 
-pub due_first : (ds es : List Due) (q : Page) → due_at es q ≡ None → due_at (ds ++ es) q ≡ due_at ds q
+pub due_first : (ds es : List Due) (q : Page) → due_of_page es q ≡ None → due_of_page (ds ++ es) q ≡ due_of_page ds q
 due_first [] es q e = e
 due_first (d ∷ ds) es q e = ap (λ (o : Option Due). cond (same_page (due_page d) q) (Some d) o) (due_first ds es q e)
 
@@ -279,7 +280,7 @@ fork_coupled p parent child b c k new none same datas stacks text =
     let within : v < length (slots_of p (Data parent 0)) = (let h = map_length (slots_of p (Data parent 0)) in omega arith) in
     let slot : slot_of q (Data child v) ≡ child_slot (slot_of p (Data parent v)) =
     ap (λ (o : Option SpacePages). get_or (data_in o) v no_slot) (added_same child p.spaces x refl new) ∙ map_at (slots_of p (Data parent 0)) v within in
-    let due : due_at q.due (Data child v) ≡ DueOf (Data child v) (Data parent v) (state_of p (Data parent v)) =
+    let due : due_of_page q.due (Data child v) ≡ DueOf (Data child v) (Data parent v) (state_of p (Data parent v)) =
     due_first ds ss (Data child v) (copies_apart (Stack child) (Stack parent) (Data child v) (λ n e. absurd cc) 0 (slots_of p (Stack parent 0)))
     ∙ copies_start (Data child) (Data parent) (data_numbers child) (slots_of p (Data parent 0)) v within in
     subst (KeepsBy q c (Data child v)) (sym (ap (λ (y : Slot). y.state) slot ∙ child_state (slot_of p (Data parent v)) (state_of p (Data parent v)))) (
@@ -287,7 +288,7 @@ fork_coupled p parent child b c k new none same datas stacks text =
           (subst (KeepsUnfilled c (Data child v) (DueOf (Data child v) (Data parent v) (state_of p (Data parent v)))) (sym (ap (λ (y : Slot). y.filling) slot))
           (child_keeps b c (Data child v) (Data parent v) (slot_of p (Data parent v)) (state_of p (Data parent v)) (datas v)
           (let z : SameBytes b c (Data parent v) = same (Data parent v) within in z.memory)
-          (λ e. let y : KeepsUnfilled b (Data parent v) (due_at p.due (Data parent v)) (filling_of p (Data parent v)) × Unit {0} = keeps_at p b (Data parent v) Unfilled k within e in
+          (λ e. let y : KeepsUnfilled b (Data parent v) (due_of_page p.due (Data parent v)) (filling_of p (Data parent v)) × Unit {0} = keeps_at p b (Data parent v) Unfilled k within e in
           subst (λ (o : Option Due). KeepsUnfilled b (Data parent v) o (filling_of p (Data parent v))) (due_none p.due (Data parent v) none) y.0))),
       tt,
     ) in
@@ -295,7 +296,7 @@ fork_coupled p parent child b c k new none same datas stacks text =
     let within : v < length (slots_of p (Stack parent 0)) = (let h = map_length (slots_of p (Stack parent 0)) in omega arith) in
     let slot : slot_of q (Stack child v) ≡ child_slot (slot_of p (Stack parent v)) =
     ap (λ (o : Option SpacePages). get_or (stack_in o) v no_slot) (added_same child p.spaces x refl new) ∙ map_at (slots_of p (Stack parent 0)) v within in
-    let due : due_at q.due (Stack child v) ≡ DueOf (Stack child v) (Stack parent v) (state_of p (Stack parent v)) =
+    let due : due_of_page q.due (Stack child v) ≡ DueOf (Stack child v) (Stack parent v) (state_of p (Stack parent v)) =
     due_skip ds ss (Stack child v) (copies_apart (Data child) (Data parent) (Stack child v) (λ n e. absurd cc) 0 (slots_of p (Data parent 0)))
     ∙ copies_start (Stack child) (Stack parent) (stack_numbers child) (slots_of p (Stack parent 0)) v within in
     subst (KeepsBy q c (Stack child v)) (sym (ap (λ (y : Slot). y.state) slot ∙ child_state (slot_of p (Stack parent v)) (state_of p (Stack parent v)))) (
@@ -303,7 +304,7 @@ fork_coupled p parent child b c k new none same datas stacks text =
           (subst (KeepsUnfilled c (Stack child v) (DueOf (Stack child v) (Stack parent v) (state_of p (Stack parent v)))) (sym (ap (λ (y : Slot). y.filling) slot))
           (child_keeps b c (Stack child v) (Stack parent v) (slot_of p (Stack parent v)) (state_of p (Stack parent v)) (stacks v)
           (let z : SameBytes b c (Stack parent v) = same (Stack parent v) within in z.memory)
-          (λ e. let y : KeepsUnfilled b (Stack parent v) (due_at p.due (Stack parent v)) (filling_of p (Stack parent v)) × Unit {0} = keeps_at p b (Stack parent v) Unfilled k within e in
+          (λ e. let y : KeepsUnfilled b (Stack parent v) (due_of_page p.due (Stack parent v)) (filling_of p (Stack parent v)) × Unit {0} = keeps_at p b (Stack parent v) Unfilled k within e in
           subst (λ (o : Option Due). KeepsUnfilled b (Stack parent v) o (filling_of p (Stack parent v))) (due_none p.due (Stack parent v) none) y.0))),
       tt,
     ) in
@@ -329,19 +330,19 @@ pub unfilled_length : (facts : Image) (lo n : ℕ) → length (unfilled_data fac
 unfilled_length facts lo zero = refl
 unfilled_length facts lo (suc n) = ap suc (unfilled_length facts (lo + 1) n)
 
-start_other : (sid : ℕ) (q : Page) → Stack sid 0 ≢ q → due_at (Start (Stack sid 0) ∷ []) q ≡ None
+start_other : (sid : ℕ) (q : Page) → Stack sid 0 ≢ q → due_of_page (Start (Stack sid 0) ∷ []) q ≡ None
 start_other sid q n = ap (λ (b : Bool). cond b (Some (Start (Stack sid 0))) None) (apart_page (Stack sid 0) q n)
 
 pub enter_coupled : (p : Placement) (sid image : ℕ) (facts : Image) (b c : Bytes) → CouplesPages p b → IsNew p sid → p.due ≡ []
     → ((w : Page) → IsThere p w → SameBytes b c w)
-    → ((v : ℕ) → v < data_pages_of facts → FillsBy c (Data sid v) (data_filling facts v)) → c.start (Stack sid 0) ≡ c.memory (Stack sid 0)
+    → ((v : ℕ) → v < image_data_pages facts → FillsBy c (Data sid v) (data_filling facts v)) → c.start (Stack sid 0) ≡ c.memory (Stack sid 0)
     → ((i v : ℕ) → c.file (Text i v) ≡ c.memory (Text i v)) → CouplesPages (enter_space p sid image facts) c
 enter_coupled p sid image facts b c k new none same datas start text =
     let data_keeps : (v : ℕ) → v < length (new_pages sid image facts).data_pages → Keeps q c (Data sid v) = λ v l.
-    let within : v < data_pages_of facts = (let h = unfilled_length facts 0 (data_pages_of facts) in omega arith) in
+    let within : v < image_data_pages facts = (let h = unfilled_length facts 0 (image_data_pages facts) in omega arith) in
     let zero_plus : 0 + v ≡ v = omega arith in
     let slot : slot_of q (Data sid v) ≡ unfilled (data_filling facts v) = ap (λ (o : Option SpacePages). get_or (data_in o) v no_slot) (added_same sid p.spaces (new_pages sid image facts) refl new)
-    ∙ unfilled_at facts 0 (data_pages_of facts) v within ∙ ap (λ (w : ℕ). unfilled (data_filling facts w)) zero_plus in
+    ∙ unfilled_at facts 0 (image_data_pages facts) v within ∙ ap (λ (w : ℕ). unfilled (data_filling facts w)) zero_plus in
     subst (KeepsBy q c (Data sid v)) (sym (ap (λ (y : Slot). y.state) slot)) (
       subst (λ (o : Option Due). KeepsUnfilled c (Data sid v) o (filling_of q (Data sid v))) (sym (start_other sid (Data sid v) (λ e. absurd cc)))
           (subst (KeepsUnfilled c (Data sid v) None) (sym (ap (λ (y : Slot). y.filling) slot)) (fills_keeps c (Data sid v) (data_filling facts v) (datas v within))),

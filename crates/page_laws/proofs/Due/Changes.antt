@@ -6,7 +6,7 @@ use Rattle.flat_state.specs.declared.change.Change.{Change}
 use Rattle.flat_state.specs.declared.change.Change.TheVariants.{Resize, Fork, Lend, Exec, End}
 use Rattle.page_model.specs.Pages.{Slot, no_slot, data_in, stack_in}
 use Rattle.flat_state.specs.PageNames.{number_of, same_page}
-use Rattle.page_model.specs.Placement.{Placement, Due, Start, CopyOf, due_at, filling_by, slots_of, slot_of, sharers, image_of}
+use Rattle.page_model.specs.Placement.{Placement, Due, Start, CopyOf, due_of_page, filling_by, slots_of, slot_of, sharers, image_of}
 use Rattle.page_model.specs.Moves.{touch, drop_all, leave_page, leave_all}
 use Rattle.page_model.specs.Place.{data_count, stack_count, data_from, stack_from, fork_space, enter_space, enter_image, remove_space, pages_of_space, pages_of_text, leave_text, leave_text_by, give_up, give_up_unless, place_change, facts_numbered}
 use Rattle.page_model.specs.Conditions.{EachPage, IsNew, CanChange, ApartFrom}
@@ -30,7 +30,7 @@ use Rattle.aout_image.specs.declared.Image.{Image}
 
 -- nothing is due
 pub none_due : (p : Placement) → p.due ≡ [] → DueStand p
-none_due p e q d h = none_some d (ap (λ (ds : List Due). due_at ds q) (sym e) ∙ h)
+none_due p e q d h = none_some d (ap (λ (ds : List Due). due_of_page ds q) (sym e) ∙ h)
 
 -- A user write fills no page and moves none.
 pub touch_due : (p : Placement) (q : Page) → DueStand p → DueStand (touch p q)
@@ -111,9 +111,9 @@ source_stands p sid q (Start r) o h = tt
 source_stands p sid q (CopyOf r parent) o h = (h.0, λ e. h.1 (sym (ap (λ (x : Slot). x.state) (give_up_slot p sid parent h.0 o.1)) ∙ e))
 
 -- Giving up a space, of which nothing is due or to be copied.
-pub given_due : (p : Placement) (sid : ℕ) → ((q : Page) (d : Due) → due_at p.due q ≡ Some d → OfOthers sid q d) → DueStand p → DueStand (give_up p sid)
+pub given_due : (p : Placement) (sid : ℕ) → ((q : Page) (d : Due) → due_of_page p.due q ≡ Some d → OfOthers sid q d) → DueStand p → DueStand (give_up p sid)
 given_due p sid o s q d e =
-    let found : due_at p.due q ≡ Some d = ap (λ (ds : List Due). due_at ds q) (sym (give_up_due p sid)) ∙ e in
+    let found : due_of_page p.due q ≡ Some d = ap (λ (ds : List Due). due_of_page ds q) (sym (give_up_due p sid)) ∙ e in
     let was : IsDue p q d = s q d found in
     let other : space_in q ≢ sid = page_other sid q d (o q d found) in
     let slot : slot_of (give_up p sid) q ≡ slot_of p q = give_up_slot p sid q was.writable other in
@@ -125,7 +125,7 @@ given_due p sid o s q d e =
       source = source_stands p sid q d (o q d found) was.source;
     }
 
-start_others : (sid next : ℕ) (q : Page) (d : Due) → next ≢ sid → due_at (Start (Stack next 0) ∷ []) q ≡ Some d → OfOthers sid q d
+start_others : (sid next : ℕ) (q : Page) (d : Due) → next ≢ sid → due_of_page (Start (Stack next 0) ∷ []) q ≡ Some d → OfOthers sid q d
 start_others sid next q d n e = go (same_page (Stack next 0) q) refl e
   where
     go : (b : Bool) → same_page (Stack next 0) q ≡ b → cond b (Some (Start (Stack next 0))) None ≡ Some d → OfOthers sid q d

@@ -9,7 +9,7 @@ use Rattle.vm_facts.specs.declared.entry.Entry.TheVariants as entries
 use Rattle.aout_image.specs.declared.Image.{Image}
 use Rattle.page_model.specs.Pages.{Slot, frame_of, left_state, Filling, Zeros, OfImage, no_slot, stack_in, numbered, is_on_swap}
 use Rattle.flat_state.specs.PageNames.{pages_from, number_of, same_page, beside}
-use Rattle.page_model.specs.Placement.{Placement, Transfer, Part, Errand, Reads, Source, Due, Start, CopyOf, filling_by, due_at, IsThere, Starting, space_number, spaces_from, due_from, unfilled, new_pages, start_placement, slots_of, slot_of, state_of, mark_of, page_of, filling_of, put}
+use Rattle.page_model.specs.Placement.{Placement, Transfer, Part, Errand, Reads, Source, Due, Start, CopyOf, filling_by, due_of_page, IsThere, Starting, space_number, spaces_from, due_from, unfilled, new_pages, start_placement, slots_of, slot_of, state_of, mark_of, page_of, filling_of, put}
 use Rattle.page_model.specs.Moves.{evict, evict_at, fill, fill_at, begin, get_one, get_at, get_all, get_run, reclaim, done}
 use Rattle.page_model.specs.Hands.{hand_move, hand_moves}
 use Rattle.page_model.specs.Place.{filled, due_after, put_step, place_entry}
@@ -149,7 +149,7 @@ get_run_fills D p source demanded qs o c a n =
 
 -- What is due stands, where nothing is due that wasn't.
 abbrev Waits : List Due → Page → Type 0
-Waits ds w = (d : Due) × (due_at ds w ≡ Some d)
+Waits ds w = (d : Due) × (due_of_page ds w ≡ Some d)
 
 not_waiting : (ds : List Due) (w : Page) → NotDue ds w → Waits ds w → ⊥
 not_waiting ds w n h = none_some h.0 (sym n ∙ h.1)
@@ -158,7 +158,7 @@ source_still : (p q : Placement) (d : Due) → KeepsFills (Waits q.due) p q → 
 source_still p q (Start r) k h = tt
 source_still p q (CopyOf r parent) k h = (h.0, k.fills parent h.0 h.1)
 
-due_still : (p q : Placement) → KeepsFills (Waits q.due) p q → ((w : Page) (d : Due) → due_at q.due w ≡ Some d → due_at p.due w ≡ Some d) → DueStand p
+due_still : (p q : Placement) → KeepsFills (Waits q.due) p q → ((w : Page) (d : Due) → due_of_page q.due w ≡ Some d → due_of_page p.due w ≡ Some d) → DueStand p
     → DueStand q
 due_still p q k less s w d e =
     let was : IsDue p w d = s w d (less w d e) in
@@ -172,9 +172,9 @@ due_still p q k less s w d e =
     }
 
 pub stays_due : (p q : Placement) → Stays p q → DueStand p → DueStand q
-stays_due p q s = due_still p q (stays_fills (Waits q.due) p q s) (λ w d e. ap (λ (ds : List Due). due_at ds w) (sym s.due) ∙ e)
+stays_due p q s = due_still p q (stays_fills (Waits q.due) p q s) (λ w d e. ap (λ (ds : List Due). due_of_page ds w) (sym s.due) ∙ e)
 
-filled_less : (ds : List Due) (v w : Page) (d : Due) → NotDue (due_after ds v) v → due_at (due_after ds v) w ≡ Some d → due_at ds w ≡ Some d
+filled_less : (ds : List Due) (v w : Page) (d : Due) → NotDue (due_after ds v) v → due_of_page (due_after ds v) w ≡ Some d → due_of_page ds w ≡ Some d
 filled_less ds v w d n e = elim (page_cases w v) [
   | inl s ↦ absurd (not_waiting (due_after ds v) w (subst (NotDue (due_after ds v)) (sym s) n) (d, e))
   | inr m ↦ sym (due_other ds v w m) ∙ e
@@ -193,8 +193,8 @@ get_run_due p source demanded qs o c a n =
     due_still p (get_run p (Reads source demanded) qs)
     (get_run_fills (Waits (get_run p (Reads source demanded) qs).due) p source demanded qs o c a
     (each_page_imp (NotDue p.due) (λ r. Waits (get_run p (Reads source demanded) qs).due r → ⊥) qs n
-    (λ r h. not_waiting (get_run p (Reads source demanded) qs).due r (ap (λ (ds : List Due). due_at ds r) same ∙ h))))
-    (λ w d e. ap (λ (ds : List Due). due_at ds w) (sym same) ∙ e)
+    (λ r h. not_waiting (get_run p (Reads source demanded) qs).due r (ap (λ (ds : List Due). due_of_page ds r) same ∙ h))))
+    (λ w d e. ap (λ (ds : List Due). due_of_page ds w) (sym same) ∙ e)
 
 moves_due : (n : ℕ) (p : Placement) (locked : List Page) → DueStand p → DueStand (hand_moves p locked n)
 moves_due zero p locked s = s
@@ -229,9 +229,9 @@ force_due p locked o s = stays_due p (force p locked) (force_stays p locked o) s
 -- Serving a page that isn't due.
 
 not_due_by : (p : Placement) (r : Page) → DueStand p → (IsWritable r → state_of p r ≡ Unfilled → ⊥) → NotDue p.due r
-not_due_by p r s n = go (due_at p.due r) refl
+not_due_by p r s n = go (due_of_page p.due r) refl
   where
-    go : (o : Option Due) → due_at p.due r ≡ o → o ≡ None
+    go : (o : Option Due) → due_of_page p.due r ≡ o → o ≡ None
     go None e = refl
     go (Some d) e = absurd (let was : IsDue p r d = s r d e in n was.writable was.unfilled)
 
@@ -280,8 +280,8 @@ fill_due_list p v = (fill_kept rest_by_puts p v).due
 fill_due : (p : Placement) (v : Page) → OwnsFrames p → CanEnter p v → NotDue p.due v → DueStand p → DueStand (fill p v)
 fill_due p v o c n =
     let same : (fill p v).due ≡ p.due = fill_due_list p v in
-    let k = filled_fills (Waits (fill p v).due) p v o c (not_waiting (fill p v).due v (ap (λ (ds : List Due). due_at ds v) same ∙ n)) in
-    due_still p (fill p v) (record { sizes = k.sizes; slots = k.slots; fills = k.fills }) (λ w d e. ap (λ (ds : List Due). due_at ds w) (sym same) ∙ e)
+    let k = filled_fills (Waits (fill p v).due) p v o c (not_waiting (fill p v).due v (ap (λ (ds : List Due). due_of_page ds v) same ∙ n)) in
+    due_still p (fill p v) (record { sizes = k.sizes; slots = k.slots; fills = k.fills }) (λ w d e. ap (λ (ds : List Due). due_of_page ds w) (sym same) ∙ e)
 
 pub serve_due : (p : Placement) (locked : List Page) (q : Page) → OwnsFrames p → IsThere p q → NotDue p.due q → DueStand p → DueStand (serve_step p locked q)
 serve_due p locked q o there n s = go (state_of p q) refl
@@ -324,12 +324,12 @@ record StartsAt (first : List Starting) (n : ℕ) (w : Page) (d : Due) : Type 0 
   pub later : n ≤ sid
   pub slots : stack_in (numbered space_number sid (spaces_from n first)) ≡ unfilled Zeros ∷ []
 
-starts_at : (first : List Starting) (n : ℕ) (w : Page) (d : Due) → due_at (due_from n first) w ≡ Some d → StartsAt first n w d
+starts_at : (first : List Starting) (n : ℕ) (w : Page) (d : Due) → due_of_page (due_from n first) w ≡ Some d → StartsAt first n w d
 starts_at [] n w d e = none_some d e
 starts_at (a ∷ more) n w d e = go (same_page (Stack n 0) w) refl e (starts_at more (n + 1) w d)
   where
-    go : (b : Bool) → same_page (Stack n 0) w ≡ b → cond b (Some (Start (Stack n 0))) (due_at (due_from (n + 1) more) w) ≡ Some d
-        → (due_at (due_from (n + 1) more) w ≡ Some d → StartsAt more (n + 1) w d) → StartsAt (a ∷ more) n w d
+    go : (b : Bool) → same_page (Stack n 0) w ≡ b → cond b (Some (Start (Stack n 0))) (due_of_page (due_from (n + 1) more) w) ≡ Some d
+        → (due_of_page (due_from (n + 1) more) w ≡ Some d → StartsAt more (n + 1) w d) → StartsAt (a ∷ more) n w d
     go true h k ih = record {
       sid = n;
       page = sym (same_page_is (Stack n 0) w h);

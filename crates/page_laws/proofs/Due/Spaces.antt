@@ -7,7 +7,7 @@ use Rattle.vm_facts.specs.declared.page.PageState.TheVariants.{Unfilled, Valid, 
 use Rattle.aout_image.specs.declared.Image.{Image}
 use Rattle.page_model.specs.Pages.{Slot, Zeros, SpacePages, no_slot, data_in, stack_in}
 use Rattle.flat_state.specs.PageNames.{same_page}
-use Rattle.page_model.specs.Placement.{Placement, Due, Start, CopyOf, due_at, due_page, slots_of, slot_of, state_of, image_of, unfilled, new_pages}
+use Rattle.page_model.specs.Placement.{Placement, Due, Start, CopyOf, due_of_page, due_page, slots_of, slot_of, state_of, image_of, unfilled, new_pages}
 use Rattle.page_model.specs.Place.{child_slot, child_slot_by, copy_due, copies_from, fork_space, enter_space}
 use Rattle.page_model.specs.Conditions.{IsNew}
 use Rattle.page_model.specs.Dues.{HasSource, IsDue, DueStand}
@@ -37,18 +37,18 @@ copies_at_later child parent x xs v w d r =
     let e : (v + 1) + r.at ≡ v + suc r.at = omega arith in
     record { at = suc r.at; page = r.page ∙ ap child e; due = r.due ∙ ap (λ (k : ℕ). CopyOf (child k) (parent k)) e; within = let l = r.within in omega arith; filled = r.filled }
 
-copies_found : (child parent : ℕ → Page) (xs : List Slot) (v : ℕ) (w : Page) (d : Due) → due_at (copies_from child parent v xs) w ≡ Some d
+copies_found : (child parent : ℕ → Page) (xs : List Slot) (v : ℕ) (w : Page) (d : Due) → due_of_page (copies_from child parent v xs) w ≡ Some d
     → CopiesAt child parent xs v w d
 copies_found child parent [] v w d e = none_some d e
 copies_found child parent (x ∷ xs) v w d e = go x.state refl e (λ k. copies_at_later child parent x xs v w d (copies_found child parent xs (v + 1) w d k))
   where
-    one : (b : Bool) → same_page (child v) w ≡ b → x.state ≢ Unfilled → cond b (Some (CopyOf (child v) (parent v))) (due_at (copies_from child parent (v + 1) xs) w) ≡ Some d
-        → (due_at (copies_from child parent (v + 1) xs) w ≡ Some d → CopiesAt child parent (x ∷ xs) v w d) → CopiesAt child parent (x ∷ xs) v w d
+    one : (b : Bool) → same_page (child v) w ≡ b → x.state ≢ Unfilled → cond b (Some (CopyOf (child v) (parent v))) (due_of_page (copies_from child parent (v + 1) xs) w) ≡ Some d
+        → (due_of_page (copies_from child parent (v + 1) xs) w ≡ Some d → CopiesAt child parent (x ∷ xs) v w d) → CopiesAt child parent (x ∷ xs) v w d
     one true h n k later = copies_at_here child parent x xs v w d n (sym (same_page_is (child v) w h)) (same_Some d (CopyOf (child v) (parent v)) (sym k))
     one false h n k later = later k
 
-    go : (s : PageState) → x.state ≡ s → due_at (copy_due (child v) (parent v) s ++ copies_from child parent (v + 1) xs) w ≡ Some d
-        → (due_at (copies_from child parent (v + 1) xs) w ≡ Some d → CopiesAt child parent (x ∷ xs) v w d) → CopiesAt child parent (x ∷ xs) v w d
+    go : (s : PageState) → x.state ≡ s → due_of_page (copy_due (child v) (parent v) s ++ copies_from child parent (v + 1) xs) w ≡ Some d
+        → (due_of_page (copies_from child parent (v + 1) xs) w ≡ Some d → CopiesAt child parent (x ∷ xs) v w d) → CopiesAt child parent (x ∷ xs) v w d
     go Unfilled h k later = later k
     go (Valid f) h k later = one (same_page (child v) w) refl (λ z. let y : Valid f ≡ Unfilled = sym h ∙ z in absurd cc) k later
     go (Invalid f) h k later = one (same_page (child v) w) refl (λ z. let y : Invalid f ≡ Unfilled = sym h ∙ z in absurd cc) k later
@@ -56,12 +56,12 @@ copies_found child parent (x ∷ xs) v w d e = go x.state refl e (λ k. copies_a
     go (Going f) h k later = one (same_page (child v) w) refl (λ z. let y : Going f ≡ Unfilled = sym h ∙ z in absurd cc) k later
     go OnSwap h k later = one (same_page (child v) w) refl (λ z. let y : OnSwap ≡ Unfilled = sym h ∙ z in absurd cc) k later
 
-pub due_either : (ds es : List Due) (w : Page) (d : Due) → due_at (ds ++ es) w ≡ Some d → (due_at ds w ≡ Some d) ⊎ (due_at es w ≡ Some d)
+pub due_either : (ds es : List Due) (w : Page) (d : Due) → due_of_page (ds ++ es) w ≡ Some d → (due_of_page ds w ≡ Some d) ⊎ (due_of_page es w ≡ Some d)
 due_either [] es w d e = inr e
 due_either (c ∷ ds) es w d e = go (same_page (due_page c) w) e (due_either ds es w d)
   where
-    go : (b : Bool) → cond b (Some c) (due_at (ds ++ es) w) ≡ Some d → (due_at (ds ++ es) w ≡ Some d → (due_at ds w ≡ Some d) ⊎ (due_at es w ≡ Some d))
-        → (cond b (Some c) (due_at ds w) ≡ Some d) ⊎ (due_at es w ≡ Some d)
+    go : (b : Bool) → cond b (Some c) (due_of_page (ds ++ es) w) ≡ Some d → (due_of_page (ds ++ es) w ≡ Some d → (due_of_page ds w ≡ Some d) ⊎ (due_of_page es w ≡ Some d))
+        → (cond b (Some c) (due_of_page ds w) ≡ Some d) ⊎ (due_of_page es w ≡ Some d)
     go true k later = inl k
     go false k later = later k
 

@@ -227,11 +227,11 @@ unfilled_blank facts v (suc n) = ((refl, refl), unfilled_blank facts (v + 1) n)
 
 pub enter_alike : (p : Placement) (sid image : ℕ) (facts : Image) → IsNew p sid → (w : Page) → Alike (slot_of (enter_space p sid image facts) w) (slot_of p w)
 enter_alike p sid image facts n = add_alike p (new_pages sid image facts) (enter_space p sid image facts).due n
-    (unfilled_blank facts 0 (Rattle.aout_image.specs.Image.data_pages_of facts)) ((refl, refl), tt)
+    (unfilled_blank facts 0 (Rattle.aout_image.specs.Image.image_data_pages facts)) ((refl, refl), tt)
 
 pub enter_space_owner : (p : Placement) (sid image : ℕ) (facts : Image) → OwnsFrames p → IsNew p sid → OwnsFrames (enter_space p sid image facts)
 enter_space_owner p sid image facts o n = add_owner p (new_pages sid image facts) (enter_space p sid image facts).due o n
-    (unfilled_blank facts 0 (Rattle.aout_image.specs.Image.data_pages_of facts)) ((refl, refl), tt)
+    (unfilled_blank facts 0 (Rattle.aout_image.specs.Image.image_data_pages facts)) ((refl, refl), tt)
 
 -- A space that goes.
 

@@ -1,6 +1,6 @@
 -- A file that is judged to be no image is none.
 use Rattle.std.proofs.Common.{◌≡◌, length, take, sym, ap, ◌∙◌, rules}
-use Rattle.aout_image.specs.Image.{image_of}
+use Rattle.aout_image.specs.Image.{judged_image}
 use Rattle.flat_process.proofs.Loading.{judged_so}
 use Rattle.flat_process.proofs.program.is_image.Goals as goal
 
@@ -10,5 +10,5 @@ returns-in-NotImage c =
     let front : take 32 c.args.flat.now.bytes ≡ c.head.result.now = ap (take 32) (sym file) ∙ sym c.head.ensures.value in
     let len : length c.args.flat.now.bytes ≡ length c.as_slice-bytes.result.now = ap length (sym file) in (
       λ yes. absurd cc,
-      λ is. absurd (judged_so (image_of c.args.flat.now.bytes) c.in-NotImage.field-0 is.image (c.in-NotImage.ensures.of_the_file c.args.flat.now.bytes front len)),
+      λ is. absurd (judged_so (judged_image c.args.flat.now.bytes) c.in-NotImage.field-0 is.image (c.in-NotImage.ensures.of_the_file c.args.flat.now.bytes front len)),
     )

@@ -2,7 +2,7 @@
 use Rattle.std.proofs.Common.{List, map, sym, ap, ◌∙◌, length, subst}
 use Rattle.std.specs.Prelude.{All}
 use Rattle.io_edge.specs.FileHolding.{NamedFile}
-use Rattle.aout_image.specs.Image.{image_of}
+use Rattle.aout_image.specs.Image.{judged_image}
 use Rattle.vm_facts.specs.declared.event.Event.{Event}
 use Rattle.run_text.specs.Schedule.{IsInRanges}
 use Rattle.load_maker.specs.Load.{load_sources, AreFilesFrom}
@@ -14,7 +14,7 @@ pub returns-clause-sources : goal.returns-clause-sources
 returns-clause-sources c = subst (AreFilesFrom (load_sources c.args.number)) (sym c.in_ok-files.ensures) (are_files c.args.number)
 
 pub returns-clause-images : goal.returns-clause-images
-returns-clause-images c = ap (map (λ (file : NamedFile). image_of file.bytes)) c.in_ok-files.ensures ∙ are_images c.args.number
+returns-clause-images c = ap (map (λ (file : NamedFile). judged_image file.bytes)) c.in_ok-files.ensures ∙ are_images c.args.number
 
 pub returns-clause-sizes : goal.returns-clause-sizes
 returns-clause-sizes c = ap (map (λ (file : NamedFile). length file.bytes)) c.in_ok-files.ensures ∙ are_two_pages c.args.number

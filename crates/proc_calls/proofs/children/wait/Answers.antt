@@ -11,7 +11,7 @@ use Rattle.proc_calls.specs.declared.children.Children.TheVariants as children
 use Rattle.proc_calls.specs.declared.replying.Called.TheVariants as calls
 use Rattle.proc_calls.specs.Answered.{Entered, Answered, Replied}
 use Rattle.proc_calls.specs.Callers.{regs_by}
-use Rattle.proc_calls.specs.Waiting.{wait_reply, reply_by}
+use Rattle.proc_calls.specs.Waiting.{wait_answer, reply_by}
 use Rattle.proc_calls.proofs.Callers.{can_reap, can_sleep, both_ok}
 use Rattle.proc_calls.proofs.Waits.{wait_is, zombie_ended}
 use Rattle.proc_calls.proofs.children.wait.Goals as goal
@@ -28,7 +28,7 @@ flat-requires-clause-can c = can_sleep c.args.m.now c.args.pid (Sleeps c.args.pi
 
 pub returns-in-None-clause-replied : goal.returns-in-None-clause-replied
 returns-in-None-clause-replied c =
-    let is : wait_reply c.args.m.now.kernel c.args.pid c.args.regs.now ≡ reply_by children.None c.args.regs.now =
+    let is : wait_answer c.args.m.now.kernel c.args.pid c.args.regs.now ≡ reply_by children.None c.args.regs.now =
     wait_is c.args.m.now.kernel c.processes.result.now c.args.pid c.children_of.result c.args.regs.now c.processes.ensures.processes
     (c.processes.ensures.records c.requires.calls.ready.running.runs) c.children_of.ensures
     ∙ ap (λ (x : Children). reply_by x c.args.regs.now) c.in-None.is in
@@ -36,7 +36,7 @@ returns-in-None-clause-replied c =
 
 pub returns-in-Zombie-clause-replied : goal.returns-in-Zombie-clause-replied
 returns-in-Zombie-clause-replied c =
-    let is : wait_reply c.args.m.now.kernel c.args.pid c.args.regs.now ≡ reply_by (children.Zombie c.in-Zombie.child c.in-Zombie.status) c.args.regs.now =
+    let is : wait_answer c.args.m.now.kernel c.args.pid c.args.regs.now ≡ reply_by (children.Zombie c.in-Zombie.child c.in-Zombie.status) c.args.regs.now =
     wait_is c.args.m.now.kernel c.processes.result.now c.args.pid c.children_of.result c.args.regs.now c.processes.ensures.processes
     (c.processes.ensures.records c.requires.calls.ready.running.runs) c.children_of.ensures
     ∙ ap (λ (x : Children). reply_by x c.args.regs.now) c.in-Zombie.is in
@@ -48,7 +48,7 @@ returns-in-Zombie-clause-replied c =
 
 pub returns-in_ok-flat-in-Living-clause-replied : goal.returns-in_ok-flat-in-Living-clause-replied
 returns-in_ok-flat-in-Living-clause-replied c =
-    let is : wait_reply c.args.m.now.kernel c.args.pid c.args.regs.now ≡ reply_by children.Living c.args.regs.now =
+    let is : wait_answer c.args.m.now.kernel c.args.pid c.args.regs.now ≡ reply_by children.Living c.args.regs.now =
     wait_is c.args.m.now.kernel c.processes.result.now c.args.pid c.children_of.result c.args.regs.now c.processes.ensures.processes
     (c.processes.ensures.records c.requires.calls.ready.running.runs) c.children_of.ensures
     ∙ ap (λ (x : Children). reply_by x c.args.regs.now) c.in-Living.is in

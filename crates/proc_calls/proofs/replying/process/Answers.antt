@@ -1,6 +1,6 @@
 use Rattle.std.proofs.Common.{sym, ap, ◌∙◌}
 use Rattle.std.specs.Option.{option_copied}
-use Rattle.machine_state.specs.Machine.{proc_of}
+use Rattle.machine_state.specs.Machine.{proc_of_record}
 use Rattle.proc_calls.specs.Callers.{proc_in}
 use Rattle.proc_calls.proofs.Callers.{record_shown, not_there}
 use Rattle.proc_calls.proofs.replying.process.Goals as goal
@@ -9,9 +9,9 @@ pub unreachable-requires : goal.unreachable-requires
 unreachable-requires c =
     not_there (proc_in c.args.m.now.kernel c.args.pid) c.requires.there
     (record_shown c.args.m.now.kernel c.processes.result.now c.args.pid c.processes.ensures.processes (c.processes.ensures.records c.requires.running.runs)
-    ∙ ap proc_of (sym c.get.ensures.value ∙ ap option_copied c.in-None.is))
+    ∙ ap proc_of_record (sym c.get.ensures.value ∙ ap option_copied c.in-None.is))
 
 pub returns : goal.returns
 returns c =
     record_shown c.args.m.now.kernel c.processes.result.now c.args.pid c.processes.ensures.processes (c.processes.ensures.records c.requires.running.runs)
-    ∙ ap proc_of (sym c.get.ensures.value ∙ ap option_copied c.in-Some.is)
+    ∙ ap proc_of_record (sym c.get.ensures.value ∙ ap option_copied c.in-Some.is)

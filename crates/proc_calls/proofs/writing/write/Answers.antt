@@ -9,7 +9,7 @@ use Rattle.flat_model.specs.declared.calls.Reply.{Reply}
 use Rattle.flat_model.specs.Calls.{write_reply}
 use Rattle.machine_state.specs.UserMemory.{kernel_answers}
 use Rattle.proc_calls.specs.Callers.{space_held}
-use Rattle.proc_calls.specs.Writing.{MayWrite}
+use Rattle.proc_calls.specs.Writing.{IsWriteReply}
 use Rattle.proc_calls.proofs.Writes.{may_write}
 use Rattle.proc_calls.proofs.Stopping.{out_starved}
 use Rattle.proc_calls.proofs.writing.write.Goals as goal
@@ -20,7 +20,7 @@ answer-requires-clause-writes c =
     subst
     (λ (r : Result (Result Reply Refused) NoMemory). IfOk r (λ a. a ≡ run (kernel_answers c.args.m.now.kernel (space_held c.args.m.now.kernel c.args.pid)) (write_reply c.args.regs.now)))
     c.in_ok-refused.ensures.made c.read_bytes-asked.ensures.value in
-    subst (λ (r : Result Reply Refused). MayWrite r) c.in-Ok.is
+    subst (λ (r : Result Reply Refused). IsWriteReply r) c.in-Ok.is
     (may_write (kernel_answers c.args.m.now.kernel (space_held c.args.m.now.kernel c.args.pid)) c.args.regs.now c.in_ok-refused.field-0 asked)
 
 pub returns-in_err-refused-clause-stop : goal.returns-in_err-refused-clause-stop

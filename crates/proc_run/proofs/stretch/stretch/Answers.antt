@@ -3,7 +3,7 @@ use Rattle.vm_facts.specs.Answers.{Answers, ByteWrite, written}
 use Rattle.vm_facts.specs.declared.regs.Regs.{Regs}
 use Rattle.user_vax.specs.Program.{run}
 use Rattle.user_vax.specs.Instruction.{instruction, writes_of}
-use Rattle.proc_run.specs.Stretch.{GoesOn, GoesOr, Stretch, StretchOf}
+use Rattle.proc_run.specs.Stretch.{CarriesOn, GoesOr, Stretch, StretchOf}
 use Rattle.proc_run.proofs.stretch.stretch.Goals as goal
 
 pub loop-count-init : goal.loop-count-init
@@ -18,7 +18,7 @@ loop-count-preserved g c =
     let went : GoesOr true (g.M.Memory.answers c.loop-count.memory) c.loop-count.regs c.go_on.new.regs (λ (ws : List ByteWrite). g.M.Memory.wrote c.loop-count.memory ws c.go_on.new.memory) =
     subst (λ (b : Bool). GoesOr b (g.M.Memory.answers c.loop-count.memory) c.loop-count.regs c.go_on.new.regs (λ (ws : List ByteWrite). g.M.Memory.wrote c.loop-count.memory ws c.go_on.new.memory))
     c.if-not-go_on.false c.go_on.ensures in
-    let goes : GoesOn (written start earlier) c.loop-count.regs c.go_on.new.regs = subst (λ (m : Answers). GoesOn m c.loop-count.regs c.go_on.new.regs) is went.0 in
+    let goes : CarriesOn (written start earlier) c.loop-count.regs c.go_on.new.regs = subst (λ (m : Answers). CarriesOn m c.loop-count.regs c.go_on.new.regs) is went.0 in
     let later : List ByteWrite = writes_of (run (written start earlier) (instruction c.loop-count.regs)) in
     let wrote : g.M.Memory.wrote c.loop-count.memory later c.go_on.new.memory =
     subst (λ (m : Answers). g.M.Memory.wrote c.loop-count.memory (writes_of (run m (instruction c.loop-count.regs))) c.go_on.new.memory) is went.1 in

@@ -5,7 +5,7 @@ use Rattle.replay_check.specs.Images.{FlatFile}
 use Rattle.command_ending.specs.Ending.{Ending, ending_of}
 use Rattle.command_ending.specs.Named.{AnswersNamed}
 use Rattle.command_ending.specs.Command.{Faults, Made}
-use Rattle.replay_command.specs.Reading.{images_told, read_told}
+use Rattle.replay_command.specs.Reading.{images_told, read_of_transcript}
 use Rattle.replay_command.specs.Command.{EndsVerdict, EndsReplay}
 use Rattle.replay_command.proofs.Replays.{transcript_ends, refused, images_end, judged_ends}
 use Rattle.replay_command.proofs.command.line_from.Goals as goal
@@ -20,7 +20,7 @@ returns-in_err-entries-clause-made g c =
       page_after = g.F.Files.page_faults c.read_entries.new.files;
     } in
     let is : c.from_residual.result ≡ Err c.in_err-entries.field-0.0 = search rules in
-    subst (λ (e : Ending). Made (EndsReplay c.args.transcript.now words) (read_told c.args.transcript.now words) (g.F.Files.holds c.args.files.now) f e) (sym (ap ending_of is))
+    subst (λ (e : Ending). Made (EndsReplay c.args.transcript.now words) (read_of_transcript c.args.transcript.now words) (g.F.Files.holds c.args.files.now) f e) (sym (ap ending_of is))
     (transcript_ends c.args.transcript.now words (g.F.Files.holds c.args.files.now) f c.in_err-entries.field-0.0 c.in_err-entries.ensures.ends)
 
 pub returns-in_err-naming-clause-made : goal.returns-in_err-naming-clause-made
@@ -33,7 +33,7 @@ returns-in_err-naming-clause-made g c =
       page_after = g.F.Files.page_faults c.read_entries.new.files;
     } in
     let is : c.from_residual-in_err-naming.result ≡ Err c.in_err-naming.field-0.0 = search rules in
-    subst (λ (e : Ending). Made (EndsReplay c.args.transcript.now words) (read_told c.args.transcript.now words) (g.F.Files.holds c.args.files.now) f e)
+    subst (λ (e : Ending). Made (EndsReplay c.args.transcript.now words) (read_of_transcript c.args.transcript.now words) (g.F.Files.holds c.args.files.now) f e)
     (sym (ap ending_of is ∙ ap Err c.in_err-naming.ensures.error))
     (refused c.args.transcript.now words (g.F.Files.holds c.args.files.now) f)
 
@@ -49,7 +49,7 @@ returns-in_err-images-clause-made g c =
       page_after = g.F.Files.page_faults c.load_images.new.files;
     } in
     let is : c.from_residual-in_err-images.result ≡ Err c.in_err-images.field-0.0 = search rules in
-    subst (λ (e : Ending). Made (EndsReplay c.args.transcript.now words) (read_told c.args.transcript.now words) (g.F.Files.holds c.args.files.now) f e) (sym (ap ending_of is))
+    subst (λ (e : Ending). Made (EndsReplay c.args.transcript.now words) (read_of_transcript c.args.transcript.now words) (g.F.Files.holds c.args.files.now) f e) (sym (ap ending_of is))
     (images_end c.args.transcript.now words (g.F.Files.holds c.args.files.now) _ _ _ _ _ _ c.in_ok-entries.entries.items c.in_err-images.field-0.0 c.in_ok-entries.ensures.ends
     {A = Vec FlatFile Global} (λ (images : Vec FlatFile Global). images.items)
     (λ list told. subst (λ (xs : List (List ℕ)). AnswersNamed (λ (images : Vec FlatFile Global). images.items) (images_told list xs) (Err c.in_err-images.field-0.0)) names

@@ -2,7 +2,7 @@ use Rattle.std.proofs.Common.{ℕ, List, Bor, map}
 use Rattle.command_ending.specs.Ending.{ending_of}
 use Rattle.command_ending.specs.Command.{Faults}
 use Rattle.command_ending.proofs.Makings.{completed}
-use Rattle.replay_command.specs.Reading.{read_told}
+use Rattle.replay_command.specs.Reading.{read_of_transcript}
 use Rattle.replay_command.specs.Command.{EndsReplay}
 use Rattle.replay_command.proofs.command.replay_file.Goals as goal
 
@@ -15,6 +15,6 @@ returns-clause-replays g c =
       page_before = g.F.Files.page_faults c.args.files.now;
       page_after = g.F.Files.page_faults c.line_from-made.new.files;
     } in
-    completed (EndsReplay c.args.transcript.now words) (read_told c.args.transcript.now words) (g.F.Files.holds c.args.files.now) f
+    completed (EndsReplay c.args.transcript.now words) (read_of_transcript c.args.transcript.now words) (g.F.Files.holds c.args.files.now) f
     (g.S.Sink.written c.args.sink.now) (g.S.Sink.written c.write_ending.new.sink) (g.S.Sink.faults c.args.sink.now) (g.S.Sink.faults c.write_ending.new.sink) c.write_ending.result
     (ending_of c.line_from-made.result) (λ read. tt) c.line_from-made.ensures.made c.write_ending.ensures.writes

@@ -10,7 +10,7 @@ use Rattle.run_command.specs.Seen.{Seen}
 use Rattle.run_command.specs.Naming.{shown_as}
 use Rattle.run_command.specs.Machines.{journal_entries, machine_of, IsOfOpening}
 use Rattle.run_command.specs.Paired.{image_together}
-use Rattle.run_command.specs.Ends.{NoneFaulted, WritesSome}
+use Rattle.run_command.specs.Ends.{NoneFaulted, WritesRun}
 use Rattle.run_command.proofs.Endings.{StopCaused, run_ended}
 use Rattle.run_command.proofs.Runs.{run_caused, opened_runs, opened_lacking}
 use Rattle.run_command.proofs.command.run_opened.Goals as goal
@@ -74,8 +74,8 @@ returns-clause-runs g c =
       sink_faults_before = g.S.Sink.faults c.args.sink.now;
       sink_faults_after = g.S.Sink.faults c.write_run-status.new.sink;
     } in
-    let written : WritesSome c.args.traced es r seen.written_before seen.written_after seen.sink_faults_before seen.sink_faults_after c.write_run-status.result
-    = subst (λ (entries : List Entry). WritesSome c.args.traced entries r seen.written_before seen.written_after seen.sink_faults_before seen.sink_faults_after c.write_run-status.result)
+    let written : WritesRun c.args.traced es r seen.written_before seen.written_after seen.sink_faults_before seen.sink_faults_after c.write_run-status.result
+    = subst (λ (entries : List Entry). WritesRun c.args.traced entries r seen.written_before seen.written_after seen.sink_faults_before seen.sink_faults_after c.write_run-status.result)
     c.journal.ensures c.write_run-status.ensures.writes in
     let machine = c.in-Ok.ensures.machine ∙ ap (λ (images : List OpenedImage). machine_of c.args.numbers (map shown_as images)) c.as_slice.ensures.value in
     let caused : StopCaused seen es r = run_caused seen es r ran.kind ran.files_read.open_faults ran.files_read.page_faults ran.reads ran.writes ran.none_made ran.untouched

@@ -1,6 +1,6 @@
 use Rattle.std.proofs.Common.{rules, ◌≡◌, ◌∙◌, ℕ, List, take, drop, Option, Result, Err, Vec, Global, subst, sym, arith}
 use Rattle.io_edge.specs.FileHolding.{NamedFile, HoldsRange, bytes_at}
-use Rattle.aout_image.specs.Image.{image_of, file_length_of}
+use Rattle.aout_image.specs.Image.{judged_image, file_length_of}
 use Rattle.run_files.specs.declared.answers.Headed.{Headed}
 use Rattle.run_files.specs.declared.answers.Loaded.{Loaded}
 use Rattle.run_files.specs.declared.answers.Unread.{Unread}
@@ -19,7 +19,7 @@ returns-clause-answers g c = λ list told size.
     = joined (g.F.Files.holds c.args.files.now) list c.args.id (file_length_of headed.image) headed.header.items c.in_ok-bytes.bytes.items told head c.in_ok-bytes.ensures.head
     (c.in_ok-bytes.ensures.size ∙ c.file_length.ensures.value) (above_header headed.image)
     (subst (λ (h : Option (List NamedFile)). HoldsRange h c.args.id 32 (drop 32 c.in_ok-bytes.bytes.items)) c.read_header.ensures.kept.holds c.in_ok-bytes.ensures.rest) in
-    judged_is file c.in_ok-bytes.bytes.items (image_of file) headed.image
+    judged_is file c.in_ok-bytes.bytes.items (judged_image file) headed.image
     (c.in_ok-headed.ensures.judged file head (sym size)) whole
 
 pub returns-clause-image : goal.returns-clause-image
@@ -34,8 +34,8 @@ pub returns-in_err-headed-clause-answers : goal.returns-in_err-headed-clause-ans
 returns-in_err-headed-clause-answers g c = λ list told size.
     let file = bytes_at list c.args.id in
     let is : c.from_residual.result ≡ Err c.in_err-headed.field-0.0 = search rules in
-    subst (λ (r : Result Loaded Unread). Answers (λ loaded. (loaded.image, loaded.bytes.items)) (image_in file (image_of file)) r) (sym is)
-    (header_decides Headed Loaded (λ headed. headed.image) (λ loaded. (loaded.image, loaded.bytes.items)) file (image_of file) c.in_err-headed.field-0.0
+    subst (λ (r : Result Loaded Unread). Answers (λ loaded. (loaded.image, loaded.bytes.items)) (image_in file (judged_image file)) r) (sym is)
+    (header_decides Headed Loaded (λ headed. headed.image) (λ loaded. (loaded.image, loaded.bytes.items)) file (judged_image file) c.in_err-headed.field-0.0
     c.in_err-headed.ensures.error (c.in_err-headed.ensures.answers list told size))
 
 pub returns-in_err-headed-clause-order : goal.returns-in_err-headed-clause-order
@@ -46,8 +46,8 @@ returns-in_err-headed-clause-order g c = λ list told size.
     let open_after = g.F.Files.open_faults c.read_header.new.files in
     let page_before = g.F.Files.page_faults c.args.files.now in
     let page_after = g.F.Files.page_faults c.read_header.new.files in
-    subst (λ (r : Result Loaded Unread). FailsInOrder (image_in file (image_of file)) r open_before open_after page_before page_after) (sym is)
-    (header_fails Headed Loaded (image_in file (image_of file)) c.in_err-headed.field-0.0 open_before open_after page_before page_after
+    subst (λ (r : Result Loaded Unread). FailsInOrder (image_in file (judged_image file)) r open_before open_after page_before page_after) (sym is)
+    (header_fails Headed Loaded (image_in file (judged_image file)) c.in_err-headed.field-0.0 open_before open_after page_before page_after
     c.in_err-headed.ensures.page_faults c.in_err-headed.ensures.open_faults)
 
 pub returns-in_err-headed-clause-faults : goal.returns-in_err-headed-clause-faults
@@ -72,7 +72,7 @@ returns-in_err-bytes-clause-order g c = λ list told size.
     let open_after = g.F.Files.open_faults c.read_rest.new.files in
     let page_before = g.F.Files.page_faults c.args.files.now in
     let page_after = g.F.Files.page_faults c.read_rest.new.files in
-    subst (λ (r : Result Loaded Unread). FailsInOrder (image_in file (image_of file)) r open_before open_after page_before page_after) (sym is)
-    (rest_fails (Vec ℕ Global) Loaded (image_in file (image_of file)) c.in_err-bytes.field-0.0 _ _ _ _ _
-    (told_image file (image_of file) headed.image (c.in_ok-headed.ensures.judged file head (sym size)))
+    subst (λ (r : Result Loaded Unread). FailsInOrder (image_in file (judged_image file)) r open_before open_after page_before page_after) (sym is)
+    (rest_fails (Vec ℕ Global) Loaded (image_in file (judged_image file)) c.in_err-bytes.field-0.0 _ _ _ _ _
+    (told_image file (judged_image file) headed.image (c.in_ok-headed.ensures.judged file head (sym size)))
     (c.in_err-bytes.ensures.open_faults ∙ c.in_ok-headed.ensures.open_faults) c.in_ok-headed.ensures.page_faults c.in_err-bytes.ensures.page_faults)

@@ -1,7 +1,7 @@
 use Rattle.std.proofs.Common.{ℕ, ◌<◌, IsSome, Option, sym, ap, ◌∙◌, subst}
 use Rattle.proc_table.specs.Records.{find, Lowest}
 use Rattle.page_model.specs.Swapper.{Runner}
-use Rattle.machine_state.specs.Machine.{proc_of, processes_of}
+use Rattle.machine_state.specs.Machine.{proc_of_record, processes_of}
 use Rattle.swapper.specs.Runners.{runner_of, runner_from, runners_above, passes, kept, longer_with, longest_from}
 use Rattle.machine_state.proofs.ByNumber.{next_is}
 use Rattle.swapper.proofs.Numbers.{all_above, above_next, above_none, longest_start, longest_last, longest_step}
@@ -23,7 +23,7 @@ loop-pid-preserved c = λ p h.
     let pid = c.in-Some.pid in
     let best = c.loop-pid.best in
     let test = passes p c.args.kind in
-    let g : ℕ → Option Runner = λ n. kept test (runner_from (processes_of ps next) (proc_of (find n ps))) in
+    let g : ℕ → Option Runner = λ n. kept test (runner_from (processes_of ps next) (proc_of_record (find n ps))) in
     let low = subst (Lowest (λ q. (last < q) × IsSome (find q ps))) c.in-Some.is c.next_after.ensures in
     let i = c.loop-pid.invariant p h in
     let placed = c.candidate.ensures.placed p h in (

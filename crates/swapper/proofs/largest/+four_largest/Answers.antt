@@ -1,7 +1,7 @@
 use Rattle.std.proofs.Common.{ℕ, ◌+◌, ◌<◌, IsSome, Option, List, take, refl, sym, ap, ◌∙◌, subst}
 use Rattle.proc_table.specs.Records.{find, Lowest}
 use Rattle.page_model.specs.Swapper.{Runner, ranked}
-use Rattle.machine_state.specs.Machine.{proc_of, processes_of}
+use Rattle.machine_state.specs.Machine.{proc_of_record, processes_of}
 use Rattle.swapper.specs.declared.candidates.Kind.TheVariants as kinds
 use Rattle.swapper.specs.Runners.{runner_from, passes, kept, options_of, listed_in}
 use Rattle.machine_state.proofs.ByNumber.{next_is}
@@ -26,7 +26,7 @@ returns-clause-list t c =
     let h = c.requires.records in
     let more = c.four_largest in
     let test = passes p kinds.GoesOut in
-    let g : ℕ → Option Runner = λ n. kept test (runner_from (processes_of ps next) (proc_of (find n ps))) in
+    let g : ℕ → Option Runner = λ n. kept test (runner_from (processes_of ps next) (proc_of_record (find n ps))) in
     let low = subst (Lowest (λ q. (last < q) × IsSome (find q ps))) c.in-Some.is c.next_after.ensures in
     ap listed_in (c.place_with.ensures.list p more.ensures.measured c.measure.ensures.measured)
     ∙ ranked_step p c.measure.result (options_of more.result) g pid (pid + 1) next refl (next_is ps next last pid h low).1 refl c.measure.ensures.runner more.ensures.list

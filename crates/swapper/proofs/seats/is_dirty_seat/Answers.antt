@@ -1,6 +1,6 @@
 use Rattle.std.proofs.Common.{◌≡◌, ◌&&◌, false, sym, ◌∙◌, subst}
 use Rattle.vax_pte.specs.declared.Place.{Place}
-use Rattle.core_map.specs.Slots.{slot_at, is_dirty}
+use Rattle.core_map.specs.Slots.{slot_at, is_slot_dirty}
 use Rattle.page_model.specs.Runs.{is_seated_by}
 use Rattle.table_view.specs.Shown.{state_shown, ShowsMark}
 use Rattle.kluster_io.proofs.Seats.{seat_shown, bare_shown, not_resident}
@@ -9,7 +9,7 @@ use Rattle.swapper.proofs.seats.is_dirty_seat.Goals as goal
 pub returns-in-Resident : goal.returns-in-Resident
 returns-in-Resident c = λ p dirty e m.
     c.is_dirty.ensures
-    ∙ subst (λ (x : Place). ShowsMark c.args.core.now.slots x dirty → is_dirty (slot_at c.args.core.now.slots c.in-Frame.f) ≡ (is_seated_by p (state_shown c.args.core.now.slots x) && dirty))
+    ∙ subst (λ (x : Place). ShowsMark c.args.core.now.slots x dirty → is_slot_dirty (slot_at c.args.core.now.slots c.in-Frame.f) ≡ (is_seated_by p (state_shown c.args.core.now.slots x) && dirty))
     (sym c.in-Frame.is)
     (λ k. seat_shown p c.args.core.now.free c.args.core.now.slots c.in-Frame.f c.in-Frame.valid c.in-Frame.changed dirty c.frames-frames.ensures.sound e k c.in-Resident.ensures.slot.0)
     m

@@ -1,7 +1,7 @@
 use Rattle.std.proofs.Common.{◌≡◌, ℕ, suc, ◌+◌, ◌-◌, Bool, List, ◌∷◌, ◌++◌, [], map, sym, ap, ◌∙◌, subst, arith, append_assoc, rules}
 use Rattle.vm_facts.specs.declared.page.Page.{Page}
-use Rattle.core_map.specs.Frames.{IsSound}
-use Rattle.core_map.specs.Slots.{slot_at, page_of as token_page}
+use Rattle.core_map.specs.Frames.{IsSoundMap}
+use Rattle.core_map.specs.Slots.{slot_at, slot_page as token_page}
 use Rattle.swap_book.specs.Book.{Book, IsBook}
 use Rattle.transfer_ring.specs.declared.transfer.Inbound.{Inbound}
 use Rattle.transfer_ring.specs.Sound.{inbound_pages}
@@ -30,7 +30,7 @@ bring-part-requires-clause-texts t c = texts_here (opened c.args.tables.now c.ar
 
 -- one page more
 step : (t u : Tables) (xs : List Inbound) (b : Bool) (q v : Page) (x : Inbound) (lo n m : ℕ) → n ≡ suc m → v ≡ beside q lo → BroughtPage t u v b x
-    → IsSound u.core.free u.core.slots
+    → IsSoundMap u.core.free u.core.slots
     → MayBring (opened t xs (source_by b) q) q lo n → Brings t u xs (source_by b) q x lo m
 step t u xs b q v x lo n m e is d core may =
     brings t u xs (source_by b) q b x lo m (d.page ∙ is) (subst (λ (w : Page). BroughtPage t u w b x) (sym d.page) d) core (subst (λ (k : ℕ). MayBring (opened t xs (source_by b) q) q lo k) e may)

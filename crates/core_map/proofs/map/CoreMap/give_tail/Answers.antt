@@ -1,7 +1,7 @@
 use Rattle.std.proofs.Common.{◌≡◌, ◌≢◌, ℕ, ◌<◌, length, refl, sym, subst, arith, Some}
 use Rattle.std.proofs.lemmas.Grind.{common_steps}
 use Rattle.core_map.specs.declared.slot.Slot.TheVariants.{Free, Away}
-use Rattle.core_map.specs.Slots.{slot_at, page_of}
+use Rattle.core_map.specs.Slots.{slot_at, slot_page}
 use Rattle.core_map.specs.Frames.{Frames, HoldsNot}
 use Rattle.core_map.proofs.SlotLemmas.{held_by_none, sound_tail, text_change}
 use Rattle.core_map.proofs.map.CoreMap.give_tail.Goals as goal
@@ -14,7 +14,7 @@ invariant_of-self c =
     let low : f < length a.slots.items = subst (λ (o : Frames). f < length o.slots) now c.requires.away.below in
     let away : slot_at a.slots.items f ≡ Away = subst (λ (o : Frames). slot_at o.slots f ≡ Away) now c.requires.away.away in
     let s = Free c.args.token (Some c.args.page) in
-    let not_held : (g : ℕ) → page_of (slot_at a.slots.items g) ≢ Some c.args.page = subst (λ (o : Frames). HoldsNot o c.args.page) now c.requires.not_held in
+    let not_held : (g : ℕ) → slot_page (slot_at a.slots.items g) ≢ Some c.args.page = subst (λ (o : Frames). HoldsNot o c.args.page) now c.requires.not_held in
     record {
       bound = grind (arith, common_steps);
       text = rw (c.enter.ensures, c.put.ensures, c.number-frame.ensures.value) (text_change a.text a.slots.items f s c.self.invariant.text);

@@ -2,7 +2,7 @@ use Rattle.std.proofs.Common.{◌≡◌, ◌≢◌, ℕ, List, set, refl, sym, a
 use Rattle.std.proofs.lemmas.Grind.{common_steps}
 use Rattle.core_map.specs.declared.slot.Slot.{Slot}
 use Rattle.core_map.specs.declared.slot.Slot.TheVariants.{Away}
-use Rattle.core_map.specs.Slots.{slot_at, is_free, page_of}
+use Rattle.core_map.specs.Slots.{slot_at, is_free, slot_page}
 use Rattle.core_map.specs.Frames.{Frames}
 use Rattle.core_map.proofs.SlotLemmas.{free_below, sound_without, text_change, page_gone}
 use Rattle.core_map.proofs.map.CoreMap.reclaim.Goals as goal
@@ -23,7 +23,7 @@ returns-clause-gone c =
     let a = c.self.inside in
     let f = c.args.frame in
     let was : is_free (slot_at a.slots.items f) ≡ true = subst (λ (o : Frames). is_free (slot_at o.slots f) ≡ true) (sym c.self.view_is) c.requires.free in
-    let before = page_gone a.free.frames a.slots.items f c.self.invariant.sound (free_below a.slots.items f was) (page_of (slot_at a.slots.items f)) refl in
-    let now = subst (λ (o : Frames). IfSome (page_of (slot_at o.slots f)) (λ p. (g : ℕ) → page_of (slot_at (set o.slots f Away) g) ≢ Some p)) c.self.view_is before in
-    subst (λ (k : List Slot). IfSome (page_of (slot_at c.args.self.now.slots f)) (λ p. (g : ℕ) → page_of (slot_at k g) ≢ Some p))
+    let before = page_gone a.free.frames a.slots.items f c.self.invariant.sound (free_below a.slots.items f was) (slot_page (slot_at a.slots.items f)) refl in
+    let now = subst (λ (o : Frames). IfSome (slot_page (slot_at o.slots f)) (λ p. (g : ℕ) → slot_page (slot_at (set o.slots f Away) g) ≢ Some p)) c.self.view_is before in
+    subst (λ (k : List Slot). IfSome (slot_page (slot_at c.args.self.now.slots f)) (λ p. (g : ℕ) → slot_page (slot_at k g) ≢ Some p))
     (sym (c.take_free-token.ensures.after ∙ ap (λ (o : Frames). set o.slots f Away) c.self.view_is)) now

@@ -2,7 +2,7 @@ use Rattle.std.proofs.Common.{◌≡◌, ℕ, ◌<◌, Bool, IsTrue, List, [], �
 use Rattle.vm_facts.specs.declared.entry.Entry.{Entry}
 use Rattle.vm_facts.specs.declared.entry.Entry.TheVariants as entries
 use Rattle.vax_pte.specs.declared.Place.{Place}
-use Rattle.core_map.specs.Slots.{slot_at, page_of}
+use Rattle.core_map.specs.Slots.{slot_at, slot_page}
 use Rattle.kernel_model.specs.Kernel.{Kernel, reclaim_step}
 use Rattle.table_steps.specs.Tables.{Tables}
 use Rattle.table_steps.specs.KernelTablesShown.{is_frame, frame_named}
@@ -52,7 +52,7 @@ revive-requires c =
     let i : InvalidEntry (lists_of t) c.args.page can.frame = invalid_entry (lists_of t) c.args.page can.frame k can.shared can.invalid in
     let frame : c.frame_of-frame.result.0 ≡ can.frame = c.frame_of-frame.ensures.frame ∙ ap frame_named i.entry in
     record {
-      holds = ap (λ (f : ℕ). page_of (slot_at t.core.slots f)) frame ∙ i.held;
+      holds = ap (λ (f : ℕ). slot_page (slot_at t.core.slots f)) frame ∙ i.held;
       above =
           let a : 0 < can.frame = held_above (lists_of t) can.frame c.args.page k i.held in
           omega (arith, frame);
