@@ -10,8 +10,9 @@ pub mod Placement
 pub mod Moves
 pub mod Runs
 pub mod Hands
-pub mod Serve
+pub mod Reading
 pub mod Place
+pub mod Serve
 pub mod Conditions
 pub mod PageBytes
 pub mod Dues

@@ -16,7 +16,7 @@ use Rattle.flat_state.specs.PageNames.{same_page, pages_from, number_of}
 use Rattle.page_model.specs.Placement.{Placement, Residence, Due, Start, CopyOf, due_page, space_number, slots_of, is_dirty, sharers, image_of, unfilled, new_pages}
 use Rattle.page_model.specs.Moves.{fill, get_run, launch_run, reclaim, retire, done, touch_all, drop_all, leave_all}
 use Rattle.page_model.specs.Hands.{hand_moves}
-use Rattle.page_model.specs.Serve.{read_errand}
+use Rattle.page_model.specs.Reading.{read_errand}
 
 -- Fills that are due.
 

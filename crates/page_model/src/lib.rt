@@ -9,7 +9,8 @@
 //! - Moves: what a fill, a reclaim, the beginning and the end of a transfer, and a page that goes do to a placement.
 //! - Runs: `run_in`, `run_out` and `run_put`, the pages that one transfer takes.
 //! - Hands: `hand_move`, a move of the two hands.
-//! - Serve: `force`, `serve_unit`, how a frame is forced and a page served.
+//! - Reading: `read_errand`, `read_entry`, the read of a page with its run.
+//! - Serve: `force`, how a frame is forced; `serving`, the table of what there is to do for a page, with its unit and step.
 //! - Place: `place_entry` and `place_step`, what each entry of a journal does to a placement.
 //! - Swapper, Swapping: `swap_choice` and `put_out_unit`; and what is so of whom the swapper chooses.
 //! - Conditions, Dues: what an entry, a change and a fill that is due ask.
