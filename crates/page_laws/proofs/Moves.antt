@@ -1,4 +1,5 @@
 pub mod Hands
+pub mod Cases
 pub mod Steps
 pub mod Stays
 pub mod Taken

@@ -13,8 +13,9 @@ ghost use Rattle.flat_state.specs.PageNames.{number_of};
 ghost use Rattle.page_model.specs.Placement.{Placement, Transfer, slots_of, state_of, is_dirty, page_of, IsThere, mark_of, Starting, start_placement};
 ghost use Rattle.page_model.specs.Moves.{touch, reclaim, done, launch_run};
 ghost use Rattle.page_model.specs.Hands.{hand_move, hand_run, expire, advance};
-ghost use Rattle.page_model.specs.Place.{due_after, moved, place_entry, place_change, filled, put_step, resize, fork_space, enter_space, leave_text};
-ghost use Rattle.page_model.specs.Serve.{force, serve_unit, serve_entry, serve_step, read_step, source_for};
+ghost use Rattle.page_model.specs.Place.{moved, place_entry, place_change, filled, put_step, resize, fork_space, enter_space, leave_text};
+ghost use Rattle.page_model.specs.Reading.{read_step, source_for};
+ghost use Rattle.page_model.specs.Serve.{force, serve_unit, serve_entry, serve_step};
 ghost use Rattle.vm_facts.specs.Swap.{most_in_flight};
 ghost use Rattle.page_model.specs.Swapper.{Runner, In, Out, Nothing, residence_of, is_settled, swap_choice, is_out, put_out_unit};
 ghost use Rattle.page_model.specs.Conditions.{begins, HaveParts, CanBegin, EachPage, AllApart, CanEnter, HasSeat, IsNew, IsSettled, CanPlace, Spares};
@@ -148,13 +149,12 @@ pub fn serving_ends()
 {}
 
 /// The unit that serving asks for is its entry, whether waiting is allowed or not, and where there is none the page
-/// is valid or serving would wait; and its step is what the entry does to a placement, for a page that isn't the
-/// first that is due.
+/// is valid or serving would wait; and its step is what the entry does to a placement, wherever it stands in the journal.
 pub fn serving_units()
     ensures now { (p : Placement) (q : Page) → is_valid (state_of p q) ≡ false → serve_unit p q true ≡ Some (serve_entry p q) }
     ensures unit { (p : Placement) (q : Page) (now : Bool) (e : Entry) → serve_unit p q now ≡ Some e
         → (is_valid (state_of p q) ≡ false) × (e ≡ serve_entry p q) }
-    ensures step { (locked : List Page) (at : ℕ) (p : Placement) (q : Page) → is_valid (state_of p q) ≡ false → due_after p.due q ≡ p.due
+    ensures step { (locked : List Page) (at : ℕ) (p : Placement) (q : Page) → is_valid (state_of p q) ≡ false
         → place_entry locked at p (serve_entry p q) ≡ serve_step p locked q }
 {}
 

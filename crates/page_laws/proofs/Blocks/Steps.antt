@@ -15,7 +15,7 @@ use Rattle.page_model.specs.Moves.{evict, turn, fill_at, begin, join_last, get_o
 use Rattle.page_model.specs.Runs.{run_out, pages_of_run}
 use Rattle.page_model.specs.Hands.{expire, expire_of, expire_if, expire_to, sweep, hand_move, hand_moves, advance}
 use Rattle.page_model.specs.Place.{filled, put_step, put_by, place_entry, moved}
-use Rattle.page_model.specs.Serve.{source_for}
+use Rattle.page_model.specs.Reading.{source_for}
 use Rattle.page_model.specs.Conditions.{EachPage, AllApart, CanEnter, IsSeated, HasSeat, CanPlace, IsShared, EntryShared}
 use Rattle.page_model.specs.Ownership.{OwnsFrames, OneOwner, TextAside}
 use Rattle.page_laws.proofs.Moves.Puts.{KeptByPuts, entry_kept}

@@ -10,7 +10,7 @@ use Rattle.page_model.specs.Placement.{Placement, Transfer, Part, Moving, Errand
 use Rattle.page_model.specs.Moves.{evict, get_one, get_at, get_all, get_run, begin, launch, launch_all, launch_run, land, land_read, land_all, done, done_of}
 use Rattle.page_model.specs.Runs.{run_out, run_in, run_in_by, pages_of_run, run_both, run_up, run_alone, comes_from_swap, comes_from_file, is_near, spare_frames}
 use Rattle.page_model.specs.Hands.{expire, sweep, hand_move}
-use Rattle.page_model.specs.Serve.{read_step, source_for}
+use Rattle.page_model.specs.Reading.{read_step, source_for}
 use Rattle.page_model.specs.Place.{put_step, put_by}
 use Rattle.page_model.specs.Conditions.{EachPage, AllApart, CanEnter, IsSeated, HasSeat}
 use Rattle.page_model.specs.Ownership.{OwnsFrames}

@@ -7,19 +7,20 @@ use Rattle.vm_facts.specs.declared.page.PageState.TheVariants.{Unfilled, Valid, 
 use Rattle.vm_facts.specs.declared.entry.Entry.{Entry}
 use Rattle.vm_facts.specs.declared.entry.Entry.TheVariants as entries
 use Rattle.aout_image.specs.declared.Image.{Image}
-use Rattle.page_model.specs.Pages.{Slot, frame_of, left_state, Filling, Zeros, OfImage, no_slot, stack_in, numbered, is_on_swap}
+use Rattle.page_model.specs.Pages.{Slot, frame_of, left_state, Zeros, no_slot, stack_in, numbered, is_on_swap}
 use Rattle.flat_state.specs.PageNames.{pages_from, number_of, same_page, beside}
-use Rattle.page_model.specs.Placement.{Placement, Transfer, Part, Errand, Reads, Source, Due, Start, CopyOf, filling_by, due_of_page, IsThere, Starting, space_number, spaces_from, due_from, unfilled, new_pages, start_placement, slots_of, slot_of, state_of, mark_of, page_of, filling_of, put}
-use Rattle.page_model.specs.Moves.{evict, evict_at, fill, fill_at, begin, get_one, get_at, get_all, get_run, reclaim, done}
+use Rattle.page_model.specs.Placement.{Placement, Errand, Reads, Source, Due, Start, CopyOf, filling_by, due_of_page, IsThere, Starting, space_number, spaces_from, due_from, unfilled, new_pages, start_placement, slots_of, slot_of, state_of, mark_of, page_of, put, due_page}
+use Rattle.page_model.specs.Moves.{evict, evict_at, fill_at, begin, get_one, get_at, get_all, get_run, reclaim, done}
 use Rattle.page_model.specs.Hands.{hand_move, hand_moves}
 use Rattle.page_model.specs.Place.{filled, due_after, put_step, place_entry}
-use Rattle.page_model.specs.Serve.{force, source_for, read_if, bring_by, feed_by, serve_by, serve_step, is_full}
+use Rattle.page_model.specs.Reading.{source_for, read_errand}
+use Rattle.page_model.specs.Serve.{force, serve_step, after_serving}
 use Rattle.page_model.specs.Conditions.{EachPage, AllApart, CanEnter, CanPlace}
 use Rattle.page_model.specs.Ownership.{OwnsFrames}
 use Rattle.page_model.specs.PageBytes.{IsWritable}
 use Rattle.page_model.specs.Dues.{HasSource, IsDue, DueStand, NotDue, LeavesDue}
 use Rattle.page_model.specs.Runs.{pages_of_run, run_in, run_in_by, run_both, run_up, run_alone, comes_from_swap, comes_from_file, is_near, spare_frames}
-use Rattle.page_laws.proofs.Moves.Puts.{rest_by_puts, get_all_kept, fill_kept}
+use Rattle.page_laws.proofs.Moves.Puts.{rest_by_puts, get_all_kept}
 use Rattle.page_laws.proofs.Ownership.Changes.{numbered_hit, numbered_miss}
 use Rattle.page_laws.proofs.Ownership.Serve.{run_in_enters}
 use Rattle.page_laws.proofs.Lists.Pages.{page_cases, put_state, put_other, put_length}
@@ -32,9 +33,10 @@ use Rattle.page_laws.proofs.Ownership.Pages.{get_owner}
 use Rattle.page_laws.proofs.Lists.Runs.{each_page_imp, each_page_both, pages_from_apart, run_each, run_both_in, run_up_in, run_alone_in, run_apart}
 use Rattle.std.proofs.lemmas.Bool.{and_parts}
 use Rattle.page_laws.proofs.Ownership.Runs.{begin_owner, get_enters_still, get_open_still}
-use Rattle.page_laws.proofs.Moves.Stays.{Stays, steady_stays, move_stays, done_steady, force_stays}
+use Rattle.page_laws.proofs.Moves.Stays.{Stays, steady_stays, move_stays, done_steady, force_stays, Steady}
 use Rattle.page_laws.proofs.Bytes.Pages.{due_other}
 use Rattle.page_laws.proofs.Bytes.Others.{put_steady, reclaim_steady}
+use Rattle.page_laws.proofs.Moves.Cases.{serving_cases, read_frameless}
 
 -- From one placement to the next: of the pages that D names each unfilled one is as it was, and no page of data or
 -- stack is unfilled again.
@@ -274,45 +276,38 @@ run_in_due p q s n = go q n (state_of p q) (spare_frames p)
     go (Stack sid v) n (Coming f) spare = alone (Stack sid v) n
     go (Stack sid v) n (Going f) spare = alone (Stack sid v) n
 
-pub fill_due_list : (p : Placement) (v : Page) → (fill p v).due ≡ p.due
-fill_due_list p v = (fill_kept rest_by_puts p v).due
+-- what isn't due isn't taken off
+pub not_due_after : (ds : List Due) (q : Page) → NotDue ds q → due_after ds q ≡ ds
+not_due_after [] q n = refl
+not_due_after (d ∷ ds) q n = go (same_page (due_page d) q) n
+  where
+    go : (b : Bool) → cond b (Some d) (due_of_page ds q) ≡ None → cond b ds (d ∷ ds) ≡ d ∷ ds
+    go true k = absurd cc
+    go false k = refl
 
-fill_due : (p : Placement) (v : Page) → OwnsFrames p → CanEnter p v → NotDue p.due v → DueStand p → DueStand (fill p v)
-fill_due p v o c n =
-    let same : (fill p v).due ≡ p.due = fill_due_list p v in
-    let k = filled_fills (Waits (fill p v).due) p v o c (not_waiting (fill p v).due v (ap (λ (ds : List Due). due_of_page ds v) same ∙ n)) in
-    due_still p (fill p v) (record { sizes = k.sizes; slots = k.slots; fills = k.fills }) (λ w d e. ap (λ (ds : List Due). due_of_page ds w) (sym same) ∙ e)
+pub not_again : (ds : List Due) (q : Page) → NotDue ds q → NotDue (due_after ds q) q
+not_again ds q n = subst (λ (es : List Due). NotDue es q) (sym (not_due_after ds q n)) n
 
 pub serve_due : (p : Placement) (locked : List Page) (q : Page) → OwnsFrames p → IsThere p q → NotDue p.due q → DueStand p → DueStand (serve_step p locked q)
-serve_due p locked q o there n s = go (state_of p q) refl
+serve_due p locked q o there n s = serving_cases (λ x. DueStand (after_serving p locked x)) p q (λ f e. s)
+    (λ f e. stays_due p (reclaim p q) (steady_stays p (reclaim p q) (reclaim_steady p q)) s) (λ f e. ends) (λ m e. force_due p locked o s)
+    (λ f fs e u x. filled_due p q o (record { there = there; frameless = ap frame_of u }) (not_again p.due q n) s)
+    (λ f fs e r b. ends)
+    (λ f fs e r b. get_run_due p (source_for (state_of p q)) q (pages_of_run q (run_in p q)) o
+    (run_in_enters p q (record { there = there; frameless = read_frameless p q r })) (run_apart q (run_in p q)) (run_in_due p q s n) s)
   where
-    finish : DueStand (done p)
-    finish = stays_due p (done p) (steady_stays p (done p) (done_steady p o)) s
+    ends : DueStand (done p)
+    ends = stays_due p (done p) (steady_stays p (done p) (done_steady p o)) s
 
-    read : (full : Bool) → CanEnter p q → DueStand (read_if p q full)
-    read true c = finish
-    read false c = get_run_due p (source_for (state_of p q)) q (pages_of_run q (run_in p q)) o (run_in_enters p q c) (run_apart q (run_in p q)) (run_in_due p q s n) s
-
-    bring : (t : PageState) (x : Filling) (full : Bool) → CanEnter p q → DueStand (bring_by p q t x full)
-    bring Unfilled Zeros full c = fill_due p q o c n s
-    bring Unfilled OfImage full c = read full c
-    bring (Valid f) x full c = read full c
-    bring (Invalid f) x full c = read full c
-    bring (Coming f) x full c = read full c
-    bring (Going f) x full c = read full c
-    bring OnSwap x full c = read full c
-
-    feed : (t : PageState) (x : Filling) (fr : List ℕ) (full : Bool) → CanEnter p q → DueStand (feed_by p locked q t x fr full)
-    feed t x [] full c = force_due p locked o s
-    feed t x (f ∷ fs) full c = bring t x full c
-
-    go : (t : PageState) → state_of p q ≡ t → DueStand (serve_by p locked q t)
-    go (Valid f) e = s
-    go (Invalid f) e = stays_due p (reclaim p q) (steady_stays p (reclaim p q) (reclaim_steady p q)) s
-    go (Coming f) e = finish
-    go (Going f) e = finish
-    go Unfilled e = feed Unfilled (filling_of p q) p.free (is_full p) (record { there = there; frameless = ap frame_of e })
-    go OnSwap e = feed OnSwap (filling_of p q) p.free (is_full p) (record { there = there; frameless = ap frame_of e })
+-- serving a page that isn't due leaves what is due
+pub serve_dues : (p : Placement) (locked : List Page) (q : Page) → OwnsFrames p → NotDue p.due q → (serve_step p locked q).due ≡ p.due
+serve_dues p locked q o n = serving_cases (λ x. (after_serving p locked x).due ≡ p.due) p q (λ f s. refl)
+    (λ f s. let k : Steady p (reclaim p q) = reclaim_steady p q in k.due) (λ f s. ends)
+    (λ m e. let k : Stays p (force p locked) = force_stays p locked o in k.due) (λ f fs e s x. not_due_after p.due q n) (λ f fs e r b. ends)
+    (λ f fs e r b. get_due_list (pages_of_run q (run_in p q)) (begin p (read_errand p q)) (read_errand p q))
+  where
+    ends : (done p).due ≡ p.due
+    ends = let k : Steady p (done p) = done_steady p o in k.due
 
 -- The start.
 

@@ -1,19 +1,19 @@
 -- Serving leaves the hands as far apart as they were, and as many frames.
-use Rattle.std.proofs.Common.{◌≡◌, ℕ, ◌+◌, ◌/◌, ◌<◌, Bool, true, false, List, [], ◌∷◌, length, refl, sym, ap, ◌∙◌, subst, arith}
+use Rattle.std.proofs.Common.{◌≡◌, ℕ, ◌+◌, ◌/◌, ◌<◌, List, [], ◌∷◌, length, refl, sym, ap, ◌∙◌, subst, arith}
 use Rattle.vm_facts.specs.declared.page.Page.{Page}
-use Rattle.vm_facts.specs.declared.page.PageState.{PageState}
-use Rattle.vm_facts.specs.declared.page.PageState.TheVariants.{Unfilled, Valid, Invalid, Coming, Going, OnSwap}
-use Rattle.page_model.specs.Pages.{Filling, Zeros, OfImage}
-use Rattle.page_model.specs.Placement.{Placement, Transfer, Errand, state_of, filling_of}
+use Rattle.page_model.specs.Placement.{Placement, Errand}
 use Rattle.page_model.specs.Moves.{fill, get_run, reclaim, done}
 use Rattle.page_model.specs.Runs.{pages_of_run, run_in}
 use Rattle.page_model.specs.Hands.{expire, sweep}
-use Rattle.page_model.specs.Serve.{force, force_by, read_step, read_errand, read_if, bring_by, feed_by, serve_by, serve_step, is_full}
+use Rattle.page_model.specs.Reading.{read_step, read_errand}
+use Rattle.page_model.specs.Serve.{force, serve_step, after_serving}
 use Rattle.page_model.specs.Rank.{walk, HandsStand, HasRoom}
 use Rattle.page_model.specs.Ownership.{OwnsFrames}
+use Rattle.page_model.specs.Place.{filled}
 use Rattle.page_laws.proofs.Moves.Puts.{SameRest, rest_by_puts, fill_kept, get_run_kept, reclaim_kept, done_kept}
 use Rattle.page_laws.proofs.Moves.Stays.{Steady, swept_steady}
 use Rattle.page_laws.proofs.Ends.Forcing.{move_stands}
+use Rattle.page_laws.proofs.Moves.Cases.{force_cases, serving_cases}
 
 -- the hands at the same frames, of as many
 pub record SameHands (p q : Placement) : Type 0 where
@@ -38,8 +38,8 @@ hands_stand p q s h = record {
 hands_of : (p q : Placement) → SameRest p q → SameHands p q
 hands_of p q s = record { front = s.front; back = s.back; frames = s.count }
 
-pub fill_hands : (p : Placement) (v : Page) → SameHands p (fill p v)
-fill_hands p v = hands_of p (fill p v) (fill_kept rest_by_puts p v)
+pub filled_hands : (p : Placement) (v : Page) → SameHands p (filled p v)
+filled_hands p v = let s : SameRest p (fill p v) = fill_kept rest_by_puts p v in record { front = s.front; back = s.back; frames = s.count }
 
 pub get_run_hands : (p : Placement) (e : Errand) (qs : List Page) → SameHands p (get_run p e qs)
 get_run_hands p e qs = hands_of p (get_run p e qs) (get_run_kept rest_by_puts p e qs)
@@ -54,74 +54,22 @@ pub done_hands : (p : Placement) → SameHands p (done p)
 done_hands p = hands_of p (done p) (done_kept rest_by_puts p)
 
 pub force_stands : (p : Placement) (locked : List Page) → OwnsFrames p → HandsStand p → HandsStand (force p locked)
-force_stands p locked o h = go p.transfers
-  where
-    go : (ts : List Transfer) → HandsStand (force_by p locked ts)
-    go [] = move_stands p locked h
-    go (t ∷ ts) = hands_stand p (done p) (done_hands p) h
+force_stands p locked o h = force_cases HandsStand p locked (λ e. move_stands p locked h) (λ t ts e. hands_stand p (done p) (done_hands p) h)
 
 pub force_frames : (p : Placement) (locked : List Page) → OwnsFrames p → length (force p locked).holds ≡ length p.holds
-force_frames p locked o = go p.transfers
-  where
-    go : (ts : List Transfer) → length (force_by p locked ts).holds ≡ length p.holds
-    go [] = let s : Steady p (sweep (expire p locked) locked) = swept_steady p locked in ap length s.holds
-    go (t ∷ ts) = let s = done_hands p in s.frames
+force_frames p locked o = force_cases (λ r. length r.holds ≡ length p.holds) p locked
+    (λ e. let s : Steady p (sweep (expire p locked) locked) = swept_steady p locked in ap length s.holds) (λ t ts e. let s = done_hands p in s.frames)
 
 pub serve_stands : (p : Placement) (locked : List Page) (q : Page) → OwnsFrames p → HandsStand p → HandsStand (serve_step p locked q)
-serve_stands p locked q o h = go (state_of p q)
-  where
-    read : (full : Bool) → HandsStand (read_if p q full)
-    read true = hands_stand p (done p) (done_hands p) h
-    read false = hands_stand p (read_step p q) (read_hands p q) h
-
-    bring : (s : PageState) (x : Filling) (full : Bool) → HandsStand (bring_by p q s x full)
-    bring Unfilled Zeros full = hands_stand p (fill p q) (fill_hands p q) h
-    bring Unfilled OfImage full = read full
-    bring (Valid f) x full = read full
-    bring (Invalid f) x full = read full
-    bring (Coming f) x full = read full
-    bring (Going f) x full = read full
-    bring OnSwap x full = read full
-
-    feed : (s : PageState) (x : Filling) (fr : List ℕ) (full : Bool) → HandsStand (feed_by p locked q s x fr full)
-    feed s x [] full = force_stands p locked o h
-    feed s x (f ∷ fs) full = bring s x full
-
-    go : (s : PageState) → HandsStand (serve_by p locked q s)
-    go (Valid f) = h
-    go (Invalid f) = hands_stand p (reclaim p q) (reclaim_hands p q) h
-    go (Coming f) = hands_stand p (done p) (done_hands p) h
-    go (Going f) = hands_stand p (done p) (done_hands p) h
-    go Unfilled = feed Unfilled (filling_of p q) p.free (is_full p)
-    go OnSwap = feed OnSwap (filling_of p q) p.free (is_full p)
+serve_stands p locked q o h = serving_cases (λ x. HandsStand (after_serving p locked x)) p q (λ f s. h)
+    (λ f s. hands_stand p (reclaim p q) (reclaim_hands p q) h) (λ f s. hands_stand p (done p) (done_hands p) h) (λ n e. force_stands p locked o h)
+    (λ f fs e s x. hands_stand p (filled p q) (filled_hands p q) h) (λ f fs e r b. hands_stand p (done p) (done_hands p) h)
+    (λ f fs e r b. hands_stand p (read_step p q) (read_hands p q) h)
 
 pub serve_frames : (p : Placement) (locked : List Page) (q : Page) → OwnsFrames p → length (serve_step p locked q).holds ≡ length p.holds
-serve_frames p locked q o = go (state_of p q)
-  where
-    read : (full : Bool) → length (read_if p q full).holds ≡ length p.holds
-    read true = let s = done_hands p in s.frames
-    read false = let s = read_hands p q in s.frames
-
-    bring : (s : PageState) (x : Filling) (full : Bool) → length (bring_by p q s x full).holds ≡ length p.holds
-    bring Unfilled Zeros full = let s = fill_hands p q in s.frames
-    bring Unfilled OfImage full = read full
-    bring (Valid f) x full = read full
-    bring (Invalid f) x full = read full
-    bring (Coming f) x full = read full
-    bring (Going f) x full = read full
-    bring OnSwap x full = read full
-
-    feed : (s : PageState) (x : Filling) (fr : List ℕ) (full : Bool) → length (feed_by p locked q s x fr full).holds ≡ length p.holds
-    feed s x [] full = force_frames p locked o
-    feed s x (f ∷ fs) full = bring s x full
-
-    go : (s : PageState) → length (serve_by p locked q s).holds ≡ length p.holds
-    go (Valid f) = refl
-    go (Invalid f) = let s = reclaim_hands p q in s.frames
-    go (Coming f) = let s = done_hands p in s.frames
-    go (Going f) = let s = done_hands p in s.frames
-    go Unfilled = feed Unfilled (filling_of p q) p.free (is_full p)
-    go OnSwap = feed OnSwap (filling_of p q) p.free (is_full p)
+serve_frames p locked q o = serving_cases (λ x. length (after_serving p locked x).holds ≡ length p.holds) p q (λ f s. refl)
+    (λ f s. let k = reclaim_hands p q in k.frames) (λ f s. let k = done_hands p in k.frames) (λ n e. force_frames p locked o)
+    (λ f fs e s x. let k = filled_hands p q in k.frames) (λ f fs e r b. let k = done_hands p in k.frames) (λ f fs e r b. let k = read_hands p q in k.frames)
 
 -- as many frames, as much room for what is locked
 pub room_still : (p q : Placement) (locked : List Page) → length q.holds ≡ length p.holds → HasRoom p locked → HasRoom q locked

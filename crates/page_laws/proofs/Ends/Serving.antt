@@ -13,13 +13,15 @@ use Rattle.page_model.specs.Pages.{Slot, Filling, Zeros, OfImage, frame_of, is_v
 use Rattle.flat_state.specs.PageNames.{number_of, beside, pages_from, is_among, same_page}
 use Rattle.vm_facts.specs.Lists.{times, without}
 use Rattle.page_model.specs.Placement.{Placement, Transfer, Part, Errand, Writes, Reads, Source, filling_by, slot_of, state_of, mark_of, filling_of, page_of, IsThere, parts_of, flying, put}
-use Rattle.page_model.specs.Moves.{evict, evict_at, enter, fill, fill_at, begin, get_one, get_at, get_all, land, land_read, land_all, done, done_of, reclaim_to, arrived_mark}
+use Rattle.page_model.specs.Moves.{evict, evict_at, fill_at, begin, get_one, get_at, get_all, land, land_read, land_all, done, done_of, reclaim_to, arrived_mark, reclaim}
 use Rattle.page_model.specs.Runs.{Run, pages_of_run, passing_above, run_both, run_up, run_alone, run_in, run_in_by, comes_from_swap, comes_from_file, spare_frames}
 use Rattle.page_model.specs.Hands.{expire}
-use Rattle.page_model.specs.Serve.{force, force_by, read_step, read_errand, source_for, read_if, feed_by, serve_by, serve_step, is_full}
+use Rattle.page_model.specs.Reading.{read_step, read_errand, source_for}
+use Rattle.page_model.specs.Serve.{force, serve_step, is_full, after_serving}
 use Rattle.page_model.specs.Conditions.{EachPage, AllApart, CanEnter}
 use Rattle.page_model.specs.Rank.{HandsStand, far, far_by, far_transfers, far_parts, rank, rank_by, rank_unfilled, HasRoom}
 use Rattle.page_model.specs.Ownership.{OwnsFrames, IsListed, seats}
+use Rattle.page_model.specs.Place.{filled}
 use Rattle.page_laws.proofs.Lists.Frames.{without_head, some_free}
 use Rattle.vm_facts.proofs.Lists.{times_head}
 use Rattle.page_laws.proofs.Lists.Pages.{page_cases, put_state, put_length, beside_self}
@@ -34,6 +36,7 @@ use Rattle.page_laws.proofs.Ownership.Serve.{run_in_enters}
 use Rattle.page_laws.proofs.Moves.Stays.{Steady, Stays, done_steady, force_stays, expire_transfers}
 use Rattle.page_laws.proofs.Moves.Hands.{reach_le}
 use Rattle.page_laws.proofs.Ends.Forcing.{move_falls}
+use Rattle.page_laws.proofs.Moves.Cases.{force_cases, serving_cases, IsRead, IsSwapped, IsInFile, read_frameless, some_of}
 
 -- What the end of a transfer leaves.
 
@@ -110,11 +113,8 @@ done_falls p locked t ts o e h = subst (λ (n : ℕ). far (done p) locked < n) (
 -- Each unit of forcing falls.
 pub force_falls : (p : Placement) (locked : List Page) → OwnsFrames p → HandsStand p → HasRoom p locked → p.free ≡ []
     → far (force p locked) locked < far p locked
-force_falls p locked o h r e = go p.transfers refl
-  where
-    go : (ts : List Transfer) → p.transfers ≡ ts → far (force_by p locked ts) locked < far p locked
-    go [] t = move_falls p locked o h r e t
-    go (t ∷ ts) k = done_falls p locked t ts o e k
+force_falls p locked o h r e = force_cases (λ x. far x locked < far p locked) p locked (λ t. move_falls p locked o h r e t)
+    (λ t ts k. done_falls p locked t ts o e k)
 
 -- A read: the page is coming, and one more transfer is in flight.
 
@@ -262,11 +262,9 @@ pub done_rest : (p : Placement) (t : Transfer) (ts : List Transfer) → p.transf
 done_rest p t ts e = ap (λ (us : List Transfer). (done_of p us).transfers) e ∙ land_all_rest t.parts p t.errand ts
 
 force_length : (p : Placement) (locked : List Page) → length (force p locked).transfers ≤ length p.transfers + 1
-force_length p locked = go p.transfers refl
-  where
-    go : (ts : List Transfer) → p.transfers ≡ ts → length (force_by p locked ts).transfers ≤ length p.transfers + 1
-    go [] e = let a = sweep_count (expire p locked) locked in let b = ap length (expire_transfers p locked) in omega arith
-    go (t ∷ ts) e = let a = ap length (done_rest p t ts e) in let b = ap length e in omega arith
+force_length p locked = force_cases (λ r. length r.transfers ≤ length p.transfers + 1) p locked
+    (λ e. let a = sweep_count (expire p locked) locked in let b = ap length (expire_transfers p locked) in omega arith)
+    (λ t ts e. let a = ap length (done_rest p t ts e) in let b = ap length e in omega arith)
 
 -- a page in flight lands, or stays as it is
 abbrev pub Landed : PageState → Type 0
@@ -315,7 +313,7 @@ land_all_lands (x ∷ xs) p e ts q was there h = land_all_lands xs (land p e x (
     (land_there p e x (record { errand = e; parts = xs } ∷ ts) q there) (land_lands p e x (record { errand = e; parts = xs } ∷ ts) q was there h)
 
 -- a page on its way is in a transfer
-pub in_flight : (p : Placement) (q : Page) (f : ℕ) → OwnsFrames p → frame_of (state_of p q) ≡ Some f → (state_of p q ≡ Invalid f → ⊥)
+in_flight : (p : Placement) (q : Page) (f : ℕ) → OwnsFrames p → frame_of (state_of p q) ≡ Some f → (state_of p q ≡ Invalid f → ⊥)
     → seats 0 (state_of p q) ≡ 0 → p.transfers ≡ [] → ⊥
 in_flight p q f o e n z t =
     let zero_or : (m : ℕ) → (m ≡ 0) ⊎ (0 < m) = λ m. grind arith in
@@ -327,6 +325,12 @@ in_flight p q f o e n z t =
           omega arith)
       | inr y ↦ n (let k : IsListed p f q = o.listed f q y (o.names q f e) in k.state)
     ]
+
+pub flying_in : (p : Placement) (q : Page) (f : ℕ) → OwnsFrames p → (state_of p q ≡ Coming f) ⊎ (state_of p q ≡ Going f) → p.transfers ≡ [] → ⊥
+flying_in p q f o s = elim s [
+  | inl e ↦ in_flight p q f o (ap frame_of e) (λ k. absurd (let z : Coming f ≡ Invalid f = sym e ∙ k in cc)) (ap (seats 0) e)
+  | inr e ↦ in_flight p q f o (ap frame_of e) (λ k. absurd (let z : Going f ≡ Invalid f = sym e ∙ k in cc)) (ap (seats 0) e)
+]
 
 -- the oldest transfer brings a page in flight nearer
 done_rank : (p : Placement) (locked : List Page) (q : Page) → IsThere p q → (p.transfers ≡ [] → ⊥)
@@ -365,66 +369,83 @@ done_near p locked f fs e = free_near (done p) locked (go p.transfers)
     go [] = some
     go (t ∷ ts) = let h = land_all_free t.parts p t.errand ts in omega (arith, some)
 
-fill_rank : (p : Placement) (locked : List Page) (q : Page) (f : ℕ) (fs : List ℕ) → IsThere p q → p.free ≡ f ∷ fs → rank (fill p q) locked q ≡ 0
-fill_rank p locked q f fs there e = ap (λ (fr : List ℕ). rank (fill_at p q fr) locked q) e
-    ∙ ap (rank_by (enter (evict p f) q f (Valid f) true p.transfers) locked (filling_of (enter (evict p f) q f (Valid f) true p.transfers) q))
-    (put_state (evict p f) q (Valid f) true (let r : EvictRest p (evict p f) = evict_rest p f in let h = r.sizes q in omega arith))
+fill_rank : (p : Placement) (locked : List Page) (q : Page) (f : ℕ) (fs : List ℕ) → IsThere p q → p.free ≡ f ∷ fs → rank (filled p q) locked q ≡ 0
+fill_rank p locked q f fs there e = ap (rank_by (filled p q) locked (filling_of (filled p q) q)) (ap (λ (fr : List ℕ). state_of (fill_at p q fr) q) e
+    ∙ put_state (evict p f) q (Valid f) true (let r : EvictRest p (evict p f) = evict_rest p f in let h = r.sizes q in omega arith))
 
 pub serve_falls : (p : Placement) (locked : List Page) (q : Page) → OwnsFrames p → HandsStand p → HasRoom p locked → IsThere p q
     → is_valid (state_of p q) ≡ false → rank (serve_step p locked q) locked q < rank p locked q
-serve_falls p locked q o h r there nv = go (state_of p q) refl nv
+serve_falls p locked q o h r there nv = serving_cases (λ x. rank (after_serving p locked x) locked q < rank p locked q) p q
+    (λ f s. absurd (let k : true ≡ false = sym (ap is_valid s) ∙ nv in cc)) invalid flies waits zeros full reads
   where
+    invalid : (f : ℕ) → state_of p q ≡ Invalid f → rank (reclaim p q) locked q < rank p locked q
+    invalid f e =
+        let a : state_of (reclaim p q) q ≡ Valid f = ap (λ (s : PageState). state_of (reclaim_to p q s) q) e ∙ put_state p q (Valid f) (mark_of p q) there in
+        let b = ap (rank_by (reclaim p q) locked (filling_of (reclaim p q) q)) a in
+        let c = ap (rank_by p locked (filling_of p q)) e in
+        omega arith
+
+    flies : (f : ℕ) → (state_of p q ≡ Coming f) ⊎ (state_of p q ≡ Going f) → rank (done p) locked q < rank p locked q
+    flies f s =
+        let is : (k : Placement) (x : Filling) → rank_by k locked x (state_of p q) ≡ 2 + length k.transfers =
+        λ k x. elim s [
+          | inl e ↦ ap (rank_by k locked x) e
+          | inr e ↦ ap (rank_by k locked x) e
+        ] in
+        let a = is p (filling_of p q) in
+        let b = done_rank p locked q there (flying_in p q f o s) is in
+        omega arith
+
+    -- what is left as it was, and its rank by its state
     forced : frame_of (state_of p q) ≡ None → slot_of (force p locked) q ≡ slot_of p q
     forced e = let s : Stays p (force p locked) = force_stays p locked o in s.others q e
 
-    -- a page that must be read
-    read : (s : PageState) (x : Filling) (f : ℕ) (fs : List ℕ) (full : Bool) → state_of p q ≡ s → frame_of s ≡ None → p.free ≡ f ∷ fs → is_full p ≡ full
-        → ((k : Placement) → rank_by k locked (filling_of p q) s ≡ 4 + length k.transfers + 2 * far k locked) → rank (read_if p q full) locked q < 4 + length p.transfers + 2 * far p locked
-    read s x f fs true e fl fr full is =
+    waits : frame_of (state_of p q) ≡ None → p.free ≡ [] → rank (force p locked) locked q < rank p locked q
+    waits n e =
+        let a = still_rank p (force p locked) locked q (forced n) in
+        let b = force_falls p locked o h r e in
+        let c = force_length p locked in
+        frameless_falls (state_of p q) (filling_of p q) n a b c
+      where
+        frameless_falls : (s : PageState) (x : Filling) → frame_of s ≡ None → rank (force p locked) locked q ≡ rank_by (force p locked) locked x s
+            → far (force p locked) locked < far p locked → length (force p locked).transfers ≤ length p.transfers + 1
+            → rank (force p locked) locked q < rank_by p locked x s
+        frameless_falls Unfilled Zeros n a b c = omega arith
+        frameless_falls Unfilled OfImage n a b c = omega arith
+        frameless_falls OnSwap x n a b c = omega arith
+        frameless_falls (Valid f) x n a b c = absurd cc
+        frameless_falls (Invalid f) x n a b c = absurd cc
+        frameless_falls (Coming f) x n a b c = absurd cc
+        frameless_falls (Going f) x n a b c = absurd cc
+
+    zeros : (f : ℕ) (fs : List ℕ) → p.free ≡ f ∷ fs → state_of p q ≡ Unfilled → filling_of p q ≡ Zeros → rank (filled p q) locked q < rank p locked q
+    zeros f fs e s x =
+        let a = fill_rank p locked q f fs there e in
+        let b = ap (rank_by p locked (filling_of p q)) s ∙ ap (rank_unfilled p locked) x in
+        omega arith
+
+    -- the rank of a page that is read
+    read_rank : IsRead p q → (k : Placement) → rank_by k locked (filling_of p q) (state_of p q) ≡ 4 + length k.transfers + 2 * far k locked
+    read_rank (IsSwapped e) k = ap (rank_by k locked (filling_of p q)) e
+    read_rank (IsInFile e x) k = ap (rank_by k locked (filling_of p q)) e ∙ ap (rank_unfilled k locked) x
+
+    full : (f : ℕ) (fs : List ℕ) → p.free ≡ f ∷ fs → IsRead p q → is_full p ≡ true → rank (done p) locked q < rank p locked q
+    full f fs fr i b =
         let st : Steady p (done p) = done_steady p o in
-        let a = still_rank p (done p) locked q (st.others q (ap frame_of e ∙ fl)) ∙ ap (rank_by (done p) locked (filling_of p q)) e ∙ is (done p) in
-        let b = done_near p locked f fs fr in
-        let c = full_some p full in
-        let d = less p.transfers refl c in
+        let a = still_rank p (done p) locked q (st.others q (read_frameless p q i)) ∙ read_rank i (done p) in
+        let c = read_rank i p in
+        let d = done_near p locked f fs fr in
+        let e = less p.transfers refl (full_some p b) in
         omega arith
       where
         less : (ts : List Transfer) → p.transfers ≡ ts → 0 < length p.transfers → length (done p).transfers < length p.transfers
         less [] t c = absurd (let z = ap length t in omega arith)
         less (t ∷ ts) k c = let a = ap length (done_rest p t ts k) in let b = ap length k in omega arith
-    read s x f fs false e fl fr full is =
-        let c : CanEnter p q = record { there = there; frameless = ap frame_of e ∙ fl } in
-        let k = coming_rank (read_step p q) locked (filling_of (read_step p q) q) (state_of (read_step p q) q) (read_comes p q o c (let z = ap length fr in omega arith)) in
+
+    reads : (f : ℕ) (fs : List ℕ) → p.free ≡ f ∷ fs → IsRead p q → is_full p ≡ false → rank (read_step p q) locked q < rank p locked q
+    reads f fs fr i b =
+        let c : CanEnter p q = record { there = there; frameless = read_frameless p q i } in
+        let k = coming_rank (read_step p q) locked (filling_of (read_step p q) q) (state_of (read_step p q) q) (read_comes p q o c (some_of p f fs fr)) in
         let l = read_length p q in
+        let d = read_rank i p in
         omega arith
-
-    -- a page that waits for a frame
-    wait : (s : PageState) → state_of p q ≡ s → frame_of s ≡ None → p.free ≡ []
-        → ((k : Placement) → rank_by k locked (filling_of p q) s ≡ 4 + length k.transfers + 2 * far k locked) → rank (force p locked) locked q < 4 + length p.transfers + 2 * far p locked
-    wait s e fl fr is =
-        let a = still_rank p (force p locked) locked q (forced (ap frame_of e ∙ fl)) ∙ ap (rank_by (force p locked) locked (filling_of p q)) e ∙ is (force p locked) in
-        let b = force_falls p locked o h r fr in
-        let c = force_length p locked in
-        omega arith
-
-    unfilled : (x : Filling) (fr : List ℕ) → state_of p q ≡ Unfilled → filling_of p q ≡ x → p.free ≡ fr → rank (feed_by p locked q Unfilled x fr (is_full p)) locked q < rank_unfilled p locked x
-    unfilled Zeros [] e k fr =
-        let a = still_rank p (force p locked) locked q (forced (ap frame_of e)) ∙ ap (rank_by (force p locked) locked (filling_of p q)) e ∙ ap (rank_unfilled (force p locked) locked) k in
-        let b = force_falls p locked o h r fr in
-        omega arith
-    unfilled Zeros (f ∷ fs) e k fr = let a = fill_rank p locked q f fs there fr in omega arith
-    unfilled OfImage [] e k fr = wait Unfilled e refl fr (λ z. ap (rank_unfilled z locked) k)
-    unfilled OfImage (f ∷ fs) e k fr = read Unfilled OfImage f fs (is_full p) e refl fr refl (λ z. ap (rank_unfilled z locked) k)
-
-    swapped : (fr : List ℕ) → state_of p q ≡ OnSwap → p.free ≡ fr → rank (feed_by p locked q OnSwap (filling_of p q) fr (is_full p)) locked q < 4 + length p.transfers + 2 * far p locked
-    swapped [] e fr = wait OnSwap e refl fr (λ z. refl)
-    swapped (f ∷ fs) e fr = read OnSwap (filling_of p q) f fs (is_full p) e refl fr refl (λ z. refl)
-
-    go : (s : PageState) → state_of p q ≡ s → is_valid s ≡ false → rank (serve_by p locked q s) locked q < rank_by p locked (filling_of p q) s
-    go (Valid f) e n = absurd cc
-    go (Invalid f) e n = subst (λ (s : PageState). rank (reclaim_to p q s) locked q < 1) (sym e)
-        (subst (λ (s : PageState). rank_by (reclaim_to p q (Invalid f)) locked (filling_of (reclaim_to p q (Invalid f)) q) s < 1) (sym (put_state p q (Valid f) (mark_of p q) there)) (omega arith))
-    go (Coming f) e n =
-        done_rank p locked q there (in_flight p q f o (ap frame_of e) (λ k. absurd (let z : Coming f ≡ Invalid f = sym e ∙ k in cc)) (ap (seats 0) e)) (λ z x. ap (rank_by z locked x) e)
-    go (Going f) e n = done_rank p locked q there (in_flight p q f o (ap frame_of e) (λ k. absurd (let z : Going f ≡ Invalid f = sym e ∙ k in cc)) (ap (seats 0) e)) (λ z x. ap (rank_by z locked x) e)
-    go Unfilled e n = unfilled (filling_of p q) p.free e refl refl
-    go OnSwap e n = swapped p.free e refl

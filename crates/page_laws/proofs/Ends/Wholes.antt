@@ -1,24 +1,23 @@
 -- Forcing a frame and serving a page as wholes: the numbers that fall bound how many units there are.
 use Rattle.std.proofs.Common.{◌≡◌, ℕ, zero, suc, ◌+◌, ◌<◌, Bool, true, false, List, [], ◌∷◌, length, refl, sym, ◌∙◌, subst, arith}
 use Rattle.vm_facts.specs.declared.page.Page.{Page}
-use Rattle.vm_facts.specs.declared.page.PageState.{PageState}
-use Rattle.vm_facts.specs.declared.page.PageState.TheVariants.{Unfilled, Valid, Invalid, Coming, Going, OnSwap}
-use Rattle.page_model.specs.Pages.{Filling, Zeros, OfImage, is_valid}
+use Rattle.page_model.specs.Pages.{is_valid}
 use Rattle.flat_state.specs.PageNames.{number_of}
-use Rattle.page_model.specs.Placement.{Placement, slots_of, state_of, filling_of, IsThere}
-use Rattle.page_model.specs.Moves.{done}
+use Rattle.page_model.specs.Placement.{Placement, slots_of, state_of, IsThere}
 use Rattle.page_model.specs.Runs.{pages_of_run, run_in}
-use Rattle.page_model.specs.Serve.{force, force_entry, read_errand, read_if, bring_by, feed_by, serve_by, serve_step, serve_entry, is_full}
+use Rattle.page_model.specs.Reading.{read_errand}
+use Rattle.page_model.specs.Serve.{force, force_entry, serve_step, serve_entry, after_serving}
 use Rattle.page_model.specs.Rank.{far, rank, HandsStand, HasRoom, EndsForcing, EndsServing}
 use Rattle.page_model.specs.Ownership.{OwnsFrames}
 use Rattle.page_laws.proofs.Moves.Stays.{Stays, force_stays}
 use Rattle.page_laws.proofs.Blocks.Steps.{SameShape, shape_by_puts}
-use Rattle.page_laws.proofs.Moves.Puts.{done_kept, get_run_kept, fill_kept, reclaim_kept}
+use Rattle.page_laws.proofs.Moves.Puts.{done_kept, get_run_kept, filled_kept, reclaim_kept}
 use Rattle.page_laws.proofs.Ownership.Serve.{force_owner, serve_owner}
 use Rattle.page_laws.proofs.Moves.Locks.{force_spares, serve_spares, spares_both}
 use Rattle.page_laws.proofs.Ends.Serving.{force_falls, serve_falls}
 use Rattle.page_laws.proofs.Ends.Hands.{force_stands, force_frames, serve_stands, serve_frames, room_still}
 use Rattle.page_laws.proofs.Moves.Units.{now_unit}
+use Rattle.page_laws.proofs.Moves.Cases.{serving_cases}
 
 -- Forcing.
 
@@ -62,39 +61,12 @@ forced p locked o h r = forced_within (1 + far p locked) p locked o h r (omega a
 
 -- Serving.
 
-serve_shape : (p : Placement) (locked : List Page) (q : Page) → OwnsFrames p → SameShape p (serve_step p locked q)
-serve_shape p locked q o = go (state_of p q)
-  where
-    finish : SameShape p (done p)
-    finish = done_kept shape_by_puts p
-
-    read : (full : Bool) → SameShape p (read_if p q full)
-    read true = finish
-    read false = get_run_kept shape_by_puts p (read_errand p q) (pages_of_run q (run_in p q))
-
-    zeros : SameShape p (bring_by p q Unfilled Zeros true)
-    zeros = fill_kept shape_by_puts p q
-
-    bring : (s : PageState) (x : Filling) (full : Bool) → SameShape p (bring_by p q s x full)
-    bring Unfilled Zeros full = zeros
-    bring Unfilled OfImage full = read full
-    bring (Valid f) x full = read full
-    bring (Invalid f) x full = read full
-    bring (Coming f) x full = read full
-    bring (Going f) x full = read full
-    bring OnSwap x full = read full
-
-    feed : (s : PageState) (x : Filling) (fr : List ℕ) (full : Bool) → SameShape p (feed_by p locked q s x fr full)
-    feed s x [] full = let k : Stays p (force p locked) = force_stays p locked o in record { sizes = k.sizes; sharing = k.sharing }
-    feed s x (f ∷ fs) full = bring s x full
-
-    go : (s : PageState) → SameShape p (serve_by p locked q s)
-    go (Valid f) = record { sizes = λ w. refl; sharing = λ i. refl }
-    go (Invalid f) = reclaim_kept shape_by_puts p q
-    go (Coming f) = finish
-    go (Going f) = finish
-    go Unfilled = feed Unfilled (filling_of p q) p.free (is_full p)
-    go OnSwap = feed OnSwap (filling_of p q) p.free (is_full p)
+pub serve_shape : (p : Placement) (locked : List Page) (q : Page) → OwnsFrames p → SameShape p (serve_step p locked q)
+serve_shape p locked q o = serving_cases (λ x. SameShape p (after_serving p locked x)) p q (λ f s. record { sizes = λ w. refl; sharing = λ i. refl })
+    (λ f s. reclaim_kept shape_by_puts p q) (λ f s. done_kept shape_by_puts p)
+    (λ n e. let k : Stays p (force p locked) = force_stays p locked o in record { sizes = k.sizes; sharing = k.sharing })
+    (λ f fs e s x. filled_kept shape_by_puts (λ r ds. record { sizes = λ w. refl; sharing = λ i. refl }) p q) (λ f fs e r b. done_kept shape_by_puts p)
+    (λ f fs e r b. get_run_kept shape_by_puts p (read_errand p q) (pages_of_run q (run_in p q)))
 
 -- each segment is as long as before
 pub serve_sizes : (p : Placement) (locked : List Page) (q : Page) → OwnsFrames p → (w : Page)

@@ -13,7 +13,7 @@ use Rattle.page_model.specs.Placement.{Placement, Reads, Source, slot_of, state_
 use Rattle.page_model.specs.Moves.{evict, evict_at, fill, fill_at, begin, get_one, get_at, get_all, done, reclaim}
 use Rattle.page_model.specs.Hands.{hand_move, hand_moves}
 use Rattle.page_model.specs.Place.{put_step, place_entry}
-use Rattle.page_model.specs.Serve.{source_for, read_errand}
+use Rattle.page_model.specs.Reading.{source_for, read_errand}
 use Rattle.page_model.specs.Conditions.{EachPage, AllApart, CanEnter, CanPlace}
 use Rattle.page_model.specs.Ownership.{OwnsFrames, IsListed, is_marked_dirty}
 use Rattle.page_laws.specs.Leaving.{IsTaken, takes_frames}

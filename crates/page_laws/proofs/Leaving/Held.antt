@@ -16,7 +16,7 @@ use Rattle.page_model.specs.Moves.{launch_all, launch_run, land, land_read, land
 use Rattle.page_model.specs.Runs.{pages_of_run, run_out}
 use Rattle.page_model.specs.Hands.{expire, expire_of, expire_if, expire_to, sweep, hand_move, hand_moves}
 use Rattle.page_model.specs.Place.{put_step, put_by, place_entry}
-use Rattle.page_model.specs.Serve.{source_for, read_errand}
+use Rattle.page_model.specs.Reading.{source_for, read_errand}
 use Rattle.page_model.specs.Conditions.{EachPage, CanPlace}
 use Rattle.page_model.specs.Ownership.{OwnsFrames, IsListed, seats}
 use Rattle.page_laws.specs.Leaving.{IsUnwritten, IsWritten}

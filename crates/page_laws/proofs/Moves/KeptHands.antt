@@ -8,12 +8,12 @@ use Rattle.page_model.specs.Placement.{Placement}
 use Rattle.page_model.specs.Moves.{get_run, done}
 use Rattle.page_model.specs.Hands.{hand_move, hand_moves}
 use Rattle.page_model.specs.Place.{filled, put_step, place_entry}
-use Rattle.page_model.specs.Serve.{read_errand}
+use Rattle.page_model.specs.Reading.{read_errand}
 use Rattle.page_model.specs.Rank.{HandsStand}
 use Rattle.page_model.specs.Ownership.{OwnsFrames}
 use Rattle.page_laws.proofs.Moves.Stays.{Steady, Stays, move_stays}
 use Rattle.page_laws.proofs.Ends.Forcing.{move_stands}
-use Rattle.page_laws.proofs.Ends.Hands.{SameHands, hands_self, hands_stand, fill_hands, get_run_hands, reclaim_hands, done_hands}
+use Rattle.page_laws.proofs.Ends.Hands.{SameHands, hands_self, hands_stand, filled_hands, get_run_hands, reclaim_hands, done_hands}
 use Rattle.page_laws.proofs.Bytes.Others.{put_steady}
 
 pub record KeepsHands (p q : Placement) : Type 0 where
@@ -34,7 +34,7 @@ pub steady_keep : (p q : Placement) → Steady p q → KeepsHands p q
 steady_keep p q s = keeps_same p q (record { front = s.front; back = s.back; frames = ap length s.holds })
 
 fill_keep : (p : Placement) (v : Page) → KeepsHands p (filled p v)
-fill_keep p v = let s = fill_hands p v in keeps_same p (filled p v) (record { front = s.front; back = s.back; frames = s.frames })
+fill_keep p v = keeps_same p (filled p v) (filled_hands p v)
 
 get_keep : (p : Placement) (v : Page) (qs : List Page) → KeepsHands p (get_run p (read_errand p v) qs)
 get_keep p v qs = keeps_same p (get_run p (read_errand p v) qs) (get_run_hands p (read_errand p v) qs)

@@ -3,19 +3,19 @@ use Rattle.std.proofs.Common.{◌≡◌, ◌≢◌, inl, inr, ℕ, ◌<◌, ◌&
 use Rattle.vm_facts.specs.declared.page.Page.{Page}
 use Rattle.vm_facts.specs.declared.page.PageState.{PageState}
 use Rattle.vm_facts.specs.declared.page.PageState.TheVariants.{Unfilled, Valid, Invalid, Coming, Going, OnSwap}
-use Rattle.page_model.specs.Pages.{Slot, Filling, Zeros, OfImage, frame_of, is_valid, left_state, written_mark}
+use Rattle.page_model.specs.Pages.{Slot, frame_of, is_valid, left_state, written_mark}
 use Rattle.flat_state.specs.PageNames.{number_of, beside, is_among, same_page}
 use Rattle.vm_facts.specs.Lists.{times}
-use Rattle.page_model.specs.Placement.{Placement, Transfer, Part, Errand, Writes, Reads, Source, state_of, mark_of, is_dirty, filling_of, page_of, IsThere, moving_state, put}
+use Rattle.page_model.specs.Placement.{Placement, Transfer, Part, Errand, Writes, Reads, Source, state_of, mark_of, is_dirty, page_of, IsThere, moving_state, put}
 use Rattle.page_model.specs.Moves.{evict, evict_at, enter, fill, fill_at, begin, join_last, get_one, get_at, get_all, launch, launch_to, launch_all, land, land_read, land_all, done, done_of, reclaim, reclaim_to, retire_to, arrived_mark}
 use Rattle.page_model.specs.Runs.{run_out, pages_of_run, goes_along, is_idle, is_idle_by, is_near, most_written, run_in}
 use Rattle.page_model.specs.Hands.{expire, expire_of, expire_if, expire_to, sweep, hand_move}
-use Rattle.page_model.specs.Serve.{force, force_by, read_step, read_errand, source_for, read_if, bring_by, feed_by, serve_by, serve_step, is_full}
+use Rattle.page_model.specs.Reading.{read_step, read_errand, source_for}
+use Rattle.page_model.specs.Serve.{force, serve_step, after_serving}
 use Rattle.page_model.specs.Conditions.{EachPage, AllApart, CanEnter, Spares}
 use Rattle.page_model.specs.Ownership.{OwnsFrames, IsListed}
 use Rattle.page_laws.proofs.Lists.Pages.{page_cases}
 use Rattle.page_laws.proofs.Lists.Parts.{IsOpen, begin_open}
-use Rattle.page_laws.proofs.Lists.Local.{none_some}
 use Rattle.page_laws.proofs.Moves.Steps.{put_other_state, evict_other}
 use Rattle.page_laws.proofs.Ownership.Pages.{get_owner}
 use Rattle.page_laws.proofs.Lists.Runs.{each_page_imp, each_page_both, run_each, run_both_in, run_apart}
@@ -24,6 +24,7 @@ use Rattle.page_laws.proofs.Lists.Frames.{some_free}
 use Rattle.page_laws.proofs.Ownership.Runs.{begin_owner, get_enters_still, get_open_still, Landing, landing_state, land_owner, land_transfers}
 use Rattle.page_laws.proofs.Ownership.Serve.{run_in_enters}
 use Rattle.page_laws.proofs.Moves.Taken.{sweep_cases}
+use Rattle.page_laws.proofs.Moves.Cases.{force_cases, serving_cases, read_frameless, frameless_not}
 
 pub spares_both : (p q r : Placement) (locked : List Page) → Spares p q locked → Spares q r locked → Spares p r locked
 spares_both p q r locked a b w i v = b w i (a w i v)
@@ -41,10 +42,6 @@ put_spares p v s m locked n w i h = elim (page_cases w v) [
 
 put_invalid : (p : Placement) (v : Page) (s : PageState) (m : Bool) (locked : List Page) → is_valid (state_of p v) ≡ false → Spares p (put p v s m) locked
 put_invalid p v s m locked e = put_spares p v s m locked (λ i. not_valid (state_of p v) e)
-
-frameless_not : (s : PageState) → frame_of s ≡ None → is_valid s ≡ false
-frameless_not (Valid f) e = none_some f (sym e)
-frameless_not _ e = refl
 
 -- Taking a frame.
 
@@ -203,36 +200,10 @@ done_spares p locked o = go p.transfers refl
 -- Forcing and serving.
 
 pub force_spares : (p : Placement) (locked : List Page) → OwnsFrames p → Spares p (force p locked) locked
-force_spares p locked o = go p.transfers
-  where
-    go : (ts : List Transfer) → Spares p (force_by p locked ts) locked
-    go [] = move_spares p locked
-    go (t ∷ ts) = done_spares p locked o
+force_spares p locked o = force_cases (λ r. Spares p r locked) p locked (λ e. move_spares p locked) (λ t ts e. done_spares p locked o)
 
 pub serve_spares : (p : Placement) (locked : List Page) (q : Page) → OwnsFrames p → IsThere p q → Spares p (serve_step p locked q) locked
-serve_spares p locked q o there = go (state_of p q) refl
-  where
-    read : (full : Bool) → CanEnter p q → Spares p (read_if p q full) locked
-    read true c = done_spares p locked o
-    read false c = read_spares p q locked o c
-
-    bring : (s : PageState) (x : Filling) (full : Bool) → CanEnter p q → Spares p (bring_by p q s x full) locked
-    bring Unfilled Zeros full c = fill_spares p q locked o c
-    bring Unfilled OfImage full c = read full c
-    bring (Valid f) x full c = read full c
-    bring (Invalid f) x full c = read full c
-    bring (Coming f) x full c = read full c
-    bring (Going f) x full c = read full c
-    bring OnSwap x full c = read full c
-
-    feed : (s : PageState) (x : Filling) (fr : List ℕ) (full : Bool) → CanEnter p q → Spares p (feed_by p locked q s x fr full) locked
-    feed s x [] full c = force_spares p locked o
-    feed s x (f ∷ fs) full c = bring s x full c
-
-    go : (s : PageState) → state_of p q ≡ s → Spares p (serve_by p locked q s) locked
-    go (Valid f) e = λ w i h. h
-    go (Invalid f) e = reclaim_spares p q locked
-    go (Coming f) e = done_spares p locked o
-    go (Going f) e = done_spares p locked o
-    go Unfilled e = feed Unfilled (filling_of p q) p.free (is_full p) (record { there = there; frameless = ap frame_of e })
-    go OnSwap e = feed OnSwap (filling_of p q) p.free (is_full p) (record { there = there; frameless = ap frame_of e })
+serve_spares p locked q o there = serving_cases (λ x. Spares p (after_serving p locked x) locked) p q (λ f s w i h. h) (λ f s. reclaim_spares p q locked)
+    (λ f s. done_spares p locked o) (λ n e. force_spares p locked o)
+    (λ f fs e s x. fill_spares p q locked o (record { there = there; frameless = ap frame_of s })) (λ f fs e r b. done_spares p locked o)
+    (λ f fs e r b. read_spares p q locked o (record { there = there; frameless = read_frameless p q r }))

@@ -1,5 +1,5 @@
 -- Each transfer has a page.
-use Rattle.std.proofs.Common.{◌≡◌, inl, inr, ℕ, zero, suc, ◌+◌, ◌<◌, Bool, true, false, List, [], ◌∷◌, ◌++◌, length, refl, sym, subst, arith}
+use Rattle.std.proofs.Common.{◌≡◌, inl, inr, ℕ, zero, suc, ◌+◌, ◌<◌, Bool, true, false, List, [], ◌∷◌, ◌++◌, length, sym, subst, arith}
 use Rattle.std.proofs.lemmas.List.{length-append}
 use Rattle.vm_facts.specs.declared.page.Page.{Page}
 use Rattle.vm_facts.specs.declared.page.Page.TheVariants.{Data, Stack, Text}
@@ -7,14 +7,14 @@ use Rattle.vm_facts.specs.declared.page.PageState.{PageState}
 use Rattle.vm_facts.specs.declared.page.PageState.TheVariants.{Unfilled, Valid, Invalid, Coming, Going, OnSwap}
 use Rattle.vm_facts.specs.declared.entry.Entry.{Entry}
 use Rattle.vm_facts.specs.declared.entry.Entry.TheVariants as entries
-use Rattle.page_model.specs.Pages.{Filling, Zeros, OfImage}
 use Rattle.flat_state.specs.PageNames.{beside, pages_from, number_of}
-use Rattle.page_model.specs.Placement.{Placement, Transfer, Part, Errand, Writes, state_of, filling_of, is_dirty}
+use Rattle.page_model.specs.Placement.{Placement, Transfer, Part, Errand, Writes, state_of, is_dirty}
 use Rattle.page_model.specs.Moves.{fill, fill_at, begin, join_last, get_one, get_at, get_all, get_run, launch, launch_to, launch_all, launch_run, done, done_of, reclaim, reclaim_to, retire, retire_to}
 use Rattle.page_model.specs.Runs.{run_in, run_in_by, run_out, spare_frames}
 use Rattle.page_model.specs.Hands.{expire, sweep, hand_move, hand_moves}
 use Rattle.page_model.specs.Place.{put_step, put_by, place_entry}
-use Rattle.page_model.specs.Serve.{force, force_by, read_errand, read_if, bring_by, feed_by, serve_by, serve_step, is_full}
+use Rattle.page_model.specs.Reading.{read_errand}
+use Rattle.page_model.specs.Serve.{force, serve_step, after_serving}
 use Rattle.page_model.specs.Conditions.{EachPage, IsSeated, HasSeat, CanPlace, HaveParts, CanBegin}
 use Rattle.page_model.specs.Ownership.{OwnsFrames}
 use Rattle.page_laws.proofs.Ownership.Pages.{expire_owner}
@@ -22,6 +22,7 @@ use Rattle.page_laws.proofs.Ownership.Hands.{run_out_seats, move_owner}
 use Rattle.page_laws.proofs.Moves.Stays.{expire_transfers}
 use Rattle.page_laws.proofs.Moves.Transfers.{land_all_rest}
 use Rattle.page_laws.proofs.Moves.Taken.{taken_seat, sweep_cases}
+use Rattle.page_laws.proofs.Moves.Cases.{force_cases, serving_cases, some_of}
 
 -- a part joins the youngest transfer, also one that has none yet
 joined : (ts : List Transfer) (e : Errand) (x : Part) → HaveParts ts → HaveParts (join_last ts e x)
@@ -151,11 +152,7 @@ entry_parts locked at p entries.Done o c b h = done_parts p h
 entry_parts locked at p _ o c b h = h
 
 force_parts : (p : Placement) (locked : List Page) → OwnsFrames p → HaveParts p.transfers → HaveParts (force p locked).transfers
-force_parts p locked o h = go p.transfers
-  where
-    go : (ts : List Transfer) → HaveParts (force_by p locked ts).transfers
-    go [] = move_parts p locked o h
-    go (t ∷ ts) = done_parts p h
+force_parts p locked o h = force_cases (λ r. HaveParts r.transfers) p locked (λ e. move_parts p locked o h) (λ t ts e. done_parts p h)
 
 pub run_some : (p : Placement) (q : Page) (s : PageState) (spare : ℕ) → 0 < (run_in_by p q s spare).n
 run_some p (Text image v) OnSwap spare = omega arith
@@ -166,29 +163,6 @@ run_some p (Stack sid v) OnSwap spare = omega arith
 run_some p (Stack sid v) _ spare = omega arith
 
 pub serve_parts : (p : Placement) (locked : List Page) (q : Page) → OwnsFrames p → HaveParts p.transfers → HaveParts (serve_step p locked q).transfers
-serve_parts p locked q o h = go (state_of p q)
-  where
-    read : (full : Bool) → 0 < length p.free → HaveParts (read_if p q full).transfers
-    read true l = done_parts p h
-    read false l = get_run_parts p (read_errand p q) q (run_in p q).lo (run_in p q).n (run_some p q (state_of p q) (spare_frames p)) l h
-
-    bring : (s : PageState) (x : Filling) (full : Bool) → 0 < length p.free → HaveParts (bring_by p q s x full).transfers
-    bring Unfilled Zeros full l = fill_parts p q h
-    bring Unfilled OfImage full l = read full l
-    bring (Valid f) x full l = read full l
-    bring (Invalid f) x full l = read full l
-    bring (Coming f) x full l = read full l
-    bring (Going f) x full l = read full l
-    bring OnSwap x full l = read full l
-
-    feed : (s : PageState) (x : Filling) (fr : List ℕ) (full : Bool) → p.free ≡ fr → HaveParts (feed_by p locked q s x fr full).transfers
-    feed s x [] full e = force_parts p locked o h
-    feed s x (f ∷ fs) full e = bring s x full (subst (λ (fr : List ℕ). 0 < length fr) (sym e) (omega arith))
-
-    go : (s : PageState) → HaveParts (serve_by p locked q s).transfers
-    go (Valid f) = h
-    go (Invalid f) = reclaim_parts p q h
-    go (Coming f) = done_parts p h
-    go (Going f) = done_parts p h
-    go Unfilled = feed Unfilled (filling_of p q) p.free (is_full p) refl
-    go OnSwap = feed OnSwap (filling_of p q) p.free (is_full p) refl
+serve_parts p locked q o h = serving_cases (λ x. HaveParts (after_serving p locked x).transfers) p q (λ f s. h) (λ f s. reclaim_parts p q h)
+    (λ f s. done_parts p h) (λ n e. force_parts p locked o h) (λ f fs e s x. fill_parts p q h) (λ f fs e r b. done_parts p h)
+    (λ f fs e r b. get_run_parts p (read_errand p q) q (run_in p q).lo (run_in p q).n (run_some p q (state_of p q) (spare_frames p)) (some_of p f fs e) h)

@@ -16,7 +16,7 @@ use Rattle.page_model.specs.Placement.{Placement, Due, Transfer, Part, Errand, W
 use Rattle.page_model.specs.Moves.{evict, evict_at, enter, turn, join_last, touch_all, fill, fill_at, begin, get_one, get_at, get_all, get_run, launch, launch_to, launch_all, launch_run, arrived_mark, land, land_read, land_all, done, done_of, reclaim, reclaim_to, retire, retire_to, touch, touch_to, drop_page, drop_at, drop_all, leave_page, leave_by, leave_all, listed}
 use Rattle.page_model.specs.Runs.{run_out, pages_of_run}
 use Rattle.page_model.specs.Hands.{expire, expire_of, expire_if, expire_to, sweep, advance, hand_move, hand_moves}
-use Rattle.page_model.specs.Serve.{read_errand}
+use Rattle.page_model.specs.Reading.{read_errand}
 use Rattle.page_laws.proofs.Lists.Frames.{length_set_frame}
 use Rattle.page_model.specs.Place.{due_after, filled, put_by, put_step, moved, place_entry}
 use Rattle.page_laws.proofs.Moves.Taken.{sweep_cases}

@@ -9,13 +9,14 @@ use Rattle.page_model.specs.Placement.{Placement, Transfer, Part, Errand, Writes
 use Rattle.page_model.specs.Moves.{turn, begin, join_last, launch, launch_to, launch_all, launch_run, land, land_read, land_all, done, done_of, retire, retire_to, arrived_mark}
 use Rattle.page_model.specs.Runs.{run_out, pages_of_run}
 use Rattle.page_model.specs.Hands.{expire, expire_of, expire_if, expire_to, sweep, hand_move}
-use Rattle.page_model.specs.Serve.{force, force_by}
+use Rattle.page_model.specs.Serve.{force}
 use Rattle.page_model.specs.Ownership.{OwnsFrames}
 use Rattle.page_laws.proofs.Lists.Pages.{page_cases, put_state, put_other, put_length, put_sharers}
 use Rattle.page_laws.proofs.Lists.Local.{none_some}
 use Rattle.page_laws.proofs.Moves.Steps.{page_in, put_other_state}
 use Rattle.page_laws.proofs.Ownership.Runs.{Landing, landing_frame, land_owner, land_transfers}
 use Rattle.page_laws.proofs.Moves.Taken.{sweep_cases}
+use Rattle.page_laws.proofs.Moves.Cases.{force_cases}
 
 pub record Steady (p q : Placement) : Type 0 where
   pub sizes : (w : Page) → length (slots_of q w) ≡ length (slots_of p w)
@@ -195,8 +196,4 @@ done_steady p o = go p.transfers refl
     go (t ∷ ts) e = land_all_steady t.parts p t.errand ts o e
 
 pub force_stays : (p : Placement) (locked : List Page) → OwnsFrames p → Stays p (force p locked)
-force_stays p locked o = go p.transfers
-  where
-    go : (ts : List Transfer) → Stays p (force_by p locked ts)
-    go [] = move_stays p locked
-    go (t ∷ ts) = steady_stays p (done p) (done_steady p o)
+force_stays p locked o = force_cases (Stays p) p locked (λ e. move_stays p locked) (λ t ts e. steady_stays p (done p) (done_steady p o))

@@ -7,18 +7,19 @@ use Rattle.vm_facts.specs.declared.page.PageState.{PageState}
 use Rattle.vm_facts.specs.declared.page.PageState.TheVariants.{Unfilled, Valid, Invalid, Coming, Going, OnSwap}
 use Rattle.vm_facts.specs.declared.entry.Entry.{Entry}
 use Rattle.vm_facts.specs.declared.entry.Entry.TheVariants as entries
-use Rattle.page_model.specs.Pages.{Filling, Zeros, OfImage}
 use Rattle.flat_state.specs.PageNames.{pages_from, number_of}
-use Rattle.page_model.specs.Placement.{Placement, Transfer, Part, Errand, Writes, state_of, filling_of, is_dirty}
+use Rattle.page_model.specs.Placement.{Placement, Transfer, Part, Errand, Writes, state_of, is_dirty}
 use Rattle.page_model.specs.Moves.{fill, fill_at, begin, join_last, get_one, get_at, get_all, get_run, launch, launch_to, launch_all, launch_run, land_all, land, done, done_of, reclaim, reclaim_to, retire, retire_to}
 use Rattle.page_model.specs.Runs.{pages_of_run, run_in, run_out}
 use Rattle.page_model.specs.Hands.{expire, sweep, hand_move, hand_moves}
 use Rattle.page_model.specs.Place.{put_step, put_by, place_entry}
-use Rattle.page_model.specs.Serve.{force, force_by, read_errand, read_if, bring_by, feed_by, serve_by, serve_step, is_full}
+use Rattle.page_model.specs.Reading.{read_errand}
+use Rattle.page_model.specs.Serve.{force, serve_step, after_serving}
 use Rattle.vm_facts.specs.Swap.{most_in_flight}
 use Rattle.page_model.specs.Conditions.{begins}
 use Rattle.page_laws.proofs.Moves.Stays.{expire_transfers}
 use Rattle.page_laws.proofs.Moves.Taken.{sweep_cases}
+use Rattle.page_laws.proofs.Moves.Cases.{force_cases, serving_cases}
 
 -- what a part joins is as long as before
 join_count : (ts : List Transfer) (e : Errand) (x : Part) → 0 < length ts → length (join_last ts e x) ≡ length ts
@@ -130,40 +131,18 @@ entry_count locked at p (entries.Put q n) = put_count p q (pages_from q (number_
 entry_count locked at p entries.Done = let k = done_count p in omega arith
 entry_count locked at p _ = omega arith
 
+finish_few : (p : Placement) → length p.transfers ≤ most_in_flight → length (done p).transfers ≤ most_in_flight
+finish_few p l = let k = done_count p in omega arith
+
 -- Forcing begins a transfer only where none is in flight.
 pub force_few : (p : Placement) (locked : List Page) → length p.transfers ≤ most_in_flight → length (force p locked).transfers ≤ most_in_flight
-force_few p locked l = go p.transfers refl
-  where
-    go : (ts : List Transfer) → p.transfers ≡ ts → length (force_by p locked ts).transfers ≤ most_in_flight
-    go [] e = let k = move_count p locked in let z = ap length e in omega arith
-    go (t ∷ ts) e = let k = done_count p in omega arith
+force_few p locked l = force_cases (λ r. length r.transfers ≤ most_in_flight) p locked
+    (λ e. let k = move_count p locked in let z = ap length e in omega arith) (λ t ts e. finish_few p l)
 
 -- Serving begins one only where fewer than 16 are.
 pub serve_few : (p : Placement) (locked : List Page) (q : Page) → length p.transfers ≤ most_in_flight
     → length (serve_step p locked q).transfers ≤ most_in_flight
-serve_few p locked q l = go (state_of p q)
-  where
-    read : (full : Bool) → is_full p ≡ full → length (read_if p q full).transfers ≤ most_in_flight
-    read true e = let k = done_count p in omega arith
-    read false e = let k = get_run_count p (read_errand p q) (pages_of_run q (run_in p q)) in let m = leb-false 16 (length p.transfers) e in omega arith
-
-    bring : (s : PageState) (x : Filling) (full : Bool) → is_full p ≡ full → length (bring_by p q s x full).transfers ≤ most_in_flight
-    bring Unfilled Zeros full e = let k = fill_count p q in omega arith
-    bring Unfilled OfImage full e = read full e
-    bring (Valid f) x full e = read full e
-    bring (Invalid f) x full e = read full e
-    bring (Coming f) x full e = read full e
-    bring (Going f) x full e = read full e
-    bring OnSwap x full e = read full e
-
-    feed : (s : PageState) (x : Filling) (fr : List ℕ) → length (feed_by p locked q s x fr (is_full p)).transfers ≤ most_in_flight
-    feed s x [] = force_few p locked l
-    feed s x (f ∷ fs) = bring s x (is_full p) refl
-
-    go : (s : PageState) → length (serve_by p locked q s).transfers ≤ most_in_flight
-    go (Valid f) = l
-    go (Invalid f) = let k = reclaim_count p q in omega arith
-    go (Coming f) = let k = done_count p in omega arith
-    go (Going f) = let k = done_count p in omega arith
-    go Unfilled = feed Unfilled (filling_of p q) p.free
-    go OnSwap = feed OnSwap (filling_of p q) p.free
+serve_few p locked q l = serving_cases (λ x. length (after_serving p locked x).transfers ≤ most_in_flight) p q (λ f s. l)
+    (λ f s. let k = reclaim_count p q in omega arith) (λ f s. finish_few p l) (λ n e. force_few p locked l)
+    (λ f fs e s x. let k = fill_count p q in omega arith) (λ f fs e r b. finish_few p l)
+    (λ f fs e r b. let k = get_run_count p (read_errand p q) (pages_of_run q (run_in p q)) in let m = leb-false 16 (length p.transfers) b in omega arith)

@@ -12,7 +12,7 @@ use Rattle.page_model.specs.Placement.{Placement, state_of}
 use Rattle.page_model.specs.Moves.{fill, touch_all}
 use Rattle.page_model.specs.Place.{filled, moved, data_from, stack_from, data_count, stack_count, give_up_unless, enter_image, fork_space, place_change, place_entry, place_step, space_of_process, facts_numbered}
 use Rattle.flat_state.specs.Change.{is_borrower}
-use Rattle.page_model.specs.Serve.{source_for}
+use Rattle.page_model.specs.Reading.{source_for}
 use Rattle.page_model.specs.Conditions.{AtRest, AllAtRest, CanEnter, IsNew, IsSettled, LosesPages, CanPlace, CanChange}
 use Rattle.page_model.specs.Ownership.{OwnsFrames}
 use Rattle.page_laws.proofs.Ownership.Pages.{fill_owner, reclaim_owner}

@@ -1,29 +1,28 @@
 -- Forcing a frame and serving a page keep the ownership of frames.
-use Rattle.std.proofs.Common.{◌≡◌, ◌⊎◌, inl, inr, ℕ, ◌<◌, ◌≤◌, nat_lt, min, Bool, true, false, List, [], ◌∷◌, length, refl, sym, ap, ◌∙◌, arith}
+use Rattle.std.proofs.Common.{◌≡◌, ◌⊎◌, inl, inr, ℕ, ◌<◌, ◌≤◌, nat_lt, min, true, false, List, [], ◌∷◌, length, refl, sym, ap, ◌∙◌, arith}
 use Rattle.std.proofs.lemmas.List.{get_or_past}
 use Rattle.std.proofs.lemmas.Bool.{ltb-true, and_parts}
 use Rattle.vm_facts.specs.declared.page.Page.{Page}
 use Rattle.vm_facts.specs.declared.page.Page.TheVariants.{Data, Stack, Text}
 use Rattle.vm_facts.specs.declared.page.PageState.{PageState}
 use Rattle.vm_facts.specs.declared.page.PageState.TheVariants.{Unfilled, Valid, Invalid, Coming, Going, OnSwap}
-use Rattle.page_model.specs.Pages.{Slot, no_slot, Filling, Zeros, OfImage, frame_of, is_on_swap, is_unfilled}
+use Rattle.page_model.specs.Pages.{Slot, no_slot, frame_of, is_on_swap, is_unfilled}
 use Rattle.flat_state.specs.PageNames.{number_of, beside}
-use Rattle.page_model.specs.Placement.{Placement, Transfer, slots_of, state_of, filling_of, IsThere}
+use Rattle.page_model.specs.Placement.{Placement, slots_of, state_of, IsThere}
 use Rattle.page_model.specs.Runs.{pages_of_run, run_in, run_in_by, run_both, run_up, run_alone, comes_from_swap, comes_from_file, is_near, spare_frames}
-use Rattle.page_model.specs.Serve.{force, force_by, read_step, source_for, read_if, bring_by, feed_by, serve_by, serve_step, is_full}
+use Rattle.page_model.specs.Reading.{read_step, source_for}
+use Rattle.page_model.specs.Serve.{force, serve_step, after_serving}
 use Rattle.page_model.specs.Ownership.{OwnsFrames}
 use Rattle.page_model.specs.Conditions.{EachPage, CanEnter}
-use Rattle.page_laws.proofs.Ownership.Pages.{fill_owner, reclaim_owner}
+use Rattle.page_laws.proofs.Ownership.Pages.{reclaim_owner}
 use Rattle.page_laws.proofs.Lists.Runs.{run_each, run_both_in, run_up_in, run_alone_in, run_apart}
 use Rattle.page_laws.proofs.Ownership.Runs.{get_run_owner, done_owner}
 use Rattle.page_laws.proofs.Ownership.Hands.{move_owner}
+use Rattle.page_laws.proofs.Moves.Cases.{force_cases, serving_cases, read_frameless}
+use Rattle.page_laws.proofs.Ownership.Entries.{filled_owner}
 
 pub force_owner : (p : Placement) (locked : List Page) → OwnsFrames p → OwnsFrames (force p locked)
-force_owner p locked o = go p.transfers
-  where
-    go : (ts : List Transfer) → OwnsFrames (force_by p locked ts)
-    go [] = move_owner p locked o
-    go (t ∷ ts) = done_owner p o
+force_owner p locked o = force_cases OwnsFrames p locked (λ e. move_owner p locked o) (λ t ts e. done_owner p o)
 
 -- a page in another state than that of one that isn't there is there
 pub state_there : (p : Placement) (q : Page) → (state_of p q ≡ Unfilled → ⊥) → IsThere p q
@@ -90,29 +89,6 @@ read_owner p q o c = get_run_owner p (source_for (state_of p q)) q (pages_of_run
 
 -- one unit of serving
 pub serve_owner : (p : Placement) (locked : List Page) (q : Page) → OwnsFrames p → IsThere p q → OwnsFrames (serve_step p locked q)
-serve_owner p locked q o there = go (state_of p q) refl
-  where
-    read : (full : Bool) → CanEnter p q → OwnsFrames (read_if p q full)
-    read true c = done_owner p o
-    read false c = read_owner p q o c
-
-    bring : (s : PageState) (x : Filling) (full : Bool) → CanEnter p q → OwnsFrames (bring_by p q s x full)
-    bring Unfilled Zeros full c = fill_owner p q o c
-    bring Unfilled OfImage full c = read full c
-    bring (Valid f) x full c = read full c
-    bring (Invalid f) x full c = read full c
-    bring (Coming f) x full c = read full c
-    bring (Going f) x full c = read full c
-    bring OnSwap x full c = read full c
-
-    feed : (s : PageState) (x : Filling) (fr : List ℕ) (full : Bool) → CanEnter p q → OwnsFrames (feed_by p locked q s x fr full)
-    feed s x [] full c = force_owner p locked o
-    feed s x (f ∷ fs) full c = bring s x full c
-
-    go : (s : PageState) → state_of p q ≡ s → OwnsFrames (serve_by p locked q s)
-    go (Valid f) e = o
-    go (Invalid f) e = reclaim_owner p q o
-    go (Coming f) e = done_owner p o
-    go (Going f) e = done_owner p o
-    go Unfilled e = feed Unfilled (filling_of p q) p.free (is_full p) (record { there = there; frameless = ap frame_of e })
-    go OnSwap e = feed OnSwap (filling_of p q) p.free (is_full p) (record { there = there; frameless = ap frame_of e })
+serve_owner p locked q o there = serving_cases (λ x. OwnsFrames (after_serving p locked x)) p q (λ f s. o) (λ f s. reclaim_owner p q o) (λ f s. done_owner p o)
+    (λ n e. force_owner p locked o) (λ f fs e s x. filled_owner p q o (record { there = there; frameless = ap frame_of s })) (λ f fs e r b. done_owner p o)
+    (λ f fs e r b. read_owner p q o (record { there = there; frameless = read_frameless p q r }))
