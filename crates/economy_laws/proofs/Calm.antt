@@ -14,7 +14,7 @@ use Rattle.page_model.specs.Moves.{evict, evict_at, fill, fill_at, begin, get_on
 use Rattle.page_model.specs.Runs.{pages_of_run, run_out, goes_along, is_idle, is_near, most_written}
 use Rattle.page_model.specs.Hands.{expire, expire_of, expire_if, expire_to, sweep, taken, hand_move, hand_moves}
 use Rattle.page_model.specs.Place.{put_step, put_by, place_entry}
-use Rattle.page_model.specs.Serve.{read_errand}
+use Rattle.page_model.specs.Reading.{read_errand}
 use Rattle.page_model.specs.Conditions.{EachPage}
 use Rattle.page_model.specs.Ownership.{OwnsFrames, Each, IsMoving}
 use Rattle.page_laws.proofs.Lists.Pages.{page_cases, put_same, put_other, put_length}

@@ -2,25 +2,18 @@
 use Rattle.std.proofs.Common.{◌≡◌, inl, inr, ℕ, ◌+◌, ◌-◌, ◌*◌, ◌≤◌, Bool, true, false, List, [], ◌∷◌, ◌++◌, length, Option, Some, None, refl, sym, ap, ◌∙◌, subst, arith}
 use Rattle.std.proofs.lemmas.List.{length-append}
 use Rattle.vm_facts.specs.declared.page.Page.{Page}
-use Rattle.vm_facts.specs.declared.page.PageState.{PageState}
-use Rattle.vm_facts.specs.declared.page.PageState.TheVariants.{Unfilled, Valid, Invalid, Coming, Going, OnSwap}
 use Rattle.vm_facts.specs.declared.entry.Entry.{Entry}
 use Rattle.vm_facts.specs.declared.entry.Entry.TheVariants as entries
 use Rattle.flat_state.specs.Flat.{Inputs, can_step}
-use Rattle.page_model.specs.Pages.{Filling, Zeros, OfImage, is_valid}
-use Rattle.page_model.specs.Placement.{Placement, Transfer, Due, Start, CopyOf, state_of, filling_of, IsThere}
-use Rattle.page_model.specs.Moves.{begin, done}
-use Rattle.page_model.specs.Runs.{pages_of_run, run_in}
+use Rattle.page_model.specs.Pages.{is_valid}
+use Rattle.page_model.specs.Placement.{Placement, Transfer, Due, Start, CopyOf, state_of, IsThere}
 use Rattle.page_model.specs.Place.{place_entry}
-use Rattle.page_model.specs.Serve.{force, force_by, force_entry, read_errand, read_if, bring_by, feed_by, serve_by, serve_step, serve_unit, is_full, Forces, Serves}
+use Rattle.page_model.specs.Serve.{force, force_entry, serve_step, serve_unit, Forces, Serves}
 use Rattle.page_model.specs.Swapper.{is_out}
 use Rattle.page_model.specs.Conditions.{EachPage}
-use Rattle.page_model.specs.Dues.{NotDue}
 use Rattle.page_model.specs.Ownership.{OwnsFrames}
-use Rattle.page_laws.proofs.Due.Entries.{get_due_list, fill_due_list}
-use Rattle.run_laws.proofs.Steps.{reclaim_due}
-use Rattle.page_laws.proofs.Moves.Stays.{Steady, Stays, done_steady, force_stays}
-use Rattle.page_laws.proofs.Moves.Units.{unit_is, entry_steps}
+use Rattle.page_laws.proofs.Moves.Units.{unit_is, entry_steps, forcing_place}
+use Rattle.page_laws.proofs.Moves.Cases.{forcing_entry}
 use Rattle.flat_model.specs.Run.{process_of_entry}
 use Rattle.run_model.specs.State.{State}
 use Rattle.flat_model.specs.Touched.{touched}
@@ -32,7 +25,6 @@ use Rattle.run_laws.proofs.Paging.{Leaver, entry_out}
 use Rattle.run_laws.proofs.Plain.{serve_flat}
 use Rattle.run_laws.proofs.Touching.{Present, touched_present, each_split}
 use Rattle.run_laws.proofs.Units.{plain_place, owns}
-use Rattle.run_laws.proofs.Allowed.{not_due_after}
 use Rattle.span_laws.specs.Spans.{is_hands, adds, added, takes, takings}
 use Rattle.economy_laws.specs.Stretch.{IsClosing, FewTouched}
 use Rattle.span_laws.proofs.Forcing.{Short, forced_short}
@@ -98,60 +90,21 @@ force_takes (t ∷ ts) = refl
 
 -- What units leave alone.
 
-pub serve_due_same : (p : Placement) (locked : List Page) (q : Page) → OwnsFrames p → (serve_step p locked q).due ≡ p.due
-serve_due_same p locked q o = go (state_of p q)
-  where
-    finish : (done p).due ≡ p.due
-    finish = let s : Steady p (done p) = done_steady p o in s.due
-
-    read : (full : Bool) → (read_if p q full).due ≡ p.due
-    read true = finish
-    read false = get_due_list (pages_of_run q (run_in p q)) (begin p (read_errand p q)) (read_errand p q)
-
-    bring : (s : PageState) (x : Filling) (full : Bool) → (bring_by p q s x full).due ≡ p.due
-    bring Unfilled Zeros full = fill_due_list p q
-    bring Unfilled OfImage full = read full
-    bring (Valid f) x full = read full
-    bring (Invalid f) x full = read full
-    bring (Coming f) x full = read full
-    bring (Going f) x full = read full
-    bring OnSwap x full = read full
-
-    feed : (s : PageState) (x : Filling) (fr : List ℕ) (full : Bool) → (feed_by p locked q s x fr full).due ≡ p.due
-    feed s x [] full = let s : Stays p (force p locked) = force_stays p locked o in s.due
-    feed s x (f ∷ fs) full = bring s x full
-
-    go : (s : PageState) → (serve_by p locked q s).due ≡ p.due
-    go (Valid f) = refl
-    go (Invalid f) = reclaim_due p q
-    go (Coming f) = finish
-    go (Going f) = finish
-    go Unfilled = feed Unfilled (filling_of p q) p.free (is_full p)
-    go OnSwap = feed OnSwap (filling_of p q) p.free (is_full p)
-
-pub forced_entry : (locked : List Page) (at : ℕ) (p : Placement) → place_entry locked at p (force_entry p.transfers) ≡ force p locked
-forced_entry locked at p = go p.transfers
-  where
-    go : (ts : List Transfer) → place_entry locked at p (force_entry ts) ≡ force_by p locked ts
-    go [] = refl
-    go (t ∷ ts) = refl
-
 force_plain : (ts : List Transfer) → process_of_entry (force_entry ts) ≡ None
-force_plain [] = refl
-force_plain (t ∷ ts) = refl
+force_plain = forcing_entry (λ e. process_of_entry e ≡ None) refl refl
 
 pub after_forced : (A : Inputs) (s : State) (u : Entry) (lk : List Page) → locked A s ≡ lk → u ≡ force_entry s.place.transfers
     → (after A s u).place ≡ force s.place lk
 after_forced A s u lk e i = plain_place A s u (ap process_of_entry i ∙ force_plain s.place.transfers)
-    ∙ ap (place_entry (locked A s) (place_at s u) s.place) i ∙ forced_entry (locked A s) (place_at s u) s.place ∙ ap (force s.place) e
+    ∙ ap (place_entry (locked A s) (place_at s u) s.place) i ∙ forcing_place (locked A s) (place_at s u) s.place ∙ ap (force s.place) e
 
-pub after_served : (A : Inputs) (s : State) (u : Entry) (lk : List Page) (q : Page) → locked A s ≡ lk → NotDue s.place.due q
+pub after_served : (A : Inputs) (s : State) (u : Entry) (lk : List Page) (q : Page) → locked A s ≡ lk
     → serve_unit s.place q true ≡ Some u → (after A s u).place ≡ serve_step s.place lk q
-after_served A s u lk q e d h =
+after_served A s u lk q e h =
     let k = unit_is s.place q true u h in
     plain_place A s u (ap process_of_entry k.1 ∙ serve_flat s.place q)
     ∙ ap (place_entry (locked A s) (place_at s u) s.place) k.1
-    ∙ entry_steps (locked A s) (place_at s u) s.place q k.0 (not_due_after s.place.due q d)
+    ∙ entry_steps (locked A s) (place_at s u) s.place q k.0
     ∙ ap (λ (x : List Page). serve_step s.place x q) e
 
 -- who is in stays in, but by a `SwapOut`

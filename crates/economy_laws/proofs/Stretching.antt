@@ -21,6 +21,7 @@ use Rattle.page_laws.proofs.Swapper.Residences.{moved_own}
 use Rattle.page_laws.proofs.Moves.Stays.{Steady, Stays, done_steady, force_stays}
 use Rattle.page_laws.proofs.Moves.Transfers.{fill_count}
 use Rattle.page_laws.proofs.Moves.Units.{unit_is, served_valid}
+use Rattle.page_laws.proofs.Due.Entries.{serve_dues}
 use Rattle.run_laws.proofs.Distinct.{among_first}
 use Rattle.flat_model.specs.Run.{Point, process_of_entry, may_follow, is_outcome_of, is_call_of, flat_entry, flat_entry_by, flat_entry_if}
 use Rattle.run_model.specs.State.{State}
@@ -48,7 +49,7 @@ use Rattle.economy_laws.specs.Stretch.{begins_stretch, NoneBegins, copies, copie
 use Rattle.span_laws.proofs.Spanning.{adds_most}
 use Rattle.span_laws.proofs.Serving.{done_less}
 use Rattle.economy_laws.proofs.Closing.{Closes, Fill, Bring, CopyIt, Serve, Act, In, closes, stays_closing, no_event}
-use Rattle.economy_laws.proofs.Left.{ServeLeft, ForceLeft, serve_new, force_new, serve_now, force_now, ServeNext, serve_next, ForceNext, force_next, force_takes, serve_due_same, after_forced, after_served, stays_in, wanted_is, locked_is, split_there, split_longer, is_closed, AllCopies, StartLeft, BringLeft, CopyLeft, PageLeft, ActLeft, Left, Next, ready}
+use Rattle.economy_laws.proofs.Left.{ServeLeft, ForceLeft, serve_new, force_new, serve_now, force_now, ServeNext, serve_next, ForceNext, force_next, force_takes, after_forced, after_served, stays_in, wanted_is, locked_is, split_there, split_longer, is_closed, AllCopies, StartLeft, BringLeft, CopyLeft, PageLeft, ActLeft, Left, Next, ready}
 
 -- Lists of what is due.
 
@@ -158,7 +159,7 @@ bring_next A s u pid b n m q parent ds r r2 l d i =
     let k : BringLeft b s.place parent n m = cp.1 (unit_is s.place parent true u i).0 in
     let du : IsDue s.place q (CopyOf q parent) = source_of A s q parent ds r d in
     let st = r.placed in
-    let pl = after_served A s u (parent ∷ []) parent (ap (locked_by A s) d) (not_due s.place parent st.dues (du.source).1) i in
+    let pl = after_served A s u (parent ∷ []) parent (ap (locked_by A s) d) i in
     let nx : ServeNext b s.place (parent ∷ []) parent u k.x k.y = serve_next b s.place (parent ∷ []) parent u k.x k.y k.left i in
     let on : ServeLeft (is_hands u) (after A s u).place (parent ∷ []) parent nx.x nx.y = subst (λ (p : Placement). ServeLeft (is_hands u) p (parent ∷ []) parent nx.x nx.y) (sym pl) nx.left in
     let now = serve_now (is_hands u) (after A s u).place (parent ∷ []) parent nx.x nx.y on in
@@ -166,7 +167,7 @@ bring_next A s u pid b n m q parent ds r r2 l d i =
       x = n - adds b u;
       y = m - takes u;
       left = copying_left A (after A s u) pid (is_hands u) (n - adds b u) (m - takes u) q parent ds
-          (ap (λ (p : Placement). p.due) pl ∙ serve_due_same s.place (parent ∷ []) parent (owns A s r.placed) ∙ d) cp.0
+          (ap (λ (p : Placement). p.due) pl ∙ serve_dues s.place (parent ∷ []) parent (owns A s r.placed) (not_due s.place parent st.dues (du.source).1) ∙ d) cp.0
           (λ v. record { x = nx.x; y = nx.y; left = on; some = omega (arith, nx.entries_left, k.some); takers = omega (arith, nx.takings_left, k.takers) })
           (λ v. record {
             x = length (after A s u).place.transfers + 2;
@@ -303,10 +304,10 @@ page_next A s u pid b n m q few r c r2 c2 l run w i =
     plain = ap process_of_entry unit ∙ serve_flat s.place q
 
     pl : (after A s u).place ≡ serve_step s.place k.before q
-    pl = after_served A s u k.before q (locked_is A s pid c run.clear ∙ split_before s.place (touched A s.point.flat pid) k.before q k.splits) (ap (λ (x : List Due). due_of_page x q) run.clear) i
+    pl = after_served A s u k.before q (locked_is A s pid c run.clear ∙ split_before s.place (touched A s.point.flat pid) k.before q k.splits) i
 
     due : (after A s u).place.due ≡ []
-    due = ap (λ (p : Placement). p.due) pl ∙ serve_due_same s.place k.before q (owns A s r.placed) ∙ run.clear
+    due = ap (λ (p : Placement). p.due) pl ∙ serve_dues s.place k.before q (owns A s r.placed) (ap (λ (x : List Due). due_of_page x q) run.clear) ∙ run.clear
 
     same : touched A (after A s u).point.flat pid ≡ touched A s.point.flat pid
     same = ap (λ (x : Point). touched A x.flat pid) (plain_point A s u plain)

@@ -2,19 +2,17 @@
 use Rattle.std.proofs.Common.{◌≡◌, ◌⊎◌, inl, inr, ℕ, ◌*◌, ◌&&◌, Bool, true, false, List, [], ◌∷◌, length, Option, Some, None, refl, sym, ap, ◌∙◌, subst}
 use Rattle.vm_facts.specs.declared.page.Page.{Page}
 use Rattle.vm_facts.specs.declared.page.Page.TheVariants.{Data, Stack, Text}
-use Rattle.vm_facts.specs.declared.page.PageState.{PageState}
-use Rattle.vm_facts.specs.declared.page.PageState.TheVariants.{Unfilled, Valid, Invalid, Coming, Going, OnSwap}
 use Rattle.vm_facts.specs.declared.entry.Entry.{Entry}
 use Rattle.vm_facts.specs.declared.entry.Entry.TheVariants as entries
 use Rattle.swap_book.specs.declared.Owner.TheVariants as owners
 use Rattle.swap_book.specs.Holdings.{lengths}
 use Rattle.flat_state.specs.Flat.{Inputs, process_of}
-use Rattle.page_model.specs.Pages.{Filling, Zeros, OfImage, is_dirty_by}
+use Rattle.page_model.specs.Pages.{is_dirty_by}
 use Rattle.flat_state.specs.PageNames.{same_page, is_among, number_of, beside, pages_from}
-use Rattle.page_model.specs.Placement.{Placement, Transfer, state_of, filling_of, is_dirty, slots_of, sharers}
+use Rattle.page_model.specs.Placement.{Placement, Transfer, is_dirty, slots_of, sharers}
 use Rattle.page_model.specs.Place.{space_of_process, facts_of}
 use Rattle.page_model.specs.Runs.{run_put, run_put_by, run_up, is_seated, is_near, most_written}
-use Rattle.page_model.specs.Serve.{force_entry, is_full, read_entry_if, bring_entry_by, feed_entry_by, serve_entry_by, serve_entry}
+use Rattle.page_model.specs.Serve.{force_entry, is_full, serve_entry}
 use Rattle.page_model.specs.Ownership.{OneOwner, OwnsBlocks, text_pieces_while}
 use Rattle.kernel_model.specs.Sound.{Sound, lives}
 use Rattle.kernel_model.specs.Start.{ImagesFit}
@@ -23,6 +21,7 @@ use Rattle.page_laws.proofs.Lists.Runs.{run_each, run_up_in}
 use Rattle.std.proofs.lemmas.Bool.{and_parts}
 use Rattle.page_laws.proofs.Swapper.PuttingOut.{unit_case}
 use Rattle.page_laws.proofs.Moves.Units.{unit_is}
+use Rattle.page_laws.proofs.Moves.Cases.{serving_entries}
 use Rattle.flat_model.specs.Run.{process_of_entry, step_at}
 use Rattle.run_model.specs.State.{State}
 use Rattle.run_model.specs.After.{place_at, after}
@@ -66,32 +65,7 @@ fill_puts p e h = go p.free
     go (f ∷ fs) = h
 
 serve_puts : (p : Placement) (q : Page) → PutsDirty p (serve_entry p q)
-serve_puts p q = go (state_of p q)
-  where
-    read : (full : Bool) → PutsDirty p (read_entry_if p q full)
-    read true = tt
-    read false = tt
-
-    bring : (s : PageState) (x : Filling) → PutsDirty p (bring_entry_by p q s x (is_full p))
-    bring Unfilled Zeros = tt
-    bring Unfilled OfImage = read (is_full p)
-    bring (Valid f) x = read (is_full p)
-    bring (Invalid f) x = read (is_full p)
-    bring (Coming f) x = read (is_full p)
-    bring (Going f) x = read (is_full p)
-    bring OnSwap x = read (is_full p)
-
-    feed : (s : PageState) (fr : List ℕ) → PutsDirty p (feed_entry_by p q s (filling_of p q) fr (is_full p))
-    feed s [] = force_puts p p.transfers
-    feed s (f ∷ fs) = bring s (filling_of p q)
-
-    go : (s : PageState) → PutsDirty p (serve_entry_by p q s)
-    go (Valid f) = tt
-    go (Invalid f) = tt
-    go (Coming f) = tt
-    go (Going f) = tt
-    go Unfilled = feed Unfilled p.free
-    go OnSwap = feed OnSwap p.free
+serve_puts p q = serving_entries (PutsDirty p) p q tt tt tt tt tt
 
 move_puts : (p : Placement) (pages : List Page) → PutsDirty p (move_unit p pages)
 move_puts p pages = go (begins_write p pages && is_full p)

@@ -6,7 +6,7 @@ use Rattle.vm_facts.specs.declared.entry.Entry.TheVariants as entries
 use Rattle.flat_state.specs.PageNames.{number_of, pages_from}
 use Rattle.page_model.specs.Placement.{Placement, state_of}
 use Rattle.page_model.specs.Place.{filled, place_entry}
-use Rattle.page_model.specs.Serve.{source_for}
+use Rattle.page_model.specs.Reading.{source_for}
 use Rattle.page_model.specs.Moves.{reclaim}
 use Rattle.economy_laws.specs.Stretch.{copies}
 use Rattle.fault_laws.specs.Faults.{own_fault}

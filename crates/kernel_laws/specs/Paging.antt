@@ -5,7 +5,8 @@ use Rattle.vm_facts.specs.declared.entry.Entry.{Entry}
 use Rattle.flat_state.specs.Flat.{NamedImage}
 use Rattle.page_model.specs.Placement.{IsThere, state_of}
 use Rattle.page_model.specs.Runs.{run_in}
-use Rattle.page_model.specs.Serve.{source_for, force_entry, serve_unit}
+use Rattle.page_model.specs.Reading.{source_for}
+use Rattle.page_model.specs.Serve.{force_entry, serve_unit}
 use Rattle.page_model.specs.Conditions.{CanEnter, IsShared}
 use Rattle.page_model.specs.Dues.{NotDue}
 use Rattle.page_model.specs.PageBytes.{ReadsFrom}

@@ -18,7 +18,7 @@ use Rattle.page_model.specs.Pages.{Zeros}
 use Rattle.page_model.specs.Placement.{Placement, Due, CopyOf, Starting, IsThere, due_of_page, state_of, filling_of}
 use Rattle.page_model.specs.Hands.{hand_move}
 use Rattle.page_model.specs.Place.{due_after, put_step, facts_of}
-use Rattle.page_model.specs.Serve.{source_for}
+use Rattle.page_model.specs.Reading.{source_for}
 use Rattle.page_model.specs.Swapper.{is_out}
 use Rattle.page_model.specs.Conditions.{EachPage, CanEnter, HasSeat, IsShared, HaveParts}
 use Rattle.page_model.specs.Dues.{DueStand, NotDue}

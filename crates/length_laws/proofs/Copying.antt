@@ -3,7 +3,7 @@ use Rattle.std.proofs.Common.{◌≡◌, inl, inr, ℕ, ◌+◌, ◌*◌, ◌≤
 use Rattle.vm_facts.specs.declared.page.Page.{Page}
 use Rattle.vm_facts.specs.declared.page.Page.TheVariants.{Data, Stack}
 use Rattle.vm_facts.specs.declared.page.PageState.{PageState}
-use Rattle.vm_facts.specs.declared.page.PageState.TheVariants.{Unfilled, Valid, Invalid, Coming, Going, OnSwap}
+use Rattle.vm_facts.specs.declared.page.PageState.TheVariants.{Unfilled}
 use Rattle.vm_facts.specs.declared.entry.Entry.{Entry}
 use Rattle.vm_facts.specs.declared.entry.Entry.TheVariants as entries
 use Rattle.aout_image.specs.declared.Image.{Image}
@@ -11,11 +11,11 @@ use Rattle.flat_state.specs.Flat.{Inputs, process_of}
 use Rattle.flat_state.specs.declared.change.Change.{Change}
 use Rattle.flat_state.specs.declared.change.Change.TheVariants.{Resize, Fork, Lend, Exec, End}
 use Rattle.flat_state.specs.Change.{is_borrower}
-use Rattle.page_model.specs.Pages.{Filling, Zeros, OfImage, Slot}
-use Rattle.page_model.specs.Placement.{Placement, Transfer, Due, Start, CopyOf, due_of_page, state_of, filling_of, slots_of}
+use Rattle.page_model.specs.Pages.{Slot}
+use Rattle.page_model.specs.Placement.{Placement, Transfer, Due, Start, CopyOf, due_of_page, slots_of}
 use Rattle.page_model.specs.Moves.{touch_all}
 use Rattle.page_model.specs.Place.{due_after, filled, place_entry, copy_due, copies_from, enter_image, give_up_unless, place_change, space_of_process, facts_of, facts_numbered}
-use Rattle.page_model.specs.Serve.{force, force_entry, is_full, read_entry_if, bring_entry_by, feed_entry_by, serve_entry_by, serve_entry, serve_unit}
+use Rattle.page_model.specs.Serve.{force, force_entry, is_full, serve_entry, serve_unit}
 use Rattle.page_model.specs.Swapper.{is_out, put_out_unit}
 use Rattle.page_model.specs.Dues.{IsDue}
 use Rattle.kernel_model.specs.Start.{ImagesFit}
@@ -27,6 +27,8 @@ use Rattle.page_laws.proofs.Moves.Stays.{Steady, Stays, force_stays}
 use Rattle.page_laws.proofs.Moves.Units.{unit_is}
 use Rattle.page_laws.proofs.Ownership.Changes.{dropped_pages}
 use Rattle.page_laws.proofs.Swapper.PuttingOut.{unit_case}
+use Rattle.page_laws.proofs.Moves.Cases.{forcing_entry, serving_entries}
+use Rattle.page_laws.proofs.Due.Entries.{serve_dues}
 use Rattle.flat_model.specs.Run.{process_of_entry, step_at}
 use Rattle.run_model.specs.declared.mark.Mark.TheVariants as marks
 use Rattle.run_model.specs.State.{State}
@@ -46,7 +48,7 @@ use Rattle.run_laws.proofs.Stepping.{touched_due}
 use Rattle.run_laws.proofs.Units.{plain_place, owns, not_due}
 use Rattle.run_laws.proofs.Wholes.{unit_run}
 use Rattle.economy_laws.specs.Stretch.{copies}
-use Rattle.economy_laws.proofs.Left.{serve_due_same, after_forced, after_served}
+use Rattle.economy_laws.proofs.Left.{after_forced, after_served}
 use Rattle.economy_laws.proofs.Stretching.{source_of}
 use Rattle.economy_laws.proofs.Opening.{Opens, Nothing, NewStack, Children}
 use Rattle.economy_laws.proofs.Left.{AllCopies}
@@ -107,36 +109,10 @@ change_copies images p pid sid borrowed next at change e z = go change
 -- ---- units
 
 force_copies : (ts : List Transfer) → copies (force_entry ts) ≡ 0
-force_copies [] = refl
-force_copies (t ∷ ts) = refl
+force_copies = forcing_entry (λ e. copies e ≡ 0) refl refl
 
 serve_copies : (p : Placement) (q : Page) → copies (serve_entry p q) ≡ 0
-serve_copies p q = go (state_of p q)
-  where
-    read : (full : Bool) → copies (read_entry_if p q full) ≡ 0
-    read true = refl
-    read false = refl
-
-    bring : (s : PageState) (x : Filling) (full : Bool) → copies (bring_entry_by p q s x full) ≡ 0
-    bring Unfilled Zeros full = refl
-    bring Unfilled OfImage full = read full
-    bring (Valid f) x full = read full
-    bring (Invalid f) x full = read full
-    bring (Coming f) x full = read full
-    bring (Going f) x full = read full
-    bring OnSwap x full = read full
-
-    feed : (s : PageState) (x : Filling) (fr : List ℕ) (full : Bool) → copies (feed_entry_by p q s x fr full) ≡ 0
-    feed s x [] full = force_copies p.transfers
-    feed s x (f ∷ fs) full = bring s x full
-
-    go : (s : PageState) → copies (serve_entry_by p q s) ≡ 0
-    go (Valid f) = refl
-    go (Invalid f) = refl
-    go (Coming f) = refl
-    go (Going f) = refl
-    go Unfilled = feed Unfilled (filling_of p q) p.free (is_full p)
-    go OnSwap = feed OnSwap (filling_of p q) p.free (is_full p)
+serve_copies p q = serving_entries (λ e. copies e ≡ 0) p q refl refl refl refl refl
 
 -- what is copied and due after a unit was due, or comes by a fork
 abbrev pub FewCopies : Inputs → State → Entry → Type 0
@@ -227,8 +203,8 @@ unit_copies A s u images r z h = go (kind_of A s u h)
 
     served : (q : Page) → Rattle.page_model.specs.Dues.NotDue s.place.due q → serve_unit s.place q true ≡ Some u → FewCopies A s u
     served q n i =
-        let pl = after_served A s u (locked A s) q refl n i in
-        kept A s u (ap copies (unit_is s.place q true u i).1 ∙ serve_copies s.place q) (ap (λ (p : Placement). p.due) pl ∙ serve_due_same s.place (locked A s) q (owns A s r.placed))
+        let pl = after_served A s u (locked A s) q refl i in
+        kept A s u (ap copies (unit_is s.place q true u i).1 ∙ serve_copies s.place q) (ap (λ (p : Placement). p.due) pl ∙ serve_dues s.place (locked A s) q (owns A s r.placed) n)
 
     acts : (pid : ℕ) → s.place.due ≡ [] → Acted A s pid u → FewCopies A s u
     acts pid d (Settles i) = kept_as A s u entries.Done (sym i) refl (done_due A s r)

@@ -17,6 +17,7 @@ use Rattle.page_laws.proofs.Moves.Stays.{Stays, force_stays}
 use Rattle.page_laws.proofs.Moves.Transfers.{fill_count}
 use Rattle.page_laws.proofs.Moves.Units.{unit_is, served_valid}
 use Rattle.page_laws.proofs.Ownership.Serve.{state_there}
+use Rattle.page_laws.proofs.Due.Entries.{serve_dues}
 use Rattle.flat_model.specs.Run.{Point, process_of_entry}
 use Rattle.run_model.specs.declared.mark.Mark.{Mark}
 use Rattle.run_model.specs.declared.mark.Mark.TheVariants as marks
@@ -36,7 +37,7 @@ use Rattle.run_laws.proofs.Wholes.{unit_run}
 use Rattle.span_laws.specs.Spans.{is_hands, adds, added}
 use Rattle.span_laws.proofs.Spanning.{adds_most}
 use Rattle.economy_laws.specs.Stretch.{copies_of}
-use Rattle.economy_laws.proofs.Left.{ServeLeft, ForceLeft, serve_new, force_new, serve_now, force_now, ServeNext, serve_next, ForceNext, force_next, serve_due_same, after_forced, after_served}
+use Rattle.economy_laws.proofs.Left.{ServeLeft, ForceLeft, serve_new, force_new, serve_now, force_now, ServeNext, serve_next, ForceNext, force_next, after_forced, after_served}
 use Rattle.economy_laws.proofs.Stretching.{source_of}
 use Rattle.economy_laws.proofs.Finishing.Stages.{is_boundary, IsLasting, mark_lasts}
 use Rattle.length_laws.proofs.Turned.{Quiet, quiet_counts}
@@ -168,13 +169,13 @@ copied A s u b q parent ds n r r2 d l h = by (serve_unit s.place parent true) re
         let y : ℕ = (left.1).0 in
         let du : IsDue s.place q (CopyOf q parent) = source_of A s q parent ds r d in
         let st = r.placed in
-        let pl = after_served A s u (parent ∷ []) parent (ap (locked_by A s) d) (not_due s.place parent st.dues (du.source).1) i in
+        let pl = after_served A s u (parent ∷ []) parent (ap (locked_by A s) d) i in
         let nx : ServeNext b s.place (parent ∷ []) parent u left.0 (left.1).0 = serve_next b s.place (parent ∷ []) parent u left.0 (left.1).0 ((left.1).1).0 i in
         let on : ServeLeft (is_hands u) (after A s u).place (parent ∷ []) parent nx.x nx.y = subst (λ (p : Placement). ServeLeft (is_hands u) p (parent ∷ []) parent nx.x nx.y) (sym pl) nx.left in
         let now = serve_now (is_hands u) (after A s u).place (parent ∷ []) parent nx.x nx.y on in
         let m = nx.entries_left in
         let room = ((left.1).1).1 in
-        Still (nx.x + 3) plain (ap (λ (p : Placement). p.due) pl ∙ serve_due_same s.place (parent ∷ []) parent (owns A s r.placed) ∙ d) (
+        Still (nx.x + 3) plain (ap (λ (p : Placement). p.due) pl ∙ serve_dues s.place (parent ∷ []) parent (owns A s r.placed) (not_due s.place parent st.dues (du.source).1) ∙ d) (
           λ v. (nx.x, (nx.y, (on, omega arith))),
           λ v. (length (after A s u).place.transfers + 2, (force_new (is_hands u) (after A s u).place (parent ∷ []) (owns A (after A s u) r2.placed), omega (arith, now))),
         )

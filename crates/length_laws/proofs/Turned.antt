@@ -3,16 +3,13 @@ use Rattle.std.proofs.Common.{◌≡◌, ℕ, ◌+◌, ◌<◌, ◌&&◌, nat_lt
 use Rattle.std.proofs.lemmas.Bool.Decides.{nat_tests}
 use Rattle.std.proofs.lemmas.Bool.{and_parts}
 use Rattle.vm_facts.specs.declared.page.Page.{Page}
-use Rattle.vm_facts.specs.declared.page.PageState.{PageState}
-use Rattle.vm_facts.specs.declared.page.PageState.TheVariants.{Unfilled, Valid, Invalid, Coming, Going, OnSwap}
 use Rattle.vm_facts.specs.declared.entry.Entry.{Entry}
 use Rattle.vm_facts.specs.declared.entry.Entry.TheVariants as entries
 use Rattle.flat_state.specs.Flat.{Inputs, can_step}
 use Rattle.flat_state.specs.Journal.{append, counted}
-use Rattle.page_model.specs.Pages.{Filling}
-use Rattle.page_model.specs.Placement.{Placement, Due, Start, CopyOf, state_of, filling_of}
+use Rattle.page_model.specs.Placement.{Placement, Due, Start, CopyOf}
 use Rattle.page_model.specs.Place.{place_entry}
-use Rattle.page_model.specs.Serve.{is_full, serve_unit, serve_unit_by, feed_unit_by}
+use Rattle.page_model.specs.Serve.{serve_unit, Serving, NotNeeded, AtOnce, ByWaiting, serving, unit_of_serving}
 use Rattle.page_model.specs.Swapper.{is_out}
 use Rattle.run_model.specs.declared.mark.Mark.{Mark}
 use Rattle.run_model.specs.declared.mark.Mark.TheVariants as marks
@@ -114,20 +111,12 @@ works_turn A s pid u r h = under_turn A s u r.clear (runs_work A s pid true r �
 -- a page that is served without waiting is so served in a turn
 pub served_now : (p : Placement) (q : Page) (now : Bool) (u : Entry) → serve_unit p q now ≡ Some u → serve_unit p q true ≡ Some u
 served_now p q true u h = h
-served_now p q false u h = go (state_of p q) h
+served_now p q false u h = go (serving p q) h
   where
-    feed : (s : PageState) (x : Filling) (fr : List ℕ) (full : Bool)
-        → feed_unit_by p q s x fr full false ≡ Some u → feed_unit_by p q s x fr full true ≡ Some u
-    feed s x [] full e = absurd cc
-    feed s x (f ∷ fs) full e = e
-
-    go : (s : PageState) → serve_unit_by p q s false ≡ Some u → serve_unit_by p q s true ≡ Some u
-    go (Valid f) e = absurd cc
-    go (Invalid f) e = e
-    go (Coming f) e = absurd cc
-    go (Going f) e = absurd cc
-    go Unfilled e = feed Unfilled (filling_of p q) p.free (is_full p) e
-    go OnSwap e = feed OnSwap (filling_of p q) p.free (is_full p) e
+    go : (x : Serving) → unit_of_serving x false ≡ Some u → unit_of_serving x true ≡ Some u
+    go NotNeeded h = absurd cc
+    go (AtOnce e) h = h
+    go (ByWaiting e) h = absurd cc
 
 act_turn : (A : Inputs) (s : State) (pid k : ℕ) → act A (turned A s pid k) pid ≡ act A s pid
 unfolding act

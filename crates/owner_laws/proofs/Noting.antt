@@ -1,17 +1,15 @@
 -- A unit that notes the owners notes those of its state.
-use Rattle.std.proofs.Common.{◌≡◌, ◌⊎◌, ℕ, Bool, true, false, ◌&&◌, List, [], ◌∷◌, Option, Some, None, sym, subst, inl, inr}
+use Rattle.std.proofs.Common.{◌≡◌, ◌⊎◌, ℕ, Bool, true, false, ◌&&◌, List, [], ◌∷◌, Some, sym, subst, inl, inr}
 use Rattle.vm_facts.specs.declared.page.Page.{Page}
-use Rattle.vm_facts.specs.declared.page.PageState.{PageState}
-use Rattle.vm_facts.specs.declared.page.PageState.TheVariants.{Unfilled, Valid, Invalid, Coming, Going, OnSwap}
 use Rattle.vm_facts.specs.declared.entry.Entry.{Entry}
 use Rattle.vm_facts.specs.declared.entry.Entry.TheVariants as entries
 use Rattle.flat_state.specs.Flat.{Inputs, process_of}
-use Rattle.page_model.specs.Pages.{Filling, Zeros, OfImage}
 use Rattle.page_model.specs.Place.{space_of_process}
-use Rattle.page_model.specs.Placement.{Placement, Transfer, state_of, filling_of}
-use Rattle.page_model.specs.Serve.{force_entry, is_full, read_entry_if, bring_entry_by, feed_entry_by, serve_entry_by, serve_entry, serve_unit}
+use Rattle.page_model.specs.Placement.{Placement, Transfer}
+use Rattle.page_model.specs.Serve.{force_entry, is_full, serve_entry}
 use Rattle.page_laws.proofs.Swapper.PuttingOut.{unit_case}
 use Rattle.page_laws.proofs.Moves.Units.{unit_is}
+use Rattle.page_laws.proofs.Moves.Cases.{forcing_entry, serving_entries}
 use Rattle.run_model.specs.State.{State}
 use Rattle.run_model.specs.Wanted.{locked}
 use Rattle.run_model.specs.Next.{fill_by, fill_unit, begins_write, move_by, move_unit, owners_of, next_unit}
@@ -26,36 +24,10 @@ IsOther (entries.Owners free used moving held) = ⊥
 IsOther e = Unit {0}
 
 forced_other : (ts : List Transfer) → IsOther (force_entry ts)
-forced_other [] = tt
-forced_other (t ∷ ts) = tt
+forced_other = forcing_entry IsOther tt tt
 
 served_other : (p : Placement) (q : Page) → IsOther (serve_entry p q)
-served_other p q = go (state_of p q)
-  where
-    read : (full : Bool) → IsOther (read_entry_if p q full)
-    read true = tt
-    read false = tt
-
-    bring : (s : PageState) (x : Filling) → IsOther (bring_entry_by p q s x (is_full p))
-    bring Unfilled Zeros = tt
-    bring Unfilled OfImage = read (is_full p)
-    bring (Valid f) x = read (is_full p)
-    bring (Invalid f) x = read (is_full p)
-    bring (Coming f) x = read (is_full p)
-    bring (Going f) x = read (is_full p)
-    bring OnSwap x = read (is_full p)
-
-    feed : (s : PageState) (free : List ℕ) → IsOther (feed_entry_by p q s (filling_of p q) free (is_full p))
-    feed s [] = forced_other p.transfers
-    feed s (f ∷ fs) = bring s (filling_of p q)
-
-    go : (s : PageState) → IsOther (serve_entry_by p q s)
-    go (Valid f) = tt
-    go (Invalid f) = tt
-    go (Coming f) = tt
-    go (Going f) = tt
-    go Unfilled = feed Unfilled p.free
-    go OnSwap = feed OnSwap p.free
+served_other p q = serving_entries IsOther p q tt tt tt tt tt
 
 filled_other : (p : Placement) (e : Entry) → IsOther e → IsOther (fill_unit p e)
 filled_other p e h = go p.free

@@ -1,19 +1,18 @@
 -- Each fill, read and reclaim is of the wanted page, or of what is due.
 use Rattle.std.proofs.Common.{◌≡◌, ◌⊎◌, inl, inr, ℕ, ◌&&◌, cond, Bool, true, false, List, [], ◌∷◌, Some, refl, sym, ap, ◌∙◌, subst}
 use Rattle.vm_facts.specs.declared.page.Page.{Page}
-use Rattle.vm_facts.specs.declared.page.PageState.{PageState}
-use Rattle.vm_facts.specs.declared.page.PageState.TheVariants.{Unfilled, Valid, Invalid, Coming, Going, OnSwap}
+use Rattle.vm_facts.specs.declared.page.PageState.TheVariants.{Unfilled}
 use Rattle.vm_facts.specs.declared.entry.Entry.{Entry}
 use Rattle.vm_facts.specs.declared.entry.Entry.TheVariants as entries
 use Rattle.flat_state.specs.Flat.{Inputs, process_of}
-use Rattle.page_model.specs.Pages.{Filling, Zeros, OfImage}
-use Rattle.page_model.specs.Placement.{Placement, Transfer, Due, CopyOf, due_of_page, state_of, filling_of}
+use Rattle.page_model.specs.Placement.{Placement, Transfer, Due, CopyOf, due_of_page, state_of}
 use Rattle.page_model.specs.Place.{space_of_process}
 use Rattle.page_model.specs.Runs.{run_in}
-use Rattle.page_model.specs.Serve.{force_entry, is_full, read_entry_if, bring_entry_by, feed_entry_by, serve_entry_by, serve_entry}
+use Rattle.page_model.specs.Serve.{force_entry, is_full, serve_entry, entry_of_serving}
 use Rattle.page_model.specs.Dues.{DueStand, HasSource, IsDue}
 use Rattle.page_laws.proofs.Swapper.PuttingOut.{unit_case}
 use Rattle.page_laws.proofs.Moves.Units.{unit_is, served_valid}
+use Rattle.page_laws.proofs.Moves.Cases.{forcing_entry, serving_cases}
 use Rattle.flat_state.proofs.PageNames.{same_page_self}
 use Rattle.flat_model.specs.Run.{process_of_entry}
 use Rattle.run_model.specs.State.{State}
@@ -38,36 +37,11 @@ ForServed p q (entries.Reclaim r) = r ≡ q
 ForServed p q e = Unit {0}
 
 force_served : (p : Placement) (q : Page) (ts : List Transfer) → ForServed p q (force_entry ts)
-force_served p q [] = tt
-force_served p q (t ∷ ts) = tt
+force_served p q = forcing_entry (ForServed p q) tt tt
 
 serve_served : (p : Placement) (q : Page) → ForServed p q (serve_entry p q)
-serve_served p q = go (state_of p q) refl
-  where
-    read : (full : Bool) → ForServed p q (read_entry_if p q full)
-    read true = tt
-    read false = (refl, refl, refl)
-
-    bring : (s : PageState) (x : Filling) → state_of p q ≡ s → ForServed p q (bring_entry_by p q s x (is_full p))
-    bring Unfilled Zeros e = (refl, e)
-    bring Unfilled OfImage e = read (is_full p)
-    bring (Valid f) x e = read (is_full p)
-    bring (Invalid f) x e = read (is_full p)
-    bring (Coming f) x e = read (is_full p)
-    bring (Going f) x e = read (is_full p)
-    bring OnSwap x e = read (is_full p)
-
-    feed : (s : PageState) (fr : List ℕ) → state_of p q ≡ s → ForServed p q (feed_entry_by p q s (filling_of p q) fr (is_full p))
-    feed s [] e = force_served p q p.transfers
-    feed s (f ∷ fs) e = bring s (filling_of p q) e
-
-    go : (s : PageState) → state_of p q ≡ s → ForServed p q (serve_entry_by p q s)
-    go (Valid f) e = tt
-    go (Invalid f) e = refl
-    go (Coming f) e = tt
-    go (Going f) e = tt
-    go Unfilled e = feed Unfilled p.free e
-    go OnSwap e = feed OnSwap p.free e
+serve_served p q = serving_cases (λ x. ForServed p q (entry_of_serving x)) p q (λ f s. tt) (λ f s. refl) (λ f s. tt) (λ n l. force_served p q p.transfers)
+    (λ f fs l s x. (refl, s)) (λ f fs l r b. tt) (λ f fs l r b. (refl, refl, refl))
 
 -- the page of a next unit, with the run of a read
 abbrev Names : Inputs → State → Entry → Type 0

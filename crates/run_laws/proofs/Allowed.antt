@@ -1,46 +1,37 @@
 -- Each paging entry that the policy gives may be made, and leaves at most 16 transfers in flight.
 use Rattle.std.proofs.Common.{◌≡◌, ℕ, ◌<◌, ◌≤◌, Bool, true, false, cond, ◌&&◌, List, [], ◌∷◌, length, Option, Some, None, refl, sym, ap, ◌∙◌, subst, arith}
 use Rattle.vm_facts.specs.declared.page.Page.{Page}
-use Rattle.vm_facts.specs.declared.page.PageState.{PageState}
-use Rattle.vm_facts.specs.declared.page.PageState.TheVariants.{Unfilled, Valid, Invalid, Coming, Going, OnSwap}
+use Rattle.vm_facts.specs.declared.page.PageState.TheVariants.{Unfilled}
 use Rattle.vm_facts.specs.declared.entry.Entry.{Entry}
 use Rattle.vm_facts.specs.declared.entry.Entry.TheVariants as entries
-use Rattle.page_model.specs.Pages.{Filling, Zeros, OfImage, frame_of, is_valid}
-use Rattle.flat_state.specs.PageNames.{same_page}
+use Rattle.page_model.specs.Pages.{Zeros, frame_of, is_valid}
 use Rattle.page_model.specs.Placement.{Placement, Transfer, Due, Start, CopyOf, due_page, due_of_page, state_of, filling_of, IsThere, is_dirty}
 use Rattle.page_model.specs.Moves.{done}
 use Rattle.page_model.specs.Place.{due_after, place_entry}
 use Rattle.page_model.specs.Runs.{run_put, spare_frames}
 use Rattle.page_model.specs.Hands.{expire, taken, sweep_taken, sweep_by, hand_move, write_by, write_taken}
 use Rattle.std.specs.Option.{is_some}
-use Rattle.page_model.specs.Serve.{force_entry, is_full, read_entry, read_entry_if, bring_entry_by, feed_entry_by, serve_entry_by, serve_entry}
+use Rattle.page_model.specs.Reading.{read_entry}
+use Rattle.page_model.specs.Serve.{force_entry, is_full, serve_entry, entry_of_serving}
 use Rattle.page_model.specs.Swapper.{put_out_unit}
 use Rattle.page_model.specs.Conditions.{CanEnter, IsShared}
 use Rattle.page_model.specs.Dues.{DueStand, IsDue, NotDue}
-use Rattle.page_model.specs.Ownership.{OwnsFrames, seats}
+use Rattle.page_model.specs.Ownership.{OwnsFrames}
 use Rattle.flat_state.proofs.PageNames.{same_page_self}
 use Rattle.page_laws.proofs.Moves.Stays.{expire_transfers}
 use Rattle.page_laws.proofs.Ownership.Serve.{run_in_enters}
-use Rattle.page_laws.proofs.Due.Entries.{run_in_due}
+use Rattle.page_laws.proofs.Due.Entries.{run_in_due, not_again}
 use Rattle.page_laws.proofs.Moves.Parts.{run_some}
 use Rattle.page_laws.proofs.Swapper.PuttingOut.{unit_case, unit_can, run_some as put_some}
 use Rattle.std.proofs.lemmas.Bool.{leb-false}
-use Rattle.page_laws.proofs.Ends.Serving.{in_flight, full_some}
+use Rattle.page_laws.proofs.Ends.Serving.{flying_in, full_some}
 use Rattle.page_laws.proofs.Moves.Transfers.{entry_count, done_count, retire_count}
+use Rattle.page_laws.proofs.Moves.Cases.{serving_cases, read_frameless, some_of}
 use Rattle.run_model.specs.Next.{fill_by, fill_unit, begins_write, move_by, move_unit}
 use Rattle.kernel_laws.proofs.Kept.Pages.{writable_shared}
 use Rattle.run_laws.specs.Standing.{IsAllowed, EachOnce}
 
 -- Lists of what is due.
-
--- a page that isn't due takes nothing off
-pub not_due_after : (ds : List Due) (q : Page) → NotDue ds q → due_after ds q ≡ ds
-not_due_after [] q n = refl
-not_due_after (d ∷ ds) q n = go (same_page (due_page d) q) n
-  where
-    go : (b : Bool) → cond b (Some d) (due_of_page ds q) ≡ None → cond b ds (d ∷ ds) ≡ d ∷ ds
-    go true n = absurd cc
-    go false n = refl
 
 pub first_after : (d : Due) (ds : List Due) → due_after (d ∷ ds) (due_page d) ≡ ds
 first_after d ds = ap (λ (b : Bool). cond b ds (d ∷ ds)) (same_page_self (due_page d))
@@ -76,73 +67,35 @@ forced_few locked at p (t ∷ ts) e l = let n = done_count p in omega arith
 
 pub served_allowed : (p : Placement) (q : Page) → OwnsFrames p → DueStand p → IsThere p q → IsShared p q → NotDue p.due q
     → is_valid (state_of p q) ≡ false → IsAllowed p (serve_entry p q)
-served_allowed p q o d there shared n v = state (state_of p q) refl v
-  where
-    read : (full : Bool) → is_full p ≡ full → 0 < length p.free → CanEnter p q → IsAllowed p (read_entry_if p q full)
-    read true e l c = done_allowed p (full_some p e)
-    read false e l c = record { can = run_in_enters p q c; shared = shared; begins = (run_some p q (state_of p q) (spare_frames p), l); leaves = run_in_due p q d n; finds = tt }
-
-    bring : (s : PageState) (x : Filling) (full : Bool) → state_of p q ≡ s → filling_of p q ≡ x → is_full p ≡ full → 0 < length p.free → frame_of s ≡ None → IsAllowed p (bring_entry_by p q s x full)
-    bring Unfilled Zeros full e x f l k = record {
-      can = record { there = there; frameless = ap frame_of e };
+served_allowed p q o d there shared n v = serving_cases (λ x. IsAllowed p (entry_of_serving x)) p q
+    (λ f s. absurd (let k : true ≡ false = sym (ap is_valid s) ∙ v in cc))
+    (λ f s. record { can = tt; shared = shared; begins = tt; leaves = tt; finds = (f, s) }) (λ f s. done_allowed p (transfers_some p (flying_in p q f o s)))
+    (λ m e. forced_allowed p p.transfers refl)
+    (λ f fs l s x. record {
+      can = record { there = there; frameless = ap frame_of s };
       shared = shared;
       begins = tt;
-      leaves = subst (λ (ds : List Due). NotDue ds q) (sym (not_due_after p.due q n)) n;
-      finds = (l, e, x);
-    }
-    bring Unfilled OfImage full e x f l k = read full f l (record { there = there; frameless = ap frame_of e })
-    bring OnSwap x full e y f l k = read full f l (record { there = there; frameless = ap frame_of e })
-    bring (Valid g) x full e y f l k = absurd cc
-    bring (Invalid g) x full e y f l k = absurd cc
-    bring (Coming g) x full e y f l k = absurd cc
-    bring (Going g) x full e y f l k = absurd cc
-
-    feed : (s : PageState) (fr : List ℕ) → state_of p q ≡ s → p.free ≡ fr → frame_of s ≡ None → IsAllowed p (feed_entry_by p q s (filling_of p q) fr (is_full p))
-    feed s [] e h k = forced_allowed p p.transfers refl
-    feed s (f ∷ fs) e h k = bring s (filling_of p q) (is_full p) e refl refl (some_length p.free f fs h) k
-
-    state : (s : PageState) → state_of p q ≡ s → is_valid s ≡ false → IsAllowed p (serve_entry_by p q s)
-    state (Valid f) e v = absurd cc
-    state (Invalid f) e v = record { can = tt; shared = shared; begins = tt; leaves = tt; finds = (f, e) }
-    state (Coming f) e v = done_allowed p (transfers_some p (in_flight p q f o (ap frame_of e) (λ k. absurd (let z : Coming f ≡ Invalid f = sym e ∙ k in cc)) (ap (seats 0) e)))
-    state (Going f) e v = done_allowed p (transfers_some p (in_flight p q f o (ap frame_of e) (λ k. absurd (let z : Going f ≡ Invalid f = sym e ∙ k in cc)) (ap (seats 0) e)))
-    state Unfilled e v = feed Unfilled p.free e refl refl
-    state OnSwap e v = feed OnSwap p.free e refl refl
+      leaves = not_again p.due q n;
+      finds = (some_of p f fs l, s, x);
+    })
+    (λ f fs l r b. done_allowed p (full_some p b))
+    (λ f fs l r b. record {
+      can = run_in_enters p q (record { there = there; frameless = read_frameless p q r });
+      shared = shared;
+      begins = (run_some p q (state_of p q) (spare_frames p), some_of p f fs l);
+      leaves = run_in_due p q d n;
+      finds = tt;
+    })
 
 pub served_few : (locked : List Page) (at : ℕ) (p : Placement) (q : Page) → length p.transfers ≤ 16
     → length (place_entry locked at p (serve_entry p q)).transfers ≤ 16
-served_few locked at p q l = state (state_of p q)
+served_few locked at p q l = serving_cases (λ x. length (place_entry locked at p (entry_of_serving x)).transfers ≤ 16) p q (λ f s. ends)
+    (λ f s. let n = entry_count locked at p (entries.Reclaim q) in omega arith) (λ f s. ends) (λ m e. forced_few locked at p p.transfers refl l)
+    (λ f fs e s x. let n = entry_count locked at p (entries.Zero q) in omega arith) (λ f fs e r b. ends)
+    (λ f fs e r b. let n = entry_count locked at p (read_entry p q) in let m = leb-false 16 (length p.transfers) b in omega arith)
   where
-    finish : length (done p).transfers ≤ 16
-    finish = let n = done_count p in omega arith
-
-    read : (full : Bool) → is_full p ≡ full → length (place_entry locked at p (read_entry_if p q full)).transfers ≤ 16
-    read true e = finish
-    read false e = let n = entry_count locked at p (read_entry p q) in let m = leb-false 16 (length p.transfers) e in omega arith
-
-    zero_few : length (place_entry locked at p (entries.Zero q)).transfers ≤ 16
-    zero_few = let n = entry_count locked at p (entries.Zero q) in omega arith
-
-    bring : (s : PageState) (x : Filling) (full : Bool) → is_full p ≡ full → length (place_entry locked at p (bring_entry_by p q s x full)).transfers ≤ 16
-    bring Unfilled Zeros full e = zero_few
-    bring Unfilled OfImage full e = read full e
-    bring (Valid f) x full e = read full e
-    bring (Invalid f) x full e = read full e
-    bring (Coming f) x full e = read full e
-    bring (Going f) x full e = read full e
-    bring OnSwap x full e = read full e
-
-    feed : (s : PageState) (fr : List ℕ) → length (place_entry locked at p (feed_entry_by p q s (filling_of p q) fr (is_full p))).transfers ≤ 16
-    feed s [] = forced_few locked at p p.transfers refl l
-    feed s (f ∷ fs) = bring s (filling_of p q) (is_full p) refl
-
-    state : (s : PageState) → length (place_entry locked at p (serve_entry_by p q s)).transfers ≤ 16
-    state (Valid f) = finish
-    state (Invalid f) = let n = entry_count locked at p (entries.Reclaim q) in omega arith
-    state (Coming f) = finish
-    state (Going f) = finish
-    state Unfilled = feed Unfilled p.free
-    state OnSwap = feed OnSwap p.free
+    ends : length (done p).transfers ≤ 16
+    ends = let n = done_count p in omega arith
 
 -- Fills that are due.
 

@@ -1,18 +1,17 @@
 -- Each next unit that is no step of a process, and takes none out or in, keeps the machine coupled.
 use Rattle.std.proofs.Common.{◌≡◌, ℕ, ◌<◌, Bool, true, false, ◌&&◌, List, [], ◌∷◌, length, Some, None, refl, sym, ap, ◌∙◌, subst, arith}
 use Rattle.vm_facts.specs.declared.page.Page.{Page}
-use Rattle.vm_facts.specs.declared.page.PageState.{PageState}
-use Rattle.vm_facts.specs.declared.page.PageState.TheVariants.{Unfilled, Valid, Invalid, Coming, Going, OnSwap}
+use Rattle.vm_facts.specs.declared.page.PageState.TheVariants.{Valid}
 use Rattle.vm_facts.specs.declared.entry.Entry.{Entry}
 use Rattle.vm_facts.specs.declared.entry.Entry.TheVariants as entries
 use Rattle.flat_state.specs.Flat.{Inputs, process_of}
-use Rattle.page_model.specs.Pages.{Filling, frame_of, is_valid}
-use Rattle.page_model.specs.Placement.{Placement, Transfer, Due, Start, CopyOf, IsThere, due_of_page, state_of, filling_of}
+use Rattle.page_model.specs.Pages.{frame_of, is_valid}
+use Rattle.page_model.specs.Placement.{Placement, Transfer, Due, Start, CopyOf, IsThere, due_of_page, state_of}
 use Rattle.page_model.specs.Runs.{run_put}
 use Rattle.page_model.specs.Place.{space_of_process, pages_of_space}
-use Rattle.page_model.specs.Serve.{force_entry, is_full, feed_unit_by, serve_unit_by, serve_unit, serve_entry}
+use Rattle.page_model.specs.Serve.{force_entry, is_full, serve_unit, serve_entry, unit_of_serving}
 use Rattle.page_model.specs.Swapper.{put_out_unit}
-use Rattle.page_model.specs.Conditions.{CanEnter, CanPlace, HasSeat}
+use Rattle.page_model.specs.Conditions.{HasSeat}
 use Rattle.page_model.specs.Dues.{DueStand, IsDue, NotDue}
 use Rattle.kernel_model.specs.Kernel.{Kernel}
 use Rattle.flat_state.specs.Numbers.{IsNumbered}
@@ -21,6 +20,7 @@ use Rattle.kernel_laws.proofs.Stands.Steps.{note_stands}
 use Rattle.page_laws.proofs.Ownership.Runs.{seated_seat}
 use Rattle.page_laws.proofs.Swapper.PuttingOut.{unit_case, seated_first, run_seats}
 use Rattle.page_laws.proofs.Moves.Units.{unit_is}
+use Rattle.page_laws.proofs.Moves.Cases.{serving_cases}
 use Rattle.flat_model.specs.Run.{process_of_entry}
 use Rattle.run_model.specs.State.{State}
 use Rattle.run_model.specs.Wanted.{touched_next, touched_of, locked, Splits}
@@ -52,19 +52,8 @@ Stays (entries.SwapIn pid) = ⊥
 Stays _ = Unit {0}
 
 served_none : (p : Placement) (q : Page) → serve_unit p q true ≡ None → (f : ℕ) × (state_of p q ≡ Valid f)
-served_none p q h = go (state_of p q) refl h
-  where
-    feed : (s : PageState) (x : Filling) (fr : List ℕ) (full : Bool) → feed_unit_by p q s x fr full true ≡ None → ⊥
-    feed s x [] full e = cc
-    feed s x (f ∷ fs) full e = cc
-
-    go : (s : PageState) → state_of p q ≡ s → serve_unit_by p q s true ≡ None → (f : ℕ) × (s ≡ Valid f)
-    go (Valid f) e h = (f, refl)
-    go (Invalid f) e h = absurd cc
-    go (Coming f) e h = absurd cc
-    go (Going f) e h = absurd cc
-    go Unfilled e h = absurd (feed Unfilled (filling_of p q) p.free (is_full p) h)
-    go OnSwap e h = absurd (feed OnSwap (filling_of p q) p.free (is_full p) h)
+served_none p q h = serving_cases (λ x. unit_of_serving x true ≡ None → (f : ℕ) × (state_of p q ≡ Valid f)) p q (λ f s k. (f, s)) (λ f s k. absurd cc)
+    (λ f s k. absurd cc) (λ n l k. absurd cc) (λ f fs l s x k. absurd cc) (λ f fs l r b k. absurd cc) (λ f fs l r b k. absurd cc) h
 
 finish : (A : Inputs) (s : State) (k : Kernel) (image : List ℕ) (read : List (List ℕ)) → StandsAt A s k image read → Couples A s k image read entries.Done
 finish A s k image read x = goes_done A.swap_blocks k A.images image s.point.flat (locked A s) read x.machine

@@ -1,20 +1,20 @@
 -- What paging entries do to a machine with bytes; and a unit of serving keeps it coupled, whatever unit it is.
-use Rattle.std.proofs.Common.{◌≡◌, ℕ, ◌*◌, ◌<◌, ◌≤◌, Bool, true, false, List, [], ◌∷◌, length, Some, None, refl, sym, ap, subst, arith}
+use Rattle.std.proofs.Common.{◌≡◌, ℕ, ◌*◌, ◌<◌, ◌≤◌, false, List, [], ◌∷◌, length, Some, refl, ap}
 use Rattle.flat_state.specs.Flat.{FlatState, NamedImage}
 use Rattle.vm_facts.specs.declared.page.Page.{Page}
-use Rattle.vm_facts.specs.declared.page.PageState.{PageState}
-use Rattle.vm_facts.specs.declared.page.PageState.TheVariants.{Unfilled, Valid, Invalid, Coming, Going, OnSwap}
+use Rattle.vm_facts.specs.declared.page.PageState.TheVariants.{Unfilled, Valid}
 use Rattle.vm_facts.specs.declared.entry.Entry.{Entry}
 use Rattle.vm_facts.specs.declared.entry.Entry.TheVariants as entries
 use Rattle.flat_state.specs.PageNames.{number_of, pages_from}
-use Rattle.page_model.specs.Pages.{Filling, Zeros, OfImage, frame_of, is_valid}
-use Rattle.page_model.specs.Placement.{Transfer, Start, CopyOf, IsThere, due_of_page, state_of, filling_of}
+use Rattle.page_model.specs.Pages.{Zeros, frame_of, is_valid}
+use Rattle.page_model.specs.Placement.{Start, CopyOf, IsThere, due_of_page, state_of, filling_of}
 use Rattle.page_model.specs.Runs.{run_in}
-use Rattle.page_model.specs.Serve.{force_entry, is_full, source_for, read_entry_if, bring_entry_by, feed_entry_by, serve_entry_by, serve_entry}
+use Rattle.page_model.specs.Reading.{read_entry}
+use Rattle.page_model.specs.Serve.{is_full, serve_entry, entry_of_serving}
 use Rattle.page_model.specs.Conditions.{CanEnter, EachPage, HasSeat}
-use Rattle.page_model.specs.PageBytes.{IsWritable, ReadsFrom}
+use Rattle.page_model.specs.PageBytes.{IsWritable}
 use Rattle.page_model.specs.Dues.{NotDue}
-use Rattle.kernel_model.specs.Kernel.{Kernel, plain_step, image_after, zero_step, copy_step, get_step, reclaim_step, hand_step, push_step, done_step, note_step}
+use Rattle.kernel_model.specs.Kernel.{Kernel, plain_step, image_after, zero_step, copy_step, get_step, reclaim_step, push_step, done_step, note_step}
 use Rattle.kernel_model.specs.Sound.{Sound}
 use Rattle.kernel_model.specs.Coupled.{AreRead, Coupled, beside_kernel}
 use Rattle.kernel_model.specs.Stands.{Stands}
@@ -23,6 +23,7 @@ use Rattle.kernel_laws.proofs.Stands.Steps.{get_stands, reclaim_stands, hand_sta
 use Rattle.kernel_laws.proofs.Machine.Done.{done_coupled_step}
 use Rattle.kernel_laws.proofs.Kept.Pages.{zeros_writable}
 use Rattle.kernel_laws.proofs.Machine.Moves.{push_coupled_step, start_coupled, copy_coupled, read_coupled_step, reclaim_coupled_step, hand_coupled_step, zero_coupled}
+use Rattle.page_laws.proofs.Moves.Cases.{forcing_entry, serving_cases, IsRead, read_frameless, read_source, some_of}
 
 -- the machine after a paging entry, and the swap image
 abbrev pub page_step : Kernel → List Page → List (List ℕ) → Entry → Kernel
@@ -106,7 +107,8 @@ pub serve_goes : (size : ℕ) (k : Kernel) (images : List NamedImage) (image : L
     → Machine size k images image flat read
     → IsThere k.place q → NotDue k.place.due q → is_valid (state_of k.place q) ≡ false
     → Goes k images image flat locked read (serve_entry k.place q)
-serve_goes size k images image flat locked read q y there due nv = state (state_of k.place q) refl nv
+serve_goes size k images image flat locked read q y there due nv = serving_cases (λ x. P (entry_of_serving x)) k.place q (λ f s. ends) (λ f s. reclaims)
+    (λ f s. ends) (λ n l. forcing_entry P (goes_hand size k images image flat locked read y) ends k.place.transfers) zeros (λ f fs l r b. ends) reads
   where
     P : Entry → Type 0
     P e = Goes k images image flat locked read e
@@ -114,52 +116,23 @@ serve_goes size k images image flat locked read q y there due nv = state (state_
     so : Sound size k
     so = y.sound
 
-    finish : P entries.Done
-    finish = goes_done size k images image flat locked read y
+    ends : P entries.Done
+    ends = goes_done size k images image flat locked read y
 
-    forced : (ts : List Transfer) → P (force_entry ts)
-    forced [] = goes_hand size k images image flat locked read y
-    forced (t ∷ ts) = finish
-
-    enters : frame_of (state_of k.place q) ≡ None → CanEnter k.place q
-    enters e = record { there = there; frameless = e }
-
-    reads : (full : Bool) → frame_of (state_of k.place q) ≡ None → ReadsFrom k.place (source_for (state_of k.place q)) q q → P (read_entry_if k.place q full)
-    reads true e r = finish
-    reads false e r = record {
-      coupled = read_coupled_step size k images image flat q so (enters e) r y.coupled;
+    reads : (f : ℕ) (fs : List ℕ) → k.place.free ≡ f ∷ fs → IsRead k.place q → is_full k.place ≡ false → P (read_entry k.place q)
+    reads f fs l r b = record {
+      coupled = read_coupled_step size k images image flat q so (record { there = there; frameless = read_frameless k.place q r }) (read_source k.place q due r) y.coupled;
       stands = get_stands images k flat q (run_in k.place q).lo (run_in k.place q).n y.stands;
       tokens = refl;
     }
 
-    zero : 0 < length k.place.free → state_of k.place q ≡ Unfilled → filling_of k.place q ≡ Zeros → P (entries.Zero q)
-    zero some e x = let t = y.stands in record {
-      coupled = zero_coupled size k images image flat q so t.starts (enters (ap frame_of e)) (zeros_writable k.place q x) some e due x y.coupled;
+    zeros : (f : ℕ) (fs : List ℕ) → k.place.free ≡ f ∷ fs → state_of k.place q ≡ Unfilled → filling_of k.place q ≡ Zeros → P (entries.Zero q)
+    zeros f fs l e x = let t = y.stands in record {
+      coupled = zero_coupled size k images image flat q so t.starts (record { there = there; frameless = ap frame_of e }) (zeros_writable k.place q x)
+          (some_of k.place f fs l) e due x y.coupled;
       stands = zero_stands images k flat q y.stands;
       tokens = first_length k.place.free k.frames (Rattle.kernel_model.specs.Kernel.start_bytes k.starts q);
     }
 
-    bring : (s : PageState) (x : Filling) → state_of k.place q ≡ s → filling_of k.place q ≡ x → frame_of s ≡ None → (f : ℕ) (fs : List ℕ) → k.place.free ≡ f ∷ fs
-        → P (bring_entry_by k.place q s x (is_full k.place))
-    bring Unfilled Zeros e x n f fs l = zero (subst (λ (fr : List ℕ). 0 < length fr) (sym l) (omega arith)) e x
-    bring Unfilled OfImage e x n f fs l = reads (is_full k.place) (ap frame_of e) (subst (λ (s : PageState). ReadsFrom k.place (source_for s) q q) (sym e) (e, x, due, λ w. refl))
-    bring OnSwap x e y n f fs l = reads (is_full k.place) (ap frame_of e) (subst (λ (s : PageState). ReadsFrom k.place (source_for s) q q) (sym e) e)
-    bring (Valid g) x e y n f fs l = absurd cc
-    bring (Invalid g) x e y n f fs l = absurd cc
-    bring (Coming g) x e y n f fs l = absurd cc
-    bring (Going g) x e y n f fs l = absurd cc
-
-    feed : (s : PageState) (fr : List ℕ) → state_of k.place q ≡ s → k.place.free ≡ fr → frame_of s ≡ None → P (feed_entry_by k.place q s (filling_of k.place q) fr (is_full k.place))
-    feed s [] e l n = forced k.place.transfers
-    feed s (f ∷ fs) e l n = bring s (filling_of k.place q) e refl n f fs l
-
     reclaims : P (entries.Reclaim q)
     reclaims = record { coupled = reclaim_coupled_step size k images image flat q so y.coupled; stands = reclaim_stands images k flat q y.stands; tokens = refl }
-
-    state : (s : PageState) → state_of k.place q ≡ s → is_valid s ≡ false → P (serve_entry_by k.place q s)
-    state (Valid f) e n = absurd cc
-    state (Invalid f) e n = reclaims
-    state (Coming f) e n = finish
-    state (Going f) e n = finish
-    state Unfilled e n = feed Unfilled k.place.free e refl refl
-    state OnSwap e n = feed OnSwap k.place.free e refl refl

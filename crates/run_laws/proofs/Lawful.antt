@@ -3,35 +3,33 @@ use Rattle.std.proofs.Common.{◌≡◌, ℕ, ◌==◌, ◌&&◌, Bool, true, fa
 use Rattle.flat_state.specs.Space.{Space}
 use Rattle.flat_state.specs.Flat.{Holding, Holds, Lends, Zombie, Process, FlatState, NamedImage, Inputs, process_of, can_step}
 use Rattle.vm_facts.specs.declared.page.Page.{Page}
-use Rattle.vm_facts.specs.declared.page.PageState.{PageState}
-use Rattle.vm_facts.specs.declared.page.PageState.TheVariants.{Unfilled, Valid, Invalid, Coming, Going, OnSwap}
 use Rattle.vm_facts.specs.declared.entry.Entry.{Entry}
 use Rattle.vm_facts.specs.declared.entry.Entry.TheVariants as entries
 use Rattle.user_vax.specs.Effects.{Effect}
 use Rattle.user_vax.specs.declared.refused.Refused.{Refused}
 use Rattle.user_vax.specs.declared.refused.Refused.TheVariants.{Miss, Below, Signal}
 use Rattle.swap_book.specs.Holdings.{Holdings}
-use Rattle.page_model.specs.Pages.{Filling, Zeros, OfImage}
-use Rattle.page_model.specs.Placement.{Placement, Transfer, state_of, filling_of}
+use Rattle.page_model.specs.Placement.{Placement, Transfer}
 use Rattle.flat_state.specs.Journal.{appended, instructions_of, IsUnit, AllUnits}
 use Rattle.page_model.specs.Place.{space_of_process}
-use Rattle.page_model.specs.Serve.{force_entry, is_full, read_entry_if, bring_entry_by, feed_entry_by, serve_entry_by, serve_entry}
+use Rattle.page_model.specs.Serve.{force_entry, is_full, serve_entry}
 use Rattle.kernel_model.specs.Start.{ImagesFit}
 use Rattle.page_laws.proofs.Swapper.PuttingOut.{unit_case}
 use Rattle.page_laws.proofs.Moves.Units.{unit_is}
+use Rattle.page_laws.proofs.Moves.Cases.{forcing_entry, serving_entries}
 use Rattle.flat_model.specs.Instruction.{instruction_in}
 use Rattle.flat_model.specs.declared.calls.Reply.{Reply}
 use Rattle.flat_model.specs.declared.calls.Reply.TheVariants.{Writes}
 use Rattle.flat_model.specs.declared.calls.SystemCall.{SystemCall}
 use Rattle.flat_model.specs.Calls.{call_of}
 use Rattle.flat_model.specs.Step.{replied_step, reply_behind, called_step, step_behind, step_of, step_holding, step_if, flat_step}
-use Rattle.flat_model.specs.Run.{is_refused, step_at, behind_first, due_at, first_if, entry_of_step as next_of_step, flat_run}
+use Rattle.flat_model.specs.Run.{is_refused, step_at, behind_first, due_at, first_if, flat_run}
 use Rattle.flat_model.specs.Asked.{start_held, held}
 use Rattle.run_model.specs.State.{State, start}
 use Rattle.run_model.specs.Wanted.{locked}
 use Rattle.run_model.specs.After.{after, state_after, state_at}
 use Rattle.run_model.specs.Act.{AllNext}
-use Rattle.run_model.proofs.After.{units_count, state_appended}
+use Rattle.run_model.proofs.After.{state_appended}
 use Rattle.run_model.proofs.FlatRuns.{run_held, run_flat}
 use Rattle.run_model.proofs.Acting.{next_run}
 use Rattle.run_model.specs.Next.{fill_by, fill_unit, begins_write, move_by, next_unit}
@@ -103,36 +101,10 @@ first_unit false [] u h k = absurd cc
 first_unit false (e ∷ es) u h k = absurd cc
 
 force_is : (ts : List Transfer) → IsUnit (force_entry ts)
-force_is [] = refl
-force_is (t ∷ ts) = tt
+force_is = forcing_entry IsUnit refl tt
 
 serve_is : (p : Placement) (q : Page) → IsUnit (serve_entry p q)
-serve_is p q = go (state_of p q)
-  where
-    read : (full : Bool) → IsUnit (read_entry_if p q full)
-    read true = tt
-    read false = tt
-
-    bring : (s : PageState) (x : Filling) → IsUnit (bring_entry_by p q s x (is_full p))
-    bring Unfilled Zeros = tt
-    bring Unfilled OfImage = read (is_full p)
-    bring (Valid f) x = read (is_full p)
-    bring (Invalid f) x = read (is_full p)
-    bring (Coming f) x = read (is_full p)
-    bring (Going f) x = read (is_full p)
-    bring OnSwap x = read (is_full p)
-
-    feed : (s : PageState) (fr : List ℕ) → IsUnit (feed_entry_by p q s (filling_of p q) fr (is_full p))
-    feed s [] = force_is p.transfers
-    feed s (f ∷ fs) = bring s (filling_of p q)
-
-    go : (s : PageState) → IsUnit (serve_entry_by p q s)
-    go (Valid f) = tt
-    go (Invalid f) = tt
-    go (Coming f) = tt
-    go (Going f) = tt
-    go Unfilled = feed Unfilled p.free
-    go OnSwap = feed OnSwap p.free
+serve_is p q = serving_entries IsUnit p q tt tt refl tt tt
 
 fill_is : (p : Placement) (e : Entry) → IsUnit e → IsUnit (fill_unit p e)
 fill_is p e h = go p.free

@@ -13,7 +13,7 @@ use Rattle.page_model.specs.Placement.{Placement, Residence, Due, due_page, spac
 use Rattle.page_model.specs.Moves.{begin, done, reclaim, get_run}
 use Rattle.page_model.specs.Hands.{hand_moves}
 use Rattle.page_model.specs.Place.{due_after, filled, put_step, place_entry}
-use Rattle.page_model.specs.Serve.{read_errand}
+use Rattle.page_model.specs.Reading.{read_errand}
 use Rattle.page_model.specs.Swapper.{is_out, residence_of}
 use Rattle.page_model.specs.Ownership.{OwnsFrames, OneOwner}
 use Rattle.kernel_model.specs.Sound.{Sound, lives}

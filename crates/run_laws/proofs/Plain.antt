@@ -1,16 +1,14 @@
 -- Units that are no flat entries.
 use Rattle.std.proofs.Common.{◌≡◌, ℕ, ◌+◌, Bool, true, false, ◌&&◌, nat_lt, List, [], ◌∷◌, length, Option, Some, None, refl, ap, ◌∙◌}
 use Rattle.vm_facts.specs.declared.page.Page.{Page}
-use Rattle.vm_facts.specs.declared.page.PageState.{PageState}
-use Rattle.vm_facts.specs.declared.page.PageState.TheVariants.{Unfilled, Valid, Invalid, Coming, Going, OnSwap}
 use Rattle.vm_facts.specs.declared.entry.Entry.{Entry}
 use Rattle.vm_facts.specs.declared.entry.Entry.TheVariants as entries
 use Rattle.flat_state.specs.Flat.{Inputs}
-use Rattle.page_model.specs.Pages.{Filling, Zeros, OfImage}
-use Rattle.page_model.specs.Placement.{Placement, Transfer, state_of, filling_of}
-use Rattle.page_model.specs.Serve.{force_entry, is_full, read_entry_if, bring_entry_by, feed_entry_by, serve_entry_by, serve_entry}
+use Rattle.page_model.specs.Placement.{Placement, Transfer}
+use Rattle.page_model.specs.Serve.{force_entry, is_full, serve_entry}
 use Rattle.page_model.specs.Swapper.{put_out_unit}
 use Rattle.page_laws.proofs.Swapper.PuttingOut.{unit_case}
+use Rattle.page_laws.proofs.Moves.Cases.{forcing_entry, serving_entries}
 use Rattle.flat_model.specs.Run.{process_of_entry}
 use Rattle.run_model.specs.State.{State}
 use Rattle.run_laws.proofs.Paging.{Leaver}
@@ -47,36 +45,10 @@ paging_stays (entries.SwapOut p) n k l = k
 paging_stays _ n k l = l
 
 force_paging : (ts : List Transfer) → IsPaging (force_entry ts)
-force_paging [] = tt
-force_paging (t ∷ ts) = tt
+force_paging = forcing_entry IsPaging tt tt
 
 pub serve_paging : (p : Placement) (q : Page) → IsPaging (serve_entry p q)
-serve_paging p q = go (state_of p q)
-  where
-    read : (full : Bool) → IsPaging (read_entry_if p q full)
-    read true = tt
-    read false = tt
-
-    bring : (s : PageState) (x : Filling) → IsPaging (bring_entry_by p q s x (is_full p))
-    bring Unfilled Zeros = tt
-    bring Unfilled OfImage = read (is_full p)
-    bring (Valid f) x = read (is_full p)
-    bring (Invalid f) x = read (is_full p)
-    bring (Coming f) x = read (is_full p)
-    bring (Going f) x = read (is_full p)
-    bring OnSwap x = read (is_full p)
-
-    feed : (s : PageState) (fr : List ℕ) → IsPaging (feed_entry_by p q s (filling_of p q) fr (is_full p))
-    feed s [] = force_paging p.transfers
-    feed s (f ∷ fs) = bring s (filling_of p q)
-
-    go : (s : PageState) → IsPaging (serve_entry_by p q s)
-    go (Valid f) = tt
-    go (Invalid f) = tt
-    go (Coming f) = tt
-    go (Going f) = tt
-    go Unfilled = feed Unfilled p.free
-    go OnSwap = feed OnSwap p.free
+serve_paging p q = serving_entries IsPaging p q tt tt tt tt tt
 
 fill_paging : (p : Placement) (e : Entry) → IsPaging e → IsPaging (fill_unit p e)
 fill_paging p e h = go p.free

@@ -9,9 +9,10 @@ use Rattle.page_model.specs.Placement.{Placement, Transfer, Errand, Writes}
 use Rattle.page_model.specs.Moves.{land_all, done, done_of, begin}
 use Rattle.page_model.specs.Runs.{run_out, pages_of_run}
 use Rattle.page_model.specs.Hands.{expire, sweep, hand_move}
-use Rattle.page_model.specs.Serve.{force, force_by, force_entry, Forces}
+use Rattle.page_model.specs.Serve.{force, force_entry, Forces}
 use Rattle.page_model.specs.Rank.{is_usable, HandsStand, HasRoom, far, far_by, far_transfers, reach}
 use Rattle.page_model.specs.Ownership.{OwnsFrames}
+use Rattle.page_model.specs.Place.{place_entry}
 use Rattle.page_laws.proofs.Ownership.Pages.{expire_owner}
 use Rattle.page_laws.proofs.Ownership.Serve.{force_owner}
 use Rattle.page_laws.proofs.Moves.Stays.{expire_free, expire_transfers}
@@ -81,6 +82,9 @@ moved p locked o e t = go (is_usable (expire p locked) locked (expire p locked).
 
 -- Counting.
 
+abbrev forced_as : Placement → List Page → List Transfer → Placement
+forced_as p locked ts = place_entry locked 0 p (force_entry ts)
+
 -- where a frame is free no unit forces one
 pub no_units : (us : List Entry) (p r : Placement) (locked : List Page) → 0 < length p.free → Forces us p locked r → (us ≡ []) × (p ≡ r)
 no_units [] p r locked l h = (refl, h)
@@ -106,7 +110,7 @@ writing b [] p r locked fr w h = record {
 }
 writing b (e ∷ es) p r locked fr w h = go p.transfers refl w h.1 h.2
   where
-    go : (ts : List Transfer) → p.transfers ≡ ts → HasWrite ts → e ≡ force_entry ts → Forces es (force_by p locked ts) locked r → Short b (e ∷ es) r 1 0 0
+    go : (ts : List Transfer) → p.transfers ≡ ts → HasWrite ts → e ≡ force_entry ts → Forces es (forced_as p locked ts) locked r → Short b (e ∷ es) r 1 0 0
     go [] k v i f = absurd v
     go (t ∷ ts) k v i f =
         let free : 0 < length (done p).free =
@@ -128,7 +132,7 @@ moving b [] p r locked o t h = record {
   moves = omega arith;
 }
 moving b (e ∷ es) p r locked o t h = subst (λ (x : Entry). Short b (x ∷ es) r (adds b (entries.Hands 1) + 1) 0 (length (e ∷ es))) (sym (h.1 ∙ ap force_entry t))
-    (by (moved p locked o h.0 t) (subst (λ (q : Placement). Forces es q locked r) (ap (force_by p locked) t) h.2) (λ z f. moving true es (hand_move p locked) r locked (move_owner p locked o) z f))
+    (by (moved p locked o h.0 t) (subst (λ (q : Placement). Forces es q locked r) (ap (forced_as p locked) t) h.2) (λ z f. moving true es (hand_move p locked) r locked (move_owner p locked o) z f))
   where
     by : Moved (hand_move p locked) → Forces es (hand_move p locked) locked r
         → ((hand_move p locked).transfers ≡ [] → Forces es (hand_move p locked) locked r → Short true es r (adds true (entries.Hands 1) + 1) 0 (length es))
@@ -162,7 +166,7 @@ forced_short b [] p r locked o h = record {
 }
 forced_short b (e ∷ es) p r locked o h = go p.transfers refl h.1 h.2 (λ f. forced_short false es (done p) r locked (Rattle.page_laws.proofs.Ownership.Runs.done_owner p o) f)
   where
-    go : (ts : List Transfer) → p.transfers ≡ ts → e ≡ force_entry ts → Forces es (force_by p locked ts) locked r
+    go : (ts : List Transfer) → p.transfers ≡ ts → e ≡ force_entry ts → Forces es (forced_as p locked ts) locked r
         → (Forces es (done p) locked r → Short false es r (length (done p).transfers + 2) (length (done p).transfers) (length es))
         → Short b (e ∷ es) r (length p.transfers + 2) (length p.transfers) (length (e ∷ es))
     go [] k i f more = let s : Short b (e ∷ es) r (adds b (entries.Hands 1) + 1) 0 (length (e ∷ es)) = moving b (e ∷ es) p r locked o k h in record {
@@ -193,7 +197,7 @@ moving_moves (e ∷ es) p r locked o s m t fr h = subst (λ (x : Entry). moves_o
     (subst (λ (q : Placement). HasRoom q locked) move (force_room p locked o m)) y z f))
   where
     move : force p locked ≡ hand_move p locked
-    move = ap (force_by p locked) t
+    move = ap (forced_as p locked) t
 
     falls : far (hand_move p locked) locked < far p locked
     falls = subst (λ (q : Placement). far q locked < far p locked) move (force_falls p locked o s m fr)

@@ -1,27 +1,31 @@
 -- Serving a page adds few entries.
-use Rattle.std.proofs.Common.{◌≡◌, ◌⊎◌, inl, inr, ℕ, ◌+◌, ◌<◌, ◌≤◌, Bool, true, false, List, [], ◌∷◌, ◌++◌, length, Some, None, refl, sym, ap, ◌∙◌, subst, arith}
+use Rattle.std.proofs.Common.{◌≡◌, ◌⊎◌, inl, inr, ℕ, ◌+◌, ◌<◌, ◌≤◌, Bool, true, false, List, [], ◌∷◌, ◌++◌, length, None, refl, sym, ap, ◌∙◌, subst, arith}
 use Rattle.std.proofs.lemmas.List.{length-append}
 use Rattle.vm_facts.specs.declared.page.Page.{Page}
 use Rattle.vm_facts.specs.declared.page.PageState.{PageState}
 use Rattle.vm_facts.specs.declared.page.PageState.TheVariants.{Unfilled, Valid, Invalid, Coming, Going, OnSwap}
 use Rattle.vm_facts.specs.declared.entry.Entry.{Entry}
 use Rattle.vm_facts.specs.declared.entry.Entry.TheVariants as entries
-use Rattle.page_model.specs.Pages.{Slot, Filling, Zeros, OfImage, frame_of, is_valid}
-use Rattle.page_model.specs.Placement.{Placement, Transfer, state_of, mark_of, filling_of, IsThere}
-use Rattle.page_model.specs.Moves.{evict, fill, fill_at, reclaim, reclaim_to, done, done_of}
-use Rattle.page_model.specs.Serve.{force, force_entry, read_step, read_entry, read_if, read_entry_if, bring_by, bring_entry_by, feed_by, feed_entry_by, serve_by, serve_step, serve_entry_by, serve_unit, is_full, Forces, Serves}
+use Rattle.page_model.specs.Pages.{Slot, frame_of, is_valid}
+use Rattle.page_model.specs.Placement.{Placement, Transfer, state_of, mark_of, IsThere}
+use Rattle.page_model.specs.Moves.{evict, fill_at, reclaim, reclaim_to, done, done_of}
+use Rattle.page_model.specs.Reading.{read_step, read_entry}
+use Rattle.page_model.specs.Serve.{force, force_entry, is_full, Forces, Serves, Serving, AtOnce, ByWaiting, serving, entry_of_serving, after_serving}
 use Rattle.page_model.specs.Rank.{HandsStand, HasRoom}
 use Rattle.page_model.specs.Conditions.{CanEnter}
-use Rattle.page_model.specs.Ownership.{OwnsFrames, seats}
+use Rattle.page_model.specs.Ownership.{OwnsFrames}
+use Rattle.page_model.specs.Place.{filled}
 use Rattle.page_laws.proofs.Lists.Pages.{put_state}
 use Rattle.page_laws.proofs.Moves.Steps.{EvictRest, evict_rest}
 use Rattle.page_laws.proofs.Ownership.Runs.{done_owner}
-use Rattle.page_laws.proofs.Ownership.Serve.{force_owner, serve_owner}
+use Rattle.page_laws.proofs.Ownership.Serve.{force_owner}
 use Rattle.page_laws.proofs.Moves.Stays.{Steady, Stays, done_steady, force_stays}
 use Rattle.page_laws.proofs.Moves.Transfers.{reclaim_count, fill_count}
-use Rattle.page_laws.proofs.Ends.Serving.{Landed, land_all_lands, is_coming, read_comes, read_length, in_flight, full_some, done_rest}
+use Rattle.page_laws.proofs.Ends.Serving.{Landed, land_all_lands, is_coming, read_comes, read_length, full_some, done_rest, flying_in}
 use Rattle.page_laws.proofs.Ends.Wholes.{serve_sizes}
 use Rattle.page_laws.proofs.Moves.Units.{unit_is}
+use Rattle.page_laws.proofs.Moves.Cases.{serving_cases, serving_invalid, serving_flies, serving_starved}
+use Rattle.page_laws.proofs.Lists.Local.{none_some}
 use Rattle.span_laws.specs.Spans.{is_hands, added, takes, takings, moves, moves_of}
 use Rattle.span_laws.proofs.Spanning.{adds_one, added_both, takings_both, moves_both}
 use Rattle.span_laws.proofs.Forcing.{done_free, Short, forced_short, forced_moves}
@@ -68,14 +72,12 @@ looser b us r q most down flights takers hands most2 down2 flights2 takers2 hand
 }
 
 -- what the head of a list of units is
-unit_at : (p : Placement) (q : Page) (now : Bool) (e : Entry) (s : PageState) → state_of p q ≡ s → serve_unit p q now ≡ Some e
-    → (is_valid s ≡ false) × (e ≡ serve_entry_by p q s)
-unit_at p q now e s k h = let a = unit_is p q now e h in (ap is_valid (sym k) ∙ a.0, a.1 ∙ ap (serve_entry_by p q) k)
-
-step_at : (p : Placement) (locked : List Page) (q : Page) (now : Bool) (es : List Entry) (r : Placement) (s : PageState) → state_of p q ≡ s
-    → Serves es (serve_step p locked q) locked q now r
-    → Serves es (serve_by p locked q s) locked q now r
-step_at p locked q now es r s k h = subst (λ (x : PageState). Serves es (serve_by p locked q x) locked q now r) k h
+served_as : (p : Placement) (locked : List Page) (q : Page) (now : Bool) (e : Entry) (es : List Entry) (r : Placement) (x : Serving) → serving p q ≡ x
+    → Serves (e ∷ es) p locked q now r → (e ≡ entry_of_serving x) × Serves es (after_serving p locked x) locked q now r
+served_as p locked q now e es r x k h = (
+  (unit_is p q now e h.0).1 ∙ ap entry_of_serving k,
+  subst (λ (y : Serving). Serves es (after_serving p locked y) locked q now r) k h.1,
+)
 
 -- A page that is valid, or still in its frame.
 
@@ -94,13 +96,13 @@ landed_served b (e ∷ es) p r locked q now there l h = go (state_of p q) refl l
     go (Valid f) k l = looser b (e ∷ es) r q (length p.transfers) 0 (length p.transfers) 0 0 (length p.transfers + 1) 0 (length p.transfers) 0 0
         (valid_none b (e ∷ es) p r locked q now (ap is_valid k) h) (omega arith) (omega arith) (omega arith) (omega arith)
     go (Invalid f) k l =
-        let u = unit_at p q now e (Invalid f) k h.0 in
-        let t : Serves es (reclaim p q) locked q now r = step_at p locked q now es r (Invalid f) k h.1 in
+        let u : (e ≡ entries.Reclaim q) × Serves es (reclaim p q) locked q now r =
+        served_as p locked q now e es r (AtOnce (entries.Reclaim q)) (serving_invalid p q f k) h in
         let v : is_valid (state_of (reclaim p q) q) ≡ true =
         subst (λ (s : PageState). is_valid (state_of (reclaim_to p q s) q) ≡ true) (sym k) (ap is_valid (put_state p q (Valid f) (mark_of p q) there)) in
         let c = reclaim_count p q in
         let s =
-        more_served b (entries.Reclaim q) e es r q (length (reclaim p q).transfers) 0 (length (reclaim p q).transfers) 0 0 u.1 refl refl (valid_none false es (reclaim p q) r locked q now v t) in
+        more_served b (entries.Reclaim q) e es r q (length (reclaim p q).transfers) 0 (length (reclaim p q).transfers) 0 0 u.0 refl refl (valid_none false es (reclaim p q) r locked q now v u.1) in
         looser b (e ∷ es) r q (1 + length (reclaim p q).transfers) 0 (length (reclaim p q).transfers) 0 0 (length p.transfers + 1) 0 (length p.transfers) 0 0 s (omega arith) (omega arith)
         (omega arith) (omega arith)
     go Unfilled k l = absurd l
@@ -119,29 +121,14 @@ flying_not_valid : (s : PageState) → is_flying s ≡ true → is_valid s ≡ t
 flying_not_valid (Coming f) e h = absurd cc
 flying_not_valid _ e h = absurd cc
 
-flying_in : (p : Placement) (q : Page) → OwnsFrames p → is_flying (state_of p q) ≡ true → p.transfers ≡ [] → ⊥
-flying_in p q o e t = go (state_of p q) refl e
-  where
-    go : (s : PageState) → state_of p q ≡ s → is_flying s ≡ true → ⊥
-    go (Coming f) k x = in_flight p q f o (ap frame_of k) (λ i. absurd (let z : Coming f ≡ Invalid f = sym k ∙ i in cc)) (ap (seats 0) k) t
-    go (Going f) k x = in_flight p q f o (ap frame_of k) (λ i. absurd (let z : Going f ≡ Invalid f = sym k ∙ i in cc)) (ap (seats 0) k) t
-    go Unfilled k x = absurd cc
-    go (Valid f) k x = absurd cc
-    go (Invalid f) k x = absurd cc
-    go OnSwap k x = absurd cc
-
--- the unit for a page in flight is `Done`
-flying_unit : (p : Placement) (locked : List Page) (q : Page) (now : Bool) (e : Entry) → is_flying (state_of p q) ≡ true → serve_unit p q now ≡ Some e
-    → (e ≡ entries.Done) × (serve_step p locked q ≡ done p)
-flying_unit p locked q now e n h = let a = unit_is p q now e h in go (state_of p q) n a.1
-  where
-    go : (s : PageState) → is_flying s ≡ true → e ≡ serve_entry_by p q s → (e ≡ entries.Done) × (serve_by p locked q s ≡ done p)
-    go (Coming f) k i = (i, refl)
-    go (Going f) k i = (i, refl)
-    go Unfilled k i = absurd cc
-    go (Valid f) k i = absurd cc
-    go (Invalid f) k i = absurd cc
-    go OnSwap k i = absurd cc
+-- so it is on its way in, or out
+flies : (s : PageState) → is_flying s ≡ true → (f : ℕ) × ((s ≡ Coming f) ⊎ (s ≡ Going f))
+flies (Coming f) e = (f, inl refl)
+flies (Going f) e = (f, inr refl)
+flies Unfilled e = absurd cc
+flies (Valid f) e = absurd cc
+flies (Invalid f) e = absurd cc
+flies OnSwap e = absurd cc
 
 pub done_less : (p : Placement) → (p.transfers ≡ [] → ⊥) → length (done p).transfers + 1 ≡ length p.transfers
 done_less p n = go p.transfers refl
@@ -165,16 +152,16 @@ flying_served : (b : Bool) (us : List Entry) (p r : Placement) (locked : List Pa
     → Served b us r q (length p.transfers + 1) 1 (length p.transfers) 0 0
 flying_served b [] p r locked q now o there n h = none_served b p r q (length p.transfers + 1) 1 (length p.transfers) 0 0 h (omega arith) (λ v. absurd (flying_not_valid (state_of p q) n v))
 flying_served b (e ∷ es) p r locked q now o there n h =
-    let u = flying_unit p locked q now e n h.0 in
-    let t : Serves es (done p) locked q now r = subst (λ (x : Placement). Serves es x locked q now r) u.1 h.1 in
-    let l = done_less p (flying_in p q o n) in
+    let m = flies (state_of p q) n in
+    let u : (e ≡ entries.Done) × Serves es (done p) locked q now r = served_as p locked q now e es r (ByWaiting entries.Done) (serving_flies p q m.0 m.1) h in
+    let l = done_less p (flying_in p q m.0 o m.1) in
     elim (done_lands p q there) [
       | inl k ↦
-          let s = flying_served false es (done p) r locked q now (done_owner p o) (done_there p q o there) (ap is_flying k ∙ n) t in
+          let s = flying_served false es (done p) r locked q now (done_owner p o) (done_there p q o there) (ap is_flying k ∙ n) u.1 in
           looser b (e ∷ es) r q (1 + (length (done p).transfers + 1)) 1 (length (done p).transfers) 0 0 (length p.transfers + 1) 1 (length p.transfers) 0 0
           (more_served b entries.Done e es r q (length (done p).transfers + 1) 1 (length (done p).transfers) 0 0 u.0 refl refl s) (omega arith) (omega arith) (omega arith) (omega arith)
       | inr k ↦
-          let s = landed_served false es (done p) r locked q now (done_there p q o there) k t in
+          let s = landed_served false es (done p) r locked q now (done_there p q o there) k u.1 in
           looser b (e ∷ es) r q (1 + (length (done p).transfers + 1)) 0 (length (done p).transfers) 0 0 (length p.transfers + 1) 1 (length p.transfers) 0 0
           (more_served b entries.Done e es r q (length (done p).transfers + 1) 0 (length (done p).transfers) 0 0 u.0 refl refl s) (omega arith) (omega arith) (omega arith) (omega arith)
     ]
@@ -190,41 +177,23 @@ coming_flies (Coming f) e = refl
 coming_flies (Going f) e = refl
 coming_flies _ e = absurd cc
 
-fill_valid : (p : Placement) (q : Page) (f : ℕ) (fs : List ℕ) → IsThere p q → p.free ≡ f ∷ fs → is_valid (state_of (fill p q) q) ≡ true
+fill_valid : (p : Placement) (q : Page) (f : ℕ) (fs : List ℕ) → IsThere p q → p.free ≡ f ∷ fs → is_valid (state_of (filled p q) q) ≡ true
 fill_valid p q f fs there e = ap (λ (fr : List ℕ). is_valid (state_of (fill_at p q fr) q)) e
     ∙ ap is_valid (put_state (evict p f) q (Valid f) true (let r : EvictRest p (evict p f) = evict_rest p f in let h = r.sizes q in omega arith))
 
 -- what the head of a list of units is then
-pub data Fed (p : Placement) (locked : List Page) (q : Page) (e : Entry) : Type 0 where
-  Filled : e ≡ entries.Zero q → serve_step p locked q ≡ fill p q → Fed p locked q e
-  Waited : e ≡ entries.Done → serve_step p locked q ≡ done p → is_full p ≡ true → Fed p locked q e
-  Read : e ≡ read_entry p q → serve_step p locked q ≡ read_step p q → Fed p locked q e
+pub data Fed (p : Placement) (q : Page) : Type 0 where
+  Filled : (f : ℕ) (fs : List ℕ) → p.free ≡ f ∷ fs → serving p q ≡ AtOnce (entries.Zero q) → Fed p q
+  Waited : serving p q ≡ AtOnce entries.Done → is_full p ≡ true → Fed p q
+  Read : serving p q ≡ AtOnce (read_entry p q) → Fed p q
 
-fed : (p : Placement) (locked : List Page) (q : Page) (now : Bool) (e : Entry) (f : ℕ) (fs : List ℕ) → frame_of (state_of p q) ≡ None
-    → p.free ≡ f ∷ fs → serve_unit p q now ≡ Some e → Fed p locked q e
-fed p locked q now e f fs n fr h = let a = unit_is p q now e h in go (state_of p q) refl n a.1
-  where
-    read : (full : Bool) → is_full p ≡ full → e ≡ read_entry_if p q full → serve_step p locked q ≡ read_if p q full → Fed p locked q e
-    read true x i s = Waited i s x
-    read false x i s = Read i s
-
-    unfilled : (x : Filling) → e ≡ bring_entry_by p q Unfilled x (is_full p) → serve_step p locked q ≡ bring_by p q Unfilled x (is_full p) → Fed p locked q e
-    unfilled Zeros i s = Filled i s
-    unfilled OfImage i s = read (is_full p) refl i s
-
-    go : (s : PageState) → state_of p q ≡ s → frame_of s ≡ None → e ≡ serve_entry_by p q s → Fed p locked q e
-    go Unfilled k z i = unfilled (filling_of p q) (i ∙ ap (λ (l : List ℕ). feed_entry_by p q Unfilled (filling_of p q) l (is_full p)) fr)
-        (ap (serve_by p locked q) k ∙ ap (λ (l : List ℕ). feed_by p locked q Unfilled (filling_of p q) l (is_full p)) fr)
-    go OnSwap k z i = read (is_full p) refl (i ∙ ap (λ (l : List ℕ). feed_entry_by p q OnSwap (filling_of p q) l (is_full p)) fr)
-        (ap (serve_by p locked q) k ∙ ap (λ (l : List ℕ). feed_by p locked q OnSwap (filling_of p q) l (is_full p)) fr)
-    go (Valid g) k z i = Rattle.page_laws.proofs.Lists.Local.none_some g (sym z)
-    go (Invalid g) k z i = Rattle.page_laws.proofs.Lists.Local.none_some g (sym z)
-    go (Coming g) k z i = Rattle.page_laws.proofs.Lists.Local.none_some g (sym z)
-    go (Going g) k z i = Rattle.page_laws.proofs.Lists.Local.none_some g (sym z)
-
-first_of : (xs : List ℕ) → 0 < length xs → (f : ℕ) × (fs : List ℕ) × (xs ≡ f ∷ fs)
-first_of [] l = absurd (omega arith)
-first_of (x ∷ xs) l = (x, xs, refl)
+fed : (p : Placement) (q : Page) → frame_of (state_of p q) ≡ None → 0 < length p.free → Fed p q
+fed p q n l = serving_cases (λ x. serving p q ≡ x → Fed p q) p q (λ f s k. none_some f (sym n ∙ ap frame_of s)) (λ f s k. none_some f (sym n ∙ ap frame_of s))
+    (λ f s k. elim s [
+      | inl e ↦ none_some f (sym n ∙ ap frame_of e)
+      | inr e ↦ none_some f (sym n ∙ ap frame_of e)
+    ])
+    (λ m e k. absurd (let z = ap length e in omega arith)) (λ f fs e s x k. Filled f fs e k) (λ f fs e r b k. Waited k b) (λ f fs e r b k. Read k) refl
 
 fed_served : (b : Bool) (us : List Entry) (p r : Placement) (locked : List Page) (q : Page) (now : Bool) → OwnsFrames p → IsThere p q
     → frame_of (state_of p q) ≡ None → 0 < length p.free → Serves us p locked q now r
@@ -234,30 +203,32 @@ fed_served b (e ∷ es) p r locked q now o there n l h =
     let st : Steady p (done p) = done_steady p o in
     let still : frame_of (state_of (done p) q) ≡ None = ap (λ (x : Slot). frame_of x.state) (st.others q n) ∙ n in
     let free : 0 < length (done p).free = omega (arith, done_free p, l) in
-    let x = first_of p.free l in go (fed p locked q now e x.0 x.1 n x.2 h.0) (λ s. fed_served false es (done p) r locked q now (done_owner p o) (done_there p q o there) still free s)
+    go (fed p q n l) (λ s. fed_served false es (done p) r locked q now (done_owner p o) (done_there p q o there) still free s)
   where
-    go : Fed p locked q e → (Serves es (done p) locked q now r → Served false es r q (length (done p).transfers + 3) 0 (length (done p).transfers) 1 0)
+    go : Fed p q → (Serves es (done p) locked q now r → Served false es r q (length (done p).transfers + 3) 0 (length (done p).transfers) 1 0)
         → Served b (e ∷ es) r q (length p.transfers + 3) 0 (length p.transfers) 1 0
-    go (Filled i s) more =
-        let x = first_of p.free l in
-        let c = fill_count p q in
-        let k = valid_none false es (fill p q) r locked q now (fill_valid p q x.0 x.1 there x.2) (subst (λ (y : Placement). Serves es y locked q now r) s h.1) in
-        looser b (e ∷ es) r q (1 + length (fill p q).transfers) 0 (length (fill p q).transfers) 1 0 (length p.transfers + 3) 0 (length p.transfers) 1 0
-        (more_served b (entries.Zero q) e es r q (length (fill p q).transfers) 0 (length (fill p q).transfers) 0 0 i refl refl k) (omega arith) (omega arith) (omega arith) (omega arith)
-    go (Waited i s f) more =
+    go (Filled f fs x s) more =
+        let u : (e ≡ entries.Zero q) × Serves es (filled p q) locked q now r = served_as p locked q now e es r (AtOnce (entries.Zero q)) s h in
+        let c : length (filled p q).transfers ≡ length p.transfers = fill_count p q in
+        let k = valid_none false es (filled p q) r locked q now (fill_valid p q f fs there x) u.1 in
+        looser b (e ∷ es) r q (1 + length (filled p q).transfers) 0 (length (filled p q).transfers) 1 0 (length p.transfers + 3) 0 (length p.transfers) 1 0
+        (more_served b (entries.Zero q) e es r q (length (filled p q).transfers) 0 (length (filled p q).transfers) 0 0 u.0 refl refl k) (omega arith) (omega arith) (omega arith) (omega arith)
+    go (Waited s f) more =
+        let u : (e ≡ entries.Done) × Serves es (done p) locked q now r = served_as p locked q now e es r (AtOnce entries.Done) s h in
         let c = done_less p (λ z. absurd (let a = full_some p f in let b = ap length z in omega arith)) in
-        let k = more (subst (λ (y : Placement). Serves es y locked q now r) s h.1) in
         looser b (e ∷ es) r q (1 + (length (done p).transfers + 3)) 0 (length (done p).transfers) 1 0 (length p.transfers + 3) 0 (length p.transfers) 1 0
-        (more_served b entries.Done e es r q (length (done p).transfers + 3) 0 (length (done p).transfers) 1 0 i refl refl k) (omega arith) (omega arith) (omega arith) (omega arith)
-    go (Read i s) more =
-        let read_there : serve_step p locked q ≡ read_step p q → IsThere (read_step p q) q = λ s.
-        subst (λ (y : Placement). IsThere y q) s (let a = serve_sizes p locked q o q in omega (arith, there)) in
+        (more_served b entries.Done e es r q (length (done p).transfers + 3) 0 (length (done p).transfers) 1 0 u.0 refl refl (more u.1)) (omega arith) (omega arith) (omega arith) (omega arith)
+    go (Read s) more =
+        let u : (e ≡ read_entry p q) × Serves es (read_step p q) locked q now r = served_as p locked q now e es r (AtOnce (read_entry p q)) s h in
+        let read_there : IsThere (read_step p q) q =
+        subst (λ (y : Serving). IsThere (after_serving p locked y) q) s (let a = serve_sizes p locked q o q in omega (arith, there)) in
         let c = read_length p q in
         let enter : CanEnter p q = record { there = there; frameless = n } in
-        let k = flying_served false es (read_step p q) r locked q now (Rattle.page_laws.proofs.Ownership.Serve.read_owner p q o enter) (read_there s)
-        (coming_flies (state_of (read_step p q) q) (read_comes p q o enter l)) (subst (λ (y : Placement). Serves es y locked q now r) s h.1) in
+        let k = flying_served false es (read_step p q) r locked q now (Rattle.page_laws.proofs.Ownership.Serve.read_owner p q o enter) read_there
+        (coming_flies (state_of (read_step p q) q) (read_comes p q o enter l)) u.1 in
         looser b (e ∷ es) r q (1 + (length (read_step p q).transfers + 1)) 1 (length (read_step p q).transfers) 1 0 (length p.transfers + 3) 0 (length p.transfers) 1 0
-        (more_served b (read_entry p q) e es r q (length (read_step p q).transfers + 1) 1 (length (read_step p q).transfers) 0 0 i refl refl k) (omega arith) (omega arith) (omega arith) (omega arith)
+        (more_served b (read_entry p q) e es r q (length (read_step p q).transfers + 1) 1 (length (read_step p q).transfers) 0 0 u.0 refl refl k) (omega arith) (omega arith)
+        (omega arith) (omega arith)
 
 -- A page that has no frame: first a frame is forced.
 
@@ -272,24 +243,6 @@ pub record Split (us : List Entry) (p r : Placement) (locked : List Page) (q : P
   pub frameless : frame_of (state_of middle q) ≡ None
   pub then : ((behind ≡ []) × (middle ≡ r)) ⊎ ((0 < length middle.free) × Serves behind middle locked q now r)
 
-forced_unit : (p : Placement) (locked : List Page) (q : Page) (now : Bool) (e : Entry) → frame_of (state_of p q) ≡ None → p.free ≡ []
-    → serve_unit p q now ≡ Some e → (e ≡ force_entry p.transfers) × (serve_step p locked q ≡ force p locked)
-forced_unit p locked q now e n fr h = let a = unit_is p q now e h in go (state_of p q) refl n a.1
-  where
-    go : (s : PageState) → state_of p q ≡ s → frame_of s ≡ None → e ≡ serve_entry_by p q s → (e ≡ force_entry p.transfers) × (serve_step p locked q ≡ force p locked)
-    go Unfilled k z i = (
-      i ∙ ap (λ (l : List ℕ). feed_entry_by p q Unfilled (filling_of p q) l (is_full p)) fr,
-      ap (serve_by p locked q) k ∙ ap (λ (l : List ℕ). feed_by p locked q Unfilled (filling_of p q) l (is_full p)) fr,
-    )
-    go OnSwap k z i = (
-      i ∙ ap (λ (l : List ℕ). feed_entry_by p q OnSwap (filling_of p q) l (is_full p)) fr,
-      ap (serve_by p locked q) k ∙ ap (λ (l : List ℕ). feed_by p locked q OnSwap (filling_of p q) l (is_full p)) fr,
-    )
-    go (Valid g) k z i = Rattle.page_laws.proofs.Lists.Local.none_some g (sym z)
-    go (Invalid g) k z i = Rattle.page_laws.proofs.Lists.Local.none_some g (sym z)
-    go (Coming g) k z i = Rattle.page_laws.proofs.Lists.Local.none_some g (sym z)
-    go (Going g) k z i = Rattle.page_laws.proofs.Lists.Local.none_some g (sym z)
-
 split : (us : List Entry) (p r : Placement) (locked : List Page) (q : Page) (now : Bool) → OwnsFrames p → IsThere p q → frame_of (state_of p q) ≡ None
     → Serves us p locked q now r → Split us p r locked q now
 split [] p r locked q now o there n h = record { before = []; behind = []; middle = p; whole = refl; forces = refl; owner = o; there = there; frameless = n; then = inl (refl, h) }
@@ -302,8 +255,9 @@ split (e ∷ es) p r locked q now o there n h =
   where
     go : (fr : List ℕ) → p.free ≡ fr → (Serves es (force p locked) locked q now r → Split es (force p locked) r locked q now) → Split (e ∷ es) p r locked q now
     go [] k more =
-        let u = forced_unit p locked q now e n k h.0 in
-        let m : Split es (force p locked) r locked q now = more (subst (λ (y : Placement). Serves es y locked q now r) u.1 h.1) in
+        let u : (e ≡ force_entry p.transfers) × Serves es (force p locked) locked q now r =
+        served_as p locked q now e es r (ByWaiting (force_entry p.transfers)) (serving_starved p q n k) h in
+        let m : Split es (force p locked) r locked q now = more u.1 in
         record {
           before = e ∷ m.before;
           behind = m.behind;

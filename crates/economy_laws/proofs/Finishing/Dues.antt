@@ -1,15 +1,13 @@
 -- What is due is filled: for each page a frame is forced, and a parent's page is served, till it is.
 use Rattle.std.proofs.Common.{◌≡◌, ℕ, zero, suc, ◌+◌, ◌<◌, ◌≤◌, Bool, true, false, List, [], ◌∷◌, length, Option, Some, None, refl, sym, ap, ◌∙◌, subst, arith}
 use Rattle.vm_facts.specs.declared.page.Page.{Page}
-use Rattle.vm_facts.specs.declared.page.PageState.{PageState}
-use Rattle.vm_facts.specs.declared.page.PageState.TheVariants.{Unfilled, Valid, Invalid, Coming, Going, OnSwap}
 use Rattle.vm_facts.specs.declared.entry.Entry.{Entry}
 use Rattle.vm_facts.specs.declared.entry.Entry.TheVariants as entries
 use Rattle.flat_state.specs.Flat.{Inputs}
 use Rattle.page_model.specs.Pages.{is_valid}
 use Rattle.page_model.specs.Placement.{Placement, Due, Start, CopyOf, due_page, state_of, IsThere}
 use Rattle.page_model.specs.Place.{due_after, filled, place_entry}
-use Rattle.page_model.specs.Serve.{force, force_entry, serve_entry, serve_unit, serve_unit_by}
+use Rattle.page_model.specs.Serve.{force, force_entry, serve_entry, serve_unit, Serving, unit_of_serving}
 use Rattle.page_model.specs.Rank.{far, rank, HasRoom}
 use Rattle.page_model.specs.Dues.{IsDue}
 use Rattle.page_model.specs.Ownership.{OwnsFrames}
@@ -18,6 +16,8 @@ use Rattle.page_laws.proofs.Moves.Locks.{force_spares}
 use Rattle.page_laws.proofs.Moves.Stays.{Stays, force_stays}
 use Rattle.page_laws.proofs.Moves.Units.{now_unit}
 use Rattle.page_laws.proofs.Ownership.Serve.{state_there}
+use Rattle.page_laws.proofs.Moves.Cases.{serving_valid}
+use Rattle.page_laws.proofs.Due.Entries.{serve_dues}
 use Rattle.run_laws.proofs.Distinct.{among_first}
 use Rattle.flat_model.specs.Run.{process_of_entry}
 use Rattle.run_model.specs.declared.mark.Mark.{Mark}
@@ -30,7 +30,7 @@ use Rattle.run_laws.proofs.Allowed.{first_after}
 use Rattle.run_laws.proofs.Room.{run_room}
 use Rattle.run_laws.proofs.Units.{plain_place, owns, not_due}
 use Rattle.economy_laws.specs.Finishes.{Finishes}
-use Rattle.economy_laws.proofs.Left.{serve_due_same, after_forced, after_served}
+use Rattle.economy_laws.proofs.Left.{after_forced, after_served}
 use Rattle.economy_laws.proofs.Stretching.{source_of}
 use Rattle.economy_laws.proofs.Finishing.Stages.{Stage, finish_known, IsLasting, mark_lasts, stands}
 
@@ -57,15 +57,7 @@ start_filling A q ds = record {
 }
 
 valid_none : (p : Placement) (q : Page) → is_valid (state_of p q) ≡ true → serve_unit p q true ≡ None
-valid_none p q h = go (state_of p q) h
-  where
-    go : (s : PageState) → is_valid s ≡ true → serve_unit_by p q s true ≡ None
-    go (Valid f) e = refl
-    go Unfilled e = absurd cc
-    go (Invalid f) e = absurd cc
-    go (Coming f) e = absurd cc
-    go (Going f) e = absurd cc
-    go OnSwap e = absurd cc
+valid_none p q h = ap (λ (x : Serving). unit_of_serving x true) (serving_valid p q h)
 
 copy_filling : (A : Inputs) (q parent : Page) (ds : List Due)
     → Filling A (CopyOf q parent) ds (parent ∷ []) (entries.Copy q) (λ p. is_valid (state_of p parent) ≡ true)
@@ -138,10 +130,10 @@ bring_ends (suc n) A P q parent ds m s g l on p k mk lt =
         let u : Entry = serve_entry s.place parent in
         finish_known A P s u g p (due_next A s (CopyOf q parent) ds k ∙ ap (λ (o : Option Entry). Some (copy_unit_by s.place q o)) (now_unit s.place parent v)) (λ b p2.
         let st = r.placed in
-        let pl = after_served A s u (parent ∷ []) parent (ap (locked_by A s) k) (not_due s.place parent st.dues (due.source).1) (now_unit s.place parent v) in
+        let pl = after_served A s u (parent ∷ []) parent (ap (locked_by A s) k) (now_unit s.place parent v) in
         let a = ap (λ (y : Placement). rank y (parent ∷ []) parent) pl in
         let c = serve_falls s.place (parent ∷ []) parent (owns A s r.placed) (stands A s r) room there v in
-        more (after A s u) p2 (ap (λ (y : Placement). y.due) pl ∙ serve_due_same s.place (parent ∷ []) parent (owns A s r.placed) ∙ k)
+        more (after A s u) p2 (ap (λ (y : Placement). y.due) pl ∙ serve_dues s.place (parent ∷ []) parent (owns A s r.placed) (not_due s.place parent st.dues (due.source).1) ∙ k)
         (mark_lasts A s u (subst IsLasting (sym mk) l) b ∙ mk) (omega arith))
 
 -- All that is due.

@@ -17,6 +17,7 @@ use Rattle.page_laws.proofs.Moves.Locks.{done_spares, serve_spares}
 use Rattle.page_laws.proofs.Moves.Stays.{Steady, done_steady}
 use Rattle.page_laws.proofs.Moves.Units.{unit_is, now_unit}
 use Rattle.page_laws.proofs.Swapper.Residences.{moved_own}
+use Rattle.page_laws.proofs.Due.Entries.{serve_dues}
 use Rattle.flat_model.specs.Run.{Point, process_of_entry, entry_of_step as next_of_step}
 use Rattle.flat_model.specs.Touched.{touched}
 use Rattle.run_model.specs.declared.mark.Mark.{Mark}
@@ -40,7 +41,7 @@ use Rattle.economy_laws.specs.Stretch.{TouchesMore}
 use Rattle.economy_laws.specs.Finishes.{Finishes}
 use Rattle.economy_laws.proofs.Growing.{all_grown}
 use Rattle.economy_laws.proofs.Growth.{growth_touches}
-use Rattle.economy_laws.proofs.Left.{serve_due_same, after_served, stays_in, wanted_on, locked_on, split_there, split_longer, is_closed}
+use Rattle.economy_laws.proofs.Left.{after_served, stays_in, wanted_on, locked_on, split_there, split_longer, is_closed}
 use Rattle.run_laws.proofs.LockedRoom.{before_few}
 use Rattle.span_laws.proofs.Serving.{done_less}
 use Rattle.economy_laws.proofs.Sleeping.{sleep_stops}
@@ -151,10 +152,10 @@ serve_ends (suc n) A P pid q pages front s g on p i ts fs w lt = finish_on A P s
         plain = ap process_of_entry is ∙ serve_flat s.place q
 
         pl : (after A s u).place ≡ serve_step s.place front q
-        pl = after_served A s u front q locks (ap (λ (x : List Due). due_of_page x q) i.clear) (now_unit s.place q nv ∙ ap (λ (x : Entry). Some x) (sym is))
+        pl = after_served A s u front q locks (now_unit s.place q nv ∙ ap (λ (x : Entry). Some x) (sym is))
 
         due : (after A s u).place.due ≡ []
-        due = ap (λ (x : Placement). x.due) pl ∙ serve_due_same s.place front q (owns A s r.placed) ∙ i.clear
+        due = ap (λ (x : Placement). x.due) pl ∙ serve_dues s.place front q (owns A s r.placed) (ap (λ (x : List Due). due_of_page x q) i.clear) ∙ i.clear
 
         out : (o : Bool) → is_out (after A s u).place pid ≡ o → o ≡ false
         out false e = refl

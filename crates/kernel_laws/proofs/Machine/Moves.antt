@@ -20,7 +20,7 @@ use Rattle.page_model.specs.Placement.{Placement, Residence, Due, Start, CopyOf,
 use Rattle.page_model.specs.Moves.{fill_at, evict}
 use Rattle.page_model.specs.Hands.{hand_move, hand_moves}
 use Rattle.page_model.specs.Place.{filled, space_of_holding}
-use Rattle.page_model.specs.Serve.{source_for, read_errand}
+use Rattle.page_model.specs.Reading.{source_for, read_errand}
 use Rattle.page_model.specs.Swapper.{is_out, residence_of}
 use Rattle.page_model.specs.Conditions.{EachPage, CanEnter, HasSeat}
 use Rattle.page_model.specs.Ownership.{OwnsFrames, OneOwner}

@@ -14,7 +14,7 @@ use Rattle.page_model.specs.Pages.{numbered, changed}
 use Rattle.page_model.specs.Placement.{Placement, Residence, Starting, residents_from}
 use Rattle.page_model.specs.Moves.{drop_all}
 use Rattle.page_model.specs.Place.{enter_image, give_up_unless, place_change, place_entry, facts_numbered}
-use Rattle.page_model.specs.Serve.{read_errand}
+use Rattle.page_model.specs.Reading.{read_errand}
 use Rattle.page_model.specs.PuttingOut.{IsResident}
 use Rattle.kernel_model.specs.Kernel.{Kernel, Proc, with_regs}
 use Rattle.kernel_model.specs.Sound.{has_life, lives}

@@ -16,7 +16,7 @@ use Rattle.page_model.specs.Placement.{Placement, Residence, Due, CopyOf, due_of
 use Rattle.page_model.specs.Moves.{begin, reclaim, done}
 use Rattle.page_model.specs.Hands.{hand_move, hand_moves}
 use Rattle.page_model.specs.Place.{filled, put_step}
-use Rattle.page_model.specs.Serve.{read_errand}
+use Rattle.page_model.specs.Reading.{read_errand}
 use Rattle.page_model.specs.Swapper.{is_out, residence_of}
 use Rattle.page_model.specs.Ownership.{OneOwner}
 use Rattle.kernel_model.specs.Stands.{holds_some, Stands}
