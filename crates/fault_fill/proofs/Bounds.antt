@@ -12,15 +12,17 @@ use Rattle.std.proofs.lemmas.Option.{same_Some}
 use Rattle.flat_state.specs.Journal.{append, appended}
 use Rattle.flat_state.specs.PageNames.{is_among, same_page}
 use Rattle.flat_state.proofs.PageNames.{same_page_self}
-use Rattle.page_model.specs.Pages.{Filling, Zeros, OfImage, frame_of, is_valid}
-use Rattle.page_model.specs.Placement.{Placement, state_of, filling_of, IsThere}
-use Rattle.page_model.specs.Serve.{force, read_entry, read_entry_if, bring_entry_by, serve_unit, serve_unit_by, serve_step, serve_by, feed_by, feed_unit_by, is_full, Serves}
+use Rattle.page_model.specs.Pages.{frame_of, is_valid}
+use Rattle.page_model.specs.Placement.{Placement, state_of, IsThere}
+use Rattle.page_model.specs.Reading.{read_entry}
+use Rattle.page_model.specs.Serve.{force, serve_unit, serve_step, Serves, unit_of_serving, after_serving}
 use Rattle.page_model.specs.Conditions.{Spares}
 use Rattle.page_model.specs.Ownership.{OwnsFrames}
 use Rattle.page_laws.proofs.Moves.Stays.{Stays, force_stays}
 use Rattle.page_laws.proofs.Moves.Units.{unit_is}
 use Rattle.page_laws.proofs.Moves.Locks.{serve_spares, spares_both}
 use Rattle.page_laws.proofs.Ownership.Serve.{serve_owner}
+use Rattle.page_laws.proofs.Moves.Cases.{serving_cases}
 use Rattle.clock_hands.specs.Spans.{takings}
 use Rattle.clock_hands.proofs.Spanning.{units_added_false}
 use Rattle.clock_hands.proofs.Serving.{served_short}
@@ -87,19 +89,8 @@ spared (e ∷ us) p r locked q now o c h =
 
 -- without waiting the hands don't move, whatever is locked
 step_calm : (p : Placement) (locked : List Page) (q : Page) (e : Entry) → serve_unit p q false ≡ Some e → serve_step p [] q ≡ serve_step p locked q
-step_calm p locked q e h = go (state_of p q) h
-  where
-    feed : (s : PageState) (x : Filling) (fr : List ℕ) (full : Bool) → feed_unit_by p q s x fr full false ≡ Some e → feed_by p [] q s x fr full ≡ feed_by p locked q s x fr full
-    feed s x [] full k = absurd cc
-    feed s x (f ∷ fs) full k = refl
-
-    go : (s : PageState) → serve_unit_by p q s false ≡ Some e → serve_by p [] q s ≡ serve_by p locked q s
-    go (Valid f) k = absurd cc
-    go (Invalid f) k = refl
-    go (Coming f) k = absurd cc
-    go (Going f) k = absurd cc
-    go Unfilled k = feed Unfilled (filling_of p q) p.free (is_full p) k
-    go OnSwap k = feed OnSwap (filling_of p q) p.free (is_full p) k
+step_calm p locked q e h = serving_cases (λ x. unit_of_serving x false ≡ Some e → after_serving p [] x ≡ after_serving p locked x) p q (λ f s k. absurd cc)
+    (λ f s k. refl) (λ f s k. absurd cc) (λ n l k. absurd cc) (λ f fs l s x k. refl) (λ f fs l r b k. refl) (λ f fs l r b k. refl) h
 
 serves_calm : (us : List Entry) (p r : Placement) (locked : List Page) (q : Page) → Serves us p [] q false r → Serves us p locked q false r
 serves_calm [] p r locked q h = h
@@ -134,39 +125,18 @@ frameless_not_valid (Going f) n v = absurd cc
 -- the unit that makes the page valid is no move of the hands
 last_valid : (p : Placement) (locked : List Page) (q : Page) (e : Entry) (journal : List Entry) → OwnsFrames p → serve_unit p q true ≡ Some e
     → is_valid (state_of (serve_step p locked q) q) ≡ true → last_moves (append journal e) ≡ 0
-last_valid p locked q e journal o h v = go (state_of p q) refl h v
+last_valid p locked q e journal o h v =
+    serving_cases (λ x. unit_of_serving x true ≡ Some e → is_valid (state_of (after_serving p locked x) q) ≡ true → Calm e) p q (λ f s k w. absurd cc)
+    (λ f s k w. same (entries.Reclaim q) (last_of journal (entries.Reclaim q)) k) (λ f s k w. same entries.Done (last_of journal entries.Done) k)
+    (λ n l k w. let t : Stays p (force p locked) = force_stays p locked o in absurd (frameless_not_valid (state_of (force p locked) q) (t.frames q ∙ n) w))
+    (λ f fs l s x k w. same (entries.Zero q) (last_of journal (entries.Zero q)) k) (λ f fs l r b k w. same entries.Done (last_of journal entries.Done) k)
+    (λ f fs l r b k w. same (read_entry p q) (last_of journal (read_entry p q)) k) h v
   where
     Calm : Entry → Type 0
     Calm x = last_moves (append journal x) ≡ 0
 
     same : (x : Entry) → Calm x → Some x ≡ Some e → Calm e
     same x c i = subst Calm (same_Some x e i) c
-
-    read : (full : Bool) → Calm (read_entry_if p q full)
-    read true = last_of journal entries.Done
-    read false = last_of journal (read_entry p q)
-
-    bring : (s : PageState) (x : Filling) (full : Bool) → Calm (bring_entry_by p q s x full)
-    bring Unfilled Zeros full = last_of journal (entries.Zero q)
-    bring Unfilled OfImage full = read full
-    bring (Valid f) x full = read full
-    bring (Invalid f) x full = read full
-    bring (Coming f) x full = read full
-    bring (Going f) x full = read full
-    bring OnSwap x full = read full
-
-    feed : (s : PageState) (x : Filling) (fr : List ℕ) (full : Bool) → frame_of (state_of p q) ≡ None → feed_unit_by p q s x fr full true ≡ Some e
-        → is_valid (state_of (feed_by p locked q s x fr full) q) ≡ true → Calm e
-    feed s x [] full n k w = (let t : Stays p (force p locked) = force_stays p locked o in absurd (frameless_not_valid (state_of (force p locked) q) (t.frames q ∙ n) w))
-    feed s x (f ∷ fs) full n k w = same (bring_entry_by p q s x full) (bring s x full) k
-
-    go : (s : PageState) → state_of p q ≡ s → serve_unit_by p q s true ≡ Some e → is_valid (state_of (serve_by p locked q s) q) ≡ true → Calm e
-    go (Valid f) n k w = absurd cc
-    go (Invalid f) n k w = same (entries.Reclaim q) (last_of journal (entries.Reclaim q)) k
-    go (Coming f) n k w = same entries.Done (last_of journal entries.Done) k
-    go (Going f) n k w = same entries.Done (last_of journal entries.Done) k
-    go Unfilled n k w = feed Unfilled (filling_of p q) p.free (is_full p) (ap frame_of n) k w
-    go OnSwap n k w = feed OnSwap (filling_of p q) p.free (is_full p) (ap frame_of n) k w
 
 -- so the units that make a page valid leave none counted
 last_none : (us : List Entry) (p r : Placement) (locked : List Page) (q : Page) (journal : List Entry) → OwnsFrames p → CanServe p q

@@ -33,7 +33,7 @@ use Rattle.fault_fill.specs.Answers.{ServesAs, ServesNow}
 use Rattle.fault_fill.specs.declared.pages.Served.{Served}
 use Rattle.fault_fill.specs.declared.unit.Unit.{Unit as Came}
 use Rattle.fault_fill.specs.declared.unit.Unit.TheVariants as units
-use Rattle.fault_fill.proofs.Serving.{due_same, serves_append, Behind, served_behind, near, near_falls, calm_unit, unit_waits}
+use Rattle.fault_fill.proofs.Serving.{serves_append, Behind, served_behind, near, near_falls, calm_unit, unit_waits}
 
 pub match_map : {A E : Type 0} (P Q : A → Type 0) (R S : E → Type 0) (r : Result A E) → ((x : A) → P x → Q x) → ((e : E) → R e → S e)
     → MatchResult r P R → MatchResult r Q S
@@ -154,7 +154,7 @@ pub one_serves : (now : Bool) (locked : List Page) (q : Page) (old new : Standin
     → CanServe old.kernel.place q → UnitMade now locked q old new holds before after → ServesTo now locked q old new holds before after
 one_serves now locked q old new holds before after c u = record {
   units = u.entry ∷ [];
-  leads = (u.next, sym (served_place (ground old holds locked) q now u.entry old.kernel new.kernel before u.next (due_same old.kernel.place.due q c.fresh) u.made));
+  leads = (u.next, sym (served_place (ground old holds locked) q now u.entry old.kernel new.kernel before u.next u.made));
   makes = record { made = made_one (ground old holds locked) u.entry old.kernel new.kernel before after u.made u.told; beside = u.rest };
   keeps = u.keeps;
 }
@@ -217,7 +217,7 @@ pub unit_nearer : (q : Page) (old new : Standing) (holds : Option (List NamedFil
     → near new.kernel.place q < near old.kernel.place q
 unit_nearer q old new holds before after o c u =
     subst (λ (p : Placement). near p q < near old.kernel.place q)
-    (sym (served_place (ground old holds []) q false u.entry old.kernel new.kernel before u.next (due_same old.kernel.place.due q c.fresh) u.made))
+    (sym (served_place (ground old holds []) q false u.entry old.kernel new.kernel before u.next u.made))
     (near_falls old.kernel.place q u.entry o c.there u.next)
 
 pub served_later : (answer : Served) (q : Page) (old next new : Standing) (holds later : Option (List NamedFile)) (a b c : Option (List ℕ)) → later ≡ holds
@@ -237,7 +237,7 @@ pub unit_further : (locked : List Page) (q : Page) (old new : Standing) (holds :
 unit_further locked q old new holds before after c u z = record {
   serves = record {
     units = u.entry ∷ [];
-    leads = (u.next, sym (served_place (ground old holds locked) q true u.entry old.kernel new.kernel before u.next (due_same old.kernel.place.due q c.fresh) u.made));
+    leads = (u.next, sym (served_place (ground old holds locked) q true u.entry old.kernel new.kernel before u.next u.made));
     makes = record { made = made_one (ground old holds locked) u.entry old.kernel new.kernel before after u.made u.told; beside = u.rest };
     keeps = u.keeps;
   };

@@ -9,7 +9,7 @@ use Rattle.flat_state.specs.PageNames.{number_of, beside}
 use Rattle.page_model.specs.Pages.{OfImage, frame_of, is_on_swap, is_unfilled}
 use Rattle.page_model.specs.Placement.{Placement, Source, FromSwap, FromFile, Due, due_of_page, slots_of, state_of, filling_of, IsThere}
 use Rattle.page_model.specs.Runs.{Run, pages_of_run, passing_above, run_both, run_up, run_alone, run_in, run_in_by, comes_from_swap, comes_from_file, spare_frames, desired_free, is_near}
-use Rattle.page_model.specs.Serve.{source_for}
+use Rattle.page_model.specs.Reading.{source_for}
 use Rattle.page_model.specs.Conditions.{EachPage, IsShared}
 use Rattle.page_model.specs.Dues.{IsDue, DueStand, NotDue}
 use Rattle.page_model.specs.PageBytes.{ReadsFrom}

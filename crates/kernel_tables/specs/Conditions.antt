@@ -11,7 +11,7 @@ use Rattle.flat_state.specs.PageNames.{pages_from}
 use Rattle.page_model.specs.Conditions.{EachPage, CanEnter, IsShared}
 use Rattle.page_model.specs.Placement.{Placement, state_of, filling_of, IsThere}
 use Rattle.page_model.specs.PageBytes.{IsWritable, SamePage, ReadsFrom}
-use Rattle.page_model.specs.Serve.{source_for}
+use Rattle.page_model.specs.Reading.{source_for}
 use Rattle.kernel_model.specs.Kernel.{Kernel}
 use Rattle.kernel_model.specs.Coupled.{Coupled, beside_kernel}
 use Rattle.kernel_tables.specs.Due.{IsFirstStart}

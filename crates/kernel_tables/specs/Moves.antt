@@ -2,7 +2,7 @@
 use Rattle.std.specs.Prelude.{◌≡◌, ℕ, Bool, true, false, List, [], ◌∷◌, ◌++◌, map, drop, slice_set, Some, IsSome}
 use Rattle.flat_state.specs.PageNames.{pages_from}
 use Rattle.page_model.specs.Moves.{get_run}
-use Rattle.page_model.specs.Serve.{read_errand}
+use Rattle.page_model.specs.Reading.{read_errand}
 use Rattle.page_model.specs.Ownership.{block_of}
 use Rattle.transfer_ring.specs.declared.transfer.Inbound.{Inbound}
 use Rattle.transfer_ring.specs.Sound.{IsSource, AreSources}

@@ -7,7 +7,7 @@ use Rattle.flat_state.specs.Journal.{append}
 use Rattle.flat_state.specs.PageNames.{pages_from}
 use Rattle.page_model.specs.Pages.{frame_of}
 use Rattle.page_model.specs.Placement.{state_of}
-use Rattle.page_model.specs.Serve.{source_for}
+use Rattle.page_model.specs.Reading.{source_for}
 use Rattle.page_model.specs.PageBytes.{ReadsFrom}
 use Rattle.page_model.specs.Conditions.{CanPlace, EntryShared}
 use Rattle.page_model.specs.Dues.{NotDue, LeavesDue}

@@ -10,7 +10,7 @@ use Rattle.kernel_model.specs.Sound.{TextFits}
 use Rattle.machine_state.proofs.Shapes.{Shaped, shaped_self, shaped_both, sizes_kept, filled_shaped, get_run_shaped, reclaim_shaped, put_step_shaped, moves_shaped, done_shaped}
 use Rattle.vm_facts.specs.declared.entry.Entry.TheVariants as entries
 use Rattle.flat_state.specs.PageNames.{number_of, pages_from}
-use Rattle.page_model.specs.Serve.{read_errand}
+use Rattle.page_model.specs.Reading.{read_errand}
 use Rattle.page_model.specs.Place.{place_entry}
 use Rattle.flat_state.specs.Journal.{append}
 use Rattle.machine_state.specs.Sourced.{ImageNamed}

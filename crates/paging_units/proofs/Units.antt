@@ -5,11 +5,11 @@ use Rattle.vm_facts.specs.declared.entry.Entry.{Entry}
 use Rattle.vm_facts.specs.declared.entry.Entry.TheVariants as entries
 use Rattle.vm_facts.specs.declared.params.Params.{Params}
 use Rattle.flat_state.specs.Journal.{append, appended}
-use Rattle.page_model.specs.Placement.{Placement, Transfer}
+use Rattle.page_model.specs.Placement.{Placement}
 use Rattle.page_model.specs.Hands.{hand_moves}
-use Rattle.page_model.specs.Place.{due_after, place_entry}
-use Rattle.page_model.specs.Serve.{force, force_by, force_entry, Forces, serve_unit, serve_step}
-use Rattle.machine_state.proofs.Units.{unit_is, entry_steps}
+use Rattle.page_model.specs.Place.{place_entry}
+use Rattle.page_model.specs.Serve.{force, force_entry, Forces, serve_unit, serve_step}
+use Rattle.machine_state.proofs.Units.{unit_is, entry_steps, forcing_place}
 use Rattle.kernel_model.specs.Kernel.{Kernel}
 use Rattle.io_edge.specs.FileHolding.{NamedFile}
 use Rattle.machine_state.specs.Sourced.{ImageNamed}
@@ -67,22 +67,17 @@ unit_starts g _ k l i h = absurd h
 
 -- the unit that forces a frame, and one that serves a page
 
-force_places : (locked : List Page) (at : ℕ) (p : Placement) (ts : List Transfer) → place_entry locked at p (force_entry ts) ≡ force_by p locked ts
-force_places locked at p [] = refl
-force_places locked at p (t ∷ ts) = refl
-
 pub forced_place : (g : Ground) (k l : Kernel) (i : Option (List ℕ)) → MadeBy g (force_entry k.place.transfers) k i l → l.place ≡ force k.place g.locked
 forced_place g k l i h =
     unit_place g (force_entry k.place.transfers) k l i h
-    ∙ force_places g.locked (length (append k.journal (force_entry k.place.transfers))) k.place k.place.transfers
+    ∙ forcing_place g.locked (length (append k.journal (force_entry k.place.transfers))) k.place
 
 pub served_place : (g : Ground) (q : Page) (now : Bool) (e : Entry) (k l : Kernel) (i : Option (List ℕ)) → serve_unit k.place q now ≡ Some e
-    → due_after k.place.due q ≡ k.place.due
     → MadeBy g e k i l → l.place ≡ serve_step k.place g.locked q
-served_place g q now e k l i s d h =
+served_place g q now e k l i s h =
     let u = unit_is k.place q now e s in
     unit_place g e k l i h ∙ ap (place_entry g.locked (length (append k.journal e)) k.place) u.1
-    ∙ entry_steps g.locked (length (append k.journal e)) k.place q u.0 d
+    ∙ entry_steps g.locked (length (append k.journal e)) k.place q u.0
 
 -- Units in order.
 

@@ -24,10 +24,11 @@ use Rattle.page_laws.proofs.Moves.Stays.{Stays, force_stays}
 use Rattle.page_laws.proofs.Moves.Puts.{SameRest, rest_by_puts, fill_kept}
 use Rattle.page_laws.proofs.Ownership.Serve.{force_owner, serve_owner}
 use Rattle.page_laws.proofs.Ends.Hands.{force_frames, serve_frames, room_still}
+use Rattle.page_laws.proofs.Due.Entries.{serve_dues}
 use Rattle.machine_state.specs.Calls.{CanCopy}
 use Rattle.machine_state.specs.PlaceOf.{is_blank}
 use Rattle.fault_fill.specs.Serving.{CanServe}
-use Rattle.fault_fill.proofs.Serving.{serve_dues, still_served}
+use Rattle.fault_fill.proofs.Serving.{still_served}
 use Rattle.fault_fill.proofs.LastMoves.{last_of}
 use Rattle.fault_fill.specs.LastMoves.{last_moves}
 use Rattle.proc_calls.specs.Copying.{IsCopyFirst}
@@ -94,7 +95,7 @@ stay_further p q r d f s = record { due = s.due ∙ d; frames = s.frames ∙ f; 
 pub serves_stay : (us : List Entry) (p r : Placement) (locked : List Page) (q : Page) → OwnsFrames p → CanServe p q → Serves us p locked q true r → Stay p r
 serves_stay [] p r locked q o c s = record { due = ap (λ (x : Placement). x.due) (sym s); frames = ap (λ (x : Placement). length x.holds) (sym s); owner = subst OwnsFrames s o }
 serves_stay (e ∷ us) p r locked q o c s =
-    stay_further p (serve_step p locked q) r (serve_dues p locked q o) (serve_frames p locked q o)
+    stay_further p (serve_step p locked q) r (serve_dues p locked q o c.fresh) (serve_frames p locked q o)
     (serves_stay us (serve_step p locked q) r locked q (serve_owner p locked q o c.there) (still_served p locked q o c) s.1)
 
 pub forces_stay : (us : List Entry) (p r : Placement) (locked : List Page) → OwnsFrames p → Forces us p locked r → Stay p r

@@ -1,23 +1,22 @@
 -- Filling the page that is due first is what a run does next.
-use Rattle.std.proofs.Common.{◌≡◌, ℕ, Bool, true, false, List, [], ◌∷◌, Option, Some, None, refl, sym, ap, ◌∙◌, subst}
+use Rattle.std.proofs.Common.{◌≡◌, ℕ, true, List, [], ◌∷◌, Option, Some, refl, sym, ap, ◌∙◌, subst}
 use Rattle.vm_facts.specs.declared.entry.Entry.{Entry}
 use Rattle.vm_facts.specs.declared.entry.Entry.TheVariants as entries
 use Rattle.vm_facts.specs.declared.page.Page.{Page}
-use Rattle.vm_facts.specs.declared.page.PageState.{PageState}
-use Rattle.vm_facts.specs.declared.page.PageState.TheVariants.{Unfilled, Valid, Invalid, Coming, Going, OnSwap}
 use Rattle.flat_state.specs.Flat.{Inputs}
 use Rattle.flat_state.specs.PageNames.{is_among}
 use Rattle.economy_laws.proofs.Distinct.{among_first}
-use Rattle.page_model.specs.Pages.{is_valid}
-use Rattle.page_model.specs.Placement.{Placement, Due, Start, CopyOf, Transfer, state_of}
+use Rattle.page_model.specs.Placement.{Placement, Due, Start, CopyOf, Transfer}
 use Rattle.page_model.specs.Conditions.{Spares}
 use Rattle.page_model.specs.Dues.{NotDue}
 use Rattle.page_model.specs.Ownership.{OwnsFrames}
-use Rattle.page_model.specs.Place.{due_after, place_entry}
-use Rattle.page_model.specs.Serve.{force, force_by, force_entry, serve_unit, serve_unit_by, serve_step, Forces, Serves}
-use Rattle.page_laws.proofs.Moves.Units.{unit_is}
-use Rattle.page_laws.proofs.Moves.Locks.{force_spares, serve_spares}
+use Rattle.page_model.specs.Place.{place_entry}
+use Rattle.page_model.specs.Serve.{force, force_entry, serve_unit, serve_step, Forces, Serves, Serving, unit_of_serving}
+use Rattle.page_laws.proofs.Moves.Units.{unit_is, forcing_place}
+use Rattle.page_laws.proofs.Moves.Locks.{force_spares}
 use Rattle.page_laws.proofs.Moves.Stays.{force_stays}
+use Rattle.page_laws.proofs.Moves.Cases.{forcing_entry, serving_valid}
+use Rattle.page_laws.proofs.Due.Entries.{serve_dues}
 use Rattle.kernel_model.specs.Kernel.{Kernel}
 use Rattle.run_model.specs.State.{State}
 use Rattle.run_model.specs.Wanted.{locked, locked_by}
@@ -27,14 +26,13 @@ use Rattle.economy_laws.specs.Machine.{unit_image}
 use Rattle.economy_laws.specs.RunLawsRunning.{IsRun}
 use Rattle.economy_laws.proofs.Plain.{IsPaging, serve_paging}
 use Rattle.economy_laws.proofs.Marks.{due_free}
-use Rattle.economy_laws.proofs.Allowed.{not_due_after}
 use Rattle.economy_laws.proofs.Units.{not_due}
-use Rattle.economy_laws.proofs.Left.{serve_due_same, after_served}
+use Rattle.economy_laws.proofs.Left.{after_served}
 use Rattle.economy_laws.proofs.Stretching.{source_of}
 use Rattle.fault_fill.specs.Made.{Ground, Made}
 use Rattle.fault_fill.proofs.PagingUnitsUnits.{forced_place, served_place}
-use Rattle.run_units.specs.Leads.{HasImages, KeepsLocked, MadeAs, Leads}
-use Rattle.run_units.specs.Serving.{SameBut, At}
+use Rattle.run_units.specs.Leads.{HasImages, MadeAs, Leads}
+use Rattle.run_units.specs.Serving.{At}
 use Rattle.run_units.specs.Filling.{FillsFirst, LeadsDue}
 use Rattle.run_units.proofs.Units.{one_made, none_leads, first_leads, leads_at}
 use Rattle.run_units.proofs.Serving.{Paged, paged, same_both, moving_locked}
@@ -45,20 +43,12 @@ due_next : (A : Inputs) (s : State) (u : Entry) → due_unit s.place s.place.due
 unfolding next_unit
 due_next A s u h = ap (λ (o : Option Entry). or_else o (or_else (under A s s.mark) (next_mark A s))) h
 
-valid_unit : (s : PageState) (p : Placement) (q : Page) (now : Bool) → is_valid s ≡ true → serve_unit_by p q s now ≡ None
-valid_unit (Valid f) p q now h = refl
-valid_unit (Invalid f) p q now h = absurd cc
-valid_unit (Coming f) p q now h = absurd cc
-valid_unit (Going f) p q now h = absurd cc
-valid_unit Unfilled p q now h = absurd cc
-valid_unit OnSwap p q now h = absurd cc
-
 -- the unit that fills, or forces a frame first
 fills_unit : (p : Placement) (ds : List Due) (e : Entry) (locked : List Page) → FillsFirst p ds e locked → due_unit p ds ≡ Some (fill_unit p e)
 fills_unit p [] e locked h = absurd h
 fills_unit p (Start q ∷ ds) e locked h = ap (λ (x : Entry). Some (fill_unit p x)) (sym h.0)
 fills_unit p (CopyOf q parent ∷ ds) e locked h =
-    ap (λ (o : Option Entry). Some (copy_unit_by p q o)) (valid_unit (state_of p parent) p parent true h.2) ∙ ap (λ (x : Entry). Some (fill_unit p x)) (sym h.0)
+    ap (λ (o : Option Entry). Some (copy_unit_by p q o)) (ap (λ (x : Serving). unit_of_serving x true) (serving_valid p parent h.2)) ∙ ap (λ (x : Entry). Some (fill_unit p x)) (sym h.0)
 
 pub forced_next : (A : Inputs) (s : State) (e : Entry) (locked : List Page) → FillsFirst s.place s.place.due e locked → s.place.free ≡ []
     → next_unit A s ≡ Some (force_entry s.place.transfers)
@@ -76,12 +66,7 @@ first_locked A s (Start q ∷ ds) e kept h = h.1
 first_locked A s (CopyOf q parent ∷ ds) e kept h = h.1
 
 force_paging : (ts : List Transfer) → IsPaging (force_entry ts)
-force_paging [] = tt
-force_paging (t ∷ ts) = tt
-
-force_places : (locked : List Page) (at : ℕ) (p : Placement) (ts : List Transfer) → place_entry locked at p (force_entry ts) ≡ force_by p locked ts
-force_places locked at p [] = refl
-force_places locked at p (t ∷ ts) = refl
+force_paging = forcing_entry IsPaging tt tt
 
 -- the page that is due first is filled by the same after a unit that forces a frame
 fills_on : (p q : Placement) (ds : List Due) (e : Entry) (locked : List Page) → Spares p q locked → FillsFirst p ds e locked → FillsFirst q ds e locked
@@ -126,7 +111,7 @@ forced (u ∷ us) A g s k l image j e at f h x m =
     let own : OwnsFrames s.place = at.run.placed.sound.owner.frames in
     let place : (after A s u).place ≡ force s.place g.locked =
     p.place ∙ ap (λ (qs : List Page). place_entry qs (place_at s u) s.place u) (sym kept) ∙ ap (λ (y : Entry). place_entry g.locked (place_at s u) s.place y) is
-    ∙ force_places g.locked (place_at s u) s.place s.place.transfers in
+    ∙ forcing_place g.locked (place_at s u) s.place in
     let due : (after A s u).place.due ≡ s.place.due = ap (λ (y : Placement). y.due) place ∙ (force_stays s.place g.locked own).due in
     let image1 : List ℕ = unit_image k image u in
     let first : Leads A s k image (u ∷ []) (after A s u) m.next (Some image1) =
@@ -184,15 +169,13 @@ bringing (u ∷ us) A g s k l image j child parent ds at f e d x m =
     let p : Paged A s u = paged A s u (subst IsPaging (sym n.1) (serve_paging s.place parent)) (due_free s (CopyOf child parent) ds d s.mark at.run.mark) in
     let own : OwnsFrames s.place = at.run.placed.sound.owner.frames in
     let idle : NotDue s.place.due parent = not_due s.place parent at.run.placed.dues (source_of A s child parent ds at.run d).source.1 in
-    let fresh : due_after s.place.due parent ≡ s.place.due = not_due_after s.place.due parent idle in
-    let place : (after A s u).place ≡ serve_step s.place g.locked parent = after_served A s u g.locked parent (sym kept) idle asked in
-    let due : (after A s u).place.due ≡ s.place.due = ap (λ (y : Placement). y.due) place ∙ serve_due_same s.place g.locked parent own in
+    let place : (after A s u).place ≡ serve_step s.place g.locked parent = after_served A s u g.locked parent (sym kept) asked in
+    let due : (after A s u).place.due ≡ s.place.due = ap (λ (y : Placement). y.due) place ∙ serve_dues s.place g.locked parent own idle in
     let image1 : List ℕ = unit_image k image u in
     let first : Leads A s k image (u ∷ []) (after A s u) m.next (Some image1) =
     first_leads A s (after A s u) k m.next m.next image m.image (Some image1) u [] next one (none_leads A (after A s u) m.next image1) in
-    let still : due_after k.place.due parent ≡ k.place.due = subst (λ (y : Placement). due_after y.due parent ≡ y.due) (sym here) fresh in
     let rest : Serves us m.next.place g.locked parent true l.place =
-    subst (λ (y : Placement). Serves us y g.locked parent true l.place) (sym (served_place g parent true u k m.next (Some image) x.0 still m.made)) x.1 in
+    subst (λ (y : Placement). Serves us y g.locked parent true l.place) (sym (served_place g parent true u k m.next (Some image) x.0 m.made)) x.1 in
     let more : LeadsDue A (after A s u) m.next image1 us l j =
     bringing us A g (after A s u) m.next l image1 j child parent ds (leads_at A s (after A s u) k m.next image image1 (u ∷ []) at first) f e (due ∙ d) rest
     (subst (λ (o : Option (List ℕ)). Made g us m.next o l j) one.told m.rest) in

@@ -1,29 +1,30 @@
 -- Serving the page that a process waits for is what a run does next.
-use Rattle.std.proofs.Common.{◌≡◌, ℕ, ◌+◌, ◌&&◌, not, nat_lt, inl, inr, Bool, true, false, List, [], ◌∷◌, ◌++◌, Option, Some, None, refl, sym, ap, ◌∙◌, subst}
+use Rattle.std.proofs.Common.{◌≡◌, ℕ, ◌+◌, ◌&&◌, nat_lt, inl, inr, Bool, true, false, List, [], ◌∷◌, ◌++◌, Option, Some, refl, sym, ap, ◌∙◌, subst}
 use Rattle.std.proofs.lemmas.Option.{same_Some}
 use Rattle.vm_facts.specs.declared.entry.Entry.{Entry}
 use Rattle.vm_facts.specs.declared.entry.Entry.TheVariants as entries
 use Rattle.vm_facts.specs.declared.page.Page.{Page}
-use Rattle.vm_facts.specs.declared.page.PageState.{PageState}
-use Rattle.vm_facts.specs.declared.page.PageState.TheVariants.{Unfilled, Valid, Invalid, Coming, Going, OnSwap}
 use Rattle.flat_state.specs.Flat.{Inputs, can_step}
 use Rattle.flat_model.specs.Run.{Point}
-use Rattle.page_model.specs.Pages.{Filling, Zeros, OfImage, is_valid}
+use Rattle.page_model.specs.Pages.{is_valid}
 use Rattle.page_model.specs.Conditions.{EachPage}
 use Rattle.page_model.specs.Ownership.{OwnsFrames}
-use Rattle.page_model.specs.Placement.{Placement, Due, IsThere, state_of, filling_of}
-use Rattle.page_model.specs.Place.{due_after, place_entry}
-use Rattle.page_model.specs.Serve.{serve_unit, serve_unit_by, feed_unit_by, bring_entry_by, read_entry_if, serve_entry, serve_step, is_full, Serves}
+use Rattle.page_model.specs.Placement.{Placement, Due, IsThere, state_of, due_of_page}
+use Rattle.page_model.specs.Place.{place_entry}
+use Rattle.page_model.specs.Serve.{serve_unit, serve_step, Serves, unit_of_serving}
 use Rattle.page_model.specs.Swapper.{is_out}
+use Rattle.page_model.specs.Reading.{read_entry}
 use Rattle.page_laws.proofs.Moves.Units.{unit_is, entry_steps}
 use Rattle.page_laws.proofs.Moves.Locks.{serve_spares}
+use Rattle.page_laws.proofs.Moves.Cases.{serving_cases}
+use Rattle.page_laws.proofs.Due.Entries.{serve_dues}
 use Rattle.kernel_model.specs.Kernel.{Kernel}
 use Rattle.run_model.specs.declared.mark.Mark.{Mark}
 use Rattle.run_model.specs.declared.mark.Mark.TheVariants as marks
 use Rattle.run_model.specs.State.{State}
-use Rattle.run_model.specs.Wanted.{running, touched_of, wanted, locked, touched_next, AllValid, Splits}
+use Rattle.run_model.specs.Wanted.{running, touched_of, locked, touched_next, AllValid, Splits}
 use Rattle.run_model.specs.After.{after, place_at, completed, moved_on, audited}
-use Rattle.run_model.specs.Next.{next_unit, under, work, work_by, when, or_else, due_unit, next_mark, goes_on, turn_unit, turn_instructions}
+use Rattle.run_model.specs.Next.{next_unit, under, work, work_by, or_else, due_unit, next_mark, goes_on, turn_instructions}
 use Rattle.run_model.specs.Kinds.{ProcessRuns, GoesOn}
 use Rattle.run_model.proofs.Wanting.{splits_wanted, splits_locked}
 use Rattle.economy_laws.specs.Machine.{unit_image}
@@ -32,7 +33,7 @@ use Rattle.economy_laws.proofs.Paging.{entry_out}
 use Rattle.economy_laws.proofs.Marks.{IsFree, on_free}
 use Rattle.economy_laws.proofs.Flows.{runs_work, on_running, spared}
 use Rattle.economy_laws.proofs.RunLawsTouching.{Present, touched_present}
-use Rattle.economy_laws.proofs.Left.{serve_due_same, next_on}
+use Rattle.economy_laws.proofs.Left.{next_on}
 use Rattle.fault_fill.specs.Made.{Ground, Made}
 use Rattle.fault_fill.proofs.PagingUnitsUnits.{served_place}
 use Rattle.run_units.specs.Leads.{KeepsLocked, MadeAs, Leads}
@@ -146,35 +147,12 @@ IsStill (entries.Hands n) = ⊥
 IsStill _ = Unit {0}
 
 never_moves : (p : Placement) (q : Page) (u : Entry) → serve_unit p q false ≡ Some u → IsStill u
-never_moves p q u h = go (state_of p q) h
+never_moves p q u h = serving_cases (λ x. unit_of_serving x false ≡ Some u → IsStill u) p q (λ f s m. absurd cc) (λ f s m. is (entries.Reclaim q) tt m)
+    (λ f s m. absurd cc) (λ n l m. absurd cc) (λ f fs l s x m. is (entries.Zero q) tt m) (λ f fs l r b m. is entries.Done tt m)
+    (λ f fs l r b m. is (read_entry p q) tt m) h
   where
     is : (e : Entry) → IsStill e → Some e ≡ Some u → IsStill u
     is e k m = subst IsStill (same_Some e u m) k
-
-    read : (full : Bool) → IsStill (read_entry_if p q full)
-    read true = tt
-    read false = tt
-
-    bring : (s : PageState) (x : Filling) (full : Bool) → IsStill (bring_entry_by p q s x full)
-    bring Unfilled Zeros full = tt
-    bring Unfilled OfImage full = read full
-    bring (Valid f) x full = read full
-    bring (Invalid f) x full = read full
-    bring (Coming f) x full = read full
-    bring (Going f) x full = read full
-    bring OnSwap x full = read full
-
-    feed : (s : PageState) (fr : List ℕ) → feed_unit_by p q s (filling_of p q) fr (is_full p) false ≡ Some u → IsStill u
-    feed s [] m = absurd cc
-    feed s (f ∷ fs) m = is (bring_entry_by p q s (filling_of p q) (is_full p)) (bring s (filling_of p q) (is_full p)) m
-
-    go : (s : PageState) → serve_unit_by p q s false ≡ Some u → IsStill u
-    go (Valid f) m = absurd cc
-    go (Invalid f) m = is (entries.Reclaim q) tt m
-    go (Coming f) m = absurd cc
-    go (Going f) m = absurd cc
-    go Unfilled m = feed Unfilled p.free m
-    go OnSwap m = feed OnSwap p.free m
 
 still_locked : (g : Ground) (A : Inputs) (s : State) (u : Entry) → IsStill u → KeepsLocked g A s u
 still_locked g A s (entries.Hands n) h = absurd h
@@ -204,17 +182,16 @@ waits_on A g s k image pid now before q u at w h p =
     let kept : locked A s ≡ before = splits_locked A s before q w.runs.clear d in
     let i : IsPaging u = subst IsPaging (sym n.1) (serve_paging s.place q) in
     let own : OwnsFrames s.place = at.run.placed.sound.owner.frames in
-    let due : due_after s.place.due q ≡ s.place.due = ap (λ (ds : List Due). due_after ds q) w.runs.clear ∙ sym w.runs.clear in
     let place : (after A s u).place ≡ serve_step s.place before q =
     p.place ∙ ap (λ (qs : List Page). place_entry qs (place_at s u) s.place u) kept ∙ ap (λ (e : Entry). place_entry before (place_at s u) s.place e) n.1
-    ∙ entry_steps before (place_at s u) s.place q n.0 due in
+    ∙ entry_steps before (place_at s u) s.place q n.0 in
     let m : running s.mark ≡ Some pid = on_running A s s.mark pid now w.runs.on in
     let there : IsThere s.place q =
     is_there s.place before w.rest q (subst (EachPage (Present s.place)) (sym (next_on A s pid m) ∙ w.touched)
     (touched_present A s.point.flat s.place s.holdings pid at.run.numbers at.run.texts at.run.placed)) in
     record {
       images = w.images;
-      runs = runs_on A s pid now u i p (ap (λ (x : Placement). x.due) place ∙ serve_due_same s.place before q own ∙ w.runs.clear) w.runs;
+      runs = runs_on A s pid now u i p (ap (λ (x : Placement). x.due) place ∙ serve_dues s.place before q own (ap (λ (ds : List Due). due_of_page ds q) w.runs.clear) ∙ w.runs.clear) w.runs;
       rest = w.rest;
       touched = ap (λ (x : Point). touched_of A x.flat (running (after A s u).mark)) p.same.point ∙ ap (λ (x : Mark). touched_of A s.point.flat (running x)) p.same.mark ∙ w.touched;
       valid = subst (λ (x : Placement). AllValid x before) (sym place) (spared s.place (serve_step s.place before q) before w.valid (serve_spares s.place before q own there) before (λ r e. e));
@@ -246,10 +223,8 @@ served (u ∷ us) A g s k l image j pid now before q at w h m =
     let x : List ℕ = unit_image k image u in
     let first : Leads A s k image (u ∷ []) (after A s u) m.next (Some x) =
     first_leads A s (after A s u) k m.next m.next image m.image (Some x) u [] next one (none_leads A (after A s u) m.next x) in
-    let due : due_after k.place.due q ≡ k.place.due =
-    ap (λ (y : Placement). due_after y.due q) here ∙ ap (λ (ds : List Due). due_after ds q) w.runs.clear ∙ sym (ap (λ (y : Placement). y.due) here ∙ w.runs.clear) in
     let rest : Serves us m.next.place g.locked q now l.place =
-    subst (λ (y : Placement). Serves us y g.locked q now l.place) (sym (served_place g q now u k m.next (Some image) h.0 due m.made)) h.1 in
+    subst (λ (y : Placement). Serves us y g.locked q now l.place) (sym (served_place g q now u k m.next (Some image) h.0 m.made)) h.1 in
     let more : ServingLeads A g (after A s u) m.next x pid now before q us l j =
     served us A g (after A s u) m.next l x j pid now before q (leads_at A s (after A s u) k m.next image x (u ∷ []) at first) (waits_on A g s k image pid now before q u at w asked p) rest
     (subst (λ (o : Option (List ℕ)). Made g us m.next o l j) one.told m.rest) in

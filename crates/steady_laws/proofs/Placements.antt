@@ -9,12 +9,14 @@ use Rattle.flat_state.specs.declared.change.Change.{Change}
 use Rattle.flat_state.specs.declared.change.Change.TheVariants as changes
 use Rattle.flat_state.specs.PageNames.{number_of, pages_from}
 use Rattle.flat_state.proofs.PageNames.{same_page_self}
-use Rattle.page_model.specs.Placement.{Placement, Transfer, Due, Start, image_of, sharers}
+use Rattle.page_model.specs.Placement.{Placement, Due, Start, image_of, sharers}
 use Rattle.page_model.specs.Moves.{get_run, reclaim, done, touch, drop_all}
 use Rattle.page_model.specs.Hands.{advance, hand_moves}
-use Rattle.page_model.specs.Serve.{read_errand, force, force_by, Forces}
+use Rattle.page_model.specs.Reading.{read_errand}
+use Rattle.page_model.specs.Serve.{force, Forces}
 use Rattle.page_model.specs.Place.{due_after, put_step, place_entry, remove_space, pages_of_space, pages_of_text, leave_text_by, leave_text, give_up, give_up_unless, facts_numbered, enter_image, resize, data_from, stack_from, data_count, stack_count, place_change}
 use Rattle.page_laws.proofs.Moves.Puts.{KeptByPuts, get_run_kept, reclaim_kept, put_step_kept, move_kept, moves_kept, done_kept, touch_kept, drop_all_kept, leave_all_kept, entry_kept}
+use Rattle.page_laws.proofs.Moves.Cases.{force_cases}
 use Rattle.steady_laws.specs.Entries.{LeavesNone}
 
 -- as many frames
@@ -80,11 +82,7 @@ entry_clear locked at p _ h = h
 
 -- units that force a frame leave what is due
 force_keeps : (p : Placement) (locked : List Page) → Keeps p (force p locked)
-force_keeps p locked = go p.transfers
-  where
-    go : (ts : List Transfer) → Keeps p (force_by p locked ts)
-    go [] = move_kept keeps_by_puts keeps_advance p locked
-    go (t ∷ ts) = done_kept keeps_by_puts p
+force_keeps p locked = force_cases (Keeps p) p locked (λ e. move_kept keeps_by_puts keeps_advance p locked) (λ t ts e. done_kept keeps_by_puts p)
 
 pub forces_due : (us : List Entry) (p r : Placement) (locked : List Page) → Forces us p locked r → r.due ≡ p.due
 forces_due [] p r locked f = sym (ap (λ (x : Placement). x.due) f)

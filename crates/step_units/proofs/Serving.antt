@@ -10,9 +10,9 @@ use Rattle.vm_facts.specs.declared.stop.Stop.{Stop}
 use Rattle.vm_facts.specs.declared.stop.Stop.TheVariants as stops
 use Rattle.flat_state.specs.Flat.{Process, Inputs}
 use Rattle.flat_state.specs.Space.{Space}
-use Rattle.page_model.specs.Pages.{frame_of, is_valid}
+use Rattle.page_model.specs.Pages.{is_valid}
 use Rattle.page_model.specs.Placement.{Placement, state_of, filling_of}
-use Rattle.page_model.specs.Serve.{serve_unit, serve_unit_by, feed_unit_by, is_full}
+use Rattle.page_model.specs.Serve.{serve_unit, is_full, Serving, serving_by, unit_of_serving}
 use Rattle.kernel_model.specs.Kernel.{Kernel}
 use Rattle.kernel_model.specs.ChangeStep.{space_of_life, life_of_proc}
 use Rattle.kernel_laws.proofs.Machine.Processes.{Stepping, stepping}
@@ -40,6 +40,7 @@ use Rattle.run_units.proofs.Serving.{served, served_next}
 use Rattle.run_units.proofs.Units.{leads_at}
 use Rattle.step_units.specs.Machines.{MachineAt}
 use Rattle.step_units.specs.Stepped.{StepLeads, MarkEnds, StopsBy, StopLeads}
+use Rattle.page_laws.proofs.Moves.Cases.{frameless_not, serving_starved}
 
 -- The space that the machine has for a process is the one that the process holds.
 pub same_space : (A : Inputs) (s : State) (k : Kernel) (image : List ℕ) (pid : ℕ) (now : Bool) (p : Process) (x : Space) → At A s k image
@@ -89,7 +90,7 @@ leads_on A g s k l image j pid now before q us b v = record {
 flying_waits : (p : Placement) (q : Page) → is_flying (state_of p q) ≡ true → (is_valid (state_of p q) ≡ false) × (serve_unit p q false ≡ None)
 flying_waits p q h = go (state_of p q) refl h
   where
-    go : (s : PageState) → state_of p q ≡ s → is_flying s ≡ true → (is_valid s ≡ false) × (serve_unit_by p q s false ≡ None)
+    go : (s : PageState) → state_of p q ≡ s → is_flying s ≡ true → (is_valid s ≡ false) × (unit_of_serving (serving_by p q s p.free (filling_of p q) (is_full p)) false ≡ None)
     go Unfilled e f = absurd cc
     go (Valid x) e f = absurd cc
     go (Invalid x) e f = absurd cc
@@ -98,18 +99,8 @@ flying_waits p q h = go (state_of p q) refl h
     go OnSwap e f = absurd cc
 
 starved_waits : (p : Placement) (q : Page) → NeedsFrame p q → (is_valid (state_of p q) ≡ false) × (serve_unit p q false ≡ None)
-starved_waits p q h = go (state_of p q) h.frameless
-  where
-    feed : (s : PageState) → feed_unit_by p q s (filling_of p q) p.free (is_full p) false ≡ None
-    feed s = ap (λ (fs : List ℕ). feed_unit_by p q s (filling_of p q) fs (is_full p) false) h.none
-
-    go : (s : PageState) → frame_of s ≡ None → (is_valid s ≡ false) × (serve_unit_by p q s false ≡ None)
-    go Unfilled f = (refl, feed Unfilled)
-    go (Valid x) f = absurd cc
-    go (Invalid x) f = absurd cc
-    go (Coming x) f = absurd cc
-    go (Going x) f = absurd cc
-    go OnSwap f = (refl, feed OnSwap)
+starved_waits p q h =
+    (frameless_not (state_of p q) h.frameless, ap (λ (x : Serving). unit_of_serving x false) (serving_starved p q h.frameless h.none))
 
 -- where a page isn't valid and can't be served without waiting, nothing more is to come of a dispatch
 pub nothing_more : (A : Inputs) (g : Ground) (s : State) (pid : ℕ) (before : List Page) (q : Page) → IsWaiting A g s pid false before q

@@ -12,7 +12,7 @@ use Rattle.transfer_ring.specs.Sound.{IsRun, Rise, IsBefore}
 use Rattle.flat_state.specs.PageNames.{pages_from, beside}
 use Rattle.page_model.specs.Placement.{Placement, Transfer, Errand, Reads, Source, FromSwap, FromFile, Due, state_of, due_of_page}
 use Rattle.page_model.specs.Moves.{begin, get_all, get_run}
-use Rattle.page_model.specs.Serve.{read_errand, source_for}
+use Rattle.page_model.specs.Reading.{read_errand, source_for}
 use Rattle.page_model.specs.Conditions.{EachPage, CanEnter, IsShared}
 use Rattle.page_model.specs.PageBytes.{ReadsFrom, SamePage}
 use Rattle.page_model.specs.Dues.{DueStand, NotDue, IsDue}

@@ -22,7 +22,7 @@ use Rattle.page_model.specs.Placement.{Placement, Source, FromSwap, FromFile, st
 use Rattle.page_model.specs.Conditions.{EachPage, CanEnter}
 use Rattle.page_model.specs.PageBytes.{ReadsFrom}
 use Rattle.page_model.specs.Ownership.{owner_of, block_of, needs_blocks_by}
-use Rattle.page_model.specs.Serve.{source_for}
+use Rattle.page_model.specs.Reading.{source_for}
 use Rattle.flat_state.specs.PageNames.{number_of, beside, pages_from}
 use Rattle.kernel_model.specs.Kernel.{Kernel}
 use Rattle.kernel_model.specs.Sound.{Sound, lives}

@@ -6,7 +6,7 @@ ghost use Rattle.swap_book.specs.Book.{IsBook};
 ghost use Rattle.page_model.specs.Conditions.{EachPage};
 ghost use Rattle.page_model.specs.Moves.{get_all};
 ghost use Rattle.page_model.specs.Placement.{Reads, IsThere, state_of};
-ghost use Rattle.page_model.specs.Serve.{source_for};
+ghost use Rattle.page_model.specs.Reading.{source_for};
 ghost use Rattle.flat_state.specs.PageNames.{pages_from};
 ghost use Rattle.kernel_tables.specs.Conditions.{CanBringIn};
 ghost use Rattle.kernel_tables.specs.View.{source_of, placement_of, frames_of};

@@ -7,7 +7,7 @@ use Rattle.transfer_ring.specs.Sound.{IsRun, inbound_pages}
 use Rattle.page_model.specs.Moves.{get_all}
 use Rattle.page_model.specs.Placement.{Placement, Source, Reads, state_of}
 use Rattle.page_model.specs.PageBytes.{ReadsFrom}
-use Rattle.page_model.specs.Serve.{source_for}
+use Rattle.page_model.specs.Reading.{source_for}
 use Rattle.flat_state.specs.PageNames.{pages_from, beside}
 use Rattle.kernel_tables.specs.declared.tables.Tables.{Tables}
 use Rattle.kernel_tables.specs.Known.{MayBring}
