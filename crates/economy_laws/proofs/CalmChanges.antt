@@ -1,7 +1,7 @@
 -- A clean page stays so through the changes of processes, but where its text is given back.
 use Rattle.std.proofs.Common.{◌≡◌, ◌≢◌, ◌⊎◌, inl, inr, ℕ, zero, suc, ◌-◌, ◌<◌, ◌≤◌, ◌||◌, Bool, true, false, List, [], ◌∷◌, ◌++◌, length, get_or, map, Option, Some, None, refl, sym, ap, ◌∙◌, subst, arith}
 use Rattle.std.proofs.lemmas.Bool.{cases_eq}
-use Rattle.flat_state.specs.Flat.{FlatState, process_of}
+use Rattle.flat_state.specs.Flat.{FlatState}
 use Rattle.vm_facts.specs.declared.page.Page.{Page}
 use Rattle.vm_facts.specs.declared.page.Page.TheVariants.{Data, Stack, Text}
 use Rattle.vm_facts.specs.declared.page.PageState.{PageState}
@@ -12,8 +12,7 @@ use Rattle.page_model.specs.Pages.{Slot, no_slot, SpacePages, numbered, changed,
 use Rattle.flat_state.specs.PageNames.{same_page, is_among}
 use Rattle.page_model.specs.Placement.{Placement, Due, space_number, slots_of, state_of, image_of, sharers, new_pages}
 use Rattle.page_model.specs.Moves.{touch, touch_to, touch_all, drop_at, drop_page, drop_all}
-use Rattle.page_model.specs.Place.{sized, cut_space, resize, data_count, stack_count, data_from, stack_from, child_slot, fork_space, enter_space, remove_space, pages_of_space, pages_of_text, leave_text, leave_text_by, give_up, give_up_unless, enter_image, place_change, place_step, space_of_process, facts_numbered}
-use Rattle.flat_state.specs.Change.{is_borrower}
+use Rattle.page_model.specs.Place.{Changing, changing_in, sized, cut_space, resize, data_count, stack_count, data_from, stack_from, child_slot, fork_space, enter_space, remove_space, pages_of_space, pages_of_text, leave_text, leave_text_by, give_up, give_up_unless, enter_image, place_change, place_step, facts_numbered}
 use Rattle.page_model.specs.Conditions.{EachPage}
 use Rattle.page_laws.proofs.Lists.Pages.{mapped, changed_same, changed_other}
 use Rattle.flat_state.proofs.PageNames.{same_page_self}
@@ -211,17 +210,17 @@ unless_calm false p sid w h c = give_up_calm p sid w h c
 
 -- Each change.
 
-pub change_calm : (images : List Image) (p : Placement) (pid sid : ℕ) (borrowed : Bool) (next_sid at : ℕ) (change : Change) (w : Page)
-    → TextShared (place_change images p pid sid borrowed next_sid at change) w → Calm p w → Calm (place_change images p pid sid borrowed next_sid at change) w
-change_calm images p pid sid borrowed next_sid at (Resize d s) w h c = resize_calm p sid d s w c
-change_calm images p pid sid borrowed next_sid at (Fork child) w h c = fork_calm p sid next_sid w c
-change_calm images p pid sid borrowed next_sid at (Exec image top) w h c =
-    unless_calm borrowed (enter_image p next_sid image (facts_numbered images image)) sid w h (enter_calm p next_sid image (facts_numbered images image) w c)
-change_calm images p pid sid borrowed next_sid at (End status) w h c = unless_calm borrowed p sid w h c
-change_calm images p pid sid borrowed next_sid at _ w h c = c
+pub change_calm : (who : Changing) (p : Placement) (change : Change) (w : Page)
+    → TextShared (place_change who p change) w → Calm p w → Calm (place_change who p change) w
+change_calm who p (Resize d s) w h c = resize_calm p who.sid d s w c
+change_calm who p (Fork child) w h c = fork_calm p who.sid who.next_sid w c
+change_calm who p (Exec image top) w h c =
+    unless_calm who.borrowed (enter_image p who.next_sid image (facts_numbered who.images image)) who.sid w h (enter_calm p who.next_sid image (facts_numbered who.images image) w c)
+change_calm who p (End status) w h c = unless_calm who.borrowed p who.sid w h c
+change_calm who p _ w h c = c
 
 pub place_step_calm : (images : List Image) (flat : FlatState) (pid at : ℕ) (written : List Page) (change : Change) (p : Placement) (w : Page)
     → Untouched written w
     → TextShared (place_step images flat pid at written change p) w → Calm p w → Calm (place_step images flat pid at written change p) w
 place_step_calm images flat pid at written change p w u h c =
-    change_calm images (touch_all p written) pid (space_of_process (process_of flat pid)) (is_borrower flat.processes pid) flat.next_sid at change w h (touch_all_calm written p w u c)
+    change_calm (changing_in images flat pid at) (touch_all p written) change w h (touch_all_calm written p w u c)

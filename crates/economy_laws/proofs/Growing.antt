@@ -19,8 +19,7 @@ use Rattle.kernel_model.specs.Coupled.{Fits, SameTables}
 use Rattle.page_model.specs.Pages.{Slot, no_slot, SpacePages, numbered, changed, data_in, stack_in, is_valid}
 use Rattle.page_model.specs.Placement.{Placement, space_number, state_of}
 use Rattle.page_model.specs.Moves.{touch_all, drop_all}
-use Rattle.page_model.specs.Place.{sized, cut_space, resize, data_count, stack_count, data_from, stack_from, place_change, space_of_process, facts_of}
-use Rattle.flat_state.specs.Change.{is_borrower}
+use Rattle.page_model.specs.Place.{changing_in, sized, cut_space, resize, data_count, stack_count, data_from, stack_from, place_change, space_of_process, facts_of}
 use Rattle.page_model.specs.Swapper.{is_out}
 use Rattle.page_laws.proofs.Lists.Pages.{mapped, changed_same, changed_other}
 use Rattle.page_laws.proofs.Lists.Runs.{each_page_imp}
@@ -162,8 +161,7 @@ grew_place : (A : Inputs) (s : State) (pid pages sid d t : ℕ) → pages_writte
     → (after A s (entries.Grew pid pages)).place ≡ resize s.place sid d t
 unfolding after
 grew_place A s pid pages sid d t w h e =
-    ap (place_change (facts_of A.images) (touch_all s.place (pages_written s.point.flat pid (step_at A s.point pid))) pid (space_of_process (process_of s.point.flat pid))
-    (is_borrower s.point.flat.processes pid) s.point.flat.next_sid (place_at s (entries.Grew pid pages))) e
+    ap (place_change (changing_in (facts_of A.images) s.point.flat pid (place_at s (entries.Grew pid pages))) (touch_all s.place (pages_written s.point.flat pid (step_at A s.point pid)))) e
     ∙ ap (λ (x : ℕ). resize (touch_all s.place (pages_written s.point.flat pid (step_at A s.point pid))) x d t) h
     ∙ ap (λ (ws : List Page). resize (touch_all s.place ws) sid d t) w
 

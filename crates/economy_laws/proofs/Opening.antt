@@ -8,12 +8,11 @@ use Rattle.vm_facts.specs.declared.entry.Entry.{Entry}
 use Rattle.vm_facts.specs.declared.entry.Entry.TheVariants as entries
 use Rattle.flat_state.specs.declared.change.Change.{Change}
 use Rattle.flat_state.specs.declared.change.Change.TheVariants.{Resize, Fork, Exec, End}
-use Rattle.flat_state.specs.Flat.{Inputs, process_of}
+use Rattle.flat_state.specs.Flat.{Inputs}
 use Rattle.page_model.specs.Pages.{Slot}
 use Rattle.page_model.specs.Placement.{Placement, Due, Start, CopyOf, slots_of}
 use Rattle.page_model.specs.Moves.{touch_all}
-use Rattle.page_model.specs.Place.{copy_due, copies_from, enter_image, give_up_unless, place_change, space_of_process, facts_of, facts_numbered}
-use Rattle.flat_state.specs.Change.{is_borrower}
+use Rattle.page_model.specs.Place.{Changing, changing_in, copy_due, copies_from, enter_image, give_up_unless, place_change, facts_of, facts_numbered}
 use Rattle.flat_state.specs.Journal.{appended}
 use Rattle.page_model.specs.Dues.{IsDue}
 use Rattle.kernel_model.specs.Start.{ImagesFit}
@@ -71,16 +70,16 @@ exec_opens : (borrowed : Bool) (p : Placement) (next image sid : ℕ) (facts : O
 exec_opens borrowed p next image sid None e = Nothing (unless_due borrowed p sid ∙ e)
 exec_opens borrowed p next image sid (Some facts) e = NewStack (Stack next 0) (unless_due borrowed (enter_image p next image (Some facts)) sid)
 
-change_opens : (images : List Image) (p : Placement) (pid sid : ℕ) (borrowed : Bool) (next at : ℕ) (change : Change) → p.due ≡ []
-    → Opens (place_change images p pid sid borrowed next at change).due
-change_opens images p pid sid borrowed next at (Resize d s) e = Nothing ((drop_all_rest (dropped_pages p sid d s) p).1 ∙ e)
-change_opens images p pid sid borrowed next at (Fork child) e =
-    copies_open (copies_from (Data next) (Data sid) 0 (slots_of p (Data sid 0)) ++ copies_from (Stack next) (Stack sid) 0 (slots_of p (Stack sid 0)))
-    (all_both (copies_from (Data next) (Data sid) 0 (slots_of p (Data sid 0))) (copies_from (Stack next) (Stack sid) 0 (slots_of p (Stack sid 0)))
-    (from_copies (Data next) (Data sid) 0 (slots_of p (Data sid 0))) (from_copies (Stack next) (Stack sid) 0 (slots_of p (Stack sid 0))))
-change_opens images p pid sid borrowed next at (Exec image top) e = exec_opens borrowed p next image sid (facts_numbered images image) e
-change_opens images p pid sid borrowed next at (End status) e = Nothing (unless_due borrowed p sid ∙ e)
-change_opens images p pid sid borrowed next at _ e = Nothing e
+change_opens : (c : Changing) (p : Placement) (change : Change) → p.due ≡ []
+    → Opens (place_change c p change).due
+change_opens c p (Resize d s) e = Nothing ((drop_all_rest (dropped_pages p c.sid d s) p).1 ∙ e)
+change_opens c p (Fork child) e =
+    copies_open (copies_from (Data c.next_sid) (Data c.sid) 0 (slots_of p (Data c.sid 0)) ++ copies_from (Stack c.next_sid) (Stack c.sid) 0 (slots_of p (Stack c.sid 0)))
+    (all_both (copies_from (Data c.next_sid) (Data c.sid) 0 (slots_of p (Data c.sid 0))) (copies_from (Stack c.next_sid) (Stack c.sid) 0 (slots_of p (Stack c.sid 0)))
+    (from_copies (Data c.next_sid) (Data c.sid) 0 (slots_of p (Data c.sid 0))) (from_copies (Stack c.next_sid) (Stack c.sid) 0 (slots_of p (Stack c.sid 0))))
+change_opens c p (Exec image top) e = exec_opens c.borrowed p c.next_sid image c.sid (facts_numbered c.images image) e
+change_opens c p (End status) e = Nothing (unless_due c.borrowed p c.sid ∙ e)
+change_opens c p _ e = Nothing e
 
 -- where a turn begins nothing is due
 turn_clear : (A : Inputs) (s : State) (p : ℕ) → Kind A s (entries.Turn p) → s.place.due ≡ []
@@ -97,10 +96,10 @@ turn_clear A s p (Notes e k i) = e
 turn_clear A s p (Begins e k i) = e
 
 step_opens : (A : Inputs) (s : State) (pid : ℕ) (u : Entry) → s.place.due ≡ []
-    → Opens (place_change (facts_of A.images) (touch_all s.place (pages_written s.point.flat pid (step_at A s.point pid))) pid (space_of_process
-    (process_of s.point.flat pid)) (is_borrower s.point.flat.processes pid) s.point.flat.next_sid (place_at s u) (step_at A s.point pid).change).due
-step_opens A s pid u e = change_opens (facts_of A.images) (touch_all s.place (pages_written s.point.flat pid (step_at A s.point pid))) pid (space_of_process (process_of s.point.flat pid))
-    (is_borrower s.point.flat.processes pid) s.point.flat.next_sid (place_at s u) (step_at A s.point pid).change
+    → Opens (place_change (changing_in (facts_of A.images) s.point.flat pid (place_at s u))
+    (touch_all s.place (pages_written s.point.flat pid (step_at A s.point pid))) (step_at A s.point pid).change).due
+step_opens A s pid u e =
+    change_opens (changing_in (facts_of A.images) s.point.flat pid (place_at s u)) (touch_all s.place (pages_written s.point.flat pid (step_at A s.point pid))) (step_at A s.point pid).change
     (touched_due (pages_written s.point.flat pid (step_at A s.point pid)) s.place ∙ e)
 
 pub opens : (A : Inputs) (s : State) (u : Entry) → next_unit A s ≡ Some u → begins_stretch u ≡ true → Opens (after A s u).place.due

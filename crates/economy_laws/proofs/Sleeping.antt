@@ -5,10 +5,10 @@ use Rattle.vm_facts.specs.declared.regs.Regs.{Regs}
 use Rattle.vm_facts.specs.declared.entry.Entry.{Entry}
 use Rattle.vm_facts.specs.declared.entry.Entry.TheVariants as entries
 use Rattle.flat_state.specs.declared.change.Change.TheVariants.{Sleep}
-use Rattle.flat_state.specs.Change.{replaced, with_process, changed_by, changed_if, apply_change, apply_writes, is_borrower}
+use Rattle.flat_state.specs.Change.{replaced, with_process, changed_by, changed_if, apply_change, apply_writes}
 use Rattle.page_model.specs.Placement.{Placement}
 use Rattle.page_model.specs.Moves.{touch_all}
-use Rattle.page_model.specs.Place.{place_change, space_of_process, facts_of}
+use Rattle.page_model.specs.Place.{changing_in, place_change, space_of_process, facts_of}
 use Rattle.page_model.specs.Swapper.{is_out}
 use Rattle.run_laws.proofs.Lists.{found_is, replaced_at}
 use Rattle.page_laws.proofs.Moves.Units.{unit_is}
@@ -89,8 +89,8 @@ does A s u pid h e = go (kind_of A s u h)
 slept_place : (A : Inputs) (s : State) (pid : ℕ) → (step_at A s.point pid).change ≡ Sleep
     → (after A s (entries.Sleeps pid)).place ≡ touch_all s.place (pages_written s.point.flat pid (step_at A s.point pid))
 unfolding after
-slept_place A s pid e = ap (place_change (facts_of A.images) (touch_all s.place (pages_written s.point.flat pid (step_at A s.point pid))) pid (space_of_process (process_of s.point.flat pid))
-    (is_borrower s.point.flat.processes pid) s.point.flat.next_sid (place_at s (entries.Sleeps pid))) e
+slept_place A s pid e =
+    ap (place_change (changing_in (facts_of A.images) s.point.flat pid (place_at s (entries.Sleeps pid))) (touch_all s.place (pages_written s.point.flat pid (step_at A s.point pid)))) e
 
 pub sleep_stops : (A : Inputs) → SleepStops A
 sleep_stops A s pid r h = by (acted A s pid (entries.Sleeps pid) d.act)

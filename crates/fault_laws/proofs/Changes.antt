@@ -10,7 +10,7 @@ use Rattle.flat_state.specs.declared.change.Change.TheVariants.{Keep, Resize, Fo
 use Rattle.page_model.specs.Pages.{Slot, no_slot, SpacePages, is_valid, numbered, changed, data_in, stack_in}
 use Rattle.page_model.specs.Placement.{Placement, space_number, slots_of, slot_of, image_of, sharers}
 use Rattle.page_model.specs.Moves.{drop_all}
-use Rattle.page_model.specs.Place.{sized, cut_space, resize, child_slot, fork_space, facts_numbered, remove_space, pages_of_space, pages_of_text, leave_text, leave_text_by, give_up, give_up_unless, enter_image, place_change}
+use Rattle.page_model.specs.Place.{Changing, sized, cut_space, resize, child_slot, fork_space, facts_numbered, remove_space, pages_of_space, pages_of_text, leave_text, leave_text_by, give_up, give_up_unless, enter_image, place_change}
 use Rattle.page_model.specs.Conditions.{IsNew}
 use Rattle.page_laws.proofs.Lists.Pages.{mapped, changed_same, changed_other}
 use Rattle.page_laws.proofs.Ownership.Changes.{Alike, sized_past, sized_within, cut, dropped_pages, add_alike, child_blank, enter_alike, removed_same, removed_other}
@@ -120,15 +120,15 @@ enter_keeps p sid image (Some facts) n = record {
 
 -- All changes.
 
-pub change_keeps : (images : List Image) (p : Placement) (pid sid : ℕ) (borrowed : Bool) (next at : ℕ) (change : Change) → IsNew p next
-    → Keeps p (place_change images p pid sid borrowed next at change)
-change_keeps images p pid sid borrowed next at Keep n = keeps_self p
-change_keeps images p pid sid borrowed next at (Resize d s) n = resize_keeps p sid d s
-change_keeps images p pid sid borrowed next at (Fork child) n = let k : Keeps p (fork_space p sid next) = fork_keeps p sid next n in record { valid = k.valid; reads = k.reads }
-change_keeps images p pid sid borrowed next at (Lend child) n = record { valid = λ w h. h; reads = omega arith }
-change_keeps images p pid sid borrowed next at (Exec image top) n =
-    let e : Placement = enter_image p next image (facts_numbered images image) in
-    keeps_both p e (give_up_unless borrowed e sid) (enter_keeps p next image (facts_numbered images image) n) (unless_keeps borrowed e sid)
-change_keeps images p pid sid borrowed next at (Reap child) n = keeps_self p
-change_keeps images p pid sid borrowed next at Sleep n = keeps_self p
-change_keeps images p pid sid borrowed next at (End status) n = let k : Keeps p (give_up_unless borrowed p sid) = unless_keeps borrowed p sid in record { valid = k.valid; reads = k.reads }
+pub change_keeps : (c : Changing) (p : Placement) (change : Change) → IsNew p c.next_sid
+    → Keeps p (place_change c p change)
+change_keeps c p Keep n = keeps_self p
+change_keeps c p (Resize d s) n = resize_keeps p c.sid d s
+change_keeps c p (Fork child) n = let k : Keeps p (fork_space p c.sid c.next_sid) = fork_keeps p c.sid c.next_sid n in record { valid = k.valid; reads = k.reads }
+change_keeps c p (Lend child) n = record { valid = λ w h. h; reads = omega arith }
+change_keeps c p (Exec image top) n =
+    let e : Placement = enter_image p c.next_sid image (facts_numbered c.images image) in
+    keeps_both p e (give_up_unless c.borrowed e c.sid) (enter_keeps p c.next_sid image (facts_numbered c.images image) n) (unless_keeps c.borrowed e c.sid)
+change_keeps c p (Reap child) n = keeps_self p
+change_keeps c p Sleep n = keeps_self p
+change_keeps c p (End status) n = let k : Keeps p (give_up_unless c.borrowed p c.sid) = unless_keeps c.borrowed p c.sid in record { valid = k.valid; reads = k.reads }

@@ -3,12 +3,11 @@ use Rattle.std.proofs.Common.{◌≡◌, ℕ, ◌+◌, List, Option, Some, None,
 use Rattle.vm_facts.specs.declared.page.Page.{Page}
 use Rattle.vm_facts.specs.declared.entry.Entry.{Entry}
 use Rattle.vm_facts.specs.declared.entry.Entry.TheVariants as entries
-use Rattle.flat_state.specs.Flat.{Inputs, process_of}
-use Rattle.flat_state.specs.Change.{is_borrower}
+use Rattle.flat_state.specs.Flat.{Inputs}
 use Rattle.flat_model.specs.Run.{process_of_entry, step_at}
 use Rattle.page_model.specs.Placement.{Placement}
 use Rattle.page_model.specs.Moves.{touch_all}
-use Rattle.page_model.specs.Place.{space_of_process, facts_of}
+use Rattle.page_model.specs.Place.{changing_in, facts_of}
 use Rattle.run_model.specs.State.{State}
 use Rattle.run_model.specs.After.{pages_written, place_at, place_behind, after}
 use Rattle.run_model.specs.Wanted.{locked}
@@ -28,7 +27,7 @@ stepped_gain A s e pid r =
     let p : Placement = touch_all s.place qs in
     keeps_gain s.place (place_behind A s pid (step_at A s.point pid) e)
     (keeps_both s.place p (place_behind A s pid (step_at A s.point pid) e) (touch_all_keeps qs s.place)
-    (change_keeps (facts_of A.images) p pid (space_of_process (process_of s.point.flat pid)) (is_borrower s.point.flat.processes pid) s.point.flat.next_sid (place_at s e)
+    (change_keeps (changing_in (facts_of A.images) s.point.flat pid (place_at s e)) p
     (step_at A s.point pid).change
     (touched_new A s qs r)))
 

@@ -12,7 +12,7 @@ use Rattle.flat_state.specs.Change.{with_results}
 use Rattle.flat_state.specs.Journal.{append}
 use Rattle.page_model.specs.Pages.{numbered}
 use Rattle.page_model.specs.Placement.{Placement, image_of, sharers}
-use Rattle.page_model.specs.Place.{place_change}
+use Rattle.page_model.specs.Place.{Changing, place_change}
 use Rattle.kernel_model.specs.Kernel.{Life, New, HoldsSpace, LendsSpace, Ended, Proc, StartBytes, Kernel}
 use Rattle.flat_state.specs.AoutImageImage.{Image}
 
@@ -89,13 +89,17 @@ abbrev pub given_back_unless : Bool → Holdings → ℕ → ℕ → ℕ → Hol
 given_back_unless true hs sid image left = hs
 given_back_unless false hs sid image left = space_given_back hs sid image left
 
--- by the placements before and after
-abbrev pub holdings_after : Holdings → Placement → Placement → ℕ → ℕ → Bool → Change → Holdings
-holdings_after hs p q pid sid borrowed (Resize data_pages stack_pages) =
-    kept (owners.Stack sid) (length (pieces (2 * stack_pages))) (kept (owners.Data sid) (length (pieces (2 * data_pages))) hs)
-holdings_after hs p q pid sid borrowed (Exec image top) = given_back_unless borrowed hs sid (image_of p sid) (sharers q (image_of p sid))
-holdings_after hs p q pid sid borrowed (End status) = kept (owners.U pid) 0 (given_back_unless borrowed hs sid (image_of p sid) (sharers q (image_of p sid)))
-holdings_after hs p q pid sid borrowed _ = hs
+-- the pieces of the space that a process leaves go back, by the placements before and after
+abbrev pub left_space : Changing → Holdings → Placement → Placement → Holdings
+left_space c hs p q = given_back_unless c.borrowed hs c.sid (image_of p c.sid) (sharers q (image_of p c.sid))
+
+-- the holdings after a change of a process, by the placements before and after
+abbrev pub holdings_after : Changing → Holdings → Placement → Placement → Change → Holdings
+holdings_after c hs p q (Resize data_pages stack_pages) =
+    kept (owners.Stack c.sid) (length (pieces (2 * stack_pages))) (kept (owners.Data c.sid) (length (pieces (2 * data_pages))) hs)
+holdings_after c hs p q (Exec image top) = left_space c hs p q
+holdings_after c hs p q (End status) = kept (owners.U c.pid) 0 (left_space c hs p q)
+holdings_after c hs p q _ = hs
 
 -- what is kept after a change: with execve, the bytes of the new space's stack page 0 too
 abbrev pub starts_with : List StartBytes → ℕ → Change → List StartBytes
@@ -116,14 +120,25 @@ abbrev pub gave_back : Life → Bool
 gave_back New = true
 gave_back _ = false
 
+-- what the change of this process goes by, with this entry
+abbrev pub changing_of : List Image → Kernel → Proc → Entry → Changing
+changing_of images k p e = record {
+  images = images;
+  pid = p.pid;
+  sid = space_of_life p.life;
+  borrowed = gave_back p.life;
+  next_sid = k.next_sid;
+  at = length (append k.journal e);
+}
+
 -- an entry of this process with its change: of placement, holdings, processes, next numbers and kept stack pages
 abbrev pub change_by : List Image → Kernel → Proc → Entry → Change → Kernel
 change_by images k p e change =
-    let sid = space_of_life p.life in
-    let place = place_change images k.place p.pid sid (gave_back p.life) k.next_sid (length (append k.journal e)) change in
+    let c = changing_of images k p e in
+    let place = place_change c k.place change in
     record k {
       place = place;
-      holdings = holdings_after k.holdings k.place place p.pid sid (gave_back p.life) change;
+      holdings = holdings_after c k.holdings k.place place change;
       processes = procs_after k.processes p k.next_sid change;
       next_pid = pid_after k.next_pid change;
       next_sid = sid_after k.next_sid change;

@@ -10,11 +10,10 @@ use Rattle.aout_image.specs.declared.Image.{Image}
 use Rattle.flat_state.specs.Flat.{Inputs, process_of}
 use Rattle.flat_state.specs.declared.change.Change.{Change}
 use Rattle.flat_state.specs.declared.change.Change.TheVariants.{Resize, Fork, Lend, Exec, End}
-use Rattle.flat_state.specs.Change.{is_borrower}
 use Rattle.page_model.specs.Pages.{Slot}
 use Rattle.page_model.specs.Placement.{Placement, Transfer, Due, Start, CopyOf, due_of_page, slots_of}
 use Rattle.page_model.specs.Moves.{touch_all}
-use Rattle.page_model.specs.Place.{due_after, filled, place_entry, copy_due, copies_from, enter_image, give_up_unless, place_change, space_of_process, facts_of, facts_numbered}
+use Rattle.page_model.specs.Place.{due_after, filled, place_entry, copy_due, copies_from, enter_image, give_up_unless, place_change, space_of_process, facts_of, facts_numbered, Changing, changing_in}
 use Rattle.page_model.specs.Serve.{force, force_entry, is_full, serve_entry, serve_unit}
 use Rattle.page_model.specs.Swapper.{is_out, put_out_unit}
 use Rattle.page_model.specs.Dues.{IsDue}
@@ -82,28 +81,28 @@ dues_from child parent v (x ∷ xs) =
     let b = dues_from child parent (v + 1) xs in
     omega (arith, k, a, b)
 
-change_copies : (images : List Image) (p : Placement) (pid sid : ℕ) (borrowed : Bool) (next at : ℕ) (change : Change) → p.due ≡ []
-    → (length (slots_of p (Data sid 0)) ≤ 4096) × (length (slots_of p (Stack sid 0)) ≤ 512)
-    → copy_dues (place_change images p pid sid borrowed next at change).due ≤ 4608 * born change
-change_copies images p pid sid borrowed next at change e z = go change
+change_copies : (who : Changing) (p : Placement) (change : Change) → p.due ≡ []
+    → (length (slots_of p (Data who.sid 0)) ≤ 4096) × (length (slots_of p (Stack who.sid 0)) ≤ 512)
+    → copy_dues (place_change who p change).due ≤ 4608 * born change
+change_copies who p change e z = go change
   where
     none : (ds : List Due) → ds ≡ [] → copy_dues ds ≤ 0
     none ds i = let k = ap copy_dues i in omega (arith, k)
 
-    enters : (image : ℕ) (facts : Option Image) → copy_dues (give_up_unless borrowed (enter_image p next image facts) sid).due ≤ 0
-    enters image None = none (give_up_unless borrowed p sid).due (unless_due borrowed p sid ∙ e)
-    enters image (Some facts) = let k = ap copy_dues (unless_due borrowed (enter_image p next image (Some facts)) sid) in omega (arith, k)
+    enters : (image : ℕ) (facts : Option Image) → copy_dues (give_up_unless who.borrowed (enter_image p who.next_sid image facts) who.sid).due ≤ 0
+    enters image None = none (give_up_unless who.borrowed p who.sid).due (unless_due who.borrowed p who.sid ∙ e)
+    enters image (Some facts) = let k = ap copy_dues (unless_due who.borrowed (enter_image p who.next_sid image (Some facts)) who.sid) in omega (arith, k)
 
-    go : (c : Change) → copy_dues (place_change images p pid sid borrowed next at c).due ≤ 4608 * born c
-    go (Resize d t) = none _ ((drop_all_rest (dropped_pages p sid d t) p).1 ∙ e)
+    go : (c : Change) → copy_dues (place_change who p c).due ≤ 4608 * born c
+    go (Resize d t) = none _ ((drop_all_rest (dropped_pages p who.sid d t) p).1 ∙ e)
     go (Fork child) =
-        let k = dues_both (copies_from (Data next) (Data sid) 0 (slots_of p (Data sid 0))) (copies_from (Stack next) (Stack sid) 0 (slots_of p (Stack sid 0))) in
-        let a = dues_from (Data next) (Data sid) 0 (slots_of p (Data sid 0)) in
-        let b = dues_from (Stack next) (Stack sid) 0 (slots_of p (Stack sid 0)) in
+        let k = dues_both (copies_from (Data who.next_sid) (Data who.sid) 0 (slots_of p (Data who.sid 0))) (copies_from (Stack who.next_sid) (Stack who.sid) 0 (slots_of p (Stack who.sid 0))) in
+        let a = dues_from (Data who.next_sid) (Data who.sid) 0 (slots_of p (Data who.sid 0)) in
+        let b = dues_from (Stack who.next_sid) (Stack who.sid) 0 (slots_of p (Stack who.sid 0)) in
         omega (arith, k, a, b, z.0, z.1)
     go (Lend child) = let k = none _ e in omega (arith, k)
-    go (Exec image top) = enters image (facts_numbered images image)
-    go (End status) = none _ (unless_due borrowed p sid ∙ e)
+    go (Exec image top) = enters image (facts_numbered who.images image)
+    go (End status) = none _ (unless_due who.borrowed p who.sid ∙ e)
     go _ = none _ e
 
 -- ---- units
@@ -164,8 +163,8 @@ stepped_copies A s u pid z d e h =
     let a = st.sizes (Data (space_of_process (process_of s.point.flat pid)) 0) in
     let x = st.sizes (Stack (space_of_process (process_of s.point.flat pid)) 0) in
     let y = z (space_of_process (process_of s.point.flat pid)) in
-    let k = change_copies (facts_of A.images) (touch_all s.place (pages_written s.point.flat pid (step_at A s.point pid))) pid (space_of_process (process_of s.point.flat pid))
-    (is_borrower s.point.flat.processes pid) s.point.flat.next_sid (place_at s u) (step_at A s.point pid).change (touched_due (pages_written s.point.flat pid (step_at A s.point pid)) s.place ∙ d)
+    let k = change_copies (changing_in (facts_of A.images) s.point.flat pid (place_at s u)) (touch_all s.place (pages_written s.point.flat pid (step_at A s.point pid))) (step_at A s.point pid).change
+    (touched_due (pages_written s.point.flat pid (step_at A s.point pid)) s.place ∙ d)
     (omega (arith, a, y.0), omega (arith, x, y.1)) in
     let p = ap (λ (q : Placement). copy_dues q.due) r.place in
     let n = own_copies u pid own in

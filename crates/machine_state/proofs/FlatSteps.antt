@@ -21,14 +21,14 @@ use Rattle.flat_state.specs.declared.change.Change.{Change}
 use Rattle.flat_state.specs.declared.change.Change.TheVariants.{Keep, Resize, Fork, Lend, Exec, Reap, Sleep, End}
 use Rattle.page_model.specs.Pages.{numbered}
 use Rattle.page_model.specs.Placement.{Placement, Residence, image_of}
-use Rattle.page_model.specs.Place.{place_change}
+use Rattle.page_model.specs.Place.{Changing, place_change}
 use Rattle.page_model.specs.Conditions.{CanChange, MayForget, ApartFrom}
 use Rattle.page_model.specs.Ownership.{OwnsFrames, OneOwner}
 use Rattle.page_model.specs.Dues.{DueStand}
 use Rattle.table_steps.proofs.PageLawsDueChanges.{change_due}
 use Rattle.kernel_model.specs.Kernel.{Kernel, Proc, Life}
 use Rattle.kernel_model.specs.Sound.{Sound, lives, lives_in}
-use Rattle.kernel_model.specs.ChangeStep.{space_of_life, gave_back, life_of_proc, with_proc, holdings_after, procs_after, change_by}
+use Rattle.kernel_model.specs.ChangeStep.{changing_of, space_of_life, gave_back, life_of_proc, with_proc, holdings_after, procs_after, change_by}
 use Rattle.kernel_model.specs.ChangeStep.{change_if, change_step}
 use Rattle.kernel_model.specs.Numbers.{Numbered, TakesNext, ReadySpace, ReadyFor}
 use Rattle.kernel_model.specs.Taken.{MayReap, MayChange}
@@ -51,7 +51,7 @@ use Rattle.table_steps.specs.Machine.{Standing, WereFound, Stands, lists_of, ker
 use Rattle.table_steps.specs.Machine.{before_of}
 use Rattle.table_steps.specs.Changing.{processes_in, process_in}
 use Rattle.table_steps.specs.Applying.{facts_named, IsEntryOf, MayAct, CanApply}
-use Rattle.table_steps.specs.Applied.{placement_in, NamesNext, MayApply, Applied, AppliesAs}
+use Rattle.table_steps.specs.Applied.{changing_tables, placement_in, NamesNext, MayApply, Applied, AppliesAs}
 use Rattle.table_steps.proofs.Shows.{sids_shown}
 use Rattle.table_steps.proofs.Lives.{pid_of, HasRecord, record_of}
 use Rattle.table_steps.proofs.Records.{regs_are, residents_are}
@@ -261,8 +261,11 @@ module _ (t u : Tables) (j : List Entry) (b : Bool) (pid : ℕ) (regs : Regs) (e
     after = record w { found = 0 }
 
     -- the kernel's own step
+    abbrev who : Changing
+    who = changing_of (facts_named (images_of t)) (kernel_by t j b) process e
+
     abbrev next_place : Placement
-    next_place = place_change (facts_named (images_of t)) (placement_in t) process.pid (space_of_life process.life) (gave_back process.life) t.next_sid (length (append j e)) change
+    next_place = place_change who (placement_in t) change
 
     entry_added : append j e ≡ j ++ e ∷ []
     entry_added = entry_append pid j e change r.can.entry
@@ -270,19 +273,23 @@ module _ (t u : Tables) (j : List Entry) (b : Bool) (pid : ℕ) (regs : Regs) (e
     since_is : since ≡ length (append j e)
     since_is = counts ∙ sym (ap (λ (es : List Entry). length es) entry_added ∙ length-append j (e ∷ []))
 
+    who_is : changing_tables t process since ≡ who
+    who_is =
+        ap (λ (fs : List Image). let x : Changing = record (changing_tables t process since) { images = fs } in x) (sym (shown_facts t.images.items))
+        ∙ ap (λ (n : ℕ). let x : Changing = record who { at = n } in x) since_is
+
     place_is : placement_in w ≡ next_place
     place_is =
         made.place
-        ∙ ap (λ (x : Lists). place_change (lists_of t).facts (placement_of x) process.pid (space_of_life process.life) (gave_back process.life) t.next_sid since change) left_lists
-        ∙ ap (λ (fs : List Image). place_change fs (placement_in t) process.pid (space_of_life process.life) (gave_back process.life) t.next_sid since change) (sym (shown_facts t.images.items))
-        ∙ ap (λ (n : ℕ). place_change (facts_named (images_of t)) (placement_in t) process.pid (space_of_life process.life) (gave_back process.life) t.next_sid n change) since_is
+        ∙ ap (λ (x : Lists). place_change (changing_tables t process since) (placement_of x) change) left_lists
+        ∙ ap (λ (c : Changing). place_change c (placement_in t) change) who_is
 
-    book_is : w.book ≡ with_holdings t.book (holdings_after t.book.holdings (placement_in t) next_place process.pid (space_of_life process.life) (gave_back process.life) change)
+    book_is : w.book ≡ with_holdings t.book (holdings_after who t.book.holdings (placement_in t) next_place change)
     book_is =
         made.book
-        ∙ ap (λ (x : Lists). with_holdings t.book (holdings_after t.book.holdings (placement_of x) (placement_in w) process.pid (space_of_life process.life) (gave_back process.life) change))
-        left_lists
-        ∙ ap (λ (q : Placement). with_holdings t.book (holdings_after t.book.holdings (placement_in t) q process.pid (space_of_life process.life) (gave_back process.life) change)) place_is
+        ∙ ap (λ (x : Lists). with_holdings t.book (holdings_after (changing_tables t process since) t.book.holdings (placement_of x) (placement_in w) change)) left_lists
+        ∙ ap (λ (q : Placement). with_holdings t.book (holdings_after (changing_tables t process since) t.book.holdings (placement_in t) q change)) place_is
+        ∙ ap (λ (c : Changing). with_holdings t.book (holdings_after c t.book.holdings (placement_in t) next_place change)) who_is
 
     step_is : change_by (facts_named (images_of t)) (kernel_by t j b) (record process { regs = regs }) e change ≡ change_step (facts_named (images_of t)) (kernel_by t j b) pid regs e change
     step_is = ap (change_if (facts_named (images_of t)) (kernel_by t j b) regs e change) (sym there)
@@ -322,7 +329,7 @@ module _ (t u : Tables) (j : List Entry) (b : Bool) (pid : ℕ) (regs : Regs) (e
     wants = wants_these (kernel_by t j b) pid change is_numbered r.can.ready
 
     step_due : DueStand next_place
-    step_due = change_due (facts_named (images_of t)) (placement_in t) process.pid (space_of_life process.life) (gave_back process.life) t.next_sid (length (append j e)) change r.can.clear
+    step_due = change_due who (placement_in t) change r.can.clear
         (subst (λ (l : Life). CanChange (placement_in t) (space_of_life l) (gave_back l) t.next_sid change) life may.can)
         (apart_of (placement_in t) (processes_in t) (space_of_life process.life) (gave_back process.life) t.next_sid change
         (subst (λ (l : Life). MayAsk (placement_in t) (processes_in t) (space_of_life l) (gave_back l) t.next_sid change) life wants.may))
@@ -340,16 +347,12 @@ module _ (t u : Tables) (j : List Entry) (b : Bool) (pid : ℕ) (regs : Regs) (e
 
       behind :
           let holds : ℕ → Bool = lives (processes_in w) in
-          let sid : ℕ = space_of_life process.life in
-          let gave : Bool = gave_back process.life in
-          let at : ℕ = length (append j e) in
-          Behind (facts_named (images_of t)) t.book.size holds (placement_in t) process.pid sid gave t.next_sid at change (before_of t) t.book.holdings w.book.holdings
+          Behind who t.book.size holds (placement_in t) change (before_of t) t.book.holdings w.book.holdings
       behind =
           let s : Sound w.book.size (kernel_by after journal stopped) = now_sound in
           let o : OneOwner t.book.size (lives (processes_in w)) (placement_in w) w.book.holdings =
           subst (λ (n : ℕ). OneOwner n (lives (processes_in w)) (placement_in w) w.book.holdings) size_is s.owner in
-          let h : Unhanded (placement_in t) next_place =
-          change_unhanded (facts_named (images_of t)) (placement_in t) process.pid (space_of_life process.life) (gave_back process.life) t.next_sid (length (append j e)) change in
+          let h : Unhanded (placement_in t) next_place = change_unhanded who (placement_in t) change in
           record {
             owns = subst (λ (q : Placement). OneOwner t.book.size (lives (processes_in w)) q w.book.holdings) place_is o;
             same = h.transfers;
@@ -362,9 +365,7 @@ module _ (t u : Tables) (j : List Entry) (b : Bool) (pid : ℕ) (regs : Regs) (e
       now_ring : AreSourced (images_of w) (image_at w) w.book.holdings w.book.size w.ring
       now_ring =
           let s : AreSourced (images_of t) (image_of next_place) w.book.holdings t.book.size t.ring =
-          sourced_behind (images_of t) (facts_named (images_of t)) t.book.size (lives (processes_in w)) (placement_in t) process.pid (space_of_life process.life) (gave_back process.life) t.next_sid
-          (length (append j e)) change
-          (before_of t) t.book.holdings w.book.holdings t.ring behind refl owns r.stands.ring in
+          sourced_behind (images_of t) who t.book.size (lives (processes_in w)) (placement_in t) change (before_of t) t.book.holdings w.book.holdings t.ring behind refl owns r.stands.ring in
           subst (λ (ts : List Flight). AreSourced (images_of w) (image_at w) w.book.holdings w.book.size ts) (sym made.ring)
           (subst (λ (n : ℕ). AreSourced (images_of w) (image_at w) w.book.holdings n t.ring) (sym size_is)
           (subst (λ (ns : List ImageNamed). AreSourced ns (image_at w) w.book.holdings t.book.size t.ring) (sym flat_images)

@@ -30,7 +30,7 @@ use Rattle.page_model.specs.Pages.{SpacePages, numbered, frame_of}
 use Rattle.page_model.specs.Placement.{Placement, Transfer, Source, Errand, Writes, Reads, Moving, moving, moving_state, parts_of}
 use Rattle.page_model.specs.Placement.{space_number, image_of, image_in, state_of, mark_of, sharers, new_pages, IsThere}
 use Rattle.page_model.specs.Moves.{drop_all}
-use Rattle.page_model.specs.Place.{place_change, sized, enter_image, give_up, give_up_unless, remove_space, leave_text, leave_text_by}
+use Rattle.page_model.specs.Place.{Changing, place_change, sized, enter_image, give_up, give_up_unless, remove_space, leave_text, leave_text_by}
 use Rattle.page_model.specs.Place.{pages_of_space, pages_of_text, resize, facts_numbered}
 use Rattle.page_model.specs.Ownership.{Each, IsMoving, OwnsFrames, OneOwner, owner_of, block_of, needs_blocks, needs_blocks_by}
 use Rattle.table_steps.proofs.Local.{none_some}
@@ -79,19 +79,19 @@ unless_block false hs sid image left owner v block e =
     text zero k = kept_block rest (owners.Text image) owner 0 v block k
     text (suc n) k = k
 
-after_block : (hs : Holdings) (p q : Placement) (pid sid : ℕ) (b : Bool) (change : Change) (owner : Owner) (v block : ℕ)
-    → block_in (holdings_after hs p q pid sid b change) owner v ≡ Some block → block_in hs owner v ≡ Some block
-after_block hs p q pid sid b Keep owner v block e = e
-after_block hs p q pid sid b (Resize d s) owner v block e =
-    kept_block hs (owners.Data sid) owner (length (pieces (2 * d))) v block
-    (kept_block (kept (owners.Data sid) (length (pieces (2 * d))) hs) (owners.Stack sid) owner (length (pieces (2 * s))) v block e)
-after_block hs p q pid sid b (Fork child) owner v block e = e
-after_block hs p q pid sid b (Lend child) owner v block e = e
-after_block hs p q pid sid b (Exec image top) owner v block e = unless_block b hs sid (image_of p sid) _ owner v block e
-after_block hs p q pid sid b (Reap child) owner v block e = e
-after_block hs p q pid sid b Sleep owner v block e = e
-after_block hs p q pid sid b (End status) owner v block e =
-    unless_block b hs sid (image_of p sid) _ owner v block (kept_block _ (owners.U pid) owner 0 v block e)
+after_block : (c : Changing) (hs : Holdings) (p q : Placement) (change : Change) (owner : Owner) (v block : ℕ)
+    → block_in (holdings_after c hs p q change) owner v ≡ Some block → block_in hs owner v ≡ Some block
+after_block c hs p q Keep owner v block e = e
+after_block c hs p q (Resize d s) owner v block e =
+    kept_block hs (owners.Data c.sid) owner (length (pieces (2 * d))) v block
+    (kept_block (kept (owners.Data c.sid) (length (pieces (2 * d))) hs) (owners.Stack c.sid) owner (length (pieces (2 * s))) v block e)
+after_block c hs p q (Fork child) owner v block e = e
+after_block c hs p q (Lend child) owner v block e = e
+after_block c hs p q (Exec image top) owner v block e = unless_block c.borrowed hs c.sid (image_of p c.sid) _ owner v block e
+after_block c hs p q (Reap child) owner v block e = e
+after_block c hs p q Sleep owner v block e = e
+after_block c hs p q (End status) owner v block e =
+    unless_block c.borrowed hs c.sid (image_of p c.sid) _ owner v block (kept_block _ (owners.U c.pid) owner 0 v block e)
 
 some_of : {A : Type 0} (o : Option A) → IsSome o → (x : A) × (o ≡ Some x)
 some_of None h = absurd cc
@@ -183,18 +183,18 @@ enter_image_of : (p : Placement) (next image n : ℕ) (facts : Option Image) →
 enter_image_of p next image n None d = refl
 enter_image_of p next image n (Some facts) d = ap image_in (added_other n p.spaces (new_pages next image facts) d)
 
-image_stays : (images : List Image) (p : Placement) (pid sid : ℕ) (b : Bool) (next at : ℕ) (change : Change) (n : ℕ) → next ≢ n
-    → IsSpace (place_change images p pid sid b next at change) n
-    → image_of (place_change images p pid sid b next at change) n ≡ image_of p n
-image_stays images p pid sid b next at Keep n d there = refl
-image_stays images p pid sid b next at (Resize x y) n d there = resize_image p sid x y n
-image_stays images p pid sid b next at (Fork child) n d there = ap image_in (added_other n p.spaces _ d)
-image_stays images p pid sid b next at (Lend child) n d there = refl
-image_stays images p pid sid b next at (Exec image top) n d there =
-    unless_image b (enter_image p next image (facts_numbered images image)) sid n there ∙ enter_image_of p next image n (facts_numbered images image) d
-image_stays images p pid sid b next at (Reap child) n d there = refl
-image_stays images p pid sid b next at Sleep n d there = refl
-image_stays images p pid sid b next at (End status) n d there = unless_image b p sid n there
+image_stays : (c : Changing) (p : Placement) (change : Change) (n : ℕ) → c.next_sid ≢ n
+    → IsSpace (place_change c p change) n
+    → image_of (place_change c p change) n ≡ image_of p n
+image_stays c p Keep n d there = refl
+image_stays c p (Resize x y) n d there = resize_image p c.sid x y n
+image_stays c p (Fork child) n d there = ap image_in (added_other n p.spaces _ d)
+image_stays c p (Lend child) n d there = refl
+image_stays c p (Exec image top) n d there =
+    unless_image c.borrowed (enter_image p c.next_sid image (facts_numbered c.images image)) c.sid n there ∙ enter_image_of p c.next_sid image n (facts_numbered c.images image) d
+image_stays c p (Reap child) n d there = refl
+image_stays c p Sleep n d there = refl
+image_stays c p (End status) n d there = unless_image c.borrowed p c.sid n there
 
 -- The ring.
 
@@ -243,29 +243,29 @@ ring_stays ns f g hs now size (flights.Write parts ∷ ts) k h =
     (r.0, ring_stays ns f g hs now size ts r.1 h.1)
 
 -- what is in flight before and after
-pub record Behind (images : List Image) (size : ℕ) (lives : ℕ → Bool) (p : Placement) (pid sid : ℕ) (b : Bool) (next at : ℕ) (change : Change)
+pub record Behind (c : Changing) (size : ℕ) (lives : ℕ → Bool) (p : Placement) (change : Change)
     (before hs now : Holdings) : Type 0 where
-  pub owns : OneOwner size lives (place_change images p pid sid b next at change) now
-  pub same : (place_change images p pid sid b next at change).transfers ≡ p.transfers
-  pub new : numbered space_number next p.spaces ≡ None
+  pub owns : OneOwner size lives (place_change c p change) now
+  pub same : (place_change c p change).transfers ≡ p.transfers
+  pub new : numbered space_number c.next_sid p.spaces ≡ None
   pub pieces : List Wanted
   pub found : place_all size before pieces ≡ Ok hs
-  pub given : now ≡ holdings_after hs p (place_change images p pid sid b next at change) pid sid b change
+  pub given : now ≡ holdings_after c hs p (place_change c p change) change
 
 -- a page that is there is of a space that is there
 data_space : (p : Placement) (sid v : ℕ) → IsThere p (Data sid v) → IsSpace p sid
 data_space p sid v there none = absurd (let h : v < 0 = subst (λ (o : Option SpacePages). v < length (Rattle.page_model.specs.Pages.data_in o)) none there in omega arith)
 
-each_stays : (images : List Image) (size : ℕ) (lives : ℕ → Bool) (p : Placement) (pid sid : ℕ) (b : Bool) (next at : ℕ) (change : Change)
+each_stays : (c : Changing) (size : ℕ) (lives : ℕ → Bool) (p : Placement) (change : Change)
     (before hs now : Holdings)
-    → Behind images size lives p pid sid b next at change before hs now → (ms : List Moving) → Each (IsMoving p) ms
-    → Each (IsMoving (place_change images p pid sid b next at change)) ms
-    → Each (Stay (image_of p) (image_of (place_change images p pid sid b next at change)) before now) ms
-each_stays images size lives p pid sid b next at change before hs now z [] k l = tt
-each_stays images size lives p pid sid b next at change before hs now z (m ∷ ms) k l = (one, each_stays images size lives p pid sid b next at change before hs now z ms k.1 l.1)
+    → Behind c size lives p change before hs now → (ms : List Moving) → Each (IsMoving p) ms
+    → Each (IsMoving (place_change c p change)) ms
+    → Each (Stay (image_of p) (image_of (place_change c p change)) before now) ms
+each_stays c size lives p change before hs now z [] k l = tt
+each_stays c size lives p change before hs now z (m ∷ ms) k l = (one, each_stays c size lives p change before hs now z ms k.1 l.1)
   where
     q : Placement
-    q = place_change images p pid sid b next at change
+    q = place_change c p change
 
     was : IsMoving p m
     was = k.0
@@ -278,24 +278,24 @@ each_stays images size lives p pid sid b next at change before hs now z (m ∷ m
       block = λ x e.
           let first : block_of hs m.page ≡ Some x = still_found size before hs z.pieces (owner_of m.page) (number_of m.page) x z.found e in
           same_block (block_of hs m.page) (block_of now m.page) x first (places_found size lives q now m.page z.owns (moving_needs q m.page m.errand m.frame is))
-          (λ y i. after_block hs p q pid sid b change (owner_of m.page) (number_of m.page) y (sym (ap (λ (g : Holdings). block_of g m.page) z.given) ∙ i));
+          (λ y i. after_block c hs p q change (owner_of m.page) (number_of m.page) y (sym (ap (λ (g : Holdings). block_of g m.page) z.given) ∙ i));
       image = λ n v e.
           let there : IsThere p (Data n v) = subst (IsThere p) e (page_in p m.page m.frame (ap frame_of was ∙ frame_of_moving m.errand m.frame)) in
           let here : IsThere q (Data n v) = subst (IsThere q) e (page_in q m.page m.frame (ap frame_of is ∙ frame_of_moving m.errand m.frame)) in
-          image_stays images p pid sid b next at change n (λ i. data_space p n v there (ap (λ (j : ℕ). numbered space_number j p.spaces) (sym i) ∙ z.new)) (data_space q n v here);
+          image_stays c p change n (λ i. data_space p n v there (ap (λ (j : ℕ). numbered space_number j p.spaces) (sym i) ∙ z.new)) (data_space q n v here);
     }
 
 -- the transfers have their sources after a change
-pub sourced_behind : (ns : List ImageNamed) (images : List Image) (size : ℕ) (lives : ℕ → Bool) (p : Placement) (pid sid : ℕ) (b : Bool) (next at : ℕ)
+pub sourced_behind : (ns : List ImageNamed) (c : Changing) (size : ℕ) (lives : ℕ → Bool) (p : Placement)
     (change : Change) (before hs now : Holdings) (ts : List Flight)
-    → Behind images size lives p pid sid b next at change before hs now → p.transfers ≡ map transfer_shown ts → OwnsFrames p
-    → AreSourced ns (image_of p) before size ts → AreSourced ns (image_of (place_change images p pid sid b next at change)) now size ts
-sourced_behind ns images size lives p pid sid b next at change before hs now ts z e o s =
-    let q : Placement = place_change images p pid sid b next at change in
+    → Behind c size lives p change before hs now → p.transfers ≡ map transfer_shown ts → OwnsFrames p
+    → AreSourced ns (image_of p) before size ts → AreSourced ns (image_of (place_change c p change)) now size ts
+sourced_behind ns c size lives p change before hs now ts z e o s =
+    let q : Placement = place_change c p change in
     let oq : OneOwner size lives q now = z.owns in
     let fq : OwnsFrames q = oq.frames in
     ring_stays ns (image_of p) (image_of q) before now size ts
-    (each_stays images size lives p pid sid b next at change before hs now z (parts_of (map transfer_shown ts))
+    (each_stays c size lives p change before hs now z (parts_of (map transfer_shown ts))
     (subst (λ (xs : List Transfer). Each (IsMoving p) (parts_of xs)) e o.moves)
     (subst (λ (xs : List Transfer). Each (IsMoving q) (parts_of xs)) (z.same ∙ e) fq.moves))
     s

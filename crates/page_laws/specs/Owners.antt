@@ -9,7 +9,7 @@ use Rattle.page_model.specs.Book.{IsBook}
 use Rattle.flat_state.specs.declared.change.Change.{Change as AnyChange}
 use Rattle.page_model.specs.Placement.{Placement, Starting, start_placement}
 use Rattle.page_model.specs.Moves.{touch_all}
-use Rattle.page_model.specs.Place.{place_entry, place_step, place_change, space_of_process}
+use Rattle.page_model.specs.Place.{Changing, place_entry, place_step, place_change, space_of_process}
 use Rattle.flat_state.specs.Change.{is_borrower}
 use Rattle.page_model.specs.Conditions.{CanPlace, CanChange, EntryShared, MayForget}
 use Rattle.page_model.specs.Ownership.{OwnsFrames, OneOwner, TextAside, block_of, OwnsBlocks}
@@ -39,10 +39,9 @@ EntryKeepsOwners = (size : ℕ) (lives : ℕ → Bool) (hs : Holdings) (locked :
 
 -- a change of a process leaves text that nobody shares unsaved and, at most, in a free frame
 abbrev pub ChangeLeavesTextAside : Type 0
-ChangeLeavesTextAside = (images : List Image) (p : Placement) (pid sid : ℕ) (borrowed : Bool) (next_sid at : ℕ)
-    (change : AnyChange)
-    → TextAside p → MayForget images p sid borrowed next_sid change
-    → TextAside (place_change images p pid sid borrowed next_sid at change)
+ChangeLeavesTextAside = (c : Changing) (p : Placement) (change : AnyChange)
+    → TextAside p → MayForget c.images p c.sid c.borrowed c.next_sid change
+    → TextAside (place_change c p change)
 
 -- bytes stored at the block of a page are that page's on swap, and all others have what they had
 abbrev pub StoreWritesOnePage : Type 0

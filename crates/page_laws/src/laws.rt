@@ -13,9 +13,9 @@ ghost use Rattle.flat_state.specs.PageNames.{number_of};
 ghost use Rattle.page_model.specs.Placement.{Placement, Transfer, slots_of, state_of, is_dirty, page_of, IsThere, mark_of, Starting, start_placement};
 ghost use Rattle.page_model.specs.Moves.{touch, reclaim, done, launch_run};
 ghost use Rattle.page_model.specs.Hands.{hand_move, hand_run, expire, advance};
-ghost use Rattle.page_model.specs.Place.{moved, place_entry, place_change, filled, put_step, resize, fork_space, enter_space, leave_text};
-ghost use Rattle.page_model.specs.Reading.{read_step, source_for};
+ghost use Rattle.page_model.specs.Place.{moved, place_entry, place_change, filled, put_step, resize, fork_space, enter_space, leave_text, Changing};
 ghost use Rattle.page_model.specs.Serve.{force, serve_unit, serve_entry, serve_step};
+ghost use Rattle.page_model.specs.Reading.{read_step, source_for};
 ghost use Rattle.vm_facts.specs.Swap.{most_in_flight};
 ghost use Rattle.page_model.specs.Swapper.{Runner, In, Out, Nothing, residence_of, is_settled, swap_choice, is_out, put_out_unit};
 ghost use Rattle.page_model.specs.Conditions.{begins, HaveParts, CanBegin, EachPage, AllApart, CanEnter, HasSeat, IsNew, IsSettled, CanPlace, Spares};
@@ -113,8 +113,8 @@ pub fn others_same()
     ensures residence { (p : Placement) (pid : ℕ) (out : Bool) (at : ℕ) (b : Bytes) (w : Page) → SamePage p (moved p pid out at) b b w }
     ensures u_page { (size pid : ℕ) (hs : Holdings) (image bytes : List ℕ) (w : Page) → IsBook size hs → 512 * size ≤ length image
         → length bytes ≡ 1024 → stored hs (store_at image (block_in hs (U pid) 0) bytes) w ≡ stored hs image w }
-    ensures change { (images : List Image) (p : Placement) (pid sid new at : ℕ) (lent : Bool) (x : AnyChange) (b c : Bytes) (w : Page)
-        → IsNew p new → SameBytes b c w → SamePage p (place_change images p pid sid lent new at x) b c w }
+    ensures change { (who : Changing) (p : Placement) (change : AnyChange) (b c : Bytes) (w : Page) → IsNew p who.next_sid
+        → SameBytes b c w → SamePage p (place_change who p change) b c w }
 {}
 
 /// Forcing a frame ends: `far` falls with each unit, whatever is locked. With nothing in flight it is at most one
@@ -267,10 +267,10 @@ pub fn moves_write_their_run()
 pub fn frames_are_left()
     ensures entry { (locked : List Page) (at : ℕ) (p : Placement) (e : Entry) (q : Page) (f : ℕ) → OwnsFrames p → CanPlace p e
         → frame_of (state_of p q) ≡ Some f → StaysOrTaken p e (place_entry locked at p e) q f }
-    ensures change { (images : List Image) (p : Placement) (pid sid next at : ℕ) (lent : Bool) (change : AnyChange) (q : Page)
-        → IsNew p next → StaysOrGivenUp p sid lent change (place_change images p pid sid lent next at change) q }
-    ensures dirty { (images : List Image) (p : Placement) (pid sid new at f : ℕ) (lent : Bool) (x : AnyChange) (q : Page) → IsNew p new
-        → IsDirtyIn p q f → DirtyOrGivenUp sid lent x (place_change images p pid sid lent new at x) q f }
+    ensures change { (c : Changing) (p : Placement) (change : AnyChange) (q : Page) → IsNew p c.next_sid
+        → StaysOrGivenUp p c.sid c.borrowed change (place_change c p change) q }
+    ensures dirty { (c : Changing) (p : Placement) (change : AnyChange) (q : Page) (f : ℕ) → IsNew p c.next_sid → IsDirtyIn p q f
+        → DirtyOrGivenUp c.sid c.borrowed change (place_change c p change) q f }
     ensures written { (locked : List Page) (at : ℕ) (p : Placement) (e : Entry) (q : Page) (f : ℕ) → OwnsFrames p → CanPlace p e
         → IsUnwritten p q f → StaysOrWritten p e (place_entry locked at p e) q f }
 {}

@@ -197,21 +197,44 @@ abbrev pub enter_image : Placement → ℕ → ℕ → Option Image → Placemen
 enter_image p sid image None = p
 enter_image p sid image (Some facts) = enter_space p sid image facts
 
--- by the images' facts, the process, its space, whether it borrowed that, the number of the next space, and the place in
--- the journal
-abbrev pub place_change : List Image → Placement → ℕ → ℕ → Bool → ℕ → ℕ → Change → Placement
-place_change images p pid sid borrowed next_sid at Keep = p
-place_change images p pid sid borrowed next_sid at (Resize data_pages stack_pages) = resize p sid data_pages stack_pages
-place_change images p pid sid borrowed next_sid at (Fork child) = begin_residence (fork_space p sid next_sid) child at
-place_change images p pid sid borrowed next_sid at (Lend child) = begin_residence p child at
-place_change images p pid sid borrowed next_sid at (Exec image top) =
-    give_up_unless borrowed (enter_image p next_sid image (facts_numbered images image)) sid
-place_change images p pid sid borrowed next_sid at (Reap child) = p
-place_change images p pid sid borrowed next_sid at Sleep = p
-place_change images p pid sid borrowed next_sid at (End status) = end_residence (give_up_unless borrowed p sid) pid
+-- what a change of a process goes by
+pub record Changing : Type 0 where
+  -- the facts of the images
+  pub images : List Image
+  -- the process
+  pub pid : ℕ
+  -- the space that it holds, or borrowed
+  pub sid : ℕ
+  -- it borrowed its space
+  pub borrowed : Bool
+  -- the number of the next space
+  pub next_sid : ℕ
+  -- the place of the entry in the journal
+  pub at : ℕ
+
+-- the placement after a change of a process
+abbrev pub place_change : Changing → Placement → Change → Placement
+place_change c p Keep = p
+place_change c p (Resize data_pages stack_pages) = resize p c.sid data_pages stack_pages
+place_change c p (Fork child) = begin_residence (fork_space p c.sid c.next_sid) child c.at
+place_change c p (Lend child) = begin_residence p child c.at
+place_change c p (Exec image top) = give_up_unless c.borrowed (enter_image p c.next_sid image (facts_numbered c.images image)) c.sid
+place_change c p (Reap child) = p
+place_change c p Sleep = p
+place_change c p (End status) = end_residence (give_up_unless c.borrowed p c.sid) c.pid
+
+-- what the change of this process goes by, in a flat state; the place is that of the entry in the journal
+abbrev pub changing_in : List Image → FlatState → ℕ → ℕ → Changing
+changing_in images flat pid at = record {
+  images = images;
+  pid = pid;
+  sid = space_of_process (process_of flat pid);
+  borrowed = is_borrower flat.processes pid;
+  next_sid = flat.next_sid;
+  at = at;
+}
 
 -- The placement after an entry of a process with its change: the pages that were written are dirty, and the change is
 -- made. The flat state is the one before, and the place that of the entry in the journal.
 abbrev pub place_step : List Image → FlatState → ℕ → ℕ → List Page → Change → Placement → Placement
-place_step images flat pid at written change p =
-    place_change images (touch_all p written) pid (space_of_process (process_of flat pid)) (is_borrower flat.processes pid) flat.next_sid at change
+place_step images flat pid at written change p = place_change (changing_in images flat pid at) (touch_all p written) change

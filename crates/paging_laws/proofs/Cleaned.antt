@@ -11,8 +11,7 @@ use Rattle.page_model.specs.Pages.{frame_of, is_dirty_by}
 use Rattle.vm_facts.specs.Lists.{times}
 use Rattle.page_model.specs.Placement.{Placement, state_of, mark_of}
 use Rattle.page_model.specs.Moves.{touch_all}
-use Rattle.page_model.specs.Place.{place_change, facts_of}
-use Rattle.flat_state.specs.Change.{is_borrower}
+use Rattle.page_model.specs.Place.{changing_in, place_change, facts_of}
 use Rattle.page_model.specs.Ownership.{OwnsFrames, IsListed, is_marked_dirty, may_be_dirty}
 use Rattle.page_laws.specs.Leaving.{IsDirtyIn, IsUnwritten}
 use Rattle.std.proofs.lemmas.Option.{same_Some}
@@ -27,7 +26,6 @@ use Rattle.run_model.specs.Lawful.{Follows}
 use Rattle.run_laws.specs.Running.{IsRun}
 use Rattle.run_laws.proofs.Units.{owns}
 use Rattle.run_laws.proofs.Wholes.{unit_run}
-use Rattle.paging_laws.specs.Lost.{space_held}
 use Rattle.paging_laws.specs.Cleaned.{IsCleaned, WasWritten, WasGivenUp, CleanedIn}
 use Rattle.paging_laws.proofs.Lost.{touched_new, unit_written}
 
@@ -75,10 +73,10 @@ plain_dirty A s u q f r h n d = elim (unit_written A s u q f r h n (must_write s
 
 stepped_dirty : (A : Inputs) (s : State) (u : Entry) (q : Page) (f pid at : ℕ) (qs : List Page) → IsRun A s → process_of_entry u ≡ Some pid
     → IsDirtyIn s.place q f
-    → IsDirtyIn (place_change (facts_of A.images) (touch_all s.place qs) pid (space_held s pid)
-    (is_borrower s.point.flat.processes pid) s.point.flat.next_sid at (step_at A s.point pid).change) q f ⊎ IsCleaned A s u q f
+    → IsDirtyIn (place_change (changing_in (facts_of A.images) s.point.flat pid at) (touch_all s.place qs) (step_at A s.point pid).change) q f
+    ⊎ IsCleaned A s u q f
 stepped_dirty A s u q f pid at qs r e d =
-    elim (change_dirty (facts_of A.images) (touch_all s.place qs) pid (space_held s pid) (is_borrower s.point.flat.processes pid) s.point.flat.next_sid at (step_at A s.point pid).change q f
+    elim (change_dirty (changing_in (facts_of A.images) s.point.flat pid at) (touch_all s.place qs) (step_at A s.point pid).change q f
     (touched_new A s qs r) (touch_all_dirty qs s.place q f d)) [
       | inl k ↦ inl k
       | inr k ↦ inr (WasGivenUp pid e k)

@@ -9,7 +9,7 @@ use Rattle.flat_state.specs.declared.change.Change.TheVariants.{Resize, Exec, En
 use Rattle.page_model.specs.Pages.{frame_of}
 use Rattle.page_model.specs.Placement.{Placement, state_of}
 use Rattle.page_model.specs.Moves.{touch_all}
-use Rattle.page_model.specs.Place.{place_entry, place_change, facts_of}
+use Rattle.page_model.specs.Place.{changing_in, place_entry, place_change, facts_of}
 use Rattle.flat_state.specs.Change.{is_borrower}
 use Rattle.page_model.specs.Conditions.{IsNew}
 use Rattle.page_laws.specs.Leaving.{IsGivenUp, StaysOrTaken, IsUnwritten, StaysOrWritten}
@@ -66,12 +66,12 @@ touched_new A s qs r =
 
 stepped_lost : (A : Inputs) (s : State) (u : Entry) (q : Page) (f pid at : ℕ) (qs : List Page) → IsRun A s → process_of_entry u ≡ Some pid
     → frame_of (state_of s.place q) ≡ Some f
-    → frame_of (state_of (place_change (facts_of A.images) (touch_all s.place qs) pid (space_held s pid)
-    (is_borrower s.point.flat.processes pid) s.point.flat.next_sid at (step_at A s.point pid).change) q) ≢ Some f → IsLost A s u q f
+    → frame_of (state_of (place_change (changing_in (facts_of A.images) s.point.flat pid at) (touch_all s.place qs) (step_at A s.point pid).change) q)
+    ≢ Some f → IsLost A s u q f
 stepped_lost A s u q f pid at qs r e h k =
     let p : Placement = touch_all s.place qs in
     let t : Steady s.place p = touch_all_steady qs s.place in
-    elim (change_frame (facts_of A.images) p pid (space_held s pid) (is_borrower s.point.flat.processes pid) s.point.flat.next_sid at (step_at A s.point pid).change q (touched_new A s qs r)) [
+    elim (change_frame (changing_in (facts_of A.images) s.point.flat pid at) p (step_at A s.point pid).change q (touched_new A s qs r)) [
       | inl i ↦ absurd (k (i ∙ t.frames q ∙ h))
       | inr i ↦ given A s u q f pid (step_at A s.point pid).change e refl i.1
     ]

@@ -47,7 +47,10 @@ unfolding begun breaking first_pieces piece place_all fit lowest_room Rattle.res
 break_finds_no_place = refl
 
 -- a smaller break gives the chunk back
-smaller_break_gives_back : holdings_after (first_pieces ++ piece (owners.Data 1) 68 64 ∷ []) (resize begun 1 17 1) begun 1 1 false (Resize 16 1) ≡ first_pieces
+smaller_break_gives_back : holdings_after (record { images = []; pid = 1; sid = 1; borrowed = false; next_sid = 2; at = 0 })
+    (first_pieces ++ piece (owners.Data 1) 68 64 ∷ [])
+    (resize begun 1 17 1) begun (Resize 16 1)
+    ≡ first_pieces
 unfolding begun breaking first_pieces piece kept pieces chunks_holding lowest_below chunk_start chunk
 smaller_break_gives_back = refl
 

@@ -106,7 +106,8 @@ walk images (PutsOut at pid sid ∷ rest) p =
 walk images (Choose runners ∷ rest) p = Chose (swap_choice p runners) ∷ walk images rest p
 walk images (Wants ∷ rest) p = Moves (wants_moves p) ∷ walk images rest p
 walk images (Step pid sid borrowed next_sid at written change ∷ rest) p =
-    walk images rest (place_change (facts_of images) (touch_all p written) pid sid borrowed next_sid at change)
+    let c = record { images = facts_of images; pid = pid; sid = sid; borrowed = borrowed; next_sid = next_sid; at = at } in
+    walk images rest (place_change c (touch_all p written) change)
 
 -- the units and choices alone
 abbrev pub chosen : List Seen → List Seen

@@ -17,7 +17,7 @@ use Rattle.page_laws.proofs.Due.Changes.{unless_due}
 use Rattle.page_laws.proofs.Ends.Hands.{room_still}
 use Rattle.kernel_model.specs.Kernel.{Proc, Kernel}
 use Rattle.kernel_model.specs.Sound.{lives_in}
-use Rattle.kernel_model.specs.ChangeStep.{gave_back, space_of_life, change_by, change_if}
+use Rattle.kernel_model.specs.ChangeStep.{changing_of, change_by, change_if}
 use Rattle.machine_state.proofs.KernelLawsSoundChanges.{Unhanded, change_unhanded}
 use Rattle.machine_state.specs.Machine.{Standing}
 use Rattle.machine_state.specs.Sourced.{ImageNamed}
@@ -56,12 +56,10 @@ entered_due p next image o facts e = ap (λ (x : Option Image). (enter_image p n
 image_by : (images : List Image) (k : Kernel) (p : Proc) (e : Entry) (image : ℕ) (top : List ℕ) (facts : Image) → facts_numbered images image ≡ Some facts
     → HasNewStack k (change_by images k p e (Exec image top)) e
 image_by images k p e image top facts h =
-    let sid = space_of_life p.life in
-    let borrowed = gave_back p.life in
-    let at = length (append k.journal e) in
-    let u : Unhanded k.place (place_change images k.place p.pid sid borrowed k.next_sid at (Exec image top)) = change_unhanded images k.place p.pid sid borrowed k.next_sid at (Exec image top) in
+    let who = changing_of images k p e in
+    let u : Unhanded k.place (place_change who k.place (Exec image top)) = change_unhanded who k.place (Exec image top) in
     record {
-      due = unless_due borrowed (enter_image k.place k.next_sid image (facts_numbered images image)) sid ∙ entered_due k.place k.next_sid image (facts_numbered images image) facts h;
+      due = unless_due who.borrowed (enter_image k.place k.next_sid image (facts_numbered images image)) who.sid ∙ entered_due k.place k.next_sid image (facts_numbered images image) facts h;
       frames = u.hands.frames;
       journal = refl;
     }

@@ -12,7 +12,7 @@ use Rattle.flat_state.specs.Change.{apply_change, is_borrower}
 use Rattle.flat_state.specs.Journal.{append}
 use Rattle.page_model.specs.Pages.{numbered}
 use Rattle.page_model.specs.Placement.{Placement, space_number}
-use Rattle.page_model.specs.Place.{place_change, facts_of, facts_numbered}
+use Rattle.page_model.specs.Place.{Changing, place_change, facts_of, facts_numbered}
 use Rattle.page_model.specs.Dues.{DueStand}
 use Rattle.page_model.specs.Conditions.{HaveParts, CanChange, ApartFrom}
 use Rattle.page_model.specs.Swapper.{is_out}
@@ -36,7 +36,7 @@ use Rattle.kernel_laws.proofs.Machine.Forks.{fit_image, next_new}
 use Rattle.kernel_laws.proofs.Flat.Lenders.{lender_found}
 use Rattle.kernel_laws.proofs.Machine.Returns.{passes, Borrowing, borrowing, back_kernel, back_proc}
 use Rattle.kernel_laws.proofs.Stands.Changes.{exec_back_stands, end_back_stands}
-use Rattle.kernel_laws.proofs.Machine.Processes.{Stepping, by_life, step_is}
+use Rattle.kernel_laws.proofs.Machine.Processes.{changing_with, Stepping, by_life, step_is}
 use Rattle.kernel_laws.proofs.Machine.Through.{exec_back_tables, end_back_tables}
 use Rattle.register_laws.proofs.FlatLawsAsking.{own_space, change_same}
 use Rattle.flat_model.specs.Asked.{given_up}
@@ -45,7 +45,7 @@ use Rattle.run_laws.specs.Standing.{machine_of, EachOnce, Placed}
 use Rattle.kernel_model.specs.Invariant.{EntersImage}
 use Rattle.run_laws.proofs.Bridge.{from_machine}
 use Rattle.run_laws.proofs.Changes.{given_same, change_once}
-use Rattle.run_laws.proofs.OwnChanges.{Changing, with_found}
+use Rattle.run_laws.proofs.OwnChanges.{ReadyChange, with_found}
 use Rattle.aout_image.specs.declared.Image.{Image}
 
 pub record Told (A : Inputs) (l : Kernel) (after : FlatState) : Type 0 where
@@ -69,8 +69,8 @@ back_told A k flat pid regs e q m s _ gb fit nums f h is out due x t st = absurd
 
 -- where the change lands
 pub record Lands (A : Inputs) (k : Kernel) (pid sid : ℕ) (e : Entry) (change : Change) (l : Kernel) : Type 0 where
-  pub place : l.place ≡ place_change (facts_of A.images) k.place pid sid true k.next_sid (length (append k.journal e)) change
-  pub holdings : l.holdings ≡ holdings_after k.holdings k.place l.place pid sid true change
+  pub place : l.place ≡ place_change (changing_with (facts_of A.images) k pid sid true e) k.place change
+  pub holdings : l.holdings ≡ holdings_after (changing_with (facts_of A.images) k pid sid true e) k.holdings k.place l.place change
   pub journal : l.journal ≡ append k.journal e
 
 pub lands_any : (A : Inputs) (k : Kernel) (pid : ℕ) (sid : ℕ) (e : Entry) (change : Change) (l : Kernel) → GivesBack change
@@ -101,14 +101,15 @@ asks_same images k l pid _ gb p n = absurd gb
 
 pub back_change : (A : Inputs) (flat : FlatState) (p : Placement) (hs found : Holdings) (pid : ℕ) (regs : Regs) (j : List Entry) (e : Entry) (q : Process)
     (s : Space) (change : Change)
-    → Changing A flat p hs found pid q s change → LendsStand flat → is_borrower flat.processes pid ≡ true → GivesBack change
+    → ReadyChange A flat p hs found pid q s change → LendsStand flat → is_borrower flat.processes pid ≡ true → GivesBack change
     → Placed A flat p hs
-    → Placed A (apply_change A.images flat pid regs change) (place_change (facts_of A.images) p pid s.sid true flat.next_sid (length (append j e)) change)
+    → Placed A (apply_change A.images flat pid regs change)
+    (place_change (changing_with (facts_of A.images) (with_found flat p found j) pid s.sid true e) p change)
     (given_up flat (apply_change A.images flat pid regs change) pid s change found)
 back_change A flat p hs found pid regs j e q s change c lend w gb st =
-    let at : ℕ = length (append j e) in
     let after : FlatState = apply_change A.images flat pid regs change in
     let k : Kernel = with_found flat p found j in
+    let who : Changing = changing_with (facts_of A.images) k pid s.sid true e in
     let so : Sound A.swap_blocks (machine_of flat p hs) = st.sound in
     let before : Sound A.swap_blocks (record k { holdings = hs }) = record { owner = so.owner; tokens = so.tokens; hands = so.hands; few_transfers = so.few_transfers } in
     let nb : Numbered (machine_of flat p hs) = st.numbered in
@@ -134,18 +135,18 @@ back_change A flat p hs found pid regs j e q s change c lend w gb st =
     let numbered_now : Numbered l = flat_numbered (facts_of A.images) k1 pid regs e change (takes_none k1 change gb) ready.alive n1 in
     let told : Told A l after = back_told A k flat pid regs e q m s change gb c.images c.numbers c.found_process c.holds lender.1 c.resident c.clear c.execs t stands in
     let lands : Lands A k pid s.sid e change l = back_lands A k flat pid regs e q m s change a gb in
-    let un : Unhanded p (place_change (facts_of A.images) p pid s.sid true flat.next_sid at change) = change_unhanded (facts_of A.images) p pid s.sid true flat.next_sid at change in
-    let hands : SameHands p (place_change (facts_of A.images) p pid s.sid true flat.next_sid at change) = un.hands in
-    let dues : DueStand l.place = subst DueStand (sym lands.place) (change_due (facts_of A.images) p pid s.sid true flat.next_sid at change c.clear (can change gb) (is_apart change gb)) in
-    let once : EachOnce l.place.due = subst (λ (x : Placement). EachOnce x.due) (sym lands.place) (change_once (facts_of A.images) p pid s.sid true flat.next_sid at change c.clear) in
+    let un : Unhanded p (place_change who p change) = change_unhanded who p change in
+    let hands : SameHands p (place_change who p change) = un.hands in
+    let dues : DueStand l.place = subst DueStand (sym lands.place) (change_due who p change c.clear (can change gb) (is_apart change gb)) in
+    let once : EachOnce l.place.due = subst (λ (x : Placement). EachOnce x.due) (sym lands.place) (change_once who p change c.clear) in
     let parts : HaveParts l.place.transfers = subst (λ (x : Placement). HaveParts x.transfers) (sym lands.place) (subst HaveParts (sym un.transfers) st.parts) in
     let frames : length l.place.holds ≡ A.frames = subst (λ (x : Placement). length x.holds ≡ A.frames) (sym lands.place) (hands.frames ∙ st.frames) in
     let fits : Fits (Some s) (numbered space_number s.sid p.spaces) =
     subst (λ (x : Option Space). Fits x (numbered space_number s.sid p.spaces)) (own_space flat pid q s c.numbers c.found_process c.holds) (tb.spaces s.sid) in
-    let back : given_up flat after pid s change found ≡ holdings_after found p l.place pid s.sid true change =
-    given_same flat after pid s change found p l.place true w (fit_image s (numbered space_number s.sid p.spaces) fits) (λ z. absurd cc) in
-    subst (Placed A after (place_change (facts_of A.images) p pid s.sid true flat.next_sid at change)) (sym back)
-    (subst (λ (x : Placement). Placed A after x (holdings_after found p l.place pid s.sid true change)) lands.place
+    let back : given_up flat after pid s change found ≡ holdings_after who found p l.place change =
+    given_same flat after pid s change who found p l.place true w (fit_image s (numbered space_number s.sid p.spaces) fits) (λ z. absurd cc) in
+    subst (Placed A after (place_change who p change)) (sym back)
+    (subst (λ (x : Placement). Placed A after x (holdings_after who found p l.place change)) lands.place
     (subst (Placed A after l.place) lands.holdings
     (from_machine A after l sound numbered_now told.tables told.stands dues once parts frames)))
   where

@@ -1,4 +1,5 @@
 -- A process's own step keeps the machine with its bytes at the state of the run.
+use Rattle.kernel_laws.proofs.Machine.Processes.{changing_with}
 use Rattle.std.proofs.Common.{◌≡◌, ℕ, ◌/◌, Bool, true, ◌||◌, nat_lt, List, [], ◌∷◌, length, Option, Some, None, Result, Ok, refl, sym, ap, ap₂, ◌∙◌, subst}
 use Rattle.std.specs.Prelude.{filter_map}
 use Rattle.vm_facts.specs.Answers.{ByteWrite}
@@ -16,7 +17,7 @@ use Rattle.flat_state.specs.Journal.{append}
 use Rattle.page_model.specs.Pages.{numbered}
 use Rattle.page_model.specs.Placement.{Placement, space_number}
 use Rattle.page_model.specs.Moves.{touch_all}
-use Rattle.page_model.specs.Place.{place_change, space_of_holding, space_of_process, facts_of}
+use Rattle.page_model.specs.Place.{changing_in, place_change, space_of_holding, space_of_process, facts_of}
 use Rattle.page_model.specs.Swapper.{is_out, is_settled}
 use Rattle.kernel_model.specs.Kernel.{Kernel}
 use Rattle.kernel_model.specs.Coupled.{Fits, SameTables, Coupled}
@@ -51,7 +52,7 @@ use Rattle.run_laws.specs.Machine.{write_bytes, write_held, process_written, wri
 use Rattle.run_laws.proofs.Writing.{SameSpace, space_tables}
 use Rattle.run_laws.proofs.Written.{Mid, Rest, IsValidAt, AllWritable, WroteAll, write_all}
 use Rattle.run_laws.proofs.Landing.{Landed, Found, step_landed}
-use Rattle.run_laws.proofs.OwnChanges.{Changing}
+use Rattle.run_laws.proofs.OwnChanges.{ReadyChange}
 use Rattle.run_laws.proofs.Flows.{steps_own, on_steps, valid_among}
 use Rattle.run_laws.proofs.Forms.{Suits, Formed}
 use Rattle.run_laws.proofs.Stepping.{Wrote, wrote, wrote_process, borrows_same, touched_out, touched_settled, settles_for, given_written}
@@ -159,7 +160,7 @@ step_reaches A s k image u images execs numbers lenders at h valid =
           (ap (λ (hs : Holdings). place_all A.swap_blocks hs (change_wanted A.images flat1 z step.change)) held1 ∙ pieces1) c1;
       stands = record { starts = st1.starts; texts = st1.texts; out = st1.out };
     } in
-    let changing : Changing A flat1 k1.place s.holdings found.0 pid q1 z step.change = record {
+    let changing : ReadyChange A flat1 k1.place s.holdings found.0 pid q1 z step.change = record {
       images = images;
       numbers = numbers1;
       found_process = here;
@@ -185,10 +186,10 @@ step_reaches A s k image u images execs numbers lenders at h valid =
     subst (λ (y : Kernel). Reaches A s u (passing_change (is_borrower flat.processes pid) (facts_of A.images) y pid step.regs u step.change) image) (sym k2_is) (record {
       mid = subst (λ (y : FlatState). Mid A y (passing_change (is_borrower flat.processes pid) (facts_of A.images) k2 pid step.regs u step.change) image) (sym flat_is) landed.mid;
       place = landed.place
-          ∙ ap (λ (p : Placement). place_change (facts_of A.images) p pid z.sid (is_borrower flat.processes pid) k1.next_sid (length (append k1.journal u)) step.change) place1
-          ∙ ap (λ (n : ℕ). place_change (facts_of A.images) p1 pid n (is_borrower flat.processes pid) k1.next_sid (length (append k1.journal u)) step.change) sid_is
-          ∙ ap (λ (n : ℕ). place_change (facts_of A.images) p1 pid (space_of_process (process_of flat pid)) (is_borrower flat.processes pid) n (length (append k1.journal u)) step.change) next
-          ∙ ap (λ (j : List Entry). place_change (facts_of A.images) p1 pid (space_of_process (process_of flat pid)) (is_borrower flat.processes pid) flat.next_sid (length (append j u)) step.change)
+          ∙ ap (λ (p : Placement). place_change (changing_with (facts_of A.images) k1 pid z.sid (is_borrower flat.processes pid) u) p step.change) place1
+          ∙ ap (λ (n : ℕ). place_change (changing_with (facts_of A.images) k1 pid n (is_borrower flat.processes pid) u) p1 step.change) sid_is
+          ∙ ap (λ (n : ℕ). place_change (record (changing_in (facts_of A.images) flat pid (length (append k1.journal u))) { next_sid = n }) p1 step.change) next
+          ∙ ap (λ (j : List Entry). place_change (changing_in (facts_of A.images) flat pid (length (append j u))) p1 step.change)
           journal1
           ∙ sym r.place;
       holdings = landed.holdings ∙ given_written flat flat1 (apply_change A.images flat1 pid step.regs step.change) pid x.space z step.change found.0 same.sid same.image borrows
@@ -207,7 +208,7 @@ step_reaches A s k image u images execs numbers lenders at h valid =
         stands = ran_stands A.images k1 flat1 pid step.regs u q1 z here refl changing.resident st1;
       });
       place = place1
-          ∙ sym (r.place ∙ ap (λ (y : Change). place_change (facts_of A.images) p1 pid (space_of_process (process_of flat pid)) (is_borrower flat.processes pid) flat.next_sid (place_at s u) y) keep);
+          ∙ sym (r.place ∙ ap (λ (y : Change). place_change (changing_in (facts_of A.images) flat pid (place_at s u)) p1 y) keep);
       holdings = held1 ∙ sym (r.holdings ∙ ap (λ (y : Entry). held_entry A s.point y s.holdings) i);
       journal = ap (λ (j : List Entry). append j u) journal1;
     })) in
@@ -218,8 +219,7 @@ step_reaches A s k image u images execs numbers lenders at h valid =
       taken = subst (λ (y : Kernel). Coupled y A.images image flat1) (sym k2_is) ready.coupled;
       out_regs = subst (λ (x : FlatState). OutRegs (after A s u).place x) (sym flat_is)
           (regs_stay A.images flat s.place (after A s u).place pid step.writes step.regs step.change runs.resident outs may
-          (λ n e. still_out n (change_out (facts_of A.images) (touch_all s.place written) pid (space_of_process (process_of flat pid)) (is_borrower flat.processes pid) flat.next_sid
-          (place_at s u) step.change n (ap (λ (p : Placement). is_out p n) (sym r.place) ∙ e)))
+          (λ n e. still_out n (change_out (changing_in (facts_of A.images) flat pid (place_at s u)) (touch_all s.place written) step.change n (ap (λ (p : Placement). is_out p n) (sym r.place) ∙ e)))
           (subst (λ (p : Placement). OutRegs p flat) at.place kp.out_regs));
     }
   where

@@ -20,7 +20,7 @@ use Rattle.flat_state.specs.Change.{is_borrower}
 use Rattle.page_model.specs.Pages.{Slot}
 use Rattle.flat_state.specs.PageNames.{same_page}
 use Rattle.page_model.specs.Placement.{Placement, Due, CopyOf, due_page, due_of_page, image_of, sharers, slots_of}
-use Rattle.page_model.specs.Place.{place_change, copy_due, copies_from, give_up_unless, facts_numbered}
+use Rattle.page_model.specs.Place.{Changing, place_change, copy_due, copies_from, give_up_unless, facts_numbered}
 use Rattle.page_model.specs.Dues.{NotDue}
 use Rattle.kernel_model.specs.ChangeStep.{holdings_after, given_back_unless, text_given_back}
 use Rattle.flat_model.specs.Asked.{is_shared, without_text, without_own, given_up, without_owner}
@@ -74,20 +74,20 @@ map_count : {A : Type 0} {B : Type 0} (f : A → B) (xs : List A) → length (ma
 map_count f [] = refl
 map_count f (x ∷ xs) = ap suc (map_count f xs)
 
-pub given_same : (flat after : FlatState) (pid : ℕ) (s : Space) (change : Change) (hs : Holdings) (p q : Placement) (borrowed : Bool)
+pub given_same : (flat after : FlatState) (pid : ℕ) (s : Space) (change : Change) (c : Changing) (hs : Holdings) (p q : Placement) (borrowed : Bool)
     → is_borrower flat.processes pid ≡ borrowed → image_of p s.sid ≡ s.image
     → (borrowed ≡ false → (sharers q (image_of p s.sid) ≡ 0 → is_shared after s.image ≡ false)
     × ((m : ℕ) → sharers q (image_of p s.sid) ≡ suc m → is_shared after s.image ≡ true))
-    → given_up flat after pid s change hs ≡ holdings_after hs p q pid s.sid borrowed change
-given_same flat after pid s (Resize d t) hs p q borrowed b i h =
+    → given_up flat after pid s change hs ≡ holdings_after (record c { pid = pid; sid = s.sid; borrowed = borrowed }) hs p q change
+given_same flat after pid s (Resize d t) c hs p q borrowed b i h =
     ap₂ (λ (m n : ℕ). kept (owners.Stack s.sid) m (kept (owners.Data s.sid) n hs)) (map_count (Rattle.swap_book.specs.Placing.one (owners.Stack s.sid)) (pieces (2 * t)))
     (map_count (Rattle.swap_book.specs.Placing.one (owners.Data s.sid)) (pieces (2 * d)))
-given_same flat after pid s (Exec image top) hs p q borrowed b i h =
+given_same flat after pid s (Exec image top) c hs p q borrowed b i h =
     ap (λ (x : Bool). without_own x after s hs) b ∙ own_back borrowed after s hs (image_of p s.sid) (sharers q (image_of p s.sid)) (sym i) h
-given_same flat after pid s (End status) hs p q borrowed b i h =
+given_same flat after pid s (End status) c hs p q borrowed b i h =
     ap (λ (x : Bool). without_own x after s (kept (owners.U pid) 0 hs)) b
     ∙ own_back borrowed after s (kept (owners.U pid) 0 hs) (image_of p s.sid) (sharers q (image_of p s.sid)) (sym i) h ∙ u_back borrowed hs s.sid (image_of p s.sid) (sharers q (image_of p s.sid)) pid
-given_same flat after pid s _ hs p q borrowed b i h = refl
+given_same flat after pid s _ c hs p q borrowed b i h = refl
 
 -- No page is due twice.
 
@@ -154,19 +154,22 @@ stack_absent child parent xs ys x h = absent_copies (pages.Stack child) (pages.S
 none_once : (p : Placement) → p.due ≡ [] → EachOnce p.due
 none_once p e = subst EachOnce (sym e) tt
 
-pub change_once : (images : List Image) (p : Placement) (pid sid : ℕ) (borrowed : Bool) (next at : ℕ) (change : Change) → p.due ≡ []
-    → EachOnce (place_change images p pid sid borrowed next at change).due
-change_once images p pid sid borrowed next at (Resize d s) e = none_once (place_change images p pid sid borrowed next at (Resize d s))
-    ((Rattle.page_laws.proofs.Bytes.Changes.drop_all_rest (Rattle.page_laws.proofs.Ownership.Changes.dropped_pages p sid d s) p).1 ∙ e)
-change_once images p pid sid borrowed next at (Fork child) e =
-    append_once (copies_from (pages.Data next) (pages.Data sid) 0 (slots_of p (pages.Data sid 0))) (copies_from (pages.Stack next) (pages.Stack sid) 0 (slots_of p (pages.Stack sid 0)))
-    (copies_once (pages.Data next) (pages.Data sid) 0 (slots_of p (pages.Data sid 0)) (λ u w l. ap (λ (b : Bool). (next == next) && b) (later_apart u w l) ∙ and-false (next == next)))
-    (copies_once (pages.Stack next) (pages.Stack sid) 0 (slots_of p (pages.Stack sid 0)) (λ u w l. ap (λ (b : Bool). (next == next) && b) (later_apart u w l) ∙ and-false (next == next)))
-    (stack_absent next sid (slots_of p (pages.Data sid 0)) (slots_of p (pages.Stack sid 0)))
-change_once images p pid sid borrowed next at (Exec image top) e = go (facts_numbered images image)
+pub change_once : (c : Changing) (p : Placement) (change : Change) → p.due ≡ []
+    → EachOnce (place_change c p change).due
+change_once c p (Resize d s) e = none_once (place_change c p (Resize d s))
+    ((Rattle.page_laws.proofs.Bytes.Changes.drop_all_rest (Rattle.page_laws.proofs.Ownership.Changes.dropped_pages p c.sid d s) p).1 ∙ e)
+change_once c p (Fork child) e =
+    append_once (copies_from (pages.Data c.next_sid) (pages.Data c.sid) 0 (slots_of p (pages.Data c.sid 0)))
+    (copies_from (pages.Stack c.next_sid) (pages.Stack c.sid) 0 (slots_of p (pages.Stack c.sid 0)))
+    (copies_once (pages.Data c.next_sid) (pages.Data c.sid) 0 (slots_of p (pages.Data c.sid 0))
+    (λ u w l. ap (λ (b : Bool). (c.next_sid == c.next_sid) && b) (later_apart u w l) ∙ and-false (c.next_sid == c.next_sid)))
+    (copies_once (pages.Stack c.next_sid) (pages.Stack c.sid) 0 (slots_of p (pages.Stack c.sid 0))
+    (λ u w l. ap (λ (b : Bool). (c.next_sid == c.next_sid) && b) (later_apart u w l) ∙ and-false (c.next_sid == c.next_sid)))
+    (stack_absent c.next_sid c.sid (slots_of p (pages.Data c.sid 0)) (slots_of p (pages.Stack c.sid 0)))
+change_once c p (Exec image top) e = go (facts_numbered c.images image)
   where
-    go : (o : Option Image) → EachOnce (give_up_unless borrowed (Rattle.page_model.specs.Place.enter_image p next image o) sid).due
-    go None = subst EachOnce (sym (Rattle.kernel_laws.proofs.Machine.Gone.gone_unless borrowed p sid).due) (none_once p e)
-    go (Some facts) = subst EachOnce (sym (Rattle.kernel_laws.proofs.Machine.Gone.gone_unless borrowed (Rattle.page_model.specs.Place.enter_space p next image facts) sid).due) (refl, tt)
-change_once images p pid sid borrowed next at (End status) e = subst EachOnce (sym (Rattle.kernel_laws.proofs.Machine.Gone.gone_unless borrowed p sid).due) (none_once p e)
-change_once images p pid sid borrowed next at _ e = none_once p e
+    go : (o : Option Image) → EachOnce (give_up_unless c.borrowed (Rattle.page_model.specs.Place.enter_image p c.next_sid image o) c.sid).due
+    go None = subst EachOnce (sym (Rattle.kernel_laws.proofs.Machine.Gone.gone_unless c.borrowed p c.sid).due) (none_once p e)
+    go (Some facts) = subst EachOnce (sym (Rattle.kernel_laws.proofs.Machine.Gone.gone_unless c.borrowed (Rattle.page_model.specs.Place.enter_space p c.next_sid image facts) c.sid).due) (refl, tt)
+change_once c p (End status) e = subst EachOnce (sym (Rattle.kernel_laws.proofs.Machine.Gone.gone_unless c.borrowed p c.sid).due) (none_once p e)
+change_once c p _ e = none_once p e

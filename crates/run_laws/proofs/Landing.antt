@@ -1,5 +1,5 @@
 -- A change of a process keeps the machine with its bytes, and lands where the state of the run does.
-use Rattle.std.proofs.Common.{◌≡◌, ℕ, Bool, true, false, List, [], length, Option, Some, Ok, refl, sym, ap, ◌∙◌, subst}
+use Rattle.std.proofs.Common.{◌≡◌, ℕ, Bool, true, false, List, [], Option, Some, Ok, refl, sym, ap, ◌∙◌, subst}
 use Rattle.flat_state.specs.Space.{Space}
 use Rattle.flat_state.specs.Flat.{Process, FlatState, Inputs}
 use Rattle.vm_facts.specs.declared.regs.Regs.{Regs}
@@ -39,7 +39,7 @@ use Rattle.kernel_laws.proofs.Machine.Ends.{end_coupled_step}
 use Rattle.kernel_laws.proofs.Machine.Returns.{Borrowing, borrowing, exec_back, end_back}
 use Rattle.kernel_laws.proofs.Flat.Lenders.{lender_found}
 use Rattle.kernel_laws.proofs.Flat.Numbers.{changes_numbered}
-use Rattle.kernel_laws.proofs.Machine.Processes.{Stepping, stepping}
+use Rattle.kernel_laws.proofs.Machine.Processes.{changing_with, Stepping, stepping}
 use Rattle.register_laws.proofs.FlatLawsAsking.{own_space, shared_same, no_sharers, some_sharers, change_same}
 use Rattle.flat_model.specs.Asked.{is_shared, given_up}
 use Rattle.kernel_laws.proofs.Kept.Changes.{takes_next, may_reap, GivesBack, takes_none, back_ready}
@@ -47,7 +47,7 @@ use Rattle.run_laws.specs.Standing.{Own}
 use Rattle.kernel_model.specs.Unit.{lender_among, keeps_step, back_step, passing_change}
 use Rattle.kernel_laws.proofs.Kept.Borrowed.{lender_is}
 use Rattle.run_laws.proofs.Changes.{given_same}
-use Rattle.run_laws.proofs.OwnChanges.{Changing, keeps_place, keeps_holdings, own_false, end_false, own_told, own_kept, own_lands}
+use Rattle.run_laws.proofs.OwnChanges.{ReadyChange, keeps_place, keeps_holdings, own_false, end_false, own_told, own_kept, own_lands}
 use Rattle.run_laws.proofs.OwnChanges as own
 use Rattle.run_laws.proofs.BackChanges.{back_told, back_lands, asks_same}
 use Rattle.run_laws.proofs.BackChanges as back
@@ -58,7 +58,7 @@ use Rattle.run_laws.proofs.Written.{Mid}
 pub record Landed (A : Inputs) (after : FlatState) (k l : Kernel) (image : List ℕ) (pid sid : ℕ) (b : Bool) (e : Entry) (change : Change)
     (held : Holdings) : Type 0 where
   pub mid : Mid A after l image
-  pub place : l.place ≡ place_change (facts_of A.images) k.place pid sid b k.next_sid (length (append k.journal e)) change
+  pub place : l.place ≡ place_change (changing_with (facts_of A.images) k pid sid b e) k.place change
   pub holdings : l.holdings ≡ held
   pub journal : l.journal ≡ append k.journal e
 
@@ -78,7 +78,7 @@ found_none A flat k image before x e = subst (λ (hs : Holdings). Sound A.swap_b
 
 own_coupled : (A : Inputs) (k : Kernel) (flat : FlatState) (image : List ℕ) (before : Holdings) (pid : ℕ) (regs : Regs) (e : Entry) (q : Process) (s : Space)
     (b : Bool) (change : Change)
-    → Changing A flat k.place before k.holdings pid q s change → is_borrower flat.processes pid ≡ b
+    → ReadyChange A flat k.place before k.holdings pid q s change → is_borrower flat.processes pid ≡ b
     → Own b change → SettlesFor k.place s.sid change → MayForget (facts_of A.images) k.place s.sid false k.next_sid change → Found A flat k image before
     → Coupled (keeps_step (facts_of A.images) k pid regs e change) A.images image (apply_change A.images flat pid regs change)
 own_coupled A k flat image before pid regs e q s b Keep c w o z y x = keep_coupled k A.images image flat pid regs e q s c.numbers c.found_process c.holds c.resident x.coupled
@@ -109,7 +109,7 @@ own_coupled A k flat image before pid regs e q s b (End status) c w o z y x =
 
 pub own_landed : (A : Inputs) (k : Kernel) (flat : FlatState) (image : List ℕ) (before : Holdings) (pid : ℕ) (regs : Regs) (e : Entry) (q : Process) (s : Space)
     (b : Bool) (change : Change)
-    → Changing A flat k.place before k.holdings pid q s change → is_borrower flat.processes pid ≡ b
+    → ReadyChange A flat k.place before k.holdings pid q s change → is_borrower flat.processes pid ≡ b
     → Own b change → SettlesFor k.place s.sid change → Found A flat k image before
     → Landed A (apply_change A.images flat pid regs change) k (keeps_step (facts_of A.images) k pid regs e change) image pid s.sid b e change
     (given_up flat (apply_change A.images flat pid regs change) pid s change k.holdings)
@@ -140,17 +140,17 @@ own_landed A k flat image before pid regs e q s b change c w o settles x =
     let shared : is_shared after s.image ≡ Rattle.register_laws.proofs.FlatLawsAsking.is_some_of Rattle.register_laws.proofs.FlatLawsAsking.image_of_pages s.image l.place.spaces =
     shared_same l after s.image kept.numbered numbers told.tables in
     let same_image : image_of k.place s.sid ≡ s.image = fit_image s (numbered space_number s.sid k.place.spaces) fits in
-    let back : given_up flat after pid s change k.holdings ≡ holdings_after k.holdings k.place l.place pid s.sid false change =
-    given_same flat after pid s change k.holdings k.place l.place b w same_image
+    let back : given_up flat after pid s change k.holdings ≡ holdings_after (changing_with (facts_of A.images) k pid s.sid false e) k.holdings k.place l.place change =
+    given_same flat after pid s change (changing_with (facts_of A.images) k pid s.sid b e) k.holdings k.place l.place b w same_image
     (λ z. (
       (λ i. shared ∙ no_sharers s.image l.place.spaces (ap (sharers l.place) (sym same_image) ∙ i)),
       (λ m i. shared
           ∙ some_sharers s.image m l.place.spaces (ap (sharers l.place) (sym same_image) ∙ i)),
     ))
-    ∙ keeps_holdings k.holdings k.place l.place pid s.sid b change o in
+    ∙ keeps_holdings (changing_with (facts_of A.images) k pid s.sid b e) k.holdings k.place l.place change o in
     record {
       mid = record { sound = kept.sound; numbered = kept.numbered; coupled = coupled; stands = told.stands };
-      place = lands.place ∙ keeps_place (facts_of A.images) k.place pid s.sid b k.next_sid (length (append k.journal e)) change o;
+      place = lands.place ∙ keeps_place (changing_with (facts_of A.images) k pid s.sid b e) k.place change o;
       holdings = lands.holdings ∙ sym back;
       journal = lands.journal;
     }
@@ -159,7 +159,7 @@ own_landed A k flat image before pid regs e q s b change c w o settles x =
 
 back_coupled : (A : Inputs) (k : Kernel) (flat : FlatState) (image : List ℕ) (before : Holdings) (pid : ℕ) (regs : Regs) (e : Entry) (q m : Process)
     (s : Space) (change : Change)
-    → Changing A flat k.place before k.holdings pid q s change → IsLender flat pid s.sid m → GivesBack change
+    → ReadyChange A flat k.place before k.holdings pid q s change → IsLender flat pid s.sid m → GivesBack change
     → Found A flat k image before → Coupled (change_step (facts_of A.images) (pass_step k pid m.pid) pid regs e change) A.images image
     (apply_change A.images flat pid regs change)
 back_coupled A k flat image before pid regs e q m s (Exec number top) c is gb x =
@@ -180,7 +180,7 @@ back_is A k pid n regs e _ gb i = absurd gb
 
 pub back_landed : (A : Inputs) (k : Kernel) (flat : FlatState) (image : List ℕ) (before : Holdings) (pid : ℕ) (regs : Regs) (e : Entry) (q : Process)
     (s : Space) (change : Change)
-    → Changing A flat k.place before k.holdings pid q s change → LendsStand flat → is_borrower flat.processes pid ≡ true → GivesBack change
+    → ReadyChange A flat k.place before k.holdings pid q s change → LendsStand flat → is_borrower flat.processes pid ≡ true → GivesBack change
     → Found A flat k image before
     → Landed A (apply_change A.images flat pid regs change) k (back_step (facts_of A.images) k pid regs e change) image pid s.sid true e change
     (given_up flat (apply_change A.images flat pid regs change) pid s change k.holdings)
@@ -216,7 +216,8 @@ back_landed A k flat image before pid regs e q s change c lend w gb x =
         stands = told.stands;
       };
       place = lands.place;
-      holdings = lands.holdings ∙ sym (given_same flat after pid s change k.holdings k.place l.place true w (fit_image s (numbered space_number s.sid k.place.spaces) fits) (λ z. absurd cc));
+      holdings = lands.holdings ∙ sym (given_same flat after pid s change (changing_with (facts_of A.images) k pid s.sid true e) k.holdings k.place l.place true w
+          (fit_image s (numbered space_number s.sid k.place.spaces) fits) (λ z. absurd cc));
       journal = lands.journal;
     })
 
@@ -224,7 +225,7 @@ back_landed A k flat image before pid regs e q s change c lend w gb x =
 
 pub step_landed : (A : Inputs) (k : Kernel) (flat : FlatState) (image : List ℕ) (before : Holdings) (pid : ℕ) (regs : Regs) (e : Entry) (q : Process)
     (s : Space) (b : Bool) (change : Change)
-    → Changing A flat k.place before k.holdings pid q s change → LendsStand flat → is_borrower flat.processes pid ≡ b
+    → ReadyChange A flat k.place before k.holdings pid q s change → LendsStand flat → is_borrower flat.processes pid ≡ b
     → (Own b change → SettlesFor k.place s.sid change) → Found A flat k image before
     → Landed A (apply_change A.images flat pid regs change) k (passing_change b (facts_of A.images) k pid regs e change) image pid s.sid b e change
     (given_up flat (apply_change A.images flat pid regs change) pid s change k.holdings)

@@ -1,5 +1,5 @@
 -- Who is out stays so with its registers, whatever another process does.
-use Rattle.std.proofs.Common.{◌≡◌, ◌≢◌, inl, inr, ℕ, Bool, true, false, List, Option, Some, None, refl, sym, ap, ◌∙◌, subst}
+use Rattle.std.proofs.Common.{◌≡◌, ◌≢◌, inl, inr, ℕ, true, false, List, Option, Some, None, refl, sym, ap, ◌∙◌, subst}
 use Rattle.std.proofs.lemmas.Bool.{cases_eq}
 use Rattle.vm_facts.specs.Answers.{ByteWrite}
 use Rattle.flat_state.specs.Space.{Space}
@@ -9,7 +9,7 @@ use Rattle.flat_state.specs.declared.change.Change.{Change}
 use Rattle.flat_state.specs.declared.change.Change.TheVariants.{Resize, Fork, Lend, Exec, End}
 use Rattle.flat_state.specs.Change.{apply_change, apply_writes, NamesChild}
 use Rattle.page_model.specs.Placement.{Placement, Residence}
-use Rattle.page_model.specs.Place.{place_change, enter_image, give_up_unless, facts_numbered}
+use Rattle.page_model.specs.Place.{Changing, place_change, enter_image, give_up_unless, facts_numbered}
 use Rattle.page_model.specs.Moves.{drop_all}
 use Rattle.page_model.specs.Swapper.{is_out, residence_of}
 use Rattle.kernel_model.specs.UPage.{AreRegs}
@@ -28,23 +28,23 @@ entered_residents p next image None = refl
 entered_residents p next image (Some facts) = refl
 
 -- nobody goes out by a change of a process
-pub change_out : (images : List Image) (p : Placement) (pid sid : ℕ) (b : Bool) (next at : ℕ) (change : Change) (n : ℕ)
-    → is_out (place_change images p pid sid b next at change) n ≡ true → is_out p n ≡ true
-change_out images p pid sid b next at (Resize d s) n e =
-    let sh : Shaped p (drop_all p (dropped_pages p sid d s)) = drop_all_shaped (dropped_pages p sid d s) p in ap (λ (rs : List Residence). (residence_of rs n).out) (sym sh.residents) ∙ e
-change_out images p pid sid b next at (Fork child) n e = sym (out_begun p.residents child at n) ∙ e
-change_out images p pid sid b next at (Lend child) n e = sym (out_begun p.residents child at n) ∙ e
-change_out images p pid sid b next at (Exec image top) n e =
-    let p1 : Placement = enter_image p next image (facts_numbered images image) in
-    let g : Gone p1 (give_up_unless b p1 sid) b sid = gone_unless b p1 sid in
-    ap (λ (rs : List Residence). (residence_of rs n).out) (sym (g.residents ∙ entered_residents p next image (facts_numbered images image))) ∙ e
-change_out images p pid sid b next at (End status) n e =
-    let g : Gone p (give_up_unless b p sid) b sid = gone_unless b p sid in
-    elim (cases_eq n pid) [
-      | inl i ↦ absurd (let z : false ≡ true = sym (out_gone (give_up_unless b p sid).residents pid) ∙ ap (is_out (place_change images p pid sid b next at (End status))) (sym i) ∙ e in cc)
-      | inr d ↦ ap (λ (rs : List Residence). (residence_of rs n).out) (sym g.residents) ∙ sym (out_ended (give_up_unless b p sid).residents pid n d) ∙ e
+pub change_out : (c : Changing) (p : Placement) (change : Change) (n : ℕ)
+    → is_out (place_change c p change) n ≡ true → is_out p n ≡ true
+change_out c p (Resize d s) n e =
+    let sh : Shaped p (drop_all p (dropped_pages p c.sid d s)) = drop_all_shaped (dropped_pages p c.sid d s) p in ap (λ (rs : List Residence). (residence_of rs n).out) (sym sh.residents) ∙ e
+change_out c p (Fork child) n e = sym (out_begun p.residents child c.at n) ∙ e
+change_out c p (Lend child) n e = sym (out_begun p.residents child c.at n) ∙ e
+change_out c p (Exec image top) n e =
+    let p1 : Placement = enter_image p c.next_sid image (facts_numbered c.images image) in
+    let g : Gone p1 (give_up_unless c.borrowed p1 c.sid) c.borrowed c.sid = gone_unless c.borrowed p1 c.sid in
+    ap (λ (rs : List Residence). (residence_of rs n).out) (sym (g.residents ∙ entered_residents p c.next_sid image (facts_numbered c.images image))) ∙ e
+change_out c p (End status) n e =
+    let g : Gone p (give_up_unless c.borrowed p c.sid) c.borrowed c.sid = gone_unless c.borrowed p c.sid in
+    elim (cases_eq n c.pid) [
+      | inl i ↦ absurd (let z : false ≡ true = sym (out_gone (give_up_unless c.borrowed p c.sid).residents c.pid) ∙ ap (is_out (place_change c p (End status))) (sym i) ∙ e in cc)
+      | inr d ↦ ap (λ (rs : List Residence). (residence_of rs n).out) (sym g.residents) ∙ sym (out_ended (give_up_unless c.borrowed p c.sid).residents c.pid n d) ∙ e
     ]
-change_out images p pid sid b next at _ n e = e
+change_out c p _ n e = e
 
 -- who is out holds a space
 pub out_holder : (p : Placement) (flat : FlatState) (n : ℕ) → OutHold p flat → is_out p n ≡ true

@@ -12,7 +12,7 @@ use Rattle.flat_state.specs.Change.{apply_change, NamesChild, is_borrower}
 use Rattle.flat_state.specs.Journal.{append}
 use Rattle.page_model.specs.Pages.{SpacePages, numbered}
 use Rattle.page_model.specs.Placement.{Placement, space_number, image_of, sharers}
-use Rattle.page_model.specs.Place.{place_change, facts_of}
+use Rattle.page_model.specs.Place.{Changing, place_change, facts_of}
 use Rattle.page_model.specs.Dues.{DueStand}
 use Rattle.page_model.specs.Conditions.{HaveParts, CanChange, ApartFrom}
 use Rattle.page_model.specs.Swapper.{is_out}
@@ -34,7 +34,7 @@ use Rattle.kernel_laws.proofs.Sound.Changes.{Unhanded, change_unhanded}
 use Rattle.page_laws.proofs.Ends.Hands.{SameHands}
 use Rattle.page_laws.proofs.Due.Changes.{change_due}
 use Rattle.kernel_laws.proofs.Machine.Forks.{fit_image, next_new}
-use Rattle.kernel_laws.proofs.Machine.Processes.{Stepping, stepping, by_life, step_is}
+use Rattle.kernel_laws.proofs.Machine.Processes.{changing_with, Stepping, stepping, by_life, step_is}
 use Rattle.kernel_laws.proofs.Machine.Through.{keep_tables, sleep_tables, reap_tables, resize_tables, fork_tables, lend_tables, exec_tables, end_tables}
 use Rattle.kernel_laws.proofs.Stands.Changes.{keep_stands, sleep_stands, reap_stands, resize_stands, fork_stands, lend_stands, exec_stands, end_stands}
 use Rattle.register_laws.proofs.FlatLawsAsking.{own_space, shared_same, no_sharers, some_sharers, change_same}
@@ -45,38 +45,8 @@ use Rattle.kernel_model.specs.Invariant.{EntersImage}
 use Rattle.kernel_model.specs.Unit.{keeps_step as next_of}
 use Rattle.run_laws.proofs.Bridge.{from_machine}
 use Rattle.run_laws.proofs.Changes.{given_same, change_once}
-use Rattle.aout_image.specs.declared.Image.{Image}
 
 -- Who keeps a space does with it what the owner does.
-
-pub keeps_place : (images : List Image) (p : Placement) (pid sid : ℕ) (b : Bool) (next at : ℕ) (change : Change) → Own b change
-    → place_change images p pid sid false next at change ≡ place_change images p pid sid b next at change
-keeps_place images p pid sid false next at change o = refl
-keeps_place images p pid sid true next at Keep o = refl
-keeps_place images p pid sid true next at (Resize d s) o = refl
-keeps_place images p pid sid true next at (Fork child) o = refl
-keeps_place images p pid sid true next at (Lend child) o = refl
-keeps_place images p pid sid true next at (Exec image top) o = absurd o
-keeps_place images p pid sid true next at (Reap child) o = refl
-keeps_place images p pid sid true next at Sleep o = refl
-keeps_place images p pid sid true next at (End status) o = absurd o
-
-pub keeps_holdings : (hs : Holdings) (p q : Placement) (pid sid : ℕ) (b : Bool) (change : Change) → Own b change
-    → holdings_after hs p q pid sid b change ≡ holdings_after hs p q pid sid false change
-keeps_holdings hs p q pid sid false change o = refl
-keeps_holdings hs p q pid sid true Keep o = refl
-keeps_holdings hs p q pid sid true (Resize d s) o = refl
-keeps_holdings hs p q pid sid true (Fork child) o = refl
-keeps_holdings hs p q pid sid true (Lend child) o = refl
-keeps_holdings hs p q pid sid true (Exec image top) o = absurd o
-keeps_holdings hs p q pid sid true (Reap child) o = refl
-keeps_holdings hs p q pid sid true Sleep o = refl
-keeps_holdings hs p q pid sid true (End status) o = absurd o
-
--- Tables, and what stands beside them.
-pub record Told (A : Inputs) (l : Kernel) (after : FlatState) : Type 0 where
-  pub tables : SameTables l after
-  pub stands : Stands A.images l after
 
 pub own_false : (b : Bool) (image : ℕ) (top : List ℕ) → Own b (Exec image top) → b ≡ false
 own_false true image top o = absurd o
@@ -85,6 +55,23 @@ own_false false image top o = refl
 pub end_false : (b : Bool) (status : ℕ) → Own b (End status) → b ≡ false
 end_false true status o = absurd o
 end_false false status o = refl
+
+pub keeps_place : (c : Changing) (p : Placement) (change : Change) → Own c.borrowed change
+    → place_change (record c { borrowed = false }) p change ≡ place_change c p change
+keeps_place c p (Exec image top) o = ap (λ (b : Bool). place_change (record c { borrowed = b }) p (Exec image top)) (sym (own_false c.borrowed image top o))
+keeps_place c p (End status) o = ap (λ (b : Bool). place_change (record c { borrowed = b }) p (End status)) (sym (end_false c.borrowed status o))
+keeps_place c p _ o = refl
+
+pub keeps_holdings : (c : Changing) (hs : Holdings) (p q : Placement) (change : Change) → Own c.borrowed change
+    → holdings_after c hs p q change ≡ holdings_after (record c { borrowed = false }) hs p q change
+keeps_holdings c hs p q (Exec image top) o = ap (λ (b : Bool). holdings_after (record c { borrowed = b }) hs p q (Exec image top)) (own_false c.borrowed image top o)
+keeps_holdings c hs p q (End status) o = ap (λ (b : Bool). holdings_after (record c { borrowed = b }) hs p q (End status)) (end_false c.borrowed status o)
+keeps_holdings c hs p q _ o = refl
+
+-- Tables, and what stands beside them.
+pub record Told (A : Inputs) (l : Kernel) (after : FlatState) : Type 0 where
+  pub tables : SameTables l after
+  pub stands : Stands A.images l after
 
 pub own_told : (A : Inputs) (k : Kernel) (flat : FlatState) (pid : ℕ) (regs : Regs) (e : Entry) (q : Process) (s : Space) (b : Bool) (change : Change)
     → ImagesFit A.images → IsNumbered flat
@@ -137,8 +124,8 @@ own_kept A k flat pid regs e q s _ nums f h t m so n = record { sound = so; numb
 
 -- the placement and the holdings after it
 pub record Lands (A : Inputs) (k : Kernel) (pid sid : ℕ) (e : Entry) (change : Change) (l : Kernel) : Type 0 where
-  pub place : l.place ≡ place_change (facts_of A.images) k.place pid sid false k.next_sid (length (append k.journal e)) change
-  pub holdings : l.holdings ≡ holdings_after k.holdings k.place l.place pid sid false change
+  pub place : l.place ≡ place_change (changing_with (facts_of A.images) k pid sid false e) k.place change
+  pub holdings : l.holdings ≡ holdings_after (changing_with (facts_of A.images) k pid sid false e) k.holdings k.place l.place change
   pub journal : l.journal ≡ append k.journal e
 
 pub next_lands : (A : Inputs) (k : Kernel) (pid sid : ℕ) (regs : Regs) (e : Entry) (change : Change)
@@ -160,7 +147,8 @@ own_lands A k flat pid regs e q s change f h t =
 -- All of it.
 
 -- what is known of a change and of the process that makes it
-pub record Changing (A : Inputs) (flat : FlatState) (p : Placement) (hs found : Holdings) (pid : ℕ) (q : Process) (s : Space) (change : Change) : Type 0 where
+pub record ReadyChange (A : Inputs) (flat : FlatState) (p : Placement) (hs found : Holdings) (pid : ℕ) (q : Process) (s : Space)
+    (change : Change) : Type 0 where
   pub images : ImagesFit A.images
   pub numbers : IsNumbered flat
   pub found_process : process_of flat pid ≡ Some q
@@ -180,14 +168,15 @@ fit_some s (Some x) f e = absurd cc
 
 pub own_change : (A : Inputs) (flat : FlatState) (p : Placement) (hs found : Holdings) (pid : ℕ) (regs : Regs) (j : List Entry) (e : Entry) (q : Process)
     (s : Space) (b : Bool) (change : Change)
-    → Changing A flat p hs found pid q s change → is_borrower flat.processes pid ≡ b → Own b change
+    → ReadyChange A flat p hs found pid q s change → is_borrower flat.processes pid ≡ b → Own b change
     → SettlesFor p s.sid change → Placed A flat p hs
-    → Placed A (apply_change A.images flat pid regs change) (place_change (facts_of A.images) p pid s.sid b flat.next_sid (length (append j e)) change)
+    → Placed A (apply_change A.images flat pid regs change)
+    (place_change (changing_with (facts_of A.images) (with_found flat p found j) pid s.sid b e) p change)
     (given_up flat (apply_change A.images flat pid regs change) pid s change found)
 own_change A flat p hs found pid regs j e q s b change c w o settles st =
-    let at : ℕ = length (append j e) in
     let after : FlatState = apply_change A.images flat pid regs change in
     let k : Kernel = with_found flat p found j in
+    let who : Changing = changing_with (facts_of A.images) k pid s.sid b e in
     let so : Sound A.swap_blocks (machine_of flat p hs) = st.sound in
     let before : Sound A.swap_blocks (record k { holdings = hs }) = record { owner = so.owner; tokens = so.tokens; hands = so.hands; few_transfers = so.few_transfers } in
     let nb : Numbered (machine_of flat p hs) = st.numbered in
@@ -208,21 +197,21 @@ own_change A flat p hs found pid regs j e q s b change c w o settles st =
     let ow : OneOwner A.swap_blocks (lives k.processes) p hs = so.owner in
     let can : CanChange p s.sid false flat.next_sid change =
     subst (λ (x : Life). CanChange p (space_of_life x) (gave_back x) flat.next_sid change) (ap life_of_proc g.kept ∙ g.life) (may_change (facts_of A.images) k pid change ow.frames n ready).can in
-    let un : Unhanded p (place_change (facts_of A.images) p pid s.sid false flat.next_sid at change) = change_unhanded (facts_of A.images) p pid s.sid false flat.next_sid at change in
-    let hands : SameHands p (place_change (facts_of A.images) p pid s.sid false flat.next_sid at change) = un.hands in
-    let dues : DueStand l.place = subst DueStand (sym lands.place) (change_due (facts_of A.images) p pid s.sid false flat.next_sid at change c.clear can (is_apart change)) in
-    let once : EachOnce l.place.due = subst (λ (x : Placement). EachOnce x.due) (sym lands.place) (change_once (facts_of A.images) p pid s.sid false flat.next_sid at change c.clear) in
+    let un : Unhanded p (place_change (record who { borrowed = false }) p change) = change_unhanded (record who { borrowed = false }) p change in
+    let hands : SameHands p (place_change (record who { borrowed = false }) p change) = un.hands in
+    let dues : DueStand l.place = subst DueStand (sym lands.place) (change_due (record who { borrowed = false }) p change c.clear can (is_apart change)) in
+    let once : EachOnce l.place.due = subst (λ (x : Placement). EachOnce x.due) (sym lands.place) (change_once (record who { borrowed = false }) p change c.clear) in
     let parts : HaveParts l.place.transfers = subst (λ (x : Placement). HaveParts x.transfers) (sym lands.place) (subst HaveParts (sym un.transfers) st.parts) in
     let frames : length l.place.holds ≡ A.frames = subst (λ (x : Placement). length x.holds ≡ A.frames) (sym lands.place) (hands.frames ∙ st.frames) in
     let numbers : IsNumbered after = Rattle.kernel_laws.proofs.Flat.Numbers.changes_numbered A.images flat pid regs change q s c.found_process c.holds c.may c.numbers in
     let shared : Rattle.flat_model.specs.Asked.is_shared after s.image
     ≡ Rattle.register_laws.proofs.FlatLawsAsking.is_some_of Rattle.register_laws.proofs.FlatLawsAsking.image_of_pages s.image l.place.spaces =
     shared_same l after s.image kept.numbered numbers told.tables in
-    let back : given_up flat after pid s change found ≡ holdings_after found p l.place pid s.sid false change = given_same flat after pid s change found p l.place b w image
+    let back : given_up flat after pid s change found ≡ holdings_after (record who { borrowed = false }) found p l.place change = given_same flat after pid s change who found p l.place b w image
     (λ z. ((λ i. shared ∙ no_sharers s.image l.place.spaces (ap (sharers l.place) (sym image) ∙ i)), (λ m i. shared ∙ some_sharers s.image m l.place.spaces (ap (sharers l.place) (sym image) ∙ i))))
-    ∙ keeps_holdings found p l.place pid s.sid b change o in
-    subst (Placed A after (place_change (facts_of A.images) p pid s.sid b flat.next_sid at change)) (sym back)
-    (subst (λ (x : Placement). Placed A after x (holdings_after found p l.place pid s.sid false change)) (lands.place ∙ keeps_place (facts_of A.images) p pid s.sid b flat.next_sid at change o)
+    ∙ keeps_holdings who found p l.place change o in
+    subst (Placed A after (place_change who p change)) (sym back)
+    (subst (λ (x : Placement). Placed A after x (holdings_after (record who { borrowed = false }) found p l.place change)) (lands.place ∙ keeps_place who p change o)
     (subst (Placed A after l.place) lands.holdings
     (from_machine A after l kept.sound kept.numbered told.tables told.stands dues once parts frames)))
   where

@@ -16,7 +16,7 @@ use Rattle.flat_state.specs.Journal.{append}
 use Rattle.page_model.specs.Pages.{numbered}
 use Rattle.page_model.specs.Placement.{Placement, Residence, space_number, image_of, image_in, sharers, slots_of, parts_of}
 use Rattle.page_model.specs.Moves.{touch, touch_all}
-use Rattle.page_model.specs.Place.{place_change, place_step, space_of_holding, space_of_process, data_count, facts_of}
+use Rattle.page_model.specs.Place.{Changing, changing_in, place_change, place_step, space_of_holding, space_of_process, data_count, facts_of}
 use Rattle.page_model.specs.Swapper.{is_out, is_settled, residence_of, names_page}
 use Rattle.vm_facts.specs.Pages.{is_of_space, is_of_text}
 use Rattle.page_model.specs.Conditions.{LosesPages}
@@ -44,7 +44,7 @@ use Rattle.run_model.specs.Act.{loses_pages}
 use Rattle.run_laws.specs.Standing.{machine_of, Placed, Own}
 use Rattle.kernel_model.specs.Invariant.{EntersImage}
 use Rattle.run_laws.proofs.Writing.{SameSpace, puts_same, space_tables, touch_all_placed, writes_placed}
-use Rattle.run_laws.proofs.OwnChanges.{Changing, own_change}
+use Rattle.run_laws.proofs.OwnChanges.{ReadyChange, own_change}
 use Rattle.kernel_laws.proofs.Kept.Changes.{GivesBack}
 use Rattle.run_laws.proofs.BackChanges.{back_change}
 
@@ -197,19 +197,19 @@ pub step_placed : (A : Inputs) (flat : FlatState) (p : Placement) (hs found : Ho
     (length (append j e)) written change p) (given_up flat (apply_change A.images (apply_writes flat pid ws) pid regs change) pid s change found)
 step_placed A flat p hs found pid regs j e q s ws written change m st =
     let next : flat1.next_sid ≡ flat.next_sid = ap (λ (x : FlatState). x.next_sid) w.is in
-    let made : Placed A after (place_change (facts_of A.images) p1 pid z.sid (is_borrower flat1.processes pid) flat1.next_sid at change) (given_up flat1 after pid z change found) =
+    let made : Placed A after (place_change (record who { sid = z.sid; borrowed = is_borrower flat1.processes pid; next_sid = flat1.next_sid }) p1 change) (given_up flat1 after pid z change found) =
     go (own_or (is_borrower flat1.processes pid) change) in
-    subst (λ (n : ℕ). Placed A after (place_change (facts_of A.images) p1 pid n (is_borrower flat.processes pid) flat.next_sid at change) (given_up flat after pid s change found))
+    subst (λ (n : ℕ). Placed A after (place_change (record who { sid = n }) p1 change) (given_up flat after pid s change found))
     (sym (ap space_of_process m.found_process ∙ ap space_of_holding m.holds))
-    (subst (Placed A after (place_change (facts_of A.images) p1 pid s.sid (is_borrower flat.processes pid) flat.next_sid at change))
+    (subst (Placed A after (place_change (record who { sid = s.sid }) p1 change))
     (given_written flat flat1 after pid s z change found same.sid same.image borrows)
-    (subst (λ (n : ℕ). Placed A after (place_change (facts_of A.images) p1 pid s.sid (is_borrower flat.processes pid) n at change) (given_up flat1 after pid z change found)) next
-    (subst (λ (n : ℕ). Placed A after (place_change (facts_of A.images) p1 pid n (is_borrower flat.processes pid) flat1.next_sid at change) (given_up flat1 after pid z change found)) same.sid
-    (subst (λ (b : Bool). Placed A after (place_change (facts_of A.images) p1 pid z.sid b flat1.next_sid at change) (given_up flat1 after pid z change found)) borrows
+    (subst (λ (n : ℕ). Placed A after (place_change (record who { sid = s.sid; next_sid = n }) p1 change) (given_up flat1 after pid z change found)) next
+    (subst (λ (n : ℕ). Placed A after (place_change (record who { sid = n; next_sid = flat1.next_sid }) p1 change) (given_up flat1 after pid z change found)) same.sid
+    (subst (λ (b : Bool). Placed A after (place_change (record who { sid = z.sid; borrowed = b; next_sid = flat1.next_sid }) p1 change) (given_up flat1 after pid z change found)) borrows
     made))))
   where
-    at : ℕ
-    at = length (append j e)
+    who : Changing
+    who = changing_in (facts_of A.images) flat pid (length (append j e))
 
     flat1 : FlatState
     flat1 = apply_writes flat pid ws
@@ -260,7 +260,7 @@ step_placed A flat p hs found pid regs j e q s ws written change m st =
     wanted = sym (change_same A.images (machine_of flat p hs) flat1 pid q1 z change m.images sd.texts st.numbered numbers t01 here refl)
         ∙ change_same A.images (machine_of flat p hs) flat pid q s change m.images sd.texts st.numbered m.numbers t0 m.found_process m.holds
 
-    c : Changing A flat1 p1 hs found pid q1 z change
+    c : ReadyChange A flat1 p1 hs found pid q1 z change
     c = record {
       images = m.images;
       numbers = numbers;
@@ -291,7 +291,8 @@ step_placed A flat p hs found pid regs j e q s ws written change m st =
         ap (is_settled p1) same.sid ∙ touched_settled written p s.sid ∙ m.settles (sym (ap (λ (b : Bool). loses_pages s b change) borrows) ∙ sym (loses change (is_borrower flat1.processes pid)) ∙ l)
 
     go : Own (is_borrower flat1.processes pid) change ⊎ ((is_borrower flat1.processes pid ≡ true) × GivesBack change)
-        → Placed A after (place_change (facts_of A.images) p1 pid z.sid (is_borrower flat1.processes pid) flat1.next_sid at change) (given_up flat1 after pid z change found)
+        → Placed A after (place_change (record who { sid = z.sid; borrowed = is_borrower flat1.processes pid; next_sid = flat1.next_sid }) p1 change) (given_up flat1 after pid z change found)
     go (inl o) = own_change A flat1 p1 hs found pid regs j e q1 z (is_borrower flat1.processes pid) change c refl o (settles_for p1 z (is_borrower flat1.processes pid) change o fits1 settled) st1
-    go (inr (b, g)) = subst (λ (x : Bool). Placed A after (place_change (facts_of A.images) p1 pid z.sid x flat1.next_sid at change) (given_up flat1 after pid z change found)) (sym b)
+    go (inr (b, g)) =
+        subst (λ (x : Bool). Placed A after (place_change (record who { sid = z.sid; borrowed = x; next_sid = flat1.next_sid }) p1 change) (given_up flat1 after pid z change found)) (sym b)
         (back_change A flat1 p1 hs found pid regs j e q1 z change c (writes_lent flat pid ws q s m.found_process m.holds m.lenders) b g st1)

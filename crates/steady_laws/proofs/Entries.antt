@@ -17,7 +17,7 @@ use Rattle.flat_state.specs.declared.spot.Spot.{Spot}
 use Rattle.flat_state.specs.declared.spot.Spot.TheVariants.{Text, Data, Stack, Below, Outside}
 use Rattle.page_model.specs.Placement.{state_of}
 use Rattle.kernel_model.specs.Kernel.{Proc, Kernel, note_step}
-use Rattle.kernel_model.specs.ChangeStep.{space_of_life, gave_back, change_if, ran_by, pass_step}
+use Rattle.kernel_model.specs.ChangeStep.{changing_of, change_if, ran_by, pass_step}
 use Rattle.machine_state.specs.Machine.{Standing}
 use Rattle.machine_state.specs.Applying.{facts_named}
 use Rattle.machine_state.specs.UserMemory.{spot_in, write_by_state, write_page, write_spot, write_in, writes_in}
@@ -50,14 +50,14 @@ behind_by : (images : List Image) (k : Kernel) (regs : Regs) (e : Entry) (change
     → IsBehind k (change_if images k regs e change o) e
 behind_by images k regs e change None s = absurd cc
 behind_by images k regs e change (Some p) s = record {
-  frames = change_frames images k.place p.pid (space_of_life p.life) (gave_back p.life) k.next_sid (length (append k.journal e)) change;
+  frames = change_frames (changing_of images k p e) k.place change;
   journal = refl;
 }
 
 clear_by : (images : List Image) (k : Kernel) (regs : Regs) (e : Entry) (change : Change) (o : Option Proc) → LeavesNone change
     → (let l = change_if images k regs e change o in l.place.due ≡ k.place.due)
 clear_by images k regs e change None n = refl
-clear_by images k regs e change (Some p) n = change_due images k.place p.pid (space_of_life p.life) (gave_back p.life) k.next_sid (length (append k.journal e)) change n
+clear_by images k regs e change (Some p) n = change_due (changing_of images k p e) k.place change n
 
 entered_behind : (old new : Standing) (pid : ℕ) (regs : Regs) (e : Entry) (change : Change) → IsSome (proc_in old.kernel pid)
     → Entered old new pid regs e change → IsBehind old.kernel new.kernel e

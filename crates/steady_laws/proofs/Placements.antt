@@ -12,9 +12,9 @@ use Rattle.flat_state.proofs.PageNames.{same_page_self}
 use Rattle.page_model.specs.Placement.{Placement, Due, Start, image_of, sharers}
 use Rattle.page_model.specs.Moves.{get_run, reclaim, done, touch, drop_all}
 use Rattle.page_model.specs.Hands.{advance, hand_moves}
-use Rattle.page_model.specs.Reading.{read_errand}
 use Rattle.page_model.specs.Serve.{force, Forces}
-use Rattle.page_model.specs.Place.{due_after, put_step, place_entry, remove_space, pages_of_space, pages_of_text, leave_text_by, leave_text, give_up, give_up_unless, facts_numbered, enter_image, resize, data_from, stack_from, data_count, stack_count, place_change}
+use Rattle.page_model.specs.Place.{due_after, put_step, place_entry, remove_space, pages_of_space, pages_of_text, leave_text_by, leave_text, give_up, give_up_unless, facts_numbered, enter_image, resize, data_from, stack_from, data_count, stack_count, place_change, Changing}
+use Rattle.page_model.specs.Reading.{read_errand}
 use Rattle.page_laws.proofs.Moves.Puts.{KeptByPuts, get_run_kept, reclaim_kept, put_step_kept, move_kept, moves_kept, done_kept, touch_kept, drop_all_kept, leave_all_kept, entry_kept}
 use Rattle.page_laws.proofs.Moves.Cases.{force_cases}
 use Rattle.steady_laws.specs.Entries.{LeavesNone}
@@ -123,39 +123,39 @@ entered_frames p sid image None = refl
 entered_frames p sid image (Some facts) = refl
 
 -- a change leaves as many frames
-pub change_frames : (images : List Image) (p : Placement) (pid sid : ℕ) (borrowed : Bool) (next at : ℕ) (change : Change)
-    → length (place_change images p pid sid borrowed next at change).holds ≡ length p.holds
-change_frames images p pid sid borrowed next at changes.Keep = refl
-change_frames images p pid sid borrowed next at (changes.Resize data_now stack_now) = let s = resize_keeps p sid data_now stack_now in s.count
-change_frames images p pid sid borrowed next at (changes.Fork child) = refl
-change_frames images p pid sid borrowed next at (changes.Lend child) = refl
-change_frames images p pid sid borrowed next at (changes.Exec image top) =
-    let e = enter_image p next image (facts_numbered images image) in
-    let s = give_up_unless_keeps borrowed e sid in
-    s.count ∙ entered_frames p next image (facts_numbered images image)
-change_frames images p pid sid borrowed next at (changes.Reap child) = refl
-change_frames images p pid sid borrowed next at changes.Sleep = refl
-change_frames images p pid sid borrowed next at (changes.End status) = let s = give_up_unless_keeps borrowed p sid in s.count
+pub change_frames : (c : Changing) (p : Placement) (change : Change)
+    → length (place_change c p change).holds ≡ length p.holds
+change_frames c p changes.Keep = refl
+change_frames c p (changes.Resize data_now stack_now) = let s = resize_keeps p c.sid data_now stack_now in s.count
+change_frames c p (changes.Fork child) = refl
+change_frames c p (changes.Lend child) = refl
+change_frames c p (changes.Exec image top) =
+    let e = enter_image p c.next_sid image (facts_numbered c.images image) in
+    let s = give_up_unless_keeps c.borrowed e c.sid in
+    s.count ∙ entered_frames p c.next_sid image (facts_numbered c.images image)
+change_frames c p (changes.Reap child) = refl
+change_frames c p changes.Sleep = refl
+change_frames c p (changes.End status) = let s = give_up_unless_keeps c.borrowed p c.sid in s.count
 
 -- and what is due, where it makes nothing due
-pub change_due : (images : List Image) (p : Placement) (pid sid : ℕ) (borrowed : Bool) (next at : ℕ) (change : Change) → LeavesNone change
-    → (place_change images p pid sid borrowed next at change).due ≡ p.due
-change_due images p pid sid borrowed next at changes.Keep n = refl
-change_due images p pid sid borrowed next at (changes.Resize data_now stack_now) n = let s = resize_keeps p sid data_now stack_now in s.due
-change_due images p pid sid borrowed next at (changes.Fork child) n = absurd n
-change_due images p pid sid borrowed next at (changes.Lend child) n = refl
-change_due images p pid sid borrowed next at (changes.Exec image top) n = absurd n
-change_due images p pid sid borrowed next at (changes.Reap child) n = refl
-change_due images p pid sid borrowed next at changes.Sleep n = refl
-change_due images p pid sid borrowed next at (changes.End status) n = let s = give_up_unless_keeps borrowed p sid in s.due
+pub change_due : (c : Changing) (p : Placement) (change : Change) → LeavesNone change
+    → (place_change c p change).due ≡ p.due
+change_due c p changes.Keep n = refl
+change_due c p (changes.Resize data_now stack_now) n = let s = resize_keeps p c.sid data_now stack_now in s.due
+change_due c p (changes.Fork child) n = absurd n
+change_due c p (changes.Lend child) n = refl
+change_due c p (changes.Exec image top) n = absurd n
+change_due c p (changes.Reap child) n = refl
+change_due c p changes.Sleep n = refl
+change_due c p (changes.End status) n = let s = give_up_unless_keeps c.borrowed p c.sid in s.due
 
 -- after an image nothing is due once the new stack page was filled
 entered_filled : (p : Placement) (sid image : ℕ) (o : Option Image) → p.due ≡ [] → due_after (enter_image p sid image o).due (Stack sid 0) ≡ []
 entered_filled p sid image None h = ap (λ (ds : List Due). due_after ds (Stack sid 0)) h
 entered_filled p sid image (Some facts) h = first_gone (Stack sid 0) []
 
-pub exec_filled : (images : List Image) (p : Placement) (pid sid : ℕ) (borrowed : Bool) (next at image : ℕ) (top : List ℕ) → p.due ≡ []
-    → due_after (place_change images p pid sid borrowed next at (changes.Exec image top)).due (Stack next 0) ≡ []
-exec_filled images p pid sid borrowed next at image top h =
-    let s = give_up_unless_keeps borrowed (enter_image p next image (facts_numbered images image)) sid in
-    ap (λ (ds : List Due). due_after ds (Stack next 0)) s.due ∙ entered_filled p next image (facts_numbered images image) h
+pub exec_filled : (c : Changing) (p : Placement) (image : ℕ) (top : List ℕ) → p.due ≡ []
+    → due_after (place_change c p (changes.Exec image top)).due (Stack c.next_sid 0) ≡ []
+exec_filled c p image top h =
+    let s = give_up_unless_keeps c.borrowed (enter_image p c.next_sid image (facts_numbered c.images image)) c.sid in
+    ap (λ (ds : List Due). due_after ds (Stack c.next_sid 0)) s.due ∙ entered_filled p c.next_sid image (facts_numbered c.images image) h

@@ -13,7 +13,7 @@ use Rattle.proc_calls.specs.Starting.{image_found, StartsBy, ExecComes}
 use Rattle.steady_laws.specs.Calls.{called_count, StartsOrFails}
 use Rattle.steady_laws.proofs.Executing.{exec_starts}
 use Rattle.steady_laws.proofs.CallsContinue.{call_continues, refusal_continues}
-use Rattle.std.proofs.Common.{◌≡◌, ℕ, ◌+◌, List, [], ◌∷◌, length, Option, Some, None, sym, ap, ◌∙◌, subst, arith}
+use Rattle.std.proofs.Common.{◌≡◌, ℕ, ◌+◌, List, [], ◌∷◌, Option, Some, None, sym, ap, ◌∙◌, subst, arith}
 use Rattle.std.specs.Prelude.{IsSome}
 use Rattle.vm_facts.specs.declared.page.Page.{Page}
 use Rattle.vm_facts.specs.declared.page.Page.TheVariants.{Stack}
@@ -22,7 +22,7 @@ use Rattle.vm_facts.specs.declared.entry.Entry.{Entry}
 use Rattle.vm_facts.specs.declared.entry.Entry.TheVariants as entries
 use Rattle.io_edge.specs.FileHolding.{NamedFile}
 use Rattle.aout_image.specs.declared.Image.{Image}
-use Rattle.flat_state.specs.Journal.{append, instructions_of}
+use Rattle.flat_state.specs.Journal.{instructions_of}
 use Rattle.flat_state.specs.declared.change.Change.TheVariants.{Fork, Exec}
 use Rattle.flat_model.specs.declared.calls.SystemCall.TheVariants as system_calls
 use Rattle.flat_model.specs.Calls.{replied_both}
@@ -30,7 +30,7 @@ use Rattle.flat_model.specs.Step.{call_entry}
 use Rattle.page_model.specs.Placement.{Due, Start, CopyOf}
 use Rattle.page_model.specs.Place.{due_after}
 use Rattle.kernel_model.specs.Kernel.{Proc, Kernel}
-use Rattle.kernel_model.specs.ChangeStep.{space_of_life, gave_back, change_if}
+use Rattle.kernel_model.specs.ChangeStep.{changing_of, change_if}
 use Rattle.machine_state.specs.Machine.{Standing}
 use Rattle.machine_state.specs.Applying.{facts_named}
 use Rattle.swapper.specs.Made.{ground}
@@ -98,7 +98,7 @@ filled_by : (images : List Image) (k : Kernel) (regs : Regs) (e : Entry) (image 
     → (let l = change_if images k regs e (Exec image top) o in due_after l.place.due (Stack k.next_sid 0) ≡ [])
 filled_by images k regs e image top None s d = absurd cc
 filled_by images k regs e image top (Some p) s d =
-    exec_filled images k.place p.pid (space_of_life p.life) (gave_back p.life) k.next_sid (length (append k.journal e)) image top d
+    exec_filled (changing_of images k p e) k.place image top d
 
 -- once the pieces were found, with the process there
 record ExecOn (asked new : Standing) : Type 0 where

@@ -1,22 +1,22 @@
 -- The state after an entry of a process.
-use Rattle.std.proofs.Common.{◌≡◌, ℕ, ◌+◌, ◌-◌, ◌&&◌, nat_lt, Bool, true, false, List, [], ◌∷◌, ◌++◌, length, Option, Some, None, refl, sym, ap, ◌∙◌, subst}
+use Rattle.std.proofs.Common.{◌≡◌, ℕ, ◌+◌, ◌-◌, ◌&&◌, nat_lt, Bool, true, false, List, [], ◌∷◌, ◌++◌, Option, Some, None, refl, sym, ap, ◌∙◌, subst}
 use Rattle.vm_facts.specs.declared.regs.Regs.{Regs}
 use Rattle.vm_facts.specs.declared.entry.Entry.{Entry}
 use Rattle.vm_facts.specs.declared.entry.Entry.TheVariants as entries
 use Rattle.aout_image.specs.declared.Image.{Image}
 use Rattle.flat_state.specs.Space.{Space}
 use Rattle.flat_state.specs.Flat.{Process, FlatState, Inputs, process_of, can_step}
-use Rattle.flat_state.specs.Journal.{append, counted}
+use Rattle.flat_state.specs.Journal.{counted}
 use Rattle.flat_state.specs.declared.change.Change.{Change}
 use Rattle.flat_state.specs.declared.change.Change.TheVariants as changes
 use Rattle.page_model.specs.Pages.{numbered}
 use Rattle.page_model.specs.Placement.{Placement}
 use Rattle.page_model.specs.Swapper.{is_out}
-use Rattle.page_model.specs.Place.{data_from, stack_from, data_count, stack_count, place_change}
+use Rattle.page_model.specs.Place.{Changing, data_from, stack_from, data_count, stack_count, place_change}
 use Rattle.page_laws.proofs.Bytes.Changes.{drop_all_rest}
 use Rattle.page_laws.proofs.Due.Changes.{unless_due}
 use Rattle.kernel_model.specs.Kernel.{Kernel, Proc}
-use Rattle.kernel_model.specs.ChangeStep.{space_of_life, gave_back, change_if, change_step}
+use Rattle.kernel_model.specs.ChangeStep.{changing_of, change_if, change_step}
 use Rattle.flat_model.specs.Run.{step_at, due_at, behind, point_after}
 use Rattle.run_model.specs.declared.mark.Mark.{Mark}
 use Rattle.run_model.specs.declared.mark.Mark.TheVariants as marks
@@ -138,17 +138,17 @@ KeepsDue (changes.Fork child) = ⊥
 KeepsDue (changes.Exec number top) = ⊥
 KeepsDue _ = Unit {0}
 
-place_due : (images : List Image) (p : Placement) (pid sid : ℕ) (borrowed : Bool) (next at : ℕ) (change : Change) → KeepsDue change
-    → (place_change images p pid sid borrowed next at change).due ≡ p.due
-place_due images p pid sid borrowed next at changes.Keep h = refl
-place_due images p pid sid borrowed next at (changes.Resize d n) h =
-    (drop_all_rest (data_from sid d (data_count p sid - d) ++ stack_from sid n (stack_count p sid - n)) p).1
-place_due images p pid sid borrowed next at (changes.Fork child) h = absurd h
-place_due images p pid sid borrowed next at (changes.Lend child) h = refl
-place_due images p pid sid borrowed next at (changes.Exec number top) h = absurd h
-place_due images p pid sid borrowed next at (changes.Reap child) h = refl
-place_due images p pid sid borrowed next at changes.Sleep h = refl
-place_due images p pid sid borrowed next at (changes.End status) h = unless_due borrowed p sid
+place_due : (c : Changing) (p : Placement) (change : Change) → KeepsDue change
+    → (place_change c p change).due ≡ p.due
+place_due c p changes.Keep h = refl
+place_due c p (changes.Resize d n) h =
+    (drop_all_rest (data_from c.sid d (data_count p c.sid - d) ++ stack_from c.sid n (stack_count p c.sid - n)) p).1
+place_due c p (changes.Fork child) h = absurd h
+place_due c p (changes.Lend child) h = refl
+place_due c p (changes.Exec number top) h = absurd h
+place_due c p (changes.Reap child) h = refl
+place_due c p changes.Sleep h = refl
+place_due c p (changes.End status) h = unless_due c.borrowed p c.sid
 
 pub change_due : (images : List Image) (k : Kernel) (pid : ℕ) (regs : Regs) (e : Entry) (change : Change) → KeepsDue change
     → (change_step images k pid regs e change).place.due ≡ k.place.due
@@ -157,5 +157,4 @@ change_due images k pid regs e change h = go (numbered (λ (p : Proc). p.pid) pi
     go : (o : Option Proc) → (change_if images k regs e change o).place.due ≡ k.place.due
     go None = refl
     go (Some p) =
-        place_due images k.place p.pid (space_of_life p.life) (gave_back p.life) k.next_sid
-        (length (append k.journal e)) change h
+        place_due (changing_of images k p e) k.place change h

@@ -4,14 +4,13 @@ use Rattle.vm_facts.specs.declared.page.Page.{Page}
 use Rattle.vm_facts.specs.declared.entry.Entry.{Entry}
 use Rattle.vm_facts.specs.declared.entry.Entry.TheVariants as entries
 use Rattle.aout_image.specs.declared.Image.{Image}
-use Rattle.flat_state.specs.Flat.{FlatState, Inputs, process_of}
+use Rattle.flat_state.specs.Flat.{FlatState, Inputs}
 use Rattle.flat_state.specs.declared.change.Change.{Change}
-use Rattle.flat_state.specs.Change.{is_borrower}
 use Rattle.flat_model.specs.Run.{process_of_entry, step_at}
 use Rattle.kernel_model.specs.Kernel.{Kernel}
 use Rattle.page_model.specs.Placement.{Placement}
 use Rattle.page_model.specs.Moves.{touch_all}
-use Rattle.page_model.specs.Place.{place_entry, place_step, space_of_process, facts_of}
+use Rattle.page_model.specs.Place.{changing_in, place_entry, place_step, facts_of}
 use Rattle.page_model.specs.Serve.{serve_entry}
 use Rattle.page_model.specs.Swapper.{is_out}
 use Rattle.page_laws.proofs.Moves.Units.{unit_is}
@@ -89,7 +88,7 @@ step_out : (images : List Image) (flat : FlatState) (pid at : ℕ) (written : Li
     → is_out (place_step images flat pid at written change p) n ≡ true → is_out p n ≡ true
 step_out images flat pid at written change p n e =
     sym (touched_out written p n)
-    ∙ change_out images (touch_all p written) pid (space_of_process (process_of flat pid)) (is_borrower flat.processes pid) flat.next_sid at change n e
+    ∙ change_out (changing_in images flat pid at) (touch_all p written) change n e
 
 paging_out : (pages : List Page) (at : ℕ) (p : Placement) (u : Entry) (n : ℕ) → (Leaver u n → ⊥) → is_out (place_entry pages at p u) n ≡ true
     → is_out p n ≡ true

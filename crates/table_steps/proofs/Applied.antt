@@ -12,7 +12,7 @@ use Rattle.page_model.specs.Placement.{Placement, Residence, Due, Start, image_o
 use Rattle.page_model.specs.Place.{place_change, facts_numbered, enter_image, resize, give_up}
 use Rattle.page_laws.proofs.Ownership.Changes.{added_other}
 use Rattle.kernel_model.specs.Kernel.{Proc, Life, New, HoldsSpace}
-use Rattle.kernel_model.specs.ChangeStep.{space_of_life, gave_back, with_proc, without_proc, child_proc, orphaned_procs, left_procs}
+use Rattle.kernel_model.specs.ChangeStep.{space_of_life, with_proc, without_proc, child_proc, orphaned_procs, left_procs}
 use Rattle.kernel_model.specs.ChangeStep.{procs_after, space_given_back, holdings_after}
 use Rattle.kernel_tables.specs.declared.tables.Tables.{Tables}
 use Rattle.kernel_tables.specs.Alike.{AreRecords}
@@ -21,7 +21,7 @@ use Rattle.kernel_tables.specs.Tied.{Tied}
 use Rattle.kernel_tables.specs.Machine.{lists_of, image_at}
 use Rattle.kernel_tables.specs.Changing.{Resized, GaveUp, started_place, EnteredImage, Forked, HasProcesses, HasOneMore, HasChanged}
 use Rattle.kernel_tables.specs.Changing.{HasEnded, processes_in, residents_in}
-use Rattle.table_steps.specs.Applied.{placement_in, Applied}
+use Rattle.table_steps.specs.Applied.{changing_tables, placement_in, Applied}
 use Rattle.table_steps.proofs.ProcessLists.{OnlyOne, with_self, without_self}
 use Rattle.table_steps.proofs.Moved.{tied_moved}
 
@@ -139,7 +139,7 @@ resize_applied t u p since sid d s life o r z = record {
   place = z.shows.place ∙ ap (λ (l : Life). resize (placement_in t) (space_of_life l) d s) (sym life);
   frames = z.shows.frames;
   tied = z.shows.known.tied;
-  book = z.book ∙ ap (λ (l : Life). with_holdings t.book (holdings_after t.book.holdings (placement_in t) (placement_in u) p.pid (space_of_life l) (gave_back l) (Resize d s))) (sym life);
+  book = z.book ∙ ap (λ (l : Life). with_holdings t.book (holdings_after (changing_tables t (record p { life = l }) since) t.book.holdings (placement_in t) (placement_in u) (Resize d s))) (sym life);
   processes = ap processes_in z.rest ∙ sym (with_self (processes_in t) p o);
   records = subst (λ (x : Tables). AreRecords x.processes x.next_pid) (sym z.rest) r;
   next_pid = ap (λ (x : Tables). x.next_pid) z.rest;
@@ -162,7 +162,7 @@ fork_applied t v u p since parent life o clear f h =
           procs_place v u (v.next_pid + 1) (processes_in v ++ child_proc p v.next_pid (HoldsSpace t.next_sid) ∷ []) (residents_in v ++ record { pid = v.next_pid; out = false; since = since } ∷ []) h
           ∙ ap (λ (n : ℕ). record (placement_in v) { residents = (placement_in v).residents ++ record { pid = n; out = false; since = since } ∷ [] }) pid_same
           ∙ ap (λ (q : Placement). record q { residents = q.residents ++ record { pid = t.next_pid; out = false; since = since } ∷ [] }) f.shows.place
-          ∙ ap (λ (l : Life). place_change (lists_of t).facts (placement_in t) p.pid (space_of_life l) (gave_back l) t.next_sid since (Fork t.next_pid)) (sym life);
+          ∙ ap (λ (l : Life). place_change (changing_tables t (record p { life = l }) since) (placement_in t) (Fork t.next_pid)) (sym life);
       frames = procs_frames v u (v.next_pid + 1) (processes_in v ++ child_proc p v.next_pid (HoldsSpace t.next_sid) ∷ [])
           (residents_in v ++ record { pid = v.next_pid; out = false; since = since } ∷ []) h ∙ f.shows.frames;
       tied = procs_tied v u (v.next_pid + 1) (processes_in v ++ child_proc p v.next_pid (HoldsSpace t.next_sid) ∷ [])
@@ -200,11 +200,11 @@ module _ (t v w u : Tables) (p : Proc) (since image : ℕ) (facts : Image) (top 
     place =
         procs_place v u v.next_pid (with_proc (processes_in v) record p { life = HoldsSpace t.next_sid }) (residents_in v) h
         ∙ entered
-        ∙ ap (λ (l : Life). place_change (lists_of t).facts (placement_in t) p.pid (space_of_life l) (gave_back l) t.next_sid since (Exec image top)) (sym life);
+        ∙ ap (λ (l : Life). place_change (changing_tables t (record p { life = l }) since) (placement_in t) (Exec image top)) (sym life);
     frames = procs_frames v u v.next_pid (with_proc (processes_in v) record p { life = HoldsSpace t.next_sid }) (residents_in v) h ∙ e.shows.frames;
     tied = procs_tied v u v.next_pid (with_proc (processes_in v) record p { life = HoldsSpace t.next_sid }) (residents_in v) h e.shows.known.tied;
     book = ap (λ (x : Tables). x.book) h.rest ∙ ap (λ (x : Tables). x.book) e.rest
-        ∙ ap (λ (l : Life). with_holdings t.book (holdings_after t.book.holdings (placement_in t) (placement_in u) p.pid (space_of_life l) (gave_back l) (Exec image top))) (sym life);
+        ∙ ap (λ (l : Life). with_holdings t.book (holdings_after (changing_tables t (record p { life = l }) since) t.book.holdings (placement_in t) (placement_in u) (Exec image top))) (sym life);
     processes = h.processes ∙ ap (λ (x : Tables). with_proc (processes_in x) record p { life = HoldsSpace t.next_sid }) e.rest;
     records = h.records;
     next_pid = h.number ∙ ap (λ (x : Tables). x.next_pid) e.rest;
@@ -227,14 +227,14 @@ module _ (t v w u : Tables) (p : Proc) (since image : ℕ) (facts : Image) (top 
             now
             ∙ g.shows.place
             ∙ ap (λ (q : Placement). give_up q sid) entered
-            ∙ ap (λ (l : Life). place_change (lists_of t).facts (placement_in t) p.pid (space_of_life l) (gave_back l) t.next_sid since (Exec image top)) (sym life);
+            ∙ ap (λ (l : Life). place_change (changing_tables t (record p { life = l }) since) (placement_in t) (Exec image top)) (sym life);
         frames = procs_frames w u w.next_pid (with_proc (processes_in w) record p { life = HoldsSpace t.next_sid }) (residents_in w) h ∙ g.shows.frames ∙ e.shows.frames;
         tied = procs_tied w u w.next_pid (with_proc (processes_in w) record p { life = HoldsSpace t.next_sid }) (residents_in w) h g.shows.known.tied;
         book = ap (λ (x : Tables). x.book) h.rest ∙ g.book
             ∙ ap (λ (x : Tables). with_holdings x.book (space_given_back x.book.holdings sid (image_at v sid) (sharers (placement_in w) (image_at v sid)))) e.rest
             ∙ ap (λ (i : ℕ). with_holdings t.book (space_given_back t.book.holdings sid i (sharers (placement_in w) i))) image_same
             ∙ ap (λ (q : Placement). with_holdings t.book (space_given_back t.book.holdings sid (image_at t sid) (sharers q (image_at t sid)))) (sym now)
-            ∙ ap (λ (l : Life). with_holdings t.book (holdings_after t.book.holdings (placement_in t) (placement_in u) p.pid (space_of_life l) (gave_back l) (Exec image top))) (sym life);
+            ∙ ap (λ (l : Life). with_holdings t.book (holdings_after (changing_tables t (record p { life = l }) since) t.book.holdings (placement_in t) (placement_in u) (Exec image top))) (sym life);
         processes = h.processes ∙ ap (λ (x : Tables). with_proc (processes_in x) record p { life = HoldsSpace t.next_sid }) g.rest
             ∙ ap (λ (x : Tables). with_proc (processes_in x) record p { life = HoldsSpace t.next_sid }) e.rest;
         records = h.records;
@@ -279,12 +279,12 @@ module _ (t v w u : Tables) (p : Proc) (since status : ℕ) (same : w ≡ withou
   pub end_new : p.life ≡ New → v ≡ t → Tied (lists_of t) → Applied t u p since (End status)
   end_new life e k = record {
     place = ended_place ∙ ap (λ (x : Tables). record (placement_in x) { residents = filter (λ (r : Residence). not (r.pid == p.pid)) (residents_in x) }) e
-        ∙ ap (λ (l : Life). place_change (lists_of t).facts (placement_in t) p.pid (space_of_life l) (gave_back l) t.next_sid since (End status)) (sym life);
+        ∙ ap (λ (l : Life). place_change (changing_tables t (record p { life = l }) since) (placement_in t) (End status)) (sym life);
     frames = ended_frames ∙ ap (λ (x : Tables). frames_of (lists_of x)) e;
     tied = ended_tied (subst (λ (x : Tables). Tied (lists_of x)) (sym e) k);
     book = ap (λ (x : Tables). x.book) h.rest ∙ ap (λ (x : Tables). x.book) same
         ∙ ap (λ (x : Tables). with_holdings x.book (kept (owners.U p.pid) 0 x.book.holdings)) e
-        ∙ ap (λ (l : Life). with_holdings t.book (holdings_after t.book.holdings (placement_in t) (placement_in u) p.pid (space_of_life l) (gave_back l) (End status))) (sym life);
+        ∙ ap (λ (l : Life). with_holdings t.book (holdings_after (changing_tables t (record p { life = l }) since) t.book.holdings (placement_in t) (placement_in u) (End status))) (sym life);
     processes = ended_processes ∙ ap (λ (x : Tables). left_procs (p.parent == 0) (orphaned_procs (processes_in x) p.pid) p status) e;
     records = h.records;
     next_pid = h.number ∙ ap (λ (x : Tables). x.next_pid) same ∙ ap (λ (x : Tables). x.next_pid) e;
@@ -302,13 +302,13 @@ module _ (t v w u : Tables) (p : Proc) (since status : ℕ) (same : w ≡ withou
       let sharing : sharers (placement_in u) (image_at t sid) ≡ sharers (placement_in v) (image_at t sid) = ap (λ (q : Placement). sharers q (image_at t sid)) ended_place in
       record {
         place = ended_place ∙ ap (λ (q : Placement). record q { residents = filter (λ (r : Residence). not (r.pid == p.pid)) q.residents }) g.shows.place
-            ∙ ap (λ (l : Life). place_change (lists_of t).facts (placement_in t) p.pid (space_of_life l) (gave_back l) t.next_sid since (End status)) (sym life);
+            ∙ ap (λ (l : Life). place_change (changing_tables t (record p { life = l }) since) (placement_in t) (End status)) (sym life);
         frames = ended_frames ∙ g.shows.frames;
         tied = ended_tied g.shows.known.tied;
         book = ap (λ (x : Tables). x.book) h.rest ∙ ap (λ (x : Tables). x.book) same
             ∙ ap (λ (x : Book). with_holdings x (kept (owners.U p.pid) 0 x.holdings)) g.book
             ∙ ap (λ (n : ℕ). with_holdings t.book (kept (owners.U p.pid) 0 (space_given_back t.book.holdings sid (image_at t sid) n))) (sym sharing)
-            ∙ ap (λ (l : Life). with_holdings t.book (holdings_after t.book.holdings (placement_in t) (placement_in u) p.pid (space_of_life l) (gave_back l) (End status))) (sym life);
+            ∙ ap (λ (l : Life). with_holdings t.book (holdings_after (changing_tables t (record p { life = l }) since) t.book.holdings (placement_in t) (placement_in u) (End status))) (sym life);
         processes = ended_processes ∙ ap (λ (x : Tables). left_procs (p.parent == 0) (orphaned_procs (processes_in x) p.pid) p status) g.rest;
         records = h.records;
         next_pid = h.number ∙ ap (λ (x : Tables). x.next_pid) same ∙ ap (λ (x : Tables). x.next_pid) g.rest;

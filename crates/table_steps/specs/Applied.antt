@@ -6,7 +6,7 @@ use Rattle.flat_state.specs.declared.change.Change.{Change}
 use Rattle.flat_state.specs.declared.change.Change.TheVariants.{Fork, Lend}
 use Rattle.swap_book.specs.Book.{with_holdings}
 use Rattle.page_model.specs.Placement.{Placement}
-use Rattle.page_model.specs.Place.{place_change}
+use Rattle.page_model.specs.Place.{Changing, place_change}
 use Rattle.page_model.specs.Conditions.{IsSettled, CanChange, CanForget, MayForget}
 use Rattle.kernel_model.specs.Kernel.{Proc}
 use Rattle.kernel_model.specs.Unit.{has_lender}
@@ -79,14 +79,24 @@ pub record MayApply (t : Tables) (pid : ℕ) (change : Change) : Type 0 where
   pub whole : IsWholeChange (images_of t) change
   pub few : makes_process change ≡ true → length (processes_in t) < 64
 
+-- what the change of this process goes by, in the tables, in from this place in the journal on
+abbrev pub changing_tables : Tables → Proc → ℕ → Changing
+changing_tables t p since = record {
+  images = (lists_of t).facts;
+  pid = p.pid;
+  sid = space_of_life p.life;
+  borrowed = gave_back p.life;
+  next_sid = t.next_sid;
+  at = since;
+}
+
 -- the tables are as the kernel is after the change, with what is known of them; the sizes, the images and the transfers
 -- in flight are as before
 pub record Applied (t u : Tables) (p : Proc) (since : ℕ) (change : Change) : Type 0 where
-  pub place : placement_in u ≡ place_change (lists_of t).facts (placement_in t) p.pid (space_of_life p.life) (gave_back p.life) t.next_sid since change
+  pub place : placement_in u ≡ place_change (changing_tables t p since) (placement_in t) change
   pub frames : frames_of (lists_of u) ≡ frames_of (lists_of t)
   pub tied : Tied (lists_of u)
-  pub book : u.book
-      ≡ with_holdings t.book (holdings_after t.book.holdings (placement_in t) (placement_in u) p.pid (space_of_life p.life) (gave_back p.life) change)
+  pub book : u.book ≡ with_holdings t.book (holdings_after (changing_tables t p since) t.book.holdings (placement_in t) (placement_in u) change)
   pub processes : processes_in u ≡ procs_after (processes_in t) p t.next_sid change
   pub records : AreRecords u.processes u.next_pid
   pub next_pid : u.next_pid ≡ pid_after t.next_pid change

@@ -1,13 +1,12 @@
 -- Each change of a process keeps the invariant: of one that keeps its space, or has one of its own, and of one that gives
 -- the space back that it borrowed.
-use Rattle.std.proofs.Common.{◌≡◌, ◌≢◌, ℕ, ◌*◌, ◌≤◌, Bool, true, false, List, [], ◌∷◌, ◌++◌, length, map, Option, Some, None, Ok, refl, sym, ap, ◌∙◌, subst}
+use Rattle.std.proofs.Common.{◌≡◌, ◌≢◌, ℕ, ◌*◌, ◌≤◌, Bool, true, false, List, [], ◌∷◌, ◌++◌, map, Option, Some, None, Ok, refl, sym, ap, ◌∙◌, subst}
 use Rattle.vm_facts.specs.declared.entry.Entry.{Entry}
 use Rattle.vm_facts.specs.declared.regs.Regs.{Regs}
 use Rattle.swap_book.specs.Holdings.{Holdings}
 use Rattle.swap_book.specs.Placing.{place_all}
 use Rattle.flat_state.specs.Space.{Space}
 use Rattle.flat_state.specs.Flat.{Holds, Process, FlatState, NamedImage, process_of}
-use Rattle.flat_state.specs.Journal.{append}
 use Rattle.flat_state.specs.Numbers.{IsNumbered}
 use Rattle.flat_state.specs.Lenders.{IsLender}
 use Rattle.flat_state.specs.Change.{apply_change, NamesChild, is_borrower}
@@ -44,7 +43,7 @@ use Rattle.kernel_laws.proofs.Sound.Changes.{Unhanded, change_unhanded}
 use Rattle.kernel_laws.proofs.Machine.Tables.{kept_pid}
 use Rattle.kernel_laws.proofs.Machine.Ready.{coupled_ready, coupled_reaps}
 use Rattle.kernel_laws.proofs.Machine.Takes.{takes_coupled}
-use Rattle.kernel_laws.proofs.Machine.Processes.{Stepping, stepping, by_life, step_is, with_at, with_not}
+use Rattle.kernel_laws.proofs.Machine.Processes.{changing_with, Stepping, stepping, by_life, step_is, with_at, with_not}
 use Rattle.kernel_laws.proofs.Machine.Forks.{fork_coupled_step, next_pid_none, kept_none}
 use Rattle.kernel_laws.proofs.Machine.Still.{keep_coupled, sleep_coupled, reap_coupled}
 use Rattle.kernel_laws.proofs.Machine.Breaks.{resize_coupled_step}
@@ -130,7 +129,7 @@ none_found size hs found e =
 
 -- where a change lands in the placement
 record LandsAt (images : List NamedImage) (k : Kernel) (pid sid : ℕ) (b : Bool) (e : Entry) (change : Change) (l : Kernel) : Type 0 where
-  pub place : l.place ≡ place_change (facts_of images) k.place pid sid b k.next_sid (length (append k.journal e)) change
+  pub place : l.place ≡ place_change (changing_with (facts_of images) k pid sid b e) k.place change
 
 record Rests (p : Placement) : Type 0 where
   pub dues : DueStand p
@@ -140,10 +139,9 @@ rests : (images : List NamedImage) (k l : Kernel) (pid sid : ℕ) (b : Bool) (e 
     → k.place.due ≡ [] → HaveParts k.place.transfers
     → CanChange k.place sid b k.next_sid change → ApartFrom sid b k.next_sid change → Rests l.place
 rests images k l pid sid b e change at clear parts can apart = subst Rests (sym at.place) (
-    let u : Unhanded k.place (place_change (facts_of images) k.place pid sid b k.next_sid (length (append k.journal e)) change) =
-    change_unhanded (facts_of images) k.place pid sid b k.next_sid (length (append k.journal e)) change in
+    let u : Unhanded k.place (place_change (changing_with (facts_of images) k pid sid b e) k.place change) = change_unhanded (changing_with (facts_of images) k pid sid b e) k.place change in
     record {
-      dues = change_due (facts_of images) k.place pid sid b k.next_sid (length (append k.journal e)) change clear can apart;
+      dues = change_due (changing_with (facts_of images) k pid sid b e) k.place change clear can apart;
       parts = subst HaveParts (sym u.transfers) parts;
     })
 

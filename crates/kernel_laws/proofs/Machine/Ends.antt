@@ -462,7 +462,7 @@ end_coupled_step size k images image flat pid regs e status q s so nums outs due
       frames = o.frames;
       due = due;
       settled = λ i. settled;
-      aside = place_change_aside (facts_of images) k.place kp.pid s.sid false k.next_sid 0 (End status) o.aside forget;
+      aside = place_change_aside (record { images = (facts_of images); pid = kp.pid; sid = s.sid; borrowed = false; next_sid = k.next_sid; at = 0 }) k.place (End status) o.aside forget;
       other = λ m d. ap (numbered sid_of m) spaces ∙ held_other flat.processes fp s m held_here (d refl) refl;
       gone = λ i. ap (numbered sid_of s.sid) spaces ∙ held_now flat.processes fp s held_here;
     } in

@@ -329,8 +329,9 @@ exec_coupled_step size before k images image flat pid regs e number top named q 
       apart = λ i. apart;
       settled = λ i. settled;
       aside = subst (λ (x : Option Image). TextAside (give_up_unless false (enter_image k.place n number x) s.sid)) (facts_found images number named im)
-          (subst (λ (m : ℕ). TextAside (place_change (facts_of images) k.place pid s.sid false m 0 (Exec number top))) c.tables.next_sid
-          (place_change_aside (facts_of images) k.place pid s.sid false k.next_sid 0 (Exec number top) o.aside forget));
+          (subst (λ (m : ℕ). TextAside (place_change (record { images = (facts_of images); pid = pid; sid = s.sid; borrowed = false; next_sid = m; at = 0 }) k.place (Exec number top)))
+          c.tables.next_sid
+          (place_change_aside (record { images = (facts_of images); pid = pid; sid = s.sid; borrowed = false; next_sid = k.next_sid; at = 0 }) k.place (Exec number top) o.aside forget));
       image = im;
       fits = fit;
       whole = whole;

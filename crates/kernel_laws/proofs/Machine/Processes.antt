@@ -11,7 +11,7 @@ use Rattle.flat_state.specs.Journal.{append}
 use Rattle.page_model.specs.Pages.{numbered}
 use Rattle.vm_facts.specs.declared.page.Page.TheVariants.{Data, Stack}
 use Rattle.page_model.specs.Placement.{Placement, slots_of}
-use Rattle.page_model.specs.Place.{place_change, space_of_holding}
+use Rattle.page_model.specs.Place.{Changing, place_change, space_of_holding}
 use Rattle.page_model.specs.Swapper.{is_out}
 use Rattle.flat_state.specs.Numbers.{IsAbsent, AllDistinct, AllLower, IsNumbered}
 use Rattle.kernel_model.specs.Stands.{OutHold, holds_some}
@@ -213,13 +213,25 @@ stepping k flat pid q s t e h =
       asleep = ap (λ (x : Outline). x.asleep) o;
     }
 
+-- what a change goes by, of the process of this number with this space
+abbrev pub changing_with : List Image → Kernel → ℕ → ℕ → Bool → Entry → Changing
+changing_with images k pid sid borrowed e = record {
+  images = images;
+  pid = pid;
+  sid = sid;
+  borrowed = borrowed;
+  next_sid = k.next_sid;
+  at = Rattle.std.specs.Prelude.length (append k.journal e);
+}
+
 -- the step, by what the process has
 abbrev pub by_life : List Image → Kernel → Proc → Life → Entry → Change → Kernel
 by_life images k p life e change =
-    let place = place_change images k.place p.pid (space_of_life life) (gave_back life) k.next_sid (Rattle.std.specs.Prelude.length (append k.journal e)) change in
+    let c = changing_with images k p.pid (space_of_life life) (gave_back life) e in
+    let place = place_change c k.place change in
     record k {
       place = place;
-      holdings = holdings_after k.holdings k.place place p.pid (space_of_life life) (gave_back life) change;
+      holdings = holdings_after c k.holdings k.place place change;
       processes = procs_after k.processes p k.next_sid change;
       next_pid = pid_after k.next_pid change;
       next_sid = sid_after k.next_sid change;

@@ -249,7 +249,7 @@ exec_back size before k images image flat pid regs e number top named q m s so n
       apart = λ i. absurd cc;
       settled = λ i. absurd cc;
       aside = subst (λ (x : Option Image). TextAside (give_up_unless true (enter_image k.place n number x) 0)) (facts_found images number named im)
-          (place_change_aside (facts_of images) k.place pid 0 true n 0 (Exec number top) o.aside (λ i. absurd cc));
+          (place_change_aside (record { images = (facts_of images); pid = pid; sid = 0; borrowed = true; next_sid = n; at = 0 }) k.place (Exec number top) o.aside (λ i. absurd cc));
       image = im;
       fits = fit;
       whole = whole;
@@ -331,7 +331,7 @@ end_back size k images image flat pid regs e status q m s so nums outs due f h i
       frames = o.frames;
       due = due;
       settled = λ i. absurd cc;
-      aside = place_change_aside (facts_of images) k.place kp.pid 0 true k.next_sid 0 (End status) o.aside (λ i. absurd cc);
+      aside = place_change_aside (record { images = (facts_of images); pid = kp.pid; sid = 0; borrowed = true; next_sid = k.next_sid; at = 0 }) k.place (End status) o.aside (λ i. absurd cc);
       other = λ y _. ap (numbered sid_of y) spaces ∙ elim (cases_eq y s.sid) [
         | inl i ↦ ap (λ (x : ℕ). numbered sid_of x (held rs)) i ∙ gain.0 ∙ sym (held_own flat.processes fp s held_here) ∙ ap (λ (x : ℕ). numbered sid_of x (spaces_of flat)) (sym i)
         | inr j ↦ gain.1 y j ∙ held_other flat.processes fp s y held_here j refl

@@ -25,7 +25,7 @@ use Rattle.page_model.specs.Ownership.{OwnsBlocks, OneOwner, text_pieces_while, 
 use Rattle.flat_state.specs.Journal.{append}
 use Rattle.kernel_model.specs.Kernel.{Kernel, Proc}
 use Rattle.kernel_model.specs.Sound.{Sound, lives}
-use Rattle.kernel_model.specs.ChangeStep.{space_of_life, gave_back, change_if, change_step}
+use Rattle.kernel_model.specs.ChangeStep.{changing_of, change_if, change_step}
 use Rattle.kernel_model.specs.Taken.{needed, wanted_lengths, AsksFor, MayChange}
 use Rattle.kernel_laws.proofs.Pieces.GivenBack.{AreApart, both_pieces, both_while, both_u, while_of}
 use Rattle.kernel_laws.proofs.Pieces.Sizes.{change_texts}
@@ -174,7 +174,7 @@ step_texts images k pid regs e change i = go (numbered (λ (p : Proc). p.pid) pi
   where
     go : (o : Option Proc) → length (slots_of (change_if images k regs e change o).place (Text i 0)) ≡ length (slots_of k.place (Text i 0))
     go None = refl
-    go (Some p) = change_texts images k.place p.pid (space_of_life p.life) (gave_back p.life) k.next_sid (length (append k.journal e)) change i
+    go (Some p) = change_texts (changing_of images k p e) k.place change i
 
 -- A machine whose holdings have got the pieces that a change wants is sound after it.
 pub found_sound : (size : ℕ) (images : List Image) (k : Kernel) (before : Holdings) (ws : List Wanted) (pid : ℕ) (regs : Regs) (e : Entry) (change : Change)

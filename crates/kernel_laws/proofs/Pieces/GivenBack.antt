@@ -1,4 +1,5 @@
 -- Holdings that give back pieces: what is left is apart still, and what each owner has left.
+use Rattle.page_model.specs.Place.{Changing}
 use Rattle.std.proofs.Common.{◌≡◌, ◌≢◌, ◌⊎◌, inl, inr, ℕ, zero, suc, ◌+◌, ◌*◌, ◌<◌, ◌≤◌, ◌==◌, max, Bool, true, false, cond, ◌||◌, List, [], ◌∷◌, ◌++◌, length, take, drop, map, nat_le, All, AllPairs, refl, sym, ap, ◌∙◌, subst, arith}
 use Rattle.std.proofs.lemmas.Bool.{cases_eq, cases_lt, le-leb, false≢true}
 use Rattle.std.proofs.lemmas.Bool.Decides.{nat_tests}
@@ -79,15 +80,15 @@ unless_apart size hs false sid image left a = go left
     go zero = kept_apart size (owners.Text image) 0 (kept (owners.Stack sid) 0 (kept (owners.Data sid) 0 hs)) rest
     go (suc n) = rest
 
-pub after_apart : (size : ℕ) (hs : Holdings) (p q : Placement) (pid sid : ℕ) (borrowed : Bool) (change : Change) → AreApart size hs
-    → AreApart size (holdings_after hs p q pid sid borrowed change)
-after_apart size hs p q pid sid borrowed (Resize d s) a =
-    kept_apart size (owners.Stack sid) (length (pieces (2 * s))) (kept (owners.Data sid) (length (pieces (2 * d))) hs) (kept_apart size (owners.Data sid) (length (pieces (2 * d))) hs a)
-after_apart size hs p q pid sid borrowed (Exec image top) a = unless_apart size hs borrowed sid (image_of p sid) (sharers q (image_of p sid)) a
-after_apart size hs p q pid sid borrowed (End status) a =
-    kept_apart size (owners.U pid) 0 (given_back_unless borrowed hs sid (image_of p sid) (sharers q (image_of p sid)))
-    (unless_apart size hs borrowed sid (image_of p sid) (sharers q (image_of p sid)) a)
-after_apart size hs p q pid sid borrowed _ a = a
+pub after_apart : (size : ℕ) (c : Changing) (hs : Holdings) (p q : Placement) (change : Change) → AreApart size hs
+    → AreApart size (holdings_after c hs p q change)
+after_apart size c hs p q (Resize d s) a =
+    kept_apart size (owners.Stack c.sid) (length (pieces (2 * s))) (kept (owners.Data c.sid) (length (pieces (2 * d))) hs) (kept_apart size (owners.Data c.sid) (length (pieces (2 * d))) hs a)
+after_apart size c hs p q (Exec image top) a = unless_apart size hs c.borrowed c.sid (image_of p c.sid) (sharers q (image_of p c.sid)) a
+after_apart size c hs p q (End status) a =
+    kept_apart size (owners.U c.pid) 0 (given_back_unless c.borrowed hs c.sid (image_of p c.sid) (sharers q (image_of p c.sid)))
+    (unless_apart size hs c.borrowed c.sid (image_of p c.sid) (sharers q (image_of p c.sid)) a)
+after_apart size c hs p q _ a = a
 
 -- Lengths.
 

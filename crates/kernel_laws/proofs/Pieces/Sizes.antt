@@ -8,7 +8,7 @@ use Rattle.flat_state.specs.declared.change.Change.TheVariants.{Resize, Fork, Le
 use Rattle.page_model.specs.Pages.{SpacePages, numbered, changed, data_in, stack_in}
 use Rattle.page_model.specs.Placement.{Placement, Due, space_number, slots_of, sharers, sharers_in, image_of, image_in, new_pages}
 use Rattle.page_model.specs.Moves.{drop_all}
-use Rattle.page_model.specs.Place.{sized, resize, child_slot, fork_space, enter_space, enter_image, remove_space, pages_of_space, pages_of_text, leave_text, leave_text_by, give_up, give_up_unless, place_change, facts_numbered}
+use Rattle.page_model.specs.Place.{Changing, sized, resize, child_slot, fork_space, enter_space, enter_image, remove_space, pages_of_space, pages_of_text, leave_text, leave_text_by, give_up, give_up_unless, place_change, facts_numbered}
 use Rattle.page_model.specs.Conditions.{IsNew, CanChange, HasImage, CanForget, MayForget}
 use Rattle.kernel_model.specs.ChangeStep.{holdings_after, given_back_unless}
 use Rattle.page_laws.proofs.Lists.Pages.{mapped, changed_same, changed_other, sharers_changed}
@@ -203,27 +203,28 @@ end_lost : (borrowed : Bool) (p : Placement) (sid : ℕ) → (borrowed ≡ false
 end_lost true p sid c e = absurd cc
 end_lost false p sid c e = give_up_loses p sid (c refl)
 
-pub change_fits : (images : List Image) (p : Placement) (pid sid : ℕ) (borrowed : Bool) (next at : ℕ) (change : Change) (hs : Holdings)
-    → CanChange p sid borrowed next change → MayForget images p sid borrowed next change
-    → FitsBoth p (place_change images p pid sid borrowed next at change) hs
-    → Fits (place_change images p pid sid borrowed next at change)
-    (holdings_after hs p (place_change images p pid sid borrowed next at change) pid sid borrowed change)
-change_fits images p pid sid borrowed next at (Resize d s) hs c m f = resizes_fits sid d s p (resize p sid d s) hs (resize_sizes p sid d s) f
-change_fits images p pid sid borrowed next at (Fork child) hs c m f =
-    let g = fork_grows p sid next in
-    grows_fits p (place_change images p pid sid borrowed next at (Fork child)) hs (record { of_data = g.of_data; of_stack = g.of_stack; texts = g.texts; sharing = g.sharing }) f
-change_fits images p pid sid borrowed next at (Lend child) hs c m f =
+pub change_fits : (who : Changing) (p : Placement) (change : Change) (hs : Holdings)
+    → CanChange p who.sid who.borrowed who.next_sid change → MayForget who.images p who.sid who.borrowed who.next_sid change
+    → FitsBoth p (place_change who p change) hs
+    → Fits (place_change who p change)
+    (holdings_after who hs p (place_change who p change) change)
+change_fits who p (Resize d s) hs c m f = resizes_fits who.sid d s p (resize p who.sid d s) hs (resize_sizes p who.sid d s) f
+change_fits who p (Fork child) hs c m f =
+    let g = fork_grows p who.sid who.next_sid in
+    grows_fits p (place_change who p (Fork child)) hs (record { of_data = g.of_data; of_stack = g.of_stack; texts = g.texts; sharing = g.sharing }) f
+change_fits who p (Lend child) hs c m f =
     let g = grows_self p in
-    grows_fits p (place_change images p pid sid borrowed next at (Lend child)) hs (record { of_data = g.of_data; of_stack = g.of_stack; texts = g.texts; sharing = g.sharing }) f
-change_fits images p pid sid borrowed next at (Exec image top) hs c m f = unless_fits borrowed p (enter_image p next image (facts_numbered images image)) sid hs
-    (exec_grows borrowed p (enter_image p next image (facts_numbered images image)) sid (enter_grows p next image (facts_numbered images image)))
-    (exec_lost borrowed p next image sid (facts_numbered images image) c.0 m) f
-change_fits images p pid sid borrowed next at (End status) hs c m f =
-    let r : Placement = give_up_unless borrowed p sid in
-    let k = unless_fits borrowed p p sid hs (exec_grows borrowed p p sid (grows_self p)) (end_lost borrowed p sid m) (record { of_data = f.of_data; of_stack = f.of_stack; of_text = f.of_text }) in
-    let u = less_u r (given_back_unless borrowed hs sid (image_of p sid) (sharers r (image_of p sid))) pid k in
+    grows_fits p (place_change who p (Lend child)) hs (record { of_data = g.of_data; of_stack = g.of_stack; texts = g.texts; sharing = g.sharing }) f
+change_fits who p (Exec image top) hs c m f = unless_fits who.borrowed p (enter_image p who.next_sid image (facts_numbered who.images image)) who.sid hs
+    (exec_grows who.borrowed p (enter_image p who.next_sid image (facts_numbered who.images image)) who.sid (enter_grows p who.next_sid image (facts_numbered who.images image)))
+    (exec_lost who.borrowed p who.next_sid image who.sid (facts_numbered who.images image) c.0 m) f
+change_fits who p (End status) hs c m f =
+    let r : Placement = give_up_unless who.borrowed p who.sid in
+    let k = unless_fits who.borrowed p p who.sid hs (exec_grows who.borrowed p p who.sid (grows_self p)) (end_lost who.borrowed p who.sid m)
+    (record { of_data = f.of_data; of_stack = f.of_stack; of_text = f.of_text }) in
+    let u = less_u r (given_back_unless who.borrowed hs who.sid (image_of p who.sid) (sharers r (image_of p who.sid))) who.pid k in
     record { of_data = u.of_data; of_stack = u.of_stack; of_text = u.of_text }
-change_fits images p pid sid borrowed next at _ hs c m f = grows_fits p p hs (grows_self p) f
+change_fits who p _ hs c m f = grows_fits p p hs (grows_self p) f
 
 -- no change makes a text longer or shorter
 pub unless_texts : (borrowed : Bool) (p : Placement) (sid i : ℕ) → length (slots_of (give_up_unless borrowed p sid) (Text i 0)) ≡ length (slots_of p (Text i 0))
@@ -235,10 +236,10 @@ enter_texts : (p : Placement) (sid image : ℕ) (facts : Option Image) (i : ℕ)
 enter_texts p sid image None i = refl
 enter_texts p sid image (Some facts) i = refl
 
-pub change_texts : (images : List Image) (p : Placement) (pid sid : ℕ) (borrowed : Bool) (next at : ℕ) (change : Change) (i : ℕ)
-    → length (slots_of (place_change images p pid sid borrowed next at change) (Text i 0)) ≡ length (slots_of p (Text i 0))
-change_texts images p pid sid borrowed next at (Resize d s) i = drop_all_length (dropped_pages p sid d s) p (Text i 0)
-change_texts images p pid sid borrowed next at (Exec image top) i =
-    unless_texts borrowed (enter_image p next image (facts_numbered images image)) sid i ∙ enter_texts p next image (facts_numbered images image) i
-change_texts images p pid sid borrowed next at (End status) i = unless_texts borrowed p sid i
-change_texts images p pid sid borrowed next at _ i = refl
+pub change_texts : (c : Changing) (p : Placement) (change : Change) (i : ℕ)
+    → length (slots_of (place_change c p change) (Text i 0)) ≡ length (slots_of p (Text i 0))
+change_texts c p (Resize d s) i = drop_all_length (dropped_pages p c.sid d s) p (Text i 0)
+change_texts c p (Exec image top) i =
+    unless_texts c.borrowed (enter_image p c.next_sid image (facts_numbered c.images image)) c.sid i ∙ enter_texts p c.next_sid image (facts_numbered c.images image) i
+change_texts c p (End status) i = unless_texts c.borrowed p c.sid i
+change_texts c p _ i = refl

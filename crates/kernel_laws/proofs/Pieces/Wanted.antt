@@ -21,13 +21,13 @@ use Rattle.flat_state.specs.declared.change.Change.TheVariants.{Keep, Resize, Fo
 use Rattle.page_model.specs.Pages.{Slot, SpacePages, numbered, changed, data_in, stack_in, with_data, with_stack, frame_of}
 use Rattle.page_model.specs.Placement.{Placement, Due, space_number, slots_of, state_of, put, sharers, sharers_in, image_of, image_in, new_pages}
 use Rattle.page_model.specs.Moves.{drop_at, drop_page, drop_all}
-use Rattle.page_model.specs.Place.{data_count, stack_count, sized, child_slot, resize, fork_space, enter_space, enter_image, give_up, give_up_unless, place_change, facts_numbered}
+use Rattle.page_model.specs.Place.{Changing, data_count, stack_count, sized, child_slot, resize, fork_space, enter_space, enter_image, give_up, give_up_unless, place_change, facts_numbered}
 use Rattle.page_model.specs.Conditions.{IsNew, CanChange}
 use Rattle.page_model.specs.Ownership.{text_pieces_while, u_blocks}
 use Rattle.flat_state.specs.Journal.{append}
 use Rattle.kernel_model.specs.Kernel.{Kernel, Proc, Life, New, HoldsSpace}
 use Rattle.kernel_model.specs.Sound.{has_life, lives, lives_in}
-use Rattle.kernel_model.specs.ChangeStep.{with_proc, without_proc, child_proc, is_ended, orphaned_procs, left_procs, procs_after, space_of_life, life_of_proc, gave_back, change_by, change_if, change_step}
+use Rattle.kernel_model.specs.ChangeStep.{changing_of, with_proc, without_proc, child_proc, is_ended, orphaned_procs, left_procs, procs_after, space_of_life, life_of_proc, gave_back, change_by, change_if, change_step}
 use Rattle.kernel_model.specs.Taken.{wanted_lengths, AsksFor, MayChange}
 use Rattle.kernel_model.specs.Asks.{further, text_asked, image_asked, change_asks, HasSpace, IsUnused, OneEach, MayAsk, asked, WantsThese}
 use Rattle.page_laws.proofs.Lists.Pages.{mapped, changed_same}
@@ -673,8 +673,8 @@ change_asked images k x e change a c m = go change c m
     borrowed : Bool
     borrowed = gave_back x.life
 
-    at : ℕ
-    at = length (append k.journal e)
+    who : Changing
+    who = changing_of images k x e
 
     back : (change : Change) → MayAsk k.place k.processes sid borrowed k.next_sid change → (n : ℕ) → (IsChild change n → ⊥) → lives (procs_after k.processes x k.next_sid change) n ≡ true
         → lives k.processes n ≡ true
@@ -683,10 +683,10 @@ change_asked images k x e change a c m = go change c m
     living : (change : Change) → MayAsk k.place k.processes sid borrowed k.next_sid change → ((n : ℕ) → IsChild change n → ⊥) → Living k (change_by images k x e change)
     living change m h n l = back change m n (h n) l
 
-    texts : (change : Change) (i : ℕ) → length (slots_of (place_change images k.place x.pid sid borrowed k.next_sid at change) (Text i 0)) ≡ length (slots_of k.place (Text i 0))
-    texts change i = change_texts images k.place x.pid sid borrowed k.next_sid at change i
+    texts : (change : Change) (i : ℕ) → length (slots_of (place_change who k.place change) (Text i 0)) ≡ length (slots_of k.place (Text i 0))
+    texts change i = change_texts who k.place change i
 
-    unless_most : AtMost k.place (place_change images k.place x.pid sid borrowed k.next_sid at (End 0))
+    unless_most : AtMost k.place (place_change who k.place (End 0))
     unless_most = record {
       of_data = unless_data borrowed k.place sid;
       of_stack = unless_stack borrowed k.place sid;
@@ -694,7 +694,7 @@ change_asked images k x e change a c m = go change c m
       sharing = λ i l. (let h = unless_sharers borrowed k.place sid i in let j : 0 < sharers (give_up_unless borrowed k.place sid) i = l in omega arith);
     }
 
-    lent_most : (child : ℕ) → AtMost k.place (place_change images k.place x.pid sid borrowed k.next_sid at (Lend child))
+    lent_most : (child : ℕ) → AtMost k.place (place_change who k.place (Lend child))
     lent_most child = let s : AtMost k.place k.place = most_self k.place in record { of_data = s.of_data; of_stack = s.of_stack; texts = s.texts; sharing = s.sharing }
 
     dead : (child : ℕ) → IsUnused k.processes child → lives k.processes child ≡ false

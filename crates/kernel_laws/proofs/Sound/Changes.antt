@@ -18,13 +18,12 @@ use Rattle.flat_state.specs.declared.change.Change.TheVariants.{Resize, Fork, Le
 use Rattle.page_model.specs.Pages.{numbered, frame_of}
 use Rattle.page_model.specs.Placement.{Placement, Transfer, slots_of, state_of, sharers, image_of}
 use Rattle.page_model.specs.Moves.{drop_at, drop_page, drop_all, leave_by, leave_page, leave_all, listed}
-use Rattle.page_model.specs.Place.{data_count, stack_count, resize, enter_image, remove_space, pages_of_space, pages_of_text, leave_text, leave_text_by, give_up, give_up_unless, place_change, facts_numbered}
+use Rattle.page_model.specs.Place.{Changing, data_count, stack_count, resize, enter_image, remove_space, pages_of_space, pages_of_text, leave_text, leave_text_by, give_up, give_up_unless, place_change, facts_numbered}
 use Rattle.page_model.specs.Conditions.{CanChange, MayForget}
 use Rattle.page_model.specs.Ownership.{OneOwner, u_blocks}
-use Rattle.flat_state.specs.Journal.{append}
 use Rattle.kernel_model.specs.Kernel.{Life, New, HoldsSpace, LendsSpace, Ended, Proc, Kernel}
 use Rattle.kernel_model.specs.Sound.{Sound, has_life, lives, lives_in}
-use Rattle.kernel_model.specs.ChangeStep.{with_proc, without_proc, child_proc, is_ended, orphaned_procs, woken_procs, left_procs, procs_after, holdings_after, given_back_unless, space_of_life, life_of_proc, gave_back, change_by, change_if, change_step}
+use Rattle.kernel_model.specs.ChangeStep.{changing_of, with_proc, without_proc, child_proc, is_ended, orphaned_procs, woken_procs, left_procs, procs_after, holdings_after, given_back_unless, space_of_life, life_of_proc, gave_back, change_by, change_if, change_step}
 use Rattle.kernel_model.specs.Taken.{needed, MayReap, MayChange}
 use Rattle.page_laws.proofs.Lists.Frames.{length_set_frame}
 use Rattle.page_laws.proofs.Ownership.Entries.{place_change_owner}
@@ -171,22 +170,22 @@ u_kept : (ps : List Proc) (p : Proc) (next : ℕ) (hs : Holdings) (change : Chan
     → lengths (owners.U n) hs ≡ u_pieces (u_blocks (lives (procs_after ps p next change) n))
 u_kept ps p next hs change n h r l e = e ∙ u_some (lives ps n) (lives (procs_after ps p next change) n) (λ a. after_alive ps p next n change (λ k. h k a) r l a)
 
-u_after : (ps : List Proc) (x : Proc) (next : ℕ) (hs : Holdings) (p q : Placement) (sid : ℕ) (borrowed : Bool) (change : Change)
+u_after : (ps : List Proc) (x : Proc) (next : ℕ) (c : Changing) (hs : Holdings) (p q : Placement) (change : Change)
     → ((n : ℕ) → x.pid ≡ n → lives ps n ≡ true → has_life x.life ≡ true) → MayReap ps change
     → ((n : ℕ) → lengths (owners.U n) hs ≡ u_pieces (u_blocks (lives ps n || lives (procs_after ps x next change) n)))
-    → (n : ℕ) → lengths (owners.U n) (holdings_after hs p q x.pid sid borrowed change) ≡ u_pieces (u_blocks (lives (procs_after ps x next change) n))
-u_after ps x next hs p q sid borrowed (Resize d s) h r u n = other_left (owners.Stack sid) (owners.U n) (length (pieces (2 * s))) (kept (owners.Data sid) (length (pieces (2 * d))) hs) refl
-    ∙ other_left (owners.Data sid) (owners.U n) (length (pieces (2 * d))) hs refl ∙ u_kept ps x next hs (Resize d s) n (h n) r tt (u n)
-u_after ps x next hs p q sid borrowed (Exec image top) h r u n = unless_u hs borrowed sid (image_of p sid) (sharers q (image_of p sid)) n ∙ u_kept ps x next hs (Exec image top) n (h n) r tt (u n)
-u_after ps x next hs p q sid borrowed (End status) h r u n =
-    let rest : Holdings = given_back_unless borrowed hs sid (image_of p sid) (sharers q (image_of p sid)) in
+    → (n : ℕ) → lengths (owners.U n) (holdings_after (record c { pid = x.pid }) hs p q change) ≡ u_pieces (u_blocks (lives (procs_after ps x next change) n))
+u_after ps x next c hs p q (Resize d s) h r u n = other_left (owners.Stack c.sid) (owners.U n) (length (pieces (2 * s))) (kept (owners.Data c.sid) (length (pieces (2 * d))) hs) refl
+    ∙ other_left (owners.Data c.sid) (owners.U n) (length (pieces (2 * d))) hs refl ∙ u_kept ps x next hs (Resize d s) n (h n) r tt (u n)
+u_after ps x next c hs p q (Exec image top) h r u n = unless_u hs c.borrowed c.sid (image_of p c.sid) (sharers q (image_of p c.sid)) n ∙ u_kept ps x next hs (Exec image top) n (h n) r tt (u n)
+u_after ps x next c hs p q (End status) h r u n =
+    let rest : Holdings = given_back_unless c.borrowed hs c.sid (image_of p c.sid) (sharers q (image_of p c.sid)) in
     elim (cases_eq n x.pid) [
       | inl e ↦ subst (λ (m : ℕ). lengths (owners.U m) (kept (owners.U x.pid) 0 rest) ≡ u_pieces (u_blocks (lives (procs_after ps x next (End status)) m))) (sym e)
           (own_left (owners.U x.pid) rest ∙ ap (λ (b : Bool). u_pieces (u_blocks b)) (sym (left_dead (x.parent == 0) (orphaned_procs ps x.pid) x status)))
-      | inr d ↦ other_left (owners.U x.pid) (owners.U n) 0 rest (ne_eqb x.pid n (λ k. d (sym k))) ∙ unless_u hs borrowed sid (image_of p sid) (sharers q (image_of p sid)) n
+      | inr d ↦ other_left (owners.U x.pid) (owners.U n) 0 rest (ne_eqb x.pid n (λ k. d (sym k))) ∙ unless_u hs c.borrowed c.sid (image_of p c.sid) (sharers q (image_of p c.sid)) n
           ∙ u_kept ps x next hs (End status) n (h n) r d (u n)
     ]
-u_after ps x next hs p q sid borrowed y h r u n = u_kept ps x next hs y n (h n) r tt (u n)
+u_after ps x next c hs p q y h r u n = u_kept ps x next hs y n (h n) r tt (u n)
 
 -- Hands and transfers.
 
@@ -257,19 +256,19 @@ enter_unhanded : (p : Placement) (sid image : ℕ) (facts : Option Image) → Un
 enter_unhanded p sid image None = unhanded_self p
 enter_unhanded p sid image (Some facts) = record { hands = record { front = refl; back = refl; frames = refl }; transfers = refl }
 
-pub change_unhanded : (images : List Image) (p : Placement) (pid sid : ℕ) (borrowed : Bool) (next at : ℕ) (change : Change)
-    → Unhanded p (place_change images p pid sid borrowed next at change)
-change_unhanded images p pid sid borrowed next at (Resize d s) = resize_unhanded p sid d s
-change_unhanded images p pid sid borrowed next at (Fork child) = record { hands = record { front = refl; back = refl; frames = refl }; transfers = refl }
-change_unhanded images p pid sid borrowed next at (Lend child) = record { hands = record { front = refl; back = refl; frames = refl }; transfers = refl }
-change_unhanded images p pid sid borrowed next at (Exec image top) =
-    unhanded_both p (enter_image p next image (facts_numbered images image)) (place_change images p pid sid borrowed next at (Exec image top))
-    (enter_unhanded p next image (facts_numbered images image)) (unless_unhanded borrowed (enter_image p next image (facts_numbered images image)) sid)
-change_unhanded images p pid sid borrowed next at (End status) =
-    let u : Unhanded p (give_up_unless borrowed p sid) = unless_unhanded borrowed p sid in
-    let h : SameHands p (give_up_unless borrowed p sid) = u.hands in
+pub change_unhanded : (c : Changing) (p : Placement) (change : Change)
+    → Unhanded p (place_change c p change)
+change_unhanded c p (Resize d s) = resize_unhanded p c.sid d s
+change_unhanded c p (Fork child) = record { hands = record { front = refl; back = refl; frames = refl }; transfers = refl }
+change_unhanded c p (Lend child) = record { hands = record { front = refl; back = refl; frames = refl }; transfers = refl }
+change_unhanded c p (Exec image top) =
+    unhanded_both p (enter_image p c.next_sid image (facts_numbered c.images image)) (place_change c p (Exec image top))
+    (enter_unhanded p c.next_sid image (facts_numbered c.images image)) (unless_unhanded c.borrowed (enter_image p c.next_sid image (facts_numbered c.images image)) c.sid)
+change_unhanded c p (End status) =
+    let u : Unhanded p (give_up_unless c.borrowed p c.sid) = unless_unhanded c.borrowed p c.sid in
+    let h : SameHands p (give_up_unless c.borrowed p c.sid) = u.hands in
     record { hands = record { front = h.front; back = h.back; frames = h.frames }; transfers = u.transfers }
-change_unhanded images p pid sid borrowed next at _ = unhanded_self p
+change_unhanded c p _ = unhanded_self p
 
 -- The whole.
 
@@ -300,26 +299,25 @@ change_sound : (size : ℕ) (images : List Image) (k : Kernel) (before : Holding
     → Sound size (change_by images k x e change)
 change_sound size images k before x e change h s t c m r =
     let o : OneOwner size (lives k.processes) k.place before = s.owner in
-    let sid = space_of_life x.life in
-    let borrowed = gave_back x.life in
-    let at = length (append k.journal e) in
-    let u : Unhanded k.place (place_change images k.place x.pid sid borrowed k.next_sid at change) = change_unhanded images k.place x.pid sid borrowed k.next_sid at change in
-    let w : SameHands k.place (place_change images k.place x.pid sid borrowed k.next_sid at change) = u.hands in
+    let who = changing_of images k x e in
+    let place = place_change who k.place change in
+    let u : Unhanded k.place place = change_unhanded who k.place change in
+    let w : SameHands k.place place = u.hands in
     record {
-      owner = one_owner size (lives (procs_after k.processes x k.next_sid change)) (place_change images k.place x.pid sid borrowed k.next_sid at change)
-          (holdings_after k.holdings k.place (place_change images k.place x.pid sid borrowed k.next_sid at change) x.pid sid borrowed change)
-          (place_change_owner images k.place x.pid sid borrowed k.next_sid at change o.frames c)
-          (owns_from size (lives (procs_after k.processes x k.next_sid change)) (place_change images k.place x.pid sid borrowed k.next_sid at change)
-          (holdings_after k.holdings k.place (place_change images k.place x.pid sid borrowed k.next_sid at change) x.pid sid borrowed change)
-          (after_apart size k.holdings k.place (place_change images k.place x.pid sid borrowed k.next_sid at change) x.pid sid borrowed change
+      owner = one_owner size (lives (procs_after k.processes x k.next_sid change)) place
+          (holdings_after who k.holdings k.place place change)
+          (place_change_owner who k.place change o.frames c)
+          (owns_from size (lives (procs_after k.processes x k.next_sid change)) place
+          (holdings_after who k.holdings k.place place change)
+          (after_apart size who k.holdings k.place place change
           (record { pieces = t.book.pieces; apart = t.book.apart }))
-          (change_fits images k.place x.pid sid borrowed k.next_sid at change k.holdings c m
-          (taken_fits size k (change_by images k x e change) t (change_texts images k.place x.pid sid borrowed k.next_sid at change)))
-          (u_after k.processes x k.next_sid k.holdings k.place (place_change images k.place x.pid sid borrowed k.next_sid at change) sid borrowed change h r
+          (change_fits who k.place change k.holdings c m
+          (taken_fits size k (change_by images k x e change) t (change_texts who k.place change)))
+          (u_after k.processes x k.next_sid who k.holdings k.place place change h r
           (λ n. taken_u size k (change_by images k x e change) n t)))
-          (place_change_aside images k.place x.pid sid borrowed k.next_sid at change o.aside m);
+          (place_change_aside who k.place change o.aside m);
       tokens = s.tokens ∙ sym w.frames;
-      hands = hands_stand k.place (place_change images k.place x.pid sid borrowed k.next_sid at change) w s.hands;
+      hands = hands_stand k.place place w s.hands;
       few_transfers = subst (λ (ts : List Transfer). length ts ≤ 16) (sym u.transfers) s.few_transfers;
     }
 

@@ -18,10 +18,10 @@ use Rattle.flat_state.specs.Flat.{cleared, start_regs}
 use Rattle.page_model.specs.Pages.{SpacePages, changed, with_data, with_stack}
 use Rattle.page_model.specs.Placement.{Placement, Transfer, Part, Errand, Writes, Reads, Source, Due, space_number, state_of, mark_of, is_dirty, page_of, put, spaces_with, sharers, image_of, new_pages}
 use Rattle.page_model.specs.Moves.{touch, drop_all}
-use Rattle.page_model.specs.Place.{filled, put_by, put_step, place_entry, sized, data_count, stack_count, data_from, stack_from, cut_space, resize, fork_space, enter_space, enter_image, remove_space, pages_of_space, pages_of_text, leave_text, leave_text_by, give_up, give_up_unless, place_change, facts_numbered}
+use Rattle.page_model.specs.Place.{Changing, filled, put_by, put_step, place_entry, sized, data_count, stack_count, data_from, stack_from, cut_space, resize, fork_space, enter_space, enter_image, remove_space, pages_of_space, pages_of_text, leave_text, leave_text_by, give_up, give_up_unless, place_change, facts_numbered}
 use Rattle.flat_state.specs.Journal.{append}
 use Rattle.kernel_model.specs.Kernel.{New, HoldsSpace, Ended, Kernel, Proc, with_regs, plain_step, zero_step, copy_step, done_step, write_step, note_step, out_step, in_step}
-use Rattle.kernel_model.specs.ChangeStep.{with_proc, without_proc, child_proc, is_ended, orphaned_procs, woken_procs, left_procs, procs_after, space_of_life, gave_back, change_by, change_if, change_step, ran_by, pass_step, passed_life, life_of_proc}
+use Rattle.kernel_model.specs.ChangeStep.{changing_of, with_proc, without_proc, child_proc, is_ended, orphaned_procs, woken_procs, left_procs, procs_after, space_of_life, change_by, change_if, change_step, ran_by, pass_step, passed_life, life_of_proc}
 use Rattle.flat_state.specs.Numbers.{IsAbsent, AllDistinct, AllBelow}
 use Rattle.kernel_model.specs.Start.{begin_step}
 use Rattle.kernel_model.specs.Sound.{lives}
@@ -139,19 +139,19 @@ pub enter_fine : (n : ℕ) (p : Placement) (image : ℕ) (facts : Option Image) 
 enter_fine n p image None f = fine_more n (map space_number p.spaces) f
 enter_fine n p image (Some facts) f = add_fine n p (new_pages n image facts) refl f
 
-pub change_fine : (images : List Image) (p : Placement) (pid sid : ℕ) (borrowed : Bool) (n at : ℕ) (change : Change) → FineSpaces n p
-    → FineSpaces (Rattle.kernel_model.specs.ChangeStep.sid_after n change) (place_change images p pid sid borrowed n at change)
-change_fine images p pid sid borrowed n at (Resize d s) f = same_fine n p (resize p sid d s) (resize_numbers p sid d s) f
-change_fine images p pid sid borrowed n at (Fork child) f = add_fine n p (record {
-  sid = n;
-  image = image_of p sid;
-  data_pages = map Rattle.page_model.specs.Place.child_slot (Rattle.page_model.specs.Placement.slots_of p (Data sid 0));
-  stack_pages = map Rattle.page_model.specs.Place.child_slot (Rattle.page_model.specs.Placement.slots_of p (Stack sid 0));
+pub change_fine : (c : Changing) (p : Placement) (change : Change) → FineSpaces c.next_sid p
+    → FineSpaces (Rattle.kernel_model.specs.ChangeStep.sid_after c.next_sid change) (place_change c p change)
+change_fine c p (Resize d s) f = same_fine c.next_sid p (resize p c.sid d s) (resize_numbers p c.sid d s) f
+change_fine c p (Fork child) f = add_fine c.next_sid p (record {
+  sid = c.next_sid;
+  image = image_of p c.sid;
+  data_pages = map Rattle.page_model.specs.Place.child_slot (Rattle.page_model.specs.Placement.slots_of p (Data c.sid 0));
+  stack_pages = map Rattle.page_model.specs.Place.child_slot (Rattle.page_model.specs.Placement.slots_of p (Stack c.sid 0));
 }) refl f
-change_fine images p pid sid borrowed n at (Exec image top) f =
-    unless_fine borrowed (n + 1) (enter_image p n image (facts_numbered images image)) sid (enter_fine n p image (facts_numbered images image) f)
-change_fine images p pid sid borrowed n at (End status) f = unless_fine borrowed n p sid f
-change_fine images p pid sid borrowed n at _ f = f
+change_fine c p (Exec image top) f =
+    unless_fine c.borrowed (c.next_sid + 1) (enter_image p c.next_sid image (facts_numbered c.images image)) c.sid (enter_fine c.next_sid p image (facts_numbered c.images image) f)
+change_fine c p (End status) f = unless_fine c.borrowed c.next_sid p c.sid f
+change_fine c p _ f = f
 
 -- Processes.
 
@@ -277,6 +277,6 @@ flat_numbered images k pid regs e change t a n = go (find pid k.processes) refl
     go : (o : Option Proc) → find pid k.processes ≡ o → Numbered (change_if images k regs e change o)
     go None i = n
     go (Some p) i = numbered_from (change_by images k (record p { regs = regs }) e change)
-        (change_fine images k.place p.pid (space_of_life p.life) (gave_back p.life) k.next_sid (length (append k.journal e)) change (fine_spaces k n))
+        (change_fine (changing_of images k p e) k.place change (fine_spaces k n))
         (procs_fine k.next_pid k.processes (record p { regs = regs }) k.next_sid k change refl t (fine_pids k n))
         (change_reside images k (record p { regs = regs }) e change (ap (lives k.processes) (proc_number k.processes pid p i) ∙ a) n.pids_differ n.residents)

@@ -1,5 +1,5 @@
 -- Who lives is in or out: each step of the whole machine, and each change of a process, keeps it.
-use Rattle.std.proofs.Common.{◌≡◌, ◌≢◌, ◌⊎◌, inl, inr, ℕ, ◌+◌, ◌==◌, Bool, true, false, cond, not, List, [], ◌∷◌, ◌++◌, length, map, filter, Option, Some, None, refl, sym, ap, ◌∙◌}
+use Rattle.std.proofs.Common.{◌≡◌, ◌≢◌, ◌⊎◌, inl, inr, ℕ, ◌+◌, ◌==◌, Bool, true, false, cond, not, List, [], ◌∷◌, ◌++◌, map, filter, Option, Some, None, refl, sym, ap, ◌∙◌}
 use Rattle.std.proofs.lemmas.Bool.{cases_eq, eqb-true}
 use Rattle.vm_facts.specs.declared.page.Page.{Page}
 use Rattle.vm_facts.specs.declared.regs.Regs.{Regs}
@@ -7,18 +7,17 @@ use Rattle.vm_facts.specs.declared.entry.Entry.{Entry}
 use Rattle.vm_facts.specs.declared.entry.Entry.TheVariants as entries
 use Rattle.flat_state.specs.declared.change.Change.{Change}
 use Rattle.flat_state.specs.declared.change.Change.TheVariants.{Resize, Fork, Lend, Exec, End}
-use Rattle.flat_state.specs.Journal.{append}
 use Rattle.flat_state.specs.Numbers.{AllDistinct}
 use Rattle.flat_state.specs.PageNames.{pages_from, number_of}
 use Rattle.page_model.specs.Pages.{numbered, changed}
 use Rattle.page_model.specs.Placement.{Placement, Residence, Starting, residents_from}
 use Rattle.page_model.specs.Moves.{drop_all}
-use Rattle.page_model.specs.Place.{enter_image, give_up_unless, place_change, place_entry, facts_numbered}
+use Rattle.page_model.specs.Place.{enter_image, give_up_unless, place_change, place_entry, facts_numbered, Changing}
 use Rattle.page_model.specs.Reading.{read_errand}
 use Rattle.page_model.specs.PuttingOut.{IsResident}
 use Rattle.kernel_model.specs.Kernel.{Kernel, Proc, with_regs}
 use Rattle.kernel_model.specs.Sound.{has_life, lives}
-use Rattle.kernel_model.specs.ChangeStep.{change_by, procs_after, orphaned_procs, left_procs, space_of_life, gave_back}
+use Rattle.kernel_model.specs.ChangeStep.{changing_of, change_by, procs_after, orphaned_procs, left_procs}
 use Rattle.kernel_model.specs.Asks.{OneEach, is_started}
 use Rattle.kernel_model.specs.Numbers.{EachResides}
 use Rattle.page_laws.proofs.Ownership.Changes.{dropped_pages}
@@ -128,28 +127,28 @@ Lasting (End status) pid n = n ≢ pid
 Lasting change pid n = Unit {0}
 
 -- a child is a resident, and each other that lasts stays one
-change_resides : (images : List Image) (p : Placement) (pid sid : ℕ) (b : Bool) (next at : ℕ) (change : Change) (n : ℕ)
-    → IsChild change n ⊎ (IsResident p n × Lasting change pid n)
-    → IsResident (place_change images p pid sid b next at change) n
-change_resides images p pid sid b next at (Resize d s) n (inr h) = let sh : Shaped p (drop_all p (dropped_pages p sid d s)) =
-    drop_all_shaped (dropped_pages p sid d s) p in resides p.residents (place_change images p pid sid b next at (Resize d s)).residents n sh.residents h.0
-change_resides images p pid sid b next at (Fork child) n (inl c) = begun p.residents child at n (inl c)
-change_resides images p pid sid b next at (Fork child) n (inr h) = begun p.residents child at n (inr h.0)
-change_resides images p pid sid b next at (Lend child) n (inl c) = begun p.residents child at n (inl c)
-change_resides images p pid sid b next at (Lend child) n (inr h) = begun p.residents child at n (inr h.0)
-change_resides images p pid sid b next at (Exec image top) n (inr h) =
-    let p1 : Placement = enter_image p next image (facts_numbered images image) in
-    let g : Gone p1 (give_up_unless b p1 sid) b sid = gone_unless b p1 sid in
-    resides p.residents (give_up_unless b p1 sid).residents n (g.residents ∙ entered (facts_numbered images image)) h.0
+change_resides : (who : Changing) (p : Placement) (change : Change) (n : ℕ)
+    → IsChild change n ⊎ (IsResident p n × Lasting change who.pid n)
+    → IsResident (place_change who p change) n
+change_resides who p (Resize d s) n (inr h) = let sh : Shaped p (drop_all p (dropped_pages p who.sid d s)) =
+    drop_all_shaped (dropped_pages p who.sid d s) p in resides p.residents (place_change who p (Resize d s)).residents n sh.residents h.0
+change_resides who p (Fork child) n (inl c) = begun p.residents child who.at n (inl c)
+change_resides who p (Fork child) n (inr h) = begun p.residents child who.at n (inr h.0)
+change_resides who p (Lend child) n (inl c) = begun p.residents child who.at n (inl c)
+change_resides who p (Lend child) n (inr h) = begun p.residents child who.at n (inr h.0)
+change_resides who p (Exec image top) n (inr h) =
+    let p1 : Placement = enter_image p who.next_sid image (facts_numbered who.images image) in
+    let g : Gone p1 (give_up_unless who.borrowed p1 who.sid) who.borrowed who.sid = gone_unless who.borrowed p1 who.sid in
+    resides p.residents (give_up_unless who.borrowed p1 who.sid).residents n (g.residents ∙ entered (facts_numbered who.images image)) h.0
   where
-    entered : (o : Option Image) → (enter_image p next image o).residents ≡ p.residents
+    entered : (o : Option Image) → (enter_image p who.next_sid image o).residents ≡ p.residents
     entered None = refl
     entered (Some facts) = refl
-change_resides images p pid sid b next at _ n (inl c) = absurd c
-change_resides images p pid sid b next at (End status) n (inr h) =
-    let g : Gone p (give_up_unless b p sid) b sid = gone_unless b p sid in
-    λ z. h.0 (ap (numbered here n) (sym g.residents) ∙ ended_none (give_up_unless b p sid).residents pid n h.1 z)
-change_resides images p pid sid b next at _ n (inr h) = h.0
+change_resides who p _ n (inl c) = absurd c
+change_resides who p (End status) n (inr h) =
+    let g : Gone p (give_up_unless who.borrowed p who.sid) who.borrowed who.sid = gone_unless who.borrowed p who.sid in
+    λ z. h.0 (ap (numbered here n) (sym g.residents) ∙ ended_none (give_up_unless who.borrowed p who.sid).residents who.pid n h.1 z)
+change_resides who p _ n (inr h) = h.0
 
 pub one_each : (ps : List Proc) → AllDistinct (map (λ (p : Proc). p.pid) ps) → OneEach ps
 one_each [] d = tt
@@ -177,7 +176,7 @@ lived ps x next n change a o e = elim (child_or change n) [
 pub change_reside : (images : List Image) (k : Kernel) (x : Proc) (e : Entry) (change : Change) → lives k.processes x.pid ≡ true
     → AllDistinct (map (λ (p : Proc). p.pid) k.processes) → EachResides k
     → EachResides (change_by images k x e change)
-change_reside images k x e change a d r = λ n l. change_resides images k.place x.pid (space_of_life x.life) (gave_back x.life) k.next_sid (length (append k.journal e)) change n
+change_reside images k x e change a d r = λ n l. change_resides (changing_of images k x e) k.place change n
     (elim (lived k.processes x k.next_sid n change a (one_each k.processes d) l) [
       | inl c ↦ inl c
       | inr h ↦ inr (r n h.0, h.1)

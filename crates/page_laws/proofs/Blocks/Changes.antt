@@ -13,7 +13,7 @@ use Rattle.flat_state.specs.PageNames.{number_of, pages_from}
 use Rattle.vm_facts.specs.Lists.{times, without}
 use Rattle.page_model.specs.Placement.{Placement, Due, space_number, slots_of, slot_of, state_of, sharers, sharers_in, image_of, IsThere, new_pages, spaces_with}
 use Rattle.page_model.specs.Moves.{drop_at, drop_page, drop_all, leave_by, leave_page, leave_all, listed, listed_of}
-use Rattle.page_model.specs.Place.{child_slot, fork_space, enter_space, enter_image, give_up_unless, place_change, cut_space, resize, data_count, stack_count, data_from, stack_from, remove_space, pages_of_space, pages_of_text, leave_text, leave_text_by, give_up, facts_numbered}
+use Rattle.page_model.specs.Place.{Changing, child_slot, fork_space, enter_space, enter_image, give_up_unless, place_change, cut_space, resize, data_count, stack_count, data_from, stack_from, remove_space, pages_of_space, pages_of_text, leave_text, leave_text_by, give_up, facts_numbered}
 use Rattle.page_model.specs.Conditions.{CanForget, MayForget, EachPage, AtRest, HasImage}
 use Rattle.page_model.specs.Ownership.{IsAside, TextAside}
 use Rattle.page_laws.proofs.Lists.Frames.{times_one}
@@ -351,21 +351,21 @@ enter_image_aside : (p : Placement) (sid image : ℕ) (facts : Option Image) →
 enter_image_aside p sid image None a = a
 enter_image_aside p sid image (Some facts) a = add_aside p (new_pages sid image facts) (enter_space p sid image facts).due a
 
-pub place_change_aside : (images : List Image) (p : Placement) (pid sid : ℕ) (borrowed : Bool) (next_sid at : ℕ) (change : Change) → TextAside p
-    → MayForget images p sid borrowed next_sid change
-    → TextAside (place_change images p pid sid borrowed next_sid at change)
-place_change_aside images p pid sid borrowed next_sid at (Resize d s) a c = resize_aside p sid d s a
-place_change_aside images p pid sid borrowed next_sid at (Fork child) a c = λ i n z. let k = add_aside p (record {
-  sid = next_sid;
-  image = image_of p sid;
-  data_pages = map child_slot (slots_of p (Data sid 0));
-  stack_pages = map child_slot (slots_of p (Stack sid 0));
-}) (fork_space p sid next_sid).due a i n z in record { unsaved = k.unsaved; rests = k.rests }
-place_change_aside images p pid sid borrowed next_sid at (Lend child) a c = λ i n z. let k = a i n z in record { unsaved = k.unsaved; rests = k.rests }
-place_change_aside images p pid sid borrowed next_sid at (Exec image top) a c =
-    give_up_unless_aside borrowed (enter_image p next_sid image (facts_numbered images image)) sid (enter_image_aside p next_sid image (facts_numbered images image) a) c
-place_change_aside images p pid sid borrowed next_sid at (End status) a c = λ i n z. let k = give_up_unless_aside borrowed p sid a c i n z in record { unsaved = k.unsaved; rests = k.rests }
-place_change_aside images p pid sid borrowed next_sid at _ a c = a
+pub place_change_aside : (who : Changing) (p : Placement) (change : Change) → TextAside p
+    → MayForget who.images p who.sid who.borrowed who.next_sid change
+    → TextAside (place_change who p change)
+place_change_aside who p (Resize d s) a c = resize_aside p who.sid d s a
+place_change_aside who p (Fork child) a c = λ i n z. let k = add_aside p (record {
+  sid = who.next_sid;
+  image = image_of p who.sid;
+  data_pages = map child_slot (slots_of p (Data who.sid 0));
+  stack_pages = map child_slot (slots_of p (Stack who.sid 0));
+}) (fork_space p who.sid who.next_sid).due a i n z in record { unsaved = k.unsaved; rests = k.rests }
+place_change_aside who p (Lend child) a c = λ i n z. let k = a i n z in record { unsaved = k.unsaved; rests = k.rests }
+place_change_aside who p (Exec image top) a c =
+    give_up_unless_aside who.borrowed (enter_image p who.next_sid image (facts_numbered who.images image)) who.sid (enter_image_aside p who.next_sid image (facts_numbered who.images image) a) c
+place_change_aside who p (End status) a c = λ i n z. let k = give_up_unless_aside who.borrowed p who.sid a c i n z in record { unsaved = k.unsaved; rests = k.rests }
+place_change_aside who p _ a c = a
 
 pub leave_text_length : (p : Placement) (image : ℕ) (w : Page) → length (slots_of (leave_text p image) w) ≡ length (slots_of p w)
 leave_text_length p image w = go (sharers p image)

@@ -8,7 +8,7 @@ use Rattle.page_model.specs.Pages.{Slot, no_slot, data_in, stack_in}
 use Rattle.flat_state.specs.PageNames.{number_of, same_page}
 use Rattle.page_model.specs.Placement.{Placement, Due, Start, CopyOf, due_of_page, filling_by, slots_of, slot_of, sharers, image_of}
 use Rattle.page_model.specs.Moves.{touch, drop_all, leave_page, leave_all}
-use Rattle.page_model.specs.Place.{data_count, stack_count, data_from, stack_from, fork_space, enter_space, enter_image, remove_space, pages_of_space, pages_of_text, leave_text, leave_text_by, give_up, give_up_unless, place_change, facts_numbered}
+use Rattle.page_model.specs.Place.{Changing, data_count, stack_count, data_from, stack_from, fork_space, enter_space, enter_image, remove_space, pages_of_space, pages_of_text, leave_text, leave_text_by, give_up, give_up_unless, place_change, facts_numbered}
 use Rattle.page_model.specs.Conditions.{EachPage, IsNew, CanChange, ApartFrom}
 use Rattle.page_model.specs.PageBytes.{IsWritable}
 use Rattle.page_model.specs.Dues.{HasSource, IsDue, DueStand}
@@ -140,12 +140,12 @@ exec_due true p next image sid (Some facts) e new a = enter_due p next image fac
 exec_due false p next image sid (Some facts) e new a = given_due (enter_space p next image facts) sid (λ q d h. start_others sid next q d (a refl) h) (enter_due p next image facts new)
 
 -- A change that comes while nothing is due.
-pub change_due : (images : List Image) (p : Placement) (pid sid : ℕ) (borrowed : Bool) (next at : ℕ) (change : Change) → p.due ≡ []
-    → CanChange p sid borrowed next change
-    → ApartFrom sid borrowed next change → DueStand (place_change images p pid sid borrowed next at change)
-change_due images p pid sid borrowed next at (Resize d s) e c a = none_due (place_change images p pid sid borrowed next at (Resize d s)) ((drop_all_rest (dropped_pages p sid d s) p).1 ∙ e)
-change_due images p pid sid borrowed next at (Fork child) e c a = resident_due (fork_space p sid next) (place_change images p pid sid borrowed next at (Fork child)).residents (fork_due p sid next c)
-change_due images p pid sid borrowed next at (Lend child) e c a = none_due (place_change images p pid sid borrowed next at (Lend child)) e
-change_due images p pid sid borrowed next at (Exec image top) e c a = exec_due borrowed p next image sid (facts_numbered images image) e c.0 a
-change_due images p pid sid borrowed next at (End status) e c a = none_due (place_change images p pid sid borrowed next at (End status)) (unless_due borrowed p sid ∙ e)
-change_due images p pid sid borrowed next at _ e c a = none_due p e
+pub change_due : (who : Changing) (p : Placement) (change : Change) → p.due ≡ []
+    → CanChange p who.sid who.borrowed who.next_sid change
+    → ApartFrom who.sid who.borrowed who.next_sid change → DueStand (place_change who p change)
+change_due who p (Resize d s) e c a = none_due (place_change who p (Resize d s)) ((drop_all_rest (dropped_pages p who.sid d s) p).1 ∙ e)
+change_due who p (Fork child) e c a = resident_due (fork_space p who.sid who.next_sid) (place_change who p (Fork child)).residents (fork_due p who.sid who.next_sid c)
+change_due who p (Lend child) e c a = none_due (place_change who p (Lend child)) e
+change_due who p (Exec image top) e c a = exec_due who.borrowed p who.next_sid image who.sid (facts_numbered who.images image) e c.0 a
+change_due who p (End status) e c a = none_due (place_change who p (End status)) (unless_due who.borrowed p who.sid ∙ e)
+change_due who p _ e c a = none_due p e

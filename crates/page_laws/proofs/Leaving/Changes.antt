@@ -12,7 +12,7 @@ use Rattle.flat_state.specs.declared.change.Change.TheVariants.{Resize, Fork, Ex
 use Rattle.page_model.specs.Pages.{Slot, no_slot, SpacePages, frame_of, numbered, changed, data_in, stack_in}
 use Rattle.page_model.specs.Placement.{Placement, space_number, slots_of, slot_of, state_of, image_of, sharers, put}
 use Rattle.page_model.specs.Moves.{drop_all, touch, touch_all, turn, listed, leave_by, leave_page, leave_all}
-use Rattle.page_model.specs.Place.{cut_space, resize, data_count, stack_count, data_from, stack_from, child_slot, fork_space, facts_numbered}
+use Rattle.page_model.specs.Place.{Changing, cut_space, resize, data_count, stack_count, data_from, stack_from, child_slot, fork_space, facts_numbered}
 use Rattle.page_model.specs.Place.{remove_space, pages_of_space, pages_of_text, leave_text, leave_text_by, give_up, give_up_unless, enter_image, place_change}
 use Rattle.page_model.specs.Conditions.{EachPage, IsNew}
 use Rattle.vm_facts.specs.Pages.{is_of_space}
@@ -225,20 +225,20 @@ enter_frame : (p : Placement) (sid image : ℕ) (facts : Option Image) (w : Page
 enter_frame p sid image None w n = refl
 enter_frame p sid image (Some facts) w n = ap frame_of (enter_alike p sid image facts n w).0
 
-pub change_frame : (images : List Image) (p : Placement) (pid sid : ℕ) (borrowed : Bool) (next_sid at : ℕ) (change : Change) (w : Page) → IsNew p next_sid
-    → StaysOrGoes p (place_change images p pid sid borrowed next_sid at change) w (IsGivenUp sid borrowed change w)
-change_frame images p pid sid borrowed next_sid at (Resize d s) w n = resize_frame p sid d s w
-change_frame images p pid sid borrowed next_sid at (Fork child) w n = inl (ap frame_of (add_alike p (record {
-  sid = next_sid;
-  image = image_of p sid;
-  data_pages = map child_slot (slots_of p (Data sid 0));
-  stack_pages = map child_slot (slots_of p (Stack sid 0));
-}) (fork_space p sid next_sid).due n (child_blank (slots_of p (Data sid 0))) (child_blank (slots_of p (Stack sid 0))) w).0)
-change_frame images p pid sid borrowed next_sid at (Exec image top) w n =
-    let e : page_frame (enter_image p next_sid image (facts_numbered images image)) w ≡ page_frame p w = enter_frame p next_sid image (facts_numbered images image) w n in
-    elim (unless_frame borrowed (enter_image p next_sid image (facts_numbered images image)) sid w) [
+pub change_frame : (c : Changing) (p : Placement) (change : Change) (w : Page) → IsNew p c.next_sid
+    → StaysOrGoes p (place_change c p change) w (IsGivenUp c.sid c.borrowed change w)
+change_frame c p (Resize d s) w n = resize_frame p c.sid d s w
+change_frame c p (Fork child) w n = inl (ap frame_of (add_alike p (record {
+  sid = c.next_sid;
+  image = image_of p c.sid;
+  data_pages = map child_slot (slots_of p (Data c.sid 0));
+  stack_pages = map child_slot (slots_of p (Stack c.sid 0));
+}) (fork_space p c.sid c.next_sid).due n (child_blank (slots_of p (Data c.sid 0))) (child_blank (slots_of p (Stack c.sid 0))) w).0)
+change_frame c p (Exec image top) w n =
+    let e : page_frame (enter_image p c.next_sid image (facts_numbered c.images image)) w ≡ page_frame p w = enter_frame p c.next_sid image (facts_numbered c.images image) w n in
+    elim (unless_frame c.borrowed (enter_image p c.next_sid image (facts_numbered c.images image)) c.sid w) [
       | inl h ↦ inl (h ∙ e)
       | inr h ↦ inr h
     ]
-change_frame images p pid sid borrowed next_sid at (End status) w n = unless_frame borrowed p sid w
-change_frame images p pid sid borrowed next_sid at _ w n = inl refl
+change_frame c p (End status) w n = unless_frame c.borrowed p c.sid w
+change_frame c p _ w n = inl refl

@@ -10,7 +10,7 @@ use Rattle.flat_state.specs.declared.change.Change.TheVariants.{Resize, Fork, Le
 use Rattle.page_model.specs.Pages.{Slot, frame_of}
 use Rattle.page_model.specs.Placement.{Placement, slots_of, slot_of, state_of, mark_of, image_of}
 use Rattle.page_model.specs.Moves.{drop_all, touch, touch_to, touch_all}
-use Rattle.page_model.specs.Place.{resize, child_slot, fork_space, give_up, give_up_unless, enter_image, place_change, facts_numbered}
+use Rattle.page_model.specs.Place.{Changing, resize, child_slot, fork_space, give_up, give_up_unless, enter_image, place_change, facts_numbered}
 use Rattle.page_model.specs.Conditions.{IsNew}
 use Rattle.page_model.specs.Ownership.{is_marked_dirty}
 use Rattle.vm_facts.specs.Pages.{is_of_space}
@@ -98,23 +98,23 @@ enter_dirty : (p : Placement) (sid image : ℕ) (facts : Option Image) (w : Page
 enter_dirty p sid image None w f n h = h
 enter_dirty p sid image (Some facts) w f n h = alike_dirty p (enter_image p sid image (Some facts)) w f (enter_alike p sid image facts n w) h
 
-pub change_dirty : (images : List Image) (p : Placement) (pid sid : ℕ) (borrowed : Bool) (next_sid at : ℕ) (change : Change) (w : Page) (f : ℕ)
-    → IsNew p next_sid → IsDirtyIn p w f
-    → IsDirtyIn (place_change images p pid sid borrowed next_sid at change) w f ⊎ IsGivenUp sid borrowed change w
-change_dirty images p pid sid borrowed next_sid at (Resize d s) w f n h = resize_dirty p sid d s w f h
-change_dirty images p pid sid borrowed next_sid at (Fork child) w f n h =
-    let k = alike_dirty p (fork_space p sid next_sid) w f (add_alike p (record {
-      sid = next_sid;
-      image = image_of p sid;
-      data_pages = map child_slot (slots_of p (Data sid 0));
-      stack_pages = map child_slot (slots_of p (Stack sid 0));
-    }) (fork_space p sid next_sid).due n (child_blank (slots_of p (Data sid 0))) (child_blank (slots_of p (Stack sid 0))) w) h in
+pub change_dirty : (c : Changing) (p : Placement) (change : Change) (w : Page) (f : ℕ)
+    → IsNew p c.next_sid → IsDirtyIn p w f
+    → IsDirtyIn (place_change c p change) w f ⊎ IsGivenUp c.sid c.borrowed change w
+change_dirty c p (Resize d s) w f n h = resize_dirty p c.sid d s w f h
+change_dirty c p (Fork child) w f n h =
+    let k = alike_dirty p (fork_space p c.sid c.next_sid) w f (add_alike p (record {
+      sid = c.next_sid;
+      image = image_of p c.sid;
+      data_pages = map child_slot (slots_of p (Data c.sid 0));
+      stack_pages = map child_slot (slots_of p (Stack c.sid 0));
+    }) (fork_space p c.sid c.next_sid).due n (child_blank (slots_of p (Data c.sid 0))) (child_blank (slots_of p (Stack c.sid 0))) w) h in
     inl (record { frame = k.frame; dirty = k.dirty })
-change_dirty images p pid sid borrowed next_sid at (Lend child) w f n h = inl (record { frame = h.frame; dirty = h.dirty })
-change_dirty images p pid sid borrowed next_sid at (Exec image top) w f n h =
-    unless_dirty borrowed (enter_image p next_sid image (facts_numbered images image)) sid w f (enter_dirty p next_sid image (facts_numbered images image) w f n h)
-change_dirty images p pid sid borrowed next_sid at (End status) w f n h = elim (unless_dirty borrowed p sid w f h) [
+change_dirty c p (Lend child) w f n h = inl (record { frame = h.frame; dirty = h.dirty })
+change_dirty c p (Exec image top) w f n h =
+    unless_dirty c.borrowed (enter_image p c.next_sid image (facts_numbered c.images image)) c.sid w f (enter_dirty p c.next_sid image (facts_numbered c.images image) w f n h)
+change_dirty c p (End status) w f n h = elim (unless_dirty c.borrowed p c.sid w f h) [
   | inl k ↦ inl (record { frame = k.frame; dirty = k.dirty })
   | inr k ↦ inr k
 ]
-change_dirty images p pid sid borrowed next_sid at _ w f n h = inl h
+change_dirty c p _ w f n h = inl h

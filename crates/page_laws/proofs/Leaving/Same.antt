@@ -10,7 +10,7 @@ use Rattle.flat_state.specs.PageNames.{number_of}
 use Rattle.flat_state.specs.declared.change.Change.{Change}
 use Rattle.page_model.specs.Frames.{at_frame}
 use Rattle.page_model.specs.Placement.{Placement}
-use Rattle.page_model.specs.Place.{moved, place_change}
+use Rattle.page_model.specs.Place.{Changing, moved, place_change}
 use Rattle.page_model.specs.Conditions.{IsNew}
 use Rattle.page_model.specs.Ownership.{owner_of}
 use Rattle.page_model.specs.PageBytes.{Bytes, bytes_in, SamePage, SameBytes}
@@ -19,13 +19,12 @@ use Rattle.page_laws.proofs.Lists.Local.{none_some}
 use Rattle.std.proofs.lemmas.Option.{same_Some}
 use Rattle.page_laws.proofs.Blocks.Places.{stored_other}
 use Rattle.page_laws.proofs.Leaving.Changes.{change_frame}
-use Rattle.aout_image.specs.declared.Image.{Image}
 
-pub change_same : (images : List Image) (p : Placement) (pid sid : ℕ) (borrowed : Bool) (next_sid at : ℕ) (change : Change) (b c : Bytes) (w : Page)
-    → IsNew p next_sid → SameBytes b c w
-    → SamePage p (place_change images p pid sid borrowed next_sid at change) b c w
-change_same images p pid sid borrowed next_sid at change b c w n s = record {
-  frames = λ f g e k. elim (change_frame images p pid sid borrowed next_sid at change w n) [
+pub change_same : (who : Changing) (p : Placement) (change : Change) (b c : Bytes) (w : Page)
+    → IsNew p who.next_sid → SameBytes b c w
+    → SamePage p (place_change who p change) b c w
+change_same who p change b c w n s = record {
+  frames = λ f g e k. elim (change_frame who p change w n) [
     | inl h ↦ ap (λ (xs : List (List ℕ)). at_frame xs g []) s.frames ∙ ap (bytes_in b) (same_Some g f (sym k ∙ h ∙ e))
     | inr h ↦ none_some g (sym h.0 ∙ k)
   ];

@@ -10,7 +10,7 @@ use Rattle.flat_state.specs.declared.change.Change.TheVariants.{Resize, Fork, Le
 use Rattle.flat_state.specs.PageNames.{number_of, pages_from}
 use Rattle.page_model.specs.Placement.{Placement, state_of}
 use Rattle.page_model.specs.Moves.{fill, touch_all}
-use Rattle.page_model.specs.Place.{filled, moved, data_from, stack_from, data_count, stack_count, give_up_unless, enter_image, fork_space, place_change, place_entry, place_step, space_of_process, facts_numbered}
+use Rattle.page_model.specs.Place.{Changing, changing_in, filled, moved, data_from, stack_from, data_count, stack_count, give_up_unless, enter_image, fork_space, place_change, place_entry, place_step, space_of_process, facts_numbered}
 use Rattle.flat_state.specs.Change.{is_borrower}
 use Rattle.page_model.specs.Reading.{source_for}
 use Rattle.page_model.specs.Conditions.{AtRest, AllAtRest, CanEnter, IsNew, IsSettled, LosesPages, CanPlace, CanChange}
@@ -68,20 +68,20 @@ enter_settled p next_sid image sid (Some facts) o n k = record {
   stack_rests = λ v. subst AtRest (sym ((Rattle.page_laws.proofs.Ownership.Changes.enter_alike p next_sid image facts n (Stack sid v)).0)) (k.stack_rests v);
 }
 
-pub place_change_owner : (images : List Image) (p : Placement) (pid sid : ℕ) (borrowed : Bool) (next_sid at : ℕ) (change : Change) → OwnsFrames p
-    → CanChange p sid borrowed next_sid change
-    → OwnsFrames (place_change images p pid sid borrowed next_sid at change)
-place_change_owner images p pid sid borrowed next_sid at (Resize d s) o c = resize_owner p sid d s o (lost_from p sid d s c)
-place_change_owner images p pid sid borrowed next_sid at (Fork child) o c = begin_residence_owner (fork_space p sid next_sid) child at (fork_owner p sid next_sid o c)
-place_change_owner images p pid sid borrowed next_sid at (Lend child) o c = begin_residence_owner p child at o
-place_change_owner images p pid sid borrowed next_sid at (Exec image top) o c =
-    give_up_unless_owner borrowed (enter_image p next_sid image (facts_numbered images image)) sid (enter_image_owner p next_sid image (facts_numbered images image) o c.0)
-    (λ e. enter_settled p next_sid image sid (facts_numbered images image) o c.0 (c.1 e))
-place_change_owner images p pid sid borrowed next_sid at (End status) o c = end_residence_owner (give_up_unless borrowed p sid) pid (give_up_unless_owner borrowed p sid o c)
-place_change_owner images p pid sid borrowed next_sid at _ o c = o
+pub place_change_owner : (who : Changing) (p : Placement) (change : Change) → OwnsFrames p
+    → CanChange p who.sid who.borrowed who.next_sid change
+    → OwnsFrames (place_change who p change)
+place_change_owner who p (Resize d s) o c = resize_owner p who.sid d s o (lost_from p who.sid d s c)
+place_change_owner who p (Fork child) o c = begin_residence_owner (fork_space p who.sid who.next_sid) child who.at (fork_owner p who.sid who.next_sid o c)
+place_change_owner who p (Lend child) o c = begin_residence_owner p child who.at o
+place_change_owner who p (Exec image top) o c =
+    give_up_unless_owner who.borrowed (enter_image p who.next_sid image (facts_numbered who.images image)) who.sid (enter_image_owner p who.next_sid image (facts_numbered who.images image) o c.0)
+    (λ e. enter_settled p who.next_sid image who.sid (facts_numbered who.images image) o c.0 (c.1 e))
+place_change_owner who p (End status) o c = end_residence_owner (give_up_unless who.borrowed p who.sid) who.pid (give_up_unless_owner who.borrowed p who.sid o c)
+place_change_owner who p _ o c = o
 
 pub place_step_owner : (images : List Image) (flat : FlatState) (pid at : ℕ) (written : List Page) (change : Change) (p : Placement) → OwnsFrames p
     → CanChange (touch_all p written) (space_of_process (process_of flat pid)) (is_borrower flat.processes pid) flat.next_sid change
     → OwnsFrames (place_step images flat pid at written change p)
 place_step_owner images flat pid at written change p o c =
-    place_change_owner images (touch_all p written) pid (space_of_process (process_of flat pid)) (is_borrower flat.processes pid) flat.next_sid at change (touch_all_owner written p o) c
+    place_change_owner (changing_in images flat pid at) (touch_all p written) change (touch_all_owner written p o) c

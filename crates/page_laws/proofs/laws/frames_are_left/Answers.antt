@@ -7,7 +7,7 @@ use Rattle.page_laws.proofs.laws.frames_are_left.Goals as goal
 pub returns : goal.returns
 returns c = record {
   entry = entry_frame;
-  change = λ images p pid sid next at lent. change_frame images p pid sid lent next at;
-  dirty = λ images p pid sid next at f lent x q. change_dirty images p pid sid lent next at x q f;
+  change = change_frame;
+  dirty = change_dirty;
   written = entry_held;
 }

@@ -14,5 +14,5 @@ returns c = record {
   write = touch_same;
   residence = residence_same;
   u_page = λ size pid hs image bytes. out_same size hs image bytes pid;
-  change = λ images p pid sid next at lent. change_same images p pid sid lent next at;
+  change = change_same;
 }
