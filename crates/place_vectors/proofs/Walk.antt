@@ -11,7 +11,7 @@ use Rattle.page_model.specs.Placement.{Placement, Starting, start_placement}
 use Rattle.page_model.specs.Moves.{touch_all}
 use Rattle.page_model.specs.Hands.{wants_moves}
 use Rattle.page_model.specs.Serve.{serve_unit}
-use Rattle.page_model.specs.Place.{place_entry, place_change, facts_of}
+use Rattle.page_model.specs.Place.{Changing, place_entry, place_change, facts_of}
 use Rattle.page_model.specs.Swapper.{Runner, Choice, swap_choice, put_out_unit}
 
 -- Short words for the placements.
@@ -106,7 +106,7 @@ walk images (PutsOut at pid sid ∷ rest) p =
 walk images (Choose runners ∷ rest) p = Chose (swap_choice p runners) ∷ walk images rest p
 walk images (Wants ∷ rest) p = Moves (wants_moves p) ∷ walk images rest p
 walk images (Step pid sid borrowed next_sid at written change ∷ rest) p =
-    let c = record { images = facts_of images; pid = pid; sid = sid; borrowed = borrowed; next_sid = next_sid; at = at } in
+    let c : Changing = record { images = facts_of images; pid = pid; sid = sid; borrowed = borrowed; next_sid = next_sid; at = at } in
     walk images rest (place_change c (touch_all p written) change)
 
 -- the units and choices alone
