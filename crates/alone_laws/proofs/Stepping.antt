@@ -10,7 +10,7 @@ use Rattle.user_vax.specs.Effects.{Effect}
 use Rattle.user_vax.specs.declared.refused.Refused.{Refused}
 use Rattle.user_vax.specs.declared.refused.Refused.TheVariants.{Miss, Below, Signal}
 use Rattle.flat_state.specs.Space.{Space, puts}
-use Rattle.flat_state.specs.Flat.{Holds, Process, FlatState, NamedImage, Inputs, process_of, can_step}
+use Rattle.flat_state.specs.Flat.{Holds, Process, FlatState, NamedImage, Inputs, process_of}
 use Rattle.flat_state.specs.Numbers.{IsNumbered}
 use Rattle.flat_state.specs.declared.change.Change.TheVariants.{Keep, Resize}
 use Rattle.flat_state.specs.Change.{resized, changed_by, changed_if, apply_change, wrote_by, wrote_if, apply_writes}
@@ -20,7 +20,8 @@ use Rattle.flat_model.specs.declared.calls.SystemCall.{SystemCall}
 use Rattle.flat_model.specs.Calls.{call_of}
 use Rattle.flat_model.specs.Instruction.{instruction_in}
 use Rattle.flat_model.specs.Step.{Step, data_pages_of, pages_down_to, replied_step, reply_behind, called_step, step_behind, step_of, flat_step}
-use Rattle.flat_model.specs.Run.{Point, is_refused, step_at, behind_first, due, due_at, first_if, entry_of_step, behind, point_after, same_entry, same_as, process_of_entry, may_follow, where_so, flat_entry_of, flat_entry_if, flat_entry_by, flat_entry, flat_units}
+use Rattle.flat_model.specs.Run.{Point, is_refused, step_at, behind_first, due, due_at, behind, point_after, same_entry, is_first_of, process_of_entry, may_follow, ComesAt, led_to, flat_entry, flat_units}
+use Rattle.flat_model.proofs.Coming.{Came, came, stands}
 use Rattle.flat_laws.proofs.Numbers.{step_numbered}
 use Rattle.run_laws.proofs.Others.{number_of_found}
 use Rattle.economy_laws.proofs.Idle.{found_after}
@@ -64,22 +65,22 @@ record Stepped (S : Step) (pid : ℕ) (o : Belongings) : Type 0 where
 
 -- what the first entry that is due is, where it is plain
 abbrev FirstPlain : List Entry → Entry → Type 0
-FirstPlain es u = (b : Bool) → same_as (first_if b es) u ≡ true → makes_no_call u ≡ true → ⊥
+FirstPlain es u = is_first_of es u ≡ true → makes_no_call u ≡ true → ⊥
 
 never_plain : (e u : Entry) (es : List Entry) → makes_no_call e ≡ false → FirstPlain (e ∷ es) u
-never_plain (entries.Ran p n) u es k b h i = absurd cc
-never_plain (entries.Grew p n) u es k b h i = absurd cc
-never_plain e (entries.Ran p n) es k true h i = other e k h
+never_plain (entries.Ran p n) u es k h i = absurd cc
+never_plain (entries.Grew p n) u es k h i = absurd cc
+never_plain e (entries.Ran p n) es k h i = other e k h
   where
     other : (x : Entry) → makes_no_call x ≡ false → same_entry x (entries.Ran p n) ≡ true → ⊥
     other (entries.Ran q m) k h = absurd cc
     other _ k h = absurd cc
-never_plain e (entries.Grew p n) es k true h i = other e k h
+never_plain e (entries.Grew p n) es k h i = other e k h
   where
     other : (x : Entry) → makes_no_call x ≡ false → same_entry x (entries.Grew p n) ≡ true → ⊥
     other (entries.Grew q m) k h = absurd cc
     other _ k h = absurd cc
-never_plain e _ es k b h i = absurd cc
+never_plain e _ es k h i = absurd cc
 
 replied_never : (images : List NamedImage) (F : FlatState) (p : Process) (call : SystemCall) (effect : Effect) (reply : Reply) (u : Entry) → FirstPlain
     (replied_step images F p call effect reply).entries u
@@ -96,10 +97,10 @@ called_never images F p s refused effect None u = never_plain _ u [] refl
 called_never images F p s refused effect (Some call) u = replied_never images F p call effect (reply_behind images F p s refused call effect) u
 
 -- a step whose first entry is plain is the next own step
-stepped_own : (images : List NamedImage) (F : FlatState) (pid : ℕ) (p : Process) (s : Space) (r : Result Effect Refused) (o : Belongings) (u : Entry) (b : Bool)
+stepped_own : (images : List NamedImage) (F : FlatState) (pid : ℕ) (p : Process) (s : Space) (r : Result Effect Refused) (o : Belongings) (u : Entry)
     → process_of F pid ≡ Some p → p.holding ≡ Holds s → p.regs ≡ o.regs → p.asleep ≡ false → s ≡ o.space → instruction_in s p.regs ≡ r
-    → same_as (first_if b (step_of images F p s false r).entries) u ≡ true → makes_no_call u ≡ true → Stepped (step_of images F p s false r) pid o
-stepped_own images F pid p s r o u b here holds regs awake space is first plain = go r is first
+    → is_first_of (step_of images F p s false r).entries u ≡ true → makes_no_call u ≡ true → Stepped (step_of images F p s false r) pid o
+stepped_own images F pid p s r o u here holds regs awake space is first plain = go r is first
   where
     n : p.pid ≡ pid
     n = number_of_found F.processes pid p here
@@ -108,7 +109,7 @@ stepped_own images F pid p s r o u b here holds regs awake space is first plain 
     own_is x i =
         ap (λ (t : Space). own_behind t o.regs (instruction_in t o.regs)) (sym space) ∙ ap (λ (g : Regs). own_behind s g (instruction_in s g)) (sym regs) ∙ ap (own_behind s p.regs) i
 
-    ran : (effect : Effect) (c : Option ℤ) → effect.call ≡ c → instruction_in s p.regs ≡ Ok effect → same_as (first_if b (step_behind images F p s false effect c).entries) u ≡ true
+    ran : (effect : Effect) (c : Option ℤ) → effect.call ≡ c → instruction_in s p.regs ≡ Ok effect → is_first_of (step_behind images F p s false effect c).entries u ≡ true
         → Stepped (step_behind images F p s false effect c) pid o
     ran effect None e i f =
         let wrote = wrote_own F pid p s effect.writes here holds in
@@ -127,7 +128,7 @@ stepped_own images F pid p s r o u b here holds regs awake space is first plain 
           entry = _;
           one = refl;
         }
-    ran effect (Some number) e i f = absurd (called_never images F p s false effect (call_of number) u b f plain)
+    ran effect (Some number) e i f = absurd (called_never images F p s false effect (call_of number) u f plain)
 
     grown : (address : ℕ) → instruction_in s p.regs ≡ Err (Below address) → Stepped (step_of images F p s false (Err (Below address))) pid o
     grown address i =
@@ -148,27 +149,18 @@ stepped_own images F pid p s r o u b here holds regs awake space is first plain 
           one = refl;
         }
 
-    none : (c : Bool) → same_as (first_if c []) u ≡ true → ⊥
-    none true h = absurd cc
-    none false h = absurd cc
+    none : is_first_of [] u ≡ true → ⊥
+    none h = absurd cc
 
-    go : (x : Result Effect Refused) → instruction_in s p.regs ≡ x → same_as (first_if b (step_of images F p s false x).entries) u ≡ true → Stepped (step_of images F p s false x) pid o
+    go : (x : Result Effect Refused) → instruction_in s p.regs ≡ x → is_first_of (step_of images F p s false x).entries u ≡ true → Stepped (step_of images F p s false x) pid o
     go (Ok effect) i f = ran effect effect.call refl i f
-    go (Err (Miss address write)) i f = absurd (none b f)
+    go (Err (Miss address write)) i f = absurd (none f)
     go (Err (Below address)) i f = grown address i
-    go (Err (Signal number)) i f = absurd (never_plain _ u [] refl b f plain)
+    go (Err (Signal number)) i f = absurd (never_plain _ u [] refl f plain)
 
 -- ---- a unit
 
 -- what is due after it is left where it was
-where_is : (b : Bool) (p q : Point) → where_so b p ≡ Some q → (b ≡ true) × (p ≡ q)
-where_is true p q e = (refl, same_Some p q e)
-where_is false p q e = absurd cc
-
-if_is : (b : Bool) (A : Inputs) (p q : Point) (pid : ℕ) (u : Entry) → flat_entry_if b A p pid u ≡ Some q → (b ≡ true) × (flat_entry_of A p pid u ≡ Some q)
-if_is true A p q pid u e = (refl, e)
-if_is false A p q pid u e = absurd cc
-
 -- after an entry of a process the flat state is that before, or that after its step
 data Leads (A : Inputs) (p q : Point) (pid : ℕ) : Type 0 where
   Stays : q.flat ≡ p.flat → Leads A p q pid
@@ -187,9 +179,9 @@ behind_leads A p q pid [] d e = Stays (ap (λ (x : Point). x.flat) (sym e))
 behind_leads A p q pid (x ∷ []) d e = Steps (ap (λ (y : Point). y.flat) (sym e)) (some_entries p.last pid (step_at A p pid).entries x d)
 behind_leads A p q pid (x ∷ y ∷ es) d e = Stays (ap (λ (z : Point). z.flat) (sym e))
 
-leads : (A : Inputs) (p q : Point) (pid : ℕ) (u : Entry) → flat_entry_of A p pid u ≡ Some q → Leads A p q pid
-leads A p q pid (entries.Refused n) e = Stays (ap (λ (x : Point). x.flat) (sym (where_is (can_step p.flat pid) (record p { last = Some (entries.Refused n) }) q e).1))
-leads A p q pid u e = behind_leads A p q pid (due_at A p pid) refl (where_is (same_as (entry_of_step A p pid) u) (point_after A p pid) q e).1
+leads : (A : Inputs) (p q : Point) (pid : ℕ) (u : Entry) → led_to A p pid u ≡ q → Leads A p q pid
+leads A p q pid (entries.Refused n) e = Stays (ap (λ (x : Point). x.flat) (sym e))
+leads A p q pid u e = behind_leads A p q pid (due_at A p pid) refl e
 
 -- a plain entry may follow where nothing of a step is there yet
 open_due : (o : Option Entry) (pid : ℕ) (u : Entry) → may_follow o u ≡ true → makes_no_call u ≡ true → (is_refused o pid ≡ false) ×
@@ -204,16 +196,16 @@ open_due _ pid u m i = (refl, λ es. refl)
 
 -- a plain one of the process is its next own step
 unit_own : (A : Inputs) (p q : Point) (u : Entry) (pid : ℕ) (o : Belongings) → HasBelongings p.flat pid o → may_follow p.last u ≡ true → makes_no_call u ≡ true
-    → same_as (entry_of_step A p pid) u ≡ true → point_after A p pid ≡ q → (own : Belongings) × ((own_step (Some o) ≡ Some own) × HasBelongings q.flat pid own)
+    → is_first_of (due_at A p pid) u ≡ true → point_after A p pid ≡ q → (own : Belongings) × ((own_step (Some o) ≡ Some own) × HasBelongings q.flat pid own)
 unit_own A p q u pid o h follows plain same is =
     let open_is = open_due p.last pid u follows plain in
     let st : step_at A p pid ≡ step_of A.images p.flat h.process o.space false (instruction_in o.space (let x : Process = h.process in x.regs)) =
     ap (flat_step A p.flat pid) open_is.0 ∙ step_is A p.flat pid false h.process o.space h.here h.holds in
     let due_is : due_at A p pid ≡ (step_of A.images p.flat h.process o.space false (instruction_in o.space (let x : Process = h.process in x.regs))).entries =
     open_is.1 (step_at A p pid).entries ∙ ap (λ (S : Step). S.entries) st in
-    let first = ap (λ (es : List Entry). same_as (first_if (can_step p.flat pid) es) u) (sym due_is) ∙ same in
+    let first = ap (λ (es : List Entry). is_first_of es u) (sym due_is) ∙ same in
     let x : Stepped (step_of A.images p.flat h.process o.space false (instruction_in o.space (let x : Process = h.process in x.regs))) pid o =
-    stepped_own A.images p.flat pid h.process o.space (instruction_in o.space (let x : Process = h.process in x.regs)) o u (can_step p.flat pid) h.here h.holds h.regs h.awake refl refl first plain in
+    stepped_own A.images p.flat pid h.process o.space (instruction_in o.space (let x : Process = h.process in x.regs)) o u h.here h.holds h.regs h.awake refl refl first plain in
     let flat : q.flat ≡ (step_of A.images p.flat h.process o.space false (instruction_in o.space (let x : Process = h.process in x.regs))).after =
     ap (λ (y : Point). y.flat) (sym is) ∙ ap (λ (es : List Entry). (behind p (step_at A p pid).after es).flat) (due_is ∙ x.one) ∙ ap (λ (S : Step). S.after) st in
     (x.own, (x.steps, subst (λ (F : FlatState). HasBelongings F pid x.own) (sym flat) x.has))
@@ -232,12 +224,11 @@ unit_numbered A p q of nums (Stays e) = subst IsNumbered (sym e) nums
 unit_numbered A p q of nums (Steps e some) = subst IsNumbered (sym e) (step_numbered A p.flat of (is_refused p.last of) nums)
 
 -- a plain entry isn't a refusal
-plain_of : (A : Inputs) (p q : Point) (pid : ℕ) (u : Entry) → makes_no_call u ≡ true → flat_entry_of A p pid u ≡ Some q
-    → (same_as (entry_of_step A p pid) u ≡ true) ×
-    (point_after A p pid ≡ q)
-plain_of A p q pid (entries.Ran n m) i e = where_is (same_as (entry_of_step A p pid) (entries.Ran n m)) (point_after A p pid) q e
-plain_of A p q pid (entries.Grew n m) i e = where_is (same_as (entry_of_step A p pid) (entries.Grew n m)) (point_after A p pid) q e
-plain_of A p q pid _ i e = absurd cc
+plain_of : (A : Inputs) (p q : Point) (pid : ℕ) (u : Entry) → makes_no_call u ≡ true → Came A p q pid u
+    → (is_first_of (due_at A p pid) u ≡ true) × (point_after A p pid ≡ q)
+plain_of A p q pid (entries.Ran n m) i c = let d : ComesAt A p pid (entries.Ran n m) = c.comes in (d.next, c.leads)
+plain_of A p q pid (entries.Grew n m) i c = let d : ComesAt A p pid (entries.Grew n m) = c.comes in (d.next, c.leads)
+plain_of A p q pid _ i c = absurd cc
 
 -- ---- units in a row
 
@@ -252,35 +243,32 @@ more_steps n o r F pid e c = record {
 no_steps : (n : ℕ) (o : Belongings) (F : FlatState) (pid : ℕ) → ComesAlone n o F pid → ComesAlone (0 + n) o F pid
 no_steps n o F pid c = subst (λ (m : ℕ). ComesAlone m o F pid) (let z : n ≡ 0 + n = omega arith in z) c
 
-entered : (A : Inputs) (p q : Point) (u : Entry) → flat_entry A p u ≡ Some q → flat_entry_by A p (process_of_entry u) u ≡ Some q
-unfolding flat_entry
-entered A p q u k = k
-
 pub runs_alone : RunsAsAlone
 unfolding flat_units
 runs_alone A from to [] pid o nums h none e = record { own = o; steps_to = refl; has = subst (λ (p : Point). HasBelongings p.flat pid o) (same_Some from to e) h }
 runs_alone A from to (u ∷ us) pid o nums h none e = go (flat_entry A from u) refl e (λ p r n k f. runs_alone A p to us pid r n k none.1 f)
   where
-    by : (p : Point) (x : Option ℕ) → process_of_entry u ≡ x → flat_entry_by A from x u ≡ Some p
+    by : (p : Point) (x : Option ℕ) → process_of_entry u ≡ x → flat_entry A from u ≡ Some p
         → ((r : Belongings) → IsNumbered p.flat → HasBelongings p.flat pid r → ComesAlone (steps_by pid us) r to.flat pid) → ComesAlone (cond (is_by pid x) 1 0 + steps_by pid us) o to.flat pid
     by p None i f more =
-        let same : from ≡ p = same_Some from p f in
+        let same : from ≡ p = same_Some from p (sym (stands A from u i) ∙ f) in
         no_steps (steps_by pid us) o to.flat pid (more o (subst (λ (q : Point). IsNumbered q.flat) same nums) (subst (λ (q : Point). HasBelongings q.flat pid o) same h))
     by p (Some n) i f more = at (n == pid) refl
       where
-        x : (may_follow from.last u ≡ true) × (flat_entry_of A from n u ≡ Some p)
-        x = if_is (may_follow from.last u) A from p n u f
+        x : Came A from p n u
+        x = came A from p n u i f
 
         at : (b : Bool) → (n == pid) ≡ b → ComesAlone (cond b 1 0 + steps_by pid us) o to.flat pid
         at true j =
             let same : n ≡ pid = eqb-true n pid j in
             let plain : makes_no_call u ≡ true = none.0 (ap (is_by pid) i ∙ j) in
-            let mine : flat_entry_of A from pid u ≡ Some p = ap (λ (m : ℕ). flat_entry_of A from m u) (sym same) ∙ x.1 in
+            let mine : Came A from p pid u = subst (λ (m : ℕ). Came A from p m u) same x in
+            let here : ComesAt A from pid u = mine.comes in
             let y = plain_of A from p pid u plain mine in
-            let z = unit_own A from p u pid o h x.0 plain y.0 y.1 in
-            more_steps (steps_by pid us) o z.0 to.flat pid (z.1).0 (more z.0 (unit_numbered A from p pid nums (leads A from p pid u mine)) (z.1).1)
+            let z = unit_own A from p u pid o h here.follows plain y.0 y.1 in
+            more_steps (steps_by pid us) o z.0 to.flat pid (z.1).0 (more z.0 (unit_numbered A from p pid nums (leads A from p pid u mine.leads)) (z.1).1)
         at false j =
-            let l : Leads A from p n = leads A from p n u x.1 in
+            let l : Leads A from p n = leads A from p n u x.leads in
             no_steps (steps_by pid us) o to.flat pid (more o (unit_numbered A from p n nums l)
             (unit_other A from p n pid o nums (λ same. absurd (let z : true ≡ false = sym (Rattle.std.proofs.Common.eq-eqb n pid same) ∙ j in cc)) h l))
 
@@ -288,4 +276,4 @@ runs_alone A from to (u ∷ us) pid o nums h none e = go (flat_entry A from u) r
         → ((p : Point) (r : Belongings) → IsNumbered p.flat → HasBelongings p.flat pid r → flat_units A (Some p) us ≡ Some to → ComesAlone (steps_by pid us) r to.flat pid)
         → ComesAlone (cond (is_by pid (process_of_entry u)) 1 0 + steps_by pid us) o to.flat pid
     go None i f more = absurd cc
-    go (Some p) i f more = by p (process_of_entry u) refl (entered A from p u i) (λ r n k. more p r n k f)
+    go (Some p) i f more = by p (process_of_entry u) refl i (λ r n k. more p r n k f)

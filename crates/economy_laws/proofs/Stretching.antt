@@ -23,7 +23,8 @@ use Rattle.page_laws.proofs.Moves.Transfers.{fill_count}
 use Rattle.page_laws.proofs.Moves.Units.{unit_is, served_valid}
 use Rattle.page_laws.proofs.Due.Entries.{serve_dues}
 use Rattle.run_laws.proofs.Distinct.{among_first}
-use Rattle.flat_model.specs.Run.{Point, process_of_entry, may_follow, is_outcome_of, is_call_of, flat_entry, flat_entry_by, flat_entry_if}
+use Rattle.flat_model.specs.Run.{Point, process_of_entry, may_follow, is_outcome_of, is_call_of, ComesAt}
+use Rattle.flat_model.proofs.Coming.{Came, came}
 use Rattle.run_model.specs.State.{State}
 use Rattle.flat_model.specs.Touched.{touched}
 use Rattle.run_model.specs.Wanted.{AllValid, before_absent, first_absent, wanted, locked_by, locked, Splits}
@@ -382,10 +383,6 @@ page_next A s u pid b n m q few r c r2 c2 l run w i =
 -- What a process does.
 
 -- after `Refused` and `Out` its next entry is counted
-may_be : (b : Bool) (A : Inputs) (point x : Point) (pid : ℕ) (u : Entry) → flat_entry_if b A point pid u ≡ Some x → b ≡ true
-may_be true A point x pid u h = refl
-may_be false A point x pid u h = absurd cc
-
 outcome_begins : (p : ℕ) (u : Entry) → is_outcome_of p u ≡ true → begins_stretch u ≡ true
 outcome_begins p (entries.Call a k b r0 r1) h = refl
 outcome_begins p (entries.Ended a k) h = refl
@@ -402,7 +399,6 @@ follow_begins _ u c h = absurd cc
 
 pub open_last : (A : Inputs) (s : State) (u : Entry) (pid : ℕ) → IsRun A s → next_unit A s ≡ Some u → process_of_entry u ≡ Some pid
     → begins_stretch u ≡ false → is_closed s.point.last ≡ false
-unfolding flat_entry
 open_last A s u pid r h e n = go (is_closed s.point.last) refl
   where
     f : Flows A s
@@ -411,7 +407,10 @@ open_last A s u pid r h e n = go (is_closed s.point.last) refl
     follows : may_follow s.point.last u ≡ true
     follows = elim (next_or A s u f.waits (kind_of A s u h)) [
       | inl k ↦ absurd (let z : None ≡ Some pid = sym k ∙ e in cc)
-      | inr k ↦ may_be (may_follow s.point.last u) A s.point (after A s u).point pid u (sym (ap (λ (o : Option ℕ). flat_entry_by A s.point o u) e) ∙ next_flat A s u f.says k)
+      | inr k ↦
+          let c : Came A s.point (after A s u).point pid u = came A s.point (after A s u).point pid u e (next_flat A s u f.says k) in
+          let d : ComesAt A s.point pid u = c.comes in
+          d.follows
     ]
 
     go : (b : Bool) → is_closed s.point.last ≡ b → b ≡ false

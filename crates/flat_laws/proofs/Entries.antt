@@ -1,13 +1,13 @@
 -- Which entry comes next is determined.
-use Rattle.std.proofs.Common.{◌≡◌, ℕ, ◌==◌, Bool, true, false, ◌&&◌, List, bytes_eq, Option, Some, None, refl, sym, ap, ◌∙◌, subst, if◌then◌else◌}
+use Rattle.std.proofs.Common.{◌≡◌, ℕ, ◌==◌, Bool, true, false, ◌&&◌, List, [], ◌∷◌, bytes_eq, Option, Some, None, refl, sym, ap, ◌∙◌, if◌then◌else◌}
 use Rattle.std.proofs.lemmas.Slice.Eq.{bytes_eq-Decides}
 use Rattle.std.proofs.lemmas.Bool.{eqb-true, and_parts}
-use Rattle.std.proofs.lemmas.Option.{same_Some}
 use Rattle.flat_state.specs.Flat.{FlatState, Inputs, can_step}
 use Rattle.vm_facts.specs.declared.entry.Entry.{Entry}
 use Rattle.vm_facts.specs.declared.entry.Entry.TheVariants as entries
 use Rattle.flat_model.specs.Step.{Step, flat_step}
-use Rattle.flat_model.specs.Run.{Point, is_refused, step_at, behind_first, due, due_at, first_if, entry_of_step, point_after, same_carry, same_entry, same_as, process_of_entry, may_follow, where_so, flat_entry_of, flat_entry_if, flat_entry_by, flat_entry}
+use Rattle.flat_model.specs.Run.{Point, is_refused, step_at, behind_first, due, due_at, first_if, entry_of_step, same_carry, same_entry, is_first_of, process_of_entry, is_due, ComesAt, flat_entry}
+use Rattle.flat_model.proofs.Coming.{came}
 use Rattle.flat_laws.specs.Others.{is_refusal, is_writing}
 
 -- By the state.
@@ -89,39 +89,19 @@ entry_is _ _ h = absurd cc
 
 -- An entry that may come next is the one that the step gives.
 
-record Comes (A : Inputs) (point p : Point) (pid : ℕ) (e : Entry) : Type 0 where
-  same : same_as (entry_of_step A point pid) e ≡ true
-  behind : point_after A point pid ≡ p
+due_first : (A : Inputs) (point : Point) (pid : ℕ) (e : Entry) → is_refusal e ≡ false → is_due A point pid e ≡ true
+    → is_first_of (due_at A point pid) e ≡ true
+due_first A point pid (entries.Refused q) plain h = absurd cc
+due_first A point pid e plain h = h
 
-of_where : (A : Inputs) (point p : Point) (pid : ℕ) (e : Entry) → where_so (same_as (entry_of_step A point pid) e) (point_after A point pid) ≡ Some p
-    → Comes A point p pid e
-of_where A point p pid e h = go (same_as (entry_of_step A point pid) e) refl h
-  where
-    go : (b : Bool) → same_as (entry_of_step A point pid) e ≡ b → where_so b (point_after A point pid) ≡ Some p → Comes A point p pid e
-    go true k l = record { same = k; behind = same_Some (point_after A point pid) p l }
-    go false k l = absurd cc
-
-of_if : (A : Inputs) (point p : Point) (pid : ℕ) (b : Bool) (e : Entry) → flat_entry_if b A point pid e ≡ Some p → flat_entry_of A point pid e ≡ Some p
-of_if A point p pid true e h = h
-of_if A point p pid false e h = absurd cc
-
-of_entry : (A : Inputs) (point p : Point) (pid : ℕ) (e : Entry) → is_refusal e ≡ false → flat_entry_of A point pid e ≡ Some p → Comes A point p pid e
-of_entry A point p pid (entries.Refused q) plain h = absurd cc
-of_entry A point p pid e plain h = of_where A point p pid e h
-
-comes : (A : Inputs) (point p : Point) (pid : ℕ) (e : Entry) → process_of_entry e ≡ Some pid → is_refusal e ≡ false → flat_entry A point e ≡ Some p
-    → Comes A point p pid e
-unfolding flat_entry
-comes A point p pid e of plain h =
-    let k : flat_entry_by A point (Some pid) e ≡ Some p = subst (λ (o : Option ℕ). flat_entry_by A point o e ≡ Some p) of h in
-    of_entry A point p pid e plain (of_if A point p pid (may_follow point.last e) e k)
-
-same_both : (wanted : Option Entry) (e f : Entry) → same_as wanted e ≡ true → same_as wanted f ≡ true → e ≡ f
-same_both None e f h k = absurd cc
-same_both (Some wanted) e f h k = sym (entry_is wanted e h) ∙ entry_is wanted f k
+same_first : (es : List Entry) (e f : Entry) → is_first_of es e ≡ true → is_first_of es f ≡ true → e ≡ f
+same_first [] e f h k = absurd cc
+same_first (first ∷ es) e f h k = sym (entry_is first e h) ∙ entry_is first f k
 
 pub one_entry : (A : Inputs) (point p q : Point) (pid : ℕ) (e f : Entry) → process_of_entry e ≡ Some pid → process_of_entry f ≡ Some pid
     → is_refusal e ≡ false → is_refusal f ≡ false
     → flat_entry A point e ≡ Some p → flat_entry A point f ≡ Some q → e ≡ f
 one_entry A point p q pid e f of_e of_f plain_e plain_f h k =
-    same_both (entry_of_step A point pid) e f (comes A point p pid e of_e plain_e h).same (comes A point q pid f of_f plain_f k).same
+    let x : ComesAt A point pid e = (came A point p pid e of_e h).comes in
+    let y : ComesAt A point pid f = (came A point q pid f of_f k).comes in
+    same_first (due_at A point pid) e f (due_first A point pid e plain_e x.next) (due_first A point pid f plain_f y.next)

@@ -1,16 +1,14 @@
 -- Each process has a number of its own, and so has each space, below the next ones.
-use Rattle.std.proofs.Common.{◌≡◌, ℕ, Bool, true, false, List, [], ◌∷◌, Option, Some, None, Result, Ok, Err, ℤ, refl, sym, ap, ◌∙◌, subst}
+use Rattle.std.proofs.Common.{◌≡◌, ℕ, Bool, true, false, List, [], Option, Some, None, Result, Ok, Err, ℤ, refl, sym, ap, ◌∙◌, subst}
 use Rattle.kernel_laws.proofs.Stands.Starts.{start_numbered}
 use Rattle.vm_facts.specs.Answers.{ByteWrite}
 use Rattle.flat_state.specs.Space.{Space, answers_of, puts}
-use Rattle.flat_state.specs.Flat.{Holding, Holds, Lends, Zombie, Process, FlatState, NamedImage, Inputs, process_of, can_step}
+use Rattle.flat_state.specs.Flat.{Holding, Holds, Lends, Zombie, Process, FlatState, NamedImage, Inputs, process_of}
 use Rattle.vm_facts.specs.declared.entry.Entry.{Entry}
-use Rattle.vm_facts.specs.declared.entry.Entry.TheVariants.{Refused}
 use Rattle.vm_facts.specs.declared.regs.Regs.{Regs}
 use Rattle.user_vax.specs.Effects.{Effect}
 use Rattle.user_vax.specs.declared.refused.Refused.{Refused as Refusal}
 use Rattle.user_vax.specs.declared.refused.Refused.TheVariants.{Miss, Below, Signal}
-use Rattle.flat_state.specs.Journal.{units_of}
 use Rattle.flat_state.specs.Change.{changed_by, changed_if, apply_change, apply_writes, wrote_by, wrote_if, NamesChild}
 use Rattle.flat_state.specs.Numbers.{AllDistinct, IsNumbered}
 use Rattle.kernel_laws.proofs.Flat.Numbers.{writes_numbered, changes_numbered}
@@ -22,7 +20,8 @@ use Rattle.flat_model.specs.declared.calls.SystemCall.{SystemCall}
 use Rattle.flat_model.specs.Calls.{call_of}
 use Rattle.flat_model.specs.Instruction.{instruction_in}
 use Rattle.flat_model.specs.Step.{step_of, step_behind, called_step, replied_step, step_holding, step_if, flat_step, written_process, reply_behind}
-use Rattle.flat_model.specs.Run.{Point, step_at, due_at, entry_of_step, behind, point_after, same_as, process_of_entry, may_follow, where_so, flat_entry_of, flat_entry_if, flat_entry_by, flat_entry, flat_units, flat_run, start_point}
+use Rattle.flat_model.specs.Run.{Point, flat_run}
+use Rattle.flat_model.proofs.Coming.{run_keeps}
 use Rattle.flat_laws.proofs.Finding.{pids}
 use Rattle.flat_laws.proofs.Replies.{ReplyFits, reply_fits}
 use Rattle.flat_laws.proofs.Others.{pids_written}
@@ -121,42 +120,5 @@ step_numbered A F of refused h = go (process_of F of)
 
 -- Runs.
 
-behind_numbered : (point : Point) (after : FlatState) (es : List Entry) → IsNumbered point.flat → IsNumbered after → IsNumbered (behind point after es).flat
-behind_numbered point after (e ∷ []) h k = k
-behind_numbered point after _ h k = h
-
-where_numbered : (b : Bool) (p q : Point) → where_so b p ≡ Some q → IsNumbered p.flat → IsNumbered q.flat
-where_numbered true p q e h = let same : p ≡ q = cc in subst (λ (x : Point). IsNumbered x.flat) same h
-where_numbered false p q e h = absurd cc
-
-of_numbered : (A : Inputs) (point q : Point) (pid : ℕ) (e : Entry) → flat_entry_of A point pid e ≡ Some q → IsNumbered point.flat → IsNumbered q.flat
-of_numbered A point q pid (Refused p) h k = where_numbered (can_step point.flat pid) (record point { last = Some (Refused p) }) q h k
-of_numbered A point q pid e h k =
-    where_numbered (same_as (entry_of_step A point pid) e) (point_after A point pid) q h
-    (behind_numbered point (step_at A point pid).after (due_at A point pid) k (step_numbered A point.flat pid (Rattle.flat_model.specs.Run.is_refused point.last pid) k))
-
-if_numbered : (b : Bool) (A : Inputs) (point q : Point) (pid : ℕ) (e : Entry) → flat_entry_if b A point pid e ≡ Some q → IsNumbered point.flat
-    → IsNumbered q.flat
-if_numbered true A point q pid e h k = of_numbered A point q pid e h k
-if_numbered false A point q pid e h k = absurd cc
-
-by_numbered : (A : Inputs) (point q : Point) (o : Option ℕ) (e : Entry) → flat_entry_by A point o e ≡ Some q → IsNumbered point.flat → IsNumbered q.flat
-by_numbered A point q None e h k = where_numbered true point q h k
-by_numbered A point q (Some pid) e h k = if_numbered (may_follow point.last e) A point q pid e h k
-
-entry_numbered : (A : Inputs) (point q : Point) (e : Entry) → flat_entry A point e ≡ Some q → IsNumbered point.flat → IsNumbered q.flat
-unfolding flat_entry
-entry_numbered A point q e h k = by_numbered A point q (process_of_entry e) e h k
-
-units_numbered : (A : Inputs) (us : List Entry) (point q : Point) → flat_units A (Some point) us ≡ Some q → IsNumbered point.flat → IsNumbered q.flat
-unfolding flat_units
-units_numbered A [] point q h k = where_numbered true point q h k
-units_numbered A (u ∷ us) point q h k = go (λ next l m. units_numbered A us next q l m) (flat_entry A point u) refl h
-  where
-    go : ((next : Point) → flat_units A (Some next) us ≡ Some q → IsNumbered next.flat → IsNumbered q.flat) → (o : Option Point) → flat_entry A point u ≡ o
-        → flat_units A o us ≡ Some q → IsNumbered q.flat
-    go later None e l = absurd cc
-    go later (Some next) e l = later next l (entry_numbered A point next u e k)
-
 pub run_numbered : (A : Inputs) (journal : List Entry) (point : Point) → flat_run A journal ≡ Some point → IsNumbered point.flat
-run_numbered A journal point h = units_numbered A (units_of journal) (start_point A) point h (start_numbered A)
+run_numbered A journal point h = run_keeps IsNumbered A journal point (λ F pid refused k. step_numbered A F pid refused k) (start_numbered A) h

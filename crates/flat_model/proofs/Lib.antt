@@ -1,3 +1,4 @@
+pub mod Coming
 pub mod Folds
 pub mod Gathering
 pub mod Idle

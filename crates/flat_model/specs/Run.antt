@@ -1,6 +1,6 @@
 -- A run of the flat machine: the fold of its steps over the flat entries of a journal, which is none where an
--- entry isn't the one that the step of its process gives.
-use Rattle.std.specs.Prelude.{ℕ, ◌==◌, Bool, true, false, ◌&&◌, List, [], ◌∷◌, bytes_eq, Option, Some, None, if◌then◌else◌}
+-- entry can't come at its point.
+use Rattle.std.specs.Prelude.{◌≡◌, ℕ, ◌==◌, Bool, true, false, ◌&&◌, List, [], ◌∷◌, bytes_eq, Option, Some, None, if◌then◌else◌}
 use Rattle.flat_state.specs.Flat.{FlatState, Inputs, start_state, can_step}
 use Rattle.vm_facts.specs.declared.entry.Entry.{Entry}
 use Rattle.vm_facts.specs.declared.entry.Entry.TheVariants.{Ran, Out, Grew, Call, Refused, Sleeps, Ended}
@@ -26,12 +26,13 @@ abbrev pub behind_first : List Entry → List Entry
 behind_first [] = []
 behind_first (e ∷ es) = es
 
--- the entries of a process's step that aren't there yet: after an `Out` of it the others
+-- the entries of a process's step that are still to come, after this last entry: after an `Out` of it, which is the
+-- first of its step, all but that, and else all
 abbrev pub due : Option Entry → ℕ → List Entry → List Entry
 due (Some (Out p bytes)) pid es = if p == pid then behind_first es else es
 due _ pid es = es
 
--- the entries of a process's next step that aren't there yet at a point
+-- the entries of a process's next step that are still to come at a point
 abbrev pub due_at : Inputs → Point → ℕ → List Entry
 due_at A point pid = due point.last pid (step_at A point pid).entries
 
@@ -45,7 +46,8 @@ first_if false es = None
 abbrev pub entry_of_step : Inputs → Point → ℕ → Option Entry
 entry_of_step A point pid = first_if (can_step point.flat pid) (due_at A point pid)
 
--- the point after the next of these entries: the step is complete with the last of them
+-- the point after the first of these entries, which are those that are still to come of a step: where it is the last
+-- one, the step is complete with it, and the flat state is the one after the step
 abbrev pub behind : Point → FlatState → List Entry → Point
 behind point after [] = point
 behind point after (e ∷ []) = record { flat = after; last = Some e }
@@ -71,10 +73,10 @@ same_entry (Sleeps p) (Sleeps q) = p == q
 same_entry (Ended p n) (Ended q m) = p == q && n == m
 same_entry _ _ = false
 
--- an entry is the one that is wanted; no entry is where none is wanted
-abbrev pub same_as : Option Entry → Entry → Bool
-same_as None e = false
-same_as (Some wanted) e = same_entry wanted e
+-- this entry is the first of these
+abbrev pub is_first_of : List Entry → Entry → Bool
+is_first_of [] e = false
+is_first_of (first ∷ es) e = same_entry first e
 
 -- the process of a flat entry; none for the others
 abbrev pub process_of_entry : Entry → Option ℕ
@@ -104,26 +106,37 @@ may_follow (Some (Refused p)) e = is_outcome_of p e
 may_follow (Some (Out p bytes)) e = is_call_of p e
 may_follow _ e = true
 
--- the point where something is so, or else none
-abbrev pub where_so : Bool → Point → Option Point
-where_so true point = Some point
-where_so false point = None
+-- an entry is the first that is still to come of a process's step. `Refused` is of no step: it may come before any
+abbrev pub is_due : Inputs → Point → ℕ → Entry → Bool
+is_due A point pid (Refused p) = true
+is_due A point pid e = is_first_of (due_at A point pid) e
 
--- the point after an entry of a process: the process can step, and the entry is the next one of its step, or says
--- that its pieces found no place
-abbrev pub flat_entry_of : Inputs → Point → ℕ → Entry → Option Point
-flat_entry_of A point pid (Refused p) = where_so (can_step point.flat pid) record point { last = Some (Refused p) }
-flat_entry_of A point pid e = where_so (same_as (entry_of_step A point pid) e) (point_after A point pid)
+-- an entry of this process comes at a point: it may follow the last one, the process can step, and the entry is due of
+-- its step
+abbrev pub comes_at : Inputs → Point → ℕ → Entry → Bool
+comes_at A point pid e = may_follow point.last e && (can_step point.flat pid && is_due A point pid e)
 
--- the point after an entry of a process, by whether it may follow the last one: none where it may not
-abbrev pub flat_entry_if : Bool → Inputs → Point → ℕ → Entry → Option Point
-flat_entry_if true A point pid e = flat_entry_of A point pid e
-flat_entry_if false A point pid e = None
+-- An entry of a process comes at a point: each condition of `comes_at` by its name. Where one of them fails, the entry
+-- is none of a run there.
+pub record ComesAt (A : Inputs) (point : Point) (pid : ℕ) (e : Entry) : Type 0 where
+  -- it is an entry of this process
+  pub process : process_of_entry e ≡ Some pid
+  -- after `Refused` it is the reply or the end of that process, and after `Out` the reply
+  pub follows : may_follow point.last e ≡ true
+  -- the process can step
+  pub steps : can_step point.flat pid ≡ true
+  -- the process's step still gives entries, and this is the first of them; or it is `Refused`
+  pub next : is_due A point pid e ≡ true
 
--- the point after a unit: the same where it isn't a flat entry
+-- the point to which an entry of a process leads; by `Refused` the flat state stays as it is
+abbrev pub led_to : Inputs → Point → ℕ → Entry → Point
+led_to A point pid (Refused p) = record point { last = Some (Refused p) }
+led_to A point pid e = point_after A point pid
+
+-- the point after a unit, by the process whose entry it is; the same where it is no process's
 abbrev pub flat_entry_by : Inputs → Point → Option ℕ → Entry → Option Point
 flat_entry_by A point None e = Some point
-flat_entry_by A point (Some pid) e = flat_entry_if (may_follow point.last e) A point pid e
+flat_entry_by A point (Some pid) e = if comes_at A point pid e then Some (led_to A point pid e) else None
 
 -- the point after a unit; none where the unit can't come at this point
 unfoldable pub flat_entry : Inputs → Point → Entry → Option Point

@@ -1,10 +1,10 @@
 -- The acts of a journal: they lead as far as it does, and all that is seen is among them.
-use Rattle.std.proofs.Common.{◌≡◌, ℕ, zero, suc, Bool, true, false, cond, List, [], ◌∷◌, filter, is_some, Option, Some, None, refl, sym, ap, ◌∙◌}
+use Rattle.std.proofs.Common.{◌≡◌, ℕ, zero, suc, Bool, false, ◌&&◌, cond, List, [], ◌∷◌, filter, is_some, Option, Some, None, refl, sym, ap, ◌∙◌, if◌then◌else◌}
 use Rattle.vm_facts.specs.declared.entry.Entry.{Entry}
 use Rattle.vm_facts.specs.declared.entry.Entry.TheVariants.{Ran, Out, Call, Refused, Ended, Hands}
 use Rattle.flat_state.specs.Flat.{FlatState, NamedImage, Inputs, process_of, can_step}
 use Rattle.flat_state.specs.Journal.{repeated, units_with, units_of}
-use Rattle.flat_model.specs.Run.{Point, is_refused, due, first_if, behind, same_as, process_of_entry, may_follow, where_so, flat_entry_of, flat_entry_if, flat_entry_by, flat_entry, flat_units}
+use Rattle.flat_model.specs.Run.{Point, is_refused, due, behind, is_first_of, process_of_entry, may_follow, is_due, comes_at, led_to, flat_entry_by, flat_entry, flat_units}
 use Rattle.flat_model.specs.Step.{Step, step_if, flat_step}
 use Rattle.flat_laws.specs.Others.{is_refusal}
 use Rattle.outcome_laws.specs.Visible.{is_visible, visible_of, is_act, acts_of, is_fork, HasNo}
@@ -100,23 +100,25 @@ step_same : (A B : Inputs) (F : FlatState) (pid : ℕ) (refused : Bool) → B.im
 unfolding flat_step
 step_same A B F pid refused h = ap (λ (images : List NamedImage). step_if images F refused (process_of F pid)) h
 
-entry_of_same : (A B : Inputs) (point : Point) (pid : ℕ) (e : Entry) → B.images ≡ A.images → flat_entry_of B point pid e ≡ flat_entry_of A point pid e
-entry_of_same A B point pid (Refused p) h = refl
-entry_of_same A B point pid e h =
-    ap (λ (s : Step). where_so (same_as (first_if (can_step point.flat pid) (due point.last pid s.entries)) e) (behind point s.after (due point.last pid s.entries)))
-    (step_same A B point.flat pid (is_refused point.last pid) h)
+due_same : (A B : Inputs) (point : Point) (pid : ℕ) (e : Entry) → B.images ≡ A.images → is_due B point pid e ≡ is_due A point pid e
+due_same A B point pid (Refused p) h = refl
+due_same A B point pid e h =
+    ap (λ (s : Step). is_first_of (due point.last pid s.entries) e) (step_same A B point.flat pid (is_refused point.last pid) h)
+
+led_same : (A B : Inputs) (point : Point) (pid : ℕ) (e : Entry) → B.images ≡ A.images → led_to B point pid e ≡ led_to A point pid e
+led_same A B point pid (Refused p) h = refl
+led_same A B point pid e h =
+    ap (λ (s : Step). behind point s.after (due point.last pid s.entries)) (step_same A B point.flat pid (is_refused point.last pid) h)
 
 entry_same : (A B : Inputs) (point : Point) (e : Entry) → B.images ≡ A.images → flat_entry B point e ≡ flat_entry A point e
 unfolding flat_entry
 entry_same A B point e h = go (process_of_entry e)
   where
-    if_so : (b : Bool) (pid : ℕ) → flat_entry_if b B point pid e ≡ flat_entry_if b A point pid e
-    if_so true pid = entry_of_same A B point pid e h
-    if_so false pid = refl
-
     go : (of : Option ℕ) → flat_entry_by B point of e ≡ flat_entry_by A point of e
     go None = refl
-    go (Some pid) = if_so (may_follow point.last e) pid
+    go (Some pid) =
+        ap (λ (b : Bool). if may_follow point.last e && (can_step point.flat pid && b) then Some (led_to B point pid e) else None) (due_same A B point pid e h)
+        ∙ ap (λ (q : Point). if comes_at A point pid e then Some q else None) (led_same A B point pid e h)
 
 pub units_same : (A B : Inputs) (us : List Entry) (o : Option Point) → B.images ≡ A.images → flat_units B o us ≡ flat_units A o us
 unfolding flat_units

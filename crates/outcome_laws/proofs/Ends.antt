@@ -16,10 +16,11 @@ use Rattle.flat_model.specs.declared.calls.SystemCall.{SystemCall}
 use Rattle.flat_model.specs.Calls.{call_of}
 use Rattle.flat_model.specs.Instruction.{instruction_in}
 use Rattle.flat_model.specs.Step.{Step, ended_step, step_of, step_behind, called_step, replied_step, step_holding, step_if, flat_step, reply_behind}
-use Rattle.flat_model.specs.Run.{Point, is_refused, step_at, behind_first, due, due_at, first_if, entry_of_step, behind, point_after, same_entry, same_as, process_of_entry, may_follow, flat_entry_of, flat_entry_if, flat_entry_by, flat_entry, flat_units}
+use Rattle.flat_model.specs.Run.{Point, is_refused, step_at, behind_first, due, due_at, behind, same_entry, is_first_of, process_of_entry, is_due, ComesAt, led_to, flat_entry, flat_units}
+use Rattle.flat_model.proofs.Coming.{Came, came}
 use Rattle.outcome_laws.specs.Visible.{is_visible, is_end, has_end}
 use Rattle.outcome_laws.proofs.Numbers.{Only, only_found, only_written, end_applied}
-use Rattle.outcome_laws.proofs.Steps.{of_where, point_where, only_entry}
+use Rattle.outcome_laws.proofs.Steps.{only_entry}
 use Rattle.outcome_laws.proofs.Acts.{ArePlainActs}
 use Rattle.outcome_laws.proofs.Comparing.{none_follows}
 
@@ -101,33 +102,26 @@ end_same e (entries.Ended p status) h k = go e h
     go _ l = absurd cc
 end_same e _ h k = absurd cc
 
-stops_point : (n : ℕ) (point : Point) (after : FlatState) (b : Bool) (es : List Entry) (e : Entry) → same_as (first_if b es) e ≡ true → is_end e ≡ true
+stops_point : (n : ℕ) (point : Point) (after : FlatState) (es : List Entry) (e : Entry) → is_first_of es e ≡ true → is_end e ≡ true
     → EndsWith es (can_step after n ≡ false) → can_step (behind point after es).flat n ≡ false
-stops_point n point after true [] e same end h = absurd cc
-stops_point n point after true (f ∷ []) e same end h = h (end_same f e same end)
-stops_point n point after true (f ∷ g ∷ es) e same end h = let both : true ≡ false = sym (end_same f e same end) ∙ h.0 in absurd cc
-stops_point n point after false es e same end h = absurd cc
+stops_point n point after [] e same end h = absurd cc
+stops_point n point after (f ∷ []) e same end h = h (end_same f e same end)
+stops_point n point after (f ∷ g ∷ es) e same end h = let both : true ≡ false = sym (end_same f e same end) ∙ h.0 in absurd cc
 
-stops_entry_of : (n : ℕ) (A : Inputs) (point q : Point) (pid : ℕ) (e : Entry) → flat_entry_of A point pid e ≡ Some q → is_end e ≡ true
-    → Only n point.flat.processes
-    → can_step q.flat n ≡ false
-stops_entry_of n A point q pid (entries.Ended p status) h end k =
-    let e : Entry = entries.Ended p status in
-    subst (λ (x : Point). can_step x.flat n ≡ false) (point_where (same_as (entry_of_step A point pid) e) (point_after A point pid) q h)
-    (stops_point n point (step_at A point pid).after (can_step point.flat pid) (due_at A point pid) e (of_where (same_as (entry_of_step A point pid) e) (point_after A point pid) q h) end
-    (due_ends point.last pid (step_at A point pid).entries (can_step (step_at A point pid).after n ≡ false) (stops_step n A point.flat pid (is_refused point.last pid) k)))
-stops_entry_of n A point q pid _ h end k = absurd cc
+stops_led : (n : ℕ) (A : Inputs) (point : Point) (pid : ℕ) (e : Entry) → is_due A point pid e ≡ true → is_end e ≡ true → Only n point.flat.processes
+    → can_step (led_to A point pid e).flat n ≡ false
+stops_led n A point pid (entries.Ended p status) due end k =
+    stops_point n point (step_at A point pid).after (due_at A point pid) (entries.Ended p status) due end
+    (due_ends point.last pid (step_at A point pid).entries (can_step (step_at A point pid).after n ≡ false) (stops_step n A point.flat pid (is_refused point.last pid) k))
+stops_led n A point pid _ due end k = absurd cc
 
 -- after the entry of its end a process can't step
 stops_entry : (n : ℕ) (A : Inputs) (point q : Point) (pid : ℕ) (e : Entry) → process_of_entry e ≡ Some pid → flat_entry A point e ≡ Some q → is_end e ≡ true
     → Only n point.flat.processes → can_step q.flat n ≡ false
-unfolding flat_entry
 stops_entry n A point q pid e of h end k =
-    go (may_follow point.last e) (subst (λ (o : Option ℕ). flat_entry_by A point o e ≡ Some q) of h)
-  where
-    go : (b : Bool) → flat_entry_if b A point pid e ≡ Some q → can_step q.flat n ≡ false
-    go true l = stops_entry_of n A point q pid e l end k
-    go false l = absurd cc
+    let c : Came A point q pid e = came A point q pid e of h in
+    let d : ComesAt A point pid e = c.comes in
+    subst (λ (x : Point). can_step x.flat n ≡ false) c.leads (stops_led n A point pid e d.next end k)
 
 -- Acts.
 

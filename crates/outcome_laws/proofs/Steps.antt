@@ -1,5 +1,5 @@
 -- A flat entry that is no fork's leaves each process with the one number.
-use Rattle.std.proofs.Common.{◌≡◌, ℕ, ◌==◌, Bool, true, false, ◌&&◌, List, [], ◌∷◌, Option, Some, None, Result, Ok, Err, ℤ, refl, ap, ◌∙◌, subst, if◌then◌else◌}
+use Rattle.std.proofs.Common.{◌≡◌, ℕ, ◌==◌, Bool, true, false, ◌&&◌, List, [], ◌∷◌, Option, Some, None, Result, Ok, Err, ℤ, refl, sym, ap, ◌∙◌, subst, if◌then◌else◌}
 use Rattle.std.proofs.lemmas.Bool.{eqb-true, and_parts}
 use Rattle.std.proofs.lemmas.Option.{same_Some}
 use Rattle.vm_facts.specs.Answers.{ByteWrite}
@@ -20,7 +20,8 @@ use Rattle.flat_model.specs.declared.calls.SystemCall.{SystemCall}
 use Rattle.flat_model.specs.Calls.{call_of}
 use Rattle.flat_model.specs.Instruction.{instruction_in}
 use Rattle.flat_model.specs.Step.{step_of, step_behind, called_step, replied_step, step_holding, step_if, flat_step, written_process, reply_behind}
-use Rattle.flat_model.specs.Run.{Point, is_refused, step_at, behind_first, due, due_at, first_if, entry_of_step, behind, point_after, same_carry, same_entry, same_as, process_of_entry, may_follow, where_so, flat_entry_of, flat_entry_if, flat_entry_by, flat_entry}
+use Rattle.flat_model.specs.Run.{Point, is_refused, step_at, behind_first, due, due_at, behind, same_carry, same_entry, is_first_of, process_of_entry, is_due, ComesAt, led_to, flat_entry}
+use Rattle.flat_model.proofs.Coming.{Came, came, stands}
 use Rattle.outcome_laws.specs.Visible.{is_fork_reply, is_fork}
 use Rattle.outcome_laws.proofs.Numbers.{Only, BringsNone, only_applied, only_written}
 use Rattle.outcome_laws.proofs.Children.{Spares, reply_spares}
@@ -85,14 +86,6 @@ only_stepped n A F pid refused k none = go (process_of F pid) none
 
 -- Entries.
 
-pub of_where : (b : Bool) (p q : Point) → where_so b p ≡ Some q → b ≡ true
-of_where true p q h = refl
-of_where false p q h = absurd cc
-
-pub point_where : (b : Bool) (p q : Point) → where_so b p ≡ Some q → p ≡ q
-point_where true p q h = same_Some p q h
-point_where false p q h = absurd cc
-
 -- entries that are the same are both a fork's, or neither is
 fork_same : (e f : Entry) → same_entry e f ≡ true → is_fork f ≡ false → is_fork e ≡ false
 fork_same (entries.Call a n c r0 r1) (entries.Call b m d s0 s1) h k =
@@ -116,59 +109,37 @@ last_due (Some (entries.Out p bytes)) pid es e h = go (p == pid) h
     go false l = ap ends_in_fork l
 last_due _ pid es e h = ap ends_in_fork h
 
-pub first_same : (b : Bool) (e f : Entry) → same_as (first_if b (e ∷ [])) f ≡ true → same_entry e f ≡ true
-first_same true e f h = h
-first_same false e f h = absurd cc
-
 only_point : (n : ℕ) (point : Point) (after : FlatState) (es : List Entry) → Only n point.flat.processes → ((e : Entry) → es ≡ e ∷ [] → Only n after.processes)
     → Only n (behind point after es).flat.processes
 only_point n point after (e ∷ []) k next = next e refl
 only_point n point after _ k next = k
 
-only_entry_of : (n : ℕ) (A : Inputs) (point q : Point) (pid : ℕ) (e : Entry) → flat_entry_of A point pid e ≡ Some q → is_fork e ≡ false
-    → Only n point.flat.processes → Only n q.flat.processes
-only_entry_of n A point q pid (entries.Refused p) h none k =
-    subst (λ (x : Point). Only n x.flat.processes) (point_where (can_step point.flat pid) (record point { last = Some (entries.Refused p) }) q h) k
-only_entry_of n A point q pid e h none k =
-    let same : same_as (entry_of_step A point pid) e ≡ true = of_where (same_as (entry_of_step A point pid) e) (point_after A point pid) q h in
-    subst (λ (x : Point). Only n x.flat.processes) (point_where (same_as (entry_of_step A point pid) e) (point_after A point pid) q h)
-    (only_point n point (step_at A point pid).after (due_at A point pid) k
+only_led : (n : ℕ) (A : Inputs) (point : Point) (pid : ℕ) (e : Entry) → is_due A point pid e ≡ true → is_fork e ≡ false → Only n point.flat.processes
+    → Only n (led_to A point pid e).flat.processes
+only_led n A point pid (entries.Refused p) due none k = k
+only_led n A point pid e due none k =
+    only_point n point (step_at A point pid).after (due_at A point pid) k
     (λ f one.
-    let is : same_entry f e ≡ true = first_same (can_step point.flat pid) f e (subst (λ (es : List Entry). same_as (first_if (can_step point.flat pid) es) e ≡ true) one same) in
-    only_stepped n A point.flat pid (is_refused point.last pid) k (last_due point.last pid (step_at A point pid).entries f one ∙ fork_same f e is none)))
-
-only_entry_if : (n : ℕ) (b : Bool) (A : Inputs) (point q : Point) (pid : ℕ) (e : Entry) → flat_entry_if b A point pid e ≡ Some q → is_fork e ≡ false
-    → Only n point.flat.processes
-    → Only n q.flat.processes
-only_entry_if n true A point q pid e h none k = only_entry_of n A point q pid e h none k
-only_entry_if n false A point q pid e h none k = absurd cc
+    let is : same_entry f e ≡ true = sym (ap (λ (es : List Entry). is_first_of es e) one) ∙ due in
+    only_stepped n A point.flat pid (is_refused point.last pid) k (last_due point.last pid (step_at A point pid).entries f one ∙ fork_same f e is none))
 
 pub only_entry : (n : ℕ) (A : Inputs) (point q : Point) (e : Entry) → flat_entry A point e ≡ Some q → is_fork e ≡ false → Only n point.flat.processes
     → Only n q.flat.processes
-unfolding flat_entry
-only_entry n A point q e h none k = go (process_of_entry e) h
+only_entry n A point q e h none k = go (process_of_entry e) refl
   where
-    go : (o : Option ℕ) → flat_entry_by A point o e ≡ Some q → Only n q.flat.processes
-    go None l = subst (λ (x : Point). Only n x.flat.processes) (same_Some point q l) k
-    go (Some pid) l = only_entry_if n (may_follow point.last e) A point q pid e l none k
+    go : (o : Option ℕ) → process_of_entry e ≡ o → Only n q.flat.processes
+    go None of = subst (λ (x : Point). Only n x.flat.processes) (same_Some point q (sym (stands A point e of) ∙ h)) k
+    go (Some pid) of =
+        let c : Came A point q pid e = came A point q pid e of h in
+        let d : ComesAt A point pid e = c.comes in
+        subst (λ (x : Point). Only n x.flat.processes) c.leads (only_led n A point pid e d.next none k)
 
 -- Who makes an entry.
-
-first_steps : (b : Bool) (es : List Entry) (e : Entry) → same_as (first_if b es) e ≡ true → b ≡ true
-first_steps true es e h = refl
-first_steps false es e h = absurd cc
-
-of_steps : (A : Inputs) (point q : Point) (pid : ℕ) (e : Entry) → flat_entry_of A point pid e ≡ Some q → can_step point.flat pid ≡ true
-of_steps A point q pid (entries.Refused p) h = of_where (can_step point.flat pid) (record point { last = Some (entries.Refused p) }) q h
-of_steps A point q pid e h = first_steps (can_step point.flat pid) (due_at A point pid) e (of_where (same_as (entry_of_step A point pid) e) (point_after A point pid) q h)
 
 -- the process of a flat entry can step
 pub entry_steps : (A : Inputs) (point q : Point) (pid : ℕ) (e : Entry) → process_of_entry e ≡ Some pid → flat_entry A point e ≡ Some q
     → can_step point.flat pid ≡ true
-unfolding flat_entry
 entry_steps A point q pid e of h =
-    go (may_follow point.last e) (subst (λ (o : Option ℕ). flat_entry_by A point o e ≡ Some q) of h)
-  where
-    go : (b : Bool) → flat_entry_if b A point pid e ≡ Some q → can_step point.flat pid ≡ true
-    go true l = of_steps A point q pid e l
-    go false l = absurd cc
+    let c : Came A point q pid e = came A point q pid e of h in
+    let d : ComesAt A point pid e = c.comes in
+    d.steps

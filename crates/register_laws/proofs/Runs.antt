@@ -1,13 +1,13 @@
--- Runs of the flat machine: what is so after each step is so after each entry; and there are no more processes than
--- instructions make.
-use Rattle.std.proofs.Common.{◌≡◌, ℕ, ◌+◌, ◌<◌, ◌≤◌, ◌^◌, ◌==◌, ◌&&◌, Bool, true, false, List, [], ◌∷◌, ◌++◌, length, Option, Some, None, Result, Ok, Err, ℤ, if◌then◌else◌, refl, ap, subst, arith}
+-- Runs of the flat machine: there are no more processes than instructions make.
+use Rattle.std.proofs.Common.{◌≡◌, ℕ, ◌+◌, ◌<◌, ◌≤◌, ◌^◌, ◌==◌, ◌&&◌, Bool, true, false, List, [], ◌∷◌, ◌++◌, length, Option, Some, None, Result, Ok, Err, ℤ, if◌then◌else◌, refl, sym, ap, ◌∙◌, subst, arith}
 use Rattle.std.proofs.lemmas.Bool.Decides.{nat_tests}
+use Rattle.std.proofs.lemmas.Option.{same_Some}
 use Rattle.vm_facts.specs.Answers.{ByteWrite}
 use Rattle.vm_facts.specs.declared.regs.Regs.{Regs}
 use Rattle.vm_facts.specs.declared.entry.Entry.{Entry}
 use Rattle.vm_facts.specs.declared.entry.Entry.TheVariants.{Ran, Out, Grew, Call, Refused, Sleeps, Ended}
 use Rattle.flat_state.specs.Space.{Space}
-use Rattle.flat_state.specs.Flat.{Holding, Holds, Lends, Zombie, Process, FlatState, NamedImage, Inputs, image_numbered, process_of, can_step}
+use Rattle.flat_state.specs.Flat.{Holding, Holds, Lends, Zombie, Process, FlatState, NamedImage, Inputs, image_numbered, process_of}
 use Rattle.flat_state.specs.declared.change.Change.{Change}
 use Rattle.flat_state.specs.declared.change.Change.TheVariants.{Keep, Resize, Fork, Lend, Exec, Sleep, End}
 use Rattle.flat_state.specs.Change.{with_process, given_back, orphaned, left, entered, changed, changed_by, changed_if, apply_change, apply_writes}
@@ -22,44 +22,14 @@ use Rattle.flat_model.specs.declared.calls.SystemCall.{SystemCall}
 use Rattle.flat_model.specs.Calls.{replied, call_of}
 use Rattle.flat_model.specs.Instruction.{instruction_in}
 use Rattle.flat_model.specs.Step.{data_pages_of, pages_down_to, out_entries, call_entry, replied_step, reply_behind, called_step, step_behind, step_of, step_holding, step_if, flat_step}
-use Rattle.flat_model.specs.Run.{Point, is_refused, step_at, due, behind_first, due_at, first_if, entry_of_step, behind, point_after, same_entry}
-use Rattle.flat_model.specs.Run.{same_as, process_of_entry, may_follow, where_so, flat_entry_of, flat_entry_if, flat_entry_by, flat_entry, flat_units, flat_run, start_point}
+use Rattle.flat_model.specs.Run.{Point, is_refused, step_at, due, behind_first, due_at, behind, same_entry, is_first_of, process_of_entry, is_due, ComesAt, led_to, flat_entry, flat_units, flat_run, start_point}
+use Rattle.flat_model.proofs.Coming.{Came, came, stands, entry_keeps}
 use Rattle.flat_laws.proofs.Numbers.{step_numbered}
 use Rattle.flat_laws.proofs.Starts.{start_numbered}
 use Rattle.run_model.proofs.After.{count_of_units}
 use Rattle.register_laws.specs.Longwords.{ProcessesFit, AllImages}
 use Rattle.register_laws.proofs.Registers.{start_regs_are}
 use Rattle.register_laws.proofs.Replying.{next_written, step_regs}
-
-behind_so : (P : FlatState → Type 0) (point : Point) (after : FlatState) (es : List Entry) → P point.flat → P after → P (behind point after es).flat
-behind_so P point after (e ∷ []) h k = k
-behind_so P point after _ h k = h
-
-where_is_so : (P : FlatState → Type 0) (b : Bool) (p q : Point) → where_so b p ≡ Some q → P p.flat → P q.flat
-where_is_so P true p q e h = let same : p ≡ q = cc in subst (λ (x : Point). P x.flat) same h
-where_is_so P false p q e h = absurd cc
-
-of_so : (P : FlatState → Type 0) (A : Inputs) (point q : Point) (pid : ℕ) (e : Entry)
-    → ((n : ℕ) (refused : Bool) → P (flat_step A point.flat n refused).after) → flat_entry_of A point pid e ≡ Some q → P point.flat → P q.flat
-of_so P A point q pid (Refused p) step h k = where_is_so P (can_step point.flat pid) (record point { last = Some (Refused p) }) q h k
-of_so P A point q pid e step h k =
-    where_is_so P (same_as (entry_of_step A point pid) e) (point_after A point pid) q h
-    (behind_so P point (step_at A point pid).after (due_at A point pid) k (step pid (is_refused point.last pid)))
-
-if_so : (P : FlatState → Type 0) (b : Bool) (A : Inputs) (point q : Point) (pid : ℕ) (e : Entry)
-    → ((n : ℕ) (refused : Bool) → P (flat_step A point.flat n refused).after) → flat_entry_if b A point pid e ≡ Some q → P point.flat → P q.flat
-if_so P true A point q pid e step h k = of_so P A point q pid e step h k
-if_so P false A point q pid e step h k = absurd cc
-
-by_so : (P : FlatState → Type 0) (A : Inputs) (point q : Point) (o : Option ℕ) (e : Entry)
-    → ((n : ℕ) (refused : Bool) → P (flat_step A point.flat n refused).after) → flat_entry_by A point o e ≡ Some q → P point.flat → P q.flat
-by_so P A point q None e step h k = where_is_so P true point q h k
-by_so P A point q (Some pid) e step h k = if_so P (may_follow point.last e) A point q pid e step h k
-
-pub entry_so : (P : FlatState → Type 0) (A : Inputs) (point q : Point) (e : Entry)
-    → ((n : ℕ) (refused : Bool) → P (flat_step A point.flat n refused).after) → flat_entry A point e ≡ Some q → P point.flat → P q.flat
-unfolding flat_entry
-entry_so P A point q e step h k = by_so P A point q (process_of_entry e) e step h k
 
 -- The number of the next process.
 
@@ -187,42 +157,28 @@ same_counted (Grew p n) (Grew q m) h = refl
 same_counted (Sleeps p) (Sleeps q) h = refl
 same_counted _ _ h = absurd cc
 
-where_next : (b : Bool) (p q : Point) → where_so b p ≡ Some q → (b ≡ true) × (p ≡ q)
-where_next true p q e = (refl, (let same : p ≡ q = cc in same))
-where_next false p q e = absurd cc
+next_of : (point : Point) (after : FlatState) (e : Entry) (es : List Entry) → Few point.flat.next_pid after.next_pid es → is_first_of es e ≡ true
+    → (behind point after es).flat.next_pid ≤ point.flat.next_pid + counted e
+next_of point after e [] h k = absurd cc
+next_of point after e (w ∷ []) h k = let c = same_counted w e k in omega (arith, h)
+next_of point after e (w ∷ f ∷ es) h k = omega arith
 
-next_of : (point q : Point) (after : FlatState) (e : Entry) (can : Bool) (es : List Entry) → Few point.flat.next_pid after.next_pid es
-    → where_so (same_as (first_if can es) e) (behind point after es) ≡ Some q
-    → q.flat.next_pid ≤ point.flat.next_pid + counted e
-next_of point q after e false es h k = absurd (let z = where_next false (behind point after es) q k in let y : false ≡ true = z.0 in cc)
-next_of point q after e true [] h k = absurd (let z = where_next false point q k in let y : false ≡ true = z.0 in cc)
-next_of point q after e true (w ∷ []) h k =
-    let z = where_next (same_entry w e) (record { flat = after; last = Some w }) q k in
-    let c = same_counted w e z.0 in
-    let n = ap (λ (x : Point). x.flat.next_pid) z.1 in
-    omega (arith, h)
-next_of point q after e true (w ∷ f ∷ es) h k =
-    let z = where_next (same_entry w e) (record point { last = Some w }) q k in
-    let n = ap (λ (x : Point). x.flat.next_pid) z.1 in
-    omega arith
-
-entry_of : (A : Inputs) (point q : Point) (pid : ℕ) (e : Entry) → flat_entry_of A point pid e ≡ Some q → q.flat.next_pid ≤ point.flat.next_pid + counted e
-entry_of A point q pid (Refused p) h = let z = where_next (can_step point.flat pid) (record point { last = Some (Refused p) }) q h in let n = ap (λ (x : Point). x.flat.next_pid) z.1 in omega arith
-entry_of A point q pid e h = next_of point q (step_at A point pid).after e (can_step point.flat pid) (due_at A point pid)
-    (due_few point.flat.next_pid (step_at A point pid).after.next_pid point.last pid (step_at A point pid).entries (step_few A point.flat pid (is_refused point.last pid))) h
-
-entry_if : (b : Bool) (A : Inputs) (point q : Point) (pid : ℕ) (e : Entry) → flat_entry_if b A point pid e ≡ Some q
-    → q.flat.next_pid ≤ point.flat.next_pid + counted e
-entry_if true A point q pid e h = entry_of A point q pid e h
-entry_if false A point q pid e h = absurd cc
-
-entry_by : (A : Inputs) (point q : Point) (o : Option ℕ) (e : Entry) → flat_entry_by A point o e ≡ Some q → q.flat.next_pid ≤ point.flat.next_pid + counted e
-entry_by A point q None e h = let n = ap (λ (x : Point). x.flat.next_pid) (let same : point ≡ q = cc in same) in omega arith
-entry_by A point q (Some pid) e h = entry_if (may_follow point.last e) A point q pid e h
+next_due : (A : Inputs) (point : Point) (pid : ℕ) (e : Entry) → is_due A point pid e ≡ true
+    → (led_to A point pid e).flat.next_pid ≤ point.flat.next_pid + counted e
+next_due A point pid (Refused p) k = omega arith
+next_due A point pid e k = next_of point (step_at A point pid).after e (due_at A point pid)
+    (due_few point.flat.next_pid (step_at A point pid).after.next_pid point.last pid (step_at A point pid).entries (step_few A point.flat pid (is_refused point.last pid))) k
 
 pub entry_next : (A : Inputs) (point q : Point) (e : Entry) → flat_entry A point e ≡ Some q → q.flat.next_pid ≤ point.flat.next_pid + counted e
-unfolding flat_entry
-entry_next A point q e h = entry_by A point q (process_of_entry e) e h
+entry_next A point q e h = go (process_of_entry e) refl
+  where
+    go : (o : Option ℕ) → process_of_entry e ≡ o → q.flat.next_pid ≤ point.flat.next_pid + counted e
+    go None none =
+        let n = ap (λ (x : Point). x.flat.next_pid) (same_Some point q (sym (stands A point e none) ∙ h)) in omega arith
+    go (Some pid) of =
+        let c : Came A point q pid e = came A point q pid e of h in
+        let d : ComesAt A point pid e = c.comes in
+        subst (λ (x : Point). x.flat.next_pid ≤ point.flat.next_pid + counted e) c.leads (next_due A point pid e d.next)
 
 -- Runs.
 
@@ -240,7 +196,7 @@ units_fit A (u ∷ us) point q w l h k = go (λ next m. units_fit A us next q w 
     go later None e m = absurd cc
     go later (Some next) e m =
         later next (let a = entry_next A point next u e in omega arith) m
-        (entry_so Fits A point next u (λ pid refused. (step_numbered A point.flat pid refused k.0, step_regs A point.flat pid refused w k.0 (omega arith) k.1)) e k)
+        (entry_keeps Fits A point next u (λ pid refused. (step_numbered A point.flat pid refused k.0, step_regs A point.flat pid refused w k.0 (omega arith) k.1)) e k)
 
 pub run_fits : (A : Inputs) (journal : List Entry) (point : Point) → AllImages A.images → length A.first + 1 + instructions_of journal < 2 ^ 32
     → flat_run A journal ≡ Some point → ProcessesFit point.flat.processes

@@ -9,7 +9,8 @@ use Rattle.vm_facts.specs.declared.entry.Entry.{Entry}
 use Rattle.vm_facts.specs.declared.entry.Entry.TheVariants as entries
 use Rattle.flat_state.specs.Journal.{units_of, units_with, repeated, instructions_of}
 use Rattle.flat_model.specs.Step.{flat_step}
-use Rattle.flat_model.specs.Run.{Point, is_refused, step_at, behind_first, due, due_at, first_if, entry_of_step, behind, point_after, same_entry, same_as, may_follow, where_so, flat_entry_of, flat_entry_if, flat_entry, flat_units, flat_run, start_point}
+use Rattle.flat_model.specs.Run.{Point, is_refused, step_at, behind_first, due, due_at, behind, same_entry, is_first_of, ComesAt, flat_entry, flat_units, flat_run, start_point}
+use Rattle.flat_model.proofs.Coming.{Came, came, IsOfStep, end_of_step}
 use Rattle.flat_model.specs.Touched.{touched}
 use Rattle.flat_model.proofs.StepEnds.{IsStepEnd, Shape, Empty, One, Two, step_shape}
 use Rattle.flat_machine.specs.Machine.{state_if}
@@ -27,23 +28,11 @@ due_cases (Some (entries.Out p bytes)) pid es = go (p == pid)
     go false = inl refl
 due_cases (Some e) pid es = inl refl
 
-can_of : (can : Bool) (left : List Entry) (u : Entry) → same_as (first_if can left) u ≡ true → can ≡ true
-can_of true left u h = refl
-can_of false left u h = absurd cc
+none_first : (left : List Entry) (u : Entry) → left ≡ [] → is_first_of left u ≡ true → ⊥
+none_first left u e h = let k : is_first_of [] u ≡ true = subst (λ (es : List Entry). is_first_of es u ≡ true) e h in cc
 
-none_first : (can : Bool) (left : List Entry) (u : Entry) → left ≡ [] → same_as (first_if can left) u ≡ true → ⊥
-none_first can left u e h = go can (subst (λ (es : List Entry). same_as (first_if can es) u ≡ true) e h)
-  where
-    go : (b : Bool) → same_as (first_if b []) u ≡ true → ⊥
-    go true k = cc
-    go false k = cc
-
-begins_so : (can : Bool) (left more : List Entry) (e u : Entry) → left ≡ e ∷ more → same_as (first_if can left) u ≡ true → same_entry e u ≡ true
-begins_so can left more e u is h = go can (subst (λ (es : List Entry). same_as (first_if can es) u ≡ true) is h)
-  where
-    go : (b : Bool) → same_as (first_if b (e ∷ more)) u ≡ true → same_entry e u ≡ true
-    go true k = k
-    go false k = absurd cc
+begins_so : (left more : List Entry) (e u : Entry) → left ≡ e ∷ more → is_first_of left u ≡ true → same_entry e u ≡ true
+begins_so left more e u is h = subst (λ (es : List Entry). is_first_of es u ≡ true) is h
 
 out_differs : (pid p : ℕ) (bytes : List ℕ) (u : Entry) → IsStepEnd pid u → same_entry (entries.Out p bytes) u ≡ true → ⊥
 out_differs pid p bytes (entries.Ran q n) ends h = cc
@@ -62,46 +51,19 @@ end_differs pid p bytes (entries.Ended q n) ends h = cc
 end_differs pid p bytes _ ends h = absurd ends
 
 -- the step is completed by its next entry
-record IsLast (pid : ℕ) (can : Bool) (left : List Entry) : Type 0 where
+record IsLast (pid : ℕ) (left : List Entry) : Type 0 where
   e : Entry
   only : left ≡ e ∷ []
   ends : IsStepEnd pid e
-  ready : can ≡ true
 
-last_of : (pid : ℕ) (can : Bool) (es left : List Entry) (u : Entry) → Shape pid es → (left ≡ es) ⊎ (left ≡ behind_first es) → IsStepEnd pid u
-    → same_as (first_if can left) u ≡ true → IsLast pid can left
-last_of pid can es left u (Empty e) (inl d) ends h = absurd (none_first can left u (d ∙ e) h)
-last_of pid can es left u (Empty e) (inr d) ends h = absurd (none_first can left u (d ∙ ap behind_first e) h)
-last_of pid can es left u (One x done e) (inl d) ends h = record { e = x; only = d ∙ e; ends = done; ready = can_of can left u h }
-last_of pid can es left u (One x done e) (inr d) ends h = absurd (none_first can left u (d ∙ ap behind_first e) h)
-last_of pid can es left u (Two bytes n c r0 r1 e) (inl d) ends h = absurd (out_differs pid pid bytes u ends (begins_so can left _ _ u (d ∙ e) h))
-last_of pid can es left u (Two bytes n c r0 r1 e) (inr d) ends h =
-    record { e = entries.Call pid n c r0 r1; only = d ∙ ap behind_first e; ends = refl; ready = can_of can left u h }
-
-if_taken : (b : Bool) (A : Inputs) (point : Point) (pid : ℕ) (u : Entry) (next : Point) → flat_entry_if b A point pid u ≡ Some next
-    → flat_entry_of A point pid u ≡ Some next
-if_taken true A point pid u next h = h
-if_taken false A point pid u next h = absurd cc
-
-so_taken : (b : Bool) (point next : Point) → where_so b point ≡ Some next → (b ≡ true) × (next ≡ point)
-so_taken true point next h = (refl, cc)
-so_taken false point next h = absurd cc
-
-entry_taken : (A : Inputs) (point : Point) (pid : ℕ) (u : Entry) (next : Point) → IsStepEnd pid u → flat_entry A point u ≡ Some next
-    → (same_as (entry_of_step A point pid) u ≡ true) × (next ≡ point_after A point pid)
-unfolding flat_entry
-entry_taken A point pid (entries.Ran p n) next ends h =
-    so_taken _ _ next (if_taken _ A point pid (entries.Ran p n) next (subst (λ (q : ℕ). flat_entry_if (may_follow point.last (entries.Ran p n)) A point q (entries.Ran p n) ≡ Some next) ends h))
-entry_taken A point pid (entries.Grew p n) next ends h =
-    so_taken _ _ next (if_taken _ A point pid (entries.Grew p n) next (subst (λ (q : ℕ). flat_entry_if (may_follow point.last (entries.Grew p n)) A point q (entries.Grew p n) ≡ Some next) ends h))
-entry_taken A point pid (entries.Call p n c r0 r1) next ends h =
-    so_taken _ _ next (if_taken _ A point pid (entries.Call p n c r0 r1) next
-    (subst (λ (q : ℕ). flat_entry_if (may_follow point.last (entries.Call p n c r0 r1)) A point q (entries.Call p n c r0 r1) ≡ Some next) ends h))
-entry_taken A point pid (entries.Sleeps p) next ends h =
-    so_taken _ _ next (if_taken _ A point pid (entries.Sleeps p) next (subst (λ (q : ℕ). flat_entry_if (may_follow point.last (entries.Sleeps p)) A point q (entries.Sleeps p) ≡ Some next) ends h))
-entry_taken A point pid (entries.Ended p n) next ends h =
-    so_taken _ _ next (if_taken _ A point pid (entries.Ended p n) next (subst (λ (q : ℕ). flat_entry_if (may_follow point.last (entries.Ended p n)) A point q (entries.Ended p n) ≡ Some next) ends h))
-entry_taken A point pid _ next ends h = absurd ends
+last_of : (pid : ℕ) (es left : List Entry) (u : Entry) → Shape pid es → (left ≡ es) ⊎ (left ≡ behind_first es) → IsStepEnd pid u
+    → is_first_of left u ≡ true → IsLast pid left
+last_of pid es left u (Empty e) (inl d) ends h = absurd (none_first left u (d ∙ e) h)
+last_of pid es left u (Empty e) (inr d) ends h = absurd (none_first left u (d ∙ ap behind_first e) h)
+last_of pid es left u (One x done e) (inl d) ends h = record { e = x; only = d ∙ e; ends = done }
+last_of pid es left u (One x done e) (inr d) ends h = absurd (none_first left u (d ∙ ap behind_first e) h)
+last_of pid es left u (Two bytes n c r0 r1 e) (inl d) ends h = absurd (out_differs pid pid bytes u ends (begins_so left _ _ u (d ∙ e) h))
+last_of pid es left u (Two bytes n c r0 r1 e) (inr d) ends h = record { e = entries.Call pid n c r0 r1; only = d ∙ ap behind_first e; ends = refl }
 
 unrefused : (pid : ℕ) (e : Entry) → IsStepEnd pid e → (q : ℕ) → is_refused (Some e) q ≡ false
 unrefused pid (entries.Ran p n) ends q = refl
@@ -119,40 +81,43 @@ record IsBeyond (A : Inputs) (point : Point) (pid : ℕ) (next : Point) : Type 0
 
 beyond : (A : Inputs) (point : Point) (pid : ℕ) (u : Entry) (next : Point) → IsStepEnd pid u → flat_entry A point u ≡ Some next → IsBeyond A point pid next
 beyond A point pid u next ends h =
-    let taken = entry_taken A point pid u next ends h in
-    let one = last_of pid (can_step point.flat pid) (step_at A point pid).entries (due_at A point pid) u (step_shape A point.flat pid (is_refused point.last pid))
-    (due_cases point.last pid (step_at A point pid).entries) ends taken.0 in
-    let is : next ≡ record { flat = (step_at A point pid).after; last = Some one.e } = taken.1 ∙ ap (behind point (step_at A point pid).after) one.only in
+    let o : IsOfStep A point pid u = end_of_step A point pid u ends in
+    let c : Came A point next pid u = came A point next pid u o.process h in
+    let d : ComesAt A point pid u = c.comes in
+    let one = last_of pid (step_at A point pid).entries (due_at A point pid) u (step_shape A point.flat pid (is_refused point.last pid))
+    (due_cases point.last pid (step_at A point pid).entries) ends (sym o.due ∙ d.next) in
+    let is : next ≡ record { flat = (step_at A point pid).after; last = Some one.e } =
+    sym c.leads ∙ o.led ∙ ap (behind point (step_at A point pid).after) one.only in
     record {
-      can = one.ready;
+      can = d.steps;
       flat = ap (λ (x : Point). x.flat) is;
       last = λ q. ap (λ (x : Point). is_refused x.last q) is ∙ unrefused pid one.e one.ends q;
     }
 
 -- The point after an `Out`.
 
-stays_by : (can : Bool) (p : ℕ) (bytes : List ℕ) (point : Point) (after : FlatState) (es left : List Entry) → Shape p es
+stays_by : (p : ℕ) (bytes : List ℕ) (point : Point) (after : FlatState) (es left : List Entry) → Shape p es
     → (left ≡ es) ⊎ (left ≡ behind_first es)
-    → same_as (first_if can left) (entries.Out p bytes) ≡ true → ((behind point after left).flat ≡ point.flat)
+    → is_first_of left (entries.Out p bytes) ≡ true → ((behind point after left).flat ≡ point.flat)
     × ((q : ℕ) → is_refused (behind point after left).last q ≡ false)
-stays_by can p bytes point after es left (Empty e) (inl d) h = absurd (none_first can left _ (d ∙ e) h)
-stays_by can p bytes point after es left (Empty e) (inr d) h = absurd (none_first can left _ (d ∙ ap behind_first e) h)
-stays_by can p bytes point after es left (One x done e) (inl d) h = absurd (end_differs p p bytes x done (begins_so can left [] x _ (d ∙ e) h))
-stays_by can p bytes point after es left (One x done e) (inr d) h = absurd (none_first can left _ (d ∙ ap behind_first e) h)
-stays_by can p bytes point after es left (Two written n c r0 r1 e) (inl d) h =
+stays_by p bytes point after es left (Empty e) (inl d) h = absurd (none_first left _ (d ∙ e) h)
+stays_by p bytes point after es left (Empty e) (inr d) h = absurd (none_first left _ (d ∙ ap behind_first e) h)
+stays_by p bytes point after es left (One x done e) (inl d) h = absurd (end_differs p p bytes x done (begins_so left [] x _ (d ∙ e) h))
+stays_by p bytes point after es left (One x done e) (inr d) h = absurd (none_first left _ (d ∙ ap behind_first e) h)
+stays_by p bytes point after es left (Two written n c r0 r1 e) (inl d) h =
     let is : behind point after left ≡ record point { last = Some (entries.Out p written) } = ap (behind point after) (d ∙ e) in
     (ap (λ (x : Point). x.flat) is, λ q. ap (λ (x : Point). is_refused x.last q) is)
-stays_by can p bytes point after es left (Two written n c r0 r1 e) (inr d) h =
-    absurd (end_differs p p bytes (entries.Call p n c r0 r1) refl (begins_so can left [] _ _ (d ∙ ap behind_first e) h))
+stays_by p bytes point after es left (Two written n c r0 r1 e) (inr d) h =
+    absurd (end_differs p p bytes (entries.Call p n c r0 r1) refl (begins_so left [] _ _ (d ∙ ap behind_first e) h))
 
 stays : (A : Inputs) (point : Point) (p : ℕ) (bytes : List ℕ) (next : Point) → flat_entry A point (entries.Out p bytes) ≡ Some next
     → (next.flat ≡ point.flat) × ((q : ℕ) → is_refused next.last q ≡ false)
-unfolding flat_entry
 stays A point p bytes next h =
-    let taken = so_taken _ _ next (if_taken _ A point p (entries.Out p bytes) next h) in
-    subst (λ (x : Point). (x.flat ≡ point.flat) × ((q : ℕ) → is_refused x.last q ≡ false)) (sym taken.1)
-    (stays_by (can_step point.flat p) p bytes point (step_at A point p).after (step_at A point p).entries (due_at A point p)
-    (step_shape A point.flat p (is_refused point.last p)) (due_cases point.last p (step_at A point p).entries) taken.0)
+    let c : Came A point next p (entries.Out p bytes) = came A point next p (entries.Out p bytes) refl h in
+    let d : ComesAt A point p (entries.Out p bytes) = c.comes in
+    subst (λ (x : Point). (x.flat ≡ point.flat) × ((q : ℕ) → is_refused x.last q ≡ false)) c.leads
+    (stays_by p bytes point (step_at A point p).after (step_at A point p).entries (due_at A point p)
+    (step_shape A point.flat p (is_refused point.last p)) (due_cases point.last p (step_at A point p).entries) d.next)
 
 -- The way goes on.
 
@@ -244,11 +209,10 @@ out_on A F refused pages p bytes us whole h =
 
 pub refused_on : (A : Inputs) (F : FlatState) (refused : Option ℕ) (pages : List Page) (p : ℕ) (us : List Entry) (whole : List Page)
     → IsOnWay A F refused pages (entries.Refused p ∷ us) whole → IsOnWay A F (Some p) pages us whole
-unfolding flat_entry
 refused_on A F refused pages p us whole h =
     moved A F F refused (Some p) pages pages (entries.Refused p) us whole h
     (λ next e.
-    let is = (so_taken _ _ next (if_taken _ A h.point p (entries.Refused p) next e)).1 in
+    let is = sym (came A h.point next p (entries.Refused p) refl e).leads in
     (ap (λ (x : Point). x.flat) is ∙ h.flat, λ q. ap (λ (x : Point). is_refused x.last q) is))
     (sym (append-nil pages))
 

@@ -1,5 +1,5 @@
 -- Where the judge stands, and which entries follow there.
-use Rattle.std.proofs.Common.{◌≡◌, ℕ, ◌==◌, Bool, true, false, List, [], ◌∷◌, Option, Some, None, refl, sym, ap, ◌∙◌, subst, arith}
+use Rattle.std.proofs.Common.{◌≡◌, ℕ, ◌==◌, Bool, true, false, ◌&&◌, List, [], ◌∷◌, Option, Some, None, refl, sym, ap, ◌∙◌, subst, arith}
 use Rattle.std.specs.Prelude.{if◌then◌else◌}
 use Rattle.std.proofs.lemmas.Bool.Decides.{nat_tests}
 use Rattle.vm_facts.proofs.Tests.{eq_self}
@@ -9,7 +9,7 @@ use Rattle.vm_facts.specs.declared.entry.Entry.{Entry}
 use Rattle.vm_facts.specs.declared.entry.Entry.TheVariants as entries
 use Rattle.flat_model.specs.declared.calls.SystemCall.{SystemCall}
 use Rattle.flat_model.specs.Step.{Step, flat_step, call_entry}
-use Rattle.flat_model.specs.Run.{Point, flat_entry, flat_entry_by, flat_entry_of, flat_entry_if, where_so, same_as, same_entry, entry_of_step, first_if, due, due_at, is_refused, step_at, point_after, behind, may_follow, is_outcome_of, is_call_of, process_of_entry}
+use Rattle.flat_model.specs.Run.{Point, flat_entry, flat_entry_by, same_entry, is_first_of, due, due_at, is_due, led_to, is_refused, step_at, point_after, behind, may_follow, is_outcome_of, is_call_of, process_of_entry}
 use Rattle.flat_machine.specs.declared.deed.Did.{Did}
 use Rattle.flat_machine.specs.declared.deed.Did.TheVariants as deeds
 use Rattle.replay_check.specs.declared.replaying.Last.{Last}
@@ -113,13 +113,15 @@ shut_at A F (lasts.Wrote q number regs) pid e point taken at outcome call = ap (
 -- an entry of a step of this process
 pub record IsOf (pid : ℕ) (e : Entry) : Type 0 where
   pub owner : process_of_entry e ≡ Some pid
-  pub made : (A : Inputs) (point : Point) → flat_entry_of A point pid e ≡ where_so (same_as (entry_of_step A point pid) e) (point_after A point pid)
+  pub made : (A : Inputs) (point : Point) → (if can_step point.flat pid && is_due A point pid e then Some (led_to A point pid e) else None)
+      ≡ (if can_step point.flat pid && is_first_of (due_at A point pid) e then Some (point_after A point pid) else None)
 
 pub followed : (A : Inputs) (point : Point) (pid : ℕ) (e : Entry) (may : Bool) → process_of_entry e ≡ Some pid → may_follow point.last e ≡ may
-    → flat_entry A point e ≡ flat_entry_if may A point pid e
+    → flat_entry A point e ≡ (if may && (can_step point.flat pid && is_due A point pid e) then Some (led_to A point pid e) else None)
 unfolding flat_entry
 followed A point pid e may owner follows =
-    ap (λ (o : Option ℕ). flat_entry_by A point o e) owner ∙ ap (λ (b : Bool). flat_entry_if b A point pid e) follows
+    ap (λ (o : Option ℕ). flat_entry_by A point o e) owner
+    ∙ ap (λ (b : Bool). if b && (can_step point.flat pid && is_due A point pid e) then Some (led_to A point pid e) else None) follows
 
 -- an entry that may not follow is none
 pub blocked : (A : Inputs) (point : Point) (G : FlatState) (new : Last) (pid : ℕ) (e : Entry) → process_of_entry e ≡ Some pid → may_follow point.last e ≡ false
@@ -127,20 +129,21 @@ pub blocked : (A : Inputs) (point : Point) (G : FlatState) (new : Last) (pid : �
 blocked A point G new pid e owner follows = subst (λ (o : Option Point). IsVerdict A false G new o) (sym (followed A point pid e false owner follows)) tt
 
 made : (A : Inputs) (point : Point) (F : FlatState) (pid : ℕ) (refused : Bool) (e : Entry) → Opens F pid refused point
-    → where_so (same_as (entry_of_step A point pid) e) (point_after A point pid)
-    ≡ where_so (same_as (first_if (can_step F pid) (flat_step A F pid refused).entries) e)
-    (behind point (flat_step A F pid refused).after (flat_step A F pid refused).entries)
+    → (if can_step point.flat pid && is_first_of (due_at A point pid) e then Some (point_after A point pid) else None)
+    ≡ (if can_step F pid && is_first_of (flat_step A F pid refused).entries e
+    then Some (behind point (flat_step A F pid refused).after (flat_step A F pid refused).entries) else None)
 made A point F pid refused e opens =
     let step : step_at A point pid ≡ flat_step A F pid refused =
     ap (λ (b : Bool). flat_step A point.flat pid b) opens.refuses ∙ ap (λ (G : FlatState). flat_step A G pid refused) opens.flat in
     let es : due_at A point pid ≡ (flat_step A F pid refused).entries = opens.whole (step_at A point pid).entries ∙ ap (λ (s : Step). s.entries) step in
-    ap (λ (G : FlatState). where_so (same_as (first_if (can_step G pid) (due_at A point pid)) e) (point_after A point pid)) opens.flat
-    ∙ ap (λ (xs : List Entry). where_so (same_as (first_if (can_step F pid) xs) e) (behind point (step_at A point pid).after xs)) es
-    ∙ ap (λ (s : Step). where_so (same_as (first_if (can_step F pid) (flat_step A F pid refused).entries) e) (behind point s.after (flat_step A F pid refused).entries)) step
+    ap (λ (G : FlatState). if can_step G pid && is_first_of (due_at A point pid) e then Some (point_after A point pid) else None) opens.flat
+    ∙ ap (λ (xs : List Entry). if can_step F pid && is_first_of xs e then Some (behind point (step_at A point pid).after xs) else None) es
+    ∙ ap (λ (s : Step). if can_step F pid && is_first_of (flat_step A F pid refused).entries e
+    then Some (behind point s.after (flat_step A F pid refused).entries) else None) step
 
 if_made : (point : Point) (F : FlatState) (c : Bool) (step : Step) (e : Entry)
-    → where_so (same_as (first_if c step.entries) e) (behind point step.after step.entries)
-    ≡ where_so (same_as (first_if true (entries_if c step)) e) (behind point (state_if c F step) (entries_if c step))
+    → (if c && is_first_of step.entries e then Some (behind point step.after step.entries) else None)
+    ≡ (if is_first_of (entries_if c step) e then Some (behind point (state_if c F step) (entries_if c step)) else None)
 if_made point F true step e = refl
 if_made point F false step e = refl
 
@@ -148,16 +151,16 @@ if_made point F false step e = refl
 pub entry_of : (A : Inputs) (point : Point) (F G : FlatState) (pid : ℕ) (refused : Bool) (e : Entry) (did : Did)
     → Opens F pid refused point × (may_follow point.last e ≡ true) → IsOf pid e
     → entries_of pid did ≡ entries_if (can_step F pid) (flat_step A F pid refused) → G ≡ state_if (can_step F pid) F (flat_step A F pid refused)
-    → flat_entry A point e ≡ where_so (begins pid did e) (behind point G (entries_of pid did))
+    → flat_entry A point e ≡ (if begins pid did e then Some (behind point G (entries_of pid did)) else None)
 entry_of A point F G pid refused e did opens of es after =
     followed A point pid e true of.owner opens.1 ∙ of.made A point ∙ made A point F pid refused e opens.0 ∙ if_made point F (can_step F pid) (flat_step A F pid refused) e
-    ∙ sym (ap (λ (H : FlatState). where_so (same_as (first_if true (entries_if (can_step F pid) (flat_step A F pid refused))) e)
-    (behind point H (entries_if (can_step F pid) (flat_step A F pid refused)))) after)
-    ∙ sym (ap (λ (xs : List Entry). where_so (same_as (first_if true xs) e) (behind point G xs)) es)
+    ∙ sym (ap (λ (H : FlatState). if is_first_of (entries_if (can_step F pid) (flat_step A F pid refused)) e
+    then Some (behind point H (entries_if (can_step F pid) (flat_step A F pid refused))) else None) after)
+    ∙ sym (ap (λ (xs : List Entry). if is_first_of xs e then Some (behind point G xs) else None) es)
 
 -- the verdict on the last entry of a step
 pub last_verdict : (A : Inputs) (F : FlatState) (x : Entry) (b c : Bool) → IsFree (Some x) → b ≡ c
-    → IsVerdict A b F lasts.Other (where_so c (record { flat = F; last = Some x }))
+    → IsVerdict A b F lasts.Other (if c then Some (record { flat = F; last = Some x }) else None)
 last_verdict A F x true true free k = (refl, free)
 last_verdict A F x false false free k = tt
 last_verdict A F x true false free k = absurd cc
@@ -166,7 +169,7 @@ last_verdict A F x false true free k = absurd cc
 -- the verdict on an entry that isn't bytes, by what the process did
 sole_verdict : (A : Inputs) (point : Point) (pid : ℕ) (e : Entry) (did : Did) (F : FlatState) (b : Bool)
     → ((bytes : List ℕ) → same_entry (entries.Out pid bytes) e ≡ false) → b ≡ begins pid did e
-    → IsVerdict A b F lasts.Other (where_so (begins pid did e) (behind point F (entries_of pid did)))
+    → IsVerdict A b F lasts.Other (if begins pid did e then Some (behind point F (entries_of pid did)) else None)
 sole_verdict A point pid e deeds.Nothing F b sole is = rw is tt
 sole_verdict A point pid e deeds.Ran F b sole is = last_verdict A F (entries.Ran pid 1) b (begins pid deeds.Ran e) tt is
 sole_verdict A point pid e (deeds.Grew grown) F b sole is = last_verdict A F (entries.Grew pid grown) b (begins pid (deeds.Grew grown) e) tt is

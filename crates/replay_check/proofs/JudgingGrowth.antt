@@ -1,9 +1,10 @@
 -- Growth, sleep and pieces without a place, as the judge judges them.
-use Rattle.std.proofs.Common.{◌≡◌, ℕ, ◌==◌, Bool, true, false, ◌&&◌, Option, Some, refl, sym, ap, ◌∙◌, subst}
+use Rattle.std.proofs.Common.{◌≡◌, ℕ, ◌==◌, Bool, true, false, ◌&&◌, Option, Some, None, refl, sym, ap, ◌∙◌, subst, if◌then◌else◌}
+use Rattle.std.proofs.Math.Bool.{and-true}
 use Rattle.flat_state.specs.Flat.{FlatState, Inputs, can_step}
 use Rattle.vm_facts.specs.declared.entry.Entry.TheVariants as entries
 use Rattle.flat_model.specs.Step.{flat_step}
-use Rattle.flat_model.specs.Run.{Point, flat_entry, where_so}
+use Rattle.flat_model.specs.Run.{Point, flat_entry}
 use Rattle.flat_machine.specs.declared.deed.Did.{Did}
 use Rattle.flat_machine.specs.declared.deed.Did.TheVariants as deeds
 use Rattle.replay_check.specs.declared.replaying.Last.{Last}
@@ -58,9 +59,10 @@ pub refused_at : (A : Inputs) (point : Point) (F : FlatState) (last : Last) (pid
 refused_at A point F last pid b other at is =
     let opens = free_at A F last pid (entries.Refused pid) point other at in
     subst (λ (o : Option Point). IsVerdict A b F (lasts.Refused pid) o) (sym (followed A point pid (entries.Refused pid) true refl opens.1))
-    (go b (can_step point.flat pid) opens.0.flat (is ∙ sym (ap (λ (G : FlatState). can_step G pid) opens.0.flat)))
+    (go b (can_step point.flat pid && true) opens.0.flat
+    (is ∙ sym (ap (λ (G : FlatState). can_step G pid) opens.0.flat) ∙ sym (and-true (can_step point.flat pid))))
   where
-    go : (b c : Bool) → point.flat ≡ F → b ≡ c → IsVerdict A b F (lasts.Refused pid) (where_so c (record point { last = Some (entries.Refused pid) }))
+    go : (b c : Bool) → point.flat ≡ F → b ≡ c → IsVerdict A b F (lasts.Refused pid) (if c then Some (record point { last = Some (entries.Refused pid) }) else None)
     go true true flat k = (flat, refl)
     go false false flat k = tt
     go true false flat k = absurd cc

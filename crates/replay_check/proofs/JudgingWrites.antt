@@ -1,5 +1,5 @@
 -- Bytes and the reply after them, as the judge judges them.
-use Rattle.std.proofs.Common.{◌≡◌, ℕ, ◌==◌, Bool, true, false, ◌&&◌, List, [], ◌∷◌, Option, Some, refl, sym, ap, ◌∙◌, subst, arith}
+use Rattle.std.proofs.Common.{◌≡◌, ℕ, ◌==◌, Bool, true, false, ◌&&◌, List, [], ◌∷◌, Option, Some, None, refl, sym, ap, ◌∙◌, subst, arith}
 use Rattle.std.specs.Prelude.{if◌then◌else◌}
 use Rattle.std.proofs.lemmas.Bool.Decides.{nat_tests}
 use Rattle.flat_state.specs.Flat.{FlatState, Inputs, can_step}
@@ -8,7 +8,7 @@ use Rattle.vm_facts.specs.declared.entry.Entry.{Entry}
 use Rattle.vm_facts.specs.declared.entry.Entry.TheVariants as entries
 use Rattle.flat_model.specs.declared.calls.SystemCall.{SystemCall}
 use Rattle.flat_model.specs.Step.{Step, flat_step, call_entry}
-use Rattle.flat_model.specs.Run.{Point, flat_entry, where_so, same_as, same_entry, entry_of_step, first_if, due, due_at, is_refused, step_at, point_after, behind, may_follow}
+use Rattle.flat_model.specs.Run.{Point, flat_entry, same_entry, is_first_of, due, due_at, is_refused, step_at, point_after, behind, may_follow}
 use Rattle.flat_machine.specs.declared.deed.Did.{Did}
 use Rattle.flat_machine.specs.declared.deed.Did.TheVariants as deeds
 use Rattle.replay_check.specs.declared.replaying.Last.{Last}
@@ -38,7 +38,7 @@ begun A F G pid reply bytes point flat es after = go (can_step F pid) refl es af
 wrote_verdict : (A : Inputs) (point : Point) (F G : FlatState) (pid : ℕ) (bytes : List ℕ) (did : Did) (b : Bool) → point.flat ≡ F
     → entries_of pid did ≡ entries_if (can_step F pid) (flat_step A F pid false) → G ≡ state_if (can_step F pid) F (flat_step A F pid false)
     → b ≡ begins pid did (entries.Out pid bytes)
-    → IsVerdict A b G (last_behind pid did) (where_so (begins pid did (entries.Out pid bytes)) (behind point G (entries_of pid did)))
+    → IsVerdict A b G (last_behind pid did) (if begins pid did (entries.Out pid bytes) then Some (behind point G (entries_of pid did)) else None)
 wrote_verdict A point F G pid bytes deeds.Nothing b flat es after is = rw is tt
 wrote_verdict A point F G pid bytes deeds.Ran b flat es after is = rw is tt
 wrote_verdict A point F G pid bytes (deeds.Grew grown) b flat es after is = rw is tt
@@ -46,7 +46,7 @@ wrote_verdict A point F G pid bytes (deeds.Replied call regs) b flat es after is
 wrote_verdict A point F G pid bytes (deeds.Wrote call [] regs) b flat es after is = rw is tt
 wrote_verdict A point F G pid bytes (deeds.Wrote call (x ∷ xs) regs) b flat es after is = go b (begins pid (deeds.Wrote call (x ∷ xs) regs) (entries.Out pid bytes)) is
   where
-    go : (b c : Bool) → b ≡ c → IsVerdict A b G (lasts.Wrote pid call regs) (where_so c (record point { last = Some (entries.Out pid (x ∷ xs)) }))
+    go : (b c : Bool) → b ≡ c → IsVerdict A b G (lasts.Wrote pid call regs) (if c then Some (record point { last = Some (entries.Out pid (x ∷ xs)) }) else None)
     go true true k = begun A F G pid (call_entry pid call regs) (x ∷ xs) point flat es after
     go false false k = tt
     go true false k = absurd cc
@@ -73,7 +73,8 @@ wrote_busy A point F G last new pid bytes other at =
 
 -- the reply after bytes is the rest of their step
 replied : (A : Inputs) (point : Point) (F : FlatState) (pid : ℕ) (reply e : Entry) → IsWriting A F pid reply point
-    → where_so (same_as (entry_of_step A point pid) e) (point_after A point pid) ≡ where_so (same_entry reply e) (record { flat = F; last = Some reply })
+    → (if can_step point.flat pid && is_first_of (due_at A point pid) e then Some (point_after A point pid) else None)
+    ≡ (if same_entry reply e then Some (record { flat = F; last = Some reply }) else None)
 replied A point F pid reply e at =
     let step : step_at A point pid ≡ flat_step A point.flat pid false = ap (λ (o : Option Entry). flat_step A point.flat pid (is_refused o pid)) at.out in
     let rest : due_at A point pid ≡ reply ∷ [] =
@@ -81,9 +82,9 @@ replied A point F pid reply e at =
     ∙ ap (λ (o : Option Entry). due o pid (entries.Out pid at.bytes ∷ reply ∷ [])) at.out
     ∙ ap (λ (b : Bool). if b then reply ∷ [] else (entries.Out pid at.bytes ∷ reply ∷ [])) (eq_self pid) in
     let left : (step_at A point pid).after ≡ F = ap (λ (s : Step). s.after) step ∙ at.after in
-    ap (λ (xs : List Entry). where_so (same_as (first_if (can_step point.flat pid) xs) e) (behind point (step_at A point pid).after xs)) rest
-    ∙ ap (λ (c : Bool). where_so (same_as (first_if c (reply ∷ [])) e) (record { flat = (step_at A point pid).after; last = Some reply })) at.can
-    ∙ ap (λ (G : FlatState). where_so (same_entry reply e) (record { flat = G; last = Some reply })) left
+    ap (λ (xs : List Entry). if can_step point.flat pid && is_first_of xs e then Some (behind point (step_at A point pid).after xs) else None) rest
+    ∙ ap (λ (c : Bool). if c && same_entry reply e then Some (record { flat = (step_at A point pid).after; last = Some reply }) else None) at.can
+    ∙ ap (λ (G : FlatState). if same_entry reply e then Some (record { flat = G; last = Some reply }) else None) left
 
 pub answered_at : (A : Inputs) (point : Point) (F : FlatState) (last new : Last) (of pid number r0 r1 : ℕ) (carry b : Bool) (call : SystemCall) (regs : Regs)
     → last ≡ lasts.Wrote of call regs → new ≡ lasts.Other → IsAt A F last point

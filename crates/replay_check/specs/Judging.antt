@@ -5,7 +5,7 @@ use Rattle.vm_facts.specs.declared.entry.Entry.{Entry}
 use Rattle.vm_facts.specs.declared.entry.Entry.TheVariants as entries
 use Rattle.flat_state.specs.Journal.{instructions_of}
 use Rattle.flat_model.specs.Step.{flat_step, call_entry}
-use Rattle.flat_model.specs.Run.{Point, same_as, first_if, flat_run}
+use Rattle.flat_model.specs.Run.{Point, is_first_of, flat_run}
 use Rattle.flat_machine.specs.declared.deed.Did.{Did}
 use Rattle.flat_machine.specs.declared.deed.Did.TheVariants as deeds
 use Rattle.flat_machine.specs.Machine.{entries_of}
@@ -59,7 +59,7 @@ IsVerdict A false F last None = Unit {0}
 
 -- the first entry of what a process did is this one
 abbrev pub begins : ℕ → Did → Entry → Bool
-begins pid did e = same_as (first_if true (entries_of pid did)) e
+begins pid did e = is_first_of (entries_of pid did) e
 
 -- the judge has taken these entries as a run: it stands at the point after them, and has counted their instructions
 pub record HasTaken (A : Inputs) (F : FlatState) (last : Last) (count : ℕ) (journal : List Entry) : Type 0 where

@@ -5,14 +5,13 @@ use Rattle.std.proofs.lemmas.Bool.{ltb-true, leb-true}
 use Rattle.flat_state.proofs.Processes.{length-replaced, length-returned}
 use Rattle.vm_facts.specs.Answers.{Answers, ByteWrite}
 use Rattle.flat_state.specs.Space.{Space, stack_top, stack_reach, spot_by, spot_at, address_in, byte_at, may_write_at, answers_of, puts}
-use Rattle.flat_state.specs.Flat.{Holding, Holds, Lends, Zombie, Process, FlatState, NamedImage, Inputs, image_numbered, process_of, can_step, argument_area, start_page, space_with, start_if, start_processes, start_state, spaces_of, space_held}
+use Rattle.flat_state.specs.Flat.{Holding, Holds, Lends, Zombie, Process, FlatState, NamedImage, Inputs, image_numbered, process_of, argument_area, start_page, space_with, start_if, start_processes, start_state, spaces_of, space_held}
 use Rattle.vm_facts.specs.declared.memory.ByteRead.{ByteRead}
 use Rattle.vm_facts.specs.declared.memory.ByteRead.TheVariants as bytes
 use Rattle.vm_facts.specs.declared.memory.MayWrite.{MayWrite}
 use Rattle.vm_facts.specs.declared.memory.MayWrite.TheVariants as tests
 use Rattle.vm_facts.specs.declared.regs.Regs.{Regs}
 use Rattle.vm_facts.specs.declared.entry.Entry.{Entry}
-use Rattle.vm_facts.specs.declared.entry.Entry.TheVariants.{Refused as IsRefused}
 use Rattle.user_vax.specs.Effects.{Effect}
 use Rattle.user_vax.specs.Program.{Program, Gives, Refuses, Reads, Tests, ◌>>=◌, run, after_read, after_test}
 use Rattle.user_vax.specs.declared.refused.Refused.{Refused}
@@ -22,7 +21,6 @@ use Rattle.flat_state.specs.declared.spot.Spot.TheVariants as spots
 use Rattle.flat_state.specs.declared.change.Change.{Change}
 use Rattle.flat_state.specs.declared.change.Change.TheVariants.{Keep, Resize, Fork, Lend, Exec, Reap, Sleep, End}
 use Rattle.flat_state.specs.Change.{replaced, with_process, resized, child_of, lends_to, returned, returned_by, given_back, entered, is_zombie_child, without_parent, orphaned, awake, left, changed, changed_by, changed_if, apply_change, wrote_by, wrote_if, apply_writes}
-use Rattle.flat_state.specs.Journal.{units_of}
 use Rattle.page_model.specs.Pages.{SpacePages, numbered, data_in, stack_in}
 use Rattle.page_model.specs.Placement.{space_number}
 use Rattle.kernel_model.specs.Coupled.{Fits, SameTables}
@@ -39,7 +37,8 @@ use Rattle.flat_model.specs.declared.calls.SystemCall.TheVariants as calls
 use Rattle.flat_model.specs.Calls.{call_of, argument, three_arguments, bytes_from, string_from, arguments_at, exit_reply, child_by, written_to, write_reply, break_by, break_reply, pages_up_to, stack_pages_of, data_limit, path_image, starts, execve_of, execve_reply, wait_by, reply_of, or_fault, refused_reply, unless_refused, wants_space, string_limit, write_limit, process_limit}
 use Rattle.flat_model.specs.Instruction.{instruction_in}
 use Rattle.flat_model.specs.Step.{pages_down_to, data_pages_of as data_pages_in, replied_step, reply_behind, called_step, step_behind, step_of, step_holding, step_if, flat_step, written_process}
-use Rattle.flat_model.specs.Run.{Point, step_at, due_at, entry_of_step, behind, point_after, same_as, process_of_entry, may_follow, where_so, flat_entry_of, flat_entry_if, flat_entry_by, flat_entry, flat_units, flat_run, start_point}
+use Rattle.flat_model.specs.Run.{Point, flat_run}
+use Rattle.flat_model.proofs.Coming.{run_keeps}
 use Rattle.run_model.specs.State.{State}
 use Rattle.run_laws.specs.Standing.{EachProcess, Placed, machine_of}
 use Rattle.kernel_model.specs.Invariant.{EntersImage}
@@ -409,50 +408,10 @@ start_sized A sz fit = record { spaces = started_sized A 1 A.first sz fit; count
 
 -- Runs.
 
-behind_point : (point : Point) (after : FlatState) (es : List Entry) → FlatSized point.flat → FlatSized after → FlatSized (behind point after es).flat
-behind_point point after (e ∷ []) h k = k
-behind_point point after _ h k = h
-
-where_sized : (b : Bool) (p q : Point) → where_so b p ≡ Some q → FlatSized p.flat → FlatSized q.flat
-where_sized true p q e h = let same : p ≡ q = cc in subst (λ (x : Point). FlatSized x.flat) same h
-where_sized false p q e h = absurd cc
-
-of_entry : (A : Inputs) (point q : Point) (pid : ℕ) (e : Entry) → InputsSized A → ImagesFit A.images → flat_entry_of A point pid e ≡ Some q
-    → FlatSized point.flat → FlatSized q.flat
-of_entry A point q pid (IsRefused p) sz fit h k = where_sized (can_step point.flat pid) (record point { last = Some (IsRefused p) }) q h k
-of_entry A point q pid e sz fit h k =
-    where_sized (same_as (entry_of_step A point pid) e) (point_after A point pid) q h
-    (behind_point point (step_at A point pid).after (due_at A point pid) k (step_sized A point.flat pid (Rattle.flat_model.specs.Run.is_refused point.last pid) sz fit k))
-
-if_entry : (b : Bool) (A : Inputs) (point q : Point) (pid : ℕ) (e : Entry) → InputsSized A → ImagesFit A.images
-    → flat_entry_if b A point pid e ≡ Some q → FlatSized point.flat → FlatSized q.flat
-if_entry true A point q pid e sz fit h k = of_entry A point q pid e sz fit h k
-if_entry false A point q pid e sz fit h k = absurd cc
-
-by_entry : (A : Inputs) (point q : Point) (o : Option ℕ) (e : Entry) → InputsSized A → ImagesFit A.images → flat_entry_by A point o e ≡ Some q
-    → FlatSized point.flat → FlatSized q.flat
-by_entry A point q None e sz fit h k = where_sized true point q h k
-by_entry A point q (Some pid) e sz fit h k = if_entry (may_follow point.last e) A point q pid e sz fit h k
-
-entry_sized : (A : Inputs) (point q : Point) (e : Entry) → InputsSized A → ImagesFit A.images → flat_entry A point e ≡ Some q → FlatSized point.flat
-    → FlatSized q.flat
-unfolding flat_entry
-entry_sized A point q e sz fit h k = by_entry A point q (process_of_entry e) e sz fit h k
-
-units_sized : (A : Inputs) (us : List Entry) (point q : Point) → InputsSized A → ImagesFit A.images → flat_units A (Some point) us ≡ Some q
-    → FlatSized point.flat → FlatSized q.flat
-unfolding flat_units
-units_sized A [] point q sz fit h k = where_sized true point q h k
-units_sized A (u ∷ us) point q sz fit h k = go (λ next l m. units_sized A us next q sz fit l m) (flat_entry A point u) refl h
-  where
-    go : ((next : Point) → flat_units A (Some next) us ≡ Some q → FlatSized next.flat → FlatSized q.flat) → (o : Option Point) → flat_entry A point u ≡ o
-        → flat_units A o us ≡ Some q → FlatSized q.flat
-    go later None e l = absurd cc
-    go later (Some next) e l = later next l (entry_sized A point next u sz fit e k)
-
 pub run_is_sized : (A : Inputs) (journal : List Entry) (point : Point) → InputsSized A → ImagesFit A.images → flat_run A journal ≡ Some point
     → FlatSized point.flat
-run_is_sized A journal point sz fit h = units_sized A (units_of journal) (start_point A) point sz fit h (start_sized A sz fit)
+run_is_sized A journal point sz fit h =
+    run_keeps FlatSized A journal point (λ F pid refused k. step_sized A F pid refused sz fit k) (start_sized A sz fit) h
 
 -- Placements.
 

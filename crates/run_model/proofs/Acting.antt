@@ -12,7 +12,8 @@ use Rattle.swap_book.specs.Placing.{place_all, fits}
 use Rattle.flat_state.specs.Journal.{appended, AllUnits}
 use Rattle.flat_state.proofs.Joins.{appended_units}
 use Rattle.flat_model.specs.Step.{flat_step}
-use Rattle.flat_model.specs.Run.{Point, is_refused, step_at, behind_first, due_at, first_if, entry_of_step as next_of_step, behind, point_after, same_carry, same_entry, same_as, process_of_entry, may_follow, where_so, flat_entry_if, flat_entry_by, flat_entry, flat_units, flat_run, start_point}
+use Rattle.flat_model.specs.Run.{Point, is_refused, step_at, behind_first, due_at, first_if, entry_of_step as next_of_step, behind, point_after, same_carry, same_entry, is_first_of, process_of_entry, may_follow, flat_entry, flat_units, flat_run, start_point}
+use Rattle.flat_model.proofs.Coming.{leads, stands, IsOfStep, end_of_step}
 use Rattle.flat_model.specs.Asked.{asks}
 use Rattle.run_model.specs.State.{State, start}
 use Rattle.run_model.specs.After.{after, state_after, AllFlat}
@@ -42,42 +43,25 @@ end_self pid _ h = absurd h
 
 -- The next entry of a step that may follow is an entry of the run.
 
-led : (A : Inputs) (point : Point) (o : Option Entry) (e : Entry) (q : Point) → o ≡ Some e → same_entry e e ≡ true → where_so (same_as o e) q ≡ Some q
-led A point o e q h k = ap (λ (x : Option Entry). where_so (same_as x e) q) h ∙ ap (λ (b : Bool). where_so b q) k
+-- the next entry of a step is the first of those that are due, and the process can step
+next_first : (can : Bool) (es : List Entry) (e : Entry) → first_if can es ≡ Some e → same_entry e e ≡ true → (can ≡ true) × (is_first_of es e ≡ true)
+next_first true (x ∷ es) e h k = (refl, subst (λ (y : Entry). same_entry y e ≡ true) (sym (same_Some x e h)) k)
+next_first true [] e h k = absurd cc
+next_first false es e h k = absurd cc
 
--- by cases on what the entry is
 end_led : (A : Inputs) (point : Point) (pid : ℕ) (e : Entry) → IsStepEnd pid e → may_follow point.last e ≡ true → next_of_step A point pid ≡ Some e
     → flat_entry A point e ≡ Some (point_after A point pid)
-unfolding flat_entry
-end_led A point pid (Ran p n) h m k =
-    ap (λ (b : Bool). flat_entry_if b A point p (Ran p n)) m
-    ∙ subst (λ (x : ℕ). where_so (same_as (next_of_step A point p) (Ran p n)) (point_after A point p) ≡ Some (point_after A point x)) h
-    (led A point (next_of_step A point p) (Ran p n) (point_after A point p) (subst (λ (x : ℕ). next_of_step A point x ≡ Some (Ran p n)) (sym h) k) (end_self pid (Ran p n) h))
-end_led A point pid (Grew p n) h m k =
-    ap (λ (b : Bool). flat_entry_if b A point p (Grew p n)) m
-    ∙ subst (λ (x : ℕ). where_so (same_as (next_of_step A point p) (Grew p n)) (point_after A point p) ≡ Some (point_after A point x)) h
-    (led A point (next_of_step A point p) (Grew p n) (point_after A point p) (subst (λ (x : ℕ). next_of_step A point x ≡ Some (Grew p n)) (sym h) k) (end_self pid (Grew p n) h))
-end_led A point pid (Call p n c r0 r1) h m k =
-    ap (λ (b : Bool). flat_entry_if b A point p (Call p n c r0 r1)) m
-    ∙ subst (λ (x : ℕ). where_so (same_as (next_of_step A point p) (Call p n c r0 r1)) (point_after A point p) ≡ Some (point_after A point x)) h
-    (led A point (next_of_step A point p) (Call p n c r0 r1) (point_after A point p) (subst (λ (x : ℕ). next_of_step A point x ≡ Some (Call p n c r0 r1)) (sym h) k)
-    (end_self pid (Call p n c r0 r1) h))
-end_led A point pid (Sleeps p) h m k =
-    ap (λ (b : Bool). flat_entry_if b A point p (Sleeps p)) m
-    ∙ subst (λ (x : ℕ). where_so (same_as (next_of_step A point p) (Sleeps p)) (point_after A point p) ≡ Some (point_after A point x)) h
-    (led A point (next_of_step A point p) (Sleeps p) (point_after A point p) (subst (λ (x : ℕ). next_of_step A point x ≡ Some (Sleeps p)) (sym h) k) (end_self pid (Sleeps p) h))
-end_led A point pid (Ended p n) h m k =
-    ap (λ (b : Bool). flat_entry_if b A point p (Ended p n)) m
-    ∙ subst (λ (x : ℕ). where_so (same_as (next_of_step A point p) (Ended p n)) (point_after A point p) ≡ Some (point_after A point x)) h
-    (led A point (next_of_step A point p) (Ended p n) (point_after A point p) (subst (λ (x : ℕ). next_of_step A point x ≡ Some (Ended p n)) (sym h) k) (end_self pid (Ended p n) h))
-end_led A point pid _ h m k = absurd h
+end_led A point pid e h m k =
+    let o : IsOfStep A point pid e = end_of_step A point pid e h in
+    let n = next_first (can_step point.flat pid) (due_at A point pid) e k (end_self pid e h) in
+    leads A point pid e (record { process = o.process; follows = m; steps = n.0; next = o.due ∙ n.1 }) ∙ ap (λ (x : Point). Some x) o.led
 
 out_led : (A : Inputs) (point : Point) (pid : ℕ) (bytes : List ℕ) → may_follow point.last (Out pid bytes) ≡ true
     → next_of_step A point pid ≡ Some (Out pid bytes) → flat_entry A point (Out pid bytes) ≡ Some (point_after A point pid)
-unfolding flat_entry
 out_led A point pid bytes m k =
-    ap (λ (b : Bool). flat_entry_if b A point pid (Out pid bytes)) m
-    ∙ led A point (next_of_step A point pid) (Out pid bytes) (point_after A point pid) k (and_from (pid == pid) (bytes_eq bytes bytes) (eq_self pid) (bytes_self bytes))
+    let n = next_first (can_step point.flat pid) (due_at A point pid) (Out pid bytes) k
+    (and_from (pid == pid) (bytes_eq bytes bytes) (eq_self pid) (bytes_self bytes)) in
+    leads A point pid (Out pid bytes) (record { process = refl; follows = m; steps = n.0; next = n.1 })
 
 -- What is due of a step.
 
@@ -202,17 +186,15 @@ may_refuse A F (Some last) pid says w r n = refl
 
 refused_leads : (A : Inputs) (F : FlatState) (last : Option Entry) (pid : ℕ) → can_step F pid ≡ true → may_follow last (Refused pid) ≡ true
     → (asks A F pid ≡ [] → ⊥) → Leads A (at F last) (Refused pid)
-unfolding flat_entry
 refused_leads A F last pid c m n = record {
   to = at F (Some (Refused pid));
-  flat = ap (λ (b : Bool). flat_entry_if b A (at F last) pid (Refused pid)) m ∙ ap (λ (b : Bool). where_so b (at F (Some (Refused pid)))) c;
+  flat = leads A (at F last) pid (Refused pid) (record { process = refl; follows = m; steps = c; next = refl });
   says = n;
 }
 
 -- a unit that is no flat entry
 other_leads : (A : Inputs) (F : FlatState) (last : Option Entry) (u : Entry) → process_of_entry u ≡ None → LastSays A F last → Leads A (at F last) u
-unfolding flat_entry
-other_leads A F last u h says = record { to = at F last; flat = ap (λ (o : Option ℕ). flat_entry_by A (at F last) o u) h; says = says }
+other_leads A F last u h says = record { to = at F last; flat = stands A (at F last) u h; says = says }
 
 act_leads : (A : Inputs) (s : State) (u : Entry) → LastSays A s.point.flat s.point.last → IsNext A s u → Leads A s.point u
 unfolding act

@@ -1,41 +1,32 @@
 -- The flat machine's part of a state, and what is held.
-use Rattle.std.proofs.Common.{◌≡◌, ℕ, Bool, true, false, List, [], ◌∷◌, Option, Some, None, Ok, refl, sym, ap, ◌∙◌, subst}
+use Rattle.std.proofs.Common.{◌≡◌, List, [], ◌∷◌, Option, Some, None, Ok, refl, sym, ap, ◌∙◌, subst}
 use Rattle.std.proofs.lemmas.Option.{same_Some}
 use Rattle.vm_facts.specs.declared.entry.Entry.{Entry}
 use Rattle.vm_facts.specs.declared.entry.Entry.TheVariants.{Event, Turn, Ran, Out, Grew, Call, Refused, Sleeps, Ended, Zero, Get, Copy, Reclaim, Hands, Put, Done, SwapOut, SwapIn, Owners}
 use Rattle.swap_book.specs.Holdings.{Holdings}
-use Rattle.flat_state.specs.Flat.{Inputs, can_step}
+use Rattle.flat_state.specs.Flat.{Inputs}
 use Rattle.flat_state.specs.Journal.{append, units_of, IsUnit}
 use Rattle.flat_state.proofs.Joins.{append_units}
-use Rattle.flat_model.specs.Run.{Point, entry_of_step, point_after, same_as, may_follow, where_so, flat_entry_of, flat_entry_if, flat_entry, flat_units, flat_run, start_point}
+use Rattle.flat_model.specs.Run.{Point, flat_entry, flat_units, flat_run, start_point}
 use Rattle.flat_model.specs.Asked.{held_entry, held_units, held_from, held, start_held}
 use Rattle.run_model.specs.State.{State, start}
 use Rattle.run_model.specs.After.{after, state_after, state_at, AllFlat}
+use Rattle.flat_model.proofs.Coming.{came}
 use Rattle.flat_model.proofs.Folds.{units_more}
 use Rattle.run_model.proofs.After.{after_holdings}
-
-where_is : (b : Bool) (x y : Point) → where_so b x ≡ Some y → x ≡ y
-where_is true x y h = same_Some x y h
-where_is false x y h = absurd cc
-
-if_is : (b : Bool) (A : Inputs) (point : Point) (pid : ℕ) (e : Entry) (q : Point) → flat_entry_if b A point pid e ≡ Some q
-    → flat_entry_of A point pid e ≡ Some q
-if_is true A point pid e q h = h
-if_is false A point pid e q h = absurd cc
 
 -- a flat entry leads the state's point where it leads the flat machine
 pub after_point : (A : Inputs) (s : State) (u : Entry) (q : Point) → flat_entry A s.point u ≡ Some q → (after A s u).point ≡ q
 unfolding after flat_entry
 after_point A s (Event a) q h = same_Some s.point q h
 after_point A s (Turn a) q h = same_Some s.point q h
-after_point A s (Ran p a) q h = where_is (same_as (entry_of_step A s.point p) (Ran p a)) (point_after A s.point p) q (if_is (may_follow s.point.last (Ran p a)) A s.point p (Ran p a) q h)
-after_point A s (Out p a) q h = where_is (same_as (entry_of_step A s.point p) (Out p a)) (point_after A s.point p) q (if_is (may_follow s.point.last (Out p a)) A s.point p (Out p a) q h)
-after_point A s (Grew p a) q h = where_is (same_as (entry_of_step A s.point p) (Grew p a)) (point_after A s.point p) q (if_is (may_follow s.point.last (Grew p a)) A s.point p (Grew p a) q h)
-after_point A s (Call p a b c d) q h =
-    where_is (same_as (entry_of_step A s.point p) (Call p a b c d)) (point_after A s.point p) q (if_is (may_follow s.point.last (Call p a b c d)) A s.point p (Call p a b c d) q h)
-after_point A s (Refused p) q h = where_is (can_step s.point.flat p) (record s.point { last = Some (Refused p) }) q (if_is (may_follow s.point.last (Refused p)) A s.point p (Refused p) q h)
-after_point A s (Sleeps p) q h = where_is (same_as (entry_of_step A s.point p) (Sleeps p)) (point_after A s.point p) q (if_is (may_follow s.point.last (Sleeps p)) A s.point p (Sleeps p) q h)
-after_point A s (Ended p a) q h = where_is (same_as (entry_of_step A s.point p) (Ended p a)) (point_after A s.point p) q (if_is (may_follow s.point.last (Ended p a)) A s.point p (Ended p a) q h)
+after_point A s (Ran p a) q h = (came A s.point q p (Ran p a) refl h).leads
+after_point A s (Out p a) q h = (came A s.point q p (Out p a) refl h).leads
+after_point A s (Grew p a) q h = (came A s.point q p (Grew p a) refl h).leads
+after_point A s (Call p a b c d) q h = (came A s.point q p (Call p a b c d) refl h).leads
+after_point A s (Refused p) q h = (came A s.point q p (Refused p) refl h).leads
+after_point A s (Sleeps p) q h = (came A s.point q p (Sleeps p) refl h).leads
+after_point A s (Ended p a) q h = (came A s.point q p (Ended p a) refl h).leads
 after_point A s (Zero a) q h = same_Some s.point q h
 after_point A s (Get a b c) q h = same_Some s.point q h
 after_point A s (Copy a) q h = same_Some s.point q h

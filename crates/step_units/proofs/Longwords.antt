@@ -6,7 +6,8 @@ use Rattle.kernel_model.specs.Kernel.{Kernel}
 use Rattle.flat_model.specs.Run.{Point, process_of_entry, flat_entry, flat_entry_by}
 use Rattle.run_units.specs.Longwords.{ProcessesFit, AllImages}
 use Rattle.run_units.proofs.Replying.{step_regs}
-use Rattle.run_units.proofs.Runs.{entry_so, entry_next}
+use Rattle.run_units.proofs.Runs.{entry_next}
+use Rattle.flat_model.proofs.Coming.{entry_keeps}
 use Rattle.run_model.specs.State.{State}
 use Rattle.run_model.specs.After.{after}
 use Rattle.run_model.specs.Next.{next_unit}
@@ -41,7 +42,7 @@ one_stays : (A : Inputs) (s : State) (u : Entry) → AllImages A.images → IsRu
 one_stays A s u w r n l h =
     let e : flat_entry A s.point u ≡ Some (after A s u).point = next_entry A s u r n in
     record {
-      fit = entry_so (λ (F : FlatState). ProcessesFit F.processes) A s.point (after A s u).point u
+      fit = entry_keeps (λ (F : FlatState). ProcessesFit F.processes) A s.point (after A s u).point u
           (λ pid refused. step_regs A s.point.flat pid refused w r.numbers (let b = h.next in omega (arith, b, l)) h.fit) e h.fit;
       next = let a = entry_next A s.point (after A s u).point u e in let b = h.next in let c = after_count A s u in omega (arith, a, b, c);
     }

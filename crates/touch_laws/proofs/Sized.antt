@@ -5,9 +5,8 @@ use Rattle.std.proofs.lemmas.Bool.Decides.{nat_tests}
 use Rattle.flat_state.proofs.SpaceLaws.{length-resized_bytes}
 use Rattle.vm_facts.specs.Answers.{Answers, ByteWrite}
 use Rattle.flat_state.specs.Space.{Space, address_in, answers_of, put_at, put_in_space, puts}
-use Rattle.flat_state.specs.Flat.{Holding, Holds, Lends, Zombie, Process, FlatState, NamedImage, Inputs, image_numbered, process_of, can_step, start_if, start_processes, start_state}
+use Rattle.flat_state.specs.Flat.{Holding, Holds, Lends, Zombie, Process, FlatState, NamedImage, Inputs, image_numbered, process_of, start_if, start_processes, start_state}
 use Rattle.vm_facts.specs.declared.entry.Entry.{Entry}
-use Rattle.vm_facts.specs.declared.entry.Entry.TheVariants.{Refused}
 use Rattle.vm_facts.specs.declared.regs.Regs.{Regs}
 use Rattle.user_vax.specs.Program.{Program, run}
 use Rattle.user_vax.specs.Effects.{Effect}
@@ -20,7 +19,6 @@ use Rattle.flat_state.specs.declared.spot.Spot.TheVariants as spots
 use Rattle.flat_state.specs.declared.change.Change.{Change}
 use Rattle.flat_state.specs.declared.change.Change.TheVariants.{Keep, Resize, Fork, Lend, Exec, Reap, Sleep, End}
 use Rattle.flat_state.specs.Change.{replaced_by, replaced, with_process, resized, lends_to, returned_by, returned, given_back, entered, is_zombie_child, without_parent, orphaned, awake, left, ended, changed, changed_by, changed_if, apply_change, wrote_by, wrote_if, apply_writes}
-use Rattle.flat_state.specs.Journal.{units_of}
 use Rattle.flat_model.specs.declared.calls.Reply.{Reply}
 use Rattle.flat_model.specs.declared.calls.Reply.TheVariants as replies
 use Rattle.flat_model.specs.declared.calls.SystemCall.{SystemCall}
@@ -28,7 +26,8 @@ use Rattle.flat_model.specs.declared.calls.SystemCall.TheVariants as calls
 use Rattle.flat_model.specs.Calls.{argument, three_arguments, bytes_from, string_from, arguments_at, exit_reply, child_by, written_to, write_reply, break_by, break_reply, pages_up_to, stack_pages_of, data_limit, path_image, starts, execve_of, execve_reply, wait_by, reply_of, or_fault, refused_reply, unless_refused, wants_space, string_limit, write_limit, process_limit, call_of}
 use Rattle.flat_model.specs.Instruction.{instruction_in}
 use Rattle.flat_model.specs.Step.{step_of, step_behind, called_step, replied_step, step_holding, step_if, flat_step, written_process, reply_behind}
-use Rattle.flat_model.specs.Run.{Point, step_at, due_at, entry_of_step, behind, point_after, same_as, process_of_entry, may_follow, where_so, flat_entry_of, flat_entry_if, flat_entry_by, flat_entry, flat_units, flat_run, start_point}
+use Rattle.flat_model.specs.Run.{Point, flat_run}
+use Rattle.flat_model.proofs.Coming.{run_keeps}
 use Rattle.touch_laws.specs.Whole.{EachWhole, ImageWhole, ImagesWhole, IsSized, HasSize, AllSized}
 use Rattle.touch_laws.proofs.Cover.{Yields, yields_bind, yields_any, yields_ok}
 
@@ -308,53 +307,12 @@ started_sized images (number ∷ more) n w = go (image_numbered images number) r
 
 -- Runs.
 
-behind_stays : (point : Point) (after : FlatState) (es : List Entry) → AllSized point.flat.processes → AllSized after.processes
-    → AllSized (behind point after es).flat.processes
-behind_stays point after (e ∷ []) h k = k
-behind_stays point after _ h k = h
-
-where_sized : (b : Bool) (p q : Point) → where_so b p ≡ Some q → AllSized p.flat.processes → AllSized q.flat.processes
-where_sized true p q e h = let same : p ≡ q = cc in subst (λ (x : Point). AllSized x.flat.processes) same h
-where_sized false p q e h = absurd cc
-
-of_point : (A : Inputs) (point q : Point) (pid : ℕ) (e : Entry) → ImagesWhole A.images → flat_entry_of A point pid e ≡ Some q
-    → AllSized point.flat.processes → AllSized q.flat.processes
-of_point A point q pid (Refused p) w h k = where_sized (can_step point.flat pid) (record point { last = Some (Refused p) }) q h k
-of_point A point q pid e w h k =
-    where_sized (same_as (entry_of_step A point pid) e) (point_after A point pid) q h
-    (behind_stays point (step_at A point pid).after (due_at A point pid) k (step_sized A point.flat pid (Rattle.flat_model.specs.Run.is_refused point.last pid) w k))
-
-if_point : (b : Bool) (A : Inputs) (point q : Point) (pid : ℕ) (e : Entry) → ImagesWhole A.images → flat_entry_if b A point pid e ≡ Some q
-    → AllSized point.flat.processes → AllSized q.flat.processes
-if_point true A point q pid e w h k = of_point A point q pid e w h k
-if_point false A point q pid e w h k = absurd cc
-
-by_point : (A : Inputs) (point q : Point) (o : Option ℕ) (e : Entry) → ImagesWhole A.images → flat_entry_by A point o e ≡ Some q
-    → AllSized point.flat.processes → AllSized q.flat.processes
-by_point A point q None e w h k = where_sized true point q h k
-by_point A point q (Some pid) e w h k = if_point (may_follow point.last e) A point q pid e w h k
-
-entry_sized : (A : Inputs) (point q : Point) (e : Entry) → ImagesWhole A.images → flat_entry A point e ≡ Some q → AllSized point.flat.processes
-    → AllSized q.flat.processes
-unfolding flat_entry
-entry_sized A point q e w h k = by_point A point q (process_of_entry e) e w h k
-
-units_sized : (A : Inputs) (us : List Entry) (point q : Point) → ImagesWhole A.images → flat_units A (Some point) us ≡ Some q
-    → AllSized point.flat.processes → AllSized q.flat.processes
-unfolding flat_units
-units_sized A [] point q w h k = where_sized true point q h k
-units_sized A (u ∷ us) point q w h k = go (λ next l m. units_sized A us next q w l m) (flat_entry A point u) refl h
-  where
-    go : ((next : Point) → flat_units A (Some next) us ≡ Some q → AllSized next.flat.processes → AllSized q.flat.processes) → (o : Option Point) → flat_entry A point u ≡ o → flat_units A o us ≡ Some q
-        → AllSized q.flat.processes
-    go later None e l = absurd cc
-    go later (Some next) e l = later next l (entry_sized A point next u w e k)
-
 pub start_sized : (A : Inputs) → ImagesWhole A.images → AllSized (start_state A).processes
 start_sized A w = started_sized A.images A.first 1 w
 
 pub run_sized : (A : Inputs) (journal : List Entry) (point : Point) → ImagesWhole A.images → flat_run A journal ≡ Some point → AllSized point.flat.processes
-run_sized A journal point w h = units_sized A (units_of journal) (start_point A) point w h (start_sized A w)
+run_sized A journal point w h =
+    run_keeps (λ (F : FlatState). AllSized F.processes) A journal point (λ F pid refused k. step_sized A F pid refused w k) (start_sized A w) h
 
 -- such a space is of whole pages below 2 ^ 32
 pub sized_whole : (F : FlatState) → AllSized F.processes → EachWhole F
