@@ -1,6 +1,8 @@
 //! Laws of the flat machine that a kernel rests on. There is no code here: each law is the clause of a function with an
 //! empty body.
 //!
+//! - `entries_come`: an entry of a process is one of a run just where four conditions hold of it, each of which has a
+//!   name, and it leads to one point; an entry of no process leaves the point as it is.
 //! - `entries_are_determined`: the next entry of a process's step follows from the flat state, from whether its pieces
 //!   were refused, and from whether it has bytes out; so two entries that may come next are one.
 //! - `touched_is_enough`: where the touched pages alone are there, a process's next instruction and its call come to
@@ -14,7 +16,7 @@
 //!   state whose spaces are of whole pages; so with 64 frames there is room beside all that is locked.
 #![tactic(auto)]
 
-ghost use Rattle.std.specs.Prelude.{◌≡◌, ◌≢◌, ℕ, ◌≤◌, Bool, List, length, Some};
+ghost use Rattle.std.specs.Prelude.{◌≡◌, ◌≢◌, ℕ, ◌≤◌, Bool, List, length, Some, None};
 ghost use Rattle.flat_state.specs.Space.{Space};
 ghost use Rattle.flat_state.specs.Flat.{FlatState, Inputs, start_state};
 ghost use Rattle.vm_facts.specs.declared.entry.Entry.{Entry};
@@ -23,13 +25,25 @@ ghost use Rattle.user_vax.specs.Program.{run};
 ghost use Rattle.flat_state.specs.Numbers.{AllDistinct, pids_of, IsNumbered};
 ghost use Rattle.kernel_model.specs.Start.{ImagesFit};
 ghost use Rattle.flat_model.specs.Step.{flat_step};
-ghost use Rattle.flat_model.specs.Run.{Point, flat_run};
+ghost use Rattle.flat_model.specs.Run.{Point, process_of_entry, ComesAt, led_to, flat_entry, flat_run};
 ghost use Rattle.flat_model.specs.Touched.{touched};
 ghost use Rattle.touch_laws.specs.Whole.{EachWhole};
 ghost use Rattle.flat_laws.specs.Others.{HoldsStill};
 ghost use Rattle.flat_laws.specs.Determined.{NextEntryIsDetermined, NextEntriesAreOne};
 ghost use Rattle.flat_laws.specs.Enough.{InstructionNeedsTouchedAlone, ReplyNeedsTouchedAlone, WritesAreTouched};
 ghost use Rattle.flat_laws.specs.Pieces.{ChangeAsksAgree, StepAsksAgree};
+
+/// What an entry is to a run of the flat machine, at a point of it. One of a process comes there just where all
+/// conditions of `ComesAt` hold, and then leads to `led_to`; where one of them fails, it is none of the run. One of no
+/// process leaves the point as it is.
+pub fn entries_come()
+    ensures leads { (A : Inputs) (point : Point) (pid : ℕ) (e : Entry) → ComesAt A point pid e → flat_entry A point e ≡ Some (led_to A point pid e) }
+    ensures comes { (A : Inputs) (point next : Point) (pid : ℕ) (e : Entry) → process_of_entry e ≡ Some pid → flat_entry A point e ≡ Some next
+        → ComesAt A point pid e × (next ≡ led_to A point pid e) }
+    ensures refused { (A : Inputs) (point : Point) (pid : ℕ) (e : Entry) → process_of_entry e ≡ Some pid → (ComesAt A point pid e → ⊥)
+        → flat_entry A point e ≡ None }
+    ensures others { (A : Inputs) (point : Point) (e : Entry) → process_of_entry e ≡ None → flat_entry A point e ≡ Some point }
+{}
 
 /// The next entry of a process's step follows from the flat state, from whether its pieces were refused, and from
 /// whether it has bytes out. So two entries of a process that may come next, neither of which says that pieces found no
