@@ -5,7 +5,7 @@ use Rattle.vm_facts.specs.declared.page.Page.TheVariants.{Data, Stack, Text}
 use Rattle.vm_facts.specs.declared.page.PageState.{PageState}
 use Rattle.vm_facts.specs.declared.page.PageState.TheVariants.{Unfilled, Valid, Invalid, Coming, Going, OnSwap}
 use Rattle.flat_state.specs.PageNames.{same_page}
-use Rattle.page_model.specs.Pages.{written_mark, left_state, frame_of}
+use Rattle.page_model.specs.Pages.{dirty_mark, unsaved_mark, unmarked, written_mark, left_state, frame_of}
 use Rattle.page_model.specs.Frames.{set_frame}
 use Rattle.vm_facts.specs.Lists.{times, without}
 use Rattle.page_model.specs.Placement.{Placement, Transfer, Part, Errand, Writes, Reads, Source, FromSwap, FromFile, state_of, mark_of, page_of, put}
@@ -33,7 +33,7 @@ turn p q s m free transfers = record (put p q s m) { free = free; transfers = tr
 -- a page takes the first of these free frames, valid and marked; with none free nothing changes
 abbrev pub fill_at : Placement → Page → List ℕ → Placement
 fill_at p q [] = p
-fill_at p q (f ∷ rest) = enter (evict p f) q f (Valid f) true p.transfers
+fill_at p q (f ∷ rest) = enter (evict p f) q f (Valid f) dirty_mark p.transfers
 
 -- a data or stack page takes the first free frame and is dirty
 abbrev pub fill : Placement → Page → Placement
@@ -91,8 +91,8 @@ launch_run p qs = launch_all (begin p Writes) qs
 
 -- the mark of a demanded page that was read: a data page from the image was never on swap
 abbrev pub arrived_mark : Source → Page → Bool → Bool
-arrived_mark FromFile (Data sid v) m = true
-arrived_mark FromFile (Stack sid v) m = true
+arrived_mark FromFile (Data sid v) m = dirty_mark
+arrived_mark FromFile (Stack sid v) m = dirty_mark
 arrived_mark FromFile (Text image v) m = m
 arrived_mark FromSwap q m = m
 
@@ -143,8 +143,8 @@ retire p q = retire_to p q (state_of p q)
 
 -- a user write of a page in this state: only a valid data or stack page changes
 abbrev pub touch_to : Placement → Page → PageState → Placement
-touch_to p (Data sid v) (Valid f) = turn p (Data sid v) (Valid f) true p.free p.transfers
-touch_to p (Stack sid v) (Valid f) = turn p (Stack sid v) (Valid f) true p.free p.transfers
+touch_to p (Data sid v) (Valid f) = turn p (Data sid v) (Valid f) dirty_mark p.free p.transfers
+touch_to p (Stack sid v) (Valid f) = turn p (Stack sid v) (Valid f) dirty_mark p.free p.transfers
 touch_to p _ _ = p
 
 -- a user write makes a valid data or stack page dirty
@@ -160,8 +160,8 @@ touch_all p (q ∷ qs) = touch_all (touch p q) qs
 
 -- the page is forgotten; its frame goes to the head of the free list, with no page
 abbrev pub drop_at : Placement → Page → Option ℕ → Placement
-drop_at p q None = put p q Unfilled false
-drop_at p q (Some f) = record (put p q Unfilled false) { holds = set_frame p.holds f None; free = f ∷ without f p.free }
+drop_at p q None = put p q Unfilled unmarked
+drop_at p q (Some f) = record (put p q Unfilled unmarked) { holds = set_frame p.holds f None; free = f ∷ without f p.free }
 
 -- the page is forgotten, and the frame that its state names, if any, is the first free one
 abbrev pub drop_page : Placement → Page → Placement
@@ -175,11 +175,11 @@ drop_all p (q ∷ qs) = drop_all (drop_page p q) qs
 -- a text page that nobody shares is no longer saved: a frame off the free list, by its times there, goes to the tail,
 -- and what was on swap alone must be read from the file again
 abbrev pub leave_by : Placement → Page → PageState → ℕ → Placement
-leave_by p q (Valid f) listed = turn p q (Invalid f) false (p.free ++ f ∷ []) p.transfers
-leave_by p q (Invalid f) zero = turn p q (Invalid f) false (p.free ++ f ∷ []) p.transfers
-leave_by p q (Invalid f) (suc n) = turn p q (Invalid f) false p.free p.transfers
-leave_by p q OnSwap listed = put p q Unfilled false
-leave_by p q Unfilled listed = put p q Unfilled false
+leave_by p q (Valid f) listed = turn p q (Invalid f) unsaved_mark (p.free ++ f ∷ []) p.transfers
+leave_by p q (Invalid f) zero = turn p q (Invalid f) unsaved_mark (p.free ++ f ∷ []) p.transfers
+leave_by p q (Invalid f) (suc n) = turn p q (Invalid f) unsaved_mark p.free p.transfers
+leave_by p q OnSwap listed = put p q Unfilled unsaved_mark
+leave_by p q Unfilled listed = put p q Unfilled unsaved_mark
 leave_by p q (Coming f) listed = p
 leave_by p q (Going f) listed = p
 

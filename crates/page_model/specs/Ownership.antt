@@ -11,7 +11,7 @@ use Rattle.swap_book.specs.Owners.{u_pieces}
 use Rattle.swap_book.specs.Holdings.{Holdings, lengths, block_in}
 use Rattle.swap_book.specs.Book.{IsBook, IsPlace}
 use Rattle.flat_state.specs.PageNames.{number_of}
-use Rattle.page_model.specs.Pages.{frame_of}
+use Rattle.page_model.specs.Pages.{unsaved_mark, frame_of}
 use Rattle.vm_facts.specs.Lists.{times}
 use Rattle.page_model.specs.Placement.{Placement, Moving, slots_of, state_of, mark_of, page_of, sharers, IsFrame, parts_of, flying, moving_state}
 
@@ -109,7 +109,7 @@ pub record OwnsBlocks (size : ℕ) (lives : ℕ → Bool) (p : Placement) (hs : 
 
 -- a text page that nobody shares isn't saved; it is at most in a free frame
 pub record IsAside (p : Placement) (q : Page) : Type 0 where
-  pub unsaved : mark_of p q ≡ false
+  pub unsaved : mark_of p q ≡ unsaved_mark
   pub rests : (state_of p q ≡ Unfilled) ⊎ ((f : ℕ) × (state_of p q ≡ Invalid f) × (0 < times f p.free))
 
 -- each text page of an image that no space shares is unsaved, and at most in a free frame

@@ -1,11 +1,11 @@
 -- Where the bytes of each page of a flat memory are: in its frame, on swap, in the file of its image, or nowhere,
 -- where they are zeros.
-use Rattle.std.specs.Prelude.{◌≡◌, ◌≢◌, ℕ, Bool, true, false, List, [], ◌∷◌, replicate, Option, Some, None}
+use Rattle.std.specs.Prelude.{◌≡◌, ◌≢◌, ℕ, Bool, false, List, [], ◌∷◌, replicate, Option, Some, None}
 use Rattle.vm_facts.specs.declared.page.Page.{Page}
 use Rattle.vm_facts.specs.declared.page.Page.TheVariants.{Data, Stack, Text}
 use Rattle.vm_facts.specs.declared.page.PageState.{PageState}
 use Rattle.vm_facts.specs.declared.page.PageState.TheVariants.{Unfilled, Valid, Invalid, Coming, Going, OnSwap}
-use Rattle.page_model.specs.Pages.{Filling, Zeros, OfImage, frame_of}
+use Rattle.page_model.specs.Pages.{Filling, Zeros, OfImage, saved_mark, unsaved_mark, frame_of}
 use Rattle.page_model.specs.Frames.{at_frame, set_frame}
 use Rattle.page_model.specs.Placement.{Placement, Transfer, Part, Source, Errand, Writes, Reads, FromSwap, FromFile, Due, Start, CopyOf, state_of, mark_of, is_dirty, filling_of, errand_at, due_of_page, parts_of, IsThere}
 
@@ -42,13 +42,13 @@ KeepsUnfilled b q (Some (CopyOf r parent)) filling = b.memory parent ≡ b.memor
 abbrev pub IsUnsaved : Page → Bool → Type 0
 IsUnsaved (Data sid v) dirty = Unit {0}
 IsUnsaved (Stack sid v) dirty = Unit {0}
-IsUnsaved (Text image v) saved = saved ≡ false
+IsUnsaved (Text image v) mark = mark ≡ unsaved_mark
 
 -- what a read from a file brings: text that isn't saved, or the one data page that is demanded
 abbrev pub IsFromFile : Page → Bool → Page → Type 0
 IsFromFile (Data sid v) dirty demanded = Data sid v ≡ demanded
 IsFromFile (Stack sid v) dirty demanded = Stack sid v ≡ demanded
-IsFromFile (Text image v) saved demanded = saved ≡ false
+IsFromFile (Text image v) mark demanded = mark ≡ unsaved_mark
 
 -- of a page that is being read, by its mark and what its transfer is for
 abbrev pub KeepsComing : Bytes → Page → Bool → Option Errand → Type 0
@@ -61,7 +61,7 @@ KeepsComing b q mark (Some (Reads FromFile demanded)) = (b.file q ≡ b.memory q
 abbrev pub IfSaved : Bytes → Page → Bool → Type 0
 IfSaved b (Data sid v) dirty = Unit {0}
 IfSaved b (Stack sid v) dirty = Unit {0}
-IfSaved b (Text image v) saved = saved ≡ true → b.swap (Text image v) ≡ b.memory (Text image v)
+IfSaved b (Text image v) mark = mark ≡ saved_mark → b.swap (Text image v) ≡ b.memory (Text image v)
 
 -- where a page's flat bytes are, by its state
 abbrev pub KeepsBy : Placement → Bytes → Page → PageState → Type 0

@@ -12,16 +12,36 @@ pub data Filling : Type 0 where
   Zeros : Filling
   OfImage : Filling
 
+-- the mark of a data or stack page that has to be written before its frame is given away
+abbrev pub dirty_mark : Bool
+dirty_mark = true
+
+-- the mark of a data or stack page that doesn't have to be written
+abbrev pub clean_mark : Bool
+clean_mark = false
+
+-- the mark of a text page that is on swap
+abbrev pub saved_mark : Bool
+saved_mark = true
+
+-- the mark of a text page that isn't on swap
+abbrev pub unsaved_mark : Bool
+unsaved_mark = false
+
+-- the mark of a page that was never filled or is forgotten: clean, or unsaved
+abbrev pub unmarked : Bool
+unmarked = false
+
 -- what is said of one page: its state, its mark, and what fills it
 pub record Slot : Type 0 where
   pub state : PageState
-  -- a data or stack page is dirty; a text page is saved
+  -- a data or stack page is dirty or clean; a text page is saved or unsaved
   pub mark : Bool
   pub filling : Filling
 
 -- what is said of a page that isn't there
 abbrev pub no_slot : Slot
-no_slot = record { state = Unfilled; mark = false; filling = Zeros }
+no_slot = record { state = Unfilled; mark = unmarked; filling = Zeros }
 
 -- what fills a page is remembered as long as the page is unfilled
 abbrev pub filling_behind : PageState → Filling → Filling
@@ -119,11 +139,11 @@ is_dirty_by (Text image v) saved = not saved
 
 -- the mark of a page whose write to swap has ended: data and stack are clean, text is saved
 abbrev pub written_mark : Page → Bool
-written_mark (Data sid v) = false
-written_mark (Stack sid v) = false
-written_mark (Text image v) = true
+written_mark (Data sid v) = clean_mark
+written_mark (Stack sid v) = clean_mark
+written_mark (Text image v) = saved_mark
 
--- where a page is once its free frame is taken: text that isn't saved must be read from the file again
+-- where a page is once its free frame is taken: text with the mark false isn't saved, and must be read from the file again
 abbrev pub left_state : Page → Bool → PageState
 left_state (Text image v) false = Unfilled
 left_state (Text image v) true = OnSwap

@@ -6,7 +6,7 @@ use Rattle.vm_facts.specs.declared.page.PageState.{PageState}
 use Rattle.vm_facts.specs.declared.page.PageState.TheVariants.{Unfilled, Coming, Going}
 use Rattle.flat_state.specs.AoutImageImage.{Image}
 use Rattle.flat_state.specs.AoutImageImageSpecs.{data_given, image_data_pages, text_pages_of}
-use Rattle.page_model.specs.Pages.{Slot, Filling, Zeros, OfImage, SpacePages, TextPages, numbered, changed, data_in, stack_in, text_in, with_data, with_stack, with_text, no_slot, is_dirty_by}
+use Rattle.page_model.specs.Pages.{Slot, Filling, Zeros, OfImage, SpacePages, TextPages, numbered, changed, data_in, stack_in, text_in, with_data, with_stack, with_text, no_slot, unmarked, is_dirty_by}
 use Rattle.flat_state.specs.PageNames.{number_of, same_page}
 use Rattle.page_model.specs.Frames.{at_frame, count_up}
 
@@ -86,7 +86,7 @@ slot_of p q = get_or (slots_of p q) (number_of q) no_slot
 abbrev pub state_of : Placement → Page → PageState
 state_of p q = (slot_of p q).state
 
--- whether a page is dirty, or a text page saved; false where it isn't there
+-- whether a page is dirty, or a text page saved; unmarked where it isn't there
 abbrev pub mark_of : Placement → Page → Bool
 mark_of p q = (slot_of p q).mark
 
@@ -200,7 +200,7 @@ data_filling facts v = cond (nat_lt (1024 * v) (data_given facts)) OfImage Zeros
 
 -- an unfilled page, not marked, with what fills it
 abbrev pub unfilled : Filling → Slot
-unfilled x = record { state = Unfilled; mark = false; filling = x }
+unfilled x = record { state = Unfilled; mark = unmarked; filling = x }
 
 -- so many unfilled data pages of an image, from page v on
 abbrev pub unfilled_data : Image → ℕ → ℕ → List Slot
