@@ -10,13 +10,15 @@ use Rattle.vm_facts.specs.declared.entry.Entry.TheVariants as entries
 use Rattle.page_model.specs.Pages.{Slot, no_slot, is_dirty_by, written_mark, left_state, frame_of, filling_behind}
 use Rattle.flat_state.specs.PageNames.{number_of, beside, pages_from, same_page, is_among}
 use Rattle.page_model.specs.Placement.{Placement, Transfer, Part, Errand, Writes, Reads, Source, FromSwap, FromFile, slots_of, slot_of, state_of, mark_of, is_dirty, IsThere, page_of, put, Moving, moving, parts_of}
-use Rattle.page_model.specs.Moves.{evict, evict_at, fill, fill_at, begin, get_one, get_at, get_all, launch_run, land, land_read, land_all, done, done_of, arrived_mark, reclaim, reclaim_to, retire, retire_to}
+use Rattle.page_model.specs.Moves.{evict, evict_at, fill, fill_at, get_run, launch_run, done, done_of, arrived_mark, reclaim, reclaim_to, retire, retire_to}
+use Rattle.page_model.specs.Steps.{land_then, land_read_then, land_all_then, begin, get_one, get_at, get_all}
 use Rattle.page_model.specs.Runs.{pages_of_run, run_out, goes_along, is_idle, is_near, most_written}
 use Rattle.page_model.specs.Hands.{expire, expire_of, expire_if, expire_to, sweep, taken, hand_move, hand_moves}
 use Rattle.page_model.specs.Place.{put_step, put_by, place_entry}
 use Rattle.page_model.specs.Reading.{read_errand}
 use Rattle.page_model.specs.Conditions.{EachPage}
 use Rattle.page_model.specs.Ownership.{OwnsFrames, Each, IsMoving}
+use Rattle.page_laws.proofs.Moves.InSteps.{get_steps, launch_steps, land_steps}
 use Rattle.page_laws.proofs.Lists.Pages.{page_cases, put_same, put_other, put_length}
 use Rattle.flat_state.proofs.PageNames.{same_page_is, same_page_self}
 use Rattle.page_laws.proofs.Moves.Steps.{page_in}
@@ -92,9 +94,12 @@ get_calm p e q w c = go p.free
     go [] = c
     go (f ∷ rest) = put_calm (evict p f) q (Coming f) (mark_of p q) w (λ i. ((subst (λ (x : Page). Calm p x) i c).0, refl)) (evict_calm p f w c)
 
-pub get_all_calm : (qs : List Page) (p : Placement) (e : Errand) (w : Page) → Calm p w → Calm (get_all p e qs) w
+get_all_calm : (qs : List Page) (p : Placement) (e : Errand) (w : Page) → Calm p w → Calm (get_all p e qs) w
 get_all_calm [] p e w c = c
 get_all_calm (v ∷ qs) p e w c = get_all_calm qs (get_one p e v) e w (get_calm p e v w c)
+
+get_run_calm : (p : Placement) (e : Errand) (qs : List Page) (w : Page) → Calm p w → Calm (get_run p e qs) w
+get_run_calm p e qs w c = subst (λ (r : Placement). Calm r w) (get_steps p e qs) (get_all_calm qs (begin p e) e w c)
 
 -- Pages that move on with their frames.
 
@@ -149,7 +154,8 @@ none_dirty [] p w d c = tt
 none_dirty (v ∷ qs) p w d c = ((λ e. absurd (let k : true ≡ false = sym d.0 ∙ ap (λ (x : Page). is_dirty p x) (sym e) ∙ c in cc)), none_dirty qs p w d.1 c)
 
 launch_run_calm : (p : Placement) (qs : List Page) (w : Page) → AllDirty p qs → Calm p w → Calm (launch_run p qs) w
-launch_run_calm p qs w d c = subst (CalmSlot w) (sym (launch_all_other qs (begin p Writes) w (none_dirty qs p w d c.0))) c
+launch_run_calm p qs w d c = subst (CalmSlot w)
+    (sym (ap (λ (r : Placement). slot_of r w) (sym (launch_steps p qs)) ∙ launch_all_other qs (begin p Writes) w (none_dirty qs p w d c.0))) c
 
 run_out_dirty : (p : Placement) (locked : List Page) (q : Page) → is_dirty p q ≡ true → AllDirty p (pages_of_run q (run_out p locked q))
 run_out_dirty p locked q d = run_each (λ r. is_dirty p r ≡ true) (λ w. goes_along p locked (beside q w) && is_near q w) q (run_out p locked q)
@@ -196,26 +202,26 @@ arrived_clean FromFile demanded (Data sid n) m e (inr h) c =
 arrived_clean FromFile demanded (Stack sid n) m e (inr h) c = absurd
     (let k : Stack sid n ≡ demanded = same_page_is (Stack sid n) demanded e in let z : true ≡ false = sym (same_page_self (Stack sid n)) ∙ ap (λ (x : Page). same_page x (Stack sid n)) k ∙ h in cc)
 
-land_calm : (p : Placement) (e : Errand) (x : Part) (rest : List Transfer) (w : Page) → Stands (arrives_by e w) w → Calm p w → Calm (land p e x rest) w
+land_calm : (p : Placement) (e : Errand) (x : Part) (rest : List Transfer) (w : Page) → Stands (arrives_by e w) w → Calm p w → Calm (land_then p e x rest) w
 land_calm p Writes x rest w h c = put_calm p x.page (Invalid x.frame) (written_mark x.page) w (λ i. (written_clean x.page, refl)) c
 land_calm p (Reads source demanded) x rest w h c = go (same_page x.page demanded) refl
   where
-    go : (b : Bool) → same_page x.page demanded ≡ b → Calm (land_read p source x rest b) w
+    go : (b : Bool) → same_page x.page demanded ≡ b → Calm (land_read_then p source x rest b) w
     go true e = put_calm p x.page (Valid x.frame) (arrived_mark source x.page (mark_of p x.page)) w
         (λ i. (arrived_clean source demanded x.page (mark_of p x.page) e (subst (λ (y : Page). Stands (arrives_by (Reads source demanded) y) y) i h) (subst (λ (y : Page). Calm p y) i c).0, refl)) c
     go false e = kept_calm p x.page (Invalid x.frame) w refl c
 
 land_all_calm : (xs : List Part) (p : Placement) (e : Errand) (ts : List Transfer) (w : Page) → Stands (arrives_by e w) w → Calm p w
-    → Calm (land_all p e xs ts) w
+    → Calm (land_all_then p e xs ts) w
 land_all_calm [] p e ts w h c = c
-land_all_calm (x ∷ xs) p e ts w h c = land_all_calm xs (land p e x (record { errand = e; parts = xs } ∷ ts)) e ts w h (land_calm p e x (record { errand = e; parts = xs } ∷ ts) w h c)
+land_all_calm (x ∷ xs) p e ts w h c = land_all_calm xs (land_then p e x (record { errand = e; parts = xs } ∷ ts)) e ts w h (land_calm p e x (record { errand = e; parts = xs } ∷ ts) w h c)
 
 done_calm : (p : Placement) (w : Page) → Stands (arrives_first p.transfers w) w → Calm p w → Calm (done p) w
 done_calm p w h c = go p.transfers h
   where
     go : (ts : List Transfer) → Stands (arrives_first ts w) w → Calm (done_of p ts) w
     go [] h = c
-    go (t ∷ ts) h = land_all_calm t.parts p t.errand ts w h c
+    go (t ∷ ts) h = subst (λ (r : Placement). Calm r w) (land_steps t.parts p t.errand ts) (land_all_calm t.parts p t.errand ts w h c)
 
 -- Paging entries.
 
@@ -229,7 +235,7 @@ Spares p _ w = Unit {0}
 
 pub entry_calm : (locked : List Page) (at : ℕ) (p : Placement) (e : Entry) (w : Page) → Spares p e w → Calm p w → Calm (place_entry locked at p e) w
 entry_calm locked at p (entries.Zero q) w h c = fill_calm p q w h c
-entry_calm locked at p (entries.Get q lo n) w h c = get_all_calm (pages_from q lo n) (begin p (read_errand p q)) (read_errand p q) w c
+entry_calm locked at p (entries.Get q lo n) w h c = get_run_calm p (read_errand p q) (pages_from q lo n) w c
 entry_calm locked at p (entries.Copy q) w h c = fill_calm p q w h c
 entry_calm locked at p (entries.Reclaim q) w h c = reclaim_calm p q w c
 entry_calm locked at p (entries.Hands n) w h c = moves_calm n p locked w c
@@ -261,24 +267,25 @@ pub stored_going : (p : Placement) (u : Entry) (q : Page) → OwnsFrames p → i
 stored_going p entries.Done q o h = first_going p q p.transfers o.moves h
 stored_going p _ q o h = absurd cc
 
-landed_calm : (p : Placement) (x : Part) (rest : List Transfer) (q : Page) → IsThere p q → q ≡ x.page → Calm (land p Writes x rest) q
-landed_calm p x rest q there e = subst (λ (y : Page). Calm (land p Writes x rest) y) (sym e)
+landed_calm : (p : Placement) (x : Part) (rest : List Transfer) (q : Page) → IsThere p q → q ≡ x.page → Calm (land_then p Writes x rest) q
+landed_calm p x rest q there e = subst (λ (y : Page). Calm (land_then p Writes x rest) y) (sym e)
     (subst (CalmSlot x.page) (sym (put_same p x.page (Invalid x.frame) (written_mark x.page) (subst (IsThere p) e there))) (written_clean x.page, refl))
 
 all_landed_calm : (xs : List Part) (p : Placement) (ts : List Transfer) (q : Page) → IsThere p q → is_among q (stored_by Writes xs) ≡ true
-    → Calm (land_all p Writes xs ts) q
+    → Calm (land_all_then p Writes xs ts) q
 all_landed_calm [] p ts q there h = absurd cc
 all_landed_calm (x ∷ xs) p ts q there h = elim (or_cases (same_page q x.page) (is_among q (stored_by Writes xs)) h) [
-  | inl e ↦ land_all_calm xs (land p Writes x (record { errand = Writes; parts = xs } ∷ ts)) Writes ts q (inr refl)
+  | inl e ↦ land_all_calm xs (land_then p Writes x (record { errand = Writes; parts = xs } ∷ ts)) Writes ts q (inr refl)
       (landed_calm p x (record { errand = Writes; parts = xs } ∷ ts) q there (same_page_is q x.page e))
-  | inr k ↦ all_landed_calm xs (land p Writes x (record { errand = Writes; parts = xs } ∷ ts)) ts q (let a = put_length p x.page (Invalid x.frame) (written_mark x.page) q in omega (arith, there)) k
+  | inr k ↦ all_landed_calm xs (land_then p Writes x (record { errand = Writes; parts = xs } ∷ ts)) ts q
+      (let a = put_length p x.page (Invalid x.frame) (written_mark x.page) q in omega (arith, there)) k
 ]
 
 first_calm : (p : Placement) (q : Page) (ts : List Transfer) → IsThere p q → is_among q (stored_first ts) ≡ true → Calm (done_of p ts) q
 first_calm p q [] there h = absurd cc
-first_calm p q (t ∷ ts) there h = by t.errand h
+first_calm p q (t ∷ ts) there h = subst (λ (r : Placement). Calm r q) (land_steps t.parts p t.errand ts) (by t.errand h)
   where
-    by : (e : Errand) → is_among q (stored_by e t.parts) ≡ true → Calm (land_all p e t.parts ts) q
+    by : (e : Errand) → is_among q (stored_by e t.parts) ≡ true → Calm (land_all_then p e t.parts ts) q
     by Writes h = all_landed_calm t.parts p ts q there h
     by (Reads source demanded) h = absurd cc
 

@@ -13,15 +13,15 @@ use Rattle.vm_facts.specs.declared.entry.Entry.{Entry}
 use Rattle.vm_facts.specs.declared.entry.Entry.TheVariants as entries
 use Rattle.page_model.specs.Pages.{Slot, Filling, Zeros, OfImage, frame_of}
 use Rattle.page_model.specs.Placement.{Placement, Transfer, Due, slot_of, state_of, mark_of, filling_by, filling_of, IsThere, sharers}
-use Rattle.page_model.specs.Moves.{evict, fill_at, reclaim, reclaim_to, done, done_of}
+use Rattle.page_model.specs.Moves.{evict, fill_at, reclaim, reclaim_to, done}
 use Rattle.page_model.specs.Place.{filled}
+use Rattle.page_model.specs.Serve.{force, force_entry, serve_step, serve_unit, is_full, Forces, Serves, Serving, serving_by, unit_of_serving, after_serving}
 use Rattle.page_model.specs.Reading.{read_step, read_entry}
-use Rattle.page_model.specs.Serve.{force, force_entry, Serving, serving_by, unit_of_serving, after_serving}
-use Rattle.page_model.specs.Serve.{serve_step, serve_unit, is_full, Forces, Serves}
 use Rattle.page_model.specs.Rank.{rank, HandsStand, HasRoom}
 use Rattle.page_model.specs.Conditions.{IsShared}
 use Rattle.page_model.specs.Dues.{NotDue}
 use Rattle.page_model.specs.Ownership.{OwnsFrames}
+use Rattle.page_laws.proofs.Moves.InSteps.{done_cases}
 use Rattle.page_laws.proofs.Lists.Pages.{put_state}
 use Rattle.page_laws.proofs.Blocks.Steps.{SameShape}
 use Rattle.page_laws.proofs.Moves.Stays.{Steady, Stays, done_steady, force_stays}
@@ -71,11 +71,8 @@ coming_filled (Going f) c e = absurd cc
 coming_filled OnSwap c e = absurd cc
 
 done_lands : (p : Placement) (q : Page) → IsThere p q → (state_of (done p) q ≡ state_of p q) ⊎ Landed (state_of (done p) q)
-done_lands p q there = go p.transfers
-  where
-    go : (ts : List Transfer) → (state_of (done_of p ts) q ≡ state_of p q) ⊎ Landed (state_of (done_of p ts) q)
-    go [] = inl refl
-    go (t ∷ ts) = land_all_lands t.parts p t.errand ts q (state_of p q) there (inl refl)
+done_lands p q there = done_cases (λ (r : Placement). (state_of r q ≡ state_of p q) ⊎ Landed (state_of r q)) p (inl refl)
+    (λ t ts e. land_all_lands t.parts p t.errand ts q (state_of p q) there (inl refl))
 
 reclaimed : (p : Placement) (q : Page) (f : ℕ) → IsThere p q → state_of p q ≡ Invalid f → state_of (reclaim p q) q ≡ Valid f
 reclaimed p q f there e = ap (λ (s : PageState). state_of (reclaim_to p q s) q) e ∙ put_state p q (Valid f) (mark_of p q) there

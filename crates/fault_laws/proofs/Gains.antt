@@ -9,12 +9,14 @@ use Rattle.flat_state.specs.PageNames.{number_of, same_page, is_among}
 use Rattle.page_model.specs.Pages.{is_valid, left_state, written_mark, frame_of}
 use Rattle.page_model.specs.Frames.{set_frame}
 use Rattle.page_model.specs.Placement.{Placement, Transfer, Part, Errand, Writes, Reads, Source, state_of, mark_of, is_dirty, page_of, put, IsThere}
-use Rattle.page_model.specs.Moves.{evict, evict_at, turn, join_last, touch, touch_to, touch_all, fill, fill_at, begin, get_one, get_at, get_all, get_run, launch, launch_to, launch_all}
-use Rattle.page_model.specs.Moves.{launch_run, arrived_mark, land, land_read, land_all, done, done_of, reclaim, reclaim_to, retire, retire_to, drop_page, drop_at, drop_all, leave_page, leave_by, leave_all, listed}
+use Rattle.page_model.specs.Moves.{evict, evict_at, turn, touch, touch_to, touch_all, fill, fill_at, get_run}
+use Rattle.page_model.specs.Moves.{launch_run, arrived_mark, done, reclaim, reclaim_to, retire, retire_to, drop_page, drop_at, drop_all, leave_page, leave_by, leave_all, listed}
+use Rattle.page_model.specs.Steps.{land_then, land_read_then, land_all_then, join_last, begin, get_one, get_at, get_all, launch, launch_to, launch_all}
 use Rattle.page_model.specs.Runs.{run_out, pages_of_run}
 use Rattle.page_model.specs.Hands.{expire, expire_of, expire_if, expire_to, sweep, hand_move, hand_moves}
 use Rattle.page_model.specs.Place.{put_by, put_step}
 use Rattle.flat_state.proofs.PageNames.{same_page_is}
+use Rattle.page_laws.proofs.Moves.InSteps.{get_steps, launch_steps, land_steps, done_cases}
 use Rattle.page_laws.proofs.Lists.Pages.{page_cases, put_state, put_length}
 use Rattle.page_laws.proofs.Moves.Steps.{page_in, put_other_state}
 use Rattle.page_laws.proofs.Moves.Transfers.{land_all_rest}
@@ -166,14 +168,16 @@ pub get_run_valid : (p : Placement) (source : Source) (demanded : Page) (qs : Li
     → is_valid (state_of (get_run p (Reads source demanded) qs) w) ≡ true → is_valid (state_of p w) ≡ true
 get_run_valid p source demanded qs w h =
     let b = reads_begun p.transfers (Reads source demanded) in
-    let k : Keeps (begin p (Reads source demanded)) (get_run p (Reads source demanded) qs) = get_all_keeps qs (begin p (Reads source demanded)) (Reads source demanded) (omega arith) in
+    let k : Keeps (begin p (Reads source demanded)) (get_run p (Reads source demanded) qs) =
+    subst (Keeps (begin p (Reads source demanded))) (get_steps p (Reads source demanded) qs) (get_all_keeps qs (begin p (Reads source demanded)) (Reads source demanded) (omega arith)) in
     k.valid w h
 
 pub get_run_reads : (p : Placement) (source : Source) (demanded : Page) (qs : List Page)
     → reads_of (get_run p (Reads source demanded) qs).transfers ≤ 1 + reads_of p.transfers
 get_run_reads p source demanded qs =
     let b = reads_begun p.transfers (Reads source demanded) in
-    let k : Keeps (begin p (Reads source demanded)) (get_run p (Reads source demanded) qs) = get_all_keeps qs (begin p (Reads source demanded)) (Reads source demanded) (omega arith) in
+    let k : Keeps (begin p (Reads source demanded)) (get_run p (Reads source demanded) qs) =
+    subst (Keeps (begin p (Reads source demanded))) (get_steps p (Reads source demanded) qs) (get_all_keeps qs (begin p (Reads source demanded)) (Reads source demanded) (omega arith)) in
     let l = k.reads in
     omega arith
 
@@ -222,9 +226,9 @@ launch_all_keeps [] p = keeps_self p
 launch_all_keeps (v ∷ qs) p = keeps_both p (launch p v) (launch_all (launch p v) qs) (launch_keeps p v) (launch_all_keeps qs (launch p v))
 
 launch_run_keeps : (p : Placement) (qs : List Page) → Keeps p (launch_run p qs)
-launch_run_keeps p qs = keeps_both p (begin p Writes) (launch_run p qs)
+launch_run_keeps p qs = subst (Keeps p) (launch_steps p qs) (keeps_both p (begin p Writes) (launch_all (begin p Writes) qs)
     (record { valid = λ w h. h; reads = let b = reads_begun p.transfers Writes in omega arith })
-    (launch_all_keeps qs (begin p Writes))
+    (launch_all_keeps qs (begin p Writes)))
 
 retire_keeps : (p : Placement) (v : Page) → Keeps p (retire p v)
 retire_keeps p v = go (state_of p v)
@@ -280,18 +284,18 @@ moves_keep (suc n) p locked = keeps_both p (hand_move p locked) (hand_moves (han
 
 -- The end of a transfer.
 
-land_write_valid : (xs : List Part) (p : Placement) (ts : List Transfer) (w : Page) → is_valid (state_of (land_all p Writes xs ts) w) ≡ true
+land_write_valid : (xs : List Part) (p : Placement) (ts : List Transfer) (w : Page) → is_valid (state_of (land_all_then p Writes xs ts) w) ≡ true
     → is_valid (state_of p w) ≡ true
 land_write_valid [] p ts w h = h
 land_write_valid (x ∷ xs) p ts w h =
     let rest : List Transfer = record { errand = Writes; parts = xs } ∷ ts in
-    put_valid p x.page (Invalid x.frame) (written_mark x.page) (λ e. absurd cc) w (land_write_valid xs (land p Writes x rest) ts w h)
+    put_valid p x.page (Invalid x.frame) (written_mark x.page) (λ e. absurd cc) w (land_write_valid xs (land_then p Writes x rest) ts w h)
 
 land_read_gains : (p : Placement) (source : Source) (demanded : Page) (x : Part) (rest : List Transfer)
-    → Gains demanded p (land p (Reads source demanded) x rest)
+    → Gains demanded p (land_then p (Reads source demanded) x rest)
 land_read_gains p source demanded x rest w = go (same_page x.page demanded) refl
   where
-    go : (b : Bool) → same_page x.page demanded ≡ b → is_valid (state_of (land_read p source x rest b) w) ≡ true → (is_valid (state_of p w) ≡ true) ⊎ (w ≡ demanded)
+    go : (b : Bool) → same_page x.page demanded ≡ b → is_valid (state_of (land_read_then p source x rest b) w) ≡ true → (is_valid (state_of p w) ≡ true) ⊎ (w ≡ demanded)
     go true e h = elim (put_gains p x.page (Valid x.frame) (arrived_mark source x.page (mark_of p x.page)) w h) [
       | inl was ↦ inl was
       | inr s ↦ inr (s ∙ same_page_is x.page demanded e)
@@ -299,11 +303,11 @@ land_read_gains p source demanded x rest w = go (same_page x.page demanded) refl
     go false e h = inl (put_valid p x.page (Invalid x.frame) (mark_of p x.page) (λ k. absurd cc) w h)
 
 land_all_gains : (xs : List Part) (p : Placement) (source : Source) (demanded : Page) (ts : List Transfer)
-    → Gains demanded p (land_all p (Reads source demanded) xs ts)
+    → Gains demanded p (land_all_then p (Reads source demanded) xs ts)
 land_all_gains [] p source demanded ts w h = inl h
 land_all_gains (x ∷ xs) p source demanded ts w h =
     let rest : List Transfer = record { errand = Reads source demanded; parts = xs } ∷ ts in
-    elim (land_all_gains xs (land p (Reads source demanded) x rest) source demanded ts w h) [
+    elim (land_all_gains xs (land_then p (Reads source demanded) x rest) source demanded ts w h) [
       | inl now ↦ land_read_gains p source demanded x rest w now
       | inr e ↦ inr e
     ]
@@ -318,22 +322,18 @@ keeps_gain p q k = GainsNone k.valid (let l = k.reads in omega arith)
 
 -- the end of a read makes its page valid
 pub done_gain : (p : Placement) → Gain p (done p) 0
-done_gain p = go p.transfers refl
+done_gain p = done_cases (λ (q : Placement). Gain p q 0) p (keeps_gain p p (keeps_self p)) (λ t ts h. by t ts t.errand refl h)
   where
-    by : (t : Transfer) (ts : List Transfer) (e : Errand) → t.errand ≡ e → p.transfers ≡ t ∷ ts → Gain p (land_all p e t.parts ts) 0
+    by : (t : Transfer) (ts : List Transfer) (e : Errand) → t.errand ≡ e → p.transfers ≡ t ∷ ts → Gain p (land_all_then p e t.parts ts) 0
     by t ts Writes e h =
-        let r = ap reads_of (land_all_rest t.parts p Writes ts) in
+        let r = ap (λ (q : Placement). reads_of q.transfers) (land_steps t.parts p Writes ts) ∙ ap reads_of (land_all_rest t.parts p Writes ts) in
         let b = ap reads_of h in
         GainsNone (land_write_valid t.parts p ts) (omega arith)
     by t ts (Reads source demanded) e h =
-        let r = ap reads_of (land_all_rest t.parts p (Reads source demanded) ts) in
+        let r = ap (λ (q : Placement). reads_of q.transfers) (land_steps t.parts p (Reads source demanded) ts) ∙ ap reads_of (land_all_rest t.parts p (Reads source demanded) ts) in
         let b = ap reads_of h in
         let i = ap read_by e in
         GainsOne demanded (land_all_gains t.parts p source demanded ts) (omega arith)
-
-    go : (ts : List Transfer) → p.transfers ≡ ts → Gain p (done_of p ts) 0
-    go [] h = keeps_gain p p (keeps_self p)
-    go (t ∷ ts) h = by t ts t.errand refl h
 
 -- User writes, and pages that are given up.
 

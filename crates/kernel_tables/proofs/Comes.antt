@@ -16,9 +16,9 @@ use Rattle.page_model.specs.Frames.{set_frame}
 use Rattle.vm_facts.specs.Lists.{times, without}
 use Rattle.page_model.specs.Pages.{Slot, Zeros, frame_of}
 use Rattle.page_model.specs.Placement.{Placement, Transfer, Part, Errand, Reads, Source, state_of, mark_of, IsThere, parts_of, flying, flying, moving, put}
-use Rattle.page_model.specs.Moves.{evict, enter, get_one, get_at, join_last}
+use Rattle.page_model.specs.Moves.{evict, enter}
+use Rattle.page_model.specs.Steps.{get_one, get_at, join_last}
 use Rattle.page_model.specs.Conditions.{CanEnter, IsShared}
-use Rattle.page_model.specs.Ownership.{is_marked_dirty}
 use Rattle.flat_state.specs.Numbers.{AllDistinct}
 use Rattle.kernel_laws.proofs.Frames.{flying-append, without_head}
 use Rattle.kernel_laws.proofs.PageLawsOwnershipPages.{get_owner}
@@ -27,7 +27,7 @@ use Rattle.kernel_laws.proofs.PageLawsMovesSteps.{EvictRest, evict_rest, framele
 use Rattle.kernel_laws.proofs.PageLawsBlocksSteps.{get_aside}
 use Rattle.kernel_tables.specs.Shown.{entry_in}
 use Rattle.table_view.specs.Shown.{is_away, idle_state}
-use Rattle.kernel_tables.specs.View.{Lists, Flown, flown_number, pages_in, flown_at, page_by, page_held, placement_of, frames_of, bytes_held, bytes_by}
+use Rattle.kernel_tables.specs.View.{Lists, Flown, flown_number, flown_at, page_by, page_held, placement_of, frames_of, bytes_held, bytes_by}
 use Rattle.kernel_tables.specs.Tied.{Tied}
 use Rattle.kernel_tables.specs.Known.{Known}
 use Rattle.kernel_tables.specs.Steps.{evicted, taken, coming}

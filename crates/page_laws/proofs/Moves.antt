@@ -1,3 +1,4 @@
+pub mod InSteps
 pub mod Hands
 pub mod Cases
 pub mod Steps

@@ -8,6 +8,7 @@ pub mod Frames
 pub mod Pages
 pub mod Placement
 pub mod Moves
+pub mod Steps
 pub mod Runs
 pub mod Hands
 pub mod Reading

@@ -41,53 +41,59 @@ fill p q = fill_at p q p.free
 
 -- Transfers.
 
--- a transfer that has no page yet
-abbrev pub begin : Placement → Errand → Placement
-begin p e = record p { transfers = p.transfers ++ record { errand = e; parts = [] } ∷ [] }
+-- a page takes the first of these free frames, and is coming; with none free nothing changes
+abbrev pub take_frame_at : Placement → Page → List ℕ → Placement
+take_frame_at p q [] = p
+take_frame_at p q (f ∷ rest) = enter (evict p f) q f (Coming f) (mark_of p q) p.transfers
 
--- one more page for the youngest transfer
-abbrev pub join_last : List Transfer → Errand → Part → List Transfer
-join_last [] e x = record { errand = e; parts = x ∷ [] } ∷ []
-join_last (t ∷ []) e x = record t { parts = t.parts ++ x ∷ [] } ∷ []
-join_last (t ∷ u ∷ us) e x = t ∷ join_last (u ∷ us) e x
+-- a page takes the first free frame, and is coming
+abbrev pub take_frame : Placement → Page → Placement
+take_frame p q = take_frame_at p q p.free
 
--- a page is read into the first of these free frames, by the youngest transfer; with none free nothing changes
-abbrev pub get_at : Placement → Errand → Page → List ℕ → Placement
-get_at p e q [] = p
-get_at p e q (f ∷ rest) =
-    enter (evict p f) q f (Coming f) (mark_of p q) (join_last p.transfers e (record { page = q; frame = f }))
+-- these pages take free frames in turn
+abbrev pub take_frames : Placement → List Page → Placement
+take_frames p [] = p
+take_frames p (q ∷ qs) = take_frames (take_frame p q) qs
 
--- a page takes the first free frame and is read into it
-abbrev pub get_one : Placement → Errand → Page → Placement
-get_one p e q = get_at p e q p.free
+-- these pages with the free frames that they take in turn, as far as these frames go
+abbrev pub taken_parts : List Page → List ℕ → List Part
+taken_parts [] free = []
+taken_parts (q ∷ qs) [] = []
+taken_parts (q ∷ qs) (f ∷ free) = record { page = q; frame = f } ∷ taken_parts qs (without f free)
 
--- these pages in turn join the youngest transfer, each read into a free frame
-abbrev pub get_all : Placement → Errand → List Page → Placement
-get_all p e [] = p
-get_all p e (q ∷ qs) = get_all (get_one p e q) e qs
-
--- a read of these pages begins
+-- these pages take free frames in turn, and the read of them into these frames is in flight
 abbrev pub get_run : Placement → Errand → List Page → Placement
-get_run p e qs = get_all (begin p e) e qs
+get_run p e qs = record (take_frames p qs) { transfers = p.transfers ++ record { errand = e; parts = taken_parts qs p.free } ∷ [] }
 
--- by the page's state: valid or invalid it joins the youngest transfer, written from its frame; else nothing changes
-abbrev pub launch_to : Placement → Page → PageState → Placement
-launch_to p q (Valid f) = turn p q (Going f) (mark_of p q) p.free (join_last p.transfers Writes (record { page = q; frame = f }))
-launch_to p q (Invalid f) = turn p q (Going f) (mark_of p q) p.free (join_last p.transfers Writes (record { page = q; frame = f }))
-launch_to p q _ = p
+-- a page in this state is going, from its frame: only a valid or invalid one changes
+abbrev pub send_to : Placement → Page → PageState → Placement
+send_to p q (Valid f) = turn p q (Going f) (mark_of p q) p.free p.transfers
+send_to p q (Invalid f) = turn p q (Going f) (mark_of p q) p.free p.transfers
+send_to p q _ = p
 
--- a page is written from its frame
-abbrev pub launch : Placement → Page → Placement
-launch p q = launch_to p q (state_of p q)
+-- a valid or invalid page is going, from its frame
+abbrev pub send : Placement → Page → Placement
+send p q = send_to p q (state_of p q)
 
--- these pages in turn join the youngest transfer, each written from its frame
-abbrev pub launch_all : Placement → List Page → Placement
-launch_all p [] = p
-launch_all p (q ∷ qs) = launch_all (launch p q) qs
+-- these pages are going in turn
+abbrev pub send_all : Placement → List Page → Placement
+send_all p [] = p
+send_all p (q ∷ qs) = send_all (send p q) qs
 
--- a write of these pages begins
+-- a page in this state with the frame that it is written from: only a valid or invalid one
+abbrev pub sent_part : Page → PageState → List Part
+sent_part q (Valid f) = record { page = q; frame = f } ∷ []
+sent_part q (Invalid f) = record { page = q; frame = f } ∷ []
+sent_part q _ = []
+
+-- these pages with the frames that they are written from, each once
+abbrev pub sent_parts : Placement → List Page → List Part
+sent_parts p [] = []
+sent_parts p (q ∷ qs) = sent_part q (state_of p q) ++ sent_parts (send p q) qs
+
+-- these pages are going, and the write of them from their frames is in flight
 abbrev pub launch_run : Placement → List Page → Placement
-launch_run p qs = launch_all (begin p Writes) qs
+launch_run p qs = record (send_all p qs) { transfers = p.transfers ++ record { errand = Writes; parts = sent_parts p qs } ∷ [] }
 
 -- the mark of a demanded page that was read: a data page from the image was never on swap
 abbrev pub arrived_mark : Source → Page → Bool → Bool
@@ -96,25 +102,25 @@ arrived_mark FromFile (Stack sid v) m = dirty_mark
 arrived_mark FromFile (Text image v) m = m
 arrived_mark FromSwap q m = m
 
--- a page of the oldest transfer lands: what was written and what wasn't demanded goes to the tail of the free list
-abbrev pub land_read : Placement → Source → Part → List Transfer → Bool → Placement
-land_read p source x rest true = turn p x.page (Valid x.frame) (arrived_mark source x.page (mark_of p x.page)) p.free rest
-land_read p source x rest false = turn p x.page (Invalid x.frame) (mark_of p x.page) (p.free ++ x.frame ∷ []) rest
+-- a page that was read lands: the demanded one is valid, and another's frame goes to the tail of the free list
+abbrev pub land_read : Placement → Source → Part → Bool → Placement
+land_read p source x true = turn p x.page (Valid x.frame) (arrived_mark source x.page (mark_of p x.page)) p.free p.transfers
+land_read p source x false = turn p x.page (Invalid x.frame) (mark_of p x.page) (p.free ++ x.frame ∷ []) p.transfers
 
--- a page lands, by what its transfer is for, and these transfers are in flight after it
-abbrev pub land : Placement → Errand → Part → List Transfer → Placement
-land p Writes x rest = turn p x.page (Invalid x.frame) (written_mark x.page) (p.free ++ x.frame ∷ []) rest
-land p (Reads source demanded) x rest = land_read p source x rest (same_page x.page demanded)
+-- a page lands, by what its transfer is for: the frame of a page that was written goes to the tail of the free list
+abbrev pub land : Placement → Errand → Part → Placement
+land p Writes x = turn p x.page (Invalid x.frame) (written_mark x.page) (p.free ++ x.frame ∷ []) p.transfers
+land p (Reads source demanded) x = land_read p source x (same_page x.page demanded)
 
--- these pages of a transfer land in turn, and after them only these younger transfers are in flight
-abbrev pub land_all : Placement → Errand → List Part → List Transfer → Placement
-land_all p e [] ts = record p { transfers = ts }
-land_all p e (x ∷ xs) ts = land_all (land p e x (record { errand = e; parts = xs } ∷ ts)) e xs ts
+-- these pages of a transfer land in turn
+abbrev pub land_all : Placement → Errand → List Part → Placement
+land_all p e [] = p
+land_all p e (x ∷ xs) = land_all (land p e x) e xs
 
--- the first of these transfers is complete; without one nothing changes
+-- the first of these transfers is gone, and its pages land in turn; without one nothing changes
 abbrev pub done_of : Placement → List Transfer → Placement
 done_of p [] = p
-done_of p (t ∷ ts) = land_all p t.errand t.parts ts
+done_of p (t ∷ ts) = land_all (record p { transfers = ts }) t.errand t.parts
 
 -- the oldest transfer is complete
 abbrev pub done : Placement → Placement

@@ -10,7 +10,7 @@ use Rattle.swap_book.specs.Holdings.{Holdings}
 use Rattle.page_model.specs.Pages.{changed, numbered}
 use Rattle.flat_state.specs.PageNames.{pages_from, number_of, same_page}
 use Rattle.page_model.specs.Placement.{Placement, Residence, Due, due_page, space_number, slots_of}
-use Rattle.page_model.specs.Moves.{begin, done, reclaim, get_run}
+use Rattle.page_model.specs.Moves.{done, reclaim, get_run}
 use Rattle.page_model.specs.Hands.{hand_moves}
 use Rattle.page_model.specs.Place.{due_after, filled, put_step, place_entry}
 use Rattle.page_model.specs.Reading.{read_errand}
@@ -121,7 +121,7 @@ as_before p q e o = subst EachOnce (sym e) o
 
 pub entry_once : (locked : List Page) (at : ℕ) (p : Placement) (e : Entry) → OwnsFrames p → EachOnce p.due → EachOnce (place_entry locked at p e).due
 entry_once locked at p (entries.Zero q) o h = once_after p.due q h
-entry_once locked at p (entries.Get q lo n) o h = as_before p (get_run p (read_errand p q) (pages_from q lo n)) (get_due_list (pages_from q lo n) (begin p (read_errand p q)) (read_errand p q)) h
+entry_once locked at p (entries.Get q lo n) o h = as_before p (get_run p (read_errand p q) (pages_from q lo n)) (get_due_list p (read_errand p q) (pages_from q lo n)) h
 entry_once locked at p (entries.Copy q) o h = once_after p.due q h
 entry_once locked at p (entries.Reclaim q) o h = as_before p (reclaim p q) (reclaim_due p q) h
 entry_once locked at p (entries.Hands n) o h = as_before p (hand_moves p locked n) (moves_due n p locked) h

@@ -1,12 +1,14 @@
 -- Forcing a frame adds few entries.
 use Rattle.std.proofs.Common.{◌≡◌, ◌⊎◌, inl, inr, ℕ, ◌+◌, ◌/◌, ◌<◌, ◌≤◌, Bool, true, false, List, [], ◌∷◌, length, refl, sym, ap, ◌∙◌, subst, arith}
+use Rattle.page_laws.proofs.Moves.InSteps.{launch_steps, land_steps, done_cases}
 use Rattle.page_laws.proofs.Runs.Sweeping.{launch_all_free}
 use Rattle.page_laws.proofs.Moves.HandRuns.{retire_flies}
 use Rattle.vm_facts.specs.declared.page.Page.{Page}
 use Rattle.vm_facts.specs.declared.entry.Entry.{Entry}
 use Rattle.vm_facts.specs.declared.entry.Entry.TheVariants as entries
 use Rattle.page_model.specs.Placement.{Placement, Transfer, Errand, Writes}
-use Rattle.page_model.specs.Moves.{land_all, done, done_of, begin}
+use Rattle.page_model.specs.Moves.{done, done_of}
+use Rattle.page_model.specs.Steps.{land_all_then, begin}
 use Rattle.page_model.specs.Runs.{run_out, pages_of_run}
 use Rattle.page_model.specs.Hands.{expire, sweep, hand_move}
 use Rattle.page_model.specs.Serve.{force, force_entry, Forces}
@@ -28,16 +30,13 @@ use Rattle.page_laws.proofs.Moves.Taken.{sweep_cases}
 -- What a step leaves.
 
 pub done_free : (p : Placement) → length p.free ≤ length (done p).free
-done_free p = go p.transfers
-  where
-    go : (ts : List Transfer) → length p.free ≤ length (done_of p ts).free
-    go [] = omega arith
-    go (t ∷ ts) = land_all_free t.parts p t.errand ts
+done_free p = done_cases (λ (r : Placement). length p.free ≤ length r.free) p (omega arith) (λ t ts e. land_all_free t.parts p t.errand ts)
 
 -- the back hand frees nothing, or begins nothing
 pub sweep_either : (p : Placement) (locked : List Page) → ((sweep p locked).free ≡ p.free) ⊎ ((sweep p locked).transfers ≡ p.transfers)
 sweep_either p locked = sweep_cases (λ r. (r.free ≡ p.free) ⊎ (r.transfers ≡ p.transfers)) p locked (inr refl)
-    (λ q t e. inl (launch_all_free (pages_of_run q (run_out p locked q)) (begin p Writes))) (λ q t e. inr (retire_flies p q))
+    (λ q t e. inl (ap (λ (r : Placement). r.free) (sym (launch_steps p (pages_of_run q (run_out p locked q)))) ∙ launch_all_free (pages_of_run q (run_out p locked q)) (begin p Writes)))
+    (λ q t e. inr (retire_flies p q))
 
 -- What a move of the hands leaves where no frame is free and nothing in flight: a free frame; one write; or nothing new.
 pub data Moved (q : Placement) : Type 0 where
@@ -114,7 +113,8 @@ writing b (e ∷ es) p r locked fr w h = go p.transfers refl w h.1 h.2
     go [] k v i f = absurd v
     go (t ∷ ts) k v i f =
         let free : 0 < length (done p).free =
-        subst (λ (q : Placement). 0 < length q.free) (sym (ap (done_of p) k)) (subst (λ (d : Errand). 0 < length (land_all p d t.parts ts).free) (sym v.0) (write_frees t.parts p ts v.1)) in
+        subst (λ (q : Placement). 0 < length q.free) (sym (ap (done_of p) k ∙ sym (land_steps t.parts p t.errand ts)))
+        (subst (λ (d : Errand). 0 < length (land_all_then p d t.parts ts).free) (sym v.0) (write_frees t.parts p ts v.1)) in
         let n : (es ≡ []) × (done p ≡ r) = no_units es (done p) r locked free f in
         let none : length r.transfers ≡ 0 = subst (λ (q : Placement). length q.transfers ≡ 0) n.1 (ap length (done_rest p t ts k ∙ v.2)) in
         subst (λ (x : Entry). Short b (x ∷ es) r 1 0 0) (sym i) (subst (λ (xs : List Entry). Short b (entries.Done ∷ xs) r 1 0 0) (sym n.0) (record {

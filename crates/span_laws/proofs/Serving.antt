@@ -8,12 +8,13 @@ use Rattle.vm_facts.specs.declared.entry.Entry.{Entry}
 use Rattle.vm_facts.specs.declared.entry.Entry.TheVariants as entries
 use Rattle.page_model.specs.Pages.{Slot, frame_of, is_valid}
 use Rattle.page_model.specs.Placement.{Placement, Transfer, state_of, mark_of, IsThere}
-use Rattle.page_model.specs.Moves.{evict, fill_at, reclaim, reclaim_to, done, done_of}
-use Rattle.page_model.specs.Reading.{read_step, read_entry}
+use Rattle.page_model.specs.Moves.{evict, fill_at, reclaim, reclaim_to, done}
 use Rattle.page_model.specs.Serve.{force, force_entry, is_full, Forces, Serves, Serving, AtOnce, ByWaiting, serving, entry_of_serving, after_serving}
+use Rattle.page_model.specs.Reading.{read_step, read_entry}
 use Rattle.page_model.specs.Rank.{HandsStand, HasRoom}
 use Rattle.page_model.specs.Conditions.{CanEnter}
 use Rattle.page_model.specs.Ownership.{OwnsFrames}
+use Rattle.page_laws.proofs.Moves.InSteps.{done_cases}
 use Rattle.page_model.specs.Place.{filled}
 use Rattle.page_laws.proofs.Lists.Pages.{put_state}
 use Rattle.page_laws.proofs.Moves.Steps.{EvictRest, evict_rest}
@@ -138,11 +139,8 @@ done_less p n = go p.transfers refl
     go (t ∷ ts) k = let a = ap length (done_rest p t ts k) in let b = ap length k in omega arith
 
 done_lands : (p : Placement) (q : Page) → IsThere p q → (state_of (done p) q ≡ state_of p q) ⊎ Landed (state_of (done p) q)
-done_lands p q there = go p.transfers
-  where
-    go : (ts : List Transfer) → (state_of (done_of p ts) q ≡ state_of p q) ⊎ Landed (state_of (done_of p ts) q)
-    go [] = inl refl
-    go (t ∷ ts) = land_all_lands t.parts p t.errand ts q (state_of p q) there (inl refl)
+done_lands p q there = done_cases (λ (r : Placement). (state_of r q ≡ state_of p q) ⊎ Landed (state_of r q)) p (inl refl)
+    (λ t ts e. land_all_lands t.parts p t.errand ts q (state_of p q) there (inl refl))
 
 done_there : (p : Placement) (q : Page) → OwnsFrames p → IsThere p q → IsThere (done p) q
 done_there p q o there = let s : Steady p (done p) = done_steady p o in let a = s.sizes q in omega arith

@@ -11,7 +11,8 @@ use Rattle.transfer_ring.specs.declared.transfer.Transfer.{Transfer as Flight}
 use Rattle.transfer_ring.specs.Sound.{IsRun, Rise, IsBefore}
 use Rattle.flat_state.specs.PageNames.{pages_from, beside}
 use Rattle.page_model.specs.Placement.{Placement, Transfer, Errand, Reads, Source, FromSwap, FromFile, Due, state_of, due_of_page}
-use Rattle.page_model.specs.Moves.{begin, get_all, get_run}
+use Rattle.page_model.specs.Moves.{get_run}
+use Rattle.page_model.specs.Steps.{begin, get_all}
 use Rattle.page_model.specs.Reading.{read_errand, source_for}
 use Rattle.page_model.specs.Conditions.{EachPage, CanEnter, IsShared}
 use Rattle.page_model.specs.PageBytes.{ReadsFrom, SamePage}
@@ -19,6 +20,7 @@ use Rattle.page_model.specs.Dues.{DueStand, NotDue, IsDue}
 use Rattle.kernel_model.specs.Kernel.{Kernel, get_step}
 use Rattle.kernel_model.specs.Sound.{Sound}
 use Rattle.kernel_model.specs.Coupled.{beside_kernel}
+use Rattle.page_laws.proofs.Moves.InSteps.{get_steps}
 use Rattle.page_laws.proofs.Lists.Runs.{each_page_imp, pages_from_apart}
 use Rattle.kernel_tables.proofs.Moves.{get_coupled_step}
 use Rattle.page_laws.proofs.Bytes.Others.{get_run_same}
@@ -109,6 +111,7 @@ began_read t u w ps x b q lo n g =
     let l = flight_lists u w x ps s q g.ring_rest g.ring g.shown g.flying in
     record {
       place = ap placement_of l ∙ g.place ∙ ap (λ (p : Placement). get_all p (Reads s q) (pages_from q lo n)) (opened_place t s q)
+          ∙ get_steps (placement_of (lists_of t)) (Reads s q) (pages_from q lo n)
           ∙ ap (λ (y : Source). get_run (placement_of (lists_of t)) (Reads y q) (pages_from q lo n)) g.from;
       frames = ap frames_of l ∙ g.frames ∙ opened_frames t s q;
       tied = subst Tied (sym l) g.known.tied;

@@ -1,5 +1,5 @@
 -- The pages of a transfer that was completed land, one after another.
-use Rattle.std.proofs.Common.{◌≡◌, ◌≢◌, inl, inr, ℕ, zero, suc, ◌+◌, ◌-◌, ◌<◌, ◌≤◌, ◌^◌, Bool, true, false, List, [], ◌∷◌, ◌++◌, length, map, take, drop, set, get_or, Option, Some, None, IsSome, refl, sym, ap, ◌∙◌, subst, arith}
+use Rattle.std.proofs.Common.{◌≡◌, ◌≢◌, inl, inr, ℕ, zero, suc, ◌+◌, ◌-◌, ◌<◌, ◌≤◌, ◌^◌, Bool, true, false, List, [], ◌∷◌, ◌++◌, length, map, take, drop, set, get_or, Some, refl, sym, ap, ◌∙◌, subst, arith}
 use Rattle.std.proofs.lemmas.Bool.{cases_eq}
 use Rattle.std.proofs.lemmas.List.{length-set, get_or-set_same, get_or-set_other}
 use Rattle.vm_facts.specs.declared.page.Page.{Page}
@@ -21,11 +21,13 @@ use Rattle.transfer_ring.specs.declared.transfer.Outbound.{Outbound}
 use Rattle.page_model.specs.Pages.{Slot, Zeros, written_mark}
 use Rattle.flat_state.specs.PageNames.{same_page}
 use Rattle.page_model.specs.Placement.{Placement, Transfer, Part, Errand, Writes, Reads, mark_of, parts_of, flying, IsThere}
-use Rattle.page_model.specs.Moves.{turn, land, land_read, land_all, arrived_mark}
+use Rattle.page_model.specs.Moves.{turn, land_all, arrived_mark}
+use Rattle.page_model.specs.Steps.{land_then, land_read_then, land_all_then}
 use Rattle.page_model.specs.Ownership.{OwnsFrames, is_marked_dirty}
 use Rattle.flat_state.specs.Numbers.{AllDistinct}
 use Rattle.page_laws.proofs.Ownership.Runs.{Landing as LandingPart, land_owner, landing_state, coming_clean, written_clean}
 use Rattle.page_laws.proofs.Blocks.Steps.{land_aside}
+use Rattle.page_laws.proofs.Moves.InSteps.{land_steps}
 use Rattle.kernel_tables.specs.declared.tables.Tables.{Tables}
 use Rattle.kernel_tables.specs.Shown.{placed}
 use Rattle.kernel_tables.specs.TableViewShown.{is_away, idle_state}
@@ -126,7 +128,7 @@ seat_mark ts f b _ = refl
 
 pub record Landed (t u : Tables) (e : Errand) (x : Part) (xs : List Part) (y : Flown) (fs : List Flown) : Type 0 where
   pub place : placement_of (closing u e xs fs)
-      ≡ land (placement_of (closing t e (x ∷ xs) (y ∷ fs))) e x (record { errand = e; parts = xs } ∷ map transfer_shown t.ring)
+      ≡ land_then (placement_of (closing t e (x ∷ xs) (y ∷ fs))) e x (record { errand = e; parts = xs } ∷ map transfer_shown t.ring)
   pub frames : frames_of (closing u e xs fs) ≡ frames_of (closing t e (x ∷ xs) (y ∷ fs))
   pub known : Known (closing u e xs fs)
   pub images : (sid : ℕ) → image_at u sid ≡ image_at t sid
@@ -143,7 +145,7 @@ landed_by : (t u : Tables) (e : Errand) (xs : List Part) (q : Page) (token : Fra
     free texts (record { errand = e; parts = xs } ∷ map transfer_shown t.ring) (fs ++ flown t.ring)
     → turn (placement_of (closing t e (record { page = q; frame = token.number } ∷ xs) (record { page = q; token = token } ∷ fs))) q s m free
     (record { errand = e; parts = xs } ∷ map transfer_shown t.ring)
-    ≡ land (placement_of (closing t e (record { page = q; frame = token.number } ∷ xs) (record { page = q; token = token } ∷ fs))) e
+    ≡ land_then (placement_of (closing t e (record { page = q; frame = token.number } ∷ xs) (record { page = q; token = token } ∷ fs))) e
     (record { page = q; frame = token.number }) (record { errand = e; parts = xs } ∷ map transfer_shown t.ring)
     → IsSoundMap u.core.free u.core.slots → u ≡ record t { core = u.core; spaces = u.spaces; texts = u.texts } → map head_of u.spaces ≡ map head_of t.spaces
     → Landed t u e (record { page = q; frame = token.number }) xs (record { page = q; token = token }) fs
@@ -154,7 +156,7 @@ landed_by t u e xs q token fs x place texts free s m l is turns core rest heads 
     let was : Lists = closing t e (part ∷ xs) (y ∷ fs) in
     let ts : List Transfer = record { errand = e; parts = xs } ∷ map transfer_shown t.ring in
     let n : Lists = landed was q f x place free texts ts (fs ++ flown t.ring) in
-    let placed_it : placement_of (closing u e xs fs) ≡ land (placement_of was) e part ts = ap placement_of is ∙ land_is was q f token (fs ++ flown t.ring) x place texts s m free ts l ∙ turns in
+    let placed_it : placement_of (closing u e xs fs) ≡ land_then (placement_of was) e part ts = ap placement_of is ∙ land_is was q f token (fs ++ flown t.ring) x place texts s m free ts l ∙ turns in
     let p : LandingPart (placement_of was) e part ts = record { parts = refl } in
     let ties : Ties was n = record {
       slots = length-set t.core.slots f x;
@@ -236,7 +238,7 @@ seat_lands t u b demanded xs q token fs same k s core =
     ∙ ap (λ (z : List Token). record (closing t e xs fs) { slots = z; free = u.core.free; spaces = u.spaces }) s.slots
     ∙ ap (λ (z : List ℕ). record (closing t e xs fs) { slots = set t.core.slots f (tokens.Resident token q d); free = z; spaces = u.spaces }) s.free
     ∙ ap (λ (z : List Places). record (closing t e xs fs) { slots = set t.core.slots f (tokens.Resident token q d); spaces = z }) s.spaces)
-    (sym (ap (land_read p (source_by b) (record { page = q; frame = f }) ts) same))
+    (sym (ap (land_read_then p (source_by b) (record { page = q; frame = f }) ts) same))
     core (rest_texts t u s.rest) (ap (map head_of) s.spaces ∙ placed_heads t.spaces q (places.Frame f true d))
 
 pub rest_lands : (t u : Tables) (b : Bool) (demanded : Page) (xs : List Part) (q : Page) (token : Frame) (fs : List Flown) → same_page q demanded ≡ false
@@ -275,7 +277,7 @@ rest_lands t u b demanded xs q token fs same k s core =
     ∙ ap (λ (z : List Token). record (closing t e xs fs) { slots = z; free = u.core.free; spaces = u.spaces }) s.slots
     ∙ ap (λ (z : List ℕ). record (closing t e xs fs) { slots = set t.core.slots f x; free = z; spaces = u.spaces }) s.free
     ∙ ap (λ (z : List Places). record (closing t e xs fs) { slots = set t.core.slots f x; free = t.core.free ++ f ∷ []; spaces = z }) s.spaces)
-    (sym (ap (land_read p (source_by b) (record { page = q; frame = f }) ts) same))
+    (sym (ap (land_read_then p (source_by b) (record { page = q; frame = f }) ts) same))
     core (rest_texts t u s.rest) (ap (map head_of) s.spaces ∙ placed_heads t.spaces q (places.Frame f false false))
 
 pub read_lands : (t u : Tables) (b : Bool) (demanded : Page) (xs : List Part) (q : Page) (token : Frame) (fs : List Flown)
@@ -383,11 +385,14 @@ writes_step t u xs rest x e k l core =
     write_lands t u (map out_part rest) x.page x.token (map outbound_flown rest) (may_write t xs rest x e k).texts (subst (λ (ys : List Outbound). Known (closing_out t ys)) e k) l core
 
 pub lands_place : (t u w : Tables) (e : Errand) (x : Part) (xs : List Part) (y : Flown) (fs : List Flown) → Landed t u e x xs y fs
-    → placement_of (lists_of w) ≡ land_all (placement_of (closing u e xs fs)) e xs (map transfer_shown u.ring)
-    → placement_of (lists_of w) ≡ land_all (placement_of (closing t e (x ∷ xs) (y ∷ fs))) e (x ∷ xs) (map transfer_shown t.ring)
+    → placement_of (lists_of w) ≡ land_all (record (placement_of (closing u e xs fs)) { transfers = map transfer_shown u.ring }) e xs
+    → placement_of (lists_of w) ≡ land_all (record (placement_of (closing t e (x ∷ xs) (y ∷ fs))) { transfers = map transfer_shown t.ring }) e (x ∷ xs)
 lands_place t u w e x xs y fs l h =
-    h ∙ ap (λ (p : Placement). land_all p e xs (map transfer_shown u.ring)) l.place
-    ∙ ap (λ (z : Tables). land_all (land (placement_of (closing t e (x ∷ xs) (y ∷ fs))) e x (record { errand = e; parts = xs } ∷ map transfer_shown t.ring)) e xs (map transfer_shown z.ring)) l.rest
+    h ∙ sym (land_steps xs (placement_of (closing u e xs fs)) e (map transfer_shown u.ring))
+    ∙ ap (λ (p : Placement). land_all_then p e xs (map transfer_shown u.ring)) l.place
+    ∙ ap (λ (z : Tables). land_all_then (land_then (placement_of (closing t e (x ∷ xs) (y ∷ fs))) e x (record { errand = e; parts = xs } ∷ map transfer_shown t.ring)) e xs (map transfer_shown z.ring))
+    l.rest
+    ∙ land_steps (x ∷ xs) (placement_of (closing t e (x ∷ xs) (y ∷ fs))) e (map transfer_shown t.ring)
 
 pub lands_all : (t u w : Tables) (e : Errand) (x : Part) (xs : List Part) (y : Flown) (fs : List Flown) → Landed t u e x xs y fs
     → LandedAll u w (closing u e xs fs) → LandedAll t w (closing t e (x ∷ xs) (y ∷ fs))

@@ -21,7 +21,8 @@ use Rattle.flat_state.specs.Numbers.{AllDistinct}
 use Rattle.vm_facts.specs.Lists.{times}
 use Rattle.page_model.specs.Pages.{Slot, Zeros, is_dirty_by}
 use Rattle.page_model.specs.Placement.{Placement, Transfer, Part, Writes, slot_of, state_of, mark_of, is_dirty, IsThere, moving, parts_of, flying}
-use Rattle.page_model.specs.Moves.{turn, begin, join_last, launch, launch_to}
+use Rattle.page_model.specs.Moves.{turn}
+use Rattle.page_model.specs.Steps.{begin, join_last, launch, launch_to}
 use Rattle.page_model.specs.Conditions.{EachPage, HasSeat, IsSeated}
 use Rattle.page_model.specs.Ownership.{OwnsFrames, TextAside, block_of}
 use Rattle.std.proofs.lemmas.Option.{same_Some}

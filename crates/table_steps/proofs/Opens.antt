@@ -10,7 +10,7 @@ use Rattle.space_map.specs.Space.{Places}
 use Rattle.transfer_ring.specs.declared.transfer.Inbound.{Inbound}
 use Rattle.flat_state.specs.PageNames.{pages_from, beside}
 use Rattle.page_model.specs.Placement.{Placement, Transfer, Part, Errand, Source, Reads, flying}
-use Rattle.page_model.specs.Moves.{begin, join_last, get_one}
+use Rattle.page_model.specs.Steps.{begin, join_last, get_one}
 use Rattle.page_model.specs.Conditions.{EachPage, CanEnter, IsShared}
 use Rattle.page_laws.proofs.Lists.Parts.{IsOpen, parts_begin}
 use Rattle.page_laws.proofs.Ownership.Runs.{begin_owner, get_enters_still}

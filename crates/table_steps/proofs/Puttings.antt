@@ -6,6 +6,7 @@ use Rattle.transfer_ring.specs.declared.transfer.Outbound.{Outbound}
 use Rattle.transfer_ring.specs.declared.transfer.Transfer.{Transfer as Flight}
 use Rattle.flat_state.specs.PageNames.{number_of, pages_from}
 use Rattle.page_model.specs.Place.{put_by, put_step}
+use Rattle.page_laws.proofs.Moves.InSteps.{launch_steps}
 use Rattle.page_laws.proofs.Lists.Pages.{beside_self}
 use Rattle.page_laws.proofs.Ownership.Runs.{clean_unmarked}
 use Rattle.page_laws.proofs.Moves.Transfers.{launch_run_count, retire_count}
@@ -18,7 +19,8 @@ use Rattle.kernel_tables.specs.Conditions.{KeepsFlat, SameEverywhere}
 use Rattle.kernel_model.specs.Sound.{Sound, lives}
 use Rattle.kernel_tables.specs.Calls.{CanPush, AreAlike}
 use Rattle.page_model.specs.Placement.{Placement, Transfer, Writes, IsThere, is_dirty, mark_of}
-use Rattle.page_model.specs.Moves.{launch_all, launch_run, retire}
+use Rattle.page_model.specs.Moves.{launch_run, retire}
+use Rattle.page_model.specs.Steps.{launch_all}
 use Rattle.page_model.specs.Conditions.{EachPage, HasSeat}
 use Rattle.page_model.specs.Ownership.{block_of}
 use Rattle.page_laws.proofs.Lists.Runs.{each_page_imp}
@@ -73,7 +75,7 @@ pub wrote_run : (t u w : Tables) (ps : List Outbound) (x : Flight) (q : Page) (l
 wrote_run t u w ps x q lo n g =
     let is : lists_of w ≡ launching u ps = write_lists t u w ps x q lo n g in
     record {
-      place = ap placement_of is ∙ g.place ∙ ap (λ (p : Placement). launch_all p (pages_from q lo n)) (begun_place t);
+      place = ap placement_of is ∙ g.place ∙ ap (λ (p : Placement). launch_all p (pages_from q lo n)) (begun_place t) ∙ launch_steps (placement_of (lists_of t)) (pages_from q lo n);
       frames = ap frames_of is ∙ g.frames ∙ begun_frames t;
       tied = subst Tied (sym is) g.known.tied;
       images = λ sid. ap (λ (z : Tables). image_at z sid) g.ring_rest ∙ g.images sid;

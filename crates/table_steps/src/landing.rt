@@ -193,8 +193,9 @@ fn land_out(tables: &mut Tables, part: Outbound)
 // All pages of a read land, in turn.
 fn land_reads(tables: &mut Tables, parts: &mut Vec<Inbound>, demanded: Page, from_file: bool)
     requires { Known (closing_in tables.old from_file demanded parts.old.items) }
-    ensures place { placement_of (lists_of tables.new) ≡ land_all (placement_of (closing_in tables.old from_file demanded parts.old.items))
-        (Reads (source_by from_file) demanded) (map in_part parts.old.items) (map transfer_shown tables.old.ring) }
+    ensures place { placement_of (lists_of tables.new)
+        ≡ land_all (record (placement_of (closing_in tables.old from_file demanded parts.old.items)) { transfers = map transfer_shown tables.old.ring })
+        (Reads (source_by from_file) demanded) (map in_part parts.old.items) }
     ensures all { LandedAll tables.old tables.new (closing_in tables.old from_file demanded parts.old.items) }
     ensures none { parts.new.items ≡ [] }
 {
@@ -211,7 +212,8 @@ fn land_reads(tables: &mut Tables, parts: &mut Vec<Inbound>, demanded: Page, fro
 fn land_writes(tables: &mut Tables, parts: &mut Vec<Outbound>)
     requires { Known (closing_out tables.old parts.old.items) }
     ensures place { placement_of (lists_of tables.new)
-        ≡ land_all (placement_of (closing_out tables.old parts.old.items)) Writes (map out_part parts.old.items) (map transfer_shown tables.old.ring) }
+        ≡ land_all (record (placement_of (closing_out tables.old parts.old.items)) { transfers = map transfer_shown tables.old.ring })
+        Writes (map out_part parts.old.items) }
     ensures all { LandedAll tables.old tables.new (closing_out tables.old parts.old.items) }
     ensures none { parts.new.items ≡ [] }
 {

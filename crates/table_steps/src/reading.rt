@@ -4,7 +4,7 @@ ghost use Rattle.std.specs.Vec.{vec_len, vec_capacity};
 ghost use Rattle.transfer_ring.specs.Sound.{inbound_pages, IsSource};
 ghost use Rattle.swap_book.specs.Book.{IsBook};
 ghost use Rattle.page_model.specs.Conditions.{EachPage};
-ghost use Rattle.page_model.specs.Moves.{get_all};
+ghost use Rattle.page_model.specs.Steps.{get_all};
 ghost use Rattle.page_model.specs.Placement.{Reads, IsThere, state_of};
 ghost use Rattle.page_model.specs.Reading.{source_for};
 ghost use Rattle.flat_state.specs.PageNames.{pages_from};

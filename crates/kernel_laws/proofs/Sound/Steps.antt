@@ -13,7 +13,7 @@ use Rattle.swap_book.specs.Holdings.{Holdings}
 use Rattle.page_model.specs.Pages.{numbered}
 use Rattle.page_model.specs.Frames.{set_frame}
 use Rattle.page_model.specs.Placement.{Placement, Transfer, Part, Errand, Writes, Reads, state_of, due_of_page}
-use Rattle.page_model.specs.Moves.{fill, begin, touch, touch_to, done}
+use Rattle.page_model.specs.Moves.{touch, touch_to}
 use Rattle.page_model.specs.Place.{place_entry}
 use Rattle.page_model.specs.Conditions.{begins, CanPlace, EntryShared, CanEnter, IsShared}
 use Rattle.page_model.specs.Ownership.{OwnsFrames, OwnsBlocks, OneOwner, TextAside, u_blocks}

@@ -13,7 +13,7 @@ use Rattle.vm_facts.specs.declared.entry.Entry.TheVariants as entries
 use Rattle.flat_state.specs.Journal.{append}
 use Rattle.flat_state.specs.PageNames.{number_of, pages_from, same_page}
 use Rattle.page_model.specs.Placement.{Placement, Residence, Due, CopyOf, due_of_page}
-use Rattle.page_model.specs.Moves.{begin, reclaim, done}
+use Rattle.page_model.specs.Moves.{reclaim, done}
 use Rattle.page_model.specs.Hands.{hand_move, hand_moves}
 use Rattle.page_model.specs.Place.{filled, put_step}
 use Rattle.page_model.specs.Reading.{read_errand}
@@ -52,7 +52,7 @@ note_stands images k flat e s = stands_still images k (note_step k e) flat refl 
 
 pub get_stands : (images : List NamedImage) (k : Kernel) (flat : FlatState) (q : Page) (lo n : ℕ) → Stands images k flat
     → Stands images (get_step k q lo n) flat
-get_stands images k flat q lo n s = stands_still images k (get_step k q lo n) flat refl (get_due_list (pages_from q lo n) (begin k.place (read_errand k.place q)) (read_errand k.place q))
+get_stands images k flat q lo n s = stands_still images k (get_step k q lo n) flat refl (get_due_list k.place (read_errand k.place q) (pages_from q lo n))
     (get_run_shaped k.place (read_errand k.place q) (pages_from q lo n)) s
 
 pub reclaim_stands : (images : List NamedImage) (k : Kernel) (flat : FlatState) (q : Page) → Stands images k flat → Stands images (reclaim_step k q) flat

@@ -11,13 +11,15 @@ use Rattle.page_model.specs.Pages.{written_mark, SpacePages, TextPages, numbered
 use Rattle.flat_state.specs.PageNames.{is_among, same_page, number_of, beside, pages_from}
 use Rattle.vm_facts.specs.Lists.{without}
 use Rattle.page_model.specs.Placement.{Placement, Transfer, Part, Errand, Writes, Reads, Source, slots_of, state_of, mark_of, is_dirty, page_of, parts_of, sharers, put, space_number, image_number, sharers_in}
-use Rattle.page_model.specs.Moves.{evict, turn, fill_at, begin, join_last, get_one, get_at, get_all, get_run, launch, launch_to, launch_all, launch_run, land, land_read, land_all, done, done_of, arrived_mark, reclaim, reclaim_to, retire, retire_to}
+use Rattle.page_model.specs.Moves.{evict, turn, fill_at, get_run, launch_run, done, arrived_mark, reclaim, reclaim_to, retire, retire_to}
+use Rattle.page_model.specs.Steps.{land_then, land_read_then, land_all_then, begin, join_last, get_one, get_at, get_all, launch, launch_to, launch_all}
 use Rattle.page_model.specs.Runs.{run_out, pages_of_run}
 use Rattle.page_model.specs.Hands.{expire, expire_of, expire_if, expire_to, sweep, hand_move, hand_moves, advance}
 use Rattle.page_model.specs.Place.{filled, put_step, put_by, place_entry, moved}
 use Rattle.page_model.specs.Reading.{source_for}
 use Rattle.page_model.specs.Conditions.{EachPage, AllApart, CanEnter, IsSeated, HasSeat, CanPlace, IsShared, EntryShared}
 use Rattle.page_model.specs.Ownership.{OwnsFrames, OneOwner, TextAside}
+use Rattle.page_laws.proofs.Moves.InSteps.{get_steps, launch_steps, done_cases}
 use Rattle.page_laws.proofs.Moves.Puts.{KeptByPuts, entry_kept}
 use Rattle.page_laws.proofs.Lists.Pages.{put_length, put_sharers}
 use Rattle.page_laws.proofs.Lists.Parts.{IsOpen, begin_open}
@@ -70,10 +72,10 @@ get_all_aside (v ∷ qs) p source demanded o c d latest a s =
 pub get_run_aside : (p : Placement) (source : Source) (demanded : Page) (qs : List Page) → OwnsFrames p → EachPage (CanEnter p) qs → AllApart qs
     → TextAside p → EachPage (IsShared p) qs → TextAside (get_run p (Reads source demanded) qs)
 get_run_aside p source demanded qs o c d a s =
-    get_all_aside qs (begin p (Reads source demanded)) source demanded (begin_owner p (Reads source demanded) o)
+    subst TextAside (get_steps p (Reads source demanded) qs) (get_all_aside qs (begin p (Reads source demanded)) source demanded (begin_owner p (Reads source demanded) o)
     (each_page_imp (CanEnter p) (CanEnter (begin p (Reads source demanded))) qs c (λ q h. record { there = h.there; frameless = h.frameless })) d (begin_open p.transfers (Reads source demanded))
     (λ i n z. let k = a i n z in record { unsaved = k.unsaved; rests = k.rests })
-    (each_page_imp (IsShared p) (IsShared (begin p (Reads source demanded))) qs s (λ w h. shared_as p (begin p (Reads source demanded)) w (λ i. refl) h))
+    (each_page_imp (IsShared p) (IsShared (begin p (Reads source demanded))) qs s (λ w h. shared_as p (begin p (Reads source demanded)) w (λ i. refl) h)))
 
 reclaim_aside : (p : Placement) (v : Page) → OwnsFrames p → TextAside p → IsShared p v → TextAside (reclaim p v)
 reclaim_aside p v o a s = go (state_of p v) refl
@@ -143,9 +145,9 @@ launch_all_aside (v ∷ qs) p o c d latest a =
 
 launch_run_aside : (p : Placement) (qs : List Page) → OwnsFrames p → EachPage (HasSeat p) qs → AllApart qs → TextAside p → TextAside (launch_run p qs)
 launch_run_aside p qs o c d a =
-    launch_all_aside qs (begin p Writes) (begin_owner p Writes o)
+    subst TextAside (launch_steps p qs) (launch_all_aside qs (begin p Writes) (begin_owner p Writes o)
     (each_page_imp (HasSeat p) (HasSeat (begin p Writes)) qs c (λ q h. record { frame = h.frame; seat = record { state = let k : IsSeated p q h.frame = h.seat in k.state } })) d
-    (begin_open p.transfers Writes) (λ i n z. let k = a i n z in record { unsaved = k.unsaved; rests = k.rests })
+    (begin_open p.transfers Writes) (λ i n z. let k = a i n z in record { unsaved = k.unsaved; rests = k.rests }))
 
 put_step_aside : (p : Placement) (v : Page) (qs : List Page) → OwnsFrames p → HasSeat p v → EachPage (HasSeat p) qs → AllApart qs → TextAside p
     → TextAside (put_step p v qs)
@@ -167,7 +169,8 @@ moves_aside : (n : ℕ) (p : Placement) (locked : List Page) → OwnsFrames p �
 moves_aside zero p locked o a = a
 moves_aside (suc n) p locked o a = moves_aside n (hand_move p locked) locked (move_owner p locked o) (move_aside p locked o a)
 
-pub land_aside : (p : Placement) (e : Errand) (x : Part) (rest : List Transfer) → OwnsFrames p → Landing p e x rest → TextAside p → TextAside (land p e x rest)
+pub land_aside : (p : Placement) (e : Errand) (x : Part) (rest : List Transfer) → OwnsFrames p → Landing p e x rest → TextAside p
+    → TextAside (land_then p e x rest)
 land_aside p Writes x rest o l a = turn_aside p x.page x.frame (Invalid x.frame) (written_mark x.page) (p.free ++ x.frame ∷ []) rest o
     (tail_turns p Writes x rest (written_mark x.page) o l (written_clean x.page)) a (subst (IsBusy p) (sym (landing_state p Writes x rest o l)) tt)
 land_aside p (Reads source demanded) x rest o l a = go (same_page x.page demanded)
@@ -175,27 +178,23 @@ land_aside p (Reads source demanded) x rest o l a = go (same_page x.page demande
     busy : IsBusy p (state_of p x.page)
     busy = subst (IsBusy p) (sym (landing_state p (Reads source demanded) x rest o l)) tt
 
-    go : (b : Bool) → TextAside (land_read p source x rest b)
+    go : (b : Bool) → TextAside (land_read_then p source x rest b)
     go true = turn_aside p x.page x.frame (Valid x.frame) (arrived_mark source x.page (mark_of p x.page)) p.free rest o
         (valid_turns p (Reads source demanded) x rest (arrived_mark source x.page (mark_of p x.page)) o l) a busy
     go false = turn_aside p x.page x.frame (Invalid x.frame) (mark_of p x.page) (p.free ++ x.frame ∷ []) rest o
         (tail_turns p (Reads source demanded) x rest (mark_of p x.page) o l (coming_clean p x.page x.frame o (landing_state p (Reads source demanded) x rest o l))) a busy
 
 land_all_aside : (xs : List Part) (p : Placement) (e : Errand) (ts : List Transfer) → OwnsFrames p
-    → p.transfers ≡ record { errand = e; parts = xs } ∷ ts → TextAside p → TextAside (land_all p e xs ts)
+    → p.transfers ≡ record { errand = e; parts = xs } ∷ ts → TextAside p → TextAside (land_all_then p e xs ts)
 land_all_aside [] p e ts o h a = λ i n z. let k = a i n z in record { unsaved = k.unsaved; rests = k.rests }
 land_all_aside (x ∷ xs) p e ts o h a =
     let l : Landing p e x (record { errand = e; parts = xs } ∷ ts) = record { parts = ap parts_of h } in
-    land_all_aside xs (land p e x (record { errand = e; parts = xs } ∷ ts)) e ts (land_owner p e x (record { errand = e; parts = xs } ∷ ts) o l)
+    land_all_aside xs (land_then p e x (record { errand = e; parts = xs } ∷ ts)) e ts (land_owner p e x (record { errand = e; parts = xs } ∷ ts) o l)
     (land_transfers p e x (record { errand = e; parts = xs } ∷ ts))
     (land_aside p e x (record { errand = e; parts = xs } ∷ ts) o l a)
 
 pub done_aside : (p : Placement) → OwnsFrames p → TextAside p → TextAside (done p)
-done_aside p o a = go p.transfers refl
-  where
-    go : (ts : List Transfer) → p.transfers ≡ ts → TextAside (done_of p ts)
-    go [] e = a
-    go (t ∷ ts) e = land_all_aside t.parts p t.errand ts o e a
+done_aside p o a = done_cases TextAside p a (λ t ts e. land_all_aside t.parts p t.errand ts o e a)
 
 -- Entries.
 

@@ -9,13 +9,15 @@ use Rattle.page_model.specs.Pages.{frame_of, left_state}
 use Rattle.page_model.specs.Frames.{at_frame}
 use Rattle.vm_facts.specs.Lists.{times, without}
 use Rattle.page_model.specs.Placement.{Placement, Transfer, Part, Moving, Errand, Writes, Reads, Source, state_of, mark_of, page_of, parts_of, flying, moving, is_dirty, image_of, sharers}
-use Rattle.page_model.specs.Moves.{evict, evict_at, fill_at, begin, get_one, get_at, get_all, get_run, done, reclaim, reclaim_to, touch, touch_to}
+use Rattle.page_model.specs.Moves.{evict, evict_at, fill_at, get_run, done, reclaim, reclaim_to, touch, touch_to}
+use Rattle.page_model.specs.Steps.{begin, get_one, get_at, get_all}
 use Rattle.page_model.specs.Place.{filled, put_step, put_by}
 use Rattle.page_model.specs.Swapper.{names_page, is_settled}
 use Rattle.vm_facts.specs.Pages.{is_of_space, is_of_text}
 use Rattle.page_model.specs.Conditions.{EachPage, AtRest, CanEnter, IsSettled}
 use Rattle.page_model.specs.Ownership.{OwnsFrames, Each, IsMoving, IsListed, seats}
 use Rattle.page_model.specs.PageBytes.{Bytes, bytes_in, SamePage, with_frame, source_bytes, bytes_read, Stores, StoresAll, BytesBy, BytesAfter, NotIn, WritesBoth}
+use Rattle.page_laws.proofs.Moves.InSteps.{get_steps}
 use Rattle.page_laws.proofs.Lists.Frames.{at_set_other, some_free}
 use Rattle.vm_facts.proofs.Lists.{times_other}
 use Rattle.page_laws.proofs.Lists.Pages.{page_cases, put_state}
@@ -80,9 +82,9 @@ get_all_lasts (v ∷ qs) p source demanded w o c a latest n = lasts_both p (get_
 pub get_run_same : (p : Placement) (source : Source) (demanded : Page) (qs : List Page) (b : Bytes) (w : Page) → OwnsFrames p → EachPage (CanEnter p) qs
     → Rattle.page_model.specs.Conditions.AllApart qs → EachPage (λ r. w ≢ r) qs → SamePage p (get_run p (Reads source demanded) qs) b b w
 get_run_same p source demanded qs b w o c a n = lasts_same p (get_run p (Reads source demanded) qs) b w
-    (get_all_lasts qs (begin p (Reads source demanded)) source demanded w (begin_owner p (Reads source demanded) o)
+    (subst (λ (r : Placement). Lasts p r w) (get_steps p (Reads source demanded) qs) (get_all_lasts qs (begin p (Reads source demanded)) source demanded w (begin_owner p (Reads source demanded) o)
     (Rattle.page_laws.proofs.Lists.Runs.each_page_imp (CanEnter p) (CanEnter (begin p (Reads source demanded))) qs c (λ q h. record { there = h.there; frameless = h.frameless })) a
-    (Rattle.page_laws.proofs.Lists.Parts.begin_open p.transfers (Reads source demanded)) n)
+    (Rattle.page_laws.proofs.Lists.Parts.begin_open p.transfers (Reads source demanded)) n))
 
 -- A fill leaves each other page the same.
 pub filled_same : (p : Placement) (v : Page) (f : ℕ) (rest : List ℕ) (b : Bytes) (bytes : List ℕ) (w : Page) → OwnsFrames p → p.free ≡ f ∷ rest

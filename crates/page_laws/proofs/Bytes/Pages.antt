@@ -9,7 +9,8 @@ use Rattle.flat_state.specs.PageNames.{same_page, is_among}
 use Rattle.page_model.specs.Frames.{at_frame}
 use Rattle.vm_facts.specs.Lists.{times, without}
 use Rattle.page_model.specs.Placement.{Placement, Transfer, Part, Moving, Errand, Writes, Reads, Source, FromSwap, FromFile, Due, due_page, moving, state_of, mark_of, is_dirty, filling_of, page_of, errand_at, due_of_page, parts_of, IsFrame, IsThere}
-use Rattle.page_model.specs.Moves.{evict, evict_at, enter, turn, fill_at, join_last, get_one, get_at, launch, launch_to, land, land_read, arrived_mark, reclaim, reclaim_to, retire, retire_to, touch, touch_to}
+use Rattle.page_model.specs.Moves.{evict, evict_at, enter, turn, fill_at, arrived_mark, reclaim, reclaim_to, retire, retire_to, touch, touch_to}
+use Rattle.page_model.specs.Steps.{land_then, land_read_then, join_last, get_one, get_at, launch, launch_to}
 use Rattle.page_model.specs.Place.{filled, due_after}
 use Rattle.page_model.specs.Hands.{expire, expire_of, expire_if, expire_to}
 use Rattle.page_model.specs.Conditions.{CanEnter, IsSeated}
@@ -297,7 +298,7 @@ landing_errand p e x rest l = ap (λ (ms : List Moving). errand_at ms x.frame) l
 
 -- A page that was written: its blocks have the bytes of its frame.
 pub land_write_coupled : (p : Placement) (x : Part) (rest : List Transfer) (b c : Bytes) → OwnsFrames p → Landing p Writes x rest
-    → Stores b c x.page (bytes_in b x.frame) → CouplesPages p b → CouplesPages (land p Writes x rest) c
+    → Stores b c x.page (bytes_in b x.frame) → CouplesPages p b → CouplesPages (land_then p Writes x rest) c
 land_write_coupled p x rest b c o l st k =
     let there : IsThere p x.page = page_in p x.page x.frame (landing_frame p Writes x rest o l) in
     let was : bytes_in b x.frame ≡ b.memory x.page =
@@ -341,7 +342,7 @@ beside_there b FromFile demanded (Text image x) m n k e = absurd (let h : true �
 -- A page that was read: its frame has the bytes of its blocks, or of its file.
 pub land_read_coupled : (p : Placement) (source : Source) (demanded : Page) (x : Part) (rest : List Transfer) (b : Bytes) → OwnsFrames p
     → Landing p (Reads source demanded) x rest → length b.frames ≡ length p.holds
-    → CouplesPages p b → CouplesPages (land p (Reads source demanded) x rest) (with_frame b x.frame (source_bytes b source x.page))
+    → CouplesPages p b → CouplesPages (land_then p (Reads source demanded) x rest) (with_frame b x.frame (source_bytes b source x.page))
 land_read_coupled p source demanded x rest b o l tokens k = go (same_page x.page demanded) refl
   where
     frame : IsFrame p x.frame
@@ -363,7 +364,7 @@ land_read_coupled p source demanded x rest b o l tokens k = go (same_page x.page
     apart : same_page x.page demanded ≡ false → x.page ≢ demanded
     apart e h = absurd (let i : true ≡ false = sym (Rattle.flat_state.proofs.PageNames.same_page_self demanded) ∙ ap (λ (w : Page). same_page w demanded) (sym h) ∙ e in cc)
 
-    go : (d : Bool) → same_page x.page demanded ≡ d → CouplesPages (land_read p source x rest d) c
+    go : (d : Bool) → same_page x.page demanded ≡ d → CouplesPages (land_read_then p source x rest d) c
     go true e = turn_coupled p x.page x.frame (Valid x.frame) (arrived_mark source x.page (mark_of p x.page)) p.free rest b c o
         (valid_turns p (Reads source demanded) x rest (arrived_mark source x.page (mark_of p x.page)) o l)
         (beside_frame p (turn p x.page (Valid x.frame) (arrived_mark source x.page (mark_of p x.page)) p.free rest) x.page x.frame b (source_bytes b source x.page) refl

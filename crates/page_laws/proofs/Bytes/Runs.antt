@@ -7,7 +7,8 @@ use Rattle.vm_facts.specs.declared.page.PageState.TheVariants.{Unfilled, Valid, 
 use Rattle.page_model.specs.Pages.{Slot, frame_of, is_on_swap, is_unfilled}
 use Rattle.flat_state.specs.PageNames.{beside, number_of}
 use Rattle.page_model.specs.Placement.{Placement, Transfer, Part, Moving, Errand, Writes, Reads, Source, FromSwap, FromFile, Due, filling_by, slots_of, slot_of, state_of, mark_of, is_dirty, errand_at, due_of_page, parts_of}
-use Rattle.page_model.specs.Moves.{evict, get_one, get_at, get_all, get_run, begin, launch, launch_all, launch_run, land, land_read, land_all, done, done_of}
+use Rattle.page_model.specs.Moves.{evict, get_run, launch_run, done, done_of}
+use Rattle.page_model.specs.Steps.{land_then, land_read_then, land_all_then, get_one, get_at, get_all, begin, launch, launch_all}
 use Rattle.page_model.specs.Runs.{run_out, run_in, run_in_by, pages_of_run, run_both, run_up, run_alone, comes_from_swap, comes_from_file, is_near, spare_frames}
 use Rattle.page_model.specs.Hands.{expire, sweep, hand_move}
 use Rattle.page_model.specs.Reading.{read_step, source_for}
@@ -15,6 +16,7 @@ use Rattle.page_model.specs.Place.{put_step, put_by}
 use Rattle.page_model.specs.Conditions.{EachPage, AllApart, CanEnter, IsSeated, HasSeat}
 use Rattle.page_model.specs.Ownership.{OwnsFrames}
 use Rattle.page_model.specs.PageBytes.{Bytes, CouplesPages, with_frame, source_bytes, ReadsFrom, bytes_read, StoresAll, BytesBy, BytesAfter}
+use Rattle.page_laws.proofs.Moves.InSteps.{get_steps, launch_steps, land_steps}
 use Rattle.page_laws.proofs.Moves.Puts.{rest_by_puts, get_kept}
 use Rattle.page_laws.proofs.Lists.Frames.{length_set_frame}
 use Rattle.page_laws.proofs.Lists.Pages.{put_other}
@@ -104,10 +106,11 @@ pub get_run_coupled : (p : Placement) (source : Source) (demanded : Page) (qs : 
     → EachPage (Reading p source demanded) qs → AllApart qs → CouplesPages p b
     → CouplesPages (get_run p (Reads source demanded) qs) b
 get_run_coupled p source demanded qs b o c a k =
-    get_all_coupled qs (begin p (Reads source demanded)) source demanded b (begin_owner p (Reads source demanded) o)
+    subst (λ (r : Placement). CouplesPages r b) (get_steps p (Reads source demanded) qs)
+    (get_all_coupled qs (begin p (Reads source demanded)) source demanded b (begin_owner p (Reads source demanded) o)
     (each_page_imp (Reading p source demanded) (Reading (begin p (Reads source demanded)) source demanded) qs c
     (λ q h. record { enters = let e : CanEnter p q = h.enters in record { there = e.there; frameless = e.frameless }; from = from_begin p (Reads source demanded) source demanded q h.from }))
-    a (begin_open p.transfers (Reads source demanded)) (begin_coupled p (Reads source demanded) b k)
+    a (begin_open p.transfers (Reads source demanded)) (begin_coupled p (Reads source demanded) b k))
 
 -- Writes.
 
@@ -124,9 +127,9 @@ launch_all_coupled (v ∷ qs) p b o c a latest k =
 pub launch_run_coupled : (p : Placement) (qs : List Page) (b : Bytes) → OwnsFrames p → EachPage (HasSeat p) qs → AllApart qs → CouplesPages p b
     → CouplesPages (launch_run p qs) b
 launch_run_coupled p qs b o c a k =
-    launch_all_coupled qs (begin p Writes) b (begin_owner p Writes o)
+    subst (λ (r : Placement). CouplesPages r b) (launch_steps p qs) (launch_all_coupled qs (begin p Writes) b (begin_owner p Writes o)
     (each_page_imp (HasSeat p) (HasSeat (begin p Writes)) qs c (λ q h. record { frame = h.frame; seat = record { state = let k : IsSeated p q h.frame = h.seat in k.state } })) a
-    (begin_open p.transfers Writes) (begin_coupled p Writes b k)
+    (begin_open p.transfers Writes) (begin_coupled p Writes b k))
 
 pub put_step_coupled : (p : Placement) (v : Page) (qs : List Page) (b : Bytes) → OwnsFrames p → HasSeat p v → EachPage (HasSeat p) qs → AllApart qs
     → CouplesPages p b → CouplesPages (put_step p v qs) b
@@ -150,27 +153,28 @@ move_coupled p locked b o k = still_coupled (sweep (expire p locked) locked) (ha
 -- The end of a transfer.
 
 landed_writes : (xs : List Part) (p : Placement) (ts : List Transfer) (b c : Bytes) → OwnsFrames p
-    → p.transfers ≡ record { errand = Writes; parts = xs } ∷ ts → StoresAll b xs c → CouplesPages p b → CouplesPages (land_all p Writes xs ts) c
+    → p.transfers ≡ record { errand = Writes; parts = xs } ∷ ts → StoresAll b xs c → CouplesPages p b → CouplesPages (land_all_then p Writes xs ts) c
 landed_writes [] p ts b c o h s k = subst (CouplesPages (record p { transfers = ts })) s (still_coupled p (record p { transfers = ts }) b (λ w. refl) refl (sym (ap parts_of h)) k)
 landed_writes (x ∷ xs) p ts b c o h s k =
     let l : Landing p Writes x (record { errand = Writes; parts = xs } ∷ ts) = record { parts = ap parts_of h } in
-    landed_writes xs (land p Writes x (record { errand = Writes; parts = xs } ∷ ts)) ts s.0 c (land_owner p Writes x (record { errand = Writes; parts = xs } ∷ ts) o l) refl s.2
+    landed_writes xs (land_then p Writes x (record { errand = Writes; parts = xs } ∷ ts)) ts s.0 c (land_owner p Writes x (record { errand = Writes; parts = xs } ∷ ts) o l) refl s.2
     (land_write_coupled p x (record { errand = Writes; parts = xs } ∷ ts) b s.0 o l s.1 k)
 
-land_holds : (p : Placement) (source : Source) (demanded : Page) (x : Part) (rest : List Transfer) → (land p (Reads source demanded) x rest).holds ≡ p.holds
+land_holds : (p : Placement) (source : Source) (demanded : Page) (x : Part) (rest : List Transfer)
+    → (land_then p (Reads source demanded) x rest).holds ≡ p.holds
 land_holds p source demanded x rest = go (Rattle.flat_state.specs.PageNames.same_page x.page demanded)
   where
-    go : (d : Bool) → (land_read p source x rest d).holds ≡ p.holds
+    go : (d : Bool) → (land_read_then p source x rest d).holds ≡ p.holds
     go true = refl
     go false = refl
 
 landed_reads : (xs : List Part) (p : Placement) (source : Source) (demanded : Page) (ts : List Transfer) (b : Bytes) → OwnsFrames p
     → p.transfers ≡ record { errand = Reads source demanded; parts = xs } ∷ ts → length b.frames ≡ length p.holds → CouplesPages p b
-    → CouplesPages (land_all p (Reads source demanded) xs ts) (bytes_read b source xs)
+    → CouplesPages (land_all_then p (Reads source demanded) xs ts) (bytes_read b source xs)
 landed_reads [] p source demanded ts b o h tokens k = still_coupled p (record p { transfers = ts }) b (λ w. refl) refl (sym (ap parts_of h)) k
 landed_reads (x ∷ xs) p source demanded ts b o h tokens k =
     let l : Landing p (Reads source demanded) x (record { errand = Reads source demanded; parts = xs } ∷ ts) = record { parts = ap parts_of h } in
-    landed_reads xs (land p (Reads source demanded) x (record { errand = Reads source demanded; parts = xs } ∷ ts)) source demanded ts (with_frame b x.frame (source_bytes b source x.page))
+    landed_reads xs (land_then p (Reads source demanded) x (record { errand = Reads source demanded; parts = xs } ∷ ts)) source demanded ts (with_frame b x.frame (source_bytes b source x.page))
     (land_owner p (Reads source demanded) x (record { errand = Reads source demanded; parts = xs } ∷ ts) o l)
     (land_transfers p (Reads source demanded) x (record { errand = Reads source demanded; parts = xs } ∷ ts))
     (length_set_frame b.frames x.frame (source_bytes b source x.page) ∙ tokens ∙ ap length (sym (land_holds p source demanded x (record { errand = Reads source demanded; parts = xs } ∷ ts))))
@@ -181,13 +185,13 @@ pub done_coupled : (p : Placement) (b c : Bytes) → OwnsFrames p → length b.f
     → CouplesPages (done p) c
 done_coupled p b c o tokens s k = go p.transfers refl s
   where
-    by : (e : Errand) (xs : List Part) (ts : List Transfer) → p.transfers ≡ record { errand = e; parts = xs } ∷ ts → BytesBy b e xs c → CouplesPages (land_all p e xs ts) c
+    by : (e : Errand) (xs : List Part) (ts : List Transfer) → p.transfers ≡ record { errand = e; parts = xs } ∷ ts → BytesBy b e xs c → CouplesPages (land_all_then p e xs ts) c
     by Writes xs ts h s = landed_writes xs p ts b c o h s k
-    by (Reads source demanded) xs ts h s = subst (CouplesPages (land_all p (Reads source demanded) xs ts)) s (landed_reads xs p source demanded ts b o h tokens k)
+    by (Reads source demanded) xs ts h s = subst (CouplesPages (land_all_then p (Reads source demanded) xs ts)) s (landed_reads xs p source demanded ts b o h tokens k)
 
     go : (ts : List Transfer) → p.transfers ≡ ts → BytesAfter b ts c → CouplesPages (done_of p ts) c
     go [] e s = subst (CouplesPages p) s k
-    go (t ∷ ts) e s = by t.errand t.parts ts e s
+    go (t ∷ ts) e s = subst (λ (r : Placement). CouplesPages r c) (land_steps t.parts p t.errand ts) (by t.errand t.parts ts e s)
 
 -- The read that serving begins.
 

@@ -10,7 +10,8 @@ use Rattle.aout_image.specs.declared.Image.{Image}
 use Rattle.page_model.specs.Pages.{Slot, frame_of, left_state, Zeros, no_slot, stack_in, numbered, is_on_swap}
 use Rattle.flat_state.specs.PageNames.{pages_from, number_of, same_page, beside}
 use Rattle.page_model.specs.Placement.{Placement, Errand, Reads, Source, Due, Start, CopyOf, filling_by, due_of_page, IsThere, Starting, space_number, spaces_from, due_from, unfilled, new_pages, start_placement, slots_of, slot_of, state_of, mark_of, page_of, put, due_page}
-use Rattle.page_model.specs.Moves.{evict, evict_at, fill_at, begin, get_one, get_at, get_all, get_run, reclaim, done}
+use Rattle.page_model.specs.Moves.{evict, evict_at, fill_at, get_run, reclaim, done}
+use Rattle.page_model.specs.Steps.{begin, get_one, get_at, get_all}
 use Rattle.page_model.specs.Hands.{hand_move, hand_moves}
 use Rattle.page_model.specs.Place.{filled, due_after, put_step, place_entry}
 use Rattle.page_model.specs.Reading.{source_for, read_errand}
@@ -20,7 +21,8 @@ use Rattle.page_model.specs.Ownership.{OwnsFrames}
 use Rattle.page_model.specs.PageBytes.{IsWritable}
 use Rattle.page_model.specs.Dues.{HasSource, IsDue, DueStand, NotDue, LeavesDue}
 use Rattle.page_model.specs.Runs.{pages_of_run, run_in, run_in_by, run_both, run_up, run_alone, comes_from_swap, comes_from_file, is_near, spare_frames}
-use Rattle.page_laws.proofs.Moves.Puts.{rest_by_puts, get_all_kept}
+use Rattle.page_laws.proofs.Moves.InSteps.{get_steps}
+use Rattle.page_laws.proofs.Moves.Puts.{rest_by_puts, get_run_kept}
 use Rattle.page_laws.proofs.Ownership.Changes.{numbered_hit, numbered_miss}
 use Rattle.page_laws.proofs.Ownership.Serve.{run_in_enters}
 use Rattle.page_laws.proofs.Lists.Pages.{page_cases, put_state, put_other, put_length}
@@ -145,9 +147,9 @@ get_run_fills : (D : Page → Type 0) (p : Placement) (source : Source) (demande
     → AllApart qs → EachPage (λ r. D r → ⊥) qs
     → KeepsFills D p (get_run p (Reads source demanded) qs)
 get_run_fills D p source demanded qs o c a n =
-    let t = get_all_fills D qs (begin p (Reads source demanded)) source demanded (begin_owner p (Reads source demanded) o)
+    subst (KeepsFills D p) (get_steps p (Reads source demanded) qs) (let t = get_all_fills D qs (begin p (Reads source demanded)) source demanded (begin_owner p (Reads source demanded) o)
     (each_page_imp (CanEnter p) (CanEnter (begin p (Reads source demanded))) qs c (λ q h. record { there = h.there; frameless = h.frameless })) a (begin_open p.transfers (Reads source demanded)) n in
-    record { sizes = t.sizes; slots = t.slots; fills = t.fills }
+    record { sizes = t.sizes; slots = t.slots; fills = t.fills })
 
 -- What is due stands, where nothing is due that wasn't.
 abbrev Waits : List Due → Page → Type 0
@@ -185,13 +187,13 @@ filled_less ds v w d n e = elim (page_cases w v) [
 filled_due : (p : Placement) (v : Page) → OwnsFrames p → CanEnter p v → NotDue (due_after p.due v) v → DueStand p → DueStand (filled p v)
 filled_due p v o c n = due_still p (filled p v) (filled_fills (Waits (due_after p.due v)) p v o c (not_waiting (due_after p.due v) v n)) (λ w d e. filled_less p.due v w d n e)
 
-pub get_due_list : (qs : List Page) (p : Placement) (e : Errand) → (get_all p e qs).due ≡ p.due
-get_due_list qs p e = (get_all_kept rest_by_puts qs p e).due
+pub get_due_list : (p : Placement) (e : Errand) (qs : List Page) → (get_run p e qs).due ≡ p.due
+get_due_list p e qs = (get_run_kept rest_by_puts p e qs).due
 
 get_run_due : (p : Placement) (source : Source) (demanded : Page) (qs : List Page) → OwnsFrames p → EachPage (CanEnter p) qs → AllApart qs
     → EachPage (NotDue p.due) qs → DueStand p → DueStand (get_run p (Reads source demanded) qs)
 get_run_due p source demanded qs o c a n =
-    let same : (get_run p (Reads source demanded) qs).due ≡ p.due = get_due_list qs (begin p (Reads source demanded)) (Reads source demanded) in
+    let same : (get_run p (Reads source demanded) qs).due ≡ p.due = get_due_list p (Reads source demanded) qs in
     due_still p (get_run p (Reads source demanded) qs)
     (get_run_fills (Waits (get_run p (Reads source demanded) qs).due) p source demanded qs o c a
     (each_page_imp (NotDue p.due) (λ r. Waits (get_run p (Reads source demanded) qs).due r → ⊥) qs n

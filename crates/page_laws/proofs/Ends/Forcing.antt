@@ -10,12 +10,14 @@ use Rattle.flat_state.specs.PageNames.{is_among, pages_from}
 use Rattle.page_model.specs.Frames.{next_frame, at_frame}
 use Rattle.vm_facts.specs.Lists.{times}
 use Rattle.page_model.specs.Placement.{Placement, Transfer, Part, Errand, Writes, state_of, mark_of, is_dirty, page_of, IsFrame, parts_of, flying}
-use Rattle.page_model.specs.Moves.{begin, join_last, launch, launch_to, launch_all, launch_run, retire_to}
+use Rattle.page_model.specs.Moves.{launch_run, retire_to}
+use Rattle.page_model.specs.Steps.{begin, join_last, launch, launch_to, launch_all}
 use Rattle.page_model.specs.Runs.{run_out, pages_of_run}
 use Rattle.page_model.specs.Hands.{expire, expire_of, expire_if, expire_to, sweep, sweep_taken, sweep_by, advance, hand_move}
 use Rattle.page_model.specs.Conditions.{EachPage, HasSeat, IsSeated}
 use Rattle.page_model.specs.Rank.{is_invalid, is_open, is_open_page, is_usable, is_usable_page, reach, walk, HandsStand, far, far_by, far_transfers, far_parts, HasRoom}
 use Rattle.page_model.specs.Ownership.{OwnsFrames, seats, seated, seated_of}
+use Rattle.page_laws.proofs.Moves.InSteps.{launch_steps}
 use Rattle.page_laws.proofs.Lists.Pages.{page_cases, put_state}
 use Rattle.std.proofs.lemmas.Option.{same_Some}
 use Rattle.page_laws.proofs.Moves.Steps.{page_in, put_other_state}
@@ -186,7 +188,7 @@ begun_write p v t c = let k : IsSeated p v c.frame = c.seat in elim k.state [
 
 run_first : (p : Placement) (qs : List Page) → p.transfers ≡ [] → EachPage (HasSeat p) qs → (qs ≡ [] → ⊥) → HasWrite (launch_run p qs).transfers
 run_first p [] t c n = absurd (n refl)
-run_first p (v ∷ qs) t c n = launched_write qs (launch (begin p Writes) v) (begun_write p v t c.0)
+run_first p (v ∷ qs) t c n = subst (λ (r : Placement). HasWrite r.transfers) (launch_steps p (v ∷ qs)) (launched_write qs (launch (begin p Writes) v) (begun_write p v t c.0))
 
 some_pages : (q : Page) (lo n : ℕ) → 0 < n → pages_from q lo n ≡ [] → ⊥
 some_pages q lo zero l e = absurd (omega arith)

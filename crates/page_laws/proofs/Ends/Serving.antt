@@ -3,6 +3,7 @@ use Rattle.std.proofs.Common.{◌≡◌, ◌≢◌, ◌⊎◌, inl, inr, ℕ, ze
 use Rattle.std.proofs.lemmas.Bool.{cases_eq, or_left, or_right, or_cases}
 use Rattle.std.proofs.lemmas.Bool.Decides.{nat_tests}
 use Rattle.std.proofs.lemmas.List.{length_push}
+use Rattle.page_laws.proofs.Moves.InSteps.{get_steps, land_steps, done_cases}
 use Rattle.page_laws.proofs.Moves.Transfers.{sweep_count, land_all_rest}
 use Rattle.page_laws.proofs.Runs.Widest.{above_le, below_room}
 use Rattle.vm_facts.specs.declared.page.Page.{Page}
@@ -13,7 +14,8 @@ use Rattle.page_model.specs.Pages.{Slot, Filling, Zeros, OfImage, frame_of, is_v
 use Rattle.flat_state.specs.PageNames.{number_of, beside, pages_from, is_among, same_page}
 use Rattle.vm_facts.specs.Lists.{times, without}
 use Rattle.page_model.specs.Placement.{Placement, Transfer, Part, Errand, Writes, Reads, Source, filling_by, slot_of, state_of, mark_of, filling_of, page_of, IsThere, parts_of, flying, put}
-use Rattle.page_model.specs.Moves.{evict, evict_at, fill_at, begin, get_one, get_at, get_all, land, land_read, land_all, done, done_of, reclaim_to, arrived_mark, reclaim}
+use Rattle.page_model.specs.Moves.{evict, evict_at, fill_at, done, done_of, reclaim_to, arrived_mark, reclaim, taken_parts}
+use Rattle.page_model.specs.Steps.{land_then, land_read_then, land_all_then, begin, get_one, get_at, get_all}
 use Rattle.page_model.specs.Runs.{Run, pages_of_run, passing_above, run_both, run_up, run_alone, run_in, run_in_by, comes_from_swap, comes_from_file, spare_frames}
 use Rattle.page_model.specs.Hands.{expire}
 use Rattle.page_model.specs.Reading.{read_step, read_errand, source_for}
@@ -26,7 +28,7 @@ use Rattle.page_laws.proofs.Lists.Frames.{without_head, some_free}
 use Rattle.vm_facts.proofs.Lists.{times_head}
 use Rattle.page_laws.proofs.Lists.Pages.{page_cases, put_state, put_length, beside_self}
 use Rattle.flat_state.proofs.PageNames.{same_page_self}
-use Rattle.page_laws.proofs.Lists.Parts.{IsOpen, begin_open, length_join}
+use Rattle.page_laws.proofs.Lists.Parts.{IsOpen, begin_open}
 use Rattle.page_laws.proofs.Lists.Local.{none_some}
 use Rattle.page_laws.proofs.Moves.Steps.{once_at, put_other_state, EvictRest, evict_rest}
 use Rattle.page_laws.proofs.Ownership.Pages.{get_owner}
@@ -40,24 +42,25 @@ use Rattle.page_laws.proofs.Moves.Cases.{force_cases, serving_cases, IsRead, IsS
 
 -- What the end of a transfer leaves.
 
-land_free : (p : Placement) (e : Errand) (x : Part) (rest : List Transfer) → length p.free ≤ length (land p e x rest).free
+land_free : (p : Placement) (e : Errand) (x : Part) (rest : List Transfer) → length p.free ≤ length (land_then p e x rest).free
 land_free p Writes x rest = let h = length_push p.free x.frame in omega arith
 land_free p (Reads source demanded) x rest = go (same_page x.page demanded)
   where
-    go : (b : Bool) → length p.free ≤ length (land_read p source x rest b).free
+    go : (b : Bool) → length p.free ≤ length (land_read_then p source x rest b).free
     go true = omega arith
     go false = let h = length_push p.free x.frame in omega arith
 
-pub land_all_free : (xs : List Part) (p : Placement) (e : Errand) (ts : List Transfer) → length p.free ≤ length (land_all p e xs ts).free
+pub land_all_free : (xs : List Part) (p : Placement) (e : Errand) (ts : List Transfer) → length p.free ≤ length (land_all_then p e xs ts).free
 land_all_free [] p e ts = omega arith
-land_all_free (x ∷ xs) p e ts = let a = land_free p e x (record { errand = e; parts = xs } ∷ ts) in let b = land_all_free xs (land p e x (record { errand = e; parts = xs } ∷ ts)) e ts in omega arith
+land_all_free (x ∷ xs) p e ts =
+    let a = land_free p e x (record { errand = e; parts = xs } ∷ ts) in let b = land_all_free xs (land_then p e x (record { errand = e; parts = xs } ∷ ts)) e ts in omega arith
 
 -- a write that ends frees a frame
-pub write_frees : (xs : List Part) (p : Placement) (ts : List Transfer) → (xs ≡ [] → ⊥) → 0 < length (land_all p Writes xs ts).free
+pub write_frees : (xs : List Part) (p : Placement) (ts : List Transfer) → (xs ≡ [] → ⊥) → 0 < length (land_all_then p Writes xs ts).free
 write_frees [] p ts n = absurd (n refl)
 write_frees (x ∷ xs) p ts n =
     let a = length_push p.free x.frame in
-    let b = land_all_free xs (land p Writes x (record { errand = Writes; parts = xs } ∷ ts)) Writes ts in
+    let b = land_all_free xs (land_then p Writes x (record { errand = Writes; parts = xs } ∷ ts)) Writes ts in
     omega arith
 
 free_near : (p : Placement) (locked : List Page) → 0 < length p.free → far p locked ≡ 0
@@ -88,8 +91,8 @@ done_falls : (p : Placement) (locked : List Page) (t : Transfer) (ts : List Tran
     → far (done p) locked < far p locked
 done_falls p locked t ts o e h = subst (λ (n : ℕ). far (done p) locked < n) (sym (ap (far_by p locked) e ∙ ap (far_transfers p locked) h)) (by t.errand t.parts refl refl)
   where
-    is : done p ≡ land_all p t.errand t.parts ts
-    is = ap (done_of p) h
+    is : done p ≡ land_all_then p t.errand t.parts ts
+    is = ap (done_of p) h ∙ sym (land_steps t.parts p t.errand ts)
 
     s : Steady p (done p)
     s = done_steady p o
@@ -97,14 +100,14 @@ done_falls p locked t ts o e h = subst (λ (n : ℕ). far (done p) locked < n) (
     after : far (done p) locked ≤ length p.holds + 3 + length ts
     after =
         let a = far_le (done p) locked in
-        let b : (done p).transfers ≡ ts = ap (λ (q : Placement). q.transfers) is ∙ land_all_rest t.parts p t.errand ts in
+        let b : (done p).transfers ≡ ts = ap (λ (us : List Transfer). (done_of p us).transfers) h ∙ land_all_rest t.parts p t.errand ts in
         let c = ap length s.holds in
         let d = ap length b in
         omega arith
 
     by : (d : Errand) (xs : List Part) → t.errand ≡ d → t.parts ≡ xs → far (done p) locked < far_parts p d xs (length ts)
     by Writes (x ∷ xs) a b =
-        let k : done p ≡ land_all p Writes (x ∷ xs) ts = is ∙ ap (λ (d : Errand). land_all p d t.parts ts) a ∙ ap (λ (ys : List Part). land_all p Writes ys ts) b in
+        let k : done p ≡ land_all_then p Writes (x ∷ xs) ts = is ∙ ap (λ (d : Errand). land_all_then p d t.parts ts) a ∙ ap (λ (ys : List Part). land_all_then p Writes ys ts) b in
         let z = free_near (done p) locked (subst (λ (q : Placement). 0 < length q.free) (sym k) (write_frees (x ∷ xs) p ts (λ (n : x ∷ xs ≡ []). absurd cc))) in
         omega arith
     by Writes [] a b = omega (arith, after)
@@ -192,14 +195,6 @@ get_all_comes (v ∷ qs) p source demanded q o c a latest l h =
       | inr e ↦ get_all_comes qs (get_one p (Reads source demanded) v) source demanded q o2 c2 a.1 latest2 (let k = get_takes p (Reads source demanded) v o in omega arith) e
     ]
 
-get_all_length : (qs : List Page) (p : Placement) (e : Errand) → IsOpen p.transfers e → length (get_all p e qs).transfers ≡ length p.transfers
-get_all_length [] p e latest = refl
-get_all_length (v ∷ qs) p e latest = get_all_length qs (get_one p e v) e (get_open_still p e v latest) ∙ one p.free
-  where
-    one : (fr : List ℕ) → length (get_at p e v fr).transfers ≡ length p.transfers
-    one [] = refl
-    one (f ∷ rest) = length_join p.transfers e (record { page = v; frame = f }) latest
-
 -- The run of a read: the page is in it, and it has no more pages than frames are free.
 
 abbrev Fits : Page → ℕ → Run → Type 0
@@ -246,15 +241,15 @@ pub read_comes : (p : Placement) (q : Page) → OwnsFrames p → CanEnter p q �
 read_comes p q o c l =
     let spare : 0 < spare_frames p = omega arith in
     let f = run_in_fits p q (state_of p q) (spare_frames p) spare in
-    get_all_comes (pages_of_run q (run_in p q)) (begin p (read_errand p q)) (source_for (state_of p q)) q q (begin_owner p (read_errand p q) o)
+    subst (λ (r : Placement). is_coming (state_of r q) ≡ true) (get_steps p (read_errand p q) (pages_of_run q (run_in p q)))
+    (get_all_comes (pages_of_run q (run_in p q)) (begin p (read_errand p q)) (source_for (state_of p q)) q q (begin_owner p (read_errand p q) o)
     (each_page_imp (CanEnter p) (CanEnter (begin p (read_errand p q))) (pages_of_run q (run_in p q)) (run_in_enters p q c) (λ r k. record { there = k.there; frameless = k.frameless }))
     (run_apart q (run_in p q)) (begin_open p.transfers (read_errand p q))
     (let h = pages_length q (run_in p q).lo (run_in p q).n in omega (arith, f.2))
-    (subst (λ (x : Page). is_among x (pages_of_run q (run_in p q)) ≡ true) (beside_self q) (pages_among q (run_in p q).lo (run_in p q).n (number_of q) f.0 f.1))
+    (subst (λ (x : Page). is_among x (pages_of_run q (run_in p q)) ≡ true) (beside_self q) (pages_among q (run_in p q).lo (run_in p q).n (number_of q) f.0 f.1)))
 
 pub read_length : (p : Placement) (q : Page) → length (read_step p q).transfers ≡ length p.transfers + 1
-read_length p q = get_all_length (pages_of_run q (run_in p q)) (begin p (read_errand p q)) (read_errand p q) (begin_open p.transfers (read_errand p q))
-    ∙ length_push p.transfers (record { errand = read_errand p q; parts = [] })
+read_length p q = length_push p.transfers (record { errand = read_errand p q; parts = taken_parts (pages_of_run q (run_in p q)) p.free })
 
 -- Serving.
 
@@ -289,27 +284,27 @@ put_lands p v s m q was l there h = elim (page_cases q v) [
 
 land_lands : (p : Placement) (e : Errand) (x : Part) (rest : List Transfer) (q : Page) (was : PageState) → IsThere p q
     → ((state_of p q ≡ was) ⊎ Landed (state_of p q))
-    → (state_of (land p e x rest) q ≡ was) ⊎ Landed (state_of (land p e x rest) q)
+    → (state_of (land_then p e x rest) q ≡ was) ⊎ Landed (state_of (land_then p e x rest) q)
 land_lands p Writes x rest q was there h = put_lands p x.page (Invalid x.frame) (written_mark x.page) q was tt there h
 land_lands p (Reads source demanded) x rest q was there h = go (same_page x.page demanded)
   where
-    go : (b : Bool) → (state_of (land_read p source x rest b) q ≡ was) ⊎ Landed (state_of (land_read p source x rest b) q)
+    go : (b : Bool) → (state_of (land_read_then p source x rest b) q ≡ was) ⊎ Landed (state_of (land_read_then p source x rest b) q)
     go true = put_lands p x.page (Valid x.frame) (arrived_mark source x.page (mark_of p x.page)) q was tt there h
     go false = put_lands p x.page (Invalid x.frame) (mark_of p x.page) q was tt there h
 
-land_there : (p : Placement) (e : Errand) (x : Part) (rest : List Transfer) (q : Page) → IsThere p q → IsThere (land p e x rest) q
+land_there : (p : Placement) (e : Errand) (x : Part) (rest : List Transfer) (q : Page) → IsThere p q → IsThere (land_then p e x rest) q
 land_there p Writes x rest q there = let h = put_length p x.page (Invalid x.frame) (written_mark x.page) q in omega arith
 land_there p (Reads source demanded) x rest q there = go (same_page x.page demanded)
   where
-    go : (b : Bool) → IsThere (land_read p source x rest b) q
+    go : (b : Bool) → IsThere (land_read_then p source x rest b) q
     go true = let h = put_length p x.page (Valid x.frame) (arrived_mark source x.page (mark_of p x.page)) q in omega arith
     go false = let h = put_length p x.page (Invalid x.frame) (mark_of p x.page) q in omega arith
 
 pub land_all_lands : (xs : List Part) (p : Placement) (e : Errand) (ts : List Transfer) (q : Page) (was : PageState) → IsThere p q
     → ((state_of p q ≡ was) ⊎ Landed (state_of p q))
-    → (state_of (land_all p e xs ts) q ≡ was) ⊎ Landed (state_of (land_all p e xs ts) q)
+    → (state_of (land_all_then p e xs ts) q ≡ was) ⊎ Landed (state_of (land_all_then p e xs ts) q)
 land_all_lands [] p e ts q was there h = h
-land_all_lands (x ∷ xs) p e ts q was there h = land_all_lands xs (land p e x (record { errand = e; parts = xs } ∷ ts)) e ts q was
+land_all_lands (x ∷ xs) p e ts q was there h = land_all_lands xs (land_then p e x (record { errand = e; parts = xs } ∷ ts)) e ts q was
     (land_there p e x (record { errand = e; parts = xs } ∷ ts) q there) (land_lands p e x (record { errand = e; parts = xs } ∷ ts) q was there h)
 
 -- a page on its way is in a transfer
@@ -340,11 +335,14 @@ done_rank p locked q there n is = go p.transfers refl
   where
     go : (ts : List Transfer) → p.transfers ≡ ts → rank (done_of p ts) locked q < 2 + length ts
     go [] e = absurd (n e)
-    go (t ∷ ts) e = elim (land_all_lands t.parts p t.errand ts q (state_of p q) there (inl refl)) [
-      | inl h ↦ subst (λ (s : PageState). rank_by (land_all p t.errand t.parts ts) locked (filling_of (land_all p t.errand t.parts ts) q) s < 2 + length (t ∷ ts)) (sym h)
-          (let a = is (land_all p t.errand t.parts ts) (filling_of (land_all p t.errand t.parts ts) q) in let b = ap length (land_all_rest t.parts p t.errand ts) in omega arith)
-      | inr h ↦ let a = landed_rank (land_all p t.errand t.parts ts) locked (filling_of (land_all p t.errand t.parts ts) q) (state_of (land_all p t.errand t.parts ts) q) h in omega arith
-    ]
+    go (t ∷ ts) e = subst (λ (r : Placement). rank r locked q < 2 + length (t ∷ ts)) (land_steps t.parts p t.errand ts) (elim (land_all_lands t.parts p t.errand ts q (state_of p q) there (inl refl)) [
+      | inl h ↦ subst (λ (s : PageState). rank_by (land_all_then p t.errand t.parts ts) locked (filling_of (land_all_then p t.errand t.parts ts) q) s < 2 + length (t ∷ ts)) (sym h)
+          (let a = is (land_all_then p t.errand t.parts ts) (filling_of (land_all_then p t.errand t.parts ts) q) in
+          let b : length (land_all_then p t.errand t.parts ts).transfers ≡ length ts =
+          ap (λ (r : Placement). length r.transfers) (land_steps t.parts p t.errand ts) ∙ ap length (land_all_rest t.parts p t.errand ts) in omega arith)
+      | inr h ↦ let a =
+          landed_rank (land_all_then p t.errand t.parts ts) locked (filling_of (land_all_then p t.errand t.parts ts) q) (state_of (land_all_then p t.errand t.parts ts) q) h in omega arith
+    ])
 
 pub full_some : (p : Placement) → is_full p ≡ true → 0 < length p.transfers
 full_some p e =
@@ -360,14 +358,11 @@ still_rank : (p r : Placement) (locked : List Page) (q : Page) → slot_of r q �
 still_rank p r locked q e = ap (λ (x : Slot). rank_by r locked (filling_by q x.filling) x.state) e
 
 done_near : (p : Placement) (locked : List Page) (f : ℕ) (fs : List ℕ) → p.free ≡ f ∷ fs → far (done p) locked ≡ 0
-done_near p locked f fs e = free_near (done p) locked (go p.transfers)
+done_near p locked f fs e = free_near (done p) locked
+    (done_cases (λ (r : Placement). 0 < length r.free) p some (λ t ts k. let h = land_all_free t.parts p t.errand ts in omega (arith, some)))
   where
     some : 0 < length p.free
     some = let h = ap length e in omega arith
-
-    go : (ts : List Transfer) → 0 < length (done_of p ts).free
-    go [] = some
-    go (t ∷ ts) = let h = land_all_free t.parts p t.errand ts in omega (arith, some)
 
 fill_rank : (p : Placement) (locked : List Page) (q : Page) (f : ℕ) (fs : List ℕ) → IsThere p q → p.free ≡ f ∷ fs → rank (filled p q) locked q ≡ 0
 fill_rank p locked q f fs there e = ap (rank_by (filled p q) locked (filling_of (filled p q) q)) (ap (λ (fr : List ℕ). state_of (fill_at p q fr) q) e

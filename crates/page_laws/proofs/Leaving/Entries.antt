@@ -10,7 +10,8 @@ use Rattle.flat_state.specs.PageNames.{number_of, pages_from}
 use Rattle.page_model.specs.Pages.{Slot, frame_of, left_state}
 use Rattle.vm_facts.specs.Lists.{times, without}
 use Rattle.page_model.specs.Placement.{Placement, Reads, Source, slot_of, state_of, mark_of, page_of}
-use Rattle.page_model.specs.Moves.{evict, evict_at, fill, fill_at, begin, get_one, get_at, get_all, done, reclaim}
+use Rattle.page_model.specs.Moves.{evict, evict_at, fill, fill_at, done, reclaim}
+use Rattle.page_model.specs.Steps.{begin, get_one, get_at, get_all}
 use Rattle.page_model.specs.Hands.{hand_move, hand_moves}
 use Rattle.page_model.specs.Place.{put_step, place_entry}
 use Rattle.page_model.specs.Reading.{source_for, read_errand}
@@ -18,6 +19,7 @@ use Rattle.page_model.specs.Conditions.{EachPage, AllApart, CanEnter, CanPlace}
 use Rattle.page_model.specs.Ownership.{OwnsFrames, IsListed, is_marked_dirty}
 use Rattle.page_laws.specs.Leaving.{IsTaken, takes_frames}
 use Rattle.vm_facts.proofs.Lists.{times-without_same, times-without_other}
+use Rattle.page_laws.proofs.Moves.InSteps.{get_steps}
 use Rattle.page_laws.proofs.Lists.Local.{none_some}
 use Rattle.std.proofs.lemmas.Option.{same_Some}
 use Rattle.page_laws.proofs.Lists.Frames.{some_free}
@@ -204,10 +206,11 @@ entry_frame locked at p (entries.Copy q) w f o c e = elim (fill_kept p q w f o c
   | inl k ↦ inl (ap (λ (x : Slot). frame_of x.state) k ∙ e)
   | inr k ↦ inr (refl, record { state = k.state; free = k.free; clean = k.clean; left = k.left })
 ]
-entry_frame locked at p (entries.Get q lo n) w f o c e = elim (read_kept p q lo n w f o c e) [
-  | inl k ↦ inl (ap (λ (x : Slot). frame_of x.state) k ∙ e)
-  | inr k ↦ inr (refl, k)
-]
+entry_frame locked at p (entries.Get q lo n) w f o c e =
+    elim (subst (λ (r : Placement). (slot_of r w ≡ slot_of p w) ⊎ IsTaken p r w f) (get_steps p (read_errand p q) (pages_from q lo n)) (read_kept p q lo n w f o c e)) [
+      | inl k ↦ inl (ap (λ (x : Slot). frame_of x.state) k ∙ e)
+      | inr k ↦ inr (refl, k)
+    ]
 entry_frame locked at p (entries.Reclaim q) w f o c e = let s : Steady p (reclaim p q) = reclaim_steady p q in inl (s.frames w ∙ e)
 entry_frame locked at p (entries.Hands n) w f o c e = inl (moves_frame n p locked w ∙ e)
 entry_frame locked at p (entries.Put q n) w f o c e = let s : Steady p (put_step p q (pages_from q (number_of q) n)) = put_steady p q (pages_from q (number_of q) n) in inl (s.frames w ∙ e)

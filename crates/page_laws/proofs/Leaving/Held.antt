@@ -11,8 +11,9 @@ use Rattle.flat_state.specs.PageNames.{number_of, pages_from, is_among, same_pag
 use Rattle.page_model.specs.Pages.{Slot, frame_of, is_dirty_by, left_state, written_mark}
 use Rattle.vm_facts.specs.Lists.{times, without}
 use Rattle.page_model.specs.Placement.{Placement, Transfer, Part, Errand, Writes, Reads, Source, moving_state, slot_of, state_of, mark_of, is_dirty, page_of, parts_of}
-use Rattle.page_model.specs.Moves.{evict, evict_at, fill, fill_at, begin, get_one, get_at, get_all, turn, join_last, launch, launch_to}
-use Rattle.page_model.specs.Moves.{launch_all, launch_run, land, land_read, land_all, arrived_mark, done, done_of, reclaim, reclaim_to, retire, retire_to}
+use Rattle.page_model.specs.Moves.{evict, evict_at, fill, fill_at, turn}
+use Rattle.page_model.specs.Moves.{launch_run, arrived_mark, done, reclaim, reclaim_to, retire, retire_to}
+use Rattle.page_model.specs.Steps.{land_then, land_read_then, land_all_then, begin, get_one, get_at, get_all, join_last, launch, launch_to, launch_all}
 use Rattle.page_model.specs.Runs.{pages_of_run, run_out}
 use Rattle.page_model.specs.Hands.{expire, expire_of, expire_if, expire_to, sweep, hand_move, hand_moves}
 use Rattle.page_model.specs.Place.{put_step, put_by, place_entry}
@@ -24,6 +25,7 @@ use Rattle.page_laws.proofs.Lists.Frames.{times_one_other, some_free}
 use Rattle.vm_facts.proofs.Lists.{times-append, times-without_same, times-without_other}
 use Rattle.std.proofs.lemmas.Option.{same_Some}
 use Rattle.page_laws.proofs.Lists.Pages.{page_cases, put_state, put_mark, put_other}
+use Rattle.page_laws.proofs.Moves.InSteps.{get_steps, launch_steps, done_cases}
 use Rattle.page_laws.proofs.Moves.Steps.{page_in, once_at}
 use Rattle.page_laws.proofs.Ownership.Pages.{expire_owner}
 use Rattle.page_laws.proofs.Ownership.Hands.{move_owner}
@@ -236,7 +238,7 @@ launch_all_held [] p w f u = u
 launch_all_held (v ∷ qs) p w f u = launch_all_held qs (launch p v) w f (launch_held p v w f u)
 
 launch_run_held : (p : Placement) (qs : List Page) (w : Page) (f : ℕ) → IsUnwritten p w f → IsUnwritten (launch_run p qs) w f
-launch_run_held p qs w f u = launch_all_held qs (begin p Writes) w f (record { dirty = u.dirty; held = u.held })
+launch_run_held p qs w f u = subst (λ (r : Placement). IsUnwritten r w f) (launch_steps p qs) (launch_all_held qs (begin p Writes) w f (record { dirty = u.dirty; held = u.held }))
 
 sweep_held : (p : Placement) (locked : List Page) (w : Page) (f : ℕ) → OwnsFrames p → IsUnwritten p w f → IsUnwritten (sweep p locked) w f
 sweep_held p locked w f o u = sweep_cases (λ r. IsUnwritten r w f) p locked u
@@ -269,19 +271,19 @@ pub written_clean : (v : Page) → is_dirty_by v (written_mark v) ≡ false
 written_clean (Data sid v) = refl
 written_clean _ = refl
 
-land_other : (p : Placement) (e : Errand) (x : Part) (rest : List Transfer) (w : Page) → w ≢ x.page → slot_of (land p e x rest) w ≡ slot_of p w
+land_other : (p : Placement) (e : Errand) (x : Part) (rest : List Transfer) (w : Page) → w ≢ x.page → slot_of (land_then p e x rest) w ≡ slot_of p w
 land_other p Writes x rest w n = put_other p x.page (Invalid x.frame) (written_mark x.page) w n
 land_other p (Reads source demanded) x rest w n = go (same_page x.page demanded)
   where
-    go : (b : Bool) → slot_of (land_read p source x rest b) w ≡ slot_of p w
+    go : (b : Bool) → slot_of (land_read_then p source x rest b) w ≡ slot_of p w
     go true = put_other p x.page (Valid x.frame) (arrived_mark source x.page (mark_of p x.page)) w n
     go false = put_other p x.page (Invalid x.frame) (mark_of p x.page) w n
 
-land_free : (p : Placement) (e : Errand) (x : Part) (rest : List Transfer) (f : ℕ) → f ≢ x.frame → times f p.free ≡ 0 → times f (land p e x rest).free ≡ 0
+land_free : (p : Placement) (e : Errand) (x : Part) (rest : List Transfer) (f : ℕ) → f ≢ x.frame → times f p.free ≡ 0 → times f (land_then p e x rest).free ≡ 0
 land_free p Writes x rest f n z = tail_none f x.frame p.free n z
 land_free p (Reads source demanded) x rest f n z = go (same_page x.page demanded)
   where
-    go : (b : Bool) → times f (land_read p source x rest b).free ≡ 0
+    go : (b : Bool) → times f (land_read_then p source x rest b).free ≡ 0
     go true = z
     go false = tail_none f x.frame p.free n z
 
@@ -295,7 +297,7 @@ not_coming p w f g u e = elim u.held [
 ]
 
 land_own : (p : Placement) (e : Errand) (x : Part) (rest : List Transfer) (w : Page) (f : ℕ) → OwnsFrames p → Landing p e x rest → w ≡ x.page
-    → IsUnwritten p w f → (state_of p w ≡ Going f) × IsClean (land p e x rest) w f
+    → IsUnwritten p w f → (state_of p w ≡ Going f) × IsClean (land_then p e x rest) w f
 land_own p (Reads source demanded) x rest w f o l s u = absurd (not_coming p w f x.frame u (ap (state_of p) s ∙ landing_state p (Reads source demanded) x rest o l))
 land_own p Writes x rest w f o l s u =
     let is : state_of p w ≡ Going x.frame = ap (state_of p) s ∙ landing_state p Writes x rest o l in
@@ -303,8 +305,8 @@ land_own p Writes x rest w f o l s u =
     let there = page_in p x.page x.frame (landing_frame p Writes x rest o l) in (
       is ∙ ap Going same,
       record {
-        state = ap (state_of (land p Writes x rest)) s ∙ put_state p x.page (Invalid x.frame) (written_mark x.page) there ∙ ap Invalid same;
-        clean = ap (is_dirty (land p Writes x rest)) s ∙ ap (is_dirty_by x.page) (put_mark p x.page (Invalid x.frame) (written_mark x.page) there) ∙ written_clean x.page;
+        state = ap (state_of (land_then p Writes x rest)) s ∙ put_state p x.page (Invalid x.frame) (written_mark x.page) there ∙ ap Invalid same;
+        clean = ap (is_dirty (land_then p Writes x rest)) s ∙ ap (is_dirty_by x.page) (put_mark p x.page (Invalid x.frame) (written_mark x.page) there) ∙ written_clean x.page;
       },
     )
 
@@ -317,23 +319,23 @@ not_moving Writes g f h = absurd cc
 not_moving (Reads source demanded) g f h = absurd cc
 
 land_all_clean : (xs : List Part) (p : Placement) (e : Errand) (ts : List Transfer) (w : Page) (f : ℕ) → OwnsFrames p
-    → p.transfers ≡ record { errand = e; parts = xs } ∷ ts → IsClean p w f → IsClean (land_all p e xs ts) w f
+    → p.transfers ≡ record { errand = e; parts = xs } ∷ ts → IsClean p w f → IsClean (land_all_then p e xs ts) w f
 land_all_clean [] p e ts w f o h c = record { state = c.state; clean = c.clean }
 land_all_clean (x ∷ xs) p e ts w f o h c =
     let l = landing_at x xs p e ts h in
     let n : w ≢ x.page = λ s. absurd (not_moving e x.frame f (sym (landing_state p e x (record { errand = e; parts = xs } ∷ ts) o l) ∙ ap (state_of p) (sym s) ∙ c.state)) in
     let k = land_other p e x (record { errand = e; parts = xs } ∷ ts) w n in
-    land_all_clean xs (land p e x (record { errand = e; parts = xs } ∷ ts)) e ts w f (land_owner p e x (record { errand = e; parts = xs } ∷ ts) o l)
+    land_all_clean xs (land_then p e x (record { errand = e; parts = xs } ∷ ts)) e ts w f (land_owner p e x (record { errand = e; parts = xs } ∷ ts) o l)
     (land_transfers p e x (record { errand = e; parts = xs } ∷ ts))
     (record { state = ap (λ (y : Slot). y.state) k ∙ c.state; clean = ap (λ (y : Slot). is_dirty_by w y.mark) k ∙ c.clean })
 
 land_all_held : (xs : List Part) (p : Placement) (e : Errand) (ts : List Transfer) (w : Page) (f : ℕ) → OwnsFrames p
     → p.transfers ≡ record { errand = e; parts = xs } ∷ ts → IsUnwritten p w f
-    → IsUnwritten (land_all p e xs ts) w f ⊎ ((state_of p w ≡ Going f) × IsClean (land_all p e xs ts) w f)
+    → IsUnwritten (land_all_then p e xs ts) w f ⊎ ((state_of p w ≡ Going f) × IsClean (land_all_then p e xs ts) w f)
 land_all_held [] p e ts w f o h u = inl (record { dirty = u.dirty; held = u.held })
 land_all_held (x ∷ xs) p e ts w f o h u =
     let rest : List Transfer = record { errand = e; parts = xs } ∷ ts in
-    let q : Placement = land p e x rest in
+    let q : Placement = land_then p e x rest in
     let l : Landing p e x rest = landing_at x xs p e ts h in
     let oq : OwnsFrames q = land_owner p e x rest o l in
     let tq : q.transfers ≡ rest = land_transfers p e x rest in
@@ -349,14 +351,10 @@ land_all_held (x ∷ xs) p e ts w f o h u =
     ]
 
 done_held : (p : Placement) (w : Page) (f : ℕ) → OwnsFrames p → IsUnwritten p w f → IsUnwritten (done p) w f ⊎ IsWritten p (done p) w f
-done_held p w f o u = go p.transfers refl
-  where
-    go : (ts : List Transfer) → p.transfers ≡ ts → IsUnwritten (done_of p ts) w f ⊎ IsWritten p (done_of p ts) w f
-    go [] e = inl u
-    go (t ∷ ts) e = elim (land_all_held t.parts p t.errand ts w f o e u) [
-      | inl k ↦ inl k
-      | inr k ↦ inr (let c : IsClean (land_all p t.errand t.parts ts) w f = k.1 in record { was = k.0; now = c.state; clean = c.clean })
-    ]
+done_held p w f o u = done_cases (λ (r : Placement). IsUnwritten r w f ⊎ IsWritten p r w f) p (inl u) (λ t ts e. elim (land_all_held t.parts p t.errand ts w f o e u) [
+  | inl k ↦ inl k
+  | inr k ↦ inr (let c : IsClean (land_all_then p t.errand t.parts ts) w f = k.1 in record { was = k.0; now = c.state; clean = c.clean })
+])
 
 -- All paging entries.
 
@@ -364,8 +362,9 @@ pub entry_held : (locked : List Page) (at : ℕ) (p : Placement) (e : Entry) (w 
     → IsUnwritten (place_entry locked at p e) w f ⊎ ((e ≡ entries.Done) × IsWritten p (place_entry locked at p e) w f)
 entry_held locked at p (entries.Zero q) w f o c u = let k = fill_held p q w f o (enters_other p q w f c (held_frame p w f u)) u in inl (record { dirty = k.dirty; held = k.held })
 entry_held locked at p (entries.Copy q) w f o c u = let k = fill_held p q w f o (enters_other p q w f c (held_frame p w f u)) u in inl (record { dirty = k.dirty; held = k.held })
-entry_held locked at p (entries.Get q lo n) w f o c u = inl (get_all_held (pages_from q lo n) (begin p (read_errand p q)) (source_for (state_of p q)) q w f
-    (reading p q lo n o c) (entering_others (pages_from q lo n) p w f c (held_frame p w f u)) (record { dirty = u.dirty; held = u.held }))
+entry_held locked at p (entries.Get q lo n) w f o c u = inl
+    (subst (λ (r : Placement). IsUnwritten r w f) (get_steps p (read_errand p q) (pages_from q lo n)) (get_all_held (pages_from q lo n) (begin p (read_errand p q)) (source_for (state_of p q)) q w f
+    (reading p q lo n o c) (entering_others (pages_from q lo n) p w f c (held_frame p w f u)) (record { dirty = u.dirty; held = u.held })))
 entry_held locked at p (entries.Reclaim q) w f o c u = inl (reclaim_held p q w f u)
 entry_held locked at p (entries.Hands n) w f o c u = inl (moves_held n p locked w f o u)
 entry_held locked at p (entries.Put q n) w f o c u = inl (put_held p q (pages_from q (number_of q) n) w f o u)

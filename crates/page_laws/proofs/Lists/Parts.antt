@@ -1,11 +1,11 @@
 -- The pages in flight: what joins them, and what leaves.
-use Rattle.std.proofs.Common.{◌≡◌, ◌≢◌, inl, inr, ℕ, suc, ◌+◌, ◌==◌, cond, List, [], ◌∷◌, ◌++◌, map, length, Some, refl, sym, ap, ◌∙◌, subst, append_assoc, arith}
+use Rattle.std.proofs.Common.{◌≡◌, ◌≢◌, inl, inr, ℕ, ◌+◌, ◌==◌, cond, List, [], ◌∷◌, ◌++◌, map, Some, refl, sym, ap, ◌∙◌, subst, append_assoc, arith}
 use Rattle.std.proofs.lemmas.Bool.{cases_eq}
 use Rattle.std.proofs.lemmas.Bool.Decides.{nat_tests}
 use Rattle.std.proofs.lemmas.List.{append-nil}
 use Rattle.vm_facts.specs.Lists.{times}
 use Rattle.page_model.specs.Placement.{Transfer, Part, Errand, Moving, moving, parts_of, flying, errand_at}
-use Rattle.page_model.specs.Moves.{join_last}
+use Rattle.page_model.specs.Steps.{join_last}
 use Rattle.page_model.specs.Ownership.{Each}
 use Rattle.page_laws.proofs.Lists.Frames.{flying-append}
 use Rattle.vm_facts.proofs.Lists.{times-append, times_head}
@@ -45,11 +45,6 @@ parts_join (t ∷ []) e x o = ap (λ l. l ++ []) (map-append (moving t.errand) t
     ∙ append-nil (map (moving t.errand) t.parts ++ moving e x ∷ []) ∙ ap (λ l. l ++ moving e x ∷ []) (sym (append-nil (map (moving t.errand) t.parts)))
 parts_join (t ∷ u ∷ us) e x o = ap (λ l. map (moving t.errand) t.parts ++ l) (parts_join (u ∷ us) e x o)
     ∙ sym (append_assoc (map (moving t.errand) t.parts) (parts_of (u ∷ us)) (moving e x ∷ []))
-
-pub length_join : (ts : List Transfer) (e : Errand) (x : Part) → IsOpen ts e → length (join_last ts e x) ≡ length ts
-length_join [] e x o = absurd o
-length_join (t ∷ []) e x o = refl
-length_join (t ∷ u ∷ us) e x o = ap suc (length_join (u ∷ us) e x o)
 
 -- Counting.
 

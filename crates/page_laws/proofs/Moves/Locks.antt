@@ -7,7 +7,8 @@ use Rattle.page_model.specs.Pages.{Slot, frame_of, is_valid, left_state, written
 use Rattle.flat_state.specs.PageNames.{number_of, beside, is_among, same_page}
 use Rattle.vm_facts.specs.Lists.{times}
 use Rattle.page_model.specs.Placement.{Placement, Transfer, Part, Errand, Writes, Reads, Source, state_of, mark_of, is_dirty, page_of, IsThere, moving_state, put}
-use Rattle.page_model.specs.Moves.{evict, evict_at, enter, fill, fill_at, begin, join_last, get_one, get_at, get_all, launch, launch_to, launch_all, land, land_read, land_all, done, done_of, reclaim, reclaim_to, retire_to, arrived_mark}
+use Rattle.page_model.specs.Moves.{evict, evict_at, enter, fill, fill_at, done, reclaim, reclaim_to, retire_to, arrived_mark}
+use Rattle.page_model.specs.Steps.{land_then, land_read_then, land_all_then, begin, join_last, get_one, get_at, get_all, launch, launch_to, launch_all}
 use Rattle.page_model.specs.Runs.{run_out, pages_of_run, goes_along, is_idle, is_idle_by, is_near, most_written, run_in}
 use Rattle.page_model.specs.Hands.{expire, expire_of, expire_if, expire_to, sweep, hand_move}
 use Rattle.page_model.specs.Reading.{read_step, read_errand, source_for}
@@ -16,6 +17,7 @@ use Rattle.page_model.specs.Conditions.{EachPage, AllApart, CanEnter, Spares}
 use Rattle.page_model.specs.Ownership.{OwnsFrames, IsListed}
 use Rattle.page_laws.proofs.Lists.Pages.{page_cases}
 use Rattle.page_laws.proofs.Lists.Parts.{IsOpen, begin_open}
+use Rattle.page_laws.proofs.Moves.InSteps.{get_steps, launch_steps, done_cases}
 use Rattle.page_laws.proofs.Moves.Steps.{put_other_state, evict_other}
 use Rattle.page_laws.proofs.Ownership.Pages.{get_owner}
 use Rattle.page_laws.proofs.Lists.Runs.{each_page_imp, each_page_both, run_each, run_both_in, run_apart}
@@ -83,9 +85,10 @@ get_all_spares (v ∷ qs) p source demanded locked o c a latest =
     a.1 (get_open_still p (Reads source demanded) v latest))
 
 pub read_spares : (p : Placement) (q : Page) (locked : List Page) → OwnsFrames p → CanEnter p q → Spares p (read_step p q) locked
-read_spares p q locked o c w i h = get_all_spares (pages_of_run q (run_in p q)) (begin p (read_errand p q)) (source_for (state_of p q)) q locked (begin_owner p (read_errand p q) o)
+read_spares p q locked o c = subst (λ (r : Placement). Spares p r locked) (get_steps p (read_errand p q) (pages_of_run q (run_in p q)))
+    (λ w i h. get_all_spares (pages_of_run q (run_in p q)) (begin p (read_errand p q)) (source_for (state_of p q)) q locked (begin_owner p (read_errand p q) o)
     (each_page_imp (CanEnter p) (CanEnter (begin p (read_errand p q))) (pages_of_run q (run_in p q)) (run_in_enters p q c) (λ r k. record { there = k.there; frameless = k.frameless }))
-    (run_apart q (run_in p q)) (begin_open p.transfers (read_errand p q)) w i h
+    (run_apart q (run_in p q)) (begin_open p.transfers (read_errand p q)) w i h)
 
 pub reclaim_spares : (p : Placement) (v : Page) (locked : List Page) → Spares p (reclaim p v) locked
 reclaim_spares p v locked = go (state_of p v) refl
@@ -154,12 +157,13 @@ idle_not p _ e = refl
 
 pub sweep_spares : (p : Placement) (locked : List Page) → Spares p (sweep p locked) locked
 sweep_spares p locked = sweep_cases (λ r. Spares p r locked) p locked (λ w i h. h)
-    (λ q t e w i h. launch_all_spares (pages_of_run q (run_out p locked q)) (begin p Writes) locked
+    (λ q t e. subst (λ (r : Placement). Spares p r locked) (launch_steps p (pages_of_run q (run_out p locked q)))
+    (λ w i h. launch_all_spares (pages_of_run q (run_out p locked q)) (begin p Writes) locked
     (run_each (λ r. is_valid (state_of p r) ≡ false) (λ x. goes_along p locked (beside q x) && is_near q x) q (run_out p locked q)
     (run_both_in (λ x. goes_along p locked (beside q x) && is_near q x) (number_of q) most_written) (ap is_valid t.state)
     (λ x k. idle_not p (state_of p (beside q x))
     (and_parts (is_idle p (beside q x)) (is_dirty p (beside q x) && not (is_among (beside q x) locked)) (and_parts (goes_along p locked (beside q x)) (is_near q x) k).0).0))
-    (run_apart q (run_out p locked q)) w i h)
+    (run_apart q (run_out p locked q)) w i h))
     (λ q t e. subst (λ (s : PageState). Spares p (retire_to p q s) locked) (sym t.state) (λ w i h. put_invalid p q (Invalid t.frame) (mark_of p q) locked (ap is_valid t.state) w i h))
 
 pub move_spares : (p : Placement) (locked : List Page) → Spares p (hand_move p locked) locked
@@ -172,30 +176,26 @@ moving_not Writes f = refl
 moving_not (Reads source demanded) f = refl
 
 land_spares : (p : Placement) (e : Errand) (x : Part) (rest : List Transfer) (locked : List Page) → is_valid (state_of p x.page) ≡ false
-    → Spares p (land p e x rest) locked
+    → Spares p (land_then p e x rest) locked
 land_spares p Writes x rest locked n = λ w i h. put_invalid p x.page (Invalid x.frame) (written_mark x.page) locked n w i h
 land_spares p (Reads source demanded) x rest locked n = go (same_page x.page demanded)
   where
-    go : (b : Bool) → Spares p (land_read p source x rest b) locked
+    go : (b : Bool) → Spares p (land_read_then p source x rest b) locked
     go true = λ w i h. put_invalid p x.page (Valid x.frame) (arrived_mark source x.page (mark_of p x.page)) locked n w i h
     go false = λ w i h. put_invalid p x.page (Invalid x.frame) (mark_of p x.page) locked n w i h
 
 land_all_spares : (xs : List Part) (p : Placement) (e : Errand) (ts : List Transfer) (locked : List Page) → OwnsFrames p
-    → p.transfers ≡ record { errand = e; parts = xs } ∷ ts → Spares p (land_all p e xs ts) locked
+    → p.transfers ≡ record { errand = e; parts = xs } ∷ ts → Spares p (land_all_then p e xs ts) locked
 land_all_spares [] p e ts locked o h = λ w i k. k
 land_all_spares (x ∷ xs) p e ts locked o h =
     let l : Landing p e x (record { errand = e; parts = xs } ∷ ts) = record { parts = ap Rattle.page_model.specs.Placement.parts_of h } in
-    spares_both p (land p e x (record { errand = e; parts = xs } ∷ ts)) (land_all (land p e x (record { errand = e; parts = xs } ∷ ts)) e xs ts) locked
+    spares_both p (land_then p e x (record { errand = e; parts = xs } ∷ ts)) (land_all_then (land_then p e x (record { errand = e; parts = xs } ∷ ts)) e xs ts) locked
     (land_spares p e x (record { errand = e; parts = xs } ∷ ts) locked (ap is_valid (landing_state p e x (record { errand = e; parts = xs } ∷ ts) o l) ∙ moving_not e x.frame))
-    (land_all_spares xs (land p e x (record { errand = e; parts = xs } ∷ ts)) e ts locked (land_owner p e x (record { errand = e; parts = xs } ∷ ts) o l)
+    (land_all_spares xs (land_then p e x (record { errand = e; parts = xs } ∷ ts)) e ts locked (land_owner p e x (record { errand = e; parts = xs } ∷ ts) o l)
     (land_transfers p e x (record { errand = e; parts = xs } ∷ ts)))
 
 pub done_spares : (p : Placement) (locked : List Page) → OwnsFrames p → Spares p (done p) locked
-done_spares p locked o = go p.transfers refl
-  where
-    go : (ts : List Transfer) → p.transfers ≡ ts → Spares p (done_of p ts) locked
-    go [] e = λ w i h. h
-    go (t ∷ ts) e = land_all_spares t.parts p t.errand ts locked o e
+done_spares p locked o = done_cases (λ (r : Placement). Spares p r locked) p (λ w i h. h) (λ t ts e. land_all_spares t.parts p t.errand ts locked o e)
 
 -- Forcing and serving.
 

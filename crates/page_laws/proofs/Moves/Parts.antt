@@ -8,8 +8,8 @@ use Rattle.vm_facts.specs.declared.page.PageState.TheVariants.{Unfilled, Valid, 
 use Rattle.vm_facts.specs.declared.entry.Entry.{Entry}
 use Rattle.vm_facts.specs.declared.entry.Entry.TheVariants as entries
 use Rattle.flat_state.specs.PageNames.{beside, pages_from, number_of}
-use Rattle.page_model.specs.Placement.{Placement, Transfer, Part, Errand, Writes, state_of, is_dirty}
-use Rattle.page_model.specs.Moves.{fill, fill_at, begin, join_last, get_one, get_at, get_all, get_run, launch, launch_to, launch_all, launch_run, done, done_of, reclaim, reclaim_to, retire, retire_to}
+use Rattle.page_model.specs.Placement.{Placement, Transfer, Errand, Writes, state_of, is_dirty}
+use Rattle.page_model.specs.Moves.{fill, fill_at, get_run, launch_run, done, done_of, reclaim, reclaim_to, retire, retire_to, taken_parts, send, sent_part, sent_parts}
 use Rattle.page_model.specs.Runs.{run_in, run_in_by, run_out, spare_frames}
 use Rattle.page_model.specs.Hands.{expire, sweep, hand_move, hand_moves}
 use Rattle.page_model.specs.Place.{put_step, put_by, place_entry}
@@ -24,65 +24,33 @@ use Rattle.page_laws.proofs.Moves.Transfers.{land_all_rest}
 use Rattle.page_laws.proofs.Moves.Taken.{taken_seat, sweep_cases}
 use Rattle.page_laws.proofs.Moves.Cases.{force_cases, serving_cases, some_of}
 
--- a part joins the youngest transfer, also one that has none yet
-joined : (ts : List Transfer) (e : Errand) (x : Part) → HaveParts ts → HaveParts (join_last ts e x)
-joined [] e x h = (omega arith, tt)
-joined (t ∷ []) e x h = ((let k = length-append t.parts (x ∷ []) in omega arith), tt)
-joined (t ∷ u ∷ us) e x h = (h.0, joined (u ∷ us) e x h.1)
-
-begun : (ts : List Transfer) (d e : Errand) (x : Part) → HaveParts ts → HaveParts (join_last (ts ++ record { errand = d; parts = [] } ∷ []) e x)
-begun [] d e x h = (omega arith, tt)
-begun (t ∷ []) d e x h = (h.0, begun [] d e x tt)
-begun (t ∷ u ∷ us) d e x h = (h.0, begun (u ∷ us) d e x h.1)
-
-get_parts : (p : Placement) (e : Errand) (v : Page) → HaveParts p.transfers → HaveParts (get_one p e v).transfers
-get_parts p e v h = go p.free
-  where
-    go : (fr : List ℕ) → HaveParts (get_at p e v fr).transfers
-    go [] = h
-    go (f ∷ rest) = joined p.transfers e (record { page = v; frame = f }) h
-
-get_all_parts : (qs : List Page) (p : Placement) (e : Errand) → HaveParts p.transfers → HaveParts (get_all p e qs).transfers
-get_all_parts [] p e h = h
-get_all_parts (v ∷ qs) p e h = get_all_parts qs (get_one p e v) e (get_parts p e v h)
-
-get_first : (p : Placement) (e : Errand) (v : Page) → 0 < length p.free → HaveParts p.transfers → HaveParts (get_one (begin p e) e v).transfers
-get_first p e v l h = go p.free l
-  where
-    go : (fr : List ℕ) → 0 < length fr → HaveParts (get_at (begin p e) e v fr).transfers
-    go [] m = absurd (omega arith)
-    go (f ∷ rest) m = begun p.transfers e e (record { page = v; frame = f }) h
+-- one more transfer that has a page
+pushed : (ts : List Transfer) (t : Transfer) → 0 < length t.parts → HaveParts ts → HaveParts (ts ++ t ∷ [])
+pushed [] t l h = (l, tt)
+pushed (u ∷ us) t l h = (h.0, pushed us t l h.1)
 
 get_run_parts : (p : Placement) (e : Errand) (q : Page) (lo n : ℕ) → 0 < n → 0 < length p.free → HaveParts p.transfers
     → HaveParts (get_run p e (pages_from q lo n)).transfers
 get_run_parts p e q lo zero m l h = absurd (omega arith)
-get_run_parts p e q lo (suc n) m l h = get_all_parts (pages_from q (lo + 1) n) (get_one (begin p e) e (beside q lo)) e (get_first p e (beside q lo) l h)
-
-launch_parts : (p : Placement) (v : Page) → HaveParts p.transfers → HaveParts (launch p v).transfers
-launch_parts p v h = go (state_of p v)
+get_run_parts p e q lo (suc n) m l h = pushed p.transfers (record { errand = e; parts = taken_parts (pages_from q lo (suc n)) p.free }) (go p.free l) h
   where
-    go : (s : PageState) → HaveParts (launch_to p v s).transfers
-    go (Valid f) = joined p.transfers Writes (record { page = v; frame = f }) h
-    go (Invalid f) = joined p.transfers Writes (record { page = v; frame = f }) h
-    go Unfilled = h
-    go (Coming f) = h
-    go (Going f) = h
-    go OnSwap = h
+    go : (fr : List ℕ) → 0 < length fr → 0 < length (taken_parts (pages_from q lo (suc n)) fr)
+    go [] k = k
+    go (f ∷ rest) k = omega arith
 
-launch_all_parts : (qs : List Page) (p : Placement) → HaveParts p.transfers → HaveParts (launch_all p qs).transfers
-launch_all_parts [] p h = h
-launch_all_parts (v ∷ qs) p h = launch_all_parts qs (launch p v) (launch_parts p v h)
-
-launch_first : (p : Placement) (v : Page) → HasSeat p v → HaveParts p.transfers → HaveParts (launch (begin p Writes) v).transfers
-launch_first p v c h = let k : IsSeated p v c.frame = c.seat in elim k.state [
-  | inl e ↦ subst (λ (s : PageState). HaveParts (launch_to (begin p Writes) v s).transfers) (sym e) (begun p.transfers Writes Writes (record { page = v; frame = c.frame }) h)
-  | inr e ↦ subst (λ (s : PageState). HaveParts (launch_to (begin p Writes) v s).transfers) (sym e.0) (begun p.transfers Writes Writes (record { page = v; frame = c.frame }) h)
+-- a page that holds its frame is written from it
+sent_some : (p : Placement) (v : Page) → HasSeat p v → 0 < length (sent_part v (state_of p v))
+sent_some p v c = let k : IsSeated p v c.frame = c.seat in elim k.state [
+  | inl e ↦ subst (λ (s : PageState). 0 < length (sent_part v s)) (sym e) (omega arith)
+  | inr e ↦ subst (λ (s : PageState). 0 < length (sent_part v s)) (sym e.0) (omega arith)
 ]
 
 launch_run_parts : (p : Placement) (q : Page) (lo n : ℕ) → 0 < n → EachPage (HasSeat p) (pages_from q lo n) → HaveParts p.transfers
     → HaveParts (launch_run p (pages_from q lo n)).transfers
 launch_run_parts p q lo zero m c h = absurd (omega arith)
-launch_run_parts p q lo (suc n) m c h = launch_all_parts (pages_from q (lo + 1) n) (launch (begin p Writes) (beside q lo)) (launch_first p (beside q lo) c.0 h)
+launch_run_parts p q lo (suc n) m c h = pushed p.transfers (record { errand = Writes; parts = sent_parts p (pages_from q lo (suc n)) })
+    (let l = length-append (sent_part (beside q lo) (state_of p (beside q lo))) (sent_parts (send p (beside q lo)) (pages_from q (lo + 1) n)) in
+    let k = sent_some p (beside q lo) c.0 in omega arith) h
 
 retire_parts : (p : Placement) (v : Page) → HaveParts p.transfers → HaveParts (retire p v).transfers
 retire_parts p v h = go (state_of p v)

@@ -1,7 +1,7 @@
 -- What each move keeps if the put of a page keeps it. A move puts pages, and beside that leaves who is resident, what is
 -- due, where the hands are and how many frames there are. So such a relation is shown of a put, and by this walk of each
 -- move.
-use Rattle.std.proofs.Common.{◌++◌, ◌≡◌, ℕ, zero, suc, Bool, true, false, List, [], ◌∷◌, Option, Some, None, length, refl, ◌∙◌}
+use Rattle.std.proofs.Common.{◌++◌, ◌≡◌, ℕ, zero, suc, Bool, true, false, List, [], ◌∷◌, Option, Some, None, length, refl, ◌∙◌, subst}
 use Rattle.vm_facts.specs.Lists.{without}
 use Rattle.vm_facts.specs.declared.page.Page.{Page}
 use Rattle.vm_facts.specs.declared.page.Page.TheVariants.{Data, Stack}
@@ -13,12 +13,14 @@ use Rattle.flat_state.specs.PageNames.{number_of, same_page, is_among, pages_fro
 use Rattle.page_model.specs.Pages.{left_state, written_mark, frame_of}
 use Rattle.page_model.specs.Frames.{set_frame}
 use Rattle.page_model.specs.Placement.{Placement, Due, Transfer, Part, Errand, Writes, Reads, state_of, mark_of, is_dirty, page_of, put}
-use Rattle.page_model.specs.Moves.{evict, evict_at, enter, turn, join_last, touch_all, fill, fill_at, begin, get_one, get_at, get_all, get_run, launch, launch_to, launch_all, launch_run, arrived_mark, land, land_read, land_all, done, done_of, reclaim, reclaim_to, retire, retire_to, touch, touch_to, drop_page, drop_at, drop_all, leave_page, leave_by, leave_all, listed}
+use Rattle.page_model.specs.Moves.{evict, evict_at, enter, turn, touch_all, fill, fill_at, get_run, launch_run, arrived_mark, done, reclaim, reclaim_to, retire, retire_to, touch, touch_to, drop_page, drop_at, drop_all, leave_page, leave_by, leave_all, listed}
+use Rattle.page_model.specs.Steps.{land_then, land_read_then, land_all_then, join_last, begin, get_one, get_at, get_all, launch, launch_to, launch_all}
 use Rattle.page_model.specs.Runs.{run_out, pages_of_run}
 use Rattle.page_model.specs.Hands.{expire, expire_of, expire_if, expire_to, sweep, advance, hand_move, hand_moves}
 use Rattle.page_model.specs.Reading.{read_errand}
 use Rattle.page_laws.proofs.Lists.Frames.{length_set_frame}
 use Rattle.page_model.specs.Place.{due_after, filled, put_by, put_step, moved, place_entry}
+use Rattle.page_laws.proofs.Moves.InSteps.{get_steps, launch_steps, done_cases}
 use Rattle.page_laws.proofs.Moves.Taken.{sweep_cases}
 
 -- what a move leaves, beside pages and frames
@@ -110,7 +112,7 @@ get_all_kept k [] p e = self_kept k p
 get_all_kept k (v ∷ qs) p e = k.both p (get_one p e v) (get_all p e (v ∷ qs)) (get_kept k p e v) (get_all_kept k qs (get_one p e v) e)
 
 pub get_run_kept : {R : Placement → Placement → Type 0} → KeptByPuts R → (p : Placement) (e : Errand) (qs : List Page) → R p (get_run p e qs)
-get_run_kept k p e qs = k.both p (begin p e) (get_run p e qs) (begin_kept k p e) (get_all_kept k qs (begin p e) e)
+get_run_kept {R} k p e qs = subst (R p) (get_steps p e qs) (k.both p (begin p e) (get_all (begin p e) e qs) (begin_kept k p e) (get_all_kept k qs (begin p e) e))
 
 pub reclaim_kept : {R : Placement → Placement → Type 0} → KeptByPuts R → (p : Placement) (v : Page) → R p (reclaim p v)
 reclaim_kept {R} k p v = go (state_of p v)
@@ -141,7 +143,7 @@ launch_all_kept k [] p = self_kept k p
 launch_all_kept k (v ∷ qs) p = k.both p (launch p v) (launch_all p (v ∷ qs)) (launch_kept k p v) (launch_all_kept k qs (launch p v))
 
 pub launch_run_kept : {R : Placement → Placement → Type 0} → KeptByPuts R → (p : Placement) (qs : List Page) → R p (launch_run p qs)
-launch_run_kept k p qs = k.both p (begin p Writes) (launch_run p qs) (begin_kept k p Writes) (launch_all_kept k qs (begin p Writes))
+launch_run_kept {R} k p qs = subst (R p) (launch_steps p qs) (k.both p (begin p Writes) (launch_all (begin p Writes) qs) (begin_kept k p Writes) (launch_all_kept k qs (begin p Writes)))
 
 pub retire_kept : {R : Placement → Placement → Type 0} → KeptByPuts R → (p : Placement) (v : Page) → R p (retire p v)
 retire_kept {R} k p v = go (state_of p v)
@@ -200,27 +202,23 @@ moves_kept k g (suc n) p locked = k.both p (hand_move p locked) (hand_moves p lo
 
 -- The end of a transfer.
 
-land_kept : {R : Placement → Placement → Type 0} → KeptByPuts R → (p : Placement) (e : Errand) (x : Part) (rest : List Transfer) → R p (land p e x rest)
+land_kept : {R : Placement → Placement → Type 0} → KeptByPuts R → (p : Placement) (e : Errand) (x : Part) (rest : List Transfer) → R p (land_then p e x rest)
 land_kept k p Writes x rest = turn_kept k p x.page (Invalid x.frame) (written_mark x.page) (p.free ++ x.frame ∷ []) rest
 land_kept {R} k p (Reads source demanded) x rest = go (same_page x.page demanded)
   where
-    go : (b : Bool) → R p (land_read p source x rest b)
+    go : (b : Bool) → R p (land_read_then p source x rest b)
     go true = turn_kept k p x.page (Valid x.frame) (arrived_mark source x.page (mark_of p x.page)) p.free rest
     go false = turn_kept k p x.page (Invalid x.frame) (mark_of p x.page) (p.free ++ x.frame ∷ []) rest
 
 land_all_kept : {R : Placement → Placement → Type 0} → KeptByPuts R → (xs : List Part) (p : Placement) (e : Errand) (ts : List Transfer)
-    → R p (land_all p e xs ts)
+    → R p (land_all_then p e xs ts)
 land_all_kept k [] p e ts = aside_kept k p p.holds p.free ts refl
 land_all_kept k (x ∷ xs) p e ts =
-    let l : Placement = land p e x (record { errand = e; parts = xs } ∷ ts) in
-    k.both p l (land_all p e (x ∷ xs) ts) (land_kept k p e x (record { errand = e; parts = xs } ∷ ts)) (land_all_kept k xs l e ts)
+    let l : Placement = land_then p e x (record { errand = e; parts = xs } ∷ ts) in
+    k.both p l (land_all_then p e (x ∷ xs) ts) (land_kept k p e x (record { errand = e; parts = xs } ∷ ts)) (land_all_kept k xs l e ts)
 
 pub done_kept : {R : Placement → Placement → Type 0} → KeptByPuts R → (p : Placement) → R p (done p)
-done_kept {R} k p = go p.transfers
-  where
-    go : (ts : List Transfer) → R p (done_of p ts)
-    go [] = self_kept k p
-    go (t ∷ ts) = land_all_kept k t.parts p t.errand ts
+done_kept {R} k p = done_cases (R p) p (self_kept k p) (λ t ts e. land_all_kept k t.parts p t.errand ts)
 
 -- User writes, and pages that are given up.
 

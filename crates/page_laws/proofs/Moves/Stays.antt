@@ -6,13 +6,15 @@ use Rattle.vm_facts.specs.declared.page.PageState.TheVariants.{Unfilled, Valid, 
 use Rattle.page_model.specs.Pages.{frame_of, written_mark}
 use Rattle.flat_state.specs.PageNames.{is_among, same_page}
 use Rattle.page_model.specs.Placement.{Placement, Transfer, Part, Errand, Writes, Reads, parts_of, slots_of, slot_of, state_of, mark_of, page_of, put, sharers}
-use Rattle.page_model.specs.Moves.{turn, begin, join_last, launch, launch_to, launch_all, launch_run, land, land_read, land_all, done, done_of, retire, retire_to, arrived_mark}
+use Rattle.page_model.specs.Moves.{turn, launch_run, done, retire, retire_to, arrived_mark}
+use Rattle.page_model.specs.Steps.{land_then, land_read_then, land_all_then, begin, join_last, launch, launch_to, launch_all}
 use Rattle.page_model.specs.Runs.{run_out, pages_of_run}
 use Rattle.page_model.specs.Hands.{expire, expire_of, expire_if, expire_to, sweep, hand_move}
 use Rattle.page_model.specs.Serve.{force}
 use Rattle.page_model.specs.Ownership.{OwnsFrames}
 use Rattle.page_laws.proofs.Lists.Pages.{page_cases, put_state, put_other, put_length, put_sharers}
 use Rattle.page_laws.proofs.Lists.Local.{none_some}
+use Rattle.page_laws.proofs.Moves.InSteps.{launch_steps, done_cases}
 use Rattle.page_laws.proofs.Moves.Steps.{page_in, put_other_state}
 use Rattle.page_laws.proofs.Ownership.Runs.{Landing, landing_frame, land_owner, land_transfers}
 use Rattle.page_laws.proofs.Moves.Taken.{sweep_cases}
@@ -135,7 +137,7 @@ launch_all_steady [] p = steady_self p
 launch_all_steady (v ∷ qs) p = steady_both p (launch p v) (launch_all (launch p v) qs) (launch_steady p v) (launch_all_steady qs (launch p v))
 
 pub launch_run_steady : (p : Placement) (qs : List Page) → Steady p (launch_run p qs)
-launch_run_steady p qs = steady_both p (begin p Writes) (launch_run p qs) (begin_steady p Writes) (launch_all_steady qs (begin p Writes))
+launch_run_steady p qs = subst (Steady p) (launch_steps p qs) (steady_both p (begin p Writes) (launch_all (begin p Writes) qs) (begin_steady p Writes) (launch_all_steady qs (begin p Writes)))
 
 pub retire_steady : (p : Placement) (v : Page) → Steady p (retire p v)
 retire_steady p v = go (state_of p v) refl
@@ -170,30 +172,26 @@ pub move_stays : (p : Placement) (locked : List Page) → Stays p (hand_move p l
 move_stays p locked =
     let s : Steady p (sweep (expire p locked) locked) = swept_steady p locked in record { sizes = s.sizes; holds = s.holds; frames = s.frames; others = s.others; due = s.due; sharing = s.sharing }
 
-land_steady : (p : Placement) (e : Errand) (x : Part) (rest : List Transfer) → frame_of (state_of p x.page) ≡ Some x.frame → Steady p (land p e x rest)
+land_steady : (p : Placement) (e : Errand) (x : Part) (rest : List Transfer) → frame_of (state_of p x.page) ≡ Some x.frame → Steady p (land_then p e x rest)
 land_steady p Writes x rest h = turn_steady p x.page x.frame (Invalid x.frame) (written_mark x.page) (p.free ++ x.frame ∷ []) rest h refl
 land_steady p (Reads source demanded) x rest h = go (same_page x.page demanded)
   where
-    go : (b : Bool) → Steady p (land_read p source x rest b)
+    go : (b : Bool) → Steady p (land_read_then p source x rest b)
     go true = turn_steady p x.page x.frame (Valid x.frame) (arrived_mark source x.page (mark_of p x.page)) p.free rest h refl
     go false = turn_steady p x.page x.frame (Invalid x.frame) (mark_of p x.page) (p.free ++ x.frame ∷ []) rest h refl
 
 land_all_steady : (xs : List Part) (p : Placement) (e : Errand) (ts : List Transfer) → OwnsFrames p
-    → p.transfers ≡ record { errand = e; parts = xs } ∷ ts → Steady p (land_all p e xs ts)
+    → p.transfers ≡ record { errand = e; parts = xs } ∷ ts → Steady p (land_all_then p e xs ts)
 land_all_steady [] p e ts o h = record { sizes = λ w. refl; holds = refl; frames = λ w. refl; others = λ w e. refl; due = refl; sharing = λ i. refl; front = refl; back = refl }
 land_all_steady (x ∷ xs) p e ts o h =
     let l : Landing p e x (record { errand = e; parts = xs } ∷ ts) = record { parts = ap parts_of h } in
-    steady_both p (land p e x (record { errand = e; parts = xs } ∷ ts)) (land_all (land p e x (record { errand = e; parts = xs } ∷ ts)) e xs ts)
+    steady_both p (land_then p e x (record { errand = e; parts = xs } ∷ ts)) (land_all_then (land_then p e x (record { errand = e; parts = xs } ∷ ts)) e xs ts)
     (land_steady p e x (record { errand = e; parts = xs } ∷ ts) (landing_frame p e x (record { errand = e; parts = xs } ∷ ts) o l))
-    (land_all_steady xs (land p e x (record { errand = e; parts = xs } ∷ ts)) e ts (land_owner p e x (record { errand = e; parts = xs } ∷ ts) o l)
+    (land_all_steady xs (land_then p e x (record { errand = e; parts = xs } ∷ ts)) e ts (land_owner p e x (record { errand = e; parts = xs } ∷ ts) o l)
     (land_transfers p e x (record { errand = e; parts = xs } ∷ ts)))
 
 pub done_steady : (p : Placement) → OwnsFrames p → Steady p (done p)
-done_steady p o = go p.transfers refl
-  where
-    go : (ts : List Transfer) → p.transfers ≡ ts → Steady p (done_of p ts)
-    go [] e = steady_self p
-    go (t ∷ ts) e = land_all_steady t.parts p t.errand ts o e
+done_steady p o = done_cases (Steady p) p (steady_self p) (λ t ts e. land_all_steady t.parts p t.errand ts o e)
 
 pub force_stays : (p : Placement) (locked : List Page) → OwnsFrames p → Stays p (force p locked)
 force_stays p locked o = force_cases (Stays p) p locked (λ e. move_stays p locked) (λ t ts e. steady_stays p (done p) (done_steady p o))

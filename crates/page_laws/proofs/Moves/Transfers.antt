@@ -1,5 +1,5 @@
 -- How many transfers are in flight.
-use Rattle.std.proofs.Common.{◌≡◌, ℕ, zero, suc, ◌+◌, ◌<◌, ◌≤◌, Bool, true, false, List, [], ◌∷◌, length, refl, ap, ◌∙◌, arith}
+use Rattle.std.proofs.Common.{◌≡◌, ℕ, zero, suc, ◌+◌, ◌<◌, ◌≤◌, Bool, true, false, List, [], ◌∷◌, length, refl, sym, ap, ◌∙◌, arith}
 use Rattle.std.proofs.lemmas.List.{length-append}
 use Rattle.std.proofs.lemmas.Bool.{leb-false}
 use Rattle.vm_facts.specs.declared.page.Page.{Page}
@@ -9,7 +9,7 @@ use Rattle.vm_facts.specs.declared.entry.Entry.{Entry}
 use Rattle.vm_facts.specs.declared.entry.Entry.TheVariants as entries
 use Rattle.flat_state.specs.PageNames.{pages_from, number_of}
 use Rattle.page_model.specs.Placement.{Placement, Transfer, Part, Errand, Writes, state_of, is_dirty}
-use Rattle.page_model.specs.Moves.{fill, fill_at, begin, join_last, get_one, get_at, get_all, get_run, launch, launch_to, launch_all, launch_run, land_all, land, done, done_of, reclaim, reclaim_to, retire, retire_to}
+use Rattle.page_model.specs.Moves.{fill, fill_at, get_run, launch_run, land_all, land, done, done_of, reclaim, reclaim_to, retire, retire_to, taken_parts, sent_parts}
 use Rattle.page_model.specs.Runs.{pages_of_run, run_in, run_out}
 use Rattle.page_model.specs.Hands.{expire, sweep, hand_move, hand_moves}
 use Rattle.page_model.specs.Place.{put_step, put_by, place_entry}
@@ -17,50 +17,16 @@ use Rattle.page_model.specs.Reading.{read_errand}
 use Rattle.page_model.specs.Serve.{force, serve_step, after_serving}
 use Rattle.vm_facts.specs.Swap.{most_in_flight}
 use Rattle.page_model.specs.Conditions.{begins}
+use Rattle.page_laws.proofs.Moves.InSteps.{land_with}
 use Rattle.page_laws.proofs.Moves.Stays.{expire_transfers}
 use Rattle.page_laws.proofs.Moves.Taken.{sweep_cases}
 use Rattle.page_laws.proofs.Moves.Cases.{force_cases, serving_cases}
 
--- what a part joins is as long as before
-join_count : (ts : List Transfer) (e : Errand) (x : Part) → 0 < length ts → length (join_last ts e x) ≡ length ts
-join_count [] e x l = absurd (omega arith)
-join_count (t ∷ []) e x l = refl
-join_count (t ∷ u ∷ us) e x l = ap suc (join_count (u ∷ us) e x (omega arith))
-
-begin_count : (p : Placement) (e : Errand) → length (begin p e).transfers ≡ length p.transfers + 1
-begin_count p e = length-append p.transfers (record { errand = e; parts = [] } ∷ [])
-
-get_count : (p : Placement) (e : Errand) (v : Page) → 0 < length p.transfers → length (get_one p e v).transfers ≡ length p.transfers
-get_count p e v l = go p.free
-  where
-    go : (fr : List ℕ) → length (get_at p e v fr).transfers ≡ length p.transfers
-    go [] = refl
-    go (f ∷ rest) = join_count p.transfers e (record { page = v; frame = f }) l
-
-get_all_count : (qs : List Page) (p : Placement) (e : Errand) → 0 < length p.transfers → length (get_all p e qs).transfers ≡ length p.transfers
-get_all_count [] p e l = refl
-get_all_count (v ∷ qs) p e l = let k = get_count p e v l in get_all_count qs (get_one p e v) e (omega arith) ∙ k
-
 get_run_count : (p : Placement) (e : Errand) (qs : List Page) → length (get_run p e qs).transfers ≡ length p.transfers + 1
-get_run_count p e qs = let k = begin_count p e in get_all_count qs (begin p e) e (omega arith) ∙ k
-
-launch_count : (p : Placement) (v : Page) → 0 < length p.transfers → length (launch p v).transfers ≡ length p.transfers
-launch_count p v l = go (state_of p v)
-  where
-    go : (s : PageState) → length (launch_to p v s).transfers ≡ length p.transfers
-    go (Valid f) = join_count p.transfers Writes (record { page = v; frame = f }) l
-    go (Invalid f) = join_count p.transfers Writes (record { page = v; frame = f }) l
-    go Unfilled = refl
-    go (Coming f) = refl
-    go (Going f) = refl
-    go OnSwap = refl
-
-launch_all_count : (qs : List Page) (p : Placement) → 0 < length p.transfers → length (launch_all p qs).transfers ≡ length p.transfers
-launch_all_count [] p l = refl
-launch_all_count (v ∷ qs) p l = let k = launch_count p v l in launch_all_count qs (launch p v) (omega arith) ∙ k
+get_run_count p e qs = length-append p.transfers (record { errand = e; parts = taken_parts qs p.free } ∷ [])
 
 pub launch_run_count : (p : Placement) (qs : List Page) → length (launch_run p qs).transfers ≡ length p.transfers + 1
-launch_run_count p qs = let k = begin_count p Writes in launch_all_count qs (begin p Writes) (omega arith) ∙ k
+launch_run_count p qs = length-append p.transfers (record { errand = Writes; parts = sent_parts p qs } ∷ [])
 
 pub retire_count : (p : Placement) (v : Page) → length (retire p v).transfers ≡ length p.transfers
 retire_count p v = go (state_of p v)
@@ -91,9 +57,10 @@ fill_count p v = go p.free
     go [] = refl
     go (f ∷ rest) = refl
 
-pub land_all_rest : (xs : List Part) (p : Placement) (e : Errand) (ts : List Transfer) → (land_all p e xs ts).transfers ≡ ts
+-- what lands leaves the younger transfers in flight
+pub land_all_rest : (xs : List Part) (p : Placement) (e : Errand) (ts : List Transfer) → (land_all (record p { transfers = ts }) e xs).transfers ≡ ts
 land_all_rest [] p e ts = refl
-land_all_rest (x ∷ xs) p e ts = land_all_rest xs (land p e x (record { errand = e; parts = xs } ∷ ts)) e ts
+land_all_rest (x ∷ xs) p e ts = sym (ap (λ (q : Placement). (land_all q e xs).transfers) (land_with p ts e x)) ∙ land_all_rest xs (land p e x) e ts
 
 pub done_count : (p : Placement) → length (done p).transfers ≤ length p.transfers
 done_count p = go p.transfers refl

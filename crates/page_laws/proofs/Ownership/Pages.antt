@@ -5,10 +5,10 @@ use Rattle.vm_facts.specs.declared.page.Page.TheVariants.{Data, Stack, Text}
 use Rattle.vm_facts.specs.declared.page.PageState.{PageState}
 use Rattle.vm_facts.specs.declared.page.PageState.TheVariants.{Unfilled, Valid, Invalid, Coming, Going, OnSwap}
 use Rattle.page_model.specs.Pages.{Slot, frame_of}
-use Rattle.flat_state.specs.PageNames.{same_page}
 use Rattle.vm_facts.specs.Lists.{times, without}
 use Rattle.page_model.specs.Placement.{Placement, Transfer, Errand, Writes, Reads, Source, moving, state_of, mark_of, page_of, IsThere, parts_of, flying, moving_state, put}
-use Rattle.page_model.specs.Moves.{evict, fill, fill_at, join_last, get_one, get_at, launch, launch_to, reclaim, reclaim_to, retire, retire_to, touch, touch_to}
+use Rattle.page_model.specs.Moves.{evict, fill, fill_at, reclaim, reclaim_to, retire, retire_to, touch, touch_to}
+use Rattle.page_model.specs.Steps.{join_last, get_one, get_at, launch, launch_to}
 use Rattle.page_model.specs.Hands.{expire, expire_of, expire_if, expire_to}
 use Rattle.page_model.specs.Ownership.{OwnsFrames, Each, IsMoving, is_marked_dirty, seats}
 use Rattle.page_model.specs.Conditions.{AtRest, CanEnter, IsSeated}

@@ -9,7 +9,8 @@ use Rattle.page_model.specs.Pages.{Slot, frame_of, written_mark, is_dirty_by}
 use Rattle.flat_state.specs.PageNames.{same_page}
 use Rattle.vm_facts.specs.Lists.{times}
 use Rattle.page_model.specs.Placement.{Placement, Transfer, Part, Moving, Errand, Writes, Reads, Source, moving, state_of, mark_of, is_dirty, parts_of, flying, moving_state, put}
-use Rattle.page_model.specs.Moves.{evict, turn, begin, join_last, get_one, get_at, get_all, get_run, launch, launch_to, launch_all, launch_run, land, land_read, arrived_mark, land_all, done, done_of}
+use Rattle.page_model.specs.Moves.{evict, turn, get_run, launch_run, arrived_mark, done}
+use Rattle.page_model.specs.Steps.{land_then, land_read_then, land_all_then, begin, join_last, get_one, get_at, get_all, launch, launch_to, launch_all}
 use Rattle.page_model.specs.Runs.{is_idle, is_idle_by, is_seated, is_seated_by}
 use Rattle.page_model.specs.Place.{put_step, put_by}
 use Rattle.page_model.specs.Ownership.{OwnsFrames, Each, IsMoving, IsListed, is_marked_dirty, may_be_dirty, seated}
@@ -19,6 +20,7 @@ use Rattle.vm_facts.proofs.Lists.{times-append, times_head, times_other}
 use Rattle.page_laws.proofs.Lists.Pages.{put_length}
 use Rattle.page_laws.proofs.Lists.Parts.{IsOpen, begin_open, join_open, parts_begin, all_absent}
 use Rattle.std.proofs.lemmas.Option.{same_Some}
+use Rattle.page_laws.proofs.Moves.InSteps.{get_steps, launch_steps, done_cases}
 use Rattle.page_laws.proofs.Moves.Steps.{Turns, turn_owner, once_at, put_other_state, frame_of_moving, evict_other, EvictRest, evict_rest}
 use Rattle.page_laws.proofs.Ownership.Pages.{get_owner, launch_owner, retire_owner}
 use Rattle.page_laws.proofs.Lists.Runs.{each_page_imp, each_page_both}
@@ -71,9 +73,9 @@ get_all_owner (v ∷ qs) p source demanded o c a latest =
 pub get_run_owner : (p : Placement) (source : Source) (demanded : Page) (qs : List Page) → OwnsFrames p → EachPage (CanEnter p) qs → AllApart qs
     → OwnsFrames (get_run p (Reads source demanded) qs)
 get_run_owner p source demanded qs o c a =
-    get_all_owner qs (begin p (Reads source demanded)) source demanded (begin_owner p (Reads source demanded) o)
+    subst OwnsFrames (get_steps p (Reads source demanded) qs) (get_all_owner qs (begin p (Reads source demanded)) source demanded (begin_owner p (Reads source demanded) o)
     (each_page_imp (CanEnter p) (CanEnter (begin p (Reads source demanded))) qs c (λ q h. record { there = h.there; frameless = h.frameless })) a
-    (begin_open p.transfers (Reads source demanded))
+    (begin_open p.transfers (Reads source demanded)))
 
 -- Writes.
 
@@ -108,9 +110,9 @@ launch_all_owner (v ∷ qs) p o c a latest =
 
 pub launch_run_owner : (p : Placement) (qs : List Page) → OwnsFrames p → EachPage (HasSeat p) qs → AllApart qs → OwnsFrames (launch_run p qs)
 launch_run_owner p qs o c a =
-    launch_all_owner qs (begin p Writes) (begin_owner p Writes o)
+    subst OwnsFrames (launch_steps p qs) (launch_all_owner qs (begin p Writes) (begin_owner p Writes o)
     (each_page_imp (HasSeat p) (HasSeat (begin p Writes)) qs c (λ q h. record { frame = h.frame; seat = record { state = let k : IsSeated p q h.frame = h.seat in k.state } })) a
-    (begin_open p.transfers Writes)
+    (begin_open p.transfers Writes))
 
 -- what the tests of the runs say
 zero_is : (n : ℕ) → (n == 0) ≡ true → n ≡ 0
@@ -228,35 +230,31 @@ coming_clean p v f o e = go (is_marked_dirty v (mark_of p v)) refl
     go true k = absurd (let a : true ≡ false = sym (o.dirty v k) ∙ ap may_be_dirty e in cc)
     go false k = refl
 
-pub land_owner : (p : Placement) (e : Errand) (x : Part) (rest : List Transfer) → OwnsFrames p → Landing p e x rest → OwnsFrames (land p e x rest)
+pub land_owner : (p : Placement) (e : Errand) (x : Part) (rest : List Transfer) → OwnsFrames p → Landing p e x rest → OwnsFrames (land_then p e x rest)
 land_owner p Writes x rest o l =
     turn_owner p x.page x.frame (Invalid x.frame) (written_mark x.page) (p.free ++ x.frame ∷ []) rest o (tail_turns p Writes x rest (written_mark x.page) o l (written_clean x.page))
 land_owner p (Reads source demanded) x rest o l = go (same_page x.page demanded)
   where
-    go : (b : Bool) → OwnsFrames (land_read p source x rest b)
+    go : (b : Bool) → OwnsFrames (land_read_then p source x rest b)
     go true = turn_owner p x.page x.frame (Valid x.frame) (arrived_mark source x.page (mark_of p x.page)) p.free rest o
         (valid_turns p (Reads source demanded) x rest (arrived_mark source x.page (mark_of p x.page)) o l)
     go false = turn_owner p x.page x.frame (Invalid x.frame) (mark_of p x.page) (p.free ++ x.frame ∷ []) rest o
         (tail_turns p (Reads source demanded) x rest (mark_of p x.page) o l (coming_clean p x.page x.frame o (landing_state p (Reads source demanded) x rest o l)))
 
-pub land_transfers : (p : Placement) (e : Errand) (x : Part) (rest : List Transfer) → (land p e x rest).transfers ≡ rest
+pub land_transfers : (p : Placement) (e : Errand) (x : Part) (rest : List Transfer) → (land_then p e x rest).transfers ≡ rest
 land_transfers p Writes x rest = refl
 land_transfers p (Reads source demanded) x rest = go (same_page x.page demanded)
   where
-    go : (b : Bool) → (land_read p source x rest b).transfers ≡ rest
+    go : (b : Bool) → (land_read_then p source x rest b).transfers ≡ rest
     go true = refl
     go false = refl
 
 pub land_all_owner : (xs : List Part) (p : Placement) (e : Errand) (ts : List Transfer) → OwnsFrames p
-    → p.transfers ≡ record { errand = e; parts = xs } ∷ ts → OwnsFrames (land_all p e xs ts)
+    → p.transfers ≡ record { errand = e; parts = xs } ∷ ts → OwnsFrames (land_all_then p e xs ts)
 land_all_owner [] p e ts o h = same_parts_owner p ts o (sym (ap parts_of h))
-land_all_owner (x ∷ xs) p e ts o h = land_all_owner xs (land p e x (record { errand = e; parts = xs } ∷ ts)) e ts
+land_all_owner (x ∷ xs) p e ts o h = land_all_owner xs (land_then p e x (record { errand = e; parts = xs } ∷ ts)) e ts
     (land_owner p e x (record { errand = e; parts = xs } ∷ ts) o (record { parts = ap parts_of h }))
     (land_transfers p e x (record { errand = e; parts = xs } ∷ ts))
 
 pub done_owner : (p : Placement) → OwnsFrames p → OwnsFrames (done p)
-done_owner p o = go p.transfers refl
-  where
-    go : (ts : List Transfer) → p.transfers ≡ ts → OwnsFrames (done_of p ts)
-    go [] e = o
-    go (t ∷ ts) e = land_all_owner t.parts p t.errand ts o e
+done_owner p o = done_cases OwnsFrames p o (λ t ts e. land_all_owner t.parts p t.errand ts o e)

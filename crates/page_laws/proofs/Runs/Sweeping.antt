@@ -8,13 +8,15 @@ use Rattle.flat_state.specs.PageNames.{number_of, beside, is_among}
 use Rattle.page_model.specs.Pages.{Slot, frame_of, is_dirty_by}
 use Rattle.vm_facts.specs.Lists.{times}
 use Rattle.page_model.specs.Placement.{Placement, Writes, slot_of, state_of, mark_of, is_dirty, page_of}
-use Rattle.page_model.specs.Moves.{begin, launch, launch_to, launch_all, launch_run, retire, retire_to}
+use Rattle.page_model.specs.Moves.{launch_run, retire, retire_to}
+use Rattle.page_model.specs.Steps.{begin, launch, launch_to, launch_all}
 use Rattle.page_model.specs.Runs.{pages_of_run, run_out, goes_along, is_near, most_written}
 use Rattle.page_model.specs.Hands.{expire, expire_of, expire_if, expire_to, sweep, hand_move}
 use Rattle.page_model.specs.Ownership.{OwnsFrames}
 use Rattle.page_model.specs.Conditions.{EachPage}
 use Rattle.page_laws.specs.Neighbours.{IsIdleBeside}
 use Rattle.page_laws.specs.Sweeping.{MayBeSwept}
+use Rattle.page_laws.proofs.Moves.InSteps.{launch_steps}
 use Rattle.page_laws.proofs.Lists.Frames.{times_one_other}
 use Rattle.vm_facts.proofs.Lists.{times-append}
 use Rattle.page_laws.proofs.Lists.Pages.{page_cases, put_state, put_mark, put_other}
@@ -129,7 +131,8 @@ swept_freed : (p : Placement) (locked : List Page) (f : ℕ) → OwnsFrames p �
     → (w : Page) × (page_of p f ≡ Some w) × IsPicked p locked w f false
 swept_freed p locked f o z l =
     sweep_cases (λ r. 0 < times f r.free → (w : Page) × (page_of p f ≡ Some w) × IsPicked p locked w f false) p locked (λ m. absurd (omega arith))
-    (λ q t d m. absurd (let k : 0 < times f p.free = subst (λ (xs : List ℕ). 0 < times f xs) (launch_all_free (pages_of_run q (run_out p locked q)) (begin p Writes)) m in omega arith))
+    (λ q t d m. absurd (let k : 0 < times f p.free = subst (λ (xs : List ℕ). 0 < times f xs)
+    (ap (λ (r : Placement). r.free) (sym (launch_steps p (pages_of_run q (run_out p locked q)))) ∙ launch_all_free (pages_of_run q (run_out p locked q)) (begin p Writes)) m in omega arith))
     (λ q t d m.
     let same : t.frame ≡ f = retired p q t.frame f t.state z m in
     (q, o.names q f (ap frame_of t.state ∙ ap (λ (x : ℕ). Some x) same), record { state = t.state ∙ ap Invalid same; off = z; unlocked = t.unlocked; mark = d })) l
@@ -165,7 +168,7 @@ going_from : (P : Page → Type 0) (p : Placement) (qs : List Page) (w : Page) (
     → (state_of p w ≡ Going f) ⊎ (P w × (frame_of (state_of p w) ≡ Some f))
 going_from P p qs w f h e = elim (among_or P w qs h) [
   | inl k ↦ inr (k, let s : Steady p (launch_run p qs) = launch_run_steady p qs in sym (s.frames w) ∙ ap frame_of e)
-  | inr n ↦ inl (sym (ap (λ (x : Slot). x.state) (launch_all_other qs (begin p Writes) w n)) ∙ e)
+  | inr n ↦ inl (sym (ap (λ (x : Slot). x.state) (launch_all_other qs (begin p Writes) w n)) ∙ ap (λ (r : Placement). state_of r w) (launch_steps p qs) ∙ e)
 ]
 
 abbrev TakenSome : Placement → List Page → Page → Type 0

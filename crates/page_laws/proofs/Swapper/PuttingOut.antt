@@ -12,7 +12,8 @@ use Rattle.page_model.specs.Pages.{Slot, no_slot, frame_of, numbered, changed, w
 use Rattle.flat_state.specs.PageNames.{number_of, beside, pages_from, same_page}
 use Rattle.vm_facts.specs.Lists.{times}
 use Rattle.page_model.specs.Placement.{Placement, Residence, Transfer, Part, Errand, Writes, Reads, slots_of, slot_of, state_of, mark_of, is_dirty, parts_of, image_of, sharers, put}
-use Rattle.page_model.specs.Moves.{turn, begin, join_last, launch, launch_to, launch_all, launch_run, land, land_read, land_all, done, done_of, retire, retire_to, arrived_mark}
+use Rattle.page_model.specs.Moves.{turn, done, done_of, retire, retire_to, arrived_mark}
+use Rattle.page_model.specs.Steps.{land_then, land_read_then, land_all_then, begin, join_last, launch, launch_to, launch_all}
 use Rattle.page_model.specs.Runs.{run_put, run_put_by, run_up, run_alone, is_seated, is_seated_by, is_near, most_written}
 use Rattle.page_model.specs.Serve.{is_full}
 use Rattle.page_model.specs.Place.{put_by, put_step, moved, place_entry, data_from, stack_from, pages_of_space}
@@ -28,6 +29,7 @@ use Rattle.vm_facts.proofs.Lists.{times-append}
 use Rattle.page_laws.proofs.Lists.Pages.{page_cases, put_state, put_length, beside_self}
 use Rattle.page_laws.proofs.Lists.Local.{none_some}
 use Rattle.std.proofs.lemmas.Option.{same_Some}
+use Rattle.page_laws.proofs.Moves.InSteps.{launch_steps, done_cases}
 use Rattle.page_laws.proofs.Moves.Steps.{page_in, put_other_state}
 use Rattle.page_laws.proofs.Lists.Runs.{run_each, run_up_in, run_alone_in}
 use Rattle.std.proofs.lemmas.Bool.{and_parts, cases_lt, leb-false}
@@ -99,32 +101,28 @@ tail_calm : (p : Placement) (v : Page) (f : ℕ) (m : Bool) (ts : List Transfer)
 tail_calm p v f m ts = turn_calm p v (Invalid f) m (p.free ++ f ∷ []) ts (more_frees p f)
     (never (is_active_by (turn p v (Invalid f) m (p.free ++ f ∷ []) ts) (Invalid f)) (tail_idle p (turn p v (Invalid f) m (p.free ++ f ∷ []) ts) f refl))
 
-land_calm : (p : Placement) (e : Errand) (x : Part) (rest : List Transfer) → OwnsFrames p → Landing p e x rest → Calmer p (land p e x rest)
+land_calm : (p : Placement) (e : Errand) (x : Part) (rest : List Transfer) → OwnsFrames p → Landing p e x rest → Calmer p (land_then p e x rest)
 land_calm p Writes x rest o l = tail_calm p x.page x.frame (written_mark x.page) rest
 land_calm p (Reads source demanded) x rest o l = go (same_page x.page demanded)
   where
-    go : (b : Bool) → Calmer p (land_read p source x rest b)
+    go : (b : Bool) → Calmer p (land_read_then p source x rest b)
     go true =
         turn_calm p x.page (Valid x.frame) (arrived_mark source x.page (mark_of p x.page)) p.free rest (same_frees p) (λ e. ap (is_active_by p) (landing_state p (Reads source demanded) x rest o l))
     go false = tail_calm p x.page x.frame (mark_of p x.page) rest
 
 land_all_calm : (xs : List Part) (p : Placement) (e : Errand) (ts : List Transfer) → OwnsFrames p
-    → p.transfers ≡ record { errand = e; parts = xs } ∷ ts → Calmer p (land_all p e xs ts)
-land_all_calm [] p e ts o h = λ w k. active_less p (land_all p e [] ts) (same_frees p) (state_of p w) k
+    → p.transfers ≡ record { errand = e; parts = xs } ∷ ts → Calmer p (land_all_then p e xs ts)
+land_all_calm [] p e ts o h = λ w k. active_less p (land_all_then p e [] ts) (same_frees p) (state_of p w) k
 land_all_calm (x ∷ xs) p e ts o h =
     let rest = record { errand = e; parts = xs } ∷ ts in
     let l : Landing p e x (record { errand = e; parts = xs } ∷ ts) = record { parts = ap parts_of h } in
-    calmer_both p (land p e x (record { errand = e; parts = xs } ∷ ts)) (land_all (land p e x (record { errand = e; parts = xs } ∷ ts)) e xs ts)
+    calmer_both p (land_then p e x (record { errand = e; parts = xs } ∷ ts)) (land_all_then (land_then p e x (record { errand = e; parts = xs } ∷ ts)) e xs ts)
     (land_calm p e x (record { errand = e; parts = xs } ∷ ts) o l)
-    (land_all_calm xs (land p e x (record { errand = e; parts = xs } ∷ ts)) e ts (land_owner p e x (record { errand = e; parts = xs } ∷ ts) o l)
+    (land_all_calm xs (land_then p e x (record { errand = e; parts = xs } ∷ ts)) e ts (land_owner p e x (record { errand = e; parts = xs } ∷ ts) o l)
     (land_transfers p e x (record { errand = e; parts = xs } ∷ ts)))
 
 done_calm : (p : Placement) → OwnsFrames p → Calmer p (done p)
-done_calm p o = go p.transfers refl
-  where
-    go : (ts : List Transfer) → p.transfers ≡ ts → Calmer p (done_of p ts)
-    go [] e = λ w k. k
-    go (t ∷ ts) e = land_all_calm t.parts p t.errand ts o e
+done_calm p o = done_cases (Calmer p) p (λ w k. k) (λ t ts e. land_all_calm t.parts p t.errand ts o e)
 
 launch_calm : (p : Placement) (v : Page) → Calmer p (launch p v)
 launch_calm p v = go (state_of p v)
@@ -159,7 +157,7 @@ put_calm : (p : Placement) (v : Page) (qs : List Page) → Calmer p (put_step p 
 put_calm p v qs = go (is_dirty p v)
   where
     go : (b : Bool) → Calmer p (put_by p v qs b)
-    go true = calmer_both p (begin p Writes) (launch_run p qs) (begin_calm p Writes) (launch_all_calm qs (begin p Writes))
+    go true = subst (Calmer p) (launch_steps p qs) (calmer_both p (begin p Writes) (launch_all (begin p Writes) qs) (begin_calm p Writes) (launch_all_calm qs (begin p Writes)))
     go false = retire_calm p v
 
 -- The page that is put is active no more.
@@ -208,7 +206,8 @@ put_idle p v (suc n) l c = go (is_dirty p v)
     launched = idle_still (launch b v) (launch_all (launch b v) rest) v (launch_all_calm rest (launch b v)) (launched_idle b v (begun_seat p v c))
 
     go : (d : Bool) → is_active (put_by p v (pages_from v (number_of v) (suc n)) d) v ≡ false
-    go true = subst (λ (x : Page). is_active (launch_all (launch b x) rest) v ≡ false) (sym (beside_self v)) launched
+    go true = subst (λ (r : Placement). is_active r v ≡ false) (launch_steps p (pages_from v (number_of v) (suc n)))
+        (subst (λ (x : Page). is_active (launch_all (launch b x) rest) v ≡ false) (sym (beside_self v)) launched)
     go false = retired_idle p v c
 
 -- Counting.

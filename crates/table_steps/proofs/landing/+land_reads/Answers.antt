@@ -39,8 +39,9 @@ returns-clause-place t c =
     first_taken c.args.parts.now.items c.remove-part.new.self.items c.remove-part.result some c.remove-part.ensures.value c.remove-part.ensures.by_index.2 in
     let l = reads_step c.args.tables.now c.land_in.new.tables c.args.from_file c.args.demanded c.args.parts.now.items c.remove-part.new.self.items c.remove-part.result e c.requires c.land_in.ensures
     c.frames-frames.ensures.sound in
-    subst (λ (ys : List Inbound). placement_of (lists_of c.land_reads.new.tables) ≡ land_all (placement_of (closing_in c.args.tables.now c.args.from_file c.args.demanded ys))
-    (Reads (source_by c.args.from_file) c.args.demanded) (map in_part ys) (map transfer_shown c.args.tables.now.ring)) (sym e)
+    subst (λ (ys : List Inbound). placement_of (lists_of c.land_reads.new.tables)
+    ≡ land_all (record (placement_of (closing_in c.args.tables.now c.args.from_file c.args.demanded ys)) { transfers = map transfer_shown c.args.tables.now.ring })
+    (Reads (source_by c.args.from_file) c.args.demanded) (map in_part ys)) (sym e)
     (lands_place c.args.tables.now c.land_in.new.tables c.land_reads.new.tables (Reads (source_by c.args.from_file) c.args.demanded) (in_part c.remove-part.result)
     (map in_part c.remove-part.new.self.items) (inbound_flown c.remove-part.result) (map inbound_flown c.remove-part.new.self.items) l c.land_reads.ensures.place)
 

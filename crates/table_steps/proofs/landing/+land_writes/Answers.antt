@@ -39,7 +39,7 @@ returns-clause-place t c =
     let l =
     writes_step c.args.tables.now c.land_out.new.tables c.args.parts.now.items c.remove-part.new.self.items c.remove-part.result e c.requires c.land_out.ensures c.frames-frames.ensures.sound in
     subst (λ (ys : List Outbound). placement_of (lists_of c.land_writes.new.tables)
-    ≡ land_all (placement_of (closing_out c.args.tables.now ys)) Writes (map out_part ys) (map transfer_shown c.args.tables.now.ring)) (sym e)
+    ≡ land_all (record (placement_of (closing_out c.args.tables.now ys)) { transfers = map transfer_shown c.args.tables.now.ring }) Writes (map out_part ys)) (sym e)
     (lands_place c.args.tables.now c.land_out.new.tables c.land_writes.new.tables Writes (out_part c.remove-part.result) (map out_part c.remove-part.new.self.items)
     (outbound_flown c.remove-part.result) (map outbound_flown c.remove-part.new.self.items) l c.land_writes.ensures.place)
 

@@ -7,7 +7,7 @@ use Rattle.swap_book.specs.Holdings.{Holdings}
 use Rattle.transfer_ring.specs.declared.transfer.Outbound.{Outbound}
 use Rattle.transfer_ring.specs.Sound.{outbound_pages}
 use Rattle.page_model.specs.Conditions.{EachPage}
-use Rattle.page_model.specs.Moves.{launch_all}
+use Rattle.page_model.specs.Steps.{launch_all}
 use Rattle.page_model.specs.Ownership.{block_of}
 use Rattle.flat_state.specs.PageNames.{pages_from}
 use Rattle.page_model.specs.Placement.{Placement}

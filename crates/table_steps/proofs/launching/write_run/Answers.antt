@@ -5,7 +5,7 @@ use Rattle.flat_state.specs.PageNames.{pages_from}
 use Rattle.page_model.specs.Conditions.{EachPage, HasSeat}
 use Rattle.transfer_ring.specs.declared.transfer.Transfer.{Transfer as Flight}
 use Rattle.transfer_ring.specs.declared.transfer.Transfer.TheVariants as flights
-use Rattle.page_model.specs.Moves.{launch_all}
+use Rattle.page_model.specs.Steps.{launch_all}
 use Rattle.kernel_tables.specs.declared.tables.Tables.{Tables}
 use Rattle.kernel_tables.specs.View.{placement_of, frames_of}
 use Rattle.kernel_tables.specs.Machine.{lists_of}

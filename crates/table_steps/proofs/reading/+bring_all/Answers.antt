@@ -6,7 +6,7 @@ use Rattle.swap_book.specs.Book.{Book, IsBook}
 use Rattle.transfer_ring.specs.declared.transfer.Inbound.{Inbound}
 use Rattle.transfer_ring.specs.Sound.{inbound_pages}
 use Rattle.page_model.specs.Conditions.{EachPage}
-use Rattle.page_model.specs.Moves.{get_all}
+use Rattle.page_model.specs.Steps.{get_all}
 use Rattle.flat_state.specs.PageNames.{pages_from, beside}
 use Rattle.page_model.specs.Placement.{Placement, Source, Reads}
 use Rattle.page_laws.proofs.Lists.Runs.{each_page_imp}

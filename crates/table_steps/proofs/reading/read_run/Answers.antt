@@ -4,7 +4,7 @@ use Rattle.transfer_ring.specs.declared.transfer.Inbound.{Inbound}
 use Rattle.transfer_ring.specs.declared.transfer.Transfer.{Transfer as Flight}
 use Rattle.transfer_ring.specs.declared.transfer.Transfer.TheVariants as flights
 use Rattle.transfer_ring.specs.Sound.{IsRun, inbound_pages}
-use Rattle.page_model.specs.Moves.{get_all}
+use Rattle.page_model.specs.Steps.{get_all}
 use Rattle.page_model.specs.Placement.{Placement, Source, Reads, state_of}
 use Rattle.page_model.specs.PageBytes.{ReadsFrom}
 use Rattle.page_model.specs.Reading.{source_for}
