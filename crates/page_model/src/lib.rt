@@ -7,6 +7,7 @@
 //! Definitions, by file of specs/:
 //! - Pages, Frames, Placement: pages with their states and marks, frames, and `Placement`, all of them together.
 //! - Moves: what a fill, a reclaim, the beginning and the end of a transfer, and a page that goes do to a placement.
+//! - Steps: the beginning and the end of a transfer page by page, as the code makes them.
 //! - Runs: `run_in`, `run_out` and `run_put`, the pages that one transfer takes.
 //! - Hands: `hand_move`, a move of the two hands.
 //! - Reading: `read_errand`, `read_entry`, the read of a page with its run.
