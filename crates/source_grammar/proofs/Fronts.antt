@@ -1,18 +1,16 @@
 -- The bytes of a kind at the front of a text, and what stands after them.
-use Rattle.std.proofs.Common.{◌≡◌, ℕ, Bool, true, false, List, [], ◌∷◌, ◌++◌, Option, Some, None, refl, sym, ◌∙◌, ap}
-use Rattle.std.specs.Prelude.{◌&&◌, if◌then◌else◌, ⊤}
+use Rattle.std.proofs.Common.{◌≡◌, ℕ, Bool, true, false, List, [], ◌∷◌, ◌++◌, Some, None, refl, ap, arith}
+use Rattle.std.specs.Prelude.{◌==◌, if◌then◌else◌, ⊤}
 use Rattle.std.specs.List.{list_all}
-use Rattle.asm_grammar.specs.Text.{◌>>=◌, Text, after, front_of, behind}
+use Rattle.std.proofs.lemmas.Bool.Decides.{nat_tests}
+use Rattle.asm_grammar.specs.Text.{after, front_of, behind}
+use Rattle.asm_grammar.proofs.Spelled.{both}
 
 -- the text begins with one that says x, and the rest stands after it
 pub record Begins {A : Type 0} (Says : List ℕ → A → Type 0) (text : List ℕ) (x : A) (rest : List ℕ) : Type 0 where
   pub front : List ℕ
   pub split : text ≡ front ++ rest
   pub says : Says front x
-
-pub both : (a b : Bool) → (a && b) ≡ true → (a ≡ true) × (b ≡ true)
-both true b e = (refl, e)
-both false b e = absurd (cc)
 
 -- no byte of a kind comes next
 abbrev pub Stops : (ℕ → Bool) → List ℕ → Type 0
@@ -49,13 +47,25 @@ pub front_split : (is : ℕ → Bool) (text : List ℕ) → text ≡ front_of is
 front_split is [] = refl
 front_split is (x ∷ xs) = split_by is (is x) x xs (front_split is xs)
 
--- ---- one step of a reader
-
--- what is read, and then what is read behind it
-pub then_some : {A B : Type 0} (o : Option A) (f : A → Option B) (x : A) (y : B) → o ≡ Some x → f x ≡ Some y → (o >>= f) ≡ Some y
-then_some o f x y e h = ap (λ (p : Option A). p >>= f) e ∙ h
+-- ---- one byte
 
 after_by : (byte first : ℕ) (rest : List ℕ) (r : List ℕ) (t : Bool) → (t ≡ true → first ≡ byte) → (if t then Some rest else None) ≡ Some r
     → first ∷ rest ≡ byte ∷ r
 after_by byte first rest r true same e = (let s : first ≡ byte = same refl in cc)
 after_by byte first rest r false same e = absurd (cc)
+
+pub eq_of : (a b : ℕ) → (a == b) ≡ true → a ≡ b
+eq_of a b e = grind (arith, nat_tests)
+
+-- the text begins with the byte that was looked for
+pub after_splits : (byte : ℕ) (text r : List ℕ) → after byte text ≡ Some r → text ≡ byte ∷ r
+unfolding after
+after_splits byte [] r e = absurd (cc)
+after_splits byte (first ∷ rest) r e = after_by byte first rest r (first == byte) (eq_of first byte) e
+
+itself : (n : ℕ) → (n == n) ≡ true
+itself n = grind (arith, nat_tests)
+
+pub after_itself : (byte : ℕ) (rest : List ℕ) → after byte (byte ∷ rest) ≡ Some rest
+unfolding after
+after_itself byte rest = rw (itself byte) refl

@@ -1,6 +1,6 @@
 -- The grammar of a source: which texts are a number, an operand, a statement or a line, and what they say.
 use Prim.Native.Char.{code}
-use Rattle.std.specs.Prelude.{◌≡◌, ℕ, ◌+◌, ◌<◌, ◌≤◌, Bool, true, false, List, [], ◌∷◌, ◌++◌, codes, length, Option, Some, None}
+use Rattle.std.specs.Prelude.{◌≡◌, ◌≢◌, ℕ, ◌+◌, ◌<◌, ◌≤◌, ◌==◌, Bool, true, false, not, List, [], ◌∷◌, ◌++◌, codes, length, Option, Some, None}
 use Rattle.std.specs.List.{list_all}
 use Rattle.std.specs.Str.Parse.{digits_value}
 use Rattle.vax_code.specs.declared.table.Row.{Row}
@@ -55,23 +55,27 @@ pub data IsRegister : List ℕ → ℕ → Type 0 where
   OneDigit : {k : ℕ} → k < 10 → IsRegister (codes "r" ++ (code "0" + k) ∷ []) k
   TwoDigits : {k : ℕ} → k < 6 → IsRegister (codes "r1" ++ (code "0" + k) ∷ []) (10 + k)
 
--- the mark of a displacement of 1, 2 or 4 bytes
+-- `(rK)`
+pub data IsParenthesised : List ℕ → ℕ → Type 0 where
+  Parentheses : {r : List ℕ} {k : ℕ} → IsRegister r k → IsParenthesised (codes "(" ++ r ++ codes ")") k
+
+-- the mark before a displacement of 1, 2 or 4 bytes
 pub data IsMark : List ℕ → ℕ → Type 0 where
-  OfByte : IsMark (codes "b") 1
-  OfWord : IsMark (codes "w") 2
-  OfLongword : IsMark (codes "l") 4
+  OfByte : IsMark (codes "b^") 1
+  OfWord : IsMark (codes "w^") 2
+  OfLongword : IsMark (codes "l^") 4
 
 -- an operand that has an address
 pub data IsAddressed : List ℕ → Place → Type 0 where
-  Deferred : {r : List ℕ} {k : ℕ} → IsRegister r k → IsAddressed (codes "(" ++ r ++ codes ")") (places.Deferred k)
-  Decremented : {r : List ℕ} {k : ℕ} → IsRegister r k → IsAddressed (codes "-(" ++ r ++ codes ")") (places.AutoDec k)
-  Incremented : {r : List ℕ} {k : ℕ} → IsRegister r k → k < 15 → IsAddressed (codes "(" ++ r ++ codes ")+") (places.AutoInc k)
-  IncrementedDeferred : {r : List ℕ} {k : ℕ} → IsRegister r k → k < 15 → IsAddressed (codes "*(" ++ r ++ codes ")+") (places.AutoIncDef k)
+  Deferred : {p : List ℕ} {k : ℕ} → IsParenthesised p k → IsAddressed p (places.Deferred k)
+  Decremented : {p : List ℕ} {k : ℕ} → IsParenthesised p k → IsAddressed (codes "-" ++ p) (places.AutoDec k)
+  Incremented : {p : List ℕ} {k : ℕ} → IsParenthesised p k → k < 15 → IsAddressed (p ++ codes "+") (places.AutoInc k)
+  IncrementedDeferred : {p : List ℕ} {k : ℕ} → IsParenthesised p k → k < 15 → IsAddressed (codes "*" ++ p ++ codes "+") (places.AutoIncDef k)
   Absolute : {x : List ℕ} {value : Value} → IsValue x value → IsAddressed (codes "*$" ++ x) (places.Absolute value)
-  Displaced : {m n r : List ℕ} {size k : ℕ} {number : Number} → IsMark m size → IsNumber n number → IsRegister r k
-      → IsAddressed (m ++ codes "^" ++ n ++ codes "(" ++ r ++ codes ")") (places.Disp size k number false)
-  DisplacedDeferred : {m n r : List ℕ} {size k : ℕ} {number : Number} → IsMark m size → IsNumber n number → IsRegister r k
-      → IsAddressed (codes "*" ++ m ++ codes "^" ++ n ++ codes "(" ++ r ++ codes ")") (places.Disp size k number true)
+  Displaced : {m n p : List ℕ} {size k : ℕ} {number : Number} → IsMark m size → IsNumber n number → IsParenthesised p k
+      → IsAddressed (m ++ n ++ p) (places.Disp size k number false)
+  DisplacedDeferred : {m n p : List ℕ} {size k : ℕ} {number : Number} → IsMark m size → IsNumber n number → IsParenthesised p k
+      → IsAddressed (codes "*" ++ m ++ n ++ p) (places.Disp size k number true)
 
 -- an operand that has no address, which is an immediate or isn't
 pub data IsUnaddressed : List ℕ → Bool → Written → Type 0 where
@@ -86,8 +90,8 @@ pub data IsIndex : List ℕ → ℕ → Type 0 where
 -- an operand that has a specifier, with an index or without; on one that has no address the index is in the grammar, and refused
 pub data IsSpecified : List ℕ → Written → Type 0 where
   Unaddressed : {u : List ℕ} {immediate : Bool} {written : Written} → IsUnaddressed u immediate written → IsSpecified u written
-  Addressed : {p : List ℕ} {place : Place} → IsAddressed p place → IsSpecified p (writtens.Plain place)
-  Indexed : {p i : List ℕ} {place : Place} {k : ℕ} → IsAddressed p place → IsIndex i k → IsSpecified (p ++ i) (writtens.Indexed k place)
+  Addressed : {a : List ℕ} {place : Place} → IsAddressed a place → IsSpecified a (writtens.Plain place)
+  Indexed : {a i : List ℕ} {place : Place} {k : ℕ} → IsAddressed a place → IsIndex i k → IsSpecified (a ++ i) (writtens.Indexed k place)
   Misindexed : {u i : List ℕ} {immediate : Bool} {written : Written} {k : ℕ} → IsUnaddressed u immediate written → IsIndex i k
       → IsSpecified (u ++ i) (writtens.Misindexed immediate)
 
@@ -134,3 +138,19 @@ pub data IsLineText : List ℕ → SourceLine → Type 0 where
 pub record IsLine (text : List ℕ) (line : SourceLine) : Type 0 where
   pub few : length text ≤ 120
   pub says : IsLineText text line
+
+-- what a line says by the grammar; none where it is outside of it
+pub data SaysLine : List ℕ → Option SourceLine → Type 0 where
+  InGrammar : {text : List ℕ} {line : SourceLine} → IsLine text line → SaysLine text (Some line)
+  Outside : {text : List ℕ} → ((line : SourceLine) → ¬ IsLine text line) → SaysLine text None
+
+-- no byte is a line feed
+abbrev pub is_unbroken : List ℕ → Bool
+is_unbroken text = list_all (λ byte. not (byte == code "\n")) text
+
+-- what the lines of a source say, each ended by a line feed; none for a last line that has no line feed
+pub data SaysLines : List ℕ → List (Option SourceLine) → Type 0 where
+  NoLine : SaysLines [] []
+  Line : {text rest : List ℕ} {item : Option SourceLine} {items : List (Option SourceLine)} → is_unbroken text ≡ true → SaysLine text item
+      → SaysLines rest items → SaysLines (text ++ codes "\n" ++ rest) (item ∷ items)
+  Unended : {text : List ℕ} → text ≢ [] → is_unbroken text ≡ true → SaysLines text (None ∷ [])

@@ -1,11 +1,11 @@
 -- An instruction's text names the instruction.
-use Rattle.std.proofs.Common.{◌≡◌, ℕ, Bool, true, false, cond, List, [], ◌∷◌, ◌++◌, Option, Some, None, refl, sym, ◌∙◌, ap, subst, arith, IsTrue}
-use Rattle.std.specs.Prelude.{if◌then◌else◌, nat_lt, ◌==◌, ◌&&◌, find, ⊤}
+use Rattle.std.proofs.Common.{◌≡◌, ℕ, Bool, true, false, List, [], ◌∷◌, ◌++◌, Option, Some, refl, sym, ◌∙◌, ap, subst, arith}
+use Rattle.std.specs.Prelude.{if◌then◌else◌, nat_lt, ◌==◌, ⊤}
 use Rattle.std.specs.List.{list_all}
 use Rattle.std.proofs.lemmas.List.{append-nil}
 use Rattle.std.proofs.lemmas.Bool.Decides.{nat_tests}
 use Rattle.vax_code.specs.declared.table.Row.{Row}
-use Rattle.vax_code.specs.Table.{all_rows, row_for, slot_in}
+use Rattle.vax_code.specs.Table.{row_for, slot_in}
 use Rattle.vax_code.specs.Operands.{is_branch}
 use Rattle.asm_grammar.specs.Text.{◌>>=◌, after, front_of, behind}
 use Rattle.asm_grammar.specs.Values.{is_word_byte}
@@ -17,47 +17,9 @@ use Rattle.asm_grammar.specs.declared.syntax.Written.{Written}
 use Rattle.asm_grammar.specs.declared.syntax.Written.TheVariants as writtens
 use Rattle.asm_grammar.specs.declared.syntax.Sentence.{Sentence}
 use Rattle.asm_grammar.proofs.Spelled.{both}
-use Rattle.asm_grammar.proofs.Rows.{named_is_listed}
+use Rattle.asm_grammar.proofs.Rows.{mnemonic_read, mnemonic_word}
 use Rattle.vax_disasm.proofs.Respelled.{GoodPlaceOfRow}
 use Rattle.vax_disasm.proofs.Reread.{Ends, operand_read}
-
--- ---- mnemonics
-
--- each byte of a mnemonic is a byte of a word, and the mnemonic names its row
-abbrev names_op : Option Row → ℕ → Bool
-names_op None op = false
-names_op (Some row) op = row.op == op
-
-abbrev is_named : Row → Bool
-is_named row = list_all is_word_byte (mnemonic row.name) && names_op (row_named (mnemonic row.name)) row.op
-
-all_named : IsTrue (list_all is_named all_rows)
-unfolding all_rows row_named
-all_named = refl
-
-found_passes : (wanted good : Row → Bool) (rows : List Row) (row : Row) → IsTrue (list_all good rows) → find wanted rows ≡ Some row → IsTrue (good row)
-found_passes wanted good [] row all h = absurd (cc)
-found_passes wanted good (first ∷ rows) row all h =
-    let parts = both (good first) (list_all good rows) all in
-    (elim (wanted first) as (λ (w : Bool). cond w (Some first) (find wanted rows) ≡ Some row → IsTrue (good row)) [
-      | true ↦ λ e. let same : first ≡ row = cc in subst (λ (z : Row). IsTrue (good z)) same parts.0
-      | false ↦ λ e. found_passes wanted good rows row parts.1 e
-    ]) h
-
-named_of : (row : Row) → row_for row.op ≡ Some row → IsTrue (is_named row)
-unfolding row_for
-named_of row listed = found_passes (λ r. r.op == row.op) is_named all_rows row all_named listed
-
-same_row : (o : Option Row) (row : Row) → o ≡ row_named (mnemonic row.name) → names_op o row.op ≡ true → row_for row.op ≡ Some row → o ≡ Some row
-same_row None row e h listed = absurd (cc)
-same_row (Some found) row e h listed =
-    let ops : found.op ≡ row.op = grind (arith, nat_tests) in
-    sym (named_is_listed (mnemonic row.name) found (sym e)) ∙ ap row_for ops ∙ listed
-
-mnemonic_read : (row : Row) → row_for row.op ≡ Some row → row_named (mnemonic row.name) ≡ Some row
-mnemonic_read row listed =
-    let tests = both (list_all is_word_byte (mnemonic row.name)) (names_op (row_named (mnemonic row.name)) row.op) (named_of row listed) in
-    same_row (row_named (mnemonic row.name)) row refl tests.1 listed
 
 -- no byte of a word comes next
 abbrev WordEnds : List ℕ → Type 0
@@ -143,10 +105,9 @@ sentence_read s listed good_a good_b good_c =
     let word : List ℕ = mnemonic s.row.name in
     let rest : List ℕ = row_place_text s.row 0 s.a ++ (row_place_text s.row 1 s.b ++ (row_place_text s.row 2 s.c ++ [])) in
     let nil : row_place_text s.row 2 s.c ≡ row_place_text s.row 2 s.c ++ [] = sym (append-nil (row_place_text s.row 2 s.c)) in
-    let tests = both (list_all is_word_byte (mnemonic s.row.name)) (names_op (row_named (mnemonic s.row.name)) s.row.op) (named_of s.row listed) in
     let ends_c : Ends (row_place_text s.row 2 s.c ++ []) = place_ends s.row 2 s.c [] refl tt in
     let ends_b : Ends (row_place_text s.row 1 s.b ++ (row_place_text s.row 2 s.c ++ [])) = place_ends s.row 1 s.b (row_place_text s.row 2 s.c ++ []) refl ends_c in
-    let cut = word_cut (mnemonic s.row.name) (row_place_text s.row 0 s.a ++ (row_place_text s.row 1 s.b ++ (row_place_text s.row 2 s.c ++ []))) tests.0
+    let cut = word_cut (mnemonic s.row.name) (row_place_text s.row 0 s.a ++ (row_place_text s.row 1 s.b ++ (row_place_text s.row 2 s.c ++ []))) (mnemonic_word s.row listed)
     (first_ends s.row s.a (row_place_text s.row 1 s.b ++ (row_place_text s.row 2 s.c ++ [])) ends_b) in
     ap (λ (l : List ℕ). row_named (front_of is_word_byte (mnemonic s.row.name ++ (row_place_text s.row 0 s.a ++ (row_place_text s.row 1 s.b ++ l)))) >>= λ row.
     operands_at row (behind is_word_byte (mnemonic s.row.name ++ (row_place_text s.row 0 s.a ++ (row_place_text s.row 1 s.b ++ l))))) nil ∙
