@@ -8,7 +8,7 @@ use Rattle.asm_grammar.specs.Lines.{put_before, lines_in, item_of, items_in}
 use Rattle.asm_grammar.proofs.Fronts.{take_front, drop_front}
 
 -- no byte is a line feed
-abbrev pub HasNoFeed : List ℕ → Type 0
+abbrev HasNoFeed : List ℕ → Type 0
 HasNoFeed [] = Unit {0}
 HasNoFeed (byte ∷ bytes) = ((byte == 10) ≡ false) × HasNoFeed bytes
 
@@ -36,12 +36,12 @@ behind_feed : (text : List ℕ) (b : ℕ) (more : List ℕ) → behind (λ byte.
 behind_feed [] b more e = absurd (cc)
 behind_feed (byte ∷ text) b more e = feed_by byte text (not (byte == 10)) b more refl (behind_feed text b more) e
 
-pub lines_ended : (text more : List ℕ) → HasNoFeed text → lines_in (text ++ 10 ∷ more) ≡ Some text ∷ lines_in more
+lines_ended : (text more : List ℕ) → HasNoFeed text → lines_in (text ++ 10 ∷ more) ≡ Some text ∷ lines_in more
 unfolding lines_in
 lines_ended [] more h = refl
 lines_ended (byte ∷ text) more h = rw h.0 (ap (put_before byte) (lines_ended text more h.1))
 
-pub lines_open : (byte : ℕ) (text : List ℕ) → HasNoFeed (byte ∷ text) → lines_in (byte ∷ text) ≡ None ∷ []
+lines_open : (byte : ℕ) (text : List ℕ) → HasNoFeed (byte ∷ text) → lines_in (byte ∷ text) ≡ None ∷ []
 unfolding lines_in
 lines_open byte [] h = rw h.0 refl
 lines_open byte (next ∷ text) h = rw h.0 (ap (put_before byte) (lines_open next text h.1))

@@ -1,12 +1,10 @@
 -- The rows of the instruction table that mnemonics name.
-use Rattle.std.proofs.Common.{◌≡◌, ℕ, ◌<◌, Bool, true, false, List, [], ◌∷◌, Option, Some, None, refl, sym, ◌∙◌, ap, subst, arith, IsTrue}
+use Rattle.std.proofs.Common.{◌≡◌, ℕ, ◌<◌, Bool, true, false, List, [], ◌∷◌, Some, refl, ap, subst, arith, IsTrue}
 use Rattle.std.specs.Prelude.{find, nat_lt, ◌==◌, ◌&&◌, cond}
-use Rattle.std.specs.List.{list_all}
 use Rattle.std.proofs.lemmas.Bool.Decides.{nat_tests}
 use Rattle.vax_code.specs.declared.table.Row.{Row}
 use Rattle.vax_code.specs.Table.{all_rows, row_for, is_rising}
 use Rattle.vax_code.proofs.Rule.{rows_rise}
-use Rattle.asm_grammar.specs.Values.{is_word_byte}
 use Rattle.asm_grammar.specs.Mnemonics.{mnemonic, same_text, row_named}
 
 both : (a b : Bool) → IsTrue (a && b) → IsTrue a × IsTrue b
@@ -51,44 +49,3 @@ by_op p (r ∷ rows) row rise e = by_step rows p r row (p r) (above p r rows row
 pub named_is_listed : (word : List ℕ) (row : Row) → row_named word ≡ Some row → row_for row.op ≡ Some row
 unfolding row_named row_for
 named_is_listed word row e = by_op (λ row. same_text (mnemonic row.name) word) all_rows row rows_rise e
-
--- ---- each mnemonic is a word, and names its row
-
--- each byte of a mnemonic is a byte of a word, and the mnemonic names its row
-abbrev names_op : Option Row → ℕ → Bool
-names_op None op = false
-names_op (Some row) op = row.op == op
-
-abbrev is_named : Row → Bool
-is_named row = list_all is_word_byte (mnemonic row.name) && names_op (row_named (mnemonic row.name)) row.op
-
-all_named : IsTrue (list_all is_named all_rows)
-unfolding all_rows row_named
-all_named = refl
-
-found_passes : (wanted good : Row → Bool) (rows : List Row) (row : Row) → IsTrue (list_all good rows) → find wanted rows ≡ Some row → IsTrue (good row)
-found_passes wanted good [] row all h = absurd (cc)
-found_passes wanted good (first ∷ rows) row all h =
-    let parts = both (good first) (list_all good rows) all in
-    (elim (wanted first) as (λ (w : Bool). cond w (Some first) (find wanted rows) ≡ Some row → IsTrue (good row)) [
-      | true ↦ λ e. let same : first ≡ row = cc in subst (λ (z : Row). IsTrue (good z)) same parts.0
-      | false ↦ λ e. found_passes wanted good rows row parts.1 e
-    ]) h
-
-named_of : (row : Row) → row_for row.op ≡ Some row → IsTrue (is_named row)
-unfolding row_for
-named_of row listed = found_passes (λ r. r.op == row.op) is_named all_rows row all_named listed
-
-same_row : (o : Option Row) (row : Row) → o ≡ row_named (mnemonic row.name) → names_op o row.op ≡ true → row_for row.op ≡ Some row → o ≡ Some row
-same_row None row e h listed = absurd (cc)
-same_row (Some found) row e h listed =
-    let ops : found.op ≡ row.op = grind (arith, nat_tests) in
-    sym (named_is_listed (mnemonic row.name) found (sym e)) ∙ ap row_for ops ∙ listed
-
-pub mnemonic_read : (row : Row) → row_for row.op ≡ Some row → row_named (mnemonic row.name) ≡ Some row
-mnemonic_read row listed =
-    let tests = both (list_all is_word_byte (mnemonic row.name)) (names_op (row_named (mnemonic row.name)) row.op) (named_of row listed) in
-    same_row (row_named (mnemonic row.name)) row refl tests.1 listed
-
-pub mnemonic_word : (row : Row) → row_for row.op ≡ Some row → list_all is_word_byte (mnemonic row.name) ≡ true
-mnemonic_word row listed = (both (list_all is_word_byte (mnemonic row.name)) (names_op (row_named (mnemonic row.name)) row.op) (named_of row listed)).0

@@ -3,6 +3,7 @@ pub mod Reading
 pub mod Operands
 pub mod Saying
 pub mod Specifying
+pub mod Mnemonics
 pub mod Sentences
 pub mod Lines
 pub mod Sources

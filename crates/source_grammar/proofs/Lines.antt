@@ -21,7 +21,7 @@ use Rattle.asm_grammar.specs.declared.syntax.Statement.{Statement}
 use Rattle.asm_grammar.specs.declared.syntax.Statement.TheVariants as statements
 use Rattle.asm_grammar.specs.declared.syntax.SourceLine.{SourceLine}
 use Rattle.asm_grammar.proofs.Spelled.{bind_some, some_same, some_if, both, le_of}
-use Rattle.asm_grammar.proofs.Rows.{mnemonic_read, mnemonic_word}
+use Rattle.source_grammar.proofs.Mnemonics.{mnemonic_read, mnemonic_word}
 use Rattle.source_grammar.specs.Grammar.{IsNumber, IsValue, IsLabel, Name, IsInstructionText, IsStatement, Byte, Word, Long, Space, Bss, Instruction, IsLineText, Empty, Comment, Unlabelled, LabelAlone, Labelled, IsLine}
 use Rattle.source_grammar.proofs.Fronts.{Begins, cut, front_split, after_splits, eq_of}
 use Rattle.source_grammar.proofs.Reading.{Ends, le_true, number_read, label_read, value_read}

@@ -1,22 +1,22 @@
 -- An instruction: its text is read as what it says, and what is read of a text is what it says.
-use Rattle.std.proofs.Common.{◌≡◌, ℕ, ◌<◌, ◌≤◌, Bool, true, false, cond, List, [], ◌∷◌, ◌++◌, Option, Some, None, refl, sym, ◌∙◌, ap, subst, arith, append_assoc}
-use Rattle.std.specs.Prelude.{if◌then◌else◌, nat_lt, find}
-use Rattle.std.specs.Cmp.Lexicographic.{same_text}
+use Rattle.std.proofs.Common.{◌≡◌, ℕ, ◌<◌, ◌≤◌, Bool, true, false, List, [], ◌∷◌, ◌++◌, Option, Some, None, refl, sym, ◌∙◌, ap, subst, arith, append_assoc}
+use Rattle.std.specs.Prelude.{if◌then◌else◌, nat_lt}
 use Rattle.std.proofs.lemmas.List.{append-nil}
 use Rattle.std.proofs.lemmas.Bool.Decides.{nat_tests}
 use Rattle.vax_code.specs.declared.table.Row.{Row}
-use Rattle.vax_code.specs.Table.{all_rows, row_for, slot_in}
+use Rattle.vax_code.specs.Table.{row_for, slot_in}
 use Rattle.vax_code.specs.Operands.{is_branch}
 use Rattle.asm_grammar.specs.Text.{◌>>=◌, Text, after, front_of, behind}
 use Rattle.asm_grammar.specs.Values.{is_word_byte}
-use Rattle.asm_grammar.specs.Mnemonics.{mnemonic, row_named, same_text as has_text}
+use Rattle.asm_grammar.specs.Mnemonics.{mnemonic, row_named}
 use Rattle.asm_grammar.specs.Operands.{operand_at}
 use Rattle.asm_grammar.specs.Sentences.{separator, place_of_row_at, ended, operands_at, sentence_of}
 use Rattle.asm_grammar.specs.declared.syntax.Written.{Written}
 use Rattle.asm_grammar.specs.declared.syntax.Written.TheVariants as writtens
 use Rattle.asm_grammar.specs.declared.syntax.Sentence.{Sentence}
 use Rattle.asm_grammar.proofs.Spelled.{bind_some, some_same, lt_of, ge_of}
-use Rattle.asm_grammar.proofs.Rows.{named_is_listed, mnemonic_read, mnemonic_word}
+use Rattle.asm_grammar.proofs.Rows.{named_is_listed}
+use Rattle.source_grammar.proofs.Mnemonics.{mnemonic_read, mnemonic_word, mnemonic_is}
 use Rattle.source_grammar.specs.Grammar.{IsOperand, IsInPlace, Present, Lacking, IsInstructionText, Mnemonic}
 use Rattle.source_grammar.proofs.Fronts.{Begins, cut, front_split, after_splits, after_itself}
 use Rattle.source_grammar.proofs.Reading.{Ends}
@@ -128,19 +128,6 @@ sentence_read text sentence is =
     ∙ ap (λ (l : List ℕ). row_named l >>= λ row. operands_at row (behind is_word_byte (mnemonic sentence.row.name ++ n.rest))) parts.0
     ∙ ap (λ (o : Option Row). o >>= λ row. operands_at row (behind is_word_byte (mnemonic sentence.row.name ++ n.rest))) (mnemonic_read sentence.row n.listed)
     ∙ ap (operands_at sentence.row) parts.1 ∙ n.operands
-
-found_by : {A : Type 0} (p : A → Bool) (x y : A) (xs : List A) (t : Bool) → p x ≡ t → (find p xs ≡ Some y → p y ≡ true)
-    → cond t (Some x) (find p xs) ≡ Some y → p y ≡ true
-found_by p x y xs true is more e = subst (λ z. p z ≡ true) (some_same x y e) is
-found_by p x y xs false is more e = more e
-
-found_is : {A : Type 0} (p : A → Bool) (xs : List A) (y : A) → find p xs ≡ Some y → p y ≡ true
-found_is p [] y e = absurd (cc)
-found_is p (x ∷ xs) y e = found_by p x y xs (p x) refl (found_is p xs y) e
-
-mnemonic_is : (word : List ℕ) (row : Row) → row_named word ≡ Some row → mnemonic row.name ≡ word
-unfolding row_named
-mnemonic_is word row e = same_text (mnemonic row.name) word (sym (found_is (λ r. has_text (mnemonic r.name) word) all_rows row e))
 
 pub ended_is : {A : Type 0} (x y : A) (rest : List ℕ) → ended x rest ≡ Some y → (rest ≡ []) × (x ≡ y)
 ended_is x y [] e = (refl, some_same x y e)

@@ -5,7 +5,6 @@ use Rattle.std.proofs.lemmas.Bool.Decides.{nat_tests}
 use Rattle.asm_grammar.specs.Lines.{line_of, put_before, lines_in, item_of, items_in}
 use Rattle.asm_grammar.specs.declared.syntax.SourceLine.{SourceLine}
 use Rattle.asm_grammar.proofs.Spelled.{both}
-use Rattle.asm_grammar.proofs.Items.{HasNoFeed, lines_ended, lines_open}
 use Rattle.source_grammar.specs.Grammar.{IsLine, SaysLine, InGrammar, Outside, is_unbroken, SaysLines, NoLine, Line, Unended}
 use Rattle.source_grammar.proofs.Fronts.{eq_of}
 use Rattle.source_grammar.proofs.Lines.{line_read, line_says}
@@ -29,9 +28,19 @@ says_read text item (Outside outside) = none_by text (line_of text) refl outside
 no_feed_byte : (byte : ℕ) → not (byte == 10) ≡ true → (byte == 10) ≡ false
 no_feed_byte byte h = grind (arith, nat_tests)
 
-no_feed : (text : List ℕ) → is_unbroken text ≡ true → HasNoFeed text
-no_feed [] h = tt
-no_feed (byte ∷ text) h = (let tests = both (not (byte == 10)) (is_unbroken text) h in (no_feed_byte byte tests.0, no_feed text tests.1))
+lines_ended : (text more : List ℕ) → is_unbroken text ≡ true → lines_in (text ++ 10 ∷ more) ≡ Some text ∷ lines_in more
+unfolding lines_in
+lines_ended [] more h = refl
+lines_ended (byte ∷ text) more h =
+    let tests = both (not (byte == 10)) (is_unbroken text) h in
+    rw (no_feed_byte byte tests.0) (ap (put_before byte) (lines_ended text more tests.1))
+
+lines_open : (byte : ℕ) (text : List ℕ) → is_unbroken (byte ∷ text) ≡ true → lines_in (byte ∷ text) ≡ None ∷ []
+unfolding lines_in
+lines_open byte [] h = rw (no_feed_byte byte (both (not (byte == 10)) true h).0) refl
+lines_open byte (next ∷ text) h =
+    let tests = both (not (byte == 10)) (is_unbroken (next ∷ text)) h in
+    rw (no_feed_byte byte tests.0) (ap (put_before byte) (lines_open next text tests.1))
 
 -- the texts of the lines
 data Splits : List ℕ → List (Option (List ℕ)) → Type 0 where
@@ -70,13 +79,13 @@ source_says source items e = subst (λ (l : List (Option SourceLine)). SaysLines
 unended_read : (text : List ℕ) → text ≢ [] → is_unbroken text ≡ true → items_in text ≡ None ∷ []
 unfolding items_in
 unended_read [] some unbroken = absurd (some refl)
-unended_read (byte ∷ text) some unbroken = ap (map item_of) (lines_open byte text (no_feed (byte ∷ text) unbroken))
+unended_read (byte ∷ text) some unbroken = ap (map item_of) (lines_open byte text unbroken)
 
 source_read : (source : List ℕ) (items : List (Option SourceLine)) → SaysLines source items → items_in source ≡ items
 unfolding items_in lines_in
 source_read source items NoLine = refl
 source_read source items (Line {text} {rest} {item} {items = more} unbroken says others) =
-    ap items_in (append_assoc text (codes "\n") rest) ∙ ap (map item_of) (lines_ended text rest (no_feed text unbroken))
+    ap items_in (append_assoc text (codes "\n") rest) ∙ ap (map item_of) (lines_ended text rest unbroken)
     ∙ ap (λ (o : Option SourceLine). o ∷ items_in rest) (says_read text item says)
     ∙ ap (λ (l : List (Option SourceLine)). item ∷ l) (source_read rest more others)
 source_read source items (Unended some unbroken) = unended_read source some unbroken

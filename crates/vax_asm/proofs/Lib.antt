@@ -5,3 +5,4 @@ pub mod Assembling
 pub mod Standing
 pub mod Agreeing
 pub mod Explaining
+pub mod ByGrammar

@@ -1,6 +1,6 @@
 ghost use Rattle.std.specs.Prelude.{◌≡◌, ◌≤◌, [], length, IfSome};
 ghost use Rattle.asm_grammar.specs.Encoding.{sentence_bytes};
-ghost use Rattle.vax_asm.specs.Encodes.{EncodesAs};
+ghost use Rattle.vax_asm.specs.Encodes.{EncodesAs, EncodesByGrammar};
 
 use crate::answers::Encoded;
 use crate::code::Code;
@@ -16,8 +16,8 @@ fn lone_bytes(at: u32, sentence: &Sentence) -> Option<Code>
     sentence_bytes(&Labels::none(), at, sentence)
 }
 
-/// The bytes of one instruction, a line without labels and without its LF, at an address.
-pub fn encode(line: &[u8], at: u32) -> Encoded
+// The bytes of the instruction that the line is read as.
+fn encode_line(line: &[u8], at: u32) -> Encoded
     ensures { EncodesAs line.now at result }
 {
     if !is_short(line) {
@@ -33,4 +33,13 @@ pub fn encode(line: &[u8], at: u32) -> Encoded
         }
         None => Encoded::Bad,
     }
+}
+
+/// The bytes of one instruction, a line without labels and without its LF, at an address.
+#[tactic(auto, using(crate::proofs::ByGrammar::encodes_by_grammar))]
+pub fn encode(line: &[u8], at: u32) -> Encoded
+    ensures answers { EncodesAs line.now at result }
+    ensures grammar { EncodesByGrammar line.now at result }
+{
+    encode_line(line, at)
 }

@@ -1,5 +1,7 @@
 // The program that a source makes.
 ghost use Rattle.std.specs.Prelude.{◌≡◌, ℕ, ◌+◌, ◌*◌, ◌≤◌, ◌<◌, ◌++◌, Bool, true, false, Option, Some, None, List, [], ◌∷◌, IfOk, length, replicate, if◌then◌else◌, not, ◌&&◌};
+ghost use Rattle.asm_grammar.specs.Lines.{items_in};
+ghost use Rattle.source_grammar.specs.Grammar.{SaysLines};
 ghost use Rattle.vax_asm.specs.Program.{Puts, number_size, place_size, operand_size, sentence_size, is_up_to, statement_size, optional_size, item_size, item_definition, labels_of, value_bytes, statement_bytes, optional_bytes, bytes_behind, within, bounded, is_new, HasSmallBss, first_of, bss_in, AssemblesAs};
 
 use crate::answers::{Assembled, Program};
@@ -321,8 +323,10 @@ fn assemble_with(alloc: Global, labels: &Labels, source: &[u8]) -> Result<Assemb
 /// The program of a source, or its lowest bad line: one outside the grammar or a limit, with an unknown label or a
 /// label that stands before, a value, branch or operand that is refused, or bytes above 65,536. The grammar is this
 /// project's profile.
+#[tactic(auto, using(crate::proofs::ByGrammar::source_says_items))]
 pub fn assemble(alloc: Global, source: &[u8]) -> Result<Assembled, NoMemory>
-    ensures { IfOk result (AssemblesAs source.now) }
+    ensures answers { IfOk result (AssemblesAs source.now) }
+    ensures grammar { SaysLines source.now (items_in source.now) }
 {
     let labels = labels_of(alloc, source)?;
     assemble_with(alloc, &labels, source)

@@ -1,6 +1,5 @@
 pub mod Hexadecimal
 pub mod Same
 pub mod Respelled
-pub mod Reread
-pub mod Resaid
+pub mod Grammatical
 pub mod Shows

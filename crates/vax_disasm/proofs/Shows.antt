@@ -10,8 +10,10 @@ use Rattle.vax_disasm.specs.Showing.{sentence_shown, sentence_text, IsTextOf}
 use Rattle.asm_grammar.specs.declared.syntax.Sentence.{Sentence}
 use Rattle.asm_grammar.proofs.Spelled.{sentence_encodes}
 use Rattle.asm_grammar.proofs.Naming.{code_of}
+use Rattle.source_grammar.specs.Grammar.{IsInstructionText}
+use Rattle.source_grammar.proofs.Lines.{instruction_law}
 use Rattle.vax_disasm.proofs.Respelled.{SentenceBack, sentence_back}
-use Rattle.vax_disasm.proofs.Resaid.{sentence_read}
+use Rattle.vax_disasm.proofs.Grammatical.{sentence_says}
 
 take_all : (xs ys : List ℕ) → take (length xs) (xs ++ ys) ≡ xs
 take_all [] [] = refl
@@ -34,7 +36,9 @@ shown_by bytes rest front at s text back is shown written few =
     let n = sentence_encodes [] at s front back.listed spells in
     let lengths = whole_length front n.0 n.2 in
     let begins : BeginsWith bytes n.0 = record { front = front; rest = rest; split = split; whole = n.2 } in
-    let named : sentence_of text ≡ Some s = ap sentence_of written ∙ sentence_read s back.listed back.good_a back.good_b back.good_c in
+    let says : IsInstructionText text s =
+    subst (λ (l : List ℕ). IsInstructionText l s) (sym written) (sentence_says s back.listed back.good_a back.good_b back.good_c) in
+    let named : sentence_of text ≡ Some s = (instruction_law text s).1 says in
     let code : IsCodeOf text [] at front = code_of text [] at s front (is_short_line text few) named spells in
     let taken : take (length front) bytes ≡ front = ap (take (length front)) split ∙ take_all front rest in
     let left : drop (length front) bytes ≡ rest = ap (drop (length front)) split ∙ drop_all front rest in
@@ -43,6 +47,7 @@ shown_by bytes rest front at s text back is shown written few =
       sentence = s;
       shown = shown ∙ ap (λ (l : List ℕ). Some (s, l)) (sym left);
       written = written;
+      says = says;
       instr = n.0;
       decodes = is_decoded bytes n.0 begins;
       sized = sym lengths.2;

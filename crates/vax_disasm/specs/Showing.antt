@@ -12,6 +12,7 @@ use Rattle.asm_grammar.specs.Text.{◌>>=◌, Text}
 use Rattle.asm_grammar.specs.Mnemonics.{mnemonic}
 use Rattle.asm_grammar.specs.Sentences.{separator}
 use Rattle.asm_grammar.specs.Encoding.{whole_of, half_of, IsCodeOf}
+use Rattle.source_grammar.specs.Grammar.{IsInstructionText}
 use Rattle.vax_disasm.specs.declared.disassembly.Shown.{Shown}
 use Rattle.vax_disasm.specs.declared.disassembly.Shown.TheVariants as shownings
 use Rattle.asm_grammar.specs.declared.syntax.Number.{Number}
@@ -209,12 +210,13 @@ sentence_text sentence =
     mnemonic sentence.row.name
     ++ (row_place_text sentence.row 0 sentence.a ++ (row_place_text sentence.row 1 sentence.b ++ row_place_text sentence.row 2 sentence.c))
 
--- The text is that of the instruction, of so many bytes, that the bytes at an address begin with, and names these bytes
--- again.
+-- The text is that of the instruction, of so many bytes, that the bytes at an address begin with. It is one of the grammar,
+-- and names these bytes again.
 pub record IsTextOf (bytes : List ℕ) (at : ℕ) (text : List ℕ) (size : ℕ) : Type 0 where
   pub sentence : Sentence
   pub shown : sentence_shown at bytes ≡ Some (sentence, drop size bytes)
   pub written : text ≡ sentence_text sentence
+  pub says : IsInstructionText text sentence
   pub instr : Instr
   pub decodes : decoded bytes ≡ decodings.Is instr
   pub sized : instr.length ≡ size

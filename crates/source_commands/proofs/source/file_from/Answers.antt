@@ -26,7 +26,7 @@ returns-in-Err-clause-made g c =
     c.in-Err.ensures.answers c.in-Err.ensures.error c.in-Err.ensures.open_faults c.in-Err.ensures.page_faults)
 
 pub file_of-requires : goal.file_of-requires
-file_of-requires g c = program_limit c.as_slice.result.now c.in-Ok-Is.program.bytes.items c.in-Ok-Is.program.bss (subst (AssemblesAs c.as_slice.result.now) c.in-Ok-Is.field-0-is c.in-Ok-Is.ensures)
+file_of-requires g c = program_limit c.as_slice.result.now c.in-Ok-Is.program.bytes.items c.in-Ok-Is.program.bss (subst (AssemblesAs c.as_slice.result.now) c.in-Ok-Is.field-0-is c.in-Ok-Is.ensures.answers)
 
 pub returns-in-Ok-file_of-clause-made : goal.returns-in-Ok-file_of-clause-made
 returns-in-Ok-file_of-clause-made g c =
@@ -38,7 +38,7 @@ returns-in-Ok-file_of-clause-made g c =
         bytes = c.in-Ok-Is.program.bytes.items;
         bss = c.in-Ok-Is.program.bss;
         program = subst (λ (source : List ℕ). IsProgramOf source c.in-Ok-Is.program.bytes.items c.in-Ok-Is.program.bss) c.as_slice.ensures.value
-            (subst (AssemblesAs c.as_slice.result.now) c.in-Ok-Is.field-0-is c.in-Ok-Is.ensures);
+            (subst (AssemblesAs c.as_slice.result.now) c.in-Ok-Is.field-0-is c.in-Ok-Is.ensures.answers);
         file = c.in-Ok-file_of.ensures;
       },
     )
@@ -53,7 +53,7 @@ returns-in-Ok-BadLine-clause-made g c =
     made_by (EndsAssembly c.args.name.now) (λ (list : List NamedFile). bytes_told list c.args.name.now 495617) (g.F.Files.holds c.args.files.now) _ (Err (BadSource c.in-Ok-BadLine.line))
     (Ok c.in-Ok.source.items)
     c.in-Ok.ensures.answers (subst (λ (source : List ℕ). IsFirstBad source c.in-Ok-BadLine.line) c.as_slice.ensures.value
-    (subst (AssemblesAs c.as_slice.result.now) c.in-Ok-BadLine.field-0-is c.in-Ok-BadLine.ensures))
+    (subst (AssemblesAs c.as_slice.result.now) c.in-Ok-BadLine.field-0-is c.in-Ok-BadLine.ensures.answers))
 
 pub returns-clause-made : goal.returns-clause-made
 returns-clause-made g c =

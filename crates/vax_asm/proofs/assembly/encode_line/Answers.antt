@@ -1,7 +1,7 @@
 use Rattle.std.proofs.Common.{◌∙◌, ◌≤◌, sym, subst, List, [], ℕ, arith}
 use Rattle.asm_grammar.proofs.Naming.{code_of, long_is_none, no_sentence_is_none, no_bytes_is_none}
 use Rattle.asm_grammar.specs.Encoding.{IsCodeOf}
-use Rattle.vax_asm.proofs.assembly.encode.Goals as goal
+use Rattle.vax_asm.proofs.assembly.encode_line.Goals as goal
 
 pub returns-then-not-is_short : goal.returns-then-not-is_short
 returns-then-not-is_short c = long_is_none c.args.line.now [] c.args.at (sym c.is_short.ensures ∙ c.if-not-is_short.true)
