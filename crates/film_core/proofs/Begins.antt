@@ -163,7 +163,7 @@ module _ (A : Inputs) (old new : Filming) (numbers : List ℕ) (lines : List Eve
         over = ap (under A t) (ap (λ (x : State). x.mark) (sym is_start));
       }
 
-      over_at : OverAt A t new.machine lines 0 new.counted 0 holds j behind
+      over_at : OverAt new.machine lines 0 new.counted 0 holds j A t behind
       over_at = record {
         stands = stands;
         reached = reached;

@@ -43,7 +43,7 @@ then_stop A s t k l image i j us stop new a x =
 
 pub then_out : (A : Inputs) (s t : State) (old mid new : Standing) (image : List ℕ) (i j : Option (List ℕ)) (us : List Entry)
     → (a : Leads A s old.kernel image us t mid.kernel i)
-    → RunsOut A t mid new a.behind j → RunsOut A s old new image j
+    → RunsOut mid new j A t a.behind → RunsOut old new j A s image
 then_out A s t old mid new image i j us a b = record {
   units = us ++ b.units;
   state = b.state;

@@ -19,12 +19,13 @@ use Rattle.run_model.proofs.After.{after_journal, units_journal}
 use Rattle.run_laws.proofs.Lawful.{follows_state}
 use Rattle.journal_laws.proofs.Journals.{leads_follow}
 use Rattle.journal_laws.proofs.Units.{none_leads}
+use Rattle.run_start.specs.Stepped.{LeadsFrom}
 use Rattle.vm_core.specs.Cores.{StandsIn}
 use Rattle.vm_core.specs.Schedules.{HaveFewMoves}
-use Rattle.film_core.specs.Films.{Filming, FilmAt, IsFilming, OneMore, FilmGoes, FilmStops, IsInOrder}
+use Rattle.film_core.specs.Films.{Filming, FilmAt, IsFilming, OneMore, FilmGoes, IsInOrder, StopsElse, FilmsAt}
 use Rattle.film_core.specs.Marks.{mark_behind, lines_behind, last_entry}
 use Rattle.film_core.specs.Ways.{IsReached}
-use Rattle.film_core.specs.Entries.{FullAt, EntryMade, MakesEntry, StopsEntry, caught_up}
+use Rattle.film_core.specs.Entries.{FullAt, EntryMade, caught_up}
 use Rattle.film_core.proofs.Composing.{journal_of_reached, reached_of_journal, leads_reached, reached_below}
 use Rattle.film_core.proofs.Longer.{Behind, goes_behind, one_behind, last_behind}
 use Rattle.film_core.proofs.Marking.{one_follows, mark_follows, lines_follow, order_follows}
@@ -36,7 +37,7 @@ not_true b e f = let z : false ≡ true = sym e ∙ f in cc
 
 pub film_full : (A : Inputs) (s : State) (f : Filming) (lines : List Event) (holds : Option (List NamedFile)) (i : Option (List ℕ)) (image : List ℕ)
     → A.lines ≡ lines → f.over ≡ false → FilmAt A s f holds i image
-    → FullAt A s f.machine f.mark lines f.lines f.counted holds i image
+    → FullAt f.machine f.mark lines f.lines f.counted holds i A s image
 film_full A s f lines holds i image are on at = record {
   going = record {
     stands = at.stands;
@@ -57,7 +58,7 @@ counts_behind : (es : List Entry) (e : Entry) → instructions_of (es ++ e ∷ [
 counts_behind es e = let both = count-append es (e ∷ []) in omega (arith, both)
 
 module _ (A : Inputs) (s : State) (old : Filming) (m : Standing) (ended : Bool) (holds : Option (List NamedFile)) (i j : Option (List ℕ)) (image : List ℕ) (at : FilmAt A s old holds i image)
-    (x : EntryMade A s old.machine m ended holds image j) where
+    (x : EntryMade old.machine m ended holds j A s image) where
   follows : Follows A s x.units x.state
   follows = leads_follow A s x.state old.machine.kernel m.kernel image x.units j x.leads
 
@@ -155,20 +156,23 @@ CaughtUp mid new lines = (e : Entry) → last_entry mid.machine.kernel.journal �
 
 pub film_goes : (old new : Filming) (m : Standing) (ended : Bool) (lines : List Event) (holds : Option (List NamedFile)) (i j : Option (List ℕ))
     → old.over ≡ false → HaveFewMoves lines → CanGoOn m
-    → MakesEntry old.machine m old.mark lines old.lines old.counted ended holds i j → CaughtUp (record old { machine = m; over = ended }) new lines
+    → LeadsFrom (FullAt old.machine old.mark lines old.lines old.counted holds i) (EntryMade old.machine m ended holds j)
+    → CaughtUp (record old { machine = m; over = ended }) new lines
     → FilmGoes old new lines holds i j
 film_goes old new m ended lines holds i j on few ready f c A s image are at =
     let x = f A s image (film_full A s old lines holds i image are on at) in
     one_more A s old m ended holds i j image at x ready lines are few new (c (entry A s old m ended holds i j image at x).0 (last_made A s old m ended holds i j image at x))
 
 pub film_stops : (old : Filming) (new : Filming) (lines : List Event) (holds : Option (List NamedFile)) (i j : Option (List ℕ)) (stop : Stop) → old.over ≡ false
-    → StopsEntry old.machine new.machine old.mark lines old.lines old.counted holds i j stop → FilmStops old new lines holds i j stop
-film_stops old new lines holds i j stop on f A s image are at = f A s image (film_full A s old lines holds i image are on at)
+    → StopsElse (FullAt old.machine old.mark lines old.lines old.counted holds i) old.machine new.machine j stop
+    → StopsElse (FilmsAt old lines holds i) old.machine new.machine j stop
+film_stops old new lines holds i j stop on f = (f.0, λ A s image at. f.1 A s image (film_full A s old lines holds i image at.0 on at.1))
 
 -- the count fits
 pub film_fits : (old : Filming) (m : Standing) (ended : Bool) (lines : List Event) (holds : Option (List NamedFile)) (i j : Option (List ℕ)) → old.over ≡ false
     → IsFilming old lines holds i
-    → MakesEntry old.machine m old.mark lines old.lines old.counted ended holds i j → (e : Entry) → last_entry m.kernel.journal ≡ Some e
+    → LeadsFrom (FullAt old.machine old.mark lines old.lines old.counted holds i) (EntryMade old.machine m ended holds j) → (e : Entry)
+    → last_entry m.kernel.journal ≡ Some e
     → old.counted + counted e < 2 ^ 32
 film_fits old m ended lines holds i j on x f e is =
     let y = f x.inputs x.state x.image (film_full x.inputs x.state old lines holds i x.image x.are on x.at) in
@@ -178,25 +182,25 @@ film_fits old m ended lines holds i j on x f e is =
 
 -- no memory is found before a unit
 pub starved_film : (old : Filming) (lines : List Event) (holds : Option (List NamedFile)) (i : Option (List ℕ))
-    → FilmStops old old lines holds i i stops.NoMemory
-starved_film old lines holds i A s image are at = (
+    → StopsElse (FilmsAt old lines holds i) old.machine old.machine i stops.NoMemory
+starved_film old lines holds i = (
   (λ e. cc),
-  record {
+  λ A s image at. record {
     units = [];
     state = s;
     kernel = old.machine.kernel;
     behind = image;
     leads = none_leads A s old.machine.kernel image;
     journal = refl;
-    held = λ r. inl (ap (λ hs. record old.machine.kernel { holdings = hs }) at.ready.whole);
-    by = at.stands.told;
+    held = λ r. inl (ap (λ hs. record old.machine.kernel { holdings = hs }) at.1.ready.whole);
+    by = at.1.stands.told;
   },
 )
 
 -- it has the machine with the entry
 pub film_machine : (old new : Filming) (m : Standing) (ended : Bool) (lines : List Event) (holds : Option (List NamedFile)) (i j : Option (List ℕ))
     → old.over ≡ false → IsFilming old lines holds i
-    → MakesEntry old.machine m old.mark lines old.lines old.counted ended holds i j
+    → LeadsFrom (FullAt old.machine old.mark lines old.lines old.counted holds i) (EntryMade old.machine m ended holds j)
     → CaughtUp (record old { machine = m; over = ended }) new lines → new.machine ≡ m
 film_machine old new m ended lines holds i j on x f c =
     let y = f x.inputs x.state x.image (film_full x.inputs x.state old lines holds i x.image x.are on x.at) in

@@ -9,32 +9,32 @@ use Rattle.machine_state.specs.Machine.{Standing}
 use Rattle.run_model.specs.declared.mark.Mark.{Mark}
 use Rattle.run_model.specs.State.{State}
 use Rattle.run_model.specs.Next.{last_turned}
-use Rattle.run_start.specs.Stepped.{StepLeads}
+use Rattle.run_start.specs.Stepped.{StepLeads, AtSome, LeadsFrom, StopsFrom}
 use Rattle.proc_run.specs.Running.{CountsTo}
 use Rattle.film_core.specs.Films.{IsInOrder}
-use Rattle.film_core.specs.Ways.{WayAt, Settles, RestAt, IsUnder, Rests, StopsResting, StaysOn, OverAt, IsPast, PassesOver, StopsPassing, GoesAt, IsGoing, GetsOver, GoesOver, StopsGoing}
+use Rattle.film_core.specs.Ways.{WayAt, RestAt, StaysOn, OverAt, GoesAt, StepSettled, RestDone, RunsOut}
 use Rattle.film_core.proofs.Composing.{then_lead, then_stop, then_out, leads_reached, reached_below, stands_then, leads_longer}
 
 pub going_fits : (m : Standing) (last : Mark) (schedule : List Event) (taken counted : ℕ) (holds : Option (List NamedFile)) (i : Option (List ℕ))
-    → IsGoing m last schedule taken counted holds i → counted + 1 < 2 ^ 32
+    → AtSome (GoesAt m last schedule taken counted holds i) → counted + 1 < 2 ^ 32
 going_fits m last schedule taken counted holds i (A, s, image, at) =
     let few = at.stands.inputs.few in let below = reached_below A s at.reached in let same = at.stands.count in omega (arith, few, below, same)
 
 way_at : (A : Inputs) (s : State) (m : Standing) (last : Mark) (schedule : List Event) (taken counted : ℕ) (holds : Option (List NamedFile))
-    (i : Option (List ℕ)) (image : List ℕ) → GoesAt A s m last schedule taken counted holds i image
-    → WayAt A s m holds i image
+    (i : Option (List ℕ)) (image : List ℕ) → GoesAt m last schedule taken counted holds i A s image
+    → WayAt m holds i A s image
 way_at A s m last schedule taken counted holds i image at = record { machine = at.stands.machine; told = at.stands.told; reached = at.reached }
 
 module _ (old mid : Standing) (last : Mark) (schedule : List Event) (taken counted count : ℕ) (holds : Option (List NamedFile)) (i h : Option (List ℕ)) (to : CountsTo old mid counted count)
-    (f : Settles old mid counted count holds i h)
-    (A : Inputs) (s : State) (image : List ℕ) (at : GoesAt A s old last schedule taken counted holds i image) where
+    (f : LeadsFrom (WayAt old holds i) (StepSettled old mid counted count h))
+    (A : Inputs) (s : State) (image : List ℕ) (at : GoesAt old last schedule taken counted holds i A s image) where
   settled : (n : ℕ) × (count ≡ counted + n) × StepLeads A s old.kernel image n mid.kernel h
   settled = f A s image (way_at A s old last schedule taken counted holds i image at)
 
   led : StepLeads A s old.kernel image settled.0 mid.kernel h
   led = settled.2
 
-  rest_at : RestAt A led.state mid last count holds h led.leads.behind
+  rest_at : RestAt mid last count holds h A led.state led.leads.behind
   rest_at = record {
     stands = stands_then A s led.state old mid holds i h image led.units counted count at.reached at.stands led.leads to.params to.images
         (let c = led.count in let same = at.stands.count in let all = settled.1 in omega (arith, c, same, all));
@@ -46,14 +46,16 @@ module _ (old mid : Standing) (last : Mark) (schedule : List Event) (taken count
 
 pub going_under : (old mid : Standing) (last : Mark) (schedule : List Event) (taken counted count : ℕ) (holds : Option (List NamedFile)) (i h : Option (List ℕ))
     → CountsTo old mid counted count
-    → Settles old mid counted count holds i h → IsGoing old last schedule taken counted holds i → IsUnder mid last count holds h
+    → LeadsFrom (WayAt old holds i) (StepSettled old mid counted count h) → AtSome (GoesAt old last schedule taken counted holds i)
+    → AtSome (RestAt mid last count holds h)
 going_under old mid last schedule taken counted count holds i h to f (A, s, image, at) =
     let l = led old mid last schedule taken counted count holds i h to f A s image at in
     (A, l.state, l.leads.behind, rest_at old mid last schedule taken counted count holds i h to f A s image at)
 
 pub gets_over : (old mid new : Standing) (last : Mark) (schedule : List Event) (taken counted count more : ℕ) (holds : Option (List NamedFile))
     (i h j : Option (List ℕ)) → CountsTo old mid counted count
-    → Settles old mid counted count holds i h → Rests mid new last count more holds h j → GetsOver old new last schedule taken counted more holds i j
+    → LeadsFrom (WayAt old holds i) (StepSettled old mid counted count h) → LeadsFrom (RestAt mid last count holds h) (RestDone mid new last more j)
+    → LeadsFrom (GoesAt old last schedule taken counted holds i) (RestDone old new last more j)
 gets_over old mid new last schedule taken counted count more holds i h j to f r A s image at =
     let l = led old mid last schedule taken counted count holds i h to f A s image at in
     let d = r A l.state l.leads.behind (rest_at old mid last schedule taken counted count holds i h to f A s image at) in
@@ -69,7 +71,8 @@ gets_over old mid new last schedule taken counted count more holds i h j to f r 
 
 pub rest_stops_going : (old mid new : Standing) (last : Mark) (schedule : List Event) (taken counted count : ℕ) (holds : Option (List NamedFile))
     (i h j : Option (List ℕ)) (stop : Stop) → CountsTo old mid counted count
-    → Settles old mid counted count holds i h → StopsResting mid new last count holds h j stop → StopsGoing old new last schedule taken counted holds i j stop
+    → LeadsFrom (WayAt old holds i) (StepSettled old mid counted count h) → StopsFrom (RestAt mid last count holds h) mid new j stop
+    → StopsFrom (GoesAt old last schedule taken counted holds i) old new j stop
 rest_stops_going old mid new last schedule taken counted count holds i h j stop to f r A s image at =
     let l = led old mid last schedule taken counted count holds i h to f A s image at in
     then_stop A s l.state old.kernel mid.kernel image h j l.units stop new l.leads (r A l.state l.leads.behind (rest_at old mid last schedule taken counted count holds i h to f A s image at))
@@ -77,9 +80,9 @@ rest_stops_going old mid new last schedule taken counted count holds i h j stop 
 -- The whole way.
 
 module _ (old mid : Standing) (last : Mark) (schedule : List Event) (taken counted count turn : ℕ) (holds : Option (List NamedFile)) (i h : Option (List ℕ)) (on : StaysOn old mid count)
-    (f : GetsOver old mid last schedule taken counted count holds i h) (e : turn ≡ last_turned last) where
-  past_at : (A : Inputs) (s : State) (image : List ℕ) (at : GoesAt A s old last schedule taken counted holds i image) → let d =
-      f A s image at in OverAt A d.state mid schedule taken count turn holds h d.leads.behind
+    (f : LeadsFrom (GoesAt old last schedule taken counted holds i) (RestDone old mid last count h)) (e : turn ≡ last_turned last) where
+  past_at : (A : Inputs) (s : State) (image : List ℕ) (at : GoesAt old last schedule taken counted holds i A s image) → let d =
+      f A s image at in OverAt mid schedule taken count turn holds h A d.state d.leads.behind
   past_at A s image at =
       let d = f A s image at in
       record {
@@ -91,11 +94,11 @@ module _ (old mid : Standing) (last : Mark) (schedule : List Event) (taken count
         turned = d.turned ∙ sym e;
       }
 
-  pub going_past : IsGoing old last schedule taken counted holds i → IsPast mid schedule taken count turn holds h
+  pub going_past : AtSome (GoesAt old last schedule taken counted holds i) → AtSome (OverAt mid schedule taken count turn holds h)
   going_past (A, s, image, at) = let d = f A s image at in (A, d.state, d.leads.behind, past_at A s image at)
 
   -- an entry more has room at most
-  pub going_wide : IsGoing old last schedule taken counted holds i → old.params.journal ≤ length old.kernel.journal + 1 → mid.params.journal ≤ length mid.kernel.journal + 1
+  pub going_wide : AtSome (GoesAt old last schedule taken counted holds i) → old.params.journal ≤ length old.kernel.journal + 1 → mid.params.journal ≤ length mid.kernel.journal + 1
   going_wide (A, s, image, at) wide =
       let d = f A s image at in
       let o = past_at A s image at in
@@ -103,10 +106,12 @@ module _ (old mid : Standing) (last : Mark) (schedule : List Event) (taken count
       let same = ap (λ (p : Params). p.journal) on.params in
       omega (arith, long, same, wide)
 
-  pub goes_over : (new : Standing) (j : Option (List ℕ)) → PassesOver mid new schedule taken count turn holds h j → GoesOver old new last schedule taken counted holds i j
+  pub goes_over : (new : Standing) (j : Option (List ℕ)) → LeadsFrom (OverAt mid schedule taken count turn holds h) (RunsOut mid new j)
+      → LeadsFrom (GoesAt old last schedule taken counted holds i) (RunsOut old new j)
   goes_over new j p A s image at =
       let d = f A s image at in then_out A s d.state old mid new image h j d.units d.leads (p A d.state d.leads.behind (past_at A s image at))
 
-  pub stops_going : (new : Standing) (j : Option (List ℕ)) (stop : Stop) → StopsPassing mid new schedule taken count turn holds h j stop → StopsGoing old new last schedule taken counted holds i j stop
+  pub stops_going : (new : Standing) (j : Option (List ℕ)) (stop : Stop) → StopsFrom (OverAt mid schedule taken count turn holds h) mid new j stop
+      → StopsFrom (GoesAt old last schedule taken counted holds i) old new j stop
   stops_going new j stop p A s image at =
       let d = f A s image at in then_stop A s d.state old.kernel mid.kernel image h j d.units stop new d.leads (p A d.state d.leads.behind (past_at A s image at))

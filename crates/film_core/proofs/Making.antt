@@ -24,12 +24,13 @@ use Rattle.journal_laws.specs.Leads.{Leads}
 use Rattle.journal_laws.specs.Stops.{SpoilsBy}
 use Rattle.journal_laws.proofs.Journals.{leads_follow}
 use Rattle.run_start.specs.Sizes.{KeptAtStop}
-use Rattle.run_start.specs.Stepped.{StopsNext, StopLeads}
+use Rattle.run_start.specs.Stepped.{StopsNext, StopLeads, AtSome, LeadsFrom, StopsFrom}
 use Rattle.vm_core.specs.Cores.{StandsIn}
-use Rattle.film_core.specs.Entries.{IsFull, MakesEntry, StopsEntry}
-use Rattle.film_core.specs.Ways.{GoesAt, RunsOut, GoesOver, StopsGoing, EndsRunning}
+use Rattle.film_core.specs.Ways.{GoesAt, RunsOut, EndsRunning}
 use Rattle.film_core.proofs.Composing.{stands_then, leads_run}
 use Rattle.film_core.proofs.Longer.{Behind, goes_behind, behind_longer}
+use Rattle.film_core.specs.Entries.{FullAt, EntryMade}
+use Rattle.film_core.specs.Films.{StopsElse}
 
 -- The journal of a machine has room for one entry more.
 
@@ -54,8 +55,8 @@ wide_stands A s m holds i image counted st = record {
 
 wide_goes : (A : Inputs) (s : State) (old mid : Standing) (mark : Mark) (lines : List Event) (taken counted : ℕ) (holds : Option (List NamedFile))
     (i : Option (List ℕ)) (image : List ℕ) → mid ≡ widened old
-    → GoesAt A s old mark lines taken counted holds i image → GoesAt A s mid mark lines taken counted holds i image
-wide_goes A s old mid mark lines taken counted holds i image e at = subst (λ (m : Standing). GoesAt A s m mark lines taken counted holds i image) (sym e) (record {
+    → GoesAt old mark lines taken counted holds i A s image → GoesAt mid mark lines taken counted holds i A s image
+wide_goes A s old mid mark lines taken counted holds i image e at = subst (λ (m : Standing). GoesAt m mark lines taken counted holds i A s image) (sym e) (record {
   stands = wide_stands A s old holds i image counted at.stands;
   reached = at.reached;
   are = at.are;
@@ -94,10 +95,11 @@ module _ (old mid new : Standing) (mark : Mark) (lines : List Event) (taken coun
   room_is : (p : Params) → p ≡ mid.params → (length old.kernel.journal ≡ old.params.journal) → p.journal ≡ suc (length old.kernel.journal)
   room_is p e full = let a = ap (λ (x : Params). x.journal) e in let b = ap (λ (m : Standing). m.params.journal) wide in omega (arith, a, b, full)
 
-  pub over_made : GoesOver mid new mark lines taken counted holds i j → EndsRunning mid new → MakesEntry old new mark lines taken counted true holds i j
+  pub over_made : LeadsFrom (GoesAt mid mark lines taken counted holds i) (RunsOut mid new j) → EndsRunning mid new
+      → LeadsFrom (FullAt old mark lines taken counted holds i) (EntryMade old new true holds j)
   over_made f ends A s image full =
-      let goes : GoesAt A s mid mark lines taken counted holds i image = wide_goes A s old mid mark lines taken counted holds i image wide full.going in
-      let o : RunsOut A s mid new image j = f A s image goes in
+      let goes : GoesAt mid mark lines taken counted holds i A s image = wide_goes A s old mid mark lines taken counted holds i image wide full.going in
+      let o : RunsOut mid new j A s image = f A s image goes in
       let st : StandsIn A o.state new holds j o.leads.behind o.state.count =
       stands_then A s o.state mid new holds i j image o.units counted o.state.count goes.reached goes.stands o.leads ends.params ends.images refl in
       let journal : new.kernel.journal ≡ appended old.kernel.journal o.units =
@@ -119,10 +121,10 @@ module _ (old mid new : Standing) (mark : Mark) (lines : List Event) (taken coun
         over = (λ e. o.none, λ e. refl);
       }
 
-  pub full_made : StopsGoing mid new mark lines taken counted holds i j stops.JournalFull → KeptAtStop mid new stops.JournalFull
-      → MakesEntry old new mark lines taken counted false holds i j
+  pub full_made : StopsFrom (GoesAt mid mark lines taken counted holds i) mid new j stops.JournalFull → KeptAtStop mid new stops.JournalFull
+      → LeadsFrom (FullAt old mark lines taken counted holds i) (EntryMade old new false holds j)
   full_made f kept A s image full =
-      let goes : GoesAt A s mid mark lines taken counted holds i image = wide_goes A s old mid mark lines taken counted holds i image wide full.going in
+      let goes : GoesAt mid mark lines taken counted holds i A s image = wide_goes A s old mid mark lines taken counted holds i image wide full.going in
       let x : StopLeads A s mid.kernel image stops.JournalFull new j = f A s image goes in
       let n : StopsNext A x.state x.kernel x.behind stops.JournalFull new j = x.by in
       let still : new.kernel ≡ x.kernel = x.held.kernel in
@@ -146,7 +148,7 @@ module _ (old mid new : Standing) (mark : Mark) (lines : List Event) (taken coun
         over = (λ e. absurd (let z : false ≡ true = e in cc), λ e. absurd (let z : None ≡ Some n.entry = sym e ∙ n.next in cc));
       }
 
-  pub full_ready : StopsGoing mid new mark lines taken counted holds i j stops.JournalFull → IsFull old mark lines taken counted holds i → CanGoOn mid
+  pub full_ready : StopsFrom (GoesAt mid mark lines taken counted holds i) mid new j stops.JournalFull → AtSome (FullAt old mark lines taken counted holds i) → CanGoOn mid
       → (new.kernel.stopped ≡ false → IsRunning new) → CanGoOn new
   full_ready f (A, s, image, full) ready runs =
       let x : StopLeads A s mid.kernel image stops.JournalFull new j = f A s image (wide_goes A s old mid mark lines taken counted holds i image wide full.going) in
@@ -155,8 +157,10 @@ module _ (old mid new : Standing) (mark : Mark) (lines : List Event) (taken coun
         whole = x.held.whole;
       }
 
-  pub other_stops : (stop : Stop) → (stop ≡ stops.JournalFull → ⊥) → StopsGoing mid new mark lines taken counted holds i j stop → StopsEntry old new mark lines taken counted holds i j stop
-  other_stops stop other f A s image full = (
+  pub other_stops : (stop : Stop) → (stop ≡ stops.JournalFull → ⊥) → StopsFrom (GoesAt mid mark lines taken counted holds i) mid new j stop
+      → StopsElse (FullAt old mark lines taken counted holds i) old new j stop
+  other_stops stop other f = (
     other,
-    subst (λ (k : Kernel). StopLeads A s k image stop new j) same_kernel (f A s image (wide_goes A s old mid mark lines taken counted holds i image wide full.going)),
+    λ A s image full.
+        subst (λ (k : Kernel). StopLeads A s k image stop new j) same_kernel (f A s image (wide_goes A s old mid mark lines taken counted holds i image wide full.going)),
   )

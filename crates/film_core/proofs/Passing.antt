@@ -19,7 +19,7 @@ use Rattle.run_model.specs.Next.{or_else, when, due_unit, under, turn_of, line_o
 use Rattle.journal_laws.specs.Leads.{Leads}
 use Rattle.journal_laws.proofs.Journals.{leads_follow}
 use Rattle.run_start.specs.Sizes.{KeptAtStop}
-use Rattle.run_start.specs.Stepped.{StopLeads}
+use Rattle.run_start.specs.Stepped.{StopLeads, AtSome, LeadsFrom, StopsFrom}
 use Rattle.run_start.specs.Lines.{IsOver, LineBegun, TurnBegun, TurnDue, StopsNoting}
 use Rattle.run_start.proofs.StepUnitsBeginning.{line_begins, line_stops, turn_stops}
 use Rattle.run_start.proofs.Turning.{turn_begins}
@@ -31,7 +31,7 @@ use Rattle.vm_core.specs.Steady.{StaysSteady}
 use Rattle.vm_core.proofs.Going.{few_at}
 use Rattle.film_core.specs.Films.{IsInOrder}
 use Rattle.film_core.specs.Marks.{marked_by, marked_if}
-use Rattle.film_core.specs.Ways.{RestDone, Rests, MayNote, StaysOn, OverAt, IsPast, RunsOut, PassesOver, StopsPassing, RoundAt, IsRound, RoundsOff, StopsRound}
+use Rattle.film_core.specs.Ways.{RestDone, MayNote, StaysOn, OverAt, RunsOut, RoundAt, RestAt}
 use Rattle.film_core.proofs.Composing.{then_stop, then_out, here_leads, leads_reached, stands_then, leads_longer}
 use Rattle.film_core.proofs.Marking.{asked_order, few_lines, mark_follows}
 
@@ -71,7 +71,7 @@ idle_ends A t l e = go (nat_lt t.count A.limit) (nat_lt t.lines (length A.lines)
     go true false x = ap turn_of e
 
 module _ (A : Inputs) (s : State) (m : Standing) (schedule : List Event) (taken count last : ℕ) (holds : Option (List NamedFile)) (i : Option (List ℕ)) (image : List ℕ)
-    (at : OverAt A s m schedule taken count last holds i image) where
+    (at : OverAt m schedule taken count last holds i A s image) where
   turned : next_turned s.point.flat (last_turned s.mark) ≡ chosen_next m.kernel last
   turned = ap (next_turned s.point.flat) at.turned ∙ sym (turned_same m.kernel s.point.flat last at.stands.machine.at.stands.keeps.coupled.tables)
 
@@ -105,9 +105,9 @@ module _ (A : Inputs) (s : State) (m : Standing) (schedule : List Event) (taken 
 
 pub over_at : (A : Inputs) (s : State) (old new : Standing) (last : Mark) (schedule : List Event) (taken counted count turn : ℕ)
     (holds : Option (List NamedFile)) (i j : Option (List ℕ)) (image : List ℕ)
-    → (at : RoundAt A s old last schedule taken counted holds i image) → (d : RestDone A s old new last count image j) → StaysOn old new count
+    → (at : RoundAt old last schedule taken counted holds i A s image) → (d : RestDone old new last count j A s image) → StaysOn old new count
     → turn ≡ last_turned last
-    → OverAt A d.state new schedule taken count turn holds j d.leads.behind
+    → OverAt new schedule taken count turn holds j A d.state d.leads.behind
 over_at A s old new last schedule taken counted count turn holds i j image at d on e = record {
   stands = stands_then A s d.state old new holds i j image d.units counted count at.rest.reached at.rest.stands d.leads on.params on.images d.counts;
   reached = leads_reached A s d.state old.kernel new.kernel image d.units j at.rest.reached d.leads;
@@ -118,9 +118,9 @@ over_at A s old new last schedule taken counted count turn holds i j image at d 
 }
 
 pub over_rounds : (old new : Standing) (last : Mark) (schedule : List Event) (taken counted count turn : ℕ) (holds : Option (List NamedFile))
-    (i j : Option (List ℕ)) → Rests old new last counted count holds i j
+    (i j : Option (List ℕ)) → LeadsFrom (RestAt old last counted holds i) (RestDone old new last count j)
     → StaysOn old new count → turn ≡ last_turned last → (new.params.limit ≤ count) ⊎ ((slice_get schedule taken ≡ None) × (chosen_next new.kernel turn ≡ None))
-    → RoundsOff old new last schedule taken counted holds i j
+    → LeadsFrom (RoundAt old last schedule taken counted holds i) (RunsOut old new j)
 over_rounds old new last schedule taken counted count turn holds i j f on e why A s image at =
     let d = f A s image at.rest in
     record {
@@ -147,7 +147,7 @@ ComesNext m schedule taken count turn =
     ⊎ ((pid : ℕ) × (count < m.params.limit) × (slice_get schedule taken ≡ None) × (chosen_next m.kernel turn ≡ Some pid))
 
 module _ (A : Inputs) (s : State) (m : Standing) (schedule : List Event) (taken count last : ℕ) (holds : Option (List NamedFile)) (i : Option (List ℕ)) (image : List ℕ)
-    (at : OverAt A s m schedule taken count last holds i image) where
+    (at : OverAt m schedule taken count last holds i A s image) where
   pub stop_line : (new : Standing) (e : Event) (stop : Stop) → count < m.params.limit → slice_get schedule taken ≡ Some e → StopsNoting m new stop → StopLeads A s m.kernel image stop new i
   stop_line new e stop l x n =
       subst (λ (o : Option (List ℕ)). StopLeads A s m.kernel image stop new o) (sym at.stands.told)
@@ -174,23 +174,23 @@ same_room : (old new : Standing) → new.params ≡ old.params → (n : ℕ) →
 same_room old new e n l = subst (λ (p : Params). p.journal ≤ n) (sym e) l
 
 module _ (old new : Standing) (last : Mark) (schedule : List Event) (taken counted count turn : ℕ) (holds : Option (List NamedFile)) (i j : Option (List ℕ))
-    (f : Rests old new last counted count holds i j)
+    (f : LeadsFrom (RestAt old last counted holds i) (RestDone old new last count j))
     (on : StaysOn old new count) (e : turn ≡ last_turned last) (full : old.params.journal ≤ length old.kernel.journal) where
-  round_full : (A : Inputs) (s : State) (image : List ℕ) → RoundAt A s old last schedule taken counted holds i image → new.params.journal ≤ length new.kernel.journal
+  round_full : (A : Inputs) (s : State) (image : List ℕ) → RoundAt old last schedule taken counted holds i A s image → new.params.journal ≤ length new.kernel.journal
   round_full A s image at =
       let d = f A s image at.rest in
       let o = over_at A s old new last schedule taken counted count turn holds i j image at d on e in
       same_room old new on.params (length new.kernel.journal)
       (grown_full A s d.state old new holds i j image d.leads.behind d.units counted count old.params.journal at.rest.stands o.stands d.leads full)
 
-  pub full_round : ComesNext new schedule taken count turn → StopsRound old new last schedule taken counted holds i j stops.JournalFull
+  pub full_round : ComesNext new schedule taken count turn → StopsFrom (RoundAt old last schedule taken counted holds i) old new j stops.JournalFull
   full_round next A s image at =
       let d = f A s image at.rest in
       let o = over_at A s old new last schedule taken counted count turn holds i j image at d on e in
       then_stop A s d.state old.kernel new.kernel image j j d.units stops.JournalFull new d.leads
       (stop_full A d.state new schedule taken count turn holds j d.leads.behind o on.may (round_full A s image at) next)
 
-  pub full_kept : IsRound old last schedule taken counted holds i → KeptAtStop old new stops.JournalFull
+  pub full_kept : AtSome (RoundAt old last schedule taken counted holds i) → KeptAtStop old new stops.JournalFull
   full_kept (A, s, image, at) = record { sizes = record { params = on.params; images = on.images }; full = λ x. round_full A s image at }
 
 -- The next line, or a turn, begins.
@@ -200,11 +200,11 @@ pub record NextBegun (A : Inputs) (s : State) (old new : Standing) (mark : Mark)
   pub units : List Entry
   pub state : State
   pub leads : Leads A s old.kernel image units state new.kernel i
-  pub at : RoundAt A state new mark schedule taken counted holds i leads.behind
+  pub at : RoundAt new mark schedule taken counted holds i A state leads.behind
 
 pub line_begun : (A : Inputs) (s : State) (old new : Standing) (mark : Mark) (schedule : List Event) (taken counted turn : ℕ) (holds : Option (List NamedFile))
     (i : Option (List ℕ)) (image : List ℕ) (e : Event)
-    → OverAt A s old schedule taken counted turn holds i image → counted < old.params.limit → slice_get schedule taken ≡ Some e → HaveFewMoves schedule
+    → OverAt old schedule taken counted turn holds i A s image → counted < old.params.limit → slice_get schedule taken ≡ Some e → HaveFewMoves schedule
     → StaysSteady old new 0 → new.kernel ≡ note_step old.kernel (entries.Event (taken + 1))
     → mark ≡ marked_by new.kernel counted e → NextBegun A s old new mark schedule (taken + 1) counted holds i image
 line_begun A s old new mark schedule taken counted turn holds i image e at l x few n k m =
@@ -237,7 +237,7 @@ line_begun A s old new mark schedule taken counted turn holds i image e at l x f
 
 pub turn_begun : (A : Inputs) (s : State) (old new : Standing) (schedule : List Event) (taken counted turn : ℕ) (holds : Option (List NamedFile))
     (i : Option (List ℕ)) (image : List ℕ) (pid : ℕ)
-    → OverAt A s old schedule taken counted turn holds i image → counted < old.params.limit → slice_get schedule taken ≡ None
+    → OverAt old schedule taken counted turn holds i A s image → counted < old.params.limit → slice_get schedule taken ≡ None
     → chosen_next old.kernel turn ≡ Some pid
     → StaysSteady old new 0 → new.kernel ≡ note_step old.kernel (entries.Turn pid)
     → NextBegun A s old new (marks.Turn pid counted) schedule taken counted holds i image
@@ -267,14 +267,14 @@ turn_begun A s old new schedule taken counted turn holds i image pid at l x y n 
 -- what is led to from there is led to from before
 begun_over : (A : Inputs) (s : State) (old mid new : Standing) (mark : Mark) (schedule : List Event) (taken counted : ℕ) (holds : Option (List NamedFile))
     (i j : Option (List ℕ)) (image : List ℕ)
-    → (b : NextBegun A s old mid mark schedule taken counted holds i image) → RoundsOff mid new mark schedule taken counted holds i j
-    → RunsOut A s old new image j
+    → (b : NextBegun A s old mid mark schedule taken counted holds i image) → LeadsFrom (RoundAt mid mark schedule taken counted holds i) (RunsOut mid new j)
+    → RunsOut old new j A s image
 begun_over A s old mid new mark schedule taken counted holds i j image b f =
     then_out A s b.state old mid new image i j b.units b.leads (f A b.state b.leads.behind b.at)
 
 begun_stops : (A : Inputs) (s : State) (old mid new : Standing) (mark : Mark) (schedule : List Event) (taken counted : ℕ) (holds : Option (List NamedFile))
     (i j : Option (List ℕ)) (image : List ℕ) (stop : Stop)
-    → (b : NextBegun A s old mid mark schedule taken counted holds i image) → StopsRound mid new mark schedule taken counted holds i j stop
+    → (b : NextBegun A s old mid mark schedule taken counted holds i image) → StopsFrom (RoundAt mid mark schedule taken counted holds i) mid new j stop
     → StopLeads A s old.kernel image stop new j
 begun_stops A s old mid new mark schedule taken counted holds i j image stop b f =
     then_stop A s b.state old.kernel mid.kernel image i j b.units stop new b.leads (f A b.state b.leads.behind b.at)
@@ -284,16 +284,16 @@ begun_stops A s old mid new mark schedule taken counted holds i j image stop b f
 module _ (old mid new : Standing) (mark : Mark) (schedule : List Event) (taken counted turn : ℕ) (holds : Option (List NamedFile)) (i j : Option (List ℕ)) (e : Event)
     (l : counted < old.params.limit) (x : slice_get schedule taken ≡ Some e) (few : HaveFewMoves schedule) (n : StaysSteady old mid 0)
     (k : mid.kernel ≡ note_step old.kernel (entries.Event (taken + 1))) (m : mark ≡ marked_by mid.kernel counted e) where
-  line_there : (A : Inputs) (s : State) (image : List ℕ) → OverAt A s old schedule taken counted turn holds i image → NextBegun A s old mid mark schedule (taken + 1) counted holds i image
+  line_there : (A : Inputs) (s : State) (image : List ℕ) → OverAt old schedule taken counted turn holds i A s image → NextBegun A s old mid mark schedule (taken + 1) counted holds i image
   line_there A s image at = line_begun A s old mid mark schedule taken counted turn holds i image e at l x few n k m
 
-  pub line_round : IsPast old schedule taken counted turn holds i → IsRound mid mark schedule (taken + 1) counted holds i
+  pub line_round : AtSome (OverAt old schedule taken counted turn holds i) → AtSome (RoundAt mid mark schedule (taken + 1) counted holds i)
   line_round (A, s, image, at) = let b = line_there A s image at in (A, b.state, b.leads.behind, b.at)
 
-  pub line_passes : RoundsOff mid new mark schedule (taken + 1) counted holds i j → PassesOver old new schedule taken counted turn holds i j
+  pub line_passes : LeadsFrom (RoundAt mid mark schedule (taken + 1) counted holds i) (RunsOut mid new j) → LeadsFrom (OverAt old schedule taken counted turn holds i) (RunsOut old new j)
   line_passes f A s image at = begun_over A s old mid new mark schedule (taken + 1) counted holds i j image (line_there A s image at) f
 
-  pub line_stops_passing : (stop : Stop) → StopsRound mid new mark schedule (taken + 1) counted holds i j stop → StopsPassing old new schedule taken counted turn holds i j stop
+  pub line_stops_passing : (stop : Stop) → StopsFrom (RoundAt mid mark schedule (taken + 1) counted holds i) mid new j stop → StopsFrom (OverAt old schedule taken counted turn holds i) old new j stop
   line_stops_passing stop f A s image at = begun_stops A s old mid new mark schedule (taken + 1) counted holds i j image stop (line_there A s image at) f
 
 -- A turn.
@@ -301,33 +301,34 @@ module _ (old mid new : Standing) (mark : Mark) (schedule : List Event) (taken c
 module _ (old mid new : Standing) (schedule : List Event) (taken counted turn : ℕ) (holds : Option (List NamedFile)) (i j : Option (List ℕ)) (pid : ℕ)
     (l : counted < old.params.limit) (x : slice_get schedule taken ≡ None) (y : chosen_next old.kernel turn ≡ Some pid) (n : StaysSteady old mid 0)
     (k : mid.kernel ≡ note_step old.kernel (entries.Turn pid)) where
-  turn_there : (A : Inputs) (s : State) (image : List ℕ) → OverAt A s old schedule taken counted turn holds i image
+  turn_there : (A : Inputs) (s : State) (image : List ℕ) → OverAt old schedule taken counted turn holds i A s image
       → NextBegun A s old mid (marks.Turn pid counted) schedule taken counted holds i image
   turn_there A s image at = turn_begun A s old mid schedule taken counted turn holds i image pid at l x y n k
 
-  pub turn_round : IsPast old schedule taken counted turn holds i → IsRound mid (marks.Turn pid counted) schedule taken counted holds i
+  pub turn_round : AtSome (OverAt old schedule taken counted turn holds i) → AtSome (RoundAt mid (marks.Turn pid counted) schedule taken counted holds i)
   turn_round (A, s, image, at) = let b = turn_there A s image at in (A, b.state, b.leads.behind, b.at)
 
-  pub turn_passes : RoundsOff mid new (marks.Turn pid counted) schedule taken counted holds i j → PassesOver old new schedule taken counted turn holds i j
+  pub turn_passes : LeadsFrom (RoundAt mid (marks.Turn pid counted) schedule taken counted holds i) (RunsOut mid new j) → LeadsFrom (OverAt old schedule taken counted turn holds i) (RunsOut old new j)
   turn_passes f A s image at = begun_over A s old mid new (marks.Turn pid counted) schedule taken counted holds i j image (turn_there A s image at) f
 
-  pub turn_stops_passing : (stop : Stop) → StopsRound mid new (marks.Turn pid counted) schedule taken counted holds i j stop → StopsPassing old new schedule taken counted turn holds i j stop
+  pub turn_stops_passing : (stop : Stop) → StopsFrom (RoundAt mid (marks.Turn pid counted) schedule taken counted holds i) mid new j stop
+      → StopsFrom (OverAt old schedule taken counted turn holds i) old new j stop
   turn_stops_passing stop f A s image at = begun_stops A s old mid new (marks.Turn pid counted) schedule taken counted holds i j image stop (turn_there A s image at) f
 
 pub line_noting : (old new : Standing) (schedule : List Event) (taken counted turn : ℕ) (holds : Option (List NamedFile)) (i : Option (List ℕ)) (e : Event)
     (stop : Stop) → counted < old.params.limit
-    → slice_get schedule taken ≡ Some e → StopsNoting old new stop → StopsPassing old new schedule taken counted turn holds i i stop
+    → slice_get schedule taken ≡ Some e → StopsNoting old new stop → StopsFrom (OverAt old schedule taken counted turn holds i) old new i stop
 line_noting old new schedule taken counted turn holds i e stop l x n A s image at = stop_line A s old schedule taken counted turn holds i image at new e stop l x n
 
 pub turn_noting : (old new : Standing) (schedule : List Event) (taken counted turn : ℕ) (holds : Option (List NamedFile)) (i : Option (List ℕ)) (pid : ℕ)
     (stop : Stop) → counted < old.params.limit
     → slice_get schedule taken ≡ None → chosen_next old.kernel turn ≡ Some pid → StopsNoting old new stop
-    → StopsPassing old new schedule taken counted turn holds i i stop
+    → StopsFrom (OverAt old schedule taken counted turn holds i) old new i stop
 turn_noting old new schedule taken counted turn holds i pid stop l x y n A s image at = stop_turn A s old schedule taken counted turn holds i image at new pid stop l x y n
 
 pub none_passes : (m : Standing) (schedule : List Event) (taken counted turn : ℕ) (holds : Option (List NamedFile)) (i : Option (List ℕ))
     → (m.params.limit ≤ counted) ⊎ ((slice_get schedule taken ≡ None) × (chosen_next m.kernel turn ≡ None))
-    → PassesOver m m schedule taken counted turn holds i i
+    → LeadsFrom (OverAt m schedule taken counted turn holds i) (RunsOut m m i)
 none_passes m schedule taken counted turn holds i why A s image at = record {
   units = [];
   state = s;

@@ -20,7 +20,7 @@ use Rattle.journal_laws.specs.Leads.{Leads}
 use Rattle.journal_laws.specs.Moved.{Moved, StopsMoving}
 use Rattle.journal_laws.specs.Stops.{StopsAt}
 use Rattle.run_units.proofs.Swapping.{line_asks}
-use Rattle.run_start.specs.Stepped.{StopLeads}
+use Rattle.run_start.specs.Stepped.{StopLeads, LeadsFrom, StopsFrom}
 use Rattle.run_start.specs.Lines.{LineLeads}
 use Rattle.run_start.proofs.Lines.{moves_continue}
 use Rattle.swapper.specs.Putting.{HoldsThere, PutOut, StopsPutting}
@@ -30,12 +30,12 @@ use Rattle.step_units.proofs.PuttingOut.{in_comes, out_comes, out_stops}
 use Rattle.step_units.proofs.Stopping.{stops_here}
 use Rattle.proc_run.specs.Choosing.{steps_by}
 use Rattle.proc_run.specs.Runs.{IsSteady}
-use Rattle.proc_run.specs.Running.{UnderMark, Runs, StopsRunning, CountsTo}
+use Rattle.proc_run.specs.Running.{UnderMark, CountsTo, RunLeads}
 use Rattle.proc_run.proofs.Marks.{steps_same, goes_true, goes_false, idle}
-use Rattle.vm_core.specs.Closing.{TurnAt, ComesIn, StopsComingIn, FinishesTurn, StopsFinishing}
-use Rattle.vm_core.specs.Lines.{LineAt, MakesLine, StopsLine}
+use Rattle.vm_core.specs.Closing.{TurnAt, ResidentTurn, InTurn, TurnDone}
+use Rattle.vm_core.specs.Lines.{LineAt}
 use Rattle.vm_core.specs.Steady.{StaysSteady}
-use Rattle.film_core.specs.Ways.{RestAt, RestDone, Rests, StopsResting, MayNote, StaysOn}
+use Rattle.film_core.specs.Ways.{RestAt, RestDone, MayNote, StaysOn}
 use Rattle.film_core.proofs.Composing.{then_lead, then_stop, here_leads}
 
 -- What stays of the machine.
@@ -57,8 +57,8 @@ steady_stays old new counted is s = record {
 -- A mark that is over.
 
 over_rest : (A : Inputs) (s : State) (m : Standing) (mark : Mark) (counted : ℕ) (holds : Option (List NamedFile)) (i : Option (List ℕ)) (image : List ℕ)
-    → RestAt A s m mark counted holds i image
-    → under A s mark ≡ None → RestDone A s m m mark counted image i
+    → RestAt m mark counted holds i A s image
+    → under A s mark ≡ None → RestDone m m mark counted i A s image
 over_rest A s m mark counted holds i image at over = record {
   units = [];
   state = s;
@@ -69,14 +69,15 @@ over_rest A s m mark counted holds i image at over = record {
   turned = ap last_turned at.mark;
 }
 
-pub over_rests : (m : Standing) (counted : ℕ) (holds : Option (List NamedFile)) (i : Option (List ℕ)) → Rests m m marks.Over counted counted holds i i
+pub over_rests : (m : Standing) (counted : ℕ) (holds : Option (List NamedFile)) (i : Option (List ℕ))
+    → LeadsFrom (RestAt m marks.Over counted holds i) (RestDone m m marks.Over counted i)
 over_rests m counted holds i A s image at = over_rest A s m marks.Over counted holds i image at refl
 
 -- A line whose last unit was made.
 
 line_rest : (A : Inputs) (s : State) (old new : Standing) (mark : Mark) (counted : ℕ) (holds : Option (List NamedFile)) (i j : Option (List ℕ)) (image : List ℕ)
-    → RestAt A s old mark counted holds i image
-    → last_turned mark ≡ 0 → LineLeads A s old.kernel image new.kernel j → RestDone A s old new mark counted image j
+    → RestAt old mark counted holds i A s image
+    → last_turned mark ≡ 0 → LineLeads A s old.kernel image new.kernel j → RestDone old new mark counted j A s image
 line_rest A s old new mark counted holds i j image at none l = record {
   units = l.units;
   state = l.state;
@@ -91,7 +92,7 @@ line_rest A s old new mark counted holds i j image at none l = record {
 
 dispatched : (A : Inputs) (s : State) (m : Standing) (pid more since counted until : ℕ) (holds : Option (List NamedFile)) (i : Option (List ℕ)) (image : List ℕ)
     → until ≡ min (since + more) m.params.limit
-    → RestAt A s m (marks.Dispatch pid more since) counted holds i image → UnderMark A s m holds i image pid false counted until
+    → RestAt m (marks.Dispatch pid more since) counted holds i A s image → UnderMark m holds i pid false counted until A s image
 dispatched A s m pid more since counted until holds i image u at = record {
   machine = at.stands.machine;
   named = at.stands.inputs.named;
@@ -103,7 +104,8 @@ dispatched A s m pid more since counted until holds i image u at = record {
 
 pub dispatch_rests : (old new : Standing) (pid more since counted until count : ℕ) (holds : Option (List NamedFile)) (i j : Option (List ℕ))
     → until ≡ min (since + more) old.params.limit
-    → Runs old new pid false counted until holds i j count → Rests old new (marks.Dispatch pid more since) counted count holds i j
+    → LeadsFrom (UnderMark old holds i pid false counted until) (RunLeads old.kernel pid false new.kernel j count)
+    → LeadsFrom (RestAt old (marks.Dispatch pid more since) counted holds i) (RestDone old new (marks.Dispatch pid more since) count j)
 dispatch_rests old new pid more since counted until count holds i j u f A s image at =
     let l = f A s image (dispatched A s old pid more since counted until holds i image u at) in
     record {
@@ -118,7 +120,8 @@ dispatch_rests old new pid more since counted until count holds i j u f A s imag
 
 pub dispatch_stops : (old new : Standing) (pid more since counted until : ℕ) (holds : Option (List NamedFile)) (i j : Option (List ℕ)) (stop : Stop)
     → until ≡ min (since + more) old.params.limit
-    → StopsRunning old new pid false counted until holds i j stop → StopsResting old new (marks.Dispatch pid more since) counted holds i j stop
+    → StopsFrom (UnderMark old holds i pid false counted until) old new j stop
+    → StopsFrom (RestAt old (marks.Dispatch pid more since) counted holds i) old new j stop
 dispatch_stops old new pid more since counted until holds i j stop u f A s image at = f A s image (dispatched A s old pid more since counted until holds i image u at)
 
 -- Turns.
@@ -129,7 +132,8 @@ turn_idle A s pid since e = ap (λ (b : Bool). when b (turn_unit A s pid)) e
 
 pub turn_spent : (m : Standing) (pid since counted until : ℕ) (holds : Option (List NamedFile)) (i : Option (List ℕ))
     → until ≡ min (since + turn_instructions) m.params.limit
-    → (until ≤ counted) ⊎ (steps_by (proc_of m.kernel pid) ≡ false) → Rests m m (marks.Turn pid since) counted counted holds i i
+    → (until ≤ counted) ⊎ (steps_by (proc_of m.kernel pid) ≡ false)
+    → LeadsFrom (RestAt m (marks.Turn pid since) counted holds i) (RestDone m m (marks.Turn pid since) counted i)
 turn_spent m pid since counted until holds i u why A s image at =
     over_rest A s m (marks.Turn pid since) counted holds i image at (turn_idle A s pid since (elim why [
       | inl l ↦ goes_false A s pid (since + turn_instructions) until (u ∙ ap (min (since + turn_instructions)) (sym at.stands.inputs.limit)) (let same = at.stands.count in omega (arith, l, same))
@@ -138,8 +142,8 @@ turn_spent m pid since counted until holds i u why A s image at =
 
 turn_at : (A : Inputs) (s : State) (m : Standing) (pid since counted until : ℕ) (holds : Option (List NamedFile)) (i : Option (List ℕ)) (image : List ℕ)
     → until ≡ min (since + turn_instructions) m.params.limit → counted < until → steps_by (proc_of m.kernel pid) ≡ true
-    → RestAt A s m (marks.Turn pid since) counted holds i image
-    → TurnAt A s m holds i image counted since pid
+    → RestAt m (marks.Turn pid since) counted holds i A s image
+    → TurnAt m holds i counted since pid A s image
 turn_at A s m pid since counted until holds i image u l e at = record {
   stands = at.stands;
   clear = at.clear;
@@ -151,13 +155,13 @@ turn_at A s m pid since counted until holds i image u l e at = record {
 
 pub turn_rests : (old mid new : Standing) (pid since counted until count : ℕ) (holds : Option (List NamedFile)) (i h j : Option (List ℕ))
     → until ≡ min (since + turn_instructions) old.params.limit
-    → counted < until → steps_by (proc_of old.kernel pid) ≡ true → ComesIn old mid pid counted since holds i h
-    → FinishesTurn mid new pid counted since count holds h j
-    → Rests old new (marks.Turn pid since) counted count holds i j
+    → counted < until → steps_by (proc_of old.kernel pid) ≡ true → LeadsFrom (TurnAt old holds i counted since pid) (InTurn old mid holds h counted since pid)
+    → LeadsFrom (ResidentTurn mid holds h counted since pid) (TurnDone mid new j pid count)
+    → LeadsFrom (RestAt old (marks.Turn pid since) counted holds i) (RestDone old new (marks.Turn pid since) count j)
 turn_rests old mid new pid since counted until count holds i h j u l e comes finishes A s image at =
     let c = comes A s image (turn_at A s old pid since counted until holds i image u l e at) in
     let same : c.behind ≡ c.leads.behind = same_Some c.behind c.leads.behind (sym c.at.stands.told ∙ c.leads.told) in
-    let d = finishes A c.state c.behind c.at c.resident in
+    let d = finishes A c.state c.behind (c.at, c.resident) in
     record {
       units = c.units ++ d.units;
       state = d.state;
@@ -171,26 +175,26 @@ turn_rests old mid new pid since counted until count holds i h j u l e comes fin
 
 pub turn_coming_stops : (old new : Standing) (pid since counted until : ℕ) (holds : Option (List NamedFile)) (i j : Option (List ℕ)) (stop : Stop)
     → until ≡ min (since + turn_instructions) old.params.limit
-    → counted < until → steps_by (proc_of old.kernel pid) ≡ true → StopsComingIn old new pid counted since holds i j stop
-    → StopsResting old new (marks.Turn pid since) counted holds i j stop
+    → counted < until → steps_by (proc_of old.kernel pid) ≡ true → StopsFrom (TurnAt old holds i counted since pid) old new j stop
+    → StopsFrom (RestAt old (marks.Turn pid since) counted holds i) old new j stop
 turn_coming_stops old new pid since counted until holds i j stop u l e f A s image at = f A s image (turn_at A s old pid since counted until holds i image u l e at)
 
 pub turn_stops : (old mid new : Standing) (pid since counted until : ℕ) (holds : Option (List NamedFile)) (i h j : Option (List ℕ)) (stop : Stop)
     → until ≡ min (since + turn_instructions) old.params.limit
-    → counted < until → steps_by (proc_of old.kernel pid) ≡ true → ComesIn old mid pid counted since holds i h
-    → StopsFinishing mid new pid counted since holds h j stop
-    → StopsResting old new (marks.Turn pid since) counted holds i j stop
+    → counted < until → steps_by (proc_of old.kernel pid) ≡ true → LeadsFrom (TurnAt old holds i counted since pid) (InTurn old mid holds h counted since pid)
+    → StopsFrom (ResidentTurn mid holds h counted since pid) mid new j stop
+    → StopsFrom (RestAt old (marks.Turn pid since) counted holds i) old new j stop
 turn_stops old mid new pid since counted until holds i h j stop u l e comes f A s image at =
     let c = comes A s image (turn_at A s old pid since counted until holds i image u l e at) in
     let same : c.behind ≡ c.leads.behind = same_Some c.behind c.leads.behind (sym c.at.stands.told ∙ c.leads.told) in
     then_stop A s c.state old.kernel mid.kernel image h j c.units stop new c.leads
-    (subst (λ (y : List ℕ). StopLeads A c.state mid.kernel y stop new j) same (f A c.state c.behind c.at c.resident))
+    (subst (λ (y : List ℕ). StopLeads A c.state mid.kernel y stop new j) same (f A c.state c.behind (c.at, c.resident)))
 
 -- The end of a transfer.
 
 waiting : (A : Inputs) (s : State) (m : Standing) (counted : ℕ) (holds : Option (List NamedFile)) (i : Option (List ℕ)) (image : List ℕ)
-    → RestAt A s m marks.Interrupt counted holds i image
-    → LineAt A s m holds i image events.Interrupt
+    → RestAt m marks.Interrupt counted holds i A s image
+    → LineAt m holds i events.Interrupt A s image
 waiting A s m counted holds i image at = record {
   machine = at.stands.machine;
   told = at.stands.told;
@@ -199,21 +203,22 @@ waiting A s m counted holds i image at = record {
   fit = at.stands.longwords.fit;
 }
 
-pub wait_rests : (old new : Standing) (counted : ℕ) (holds : Option (List NamedFile)) (i j : Option (List ℕ)) → MakesLine events.Interrupt old new holds i j
-    → Rests old new marks.Interrupt counted counted holds i j
+pub wait_rests : (old new : Standing) (counted : ℕ) (holds : Option (List NamedFile)) (i j : Option (List ℕ))
+    → LeadsFrom (LineAt old holds i events.Interrupt) (λ A s image. LineLeads A s old.kernel image new.kernel j)
+    → LeadsFrom (RestAt old marks.Interrupt counted holds i) (RestDone old new marks.Interrupt counted j)
 wait_rests old new counted holds i j f A s image at =
     line_rest A s old new marks.Interrupt counted holds i j image at refl (f A s image (waiting A s old counted holds i image at))
 
 pub wait_stops : (old new : Standing) (counted : ℕ) (holds : Option (List NamedFile)) (i j : Option (List ℕ)) (stop : Stop)
-    → StopsLine events.Interrupt old new holds i j stop
-    → StopsResting old new marks.Interrupt counted holds i j stop
+    → StopsFrom (LineAt old holds i events.Interrupt) old new j stop
+    → StopsFrom (RestAt old marks.Interrupt counted holds i) old new j stop
 wait_stops old new counted holds i j stop f A s image at = f A s image (waiting A s old counted holds i image at)
 
 -- Numbers that are noted.
 
 auditing : (A : Inputs) (s : State) (m : Standing) (counted : ℕ) (holds : Option (List NamedFile)) (i : Option (List ℕ)) (image : List ℕ)
-    → RestAt A s m marks.Audit counted holds i image
-    → LineAt A s m holds i image events.Audit
+    → RestAt m marks.Audit counted holds i A s image
+    → LineAt m holds i events.Audit A s image
 auditing A s m counted holds i image at = record {
   machine = at.stands.machine;
   told = at.stands.told;
@@ -222,27 +227,28 @@ auditing A s m counted holds i image at = record {
   fit = at.stands.longwords.fit;
 }
 
-pub audit_rests : (old new : Standing) (counted : ℕ) (holds : Option (List NamedFile)) (i j : Option (List ℕ)) → MakesLine events.Audit old new holds i j
-    → Rests old new marks.Audit counted counted holds i j
+pub audit_rests : (old new : Standing) (counted : ℕ) (holds : Option (List NamedFile)) (i j : Option (List ℕ))
+    → LeadsFrom (LineAt old holds i events.Audit) (λ A s image. LineLeads A s old.kernel image new.kernel j)
+    → LeadsFrom (RestAt old marks.Audit counted holds i) (RestDone old new marks.Audit counted j)
 audit_rests old new counted holds i j f A s image at =
     line_rest A s old new marks.Audit counted holds i j image at refl (f A s image (auditing A s old counted holds i image at))
 
 pub audit_stops : (old new : Standing) (counted : ℕ) (holds : Option (List NamedFile)) (i j : Option (List ℕ)) (stop : Stop)
-    → StopsLine events.Audit old new holds i j stop
-    → StopsResting old new marks.Audit counted holds i j stop
+    → StopsFrom (LineAt old holds i events.Audit) old new j stop
+    → StopsFrom (RestAt old marks.Audit counted holds i) old new j stop
 audit_stops old new counted holds i j stop f A s image at = f A s image (auditing A s old counted holds i image at)
 
 -- Moves of the hands.
 
 pub hands_rest : (old new : Standing) (left made counted : ℕ) (holds : Option (List NamedFile)) (i j : Option (List ℕ)) → Moved left old new made holds i j
-    → Rests old new (marks.Hands left) counted counted holds i j
+    → LeadsFrom (RestAt old (marks.Hands left) counted holds i) (RestDone old new (marks.Hands left) counted j)
 hands_rest old new left made counted holds i j m A s image at =
     line_rest A s old new (marks.Hands left) counted holds i j image at refl
     (hands_made A s old new holds image j left made at.stands.machine at.clear at.mark (subst (λ (o : Option (List ℕ)). Moved left old new made holds o j) at.stands.told m))
 
 pub hands_stops : (old new : Standing) (left counted : ℕ) (holds : Option (List NamedFile)) (i j : Option (List ℕ)) (stop : Stop)
     → StopsMoving left old stop new holds i j
-    → StopsResting old new (marks.Hands left) counted holds i j stop
+    → StopsFrom (RestAt old (marks.Hands left) counted holds i) old new j stop
 hands_stops old new left counted holds i j stop x A s image at =
     hands_stop A s old new holds image j left stop at.stands.machine at.clear at.mark (subst (λ (o : Option (List ℕ)). StopsMoving left old stop new holds o j) at.stands.told x)
 
@@ -264,28 +270,28 @@ hands_stay old new left made counted holds i j s is m ready =
 
 -- the line asked for few
 pub hands_fit : (A : Inputs) (s : State) (m : Standing) (left counted : ℕ) (holds : Option (List NamedFile)) (i : Option (List ℕ)) (image : List ℕ)
-    → RestAt A s m (marks.Hands left) counted holds i image
+    → RestAt m (marks.Hands left) counted holds i A s image
     → left ≤ 1000000
 hands_fit A s m left counted holds i image at = at.order
 
 -- Processes that come in and go out.
 
 pub bring_rests : (old new : Standing) (pid counted : ℕ) (holds : Option (List NamedFile)) (i j : Option (List ℕ)) → IsIn old.kernel new.kernel pid i → j ≡ i
-    → Rests old new (marks.BringIn pid) counted counted holds i j
+    → LeadsFrom (RestAt old (marks.BringIn pid) counted holds i) (RestDone old new (marks.BringIn pid) counted j)
 bring_rests old new pid counted holds i j is same A s image at =
     line_rest A s old new (marks.BringIn pid) counted holds i j image at refl
     (in_comes A s old new image j pid at.clear at.mark (subst (λ (o : Option (List ℕ)). IsIn old.kernel new.kernel pid o) at.stands.told is) (same ∙ at.stands.told))
 
 pub bring_stops : (old new : Standing) (pid counted : ℕ) (holds : Option (List NamedFile)) (i j : Option (List ℕ)) (stop : Stop)
     → StopsAt (entries.SwapIn pid) old.kernel i stop new j
-    → StopsResting old new (marks.BringIn pid) counted holds i j stop
+    → StopsFrom (RestAt old (marks.BringIn pid) counted holds i) old new j stop
 bring_stops old new pid counted holds i j stop x A s image at =
     stops_here A s old.kernel image stop new j (entries.SwapIn pid) ((line_asks A s at.clear.clear).0 pid at.mark)
     (subst (λ (o : Option (List ℕ)). StopsAt (entries.SwapIn pid) old.kernel o stop new j) at.stands.told x)
 
 pub put_rests : (old new : Standing) (pid sid counted : ℕ) (holds : Option (List NamedFile)) (i j : Option (List ℕ)) → HoldsThere old.kernel pid sid
     → PutOut pid sid old new holds i j
-    → Rests old new (marks.PutOut pid) counted counted holds i j
+    → LeadsFrom (RestAt old (marks.PutOut pid) counted holds i) (RestDone old new (marks.PutOut pid) counted j)
 put_rests old new pid sid counted holds i j there o A s image at =
     line_rest A s old new (marks.PutOut pid) counted holds i j image at refl
     (out_comes A s old new holds image j pid sid at.stands.machine at.clear at.stands.longwords.fit at.mark there
@@ -293,6 +299,6 @@ put_rests old new pid sid counted holds i j there o A s image at =
 
 pub put_stops : (old new : Standing) (pid sid counted : ℕ) (holds : Option (List NamedFile)) (i j : Option (List ℕ)) (stop : Stop)
     → HoldsThere old.kernel pid sid
-    → StopsPutting pid sid old stop new holds i j → StopsResting old new (marks.PutOut pid) counted holds i j stop
+    → StopsPutting pid sid old stop new holds i j → StopsFrom (RestAt old (marks.PutOut pid) counted holds i) old new j stop
 put_stops old new pid sid counted holds i j stop there x A s image at =
     out_stops A s old new holds image j pid sid stop at.stands.machine at.clear at.mark there (subst (λ (o : Option (List ℕ)). StopsPutting pid sid old stop new holds o j) at.stands.told x)

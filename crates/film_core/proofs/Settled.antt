@@ -6,18 +6,18 @@ use Rattle.io_edge.specs.FileHolding.{NamedFile}
 use Rattle.flat_state.specs.Flat.{Inputs}
 use Rattle.machine_state.specs.Machine.{Standing}
 use Rattle.run_model.specs.State.{State}
-use Rattle.run_start.specs.Leading.{FillsRest, FillsLead}
-use Rattle.run_start.specs.Stepped.{StepLeads}
+use Rattle.run_start.specs.Leading.{FillsLead, ToldAt}
+use Rattle.run_start.specs.Stepped.{StepLeads, AtSome, LeadsFrom, StopsFrom}
 use Rattle.step_units.specs.Rests.{before_done}
-use Rattle.proc_run.specs.Rests.{begun_by, BegunAt, IsBegun, FinishesStep, StopsStep}
+use Rattle.proc_run.specs.Rests.{begun_by, BegunAt}
 use Rattle.proc_run.specs.declared.finishing.Begun.{Begun}
 use Rattle.proc_run.proofs.BegunTold.{begun_told, none_between}
-use Rattle.film_core.specs.Ways.{WayAt, IsOnWay, Settles, StopsSettling}
+use Rattle.film_core.specs.Ways.{WayAt, StepSettled}
 use Rattle.film_core.proofs.Composing.{then_lead, then_stop, leads_reached}
 
-module _ (A : Inputs) (s : State) (old mid : Standing) (holds : Option (List NamedFile)) (i h : Option (List ℕ)) (image : List ℕ) (at : WayAt A s old holds i image)
-    (l : FillsLead A s old mid holds image h) where
-  way : WayAt A l.state mid holds h l.leads.behind
+module _ (A : Inputs) (s : State) (old mid : Standing) (holds : Option (List NamedFile)) (i h : Option (List ℕ)) (image : List ℕ) (at : WayAt old holds i A s image)
+    (l : FillsLead old mid holds h A s image) where
+  way : WayAt mid holds h A l.state l.leads.behind
   way = record {
     machine = l.machine;
     told = l.leads.told;
@@ -42,10 +42,11 @@ module _ (A : Inputs) (s : State) (old mid : Standing) (holds : Option (List Nam
     mark = l.same.mark;
   }
 
-  begun_at : (b : Begun) → begun_by (before_done mid.kernel.journal) ≡ Some b → BegunAt A l.state mid b holds h l.leads.behind
+  begun_at : (b : Begun) → begun_by (before_done mid.kernel.journal) ≡ Some b → BegunAt mid b holds h A l.state l.leads.behind
   begun_at b e = record { machine = l.machine; told = l.leads.told; begun = sym begun ∙ e }
 
-  finished : (new : Standing) (j : Option (List ℕ)) (b : Begun) → begun_by (before_done mid.kernel.journal) ≡ Some b → FinishesStep mid new b holds h j → StepLeads A s old.kernel image 1 new.kernel j
+  finished : (new : Standing) (j : Option (List ℕ)) (b : Begun) → begun_by (before_done mid.kernel.journal) ≡ Some b
+      → LeadsFrom (BegunAt mid b holds h) (λ A s image. StepLeads A s mid.kernel image 1 new.kernel j) → StepLeads A s old.kernel image 1 new.kernel j
   finished new j b e f =
       let d = f A l.state l.leads.behind (begun_at b e) in
       record {
@@ -59,27 +60,30 @@ module _ (A : Inputs) (s : State) (old mid : Standing) (holds : Option (List Nam
         mark = d.mark ∙ l.same.mark;
       }
 
-pub fills_settle : (old mid : Standing) (counted : ℕ) (holds : Option (List NamedFile)) (i h : Option (List ℕ)) → FillsRest old mid holds i h
+pub fills_settle : (old mid : Standing) (counted : ℕ) (holds : Option (List NamedFile)) (i h : Option (List ℕ))
+    → LeadsFrom (ToldAt old holds i) (FillsLead old mid holds h)
     → begun_by (before_done mid.kernel.journal) ≡ None
-    → Settles old mid counted counted holds i h
+    → LeadsFrom (WayAt old holds i) (StepSettled old mid counted counted h)
 fills_settle old mid counted holds i h f e A s image at =
-    (0, (let z : counted ≡ counted + 0 = omega arith in z), filled A s old mid holds i h image at (f A s image at.machine at.told) e)
+    (0, (let z : counted ≡ counted + 0 = omega arith in z), filled A s old mid holds i h image at (f A s image (record { machine = at.machine; told = at.told })) e)
 
 pub finish_settles : (old mid new : Standing) (counted : ℕ) (holds : Option (List NamedFile)) (i h j : Option (List ℕ)) (b : Begun)
-    → FillsRest old mid holds i h
-    → begun_by (before_done mid.kernel.journal) ≡ Some b → FinishesStep mid new b holds h j → Settles old new counted (counted + 1) holds i j
+    → LeadsFrom (ToldAt old holds i) (FillsLead old mid holds h)
+    → begun_by (before_done mid.kernel.journal) ≡ Some b → LeadsFrom (BegunAt mid b holds h) (λ A s image. StepLeads A s mid.kernel image 1 new.kernel j)
+    → LeadsFrom (WayAt old holds i) (StepSettled old new counted (counted + 1) j)
 finish_settles old mid new counted holds i h j b f e g A s image at =
-    (1, refl, finished A s old mid holds i h image at (f A s image at.machine at.told) new j b e g)
+    (1, refl, finished A s old mid holds i h image at (f A s image (record { machine = at.machine; told = at.told })) new j b e g)
 
-pub finish_stops : (old mid new : Standing) (holds : Option (List NamedFile)) (i h j : Option (List ℕ)) (b : Begun) (stop : Stop) → FillsRest old mid holds i h
-    → begun_by (before_done mid.kernel.journal) ≡ Some b → StopsStep mid new b holds h j stop → StopsSettling old new holds i j stop
+pub finish_stops : (old mid new : Standing) (holds : Option (List NamedFile)) (i h j : Option (List ℕ)) (b : Begun) (stop : Stop)
+    → LeadsFrom (ToldAt old holds i) (FillsLead old mid holds h)
+    → begun_by (before_done mid.kernel.journal) ≡ Some b → StopsFrom (BegunAt mid b holds h) mid new j stop → StopsFrom (WayAt old holds i) old new j stop
 finish_stops old mid new holds i h j b stop f e g A s image at =
-    let l = f A s image at.machine at.told in
+    let l = f A s image (record { machine = at.machine; told = at.told }) in
     then_stop A s l.state old.kernel mid.kernel image h j l.units stop new l.leads (g A l.state l.leads.behind (begun_at A s old mid holds i h image at l b e))
 
-pub finish_begun : (old mid : Standing) (holds : Option (List NamedFile)) (i h : Option (List ℕ)) (b : Begun) → IsOnWay old holds i
-    → FillsRest old mid holds i h
-    → begun_by (before_done mid.kernel.journal) ≡ Some b → IsBegun mid b holds h
+pub finish_begun : (old mid : Standing) (holds : Option (List NamedFile)) (i h : Option (List ℕ)) (b : Begun) → AtSome (WayAt old holds i)
+    → LeadsFrom (ToldAt old holds i) (FillsLead old mid holds h)
+    → begun_by (before_done mid.kernel.journal) ≡ Some b → AtSome (BegunAt mid b holds h)
 finish_begun old mid holds i h b (A, s, image, at) f e =
-    let l = f A s image at.machine at.told in
+    let l = f A s image (record { machine = at.machine; told = at.told }) in
     (A, l.state, l.leads.behind, begun_at A s old mid holds i h image at l b e)

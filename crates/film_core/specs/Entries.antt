@@ -2,7 +2,6 @@
 use Rattle.std.specs.Prelude.{◌≡◌, ◌↔◌, ◌+◌, ◌<◌, ℕ, suc, Bool, true, List, length, slice_get, Option, Some, None}
 use Rattle.vm_facts.specs.declared.entry.Entry.{Entry}
 use Rattle.vm_facts.specs.declared.event.Event.{Event}
-use Rattle.vm_facts.specs.declared.stop.Stop.{Stop}
 use Rattle.vm_facts.specs.declared.stop.Stop.TheVariants as stops
 use Rattle.io_edge.specs.FileHolding.{NamedFile}
 use Rattle.flat_state.specs.Flat.{Inputs}
@@ -12,29 +11,23 @@ use Rattle.run_model.specs.declared.mark.Mark.{Mark}
 use Rattle.run_model.specs.State.{State}
 use Rattle.run_model.specs.Next.{next_unit}
 use Rattle.journal_laws.specs.Leads.{Leads}
-use Rattle.run_start.specs.Stepped.{StopLeads}
 use Rattle.vm_core.specs.Cores.{StandsIn}
 use Rattle.film_core.specs.Films.{Filming}
 use Rattle.film_core.specs.Marks.{mark_behind, lines_behind}
 use Rattle.film_core.specs.Ways.{GoesAt}
 
 -- The machine stands at a state of a run whose journal is full and complete, and that has a next unit.
-pub record FullAt (A : Inputs) (s : State) (m : Standing) (mark : Mark) (lines : List Event) (taken counted : ℕ)
-    (holds : Option (List NamedFile)) (i : Option (List ℕ)) (image : List ℕ) : Type 0 where
-  pub going : GoesAt A s m mark lines taken counted holds i image
+pub record FullAt (m : Standing) (mark : Mark) (lines : List Event) (taken counted : ℕ) (holds : Option (List NamedFile)) (i : Option (List ℕ))
+    (A : Inputs) (s : State) (image : List ℕ) : Type 0 where
+  pub going : GoesAt m mark lines taken counted holds i A s image
   pub complete : (u : Entry) → next_unit A s ≡ Some u → length m.kernel.journal < length (append m.kernel.journal u)
   pub bound : m.params.journal ≡ length m.kernel.journal
   pub more : next_unit A s ≡ None → ⊥
 
--- at some state of a run the machine stands so
-abbrev pub IsFull : Standing → Mark → List Event → ℕ → ℕ → Option (List NamedFile) → Option (List ℕ) → Type 0
-IsFull m mark lines taken counted holds i =
-    (A : Inputs) × (s : State) × (image : List ℕ) × FullAt A s m mark lines taken counted holds i image
-
 -- Next units lead to a state at which the machine stands with one entry more, and its journal is full and complete again; and it is
 -- said whether the run is over there.
-pub record EntryMade (A : Inputs) (s : State) (old new : Standing) (ended : Bool) (holds : Option (List NamedFile)) (image : List ℕ)
-    (j : Option (List ℕ)) : Type 0 where
+pub record EntryMade (old new : Standing) (ended : Bool) (holds : Option (List NamedFile)) (j : Option (List ℕ)) (A : Inputs) (s : State)
+    (image : List ℕ) : Type 0 where
   pub units : List Entry
   pub state : State
   pub behind : List ℕ
@@ -44,20 +37,6 @@ pub record EntryMade (A : Inputs) (s : State) (old new : Standing) (ended : Bool
   pub bound : new.params.journal ≡ length new.kernel.journal
   pub longer : length new.kernel.journal ≡ suc (length old.kernel.journal)
   pub over : (ended ≡ true) ↔ (next_unit A state ≡ None)
-
--- for every state at which the machine stands so
-abbrev pub MakesEntry : Standing → Standing → Mark → List Event → ℕ → ℕ → Bool → Option (List NamedFile) → Option (List ℕ) → Option (List ℕ)
-    → Type 0
-MakesEntry old new mark lines taken counted over holds i j =
-    (A : Inputs) (s : State) (image : List ℕ) → FullAt A s old mark lines taken counted holds i image
-    → EntryMade A s old new over holds image j
-
--- or next units lead to where the run stopped before that, for another cause than a full journal
-abbrev pub StopsEntry : Standing → Standing → Mark → List Event → ℕ → ℕ → Option (List NamedFile) → Option (List ℕ) → Option (List ℕ) → Stop
-    → Type 0
-StopsEntry old new mark lines taken counted holds i j stop =
-    (A : Inputs) (s : State) (image : List ℕ) → FullAt A s old mark lines taken counted holds i image
-    → (stop ≡ stops.JournalFull → ⊥) × StopLeads A s old.kernel image stop new j
 
 -- a film that knows what is behind its last entry
 abbrev pub caught_up : Filming → List Event → Entry → Filming

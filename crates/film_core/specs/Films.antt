@@ -15,11 +15,11 @@ use Rattle.run_model.specs.declared.mark.Mark.TheVariants as marks
 use Rattle.run_model.specs.State.{State}
 use Rattle.run_model.specs.Next.{next_unit}
 use Rattle.journal_laws.specs.Leads.{Leads}
-use Rattle.run_start.specs.Stepped.{StopLeads}
 use Rattle.run_start.specs.Starting.{IsNew}
 use Rattle.vm_core.specs.Cores.{StandsIn}
 use Rattle.vm_core.specs.Lawful.{IsJournalOf}
 use Rattle.vm_core.specs.RunEnds.{IsAskedOf}
+use Rattle.run_start.specs.Stepped.{StopsFrom}
 
 -- What contracts see of a film: its machine, how many lines of the schedule were taken, the last mark, how many instructions were
 -- counted, and whether the run is over.
@@ -102,11 +102,13 @@ abbrev pub FilmGoes : Filming → Filming → List Event → Option (List NamedF
 FilmGoes old new lines holds i j =
     (A : Inputs) (s : State) (image : List ℕ) → A.lines ≡ lines → FilmAt A s old holds i image → OneMore A s old new holds image j
 
--- or next units lead to where the run stops, for another cause than its journal
-abbrev pub FilmStops : Filming → Filming → List Event → Option (List NamedFile) → Option (List ℕ) → Option (List ℕ) → Stop → Type 0
-FilmStops old new lines holds i j stop =
-    (A : Inputs) (s : State) (image : List ℕ) → A.lines ≡ lines → FilmAt A s old holds i image
-    → (stop ≡ stops.JournalFull → ⊥) × StopLeads A s old.machine.kernel image stop new.machine j
+-- The run stopped on the way from each state at which this is so, for another cause than a full journal.
+abbrev pub StopsElse : (Inputs → State → List ℕ → Type 0) → Standing → Standing → Option (List ℕ) → Stop → Type 0
+StopsElse IsAt old new j stop = (stop ≡ stops.JournalFull → ⊥) × StopsFrom IsAt old new j stop
+
+-- the film stands at a state of a run with these lines
+abbrev pub FilmsAt : Filming → List Event → Option (List NamedFile) → Option (List ℕ) → Inputs → State → List ℕ → Type 0
+FilmsAt f lines holds i A s image = (A.lines ≡ lines) × FilmAt A s f holds i image
 
 -- the sizes of a machine, with a journal of one entry more
 abbrev pub one_wider : Params → Params

@@ -2,7 +2,6 @@
 use Rattle.std.specs.Prelude.{◌≡◌, ℕ, ◌+◌, ◌≤◌, List, [], length, Option, Some, None}
 use Rattle.vm_facts.specs.declared.entry.Entry.{Entry}
 use Rattle.vm_facts.specs.declared.event.Event.{Event}
-use Rattle.vm_facts.specs.declared.stop.Stop.{Stop}
 use Rattle.io_edge.specs.FileHolding.{NamedFile}
 use Rattle.swap_book.specs.Holdings.{Holdings}
 use Rattle.flat_state.specs.Flat.{Inputs}
@@ -16,7 +15,7 @@ use Rattle.run_model.specs.Lawful.{Follows}
 use Rattle.run_laws.specs.Running.{CanRun}
 use Rattle.journal_laws.specs.Leads.{Leads}
 use Rattle.run_start.specs.Machines.{MachineAt}
-use Rattle.run_start.specs.Stepped.{StepLeads, StopLeads}
+use Rattle.run_start.specs.Stepped.{StepLeads}
 use Rattle.run_start.specs.Lines.{IsOver, IsClear}
 use Rattle.vm_core.specs.Cores.{StandsIn}
 use Rattle.film_core.specs.Films.{IsInOrder}
@@ -31,30 +30,19 @@ pub record IsReached (A : Inputs) (s : State) : Type 0 where
 -- The rest of a step.
 
 -- The machine stands at a state of a run, whatever is due there and whatever step is begun.
-pub record WayAt (A : Inputs) (s : State) (m : Standing) (holds : Option (List NamedFile)) (i : Option (List ℕ)) (image : List ℕ) : Type 0 where
+pub record WayAt (m : Standing) (holds : Option (List NamedFile)) (i : Option (List ℕ)) (A : Inputs) (s : State) (image : List ℕ) : Type 0 where
   pub machine : MachineAt A s m holds image
   pub told : i ≡ Some image
   pub reached : IsReached A s
 
--- at some state of a run the machine stands so
-abbrev pub IsOnWay : Standing → Option (List NamedFile) → Option (List ℕ) → Type 0
-IsOnWay m holds i = (A : Inputs) × (s : State) × (image : List ℕ) × WayAt A s m holds i image
-
 -- next units fill what is due and complete a step that is begun; so many instructions more are counted then
-abbrev pub Settles : Standing → Standing → ℕ → ℕ → Option (List NamedFile) → Option (List ℕ) → Option (List ℕ) → Type 0
-Settles old new counted count holds i j =
-    (A : Inputs) (s : State) (image : List ℕ) → WayAt A s old holds i image
-    → (n : ℕ) × (count ≡ counted + n) × StepLeads A s old.kernel image n new.kernel j
-
--- or next units lead to where the run stopped before that
-abbrev pub StopsSettling : Standing → Standing → Option (List NamedFile) → Option (List ℕ) → Option (List ℕ) → Stop → Type 0
-StopsSettling old new holds i j stop =
-    (A : Inputs) (s : State) (image : List ℕ) → WayAt A s old holds i image → StopLeads A s old.kernel image stop new j
+abbrev pub StepSettled : Standing → Standing → ℕ → ℕ → Option (List ℕ) → Inputs → State → List ℕ → Type 0
+StepSettled old new counted count j A s image = (n : ℕ) × (count ≡ counted + n) × StepLeads A s old.kernel image n new.kernel j
 
 -- The rest of a mark.
 
 -- The machine stands at a state under this mark, with nothing due and no step begun, so many instructions being counted.
-pub record RestAt (A : Inputs) (s : State) (m : Standing) (last : Mark) (counted : ℕ) (holds : Option (List NamedFile)) (i : Option (List ℕ))
+pub record RestAt (m : Standing) (last : Mark) (counted : ℕ) (holds : Option (List NamedFile)) (i : Option (List ℕ)) (A : Inputs) (s : State)
     (image : List ℕ) : Type 0 where
   pub stands : StandsIn A s m holds i image counted
   pub reached : IsReached A s
@@ -62,13 +50,8 @@ pub record RestAt (A : Inputs) (s : State) (m : Standing) (last : Mark) (counted
   pub mark : s.mark ≡ last
   pub order : IsInOrder A.lines s.lines last
 
--- at some state of a run the machine stands so under this mark
-abbrev pub IsUnder : Standing → Mark → ℕ → Option (List NamedFile) → Option (List ℕ) → Type 0
-IsUnder m mark counted holds i = (A : Inputs) × (s : State) × (image : List ℕ) × RestAt A s m mark counted holds i image
-
 -- next units lead to where nothing more is to come of it, so many instructions being counted
-pub record RestDone (A : Inputs) (s : State) (old new : Standing) (mark : Mark) (count : ℕ) (image : List ℕ) (j : Option (List ℕ))
-    : Type 0 where
+pub record RestDone (old new : Standing) (mark : Mark) (count : ℕ) (j : Option (List ℕ)) (A : Inputs) (s : State) (image : List ℕ) : Type 0 where
   pub units : List Entry
   pub state : State
   pub leads : Leads A s old.kernel image units state new.kernel j
@@ -76,16 +59,6 @@ pub record RestDone (A : Inputs) (s : State) (old new : Standing) (mark : Mark) 
   pub counts : state.count ≡ count
   pub lines : state.lines ≡ s.lines
   pub turned : last_turned state.mark ≡ last_turned mark
-
--- for every state at which the machine stands so under this mark
-abbrev pub Rests : Standing → Standing → Mark → ℕ → ℕ → Option (List NamedFile) → Option (List ℕ) → Option (List ℕ) → Type 0
-Rests old new mark counted count holds i j =
-    (A : Inputs) (s : State) (image : List ℕ) → RestAt A s old mark counted holds i image → RestDone A s old new mark count image j
-
--- or next units lead to where the run stopped under the mark
-abbrev pub StopsResting : Standing → Standing → Mark → ℕ → Option (List NamedFile) → Option (List ℕ) → Option (List ℕ) → Stop → Type 0
-StopsResting old new mark counted holds i j stop =
-    (A : Inputs) (s : State) (image : List ℕ) → RestAt A s old mark counted holds i image → StopLeads A s old.kernel image stop new j
 
 -- A machine that may be asked for an entry of its own, and then for a unit: it can go on, nothing is due, and it has 64
 -- frames or more. Its last entry may count any moves of the hands.
@@ -105,8 +78,8 @@ pub record StaysOn (old new : Standing) (count : ℕ) : Type 0 where
 
 -- The machine stands at a state at which the last mark is over, so many lines being taken and so many instructions counted; and this
 -- process had the last turn, if any had.
-pub record OverAt (A : Inputs) (s : State) (m : Standing) (schedule : List Event) (taken counted last : ℕ) (holds : Option (List NamedFile))
-    (i : Option (List ℕ)) (image : List ℕ) : Type 0 where
+pub record OverAt (m : Standing) (schedule : List Event) (taken counted last : ℕ) (holds : Option (List NamedFile)) (i : Option (List ℕ))
+    (A : Inputs) (s : State) (image : List ℕ) : Type 0 where
   pub stands : StandsIn A s m holds i image counted
   pub reached : IsReached A s
   pub over : IsOver A s
@@ -114,28 +87,12 @@ pub record OverAt (A : Inputs) (s : State) (m : Standing) (schedule : List Event
   pub lines : s.lines ≡ taken
   pub turned : last_turned s.mark ≡ last
 
--- at some state of a run the machine stands so
-abbrev pub IsPast : Standing → List Event → ℕ → ℕ → ℕ → Option (List NamedFile) → Option (List ℕ) → Type 0
-IsPast m lines taken counted last holds i =
-    (A : Inputs) × (s : State) × (image : List ℕ) × OverAt A s m lines taken counted last holds i image
-
 -- next units lead to a state that has none
-pub record RunsOut (A : Inputs) (s : State) (old new : Standing) (image : List ℕ) (j : Option (List ℕ)) : Type 0 where
+pub record RunsOut (old new : Standing) (j : Option (List ℕ)) (A : Inputs) (s : State) (image : List ℕ) : Type 0 where
   pub units : List Entry
   pub state : State
   pub leads : Leads A s old.kernel image units state new.kernel j
   pub none : next_unit A state ≡ None
-
--- for every state at which the machine stands so after a mark
-abbrev pub PassesOver : Standing → Standing → List Event → ℕ → ℕ → ℕ → Option (List NamedFile) → Option (List ℕ) → Option (List ℕ) → Type 0
-PassesOver old new lines taken counted last holds i j =
-    (A : Inputs) (s : State) (image : List ℕ) → OverAt A s old lines taken counted last holds i image → RunsOut A s old new image j
-
--- or next units lead to where the run stopped after the mark
-abbrev pub StopsPassing : Standing → Standing → List Event → ℕ → ℕ → ℕ → Option (List NamedFile) → Option (List ℕ) → Option (List ℕ) → Stop
-    → Type 0
-StopsPassing old new lines taken counted last holds i j stop =
-    (A : Inputs) (s : State) (image : List ℕ) → OverAt A s old lines taken counted last holds i image → StopLeads A s old.kernel image stop new j
 
 -- a machine that can go on, with the sizes and images of before
 pub record EndsRunning (old new : Standing) : Type 0 where
@@ -146,59 +103,20 @@ pub record EndsRunning (old new : Standing) : Type 0 where
 -- The next mark, whose entry is there already.
 
 -- The machine stands at a state under a mark, of a run with these lines, of which so many were taken.
-pub record RoundAt (A : Inputs) (s : State) (m : Standing) (last : Mark) (schedule : List Event) (taken counted : ℕ)
-    (holds : Option (List NamedFile)) (i : Option (List ℕ)) (image : List ℕ) : Type 0 where
-  pub rest : RestAt A s m last counted holds i image
+pub record RoundAt (m : Standing) (last : Mark) (schedule : List Event) (taken counted : ℕ) (holds : Option (List NamedFile)) (i : Option (List ℕ))
+    (A : Inputs) (s : State) (image : List ℕ) : Type 0 where
+  pub rest : RestAt m last counted holds i A s image
   pub are : A.lines ≡ schedule
   pub lines : s.lines ≡ taken
-
--- at some state of a run the machine stands so
-abbrev pub IsRound : Standing → Mark → List Event → ℕ → ℕ → Option (List NamedFile) → Option (List ℕ) → Type 0
-IsRound m mark lines taken counted holds i =
-    (A : Inputs) × (s : State) × (image : List ℕ) × RoundAt A s m mark lines taken counted holds i image
-
--- for every state at which the machine stands so under a mark, next units lead to one that has none
-abbrev pub RoundsOff : Standing → Standing → Mark → List Event → ℕ → ℕ → Option (List NamedFile) → Option (List ℕ) → Option (List ℕ) → Type 0
-RoundsOff old new mark lines taken counted holds i j =
-    (A : Inputs) (s : State) (image : List ℕ) → RoundAt A s old mark lines taken counted holds i image → RunsOut A s old new image j
-
--- or next units lead to where the run stopped before that
-abbrev pub StopsRound : Standing → Standing → Mark → List Event → ℕ → ℕ → Option (List NamedFile) → Option (List ℕ) → Option (List ℕ) → Stop
-    → Type 0
-StopsRound old new mark lines taken counted holds i j stop =
-    (A : Inputs) (s : State) (image : List ℕ) → RoundAt A s old mark lines taken counted holds i image
-    → StopLeads A s old.kernel image stop new j
 
 -- The whole way.
 
 -- The machine stands at a state of a run with these lines, of which so many were taken, under a mark.
-pub record GoesAt (A : Inputs) (s : State) (m : Standing) (last : Mark) (schedule : List Event) (taken counted : ℕ)
-    (holds : Option (List NamedFile)) (i : Option (List ℕ)) (image : List ℕ) : Type 0 where
+pub record GoesAt (m : Standing) (last : Mark) (schedule : List Event) (taken counted : ℕ) (holds : Option (List NamedFile)) (i : Option (List ℕ))
+    (A : Inputs) (s : State) (image : List ℕ) : Type 0 where
   pub stands : StandsIn A s m holds i image counted
   pub reached : IsReached A s
   pub are : A.lines ≡ schedule
   pub lines : s.lines ≡ taken
   pub mark : s.mark ≡ last
   pub order : IsInOrder schedule taken last
-
--- at some state of a run the machine stands so
-abbrev pub IsGoing : Standing → Mark → List Event → ℕ → ℕ → Option (List NamedFile) → Option (List ℕ) → Type 0
-IsGoing m mark lines taken counted holds i =
-    (A : Inputs) × (s : State) × (image : List ℕ) × GoesAt A s m mark lines taken counted holds i image
-
--- next units lead from there to where the mark is over
-abbrev pub GetsOver : Standing → Standing → Mark → List Event → ℕ → ℕ → ℕ → Option (List NamedFile) → Option (List ℕ) → Option (List ℕ) → Type 0
-GetsOver old new mark lines taken counted count holds i j =
-    (A : Inputs) (s : State) (image : List ℕ) → GoesAt A s old mark lines taken counted holds i image → RestDone A s old new mark count image j
-
--- for every state at which the machine stands so, next units lead to one that has none
-abbrev pub GoesOver : Standing → Standing → Mark → List Event → ℕ → ℕ → Option (List NamedFile) → Option (List ℕ) → Option (List ℕ) → Type 0
-GoesOver old new mark lines taken counted holds i j =
-    (A : Inputs) (s : State) (image : List ℕ) → GoesAt A s old mark lines taken counted holds i image → RunsOut A s old new image j
-
--- or next units lead to where the run stopped before that
-abbrev pub StopsGoing : Standing → Standing → Mark → List Event → ℕ → ℕ → Option (List NamedFile) → Option (List ℕ) → Option (List ℕ) → Stop
-    → Type 0
-StopsGoing old new mark lines taken counted holds i j stop =
-    (A : Inputs) (s : State) (image : List ℕ) → GoesAt A s old mark lines taken counted holds i image
-    → StopLeads A s old.kernel image stop new j

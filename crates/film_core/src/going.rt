@@ -8,13 +8,14 @@ ghost use Rattle.machine_state.specs.Files.{AreFiles};
 ghost use Rattle.machine_state.specs.Outside.{stop_of, TransfersPages};
 ghost use Rattle.journal_laws.specs.LastMoves.{last_moves};
 ghost use Rattle.run_start.specs.Sizes.{KeptAtStop};
+ghost use Rattle.run_start.specs.Stepped.{AtSome, LeadsFrom, StopsFrom};
 ghost use Rattle.proc_run.specs.Choosing.{turn_after};
 ghost use Rattle.proc_run.specs.Runs.{IsSteady};
 ghost use Rattle.vm_core.specs.Schedules.{HaveFewMoves};
-ghost use Rattle.film_core.specs.Films.{IsFilming, FilmGoes, FilmStops, one_wider};
+ghost use Rattle.film_core.specs.Films.{IsFilming, FilmGoes, one_wider, StopsElse, FilmsAt};
 ghost use Rattle.film_core.specs.Marks.{last_entry};
-ghost use Rattle.film_core.specs.Ways.{IsRound, RoundsOff, StopsRound, MayNote, StaysOn, IsPast, PassesOver, StopsPassing, EndsRunning, IsGoing, GetsOver, GoesOver, StopsGoing};
-ghost use Rattle.film_core.specs.Entries.{IsFull, MakesEntry, StopsEntry, caught_up};
+ghost use Rattle.film_core.specs.Ways.{MayNote, StaysOn, EndsRunning, RestDone, OverAt, RunsOut, RoundAt, GoesAt};
+ghost use Rattle.film_core.specs.Entries.{caught_up, FullAt, EntryMade};
 
 use crate::film::Film;
 use crate::marks::{
@@ -75,11 +76,13 @@ fn round<F: Files, D: SwapDev>(
     requires steady { IsSteady m.old }
     requires counted { instructions_of m.old.kernel.journal ≡ counted }
     requires full { m.old.params.journal ≤ length m.old.kernel.journal }
-    requires round { IsRound m.old mark lines.now taken counted (F.holds files.old) (D.image swap.old) }
+    requires round { AtSome (RoundAt m.old mark lines.now taken counted (F.holds files.old) (D.image swap.old)) }
     requires area { m.old.params.swap_blocks ≤ D.blocks swap.old }
     requires files { AreFiles m.old.images (F.holds files.old) }
-    ensures rounds { OnOk result (RoundsOff m.old m.new mark lines.now taken counted (F.holds files.old) (D.image swap.old) (D.image swap.new)) }
-    ensures stops { IfErr result (StopsRound m.old m.new mark lines.now taken counted (F.holds files.old) (D.image swap.old) (D.image swap.new)) }
+    ensures rounds { OnOk result
+        (LeadsFrom (RoundAt m.old mark lines.now taken counted (F.holds files.old) (D.image swap.old)) (RunsOut m.old m.new (D.image swap.new))) }
+    ensures stops { IfErr result
+        (StopsFrom (RoundAt m.old mark lines.now taken counted (F.holds files.old) (D.image swap.old)) m.old m.new (D.image swap.new)) }
     ensures ends { OnOk result (EndsRunning m.old m.new) }
     ensures kept { IfErr result (KeptAtStop m.old m.new) }
     ensures outside { TransfersPages F.Files D.SwapDev (stop_of result) files.old files.new swap.old swap.new }
@@ -110,11 +113,13 @@ fn take_line<F: Files, D: SwapDev>(
     requires event { slice_get lines.now taken ≡ Some e }
     requires few { HaveFewMoves lines.now }
     requires count { length lines.now < 2 ^ 32 }
-    requires past { IsPast m.old lines.now taken counted _last (F.holds files.old) (D.image swap.old) }
+    requires past { AtSome (OverAt m.old lines.now taken counted _last (F.holds files.old) (D.image swap.old)) }
     requires area { m.old.params.swap_blocks ≤ D.blocks swap.old }
     requires files { AreFiles m.old.images (F.holds files.old) }
-    ensures over { OnOk result (PassesOver m.old m.new lines.now taken counted _last (F.holds files.old) (D.image swap.old) (D.image swap.new)) }
-    ensures stops { IfErr result (StopsPassing m.old m.new lines.now taken counted _last (F.holds files.old) (D.image swap.old) (D.image swap.new)) }
+    ensures over { OnOk result
+        (LeadsFrom (OverAt m.old lines.now taken counted _last (F.holds files.old) (D.image swap.old)) (RunsOut m.old m.new (D.image swap.new))) }
+    ensures stops { IfErr result
+        (StopsFrom (OverAt m.old lines.now taken counted _last (F.holds files.old) (D.image swap.old)) m.old m.new (D.image swap.new)) }
     ensures ends { OnOk result (EndsRunning m.old m.new) }
     ensures kept { IfErr result (KeptAtStop m.old m.new) }
     ensures outside { TransfersPages F.Files D.SwapDev (stop_of result) files.old files.new swap.old swap.new }
@@ -143,11 +148,13 @@ fn take_turn<F: Files, D: SwapDev>(
     requires behind { slice_get lines.now taken ≡ None }
     requires turned { turn_after m.old.kernel _last ≡ Some pid }
     requires count { length lines.now < 2 ^ 32 }
-    requires past { IsPast m.old lines.now taken counted _last (F.holds files.old) (D.image swap.old) }
+    requires past { AtSome (OverAt m.old lines.now taken counted _last (F.holds files.old) (D.image swap.old)) }
     requires area { m.old.params.swap_blocks ≤ D.blocks swap.old }
     requires files { AreFiles m.old.images (F.holds files.old) }
-    ensures over { OnOk result (PassesOver m.old m.new lines.now taken counted _last (F.holds files.old) (D.image swap.old) (D.image swap.new)) }
-    ensures stops { IfErr result (StopsPassing m.old m.new lines.now taken counted _last (F.holds files.old) (D.image swap.old) (D.image swap.new)) }
+    ensures over { OnOk result
+        (LeadsFrom (OverAt m.old lines.now taken counted _last (F.holds files.old) (D.image swap.old)) (RunsOut m.old m.new (D.image swap.new))) }
+    ensures stops { IfErr result
+        (StopsFrom (OverAt m.old lines.now taken counted _last (F.holds files.old) (D.image swap.old)) m.old m.new (D.image swap.new)) }
     ensures ends { OnOk result (EndsRunning m.old m.new) }
     ensures kept { IfErr result (KeptAtStop m.old m.new) }
     ensures outside { TransfersPages F.Files D.SwapDev (stop_of result) files.old files.new swap.old swap.new }
@@ -176,11 +183,12 @@ fn pass<F: Files, D: SwapDev>(
     requires wide { m.old.params.journal ≤ length m.old.kernel.journal + 1 }
     requires few { HaveFewMoves lines.now }
     requires count { length lines.now < 2 ^ 32 }
-    requires past { IsPast m.old lines.now taken counted last (F.holds files.old) (D.image swap.old) }
+    requires past { AtSome (OverAt m.old lines.now taken counted last (F.holds files.old) (D.image swap.old)) }
     requires area { m.old.params.swap_blocks ≤ D.blocks swap.old }
     requires files { AreFiles m.old.images (F.holds files.old) }
-    ensures over { OnOk result (PassesOver m.old m.new lines.now taken counted last (F.holds files.old) (D.image swap.old) (D.image swap.new)) }
-    ensures stops { IfErr result (StopsPassing m.old m.new lines.now taken counted last (F.holds files.old) (D.image swap.old) (D.image swap.new)) }
+    ensures over { OnOk result
+        (LeadsFrom (OverAt m.old lines.now taken counted last (F.holds files.old) (D.image swap.old)) (RunsOut m.old m.new (D.image swap.new))) }
+    ensures stops { IfErr result (StopsFrom (OverAt m.old lines.now taken counted last (F.holds files.old) (D.image swap.old)) m.old m.new (D.image swap.new)) }
     ensures ends { OnOk result (EndsRunning m.old m.new) }
     ensures kept { IfErr result (KeptAtStop m.old m.new) }
     ensures outside { TransfersPages F.Files D.SwapDev (stop_of result) files.old files.new swap.old swap.new }
@@ -207,11 +215,13 @@ fn get_over<F: Files, D: SwapDev>(
     requires frames { 64 ≤ length m.old.kernel.place.holds }
     requires low { last_moves m.old.kernel.journal ≤ 1000000 }
     requires counted { instructions_of m.old.kernel.journal ≡ counted }
-    requires going { IsGoing m.old mark _lines.now _taken counted (F.holds files.old) (D.image swap.old) }
+    requires going { AtSome (GoesAt m.old mark _lines.now _taken counted (F.holds files.old) (D.image swap.old)) }
     requires area { m.old.params.swap_blocks ≤ D.blocks swap.old }
     requires files { AreFiles m.old.images (F.holds files.old) }
-    ensures over { IfOk result (λ count. GetsOver m.old m.new mark _lines.now _taken counted count (F.holds files.old) (D.image swap.old) (D.image swap.new)) }
-    ensures stops { IfErr result (StopsGoing m.old m.new mark _lines.now _taken counted (F.holds files.old) (D.image swap.old) (D.image swap.new)) }
+    ensures over { IfOk result (λ count. LeadsFrom (GoesAt m.old mark _lines.now _taken counted (F.holds files.old) (D.image swap.old))
+        (RestDone m.old m.new mark count (D.image swap.new))) }
+    ensures stops { IfErr result
+        (StopsFrom (GoesAt m.old mark _lines.now _taken counted (F.holds files.old) (D.image swap.old)) m.old m.new (D.image swap.new)) }
     ensures on { IfOk result (λ count. StaysOn m.old m.new count) }
     ensures kept { IfErr result (KeptAtStop m.old m.new) }
     ensures outside { TransfersPages F.Files D.SwapDev (stop_of result) files.old files.new swap.old swap.new }
@@ -236,13 +246,14 @@ fn go_further<F: Files, D: SwapDev>(
     requires low { last_moves m.old.kernel.journal ≤ 1000000 }
     requires counted { instructions_of m.old.kernel.journal ≡ counted }
     requires wide { m.old.params.journal ≤ length m.old.kernel.journal + 1 }
-    requires going { IsGoing m.old mark lines.now taken counted (F.holds files.old) (D.image swap.old) }
+    requires going { AtSome (GoesAt m.old mark lines.now taken counted (F.holds files.old) (D.image swap.old)) }
     requires few { HaveFewMoves lines.now }
     requires count { length lines.now < 2 ^ 32 }
     requires area { m.old.params.swap_blocks ≤ D.blocks swap.old }
     requires files { AreFiles m.old.images (F.holds files.old) }
-    ensures over { OnOk result (GoesOver m.old m.new mark lines.now taken counted (F.holds files.old) (D.image swap.old) (D.image swap.new)) }
-    ensures stops { IfErr result (StopsGoing m.old m.new mark lines.now taken counted (F.holds files.old) (D.image swap.old) (D.image swap.new)) }
+    ensures over { OnOk result
+        (LeadsFrom (GoesAt m.old mark lines.now taken counted (F.holds files.old) (D.image swap.old)) (RunsOut m.old m.new (D.image swap.new))) }
+    ensures stops { IfErr result (StopsFrom (GoesAt m.old mark lines.now taken counted (F.holds files.old) (D.image swap.old)) m.old m.new (D.image swap.new)) }
     ensures ends { OnOk result (EndsRunning m.old m.new) }
     ensures kept { IfErr result (KeptAtStop m.old m.new) }
     ensures outside { TransfersPages F.Files D.SwapDev (stop_of result) files.old files.new swap.old swap.new }
@@ -276,13 +287,14 @@ fn one_entry<F: Files, D: SwapDev>(
     requires low { last_moves m.old.kernel.journal ≤ 1000000 }
     requires counted { instructions_of m.old.kernel.journal ≡ counted }
     requires room { length m.old.kernel.journal + 1 < 2 ^ 32 }
-    requires full { IsFull m.old mark lines.now taken counted (F.holds files.old) (D.image swap.old) }
+    requires full { AtSome (FullAt m.old mark lines.now taken counted (F.holds files.old) (D.image swap.old)) }
     requires few { HaveFewMoves lines.now }
     requires count { length lines.now < 2 ^ 32 }
     requires area { m.old.params.swap_blocks ≤ D.blocks swap.old }
     requires files { AreFiles m.old.images (F.holds files.old) }
-    ensures made { IfOk result (λ over. MakesEntry m.old m.new mark lines.now taken counted over (F.holds files.old) (D.image swap.old) (D.image swap.new)) }
-    ensures stops { IfErr result (StopsEntry m.old m.new mark lines.now taken counted (F.holds files.old) (D.image swap.old) (D.image swap.new)) }
+    ensures made { IfOk result (λ over. LeadsFrom (FullAt m.old mark lines.now taken counted (F.holds files.old) (D.image swap.old))
+        (EntryMade m.old m.new over (F.holds files.old) (D.image swap.new))) }
+    ensures stops { IfErr result (StopsElse (FullAt m.old mark lines.now taken counted (F.holds files.old) (D.image swap.old)) m.old m.new (D.image swap.new)) }
     ensures params { OnOk result (m.new.params ≡ one_wider m.old.params) }
     ensures images { OnOk result (m.new.images ≡ m.old.images) }
     ensures outside { TransfersPages F.Files D.SwapDev (stop_of result) files.old files.new swap.old swap.new }
@@ -335,7 +347,8 @@ impl Film {
         requires area { self.old.machine.params.swap_blocks ≤ D.blocks swap.old }
         requires files { AreFiles self.old.machine.images (F.holds files.old) }
         ensures goes { OnOk result (FilmGoes self.old self.new lines.now (F.holds files.old) (D.image swap.old) (D.image swap.new)) }
-        ensures stops { IfErr result (FilmStops self.old self.new lines.now (F.holds files.old) (D.image swap.old) (D.image swap.new)) }
+        ensures stops { IfErr result
+            (StopsElse (FilmsAt self.old lines.now (F.holds files.old) (D.image swap.old)) self.old.machine self.new.machine (D.image swap.new)) }
         ensures params { OnOk result (self.new.machine.params ≡ one_wider self.old.machine.params) }
         ensures images { OnOk result (self.new.machine.images ≡ self.old.machine.images) }
         ensures outside { TransfersPages F.Files D.SwapDev (stop_of result) files.old files.new swap.old swap.new }

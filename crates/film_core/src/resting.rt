@@ -6,9 +6,10 @@ ghost use Rattle.machine_state.specs.Going.{IsRunning};
 ghost use Rattle.machine_state.specs.Files.{AreFiles};
 ghost use Rattle.machine_state.specs.Outside.{stop_of, TransfersPages};
 ghost use Rattle.run_start.specs.Sizes.{KeptAtStop};
+ghost use Rattle.run_start.specs.Stepped.{AtSome, LeadsFrom, StopsFrom};
 ghost use Rattle.proc_run.specs.Choosing.{steps_by};
 ghost use Rattle.proc_run.specs.Runs.{IsSteady};
-ghost use Rattle.film_core.specs.Ways.{IsUnder, Rests, StopsResting, StaysOn};
+ghost use Rattle.film_core.specs.Ways.{StaysOn, RestAt, RestDone};
 
 use io_edge::{Files, SwapDev};
 use journal_laws::clock_hands::move_hands;
@@ -44,12 +45,14 @@ fn dispatch<F: Files, D: SwapDev>(
 ) -> Result<u32, Stop>
     requires steady { IsSteady m.old }
     requires counted { instructions_of m.old.kernel.journal ≡ counted }
-    requires under { IsUnder m.old (Mark.Dispatch pid more since) counted (F.holds files.old) (D.image swap.old) }
+    requires under { AtSome (RestAt m.old (Mark.Dispatch pid more since) counted (F.holds files.old) (D.image swap.old)) }
     requires area { m.old.params.swap_blocks ≤ D.blocks swap.old }
     requires files { AreFiles m.old.images (F.holds files.old) }
     ensures rests { IfOk result
-        (λ count. Rests m.old m.new (Mark.Dispatch pid more since) counted count (F.holds files.old) (D.image swap.old) (D.image swap.new)) }
-    ensures stops { IfErr result (StopsResting m.old m.new (Mark.Dispatch pid more since) counted (F.holds files.old) (D.image swap.old) (D.image swap.new)) }
+        (λ count. LeadsFrom (RestAt m.old (Mark.Dispatch pid more since) counted (F.holds files.old) (D.image swap.old))
+        (RestDone m.old m.new (Mark.Dispatch pid more since) count (D.image swap.new))) }
+    ensures stops { IfErr result
+        (StopsFrom (RestAt m.old (Mark.Dispatch pid more since) counted (F.holds files.old) (D.image swap.old)) m.old m.new (D.image swap.new)) }
     ensures on { IfOk result (λ count. StaysOn m.old m.new count) }
     ensures kept { IfErr result (KeptAtStop m.old m.new) }
     ensures outside { TransfersPages F.Files D.SwapDev (stop_of result) files.old files.new swap.old swap.new }
@@ -70,11 +73,13 @@ fn turn<F: Files, D: SwapDev>(
 ) -> Result<u32, Stop>
     requires steady { IsSteady m.old }
     requires counted { instructions_of m.old.kernel.journal ≡ counted }
-    requires under { IsUnder m.old (Mark.Turn pid since) counted (F.holds files.old) (D.image swap.old) }
+    requires under { AtSome (RestAt m.old (Mark.Turn pid since) counted (F.holds files.old) (D.image swap.old)) }
     requires area { m.old.params.swap_blocks ≤ D.blocks swap.old }
     requires files { AreFiles m.old.images (F.holds files.old) }
-    ensures rests { IfOk result (λ count. Rests m.old m.new (Mark.Turn pid since) counted count (F.holds files.old) (D.image swap.old) (D.image swap.new)) }
-    ensures stops { IfErr result (StopsResting m.old m.new (Mark.Turn pid since) counted (F.holds files.old) (D.image swap.old) (D.image swap.new)) }
+    ensures rests { IfOk result (λ count. LeadsFrom (RestAt m.old (Mark.Turn pid since) counted (F.holds files.old) (D.image swap.old))
+        (RestDone m.old m.new (Mark.Turn pid since) count (D.image swap.new))) }
+    ensures stops { IfErr result
+        (StopsFrom (RestAt m.old (Mark.Turn pid since) counted (F.holds files.old) (D.image swap.old)) m.old m.new (D.image swap.new)) }
     ensures on { IfOk result (λ count. StaysOn m.old m.new count) }
     ensures kept { IfErr result (KeptAtStop m.old m.new) }
     ensures outside { TransfersPages F.Files D.SwapDev (stop_of result) files.old files.new swap.old swap.new }
@@ -95,11 +100,12 @@ fn wait<F: Files, D: SwapDev>(
 ) -> Result<u32, Stop>
     requires steady { IsSteady m.old }
     requires counted { instructions_of m.old.kernel.journal ≡ counted }
-    requires under { IsUnder m.old Mark.Interrupt counted (F.holds files.old) (D.image swap.old) }
+    requires under { AtSome (RestAt m.old Mark.Interrupt counted (F.holds files.old) (D.image swap.old)) }
     requires area { m.old.params.swap_blocks ≤ D.blocks swap.old }
     requires files { AreFiles m.old.images (F.holds files.old) }
-    ensures rests { IfOk result (λ count. Rests m.old m.new Mark.Interrupt counted count (F.holds files.old) (D.image swap.old) (D.image swap.new)) }
-    ensures stops { IfErr result (StopsResting m.old m.new Mark.Interrupt counted (F.holds files.old) (D.image swap.old) (D.image swap.new)) }
+    ensures rests { IfOk result (λ count. LeadsFrom (RestAt m.old Mark.Interrupt counted (F.holds files.old) (D.image swap.old))
+        (RestDone m.old m.new Mark.Interrupt count (D.image swap.new))) }
+    ensures stops { IfErr result (StopsFrom (RestAt m.old Mark.Interrupt counted (F.holds files.old) (D.image swap.old)) m.old m.new (D.image swap.new)) }
     ensures on { IfOk result (λ count. StaysOn m.old m.new count) }
     ensures kept { IfErr result (KeptAtStop m.old m.new) }
     ensures outside { TransfersPages F.Files D.SwapDev (stop_of result) files.old files.new swap.old swap.new }
@@ -118,11 +124,12 @@ fn hands<F: Files, D: SwapDev>(
 ) -> Result<u32, Stop>
     requires steady { IsSteady m.old }
     requires counted { instructions_of m.old.kernel.journal ≡ counted }
-    requires under { IsUnder m.old (Mark.Hands left) counted (F.holds files.old) (D.image swap.old) }
+    requires under { AtSome (RestAt m.old (Mark.Hands left) counted (F.holds files.old) (D.image swap.old)) }
     requires area { m.old.params.swap_blocks ≤ D.blocks swap.old }
     requires files { AreFiles m.old.images (F.holds files.old) }
-    ensures rests { IfOk result (λ count. Rests m.old m.new (Mark.Hands left) counted count (F.holds files.old) (D.image swap.old) (D.image swap.new)) }
-    ensures stops { IfErr result (StopsResting m.old m.new (Mark.Hands left) counted (F.holds files.old) (D.image swap.old) (D.image swap.new)) }
+    ensures rests { IfOk result (λ count. LeadsFrom (RestAt m.old (Mark.Hands left) counted (F.holds files.old) (D.image swap.old))
+        (RestDone m.old m.new (Mark.Hands left) count (D.image swap.new))) }
+    ensures stops { IfErr result (StopsFrom (RestAt m.old (Mark.Hands left) counted (F.holds files.old) (D.image swap.old)) m.old m.new (D.image swap.new)) }
     ensures on { IfOk result (λ count. StaysOn m.old m.new count) }
     ensures kept { IfErr result (KeptAtStop m.old m.new) }
     ensures outside { TransfersPages F.Files D.SwapDev (stop_of result) files.old files.new swap.old swap.new }
@@ -141,11 +148,12 @@ fn bring_in<F: Files, D: SwapDev>(
 ) -> Result<u32, Stop>
     requires steady { IsSteady m.old }
     requires counted { instructions_of m.old.kernel.journal ≡ counted }
-    requires under { IsUnder m.old (Mark.BringIn pid) counted (F.holds files.old) (D.image swap.old) }
+    requires under { AtSome (RestAt m.old (Mark.BringIn pid) counted (F.holds files.old) (D.image swap.old)) }
     requires area { m.old.params.swap_blocks ≤ D.blocks swap.old }
     requires files { AreFiles m.old.images (F.holds files.old) }
-    ensures rests { IfOk result (λ count. Rests m.old m.new (Mark.BringIn pid) counted count (F.holds files.old) (D.image swap.old) (D.image swap.new)) }
-    ensures stops { IfErr result (StopsResting m.old m.new (Mark.BringIn pid) counted (F.holds files.old) (D.image swap.old) (D.image swap.new)) }
+    ensures rests { IfOk result (λ count. LeadsFrom (RestAt m.old (Mark.BringIn pid) counted (F.holds files.old) (D.image swap.old))
+        (RestDone m.old m.new (Mark.BringIn pid) count (D.image swap.new))) }
+    ensures stops { IfErr result (StopsFrom (RestAt m.old (Mark.BringIn pid) counted (F.holds files.old) (D.image swap.old)) m.old m.new (D.image swap.new)) }
     ensures on { IfOk result (λ count. StaysOn m.old m.new count) }
     ensures kept { IfErr result (KeptAtStop m.old m.new) }
     ensures outside { TransfersPages F.Files D.SwapDev (stop_of result) files.old files.new swap.old swap.new }
@@ -164,11 +172,12 @@ fn put_out<F: Files, D: SwapDev>(
 ) -> Result<u32, Stop>
     requires steady { IsSteady m.old }
     requires counted { instructions_of m.old.kernel.journal ≡ counted }
-    requires under { IsUnder m.old (Mark.PutOut pid) counted (F.holds files.old) (D.image swap.old) }
+    requires under { AtSome (RestAt m.old (Mark.PutOut pid) counted (F.holds files.old) (D.image swap.old)) }
     requires area { m.old.params.swap_blocks ≤ D.blocks swap.old }
     requires files { AreFiles m.old.images (F.holds files.old) }
-    ensures rests { IfOk result (λ count. Rests m.old m.new (Mark.PutOut pid) counted count (F.holds files.old) (D.image swap.old) (D.image swap.new)) }
-    ensures stops { IfErr result (StopsResting m.old m.new (Mark.PutOut pid) counted (F.holds files.old) (D.image swap.old) (D.image swap.new)) }
+    ensures rests { IfOk result (λ count. LeadsFrom (RestAt m.old (Mark.PutOut pid) counted (F.holds files.old) (D.image swap.old))
+        (RestDone m.old m.new (Mark.PutOut pid) count (D.image swap.new))) }
+    ensures stops { IfErr result (StopsFrom (RestAt m.old (Mark.PutOut pid) counted (F.holds files.old) (D.image swap.old)) m.old m.new (D.image swap.new)) }
     ensures on { IfOk result (λ count. StaysOn m.old m.new count) }
     ensures kept { IfErr result (KeptAtStop m.old m.new) }
     ensures outside { TransfersPages F.Files D.SwapDev (stop_of result) files.old files.new swap.old swap.new }
@@ -186,11 +195,12 @@ fn note_owners<F: Files, D: SwapDev>(
 ) -> Result<u32, Stop>
     requires steady { IsSteady m.old }
     requires counted { instructions_of m.old.kernel.journal ≡ counted }
-    requires under { IsUnder m.old Mark.Audit counted (F.holds files.old) (D.image swap.old) }
+    requires under { AtSome (RestAt m.old Mark.Audit counted (F.holds files.old) (D.image swap.old)) }
     requires area { m.old.params.swap_blocks ≤ D.blocks swap.old }
     requires files { AreFiles m.old.images (F.holds files.old) }
-    ensures rests { IfOk result (λ count. Rests m.old m.new Mark.Audit counted count (F.holds files.old) (D.image swap.old) (D.image swap.new)) }
-    ensures stops { IfErr result (StopsResting m.old m.new Mark.Audit counted (F.holds files.old) (D.image swap.old) (D.image swap.new)) }
+    ensures rests { IfOk result (λ count. LeadsFrom (RestAt m.old Mark.Audit counted (F.holds files.old) (D.image swap.old))
+        (RestDone m.old m.new Mark.Audit count (D.image swap.new))) }
+    ensures stops { IfErr result (StopsFrom (RestAt m.old Mark.Audit counted (F.holds files.old) (D.image swap.old)) m.old m.new (D.image swap.new)) }
     ensures on { IfOk result (λ count. StaysOn m.old m.new count) }
     ensures kept { IfErr result (KeptAtStop m.old m.new) }
     ensures outside { TransfersPages F.Files D.SwapDev (stop_of result) files.old files.new swap.old swap.new }
@@ -210,11 +220,12 @@ pub(crate) fn rest<F: Files, D: SwapDev>(
 ) -> Result<u32, Stop>
     requires steady { IsSteady m.old }
     requires counted { instructions_of m.old.kernel.journal ≡ counted }
-    requires under { IsUnder m.old mark counted (F.holds files.old) (D.image swap.old) }
+    requires under { AtSome (RestAt m.old mark counted (F.holds files.old) (D.image swap.old)) }
     requires area { m.old.params.swap_blocks ≤ D.blocks swap.old }
     requires files { AreFiles m.old.images (F.holds files.old) }
-    ensures rests { IfOk result (λ count. Rests m.old m.new mark counted count (F.holds files.old) (D.image swap.old) (D.image swap.new)) }
-    ensures stops { IfErr result (StopsResting m.old m.new mark counted (F.holds files.old) (D.image swap.old) (D.image swap.new)) }
+    ensures rests { IfOk result
+        (λ count. LeadsFrom (RestAt m.old mark counted (F.holds files.old) (D.image swap.old)) (RestDone m.old m.new mark count (D.image swap.new))) }
+    ensures stops { IfErr result (StopsFrom (RestAt m.old mark counted (F.holds files.old) (D.image swap.old)) m.old m.new (D.image swap.new)) }
     ensures on { IfOk result (λ count. StaysOn m.old m.new count) }
     ensures kept { IfErr result (KeptAtStop m.old m.new) }
     ensures outside { TransfersPages F.Files D.SwapDev (stop_of result) files.old files.new swap.old swap.new }

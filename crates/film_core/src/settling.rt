@@ -6,8 +6,9 @@ ghost use Rattle.machine_state.specs.Files.{AreFiles};
 ghost use Rattle.machine_state.specs.Outside.{stop_of, TransfersPages};
 ghost use Rattle.journal_laws.specs.LastMoves.{last_moves};
 ghost use Rattle.run_start.specs.Sizes.{KeptAtStop};
+ghost use Rattle.run_start.specs.Stepped.{AtSome, LeadsFrom, StopsFrom};
 ghost use Rattle.proc_run.specs.Running.{CountsTo};
-ghost use Rattle.film_core.specs.Ways.{IsOnWay, Settles, StopsSettling};
+ghost use Rattle.film_core.specs.Ways.{StepSettled, WayAt};
 
 use io_edge::{Files, SwapDev};
 use machine_state::Machine;
@@ -27,11 +28,12 @@ pub(crate) fn settle<F: Files, D: SwapDev>(
     requires low { last_moves m.old.kernel.journal ≤ 1000000 }
     requires counted { instructions_of m.old.kernel.journal ≡ counted }
     requires more { counted + 1 < 2 ^ 32 }
-    requires way { IsOnWay m.old (F.holds files.old) (D.image swap.old) }
+    requires way { AtSome (WayAt m.old (F.holds files.old) (D.image swap.old)) }
     requires area { m.old.params.swap_blocks ≤ D.blocks swap.old }
     requires files { AreFiles m.old.images (F.holds files.old) }
-    ensures settles { IfOk result (λ count. Settles m.old m.new counted count (F.holds files.old) (D.image swap.old) (D.image swap.new)) }
-    ensures stops { IfErr result (StopsSettling m.old m.new (F.holds files.old) (D.image swap.old) (D.image swap.new)) }
+    ensures settles { IfOk result
+        (λ count. LeadsFrom (WayAt m.old (F.holds files.old) (D.image swap.old)) (StepSettled m.old m.new counted count (D.image swap.new))) }
+    ensures stops { IfErr result (StopsFrom (WayAt m.old (F.holds files.old) (D.image swap.old)) m.old m.new (D.image swap.new)) }
     ensures counts { IfOk result (λ count. CountsTo m.old m.new counted count) }
     ensures kept { IfErr result (KeptAtStop m.old m.new) }
     ensures outside { TransfersPages F.Files D.SwapDev (stop_of result) files.old files.new swap.old swap.new }

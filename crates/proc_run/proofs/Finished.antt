@@ -35,7 +35,7 @@ use Rattle.touched_pages.proofs.Flows.{on_steps}
 use Rattle.touched_pages.specs.RunUnitsTouching.{IsRunning}
 use Rattle.touched_pages.specs.Serving.{At}
 use Rattle.step_units.specs.Rests.{ReplyRests, EndRests}
-use Rattle.step_units.specs.Stepped.{StepLeads, StopLeads}
+use Rattle.step_units.specs.Stepped.{StepLeads, StopLeads, AtSome, LeadsFrom, StopsFrom}
 use Rattle.step_units.proofs.Ending.{ended, end_stops}
 use Rattle.step_units.proofs.Resting.{sent_rests, refused_rests, rest_made, rest_stops}
 use Rattle.step_units.proofs.Serving.{same_space}
@@ -44,7 +44,7 @@ use Rattle.proc_run.specs.declared.finishing.Begun.{Begun}
 use Rattle.proc_run.specs.declared.finishing.Begun.TheVariants as begun
 use Rattle.proc_run.specs.Calls.{own_answers, MadeCall}
 use Rattle.proc_run.specs.Choosing.{may_run}
-use Rattle.proc_run.specs.Rests.{begun_by, pid_of, carry_of, r0_of, SentFew, BegunAt, IsBegun, FinishesStep, StopsStep}
+use Rattle.proc_run.specs.Rests.{begun_by, pid_of, carry_of, r0_of, SentFew, BegunAt}
 use Rattle.proc_run.specs.Running.{CountsTo}
 use Rattle.proc_run.specs.Runs.{IsSteady}
 use Rattle.proc_run.proofs.Attempts.{fell}
@@ -58,7 +58,7 @@ abbrev Rests : Inputs → State → Standing → Begun → ℕ → Type 0
 Rests A s m b pid = SentFew b × (ReplyRests A s m pid (carry_of b) (r0_of b) ⊎ EndRests A s m pid)
 
 module _ (A : Inputs) (s : State) (m : Standing) (b : Begun) (holds : Option (List NamedFile)) (i : Option (List ℕ)) (image : List ℕ) (pid : ℕ) (is : pid ≡ pid_of b)
-    (h : BegunAt A s m b holds i image) where
+    (h : BegunAt m b holds i A s image) where
   rests : Rests A s m b pid
   rests = subst (Rests A s m b) (sym is) (go s.point.last refl h.begun)
     where
@@ -82,7 +82,7 @@ module _ (A : Inputs) (s : State) (m : Standing) (b : Begun) (holds : Option (Li
     | inr r ↦ runs_so r.now r.process r.space r.running
   ]
 
-module _ (m : Standing) (b : Begun) (holds : Option (List NamedFile)) (i : Option (List ℕ)) (pid : ℕ) (is : pid ≡ pid_of b) (h : IsBegun m b holds i) where
+module _ (m : Standing) (b : Begun) (holds : Option (List NamedFile)) (i : Option (List ℕ)) (pid : ℕ) (is : pid ≡ pid_of b) (h : AtSome (BegunAt m b holds i)) where
   pub begun_runs : may_run m.kernel pid ≡ true
   begun_runs = rest_runs h.0 h.1 m b holds i h.2 pid is h.3
 
@@ -101,7 +101,7 @@ module _ (m : Standing) (b : Begun) (holds : Option (List NamedFile)) (i : Optio
       ap (λ (n : ℕ). run (kernel_answers m.kernel n) (instruction before)) (same_space A s m.kernel image pid now p x at r)
       ∙ ap (λ (g : Regs). run (kernel_answers m.kernel x.sid) (instruction g)) (same ∙ regs_is m.kernel pid p x (is_kept A s m.kernel image pid now p x at r))
 
-  module _ (A : Inputs) (s : State) (image : List ℕ) (h : BegunAt A s m b holds i image) where
+  module _ (A : Inputs) (s : State) (image : List ℕ) (h : BegunAt m b holds i A s image) where
     replies : (r : ReplyRests A s m pid (carry_of b) (r0_of b)) → tried ≡ Ok r.effect
     replies r = own A s image r.now r.process r.space h.machine.at r.running ∙ r.makes.made
 
@@ -161,7 +161,7 @@ module _ (m : Standing) (b : Begun) (holds : Option (List NamedFile)) (i : Optio
       ]
 
   -- It came to nothing else.
-  module _ (h : IsBegun m b holds i) where
+  module _ (h : AtSome (BegunAt m b holds i)) where
     pub never_unnamed : (number : ℤ) → answer_of tried ≡ steps.Call number → call_of number ≡ None → ⊥
     never_unnamed number e none = elim (comes h.0 h.1 h.2 h.3) [
       | inl x ↦
@@ -193,23 +193,24 @@ module _ (m : Standing) (b : Begun) (holds : Option (List NamedFile)) (i : Optio
 module _ (old mid new : Standing) (f : mid ≡ old) (b : Begun) (holds : Option (List NamedFile)) (i : Option (List ℕ)) (pid : ℕ) (is : pid ≡ pid_of b) (before : Regs)
     (same : before ≡ regs_of old.kernel pid) where
   module _ (number : ℤ) (after : Regs) (call : SystemCall) (made : MadeCall old pid before number after) (names : call_of number ≡ Some call) where
-    pub answer_finishes : Answered mid new pid call (replied after (carry_of b) (r0_of b)) Keep → FinishesStep old new b holds i i
+    pub answer_finishes : Answered mid new pid call (replied after (carry_of b) (r0_of b)) Keep → LeadsFrom (BegunAt old b holds i) (λ A s image. StepLeads A s old.kernel image 1 new.kernel i)
     answer_finishes a A s image h =
         answer_leads old b holds i pid is before same A s image h number after call made names new
         (subst (λ (m : Standing). Answered m new pid call (replied after (carry_of b) (r0_of b)) Keep) f a)
 
-    pub answer_stops : (stop : Stop) → StopsBefore mid new stop → StopsStep old new b holds i i stop
+    pub answer_stops : (stop : Stop) → StopsBefore mid new stop → StopsFrom (BegunAt old b holds i) old new i stop
     answer_stops stop a A s image h =
         answer_halts old b holds i pid is before same A s image h number after call made names new stop (subst (λ (m : Standing). StopsBefore m new stop) f a)
 
   module _ (address : ℕ) (down : answer_of (run (own_answers old pid) (instruction before)) ≡ steps.Below address) (j : Option (List ℕ)) where
-    pub end_finishes : (r : Result (Unit {0}) Stop) → OnOk r (HasEnded mid new pid 11 holds i j) → OnOk r (FinishesStep old new b holds i j)
+    pub end_finishes : (r : Result (Unit {0}) Stop) → OnOk r (HasEnded mid new pid 11 holds i j)
+        → OnOk r (LeadsFrom (BegunAt old b holds i) (λ A s image. StepLeads A s old.kernel image 1 new.kernel j))
     end_finishes (Err stop) e = tt
     end_finishes (Ok x) e = λ A s image h.
         end_leads old b holds i pid is before same A s image h address (fell (run (own_answers old pid) (instruction before)) address down) new j
         (subst (λ (m : Standing). HasEnded m new pid 11 holds i j) f e)
 
-    pub end_stopped : (r : Result (Unit {0}) Stop) → IfErr r (StopsAlive mid new pid holds i j) → IfErr r (StopsStep old new b holds i j)
+    pub end_stopped : (r : Result (Unit {0}) Stop) → IfErr r (StopsAlive mid new pid holds i j) → IfErr r (StopsFrom (BegunAt old b holds i) old new j)
     end_stopped (Ok x) e = tt
     end_stopped (Err stop) e = λ A s image h.
         end_halts old b holds i pid is before same A s image h address (fell (run (own_answers old pid) (instruction before)) address down) new j stop

@@ -15,14 +15,15 @@ use Rattle.steady_laws.specs.Called.{Called}
 use Rattle.steady_laws.specs.Called.TheVariants as calls
 use Rattle.steady_laws.specs.Callers.{IsCaller, regs_of}
 use Rattle.run_model.specs.State.{State}
-use Rattle.step_units.specs.Stepped.{StepLeads, MarkEnds, CallLeads}
+use Rattle.step_units.specs.Stepped.{CallLeads, LeadsFrom, StopsFrom}
 use Rattle.steady_laws.specs.Ready.{Continues}
 use Rattle.steady_laws.specs.Calls.{called_count}
 use Rattle.touched_pages.specs.Missed.{WritesNothing}
 use Rattle.touched_pages.proofs.RunUnitsCalling.{calls_write_none}
 use Rattle.proc_run.specs.declared.advancing.Advance.{Advance}
+use Rattle.proc_run.specs.declared.advancing.Advance.TheVariants as advances
 use Rattle.proc_run.specs.Calls.{own_answers, CallComes, CallStops, MadeCall}
-use Rattle.proc_run.specs.Runs.{IsSteady, RunsAt, Advances, StopsAdvancing, AdvancesWaiting, StopsWaiting}
+use Rattle.proc_run.specs.Runs.{IsSteady, RunsAt, HasRunner, WaitsAt, AdvancesTo}
 use Rattle.proc_run.proofs.Known.{known, are_known}
 use Rattle.proc_run.proofs.CallSteps.{call_leads, call_stops}
 use Rattle.proc_run.proofs.CallsGoOn.{calls_go_on}
@@ -56,8 +57,8 @@ module _ (old new : Standing) (pid : ℕ) (before : Regs) (number : ℤ) (after 
       (subst (λ (o : Option (List ℕ)). CallComes call old new pid after holds o j called) r.told h))
 
   pub ready_advances : (called : Called) → (called ≡ calls.Ready) ⊎ (called ≡ calls.Gone) → CallComes call old new pid after holds i j called
-      → (A : Inputs) (s : State) (image : List ℕ) (p : Process) (x : Space) → RunsAt A s old holds i image pid now p x → StepLeads A s old.kernel image 1 new.kernel j
-  ready_advances called w h A s image p x r = elim w [
+      → LeadsFrom (HasRunner old holds i pid now) (AdvancesTo old.kernel new.kernel j advances.Counted)
+  ready_advances called w h A s image (p, x, r) = elim w [
     | inl e ↦ subst (λ (d : Called). CallLeads A s old.kernel image x d new.kernel j) e (leads called h A s image p x r)
     | inr e ↦ subst (λ (d : Called). CallLeads A s old.kernel image x d new.kernel j) e (leads called h A s image p x r)
   ]
@@ -70,14 +71,14 @@ module _ (old new : Standing) (pid : ℕ) (before : Regs) (number : ℤ) (after 
   ]
 
   pub asleep_advances : (called : Called) → called ≡ calls.Asleep → CallComes call old new pid after holds i j called
-      → (A : Inputs) (s : State) (image : List ℕ) (p : Process) (x : Space) → RunsAt A s old holds i image pid now p x → MarkEnds A s old.kernel image new.kernel j
-  asleep_advances called e h A s image p x r = subst (λ (d : Called). CallLeads A s old.kernel image x d new.kernel j) e (leads called h A s image p x r)
+      → LeadsFrom (HasRunner old holds i pid now) (AdvancesTo old.kernel new.kernel j advances.Stuck)
+  asleep_advances called e h A s image (p, x, r) = subst (λ (d : Called). CallLeads A s old.kernel image x d new.kernel j) e (leads called h A s image p x r)
 
   pub asleep_goes_on : (called : Called) → called ≡ calls.Asleep → CallComes call old new pid after holds i j called → Continues old new 0
   asleep_goes_on called e h = subst (λ (d : Called). Continues old new (called_count d)) e (goes_on called h)
 
-  pub stopped : (stop : Stop) → CallStops call old new pid after holds i j stop → StopsAdvancing old new pid now holds i j stop
-  stopped stop h A s image p x r =
+  pub stopped : (stop : Stop) → CallStops call old new pid after holds i j stop → StopsFrom (HasRunner old holds i pid now) old new j stop
+  stopped stop h A s image (p, x, r) =
       call_stops A s old new holds image pid now p x made.effect r.on r.named call j stop (makes_call A s old holds i image pid now p x before r same number after call made names)
       (subst (λ (g : Regs). CallStops call old new pid g holds (Some image) j stop) (sym made.left)
       (subst (λ (o : Option (List ℕ)). CallStops call old new pid after holds o j stop) r.told h))
@@ -89,20 +90,21 @@ module _ (old new : Standing) (pid : ℕ) (before : Regs) (number : ℤ) (after 
     comes = subst (λ (d : Called). CallComes call old new pid after holds i j d) is given
 
     module _ (last : Standing) (later : Option (List NamedFile)) (k : Option (List ℕ)) (files : later ≡ holds) where
-      pub missed_advances : (o : Result Advance Stop) → IfOk o (AdvancesWaiting new last pid now address false later j k)
-          → IfOk o (Advances old last pid now holds i k)
+      pub missed_advances : (o : Result Advance Stop) → IfOk o (λ advance. LeadsFrom (WaitsAt new later j pid now address false) (AdvancesTo new.kernel last.kernel k advance))
+          → IfOk o (λ advance. LeadsFrom (HasRunner old holds i pid now) (AdvancesTo old.kernel last.kernel k advance))
       missed_advances (Err stop) h = tt
-      missed_advances (Ok advance) h = λ A s image p x r.
-          let l = leads (calls.Miss address) comes A s image p x r in
-          let w = subst (λ (m : Standing). AdvancesWaiting m last pid now address false later j k advance) (unchanged call old new pid after holds i j called address is given) h in
-          let w2 = subst (λ (o : Option (List NamedFile)). AdvancesWaiting old last pid now address false o j k advance) files w in
-          w2 A s image p x l.2.before (record { on = r.on; named = r.named; told = l.1 }) (inl (l.2, refl))
+      missed_advances (Ok advance) h = λ A s image n.
+          let l = leads (calls.Miss address) comes A s image n.0 n.1 n.2 in
+          let w = subst (λ (m : Standing). LeadsFrom (WaitsAt m later j pid now address false) (AdvancesTo m.kernel last.kernel k advance))
+          (unchanged call old new pid after holds i j called address is given) h in
+          let w2 = subst (λ (o : Option (List NamedFile)). LeadsFrom (WaitsAt old o j pid now address false) (AdvancesTo old.kernel last.kernel k advance)) files w in
+          w2 A s image (n.0, n.1, l.2.before, (record { on = n.2.on; named = n.2.named; told = l.1 }), inl (l.2, refl))
 
-      pub missed_stops : (o : Result Advance Stop) → IfErr o (StopsWaiting new last pid now address false later j k)
-          → IfErr o (StopsAdvancing old last pid now holds i k)
+      pub missed_stops : (o : Result Advance Stop) → IfErr o (StopsFrom (WaitsAt new later j pid now address false) new last k)
+          → IfErr o (StopsFrom (HasRunner old holds i pid now) old last k)
       missed_stops (Ok advance) h = tt
-      missed_stops (Err stop) h = λ A s image p x r.
-          let l = leads (calls.Miss address) comes A s image p x r in
-          let w = subst (λ (m : Standing). StopsWaiting m last pid now address false later j k stop) (unchanged call old new pid after holds i j called address is given) h in
-          let w2 = subst (λ (o : Option (List NamedFile)). StopsWaiting old last pid now address false o j k stop) files w in
-          w2 A s image p x l.2.before (record { on = r.on; named = r.named; told = l.1 }) (inl (l.2, refl))
+      missed_stops (Err stop) h = λ A s image n.
+          let l = leads (calls.Miss address) comes A s image n.0 n.1 n.2 in
+          let w = subst (λ (m : Standing). StopsFrom (WaitsAt m later j pid now address false) m last k stop) (unchanged call old new pid after holds i j called address is given) h in
+          let w2 = subst (λ (o : Option (List NamedFile)). StopsFrom (WaitsAt old o j pid now address false) old last k stop) files w in
+          w2 A s image (n.0, n.1, l.2.before, (record { on = n.2.on; named = n.2.named; told = l.1 }), inl (l.2, refl))

@@ -149,7 +149,7 @@ pub advances_valid : (now : Bool) (A : Inputs) (s : State) (old mid : Standing) 
     (pid : ℕ) (p : Process) (x : Space)
     (address : ℕ) (write : Bool) (before : List Page) (answer : Served) → answer ≡ served.Valid → RunsAt A s old holds i image pid now p x
     → WaitsForPage A s old p x address write before
-    → ServedBy now old mid pid address write holds i j answer → AdvancesTo A s old.kernel image advances.Served mid.kernel j
+    → ServedBy now old mid pid address write holds i j answer → AdvancesTo old.kernel mid.kernel j advances.Served A s image
 advances_valid now A s old mid holds i j image pid p x address write before answer e r w h =
     let m = subst (ServeLeads A s old mid holds image j pid now p x) e (served_leads now A s old mid holds i j image pid p x address write before answer r w h) in
     (m.led, m.more)
@@ -163,7 +163,7 @@ pub advances_stuck : (now : Bool) (A : Inputs) (s : State) (old mid : Standing) 
     (pid : ℕ) (p : Process) (x : Space)
     (address : ℕ) (write : Bool) (before : List Page) (answer : Served) → IsStuck answer → RunsAt A s old holds i image pid now p x
     → WaitsForPage A s old p x address write before
-    → ServedBy now old mid pid address write holds i j answer → AdvancesTo A s old.kernel image advances.Stuck mid.kernel j
+    → ServedBy now old mid pid address write holds i j answer → AdvancesTo old.kernel mid.kernel j advances.Stuck A s image
 advances_stuck now A s old mid holds i j image pid p x address write before answer e r w h = go answer e (served_leads now A s old mid holds i j image pid p x address write before answer r w h)
   where
     go : (answer : Served) → IsStuck answer → ServeLeads A s old mid holds image j pid now p x answer → MarkEnds A s old.kernel image mid.kernel j

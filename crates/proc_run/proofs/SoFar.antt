@@ -5,8 +5,7 @@ use Rattle.io_edge.specs.FileHolding.{NamedFile}
 use Rattle.vm_facts.specs.declared.entry.Entry.{Entry}
 use Rattle.vm_facts.specs.declared.params.Params.{Params}
 use Rattle.vm_facts.specs.declared.stop.Stop.{Stop}
-use Rattle.flat_state.specs.Space.{Space}
-use Rattle.flat_state.specs.Flat.{Process, Inputs}
+use Rattle.flat_state.specs.Flat.{Inputs}
 use Rattle.kernel_model.specs.Kernel.{Kernel, Proc, Life, New, HoldsSpace, LendsSpace, Ended}
 use Rattle.kernel_model.specs.ChangeStep.{life_of_proc}
 use Rattle.kernel_model.specs.Unit.{proc_of}
@@ -25,16 +24,16 @@ use Rattle.run_model.specs.Wanted.{locked}
 use Rattle.touched_pages.specs.Leads.{Leads}
 use Rattle.touched_pages.proofs.Units.{none_leads, leads_at}
 use Rattle.step_units.specs.Machines.{MachineAt}
-use Rattle.step_units.specs.Stepped.{StepLeads}
+use Rattle.step_units.specs.Stepped.{StepLeads, LeadsFrom, StopsFrom}
 use Rattle.step_units.proofs.Entering.{leads_both, stops_then}
 use Rattle.step_units.specs.Lines.{IsClear}
 use Rattle.steady_laws.specs.Ready.{Continues}
 use Rattle.steady_laws.proofs.Running.{continues_self, continues_both}
 use Rattle.proc_run.specs.declared.advancing.Advance.TheVariants as advances
 use Rattle.proc_run.specs.Choosing.{is_space_holder, steps_by, may_run}
-use Rattle.proc_run.specs.Runs.{IsSteady, RunsAt, Advances, StopsAdvancing}
+use Rattle.proc_run.specs.Runs.{IsSteady, HasRunner, AdvancesTo}
 use Rattle.proc_run.specs.Stretch.{RanOne, RanOn}
-use Rattle.proc_run.specs.Running.{AsksRun, UnderMark, RunLeads, Runs, StopsRunning}
+use Rattle.proc_run.specs.Running.{AsksRun, UnderMark, RunLeads}
 use Rattle.proc_run.proofs.Marks.{runs, over_counted, over_idle}
 
 -- Next units led to a state under the same mark, at which as many instructions are counted, and at least so many pages are valid of
@@ -57,7 +56,7 @@ pub record SoFar (A : Inputs) (s : State) (k : Kernel) (image : List ℕ) (m : S
 -- for every state at which the machine stood
 abbrev pub LedSoFar : Standing → Standing → ℕ → Bool → ℕ → ℕ → Option (List NamedFile) → Option (List ℕ) → Option (List ℕ) → ℕ → ℕ → Type 0
 LedSoFar old m pid now counted until holds i j count waits =
-    (A : Inputs) (s : State) (image : List ℕ) → UnderMark A s old holds i image pid now counted until → SoFar A s old.kernel image m holds j count waits
+    (A : Inputs) (s : State) (image : List ℕ) → UnderMark old holds i pid now counted until A s image → SoFar A s old.kernel image m holds j count waits
 
 pub none_so_far : (old : Standing) (pid : ℕ) (now : Bool) (counted until : ℕ) (holds : Option (List NamedFile)) (i : Option (List ℕ))
     → LedSoFar old old pid now counted until holds i i counted 0
@@ -83,8 +82,8 @@ asks_still A s t pid true until e (since, m, u) = (since, e ∙ m, u)
 module _ (old m new : Standing) (pid : ℕ) (now : Bool) (counted until : ℕ) (holds : Option (List NamedFile)) (i j h : Option (List ℕ)) (count waits : ℕ)
     (so_far : LedSoFar old m pid now counted until holds i j count waits) where
   -- the process runs there
-  runs_there : count < until → may_run m.kernel pid ≡ true → (A : Inputs) (s : State) (image : List ℕ) (u : UnderMark A s old holds i image pid now counted until)
-      → (let f = so_far A s image u in (p : Process) × (x : Space) × RunsAt A f.state m holds j f.behind pid now p x)
+  runs_there : count < until → may_run m.kernel pid ≡ true → (A : Inputs) (s : State) (image : List ℕ) (u : UnderMark old holds i pid now counted until A s image)
+      → (let f = so_far A s image u in HasRunner m holds j pid now A f.state f.behind)
   runs_there l r A s image u =
       let f = so_far A s image u in
       let w = runs A f.state m.kernel f.behind pid until f.machine.at now (asks_still A s f.state pid now until f.mark u.asks) f.clear.clear (let c = f.counted in omega (arith, c, l)) r in
@@ -92,7 +91,7 @@ module _ (old m new : Standing) (pid : ℕ) (now : Bool) (counted until : ℕ) (
 
   module _ (more : count < until) (can : may_run m.kernel pid ≡ true) where
     -- one attempt more
-    step_far : (n waited : ℕ) (A : Inputs) (s : State) (image : List ℕ) (u : UnderMark A s old holds i image pid now counted until)
+    step_far : (n waited : ℕ) (A : Inputs) (s : State) (image : List ℕ) (u : UnderMark old holds i pid now counted until A s image)
         → (let f = so_far A s image u in (led : StepLeads A f.state m.kernel f.behind n new.kernel h) → new.params ≡ m.params → new.images ≡ m.images → waited ≤ length (locked A led.state)
         → SoFar A s old.kernel image new holds h (count + n) waited)
     step_far n waited A s image u led params images w =
@@ -118,31 +117,31 @@ module _ (old m new : Standing) (pid : ℕ) (now : Bool) (counted until : ℕ) (
           waited = w;
         }
 
-    pub counted_far : new.params ≡ m.params → new.images ≡ m.images → Advances m new pid now holds j h advances.Counted
+    pub counted_far : new.params ≡ m.params → new.images ≡ m.images → LeadsFrom (HasRunner m holds j pid now) (AdvancesTo m.kernel new.kernel h advances.Counted)
         → LedSoFar old new pid now counted until holds i h (count + 1) 0
     counted_far params images a A s image u =
         let f = so_far A s image u in
         let r = runs_there more can A s image u in
-        step_far 1 0 A s image u (a A f.state f.behind r.0 r.1 r.2) params images (omega arith)
+        step_far 1 0 A s image u (a A f.state f.behind r) params images (omega arith)
 
-    pub served_far : new.params ≡ m.params → new.images ≡ m.images → Advances m new pid now holds j h advances.Served
+    pub served_far : new.params ≡ m.params → new.images ≡ m.images → LeadsFrom (HasRunner m holds j pid now) (AdvancesTo m.kernel new.kernel h advances.Served)
         → LedSoFar old new pid now counted until holds i h count (waits + 1)
     served_far params images a A s image u =
         let f = so_far A s image u in
         let r = runs_there more can A s image u in
-        let b = a A f.state f.behind r.0 r.1 r.2 in
+        let b = a A f.state f.behind r in
         let e : count + 0 ≡ count = omega arith in
         subst (λ (n : ℕ). SoFar A s old.kernel image new holds h n (waits + 1)) e
         (step_far 0 (waits + 1) A s image u b.0 params images (let w = f.waited in let l = b.1 in omega arith))
 
     -- nothing more is to come
-    pub stuck_runs : new.params ≡ m.params → new.images ≡ m.images → Advances m new pid now holds j h advances.Stuck
-        → Runs old new pid now counted until holds i h count
+    pub stuck_runs : new.params ≡ m.params → new.images ≡ m.images → LeadsFrom (HasRunner m holds j pid now) (AdvancesTo m.kernel new.kernel h advances.Stuck)
+        → LeadsFrom (UnderMark old holds i pid now counted until) (RunLeads old.kernel pid now new.kernel h count)
     unfolding step_far
     stuck_runs params images a A s image u =
         let f = so_far A s image u in
         let r = runs_there more can A s image u in
-        let b = a A f.state f.behind r.0 r.1 r.2 in
+        let b = a A f.state f.behind r in
         let z = step_far 0 0 A s image u b.led params images (omega arith) in
         record {
           units = z.units;
@@ -155,18 +154,18 @@ module _ (old m new : Standing) (pid : ℕ) (now : Bool) (counted until : ℕ) (
           mark = z.mark;
         }
 
-    pub stops_far : (stop : Stop) → StopsAdvancing m new pid now holds j h stop → StopsRunning old new pid now counted until holds i h stop
+    pub stops_far : (stop : Stop) → StopsFrom (HasRunner m holds j pid now) m new h stop → StopsFrom (UnderMark old holds i pid now counted until) old new h stop
     stops_far stop a A s image u =
         let f = so_far A s image u in
         let r = runs_there more can A s image u in
-        stops_then A s f.state old.kernel m.kernel image f.behind h f.units stop new f.leads (a A f.state f.behind r.0 r.1 r.2)
+        stops_then A s f.state old.kernel m.kernel image f.behind h f.units stop new f.leads (a A f.state f.behind r)
 
 -- Where it ends.
 
 module _ (old m : Standing) (pid : ℕ) (now : Bool) (counted until : ℕ) (holds : Option (List NamedFile)) (i j : Option (List ℕ)) (count waits : ℕ)
     (so_far : LedSoFar old m pid now counted until holds i j count waits) where
-  ends : (A : Inputs) (s : State) (image : List ℕ) (u : UnderMark A s old holds i image pid now counted until)
-      → (let f = so_far A s image u in ((now ≡ true → is_out f.state.place pid ≡ false) → under A f.state f.state.mark ≡ None) → RunLeads A s old.kernel image pid now m.kernel j count)
+  ends : (A : Inputs) (s : State) (image : List ℕ) (u : UnderMark old holds i pid now counted until A s image)
+      → (let f = so_far A s image u in ((now ≡ true → is_out f.state.place pid ≡ false) → under A f.state f.state.mark ≡ None) → RunLeads old.kernel pid now m.kernel j count A s image)
   ends A s image u over =
       let f = so_far A s image u in
       record {
@@ -181,19 +180,19 @@ module _ (old m : Standing) (pid : ℕ) (now : Bool) (counted until : ℕ) (hold
       }
 
   -- it can't step, or is out
-  pub idle_runs : may_run m.kernel pid ≡ false → Runs old m pid now counted until holds i j count
+  pub idle_runs : may_run m.kernel pid ≡ false → LeadsFrom (UnderMark old holds i pid now counted until) (RunLeads old.kernel pid now m.kernel j count)
   idle_runs e A s image u =
       let f = so_far A s image u in
       ends A s image u (over_idle A f.state m.kernel f.behind pid until f.machine.at now (asks_still A s f.state pid now until f.mark u.asks) e)
 
   -- all its instructions are counted
-  pub done_runs : until ≤ count → Runs old m pid now counted until holds i j count
+  pub done_runs : until ≤ count → LeadsFrom (UnderMark old holds i pid now counted until) (RunLeads old.kernel pid now m.kernel j count)
   done_runs l A s image u =
       let f = so_far A s image u in
       ends A s image u (λ r. over_counted A f.state m.kernel f.behind pid until f.machine.at now (asks_still A s f.state pid now until f.mark u.asks) (let c = f.counted in omega (arith, c, l)))
 
   -- it never waits for more pages than an instruction touches
-  pub waited_runs : 32 ≤ waits → Runs old m pid now counted until holds i j count
+  pub waited_runs : 32 ≤ waits → LeadsFrom (UnderMark old holds i pid now counted until) (RunLeads old.kernel pid now m.kernel j count)
   waited_runs w A s image u =
       let f = so_far A s image u in
       let few = locked_few A f.state (sized_whole f.state.point.flat f.machine.at.run.sized) in

@@ -27,14 +27,14 @@ use Rattle.steady_laws.specs.Callers.{space_held, regs_of}
 use Rattle.steady_laws.specs.Leaving.{HasEnded, StopsAlive}
 use Rattle.run_model.specs.State.{State}
 use Rattle.step_units.specs.Running.{WaitsForPage}
-use Rattle.step_units.specs.Stepped.{StopLeads}
+use Rattle.step_units.specs.Stepped.{StopLeads, LeadsFrom, StopsFrom}
 use Rattle.steady_laws.specs.Ready.{Continues}
 use Rattle.steady_laws.proofs.Running.{continues_from}
 use Rattle.steady_laws.proofs.Entries.{room_continues, writes_continue, ran_continues}
 use Rattle.proc_run.specs.declared.advancing.Advance.{Advance}
 use Rattle.proc_run.specs.declared.advancing.Advance.TheVariants as advances
 use Rattle.proc_run.specs.Calls.{own_answers}
-use Rattle.proc_run.specs.Runs.{RunsAt, AdvancesTo, Advances, StopsAdvancing, AdvancesWaiting, StopsWaiting, counts}
+use Rattle.proc_run.specs.Runs.{RunsAt, AdvancesTo, counts, HasRunner, WaitsAt}
 use Rattle.proc_run.proofs.Attempts.{did_all, missed, fell, signalled, RoomOnly, room_answers, room_regs, room_runs, room_goes_on}
 use Rattle.proc_run.proofs.Steps.{waits_missed, waits_below, signal_led, signal_stops, instruction_led, instruction_stops}
 use Rattle.proc_run.proofs.Written.{writes_same, wrote_lends}
@@ -45,20 +45,22 @@ module _ (old at last : Standing) (pid : ℕ) (now : Bool) (holds : Option (List
   kernel_same : at.kernel ≡ old.kernel
   kernel_same = ap (λ (m : Standing). m.kernel) o.only
 
-  pub room_advances : (advance : Advance) → Advances at last pid now holds i j advance → Advances old last pid now holds i j advance
-  room_advances advance h A s image p x r =
-      subst (λ (k : Kernel). AdvancesTo A s k image advance last.kernel j) kernel_same (h A s image p x (room_runs A s old at holds i image pid now p x o r))
+  pub room_advances : (advance : Advance) → LeadsFrom (HasRunner at holds i pid now) (AdvancesTo at.kernel last.kernel j advance)
+      → LeadsFrom (HasRunner old holds i pid now) (AdvancesTo old.kernel last.kernel j advance)
+  room_advances advance h A s image (p, x, r) =
+      subst (λ (k : Kernel). AdvancesTo k last.kernel j advance A s image) kernel_same (h A s image (p, x, room_runs A s old at holds i image pid now p x o r))
 
-  pub room_stops : (stop : Stop) → StopsAdvancing at last pid now holds i j stop → StopsAdvancing old last pid now holds i j stop
-  room_stops stop h A s image p x r =
-      subst (λ (k : Kernel). StopLeads A s k image stop last j) kernel_same (h A s image p x (room_runs A s old at holds i image pid now p x o r))
+  pub room_stops : (stop : Stop) → StopsFrom (HasRunner at holds i pid now) at last j stop → StopsFrom (HasRunner old holds i pid now) old last j stop
+  room_stops stop h A s image (p, x, r) =
+      subst (λ (k : Kernel). StopLeads A s k image stop last j) kernel_same (h A s image (p, x, room_runs A s old at holds i image pid now p x o r))
 
-  pub later_advances : (result : Result Advance Stop) → IfOk result (Advances at last pid now holds i j) → IfOk result (Advances old last pid now holds i j)
+  pub later_advances : (result : Result Advance Stop) → IfOk result (λ advance. LeadsFrom (HasRunner at holds i pid now) (AdvancesTo at.kernel last.kernel j advance))
+      → IfOk result (λ advance. LeadsFrom (HasRunner old holds i pid now) (AdvancesTo old.kernel last.kernel j advance))
   later_advances (Err stop) h = tt
   later_advances (Ok advance) h = room_advances advance h
 
-  pub later_stops : (result : Result Advance Stop) → IfErr result (StopsAdvancing at last pid now holds i j)
-      → IfErr result (StopsAdvancing old last pid now holds i j)
+  pub later_stops : (result : Result Advance Stop) → IfErr result (StopsFrom (HasRunner at holds i pid now) at last j)
+      → IfErr result (StopsFrom (HasRunner old holds i pid now) old last j)
   later_stops (Ok advance) h = tt
   later_stops (Err stop) h = room_stops stop h
 
@@ -95,8 +97,8 @@ module _ (old mid new : Standing) (pid : ℕ) (before : Regs) (o : RoomOnly old 
         (rest ∙ ap (λ (k : Kernel). let m : Standing = record new { kernel = k; room = None } in m) step)))
 
     pub ran_advances : (now : Bool) (holds : Option (List NamedFile)) (i : Option (List ℕ)) → before ≡ regs_of old.kernel pid
-        → Advances old last pid now holds i i advances.Counted
-    ran_advances now holds i same A s image p x r =
+        → LeadsFrom (HasRunner old holds i pid now) (AdvancesTo old.kernel last.kernel i advances.Counted)
+    ran_advances now holds i same A s image (p, x, r) =
         let d = did_all (run (own_answers mid pid) (instruction before)) a in
         let room : mid.kernel ≡ old.kernel = ap (λ (m : Standing). m.kernel) o.only in
         instruction_led A s old holds i image pid now p x before r same last.kernel d.0 (was (Ok d.0) d.1) d.2
@@ -123,30 +125,31 @@ module _ (old at last : Standing) (pid : ℕ) (now : Bool) (holds : Option (List
     ]
 
   pub served_advances : (address : ℕ) (write : Bool) → Misses address write → (result : Result Advance Stop)
-      → IfOk result (AdvancesWaiting at last pid now address write holds i j) → IfOk result (Advances old last pid now holds i j)
+      → IfOk result (λ advance. LeadsFrom (WaitsAt at holds i pid now address write) (AdvancesTo at.kernel last.kernel j advance))
+      → IfOk result (λ advance. LeadsFrom (HasRunner old holds i pid now) (AdvancesTo old.kernel last.kernel j advance))
   served_advances address write e (Err stop) h = tt
   served_advances address write e (Ok advance) h =
-      room_advances old at last pid now holds i j o advance (λ A s image p x r. let y = waits address write e A s image p x r in h A s image p x y.0 r y.1)
+      room_advances old at last pid now holds i j o advance (λ A s image n. let y = waits address write e A s image n.0 n.1 n.2 in h A s image (n.0, n.1, y.0, n.2, y.1))
 
   pub served_stops : (address : ℕ) (write : Bool) → Misses address write → (result : Result Advance Stop)
-      → IfErr result (StopsWaiting at last pid now address write holds i j) → IfErr result (StopsAdvancing old last pid now holds i j)
+      → IfErr result (StopsFrom (WaitsAt at holds i pid now address write) at last j) → IfErr result (StopsFrom (HasRunner old holds i pid now) old last j)
   served_stops address write e (Ok advance) h = tt
   served_stops address write e (Err stop) h =
-      room_stops old at last pid now holds i j o stop (λ A s image p x r. let y = waits address write e A s image p x r in h A s image p x y.0 r y.1)
+      room_stops old at last pid now holds i j o stop (λ A s image n. let y = waits address write e A s image n.0 n.1 n.2 in h A s image (n.0, n.1, y.0, n.2, y.1))
 
   -- it is a signal
   pub signal_advances : (number : ℕ) → answer_of (run (own_answers at pid) (instruction before)) ≡ steps.Signal number → HasEnded at last pid number holds i j
-      → Advances old last pid now holds i j advances.Counted
+      → LeadsFrom (HasRunner old holds i pid now) (AdvancesTo old.kernel last.kernel j advances.Counted)
   signal_advances number e h =
       room_advances old at last pid now holds i j o advances.Counted
-      (λ A s image p x r. signal_led A s at holds i image pid now p x before r (room_regs old at pid before o same) last j number
+      (λ A s image n. signal_led A s at holds i image pid now n.0 n.1 before n.2 (room_regs old at pid before o same) last j number
       (signalled (run (own_answers at pid) (instruction before)) number e) h)
 
   pub signal_halts : (number : ℕ) → answer_of (run (own_answers at pid) (instruction before)) ≡ steps.Signal number → (stop : Stop)
-      → StopsAlive at last pid holds i j stop → StopsAdvancing old last pid now holds i j stop
+      → StopsAlive at last pid holds i j stop → StopsFrom (HasRunner old holds i pid now) old last j stop
   signal_halts number e stop h =
       room_stops old at last pid now holds i j o stop
-      (λ A s image p x r. signal_stops A s at holds i image pid now p x before r (room_regs old at pid before o same) last j number stop
+      (λ A s image n. signal_stops A s at holds i image pid now n.0 n.1 before n.2 (room_regs old at pid before o same) last j number stop
       (signalled (run (own_answers at pid) (instruction before)) number e) h)
 
 -- Where the run stops for want of room.
@@ -157,8 +160,8 @@ pub asked_stops : (old last : Standing) (pid : ℕ) (before : Regs) (stop : Stop
     → (stop ≡ stops.JournalFull → (old.params.journal ≤ length old.kernel.journal)
     × (length old.kernel.journal < length (append old.kernel.journal (Ran pid 1))))
     → (stop ≡ stops.JournalFull → answer_of (run (own_answers old pid) (instruction before)) ≡ steps.Done)
-    → StopsAdvancing old last pid now holds i i stop
-asked_stops old last pid before stop now holds i same h whole cause full done A s image p x r = elim cause [
+    → StopsFrom (HasRunner old holds i pid now) old last i stop
+asked_stops old last pid before stop now holds i same h whole cause full done A s image (p, x, r) = elim cause [
   | inl c ↦
       let d = did_all (run (own_answers old pid) (instruction before)) (done c) in
       instruction_stops A s old holds i image pid now p x before r same old last stop d.0 d.1 d.2 refl h (held_here stop old last h whole (inl c) (λ e. (full e).0)) (inl c) full

@@ -2,7 +2,6 @@
 use Rattle.std.specs.Prelude.{◌≡◌, ℕ, ◌≤◌, Bool, true, false, List, length, Option, Some, None}
 use Rattle.vm_facts.specs.declared.entry.Entry.{Entry}
 use Rattle.vm_facts.specs.declared.entry.Entry.TheVariants as entries
-use Rattle.vm_facts.specs.declared.stop.Stop.{Stop}
 use Rattle.io_edge.specs.FileHolding.{NamedFile}
 use Rattle.swap_book.specs.Holdings.{Holdings}
 use Rattle.flat_state.specs.Flat.{Inputs}
@@ -13,7 +12,6 @@ use Rattle.run_model.specs.Lawful.{Follows}
 use Rattle.step_units.specs.RunLawsRunning.{CanRun}
 use Rattle.step_units.specs.Machines.{MachineAt}
 use Rattle.step_units.specs.Rests.{before_done}
-use Rattle.step_units.specs.Stepped.{StepLeads, StopLeads}
 use Rattle.step_units.specs.Acting.{IsBetween}
 use Rattle.proc_run.specs.declared.finishing.Begun.{Begun}
 use Rattle.proc_run.specs.declared.finishing.Begun.TheVariants as begun
@@ -55,20 +53,8 @@ abbrev pub NoneIsBetween : Type 0
 NoneIsBetween = (last : Option Entry) → begun_by last ≡ None → IsBetween last
 
 -- The machine stands at a state of a run at which a step is begun so, with a swap image that is told.
-pub record BegunAt (A : Inputs) (s : State) (m : Standing) (b : Begun) (holds : Option (List NamedFile)) (i : Option (List ℕ)) (image : List ℕ) : Type 0 where
+pub record BegunAt (m : Standing) (b : Begun) (holds : Option (List NamedFile)) (i : Option (List ℕ)) (A : Inputs) (s : State)
+    (image : List ℕ) : Type 0 where
   pub machine : MachineAt A s m holds image
   pub told : i ≡ Some image
   pub begun : begun_by s.point.last ≡ Some b
-
--- at some state
-abbrev pub IsBegun : Standing → Begun → Option (List NamedFile) → Option (List ℕ) → Type 0
-IsBegun m b holds i = (A : Inputs) × (s : State) × (image : List ℕ) × BegunAt A s m b holds i image
-
--- at each such state next units complete the step
-abbrev pub FinishesStep : Standing → Standing → Begun → Option (List NamedFile) → Option (List ℕ) → Option (List ℕ) → Type 0
-FinishesStep old new b holds i j = (A : Inputs) (s : State) (image : List ℕ) → BegunAt A s old b holds i image → StepLeads A s old.kernel image 1 new.kernel j
-
--- or next units lead to where the run stopped before that
-abbrev pub StopsStep : Standing → Standing → Begun → Option (List NamedFile) → Option (List ℕ) → Option (List ℕ) → Stop → Type 0
-StopsStep old new b holds i j stop =
-    (A : Inputs) (s : State) (image : List ℕ) → BegunAt A s old b holds i image → StopLeads A s old.kernel image stop new j

@@ -1,7 +1,6 @@
 -- What a process that runs leads to, in a dispatch and in a turn.
 use Rattle.std.specs.Prelude.{◌≡◌, ℕ, ◌+◌, ◌≤◌, min, Bool, true, false, List, Option, Some, None}
 use Rattle.vm_facts.specs.declared.entry.Entry.{Entry}
-use Rattle.vm_facts.specs.declared.stop.Stop.{Stop}
 use Rattle.io_edge.specs.FileHolding.{NamedFile}
 use Rattle.flat_state.specs.Flat.{Inputs}
 use Rattle.flat_state.specs.Journal.{instructions_of}
@@ -14,7 +13,6 @@ use Rattle.run_model.specs.State.{State}
 use Rattle.run_model.specs.Next.{turn_instructions, under}
 use Rattle.touched_pages.specs.Leads.{Leads}
 use Rattle.step_units.specs.Machines.{MachineAt}
-use Rattle.step_units.specs.Stepped.{StopLeads}
 use Rattle.step_units.specs.Lines.{IsClear}
 use Rattle.proc_run.specs.Runs.{IsSteady}
 
@@ -24,8 +22,8 @@ AsksRun A s pid false until = (n : ℕ) × (since : ℕ) × (s.mark ≡ marks.Di
 AsksRun A s pid true until = (since : ℕ) × (s.mark ≡ marks.Turn pid since) × (until ≡ min (since + turn_instructions) A.limit)
 
 -- The machine stands at a state under such a mark, with nothing due and no step begun, and a swap image that is told.
-pub record UnderMark (A : Inputs) (s : State) (m : Standing) (holds : Option (List NamedFile)) (i : Option (List ℕ)) (image : List ℕ) (pid : ℕ) (now : Bool)
-    (counted until : ℕ) : Type 0 where
+pub record UnderMark (m : Standing) (holds : Option (List NamedFile)) (i : Option (List ℕ)) (pid : ℕ) (now : Bool) (counted until : ℕ) (A : Inputs)
+    (s : State) (image : List ℕ) : Type 0 where
   pub machine : MachineAt A s m holds image
   pub named : AreNamed A.images m.images
   pub told : i ≡ Some image
@@ -34,7 +32,8 @@ pub record UnderMark (A : Inputs) (s : State) (m : Standing) (holds : Option (Li
   pub asks : AsksRun A s pid now until
 
 -- Next units lead to where nothing more is to come of the mark, unless it is a turn whose process is out.
-pub record RunLeads (A : Inputs) (s : State) (k : Kernel) (image : List ℕ) (pid : ℕ) (now : Bool) (l : Kernel) (j : Option (List ℕ)) (count : ℕ) : Type 0 where
+pub record RunLeads (k : Kernel) (pid : ℕ) (now : Bool) (l : Kernel) (j : Option (List ℕ)) (count : ℕ) (A : Inputs) (s : State)
+    (image : List ℕ) : Type 0 where
   pub units : List Entry
   pub state : State
   pub leads : Leads A s k image units state l j
@@ -43,16 +42,6 @@ pub record RunLeads (A : Inputs) (s : State) (k : Kernel) (image : List ℕ) (pi
   pub counts : state.count ≡ count
   pub lines : state.lines ≡ s.lines
   pub mark : state.mark ≡ s.mark
-
--- for every state under such a mark at which the machine stands
-abbrev pub Runs : Standing → Standing → ℕ → Bool → ℕ → ℕ → Option (List NamedFile) → Option (List ℕ) → Option (List ℕ) → ℕ → Type 0
-Runs old new pid now counted until holds i j count =
-    (A : Inputs) (s : State) (image : List ℕ) → UnderMark A s old holds i image pid now counted until → RunLeads A s old.kernel image pid now new.kernel j count
-
--- and where the run stops, for every such state
-abbrev pub StopsRunning : Standing → Standing → ℕ → Bool → ℕ → ℕ → Option (List NamedFile) → Option (List ℕ) → Option (List ℕ) → Stop → Type 0
-StopsRunning old new pid now counted until holds i j stop =
-    (A : Inputs) (s : State) (image : List ℕ) → UnderMark A s old holds i image pid now counted until → StopLeads A s old.kernel image stop new j
 
 -- Whatever the devices tell: the machine goes on, with the sizes and images of before, and so many instructions are counted now.
 pub record CountsTo (old new : Standing) (counted count : ℕ) : Type 0 where

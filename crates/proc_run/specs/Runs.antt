@@ -1,7 +1,6 @@
 -- What a process that runs leads to in a run.
 use Rattle.std.specs.Prelude.{◌≡◌, ℕ, ◌<◌, ◌≤◌, Bool, true, false, List, [], length, Option, Some}
 use Rattle.vm_facts.specs.declared.page.Page.{Page}
-use Rattle.vm_facts.specs.declared.stop.Stop.{Stop}
 use Rattle.io_edge.specs.FileHolding.{NamedFile}
 use Rattle.flat_state.specs.Space.{Space}
 use Rattle.flat_state.specs.Flat.{Process, Inputs}
@@ -13,7 +12,7 @@ use Rattle.steady_laws.specs.Reading.{AreNamed}
 use Rattle.run_model.specs.State.{State}
 use Rattle.run_model.specs.Wanted.{locked}
 use Rattle.step_units.specs.Machines.{RunsOn}
-use Rattle.step_units.specs.Stepped.{StepLeads, MarkEnds, StopLeads}
+use Rattle.step_units.specs.Stepped.{StepLeads, MarkEnds}
 use Rattle.step_units.specs.Running.{WaitsForPage}
 use Rattle.proc_run.specs.declared.advancing.Patience.{Patience}
 use Rattle.proc_run.specs.declared.advancing.Patience.TheVariants as patience
@@ -40,39 +39,23 @@ pub record RunsAt (A : Inputs) (s : State) (m : Standing) (holds : Option (List 
   pub named : AreNamed A.images m.images
   pub told : i ≡ Some image
 
+-- a process runs at it, over some space
+abbrev pub HasRunner : Standing → Option (List NamedFile) → Option (List ℕ) → ℕ → Bool → Inputs → State → List ℕ → Type 0
+HasRunner m holds i pid now A s image = (p : Process) × (x : Space) × RunsAt A s m holds i image pid now p x
+
+-- and waits for the page of this byte
+abbrev pub WaitsAt : Standing → Option (List NamedFile) → Option (List ℕ) → ℕ → Bool → ℕ → Bool → Inputs → State → List ℕ → Type 0
+WaitsAt m holds i pid now address write A s image =
+    (p : Process) × (x : Space) × (before : List Page) × RunsAt A s m holds i image pid now p x × WaitsForPage A s m p x address write before
+
 -- One attempt.
 
 -- What it leads to: an instruction more; or none, and one more page is valid of the first that it touches; or nothing more is to
 -- come of the mark.
-abbrev pub AdvancesTo : Inputs → State → Kernel → List ℕ → Advance → Kernel → Option (List ℕ) → Type 0
-AdvancesTo A s k image advances.Counted l j = StepLeads A s k image 1 l j
-AdvancesTo A s k image advances.Served l j = (led : StepLeads A s k image 0 l j) × (length (locked A s) < length (locked A led.state))
-AdvancesTo A s k image advances.Stuck l j = MarkEnds A s k image l j
-
--- for every state at which the machine stands
-abbrev pub Advances : Standing → Standing → ℕ → Bool → Option (List NamedFile) → Option (List ℕ) → Option (List ℕ) → Advance → Type 0
-Advances old new pid now holds i j advance =
-    (A : Inputs) (s : State) (image : List ℕ) (p : Process) (x : Space) → RunsAt A s old holds i image pid now p x
-    → AdvancesTo A s old.kernel image advance new.kernel j
-
--- and where it stops, for every such state
-abbrev pub StopsAdvancing : Standing → Standing → ℕ → Bool → Option (List NamedFile) → Option (List ℕ) → Option (List ℕ) → Stop → Type 0
-StopsAdvancing old new pid now holds i j stop =
-    (A : Inputs) (s : State) (image : List ℕ) (p : Process) (x : Space) → RunsAt A s old holds i image pid now p x → StopLeads A s old.kernel image stop new j
-
--- where it waits for the page of this byte
-abbrev pub AdvancesWaiting : Standing → Standing → ℕ → Bool → ℕ → Bool → Option (List NamedFile) → Option (List ℕ) → Option (List ℕ) → Advance → Type 0
-AdvancesWaiting old new pid now address write holds i j advance =
-    (A : Inputs) (s : State) (image : List ℕ) (p : Process) (x : Space) (before : List Page) → RunsAt A s old holds i image pid now p x
-    → WaitsForPage A s old p x address write before
-    → AdvancesTo A s old.kernel image advance new.kernel j
-
--- and where it stops as it waits so
-abbrev pub StopsWaiting : Standing → Standing → ℕ → Bool → ℕ → Bool → Option (List NamedFile) → Option (List ℕ) → Option (List ℕ) → Stop → Type 0
-StopsWaiting old new pid now address write holds i j stop =
-    (A : Inputs) (s : State) (image : List ℕ) (p : Process) (x : Space) (before : List Page) → RunsAt A s old holds i image pid now p x
-    → WaitsForPage A s old p x address write before
-    → StopLeads A s old.kernel image stop new j
+abbrev pub AdvancesTo : Kernel → Kernel → Option (List ℕ) → Advance → Inputs → State → List ℕ → Type 0
+AdvancesTo k l j advances.Counted A s image = StepLeads A s k image 1 l j
+AdvancesTo k l j advances.Served A s image = (led : StepLeads A s k image 0 l j) × (length (locked A s) < length (locked A led.state))
+AdvancesTo k l j advances.Stuck A s image = MarkEnds A s k image l j
 
 -- the instructions that it counts
 abbrev pub counts : Advance → ℕ

@@ -9,9 +9,10 @@ use Rattle.user_vax.specs.declared.stepping.Stepped.{Stepped}
 use Rattle.user_vax.specs.declared.stepping.Stepped.TheVariants as steps
 use Rattle.machine_state.specs.Machine.{Standing}
 use Rattle.steady_laws.specs.Ready.{Continues}
+use Rattle.step_units.specs.Stepped.{LeadsFrom}
 use Rattle.proc_run.specs.declared.advancing.Advance.TheVariants as advances
 use Rattle.proc_run.specs.Choosing.{may_run}
-use Rattle.proc_run.specs.Runs.{Advances}
+use Rattle.proc_run.specs.Runs.{HasRunner, AdvancesTo}
 
 -- The machine after an instruction was tried: it is as it was, but where the instruction is carried out and makes no call.
 abbrev pub Leaves : Stepped → Standing → Standing → Type 0
@@ -46,7 +47,8 @@ StretchOf memory before count after Wrote = (writes : List ByteWrite) × Stretch
 -- an instruction more of a process that runs was counted, for every state at which the machine stands
 pub record RanOne (old : Standing) (pid : ℕ) (new : Standing) : Type 0 where
   pub can : may_run old.kernel pid ≡ true
-  pub advances : (now : Bool) (holds : Option (List NamedFile)) (i : Option (List ℕ)) → Advances old new pid now holds i i advances.Counted
+  pub advances : (now : Bool) (holds : Option (List NamedFile)) (i : Option (List ℕ))
+      → LeadsFrom (HasRunner old holds i pid now) (AdvancesTo old.kernel new.kernel i advances.Counted)
   pub continues : Continues old new 1
 
 -- so many were, one after another

@@ -7,8 +7,9 @@ ghost use Rattle.machine_state.specs.Outside.{stop_of, TransfersPages};
 ghost use Rattle.steady_laws.specs.Callers.{regs_of};
 ghost use Rattle.steady_laws.specs.Ready.{Continues};
 ghost use Rattle.steady_laws.specs.Sizes.{KeptAtStop};
+ghost use Rattle.step_units.specs.Stepped.{LeadsFrom, StopsFrom};
 ghost use Rattle.proc_run.specs.Calls.{CallComes, CallStops, MadeCall};
-ghost use Rattle.proc_run.specs.Runs.{IsSteady, is_now, Advances, StopsAdvancing, counts};
+ghost use Rattle.proc_run.specs.Runs.{IsSteady, is_now, counts, HasRunner, AdvancesTo};
 
 use crate::advancing::{Advance, Patience};
 use crate::serving::serve_access;
@@ -72,8 +73,9 @@ pub fn call<F: Files, D: SwapDev>(
     requires files { AreFiles m.old.images (F.holds files.old) }
     requires registers { before.now ≡ regs_of m.old.kernel pid }
     requires made { MadeCall m.old pid before.now number regs.now }
-    ensures advances { IfOk result (Advances m.old m.new pid (is_now patience) (F.holds files.old) (D.image swap.old) (D.image swap.new)) }
-    ensures stops { IfErr result (StopsAdvancing m.old m.new pid (is_now patience) (F.holds files.old) (D.image swap.old) (D.image swap.new)) }
+    ensures advances { IfOk result (λ advance. LeadsFrom (HasRunner m.old (F.holds files.old) (D.image swap.old) pid (is_now patience))
+        (AdvancesTo m.old.kernel m.new.kernel (D.image swap.new) advance)) }
+    ensures stops { IfErr result (StopsFrom (HasRunner m.old (F.holds files.old) (D.image swap.old) pid (is_now patience)) m.old m.new (D.image swap.new)) }
     ensures continues { IfOk result (λ advance. Continues m.old m.new (counts advance)) }
     ensures goes_on { OnOk result (CanGoOn m.new) }
     ensures kept { IfErr result (KeptAtStop m.old m.new) }

@@ -10,7 +10,8 @@ ghost use Rattle.machine_state.specs.UserMemory.{CanLend};
 ghost use Rattle.steady_laws.specs.Answered.{Answered, StopsBefore};
 ghost use Rattle.steady_laws.specs.Sizes.{KeptAtStop};
 ghost use Rattle.step_units.specs.Rests.{is_done, before_done};
-ghost use Rattle.proc_run.specs.Rests.{begun_by, pid_of, carry_of, r0_of, SentFew, BegunIsTold, NoneIsBetween, IsBegun, FinishesStep, StopsStep};
+ghost use Rattle.step_units.specs.Stepped.{AtSome, LeadsFrom, StopsFrom, StepLeads};
+ghost use Rattle.proc_run.specs.Rests.{begun_by, pid_of, carry_of, r0_of, SentFew, BegunIsTold, NoneIsBetween, BegunAt};
 ghost use Rattle.proc_run.specs.Running.{CountsTo};
 ghost use Rattle.proc_run.specs.Runs.{IsSteady};
 
@@ -111,11 +112,12 @@ pub fn finish_step<F: Files, D: SwapDev>(
     begun: Begun,
 ) -> Result<(), Stop>
     requires steady { IsSteady m.old }
-    requires begun { IsBegun m.old begun (F.holds files.old) (D.image swap.old) }
+    requires begun { AtSome (BegunAt m.old begun (F.holds files.old) (D.image swap.old)) }
     requires area { m.old.params.swap_blocks ≤ D.blocks swap.old }
     requires files { AreFiles m.old.images (F.holds files.old) }
-    ensures finishes { OnOk result (FinishesStep m.old m.new begun (F.holds files.old) (D.image swap.old) (D.image swap.new)) }
-    ensures stops { IfErr result (StopsStep m.old m.new begun (F.holds files.old) (D.image swap.old) (D.image swap.new)) }
+    ensures finishes { OnOk result (LeadsFrom (BegunAt m.old begun (F.holds files.old) (D.image swap.old))
+        (λ A s image. StepLeads A s m.old.kernel image 1 m.new.kernel (D.image swap.new))) }
+    ensures stops { IfErr result (StopsFrom (BegunAt m.old begun (F.holds files.old) (D.image swap.old)) m.old m.new (D.image swap.new)) }
     ensures counts { OnOk result (CountsTo m.old m.new (instructions_of m.old.kernel.journal) (instructions_of m.old.kernel.journal + 1)) }
     ensures kept { IfErr result (KeptAtStop m.old m.new) }
     ensures outside { TransfersPages F.Files D.SwapDev (stop_of result) files.old files.new swap.old swap.new }

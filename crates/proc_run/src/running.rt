@@ -4,8 +4,9 @@ ghost use Rattle.flat_state.specs.Journal.{instructions_of};
 ghost use Rattle.machine_state.specs.Files.{AreFiles};
 ghost use Rattle.machine_state.specs.Outside.{stop_of, TransfersPages};
 ghost use Rattle.steady_laws.specs.Sizes.{KeptAtStop};
+ghost use Rattle.step_units.specs.Stepped.{LeadsFrom, StopsFrom};
 ghost use Rattle.proc_run.specs.Runs.{IsSteady, is_now};
-ghost use Rattle.proc_run.specs.Running.{Runs, StopsRunning, CountsTo};
+ghost use Rattle.proc_run.specs.Running.{CountsTo, UnderMark, RunLeads};
 
 use crate::advancing::{Advance, Patience, next_step};
 use crate::choosing::ready_regs;
@@ -34,8 +35,10 @@ pub fn run<F: Files, D: SwapDev>(
     requires area { m.old.params.swap_blocks ≤ D.blocks swap.old }
     requires files { AreFiles m.old.images (F.holds files.old) }
     requires counted { instructions_of m.old.kernel.journal ≡ counted }
-    ensures runs { IfOk result (Runs m.old m.new pid (is_now patience) counted until (F.holds files.old) (D.image swap.old) (D.image swap.new)) }
-    ensures stops { IfErr result (StopsRunning m.old m.new pid (is_now patience) counted until (F.holds files.old) (D.image swap.old) (D.image swap.new)) }
+    ensures runs { IfOk result (λ count. LeadsFrom (UnderMark m.old (F.holds files.old) (D.image swap.old) pid (is_now patience) counted until)
+        (RunLeads m.old.kernel pid (is_now patience) m.new.kernel (D.image swap.new) count)) }
+    ensures stops { IfErr result
+        (StopsFrom (UnderMark m.old (F.holds files.old) (D.image swap.old) pid (is_now patience) counted until) m.old m.new (D.image swap.new)) }
     ensures counts { IfOk result (λ count. CountsTo m.old m.new counted count) }
     ensures kept { IfErr result (KeptAtStop m.old m.new) }
     ensures outside { TransfersPages F.Files D.SwapDev (stop_of result) files.old files.new swap.old swap.new }

@@ -6,10 +6,11 @@ ghost use Rattle.machine_state.specs.UserMemory.{CanLend};
 ghost use Rattle.machine_state.specs.Outside.{stop_of, TransfersPages};
 ghost use Rattle.steady_laws.specs.Callers.{regs_of};
 ghost use Rattle.touched_pages.specs.Missed.{WritesNothing};
+ghost use Rattle.step_units.specs.Stepped.{LeadsFrom, StopsFrom};
 ghost use Rattle.steady_laws.specs.Ready.{Continues};
 ghost use Rattle.steady_laws.specs.Sizes.{KeptAtStop};
 ghost use Rattle.proc_run.specs.Serving.{ServedBy, StopsServed};
-ghost use Rattle.proc_run.specs.Runs.{IsSteady, is_now, AdvancesWaiting, StopsWaiting, counts};
+ghost use Rattle.proc_run.specs.Runs.{IsSteady, is_now, counts, WaitsAt, AdvancesTo};
 
 use crate::advancing::{Advance, Patience};
 use io_edge::{Files, SwapDev};
@@ -97,8 +98,10 @@ pub fn serve_access<F: Files, D: SwapDev>(
     requires files { AreFiles m.old.images (F.holds files.old) }
     requires quiet { WritesNothing m.old.kernel pid regs.now }
     requires registers { regs.now ≡ regs_of m.old.kernel pid }
-    ensures advances { IfOk result (AdvancesWaiting m.old m.new pid (is_now patience) address write (F.holds files.old) (D.image swap.old) (D.image swap.new)) }
-    ensures stops { IfErr result (StopsWaiting m.old m.new pid (is_now patience) address write (F.holds files.old) (D.image swap.old) (D.image swap.new)) }
+    ensures advances { IfOk result (λ advance. LeadsFrom (WaitsAt m.old (F.holds files.old) (D.image swap.old) pid (is_now patience) address write)
+        (AdvancesTo m.old.kernel m.new.kernel (D.image swap.new) advance)) }
+    ensures stops { IfErr result
+        (StopsFrom (WaitsAt m.old (F.holds files.old) (D.image swap.old) pid (is_now patience) address write) m.old m.new (D.image swap.new)) }
     ensures continues { IfOk result (λ advance. Continues m.old m.new (counts advance)) }
     ensures goes_on { OnOk result (CanGoOn m.new) }
     ensures kept { IfErr result (KeptAtStop m.old m.new) }

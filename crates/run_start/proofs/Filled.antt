@@ -30,13 +30,13 @@ use Rattle.steady_laws.proofs.StopsKeep.{kept_through, start_same, page_same}
 use Rattle.run_model.specs.State.{State}
 use Rattle.step_units.specs.Filling.{FillsFirst}
 use Rattle.step_units.specs.Machines.{MachineAt}
-use Rattle.step_units.specs.Stepped.{StopLeads}
+use Rattle.step_units.specs.Stepped.{StopLeads, LeadsFrom, StopsFrom}
 use Rattle.step_units.proofs.Copying.{page_copied, page_stops}
 use Rattle.step_units.proofs.Entering.{stops_then}
 use Rattle.step_units.proofs.Filling.{LeadsTo, stays, goes_on, forced_fill, forcing_stops, fill_stops}
 use Rattle.step_units.proofs.Leading.{led_told, led_at}
 use Rattle.run_start.specs.Filling.{due_of, IsDueFirst, FillsDue, StopsDue}
-use Rattle.run_start.specs.Leading.{FillsRest, StopsRest}
+use Rattle.run_start.specs.Leading.{ToldAt, FillsLead}
 
 -- What is due first.
 
@@ -199,29 +199,29 @@ module _ (old now : Standing) (holds later : Option (List NamedFile)) (i h : Opt
             (led_told A s led.state old.kernel now.kernel image h led.units led.leads) led.same more);
       }
 
-  pub filled_all : now.kernel.place.due ≡ [] → FillsRest old now holds i h
-  filled_all none A s image at e =
-      let led : LeadsTo A s old.kernel image now.kernel.place.due now.kernel h = so.leads A s image at e in
+  pub filled_all : now.kernel.place.due ≡ [] → LeadsFrom (ToldAt old holds i) (FillsLead old now holds h)
+  filled_all none A s image at =
+      let led : LeadsTo A s old.kernel image now.kernel.place.due now.kernel h = so.leads A s image at.machine at.told in
       record {
         units = led.units;
         state = led.state;
         leads = led.leads;
         same = led.same;
         clear = led.due ∙ none;
-        machine = there A s old now holds image h now.kernel.place.due at so.on led;
+        machine = there A s old now holds image h now.kernel.place.due at.machine so.on led;
       }
 
   pub filled_goes_on : now.kernel.place.due ≡ [] → Continues old now 0
   filled_goes_on none = continues old now 0 so.on none so.low
 
-  pub filled_stops : (new : Standing) (k : Option (List ℕ)) (d : Due) (stop : Stop) → IsDueFirst now.kernel.place d → StopsDue d now new later h k stop → StopsRest old new holds i k stop
-  filled_stops new k d stop first f A s image at e =
-      let led : LeadsTo A s old.kernel image now.kernel.place.due now.kernel h = so.leads A s image at e in
+  pub filled_stops : (new : Standing) (k : Option (List ℕ)) (d : Due) (stop : Stop) → IsDueFirst now.kernel.place d → StopsDue d now new later h k stop → StopsFrom (ToldAt old holds i) old new k stop
+  filled_stops new k d stop first f A s image at =
+      let led : LeadsTo A s old.kernel image now.kernel.place.due now.kernel h = so.leads A s image at.machine at.told in
       let behind : List ℕ = led.leads.behind in
       let here : StopsDue d now new holds (Some behind) k stop =
       subst (λ (o : Option (List ℕ)). StopsDue d now new holds o k stop) led.leads.told (subst (λ (x : Option (List NamedFile)). StopsDue d now new x h k stop) so.files f) in
       stops_then A s led.state old.kernel now.kernel image behind k led.units stop new (led_told A s led.state old.kernel now.kernel image h led.units led.leads)
-      (due_stops d first.others A led.state now new holds behind k stop (there A s old now holds image h now.kernel.place.due at so.on led) (led.due ∙ first.first) here)
+      (due_stops d first.others A led.state now new holds behind k stop (there A s old now holds image h now.kernel.place.due at.machine so.on led) (led.due ∙ first.first) here)
 
   pub filled_kept : (new : Standing) (k : Option (List ℕ)) (d : Due) (stop : Stop) → StopsDue d now new later h k stop → KeptAtStop old new stop
   filled_kept new k d stop f = kept_through old now new stop (record { params = so.on.params; images = so.on.images }) (stop_keeps d now new later h k stop f)

@@ -20,12 +20,12 @@ use Rattle.step_units.proofs.Machines.{start_keeps}
 use Rattle.step_units.specs.Leads.{Leads}
 use Rattle.step_units.specs.Machines.{MachineAt}
 use Rattle.step_units.specs.Serving.{At}
-use Rattle.step_units.specs.Stepped.{StopLeads}
+use Rattle.step_units.specs.Stepped.{StopLeads, LeadsFrom, StopsFrom}
 use Rattle.run_start.specs.Starting.{IsNew}
 use Rattle.run_start.specs.Beginning.{BeginsAll, Begins}
 use Rattle.run_start.specs.declared.starting.Started.{Started}
 use Rattle.run_start.specs.declared.starting.Started.TheVariants as starteds
-use Rattle.run_start.specs.Leading.{IsTold, machine_at_start, StartLeads, FillsLead, FillsRest, StopsRest, StartStops}
+use Rattle.run_start.specs.Leading.{IsTold, machine_at_start, StartLeads, FillsLead, StartStops, ToldAt}
 use Rattle.run_start.proofs.Kernels.{IsBegun, begun_at}
 use Rattle.run_start.proofs.Placing.{start_finds}
 
@@ -71,16 +71,16 @@ module _ (A : Inputs) (numbers : List ℕ) (old begun : Standing) (holds : Optio
   begun_there : MachineAt A (start A begun.kernel.holdings) begun holds image
   begun_there = record { at = begun_at_start; images = begun_images; blocks = ap (λ (p : Params). p.swap_blocks) on.params ∙ sym told.starts.blocks }
 
-  pub start_leads : (new : Standing) (i j : Option (List ℕ)) → i ≡ Some image → FillsRest begun new holds i j → StartLeads A new holds image j
+  pub start_leads : (new : Standing) (i j : Option (List ℕ)) → i ≡ Some image → LeadsFrom (ToldAt begun holds i) (FillsLead begun new holds j) → StartLeads A new holds image j
   start_leads new i j e fills =
-      let f : FillsLead A (start A hs) begun new holds image j = fills A (start A hs) image begun_there e in
+      let f : FillsLead begun new holds j A (start A hs) image = fills A (start A hs) image (record { machine = begun_there; told = e }) in
       let from : (l : Leads A (start A hs) (machine_at_start A hs) image f.units f.state new.kernel j) × MachineAt A f.state new holds l.behind =
       subst (λ (k : Kernel). (l : Leads A (start A hs) k image f.units f.state new.kernel j) × MachineAt A f.state new holds l.behind) is_begun.kernel (f.leads, f.machine) in
       record { holdings = hs; can = can; units = f.units; state = f.state; leads = from.0; same = f.same; clear = f.clear; machine = from.1 }
 
-  pub start_stops : (new : Standing) (i j : Option (List ℕ)) (stop : Stop) → i ≡ Some image → StopsRest begun new holds i j stop → StartStops A new image stop j
+  pub start_stops : (new : Standing) (i j : Option (List ℕ)) (stop : Stop) → i ≡ Some image → StopsFrom (ToldAt begun holds i) begun new j stop → StartStops A new image stop j
   start_stops new i j stop e fills =
-      inr (hs, can, subst (λ (k : Kernel). StopLeads A (start A hs) k image stop new j) is_begun.kernel (fills A (start A hs) image begun_there e))
+      inr (hs, can, subst (λ (k : Kernel). StopLeads A (start A hs) k image stop new j) is_begun.kernel (fills A (start A hs) image (record { machine = begun_there; told = e })))
 
 pub begin_stops : (A : Inputs) (new : Standing) (image : List ℕ) (stop : Stop) (j : Option (List ℕ)) → stop ≡ stops.NoMemory → new.kernel.stopped ≡ true
     → new.kernel.journal ≡ [] → j ≡ Some image

@@ -44,7 +44,8 @@ pub record StartLeads (A : Inputs) (new : Standing) (holds : Option (List NamedF
 
 -- From a state next units fill what is due, and lead to one that is the same but for pages and journal, with nothing due. The machine
 -- stands there.
-pub record FillsLead (A : Inputs) (s : State) (old new : Standing) (holds : Option (List NamedFile)) (image : List ℕ) (j : Option (List ℕ)) : Type 0 where
+pub record FillsLead (old new : Standing) (holds : Option (List NamedFile)) (j : Option (List ℕ)) (A : Inputs) (s : State)
+    (image : List ℕ) : Type 0 where
   pub units : List Entry
   pub state : State
   pub leads : Leads A s old.kernel image units state new.kernel j
@@ -52,15 +53,10 @@ pub record FillsLead (A : Inputs) (s : State) (old new : Standing) (holds : Opti
   pub clear : state.place.due ≡ []
   pub machine : MachineAt A state new holds leads.behind
 
--- so it is of each state at which the machine stands, where the files and the swap image are told
-abbrev pub FillsRest : Standing → Standing → Option (List NamedFile) → Option (List ℕ) → Option (List ℕ) → Type 0
-FillsRest old new holds i j =
-    (A : Inputs) (s : State) (image : List ℕ) → MachineAt A s old holds image → i ≡ Some image → FillsLead A s old new holds image j
-
--- or next units lead to where the run stops
-abbrev pub StopsRest : Standing → Standing → Option (List NamedFile) → Option (List ℕ) → Option (List ℕ) → Stop → Type 0
-StopsRest old new holds i j stop =
-    (A : Inputs) (s : State) (image : List ℕ) → MachineAt A s old holds image → i ≡ Some image → StopLeads A s old.kernel image stop new j
+-- The machine stands at a state of a run, with a swap image that is told.
+pub record ToldAt (m : Standing) (holds : Option (List NamedFile)) (i : Option (List ℕ)) (A : Inputs) (s : State) (image : List ℕ) : Type 0 where
+  pub machine : MachineAt A s m holds image
+  pub told : i ≡ Some image
 
 -- The run stops as the processes begin, for want of memory: no unit was made.
 pub record StopsBeginning (new : Standing) (image : List ℕ) (stop : Stop) (j : Option (List ℕ)) : Type 0 where

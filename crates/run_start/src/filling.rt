@@ -8,8 +8,9 @@ ghost use Rattle.machine_state.specs.Outside.{stop_of, TransfersPages};
 ghost use Rattle.steady_laws.specs.LastMoves.{last_moves};
 ghost use Rattle.steady_laws.specs.Ready.{Continues};
 ghost use Rattle.steady_laws.specs.Sizes.{KeptAtStop};
+ghost use Rattle.step_units.specs.Stepped.{LeadsFrom, StopsFrom};
 ghost use Rattle.run_start.specs.Filling.{due_of, IsDueFirst, FillsDue, StopsDue};
-ghost use Rattle.run_start.specs.Leading.{FillsRest, StopsRest};
+ghost use Rattle.run_start.specs.Leading.{ToldAt, FillsLead};
 
 use io_edge::{Files, SwapDev};
 use machine_state::Machine;
@@ -54,8 +55,9 @@ pub fn fill_rest<F: Files, D: SwapDev>(
     requires low { last_moves m.old.kernel.journal ≤ 1000000 }
     requires area { m.old.params.swap_blocks ≤ D.blocks swap.old }
     requires files { AreFiles m.old.images (F.holds files.old) }
-    ensures leads { OnOk result (FillsRest m.old m.new (F.holds files.old) (D.image swap.old) (D.image swap.new)) }
-    ensures stops { IfErr result (StopsRest m.old m.new (F.holds files.old) (D.image swap.old) (D.image swap.new)) }
+    ensures leads { OnOk result
+        (LeadsFrom (ToldAt m.old (F.holds files.old) (D.image swap.old)) (FillsLead m.old m.new (F.holds files.old) (D.image swap.new))) }
+    ensures stops { IfErr result (StopsFrom (ToldAt m.old (F.holds files.old) (D.image swap.old)) m.old m.new (D.image swap.new)) }
     ensures continues { OnOk result (Continues m.old m.new 0) }
     ensures kept { IfErr result (KeptAtStop m.old m.new) }
     ensures outside { TransfersPages F.Files D.SwapDev (stop_of result) files.old files.new swap.old swap.new }

@@ -67,3 +67,17 @@ pub record StopLeads (A : Inputs) (s : State) (k : Kernel) (image : List ℕ) (s
   pub journal : new.kernel.journal ≡ kernel.journal
   pub held : LeftBy stop kernel new
   pub by : StopsBy A state kernel behind stop new j
+
+-- From wherever the machine may stand.
+
+-- At some state of a run, with this swap image, it is so.
+abbrev pub AtSome : (Inputs → State → List ℕ → Type 0) → Type 0
+AtSome IsAt = (A : Inputs) × (s : State) × (image : List ℕ) × IsAt A s image
+
+-- From each state with a swap image at which the first is so, the second is.
+abbrev pub LeadsFrom : (Inputs → State → List ℕ → Type 0) → (Inputs → State → List ℕ → Type 0) → Type 0
+LeadsFrom IsAt Leads = (A : Inputs) (s : State) (image : List ℕ) → IsAt A s image → Leads A s image
+
+-- The run stopped on the way from each such state: next units lead to where it stopped, and there the next one failed by the cause.
+abbrev pub StopsFrom : (Inputs → State → List ℕ → Type 0) → Standing → Standing → Option (List ℕ) → Stop → Type 0
+StopsFrom IsAt old new j stop = LeadsFrom IsAt (λ A s image. StopLeads A s old.kernel image stop new j)

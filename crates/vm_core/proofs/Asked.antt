@@ -26,24 +26,24 @@ use Rattle.run_model.specs.After.{interrupt_mark}
 use Rattle.run_model.specs.Next.{owners_of, last_turned}
 use Rattle.journal_laws.specs.Leads.{Leads}
 use Rattle.journal_laws.proofs.Units.{none_leads}
-use Rattle.run_start.specs.Stepped.{StopLeads}
+use Rattle.run_start.specs.Stepped.{StopLeads, LeadsFrom, StopsFrom}
 use Rattle.run_start.specs.Lines.{LineLeads, StopsNoting}
 use Rattle.run_start.proofs.Asking.{interrupt_made, idle_ends, interrupt_stops, hands_made, hands_stop, audit_made, audit_stops}
 use Rattle.run_start.proofs.PuttingOut.{swapper_made, swapper_stops}
 use Rattle.proc_run.specs.Runs.{IsSteady}
 use Rattle.vm_core.specs.Steady.{StaysSteady}
-use Rattle.vm_core.specs.Lines.{LineAt, MakesLine, StopsLine}
+use Rattle.vm_core.specs.Lines.{LineAt}
 use Rattle.vm_core.proofs.Noting.{same_error}
 use Rattle.vm_core.proofs.Steadying.{steady_self, continues_steady, moved_steady}
 
 -- The end of a transfer.
 
 some_still : (A : Inputs) (s : State) (m : Standing) (holds : Option (List NamedFile)) (i : Option (List ℕ)) (image : List ℕ)
-    → LineAt A s m holds i image events.Interrupt → m.kernel.place.transfers ≡ s.place.transfers
+    → LineAt m holds i events.Interrupt A s image → m.kernel.place.transfers ≡ s.place.transfers
 some_still A s m holds i image at = ap (λ (p : Placement). p.transfers) at.machine.at.stands.place
 
 idle_makes : (old : Standing) (holds : Option (List NamedFile)) (i j : Option (List ℕ)) → old.kernel.place.transfers ≡ [] → ImageAfter old.kernel i j
-    → MakesLine events.Interrupt old old holds i j
+    → LeadsFrom (LineAt old holds i events.Interrupt) (λ A s image. LineLeads A s old.kernel image old.kernel j)
 idle_makes old holds i j none after A s image at =
     let told : j ≡ Some image =
     subst (λ (o : Option (List ℕ)). ImageAfter old.kernel o j) at.told after
@@ -60,7 +60,7 @@ idle_makes old holds i j none after A s image at =
     }
 
 done_makes : (old new : Standing) (holds : Option (List NamedFile)) (i j : Option (List ℕ)) → IsDone (sources old holds) i old.kernel new.kernel
-    → ImageAfter old.kernel i j → MakesLine events.Interrupt old new holds i j
+    → ImageAfter old.kernel i j → LeadsFrom (LineAt old holds i events.Interrupt) (λ A s image. LineLeads A s old.kernel image new.kernel j)
 done_makes old new holds i j d after A s image at =
     interrupt_made A s old new.kernel holds image j at.machine at.clear at.mark (subst (λ (ts : List Transfer). 0 < length ts) (some_still A s old holds i image at) d.some)
     (subst (λ (o : Option (List ℕ)). IsDone (sources old holds) o old.kernel new.kernel) at.told d) (subst (λ (o : Option (List ℕ)). ImageAfter old.kernel o j) at.told after)
@@ -68,9 +68,9 @@ done_makes old new holds i j d after A s image at =
 pub interrupt_makes : (old new : Standing) (holds : Option (List NamedFile)) (i j : Option (List ℕ)) (r : Result Bool Stop) (b : Bool) → r ≡ Ok b
     → ((r ≡ Ok false) ↔ (old.kernel.place.transfers ≡ []))
     → (r ≡ Ok false → new ≡ old) → (r ≡ Ok true → IsDone (sources old holds) i old.kernel new.kernel) → ImageAfter old.kernel i j
-    → MakesLine events.Interrupt old new holds i j
+    → LeadsFrom (LineAt old holds i events.Interrupt) (λ A s image. LineLeads A s old.kernel image new.kernel j)
 interrupt_makes old new holds i j r false e idle still step after =
-    subst (λ (m : Standing). MakesLine events.Interrupt old m holds i j) (sym (still e)) (idle_makes old holds i j (idle.0 e) after)
+    subst (λ (m : Standing). LeadsFrom (LineAt old holds i events.Interrupt) (λ A s image. LineLeads A s old.kernel image m.kernel j)) (sym (still e)) (idle_makes old holds i j (idle.0 e) after)
 interrupt_makes old new holds i j r true e idle still step after = done_makes old new holds i j (step e) after
 
 pub interrupt_steady : (old new : Standing) (holds : Option (List NamedFile)) (i : Option (List ℕ)) (r : Result Bool Stop) (b : Bool) → IsSteady old → r ≡ Ok b
@@ -91,7 +91,7 @@ some_flight stops.SwapWriteFault [] h = absurd h
 
 interrupt_ends : (old new : Standing) (holds : Option (List NamedFile)) (i j : Option (List ℕ)) (stop : Stop) → 0 < length old.kernel.place.transfers
     → StopsEnding old new i j stop
-    → StopsLine events.Interrupt old new holds i j stop
+    → StopsFrom (LineAt old holds i events.Interrupt) old new j stop
 interrupt_ends old new holds i j stop some x A s image at =
     interrupt_stops A s old new holds image j stop at.machine at.clear at.mark (subst (λ (ts : List Transfer). 0 < length ts) (some_still A s old holds i image at) some)
     (subst (λ (o : Option (List ℕ)). StopsEnding old new o j stop) at.told x)
@@ -101,7 +101,7 @@ pub interrupt_halts : (old new : Standing) (holds : Option (List NamedFile)) (i 
     → (let r : Result Bool Stop = Err stop in
     (r ≡ Err stops.JournalFull) ↔ ((0 < length old.kernel.place.transfers) × (old.params.journal ≤ length old.kernel.journal)))
     → (let r : Result Bool Stop = Err stop in LosesFor r old new) → (let r : Result Bool Stop = Err stop in SwapAfter r old.kernel i j)
-    → StopsLine events.Interrupt old new holds i j stop
+    → StopsFrom (LineAt old holds i events.Interrupt) old new j stop
 interrupt_halts old new holds i j stop w h c f lost x =
     interrupt_ends old new holds i j stop (some_flight stop old.kernel.place.transfers c)
     (record {
@@ -116,7 +116,7 @@ interrupt_halts old new holds i j stop w h c f lost x =
 -- Moves of the hands.
 
 pub hands_make : (old new : Standing) (holds : Option (List NamedFile)) (i j : Option (List ℕ)) (n made : ℕ) → Moved n old new made holds i j
-    → MakesLine (events.Hands n) old new holds i j
+    → LeadsFrom (LineAt old holds i (events.Hands n)) (λ A s image. LineLeads A s old.kernel image new.kernel j)
 hands_make old new holds i j n made m A s image at =
     hands_made A s old new holds image j n made at.machine at.clear at.mark (subst (λ (o : Option (List ℕ)). Moved n old new made holds o j) at.told m)
 
@@ -127,7 +127,7 @@ hands_steady old new holds i j n made s first few m ready =
     moved_steady old new made s (moves_continue old new n made holds i j s.clear m) first (let most = m.most in omega arith) ready
 
 pub hands_halt : (old new : Standing) (holds : Option (List NamedFile)) (i j : Option (List ℕ)) (n : ℕ) (stop : Stop) → StopsMoving n old stop new holds i j
-    → StopsLine (events.Hands n) old new holds i j stop
+    → StopsFrom (LineAt old holds i (events.Hands n)) old new j stop
 hands_halt old new holds i j n stop x A s image at =
     hands_stop A s old new holds image j n stop at.machine at.clear at.mark (subst (λ (o : Option (List ℕ)). StopsMoving n old stop new holds o j) at.told x)
 
@@ -135,7 +135,7 @@ hands_halt old new holds i j n stop x A s image at =
 
 pub swapper_makes : (old new : Standing) (holds : Option (List NamedFile)) (i j : Option (List ℕ)) (t : Turned)
     → choice_of t ≡ swap_choice old.kernel.place (runners_of old.kernel) → Turns t old new holds i j
-    → MakesLine events.Swapper old new holds i j
+    → LeadsFrom (LineAt old holds i events.Swapper) (λ A s image. LineLeads A s old.kernel image new.kernel j)
 swapper_makes old new holds i j t c x A s image at =
     swapper_made A s old new holds image j t at.machine at.clear at.fit at.mark c (subst (λ (o : Option (List ℕ)). Turns t old new holds o j) at.told x)
 
@@ -145,18 +145,19 @@ swapper_steady old new holds i j t s x ready = continues_steady old new 0 s (tur
 
 pub swapper_halts : (old new : Standing) (holds : Option (List NamedFile)) (i j : Option (List ℕ)) (stop : Stop)
     → ((t : Turned) × (choice_of t ≡ swap_choice old.kernel.place (runners_of old.kernel)) × StopsTurning t old stop new holds i j)
-    → StopsLine events.Swapper old new holds i j stop
+    → StopsFrom (LineAt old holds i events.Swapper) old new j stop
 swapper_halts old new holds i j stop x A s image at =
     swapper_stops A s old new holds image j x.0 stop at.machine at.clear at.mark x.1 (subst (λ (o : Option (List ℕ)). StopsTurning x.0 old stop new holds o j) at.told x.2)
 
 -- Numbers of frames and blocks.
 
 pub audit_makes : (old new : Standing) (holds : Option (List NamedFile)) (i : Option (List ℕ))
-    → new.kernel ≡ note_step old.kernel (owners_of old.kernel.place old.kernel.holdings) → MakesLine events.Audit old new holds i i
+    → new.kernel ≡ note_step old.kernel (owners_of old.kernel.place old.kernel.holdings)
+    → LeadsFrom (LineAt old holds i events.Audit) (λ A s image. LineLeads A s old.kernel image new.kernel i)
 audit_makes old new holds i k A s image at =
     subst (λ (o : Option (List ℕ)). LineLeads A s old.kernel image new.kernel o) (sym at.told) (audit_made A s old new.kernel holds image at.machine at.clear at.mark k)
 
 pub audit_halts : (old new : Standing) (holds : Option (List NamedFile)) (i : Option (List ℕ)) (stop : Stop) → StopsNoting old new stop
-    → StopsLine events.Audit old new holds i i stop
+    → StopsFrom (LineAt old holds i events.Audit) old new i stop
 audit_halts old new holds i stop x A s image at =
     subst (λ (o : Option (List ℕ)). StopLeads A s old.kernel image stop new o) (sym at.told) (audit_stops A s old new holds image stop at.machine at.clear at.mark x)

@@ -22,10 +22,12 @@ use Rattle.journal_laws.proofs.Idle.{count_most, few_turns}
 use Rattle.journal_laws.specs.Leads.{Leads}
 use Rattle.journal_laws.proofs.Units.{none_leads, both_lead}
 use Rattle.run_start.specs.Lines.{IsOver, TurnDue}
+use Rattle.run_start.specs.Stepped.{LeadsFrom, StopsFrom}
 use Rattle.proc_run.specs.Choosing.{turn_after as chosen_next}
 use Rattle.proc_run.proofs.Ready.{turned_same}
 use Rattle.vm_core.specs.Cores.{Underway, StandsIn, CoreAt}
-use Rattle.vm_core.specs.Closing.{TurnHad, HasTurn, StopsTurn, IdleSince, LinesAre, ClosesTo, Closes, StopsClosing, StopsClosingRun, CountsTurn, EndsPhase}
+use Rattle.vm_core.specs.Closing.{TurnHad, IdleSince, LinesAre, CountsTurn, EndsPhase, DueTurn, AllTaken, Closing, Closed}
+use Rattle.vm_core.specs.Accounts.{StopsAccountedFrom}
 use Rattle.vm_core.proofs.Accounts.{leads_accounted, leads_economical, leads_swapped, stop_accounted}
 use Rattle.vm_core.proofs.Standing.{leads_to_stop}
 
@@ -79,7 +81,8 @@ idle_none A s m holds i image count st lines = record {
   many = omega arith;
 }
 
-pub closing_starts : (m : Standing) (counted : ℕ) (holds : Option (List NamedFile)) (i : Option (List ℕ)) → ClosesTo m m counted counted 0 0 holds i i
+pub closing_starts : (m : Standing) (counted : ℕ) (holds : Option (List NamedFile)) (i : Option (List ℕ))
+    → LeadsFrom (LinesAre m holds i counted) (Closing m m holds i counted 0 0)
 closing_starts m counted holds i A s image at = record {
   units = [];
   state = s;
@@ -125,13 +128,14 @@ idle_on A t r m holds i image count idle now pid us st lines since f (inr e) =
     }
 
 pub closing_on : (old mid new : Standing) (holds : Option (List NamedFile)) (i h j : Option (List ℕ)) (counted count last idle pid more now : ℕ)
-    → ClosesTo old mid counted count last idle holds i h
-    → chosen_next mid.kernel last ≡ Some pid → count < mid.params.limit → HasTurn mid new pid count more holds h j → CountsTurn count more idle now
-    → ClosesTo old new counted more pid now holds i j
+    → LeadsFrom (LinesAre old holds i counted) (Closing old mid holds h count last idle)
+    → chosen_next mid.kernel last ≡ Some pid → count < mid.params.limit → LeadsFrom (DueTurn mid holds h count pid) (TurnHad mid new holds j pid more)
+    → CountsTurn count more idle now
+    → LeadsFrom (LinesAre old holds i counted) (Closing old new holds j more pid now)
 closing_on old mid new holds i h j counted count last idle pid more now f next below had kind A s image at =
     let c = f A s image at in
-    let d : TurnHad A c.state mid new holds c.behind j pid more =
-    had A c.state c.behind c.stands (turn_due A c.state mid holds h c.behind count last pid c.stands c.over c.lines c.turned next below) in
+    let d : TurnHad mid new holds j pid more A c.state c.behind =
+    had A c.state c.behind (c.stands, turn_due A c.state mid holds h c.behind count last pid c.stands c.over c.lines c.turned next below) in
     let first : Leads A s old.kernel image c.units c.state mid.kernel (Some c.behind) =
     subst (λ (o : Option (List ℕ)). Leads A s old.kernel image c.units c.state mid.kernel o) c.stands.told c.leads in
     let lines : length A.lines ≡ d.state.lines = c.lines ∙ sym d.lines in
@@ -151,13 +155,13 @@ closing_on old mid new holds i h j counted count last idle pid more now f next b
     }
 
 pub closing_stops : (old mid new : Standing) (holds : Option (List NamedFile)) (i h j : Option (List ℕ)) (counted count last idle pid : ℕ) (stop : Stop)
-    → ClosesTo old mid counted count last idle holds i h
-    → chosen_next mid.kernel last ≡ Some pid → count < mid.params.limit → StopsTurn mid new pid count holds h j stop
-    → StopsClosing old new counted holds i j stop
+    → LeadsFrom (LinesAre old holds i counted) (Closing old mid holds h count last idle)
+    → chosen_next mid.kernel last ≡ Some pid → count < mid.params.limit → StopsFrom (DueTurn mid holds h count pid) mid new j stop
+    → StopsFrom (LinesAre old holds i counted) old new j stop
 closing_stops old mid new holds i h j counted count last idle pid stop f next below x A s image at =
     let c = f A s image at in
     leads_to_stop A s c.state old.kernel mid.kernel image c.behind c.units stop new j (subst (λ (o : Option (List ℕ)). Leads A s old.kernel image c.units c.state mid.kernel o) c.stands.told c.leads)
-    (x A c.state c.behind c.stands (turn_due A c.state mid holds h c.behind count last pid c.stands c.over c.lines c.turned next below))
+    (x A c.state c.behind (c.stands, turn_due A c.state mid holds h c.behind count last pid c.stands c.over c.lines c.turned next below))
 
 -- It ends.
 
@@ -193,8 +197,8 @@ few_idle A t m holds i image count idle st since =
     omega arith
 
 pub closing_ends : (old new : Standing) (holds : Option (List NamedFile)) (i j : Option (List ℕ)) (counted count last idle : ℕ)
-    → ClosesTo old new counted count last idle holds i j → EndsPhase new count last idle
-    → Closes old new counted count holds i j
+    → LeadsFrom (LinesAre old holds i counted) (Closing old new holds j count last idle) → EndsPhase new count last idle
+    → LeadsFrom (LinesAre old holds i counted) (Closed old new holds j count)
 closing_ends old new holds i j counted count last idle f e A s image at =
     let c = f A s image at in
     let why : (A.limit ≤ c.state.count) ⊎ (next_turned c.state.point.flat (last_turned c.state.mark) ≡ None) = elim e [
@@ -218,10 +222,11 @@ closing_ends old new holds i j counted count last idle f e A s image at =
 
 lines_are : (A : Inputs) (s : State) (c : Underway) (holds : Option (List NamedFile)) (i : Option (List ℕ)) (image : List ℕ) → CoreAt A s c holds i image
     → length A.lines ≡ s.lines
-    → LinesAre A s c.machine holds i image c.counted
+    → LinesAre c.machine holds i c.counted A s image
 lines_are A s c holds i image at lines = record { stands = at.stands; over = at.over; lines = lines; unturned = at.unturned }
 
 pub run_stops : (old new : Underway) (holds : Option (List NamedFile)) (i j : Option (List ℕ)) (stop : Stop)
-    → StopsClosing old.machine new.machine old.counted holds i j stop → StopsClosingRun old new holds i j stop
-run_stops old new holds i j stop f A s image at lines =
+    → StopsFrom (LinesAre old.machine holds i old.counted) old.machine new.machine j stop
+    → StopsAccountedFrom (AllTaken old holds i) old.machine new.machine j stop
+run_stops old new holds i j stop f A s image (at, lines) =
     stop_accounted A s old.machine.kernel image stop new.machine j at.stands.machine.at at.stands.crowd (f A s image (lines_are A s old holds i image at lines))

@@ -6,16 +6,17 @@ use Rattle.vm_facts.specs.declared.stop.Stop.{Stop}
 use Rattle.io_edge.specs.FileHolding.{NamedFile}
 use Rattle.flat_state.specs.Flat.{Inputs}
 use Rattle.machine_state.specs.Machine.{Standing}
+use Rattle.run_start.specs.Stepped.{LeadsFrom, StopsFrom}
 use Rattle.run_model.specs.State.{State}
 use Rattle.run_model.specs.Next.{turn_instructions, last_turned}
 use Rattle.run_start.proofs.Residing.{closing_stays_in}
-use Rattle.proc_run.specs.Running.{UnderMark, Runs, StopsRunning}
-use Rattle.vm_core.specs.Cores.{AskedAt, CarriesOut, StopsCarrying}
-use Rattle.vm_core.specs.Closing.{TurnAt, FinishesTurn, StopsFinishing}
+use Rattle.proc_run.specs.Running.{UnderMark, RunLeads}
+use Rattle.vm_core.specs.Cores.{AskedAt, LineDone}
+use Rattle.vm_core.specs.Closing.{TurnAt, ResidentTurn, TurnDone}
 
 dispatched : (A : Inputs) (s : State) (m : Standing) (holds : Option (List NamedFile)) (i : Option (List ℕ)) (image : List ℕ) (pid n counted until : ℕ)
     → until ≡ min (counted + n) m.params.limit
-    → AskedAt A s m holds i image counted (events.Dispatch pid n) → UnderMark A s m holds i image pid false counted until
+    → AskedAt m holds i counted (events.Dispatch pid n) A s image → UnderMark m holds i pid false counted until A s image
 dispatched A s m holds i image pid n counted until u at = record {
   machine = at.stands.machine;
   named = at.stands.inputs.named;
@@ -27,7 +28,8 @@ dispatched A s m holds i image pid n counted until u at = record {
 
 pub dispatch_done : (old new : Standing) (holds : Option (List NamedFile)) (i j : Option (List ℕ)) (pid n counted until count : ℕ)
     → until ≡ min (counted + n) old.params.limit
-    → Runs old new pid false counted until holds i j count → CarriesOut old new counted count (events.Dispatch pid n) holds i j
+    → LeadsFrom (UnderMark old holds i pid false counted until) (RunLeads old.kernel pid false new.kernel j count)
+    → LeadsFrom (AskedAt old holds i counted (events.Dispatch pid n)) (LineDone old new j count)
 dispatch_done old new holds i j pid n counted until count u f A s image at =
     let l = f A s image (dispatched A s old holds i image pid n counted until u at) in
     record {
@@ -42,12 +44,12 @@ dispatch_done old new holds i j pid n counted until count u f A s image at =
 
 pub dispatch_stops : (old new : Standing) (holds : Option (List NamedFile)) (i j : Option (List ℕ)) (pid n counted until : ℕ) (stop : Stop)
     → until ≡ min (counted + n) old.params.limit
-    → StopsRunning old new pid false counted until holds i j stop → StopsCarrying old new counted (events.Dispatch pid n) holds i j stop
+    → StopsFrom (UnderMark old holds i pid false counted until) old new j stop → StopsFrom (AskedAt old holds i counted (events.Dispatch pid n)) old new j stop
 dispatch_stops old new holds i j pid n counted until stop u f A s image at = f A s image (dispatched A s old holds i image pid n counted until u at)
 
 turning : (A : Inputs) (s : State) (m : Standing) (holds : Option (List NamedFile)) (i : Option (List ℕ)) (image : List ℕ) (pid counted since until : ℕ)
     → until ≡ min (since + turn_instructions) m.params.limit
-    → TurnAt A s m holds i image counted since pid → UnderMark A s m holds i image pid true counted until
+    → TurnAt m holds i counted since pid A s image → UnderMark m holds i pid true counted until A s image
 turning A s m holds i image pid counted since until u at = record {
   machine = at.stands.machine;
   named = at.stands.inputs.named;
@@ -59,8 +61,9 @@ turning A s m holds i image pid counted since until u at = record {
 
 pub finish_done : (old new : Standing) (holds : Option (List NamedFile)) (i j : Option (List ℕ)) (pid counted since until count : ℕ)
     → until ≡ min (since + turn_instructions) old.params.limit
-    → Runs old new pid true counted until holds i j count → FinishesTurn old new pid counted since count holds i j
-finish_done old new holds i j pid counted since until count u f A s image at in_ =
+    → LeadsFrom (UnderMark old holds i pid true counted until) (RunLeads old.kernel pid true new.kernel j count)
+    → LeadsFrom (ResidentTurn old holds i counted since pid) (TurnDone old new j pid count)
+finish_done old new holds i j pid counted since until count u f A s image (at, in_) =
     let l = f A s image (turning A s old holds i image pid counted since until u at) in
     record {
       units = l.units;
@@ -78,5 +81,5 @@ finish_done old new holds i j pid counted since until count u f A s image at in_
 
 pub finish_stops : (old new : Standing) (holds : Option (List NamedFile)) (i j : Option (List ℕ)) (pid counted since until : ℕ) (stop : Stop)
     → until ≡ min (since + turn_instructions) old.params.limit
-    → StopsRunning old new pid true counted until holds i j stop → StopsFinishing old new pid counted since holds i j stop
-finish_stops old new holds i j pid counted since until stop u f A s image at in_ = f A s image (turning A s old holds i image pid counted since until u at)
+    → StopsFrom (UnderMark old holds i pid true counted until) old new j stop → StopsFrom (ResidentTurn old holds i counted since pid) old new j stop
+finish_stops old new holds i j pid counted since until stop u f A s image (at, in_) = f A s image (turning A s old holds i image pid counted since until u at)

@@ -18,13 +18,13 @@ use Rattle.run_model.specs.State.{start}
 use Rattle.run_laws.specs.Running.{CanRun}
 use Rattle.journal_laws.specs.Leads.{Leads}
 use Rattle.journal_laws.proofs.Units.{both_lead}
-use Rattle.run_start.specs.Stepped.{StopLeads}
+use Rattle.run_start.specs.Stepped.{StopLeads, LeadsFrom, StopsFrom}
 use Rattle.run_start.specs.Sizes.{KeptAtStop}
 use Rattle.run_start.specs.Starting.{AreAmong, StartsFrom}
 use Rattle.run_start.specs.Leading.{IsTold, machine_at_start}
 use Rattle.vm_core.specs.Cores.{Underway, GoesOn, InputsOf}
 use Rattle.vm_core.specs.Starting.{CoreStarted, StartsRun, StopsStartingRun}
-use Rattle.vm_core.specs.Schedules.{IsBeforeLines, StopsLines, FinishesLines}
+use Rattle.vm_core.specs.Schedules.{IsBeforeLines, LinesFinished}
 use Rattle.vm_core.specs.Full.{RunFull, RunOver, RunStopsAt}
 use Rattle.vm_core.specs.RunEnds.{IsAskedOf, NoneMade, RunStops, RunEnds}
 use Rattle.vm_core.specs.declared.schedule.Unfinished.{Unfinished}
@@ -135,32 +135,34 @@ module _ (A : Inputs) (old : Underway) (numbers : List ℕ) (lines : List Event)
     started : CoreStarted A mid holds image h
     started = starts A image is_told inputs_of told
 
-    before_lines : IsBeforeLines A started.state mid lines holds h started.behind
+    before_lines : IsBeforeLines mid lines holds h A started.state started.behind
     before_lines = record { at = started.at; none = started.same.lines; are = is.lines_are }
 
     start_told : Leads A (start A started.holdings) (machine_at_start A started.holdings) image started.units started.state mid.machine.kernel (Some started.behind)
     start_told = subst (λ (o : Option (List ℕ)). Leads A (start A started.holdings) (machine_at_start A started.holdings) image started.units started.state mid.machine.kernel o)
         started.at.stands.told started.leads
 
-    pub lines_stop : (new : Underway) (stop : Stop) (j : Option (List ℕ)) → StopsLines mid new lines holds h j stop → RunEnds A new.machine.kernel.journal image (Err (Stopped stop)) j
+    pub lines_stop : (new : Underway) (stop : Stop) (j : Option (List ℕ)) → StopsFrom (IsBeforeLines mid lines holds h) mid.machine new.machine j stop
+        → RunEnds A new.machine.kernel.journal image (Err (Stopped stop)) j
     lines_stop new stop j f =
         stops_at new.machine stop j started.holdings started.can
         (leads_to_stop A (start A started.holdings) started.state (machine_at_start A started.holdings) mid.machine.kernel image started.behind started.units stop new.machine j start_told
         (f A started.state started.behind before_lines))
 
-    pub lines_full : (new : Underway) (stop : Stop) (j : Option (List ℕ)) → stop ≡ stops.JournalFull → StopsLines mid new lines holds h j stop → RunFull A new.machine image
+    pub lines_full : (new : Underway) (stop : Stop) (j : Option (List ℕ)) → stop ≡ stops.JournalFull → StopsFrom (IsBeforeLines mid lines holds h) mid.machine new.machine j stop
+        → RunFull A new.machine image
     lines_full new stop j e f =
         full_at new.machine stop j started.holdings started.can e
         (leads_to_stop A (start A started.holdings) started.state (machine_at_start A started.holdings) mid.machine.kernel image started.behind started.units stop new.machine j start_told
         (f A started.state started.behind before_lines))
 
-    pub lines_left : (new : Underway) (stop : Stop) (j : Option (List ℕ)) → StopsLines mid new lines holds h j stop → RunStopsAt A stop new.machine image
+    pub lines_left : (new : Underway) (stop : Stop) (j : Option (List ℕ)) → StopsFrom (IsBeforeLines mid lines holds h) mid.machine new.machine j stop → RunStopsAt A stop new.machine image
     lines_left new stop j f =
         left_at new.machine stop j started.holdings started.can
         (leads_to_stop A (start A started.holdings) started.state (machine_at_start A started.holdings) mid.machine.kernel image started.behind started.units stop new.machine j start_told
         (f A started.state started.behind before_lines))
 
-    pub lines_finish : (new : Underway) (j : Option (List ℕ)) → FinishesLines mid new lines holds h j → RunEnds A new.machine.kernel.journal image (Ok tt) j
+    pub lines_finish : (new : Underway) (j : Option (List ℕ)) → LeadsFrom (IsBeforeLines mid lines holds h) (LinesFinished mid new j) → RunEnds A new.machine.kernel.journal image (Ok tt) j
     lines_finish new j f =
         let d = f A started.state started.behind before_lines in
         finished_run A started.holdings started.can first_few image is.room new j (started.units ++ d.units) d.state
@@ -170,7 +172,7 @@ module _ (A : Inputs) (old : Underway) (numbers : List ℕ) (lines : List Event)
         d.none
 
     -- since there is no next unit
-    pub lines_over : (new : Underway) (j : Option (List ℕ)) → FinishesLines mid new lines holds h j → GoesOn new → RunOver A new.machine image
+    pub lines_over : (new : Underway) (j : Option (List ℕ)) → LeadsFrom (IsBeforeLines mid lines holds h) (LinesFinished mid new j) → GoesOn new → RunOver A new.machine image
     lines_over new j f on =
         let d = f A started.state started.behind before_lines in
         over_run A started.holdings started.can first_few image is.room new j (started.units ++ d.units) d.state

@@ -15,13 +15,15 @@ use Rattle.run_model.specs.Next.{due_unit, or_else, under, when, line_or_turn, n
 use Rattle.journal_laws.specs.Leads.{Leads}
 use Rattle.journal_laws.proofs.Units.{none_leads, both_lead}
 use Rattle.run_start.specs.Lines.{IsOver}
+use Rattle.run_start.specs.Stepped.{LeadsFrom, StopsFrom}
 use Rattle.vm_core.specs.declared.events.Went.{Went}
 use Rattle.vm_core.specs.declared.events.Went.TheVariants as wents
-use Rattle.vm_core.specs.Cores.{Underway, LineDue, LineTaken, TakesLine, StopsTaking}
-use Rattle.vm_core.specs.Closing.{ClosesRun, StopsClosingRun}
+use Rattle.vm_core.specs.Cores.{Underway, LineDue, LineTaken, LineDueAt}
 use Rattle.vm_core.specs.Steady.{HasFewMoves}
 use Rattle.vm_core.proofs.Standing.{leads_to_stop}
-use Rattle.vm_core.specs.Schedules.{HaveFewMoves, IsBeforeLines, LinesTaken, TakesLines, StopsLines, FinishesLines}
+use Rattle.vm_core.specs.Schedules.{HaveFewMoves, IsBeforeLines, LinesTaken, LinesWent, LinesFinished}
+use Rattle.vm_core.specs.Closing.{AllTaken, Closed}
+use Rattle.vm_core.specs.Accounts.{StopsAccountedFrom}
 
 pub few_at : (lines : List Event) (k : ℕ) (e : Event) → HaveFewMoves lines → slice_get lines k ≡ Some e → HasFewMoves e
 few_at [] k e few at = absurd cc
@@ -39,7 +41,7 @@ goes_below went limit counted e iff =
 -- so many of these lines were taken
 abbrev pub HasTaken : Underway → Underway → ℕ → List Event → Option (List NamedFile) → Option (List ℕ) → Option (List ℕ) → Type 0
 HasTaken old now taken lines holds i j =
-    (A : Inputs) (s : State) (image : List ℕ) → IsBeforeLines A s old lines holds i image → LinesTaken A s old now holds image j taken
+    (A : Inputs) (s : State) (image : List ℕ) → IsBeforeLines old lines holds i A s image → LinesTaken old now holds j taken A s image
 
 pub none_taken : (old : Underway) (lines : List Event) (holds : Option (List NamedFile)) (i : Option (List ℕ)) → HasTaken old old 0 lines holds i i
 none_taken old lines holds i A s image b = record {
@@ -53,13 +55,13 @@ none_taken old lines holds i A s image b = record {
 
 -- their units, with the swap image that is told
 told_leads : (A : Inputs) (s : State) (old mid : Underway) (holds : Option (List NamedFile)) (h : Option (List ℕ)) (image : List ℕ) (taken : ℕ)
-    (c : LinesTaken A s old mid holds image h taken)
+    (c : LinesTaken old mid holds h taken A s image)
     → Leads A s old.machine.kernel image c.units c.state mid.machine.kernel (Some c.behind)
 told_leads A s old mid holds h image taken c = subst (λ (o : Option (List ℕ)). Leads A s old.machine.kernel image c.units c.state mid.machine.kernel o) c.at.stands.told c.leads
 
 module _ (A : Inputs) (s : State) (old mid : Underway) (lines : List Event) (holds : Option (List NamedFile)) (i h : Option (List ℕ)) (image : List ℕ) (taken : ℕ) (e : Event)
-    (b : IsBeforeLines A s old lines holds i image)
-    (c : LinesTaken A s old mid holds image h taken) where
+    (b : IsBeforeLines old lines holds i A s image)
+    (c : LinesTaken old mid holds h taken A s image) where
   due : slice_get lines taken ≡ Some e → mid.counted < mid.machine.params.limit → LineDue A c.state (taken + 1) e
   due at below = record {
     number = ap (λ (n : ℕ). n + 1) c.lines;
@@ -67,7 +69,7 @@ module _ (A : Inputs) (s : State) (old mid : Underway) (lines : List Event) (hol
     below = let same = c.at.stands.count in let limit = c.at.stands.inputs.limit in omega arith;
   }
 
-  on : (new : Underway) (j : Option (List ℕ)) → LineTaken A c.state mid new holds c.behind j → LinesTaken A s old new holds image j (taken + 1)
+  on : (new : Underway) (j : Option (List ℕ)) → LineTaken mid new holds j A c.state c.behind → LinesTaken old new holds j (taken + 1) A s image
   on new j d = record {
     units = c.units ++ d.units;
     state = d.state;
@@ -82,24 +84,26 @@ module _ (A : Inputs) (s : State) (old mid : Underway) (lines : List Event) (hol
 
 pub line_taken : (old mid new : Underway) (taken : ℕ) (e : Event) (lines : List Event) (holds : Option (List NamedFile)) (i h j : Option (List ℕ))
     → HasTaken old mid taken lines holds i h → slice_get lines taken ≡ Some e
-    → mid.counted < mid.machine.params.limit → TakesLine mid new (taken + 1) e holds h j → HasTaken old new (taken + 1) lines holds i j
+    → mid.counted < mid.machine.params.limit → LeadsFrom (LineDueAt mid (taken + 1) e holds h) (LineTaken mid new holds j)
+    → HasTaken old new (taken + 1) lines holds i j
 line_taken old mid new taken e lines holds i h j f at below t A s image b =
     let c = f A s image b in
-    on A s old mid lines holds i h image taken e b c new j (t A c.state c.behind c.at (due A s old mid lines holds i h image taken e b c at below))
+    on A s old mid lines holds i h image taken e b c new j (t A c.state c.behind (c.at, due A s old mid lines holds i h image taken e b c at below))
 
 pub line_stops : (old mid new : Underway) (taken : ℕ) (e : Event) (lines : List Event) (holds : Option (List NamedFile)) (i h j : Option (List ℕ)) (stop : Stop)
     → HasTaken old mid taken lines holds i h
-    → slice_get lines taken ≡ Some e → mid.counted < mid.machine.params.limit → StopsTaking mid new (taken + 1) e holds h j stop
-    → StopsLines old new lines holds i j stop
+    → slice_get lines taken ≡ Some e → mid.counted < mid.machine.params.limit
+    → StopsAccountedFrom (LineDueAt mid (taken + 1) e holds h) mid.machine new.machine j stop
+    → StopsFrom (IsBeforeLines old lines holds i) old.machine new.machine j stop
 line_stops old mid new taken e lines holds i h j stop f at below x A s image b =
     let c = f A s image b in
     leads_to_stop A s c.state old.machine.kernel mid.machine.kernel image c.behind c.units stop new.machine j (told_leads A s old mid holds h image taken c)
-    (x A c.state c.behind c.at (due A s old mid lines holds i h image taken e b c at below)).led
+    (x A c.state c.behind (c.at, due A s old mid lines holds i h image taken e b c at below)).led
 
 -- after a line as many instructions are counted as may
 pub limit_taken : (old new : Underway) (taken : ℕ) (lines : List Event) (holds : Option (List NamedFile)) (i j : Option (List ℕ))
     → HasTaken old new taken lines holds i j → new.machine.params.limit ≤ new.counted
-    → TakesLines old new wents.LimitReached lines holds i j
+    → LeadsFrom (IsBeforeLines old lines holds i) (LinesWent old new wents.LimitReached (length lines) holds j)
 limit_taken old new taken lines holds i j f over A s image b =
     let c = f A s image b in
     (taken, c, (let limit = c.at.stands.inputs.limit in omega arith))
@@ -118,18 +122,20 @@ limit_ends A t o l =
     full = grind (arith, nat_tests)
 
 pub limit_finishes : (old new : Underway) (lines : List Event) (holds : Option (List NamedFile)) (i j : Option (List ℕ))
-    → TakesLines old new wents.LimitReached lines holds i j → FinishesLines old new lines holds i j
+    → LeadsFrom (IsBeforeLines old lines holds i) (LinesWent old new wents.LimitReached (length lines) holds j)
+    → LeadsFrom (IsBeforeLines old lines holds i) (LinesFinished old new j)
 limit_finishes old new lines holds i j f A s image b =
     let w = f A s image b in
     let c = w.1 in
     record { units = c.units; state = c.state; leads = c.leads; none = limit_ends A c.state c.at.over (let same = c.at.stands.count in let full = w.2 in omega arith) }
 
 pub closing_finishes : (old mid new : Underway) (lines : List Event) (holds : Option (List NamedFile)) (i h j : Option (List ℕ))
-    → TakesLines old mid wents.Next lines holds i h → ClosesRun mid new holds h j
-    → FinishesLines old new lines holds i j
+    → LeadsFrom (IsBeforeLines old lines holds i) (LinesWent old mid wents.Next (length lines) holds h)
+    → LeadsFrom (AllTaken mid holds h) (Closed mid.machine new.machine holds j new.counted)
+    → LeadsFrom (IsBeforeLines old lines holds i) (LinesFinished old new j)
 closing_finishes old mid new lines holds i h j f close A s image b =
-    let c : LinesTaken A s old mid holds image h (length lines) = f A s image b in
-    let d = close A c.state c.behind c.at (ap length b.are ∙ sym c.lines) in
+    let c : LinesTaken old mid holds h (length lines) A s image = f A s image b in
+    let d = close A c.state c.behind (c.at, ap length b.are ∙ sym c.lines) in
     record {
       units = c.units ++ d.units;
       state = d.state;
@@ -139,9 +145,10 @@ closing_finishes old mid new lines holds i h j f close A s image b =
     }
 
 pub closing_stops : (old mid new : Underway) (lines : List Event) (holds : Option (List NamedFile)) (i h j : Option (List ℕ)) (stop : Stop)
-    → TakesLines old mid wents.Next lines holds i h → StopsClosingRun mid new holds h j stop
-    → StopsLines old new lines holds i j stop
+    → LeadsFrom (IsBeforeLines old lines holds i) (LinesWent old mid wents.Next (length lines) holds h)
+    → StopsAccountedFrom (AllTaken mid holds h) mid.machine new.machine j stop
+    → StopsFrom (IsBeforeLines old lines holds i) old.machine new.machine j stop
 closing_stops old mid new lines holds i h j stop f x A s image b =
-    let c : LinesTaken A s old mid holds image h (length lines) = f A s image b in
+    let c : LinesTaken old mid holds h (length lines) A s image = f A s image b in
     leads_to_stop A s c.state old.machine.kernel mid.machine.kernel image c.behind c.units stop new.machine j (told_leads A s old mid holds h image (length lines) c)
-    (x A c.state c.behind c.at (ap length b.are ∙ sym c.lines)).led
+    (x A c.state c.behind (c.at, ap length b.are ∙ sym c.lines)).led

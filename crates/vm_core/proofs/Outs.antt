@@ -61,7 +61,7 @@ steps_hold k flat pid tables c =
 
 pub held_in : (m : Standing) (pid counted since : ℕ) (holds : Option (List NamedFile)) (i : Option (List ℕ))
     → ((sid : ℕ) → life_in m.kernel pid ≡ HoldsSpace sid → is_out m.kernel.place pid ≡ false)
-    → (A : Inputs) (s : State) (image : List ℕ) → TurnAt A s m holds i image counted since pid → is_out s.place pid ≡ false
+    → (A : Inputs) (s : State) (image : List ℕ) → TurnAt m holds i counted since pid A s image → is_out s.place pid ≡ false
 held_in m pid counted since holds i f A s image at =
     let steps = (and_parts (can_step s.point.flat pid) (nat_lt s.count A.limit && nat_lt s.count (since + turn_instructions)) at.on).0 in
     let held = steps_hold m.kernel s.point.flat pid at.stands.machine.at.stands.keeps.coupled.tables steps in

@@ -20,22 +20,22 @@ use Rattle.run_laws.proofs.Finishing.{units_below}
 use Rattle.run_laws.proofs.Machines.{makes_follows}
 use Rattle.journal_laws.specs.Leads.{Leads}
 use Rattle.journal_laws.proofs.Units.{both_lead}
-use Rattle.run_start.specs.Stepped.{StopLeads}
-use Rattle.run_start.specs.Lines.{LineBegun, StopsNoting}
+use Rattle.run_start.specs.Stepped.{StopLeads, LeadsFrom, StopsFrom}
+use Rattle.run_start.specs.Lines.{LineBegun, StopsNoting, LineLeads}
 use Rattle.run_start.proofs.StepUnitsBeginning.{line_begins, line_stops}
 use Rattle.proc_run.specs.Running.{CountsTo}
-use Rattle.vm_core.specs.Accounts.{StopsAccounted}
+use Rattle.vm_core.specs.Accounts.{StopsAccounted, StopsAccountedFrom}
 use Rattle.vm_core.specs.Steady.{StaysSteady}
-use Rattle.vm_core.specs.Lines.{LineAt, MakesLine}
-use Rattle.vm_core.specs.Cores.{Underway, StandsIn, CoreAt, LineDue, LineTaken, TakesLine, StopsTaking, AskedAt, CarriesOut, StopsCarrying}
+use Rattle.vm_core.specs.Lines.{LineAt}
+use Rattle.vm_core.specs.Cores.{Underway, StandsIn, CoreAt, LineDue, LineTaken, AskedAt, LineDueAt, LineDone}
 use Rattle.vm_core.proofs.Accounts.{leads_accounted, leads_economical, leads_swapped, stop_accounted}
 use Rattle.vm_core.proofs.Standing.{stands_on, leads_to_stop}
 
 -- What a line asks for.
 
 line_at : (A : Inputs) (s : State) (m : Standing) (holds : Option (List NamedFile)) (i : Option (List ℕ)) (image : List ℕ) (counted : ℕ) (e : Event)
-    → AskedAt A s m holds i image counted e
-    → LineAt A s m holds i image e
+    → AskedAt m holds i counted e A s image
+    → LineAt m holds i e A s image
 line_at A s m holds i image counted e at = record {
   machine = at.stands.machine;
   told = at.stands.told;
@@ -44,8 +44,9 @@ line_at A s m holds i image counted e at = record {
   fit = at.stands.longwords.fit;
 }
 
-pub makes_carries : (old new : Standing) (holds : Option (List NamedFile)) (i j : Option (List ℕ)) (counted : ℕ) (e : Event) → MakesLine e old new holds i j
-    → CarriesOut old new counted counted e holds i j
+pub makes_carries : (old new : Standing) (holds : Option (List NamedFile)) (i j : Option (List ℕ)) (counted : ℕ) (e : Event)
+    → LeadsFrom (LineAt old holds i e) (λ A s image. LineLeads A s old.kernel image new.kernel j)
+    → LeadsFrom (AskedAt old holds i counted e) (LineDone old new j counted)
 makes_carries old new holds i j counted e f A s image at =
     let l = f A s image (line_at A s old holds i image counted e at) in
     record { units = l.units; state = l.state; leads = l.leads; over = l.over; unturned = l.unturned; counts = l.count ∙ at.stands.count; lines = l.lines }
@@ -57,7 +58,7 @@ record Begun (A : Inputs) (s : State) (old : Underway) (mid : Standing) (holds :
   units : List Entry
   state : State
   leads : Leads A s old.machine.kernel image units state mid.kernel (Some image)
-  at : AskedAt A state mid holds i image old.counted e
+  at : AskedAt mid holds i old.counted e A state image
   lines : state.lines ≡ s.lines + 1
 
 mark_still : (s t : State) (e : Event) → t.place ≡ s.place → t.point ≡ s.point → t.count ≡ s.count → mark_of_event s e ≡ mark_of_event t e
@@ -92,8 +93,8 @@ module _ (A : Inputs) (s : State) (old : Underway) (holds : Option (List NamedFi
       }
 
   taken : (mid new : Standing) (j : Option (List ℕ)) (count : ℕ) → StaysSteady old.machine mid 0 → mid.kernel ≡ note_step old.machine.kernel (entries.Event line)
-      → CarriesOut mid new old.counted count e holds i j
-      → CountsTo mid new old.counted count → LineTaken A s old (let u : Underway = record { machine = new; counted = count } in u) holds image j
+      → LeadsFrom (AskedAt mid holds i old.counted e) (LineDone mid new j count)
+      → CountsTo mid new old.counted count → LineTaken old (let u : Underway = record { machine = new; counted = count } in u) holds j A s image
   taken mid new j count stays k f to =
       let b = begun mid stays k in
       let d = f A b.state image b.at in
@@ -120,7 +121,7 @@ module _ (A : Inputs) (s : State) (old : Underway) (holds : Option (List NamedFi
       }
 
   carrying_stops : (mid new : Standing) (j : Option (List ℕ)) (stop : Stop) → StaysSteady old.machine mid 0 → mid.kernel ≡ note_step old.machine.kernel (entries.Event line)
-      → StopsCarrying mid new old.counted e holds i j stop
+      → StopsFrom (AskedAt mid holds i old.counted e) mid new j stop
       → StopsAccounted A s old.machine.kernel image stop new j
   carrying_stops mid new j stop stays k f =
       let b = begun mid stays k in
@@ -137,17 +138,18 @@ module _ (A : Inputs) (s : State) (old : Underway) (holds : Option (List NamedFi
 
 pub takes_line : (old : Underway) (mid new : Standing) (holds : Option (List NamedFile)) (i j : Option (List ℕ)) (line count : ℕ) (e : Event)
     → StaysSteady old.machine mid 0
-    → mid.kernel ≡ note_step old.machine.kernel (entries.Event line) → CarriesOut mid new old.counted count e holds i j → CountsTo mid new old.counted count
-    → TakesLine old (let u : Underway = record { machine = new; counted = count } in u) line e holds i j
-takes_line old mid new holds i j line count e stays k f to A s image at due = taken A s old holds i image line e at due mid new j count stays k f to
+    → mid.kernel ≡ note_step old.machine.kernel (entries.Event line) → LeadsFrom (AskedAt mid holds i old.counted e) (LineDone mid new j count)
+    → CountsTo mid new old.counted count
+    → LeadsFrom (LineDueAt old line e holds i) (LineTaken old (let u : Underway = record { machine = new; counted = count } in u) holds j)
+takes_line old mid new holds i j line count e stays k f to A s image (at, due) = taken A s old holds i image line e at due mid new j count stays k f to
 
 pub stops_carrying : (old after : Underway) (mid : Standing) (holds : Option (List NamedFile)) (i j : Option (List ℕ)) (line : ℕ) (e : Event) (stop : Stop)
     → StaysSteady old.machine mid 0
-    → mid.kernel ≡ note_step old.machine.kernel (entries.Event line) → StopsCarrying mid after.machine old.counted e holds i j stop
-    → StopsTaking old after line e holds i j stop
-stops_carrying old after mid holds i j line e stop stays k f A s image at due = carrying_stops A s old holds i image line e at due mid after.machine j stop stays k f
+    → mid.kernel ≡ note_step old.machine.kernel (entries.Event line) → StopsFrom (AskedAt mid holds i old.counted e) mid after.machine j stop
+    → StopsAccountedFrom (LineDueAt old line e holds i) old.machine after.machine j stop
+stops_carrying old after mid holds i j line e stop stays k f A s image (at, due) = carrying_stops A s old holds i image line e at due mid after.machine j stop stays k f
 
 pub stops_noted : (old after : Underway) (holds : Option (List NamedFile)) (i : Option (List ℕ)) (line : ℕ) (e : Event) (stop : Stop)
     → StopsNoting old.machine after.machine stop
-    → StopsTaking old after line e holds i i stop
-stops_noted old after holds i line e stop x A s image at due = noting_stops A s old holds i image line e at due after.machine stop x
+    → StopsAccountedFrom (LineDueAt old line e holds i) old.machine after.machine i stop
+stops_noted old after holds i line e stop x A s image (at, due) = noting_stops A s old holds i image line e at due after.machine stop x

@@ -17,7 +17,7 @@ use Rattle.run_model.specs.State.{State}
 use Rattle.run_model.specs.Next.{goes_on, turn_instructions}
 use Rattle.journal_laws.specs.Leads.{Leads}
 use Rattle.journal_laws.proofs.Units.{none_leads, both_lead}
-use Rattle.run_start.specs.Stepped.{StopLeads}
+use Rattle.run_start.specs.Stepped.{StopLeads, LeadsFrom, StopsFrom}
 use Rattle.run_start.specs.Lines.{TurnDue, TurnBegun, CameIn, StopsNoting}
 use Rattle.run_start.proofs.StepUnitsBeginning.{turn_stops}
 use Rattle.run_start.proofs.Turning.{turn_begins, comes_in, coming_in_stops}
@@ -27,7 +27,7 @@ use Rattle.run_laws.proofs.Machines.{makes_follows}
 use Rattle.proc_run.specs.Running.{CountsTo}
 use Rattle.vm_core.specs.Steady.{StaysSteady}
 use Rattle.vm_core.specs.Cores.{StandsIn}
-use Rattle.vm_core.specs.Closing.{TurnAt, ComesIn, StopsComingIn, FinishesTurn, StopsFinishing, HasTurn, StopsTurn}
+use Rattle.vm_core.specs.Closing.{TurnAt, ResidentTurn, DueTurn, InTurn, TurnDone, TurnHad}
 use Rattle.vm_core.proofs.Standing.{stands_on, leads_to_stop}
 
 -- next units count no more than may be
@@ -40,8 +40,8 @@ few_counted A s t old holds i image us l j below a = units_below A us s t (makes
 
 -- one that is in has its turn at once
 pub in_already : (m : Standing) (pid counted since : ℕ) (holds : Option (List NamedFile)) (i : Option (List ℕ))
-    → ((A : Inputs) (s : State) (image : List ℕ) → TurnAt A s m holds i image counted since pid → is_out s.place pid ≡ false)
-    → ComesIn m m pid counted since holds i i
+    → ((A : Inputs) (s : State) (image : List ℕ) → TurnAt m holds i counted since pid A s image → is_out s.place pid ≡ false)
+    → LeadsFrom (TurnAt m holds i counted since pid) (InTurn m m holds i counted since pid)
 in_already m pid counted since holds i f A s image at = record {
   units = [];
   state = s;
@@ -53,13 +53,13 @@ in_already m pid counted since holds i f A s image at = record {
 }
 
 out_there : (A : Inputs) (s : State) (m : Standing) (holds : Option (List NamedFile)) (i : Option (List ℕ)) (image : List ℕ) (counted since pid : ℕ)
-    → TurnAt A s m holds i image counted since pid → is_out m.kernel.place pid ≡ true
+    → TurnAt m holds i counted since pid A s image → is_out m.kernel.place pid ≡ true
     → is_out s.place pid ≡ true
 out_there A s m holds i image counted since pid at o = ap (λ (p : Placement). is_out p pid) (sym at.stands.machine.at.stands.place) ∙ o
 
 pub in_comes : (old new : Standing) (pid counted since : ℕ) (holds : Option (List NamedFile)) (i j : Option (List ℕ)) → is_out old.kernel.place pid ≡ true
     → IsIn old.kernel new.kernel pid i → new.params ≡ old.params
-    → new.images ≡ old.images → j ≡ i → ComesIn old new pid counted since holds i j
+    → new.images ≡ old.images → j ≡ i → LeadsFrom (TurnAt old holds i counted since pid) (InTurn old new holds j counted since pid)
 in_comes old new pid counted since holds i j o is params images same A s image at =
     let c : CameIn A s old.kernel image pid since new.kernel =
     comes_in A s old new holds image pid since at.stands.machine at.clear at.mark at.on (out_there A s old holds i image counted since pid at o)
@@ -84,7 +84,7 @@ in_comes old new pid counted since holds i j o is params images same A s image a
     }
   where
     below : (A : Inputs) (s : State) (old : Standing) (holds : Option (List NamedFile)) (i : Option (List ℕ)) (image : List ℕ) (counted since pid : ℕ)
-        → TurnAt A s old holds i image counted since pid → counted ≤ A.limit
+        → TurnAt old holds i counted since pid A s image → counted ≤ A.limit
     below A s old holds i image counted since pid at =
         let two = and_parts (can_step s.point.flat pid) (nat_lt s.count A.limit && nat_lt s.count (since + turn_instructions)) at.on in
         let l : s.count < A.limit = ltb-true s.count A.limit (and_parts (nat_lt s.count A.limit) (nat_lt s.count (since + turn_instructions)) two.1).0 in
@@ -93,7 +93,7 @@ in_comes old new pid counted since holds i j o is params images same A s image a
 
 pub in_stops : (old new : Standing) (pid counted since : ℕ) (holds : Option (List NamedFile)) (i j : Option (List ℕ)) (stop : Stop)
     → is_out old.kernel.place pid ≡ true → StopsAt (entries.SwapIn pid) old.kernel i stop new j
-    → StopsComingIn old new pid counted since holds i j stop
+    → StopsFrom (TurnAt old holds i counted since pid) old new j stop
 in_stops old new pid counted since holds i j stop o x A s image at =
     coming_in_stops A s old new holds image j pid since stop at.stands.machine at.clear at.mark at.on (out_there A s old holds i image counted since pid at o)
     (subst (λ (y : Option (List ℕ)). StopsAt (entries.SwapIn pid) old.kernel y stop new j) at.stands.told x)
@@ -104,7 +104,7 @@ record TurnStarts (A : Inputs) (s : State) (old mid : Standing) (holds : Option 
     (counted pid : ℕ) : Type 0 where
   state : State
   leads : Leads A s old.kernel image (entries.Turn pid ∷ []) state mid.kernel (Some image)
-  at : TurnAt A state mid holds i image counted counted pid
+  at : TurnAt mid holds i counted counted pid A state image
   lines : state.lines ≡ s.lines
 
 turn_starts : (A : Inputs) (s : State) (old mid : Standing) (holds : Option (List NamedFile)) (i : Option (List ℕ)) (image : List ℕ) (counted pid : ℕ)
@@ -132,12 +132,13 @@ turn_starts A s old mid holds i image counted pid st due stays k =
 
 pub has_turn : (old mid in_ new : Standing) (pid counted count : ℕ) (holds : Option (List NamedFile)) (i h j : Option (List ℕ)) → StaysSteady old mid 0
     → mid.kernel ≡ note_step old.kernel (entries.Turn pid)
-    → ComesIn mid in_ pid counted counted holds i h → FinishesTurn in_ new pid counted counted count holds h j → CountsTo in_ new counted count
-    → HasTurn old new pid counted count holds i j
-has_turn old mid in_ new pid counted count holds i h j stays k came finishes to A s image st due =
+    → LeadsFrom (TurnAt mid holds i counted counted pid) (InTurn mid in_ holds h counted counted pid)
+    → LeadsFrom (ResidentTurn in_ holds h counted counted pid) (TurnDone in_ new j pid count) → CountsTo in_ new counted count
+    → LeadsFrom (DueTurn old holds i counted pid) (TurnHad old new holds j pid count)
+has_turn old mid in_ new pid counted count holds i h j stays k came finishes to A s image (st, due) =
     let b = turn_starts A s old mid holds i image counted pid st due stays k in
     let c = came A b.state image b.at in
-    let d = finishes A c.state c.behind c.at c.resident in
+    let d = finishes A c.state c.behind (c.at, c.resident) in
     let begun : Leads A s old.kernel image (entries.Turn pid ∷ c.units) c.state in_.kernel (Some c.behind) =
     subst (λ (o : Option (List ℕ)). Leads A s old.kernel image (entries.Turn pid ∷ c.units) c.state in_.kernel o) c.at.stands.told
     (both_lead A s b.state c.state old.kernel mid.kernel in_.kernel image (Some image) h (entries.Turn pid ∷ []) c.units b.leads
@@ -157,23 +158,24 @@ has_turn old mid in_ new pid counted count holds i h j stays k came finishes to 
     }
 
 pub turn_noting_stops : (old new : Standing) (pid counted : ℕ) (holds : Option (List NamedFile)) (i : Option (List ℕ)) (stop : Stop) → StopsNoting old new stop
-    → StopsTurn old new pid counted holds i i stop
-turn_noting_stops old new pid counted holds i stop x A s image st due =
+    → StopsFrom (DueTurn old holds i counted pid) old new i stop
+turn_noting_stops old new pid counted holds i stop x A s image (st, due) =
     subst (λ (o : Option (List ℕ)). StopLeads A s old.kernel image stop new o) (sym st.told) (turn_stops A s old new holds image pid stop st.machine due x)
 
 pub turn_coming_stops : (old mid new : Standing) (pid counted : ℕ) (holds : Option (List NamedFile)) (i j : Option (List ℕ)) (stop : Stop)
     → StaysSteady old mid 0 → mid.kernel ≡ note_step old.kernel (entries.Turn pid)
-    → StopsComingIn mid new pid counted counted holds i j stop → StopsTurn old new pid counted holds i j stop
-turn_coming_stops old mid new pid counted holds i j stop stays k f A s image st due =
+    → StopsFrom (TurnAt mid holds i counted counted pid) mid new j stop → StopsFrom (DueTurn old holds i counted pid) old new j stop
+turn_coming_stops old mid new pid counted holds i j stop stays k f A s image (st, due) =
     let b = turn_starts A s old mid holds i image counted pid st due stays k in
     leads_to_stop A s b.state old.kernel mid.kernel image image (entries.Turn pid ∷ []) stop new j b.leads (f A b.state image b.at)
 
 pub turn_finish_stops : (old mid in_ new : Standing) (pid counted : ℕ) (holds : Option (List NamedFile)) (i h j : Option (List ℕ)) (stop : Stop)
     → StaysSteady old mid 0 → mid.kernel ≡ note_step old.kernel (entries.Turn pid)
-    → ComesIn mid in_ pid counted counted holds i h → StopsFinishing in_ new pid counted counted holds h j stop → StopsTurn old new pid counted holds i j stop
-turn_finish_stops old mid in_ new pid counted holds i h j stop stays k came f A s image st due =
+    → LeadsFrom (TurnAt mid holds i counted counted pid) (InTurn mid in_ holds h counted counted pid)
+    → StopsFrom (ResidentTurn in_ holds h counted counted pid) in_ new j stop → StopsFrom (DueTurn old holds i counted pid) old new j stop
+turn_finish_stops old mid in_ new pid counted holds i h j stop stays k came f A s image (st, due) =
     let b = turn_starts A s old mid holds i image counted pid st due stays k in
     let c = came A b.state image b.at in
     let leads = subst (λ (o : Option (List ℕ)). Leads A b.state mid.kernel image c.units c.state in_.kernel o) c.at.stands.told c.leads in
     leads_to_stop A s b.state old.kernel mid.kernel image image (entries.Turn pid ∷ []) stop new j b.leads
-    (leads_to_stop A b.state c.state mid.kernel in_.kernel image c.behind c.units stop new j leads (f A c.state c.behind c.at c.resident))
+    (leads_to_stop A b.state c.state mid.kernel in_.kernel image c.behind c.units stop new j leads (f A c.state c.behind (c.at, c.resident)))

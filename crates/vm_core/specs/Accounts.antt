@@ -6,7 +6,7 @@ use Rattle.kernel_model.specs.Kernel.{Kernel}
 use Rattle.machine_state.specs.Machine.{Standing}
 use Rattle.run_model.specs.State.{State}
 use Rattle.run_model.specs.Swapped.{swapped_from}
-use Rattle.run_start.specs.Stepped.{StopLeads}
+use Rattle.run_start.specs.Stepped.{StopLeads, LeadsFrom}
 use Rattle.journal_laws.specs.Accounts.{Account}
 use Rattle.journal_laws.specs.Economy.{Economy}
 
@@ -17,3 +17,7 @@ pub record StopsAccounted (A : Inputs) (s : State) (k : Kernel) (image : List �
   pub account : Account A s led.units
   pub economy : Economy A s led.units
   pub swapped : led.behind ≡ swapped_from A s led.units image
+
+-- It stopped so on the way from each state with a swap image at which this is so.
+abbrev pub StopsAccountedFrom : (Inputs → State → List ℕ → Type 0) → Standing → Standing → Option (List ℕ) → Stop → Type 0
+StopsAccountedFrom IsAt old new j stop = LeadsFrom IsAt (λ A s image. StopsAccounted A s old.kernel image stop new j)

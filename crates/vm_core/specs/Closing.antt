@@ -2,7 +2,6 @@
 use Rattle.std.specs.Prelude.{◌≡◌, ◌⊎◌, ℕ, ◌+◌, ◌<◌, ◌≤◌, true, false, List, ◌∷◌, length, Option, None}
 use Rattle.vm_facts.specs.declared.entry.Entry.{Entry}
 use Rattle.vm_facts.specs.declared.entry.Entry.TheVariants as entries
-use Rattle.vm_facts.specs.declared.stop.Stop.{Stop}
 use Rattle.io_edge.specs.FileHolding.{NamedFile}
 use Rattle.flat_state.specs.Flat.{Inputs}
 use Rattle.page_model.specs.Swapper.{is_out}
@@ -15,20 +14,18 @@ use Rattle.run_model.specs.Swapped.{swapped_from}
 use Rattle.run_laws.specs.Running.{IsRun}
 use Rattle.journal_laws.specs.Stretch.{turns_of, NoneCounts}
 use Rattle.journal_laws.specs.Leads.{Leads}
-use Rattle.run_start.specs.Stepped.{StopLeads}
 use Rattle.run_start.specs.Lines.{IsOver, IsClear, TurnDue}
 use Rattle.proc_run.specs.Choosing.{turn_after as chosen_next}
 use Rattle.journal_laws.specs.Accounts.{Account}
 use Rattle.journal_laws.specs.Economy.{Economy}
-use Rattle.vm_core.specs.Accounts.{StopsAccounted}
 use Rattle.vm_core.specs.Cores.{Underway, StandsIn, CoreAt}
 
 -- A turn.
 
 -- The machine stands at a state at which a process has its turn, after the last line, so many instructions being counted then, and
 -- since so many its turn.
-pub record TurnAt (A : Inputs) (s : State) (m : Standing) (holds : Option (List NamedFile)) (i : Option (List ℕ)) (image : List ℕ)
-    (counted since pid : ℕ) : Type 0 where
+pub record TurnAt (m : Standing) (holds : Option (List NamedFile)) (i : Option (List ℕ)) (counted since pid : ℕ) (A : Inputs) (s : State)
+    (image : List ℕ) : Type 0 where
   pub stands : StandsIn A s m holds i image counted
   pub clear : IsClear s
   pub mark : s.mark ≡ marks.Turn pid since
@@ -36,28 +33,22 @@ pub record TurnAt (A : Inputs) (s : State) (m : Standing) (holds : Option (List 
   pub lines : length A.lines ≤ s.lines
 
 -- Next units lead to where the process is in, and has its turn yet.
-pub record InTurn (A : Inputs) (s : State) (old new : Standing) (holds : Option (List NamedFile)) (image : List ℕ) (j : Option (List ℕ))
-    (counted since pid : ℕ) : Type 0 where
+pub record InTurn (old new : Standing) (holds : Option (List NamedFile)) (j : Option (List ℕ)) (counted since pid : ℕ) (A : Inputs) (s : State)
+    (image : List ℕ) : Type 0 where
   pub units : List Entry
   pub state : State
   pub behind : List ℕ
   pub leads : Leads A s old.kernel image units state new.kernel j
-  pub at : TurnAt A state new holds j behind counted since pid
+  pub at : TurnAt new holds j counted since pid A state behind
   pub resident : is_out state.place pid ≡ false
   pub lines : state.lines ≡ s.lines
 
--- for every state at which it has its turn
-abbrev pub ComesIn : Standing → Standing → ℕ → ℕ → ℕ → Option (List NamedFile) → Option (List ℕ) → Option (List ℕ) → Type 0
-ComesIn old new pid counted since holds i j =
-    (A : Inputs) (s : State) (image : List ℕ) → TurnAt A s old holds i image counted since pid → InTurn A s old new holds image j counted since pid
-
--- or next units lead to where the run stopped before that
-abbrev pub StopsComingIn : Standing → Standing → ℕ → ℕ → ℕ → Option (List NamedFile) → Option (List ℕ) → Option (List ℕ) → Stop → Type 0
-StopsComingIn old new pid counted since holds i j stop =
-    (A : Inputs) (s : State) (image : List ℕ) → TurnAt A s old holds i image counted since pid → StopLeads A s old.kernel image stop new j
+-- it has its turn, and is in
+abbrev pub ResidentTurn : Standing → Option (List NamedFile) → Option (List ℕ) → ℕ → ℕ → ℕ → Inputs → State → List ℕ → Type 0
+ResidentTurn m holds i counted since pid A s image = TurnAt m holds i counted since pid A s image × (is_out s.place pid ≡ false)
 
 -- Next units lead to where the turn is over, with so many instructions counted.
-pub record TurnDone (A : Inputs) (s : State) (old new : Standing) (image : List ℕ) (j : Option (List ℕ)) (pid count : ℕ) : Type 0 where
+pub record TurnDone (old new : Standing) (j : Option (List ℕ)) (pid count : ℕ) (A : Inputs) (s : State) (image : List ℕ) : Type 0 where
   pub units : List Entry
   pub state : State
   pub leads : Leads A s old.kernel image units state new.kernel j
@@ -66,21 +57,13 @@ pub record TurnDone (A : Inputs) (s : State) (old new : Standing) (image : List 
   pub lines : state.lines ≡ s.lines
   pub turned : last_turned state.mark ≡ pid
 
--- for every state at which it has its turn, and is in
-abbrev pub FinishesTurn : Standing → Standing → ℕ → ℕ → ℕ → ℕ → Option (List NamedFile) → Option (List ℕ) → Option (List ℕ) → Type 0
-FinishesTurn old new pid counted since count holds i j =
-    (A : Inputs) (s : State) (image : List ℕ) → TurnAt A s old holds i image counted since pid → is_out s.place pid ≡ false
-    → TurnDone A s old new image j pid count
+-- the machine stands where the turn of a process is due
+abbrev pub DueTurn : Standing → Option (List NamedFile) → Option (List ℕ) → ℕ → ℕ → Inputs → State → List ℕ → Type 0
+DueTurn m holds i counted pid A s image = StandsIn A s m holds i image counted × TurnDue A s pid
 
--- or next units lead to where the run stopped in the turn
-abbrev pub StopsFinishing : Standing → Standing → ℕ → ℕ → ℕ → Option (List NamedFile) → Option (List ℕ) → Option (List ℕ) → Stop → Type 0
-StopsFinishing old new pid counted since holds i j stop =
-    (A : Inputs) (s : State) (image : List ℕ) → TurnAt A s old holds i image counted since pid → is_out s.place pid ≡ false
-    → StopLeads A s old.kernel image stop new j
-
--- the whole turn, from its entry on
-pub record TurnHad (A : Inputs) (s : State) (old new : Standing) (holds : Option (List NamedFile)) (image : List ℕ) (j : Option (List ℕ))
-    (pid count : ℕ) : Type 0 where
+-- Next units, of which its entry is the first, lead to where the whole turn was had, with so many instructions counted.
+pub record TurnHad (old new : Standing) (holds : Option (List NamedFile)) (j : Option (List ℕ)) (pid count : ℕ) (A : Inputs) (s : State)
+    (image : List ℕ) : Type 0 where
   pub more : List Entry
   pub state : State
   pub behind : List ℕ
@@ -89,16 +72,6 @@ pub record TurnHad (A : Inputs) (s : State) (old new : Standing) (holds : Option
   pub over : IsOver A state
   pub lines : state.lines ≡ s.lines
   pub turned : last_turned state.mark ≡ pid
-
--- for every state at which the turn is due
-abbrev pub HasTurn : Standing → Standing → ℕ → ℕ → ℕ → Option (List NamedFile) → Option (List ℕ) → Option (List ℕ) → Type 0
-HasTurn old new pid counted count holds i j =
-    (A : Inputs) (s : State) (image : List ℕ) → StandsIn A s old holds i image counted → TurnDue A s pid → TurnHad A s old new holds image j pid count
-
--- or next units lead to where the run stopped in the turn
-abbrev pub StopsTurn : Standing → Standing → ℕ → ℕ → Option (List NamedFile) → Option (List ℕ) → Option (List ℕ) → Stop → Type 0
-StopsTurn old new pid counted holds i j stop =
-    (A : Inputs) (s : State) (image : List ℕ) → StandsIn A s old holds i image counted → TurnDue A s pid → StopLeads A s old.kernel image stop new j
 
 -- The phase.
 
@@ -114,8 +87,8 @@ pub record IdleSince (A : Inputs) (t : State) (idle : ℕ) : Type 0 where
   pub many : idle ≤ turns_of units
 
 -- Next units led from a state at the begin of the phase to one between two turns, of which this process had the last.
-pub record Closing (A : Inputs) (s : State) (old new : Standing) (holds : Option (List NamedFile)) (image : List ℕ) (j : Option (List ℕ))
-    (count last idle : ℕ) : Type 0 where
+pub record Closing (old new : Standing) (holds : Option (List NamedFile)) (j : Option (List ℕ)) (count last idle : ℕ) (A : Inputs) (s : State)
+    (image : List ℕ) : Type 0 where
   pub units : List Entry
   pub state : State
   pub behind : List ℕ
@@ -127,22 +100,21 @@ pub record Closing (A : Inputs) (s : State) (old new : Standing) (holds : Option
   pub since : IdleSince A state idle
 
 -- The machine stands after the last line.
-pub record LinesAre (A : Inputs) (s : State) (m : Standing) (holds : Option (List NamedFile)) (i : Option (List ℕ)) (image : List ℕ)
-    (counted : ℕ) : Type 0 where
+pub record LinesAre (m : Standing) (holds : Option (List NamedFile)) (i : Option (List ℕ)) (counted : ℕ) (A : Inputs) (s : State)
+    (image : List ℕ) : Type 0 where
   pub stands : StandsIn A s m holds i image counted
   pub over : IsOver A s
   pub lines : length A.lines ≡ s.lines
   pub unturned : last_turned s.mark ≡ 0
 
--- for every state at which it stands so
-abbrev pub ClosesTo : Standing → Standing → ℕ → ℕ → ℕ → ℕ → Option (List NamedFile) → Option (List ℕ) → Option (List ℕ) → Type 0
-ClosesTo old new counted count last idle holds i j =
-    (A : Inputs) (s : State) (image : List ℕ) → LinesAre A s old holds i image counted → Closing A s old new holds image j count last idle
+-- the core stands between two lines, all of which were taken
+abbrev pub AllTaken : Underway → Option (List NamedFile) → Option (List ℕ) → Inputs → State → List ℕ → Type 0
+AllTaken c holds i A s image = CoreAt A s c holds i image × (length A.lines ≡ s.lines)
 
 -- Next units lead to a state that has none, at which the machine stands. They are accounted for, and few, and the swap image is the
 -- one that they say.
-pub record Closed (A : Inputs) (s : State) (old new : Standing) (holds : Option (List NamedFile)) (image : List ℕ) (j : Option (List ℕ))
-    (count : ℕ) : Type 0 where
+pub record Closed (old new : Standing) (holds : Option (List NamedFile)) (j : Option (List ℕ)) (count : ℕ) (A : Inputs) (s : State)
+    (image : List ℕ) : Type 0 where
   pub units : List Entry
   pub state : State
   pub behind : List ℕ
@@ -152,28 +124,6 @@ pub record Closed (A : Inputs) (s : State) (old new : Standing) (holds : Option 
   pub account : Account A s units
   pub economy : Economy A s units
   pub swapped : behind ≡ swapped_from A s units image
-
--- for every state at which the machine stands after the last line
-abbrev pub Closes : Standing → Standing → ℕ → ℕ → Option (List NamedFile) → Option (List ℕ) → Option (List ℕ) → Type 0
-Closes old new counted count holds i j =
-    (A : Inputs) (s : State) (image : List ℕ) → LinesAre A s old holds i image counted → Closed A s old new holds image j count
-
--- or next units lead to where the run stopped in the phase
-abbrev pub StopsClosing : Standing → Standing → ℕ → Option (List NamedFile) → Option (List ℕ) → Option (List ℕ) → Stop → Type 0
-StopsClosing old new counted holds i j stop =
-    (A : Inputs) (s : State) (image : List ℕ) → LinesAre A s old holds i image counted → StopLeads A s old.kernel image stop new j
-
--- Of a run between two lines, all of which were taken.
-abbrev pub ClosesRun : Underway → Underway → Option (List NamedFile) → Option (List ℕ) → Option (List ℕ) → Type 0
-ClosesRun old new holds i j =
-    (A : Inputs) (s : State) (image : List ℕ) → CoreAt A s old holds i image → length A.lines ≡ s.lines
-    → Closed A s old.machine new.machine holds image j new.counted
-
--- or next units that are accounted for lead to where the run stopped in the phase
-abbrev pub StopsClosingRun : Underway → Underway → Option (List NamedFile) → Option (List ℕ) → Option (List ℕ) → Stop → Type 0
-StopsClosingRun old new holds i j stop =
-    (A : Inputs) (s : State) (image : List ℕ) → CoreAt A s old holds i image → length A.lines ≡ s.lines
-    → StopsAccounted A s old.machine.kernel image stop new.machine j
 
 -- Turns in a row.
 

@@ -2,7 +2,6 @@
 use Rattle.std.specs.Prelude.{◌≡◌, ℕ, ◌+◌, ◌<◌, ◌≤◌, ◌^◌, List, length, slice_get, Option, Some}
 use Rattle.vm_facts.specs.declared.entry.Entry.{Entry}
 use Rattle.vm_facts.specs.declared.event.Event.{Event}
-use Rattle.vm_facts.specs.declared.stop.Stop.{Stop}
 use Rattle.io_edge.specs.FileHolding.{NamedFile}
 use Rattle.flat_state.specs.Flat.{Inputs}
 use Rattle.flat_state.specs.Journal.{instructions_of}
@@ -15,13 +14,11 @@ use Rattle.run_model.specs.Next.{last_turned}
 use Rattle.run_model.specs.Swapped.{swapped_from}
 use Rattle.journal_laws.specs.Leads.{Leads}
 use Rattle.run_start.specs.Machines.{MachineAt}
-use Rattle.run_start.specs.Stepped.{StopLeads}
 use Rattle.run_start.specs.Lines.{IsOver, IsClear}
 use Rattle.run_start.specs.Registers.{HasLongwords}
 use Rattle.proc_run.specs.Runs.{IsSteady}
 use Rattle.journal_laws.specs.Accounts.{Account}
 use Rattle.journal_laws.specs.Economy.{Economy}
-use Rattle.vm_core.specs.Accounts.{StopsAccounted}
 
 -- a run: its machine, and how many instructions were counted
 pub record Underway : Type 0 where
@@ -66,9 +63,14 @@ pub record LineDue (A : Inputs) (s : State) (line : ℕ) (e : Event) : Type 0 wh
   pub event : slice_get A.lines s.lines ≡ Some e
   pub below : s.count < A.limit
 
+-- the core stands where this is the next line
+abbrev pub LineDueAt : Underway → ℕ → Event → Option (List NamedFile) → Option (List ℕ) → Inputs → State → List ℕ → Type 0
+LineDueAt c line e holds i A s image = CoreAt A s c holds i image × LineDue A s line e
+
 -- Next units lead to where the core stands after the line. They are accounted for, and few, and the swap image is the one that they
 -- say.
-pub record LineTaken (A : Inputs) (s : State) (old new : Underway) (holds : Option (List NamedFile)) (image : List ℕ) (j : Option (List ℕ)) : Type 0 where
+pub record LineTaken (old new : Underway) (holds : Option (List NamedFile)) (j : Option (List ℕ)) (A : Inputs) (s : State)
+    (image : List ℕ) : Type 0 where
   pub units : List Entry
   pub state : State
   pub behind : List ℕ
@@ -79,28 +81,17 @@ pub record LineTaken (A : Inputs) (s : State) (old new : Underway) (holds : Opti
   pub economy : Economy A s units
   pub swapped : behind ≡ swapped_from A s units image
 
--- for every state at which the core stands, where this is the next line
-abbrev pub TakesLine : Underway → Underway → ℕ → Event → Option (List NamedFile) → Option (List ℕ) → Option (List ℕ) → Type 0
-TakesLine old new line e holds i j =
-    (A : Inputs) (s : State) (image : List ℕ) → CoreAt A s old holds i image → LineDue A s line e → LineTaken A s old new holds image j
-
--- or next units that are accounted for lead to where the run stopped in the line
-abbrev pub StopsTaking : Underway → Underway → ℕ → Event → Option (List NamedFile) → Option (List ℕ) → Option (List ℕ) → Stop → Type 0
-StopsTaking old new line e holds i j stop =
-    (A : Inputs) (s : State) (image : List ℕ) → CoreAt A s old holds i image → LineDue A s line e
-    → StopsAccounted A s old.machine.kernel image stop new.machine j
-
 -- Under the mark of a line.
 
 -- The machine stands after the entry of a line, so many instructions being counted.
-pub record AskedAt (A : Inputs) (s : State) (m : Standing) (holds : Option (List NamedFile)) (i : Option (List ℕ)) (image : List ℕ) (counted : ℕ)
-    (e : Event) : Type 0 where
+pub record AskedAt (m : Standing) (holds : Option (List NamedFile)) (i : Option (List ℕ)) (counted : ℕ) (e : Event) (A : Inputs) (s : State)
+    (image : List ℕ) : Type 0 where
   pub stands : StandsIn A s m holds i image counted
   pub clear : IsClear s
   pub mark : s.mark ≡ mark_of_event s e
 
 -- Next units lead to where the line is over, with so many instructions counted.
-pub record LineDone (A : Inputs) (s : State) (old new : Standing) (image : List ℕ) (j : Option (List ℕ)) (count : ℕ) : Type 0 where
+pub record LineDone (old new : Standing) (j : Option (List ℕ)) (count : ℕ) (A : Inputs) (s : State) (image : List ℕ) : Type 0 where
   pub units : List Entry
   pub state : State
   pub leads : Leads A s old.kernel image units state new.kernel j
@@ -108,13 +99,3 @@ pub record LineDone (A : Inputs) (s : State) (old new : Standing) (image : List 
   pub unturned : last_turned state.mark ≡ 0
   pub counts : state.count ≡ count
   pub lines : state.lines ≡ s.lines
-
--- for every state at which the machine stands after the line's entry
-abbrev pub CarriesOut : Standing → Standing → ℕ → ℕ → Event → Option (List NamedFile) → Option (List ℕ) → Option (List ℕ) → Type 0
-CarriesOut old new counted count e holds i j =
-    (A : Inputs) (s : State) (image : List ℕ) → AskedAt A s old holds i image counted e → LineDone A s old new image j count
-
--- or next units lead to where the run stopped under the line's mark
-abbrev pub StopsCarrying : Standing → Standing → ℕ → Event → Option (List NamedFile) → Option (List ℕ) → Option (List ℕ) → Stop → Type 0
-StopsCarrying old new counted e holds i j stop =
-    (A : Inputs) (s : State) (image : List ℕ) → AskedAt A s old holds i image counted e → StopLeads A s old.kernel image stop new j

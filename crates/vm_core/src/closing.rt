@@ -8,12 +8,14 @@ ghost use Rattle.machine_state.specs.Calls.{life_in};
 ghost use Rattle.machine_state.specs.Files.{AreFiles};
 ghost use Rattle.machine_state.specs.Outside.{stop_of, TransfersPages};
 ghost use Rattle.run_start.specs.Sizes.{KeptAtStop};
+ghost use Rattle.run_start.specs.Stepped.{LeadsFrom, StopsFrom};
 ghost use Rattle.proc_run.specs.Choosing.{turn_after};
 ghost use Rattle.proc_run.specs.Runs.{IsSteady};
 ghost use Rattle.proc_run.specs.Running.{CountsTo};
 ghost use Rattle.vm_core.specs.Steady.{StaysSteady};
 ghost use Rattle.vm_core.specs.Cores.{GoesOn};
-ghost use Rattle.vm_core.specs.Closing.{ComesIn, StopsComingIn, HasTurn, StopsTurn, Closes, StopsClosing, ClosesRun, StopsClosingRun, EndsPhase, CountsTurn};
+ghost use Rattle.vm_core.specs.Closing.{EndsPhase, CountsTurn, DueTurn, AllTaken, TurnAt, InTurn, TurnHad, LinesAre, Closed};
+ghost use Rattle.vm_core.specs.Accounts.{StopsAccountedFrom};
 
 use crate::lines::note;
 use crate::run::Core;
@@ -54,9 +56,10 @@ pub fn come_in<F: Files, D: SwapDev>(
     requires steady { IsSteady m.old }
     requires area { m.old.params.swap_blocks ≤ D.blocks swap.old }
     requires files { AreFiles m.old.images (F.holds files.old) }
-    ensures comes { OnOk result ((counted since : ℕ) → ComesIn m.old m.new pid counted since (F.holds files.old) (D.image swap.old) (D.image swap.new)) }
+    ensures comes { OnOk result ((counted since : ℕ) → LeadsFrom (TurnAt m.old (F.holds files.old) (D.image swap.old) counted since pid)
+        (InTurn m.old m.new (F.holds files.old) (D.image swap.new) counted since pid)) }
     ensures stops { IfErr result
-        (λ stop. (counted since : ℕ) → StopsComingIn m.old m.new pid counted since (F.holds files.old) (D.image swap.old) (D.image swap.new) stop) }
+        (λ stop. (counted since : ℕ) → StopsFrom (TurnAt m.old (F.holds files.old) (D.image swap.old) counted since pid) m.old m.new (D.image swap.new) stop) }
     ensures steady { OnOk result (StaysSteady m.old m.new 0) }
     ensures kept { IfErr result (KeptAtStop m.old m.new) }
     ensures outside { TransfersPages F.Files D.SwapDev (stop_of result) files.old files.new swap.old swap.new }
@@ -81,8 +84,9 @@ fn turn<F: Files, D: SwapDev>(
     requires area { m.old.params.swap_blocks ≤ D.blocks swap.old }
     requires files { AreFiles m.old.images (F.holds files.old) }
     requires counted { instructions_of m.old.kernel.journal ≡ counted }
-    ensures had { IfOk result (λ count. HasTurn m.old m.new pid counted count (F.holds files.old) (D.image swap.old) (D.image swap.new)) }
-    ensures stops { IfErr result (StopsTurn m.old m.new pid counted (F.holds files.old) (D.image swap.old) (D.image swap.new)) }
+    ensures had { IfOk result (λ count. LeadsFrom (DueTurn m.old (F.holds files.old) (D.image swap.old) counted pid)
+        (TurnHad m.old m.new (F.holds files.old) (D.image swap.new) pid count)) }
+    ensures stops { IfErr result (StopsFrom (DueTurn m.old (F.holds files.old) (D.image swap.old) counted pid) m.old m.new (D.image swap.new)) }
     ensures counts { IfOk result (λ count. CountsTo m.old m.new counted count) }
     ensures kept { IfErr result (KeptAtStop m.old m.new) }
     ensures outside { TransfersPages F.Files D.SwapDev (stop_of result) files.old files.new swap.old swap.new }
@@ -131,8 +135,9 @@ fn close<F: Files, D: SwapDev>(
     requires area { m.old.params.swap_blocks ≤ D.blocks swap.old }
     requires files { AreFiles m.old.images (F.holds files.old) }
     requires counted { instructions_of m.old.kernel.journal ≡ counted }
-    ensures closes { IfOk result (λ count. Closes m.old m.new counted count (F.holds files.old) (D.image swap.old) (D.image swap.new)) }
-    ensures stops { IfErr result (StopsClosing m.old m.new counted (F.holds files.old) (D.image swap.old) (D.image swap.new)) }
+    ensures closes { IfOk result
+        (λ count. LeadsFrom (LinesAre m.old (F.holds files.old) (D.image swap.old) counted) (Closed m.old m.new (F.holds files.old) (D.image swap.new) count)) }
+    ensures stops { IfErr result (StopsFrom (LinesAre m.old (F.holds files.old) (D.image swap.old) counted) m.old m.new (D.image swap.new)) }
     ensures counts { IfOk result (λ count. CountsTo m.old m.new counted count) }
     ensures kept { IfErr result (KeptAtStop m.old m.new) }
     ensures outside { TransfersPages F.Files D.SwapDev (stop_of result) files.old files.new swap.old swap.new }
@@ -159,8 +164,10 @@ impl Core {
         requires goes_on { GoesOn self.old }
         requires area { self.old.machine.params.swap_blocks ≤ D.blocks swap.old }
         requires files { AreFiles self.old.machine.images (F.holds files.old) }
-        ensures closes { OnOk result (ClosesRun self.old self.new (F.holds files.old) (D.image swap.old) (D.image swap.new)) }
-        ensures stops { IfErr result (StopsClosingRun self.old self.new (F.holds files.old) (D.image swap.old) (D.image swap.new)) }
+        ensures closes { OnOk result (LeadsFrom (AllTaken self.old (F.holds files.old) (D.image swap.old))
+            (Closed self.old.machine self.new.machine (F.holds files.old) (D.image swap.new) self.new.counted)) }
+        ensures stops { IfErr result
+            (StopsAccountedFrom (AllTaken self.old (F.holds files.old) (D.image swap.old)) self.old.machine self.new.machine (D.image swap.new)) }
         ensures goes_on { OnOk result (GoesOn self.new) }
         ensures params { OnOk result (self.new.machine.params ≡ self.old.machine.params) }
         ensures images { OnOk result (self.new.machine.images ≡ self.old.machine.images) }

@@ -1,14 +1,16 @@
 //! The lines of a schedule.
-ghost use Rattle.std.specs.Prelude.{◌≡◌, ◌<◌, ◌≤◌, ◌↔◌, false, OnOk, IfOk, IfErr};
+ghost use Rattle.std.specs.Prelude.{◌≡◌, ◌<◌, ◌≤◌, ◌↔◌, OnOk, IfOk, IfErr};
 ghost use Rattle.machine_state.specs.Files.{AreFiles};
 ghost use Rattle.machine_state.specs.Outside.{stop_of, TransfersPages};
 ghost use Rattle.journal_laws.specs.LastMoves.{last_moves};
 ghost use Rattle.flat_state.specs.Journal.{instructions_of};
 ghost use Rattle.run_start.specs.Sizes.{KeptAtStop};
+ghost use Rattle.run_start.specs.Stepped.{LeadsFrom, StopsFrom};
 ghost use Rattle.proc_run.specs.Runs.{IsSteady};
 ghost use Rattle.proc_run.specs.Running.{CountsTo};
 ghost use Rattle.vm_core.specs.Steady.{HasFewMoves};
-ghost use Rattle.vm_core.specs.Cores.{Underway, GoesOn, TakesLine, StopsTaking, CarriesOut, StopsCarrying};
+ghost use Rattle.vm_core.specs.Cores.{GoesOn, LineDueAt, LineTaken, AskedAt, LineDone};
+ghost use Rattle.vm_core.specs.Accounts.{StopsAccountedFrom};
 
 use crate::lines::{audit, hands, interrupt, note, swapper};
 use crate::run::Core;
@@ -42,8 +44,9 @@ fn carry_out<F: Files, D: SwapDev>(
     requires few { HasFewMoves e }
     requires first { last_moves m.old.kernel.journal ≡ 0 }
     requires counted { instructions_of m.old.kernel.journal ≡ counted }
-    ensures done { IfOk result (λ count. CarriesOut m.old m.new counted count e (F.holds files.old) (D.image swap.old) (D.image swap.new)) }
-    ensures stops { IfErr result (StopsCarrying m.old m.new counted e (F.holds files.old) (D.image swap.old) (D.image swap.new)) }
+    ensures done { IfOk result
+        (λ count. LeadsFrom (AskedAt m.old (F.holds files.old) (D.image swap.old) counted e) (LineDone m.old m.new (D.image swap.new) count)) }
+    ensures stops { IfErr result (StopsFrom (AskedAt m.old (F.holds files.old) (D.image swap.old) counted e) m.old m.new (D.image swap.new)) }
     ensures counts { IfOk result (λ count. CountsTo m.old m.new counted count) }
     ensures kept { IfErr result (KeptAtStop m.old m.new) }
     ensures outside { TransfersPages F.Files D.SwapDev (stop_of result) files.old files.new swap.old swap.new }
@@ -82,8 +85,10 @@ impl Core {
         requires area { self.old.machine.params.swap_blocks ≤ D.blocks swap.old }
         requires files { AreFiles self.old.machine.images (F.holds files.old) }
         requires few { HasFewMoves e }
-        ensures takes { OnOk result (TakesLine self.old self.new line e (F.holds files.old) (D.image swap.old) (D.image swap.new)) }
-        ensures stops { IfErr result (StopsTaking self.old self.new line e (F.holds files.old) (D.image swap.old) (D.image swap.new)) }
+        ensures takes { OnOk result (LeadsFrom (LineDueAt self.old line e (F.holds files.old) (D.image swap.old))
+            (LineTaken self.old self.new (F.holds files.old) (D.image swap.new))) }
+        ensures stops { IfErr result
+            (StopsAccountedFrom (LineDueAt self.old line e (F.holds files.old) (D.image swap.old)) self.old.machine self.new.machine (D.image swap.new)) }
         ensures goes_on { OnOk result (GoesOn self.new) }
         ensures limit { IfOk result (λ went. (went ≡ Went.LimitReached) ↔ (self.new.machine.params.limit ≤ self.new.counted)) }
         ensures params { OnOk result (self.new.machine.params ≡ self.old.machine.params) }

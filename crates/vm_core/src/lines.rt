@@ -1,18 +1,18 @@
 //! What a line of the schedule asks for, but to run a process.
 ghost use Rattle.std.specs.Prelude.{◌≡◌, ◌⊎◌, ◌≤◌, ℕ, List, [], length, Option, Err, OnOk, OnErr, IfErr};
 ghost use Rattle.io_edge.specs.FileHolding.{NamedFile};
-ghost use Rattle.vm_facts.specs.declared.event.Event.{Event as AnyEvent};
 ghost use Rattle.kernel_model.specs.Kernel.{note_step};
 ghost use Rattle.machine_state.specs.Going.{CanGoOn};
 ghost use Rattle.machine_state.specs.Calls.{IsNote};
 ghost use Rattle.machine_state.specs.Files.{AreFiles};
 ghost use Rattle.machine_state.specs.Outside.{stop_of, TransfersPages};
 ghost use Rattle.journal_laws.specs.LastMoves.{last_moves};
-ghost use Rattle.run_start.specs.Lines.{StopsNoting};
+ghost use Rattle.run_start.specs.Lines.{StopsNoting, LineLeads};
 ghost use Rattle.run_start.specs.Sizes.{KeptAtStop};
+ghost use Rattle.run_start.specs.Stepped.{LeadsFrom, StopsFrom};
 ghost use Rattle.proc_run.specs.Runs.{IsSteady};
 ghost use Rattle.vm_core.specs.Steady.{StaysSteady};
-ghost use Rattle.vm_core.specs.Lines.{MakesLine, StopsLine};
+ghost use Rattle.vm_core.specs.Lines.{LineAt};
 
 use crate::owners::owners;
 use io_edge::{Files, SwapDev};
@@ -46,8 +46,9 @@ pub fn interrupt<F: Files, D: SwapDev>(
     requires steady { IsSteady m.old }
     requires area { m.old.params.swap_blocks ≤ D.blocks swap.old }
     requires files { AreFiles m.old.images (F.holds files.old) }
-    ensures made { OnOk result (MakesLine Event.Interrupt m.old m.new (F.holds files.old) (D.image swap.old) (D.image swap.new)) }
-    ensures stops { IfErr result (StopsLine Event.Interrupt m.old m.new (F.holds files.old) (D.image swap.old) (D.image swap.new)) }
+    ensures made { OnOk result (LeadsFrom (LineAt m.old (F.holds files.old) (D.image swap.old) Event.Interrupt)
+        (λ A s image. LineLeads A s m.old.kernel image m.new.kernel (D.image swap.new))) }
+    ensures stops { IfErr result (StopsFrom (LineAt m.old (F.holds files.old) (D.image swap.old) Event.Interrupt) m.old m.new (D.image swap.new)) }
     ensures steady { OnOk result (StaysSteady m.old m.new 0) }
     ensures kept { IfErr result (KeptAtStop m.old m.new) }
     ensures outside { TransfersPages F.Files D.SwapDev (stop_of result) files.old files.new swap.old swap.new }
@@ -68,8 +69,9 @@ pub(crate) fn hands<F: Files, D: SwapDev>(
     requires files { AreFiles m.old.images (F.holds files.old) }
     requires few { count ≤ 1000000 }
     requires first { last_moves m.old.kernel.journal ≡ 0 }
-    ensures made { OnOk result (MakesLine (Event.Hands count) m.old m.new (F.holds files.old) (D.image swap.old) (D.image swap.new)) }
-    ensures stops { IfErr result (StopsLine (Event.Hands count) m.old m.new (F.holds files.old) (D.image swap.old) (D.image swap.new)) }
+    ensures made { OnOk result (LeadsFrom (LineAt m.old (F.holds files.old) (D.image swap.old) (Event.Hands count))
+        (λ A s image. LineLeads A s m.old.kernel image m.new.kernel (D.image swap.new))) }
+    ensures stops { IfErr result (StopsFrom (LineAt m.old (F.holds files.old) (D.image swap.old) (Event.Hands count)) m.old m.new (D.image swap.new)) }
     ensures steady { OnOk result (StaysSteady m.old m.new 0) }
     ensures kept { IfErr result (KeptAtStop m.old m.new) }
     ensures outside { TransfersPages F.Files D.SwapDev (stop_of result) files.old files.new swap.old swap.new }
@@ -87,8 +89,9 @@ pub(crate) fn swapper<F: Files, D: SwapDev>(
     requires steady { IsSteady m.old }
     requires area { m.old.params.swap_blocks ≤ D.blocks swap.old }
     requires files { AreFiles m.old.images (F.holds files.old) }
-    ensures made { OnOk result (MakesLine Event.Swapper m.old m.new (F.holds files.old) (D.image swap.old) (D.image swap.new)) }
-    ensures stops { IfErr result (StopsLine Event.Swapper m.old m.new (F.holds files.old) (D.image swap.old) (D.image swap.new)) }
+    ensures made { OnOk result (LeadsFrom (LineAt m.old (F.holds files.old) (D.image swap.old) Event.Swapper)
+        (λ A s image. LineLeads A s m.old.kernel image m.new.kernel (D.image swap.new))) }
+    ensures stops { IfErr result (StopsFrom (LineAt m.old (F.holds files.old) (D.image swap.old) Event.Swapper) m.old m.new (D.image swap.new)) }
     ensures steady { OnOk result (StaysSteady m.old m.new 0) }
     ensures kept { IfErr result (KeptAtStop m.old m.new) }
     ensures outside { TransfersPages F.Files D.SwapDev (stop_of result) files.old files.new swap.old swap.new }
@@ -100,8 +103,9 @@ pub(crate) fn swapper<F: Files, D: SwapDev>(
 /// The numbers of frames and blocks are noted.
 pub fn audit(m: &mut Machine) -> Result<(), Stop>
     requires steady { IsSteady m.old }
-    ensures made { (holds : Option (List NamedFile)) (i : Option (List ℕ)) → OnOk result (MakesLine Event.Audit m.old m.new holds i i) }
-    ensures stops { (holds : Option (List NamedFile)) (i : Option (List ℕ)) → IfErr result (StopsLine Event.Audit m.old m.new holds i i) }
+    ensures made { (holds : Option (List NamedFile)) (i : Option (List ℕ))
+        → OnOk result (LeadsFrom (LineAt m.old holds i Event.Audit) (λ A s image. LineLeads A s m.old.kernel image m.new.kernel i)) }
+    ensures stops { (holds : Option (List NamedFile)) (i : Option (List ℕ)) → IfErr result (StopsFrom (LineAt m.old holds i Event.Audit) m.old m.new i) }
     ensures steady { OnOk result (StaysSteady m.old m.new 0) }
     ensures cause { OnErr result ((result ≡ Err Stop.JournalFull) ⊎ (result ≡ Err Stop.NoMemory)) }
     ensures kept { IfErr result (KeptAtStop m.old m.new) }

@@ -4,10 +4,11 @@ ghost use Rattle.machine_state.specs.Files.{AreFiles};
 ghost use Rattle.machine_state.specs.Outside.{stop_of, TransfersPages};
 ghost use Rattle.flat_state.specs.Journal.{instructions_of};
 ghost use Rattle.run_start.specs.Sizes.{KeptAtStop};
+ghost use Rattle.run_start.specs.Stepped.{LeadsFrom, StopsFrom};
 ghost use Rattle.proc_run.specs.Runs.{IsSteady};
 ghost use Rattle.proc_run.specs.Running.{CountsTo};
-ghost use Rattle.vm_core.specs.Cores.{CarriesOut, StopsCarrying};
-ghost use Rattle.vm_core.specs.Closing.{FinishesTurn, StopsFinishing};
+ghost use Rattle.vm_core.specs.Closing.{ResidentTurn, TurnDone};
+ghost use Rattle.vm_core.specs.Cores.{AskedAt, LineDone};
 
 use io_edge::{Files, SwapDev};
 use machine_state::Machine;
@@ -40,8 +41,10 @@ pub(crate) fn dispatch<F: Files, D: SwapDev>(
     requires files { AreFiles m.old.images (F.holds files.old) }
     requires counted { instructions_of m.old.kernel.journal ≡ counted }
     ensures done { IfOk result
-        (λ more. CarriesOut m.old m.new counted more (Event.Dispatch pid count) (F.holds files.old) (D.image swap.old) (D.image swap.new)) }
-    ensures stops { IfErr result (StopsCarrying m.old m.new counted (Event.Dispatch pid count) (F.holds files.old) (D.image swap.old) (D.image swap.new)) }
+        (λ more. LeadsFrom (AskedAt m.old (F.holds files.old) (D.image swap.old) counted (Event.Dispatch pid count))
+        (LineDone m.old m.new (D.image swap.new) more)) }
+    ensures stops { IfErr result
+        (StopsFrom (AskedAt m.old (F.holds files.old) (D.image swap.old) counted (Event.Dispatch pid count)) m.old m.new (D.image swap.new)) }
     ensures counts { IfOk result (λ more. CountsTo m.old m.new counted more) }
     ensures kept { IfErr result (KeptAtStop m.old m.new) }
     ensures outside { TransfersPages F.Files D.SwapDev (stop_of result) files.old files.new swap.old swap.new }
@@ -64,8 +67,9 @@ pub fn finish<F: Files, D: SwapDev>(
     requires area { m.old.params.swap_blocks ≤ D.blocks swap.old }
     requires files { AreFiles m.old.images (F.holds files.old) }
     requires counted { instructions_of m.old.kernel.journal ≡ counted }
-    ensures done { IfOk result (λ more. FinishesTurn m.old m.new pid counted since more (F.holds files.old) (D.image swap.old) (D.image swap.new)) }
-    ensures stops { IfErr result (StopsFinishing m.old m.new pid counted since (F.holds files.old) (D.image swap.old) (D.image swap.new)) }
+    ensures done { IfOk result
+        (λ more. LeadsFrom (ResidentTurn m.old (F.holds files.old) (D.image swap.old) counted since pid) (TurnDone m.old m.new (D.image swap.new) pid more)) }
+    ensures stops { IfErr result (StopsFrom (ResidentTurn m.old (F.holds files.old) (D.image swap.old) counted since pid) m.old m.new (D.image swap.new)) }
     ensures counts { IfOk result (λ more. CountsTo m.old m.new counted more) }
     ensures kept { IfErr result (KeptAtStop m.old m.new) }
     ensures outside { TransfersPages F.Files D.SwapDev (stop_of result) files.old files.new swap.old swap.new }

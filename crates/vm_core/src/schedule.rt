@@ -7,9 +7,10 @@ ghost use Rattle.machine_state.specs.Going.{IsRunning};
 ghost use Rattle.machine_state.specs.Outside.{stop_of, TransfersPages};
 ghost use Rattle.run_start.specs.Sizes.{KeptAtStop};
 ghost use Rattle.run_start.specs.Starting.{StartsFrom};
+ghost use Rattle.run_start.specs.Stepped.{LeadsFrom, StopsFrom};
 ghost use Rattle.vm_core.specs.Cores.{GoesOn};
 ghost use Rattle.vm_core.specs.Starting.{IsFresh};
-ghost use Rattle.vm_core.specs.Schedules.{HaveFewMoves, TakesLines, StopsLines, FinishesLines};
+ghost use Rattle.vm_core.specs.Schedules.{HaveFewMoves, IsBeforeLines, LinesWent, LinesFinished};
 ghost use Rattle.vm_facts.specs.declared.stop.Stop.{Stop as Halt};
 ghost use Rattle.vm_core.specs.Full.{RunFull, RunOver, RunStopsAt};
 ghost use Rattle.vm_core.specs.RunEnds.{stopped_as, IsAskedOf, RunEnds};
@@ -51,8 +52,10 @@ fn take_lines<F: Files, D: SwapDev>(
     requires files { AreFiles core.old.machine.images (F.holds files.old) }
     requires few { HaveFewMoves lines.now }
     requires count { length lines.now < 2 ^ 32 }
-    ensures takes { IfOk result (λ went. TakesLines core.old core.new went lines.now (F.holds files.old) (D.image swap.old) (D.image swap.new)) }
-    ensures stops { IfErr result (StopsLines core.old core.new lines.now (F.holds files.old) (D.image swap.old) (D.image swap.new)) }
+    ensures takes { IfOk result (λ went. LeadsFrom (IsBeforeLines core.old lines.now (F.holds files.old) (D.image swap.old))
+        (LinesWent core.old core.new went (length lines.now) (F.holds files.old) (D.image swap.new))) }
+    ensures stops { IfErr result
+        (StopsFrom (IsBeforeLines core.old lines.now (F.holds files.old) (D.image swap.old)) core.old.machine core.new.machine (D.image swap.new)) }
     ensures goes_on { OnOk result (GoesOn core.new) }
     ensures params { OnOk result (core.new.machine.params ≡ core.old.machine.params) }
     ensures images { OnOk result (core.new.machine.images ≡ core.old.machine.images) }
@@ -87,8 +90,10 @@ fn finish<F: Files, D: SwapDev>(
     ensures params { OnOk result (core.new.machine.params ≡ core.old.machine.params) }
     ensures images { OnOk result (core.new.machine.images ≡ core.old.machine.images) }
     ensures kept { IfErr result (KeptAtStop core.old.machine core.new.machine) }
-    ensures finishes { OnOk result (FinishesLines core.old core.new lines.now (F.holds files.old) (D.image swap.old) (D.image swap.new)) }
-    ensures stops { IfErr result (StopsLines core.old core.new lines.now (F.holds files.old) (D.image swap.old) (D.image swap.new)) }
+    ensures finishes { OnOk result
+        (LeadsFrom (IsBeforeLines core.old lines.now (F.holds files.old) (D.image swap.old)) (LinesFinished core.old core.new (D.image swap.new))) }
+    ensures stops { IfErr result
+        (StopsFrom (IsBeforeLines core.old lines.now (F.holds files.old) (D.image swap.old)) core.old.machine core.new.machine (D.image swap.new)) }
     ensures outside { TransfersPages F.Files D.SwapDev (stop_of result) files.old files.new swap.old swap.new }
 {
     match take_lines(core, files, swap, lines)? {

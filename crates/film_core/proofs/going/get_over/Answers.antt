@@ -1,9 +1,10 @@
 use Rattle.std.proofs.Common.{IfOk, IfErr, List, Option, sym, subst}
 use Rattle.io_edge.specs.FileHolding.{NamedFile}
+use Rattle.run_start.specs.Stepped.{AtSome, LeadsFrom, StopsFrom}
 use Rattle.vm_core.proofs.Noting.{ok_weaker, stops_weaker}
-use Rattle.film_core.specs.Ways.{IsUnder, Rests, StopsResting, GetsOver, StopsGoing}
 use Rattle.film_core.proofs.Getting.{going_fits, going_under, gets_over, rest_stops_going}
 use Rattle.film_core.proofs.going.get_over.Goals as goal
+use Rattle.film_core.specs.Ways.{RestAt, RestDone, GoesAt}
 
 pub settle-requires-clause-more : goal.settle-requires-clause-more
 settle-requires-clause-more g c =
@@ -14,7 +15,7 @@ rest-requires-clause-under g c =
     let holds = g.F.Files.holds c.args.files.now in
     let i = g.D.SwapDev.image c.args.swap.now in
     let h = g.D.SwapDev.image c.settle.new.swap in
-    subst (λ (hs : Option (List NamedFile)). IsUnder c.settle.new.m c.args.mark c.in_ok-count.count hs h) (sym c.in_ok-count.ensures.outside.files.holds)
+    subst (λ (hs : Option (List NamedFile)). AtSome (RestAt c.settle.new.m c.args.mark c.in_ok-count.count hs h)) (sym c.in_ok-count.ensures.outside.files.holds)
     (going_under c.args.m.now c.settle.new.m c.args.mark c.args._lines.now c.args._taken c.args.counted c.in_ok-count.count holds i h c.in_ok-count.ensures.counts
     c.in_ok-count.ensures.settles c.requires.going)
 
@@ -27,10 +28,11 @@ returns-clause-over g c =
     let i = g.D.SwapDev.image c.args.swap.now in
     let h = g.D.SwapDev.image c.settle.new.swap in
     let j = g.D.SwapDev.image c.rest.new.swap in
-    ok_weaker c.rest.result (λ count. Rests mid new c.args.mark c.in_ok-count.count count holds h j)
-    (λ count. GetsOver old new c.args.mark c.args._lines.now c.args._taken c.args.counted count holds i j)
+    ok_weaker c.rest.result (λ count. LeadsFrom (RestAt mid c.args.mark c.in_ok-count.count holds h) (RestDone mid new c.args.mark count j))
+    (λ count. LeadsFrom (GoesAt old c.args.mark c.args._lines.now c.args._taken c.args.counted holds i) (RestDone old new c.args.mark count j))
     (λ count f. gets_over old mid new c.args.mark c.args._lines.now c.args._taken c.args.counted c.in_ok-count.count count holds i h j c.in_ok-count.ensures.counts c.in_ok-count.ensures.settles f)
-    (subst (λ (hs : Option (List NamedFile)). IfOk c.rest.result (λ count. Rests mid new c.args.mark c.in_ok-count.count count hs h j)) c.in_ok-count.ensures.outside.files.holds c.rest.ensures.rests)
+    (subst (λ (hs : Option (List NamedFile)). IfOk c.rest.result (λ count. LeadsFrom (RestAt mid c.args.mark c.in_ok-count.count hs h) (RestDone mid new c.args.mark count j)))
+    c.in_ok-count.ensures.outside.files.holds c.rest.ensures.rests)
 
 pub returns-clause-stops : goal.returns-clause-stops
 returns-clause-stops g c =
@@ -41,9 +43,9 @@ returns-clause-stops g c =
     let i = g.D.SwapDev.image c.args.swap.now in
     let h = g.D.SwapDev.image c.settle.new.swap in
     let j = g.D.SwapDev.image c.rest.new.swap in
-    stops_weaker c.rest.result (λ stop. StopsResting mid new c.args.mark c.in_ok-count.count holds h j stop)
-    (λ stop. StopsGoing old new c.args.mark c.args._lines.now c.args._taken c.args.counted holds i j stop)
+    stops_weaker c.rest.result (λ stop. StopsFrom (RestAt mid c.args.mark c.in_ok-count.count holds h) mid new j stop)
+    (λ stop. StopsFrom (GoesAt old c.args.mark c.args._lines.now c.args._taken c.args.counted holds i) old new j stop)
     (λ stop f. rest_stops_going old mid new c.args.mark c.args._lines.now c.args._taken c.args.counted c.in_ok-count.count holds i h j stop c.in_ok-count.ensures.counts
     c.in_ok-count.ensures.settles f)
-    (subst (λ (hs : Option (List NamedFile)). IfErr c.rest.result (λ stop. StopsResting mid new c.args.mark c.in_ok-count.count hs h j stop))
+    (subst (λ (hs : Option (List NamedFile)). IfErr c.rest.result (λ stop. StopsFrom (RestAt mid c.args.mark c.in_ok-count.count hs h) mid new j stop))
     c.in_ok-count.ensures.outside.files.holds c.rest.ensures.stops)

@@ -1,9 +1,10 @@
 use Rattle.std.proofs.Common.{OnOk, IfErr, List, Option, sym, subst}
 use Rattle.io_edge.specs.FileHolding.{NamedFile}
+use Rattle.run_start.specs.Stepped.{AtSome, LeadsFrom, StopsFrom}
 use Rattle.vm_core.proofs.Noting.{ok_so, stops_weaker}
-use Rattle.film_core.specs.Ways.{IsPast, PassesOver, StopsPassing, GoesOver, StopsGoing}
 use Rattle.film_core.proofs.Getting.{going_past, going_wide, goes_over, stops_going}
 use Rattle.film_core.proofs.going.go_further.Goals as goal
+use Rattle.film_core.specs.Ways.{OverAt, RunsOut, GoesAt}
 
 pub pass-requires-clause-wide : goal.pass-requires-clause-wide
 pass-requires-clause-wide g c =
@@ -14,7 +15,8 @@ pass-requires-clause-wide g c =
 pub pass-requires-clause-past : goal.pass-requires-clause-past
 pass-requires-clause-past g c =
     let h = g.D.SwapDev.image c.get_over.new.swap in
-    subst (λ (hs : Option (List NamedFile)). IsPast c.get_over.new.m c.args.lines.now c.args.taken c.in_ok-count.count c.last_turned.result hs h) (sym c.in_ok-count.ensures.outside.files.holds)
+    subst (λ (hs : Option (List NamedFile)). AtSome (OverAt c.get_over.new.m c.args.lines.now c.args.taken c.in_ok-count.count c.last_turned.result hs h))
+    (sym c.in_ok-count.ensures.outside.files.holds)
     (going_past c.args.m.now c.get_over.new.m c.args.mark c.args.lines.now c.args.taken c.args.counted c.in_ok-count.count c.last_turned.result (g.F.Files.holds c.args.files.now)
     (g.D.SwapDev.image c.args.swap.now)
     h c.in_ok-count.ensures.on c.in_ok-count.ensures.over c.last_turned.ensures c.requires.going)
@@ -28,11 +30,11 @@ returns-clause-over g c =
     let i = g.D.SwapDev.image c.args.swap.now in
     let h = g.D.SwapDev.image c.get_over.new.swap in
     let j = g.D.SwapDev.image c.pass.new.swap in
-    ok_so c.pass.result (PassesOver mid new c.args.lines.now c.args.taken c.in_ok-count.count c.last_turned.result holds h j)
-    (GoesOver old new c.args.mark c.args.lines.now c.args.taken c.args.counted holds i j)
+    ok_so c.pass.result (LeadsFrom (OverAt mid c.args.lines.now c.args.taken c.in_ok-count.count c.last_turned.result holds h) (RunsOut mid new j))
+    (LeadsFrom (GoesAt old c.args.mark c.args.lines.now c.args.taken c.args.counted holds i) (RunsOut old new j))
     (goes_over old mid c.args.mark c.args.lines.now c.args.taken c.args.counted c.in_ok-count.count c.last_turned.result holds i h c.in_ok-count.ensures.on c.in_ok-count.ensures.over
     c.last_turned.ensures new j)
-    (subst (λ (hs : Option (List NamedFile)). OnOk c.pass.result (PassesOver mid new c.args.lines.now c.args.taken c.in_ok-count.count c.last_turned.result hs h j))
+    (subst (λ (hs : Option (List NamedFile)). OnOk c.pass.result (LeadsFrom (OverAt mid c.args.lines.now c.args.taken c.in_ok-count.count c.last_turned.result hs h) (RunsOut mid new j)))
     c.in_ok-count.ensures.outside.files.holds c.pass.ensures.over)
 
 pub returns-clause-stops : goal.returns-clause-stops
@@ -44,10 +46,10 @@ returns-clause-stops g c =
     let i = g.D.SwapDev.image c.args.swap.now in
     let h = g.D.SwapDev.image c.get_over.new.swap in
     let j = g.D.SwapDev.image c.pass.new.swap in
-    stops_weaker c.pass.result (λ stop. StopsPassing mid new c.args.lines.now c.args.taken c.in_ok-count.count c.last_turned.result holds h j stop)
-    (λ stop. StopsGoing old new c.args.mark c.args.lines.now c.args.taken c.args.counted holds i j stop)
+    stops_weaker c.pass.result (λ stop. StopsFrom (OverAt mid c.args.lines.now c.args.taken c.in_ok-count.count c.last_turned.result holds h) mid new j stop)
+    (λ stop. StopsFrom (GoesAt old c.args.mark c.args.lines.now c.args.taken c.args.counted holds i) old new j stop)
     (stops_going old mid c.args.mark c.args.lines.now c.args.taken c.args.counted c.in_ok-count.count c.last_turned.result holds i h c.in_ok-count.ensures.on c.in_ok-count.ensures.over
     c.last_turned.ensures new j)
-    (subst (λ (hs : Option (List NamedFile)). IfErr c.pass.result (λ stop. StopsPassing mid new c.args.lines.now c.args.taken c.in_ok-count.count c.last_turned.result hs h j stop))
+    (subst (λ (hs : Option (List NamedFile)). IfErr c.pass.result (λ stop. StopsFrom (OverAt mid c.args.lines.now c.args.taken c.in_ok-count.count c.last_turned.result hs h) mid new j stop))
     c.in_ok-count.ensures.outside.files.holds
     c.pass.ensures.stops)

@@ -1,9 +1,10 @@
 use Rattle.std.proofs.Common.{subst}
 use Rattle.vm_facts.specs.declared.stop.Stop.{Stop}
 use Rattle.run_start.specs.Sizes.{KeptAtStop}
-use Rattle.film_core.specs.Ways.{StopsGoing}
+use Rattle.run_start.specs.Stepped.{StopsFrom}
 use Rattle.film_core.proofs.Making.{widened_by, over_made, full_made, full_ready, other_stops}
 use Rattle.film_core.proofs.going.one_entry.Goals as goal
+use Rattle.film_core.specs.Ways.{GoesAt}
 
 pub returns-in-Ok-clause-made : goal.returns-in-Ok-clause-made
 returns-in-Ok-clause-made g c =
@@ -20,7 +21,7 @@ returns-in-JournalFull-clause-made g c =
     let j = g.D.SwapDev.image c.go_further-went.new.swap in
     full_made c.args.m.now mid new c.args.mark c.args.lines.now c.args.taken c.args.counted holds i j
     (widened_by c.args.m.now mid c.params.result.now c.params.ensures c.widen.ensures.step) c.always.ensures.within
-    (subst (λ (x : Stop). StopsGoing mid new c.args.mark c.args.lines.now c.args.taken c.args.counted holds i j x) c.in-JournalFull.is c.in-Err.ensures.stops)
+    (subst (λ (x : Stop). StopsFrom (GoesAt mid c.args.mark c.args.lines.now c.args.taken c.args.counted holds i) mid new j x) c.in-JournalFull.is c.in-Err.ensures.stops)
     (subst (λ (x : Stop). KeptAtStop mid new x) c.in-JournalFull.is c.in-Err.ensures.kept)
 
 pub returns-in-JournalFull-clause-goes_on : goal.returns-in-JournalFull-clause-goes_on
@@ -32,7 +33,7 @@ returns-in-JournalFull-clause-goes_on g c =
     let j = g.D.SwapDev.image c.go_further-went.new.swap in
     full_ready c.args.m.now mid new c.args.mark c.args.lines.now c.args.taken c.args.counted holds i j
     (widened_by c.args.m.now mid c.params.result.now c.params.ensures c.widen.ensures.step) c.always.ensures.within
-    (subst (λ (x : Stop). StopsGoing mid new c.args.mark c.args.lines.now c.args.taken c.args.counted holds i j x) c.in-JournalFull.is c.in-Err.ensures.stops)
+    (subst (λ (x : Stop). StopsFrom (GoesAt mid c.args.mark c.args.lines.now c.args.taken c.args.counted holds i) mid new j x) c.in-JournalFull.is c.in-Err.ensures.stops)
     c.requires.full c.widen.ensures.goes_on c.always.ensures.running
 
 pub returns-in_default : goal.returns-in_default

@@ -1,8 +1,9 @@
 use Rattle.std.proofs.Common.{◌+◌, arith}
+use Rattle.run_start.specs.Stepped.{LeadsFrom, StopsFrom}
 use Rattle.vm_core.proofs.Noting.{stops_on, ok_so, stops_weaker}
-use Rattle.film_core.specs.Ways.{RoundsOff, PassesOver, StopsRound, StopsPassing}
 use Rattle.film_core.proofs.Passing.{some_there, line_round, line_passes, line_stops_passing, line_noting}
 use Rattle.film_core.proofs.going.take_line.Goals as goal
+use Rattle.film_core.specs.Ways.{OverAt, RunsOut, RoundAt}
 
 pub returns-in_err-note-clause-stops : goal.returns-in_err-note-clause-stops
 returns-in_err-note-clause-stops g c =
@@ -11,7 +12,7 @@ returns-in_err-note-clause-stops g c =
     let holds = g.F.Files.holds c.args.files.now in
     let i = g.D.SwapDev.image c.args.swap.now in
     let stop = c.in_err-note.field-0.0 in
-    stops_on c.from_residual.result stop (StopsPassing old new c.args.lines.now c.args.taken c.args.counted c.args._last holds i i) c.from_residual.ensures.1
+    stops_on c.from_residual.result stop (StopsFrom (OverAt old c.args.lines.now c.args.taken c.args.counted c.args._last holds i) old new i) c.from_residual.ensures.1
     (line_noting old new c.args.lines.now c.args.taken c.args.counted c.args._last holds i c.args.e stop c.requires.below c.requires.event c.in_err-note.ensures.stops)
 
 pub overflow_add-taken-2 : goal.overflow_add-taken-2
@@ -34,8 +35,8 @@ returns-clause-over g c =
     let holds = g.F.Files.holds c.args.files.now in
     let i = g.D.SwapDev.image c.args.swap.now in
     let j = g.D.SwapDev.image c.round.new.swap in
-    ok_so c.round.result (RoundsOff mid new c.mark_of_event-mark.result c.args.lines.now (c.args.taken + 1) c.args.counted holds i j)
-    (PassesOver old new c.args.lines.now c.args.taken c.args.counted c.args._last holds i j)
+    ok_so c.round.result (LeadsFrom (RoundAt mid c.mark_of_event-mark.result c.args.lines.now (c.args.taken + 1) c.args.counted holds i) (RunsOut mid new j))
+    (LeadsFrom (OverAt old c.args.lines.now c.args.taken c.args.counted c.args._last holds i) (RunsOut old new j))
     (line_passes old mid new c.mark_of_event-mark.result c.args.lines.now c.args.taken c.args.counted c.args._last holds i j c.args.e c.requires.below c.requires.event c.requires.few
     c.in_ok-note.ensures.steady c.in_ok-note.ensures.step c.mark_of_event-mark.ensures) c.round.ensures.rounds
 
@@ -47,7 +48,7 @@ returns-clause-stops g c =
     let holds = g.F.Files.holds c.args.files.now in
     let i = g.D.SwapDev.image c.args.swap.now in
     let j = g.D.SwapDev.image c.round.new.swap in
-    stops_weaker c.round.result (λ stop. StopsRound mid new c.mark_of_event-mark.result c.args.lines.now (c.args.taken + 1) c.args.counted holds i j stop)
-    (λ stop. StopsPassing old new c.args.lines.now c.args.taken c.args.counted c.args._last holds i j stop)
+    stops_weaker c.round.result (λ stop. StopsFrom (RoundAt mid c.mark_of_event-mark.result c.args.lines.now (c.args.taken + 1) c.args.counted holds i) mid new j stop)
+    (λ stop. StopsFrom (OverAt old c.args.lines.now c.args.taken c.args.counted c.args._last holds i) old new j stop)
     (line_stops_passing old mid new c.mark_of_event-mark.result c.args.lines.now c.args.taken c.args.counted c.args._last holds i j c.args.e c.requires.below c.requires.event c.requires.few
     c.in_ok-note.ensures.steady c.in_ok-note.ensures.step c.mark_of_event-mark.ensures) c.round.ensures.stops

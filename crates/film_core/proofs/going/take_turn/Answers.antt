@@ -1,8 +1,9 @@
 use Rattle.vm_core.proofs.Noting.{stops_on, ok_so, stops_weaker}
 use Rattle.run_model.specs.declared.mark.Mark.TheVariants as marks
-use Rattle.film_core.specs.Ways.{RoundsOff, PassesOver, StopsRound, StopsPassing}
+use Rattle.run_start.specs.Stepped.{LeadsFrom, StopsFrom}
 use Rattle.film_core.proofs.Passing.{turn_round, turn_passes, turn_stops_passing, turn_noting}
 use Rattle.film_core.proofs.going.take_turn.Goals as goal
+use Rattle.film_core.specs.Ways.{OverAt, RunsOut, RoundAt}
 
 pub returns-in_err-note-clause-stops : goal.returns-in_err-note-clause-stops
 returns-in_err-note-clause-stops g c =
@@ -11,7 +12,7 @@ returns-in_err-note-clause-stops g c =
     let holds = g.F.Files.holds c.args.files.now in
     let i = g.D.SwapDev.image c.args.swap.now in
     let stop = c.in_err-note.field-0.0 in
-    stops_on c.from_residual.result stop (StopsPassing old new c.args.lines.now c.args.taken c.args.counted c.args._last holds i i) c.from_residual.ensures.1
+    stops_on c.from_residual.result stop (StopsFrom (OverAt old c.args.lines.now c.args.taken c.args.counted c.args._last holds i) old new i) c.from_residual.ensures.1
     (turn_noting old new c.args.lines.now c.args.taken c.args.counted c.args._last holds i c.args.pid stop c.requires.below c.requires.behind c.requires.turned c.in_err-note.ensures.stops)
 
 pub round-requires-clause-round : goal.round-requires-clause-round
@@ -28,8 +29,8 @@ returns-clause-over g c =
     let holds = g.F.Files.holds c.args.files.now in
     let i = g.D.SwapDev.image c.args.swap.now in
     let j = g.D.SwapDev.image c.round.new.swap in
-    ok_so c.round.result (RoundsOff mid new (marks.Turn c.args.pid c.args.counted) c.args.lines.now c.args.taken c.args.counted holds i j)
-    (PassesOver old new c.args.lines.now c.args.taken c.args.counted c.args._last holds i j)
+    ok_so c.round.result (LeadsFrom (RoundAt mid (marks.Turn c.args.pid c.args.counted) c.args.lines.now c.args.taken c.args.counted holds i) (RunsOut mid new j))
+    (LeadsFrom (OverAt old c.args.lines.now c.args.taken c.args.counted c.args._last holds i) (RunsOut old new j))
     (turn_passes old mid new c.args.lines.now c.args.taken c.args.counted c.args._last holds i j c.args.pid c.requires.below c.requires.behind c.requires.turned c.in_ok-note.ensures.steady
     c.in_ok-note.ensures.step) c.round.ensures.rounds
 
@@ -41,7 +42,7 @@ returns-clause-stops g c =
     let holds = g.F.Files.holds c.args.files.now in
     let i = g.D.SwapDev.image c.args.swap.now in
     let j = g.D.SwapDev.image c.round.new.swap in
-    stops_weaker c.round.result (λ stop. StopsRound mid new (marks.Turn c.args.pid c.args.counted) c.args.lines.now c.args.taken c.args.counted holds i j stop)
-    (λ stop. StopsPassing old new c.args.lines.now c.args.taken c.args.counted c.args._last holds i j stop)
+    stops_weaker c.round.result (λ stop. StopsFrom (RoundAt mid (marks.Turn c.args.pid c.args.counted) c.args.lines.now c.args.taken c.args.counted holds i) mid new j stop)
+    (λ stop. StopsFrom (OverAt old c.args.lines.now c.args.taken c.args.counted c.args._last holds i) old new j stop)
     (turn_stops_passing old mid new c.args.lines.now c.args.taken c.args.counted c.args._last holds i j c.args.pid c.requires.below c.requires.behind c.requires.turned
     c.in_ok-note.ensures.steady c.in_ok-note.ensures.step) c.round.ensures.stops

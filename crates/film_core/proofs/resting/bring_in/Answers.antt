@@ -2,12 +2,13 @@ use Rattle.vm_facts.specs.declared.entry.Entry.TheVariants as entries
 use Rattle.run_model.specs.declared.mark.Mark.TheVariants as marks
 use Rattle.step_units.proofs.Finding.{may_come}
 use Rattle.run_start.specs.Sizes.{KeptAtStop}
+use Rattle.run_start.specs.Stepped.{StopsFrom}
 use Rattle.run_start.proofs.StopsKeep.{kept_at}
 use Rattle.vm_core.proofs.Noting.{stops_on}
 use Rattle.vm_core.proofs.Steadying.{in_steady}
-use Rattle.film_core.specs.Ways.{StopsResting}
 use Rattle.film_core.proofs.RestsMade.{bring_rests, bring_stops, steady_stays}
 use Rattle.film_core.proofs.resting.bring_in.Goals as goal
+use Rattle.film_core.specs.Ways.{RestAt}
 
 pub swap_in-requires-clause-can : goal.swap_in-requires-clause-can
 swap_in-requires-clause-can g c =
@@ -33,7 +34,7 @@ returns-in_err-swap_in-clause-stops g c =
     let i = g.D.SwapDev.image c.args.swap.now in
     let j = g.D.SwapDev.image c.swap_in.new.swap in
     let stop = c.in_err-swap_in.field-0.0 in
-    stops_on c.from_residual.result stop (StopsResting old new (marks.BringIn c.args.pid) c.args.counted holds i j) c.from_residual.ensures.1
+    stops_on c.from_residual.result stop (StopsFrom (RestAt old (marks.BringIn c.args.pid) c.args.counted holds i) old new j) c.from_residual.ensures.1
     (bring_stops old new c.args.pid c.args.counted holds i j stop c.in_err-swap_in.ensures.stopped)
 
 pub returns-in_err-swap_in-clause-kept : goal.returns-in_err-swap_in-clause-kept

@@ -1,8 +1,9 @@
 use Rattle.std.proofs.Common.{false}
 use Rattle.run_model.specs.declared.mark.Mark.TheVariants as marks
-use Rattle.proc_run.specs.Running.{Runs, StopsRunning, CountsTo}
+use Rattle.run_start.specs.Stepped.{LeadsFrom, StopsFrom}
+use Rattle.proc_run.specs.Running.{CountsTo, UnderMark, RunLeads}
 use Rattle.vm_core.proofs.Noting.{ok_weaker, stops_weaker}
-use Rattle.film_core.specs.Ways.{Rests, StopsResting, StaysOn}
+use Rattle.film_core.specs.Ways.{StaysOn, RestAt, RestDone}
 use Rattle.film_core.proofs.RestsMade.{dispatch_rests, dispatch_stops, counts_stay}
 use Rattle.film_core.proofs.resting.dispatch.Goals as goal
 
@@ -14,8 +15,8 @@ returns-clause-rests g c =
     let i = g.D.SwapDev.image c.args.swap.now in
     let j = g.D.SwapDev.image c.run.new.swap in
     let until = c.count_behind-until.result in
-    ok_weaker c.run.result (λ count. Runs old new c.args.pid false c.args.counted until holds i j count)
-    (λ count. Rests old new (marks.Dispatch c.args.pid c.args.more c.args.since) c.args.counted count holds i j)
+    ok_weaker c.run.result (λ count. LeadsFrom (UnderMark old holds i c.args.pid false c.args.counted until) (RunLeads old.kernel c.args.pid false new.kernel j count))
+    (λ count. LeadsFrom (RestAt old (marks.Dispatch c.args.pid c.args.more c.args.since) c.args.counted holds i) (RestDone old new (marks.Dispatch c.args.pid c.args.more c.args.since) count j))
     (λ count f. dispatch_rests old new c.args.pid c.args.more c.args.since c.args.counted until count holds i j c.count_behind-until.ensures f) c.run.ensures.runs
 
 pub returns-clause-stops : goal.returns-clause-stops
@@ -26,8 +27,8 @@ returns-clause-stops g c =
     let i = g.D.SwapDev.image c.args.swap.now in
     let j = g.D.SwapDev.image c.run.new.swap in
     let until = c.count_behind-until.result in
-    stops_weaker c.run.result (λ stop. StopsRunning old new c.args.pid false c.args.counted until holds i j stop)
-    (λ stop. StopsResting old new (marks.Dispatch c.args.pid c.args.more c.args.since) c.args.counted holds i j stop)
+    stops_weaker c.run.result (λ stop. StopsFrom (UnderMark old holds i c.args.pid false c.args.counted until) old new j stop)
+    (λ stop. StopsFrom (RestAt old (marks.Dispatch c.args.pid c.args.more c.args.since) c.args.counted holds i) old new j stop)
     (λ stop f. dispatch_stops old new c.args.pid c.args.more c.args.since c.args.counted until holds i j stop c.count_behind-until.ensures f) c.run.ensures.stops
 
 pub returns-clause-on : goal.returns-clause-on

@@ -1,11 +1,12 @@
 use Rattle.std.proofs.Common.{arith}
 use Rattle.run_model.specs.declared.mark.Mark.TheVariants as marks
 use Rattle.run_start.specs.Sizes.{KeptAtStop}
+use Rattle.run_start.specs.Stepped.{StopsFrom}
 use Rattle.vm_core.proofs.Kept.{kept_moving}
 use Rattle.vm_core.proofs.Noting.{stops_on}
-use Rattle.film_core.specs.Ways.{StopsResting}
 use Rattle.film_core.proofs.RestsMade.{hands_rest, hands_stops, hands_stay, hands_fit}
 use Rattle.film_core.proofs.resting.hands.Goals as goal
+use Rattle.film_core.specs.Ways.{RestAt}
 
 pub move_hands-requires-clause-fits : goal.move_hands-requires-clause-fits
 move_hands-requires-clause-fits g c =
@@ -34,7 +35,7 @@ returns-in_err-move_hands-clause-stops g c =
     let i = g.D.SwapDev.image c.args.swap.now in
     let j = g.D.SwapDev.image c.move_hands.new.swap in
     let stop = c.in_err-move_hands.field-0.0 in
-    stops_on c.from_residual.result stop (StopsResting old new (marks.Hands c.args.left) c.args.counted holds i j) c.from_residual.ensures.1
+    stops_on c.from_residual.result stop (StopsFrom (RestAt old (marks.Hands c.args.left) c.args.counted holds i) old new j) c.from_residual.ensures.1
     (hands_stops old new c.args.left c.args.counted holds i j stop c.in_err-move_hands.ensures.stopped)
 
 pub returns-in_err-move_hands-clause-kept : goal.returns-in_err-move_hands-clause-kept

@@ -1,8 +1,9 @@
 use Rattle.run_model.specs.declared.mark.Mark.TheVariants as marks
+use Rattle.run_start.specs.Stepped.{StopsFrom}
 use Rattle.vm_core.proofs.Noting.{stops_on}
-use Rattle.film_core.specs.Ways.{StopsResting}
 use Rattle.film_core.proofs.RestsMade.{audit_rests, audit_stops, steady_stays}
 use Rattle.film_core.proofs.resting.note_owners.Goals as goal
+use Rattle.film_core.specs.Ways.{RestAt}
 
 pub returns-clause-rests : goal.returns-clause-rests
 returns-clause-rests g c =
@@ -20,5 +21,5 @@ returns-in_err-audit-clause-stops g c =
     let holds = g.F.Files.holds c.args.files.now in
     let i = g.D.SwapDev.image c.args.swap.now in
     let stop = c.in_err-audit.field-0.0 in
-    stops_on c.from_residual.result stop (StopsResting old new marks.Audit c.args.counted holds i i) c.from_residual.ensures.1
+    stops_on c.from_residual.result stop (StopsFrom (RestAt old marks.Audit c.args.counted holds i) old new i) c.from_residual.ensures.1
     (audit_stops old new c.args.counted holds i i stop (c.in_err-audit.ensures.stops holds i))

@@ -2,12 +2,13 @@ use Rattle.run_model.specs.declared.mark.Mark.TheVariants as marks
 use Rattle.step_units.proofs.Finding.{put_out_in}
 use Rattle.run_start.specs.Sizes.{KeptAtStop}
 use Rattle.run_start.specs.Turned.TheVariants as turns
+use Rattle.run_start.specs.Stepped.{StopsFrom}
 use Rattle.vm_core.proofs.Asked.{swapper_steady}
 use Rattle.vm_core.proofs.Kept.{kept_turning}
 use Rattle.vm_core.proofs.Noting.{stops_on}
-use Rattle.film_core.specs.Ways.{StopsResting}
 use Rattle.film_core.proofs.RestsMade.{put_rests, put_stops, steady_stays}
 use Rattle.film_core.proofs.resting.put_out.Goals as goal
+use Rattle.film_core.specs.Ways.{RestAt}
 
 pub swap_out-requires-clause-holds : goal.swap_out-requires-clause-holds
 swap_out-requires-clause-holds g c =
@@ -39,7 +40,7 @@ returns-in_err-swap_out-clause-stops g c =
     let j = g.D.SwapDev.image c.swap_out.new.swap in
     let stop = c.in_err-swap_out.field-0.0 in
     let x = c.in_err-swap_out.ensures.stopped in
-    stops_on c.from_residual.result stop (StopsResting old new (marks.PutOut c.args.pid) c.args.counted holds i j) c.from_residual.ensures.1
+    stops_on c.from_residual.result stop (StopsFrom (RestAt old (marks.PutOut c.args.pid) c.args.counted holds i) old new j) c.from_residual.ensures.1
     (put_stops old new c.args.pid x.0 c.args.counted holds i j stop x.1 x.2)
 
 pub returns-in_err-swap_out-clause-kept : goal.returns-in_err-swap_out-clause-kept

@@ -1,11 +1,12 @@
 use Rattle.std.proofs.Common.{◌<◌, IfOk, IfErr, inl, inr, sym, ◌∙◌, subst, arith}
 use Rattle.run_model.specs.declared.mark.Mark.TheVariants as marks
-use Rattle.vm_core.specs.Closing.{FinishesTurn, StopsFinishing}
+use Rattle.run_start.specs.Stepped.{LeadsFrom, StopsFrom}
 use Rattle.vm_core.proofs.Noting.{ok_weaker, stops_on, stops_weaker}
-use Rattle.film_core.specs.Ways.{Rests, StopsResting}
 use Rattle.film_core.proofs.RestsMade.{turn_spent, turn_rests, turn_coming_stops, turn_stops}
 use Rattle.film_core.proofs.resting.turn.Goals as goal
 use Rattle.film_core.proofs.resting.turn.Goals.{then-counted-count_behind-via-then-counted-count_behind, then-counted-count_behind-via-else-counted-count_behind+then-not-may_step}
+use Rattle.vm_core.specs.Closing.{ResidentTurn, TurnDone}
+use Rattle.film_core.specs.Ways.{RestAt, RestDone}
 
 pub returns-then-counted-count_behind-clause-rests : goal.returns-then-counted-count_behind-clause-rests
 returns-then-counted-count_behind-clause-rests g c =
@@ -26,7 +27,7 @@ returns-in_err-come_in-clause-stops g c =
     let until = c.count_behind.result in
     let stop = c.in_err-come_in.field-0.0 in
     let below : c.args.counted < c.count_behind.result = let l = c.if-counted-count_behind.false in omega (arith, l) in
-    stops_on c.from_residual.result stop (StopsResting old new (marks.Turn c.args.pid c.args.since) c.args.counted holds i j) c.from_residual.ensures.1
+    stops_on c.from_residual.result stop (StopsFrom (RestAt old (marks.Turn c.args.pid c.args.since) c.args.counted holds i) old new j) c.from_residual.ensures.1
     (turn_coming_stops old new c.args.pid c.args.since c.args.counted until holds i j stop c.count_behind.ensures below (sym c.may_step.ensures ∙ c.if-not-may_step.false)
     (c.in_err-come_in.ensures.stops c.args.counted c.args.since))
 
@@ -40,11 +41,12 @@ returns-clause-rests g c =
     let h = g.D.SwapDev.image c.come_in.new.swap in
     let j = g.D.SwapDev.image c.finish.new.swap in
     let below : c.args.counted < c.count_behind.result = let l = c.if-counted-count_behind.false in omega (arith, l) in
-    ok_weaker c.finish.result (λ count. FinishesTurn mid new c.args.pid c.args.counted c.args.since count holds h j)
-    (λ count. Rests old new (marks.Turn c.args.pid c.args.since) c.args.counted count holds i j)
+    ok_weaker c.finish.result (λ count. LeadsFrom (ResidentTurn mid holds h c.args.counted c.args.since c.args.pid) (TurnDone mid new j c.args.pid count))
+    (λ count. LeadsFrom (RestAt old (marks.Turn c.args.pid c.args.since) c.args.counted holds i) (RestDone old new (marks.Turn c.args.pid c.args.since) count j))
     (λ count f. turn_rests old mid new c.args.pid c.args.since c.args.counted c.count_behind.result count holds i h j c.count_behind.ensures below (sym c.may_step.ensures ∙ c.if-not-may_step.false)
     (c.in_ok-come_in.ensures.comes c.args.counted c.args.since) f)
-    (subst (λ hs. IfOk c.finish.result (λ count. FinishesTurn mid new c.args.pid c.args.counted c.args.since count hs h j)) c.in_ok-come_in.ensures.outside.files.holds c.finish.ensures.done)
+    (subst (λ hs. IfOk c.finish.result (λ count. LeadsFrom (ResidentTurn mid hs h c.args.counted c.args.since c.args.pid) (TurnDone mid new j c.args.pid count)))
+    c.in_ok-come_in.ensures.outside.files.holds c.finish.ensures.done)
 
 pub returns-clause-stops : goal.returns-clause-stops
 returns-clause-stops g c =
@@ -56,8 +58,9 @@ returns-clause-stops g c =
     let h = g.D.SwapDev.image c.come_in.new.swap in
     let j = g.D.SwapDev.image c.finish.new.swap in
     let below : c.args.counted < c.count_behind.result = let l = c.if-counted-count_behind.false in omega (arith, l) in
-    stops_weaker c.finish.result (λ stop. StopsFinishing mid new c.args.pid c.args.counted c.args.since holds h j stop)
-    (λ stop. StopsResting old new (marks.Turn c.args.pid c.args.since) c.args.counted holds i j stop)
+    stops_weaker c.finish.result (λ stop. StopsFrom (ResidentTurn mid holds h c.args.counted c.args.since c.args.pid) mid new j stop)
+    (λ stop. StopsFrom (RestAt old (marks.Turn c.args.pid c.args.since) c.args.counted holds i) old new j stop)
     (λ stop f. turn_stops old mid new c.args.pid c.args.since c.args.counted c.count_behind.result holds i h j stop c.count_behind.ensures below (sym c.may_step.ensures ∙ c.if-not-may_step.false)
     (c.in_ok-come_in.ensures.comes c.args.counted c.args.since) f)
-    (subst (λ hs. IfErr c.finish.result (λ stop. StopsFinishing mid new c.args.pid c.args.counted c.args.since hs h j stop)) c.in_ok-come_in.ensures.outside.files.holds c.finish.ensures.stops)
+    (subst (λ hs. IfErr c.finish.result (λ stop. StopsFrom (ResidentTurn mid hs h c.args.counted c.args.since c.args.pid) mid new j stop))
+    c.in_ok-come_in.ensures.outside.files.holds c.finish.ensures.stops)

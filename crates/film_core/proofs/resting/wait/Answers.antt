@@ -1,8 +1,9 @@
 use Rattle.run_model.specs.declared.mark.Mark.TheVariants as marks
+use Rattle.run_start.specs.Stepped.{StopsFrom}
 use Rattle.vm_core.proofs.Noting.{stops_on}
-use Rattle.film_core.specs.Ways.{StopsResting}
 use Rattle.film_core.proofs.RestsMade.{wait_rests, wait_stops, steady_stays}
 use Rattle.film_core.proofs.resting.wait.Goals as goal
+use Rattle.film_core.specs.Ways.{RestAt}
 
 pub returns-clause-rests : goal.returns-clause-rests
 returns-clause-rests g c =
@@ -20,5 +21,5 @@ returns-in_err-interrupt-clause-stops g c =
     let i = g.D.SwapDev.image c.args.swap.now in
     let j = g.D.SwapDev.image c.interrupt.new.swap in
     let stop = c.in_err-interrupt.field-0.0 in
-    stops_on c.from_residual.result stop (StopsResting old new marks.Interrupt c.args.counted holds i j) c.from_residual.ensures.1
+    stops_on c.from_residual.result stop (StopsFrom (RestAt old marks.Interrupt c.args.counted holds i) old new j) c.from_residual.ensures.1
     (wait_stops old new c.args.counted holds i j stop c.in_err-interrupt.ensures.stops)

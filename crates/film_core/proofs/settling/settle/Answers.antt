@@ -1,7 +1,8 @@
 use Rattle.std.proofs.Common.{sym, ap, ◌∙◌, subst}
 use Rattle.std.proofs.lemmas.Result.{err_from_is_err_and}
 use Rattle.step_units.specs.Rests.{before_done}
-use Rattle.proc_run.specs.Rests.{begun_by, IsBegun, FinishesStep, StopsStep}
+use Rattle.run_start.specs.Stepped.{AtSome, LeadsFrom, StopsFrom, StepLeads}
+use Rattle.proc_run.specs.Rests.{begun_by, BegunAt}
 use Rattle.film_core.proofs.Settled.{fills_settle, finish_settles, finish_stops, finish_begun}
 use Rattle.film_core.proofs.settling.settle.Goals as goal
 
@@ -10,7 +11,7 @@ use Rattle.film_core.proofs.settling.settle.Goals as goal
 pub finish_step-requires-clause-begun : goal.finish_step-requires-clause-begun
 finish_step-requires-clause-begun g c =
     let e = ap (λ es. begun_by (before_done es)) (sym c.journal.ensures) ∙ sym c.begun_step.ensures ∙ c.in-Some.is in
-    subst (λ hs. IsBegun c.fill_rest.new.m c.in-Some.begun hs (g.D.SwapDev.image c.fill_rest.new.swap)) (sym c.in_ok-fill_rest.ensures.outside.files.holds)
+    subst (λ hs. AtSome (BegunAt c.fill_rest.new.m c.in-Some.begun hs (g.D.SwapDev.image c.fill_rest.new.swap))) (sym c.in_ok-fill_rest.ensures.outside.files.holds)
     (finish_begun c.args.m.now c.fill_rest.new.m (g.F.Files.holds c.args.files.now) (g.D.SwapDev.image c.args.swap.now) (g.D.SwapDev.image c.fill_rest.new.swap) c.in-Some.begun
     c.requires.way c.in_ok-fill_rest.ensures.leads e)
 
@@ -21,7 +22,7 @@ returns-in_err-finish_step-in-Some-clause-stops g c =
     rw (r.1, r.2) (
     finish_stops c.args.m.now c.fill_rest.new.m c.finish_step.new.m (g.F.Files.holds c.args.files.now) (g.D.SwapDev.image c.args.swap.now) (g.D.SwapDev.image c.fill_rest.new.swap)
     (g.D.SwapDev.image c.finish_step.new.swap) c.in-Some.begun c.in_err-finish_step-in-Some.field-0.0 c.in_ok-fill_rest.ensures.leads e
-    (subst (λ hs. StopsStep c.fill_rest.new.m c.finish_step.new.m c.in-Some.begun hs (g.D.SwapDev.image c.fill_rest.new.swap)
+    (subst (λ hs. StopsFrom (BegunAt c.fill_rest.new.m c.in-Some.begun hs (g.D.SwapDev.image c.fill_rest.new.swap)) c.fill_rest.new.m c.finish_step.new.m
     (g.D.SwapDev.image c.finish_step.new.swap) c.in_err-finish_step-in-Some.field-0.0)
     c.in_ok-fill_rest.ensures.outside.files.holds c.in_err-finish_step-in-Some.ensures.stops))
 
@@ -30,7 +31,8 @@ returns-in_ok-finish_step-in-Some-clause-settles g c =
     let e = ap (λ es. begun_by (before_done es)) (sym c.journal.ensures) ∙ sym c.begun_step.ensures ∙ c.in-Some.is in
     finish_settles c.args.m.now c.fill_rest.new.m c.finish_step.new.m c.args.counted (g.F.Files.holds c.args.files.now) (g.D.SwapDev.image c.args.swap.now) (g.D.SwapDev.image c.fill_rest.new.swap)
     (g.D.SwapDev.image c.finish_step.new.swap) c.in-Some.begun c.in_ok-fill_rest.ensures.leads e
-    (subst (λ hs. FinishesStep c.fill_rest.new.m c.finish_step.new.m c.in-Some.begun hs (g.D.SwapDev.image c.fill_rest.new.swap) (g.D.SwapDev.image c.finish_step.new.swap))
+    (subst (λ hs. LeadsFrom (BegunAt c.fill_rest.new.m c.in-Some.begun hs (g.D.SwapDev.image c.fill_rest.new.swap))
+    (λ A s image. StepLeads A s c.fill_rest.new.m.kernel image 1 c.finish_step.new.m.kernel (g.D.SwapDev.image c.finish_step.new.swap)))
     c.in_ok-fill_rest.ensures.outside.files.holds c.in_ok-finish_step-in-Some.ensures.finishes)
 
 -- None is.

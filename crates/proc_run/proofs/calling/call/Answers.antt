@@ -19,14 +19,14 @@ use Rattle.proc_run.proofs.calling.call.Goals as goal
 pub returns-in_err-kill-clause-stops : goal.returns-in_err-kill-clause-stops
 returns-in_err-kill-clause-stops g c =
     let e = err_from_is_err_and c.from_residual.result c.from_residual.ensures.1 in
-    rw (e.1, e.2) (λ A s image p x r.
-    no_call_stops A s c.args.m.now (g.F.Files.holds c.args.files.now) (g.D.SwapDev.image c.args.swap.now) image c.args.pid (is_now c.args.patience) p x c.args.before.now r c.requires.registers
+    rw (e.1, e.2) (λ A s image n.
+    no_call_stops A s c.args.m.now (g.F.Files.holds c.args.files.now) (g.D.SwapDev.image c.args.swap.now) image c.args.pid (is_now c.args.patience) n.0 n.1 c.args.before.now n.2 c.requires.registers
     c.kill.new.m (g.D.SwapDev.image c.kill.new.swap) c.args.number c.args.regs.now c.in_err-kill.field-0.0 c.requires.made
     (ap call_of (sym (to_z-of_z w32 c.args.number c.ranges.number)) ∙ sym c.numbered.ensures ∙ c.in_default.is) c.in_err-kill.ensures.stops)
 
 pub returns-in_default-clause-advances : goal.returns-in_default-clause-advances
-returns-in_default-clause-advances g c = λ A s image p x r.
-    no_call_led A s c.args.m.now (g.F.Files.holds c.args.files.now) (g.D.SwapDev.image c.args.swap.now) image c.args.pid (is_now c.args.patience) p x c.args.before.now r c.requires.registers
+returns-in_default-clause-advances g c = λ A s image n.
+    no_call_led A s c.args.m.now (g.F.Files.holds c.args.files.now) (g.D.SwapDev.image c.args.swap.now) image c.args.pid (is_now c.args.patience) n.0 n.1 c.args.before.now n.2 c.requires.registers
     c.kill.new.m (g.D.SwapDev.image c.kill.new.swap) c.args.number c.args.regs.now c.requires.made
     (ap call_of (sym (to_z-of_z w32 c.args.number c.ranges.number)) ∙ sym c.numbered.ensures ∙ c.in_default.is) c.in_ok-kill.ensures.ended
 

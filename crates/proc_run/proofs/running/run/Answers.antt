@@ -2,10 +2,11 @@ use Rattle.std.proofs.Common.{◌+◌, ◌-◌, ◌<◌, ◌≤◌, ◌∙◌, s
 use Rattle.std.proofs.lemmas.Result.{err_from_is_err_and}
 use Rattle.steady_laws.specs.Ready.{Continues}
 use Rattle.proc_run.specs.declared.advancing.Advance.TheVariants as advances
-use Rattle.proc_run.specs.Runs.{is_now, Advances, StopsAdvancing, counts}
+use Rattle.proc_run.specs.Runs.{is_now, counts, HasRunner, AdvancesTo}
 use Rattle.proc_run.proofs.SoFar.{ran_far, ran_all_continue, none_so_far, counted_far, served_far, stuck_runs, stops_far, idle_runs, done_runs, waited_runs, steady_on, lends_there}
 use Rattle.machine_state.proofs.Transfers.{transfers_none, transfers_then}
 use Rattle.steady_laws.proofs.StopsKeep.{kept_through}
+use Rattle.step_units.specs.Stepped.{LeadsFrom, StopsFrom}
 use Rattle.proc_run.proofs.running.run.Goals as goal
 
 pub loop-count-init : goal.loop-count-init
@@ -37,7 +38,7 @@ returns-in_err-next_step-clause-stops g c =
     stops_far c.args.m.now c.loop-count.m c.next_step.new.m c.args.pid (is_now c.args.patience) c.args.counted c.args.until (g.F.Files.holds c.args.files.now) (g.D.SwapDev.image c.args.swap.now)
     (g.D.SwapDev.image c.loop-count.swap) (g.D.SwapDev.image c.next_step.new.swap) c.loop-count.count c.loop-count.waits so.so_far c.loop-count-test.true c.in-Some.ensures.ready
     c.in_err-next_step.field-0.0
-    (subst (λ hs. StopsAdvancing c.loop-count.m c.next_step.new.m c.args.pid (is_now c.args.patience) hs (g.D.SwapDev.image c.loop-count.swap)
+    (subst (λ hs. StopsFrom (HasRunner c.loop-count.m hs (g.D.SwapDev.image c.loop-count.swap) c.args.pid (is_now c.args.patience)) c.loop-count.m c.next_step.new.m
     (g.D.SwapDev.image c.next_step.new.swap) c.in_err-next_step.field-0.0) so.outside.files.holds c.in_err-next_step.ensures.stops))
 
 pub run_on-count-requires-clause-steady : goal.run_on-count-requires-clause-steady
@@ -61,12 +62,13 @@ loop-count-preserved-in-Counted g c =
     let so = c.loop-count.invariant in
     let on : Continues c.loop-count.m c.next_step.new.m (counts advances.Counted) =
     subst (λ a. Continues c.loop-count.m c.next_step.new.m (counts a)) c.in-Counted.is c.in_ok-next_step.ensures.continues in
-    let led : Advances c.loop-count.m c.next_step.new.m c.args.pid (is_now c.args.patience) (g.F.Files.holds c.args.files.now) (g.D.SwapDev.image c.loop-count.swap)
-    (g.D.SwapDev.image c.next_step.new.swap) advances.Counted =
-    subst (λ hs. Advances c.loop-count.m c.next_step.new.m c.args.pid (is_now c.args.patience) hs (g.D.SwapDev.image c.loop-count.swap) (g.D.SwapDev.image c.next_step.new.swap) advances.Counted)
+    let led : LeadsFrom (HasRunner c.loop-count.m (g.F.Files.holds c.args.files.now) (g.D.SwapDev.image c.loop-count.swap) c.args.pid (is_now c.args.patience))
+    (AdvancesTo c.loop-count.m.kernel c.next_step.new.m.kernel (g.D.SwapDev.image c.next_step.new.swap) advances.Counted) =
+    subst (λ hs. LeadsFrom (HasRunner c.loop-count.m hs (g.D.SwapDev.image c.loop-count.swap) c.args.pid (is_now c.args.patience))
+    (AdvancesTo c.loop-count.m.kernel c.next_step.new.m.kernel (g.D.SwapDev.image c.next_step.new.swap) advances.Counted))
     so.outside.files.holds
-    (subst (λ a. Advances c.loop-count.m c.next_step.new.m c.args.pid (is_now c.args.patience) (g.F.Files.holds c.loop-count.files) (g.D.SwapDev.image c.loop-count.swap)
-    (g.D.SwapDev.image c.next_step.new.swap) a) c.in-Counted.is c.in_ok-next_step.ensures.advances) in
+    (subst (λ a. LeadsFrom (HasRunner c.loop-count.m (g.F.Files.holds c.loop-count.files) (g.D.SwapDev.image c.loop-count.swap) c.args.pid (is_now c.args.patience))
+    (AdvancesTo c.loop-count.m.kernel c.next_step.new.m.kernel (g.D.SwapDev.image c.next_step.new.swap) a)) c.in-Counted.is c.in_ok-next_step.ensures.advances) in
     let one = counted_far c.args.m.now c.loop-count.m c.next_step.new.m c.args.pid (is_now c.args.patience) c.args.counted c.args.until (g.F.Files.holds c.args.files.now)
     (g.D.SwapDev.image c.args.swap.now) (g.D.SwapDev.image c.loop-count.swap) (g.D.SwapDev.image c.next_step.new.swap) c.loop-count.count c.loop-count.waits so.so_far c.loop-count-test.true
     c.in-Some.ensures.ready on.params on.images led in
@@ -92,12 +94,13 @@ loop-count-preserved g c =
     let so = c.loop-count.invariant in
     let on : Continues c.loop-count.m c.next_step.new.m (counts advances.Served) =
     subst (λ a. Continues c.loop-count.m c.next_step.new.m (counts a)) c.in-Served.is c.in_ok-next_step.ensures.continues in
-    let led : Advances c.loop-count.m c.next_step.new.m c.args.pid (is_now c.args.patience) (g.F.Files.holds c.args.files.now) (g.D.SwapDev.image c.loop-count.swap)
-    (g.D.SwapDev.image c.next_step.new.swap) advances.Served =
-    subst (λ hs. Advances c.loop-count.m c.next_step.new.m c.args.pid (is_now c.args.patience) hs (g.D.SwapDev.image c.loop-count.swap) (g.D.SwapDev.image c.next_step.new.swap) advances.Served)
+    let led : LeadsFrom (HasRunner c.loop-count.m (g.F.Files.holds c.args.files.now) (g.D.SwapDev.image c.loop-count.swap) c.args.pid (is_now c.args.patience))
+    (AdvancesTo c.loop-count.m.kernel c.next_step.new.m.kernel (g.D.SwapDev.image c.next_step.new.swap) advances.Served) =
+    subst (λ hs. LeadsFrom (HasRunner c.loop-count.m hs (g.D.SwapDev.image c.loop-count.swap) c.args.pid (is_now c.args.patience))
+    (AdvancesTo c.loop-count.m.kernel c.next_step.new.m.kernel (g.D.SwapDev.image c.next_step.new.swap) advances.Served))
     so.outside.files.holds
-    (subst (λ a. Advances c.loop-count.m c.next_step.new.m c.args.pid (is_now c.args.patience) (g.F.Files.holds c.loop-count.files) (g.D.SwapDev.image c.loop-count.swap)
-    (g.D.SwapDev.image c.next_step.new.swap) a) c.in-Served.is c.in_ok-next_step.ensures.advances) in
+    (subst (λ a. LeadsFrom (HasRunner c.loop-count.m (g.F.Files.holds c.loop-count.files) (g.D.SwapDev.image c.loop-count.swap) c.args.pid (is_now c.args.patience))
+    (AdvancesTo c.loop-count.m.kernel c.next_step.new.m.kernel (g.D.SwapDev.image c.next_step.new.swap) a)) c.in-Served.is c.in_ok-next_step.ensures.advances) in
     record {
       steady = steady_on c.loop-count.m c.next_step.new.m 0 so.steady on c.in_ok-next_step.ensures.goes_on;
       params = on.params ∙ so.params;
@@ -116,12 +119,13 @@ returns-in-Stuck-clause-runs g c =
     let so = c.loop-count.invariant in
     let on : Continues c.loop-count.m c.next_step.new.m (counts advances.Stuck) =
     subst (λ a. Continues c.loop-count.m c.next_step.new.m (counts a)) c.in-Stuck.is c.in_ok-next_step.ensures.continues in
-    let led : Advances c.loop-count.m c.next_step.new.m c.args.pid (is_now c.args.patience) (g.F.Files.holds c.args.files.now) (g.D.SwapDev.image c.loop-count.swap)
-    (g.D.SwapDev.image c.next_step.new.swap) advances.Stuck =
-    subst (λ hs. Advances c.loop-count.m c.next_step.new.m c.args.pid (is_now c.args.patience) hs (g.D.SwapDev.image c.loop-count.swap) (g.D.SwapDev.image c.next_step.new.swap) advances.Stuck)
+    let led : LeadsFrom (HasRunner c.loop-count.m (g.F.Files.holds c.args.files.now) (g.D.SwapDev.image c.loop-count.swap) c.args.pid (is_now c.args.patience))
+    (AdvancesTo c.loop-count.m.kernel c.next_step.new.m.kernel (g.D.SwapDev.image c.next_step.new.swap) advances.Stuck) =
+    subst (λ hs. LeadsFrom (HasRunner c.loop-count.m hs (g.D.SwapDev.image c.loop-count.swap) c.args.pid (is_now c.args.patience))
+    (AdvancesTo c.loop-count.m.kernel c.next_step.new.m.kernel (g.D.SwapDev.image c.next_step.new.swap) advances.Stuck))
     so.outside.files.holds
-    (subst (λ a. Advances c.loop-count.m c.next_step.new.m c.args.pid (is_now c.args.patience) (g.F.Files.holds c.loop-count.files) (g.D.SwapDev.image c.loop-count.swap)
-    (g.D.SwapDev.image c.next_step.new.swap) a) c.in-Stuck.is c.in_ok-next_step.ensures.advances) in
+    (subst (λ a. LeadsFrom (HasRunner c.loop-count.m (g.F.Files.holds c.loop-count.files) (g.D.SwapDev.image c.loop-count.swap) c.args.pid (is_now c.args.patience))
+    (AdvancesTo c.loop-count.m.kernel c.next_step.new.m.kernel (g.D.SwapDev.image c.next_step.new.swap) a)) c.in-Stuck.is c.in_ok-next_step.ensures.advances) in
     stuck_runs c.args.m.now c.loop-count.m c.next_step.new.m c.args.pid (is_now c.args.patience) c.args.counted c.args.until (g.F.Files.holds c.args.files.now)
     (g.D.SwapDev.image c.args.swap.now) (g.D.SwapDev.image c.loop-count.swap) (g.D.SwapDev.image c.next_step.new.swap) c.loop-count.count c.loop-count.waits so.so_far c.loop-count-test.true
     c.in-Some.ensures.ready on.params on.images led

@@ -15,20 +15,20 @@ use Rattle.proc_run.proofs.serving.serve_access.Goals.{in-NoSpace, in-Signal}
 pub returns-in_err-served-clause-stops : goal.returns-in_err-served-clause-stops
 returns-in_err-served-clause-stops g c =
     let e = err_from_is_err_and c.from_residual.result c.from_residual.ensures.1 in
-    rw (e.1, e.2) (λ A s image p x before r w.
+    rw (e.1, e.2) (λ A s image n.
     served_stops (is_now c.args.patience) A s c.args.m.now c.serve_by.new.m (g.F.Files.holds c.args.files.now) (g.D.SwapDev.image c.args.swap.now) (g.D.SwapDev.image c.serve_by.new.swap)
-    image c.args.pid p x c.args.address c.args.write before c.in_err-served.field-0.0 r w c.in_err-served.ensures.stops)
+    image c.args.pid n.0 n.1 c.args.address c.args.write n.2 c.in_err-served.field-0.0 n.3 n.4 c.in_err-served.ensures.stops)
 
 pub returns-in-Valid-clause-advances : goal.returns-in-Valid-clause-advances
-returns-in-Valid-clause-advances g c = λ A s image p x before r w.
+returns-in-Valid-clause-advances g c = λ A s image n.
     advances_valid (is_now c.args.patience) A s c.args.m.now c.serve_by.new.m (g.F.Files.holds c.args.files.now) (g.D.SwapDev.image c.args.swap.now) (g.D.SwapDev.image c.serve_by.new.swap)
-    image c.args.pid p x c.args.address c.args.write before c.in_ok-served.served c.in-Valid.is r w c.in_ok-served.ensures.served
+    image c.args.pid n.0 n.1 c.args.address c.args.write n.2 c.in_ok-served.served c.in-Valid.is n.3 n.4 c.in_ok-served.ensures.served
 
 pub returns-in-Asleep-clause-advances : goal.returns-in-Asleep-clause-advances
-returns-in-Asleep-clause-advances g c = λ A s image p x before r w.
+returns-in-Asleep-clause-advances g c = λ A s image n.
     advances_stuck (is_now c.args.patience) A s c.args.m.now c.serve_by.new.m (g.F.Files.holds c.args.files.now) (g.D.SwapDev.image c.args.swap.now) (g.D.SwapDev.image c.serve_by.new.swap)
-    image c.args.pid p x c.args.address c.args.write before c.in_ok-served.served
-    (elim c.in-Asleep.is [ inl y ↦ subst IsStuck (sym y.1) tt | inr y ↦ subst IsStuck (sym y) tt ]) r w c.in_ok-served.ensures.served
+    image c.args.pid n.0 n.1 c.args.address c.args.write n.2 c.in_ok-served.served
+    (elim c.in-Asleep.is [ inl y ↦ subst IsStuck (sym y.1) tt | inr y ↦ subst IsStuck (sym y) tt ]) n.3 n.4 c.in_ok-served.ensures.served
 
 pub kill-requires-clause-calls : goal.kill-requires-clause-calls
 kill-requires-clause-calls g c =
@@ -47,10 +47,10 @@ returns-in_err-kill-clause-stops g c =
       | in-Signal w ↦ subst (λ (y : Served). EndsBy y c.match-served.signal) (sym w.in-Signal.is) w.signal-is
     ] in
     let e = err_from_is_err_and c.from_residual-in_err-kill.result c.from_residual-in_err-kill.ensures.1 in
-    rw (e.1, e.2) (λ A s image p x before r w.
+    rw (e.1, e.2) (λ A s image n.
     stops_ended (is_now c.args.patience) A s c.args.m.now c.serve_by.new.m c.kill.new.m (g.F.Files.holds c.args.files.now) (g.D.SwapDev.image c.args.swap.now)
-    (g.D.SwapDev.image c.serve_by.new.swap) (g.D.SwapDev.image c.kill.new.swap) image c.args.pid p x c.args.address c.args.write before c.in_ok-served.served c.match-served.signal
-    c.in_err-kill.field-0.0 ends c.in_ok-served.ensures.continues r w c.in_ok-served.ensures.served
+    (g.D.SwapDev.image c.serve_by.new.swap) (g.D.SwapDev.image c.kill.new.swap) image c.args.pid n.0 n.1 c.args.address c.args.write n.2 c.in_ok-served.served c.match-served.signal
+    c.in_err-kill.field-0.0 ends c.in_ok-served.ensures.continues n.3 n.4 c.in_ok-served.ensures.served
     (subst (λ h. StopsAlive c.serve_by.new.m c.kill.new.m c.args.pid h (g.D.SwapDev.image c.serve_by.new.swap) (g.D.SwapDev.image c.kill.new.swap) c.in_err-kill.field-0.0)
     c.serve_by.ensures.outside.files.holds c.in_err-kill.ensures.stops))
 
@@ -60,10 +60,10 @@ returns-clause-advances g c =
       | in-NoSpace w ↦ subst (λ (y : Served). EndsBy y c.match-served.signal) (sym w.in-NoSpace.is) w.signal-is
       | in-Signal w ↦ subst (λ (y : Served). EndsBy y c.match-served.signal) (sym w.in-Signal.is) w.signal-is
     ] in
-    λ A s image p x before r w.
+    λ A s image n.
     advances_ended (is_now c.args.patience) A s c.args.m.now c.serve_by.new.m c.kill.new.m (g.F.Files.holds c.args.files.now) (g.D.SwapDev.image c.args.swap.now)
-    (g.D.SwapDev.image c.serve_by.new.swap) (g.D.SwapDev.image c.kill.new.swap) image c.args.pid p x c.args.address c.args.write before c.in_ok-served.served c.match-served.signal
-    ends c.in_ok-served.ensures.continues r w c.in_ok-served.ensures.served
+    (g.D.SwapDev.image c.serve_by.new.swap) (g.D.SwapDev.image c.kill.new.swap) image c.args.pid n.0 n.1 c.args.address c.args.write n.2 c.in_ok-served.served c.match-served.signal
+    ends c.in_ok-served.ensures.continues n.3 n.4 c.in_ok-served.ensures.served
     (subst (λ h. HasEnded c.serve_by.new.m c.kill.new.m c.args.pid c.match-served.signal h (g.D.SwapDev.image c.serve_by.new.swap) (g.D.SwapDev.image c.kill.new.swap))
     c.serve_by.ensures.outside.files.holds c.in_ok-kill.ensures.ended)
 

@@ -1,11 +1,12 @@
 use Rattle.std.proofs.Common.{◌∙◌, subst, refl, arith, None}
-use Rattle.vm_core.specs.Closing.{StopsClosing, HasTurn, StopsTurn}
 use Rattle.vm_core.proofs.Noting.{stops_on}
 use Rattle.vm_core.proofs.Closings.{closing_starts, closing_on, closing_stops, closing_ends}
 use Rattle.machine_state.proofs.Transfers.{transfers_none, transfers_then}
 use Rattle.run_start.specs.Sizes.{KeptAtStop}
+use Rattle.run_start.specs.Stepped.{LeadsFrom, StopsFrom}
 use Rattle.run_start.proofs.StopsKeep.{kept_through}
 use Rattle.vm_core.proofs.closing.close.Goals as goal
+use Rattle.vm_core.specs.Closing.{DueTurn, TurnHad, LinesAre}
 
 pub loop-pid-init : goal.loop-pid-init
 loop-pid-init g c = record {
@@ -27,10 +28,10 @@ returns-in_err-more-clause-stops g c =
     let h = g.D.SwapDev.image c.loop-pid.swap in
     let j = g.D.SwapDev.image c.turn.new.swap in
     let stop = c.in_err-more.field-0.0 in
-    stops_on c.from_residual.result stop (StopsClosing old c.turn.new.m c.args.counted holds i j) c.from_residual.ensures.1
+    stops_on c.from_residual.result stop (StopsFrom (LinesAre old holds i c.args.counted) old c.turn.new.m j) c.from_residual.ensures.1
     (closing_stops old c.loop-pid.m c.turn.new.m holds i h j c.args.counted c.loop-pid.count c.loop-pid.last c.loop-pid.idle c.in-Some.pid stop c.loop-pid.invariant.closes
     c.in-Some.ensures.some c.in-Some.ensures.below
-    (subst (λ hs. StopsTurn c.loop-pid.m c.turn.new.m c.in-Some.pid c.loop-pid.count hs h j stop) c.loop-pid.invariant.outside.files.holds c.in_err-more.ensures.stops))
+    (subst (λ hs. StopsFrom (DueTurn c.loop-pid.m hs h c.loop-pid.count c.in-Some.pid) c.loop-pid.m c.turn.new.m j stop) c.loop-pid.invariant.outside.files.holds c.in_err-more.ensures.stops))
 
 pub loop-pid-preserved : goal.loop-pid-preserved
 loop-pid-preserved g c =
@@ -43,7 +44,8 @@ loop-pid-preserved g c =
     record {
       closes = closing_on old c.loop-pid.m c.turn.new.m holds i h j c.args.counted c.loop-pid.count c.loop-pid.last c.loop-pid.idle c.in-Some.pid c.in_ok-more.more c.idle_behind-idle.result
           so.closes c.in-Some.ensures.some c.in-Some.ensures.below
-          (subst (λ hs. HasTurn c.loop-pid.m c.turn.new.m c.in-Some.pid c.loop-pid.count c.in_ok-more.more hs h j) so.outside.files.holds c.in_ok-more.ensures.had) c.idle_behind-idle.ensures.kind;
+          (subst (λ hs. LeadsFrom (DueTurn c.loop-pid.m hs h c.loop-pid.count c.in-Some.pid) (TurnHad c.loop-pid.m c.turn.new.m hs j c.in-Some.pid c.in_ok-more.more)) so.outside.files.holds
+          c.in_ok-more.ensures.had) c.idle_behind-idle.ensures.kind;
       steady = c.in_ok-more.ensures.counts.steady;
       params = c.in_ok-more.ensures.counts.params ∙ so.params;
       images = c.in_ok-more.ensures.counts.images ∙ so.images;

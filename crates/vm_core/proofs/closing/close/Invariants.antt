@@ -1,13 +1,15 @@
 use Rattle.std.proofs.Common.{◌≡◌, ◌≤◌, ◌+◌, ◌-◌, ◌*◌, None}
 use Rattle.flat_state.specs.Journal.{instructions_of}
 use Rattle.proc_run.specs.Runs.{IsSteady}
-use Rattle.vm_core.specs.Closing.{ClosesTo}
 use Rattle.machine_state.specs.Outside.{TransfersPages}
+use Rattle.run_start.specs.Stepped.{LeadsFrom}
 use Rattle.vm_core.proofs.closing.close.Given as goal
+use Rattle.vm_core.specs.Closing.{Closing, LinesAre}
 
 abbrev pub invariant-loop-pid : goal.invariant-loop-pid
 invariant-loop-pid g l = record {
-  closes : ClosesTo l.fn.m l.m l.fn.counted l.count l.last l.idle (g.F.Files.holds l.fn.files) (g.D.SwapDev.image l.fn.swap) (g.D.SwapDev.image l.swap);
+  closes : LeadsFrom (LinesAre l.fn.m (g.F.Files.holds l.fn.files) (g.D.SwapDev.image l.fn.swap) l.fn.counted)
+      (Closing l.fn.m l.m (g.F.Files.holds l.fn.files) (g.D.SwapDev.image l.swap) l.count l.last l.idle);
   steady : IsSteady l.m;
   params : l.m.params ≡ l.fn.m.params;
   images : l.m.images ≡ l.fn.m.images;

@@ -1,13 +1,14 @@
 use Rattle.std.proofs.Common.{ℕ}
 use Rattle.vm_facts.specs.declared.entry.Entry.TheVariants as entries
-use Rattle.vm_core.specs.Closing.{StopsComingIn}
 use Rattle.vm_core.proofs.Noting.{stops_on}
 use Rattle.vm_core.proofs.Steadying.{in_steady}
 use Rattle.vm_core.proofs.Outs.{held_in}
 use Rattle.vm_core.proofs.Turns.{in_already, in_comes, in_stops}
 use Rattle.run_start.specs.Sizes.{KeptAtStop}
+use Rattle.run_start.specs.Stepped.{StopsFrom}
 use Rattle.run_start.proofs.StopsKeep.{kept_at}
 use Rattle.vm_core.proofs.closing.come_in.Goals as goal
+use Rattle.vm_core.specs.Closing.{TurnAt}
 
 pub returns-then-not-is_out-clause-comes : goal.returns-then-not-is_out-clause-comes
 returns-then-not-is_out-clause-comes g c =
@@ -33,7 +34,7 @@ returns-in_err-swap_in-clause-stops g c =
     let holds = g.F.Files.holds c.args.files.now in
     let i = g.D.SwapDev.image c.args.swap.now in
     let j = g.D.SwapDev.image c.swap_in.new.swap in
-    stops_on c.from_residual.result c.in_err-swap_in.field-0.0 (λ stop. (counted since : ℕ) → StopsComingIn old new c.args.pid counted since holds i j stop) c.from_residual.ensures.1
+    stops_on c.from_residual.result c.in_err-swap_in.field-0.0 (λ stop. (counted since : ℕ) → StopsFrom (TurnAt old holds i counted since c.args.pid) old new j stop) c.from_residual.ensures.1
     (λ counted since. in_stops old new c.args.pid counted since holds i j c.in_err-swap_in.field-0.0 (c.is_out.ensures.out c.if-not-is_out.false) c.in_err-swap_in.ensures.stopped)
 
 pub returns-in_err-swap_in-clause-kept : goal.returns-in_err-swap_in-clause-kept

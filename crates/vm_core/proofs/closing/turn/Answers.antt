@@ -1,18 +1,19 @@
 use Rattle.std.proofs.Common.{IfOk, IfErr, ◌∙◌, subst, arith}
 use Rattle.proc_run.specs.Running.{CountsTo}
-use Rattle.vm_core.specs.Closing.{HasTurn, StopsTurn, FinishesTurn, StopsFinishing}
 use Rattle.vm_core.proofs.Noting.{stops_on, stops_weaker, ok_two}
 use Rattle.vm_core.proofs.Turns.{has_turn, turn_noting_stops, turn_coming_stops, turn_finish_stops}
 use Rattle.run_start.specs.Sizes.{KeptAtStop}
+use Rattle.run_start.specs.Stepped.{LeadsFrom, StopsFrom}
 use Rattle.run_start.proofs.StopsKeep.{kept_through}
 use Rattle.vm_core.proofs.closing.turn.Goals as goal
+use Rattle.vm_core.specs.Closing.{ResidentTurn, DueTurn, TurnDone, TurnHad}
 
 pub returns-in_err-note-clause-stops : goal.returns-in_err-note-clause-stops
 returns-in_err-note-clause-stops g c =
     let old = c.args.m.now in
     let holds = g.F.Files.holds c.args.files.now in
     let i = g.D.SwapDev.image c.args.swap.now in
-    stops_on c.from_residual.result c.in_err-note.field-0.0 (StopsTurn old c.note.new.m c.args.pid c.args.counted holds i i) c.from_residual.ensures.1
+    stops_on c.from_residual.result c.in_err-note.field-0.0 (StopsFrom (DueTurn old holds i c.args.counted c.args.pid) old c.note.new.m i) c.from_residual.ensures.1
     (turn_noting_stops old c.note.new.m c.args.pid c.args.counted holds i c.in_err-note.field-0.0 c.in_err-note.ensures.stops)
 
 pub returns-in_err-come_in-clause-stops : goal.returns-in_err-come_in-clause-stops
@@ -21,7 +22,7 @@ returns-in_err-come_in-clause-stops g c =
     let holds = g.F.Files.holds c.args.files.now in
     let i = g.D.SwapDev.image c.args.swap.now in
     let j = g.D.SwapDev.image c.come_in.new.swap in
-    stops_on c.from_residual-in_err-come_in.result c.in_err-come_in.field-0.0 (StopsTurn old c.come_in.new.m c.args.pid c.args.counted holds i j) c.from_residual-in_err-come_in.ensures.1
+    stops_on c.from_residual-in_err-come_in.result c.in_err-come_in.field-0.0 (StopsFrom (DueTurn old holds i c.args.counted c.args.pid) old c.come_in.new.m j) c.from_residual-in_err-come_in.ensures.1
     (turn_coming_stops old c.note.new.m c.come_in.new.m c.args.pid c.args.counted holds i j c.in_err-come_in.field-0.0 c.in_ok-note.ensures.steady c.in_ok-note.ensures.step
     (c.in_err-come_in.ensures.stops c.args.counted c.args.counted))
 
@@ -41,11 +42,12 @@ returns-clause-had g c =
     let new = c.finish.new.m in
     let h = g.D.SwapDev.image c.come_in.new.swap in
     let j = g.D.SwapDev.image c.finish.new.swap in
-    ok_two c.finish.result (λ count. FinishesTurn in_ new c.args.pid c.args.counted c.args.counted count holds h j) (λ count. CountsTo in_ new c.args.counted count)
-    (λ count. HasTurn old new c.args.pid c.args.counted count holds i j)
+    ok_two c.finish.result (λ count. LeadsFrom (ResidentTurn in_ holds h c.args.counted c.args.counted c.args.pid) (TurnDone in_ new j c.args.pid count))
+    (λ count. CountsTo in_ new c.args.counted count)
+    (λ count. LeadsFrom (DueTurn old holds i c.args.counted c.args.pid) (TurnHad old new holds j c.args.pid count))
     (λ count f to. has_turn old c.note.new.m in_ new c.args.pid c.args.counted count holds i h j c.in_ok-note.ensures.steady c.in_ok-note.ensures.step
     (c.in_ok-come_in.ensures.comes c.args.counted c.args.counted) f to)
-    (subst (λ hs. IfOk c.finish.result (λ count. FinishesTurn in_ new c.args.pid c.args.counted c.args.counted count hs h j))
+    (subst (λ hs. IfOk c.finish.result (λ count. LeadsFrom (ResidentTurn in_ hs h c.args.counted c.args.counted c.args.pid) (TurnDone in_ new j c.args.pid count)))
     c.in_ok-come_in.ensures.outside.files.holds c.finish.ensures.done) c.finish.ensures.counts
 
 pub returns-clause-stops : goal.returns-clause-stops
@@ -57,10 +59,11 @@ returns-clause-stops g c =
     let new = c.finish.new.m in
     let h = g.D.SwapDev.image c.come_in.new.swap in
     let j = g.D.SwapDev.image c.finish.new.swap in
-    stops_weaker c.finish.result (λ stop. StopsFinishing in_ new c.args.pid c.args.counted c.args.counted holds h j stop) (λ stop. StopsTurn old new c.args.pid c.args.counted holds i j stop)
+    stops_weaker c.finish.result (λ stop. StopsFrom (ResidentTurn in_ holds h c.args.counted c.args.counted c.args.pid) in_ new j stop)
+    (λ stop. StopsFrom (DueTurn old holds i c.args.counted c.args.pid) old new j stop)
     (λ stop f. turn_finish_stops old c.note.new.m in_ new c.args.pid c.args.counted holds i h j stop c.in_ok-note.ensures.steady c.in_ok-note.ensures.step
     (c.in_ok-come_in.ensures.comes c.args.counted c.args.counted) f)
-    (subst (λ hs. IfErr c.finish.result (λ stop. StopsFinishing in_ new c.args.pid c.args.counted c.args.counted hs h j stop))
+    (subst (λ hs. IfErr c.finish.result (λ stop. StopsFrom (ResidentTurn in_ hs h c.args.counted c.args.counted c.args.pid) in_ new j stop))
     c.in_ok-come_in.ensures.outside.files.holds c.finish.ensures.stops)
 
 pub returns-in_err-note-clause-kept : goal.returns-in_err-note-clause-kept

@@ -1,10 +1,11 @@
 use Rattle.vm_facts.specs.declared.event.Event.TheVariants as events
-use Rattle.vm_core.specs.Lines.{StopsLine}
 use Rattle.vm_core.proofs.Noting.{stops_on}
 use Rattle.vm_core.proofs.Asked.{interrupt_makes, interrupt_steady, interrupt_halts}
 use Rattle.run_start.specs.Sizes.{KeptAtStop}
+use Rattle.run_start.specs.Stepped.{StopsFrom}
 use Rattle.vm_core.proofs.Kept.{kept_ending}
 use Rattle.vm_core.proofs.lines.interrupt.Goals as goal
+use Rattle.vm_core.specs.Lines.{LineAt}
 
 pub returns-clause-made : goal.returns-clause-made
 returns-clause-made g c =
@@ -21,7 +22,7 @@ returns-in_err-done-clause-stops g c =
     let holds = g.F.Files.holds c.args.files.now in
     let i = g.D.SwapDev.image c.args.swap.now in
     let j = g.D.SwapDev.image c.done.new.swap in
-    stops_on c.from_residual.result c.in_err-done.field-0.0 (StopsLine events.Interrupt c.args.m.now c.done.new.self holds i j) c.from_residual.ensures.1
+    stops_on c.from_residual.result c.in_err-done.field-0.0 (StopsFrom (LineAt c.args.m.now holds i events.Interrupt) c.args.m.now c.done.new.self j) c.from_residual.ensures.1
     (interrupt_halts c.args.m.now c.done.new.self holds i j c.in_err-done.field-0.0 c.requires.steady.ready.whole c.in_err-done.ensures.stop c.in_err-done.ensures.cause c.in_err-done.ensures.full
     c.in_err-done.ensures.lost c.in_err-done.ensures.spoiled)
 

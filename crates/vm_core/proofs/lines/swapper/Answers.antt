@@ -1,10 +1,11 @@
 use Rattle.vm_facts.specs.declared.event.Event.TheVariants as events
-use Rattle.vm_core.specs.Lines.{StopsLine}
 use Rattle.vm_core.proofs.Noting.{stops_on}
 use Rattle.vm_core.proofs.Asked.{swapper_makes, swapper_steady, swapper_halts}
 use Rattle.run_start.specs.Sizes.{KeptAtStop}
+use Rattle.run_start.specs.Stepped.{StopsFrom}
 use Rattle.vm_core.proofs.Kept.{kept_turning}
 use Rattle.vm_core.proofs.lines.swapper.Goals as goal
+use Rattle.vm_core.specs.Lines.{LineAt}
 
 pub returns-clause-made : goal.returns-clause-made
 returns-clause-made g c =
@@ -21,7 +22,7 @@ returns-in_err-turn-clause-stops g c =
     let holds = g.F.Files.holds c.args.files.now in
     let i = g.D.SwapDev.image c.args.swap.now in
     let j = g.D.SwapDev.image c.turn.new.swap in
-    stops_on c.from_residual.result c.in_err-turn.field-0.0 (StopsLine events.Swapper c.args.m.now c.turn.new.m holds i j) c.from_residual.ensures.1
+    stops_on c.from_residual.result c.in_err-turn.field-0.0 (StopsFrom (LineAt c.args.m.now holds i events.Swapper) c.args.m.now c.turn.new.m j) c.from_residual.ensures.1
     (swapper_halts c.args.m.now c.turn.new.m holds i j c.in_err-turn.field-0.0 c.in_err-turn.ensures.stopped)
 
 pub returns-in_err-turn-clause-kept : goal.returns-in_err-turn-clause-kept

@@ -1,10 +1,11 @@
 use Rattle.std.proofs.Common.{false}
 use Rattle.vm_facts.specs.declared.event.Event.TheVariants as events
-use Rattle.vm_core.specs.Cores.{CarriesOut, StopsCarrying}
-use Rattle.proc_run.specs.Running.{Runs, StopsRunning}
+use Rattle.run_start.specs.Stepped.{LeadsFrom, StopsFrom}
 use Rattle.vm_core.proofs.Noting.{ok_weaker, stops_weaker}
 use Rattle.vm_core.proofs.Dispatching.{dispatch_done, dispatch_stops}
 use Rattle.vm_core.proofs.running.dispatch.Goals as goal
+use Rattle.proc_run.specs.Running.{UnderMark, RunLeads}
+use Rattle.vm_core.specs.Cores.{AskedAt, LineDone}
 
 pub returns-clause-done : goal.returns-clause-done
 returns-clause-done g c =
@@ -16,7 +17,8 @@ returns-clause-done g c =
     let pid = c.args.pid in
     let counted = c.args.counted in
     let until = c.count_behind-until.result in
-    ok_weaker c.run.result (λ count. Runs old new pid false counted until holds i j count) (λ count. CarriesOut old new counted count (events.Dispatch pid c.args.count) holds i j)
+    ok_weaker c.run.result (λ count. LeadsFrom (UnderMark old holds i pid false counted until) (RunLeads old.kernel pid false new.kernel j count))
+    (λ count. LeadsFrom (AskedAt old holds i counted (events.Dispatch pid c.args.count)) (LineDone old new j count))
     (λ count f. dispatch_done old new holds i j pid c.args.count counted until count c.count_behind-until.ensures f) c.run.ensures.runs
 
 pub returns-clause-stops : goal.returns-clause-stops
@@ -29,5 +31,6 @@ returns-clause-stops g c =
     let pid = c.args.pid in
     let counted = c.args.counted in
     let until = c.count_behind-until.result in
-    stops_weaker c.run.result (λ stop. StopsRunning old new pid false counted until holds i j stop) (λ stop. StopsCarrying old new counted (events.Dispatch pid c.args.count) holds i j stop)
+    stops_weaker c.run.result (λ stop. StopsFrom (UnderMark old holds i pid false counted until) old new j stop)
+    (λ stop. StopsFrom (AskedAt old holds i counted (events.Dispatch pid c.args.count)) old new j stop)
     (λ stop f. dispatch_stops old new holds i j pid c.args.count counted until stop c.count_behind-until.ensures f) c.run.ensures.stops

@@ -1,9 +1,10 @@
 use Rattle.std.proofs.Common.{true}
-use Rattle.vm_core.specs.Closing.{FinishesTurn, StopsFinishing}
-use Rattle.proc_run.specs.Running.{Runs, StopsRunning}
+use Rattle.run_start.specs.Stepped.{LeadsFrom, StopsFrom}
 use Rattle.vm_core.proofs.Noting.{ok_weaker, stops_weaker}
 use Rattle.vm_core.proofs.Dispatching.{finish_done, finish_stops}
 use Rattle.vm_core.proofs.running.finish.Goals as goal
+use Rattle.vm_core.specs.Closing.{ResidentTurn, TurnDone}
+use Rattle.proc_run.specs.Running.{UnderMark, RunLeads}
 
 pub returns-clause-done : goal.returns-clause-done
 returns-clause-done g c =
@@ -16,7 +17,8 @@ returns-clause-done g c =
     let counted = c.args.counted in
     let since = c.args.since in
     let until = c.count_behind-until.result in
-    ok_weaker c.run.result (λ count. Runs old new pid true counted until holds i j count) (λ count. FinishesTurn old new pid counted since count holds i j)
+    ok_weaker c.run.result (λ count. LeadsFrom (UnderMark old holds i pid true counted until) (RunLeads old.kernel pid true new.kernel j count))
+    (λ count. LeadsFrom (ResidentTurn old holds i counted since pid) (TurnDone old new j pid count))
     (λ count f. finish_done old new holds i j pid counted since until count c.count_behind-until.ensures f) c.run.ensures.runs
 
 pub returns-clause-stops : goal.returns-clause-stops
@@ -30,5 +32,5 @@ returns-clause-stops g c =
     let counted = c.args.counted in
     let since = c.args.since in
     let until = c.count_behind-until.result in
-    stops_weaker c.run.result (λ stop. StopsRunning old new pid true counted until holds i j stop) (λ stop. StopsFinishing old new pid counted since holds i j stop)
+    stops_weaker c.run.result (λ stop. StopsFrom (UnderMark old holds i pid true counted until) old new j stop) (λ stop. StopsFrom (ResidentTurn old holds i counted since pid) old new j stop)
     (λ stop f. finish_stops old new holds i j pid counted since until stop c.count_behind-until.ensures f) c.run.ensures.stops

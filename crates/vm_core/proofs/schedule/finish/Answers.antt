@@ -1,11 +1,13 @@
 use Rattle.std.proofs.Common.{subst}
-use Rattle.vm_core.specs.Closing.{ClosesRun, StopsClosingRun}
-use Rattle.vm_core.specs.Schedules.{TakesLines, StopsLines, FinishesLines}
 use Rattle.vm_core.proofs.Going.{limit_finishes, closing_finishes, closing_stops}
 use Rattle.vm_core.proofs.Noting.{stops_on, stops_weaker, ok_so}
 use Rattle.run_start.specs.Sizes.{KeptAtStop}
+use Rattle.run_start.specs.Stepped.{LeadsFrom, StopsFrom}
 use Rattle.run_start.proofs.StopsKeep.{kept_through}
 use Rattle.vm_core.proofs.schedule.finish.Goals as goal
+use Rattle.vm_core.specs.Closing.{AllTaken, Closed}
+use Rattle.vm_core.specs.Schedules.{IsBeforeLines, LinesWent, LinesFinished}
+use Rattle.vm_core.specs.Accounts.{StopsAccountedFrom}
 
 pub returns-in-LimitReached-clause-finishes : goal.returns-in-LimitReached-clause-finishes
 returns-in-LimitReached-clause-finishes g c =
@@ -13,7 +15,8 @@ returns-in-LimitReached-clause-finishes g c =
     let i = g.D.SwapDev.image c.args.swap.now in
     let h = g.D.SwapDev.image c.take_lines.new.swap in
     limit_finishes c.args.core.now c.take_lines.new.core c.args.lines.now holds i h
-    (subst (λ went. TakesLines c.args.core.now c.take_lines.new.core went c.args.lines.now holds i h) c.in-LimitReached.is c.in_ok-take_lines.ensures.takes)
+    (subst (λ went. LeadsFrom (IsBeforeLines c.args.core.now c.args.lines.now holds i) (LinesWent c.args.core.now c.take_lines.new.core went (length c.args.lines.now) holds h)) c.in-LimitReached.is
+    c.in_ok-take_lines.ensures.takes)
 
 pub returns-in-Next-clause-finishes : goal.returns-in-Next-clause-finishes
 returns-in-Next-clause-finishes g c =
@@ -21,11 +24,14 @@ returns-in-Next-clause-finishes g c =
     let i = g.D.SwapDev.image c.args.swap.now in
     let h = g.D.SwapDev.image c.take_lines.new.swap in
     let j = g.D.SwapDev.image c.close_run.new.swap in
-    ok_so c.close_run.result (ClosesRun c.take_lines.new.core c.close_run.new.self (g.F.Files.holds c.take_lines.new.files) h j)
-    (FinishesLines c.args.core.now c.close_run.new.self c.args.lines.now holds i j)
+    ok_so c.close_run.result (LeadsFrom (AllTaken c.take_lines.new.core (g.F.Files.holds c.take_lines.new.files) h)
+    (Closed c.take_lines.new.core.machine c.close_run.new.self.machine (g.F.Files.holds c.take_lines.new.files) j c.close_run.new.self.counted))
+    (LeadsFrom (IsBeforeLines c.args.core.now c.args.lines.now holds i) (LinesFinished c.args.core.now c.close_run.new.self j))
     (λ x. closing_finishes c.args.core.now c.take_lines.new.core c.close_run.new.self c.args.lines.now holds i h j
-    (subst (λ went. TakesLines c.args.core.now c.take_lines.new.core went c.args.lines.now holds i h) c.in-Next.is c.in_ok-take_lines.ensures.takes)
-    (subst (λ hs. ClosesRun c.take_lines.new.core c.close_run.new.self hs h j) c.take_lines.ensures.outside.files.holds x))
+    (subst (λ went. LeadsFrom (IsBeforeLines c.args.core.now c.args.lines.now holds i) (LinesWent c.args.core.now c.take_lines.new.core went (length c.args.lines.now) holds h)) c.in-Next.is
+    c.in_ok-take_lines.ensures.takes)
+    (subst (λ hs. LeadsFrom (AllTaken c.take_lines.new.core hs h) (Closed c.take_lines.new.core.machine c.close_run.new.self.machine hs j c.close_run.new.self.counted))
+    c.take_lines.ensures.outside.files.holds x))
     c.close_run.ensures.closes
 
 pub returns-in-Next-clause-stops : goal.returns-in-Next-clause-stops
@@ -34,11 +40,12 @@ returns-in-Next-clause-stops g c =
     let i = g.D.SwapDev.image c.args.swap.now in
     let h = g.D.SwapDev.image c.take_lines.new.swap in
     let j = g.D.SwapDev.image c.close_run.new.swap in
-    stops_weaker c.close_run.result (StopsClosingRun c.take_lines.new.core c.close_run.new.self (g.F.Files.holds c.take_lines.new.files) h j)
-    (StopsLines c.args.core.now c.close_run.new.self c.args.lines.now holds i j)
+    stops_weaker c.close_run.result (StopsAccountedFrom (AllTaken c.take_lines.new.core (g.F.Files.holds c.take_lines.new.files) h) c.take_lines.new.core.machine c.close_run.new.self.machine j)
+    (StopsFrom (IsBeforeLines c.args.core.now c.args.lines.now holds i) c.args.core.now.machine c.close_run.new.self.machine j)
     (λ stop x. closing_stops c.args.core.now c.take_lines.new.core c.close_run.new.self c.args.lines.now holds i h j stop
-    (subst (λ went. TakesLines c.args.core.now c.take_lines.new.core went c.args.lines.now holds i h) c.in-Next.is c.in_ok-take_lines.ensures.takes)
-    (subst (λ hs. StopsClosingRun c.take_lines.new.core c.close_run.new.self hs h j stop) c.take_lines.ensures.outside.files.holds x))
+    (subst (λ went. LeadsFrom (IsBeforeLines c.args.core.now c.args.lines.now holds i) (LinesWent c.args.core.now c.take_lines.new.core went (length c.args.lines.now) holds h)) c.in-Next.is
+    c.in_ok-take_lines.ensures.takes)
+    (subst (λ hs. StopsAccountedFrom (AllTaken c.take_lines.new.core hs h) c.take_lines.new.core.machine c.close_run.new.self.machine j stop) c.take_lines.ensures.outside.files.holds x))
     c.close_run.ensures.stops
 
 pub returns-in_err-take_lines-clause-kept : goal.returns-in_err-take_lines-clause-kept

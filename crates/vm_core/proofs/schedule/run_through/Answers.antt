@@ -1,14 +1,15 @@
 use Rattle.std.proofs.Common.{◌≡◌, Result, Ok, Err, ap, ◌∙◌, subst, arith}
 use Rattle.run_start.specs.declared.starting.Started.{Started}
+use Rattle.run_start.specs.Stepped.{LeadsFrom, StopsFrom}
 use Rattle.vm_facts.specs.declared.stop.Stop.{Stop}
 use Rattle.vm_facts.specs.declared.stop.Stop.TheVariants as stops
-use Rattle.vm_core.specs.Schedules.{StopsLines, FinishesLines}
 use Rattle.run_start.proofs.StopsKeep.{kept_through}
 use Rattle.vm_core.specs.Full.{RunFull, RunStopsAt}
 use Rattle.vm_core.specs.RunEnds.{RunEnds}
 use Rattle.vm_core.specs.declared.schedule.Unfinished.TheVariants.{Stopped}
 use Rattle.vm_core.proofs.Ending.{stopped_so, same_stop, kept_bound, are_among, start_stops, start_full, start_left, lines_stop, lines_full, lines_left, lines_finish, lines_over}
 use Rattle.vm_core.proofs.schedule.run_through.Goals as goal
+use Rattle.vm_core.specs.Schedules.{IsBeforeLines, LinesFinished}
 
 pub start-requires-clause-numbers : goal.start-requires-clause-numbers
 start-requires-clause-numbers g c = are_among c.args.core.now.machine.images c.args.first.now c.requires.numbers
@@ -49,7 +50,7 @@ returns-in_err-finish-in-Ok-clause-ends g c A image is told =
     let j = g.D.SwapDev.image c.finish.new.swap in
     stopped_so c.from_residual-in_err-finish-in-Ok.result stop (λ r. RunEnds A new.machine.kernel.journal image r j) c.from_residual-in_err-finish-in-Ok.ensures.1
     (lines_stop A c.args.core.now c.args.first.now c.args.lines.now holds image c.requires.few is mid i h told (c.start.ensures.starts ok) new stop j
-    (subst (λ hs. StopsLines mid new c.args.lines.now hs h j stop) c.start.ensures.outside.files.holds c.in_err-finish-in-Ok.ensures.stops))
+    (subst (λ hs. StopsFrom (IsBeforeLines mid c.args.lines.now hs h) mid.machine new.machine j stop) c.start.ensures.outside.files.holds c.in_err-finish-in-Ok.ensures.stops))
 
 pub returns-in_err-finish-in-Ok-clause-full : goal.returns-in_err-finish-in-Ok-clause-full
 returns-in_err-finish-in-Ok-clause-full g c A image is told =
@@ -63,7 +64,7 @@ returns-in_err-finish-in-Ok-clause-full g c A image is told =
     let j = g.D.SwapDev.image c.finish.new.swap in
     stopped_so c.from_residual-in_err-finish-in-Ok.result stop (λ r. r ≡ Err (Stopped stops.JournalFull) → RunFull A new.machine image) c.from_residual-in_err-finish-in-Ok.ensures.1
     (λ full. lines_full A c.args.core.now c.args.first.now c.args.lines.now holds image c.requires.few is mid i h told (c.start.ensures.starts ok) new stop j (same_stop stop stops.JournalFull full)
-    (subst (λ hs. StopsLines mid new c.args.lines.now hs h j stop) c.start.ensures.outside.files.holds c.in_err-finish-in-Ok.ensures.stops))
+    (subst (λ hs. StopsFrom (IsBeforeLines mid c.args.lines.now hs h) mid.machine new.machine j stop) c.start.ensures.outside.files.holds c.in_err-finish-in-Ok.ensures.stops))
 
 pub returns-in_ok-finish-in-Ok-clause-ends : goal.returns-in_ok-finish-in-Ok-clause-ends
 returns-in_ok-finish-in-Ok-clause-ends g c A image is told =
@@ -75,7 +76,7 @@ returns-in_ok-finish-in-Ok-clause-ends g c A image is told =
     let h = g.D.SwapDev.image c.start.new.swap in
     let j = g.D.SwapDev.image c.finish.new.swap in
     lines_finish A c.args.core.now c.args.first.now c.args.lines.now holds image c.requires.few is mid i h told (c.start.ensures.starts ok) new j
-    (subst (λ hs. FinishesLines mid new c.args.lines.now hs h j) c.start.ensures.outside.files.holds c.in_ok-finish-in-Ok.ensures.finishes)
+    (subst (λ hs. LeadsFrom (IsBeforeLines mid c.args.lines.now hs h) (LinesFinished mid new j)) c.start.ensures.outside.files.holds c.in_ok-finish-in-Ok.ensures.finishes)
 
 pub returns-in_ok-finish-in-Ok-clause-over : goal.returns-in_ok-finish-in-Ok-clause-over
 returns-in_ok-finish-in-Ok-clause-over g c A image is told =
@@ -87,7 +88,8 @@ returns-in_ok-finish-in-Ok-clause-over g c A image is told =
     let h = g.D.SwapDev.image c.start.new.swap in
     let j = g.D.SwapDev.image c.finish.new.swap in
     lines_over A c.args.core.now c.args.first.now c.args.lines.now holds image c.requires.few is mid i h told (c.start.ensures.starts ok) new j
-    (subst (λ hs. FinishesLines mid new c.args.lines.now hs h j) c.start.ensures.outside.files.holds c.in_ok-finish-in-Ok.ensures.finishes) c.in_ok-finish-in-Ok.ensures.goes_on
+    (subst (λ hs. LeadsFrom (IsBeforeLines mid c.args.lines.now hs h) (LinesFinished mid new j)) c.start.ensures.outside.files.holds c.in_ok-finish-in-Ok.ensures.finishes)
+    c.in_ok-finish-in-Ok.ensures.goes_on
 
 -- Where the machine is left.
 
@@ -113,7 +115,7 @@ returns-in_err-finish-in-Ok-clause-left g c A image is told halt =
     stopped_so c.from_residual-in_err-finish-in-Ok.result stop (λ r. r ≡ Err (Stopped halt) → RunStopsAt A halt new.machine image) c.from_residual-in_err-finish-in-Ok.ensures.1
     (λ same. subst (λ (s : Stop). RunStopsAt A s new.machine image) (same_stop stop halt same)
     (lines_left A c.args.core.now c.args.first.now c.args.lines.now holds image c.requires.few is mid i h told (c.start.ensures.starts ok) new stop j
-    (subst (λ hs. StopsLines mid new c.args.lines.now hs h j stop) c.start.ensures.outside.files.holds c.in_err-finish-in-Ok.ensures.stops)))
+    (subst (λ hs. StopsFrom (IsBeforeLines mid c.args.lines.now hs h) mid.machine new.machine j stop) c.start.ensures.outside.files.holds c.in_err-finish-in-Ok.ensures.stops)))
 
 -- Sizes, images and the journal's bound.
 

@@ -1,14 +1,16 @@
 use Rattle.std.proofs.Common.{◌≡◌, ◌+◌, ℕ, slice_index_or, slice_get, Some, sym, ap, ◌∙◌, subst, refl, arith, None}
 use Rattle.std.proofs.lemmas.Option.{slice_get-get_or}
 use Rattle.vm_facts.specs.declared.event.Event.TheVariants.{Dispatch}
-use Rattle.vm_core.specs.Cores.{TakesLine, StopsTaking}
-use Rattle.vm_core.specs.Schedules.{StopsLines}
 use Rattle.vm_core.proofs.Noting.{stops_on}
 use Rattle.vm_core.proofs.Going.{HasTaken, few_at, none_taken, line_taken, line_stops, limit_taken, goes_below}
 use Rattle.machine_state.proofs.Transfers.{transfers_none, transfers_then}
 use Rattle.run_start.specs.Sizes.{KeptAtStop}
+use Rattle.run_start.specs.Stepped.{LeadsFrom, StopsFrom}
 use Rattle.run_start.proofs.StopsKeep.{kept_through}
 use Rattle.vm_core.proofs.schedule.take_lines.Goals as goal
+use Rattle.vm_core.specs.Cores.{LineDueAt, LineTaken}
+use Rattle.vm_core.specs.Schedules.{IsBeforeLines}
+use Rattle.vm_core.specs.Accounts.{StopsAccountedFrom}
 
 pub loop-e-init : goal.loop-e-init
 loop-e-init g c = record {
@@ -36,10 +38,10 @@ returns-in_err-event-clause-stops g c =
     let e = slice_index_or lines c.loop-e.e-index (Dispatch 0 0) in
     let stop = c.in_err-event.field-0.0 in
     let so = c.loop-e.invariant in
-    stops_on c.from_residual.result stop (StopsLines c.args.core.now c.event.new.self lines holds i j) c.from_residual.ensures.1
+    stops_on c.from_residual.result stop (StopsFrom (IsBeforeLines c.args.core.now lines holds i) c.args.core.now.machine c.event.new.self.machine j) c.from_residual.ensures.1
     (line_stops c.args.core.now c.loop-e.core c.event.new.self c.loop-e.line e lines holds i h j stop so.takes
     (subst (λ (n : ℕ). slice_get lines n ≡ Some e) (sym so.number) (slice_get-get_or lines c.loop-e.e-index (Dispatch 0 0) c.loop-e-test.true)) so.below
-    (subst (λ hs. StopsTaking c.loop-e.core c.event.new.self (c.loop-e.line + 1) e hs h j stop) so.outside.files.holds c.in_err-event.ensures.stops))
+    (subst (λ hs. StopsAccountedFrom (LineDueAt c.loop-e.core (c.loop-e.line + 1) e hs h) c.loop-e.core.machine c.event.new.self.machine j stop) so.outside.files.holds c.in_err-event.ensures.stops))
 
 pub returns-in-LimitReached-clause-takes : goal.returns-in-LimitReached-clause-takes
 returns-in-LimitReached-clause-takes g c =
@@ -53,7 +55,7 @@ returns-in-LimitReached-clause-takes g c =
     limit_taken c.args.core.now c.event.new.self (c.loop-e.line + 1) lines holds i j
     (line_taken c.args.core.now c.loop-e.core c.event.new.self c.loop-e.line e lines holds i h j so.takes
     (subst (λ (n : ℕ). slice_get lines n ≡ Some e) (sym so.number) (slice_get-get_or lines c.loop-e.e-index (Dispatch 0 0) c.loop-e-test.true)) so.below
-    (subst (λ hs. TakesLine c.loop-e.core c.event.new.self (c.loop-e.line + 1) e hs h j) so.outside.files.holds c.in_ok-event.ensures.takes))
+    (subst (λ hs. LeadsFrom (LineDueAt c.loop-e.core (c.loop-e.line + 1) e hs h) (LineTaken c.loop-e.core c.event.new.self hs j)) so.outside.files.holds c.in_ok-event.ensures.takes))
     (c.in_ok-event.ensures.limit.0 c.in-LimitReached.is)
 
 pub loop-e-preserved : goal.loop-e-preserved
@@ -68,7 +70,7 @@ loop-e-preserved g c =
     record {
       takes = line_taken c.args.core.now c.loop-e.core c.event.new.self c.loop-e.line e lines holds i h j so.takes
           (subst (λ (n : ℕ). slice_get lines n ≡ Some e) (sym so.number) (slice_get-get_or lines c.loop-e.e-index (Dispatch 0 0) c.loop-e-test.true)) so.below
-          (subst (λ hs. TakesLine c.loop-e.core c.event.new.self (c.loop-e.line + 1) e hs h j) so.outside.files.holds c.in_ok-event.ensures.takes);
+          (subst (λ hs. LeadsFrom (LineDueAt c.loop-e.core (c.loop-e.line + 1) e hs h) (LineTaken c.loop-e.core c.event.new.self hs j)) so.outside.files.holds c.in_ok-event.ensures.takes);
       goes_on = c.in_ok-event.ensures.goes_on;
       below = goes_below c.in_ok-event.field-0 c.event.new.self.machine.params.limit c.event.new.self.counted c.in-Next.is c.in_ok-event.ensures.limit;
       number = ap (λ (n : ℕ). n + 1) so.number;

@@ -1,7 +1,7 @@
 use Rattle.std.proofs.Common.{◌≡◌, false, sym, ap, ◌∙◌, subst}
 use Rattle.machine_state.specs.Machine.{Standing}
 use Rattle.vm_core.proofs.Noting.{stops_on}
-use Rattle.film_core.specs.Films.{Filming, IsFilming, FilmGoes, FilmStops, one_wider}
+use Rattle.film_core.specs.Films.{Filming, IsFilming, FilmGoes, one_wider, StopsElse, FilmsAt}
 use Rattle.film_core.proofs.Entered.{starved_film, film_stops, film_fits, film_goes, film_machine}
 use Rattle.film_core.proofs.film.Film.go_on.Goals as goal
 
@@ -17,8 +17,9 @@ returns-in_err-self-inside-clause-stops g c =
     let j = g.D.SwapDev.image c.one_entry.new.swap in
     let stop = c.in_err-self-inside.field-0.0 in
     let on : f.over ≡ false = ap (λ (x : Filming). x.over) c.self.view_is ∙ c.requires.more in
-    stops_on c.from_residual.result stop (FilmStops c.args.self.now new c.args.lines.now holds i j) c.from_residual.ensures.1
-    (subst (λ (x : Filming). FilmStops x new c.args.lines.now holds i j stop) c.self.view_is (film_stops f new c.args.lines.now holds i j stop on c.in_err-self-inside.ensures.stops))
+    stops_on c.from_residual.result stop (StopsElse (FilmsAt c.args.self.now c.args.lines.now holds i) c.args.self.now.machine new.machine j) c.from_residual.ensures.1
+    (subst (λ (x : Filming). StopsElse (FilmsAt x c.args.lines.now holds i) x.machine new.machine j stop) c.self.view_is
+    (film_stops f new c.args.lines.now holds i j stop on c.in_err-self-inside.ensures.stops))
 
 pub catch_up-requires-clause-few : goal.catch_up-requires-clause-few
 catch_up-requires-clause-few g c =

@@ -1,10 +1,11 @@
 use Rattle.std.proofs.Common.{subst}
 use Rattle.vm_core.specs.Cores.{Underway}
-use Rattle.vm_core.specs.Closing.{StopsClosingRun}
 use Rattle.vm_core.proofs.Noting.{stops_on}
 use Rattle.vm_core.proofs.Closings.{run_stops}
 use Rattle.run_start.specs.Sizes.{KeptAtStop}
 use Rattle.vm_core.proofs.run.Core.close_run.Goals as goal
+use Rattle.vm_core.specs.Closing.{AllTaken}
+use Rattle.vm_core.specs.Accounts.{StopsAccountedFrom}
 
 pub returns-in_err-self-inside-clause-stops : goal.returns-in_err-self-inside-clause-stops
 returns-in_err-self-inside-clause-stops g c =
@@ -13,8 +14,8 @@ returns-in_err-self-inside-clause-stops g c =
     let holds = g.F.Files.holds c.args.files.now in
     let i = g.D.SwapDev.image c.args.swap.now in
     let j = g.D.SwapDev.image c.close.new.swap in
-    stops_on c.from_residual.result c.in_err-self-inside.field-0.0 (StopsClosingRun c.args.self.now after holds i j) c.from_residual.ensures.1
-    (subst (λ (u : Underway). StopsClosingRun u after holds i j c.in_err-self-inside.field-0.0) c.self.view_is
+    stops_on c.from_residual.result c.in_err-self-inside.field-0.0 (StopsAccountedFrom (AllTaken c.args.self.now holds i) c.args.self.now.machine after.machine j) c.from_residual.ensures.1
+    (subst (λ (u : Underway). StopsAccountedFrom (AllTaken u holds i) u.machine after.machine j c.in_err-self-inside.field-0.0) c.self.view_is
     (run_stops old after holds i j c.in_err-self-inside.field-0.0 c.in_err-self-inside.ensures.stops))
 
 pub returns-in_err-self-inside-clause-kept : goal.returns-in_err-self-inside-clause-kept

@@ -1,8 +1,10 @@
 use Rattle.std.proofs.Common.{sym, subst, arith}
-use Rattle.vm_core.specs.Cores.{Underway, GoesOn, TakesLine, StopsTaking}
+use Rattle.vm_core.specs.Cores.{Underway, GoesOn, LineDueAt, LineTaken}
+use Rattle.vm_core.specs.Accounts.{StopsAccountedFrom}
 use Rattle.vm_core.proofs.Noting.{stops_on}
 use Rattle.vm_core.proofs.Taking.{takes_line, stops_carrying, stops_noted}
 use Rattle.run_start.specs.Sizes.{KeptAtStop}
+use Rattle.run_start.specs.Stepped.{LeadsFrom}
 use Rattle.run_start.proofs.StopsKeep.{kept_through}
 use Rattle.vm_core.proofs.run.Core.event.Goals as goal
 
@@ -12,8 +14,9 @@ returns-in_err-note-clause-stops g c =
     let after : Underway = record { machine = c.note.new.m; counted = c.self.inside.counted } in
     let holds = g.F.Files.holds c.args.files.now in
     let i = g.D.SwapDev.image c.args.swap.now in
-    stops_on c.from_residual.result c.in_err-note.field-0.0 (StopsTaking c.args.self.now after c.args.line c.args.e holds i i) c.from_residual.ensures.1
-    (subst (λ (u : Underway). StopsTaking u after c.args.line c.args.e holds i i c.in_err-note.field-0.0) c.self.view_is
+    stops_on c.from_residual.result c.in_err-note.field-0.0 (StopsAccountedFrom (LineDueAt c.args.self.now c.args.line c.args.e holds i) c.args.self.now.machine after.machine i)
+    c.from_residual.ensures.1
+    (subst (λ (u : Underway). StopsAccountedFrom (LineDueAt u c.args.line c.args.e holds i) u.machine after.machine i c.in_err-note.field-0.0) c.self.view_is
     (stops_noted old after holds i c.args.line c.args.e c.in_err-note.field-0.0 c.in_err-note.ensures.stops))
 
 pub carry_out-requires-clause-counted : goal.carry_out-requires-clause-counted
@@ -28,8 +31,9 @@ returns-in_err-self-inside-clause-stops g c =
     let holds = g.F.Files.holds c.args.files.now in
     let i = g.D.SwapDev.image c.args.swap.now in
     let j = g.D.SwapDev.image c.carry_out.new.swap in
-    stops_on c.from_residual-in_err-self-inside.result c.in_err-self-inside.field-0.0 (StopsTaking c.args.self.now after c.args.line c.args.e holds i j) c.from_residual-in_err-self-inside.ensures.1
-    (subst (λ (u : Underway). StopsTaking u after c.args.line c.args.e holds i j c.in_err-self-inside.field-0.0) c.self.view_is
+    stops_on c.from_residual-in_err-self-inside.result c.in_err-self-inside.field-0.0
+    (StopsAccountedFrom (LineDueAt c.args.self.now c.args.line c.args.e holds i) c.args.self.now.machine after.machine j) c.from_residual-in_err-self-inside.ensures.1
+    (subst (λ (u : Underway). StopsAccountedFrom (LineDueAt u c.args.line c.args.e holds i) u.machine after.machine j c.in_err-self-inside.field-0.0) c.self.view_is
     (stops_carrying old after c.note.new.m holds i j c.args.line c.args.e c.in_err-self-inside.field-0.0 c.in_ok-note.ensures.steady c.in_ok-note.ensures.step
     c.in_err-self-inside.ensures.stops))
 
@@ -40,7 +44,7 @@ returns-then-is_over-clause-takes g c =
     let holds = g.F.Files.holds c.args.files.now in
     let i = g.D.SwapDev.image c.args.swap.now in
     let j = g.D.SwapDev.image c.carry_out.new.swap in
-    subst (λ (u : Underway). TakesLine u after c.args.line c.args.e holds i j) c.self.view_is
+    subst (λ (u : Underway). LeadsFrom (LineDueAt u c.args.line c.args.e holds i) (LineTaken u after holds j)) c.self.view_is
     (takes_line old c.note.new.m c.carry_out.new.m holds i j c.args.line c.in_ok-self-inside.field-0 c.args.e c.in_ok-note.ensures.steady c.in_ok-note.ensures.step
     c.in_ok-self-inside.ensures.done c.in_ok-self-inside.ensures.counts)
 
@@ -51,7 +55,7 @@ returns-else-is_over-clause-takes g c =
     let holds = g.F.Files.holds c.args.files.now in
     let i = g.D.SwapDev.image c.args.swap.now in
     let j = g.D.SwapDev.image c.carry_out.new.swap in
-    subst (λ (u : Underway). TakesLine u after c.args.line c.args.e holds i j) c.self.view_is
+    subst (λ (u : Underway). LeadsFrom (LineDueAt u c.args.line c.args.e holds i) (LineTaken u after holds j)) c.self.view_is
     (takes_line old c.note.new.m c.carry_out.new.m holds i j c.args.line c.in_ok-self-inside.field-0 c.args.e c.in_ok-note.ensures.steady c.in_ok-note.ensures.step
     c.in_ok-self-inside.ensures.done c.in_ok-self-inside.ensures.counts)
 
