@@ -172,8 +172,8 @@ reply_stops stop fits m asked new pid image after top holds i j e f w room s cau
     inl (inl (inr (
       sym f.answer ∙ e,
       inr (record {
-        between = l.between;
-        left = l.left;
+        reached = l.between;
+        far = l.left;
         stops = stops_before {A = Called} l.between new stop (r.before ∙ w ∙ sym r.kernel.holdings)
             (stopped_found l.between asked new l.found l.step (subst (λ (x : Standing). length x.kernel.journal < x.params.journal) l.step room) s) cause
             (λ h. subst (λ (x : Standing). x.params.journal ≤ length x.kernel.journal) l.step (full h));
@@ -186,10 +186,9 @@ pub fill_stops : (stop : Stop) (fits : Bool) (m asked between new : Standing) (p
     → Answered asked between pid Execve after (Exec image top) → StopsStart page between new later told j stop
     → StopsImage m new pid after image top holds i j stop
 fill_stops stop fits m asked between new pid image after top page holds later i told j same e is f a s =
-    inr (record {
-      between = between;
-      told = told;
-      started = record { asked = asked; finds = found_of fits true m asked pid image holds i told e f; answer = a };
+    inr (told, record {
+      reached = between;
+      far = record { asked = asked; finds = found_of fits true m asked pid image holds i told e f; answer = a };
       stops = subst (λ (q : Page). StopsStart q between new holds told j stop) is (subst (λ (h : Option (List NamedFile)). StopsStart page between new h told j stop) same s);
     })
 

@@ -61,4 +61,4 @@ filled_by (Ok x) page old roomy new holds later i j e f keeps step rest flat sto
   keeps = keeps_both old roomy new holds later i j j f.makes.beside.images (made_shaped (ground old holds []) f.units old.kernel roomy.kernel i j f.makes.made) e keeps
       (keeps_flat roomy new later j flat);
 }
-filled_by (Err stop) page old roomy new holds later i j e f keeps step rest flat stops stopped = inr (roomy, f, stops, stopped.params, stopped.images)
+filled_by (Err stop) page old roomy new holds later i j e f keeps step rest flat stops stopped = inr (record { reached = roomy; far = f; stops = (stops, stopped.params, stopped.images) })

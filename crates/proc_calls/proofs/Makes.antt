@@ -45,7 +45,7 @@ use Rattle.vfork_pass.specs.Passed.{IsHolder, HasLent}
 use Rattle.proc_calls.specs.Callers.{proc_in, IsCaller}
 use Rattle.proc_calls.specs.declared.replying.Called.{Called}
 use Rattle.proc_calls.specs.Answered.{Answered, Replied}
-use Rattle.proc_calls.specs.Making.{is_below_limit, finds_pieces, with_pieces, without_pieces, HasChild, MakesChildBy, MakesChild, HasLentSpace, Vforked, StopsMakingBy}
+use Rattle.proc_calls.specs.Making.{is_below_limit, finds_pieces, with_pieces, without_pieces, HasChild, MakesChildBy, MakesChild, HasLentSpace, Vforked, StopsMaking}
 use Rattle.proc_calls.proofs.Callers.{caller_lives, sound_now}
 use Rattle.proc_calls.proofs.Crowded.{crowd}
 use Rattle.proc_calls.proofs.Stopping.{stops_before}
@@ -240,17 +240,13 @@ pub stops_refused : (r : Result Called Stop) (old between new : Standing) (pid c
     → OnErr r (HasStopped between new)
     → OnErr r ((r ≡ Err stops.JournalFull) ⊎ (r ≡ Err stops.NoMemory))
     → ((r ≡ Err stops.JournalFull) ↔ (between.params.journal ≤ length between.kernel.journal))
-    → StopsMakingBy old new pid (change old.kernel.next_pid) r
+    → IfErr r (StopsMaking old new pid (change old.kernel.next_pid))
 stops_refused (Ok called) old between new pid child change is named few none whole stopped cause full = tt
 stops_refused (Err stop) old between new pid child change is named few none whole stopped cause full =
-    let b = stops_before {A = Called} between new stop whole stopped cause full.0 in
     record {
-      between = between;
-      reached = inr (record { below = few; none = subst (λ (n : ℕ). finds_pieces old pid (change n) ≡ false) named none; refused = is });
-      stopped = stopped;
-      whole = whole;
-      cause = b.cause;
-      full = b.full;
+      reached = between;
+      far = inr (record { below = few; none = subst (λ (n : ℕ). finds_pieces old pid (change n) ≡ false) named none; refused = is });
+      stops = stops_before {A = Called} between new stop whole stopped cause full.0;
     }
 
 pub lent_ok : (old between new : Standing) (pid child : ℕ) (regs : Regs) → child ≡ old.kernel.next_pid → is_below_limit old.kernel ≡ true

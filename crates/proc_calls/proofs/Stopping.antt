@@ -13,13 +13,13 @@ use Rattle.machine_state.specs.Machine.{Standing}
 use Rattle.machine_state.specs.Conditions.{HasStopped}
 use Rattle.machine_state.specs.Settled.{StopsSettling}
 use Rattle.machine_state.proofs.Asked.{stopped_found}
-use Rattle.proc_calls.specs.Answered.{StopsEntering, StopsBefore}
+use Rattle.proc_calls.specs.Answered.{StopsBefore}
 use Rattle.proc_calls.specs.Callers.{space_held}
 use Rattle.proc_calls.specs.Leaving.{HasSettled, HasLeftBy, HasLeft, StopsLeaving, StopsAlive}
 use Rattle.proc_calls.specs.Making.{with_pieces}
 use Rattle.proc_calls.specs.Starting.{StopsFinding}
 use Rattle.proc_calls.specs.Writing.{StopsOut}
-use Rattle.proc_calls.specs.Sizing.{process_data_pages, StopsPlain, StopsCutting}
+use Rattle.proc_calls.specs.Sizing.{process_data_pages, StopsPlain, StopsBreaking}
 
 same_stop : {A : Type 0} (s t : Stop) → (let r : Result A Stop = Err s in r) ≡ Err t → s ≡ t
 same_stop s t e = cc
@@ -38,32 +38,26 @@ stops_before {A} old new stop w s c f = record {
   full = λ e. f (ap (λ (t : Stop). let r : Result A Stop = Err t in r) e);
 }
 
-pub whole_stops : (m new : Standing) (stop : Stop) → m.before ≡ m.kernel.holdings → StopsEntering m new stop → StopsBefore m new stop
-whole_stops m new stop w s = record { stopped = s.stopped; whole = w; cause = s.cause; full = s.full }
-
 -- before the entry that takes the pieces
-pub found_stops : (m asked new : Standing) (hs : Holdings) (stop : Stop) → asked ≡ with_pieces m hs → m.before ≡ m.kernel.holdings
-    → length m.kernel.journal < m.params.journal → StopsEntering asked new stop
-    → StopsBefore m new stop
-found_stops m asked new hs stop e w room s =
-    let t : StopsEntering (with_pieces m hs) new stop = subst (λ (x : Standing). StopsEntering x new stop) e s in
-    record { stopped = stopped_found m asked new hs e room s.stopped; whole = w; cause = t.cause; full = t.full }
-
 pub grown_stops : {A : Type 0} (r : Result A Stop) (m asked new : Standing) (pid pages : ℕ) (hs : Holdings) → asked ≡ with_pieces m hs
-    → m.before ≡ m.kernel.holdings → length m.kernel.journal < m.params.journal
-    → IfErr r (StopsEntering asked new) → IfErr r (StopsPlain m new pid pages)
-grown_stops (Ok x) m asked new pid pages hs e w room s = tt
-grown_stops (Err stop) m asked new pid pages hs e w room s = inl (found_stops m asked new hs stop e w room s)
+    → m.before ≡ m.kernel.holdings → length m.kernel.journal < m.params.journal → OnErr r (HasStopped asked new)
+    → OnErr r ((r ≡ Err stops.JournalFull) ⊎ (r ≡ Err stops.NoMemory))
+    → (r ≡ Err stops.JournalFull → asked.params.journal ≤ length asked.kernel.journal)
+    → IfErr r (StopsPlain m new pid pages)
+grown_stops (Ok x) m asked new pid pages hs e w room s c f = tt
+grown_stops {A} (Err stop) m asked new pid pages hs e w room s c f =
+    inl (stops_before {A = A} m new stop w (stopped_found m asked new hs e room s) c
+    (λ h. subst (λ (x : Standing). x.params.journal ≤ length x.kernel.journal) e (f h)))
 
 pub cut_stops : {A : Type 0} (r : Result A Stop) (m b new : Standing) (pid pages : ℕ) (holds : Option (List NamedFile)) (i j : Option (List ℕ))
     → pages < process_data_pages m.kernel pid
-    → HasSettled m b (space_held m.kernel pid) holds i j → b.before ≡ b.kernel.holdings → IfErr r (StopsEntering b new)
-    → IfErr r (StopsCutting m new pid pages holds i j)
-cut_stops (Ok x) m b new pid pages holds i j l h w s = tt
-cut_stops (Err stop) m b new pid pages holds i j l h w s = record {
-  fewer = l;
-  stops = inr (record { between = b; settled = h; stops = whole_stops b new stop w s });
-}
+    → HasSettled m b (space_held m.kernel pid) holds i j → b.before ≡ b.kernel.holdings → OnErr r (HasStopped b new)
+    → OnErr r ((r ≡ Err stops.JournalFull) ⊎ (r ≡ Err stops.NoMemory))
+    → (r ≡ Err stops.JournalFull → b.params.journal ≤ length b.kernel.journal)
+    → IfErr r (StopsBreaking m new pid pages holds i j)
+cut_stops (Ok x) m b new pid pages holds i j l h w s c f = tt
+cut_stops {A} (Err stop) m b new pid pages holds i j l h w s c f =
+    inr (l, inr (record { reached = b; far = h; stops = stops_before {A = A} b new stop w s c f }))
 
 -- a call that stops once the process has left its space
 pub once_left : {A : Type 0} (r : Result A Stop) (m b new : Standing) (pid : ℕ) (holds : Option (List NamedFile)) (i j : Option (List ℕ))
@@ -72,7 +66,7 @@ pub once_left : {A : Type 0} (r : Result A Stop) (m b new : Standing) (pid : ℕ
     → (r ≡ Err stops.JournalFull → b.params.journal ≤ length b.kernel.journal)
     → IfErr r (StopsAlive m new pid holds i j)
 once_left (Ok x) m b new pid holds i j w left s c f = tt
-once_left {A} (Err stop) m b new pid holds i j w left s c f = inr (record { between = b; left = left; stops = stops_before {A = A} b new stop w s c f })
+once_left {A} (Err stop) m b new pid holds i j w left s c f = inr (record { reached = b; far = left; stops = stops_before {A = A} b new stop w s c f })
 
 -- Where a process leaves its space.
 
@@ -81,7 +75,7 @@ pub own_stops : {A : Type 0} (r : Result A Stop) (m new : Standing) (pid sid : �
     → has_lender m.kernel.processes pid ≡ false
     → sid ≡ space_held m.kernel pid → IfErr r (StopsSettling sid m new holds i j) → IfErr r (StopsLeaving m new pid holds i j)
 own_stops (Ok x) m new pid sid holds i j e held s = tt
-own_stops (Err stop) m new pid sid holds i j e held s = inl (record { own = e; settling = subst (λ (n : ℕ). StopsSettling n m new holds i j stop) held s })
+own_stops (Err stop) m new pid sid holds i j e held s = inl (e, subst (λ (n : ℕ). StopsSettling n m new holds i j stop) held s)
 
 -- a space that it borrowed goes back
 pub lent_left : (m b new : Standing) (pid : ℕ) (holds : Option (List NamedFile)) (i : Option (List ℕ)) → has_lender m.kernel.processes pid ≡ true → b ≡ m
@@ -100,7 +94,7 @@ pub lent_stops : (stop : Stop) (m new : Standing) (pid : ℕ) (holds : Option (L
     → (let r : Result (Unit {0}) Stop = Err stop in (r ≡ Err stops.JournalFull) ⊎ (r ≡ Err stops.NoMemory))
     → (let r : Result (Unit {0}) Stop = Err stop in r ≡ Err stops.JournalFull → m.params.journal ≤ length m.kernel.journal)
     → StopsLeaving m new pid holds i i stop
-lent_stops stop m new pid holds i e w s c f = inr (record { lent = e; stops = stops_before {A = Unit {0}} m new stop w s c f; image = refl })
+lent_stops stop m new pid holds i e w s c f = inr (e, stops_before {A = Unit {0}} m new stop w s c f, refl)
 
 -- Where memory is wanted before anything is done.
 
@@ -117,9 +111,7 @@ starved_before m new stop e w c = record {
 
 pub out_starved : (m new : Standing) (pid : ℕ) (read : Result Reply Refused) (stop : Stop) → new ≡ m → m.before ≡ m.kernel.holdings → stop ≡ stops.NoMemory
     → StopsOut m new pid read stop
-out_starved m new pid (Ok reply) stop e w c =
-    let b : StopsBefore m new stop = starved_before m new stop e w c in
-    record { between = m; reached = inl refl; stopped = b.stopped; whole = w; cause = b.cause; full = b.full }
+out_starved m new pid (Ok reply) stop e w c = record { reached = m; far = inl refl; stops = starved_before m new stop e w c }
 out_starved m new pid (Err (Miss address write)) stop e w c = (starved m new e, c, w)
 out_starved m new pid (Err (Below address)) stop e w c = starved_before m new stop e w c
 out_starved m new pid (Err (Signal number)) stop e w c = starved_before m new stop e w c

@@ -63,12 +63,11 @@ Comes old new pid call regs (Err (Miss address write)) called = (called ≡ call
 Comes old new pid call regs (Err (Below address)) called = Replied old new pid call regs (Fails fault) called
 Comes old new pid call regs (Err (Signal number)) called = Replied old new pid call regs (Fails fault) called
 
--- The run stops before an entry, whatever pieces wait for it: for want of memory, or since the journal is full, which it is
--- only at its bound.
-pub record StopsEntering (old new : Standing) (stop : Stop) : Type 0 where
-  pub stopped : HasStopped old new
-  pub cause : (stop ≡ stops.JournalFull) ⊎ (stop ≡ stops.NoMemory)
-  pub full : stop ≡ stops.JournalFull → old.params.journal ≤ length old.kernel.journal
+-- A call stopped on its way: it had come so far, to a machine, and there it stopped so.
+pub record StopsOnce (Far There : Standing → Type 0) : Type 0 where
+  pub reached : Standing
+  pub far : Far reached
+  pub stops : There reached
 
 -- The run stops before an entry: for want of memory, or since the journal is full, which it is only at its bound. No pieces
 -- wait where it stops, but those that the entry itself takes.

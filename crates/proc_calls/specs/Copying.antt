@@ -11,10 +11,11 @@ use Rattle.kernel_model.specs.Kernel.{copy_step}
 use Rattle.machine_state.specs.Machine.{Standing}
 use Rattle.machine_state.specs.Done.{KeepsThrough}
 use Rattle.fault_fill.specs.LastMoves.{last_moves}
-use Rattle.fault_fill.specs.Stops.{StopsAt}
-use Rattle.fault_fill.specs.Forced.{Forced, StopsForcing}
+use Rattle.fault_fill.specs.Forced.{Forced}
 use Rattle.fault_fill.specs.Serving.{StopsServing}
 use Rattle.fault_fill.specs.Answers.{ServesNow}
+use Rattle.proc_calls.specs.Answered.{StopsOnce}
+use Rattle.proc_calls.specs.Filling.{StopsFilling}
 
 -- the page of this name in another space
 abbrev pub in_space : ℕ → Page → Page
@@ -44,20 +45,12 @@ pub record CopiesPage (child parent : Page) (old new : Standing) (holds : Option
   pub copies : new ≡ record roomy { kernel = copy_step roomy.kernel child; room = None }
   pub keeps : KeepsThrough old new holds before after
 
--- the run stops once the parent's page was served, as a frame is forced, or at the copy
-pub record StopsBehind (child parent : Page) (old new : Standing) (holds : Option (List NamedFile)) (before after : Option (List ℕ))
-    (stop : Stop) : Type 0 where
-  pub served : Standing
-  pub behind : Option (List ℕ)
-  pub serves : ServesNow (parent ∷ []) parent old served holds before behind
-  pub stops : StopsForcing (parent ∷ []) served stop new holds behind after
-      ⊎ ((roomy : Standing) × Forced (parent ∷ []) served roomy holds behind after × StopsAt (Copy child) roomy.kernel after stop new after
-      × (new.params ≡ roomy.params) × (new.images ≡ roomy.images))
-
--- or before
+-- The run stops as the parent's page is served, or once it was, as the child's page takes a frame.
 abbrev pub StopsPage : Page → Page → Standing → Standing → Option (List NamedFile) → Option (List ℕ) → Option (List ℕ) → Stop → Type 0
 StopsPage child parent old new holds before after stop =
-    StopsServing true (parent ∷ []) parent old new holds before after stop ⊎ StopsBehind child parent old new holds before after stop
+    StopsServing true (parent ∷ []) parent old new holds before after stop
+    ⊎ ((told : Option (List ℕ))
+    × StopsOnce (λ m. ServesNow (parent ∷ []) parent old m holds before told) (λ m. StopsFilling (Copy child) (parent ∷ []) m new holds told after stop))
 
 -- once a page is copied it isn't due, and there are as many frames as before
 pub record GoesOn (child : Page) (old new : Standing) : Type 0 where
@@ -88,5 +81,4 @@ StopsCopying [] old new holds before after stop = ⊥
 StopsCopying (Start q ∷ ds) old new holds before after stop = ⊥
 StopsCopying (CopyOf child parent ∷ ds) old new holds before after stop =
     StopsPage child parent old new holds before after stop
-    ⊎ ((next : Standing) × (between : Option (List ℕ)) × CopiesPage child parent old next holds before between
-    × StopsCopying ds next new holds between after stop)
+    ⊎ ((told : Option (List ℕ)) × StopsOnce (λ m. CopiesPage child parent old m holds before told) (λ m. StopsCopying ds m new holds told after stop))

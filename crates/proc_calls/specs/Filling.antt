@@ -1,6 +1,7 @@
 -- A new stack page that is due is filled.
 use Rattle.std.specs.Prelude.{◌≡◌, ◌⊎◌, ℕ, List, [], ◌∷◌, Option, None}
 use Rattle.vm_facts.specs.declared.page.Page.{Page}
+use Rattle.vm_facts.specs.declared.entry.Entry.{Entry}
 use Rattle.vm_facts.specs.declared.entry.Entry.TheVariants.{Zero}
 use Rattle.vm_facts.specs.declared.stop.Stop.{Stop}
 use Rattle.io_edge.specs.FileHolding.{NamedFile}
@@ -10,6 +11,7 @@ use Rattle.machine_state.specs.Machine.{Standing}
 use Rattle.machine_state.specs.Done.{KeepsThrough}
 use Rattle.fault_fill.specs.Stops.{StopsAt}
 use Rattle.fault_fill.specs.Forced.{Forced, StopsForcing}
+use Rattle.proc_calls.specs.Answered.{StopsOnce}
 
 -- a new stack page is due first
 pub record IsStartFirst (p : Placement) (page : Page) : Type 0 where
@@ -24,9 +26,14 @@ pub record FillsStart (page : Page) (old new : Standing) (holds : Option (List N
   pub fills : new ≡ record roomy { kernel = zero_step roomy.kernel page; room = None }
   pub keeps : KeepsThrough old new holds before after
 
--- the run stops as a frame is forced, or at the fill, with the sizes and images of before
+-- The run stops as a frame is forced by hands that pass over these pages, or once it was, at the entry of the page that takes it,
+-- with the sizes and images of before.
+abbrev pub StopsFilling : Entry → List Page → Standing → Standing → Option (List NamedFile) → Option (List ℕ) → Option (List ℕ) → Stop → Type 0
+StopsFilling e locked old new holds before after stop =
+    StopsForcing locked old stop new holds before after
+    ⊎ StopsOnce (λ m. Forced locked old m holds before after)
+        (λ m. StopsAt e m.kernel after stop new after × (new.params ≡ m.params) × (new.images ≡ m.images))
+
+-- it stops so as the new stack page is filled
 abbrev pub StopsStart : Page → Standing → Standing → Option (List NamedFile) → Option (List ℕ) → Option (List ℕ) → Stop → Type 0
-StopsStart page old new holds before after stop =
-    StopsForcing [] old stop new holds before after
-    ⊎ ((roomy : Standing) × Forced [] old roomy holds before after × StopsAt (Zero page) roomy.kernel after stop new after
-    × (new.params ≡ roomy.params) × (new.images ≡ roomy.images))
+StopsStart page old new holds before after stop = StopsFilling (Zero page) [] old new holds before after stop

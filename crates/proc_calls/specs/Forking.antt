@@ -10,6 +10,7 @@ use Rattle.page_model.specs.Place.{data_count, stack_count, fork_space}
 use Rattle.kernel_model.specs.Kernel.{Kernel}
 use Rattle.machine_state.specs.Want.{Want}
 use Rattle.machine_state.specs.Machine.{Standing}
+use Rattle.proc_calls.specs.Answered.{StopsOnce}
 use Rattle.proc_calls.specs.Callers.{space_held}
 use Rattle.proc_calls.specs.Copying.{AreCopiesFrom, CopiesAll, StopsCopying}
 use Rattle.proc_calls.specs.Making.{HasChild, MakesChild, StopsMaking}
@@ -38,15 +39,8 @@ pub record Forked (old new : Standing) (pid : ℕ) (regs : Regs) (holds : Option
   pub answer : ForkAnswered old between pid regs
   pub copies : CopiesAll between.kernel.place.due between new holds before after
 
--- the call answers, and the run stops as a page is copied
-pub record StopsBehindFork (old new : Standing) (pid : ℕ) (regs : Regs) (holds : Option (List NamedFile)) (before after : Option (List ℕ))
-    (stop : Stop) : Type 0 where
-  pub between : Standing
-  pub answer : ForkAnswered old between pid regs
-  pub stops : StopsCopying between.kernel.place.due between new holds before after stop
-
--- or it stops where the call would answer, before any device is called
+-- The run stops where the call would answer, before any device is called, or once it has answered, as a page is copied.
 abbrev pub StopsForking : Standing → Standing → ℕ → Regs → Option (List NamedFile) → Option (List ℕ) → Option (List ℕ) → Stop → Type 0
 StopsForking old new pid regs holds before after stop =
     (StopsMaking old new pid (changes.Fork old.kernel.next_pid) stop × (after ≡ before))
-    ⊎ StopsBehindFork old new pid regs holds before after stop
+    ⊎ StopsOnce (λ m. ForkAnswered old m pid regs) (λ m. StopsCopying m.kernel.place.due m new holds before after stop)

@@ -15,7 +15,7 @@ use Rattle.machine_state.specs.Machine.{Standing}
 use Rattle.machine_state.specs.Settled.{SettledBy, IsSameBeside, StopsSettling}
 use Rattle.machine_state.specs.Done.{sources, KeepsThrough}
 use Rattle.proc_calls.specs.Callers.{space_held, regs_of}
-use Rattle.proc_calls.specs.Answered.{Entered, Comes, StopsBefore, StopsReading}
+use Rattle.proc_calls.specs.Answered.{Entered, Comes, StopsOnce, StopsBefore, StopsReading}
 use Rattle.proc_calls.specs.declared.replying.Called.{Called}
 use Rattle.proc_calls.specs.declared.replying.Called.TheVariants as calls
 
@@ -60,31 +60,19 @@ ExitComes old new pid regs (Err refused) holds before after called = Comes old n
 
 -- Where the run stops.
 
--- as a space of its own settles
-pub record StopsOwn (old new : Standing) (pid : ℕ) (holds : Option (List NamedFile)) (before after : Option (List ℕ)) (stop : Stop) : Type 0 where
-  pub own : has_lender old.kernel.processes pid ≡ false
-  pub settling : StopsSettling (space_held old.kernel pid) old new holds before after stop
-
--- before a space that was lent goes back, which it does only where there is room for the entry that follows
-pub record StopsLent (old new : Standing) (pid : ℕ) (before after : Option (List ℕ)) (stop : Stop) : Type 0 where
-  pub lent : has_lender old.kernel.processes pid ≡ true
-  pub stops : StopsBefore old new stop
-  pub image : after ≡ before
-
--- a process stops so as it leaves its space
+-- A process stops as a space of its own settles, or before a space that was lent goes back, which it does only where there is room
+-- for the entry that follows.
 abbrev pub StopsLeaving : Standing → Standing → ℕ → Option (List NamedFile) → Option (List ℕ) → Option (List ℕ) → Stop → Type 0
-StopsLeaving old new pid holds before after stop = StopsOwn old new pid holds before after stop ⊎ StopsLent old new pid before after stop
+StopsLeaving old new pid holds before after stop =
+    ((has_lender old.kernel.processes pid ≡ false) × StopsSettling (space_held old.kernel pid) old new holds before after stop)
+    ⊎ ((has_lender old.kernel.processes pid ≡ true) × StopsBefore old new stop × (after ≡ before))
 
--- once the process left its space, before the entry that follows, with the swap image as it was there; after a space that went
--- back the journal isn't full
-pub record StopsOnceLeft (old new : Standing) (pid : ℕ) (holds : Option (List NamedFile)) (before after : Option (List ℕ)) (stop : Stop) : Type 0 where
-  pub between : Standing
-  pub left : HasLeft old between pid holds before after
-  pub stops : StopsBefore between new stop
-
--- a run stops before a process has ended or has its image: as the process leaves its space, or after that
+-- A run stops before a process has ended or has its image: as the process leaves its space, or once it has, before the entry that
+-- follows, with the swap image as it was there; after a space that went back the journal isn't full.
 abbrev pub StopsAlive : Standing → Standing → ℕ → Option (List NamedFile) → Option (List ℕ) → Option (List ℕ) → Stop → Type 0
-StopsAlive old new pid holds before after stop = StopsLeaving old new pid holds before after stop ⊎ StopsOnceLeft old new pid holds before after stop
+StopsAlive old new pid holds before after stop =
+    StopsLeaving old new pid holds before after stop
+    ⊎ StopsOnce (λ m. HasLeft old m pid holds before after) (λ m. StopsBefore m new stop)
 
 -- an exit stops so, or where its argument is refused
 abbrev pub StopsExit : Standing → Standing → ℕ → Result Reply Refused → Option (List NamedFile) → Option (List ℕ) → Option (List ℕ) → Stop → Type 0

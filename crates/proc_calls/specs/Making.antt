@@ -3,7 +3,6 @@ use Rattle.std.specs.Prelude.{◌≡◌, ◌⊎◌, ℕ, ◌≤◌, nat_lt, Bool
 use Rattle.vm_facts.specs.declared.regs.Regs.{Regs}
 use Rattle.vm_facts.specs.declared.entry.Entry.TheVariants.{Refused}
 use Rattle.vm_facts.specs.declared.stop.Stop.{Stop}
-use Rattle.vm_facts.specs.declared.stop.Stop.TheVariants as stops
 use Rattle.swap_book.specs.Holdings.{Holdings}
 use Rattle.swap_book.specs.Placing.{place_all}
 use Rattle.flat_state.specs.declared.change.Change.{Change}
@@ -16,10 +15,9 @@ use Rattle.kernel_model.specs.ChangeStep.{pass_step}
 use Rattle.kernel_model.specs.Asks.{asked}
 use Rattle.machine_state.specs.Machine.{Standing}
 use Rattle.machine_state.specs.Applying.{facts_named}
-use Rattle.machine_state.specs.Conditions.{HasStopped, KeepsFlat}
+use Rattle.machine_state.specs.Conditions.{KeepsFlat}
 use Rattle.vfork_pass.specs.Passed.{HasLent}
-use Rattle.proc_calls.specs.declared.replying.Called.{Called}
-use Rattle.proc_calls.specs.Answered.{Answered}
+use Rattle.proc_calls.specs.Answered.{Answered, StopsOnce, StopsBefore}
 
 -- there are fewer processes than may be, as `child_reply` of flat_model asks of a flat state
 abbrev pub is_below_limit : Kernel → Bool
@@ -75,16 +73,6 @@ pub record FindsNone (old between : Standing) (pid : ℕ) (change : Change) : Ty
   pub none : finds_pieces old pid change ≡ false
   pub refused : between ≡ without_pieces old pid
 
--- The run stops as it was, or after that entry. The journal was full only where it was at its bound there.
-pub record StopsMaking (old new : Standing) (pid : ℕ) (change : Change) (stop : Stop) : Type 0 where
-  pub between : Standing
-  pub reached : (between ≡ old) ⊎ FindsNone old between pid change
-  pub stopped : HasStopped between new
-  pub whole : between.before ≡ between.kernel.holdings
-  pub cause : (stop ≡ stops.JournalFull) ⊎ (stop ≡ stops.NoMemory)
-  pub full : stop ≡ stops.JournalFull → between.params.journal ≤ length between.kernel.journal
-
--- where the code answers with a stop, the run stopped so
-abbrev pub StopsMakingBy : Standing → Standing → ℕ → Change → Result Called Stop → Type 0
-StopsMakingBy old new pid change (Ok called) = Unit {0}
-StopsMakingBy old new pid change (Err stop) = StopsMaking old new pid change stop
+-- the run stops as it was, or after that entry
+abbrev pub StopsMaking : Standing → Standing → ℕ → Change → Stop → Type 0
+StopsMaking old new pid change stop = StopsOnce (λ m. (m ≡ old) ⊎ FindsNone old m pid change) (λ m. StopsBefore m new stop)

@@ -22,7 +22,7 @@ use Rattle.machine_state.specs.Applying.{facts_named}
 use Rattle.machine_state.specs.Settled.{StopsSettling}
 use Rattle.machine_state.specs.UserMemory.{text_len}
 use Rattle.proc_calls.specs.Callers.{space_held}
-use Rattle.proc_calls.specs.Answered.{Replied, Comes, StopsBefore, StopsReading}
+use Rattle.proc_calls.specs.Answered.{Replied, Comes, StopsOnce, StopsBefore, StopsReading}
 use Rattle.proc_calls.specs.Leaving.{HasSettled}
 use Rattle.proc_calls.specs.declared.replying.Called.{Called}
 
@@ -117,33 +117,21 @@ BreakComes old new pid regs (Err refused) holds before after called = Comes old 
 
 -- Where the run stops.
 
--- after the entry that says that the pieces of more pages find no place
-pub record StopsRefused (old new : Standing) (pid pages : ℕ) (stop : Stop) : Type 0 where
-  pub more : process_data_pages old.kernel pid < pages
-  pub few : pages ≤ data_limit
-  pub none : is_ok (pieces_found old pid pages) ≡ false
-  pub stops : StopsBefore (with_refusal old pid) new stop
-
--- with no call of a device: as it was, or so
+-- with no call of a device: as it was, or, with more pages, after the entry that says that their pieces find no place
 abbrev pub StopsPlain : Standing → Standing → ℕ → ℕ → Stop → Type 0
-StopsPlain old new pid pages stop = StopsBefore old new stop ⊎ StopsRefused old new pid pages stop
+StopsPlain old new pid pages stop =
+    StopsBefore old new stop
+    ⊎ ((process_data_pages old.kernel pid < pages) × (pages ≤ data_limit) × (is_ok (pieces_found old pid pages) ≡ false)
+    × StopsBefore (with_refusal old pid) new stop)
 
--- once the space is settled, before the reply, with the swap image as it was there
-pub record StopsOnceSettled (old new : Standing) (sid : ℕ) (holds : Option (List NamedFile)) (before after : Option (List ℕ)) (stop : Stop) : Type 0 where
-  pub between : Standing
-  pub settled : HasSettled old between sid holds before after
-  pub stops : StopsBefore between new stop
-
--- with fewer pages: while the space settles, or so
-pub record StopsCutting (old new : Standing) (pid pages : ℕ) (holds : Option (List NamedFile)) (before after : Option (List ℕ)) (stop : Stop) : Type 0 where
-  pub fewer : pages < process_data_pages old.kernel pid
-  pub stops : StopsSettling (space_held old.kernel pid) old new holds before after stop
-      ⊎ StopsOnceSettled old new (space_held old.kernel pid) holds before after stop
-
--- a break stops with no call of a device, or as it cuts the data
+-- A break stops with no call of a device, or, with fewer pages, as the space settles, or once it has, with the swap image as it
+-- was there.
 abbrev pub StopsBreaking : Standing → Standing → ℕ → ℕ → Option (List NamedFile) → Option (List ℕ) → Option (List ℕ) → Stop → Type 0
 StopsBreaking old new pid pages holds before after stop =
-    (StopsPlain old new pid pages stop × (after ≡ before)) ⊎ StopsCutting old new pid pages holds before after stop
+    (StopsPlain old new pid pages stop × (after ≡ before))
+    ⊎ ((pages < process_data_pages old.kernel pid)
+    × (StopsSettling (space_held old.kernel pid) old new holds before after stop
+    ⊎ StopsOnce (λ m. HasSettled old m (space_held old.kernel pid) holds before after) (λ m. StopsBefore m new stop)))
 
 -- by what the argument reads as
 abbrev pub StopsBreak : Standing → Standing → ℕ → Result ℕ Refused → Option (List NamedFile) → Option (List ℕ) → Option (List ℕ) → Stop → Type 0

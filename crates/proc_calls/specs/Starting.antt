@@ -30,7 +30,7 @@ use Rattle.machine_state.specs.Want.{Want}
 use Rattle.proc_calls.specs.Callers.{space_held}
 use Rattle.proc_calls.specs.declared.replying.Called.{Called}
 use Rattle.proc_calls.specs.declared.replying.Called.TheVariants as calls
-use Rattle.proc_calls.specs.Answered.{Answered, Comes, StopsBefore, StopsReading}
+use Rattle.proc_calls.specs.Answered.{Answered, Comes, StopsOnce, StopsBefore, StopsReading}
 use Rattle.proc_calls.specs.Leaving.{HasLeft, StopsAlive}
 use Rattle.proc_calls.specs.Filling.{FillsStart, StopsStart}
 use Rattle.proc_calls.specs.Making.{with_pieces, without_pieces, IsRefused}
@@ -140,29 +140,14 @@ abbrev pub StopsFinding : (Standing → Result Holdings ℕ) → Standing → St
 StopsFinding pieces old new pid holds before after stop =
     (StopsBefore old new stop × (after ≡ before)) ⊎ ((is_ok (pieces old) ≡ true) × StopsAlive old new pid holds before after stop)
 
--- after the entry that says that the pieces of the image find no place
-pub record StopsWithout (old new : Standing) (pid image : ℕ) (before after : Option (List ℕ)) (stop : Stop) : Type 0 where
-  pub none : is_ok (image_found image old) ≡ false
-  pub stops : StopsBefore (without_pieces old pid) new stop
-  pub image_same : after ≡ before
-
--- before the call answers: as its space is left for the image, or after the refusal of pieces
-abbrev pub StopsStarting : Standing → Standing → ℕ → ℕ → Option (List NamedFile) → Option (List ℕ) → Option (List ℕ) → Stop → Type 0
-StopsStarting old new pid image holds before after stop =
-    StopsFinding (image_found image) old new pid holds before after stop ⊎ StopsWithout old new pid image before after stop
-
--- once the call has answered, as the new stack page is filled
-pub record StopsBehindStart (old new : Standing) (pid : ℕ) (after : Regs) (image : ℕ) (top : List ℕ) (holds : Option (List NamedFile))
-    (before behind : Option (List ℕ)) (stop : Stop) : Type 0 where
-  pub between : Standing
-  pub told : Option (List ℕ)
-  pub started : HasStarted old between pid after image top holds before told
-  pub stops : StopsStart (Stack old.kernel.next_sid 0) between new holds told behind stop
-
--- before the call answers, or then
+-- as the pieces of the image are found, or after the entry that says that they find no place, or once the call has answered, as the
+-- new stack page is filled
 abbrev pub StopsImage : Standing → Standing → ℕ → Regs → ℕ → List ℕ → Option (List NamedFile) → Option (List ℕ) → Option (List ℕ) → Stop → Type 0
 StopsImage old new pid after image top holds before behind stop =
-    StopsStarting old new pid image holds before behind stop ⊎ StopsBehindStart old new pid after image top holds before behind stop
+    (StopsFinding (image_found image) old new pid holds before behind stop
+    ⊎ ((is_ok (image_found image old) ≡ false) × StopsBefore (without_pieces old pid) new stop × (behind ≡ before)))
+    ⊎ ((told : Option (List ℕ)) × StopsOnce (λ m. HasStarted old m pid after image top holds before told)
+        (λ m. StopsStart (Stack old.kernel.next_sid 0) m new holds told behind stop))
 
 -- by what the reads come to
 abbrev pub StopsExec : Standing → Standing → ℕ → Result Reply Refused → Option (List NamedFile) → Option (List ℕ) → Option (List ℕ) → Stop → Type 0

@@ -11,7 +11,7 @@ ghost use Rattle.machine_state.specs.Outside.{stop_of, TransfersPages};
 ghost use Rattle.proc_calls.specs.Callers.{space_held, IsCaller};
 ghost use Rattle.proc_calls.specs.Copying.{HasCopied};
 ghost use Rattle.proc_calls.specs.Forking.{fork_wants, ForkAnswered, Forked, StopsForking};
-ghost use Rattle.proc_calls.specs.Making.{is_below_limit, Vforked, StopsMakingBy};
+ghost use Rattle.proc_calls.specs.Making.{is_below_limit, Vforked, StopsMaking};
 
 use crate::copying::copy_due;
 use crate::ending::space_held;
@@ -47,7 +47,7 @@ pub fn vfork(m: &mut Machine, pid: u32, regs: &Regs) -> Result<Called, Stop>
     requires calls { IsCaller m.old pid }
     ensures ready { IfOk result (λ called. called ≡ Called.Ready) }
     ensures vforked { OnOk result (Vforked m.old m.new pid regs.now) }
-    ensures stop { StopsMakingBy m.old m.new pid (LendOf m.old.kernel.next_pid) result }
+    ensures stop { IfErr result (StopsMaking m.old m.new pid (LendOf m.old.kernel.next_pid)) }
     ensures goes_on { OnOk result (CanGoOn m.new) }
 {
     if !is_below_limit(m) {
@@ -91,7 +91,7 @@ fn enter_fork(m: &mut Machine, pid: u32, parent: u32, regs: &Regs) -> Result<Cal
     requires held { parent ≡ space_held m.old.kernel pid }
     ensures ready { IfOk result (λ called. called ≡ Called.Ready) }
     ensures answer { OnOk result (ForkAnswered m.old m.new pid regs.now) }
-    ensures stop { StopsMakingBy m.old m.new pid (ForkOf m.old.kernel.next_pid) result }
+    ensures stop { IfErr result (StopsMaking m.old m.new pid (ForkOf m.old.kernel.next_pid)) }
     ensures goes_on { OnOk result (CanGoOn m.new) }
 {
     if !is_below_limit(m) {

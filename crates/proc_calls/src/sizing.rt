@@ -1,5 +1,5 @@
 //! The call that moves the end of the data.
-ghost use Rattle.std.specs.Prelude.{◌≡◌, ◌<◌, ◌≤◌, false, IfOk, OnOk, IfErr};
+ghost use Rattle.std.specs.Prelude.{◌≡◌, ◌⊎◌, ◌<◌, ◌≤◌, false, length, IfOk, OnOk, IfErr, OnErr, Err};
 ghost use Rattle.core_map.specs.Frames.{Frames};
 ghost use Rattle.user_vax.specs.Program.{run};
 ghost use Rattle.flat_state.specs.declared.change.Change.TheVariants.{Resize};
@@ -9,15 +9,16 @@ ghost use Rattle.flat_model.specs.declared.calls.SystemCall.TheVariants.{Break};
 ghost use Rattle.flat_model.specs.Step.{call_entry};
 ghost use Rattle.page_model.specs.Placement.{image_of};
 ghost use Rattle.machine_state.specs.Going.{CanGoOn, IsRunning};
+ghost use Rattle.machine_state.specs.Conditions.{HasStopped};
 ghost use Rattle.machine_state.specs.Views.{ShowsSpace};
 ghost use Rattle.machine_state.specs.Showing.{ShowsCore};
 ghost use Rattle.machine_state.specs.Applying.{CanApply};
 ghost use Rattle.machine_state.specs.Files.{AreFiles};
 ghost use Rattle.machine_state.specs.UserMemory.{CanLend, kernel_answers};
 ghost use Rattle.machine_state.specs.Outside.{stop_of, TransfersPages};
-ghost use Rattle.proc_calls.specs.Answered.{Replied, StopsEntering};
+ghost use Rattle.proc_calls.specs.Answered.{Replied};
 ghost use Rattle.proc_calls.specs.Callers.{space_held, IsCaller};
-ghost use Rattle.proc_calls.specs.Sizing.{process_data_pages, process_stack_pages, pages_to, Grows, CutData, MovesEnd, BreakComes, StopsPlain, StopsCutting, StopsBreaking, StopsBreak};
+ghost use Rattle.proc_calls.specs.Sizing.{process_data_pages, process_stack_pages, pages_to, Grows, CutData, MovesEnd, BreakComes, StopsPlain, StopsBreaking, StopsBreak};
 
 use crate::replying::{Called, fail, process, refuse, replied_one, reply};
 use flat_model::{Asked, DATA_LIMIT, ENOMEM, SystemCall, argument};
@@ -81,7 +82,9 @@ fn resize(m: &mut Machine, pid: u32, regs: &Regs, sizes: Sizes) -> Result<Called
     requires running { IsRunning m.old }
     requires can { CanApply m.old pid (call_entry pid Break (replied regs.now false 0)) (Resize sizes.wanted sizes.stack_pages) }
     ensures replied { IfOk result (Replied m.old m.new pid Break regs.now (Does (replied regs.now false 0) (Resize sizes.wanted sizes.stack_pages))) }
-    ensures stops { IfErr result (StopsEntering m.old m.new) }
+    ensures stop { OnErr result (HasStopped m.old m.new) }
+    ensures cause { OnErr result ((result ≡ Err Stop.JournalFull) ⊎ (result ≡ Err Stop.NoMemory)) }
+    ensures full { result ≡ Err Stop.JournalFull → m.old.params.journal ≤ length m.old.kernel.journal }
     ensures goes_on { OnOk result (CanGoOn m.new) }
 {
     let change = Change::Resize {
@@ -132,7 +135,7 @@ fn cut<F: Files, D: SwapDev>(
     requires most { sizes.wanted ≤ data_limit }
     requires fewer { sizes.wanted < process_data_pages m.old.kernel pid }
     ensures cut { IfOk result (CutData m.old m.new pid regs.now sizes.wanted (F.holds files.old) (D.image swap.old) (D.image swap.new)) }
-    ensures stops { IfErr result (StopsCutting m.old m.new pid sizes.wanted (F.holds files.old) (D.image swap.old) (D.image swap.new)) }
+    ensures stops { IfErr result (StopsBreaking m.old m.new pid sizes.wanted (F.holds files.old) (D.image swap.old) (D.image swap.new)) }
     ensures outside { TransfersPages F.Files D.SwapDev (stop_of result) files.old files.new swap.old swap.new }
     ensures goes_on { OnOk result (CanGoOn m.new) }
 {

@@ -9,7 +9,7 @@ ghost use Rattle.machine_state.specs.Conditions.{HasStopped};
 ghost use Rattle.machine_state.specs.UserMemory.{CanLend, kernel_answers};
 ghost use Rattle.proc_calls.specs.Answered.{GoneOut, Replied, Comes};
 ghost use Rattle.proc_calls.specs.Callers.{IsCaller, space_held};
-ghost use Rattle.proc_calls.specs.Writing.{IsWrite, StopsBy, StopsOut, bytes_of};
+ghost use Rattle.proc_calls.specs.Writing.{IsWrite, StopsOut};
 
 use crate::replying::{Called, fail, process, refuse, replied_one, reply};
 use flat_model::{Asked, Reply, SystemCall, write_reply};
@@ -39,7 +39,7 @@ fn put_out(m: &mut Machine, pid: u32, regs: &Regs, bytes: Bytes) -> Result<Calle
     requires calls { IsCaller m.old pid }
     requires few { length bytes ≤ write_limit }
     ensures replied { IfOk result (Replied m.old m.new pid Write regs.now (Writes bytes)) }
-    ensures stop { StopsBy m.old m.new pid bytes result }
+    ensures stop { IfErr result (StopsOut m.old m.new pid (Ok (Writes bytes))) }
     ensures goes_on { OnOk result (CanGoOn m.new) }
 {
     let count = bytes.as_slice().len() as u32;
@@ -73,7 +73,7 @@ fn answer(m: &mut Machine, pid: u32, regs: &Regs, reply: Reply) -> Result<Called
     requires calls { IsCaller m.old pid }
     requires writes { IsWrite reply }
     ensures replied { IfOk result (Replied m.old m.new pid Write regs.now reply) }
-    ensures stop { StopsBy m.old m.new pid (bytes_of (Ok reply)) result }
+    ensures stop { IfErr result (StopsOut m.old m.new pid (Ok reply)) }
     ensures goes_on { OnOk result (CanGoOn m.new) }
 {
     match reply {

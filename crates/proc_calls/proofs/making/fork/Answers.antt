@@ -23,4 +23,4 @@ returns-clause-on g c =
 pub returns-in_err-copy_due-clause-stop : goal.returns-in_err-copy_due-clause-stop
 returns-in_err-copy_due-clause-stop g c =
     let p = err_from_is_err_and c.from_residual-in_err-copy_due.result c.from_residual-in_err-copy_due.ensures.1 in
-    rw (p.1, p.2) (inr (record { between = c.enter_fork.new.m; answer = c.in_ok-called.ensures.answer; stops = c.in_err-copy_due.ensures.copied }))
+    rw (p.1, p.2) (inr (record { reached = c.enter_fork.new.m; far = c.in_ok-called.ensures.answer; stops = c.in_err-copy_due.ensures.copied }))

@@ -28,4 +28,4 @@ returns-clause-stops g c =
     cut_stops c.resize.result m n c.resize.new.m c.args.pid c.args.sizes.wanted holds i j c.requires.fewer
     (subst (λ (x : ℕ). HasSettled m n x holds i j) c.requires.named
     (record { settled = c.in_ok-settle.ensures.settled; rest = c.in_ok-settle.ensures.rest; keeps = c.in_ok-settle.ensures.keeps }))
-    c.in_ok-settle.ensures.goes_on.whole c.resize.ensures.stops
+    c.in_ok-settle.ensures.goes_on.whole c.resize.ensures.stop c.resize.ensures.cause c.resize.ensures.full

@@ -18,4 +18,4 @@ returns-then-branch-clause-stops c =
     let e : c.ask.result ≡ Ok true = let t = c.if-branch.true in let w = c.in_ok-ask.was in cc in
     let f = c.ask.ensures.found e in
     grown_stops c.resize.result c.args.m.now c.ask.new.self c.resize.new.m c.args.pid c.args.sizes.wanted f.0 f.2 c.requires.calls.ready.whole c.in_ok-ask.ensures.has_room
-    c.resize.ensures.stops
+    c.resize.ensures.stop c.resize.ensures.cause c.resize.ensures.full
