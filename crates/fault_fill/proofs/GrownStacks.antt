@@ -19,6 +19,7 @@ use Rattle.kernel_model.specs.Kernel.{Life, HoldsSpace, Kernel, Proc, note_step}
 use Rattle.kernel_model.specs.Asks.{HasSpace, asked}
 use Rattle.kernel_model.specs.Sound.{has_life, lives_in}
 use Rattle.kernel_model.specs.ChangeStep.{space_of_life, life_of_proc, change_if, change_by}
+use Rattle.kernel_model.specs.Unit.{proc_of}
 use Rattle.clock_hands.specs.LastMoves.{last_moves}
 use Rattle.clock_hands.proofs.LastMoves.{last_of}
 use Rattle.machine_state.specs.Going.{CanGoOn}
@@ -28,7 +29,7 @@ use Rattle.machine_state.specs.Wants.{wanted_of, found_for, fits_for}
 use Rattle.machine_state.specs.Conditions.{KeepsFlat, SameEverywhere}
 use Rattle.machine_state.specs.Applying.{CanApply, MayAct, facts_named}
 use Rattle.machine_state.specs.UserMemory.{CanLend}
-use Rattle.fault_fill.specs.Growth.{proc_in, space_held, IsGrowth, growth, growth_found, with_pieces, Grown, GrowthRefused}
+use Rattle.fault_fill.specs.Growth.{space_held, IsGrowth, growth, growth_found, with_pieces, Grown, GrowthRefused}
 use Rattle.fault_fill.specs.Serving.{CanServe}
 use Rattle.fault_fill.specs.Touches.{IsReady}
 use Rattle.fault_fill.proofs.Grows.{growth_asked}
@@ -81,7 +82,7 @@ module _ (m : Standing) (pid sid pages : ℕ) (ready : CanGoOn m) (clear : m.ker
   can_apply hs finds small = record {
     clear = clear;
     ready = record {
-      alive = lives_by (proc_in m.kernel pid) lends.sid lends.holds;
+      alive = lives_by (proc_of m.kernel pid) lends.sid lends.holds;
       next = tt;
       reaps = tt;
       space = (held_there m.kernel pid lends, λ loses. absurd (none_lost m.kernel.place (space_held m.kernel pid) sid pages g loses));
@@ -131,7 +132,7 @@ serves_new p sid d pages there clear some = record {
   blank = λ e. clear;
 }
 
-held_is : (k : Kernel) (pid : ℕ) (process : Proc) → proc_in k pid ≡ Some process → space_held k pid ≡ space_of_life process.life
+held_is : (k : Kernel) (pid : ℕ) (process : Proc) → proc_of k pid ≡ Some process → space_held k pid ≡ space_of_life process.life
 held_is k pid process there = ap (λ (o : Option Proc). space_of_life (life_of_proc o)) there
 
 module _ (m n : Standing) (pid sid pages : ℕ) (h : Grown m n pid pages) (lends : CanLend m.kernel pid)

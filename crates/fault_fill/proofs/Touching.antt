@@ -19,6 +19,7 @@ use Rattle.page_laws.proofs.Lists.Pages.{numbered_hit, numbered_miss}
 use Rattle.kernel_model.specs.Kernel.{Life, HoldsSpace, Kernel, Proc}
 use Rattle.kernel_model.specs.Asks.{HasSpace}
 use Rattle.kernel_model.specs.ChangeStep.{space_of_life, life_of_proc}
+use Rattle.kernel_model.specs.Unit.{proc_of}
 use Rattle.machine_state.specs.Views.{IsNamedBy, ShowsSpace}
 use Rattle.machine_state.specs.Alike.{AreRecords}
 use Rattle.machine_state.specs.Machine.{proc_of_record, processes_of}
@@ -29,22 +30,22 @@ use Rattle.machine_state.proofs.UserFrames.{get_within, get_below}
 use Rattle.fault_fill.specs.declared.access.Access.{Access}
 use Rattle.fault_fill.specs.declared.access.Access.TheVariants as accesses
 use Rattle.fault_fill.specs.Access.{access_at, access_of}
-use Rattle.fault_fill.specs.Growth.{proc_in, space_held, access_to, IsGrowth, IsAsked}
+use Rattle.fault_fill.specs.Growth.{space_held, access_to, IsGrowth, IsAsked}
 use Rattle.fault_fill.proofs.Homes.{home_place, some_place}
 use Rattle.fault_fill.proofs.Accesses.{IsOf, of_space, access_there}
 
 -- The record.
 
 pub record_shown : (k : Kernel) (ps : List Record) (pid : ℕ) → k.processes ≡ processes_of ps k.next_pid → AreRecords ps k.next_pid
-    → proc_in k pid ≡ proc_of_record (find pid ps)
+    → proc_of k pid ≡ proc_of_record (find pid ps)
 record_shown k ps pid e h = ap (λ (qs : List Proc). numbered (λ (p : Proc). p.pid) pid qs) e ∙ process_is ps k.next_pid pid h
 
 none_holds : (o : Option Proc) (sid : ℕ) → life_of_proc o ≡ HoldsSpace sid → o ≡ None → ⊥
 none_holds None sid h e = absurd cc
 none_holds (Some p) sid h e = absurd cc
 
-pub not_there : (k : Kernel) (pid : ℕ) → CanLend k pid → proc_in k pid ≡ None → ⊥
-not_there k pid c e = none_holds (proc_in k pid) c.sid c.holds e
+pub not_there : (k : Kernel) (pid : ℕ) → CanLend k pid → proc_of k pid ≡ None → ⊥
+not_there k pid c e = none_holds (proc_of k pid) c.sid c.holds e
 
 pub held_there : (k : Kernel) (pid : ℕ) → CanLend k pid → HasSpace k.place (space_held k pid)
 held_there k pid c = subst (λ (l : Life). HasSpace k.place (space_of_life l)) (sym c.holds) c.there

@@ -1,17 +1,17 @@
 -- What an access of a process asks for, and what growth of its stack comes to.
-use Rattle.std.specs.Prelude.{◌≡◌, ℕ, ◌<◌, ◌≤◌, Bool, true, false, Option, Some, None, Result, Ok, is_ok}
+use Rattle.std.specs.Prelude.{◌≡◌, ℕ, ◌<◌, ◌≤◌, Bool, true, false, Some, None, Result, Ok, is_ok}
 use Rattle.vm_facts.specs.declared.entry.Entry.TheVariants.{Grew, Refused}
 use Rattle.swap_book.specs.Holdings.{Holdings}
 use Rattle.swap_book.specs.Placing.{place_all}
 use Rattle.flat_state.specs.declared.change.Change.{Change}
 use Rattle.flat_state.specs.declared.change.Change.TheVariants.{Resize}
-use Rattle.page_model.specs.Pages.{numbered}
 use Rattle.page_model.specs.Placement.{Placement, IsThere, image_of}
 use Rattle.page_model.specs.Conditions.{IsShared}
 use Rattle.page_model.specs.Place.{data_count, stack_count}
 use Rattle.kernel_model.specs.Kernel.{Kernel, Proc, note_step}
 use Rattle.kernel_model.specs.Asks.{asked}
 use Rattle.kernel_model.specs.ChangeStep.{space_of_life, change_step}
+use Rattle.kernel_model.specs.Unit.{proc_of}
 use Rattle.machine_state.specs.Machine.{Standing}
 use Rattle.machine_state.specs.Calls.{life_in}
 use Rattle.machine_state.specs.Conditions.{KeepsFlat, SameEverywhere}
@@ -20,10 +20,6 @@ use Rattle.machine_state.specs.UserMemory.{spot_in}
 use Rattle.fault_fill.specs.declared.access.Access.{Access}
 use Rattle.fault_fill.specs.declared.access.Access.TheVariants as accesses
 use Rattle.fault_fill.specs.Access.{access_at}
-
--- the process of this number, if there is one
-abbrev pub proc_in : Kernel → ℕ → Option Proc
-proc_in k pid = numbered (λ (p : Proc). p.pid) pid k.processes
 
 -- the space that a process holds
 abbrev pub space_held : Kernel → ℕ → ℕ
@@ -72,7 +68,7 @@ pub record Grown (old new : Standing) (pid pages : ℕ) : Type 0 where
   pub found : Holdings
   pub finds : growth_found old pid pages ≡ Ok found
   pub process : Proc
-  pub there : proc_in old.kernel pid ≡ Some process
+  pub there : proc_of old.kernel pid ≡ Some process
   pub step : new.kernel
       ≡ change_step (facts_named old.images) (record old.kernel { holdings = found }) pid process.regs (Grew pid pages) (growth old.kernel pid pages)
   pub rest : new ≡ record old { kernel = new.kernel; before = new.kernel.holdings; room = None }

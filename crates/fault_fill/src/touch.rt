@@ -13,7 +13,8 @@ ghost use Rattle.machine_state.specs.Conditions.{HasStopped};
 ghost use Rattle.machine_state.specs.UserMemory.{CanLend};
 ghost use Rattle.machine_state.specs.Outside.{stop_of, TransfersPages};
 ghost use Rattle.clock_hands.specs.LastMoves.{last_moves};
-ghost use Rattle.fault_fill.specs.Growth.{proc_in, space_held, access_by, IsAsked, AsksGrowth, IsGrowth, GrowsBy};
+ghost use Rattle.kernel_model.specs.Unit.{proc_of};
+ghost use Rattle.fault_fill.specs.Growth.{space_held, access_by, IsAsked, AsksGrowth, IsGrowth, GrowsBy};
 ghost use Rattle.fault_fill.specs.Touches.{Reaches, ReadyIf, TouchedAs, TouchedNow, AccessComes, AccessStops};
 
 use crate::access::{Access, access_in};
@@ -46,7 +47,7 @@ pub enum Served {
 fn process(m: &Machine, pid: u32) -> Proc
     requires running { IsRunning m.now }
     requires lends { CanLend m.now.kernel pid }
-    ensures { proc_in m.now.kernel pid ≡ Some (proc_shown result) }
+    ensures { proc_of m.now.kernel pid ≡ Some (proc_shown result) }
 {
     match m.processes().get(pid) {
         Some(process) => *process,

@@ -22,7 +22,7 @@ use Rattle.kernel_model.specs.Kernel.{Life, HoldsSpace, Proc}
 use Rattle.kernel_model.specs.Asks.{HasSpace}
 use Rattle.kernel_model.specs.Sound.{lives}
 use Rattle.kernel_model.specs.ChangeStep.{life_of_proc, space_of_life, gave_back, pass_step}
-use Rattle.kernel_model.specs.Unit.{has_lender, lender_among}
+use Rattle.kernel_model.specs.Unit.{has_lender, lender_among, proc_of}
 use Rattle.machine_state.proofs.KernelLawsSoundSteps.{pass_lives}
 use Rattle.machine_state.specs.Calls.{life_in}
 use Rattle.machine_state.specs.Machine.{Standing}
@@ -33,7 +33,7 @@ use Rattle.machine_state.specs.Done.{sources}
 use Rattle.vfork_pass.specs.Passed.{HasGivenBack}
 use Rattle.proc_calls.specs.declared.replying.Called.{Called}
 use Rattle.proc_calls.specs.declared.replying.Called.TheVariants as calls
-use Rattle.proc_calls.specs.Callers.{proc_in, space_held, IsCaller}
+use Rattle.proc_calls.specs.Callers.{IsCaller}
 use Rattle.proc_calls.specs.Answered.{Answered}
 use Rattle.proc_calls.specs.Filling.{StopsStart}
 use Rattle.proc_calls.specs.Leaving.{HasSettled, HasLeftBy}
@@ -41,6 +41,7 @@ use Rattle.proc_calls.specs.Making.{with_pieces}
 use Rattle.proc_calls.specs.Starting.{image_wanted, image_found, LeavesFor, FindsBy, Finds, Starts, ExecComes, StopsImage, StopsExec}
 use Rattle.proc_calls.proofs.Callers.{caller_lives}
 use Rattle.machine_state.proofs.Asked.{stopped_found}
+use Rattle.fault_fill.specs.Growth.{space_held}
 use Rattle.proc_calls.proofs.Stopping.{stops_before}
 use Rattle.proc_calls.proofs.Starts.{is_ready}
 use Rattle.proc_calls.proofs.Leaving.{GoesOn, settled_goes, space_stays, lender_lives}
@@ -113,7 +114,7 @@ can_start_returned m hs pid image regs top c g found above within page = record 
     giver = caller_lives m.kernel pid c.lends
 
     taker : lives m.kernel.processes (lender_among m.kernel.processes pid) ≡ true
-    taker = lender_lives (proc_in m.kernel (lender_among m.kernel.processes pid)) g.lent pid g.lends
+    taker = lender_lives (proc_of m.kernel (lender_among m.kernel.processes pid)) g.lent pid g.lends
 
 -- Either way.
 

@@ -21,7 +21,7 @@ use Rattle.kernel_model.specs.Sound.{TextFits}
 use Rattle.kernel_model.specs.Coupled.{SameTables, Fits, image_text}
 use Rattle.machine_state.proofs.FlatMemory.{IsPaged}
 use Rattle.machine_state.specs.UserMemory.{text_len}
-use Rattle.proc_calls.specs.Callers.{space_held}
+use Rattle.fault_fill.specs.Growth.{space_held}
 use Rattle.proc_calls.specs.Sizing.{break_at, break_read, pages_to}
 
 paged : (k : Kernel) (x : Space) (o : Option SpacePages) → numbered space_number x.sid k.place.spaces ≡ o → Fits (Some x) o → IsPaged k x

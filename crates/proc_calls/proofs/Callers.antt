@@ -10,6 +10,7 @@ use Rattle.flat_state.specs.declared.change.Change.TheVariants.{Keep, Reap, Slee
 use Rattle.kernel_model.specs.Kernel.{Life, HoldsSpace, Kernel, Proc}
 use Rattle.kernel_model.specs.Sound.{Sound, has_life, lives_in, lives}
 use Rattle.kernel_model.specs.ChangeStep.{life_of_proc, with_proc, change_if, change_step}
+use Rattle.kernel_model.specs.Unit.{proc_of}
 use Rattle.machine_state.proofs.KernelLawsMachineProcesses.{with_at}
 use Rattle.page_model.specs.Pages.{numbered}
 use Rattle.machine_state.proofs.ProcessLists.{found_number}
@@ -23,11 +24,11 @@ use Rattle.machine_state.proofs.Listed.{process_is}
 use Rattle.machine_state.specs.Calls.{life_in}
 use Rattle.machine_state.specs.Applying.{CanApply, IsEntryOf, MayAct, facts_named}
 use Rattle.machine_state.specs.UserMemory.{CanLend}
-use Rattle.proc_calls.specs.Callers.{proc_in, IsCaller}
+use Rattle.proc_calls.specs.Callers.{IsCaller}
 
 -- its record shows it
 pub record_shown : (k : Kernel) (ps : List Record) (pid : ℕ) → k.processes ≡ processes_of ps k.next_pid → AreRecords ps k.next_pid
-    → proc_in k pid ≡ proc_of_record (find pid ps)
+    → proc_of k pid ≡ proc_of_record (find pid ps)
 record_shown k ps pid e h = ap (λ (qs : List Proc). numbered pid_of pid qs) e ∙ process_is ps k.next_pid pid h
 
 pub not_there : (o : Option Proc) → IsSome o → o ≡ None → ⊥
@@ -42,11 +43,11 @@ lives_by None sid e = absurd cc
 lives_by (Some p) sid e = ap has_life e
 
 -- it is there, and lives
-pub caller_there : (k : Kernel) (pid : ℕ) → CanLend k pid → IsSome (proc_in k pid)
-caller_there k pid c = there_by (proc_in k pid) c.sid c.holds
+pub caller_there : (k : Kernel) (pid : ℕ) → CanLend k pid → IsSome (proc_of k pid)
+caller_there k pid c = there_by (proc_of k pid) c.sid c.holds
 
 pub caller_lives : (k : Kernel) (pid : ℕ) → CanLend k pid → lives k.processes pid ≡ true
-caller_lives k pid c = lives_by (proc_in k pid) c.sid c.holds
+caller_lives k pid c = lives_by (proc_of k pid) c.sid c.holds
 
 -- the machine is sound as it is
 pub sound_now : (m : Standing) → CanGoOn m → Sound m.params.swap_blocks m.kernel
@@ -104,7 +105,7 @@ can_reap m pid child e c entry ended = record {
 
 -- After an entry that changes nothing the process may go on.
 
-other_regs : (k : Kernel) (pid : ℕ) (p : Proc) (regs : Regs) → proc_in k pid ≡ Some p
+other_regs : (k : Kernel) (pid : ℕ) (p : Proc) (regs : Regs) → proc_of k pid ≡ Some p
     → numbered pid_of pid (with_proc k.processes (record p { regs = regs })) ≡ Some (record p { regs = regs })
 other_regs k pid p regs e =
     let is : p.pid ≡ pid = found_number k.processes pid p e in
@@ -116,9 +117,9 @@ pub record StillCalls (m n : Standing) (pid : ℕ) : Type 0 where
   pub due : n.kernel.place.due ≡ m.kernel.place.due
   pub lends : CanLend n.kernel pid
 
-calls_on : (m : Standing) (pid : ℕ) (regs : Regs) (e : Entry) (n : Standing) (o : Option Proc) → proc_in m.kernel pid ≡ o
+calls_on : (m : Standing) (pid : ℕ) (regs : Regs) (e : Entry) (n : Standing) (o : Option Proc) → proc_of m.kernel pid ≡ o
     → n.kernel ≡ change_if (facts_named m.images) m.kernel regs e Keep o → CanLend m.kernel pid → StillCalls m n pid
-calls_on m pid regs e n None f step l = absurd (let t : IsSome (proc_in m.kernel pid) = caller_there m.kernel pid l in cc)
+calls_on m pid regs e n None f step l = absurd (let t : IsSome (proc_of m.kernel pid) = caller_there m.kernel pid l in cc)
 calls_on m pid regs e n (Some p) f step l = record {
   due = ap (λ (k : Kernel). k.place.due) step;
   lends = subst (λ (k : Kernel). CanLend k pid) (sym step) (record {
@@ -133,7 +134,7 @@ calls_on m pid regs e n (Some p) f step l = record {
 
 pub still_calls : (m : Standing) (pid : ℕ) (regs : Regs) (e : Entry) (n : Standing)
     → n.kernel ≡ change_step (facts_named m.images) m.kernel pid regs e Keep → CanLend m.kernel pid → StillCalls m n pid
-still_calls m pid regs e n step l = calls_on m pid regs e n (proc_in m.kernel pid) refl step l
+still_calls m pid regs e n step l = calls_on m pid regs e n (proc_of m.kernel pid) refl step l
 
 -- it is a caller again, where the entry was made
 pub calls_behind : {A E : Type 0} (r : Result A E) (m : Standing) (pid : ℕ) (regs : Regs) (e : Entry) (n : Standing)

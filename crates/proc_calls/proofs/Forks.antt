@@ -30,6 +30,7 @@ use Rattle.kernel_model.specs.Sound.{Sound}
 use Rattle.kernel_model.specs.Numbers.{Numbered}
 use Rattle.kernel_model.specs.Asks.{asked, HasSpace}
 use Rattle.kernel_model.specs.ChangeStep.{space_of_life, life_of_proc, change_if, change_step}
+use Rattle.kernel_model.specs.Unit.{proc_of}
 use Rattle.machine_state.proofs.Numbered.{absent_none, below_absent}
 use Rattle.machine_state.specs.Want.{Want}
 use Rattle.machine_state.specs.Going.{CanGoOn}
@@ -40,9 +41,10 @@ use Rattle.machine_state.specs.Conditions.{KeepsFlat}
 use Rattle.machine_state.specs.UserMemory.{CanLend}
 use Rattle.fault_fill.specs.LastMoves.{last_moves}
 use Rattle.fault_fill.proofs.LastMoves.{last_of}
+use Rattle.fault_fill.specs.Growth.{space_held}
 use Rattle.proc_calls.specs.declared.replying.Called.{Called}
 use Rattle.proc_calls.specs.Answered.{Answered, Replied}
-use Rattle.proc_calls.specs.Callers.{proc_in, space_held, IsCaller}
+use Rattle.proc_calls.specs.Callers.{IsCaller}
 use Rattle.proc_calls.specs.Making.{is_below_limit, finds_pieces, with_pieces, without_pieces, HasChild, MakesChildBy, MakesChild}
 use Rattle.proc_calls.specs.Copying.{in_space, AreCopiesFrom, HasCopied}
 use Rattle.proc_calls.specs.Forking.{fork_wants, HasNewSpace, ForkAnswered}
@@ -190,7 +192,7 @@ behind_fork m new pid child regs hs c answer =
     let sid = space_held m.kernel pid in
     let found : Kernel = record m.kernel { holdings = hs } in
     let b : HasDue found (change_step (facts_named m.images) found pid regs e (Fork child)) sid e =
-    forked_by (facts_named m.images) found child regs e (proc_in m.kernel pid) (caller_there m.kernel pid c.lends) in
+    forked_by (facts_named m.images) found child regs e (proc_of m.kernel pid) (caller_there m.kernel pid c.lends) in
     subst (λ (l : Kernel). HasDue m.kernel l sid e) (sym answer.step)
     (record { behind = record { frames = b.behind.frames; journal = b.behind.journal }; due = b.due; copies = b.copies })
 
@@ -208,7 +210,7 @@ behind_kept : (m new : Standing) (pid : ℕ) (call : SystemCall) (regs : Regs) �
     → IsBehind m.kernel new.kernel (call_entry pid call regs)
 behind_kept m new pid call regs c answer =
     subst (λ (l : Kernel). IsBehind m.kernel l (call_entry pid call regs)) (sym answer.step)
-    (kept_by (facts_named m.images) m.kernel regs (call_entry pid call regs) (proc_in m.kernel pid) (caller_there m.kernel pid c))
+    (kept_by (facts_named m.images) m.kernel regs (call_entry pid call regs) (proc_of m.kernel pid) (caller_there m.kernel pid c))
 
 -- After the entry there are as many frames, and the last entry counts no moves.
 

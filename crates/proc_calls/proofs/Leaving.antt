@@ -17,7 +17,7 @@ use Rattle.kernel_model.specs.Kernel.{Life, HoldsSpace, LendsSpace, Proc, Kernel
 use Rattle.kernel_model.specs.Asks.{HasSpace}
 use Rattle.kernel_model.specs.Sound.{has_life, lives_in, lives}
 use Rattle.kernel_model.specs.ChangeStep.{life_of_proc, space_of_life, gave_back, pass_step}
-use Rattle.kernel_model.specs.Unit.{has_lender, lender_among}
+use Rattle.kernel_model.specs.Unit.{has_lender, lender_among, proc_of}
 use Rattle.machine_state.proofs.Numbered.{none_absent, absent_none}
 use Rattle.machine_state.proofs.NumbersApart.{SameSpaces, entry_numbers}
 use Rattle.machine_state.proofs.KernelLawsSoundSteps.{pass_lives}
@@ -27,7 +27,8 @@ use Rattle.machine_state.specs.Applying.{CanApply, MayAct}
 use Rattle.machine_state.specs.Done.{Sources, sources}
 use Rattle.machine_state.specs.Settled.{EndsWhile, SettledBy}
 use Rattle.vfork_pass.specs.Passed.{HasGivenBack}
-use Rattle.proc_calls.specs.Callers.{proc_in, space_held, IsCaller}
+use Rattle.fault_fill.specs.Growth.{space_held}
+use Rattle.proc_calls.specs.Callers.{IsCaller}
 use Rattle.proc_calls.specs.Leaving.{HasSettled, HasLeftBy, HasLeft}
 use Rattle.proc_calls.proofs.Callers.{caller_lives}
 
@@ -146,7 +147,7 @@ can_end_returned m pid status c g = record {
     giver = caller_lives m.kernel pid c.lends
 
     taker : lives m.kernel.processes (lender_among m.kernel.processes pid) ≡ true
-    taker = lender_lives (proc_in m.kernel (lender_among m.kernel.processes pid)) g.lent pid g.lends
+    taker = lender_lives (proc_of m.kernel (lender_among m.kernel.processes pid)) g.lent pid g.lends
 
 -- Either way.
 

@@ -28,6 +28,7 @@ use Rattle.kernel_model.specs.Sound.{Sound, lives_in, lives}
 use Rattle.kernel_model.specs.Numbers.{Numbered}
 use Rattle.kernel_model.specs.ChangeStep.{with_proc, child_proc, life_of_proc, change_if, change_step, pass_step}
 use Rattle.kernel_model.specs.Asks.{asked}
+use Rattle.kernel_model.specs.Unit.{proc_of}
 use Rattle.machine_state.proofs.Numbered.{has_number, absent_none, below_absent, pushed_new, pushed_found}
 use Rattle.machine_state.proofs.KernelLawsMachineProcesses.{with_at, with_not}
 use Rattle.machine_state.specs.Want.{Want}
@@ -42,7 +43,7 @@ use Rattle.machine_state.specs.UserMemory.{CanLend}
 use Rattle.machine_state.proofs.Lives.{pid_of}
 use Rattle.proc_table.specs.declared.process.Proc.{Proc as Record}
 use Rattle.vfork_pass.specs.Passed.{IsHolder, HasLent}
-use Rattle.proc_calls.specs.Callers.{proc_in, IsCaller}
+use Rattle.proc_calls.specs.Callers.{IsCaller}
 use Rattle.proc_calls.specs.declared.replying.Called.{Called}
 use Rattle.proc_calls.specs.Answered.{Answered, Replied}
 use Rattle.proc_calls.specs.Making.{is_below_limit, finds_pieces, with_pieces, without_pieces, HasChild, MakesChildBy, MakesChild, HasLentSpace, Vforked, StopsMaking}
@@ -58,7 +59,7 @@ below_limit k ps e h = ap (λ (n : ℕ). nat_lt n 64) (sym (crowd ps k.next_pid 
 
 -- The next process has no number yet, and no pieces.
 
-pub no_child : (k : Kernel) → Numbered k → proc_in k k.next_pid ≡ None
+pub no_child : (k : Kernel) → Numbered k → proc_of k k.next_pid ≡ None
 no_child k n = absent_none (λ (p : Proc). p.pid) k.next_pid k.processes (below_absent k.next_pid (map (λ (p : Proc). p.pid) k.processes) n.pids_below)
 
 pub no_u_page : (size : ℕ) (k : Kernel) (hs : Holdings) → Sound size (record k { holdings = hs }) → Numbered k → lengths (owners.U k.next_pid) hs ≡ []
@@ -105,22 +106,22 @@ module _ (images : List Image) (k : Kernel) (pid : ℕ) (regs : Regs) (e : Entry
   abbrev with_child : Proc → List Proc
   with_child p = with_proc k.processes (record p { regs = regs }) ++ child_proc (record p { regs = regs }) next New ∷ []
 
-  come : (p : Proc) → proc_in k pid ≡ Some p → behind.processes ≡ with_child p
+  come : (p : Proc) → proc_of k pid ≡ Some p → behind.processes ≡ with_child p
   come p f = ap (λ (o : Option Proc). (change_if images k regs e (Lend next) o).processes) f
 
-  its_number : (p : Proc) → proc_in k pid ≡ Some p → p.pid ≡ pid
+  its_number : (p : Proc) → proc_of k pid ≡ Some p → p.pid ≡ pid
   its_number p f = has_number pid_of pid k.processes p f
 
-  parent_there : (p : Proc) → proc_in k pid ≡ Some p → proc_in behind pid ≡ Some (record p { regs = regs })
+  parent_there : (p : Proc) → proc_of k pid ≡ Some p → proc_of behind pid ≡ Some (record p { regs = regs })
   parent_there p f =
       let there : numbered pid_of p.pid k.processes ≡ Some p = ap (λ (n : ℕ). numbered pid_of n k.processes) (its_number p f) ∙ f in
       ap (λ (ps : List Proc). numbered pid_of pid ps) (come p f)
       ∙ pushed_found pid_of pid (with_proc k.processes (record p { regs = regs })) (child_proc (record p { regs = regs }) next New) (record p { regs = regs })
       (ap (λ (n : ℕ). numbered pid_of n (with_proc k.processes (record p { regs = regs }))) (sym (its_number p f)) ∙ with_at k.processes (record p { regs = regs }) p there)
 
-  child_there : (p : Proc) → proc_in k pid ≡ Some p → proc_in k next ≡ None → proc_in behind next ≡ Some (child_proc (record p { regs = regs }) next New)
+  child_there : (p : Proc) → proc_of k pid ≡ Some p → proc_of k next ≡ None → proc_of behind next ≡ Some (child_proc (record p { regs = regs }) next New)
   child_there p f none =
-      let other : next ≢ p.pid = λ i. absurd (let z : Some p ≡ None = sym f ∙ ap (proc_in k) (sym (i ∙ its_number p f)) ∙ none in cc) in
+      let other : next ≢ p.pid = λ i. absurd (let z : Some p ≡ None = sym f ∙ ap (proc_of k) (sym (i ∙ its_number p f)) ∙ none in cc) in
       ap (λ (ps : List Proc). numbered pid_of next ps) (come p f)
       ∙ pushed_new pid_of next (with_proc k.processes (record p { regs = regs })) (child_proc (record p { regs = regs }) next New)
       (with_not k.processes (record p { regs = regs }) next other ∙ none) refl
@@ -130,7 +131,7 @@ module _ (images : List Image) (k : Kernel) (pid : ℕ) (regs : Regs) (e : Entry
     pub there : lives behind.processes next ≡ true
     pub fresh : life_in behind next ≡ New
 
-  behind_by : (sid : ℕ) (o : Option Proc) → proc_in k pid ≡ o → life_of_proc o ≡ HoldsSpace sid → proc_in k next ≡ None → IsBehind
+  behind_by : (sid : ℕ) (o : Option Proc) → proc_of k pid ≡ o → life_of_proc o ≡ HoldsSpace sid → proc_of k next ≡ None → IsBehind
   behind_by sid None f h none = absurd cc
   behind_by sid (Some p) f h none = record {
     holds = subst IsHolder (sym (ap life_of_proc (parent_there p f) ∙ h)) tt;
@@ -139,7 +140,7 @@ module _ (images : List Image) (k : Kernel) (pid : ℕ) (regs : Regs) (e : Entry
   }
 
 pub is_behind : (k : Kernel) (images : List Image) (pid : ℕ) (regs : Regs) (e : Entry) → CanLend k pid → Numbered k → IsBehind images k pid regs e
-is_behind k images pid regs e c n = behind_by images k pid regs e c.sid (proc_in k pid) refl c.holds (no_child k n)
+is_behind k images pid regs e c n = behind_by images k pid regs e c.sid (proc_of k pid) refl c.holds (no_child k n)
 
 -- so it is of a machine whose pieces were found before
 pub behind_found : (m asked new : Standing) (pid : ℕ) (regs : Regs) (e : Entry) (hs : Holdings) → asked ≡ with_pieces m hs → IsCaller m pid

@@ -24,7 +24,7 @@ use Rattle.machine_state.specs.Sourced.{ImageNamed}
 use Rattle.machine_state.specs.Applying.{CanApply, facts_named}
 use Rattle.fault_fill.specs.LastMoves.{last_moves}
 use Rattle.fault_fill.proofs.LastMoves.{last_of}
-use Rattle.proc_calls.specs.Callers.{proc_in}
+use Rattle.kernel_model.specs.Unit.{proc_of}
 use Rattle.proc_calls.specs.Answered.{Answered}
 use Rattle.proc_calls.specs.Filling.{IsStartFirst}
 use Rattle.proc_calls.specs.Starting.{image_found, LeavesFor}
@@ -89,7 +89,7 @@ is_started old asked new pid image regs top holds before after above within left
     let header = has_header asked.images image above (subst (λ (ns : List ImageNamed). image ≤ length ns) (sym images) within) in
     let b : HasNewStack asked.kernel new.kernel e =
     subst (λ (l : Kernel). HasNewStack asked.kernel l e) (sym answer.step)
-    (image_if (facts_named asked.images) asked.kernel regs e image top header.0 (proc_in asked.kernel pid) header.1 can.ready.alive) in
+    (image_if (facts_named asked.images) asked.kernel regs e image top header.0 (proc_of asked.kernel pid) header.1 can.ready.alive) in
     record {
       params = ap (λ (s : Standing). s.params) answer.rest ∙ ap (λ (s : Standing). s.params) left.step ∙ r.params;
       images = ap (λ (s : Standing). s.images) answer.rest ∙ images;

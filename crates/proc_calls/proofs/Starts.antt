@@ -19,7 +19,7 @@ use Rattle.machine_state.specs.Conditions.{KeepsFlat}
 use Rattle.machine_state.specs.Done.{Sources, sources}
 use Rattle.machine_state.specs.Settled.{EndsWhile}
 use Rattle.machine_state.specs.Wants.{found_for, fits_for}
-use Rattle.proc_calls.specs.Callers.{space_held}
+use Rattle.fault_fill.specs.Growth.{space_held}
 use Rattle.proc_calls.specs.Leaving.{HasLeftBy, HasLeft}
 use Rattle.proc_calls.specs.Making.{with_pieces, without_pieces}
 use Rattle.proc_calls.specs.Starting.{wants_found, Finds}

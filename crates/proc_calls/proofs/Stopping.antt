@@ -14,7 +14,7 @@ use Rattle.machine_state.specs.Conditions.{HasStopped}
 use Rattle.machine_state.specs.Settled.{StopsSettling}
 use Rattle.machine_state.proofs.Asked.{stopped_found}
 use Rattle.proc_calls.specs.Answered.{StopsBefore}
-use Rattle.proc_calls.specs.Callers.{space_held}
+use Rattle.fault_fill.specs.Growth.{space_held}
 use Rattle.proc_calls.specs.Leaving.{HasSettled, HasLeftBy, HasLeft, StopsLeaving, StopsAlive}
 use Rattle.proc_calls.specs.Making.{with_pieces}
 use Rattle.proc_calls.specs.Starting.{StopsFinding}

@@ -2,21 +2,11 @@
 use Rattle.std.specs.Prelude.{◌≡◌, ℕ, [], Option, Some, None}
 use Rattle.vm_facts.specs.declared.regs.Regs.{Regs}
 use Rattle.flat_state.specs.Flat.{cleared}
-use Rattle.page_model.specs.Pages.{numbered}
 use Rattle.kernel_model.specs.Kernel.{Kernel, Proc}
-use Rattle.kernel_model.specs.ChangeStep.{space_of_life}
+use Rattle.kernel_model.specs.Unit.{proc_of}
 use Rattle.machine_state.specs.Going.{CanGoOn}
 use Rattle.machine_state.specs.Machine.{Standing}
-use Rattle.machine_state.specs.Calls.{life_in}
 use Rattle.machine_state.specs.UserMemory.{CanLend}
-
--- the process of this number, if there is one
-abbrev pub proc_in : Kernel → ℕ → Option Proc
-proc_in k pid = numbered (λ (p : Proc). p.pid) pid k.processes
-
--- the space that a process holds
-abbrev pub space_held : Kernel → ℕ → ℕ
-space_held k pid = space_of_life (life_in k pid)
 
 -- the registers that a record has; all clear where there is none
 abbrev pub regs_by : Option Proc → Regs
@@ -25,7 +15,7 @@ regs_by (Some p) = p.regs
 
 -- the registers that its record has
 abbrev pub regs_of : Kernel → ℕ → Regs
-regs_of k pid = regs_by (proc_in k pid)
+regs_of k pid = regs_by (proc_of k pid)
 
 -- the parent's number that a record has; 0 where there is none
 abbrev pub parent_by : Option Proc → ℕ
@@ -34,7 +24,7 @@ parent_by (Some p) = p.parent
 
 -- the number of its parent
 abbrev pub parent_of : Kernel → ℕ → ℕ
-parent_of k pid = parent_by (proc_in k pid)
+parent_of k pid = parent_by (proc_of k pid)
 
 -- the machine can go on, and no page is due; the process is there, holds a space that is there, and is in
 pub record IsCaller (m : Standing) (pid : ℕ) : Type 0 where

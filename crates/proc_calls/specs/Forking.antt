@@ -10,8 +10,8 @@ use Rattle.page_model.specs.Place.{data_count, stack_count, fork_space}
 use Rattle.kernel_model.specs.Kernel.{Kernel}
 use Rattle.machine_state.specs.Want.{Want}
 use Rattle.machine_state.specs.Machine.{Standing}
+use Rattle.fault_fill.specs.Growth.{space_held}
 use Rattle.proc_calls.specs.Answered.{StopsOnce}
-use Rattle.proc_calls.specs.Callers.{space_held}
 use Rattle.proc_calls.specs.Copying.{AreCopiesFrom, CopiesAll, StopsCopying}
 use Rattle.proc_calls.specs.Making.{HasChild, MakesChild, StopsMaking}
 

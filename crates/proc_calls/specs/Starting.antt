@@ -27,7 +27,7 @@ use Rattle.machine_state.specs.Conditions.{KeepsFlat}
 use Rattle.machine_state.specs.Wants.{found_for}
 use Rattle.machine_state.specs.UserMemory.{kernel_answers}
 use Rattle.machine_state.specs.Want.{Want}
-use Rattle.proc_calls.specs.Callers.{space_held}
+use Rattle.fault_fill.specs.Growth.{space_held}
 use Rattle.proc_calls.specs.declared.replying.Called.{Called}
 use Rattle.proc_calls.specs.declared.replying.Called.TheVariants as calls
 use Rattle.proc_calls.specs.Answered.{Answered, Comes, StopsOnce, StopsBefore, StopsReading}

@@ -3,13 +3,14 @@ ghost use Rattle.std.specs.Prelude.{◌≡◌, ◌≤◌, true, IsSome, IfOk, On
 ghost use Rattle.user_vax.specs.Program.{run};
 ghost use Rattle.flat_model.specs.Calls.{exit_reply};
 ghost use Rattle.flat_model.specs.declared.calls.Reply.TheVariants.{Exits};
-ghost use Rattle.kernel_model.specs.Unit.{has_lender, lender_among};
+ghost use Rattle.kernel_model.specs.Unit.{has_lender, lender_among, proc_of};
 ghost use Rattle.machine_state.specs.Going.{CanGoOn, IsRunning};
 ghost use Rattle.machine_state.specs.Files.{AreFiles};
 ghost use Rattle.machine_state.specs.UserMemory.{CanLend, kernel_answers};
 ghost use Rattle.machine_state.specs.Outside.{stop_of, TransfersPages};
 ghost use Rattle.vfork_pass.specs.Passed.{HasGivenBack};
-ghost use Rattle.proc_calls.specs.Callers.{proc_in, space_held, IsCaller};
+ghost use Rattle.fault_fill.specs.Growth.{space_held};
+ghost use Rattle.proc_calls.specs.Callers.{IsCaller};
 ghost use Rattle.proc_calls.specs.Leaving.{HasLeft, HasEnded, IsExit, ExitComes, StopsLeaving, StopsAlive, StopsExit};
 
 use crate::replying::{Called, process, refuse};
@@ -24,7 +25,7 @@ use vm_facts::{Entry, Regs, Stop};
 // Whether some process lends its space to this one.
 fn is_borrower(m: &Machine, pid: u32) -> bool
     requires running { IsRunning m.now }
-    requires there { IsSome (proc_in m.now.kernel pid) }
+    requires there { IsSome (proc_of m.now.kernel pid) }
     ensures { result ≡ has_lender m.now.kernel.processes pid }
 {
     match m.processes().get(pid) {

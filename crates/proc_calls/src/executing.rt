@@ -8,7 +8,8 @@ ghost use Rattle.machine_state.specs.Going.{CanGoOn};
 ghost use Rattle.machine_state.specs.Files.{AreFiles};
 ghost use Rattle.machine_state.specs.UserMemory.{CanLend, kernel_answers};
 ghost use Rattle.machine_state.specs.Outside.{stop_of, TransfersPages};
-ghost use Rattle.proc_calls.specs.Callers.{space_held, IsCaller};
+ghost use Rattle.fault_fill.specs.Growth.{space_held};
+ghost use Rattle.proc_calls.specs.Callers.{IsCaller};
 ghost use Rattle.proc_calls.specs.Reading.{AreNamed, StartsAs, execve_from};
 ghost use Rattle.proc_calls.specs.Starting.{IsImageOf, execve_read, ExecComes, StopsExec};
 

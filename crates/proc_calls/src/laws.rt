@@ -10,7 +10,7 @@ ghost use Rattle.page_model.specs.Pages.{numbered};
 ghost use Rattle.kernel_model.specs.Kernel.{Kernel};
 ghost use Rattle.kernel_model.specs.Sound.{TextFits};
 ghost use Rattle.kernel_model.specs.Coupled.{SameTables, image_text};
-ghost use Rattle.proc_calls.specs.Callers.{space_held};
+ghost use Rattle.fault_fill.specs.Growth.{space_held};
 ghost use Rattle.proc_calls.specs.Sizing.{break_read};
 
 /// Where a machine has the processes and spaces of a flat state, the flat machine replies to a break of a process with the

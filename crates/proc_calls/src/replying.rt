@@ -8,8 +8,9 @@ ghost use Rattle.machine_state.specs.Going.{CanGoOn, IsRunning};
 ghost use Rattle.machine_state.specs.Machine.{proc_shown};
 ghost use Rattle.machine_state.specs.Applying.{CanApply};
 ghost use Rattle.machine_state.specs.Conditions.{HasStopped};
+ghost use Rattle.kernel_model.specs.Unit.{proc_of};
 ghost use Rattle.proc_calls.specs.Answered.{Answered, Replied, Comes, StopsBefore, StopsReading};
-ghost use Rattle.proc_calls.specs.Callers.{proc_in, IsCaller};
+ghost use Rattle.proc_calls.specs.Callers.{IsCaller};
 
 use flat_model::{EFAULT, ENOMEM, SystemCall};
 use flat_state::Change;
@@ -34,8 +35,8 @@ pub enum Called {
 /// The record of a process that there is.
 pub fn process(m: &Machine, pid: u32) -> Proc
     requires running { IsRunning m.now }
-    requires there { IsSome (proc_in m.now.kernel pid) }
-    ensures { proc_in m.now.kernel pid ≡ Some (proc_shown result) }
+    requires there { IsSome (proc_of m.now.kernel pid) }
+    ensures { proc_of m.now.kernel pid ≡ Some (proc_shown result) }
 {
     match m.processes().get(pid) {
         Some(process) => *process,

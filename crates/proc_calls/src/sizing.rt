@@ -16,8 +16,9 @@ ghost use Rattle.machine_state.specs.Applying.{CanApply};
 ghost use Rattle.machine_state.specs.Files.{AreFiles};
 ghost use Rattle.machine_state.specs.UserMemory.{CanLend, kernel_answers};
 ghost use Rattle.machine_state.specs.Outside.{stop_of, TransfersPages};
+ghost use Rattle.fault_fill.specs.Growth.{space_held};
 ghost use Rattle.proc_calls.specs.Answered.{Replied};
-ghost use Rattle.proc_calls.specs.Callers.{space_held, IsCaller};
+ghost use Rattle.proc_calls.specs.Callers.{IsCaller};
 ghost use Rattle.proc_calls.specs.Sizing.{process_data_pages, process_stack_pages, pages_to, Grows, CutData, MovesEnd, BreakComes, StopsPlain, StopsBreaking, StopsBreak};
 
 use crate::replying::{Called, fail, process, refuse, replied_one, reply};

@@ -7,8 +7,9 @@ ghost use Rattle.flat_model.specs.declared.calls.SystemCall.TheVariants.{Write};
 ghost use Rattle.machine_state.specs.Going.{CanGoOn};
 ghost use Rattle.machine_state.specs.Conditions.{HasStopped};
 ghost use Rattle.machine_state.specs.UserMemory.{CanLend, kernel_answers};
+ghost use Rattle.fault_fill.specs.Growth.{space_held};
 ghost use Rattle.proc_calls.specs.Answered.{GoneOut, Replied, Comes};
-ghost use Rattle.proc_calls.specs.Callers.{IsCaller, space_held};
+ghost use Rattle.proc_calls.specs.Callers.{IsCaller};
 ghost use Rattle.proc_calls.specs.Writing.{IsWrite, StopsOut};
 
 use crate::replying::{Called, fail, process, refuse, replied_one, reply};

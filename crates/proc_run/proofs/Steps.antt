@@ -28,8 +28,9 @@ use Rattle.machine_state.specs.Machine.{Standing}
 use Rattle.machine_state.specs.Conditions.{HasStopped}
 use Rattle.machine_state.specs.UserMemory.{kernel_answers, writes_in}
 use Rattle.steady_laws.specs.Stops.{LeftBy}
-use Rattle.steady_laws.specs.Callers.{regs_of, space_held}
+use Rattle.steady_laws.specs.Callers.{regs_of}
 use Rattle.steady_laws.specs.Leaving.{HasEnded, StopsAlive}
+use Rattle.steady_laws.specs.Growth.{space_held}
 use Rattle.run_model.specs.Act.{act}
 use Rattle.run_model.specs.State.{State}
 use Rattle.run_model.specs.Wanted.{wanted, touched_next}

@@ -18,7 +18,7 @@ use Rattle.machine_state.specs.UserMemory.{kernel_answers}
 use Rattle.steady_laws.specs.Called.{Called}
 use Rattle.steady_laws.specs.Called.TheVariants as calls
 use Rattle.steady_laws.specs.Answered.{Replied, Comes, StopsBefore}
-use Rattle.steady_laws.specs.Callers.{parent_of, space_held}
+use Rattle.steady_laws.specs.Callers.{parent_of}
 use Rattle.steady_laws.specs.Copying.{HasCopied}
 use Rattle.steady_laws.specs.Forking.{Forked, StopsForking}
 use Rattle.steady_laws.specs.Leaving.{ExitComes, StopsExit}
@@ -28,6 +28,7 @@ use Rattle.steady_laws.specs.Sizing.{BreakComes, StopsBreak}
 use Rattle.steady_laws.specs.Starting.{ExecComes, StopsExec}
 use Rattle.steady_laws.specs.Waiting.{wait_answer}
 use Rattle.steady_laws.specs.Writing.{StopsOut}
+use Rattle.steady_laws.specs.Growth.{space_held}
 
 -- what a process reads of its space, over the frames
 abbrev pub own_answers : Standing → ℕ → Answers

@@ -8,7 +8,7 @@ ghost use Rattle.flat_state.specs.Journal.{append};
 ghost use Rattle.machine_state.specs.Going.{CanGoOn};
 ghost use Rattle.machine_state.specs.Joined.{instructions_in, last_says};
 ghost use Rattle.machine_state.specs.UserMemory.{CanLend, Wrote, kernel_answers};
-ghost use Rattle.steady_laws.specs.Callers.{space_held};
+ghost use Rattle.steady_laws.specs.Growth.{space_held};
 ghost use Rattle.proc_run.specs.Stretch.{Leaves};
 
 use machine_state::Machine;

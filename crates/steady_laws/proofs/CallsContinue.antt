@@ -18,14 +18,14 @@ use Rattle.flat_model.specs.Step.{call_entry}
 use Rattle.page_model.specs.Pages.{numbered}
 use Rattle.kernel_model.specs.Kernel.{Proc, Kernel}
 use Rattle.kernel_model.specs.ChangeStep.{pass_step, life_of_proc, space_of_life, passed_life}
-use Rattle.kernel_model.specs.Unit.{lender_among, has_lender}
+use Rattle.kernel_model.specs.Unit.{lender_among, has_lender, proc_of}
 use Rattle.kernel_laws.proofs.Flat.Numbered.{numbered_map}
 use Rattle.page_laws.proofs.Lists.Pages.{mapped}
 use Rattle.machine_state.specs.Machine.{Standing}
 use Rattle.machine_state.specs.Done.{sources}
 use Rattle.proc_calls.specs.declared.replying.Called.{Called}
 use Rattle.proc_calls.specs.Answered.{GoneOut, Written, Replied, Comes}
-use Rattle.proc_calls.specs.Callers.{proc_in, space_held, regs_of, IsCaller}
+use Rattle.proc_calls.specs.Callers.{regs_of, IsCaller}
 use Rattle.proc_calls.specs.Leaving.{HasSettled, HasLeftBy, HasLeft, HasEnded, ExitComes}
 use Rattle.proc_calls.specs.Making.{is_below_limit, finds_pieces, with_pieces, without_pieces, IsRefused, MakesChildBy, HasLentSpace, Vforked}
 use Rattle.proc_calls.specs.Sizing.{pages_to, process_stack_pages, GrownData, NoPieces, CutData, MovesEnd, BreakComes}
@@ -33,6 +33,7 @@ use Rattle.proc_calls.specs.Waiting.{is_child, is_ended_child, wait_by_records, 
 use Rattle.proc_calls.specs.Writing.{IsWriteReply}
 use Rattle.proc_calls.proofs.Writes.{may_write}
 use Rattle.proc_calls.proofs.Callers.{caller_there, still_calls}
+use Rattle.proc_calls.specs.Growth.{space_held}
 use Rattle.steady_laws.specs.Calls.{called_count, RepliesNone, AnswersNone}
 use Rattle.steady_laws.specs.Ready.{Continues}
 use Rattle.steady_laws.proofs.Transfers.{settled_on}
@@ -147,10 +148,10 @@ vfork_continues old new pid regs c h =
 
 -- A space that a process leaves.
 
-passed_there : (k : Kernel) (from to pid : ℕ) → IsSome (proc_in k pid) → IsSome (proc_in (pass_step k from to) pid)
+passed_there : (k : Kernel) (from to pid : ℕ) → IsSome (proc_of k pid) → IsSome (proc_of (pass_step k from to) pid)
 passed_there k from to pid s =
-    let sid = space_of_life (life_of_proc (proc_in k from)) in
-    let receiver = life_of_proc (proc_in k to) in
+    let sid = space_of_life (life_of_proc (proc_of k from)) in
+    let receiver = life_of_proc (proc_of k to) in
     go (λ (q : Proc). record q { life = passed_life sid from to receiver q }) (λ q. refl)
   where
     some : (f : Proc → Proc) (o : Option Proc) → IsSome o → IsSome (mapped f o)
@@ -158,7 +159,7 @@ passed_there k from to pid s =
     some f (Some p) t = refl
 
     go : (f : Proc → Proc) → ((q : Proc) → (f q).pid ≡ q.pid) → IsSome (numbered (λ (p : Proc). p.pid) pid (map f k.processes))
-    go f same = subst IsSome (sym (numbered_map (λ (p : Proc). p.pid) f same pid k.processes)) (some f (proc_in k pid) s)
+    go f same = subst IsSome (sym (numbered_map (λ (p : Proc). p.pid) f same pid k.processes)) (some f (proc_of k pid) s)
 
 -- it went on, and the process may make an entry
 pub record Left (old new : Standing) (pid : ℕ) : Type 0 where
@@ -188,7 +189,7 @@ left_by true old new pid holds i j c h =
       on = on;
       may = record {
         clear = on.clear;
-        there = subst (λ (m : Standing). IsSome (proc_in m.kernel pid)) (sym h.step) (passed_there old.kernel pid lender pid (caller_there old.kernel pid c.lends));
+        there = subst (λ (m : Standing). IsSome (proc_of m.kernel pid)) (sym h.step) (passed_there old.kernel pid lender pid (caller_there old.kernel pid c.lends));
       };
       numbers = ap (λ (m : Standing). m.kernel.next_sid) h.step;
     }

@@ -17,13 +17,14 @@ use Rattle.flat_state.specs.declared.spot.Spot.{Spot}
 use Rattle.flat_state.specs.declared.spot.Spot.TheVariants.{Text, Data, Stack, Below, Outside}
 use Rattle.page_model.specs.Placement.{state_of}
 use Rattle.kernel_model.specs.Kernel.{Proc, Kernel, note_step}
-use Rattle.kernel_model.specs.ChangeStep.{changing_of, change_if, ran_by, pass_step}
+use Rattle.kernel_model.specs.ChangeStep.{change_if, ran_by, pass_step, changing_of}
+use Rattle.kernel_model.specs.Unit.{proc_of}
 use Rattle.machine_state.specs.Machine.{Standing}
 use Rattle.machine_state.specs.Applying.{facts_named}
 use Rattle.machine_state.specs.UserMemory.{spot_in, write_by_state, write_page, write_spot, write_in, writes_in}
 use Rattle.swapper.specs.LastMoves.{last_moves}
 use Rattle.proc_calls.specs.Answered.{Entered}
-use Rattle.proc_calls.specs.Callers.{proc_in, IsCaller}
+use Rattle.proc_calls.specs.Callers.{IsCaller}
 use Rattle.proc_calls.specs.Making.{with_pieces}
 use Rattle.proc_calls.proofs.Callers.{caller_there}
 use Rattle.steady_laws.specs.Entries.{LeavesNone}
@@ -35,7 +36,7 @@ use Rattle.steady_laws.proofs.Running.{entry_on}
 -- Nothing is due, and the process is there.
 pub record MayEnter (m : Standing) (pid : ℕ) : Type 0 where
   pub clear : m.kernel.place.due ≡ []
-  pub there : IsSome (proc_in m.kernel pid)
+  pub there : IsSome (proc_of m.kernel pid)
 
 pub may_enter : (m : Standing) (pid : ℕ) → IsCaller m pid → MayEnter m pid
 may_enter m pid c = record { clear = c.clear; there = caller_there m.kernel pid c.lends }
@@ -59,15 +60,15 @@ clear_by : (images : List Image) (k : Kernel) (regs : Regs) (e : Entry) (change 
 clear_by images k regs e change None n = refl
 clear_by images k regs e change (Some p) n = change_due (changing_of images k p e) k.place change n
 
-entered_behind : (old new : Standing) (pid : ℕ) (regs : Regs) (e : Entry) (change : Change) → IsSome (proc_in old.kernel pid)
+entered_behind : (old new : Standing) (pid : ℕ) (regs : Regs) (e : Entry) (change : Change) → IsSome (proc_of old.kernel pid)
     → Entered old new pid regs e change → IsBehind old.kernel new.kernel e
 entered_behind old new pid regs e change s h =
-    subst (λ (l : Kernel). IsBehind old.kernel l e) (sym h.step) (behind_by (facts_named old.images) old.kernel regs e change (proc_in old.kernel pid) s)
+    subst (λ (l : Kernel). IsBehind old.kernel l e) (sym h.step) (behind_by (facts_named old.images) old.kernel regs e change (proc_of old.kernel pid) s)
 
 -- The machine.
 
 -- where a process is there that made an entry, the machine runs on
-pub entered_runs : (old new : Standing) (pid : ℕ) (regs : Regs) (e : Entry) (change : Change) → IsSome (proc_in old.kernel pid)
+pub entered_runs : (old new : Standing) (pid : ℕ) (regs : Regs) (e : Entry) (change : Change) → IsSome (proc_of old.kernel pid)
     → Entered old new pid regs e change → RunsOn old new (counted e)
 entered_runs old new pid regs e change s h =
     let b = entered_behind old new pid regs e change s h in
@@ -84,7 +85,7 @@ pub entered_on : (old new : Standing) (pid : ℕ) (regs : Regs) (e : Entry) (cha
 entered_on old new pid regs e change s plain n h =
     let b = entered_behind old new pid regs e change s.there h in
     entry_on old new e (record { params = ap (λ (m : Standing). m.params) h.rest; images = ap (λ (m : Standing). m.images) h.rest })
-    (ap (λ (l : Kernel). l.place.due) h.step ∙ clear_by (facts_named old.images) old.kernel regs e change (proc_in old.kernel pid) n ∙ s.clear)
+    (ap (λ (l : Kernel). l.place.due) h.step ∙ clear_by (facts_named old.images) old.kernel regs e change (proc_of old.kernel pid) n ∙ s.clear)
     b.frames b.journal (last_plain old.kernel.journal e plain)
 
 pub entry_continues : (old new : Standing) (pid : ℕ) (regs : Regs) (e : Entry) (change : Change) → IsCaller old pid → IsPlain e → LeavesNone change

@@ -30,12 +30,13 @@ use Rattle.flat_model.specs.Step.{call_entry}
 use Rattle.page_model.specs.Placement.{Due, Start, CopyOf}
 use Rattle.page_model.specs.Place.{due_after}
 use Rattle.kernel_model.specs.Kernel.{Proc, Kernel}
-use Rattle.kernel_model.specs.ChangeStep.{changing_of, change_if}
+use Rattle.kernel_model.specs.ChangeStep.{change_if, changing_of}
+use Rattle.kernel_model.specs.Unit.{proc_of}
 use Rattle.machine_state.specs.Machine.{Standing}
 use Rattle.machine_state.specs.Applying.{facts_named}
 use Rattle.swapper.specs.Made.{ground}
 use Rattle.proc_calls.specs.Answered.{Answered}
-use Rattle.proc_calls.specs.Callers.{proc_in, IsCaller}
+use Rattle.proc_calls.specs.Callers.{IsCaller}
 use Rattle.proc_calls.specs.Copying.{CopiesPage, CopiesAll, HasCopied}
 use Rattle.proc_calls.specs.Filling.{FillsStart}
 use Rattle.proc_calls.specs.Forking.{HasNewSpace, Forked}
@@ -111,7 +112,7 @@ exec_on asked new pid after image top s h = record {
   on = entered_runs asked new pid after (call_entry pid system_calls.Execve after) (Exec image top) s.there h;
   filled =
       ap (λ (k : Kernel). due_after k.place.due (Stack asked.kernel.next_sid 0)) h.step
-      ∙ filled_by (facts_named asked.images) asked.kernel after (call_entry pid system_calls.Execve after) image top (proc_in asked.kernel pid) s.there s.clear;
+      ∙ filled_by (facts_named asked.images) asked.kernel after (call_entry pid system_calls.Execve after) image top (proc_of asked.kernel pid) s.there s.clear;
 }
 
 pub start_continues : (old between new : Standing) (pid : ℕ) (after : Regs) (image : ℕ) (top : List ℕ) (holds later : Option (List NamedFile))

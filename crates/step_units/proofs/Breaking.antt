@@ -35,7 +35,7 @@ use Rattle.flat_model.specs.Step.{Step, data_pages_of, call_entry, reply_asked, 
 use Rattle.flat_model.specs.Run.{Point, step_at, due_at}
 use Rattle.proc_calls.specs.declared.replying.Called.{Called}
 use Rattle.proc_calls.specs.Answered.{Replied}
-use Rattle.proc_calls.specs.Callers.{space_held}
+use Rattle.proc_calls.specs.Growth.{space_held}
 use Rattle.proc_calls.specs.Leaving.{HasSettled}
 use Rattle.proc_calls.specs.Sizing.{process_data_pages as pages_held, process_stack_pages as stack_held, pages_to, data_sized, break_at, break_read, with_pieces, SameData, GrownData, NoPieces, CutData, Plain, MovesEnd, BreakComes, StopsPlain, StopsOnceSettled, StopsCutting, StopsBreaking, StopsBreak}
 use Rattle.proc_calls.proofs.Sizes.{replies as sized_reply, fails as sized_failure, none_asked as none_sized}

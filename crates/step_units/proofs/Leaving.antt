@@ -21,7 +21,7 @@ use Rattle.machine_state.specs.Done.{sources}
 use Rattle.machine_state.specs.Settled.{StopsSettling}
 use Rattle.swapper.proofs.Stopping.{stays_starved, full_here}
 use Rattle.swapper.specs.Stops.{StaysPut, StaysStarved, StaysReturned, LeftBy}
-use Rattle.proc_calls.specs.Callers.{space_held}
+use Rattle.proc_calls.specs.Growth.{space_held}
 use Rattle.proc_calls.specs.Leaving.{HasSettled, HasLeftBy, HasLeft, StopsOwn, StopsLent, StopsLeaving}
 use Rattle.proc_calls.proofs.Leaving.{GoesOn, settled_goes}
 use Rattle.run_model.specs.State.{State}

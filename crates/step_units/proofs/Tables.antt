@@ -13,11 +13,13 @@ use Rattle.flat_model.specs.Calls.{replied_both, status_of, wait_by, wait_reply}
 use Rattle.kernel_model.specs.Kernel.{Kernel, Proc, HoldsSpace, life_of}
 use Rattle.kernel_model.specs.Coupled.{Outline, outline_kept, outline_of, SameTables}
 use Rattle.kernel_model.specs.ChangeStep.{is_ended, life_of_proc, space_of_life}
+use Rattle.kernel_model.specs.Unit.{proc_of}
 use Rattle.kernel_laws.proofs.Machine.Swaps.{found_at}
 use Rattle.kernel_laws.proofs.Machine.Tables.{kept_at, outline_at}
 use Rattle.machine_state.specs.Calls.{life_in}
-use Rattle.proc_calls.specs.Callers.{proc_in, space_held, regs_of, regs_by, parent_of, parent_by}
+use Rattle.proc_calls.specs.Callers.{regs_of, regs_by, parent_of, parent_by}
 use Rattle.proc_calls.specs.Waiting.{is_child, is_ended_child, exit_status as kept_status, wait_by_records as kept_wait, wait_answer as wait_among}
+use Rattle.proc_calls.specs.Growth.{space_held}
 use Rattle.run_model.specs.State.{State}
 use Rattle.run_units.specs.Serving.{At}
 use Rattle.run_units.specs.Touching.{IsRunning}
@@ -27,7 +29,7 @@ use Rattle.run_units.proofs.Stepping.{record_registers}
 
 pub record IsKept (k : Kernel) (pid : ℕ) (p : Process) (x : Space) : Type 0 where
   pub proc : Proc
-  pub there : proc_in k pid ≡ Some proc
+  pub there : proc_of k pid ≡ Some proc
   pub outline : outline_kept proc ≡ outline_of p
   pub number : p.pid ≡ pid
   pub life : proc.life ≡ HoldsSpace x.sid

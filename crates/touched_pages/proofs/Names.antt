@@ -12,7 +12,7 @@ use Rattle.flat_state.specs.Flat.{NamedImage}
 use Rattle.flat_model.specs.Calls.{numbered_by, image_named, path_image, string_from, string_limit, execve_of, arguments_at, starts}
 use Rattle.machine_state.specs.Machine.{Standing}
 use Rattle.machine_state.specs.Sourced.{ImageNamed}
-use Rattle.proc_calls.specs.Callers.{space_held}
+use Rattle.proc_calls.specs.Growth.{space_held}
 use Rattle.proc_calls.specs.Reading.{refusal_of, AreNamed, execve_from}
 use Rattle.proc_calls.proofs.Names.{refused_then}
 use Rattle.touched_pages.specs.Shown.{shown_in}

@@ -19,7 +19,7 @@ use Rattle.kernel_laws.proofs.Machine.Tables.{kept_at, outline_at}
 use Rattle.machine_state.specs.Machine.{Standing}
 use Rattle.machine_state.specs.UserMemory.{kernel_answers, page_in}
 use Rattle.machine_state.proofs.FlatMemory.{memory_covers}
-use Rattle.proc_calls.specs.Callers.{space_held}
+use Rattle.proc_calls.specs.Growth.{space_held}
 use Rattle.proc_calls.specs.Reading.{AreNamed}
 use Rattle.flat_model.specs.Step.{written_process}
 use Rattle.flat_model.specs.Touched.{page_of_access, step_accesses, distinct, touched, touched_by, touched_in, touched_if}

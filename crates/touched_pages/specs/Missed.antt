@@ -17,7 +17,7 @@ use Rattle.page_model.specs.Placement.{Placement, state_of}
 use Rattle.kernel_model.specs.Kernel.{Kernel}
 use Rattle.machine_state.specs.Sourced.{ImageNamed}
 use Rattle.machine_state.specs.UserMemory.{page_in, kernel_answers}
-use Rattle.proc_calls.specs.Callers.{space_held}
+use Rattle.proc_calls.specs.Growth.{space_held}
 
 -- an image of a machine has this name
 abbrev pub has_name : List ℕ → List ImageNamed → Bool

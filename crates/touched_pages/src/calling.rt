@@ -7,7 +7,7 @@ ghost use Rattle.flat_model.specs.Calls.{argument, three_arguments, write_reply,
 ghost use Rattle.machine_state.specs.Going.{CanGoOn};
 ghost use Rattle.machine_state.specs.Machine.{image_shown};
 ghost use Rattle.machine_state.specs.UserMemory.{CanLend};
-ghost use Rattle.proc_calls.specs.Callers.{space_held};
+ghost use Rattle.proc_calls.specs.Growth.{space_held};
 ghost use Rattle.proc_calls.specs.Reading.{refusal_of, AreNamed, execve_from};
 ghost use Rattle.touched_pages.specs.Shown.{shown_in};
 ghost use Rattle.touched_pages.specs.Missed.{has_name};

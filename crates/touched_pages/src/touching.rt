@@ -10,7 +10,7 @@ ghost use Rattle.machine_state.specs.Going.{CanGoOn, IsRunning};
 ghost use Rattle.machine_state.specs.UserMemory.{CanLend, page_in};
 ghost use Rattle.run_model.specs.State.{State};
 ghost use Rattle.run_model.specs.Wanted.{locked};
-ghost use Rattle.proc_calls.specs.Callers.{space_held};
+ghost use Rattle.proc_calls.specs.Growth.{space_held};
 ghost use Rattle.proc_calls.specs.Reading.{AreNamed};
 ghost use Rattle.touched_pages.specs.Shown.{shown_in};
 ghost use Rattle.touched_pages.specs.Missed.{missed_byte, missed_by_call, first_missed, page_missed, valid_only, WritesNothing};

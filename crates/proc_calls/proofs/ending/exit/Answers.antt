@@ -1,6 +1,6 @@
 use Rattle.std.proofs.Common.{sym}
 use Rattle.machine_state.specs.UserMemory.{kernel_answers}
-use Rattle.proc_calls.specs.Callers.{space_held}
+use Rattle.fault_fill.specs.Growth.{space_held}
 use Rattle.proc_calls.proofs.Exits.{only_exits}
 use Rattle.proc_calls.proofs.ending.exit.Goals as goal
 

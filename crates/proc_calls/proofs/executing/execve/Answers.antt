@@ -8,7 +8,7 @@ use Rattle.flat_model.specs.Calls.{execve_reply}
 use Rattle.flat_model.specs.declared.calls.Reply.{Reply}
 use Rattle.flat_model.specs.declared.calls.Reply.TheVariants.{Does}
 use Rattle.machine_state.specs.UserMemory.{kernel_answers}
-use Rattle.proc_calls.specs.Callers.{space_held}
+use Rattle.fault_fill.specs.Growth.{space_held}
 use Rattle.proc_calls.proofs.Begins.{exec_ok, exec_stops}
 use Rattle.proc_calls.proofs.executing.execve.Goals as goal
 

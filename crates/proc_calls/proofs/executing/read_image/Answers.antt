@@ -11,7 +11,7 @@ use Rattle.machine_state.specs.Named.{Named}
 use Rattle.machine_state.specs.Applying.{facts_named}
 use Rattle.machine_state.specs.New.{AreSound}
 use Rattle.machine_state.specs.UserMemory.{kernel_answers}
-use Rattle.proc_calls.specs.Callers.{space_held}
+use Rattle.fault_fill.specs.Growth.{space_held}
 use Rattle.proc_calls.specs.Reading.{IsPathImage, IsAmong}
 use Rattle.proc_calls.proofs.Names.{ExecveBy, execve_is, got, started}
 use Rattle.proc_calls.proofs.Execs.{shown_by, entry_fits}

@@ -1,7 +1,7 @@
 use Rattle.std.proofs.Common.{ℕ, ◌*◌, ◌-◌, ap, ◌∙◌}
 use Rattle.aout_image.specs.Image.{pages_for}
 use Rattle.page_model.specs.Placement.{image_of}
-use Rattle.proc_calls.specs.Callers.{space_held}
+use Rattle.fault_fill.specs.Growth.{space_held}
 use Rattle.proc_calls.proofs.Sizes.{data_counted, stack_counted, text_counted, rounded_up}
 use Rattle.proc_calls.proofs.sizing.sizes_to.Goals as goal
 

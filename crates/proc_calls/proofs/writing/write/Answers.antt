@@ -8,7 +8,7 @@ use Rattle.user_vax.specs.declared.refused.Refused.{Refused}
 use Rattle.flat_model.specs.declared.calls.Reply.{Reply}
 use Rattle.flat_model.specs.Calls.{write_reply}
 use Rattle.machine_state.specs.UserMemory.{kernel_answers}
-use Rattle.proc_calls.specs.Callers.{space_held}
+use Rattle.fault_fill.specs.Growth.{space_held}
 use Rattle.proc_calls.specs.Writing.{IsWriteReply}
 use Rattle.proc_calls.proofs.Writes.{may_write}
 use Rattle.proc_calls.proofs.Stopping.{out_starved}

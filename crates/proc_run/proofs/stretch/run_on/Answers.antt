@@ -3,7 +3,7 @@ use Rattle.std.specs.Option.{is_some}
 use Rattle.vm_facts.specs.declared.entry.Entry.{Entry}
 use Rattle.machine_state.specs.Joined.{instructions_in, last_says}
 use Rattle.steady_laws.proofs.Journals.{last_counts_few}
-use Rattle.steady_laws.specs.Callers.{space_held}
+use Rattle.steady_laws.specs.Growth.{space_held}
 use Rattle.proc_run.proofs.SoFar.{lends_there}
 use Rattle.proc_run.proofs.Stretched.{none_ran, wrote_journal, ends_counted, ran_all, at_once}
 use Rattle.proc_run.proofs.Written.{wrote_lends}

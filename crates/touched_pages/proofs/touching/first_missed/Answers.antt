@@ -2,7 +2,7 @@ use Rattle.std.proofs.Common.{◌≡◌, rules, sym, ap, ◌∙◌, subst}
 use Rattle.std.specs.Prelude.{IfOk}
 use Rattle.flat_model.specs.Calls.{call_of}
 use Rattle.machine_state.specs.Machine.{Standing}
-use Rattle.proc_calls.specs.Callers.{space_held}
+use Rattle.proc_calls.specs.Growth.{space_held}
 use Rattle.proc_calls.specs.Reading.{AreNamed}
 use Rattle.touched_pages.specs.Shown.{shown_in}
 use Rattle.touched_pages.specs.Missed.{missed_by_call}
