@@ -30,7 +30,7 @@ use Rattle.clock_hands.proofs.Units.{made_on}
 use Rattle.fault_fill.specs.Serving.{CanServe, UnitMade, UnitStops, ServesTo, StopsServing}
 use Rattle.fault_fill.specs.Units.{AnyUnit, PlainMade, PlainStop, EndMade, EndStops, NoneMade, ComesTo, is_flying, Further}
 use Rattle.fault_fill.specs.Answers.{ServesAs, ServesNow}
-use Rattle.fault_fill.specs.declared.pages.Served.{Served}
+use Rattle.fault_fill.specs.declared.pages.PageServed.{PageServed}
 use Rattle.fault_fill.specs.declared.unit.Unit.{Unit as Came}
 use Rattle.fault_fill.specs.declared.unit.Unit.TheVariants as units
 use Rattle.fault_fill.proofs.Serving.{serves_append, Behind, served_behind, near, near_falls, calm_unit, unit_waits}
@@ -220,7 +220,7 @@ unit_nearer q old new holds before after o c u =
     (sym (served_place (ground old holds []) q false u.entry old.kernel new.kernel before u.next u.made))
     (near_falls old.kernel.place q u.entry o c.there u.next)
 
-pub served_later : (answer : Served) (q : Page) (old next new : Standing) (holds later : Option (List NamedFile)) (a b c : Option (List ℕ)) → later ≡ holds
+pub served_later : (answer : PageServed) (q : Page) (old next new : Standing) (holds later : Option (List NamedFile)) (a b c : Option (List ℕ)) → later ≡ holds
     → ServesTo false [] q old next holds a b → ServesAs answer q next new later b c → ServesAs answer q old new holds a c
 served_later answer q old next new holds later a b c e s t = (both_serve false [] q old next new holds later a b c e s t.0, t.1)
 

@@ -15,8 +15,8 @@ use Rattle.fault_fill.specs.Answers.{ServedAs, ServedNow, IsShort, AllStayValid}
 use Rattle.fault_fill.specs.Growth.{Grown, GrowthRefused}
 use Rattle.fault_fill.specs.declared.access.Access.{Access}
 use Rattle.fault_fill.specs.declared.access.Access.TheVariants as accesses
-use Rattle.fault_fill.specs.declared.pages.Served.{Served as Came}
-use Rattle.fault_fill.specs.declared.pages.Served.TheVariants as came
+use Rattle.fault_fill.specs.declared.pages.PageServed.{PageServed}
+use Rattle.fault_fill.specs.declared.pages.PageServed.TheVariants as page_served
 use Rattle.fault_fill.specs.declared.touch.Served.{Served}
 use Rattle.fault_fill.specs.declared.touch.Served.TheVariants as served
 
@@ -48,7 +48,7 @@ ReadyIf (Err answer) old new = Unit {0}
 -- Answers.
 
 -- the page was served, in few entries; other valid pages stay valid
-pub record PageComes (answer : Came) (q : Page) (old new : Standing) (holds : Option (List NamedFile)) (before after : Option (List ℕ)) : Type 0 where
+pub record PageComes (answer : PageServed) (q : Page) (old new : Standing) (holds : Option (List NamedFile)) (before after : Option (List ℕ)) : Type 0 where
   pub serves : ServedAs answer q old new holds before after
   pub few : IsShort q old new
   pub low : last_moves new.kernel.journal ≤ last_moves old.kernel.journal
@@ -63,9 +63,9 @@ pub record PageComesNow (locked : List Page) (q : Page) (old new : Standing) (ho
 
 -- what the answer says of the page of an access
 abbrev pub TouchedAs : Served → Page → Standing → Standing → Option (List NamedFile) → Option (List ℕ) → Option (List ℕ) → Type 0
-TouchedAs served.Valid q old new holds before after = PageComes came.Valid q old new holds before after
-TouchedAs (served.Asleep r) q old new holds before after = PageComes (came.Asleep r) q old new holds before after
-TouchedAs served.NoFrame q old new holds before after = PageComes came.NoFrame q old new holds before after
+TouchedAs served.Valid q old new holds before after = PageComes page_served.Valid q old new holds before after
+TouchedAs (served.Asleep r) q old new holds before after = PageComes (page_served.Asleep r) q old new holds before after
+TouchedAs served.NoFrame q old new holds before after = PageComes page_served.NoFrame q old new holds before after
 TouchedAs served.NoSpace q old new holds before after = ⊥
 TouchedAs (served.Signal signal) q old new holds before after = ⊥
 

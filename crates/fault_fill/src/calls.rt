@@ -9,7 +9,7 @@ ghost use Rattle.clock_hands.specs.LastMoves.{last_moves};
 ghost use Rattle.fault_fill.specs.Serving.{CanServe, StopsServing};
 ghost use Rattle.fault_fill.specs.Answers.{ServedAs, ServedNow, IsShort, AllStayValid};
 
-use crate::pages::{Served, serve_now_on, serve_on};
+use crate::pages::{PageServed, serve_now_on, serve_on};
 use io_edge::{Files, SwapDev};
 use machine_state::Machine;
 use vm_facts::{Page, Stop};
@@ -21,7 +21,7 @@ pub fn serve_page<F: Files, D: SwapDev>(
     files: &mut F,
     swap: &mut D,
     page: Page,
-) -> Result<Served, Stop>
+) -> Result<PageServed, Stop>
     requires ready { CanGoOn m.old }
     requires area { m.old.params.swap_blocks ≤ D.blocks swap.old }
     requires files { AreFiles m.old.images (F.holds files.old) }

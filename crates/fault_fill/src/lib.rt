@@ -10,5 +10,5 @@ mod unit;
 pub use access::{Access, access_in};
 pub use calls::{serve_page, serve_page_now};
 pub use clock_hands;
-pub use pages::Served as Came;
+pub use pages::PageServed;
 pub use touch::{Served, serve, serve_now};

@@ -17,7 +17,7 @@ use vm_facts::{Page, Stop};
 
 /// What serving a page comes to.
 #[derive(Clone, Copy, Debug, PartialEq, Eq, Drop)]
-pub enum Served {
+pub enum PageServed {
     /// The page is valid.
     Valid,
     /// A read or a write of the page is in flight.
@@ -32,7 +32,7 @@ pub(crate) fn serve_on<F: Files, D: SwapDev>(
     files: &mut F,
     swap: &mut D,
     page: Page,
-) -> Result<Served, Stop>
+) -> Result<PageServed, Stop>
     requires ready { CanGoOn m.old }
     requires area { m.old.params.swap_blocks ≤ D.blocks swap.old }
     requires files { AreFiles m.old.images (F.holds files.old) }
@@ -47,10 +47,10 @@ pub(crate) fn serve_on<F: Files, D: SwapDev>(
         Err(stop) => return Err(stop),
     };
     match unit {
-        Unit::Served => Ok(Served::Valid),
+        Unit::Served => Ok(PageServed::Valid),
         Unit::Nearer => serve_on(m, files, swap, page),
-        Unit::Waits => Ok(Served::Asleep(page)),
-        Unit::Starves => Ok(Served::NoFrame),
+        Unit::Waits => Ok(PageServed::Asleep(page)),
+        Unit::Starves => Ok(PageServed::NoFrame),
     }
 }
 

@@ -19,7 +19,7 @@ ghost use Rattle.fault_fill.specs.Touches.{Reaches, ReadyIf, TouchedAs, TouchedN
 
 use crate::access::{Access, access_in};
 use crate::calls::{serve_page, serve_page_now};
-use crate::pages::Served as Came;
+use crate::pages::PageServed;
 use flat_state::Change;
 use io_edge::{Files, SwapDev};
 use machine_state::{Machine, Want};
@@ -183,9 +183,9 @@ pub fn serve<F: Files, D: SwapDev>(
 {
     match page_for(m, pid, address, write)? {
         Ok(page) => match serve_page(m, files, swap, page) {
-            Ok(Came::Valid) => Ok(Served::Valid),
-            Ok(Came::Asleep(page)) => Ok(Served::Asleep(page)),
-            Ok(Came::NoFrame) => Ok(Served::NoFrame),
+            Ok(PageServed::Valid) => Ok(Served::Valid),
+            Ok(PageServed::Asleep(page)) => Ok(Served::Asleep(page)),
+            Ok(PageServed::NoFrame) => Ok(Served::NoFrame),
             Err(stop) => Err(stop),
         },
         Err(served) => Ok(served),

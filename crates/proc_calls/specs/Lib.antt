@@ -7,7 +7,7 @@ pub use Rattle.fault_fill.specs.Serving
 pub use Rattle.fault_fill.specs.Touches
 pub use Rattle.fault_fill.specs.Units
 pub use Rattle.fault_fill.specs.declared.access.Access as FaultFillAccessAccess
-pub use Rattle.fault_fill.specs.declared.pages.Served as FaultFillPagesServed
+pub use Rattle.fault_fill.specs.declared.pages.PageServed
 pub use Rattle.fault_fill.specs.declared.touch.Served as FaultFillTouchServed
 pub use Rattle.fault_fill.specs.Spans
 pub use Rattle.vfork_pass.specs.Passed

@@ -8,8 +8,8 @@ use Rattle.machine_state.specs.Machine.{Standing}
 use Rattle.swapper.specs.Made.{ground}
 use Rattle.proc_calls.specs.FaultFillAccessAccess.{Access}
 use Rattle.proc_calls.specs.FaultFillAccessAccess.TheVariants as accesses
-use Rattle.proc_calls.specs.FaultFillPagesServed.{Served as Came}
-use Rattle.proc_calls.specs.FaultFillPagesServed.TheVariants as came
+use Rattle.proc_calls.specs.PageServed.{PageServed}
+use Rattle.proc_calls.specs.PageServed.TheVariants as page_served
 use Rattle.proc_calls.specs.FaultFillTouchServed.{Served}
 use Rattle.proc_calls.specs.FaultFillTouchServed.TheVariants as served
 use Rattle.proc_calls.specs.Growth.{growth, Grown}
@@ -21,7 +21,7 @@ use Rattle.steady_laws.proofs.Entries.{found_continues, note_continues}
 
 -- A page.
 
-page_on : (answer : Came) (q : Page) (old new : Standing) (holds : Option (List NamedFile)) (i j : Option (List ℕ)) → old.kernel.place.due ≡ []
+page_on : (answer : PageServed) (q : Page) (old new : Standing) (holds : Option (List NamedFile)) (i j : Option (List ℕ)) → old.kernel.place.due ≡ []
     → PageComes answer q old new holds i j → Continues old new 0
 page_on answer q old new holds i j r p =
     units_continue (ground old holds []) p.serves.0.serves.units old new i j r p.serves.0.serves.makes p.low
@@ -34,9 +34,9 @@ page_now_on locked q old new holds i j r p =
 
 touched_on : (answer : Served) (q : Page) (old new : Standing) (holds : Option (List NamedFile)) (i j : Option (List ℕ)) → old.kernel.place.due ≡ []
     → TouchedAs answer q old new holds i j → Continues old new 0
-touched_on served.Valid q old new holds i j r h = page_on came.Valid q old new holds i j r h
-touched_on (served.Asleep p) q old new holds i j r h = page_on (came.Asleep p) q old new holds i j r h
-touched_on served.NoFrame q old new holds i j r h = page_on came.NoFrame q old new holds i j r h
+touched_on served.Valid q old new holds i j r h = page_on page_served.Valid q old new holds i j r h
+touched_on (served.Asleep p) q old new holds i j r h = page_on (page_served.Asleep p) q old new holds i j r h
+touched_on served.NoFrame q old new holds i j r h = page_on page_served.NoFrame q old new holds i j r h
 touched_on served.NoSpace q old new holds i j r h = absurd h
 touched_on (served.Signal signal) q old new holds i j r h = absurd h
 

@@ -3,7 +3,7 @@ use Rattle.page_model.specs.Ownership.{OwnsFrames}
 use Rattle.fault_fill.specs.Serving.{UnitMade, ServesTo, StopsServing}
 use Rattle.fault_fill.specs.Units.{ComesTo, AnyUnit}
 use Rattle.fault_fill.specs.Answers.{ServesAs}
-use Rattle.fault_fill.specs.declared.pages.Served.{Served}
+use Rattle.fault_fill.specs.declared.pages.PageServed.{PageServed}
 use Rattle.fault_fill.specs.declared.unit.Unit.{Unit as Came}
 use Rattle.fault_fill.proofs.Serving.{near, Behind}
 use Rattle.fault_fill.proofs.Leading.{match_map, area_on, files_on, one_serves, stops_here, stops_later, unit_behind, unit_nearer, served_later}
@@ -56,7 +56,7 @@ returns-in-Nearer-clause-served g t c =
     let j = g.D.SwapDev.image c.serve_on.new.swap in
     let any : AnyUnit q old next holds i h = subst (λ (u : Came). ComesTo u q old next holds i h) c.in-Nearer.is c.in-Ok.ensures.made in
     let s : ServesTo false [] q old next holds i h = one_serves false [] q old next holds i h c.requires.can (any false []) in
-    match_map (λ (a : Served). ServesAs a q next new later h j) (λ (a : Served). ServesAs a q old new holds i j)
+    match_map (λ (a : PageServed). ServesAs a q next new later h j) (λ (a : PageServed). ServesAs a q old new holds i j)
     (StopsServing false [] q next new later h j) (StopsServing false [] q old new holds i j) c.serve_on.result
     (λ a m. served_later a q old next new holds later i h j c.in-Ok.ensures.outside.files.holds s m)
     (λ stop m. stops_later false [] q old next new holds later i h j stop c.in-Ok.ensures.outside.files.holds s m)
