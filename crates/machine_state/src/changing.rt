@@ -3,7 +3,6 @@ ghost use Rattle.machine_state.specs.Going.{CanGoOn, IsRunning};
 ghost use Rattle.std.specs.Prelude.{◌≡◌, ◌⊎◌, ℕ, ◌+◌, ◌<◌, ◌≤◌, ◌↔◌, ◌^◌, ◌∷◌, ◌++◌, [], List, true, false, length, Some, None, IsSome, IfOk, OnOk, OnErr, Ok, Err};
 ghost use Rattle.vm_facts.specs.declared.entry.Entry.{Entry as Line};
 ghost use Rattle.vm_facts.specs.declared.entry.Entry.TheVariants.{Ran};
-ghost use Rattle.flat_state.specs.Journal.{append};
 ghost use Rattle.flat_state.specs.declared.change.Change.TheVariants.{Keep};
 ghost use Rattle.kernel_model.specs.Kernel.{note_step};
 ghost use Rattle.kernel_model.specs.ChangeStep.{change_step, pass_step, ran_by};
@@ -11,7 +10,7 @@ ghost use Rattle.kernel_model.specs.Sound.{lives};
 ghost use Rattle.table_steps.specs.Applying.{CanApply, ChangesWhole, MayPass, facts_named};
 ghost use Rattle.table_steps.specs.Calls.{IsNote, life_in};
 ghost use Rattle.table_steps.specs.Conditions.{HasStopped, KeepsFlat, ChangesFlat, SameEverywhere};
-ghost use Rattle.table_steps.specs.Joined.{instructions_in, last_says};
+ghost use Rattle.table_steps.specs.Joined.{instructions_in, last_says, IsFullFor};
 ghost use Rattle.table_steps.specs.UserMemory.{CanLend};
 
 use crate::machine::Machine;
@@ -78,8 +77,7 @@ impl Machine {
         ensures ok { OnOk result (self.new ≡ record self.old { room = Some pid }) }
         ensures stop { OnErr result (HasStopped self.old self.new) }
         ensures cause { OnErr result ((result ≡ Err Stop.JournalFull) ⊎ (result ≡ Err Stop.NoMemory)) }
-        ensures full { (result ≡ Err Stop.JournalFull) ↔ ((self.old.params.journal ≤ length self.old.kernel.journal)
-            × (length self.old.kernel.journal < length (append self.old.kernel.journal (Ran pid 1)))) }
+        ensures full { (result ≡ Err Stop.JournalFull) ↔ IsFullFor self.old.kernel.journal self.old.params.journal (Ran pid 1) }
         ensures goes_on { OnOk result (CanGoOn self.new) }
     {
         joining::make_room_to_run(

@@ -4,11 +4,11 @@ ghost use Rattle.std.specs.Prelude.{◌≡◌, ◌⊎◌, ◌<◌, ◌≤◌, �
 ghost use Rattle.vm_facts.specs.declared.entry.Entry.{Entry as Line};
 ghost use Rattle.vm_facts.specs.declared.page.Page.TheVariants.{Text as TextPage};
 ghost use Rattle.vm_facts.specs.declared.entry.Entry.TheVariants.{Hands};
-ghost use Rattle.flat_state.specs.Journal.{append};
 ghost use Rattle.kernel_model.specs.Kernel.{copy_step, push_step, hand_step};
 ghost use Rattle.core_map.specs.Slots.{slot_at, is_resident};
 ghost use Rattle.table_steps.specs.Calls.{CanCopy, CanPush, CanMove};
 ghost use Rattle.table_steps.specs.Conditions.{HasStopped, KeepsFlat, SameElsewhere, SameEverywhere};
+ghost use Rattle.table_steps.specs.Joined.{IsFullFor};
 ghost use Rattle.table_steps.specs.Launches.{CopiedFrame};
 ghost use Rattle.table_steps.specs.KernelTablesShown.{entry_in, is_frame, frame_named};
 ghost use Rattle.table_steps.specs.Steps.{AreTextsHere, dirty_shown};
@@ -111,8 +111,7 @@ impl Machine {
         ensures same { OnOk result (SameEverywhere self.old.kernel self.new.kernel) }
         ensures stop { OnErr result (HasStopped self.old self.new) }
         ensures cause { OnErr result ((result ≡ Err Stop.JournalFull) ⊎ (result ≡ Err Stop.NoMemory)) }
-        ensures full { (result ≡ Err Stop.JournalFull) ↔ ((self.old.params.journal ≤ length self.old.kernel.journal)
-            × (length self.old.kernel.journal < length (append self.old.kernel.journal (Hands 1)))) }
+        ensures full { (result ≡ Err Stop.JournalFull) ↔ IsFullFor self.old.kernel.journal self.old.params.journal (Hands 1) }
         ensures goes_on { OnOk result (CanGoOn self.new) }
     {
         joining::make_room_to_move(

@@ -1,12 +1,13 @@
 //! The next instruction of a process, or a page that it waits for.
-ghost use Rattle.std.specs.Prelude.{◌≡◌, ◌⊎◌, ◌+◌, ◌^◌, ◌<◌, ◌≤◌, false, length, Some, IfOk, OnOk, IfErr, OnErr, Err};
+ghost use Rattle.std.specs.Prelude.{◌≡◌, ◌⊎◌, ◌+◌, ◌^◌, ◌<◌, ◌≤◌, false, Some, IfOk, OnOk, IfErr, OnErr, Err};
 ghost use Rattle.vm_facts.specs.declared.entry.Entry.TheVariants.{Ran};
 ghost use Rattle.user_vax.specs.Program.{run};
 ghost use Rattle.user_vax.specs.Instruction.{instruction, answer_of};
-ghost use Rattle.flat_state.specs.Journal.{append, instructions_of};
+ghost use Rattle.flat_state.specs.Journal.{instructions_of};
 ghost use Rattle.machine_state.specs.Going.{CanGoOn};
 ghost use Rattle.machine_state.specs.Conditions.{HasStopped};
 ghost use Rattle.machine_state.specs.Files.{AreFiles};
+ghost use Rattle.machine_state.specs.Joined.{IsFullFor};
 ghost use Rattle.machine_state.specs.UserMemory.{CanLend};
 ghost use Rattle.machine_state.specs.Outside.{stop_of, TransfersPages};
 ghost use Rattle.steady_laws.specs.Callers.{regs_of};
@@ -56,8 +57,7 @@ fn make_room(alloc: Global, m: &mut Machine, pid: u32, before: &Regs) -> Result<
     ensures room { OnOk result (answer_of (run (own_answers m.old pid) (instruction before.now)) ≡ Stepped.Done → m.new.room ≡ Some pid) }
     ensures stop { OnErr result (HasStopped m.old m.new) }
     ensures cause { OnErr result ((result ≡ Err Stop.JournalFull) ⊎ (result ≡ Err Stop.NoMemory)) }
-    ensures full { result ≡ Err Stop.JournalFull → (m.old.params.journal ≤ length m.old.kernel.journal)
-        × (length m.old.kernel.journal < length (append m.old.kernel.journal (Ran pid 1))) }
+    ensures full { result ≡ Err Stop.JournalFull → IsFullFor m.old.kernel.journal m.old.params.journal (Ran pid 1) }
     ensures done { result ≡ Err Stop.JournalFull → answer_of (run (own_answers m.old pid) (instruction before.now)) ≡ Stepped.Done }
     ensures goes_on { OnOk result (CanGoOn m.new) }
 {

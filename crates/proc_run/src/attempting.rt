@@ -1,12 +1,11 @@
 //! One instruction of a process, over the frames of the machine.
-ghost use Rattle.std.specs.Prelude.{◌≡◌, ◌≤◌, ◌<◌, ◌↔◌, false, true, length, IfOk};
+ghost use Rattle.std.specs.Prelude.{◌≡◌, ◌↔◌, false, true, IfOk};
 ghost use Rattle.std.specs.Option.{is_some};
 ghost use Rattle.vm_facts.specs.declared.entry.Entry.TheVariants.{Ran};
 ghost use Rattle.user_vax.specs.Program.{run};
 ghost use Rattle.user_vax.specs.Instruction.{instruction, answer_of, registers_after, writes_of};
-ghost use Rattle.flat_state.specs.Journal.{append};
 ghost use Rattle.machine_state.specs.Going.{CanGoOn};
-ghost use Rattle.machine_state.specs.Joined.{instructions_in, last_says};
+ghost use Rattle.machine_state.specs.Joined.{instructions_in, last_says, IsFullFor};
 ghost use Rattle.machine_state.specs.UserMemory.{CanLend, Wrote, kernel_answers};
 ghost use Rattle.steady_laws.specs.Growth.{space_held};
 ghost use Rattle.proc_run.specs.Stretch.{Leaves};
@@ -38,8 +37,7 @@ pub fn last_counts(journal: &[Entry], of: u32) -> bool
 
 /// Whether the journal takes one more instruction of a process: as a further entry, or by the count of its last.
 pub fn has_room(m: &Machine, pid: u32) -> bool
-    ensures { (result ≡ false)
-        ↔ ((m.now.params.journal ≤ length m.now.kernel.journal) × (length m.now.kernel.journal < length (append m.now.kernel.journal (Ran pid 1)))) }
+    ensures { (result ≡ false) ↔ IsFullFor m.now.kernel.journal m.now.params.journal (Ran pid 1) }
 {
     let journal = m.journal();
     journal.len() < m.params().journal as usize || last_counts(journal, pid)

@@ -1,7 +1,8 @@
 -- The last entry of the journal, where a further unit of its kind joins it.
-use Rattle.std.specs.Prelude.{ℕ, ◌==◌, cond, List, [], ◌∷◌, Option, Some, None}
+use Rattle.std.specs.Prelude.{ℕ, ◌==◌, ◌<◌, ◌≤◌, cond, List, [], ◌∷◌, length, Option, Some, None}
 use Rattle.vm_facts.specs.declared.entry.Entry.{Entry}
 use Rattle.vm_facts.specs.declared.entry.Entry.TheVariants as entries
+use Rattle.flat_state.specs.Journal.{append}
 
 -- how many moves of the hands an entry counts, where it counts such
 abbrev pub moves_in : Entry → Option ℕ
@@ -18,3 +19,7 @@ abbrev pub last_says : (Entry → Option ℕ) → List Entry → Option ℕ
 last_says says [] = None
 last_says says (e ∷ []) = says e
 last_says says (e ∷ f ∷ journal) = last_says says (f ∷ journal)
+
+-- the journal has as many entries as it may have, and this unit would be one more
+abbrev pub IsFullFor : List Entry → ℕ → Entry → Type 0
+IsFullFor journal limit unit = (limit ≤ length journal) × (length journal < length (append journal unit))

@@ -3,7 +3,7 @@ ghost use Rattle.std.specs.Prelude.{◌≡◌, ◌⊎◌, ℕ, ◌+◌, ◌<◌,
 ghost use Rattle.std.specs.Vec.{vec_capacity, vec_len};
 ghost use Rattle.vm_facts.specs.declared.entry.Entry.TheVariants.{Hands, Ran};
 ghost use Rattle.flat_state.specs.Journal.{append};
-ghost use Rattle.table_steps.specs.Joined.{moves_in, instructions_in, last_says};
+ghost use Rattle.table_steps.specs.Joined.{moves_in, instructions_in, last_says, IsFullFor};
 
 use crate::notes;
 use vm_facts::{Entry, Stop};
@@ -35,8 +35,7 @@ pub fn make_room_to_move(
     ensures has_room { OnOk result
         (last_says moves_in journal.old.items ≡ None → (length journal.old.items < limit) × (vec_len journal.new < vec_capacity journal.new)) }
     ensures room { room.new ≡ None }
-    ensures full { (result ≡ Err Stop.JournalFull)
-        ↔ ((limit ≤ length journal.old.items) × (length journal.old.items < length (append journal.old.items (Hands 1)))) }
+    ensures full { (result ≡ Err Stop.JournalFull) ↔ IsFullFor journal.old.items limit (Hands 1) }
     ensures cause { OnErr result ((result ≡ Err Stop.JournalFull) ⊎ (result ≡ Err Stop.NoMemory)) }
 {
     if last_moves(journal.as_slice()).is_some() {
@@ -89,8 +88,7 @@ pub fn make_room_to_run(
     ensures has_room { OnOk result
         (last_says (instructions_in pid) journal.old.items ≡ None → (length journal.old.items < limit) × (vec_len journal.new < vec_capacity journal.new)) }
     ensures room { room.new ≡ None }
-    ensures full { (result ≡ Err Stop.JournalFull)
-        ↔ ((limit ≤ length journal.old.items) × (length journal.old.items < length (append journal.old.items (Ran pid 1)))) }
+    ensures full { (result ≡ Err Stop.JournalFull) ↔ IsFullFor journal.old.items limit (Ran pid 1) }
     ensures cause { OnErr result ((result ≡ Err Stop.JournalFull) ⊎ (result ≡ Err Stop.NoMemory)) }
 {
     if last_instructions(journal.as_slice(), pid).is_some() {
