@@ -1,5 +1,5 @@
 -- The space of a page, or one that shares its text.
-use Rattle.std.proofs.Common.{◌≡◌, ◌≢◌, inl, inr, ℕ, ◌<◌, List, [], ◌∷◌, length, map, Option, Some, None, IsSome, refl, sym, ap, ◌∙◌, subst, arith}
+use Rattle.std.proofs.Common.{◌≡◌, ◌≢◌, inl, inr, ℕ, ◌<◌, List, [], ◌∷◌, map, Option, Some, None, IsSome, refl, sym, ap, ◌∙◌, subst, arith}
 use Rattle.std.proofs.lemmas.Bool.{cases_eq}
 use Rattle.std.proofs.lemmas.Bool.Decides.{nat_tests}
 use Rattle.std.proofs.lemmas.Option.{same_Some}
@@ -10,11 +10,10 @@ use Rattle.vax_pte.specs.declared.Place.{Place}
 use Rattle.flat_state.specs.Numbers.{IsAbsent, AllDistinct}
 use Rattle.core_map.specs.Frames.{Frames}
 use Rattle.space_map.specs.Space.{Places, place_in}
-use Rattle.page_model.specs.Pages.{SpacePages, numbered, data_in, stack_in, frame_of}
-use Rattle.page_model.specs.Placement.{Placement, IsThere, space_number, sharers, sharers_in, image_of, image_in}
+use Rattle.page_model.specs.Pages.{SpacePages, numbered, frame_of}
+use Rattle.page_model.specs.Placement.{Placement, IsThere, space_number, sharers, sharers_in}
 use Rattle.page_model.specs.Conditions.{IsShared, IsSeated}
 use Rattle.page_model.specs.Ownership.{OwnsFrames, TextAside, IsAside}
-use Rattle.kernel_model.specs.Asks.{HasSpace}
 use Rattle.page_laws.proofs.Lists.Local.{none_some}
 use Rattle.page_laws.proofs.Lists.Pages.{numbered_hit, numbered_miss}
 use Rattle.page_laws.proofs.Moves.Steps.{page_in}
@@ -24,15 +23,6 @@ use Rattle.machine_state.specs.Showing.{ShowsCore}
 use Rattle.machine_state.specs.Sharing.{IsSharer}
 use Rattle.clock_hands.specs.Seen.{IsHome}
 use Rattle.clock_hands.proofs.Seats.{seat_frame}
-
--- a data or stack page that is there has its space
-pub data_space : (p : Placement) (sid v : ℕ) → IsThere p (Data sid v) → HasSpace p sid
-data_space p sid v t e = let n : length (data_in (numbered space_number sid p.spaces)) ≡ 0 = ap (λ (o : Option SpacePages). length (data_in o)) e in absurd (omega (arith, t))
-
-pub stack_space : (p : Placement) (sid v : ℕ) → IsThere p (Stack sid v) → HasSpace p sid
-stack_space p sid v t e = let n : length (stack_in (numbered space_number sid p.spaces)) ≡ 0 = ap (λ (o : Option SpacePages). length (stack_in o)) e in absurd (omega (arith, t))
-
--- text that is shared has a space that shares it
 
 absent_none : (n : ℕ) (ss : List SpacePages) → IsAbsent n (map space_number ss) → numbered space_number n ss ≡ None
 absent_none n [] a = refl
@@ -63,12 +53,6 @@ pub shared_by : (p : Placement) (image : ℕ) → AllDistinct (map space_number 
 shared_by p image d l none =
     let x : Shares p.spaces image = shared_in image p.spaces d l in
     none x.sid (record { space = x.space; there = x.there; shares = x.shares })
-
-pub sharer_space : (p : Placement) (image sid : ℕ) → IsSharer p image sid → HasSpace p sid
-sharer_space p image sid x e = none_some x.space (sym e ∙ x.there)
-
-pub sharer_image : (p : Placement) (image sid : ℕ) → IsSharer p image sid → image_of p sid ≡ image
-sharer_image p image sid x = ap image_in x.there ∙ x.shares
 
 -- a page in a frame off the free list is there, and its text is shared
 pub seat_there : (p : Placement) (q : Page) (f : ℕ) → IsSeated p q f → IsThere p q

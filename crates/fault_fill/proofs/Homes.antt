@@ -1,22 +1,19 @@
 -- The space of a page, or one that shares its text.
-use Rattle.std.proofs.Common.{◌≡◌, ◌≢◌, inl, inr, ℕ, ◌<◌, ◌≤◌, IsSome, List, [], ◌∷◌, length, map, Option, Some, None, slice_get, refl, sym, ◌∙◌, arith}
+use Rattle.std.proofs.Common.{◌≡◌, ◌≢◌, inl, inr, ℕ, ◌<◌, IsSome, List, [], ◌∷◌, map, Option, Some, None, refl, sym, ◌∙◌, arith}
 use Rattle.std.proofs.lemmas.Bool.{cases_eq}
 use Rattle.std.proofs.lemmas.Bool.Decides.{nat_tests}
 use Rattle.vm_facts.specs.declared.page.Page.{Page}
-use Rattle.vm_facts.specs.declared.page.Page.TheVariants.{Data, Stack, Text}
+use Rattle.vm_facts.specs.declared.page.Page.TheVariants.{Text}
 use Rattle.vax_pte.specs.declared.Place.{Place}
 use Rattle.core_map.specs.Frames.{Frames}
 use Rattle.space_map.specs.Space.{Places, place_in}
 use Rattle.flat_state.specs.Numbers.{IsAbsent, AllDistinct}
-use Rattle.flat_state.specs.PageNames.{number_of}
 use Rattle.page_model.specs.Pages.{SpacePages, numbered}
-use Rattle.page_model.specs.Placement.{Placement, space_number, IsThere, sharers_in, image_of}
+use Rattle.page_model.specs.Placement.{Placement, space_number, IsThere, sharers_in}
 use Rattle.page_model.specs.Conditions.{IsShared}
 use Rattle.page_laws.proofs.Lists.Pages.{numbered_hit, numbered_miss}
 use Rattle.machine_state.specs.Views.{IsNamedBy, ShowsPage, ShowsSpace}
 use Rattle.machine_state.specs.Sharing.{IsSharer}
-use Rattle.machine_state.proofs.UserFrames.{get_below}
-use Rattle.fault_fill.specs.Homes.{IsHome}
 
 absent_there : (n : ℕ) (ss : List SpacePages) (m : ℕ) (x : SpacePages) → IsAbsent n (map space_number ss) → numbered space_number m ss ≡ Some x → n ≢ m
 absent_there n [] m x a e h = absurd cc
@@ -54,12 +51,6 @@ no_sharer p image v d l none =
     let h : Sharer image p.spaces = shared_by image p.spaces d l in
     none h.sid (record { space = h.space; there = h.there; shares = h.shares })
 
--- the map of the space names the page
-pub home_names : (p : Placement) (q : Page) (sid : ℕ) (s : Places) → IsHome p q sid → s.sid ≡ sid → s.image ≡ image_of p sid → IsNamedBy s q
-home_names p (Data n v) sid s h a b = sym h ∙ sym a
-home_names p (Stack n v) sid s h a b = sym h ∙ sym a
-home_names p (Text n v) sid s h a b = sym h ∙ sym b
-
 -- and has an entry for it
 pub home_place : (p : Placement) (core : Frames) (s : Places) (q : Page) → ShowsSpace p core s → IsNamedBy s q → IsThere p q → IsSome (place_in s q)
 home_place p core s q shows named there = go (place_in s q) (shows.pages q named)
@@ -71,19 +62,3 @@ home_place p core s q shows named there = go (place_in s q) (shows.pages q named
 pub some_place : (o : Option Place) → IsSome o → (x : Place) × (o ≡ Some x)
 some_place None e = absurd cc
 some_place (Some x) e = (x, refl)
-
--- so the page's number is small
-pub number_small : (s : Places) (q : Page) → IsNamedBy s q → IsSome (place_in s q) → length s.«data» ≤ 4096 → length s.stack ≤ 512
-    → length s.text ≤ 2048 → number_of q ≤ 4096
-number_small s (Data n v) named h a b c =
-    let x = some_place (place_in s (Data n v)) h in
-    let at : slice_get s.«data» v ≡ Some x.0 = (let k = x.1 in grind (arith, nat_tests)) in
-    let l = get_below s.«data» v x.0 at in omega arith
-number_small s (Stack n v) named h a b c =
-    let x = some_place (place_in s (Stack n v)) h in
-    let at : slice_get s.stack v ≡ Some x.0 = (let k = x.1 in grind (arith, nat_tests)) in
-    let l = get_below s.stack v x.0 at in omega arith
-number_small s (Text n v) named h a b c =
-    let x = some_place (place_in s (Text n v)) h in
-    let at : slice_get s.text v ≡ Some x.0 = (let k = x.1 in grind (arith, nat_tests)) in
-    let l = get_below s.text v x.0 at in omega arith

@@ -1,5 +1,5 @@
 -- What of a machine its steps keep.
-use Rattle.std.proofs.Common.{◌≡◌, ◌≢◌, inl, inr, ℕ, ◌+◌, ◌-◌, ◌<◌, ◌≤◌, ◌==◌, Bool, true, false, List, [], ◌∷◌, ◌++◌, length, map, take, refl, sym, ap, ◌∙◌, subst, arith}
+use Rattle.std.proofs.Common.{◌≡◌, ◌≢◌, inl, inr, ℕ, ◌+◌, ◌-◌, ◌<◌, ◌≤◌, ◌==◌, Bool, true, false, List, [], ◌∷◌, ◌++◌, length, map, refl, sym, ap, ◌∙◌, subst, arith}
 use Rattle.std.proofs.lemmas.Bool.{cases_eq}
 use Rattle.std.proofs.lemmas.List.{length-append}
 use Rattle.vm_facts.specs.declared.entry.Entry.{Entry}
@@ -10,7 +10,6 @@ use Rattle.vm_facts.specs.declared.page.Page.TheVariants.{Data, Stack, Text}
 use Rattle.core_map.specs.declared.slot.Slot.{Slot as Token}
 use Rattle.space_map.specs.Space.{Places}
 use Rattle.page_model.specs.Holdings.{Holdings}
-use Rattle.page_model.specs.Book.{Book}
 use Rattle.transfer_ring.specs.declared.transfer.Inbound.{Inbound}
 use Rattle.transfer_ring.specs.declared.transfer.Source.{Source as From}
 use Rattle.transfer_ring.specs.declared.transfer.Source.TheVariants as froms
@@ -22,7 +21,7 @@ use Rattle.kernel_tables.specs.declared.tables.Tables.{Tables}
 use Rattle.kernel_tables.specs.Shown.{space_shown}
 use Rattle.kernel_tables.specs.Sourced.{ImageNamed, IsRangeOf, named_at, IsSourced, AreSourcedIn, IsFlightSourced, AreSourced}
 use Rattle.kernel_tables.specs.View.{source_shown}
-use Rattle.kernel_tables.specs.Machine.{images_of, image_at, image_shown, before_of}
+use Rattle.kernel_tables.specs.Machine.{image_at}
 use Rattle.kernel_tables.proofs.Entries.{Head, head_of}
 use Rattle.kernel_tables.proofs.Shows.{hit, miss}
 
@@ -52,30 +51,10 @@ append_some [] (Hands n) h = absurd cc
 append_some (f ∷ j) (Hands n) h = behind_hands f j n h
 append_some j e h = last_some j e h
 
--- what no step but those of processes changes
-pub record Still (t w : Tables) : Type 0 where
-  pub params : w.params ≡ t.params
-  pub images : w.images.items ≡ t.images.items
-  pub book : w.book ≡ t.book
-  pub found : w.found ≡ t.found
-  pub processes : w.processes ≡ t.processes
-  pub next_pid : w.next_pid ≡ t.next_pid
-  pub next_sid : w.next_sid ≡ t.next_sid
-
 -- a journal that fits, and has entries where it had
 pub record Grown (old after : List Entry) (limit : ℕ) : Type 0 where
   pub within : length after ≤ limit
   pub some : after ≡ [] → old ≡ []
-
-pub still_along : (t w v : Tables) → w ≡ v → Still t v → Still t w
-still_along t w v e s = subst (Still t) (sym e) s
-
-pub still_images : (t w : Tables) → Still t w → images_of w ≡ images_of t
-still_images t w s = ap (map image_shown) s.images
-
-pub still_before : (t w : Tables) → Still t w → before_of w ≡ before_of t
-still_before t w s =
-    ap (λ (b : Book). take (length b.holdings - w.found) b.holdings) s.book ∙ ap (λ (n : ℕ). take (length t.book.holdings - n) t.book.holdings) s.found
 
 pub pushed : (old now after : List Entry) (e : Entry) (limit : ℕ) → now ≡ old → after ≡ now ++ e ∷ [] → length old < limit → Grown old after limit
 pushed old now after e limit a b l =

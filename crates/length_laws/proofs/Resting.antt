@@ -158,9 +158,6 @@ notes_place : (A : Inputs) (s : State) → (after A s (owners_entry s)).place �
 unfolding after
 notes_place A s = refl
 
-due_of : Placement → List Due
-due_of p = p.due
-
 pub done_due : (A : Inputs) (s : State) → IsRun A s → (after A s entries.Done).place.due ≡ s.place.due
 done_due A s r = let st : Steady s.place (done s.place) = done_steady s.place (owns A s r.placed) in ap (λ (p : Placement). p.due) (plain_place A s entries.Done refl) ∙ st.due
 

@@ -1,9 +1,8 @@
 -- Where a load begins and ends, and what its journal counts.
-use Rattle.std.proofs.Common.{◌≡◌, ◌≢◌, ◌⊎◌, inl, inr, ℕ, zero, suc, ◌+◌, ◌*◌, ◌<◌, ◌==◌, Bool, true, false, cond, not, ◌&&◌, ◌||◌, nat_le, List, [], ◌∷◌, ◌++◌, map, find, Option, Some, None, Result, Ok, Err, refl, sym, ap, ◌∙◌, subst, arith, eq-eqb}
+use Rattle.std.proofs.Common.{◌≡◌, ◌≢◌, ◌⊎◌, inl, inr, ℕ, zero, suc, ◌+◌, ◌*◌, ◌<◌, ◌==◌, Bool, true, false, cond, not, ◌&&◌, ◌||◌, nat_le, List, [], ◌∷◌, map, find, Option, Some, None, Result, Ok, Err, refl, sym, ap, ◌∙◌, subst, arith, eq-eqb}
 use Rattle.std.specs.Prelude.{if◌then◌else◌}
 use Rattle.std.specs.List.{sum_by}
 use Rattle.std.proofs.lemmas.List.{length-replicate}
-use Rattle.std.proofs.lemmas.List.Sums.{sum_by-cons}
 use Rattle.std.proofs.lemmas.Bool.{and_parts, eqb-true, leb-true}
 use Rattle.vm_facts.specs.declared.entry.Entry.{Entry}
 use Rattle.vm_facts.specs.declared.entry.Entry.TheVariants as entries
@@ -15,8 +14,7 @@ use Rattle.swap_book.specs.Placing.{place_all}
 use Rattle.flat_state.specs.Flat.{Holding, Process, NamedImage, Inputs, holds_space, is_ready, ready_if, can_step, start_process, start_processes, start_regs, new_space, argument_area}
 use Rattle.flat_state.specs.Change.{is_zombie}
 use Rattle.flat_state.specs.Numbers.{IsAbsent, AllDistinct, IsNumbered}
-use Rattle.flat_state.specs.Journal.{join_by, join, append_after, append_joined, append, appended, counted, instructions_of}
-use Rattle.flat_state.proofs.Joins.{append_counted}
+use Rattle.flat_state.specs.Journal.{appended, counted, instructions_of}
 use Rattle.flat_model.specs.Asked.{first_held, start_held}
 use Rattle.run_model.specs.State.{State, start}
 use Rattle.run_model.specs.Next.{next_unit}
@@ -41,9 +39,6 @@ use Rattle.load_laws.proofs.Family.{forks_of, ends_of, Family}
 use Rattle.load_laws.proofs.Loading.{pending, Stands, IsLoadRun, refusals_of, Through, through}
 
 -- ---- the start
-
-all_asleep_not : (p : Process) → p.asleep ≡ false → {X : Type 0} → p.asleep ≡ true → X
-all_asleep_not p a s = absurd (let no : false ≡ true = sym a ∙ s in cc)
 
 w_named : ℕ → NamedImage
 w_named pages = record { name = 0x77 ∷ []; image = one_page_image (w_bytes pages) w_bss }

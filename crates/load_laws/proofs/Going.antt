@@ -137,9 +137,6 @@ with_r3 b value l v = let e = stored_is b.r3 value l.r3 v in record { r3 = omega
 with_r4 : (b : Bank) (value : ℕ) → AreLongwords b → value < 2 ^ 32 → AreLongwords (record b { r4 = stored b.r4 value })
 with_r4 b value l v = let e = stored_is b.r4 value l.r4 v in record { r3 = l.r3; r4 = omega (arith, e, v); r5 = l.r5; ap = l.ap }
 
-with_r5 : (b : Bank) (value : ℕ) → AreLongwords b → value < 2 ^ 32 → AreLongwords (record b { r5 = stored b.r5 value })
-with_r5 b value l v = let e = stored_is b.r5 value l.r5 v in record { r3 = l.r3; r4 = l.r4; r5 = omega (arith, e, v); ap = l.ap }
-
 pub will_break : (images : List NamedImage) (F : FlatState) (pages : ℕ) (p : Process) (at : IsAt pages (BeforeBreak) p) → p.asleep ≡ false
     → Kept images F pages p at.space (AtBreak)
 will_break images F pages p at awake =

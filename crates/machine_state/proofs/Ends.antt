@@ -16,7 +16,7 @@ use Rattle.transfer_ring.specs.Parts.{AreSameParts}
 use Rattle.transfer_ring.specs.Ending.{IsSameRead}
 use Rattle.page_model.specs.Frames.{set_frame, at_frame}
 use Rattle.vm_facts.specs.Lists.{times}
-use Rattle.page_model.specs.Placement.{Placement, Transfer, Part, Errand, Writes, Reads, Moving, moving, parts_of, flying, IsFrame, page_of, state_of}
+use Rattle.page_model.specs.Placement.{Placement, Transfer, Part, Reads, Moving, moving, parts_of, flying, IsFrame}
 use Rattle.page_model.specs.Ownership.{OwnsFrames, TextAside, Each, IsMoving}
 use Rattle.kernel_model.specs.Kernel.{read_into, landed_by}
 use Rattle.vm_facts.proofs.Lists.{times-append, times_other, times_head}
@@ -193,9 +193,6 @@ before_none pre ys y h =
     ap (times f) (map-append flown_number pre (y ∷ ys)) ∙ times-append f (map flown_number pre) (f ∷ map flown_number ys) in
     let b = times_head f (map flown_number ys) in
     omega arith
-
-bytes_of : List Inbound → List (List ℕ)
-bytes_of xs = map (λ (x : Inbound). x.token.bytes) xs
 
 abbrev with_flown : Lists → List Flown → Lists
 with_flown t xs = record t { flown = xs }

@@ -1,5 +1,5 @@
 -- The first space that shares an image's text has the lowest number of all that do.
-use Rattle.std.proofs.Common.{◌≡◌, ◌≢◌, inl, inr, ℕ, zero, suc, ◌==◌, cond, ◌<◌, ◌≤◌, List, [], ◌∷◌, length, map, drop, get_or, Option, Some, None, refl, sym, ap, ◌∙◌, subst, arith}
+use Rattle.std.proofs.Common.{◌≡◌, ◌≢◌, inl, inr, ℕ, ◌<◌, ◌≤◌, List, [], ◌∷◌, map, Option, Some, None, refl, sym, ap, ◌∙◌, subst, arith}
 use Rattle.std.proofs.lemmas.Bool.{cases_eq}
 use Rattle.std.proofs.lemmas.Bool.Decides.{nat_tests}
 use Rattle.std.proofs.lemmas.Option.{same_Some}
@@ -14,23 +14,6 @@ use Rattle.table_steps.specs.Sharing.{IsSharer, first_sharer}
 use Rattle.table_steps.proofs.Shows.{hit, miss}
 
 -- The loop over the spaces.
-
-pub sharer_past : (ss : List Places) (i : ℕ) (d : Places) (image : ℕ) → i < length ss
-    → first_sharer (drop i ss) image ≡ cond ((get_or ss i d).image == image) (Some (get_or ss i d).sid) (first_sharer (drop (suc i) ss) image)
-sharer_past [] i d image l = absurd (omega arith)
-sharer_past (s ∷ ss) zero d image l = refl
-sharer_past (s ∷ ss) (suc i) d image l = sharer_past ss i d image (omega arith)
-
-pub sharer_none : (ss : List Places) (i image : ℕ) → length ss ≤ i → first_sharer (drop i ss) image ≡ None
-sharer_none [] i image l = go i
-  where
-    go : (n : ℕ) → first_sharer (drop n []) image ≡ None
-    go zero = refl
-    go (suc n) = refl
-sharer_none (s ∷ ss) zero image l = absurd (omega arith)
-sharer_none (s ∷ ss) (suc i) image l = sharer_none ss i image (omega arith)
-
--- The lowest.
 
 sharer_hit : (s : Places) (ss : List Places) (image : ℕ) → s.image ≡ image → first_sharer (s ∷ ss) image ≡ Some s.sid
 sharer_hit s ss image e = grind (arith, nat_tests)

@@ -55,9 +55,6 @@ stands_flat k l images (Some image) flat f h = f images image flat h
 pub keeps_flat : (old new : Standing) (holds : Option (List NamedFile)) (i : Option (List ℕ)) → KeepsFlat old.kernel new.kernel → KeepsThrough old new holds i i
 keeps_flat old new holds i f = λ images flat l t h. stands_flat old.kernel new.kernel images i flat f h
 
-pub keeps_same : (old new : Standing) (holds : Option (List NamedFile)) (i : Option (List ℕ)) → old.kernel ≡ new.kernel → KeepsThrough old new holds i i
-keeps_same old new holds i e = λ images flat l t h. subst (λ (k : Kernel). StandsTold k images i flat) e h
-
 -- one part after another
 pub keeps_both : (old next new : Standing) (holds later : Option (List NamedFile)) (a b c : Option (List ℕ)) → next.images ≡ old.images
     → Shaped old.kernel.place next.kernel.place → later ≡ holds

@@ -30,7 +30,7 @@ use Rattle.proc_calls.specs.FaultFillAccessAccess.{Access}
 use Rattle.proc_calls.specs.FaultFillAccessAccess.TheVariants as accesses
 use Rattle.proc_calls.specs.Answered.{Entered, GoneOut, StopsBefore, StopsReading}
 use Rattle.proc_calls.specs.Copying.{CopiesPage, StopsPage, StopsCopying}
-use Rattle.proc_calls.specs.Filling.{FillsStart, StopsStart}
+use Rattle.proc_calls.specs.Filling.{StopsStart}
 use Rattle.proc_calls.specs.Forking.{HasNewSpace, ForkAnswered, StopsForking}
 use Rattle.proc_calls.specs.Leaving.{HasLeftBy, StopsLeaving, StopsAlive, StopsExit}
 use Rattle.proc_calls.specs.Making.{without_pieces, MakesChildBy, StopsMaking}
@@ -121,11 +121,6 @@ start_same page old new holds i j stop h = elim h [
   | inl x ↦ forcing_same [] old new holds i j stop x
   | inr x ↦ kept_through old x.0 new stop (forced_same [] old x.0 holds i j x.1) (kept_at (entries.Zero page) x.0.kernel j j x.0 new stop x.3 x.4 x.2)
 ]
-
-pub filled_same : (page : Page) (old new : Standing) (holds : Option (List NamedFile)) (i j : Option (List ℕ))
-    → FillsStart page old new holds i j → SameSizes old new
-filled_same page old new holds i j h =
-    same_through old h.roomy new (forced_same [] old h.roomy holds i j h.forces) (record { params = ap (λ (m : Standing). m.params) h.fills; images = ap (λ (m : Standing). m.images) h.fills })
 
 pub page_same : (child parent : Page) (old new : Standing) (holds : Option (List NamedFile)) (i j : Option (List ℕ)) (stop : Stop)
     → StopsPage child parent old new holds i j stop → KeptAtStop old new stop

@@ -6,10 +6,6 @@ use Rattle.swapper.specs.declared.largest.Measured.{Measured}
 use Rattle.swapper.specs.Runners.{runner_seen, runner_measured, listed_in, moved_on, placed_in, placed_with}
 use Rattle.machine_state.proofs.ByNumber.{over, over_none, over_some}
 
-take_nil : (n : ℕ) → take {A = Runner} n [] ≡ []
-take_nil zero = refl
-take_nil (suc n) = refl
-
 take_less : (n : ℕ) (xs : List Runner) → take n (take (suc n) xs) ≡ take n xs
 take_less zero xs = refl
 take_less (suc n) [] = refl

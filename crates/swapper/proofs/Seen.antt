@@ -1,71 +1,20 @@
 -- What the entries of a space tell of its pages.
-use Rattle.std.proofs.Common.{◌≡◌, ℕ, zero, suc, ◌+◌, ◌-◌, ◌<◌, ◌≤◌, ◌==◌, Bool, true, false, cond, List, [], ◌∷◌, ◌++◌, length, Option, Some, None, IsSome, slice_get, refl, sym, ap, ap₂, ◌∙◌, subst, arith}
+use Rattle.std.proofs.Common.{◌≡◌, ℕ, zero, suc, ◌+◌, ◌-◌, ◌<◌, Bool, true, false, cond, List, [], ◌∷◌, ◌++◌, length, Option, Some, None, IsSome, slice_get, refl, sym, ap, ap₂, ◌∙◌, subst, arith}
 use Rattle.vm_facts.specs.declared.page.Page.{Page}
 use Rattle.vm_facts.specs.declared.page.Page.TheVariants.{Data, Stack}
-use Rattle.vm_facts.specs.declared.page.PageState.{PageState}
-use Rattle.vm_facts.specs.declared.page.PageState.TheVariants.{Unfilled, Valid, Invalid, Coming, Going, OnSwap}
-use Rattle.vm_facts.specs.Lists.{times}
 use Rattle.vax_pte.specs.declared.Place.{Place}
-use Rattle.vax_pte.specs.declared.Place.TheVariants.{Frame}
 use Rattle.core_map.specs.declared.slot.Slot.{Slot}
-use Rattle.core_map.specs.declared.slot.Slot.TheVariants.{Free, Resident, Away}
-use Rattle.core_map.specs.Slots.{slot_at, is_resident, listings}
-use Rattle.core_map.specs.Frames.{Frames, IsSoundMap}
+use Rattle.core_map.specs.Frames.{Frames}
 use Rattle.flat_state.specs.PageNames.{beside, pages_from}
 use Rattle.space_map.specs.Space.{Places, place_in}
-use Rattle.page_model.specs.Pages.{frame_of}
-use Rattle.page_model.specs.Placement.{Placement, IsThere, state_of}
-use Rattle.page_model.specs.Runs.{is_seated, is_seated_by}
+use Rattle.page_model.specs.Placement.{Placement, IsThere}
+use Rattle.page_model.specs.Runs.{is_seated}
 use Rattle.page_model.specs.Swapper.{first_seated, seated_count}
 use Rattle.page_model.specs.Place.{data_from, stack_from, data_count, stack_count, pages_of_space}
-use Rattle.page_laws.proofs.Moves.Steps.{page_in}
 use Rattle.vm_facts.proofs.Tests.{eq_self}
-use Rattle.table_view.specs.Shown.{is_away, idle_state, state_shown, MarkShown, ShowsMark}
 use Rattle.table_view.specs.Views.{IsNamedBy, ShowsPage, ShowsSpace}
 
 -- Whether a frame off the free list has the page, by the slot of its frame.
-
-seat_by : (p : Placement) (f : ℕ) (slot : Slot) (valid changed dirty : Bool) → times f p.free ≡ listings slot → MarkShown slot valid dirty
-    → is_resident slot ≡ is_seated_by p (cond valid (Valid f) (idle_state f (is_away slot) changed))
-seat_by p f (Resident token page mark) true changed dirty t m = refl
-seat_by p f (Resident token page mark) false changed dirty t m = sym (ap (λ (n : ℕ). n == 0) t)
-seat_by p f (Free token page) true changed dirty t m = absurd cc
-seat_by p f (Free token page) false changed dirty t m = sym (ap (λ (n : ℕ). n == 0) t)
-seat_by p f Away true changed dirty t m = absurd cc
-seat_by p f Away false true dirty t m = refl
-seat_by p f Away false false dirty t m = refl
-
-frame_shown : (slots : List Slot) (f : ℕ) (valid changed : Bool)
-    → cond valid (Valid f) (idle_state f (is_away (slot_at slots f)) changed) ≡ state_shown slots (Frame f valid changed)
-frame_shown slots f true changed = refl
-frame_shown slots f false changed = refl
-
-pub seat_shown : (p : Placement) (free : List ℕ) (slots : List Slot) (f : ℕ) (valid changed dirty : Bool) → IsSoundMap free slots → p.free ≡ free
-    → ShowsMark slots (Frame f valid changed) dirty → is_resident (slot_at slots f) ≡ is_seated_by p (state_shown slots (Frame f valid changed))
-seat_shown p free slots f valid changed dirty s e m =
-    seat_by p f (slot_at slots f) valid changed dirty (ap (times f) e ∙ s.listed f) m ∙ ap (is_seated_by p) (frame_shown slots f valid changed)
-
--- A page that isn't there is in no frame.
-
-seated_frame : (p : Placement) (s : PageState) → is_seated_by p s ≡ true → (f : ℕ) × (frame_of s ≡ Some f)
-seated_frame p Unfilled e = absurd cc
-seated_frame p (Valid f) e = (f, refl)
-seated_frame p (Invalid f) e = (f, refl)
-seated_frame p (Coming f) e = absurd cc
-seated_frame p (Going f) e = absurd cc
-seated_frame p OnSwap e = absurd cc
-
-pub seated_there : (p : Placement) (q : Page) → is_seated p q ≡ true → IsThere p q
-seated_there p q e = let x = seated_frame p (state_of p q) e in page_in p q x.0 x.1
-
-none_by : (b : Bool) → (b ≡ true → ⊥) → false ≡ b
-none_by false h = refl
-none_by true h = absurd (h refl)
-
-pub absent_page : (p : Placement) (core : Frames) (s : Places) (q : Page) → ShowsSpace p core s → IsNamedBy s q → place_in s q ≡ None → false ≡ is_seated p q
-absent_page p core s q h n e =
-    let x : ShowsPage p core.slots q None = subst (ShowsPage p core.slots q) e (h.pages q n) in
-    none_by (is_seated p q) (λ t. x (seated_there p q t))
 
 pub shown_page : (p : Placement) (core : Frames) (s : Places) (q : Page) (place : Place) → ShowsSpace p core s → IsNamedBy s q → place_in s q ≡ Some place
     → ShowsPage p core.slots q (Some place)
@@ -87,9 +36,6 @@ first_found p q v n b l e f =
     ap (λ (k : ℕ). first_seated p (pages_from q v k)) m
     ∙ ap (λ (c : Bool). cond c (Some (beside q v)) (first_seated p (pages_from q (v + 1) (n - (v + 1))))) (sym e ∙ f)
 
-pub first_end : (p : Placement) (q : Page) (v n : ℕ) → n ≤ v → first_seated p (pages_from q v (n - v)) ≡ None
-first_end p q v n l = let m : n - v ≡ 0 = omega arith in ap (λ (k : ℕ). first_seated p (pages_from q v k)) m
-
 pub count_passes : (p : Placement) (q : Page) (v n c : ℕ) (b : Bool) → v < n → b ≡ is_seated p (beside q v) → b ≡ false
     → c + seated_count p (pages_from q (v + 1) (n - (v + 1))) ≡ c + seated_count p (pages_from q v (n - v))
 count_passes p q v n c b l e f =
@@ -107,14 +53,6 @@ count_found p q v n c b l e f =
     ap (λ (k : ℕ). seated_count p (pages_from q v k)) m
     ∙ ap (λ (d : Bool). cond d 1 0 + seated_count p (pages_from q (v + 1) (n - (v + 1)))) (sym e ∙ f) in
     omega arith
-
-pub count_end : (p : Placement) (q : Page) (v n c : ℕ) → n ≤ v → c + seated_count p (pages_from q v (n - v)) ≡ c
-count_end p q v n c l =
-    let m : n - v ≡ 0 = omega arith in
-    let x : seated_count p (pages_from q v (n - v)) ≡ 0 = ap (λ (k : ℕ). seated_count p (pages_from q v k)) m in
-    omega arith
-
--- A space has as many pages of data and of stack in its entries as in the placement.
 
 same_count : (a b : ℕ) → ((v : ℕ) → v < a → v < b) → ((v : ℕ) → v < b → v < a) → a ≡ b
 same_count zero zero f g = refl

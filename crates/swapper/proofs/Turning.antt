@@ -1,15 +1,13 @@
 -- What is chosen may be done.
-use Rattle.std.proofs.Common.{◌≡◌, inl, inr, ℕ, ◌≤◌, ◌<◌, nat_le, true, false, List, [], ◌∷◌, length, map, take, Option, Some, None, refl, sym, ap, ◌∙◌, subst, arith}
+use Rattle.std.proofs.Common.{◌≡◌, inl, inr, ℕ, true, List, [], ◌∷◌, map, take, Option, Some, None, refl, sym, ap, ◌∙◌, subst}
 use Rattle.std.specs.Prelude.{filter_map}
 use Rattle.std.specs.List.{filter}
 use Rattle.std.proofs.lemmas.Bool.{cases_eq}
-use Rattle.std.proofs.lemmas.Bool.Decides.{nat_tests}
 use Rattle.std.proofs.lemmas.Option.{same_Some}
 use Rattle.flat_state.specs.Numbers.{IsAbsent, AllDistinct}
 use Rattle.page_model.specs.Pages.{numbered}
 use Rattle.page_model.specs.Placement.{Placement}
-use Rattle.page_model.specs.Runs.{desired_free}
-use Rattle.page_model.specs.Swapper.{Runner, Choice, Out, is_out, longest, ranked, may_come_in, may_go_out, brings, puts_out, out_of, choice_of_out, choice_by, swap_choice}
+use Rattle.page_model.specs.Swapper.{Runner, Choice, Out, is_out, longest, ranked, may_go_out, puts_out, out_of, choice_of_out, swap_choice}
 use Rattle.page_model.specs.Swapping.{OneOf, ComesIn, GoesOut}
 use Rattle.page_laws.proofs.Lists.Local.{none_some}
 use Rattle.page_laws.proofs.Lists.Pages.{numbered_hit, numbered_miss}
@@ -28,22 +26,6 @@ use Rattle.swapper.specs.Turns.{MayTurn}
 use Rattle.swapper.proofs.Numbers.{filter_both}
 
 -- The choice, by whether as many frames are free as are desired.
-
-is_enough : (d f : ℕ) → d ≤ f → nat_le d f ≡ true
-is_enough d f l = grind (arith, nat_tests)
-
-is_short : (d f : ℕ) → f < d → nat_le d f ≡ false
-is_short d f l = grind (arith, nat_tests)
-
-pub choice_in : (p : Placement) (rs : List Runner) (c : Choice) → desired_free p ≤ length p.free
-    → c ≡ brings (longest p (filter (may_come_in p) rs)) → c ≡ swap_choice p rs
-choice_in p rs c l e = e ∙ sym (ap (choice_by p rs) (is_enough (desired_free p) (length p.free) l))
-
-pub choice_out : (p : Placement) (rs : List Runner) (c : Choice) → length p.free < desired_free p
-    → c ≡ choice_of_out p (filter (may_go_out p) rs) → c ≡ swap_choice p rs
-choice_out p rs c l e = e ∙ sym (ap (choice_by p rs) (is_short (desired_free p) (length p.free) l))
-
--- A sleeper before all others.
 
 pub out_sleeper : (p : Placement) (rs : List Runner) (o : Option Seen) (seen : Seen)
     → runner_of o ≡ longest p (filter (passes p kinds.Sleeper) rs) → o ≡ Some seen

@@ -1,13 +1,11 @@
 -- A space has other sizes: of the placement, that is `cut_space`.
-use Rattle.std.proofs.Common.{◌≡◌, ◌≢◌, inl, inr, ℕ, zero, suc, ◌+◌, ◌-◌, ◌<◌, ◌≤◌, ◌==◌, Bool, true, false, cond, List, [], ◌∷◌, ◌++◌, length, map, take, Option, Some, None, IsSome, slice_get, option_map, refl, sym, ap, ◌∙◌, subst, arith}
+use Rattle.std.proofs.Common.{◌≡◌, ◌≢◌, inl, inr, ℕ, zero, suc, ◌+◌, ◌-◌, ◌<◌, ◌≤◌, List, [], ◌∷◌, ◌++◌, length, map, take, Option, Some, None, IsSome, slice_get, option_map, refl, sym, ap, ◌∙◌, subst, arith}
 use Rattle.std.specs.Prelude.{replicate}
 use Rattle.std.specs.List.{range_with_len}
 use Rattle.std.proofs.lemmas.Bool.{cases_eq}
 use Rattle.std.proofs.lemmas.Bool.Decides.{nat_tests}
 use Rattle.vm_facts.specs.declared.page.Page.{Page}
 use Rattle.vm_facts.specs.declared.page.Page.TheVariants.{Data, Stack, Text}
-use Rattle.vm_facts.specs.declared.page.PageState.{PageState}
-use Rattle.vm_facts.specs.declared.page.PageState.TheVariants.{Unfilled}
 use Rattle.flat_state.specs.Numbers.{IsAbsent, AllDistinct}
 use Rattle.flat_state.specs.PageNames.{pages_from}
 use Rattle.vax_pte.specs.declared.Place.{Place}
@@ -18,9 +16,9 @@ use Rattle.core_map.specs.declared.slot.Slot.{Slot as Token}
 use Rattle.core_map.specs.Slots.{slot_at, slot_page as token_page}
 use Rattle.space_map.specs.Space.{Places, resized, place_in}
 use Rattle.text_table.specs.Texts.{is_saved, text_numbered}
-use Rattle.page_model.specs.Pages.{Slot, Zeros, SpacePages, TextPages, numbered, changed, with_data, with_stack, data_in, stack_in, frame_of}
-use Rattle.page_model.specs.Placement.{Placement, space_number, state_of, IsThere, image_in, sharers, sharers_in, unfilled, put}
-use Rattle.page_model.specs.Moves.{drop_at, drop_page, drop_all}
+use Rattle.page_model.specs.Pages.{Slot, Zeros, SpacePages, TextPages, numbered, changed, data_in, stack_in, frame_of}
+use Rattle.page_model.specs.Placement.{Placement, space_number, state_of, IsThere, image_in, sharers, sharers_in, unfilled}
+use Rattle.page_model.specs.Moves.{drop_all}
 use Rattle.page_model.specs.Place.{data_from, stack_from, sized, cut_space, data_count, stack_count, resize}
 use Rattle.page_model.specs.Conditions.{EachPage, AtRest, LosesPages, IsSettled}
 use Rattle.page_model.specs.Ownership.{OwnsFrames, TextAside}
@@ -320,33 +318,6 @@ cut_image n sid d s xs = elim (cases_eq n sid) [
     go (Some x) = refl
 
 -- The call.
-
--- pages that are dropped leave the numbers of the spaces
-numbers_stay : (n : ℕ) (change : SpacePages → SpacePages) → ((x : SpacePages) → (change x).sid ≡ x.sid) → (xs : List SpacePages)
-    → map space_number (changed space_number n change xs) ≡ map space_number xs
-numbers_stay n change k [] = refl
-numbers_stay n change k (x ∷ xs) = go (x.sid == n) (numbers_stay n change k xs)
-  where
-    go : (b : Bool) → map space_number (changed space_number n change xs) ≡ map space_number xs
-        → map space_number (cond b (change x ∷ xs) (x ∷ changed space_number n change xs)) ≡ map space_number (x ∷ xs)
-    go true e = ap (λ (m : ℕ). m ∷ map space_number xs) (k x)
-    go false e = ap (λ (ms : List ℕ). x.sid ∷ ms) e
-
-put_numbers : (p : Placement) (q : Page) (s : PageState) (m : Bool) → map space_number (put p q s m).spaces ≡ map space_number p.spaces
-put_numbers p (Data n v) s m = numbers_stay n (with_data v s m) (λ x. refl) p.spaces
-put_numbers p (Stack n v) s m = numbers_stay n (with_stack v s m) (λ x. refl) p.spaces
-put_numbers p (Text i v) s m = refl
-
-drop_numbers : (p : Placement) (q : Page) → map space_number (drop_page p q).spaces ≡ map space_number p.spaces
-drop_numbers p q = go (frame_of (state_of p q))
-  where
-    go : (o : Option ℕ) → map space_number (drop_at p q o).spaces ≡ map space_number p.spaces
-    go None = put_numbers p q Unfilled false
-    go (Some f) = put_numbers p q Unfilled false
-
-drop_all_numbers : (qs : List Page) (p : Placement) → map space_number (drop_all p qs).spaces ≡ map space_number p.spaces
-drop_all_numbers [] p = refl
-drop_all_numbers (q ∷ qs) p = drop_all_numbers qs (drop_page p q) ∙ drop_numbers p q
 
 pub dropped_stands : (t u : Tables) (qs : List Page) (sid index : ℕ) → Dropped t u qs → StandsAt t.spaces sid index → StandsAt u.spaces sid index
 dropped_stands t u qs sid index d h =
