@@ -14,8 +14,8 @@ use std::alloc::Global;
 use swap_book::Owner;
 use vm_facts::{Bytes, NoMemory};
 
-// A process leaves its space, if it has one.
-fn leave_space(tables: &mut Tables, pid: u32)
+// The space of a process goes, if it has one.
+fn give_up_space(tables: &mut Tables, pid: u32)
     requires known { Known (lists_of tables.old) }
     requires leaves { MayLeave tables.old (space_at tables.old pid) }
     ensures { LeftSpace tables.old tables.new (space_at tables.old pid) }
@@ -71,7 +71,7 @@ fn exec(
     ensures images { tables.new.images ≡ tables.old.images }
 {
     let sid = tables.enter_image(alloc, image, top)?;
-    leave_space(tables, pid);
+    give_up_space(tables, pid);
     tables.hold(pid, sid);
     Ok(())
 }
@@ -81,7 +81,7 @@ fn end_process(tables: &mut Tables, pid: u32, status: u32)
     requires { MayApply tables.old pid (End status) }
     ensures { (since : ℕ) → AppliesAs tables.old tables.new pid since (End status) }
 {
-    leave_space(tables, pid);
+    give_up_space(tables, pid);
     tables.book.drop_owner(Owner::U(pid));
     tables.end_record(pid, status);
 }

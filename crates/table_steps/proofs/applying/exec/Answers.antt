@@ -2,8 +2,8 @@ use Rattle.std.proofs.Common.{IsSome, refl, sym, subst}
 use Rattle.table_steps.proofs.Applies.{image_facts, exec_leaves, exec_known, exec_there, exec_life, exec_alone, exec_all}
 use Rattle.table_steps.proofs.applying.exec.Goals as goal
 
-pub leave_space-requires-clause-leaves : goal.leave_space-requires-clause-leaves
-leave_space-requires-clause-leaves c =
+pub give_up_space-requires-clause-leaves : goal.give_up_space-requires-clause-leaves
+give_up_space-requires-clause-leaves c =
     let f = image_facts c.args.tables.now c.args.pid c.args.image c.args.top c.requires in
     exec_leaves c.args.tables.now c.enter_image.new.self c.args.pid c.args.image c.args.top c.requires f.0 f.1 (c.in_ok-sid.ensures.entered f.0 f.1)
 
@@ -13,16 +13,16 @@ hold-requires c =
     record {
       records =
           exec_known c.args.tables.now c.enter_image.new.self c.args.pid c.args.image c.args.top c.requires f.0 f.1 (c.in_ok-sid.ensures.entered f.0 f.1)
-          c.leave_space.new.tables c.leave_space.ensures;
+          c.give_up_space.new.tables c.give_up_space.ensures;
       there =
           subst IsSome (sym (exec_there c.args.tables.now c.enter_image.new.self c.args.pid c.args.image c.args.top c.requires f.0 f.1
-          (c.in_ok-sid.ensures.entered f.0 f.1) c.leave_space.new.tables c.leave_space.ensures)) refl;
+          (c.in_ok-sid.ensures.entered f.0 f.1) c.give_up_space.new.tables c.give_up_space.ensures)) refl;
       life =
           exec_life c.args.tables.now c.enter_image.new.self c.args.pid c.args.image c.args.top c.requires f.0 f.1 (c.in_ok-sid.ensures.entered f.0 f.1)
-          c.leave_space.new.tables c.leave_space.ensures;
+          c.give_up_space.new.tables c.give_up_space.ensures;
       alone =
           exec_alone c.args.tables.now c.enter_image.new.self c.args.pid c.args.image c.args.top c.requires f.0 f.1 (c.in_ok-sid.ensures.entered f.0 f.1)
-          c.leave_space.new.tables c.leave_space.ensures;
+          c.give_up_space.new.tables c.give_up_space.ensures;
     }
 
 pub returns : goal.returns
@@ -31,13 +31,13 @@ returns c =
     record {
       applied =
           exec_all c.args.tables.now c.enter_image.new.self c.args.pid c.args.image c.args.top c.requires f.0 f.1 (c.in_ok-sid.ensures.entered f.0 f.1)
-          c.leave_space.new.tables c.leave_space.ensures c.hold.new.self c.in_ok-sid.sid c.in_ok-sid.ensures.number c.hold.ensures;
+          c.give_up_space.new.tables c.give_up_space.ensures c.hold.new.self c.in_ok-sid.sid c.in_ok-sid.ensures.number c.hold.ensures;
       params =
           (exec_all c.args.tables.now c.enter_image.new.self c.args.pid c.args.image c.args.top c.requires f.0 f.1 (c.in_ok-sid.ensures.entered f.0 f.1)
-          c.leave_space.new.tables c.leave_space.ensures c.hold.new.self c.in_ok-sid.sid c.in_ok-sid.ensures.number c.hold.ensures
+          c.give_up_space.new.tables c.give_up_space.ensures c.hold.new.self c.in_ok-sid.sid c.in_ok-sid.ensures.number c.hold.ensures
           0 c.requires.process c.requires.there).params;
       images =
           (exec_all c.args.tables.now c.enter_image.new.self c.args.pid c.args.image c.args.top c.requires f.0 f.1 (c.in_ok-sid.ensures.entered f.0 f.1)
-          c.leave_space.new.tables c.leave_space.ensures c.hold.new.self c.in_ok-sid.sid c.in_ok-sid.ensures.number c.hold.ensures
+          c.give_up_space.new.tables c.give_up_space.ensures c.hold.new.self c.in_ok-sid.sid c.in_ok-sid.ensures.number c.hold.ensures
           0 c.requires.process c.requires.there).images;
     }
