@@ -43,7 +43,7 @@ use Rattle.vm_core.proofs.Standing.{inputs_on}
 use Rattle.film_core.specs.Films.{Filming, IsInOrder, IsUnbegun, FilmBegun}
 use Rattle.film_core.specs.Ways.{IsReached, OverAt}
 use Rattle.film_core.proofs.Composing.{journal_of_reached, leads_run}
-use Rattle.film_core.proofs.Longer.{goes_behind, behind_longer}
+use Rattle.run_laws.proofs.LongerJournals.{goes_behind, behind_longer}
 use Rattle.film_core.proofs.Passing.{over_none}
 
 -- A process whose pieces find no place.

@@ -25,7 +25,7 @@ use Rattle.vm_core.specs.Cores.{StandsIn}
 use Rattle.vm_core.specs.Lawful.{IsJournalOf}
 use Rattle.vm_core.proofs.Standing.{stands_on, leads_to_stop}
 use Rattle.film_core.specs.Ways.{IsReached, RunsOut}
-use Rattle.film_core.proofs.Longer.{units_long}
+use Rattle.run_laws.proofs.LongerJournals.{units_long}
 
 -- Two leads.
 

@@ -27,7 +27,8 @@ use Rattle.film_core.specs.Marks.{mark_behind, lines_behind, last_entry}
 use Rattle.film_core.specs.Ways.{IsReached}
 use Rattle.film_core.specs.Entries.{FullAt, EntryMade, caught_up}
 use Rattle.film_core.proofs.Composing.{journal_of_reached, reached_of_journal, leads_reached, reached_below}
-use Rattle.film_core.proofs.Longer.{Behind, goes_behind, one_behind, last_behind}
+use Rattle.run_laws.proofs.LongerJournals.{Behind, goes_behind}
+use Rattle.film_core.proofs.Longer.{one_behind, last_behind}
 use Rattle.film_core.proofs.Marking.{one_follows, mark_follows, lines_follow, order_follows}
 
 not_true : (b : Bool) → b ≡ false → b ≡ true → ⊥

@@ -28,7 +28,7 @@ use Rattle.run_start.specs.Stepped.{StopsNext, StopLeads, AtSome, LeadsFrom, Sto
 use Rattle.vm_core.specs.Cores.{StandsIn}
 use Rattle.film_core.specs.Ways.{GoesAt, RunsOut, EndsRunning}
 use Rattle.film_core.proofs.Composing.{stands_then, leads_run}
-use Rattle.film_core.proofs.Longer.{Behind, goes_behind, behind_longer}
+use Rattle.run_laws.proofs.LongerJournals.{Behind, goes_behind, behind_longer}
 use Rattle.film_core.specs.Entries.{FullAt, EntryMade}
 use Rattle.film_core.specs.Films.{StopsElse}
 

@@ -24,7 +24,8 @@ use Rattle.run_laws.proofs.Machines.{makes_follows}
 use Rattle.run_command.specs.Machines.{journal_entries}
 use Rattle.film_core.specs.Films.{Filming, FilmAt, FilmBegun, OneMore, FilmGoes}
 use Rattle.owner_laws.specs.First.{ComeFirst}
-use Rattle.owner_laws.proofs.First.{first_of_longer, units_long}
+use Rattle.run_laws.proofs.LongerJournals.{units_long}
+use Rattle.owner_laws.proofs.First.{first_of_longer}
 use Rattle.run_stats.specs.declared.look.Look.{Look}
 use Rattle.run_stats.specs.declared.noting.Note.{Note}
 use Rattle.run_stats.specs.Looks.{look_of, look_at}

@@ -36,6 +36,7 @@ pub mod Choosing
 pub mod Marks
 pub mod Running
 pub mod Lawful
+pub mod LongerJournals
 pub mod Beginning
 pub mod Execs
 pub mod Wholes
