@@ -9,13 +9,14 @@ ghost use Rattle.page_model.specs.PageBytes.{IsWritable};
 ghost use Rattle.page_model.specs.Ownership.{OwnsFrames};
 ghost use Rattle.kernel_model.specs.Kernel.{frame_bytes, write_step, HoldsSpace};
 ghost use Rattle.table_steps.specs.Calls.{life_in};
+ghost use Rattle.table_steps.specs.Machine.{image_shown};
 ghost use Rattle.machine_state.specs.Going.{CanGoOn};
 ghost use Rattle.machine_state.specs.Ahead.{MayFrom, LendsFrom};
 ghost use Rattle.table_steps.specs.UserMemory.{spot_in, page_in, read_page, valid_frame, may_write_by, NamesFrames, IsOwnPage, IsLaidOut, HasLengths, CanLend, IsHeld, AreWhole, WrotePage};
 
 use crate::machine::Machine;
 use flat_state::{PAGE, Spot, locate};
-use table_steps::kernel_tables::Spaces;
+use table_steps::kernel_tables::{Named, Spaces};
 use table_steps::space_map::SpaceMap;
 use vm_facts::{ByteRead, MayWrite, Memory, Page};
 
@@ -162,6 +163,13 @@ impl Machine {
 }
 
 impl SpaceMemory<'_> {
+    /// The images of its machine, that of number 1 first.
+    pub fn images(&self) -> &[Named]
+        ensures { map image_shown result.now ≡ self.now.machine.now.images }
+    {
+        self.machine.images()
+    }
+
     /// The page of the byte that an address names; None exactly where the address is in no segment.
     pub fn page_of(&self, address: u32) -> Option<Page>
         ensures { result ≡ page_in self.now.machine.now.kernel.place self.now.layout.sid address }

@@ -1,8 +1,8 @@
 //! The call that starts another image.
-ghost use Rattle.std.specs.Prelude.{◌≡◌, ℕ, ◌+◌, ◌^◌, ◌<◌, ◌≤◌, List, [], length, Some, IfOk, OnOk, IfErr};
+ghost use Rattle.std.specs.Prelude.{◌≡◌, ◌≤◌, List, [], length, IfOk, OnOk, IfErr};
 ghost use Rattle.user_vax.specs.Program.{run};
 ghost use Rattle.flat_state.specs.Flat.{NamedImage};
-ghost use Rattle.flat_model.specs.Calls.{three_arguments, string_limit, string_from, execve_of, execve_reply};
+ghost use Rattle.flat_model.specs.Calls.{execve_reply};
 ghost use Rattle.page_model.specs.Rank.{HasRoom};
 ghost use Rattle.machine_state.specs.Going.{CanGoOn};
 ghost use Rattle.machine_state.specs.Files.{AreFiles};
@@ -10,93 +10,20 @@ ghost use Rattle.machine_state.specs.UserMemory.{CanLend, kernel_answers};
 ghost use Rattle.machine_state.specs.Outside.{stop_of, TransfersPages};
 ghost use Rattle.fault_fill.specs.Growth.{space_held};
 ghost use Rattle.proc_calls.specs.Callers.{IsCaller};
-ghost use Rattle.proc_calls.specs.Reading.{AreNamed, StartsAs, execve_from};
+ghost use Rattle.proc_calls.specs.Reading.{AreNamed, StartsAs};
 ghost use Rattle.proc_calls.specs.Starting.{IsImageOf, execve_read, ExecComes, StopsExec};
 
-use crate::reading::{image_at, start_of};
+use crate::reading::execve_reply;
 use crate::replying::{Called, fail, refuse};
 use crate::starting::start_image;
-use flat_model::{Asked, ENOENT, Reply, SystemCall, string_from, three_arguments};
+use flat_model::{Asked, Reply, SystemCall};
 use flat_state::Change;
 use io_edge::{Files, SwapDev};
 use machine_state::{Machine, or_stop};
 use std::alloc::Global;
-use vm_facts::{Bytes, NoMemory, Regs, Stop};
-
-// The three arguments, by the memory of the process.
-fn read_arguments(m: &mut Machine, pid: u32, regs: &Regs) -> Asked<(u32, u32, u32)>
-    requires ready { CanGoOn m.old }
-    requires lends { CanLend m.old.kernel pid }
-    ensures value { result ≡ run (kernel_answers m.old.kernel (space_held m.old.kernel pid)) (three_arguments regs.now) }
-    ensures same { m.new ≡ m.old }
-{
-    three_arguments(&m.memory(pid), *regs)
-}
-
-// The path at an address; None where it is too long.
-fn read_path(
-    alloc: Global,
-    m: &mut Machine,
-    pid: u32,
-    path: u32,
-) -> Result<Asked<Option<Bytes>>, NoMemory>
-    requires ready { CanGoOn m.old }
-    requires lends { CanLend m.old.kernel pid }
-    ensures value { IfOk result (λ asked. asked ≡ run (kernel_answers m.old.kernel (space_held m.old.kernel pid)) (string_from string_limit path)) }
-    ensures same { m.new ≡ m.old }
-{
-    string_from(alloc, &m.memory(pid), path)
-}
-
-// The image of this number with this first instruction, with the arguments at an address.
-fn read_start(
-    alloc: Global,
-    m: &mut Machine,
-    pid: u32,
-    image: u32,
-    entry: u32,
-    argv: u32,
-) -> Result<Asked<Reply>, NoMemory>
-    requires ready { CanGoOn m.old }
-    requires lends { CanLend m.old.kernel pid }
-    requires entry { entry + 2 < 2 ^ 32 }
-    ensures value { (known : NamedImage) → known.image.facts.entry ≡ entry
-        → IfOk result (λ asked. asked ≡ run (kernel_answers m.old.kernel (space_held m.old.kernel pid)) (execve_of argv (Some (image, known)))) }
-    ensures starts { IfOk result (λ asked. IfOk asked (StartsAs (λ number. number ≡ image))) }
-    ensures same { m.new ≡ m.old }
-{
-    start_of(alloc, &m.memory(pid), image, entry, argv)
-}
-
-// The image of the path at an address, with the arguments at another.
-fn read_image(
-    alloc: Global,
-    m: &mut Machine,
-    pid: u32,
-    path: u32,
-    argv: u32,
-) -> Result<Asked<Reply>, NoMemory>
-    requires ready { CanGoOn m.old }
-    requires lends { CanLend m.old.kernel pid }
-    ensures value { (known : List NamedImage) → AreNamed known m.old.images
-        → IfOk result (λ asked. asked ≡ run (kernel_answers m.old.kernel (space_held m.old.kernel pid)) (execve_from known path argv)) }
-    ensures starts { IfOk result (λ asked. IfOk asked (StartsAs (IsImageOf m.old))) }
-    ensures same { m.new ≡ m.old }
-{
-    let name = read_path(alloc, m, pid, path)?;
-    let images = m.images();
-    match image_at(images, name) {
-        Err(refused) => Ok(Err(refused)),
-        Ok(None) => Ok(Ok(Reply::Fails(ENOENT))),
-        Ok(Some(image)) => {
-            let entry = images[image as usize - 1].facts.entry;
-            read_start(alloc, m, pid, image, entry, argv)
-        }
-    }
-}
+use vm_facts::{NoMemory, Regs, Stop};
 
 // What the execve of a process comes to, by its memory.
-#[tactic(auto, using(user_vax::proofs::Runs::run_bind), unfolding(flat_model::specs::Calls::execve_reply))]
 fn read_call(
     alloc: Global,
     m: &mut Machine,
@@ -110,10 +37,8 @@ fn read_call(
     ensures starts { IfOk result (λ asked. IfOk asked (StartsAs (IsImageOf m.old))) }
     ensures same { m.new ≡ m.old }
 {
-    match read_arguments(m, pid, regs) {
-        Err(refused) => Ok(Err(refused)),
-        Ok((path, argv, _)) => read_image(alloc, m, pid, path, argv),
-    }
+    let memory = m.memory(pid);
+    execve_reply(alloc, memory.images(), &memory, regs)
 }
 
 /// The process starts another image, by the path and the arguments that its memory has. Its new stack page 0 is filled after

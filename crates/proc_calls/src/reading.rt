@@ -38,7 +38,7 @@ fn numbered(images: &[Named], name: &[u8]) -> Option<u32>
 
 // The number of the image of a path that was read.
 #[tactic(auto, using(crate::proofs::Names::image_is))]
-pub fn image_at(images: &[Named], path: Asked<Option<Bytes>>) -> Asked<Option<u32>>
+fn image_at(images: &[Named], path: Asked<Option<Bytes>>) -> Asked<Option<u32>>
     requires { length images.now ≤ 16 }
     ensures image { (known : List NamedImage) → AreShown known images.now → IsPathImage known images.now path result }
     ensures within { IfOk result (λ number. IfSome number (IsAmong images.now)) }
@@ -68,7 +68,7 @@ fn path_image<M: Memory>(
 
 // The image of this number with this first instruction, with the arguments at an address.
 #[tactic(auto, using(user_vax::proofs::Runs::run_bind))]
-pub fn start_of<M: Memory>(
+fn start_of<M: Memory>(
     alloc: Global,
     memory: &M,
     image: u32,
@@ -100,7 +100,9 @@ fn execve_at<M: Memory>(
 ) -> Result<Asked<Reply>, NoMemory>
     requires few { length images.now ≤ 16 }
     requires entries { EntriesFit images.now }
-    ensures { (known : List NamedImage) → AreShown known images.now → IfOk result (λ asked. asked ≡ run (M.answers memory.now) (execve_from known path argv)) }
+    ensures value { (known : List NamedImage) → AreShown known images.now
+        → IfOk result (λ asked. asked ≡ run (M.answers memory.now) (execve_from known path argv)) }
+    ensures starts { IfOk result (λ asked. IfOk asked (StartsAs (IsAmong images.now))) }
 {
     match path_image(alloc, images, memory, path)? {
         Err(refused) => Ok(Err(refused)),
@@ -122,7 +124,9 @@ pub fn execve_reply<M: Memory>(
 ) -> Result<Asked<Reply>, NoMemory>
     requires few { length images.now ≤ 16 }
     requires entries { EntriesFit images.now }
-    ensures { (known : List NamedImage) → AreShown known images.now → IfOk result (λ asked. asked ≡ run (M.answers memory.now) (execve_reply known regs.now)) }
+    ensures value { (known : List NamedImage) → AreShown known images.now
+        → IfOk result (λ asked. asked ≡ run (M.answers memory.now) (execve_reply known regs.now)) }
+    ensures starts { IfOk result (λ asked. IfOk asked (StartsAs (IsAmong images.now))) }
 {
     match three_arguments(memory, *regs) {
         Err(refused) => Ok(Err(refused)),

@@ -1,5 +1,5 @@
 -- The first byte that misses in what an instruction and its call read or test, by what they come to.
-use Rattle.std.proofs.Common.{◌≡◌, ℕ, Bool, List, Option, Some, None, Result, Ok, Err, ℤ, ap, ◌∙◌, subst}
+use Rattle.std.proofs.Common.{◌≡◌, ℕ, Bool, List, Option, Some, None, Result, Ok, Err, ℤ, refl, ap, ◌∙◌, subst}
 use Rattle.std.specs.Prelude.{IfOk}
 use Rattle.vm_facts.specs.Answers.{Answers}
 use Rattle.vm_facts.specs.declared.regs.Regs.{Regs}
@@ -16,7 +16,13 @@ use Rattle.flat_model.specs.declared.calls.SystemCall.{SystemCall}
 use Rattle.flat_model.specs.Calls.{call_of, reply_of}
 use Rattle.proc_calls.specs.Reading.{refusal_of}
 use Rattle.touched_pages.specs.Missed.{missed_byte, missed_by_call, missed_behind_by, missed_behind, first_missed}
-use Rattle.touched_pages.proofs.Names.{missed_refusal}
+
+-- a byte that misses where a value is read
+missed_refusal : {A : Type 0} (r : Result A Refused) → missed_byte (refusal_of r) ≡ missed_byte r
+missed_refusal (Ok x) = refl
+missed_refusal (Err (Miss address write)) = refl
+missed_refusal (Err (Below address)) = refl
+missed_refusal (Err (Signal number)) = refl
 
 pub one_call : (known : List NamedImage) (F : FlatState) (p : Process) (s : Space) (memory : Answers) (regs : Regs) (call : SystemCall)
     (asked : Result (Unit {0}) Refused) (byte : Option ℕ)

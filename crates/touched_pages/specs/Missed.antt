@@ -1,5 +1,5 @@
 -- The first byte that misses in what an instruction and its call read or test.
-use Rattle.std.specs.Prelude.{◌≡◌, ℕ, Bool, true, false, ◌||◌, List, [], ◌∷◌, Option, Some, None, Result, Ok, Err, ℤ, bytes_eq}
+use Rattle.std.specs.Prelude.{◌≡◌, ℕ, Bool, true, false, List, [], Option, Some, None, Result, Ok, Err, ℤ}
 use Rattle.vm_facts.specs.Answers.{Answers}
 use Rattle.vm_facts.specs.declared.regs.Regs.{Regs}
 use Rattle.user_vax.specs.Program.{run}
@@ -15,14 +15,8 @@ use Rattle.vm_facts.specs.declared.page.Page.{Page}
 use Rattle.page_model.specs.Pages.{is_valid}
 use Rattle.page_model.specs.Placement.{Placement, state_of}
 use Rattle.kernel_model.specs.Kernel.{Kernel}
-use Rattle.machine_state.specs.Sourced.{ImageNamed}
 use Rattle.machine_state.specs.UserMemory.{page_in, kernel_answers}
 use Rattle.proc_calls.specs.Growth.{space_held}
-
--- an image of a machine has this name
-abbrev pub has_name : List ℕ → List ImageNamed → Bool
-has_name name [] = false
-has_name name (image ∷ images) = bytes_eq image.name name || has_name name images
 
 -- the byte for which a computation missed
 abbrev pub missed_byte : {A : Type 0} → Result A Refused → Option ℕ
