@@ -17,6 +17,21 @@ use proc_calls::read_by_call;
 use std::alloc::Global;
 use vm_facts::{NoMemory, Page, Regs};
 
+// What a call reads of a memory of which some pages alone are shown.
+fn read_shown(
+    alloc: Global,
+    shown: &Shown<'_, '_>,
+    call: SystemCall,
+    regs: &Regs,
+) -> Result<Asked<()>, NoMemory>
+    requires { CanGoOn shown.now.memory.machine.now }
+    ensures { (known : List NamedImage) (F : FlatState) (p : Process) (s : Space) → AreNamed known shown.now.memory.machine.now.images
+        → IfOk result (λ asked. asked ≡ refusal_of (run (shown_in shown.now.memory.machine.now.kernel shown.now.memory.layout.sid shown.now.pages.now)
+        (reply_of known F p s call regs.now))) }
+{
+    read_by_call(alloc, shown.memory.images(), shown, call, regs)
+}
+
 /// Reads what a call reads where these pages alone are shown, and says how the first refused byte is refused.
 pub fn read_call(
     alloc: Global,
@@ -36,5 +51,5 @@ pub fn read_call(
         memory: m.memory(pid),
         pages,
     };
-    read_by_call(alloc, shown.memory.images(), &shown, call, regs)
+    read_shown(alloc, &shown, call, regs)
 }
