@@ -5,6 +5,7 @@ pub mod Inputs
 pub mod Endings
 pub mod Pairs
 pub mod Runs
+pub mod Headline
 pub mod LoadSpace
 pub mod Counted
 pub mod LoadLength

@@ -1,6 +1,7 @@
 pub use Rattle.vm_core.specs.Files
 pub use Rattle.vm_core.specs.Full
 pub use Rattle.vm_core.specs.Lawful
+pub use Rattle.vm_core.specs.Headline
 pub use Rattle.vm_core.specs.RunEnds
 pub use Rattle.vm_core.specs.declared.schedule.Unfinished
 pub mod Asking
@@ -9,5 +10,7 @@ pub mod Outside
 pub mod Naming
 pub mod Machines
 pub mod Ends
+pub mod Headlines
 pub mod Paired
+pub mod Sight
 pub mod Loads

@@ -9,8 +9,9 @@ ghost use Rattle.vm_core.specs.Starting.{IsFresh};
 ghost use Rattle.run_command.specs.Naming.{shown_as};
 ghost use Rattle.run_command.specs.Machines.{machine_up_to, machine_of, SuitsMachine, IsOfOpening};
 ghost use Rattle.run_command.specs.Outside.{KeepsOutside};
-ghost use Rattle.run_command.specs.Paired.{image_together};
+ghost use Rattle.run_command.specs.Sight.{seen_of_all};
 ghost use Rattle.run_command.specs.Ends.{Runs, RunsOpened};
+ghost use Rattle.run_command.specs.Headlines.{CarriesHeadline};
 
 use crate::naming::name_images;
 use crate::paired::{JOURNAL_ENTRIES, run_paired};
@@ -81,35 +82,7 @@ fn run_opened<F: Files, D: SwapDev, E: SwapDev, S: Sink>(
     requires allowed { AreAllowed numbers }
     requires ready { SuitsMachine opening.now (F.holds files.old) }
     requires devices { MeetsNeeds (D.blocks zero.old) (E.blocks one.old) numbers.swap }
-    ensures runs { RunsOpened (IsOfOpening numbers opening.now (F.holds files.old)) traced (record {
-      files = F.holds files.old;
-      faults = record {
-        open_before = F.open_faults files.old;
-        open_after = F.open_faults files.new;
-        page_before = F.page_faults files.old;
-        page_after = F.page_faults files.new;
-      };
-      zero_blocks = D.blocks zero.old;
-      one_blocks = E.blocks one.old;
-      swap_before = image_together (D.blocks zero.old) (E.blocks one.old) (D.image zero.old) (E.image one.old);
-      swap_after = image_together (D.blocks zero.new) (E.blocks one.new) (D.image zero.new) (E.image one.new);
-      reads = record {
-        zero_before = D.read_faults zero.old;
-        zero_after = D.read_faults zero.new;
-        one_before = E.read_faults one.old;
-        one_after = E.read_faults one.new;
-      };
-      writes = record {
-        zero_before = D.write_faults zero.old;
-        zero_after = D.write_faults zero.new;
-        one_before = E.write_faults one.old;
-        one_after = E.write_faults one.new;
-      };
-      written_before = S.written sink.old;
-      written_after = S.written sink.new;
-      sink_faults_before = S.faults sink.old;
-      sink_faults_after = S.faults sink.new;
-    }) result }
+    ensures runs { RunsOpened (IsOfOpening numbers opening.now (F.holds files.old)) traced (seen_of_all F.Files D.SwapDev E.SwapDev S.Sink files.old files.new zero.old zero.new one.old one.new sink.old sink.new) result }
     ensures kept { KeepsOutside F.Files D.SwapDev E.SwapDev S.Sink files.old files.new zero.old zero.new one.old one.new sink.old sink.new }
 {
     let Ok(mut core) = core_of(alloc, numbers, opening.images.as_slice()) else {
@@ -142,35 +115,7 @@ fn run_words<F: Files, D: SwapDev, E: SwapDev, S: Sink>(
 ) -> u8
     requires allowed { AreAllowed numbers }
     requires words { AreImageWords words.now }
-    ensures runs { Runs (record { traced = traced; numbers = numbers; schedule = schedule.now; words = map (λ word. word.now) words.now }) (record {
-      files = F.holds files.old;
-      faults = record {
-        open_before = F.open_faults files.old;
-        open_after = F.open_faults files.new;
-        page_before = F.page_faults files.old;
-        page_after = F.page_faults files.new;
-      };
-      zero_blocks = D.blocks zero.old;
-      one_blocks = E.blocks one.old;
-      swap_before = image_together (D.blocks zero.old) (E.blocks one.old) (D.image zero.old) (E.image one.old);
-      swap_after = image_together (D.blocks zero.new) (E.blocks one.new) (D.image zero.new) (E.image one.new);
-      reads = record {
-        zero_before = D.read_faults zero.old;
-        zero_after = D.read_faults zero.new;
-        one_before = E.read_faults one.old;
-        one_after = E.read_faults one.new;
-      };
-      writes = record {
-        zero_before = D.write_faults zero.old;
-        zero_after = D.write_faults zero.new;
-        one_before = E.write_faults one.old;
-        one_after = E.write_faults one.new;
-      };
-      written_before = S.written sink.old;
-      written_after = S.written sink.new;
-      sink_faults_before = S.faults sink.old;
-      sink_faults_after = S.faults sink.new;
-    }) result }
+    ensures runs { Runs (record { traced = traced; numbers = numbers; schedule = schedule.now; words = map (λ word. word.now) words.now }) (seen_of_all F.Files D.SwapDev E.SwapDev S.Sink files.old files.new zero.old zero.new one.old one.new sink.old sink.new) result }
     ensures kept { KeepsOutside F.Files D.SwapDev E.SwapDev S.Sink files.old files.new zero.old zero.new one.old one.new sink.old sink.new }
 {
     let opened = open_run(
@@ -208,35 +153,9 @@ pub fn run_command<F: Files, D: SwapDev, E: SwapDev, S: Sink>(
 ) -> u8
     requires fits { IsFittingRun 1000000 numbers schedule (word_list images) }
     ensures runs { Runs (record { traced = traced; numbers = numbers; schedule = schedule.now; words = map (λ word. word.now) (word_list images.entry) })
-        (record {
-          files = F.holds files.old;
-          faults = record {
-            open_before = F.open_faults files.old;
-            open_after = F.open_faults files.new;
-            page_before = F.page_faults files.old;
-            page_after = F.page_faults files.new;
-          };
-          zero_blocks = D.blocks zero.old;
-          one_blocks = E.blocks one.old;
-          swap_before = image_together (D.blocks zero.old) (E.blocks one.old) (D.image zero.old) (E.image one.old);
-          swap_after = image_together (D.blocks zero.new) (E.blocks one.new) (D.image zero.new) (E.image one.new);
-          reads = record {
-            zero_before = D.read_faults zero.old;
-            zero_after = D.read_faults zero.new;
-            one_before = E.read_faults one.old;
-            one_after = E.read_faults one.new;
-          };
-          writes = record {
-            zero_before = D.write_faults zero.old;
-            zero_after = D.write_faults zero.new;
-            one_before = E.write_faults one.old;
-            one_after = E.write_faults one.new;
-          };
-          written_before = S.written sink.old;
-          written_after = S.written sink.new;
-          sink_faults_before = S.faults sink.old;
-          sink_faults_after = S.faults sink.new;
-        }) result }
+        (seen_of_all F.Files D.SwapDev E.SwapDev S.Sink files.old files.new zero.old zero.new one.old one.new sink.old sink.new) result }
+    ensures headline { CarriesHeadline (record { traced = traced; numbers = numbers; schedule = schedule.now; words = map (λ word. word.now) (word_list images.entry) })
+        (seen_of_all F.Files D.SwapDev E.SwapDev S.Sink files.old files.new zero.old zero.new one.old one.new sink.old sink.new) result }
     ensures kept { KeepsOutside F.Files D.SwapDev E.SwapDev S.Sink files.old files.new zero.old zero.new one.old one.new sink.old sink.new }
 {
     match images.to_vec(alloc) {

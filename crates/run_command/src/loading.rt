@@ -12,7 +12,7 @@ ghost use Rattle.vm_core.specs.RunEnds.{IsAskedOf};
 ghost use Rattle.run_command.specs.Naming.{shown_as};
 ghost use Rattle.run_command.specs.Machines.{machine_of};
 ghost use Rattle.run_command.specs.Outside.{KeepsDevices, KeepsOutput};
-ghost use Rattle.run_command.specs.Paired.{image_together};
+ghost use Rattle.run_command.specs.Sight.{seen_beside};
 ghost use Rattle.run_command.specs.Loads.{load_first, load_numbers, WritesCounts, Loads, LoadRuns};
 
 use crate::command::core_of;
@@ -76,30 +76,7 @@ fn run_load<D: SwapDev, E: SwapDev, S: Sink>(
     ensures runs { (told : Option (List NamedFile)) (opens pages : ℕ)
         → LoadRuns (λ A image. IsAskedOf A (machine_of load_numbers (map shown_as images.now)) load_first lines.now
         (⟦<SureFiles as Files>⟧.holds files.old) image)
-        (λ A. StartsFrom A (machine_of load_numbers (map shown_as images.now)) load_first) number (record {
-          files = told;
-          faults = record { open_before = opens; open_after = opens; page_before = pages; page_after = pages };
-          zero_blocks = D.blocks zero.old;
-          one_blocks = E.blocks one.old;
-          swap_before = image_together (D.blocks zero.old) (E.blocks one.old) (D.image zero.old) (E.image one.old);
-          swap_after = image_together (D.blocks zero.new) (E.blocks one.new) (D.image zero.new) (E.image one.new);
-          reads = record {
-            zero_before = D.read_faults zero.old;
-            zero_after = D.read_faults zero.new;
-            one_before = E.read_faults one.old;
-            one_after = E.read_faults one.new;
-          };
-          writes = record {
-            zero_before = D.write_faults zero.old;
-            zero_after = D.write_faults zero.new;
-            one_before = E.write_faults one.old;
-            one_after = E.write_faults one.new;
-          };
-          written_before = S.written sink.old;
-          written_after = S.written sink.new;
-          sink_faults_before = S.faults sink.old;
-          sink_faults_after = S.faults sink.new;
-        }) result }
+        (λ A. StartsFrom A (machine_of load_numbers (map shown_as images.now)) load_first) number (seen_beside told (record { open_before = opens; open_after = opens; page_before = pages; page_after = pages }) D.SwapDev E.SwapDev S.Sink zero.old zero.new one.old one.new sink.old sink.new) result }
     ensures devices { KeepsDevices D.SwapDev E.SwapDev zero.old zero.new one.old one.new }
     ensures output { KeepsOutput S.Sink sink.old sink.new }
 {
@@ -126,30 +103,7 @@ pub fn load_command<D: SwapDev, E: SwapDev, S: Sink>(
     sink: &mut S,
     number: u32,
 ) -> u8
-    ensures loads { (told : Option (List NamedFile)) (opens pages : ℕ) → Loads number (record {
-      files = told;
-      faults = record { open_before = opens; open_after = opens; page_before = pages; page_after = pages };
-      zero_blocks = D.blocks zero.old;
-      one_blocks = E.blocks one.old;
-      swap_before = image_together (D.blocks zero.old) (E.blocks one.old) (D.image zero.old) (E.image one.old);
-      swap_after = image_together (D.blocks zero.new) (E.blocks one.new) (D.image zero.new) (E.image one.new);
-      reads = record {
-        zero_before = D.read_faults zero.old;
-        zero_after = D.read_faults zero.new;
-        one_before = E.read_faults one.old;
-        one_after = E.read_faults one.new;
-      };
-      writes = record {
-        zero_before = D.write_faults zero.old;
-        zero_after = D.write_faults zero.new;
-        one_before = E.write_faults one.old;
-        one_after = E.write_faults one.new;
-      };
-      written_before = S.written sink.old;
-      written_after = S.written sink.new;
-      sink_faults_before = S.faults sink.old;
-      sink_faults_after = S.faults sink.new;
-    }) result }
+    ensures loads { (told : Option (List NamedFile)) (opens pages : ℕ) → Loads number (seen_beside told (record { open_before = opens; open_after = opens; page_before = pages; page_after = pages }) D.SwapDev E.SwapDev S.Sink zero.old zero.new one.old one.new sink.old sink.new) result }
     ensures devices { KeepsDevices D.SwapDev E.SwapDev zero.old zero.new one.old one.new }
     ensures output { KeepsOutput S.Sink sink.old sink.new }
 {

@@ -18,3 +18,4 @@ pub mod Starts
 pub mod Going
 pub mod Journals
 pub mod Ending
+pub mod Headlines

@@ -12,5 +12,6 @@ pub mod Starting
 pub mod Schedules
 pub mod Halting
 pub mod Lawful
+pub mod Headline
 pub mod Full
 pub mod RunEnds

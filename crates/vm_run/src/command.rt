@@ -1,7 +1,8 @@
 ghost use Rattle.std.specs.Prelude.{◌≡◌, map};
 ghost use Rattle.command_words.specs.Asked.{asked_of};
 ghost use Rattle.reference_commands.specs.Outside.{KeepsOutside};
-ghost use Rattle.reference_commands.specs.Paired.{image_together};
+ghost use Rattle.reference_commands.specs.Sight.{seen_of_all};
+ghost use Rattle.vm_run.specs.Headline.{CarriesFor};
 ghost use Rattle.vm_run.specs.Obeying.{Obeys, LeavesFiles, LeavesDevice};
 
 use command_ending::{Fault, write_ending};
@@ -32,35 +33,8 @@ pub fn vmrun<F: Files, D: SwapDev, E: SwapDev, S: Sink>(
     one: &mut E,
     sink: &mut S,
 ) -> u8
-    ensures obeys { Obeys (asked_of (map (λ word. word.now) words.now)) (record {
-      files = F.holds files.old;
-      faults = record {
-        open_before = F.open_faults files.old;
-        open_after = F.open_faults files.new;
-        page_before = F.page_faults files.old;
-        page_after = F.page_faults files.new;
-      };
-      zero_blocks = D.blocks zero.old;
-      one_blocks = E.blocks one.old;
-      swap_before = image_together (D.blocks zero.old) (E.blocks one.old) (D.image zero.old) (E.image one.old);
-      swap_after = image_together (D.blocks zero.new) (E.blocks one.new) (D.image zero.new) (E.image one.new);
-      reads = record {
-        zero_before = D.read_faults zero.old;
-        zero_after = D.read_faults zero.new;
-        one_before = E.read_faults one.old;
-        one_after = E.read_faults one.new;
-      };
-      writes = record {
-        zero_before = D.write_faults zero.old;
-        zero_after = D.write_faults zero.new;
-        one_before = E.write_faults one.old;
-        one_after = E.write_faults one.new;
-      };
-      written_before = S.written sink.old;
-      written_after = S.written sink.new;
-      sink_faults_before = S.faults sink.old;
-      sink_faults_after = S.faults sink.new;
-    }) result }
+    ensures obeys { Obeys (asked_of (map (λ word. word.now) words.now)) (seen_of_all F.Files D.SwapDev E.SwapDev S.Sink files.old files.new zero.old zero.new one.old one.new sink.old sink.new) result }
+    ensures headline { CarriesFor (asked_of (map (λ word. word.now) words.now)) (seen_of_all F.Files D.SwapDev E.SwapDev S.Sink files.old files.new zero.old zero.new one.old one.new sink.old sink.new) result }
     ensures files { LeavesFiles (asked_of (map (λ word. word.now) words.now)) (files.new ≡ files.old) }
     ensures kept { KeepsOutside F.Files D.SwapDev E.SwapDev S.Sink files.old files.new zero.old zero.new one.old one.new sink.old sink.new }
     ensures zero { LeavesDevice (asked_of (map (λ word. word.now) words.now)) (zero.new ≡ zero.old) }

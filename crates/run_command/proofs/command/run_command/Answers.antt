@@ -3,6 +3,7 @@ use Rattle.command_words.specs.Command.{word_list}
 use Rattle.run_command.specs.Asking.{Request}
 use Rattle.run_command.specs.Seen.{Seen, NoneFailed}
 use Rattle.run_command.specs.Paired.{image_together}
+use Rattle.run_command.proofs.Headline.{run_carries}
 use Rattle.run_command.proofs.Runs.{lacking_runs}
 use Rattle.run_command.proofs.command.run_command.Goals as goal
 
@@ -30,3 +31,10 @@ returns-in-Err-clause-runs g c =
     let reads : NoneFailed seen.reads = record { zero = refl; one = refl } in
     let writes : NoneFailed seen.writes = record { zero = refl; one = refl } in
     lacking_runs request seen refl reads writes refl c.write_run.result c.write_run.ensures.writes refl
+
+-- the headline is a part of what a run is
+pub returns-in-Ok-clause-headline : goal.returns-in-Ok-clause-headline
+returns-in-Ok-clause-headline g c = run_carries _ _ _ c.run_words.ensures.runs
+
+pub returns-in-Err-clause-headline : goal.returns-in-Err-clause-headline
+returns-in-Err-clause-headline g c = run_carries _ _ _ (returns-in-Err-clause-runs g c)

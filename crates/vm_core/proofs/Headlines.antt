@@ -1,0 +1,30 @@
+-- The headline holds of the journal of a run.
+use Rattle.std.proofs.Common.{List, [], ◌∷◌, ◌≡◌}
+use Rattle.vm_facts.specs.declared.entry.Entry.{Entry}
+use Rattle.flat_state.specs.Flat.{Inputs}
+use Rattle.run_model.specs.State.{State, start}
+use Rattle.run_model.specs.After.{after}
+use Rattle.run_model.specs.Lawful.{IsLawful}
+use Rattle.journal_laws.specs.Accounts.{AtEach, IsAccounted, Account}
+use Rattle.vm_core.specs.Lawful.{IsJournalOf}
+use Rattle.vm_core.specs.Headline.{KeepsOwners, Headline}
+
+owners_kept : (A : Inputs) (s : State) (us : List Entry) → AtEach IsAccounted A s us → AtEach KeepsOwners A s us
+owners_kept A s [] each = tt
+owners_kept A s (u ∷ us) each =
+    ((let first : IsAccounted A s u = each.0 in (first.owned, first.refusal)), owners_kept A (after A s u) us each.1)
+
+pub carries_headline : (A : Inputs) (journal : List Entry) (s : State) → IsJournalOf A journal s → Headline A journal
+carries_headline A journal s m =
+    let lawful : IsLawful A journal s = m.lawful in
+    let account : Account A (start A m.holdings) m.units = m.account in
+    record {
+      point = s.point;
+      flat = lawful.flat;
+      holdings = m.holdings;
+      can = m.can;
+      units = m.units;
+      joined = m.joined;
+      owned = account.owned;
+      each = owners_kept A (start A m.holdings) m.units account.each;
+    }
