@@ -14,10 +14,7 @@ ghost use Rattle.clock_hands.specs.Moved.{Moved, StopsMoving, IsMoveOf};
 use crate::looking::next_write;
 use io_edge::{Files, SwapDev};
 use machine_state::Machine;
-use vm_facts::Stop;
-
-/// The transfers that may be in flight.
-const MOST_IN_FLIGHT: u32 = 16;
+use vm_facts::{MOST_IN_FLIGHT, Stop};
 
 // Whether fewer than a quarter of the frames are free.
 fn wants_moves(m: &Machine) -> bool

@@ -22,10 +22,7 @@ use clock_hands::kluster_io::pick_in;
 use io_edge::{Files, SwapDev};
 use machine_state::Machine;
 use space_map::SpaceMap;
-use vm_facts::{Page, PageState, Stop};
-
-/// The transfers that may be in flight.
-const MOST_IN_FLIGHT: u32 = 16;
+use vm_facts::{MOST_IN_FLIGHT, Page, PageState, Stop};
 
 // What a unit of serving a page comes to.
 pub(crate) enum Unit {

@@ -14,12 +14,13 @@ use Rattle.flat_model.specs.declared.calls.Reply.{Reply}
 use Rattle.flat_model.specs.declared.calls.Reply.TheVariants.{Fails, Does, Writes, Waits, Exits}
 use Rattle.flat_model.specs.declared.calls.SystemCall.{SystemCall}
 use Rattle.flat_model.specs.declared.calls.SystemCall.TheVariants as calls
+use Rattle.flat_model.specs.declared.calls.TheConstants.{ENOENT, EBADF, ECHILD, EAGAIN, ENOMEM, EFAULT, WRITE_LIMIT, PROCESS_LIMIT, DATA_LIMIT, STRING_LIMIT, ARGUMENT_LIMIT}
 
 -- The numbers of the errors: ENOENT, E2BIG, EBADF, ECHILD, EAGAIN, ENOMEM and EFAULT.
 
 -- ENOENT: the path names no image
 abbrev pub no_such_file : ℕ
-no_such_file = 2
+no_such_file = ENOENT
 
 -- E2BIG: more arguments than may be, or one that is too long
 abbrev pub too_big : ℕ
@@ -27,46 +28,46 @@ too_big = 7
 
 -- EBADF: the file of a write isn't 1 or 2
 abbrev pub bad_file : ℕ
-bad_file = 9
+bad_file = EBADF
 
 -- ECHILD: a process that waits has no children
 abbrev pub no_children : ℕ
-no_children = 10
+no_children = ECHILD
 
 -- EAGAIN: there are as many processes as may be
 abbrev pub try_again : ℕ
-try_again = 11
+try_again = EAGAIN
 
 -- ENOMEM: a data segment of too many pages, or swap pieces that find no place
 abbrev pub no_memory : ℕ
-no_memory = 12
+no_memory = ENOMEM
 
 -- EFAULT: a byte that the call reads is refused
 abbrev pub fault : ℕ
-fault = 14
+fault = EFAULT
 
 -- The limits: the bytes of one write, the processes, the pages of a data segment, the bytes of a path or an argument
 -- with its final 0, and the arguments.
 
 -- the most bytes that one write writes
 abbrev pub write_limit : ℕ
-write_limit = 1024
+write_limit = WRITE_LIMIT
 
 -- the most processes that there may be, zombies counted
 abbrev pub process_limit : ℕ
-process_limit = 64
+process_limit = PROCESS_LIMIT
 
 -- the most pages of a data segment
 abbrev pub data_limit : ℕ
-data_limit = 4096
+data_limit = DATA_LIMIT
 
 -- the most bytes of a path or an argument, with its final 0
 abbrev pub string_limit : ℕ
-string_limit = 64
+string_limit = STRING_LIMIT
 
 -- the most arguments of an execve
 abbrev pub argument_limit : ℕ
-argument_limit = 8
+argument_limit = ARGUMENT_LIMIT
 
 -- The calls by number.
 

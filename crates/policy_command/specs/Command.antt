@@ -11,10 +11,11 @@ use Rattle.command_ending.specs.declared.fault.Fault.{Fault}
 use Rattle.command_ending.specs.declared.fault.Fault.TheVariants.{Absent, FileFault, NoMemory, BadReferences, ReferencesTooLong}
 use Rattle.command_ending.specs.Ending.{Ending}
 use Rattle.command_ending.specs.Command.{Faults, NoFaults, OpenFailed, Completes}
+use Rattle.policy_command.specs.declared.command.TheConstants.{REFERENCES_BYTES}
 
 -- the most bytes of a file of references
 abbrev pub references_bytes : ℕ
-references_bytes = 67108864
+references_bytes = REFERENCES_BYTES
 
 -- what is read where the files are told: the bytes of the file of this name, and none of one that is too long
 abbrev pub references_told : List ℕ → List NamedFile → Result (Option (List ℕ)) Unread

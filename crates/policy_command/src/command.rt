@@ -13,7 +13,7 @@ use std::alloc::Global;
 use vm_facts::Page;
 
 /// The most bytes of a file of references.
-const REFERENCES_BYTES: u64 = 67_108_864;
+pub const REFERENCES_BYTES: u64 = 67_108_864;
 
 // The references that the bytes of a file are.
 fn references_of<'a>(alloc: Global, bytes: &[u8]) -> Result<Vec<Page>, Fault<'a>>

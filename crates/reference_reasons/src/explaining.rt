@@ -8,13 +8,11 @@ ghost use Rattle.reference_reasons.specs.Explaining.{argument_name, range_text, 
 use crate::reasons::{Argument, Reason, bad_line};
 use command_ending::put_number;
 use io_edge::Files;
+use policy_command::REFERENCES_BYTES;
 use reference_text::{References, read_references};
 use run_files::{Unread, read_whole};
 use std::alloc::{AllocError, Global};
 use text_lines::shown;
-
-/// No file of references has more bytes.
-const REFERENCES_BYTES: u64 = 67_108_864;
 
 fn argument_name(argument: Argument) -> &'static [u8]
     ensures { result.now ≡ argument_name argument }

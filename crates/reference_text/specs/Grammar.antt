@@ -8,6 +8,7 @@ use Rattle.run_text.specs.EntryParts.{segment_of}
 use Rattle.run_text.specs.Lines.{lines_in, AreLines}
 use Rattle.reference_text.specs.declared.answers.References.{References}
 use Rattle.reference_text.specs.declared.answers.References.TheVariants.{Are, BadLine}
+use Rattle.reference_text.specs.declared.reader.TheConstants.{MOST_REFERENCES}
 
 -- a page: the letter of its segment, the number of its space or image, and its own
 abbrev pub page_word : Page → List ℕ
@@ -42,7 +43,7 @@ references_on (Some page ∷ lines) = page ∷ references_on lines
 
 -- the most references of a file
 abbrev pub most_references : ℕ
-most_references = 4000000
+most_references = MOST_REFERENCES
 
 -- the file has these references, one after another
 pub record ReadsReferences (bytes : List ℕ) (refs : List Page) : Type 0 where

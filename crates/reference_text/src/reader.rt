@@ -12,7 +12,7 @@ use std::alloc::Global;
 use vm_facts::{NoMemory, Page};
 
 /// No file has more references.
-const MOST_REFERENCES: usize = 4_000_000;
+pub const MOST_REFERENCES: usize = 4_000_000;
 
 // The two numbers, each after a space, that the text consists of.
 fn read_pair(text: &[u8]) -> Option<(u32, u32)>

@@ -10,10 +10,11 @@ use Rattle.flat_model.specs.Run.{Point, flat_entry, flat_run, start_point}
 use Rattle.flat_model.specs.Touched.{touched}
 use Rattle.replay_check.specs.declared.replaying.Verdict.{Verdict}
 use Rattle.replay_check.specs.declared.replaying.Verdict.TheVariants as verdicts
+use Rattle.replay_check.specs.declared.replaying.TheConstants.{INSTRUCTION_LIMIT}
 
 -- the instructions that a transcript may have
 abbrev pub instruction_limit : ℕ
-instruction_limit = 1000000
+instruction_limit = INSTRUCTION_LIMIT
 
 -- the entries are a run of the flat machine, of no more instructions than may be
 abbrev pub is_run : Inputs → List Entry → Bool

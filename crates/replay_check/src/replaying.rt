@@ -17,7 +17,7 @@ use std::alloc::Global;
 use vm_facts::{Entry, NoMemory, Regs};
 
 /// Instructions that a transcript may have.
-const INSTRUCTION_LIMIT: u32 = 1_000_000;
+pub const INSTRUCTION_LIMIT: u32 = 1_000_000;
 
 /// What `replay` answers.
 #[derive(Clone, Copy, Debug, PartialEq, Eq, Drop)]

@@ -15,6 +15,7 @@ use Rattle.command_ending.specs.declared.fault.Fault.TheVariants.{Absent, NotIma
 use Rattle.command_ending.specs.Named.{Why, before}
 use Rattle.command_ending.specs.Command.{Faults, NoFaults, OpenFailed, OneFailed}
 use Rattle.replay_command.specs.LastLine.{without_fault_line}
+use Rattle.replay_command.specs.declared.transcript.TheConstants.{TRANSCRIPT_BYTES}
 
 -- a transcript's bytes, none of one that is too long; and the images
 pub record Read : Type 0 where
@@ -82,7 +83,7 @@ EndsTranscript name read f (Err _) = ⊥
 
 -- the most bytes of a transcript
 abbrev pub transcript_bytes : ℕ
-transcript_bytes = 67108864
+transcript_bytes = TRANSCRIPT_BYTES
 
 -- what is read where the files are told, for a transcript's name and words of images
 abbrev pub read_of_transcript : List ℕ → List (List ℕ) → List NamedFile → Read

@@ -15,7 +15,7 @@ use std::alloc::Global;
 use vm_facts::Entry;
 
 /// A transcript with more bytes than this isn't read.
-const TRANSCRIPT_BYTES: u64 = 67_108_864;
+pub const TRANSCRIPT_BYTES: u64 = 67_108_864;
 
 // The entries that the bytes of a transcript are.
 fn entries_of<'a>(alloc: Global, bytes: &[u8]) -> Result<Vec<Entry>, Fault<'a>>

@@ -13,10 +13,11 @@ use Rattle.run_opening.specs.declared.opening.Opening.{Opening}
 use Rattle.vm_core.specs.Schedules.{HaveFewMoves}
 use Rattle.vm_core.specs.RunEnds.{IsAskedOf}
 use Rattle.run_command.specs.Naming.{shown_as}
+use Rattle.run_command.specs.declared.paired.TheConstants.{JOURNAL_ENTRIES}
 
 -- the most entries of a journal
 abbrev pub journal_entries : ℕ
-journal_entries = 16777216
+journal_entries = JOURNAL_ENTRIES
 
 -- the sizes of a machine whose journal has at most so many
 abbrev pub params_up_to : ℕ → Numbers → Params

@@ -9,6 +9,7 @@ use Rattle.run_text.specs.Schedule.{IsEventLine}
 use Rattle.command_ending.specs.declared.fault.Fault.{Fault}
 use Rattle.command_ending.specs.declared.fault.Fault.TheVariants.{Absent, FileFault, NoMemory, BadSchedule}
 use Rattle.command_ending.specs.Command.{Faults, NoFaults, OpenFailed}
+use Rattle.run_opening.specs.declared.schedule.TheConstants.{SCHEDULE_BYTES}
 
 -- the most lines of a schedule
 abbrev pub schedule_lines : ℕ
@@ -16,7 +17,7 @@ schedule_lines = 65536
 
 -- the most bytes of a schedule that are read: a line that is good has at most 20
 abbrev pub schedule_bytes : ℕ
-schedule_bytes = 1310741
+schedule_bytes = SCHEDULE_BYTES
 
 -- the bytes of the schedule at a place among the files; it is absent where there is no place
 abbrev pub schedule_found_at : List NamedFile → Option ℕ → Result (List ℕ) Unread

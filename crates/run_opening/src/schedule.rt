@@ -15,7 +15,7 @@ use std::alloc::Global;
 use vm_facts::Event;
 
 /// No more bytes of a schedule are read: a good one has at most 65,536 lines of at most 20 bytes.
-const SCHEDULE_BYTES: u64 = 1_310_741;
+pub const SCHEDULE_BYTES: u64 = 1_310_741;
 
 // The events that the bytes of a schedule are.
 fn events_of<'a>(alloc: Global, bytes: &[u8]) -> Result<Vec<Event>, Fault<'a>>

@@ -9,12 +9,10 @@ use crate::reasons::{Argument, Reason, bad_line};
 use command_ending::put_number;
 use io_edge::Files;
 use run_files::{Unread, read_file};
+use run_opening::SCHEDULE_BYTES;
 use run_text::{Schedule, read_schedule};
 use std::alloc::{AllocError, Global};
 use text_lines::shown;
-
-/// No more bytes of a schedule are read.
-const SCHEDULE_BYTES: u64 = 1_310_741;
 
 fn argument_name(argument: Argument) -> &'static [u8]
     ensures { result.now ≡ argument_name argument }

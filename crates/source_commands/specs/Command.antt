@@ -11,6 +11,7 @@ use Rattle.command_ending.specs.Ending.{Ending}
 use Rattle.command_ending.specs.Command.{Faults, NoFaults, OpenFailed, FailedBehind, Completes}
 use Rattle.source_commands.specs.ProgramFile.{program_file}
 use Rattle.source_commands.specs.Listing.{code_at, IsListing}
+use Rattle.source_commands.specs.declared.source.TheConstants.{SOURCE_BYTES}
 
 -- ---- assembling
 
@@ -61,7 +62,7 @@ EndsListing name read f (Err _) = ⊥
 -- How many bytes of a source are read. A good one has at most 4,096 lines of 121 bytes, which is one byte less. A longer
 -- one is bad, and the line that is named is the lowest bad one of these first bytes: a label after them isn't seen.
 abbrev pub source_bytes : ℕ
-source_bytes = 495617
+source_bytes = SOURCE_BYTES
 
 -- assembling the source of this name, by its first `source_bytes` bytes
 abbrev pub Assembles : List ℕ → Option (List NamedFile) → Faults → Option (List ℕ) → Option (List ℕ) → ℕ → ℕ → ℕ → Type 0

@@ -18,10 +18,7 @@ ghost use Rattle.swap_book.specs.Book.{empty_book, with_holdings, CanGrow, CanSh
 use resource_map::{NoMemory, ResourceMap};
 use std::alloc::Global;
 use std::marker::Model;
-use swap_dmap::{chunk, chunks_for, place_of, text_place_of};
-
-/// The length of each piece of a text but the last.
-const TEXT_PIECE: u32 = 1024;
+use swap_dmap::{TEXT_PIECE, chunk, chunks_for, place_of, text_place_of};
 
 /// The blocks of a u page.
 const U_BLOCKS: u32 = 2;

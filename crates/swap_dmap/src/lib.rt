@@ -21,7 +21,7 @@ const LARGEST_CHUNK: u32 = 1024;
 const FIRST_LARGEST: u32 = 5;
 
 /// The length of each piece of a text but the last.
-const TEXT_PIECE: u32 = 1024;
+pub const TEXT_PIECE: u32 = 1024;
 
 /// The length of chunk `i` in blocks: the smaller of 32 times 2 to the `i`, and 1,024.
 pub fn chunk(i: u32) -> u32

@@ -26,10 +26,7 @@ use kluster_io::pick_put;
 use machine_state::Machine;
 use proc_table::Life;
 use space_map::SpaceMap;
-use vm_facts::{Page, Stop};
-
-/// The transfers that may be in flight.
-const MOST_IN_FLIGHT: u32 = 16;
+use vm_facts::{MOST_IN_FLIGHT, Page, Stop};
 
 /// A unit of putting a process out, but the last.
 #[derive(Clone, Copy, Drop)]

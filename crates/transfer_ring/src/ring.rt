@@ -18,10 +18,7 @@ use io_edge::{Files, Moved, SwapDev};
 use std::alloc::Global;
 use std::marker::Model;
 use std::mem;
-use vm_facts::NoMemory;
-
-/// How many transfers may be in flight (this project's profile).
-const MOST: u32 = 16;
+use vm_facts::{MOST_IN_FLIGHT, NoMemory};
 
 /// The transfers in flight; contracts see them as a list, oldest first. At most 16 are.
 ///
@@ -91,10 +88,10 @@ impl TransferRing {
     pub fn new(alloc: Global) -> Result<TransferRing, NoMemory>
         ensures { IfOk result (λ ring. ring ≡ []) }
     {
-        let order = HeapCircularBuffer::with_capacity(alloc, MOST as usize)?;
-        let mut spare = Vec::with_capacity(alloc, MOST as usize)?;
-        let mut slots = Vec::with_capacity(alloc, MOST as usize)?;
-        for slot in 0..MOST {
+        let order = HeapCircularBuffer::with_capacity(alloc, MOST_IN_FLIGHT as usize)?;
+        let mut spare = Vec::with_capacity(alloc, MOST_IN_FLIGHT as usize)?;
+        let mut slots = Vec::with_capacity(alloc, MOST_IN_FLIGHT as usize)?;
+        for slot in 0..MOST_IN_FLIGHT {
             slots.push_reserved(None);
             spare.push_reserved(slot);
         }

@@ -1,9 +1,10 @@
 -- Swap space: blocks of 512 bytes, two to a page, and transfers to and from it.
 use Rattle.std.specs.Prelude.{ℕ, ◌+◌, ◌*◌, List, ◌++◌, take, drop}
+use Rattle.vm_facts.specs.declared.transfers.TheConstants.{MOST_IN_FLIGHT}
 
 -- how many transfers may be in flight
 abbrev pub most_in_flight : ℕ
-most_in_flight = 16
+most_in_flight = MOST_IN_FLIGHT
 
 -- the page whose two blocks begin at this one
 unfoldable pub blocks_at : List ℕ → ℕ → List ℕ

@@ -10,6 +10,7 @@ mod page;
 mod params;
 mod regs;
 mod stop;
+mod transfers;
 
 pub use bytes::Bytes;
 pub use entry::Entry;
@@ -19,3 +20,4 @@ pub use page::{Page, PageState};
 pub use params::Params;
 pub use regs::Regs;
 pub use stop::{NoMemory, Stop};
+pub use transfers::MOST_IN_FLIGHT;

@@ -1,0 +1,2 @@
+/// How many transfers may be in flight at once (this project's profile).
+pub const MOST_IN_FLIGHT: u32 = 16;
