@@ -187,11 +187,14 @@ pub fill_stops : (stop : Stop) (fits : Bool) (m asked between new : Standing) (p
     → Answered asked between pid Execve after (Exec image top) → StopsStart page between new later told j stop
     → StopsImage m new pid after image top holds i j stop
 fill_stops stop fits m asked between new pid image after top page holds later i told j same e is f a s =
-    inr (told, record {
-      reached = between;
-      far = record { asked = asked; finds = found_of fits true m asked pid image holds i told e f; answer = a };
-      stops = subst (λ (q : Page). StopsStart q between new holds told j stop) is (subst (λ (h : Option (List NamedFile)). StopsStart page between new h told j stop) same s);
-    })
+    inr (
+      told,
+      record {
+        reached = between;
+        far = record { asked = asked; finds = found_of fits true m asked pid image holds i told e f; answer = a };
+        stops = subst (λ (q : Page). StopsStart q between new holds told j stop) is (subst (λ (h : Option (List NamedFile)). StopsStart page between new h told j stop) same s);
+      },
+    )
 
 pub exec_stops : (r : Result Called Stop) (old m new : Standing) (pid image : ℕ) (after : Regs) (top : List ℕ) (asked : Result Reply Refused)
     (holds : Option (List NamedFile)) (i j : Option (List ℕ))

@@ -78,11 +78,14 @@ copied_by (Ok x) child parent old served roomy new holds later i h j e s f keeps
       (keeps_flat roomy new later j flat));
 }
 copied_by (Err stop) child parent old served roomy new holds later i h j e s f keeps step rest flat stops stopped =
-    inr (h, record {
-      reached = served;
-      far = s;
-      stops = inr (record { reached = roomy; far = same_files parent served roomy holds later h j e f; stops = (stops, stopped.params, stopped.images) });
-    })
+    inr (
+      h,
+      record {
+        reached = served;
+        far = s;
+        stops = inr (record { reached = roomy; far = same_files parent served roomy holds later h j e f; stops = (stops, stopped.params, stopped.images) });
+      },
+    )
 
 pub goes_on : {A : Type 0} (r : Result A Stop) (child parent : Page) (old served roomy new : Standing) (holds later : Option (List NamedFile))
     (i h j : Option (List ℕ))
@@ -143,12 +146,15 @@ copies_more (Ok x) ds others dues child parent old next new holds later i h j e 
     (next, h, page, subst (λ (xs : List Due). CopiesAll xs next new holds h j) d (subst (λ (x : Option (List NamedFile)). CopiesAll dues next new x h j) same more))
 copies_more (Err stop) ds others dues child parent old next new holds later i h j e d same page more =
     subst (λ (xs : List Due). StopsCopying xs old new holds i j stop) (sym e)
-    (inr (h, record {
-      reached = next;
-      far = page;
-      stops = subst (λ (xs : List Due). StopsCopying xs next new holds h j stop) d
-          (subst (λ (x : Option (List NamedFile)). StopsCopying dues next new x h j stop) same more);
-    }))
+    (inr (
+      h,
+      record {
+        reached = next;
+        far = page;
+        stops = subst (λ (xs : List Due). StopsCopying xs next new holds h j stop) d
+            (subst (λ (x : Option (List NamedFile)). StopsCopying dues next new x h j stop) same more);
+      },
+    ))
 
 -- what is so after them
 pub copied_on : {A : Type 0} (r : Result A Stop) (child : Page) (old next new : Standing) → GoesOn child old next → OnOk r (HasCopied next new)

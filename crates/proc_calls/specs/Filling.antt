@@ -32,7 +32,7 @@ abbrev pub StopsFilling : Entry → List Page → Standing → Standing → Opti
 StopsFilling e locked old new holds before after stop =
     StopsForcing locked old stop new holds before after
     ⊎ StopsOnce (λ m. Forced locked old m holds before after)
-        (λ m. StopsAt e m.kernel after stop new after × (new.params ≡ m.params) × (new.images ≡ m.images))
+    (λ m. StopsAt e m.kernel after stop new after × (new.params ≡ m.params) × (new.images ≡ m.images))
 
 -- it stops so as the new stack page is filled
 abbrev pub StopsStart : Page → Standing → Standing → Option (List NamedFile) → Option (List ℕ) → Option (List ℕ) → Stop → Type 0

@@ -147,7 +147,7 @@ StopsImage old new pid after image top holds before behind stop =
     (StopsFinding (image_found image) old new pid holds before behind stop
     ⊎ ((is_ok (image_found image old) ≡ false) × StopsBefore (without_pieces old pid) new stop × (behind ≡ before)))
     ⊎ ((told : Option (List ℕ)) × StopsOnce (λ m. HasStarted old m pid after image top holds before told)
-        (λ m. StopsStart (Stack old.kernel.next_sid 0) m new holds told behind stop))
+    (λ m. StopsStart (Stack old.kernel.next_sid 0) m new holds told behind stop))
 
 -- by what the reads come to
 abbrev pub StopsExec : Standing → Standing → ℕ → Result Reply Refused → Option (List NamedFile) → Option (List ℕ) → Option (List ℕ) → Stop → Type 0

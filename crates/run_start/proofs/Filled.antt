@@ -33,7 +33,7 @@ use Rattle.step_units.specs.Machines.{MachineAt}
 use Rattle.step_units.specs.Stepped.{StopLeads, LeadsFrom, StopsFrom}
 use Rattle.step_units.proofs.Copying.{page_copied, page_stops}
 use Rattle.step_units.proofs.Entering.{stops_then}
-use Rattle.step_units.proofs.Filling.{LeadsTo, stays, goes_on, forced_fill, forcing_stops, fill_stops}
+use Rattle.step_units.proofs.Filling.{LeadsTo, stays, goes_on, forced_fill, filling_stops}
 use Rattle.step_units.proofs.Leading.{led_told, led_at}
 use Rattle.run_start.specs.Filling.{due_of, IsDueFirst, FillsDue, StopsDue}
 use Rattle.run_start.specs.Leading.{ToldAt, FillsLead}
@@ -137,10 +137,8 @@ due_leads (CopyOf q parent) ds A s old next holds image j at e f = page_copied A
 start_stops : (A : Inputs) (s : State) (old new : Standing) (holds : Option (List NamedFile)) (image : List ℕ) (j : Option (List ℕ)) (page : Page)
     (ds : List Due) (stop : Stop) → MachineAt A s old holds image
     → s.place.due ≡ Start page ∷ ds → StopsStart page old new holds (Some image) j stop → StopLeads A s old.kernel image stop new j
-start_stops A s old new holds image j page ds stop at e f = elim f [
-  | inl x ↦ forcing_stops A s old new holds image j (entries.Zero page) [] stop at.at at.images (start_first s page ds e) x
-  | inr x ↦ fill_stops A s old x.0 new holds image j j (entries.Zero page) [] stop at.at at.images (start_first s page ds e) x.1 x.2
-]
+start_stops A s old new holds image j page ds stop at e f =
+    filling_stops A s old new holds image j (entries.Zero page) [] stop at.at at.images (start_first s page ds e) f
 
 due_stops : (d : Due) (ds : List Due) (A : Inputs) (s : State) (old new : Standing) (holds : Option (List NamedFile)) (image : List ℕ) (j : Option (List ℕ))
     (stop : Stop) → MachineAt A s old holds image

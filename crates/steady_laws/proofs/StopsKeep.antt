@@ -1,5 +1,5 @@
 -- Where a call stops, the machine has its sizes and its images still, and a journal is full only at its bound.
-use Rattle.std.proofs.Common.{◌≡◌, inl, inr, ℕ, ◌≤◌, Bool, true, false, List, [], ◌∷◌, length, Option, sym, ap, ◌∙◌, subst, refl}
+use Rattle.std.proofs.Common.{◌≡◌, ◌⊎◌, inl, inr, ℕ, ◌≤◌, Bool, true, false, List, [], ◌∷◌, length, Option, sym, ap, ◌∙◌, subst, refl}
 use Rattle.std.specs.Prelude.{Result, Ok, Err}
 use Rattle.vm_facts.specs.declared.page.Page.{Page}
 use Rattle.vm_facts.specs.declared.regs.Regs.{Regs}
@@ -28,15 +28,16 @@ use Rattle.proc_calls.specs.Serving.{StopsServing}
 use Rattle.proc_calls.specs.Touches.{AccessStops}
 use Rattle.proc_calls.specs.FaultFillAccessAccess.{Access}
 use Rattle.proc_calls.specs.FaultFillAccessAccess.TheVariants as accesses
-use Rattle.proc_calls.specs.Answered.{Entered, GoneOut, StopsBefore, StopsReading}
+use Rattle.proc_calls.specs.Answered.{Entered, GoneOut, StopsOnce, StopsBefore, StopsReading}
+use Rattle.proc_calls.specs.Growth.{space_held}
 use Rattle.proc_calls.specs.Copying.{CopiesPage, StopsPage, StopsCopying}
-use Rattle.proc_calls.specs.Filling.{StopsStart}
+use Rattle.proc_calls.specs.Filling.{StopsStart, StopsFilling}
 use Rattle.proc_calls.specs.Forking.{HasNewSpace, ForkAnswered, StopsForking}
-use Rattle.proc_calls.specs.Leaving.{HasLeftBy, StopsLeaving, StopsAlive, StopsExit}
-use Rattle.proc_calls.specs.Making.{without_pieces, MakesChildBy, StopsMaking}
+use Rattle.proc_calls.specs.Leaving.{HasSettled, HasLeftBy, HasLeft, StopsLeaving, StopsAlive, StopsExit}
+use Rattle.proc_calls.specs.Making.{without_pieces, FindsNone, MakesChildBy, StopsMaking}
 use Rattle.proc_calls.specs.Sizing.{StopsPlain, StopsBreaking, StopsBreak}
-use Rattle.proc_calls.specs.Starting.{image_found, HasStarted, LeavesFor, StopsFinding, StopsStarting, StopsImage, StopsExec}
-use Rattle.proc_calls.specs.Writing.{bytes_of, StopsWriting, StopsOut}
+use Rattle.proc_calls.specs.Starting.{image_found, HasStarted, LeavesFor, StopsFinding, StopsImage, StopsExec}
+use Rattle.proc_calls.specs.Writing.{bytes_of, StopsOut}
 use Rattle.steady_laws.specs.Sizes.{SameSizes, KeptAtStop}
 
 pub same_through : (a b c : Standing) → SameSizes a b → SameSizes b c → SameSizes a c
@@ -75,6 +76,11 @@ kept_at e k i j old new stop params images at = record {
 
 pub before_same : (old new : Standing) (stop : Stop) → StopsBefore old new stop → KeptAtStop old new stop
 before_same old new stop h = kept_here old new stop h.stopped h.full
+
+-- before an entry, once what came before kept the sizes
+once_before : (old new : Standing) (stop : Stop) (Far : Standing → Type 0) → ((m : Standing) → Far m → SameSizes old m)
+    → StopsOnce Far (λ m. StopsBefore m new stop) → KeptAtStop old new stop
+once_before old new stop Far same h = kept_through old h.reached new stop (same h.reached h.far) (before_same h.reached new stop h.stops)
 
 entered_same : (old new : Standing) (pid : ℕ) (regs : Regs) (e : Entry) (change : Change) → Entered old new pid regs e change → SameSizes old new
 entered_same old new pid regs e change h = record { params = ap (λ (m : Standing). m.params) h.rest; images = ap (λ (m : Standing). m.images) h.rest }
@@ -115,21 +121,24 @@ serving_same : (now : Bool) (locked : List Page) (q : Page) (old new : Standing)
     → KeptAtStop old new stop
 serving_same now locked q old new holds i j stop h = kept_at h.entry h.kernel h.image j old new stop h.params h.images h.at
 
+filling_same : (e : Entry) (locked : List Page) (old new : Standing) (holds : Option (List NamedFile)) (i j : Option (List ℕ)) (stop : Stop)
+    → StopsFilling e locked old new holds i j stop → KeptAtStop old new stop
+filling_same e locked old new holds i j stop h = elim h [
+  | inl x ↦ forcing_same locked old new holds i j stop x
+  | inr x ↦ kept_through old x.reached new stop (forced_same locked old x.reached holds i j x.far)
+      (kept_at e x.reached.kernel j j x.reached new stop x.stops.1 x.stops.2 x.stops.0)
+]
+
 pub start_same : (page : Page) (old new : Standing) (holds : Option (List NamedFile)) (i j : Option (List ℕ)) (stop : Stop)
     → StopsStart page old new holds i j stop → KeptAtStop old new stop
-start_same page old new holds i j stop h = elim h [
-  | inl x ↦ forcing_same [] old new holds i j stop x
-  | inr x ↦ kept_through old x.0 new stop (forced_same [] old x.0 holds i j x.1) (kept_at (entries.Zero page) x.0.kernel j j x.0 new stop x.3 x.4 x.2)
-]
+start_same page old new holds i j stop h = filling_same (entries.Zero page) [] old new holds i j stop h
 
 pub page_same : (child parent : Page) (old new : Standing) (holds : Option (List NamedFile)) (i j : Option (List ℕ)) (stop : Stop)
     → StopsPage child parent old new holds i j stop → KeptAtStop old new stop
 page_same child parent old new holds i j stop h = elim h [
   | inl x ↦ serving_same true (parent ∷ []) parent old new holds i j stop x
-  | inr x ↦ kept_through old x.served new stop (beside_same old x.served x.serves.0.makes.beside) (elim x.stops [
-    | inl f ↦ forcing_same (parent ∷ []) x.served new holds x.behind j stop f
-    | inr c ↦ kept_through x.served c.0 new stop (forced_same (parent ∷ []) x.served c.0 holds x.behind j c.1) (kept_at (entries.Copy child) c.0.kernel j j c.0 new stop c.3 c.4 c.2)
-  ])
+  | inr x ↦ kept_through old x.1.reached new stop (beside_same old x.1.reached x.1.far.0.makes.beside)
+      (filling_same (entries.Copy child) (parent ∷ []) x.1.reached new holds x.0 j stop x.1.stops)
 ]
 
 copied_same : (child parent : Page) (old new : Standing) (holds : Option (List NamedFile)) (i j : Option (List ℕ))
@@ -145,7 +154,8 @@ copying_same [] old new holds i j stop h = absurd h
 copying_same (Start q ∷ ds) old new holds i j stop h = absurd h
 copying_same (CopyOf child parent ∷ ds) old new holds i j stop h = elim h [
   | inl x ↦ page_same child parent old new holds i j stop x
-  | inr x ↦ kept_through old x.0 new stop (copied_same child parent old x.0 holds i x.1 x.2) (copying_same ds x.0 new holds x.1 j stop x.3)
+  | inr x ↦ kept_through old x.1.reached new stop (copied_same child parent old x.1.reached holds i x.0 x.1.far)
+      (copying_same ds x.1.reached new holds x.0 j stop x.1.stops)
 ]
 
 pub access_same : (now : Bool) (locked : List Page) (access : Access) (pid : ℕ) (old new : Standing) (holds : Option (List NamedFile))
@@ -169,15 +179,15 @@ left_by false old new pid holds i j h = beside_same old new h.rest
 leaving_same : (old new : Standing) (pid : ℕ) (holds : Option (List NamedFile)) (i j : Option (List ℕ)) (stop : Stop) → StopsLeaving old new pid holds i j stop
     → KeptAtStop old new stop
 leaving_same old new pid holds i j stop h = elim h [
-  | inl x ↦ settling_same old new _ holds i j stop x.settling
-  | inr x ↦ before_same old new stop x.stops
+  | inl x ↦ settling_same old new _ holds i j stop x.1
+  | inr x ↦ before_same old new stop x.1
 ]
 
 pub alive_same : (old new : Standing) (pid : ℕ) (holds : Option (List NamedFile)) (i j : Option (List ℕ)) (stop : Stop) → StopsAlive old new pid holds i j stop
     → KeptAtStop old new stop
 alive_same old new pid holds i j stop h = elim h [
   | inl x ↦ leaving_same old new pid holds i j stop x
-  | inr x ↦ kept_through old x.between new stop (left_by _ old x.between pid holds i j x.left) (before_same x.between new stop x.stops)
+  | inr x ↦ once_before old new stop (λ m. HasLeft old m pid holds i j) (λ m h. left_by _ old m pid holds i j h) x
 ]
 
 pub exit_same : (old new : Standing) (pid : ℕ) (r : Result Reply Refused) (holds : Option (List NamedFile)) (i j : Option (List ℕ)) (stop : Stop)
@@ -194,10 +204,11 @@ without_same : (old new : Standing) (pid : ℕ) → SameSizes (without_pieces ol
 without_same old new pid s = record { params = s.params; images = s.images }
 
 pub making_same : (old new : Standing) (pid : ℕ) (change : Change) (stop : Stop) → StopsMaking old new pid change stop → KeptAtStop old new stop
-making_same old new pid change stop h = kept_through old h.between new stop (elim h.reached [
-  | inl e ↦ equal_same old h.between e
-  | inr n ↦ without_same old h.between pid (equal_same (without_pieces old pid) h.between n.refused)
-]) (kept_here h.between new stop h.stopped h.full)
+making_same old new pid change stop h =
+    once_before old new stop (λ m. (m ≡ old) ⊎ FindsNone old m pid change) (λ m f. elim f [
+      | inl e ↦ equal_same old m e
+      | inr n ↦ without_same old m pid (equal_same (without_pieces old pid) m n.refused)
+    ]) h
 
 child_same : (fewer finds : Bool) (old new : Standing) (pid : ℕ) (call : SystemCall) (regs : Regs) (Then : Type 0)
     → MakesChildBy fewer finds old new pid call regs Then
@@ -215,7 +226,8 @@ pub forking_same : (old new : Standing) (pid : ℕ) (regs : Regs) (holds : Optio
     → StopsForking old new pid regs holds i j stop → KeptAtStop old new stop
 forking_same old new pid regs holds i j stop h = elim h [
   | inl x ↦ making_same old new pid _ stop x.0
-  | inr x ↦ kept_through old x.between new stop (answered_same old x.between pid regs x.answer) (copying_same x.between.kernel.place.due x.between new holds i j stop x.stops)
+  | inr x ↦ kept_through old x.reached new stop (answered_same old x.reached pid regs x.far)
+      (copying_same x.reached.kernel.place.due x.reached new holds i j stop x.stops)
 ]
 
 -- Images.
@@ -225,13 +237,6 @@ finding_same : (pieces : Standing → Result Holdings ℕ) (old new : Standing) 
 finding_same pieces old new pid holds i j stop h = elim h [
   | inl x ↦ before_same old new stop x.0
   | inr x ↦ alive_same old new pid holds i j stop x.1
-]
-
-starting_same : (old new : Standing) (pid image : ℕ) (holds : Option (List NamedFile)) (i j : Option (List ℕ)) (stop : Stop)
-    → StopsStarting old new pid image holds i j stop → KeptAtStop old new stop
-starting_same old new pid image holds i j stop h = elim h [
-  | inl x ↦ finding_same (image_found image) old new pid holds i j stop x
-  | inr x ↦ kept_through old (without_pieces old pid) new stop (same_without old pid) (before_same (without_pieces old pid) new stop x.stops)
 ]
 
 leaves_same : (pieces : Standing → Result Holdings ℕ) (old new : Standing) (pid : ℕ) (holds : Option (List NamedFile)) (i j : Option (List ℕ))
@@ -247,8 +252,12 @@ image_same : (old new : Standing) (pid : ℕ) (after : Regs) (image : ℕ) (top 
     → StopsImage old new pid after image top holds i j stop
     → KeptAtStop old new stop
 image_same old new pid after image top holds i j stop h = elim h [
-  | inl x ↦ starting_same old new pid image holds i j stop x
-  | inr x ↦ kept_through old x.between new stop (started_same old x.between pid after image top holds i x.told x.started) (start_same _ x.between new holds x.told j stop x.stops)
+  | inl x ↦ elim x [
+    | inl y ↦ finding_same (image_found image) old new pid holds i j stop y
+    | inr y ↦ kept_through old (without_pieces old pid) new stop (same_without old pid) (before_same (without_pieces old pid) new stop y.1)
+  ]
+  | inr x ↦ kept_through old x.1.reached new stop (started_same old x.1.reached pid after image top holds i x.0 x.1.far)
+      (start_same _ x.1.reached new holds x.0 j stop x.1.stops)
 ]
 
 pub exec_same : (old new : Standing) (pid : ℕ) (r : Result Reply Refused) (holds : Option (List NamedFile)) (i j : Option (List ℕ)) (stop : Stop)
@@ -262,16 +271,16 @@ exec_same old new pid (Err refused) holds i j stop h = reading_same old new refu
 plain_same : (old new : Standing) (pid pages : ℕ) (stop : Stop) → StopsPlain old new pid pages stop → KeptAtStop old new stop
 plain_same old new pid pages stop h = elim h [
   | inl x ↦ before_same old new stop x
-  | inr x ↦ let s = before_same _ new stop x.stops in record { sizes = record { params = s.sizes.params; images = s.sizes.images }; full = s.full }
+  | inr x ↦ let s = before_same _ new stop x.3 in record { sizes = record { params = s.sizes.params; images = s.sizes.images }; full = s.full }
 ]
 
 moving_same : (old new : Standing) (pid pages : ℕ) (holds : Option (List NamedFile)) (i j : Option (List ℕ)) (stop : Stop)
     → StopsBreaking old new pid pages holds i j stop → KeptAtStop old new stop
 moving_same old new pid pages holds i j stop h = elim h [
   | inl x ↦ plain_same old new pid pages stop x.0
-  | inr x ↦ elim x.stops [
+  | inr x ↦ elim x.1 [
     | inl y ↦ settling_same old new _ holds i j stop y
-    | inr y ↦ kept_through old y.between new stop (beside_same old y.between y.settled.rest) (before_same y.between new stop y.stops)
+    | inr y ↦ once_before old new stop (λ m. HasSettled old m (space_held old.kernel pid) holds i j) (λ m f. beside_same old m f.rest) y
   ]
 ]
 
@@ -280,12 +289,10 @@ pub break_same : (old new : Standing) (pid : ℕ) (r : Result ℕ Refused) (hold
 break_same old new pid (Ok address) holds i j stop h = moving_same old new pid _ holds i j stop h
 break_same old new pid (Err refused) holds i j stop h = reading_same old new refused stop h.0
 
-writing_same : (old new : Standing) (pid : ℕ) (bytes : List ℕ) (stop : Stop) → StopsWriting old new pid bytes stop → KeptAtStop old new stop
-writing_same old new pid bytes stop h = kept_through old h.between new stop (elim h.reached [
-  | inl e ↦ equal_same old h.between e
-  | inr g ↦ out_same old h.between pid bytes g
-]) (kept_here h.between new stop h.stopped h.full)
-
 pub written_same : (old new : Standing) (pid : ℕ) (r : Result Reply Refused) (stop : Stop) → StopsOut old new pid r stop → KeptAtStop old new stop
-written_same old new pid (Ok reply) stop h = writing_same old new pid (bytes_of (Ok reply)) stop h
+written_same old new pid (Ok reply) stop h =
+    once_before old new stop (λ m. (m ≡ old) ⊎ GoneOut old m pid (bytes_of (Ok reply))) (λ m f. elim f [
+      | inl e ↦ equal_same old m e
+      | inr g ↦ out_same old m pid (bytes_of (Ok reply)) g
+    ]) h
 written_same old new pid (Err refused) stop h = reading_same old new refused stop h

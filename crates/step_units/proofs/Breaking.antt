@@ -34,10 +34,10 @@ use Rattle.flat_model.specs.Calls.{argument, break_by, data_limit, no_memory, re
 use Rattle.flat_model.specs.Step.{Step, data_pages_of, call_entry, reply_asked, replied_step}
 use Rattle.flat_model.specs.Run.{Point, step_at, due_at}
 use Rattle.proc_calls.specs.declared.replying.Called.{Called}
-use Rattle.proc_calls.specs.Answered.{Replied}
+use Rattle.proc_calls.specs.Answered.{Replied, StopsOnce, StopsBefore}
 use Rattle.proc_calls.specs.Growth.{space_held}
 use Rattle.proc_calls.specs.Leaving.{HasSettled}
-use Rattle.proc_calls.specs.Sizing.{process_data_pages as pages_held, process_stack_pages as stack_held, pages_to, data_sized, break_at, break_read, with_pieces, SameData, GrownData, NoPieces, CutData, Plain, MovesEnd, BreakComes, StopsPlain, StopsOnceSettled, StopsCutting, StopsBreaking, StopsBreak}
+use Rattle.proc_calls.specs.Sizing.{process_data_pages as pages_held, process_stack_pages as stack_held, pages_to, data_sized, break_at, break_read, with_pieces, SameData, GrownData, NoPieces, CutData, Plain, MovesEnd, BreakComes, StopsPlain, StopsBreaking, StopsBreak}
 use Rattle.proc_calls.proofs.Sizes.{replies as sized_reply, fails as sized_failure, none_asked as none_sized}
 use Rattle.proc_calls.proofs.Breaks.{break_flat}
 use Rattle.run_model.specs.State.{State}
@@ -270,25 +270,25 @@ module _ (A : Inputs) (s : State) (old : Standing) (holds : Option (List NamedFi
         let left = left_at s refl in
         stopped_here A s old new image pid now p x left.0 [] stop h.machine.at h.running called.unwanted left.1 left.2 g
     stops_plainly new stop (inr g) =
-        refused_stops A s old holds image pid now p x effect system_calls.Break r after change m.names called (few_is g.few) refl (no_pieces g.few g.none) new stop g.stops
+        refused_stops A s old holds image pid now p x effect system_calls.Break r after change m.names called (few_is g.1) refl (no_pieces g.1 g.2) new stop g.3
 
-    stops_cutting : (new : Standing) (j : Option (List ℕ)) (stop : Stop) → StopsCutting old new pid pages holds (Some image) j stop → StopLeads A s k image stop new j
-    stops_cutting new j stop g = go g.stops
-      where
-        go : StopsSettling (space_held k pid) old new holds (Some image) j stop ⊎ StopsOnceSettled old new (space_held k pid) holds (Some image) j stop → StopLeads A s k image stop new j
-        go (inl y) =
-            stops_settling A s old holds image pid now p x h.machine h.running (leaving g.fewer) new j stop
-            (subst (λ (n : ℕ). StopsSettling n old new holds (Some image) j stop) held y)
-        go (inr y) =
-            let t : IsSettled A s old y.between holds image j pid now p x = settled_on y.between j g.fewer y.settled in
-            let left = left_at t.state t.same.point in
-            subst (λ (o : Option (List ℕ)). StopLeads A s k image stop new o) (sym t.told)
-            (stops_then A s t.state k y.between.kernel image t.behind (Some t.behind) t.units stop new t.leads
-            (stopped_here A t.state y.between new t.behind pid now p x left.0 [] stop t.machine.at t.running t.unwanted left.1 left.2 y.stops))
+    stops_cutting : (new : Standing) (j : Option (List ℕ)) (stop : Stop) → pages < pages_held k pid
+        → StopsSettling (space_held k pid) old new holds (Some image) j stop
+        ⊎ StopsOnce (λ m. HasSettled old m (space_held k pid) holds (Some image) j) (λ m. StopsBefore m new stop)
+        → StopLeads A s k image stop new j
+    stops_cutting new j stop fewer (inl y) =
+        stops_settling A s old holds image pid now p x h.machine h.running (leaving fewer) new j stop
+        (subst (λ (n : ℕ). StopsSettling n old new holds (Some image) j stop) held y)
+    stops_cutting new j stop fewer (inr y) =
+        let t : IsSettled A s old y.reached holds image j pid now p x = settled_on y.reached j fewer y.far in
+        let left = left_at t.state t.same.point in
+        subst (λ (o : Option (List ℕ)). StopLeads A s k image stop new o) (sym t.told)
+        (stops_then A s t.state k y.reached.kernel image t.behind (Some t.behind) t.units stop new t.leads
+        (stopped_here A t.state y.reached new t.behind pid now p x left.0 [] stop t.machine.at t.running t.unwanted left.1 left.2 y.stops))
 
     stops_moving : (new : Standing) (j : Option (List ℕ)) (stop : Stop) → StopsBreaking old new pid pages holds (Some image) j stop → StopLeads A s k image stop new j
     stops_moving new j stop (inl g) = subst (λ (o : Option (List ℕ)). StopLeads A s k image stop new o) (sym g.1) (stops_plainly new stop g.0)
-    stops_moving new j stop (inr g) = stops_cutting new j stop g
+    stops_moving new j stop (inr g) = stops_cutting new j stop g.0 g.1
 
   -- By what the argument reads as.
 

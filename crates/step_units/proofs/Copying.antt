@@ -15,10 +15,12 @@ use Rattle.machine_state.specs.Sourced.{ImageNamed}
 use Rattle.machine_state.specs.Files.{AreImages}
 use Rattle.swapper.specs.Made.{ground}
 use Rattle.swapper.specs.Stops.{StopsAt}
-use Rattle.proc_calls.specs.Forced.{Forced, StopsForcing}
+use Rattle.proc_calls.specs.Forced.{Forced}
 use Rattle.proc_calls.specs.Serving.{StopsServing}
 use Rattle.proc_calls.specs.Answers.{ServesNow}
-use Rattle.proc_calls.specs.Copying.{CopiesPage, StopsBehind, StopsPage, CopiesAll, StopsCopying}
+use Rattle.proc_calls.specs.Answered.{StopsOnce}
+use Rattle.proc_calls.specs.Copying.{CopiesPage, StopsPage, CopiesAll, StopsCopying}
+use Rattle.proc_calls.specs.Filling.{StopsFilling}
 use Rattle.run_model.specs.State.{State}
 use Rattle.run_model.specs.Next.{next_unit}
 use Rattle.run_units.specs.Serving.{At}
@@ -27,7 +29,7 @@ use Rattle.run_units.proofs.Filling.{bringing, brought_next}
 use Rattle.step_units.specs.Stepped.{StopLeads}
 use Rattle.step_units.proofs.Entering.{stops_then}
 use Rattle.step_units.proofs.Leading.{led_told, led_at, stop_at}
-use Rattle.step_units.proofs.Filling.{LeadsTo, stays, goes_on, forced_fill, forcing_stops, fill_stops}
+use Rattle.step_units.proofs.Filling.{LeadsTo, stays, goes_on, forced_fill, filling_stops}
 
 -- The parent's page.
 
@@ -124,22 +126,20 @@ serving_stops A s m new holds image j child parent ds stop at images d h =
     stops_then A s t m.kernel h.kernel image behind j h.units stop new (led_told A s t m.kernel h.kernel image h.image h.units led.leads)
     (stop_at A t h.kernel behind h.entry stop new j next (subst (λ (o : Option (List ℕ)). StopsAt h.entry h.kernel o stop new j) led.leads.told h.at))
 
-behind_stops : (A : Inputs) (s : State) (old new : Standing) (holds : Option (List NamedFile)) (image : List ℕ) (j : Option (List ℕ)) (child parent : Page)
+behind_stops : (A : Inputs) (s : State) (old new : Standing) (holds : Option (List NamedFile)) (image : List ℕ) (told j : Option (List ℕ)) (child parent : Page)
     (ds : List Due) (stop : Stop)
     → At A s old.kernel image → AreImages old.images holds A.images → s.place.due ≡ CopyOf child parent ∷ ds
-    → StopsBehind child parent old new holds (Some image) j stop
+    → StopsOnce (λ m. ServesNow (parent ∷ []) parent old m holds (Some image) told)
+    (λ m. StopsFilling (entries.Copy child) (parent ∷ []) m new holds told j stop)
     → StopLeads A s old.kernel image stop new j
-behind_stops A s old new holds image j child parent ds stop at images d h =
-    let b : Brought A s old h.served holds image h.behind child parent ds = brought A s old h.served holds image h.behind child parent ds at images d h.serves in
+behind_stops A s old new holds image told j child parent ds stop at images d h =
+    let served : Standing = h.reached in
+    let b : Brought A s old served holds image told child parent ds = brought A s old served holds image told child parent ds at images d h.far in
     let t : State = b.led.state in
     let behind : List ℕ = b.led.leads.behind in
-    let stopped : StopLeads A t h.served.kernel behind stop new j = elim h.stops [
-      | inl f ↦ forcing_stops A t h.served new holds behind j (entries.Copy child) (parent ∷ []) stop b.at b.images b.first
-          (subst (λ (o : Option (List ℕ)). StopsForcing (parent ∷ []) h.served stop new holds o j) b.led.leads.told f)
-      | inr c ↦ fill_stops A t h.served c.0 new holds behind j j (entries.Copy child) (parent ∷ []) stop b.at b.images b.first
-          (subst (λ (o : Option (List ℕ)). Forced (parent ∷ []) h.served c.0 holds o j) b.led.leads.told c.1) c.2
-    ] in
-    stops_then A s t old.kernel h.served.kernel image behind j b.units stop new (led_told A s t old.kernel h.served.kernel image h.behind b.units b.led.leads) stopped
+    stops_then A s t old.kernel served.kernel image behind j b.units stop new (led_told A s t old.kernel served.kernel image told b.units b.led.leads)
+    (filling_stops A t served new holds behind j (entries.Copy child) (parent ∷ []) stop b.at b.images b.first
+    (subst (λ (o : Option (List ℕ)). StopsFilling (entries.Copy child) (parent ∷ []) served new holds o j stop) b.led.leads.told h.stops))
 
 pub page_stops : (A : Inputs) (s : State) (old new : Standing) (holds : Option (List NamedFile)) (image : List ℕ) (j : Option (List ℕ)) (child parent : Page)
     (ds : List Due) (stop : Stop)
@@ -148,7 +148,7 @@ pub page_stops : (A : Inputs) (s : State) (old new : Standing) (holds : Option (
     → StopLeads A s old.kernel image stop new j
 page_stops A s old new holds image j child parent ds stop at images d h = elim h [
   | inl x ↦ serving_stops A s old new holds image j child parent ds stop at images d x
-  | inr x ↦ behind_stops A s old new holds image j child parent ds stop at images d x
+  | inr x ↦ behind_stops A s old new holds image x.0 j child parent ds stop at images d x.1
 ]
 
 pub copying_stops : (ds : List Due) (A : Inputs) (s : State) (old new : Standing) (holds : Option (List NamedFile)) (image : List ℕ)
@@ -160,11 +160,11 @@ copying_stops (Start q ∷ ds) A s old new holds image j stop at images d h = ab
 copying_stops (CopyOf child parent ∷ ds) A s old new holds image j stop at images d h = elim h [
   | inl x ↦ page_stops A s old new holds image j child parent ds stop at images d x
   | inr x ↦
-      let next : Standing = x.0 in
-      let one : LeadsTo A s old.kernel image ds next.kernel x.1 = page_copied A s old next holds image x.1 child parent ds at images d x.2 in
+      let next : Standing = x.1.reached in
+      let one : LeadsTo A s old.kernel image ds next.kernel x.0 = page_copied A s old next holds image x.0 child parent ds at images d x.1.far in
       let t : State = one.state in
       let behind : List ℕ = one.leads.behind in
-      stops_then A s t old.kernel next.kernel image behind j one.units stop new (led_told A s t old.kernel next.kernel image x.1 one.units one.leads)
-      (copying_stops ds A t next new holds behind j stop (led_at A s t old.kernel next.kernel image x.1 one.units at one.leads)
-      (copied_images A old next holds (Some image) x.1 child parent images x.2) one.due (subst (λ (o : Option (List ℕ)). StopsCopying ds next new holds o j stop) one.leads.told x.3))
+      stops_then A s t old.kernel next.kernel image behind j one.units stop new (led_told A s t old.kernel next.kernel image x.0 one.units one.leads)
+      (copying_stops ds A t next new holds behind j stop (led_at A s t old.kernel next.kernel image x.0 one.units at one.leads)
+      (copied_images A old next holds (Some image) x.0 child parent images x.1.far) one.due (subst (λ (o : Option (List ℕ)). StopsCopying ds next new holds o j stop) one.leads.told x.1.stops))
 ]

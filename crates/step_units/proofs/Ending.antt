@@ -20,9 +20,9 @@ use Rattle.kernel_model.specs.ChangeStep.{change_step}
 use Rattle.kernel_model.specs.Unit.{has_lender}
 use Rattle.machine_state.specs.Applying.{facts_named}
 use Rattle.machine_state.specs.Machine.{Standing}
-use Rattle.proc_calls.specs.Answered.{Entered}
+use Rattle.proc_calls.specs.Answered.{Entered, StopsOnce, StopsBefore}
 use Rattle.proc_calls.specs.Callers.{regs_of}
-use Rattle.proc_calls.specs.Leaving.{HasEnded, StopsOnceLeft, StopsAlive, IsExit, ExitComes, StopsExit}
+use Rattle.proc_calls.specs.Leaving.{HasLeft, HasEnded, StopsAlive, IsExit, ExitComes, StopsExit}
 use Rattle.run_model.specs.State.{State}
 use Rattle.run_model.specs.Act.{must_refuse}
 use Rattle.run_units.specs.Leads.{MadeAs}
@@ -118,10 +118,10 @@ module _ (A : Inputs) (s : State) (old : Standing) (holds : Option (List NamedFi
     | inr y ↦ once y
   ]
     where
-      once : StopsOnceLeft old new pid holds (Some image) j stop → StopLeads A s old.kernel image stop new j
+      once : StopsOnce (λ z. HasLeft old z pid holds (Some image) j) (λ z. StopsBefore z new stop) → StopLeads A s old.kernel image stop new j
       once y =
-          let l : Left A s old y.between image pid now p x j = has_left A s old holds image pid now p x m gives y.between j y.left in
-          left_stops A s old y.between image pid now p x j l (entries.Ended pid status) new stop ends.begins first tt y.stops
+          let l : Left A s old y.reached image pid now p x j = has_left A s old holds image pid now p x m gives y.reached j y.far in
+          left_stops A s old y.reached image pid now p x j l (entries.Ended pid status) new stop ends.begins first tt y.stops
 
 -- What a computation gives, it comes to.
 

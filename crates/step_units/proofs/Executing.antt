@@ -32,14 +32,16 @@ use Rattle.flat_model.specs.Run.{Point, step_at}
 use Rattle.flat_model.specs.Step.{Step, call_entry, answered_step}
 use Rattle.machine_state.specs.UserMemory.{kernel_answers}
 use Rattle.proc_calls.specs.declared.replying.Called.{Called}
-use Rattle.proc_calls.specs.Leaving.{StopsOnceLeft, StopsAlive}
-use Rattle.proc_calls.specs.Starting.{image_found, StartsBy, ExecComes, StopsFinding, StopsWithout, StopsBehindStart, StopsExec}
+use Rattle.proc_calls.specs.Answered.{StopsOnce, StopsBefore}
+use Rattle.proc_calls.specs.Leaving.{HasLeft, StopsAlive}
+use Rattle.proc_calls.specs.Making.{without_pieces}
+use Rattle.proc_calls.specs.Starting.{image_found, HasStarted, StartsBy, ExecComes, StopsFinding, StopsExec}
 use Rattle.proc_calls.proofs.Starts.{is_ready}
 use Rattle.run_units.proofs.Execs.{AllGives, gives_any}
 use Rattle.run_units.specs.Acting.{IsBetween}
 use Rattle.run_units.specs.Touching.{IsCalledFor}
 use Rattle.step_units.specs.Stepped.{StopLeads, StepLeads, CallLeads}
-use Rattle.step_units.proofs.Filling.{LeadsTo, forced_fill, forcing_stops, fill_stops}
+use Rattle.step_units.proofs.Filling.{LeadsTo, forced_fill, filling_stops}
 use Rattle.step_units.specs.Machines.{RunsOn, MakesCall}
 use Rattle.step_units.specs.Plain.{RefusedIsMade, RefusedCallStops}
 use Rattle.step_units.proofs.Begun.{whole_due}
@@ -66,10 +68,7 @@ module _ (A : Inputs) (s : State) (m : Standing) (holds : Option (List NamedFile
   -- the run stops as a frame is forced, or at the fill
   pub start_stops : (new : Standing) (j : Option (List ℕ)) (stop : Stop) → StopsStart page m new holds (Some image) j stop
       → StopLeads A s m.kernel image stop new j
-  start_stops new j stop h = elim h [
-    | inl x ↦ forcing_stops A s m new holds image j (entries.Zero page) [] stop at images (start_first s page first) x
-    | inr x ↦ fill_stops A s m x.0 new holds image j j (entries.Zero page) [] stop at images (start_first s page first) x.1 x.2
-  ]
+  start_stops new j stop h = filling_stops A s m new holds image j (entries.Zero page) [] stop at images (start_first s page first) h
 
 -- What an execve replies.
 
@@ -173,11 +172,12 @@ module _ (A : Inputs) (s : State) (old : Standing) (holds : Option (List NamedFi
       | inr y ↦ alive y.0 y.1
     ]
       where
-        once : is_ok (image_found number old) ≡ true → StopsOnceLeft old new pid holds (Some image) j stop → StopLeads A s old.kernel image stop new j
+        once : is_ok (image_found number old) ≡ true → StopsOnce (λ m. HasLeft old m pid holds (Some image) j) (λ m. StopsBefore m new stop)
+            → StopLeads A s old.kernel image stop new j
         once ok y =
-            let l : Left A s old y.between image pid now p x j =
-            has_left A s old holds image pid now p x on.machine (exec_gives A s old holds image pid now p x effect on makes after_regs number top reads ok) y.between j y.left in
-            left_stops A s old y.between image pid now p x j l u new stop (inl on.between) first tt y.stops
+            let l : Left A s old y.reached image pid now p x j =
+            has_left A s old holds image pid now p x on.machine (exec_gives A s old holds image pid now p x effect on makes after_regs number top reads ok) y.reached j y.far in
+            left_stops A s old y.reached image pid now p x j l u new stop (inl on.between) first tt y.stops
 
         alive : is_ok (image_found number old) ≡ true → StopsAlive old new pid holds (Some image) j stop → StopLeads A s old.kernel image stop new j
         alive ok y = elim y [
@@ -186,25 +186,29 @@ module _ (A : Inputs) (s : State) (old : Standing) (holds : Option (List NamedFi
           | inr z ↦ once ok z
         ]
 
-    without_stops : (new : Standing) (j : Option (List ℕ)) (stop : Stop) → StopsWithout old new pid number (Some image) j stop → StopLeads A s old.kernel image stop new j
-    without_stops new j stop h =
-        subst (λ (o : Option (List ℕ)). StopLeads A s old.kernel image stop new o) (sym h.image_same)
+    without_stops : (new : Standing) (j : Option (List ℕ)) (stop : Stop) → is_ok (image_found number old) ≡ false → StopsBefore (without_pieces old pid) new stop
+        → j ≡ Some image → StopLeads A s old.kernel image stop new j
+    without_stops new j stop none h same =
+        subst (λ (o : Option (List ℕ)). StopLeads A s old.kernel image stop new o) (sym same)
         (refused_stops A s old holds image pid now p x effect Execve (Ok (Does after_regs (changes.Exec number top))) after_regs (changes.Exec number top) makes.names called refl refl
-        (no_pieces h.none) new stop h.stops)
+        (no_pieces none) new stop h)
 
-    behind_stops : (new : Standing) (j : Option (List ℕ)) (stop : Stop) → StopsBehindStart old new pid after_regs number top holds (Some image) j stop → StopLeads A s old.kernel image stop new j
-    behind_stops new j stop h =
-        let f = h.started.finds in
+    behind_stops : (new : Standing) (told j : Option (List ℕ)) (stop : Stop)
+        → StopsOnce (λ m. HasStarted old m pid after_regs number top holds (Some image) told) (λ m. StopsStart page m new holds told j stop)
+        → StopLeads A s old.kernel image stop new j
+    behind_stops new told j stop h =
+        let start : HasStarted old h.reached pid after_regs number top holds (Some image) told = h.far in
+        let f = start.finds in
         let ok : is_ok (image_found number old) ≡ true =
-        ap (λ (r : Result Holdings ℕ). is_ok r) (sym (found_back old f.between number (is_ready old f.between pid holds (Some image) h.told f.left)) ∙ f.finds) in
-        filled_stops h.between new h.told j stop (imaged A s old holds image pid now p x effect on makes after_regs number top reads h.between h.told ok h.started) h.stops
+        ap (λ (r : Result Holdings ℕ). is_ok r) (sym (found_back old f.between number (is_ready old f.between pid holds (Some image) told f.left)) ∙ f.finds) in
+        filled_stops h.reached new told j stop (imaged A s old holds image pid now p x effect on makes after_regs number top reads h.reached told ok h.far) h.stops
 
     pub starts_stop : (new : Standing) (j : Option (List ℕ)) (stop : Stop)
         → StopsExec old new pid (Ok (Does after_regs (changes.Exec number top))) holds (Some image) j stop
         → StopLeads A s old.kernel image stop new j
     starts_stop new j stop h = elim h [
-      | inl y ↦ elim y [ inl z ↦ finding_stops new j stop z | inr z ↦ without_stops new j stop z ]
-      | inr y ↦ behind_stops new j stop y
+      | inl y ↦ elim y [ inl z ↦ finding_stops new j stop z | inr z ↦ without_stops new j stop z.0 z.1 z.2 ]
+      | inr y ↦ behind_stops new y.0 j stop y.1
     ]
 
   -- It fails before.

@@ -1,5 +1,5 @@
 -- The page that is due first is filled by next units of a run.
-use Rattle.std.proofs.Common.{◌≡◌, ℕ, ◌<◌, List, [], ◌∷◌, ◌++◌, length, Option, Some, refl, sym, ap, ◌∙◌, subst, arith}
+use Rattle.std.proofs.Common.{◌≡◌, inl, inr, ℕ, ◌<◌, List, [], ◌∷◌, ◌++◌, length, Option, Some, refl, sym, ap, ◌∙◌, subst, arith}
 use Rattle.vm_facts.specs.declared.page.Page.{Page}
 use Rattle.vm_facts.specs.declared.entry.Entry.{Entry}
 use Rattle.vm_facts.specs.declared.entry.Entry.TheVariants as entries
@@ -15,6 +15,7 @@ use Rattle.machine_state.specs.Files.{AreImages}
 use Rattle.swapper.specs.Made.{ground, Made}
 use Rattle.swapper.specs.Stops.{StopsAt}
 use Rattle.proc_calls.specs.Forced.{Forced, StopsForcing}
+use Rattle.proc_calls.specs.Filling.{StopsFilling}
 use Rattle.run_model.specs.State.{State}
 use Rattle.run_model.specs.Wanted.{locked as locked_now}
 use Rattle.run_model.specs.After.{after, place_at}
@@ -135,7 +136,7 @@ forced_fill A s m roomy holds image j d ds locked at images e first f =
 
 -- Stops.
 
-pub forcing_stops : (A : Inputs) (s : State) (m new : Standing) (holds : Option (List NamedFile)) (image : List ℕ) (j : Option (List ℕ)) (e : Entry)
+forcing_stops : (A : Inputs) (s : State) (m new : Standing) (holds : Option (List NamedFile)) (image : List ℕ) (j : Option (List ℕ)) (e : Entry)
     (locked : List Page) (stop : Stop)
     → At A s m.kernel image → AreImages m.images holds A.images → FillsFirst s.place s.place.due e locked → StopsForcing locked m stop new holds (Some image) j
     → StopLeads A s m.kernel image stop new j
@@ -150,7 +151,7 @@ forcing_stops A s m new holds image j e locked stop at images first h =
     stops_then A s t m.kernel h.at image behind j h.units stop new (led_told A s t m.kernel h.at image h.image h.units to.0.leads)
     (stop_at A t h.at behind u stop new j next (subst (λ (o : Option (List ℕ)). StopsAt u h.at o stop new j) to.0.leads.told h.stops))
 
-pub fill_stops : (A : Inputs) (s : State) (m roomy new : Standing) (holds : Option (List NamedFile)) (image : List ℕ) (i j : Option (List ℕ)) (e : Entry)
+fill_stops : (A : Inputs) (s : State) (m roomy new : Standing) (holds : Option (List NamedFile)) (image : List ℕ) (i j : Option (List ℕ)) (e : Entry)
     (locked : List Page) (stop : Stop)
     → At A s m.kernel image → AreImages m.images holds A.images → FillsFirst s.place s.place.due e locked → Forced locked m roomy holds (Some image) i
     → StopsAt e roomy.kernel i stop new j → StopLeads A s m.kernel image stop new j
@@ -163,3 +164,12 @@ fill_stops A s m roomy new holds image i j e locked stop at images first f h =
     let next : next_unit A t ≡ Some e = fill_next A t e locked some.0 some.1 to.1 (sym (ap (λ (p : Placement). p.free) here) ∙ some.2) in
     stops_then A s t m.kernel roomy.kernel image behind j f.units stop new (led_told A s t m.kernel roomy.kernel image i f.units to.0.leads)
     (stop_at A t roomy.kernel behind e stop new j next (subst (λ (o : Option (List ℕ)). StopsAt e roomy.kernel o stop new j) to.0.leads.told h))
+
+pub filling_stops : (A : Inputs) (s : State) (m new : Standing) (holds : Option (List NamedFile)) (image : List ℕ) (j : Option (List ℕ)) (e : Entry)
+    (locked : List Page) (stop : Stop)
+    → At A s m.kernel image → AreImages m.images holds A.images → FillsFirst s.place s.place.due e locked
+    → StopsFilling e locked m new holds (Some image) j stop → StopLeads A s m.kernel image stop new j
+filling_stops A s m new holds image j e locked stop at images first h = elim h [
+  | inl x ↦ forcing_stops A s m new holds image j e locked stop at images first x
+  | inr x ↦ fill_stops A s m x.reached new holds image j j e locked stop at images first x.far x.stops.0
+]

@@ -21,9 +21,10 @@ use Rattle.flat_model.specs.declared.calls.Reply.TheVariants.{Does}
 use Rattle.flat_model.specs.declared.calls.SystemCall.TheVariants as system_calls
 use Rattle.flat_model.specs.Step.{Step, call_entry, replied_step}
 use Rattle.flat_model.specs.Run.{Point}
+use Rattle.proc_calls.specs.Answered.{StopsOnce}
 use Rattle.proc_calls.specs.Making.{is_below_limit, finds_pieces, MakesChildBy}
-use Rattle.proc_calls.specs.Copying.{CopiesAll}
-use Rattle.proc_calls.specs.Forking.{HasNewSpace, ForkAnswered, Forked, StopsForking, StopsBehindFork}
+use Rattle.proc_calls.specs.Copying.{CopiesAll, StopsCopying}
+use Rattle.proc_calls.specs.Forking.{HasNewSpace, ForkAnswered, Forked, StopsForking}
 use Rattle.run_model.specs.State.{State}
 use Rattle.run_model.specs.After.{after}
 use Rattle.run_units.specs.Acting.{IsBetween}
@@ -161,12 +162,12 @@ pub fork_stops_behind : (A : Inputs) (s : State) (old new : Standing) (holds : O
     (now : Bool) (p : Process) (x : Space)
     (effect : Effect) (stop : Stop)
     → RunsOn A s old holds image pid now p x → MakesCall old p x effect system_calls.Fork
-    → StopsBehindFork old new pid effect.regs holds (Some image) behind stop
+    → StopsOnce (λ m. ForkAnswered old m pid effect.regs) (λ m. StopsCopying m.kernel.place.due m new holds (Some image) behind stop)
     → StopLeads A s old.kernel image stop new behind
 fork_stops_behind A s old new holds image behind pid now p x effect stop runs makes h =
-    let to : HasForked A s old h.between holds image = forked_to A s old h.between holds image pid now p x effect runs makes h.answer in
-    stops_then A s to.state old.kernel h.between.kernel image image behind to.units stop new to.leads
-    (copying_stops h.between.kernel.place.due A to.state h.between new holds image behind stop to.at to.images (ap (λ (q : Placement). q.due) (sym to.at.stands.place)) h.stops)
+    let to : HasForked A s old h.reached holds image = forked_to A s old h.reached holds image pid now p x effect runs makes h.far in
+    stops_then A s to.state old.kernel h.reached.kernel image image behind to.units stop new to.leads
+    (copying_stops h.reached.kernel.place.due A to.state h.reached new holds image behind stop to.at to.images (ap (λ (q : Placement). q.due) (sym to.at.stands.place)) h.stops)
 
 pub fork_stops : (A : Inputs) (s : State) (old new : Standing) (holds : Option (List NamedFile)) (image : List ℕ) (behind : Option (List ℕ)) (pid : ℕ)
     (now : Bool) (p : Process) (x : Space)

@@ -22,7 +22,7 @@ use Rattle.machine_state.specs.Settled.{StopsSettling}
 use Rattle.swapper.proofs.Stopping.{stays_starved, full_here}
 use Rattle.swapper.specs.Stops.{StaysPut, StaysStarved, StaysReturned, LeftBy}
 use Rattle.proc_calls.specs.Growth.{space_held}
-use Rattle.proc_calls.specs.Leaving.{HasSettled, HasLeftBy, HasLeft, StopsOwn, StopsLent, StopsLeaving}
+use Rattle.proc_calls.specs.Leaving.{HasSettled, HasLeftBy, HasLeft, StopsLeaving}
 use Rattle.proc_calls.proofs.Leaving.{GoesOn, settled_goes}
 use Rattle.run_model.specs.State.{State}
 use Rattle.run_model.specs.Wanted.{wanted}
@@ -180,18 +180,19 @@ module _ (A : Inputs) (s : State) (old : Standing) (holds : Option (List NamedFi
   pub stops_leaving : (u : Entry) (new : Standing) (j : Option (List ℕ)) (stop : Stop) → Begins s.point.last pid
       → (step_at A s.point pid).entries ≡ u ∷ [] → IsOwn u
       → StopsLeaving old new pid holds (Some image) j stop → StopLeads A s old.kernel image stop new j
-  stops_leaving u new j stop b e own h = elim h [ inl y ↦ settling y | inr y ↦ lent y ]
+  stops_leaving u new j stop b e own h = elim h [ inl y ↦ settling y.0 y.1 | inr y ↦ back y.0 y.1 y.2 ]
     where
-      settling : StopsOwn old new pid holds (Some image) j stop → StopLeads A s old.kernel image stop new j
-      settling y =
-          stops_settling A s old holds image pid now p x m g.running (leaving y.own) new j stop
-          (subst (λ (sid : ℕ). StopsSettling sid old new holds (Some image) j stop) held y.settling)
+      settling : has_lender old.kernel.processes pid ≡ false → StopsSettling (space_held old.kernel pid) old new holds (Some image) j stop
+          → StopLeads A s old.kernel image stop new j
+      settling none y =
+          stops_settling A s old holds image pid now p x m g.running (leaving none) new j stop
+          (subst (λ (sid : ℕ). StopsSettling sid old new holds (Some image) j stop) held y)
 
-      lent : StopsLent old new pid (Some image) j stop → StopLeads A s old.kernel image stop new j
-      lent y =
-          subst (λ (o : Option (List ℕ)). StopLeads A s old.kernel image stop new o) (sym y.image)
+      back : has_lender old.kernel.processes pid ≡ true → StopsBefore old new stop → j ≡ Some image → StopLeads A s old.kernel image stop new j
+      back lent y same =
+          subst (λ (o : Option (List ℕ)). StopLeads A s old.kernel image stop new o) (sym same)
           (stopped_before A s old new image pid now u stop g.running.runs g.unwanted
-          (acts_first A s pid u [] (on_steps A s s.mark pid now g.running.runs.on) g.fits (keeps_pages y.lent) (begins_due s.point.last pid (step_at A s.point pid).entries b ∙ e)) own y.stops)
+          (acts_first A s pid u [] (on_steps A s s.mark pid now g.running.runs.on) g.fits (keeps_pages lent) (begins_due s.point.last pid (step_at A s.point pid).entries b ∙ e)) own y)
 
 -- Once the space was left.
 

@@ -1,5 +1,5 @@
 -- A call with which a process makes another: it fails, or the pieces of the child are found.
-use Rattle.std.proofs.Common.{◌≡◌, ◌⊎◌, inl, inr, ℕ, ◌≤◌, Bool, true, false, List, [], ◌∷◌, length, Option, Some, refl, sym, ap, ◌∙◌, subst}
+use Rattle.std.proofs.Common.{◌≡◌, ◌⊎◌, inl, inr, ℕ, Bool, true, false, List, [], ◌∷◌, Option, Some, refl, sym, ap, ◌∙◌, subst}
 use Rattle.std.specs.Prelude.{Result, Ok, Err, is_ok}
 use Rattle.io_edge.specs.FileHolding.{NamedFile}
 use Rattle.vm_facts.specs.declared.regs.Regs.{Regs}
@@ -21,7 +21,6 @@ use Rattle.kernel_model.specs.Asks.{asked}
 use Rattle.kernel_laws.proofs.Machine.Swaps.{found_at}
 use Rattle.machine_state.specs.Machine.{Standing}
 use Rattle.machine_state.specs.Applying.{facts_named}
-use Rattle.machine_state.specs.Conditions.{HasStopped}
 use Rattle.flat_model.specs.declared.calls.Reply.{Reply}
 use Rattle.flat_model.specs.declared.calls.Reply.TheVariants.{Fails, Does}
 use Rattle.flat_model.specs.declared.calls.SystemCall.{SystemCall}
@@ -196,17 +195,12 @@ pub making_stops : (A : Inputs) (s : State) (old new : Standing) (holds : Option
     (call : SystemCall) (change : ℕ → Change)
     (stop : Stop) → Asking A s old holds image pid now p x effect call change → StopsMaking old new pid (own_change old change) stop
     → StopLeads A s old.kernel image stop new (Some image)
-making_stops A s old new holds image pid now p x effect call change stop a h = go h.reached
+making_stops A s old new holds image pid now p x effect call change stop a h = go h.far
   where
-    before : (m : Standing) → h.between ≡ m → StopsBefore m new stop
-    before m e = record {
-      stopped = subst (λ (z : Standing). HasStopped z new) e h.stopped;
-      whole = subst (λ (z : Standing). z.before ≡ z.kernel.holdings) e h.whole;
-      cause = h.cause;
-      full = λ c. subst (λ (z : Standing). z.params.journal ≤ length z.kernel.journal) e (h.full c);
-    }
+    before : (m : Standing) → h.reached ≡ m → StopsBefore m new stop
+    before m e = subst (λ (z : Standing). StopsBefore z new stop) e h.stops
 
-    go : (h.between ≡ old) ⊎ FindsNone old h.between pid (own_change old change) → StopLeads A s old.kernel image stop new (Some image)
+    go : (h.reached ≡ old) ⊎ FindsNone old h.reached pid (own_change old change) → StopLeads A s old.kernel image stop new (Some image)
     go (inl e) = stops_first A s old new holds image pid now p x effect call change stop a (before old e)
     go (inr r) =
         refused_stops A s old holds image pid now p x effect call (child_answer true old effect change) (told_regs old effect) (own_change old change) a.makes.names

@@ -24,7 +24,7 @@ use Rattle.flat_model.specs.Step.{call_entry, reply_asked, replied_step}
 use Rattle.proc_calls.specs.Answered.{GoneOut, StopsBefore}
 use Rattle.proc_calls.specs.Callers.{parent_of}
 use Rattle.proc_calls.specs.Waiting.{wait_by_records, wait_answer}
-use Rattle.proc_calls.specs.Writing.{IsWriteReply, StopsWriting, StopsOut, bytes_of}
+use Rattle.proc_calls.specs.Writing.{IsWriteReply, StopsOut, bytes_of}
 use Rattle.proc_calls.proofs.Writes.{may_write}
 use Rattle.run_units.specs.Shown.{IsCallOf}
 use Rattle.run_model.specs.State.{State}
@@ -150,16 +150,13 @@ stops_writing : (A : Inputs) (s : State) (old new : Standing) (holds : Option (L
     (x : Space) (effect : Effect)
     (reply : Reply) (stop : Stop)
     → RunsOn A s old holds image pid now p x → IsCallOf effect system_calls.Write → IsCalledFor A s p x system_calls.Write effect (Ok reply) → IsQuiet reply
-    → StopsWriting old new pid (bytes_of (Ok reply)) stop → StopLeads A s old.kernel image stop new (Some image)
-stops_writing A s old new holds image pid now p x effect reply stop h m c q g = go reply refl g.reached
+    → StopsOut old new pid (Ok reply) stop → StopLeads A s old.kernel image stop new (Some image)
+stops_writing A s old new holds image pid now p x effect reply stop h m c q g = go reply refl g.far
   where
-    before : StopsBefore g.between new stop
-    before = record { stopped = g.stopped; whole = g.whole; cause = g.cause; full = g.full }
+    first : g.reached ≡ old → StopLeads A s old.kernel image stop new (Some image)
+    first e = stops_quiet A s old new holds image pid now p x effect system_calls.Write (Ok reply) stop h m c q (subst (λ (n : Standing). StopsBefore n new stop) e g.stops)
 
-    first : g.between ≡ old → StopLeads A s old.kernel image stop new (Some image)
-    first e = stops_quiet A s old new holds image pid now p x effect system_calls.Write (Ok reply) stop h m c q (subst (λ (n : Standing). StopsBefore n new stop) e before)
-
-    go : (y : Reply) → reply ≡ y → (g.between ≡ old) ⊎ GoneOut old g.between pid (bytes_of (Ok y)) → StopLeads A s old.kernel image stop new (Some image)
+    go : (y : Reply) → reply ≡ y → (g.reached ≡ old) ⊎ GoneOut old g.reached pid (bytes_of (Ok y)) → StopLeads A s old.kernel image stop new (Some image)
     go y e (inl same) = first same
     go (Fails error) e (inr out) = first out
     go (Does regs change) e (inr out) = first out
@@ -168,10 +165,10 @@ stops_writing A s old new holds image pid now p x effect reply stop h m c q g = 
         let regs : Regs = replied effect.regs false (length (byte ∷ bytes)) in
         let u : Entry = entries.Out pid (byte ∷ bytes) in
         let v : Entry = call_entry pid system_calls.Write regs in
-        let o : IsOutput A s old g.between holds image pid now p x u v (replied_step A.images s.point.flat p system_calls.Write effect (Writes (byte ∷ bytes))) =
-        outputs A s old g.between holds image pid now p x effect system_calls.Write (Ok reply) byte bytes h m c e out in
-        stops_then A s (after A s u) old.kernel g.between.kernel image image (Some image) (u ∷ []) stop new o.leads
-        (stopped_before A (after A s u) g.between new image pid now v stop o.running.runs o.unwanted o.acts tt before)
+        let o : IsOutput A s old g.reached holds image pid now p x u v (replied_step A.images s.point.flat p system_calls.Write effect (Writes (byte ∷ bytes))) =
+        outputs A s old g.reached holds image pid now p x effect system_calls.Write (Ok reply) byte bytes h m c e out in
+        stops_then A s (after A s u) old.kernel g.reached.kernel image image (Some image) (u ∷ []) stop new o.leads
+        (stopped_before A (after A s u) g.reached new image pid now v stop o.running.runs o.unwanted o.acts tt g.stops)
     go Waits e (inr out) = first out
     go (Exits status) e (inr out) = first out
 

@@ -26,13 +26,16 @@ make_room-requires-clause-room g c =
 pub returns-in_err-make_room-clause-copied : goal.returns-in_err-make_room-clause-copied
 returns-in_err-make_room-clause-copied g c =
     let p = err_from_is_err_and c.from_residual-in_err-make_room.result c.from_residual-in_err-make_room.ensures.1 in
-    rw (p.1, p.2) (inr (g.D.SwapDev.image c.serve_page_now.new.swap, record {
-      reached = c.serve_page_now.new.m;
-      far = (c.in_ok-serve_page_now.ensures.served.0.serves, c.in_ok-serve_page_now.ensures.served.1);
-      stops = inl (forcing_stops c.args.parent c.serve_page_now.new.m c.make_room.new.m c.in_err-make_room.field-0.0 (g.F.Files.holds c.args.files.now)
-          (g.F.Files.holds c.serve_page_now.new.files) (g.D.SwapDev.image c.serve_page_now.new.swap) (g.D.SwapDev.image c.make_room.new.swap)
-          c.in_ok-serve_page_now.ensures.outside.files.holds c.in_err-make_room.ensures.stopped);
-    }))
+    rw (p.1, p.2) (inr (
+      g.D.SwapDev.image c.serve_page_now.new.swap,
+      record {
+        reached = c.serve_page_now.new.m;
+        far = (c.in_ok-serve_page_now.ensures.served.0.serves, c.in_ok-serve_page_now.ensures.served.1);
+        stops = inl (forcing_stops c.args.parent c.serve_page_now.new.m c.make_room.new.m c.in_err-make_room.field-0.0 (g.F.Files.holds c.args.files.now)
+            (g.F.Files.holds c.serve_page_now.new.files) (g.D.SwapDev.image c.serve_page_now.new.swap) (g.D.SwapDev.image c.make_room.new.swap)
+            c.in_ok-serve_page_now.ensures.outside.files.holds c.in_err-make_room.ensures.stopped);
+      },
+    ))
 
 pub copy-requires-clause-can : goal.copy-requires-clause-can
 copy-requires-clause-can g c =
