@@ -64,10 +64,11 @@ record Stepped (S : Step) (pid : ℕ) (o : Belongings) : Type 0 where
   one : S.entries ≡ entry ∷ []
 
 -- what the first entry that is due is, where it is plain
-abbrev FirstPlain : List Entry → Entry → Type 0
+FirstPlain : List Entry → Entry → Type 0
 FirstPlain es u = is_first_of es u ≡ true → makes_no_call u ≡ true → ⊥
 
 never_plain : (e u : Entry) (es : List Entry) → makes_no_call e ≡ false → FirstPlain (e ∷ es) u
+unfolding FirstPlain
 never_plain (entries.Ran p n) u es k h i = absurd cc
 never_plain (entries.Grew p n) u es k h i = absurd cc
 never_plain e (entries.Ran p n) es k h i = other e k h
@@ -100,6 +101,7 @@ called_never images F p s refused effect (Some call) u = replied_never images F 
 stepped_own : (images : List NamedImage) (F : FlatState) (pid : ℕ) (p : Process) (s : Space) (r : Result Effect Refused) (o : Belongings) (u : Entry)
     → process_of F pid ≡ Some p → p.holding ≡ Holds s → p.regs ≡ o.regs → p.asleep ≡ false → s ≡ o.space → instruction_in s p.regs ≡ r
     → is_first_of (step_of images F p s false r).entries u ≡ true → makes_no_call u ≡ true → Stepped (step_of images F p s false r) pid o
+unfolding FirstPlain
 stepped_own images F pid p s r o u here holds regs awake space is first plain = go r is first
   where
     n : p.pid ≡ pid
@@ -156,7 +158,7 @@ stepped_own images F pid p s r o u here holds regs awake space is first plain = 
     go (Ok effect) i f = ran effect effect.call refl i f
     go (Err (Miss address write)) i f = absurd (none f)
     go (Err (Below address)) i f = grown address i
-    go (Err (Signal number)) i f = absurd (never_plain _ u [] refl f plain)
+    go (Err (Signal number)) i f = absurd (never_plain (entries.Ended p.pid number) u [] refl f plain)
 
 -- ---- a unit
 

@@ -5,6 +5,7 @@ use Rattle.flat_state.specs.Flat.{Inputs}
 use Rattle.run_model.specs.State.{State, start}
 use Rattle.run_model.specs.After.{after}
 use Rattle.run_model.specs.Lawful.{IsLawful}
+use Rattle.run_laws.specs.Running.{CanRun}
 use Rattle.journal_laws.specs.Accounts.{AtEach, IsAccounted, Account}
 use Rattle.vm_core.specs.Lawful.{IsJournalOf}
 use Rattle.vm_core.specs.Headline.{KeepsOwners, Headline}
@@ -22,7 +23,7 @@ carries_headline A journal s m =
       point = s.point;
       flat = lawful.flat;
       holdings = m.holdings;
-      can = m.can;
+      found = (let can : CanRun A m.holdings = m.can in can.pieces);
       units = m.units;
       joined = m.joined;
       owned = account.owned;

@@ -306,7 +306,7 @@ pub serve_dues : (p : Placement) (locked : List Page) (q : Page) → OwnsFrames 
 serve_dues p locked q o n = serving_cases (λ x. (after_serving p locked x).due ≡ p.due) p q (λ f s. refl)
     (λ f s. let k : Steady p (reclaim p q) = reclaim_steady p q in k.due) (λ f s. ends)
     (λ m e. let k : Stays p (force p locked) = force_stays p locked o in k.due) (λ f fs e s x. not_due_after p.due q n) (λ f fs e r b. ends)
-    (λ f fs e r b. get_due_list (pages_of_run q (run_in p q)) (begin p (read_errand p q)) (read_errand p q))
+    (λ f fs e r b. get_due_list p (read_errand p q) (pages_of_run q (run_in p q)))
   where
     ends : (done p).due ≡ p.due
     ends = let k : Steady p (done p) = done_steady p o in k.due

@@ -26,7 +26,8 @@ returns-in-Err-clause-made g c =
     c.in-Err.ensures.answers c.in-Err.ensures.error c.in-Err.ensures.open_faults c.in-Err.ensures.page_faults)
 
 pub file_of-requires : goal.file_of-requires
-file_of-requires g c = program_limit c.as_slice.result.now c.in-Ok-Is.program.bytes.items c.in-Ok-Is.program.bss (subst (AssemblesAs c.as_slice.result.now) c.in-Ok-Is.field-0-is c.in-Ok-Is.ensures.answers)
+file_of-requires g c =
+    program_limit c.as_slice.result.now c.in-Ok-Is.program.bytes.items c.in-Ok-Is.program.bss (subst (AssemblesAs c.as_slice.result.now) c.in-Ok-Is.field-0-is c.in-Ok-Is.ensures.answers)
 
 pub returns-in-Ok-file_of-clause-made : goal.returns-in-Ok-file_of-clause-made
 returns-in-Ok-file_of-clause-made g c =

@@ -1,4 +1,4 @@
-use Rattle.std.proofs.Common.{subst}
+use Rattle.std.proofs.Common.{length, subst}
 use Rattle.vm_core.proofs.Going.{limit_finishes, closing_finishes, closing_stops}
 use Rattle.vm_core.proofs.Noting.{stops_on, stops_weaker, ok_so}
 use Rattle.run_start.specs.Sizes.{KeptAtStop}
