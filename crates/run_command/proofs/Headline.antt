@@ -48,7 +48,7 @@ module _ (request : Request) (seen : Seen) (files : List NamedFile) (es : List E
   told (Err (BadSchedule line)) e = inl e.0
   told (Err (ShortDevice device blocks needed)) e = inl e.0
   told (Err FileFault) (inl before) = inl before.1.0
-  told (Err FileFault) (inr within) = of_words (Err FileFault) within.2.1
+  told (Err FileFault) (inr within) = of_words (Err FileFault) within.2
   told (Err NoMemory) (inl none) = inl none.1.0
   told (Err NoMemory) (inr words) = of_words (Err NoMemory) words
   told (Err (SwapReadFault device)) e = of_words (Err (SwapReadFault device)) e

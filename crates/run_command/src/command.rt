@@ -82,7 +82,8 @@ fn run_opened<F: Files, D: SwapDev, E: SwapDev, S: Sink>(
     requires allowed { AreAllowed numbers }
     requires ready { SuitsMachine opening.now (F.holds files.old) }
     requires devices { MeetsNeeds (D.blocks zero.old) (E.blocks one.old) numbers.swap }
-    ensures runs { RunsOpened (IsOfOpening numbers opening.now (F.holds files.old)) traced (seen_of_all F.Files D.SwapDev E.SwapDev S.Sink files.old files.new zero.old zero.new one.old one.new sink.old sink.new) result }
+    ensures runs { RunsOpened (IsOfOpening numbers opening.now (F.holds files.old)) traced
+        (seen_of_all F.Files D.SwapDev E.SwapDev S.Sink files.old files.new zero.old zero.new one.old one.new sink.old sink.new) result }
     ensures kept { KeepsOutside F.Files D.SwapDev E.SwapDev S.Sink files.old files.new zero.old zero.new one.old one.new sink.old sink.new }
 {
     let Ok(mut core) = core_of(alloc, numbers, opening.images.as_slice()) else {
@@ -115,7 +116,10 @@ fn run_words<F: Files, D: SwapDev, E: SwapDev, S: Sink>(
 ) -> u8
     requires allowed { AreAllowed numbers }
     requires words { AreImageWords words.now }
-    ensures runs { Runs (record { traced = traced; numbers = numbers; schedule = schedule.now; words = map (λ word. word.now) words.now }) (seen_of_all F.Files D.SwapDev E.SwapDev S.Sink files.old files.new zero.old zero.new one.old one.new sink.old sink.new) result }
+    ensures runs { Runs (record { traced = traced; numbers = numbers; schedule = schedule.now; words = map (λ word. word.now) words.now })
+        (seen_of_all F.Files D.SwapDev E.SwapDev S.Sink files.old files.new zero.old zero.new one.old one.new sink.old sink.new) result }
+    ensures headline { CarriesHeadline (record { traced = traced; numbers = numbers; schedule = schedule.now; words = map (λ word. word.now) words.now })
+        (seen_of_all F.Files D.SwapDev E.SwapDev S.Sink files.old files.new zero.old zero.new one.old one.new sink.old sink.new) result }
     ensures kept { KeepsOutside F.Files D.SwapDev E.SwapDev S.Sink files.old files.new zero.old zero.new one.old one.new sink.old sink.new }
 {
     let opened = open_run(
@@ -154,7 +158,8 @@ pub fn run_command<F: Files, D: SwapDev, E: SwapDev, S: Sink>(
     requires fits { IsFittingRun 1000000 numbers schedule (word_list images) }
     ensures runs { Runs (record { traced = traced; numbers = numbers; schedule = schedule.now; words = map (λ word. word.now) (word_list images.entry) })
         (seen_of_all F.Files D.SwapDev E.SwapDev S.Sink files.old files.new zero.old zero.new one.old one.new sink.old sink.new) result }
-    ensures headline { CarriesHeadline (record { traced = traced; numbers = numbers; schedule = schedule.now; words = map (λ word. word.now) (word_list images.entry) })
+    ensures headline { CarriesHeadline
+        (record { traced = traced; numbers = numbers; schedule = schedule.now; words = map (λ word. word.now) (word_list images.entry) })
         (seen_of_all F.Files D.SwapDev E.SwapDev S.Sink files.old files.new zero.old zero.new one.old one.new sink.old sink.new) result }
     ensures kept { KeepsOutside F.Files D.SwapDev E.SwapDev S.Sink files.old files.new zero.old zero.new one.old one.new sink.old sink.new }
 {

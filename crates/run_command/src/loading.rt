@@ -76,7 +76,12 @@ fn run_load<D: SwapDev, E: SwapDev, S: Sink>(
     ensures runs { (told : Option (List NamedFile)) (opens pages : ℕ)
         → LoadRuns (λ A image. IsAskedOf A (machine_of load_numbers (map shown_as images.now)) load_first lines.now
         (⟦<SureFiles as Files>⟧.holds files.old) image)
-        (λ A. StartsFrom A (machine_of load_numbers (map shown_as images.now)) load_first) number (seen_beside told (record { open_before = opens; open_after = opens; page_before = pages; page_after = pages }) D.SwapDev E.SwapDev S.Sink zero.old zero.new one.old one.new sink.old sink.new) result }
+        (λ A. StartsFrom A (machine_of load_numbers (map shown_as images.now)) load_first) number (seen_beside told (record {
+          open_before = opens;
+          open_after = opens;
+          page_before = pages;
+          page_after = pages;
+        }) D.SwapDev E.SwapDev S.Sink zero.old zero.new one.old one.new sink.old sink.new) result }
     ensures devices { KeepsDevices D.SwapDev E.SwapDev zero.old zero.new one.old one.new }
     ensures output { KeepsOutput S.Sink sink.old sink.new }
 {
@@ -103,7 +108,12 @@ pub fn load_command<D: SwapDev, E: SwapDev, S: Sink>(
     sink: &mut S,
     number: u32,
 ) -> u8
-    ensures loads { (told : Option (List NamedFile)) (opens pages : ℕ) → Loads number (seen_beside told (record { open_before = opens; open_after = opens; page_before = pages; page_after = pages }) D.SwapDev E.SwapDev S.Sink zero.old zero.new one.old one.new sink.old sink.new) result }
+    ensures loads { (told : Option (List NamedFile)) (opens pages : ℕ) → Loads number (seen_beside told (record {
+      open_before = opens;
+      open_after = opens;
+      page_before = pages;
+      page_after = pages;
+    }) D.SwapDev E.SwapDev S.Sink zero.old zero.new one.old one.new sink.old sink.new) result }
     ensures devices { KeepsDevices D.SwapDev E.SwapDev zero.old zero.new one.old one.new }
     ensures output { KeepsOutput S.Sink sink.old sink.new }
 {

@@ -33,8 +33,10 @@ pub fn vmrun<F: Files, D: SwapDev, E: SwapDev, S: Sink>(
     one: &mut E,
     sink: &mut S,
 ) -> u8
-    ensures obeys { Obeys (asked_of (map (λ word. word.now) words.now)) (seen_of_all F.Files D.SwapDev E.SwapDev S.Sink files.old files.new zero.old zero.new one.old one.new sink.old sink.new) result }
-    ensures headline { CarriesFor (asked_of (map (λ word. word.now) words.now)) (seen_of_all F.Files D.SwapDev E.SwapDev S.Sink files.old files.new zero.old zero.new one.old one.new sink.old sink.new) result }
+    ensures obeys { Obeys (asked_of (map (λ word. word.now) words.now))
+        (seen_of_all F.Files D.SwapDev E.SwapDev S.Sink files.old files.new zero.old zero.new one.old one.new sink.old sink.new) result }
+    ensures headline { CarriesFor (asked_of (map (λ word. word.now) words.now))
+        (seen_of_all F.Files D.SwapDev E.SwapDev S.Sink files.old files.new zero.old zero.new one.old one.new sink.old sink.new) result }
     ensures files { LeavesFiles (asked_of (map (λ word. word.now) words.now)) (files.new ≡ files.old) }
     ensures kept { KeepsOutside F.Files D.SwapDev E.SwapDev S.Sink files.old files.new zero.old zero.new one.old one.new sink.old sink.new }
     ensures zero { LeavesDevice (asked_of (map (λ word. word.now) words.now)) (zero.new ≡ zero.old) }

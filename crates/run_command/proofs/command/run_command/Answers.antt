@@ -33,8 +33,5 @@ returns-in-Err-clause-runs g c =
     lacking_runs request seen refl reads writes refl c.write_run.result c.write_run.ensures.writes refl
 
 -- the headline is a part of what a run is
-pub returns-in-Ok-clause-headline : goal.returns-in-Ok-clause-headline
-returns-in-Ok-clause-headline g c = run_carries _ _ _ c.run_words.ensures.runs
-
 pub returns-in-Err-clause-headline : goal.returns-in-Err-clause-headline
 returns-in-Err-clause-headline g c = run_carries _ _ _ (returns-in-Err-clause-runs g c)

@@ -15,6 +15,7 @@ use Rattle.run_command.specs.Paired.{image_together}
 use Rattle.run_command.specs.Ends.{AllGood, RunsOpened}
 use Rattle.run_command.proofs.Openings.{shown_length, are_sound, are_names, are_files}
 use Rattle.run_command.proofs.Inputs.{KnownOpening, have_few_moves}
+use Rattle.run_command.proofs.Headline.{run_carries}
 use Rattle.run_command.proofs.Runs.{needs_met, room_told, opened_words, unopened_runs}
 use Rattle.run_command.proofs.command.run_words.Goals as goal
 
@@ -136,3 +137,10 @@ returns-in-Err-clause-runs g c =
     let made : opening_of (g.D.SwapDev.blocks zero) (g.E.SwapDev.blocks one)
     = subst (opening_of (g.D.SwapDev.blocks zero)) c.blocks-3.ensures (subst (λ (z : ℕ). opening_of z c.blocks-3.result) c.blocks-2.ensures c.in-Err.ensures.ends) in
     unopened_runs request seen refl reads writes c.open_run-opened.ensures.page_faults c.in-Err.fault c.write_run.result c.write_run.ensures.writes made c.in-Err.ensures.open_faults
+
+-- the headline is a part of what a run is
+pub returns-in-Ok-clause-headline : goal.returns-in-Ok-clause-headline
+returns-in-Ok-clause-headline g c = run_carries _ _ _ (returns-in-Ok-clause-runs g c)
+
+pub returns-in-Err-clause-headline : goal.returns-in-Err-clause-headline
+returns-in-Err-clause-headline g c = run_carries _ _ _ (returns-in-Err-clause-runs g c)
