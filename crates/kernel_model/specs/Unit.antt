@@ -41,21 +41,23 @@ abbrev pub has_lender : List Proc → ℕ → Bool
 has_lender [] pid = false
 has_lender (p ∷ ps) pid = lends_life pid p.life || has_lender ps pid
 
--- who has a space of its own, or keeps the one that it borrowed; a space that it lends passes to the child
-abbrev pub keeps_step : List Image → Kernel → ℕ → Regs → Entry → Change → Kernel
-keeps_step images k pid regs e (Lend child) = pass_step (change_step images k pid regs e (Lend child)) pid child
-keeps_step images k pid regs e change = change_step images k pid regs e change
+-- A change with the passes of a space that belong to it.
 
 -- who borrowed its space gives it back before a new image and before its end
-abbrev pub back_step : List Image → Kernel → ℕ → Regs → Entry → Change → Kernel
-back_step images k pid regs e (Exec image top) = change_step images (pass_step k pid (lender_among k.processes pid)) pid regs e (Exec image top)
-back_step images k pid regs e (End status) = change_step images (pass_step k pid (lender_among k.processes pid)) pid regs e (End status)
-back_step images k pid regs e change = keeps_step images k pid regs e change
+abbrev pub passed_before : Bool → Kernel → ℕ → Change → Kernel
+passed_before true k pid (Exec image top) = pass_step k pid (lender_among k.processes pid)
+passed_before true k pid (End status) = pass_step k pid (lender_among k.processes pid)
+passed_before _ k pid change = k
 
--- an entry of a process with its change, and with the space that passes, by whether the process borrowed its space
+-- who lends its space passes it to the child after the change
+abbrev pub passed_after : Kernel → ℕ → Change → Kernel
+passed_after k pid (Lend child) = pass_step k pid child
+passed_after k pid _ = k
+
+-- an entry of a process with its change, between the passes that belong to it, by whether the process borrowed its space
 abbrev pub passing_change : Bool → List Image → Kernel → ℕ → Regs → Entry → Change → Kernel
-passing_change true = back_step
-passing_change false = keeps_step
+passing_change borrowed images k pid regs e change =
+    passed_after (change_step images (passed_before borrowed k pid change) pid regs e change) pid change
 
 -- U pages.
 

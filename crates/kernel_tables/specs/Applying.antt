@@ -12,12 +12,11 @@ use Rattle.flat_state.specs.declared.change.Change.{Change}
 use Rattle.flat_state.specs.declared.change.Change.TheVariants.{Keep, Resize, Fork, Lend, Exec, Sleep, End}
 use Rattle.page_model.specs.Place.{facts_of}
 use Rattle.page_model.specs.Swapper.{is_out}
-use Rattle.kernel_model.specs.Kernel.{Life, New, HoldsSpace, LendsSpace, Kernel}
-use Rattle.kernel_model.specs.ChangeStep.{pass_step}
+use Rattle.kernel_model.specs.Kernel.{Life, New, HoldsSpace, LendsSpace}
 use Rattle.kernel_model.specs.Numbers.{ReadyFor}
 use Rattle.kernel_model.specs.Asks.{asked}
 use Rattle.kernel_model.specs.Start.{ImagesFit}
-use Rattle.kernel_model.specs.Unit.{KernelState, lender_among, has_lender, with_found}
+use Rattle.kernel_model.specs.Unit.{KernelState, has_lender, passed_before, passed_after, with_found}
 use Rattle.kernel_model.specs.Invariant.{Invariant, MayComplete}
 use Rattle.kernel_tables.specs.Machine.{Standing}
 use Rattle.kernel_tables.specs.Sourced.{ImageNamed}
@@ -92,17 +91,6 @@ MayPass _ _ from = ⊥
 
 -- The flat states.
 
--- who borrowed its space passes it back before a new image and before its end
-abbrev pub passed_before : Bool → Kernel → ℕ → Change → Kernel
-passed_before true k pid (Exec image top) = pass_step k pid (lender_among k.processes pid)
-passed_before true k pid (End status) = pass_step k pid (lender_among k.processes pid)
-passed_before _ k pid change = k
-
--- and who lends its space passes it to the child after the change
-abbrev pub passed_behind : Kernel → ℕ → Change → Kernel
-passed_behind k pid (Lend child) = pass_step k pid child
-passed_behind k pid _ = k
-
 -- With the passes that belong to it the change is the unit of the kernel: whatever the kernel stood for before both, all
 -- that is so between two units is so after them, and the kernel stands for what the change makes of that.
 abbrev pub ChangesWhole : Standing → Standing → ℕ → Regs → Change → Type 0
@@ -110,4 +98,4 @@ ChangesWhole old new pid regs change = (images : List NamedImage) (m : KernelSta
     → Invariant old.params.swap_blocks images m → MayComplete old.params.swap_blocks images m pid change
     → passed_before (has_lender m.kernel.processes pid) (with_found m) pid change ≡ old.kernel
     → Invariant old.params.swap_blocks images
-    (record { kernel = passed_behind new.kernel pid change; found = new.kernel.holdings; image = m.image; flat = apply_change images m.flat pid regs change })
+    (record { kernel = passed_after new.kernel pid change; found = new.kernel.holdings; image = m.image; flat = apply_change images m.flat pid regs change })

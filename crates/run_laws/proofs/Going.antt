@@ -20,7 +20,7 @@ use Rattle.kernel_model.specs.ChangeStep.{change_if, change_step, pass_step}
 use Rattle.flat_model.specs.Touched.{page_tested}
 use Rattle.flat_model.specs.Run.{step_at}
 use Rattle.run_model.specs.State.{State}
-use Rattle.kernel_model.specs.Unit.{lender_among, keeps_step, back_step, passing_change}
+use Rattle.kernel_model.specs.Unit.{lender_among, passing_change}
 use Rattle.run_laws.specs.Machine.{place_in, write_into, frame_written, write_byte, write_bytes, write_held, process_written, written_step, taken_step, process_step, unit_step}
 
 page_goes : (k : Kernel) (o : Option Page) (at byte : ℕ) → (frame_written k o at byte).stopped ≡ k.stopped
@@ -57,12 +57,12 @@ flat_goes images k pid regs e change = go (numbered (λ (p : Proc). p.pid) pid k
     go (Some p) = refl
 
 keeps_goes : (images : List NamedImage) (k : Kernel) (pid : ℕ) (regs : Regs) (e : Entry) (change : Change)
-    → (keeps_step (facts_of images) k pid regs e change).stopped ≡ k.stopped
+    → (passing_change false (facts_of images) k pid regs e change).stopped ≡ k.stopped
 keeps_goes images k pid regs e Keep = flat_goes images k pid regs e Keep
 keeps_goes images k pid regs e x = flat_goes images k pid regs e x
 
 back_goes : (images : List NamedImage) (k : Kernel) (pid : ℕ) (regs : Regs) (e : Entry) (change : Change)
-    → (back_step (facts_of images) k pid regs e change).stopped ≡ k.stopped
+    → (passing_change true (facts_of images) k pid regs e change).stopped ≡ k.stopped
 back_goes images k pid regs e (Exec image top) = flat_goes images (pass_step k pid (lender_among k.processes pid)) pid regs e (Exec image top)
 back_goes images k pid regs e (End status) = flat_goes images (pass_step k pid (lender_among k.processes pid)) pid regs e (End status)
 back_goes images k pid regs e x = flat_goes images k pid regs e x

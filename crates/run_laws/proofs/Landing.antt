@@ -44,7 +44,7 @@ use Rattle.register_laws.proofs.FlatLawsAsking.{own_space, shared_same, no_share
 use Rattle.flat_model.specs.Asked.{is_shared, given_up}
 use Rattle.kernel_laws.proofs.Kept.Changes.{takes_next, may_reap, GivesBack, takes_none, back_ready}
 use Rattle.run_laws.specs.Standing.{Own}
-use Rattle.kernel_model.specs.Unit.{lender_among, keeps_step, back_step, passing_change}
+use Rattle.kernel_model.specs.Unit.{lender_among, passing_change}
 use Rattle.kernel_laws.proofs.Kept.Borrowed.{lender_is}
 use Rattle.run_laws.proofs.Changes.{given_same}
 use Rattle.run_laws.proofs.OwnChanges.{ReadyChange, keeps_place, keeps_holdings, own_false, end_false, own_told, own_kept, own_lands}
@@ -80,15 +80,15 @@ own_coupled : (A : Inputs) (k : Kernel) (flat : FlatState) (image : List ℕ) (b
     (b : Bool) (change : Change)
     → ReadyChange A flat k.place before k.holdings pid q s change → is_borrower flat.processes pid ≡ b
     → Own b change → SettlesFor k.place s.sid change → MayForget (facts_of A.images) k.place s.sid false k.next_sid change → Found A flat k image before
-    → Coupled (keeps_step (facts_of A.images) k pid regs e change) A.images image (apply_change A.images flat pid regs change)
+    → Coupled (passing_change false (facts_of A.images) k pid regs e change) A.images image (apply_change A.images flat pid regs change)
 own_coupled A k flat image before pid regs e q s b Keep c w o z y x = keep_coupled k A.images image flat pid regs e q s c.numbers c.found_process c.holds c.resident x.coupled
 own_coupled A k flat image before pid regs e q s b (Resize d r) c w o z y x =
     let st : Stands A.images k flat = x.stands in resize_coupled_step k A.images image flat pid regs e d r q s c.numbers st.out c.clear c.found_process c.holds c.resident x.coupled
 own_coupled A k flat image before pid regs e q s b (Fork child) c w o z y x = let st : Stands A.images k flat = x.stands in
-    subst (λ (n : ℕ). Coupled (keeps_step (facts_of A.images) k pid regs e (Fork n)) A.images image (apply_change A.images flat pid regs (Fork n))) (sym c.may)
+    subst (λ (n : ℕ). Coupled (passing_change false (facts_of A.images) k pid regs e (Fork n)) A.images image (apply_change A.images flat pid regs (Fork n))) (sym c.may)
     (fork_coupled_step k A.images image flat pid regs e q s c.numbers st.out c.clear c.found_process c.holds c.resident x.coupled)
 own_coupled A k flat image before pid regs e q s b (Lend child) c w o z y x = let st : Stands A.images k flat = x.stands in
-    subst (λ (n : ℕ). Coupled (keeps_step (facts_of A.images) k pid regs e (Lend n)) A.images image (apply_change A.images flat pid regs (Lend n))) (sym c.may)
+    subst (λ (n : ℕ). Coupled (passing_change false (facts_of A.images) k pid regs e (Lend n)) A.images image (apply_change A.images flat pid regs (Lend n))) (sym c.may)
     (lend_coupled_step k A.images image flat pid regs e q s c.numbers st.out c.found_process c.holds c.resident x.coupled)
 own_coupled A k flat image before pid regs e q s b (Exec number top) c w o z y x =
     let st : Stands A.images k flat = x.stands in
@@ -111,7 +111,7 @@ pub own_landed : (A : Inputs) (k : Kernel) (flat : FlatState) (image : List ℕ)
     (b : Bool) (change : Change)
     → ReadyChange A flat k.place before k.holdings pid q s change → is_borrower flat.processes pid ≡ b
     → Own b change → SettlesFor k.place s.sid change → Found A flat k image before
-    → Landed A (apply_change A.images flat pid regs change) k (keeps_step (facts_of A.images) k pid regs e change) image pid s.sid b e change
+    → Landed A (apply_change A.images flat pid regs change) k (passing_change false (facts_of A.images) k pid regs e change) image pid s.sid b e change
     (given_up flat (apply_change A.images flat pid regs change) pid s change k.holdings)
 own_landed A k flat image before pid regs e q s b change c w o settles x =
     let after : FlatState = apply_change A.images flat pid regs change in
@@ -122,7 +122,7 @@ own_landed A k flat image before pid regs e q s b change c w o settles x =
     let ready : ReadyFor k pid change = coupled_ready k flat pid q s change t c.found_process c.holds (takes_next k flat change t c.may) (may_reap k flat change t c.may) settles in
     let pieces : place_all A.swap_blocks before (asked (facts_of A.images) k pid change) ≡ Ok k.holdings =
     ap (place_all A.swap_blocks before) (change_same A.images k flat pid q s change c.images st.texts x.numbered c.numbers t c.found_process c.holds) ∙ c.pieces in
-    let l : Kernel = keeps_step (facts_of A.images) k pid regs e change in
+    let l : Kernel = passing_change false (facts_of A.images) k pid regs e change in
     let kept : own.Kept A l =
     own_kept A k flat pid regs e q s change c.numbers c.found_process c.holds t c.may (ready_sound A.swap_blocks (facts_of A.images) k before pid regs e change so x.numbered ready pieces)
     (flat_numbered (facts_of A.images) k pid regs e change (takes_next k flat change t c.may) ready.alive x.numbered) in
@@ -173,7 +173,7 @@ back_coupled A k flat image before pid regs e q m s (End status) c is gb x =
 back_coupled A k flat image before pid regs e q m s _ c is gb x = absurd gb
 
 back_is : (A : Inputs) (k : Kernel) (pid n : ℕ) (regs : Regs) (e : Entry) (change : Change) → GivesBack change → lender_among k.processes pid ≡ n
-    → back_step (facts_of A.images) k pid regs e change ≡ change_step (facts_of A.images) (pass_step k pid n) pid regs e change
+    → passing_change true (facts_of A.images) k pid regs e change ≡ change_step (facts_of A.images) (pass_step k pid n) pid regs e change
 back_is A k pid n regs e (Exec number top) gb i = ap (λ (m : ℕ). change_step (facts_of A.images) (pass_step k pid m) pid regs e (Exec number top)) i
 back_is A k pid n regs e (End status) gb i = ap (λ (m : ℕ). change_step (facts_of A.images) (pass_step k pid m) pid regs e (End status)) i
 back_is A k pid n regs e _ gb i = absurd gb
@@ -182,7 +182,7 @@ pub back_landed : (A : Inputs) (k : Kernel) (flat : FlatState) (image : List ℕ
     (s : Space) (change : Change)
     → ReadyChange A flat k.place before k.holdings pid q s change → LendsStand flat → is_borrower flat.processes pid ≡ true → GivesBack change
     → Found A flat k image before
-    → Landed A (apply_change A.images flat pid regs change) k (back_step (facts_of A.images) k pid regs e change) image pid s.sid true e change
+    → Landed A (apply_change A.images flat pid regs change) k (passing_change true (facts_of A.images) k pid regs e change) image pid s.sid true e change
     (given_up flat (apply_change A.images flat pid regs change) pid s change k.holdings)
 back_landed A k flat image before pid regs e q s change c lend w gb x =
     let after : FlatState = apply_change A.images flat pid regs change in

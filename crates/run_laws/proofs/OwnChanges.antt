@@ -42,7 +42,7 @@ use Rattle.flat_model.specs.Asked.{is_shared, given_up, change_wanted}
 use Rattle.kernel_laws.proofs.Kept.Changes.{takes_next, may_reap, lend_lives}
 use Rattle.run_laws.specs.Standing.{machine_of, EachOnce, Placed, Own}
 use Rattle.kernel_model.specs.Invariant.{EntersImage}
-use Rattle.kernel_model.specs.Unit.{keeps_step as next_of}
+use Rattle.kernel_model.specs.Unit.{passing_change}
 use Rattle.run_laws.proofs.Bridge.{from_machine}
 use Rattle.run_laws.proofs.Changes.{given_same, change_once}
 
@@ -77,16 +77,16 @@ pub own_told : (A : Inputs) (k : Kernel) (flat : FlatState) (pid : ℕ) (regs : 
     → ImagesFit A.images → IsNumbered flat
     → process_of flat pid ≡ Some q → q.holding ≡ Holds s → is_borrower flat.processes pid ≡ b → Own b change
     → is_out k.place pid ≡ false → k.place.due ≡ [] → NamesChild flat change → EntersImage A.images change → SameTables k flat → Stands A.images k flat
-    → Told A (next_of (facts_of A.images) k pid regs e change) (apply_change A.images flat pid regs change)
+    → Told A (passing_change false (facts_of A.images) k pid regs e change) (apply_change A.images flat pid regs change)
 own_told A k flat pid regs e q s b Keep fit nums f h w o out due m x t st =
     record { tables = keep_tables k A.images flat pid regs e q s nums f h t; stands = keep_stands A.images k flat pid regs e q s t f h out st }
 own_told A k flat pid regs e q s b (Resize d r) fit nums f h w o out due m x t st =
     record { tables = resize_tables k A.images flat pid regs e d r q s nums f h t; stands = resize_stands A.images k flat pid regs e d r q s t f h out st }
 own_told A k flat pid regs e q s b (Fork child) fit nums f h w o out due m x t st =
-    subst (λ (c : ℕ). Told A (next_of (facts_of A.images) k pid regs e (Fork c)) (apply_change A.images flat pid regs (Fork c))) (sym m)
+    subst (λ (c : ℕ). Told A (passing_change false (facts_of A.images) k pid regs e (Fork c)) (apply_change A.images flat pid regs (Fork c))) (sym m)
     (record { tables = fork_tables k A.images flat pid regs e q s nums f h t; stands = fork_stands A.images k flat pid regs e q s t due f h out st })
 own_told A k flat pid regs e q s b (Lend child) fit nums f h w o out due m x t st =
-    subst (λ (c : ℕ). Told A (next_of (facts_of A.images) k pid regs e (Lend c)) (apply_change A.images flat pid regs (Lend c))) (sym m)
+    subst (λ (c : ℕ). Told A (passing_change false (facts_of A.images) k pid regs e (Lend c)) (apply_change A.images flat pid regs (Lend c))) (sym m)
     (record { tables = lend_tables k A.images flat pid regs e q s nums f h t; stands = lend_stands A.images k flat pid regs e q s t f h out st })
 own_told A k flat pid regs e q s b (Exec number top) fit nums f h w o out due m (named, im, whole) t st =
     let i : ImageFits named = fit number named im in
@@ -112,7 +112,7 @@ pub own_kept : (A : Inputs) (k : Kernel) (flat : FlatState) (pid : ℕ) (regs : 
     → IsNumbered flat → process_of flat pid ≡ Some q
     → q.holding ≡ Holds s → SameTables k flat → NamesChild flat change
     → Sound A.swap_blocks (change_step (facts_of A.images) k pid regs e change) → Numbered (change_step (facts_of A.images) k pid regs e change)
-    → Kept A (next_of (facts_of A.images) k pid regs e change)
+    → Kept A (passing_change false (facts_of A.images) k pid regs e change)
 own_kept A k flat pid regs e q s (Lend child) nums f h t m so n =
     let l = subst (λ (c : ℕ). (lives (change_step (facts_of A.images) k pid regs e (Lend c)).processes pid ≡ true) × (lives (change_step (facts_of A.images) k pid regs e (Lend c)).processes c ≡ true))
     (sym m) (lend_lives A.images k flat pid regs e q s nums f h t) in
@@ -130,13 +130,13 @@ pub record Lands (A : Inputs) (k : Kernel) (pid sid : ℕ) (e : Entry) (change :
 
 pub next_lands : (A : Inputs) (k : Kernel) (pid sid : ℕ) (regs : Regs) (e : Entry) (change : Change)
     → Lands A k pid sid e change (change_step (facts_of A.images) k pid regs e change)
-    → Lands A k pid sid e change (next_of (facts_of A.images) k pid regs e change)
+    → Lands A k pid sid e change (passing_change false (facts_of A.images) k pid regs e change)
 next_lands A k pid sid regs e (Lend child) l = record { place = l.place; holdings = l.holdings; journal = l.journal }
 next_lands A k pid sid regs e _ l = l
 
 pub own_lands : (A : Inputs) (k : Kernel) (flat : FlatState) (pid : ℕ) (regs : Regs) (e : Entry) (q : Process) (s : Space) (change : Change)
     → process_of flat pid ≡ Some q → q.holding ≡ Holds s
-    → SameTables k flat → Lands A k pid s.sid e change (next_of (facts_of A.images) k pid regs e change)
+    → SameTables k flat → Lands A k pid s.sid e change (passing_change false (facts_of A.images) k pid regs e change)
 own_lands A k flat pid regs e q s change f h t =
     let g : Stepping k flat pid q s = stepping k flat pid q s t f h in
     next_lands A k pid s.sid regs e change
@@ -187,7 +187,7 @@ own_change A flat p hs found pid regs j e q s b change c w o settles st =
     let ready : ReadyFor k pid change = coupled_ready k flat pid q s change t c.found_process c.holds (takes_next k flat change t c.may) (may_reap k flat change t c.may) settles in
     let pieces : place_all A.swap_blocks hs (asked (facts_of A.images) k pid change) ≡ Ok found =
     ap (place_all A.swap_blocks hs) (change_same A.images k flat pid q s change c.images sb.texts n c.numbers t c.found_process c.holds) ∙ c.pieces in
-    let l : Kernel = next_of (facts_of A.images) k pid regs e change in
+    let l : Kernel = passing_change false (facts_of A.images) k pid regs e change in
     let kept : Kept A l =
     own_kept A k flat pid regs e q s change c.numbers c.found_process c.holds t c.may (ready_sound A.swap_blocks (facts_of A.images) k hs pid regs e change before n ready pieces)
     (flat_numbered (facts_of A.images) k pid regs e change (takes_next k flat change t c.may) ready.alive n) in

@@ -27,7 +27,7 @@ use Rattle.kernel_model.specs.Taken.{MayReap, MayChange}
 use Rattle.kernel_model.specs.Asks.{asked, MayAsk, WantsThese}
 use Rattle.kernel_model.specs.Numbers.{Numbered, TakesNext, ReadySpace, ReadyBy, ReadyFor, SettlesFor}
 use Rattle.kernel_model.specs.Start.{ImageFits, ImagesFit}
-use Rattle.kernel_model.specs.Unit.{KernelState, ChangeUnit, lender_among, has_lender, keeps_step, back_step, passing_change, with_found, kernel_after}
+use Rattle.kernel_model.specs.Unit.{KernelState, ChangeUnit, lender_among, has_lender, passing_change, with_found, kernel_after}
 use Rattle.kernel_model.specs.Invariant.{WereFound, Invariant, Acts, EntersImage, MayComplete}
 use Rattle.page_laws.proofs.Lists.Local.{none_some}
 use Rattle.page_laws.proofs.Bytes.Others.{settled_rests}
@@ -150,14 +150,14 @@ rests images k l pid sid b e change at clear parts can apart = subst Rests (sym 
 own_stands : (images : List NamedImage) (k : Kernel) (flat : FlatState) (pid : ℕ) (regs : Regs) (e : Entry) (q : Process) (s : Space) (change : Change)
     → Acts k flat pid q s → k.place.due ≡ []
     → NamesChild flat change → EntersImage images change → SameTables k flat → Stands images k flat
-    → Stands images (keeps_step (facts_of images) k pid regs e change) (apply_change images flat pid regs change)
+    → Stands images (passing_change false (facts_of images) k pid regs e change) (apply_change images flat pid regs change)
 own_stands images k flat pid regs e q s Keep a due m x t st = keep_stands images k flat pid regs e q s t a.here a.holds a.resident st
 own_stands images k flat pid regs e q s (Resize d r) a due m x t st = resize_stands images k flat pid regs e d r q s t a.here a.holds a.resident st
 own_stands images k flat pid regs e q s (Fork child) a due m x t st =
-    subst (λ (c : ℕ). Stands images (keeps_step (facts_of images) k pid regs e (Fork c)) (apply_change images flat pid regs (Fork c))) (sym m)
+    subst (λ (c : ℕ). Stands images (passing_change false (facts_of images) k pid regs e (Fork c)) (apply_change images flat pid regs (Fork c))) (sym m)
     (fork_stands images k flat pid regs e q s t due a.here a.holds a.resident st)
 own_stands images k flat pid regs e q s (Lend child) a due m x t st =
-    subst (λ (c : ℕ). Stands images (keeps_step (facts_of images) k pid regs e (Lend c)) (apply_change images flat pid regs (Lend c))) (sym m)
+    subst (λ (c : ℕ). Stands images (passing_change false (facts_of images) k pid regs e (Lend c)) (apply_change images flat pid regs (Lend c))) (sym m)
     (lend_stands images k flat pid regs e q s t a.here a.holds a.resident st)
 own_stands images k flat pid regs e q s (Exec number top) a due m (named, im, whole) t st = exec_stands images k flat pid regs e number top named q s t due a.here a.holds a.resident im st
 own_stands images k flat pid regs e q s (Reap child) a due (z, status, fz, hz) x t st = reap_stands images k flat pid regs e child status q z s t a.here a.holds a.resident fz hz st
@@ -169,15 +169,15 @@ own_coupled : (size : ℕ) (images : List NamedImage) (k : Kernel) (before : Hol
     → is_borrower flat.processes pid ≡ b → KeepsSpace b change
     → Prepared size images k before image flat → Names size images k before flat pid change → Acts k flat pid q s → SettlesFor k.place s.sid change
     → MayForget (facts_of images) k.place s.sid false k.next_sid change
-    → Coupled (keeps_step (facts_of images) k pid regs e change) images image (apply_change images flat pid regs change)
+    → Coupled (passing_change false (facts_of images) k pid regs e change) images image (apply_change images flat pid regs change)
 own_coupled size images k before image flat pid regs e q s b Keep w o x n a z y = keep_coupled k images image flat pid regs e q s x.numbers a.here a.holds a.resident x.coupled
 own_coupled size images k before image flat pid regs e q s b (Resize d r) w o x n a z y = let st : Stands images k flat = x.stands in
     resize_coupled_step k images image flat pid regs e d r q s x.numbers st.out x.clear a.here a.holds a.resident x.coupled
 own_coupled size images k before image flat pid regs e q s b (Fork child) w o x n a z y = let st : Stands images k flat = x.stands in
-    subst (λ (c : ℕ). Coupled (keeps_step (facts_of images) k pid regs e (Fork c)) images image (apply_change images flat pid regs (Fork c))) (sym n.child)
+    subst (λ (c : ℕ). Coupled (passing_change false (facts_of images) k pid regs e (Fork c)) images image (apply_change images flat pid regs (Fork c))) (sym n.child)
     (fork_coupled_step k images image flat pid regs e q s x.numbers st.out x.clear a.here a.holds a.resident x.coupled)
 own_coupled size images k before image flat pid regs e q s b (Lend child) w o x n a z y = let st : Stands images k flat = x.stands in
-    subst (λ (c : ℕ). Coupled (keeps_step (facts_of images) k pid regs e (Lend c)) images image (apply_change images flat pid regs (Lend c))) (sym n.child)
+    subst (λ (c : ℕ). Coupled (passing_change false (facts_of images) k pid regs e (Lend c)) images image (apply_change images flat pid regs (Lend c))) (sym n.child)
     (lend_coupled_step k images image flat pid regs e q s x.numbers st.out a.here a.holds a.resident x.coupled)
 own_coupled size images k before image flat pid regs e q s b (Exec number top) w o x n a z y =
     let st : Stands images k flat = x.stands in
@@ -225,7 +225,7 @@ own_passed : (size : ℕ) (images : List NamedImage) (k : Kernel) (flat : FlatSt
     → IsNumbered flat
     → process_of flat pid ≡ Some q → q.holding ≡ Holds s → SameTables k flat → NamesChild flat change
     → Passed size images k pid s.sid false e change (change_step (facts_of images) k pid regs e change)
-    → Passed size images k pid s.sid false e change (keeps_step (facts_of images) k pid regs e change)
+    → Passed size images k pid s.sid false e change (passing_change false (facts_of images) k pid regs e change)
 own_passed size images k flat pid regs e q s (Lend child) nums f h t m x =
     let l = subst (λ (c : ℕ). (lives (change_step (facts_of images) k pid regs e (Lend c)).processes pid ≡ true) × (lives (change_step (facts_of images) k pid regs e (Lend c)).processes c ≡ true))
     (sym m) (lend_lives images k flat pid regs e q s nums f h t) in
@@ -263,7 +263,7 @@ own_stood : (size : ℕ) (images : List NamedImage) (k : Kernel) (before : Holdi
     → is_borrower flat.processes pid ≡ b → KeepsSpace b change
     → Prepared size images k before image flat → Names size images k before flat pid change → Acts k flat pid q s → ReadySpace k.place s.sid b change
     → HaveParts k.place.transfers
-    → Stood size images image (apply_change images flat pid regs change) (keeps_step (facts_of images) k pid regs e change)
+    → Stood size images image (apply_change images flat pid regs change) (passing_change false (facts_of images) k pid regs e change)
 own_stood size images k before image flat pid regs e q s b change w o x n a ready parts =
     let c : Coupled k images image flat = x.coupled in
     let t : SameTables k flat = c.tables in
@@ -272,7 +272,7 @@ own_stood size images k before image flat pid regs e q s b change w o x n a read
     let g : Stepping k flat pid q s = stepping k flat pid q s t a.here a.holds in
     let so : Sound size (record k { holdings = before }) = x.sound in
     let ow : OneOwner size (lives k.processes) k.place before = so.owner in
-    let passed : Passed size images k pid s.sid false e change (keeps_step (facts_of images) k pid regs e change) =
+    let passed : Passed size images k pid s.sid false e change (passing_change false (facts_of images) k pid regs e change) =
     own_passed size images k flat pid regs e q s change x.numbers a.here a.holds t n.child (record {
       sound = ready_sound size (facts_of images) k before pid regs e change so x.numbered is_ready n.pieces;
       numbered = flat_numbered (facts_of images) k pid regs e change (takes_next k flat change t n.child) is_ready.alive x.numbered;
@@ -291,7 +291,7 @@ own_stood size images k before image flat pid regs e q s b change w o x n a read
       numbered = passed.numbered;
       coupled = own_coupled size images k before image flat pid regs e q s b change w o x n a settled held.forgets;
       stands = own_stands images k flat pid regs e q s change a x.clear n.child n.enters t x.stands;
-      rests = rests images k (keeps_step (facts_of images) k pid regs e change) pid s.sid false e change passed.lands x.clear parts held.can held.apart;
+      rests = rests images k (passing_change false (facts_of images) k pid regs e change) pid s.sid false e change passed.lands x.clear parts held.can held.apart;
     }
 
 -- Who gives its space back.
@@ -349,7 +349,7 @@ back_coupled size images k before image flat pid regs e q m s (End status) gb is
 back_coupled size images k before image flat pid regs e q m s _ gb is x n a = absurd gb
 
 back_is : (images : List NamedImage) (k : Kernel) (pid n : ℕ) (regs : Regs) (e : Entry) (change : Change) → GivesBack change → lender_among k.processes pid ≡ n
-    → back_step (facts_of images) k pid regs e change ≡ change_step (facts_of images) (pass_step k pid n) pid regs e change
+    → passing_change true (facts_of images) k pid regs e change ≡ change_step (facts_of images) (pass_step k pid n) pid regs e change
 back_is images k pid n regs e (Exec number top) gb i = ap (λ (m : ℕ). change_step (facts_of images) (pass_step k pid m) pid regs e (Exec number top)) i
 back_is images k pid n regs e (End status) gb i = ap (λ (m : ℕ). change_step (facts_of images) (pass_step k pid m) pid regs e (End status)) i
 back_is images k pid n regs e _ gb i = absurd gb
@@ -376,7 +376,7 @@ back_stood : (size : ℕ) (images : List NamedImage) (k : Kernel) (before : Hold
     (q m : Process) (s : Space) (change : Change)
     → GivesBack change → IsLender flat pid s.sid m
     → Prepared size images k before image flat → Names size images k before flat pid change → Acts k flat pid q s → HaveParts k.place.transfers
-    → Stood size images image (apply_change images flat pid regs change) (back_step (facts_of images) k pid regs e change)
+    → Stood size images image (apply_change images flat pid regs change) (passing_change true (facts_of images) k pid regs e change)
 back_stood size images k before image flat pid regs e q m s change gb is x n a parts =
     let c : Coupled k images image flat = x.coupled in
     let t : SameTables k flat = c.tables in
