@@ -22,7 +22,6 @@ use Rattle.page_model.specs.Pages.{numbered}
 use Rattle.page_model.specs.Placement.{slots_of, sharers}
 use Rattle.page_model.specs.Place.{data_count, stack_count}
 use Rattle.page_model.specs.Ownership.{OwnsBlocks, OneOwner, text_pieces_while, u_blocks}
-use Rattle.flat_state.specs.Journal.{append}
 use Rattle.kernel_model.specs.Kernel.{Kernel, Proc}
 use Rattle.kernel_model.specs.Sound.{Sound, lives}
 use Rattle.kernel_model.specs.ChangeStep.{changing_of, change_if, change_step}

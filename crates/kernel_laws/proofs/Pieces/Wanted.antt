@@ -24,7 +24,6 @@ use Rattle.page_model.specs.Moves.{drop_at, drop_page, drop_all}
 use Rattle.page_model.specs.Place.{Changing, data_count, stack_count, sized, child_slot, resize, fork_space, enter_space, enter_image, give_up, give_up_unless, place_change, facts_numbered}
 use Rattle.page_model.specs.Conditions.{IsNew, CanChange}
 use Rattle.page_model.specs.Ownership.{text_pieces_while, u_blocks}
-use Rattle.flat_state.specs.Journal.{append}
 use Rattle.kernel_model.specs.Kernel.{Kernel, Proc, Life, New, HoldsSpace}
 use Rattle.kernel_model.specs.Sound.{has_life, lives, lives_in}
 use Rattle.kernel_model.specs.ChangeStep.{changing_of, with_proc, without_proc, child_proc, is_ended, orphaned_procs, left_procs, procs_after, space_of_life, life_of_proc, gave_back, change_by, change_if, change_step}
