@@ -72,26 +72,35 @@ proc_of k pid = numbered (λ (p : Proc). p.pid) pid k.processes
 
 -- Units.
 
--- What the kernel does at once: it fills a page, with zeros or with what is kept for it, or with its parent's bytes;
--- begins a read of pages; takes a page back that is on the free list; moves the hands once, with these pages locked;
--- begins a write, or frees a clean page; completes the oldest transfer, of a read with what was read; writes a byte that
--- a process writes into its page's frame; notes an entry; ends an instruction; finds pieces of swap, with which the
--- holdings are these; ends a process's step with its change, which takes the pieces that were found; and puts a process
--- out, or brings it in.
+-- What the kernel does at once.
 pub data KernelUnit : Type 0 where
+  -- a page is filled with zeros, or with what is kept for it
   ZeroUnit : Page → KernelUnit
+  -- a page is filled with its parent's bytes
   CopyUnit : Page → KernelUnit
+  -- a read begins of a page with its run: the number of the run's first page, and how many pages it has
   GetUnit : Page → ℕ → ℕ → KernelUnit
+  -- a page is taken back that is on the free list
   ReclaimUnit : Page → KernelUnit
+  -- the hands move once, with these pages locked
   HandsUnit : List Page → KernelUnit
+  -- a write begins of so many pages from this one on, or the frame of a clean page is freed
   PutUnit : Page → ℕ → KernelUnit
+  -- the oldest transfer is complete, of a read with these bytes of each page
   DoneUnit : List (List ℕ) → KernelUnit
+  -- a process writes a byte: into this page's frame, at this place in it
   WriteUnit : ℕ → ByteWrite → Page → ℕ → ℕ → KernelUnit
+  -- an entry is noted
   NoteUnit : Entry → KernelUnit
+  -- an instruction of a process ends, with these registers
   RanUnit : ℕ → Regs → Entry → KernelUnit
+  -- pieces of swap are found, with which the holdings are these
   FindUnit : Holdings → KernelUnit
+  -- a process's step ends with its change, which takes the pieces that were found
   ChangeUnit : ℕ → Regs → Entry → Change → KernelUnit
+  -- a process is put out
   OutUnit : ℕ → KernelUnit
+  -- a process is brought in
   InUnit : ℕ → KernelUnit
 
 -- the unit of a paging entry, with the pages that are locked and what is read for the oldest transfer; the hands move
