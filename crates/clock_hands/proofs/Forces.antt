@@ -1,5 +1,5 @@
 -- Forcing a frame, unit by unit.
-use Rattle.std.proofs.Common.{◌≡◌, ℕ, ◌+◌, ◌<◌, ◌≤◌, ◌^◌, false, List, [], ◌∷◌, length, Option, refl, sym, ap, ◌∙◌, subst, arith}
+use Rattle.std.proofs.Common.{◌≡◌, ℕ, ◌+◌, ◌<◌, ◌≤◌, ◌^◌, false, List, [], ◌∷◌, length, Option, Some, refl, sym, ap, ◌∙◌, subst, arith}
 use Rattle.vm_facts.specs.declared.page.Page.{Page}
 use Rattle.vm_facts.specs.declared.entry.Entry.{Entry}
 use Rattle.vm_facts.specs.declared.stop.Stop.{Stop}
@@ -25,8 +25,9 @@ use Rattle.paging_units.specs.LastMoves.{last_moves}
 use Rattle.paging_units.specs.Stops.{StopsAt}
 use Rattle.paging_units.proofs.Units.{unit_journal, forced_place, made_journal, makes_none, makes_first, makes_on}
 use Rattle.paging_units.proofs.LastMoves.{last_done, last_more}
-use Rattle.clock_hands.specs.Forced.{Forced, StopsForcing}
-use Rattle.clock_hands.proofs.Units.{made_on, keeps_on}
+use Rattle.paging_units.proofs.Stopping.{stops_at_first, stops_after_unit}
+use Rattle.clock_hands.specs.Forced.{Forced, StillForcing, StopsForcing}
+use Rattle.clock_hands.proofs.Units.{keeps_on}
 
 pub none_free : (free : List ℕ) → length free ≤ 0 → free ≡ []
 none_free [] l = refl
@@ -126,23 +127,21 @@ pub stops_here : (locked : List Page) (old : Standing) (stop : Stop) (new : Stan
     → old.kernel.place.free ≡ [] → new.params ≡ old.params → new.images ≡ old.images
     → StopsAt (force_entry old.kernel.place.transfers) old.kernel i stop new j → StopsForcing locked old stop new holds i j
 stops_here locked old stop new holds i j n a b s =
-    record { units = []; at = old.kernel; image = i; forces = refl; made = (refl, refl); none = n; stops = s; params = a; images = b }
+    stops_at_first (ground old holds locked) (StillForcing locked old.kernel.place) (λ p. Some (force_entry p.transfers)) old new i j stop
+    (record { forces = refl; none = n }) (record { entry = force_entry old.kernel.place.transfers; next = refl; stops = s; params = a; images = b })
 
 pub stops_first : (locked : List Page) (old next : Standing) (stop : Stop) (new : Standing) (holds later : Option (List NamedFile)) (i h j : Option (List ℕ))
     → later ≡ holds → old.kernel.place.free ≡ []
     → MakesUnit (ground old holds locked) (force_entry old.kernel.place.transfers) old next i h → StopsForcing locked next stop new later h j
     → StopsForcing locked old stop new holds i j
-stops_first locked old next stop new holds later i h j e n m f = record {
-  units = force_entry old.kernel.place.transfers ∷ f.units;
-  at = f.at;
-  image = f.image;
-  forces = (n, refl, subst (λ (p : Placement). Forces f.units p locked f.at.place) (forced_place (ground old holds locked) old.kernel next.kernel i m.made) f.forces);
-  made = record { next = next.kernel; image = h; made = m.made; told = m.told; rest = made_on f.units old next holds later locked next.kernel f.at h f.image e m.beside f.made };
-  none = f.none;
-  stops = f.stops;
-  params = f.params ∙ m.beside.params;
-  images = f.images ∙ m.beside.images;
-}
+stops_first locked old next stop new holds later i h j e n m f =
+    stops_after_unit (StillForcing locked old.kernel.place) (StillForcing locked next.kernel.place) (λ p. Some (force_entry p.transfers))
+    (force_entry old.kernel.place.transfers) old next new holds later locked i h j stop e m
+    (λ us k s. record {
+      forces = (n, refl, subst (λ (p : Placement). Forces us p locked k.place) (forced_place (ground old holds locked) old.kernel next.kernel i m.made) s.forces);
+      none = s.none;
+    })
+    f
 
 -- The whole.
 
@@ -166,8 +165,8 @@ pub stopped_few : (locked : List Page) (old : Standing) (stop : Stop) (new : Sta
     → OwnsFrames old.kernel.place → StopsForcing locked old stop new holds i j
     → length new.kernel.journal ≤ length old.kernel.journal + length old.kernel.place.transfers + 2
 stopped_few locked old stop new holds i j o f =
-    let few = few_units old.kernel.place f.at.place locked old.kernel.journal f.units o f.forces in
-    let same = ap (λ (js : List Entry). length js) (f.stops.journal ∙ made_journal (ground old holds locked) f.units old.kernel f.at i f.image f.made) in
+    let few = few_units old.kernel.place f.at.place locked old.kernel.journal f.units o f.leads.forces in
+    let same = ap (λ (js : List Entry). length js) (f.there.stops.journal ∙ made_journal (ground old holds locked) f.units old.kernel f.at i f.image f.made) in
     omega arith
 
 pub forced_flights : (locked : List Page) (old new : Standing) (holds : Option (List NamedFile)) (i j : Option (List ℕ)) → OwnsFrames old.kernel.place

@@ -27,8 +27,9 @@ use Rattle.paging_units.specs.LastMoves.{last_moves}
 use Rattle.paging_units.specs.Stops.{StopsAt}
 use Rattle.paging_units.proofs.Units.{unit_place, unit_journal, makes_none, makes_first, makes_on}
 use Rattle.paging_units.proofs.LastMoves.{last_done, last_more}
-use Rattle.clock_hands.specs.Moved.{Moves, IsMoveOf, Moved, StopsMoving}
-use Rattle.clock_hands.proofs.Units.{made_on, keeps_on}
+use Rattle.paging_units.proofs.Stopping.{stops_at_first, stops_after_unit}
+use Rattle.clock_hands.specs.Moved.{Moves, IsMoveOf, Moved, StillMoving, StopsMoving}
+use Rattle.clock_hands.proofs.Units.{keeps_on}
 
 -- the hands move where no write begins, or where there is room for it
 
@@ -113,38 +114,33 @@ module _ (n : ℕ) (old next new : Standing) (holds later : Option (List NamedFi
   }
 
   pub stops_by_move : (stop : Stop) → IsMoveOf (move_unit old.kernel.place []) true → StopsMoving (n - 1) next stop new later h j → StopsMoving n old stop new holds i j
-  stops_by_move stop k f = record {
-    units = move_unit old.kernel.place [] ∷ f.units;
-    at = f.at;
-    image = f.image;
-    moves = moves_first e true n (n - 1) f.units old next f.at.place holds i h k refl (less k) some wants m f.moves;
-    made = record { next = next.kernel; image = h; made = m.made; told = m.told; rest = made_on f.units old next holds later [] next.kernel f.at h f.image same_files m.beside f.made };
-    left = (let a = one k in let b = f.left in omega arith);
-    wants = f.wants;
-    stops = f.stops;
-    params = f.params ∙ m.beside.params;
-    images = f.images ∙ m.beside.images;
-  }
+  stops_by_move stop k f =
+      stops_after_unit (StillMoving n old.kernel.place) (StillMoving (n - 1) next.kernel.place) (λ p. Some (move_unit p []))
+      (move_unit old.kernel.place []) old next new holds later [] i h j stop same_files m
+      (λ us l s. record {
+        moves = moves_first e true n (n - 1) us old next l.place holds i h k refl (less k) some wants m s.moves;
+        left = (let a = one k in let b = s.left in omega arith);
+        wants = s.wants;
+      })
+      f
 
   pub stops_by_done : (stop : Stop) → IsMoveOf (move_unit old.kernel.place []) false → StopsMoving n next stop new later h j → StopsMoving n old stop new holds i j
-  stops_by_done stop k f = record {
-    units = move_unit old.kernel.place [] ∷ f.units;
-    at = f.at;
-    image = f.image;
-    moves = moves_first e false n n f.units old next f.at.place holds i h k refl (same k) some wants m f.moves;
-    made = record { next = next.kernel; image = h; made = m.made; told = m.told; rest = made_on f.units old next holds later [] next.kernel f.at h f.image same_files m.beside f.made };
-    left = (let a = none k in let b = f.left in omega arith);
-    wants = f.wants;
-    stops = f.stops;
-    params = f.params ∙ m.beside.params;
-    images = f.images ∙ m.beside.images;
-  }
+  stops_by_done stop k f =
+      stops_after_unit (StillMoving n old.kernel.place) (StillMoving n next.kernel.place) (λ p. Some (move_unit p []))
+      (move_unit old.kernel.place []) old next new holds later [] i h j stop same_files m
+      (λ us l s. record {
+        moves = moves_first e false n n us old next l.place holds i h k refl (same k) some wants m s.moves;
+        left = (let a = none k in let b = s.left in omega arith);
+        wants = s.wants;
+      })
+      f
 
 pub stops_moving : (n : ℕ) (old : Standing) (stop : Stop) (new : Standing) (holds : Option (List NamedFile)) (i j : Option (List ℕ)) → 0 < n
     → wants_moves old.kernel.place ≡ true → new.params ≡ old.params → new.images ≡ old.images
     → StopsAt (move_unit old.kernel.place []) old.kernel i stop new j → StopsMoving n old stop new holds i j
 stops_moving n old stop new holds i j l w a b s =
-    record { units = []; at = old.kernel; image = i; moves = refl; made = (refl, refl); left = l; wants = w; stops = s; params = a; images = b }
+    stops_at_first (ground old holds []) (StillMoving n old.kernel.place) (λ p. Some (move_unit p [])) old new i j stop
+    (record { moves = refl; left = l; wants = w }) (record { entry = move_unit old.kernel.place []; next = refl; stops = s; params = a; images = b })
 
 -- What a unit leaves for the next.
 

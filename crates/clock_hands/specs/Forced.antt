@@ -1,15 +1,16 @@
 -- A frame that is forced.
-use Rattle.std.specs.Prelude.{◌≡◌, ℕ, ◌<◌, ◌≤◌, List, [], length, Option}
+use Rattle.std.specs.Prelude.{◌≡◌, ℕ, ◌<◌, ◌≤◌, List, [], length, Option, Some}
 use Rattle.vm_facts.specs.declared.page.Page.{Page}
 use Rattle.vm_facts.specs.declared.entry.Entry.{Entry}
 use Rattle.vm_facts.specs.declared.stop.Stop.{Stop}
 use Rattle.io_edge.specs.FileHolding.{NamedFile}
+use Rattle.page_model.specs.Placement.{Placement}
 use Rattle.page_model.specs.Serve.{Forces, force_entry}
 use Rattle.span_laws.specs.Spans.{moves_of}
 use Rattle.kernel_model.specs.Kernel.{Kernel}
 use Rattle.machine_state.specs.Machine.{Standing}
-use Rattle.paging_units.specs.Made.{ground, Made, Makes}
-use Rattle.paging_units.specs.Stops.{StopsAt}
+use Rattle.paging_units.specs.Made.{ground, Makes}
+use Rattle.paging_units.specs.Stops.{StopsAmong}
 
 -- The call makes the units that force a frame, each where none is free, and a frame is free at the end. The swap images,
 -- where they are told, are those before and after it, and the files those that it reads from.
@@ -21,16 +22,12 @@ pub record Forced (locked : List Page) (old new : Standing) (holds : Option (Lis
   -- the hands go round at most once
   pub moves : moves_of units ≤ length old.kernel.place.holds
 
--- The call stops: these units force a frame and lead to a kernel in which none is free; there it stops at the unit that
--- comes next.
-pub record StopsForcing (locked : List Page) (old : Standing) (stop : Stop) (new : Standing) (holds : Option (List NamedFile))
-    (i j : Option (List ℕ)) : Type 0 where
-  pub units : List Entry
-  pub at : Kernel
-  pub image : Option (List ℕ)
-  pub forces : Forces units old.kernel.place locked at.place
-  pub made : Made (ground old holds locked) units old.kernel i at image
-  pub none : at.place.free ≡ []
-  pub stops : StopsAt (force_entry at.place.transfers) at image stop new j
-  pub params : new.params ≡ old.params
-  pub images : new.images ≡ old.images
+-- these units force a frame, and none is free yet in the kernel to which they lead
+pub record StillForcing (locked : List Page) (p : Placement) (us : List Entry) (k : Kernel) : Type 0 where
+  pub forces : Forces us p locked k.place
+  pub none : k.place.free ≡ []
+
+-- the call stops while it forces a frame
+abbrev pub StopsForcing : List Page → Standing → Stop → Standing → Option (List NamedFile) → Option (List ℕ) → Option (List ℕ) → Type 0
+StopsForcing locked old stop new holds i j =
+    StopsAmong (ground old holds locked) (StillForcing locked old.kernel.place) (λ p. Some (force_entry p.transfers)) old new i j stop

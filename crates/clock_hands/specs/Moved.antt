@@ -1,5 +1,5 @@
 -- Moves of the hands, as a line of the schedule asks for them.
-use Rattle.std.specs.Prelude.{◌≡◌, ℕ, ◌-◌, ◌<◌, ◌≤◌, Bool, true, false, List, [], ◌∷◌, Option}
+use Rattle.std.specs.Prelude.{◌≡◌, ℕ, ◌-◌, ◌<◌, ◌≤◌, Bool, true, false, List, [], ◌∷◌, Option, Some}
 use Rattle.vm_facts.specs.declared.entry.Entry.{Entry}
 use Rattle.vm_facts.specs.declared.entry.Entry.TheVariants as entries
 use Rattle.vm_facts.specs.declared.stop.Stop.{Stop}
@@ -11,8 +11,8 @@ use Rattle.kernel_model.specs.Kernel.{Kernel}
 use Rattle.machine_state.specs.Machine.{Standing}
 use Rattle.span_laws.specs.Spans.{moves, moves_of}
 use Rattle.run_model.specs.Next.{move_unit}
-use Rattle.paging_units.specs.Made.{ground, Made, Makes}
-use Rattle.paging_units.specs.Stops.{StopsAt}
+use Rattle.paging_units.specs.Made.{ground, Makes}
+use Rattle.paging_units.specs.Stops.{StopsAmong}
 
 -- Of so many moves that are asked for, these units are made: while some are left and fewer than a quarter of the frames
 -- are free, the unit that the policy names for a move; the end of a transfer counts for no move.
@@ -35,16 +35,13 @@ pub record Moved (n : ℕ) (old new : Standing) (made : ℕ) (holds : Option (Li
   pub most : made ≤ n
   pub fewer : made < n → wants_moves new.kernel.place ≡ false
 
--- The call stops: these units are made, and some move is left and wanted in the kernel to which they lead; there it stops at
--- the unit that comes next.
-pub record StopsMoving (n : ℕ) (old : Standing) (stop : Stop) (new : Standing) (holds : Option (List NamedFile)) (i j : Option (List ℕ)) : Type 0 where
-  pub units : List Entry
-  pub at : Kernel
-  pub image : Option (List ℕ)
-  pub moves : Moves units n old.kernel.place at.place
-  pub made : Made (ground old holds []) units old.kernel i at image
-  pub left : moves_of units < n
-  pub wants : wants_moves at.place ≡ true
-  pub stops : StopsAt (move_unit at.place []) at image stop new j
-  pub params : new.params ≡ old.params
-  pub images : new.images ≡ old.images
+-- of so many moves these units are made, and some move is left and wanted in the kernel to which they lead
+pub record StillMoving (n : ℕ) (p : Placement) (us : List Entry) (k : Kernel) : Type 0 where
+  pub moves : Moves us n p k.place
+  pub left : moves_of us < n
+  pub wants : wants_moves k.place ≡ true
+
+-- the call stops while it moves the hands
+abbrev pub StopsMoving : ℕ → Standing → Stop → Standing → Option (List NamedFile) → Option (List ℕ) → Option (List ℕ) → Type 0
+StopsMoving n old stop new holds i j =
+    StopsAmong (ground old holds []) (StillMoving n old.kernel.place) (λ p. Some (move_unit p [])) old new i j stop

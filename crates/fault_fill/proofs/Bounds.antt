@@ -71,11 +71,11 @@ pub stops_short : (now : Bool) (locked : List Page) (q : Page) (old new : Standi
     → IsThere old.kernel.place q → StopsServing now locked q old new holds i j stop
     → length new.kernel.journal ≤ length old.kernel.journal + length old.kernel.place.transfers + 5
 stops_short now locked q old new holds i j stop o there s =
-    let k : short.Served false s.units s.kernel.place q (length old.kernel.place.transfers + 5) 0 (length old.kernel.place.transfers) 1 (length s.units) =
-    served_short false s.units old.kernel.place s.kernel.place locked q now o there s.leads in
+    let k : short.Served false s.units s.at.place q (length old.kernel.place.transfers + 5) 0 (length old.kernel.place.transfers) 1 (length s.units) =
+    served_short false s.units old.kernel.place s.at.place locked q now o there s.leads in
     let a = units_added_false old.kernel.journal s.units in
-    let b = ap (λ (es : List Entry). length es) (made_journal (ground old holds locked) s.units old.kernel s.kernel i s.image s.made) in
-    let c = ap (λ (es : List Entry). length es) s.at.journal in
+    let b = ap (λ (es : List Entry). length es) (made_journal (ground old holds locked) s.units old.kernel s.at i s.image s.made) in
+    let c = ap (λ (es : List Entry). length es) s.there.stops.journal in
     let f = k.few in
     omega arith
 

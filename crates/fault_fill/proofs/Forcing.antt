@@ -6,7 +6,7 @@ use Rattle.vm_facts.specs.declared.entry.Entry.{Entry}
 use Rattle.io_edge.specs.FileHolding.{NamedFile}
 use Rattle.page_model.specs.Pages.{frame_of}
 use Rattle.page_model.specs.Placement.{Placement, state_of}
-use Rattle.page_model.specs.Serve.{force, force_entry, Forces}
+use Rattle.page_model.specs.Serve.{force, Forces}
 use Rattle.page_model.specs.Ownership.{OwnsFrames}
 use Rattle.page_laws.proofs.Moves.Stays.{Stays, force_stays}
 use Rattle.page_laws.proofs.Ownership.Serve.{force_owner}
@@ -60,15 +60,17 @@ pub room_stops : (locked : List Page) (q : Page) (old next new : Standing) (hold
     → StopsServing true locked q old new holds i j stop
 room_stops locked q old next new holds later i h j stop came is made e o f = record {
   units = d.units;
-  kernel = d.at;
+  at = d.at;
   image = d.image;
-  leads = forces_serve d.units old.kernel.place d.at.place locked q o n.1.frameless d.forces;
+  leads = forces_serve d.units old.kernel.place d.at.place locked q o n.1.frameless d.leads.forces;
   made = d.made;
-  entry = force_entry d.at.place.transfers;
-  next = unit_forces d.at.place q (still_frameless d.units old.kernel.place d.at.place locked q o n.1.frameless d.forces) d.none;
-  at = d.stops;
-  params = d.params;
-  images = d.images;
+  there = record {
+    entry = d.there.entry;
+    next = unit_forces d.at.place q (still_frameless d.units old.kernel.place d.at.place locked q o n.1.frameless d.leads.forces) d.leads.none ∙ d.there.next;
+    stops = d.there.stops;
+    params = d.there.params;
+    images = d.there.images;
+  };
 }
   where
     n : NoneMade old next i h × NeedsFrame old.kernel.place q

@@ -13,7 +13,7 @@ use Rattle.page_model.specs.Placement.{Placement, Transfer, state_of}
 use Rattle.page_laws.proofs.Moves.Units.{unit_is}
 use Rattle.clock_hands.specs.LastMoves.{last_moves}
 use Rattle.clock_hands.proofs.LastMoves.{last_done}
-use Rattle.page_model.specs.Serve.{serve_unit}
+use Rattle.page_model.specs.Serve.{serve_unit, Serves}
 use Rattle.page_model.specs.Ownership.{OwnsFrames}
 use Rattle.kernel_model.specs.Kernel.{Kernel}
 use Rattle.machine_state.specs.Machine.{Standing}
@@ -23,7 +23,7 @@ use Rattle.machine_state.specs.Conditions.{HasStopped, KeepsFlat}
 use Rattle.machine_state.specs.Settled.{IsSameBeside}
 use Rattle.clock_hands.specs.Made.{Ground, ground, MadeBy, ImageBy}
 use Rattle.clock_hands.specs.Stops.{CauseBy, SpoilsBy}
-use Rattle.clock_hands.proofs.Stopping.{held_here}
+use Rattle.clock_hands.proofs.Stopping.{held_here, next_later, stops_at_first}
 use Rattle.clock_hands.proofs.PagingUnitsUnits.{served_place, unit_journal, made_append, made_one, makes_both, makes_on}
 use Rattle.clock_hands.proofs.Keeping.{made_shaped, keeps_flat, keeps_both}
 use Rattle.clock_hands.proofs.Units.{made_on}
@@ -91,7 +91,7 @@ pub plain_stops : {A : Type 0} (q : Page) (e : Entry) (old new : Standing) (stop
 plain_stops {A} q e old new stop next causes spoils plain has whole cause full = λ image now. record {
   entry = e;
   next = next now;
-  at = record {
+  stops = record {
     journal = has.journal;
     held = held_here stop old new has whole (cause_same {A = A} stop cause) (λ h. full.0 (ap (λ (t : Stop). let r : Result A Stop = Err t in r) h));
     full = full_same {A = A} stop new old (length (append old.kernel.journal e)) has.params (plain_longer old.kernel.journal e plain) full;
@@ -137,7 +137,7 @@ end_unit now locked q old new holds before after next m = record { entry = entri
 
 pub end_stops : (now : Bool) (q : Page) (old new : Standing) (before after : Option (List ℕ)) (stop : Stop)
     → serve_unit old.kernel.place q now ≡ Some entries.Done → EndStops old new before after stop → UnitStops now q old new before after stop
-end_stops now q old new before after stop next m = record { entry = entries.Done; next = next; at = m.at; params = m.params; images = m.images }
+end_stops now q old new before after stop next m = record { entry = entries.Done; next = next; stops = m.at; params = m.params; images = m.images }
 
 -- What goes on.
 
@@ -172,18 +172,8 @@ both_serve now locked q old next new holds later a b c e s t = record {
 pub stops_here : (now : Bool) (locked : List Page) (q : Page) (old new : Standing) (holds : Option (List NamedFile))
     (before after : Option (List ℕ)) (stop : Stop)
     → UnitStops now q old new before after stop → StopsServing now locked q old new holds before after stop
-stops_here now locked q old new holds before after stop u = record {
-  units = [];
-  kernel = old.kernel;
-  image = before;
-  leads = refl;
-  made = (refl, refl);
-  entry = u.entry;
-  next = u.next;
-  at = u.at;
-  params = u.params;
-  images = u.images;
-}
+stops_here now locked q old new holds before after stop u =
+    stops_at_first (ground old holds locked) (λ us k. Serves us old.kernel.place locked q now k.place) (λ p. serve_unit p q now) old new before after stop refl u
 
 pub stops_later : (now : Bool) (locked : List Page) (q : Page) (old next new : Standing) (holds later : Option (List NamedFile))
     (a b c : Option (List ℕ)) (stop : Stop)
@@ -191,16 +181,12 @@ pub stops_later : (now : Bool) (locked : List Page) (q : Page) (old next new : S
     → ServesTo now locked q old next holds a b → StopsServing now locked q next new later b c stop → StopsServing now locked q old new holds a c stop
 stops_later now locked q old next new holds later a b c stop e s t = record {
   units = s.units ++ t.units;
-  kernel = t.kernel;
-  image = t.image;
-  leads = serves_append s.units t.units old.kernel.place next.kernel.place t.kernel.place locked q now s.leads t.leads;
-  made = made_append (ground old holds locked) s.units t.units old.kernel next.kernel t.kernel a b t.image s.makes.made
-      (made_on t.units old next holds later locked next.kernel t.kernel b t.image e s.makes.beside t.made);
-  entry = t.entry;
-  next = t.next;
   at = t.at;
-  params = t.params ∙ s.makes.beside.params;
-  images = t.images ∙ s.makes.beside.images;
+  image = t.image;
+  leads = serves_append s.units t.units old.kernel.place next.kernel.place t.at.place locked q now s.leads t.leads;
+  made = made_append (ground old holds locked) s.units t.units old.kernel next.kernel t.at a b t.image s.makes.made
+      (made_on t.units old next holds later locked next.kernel t.at b t.image e s.makes.beside t.made);
+  there = next_later (serve_unit t.at.place q now) t.at old next new t.image c stop s.makes.beside t.there;
 }
 
 -- After a unit.

@@ -8,13 +8,12 @@ use Rattle.page_model.specs.Placement.{Placement, IsThere, state_of, filling_of}
 use Rattle.page_model.specs.Conditions.{IsShared}
 use Rattle.page_model.specs.Dues.{NotDue}
 use Rattle.page_model.specs.Serve.{serve_unit, Serves}
-use Rattle.kernel_model.specs.Kernel.{Kernel}
 use Rattle.machine_state.specs.Machine.{Standing}
 use Rattle.machine_state.specs.PlaceOf.{is_blank}
 use Rattle.machine_state.specs.Done.{KeepsThrough}
 use Rattle.machine_state.specs.Settled.{IsSameBeside}
-use Rattle.clock_hands.specs.Made.{ground, MadeBy, ImageBy, Made, Makes}
-use Rattle.clock_hands.specs.Stops.{StopsAt}
+use Rattle.clock_hands.specs.Made.{ground, MadeBy, ImageBy, Makes}
+use Rattle.clock_hands.specs.Stops.{StopsAtNext, StopsAmong}
 
 -- A page that is there, of text that a space shares where it is text, and not due. Another page may be due, unless this
 -- one has to be filled with zeros.
@@ -35,12 +34,8 @@ pub record UnitMade (now : Bool) (locked : List Page) (q : Page) (old new : Stan
   pub keeps : KeepsThrough old new holds before after
 
 -- the run stopped where that unit comes next
-pub record UnitStops (now : Bool) (q : Page) (old new : Standing) (before after : Option (List ℕ)) (stop : Stop) : Type 0 where
-  pub entry : Entry
-  pub next : serve_unit old.kernel.place q now ≡ Some entry
-  pub at : StopsAt entry old.kernel before stop new after
-  pub params : new.params ≡ old.params
-  pub images : new.images ≡ old.images
+abbrev pub UnitStops : Bool → Page → Standing → Standing → Option (List ℕ) → Option (List ℕ) → Stop → Type 0
+UnitStops now q old new before after stop = StopsAtNext (serve_unit old.kernel.place q now) old.kernel old new before after stop
 
 -- Units of serving the page, one after another, lead from the one machine and swap image to the other, and the flat states
 -- for which the machine stood stay so.
@@ -51,16 +46,7 @@ pub record ServesTo (now : Bool) (locked : List Page) (q : Page) (old new : Stan
   pub makes : Makes (ground old holds locked) units old new before after
   pub keeps : KeepsThrough old new holds before after
 
--- Units of serving the page lead to a kernel and a swap image, and there the run stopped where the next one comes.
-pub record StopsServing (now : Bool) (locked : List Page) (q : Page) (old new : Standing) (holds : Option (List NamedFile)) (before after : Option (List ℕ))
-    (stop : Stop) : Type 0 where
-  pub units : List Entry
-  pub kernel : Kernel
-  pub image : Option (List ℕ)
-  pub leads : Serves units old.kernel.place locked q now kernel.place
-  pub made : Made (ground old holds locked) units old.kernel before kernel image
-  pub entry : Entry
-  pub next : serve_unit kernel.place q now ≡ Some entry
-  pub at : StopsAt entry kernel image stop new after
-  pub params : new.params ≡ old.params
-  pub images : new.images ≡ old.images
+-- units of serving the page were made, and the run stopped where the next one comes
+abbrev pub StopsServing : Bool → List Page → Page → Standing → Standing → Option (List NamedFile) → Option (List ℕ) → Option (List ℕ) → Stop → Type 0
+StopsServing now locked q old new holds before after stop =
+    StopsAmong (ground old holds locked) (λ us k. Serves us old.kernel.place locked q now k.place) (λ p. serve_unit p q now) old new before after stop

@@ -1,14 +1,16 @@
 -- A call that stops at a unit.
 use Rattle.std.proofs.Common.{◌≡◌, ◌⊎◌, ◌↔◌, inl, inr, ℕ, ◌<◌, ◌≤◌, Bool, List, [], ◌∷◌, length, map, Option, Some, None, Result, Ok, Err, OnErr, IfErr, refl, sym, ap, ◌∙◌, subst, arith}
 use Rattle.std.proofs.lemmas.List.{length-append}
+use Rattle.vm_facts.specs.declared.page.Page.{Page}
 use Rattle.vm_facts.specs.declared.entry.Entry.{Entry}
 use Rattle.vm_facts.specs.declared.entry.Entry.TheVariants as entries
 use Rattle.vm_facts.specs.declared.params.Params.{Params}
 use Rattle.vm_facts.specs.declared.stop.Stop.{Stop}
 use Rattle.vm_facts.specs.declared.stop.Stop.TheVariants as stops
+use Rattle.io_edge.specs.FileHolding.{NamedFile}
 use Rattle.flat_state.specs.Journal.{append, IsPlain}
 use Rattle.flat_state.proofs.Joins.{append_plain}
-use Rattle.page_model.specs.Placement.{Transfer, Source, FromSwap, FromFile}
+use Rattle.page_model.specs.Placement.{Placement, Transfer, Source, FromSwap, FromFile}
 use Rattle.page_model.specs.Holdings.{Holdings}
 use Rattle.kernel_model.specs.Kernel.{Kernel}
 use Rattle.kernel_model.specs.Coupled.{outline_kept}
@@ -16,7 +18,10 @@ use Rattle.machine_state.specs.Machine.{Standing}
 use Rattle.machine_state.specs.Conditions.{HasStopped}
 use Rattle.machine_state.specs.Failing.{HasLostOldest, LosesFor, HasFailed, FailsFor}
 use Rattle.machine_state.specs.Done.{ImageAfter, StopsFor, SwapAfter, OldestReadsFrom, OldestWrites}
-use Rattle.paging_units.specs.Stops.{CauseBy, SpoilsBy, StopsAt, StaysPut, StaysStarved, StopsPut, StopsLess, LeftBy}
+use Rattle.machine_state.specs.Settled.{IsSameBeside}
+use Rattle.paging_units.specs.Made.{Ground, ground, Made, MakesUnit}
+use Rattle.paging_units.specs.Stops.{CauseBy, SpoilsBy, StopsAt, StopsAtNext, StopsAmong, StaysPut, StaysStarved, StopsPut, StopsLess, LeftBy}
+use Rattle.paging_units.proofs.Units.{same_ground}
 
 -- an entry that is never joined makes the journal longer
 pub plain_longer : (journal : List Entry) (e : Entry) → IsPlain e → length journal < length (append journal e)
@@ -160,6 +165,44 @@ done_stops stop old new i j s c full lost image w = record {
   );
   cause = c;
   image = image;
+}
+
+-- a stop where some unit comes next, after a part of the call that left its sizes and images
+pub next_later : (coming : Option Entry) (k : Kernel) (old between new : Standing) (i j : Option (List ℕ)) (stop : Stop) → IsSameBeside old between
+    → StopsAtNext coming k between new i j stop → StopsAtNext coming k old new i j stop
+next_later coming k old between new i j stop b s = record {
+  entry = s.entry;
+  next = s.next;
+  stops = s.stops;
+  params = s.params ∙ b.params;
+  images = s.images ∙ b.images;
+}
+
+-- a call that stops where its first unit comes next
+pub stops_at_first : (g : Ground) (Leads : List Entry → Kernel → Type 0) (next_at : Placement → Option Entry) (old new : Standing)
+    (i j : Option (List ℕ)) (stop : Stop)
+    → Leads [] old.kernel → StopsAtNext (next_at old.kernel.place) old.kernel old new i j stop → StopsAmong g Leads next_at old new i j stop
+stops_at_first g Leads next_at old new i j stop leads there =
+    record { units = []; at = old.kernel; image = i; made = (refl, refl); leads = leads; there = there }
+
+-- a unit, and then a call that stops on its way
+pub stops_after_unit : (Leads Later : List Entry → Kernel → Type 0) (next_at : Placement → Option Entry) (e : Entry) (old between new : Standing)
+    (holds later : Option (List NamedFile)) (locked : List Page) (i h j : Option (List ℕ)) (stop : Stop) → later ≡ holds
+    → MakesUnit (ground old holds locked) e old between i h → ((us : List Entry) (k : Kernel) → Later us k → Leads (e ∷ us) k)
+    → StopsAmong (ground between later locked) Later next_at between new h j stop → StopsAmong (ground old holds locked) Leads next_at old new i j stop
+stops_after_unit Leads Later next_at e old between new holds later locked i h j stop same m on f = record {
+  units = e ∷ f.units;
+  at = f.at;
+  image = f.image;
+  made = record {
+    next = between.kernel;
+    image = h;
+    made = m.made;
+    told = m.told;
+    rest = subst (λ (g : Ground). Made g f.units between.kernel h f.at f.image) (same_ground old between holds later locked same m.beside) f.made;
+  };
+  leads = on f.units f.at f.leads;
+  there = next_later (next_at f.at.place) f.at old between new f.image j stop m.beside f.there;
 }
 
 -- where no transfer is in flight the end of none leaves the image

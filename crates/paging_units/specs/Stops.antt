@@ -1,11 +1,11 @@
 -- What is known of a call that stops where a unit comes next.
-use Rattle.std.specs.Prelude.{◌≡◌, ◌⊎◌, ◌↔◌, ℕ, ◌<◌, ◌≤◌, List, length, map, Bool, true, Option, Result, Err}
+use Rattle.std.specs.Prelude.{◌≡◌, ◌⊎◌, ◌↔◌, ℕ, ◌<◌, ◌≤◌, List, length, map, Bool, true, Option, Some, Result, Err}
 use Rattle.vm_facts.specs.declared.entry.Entry.{Entry}
 use Rattle.vm_facts.specs.declared.entry.Entry.TheVariants as entries
 use Rattle.vm_facts.specs.declared.stop.Stop.{Stop}
 use Rattle.vm_facts.specs.declared.stop.Stop.TheVariants as stops
 use Rattle.flat_state.specs.Journal.{append}
-use Rattle.page_model.specs.Placement.{Transfer}
+use Rattle.page_model.specs.Placement.{Placement, Transfer}
 use Rattle.kernel_model.specs.Kernel.{Kernel}
 use Rattle.kernel_model.specs.Coupled.{outline_kept}
 use Rattle.kernel_model.specs.ChangeStep.{pass_step}
@@ -14,6 +14,7 @@ use Rattle.machine_state.specs.Conditions.{kernel_before}
 use Rattle.machine_state.specs.Failing.{LosesOldest}
 use Rattle.machine_state.specs.Done.{StopsFor, SwapAfter}
 use Rattle.machine_state.specs.Swapping.{SwapBehind}
+use Rattle.paging_units.specs.Made.{Ground, Made}
 
 -- why a unit stops the run: a fault of a device comes only of the end of a transfer, and of one of its own kind, and of a
 -- u page that is written or read
@@ -75,3 +76,22 @@ pub record StopsAt (e : Entry) (k : Kernel) (i : Option (List ℕ)) (stop : Stop
   pub full : (stop ≡ stops.JournalFull) ↔ ((new.params.journal ≤ length k.journal) × (length k.journal < length (append k.journal e)))
   pub cause : CauseBy e stop k.place.transfers
   pub image : SpoilsBy e stop k i j
+
+-- A call stops where some unit comes next, in a kernel with a swap image. The sizes and images of its machine are as before.
+pub record StopsAtNext (coming : Option Entry) (k : Kernel) (old new : Standing) (i j : Option (List ℕ)) (stop : Stop) : Type 0 where
+  pub entry : Entry
+  pub next : coming ≡ Some entry
+  pub stops : StopsAt entry k i stop new j
+  pub params : new.params ≡ old.params
+  pub images : new.images ≡ old.images
+
+-- A call stops on its way. These units were made, of which something is so with the kernel to which they lead; there it stops where
+-- some unit comes next.
+pub record StopsAmong (g : Ground) (Leads : List Entry → Kernel → Type 0) (next_at : Placement → Option Entry) (old new : Standing)
+    (i j : Option (List ℕ)) (stop : Stop) : Type 0 where
+  pub units : List Entry
+  pub at : Kernel
+  pub image : Option (List ℕ)
+  pub made : Made g units old.kernel i at image
+  pub leads : Leads units at
+  pub there : StopsAtNext (next_at at.place) at old new image j stop

@@ -22,7 +22,7 @@ use Rattle.page_model.specs.Placement.{Due, Start, CopyOf}
 use Rattle.machine_state.specs.Conditions.{HasStopped}
 use Rattle.machine_state.specs.Machine.{Standing}
 use Rattle.machine_state.specs.Settled.{IsSameBeside, StopsSettling}
-use Rattle.swapper.specs.Stops.{StopsAt}
+use Rattle.swapper.specs.Stops.{StopsAt, StopsAtNext}
 use Rattle.proc_calls.specs.Forced.{Forced, StopsForcing}
 use Rattle.proc_calls.specs.Serving.{StopsServing}
 use Rattle.proc_calls.specs.Touches.{AccessStops}
@@ -74,6 +74,11 @@ kept_at e k i j old new stop params images at = record {
   full = λ f. subst (λ (x : List Entry). new.params.journal ≤ length x) (sym at.journal) (at.full.0 f).0;
 }
 
+-- a stop where some unit comes next
+pub kept_next : (coming : Option Entry) (k : Kernel) (i j : Option (List ℕ)) (old new : Standing) (stop : Stop) → StopsAtNext coming k old new i j stop
+    → KeptAtStop old new stop
+kept_next coming k i j old new stop s = kept_at s.entry k i j old new stop s.params s.images s.stops
+
 pub before_same : (old new : Standing) (stop : Stop) → StopsBefore old new stop → KeptAtStop old new stop
 before_same old new stop h = kept_here old new stop h.stopped h.full
 
@@ -114,12 +119,12 @@ forced_same locked old new holds i j h = beside_same old new h.makes.beside
 
 forcing_same : (locked : List Page) (old new : Standing) (holds : Option (List NamedFile)) (i j : Option (List ℕ)) (stop : Stop)
     → StopsForcing locked old stop new holds i j → KeptAtStop old new stop
-forcing_same locked old new holds i j stop h = kept_at _ h.at h.image j old new stop h.params h.images h.stops
+forcing_same locked old new holds i j stop h = kept_next _ h.at h.image j old new stop h.there
 
 serving_same : (now : Bool) (locked : List Page) (q : Page) (old new : Standing) (holds : Option (List NamedFile)) (i j : Option (List ℕ)) (stop : Stop)
     → StopsServing now locked q old new holds i j stop
     → KeptAtStop old new stop
-serving_same now locked q old new holds i j stop h = kept_at h.entry h.kernel h.image j old new stop h.params h.images h.at
+serving_same now locked q old new holds i j stop h = kept_next _ h.at h.image j old new stop h.there
 
 filling_same : (e : Entry) (locked : List Page) (old new : Standing) (holds : Option (List NamedFile)) (i j : Option (List ℕ)) (stop : Stop)
     → StopsFilling e locked old new holds i j stop → KeptAtStop old new stop

@@ -119,13 +119,13 @@ pub hands_stop : (A : Inputs) (s : State) (old new : Standing) (holds : Option (
     → s.mark ≡ marks.Hands n → StopsMoving n old stop new holds (Some image) j → StopLeads A s old.kernel image stop new j
 hands_stop A s old new holds image j n stop at c m h =
     let asks : AsksMoves s n = record { mark = m; clear = c.clear } in
-    let led : LeadsMoving A s old.kernel image n h.units h.at h.image = moving h.units A (ground old holds []) s old.kernel h.at image h.image n at.at at.images refl asks h.moves h.made in
+    let led : LeadsMoving A s old.kernel image n h.units h.at h.image = moving h.units A (ground old holds []) s old.kernel h.at image h.image n at.at at.images refl asks h.leads.moves h.made in
     let leads = subst (λ (o : Option (List ℕ)). Leads A s old.kernel image h.units led.state h.at o) led.leads.told led.leads in
     let behind = leads_at A s led.state old.kernel h.at image led.leads.behind h.units at.at leads in
-    stops_behind A s led.state old.kernel h.at image led.leads.behind h.units stop new j (move_unit h.at.place []) leads
-    (move_next A led.state (n - moves_of h.units) led.asks (let l = h.left in omega (arith, l)) (ap wants_moves (sym behind.stands.place) ∙ h.wants)
-    ∙ ap (λ (p : Placement). Some (move_unit p [])) (sym behind.stands.place))
-    (subst (λ (o : Option (List ℕ)). StopsAt (move_unit h.at.place []) h.at o stop new j) led.leads.told h.stops)
+    stops_behind A s led.state old.kernel h.at image led.leads.behind h.units stop new j h.there.entry leads
+    (move_next A led.state (n - moves_of h.units) led.asks (let l = h.leads.left in omega (arith, l)) (ap wants_moves (sym behind.stands.place) ∙ h.leads.wants)
+    ∙ ap (λ (p : Placement). Some (move_unit p [])) (sym behind.stands.place) ∙ h.there.next)
+    (subst (λ (o : Option (List ℕ)). StopsAt h.there.entry h.at o stop new j) led.leads.told h.there.stops)
 
 -- Numbers.
 

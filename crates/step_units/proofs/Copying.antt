@@ -116,15 +116,16 @@ serving_stops : (A : Inputs) (s : State) (m new : Standing) (holds : Option (Lis
     → StopsServing true (parent ∷ []) parent m new holds (Some image) j stop
     → StopLeads A s m.kernel image stop new j
 serving_stops A s m new holds image j child parent ds stop at images d h =
-    let led : LeadsDue A s m.kernel image h.units h.kernel h.image =
-    bringing h.units A (ground m holds (parent ∷ [])) s m.kernel h.kernel image h.image child parent ds at images refl d h.leads h.made in
+    let led : LeadsDue A s m.kernel image h.units h.at h.image =
+    bringing h.units A (ground m holds (parent ∷ [])) s m.kernel h.at image h.image child parent ds at images refl d h.leads h.made in
     let t : State = led.state in
     let behind : List ℕ = led.leads.behind in
-    let here : h.kernel.place ≡ t.place = (led_at A s t m.kernel h.kernel image h.image h.units at led.leads).stands.place in
-    let next : next_unit A t ≡ Some h.entry =
-    brought_next A t child parent ds h.entry (led.due ∙ d) (subst (λ (p : Placement). serve_unit p parent true ≡ Some h.entry) here h.next) in
-    stops_then A s t m.kernel h.kernel image behind j h.units stop new (led_told A s t m.kernel h.kernel image h.image h.units led.leads)
-    (stop_at A t h.kernel behind h.entry stop new j next (subst (λ (o : Option (List ℕ)). StopsAt h.entry h.kernel o stop new j) led.leads.told h.at))
+    let here : h.at.place ≡ t.place = (led_at A s t m.kernel h.at image h.image h.units at led.leads).stands.place in
+    let u : Entry = h.there.entry in
+    let next : next_unit A t ≡ Some u =
+    brought_next A t child parent ds u (led.due ∙ d) (subst (λ (p : Placement). serve_unit p parent true ≡ Some u) here h.there.next) in
+    stops_then A s t m.kernel h.at image behind j h.units stop new (led_told A s t m.kernel h.at image h.image h.units led.leads)
+    (stop_at A t h.at behind u stop new j next (subst (λ (o : Option (List ℕ)). StopsAt u h.at o stop new j) led.leads.told h.there.stops))
 
 behind_stops : (A : Inputs) (s : State) (old new : Standing) (holds : Option (List NamedFile)) (image : List ℕ) (told j : Option (List ℕ)) (child parent : Page)
     (ds : List Due) (stop : Stop)

@@ -141,15 +141,16 @@ forcing_stops : (A : Inputs) (s : State) (m new : Standing) (holds : Option (Lis
     → At A s m.kernel image → AreImages m.images holds A.images → FillsFirst s.place s.place.due e locked → StopsForcing locked m stop new holds (Some image) j
     → StopLeads A s m.kernel image stop new j
 forcing_stops A s m new holds image j e locked stop at images first h =
-    let to = forced_to A s m h.at holds image h.image e locked h.units at images first h.forces h.made in
+    let to = forced_to A s m h.at holds image h.image e locked h.units at images first h.leads.forces h.made in
     let t : State = to.0.state in
     let behind : List ℕ = to.0.leads.behind in
     let here : h.at.place ≡ t.place = (led_at A s t m.kernel h.at image h.image h.units at to.0.leads).stands.place in
-    let u : Entry = force_entry h.at.place.transfers in
+    let u : Entry = h.there.entry in
     let next : next_unit A t ≡ Some u =
-    forced_next A t e locked to.1 (sym (ap (λ (p : Placement). p.free) here) ∙ h.none) ∙ ap (λ (p : Placement). Some (force_entry p.transfers)) (sym here) in
+    forced_next A t e locked to.1 (sym (ap (λ (p : Placement). p.free) here) ∙ h.leads.none) ∙ ap (λ (p : Placement). Some (force_entry p.transfers)) (sym here)
+    ∙ h.there.next in
     stops_then A s t m.kernel h.at image behind j h.units stop new (led_told A s t m.kernel h.at image h.image h.units to.0.leads)
-    (stop_at A t h.at behind u stop new j next (subst (λ (o : Option (List ℕ)). StopsAt u h.at o stop new j) to.0.leads.told h.stops))
+    (stop_at A t h.at behind u stop new j next (subst (λ (o : Option (List ℕ)). StopsAt u h.at o stop new j) to.0.leads.told h.there.stops))
 
 fill_stops : (A : Inputs) (s : State) (m roomy new : Standing) (holds : Option (List NamedFile)) (image : List ℕ) (i j : Option (List ℕ)) (e : Entry)
     (locked : List Page) (stop : Stop)

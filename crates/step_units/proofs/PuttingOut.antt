@@ -259,13 +259,13 @@ out_stops A s old new holds image j pid sid stop at c m there o =
     let g : Ground = ground old holds [] in
     let h : Holder s.point.flat pid sid = holder old.kernel s.point.flat pid sid at.at.stands.keeps.coupled.tables there.holds in
     let led : LeadsPutting A s old.kernel image pid sid o.units o.at o.image =
-    putting o.units A g s old.kernel o.at image o.image pid sid (length old.kernel.journal) at.at at.images (puts_process s old.kernel pid sid c m h) o.puts o.made in
+    putting o.units A g s old.kernel o.at image o.image pid sid (length old.kernel.journal) at.at at.images (puts_process s old.kernel pid sid c m h) o.leads.puts o.made in
     let b : List ℕ = led.leads.behind in
     let leads : Leads A s old.kernel image o.units led.state o.at (Some b) = subst (λ (z : Option (List ℕ)). Leads A s old.kernel image o.units led.state o.at z) led.leads.told led.leads in
     let behind : At A led.state o.at b = leads_at A s led.state old.kernel o.at image b o.units at.at leads in
-    stops_behind A s led.state old.kernel o.at image b o.units stop new j (put_out_unit o.at.place pid sid) leads
-    (put_next A led.state pid sid led.puts ∙ ap (λ (y : Placement). Some (put_out_unit y pid sid)) (sym behind.stands.place))
-    (subst (λ (z : Option (List ℕ)). StopsAt (put_out_unit o.at.place pid sid) o.at z stop new j) led.leads.told o.stops)
+    stops_behind A s led.state old.kernel o.at image b o.units stop new j o.there.entry leads
+    (put_next A led.state pid sid led.puts ∙ ap (λ (y : Placement). Some (put_out_unit y pid sid)) (sym behind.stands.place) ∙ o.there.next)
+    (subst (λ (z : Option (List ℕ)). StopsAt o.there.entry o.at z stop new j) led.leads.told o.there.stops)
 
 pub swapper_stops : (A : Inputs) (s : State) (old new : Standing) (holds : Option (List NamedFile)) (image : List ℕ) (j : Option (List ℕ))
     (t : Turned) (stop : Stop)

@@ -223,20 +223,21 @@ pub page_stops : (A : Inputs) (s : State) (old new : Standing) (holds : Option (
 page_stops A s old new holds image j pid now before kept q stop w f c =
     let g : Ground = ground old holds kept in
     let d : StopsServing now kept q old new holds (Some image) j stop = c.serving in
-    let v : ServingLeads A g s old.kernel image pid now before q d.units d.kernel d.image =
-    served d.units A g s old.kernel d.kernel image d.image pid now before q w.machine.at (waiting A s old holds image pid now before kept q w f) d.leads d.made in
-    let led : Leads A s old.kernel image d.units v.state d.kernel (Some v.leads.behind) =
-    subst (λ (o : Option (List ℕ)). Leads A s old.kernel image d.units v.state d.kernel o) v.leads.told v.leads in
-    let here : d.kernel.place ≡ v.state.place = (leads_at A s v.state old.kernel d.kernel image v.leads.behind d.units w.machine.at led).stands.place in
-    let next : next_unit A v.state ≡ Some d.entry =
-    served_next A g v.state pid now before q d.entry v.waiting (subst (λ (x : Placement). serve_unit x q now ≡ Some d.entry) here d.next) in
+    let v : ServingLeads A g s old.kernel image pid now before q d.units d.at d.image =
+    served d.units A g s old.kernel d.at image d.image pid now before q w.machine.at (waiting A s old holds image pid now before kept q w f) d.leads d.made in
+    let led : Leads A s old.kernel image d.units v.state d.at (Some v.leads.behind) =
+    subst (λ (o : Option (List ℕ)). Leads A s old.kernel image d.units v.state d.at o) v.leads.told v.leads in
+    let here : d.at.place ≡ v.state.place = (leads_at A s v.state old.kernel d.at image v.leads.behind d.units w.machine.at led).stands.place in
+    let next : next_unit A v.state ≡ Some d.there.entry =
+    served_next A g v.state pid now before q d.there.entry v.waiting (subst (λ (x : Placement). serve_unit x q now ≡ Some d.there.entry) here d.there.next) in
     record {
       units = d.units;
       state = v.state;
-      kernel = d.kernel;
+      kernel = d.at;
       behind = v.leads.behind;
       leads = led;
-      journal = d.at.journal;
-      held = d.at.held;
-      by = stops_by A v.state d.kernel v.leads.behind stop d.entry new j next (subst (λ (o : Option (List ℕ)). StopsAt d.entry d.kernel o stop new j) v.leads.told d.at);
+      journal = d.there.stops.journal;
+      held = d.there.stops.held;
+      by = stops_by A v.state d.at v.leads.behind stop d.there.entry new j next
+          (subst (λ (o : Option (List ℕ)). StopsAt d.there.entry d.at o stop new j) v.leads.told d.there.stops);
     }

@@ -9,9 +9,9 @@ use Rattle.swapper.specs.Putting.{HoldsThere, StopsPutting}
 pub params_put : {A : Type 0} (r : Result A Stop) (old new : Standing) (pid : ℕ) (holds : Option (List NamedFile)) (i j : Option (List ℕ))
     → IfErr r (λ stop. (sid : ℕ) × HoldsThere old.kernel pid sid × StopsPutting pid sid old stop new holds i j) → OnErr r (new.params ≡ old.params)
 params_put (Ok x) old new pid holds i j h = tt
-params_put (Err stop) old new pid holds i j h = h.2.params
+params_put (Err stop) old new pid holds i j h = h.2.there.params
 
 pub images_put : {A : Type 0} (r : Result A Stop) (old new : Standing) (pid : ℕ) (holds : Option (List NamedFile)) (i j : Option (List ℕ))
     → IfErr r (λ stop. (sid : ℕ) × HoldsThere old.kernel pid sid × StopsPutting pid sid old stop new holds i j) → OnErr r (new.images ≡ old.images)
 images_put (Ok x) old new pid holds i j h = tt
-images_put (Err stop) old new pid holds i j h = h.2.images
+images_put (Err stop) old new pid holds i j h = h.2.there.images

@@ -49,10 +49,10 @@ use Rattle.paging_units.specs.Made.{Made, MakesUnit, Ground, ground}
 use Rattle.paging_units.specs.Stops.{StopsAt, SpoilsBy}
 use Rattle.paging_units.proofs.Units.{unit_place, unit_journal, unit_same, same_ground, Asks, asks_on}
 use Rattle.paging_units.proofs.Keeping.{unit_shaped, keeps_both}
-use Rattle.paging_units.proofs.Stopping.{plain_longer, moved_left}
+use Rattle.paging_units.proofs.Stopping.{plain_longer, moved_left, stops_at_first, stops_after_unit}
 use Rattle.swapper.specs.declared.putting_out.Step.{Step}
 use Rattle.swapper.specs.declared.putting_out.Step.TheVariants as steps
-use Rattle.swapper.specs.Putting.{IsOfSegment, IsStep, IsNext, HoldsThere, PutOut, StopsPutting}
+use Rattle.swapper.specs.Putting.{IsOfSegment, IsStep, IsNext, HoldsThere, PutOut, StillPutting, StopsPutting}
 
 -- The first page in a frame off the free list.
 
@@ -219,22 +219,16 @@ module _ (old next : Standing) (pid sid : ℕ) (step : Step) (holds : Option (Li
 
   pub stops_first : (later : Option (List NamedFile)) (stop : Stop) (new : Standing) (j : Option (List ℕ)) → later ≡ holds → is_out old.kernel.place pid ≡ false
       → StopsPutting pid sid next stop new later h j → StopsPutting pid sid old stop new holds i j
-  stops_first later stop new j q n f = record {
-    units = e ∷ f.units;
-    at = f.at;
-    image = f.image;
-    made = record { next = next.kernel; image = h; made = m.made; told = m.told; rest = same_files later f.units f.at f.image q f.made };
-    puts = puts_first f.units f.at.place n f.puts;
-    still = f.still;
-    stops = f.stops;
-    params = f.params ∙ m.beside.params;
-    images = f.images ∙ m.beside.images;
-  }
+  stops_first later stop new j q n f =
+      stops_after_unit (StillPutting pid sid old.kernel) (StillPutting pid sid next.kernel) (λ p. Some (put_out_unit p pid sid))
+      e old next new holds later [] i h j stop q m (λ us l s. record { puts = puts_first us l.place n s.puts; still = s.still }) f
 
 pub stops_here : (pid sid : ℕ) (old : Standing) (stop : Stop) (new : Standing) (holds : Option (List NamedFile)) (i j : Option (List ℕ))
     → is_out old.kernel.place pid ≡ false → new.params ≡ old.params → new.images ≡ old.images
     → StopsAt (put_out_unit old.kernel.place pid sid) old.kernel i stop new j → StopsPutting pid sid old stop new holds i j
-stops_here pid sid old stop new holds i j n a b s = record { units = []; at = old.kernel; image = i; made = (refl, refl); puts = refl; still = n; stops = s; params = a; images = b }
+stops_here pid sid old stop new holds i j n a b s =
+    stops_at_first (ground old holds []) (StillPutting pid sid old.kernel) (λ p. Some (put_out_unit p pid sid)) old new i j stop
+    (record { puts = refl; still = n }) (record { entry = put_out_unit old.kernel.place pid sid; next = refl; stops = s; params = a; images = b })
 
 -- The last unit.
 

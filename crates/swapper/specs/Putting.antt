@@ -24,7 +24,7 @@ use Rattle.machine_state.specs.Settled.{IsSameBeside}
 use Rattle.machine_state.specs.Calls.{life_in}
 use Rattle.machine_state.specs.Swapping.{WritesU}
 use Rattle.paging_units.specs.Made.{Made, ground}
-use Rattle.paging_units.specs.Stops.{StopsAt}
+use Rattle.paging_units.specs.Stops.{StopsAmong}
 use Rattle.swapper.specs.declared.putting_out.Step.{Step}
 use Rattle.swapper.specs.declared.putting_out.Step.TheVariants as steps
 
@@ -73,15 +73,12 @@ pub record PutOut (pid sid : ℕ) (old new : Standing) (holds : Option (List Nam
   pub out : is_out new.kernel.place pid ≡ true
   pub beside : IsSameBeside old new
 
--- The call stops: these units put the process out and lead to a kernel in which it is in; there it stops at the unit that
--- comes next.
-pub record StopsPutting (pid sid : ℕ) (old : Standing) (stop : Stop) (new : Standing) (holds : Option (List NamedFile)) (i j : Option (List ℕ)) : Type 0 where
-  pub units : List Entry
-  pub at : Kernel
-  pub image : Option (List ℕ)
-  pub made : Made (ground old holds []) units old.kernel i at image
-  pub puts : PutsOut units (length old.kernel.journal) old.kernel.place pid sid at.place
-  pub still : is_out at.place pid ≡ false
-  pub stops : StopsAt (put_out_unit at.place pid sid) at image stop new j
-  pub params : new.params ≡ old.params
-  pub images : new.images ≡ old.images
+-- these units put the process out, from the one kernel on, and it isn't out yet in the kernel to which they lead
+pub record StillPutting (pid sid : ℕ) (k : Kernel) (us : List Entry) (l : Kernel) : Type 0 where
+  pub puts : PutsOut us (length k.journal) k.place pid sid l.place
+  pub still : is_out l.place pid ≡ false
+
+-- the call stops while it puts the process out
+abbrev pub StopsPutting : ℕ → ℕ → Standing → Stop → Standing → Option (List NamedFile) → Option (List ℕ) → Option (List ℕ) → Type 0
+StopsPutting pid sid old stop new holds i j =
+    StopsAmong (ground old holds []) (StillPutting pid sid old.kernel) (λ p. Some (put_out_unit p pid sid)) old new i j stop

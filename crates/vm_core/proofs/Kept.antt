@@ -13,7 +13,7 @@ use Rattle.run_start.specs.Sizes.{KeptAtStop}
 use Rattle.run_start.specs.Turned.TheVariants as turns
 use Rattle.run_start.specs.Turned.{Turned}
 use Rattle.run_start.specs.Turns.{StopsTurning}
-use Rattle.run_start.proofs.StopsKeep.{kept_here, kept_at}
+use Rattle.run_start.proofs.StopsKeep.{kept_here, kept_at, kept_next}
 
 pub kept_noting : (old new : Standing) (stop : Stop) → StopsNoting old new stop → KeptAtStop old new stop
 kept_noting old new stop h = kept_here old new stop h.stopped h.full
@@ -26,11 +26,11 @@ kept_ending old new stop h f = kept_here old new stop h (λ e. (f.0 (ap (λ (s :
 
 pub kept_moving : (old new : Standing) (holds : Option (List NamedFile)) (i j : Option (List ℕ)) (n : ℕ) (stop : Stop) → StopsMoving n old stop new holds i j
     → KeptAtStop old new stop
-kept_moving old new holds i j n stop h = kept_at _ h.at h.image j old new stop h.params h.images h.stops
+kept_moving old new holds i j n stop h = kept_next _ h.at h.image j old new stop h.there
 
 pub kept_turning : (old new : Standing) (holds : Option (List NamedFile)) (i j : Option (List ℕ)) (t : Turned) (stop : Stop) → new.params ≡ old.params
     → new.images ≡ old.images
     → StopsTurning t old stop new holds i j → KeptAtStop old new stop
 kept_turning old new holds i j turns.Nothing stop params images h = absurd h
 kept_turning old new holds i j (turns.In pid) stop params images h = kept_at (entries.SwapIn pid) old.kernel i j old new stop params images h
-kept_turning old new holds i j (turns.Out pid) stop params images h = kept_at _ h.2.at h.2.image j old new stop h.2.params h.2.images h.2.stops
+kept_turning old new holds i j (turns.Out pid) stop params images h = kept_next _ h.2.at h.2.image j old new stop h.2.there
