@@ -1,15 +1,14 @@
 -- What serving an access of a process comes to.
-use Rattle.std.specs.Prelude.{◌≡◌, ◌⊎◌, ℕ, ◌+◌, ◌-◌, ◌≤◌, Bool, false, List, length, Option, Result, Ok, Err}
+use Rattle.std.specs.Prelude.{◌≡◌, ◌⊎◌, ℕ, ◌+◌, ◌-◌, ◌≤◌, Bool, List, length, Option, Result, Ok, Err}
 use Rattle.vm_facts.specs.declared.page.Page.{Page}
 use Rattle.vm_facts.specs.declared.page.Page.TheVariants as page_names
 use Rattle.vm_facts.specs.declared.stop.Stop.{Stop}
-use Rattle.vm_facts.specs.declared.stop.Stop.TheVariants as stops
 use Rattle.io_edge.specs.FileHolding.{NamedFile}
 use Rattle.page_model.specs.Conditions.{Spares}
 use Rattle.clock_hands.specs.LastMoves.{last_moves}
+use Rattle.clock_hands.specs.Stops.{StopsBefore}
 use Rattle.machine_state.specs.Going.{CanGoOn}
 use Rattle.machine_state.specs.Machine.{Standing}
-use Rattle.machine_state.specs.Conditions.{HasStopped}
 use Rattle.fault_fill.specs.Serving.{CanServe, StopsServing}
 use Rattle.fault_fill.specs.Answers.{ServedAs, ServedNow, IsShort, AllStayValid}
 use Rattle.fault_fill.specs.Growth.{Grown, GrowthRefused}
@@ -100,24 +99,16 @@ AccessComes Touched (accesses.Growth sid pages) answer pid old new before after 
 
 -- Stops.
 
--- the run stopped where growth or its refusal would be the next entry, and no pieces waited there
-pub record StopsGrowing (old new : Standing) (before after : Option (List ℕ)) (stop : Stop) : Type 0 where
-  pub stopped : HasStopped old new
-  pub whole : old.before ≡ old.kernel.holdings
-  pub cause : (stop ≡ stops.JournalFull) ⊎ (stop ≡ stops.NoMemory)
-  pub full : stop ≡ stops.JournalFull → old.params.journal ≤ length old.kernel.journal
-  pub image : after ≡ before
-
 -- the run stopped while the page was served, after few entries
 pub record StopsAtPage (now : Bool) (locked : List Page) (q : Page) (old new : Standing) (holds : Option (List NamedFile)) (before after : Option (List ℕ))
     (stop : Stop) : Type 0 where
   pub serving : StopsServing now locked q old new holds before after stop
   pub few : length new.kernel.journal ≤ length old.kernel.journal + length old.kernel.place.transfers + 5
 
--- A refused access never stops the run.
+-- A refused access never stops the run. Where the stack has to grow, the run stops before growth or its refusal, or once it grew.
 abbrev pub AccessStops : Bool → List Page → Access → ℕ → Standing → Standing → Option (List NamedFile) → Option (List ℕ) → Option (List ℕ) → Stop → Type 0
 AccessStops now locked (accesses.Page q) pid old new holds before after stop = StopsAtPage now locked q old new holds before after stop
 AccessStops now locked (accesses.Refused signal) pid old new holds before after stop = ⊥
 AccessStops now locked (accesses.Growth sid pages) pid old new holds before after stop =
-    StopsGrowing old new before after stop
+    (StopsBefore old new stop × (after ≡ before))
     ⊎ GrownFirst old pid pages (λ between. StopsAtPage now locked (page_names.Stack sid (pages - 1)) between new holds before after stop)

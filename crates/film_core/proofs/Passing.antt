@@ -12,6 +12,7 @@ use Rattle.flat_state.specs.Flat.{Inputs}
 use Rattle.page_model.specs.Placement.{Due}
 use Rattle.kernel_model.specs.Kernel.{note_step}
 use Rattle.machine_state.specs.Machine.{Standing}
+use Rattle.journal_laws.specs.Stops.{StopsBefore}
 use Rattle.run_model.specs.declared.mark.Mark.{Mark}
 use Rattle.run_model.specs.declared.mark.Mark.TheVariants as marks
 use Rattle.run_model.specs.State.{State, start}
@@ -20,7 +21,7 @@ use Rattle.journal_laws.specs.Leads.{Leads}
 use Rattle.journal_laws.proofs.Journals.{leads_follow}
 use Rattle.run_start.specs.Sizes.{KeptAtStop}
 use Rattle.run_start.specs.Stepped.{StopLeads, AtSome, LeadsFrom, StopsFrom}
-use Rattle.run_start.specs.Lines.{IsOver, LineBegun, TurnBegun, TurnDue, StopsNoting}
+use Rattle.run_start.specs.Lines.{IsOver, LineBegun, TurnBegun, TurnDue}
 use Rattle.run_start.proofs.StepUnitsBeginning.{line_begins, line_stops, turn_stops}
 use Rattle.run_start.proofs.Turning.{turn_begins}
 use Rattle.proc_run.specs.Choosing.{turn_after as chosen_next}
@@ -132,7 +133,7 @@ over_rounds old new last schedule taken counted count turn holds i j f on e why 
 
 -- The journal has no room for the next mark.
 
-stops_full : (m : Standing) → MayNote m → m.params.journal ≤ length m.kernel.journal → StopsNoting m m stops.JournalFull
+stops_full : (m : Standing) → MayNote m → m.params.journal ≤ length m.kernel.journal → StopsBefore m m stops.JournalFull
 stops_full m may full = record {
   stopped = record { journal = refl; params = refl; images = refl; full = λ f. refl; held = λ r. refl };
   whole = may.ready.whole;
@@ -148,12 +149,12 @@ ComesNext m schedule taken count turn =
 
 module _ (A : Inputs) (s : State) (m : Standing) (schedule : List Event) (taken count last : ℕ) (holds : Option (List NamedFile)) (i : Option (List ℕ)) (image : List ℕ)
     (at : OverAt m schedule taken count last holds i A s image) where
-  pub stop_line : (new : Standing) (e : Event) (stop : Stop) → count < m.params.limit → slice_get schedule taken ≡ Some e → StopsNoting m new stop → StopLeads A s m.kernel image stop new i
+  pub stop_line : (new : Standing) (e : Event) (stop : Stop) → count < m.params.limit → slice_get schedule taken ≡ Some e → StopsBefore m new stop → StopLeads A s m.kernel image stop new i
   stop_line new e stop l x n =
       subst (λ (o : Option (List ℕ)). StopLeads A s m.kernel image stop new o) (sym at.stands.told)
       (line_stops A s m new holds image e stop at.stands.machine at.over (below A s m schedule taken count last holds i image at l) (due_line A s m schedule taken count last holds i image at e x) n)
 
-  pub stop_turn : (new : Standing) (pid : ℕ) (stop : Stop) → count < m.params.limit → slice_get schedule taken ≡ None → chosen_next m.kernel last ≡ Some pid → StopsNoting m new stop
+  pub stop_turn : (new : Standing) (pid : ℕ) (stop : Stop) → count < m.params.limit → slice_get schedule taken ≡ None → chosen_next m.kernel last ≡ Some pid → StopsBefore m new stop
       → StopLeads A s m.kernel image stop new i
   stop_turn new pid stop l x y n =
       subst (λ (o : Option (List ℕ)). StopLeads A s m.kernel image stop new o) (sym at.stands.told)
@@ -317,12 +318,12 @@ module _ (old mid new : Standing) (schedule : List Event) (taken counted turn : 
 
 pub line_noting : (old new : Standing) (schedule : List Event) (taken counted turn : ℕ) (holds : Option (List NamedFile)) (i : Option (List ℕ)) (e : Event)
     (stop : Stop) → counted < old.params.limit
-    → slice_get schedule taken ≡ Some e → StopsNoting old new stop → StopsFrom (OverAt old schedule taken counted turn holds i) old new i stop
+    → slice_get schedule taken ≡ Some e → StopsBefore old new stop → StopsFrom (OverAt old schedule taken counted turn holds i) old new i stop
 line_noting old new schedule taken counted turn holds i e stop l x n A s image at = stop_line A s old schedule taken counted turn holds i image at new e stop l x n
 
 pub turn_noting : (old new : Standing) (schedule : List Event) (taken counted turn : ℕ) (holds : Option (List NamedFile)) (i : Option (List ℕ)) (pid : ℕ)
     (stop : Stop) → counted < old.params.limit
-    → slice_get schedule taken ≡ None → chosen_next old.kernel turn ≡ Some pid → StopsNoting old new stop
+    → slice_get schedule taken ≡ None → chosen_next old.kernel turn ≡ Some pid → StopsBefore old new stop
     → StopsFrom (OverAt old schedule taken counted turn holds i) old new i stop
 turn_noting old new schedule taken counted turn holds i pid stop l x y n A s image at = stop_turn A s old schedule taken counted turn holds i image at new pid stop l x y n
 

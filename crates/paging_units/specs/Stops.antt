@@ -10,7 +10,7 @@ use Rattle.kernel_model.specs.Kernel.{Kernel}
 use Rattle.kernel_model.specs.Coupled.{outline_kept}
 use Rattle.kernel_model.specs.ChangeStep.{pass_step}
 use Rattle.machine_state.specs.Machine.{Standing}
-use Rattle.machine_state.specs.Conditions.{kernel_before}
+use Rattle.machine_state.specs.Conditions.{HasStopped, kernel_before}
 use Rattle.machine_state.specs.Failing.{LosesOldest}
 use Rattle.machine_state.specs.Done.{StopsFor, SwapAfter}
 use Rattle.machine_state.specs.Swapping.{SwapBehind}
@@ -95,3 +95,11 @@ pub record StopsAmong (g : Ground) (Leads : List Entry → Kernel → Type 0) (n
   pub made : Made g units old.kernel i at image
   pub leads : Leads units at
   pub there : StopsAtNext (next_at at.place) at old new image j stop
+
+-- A call stops before an entry: for want of memory, or since the journal is full, which it is only at its bound. No pieces wait
+-- where it stops, but those that the entry itself takes.
+pub record StopsBefore (old new : Standing) (stop : Stop) : Type 0 where
+  pub stopped : HasStopped old new
+  pub whole : old.before ≡ old.kernel.holdings
+  pub cause : (stop ≡ stops.JournalFull) ⊎ (stop ≡ stops.NoMemory)
+  pub full : stop ≡ stops.JournalFull → old.params.journal ≤ length old.kernel.journal

@@ -13,7 +13,7 @@ use Rattle.machine_state.specs.Machine.{Standing}
 use Rattle.machine_state.specs.Conditions.{HasStopped}
 use Rattle.machine_state.specs.Settled.{StopsSettling}
 use Rattle.machine_state.proofs.Asked.{stopped_found}
-use Rattle.proc_calls.specs.Answered.{StopsBefore}
+use Rattle.fault_fill.specs.Stops.{StopsBefore}
 use Rattle.fault_fill.specs.Growth.{space_held}
 use Rattle.proc_calls.specs.Leaving.{HasSettled, HasLeftBy, HasLeft, StopsLeaving, StopsAlive}
 use Rattle.proc_calls.specs.Making.{with_pieces}

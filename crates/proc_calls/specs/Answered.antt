@@ -1,5 +1,5 @@
 -- What becomes of the machine by a call.
-use Rattle.std.specs.Prelude.{◌≡◌, ◌⊎◌, ℕ, ◌≤◌, true, false, List, [], ◌∷◌, length, None, Result, Ok, Err}
+use Rattle.std.specs.Prelude.{◌≡◌, ℕ, true, false, List, [], ◌∷◌, length, None, Result, Ok, Err}
 use Rattle.vm_facts.specs.declared.regs.Regs.{Regs}
 use Rattle.vm_facts.specs.declared.entry.Entry.{Entry}
 use Rattle.vm_facts.specs.declared.entry.Entry.TheVariants as entries
@@ -18,6 +18,7 @@ use Rattle.kernel_model.specs.ChangeStep.{change_step}
 use Rattle.machine_state.specs.Machine.{Standing}
 use Rattle.machine_state.specs.Applying.{ChangesWhole, facts_named}
 use Rattle.machine_state.specs.Conditions.{HasStopped}
+use Rattle.fault_fill.specs.Stops.{StopsBefore}
 use Rattle.proc_calls.specs.Callers.{regs_of}
 use Rattle.proc_calls.specs.declared.replying.Called.{Called}
 use Rattle.proc_calls.specs.declared.replying.Called.TheVariants as calls
@@ -69,15 +70,7 @@ pub record StopsOnce (Far There : Standing → Type 0) : Type 0 where
   pub far : Far reached
   pub stops : There reached
 
--- The run stops before an entry: for want of memory, or since the journal is full, which it is only at its bound. No pieces
--- wait where it stops, but those that the entry itself takes.
-pub record StopsBefore (old new : Standing) (stop : Stop) : Type 0 where
-  pub stopped : HasStopped old new
-  pub whole : old.before ≡ old.kernel.holdings
-  pub cause : (stop ≡ stops.JournalFull) ⊎ (stop ≡ stops.NoMemory)
-  pub full : stop ≡ stops.JournalFull → old.params.journal ≤ length old.kernel.journal
-
--- It stops where a byte that a call reads is refused: only for want of memory where the byte's page isn't valid, since no entry
+-- The run stops where a byte that a call reads is refused: only for want of memory where the byte's page isn't valid, since no entry
 -- comes then, and else before the entry that says that it is a fault.
 abbrev pub StopsReading : Standing → Standing → Refused → Stop → Type 0
 StopsReading old new (Miss address write) stop = HasStopped old new × (stop ≡ stops.NoMemory) × (old.before ≡ old.kernel.holdings)

@@ -14,9 +14,10 @@ use Rattle.kernel_model.specs.Unit.{lender_among, has_lender}
 use Rattle.machine_state.specs.Machine.{Standing}
 use Rattle.machine_state.specs.Settled.{SettledBy, IsSameBeside, StopsSettling}
 use Rattle.machine_state.specs.Done.{sources, KeepsThrough}
+use Rattle.fault_fill.specs.Stops.{StopsBefore}
 use Rattle.fault_fill.specs.Growth.{space_held}
 use Rattle.proc_calls.specs.Callers.{regs_of}
-use Rattle.proc_calls.specs.Answered.{Entered, Comes, StopsBefore, StopsReading, StopsOnce}
+use Rattle.proc_calls.specs.Answered.{Entered, Comes, StopsReading, StopsOnce}
 use Rattle.proc_calls.specs.declared.replying.Called.{Called}
 use Rattle.proc_calls.specs.declared.replying.Called.TheVariants as calls
 

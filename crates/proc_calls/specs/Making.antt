@@ -16,8 +16,9 @@ use Rattle.kernel_model.specs.Asks.{asked}
 use Rattle.machine_state.specs.Machine.{Standing}
 use Rattle.machine_state.specs.Applying.{facts_named}
 use Rattle.machine_state.specs.Conditions.{KeepsFlat}
+use Rattle.fault_fill.specs.Stops.{StopsBefore}
 use Rattle.vfork_pass.specs.Passed.{HasLent}
-use Rattle.proc_calls.specs.Answered.{Answered, StopsOnce, StopsBefore}
+use Rattle.proc_calls.specs.Answered.{Answered, StopsOnce}
 
 -- there are fewer processes than may be, as `child_reply` of flat_model asks of a flat state
 abbrev pub is_below_limit : Kernel → Bool

@@ -21,8 +21,9 @@ use Rattle.machine_state.specs.Machine.{Standing}
 use Rattle.machine_state.specs.Applying.{facts_named}
 use Rattle.machine_state.specs.Settled.{StopsSettling}
 use Rattle.machine_state.specs.UserMemory.{text_len}
+use Rattle.fault_fill.specs.Stops.{StopsBefore}
 use Rattle.fault_fill.specs.Growth.{space_held}
-use Rattle.proc_calls.specs.Answered.{Replied, Comes, StopsBefore, StopsReading, StopsOnce}
+use Rattle.proc_calls.specs.Answered.{Replied, Comes, StopsReading, StopsOnce}
 use Rattle.proc_calls.specs.Leaving.{HasSettled}
 use Rattle.proc_calls.specs.declared.replying.Called.{Called}
 

@@ -27,10 +27,11 @@ use Rattle.machine_state.specs.Conditions.{KeepsFlat}
 use Rattle.machine_state.specs.Wants.{found_for}
 use Rattle.machine_state.specs.UserMemory.{kernel_answers}
 use Rattle.machine_state.specs.Want.{Want}
+use Rattle.fault_fill.specs.Stops.{StopsBefore}
 use Rattle.fault_fill.specs.Growth.{space_held}
 use Rattle.proc_calls.specs.declared.replying.Called.{Called}
 use Rattle.proc_calls.specs.declared.replying.Called.TheVariants as calls
-use Rattle.proc_calls.specs.Answered.{Answered, Comes, StopsOnce, StopsBefore, StopsReading}
+use Rattle.proc_calls.specs.Answered.{Answered, Comes, StopsOnce, StopsReading}
 use Rattle.proc_calls.specs.Leaving.{HasLeft, StopsAlive}
 use Rattle.proc_calls.specs.Filling.{FillsStart, StopsStart}
 use Rattle.proc_calls.specs.Making.{with_pieces, without_pieces, IsRefused}

@@ -6,7 +6,8 @@ use Rattle.flat_model.specs.declared.calls.Reply.{Reply}
 use Rattle.flat_model.specs.declared.calls.Reply.TheVariants.{Fails, Does, Writes, Waits, Exits}
 use Rattle.flat_model.specs.Calls.{write_limit}
 use Rattle.machine_state.specs.Machine.{Standing}
-use Rattle.proc_calls.specs.Answered.{GoneOut, StopsOnce, StopsBefore, StopsReading}
+use Rattle.fault_fill.specs.Stops.{StopsBefore}
+use Rattle.proc_calls.specs.Answered.{GoneOut, StopsOnce, StopsReading}
 
 -- an error, or no more bytes than one write may have
 abbrev pub IsWrite : Reply → Type 0

@@ -8,8 +8,9 @@ ghost use Rattle.machine_state.specs.Going.{CanGoOn, IsRunning};
 ghost use Rattle.machine_state.specs.Machine.{proc_shown};
 ghost use Rattle.machine_state.specs.Applying.{CanApply};
 ghost use Rattle.machine_state.specs.Conditions.{HasStopped};
+ghost use Rattle.fault_fill.specs.Stops.{StopsBefore};
 ghost use Rattle.kernel_model.specs.Unit.{proc_of};
-ghost use Rattle.proc_calls.specs.Answered.{Answered, Replied, Comes, StopsBefore, StopsReading};
+ghost use Rattle.proc_calls.specs.Answered.{Answered, Replied, Comes, StopsReading};
 ghost use Rattle.proc_calls.specs.Callers.{IsCaller};
 
 use flat_model::{EFAULT, ENOMEM, SystemCall};

@@ -24,7 +24,8 @@ use Rattle.flat_model.specs.declared.calls.SystemCall.{SystemCall}
 use Rattle.machine_state.specs.Going.{CanGoOn}
 use Rattle.machine_state.specs.Machine.{Standing}
 use Rattle.machine_state.specs.UserMemory.{CanLend, kernel_answers}
-use Rattle.steady_laws.specs.Answered.{Answered, StopsBefore}
+use Rattle.steady_laws.specs.Stops.{StopsBefore}
+use Rattle.steady_laws.specs.Answered.{Answered}
 use Rattle.steady_laws.specs.Called.TheVariants as calls
 use Rattle.steady_laws.specs.Callers.{regs_of}
 use Rattle.steady_laws.specs.Leaving.{HasEnded, StopsAlive}

@@ -15,9 +15,10 @@ use Rattle.flat_model.specs.declared.calls.SystemCall.{SystemCall}
 use Rattle.flat_model.specs.declared.calls.SystemCall.TheVariants as system_calls
 use Rattle.machine_state.specs.Machine.{Standing}
 use Rattle.machine_state.specs.UserMemory.{kernel_answers}
+use Rattle.steady_laws.specs.Stops.{StopsBefore}
 use Rattle.steady_laws.specs.Called.{Called}
 use Rattle.steady_laws.specs.Called.TheVariants as calls
-use Rattle.steady_laws.specs.Answered.{Replied, Comes, StopsBefore}
+use Rattle.steady_laws.specs.Answered.{Replied, Comes}
 use Rattle.steady_laws.specs.Callers.{parent_of}
 use Rattle.steady_laws.specs.Copying.{HasCopied}
 use Rattle.steady_laws.specs.Forking.{Forked, StopsForking}

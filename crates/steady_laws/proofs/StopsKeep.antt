@@ -22,13 +22,13 @@ use Rattle.page_model.specs.Placement.{Due, Start, CopyOf}
 use Rattle.machine_state.specs.Conditions.{HasStopped}
 use Rattle.machine_state.specs.Machine.{Standing}
 use Rattle.machine_state.specs.Settled.{IsSameBeside, StopsSettling}
-use Rattle.swapper.specs.Stops.{StopsAt, StopsAtNext}
+use Rattle.swapper.specs.Stops.{StopsAt, StopsAtNext, StopsBefore}
 use Rattle.proc_calls.specs.Forced.{Forced, StopsForcing}
 use Rattle.proc_calls.specs.Serving.{StopsServing}
 use Rattle.proc_calls.specs.Touches.{AccessStops}
 use Rattle.proc_calls.specs.FaultFillAccessAccess.{Access}
 use Rattle.proc_calls.specs.FaultFillAccessAccess.TheVariants as accesses
-use Rattle.proc_calls.specs.Answered.{Entered, GoneOut, StopsOnce, StopsBefore, StopsReading}
+use Rattle.proc_calls.specs.Answered.{Entered, GoneOut, StopsOnce, StopsReading}
 use Rattle.proc_calls.specs.Growth.{space_held}
 use Rattle.proc_calls.specs.Copying.{CopiesPage, StopsPage, StopsCopying}
 use Rattle.proc_calls.specs.Filling.{StopsStart, StopsFilling}
@@ -169,7 +169,7 @@ pub access_same : (now : Bool) (locked : List Page) (access : Access) (pid : ℕ
 access_same now locked (accesses.Page q) pid old new holds i j stop h = serving_same now locked q old new holds i j stop h.serving
 access_same now locked (accesses.Refused signal) pid old new holds i j stop h = absurd h
 access_same now locked (accesses.Growth sid pages) pid old new holds i j stop h = elim h [
-  | inl x ↦ kept_here old new stop x.stopped x.full
+  | inl x ↦ before_same old new stop x.0
   | inr x ↦ kept_through old x.between new stop (record { params = ap (λ (m : Standing). m.params) x.grown.rest; images = ap (λ (m : Standing). m.images) x.grown.rest })
       (serving_same now locked _ x.between new holds i j stop x.behind.serving)
 ]

@@ -168,7 +168,7 @@ access_stops A s old new holds image j pid now p x address write before kept sto
     subst (λ (qs : List Page). WaitsFor A s old holds image pid now qs w.0.page) w.1 (waits_for A s old holds image pid now p x address write r w.0) in
     page_stops A s old new holds image j pid now before kept w.0.page stop waits k (subst (λ (a : Access). AccessStops now kept a pid old new holds (Some image) j stop) asked h)
 access_stops A s old new holds image j pid now p x address write before kept stop k r (inr w) h = elim whole [
-  | inl g ↦ growth_stops A s old new holds image j pid now p x address stop r f g
+  | inl g ↦ growth_stops A s old new holds image j pid now p x address stop r f g.0 g.1
   | inr g ↦ grown g
 ]
   where

@@ -13,7 +13,7 @@ use Rattle.machine_state.specs.Machine.{Standing}
 use Rattle.machine_state.specs.Done.{sources, IsDone, ImageAfter, StopsEnding}
 use Rattle.swapper.proofs.Stopping.{ending_left}
 use Rattle.swapper.specs.Made.{ground}
-use Rattle.swapper.specs.Stops.{StopsAt}
+use Rattle.swapper.specs.Stops.{StopsAt, StopsBefore}
 use Rattle.proc_calls.specs.Moved.{Moved, StopsMoving}
 use Rattle.proc_calls.specs.Spans.{moves_of}
 use Rattle.run_model.specs.declared.mark.Mark.{Mark}
@@ -28,7 +28,7 @@ use Rattle.run_units.proofs.Moving.{moving, move_next, moves_end}
 use Rattle.run_units.proofs.Swapping.{line_asks, note_made}
 use Rattle.step_units.specs.Machines.{MachineAt}
 use Rattle.step_units.specs.Stepped.{StopLeads}
-use Rattle.step_units.specs.Lines.{IsOver, IsClear, LineLeads, StopsNoting}
+use Rattle.step_units.specs.Lines.{IsOver, IsClear, LineLeads}
 use Rattle.step_units.proofs.Stopping.{one_longer, stops_by, stops_behind, note_stops}
 use Rattle.step_units.proofs.Beginning.{one_leads}
 
@@ -155,6 +155,6 @@ audit_made A s old l holds image at c m e =
 
 pub audit_stops : (A : Inputs) (s : State) (old new : Standing) (holds : Option (List NamedFile)) (image : List ℕ) (stop : Stop)
     → MachineAt A s old holds image → IsClear s → s.mark ≡ marks.Audit
-    → StopsNoting old new stop → StopLeads A s old.kernel image stop new (Some image)
+    → StopsBefore old new stop → StopLeads A s old.kernel image stop new (Some image)
 audit_stops A s old new holds image stop at c m x =
     note_stops A s old new image stop (owners_of old.kernel.place old.kernel.holdings) (audits A s old holds image at c m) tt x

@@ -10,6 +10,7 @@ use Rattle.io_edge.specs.FileHolding.{NamedFile}
 use Rattle.flat_state.specs.Flat.{Inputs}
 use Rattle.kernel_model.specs.Kernel.{Kernel, note_step}
 use Rattle.machine_state.specs.Machine.{Standing}
+use Rattle.swapper.specs.Stops.{StopsBefore}
 use Rattle.run_model.specs.State.{State}
 use Rattle.run_model.specs.After.{after, mark_of_line}
 use Rattle.run_model.specs.Next.{next_unit}
@@ -19,7 +20,7 @@ use Rattle.run_units.proofs.Units.{none_leads, first_leads}
 use Rattle.run_units.proofs.Swapping.{note_made, line_comes, turn_comes}
 use Rattle.step_units.specs.Machines.{MachineAt}
 use Rattle.step_units.specs.Stepped.{StopLeads}
-use Rattle.step_units.specs.Lines.{IsOver, LineBegun, StopsNoting, TurnDue}
+use Rattle.step_units.specs.Lines.{IsOver, LineBegun, TurnDue}
 use Rattle.step_units.proofs.Stopping.{note_stops}
 
 -- one unit leads to the state after it
@@ -51,7 +52,7 @@ line_begins A s old l holds image e at o c g m =
 
 pub line_stops : (A : Inputs) (s : State) (old new : Standing) (holds : Option (List NamedFile)) (image : List ℕ) (e : Event) (stop : Stop)
     → MachineAt A s old holds image → IsOver A s
-    → s.count < A.limit → slice_get A.lines s.lines ≡ Some e → StopsNoting old new stop → StopLeads A s old.kernel image stop new (Some image)
+    → s.count < A.limit → slice_get A.lines s.lines ≡ Some e → StopsBefore old new stop → StopLeads A s old.kernel image stop new (Some image)
 line_stops A s old new holds image e stop at o c g x = note_stops A s old new image stop (entries.Event (s.lines + 1)) (next_line A s e o c g) tt x
 
 pub next_turn : (A : Inputs) (s : State) (pid : ℕ) → TurnDue A s pid → next_unit A s ≡ Some (entries.Turn pid)
@@ -59,5 +60,5 @@ next_turn A s pid d = turn_comes A s pid d.over.clear d.over.over d.below d.line
 
 pub turn_stops : (A : Inputs) (s : State) (old new : Standing) (holds : Option (List NamedFile)) (image : List ℕ) (pid : ℕ) (stop : Stop)
     → MachineAt A s old holds image → TurnDue A s pid
-    → StopsNoting old new stop → StopLeads A s old.kernel image stop new (Some image)
+    → StopsBefore old new stop → StopLeads A s old.kernel image stop new (Some image)
 turn_stops A s old new holds image pid stop at d x = note_stops A s old new image stop (entries.Turn pid) (next_turn A s pid d) tt x

@@ -25,6 +25,7 @@ use Rattle.machine_state.specs.Machine.{Standing}
 use Rattle.machine_state.specs.Settled.{StopsSettling}
 use Rattle.machine_state.specs.Applying.{facts_named}
 use Rattle.machine_state.specs.UserMemory.{kernel_answers}
+use Rattle.swapper.specs.Stops.{StopsBefore}
 use Rattle.run_units.specs.Whole.{IsSized, HasSize, AllSized}
 use Rattle.run_units.proofs.FlatLawsAsking.{own_space}
 use Rattle.flat_model.specs.declared.calls.Reply.{Reply}
@@ -34,7 +35,7 @@ use Rattle.flat_model.specs.Calls.{argument, break_by, data_limit, no_memory, re
 use Rattle.flat_model.specs.Step.{Step, data_pages_of, call_entry, reply_asked, replied_step}
 use Rattle.flat_model.specs.Run.{Point, step_at, due_at}
 use Rattle.proc_calls.specs.declared.replying.Called.{Called}
-use Rattle.proc_calls.specs.Answered.{Replied, StopsOnce, StopsBefore}
+use Rattle.proc_calls.specs.Answered.{Replied, StopsOnce}
 use Rattle.proc_calls.specs.Growth.{space_held}
 use Rattle.proc_calls.specs.Leaving.{HasSettled}
 use Rattle.proc_calls.specs.Sizing.{process_data_pages as pages_held, process_stack_pages as stack_held, pages_to, data_sized, break_at, break_read, with_pieces, SameData, GrownData, NoPieces, CutData, Plain, MovesEnd, BreakComes, StopsPlain, StopsBreaking, StopsBreak}

@@ -20,7 +20,7 @@ use Rattle.kernel_model.specs.ChangeStep.{change_step}
 use Rattle.kernel_model.specs.Unit.{has_lender}
 use Rattle.machine_state.specs.Applying.{facts_named}
 use Rattle.machine_state.specs.Machine.{Standing}
-use Rattle.proc_calls.specs.Answered.{Entered, StopsOnce, StopsBefore}
+use Rattle.proc_calls.specs.Answered.{Entered, StopsOnce}
 use Rattle.proc_calls.specs.Callers.{regs_of}
 use Rattle.proc_calls.specs.Leaving.{HasLeft, HasEnded, StopsAlive, IsExit, ExitComes, StopsExit}
 use Rattle.run_model.specs.State.{State}
@@ -43,6 +43,7 @@ use Rattle.flat_model.specs.declared.calls.Reply.TheVariants.{Fails, Does, Write
 use Rattle.flat_model.specs.declared.calls.SystemCall.TheVariants as system_calls
 use Rattle.flat_model.specs.Calls.{argument, reply_of, exit_reply}
 use Rattle.machine_state.specs.UserMemory.{kernel_answers}
+use Rattle.swapper.specs.Stops.{StopsBefore}
 use Rattle.proc_calls.specs.declared.replying.Called.{Called}
 use Rattle.run_units.proofs.Execs.{AllGives, gives_any}
 use Rattle.step_units.specs.Machines.{MachineAt, RunsOn, MakesCall}

@@ -24,8 +24,7 @@ use Rattle.machine_state.specs.Applying.{facts_named}
 use Rattle.machine_state.specs.Conditions.{HasStopped}
 use Rattle.swapper.proofs.Stopping.{held_here}
 use Rattle.swapper.specs.Made.{ground}
-use Rattle.swapper.specs.Stops.{LeftBy}
-use Rattle.proc_calls.specs.Answered.{StopsBefore}
+use Rattle.swapper.specs.Stops.{LeftBy, StopsBefore}
 use Rattle.flat_model.specs.Step.{Step}
 use Rattle.flat_model.specs.Run.{step_at, due_at}
 use Rattle.run_model.specs.State.{State}

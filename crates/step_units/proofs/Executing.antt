@@ -31,8 +31,9 @@ use Rattle.flat_model.specs.Calls.{three_arguments, string_from, string_limit, p
 use Rattle.flat_model.specs.Run.{Point, step_at}
 use Rattle.flat_model.specs.Step.{Step, call_entry, answered_step}
 use Rattle.machine_state.specs.UserMemory.{kernel_answers}
+use Rattle.swapper.specs.Stops.{StopsBefore}
 use Rattle.proc_calls.specs.declared.replying.Called.{Called}
-use Rattle.proc_calls.specs.Answered.{StopsOnce, StopsBefore}
+use Rattle.proc_calls.specs.Answered.{StopsOnce}
 use Rattle.proc_calls.specs.Leaving.{HasLeft, StopsAlive}
 use Rattle.proc_calls.specs.Making.{without_pieces}
 use Rattle.proc_calls.specs.Starting.{image_found, HasStarted, StartsBy, ExecComes, StopsFinding, StopsExec}

@@ -31,10 +31,10 @@ use Rattle.kernel_model.specs.Coupled.{Fits}
 use Rattle.kernel_model.specs.Kernel.{Kernel}
 use Rattle.machine_state.specs.Applying.{facts_named}
 use Rattle.machine_state.specs.Machine.{Standing}
+use Rattle.swapper.specs.Stops.{StopsBefore}
 use Rattle.swapper.proofs.Stopping.{held_here}
 use Rattle.swapper.specs.Made.{ground}
 use Rattle.proc_calls.specs.Growth.{growth, growth_found, Grown, GrowthRefused}
-use Rattle.proc_calls.specs.Touches.{StopsGrowing}
 use Rattle.run_model.specs.After.{after}
 use Rattle.run_model.specs.Kinds.{GoesOn}
 use Rattle.run_model.specs.Next.{next_unit, goes_on, turn_instructions}
@@ -352,9 +352,9 @@ apart_next A t k image stop old new j pid n u next (inr e) c f i = record {
 
 pub growth_stops : (A : Inputs) (s : State) (old new : Standing) (holds : Option (List NamedFile)) (image : List ℕ) (j : Option (List ℕ)) (pid : ℕ) (now : Bool)
     (p : Process) (x : Space) (address : ℕ)
-    (stop : Stop) → RunsOn A s old holds image pid now p x → Falls A s old pid p x address → StopsGrowing old new (Some image) j stop
+    (stop : Stop) → RunsOn A s old holds image pid now p x → Falls A s old pid p x address → StopsBefore old new stop → j ≡ Some image
     → StopLeads A s old.kernel image stop new j
-growth_stops A s old new holds image j pid now p x address stop r f g = record {
+growth_stops A s old new holds image j pid now p x address stop r f g same = record {
   units = [];
   state = s;
   kernel = old.kernel;
@@ -377,11 +377,11 @@ growth_stops A s old new holds image j pid now p x address stop r f g = record {
     next stop c h =
         let u = comes (is_ok (growth_found old pid n)) refl in
         apart_next A s old.kernel image stop old new j pid n u.0 u.1 u.2 c
-        (λ z. subst (λ (b : ℕ). b ≤ length old.kernel.journal) (ap (λ (y : Rattle.vm_facts.specs.declared.params.Params.Params). y.journal) (sym g.stopped.params)) (h z)) g.image
+        (λ z. subst (λ (b : ℕ). b ≤ length old.kernel.journal) (ap (λ (y : Rattle.vm_facts.specs.declared.params.Params.Params). y.journal) (sym g.stopped.params)) (h z)) same
 
     stopped_by : (stop : Stop) → (stop ≡ stops.JournalFull) ⊎ (stop ≡ stops.NoMemory) → (stop ≡ stops.JournalFull → old.params.journal ≤ length old.kernel.journal)
         → StopsBy A s old.kernel image stop new j
-    stopped_by stops.NoMemory c h = g.image
+    stopped_by stops.NoMemory c h = same
     stopped_by stops.JournalFull c h = next stops.JournalFull c h
     stopped_by stops.FileFault c h = next stops.FileFault c h
     stopped_by stops.SwapReadFault c h = next stops.SwapReadFault c h

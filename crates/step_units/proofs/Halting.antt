@@ -14,7 +14,7 @@ use Rattle.page_model.specs.Placement.{Placement, Transfer, image_of, parts_of, 
 use Rattle.page_model.specs.Swapper.{names_page, is_settled}
 use Rattle.machine_state.specs.Machine.{Standing}
 use Rattle.swapper.proofs.Stopping.{held_here}
-use Rattle.proc_calls.specs.Answered.{StopsBefore}
+use Rattle.swapper.specs.Stops.{StopsBefore}
 use Rattle.flat_model.specs.Run.{due_at, first_if, entry_of_step as next_of_step}
 use Rattle.run_model.specs.State.{State}
 use Rattle.run_model.specs.Wanted.{wanted}

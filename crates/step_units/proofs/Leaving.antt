@@ -20,7 +20,7 @@ use Rattle.machine_state.specs.Machine.{Standing}
 use Rattle.machine_state.specs.Done.{sources}
 use Rattle.machine_state.specs.Settled.{StopsSettling}
 use Rattle.swapper.proofs.Stopping.{stays_starved, full_here}
-use Rattle.swapper.specs.Stops.{StaysPut, StaysStarved, StaysReturned, LeftBy}
+use Rattle.swapper.specs.Stops.{StaysPut, StaysStarved, StaysReturned, LeftBy, StopsBefore}
 use Rattle.proc_calls.specs.Growth.{space_held}
 use Rattle.proc_calls.specs.Leaving.{HasSettled, HasLeftBy, HasLeft, StopsLeaving}
 use Rattle.proc_calls.proofs.Leaving.{GoesOn, settled_goes}
@@ -39,7 +39,6 @@ use Rattle.swap_book.specs.Placing.{place_all}
 use Rattle.page_model.specs.Place.{facts_of}
 use Rattle.kernel_model.specs.Asks.{asked}
 use Rattle.kernel_model.specs.ChangeStep.{change_step}
-use Rattle.proc_calls.specs.Answered.{StopsBefore}
 use Rattle.run_units.specs.Machine.{Completes}
 use Rattle.run_units.proofs.Flows.{on_steps}
 use Rattle.run_units.specs.Acting.{IsBetween}

@@ -21,13 +21,14 @@ use Rattle.kernel_model.specs.Asks.{asked}
 use Rattle.kernel_laws.proofs.Machine.Swaps.{found_at}
 use Rattle.machine_state.specs.Machine.{Standing}
 use Rattle.machine_state.specs.Applying.{facts_named}
+use Rattle.swapper.specs.Stops.{StopsBefore}
 use Rattle.flat_model.specs.declared.calls.Reply.{Reply}
 use Rattle.flat_model.specs.declared.calls.Reply.TheVariants.{Fails, Does}
 use Rattle.flat_model.specs.declared.calls.SystemCall.{SystemCall}
 use Rattle.flat_model.specs.Calls.{try_again, replied, replied_both, child_by}
 use Rattle.flat_model.specs.Step.{Step, call_entry, replied_step}
 use Rattle.flat_model.specs.Run.{step_at, due_at}
-use Rattle.proc_calls.specs.Answered.{Answered, StopsBefore}
+use Rattle.proc_calls.specs.Answered.{Answered}
 use Rattle.proc_calls.specs.Making.{is_below_limit, finds_pieces, without_pieces, FindsNone, IsRefused, StopsMaking}
 use Rattle.run_model.specs.State.{State}
 use Rattle.run_model.specs.Act.{act}

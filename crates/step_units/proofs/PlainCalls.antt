@@ -15,13 +15,14 @@ use Rattle.flat_state.specs.declared.change.Change.TheVariants as changes
 use Rattle.kernel_model.specs.Kernel.{Proc}
 use Rattle.machine_state.specs.Machine.{Standing}
 use Rattle.machine_state.specs.UserMemory.{kernel_answers}
+use Rattle.swapper.specs.Stops.{StopsBefore}
 use Rattle.flat_model.specs.declared.calls.Reply.{Reply}
 use Rattle.flat_model.specs.declared.calls.Reply.TheVariants.{Fails, Does, Writes, Waits, Exits}
 use Rattle.flat_model.specs.declared.calls.SystemCall.{SystemCall}
 use Rattle.flat_model.specs.declared.calls.SystemCall.TheVariants as system_calls
 use Rattle.flat_model.specs.Calls.{reply_of, replied, replied_both, write_reply, wait_reply as flat_wait}
 use Rattle.flat_model.specs.Step.{call_entry, reply_asked, replied_step}
-use Rattle.proc_calls.specs.Answered.{GoneOut, StopsBefore}
+use Rattle.proc_calls.specs.Answered.{GoneOut}
 use Rattle.proc_calls.specs.Callers.{parent_of}
 use Rattle.proc_calls.specs.Waiting.{wait_by_records, wait_answer}
 use Rattle.proc_calls.specs.Writing.{IsWriteReply, StopsOut, bytes_of}

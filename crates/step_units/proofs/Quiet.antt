@@ -17,6 +17,7 @@ use Rattle.kernel_model.specs.Kernel.{Kernel}
 use Rattle.kernel_model.specs.Asks.{asked}
 use Rattle.machine_state.specs.Machine.{Standing}
 use Rattle.machine_state.specs.UserMemory.{kernel_answers}
+use Rattle.swapper.specs.Stops.{StopsBefore}
 use Rattle.flat_model.specs.declared.calls.Reply.{Reply}
 use Rattle.flat_model.specs.declared.calls.Reply.TheVariants.{Fails, Does, Writes, Waits, Exits}
 use Rattle.flat_model.specs.declared.calls.SystemCall.{SystemCall}
@@ -24,7 +25,7 @@ use Rattle.flat_model.specs.Calls.{fault, or_fault, replied}
 use Rattle.flat_model.specs.Step.{Step, reply_asked, replied_step}
 use Rattle.flat_model.specs.Run.{step_at}
 use Rattle.proc_calls.specs.declared.replying.Called.{Called}
-use Rattle.proc_calls.specs.Answered.{Answered, Replied, Comes, StopsBefore, StopsReading}
+use Rattle.proc_calls.specs.Answered.{Answered, Replied, Comes, StopsReading}
 use Rattle.run_units.specs.Shown.{IsCallOf}
 use Rattle.run_model.specs.State.{State}
 use Rattle.run_model.specs.Act.{loses_pages}

@@ -20,7 +20,7 @@ use Rattle.kernel_model.specs.ChangeStep.{change_step}
 use Rattle.kernel_laws.proofs.Machine.Swaps.{found_at}
 use Rattle.machine_state.specs.Machine.{Standing}
 use Rattle.machine_state.specs.Applying.{facts_named}
-use Rattle.proc_calls.specs.Answered.{StopsBefore}
+use Rattle.swapper.specs.Stops.{StopsBefore}
 use Rattle.flat_model.specs.declared.calls.Reply.{Reply}
 use Rattle.flat_model.specs.declared.calls.Reply.TheVariants.{Fails, Does}
 use Rattle.flat_model.specs.declared.calls.SystemCall.{SystemCall}

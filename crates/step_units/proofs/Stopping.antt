@@ -10,14 +10,13 @@ use Rattle.page_model.specs.Placement.{Transfer}
 use Rattle.kernel_model.specs.Kernel.{Kernel}
 use Rattle.machine_state.specs.Machine.{Standing}
 use Rattle.swapper.proofs.Stopping.{held_here}
-use Rattle.swapper.specs.Stops.{CauseBy, SpoilsBy, StopsAt}
+use Rattle.swapper.specs.Stops.{CauseBy, SpoilsBy, StopsAt, StopsBefore}
 use Rattle.run_model.specs.State.{State}
 use Rattle.run_model.specs.Next.{next_unit}
 use Rattle.run_units.specs.Machine.{IsNote}
 use Rattle.run_units.specs.Leads.{Leads}
 use Rattle.run_units.proofs.Units.{none_leads}
 use Rattle.step_units.specs.Stepped.{StopsNext, StopsBy, StopLeads}
-use Rattle.step_units.specs.Lines.{StopsNoting}
 
 -- At a unit that a call names.
 
@@ -80,7 +79,7 @@ note_spoils (entries.Owners free used moving held) stop k i h = refl
 note_spoils _ stop k i h = absurd h
 
 pub note_stops : (A : Inputs) (s : State) (old new : Standing) (image : List ℕ) (stop : Stop) (e : Entry) → next_unit A s ≡ Some e → IsNote e
-    → StopsNoting old new stop
+    → StopsBefore old new stop
     → StopLeads A s old.kernel image stop new (Some image)
 note_stops A s old new image stop e n h x = record {
   units = [];

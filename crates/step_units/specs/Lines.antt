@@ -1,19 +1,17 @@
 -- What a machine makes of the lines of a schedule, and of turns.
-use Rattle.std.specs.Prelude.{◌≡◌, ◌⊎◌, ℕ, ◌+◌, ◌<◌, ◌≤◌, true, false, List, [], ◌∷◌, length, slice_get, Option, Some, None}
+use Rattle.std.specs.Prelude.{◌≡◌, ℕ, ◌+◌, ◌<◌, true, false, List, [], ◌∷◌, length, slice_get, Option, Some, None}
 use Rattle.vm_facts.specs.declared.entry.Entry.{Entry}
 use Rattle.vm_facts.specs.declared.entry.Entry.TheVariants as entries
 use Rattle.vm_facts.specs.declared.event.Event.{Event}
 use Rattle.vm_facts.specs.declared.stop.Stop.{Stop}
-use Rattle.vm_facts.specs.declared.stop.Stop.TheVariants as stops
 use Rattle.io_edge.specs.FileHolding.{NamedFile}
 use Rattle.flat_state.specs.Flat.{Inputs}
 use Rattle.page_model.specs.Swapper.{is_out, swap_choice}
 use Rattle.kernel_model.specs.Kernel.{Kernel, note_step}
 use Rattle.machine_state.specs.Machine.{Standing}
-use Rattle.machine_state.specs.Conditions.{HasStopped}
 use Rattle.machine_state.specs.Done.{sources, IsDone, ImageAfter, StopsEnding}
 use Rattle.machine_state.specs.Swapping.{IsIn}
-use Rattle.swapper.specs.Stops.{StopsAt}
+use Rattle.swapper.specs.Stops.{StopsAt, StopsBefore}
 use Rattle.proc_calls.specs.Moved.{Moved, StopsMoving}
 use Rattle.swapper.specs.declared.Turned.{Turned}
 use Rattle.swapper.specs.Runners.{runners_of, choice_of}
@@ -71,20 +69,12 @@ LineBegins =
     → IsOver A s → s.count < A.limit
     → slice_get A.lines s.lines ≡ Some e → l ≡ note_step old.kernel (entries.Event (s.lines + 1)) → LineBegun A s old.kernel image e l
 
--- A machine that stops before an entry that goes into the journal alone: for want of memory, or since the journal is at its bound.
--- No pieces wait there.
-pub record StopsNoting (old new : Standing) (stop : Stop) : Type 0 where
-  pub stopped : HasStopped old new
-  pub whole : old.before ≡ old.kernel.holdings
-  pub cause : (stop ≡ stops.JournalFull) ⊎ (stop ≡ stops.NoMemory)
-  pub full : stop ≡ stops.JournalFull → old.params.journal ≤ length old.kernel.journal
-
--- where the machine stops so before a line's entry, next units lead to the stop
+-- where the machine stops before a line's entry, next units lead to the stop
 abbrev pub LineStops : Type 0
 LineStops =
     (A : Inputs) (s : State) (old new : Standing) (holds : Option (List NamedFile)) (image : List ℕ) (e : Event) (stop : Stop) → MachineAt A s old holds image
     → IsOver A s → s.count < A.limit
-    → slice_get A.lines s.lines ≡ Some e → StopsNoting old new stop → StopLeads A s old.kernel image stop new (Some image)
+    → slice_get A.lines s.lines ≡ Some e → StopsBefore old new stop → StopLeads A s old.kernel image stop new (Some image)
 
 -- What the lines ask for.
 
@@ -152,7 +142,7 @@ abbrev pub AuditStops : Type 0
 AuditStops =
     (A : Inputs) (s : State) (old new : Standing) (holds : Option (List NamedFile)) (image : List ℕ) (stop : Stop) → MachineAt A s old holds image
     → IsClear s → s.mark ≡ marks.Audit
-    → StopsNoting old new stop → StopLeads A s old.kernel image stop new (Some image)
+    → StopsBefore old new stop → StopLeads A s old.kernel image stop new (Some image)
 
 -- Turns of the closing phase.
 
@@ -187,7 +177,7 @@ abbrev pub TurnStops : Type 0
 TurnStops =
     (A : Inputs) (s : State) (old new : Standing) (holds : Option (List NamedFile)) (image : List ℕ) (pid : ℕ) (stop : Stop)
     → MachineAt A s old holds image → TurnDue A s pid
-    → StopsNoting old new stop → StopLeads A s old.kernel image stop new (Some image)
+    → StopsBefore old new stop → StopLeads A s old.kernel image stop new (Some image)
 
 -- A process whose turn it is and that is out comes in first: it has its turn yet, and is in.
 pub record CameIn (A : Inputs) (s : State) (k : Kernel) (image : List ℕ) (pid since : ℕ) (l : Kernel) : Type 0 where

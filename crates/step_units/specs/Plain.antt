@@ -15,9 +15,10 @@ use Rattle.flat_model.specs.declared.calls.SystemCall.TheVariants as system_call
 use Rattle.flat_model.specs.Step.{reply_asked}
 use Rattle.machine_state.specs.Machine.{Standing}
 use Rattle.machine_state.specs.UserMemory.{kernel_answers}
+use Rattle.swapper.specs.Stops.{StopsBefore}
 use Rattle.proc_calls.specs.declared.replying.Called.{Called}
 use Rattle.proc_calls.specs.Callers.{parent_of}
-use Rattle.proc_calls.specs.Answered.{Replied, Comes, StopsBefore, StopsReading}
+use Rattle.proc_calls.specs.Answered.{Replied, Comes, StopsReading}
 use Rattle.proc_calls.specs.Waiting.{wait_answer}
 use Rattle.proc_calls.specs.Writing.{StopsOut}
 use Rattle.run_model.specs.State.{State}

@@ -18,7 +18,8 @@ use Rattle.flat_model.specs.Step.{call_entry}
 use Rattle.flat_model.specs.declared.calls.SystemCall.{SystemCall}
 use Rattle.machine_state.specs.Machine.{Standing}
 use Rattle.machine_state.specs.UserMemory.{kernel_answers}
-use Rattle.proc_calls.specs.Answered.{Answered, StopsBefore}
+use Rattle.swapper.specs.Stops.{StopsBefore}
+use Rattle.proc_calls.specs.Answered.{Answered}
 use Rattle.run_model.specs.State.{State, start}
 use Rattle.run_model.specs.Wanted.{wanted}
 use Rattle.run_model.specs.Act.{act}

@@ -14,6 +14,7 @@ use Rattle.machine_state.specs.Machine.{Standing}
 use Rattle.machine_state.specs.Conditions.{HasStopped}
 use Rattle.machine_state.specs.Failing.{LosesFor}
 use Rattle.machine_state.specs.Done.{sources, IsDone, ImageAfter, StopsFor, SwapAfter, StopsEnding}
+use Rattle.journal_laws.specs.Stops.{StopsBefore}
 use Rattle.journal_laws.specs.Moved.{Moved, StopsMoving}
 use Rattle.run_start.specs.Turned.{Turned}
 use Rattle.run_start.specs.Runners.{runners_of, choice_of}
@@ -27,7 +28,7 @@ use Rattle.run_model.specs.Next.{owners_of, last_turned}
 use Rattle.journal_laws.specs.Leads.{Leads}
 use Rattle.journal_laws.proofs.Units.{none_leads}
 use Rattle.run_start.specs.Stepped.{StopLeads, LeadsFrom, StopsFrom}
-use Rattle.run_start.specs.Lines.{LineLeads, StopsNoting}
+use Rattle.run_start.specs.Lines.{LineLeads}
 use Rattle.run_start.proofs.Asking.{interrupt_made, idle_ends, interrupt_stops, hands_made, hands_stop, audit_made, audit_stops}
 use Rattle.run_start.proofs.PuttingOut.{swapper_made, swapper_stops}
 use Rattle.proc_run.specs.Runs.{IsSteady}
@@ -157,7 +158,7 @@ pub audit_makes : (old new : Standing) (holds : Option (List NamedFile)) (i : Op
 audit_makes old new holds i k A s image at =
     subst (λ (o : Option (List ℕ)). LineLeads A s old.kernel image new.kernel o) (sym at.told) (audit_made A s old new.kernel holds image at.machine at.clear at.mark k)
 
-pub audit_halts : (old new : Standing) (holds : Option (List NamedFile)) (i : Option (List ℕ)) (stop : Stop) → StopsNoting old new stop
+pub audit_halts : (old new : Standing) (holds : Option (List NamedFile)) (i : Option (List ℕ)) (stop : Stop) → StopsBefore old new stop
     → StopsFrom (LineAt old holds i events.Audit) old new i stop
 audit_halts old new holds i stop x A s image at =
     subst (λ (o : Option (List ℕ)). StopLeads A s old.kernel image stop new o) (sym at.told) (audit_stops A s old new holds image stop at.machine at.clear at.mark x)

@@ -7,7 +7,7 @@ use Rattle.vm_facts.specs.declared.stop.Stop.{Stop}
 use Rattle.vm_facts.specs.declared.stop.Stop.TheVariants as stops
 use Rattle.machine_state.specs.Machine.{Standing}
 use Rattle.machine_state.specs.Conditions.{HasStopped}
-use Rattle.run_start.specs.Lines.{StopsNoting}
+use Rattle.journal_laws.specs.Stops.{StopsBefore}
 
 -- what is so of the stop of a call is so of one that ends with it
 pub stops_on : {T : Type 0} (r : Result T Stop) (stop : Stop) (Q : Stop → Type 0) → IsErrAnd r (λ y. y ≡ stop) → Q stop → IfErr r Q
@@ -18,7 +18,7 @@ same_error a b e = cc
 
 pub stops_noting : {T : Type 0} (r : Result T Stop) (old new : Standing) → old.before ≡ old.kernel.holdings → OnErr r (HasStopped old new)
     → OnErr r ((r ≡ Err stops.JournalFull) ⊎ (r ≡ Err stops.NoMemory))
-    → ((r ≡ Err stops.JournalFull) ↔ (old.params.journal ≤ length old.kernel.journal)) → IfErr r (λ stop. StopsNoting old new stop)
+    → ((r ≡ Err stops.JournalFull) ↔ (old.params.journal ≤ length old.kernel.journal)) → IfErr r (λ stop. StopsBefore old new stop)
 stops_noting (Ok x) old new w h c f = tt
 stops_noting {T = T} (Err stop) old new w h c f = record {
   stopped = h;

@@ -12,6 +12,7 @@ use Rattle.page_model.specs.Placement.{Placement}
 use Rattle.page_model.specs.Swapper.{swap_choice}
 use Rattle.kernel_model.specs.Kernel.{note_step}
 use Rattle.machine_state.specs.Machine.{Standing}
+use Rattle.journal_laws.specs.Stops.{StopsBefore}
 use Rattle.flat_model.specs.Run.{Point}
 use Rattle.run_model.specs.declared.mark.Mark.TheVariants as marks
 use Rattle.run_model.specs.State.{State, runners}
@@ -21,7 +22,7 @@ use Rattle.run_laws.proofs.Machines.{makes_follows}
 use Rattle.journal_laws.specs.Leads.{Leads}
 use Rattle.journal_laws.proofs.Units.{both_lead}
 use Rattle.run_start.specs.Stepped.{StopLeads, LeadsFrom, StopsFrom}
-use Rattle.run_start.specs.Lines.{LineBegun, StopsNoting, LineLeads}
+use Rattle.run_start.specs.Lines.{LineBegun, LineLeads}
 use Rattle.run_start.proofs.StepUnitsBeginning.{line_begins, line_stops}
 use Rattle.proc_run.specs.Running.{CountsTo}
 use Rattle.vm_core.specs.Accounts.{StopsAccounted, StopsAccountedFrom}
@@ -128,7 +129,7 @@ module _ (A : Inputs) (s : State) (old : Underway) (holds : Option (List NamedFi
       stop_accounted A s old.machine.kernel image stop new j at.stands.machine.at at.stands.crowd
       (leads_to_stop A s b.state old.machine.kernel mid.kernel image image b.units stop new j b.leads (f A b.state image b.at))
 
-  noting_stops : (new : Standing) (stop : Stop) → StopsNoting old.machine new stop → StopsAccounted A s old.machine.kernel image stop new i
+  noting_stops : (new : Standing) (stop : Stop) → StopsBefore old.machine new stop → StopsAccounted A s old.machine.kernel image stop new i
   noting_stops new stop x =
       stop_accounted A s old.machine.kernel image stop new i at.stands.machine.at at.stands.crowd
       (subst (λ (o : Option (List ℕ)). StopLeads A s old.machine.kernel image stop new o) (sym at.stands.told)
@@ -150,6 +151,6 @@ pub stops_carrying : (old after : Underway) (mid : Standing) (holds : Option (Li
 stops_carrying old after mid holds i j line e stop stays k f A s image (at, due) = carrying_stops A s old holds i image line e at due mid after.machine j stop stays k f
 
 pub stops_noted : (old after : Underway) (holds : Option (List NamedFile)) (i : Option (List ℕ)) (line : ℕ) (e : Event) (stop : Stop)
-    → StopsNoting old.machine after.machine stop
+    → StopsBefore old.machine after.machine stop
     → StopsAccountedFrom (LineDueAt old line e holds i) old.machine after.machine i stop
 stops_noted old after holds i line e stop x A s image (at, due) = noting_stops A s old holds i image line e at due after.machine stop x

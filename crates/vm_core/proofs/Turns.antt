@@ -12,13 +12,13 @@ use Rattle.page_model.specs.Placement.{Placement}
 use Rattle.kernel_model.specs.Kernel.{Kernel, note_step}
 use Rattle.machine_state.specs.Machine.{Standing}
 use Rattle.machine_state.specs.Swapping.{IsIn}
-use Rattle.journal_laws.specs.Stops.{StopsAt}
+use Rattle.journal_laws.specs.Stops.{StopsAt, StopsBefore}
 use Rattle.run_model.specs.State.{State}
 use Rattle.run_model.specs.Next.{goes_on, turn_instructions}
 use Rattle.journal_laws.specs.Leads.{Leads}
 use Rattle.journal_laws.proofs.Units.{none_leads, both_lead}
 use Rattle.run_start.specs.Stepped.{StopLeads, LeadsFrom, StopsFrom}
-use Rattle.run_start.specs.Lines.{TurnDue, TurnBegun, CameIn, StopsNoting}
+use Rattle.run_start.specs.Lines.{TurnDue, TurnBegun, CameIn}
 use Rattle.run_start.proofs.StepUnitsBeginning.{turn_stops}
 use Rattle.run_start.proofs.Turning.{turn_begins, comes_in, coming_in_stops}
 use Rattle.run_model.specs.declared.mark.Mark.TheVariants as marks
@@ -157,7 +157,7 @@ has_turn old mid in_ new pid counted count holds i h j stays k came finishes to 
       turned = d.turned;
     }
 
-pub turn_noting_stops : (old new : Standing) (pid counted : ℕ) (holds : Option (List NamedFile)) (i : Option (List ℕ)) (stop : Stop) → StopsNoting old new stop
+pub turn_noting_stops : (old new : Standing) (pid counted : ℕ) (holds : Option (List NamedFile)) (i : Option (List ℕ)) (stop : Stop) → StopsBefore old new stop
     → StopsFrom (DueTurn old holds i counted pid) old new i stop
 turn_noting_stops old new pid counted holds i stop x A s image (st, due) =
     subst (λ (o : Option (List ℕ)). StopLeads A s old.kernel image stop new o) (sym st.told) (turn_stops A s old new holds image pid stop st.machine due x)

@@ -6,8 +6,9 @@ ghost use Rattle.machine_state.specs.Going.{CanGoOn};
 ghost use Rattle.machine_state.specs.Calls.{IsNote};
 ghost use Rattle.machine_state.specs.Files.{AreFiles};
 ghost use Rattle.machine_state.specs.Outside.{stop_of, TransfersPages};
+ghost use Rattle.journal_laws.specs.Stops.{StopsBefore};
 ghost use Rattle.journal_laws.specs.LastMoves.{last_moves};
-ghost use Rattle.run_start.specs.Lines.{StopsNoting, LineLeads};
+ghost use Rattle.run_start.specs.Lines.{LineLeads};
 ghost use Rattle.run_start.specs.Sizes.{KeptAtStop};
 ghost use Rattle.run_start.specs.Stepped.{LeadsFrom, StopsFrom};
 ghost use Rattle.proc_run.specs.Runs.{IsSteady};
@@ -31,7 +32,7 @@ pub fn note(m: &mut Machine, e: Entry) -> Result<(), Stop>
     ensures first { OnOk result (last_moves m.new.kernel.journal ≡ 0) }
     ensures steady { OnOk result (StaysSteady m.old m.new 0) }
     ensures cause { OnErr result ((result ≡ Err Stop.JournalFull) ⊎ (result ≡ Err Stop.NoMemory)) }
-    ensures stops { IfErr result (StopsNoting m.old m.new) }
+    ensures stops { IfErr result (StopsBefore m.old m.new) }
     ensures kept { IfErr result (KeptAtStop m.old m.new) }
 {
     m.note(e)

@@ -3,7 +3,7 @@ use Rattle.std.proofs.lemmas.Result.{on_ok_weaker}
 use Rattle.vm_facts.specs.declared.entry.Entry.{Entry}
 use Rattle.vm_facts.specs.declared.event.Event.TheVariants as events
 use Rattle.kernel_model.specs.Kernel.{note_step}
-use Rattle.run_start.specs.Lines.{StopsNoting}
+use Rattle.journal_laws.specs.Stops.{StopsBefore}
 use Rattle.run_start.specs.Stepped.{StopsFrom}
 use Rattle.vm_core.proofs.Noting.{stops_weaker}
 use Rattle.vm_core.proofs.Asked.{audit_makes, audit_halts}
@@ -19,5 +19,5 @@ returns-clause-made c holds i =
 
 pub returns-clause-stops : goal.returns-clause-stops
 returns-clause-stops c holds i =
-    stops_weaker c.note.result (StopsNoting c.args.m.now c.note.new.m) (StopsFrom (LineAt c.args.m.now holds i events.Audit) c.args.m.now c.note.new.m i)
+    stops_weaker c.note.result (StopsBefore c.args.m.now c.note.new.m) (StopsFrom (LineAt c.args.m.now holds i events.Audit) c.args.m.now c.note.new.m i)
     (audit_halts c.args.m.now c.note.new.m holds i) c.note.ensures.stops

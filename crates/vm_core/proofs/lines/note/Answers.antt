@@ -1,5 +1,5 @@
 use Rattle.std.proofs.lemmas.Result.{on_ok_weaker}
-use Rattle.run_start.specs.Lines.{StopsNoting}
+use Rattle.journal_laws.specs.Stops.{StopsBefore}
 use Rattle.run_start.specs.Sizes.{KeptAtStop}
 use Rattle.vm_core.proofs.Kept.{kept_noting}
 use Rattle.vm_core.proofs.Noting.{stops_noting, stops_weaker}
@@ -19,5 +19,5 @@ returns-clause-stops c = stops_noting c.note.result c.args.m.now c.note.new.self
 
 pub returns-clause-kept : goal.returns-clause-kept
 returns-clause-kept c =
-    stops_weaker c.note.result (StopsNoting c.args.m.now c.note.new.self) (KeptAtStop c.args.m.now c.note.new.self) (kept_noting c.args.m.now c.note.new.self)
+    stops_weaker c.note.result (StopsBefore c.args.m.now c.note.new.self) (KeptAtStop c.args.m.now c.note.new.self) (kept_noting c.args.m.now c.note.new.self)
     (stops_noting c.note.result c.args.m.now c.note.new.self c.requires.ready.whole c.note.ensures.stop c.note.ensures.cause c.note.ensures.full)
