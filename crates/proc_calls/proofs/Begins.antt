@@ -37,11 +37,10 @@ use Rattle.proc_calls.specs.Callers.{IsCaller}
 use Rattle.proc_calls.specs.Answered.{Answered}
 use Rattle.proc_calls.specs.Filling.{StopsStart}
 use Rattle.proc_calls.specs.Leaving.{HasSettled, HasLeftBy}
-use Rattle.proc_calls.specs.Making.{with_pieces}
 use Rattle.proc_calls.specs.Starting.{image_wanted, image_found, LeavesFor, FindsBy, Finds, Starts, ExecComes, StopsImage, StopsExec}
 use Rattle.proc_calls.proofs.Callers.{caller_lives}
 use Rattle.machine_state.proofs.Asked.{stopped_found}
-use Rattle.fault_fill.specs.Growth.{space_held}
+use Rattle.fault_fill.specs.Growth.{space_held, with_pieces}
 use Rattle.proc_calls.proofs.Stopping.{stops_before}
 use Rattle.proc_calls.proofs.Starts.{is_ready}
 use Rattle.proc_calls.proofs.Leaving.{GoesOn, settled_goes, space_stays, lender_lives}

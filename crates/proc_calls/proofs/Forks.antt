@@ -41,11 +41,11 @@ use Rattle.machine_state.specs.Conditions.{KeepsFlat}
 use Rattle.machine_state.specs.UserMemory.{CanLend}
 use Rattle.fault_fill.specs.LastMoves.{last_moves}
 use Rattle.fault_fill.proofs.LastMoves.{last_of}
-use Rattle.fault_fill.specs.Growth.{space_held}
+use Rattle.fault_fill.specs.Growth.{space_held, with_pieces}
 use Rattle.proc_calls.specs.declared.replying.Called.{Called}
 use Rattle.proc_calls.specs.Answered.{Answered, Replied}
 use Rattle.proc_calls.specs.Callers.{IsCaller}
-use Rattle.proc_calls.specs.Making.{is_below_limit, finds_pieces, with_pieces, without_pieces, HasChild, MakesChildBy, MakesChild}
+use Rattle.proc_calls.specs.Making.{is_below_limit, finds_pieces, without_pieces, HasChild, MakesChildBy, MakesChild}
 use Rattle.proc_calls.specs.Copying.{in_space, AreCopiesFrom, HasCopied}
 use Rattle.proc_calls.specs.Forking.{fork_wants, HasNewSpace, ForkAnswered}
 use Rattle.proc_calls.proofs.Callers.{caller_there, caller_lives, sound_now}

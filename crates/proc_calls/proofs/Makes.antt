@@ -43,10 +43,11 @@ use Rattle.machine_state.specs.UserMemory.{CanLend}
 use Rattle.machine_state.proofs.Lives.{pid_of}
 use Rattle.proc_table.specs.declared.process.Proc.{Proc as Record}
 use Rattle.vfork_pass.specs.Passed.{IsHolder, HasLent}
+use Rattle.fault_fill.specs.Growth.{with_pieces}
 use Rattle.proc_calls.specs.Callers.{IsCaller}
 use Rattle.proc_calls.specs.declared.replying.Called.{Called}
 use Rattle.proc_calls.specs.Answered.{Answered, Replied}
-use Rattle.proc_calls.specs.Making.{is_below_limit, finds_pieces, with_pieces, without_pieces, HasChild, MakesChildBy, MakesChild, HasLentSpace, Vforked, StopsMaking}
+use Rattle.proc_calls.specs.Making.{is_below_limit, finds_pieces, without_pieces, HasChild, MakesChildBy, MakesChild, HasLentSpace, Vforked, StopsMaking}
 use Rattle.proc_calls.proofs.Callers.{caller_lives, sound_now}
 use Rattle.proc_calls.proofs.Crowded.{crowd}
 use Rattle.proc_calls.proofs.Stopping.{stops_before}

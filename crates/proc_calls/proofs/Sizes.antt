@@ -41,9 +41,9 @@ use Rattle.machine_state.specs.Done.{sources}
 use Rattle.machine_state.specs.UserMemory.{CanLend}
 use Rattle.machine_state.specs.Wants.{wanted_of, found_for}
 use Rattle.machine_state.specs.Want.{Want}
-use Rattle.fault_fill.specs.Growth.{space_held}
+use Rattle.fault_fill.specs.Growth.{space_held, with_pieces}
 use Rattle.proc_calls.specs.Callers.{IsCaller}
-use Rattle.proc_calls.specs.Sizing.{process_data_pages, process_stack_pages, break_at, pieces_found, with_pieces}
+use Rattle.proc_calls.specs.Sizing.{process_data_pages, process_stack_pages, break_at, pieces_found}
 use Rattle.proc_calls.specs.Leaving.{HasSettled}
 use Rattle.proc_calls.proofs.Callers.{caller_lives}
 use Rattle.proc_calls.proofs.Leaving.{GoesOn, settled_goes, space_stays}

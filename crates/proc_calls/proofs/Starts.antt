@@ -19,9 +19,9 @@ use Rattle.machine_state.specs.Conditions.{KeepsFlat}
 use Rattle.machine_state.specs.Done.{Sources, sources}
 use Rattle.machine_state.specs.Settled.{EndsWhile}
 use Rattle.machine_state.specs.Wants.{found_for, fits_for}
-use Rattle.fault_fill.specs.Growth.{space_held}
+use Rattle.fault_fill.specs.Growth.{space_held, with_pieces}
 use Rattle.proc_calls.specs.Leaving.{HasLeftBy, HasLeft}
-use Rattle.proc_calls.specs.Making.{with_pieces, without_pieces}
+use Rattle.proc_calls.specs.Making.{without_pieces}
 use Rattle.proc_calls.specs.Starting.{wants_found, Finds}
 
 -- What the pieces of an image depend on stays as transfers end.

@@ -14,9 +14,8 @@ use Rattle.machine_state.specs.Conditions.{HasStopped}
 use Rattle.machine_state.specs.Settled.{StopsSettling}
 use Rattle.machine_state.proofs.Asked.{stopped_found}
 use Rattle.fault_fill.specs.Stops.{StopsBefore}
-use Rattle.fault_fill.specs.Growth.{space_held}
+use Rattle.fault_fill.specs.Growth.{space_of_pid, with_pieces}
 use Rattle.proc_calls.specs.Leaving.{HasSettled, HasLeftBy, HasLeft, StopsLeaving, StopsAlive}
-use Rattle.proc_calls.specs.Making.{with_pieces}
 use Rattle.proc_calls.specs.Starting.{StopsFinding}
 use Rattle.proc_calls.specs.Writing.{StopsOut}
 use Rattle.proc_calls.specs.Sizing.{process_data_pages, StopsPlain, StopsBreaking}
@@ -51,7 +50,7 @@ grown_stops {A} (Err stop) m asked new pid pages hs e w room s c f =
 
 pub cut_stops : {A : Type 0} (r : Result A Stop) (m b new : Standing) (pid pages : ℕ) (holds : Option (List NamedFile)) (i j : Option (List ℕ))
     → pages < process_data_pages m.kernel pid
-    → HasSettled m b (space_held m.kernel pid) holds i j → b.before ≡ b.kernel.holdings → OnErr r (HasStopped b new)
+    → HasSettled m b (space_of_pid m.kernel pid) holds i j → b.before ≡ b.kernel.holdings → OnErr r (HasStopped b new)
     → OnErr r ((r ≡ Err stops.JournalFull) ⊎ (r ≡ Err stops.NoMemory))
     → (r ≡ Err stops.JournalFull → b.params.journal ≤ length b.kernel.journal)
     → IfErr r (StopsBreaking m new pid pages holds i j)
@@ -73,7 +72,7 @@ once_left {A} (Err stop) m b new pid holds i j w left s c f = inr (record { reac
 -- a space of its own that doesn't settle
 pub own_stops : {A : Type 0} (r : Result A Stop) (m new : Standing) (pid sid : ℕ) (holds : Option (List NamedFile)) (i j : Option (List ℕ))
     → has_lender m.kernel.processes pid ≡ false
-    → sid ≡ space_held m.kernel pid → IfErr r (StopsSettling sid m new holds i j) → IfErr r (StopsLeaving m new pid holds i j)
+    → sid ≡ space_of_pid m.kernel pid → IfErr r (StopsSettling sid m new holds i j) → IfErr r (StopsLeaving m new pid holds i j)
 own_stops (Ok x) m new pid sid holds i j e held s = tt
 own_stops (Err stop) m new pid sid holds i j e held s = inl (e, subst (λ (n : ℕ). StopsSettling n m new holds i j stop) held s)
 

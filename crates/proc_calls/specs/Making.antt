@@ -18,6 +18,7 @@ use Rattle.machine_state.specs.Applying.{facts_named}
 use Rattle.machine_state.specs.Conditions.{KeepsFlat}
 use Rattle.fault_fill.specs.Stops.{StopsBefore}
 use Rattle.vfork_pass.specs.Passed.{HasLent}
+use Rattle.fault_fill.specs.Growth.{with_pieces}
 use Rattle.proc_calls.specs.Answered.{Answered, StopsOnce}
 
 -- there are fewer processes than may be, as `child_reply` of flat_model asks of a flat state
@@ -28,11 +29,7 @@ is_below_limit k = nat_lt (length k.processes) process_limit
 abbrev pub finds_pieces : Standing → ℕ → Change → Bool
 finds_pieces m pid change = is_ok (place_all m.params.swap_blocks m.kernel.holdings (asked (facts_named m.images) m.kernel pid change))
 
--- once they were found
-abbrev pub with_pieces : Standing → Holdings → Standing
-with_pieces m found = record m { kernel = record m.kernel { holdings = found } }
-
--- after the entry that says that they find none
+-- the machine after the entry that says that they find none
 abbrev pub without_pieces : Standing → ℕ → Standing
 without_pieces m pid = record m { kernel = note_step m.kernel (Refused pid); room = None }
 

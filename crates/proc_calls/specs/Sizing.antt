@@ -1,7 +1,6 @@
 -- What a break comes to.
-use Rattle.std.specs.Prelude.{◌≡◌, ◌⊎◌, ℕ, ◌-◌, ◌<◌, ◌≤◌, nat_le, false, List, Option, None, Result, Ok, Err, is_ok}
+use Rattle.std.specs.Prelude.{◌≡◌, ◌⊎◌, ℕ, ◌-◌, ◌<◌, ◌≤◌, nat_le, false, List, Option, Result, Ok, Err, is_ok}
 use Rattle.vm_facts.specs.declared.regs.Regs.{Regs}
-use Rattle.vm_facts.specs.declared.entry.Entry.TheVariants as entries
 use Rattle.vm_facts.specs.declared.stop.Stop.{Stop}
 use Rattle.io_edge.specs.FileHolding.{NamedFile}
 use Rattle.aout_image.specs.Image.{pages_for}
@@ -15,31 +14,32 @@ use Rattle.flat_model.specs.declared.calls.Reply.{Reply}
 use Rattle.flat_model.specs.declared.calls.Reply.TheVariants.{Fails}
 use Rattle.flat_model.specs.declared.calls.SystemCall.TheVariants.{Break}
 use Rattle.page_model.specs.Place.{data_count, stack_count}
-use Rattle.kernel_model.specs.Kernel.{Kernel, note_step}
+use Rattle.kernel_model.specs.Kernel.{Kernel}
 use Rattle.kernel_model.specs.Asks.{asked}
 use Rattle.machine_state.specs.Machine.{Standing}
 use Rattle.machine_state.specs.Applying.{facts_named}
 use Rattle.machine_state.specs.Settled.{StopsSettling}
 use Rattle.machine_state.specs.UserMemory.{text_len}
 use Rattle.fault_fill.specs.Stops.{StopsBefore}
-use Rattle.fault_fill.specs.Growth.{space_held}
+use Rattle.fault_fill.specs.Growth.{space_of_pid, with_pieces}
 use Rattle.proc_calls.specs.Answered.{Replied, Comes, StopsReading, StopsOnce}
 use Rattle.proc_calls.specs.Leaving.{HasSettled}
+use Rattle.proc_calls.specs.Making.{without_pieces}
 use Rattle.proc_calls.specs.declared.replying.Called.{Called}
 
 -- The sizes.
 
 -- the pages of the data of a process
 abbrev pub process_data_pages : Kernel → ℕ → ℕ
-process_data_pages k pid = data_count k.place (space_held k pid)
+process_data_pages k pid = data_count k.place (space_of_pid k pid)
 
 -- the pages of the stack of a process
 abbrev pub process_stack_pages : Kernel → ℕ → ℕ
-process_stack_pages k pid = stack_count k.place (space_held k pid)
+process_stack_pages k pid = stack_count k.place (space_of_pid k pid)
 
 -- the pages of data that end at an address; none where the address is below the data
 abbrev pub pages_to : Kernel → ℕ → ℕ → ℕ
-pages_to k pid address = pages_for (address - text_len k.place (space_held k pid))
+pages_to k pid address = pages_for (address - text_len k.place (space_of_pid k pid))
 
 -- The reply.
 
@@ -59,14 +59,6 @@ break_read k pid regs (Err refused) = Err refused
 -- the holdings once the pieces for that are found, or the length of the first piece that finds no place
 abbrev pub pieces_found : Standing → ℕ → ℕ → Result Holdings ℕ
 pieces_found m pid pages = place_all m.params.swap_blocks m.kernel.holdings (asked (facts_named m.images) m.kernel pid (data_sized m.kernel pid pages))
-
--- the machine with the holdings in which the pieces were found
-abbrev pub with_pieces : Standing → Holdings → Standing
-with_pieces m hs = record m { kernel = record m.kernel { holdings = hs } }
-
--- the refusal of pieces is an entry of its own
-abbrev pub with_refusal : Standing → ℕ → Standing
-with_refusal m pid = record m { kernel = note_step m.kernel (entries.Refused pid); room = None }
 
 -- What becomes of the machine.
 
@@ -88,14 +80,14 @@ pub record NoPieces (old new : Standing) (pid : ℕ) (regs : Regs) (pages : ℕ)
   pub more : process_data_pages old.kernel pid < pages
   pub few : pages ≤ data_limit
   pub none : is_ok (pieces_found old pid pages) ≡ false
-  pub replied : Replied (with_refusal old pid) new pid Break regs (Fails no_memory) called
+  pub replied : Replied (without_pieces old pid) new pid Break regs (Fails no_memory) called
 
 -- fewer pages: transfers end until the space is settled, before the reply
 pub record CutData (old new : Standing) (pid : ℕ) (regs : Regs) (pages : ℕ) (holds : Option (List NamedFile)) (before after : Option (List ℕ)) (called : Called)
     : Type 0 where
   pub fewer : pages < process_data_pages old.kernel pid
   pub between : Standing
-  pub settled : HasSettled old between (space_held old.kernel pid) holds before after
+  pub settled : HasSettled old between (space_of_pid old.kernel pid) holds before after
   pub replied : Replied between new pid Break regs (break_at old.kernel pid regs pages) called
 
 -- with no call of a device
@@ -123,7 +115,7 @@ abbrev pub StopsPlain : Standing → Standing → ℕ → ℕ → Stop → Type 
 StopsPlain old new pid pages stop =
     StopsBefore old new stop
     ⊎ ((process_data_pages old.kernel pid < pages) × (pages ≤ data_limit) × (is_ok (pieces_found old pid pages) ≡ false)
-    × StopsBefore (with_refusal old pid) new stop)
+    × StopsBefore (without_pieces old pid) new stop)
 
 -- A break stops with no call of a device, or, with fewer pages, as the space settles, or once it has, with the swap image as it
 -- was there.
@@ -131,8 +123,8 @@ abbrev pub StopsBreaking : Standing → Standing → ℕ → ℕ → Option (Lis
 StopsBreaking old new pid pages holds before after stop =
     (StopsPlain old new pid pages stop × (after ≡ before))
     ⊎ ((pages < process_data_pages old.kernel pid)
-    × (StopsSettling (space_held old.kernel pid) old new holds before after stop
-    ⊎ StopsOnce (λ m. HasSettled old m (space_held old.kernel pid) holds before after) (λ m. StopsBefore m new stop)))
+    × (StopsSettling (space_of_pid old.kernel pid) old new holds before after stop
+    ⊎ StopsOnce (λ m. HasSettled old m (space_of_pid old.kernel pid) holds before after) (λ m. StopsBefore m new stop)))
 
 -- by what the argument reads as
 abbrev pub StopsBreak : Standing → Standing → ℕ → Result ℕ Refused → Option (List NamedFile) → Option (List ℕ) → Option (List ℕ) → Stop → Type 0

@@ -28,13 +28,13 @@ use Rattle.machine_state.specs.Wants.{found_for}
 use Rattle.machine_state.specs.UserMemory.{kernel_answers}
 use Rattle.machine_state.specs.Want.{Want}
 use Rattle.fault_fill.specs.Stops.{StopsBefore}
-use Rattle.fault_fill.specs.Growth.{space_held}
+use Rattle.fault_fill.specs.Growth.{space_of_pid, with_pieces}
 use Rattle.proc_calls.specs.declared.replying.Called.{Called}
 use Rattle.proc_calls.specs.declared.replying.Called.TheVariants as calls
 use Rattle.proc_calls.specs.Answered.{Answered, Comes, StopsOnce, StopsReading}
 use Rattle.proc_calls.specs.Leaving.{HasLeft, StopsAlive}
 use Rattle.proc_calls.specs.Filling.{FillsStart, StopsStart}
-use Rattle.proc_calls.specs.Making.{with_pieces, without_pieces, IsRefused}
+use Rattle.proc_calls.specs.Making.{without_pieces, IsRefused}
 
 -- The pieces.
 
@@ -125,7 +125,7 @@ Starts old new pid regs after image top holds before behind = StartsBy (is_ok (i
 
 -- what an execve of a process comes to by what its memory has, with these images
 abbrev pub execve_read : List NamedImage → Standing → ℕ → Regs → Result Reply Refused
-execve_read known m pid regs = run (kernel_answers m.kernel (space_held m.kernel pid)) (execve_reply known regs)
+execve_read known m pid regs = run (kernel_answers m.kernel (space_of_pid m.kernel pid)) (execve_reply known regs)
 
 -- What becomes of the machine by that.
 abbrev pub ExecComes : Standing → Standing → ℕ → Regs → Result Reply Refused → Option (List NamedFile) → Option (List ℕ) → Option (List ℕ) → Called → Type 0

@@ -16,9 +16,11 @@ use Rattle.machine_state.specs.Machine.{Standing}
 use Rattle.steady_laws.specs.Called.TheVariants as calls
 use Rattle.steady_laws.specs.Answered.{Replied, Comes}
 use Rattle.steady_laws.specs.Callers.{parent_of}
+use Rattle.steady_laws.specs.Growth.{with_pieces}
 use Rattle.steady_laws.specs.Leaving.{ExitComes}
+use Rattle.steady_laws.specs.Making.{without_pieces}
 use Rattle.steady_laws.specs.Reading.{AreNamed}
-use Rattle.steady_laws.specs.Sizing.{BreakComes, MovesEnd, break_at, pages_to, with_pieces, with_refusal}
+use Rattle.steady_laws.specs.Sizing.{BreakComes, MovesEnd, break_at, pages_to}
 use Rattle.steady_laws.specs.Starting.{ExecComes}
 use Rattle.steady_laws.specs.Waiting.{wait_answer}
 use Rattle.proc_run.specs.Calls.{own_answers, CallComes}
@@ -67,7 +69,7 @@ module _ (old new : Standing) (pid : ℕ) (regs : Regs) (address : ℕ) where
         | inl y ↦ replied old new pid regs address system_calls.Break (break_at old.kernel pid regs pages) y.replied
         | inr z ↦ elim z [
           | inl y ↦ replied (with_pieces old y.found) new pid regs address system_calls.Break (break_at old.kernel pid regs pages) y.replied
-          | inr y ↦ replied (with_refusal old pid) new pid regs address system_calls.Break (Fails no_memory) y.replied
+          | inr y ↦ replied (without_pieces old pid) new pid regs address system_calls.Break (Fails no_memory) y.replied
         ]
       ]
       | inr y ↦ replied y.between new pid regs address system_calls.Break (break_at old.kernel pid regs pages) y.replied

@@ -27,13 +27,13 @@ use Rattle.proc_calls.specs.declared.replying.Called.{Called}
 use Rattle.proc_calls.specs.Answered.{GoneOut, Written, Replied, Comes}
 use Rattle.proc_calls.specs.Callers.{regs_of, IsCaller}
 use Rattle.proc_calls.specs.Leaving.{HasSettled, HasLeftBy, HasLeft, HasEnded, ExitComes}
-use Rattle.proc_calls.specs.Making.{is_below_limit, finds_pieces, with_pieces, without_pieces, IsRefused, MakesChildBy, HasLentSpace, Vforked}
+use Rattle.proc_calls.specs.Making.{is_below_limit, finds_pieces, without_pieces, IsRefused, MakesChildBy, HasLentSpace, Vforked}
 use Rattle.proc_calls.specs.Sizing.{pages_to, process_stack_pages, GrownData, NoPieces, CutData, MovesEnd, BreakComes}
 use Rattle.proc_calls.specs.Waiting.{is_child, is_ended_child, wait_by_records, wait_answer}
 use Rattle.proc_calls.specs.Writing.{IsWriteReply}
 use Rattle.proc_calls.proofs.Writes.{may_write}
 use Rattle.proc_calls.proofs.Callers.{caller_there, still_calls}
-use Rattle.proc_calls.specs.Growth.{space_held}
+use Rattle.proc_calls.specs.Growth.{space_held, with_pieces}
 use Rattle.steady_laws.specs.Calls.{called_count, RepliesNone, AnswersNone}
 use Rattle.steady_laws.specs.Ready.{Continues}
 use Rattle.steady_laws.proofs.Transfers.{settled_on}

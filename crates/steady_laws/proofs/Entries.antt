@@ -25,7 +25,7 @@ use Rattle.machine_state.specs.UserMemory.{spot_in, write_by_state, write_page, 
 use Rattle.swapper.specs.LastMoves.{last_moves}
 use Rattle.proc_calls.specs.Answered.{Entered}
 use Rattle.proc_calls.specs.Callers.{IsCaller}
-use Rattle.proc_calls.specs.Making.{with_pieces}
+use Rattle.proc_calls.specs.Growth.{with_pieces}
 use Rattle.proc_calls.proofs.Callers.{caller_there}
 use Rattle.steady_laws.specs.Entries.{LeavesNone}
 use Rattle.steady_laws.specs.Ready.{RunsOn, Continues}

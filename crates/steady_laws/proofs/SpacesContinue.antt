@@ -40,7 +40,8 @@ use Rattle.proc_calls.specs.Callers.{IsCaller}
 use Rattle.proc_calls.specs.Copying.{CopiesPage, CopiesAll, HasCopied}
 use Rattle.proc_calls.specs.Filling.{FillsStart}
 use Rattle.proc_calls.specs.Forking.{HasNewSpace, Forked}
-use Rattle.proc_calls.specs.Making.{is_below_limit, finds_pieces, with_pieces}
+use Rattle.proc_calls.specs.Growth.{with_pieces}
+use Rattle.proc_calls.specs.Making.{is_below_limit, finds_pieces}
 use Rattle.proc_calls.specs.Starting.{HasStarted}
 use Rattle.proc_calls.proofs.Callers.{caller_there}
 use Rattle.steady_laws.specs.Ready.{RunsOn, Continues}

@@ -14,7 +14,7 @@ use Rattle.machine_state.specs.Machine.{Standing}
 use Rattle.machine_state.specs.UserMemory.{writes_in}
 use Rattle.proc_calls.specs.Answered.{Entered}
 use Rattle.proc_calls.specs.Callers.{IsCaller}
-use Rattle.proc_calls.specs.Making.{with_pieces}
+use Rattle.proc_calls.specs.Growth.{with_pieces}
 use Rattle.steady_laws.specs.Ready.{Continues}
 
 -- a change after which no page is due, where none was

@@ -33,19 +33,18 @@ use Rattle.flat_model.specs.declared.calls.Reply.TheVariants.{Fails, Does}
 use Rattle.flat_model.specs.declared.calls.SystemCall.TheVariants as system_calls
 use Rattle.flat_model.specs.Calls.{argument, break_by, data_limit, no_memory, replied, stack_pages_of}
 use Rattle.flat_model.specs.Step.{Step, data_pages_of, call_entry, reply_asked, replied_step}
-use Rattle.flat_model.specs.Run.{Point, step_at, due_at}
+use Rattle.flat_model.specs.Run.{Point, step_at, due_at, IsBetween}
 use Rattle.proc_calls.specs.declared.replying.Called.{Called}
 use Rattle.proc_calls.specs.Answered.{Replied, StopsOnce}
-use Rattle.proc_calls.specs.Growth.{space_held}
+use Rattle.proc_calls.specs.Growth.{space_of_pid, with_pieces}
 use Rattle.proc_calls.specs.Leaving.{HasSettled}
-use Rattle.proc_calls.specs.Sizing.{process_data_pages as pages_held, process_stack_pages as stack_held, pages_to, data_sized, break_at, break_read, with_pieces, SameData, GrownData, NoPieces, CutData, Plain, MovesEnd, BreakComes, StopsPlain, StopsBreaking, StopsBreak}
+use Rattle.proc_calls.specs.Sizing.{process_data_pages as pages_held, process_stack_pages as stack_held, pages_to, data_sized, break_at, break_read, SameData, GrownData, NoPieces, CutData, Plain, MovesEnd, BreakComes, StopsPlain, StopsBreaking, StopsBreak}
 use Rattle.proc_calls.proofs.Sizes.{replies as sized_reply, fails as sized_failure, none_asked as none_sized}
 use Rattle.proc_calls.proofs.Breaks.{break_flat}
 use Rattle.run_model.specs.State.{State}
 use Rattle.run_model.specs.Act.{loses_pages}
 use Rattle.run_units.specs.Standing.{IsText, HasText}
 use Rattle.run_units.proofs.RunLawsTouching.{found_process}
-use Rattle.run_units.specs.Acting.{IsBetween}
 use Rattle.run_units.specs.Settling.{IsLeaving}
 use Rattle.run_units.specs.Touching.{IsCalledFor}
 use Rattle.run_units.proofs.Stepping.{growth_counts, none_asked}
@@ -103,7 +102,7 @@ module _ (A : Inputs) (s : State) (old : Standing) (holds : Option (List NamedFi
   kept : IsKept k pid p x
   kept = is_kept A s k image pid now p x h.machine.at h.running
 
-  held : space_held k pid ≡ x.sid
+  held : space_of_pid k pid ≡ x.sid
   held = held_is k pid p x kept
 
   data_is : pages_held k pid ≡ data_pages_of x
@@ -155,7 +154,7 @@ module _ (A : Inputs) (s : State) (old : Standing) (holds : Option (List NamedFi
 
     none_wanted : pages ≤ pages_held k pid → place_all A.swap_blocks k.holdings (asked (facts_of A.images) k pid change) ≡ Ok k.holdings
     none_wanted few =
-        ap (place_all A.swap_blocks k.holdings) (none_sized (facts_of A.images) k.place (space_held k pid) k.next_sid pages few) ∙ (none_asked A.swap_blocks k).0
+        ap (place_all A.swap_blocks k.holdings) (none_sized (facts_of A.images) k.place (space_of_pid k pid) k.next_sid pages few) ∙ (none_asked A.swap_blocks k).0
 
     found_is : place_all old.params.swap_blocks k.holdings (asked (facts_named old.images) k pid change) ≡ place_all A.swap_blocks k.holdings (asked (facts_of A.images) k pid change)
     found_is =
@@ -211,7 +210,7 @@ module _ (A : Inputs) (s : State) (old : Standing) (holds : Option (List NamedFi
         (none_refused A s k image pid now p x step h.machine.at h.running (unrefused s.point.last pid h.between) (step_is few) (ap is_ok (none_wanted (let a = fewer in omega (arith, a)))))
         (step_is few) (dropped_pages x (is_borrower flat.processes pid) pages (stack_held k pid) (let a = data_is in omega (arith, a, fewer)))
 
-    settled_on : (between : Standing) (j : Option (List ℕ)) → pages < pages_held k pid → HasSettled old between (space_held k pid) holds (Some image) j
+    settled_on : (between : Standing) (j : Option (List ℕ)) → pages < pages_held k pid → HasSettled old between (space_of_pid k pid) holds (Some image) j
         → IsSettled A s old between holds image j pid now p x
     settled_on between j fewer g =
         has_settled A s old holds image pid now p x h.machine h.running (leaving fewer) between j (subst (λ (n : ℕ). HasSettled old between n holds (Some image) j) held g)
@@ -232,13 +231,13 @@ module _ (A : Inputs) (s : State) (old : Standing) (holds : Option (List NamedFi
         called_on A s t.state p x effect system_calls.Break r (ap (λ (y : Point). y.flat) t.same.point) t.unwanted called in
         let l : Kernel = between.kernel in
         let counts = growth_counts A t.state l t.behind pid now p x t.machine.at t.running in
-        let sid : space_held l pid ≡ x.sid = held_is l pid p x (is_kept A t.state l t.behind pid now p x t.machine.at t.running) in
-        let stack : stack_held k pid ≡ stack_count l.place (space_held l pid) = stack_is ∙ sym (ap (stack_count l.place) sid ∙ counts.1) in
-        let fewer : pages ≤ data_count l.place (space_held l pid) =
-        let a = data_is in let b = g.fewer in let d : data_count l.place (space_held l pid) ≡ data_pages_of x = ap (data_count l.place) sid ∙ counts.0 in omega (arith, a, b, d) in
+        let sid : space_of_pid l pid ≡ x.sid = held_is l pid p x (is_kept A t.state l t.behind pid now p x t.machine.at t.running) in
+        let stack : stack_held k pid ≡ stack_count l.place (space_of_pid l pid) = stack_is ∙ sym (ap (stack_count l.place) sid ∙ counts.1) in
+        let fewer : pages ≤ data_count l.place (space_of_pid l pid) =
+        let a = data_is in let b = g.fewer in let d : data_count l.place (space_of_pid l pid) ≡ data_pages_of x = ap (data_count l.place) sid ∙ counts.0 in omega (arith, a, b, d) in
         let wants : place_all A.swap_blocks l.holdings (asked (facts_of A.images) l pid change) ≡ Ok l.holdings =
         ap (λ (n : ℕ). place_all A.swap_blocks l.holdings (asked (facts_of A.images) l pid (Resize pages n))) stack
-        ∙ ap (place_all A.swap_blocks l.holdings) (none_sized (facts_of A.images) l.place (space_held l pid) l.next_sid pages fewer) ∙ (none_asked A.swap_blocks l).0 in
+        ∙ ap (place_all A.swap_blocks l.holdings) (none_sized (facts_of A.images) l.place (space_of_pid l pid) l.next_sid pages fewer) ∙ (none_asked A.swap_blocks l).0 in
         let made : StepLeads A t.state l t.behind 1 new.kernel (Some t.behind) =
         answers_settled A t.state between new.kernel holds t.behind pid now p x effect system_calls.Break r after change l.holdings on m.names there
         (ap (replied_step A.images t.state.point.flat p system_calls.Break effect) (few_is few)) tt tt t.settles wants got.1.step in
@@ -274,8 +273,8 @@ module _ (A : Inputs) (s : State) (old : Standing) (holds : Option (List NamedFi
         refused_stops A s old holds image pid now p x effect system_calls.Break r after change m.names called (few_is g.1) refl (no_pieces g.1 g.2) new stop g.3
 
     stops_cutting : (new : Standing) (j : Option (List ℕ)) (stop : Stop) → pages < pages_held k pid
-        → StopsSettling (space_held k pid) old new holds (Some image) j stop
-        ⊎ StopsOnce (λ m. HasSettled old m (space_held k pid) holds (Some image) j) (λ m. StopsBefore m new stop)
+        → StopsSettling (space_of_pid k pid) old new holds (Some image) j stop
+        ⊎ StopsOnce (λ m. HasSettled old m (space_of_pid k pid) holds (Some image) j) (λ m. StopsBefore m new stop)
         → StopLeads A s k image stop new j
     stops_cutting new j stop fewer (inl y) =
         stops_settling A s old holds image pid now p x h.machine h.running (leaving fewer) new j stop

@@ -21,6 +21,7 @@ use Rattle.kernel_laws.proofs.Machine.Swaps.{found_at}
 use Rattle.machine_state.specs.Machine.{Standing}
 use Rattle.machine_state.specs.Applying.{facts_named}
 use Rattle.swapper.specs.Stops.{StopsBefore}
+use Rattle.proc_calls.specs.Making.{without_pieces}
 use Rattle.flat_model.specs.declared.calls.Reply.{Reply}
 use Rattle.flat_model.specs.declared.calls.Reply.TheVariants.{Fails, Does}
 use Rattle.flat_model.specs.declared.calls.SystemCall.{SystemCall}
@@ -44,16 +45,12 @@ use Rattle.step_units.proofs.Behind.{StepWaits, refusal_waits, running_same, wan
 use Rattle.step_units.proofs.Entering.{entry_leads, complete_leads, entered, leads_then, stopped_before, stops_then}
 use Rattle.step_units.proofs.Replying.{called_on, called_step, refused_step}
 
--- the machine after the entry
-abbrev pub with_refusal : Standing → ℕ → Standing
-with_refusal m pid = record m { kernel = note_step m.kernel (entries.Refused pid); room = None }
-
 -- After the entry the process runs on, and waits for the same page; a step of it is refused.
 pub record IsRefusal (A : Inputs) (s : State) (old : Standing) (holds : Option (List NamedFile)) (image : List ℕ) (pid : ℕ) (now : Bool) (p : Process)
     (x : Space) : Type 0 where
   pub leads : Leads A s old.kernel image (entries.Refused pid ∷ []) (after A s (entries.Refused pid)) (note_step old.kernel (entries.Refused pid)) (Some image)
   pub waits : StepWaits A s (entries.Refused pid) (after A s (entries.Refused pid))
-  pub machine : MachineAt A (after A s (entries.Refused pid)) (with_refusal old pid) holds image
+  pub machine : MachineAt A (after A s (entries.Refused pid)) (without_pieces old pid) holds image
   pub running : IsRunning A (after A s (entries.Refused pid)) pid now p x
   pub unwanted : wanted A (after A s (entries.Refused pid)) ≡ None
 
@@ -138,10 +135,10 @@ module _ (A : Inputs) (s : State) (old : Standing) (holds : Option (List NamedFi
       let d : due_at A t.point pid ≡ v ∷ [] = ap (λ (z : Step). due t.point.last pid z.entries) is ∙ ap (due t.point.last pid) first ∙ refused_due t.point.last pid (v ∷ []) h.waits.last in
       leads_then A s t old.kernel k l image image (Some image) (entries.Refused pid ∷ []) 1 h.leads h.waits.count h.waits.lines h.waits.mark
       (complete_leads A t k l image pid v
-      (entered A t (with_refusal old pid) l holds image pid now p x step v old.kernel.holdings h.machine h.running h.unwanted acts refl d is c.writes tt tt (none_asked A.swap_blocks k).0 made))
+      (entered A t (without_pieces old pid) l holds image pid now p x step v old.kernel.holdings h.machine h.running h.unwanted acts refl d is c.writes tt tt (none_asked A.swap_blocks k).0 made))
 
   -- or the run stops before that
-  pub refused_stops : (new : Standing) (stop : Stop) → StopsBefore (with_refusal old pid) new stop → StopLeads A s old.kernel image stop new (Some image)
+  pub refused_stops : (new : Standing) (stop : Stop) → StopsBefore (without_pieces old pid) new stop → StopLeads A s old.kernel image stop new (Some image)
   refused_stops new stop g =
       stops_then A s t old.kernel (note_step old.kernel (entries.Refused pid)) image image (Some image) (entries.Refused pid ∷ []) stop new h.leads
-      (stopped_before A t (with_refusal old pid) new image pid now v stop h.running.runs h.unwanted acts tt g)
+      (stopped_before A t (without_pieces old pid) new image pid now v stop h.running.runs h.unwanted acts tt g)
