@@ -2,6 +2,8 @@
 use Rattle.std.specs.Prelude.{ℕ, ◌==◌, Bool, cond, not, List, [], ◌∷◌, length, map, filter, set, Option, Some, None}
 use Rattle.flat_state.specs.Flat.{Holding, Holds, Lends, Zombie, cleared}
 use Rattle.vm_facts.specs.declared.page.Page.{Page}
+use Rattle.vm_facts.specs.declared.page.PageState.{PageState}
+use Rattle.vm_facts.specs.declared.page.PageState.TheVariants.{Valid}
 use Rattle.vm_facts.specs.declared.regs.Regs.{Regs}
 use Rattle.vm_facts.specs.declared.entry.Entry.{Entry}
 use Rattle.vm_facts.specs.declared.entry.Entry.TheVariants as entries
@@ -147,6 +149,11 @@ done_step k read = record (plain_step k [] entries.Done) { frames = landed k.pla
 -- a user write of one byte of a valid page
 abbrev pub write_step : Kernel → Page → ℕ → ℕ → ℕ → Kernel
 write_step k q f at byte = record k { place = touch k.place q; frames = set_frame k.frames f (set (frame_bytes k f) at byte) }
+
+-- a byte of a page is written where its state is Valid; else nothing changes
+abbrev pub write_by_state : Kernel → Page → PageState → ℕ → ℕ → Kernel
+write_by_state k q (Valid f) at byte = write_step k q f at byte
+write_by_state k q _ at byte = k
 
 -- an entry that moves no page
 abbrev pub note_step : Kernel → Entry → Kernel

@@ -18,7 +18,7 @@ use Rattle.page_model.specs.Pages.{SpacePages}
 use Rattle.page_model.specs.Placement.{Placement, space_number, slots_of, state_of, image_of}
 use Rattle.page_model.specs.Swapper.{is_out}
 use Rattle.page_model.specs.Ownership.{OwnsFrames}
-use Rattle.kernel_model.specs.Kernel.{HoldsSpace, Kernel, frame_bytes, write_step}
+use Rattle.kernel_model.specs.Kernel.{HoldsSpace, Kernel, frame_bytes, write_by_state}
 use Rattle.kernel_model.specs.Asks.{HasSpace}
 use Rattle.kernel_tables.specs.Calls.{life_in}
 use Rattle.kernel_tables.specs.Rising.{sids_of, AreRising}
@@ -98,11 +98,6 @@ kernel_answers k sid = record {
 }
 
 -- Writes.
-
--- a byte of a page is written where its state is Valid; else nothing changes
-abbrev pub write_by_state : Kernel → Page → PageState → ℕ → ℕ → Kernel
-write_by_state k q (Valid f) at byte = write_step k q f at byte
-write_by_state k q _ at byte = k
 
 -- a byte of a page is written, where the page is valid
 abbrev pub write_page : Kernel → Page → ℕ → ℕ → Kernel

@@ -11,12 +11,12 @@ use Rattle.page_model.specs.Placement.{Placement, state_of}
 use Rattle.page_model.specs.Moves.{touch}
 use Rattle.page_laws.proofs.Due.Changes.{touch_due}
 use Rattle.page_laws.proofs.Moves.Puts.{rest_by_puts, touch_kept}
-use Rattle.kernel_model.specs.Kernel.{Kernel, write_step}
+use Rattle.kernel_model.specs.Kernel.{Kernel, write_step, write_by_state}
 use Rattle.kernel_laws.proofs.Machine.Shapes.{touch_shaped, sizes_kept}
 use Rattle.kernel_laws.proofs.Sound.NumbersApart.{write_numbered}
 use Rattle.kernel_laws.proofs.Sound.Steps.{write_sound}
 use Rattle.table_steps.specs.Machine.{Standing}
-use Rattle.table_steps.specs.UserMemory.{spot_in, write_by_state, write_spot, write_in, writes_in, Wrote}
+use Rattle.table_steps.specs.UserMemory.{spot_in, write_spot, write_in, writes_in, Wrote}
 use Rattle.machine_state.specs.Going.{CanGoOn}
 use Rattle.machine_state.proofs.HoldingSteps.{write_keeps}
 

@@ -22,7 +22,7 @@ use Rattle.page_model.specs.Placement.{Placement, state_of, image_of, page_of}
 use Rattle.page_model.specs.PageBytes.{IsWritable}
 use Rattle.page_model.specs.Moves.{touch, touch_to}
 use Rattle.page_model.specs.Ownership.{OwnsFrames}
-use Rattle.kernel_model.specs.Kernel.{Kernel, frame_bytes, write_step}
+use Rattle.kernel_model.specs.Kernel.{Kernel, frame_bytes, write_step, write_by_state}
 use Rattle.page_laws.proofs.Lists.Frames.{at_set_same, at_set_other}
 use Rattle.std.proofs.lemmas.Option.{same_Some}
 use Rattle.page_laws.proofs.Lists.Pages.{put_state}
@@ -32,7 +32,7 @@ use Rattle.std.specs.Borrow.{MutBor}
 use Rattle.machine_state.specs.declared.user_memory.Layout.{Layout}
 use Rattle.machine_state.specs.Lent.{WroteThrough}
 use Rattle.table_steps.specs.Machine.{Standing}
-use Rattle.table_steps.specs.UserMemory.{bytes_of, stack_len, spot_in, read_by_state, read_page, read_spot, may_write_by, may_write_spot, kernel_answers, write_by_state, write_page, write_spot, write_in, writes_in, AreWhole, IsWritten, AreWritten, Wrote}
+use Rattle.table_steps.specs.UserMemory.{bytes_of, stack_len, spot_in, read_by_state, read_page, read_spot, may_write_by, may_write_spot, kernel_answers, write_page, write_spot, write_in, writes_in, AreWhole, IsWritten, AreWritten, Wrote}
 
 -- A touch keeps the state of each page.
 

@@ -20,7 +20,7 @@ use Rattle.flat_state.specs.declared.spot.Spot.TheVariants.{Text, Data, Stack, B
 use Rattle.page_model.specs.Pages.{numbered}
 use Rattle.page_model.specs.Placement.{Residence, state_of}
 use Rattle.page_model.specs.Swapper.{residence_of, is_out}
-use Rattle.kernel_model.specs.Kernel.{Kernel, Proc, with_regs}
+use Rattle.kernel_model.specs.Kernel.{Kernel, Proc, with_regs, write_by_state}
 use Rattle.kernel_model.specs.ChangeStep.{ran_by, life_of_proc, space_of_life}
 use Rattle.kernel_model.specs.Unit.{proc_of}
 use Rattle.kernel_laws.proofs.Flat.Numbered.{numbered_map, has_number}
@@ -28,7 +28,7 @@ use Rattle.kernel_laws.proofs.PageLawsListsPages.{mapped}
 use Rattle.std.specs.Option.{is_some}
 use Rattle.machine_state.specs.Joined.{instructions_in, last_says}
 use Rattle.machine_state.specs.Machine.{Standing}
-use Rattle.machine_state.specs.UserMemory.{Wrote, kernel_answers, spot_in, write_by_state, write_spot, write_in, writes_in, AreWritten}
+use Rattle.machine_state.specs.UserMemory.{Wrote, kernel_answers, spot_in, write_spot, write_in, writes_in, AreWritten}
 use Rattle.machine_state.specs.UserMemoryLaws.{writes_answer, writes_append}
 use Rattle.machine_state.proofs.Further.{more_at_last, some_last}
 use Rattle.machine_state.proofs.Joins.{last_is, runs_kind}

@@ -12,11 +12,11 @@ use Rattle.page_model.specs.Moves.{touch_to}
 use Rattle.page_model.specs.Placement.{Placement, Residence, state_of}
 use Rattle.page_model.specs.Swapper.{residence_of, is_out}
 use Rattle.kernel_model.specs.ChangeStep.{life_of_proc}
-use Rattle.kernel_model.specs.Kernel.{Kernel, Proc, HoldsSpace}
+use Rattle.kernel_model.specs.Kernel.{Kernel, Proc, HoldsSpace, write_by_state}
 use Rattle.machine_state.specs.Calls.{life_in}
 use Rattle.machine_state.specs.Going.{CanGoOn}
 use Rattle.machine_state.specs.Machine.{Standing}
-use Rattle.machine_state.specs.UserMemory.{CanLend, spot_in, write_by_state, write_spot, write_in, writes_in}
+use Rattle.machine_state.specs.UserMemory.{CanLend, spot_in, write_spot, write_in, writes_in}
 
 touched_residents : (p : Placement) (q : Page) (s : PageState) → (touch_to p q s).residents ≡ p.residents
 touched_residents p (Data sid v) (Valid f) = refl

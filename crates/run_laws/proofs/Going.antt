@@ -15,19 +15,19 @@ use Rattle.page_model.specs.Pages.{numbered}
 use Rattle.page_model.specs.Placement.{state_of}
 use Rattle.page_model.specs.Place.{facts_of}
 use Rattle.flat_state.specs.Change.{is_borrower}
-use Rattle.kernel_model.specs.Kernel.{Kernel, Proc}
+use Rattle.kernel_model.specs.Kernel.{Kernel, Proc, write_by_state}
 use Rattle.kernel_model.specs.ChangeStep.{change_if, change_step, pass_step}
 use Rattle.flat_model.specs.Touched.{page_tested}
 use Rattle.flat_model.specs.Run.{step_at}
 use Rattle.run_model.specs.State.{State}
 use Rattle.kernel_model.specs.Unit.{lender_among, passing_change}
-use Rattle.run_laws.specs.Machine.{place_in, write_into, frame_written, write_byte, write_bytes, write_held, process_written, written_step, taken_step, process_step, unit_step}
+use Rattle.run_laws.specs.Machine.{place_in, frame_written, write_byte, write_bytes, write_held, process_written, written_step, taken_step, process_step, unit_step}
 
 page_goes : (k : Kernel) (o : Option Page) (at byte : ℕ) → (frame_written k o at byte).stopped ≡ k.stopped
 page_goes k None at byte = refl
 page_goes k (Some q) at byte = go (state_of k.place q)
   where
-    go : (s : PageState) → (write_into k q s at byte).stopped ≡ k.stopped
+    go : (s : PageState) → (write_by_state k q s at byte).stopped ≡ k.stopped
     go (Valid f) = refl
     go Unfilled = refl
     go (Invalid f) = refl

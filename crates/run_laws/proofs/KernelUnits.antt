@@ -12,7 +12,7 @@ use Rattle.flat_state.specs.Change.{is_borrower}
 use Rattle.flat_state.specs.Journal.{IsUnit}
 use Rattle.page_model.specs.Placement.{state_of}
 use Rattle.page_model.specs.Place.{facts_of}
-use Rattle.kernel_model.specs.Kernel.{Kernel, Proc, plain_step}
+use Rattle.kernel_model.specs.Kernel.{Kernel, Proc, plain_step, write_by_state}
 use Rattle.kernel_model.specs.Coupled.{Coupled}
 use Rattle.kernel_model.specs.Unit.{KernelUnit, WriteUnit, RanUnit, FindUnit, ChangeUnit, KernelState, has_lender, passing_change, kernel_after, states_after}
 use Rattle.kernel_laws.proofs.Kept.Borrowed.{borrows_is}
@@ -21,7 +21,7 @@ use Rattle.flat_model.specs.Run.{step_at}
 use Rattle.run_model.specs.State.{State}
 use Rattle.run_model.specs.Wanted.{locked}
 use Rattle.run_model.specs.Next.{next_unit}
-use Rattle.run_laws.specs.Machine.{place_in, write_into, frame_written, write_byte, write_bytes, write_held, process_written, written_step, taken_step, process_step, unit_step, unit_image, Keeps, StandsAt}
+use Rattle.run_laws.specs.Machine.{place_in, frame_written, write_byte, write_bytes, write_held, process_written, written_step, taken_step, process_step, unit_step, unit_image, Keeps, StandsAt}
 use Rattle.run_laws.specs.KernelUnits.{resting, write_unit, byte_units, write_units, held_units, process_units, written_units, step_units, units_behind}
 use Rattle.run_laws.proofs.Lawful.{next_is_unit}
 
@@ -44,7 +44,7 @@ writes_lead images pid s (w ∷ ws) m = go (page_tested s (address_in s w.addres
     at = place_in (address_in s w.address)
 
     by : (q : Page) (t : PageState) → ((l : KernelState) → Leads images l (write_units pid l.kernel s ws) (write_bytes l.kernel s ws))
-        → Leads images m (write_unit pid w q at t ++ write_units pid (write_into m.kernel q t at w.byte) s ws) (write_bytes (write_into m.kernel q t at w.byte) s ws)
+        → Leads images m (write_unit pid w q at t ++ write_units pid (write_by_state m.kernel q t at w.byte) s ws) (write_bytes (write_by_state m.kernel q t at w.byte) s ws)
     by q (Valid f) ih = let r = ih (kernel_after images m (WriteUnit pid w q f at)) in (r.0, λ vs. r.1 vs)
     by q Unfilled ih = ih m
     by q (Invalid f) ih = ih m
@@ -72,7 +72,7 @@ writes_table : (s : Space) (ws : List ByteWrite) (k : Kernel) → (write_bytes k
 writes_table s [] k = refl
 writes_table s (w ∷ ws) k = writes_table s ws (write_byte k s w) ∙ go (page_tested s (address_in s w.address))
   where
-    by : (q : Page) (t : PageState) → Kernel.processes (write_into k q t (place_in (address_in s w.address)) w.byte) ≡ k.processes
+    by : (q : Page) (t : PageState) → Kernel.processes (write_by_state k q t (place_in (address_in s w.address)) w.byte) ≡ k.processes
     by q (Valid f) = refl
     by q Unfilled = refl
     by q (Invalid f) = refl

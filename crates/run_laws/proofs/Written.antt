@@ -15,7 +15,7 @@ use Rattle.page_model.specs.Pages.{numbered, is_valid, frame_of}
 use Rattle.page_model.specs.Placement.{Placement, Due, state_of}
 use Rattle.page_model.specs.Moves.{touch, touch_to, touch_all}
 use Rattle.flat_state.specs.Writes.{IsByteOf}
-use Rattle.kernel_model.specs.Kernel.{Kernel, write_step}
+use Rattle.kernel_model.specs.Kernel.{Kernel, write_step, write_by_state}
 use Rattle.kernel_model.specs.Coupled.{Coupled}
 use Rattle.kernel_model.specs.Sound.{Sound}
 use Rattle.kernel_model.specs.Numbers.{Numbered}
@@ -34,7 +34,7 @@ use Rattle.kernel_laws.proofs.Stands.Changes.{write_stands}
 use Rattle.kernel_laws.proofs.Sound.Steps.{write_sound}
 use Rattle.kernel_laws.proofs.Sound.NumbersApart.{write_numbered}
 use Rattle.flat_model.specs.Touched.{page_tested}
-use Rattle.run_laws.specs.Machine.{place_in, write_into, frame_written, write_byte, write_bytes}
+use Rattle.run_laws.specs.Machine.{place_in, frame_written, write_byte, write_bytes}
 use Rattle.run_laws.proofs.Writing.{SameSpace, puts_same}
 use Rattle.run_laws.proofs.Stepping.{wrote_process}
 
@@ -143,7 +143,7 @@ write_one A flat k image pid q t s w m due nums f h same valid = go (address_in 
     }
 
     into : (v : Page) (at : ℕ) → IsByteOf t (address_in t w.address) v at → (x : PageState) → state_of k.place v ≡ x → is_valid x ≡ true
-        → WroteOne A after k (write_into k v x at w.byte) image (Some v)
+        → WroteOne A after k (write_by_state k v x at w.byte) image (Some v)
     into v at b (Valid g) e i = made v at g b e
     into v at b Unfilled e i = absurd cc
     into v at b (Invalid g) e i = absurd cc

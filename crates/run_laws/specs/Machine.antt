@@ -4,8 +4,6 @@ use Rattle.vm_facts.specs.Answers.{ByteWrite}
 use Rattle.flat_state.specs.Space.{Space, address_in}
 use Rattle.flat_state.specs.Flat.{Holding, Holds, Lends, Zombie, Process, FlatState, Inputs, process_of}
 use Rattle.vm_facts.specs.declared.page.Page.{Page}
-use Rattle.vm_facts.specs.declared.page.PageState.{PageState}
-use Rattle.vm_facts.specs.declared.page.PageState.TheVariants.{Valid}
 use Rattle.vm_facts.specs.declared.entry.Entry.{Entry}
 use Rattle.vm_facts.specs.declared.entry.Entry.TheVariants as entries
 use Rattle.swap_book.specs.declared.Owner.TheVariants as owners
@@ -17,7 +15,7 @@ use Rattle.page_model.specs.Placement.{Placement, state_of}
 use Rattle.page_model.specs.Place.{facts_of}
 use Rattle.flat_state.specs.Change.{is_borrower}
 use Rattle.page_model.specs.Swapper.{is_out}
-use Rattle.kernel_model.specs.Kernel.{Kernel, Proc, plain_step, zero_step, copy_step, get_step, reclaim_step, push_step, done_step, write_step, note_step, out_step, in_step, image_after}
+use Rattle.kernel_model.specs.Kernel.{Kernel, Proc, plain_step, zero_step, copy_step, get_step, reclaim_step, push_step, done_step, note_step, out_step, in_step, image_after, write_by_state}
 use Rattle.kernel_model.specs.Sound.{Sound}
 use Rattle.kernel_model.specs.Coupled.{Coupled, AreRead, beside_kernel}
 use Rattle.kernel_model.specs.UPage.{AreRegs, regs_in}
@@ -46,15 +44,10 @@ place_in (spots.Stack i) = i % 1024
 place_in spots.Below = 0
 place_in spots.Outside = 0
 
--- a byte goes into the frame of a page in this state; none goes anywhere unless it is Valid
-abbrev pub write_into : Kernel → Page → PageState → ℕ → ℕ → Kernel
-write_into k q (Valid f) at byte = write_step k q f at byte
-write_into k q _ at byte = k
-
 -- a byte goes into the frame of a page, if it has a page
 abbrev pub frame_written : Kernel → Option Page → ℕ → ℕ → Kernel
 frame_written k None at byte = k
-frame_written k (Some q) at byte = write_into k q (state_of k.place q) at byte
+frame_written k (Some q) at byte = write_by_state k q (state_of k.place q) at byte
 
 -- a byte goes into the frame of its page
 abbrev pub write_byte : Kernel → Space → ByteWrite → Kernel

@@ -22,7 +22,7 @@ use Rattle.page_model.specs.Placement.{Placement, space_number, image_of, slots_
 use Rattle.page_model.specs.Place.{facts_of, space_of_holding, data_count, stack_count}
 use Rattle.page_model.specs.Swapper.{is_out}
 use Rattle.page_model.specs.Moves.{touch}
-use Rattle.kernel_model.specs.Kernel.{Kernel, Proc, write_step}
+use Rattle.kernel_model.specs.Kernel.{Kernel, Proc, write_step, write_by_state}
 use Rattle.kernel_model.specs.Coupled.{Fits, KeepsRegs}
 use Rattle.kernel_model.specs.ChangeStep.{ran_by, change_step, pass_step}
 use Rattle.kernel_model.specs.Asks.{asked}
@@ -30,7 +30,7 @@ use Rattle.kernel_model.specs.Unit.{has_lender, passing_change, proc_of}
 use Rattle.economy_laws.proofs.Borrowed.{borrows_is}
 use Rattle.economy_laws.proofs.Swaps.{found_at}
 use Rattle.economy_laws.proofs.Shapes.{Shaped, touch_shaped, sizes_kept, image_kept}
-use Rattle.machine_state.specs.UserMemory.{bytes_of, text_len, data_len, stack_len, spot_in, write_by_state, write_page, write_spot, write_in, writes_in}
+use Rattle.machine_state.specs.UserMemory.{bytes_of, text_len, data_len, stack_len, spot_in, write_page, write_spot, write_in, writes_in}
 use Rattle.user_vax.specs.Program.{run}
 use Rattle.user_vax.specs.Effects.{Effect}
 use Rattle.user_vax.specs.declared.refused.Refused.{Refused}
@@ -46,7 +46,7 @@ use Rattle.flat_model.specs.Asked.{or_before, with_pieces, wanted_if, wanted_in,
 use Rattle.flat_model.specs.Touched.{page_tested}
 use Rattle.economy_laws.proofs.FlatLawsAsking.{own_space, data_counted, stack_counted, change_same}
 use Rattle.run_model.specs.State.{State}
-use Rattle.economy_laws.specs.Machine.{place_in, write_into, frame_written as write_tested, write_byte, write_bytes, write_held, process_written, takes_step, written_step, taken_step, process_step, ran_step, unit_step, Completes}
+use Rattle.economy_laws.specs.Machine.{place_in, frame_written as write_tested, write_byte, write_bytes, write_held, process_written, takes_step, written_step, taken_step, process_step, ran_step, unit_step, Completes}
 use Rattle.io_edge.specs.FileHolding.{NamedFile}
 use Rattle.aout_image.specs.declared.Image.{Image}
 use Rattle.aout_image.specs.Image.{Loaded, loaded}
@@ -156,18 +156,10 @@ written_spots k x (spots.Stack i) byte e = page_spots k x (pages.Stack x.sid (i 
 written_spots k x spots.Below byte e = e
 written_spots k x spots.Outside byte e = e
 
-same_state : (k : Kernel) (q : Page) (s : PageState) (at byte : ℕ) → write_by_state k q s at byte ≡ write_into k q s at byte
-same_state k q (Valid f) at byte = refl
-same_state k q Unfilled at byte = refl
-same_state k q (Invalid f) at byte = refl
-same_state k q (Coming f) at byte = refl
-same_state k q (Going f) at byte = refl
-same_state k q OnSwap at byte = refl
-
 same_spot : (k : Kernel) (x : Space) (spot : Spot) (byte : ℕ) → write_spot k x.sid spot byte ≡ write_tested k (page_tested x spot) (place_in spot) byte
 same_spot k x (spots.Text i) byte = refl
-same_spot k x (spots.Data i) byte = same_state k (pages.Data x.sid (i / 1024)) (state_of k.place (pages.Data x.sid (i / 1024))) (i % 1024) byte
-same_spot k x (spots.Stack i) byte = same_state k (pages.Stack x.sid (i / 1024)) (state_of k.place (pages.Stack x.sid (i / 1024))) (i % 1024) byte
+same_spot k x (spots.Data i) byte = refl
+same_spot k x (spots.Stack i) byte = refl
 same_spot k x spots.Below byte = refl
 same_spot k x spots.Outside byte = refl
 

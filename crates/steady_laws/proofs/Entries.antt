@@ -16,12 +16,12 @@ use Rattle.flat_state.specs.Journal.{append, counted, instructions_of, IsPlain}
 use Rattle.flat_state.specs.declared.spot.Spot.{Spot}
 use Rattle.flat_state.specs.declared.spot.Spot.TheVariants.{Text, Data, Stack, Below, Outside}
 use Rattle.page_model.specs.Placement.{state_of}
-use Rattle.kernel_model.specs.Kernel.{Proc, Kernel, note_step}
+use Rattle.kernel_model.specs.Kernel.{Proc, Kernel, note_step, write_by_state}
 use Rattle.kernel_model.specs.ChangeStep.{change_if, ran_by, pass_step, changing_of}
 use Rattle.kernel_model.specs.Unit.{proc_of}
 use Rattle.machine_state.specs.Machine.{Standing}
 use Rattle.machine_state.specs.Applying.{facts_named}
-use Rattle.machine_state.specs.UserMemory.{spot_in, write_by_state, write_page, write_spot, write_in, writes_in}
+use Rattle.machine_state.specs.UserMemory.{spot_in, write_page, write_spot, write_in, writes_in}
 use Rattle.swapper.specs.LastMoves.{last_moves}
 use Rattle.proc_calls.specs.Answered.{Entered}
 use Rattle.proc_calls.specs.Callers.{IsCaller}

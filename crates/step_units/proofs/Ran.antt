@@ -14,9 +14,9 @@ use Rattle.flat_state.specs.declared.spot.Spot.TheVariants as spots
 use Rattle.flat_state.specs.declared.change.Change.TheVariants as changes
 use Rattle.page_model.specs.Placement.{Placement, state_of}
 use Rattle.page_laws.proofs.Bytes.Others.{touch_steady}
-use Rattle.kernel_model.specs.Kernel.{Kernel}
+use Rattle.kernel_model.specs.Kernel.{Kernel, write_by_state}
 use Rattle.kernel_laws.proofs.Machine.Swaps.{found_at}
-use Rattle.machine_state.specs.UserMemory.{kernel_answers, spot_in, write_by_state, write_spot, write_in, writes_in}
+use Rattle.machine_state.specs.UserMemory.{kernel_answers, spot_in, write_spot, write_in, writes_in}
 use Rattle.flat_model.specs.Step.{Step, step_with, step_behind}
 use Rattle.flat_model.specs.Run.{step_at, is_refused}
 use Rattle.run_model.specs.Act.{act}

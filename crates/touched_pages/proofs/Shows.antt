@@ -16,11 +16,11 @@ use Rattle.flat_state.specs.declared.spot.Spot.TheVariants as spots
 use Rattle.flat_state.specs.Space.{spot_at}
 use Rattle.page_model.specs.Placement.{Placement, image_of, state_of}
 use Rattle.page_model.specs.Moves.{touch}
-use Rattle.kernel_model.specs.Kernel.{Kernel}
+use Rattle.kernel_model.specs.Kernel.{Kernel, write_by_state}
 use Rattle.kernel_laws.proofs.Machine.Shapes.{touch_shaped, image_kept, sizes_kept}
 use Rattle.machine_state.specs.declared.user_memory.Layout.{Layout}
 use Rattle.machine_state.specs.Machine.{Standing}
-use Rattle.machine_state.specs.UserMemory.{bytes_of, spot_in, page_at_spot, page_in, kernel_answers, write_by_state, write_page, write_spot, write_in}
+use Rattle.machine_state.specs.UserMemory.{bytes_of, spot_in, page_at_spot, page_in, kernel_answers, write_page, write_spot, write_in}
 use Rattle.machine_state.specs.UserMemoryLaws.{through_answers}
 use Rattle.machine_state.specs.Lent.{WroteThrough}
 use Rattle.flat_model.specs.Shown.{is_shown, read_where}
