@@ -29,7 +29,8 @@ use Rattle.length_laws.proofs.Counting.{counted_in, Ignores, appended_counts, ap
 use Rattle.load_maker.specs.Programs.{w_bytes}
 use Rattle.load_maker.specs.Load.{load_pages, one_page_image, w_bss}
 use Rattle.load_maker.specs.declared.counts.Counts.{Counts}
-use Rattle.load_maker.specs.Counts.{output_length, counts_of}
+use Rattle.load_maker.specs.RunCountsCounts.{output_length}
+use Rattle.load_maker.specs.Counts.{counts_of}
 use Rattle.load_laws.specs.Stages.{Stage, Bank, text_page, BeforeBreak, AtWait, Gone, is_first, is_waiting, IsAt, StandsAt, Lives, Ended, AllStand}
 use Rattle.load_laws.specs.Left.{images_for, IsLoad, load_counts, rounds_left, instructions_left, forks_left, ends_left, bytes_left, total}
 use Rattle.load_laws.specs.Counting.{IsUnderWay}

@@ -18,7 +18,9 @@ use Rattle.flat_state.specs.Journal.{counted}
 use Rattle.flat_model.specs.Step.{Step}
 use Rattle.flat_model.specs.Asked.{change_wanted}
 use Rattle.run_laws.proofs.Finding.{found_by_number, zombie_passes}
-use Rattle.load_maker.specs.Counts.{is_granted_fork, is_end, output_length}
+use Rattle.outcome_laws.specs.Visible.{is_end}
+use Rattle.load_maker.specs.RunCountsCounts.{output_length}
+use Rattle.load_maker.specs.Counts.{is_granted_fork}
 use Rattle.load_maker.specs.Programs.{v_bytes}
 use Rattle.load_maker.specs.Load.{one_page_image, v_bss}
 use Rattle.load_laws.specs.Stages.{LoadProgram, W, V, Stage, text_page, end_at, Bank, AreLongwords, is_gone, IsAt, StandsAt, Lives, Ended, AllStand}

@@ -44,7 +44,8 @@ use Rattle.run_laws.proofs.Others.{number_of_found}
 use Rattle.economy_laws.proofs.Sleeping.{Does, does}
 use Rattle.economy_laws.proofs.Steps.{step_is}
 use Rattle.length_laws.proofs.Counting.{counted_in}
-use Rattle.load_maker.specs.Counts.{is_refusal, output_length}
+use Rattle.outcome_laws.specs.Others.{is_refusal}
+use Rattle.load_maker.specs.RunCountsCounts.{output_length}
 use Rattle.load_laws.specs.Stages.{Stage, is_gone, IsAt, StandsAt, Lives, Ended}
 use Rattle.load_laws.specs.Left.{images_for, instructions_left, forks_left, ends_left, bytes_left, blocks_left, total}
 use Rattle.load_laws.proofs.Pieces.{AllUnder, asked, Placed, all_fit, given_under}

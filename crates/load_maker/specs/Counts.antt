@@ -1,9 +1,13 @@
 -- What a run did, counted over its journal, and the text of it.
-use Rattle.std.specs.Prelude.{ℕ, ◌+◌, ◌==◌, ◌&&◌, ◌||◌, Bool, true, false, not, List, ◌++◌, length, codes, decimal}
+use Rattle.std.specs.Prelude.{ℕ, ◌+◌, ◌==◌, ◌&&◌, ◌||◌, Bool, false, not, List, ◌++◌, codes}
 use Rattle.std.specs.List.{sum_by, count_by}
 use Rattle.vm_facts.specs.declared.entry.Entry.{Entry}
-use Rattle.vm_facts.specs.declared.entry.Entry.TheVariants.{Out, Call, Refused, Ended}
+use Rattle.vm_facts.specs.declared.entry.Entry.TheVariants.{Call}
 use Rattle.flat_state.specs.Journal.{instructions_of}
+use Rattle.outcome_laws.specs.Others.{is_refusal}
+use Rattle.outcome_laws.specs.Visible.{is_end}
+use Rattle.run_counts.specs.Counts.{output_length}
+use Rattle.command_ending.specs.Ending.{numbered_line}
 use Rattle.load_maker.specs.declared.counts.Counts.{Counts}
 
 -- the system calls fork and vfork
@@ -15,21 +19,6 @@ abbrev pub is_granted_fork : Entry → Bool
 is_granted_fork (Call pid number carry r0 r1) = is_forking number && not carry
 is_granted_fork _ = false
 
--- an entry that says that a process ended
-abbrev pub is_end : Entry → Bool
-is_end (Ended pid status) = true
-is_end _ = false
-
--- an entry that says that the pieces of a process found no place
-abbrev pub is_refusal : Entry → Bool
-is_refusal (Refused pid) = true
-is_refusal _ = false
-
--- how many bytes an entry says were written
-abbrev pub output_length : Entry → ℕ
-output_length (Out pid bytes) = length bytes
-output_length _ = 0
-
 -- the counts of a journal, of a run that began with so many processes
 abbrev pub counts_of : ℕ → List Entry → Counts
 counts_of first journal = record {
@@ -40,16 +29,12 @@ counts_of first journal = record {
   bytes_out = sum_by output_length journal;
 }
 
--- a line of words and a number
-abbrev pub count_line : List ℕ → ℕ → List ℕ
-count_line words number = words ++ decimal number ++ codes "\n"
-
 -- the six lines of a load
 unfoldable pub load_text : ℕ → Counts → List ℕ
 load_text number counts =
-    count_line (codes "load ") number
-    ++ count_line (codes "instructions ") counts.instructions
-    ++ count_line (codes "processes ") counts.processes
-    ++ count_line (codes "ended ") counts.ended
-    ++ count_line (codes "refused ") counts.refused
-    ++ count_line (codes "bytes out ") counts.bytes_out
+    numbered_line (codes "load ") number
+    ++ numbered_line (codes "instructions ") counts.instructions
+    ++ numbered_line (codes "processes ") counts.processes
+    ++ numbered_line (codes "ended ") counts.ended
+    ++ numbered_line (codes "refused ") counts.refused
+    ++ numbered_line (codes "bytes out ") counts.bytes_out

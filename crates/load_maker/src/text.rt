@@ -1,5 +1,6 @@
 ghost use Rattle.std.specs.Prelude.{◌≡◌, ◌++◌, IfOk, OnOk};
-ghost use Rattle.load_maker.specs.Counts.{count_line, load_text};
+ghost use Rattle.command_ending.specs.Ending.{numbered_line};
+ghost use Rattle.load_maker.specs.Counts.{load_text};
 
 use crate::counts::Counts;
 use itoa::Buffer;
@@ -8,7 +9,7 @@ use vm_facts::NoMemory;
 
 // Puts a line of words and a number.
 fn put_line(text: &mut Vec<u8>, words: &[u8], number: u128) -> Result<(), AllocError>
-    ensures { OnOk result (text.new.items ≡ text.old.items ++ count_line words.now number) }
+    ensures { OnOk result (text.new.items ≡ text.old.items ++ numbered_line words.now number) }
 {
     let mut digits = Buffer::new();
     text.extend_from_slice(words)?;

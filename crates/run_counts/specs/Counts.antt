@@ -22,9 +22,9 @@ instructions (Ended pid status) = 1
 instructions _ = 0
 
 -- the bytes that a process wrote
-abbrev pub bytes_out : Entry → ℕ
-bytes_out (Out pid bytes) = length bytes
-bytes_out _ = 0
+abbrev pub output_length : Entry → ℕ
+output_length (Out pid bytes) = length bytes
+output_length _ = 0
 
 -- a reply to a system call
 abbrev pub calls : Entry → ℕ
@@ -139,7 +139,7 @@ is_owned owner _ = false
 -- what an entry of a process adds under a head
 abbrev pub process_amount : ProcessHead → Entry → ℕ
 process_amount Instructions e = instructions e
-process_amount BytesOut e = bytes_out e
+process_amount BytesOut e = output_length e
 process_amount Calls e = calls e
 process_amount Growths e = growths e
 process_amount Refusals e = refusals e

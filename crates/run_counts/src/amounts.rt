@@ -1,7 +1,7 @@
 // What an entry adds to a count.
 ghost use Rattle.std.specs.Prelude.{◌≡◌};
 ghost use Rattle.run_counts.specs.declared.amounts.Count.TheVariants.{OfProcess, OfPages};
-ghost use Rattle.run_counts.specs.Counts.{instructions, bytes_out, calls, growths, refusals, waits, times_out, times_in, zero_fills, reads, pages_read, reclaims, copies, puts, pages_put, moves, transfers, process_of, page_owner, is_same_owner, is_owned, process_amount, page_amount, amount};
+ghost use Rattle.run_counts.specs.Counts.{instructions, output_length, calls, growths, refusals, waits, times_out, times_in, zero_fills, reads, pages_read, reclaims, copies, puts, pages_put, moves, transfers, process_of, page_owner, is_same_owner, is_owned, process_amount, page_amount, amount};
 
 use vm_facts::{Entry, Page};
 
@@ -80,8 +80,8 @@ fn instructions(entry: &Entry) -> u64
 }
 
 // The bytes that a process wrote.
-fn bytes_out(entry: &Entry) -> u64
-    ensures { result ≡ bytes_out entry.now }
+fn output_length(entry: &Entry) -> u64
+    ensures { result ≡ output_length entry.now }
 {
     match entry {
         Entry::Out { bytes, .. } => bytes.as_slice().len() as u64,
@@ -298,7 +298,7 @@ fn process_amount(head: ProcessHead, entry: &Entry) -> u64
 {
     match head {
         ProcessHead::Instructions => instructions(entry),
-        ProcessHead::BytesOut => bytes_out(entry),
+        ProcessHead::BytesOut => output_length(entry),
         ProcessHead::Calls => calls(entry),
         ProcessHead::Growths => growths(entry),
         ProcessHead::Refusals => refusals(entry),

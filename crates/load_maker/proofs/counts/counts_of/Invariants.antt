@@ -2,7 +2,10 @@
 use Rattle.std.proofs.Common.{◌≡◌, ◌≤◌, ◌+◌, ◌*◌, ◌^◌, take}
 use Rattle.std.specs.List.{count_by, sum_by}
 use Rattle.flat_state.specs.Journal.{instructions_of}
-use Rattle.load_maker.specs.Counts.{is_granted_fork, is_end, is_refusal, output_length}
+use Rattle.outcome_laws.specs.Others.{is_refusal}
+use Rattle.outcome_laws.specs.Visible.{is_end}
+use Rattle.run_counts.specs.Counts.{output_length}
+use Rattle.load_maker.specs.Counts.{is_granted_fork}
 use Rattle.load_maker.proofs.counts.counts_of.Given as goal
 
 abbrev pub invariant-loop-entry : goal.invariant-loop-entry
