@@ -24,7 +24,7 @@ use Rattle.command_words.specs.declared.command.FilmSteps.{FilmSteps}
 use Rattle.reference_commands.specs.declared.question.Question.{Question}
 use Rattle.reference_commands.specs.declared.question.Question.TheVariants.{Optimum, Curve, Owners, Film, Stats, References}
 
--- a swap of so many blocks to which nothing was written
+-- a swap, or a device of it, of so many blocks to which nothing was written
 abbrev pub blank_swap : ℕ → List ℕ
 blank_swap blocks = replicate (512 * blocks) 0
 

@@ -1,5 +1,5 @@
 -- What words do where files, swap devices and output are in memory, and tell what they hold: what is told, without a premise.
-use Rattle.std.specs.Prelude.{◌≡◌, ◌*◌, ◌≤◌, ℕ, List, [], length, replicate, Option, Some, None}
+use Rattle.std.specs.Prelude.{◌≡◌, ◌≤◌, ℕ, List, [], length, Option, Some, None}
 use Rattle.io_edge.specs.FileHolding.{NamedFile}
 use Rattle.io_edge.specs.Striping.{pair_blocks, first_blocks}
 use Rattle.io_edge.specs.Written.{Appends}
@@ -20,18 +20,15 @@ use Rattle.reference_commands.specs.Loads.{load_written, finished_lines, IsLoadC
 use Rattle.reference_commands.specs.declared.question.Question.{Question}
 use Rattle.reference_commands.specs.declared.question.Question.TheVariants as questions
 use Rattle.reference_commands.specs.Reading.{read_told}
+use Rattle.reference_commands.specs.Answering.{blank_swap}
 use Rattle.reference_commands.specs.Asking.{Subject}
 use Rattle.reference_commands.specs.Ends.{EndsQuestion}
 use Rattle.policy_command.specs.Command.{EndsPolicies, references_told}
 use Rattle.vm_run.specs.Obeying.{Obeys}
 
--- a device of so many blocks to which nothing was written
-abbrev pub blank_device : ℕ → List ℕ
-blank_device blocks = replicate (512 * blocks) 0
-
--- the swap image that two such devices make together
+-- the swap image that two devices make together to which nothing was written
 abbrev pub blank_pair : ℕ → ℕ → List ℕ
-blank_pair zero_blocks one_blocks = first_blocks (pair_blocks zero_blocks one_blocks) (blank_device zero_blocks) (blank_device one_blocks)
+blank_pair zero_blocks one_blocks = first_blocks (pair_blocks zero_blocks one_blocks) (blank_swap zero_blocks) (blank_swap one_blocks)
 
 -- What is seen of these files and two blank devices, which never fail, and of an output that was empty.
 abbrev pub seen_of : List NamedFile → ℕ → ℕ → Option (List ℕ) → Option (List ℕ) → ℕ → Seen

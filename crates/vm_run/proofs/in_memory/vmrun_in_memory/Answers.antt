@@ -5,8 +5,9 @@ use Rattle.io_edge.specs.Zeros.{with_zeros}
 use Rattle.command_words.specs.Asked.{Asked, asked_of}
 use Rattle.reference_commands.specs.Seen.{Seen}
 use Rattle.reference_commands.specs.Paired.{image_together}
+use Rattle.reference_commands.specs.Answering.{blank_swap}
 use Rattle.vm_run.specs.Obeying.{Obeys}
-use Rattle.vm_run.specs.InMemory.{blank_pair, blank_device, seen_of}
+use Rattle.vm_run.specs.InMemory.{blank_pair, seen_of}
 use Rattle.vm_run.proofs.Telling.{obeys_told, same_seen, together}
 use Rattle.vm_run.proofs.in_memory.vmrun_in_memory.Goals as goal
 
@@ -16,8 +17,8 @@ returns c =
     let files : List NamedFile = map named_file c.args.files.items in
     let zero : Option (List ℕ) = Some (with_zeros (512 * c.vmrun-status.new.zero.blocks) c.vmrun-status.new.zero.written.items) in
     let one : Option (List ℕ) = Some (with_zeros (512 * c.vmrun-status.new.one.blocks) c.vmrun-status.new.one.written.items) in
-    let before = together c.in_ok-zero.zero.blocks c.in_ok-one.one.blocks c.args.zero_blocks c.args.one_blocks _ _ (Some (blank_device c.args.zero_blocks))
-    (Some (blank_device c.args.one_blocks)) c.in_ok-zero.ensures.blocks c.in_ok-one.ensures.blocks c.in_ok-zero.ensures.zeros c.in_ok-one.ensures.zeros in
+    let before = together c.in_ok-zero.zero.blocks c.in_ok-one.one.blocks c.args.zero_blocks c.args.one_blocks _ _ (Some (blank_swap c.args.zero_blocks))
+    (Some (blank_swap c.args.one_blocks)) c.in_ok-zero.ensures.blocks c.in_ok-one.ensures.blocks c.in_ok-zero.ensures.zeros c.in_ok-one.ensures.zeros in
     let after = together c.vmrun-status.new.zero.blocks c.vmrun-status.new.one.blocks c.args.zero_blocks c.args.one_blocks zero one zero one
     (c.vmrun-status.ensures.kept.devices.zero.blocks ∙ c.in_ok-zero.ensures.blocks) (c.vmrun-status.ensures.kept.devices.one.blocks ∙ c.in_ok-one.ensures.blocks) refl refl in
     let seen = same_seen _ files _ _ c.args.zero_blocks c.args.one_blocks _ _ (image_together c.args.zero_blocks c.args.one_blocks zero one) _ _ _ _ c.new-files.ensures c.in_ok-zero.ensures.blocks
