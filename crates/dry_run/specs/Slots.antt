@@ -38,7 +38,7 @@ abbrev pub read_over : Option ℕ → ByteRead → ByteRead
 read_over (Some byte) was = bytes.Is byte
 read_over None was = was
 
--- a byte that might be written misses where it has no slot
+-- a byte that might be written misses, unless this is so of it
 abbrev pub may_where : Bool → MayWrite → MayWrite
 may_where false tests.May = tests.Miss
 may_where _ answer = answer

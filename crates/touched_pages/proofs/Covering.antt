@@ -18,8 +18,9 @@ use Rattle.machine_state.specs.declared.user_memory.Layout.{Layout}
 use Rattle.machine_state.specs.Calls.{life_in}
 use Rattle.machine_state.specs.Machine.{Standing}
 use Rattle.machine_state.specs.UserMemory.{page_in, kernel_answers, writes_in}
+use Rattle.dry_run.specs.Slots.{may_where}
 use Rattle.flat_model.specs.Shown.{is_shown, read_where}
-use Rattle.touched_pages.specs.Shown.{may_where, only, shown_in, WroteShown}
+use Rattle.touched_pages.specs.Shown.{only, shown_in, WroteShown}
 use Rattle.touched_pages.specs.Missed.{WritesNothing}
 
 -- it misses, or answers as another one that is answered so

@@ -1,10 +1,9 @@
 -- A memory of which some pages alone are there.
-use Rattle.std.specs.Prelude.{◌≡◌, ℕ, Bool, false, List}
+use Rattle.std.specs.Prelude.{◌≡◌, ℕ, List}
 use Rattle.std.specs.Borrow.{MutBor}
 use Rattle.vm_facts.specs.Answers.{Answers, ByteWrite, written}
-use Rattle.vm_facts.specs.declared.memory.MayWrite.{MayWrite}
-use Rattle.vm_facts.specs.declared.memory.MayWrite.TheVariants as tests
 use Rattle.vm_facts.specs.declared.page.Page.{Page}
+use Rattle.dry_run.specs.Slots.{may_where}
 use Rattle.page_model.specs.Placement.{Placement}
 use Rattle.kernel_model.specs.Kernel.{Kernel}
 use Rattle.machine_state.specs.declared.user_memory.Layout.{Layout}
@@ -12,11 +11,6 @@ use Rattle.machine_state.specs.Machine.{Standing}
 use Rattle.machine_state.specs.Lent.{WroteThrough}
 use Rattle.machine_state.specs.UserMemory.{page_in, kernel_answers}
 use Rattle.flat_model.specs.Shown.{is_shown, read_where}
-
--- a byte that might be written misses where its page isn't shown
-abbrev pub may_where : Bool → MayWrite → MayWrite
-may_where false tests.May = tests.Miss
-may_where _ answer = answer
 
 -- what a memory of a space answers of which these pages alone are shown
 abbrev pub only : Placement → ℕ → List Page → Answers → Answers
