@@ -4,7 +4,8 @@ use Rattle.std.proofs.lemmas.List.{length-append}
 use Rattle.std.proofs.Math.Seq.{drop-append_seam}
 use Rattle.std.specs.Prelude.{drop, slice_get, ◌-◌, Some, None}
 use Rattle.vm_facts.specs.declared.entry.Entry.{Entry}
-use Rattle.journal_laws.specs.LastMoves.{moves_counted, last_moves}
+use Rattle.swapper.specs.Spans.{moves}
+use Rattle.journal_laws.specs.LastMoves.{last_moves}
 use Rattle.film_core.specs.Marks.{last_entry}
 use Rattle.run_laws.proofs.LongerJournals.{Behind}
 
@@ -30,9 +31,9 @@ last_behind [] e = refl
 last_behind (f ∷ []) e = refl
 last_behind (f ∷ g ∷ es) e = last_behind (g ∷ es) e
 
-pub last_few : (es : List Entry) (e : Entry) (n : ℕ) → Some e ≡ last_entry es → moves_counted e ≤ n → last_moves es ≤ n
+pub last_few : (es : List Entry) (e : Entry) (n : ℕ) → Some e ≡ last_entry es → moves e ≤ n → last_moves es ≤ n
 last_few [] e n h l = absurd cc
-last_few (f ∷ []) e n h l = subst (λ (x : Entry). moves_counted x ≤ n) (let z : e ≡ f = cc in z) l
+last_few (f ∷ []) e n h l = subst (λ (x : Entry). moves x ≤ n) (let z : e ≡ f = cc in z) l
 last_few (f ∷ g ∷ es) e n h l = last_few (g ∷ es) e n h l
 
 pub last_none : (es : List Entry) → None ≡ last_entry es → last_moves es ≡ 0

@@ -2,7 +2,8 @@
 ghost use Rattle.std.specs.Prelude.{◌≡◌, ◌≤◌, true};
 ghost use Rattle.flat_state.specs.Journal.{counted};
 ghost use Rattle.machine_state.specs.Going.{IsRunning};
-ghost use Rattle.journal_laws.specs.LastMoves.{moves_counted, last_moves};
+ghost use Rattle.journal_laws.specs.LastMoves.{last_moves};
+ghost use Rattle.swapper.specs.Spans.{moves};
 ghost use Rattle.run_model.specs.Next.{last_turned};
 ghost use Rattle.run_start.specs.Runners.{choice_of};
 ghost use Rattle.run_model.specs.After.{swap_mark, completed, moved_on, brought_in, put_out, audited};
@@ -170,7 +171,7 @@ pub(crate) fn last_turned(mark: Mark) -> u32
 
 // How many moves of the hands an entry counts.
 fn moves_counted(e: &Entry) -> u32
-    ensures { result ≡ moves_counted e.now }
+    ensures { result ≡ moves e.now }
 {
     match e {
         Entry::Hands { count } => *count,

@@ -29,7 +29,8 @@ use Rattle.machine_state.specs.Files.{AreFiles, HaveFiles}
 use Rattle.machine_state.specs.Sharing.{IsSharer}
 use Rattle.machine_state.specs.Beginning.{StartedFirst}
 use Rattle.machine_state.proofs.FirstBegins.{shown_facts}
-use Rattle.paging_units.specs.LastMoves.{last_moves, moves_counted}
+use Rattle.paging_units.specs.Spans.{moves}
+use Rattle.paging_units.specs.LastMoves.{last_moves}
 use Rattle.proc_calls.specs.Serving.{CanServe}
 use Rattle.pager_tests.specs.Ready.{IsReady, HasStarted}
 use Rattle.pager_tests.proofs.SmallMachine.{has_file, shown_files}
@@ -63,9 +64,9 @@ has_room p e = record {
 
 -- The moves that the last entry counts.
 
-pub last_is : (journal : List Entry) (e : Entry) → slice_get journal (length journal - 1) ≡ Some e → moves_counted e ≡ last_moves journal
+pub last_is : (journal : List Entry) (e : Entry) → slice_get journal (length journal - 1) ≡ Some e → moves e ≡ last_moves journal
 last_is [] e h = absurd cc
-last_is (x ∷ []) e h = sym (ap moves_counted (same_Some x e h))
+last_is (x ∷ []) e h = sym (ap moves (same_Some x e h))
 last_is (x ∷ f ∷ journal) e h = last_is (f ∷ journal) e (sym (ap (slice_get (x ∷ f ∷ journal)) (before (length journal))) ∙ h)
   where
     before : (n : ℕ) → suc (suc n) - 1 ≡ suc (suc n - 1)

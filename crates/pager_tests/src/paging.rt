@@ -10,7 +10,8 @@ ghost use Rattle.machine_state.specs.Files.{AreFiles, HaveFiles};
 ghost use Rattle.machine_state.specs.New.{AreSound};
 ghost use Rattle.machine_state.specs.Sourced.{ImageNamed, AreNames};
 ghost use Rattle.machine_state.specs.Machine.{image_shown};
-ghost use Rattle.paging_units.specs.LastMoves.{last_moves, moves_counted};
+ghost use Rattle.paging_units.specs.LastMoves.{last_moves};
+ghost use Rattle.paging_units.specs.Spans.{moves};
 ghost use Rattle.proc_calls.specs.Serving.{CanServe};
 ghost use Rattle.pager_tests.specs.Ready.{IsReady, HasStarted};
 
@@ -172,7 +173,7 @@ pub(crate) fn see_frames(rt: &impl Abort, m: &Machine)
 
 // The moves of the hands that an entry counts.
 fn moves_counted(e: &Entry) -> u32
-    ensures { result ≡ moves_counted e.now }
+    ensures { result ≡ moves e.now }
 {
     match e {
         Entry::Hands { count } => *count,

@@ -3,9 +3,10 @@ use Rattle.std.proofs.Common.{◌≡◌, ℕ, ◌+◌, ◌≤◌, List, [], ◌�
 use Rattle.vm_facts.specs.declared.entry.Entry.{Entry}
 use Rattle.vm_facts.specs.declared.entry.Entry.TheVariants as entries
 use Rattle.flat_state.specs.Journal.{append, append_after, join}
-use Rattle.paging_units.specs.LastMoves.{moves_counted, last_moves}
+use Rattle.span_laws.specs.Spans.{moves}
+use Rattle.paging_units.specs.LastMoves.{last_moves}
 
-pub last_of : (before : List Entry) (e : Entry) → last_moves (before ++ e ∷ []) ≡ moves_counted e
+pub last_of : (before : List Entry) (e : Entry) → last_moves (before ++ e ∷ []) ≡ moves e
 last_of [] e = refl
 last_of (f ∷ []) e = refl
 last_of (f ∷ g ∷ before) e = last_of (g ∷ before) e
@@ -34,7 +35,7 @@ after_begun e (f ∷ journal) = record { first = e; others = append_after f jour
 past : (e : Entry) (xs : List Entry) → Begun xs → last_moves (e ∷ xs) ≡ last_moves xs
 past e xs b = ap (λ (ys : List Entry). last_moves (e ∷ ys)) b.same ∙ sym (ap last_moves b.same)
 
-joined_more : (e : Entry) → last_moves (join e (entries.Hands 1)) ≤ moves_counted e + 1
+joined_more : (e : Entry) → last_moves (join e (entries.Hands 1)) ≤ moves e + 1
 joined_more (entries.Hands m) = omega arith
 joined_more _ = omega arith
 

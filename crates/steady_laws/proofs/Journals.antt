@@ -4,10 +4,11 @@ use Rattle.vm_facts.specs.declared.entry.Entry.{Entry}
 use Rattle.vm_facts.specs.declared.entry.Entry.TheVariants as entries
 use Rattle.flat_state.specs.Journal.{join_by, join, append_after, append_joined, append, counted, instructions_of, IsPlain}
 use Rattle.flat_state.proofs.Joins.{append_plain, count-append, append_counted}
-use Rattle.swapper.specs.LastMoves.{moves_counted, last_moves}
+use Rattle.swapper.specs.Spans.{moves}
+use Rattle.swapper.specs.LastMoves.{last_moves}
 use Rattle.swapper.proofs.LastMoves.{last_of}
 
-plain_still : (e : Entry) → IsPlain e → moves_counted e ≡ 0
+plain_still : (e : Entry) → IsPlain e → moves e ≡ 0
 plain_still (entries.Ran pid n) h = absurd h
 plain_still (entries.Hands n) h = absurd h
 plain_still _ h = refl
@@ -20,7 +21,7 @@ record EndsStill (xs : List Entry) : Type 0 where
   before : List Entry
   last : Entry
   same : xs ≡ before ++ last ∷ []
-  still : moves_counted last ≡ 0
+  still : moves last ≡ 0
 
 ends_none : (xs : List Entry) → EndsStill xs → last_moves xs ≡ 0
 ends_none xs s = ap last_moves s.same ∙ last_of s.before s.last ∙ s.still
