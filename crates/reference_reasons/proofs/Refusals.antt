@@ -15,10 +15,11 @@ use Rattle.run_text.proofs.Events.{digits_no}
 use Rattle.run_text.proofs.Words.{decimal_value}
 use Rattle.reference_text.specs.Grammar.{IsReference, IsLineText, IsReferenceLine}
 use Rattle.text_lines.specs.Lines.{ends_in, text_in, word_in, rest_in}
+use Rattle.text_lines.specs.Reasons.{or_else}
 use Rattle.text_lines.proofs.Cuts.{ends_so, text_of, line_of, ends_not, any_not, has_no_more, text_cut, text_whole, word_before, rest_after, word_alone, rest_none}
 use Rattle.reference_reasons.specs.declared.reasons.Argument.{Argument}
 use Rattle.reference_reasons.specs.declared.reasons.Argument.TheVariants.{Owner, Place}
-use Rattle.reference_reasons.specs.Reasons.{Why, CarriageReturn, Tab, NoReference, NotNumber, NoLineFeed, or_else, is_number, why_number, why_numbers, is_segment, why_reference, why_text, why_line, RefusedHaveReasons}
+use Rattle.reference_reasons.specs.Reasons.{Why, CarriageReturn, Tab, NoReference, NotNumber, NoLineFeed, is_number, why_number, why_numbers, is_segment, why_reference, why_text, why_line, RefusedHaveReasons}
 use Rattle.reference_reasons.proofs.Numerals.{IsDecimal, number_read, number_so}
 
 none_is : (x : Option Why) → is_none x ≡ true → x ≡ None

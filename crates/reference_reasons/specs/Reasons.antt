@@ -5,6 +5,7 @@ use Rattle.std.specs.Str.Parse.{digits_value}
 use Rattle.vm_facts.specs.declared.page.Page.{Page}
 use Rattle.reference_text.specs.Grammar.{IsReferenceLine}
 use Rattle.text_lines.specs.Lines.{line_at, ends_in, text_in, word_in, rest_in}
+use Rattle.text_lines.specs.Reasons.{or_else}
 use Rattle.reference_reasons.specs.declared.reasons.Argument.{Argument}
 use Rattle.reference_reasons.specs.declared.reasons.Argument.TheVariants.{Owner, Place}
 use Rattle.reference_reasons.specs.declared.reasons.Reason.{Reason}
@@ -33,11 +34,6 @@ why_of (reasons.NotNumber argument word) = NotNumber argument word.now
 why_of (reasons.TooMany word) = TooMany word.now
 why_of reasons.NoLineFeed = NoLineFeed
 why_of reasons.TooManyReferences = TooManyReferences
-
--- no reason where there is one already
-abbrev pub or_else : Option Why → Option Why → Option Why
-or_else (Some why) other = Some why
-or_else None other = other
 
 -- the word is the decimal of a number of 32 bits
 unfoldable pub is_number : List ℕ → Bool

@@ -14,8 +14,9 @@ use Rattle.run_text.proofs.Events.{digits_no}
 use Rattle.schedule_reasons.specs.declared.reasons.Argument.{Argument}
 use Rattle.schedule_reasons.specs.declared.reasons.Argument.TheVariants.{Process, Turn, Moves}
 use Rattle.text_lines.specs.Lines.{ends_in, text_in, word_in, rest_in}
+use Rattle.text_lines.specs.Reasons.{or_else}
 use Rattle.schedule_reasons.specs.Digits.{decimal_of}
-use Rattle.schedule_reasons.specs.Reasons.{Why, OutOfRange, NoLineFeed, CarriageReturn, Tab, most_of, or_else, why_value, why_number, why_numbers, no_event, is_plain, why_event, why_text, why_line, RefusedHaveReasons}
+use Rattle.schedule_reasons.specs.Reasons.{Why, OutOfRange, NoLineFeed, CarriageReturn, Tab, most_of, why_value, why_number, why_numbers, no_event, is_plain, why_event, why_text, why_line, RefusedHaveReasons}
 use Rattle.text_lines.proofs.Cuts.{ends_so, text_of, line_of, ends_not, any_not, has_no_more, text_cut, text_whole, word_before, rest_after, word_alone, rest_none}
 use Rattle.schedule_reasons.proofs.Numerals.{digits_alone}
 

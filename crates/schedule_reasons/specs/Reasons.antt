@@ -8,6 +8,7 @@ use Rattle.schedule_reasons.specs.declared.reasons.Argument.TheVariants.{Process
 use Rattle.schedule_reasons.specs.declared.reasons.Reason.{Reason}
 use Rattle.schedule_reasons.specs.declared.reasons.Reason.TheVariants as reasons
 use Rattle.text_lines.specs.Lines.{line_at, ends_in, text_in, word_in, rest_in}
+use Rattle.text_lines.specs.Reasons.{or_else}
 use Rattle.schedule_reasons.specs.Digits.{decimal_of}
 
 -- why a line is bad
@@ -45,11 +46,6 @@ abbrev pub most_of : Argument → ℕ
 most_of Process = 99999999
 most_of Turn = 1000000
 most_of Moves = 8192
-
--- no reason where there is one already
-abbrev pub or_else : Option Why → Option Why → Option Why
-or_else (Some why) other = Some why
-or_else None other = other
 
 -- why a word is no value of a number: it is none, or out of its range
 abbrev pub why_value : Argument → List ℕ → Option ℕ → Option Why
