@@ -101,6 +101,11 @@ call_of (negsuc number) = None
 
 -- What a call reads.
 
+-- how a computation was refused, if it was
+abbrev pub refusal_of : {A : Type 0} → Result A Refused → Result (Unit {0}) Refused
+refusal_of (Ok x) = Ok tt
+refusal_of (Err refused) = Err refused
+
 -- the call's argument of this number, counted from 1: a longword after the one that AP points to
 unfoldable pub argument : Regs → ℕ → Program ℕ
 argument regs k = number_at 4 (past (register regs 12) (4 * k))

@@ -27,7 +27,7 @@ use Rattle.user_vax.specs.declared.stepping.Stepped.{Stepped}
 use Rattle.user_vax.specs.declared.stepping.Stepped.TheVariants as steps
 use Rattle.user_vax.proofs.Runs.{then, run_bind}
 use Rattle.flat_model.specs.Instruction.{instruction_in}
-use Rattle.flat_model.specs.Calls.{call_of, reply_of, argument, exit_reply, break_reply, break_by, pages_up_to, stack_pages_of, data_limit}
+use Rattle.flat_model.specs.Calls.{call_of, reply_of, argument, exit_reply, break_reply, break_by, pages_up_to, stack_pages_of, data_limit, refusal_of}
 use Rattle.flat_model.specs.declared.calls.Reply.TheVariants.{Exits}
 use Rattle.std.proofs.lemmas.List.Elements.{filter_map-append}
 use Rattle.flat_state.proofs.PageNames.{same_page_self, same_page_is}
@@ -36,7 +36,7 @@ use Rattle.flat_model.specs.declared.calls.SystemCall.{SystemCall}
 use Rattle.flat_model.specs.Step.{written_process}
 use Rattle.flat_process.proofs.Hits.{space_hits}
 use Rattle.flat_model.specs.Shown.{is_shown, read_where, test_where, shown}
-use Rattle.flat_process.specs.Present.{WrotePresent, access_of, pages_of, with_page, gathered, refusal_of}
+use Rattle.flat_process.specs.Present.{WrotePresent, access_of, pages_of, with_page, gathered}
 
 -- Names of pages.
 

@@ -1,11 +1,10 @@
 -- What is done in a space of which only some pages are present.
-use Rattle.std.specs.Prelude.{◌≡◌, ℕ, Bool, true, false, List, [], ◌∷◌, ◌++◌, filter_map, Result, Ok, Err}
+use Rattle.std.specs.Prelude.{◌≡◌, ℕ, Bool, true, false, List, [], ◌∷◌, ◌++◌, filter_map}
 use Rattle.std.proofs.Common.{refl, sym, ap, ◌∙◌}
 use Rattle.vm_facts.specs.Answers.{Answers, ByteWrite, written}
 use Rattle.flat_state.specs.Space.{Space}
 use Rattle.vm_facts.specs.declared.page.Page.{Page}
 use Rattle.user_vax.specs.Program.{ByteAccess, ReadOf, TestOf}
-use Rattle.user_vax.specs.declared.refused.Refused.{Refused}
 use Rattle.user_vax.specs.ArrayMemory.{written-append}
 use Rattle.flat_state.specs.PageNames.{is_among}
 use Rattle.flat_state.specs.Writes.{Wrote}
@@ -58,8 +57,3 @@ with_page false pages page = pages ++ page ∷ []
 abbrev pub gathered : List Page → List Page → List Page
 gathered pages [] = pages
 gathered pages (p ∷ ps) = gathered (with_page (is_among p pages) pages p) ps
-
--- how a computation was refused, if it was
-abbrev pub refusal_of : {A : Type 0} → Result A Refused → Result (Unit {0}) Refused
-refusal_of (Ok x) = Ok tt
-refusal_of (Err refused) = Err refused

@@ -5,8 +5,7 @@ ghost use Rattle.user_vax.specs.Program.{run};
 ghost use Rattle.flat_state.specs.Flat.{NamedImage, image_numbered, Process as Record, FlatState};
 ghost use Rattle.flat_state.specs.Change.{is_zombie_child};
 ghost use Rattle.flat_state.specs.Space.{answers_of, Space};
-ghost use Rattle.flat_model.specs.Calls.{process_limit, replied, replied_both, child_by, break_reply, arguments_at, starts, path_image, string_from, string_limit, execve_of, execve_reply, wait_by, or_fault, wants_space, refused_reply, reply_of};
-ghost use Rattle.flat_process.specs.Present.{refusal_of};
+ghost use Rattle.flat_model.specs.Calls.{process_limit, replied, replied_both, child_by, break_reply, arguments_at, starts, path_image, string_from, string_limit, execve_of, execve_reply, wait_by, or_fault, wants_space, refused_reply, reply_of, refusal_of};
 ghost use Rattle.flat_process.specs.Images.{IsPathImage, with_number, CanChange, CanReply, CanAnswer};
 
 use crate::process::{Process, with_results};

@@ -10,11 +10,6 @@ use Rattle.flat_model.specs.Calls.{path_image, string_from, string_limit, execve
 use Rattle.machine_state.specs.Sourced.{ImageNamed}
 use Rattle.machine_state.specs.Named.{Named}
 
--- how a computation was refused, if it was
-abbrev pub refusal_of : {A : Type 0} → Result A Refused → Result (Unit {0}) Refused
-refusal_of (Ok x) = Ok tt
-refusal_of (Err refused) = Err refused
-
 -- these are the images of a machine: by name and header, in order
 abbrev pub AreShown : List NamedImage → List Named → Type 0
 AreShown [] [] = Unit {0}

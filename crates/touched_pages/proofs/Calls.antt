@@ -13,8 +13,7 @@ use Rattle.user_vax.specs.declared.stepping.Stepped.TheVariants as steps
 use Rattle.flat_state.specs.Space.{Space}
 use Rattle.flat_state.specs.Flat.{Process, FlatState, NamedImage}
 use Rattle.flat_model.specs.declared.calls.SystemCall.{SystemCall}
-use Rattle.flat_model.specs.Calls.{call_of, reply_of}
-use Rattle.proc_calls.specs.Reading.{refusal_of}
+use Rattle.flat_model.specs.Calls.{call_of, reply_of, refusal_of}
 use Rattle.touched_pages.specs.Missed.{missed_byte, missed_by_call, missed_behind_by, missed_behind, first_missed}
 
 -- a byte that misses where a value is read

@@ -3,11 +3,11 @@ ghost use Rattle.std.specs.Prelude.{◌≡◌, List, IfOk};
 ghost use Rattle.user_vax.specs.Program.{run};
 ghost use Rattle.flat_state.specs.Flat.{NamedImage, FlatState, Process};
 ghost use Rattle.flat_state.specs.Space.{Space};
-ghost use Rattle.flat_model.specs.Calls.{reply_of};
+ghost use Rattle.flat_model.specs.Calls.{reply_of, refusal_of};
 ghost use Rattle.machine_state.specs.Going.{CanGoOn};
 ghost use Rattle.machine_state.specs.UserMemory.{CanLend};
 ghost use Rattle.proc_calls.specs.Growth.{space_held};
-ghost use Rattle.proc_calls.specs.Reading.{refusal_of, AreNamed};
+ghost use Rattle.proc_calls.specs.Reading.{AreNamed};
 ghost use Rattle.touched_pages.specs.Shown.{shown_in};
 
 use crate::shown::Shown;

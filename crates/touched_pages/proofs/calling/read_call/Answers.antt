@@ -1,13 +1,13 @@
 use Rattle.std.proofs.Common.{◌≡◌, ℕ, List, sym, ap, subst}
 use Rattle.std.specs.Prelude.{IfOk}
 use Rattle.user_vax.specs.Program.{run}
-use Rattle.flat_model.specs.Calls.{reply_of}
+use Rattle.flat_model.specs.Calls.{reply_of, refusal_of}
 use Rattle.machine_state.specs.Going.{CanGoOn}
 use Rattle.machine_state.specs.Machine.{Standing}
 use Rattle.machine_state.specs.Sourced.{ImageNamed}
 use Rattle.kernel_model.specs.ChangeStep.{space_of_life}
 use Rattle.proc_calls.specs.Growth.{space_held}
-use Rattle.proc_calls.specs.Reading.{refusal_of, AreNamed}
+use Rattle.proc_calls.specs.Reading.{AreNamed}
 use Rattle.touched_pages.specs.Shown.{shown_in}
 use Rattle.touched_pages.proofs.calling.read_call.Goals as goal
 
