@@ -24,7 +24,7 @@ use Rattle.run_laws.specs.Running.{CanRun}
 use Rattle.run_laws.proofs.Lawful.{follows_state}
 use Rattle.run_laws.proofs.Registers.{start_regs_are}
 use Rattle.run_units.proofs.Swapping.{line_comes, turn_comes}
-use Rattle.journal_laws.specs.Acting.{IsBetween}
+use Rattle.flat_model.specs.Run.{IsBetween}
 use Rattle.journal_laws.specs.Leads.{Leads}
 use Rattle.journal_laws.specs.Serving.{At}
 use Rattle.journal_laws.proofs.Journals.{few_started, leads_follow}

@@ -17,6 +17,12 @@ abbrev pub is_refused : Option Entry → ℕ → Bool
 is_refused (Some (Refused p)) pid = p == pid
 is_refused _ pid = false
 
+-- no step is begun: the last flat entry is neither `Refused` nor `Out`
+abbrev pub IsBetween : Option Entry → Type 0
+IsBetween (Some (Refused pid)) = ⊥
+IsBetween (Some (Out pid bytes)) = ⊥
+IsBetween _ = Unit {0}
+
 -- the next step of a process at a point, by whether the last flat entry says that its pieces found no place
 abbrev pub step_at : Inputs → Point → ℕ → Step
 step_at A point pid = flat_step A point.flat pid (is_refused point.last pid)

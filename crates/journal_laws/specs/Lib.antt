@@ -2,7 +2,6 @@ pub use Rattle.run_units.specs.Moved
 pub use Rattle.run_units.specs.Stretch
 pub use Rattle.run_units.specs.LastMoves
 pub use Rattle.run_units.specs.Stops
-pub use Rattle.run_units.specs.Acting
 pub use Rattle.run_units.specs.Leads
 pub use Rattle.run_units.specs.Serving
 pub mod Accounts

@@ -12,7 +12,7 @@ use Rattle.run_model.specs.Lawful.{Follows}
 use Rattle.step_units.specs.RunLawsRunning.{CanRun}
 use Rattle.step_units.specs.Machines.{MachineAt}
 use Rattle.step_units.specs.Rests.{before_done}
-use Rattle.step_units.specs.Acting.{IsBetween}
+use Rattle.flat_model.specs.Run.{IsBetween}
 use Rattle.proc_run.specs.declared.finishing.Begun.{Begun}
 use Rattle.proc_run.specs.declared.finishing.Begun.TheVariants as begun
 

@@ -9,15 +9,15 @@ use Rattle.vm_facts.specs.declared.entry.Entry.{Entry}
 use Rattle.vm_facts.specs.declared.entry.Entry.TheVariants as entries
 use Rattle.flat_model.specs.declared.calls.SystemCall.{SystemCall}
 use Rattle.flat_model.specs.Step.{Step, flat_step, call_entry}
-use Rattle.flat_model.specs.Run.{Point, flat_entry, flat_entry_by, same_entry, is_first_of, due, due_at, is_due, led_to, is_refused, step_at, point_after, behind, may_follow, is_outcome_of, is_call_of, process_of_entry}
+use Rattle.flat_model.specs.Run.{Point, flat_entry, flat_entry_by, same_entry, is_first_of, due, due_at, is_due, led_to, is_refused, step_at, point_after, behind, may_follow, is_outcome_of, is_call_of, process_of_entry, IsBetween}
 use Rattle.flat_machine.specs.declared.deed.Did.{Did}
 use Rattle.flat_machine.specs.declared.deed.Did.TheVariants as deeds
 use Rattle.replay_check.specs.declared.replaying.Last.{Last}
 use Rattle.replay_check.specs.declared.replaying.Last.TheVariants as lasts
 use Rattle.flat_machine.specs.Machine.{entries_of, state_if, entries_if}
-use Rattle.replay_check.specs.Judging.{is_other, refused_in, begins, IsFree, IsAt, IsVerdict}
+use Rattle.replay_check.specs.Judging.{is_other, refused_in, begins, IsAt, IsVerdict}
 
-free_last : (o : Option Entry) (pid : ℕ) (es : List Entry) (e : Entry) → IsFree o → (is_refused o pid ≡ false) × (due o pid es ≡ es) × (may_follow o e ≡ true)
+free_last : (o : Option Entry) (pid : ℕ) (es : List Entry) (e : Entry) → IsBetween o → (is_refused o pid ≡ false) × (due o pid es ≡ es) × (may_follow o e ≡ true)
 free_last None pid es e free = (refl, refl, refl)
 free_last (Some (entries.Event x0)) pid es e free = (refl, refl, refl)
 free_last (Some (entries.Turn x0)) pid es e free = (refl, refl, refl)
@@ -47,7 +47,7 @@ pub record Opens (F : FlatState) (pid : ℕ) (refused : Bool) (point : Point) : 
   pub refuses : is_refused point.last pid ≡ refused
   pub whole : (es : List Entry) → due point.last pid es ≡ es
 
-free_opens : (F : FlatState) (pid : ℕ) (point : Point) → point.flat ≡ F → IsFree point.last → Opens F pid false point
+free_opens : (F : FlatState) (pid : ℕ) (point : Point) → point.flat ≡ F → IsBetween point.last → Opens F pid false point
 free_opens F pid point flat free = record {
   flat = flat;
   refuses = (free_last point.last pid [] entries.Done free).0;
@@ -159,7 +159,7 @@ entry_of A point F G pid refused e did opens of es after =
     ∙ sym (ap (λ (xs : List Entry). if is_first_of xs e then Some (behind point G xs) else None) es)
 
 -- the verdict on the last entry of a step
-pub last_verdict : (A : Inputs) (F : FlatState) (x : Entry) (b c : Bool) → IsFree (Some x) → b ≡ c
+pub last_verdict : (A : Inputs) (F : FlatState) (x : Entry) (b c : Bool) → IsBetween (Some x) → b ≡ c
     → IsVerdict A b F lasts.Other (if c then Some (record { flat = F; last = Some x }) else None)
 last_verdict A F x true true free k = (refl, free)
 last_verdict A F x false false free k = tt

@@ -12,7 +12,7 @@ use Rattle.vm_facts.proofs.Tests.{eq_self}
 use Rattle.flat_state.specs.Journal.{units_with, repeated, counted, instructions_of}
 use Rattle.flat_model.specs.declared.calls.SystemCall.{SystemCall}
 use Rattle.flat_model.specs.Step.{Step, flat_step, call_entry}
-use Rattle.flat_model.specs.Run.{Point, entry_of_step, due, due_at, first_if, flat_entry, flat_units, is_outcome_of, is_refused, may_follow, process_of_entry, step_at}
+use Rattle.flat_model.specs.Run.{Point, entry_of_step, due, due_at, first_if, flat_entry, flat_units, is_outcome_of, is_refused, may_follow, process_of_entry, step_at, IsBetween}
 use Rattle.flat_machine.specs.declared.deed.Did.{Did}
 use Rattle.flat_machine.specs.declared.deed.Did.TheVariants as deeds
 use Rattle.replay_check.specs.declared.replaying.Last.{Last}
@@ -20,7 +20,7 @@ use Rattle.replay_check.specs.declared.replaying.Last.TheVariants as lasts
 use Rattle.replay_check.specs.declared.expecting.Expected.{Expected}
 use Rattle.replay_check.specs.declared.expecting.Expected.TheVariants.{Comes, CannotStep, NoProcess, TooMany}
 use Rattle.flat_machine.specs.Machine.{entries_of, state_if, entries_if}
-use Rattle.replay_check.specs.Judging.{refused_in, begins, is_other, IsFree, IsWriting, IsAt, IsVerdict, HasTaken}
+use Rattle.replay_check.specs.Judging.{refused_in, begins, is_other, IsWriting, IsAt, IsVerdict, HasTaken}
 use Rattle.replay_check.specs.Verdicts.{instruction_limit, is_run, first_bad}
 use Rattle.replay_check.specs.Expecting.{begun, or_else, due_process, comes_if, missing, expected_by, expected_of, follows_if, comes_or, is_one, ran_or, RunsOnly, IsExpected, IsExpectedOf, IsExpectedAt, IsExpectedIf, IsExpectedBehind, IsMisfit}
 use Rattle.replay_check.proofs.Judging.{Opens, free_at, open_at}
@@ -199,7 +199,7 @@ expected_more A point G new pid count rest more all verdict runs = go (flat_entr
 
 -- The process that is due.
 
-free_begun : (o : Option Entry) → IsFree o → begun o ≡ None
+free_begun : (o : Option Entry) → IsBetween o → begun o ≡ None
 free_begun None free = refl
 free_begun (Some (entries.Event x0)) free = refl
 free_begun (Some (entries.Turn x0)) free = refl

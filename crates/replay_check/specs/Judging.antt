@@ -5,19 +5,13 @@ use Rattle.vm_facts.specs.declared.entry.Entry.{Entry}
 use Rattle.vm_facts.specs.declared.entry.Entry.TheVariants as entries
 use Rattle.flat_state.specs.Journal.{instructions_of}
 use Rattle.flat_model.specs.Step.{flat_step, call_entry}
-use Rattle.flat_model.specs.Run.{Point, is_first_of, flat_run}
+use Rattle.flat_model.specs.Run.{Point, is_first_of, flat_run, IsBetween}
 use Rattle.flat_machine.specs.declared.deed.Did.{Did}
 use Rattle.flat_machine.specs.declared.deed.Did.TheVariants as deeds
 use Rattle.flat_machine.specs.Machine.{entries_of}
 use Rattle.replay_check.specs.declared.replaying.Last.{Last}
 use Rattle.replay_check.specs.declared.replaying.Last.TheVariants as lasts
 use Rattle.replay_check.specs.Verdicts.{instruction_limit, is_run}
-
--- what isn't completed yet stands in no such entry
-abbrev pub IsFree : Option Entry → Type 0
-IsFree (Some (entries.Refused pid)) = ⊥
-IsFree (Some (entries.Out pid bytes)) = ⊥
-IsFree _ = Unit {0}
 
 -- no step is begun
 abbrev pub is_other : Last → Bool
@@ -46,7 +40,7 @@ pub record IsWriting (A : Inputs) (F : FlatState) (pid : ℕ) (reply : Entry) (p
 
 -- the judge, with this machine and this last entry, stands at a point of a run
 abbrev pub IsAt : Inputs → FlatState → Last → Point → Type 0
-IsAt A F lasts.Other point = (point.flat ≡ F) × IsFree point.last
+IsAt A F lasts.Other point = (point.flat ≡ F) × IsBetween point.last
 IsAt A F (lasts.Refused pid) point = (point.flat ≡ F) × (point.last ≡ Some (entries.Refused pid))
 IsAt A F (lasts.Wrote pid call regs) point = IsWriting A F pid (call_entry pid call regs) point
 

@@ -6,11 +6,10 @@ use Rattle.vm_facts.specs.declared.entry.Entry.{Entry}
 use Rattle.vm_facts.specs.declared.entry.Entry.TheVariants as entries
 use Rattle.swap_book.specs.Placing.{fits}
 use Rattle.flat_state.specs.Flat.{Inputs, can_step}
-use Rattle.flat_model.specs.Run.{step_at, is_refused, behind_first, due, due_at, first_if, entry_of_step as next_of_step}
+use Rattle.flat_model.specs.Run.{step_at, is_refused, behind_first, due, due_at, first_if, entry_of_step as next_of_step, IsBetween}
 use Rattle.flat_model.specs.Asked.{asks}
 use Rattle.run_model.specs.State.{State}
 use Rattle.run_model.specs.Act.{act, act_if, act_by, must_refuse, must_settle}
-use Rattle.run_units.specs.Acting.{IsBetween}
 
 -- by whether it is refused, and has to settle
 acts_by : (A : Inputs) (s : State) (pid : ℕ) (refused settling : Bool) → can_step s.point.flat pid ≡ true → must_refuse A s pid ≡ refused

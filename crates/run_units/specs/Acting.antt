@@ -1,19 +1,13 @@
 -- What a process does next, by its step.
-use Rattle.std.specs.Prelude.{◌≡◌, ℕ, ◌==◌, Bool, true, false, List, [], ◌∷◌, Option, Some, None}
+use Rattle.std.specs.Prelude.{◌≡◌, ℕ, true, false, List, ◌∷◌, Some}
 use Rattle.vm_facts.specs.declared.entry.Entry.{Entry}
 use Rattle.vm_facts.specs.declared.entry.Entry.TheVariants as entries
 use Rattle.swap_book.specs.Placing.{fits}
 use Rattle.flat_state.specs.Flat.{Inputs, can_step}
-use Rattle.flat_model.specs.Run.{step_at}
+use Rattle.flat_model.specs.Run.{step_at, IsBetween}
 use Rattle.flat_model.specs.Asked.{asks}
 use Rattle.run_model.specs.State.{State}
 use Rattle.run_model.specs.Act.{act, must_settle}
-
--- no step is begun: the last flat entry is neither `Refused` nor `Out`
-abbrev pub IsBetween : Option Entry → Type 0
-IsBetween (Some (entries.Refused pid)) = ⊥
-IsBetween (Some (entries.Out pid bytes)) = ⊥
-IsBetween _ = Unit {0}
 
 -- between two steps the first entry of the next one comes, once its pieces find their places and no space has to settle
 abbrev pub StepBegins : Type 0

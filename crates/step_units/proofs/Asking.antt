@@ -103,7 +103,7 @@ hands_made A s old new holds image j n made at c m h =
       leads = led.leads;
       over = record {
         clear = led.asks.clear;
-        between = subst (λ p. Rattle.run_units.specs.Acting.IsBetween p.last) (sym led.point) c.between;
+        between = subst (λ p. Rattle.flat_model.specs.Run.IsBetween p.last) (sym led.point) c.between;
         over = moves_end A led.state (n - moves_of h.units) led.asks
             (λ l. ap wants_moves (sym behind.stands.place) ∙ h.fewer (let e = h.counted in let z = h.most in omega (arith, l, e, z)));
       };

@@ -16,13 +16,12 @@ use Rattle.kernel_model.specs.Asks.{asked}
 use Rattle.kernel_model.specs.Unit.{has_lender}
 use Rattle.kernel_laws.proofs.Kept.Borrowed.{borrows_is}
 use Rattle.flat_model.specs.Step.{Step, flat_step}
-use Rattle.flat_model.specs.Run.{step_at, is_refused, due, behind_first}
+use Rattle.flat_model.specs.Run.{step_at, is_refused, due, behind_first, IsBetween}
 use Rattle.flat_model.specs.Asked.{wanted_if, wanted_in, asks_by, asks}
 use Rattle.run_units.proofs.FlatLawsAsking.{change_same}
 use Rattle.run_model.specs.State.{State}
 use Rattle.run_model.specs.Act.{act, loses_pages, loses_in, loses_if, settled, step_loses, must_settle}
 use Rattle.run_units.proofs.Flows.{on_steps}
-use Rattle.run_units.specs.Acting.{IsBetween}
 use Rattle.run_units.specs.Serving.{At}
 use Rattle.run_units.specs.Touching.{IsRunning}
 use Rattle.run_units.proofs.Acting.{step_begins, step_refused, refused_comes, reply_comes}

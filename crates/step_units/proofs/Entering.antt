@@ -26,7 +26,7 @@ use Rattle.swapper.proofs.Stopping.{held_here}
 use Rattle.swapper.specs.Made.{ground}
 use Rattle.swapper.specs.Stops.{LeftBy, StopsBefore}
 use Rattle.flat_model.specs.Step.{Step}
-use Rattle.flat_model.specs.Run.{step_at, due_at}
+use Rattle.flat_model.specs.Run.{step_at, due_at, IsBetween}
 use Rattle.run_model.specs.State.{State}
 use Rattle.run_model.specs.Wanted.{wanted}
 use Rattle.run_model.specs.After.{after}
@@ -35,7 +35,6 @@ use Rattle.run_model.specs.Next.{next_unit}
 use Rattle.run_model.specs.Kinds.{ProcessRuns}
 use Rattle.run_units.specs.Machine.{unit_image, Completes, EndsStep}
 use Rattle.run_units.proofs.Flows.{runs_next}
-use Rattle.run_units.specs.Acting.{IsBetween}
 use Rattle.run_units.specs.Leads.{MadeAs, Leads}
 use Rattle.run_units.specs.Serving.{At}
 use Rattle.run_units.specs.Stepping.{with_holdings, PassesNone}

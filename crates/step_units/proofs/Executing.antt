@@ -28,7 +28,7 @@ use Rattle.flat_model.specs.declared.calls.Reply.{Reply}
 use Rattle.flat_model.specs.declared.calls.Reply.TheVariants.{Fails, Does}
 use Rattle.flat_model.specs.declared.calls.SystemCall.TheVariants.{Execve}
 use Rattle.flat_model.specs.Calls.{three_arguments, string_from, string_limit, path_image, arguments_at, starts, execve_of, execve_reply, replied}
-use Rattle.flat_model.specs.Run.{Point, step_at}
+use Rattle.flat_model.specs.Run.{Point, step_at, IsBetween}
 use Rattle.flat_model.specs.Step.{Step, call_entry, answered_step}
 use Rattle.machine_state.specs.UserMemory.{kernel_answers}
 use Rattle.swapper.specs.Stops.{StopsBefore}
@@ -39,7 +39,6 @@ use Rattle.proc_calls.specs.Making.{without_pieces}
 use Rattle.proc_calls.specs.Starting.{image_found, HasStarted, StartsBy, ExecComes, StopsFinding, StopsExec}
 use Rattle.proc_calls.proofs.Starts.{is_ready}
 use Rattle.run_units.proofs.Execs.{AllGives, gives_any}
-use Rattle.run_units.specs.Acting.{IsBetween}
 use Rattle.run_units.specs.Touching.{IsCalledFor}
 use Rattle.step_units.specs.Stepped.{StopLeads, StepLeads, CallLeads}
 use Rattle.step_units.proofs.Filling.{LeadsTo, forced_fill, filling_stops}

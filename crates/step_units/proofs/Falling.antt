@@ -22,7 +22,7 @@ use Rattle.flat_state.specs.Flat.{Holding, Process, FlatState, Inputs, process_o
 use Rattle.flat_state.specs.Space.{Space, stack_top, address_in}
 use Rattle.flat_model.specs.Asked.{asks}
 use Rattle.flat_model.specs.Calls.{stack_pages_of}
-use Rattle.flat_model.specs.Run.{step_at, is_refused, due}
+use Rattle.flat_model.specs.Run.{step_at, is_refused, due, IsBetween}
 use Rattle.flat_model.specs.Step.{Step, flat_step, step_of, grown_step, data_pages_of, pages_down_to}
 use Rattle.run_units.proofs.FlatLawsAsking.{step_same}
 use Rattle.page_model.specs.Placement.{image_of}
@@ -42,7 +42,6 @@ use Rattle.run_model.specs.Next.{next_unit}
 use Rattle.run_model.specs.State.{State}
 use Rattle.run_units.proofs.Flows.{on_steps, runs_next}
 use Rattle.run_units.proofs.Growing.{below_spot, spot_below}
-use Rattle.run_units.specs.Acting.{IsBetween}
 use Rattle.run_units.specs.Serving.{At}
 use Rattle.run_units.specs.Touching.{IsRunning, IsReadyFor, IsWhole}
 use Rattle.run_units.proofs.Acting.{step_begins, step_refused}

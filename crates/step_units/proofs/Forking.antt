@@ -20,14 +20,13 @@ use Rattle.machine_state.specs.Files.{AreImages}
 use Rattle.flat_model.specs.declared.calls.Reply.TheVariants.{Does}
 use Rattle.flat_model.specs.declared.calls.SystemCall.TheVariants as system_calls
 use Rattle.flat_model.specs.Step.{Step, call_entry, replied_step}
-use Rattle.flat_model.specs.Run.{Point}
+use Rattle.flat_model.specs.Run.{Point, IsBetween}
 use Rattle.proc_calls.specs.Answered.{StopsOnce}
 use Rattle.proc_calls.specs.Making.{is_below_limit, finds_pieces, MakesChildBy}
 use Rattle.proc_calls.specs.Copying.{CopiesAll, StopsCopying}
 use Rattle.proc_calls.specs.Forking.{HasNewSpace, ForkAnswered, Forked, StopsForking}
 use Rattle.run_model.specs.State.{State}
 use Rattle.run_model.specs.After.{after}
-use Rattle.run_units.specs.Acting.{IsBetween}
 use Rattle.run_units.specs.Leads.{MadeAs, Leads}
 use Rattle.run_units.specs.Serving.{At}
 use Rattle.run_units.specs.Stepping.{with_holdings}

@@ -18,7 +18,7 @@ use Rattle.flat_state.specs.declared.change.Change.TheVariants.{Resize}
 use Rattle.flat_state.specs.Change.{apply_change, apply_writes, resized}
 use Rattle.flat_state.specs.Flat.{Holds, Process, FlatState, Inputs, process_of, can_step, is_ready, ready_if}
 use Rattle.flat_state.specs.Space.{Space}
-use Rattle.flat_model.specs.Run.{Point, step_at, is_refused, due_at, behind}
+use Rattle.flat_model.specs.Run.{Point, step_at, is_refused, due_at, behind, IsBetween}
 use Rattle.flat_model.specs.Step.{Step, step_of, ended_step, data_pages_of, pages_down_to}
 use Rattle.flat_model.specs.Touched.{touched}
 use Rattle.run_units.proofs.FlatLawsAsking.{own_space}
@@ -47,7 +47,6 @@ use Rattle.run_units.proofs.Growing.{all_grown}
 use Rattle.run_units.proofs.Growth.{growth_touches}
 use Rattle.run_units.proofs.Left.{next_on}
 use Rattle.run_units.specs.Stretch.{TouchesMore as Touches}
-use Rattle.run_units.specs.Acting.{IsBetween}
 use Rattle.run_units.specs.Leads.{MadeAs, Leads}
 use Rattle.run_units.specs.Serving.{At}
 use Rattle.run_units.specs.Stepping.{with_holdings, growth_to}

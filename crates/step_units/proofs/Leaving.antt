@@ -12,7 +12,7 @@ use Rattle.flat_state.specs.Flat.{Process, Inputs, can_step}
 use Rattle.flat_state.specs.Change.{is_borrower}
 use Rattle.flat_state.specs.declared.change.Change.{Change}
 use Rattle.flat_state.specs.declared.change.Change.TheVariants as changes
-use Rattle.flat_model.specs.Run.{step_at, Point, due, due_at, first_if}
+use Rattle.flat_model.specs.Run.{step_at, Point, due, due_at, first_if, IsBetween}
 use Rattle.flat_model.specs.Step.{Step}
 use Rattle.kernel_model.specs.Kernel.{Kernel, Proc}
 use Rattle.kernel_model.specs.Unit.{has_lender, lender_among}
@@ -41,7 +41,6 @@ use Rattle.kernel_model.specs.Asks.{asked}
 use Rattle.kernel_model.specs.ChangeStep.{change_step}
 use Rattle.run_units.specs.Machine.{Completes}
 use Rattle.run_units.proofs.Flows.{on_steps}
-use Rattle.run_units.specs.Acting.{IsBetween}
 use Rattle.run_units.proofs.Stepping.{returning_made}
 use Rattle.step_units.specs.Machines.{MachineAt}
 use Rattle.step_units.specs.Stepped.{StopLeads}

@@ -23,8 +23,7 @@ use Rattle.machine_state.specs.Swapping.{WritesU, IsIn}
 use Rattle.kernel_laws.proofs.Flat.Lists.{pid_of, found_is}
 use Rattle.kernel_laws.proofs.Machine.Tables.{kept_pid, outlines_at, outline_at}
 use Rattle.kernel_laws.proofs.Machine.Swaps.{found_at}
-use Rattle.flat_model.specs.Run.{Point}
-use Rattle.run_units.specs.Acting.{IsBetween}
+use Rattle.flat_model.specs.Run.{Point, IsBetween}
 use Rattle.swapper.specs.Made.{Ground, ground, MadeBy, Made}
 use Rattle.swapper.specs.Stops.{StopsAt}
 use Rattle.swapper.proofs.PagingUnitsUnits.{unit_place}

@@ -32,7 +32,7 @@ use Rattle.run_model.specs.Kinds.{ProcessRuns}
 use Rattle.run_model.specs.Next.{next_unit, under, work_by}
 use Rattle.run_model.proofs.Wanting.{splits_wanted}
 use Rattle.run_units.proofs.Flows.{runs_work}
-use Rattle.run_units.specs.Acting.{IsBetween}
+use Rattle.flat_model.specs.Run.{IsBetween}
 use Rattle.run_units.specs.Leads.{Leads}
 use Rattle.run_units.specs.Serving.{At, IsWaiting, ServingLeads}
 use Rattle.run_units.specs.Touching.{IsRunning}

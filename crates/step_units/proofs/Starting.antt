@@ -34,7 +34,7 @@ use Rattle.flat_model.specs.declared.calls.Reply.{Reply}
 use Rattle.flat_model.specs.declared.calls.Reply.TheVariants.{Does}
 use Rattle.flat_model.specs.declared.calls.SystemCall.TheVariants.{Execve}
 use Rattle.flat_model.specs.Calls.{reply_of, execve_reply}
-use Rattle.flat_model.specs.Run.{Point, step_at, is_refused}
+use Rattle.flat_model.specs.Run.{Point, step_at, is_refused, IsBetween}
 use Rattle.flat_model.specs.Step.{Step, call_entry, reply_asked, answered_step}
 use Rattle.page_model.specs.Moves.{touch_all}
 use Rattle.page_laws.proofs.Due.Changes.{unless_due}
@@ -48,7 +48,6 @@ use Rattle.run_model.specs.State.{State}
 use Rattle.run_model.specs.After.{after, place_at, pages_written, place_behind}
 use Rattle.run_units.proofs.Acts.{arrives}
 use Rattle.run_units.proofs.Execs.{execs_fit}
-use Rattle.run_units.specs.Acting.{IsBetween}
 use Rattle.run_units.specs.Leads.{MadeAs, Leads}
 use Rattle.run_units.specs.Stepping.{GivesBack, returned, with_holdings}
 use Rattle.run_units.specs.Touching.{IsCalledFor}

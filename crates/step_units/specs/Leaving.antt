@@ -12,7 +12,7 @@ use Rattle.flat_state.specs.Flat.{Process, Inputs}
 use Rattle.flat_model.specs.Calls.{call_of, exit_reply, execve_reply}
 use Rattle.flat_model.specs.declared.calls.SystemCall.TheVariants as system_calls
 use Rattle.flat_model.specs.Step.{ended_step}
-use Rattle.flat_model.specs.Run.{step_at}
+use Rattle.flat_model.specs.Run.{step_at, IsBetween}
 use Rattle.machine_state.specs.Machine.{Standing}
 use Rattle.machine_state.specs.UserMemory.{kernel_answers}
 use Rattle.proc_calls.specs.declared.replying.Called.{Called}
@@ -20,7 +20,6 @@ use Rattle.proc_calls.specs.Leaving.{HasEnded, ExitComes, StopsAlive, StopsExit}
 use Rattle.proc_calls.specs.Starting.{ExecComes, StopsExec}
 use Rattle.run_model.specs.State.{State}
 use Rattle.run_model.specs.Wanted.{wanted}
-use Rattle.run_units.specs.Acting.{IsBetween}
 use Rattle.run_units.specs.Touching.{IsRunning}
 use Rattle.step_units.specs.Machines.{MachineAt, RunsOn, MakesCall}
 use Rattle.step_units.specs.Stepped.{StepLeads, CallLeads, StopLeads}

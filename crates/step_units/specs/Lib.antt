@@ -1,4 +1,3 @@
-pub use Rattle.run_units.specs.Acting
 pub use Rattle.run_units.specs.RunLawsRunning
 pub use Rattle.run_units.specs.Filling
 pub use Rattle.run_units.specs.Leads

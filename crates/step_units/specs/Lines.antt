@@ -21,7 +21,7 @@ use Rattle.run_model.specs.declared.mark.Mark.TheVariants as marks
 use Rattle.run_model.specs.State.{State, runners}
 use Rattle.run_model.specs.After.{interrupt_mark, swap_mark, mark_of_event}
 use Rattle.run_model.specs.Next.{under, goes_on, turn_instructions, owners_of, next_turned, last_turned}
-use Rattle.run_units.specs.Acting.{IsBetween}
+use Rattle.flat_model.specs.Run.{IsBetween}
 use Rattle.run_units.specs.Leads.{Leads}
 use Rattle.step_units.specs.Machines.{MachineAt}
 use Rattle.step_units.specs.Stepped.{StopLeads}

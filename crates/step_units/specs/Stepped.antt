@@ -13,7 +13,7 @@ use Rattle.proc_calls.specs.declared.replying.Called.{Called}
 use Rattle.proc_calls.specs.declared.replying.Called.TheVariants as calls
 use Rattle.run_model.specs.State.{State}
 use Rattle.run_model.specs.Next.{under, next_unit}
-use Rattle.run_units.specs.Acting.{IsBetween}
+use Rattle.flat_model.specs.Run.{IsBetween}
 use Rattle.run_units.specs.Leads.{Leads}
 use Rattle.run_units.specs.Touching.{WantsPage}
 

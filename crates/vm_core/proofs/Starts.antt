@@ -5,13 +5,12 @@ use Rattle.vm_facts.specs.declared.stop.Stop.{Stop}
 use Rattle.io_edge.specs.FileHolding.{NamedFile}
 use Rattle.swap_book.specs.Holdings.{Holdings}
 use Rattle.flat_state.specs.Flat.{Inputs}
-use Rattle.flat_model.specs.Run.{Point}
+use Rattle.flat_model.specs.Run.{Point, IsBetween}
 use Rattle.machine_state.specs.Machine.{Standing}
 use Rattle.run_laws.specs.Longwords.{ProcessesFit}
 use Rattle.run_laws.proofs.Registers.{start_regs_are}
 use Rattle.run_model.specs.State.{start}
 use Rattle.run_model.specs.Next.{under, last_turned}
-use Rattle.journal_laws.specs.Acting.{IsBetween}
 use Rattle.journal_laws.specs.Serving.{At}
 use Rattle.run_start.specs.Starting.{HasStarted}
 use Rattle.run_start.specs.Leading.{IsTold, machine_at_start, StartLeads, StartStops}
