@@ -9,7 +9,8 @@ use Rattle.page_model.specs.Hands.{wants_moves}
 use Rattle.run_model.specs.declared.mark.Mark.{Mark}
 use Rattle.run_model.specs.declared.mark.Mark.TheVariants as marks
 use Rattle.run_model.specs.State.{State}
-use Rattle.run_model.specs.Wanted.{running, touched_of, before_absent, locked_by, locked}
+use Rattle.run_model.specs.Wanted.{running, locked_by, locked}
+use Rattle.run_model.specs.Snapshot.{touched_of, before_absent}
 use Rattle.run_model.specs.Next.{when, or_else, due_unit, move_unit, under, next_mark, next_unit}
 use Rattle.clock_hands.specs.Moved.{Moves}
 

@@ -31,7 +31,8 @@ use Rattle.run_model.specs.State.{State}
 use Rattle.flat_model.specs.Step.{Step, data_pages_of, pages_down_to}
 use Rattle.flat_model.specs.Touched.{touched}
 use Rattle.run_model.specs.Wanted.{AllValid}
-use Rattle.run_model.specs.After.{written_in, written_by, pages_written, place_at, after}
+use Rattle.run_model.specs.After.{place_at, after}
+use Rattle.run_model.specs.Snapshot.{written_in, written_by, pages_written}
 use Rattle.run_model.specs.Kinds.{ProcessRuns}
 use Rattle.run_laws.specs.Standing.{machine_of, Placed}
 use Rattle.run_laws.proofs.Acts.{Stepper, stepper, Completes, completes}

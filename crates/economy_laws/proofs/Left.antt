@@ -17,7 +17,8 @@ use Rattle.page_laws.proofs.Moves.Cases.{forcing_entry}
 use Rattle.flat_model.specs.Run.{process_of_entry}
 use Rattle.run_model.specs.State.{State}
 use Rattle.flat_model.specs.Touched.{touched}
-use Rattle.run_model.specs.Wanted.{running, touched_next, touched_of, AllValid, first_absent, before_absent, wanted_by, wanted, locked_by, locked, Splits, present_by}
+use Rattle.run_model.specs.Wanted.{running, touched_next, AllValid, first_absent, wanted_by, wanted, locked_by, locked, Splits}
+use Rattle.run_model.specs.Snapshot.{touched_of, before_absent, present_by}
 use Rattle.run_model.specs.After.{place_at, after}
 use Rattle.run_model.proofs.Wanting.{split_absent, none_absent, before_past, all_before}
 use Rattle.run_laws.specs.Running.{IsRun}

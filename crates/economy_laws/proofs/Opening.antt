@@ -23,7 +23,8 @@ use Rattle.page_laws.proofs.Due.Changes.{unless_due}
 use Rattle.page_laws.proofs.Moves.Units.{unit_is}
 use Rattle.flat_model.specs.Run.{step_at}
 use Rattle.run_model.specs.State.{State}
-use Rattle.run_model.specs.After.{place_at, pages_written, after}
+use Rattle.run_model.specs.After.{place_at, after}
+use Rattle.run_model.specs.Snapshot.{pages_written}
 use Rattle.run_model.specs.Next.{next_unit}
 use Rattle.run_model.specs.Kinds.{Kind, Fills, Brings, Copies, Serves, Acts, ComesIn, Interrupts, Moves, PutsOut, Notes, Begins}
 use Rattle.run_model.specs.Lawful.{Follows}

@@ -16,7 +16,8 @@ use Rattle.run_laws.proofs.Others.{number_of_found}
 use Rattle.flat_model.specs.Run.{process_of_entry, step_at}
 use Rattle.run_model.specs.State.{State}
 use Rattle.run_model.specs.Wanted.{locked}
-use Rattle.run_model.specs.After.{place_at, pages_written, after}
+use Rattle.run_model.specs.After.{place_at, after}
+use Rattle.run_model.specs.Snapshot.{pages_written}
 use Rattle.run_model.specs.Act.{act}
 use Rattle.run_model.specs.Next.{next_unit}
 use Rattle.run_model.specs.Kinds.{ProcessRuns, Kind, Fills, Brings, Copies, Serves, Acts, ComesIn, Interrupts, Moves, PutsOut, Notes, Begins}

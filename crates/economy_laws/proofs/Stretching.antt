@@ -27,7 +27,8 @@ use Rattle.flat_model.specs.Run.{Point, process_of_entry, may_follow, is_outcome
 use Rattle.flat_model.proofs.Coming.{Came, came}
 use Rattle.run_model.specs.State.{State}
 use Rattle.flat_model.specs.Touched.{touched}
-use Rattle.run_model.specs.Wanted.{AllValid, before_absent, first_absent, wanted, locked_by, locked, Splits}
+use Rattle.run_model.specs.Wanted.{AllValid, first_absent, wanted, locked_by, locked, Splits}
+use Rattle.run_model.specs.Snapshot.{before_absent}
 use Rattle.run_model.specs.After.{place_at, after}
 use Rattle.run_model.specs.Act.{act}
 use Rattle.run_model.proofs.Acting.{next_flat}

@@ -11,7 +11,8 @@ use Rattle.flat_state.specs.PageNames.{same_page, is_among}
 use Rattle.page_model.specs.Placement.{Placement, Transfer, Part, Errand, Writes, Reads, FromFile}
 use Rattle.flat_model.specs.Run.{step_at}
 use Rattle.run_model.specs.State.{State}
-use Rattle.run_model.specs.After.{pages_written, after}
+use Rattle.run_model.specs.After.{after}
+use Rattle.run_model.specs.Snapshot.{pages_written}
 
 -- Writes.
 

@@ -9,7 +9,8 @@ use Rattle.page_model.specs.Placement.{Placement}
 use Rattle.page_model.specs.Moves.{touch_all}
 use Rattle.page_model.specs.Place.{changing_in, facts_of}
 use Rattle.run_model.specs.State.{State}
-use Rattle.run_model.specs.After.{pages_written, place_at, place_behind, after}
+use Rattle.run_model.specs.After.{place_at, place_behind, after}
+use Rattle.run_model.specs.Snapshot.{pages_written}
 use Rattle.run_model.specs.Wanted.{locked}
 use Rattle.run_laws.specs.Running.{IsRun}
 use Rattle.run_laws.proofs.Units.{plain_place}

@@ -32,7 +32,8 @@ use Rattle.flat_model.specs.Run.{process_of_entry, step_at}
 use Rattle.run_model.specs.declared.mark.Mark.TheVariants as marks
 use Rattle.run_model.specs.State.{State}
 use Rattle.run_model.specs.Wanted.{locked_by, locked}
-use Rattle.run_model.specs.After.{moved_on, place_at, pages_written, after}
+use Rattle.run_model.specs.After.{moved_on, place_at, after}
+use Rattle.run_model.specs.Snapshot.{pages_written}
 use Rattle.run_model.specs.Next.{fill_by, begins_write, move_by, owners_entry, next_unit}
 use Rattle.run_model.specs.Kinds.{Kind, Fills, Brings, Copies, Serves, Acts, ComesIn, Interrupts, Moves, PutsOut, Notes, Begins}
 use Rattle.run_model.proofs.NextUnits.{kind_of}

@@ -15,7 +15,8 @@ use Rattle.flat_state.specs.Journal.{IsUnit, appended, counted, instructions_of}
 use Rattle.page_model.specs.Placement.{Placement, Starting, due_from}
 use Rattle.page_model.specs.Swapper.{Choice, In, Out, Nothing, swap_choice}
 use Rattle.kernel_model.specs.Start.{ImagesFit}
-use Rattle.run_model.specs.State.{State, start, starting_as, starting, runners}
+use Rattle.run_model.specs.State.{State, start, runners}
+use Rattle.run_model.specs.Snapshot.{starting_as, starting}
 use Rattle.run_model.specs.Wanted.{running}
 use Rattle.run_model.specs.After.{interrupt_mark, swap_mark, mark_of_event, mark_of_line, after}
 use Rattle.run_model.specs.Next.{when, turn_of, next_turned, last_turned, line_or_turn, next_mark, next_unit}

@@ -14,7 +14,8 @@ use Rattle.page_model.specs.Swapper.{is_out}
 use Rattle.run_model.specs.declared.mark.Mark.{Mark}
 use Rattle.run_model.specs.declared.mark.Mark.TheVariants as marks
 use Rattle.run_model.specs.State.{State}
-use Rattle.run_model.specs.Wanted.{running, touched_of, before_absent, wanted, locked_by, locked}
+use Rattle.run_model.specs.Wanted.{running, wanted, locked_by, locked}
+use Rattle.run_model.specs.Snapshot.{touched_of, before_absent}
 use Rattle.run_model.specs.After.{place_at, after}
 use Rattle.run_model.specs.Act.{must_refuse, must_settle, act_by, act_if, act}
 use Rattle.run_model.specs.Next.{when, or_else, fill_unit, copy_unit_by, due_unit, goes_on, work_by, work, turn_by, turn_instructions, under, next_mark, next_unit}

@@ -20,7 +20,8 @@ use Rattle.page_laws.proofs.Leaving.Held.{entry_held}
 use Rattle.run_laws.proofs.KernelLawsSoundAllowed.{new_number}
 use Rattle.flat_model.specs.Run.{process_of_entry, step_at}
 use Rattle.run_model.specs.State.{State}
-use Rattle.run_model.specs.After.{pages_written, place_at, after}
+use Rattle.run_model.specs.After.{place_at, after}
+use Rattle.run_model.specs.Snapshot.{pages_written}
 use Rattle.run_model.specs.Wanted.{locked}
 use Rattle.run_model.specs.Next.{next_unit}
 use Rattle.run_laws.specs.Running.{IsRun}

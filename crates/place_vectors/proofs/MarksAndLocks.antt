@@ -10,7 +10,8 @@ use Rattle.page_model.specs.Pages.{Slot, Zeros}
 use Rattle.page_model.specs.Placement.{Placement, Writes, CopyOf}
 use Rattle.run_model.specs.declared.mark.Mark.TheVariants as marks
 use Rattle.run_model.specs.State.{State, start}
-use Rattle.run_model.specs.Wanted.{first_absent, before_absent, wanted, locked}
+use Rattle.run_model.specs.Wanted.{first_absent, wanted, locked}
+use Rattle.run_model.specs.Snapshot.{before_absent}
 use Rattle.run_model.specs.After.{after, state_after}
 
 -- a run with no process, over 64 frames

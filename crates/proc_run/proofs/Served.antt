@@ -22,7 +22,8 @@ use Rattle.steady_laws.specs.FaultFillTouchServed.TheVariants as served
 use Rattle.steady_laws.specs.Callers.{IsCaller}
 use Rattle.steady_laws.specs.Leaving.{HasEnded, StopsAlive}
 use Rattle.run_model.specs.State.{State}
-use Rattle.run_model.specs.Wanted.{touched_next, before_absent, locked_by, locked}
+use Rattle.run_model.specs.Wanted.{touched_next, locked_by, locked}
+use Rattle.run_model.specs.Snapshot.{before_absent}
 use Rattle.run_model.proofs.Wanting.{split_before, all_before}
 use Rattle.touched_pages.proofs.Units.{leads_at}
 use Rattle.step_units.specs.Machines.{MachineAt, RunsOn}

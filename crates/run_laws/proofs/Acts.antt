@@ -19,7 +19,8 @@ use Rattle.flat_model.specs.Step.{Step, flat_step}
 use Rattle.flat_model.specs.Run.{Point, is_refused, step_at, behind_first, due_at, first_if, entry_of_step as next_of_step, behind, point_after, process_of_entry}
 use Rattle.flat_model.specs.Asked.{given_up, change_wanted, wanted_in, wanted_if, asks_by, asks, or_before, held_in, held_if, held_step, held_entry}
 use Rattle.run_model.specs.State.{State}
-use Rattle.run_model.specs.After.{pages_written, place_behind, after}
+use Rattle.run_model.specs.After.{place_behind, after}
+use Rattle.run_model.specs.Snapshot.{pages_written}
 use Rattle.run_model.specs.Act.{loses_pages, settled_in, settled_if, settled, loses_in, loses_if, step_loses, must_refuse, must_settle}
 use Rattle.flat_model.proofs.StepEnds.{Shape, Empty, One, Two, step_shape}
 use Rattle.register_laws.specs.Others.{is_writing}

@@ -44,7 +44,8 @@ use Rattle.flat_model.specs.Run.{is_refused, step_at, process_of_entry}
 use Rattle.flat_model.specs.Asked.{given_up, change_wanted, wanted_in, wanted_if, with_pieces, or_before, held_entry}
 use Rattle.run_model.specs.State.{State}
 use Rattle.run_model.specs.Wanted.{AllValid}
-use Rattle.run_model.specs.After.{written_by, written_in, pages_written, place_at, after}
+use Rattle.run_model.specs.After.{place_at, after}
+use Rattle.run_model.specs.Snapshot.{written_by, written_in, pages_written}
 use Rattle.run_model.specs.Act.{loses_pages}
 use Rattle.run_model.specs.Kinds.{ProcessRuns}
 use Rattle.kernel_model.specs.Unit.{passing_change}

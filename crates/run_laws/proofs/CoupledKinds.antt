@@ -23,7 +23,8 @@ use Rattle.page_laws.proofs.Moves.Units.{unit_is}
 use Rattle.page_laws.proofs.Moves.Cases.{serving_cases}
 use Rattle.flat_model.specs.Run.{process_of_entry}
 use Rattle.run_model.specs.State.{State}
-use Rattle.run_model.specs.Wanted.{touched_next, touched_of, locked, Splits}
+use Rattle.run_model.specs.Wanted.{touched_next, locked, Splits}
+use Rattle.run_model.specs.Snapshot.{touched_of}
 use Rattle.run_model.proofs.Wanting.{wanted_splits}
 use Rattle.run_model.specs.Next.{fill_by, fill_unit, begins_write, move_by, owners_entry}
 use Rattle.run_model.specs.Kinds.{Kind, Fills, Brings, Copies, Serves, Acts, ComesIn, Interrupts, Moves, PutsOut, Notes, Begins}

@@ -6,7 +6,8 @@ use Rattle.page_model.specs.Pages.{is_valid}
 use Rattle.page_model.specs.Placement.{Placement, Due, Start, CopyOf, state_of}
 use Rattle.page_model.specs.Rank.{HasRoom}
 use Rattle.run_model.specs.State.{State}
-use Rattle.run_model.specs.Wanted.{running, touched_of, touched_next, present_by, before_absent, locked_by, locked}
+use Rattle.run_model.specs.Wanted.{running, touched_next, locked_by, locked}
+use Rattle.run_model.specs.Snapshot.{touched_of, present_by, before_absent}
 use Rattle.register_laws.specs.Whole.{EachWhole}
 use Rattle.register_laws.proofs.TouchLawsFew.{touched_few, room}
 

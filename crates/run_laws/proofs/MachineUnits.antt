@@ -42,7 +42,8 @@ use Rattle.flat_model.specs.Run.{Point, process_of_entry, step_at}
 use Rattle.flat_state.specs.Change.{apply_writes}
 use Rattle.flat_model.specs.Touched.{touched}
 use Rattle.run_model.specs.State.{State}
-use Rattle.run_model.specs.Wanted.{touched_of, AllValid, locked}
+use Rattle.run_model.specs.Wanted.{AllValid, locked}
+use Rattle.run_model.specs.Snapshot.{touched_of}
 use Rattle.run_model.specs.After.{place_at, after}
 use Rattle.run_model.proofs.Wanting.{wanted_none}
 use Rattle.run_model.specs.Next.{next_unit}

@@ -15,7 +15,8 @@ use Rattle.kernel_model.specs.Start.{ImagesFit, AreStarting, start_kernel}
 use Rattle.std.proofs.lemmas.Option.{same_Some}
 use Rattle.kernel_laws.proofs.Machine.Starts.{start_coupled_all, all_in}
 use Rattle.kernel_laws.proofs.Stands.Starts.{start_beside}
-use Rattle.run_model.specs.State.{State, starting, start}
+use Rattle.run_model.specs.State.{State, start}
+use Rattle.run_model.specs.Snapshot.{starting}
 use Rattle.run_model.specs.Wanted.{locked}
 use Rattle.run_model.specs.After.{after}
 use Rattle.run_model.specs.Lawful.{Follows}

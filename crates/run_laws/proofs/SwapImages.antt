@@ -33,7 +33,8 @@ use Rattle.kernel_laws.proofs.Machine.Tables.{outline_at, regs_at, space_same}
 use Rattle.kernel_laws.proofs.Machine.Swaps.{found_at}
 use Rattle.flat_model.specs.Run.{process_of_entry}
 use Rattle.flat_model.specs.Asked.{or_before}
-use Rattle.run_model.specs.State.{State, starting, start}
+use Rattle.run_model.specs.State.{State, start}
+use Rattle.run_model.specs.Snapshot.{starting}
 use Rattle.run_model.specs.After.{after}
 use Rattle.run_model.specs.Lawful.{Follows}
 use Rattle.run_model.specs.Swapped.{pages_stored, done_stored, oldest_stored, u_stored, image_behind, swapped_from, swapped}

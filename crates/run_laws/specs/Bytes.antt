@@ -11,7 +11,8 @@ use Rattle.kernel_model.specs.UPage.{AreRegs, regs_in}
 use Rattle.kernel_model.specs.Coupled.{AreRead, beside_kernel, Coupled}
 use Rattle.page_model.specs.Stored.{stored_at, store_at}
 use Rattle.kernel_model.specs.Start.{start_kernel}
-use Rattle.run_model.specs.State.{State, starting, start}
+use Rattle.run_model.specs.State.{State, start}
+use Rattle.run_model.specs.Snapshot.{starting}
 use Rattle.run_model.specs.After.{after}
 use Rattle.run_laws.specs.Running.{CanRun}
 use Rattle.flat_state.specs.Change.{apply_writes}

@@ -1,4 +1,5 @@
 pub mod After
+pub mod Snapshots
 pub mod FlatRuns
 pub mod Acting
 pub mod Followed

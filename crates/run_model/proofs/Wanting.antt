@@ -6,9 +6,10 @@ use Rattle.vm_facts.specs.declared.page.Page.{Page}
 use Rattle.page_model.specs.Pages.{is_valid}
 use Rattle.page_model.specs.Placement.{Placement, state_of}
 use Rattle.run_model.specs.State.{State}
-use Rattle.run_model.specs.Wanted.{running, touched_next, AllValid, absent_by, first_absent, present_by, before_absent, wanted_by, wanted, locked_by, locked, Splits}
+use Rattle.run_model.specs.Wanted.{running, touched_next, AllValid, absent_by, first_absent, wanted_by, wanted, locked_by, locked, Splits}
+use Rattle.run_model.specs.Snapshot.{present_by, before_absent}
 use Rattle.run_model.specs.Act.{act, act_if}
-use Rattle.run_model.specs.Wanted as here
+use Rattle.run_model.specs.Snapshot as here
 use Rattle.flat_model.proofs.Idle.{idle_touches}
 
 -- Lists of pages.

@@ -1,26 +1,23 @@
 -- What each unit does to the state of a run.
-use Rattle.std.specs.Prelude.{◌≡◌, ℕ, ◌+◌, ◌-◌, List, [], ◌∷◌, filter_map, slice_get, length, Option, Some, None}
-use Rattle.vm_facts.specs.Answers.{ByteWrite}
-use Rattle.flat_state.specs.Flat.{Holding, Holds, Lends, Zombie, Process, FlatState, Inputs, process_of}
-use Rattle.vm_facts.specs.declared.page.Page.{Page}
+use Rattle.std.specs.Prelude.{◌≡◌, ℕ, ◌+◌, ◌-◌, List, [], ◌∷◌, slice_get, length, Option, Some, None}
+use Rattle.flat_state.specs.Flat.{Inputs}
 use Rattle.vm_facts.specs.declared.event.Event.{Event}
 use Rattle.vm_facts.specs.declared.event.Event.TheVariants as events
 use Rattle.vm_facts.specs.declared.entry.Entry.{Entry}
 use Rattle.vm_facts.specs.declared.entry.Entry.TheVariants as entries
 use Rattle.swap_book.specs.Holdings.{Holdings}
-use Rattle.flat_state.specs.Space.{address_in}
 use Rattle.flat_state.specs.Journal.{append, units_of}
 use Rattle.page_model.specs.Placement.{Placement, Transfer}
-use Rattle.page_model.specs.Place.{place_entry, place_step, facts_of}
+use Rattle.page_model.specs.Place.{place_step, facts_of}
 use Rattle.page_model.specs.Swapper.{Choice, In, Out, Nothing, swap_choice}
 use Rattle.run_model.specs.declared.mark.Mark.{Mark}
 use Rattle.run_model.specs.declared.mark.Mark.TheVariants as marks
 use Rattle.flat_model.specs.Step.{Step}
-use Rattle.flat_model.specs.Run.{step_at, point_after, flat_entry}
-use Rattle.flat_model.specs.Touched.{page_tested}
-use Rattle.flat_model.specs.Asked.{held_entry, or_before, start_held}
+use Rattle.flat_model.specs.Run.{flat_entry}
+use Rattle.flat_model.specs.Asked.{or_before, start_held}
+use Rattle.run_model.specs.Snapshot.{Snapshot, pages_written, snapshot_after}
 use Rattle.run_model.specs.State.{State, start, runners}
-use Rattle.run_model.specs.Wanted.{locked}
+use Rattle.run_model.specs.Wanted.{running}
 
 -- Marks.
 
@@ -75,21 +72,6 @@ audited mark = mark
 
 -- Units.
 
--- the page of each of these bytes, in order, in the space that is held; none of a lender or a zombie
-abbrev pub written_in : Holding → List ByteWrite → List Page
-written_in (Holds s) writes = filter_map (λ (w : ByteWrite). page_tested s (address_in s w.address)) writes
-written_in (Lends sid child) writes = []
-written_in (Zombie status) writes = []
-
--- the same of a process that may not be there: then there are none
-abbrev pub written_by : Option Process → List ByteWrite → List Page
-written_by None writes = []
-written_by (Some q) writes = written_in q.holding writes
-
--- the page of each byte that a process's step writes, in order
-abbrev pub pages_written : FlatState → ℕ → Step → List Page
-pages_written F pid step = written_by (process_of F pid) step.writes
-
 -- the place of an entry in the journal: its length once the entry was added
 abbrev pub place_at : State → Entry → ℕ
 place_at s e = length (append s.journal e)
@@ -99,48 +81,50 @@ abbrev pub place_behind : Inputs → State → ℕ → Step → Entry → Placem
 place_behind A s pid step e =
     place_step (facts_of A.images) s.point.flat pid (place_at s e) (pages_written s.point.flat pid step) step.change s.place
 
--- the step of a process is complete with this entry, and so many instructions are counted now
-abbrev pub stepped : Inputs → State → ℕ → Entry → ℕ → State
-stepped A s pid e count = record s {
-  point = point_after A s.point pid;
-  place = place_behind A s pid (step_at A s.point pid) e;
-  holdings = held_entry A s.point e s.holdings;
-  count = count;
+-- how many instructions are counted after a unit
+abbrev pub count_after : State → Entry → ℕ
+count_after s (entries.Ran pid n) = s.count + n
+count_after s (entries.Call pid number carry r0 r1) = s.count + 1
+count_after s (entries.Ended pid status) = s.count + 1
+count_after s _ = s.count
+
+-- the last mark after a unit
+abbrev pub mark_after : Inputs → State → Entry → Mark
+mark_after A s (entries.Event line) = mark_of_line s (slice_get A.lines s.lines)
+mark_after A s (entries.Turn pid) = marks.Turn pid s.count
+mark_after A s (entries.Hands n) = moved_on n s.mark
+mark_after A s entries.Done = completed s.mark
+mark_after A s (entries.SwapOut pid) = put_out s.mark
+mark_after A s (entries.SwapIn pid) = brought_in s.mark
+mark_after A s (entries.Owners free used moving held) = audited s.mark
+mark_after A s _ = s.mark
+
+-- the state without its count and its mark, of which only the process that runs is left
+abbrev pub snapshot_of : State → Snapshot
+snapshot_of s = record {
+  point = s.point;
+  place = s.place;
+  holdings = s.holdings;
+  lines = s.lines;
+  running = running s.mark;
+  journal = s.journal;
 }
 
--- a paging entry
-abbrev pub paged : Inputs → State → Entry → State
-paged A s e = record s { place = place_entry (locked A s) (place_at s e) s.place e }
-
--- a paging entry that may be what the last mark asks for
-abbrev pub paged_under : Inputs → State → Entry → Mark → State
-paged_under A s e mark = record (paged A s e) { mark = mark }
-
--- what a unit does, but for the journal
-abbrev pub behind_unit : Inputs → State → Entry → State
-behind_unit A s (entries.Event line) = record s { lines = s.lines + 1; mark = mark_of_line s (slice_get A.lines s.lines) }
-behind_unit A s (entries.Turn pid) = record s { mark = marks.Turn pid s.count }
-behind_unit A s (entries.Ran pid n) = stepped A s pid (entries.Ran pid n) (s.count + n)
-behind_unit A s (entries.Out pid bytes) = record s { point = point_after A s.point pid }
-behind_unit A s (entries.Grew pid pages) = stepped A s pid (entries.Grew pid pages) s.count
-behind_unit A s (entries.Call pid number carry r0 r1) = stepped A s pid (entries.Call pid number carry r0 r1) (s.count + 1)
-behind_unit A s (entries.Refused pid) = record s { point = record s.point { last = Some (entries.Refused pid) } }
-behind_unit A s (entries.Sleeps pid) = stepped A s pid (entries.Sleeps pid) s.count
-behind_unit A s (entries.Ended pid status) = stepped A s pid (entries.Ended pid status) (s.count + 1)
-behind_unit A s (entries.Zero q) = paged A s (entries.Zero q)
-behind_unit A s (entries.Get q lo n) = paged A s (entries.Get q lo n)
-behind_unit A s (entries.Copy q) = paged A s (entries.Copy q)
-behind_unit A s (entries.Reclaim q) = paged A s (entries.Reclaim q)
-behind_unit A s (entries.Hands n) = paged_under A s (entries.Hands n) (moved_on n s.mark)
-behind_unit A s (entries.Put q n) = paged A s (entries.Put q n)
-behind_unit A s entries.Done = paged_under A s entries.Done (completed s.mark)
-behind_unit A s (entries.SwapOut pid) = paged_under A s (entries.SwapOut pid) (put_out s.mark)
-behind_unit A s (entries.SwapIn pid) = paged_under A s (entries.SwapIn pid) (brought_in s.mark)
-behind_unit A s (entries.Owners free used moving held) = record s { mark = audited s.mark }
+-- the state with this snapshot, count and mark
+abbrev pub state_with : Snapshot → ℕ → Mark → State
+state_with x count mark = record {
+  point = x.point;
+  place = x.place;
+  holdings = x.holdings;
+  count = count;
+  lines = x.lines;
+  mark = mark;
+  journal = x.journal;
+}
 
 -- the state after a unit
 unfoldable pub after : Inputs → State → Entry → State
-after A s e = record (behind_unit A s e) { journal = append s.journal e }
+after A s e = state_with (snapshot_after A (snapshot_of s) e) (count_after s e) (mark_after A s e)
 
 -- the state after these units, in order
 unfoldable pub state_after : Inputs → State → List Entry → State

@@ -1,3 +1,4 @@
+pub mod Snapshot
 pub mod State
 pub mod Wanted
 pub mod After

@@ -1,15 +1,15 @@
 -- The state of a whole run: the flat machine, where all pages are, who holds which blocks, and the last mark.
-use Rattle.std.specs.Prelude.{ℕ, List, [], ◌∷◌, ◌++◌, filter_map, Option, Some, None}
-use Rattle.flat_state.specs.Flat.{Holding, Holds, Lends, Zombie, Process, FlatState, NamedImage, Inputs, image_numbered}
+use Rattle.std.specs.Prelude.{ℕ, List, [], filter_map, Option, Some, None}
+use Rattle.flat_state.specs.Flat.{Holding, Holds, Lends, Zombie, Process, FlatState, Inputs}
 use Rattle.vm_facts.specs.declared.entry.Entry.{Entry}
 use Rattle.swap_book.specs.Holdings.{Holdings}
-use Rattle.page_model.specs.Placement.{Placement, Starting, start_placement}
-use Rattle.page_model.specs.Place.{facts_of}
+use Rattle.page_model.specs.Placement.{Placement}
 use Rattle.flat_state.specs.Change.{is_borrower}
 use Rattle.page_model.specs.Swapper.{Runner}
 use Rattle.run_model.specs.declared.mark.Mark.{Mark}
 use Rattle.run_model.specs.declared.mark.Mark.TheVariants as marks
-use Rattle.flat_model.specs.Run.{Point, start_point}
+use Rattle.flat_model.specs.Run.{Point}
+use Rattle.run_model.specs.Snapshot.{start_snapshot}
 
 -- the state of a run, at its start or after a unit
 pub record State : Type 0 where
@@ -27,21 +27,11 @@ pub record State : Type 0 where
 
 -- The start.
 
--- a process that starts in the image of this number; none where there is no such image
-abbrev pub starting_as : ℕ → Option NamedImage → List Starting
-starting_as number None = []
-starting_as number (Some named) = record { image = number; facts = named.image.facts } ∷ []
-
--- the images in which the first processes start
-abbrev pub starting : List NamedImage → List ℕ → List Starting
-starting images [] = []
-starting images (number ∷ more) = starting_as number (image_numbered images number) ++ starting images more
-
 -- a run at its start, with the holdings of the first processes
 abbrev pub start : Inputs → Holdings → State
 start A hs = record {
-  point = start_point A;
-  place = start_placement (facts_of A.images) (starting A.images A.first) A.frames;
+  point = (start_snapshot A hs).point;
+  place = (start_snapshot A hs).place;
   holdings = hs;
   count = 0;
   lines = 0;

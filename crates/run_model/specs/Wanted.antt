@@ -1,13 +1,13 @@
 -- The pages that a run waits for, and those that must stay while it does.
 use Rattle.std.specs.Prelude.{◌≡◌, ℕ, Bool, true, false, List, [], ◌∷◌, ◌++◌, Option, Some, None}
-use Rattle.flat_state.specs.Flat.{FlatState, Inputs}
+use Rattle.flat_state.specs.Flat.{Inputs}
 use Rattle.vm_facts.specs.declared.page.Page.{Page}
 use Rattle.page_model.specs.Pages.{is_valid}
 use Rattle.page_model.specs.Placement.{Placement, Due, Start, CopyOf, state_of}
 use Rattle.page_model.specs.Conditions.{EachPage}
 use Rattle.run_model.specs.declared.mark.Mark.{Mark}
 use Rattle.run_model.specs.declared.mark.Mark.TheVariants as marks
-use Rattle.flat_model.specs.Touched.{touched}
+use Rattle.run_model.specs.Snapshot.{touched_of, passed_over}
 use Rattle.run_model.specs.State.{State}
 
 -- the process that runs under a mark, a dispatch or a turn
@@ -15,11 +15,6 @@ abbrev pub running : Mark → Option ℕ
 running (marks.Dispatch pid count since) = Some pid
 running (marks.Turn pid since) = Some pid
 running _ = None
-
--- the pages that the next instruction of this process touches, in order; none without a process
-abbrev pub touched_of : Inputs → FlatState → Option ℕ → List Page
-touched_of A F None = []
-touched_of A F (Some pid) = touched A F pid
 
 -- the pages that the next instruction of the running process touches, in order
 abbrev pub touched_next : Inputs → State → List Page
@@ -39,16 +34,6 @@ abbrev pub first_absent : Placement → List Page → Option Page
 first_absent p [] = None
 first_absent p (q ∷ qs) = absent_by (is_valid (state_of p q)) q (first_absent p qs)
 
--- this page and then the others where it is valid, else none
-abbrev pub present_by : Bool → Page → List Page → List Page
-present_by true q qs = q ∷ qs
-present_by false q qs = []
-
--- those before it
-abbrev pub before_absent : Placement → List Page → List Page
-before_absent p [] = []
-before_absent p (q ∷ qs) = present_by (is_valid (state_of p q)) q (before_absent p qs)
-
 -- the page that is served next, by the fills that are due
 abbrev pub wanted_by : Inputs → State → List Due → Option Page
 wanted_by A s [] = first_absent s.place (touched_next A s)
@@ -62,9 +47,7 @@ wanted A s = wanted_by A s s.place.due
 
 -- the pages that the hands pass over, by the fills that are due
 abbrev pub locked_by : Inputs → State → List Due → List Page
-locked_by A s [] = before_absent s.place (touched_next A s)
-locked_by A s (Start q ∷ due) = []
-locked_by A s (CopyOf child parent ∷ due) = parent ∷ []
+locked_by A s due = passed_over s.place (touched_next A s) due
 
 -- the pages that the hands pass over: the touched ones before the first that isn't valid; while a child's page is
 -- due, the parent's page, and while a stack page is due, none

@@ -7,9 +7,10 @@ ghost use Rattle.flat_state.specs.Journal.{append, appended, counted, instructio
 ghost use Rattle.flat_model.specs.Run.{Point, process_of_entry, flat_entry, flat_run};
 ghost use Rattle.flat_model.specs.Touched.{touched};
 ghost use Rattle.flat_model.specs.Asked.{asks, held_entry, held, start_held};
+ghost use Rattle.run_model.specs.Snapshot.{start_snapshot, snapshot_after};
 ghost use Rattle.run_model.specs.State.{State, start};
 ghost use Rattle.run_model.specs.Wanted.{running, touched_next, AllValid, wanted, locked, Splits};
-ghost use Rattle.run_model.specs.After.{after, state_after, state_at, placed, AllFlat};
+ghost use Rattle.run_model.specs.After.{snapshot_of, after, state_after, state_at, placed, AllFlat};
 ghost use Rattle.run_model.specs.Act.{act, IsNext, AllNext, LastSays};
 
 /// A state counts the instructions of the units that led to it, or of its journal, and its journal is the one that
@@ -26,6 +27,12 @@ pub fn state_goes_on()
     ensures unit { (A : Inputs) (hs : Holdings) (j : List Entry) (u : Entry) → IsUnit u → state_at A hs (append j u) ≡ after A (state_at A hs j) u }
     ensures units { (A : Inputs) (hs : Holdings) (us : List Entry) → AllUnits us → state_at A hs (appended [] us) ≡ state_after A (start A hs) us }
     ensures placed { (A : Inputs) (hs : Holdings) (j : List Entry) → (state_at A hs j).place ≡ placed A j }
+{}
+
+/// The snapshot of a state rests on no mark but by who runs under it: it goes on by itself with each unit.
+pub fn snapshots_go_on()
+    ensures start { (A : Inputs) (hs : Holdings) → snapshot_of (start A hs) ≡ start_snapshot A hs }
+    ensures unit { (A : Inputs) (s : State) (u : Entry) → snapshot_of (after A s u) ≡ snapshot_after A (snapshot_of s) u }
 {}
 
 /// The point of a state is that of the flat machine, and its holdings are what is held: unit by unit, and after a

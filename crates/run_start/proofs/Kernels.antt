@@ -16,7 +16,7 @@ use Rattle.machine_state.specs.Beginning.{StartedFirst}
 use Rattle.machine_state.specs.Machine.{Standing}
 use Rattle.machine_state.specs.Sourced.{ImageNamed}
 use Rattle.steady_laws.specs.Reading.{AreNamed}
-use Rattle.run_model.specs.State.{starting_as, starting}
+use Rattle.run_model.specs.Snapshot.{starting_as, starting}
 use Rattle.step_units.specs.RunLawsRunning.{FirstThere}
 use Rattle.step_units.proofs.RunLawsBeginning.{are_starting}
 use Rattle.run_start.specs.Starting.{IsNew, StartsFrom}

@@ -11,7 +11,8 @@ use Rattle.kernel_model.specs.Kernel.{Kernel}
 use Rattle.kernel_model.specs.Start.{ImagesFit, start_kernel}
 use Rattle.machine_state.specs.Files.{AreImages}
 use Rattle.machine_state.specs.Machine.{Standing}
-use Rattle.run_model.specs.State.{State, starting, start}
+use Rattle.run_model.specs.State.{State, start}
+use Rattle.run_model.specs.Snapshot.{starting}
 use Rattle.step_units.specs.RunLawsRunning.{CanRun}
 use Rattle.step_units.specs.Leads.{Leads}
 use Rattle.step_units.specs.Serving.{SameBut}

@@ -16,7 +16,8 @@ use Rattle.economy_laws.specs.Spans.{moves, moves_of}
 use Rattle.run_model.specs.declared.mark.Mark.{Mark}
 use Rattle.run_model.specs.declared.mark.Mark.TheVariants as marks
 use Rattle.run_model.specs.State.{State}
-use Rattle.run_model.specs.Wanted.{running, touched_of, before_absent, locked_by, locked}
+use Rattle.run_model.specs.Wanted.{running, locked_by, locked}
+use Rattle.run_model.specs.Snapshot.{touched_of, before_absent}
 use Rattle.run_model.specs.After.{after, completed, moved_on}
 use Rattle.run_model.specs.Next.{when, begins_write, move_by, move_unit, under, next_unit}
 use Rattle.economy_laws.specs.Machine.{unit_image}

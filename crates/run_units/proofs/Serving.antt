@@ -22,7 +22,8 @@ use Rattle.kernel_model.specs.Kernel.{Kernel}
 use Rattle.run_model.specs.declared.mark.Mark.{Mark}
 use Rattle.run_model.specs.declared.mark.Mark.TheVariants as marks
 use Rattle.run_model.specs.State.{State}
-use Rattle.run_model.specs.Wanted.{running, touched_of, locked, touched_next, AllValid, Splits}
+use Rattle.run_model.specs.Wanted.{running, locked, touched_next, AllValid, Splits}
+use Rattle.run_model.specs.Snapshot.{touched_of}
 use Rattle.run_model.specs.After.{after, place_at, completed, moved_on, audited}
 use Rattle.run_model.specs.Next.{next_unit, under, work, work_by, or_else, due_unit, next_mark, goes_on, turn_instructions}
 use Rattle.run_model.specs.Kinds.{ProcessRuns, GoesOn}

@@ -14,7 +14,8 @@ use Rattle.kernel_model.specs.Kernel.{Kernel}
 use Rattle.flat_model.specs.Run.{Point}
 use Rattle.run_model.specs.declared.mark.Mark.{Mark}
 use Rattle.run_model.specs.State.{State}
-use Rattle.run_model.specs.Wanted.{running, touched_of, touched_next, AllValid, wanted}
+use Rattle.run_model.specs.Wanted.{running, touched_next, AllValid, wanted}
+use Rattle.run_model.specs.Snapshot.{touched_of}
 use Rattle.run_model.specs.After.{after}
 use Rattle.run_model.specs.Act.{act, act_if, act_by, settled, must_refuse, must_settle, step_loses}
 use Rattle.run_model.specs.Next.{next_unit}

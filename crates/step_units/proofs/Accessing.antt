@@ -17,7 +17,8 @@ use Rattle.proc_calls.specs.FaultFillTouchServed.{Served}
 use Rattle.proc_calls.specs.FaultFillTouchServed.TheVariants as served
 use Rattle.run_model.specs.After.{after}
 use Rattle.run_model.specs.State.{State}
-use Rattle.run_model.specs.Wanted.{touched_next, AllValid, before_absent, locked_by, locked}
+use Rattle.run_model.specs.Wanted.{touched_next, AllValid, locked_by, locked}
+use Rattle.run_model.specs.Snapshot.{before_absent}
 use Rattle.run_model.proofs.Wanting.{split_before, all_before}
 use Rattle.run_units.specs.Touching.{IsRunning, WantsPage}
 use Rattle.step_units.specs.Machines.{RunsOn}

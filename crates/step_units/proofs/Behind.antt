@@ -21,7 +21,8 @@ use Rattle.flat_model.specs.Run.{step_at, due_at, behind, point_after}
 use Rattle.run_model.specs.declared.mark.Mark.{Mark}
 use Rattle.run_model.specs.declared.mark.Mark.TheVariants as marks
 use Rattle.run_model.specs.State.{State}
-use Rattle.run_model.specs.Wanted.{wanted, wanted_by, running, touched_of, first_absent}
+use Rattle.run_model.specs.Wanted.{wanted, wanted_by, running, first_absent}
+use Rattle.run_model.specs.Snapshot.{touched_of}
 use Rattle.run_model.specs.After.{after}
 use Rattle.run_model.specs.Next.{goes_on, turn_instructions}
 use Rattle.run_model.specs.Kinds.{GoesOn, ProcessRuns}

@@ -16,7 +16,8 @@ use Rattle.page_model.specs.Swapper.{is_out}
 use Rattle.page_laws.proofs.Moves.Units.{unit_is}
 use Rattle.run_model.specs.State.{State}
 use Rattle.run_model.specs.Wanted.{locked}
-use Rattle.run_model.specs.After.{after, place_at, pages_written, place_behind}
+use Rattle.run_model.specs.After.{after, place_at, place_behind}
+use Rattle.run_model.specs.Snapshot.{pages_written}
 use Rattle.run_model.specs.Next.{fill_unit, next_unit}
 use Rattle.run_units.specs.Machine.{Makes, unit_step, unit_image}
 use Rattle.run_units.proofs.Flows.{Acted, Settles, Refuses, Steps, acted, steps_own}

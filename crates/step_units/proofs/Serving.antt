@@ -26,7 +26,8 @@ use Rattle.proc_calls.specs.Units.{is_flying, NeedsFrame}
 use Rattle.proc_calls.specs.FaultFillTouchServed.{Served as Touch}
 use Rattle.proc_calls.specs.FaultFillTouchServed.TheVariants as served
 use Rattle.run_model.specs.State.{State}
-use Rattle.run_model.specs.Wanted.{touched_next, AllValid, before_absent, locked_by, locked, Splits}
+use Rattle.run_model.specs.Wanted.{touched_next, AllValid, locked_by, locked, Splits}
+use Rattle.run_model.specs.Snapshot.{before_absent}
 use Rattle.run_units.proofs.Left.{split_longer}
 use Rattle.run_model.specs.Kinds.{ProcessRuns}
 use Rattle.run_model.specs.Next.{next_unit, under, work_by}

@@ -45,7 +45,8 @@ use Rattle.kernel_laws.proofs.Machine.Images.{facts_found}
 use Rattle.machine_state.specs.Files.{AreImages}
 use Rattle.machine_state.specs.UserMemory.{kernel_answers}
 use Rattle.run_model.specs.State.{State}
-use Rattle.run_model.specs.After.{after, place_at, pages_written, place_behind}
+use Rattle.run_model.specs.After.{after, place_at, place_behind}
+use Rattle.run_model.specs.Snapshot.{pages_written}
 use Rattle.run_units.proofs.Acts.{arrives}
 use Rattle.run_units.proofs.Execs.{execs_fit}
 use Rattle.run_units.specs.Leads.{MadeAs, Leads}

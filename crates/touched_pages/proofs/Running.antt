@@ -25,7 +25,8 @@ use Rattle.flat_model.specs.Step.{written_process}
 use Rattle.flat_model.specs.Touched.{page_of_access, step_accesses, distinct, touched, touched_by, touched_in, touched_if}
 use Rattle.run_units.proofs.FlatLawsAsking.{own_space}
 use Rattle.run_model.specs.State.{State}
-use Rattle.run_model.specs.Wanted.{touched_next, before_absent, locked_by, locked, AllValid}
+use Rattle.run_model.specs.Wanted.{touched_next, locked_by, locked, AllValid}
+use Rattle.run_model.specs.Snapshot.{before_absent}
 use Rattle.run_model.proofs.Wanting.{split_before, all_before}
 use Rattle.run_units.specs.Machine.{Keeps}
 use Rattle.run_units.specs.Standing.{IsText, HasText}

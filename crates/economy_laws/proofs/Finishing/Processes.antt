@@ -23,7 +23,8 @@ use Rattle.flat_model.specs.Touched.{touched}
 use Rattle.run_model.specs.declared.mark.Mark.{Mark}
 use Rattle.run_model.specs.declared.mark.Mark.TheVariants as marks
 use Rattle.run_model.specs.State.{State}
-use Rattle.run_model.specs.Wanted.{AllValid, running, first_absent, before_absent, wanted, locked, Splits}
+use Rattle.run_model.specs.Wanted.{AllValid, running, first_absent, wanted, locked, Splits}
+use Rattle.run_model.specs.Snapshot.{before_absent}
 use Rattle.run_model.specs.After.{place_at, after}
 use Rattle.run_model.specs.Act.{act}
 use Rattle.run_model.specs.Next.{next_unit}
