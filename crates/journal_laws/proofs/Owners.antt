@@ -10,9 +10,10 @@ use Rattle.kernel_model.specs.Sound.{Sound, has_life, lives_in, lives}
 use Rattle.kernel_model.specs.Start.{kept_of}
 use Rattle.kernel_laws.proofs.Flat.Lists.{found_is}
 use Rattle.run_model.specs.State.{State}
+use Rattle.run_model.specs.After.{snapshot_of}
 use Rattle.paging_laws.specs.Standing.{Placed, machine_of}
 use Rattle.paging_laws.specs.RunLawsRunning.{IsRun}
-use Rattle.journal_laws.specs.Accounts.{living_with, living_if, is_living, IsOwned}
+use Rattle.journal_laws.specs.Owners.{living_with, living_if, is_living, IsOwned}
 
 living_kept : (ps : List Process) (pid : ℕ) → lives (map kept_of ps) pid ≡ living_if (numbered (λ (q : Process). q.pid) pid ps)
 living_kept [] pid = refl
@@ -31,7 +32,7 @@ living_kept (q ∷ qs) pid = go (q.pid == pid) (living_kept qs pid)
 living_same : (flat : FlatState) (pid : ℕ) → lives (map kept_of flat.processes) pid ≡ is_living flat pid
 living_same flat pid = living_kept flat.processes pid ∙ ap living_if (sym (found_is flat.processes pid))
 
-pub run_owned : (A : Inputs) (s : State) → IsRun A s → IsOwned A s
+pub run_owned : (A : Inputs) (s : State) → IsRun A s → IsOwned A (snapshot_of s)
 run_owned A s r =
     let placed : Placed A s.point.flat s.place s.holdings = r.placed in
     let sound : Sound A.swap_blocks (machine_of s.point.flat s.place s.holdings) = placed.sound in

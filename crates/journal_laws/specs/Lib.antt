@@ -4,6 +4,7 @@ pub use Rattle.run_units.specs.LastMoves
 pub use Rattle.run_units.specs.Stops
 pub use Rattle.run_units.specs.Leads
 pub use Rattle.run_units.specs.Serving
+pub mod Owners
 pub mod Accounts
 pub mod Economy
 pub mod Journals
