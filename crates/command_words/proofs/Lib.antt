@@ -4,3 +4,4 @@ mod RunWords
 mod Refusals
 mod Finding
 mod Joining
+pub mod Requests

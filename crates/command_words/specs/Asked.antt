@@ -22,6 +22,13 @@ pub data Asked : Type 0 where
   References : Numbers → (schedule : List ℕ) → (images : List (List ℕ)) → Asked
   Policies : (size : ℕ) → (references : List ℕ) → Asked
 
+-- what the words of a run ask for: the option `--trace`, the numbers, the name of the schedule, and the words of the images
+pub record Request : Type 0 where
+  pub traced : Bool
+  pub numbers : Numbers
+  pub schedule : List ℕ
+  pub words : List (List ℕ)
+
 -- the three numbers, where each is one
 unfoldable pub all_numbers : Option ℕ → Option ℕ → Option ℕ → Option Numbers
 all_numbers (Some frames) (Some swap) (Some limit) = Some (record { frames = frames; swap = swap; limit = limit })
@@ -31,9 +38,9 @@ all_numbers _ _ _ = None
 unfoldable pub run_numbers : ℕ → List ℕ → List ℕ → List ℕ → Option Numbers
 run_numbers most frames swap limit = all_numbers (number_in 64 4096 frames) (number_in 256 131072 swap) (number_in 1 most limit)
 
--- `FRAMES SWAP LIMIT SCHED IMAGE..`, with a limit up to so many: the command over these numbers, this schedule and
--- these images
-unfoldable pub asked_with_run : ℕ → (Numbers → List ℕ → List (List ℕ) → Asked) → List (List ℕ) → Option Asked
+-- `FRAMES SWAP LIMIT SCHED IMAGE..`, with a limit up to so many, and what is made of these numbers, this
+-- schedule and these images
+unfoldable pub asked_with_run : {A : Type 0} → ℕ → (Numbers → List ℕ → List (List ℕ) → A) → List (List ℕ) → Option A
 asked_with_run most command (frames ∷ swap ∷ limit ∷ schedule ∷ images) =
     if is_name schedule && are_image_words images then option_map (λ numbers. command numbers schedule images) (run_numbers most frames swap limit) else None
 asked_with_run most command _ = None
@@ -87,10 +94,23 @@ unfoldable pub asked_policies : List (List ℕ) → Option Asked
 asked_policies (size ∷ references ∷ []) = if is_name references then option_map (λ n. Policies n references) (number_in 1 4096 size) else None
 asked_policies _ = None
 
--- the words after `run`: one of them may be `--trace`; of the others none is empty or begins with a hyphen
+-- the words after `run`, and what is made of them: one of them may be `--trace`; of the others none is empty or begins with a hyphen
+abbrev pub words_of_run : {A : Type 0} → (Bool → Numbers → List ℕ → List (List ℕ) → A) → List (List ℕ) → Option A
+words_of_run made words =
+    if list_all is_plain (without_trace words) then asked_with_run 1000000 (made (list_any is_trace words)) (without_trace words) else None
+
+-- the words after `run`
 unfoldable pub asked_run : List (List ℕ) → Option Asked
-asked_run words =
-    if list_all is_plain (without_trace words) then asked_with_run 1000000 (Run (list_any is_trace words)) (without_trace words) else None
+asked_run words = words_of_run Run words
+
+-- a run with this option and these numbers, this schedule and these images
+abbrev pub request_for : Bool → Numbers → List ℕ → List (List ℕ) → Request
+request_for traced numbers schedule images = record { traced = traced; numbers = numbers; schedule = schedule; words = images }
+
+-- the run that the words after the program's name ask for, and `None` where they ask for none
+unfoldable pub request_of : List (List ℕ) → Option Request
+request_of [] = None
+request_of (name ∷ words) = if bytes_eq name (codes "run") then words_of_run request_for words else None
 
 -- the words after the name of another command: none of them is empty or begins with a hyphen
 unfoldable pub asked_other : List ℕ → List (List ℕ) → Option Asked
@@ -113,3 +133,8 @@ asked_other name words =
 unfoldable pub asked_of : List (List ℕ) → Option Asked
 asked_of [] = None
 asked_of (name ∷ words) = if bytes_eq name (codes "run") then asked_run words else asked_other name words
+
+-- the run that a command is, and `None` where it is another
+abbrev pub request_in : Option Asked → Option Request
+request_in (Some (Run traced numbers schedule images)) = Some (request_for traced numbers schedule images)
+request_in asked = None

@@ -2,7 +2,7 @@
 ghost use Rattle.std.specs.Prelude.{◌≡◌, ◌≤◌, ℕ, List, drop, map, IsSome, IfSome};
 ghost use Rattle.std.specs.Option.{option_map};
 ghost use Rattle.run_files.specs.ImageWords.{IsShortName};
-ghost use Rattle.command_words.specs.Asked.{Asked, asked_of, asked_run, asked_other, asked_load, asked_replay, asked_assemble, asked_show, asked_optimum, asked_owners, asked_film, film_steps, asked_policies, asked_with_run, run_numbers, Curve, Stats, References};
+ghost use Rattle.command_words.specs.Asked.{Asked, request_of, request_in, asked_of, asked_run, asked_other, asked_load, asked_replay, asked_assemble, asked_show, asked_optimum, asked_owners, asked_film, film_steps, asked_policies, asked_with_run, run_numbers, Curve, Stats, References};
 ghost use Rattle.command_words.specs.Command.{word_list, asked_by, AreAllowed, AreImageWords, AreSteps, IsFitting};
 
 use crate::image_words::{ImageWords, from_place, has_trace};
@@ -125,9 +125,10 @@ pub enum Command<'a> {
 /// 16,777,216 for `owners`, FROM and TO 0 to 16,777,216, and EVERY 1 to 16,777,216. A name has 1 to 63 bytes. There are 1 to 16
 /// words of images: a name starts a process, and one after a `=` only makes the
 /// image known; at least one starts. The image of `dis` has no `=`. It takes no memory. Source: this project's profile.
-#[tactic(auto, unfolding(crate::specs::Asked::asked_of))]
+#[tactic(auto, using(crate::proofs::Requests::request_is), unfolding(crate::specs::Asked::asked_of))]
 pub fn read_words<'a>(words: &'a [&'a str]) -> Option<Command<'a>>
     ensures exact { option_map asked_by result ≡ asked_of (map (λ word. word.now) words.now) }
+    ensures request { request_in (option_map asked_by result) ≡ request_of (map (λ word. word.now) words.now) }
     ensures fits { IfSome result IsFitting }
 {
     let [name, words @ ..] = words else {

@@ -14,7 +14,7 @@ use Rattle.command_ending.proofs.Statuses.{status_is_not_0}
 use Rattle.command_words.specs.Asked.{Asked, Run}
 use Rattle.command_words.specs.declared.command.Numbers.{Numbers}
 use Rattle.run_opening.specs.Images.{images_found}
-use Rattle.vm_run.specs.RunCommandAsking.{Request}
+use Rattle.command_words.specs.Asked.{Request}
 use Rattle.vm_run.specs.Paired.{image_together}
 use Rattle.vm_run.specs.RunCommandEnds.{Writing, EndsTold}
 use Rattle.vm_run.specs.InMemory.{seen_of, blank_pair, RunsTold, DoesInMemory}

@@ -1,13 +1,15 @@
 -- The headline holds of a run that words ask for, however it ended.
-use Rattle.std.proofs.Common.{◌≡◌, ◌⊎◌, inl, inr, ℕ, List, [], Option, Some, Ok, Err}
+use Rattle.std.proofs.Common.{◌≡◌, ◌⊎◌, inl, inr, ℕ, List, [], Option, Some, Ok, Err, ap, ◌∙◌}
 use Rattle.vm_facts.specs.declared.entry.Entry.{Entry}
 use Rattle.io_edge.specs.FileHolding.{NamedFile}
+use Rattle.io_edge.specs.Striping.{pair_blocks, first_blocks, pair_image}
 use Rattle.flat_state.specs.Flat.{Inputs}
 use Rattle.vm_core.specs.Headline.{Headline}
 use Rattle.vm_core.proofs.Headlines.{carries_headline}
 use Rattle.command_ending.specs.declared.fault.Fault.{Fault}
 use Rattle.command_ending.specs.declared.fault.Fault.TheVariants.{Absent, NotImage, BadSchedule, FileFault, SwapReadFault, SwapWriteFault, NoMemory, JournalFull, NoSpace, ShortDevice}
-use Rattle.run_command.specs.Asking.{Request}
+use Rattle.command_words.specs.Asked.{Request}
+use Rattle.run_command.specs.Paired.{image_together}
 use Rattle.run_command.specs.Seen.{Seen}
 use Rattle.run_command.specs.Ends.{RunEnding, status_of, line_of, FaultEnded, RunEnded, RunOfWords, EndsTold, Runs}
 use Rattle.run_command.specs.Headlines.{HeadlineOfWords, CarriesHeadline}
@@ -57,11 +59,22 @@ module _ (request : Request) (seen : Seen) (files : List NamedFile) (es : List E
   told (Err (NoSpace pid)) e = of_words (Err (NoSpace pid)) e
   told (Err fault) e = of_words (Err fault) e
 
-pub run_carries : (request : Request) (seen : Seen) (status : ℕ) → Runs request seen status → CarriesHeadline request seen status
-run_carries request seen status r = record {
+-- the image of a pair is told where both devices tell theirs
+pair_told : (blocks : ℕ) (zero one : Option (List ℕ)) (evens odds : List ℕ) → zero ≡ Some evens → one ≡ Some odds
+    → pair_image blocks zero one ≡ Some (first_blocks blocks evens odds)
+pair_told blocks zero one evens odds first second =
+    ap (λ (o : Option (List ℕ)). pair_image blocks o one) first ∙ ap (λ (o : Option (List ℕ)). pair_image blocks (Some evens) o) second
+
+pub run_carries : (request : Request) (seen : Seen) (status : ℕ) → Runs request seen status
+    → (zero one : Option (List ℕ)) → seen.swap_before ≡ image_together seen.zero_blocks seen.one_blocks zero one
+    → CarriesHeadline request seen.files zero one seen.written_before seen.written_after seen.sink_faults_before seen.sink_faults_after status
+run_carries request seen status r zero one swap = record {
   journal = r.journal;
   line = line_of r.ending;
   whole = status_of r.ending;
   writes = r.writes;
-  told = λ files image is octets swap. told request seen files r.journal image r.ending (r.told files image is octets swap);
+  told = λ files evens odds is octets first second.
+      let blocks : ℕ = pair_blocks seen.zero_blocks seen.one_blocks in
+      told request seen files r.journal (first_blocks blocks evens odds) r.ending
+      (r.told files (first_blocks blocks evens odds) is octets (swap ∙ pair_told blocks zero one evens odds first second));
 }

@@ -19,7 +19,8 @@ use Rattle.run_opening.specs.Schedules.{schedule_found, HasEvents}
 use Rattle.run_opening.specs.Images.{images_found, images_in, IsIn}
 use Rattle.vm_core.specs.Schedules.{HaveFewMoves}
 use Rattle.io_edge.specs.Octets.{AreOctetFiles}
-use Rattle.run_command.specs.Asking.{Request, AsksFor}
+use Rattle.command_words.specs.Asked.{Request}
+use Rattle.run_command.specs.Asking.{AsksFor}
 use Rattle.run_command.specs.Naming.{shown_as}
 use Rattle.run_command.specs.Machines.{IsOfOpening}
 use Rattle.run_command.proofs.Openings.{named_images, loaded_images, all_images, filed_at, are_numbers, images_length}

@@ -26,7 +26,7 @@ use Rattle.run_opening.specs.declared.images.OpenedImage.{OpenedImage}
 use Rattle.run_opening.specs.declared.opening.Opening.{Opening}
 use Rattle.run_opening.specs.Devices.{device_fault}
 use Rattle.run_opening.specs.Opening.{FoundFiles, found_told, EndsOpening, CountsAt}
-use Rattle.run_command.specs.Asking.{Request}
+use Rattle.command_words.specs.Asked.{Request}
 use Rattle.run_command.specs.Naming.{shown_as}
 use Rattle.run_command.specs.Machines.{journal_entries, params_up_to, machine_up_to, IsOfOpening}
 use Rattle.run_command.specs.Seen.{Seen, NoneFailed}

@@ -1,18 +1,11 @@
--- What the words of a run ask for, and the inputs that it has where the files are told.
-use Rattle.std.specs.Prelude.{◌≡◌, ℕ, Bool, List, Ok}
+-- The inputs that a run has where the files are told.
+use Rattle.std.specs.Prelude.{◌≡◌, List, Ok}
 use Rattle.io_edge.specs.FileHolding.{NamedFile}
 use Rattle.flat_state.specs.Flat.{Inputs}
 use Rattle.run_files.specs.ImageWords.{image_names, first_images}
-use Rattle.command_words.specs.declared.command.Numbers.{Numbers}
+use Rattle.command_words.specs.Asked.{Request}
 use Rattle.run_opening.specs.Schedules.{schedule_found, HasEvents}
 use Rattle.run_opening.specs.Images.{images_found}
-
--- the option `--trace`, the numbers, the name of the schedule, and the words of the images
-pub record Request : Type 0 where
-  pub traced : Bool
-  pub numbers : Numbers
-  pub schedule : List ℕ
-  pub words : List (List ℕ)
 
 -- Inputs of a run that words ask for: the images that their names are in the files, numbered from 1 as they first appear; those in
 -- which the first processes start; the lines of the schedule; and the numbers.

@@ -18,7 +18,8 @@ use Rattle.run_opening.specs.Devices.{device_fault}
 use Rattle.run_opening.specs.Opening.{found_told, HasAll, EndsOpening}
 use Rattle.run_opening.specs.declared.opening.Opening.{Opening}
 use Rattle.io_edge.specs.Octets.{AreOctetFiles}
-use Rattle.run_command.specs.Asking.{Request, AsksFor}
+use Rattle.command_words.specs.Asked.{Request}
+use Rattle.run_command.specs.Asking.{AsksFor}
 use Rattle.run_command.specs.Seen.{Seen, NoneFailed, DeviceFailed}
 use Rattle.run_command.specs.Machines.{journal_entries}
 

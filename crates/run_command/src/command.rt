@@ -119,7 +119,8 @@ fn run_words<F: Files, D: SwapDev, E: SwapDev, S: Sink>(
     ensures runs { Runs (record { traced = traced; numbers = numbers; schedule = schedule.now; words = map (λ word. word.now) words.now })
         (seen_of_all F.Files D.SwapDev E.SwapDev S.Sink files.old files.new zero.old zero.new one.old one.new sink.old sink.new) result }
     ensures headline { CarriesHeadline (record { traced = traced; numbers = numbers; schedule = schedule.now; words = map (λ word. word.now) words.now })
-        (seen_of_all F.Files D.SwapDev E.SwapDev S.Sink files.old files.new zero.old zero.new one.old one.new sink.old sink.new) result }
+        (F.holds files.old) (D.image zero.old) (E.image one.old) (S.written sink.old) (S.written sink.new) (S.faults sink.old) (S.faults sink.new)
+        result }
     ensures kept { KeepsOutside F.Files D.SwapDev E.SwapDev S.Sink files.old files.new zero.old zero.new one.old one.new sink.old sink.new }
 {
     let opened = open_run(
@@ -160,7 +161,8 @@ pub fn run_command<F: Files, D: SwapDev, E: SwapDev, S: Sink>(
         (seen_of_all F.Files D.SwapDev E.SwapDev S.Sink files.old files.new zero.old zero.new one.old one.new sink.old sink.new) result }
     ensures headline { CarriesHeadline
         (record { traced = traced; numbers = numbers; schedule = schedule.now; words = map (λ word. word.now) (word_list images.entry) })
-        (seen_of_all F.Files D.SwapDev E.SwapDev S.Sink files.old files.new zero.old zero.new one.old one.new sink.old sink.new) result }
+        (F.holds files.old) (D.image zero.old) (E.image one.old) (S.written sink.old) (S.written sink.new) (S.faults sink.old) (S.faults sink.new)
+        result }
     ensures kept { KeepsOutside F.Files D.SwapDev E.SwapDev S.Sink files.old files.new zero.old zero.new one.old one.new sink.old sink.new }
 {
     match images.to_vec(alloc) {

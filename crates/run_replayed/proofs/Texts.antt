@@ -10,7 +10,7 @@ use Rattle.command_ending.specs.Command.{All, Prefix}
 use Rattle.command_ending.proofs.Statuses.{status_is_not_0}
 use Rattle.run_opening.specs.Images.{images_found}
 use Rattle.replay_laws.specs.Replayed.{IsFlatText}
-use Rattle.vm_run.specs.RunCommandAsking.{Request}
+use Rattle.command_words.specs.Asked.{Request}
 use Rattle.vm_run.specs.RunCommandEnds.{Writing, EndsTold}
 use Rattle.vm_run.specs.InMemory.{seen_of, RunsTold}
 

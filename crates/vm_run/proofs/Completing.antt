@@ -13,7 +13,7 @@ use Rattle.command_ending.specs.Named.{Why}
 use Rattle.command_ending.specs.Command.{Writes, All, Prefix}
 use Rattle.run_opening.specs.Schedules.{HasEvents, HasBadEvent}
 use Rattle.run_opening.specs.Opening.{FoundFiles, HasAll, FailsAtImage}
-use Rattle.reference_commands.specs.RunCommandAsking.{Request}
+use Rattle.command_words.specs.Asked.{Request}
 use Rattle.reference_commands.specs.Seen.{Seen}
 use Rattle.reference_commands.specs.Machines.{journal_entries}
 use Rattle.reference_commands.specs.RunCommandEnds.{RunEnding, status_of, DevicesSuffice, IsCaused, IsJudged, EndsTold}

@@ -5,7 +5,8 @@ use Rattle.io_edge.specs.FileHolding.{NamedFile}
 use Rattle.flat_state.specs.Flat.{Inputs}
 use Rattle.flat_model.specs.Asked.{start_held}
 use Rattle.io_edge.specs.Octets.{AreOctetFiles}
-use Rattle.reference_commands.specs.RunCommandAsking.{Request, AsksFor}
+use Rattle.command_words.specs.Asked.{Request}
+use Rattle.reference_commands.specs.RunCommandAsking.{AsksFor}
 use Rattle.reference_commands.specs.Seen.{Seen, DeviceFailed}
 use Rattle.reference_commands.specs.Machines.{journal_entries}
 use Rattle.reference_commands.specs.RunCommandEnds.{DevicesSuffice, AllGood, Runs}

@@ -1,12 +1,13 @@
 -- The headline, of the words of a command line.
-use Rattle.std.specs.Prelude.{ℕ, Option, Some, None}
-use Rattle.command_words.specs.Asked.{Asked, Run}
-use Rattle.reference_commands.specs.RunCommandAsking.{Request}
-use Rattle.reference_commands.specs.Seen.{Seen}
+use Rattle.std.specs.Prelude.{ℕ, List, Option, Some, None}
+use Rattle.io_edge.specs.FileHolding.{NamedFile}
+use Rattle.command_words.specs.Asked.{Request}
 use Rattle.reference_commands.specs.Headlines.{CarriesHeadline}
 
--- the headline holds of a run, where the words ask for one
-abbrev pub CarriesFor : Option Asked → Seen → ℕ → Type 0
-CarriesFor (Some (Run traced numbers schedule images)) seen status =
-    CarriesHeadline (record { traced = traced; numbers = numbers; schedule = schedule; words = images }) seen status
-CarriesFor asked seen status = Unit {0}
+-- The headline holds of a run, where the words ask for one. It goes by the files and by the images of both devices, where they are
+-- told, and by the output and its faults before and after.
+abbrev pub CarriesFor : Option Request → Option (List NamedFile) → (zero one written_before written_after : Option (List ℕ))
+    → (faults_before faults_after status : ℕ) → Type 0
+CarriesFor None files zero one written_before written_after faults_before faults_after status = Unit {0}
+CarriesFor (Some request) files zero one written_before written_after faults_before faults_after status =
+    CarriesHeadline request files zero one written_before written_after faults_before faults_after status

@@ -1,5 +1,4 @@
 pub use Rattle.reference_commands.specs.Paired
-pub use Rattle.reference_commands.specs.RunCommandAsking
 pub use Rattle.reference_commands.specs.RunCommandEnds
 pub use Rattle.reference_commands.specs.Headlines
 pub mod Obeying

@@ -1,5 +1,5 @@
 ghost use Rattle.std.specs.Prelude.{◌≡◌, map};
-ghost use Rattle.command_words.specs.Asked.{asked_of};
+ghost use Rattle.command_words.specs.Asked.{request_of, asked_of};
 ghost use Rattle.reference_commands.specs.Outside.{KeepsOutside};
 ghost use Rattle.reference_commands.specs.Sight.{seen_of_all};
 ghost use Rattle.vm_run.specs.Headline.{CarriesFor};
@@ -35,8 +35,8 @@ pub fn vmrun<F: Files, D: SwapDev, E: SwapDev, S: Sink>(
 ) -> u8
     ensures obeys { Obeys (asked_of (map (λ word. word.now) words.now))
         (seen_of_all F.Files D.SwapDev E.SwapDev S.Sink files.old files.new zero.old zero.new one.old one.new sink.old sink.new) result }
-    ensures headline { CarriesFor (asked_of (map (λ word. word.now) words.now))
-        (seen_of_all F.Files D.SwapDev E.SwapDev S.Sink files.old files.new zero.old zero.new one.old one.new sink.old sink.new) result }
+    ensures headline { CarriesFor (request_of (map (λ word. word.now) words.now)) (F.holds files.old) (D.image zero.old) (E.image one.old)
+        (S.written sink.old) (S.written sink.new) (S.faults sink.old) (S.faults sink.new) result }
     ensures files { LeavesFiles (asked_of (map (λ word. word.now) words.now)) (files.new ≡ files.old) }
     ensures kept { KeepsOutside F.Files D.SwapDev E.SwapDev S.Sink files.old files.new zero.old zero.new one.old one.new sink.old sink.new }
     ensures zero { LeavesDevice (asked_of (map (λ word. word.now) words.now)) (zero.new ≡ zero.old) }

@@ -1,6 +1,6 @@
 use Rattle.std.proofs.Common.{Bor, List, ℕ, map, refl}
 use Rattle.command_words.specs.Command.{word_list}
-use Rattle.run_command.specs.Asking.{Request}
+use Rattle.command_words.specs.Asked.{Request}
 use Rattle.run_command.specs.Seen.{Seen, NoneFailed}
 use Rattle.run_command.specs.Paired.{image_together}
 use Rattle.run_command.proofs.Headline.{run_carries}
@@ -34,4 +34,6 @@ returns-in-Err-clause-runs g c =
 
 -- the headline is a part of what a run is
 pub returns-in-Err-clause-headline : goal.returns-in-Err-clause-headline
-returns-in-Err-clause-headline g c = run_carries _ _ _ (returns-in-Err-clause-runs g c)
+returns-in-Err-clause-headline g c =
+    let carried = run_carries _ _ _ (returns-in-Err-clause-runs g c) (g.D.SwapDev.image c.args.zero.now) (g.E.SwapDev.image c.args.one.now) refl in
+    carried

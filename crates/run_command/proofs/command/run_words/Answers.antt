@@ -8,7 +8,7 @@ use Rattle.run_opening.specs.declared.images.OpenedImage.{OpenedImage}
 use Rattle.run_opening.specs.Schedules.{HasEvents}
 use Rattle.run_opening.specs.declared.opening.Opening.{Opening}
 use Rattle.run_opening.specs.Opening.{FoundFiles, found_told, HasAll, EndsOpening}
-use Rattle.run_command.specs.Asking.{Request}
+use Rattle.command_words.specs.Asked.{Request}
 use Rattle.run_command.specs.Machines.{IsOfOpening}
 use Rattle.run_command.specs.Seen.{Seen, NoneFailed}
 use Rattle.run_command.specs.Paired.{image_together}
@@ -140,7 +140,11 @@ returns-in-Err-clause-runs g c =
 
 -- the headline is a part of what a run is
 pub returns-in-Ok-clause-headline : goal.returns-in-Ok-clause-headline
-returns-in-Ok-clause-headline g c = run_carries _ _ _ (returns-in-Ok-clause-runs g c)
+returns-in-Ok-clause-headline g c =
+    let carried = run_carries _ _ _ (returns-in-Ok-clause-runs g c) (g.D.SwapDev.image c.args.zero.now) (g.E.SwapDev.image c.args.one.now) refl in
+    carried
 
 pub returns-in-Err-clause-headline : goal.returns-in-Err-clause-headline
-returns-in-Err-clause-headline g c = run_carries _ _ _ (returns-in-Err-clause-runs g c)
+returns-in-Err-clause-headline g c =
+    let carried = run_carries _ _ _ (returns-in-Err-clause-runs g c) (g.D.SwapDev.image c.args.zero.now) (g.E.SwapDev.image c.args.one.now) refl in
+    carried
