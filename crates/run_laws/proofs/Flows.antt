@@ -28,6 +28,7 @@ use Rattle.flat_model.specs.Step.{flat_step}
 use Rattle.flat_model.specs.Run.{Point, is_refused, step_at, behind_first, due_at, first_if, entry_of_step as next_of_step, process_of_entry, flat_entry}
 use Rattle.run_model.specs.State.{State}
 use Rattle.run_model.specs.Wanted.{running, touched_next, AllValid, wanted, locked}
+use Rattle.run_model.specs.Snapshot.{touched_of}
 use Rattle.run_model.specs.After.{after, completed}
 use Rattle.run_model.specs.Act.{must_refuse, must_settle, act_by, act_if, act, awaits, IsNext, LastSays}
 use Rattle.run_model.proofs.Acting.{next_says}
@@ -276,7 +277,7 @@ done_awaits A s pid o a =
         resident = ap (λ (rs : List Residence). (residence_of rs pid).out) (done_shaped s.place).residents ∙ r.resident;
       };
       unwanted = all_unwanted A (after A s entries.Done) (st.due ∙ r.clear)
-          (subst (AllValid (done s.place)) (sym (ap (Rattle.run_model.specs.Wanted.touched_of A s.point.flat) n))
+          (subst (AllValid (done s.place)) (sym (ap (touched_of A s.point.flat) n))
           (spared s.place (done s.place) (touched_next A s) v (done_spares s.place (touched_next A s) o) (touched_next A s) (λ q e. e)));
       left = a.left;
     }

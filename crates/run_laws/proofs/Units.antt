@@ -24,6 +24,7 @@ use Rattle.page_laws.proofs.Moves.Units.{unit_is}
 use Rattle.flat_model.specs.Run.{process_of_entry}
 use Rattle.run_model.specs.State.{State}
 use Rattle.run_model.specs.Wanted.{running, touched_next, wanted, locked, Splits}
+use Rattle.run_model.specs.Snapshot.{touched_of}
 use Rattle.run_model.specs.After.{place_at, after}
 use Rattle.run_model.specs.Act.{act}
 use Rattle.run_model.proofs.Wanting.{wanted_splits}
@@ -142,7 +143,7 @@ kind_good A s u st nums texts m (Copies q parent due e k i) n =
     (let l = sixteen A s st in let k = entry_count (locked A s) (place_at s (fill_unit s.place (entries.Copy q))) s.place (entries.Copy q) in omega arith))
 kind_good A s u st nums texts m (Serves pid now q r w i) n =
     let k : Splits s.place (touched_next A s) (locked A s) q = wanted_splits A s q r.clear w in
-    let all = subst (Rattle.page_model.specs.Conditions.EachPage (Present s.place)) (ap (Rattle.run_model.specs.Wanted.touched_of A s.point.flat) (sym (on_running A s s.mark pid now r.on)))
+    let all = subst (Rattle.page_model.specs.Conditions.EachPage (Present s.place)) (ap (touched_of A s.point.flat) (sym (on_running A s s.mark pid now r.on)))
     (touched_present A s.point.flat s.place s.holdings pid nums texts st) in
     let here : Present s.place q = each_split (Present s.place) (locked A s) q k.behind (subst (Rattle.page_model.specs.Conditions.EachPage (Present s.place)) k.whole all) in
     served A s u q now st here (ap (λ (l : List Due). due_of_page l q) r.clear) i

@@ -13,6 +13,7 @@ use Rattle.run_model.specs.declared.mark.Mark.TheVariants as marks
 use Rattle.flat_model.specs.Run.{process_of_entry}
 use Rattle.run_model.specs.State.{State, start}
 use Rattle.run_model.specs.Wanted.{running, touched_next, AllValid, wanted, locked}
+use Rattle.run_model.specs.Snapshot.{touched_of}
 use Rattle.run_model.specs.After.{after}
 use Rattle.run_model.proofs.Wanting.{wanted_none}
 use Rattle.run_model.specs.Next.{turn_instructions, next_unit}
@@ -95,7 +96,7 @@ unit_ready A s u pid h e = go (kind_of A s u h)
       steps = on_steps A s s.mark p now r.on;
       resident = r.resident;
       clear = r.clear;
-      pages = subst (AllValid s.place) (ap (Rattle.run_model.specs.Wanted.touched_of A s.point.flat) (on_running A s s.mark p now r.on)) (wanted_none A s r.clear w);
+      pages = subst (AllValid s.place) (ap (touched_of A s.point.flat) (on_running A s s.mark p now r.on)) (wanted_none A s r.clear w);
       below = on_below A s s.mark p now r.on;
     })
 
