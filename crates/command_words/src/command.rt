@@ -125,10 +125,18 @@ pub enum Command<'a> {
 /// 16,777,216 for `owners`, FROM and TO 0 to 16,777,216, and EVERY 1 to 16,777,216. A name has 1 to 63 bytes. There are 1 to 16
 /// words of images: a name starts a process, and one after a `=` only makes the
 /// image known; at least one starts. The image of `dis` has no `=`. It takes no memory. Source: this project's profile.
-#[tactic(auto, using(crate::proofs::Requests::request_is), unfolding(crate::specs::Asked::asked_of))]
 pub fn read_words<'a>(words: &'a [&'a str]) -> Option<Command<'a>>
     ensures exact { option_map asked_by result ≡ asked_of (map (λ word. word.now) words.now) }
     ensures request { request_in (option_map asked_by result) ≡ request_of (map (λ word. word.now) words.now) }
+    ensures fits { IfSome result IsFitting }
+{
+    read_command(words)
+}
+
+// The words, the name of a command first.
+#[tactic(auto, unfolding(crate::specs::Asked::asked_of))]
+fn read_command<'a>(words: &'a [&'a str]) -> Option<Command<'a>>
+    ensures exact { option_map asked_by result ≡ asked_of (map (λ word. word.now) words.now) }
     ensures fits { IfSome result IsFitting }
 {
     let [name, words @ ..] = words else {
