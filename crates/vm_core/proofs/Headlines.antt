@@ -17,7 +17,7 @@ owners_kept : (A : Inputs) (s : State) (us : List Entry) → IsOwned A (snapshot
 owners_kept A s [] owned each = owned
 owners_kept A s (u ∷ us) owned each =
     let first : IsAccounted A s u = each.0 in
-    (owned, (first.refusal, subst (λ (x : Snapshot). KeepsOwners A x us) (after_snapshot A s u) (owners_kept A (after A s u) us first.owned each.1)))
+    (owned, first.refusal, subst (λ (x : Snapshot). KeepsOwners A x us) (after_snapshot A s u) (owners_kept A (after A s u) us first.owned each.1))
 
 pub carries_headline : (A : Inputs) (journal : List Entry) (s : State) → IsJournalOf A journal s → Headline A journal
 carries_headline A journal s m =
