@@ -2,9 +2,11 @@
 use Rattle.std.proofs.Common.{◌≡◌, ℕ, ◌∙◌, Bool, true, false, ◌&&◌, not, if◌then◌else◌, is_none, is_some, nat_le, List, [], ◌∷◌, length, refl, sym, ap, Option, Some, None, find, bytes_eq, codes}
 use Rattle.std.specs.List.{list_all, list_any}
 use Rattle.std.specs.Option.{option_map, option_and_then}
+use Rattle.io_edge.specs.Striping.{most_blocks}
 use Rattle.run_files.specs.ImageWords.{starts}
 use Rattle.command_words.specs.declared.command.Numbers.{Numbers}
 use Rattle.command_words.specs.declared.command.FilmSteps.{FilmSteps}
+use Rattle.command_words.specs.declared.limits.TheConstants.{LEAST_FRAMES, MOST_FRAMES, LEAST_SWAP, MOST_LIMIT, MOST_SHORT_LIMIT, LAST_LOAD, JOURNAL_ENTRIES}
 use Rattle.command_words.specs.declared.reasons.Argument.{Argument}
 use Rattle.command_words.specs.declared.reasons.Argument.TheVariants.{Frames, Swap, Limit, ShortLimit, Number, Size, Entries, From, To, Every, Schedule, Transcript, Source, ReferenceFile, Listed, Image}
 use Rattle.command_words.specs.Words.{is_plain, number_in, is_name, is_image_word, are_image_words, without_trace}
@@ -124,16 +126,16 @@ turn true true false n i = sym (never (n && i))
 
 asked_whole : (most : ℕ) (command : Numbers → List ℕ → List (List ℕ) → Asked) (f s l n : List ℕ) (ws : List (List ℕ))
     → is_some (asked_with_run most command (f ∷ s ∷ l ∷ n ∷ ws))
-    ≡ (is_name n && are_image_words ws) && (is_some (number_in 64 4096 f) && (is_some (number_in 256 131072 s) && is_some (number_in 1 most l)))
+    ≡ (is_name n && are_image_words ws) && (is_some (number_in LEAST_FRAMES MOST_FRAMES f) && (is_some (number_in LEAST_SWAP most_blocks s) && is_some (number_in 1 most l)))
 unfolding asked_with_run run_numbers
 asked_whole most command f s l n ws =
     where_so (is_name n && are_image_words ws) _
     ∙ ap (λ (b : Bool). (is_name n && are_image_words ws) && b)
-    (mapped (λ (numbers : Numbers). command numbers n ws) (run_numbers most f s l) ∙ numbers_by (number_in 64 4096 f) (number_in 256 131072 s) (number_in 1 most l))
+    (mapped (λ (numbers : Numbers). command numbers n ws) (run_numbers most f s l) ∙ numbers_by (number_in LEAST_FRAMES MOST_FRAMES f) (number_in LEAST_SWAP most_blocks s) (number_in 1 most l))
 
 why_whole : (limit : Argument) (most : ℕ) (f s l n : List ℕ) (ws : List (List ℕ)) → takes limit l ≡ is_some (number_in 1 most l)
     → is_none (why_words (Frames ∷ Swap ∷ limit ∷ Schedule ∷ []) true (f ∷ s ∷ l ∷ n ∷ ws))
-    ≡ is_some (number_in 64 4096 f) && (is_some (number_in 256 131072 s) && (is_some (number_in 1 most l) && (is_name n && are_image_words ws)))
+    ≡ is_some (number_in LEAST_FRAMES MOST_FRAMES f) && (is_some (number_in LEAST_SWAP most_blocks s) && (is_some (number_in 1 most l) && (is_name n && are_image_words ws)))
 unfolding takes
 why_whole limit most f s l n ws is =
     let four : is_none (why_words (Schedule ∷ []) true (n ∷ ws)) ≡ is_name n && are_image_words ws =
@@ -141,9 +143,9 @@ why_whole limit most f s l n ws is =
     let three : is_none (why_words (limit ∷ Schedule ∷ []) true (l ∷ n ∷ ws)) ≡ is_some (number_in 1 most l) && (is_name n && are_image_words ws) =
     next limit (Schedule ∷ []) true l (n ∷ ws) ∙ ap (λ (b : Bool). takes limit l && b) four ∙ ap (λ (b : Bool). b && (is_name n && are_image_words ws)) is in
     let two : is_none (why_words (Swap ∷ limit ∷ Schedule ∷ []) true (s ∷ l ∷ n ∷ ws))
-    ≡ is_some (number_in 256 131072 s) && (is_some (number_in 1 most l) && (is_name n && are_image_words ws)) =
-    next Swap (limit ∷ Schedule ∷ []) true s (l ∷ n ∷ ws) ∙ ap (λ (b : Bool). is_some (number_in 256 131072 s) && b) three in
-    next Frames (Swap ∷ limit ∷ Schedule ∷ []) true f (s ∷ l ∷ n ∷ ws) ∙ ap (λ (b : Bool). is_some (number_in 64 4096 f) && b) two
+    ≡ is_some (number_in LEAST_SWAP most_blocks s) && (is_some (number_in 1 most l) && (is_name n && are_image_words ws)) =
+    next Swap (limit ∷ Schedule ∷ []) true s (l ∷ n ∷ ws) ∙ ap (λ (b : Bool). is_some (number_in LEAST_SWAP most_blocks s) && b) three in
+    next Frames (Swap ∷ limit ∷ Schedule ∷ []) true f (s ∷ l ∷ n ∷ ws) ∙ ap (λ (b : Bool). is_some (number_in LEAST_FRAMES MOST_FRAMES f) && b) two
 
 run : (limit : Argument) (most : ℕ) (command : Numbers → List ℕ → List (List ℕ) → Asked) (words : List (List ℕ))
     → ((word : List ℕ) → takes limit word ≡ is_some (number_in 1 most word))
@@ -158,14 +160,14 @@ run limit most command (f ∷ s ∷ l ∷ []) is =
     (lacking Swap (limit ∷ Schedule ∷ []) true s (l ∷ []) (lacking limit (Schedule ∷ []) true l [] (missing Schedule [] true)))
 run limit most command (f ∷ s ∷ l ∷ n ∷ ws) is =
     why_whole limit most f s l n ws (is l)
-    ∙ turn (is_some (number_in 64 4096 f)) (is_some (number_in 256 131072 s)) (is_some (number_in 1 most l)) (is_name n) (are_image_words ws)
+    ∙ turn (is_some (number_in LEAST_FRAMES MOST_FRAMES f)) (is_some (number_in LEAST_SWAP most_blocks s)) (is_some (number_in 1 most l)) (is_name n) (are_image_words ws)
     ∙ sym (asked_whole most command f s l n ws)
 
-long_limit : (word : List ℕ) → takes Limit word ≡ is_some (number_in 1 1000000 word)
+long_limit : (word : List ℕ) → takes Limit word ≡ is_some (number_in 1 MOST_LIMIT word)
 unfolding takes
 long_limit word = refl
 
-short_limit : (word : List ℕ) → takes ShortLimit word ≡ is_some (number_in 1 100000 word)
+short_limit : (word : List ℕ) → takes ShortLimit word ≡ is_some (number_in 1 MOST_SHORT_LIMIT word)
 unfolding takes
 short_limit word = refl
 
@@ -174,7 +176,7 @@ short_limit word = refl
 load : (words : List (List ℕ)) → is_none (why_words (Number ∷ []) false words) ≡ is_some (asked_load words)
 unfolding asked_load takes
 load [] = missing Number [] false
-load (n ∷ []) = next Number [] false n [] ∙ ap (λ (b : Bool). takes Number n && b) rest_none ∙ always _ ∙ sym (mapped Load (number_in 0 9999 n))
+load (n ∷ []) = next Number [] false n [] ∙ ap (λ (b : Bool). takes Number n && b) rest_none ∙ always _ ∙ sym (mapped Load (number_in 0 LAST_LOAD n))
 load (n ∷ w ∷ ws) = lacking Number [] false n (w ∷ ws) (rest_more w ws)
 
 replay : (words : List (List ℕ)) → is_none (why_words (Transcript ∷ []) true words) ≡ is_some (asked_replay words)
@@ -206,14 +208,14 @@ unfolding asked_optimum takes
 optimum [] = missing Size (Frames ∷ Swap ∷ ShortLimit ∷ Schedule ∷ []) true
 optimum (n ∷ words) =
     next Size (Frames ∷ Swap ∷ ShortLimit ∷ Schedule ∷ []) true n words
-    ∙ after_number (number_in 1 4096 n) (λ k. asked_with_run 100000 (Optimum k) words) _ (λ k. run ShortLimit 100000 (Optimum k) words short_limit)
+    ∙ after_number (number_in 1 MOST_FRAMES n) (λ k. asked_with_run MOST_SHORT_LIMIT (Optimum k) words) _ (λ k. run ShortLimit MOST_SHORT_LIMIT (Optimum k) words short_limit)
 
 owners : (words : List (List ℕ)) → is_none (why_words (Entries ∷ Frames ∷ Swap ∷ Limit ∷ Schedule ∷ []) true words) ≡ is_some (asked_owners words)
 unfolding asked_owners takes
 owners [] = missing Entries (Frames ∷ Swap ∷ Limit ∷ Schedule ∷ []) true
 owners (n ∷ words) =
     next Entries (Frames ∷ Swap ∷ Limit ∷ Schedule ∷ []) true n words
-    ∙ after_number (number_in 0 16777216 n) (λ k. asked_with_run 1000000 (Owners k) words) _ (λ k. run Limit 1000000 (Owners k) words long_limit)
+    ∙ after_number (number_in 0 JOURNAL_ENTRIES n) (λ k. asked_with_run MOST_LIMIT (Owners k) words) _ (λ k. run Limit MOST_LIMIT (Owners k) words long_limit)
 
 steps_by : (a b c : Option ℕ) → is_some (all_steps a b c) ≡ is_some a && (is_some b && is_some c)
 unfolding all_steps
@@ -240,14 +242,15 @@ film_whole : (from to every : List ℕ) (words : List (List ℕ))
 unfolding asked_film film_steps takes
 film_whole from to every words =
     let one : is_none (why_words (Every ∷ Frames ∷ Swap ∷ Limit ∷ Schedule ∷ []) true (every ∷ words))
-    ≡ is_some (number_in 1 16777216 every) && is_none (why_words (Frames ∷ Swap ∷ Limit ∷ Schedule ∷ []) true words) =
+    ≡ is_some (number_in 1 JOURNAL_ENTRIES every) && is_none (why_words (Frames ∷ Swap ∷ Limit ∷ Schedule ∷ []) true words) =
     next Every (Frames ∷ Swap ∷ Limit ∷ Schedule ∷ []) true every words in
     let two : is_none (why_words (To ∷ Every ∷ Frames ∷ Swap ∷ Limit ∷ Schedule ∷ []) true (to ∷ every ∷ words))
-    ≡ is_some (number_in 0 16777216 to) && (is_some (number_in 1 16777216 every) && is_none (why_words (Frames ∷ Swap ∷ Limit ∷ Schedule ∷ []) true words)) =
-    next To (Every ∷ Frames ∷ Swap ∷ Limit ∷ Schedule ∷ []) true to (every ∷ words) ∙ ap (λ (b : Bool). is_some (number_in 0 16777216 to) && b) one in
-    next From (To ∷ Every ∷ Frames ∷ Swap ∷ Limit ∷ Schedule ∷ []) true from (to ∷ every ∷ words) ∙ ap (λ (b : Bool). is_some (number_in 0 16777216 from) && b) two
-    ∙ after_three (is_some (number_in 0 16777216 from)) (is_some (number_in 0 16777216 to)) (is_some (number_in 1 16777216 every)) _ (λ steps. asked_with_run 1000000 (Film steps) words) _
-    (steps_by (number_in 0 16777216 from) (number_in 0 16777216 to) (number_in 1 16777216 every)) (λ steps. run Limit 1000000 (Film steps) words long_limit)
+    ≡ is_some (number_in 0 JOURNAL_ENTRIES to) && (is_some (number_in 1 JOURNAL_ENTRIES every) && is_none (why_words (Frames ∷ Swap ∷ Limit ∷ Schedule ∷ []) true words)) =
+    next To (Every ∷ Frames ∷ Swap ∷ Limit ∷ Schedule ∷ []) true to (every ∷ words) ∙ ap (λ (b : Bool). is_some (number_in 0 JOURNAL_ENTRIES to) && b) one in
+    next From (To ∷ Every ∷ Frames ∷ Swap ∷ Limit ∷ Schedule ∷ []) true from (to ∷ every ∷ words) ∙ ap (λ (b : Bool). is_some (number_in 0 JOURNAL_ENTRIES from) && b) two
+    ∙ after_three (is_some (number_in 0 JOURNAL_ENTRIES from)) (is_some (number_in 0 JOURNAL_ENTRIES to)) (is_some (number_in 1 JOURNAL_ENTRIES every)) _
+    (λ steps. asked_with_run MOST_LIMIT (Film steps) words) _
+    (steps_by (number_in 0 JOURNAL_ENTRIES from) (number_in 0 JOURNAL_ENTRIES to) (number_in 1 JOURNAL_ENTRIES every)) (λ steps. run Limit MOST_LIMIT (Film steps) words long_limit)
 
 film : (words : List (List ℕ)) → is_none (why_words (From ∷ To ∷ Every ∷ Frames ∷ Swap ∷ Limit ∷ Schedule ∷ []) true words) ≡ is_some (asked_film words)
 unfolding asked_film
@@ -265,8 +268,8 @@ policies (n ∷ []) = lacking Size (ReferenceFile ∷ []) false n [] (missing Re
 policies (n ∷ f ∷ []) =
     next Size (ReferenceFile ∷ []) false n (f ∷ [])
     ∙ ap (λ (b : Bool). takes Size n && b) (next ReferenceFile [] false f [] ∙ ap (λ (b : Bool). takes ReferenceFile f && b) rest_none ∙ always _)
-    ∙ either_way (is_some (number_in 1 4096 n)) (is_name f)
-    ∙ sym (where_so (is_name f) _ ∙ ap (λ (b : Bool). is_name f && b) (mapped (λ k. Policies k f) (number_in 1 4096 n)))
+    ∙ either_way (is_some (number_in 1 MOST_FRAMES n)) (is_name f)
+    ∙ sym (where_so (is_name f) _ ∙ ap (λ (b : Bool). is_name f && b) (mapped (λ k. Policies k f) (number_in 1 MOST_FRAMES n)))
   where
     either_way : (a b : Bool) → a && b ≡ b && a
     either_way true b = sym (always b)
@@ -292,7 +295,7 @@ run_command : (words : List (List ℕ)) → is_none (why_form (Frames ∷ Swap �
 unfolding asked_run
 run_command words =
     form (Frames ∷ Swap ∷ Limit ∷ Schedule ∷ []) true (without_trace words)
-    ∙ ap (λ (b : Bool). list_all is_plain (without_trace words) && b) (run Limit 1000000 _ (without_trace words) long_limit)
+    ∙ ap (λ (b : Bool). list_all is_plain (without_trace words) && b) (run Limit MOST_LIMIT _ (without_trace words) long_limit)
     ∙ sym (where_so (list_all is_plain (without_trace words)) _)
 
 -- All commands.
@@ -305,11 +308,11 @@ asked_plain name words =
     else (if bytes_eq name (codes "as") then asked_assemble words
     else (if bytes_eq name (codes "dis") then asked_show words
     else (if bytes_eq name (codes "opt") then asked_optimum words
-    else (if bytes_eq name (codes "curve") then asked_with_run 100000 Curve words
+    else (if bytes_eq name (codes "curve") then asked_with_run MOST_SHORT_LIMIT Curve words
     else (if bytes_eq name (codes "owners") then asked_owners words
     else (if bytes_eq name (codes "film") then asked_film words
-    else (if bytes_eq name (codes "stats") then asked_with_run 1000000 Stats words
-    else (if bytes_eq name (codes "refs") then asked_with_run 100000 References words
+    else (if bytes_eq name (codes "stats") then asked_with_run MOST_LIMIT Stats words
+    else (if bytes_eq name (codes "refs") then asked_with_run MOST_SHORT_LIMIT References words
     else (if bytes_eq name (codes "policies") then asked_policies words
     else None))))))))))
 
@@ -322,11 +325,11 @@ other_by true name words are =
     (chosen (bytes_eq name (codes "as")) _ _ _ _ (with_plain _ _ words _ are (assemble words))
     (chosen (bytes_eq name (codes "dis")) _ _ _ _ (with_plain _ _ words _ are (show words))
     (chosen (bytes_eq name (codes "opt")) _ _ _ _ (with_plain _ _ words _ are (optimum words))
-    (chosen (bytes_eq name (codes "curve")) _ _ _ _ (with_plain _ _ words _ are (run ShortLimit 100000 Curve words short_limit))
+    (chosen (bytes_eq name (codes "curve")) _ _ _ _ (with_plain _ _ words _ are (run ShortLimit MOST_SHORT_LIMIT Curve words short_limit))
     (chosen (bytes_eq name (codes "owners")) _ _ _ _ (with_plain _ _ words _ are (owners words))
     (chosen (bytes_eq name (codes "film")) _ _ _ _ (with_plain _ _ words _ are (film words))
-    (chosen (bytes_eq name (codes "stats")) _ _ _ _ (with_plain _ _ words _ are (run Limit 1000000 Stats words long_limit))
-    (chosen (bytes_eq name (codes "refs")) _ _ _ _ (with_plain _ _ words _ are (run ShortLimit 100000 References words short_limit))
+    (chosen (bytes_eq name (codes "stats")) _ _ _ _ (with_plain _ _ words _ are (run Limit MOST_LIMIT Stats words long_limit))
+    (chosen (bytes_eq name (codes "refs")) _ _ _ _ (with_plain _ _ words _ are (run ShortLimit MOST_SHORT_LIMIT References words short_limit))
     (chosen (bytes_eq name (codes "policies")) _ _ _ _ (with_plain _ _ words _ are (policies words)) refl))))))))))
 other_by false name words are =
     refused (bytes_eq name (codes "load")) _ _ (with_option _ _ words are)

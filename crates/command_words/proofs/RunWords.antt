@@ -4,6 +4,7 @@ use Rattle.std.specs.List.{list_all, list_any}
 use Rattle.std.specs.Option.{option_map}
 use Rattle.std.proofs.lemmas.List.{drop-map}
 use Rattle.command_words.specs.declared.command.Numbers.{Numbers}
+use Rattle.command_words.specs.declared.limits.TheConstants.{MOST_LIMIT}
 use Rattle.command_words.specs.Words.{has_up_to, is_plain, is_name, are_image_words, is_trace, without_trace, word_at}
 use Rattle.command_words.specs.Asked.{Asked, Run, run_numbers, asked_with_run, asked_run}
 
@@ -58,7 +59,7 @@ pub traced_run : (words : List (List ℕ)) (kept images : List (Bor (List ℕ)))
     → map (λ (word : Bor (List ℕ)). word.now) kept ≡ without_trace words → list_all is_plain (map (λ (word : Bor (List ℕ)). word.now) kept) ≡ true
     → traced ≡ list_any is_trace words → images ≡ drop 4 kept
     → Some (Run traced numbers schedule (drop 4 (map (λ (word : Bor (List ℕ)). word.now) kept)))
-    ≡ asked_with_run 1000000 (Run traced) (map (λ (word : Bor (List ℕ)). word.now) kept)
+    ≡ asked_with_run MOST_LIMIT (Run traced) (map (λ (word : Bor (List ℕ)). word.now) kept)
     → Some (Run traced numbers schedule (map (λ (word : Bor (List ℕ)). word.now) images)) ≡ asked_run words
 unfolding asked_run
 traced_run words kept images traced numbers schedule kept_is plain traced_is images_are asked =

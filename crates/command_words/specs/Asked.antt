@@ -5,6 +5,7 @@ use Rattle.std.specs.Option.{option_map}
 use Rattle.run_files.specs.ImageWords.{starts}
 use Rattle.command_words.specs.declared.command.Numbers.{Numbers}
 use Rattle.command_words.specs.declared.command.FilmSteps.{FilmSteps}
+use Rattle.command_words.specs.declared.limits.TheConstants.{MOST_FRAMES, MOST_LIMIT, MOST_SHORT_LIMIT, LAST_LOAD, JOURNAL_ENTRIES}
 use Rattle.command_words.specs.Words.{is_plain, number_in, is_name, are_image_words, is_trace, without_trace}
 
 -- a command, with the numbers and the names that its words give
@@ -47,7 +48,7 @@ asked_with_run most command _ = None
 
 -- `NUMBER`
 unfoldable pub asked_load : List (List ℕ) → Option Asked
-asked_load (number ∷ []) = option_map Load (number_in 0 9999 number)
+asked_load (number ∷ []) = option_map Load (number_in 0 LAST_LOAD number)
 asked_load _ = None
 
 -- `TRANSCRIPT IMAGE..`
@@ -67,12 +68,12 @@ asked_show _ = None
 
 -- `N FRAMES SWAP LIMIT SCHED IMAGE..`
 unfoldable pub asked_optimum : List (List ℕ) → Option Asked
-asked_optimum (size ∷ words) = option_and_then (λ n. asked_with_run 100000 (Optimum n) words) (number_in 1 4096 size)
+asked_optimum (size ∷ words) = option_and_then (λ n. asked_with_run MOST_SHORT_LIMIT (Optimum n) words) (number_in 1 MOST_FRAMES size)
 asked_optimum [] = None
 
 -- `N FRAMES SWAP LIMIT SCHED IMAGE..`
 unfoldable pub asked_owners : List (List ℕ) → Option Asked
-asked_owners (entries ∷ words) = option_and_then (λ n. asked_with_run 1000000 (Owners n) words) (number_in 0 16777216 entries)
+asked_owners (entries ∷ words) = option_and_then (λ n. asked_with_run MOST_LIMIT (Owners n) words) (number_in 0 JOURNAL_ENTRIES entries)
 asked_owners [] = None
 
 -- the three numbers, where each is one
@@ -82,16 +83,16 @@ all_steps _ _ _ = None
 
 -- `FROM TO EVERY`
 unfoldable pub film_steps : List ℕ → List ℕ → List ℕ → Option FilmSteps
-film_steps from to every = all_steps (number_in 0 16777216 from) (number_in 0 16777216 to) (number_in 1 16777216 every)
+film_steps from to every = all_steps (number_in 0 JOURNAL_ENTRIES from) (number_in 0 JOURNAL_ENTRIES to) (number_in 1 JOURNAL_ENTRIES every)
 
 -- `FROM TO EVERY FRAMES SWAP LIMIT SCHED IMAGE..`
 unfoldable pub asked_film : List (List ℕ) → Option Asked
-asked_film (from ∷ to ∷ every ∷ words) = option_and_then (λ steps. asked_with_run 1000000 (Film steps) words) (film_steps from to every)
+asked_film (from ∷ to ∷ every ∷ words) = option_and_then (λ steps. asked_with_run MOST_LIMIT (Film steps) words) (film_steps from to every)
 asked_film _ = None
 
 -- `N FILE`
 unfoldable pub asked_policies : List (List ℕ) → Option Asked
-asked_policies (size ∷ references ∷ []) = if is_name references then option_map (λ n. Policies n references) (number_in 1 4096 size) else None
+asked_policies (size ∷ references ∷ []) = if is_name references then option_map (λ n. Policies n references) (number_in 1 MOST_FRAMES size) else None
 asked_policies _ = None
 
 -- the words after `run`, and what is made of them: one of them may be `--trace`; of the others none is empty or begins with a hyphen
@@ -121,11 +122,11 @@ asked_other name words =
     else (if bytes_eq name (codes "as") then asked_assemble words
     else (if bytes_eq name (codes "dis") then asked_show words
     else (if bytes_eq name (codes "opt") then asked_optimum words
-    else (if bytes_eq name (codes "curve") then asked_with_run 100000 Curve words
+    else (if bytes_eq name (codes "curve") then asked_with_run MOST_SHORT_LIMIT Curve words
     else (if bytes_eq name (codes "owners") then asked_owners words
     else (if bytes_eq name (codes "film") then asked_film words
-    else (if bytes_eq name (codes "stats") then asked_with_run 1000000 Stats words
-    else (if bytes_eq name (codes "refs") then asked_with_run 100000 References words
+    else (if bytes_eq name (codes "stats") then asked_with_run MOST_LIMIT Stats words
+    else (if bytes_eq name (codes "refs") then asked_with_run MOST_SHORT_LIMIT References words
     else (if bytes_eq name (codes "policies") then asked_policies words
     else None)))))))))))
 

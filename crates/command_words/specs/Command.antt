@@ -1,7 +1,9 @@
 -- A command that was read: what it asks for, and what holds of its parts.
 use Rattle.std.specs.Prelude.{◌≤◌, ◌<◌, ℕ, IsTrue, List, ◌++◌, length, map, All}
 use Rattle.std.specs.List.{list_any}
+use Rattle.io_edge.specs.Striping.{most_blocks}
 use Rattle.run_files.specs.ImageWords.{IsShortName, starts, name_in}
+use Rattle.command_words.specs.declared.limits.TheConstants.{LEAST_FRAMES, MOST_FRAMES, LEAST_SWAP, MOST_LIMIT, MOST_SHORT_LIMIT, LAST_LOAD, JOURNAL_ENTRIES}
 use Rattle.command_words.specs.declared.command.Numbers.{Numbers}
 use Rattle.command_words.specs.declared.command.FilmSteps.{FilmSteps}
 use Rattle.command_words.specs.declared.command.Command.{Command}
@@ -31,19 +33,19 @@ asked_by (commands.Policies size references) = Policies size references.now
 
 -- each number is in its range
 pub record AreAllowed (numbers : Numbers) : Type 0 where
-  pub least_frames : 64 ≤ numbers.frames
-  pub most_frames : numbers.frames ≤ 4096
-  pub least_swap : 256 ≤ numbers.swap
-  pub most_swap : numbers.swap ≤ 131072
+  pub least_frames : LEAST_FRAMES ≤ numbers.frames
+  pub most_frames : numbers.frames ≤ MOST_FRAMES
+  pub least_swap : LEAST_SWAP ≤ numbers.swap
+  pub most_swap : numbers.swap ≤ most_blocks
   pub least_limit : 1 ≤ numbers.limit
-  pub most_limit : numbers.limit ≤ 1000000
+  pub most_limit : numbers.limit ≤ MOST_LIMIT
 
 -- so is each number of a film's steps
 pub record AreSteps (steps : FilmSteps) : Type 0 where
-  pub from : steps.from ≤ 16777216
-  pub to : steps.to ≤ 16777216
+  pub from : steps.from ≤ JOURNAL_ENTRIES
+  pub to : steps.to ≤ JOURNAL_ENTRIES
   pub least_every : 1 ≤ steps.every
-  pub most_every : steps.every ≤ 16777216
+  pub most_every : steps.every ≤ JOURNAL_ENTRIES
 
 -- 1 to 16 words of images, each with a name of 1 to 63 bytes, and at least one of them starts a process
 pub record AreImageWords (words : List (Bor (List ℕ))) : Type 0 where
@@ -62,15 +64,15 @@ pub record IsFittingRun (most : ℕ) (numbers : Numbers) (schedule : Bor (List �
 
 -- the numbers of a command are in their ranges, its names are short, and its images few
 abbrev pub IsFitting : Command → Type 0
-IsFitting (commands.Run traced numbers schedule images) = IsFittingRun 1000000 numbers schedule (word_list images)
-IsFitting (commands.Load number) = number ≤ 9999
+IsFitting (commands.Run traced numbers schedule images) = IsFittingRun MOST_LIMIT numbers schedule (word_list images)
+IsFitting (commands.Load number) = number ≤ LAST_LOAD
 IsFitting (commands.Replay transcript images) = IsShortName transcript.now × AreImageWords images.now
 IsFitting (commands.Assemble source) = IsShortName source.now
 IsFitting (commands.Show image) = IsShortName image.now × IsTrue (starts image.now)
-IsFitting (commands.Optimum size numbers schedule images) = ((1 ≤ size) × (size ≤ 4096)) × IsFittingRun 100000 numbers schedule images.now
-IsFitting (commands.Curve numbers schedule images) = IsFittingRun 100000 numbers schedule images.now
-IsFitting (commands.Owners entries numbers schedule images) = (entries ≤ 16777216) × IsFittingRun 1000000 numbers schedule images.now
-IsFitting (commands.Film steps numbers schedule images) = AreSteps steps × IsFittingRun 1000000 numbers schedule images.now
-IsFitting (commands.Stats numbers schedule images) = IsFittingRun 1000000 numbers schedule images.now
-IsFitting (commands.References numbers schedule images) = IsFittingRun 100000 numbers schedule images.now
-IsFitting (commands.Policies size references) = ((1 ≤ size) × (size ≤ 4096)) × IsShortName references.now
+IsFitting (commands.Optimum size numbers schedule images) = ((1 ≤ size) × (size ≤ MOST_FRAMES)) × IsFittingRun MOST_SHORT_LIMIT numbers schedule images.now
+IsFitting (commands.Curve numbers schedule images) = IsFittingRun MOST_SHORT_LIMIT numbers schedule images.now
+IsFitting (commands.Owners entries numbers schedule images) = (entries ≤ JOURNAL_ENTRIES) × IsFittingRun MOST_LIMIT numbers schedule images.now
+IsFitting (commands.Film steps numbers schedule images) = AreSteps steps × IsFittingRun MOST_LIMIT numbers schedule images.now
+IsFitting (commands.Stats numbers schedule images) = IsFittingRun MOST_LIMIT numbers schedule images.now
+IsFitting (commands.References numbers schedule images) = IsFittingRun MOST_SHORT_LIMIT numbers schedule images.now
+IsFitting (commands.Policies size references) = ((1 ≤ size) × (size ≤ MOST_FRAMES)) × IsShortName references.now

@@ -2,9 +2,11 @@
 use Rattle.std.specs.Prelude.{ℕ, Bool, true, false, ◌&&◌, not, nat_le, is_none, is_some, ◌≡◌, List, [], ◌∷◌, length, Option, Some, None, if◌then◌else◌, bytes_eq, codes, find}
 use Rattle.std.specs.List.{list_any}
 use Rattle.std.specs.Option.{option_map}
+use Rattle.io_edge.specs.Striping.{most_blocks}
 use Rattle.run_files.specs.ImageWords.{starts}
 use Rattle.command_words.specs.Words.{is_plain, number_in, is_name, is_image_word, without_trace}
 use Rattle.command_words.specs.Asked.{asked_of}
+use Rattle.command_words.specs.declared.limits.TheConstants.{LEAST_FRAMES, MOST_FRAMES, LEAST_SWAP, MOST_LIMIT, MOST_SHORT_LIMIT, LAST_LOAD, JOURNAL_ENTRIES}
 use Rattle.command_words.specs.declared.reasons.Argument.{Argument}
 use Rattle.command_words.specs.declared.reasons.Argument.TheVariants.{Frames, Swap, Limit, ShortLimit, Number, Size, Entries, From, To, Every, Schedule, Transcript, Source, ReferenceFile, Listed, Image}
 use Rattle.command_words.specs.declared.reasons.BadWord.{BadWord}
@@ -34,8 +36,8 @@ why_of bad.NoneStarts = NoneStarts
 
 -- the least that an argument may be, where it is a number
 abbrev pub least_of : Argument → ℕ
-least_of Frames = 64
-least_of Swap = 256
+least_of Frames = LEAST_FRAMES
+least_of Swap = LEAST_SWAP
 least_of Limit = 1
 least_of ShortLimit = 1
 least_of Size = 1
@@ -44,16 +46,16 @@ least_of _ = 0
 
 -- the most that an argument may be, where it is a number
 abbrev pub most_of : Argument → ℕ
-most_of Frames = 4096
-most_of Swap = 131072
-most_of Limit = 1000000
-most_of ShortLimit = 100000
-most_of Number = 9999
-most_of Size = 4096
-most_of Entries = 16777216
-most_of From = 16777216
-most_of To = 16777216
-most_of Every = 16777216
+most_of Frames = MOST_FRAMES
+most_of Swap = most_blocks
+most_of Limit = MOST_LIMIT
+most_of ShortLimit = MOST_SHORT_LIMIT
+most_of Number = LAST_LOAD
+most_of Size = MOST_FRAMES
+most_of Entries = JOURNAL_ENTRIES
+most_of From = JOURNAL_ENTRIES
+most_of To = JOURNAL_ENTRIES
+most_of Every = JOURNAL_ENTRIES
 most_of _ = 0
 
 -- whether a word may stand for an argument

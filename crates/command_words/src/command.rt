@@ -4,8 +4,13 @@ ghost use Rattle.std.specs.Option.{option_map};
 ghost use Rattle.run_files.specs.ImageWords.{IsShortName};
 ghost use Rattle.command_words.specs.Asked.{Asked, request_of, request_in, asked_of, asked_run, asked_other, asked_load, asked_replay, asked_assemble, asked_show, asked_optimum, asked_owners, asked_film, film_steps, asked_policies, asked_with_run, run_numbers, Curve, Stats, References};
 ghost use Rattle.command_words.specs.Command.{word_list, asked_by, AreAllowed, AreImageWords, AreSteps, IsFitting};
+ghost use Rattle.command_words.specs.declared.limits.TheConstants.{MOST_LIMIT, MOST_SHORT_LIMIT};
 
 use crate::image_words::{ImageWords, from_place, has_trace};
+use crate::limits::{
+    JOURNAL_ENTRIES, LAST_LOAD, LEAST_FRAMES, LEAST_SWAP, MOST_FRAMES, MOST_LIMIT,
+    MOST_SHORT_LIMIT, MOST_SWAP,
+};
 use crate::word::{is_name, read_number, starts};
 
 /// The numbers of a run (this project's profile).
@@ -159,7 +164,7 @@ fn read_run<'a>(words: &'a [&'a str]) -> Option<Command<'a>>
     if !kept.are_plain() {
         return None;
     }
-    let head = RunHead::of(kept, 1_000_000)?;
+    let head = RunHead::of(kept, MOST_LIMIT)?;
     Some(Command::Run {
         traced: has_trace(words),
         numbers: head.numbers,
@@ -202,7 +207,7 @@ fn read_load<'a>(words: &[&str]) -> Option<Command<'a>>
         return None;
     };
     Some(Command::Load {
-        number: read_number(number, 0, 9_999)?,
+        number: read_number(number, 0, LAST_LOAD)?,
     })
 }
 
@@ -259,8 +264,8 @@ fn read_optimum<'a>(words: &'a [&'a str]) -> Option<Command<'a>>
     let [size, words @ ..] = words else {
         return None;
     };
-    let size = read_number(size, 1, 4_096)?;
-    let head = RunHead::of(ImageWords::all(words), 100_000)?;
+    let size = read_number(size, 1, MOST_FRAMES)?;
+    let head = RunHead::of(ImageWords::all(words), MOST_SHORT_LIMIT)?;
     Some(Command::Optimum {
         size,
         numbers: head.numbers,
@@ -270,10 +275,10 @@ fn read_optimum<'a>(words: &'a [&'a str]) -> Option<Command<'a>>
 }
 
 fn read_curve<'a>(words: &'a [&'a str]) -> Option<Command<'a>>
-    ensures exact { option_map asked_by result ≡ asked_with_run 100000 Curve (map (λ word. word.now) words.now) }
+    ensures exact { option_map asked_by result ≡ asked_with_run MOST_SHORT_LIMIT Curve (map (λ word. word.now) words.now) }
     ensures fits { IfSome result IsFitting }
 {
-    let head = RunHead::of(ImageWords::all(words), 100_000)?;
+    let head = RunHead::of(ImageWords::all(words), MOST_SHORT_LIMIT)?;
     Some(Command::Curve {
         numbers: head.numbers,
         schedule: head.schedule,
@@ -289,8 +294,8 @@ fn read_owners<'a>(words: &'a [&'a str]) -> Option<Command<'a>>
     let [entries, words @ ..] = words else {
         return None;
     };
-    let entries = read_number(entries, 0, 16_777_216)?;
-    let head = RunHead::of(ImageWords::all(words), 1_000_000)?;
+    let entries = read_number(entries, 0, JOURNAL_ENTRIES)?;
+    let head = RunHead::of(ImageWords::all(words), MOST_LIMIT)?;
     Some(Command::Owners {
         entries,
         numbers: head.numbers,
@@ -305,9 +310,9 @@ fn read_steps(from: &str, to: &str, every: &str) -> Option<FilmSteps>
     ensures allowed { IfSome result AreSteps }
 {
     Some(FilmSteps {
-        from: read_number(from, 0, 16_777_216)?,
-        to: read_number(to, 0, 16_777_216)?,
-        every: read_number(every, 1, 16_777_216)?,
+        from: read_number(from, 0, JOURNAL_ENTRIES)?,
+        to: read_number(to, 0, JOURNAL_ENTRIES)?,
+        every: read_number(every, 1, JOURNAL_ENTRIES)?,
     })
 }
 
@@ -320,7 +325,7 @@ fn read_film<'a>(words: &'a [&'a str]) -> Option<Command<'a>>
         return None;
     };
     let steps = read_steps(from, to, every)?;
-    let head = RunHead::of(ImageWords::all(words), 1_000_000)?;
+    let head = RunHead::of(ImageWords::all(words), MOST_LIMIT)?;
     Some(Command::Film {
         steps,
         numbers: head.numbers,
@@ -330,10 +335,10 @@ fn read_film<'a>(words: &'a [&'a str]) -> Option<Command<'a>>
 }
 
 fn read_stats<'a>(words: &'a [&'a str]) -> Option<Command<'a>>
-    ensures exact { option_map asked_by result ≡ asked_with_run 1000000 Stats (map (λ word. word.now) words.now) }
+    ensures exact { option_map asked_by result ≡ asked_with_run MOST_LIMIT Stats (map (λ word. word.now) words.now) }
     ensures fits { IfSome result IsFitting }
 {
-    let head = RunHead::of(ImageWords::all(words), 1_000_000)?;
+    let head = RunHead::of(ImageWords::all(words), MOST_LIMIT)?;
     Some(Command::Stats {
         numbers: head.numbers,
         schedule: head.schedule,
@@ -342,10 +347,10 @@ fn read_stats<'a>(words: &'a [&'a str]) -> Option<Command<'a>>
 }
 
 fn read_references<'a>(words: &'a [&'a str]) -> Option<Command<'a>>
-    ensures exact { option_map asked_by result ≡ asked_with_run 100000 References (map (λ word. word.now) words.now) }
+    ensures exact { option_map asked_by result ≡ asked_with_run MOST_SHORT_LIMIT References (map (λ word. word.now) words.now) }
     ensures fits { IfSome result IsFitting }
 {
-    let head = RunHead::of(ImageWords::all(words), 100_000)?;
+    let head = RunHead::of(ImageWords::all(words), MOST_SHORT_LIMIT)?;
     Some(Command::References {
         numbers: head.numbers,
         schedule: head.schedule,
@@ -363,7 +368,7 @@ fn read_policies<'a>(words: &[&'a str]) -> Option<Command<'a>>
     };
     if is_name(references) {
         Some(Command::Policies {
-            size: read_number(size, 1, 4_096)?,
+            size: read_number(size, 1, MOST_FRAMES)?,
             references,
         })
     } else {
@@ -373,14 +378,14 @@ fn read_policies<'a>(words: &[&'a str]) -> Option<Command<'a>>
 
 #[tactic(auto, unfolding(crate::specs::Asked::run_numbers, crate::specs::Asked::all_numbers))]
 fn read_numbers(frames: &str, swap: &str, limit: &str, most: u32) -> Option<Numbers>
-    requires { most ≤ 1000000 }
+    requires { most ≤ MOST_LIMIT }
     ensures exact { result ≡ run_numbers most frames.now swap.now limit.now }
     ensures allowed { IfSome result AreAllowed }
     ensures limit { IfSome result (λ numbers. numbers.limit ≤ most) }
 {
     Some(Numbers {
-        frames: read_number(frames, 64, 4_096)?,
-        swap: read_number(swap, 256, 131_072)?,
+        frames: read_number(frames, LEAST_FRAMES, MOST_FRAMES)?,
+        swap: read_number(swap, LEAST_SWAP, MOST_SWAP)?,
         limit: read_number(limit, 1, most)?,
     })
 }
@@ -395,7 +400,7 @@ struct RunHead<'a> {
 impl<'a> RunHead<'a> {
     // Reads `FRAMES SWAP LIMIT SCHED IMAGE..`, with a limit up to `most`.
     fn of(words: ImageWords<'a>, most: u32) -> Option<Self>
-        requires { most ≤ 1000000 }
+        requires { most ≤ MOST_LIMIT }
         ensures exact { (command : Numbers → List ℕ → List (List ℕ) → Asked)
             → option_map (λ head. command head.numbers head.schedule.now (drop 4 (map (λ word. word.now) (word_list words.entry)))) result
             ≡ asked_with_run most command (map (λ word. word.now) (word_list words.entry)) }

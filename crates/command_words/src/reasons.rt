@@ -3,10 +3,15 @@ ghost use Rattle.std.specs.Prelude.{◌≡◌, ◌≤◌, map, option_map, find,
 ghost use Rattle.std.specs.List.{list_any};
 ghost use Rattle.run_files.specs.ImageWords.{starts};
 ghost use Rattle.command_words.specs.Words.{is_image_word, is_plain, without_trace};
+ghost use Rattle.command_words.specs.declared.limits.TheConstants.{LEAST_SWAP};
 ghost use Rattle.command_words.specs.declared.reasons.Argument.TheVariants.{Frames, Swap, Limit, Schedule};
 ghost use Rattle.command_words.specs.Reasons.{why_of, least_of, most_of, takes, bad_image, bad_plain, none_starts, why_images, why_rest, why_words, why_form, why_other, why_command, why_bad, RefusedHaveReasons};
 
 use crate::image_words::ImageWords;
+use crate::limits::{
+    JOURNAL_ENTRIES, LAST_LOAD, LEAST_FRAMES, LEAST_SWAP, MOST_FRAMES, MOST_LIMIT,
+    MOST_SHORT_LIMIT, MOST_SWAP,
+};
 use crate::word::{is_image_word, is_name, is_plain, read_number, starts};
 use std::alloc::{AllocError, Global};
 
@@ -72,11 +77,11 @@ impl Argument {
     /// The least that it may be, where it is a number.
     pub fn least(self) -> u32
         ensures exact { result ≡ least_of self }
-        ensures few { result ≤ 256 }
+        ensures few { result ≤ LEAST_SWAP }
     {
         match self {
-            Argument::Frames => 64,
-            Argument::Swap => 256,
+            Argument::Frames => LEAST_FRAMES,
+            Argument::Swap => LEAST_SWAP,
             Argument::Limit | Argument::ShortLimit | Argument::Size | Argument::Every => 1,
             _ => 0,
         }
@@ -87,12 +92,12 @@ impl Argument {
         ensures { result ≡ most_of self }
     {
         match self {
-            Argument::Frames | Argument::Size => 4_096,
-            Argument::Swap => 131_072,
-            Argument::Limit => 1_000_000,
-            Argument::ShortLimit => 100_000,
-            Argument::Number => 9_999,
-            Argument::Entries | Argument::From | Argument::To | Argument::Every => 16_777_216,
+            Argument::Frames | Argument::Size => MOST_FRAMES,
+            Argument::Swap => MOST_SWAP,
+            Argument::Limit => MOST_LIMIT,
+            Argument::ShortLimit => MOST_SHORT_LIMIT,
+            Argument::Number => LAST_LOAD,
+            Argument::Entries | Argument::From | Argument::To | Argument::Every => JOURNAL_ENTRIES,
             _ => 0,
         }
     }

@@ -5,6 +5,7 @@ use Rattle.run_files.specs.ImageWords.{image_names, first_images}
 use Rattle.replay_check.specs.Images.{FlatFile, images_of}
 use Rattle.command_words.specs.declared.command.Numbers.{Numbers}
 use Rattle.command_words.specs.Command.{AreSteps}
+use Rattle.command_words.specs.declared.limits.TheConstants.{MOST_FRAMES, MOST_LIMIT, MOST_SHORT_LIMIT}
 use Rattle.run_opening.specs.Schedules.{HasEvents}
 use Rattle.reference_commands.specs.declared.question.Question.{Question}
 use Rattle.reference_commands.specs.declared.question.Question.TheVariants.{Optimum, Curve, Owners, Film, Stats, References}
@@ -29,7 +30,7 @@ pub record AreInputsOf (A : Inputs) (subject : Subject) (read : Read) : Type 0 w
 
 -- the frames that are asked about are in their range, and so are the numbers of a film's steps
 abbrev pub IsQuestion : Question → Type 0
-IsQuestion (Optimum frames) = (1 ≤ frames) × (frames ≤ 4096)
+IsQuestion (Optimum frames) = (1 ≤ frames) × (frames ≤ MOST_FRAMES)
 IsQuestion Curve = Unit {0}
 IsQuestion (Owners entries) = Unit {0}
 IsQuestion (Film steps) = AreSteps steps
@@ -38,9 +39,9 @@ IsQuestion References = Unit {0}
 
 -- the most instructions of a run that may be asked about
 abbrev pub limit_of : Question → ℕ
-limit_of (Optimum frames) = 100000
-limit_of Curve = 100000
-limit_of (Owners entries) = 1000000
-limit_of (Film steps) = 1000000
-limit_of Stats = 1000000
-limit_of References = 100000
+limit_of (Optimum frames) = MOST_SHORT_LIMIT
+limit_of Curve = MOST_SHORT_LIMIT
+limit_of (Owners entries) = MOST_LIMIT
+limit_of (Film steps) = MOST_LIMIT
+limit_of Stats = MOST_LIMIT
+limit_of References = MOST_SHORT_LIMIT

@@ -4,6 +4,7 @@ ghost use Rattle.io_edge.specs.Calls.{KeepsFiles};
 ghost use Rattle.run_files.specs.ImageWords.{IsShortName, image_names, first_images};
 ghost use Rattle.replay_check.specs.Images.{AreImageFiles};
 ghost use Rattle.command_words.specs.Command.{AreImageWords, IsFittingRun};
+ghost use Rattle.command_words.specs.declared.limits.TheConstants.{MOST_FRAMES, MOST_SHORT_LIMIT};
 ghost use Rattle.command_ending.specs.Ending.{ending_of};
 ghost use Rattle.command_ending.specs.Command.{Made};
 ghost use Rattle.reference_commands.specs.Reading.{read_told};
@@ -37,14 +38,14 @@ fn optimum_over<'a>(
     lines: &[Event],
 ) -> Result<Vec<u8>, Fault<'a>>
     requires least { 1 ≤ frames }
-    requires most { frames ≤ 4096 }
+    requires most { frames ≤ MOST_FRAMES }
     requires images { AreImageFiles images.now }
     requires few { length names.now ≤ 16 }
     requires named { map (λ image. image.name) images.now ≡ map (λ name. name.now) names.now }
     requires short { All (λ name. IsShortName name.now) names.now }
     requires differ { AllDiffer (map (λ name. name.now) names.now) }
     requires runnable { IsRunnable numbers (length images.now) first.now lines.now }
-    requires limit { numbers.limit ≤ 100000 }
+    requires limit { numbers.limit ≤ MOST_SHORT_LIMIT }
     ensures { EndsAnswer (questions.Optimum frames) (inputs_with numbers images.now first.now lines.now) (ending_of result) }
 {
     let pages = run_references(alloc, numbers, images, names, first, lines)?;
@@ -69,7 +70,7 @@ fn curve_over<'a>(
     requires short { All (λ name. IsShortName name.now) names.now }
     requires differ { AllDiffer (map (λ name. name.now) names.now) }
     requires runnable { IsRunnable numbers (length images.now) first.now lines.now }
-    requires limit { numbers.limit ≤ 100000 }
+    requires limit { numbers.limit ≤ MOST_SHORT_LIMIT }
     ensures { EndsAnswer questions.Curve (inputs_with numbers images.now first.now lines.now) (ending_of result) }
 {
     let pages = run_references(alloc, numbers, images, names, first, lines)?;
@@ -94,7 +95,7 @@ fn references_over<'a>(
     requires short { All (λ name. IsShortName name.now) names.now }
     requires differ { AllDiffer (map (λ name. name.now) names.now) }
     requires runnable { IsRunnable numbers (length images.now) first.now lines.now }
-    requires limit { numbers.limit ≤ 100000 }
+    requires limit { numbers.limit ≤ MOST_SHORT_LIMIT }
     ensures { EndsAnswer questions.References (inputs_with numbers images.now first.now lines.now) (ending_of result) }
 {
     let pages = run_references(alloc, numbers, images, names, first, lines)?;

@@ -23,11 +23,10 @@ ghost use Rattle.reference_commands.specs.declared.question.Question.TheVariants
 use crate::filming::{film_of, goes_on};
 use crate::running::{OpenedInMemory, open_in_memory};
 use command_ending::Fault;
-use command_words::Numbers;
+use command_words::{JOURNAL_ENTRIES, Numbers};
 use film_core::{Film, Started};
 use io_edge::{Files, SureFiles, SureSwap, SwapDev};
 use replay_check::Flat;
-use run_command::JOURNAL_ENTRIES;
 use run_opening::OpenedImage;
 use run_stats::{Look, Note, look_over, note_entry, stats_text};
 use std::alloc::Global;

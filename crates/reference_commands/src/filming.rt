@@ -13,6 +13,7 @@ ghost use Rattle.owner_lines.specs.Owners.{word_if};
 ghost use Rattle.replay_check.specs.Images.{AreImageFiles};
 ghost use Rattle.command_ending.specs.Ending.{ending_of};
 ghost use Rattle.command_words.specs.Command.{AreSteps};
+ghost use Rattle.command_words.specs.declared.limits.TheConstants.{MOST_FRAMES};
 ghost use Rattle.vm_core.specs.Schedules.{HaveFewMoves};
 ghost use Rattle.vm_core.specs.RunEnds.{IsAskedOf};
 ghost use Rattle.film_core.specs.Films.{IsFilming, IsUnbegun, FilmBegun};
@@ -245,7 +246,7 @@ pub(crate) fn film_of(
     images: &[OpenedImage<'_>],
 ) -> Result<Film, NoMemory>
     requires some { 0 < numbers.frames }
-    requires most { numbers.frames ≤ 4096 }
+    requires most { numbers.frames ≤ MOST_FRAMES }
     requires few { length images.now ≤ 16 }
     requires sound { AreSound (facts_named (map shown_as images.now)) }
     requires names { AreNames (map shown_as images.now) }

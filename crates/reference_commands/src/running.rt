@@ -6,6 +6,7 @@ ghost use Rattle.run_files.specs.ImageWords.{IsShortName};
 ghost use Rattle.replay_check.specs.Images.{AreImageFiles, AreNumbers, images_of};
 ghost use Rattle.run_command.specs.Full.{RunFull, RunOver};
 ghost use Rattle.run_command.specs.RunEnds.{RunEnds};
+ghost use Rattle.command_words.specs.declared.limits.TheConstants.{MOST_SHORT_LIMIT};
 ghost use Rattle.replay_command.specs.Reading.{items_of};
 ghost use Rattle.command_ending.specs.Ending.{ending_of};
 ghost use Rattle.io_edge.specs.Octets.{AreOctetFiles};
@@ -18,13 +19,13 @@ ghost use Rattle.reference_commands.specs.declared.question.Question.TheVariants
 use crate::copying::files_of;
 use crate::growing::GrowingText;
 use command_ending::Fault;
-use command_words::Numbers;
+use command_words::{JOURNAL_ENTRIES, Numbers};
 use io_edge::{Files, Moved, SureFiles, SureSwap};
 use machine_state::Machine;
 use owner_lines::write_owners;
 use replay_check::{Flat, references};
+use run_command::core_up_to;
 use run_command::vm_core::{Core, Unfinished, run_schedule};
-use run_command::{JOURNAL_ENTRIES, core_up_to};
 use run_opening::{OpenedImage, open_images};
 use std::alloc::Global;
 use vm_facts::{Entry, Event, NoMemory, Page, Stop};
@@ -39,7 +40,7 @@ fn references_at_end<'a>(
 ) -> Result<Vec<Page>, Fault<'a>>
     requires images { AreImageFiles images.now }
     requires first { AreNumbers (length images.now) first.now }
-    ensures ends { (A : Inputs) (after : Option (List ℕ)) → A.images ≡ images_of images.now → A.first ≡ first.now → A.limit ≤ 100000
+    ensures ends { (A : Inputs) (after : Option (List ℕ)) → A.images ≡ images_of images.now → A.first ≡ first.now → A.limit ≤ MOST_SHORT_LIMIT
         → RunEnds A journal.now (blank_swap A.swap_blocks) ran after → (ran ≡ Err (Unfinished.Stopped Stop.JournalFull) → journal_entries ≤ length journal.now)
         → EndsRun A (items_of result) }
 {
@@ -222,7 +223,7 @@ pub fn run_references<'a>(
     requires short { All (λ name. IsShortName name.now) names.now }
     requires differ { AllDiffer (map (λ name. name.now) names.now) }
     requires runnable { IsRunnable numbers (length images.now) first.now lines.now }
-    requires limit { numbers.limit ≤ 100000 }
+    requires limit { numbers.limit ≤ MOST_SHORT_LIMIT }
     ensures { EndsRun (inputs_with numbers images.now first.now lines.now) (items_of result) }
 {
     let Ok(ran) = run_images(alloc, numbers, JOURNAL_ENTRIES, images, names, first, lines) else {

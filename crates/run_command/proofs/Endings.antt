@@ -9,6 +9,7 @@ use Rattle.vm_core.specs.RunEnds.{RunEnds}
 use Rattle.run_text.specs.Transcript.{HaveNumbers}
 use Rattle.transcript_laws.specs.Replayed.{IsFlatText}
 use Rattle.transcript_laws.proofs.Texts.{text_flat, empty_flat}
+use Rattle.command_words.specs.declared.limits.TheConstants.{MOST_LIMIT}
 use Rattle.command_ending.specs.declared.fault.Fault.{Fault}
 use Rattle.command_ending.specs.declared.fault.Fault.TheVariants.{FileFault, SwapReadFault, SwapWriteFault, NoMemory, JournalFull, NoSpace}
 use Rattle.run_command.specs.Seen.{Seen}
@@ -64,7 +65,7 @@ module _ (seen : Seen) (A : Inputs) (es : List Entry) (image : List ℕ) where
   lost_ended (Err _) kind lost c e = absurd kind
 
 -- The text of the journal of a run that ended, over the images of its inputs.
-module _ (A : Inputs) (es : List Entry) (image : List ℕ) (after : Option (List ℕ)) (limit : A.limit ≤ 1000000) (numbers : HaveNumbers es) (traced : Bool) where
+module _ (A : Inputs) (es : List Entry) (image : List ℕ) (after : Option (List ℕ)) (limit : A.limit ≤ MOST_LIMIT) (numbers : HaveNumbers es) (traced : Bool) where
   made_flat : (s : State) → IsJournalOf A es s → IsFlatText A traced es
   made_flat s m = let made : IsJournalOf A es s = m in text_flat A made.holdings es s traced made.can made.lawful limit numbers
 
@@ -79,7 +80,7 @@ module _ (A : Inputs) (es : List Entry) (image : List ℕ) (after : Option (List
   fault_flat (NoSpace pid) e = none_flat e.0.0
   fault_flat _ e = absurd e
 
-pub ended_flat : (seen : Seen) (A : Inputs) (es : List Entry) (image : List ℕ) (r : RunEnding) → A.limit ≤ 1000000 → HaveNumbers es → RunEnded seen A es image r
+pub ended_flat : (seen : Seen) (A : Inputs) (es : List Entry) (image : List ℕ) (r : RunEnding) → A.limit ≤ MOST_LIMIT → HaveNumbers es → RunEnded seen A es image r
     → (traced : Bool) → IsFlatText A traced es
 ended_flat seen A es image (Ok done) limit numbers e traced = made_flat A es image seen.swap_after limit numbers traced e.state e.made
 ended_flat seen A es image (Err NoMemory) limit numbers (inl (calm, inl none)) traced = none_flat A es image seen.swap_after limit numbers traced none.0

@@ -9,11 +9,11 @@ use Rattle.machine_state.specs.Sourced.{ImageNamed, AreNames}
 use Rattle.machine_state.specs.Files.{AreFiles}
 use Rattle.machine_state.specs.Machine.{Standing}
 use Rattle.command_words.specs.declared.command.Numbers.{Numbers}
+use Rattle.command_words.specs.declared.limits.TheConstants.{JOURNAL_ENTRIES}
 use Rattle.run_opening.specs.declared.opening.Opening.{Opening}
 use Rattle.vm_core.specs.Schedules.{HaveFewMoves}
 use Rattle.vm_core.specs.RunEnds.{IsAskedOf}
 use Rattle.run_command.specs.Naming.{shown_as}
-use Rattle.run_command.specs.declared.paired.TheConstants.{JOURNAL_ENTRIES}
 
 -- the most entries of a journal
 abbrev pub journal_entries : ℕ

@@ -5,6 +5,7 @@ ghost use Rattle.machine_state.specs.New.{AreSound};
 ghost use Rattle.machine_state.specs.Sourced.{AreNames};
 ghost use Rattle.machine_state.specs.Applying.{facts_named};
 ghost use Rattle.command_words.specs.Command.{word_list, AreAllowed, AreImageWords, IsFittingRun};
+ghost use Rattle.command_words.specs.declared.limits.TheConstants.{MOST_FRAMES, MOST_LIMIT};
 ghost use Rattle.vm_core.specs.Starting.{IsFresh};
 ghost use Rattle.run_command.specs.Naming.{shown_as};
 ghost use Rattle.run_command.specs.Machines.{machine_up_to, machine_of, SuitsMachine, IsOfOpening};
@@ -14,10 +15,10 @@ ghost use Rattle.run_command.specs.Ends.{Runs, RunsOpened};
 ghost use Rattle.run_command.specs.Headlines.{CarriesHeadline};
 
 use crate::naming::name_images;
-use crate::paired::{JOURNAL_ENTRIES, run_paired};
+use crate::paired::run_paired;
 use crate::writing::write_run;
 use command_ending::Fault;
-use command_words::{ImageWords, Numbers};
+use command_words::{ImageWords, JOURNAL_ENTRIES, Numbers};
 use io_edge::{Files, Sink, SwapDev};
 use run_opening::{OpenedImage, Opening, open_run};
 use std::alloc::Global;
@@ -32,7 +33,7 @@ pub fn core_up_to(
     images: &[OpenedImage<'_>],
 ) -> Result<Core, NoMemory>
     requires some { 0 < numbers.frames }
-    requires most { numbers.frames ≤ 4096 }
+    requires most { numbers.frames ≤ MOST_FRAMES }
     requires few { length images.now ≤ 16 }
     requires sound { AreSound (facts_named (map shown_as images.now)) }
     requires names { AreNames (map shown_as images.now) }
@@ -58,7 +59,7 @@ pub fn core_of(
     images: &[OpenedImage<'_>],
 ) -> Result<Core, NoMemory>
     requires some { 0 < numbers.frames }
-    requires most { numbers.frames ≤ 4096 }
+    requires most { numbers.frames ≤ MOST_FRAMES }
     requires few { length images.now ≤ 16 }
     requires sound { AreSound (facts_named (map shown_as images.now)) }
     requires names { AreNames (map shown_as images.now) }
@@ -156,7 +157,7 @@ pub fn run_command<F: Files, D: SwapDev, E: SwapDev, S: Sink>(
     schedule: &str,
     images: ImageWords<'_>,
 ) -> u8
-    requires fits { IsFittingRun 1000000 numbers schedule (word_list images) }
+    requires fits { IsFittingRun MOST_LIMIT numbers schedule (word_list images) }
     ensures runs { Runs (record { traced = traced; numbers = numbers; schedule = schedule.now; words = map (λ word. word.now) (word_list images.entry) })
         (seen_of_all F.Files D.SwapDev E.SwapDev S.Sink files.old files.new zero.old zero.new one.old one.new sink.old sink.new) result }
     ensures headline { CarriesHeadline

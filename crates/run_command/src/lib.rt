@@ -11,5 +11,5 @@ mod writing;
 pub use command::{core_up_to, run_command};
 pub use loading::load_command;
 pub use naming::name_images;
-pub use paired::{JOURNAL_ENTRIES, run_paired};
+pub use paired::run_paired;
 pub use vm_core;

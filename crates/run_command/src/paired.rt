@@ -18,9 +18,6 @@ use io_edge::{Files, SwapDev, SwapPair};
 use vm_core::{Core, Unfinished, run_schedule};
 use vm_facts::{Event, Stop};
 
-/// The most entries of a journal.
-pub const JOURNAL_ENTRIES: u32 = 16_777_216;
-
 // The fault of a stop, with the device of the last failed read and of the last failed write.
 fn fault_of<'a>(stop: Stop, read: Option<u32>, write: Option<u32>) -> Fault<'a>
     requires read { stop ≡ Stop.SwapReadFault → IsSome read }

@@ -1,0 +1,25 @@
+// The ranges of a command's numbers (this project's profile).
+
+/// The fewest page frames of a machine.
+pub const LEAST_FRAMES: u32 = 64;
+
+/// The most page frames, of a machine and of a replacement.
+pub const MOST_FRAMES: u32 = 4_096;
+
+/// The fewest blocks of swap.
+pub const LEAST_SWAP: u32 = 256;
+
+/// The most blocks of swap: as many as a pair of devices may have.
+pub const MOST_SWAP: u32 = 131_072;
+
+/// The most instructions of a run.
+pub const MOST_LIMIT: u32 = 1_000_000;
+
+/// The most instructions of a run whose references are kept.
+pub const MOST_SHORT_LIMIT: u32 = 100_000;
+
+/// The highest number of a load.
+pub const LAST_LOAD: u32 = 9_999;
+
+/// The most entries of a journal.
+pub const JOURNAL_ENTRIES: u32 = 16_777_216;
