@@ -6,6 +6,7 @@ use Rattle.run_files.specs.declared.answers.Unread.{Unread}
 use Rattle.run_files.specs.declared.answers.Unread.TheVariants as unreads
 use Rattle.run_text.specs.Lines.{lines_in, AreLines, IsFirstBad}
 use Rattle.run_text.specs.Schedule.{IsEventLine}
+use Rattle.run_text.specs.declared.limits.TheConstants.{SCHEDULE_LINES}
 use Rattle.command_ending.specs.declared.fault.Fault.{Fault}
 use Rattle.command_ending.specs.declared.fault.Fault.TheVariants.{Absent, FileFault, NoMemory, BadSchedule}
 use Rattle.command_ending.specs.Command.{Faults, NoFaults, OpenFailed}
@@ -13,7 +14,7 @@ use Rattle.run_opening.specs.declared.schedule.TheConstants.{SCHEDULE_BYTES}
 
 -- the most lines of a schedule
 abbrev pub schedule_lines : ℕ
-schedule_lines = 65536
+schedule_lines = SCHEDULE_LINES
 
 -- the most bytes of a schedule that are read: a line that is good has at most 20
 abbrev pub schedule_bytes : ℕ

@@ -1,6 +1,6 @@
 // The sizes of the two swap devices.
 ghost use Rattle.std.specs.Prelude.{◌≡◌, ◌≤◌};
-ghost use Rattle.io_edge.specs.Striping.{zero_needs, one_needs};
+ghost use Rattle.io_edge.specs.Striping.{most_blocks, zero_needs, one_needs};
 ghost use Rattle.run_opening.specs.Devices.{device_fault};
 
 use command_ending::Fault;
@@ -8,7 +8,7 @@ use command_ending::Fault;
 // The blocks of device 0 that a swap of so many blocks needs.
 #[tactic(auto, unfolding(io_edge::specs::Striping::zero_needs, io_edge::specs::Striping::device_of, io_edge::specs::Striping::of_device))]
 fn zero_needs(swap: u32) -> u32
-    requires { swap ≤ 131072 }
+    requires { swap ≤ most_blocks }
     ensures { result ≡ zero_needs swap }
 {
     let units = swap / 1024;
@@ -19,7 +19,7 @@ fn zero_needs(swap: u32) -> u32
 // The blocks of device 1 that it needs.
 #[tactic(auto, unfolding(io_edge::specs::Striping::one_needs, io_edge::specs::Striping::device_of, io_edge::specs::Striping::of_device))]
 fn one_needs(swap: u32) -> u32
-    requires { swap ≤ 131072 }
+    requires { swap ≤ most_blocks }
     ensures { result ≡ one_needs swap }
 {
     let units = swap / 1024;
@@ -30,7 +30,7 @@ fn one_needs(swap: u32) -> u32
 /// The fault of the first of the devices, with these numbers of blocks, that is too short for a swap of
 /// so many blocks.
 pub fn device_fault<'a>(swap: u32, zero_blocks: u32, one_blocks: u32) -> Option<Fault<'a>>
-    requires { swap ≤ 131072 }
+    requires { swap ≤ most_blocks }
     ensures { result ≡ device_fault swap zero_blocks one_blocks }
 {
     let zero_needed = zero_needs(swap);

@@ -1,11 +1,13 @@
 ghost use Rattle.std.specs.Prelude.{◌≡◌, ◌≤◌, ◌<◌, ℕ, List, Some, Ok, All, IfOk, length, map};
 ghost use Rattle.io_edge.specs.Calls.{KeepsFiles};
 ghost use Rattle.io_edge.specs.FileHolding.{NamedFile, HasRange};
+ghost use Rattle.io_edge.specs.Striping.{most_blocks};
 ghost use Rattle.aout_image.specs.Image.{IsSound, file_length_of};
 ghost use Rattle.run_files.specs.ImageWords.{IsShortName, name_in, image_names};
 ghost use Rattle.run_text.specs.Schedule.{IsInRanges};
 ghost use Rattle.command_ending.specs.Command.{Made};
 ghost use Rattle.run_opening.specs.Images.{images_found, images_in, IsIn};
+ghost use Rattle.run_opening.specs.Schedules.{schedule_lines};
 ghost use Rattle.run_opening.specs.Opening.{found_told, EndsOpening, CountsOpen};
 
 use crate::devices::device_fault;
@@ -43,7 +45,7 @@ pub fn open_run<'a, F: Files>(
     one_blocks: u32,
 ) -> Result<Opening<'a>, Fault<'a>>
     requires few { length words.now ≤ 16 }
-    requires swap { swap ≤ 131072 }
+    requires swap { swap ≤ most_blocks }
     ensures ends { Made (EndsOpening schedule.now (map (λ word. word.now) words.now) swap zero_blocks one_blocks)
         (found_told schedule.now (map (λ word. word.now) words.now)) (F.holds files.old)
         (record {
@@ -69,7 +71,7 @@ pub fn open_run<'a, F: Files>(
     ensures numbers { IfOk result (λ opening. All (λ number. (1 ≤ number) × (number ≤ length opening.images.items)) opening.first.items) }
     ensures few_first { IfOk result (λ opening. length opening.first.items ≤ length words.now) }
     ensures lines { IfOk result (λ opening. All IsInRanges opening.lines.items) }
-    ensures few_lines { IfOk result (λ opening. length opening.lines.items ≤ 65536) }
+    ensures few_lines { IfOk result (λ opening. length opening.lines.items ≤ schedule_lines) }
 
     // The files, and their counts of faults.
     ensures kept { KeepsFiles F.Files files.old files.new }

@@ -4,7 +4,7 @@ ghost use Rattle.io_edge.specs.Calls.{KeepsFiles};
 ghost use Rattle.io_edge.specs.FileHolding.{NamedFile};
 ghost use Rattle.run_text.specs.Schedule.{IsInRanges};
 ghost use Rattle.command_ending.specs.Command.{Made};
-ghost use Rattle.run_opening.specs.Schedules.{schedule_found, EndsEvents, EndsSchedule};
+ghost use Rattle.run_opening.specs.Schedules.{schedule_lines, schedule_found, EndsEvents, EndsSchedule};
 ghost use Rattle.run_opening.specs.Opening.{CountsOpen};
 
 use command_ending::Fault;
@@ -43,7 +43,7 @@ pub fn open_schedule<'a, F: Files>(
           page_after = F.page_faults files.new;
         }) result }
     ensures ranges { IfOk result (λ lines. All IsInRanges lines.items) }
-    ensures few { IfOk result (λ lines. length lines.items ≤ 65536) }
+    ensures few { IfOk result (λ lines. length lines.items ≤ schedule_lines) }
     ensures kept { KeepsFiles F.Files files.old files.new }
     ensures open_faults { CountsOpen result (F.open_faults files.old) (F.open_faults files.new) }
     ensures page_faults { F.page_faults files.new ≡ F.page_faults files.old }

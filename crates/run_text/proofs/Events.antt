@@ -6,6 +6,7 @@ use Rattle.vm_facts.specs.declared.event.Event.{Event}
 use Rattle.vm_facts.specs.declared.event.Event.TheVariants.{Dispatch, Interrupt, Hands, Swapper, Audit}
 use Rattle.run_text.specs.Schedule.{Writes, IsEvent, IsEventLine, IsInRanges}
 use Rattle.run_text.specs.Lines.{AreLines}
+use Rattle.run_text.specs.declared.limits.TheConstants.{LAST_PROCESS, MOST_TURN, MOST_MOVES}
 use Rattle.run_text.specs.Pieces.{HasNo}
 use Rattle.run_text.proofs.LineEnds.{cut_once, no_cut}
 
@@ -29,35 +30,35 @@ no_space rest h Swapper e = cc
 no_space rest h Audit e = cc
 
 -- the two numbers of a dispatch
-pub two_words : (rest a b p n : List ℕ) (pid : ℕ) → rest ≡ a ++ 32 ∷ b → HasNo 32 a → Writes 99999999 p pid → rest ≡ p ++ 32 ∷ n → (a ≡ p) × (b ≡ n)
+pub two_words : (rest a b p n : List ℕ) (pid : ℕ) → rest ≡ a ++ 32 ∷ b → HasNo 32 a → Writes LAST_PROCESS p pid → rest ≡ p ++ 32 ∷ n → (a ≡ p) × (b ≡ n)
 two_words rest a b p n pid e h w k = cut_once 32 a p b n h (digits_no 32 p (lit< tt) w.0.1) (sym e ∙ k)
 
-pub bad_pid : (rest a b : List ℕ) → rest ≡ a ++ 32 ∷ b → HasNo 32 a → ((n : ℕ) → n < 2 ^ 32 → Writes 99999999 a n → ⊥) → (e : Event)
+pub bad_pid : (rest a b : List ℕ) → rest ≡ a ++ 32 ∷ b → HasNo 32 a → ((n : ℕ) → n < 2 ^ 32 → Writes LAST_PROCESS a n → ⊥) → (e : Event)
     → IsEvent e (codes "d " ++ rest) → ⊥
 bad_pid rest a b cut h none (Dispatch pid count) (p, n, wp, wn, e) =
     let same : (a ≡ p) × (b ≡ n) = two_words rest a b p n pid cut h wp (cc) in
-    none pid (omega (arith, wp.4)) (subst (λ (ds : List ℕ). Writes 99999999 ds pid) (sym same.0) wp)
+    none pid (omega (arith, wp.4)) (subst (λ (ds : List ℕ). Writes LAST_PROCESS ds pid) (sym same.0) wp)
 bad_pid rest a b cut h none Interrupt e = cc
 bad_pid rest a b cut h none (Hands count) (n, wn, e) = d_not_h rest n e
 bad_pid rest a b cut h none Swapper e = cc
 bad_pid rest a b cut h none Audit e = cc
 
-pub bad_count : (rest a b : List ℕ) → rest ≡ a ++ 32 ∷ b → HasNo 32 a → ((n : ℕ) → n < 2 ^ 32 → Writes 1000000 b n → ⊥) → (e : Event)
+pub bad_count : (rest a b : List ℕ) → rest ≡ a ++ 32 ∷ b → HasNo 32 a → ((n : ℕ) → n < 2 ^ 32 → Writes MOST_TURN b n → ⊥) → (e : Event)
     → IsEvent e (codes "d " ++ rest) → ⊥
 bad_count rest a b cut h none (Dispatch pid count) (p, n, wp, wn, e) =
     let same : (a ≡ p) × (b ≡ n) = two_words rest a b p n pid cut h wp (cc) in
-    none count (omega (arith, wn.4)) (subst (λ (ds : List ℕ). Writes 1000000 ds count) (sym same.1) wn)
+    none count (omega (arith, wn.4)) (subst (λ (ds : List ℕ). Writes MOST_TURN ds count) (sym same.1) wn)
 bad_count rest a b cut h none Interrupt e = cc
 bad_count rest a b cut h none (Hands count) (n, wn, e) = d_not_h rest n e
 bad_count rest a b cut h none Swapper e = cc
 bad_count rest a b cut h none Audit e = cc
 
-pub bad_hands : (rest : List ℕ) → ((n : ℕ) → n < 2 ^ 32 → Writes 8192 rest n → ⊥) → (e : Event) → IsEvent e (codes "h " ++ rest) → ⊥
+pub bad_hands : (rest : List ℕ) → ((n : ℕ) → n < 2 ^ 32 → Writes MOST_MOVES rest n → ⊥) → (e : Event) → IsEvent e (codes "h " ++ rest) → ⊥
 bad_hands rest none (Dispatch pid count) (p, n, wp, wn, e) = d_not_h (p ++ (codes " " ++ n)) rest (sym e)
 bad_hands rest none Interrupt e = cc
 bad_hands rest none (Hands count) (n, wn, e) =
     let same : n ≡ rest = cc in
-    none count (omega (arith, wn.4)) (subst (λ (ds : List ℕ). Writes 8192 ds count) same wn)
+    none count (omega (arith, wn.4)) (subst (λ (ds : List ℕ). Writes MOST_MOVES ds count) same wn)
 bad_hands rest none Swapper e = cc
 bad_hands rest none Audit e = cc
 

@@ -6,6 +6,7 @@ use Rattle.vm_facts.specs.declared.event.Event.{Event}
 use Rattle.vm_facts.specs.declared.event.Event.TheVariants.{Dispatch, Interrupt, Hands, Swapper, Audit}
 use Rattle.run_text.specs.Lines.{begin_line, lines_in, AreLines, IsFirstBad}
 use Rattle.run_text.specs.Schedule.{IsEvent, IsEventLine, IsReadSchedule}
+use Rattle.run_text.specs.declared.limits.TheConstants.{SCHEDULE_LINES}
 use Rattle.run_text.specs.declared.answers.Schedule.{Schedule}
 use Rattle.run_text.specs.declared.answers.Schedule.TheVariants.{Is, BadLine}
 
@@ -113,7 +114,7 @@ lines_short (e ∷ es) (l ∷ ls) are =
     (omega (arith, line_short e l are.0, more.0), omega (arith, more.1))
 
 -- such a front isn't good
-front_not_good : (front : List ℕ) (es : List Event) → length front ≡ 1310741 → AreLines IsEventLine es (lines_in front) → length es ≤ 65536 → ⊥
+front_not_good : (front : List ℕ) (es : List Event) → length front ≡ 1310741 → AreLines IsEventLine es (lines_in front) → length es ≤ SCHEDULE_LINES → ⊥
 front_not_good front es len are few =
     let short = lines_short es (lines_in front) are in
     absurd (omega (arith, total_lines front, len, short.0, short.1, few))
@@ -121,7 +122,7 @@ front_not_good front es len are few =
 -- a bad last line of such a front has more bytes than an event's
 last_is_long : (front bad : List ℕ) (es : List Event) (before after : List (List ℕ)) (n : ℕ) → length front ≡ 1310741
     → lines_in front ≡ before ++ bad ∷ after → after ≡ []
-    → AreLines IsEventLine es before → n ≡ length before + 1 → n ≤ 65537 → 21 ≤ length bad
+    → AreLines IsEventLine es before → n ≡ length before + 1 → n ≤ SCHEDULE_LINES + 1 → 21 ≤ length bad
 last_is_long front bad es before after n len split none are number within =
     let short = lines_short es before are in
     let all : total (lines_in front) ≡ total (before ++ bad ∷ after) = ap total split in
@@ -129,8 +130,8 @@ last_is_long front bad es before after n len split none are number within =
     let last : total after ≡ 0 = ap total none in
     omega (arith, total_lines front, len, all, parts, last, short.0, number, within)
 
-bad_still : (front more : List ℕ) (n : ℕ) → length front ≡ 1310741 → IsFirstBad IsEventLine 65536 n (lines_in front)
-    → IsFirstBad IsEventLine 65536 n (lines_in (front ++ more))
+bad_still : (front more : List ℕ) (n : ℕ) → length front ≡ 1310741 → IsFirstBad IsEventLine SCHEDULE_LINES n (lines_in front)
+    → IsFirstBad IsEventLine SCHEDULE_LINES n (lines_in (front ++ more))
 bad_still front more n len b = record {
   items = b.items;
   before = b.before;
@@ -146,7 +147,7 @@ bad_still front more n len b = record {
     s : Standing b.before b.after b.bad (lines_in (front ++ more))
     s = stands b.before b.after (lines_in (front ++ more)) b.bad (subst (λ (ls : List (List ℕ)). Extends ls (lines_in (front ++ more))) b.split (lines_extend front more))
 
-    none_by : (s.line ≡ b.bad) ⊎ ((b.after ≡ []) × (length b.bad ≤ length s.line)) → n ≤ 65536 → (e : Event) → IsEventLine e s.line → ⊥
+    none_by : (s.line ≡ b.bad) ⊎ ((b.after ≡ []) × (length b.bad ≤ length s.line)) → n ≤ SCHEDULE_LINES → (e : Event) → IsEventLine e s.line → ⊥
     none_by (inl same) few e is = b.none few e (subst (λ (l : List ℕ). IsEventLine e l) same is)
     none_by (inr last) few e is =
         absurd (omega (arith, line_short e s.line is, last.1, last_is_long front b.bad b.items b.before b.after n len b.split last.0 b.good b.number b.within))

@@ -6,6 +6,7 @@ use Rattle.vm_facts.specs.declared.event.Event.TheVariants.{Dispatch, Interrupt,
 use Rattle.run_text.specs.declared.answers.Schedule.{Schedule}
 use Rattle.run_text.specs.declared.answers.Schedule.TheVariants.{Is, BadLine}
 use Rattle.run_text.specs.Lines.{lines_in, AreLines, IsFirstBad}
+use Rattle.run_text.specs.declared.limits.TheConstants.{SCHEDULE_LINES, LAST_PROCESS, MOST_TURN, MOST_MOVES}
 
 -- 1 to 8 ASCII digits, leading zeros allowed, of a number from 1 to `most`
 abbrev pub Writes : ℕ → List ℕ → ℕ → Type 0
@@ -14,9 +15,9 @@ Writes most ds n = IsNumeral 10 ds × (length ds ≤ 8) × (digits_value 10 ds �
 -- the text of an event
 abbrev pub IsEvent : Event → List ℕ → Type 0
 IsEvent (Dispatch pid count) text =
-    (p : List ℕ) × (n : List ℕ) × Writes 99999999 p pid × Writes 1000000 n count × (text ≡ codes "d " ++ (p ++ (codes " " ++ n)))
+    (p : List ℕ) × (n : List ℕ) × Writes LAST_PROCESS p pid × Writes MOST_TURN n count × (text ≡ codes "d " ++ (p ++ (codes " " ++ n)))
 IsEvent Interrupt text = text ≡ codes "i"
-IsEvent (Hands count) text = (n : List ℕ) × Writes 8192 n count × (text ≡ codes "h " ++ n)
+IsEvent (Hands count) text = (n : List ℕ) × Writes MOST_MOVES n count × (text ≡ codes "h " ++ n)
 IsEvent Swapper text = text ≡ codes "w"
 IsEvent Audit text = text ≡ codes "m"
 
@@ -24,16 +25,16 @@ IsEvent Audit text = text ≡ codes "m"
 abbrev pub IsEventLine : Event → List ℕ → Type 0
 IsEventLine e line = (text : List ℕ) × (line ≡ text ++ codes "\n") × IsEvent e text
 
--- what a schedule reads as: its events, one a line, in at most 65,536 lines, or its first bad line
+-- what a schedule reads as: its events, one a line, in no more lines than there may be, or its first bad line
 abbrev pub IsReadSchedule : List ℕ → Schedule → Type 0
-IsReadSchedule bytes (Is events) = AreLines IsEventLine events.items (lines_in bytes) × (length events.items ≤ 65536)
-IsReadSchedule bytes (BadLine n) = IsFirstBad IsEventLine 65536 n (lines_in bytes)
+IsReadSchedule bytes (Is events) = AreLines IsEventLine events.items (lines_in bytes) × (length events.items ≤ SCHEDULE_LINES)
+IsReadSchedule bytes (BadLine n) = IsFirstBad IsEventLine SCHEDULE_LINES n (lines_in bytes)
 
 -- an event's numbers are within their ranges
 abbrev pub IsInRanges : Event → Type 0
-IsInRanges (Dispatch pid count) = (1 ≤ pid) × (1 ≤ count) × (count ≤ 1000000)
+IsInRanges (Dispatch pid count) = (1 ≤ pid) × (1 ≤ count) × (count ≤ MOST_TURN)
 IsInRanges Interrupt = ⊤
-IsInRanges (Hands count) = (1 ≤ count) × (count ≤ 8192)
+IsInRanges (Hands count) = (1 ≤ count) × (count ≤ MOST_MOVES)
 IsInRanges Swapper = ⊤
 IsInRanges Audit = ⊤
 

@@ -6,6 +6,7 @@ mod answers;
 mod buffer;
 mod entry_reader;
 mod hex;
+mod limits;
 mod line;
 mod numbers;
 mod pieces;
@@ -18,6 +19,7 @@ mod writer;
 
 pub use answers::{Schedule, Transcript};
 pub use entry_reader::page_from;
+pub use limits::{LAST_PROCESS, MOST_MOVES, MOST_TURN, SCHEDULE_LINES};
 pub use line::{put_named, put_page};
 pub use numbers::{Numbers, read_numbers};
 pub use pieces::{first_line, read_decimal, strip_end, strip_front};

@@ -4,6 +4,7 @@ ghost use Rattle.vm_facts.specs.declared.event.Event.{Event};
 ghost use Rattle.run_text.specs.Schedule.{Writes, IsEvent, IsEventLine, IsReadSchedule, AreInRanges};
 
 use crate::answers::Schedule;
+use crate::limits::{LAST_PROCESS, MOST_MOVES, MOST_TURN, SCHEDULE_LINES};
 use crate::pieces::{first_line, read_digits, split_word, strip_end, strip_front};
 use std::alloc::Global;
 use vm_facts::{Event, NoMemory};
@@ -31,10 +32,10 @@ fn read_dispatch(rest: &[u8]) -> Option<Event>
     let Some((first, second)) = split_word(rest) else {
         return None;
     };
-    let Some(pid) = read_number(first, 99_999_999) else {
+    let Some(pid) = read_number(first, LAST_PROCESS) else {
         return None;
     };
-    let Some(count) = read_number(second, 1_000_000) else {
+    let Some(count) = read_number(second, MOST_TURN) else {
         return None;
     };
     Some(Event::Dispatch { pid, count })
@@ -44,7 +45,7 @@ fn read_dispatch(rest: &[u8]) -> Option<Event>
 fn read_hands(rest: &[u8]) -> Option<Event>
     ensures { MatchOption result ((e : Event) → IsEvent e (codes "h " ++ rest.now) → ⊥) (λ e. IsEvent e (codes "h " ++ rest.now)) }
 {
-    let Some(count) = read_number(rest, 8192) else {
+    let Some(count) = read_number(rest, MOST_MOVES) else {
         return None;
     };
     Some(Event::Hands { count })
@@ -93,7 +94,7 @@ pub fn read_schedule(alloc: Global, bytes: &[u8]) -> Result<Schedule, NoMemory>
     let mut rest = bytes;
     let mut line: u32 = 1;
     while !rest.is_empty() {
-        if line > 65536 {
+        if line > SCHEDULE_LINES {
             return Ok(Schedule::BadLine(line));
         }
         let (first, more) = first_line(rest);

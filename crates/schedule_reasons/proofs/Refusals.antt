@@ -10,6 +10,7 @@ use Rattle.vm_facts.specs.declared.event.Event.{Event}
 use Rattle.vm_facts.specs.declared.event.Event.TheVariants.{Dispatch, Interrupt, Hands, Swapper, Audit}
 use Rattle.run_text.specs.Pieces.{HasNo}
 use Rattle.run_text.specs.Schedule.{Writes, IsEvent, IsEventLine}
+use Rattle.run_text.specs.declared.limits.TheConstants.{LAST_PROCESS, MOST_TURN, MOST_MOVES}
 use Rattle.run_text.proofs.Events.{digits_no}
 use Rattle.schedule_reasons.specs.declared.reasons.Argument.{Argument}
 use Rattle.schedule_reasons.specs.declared.reasons.Argument.TheVariants.{Process, Turn, Moves}
@@ -282,11 +283,11 @@ audit_event = refl
 text_passes : (e : Event) (text : List ℕ) → IsEvent e text → why_text text ≡ None
 text_passes (Dispatch pid count) text (p, n, wp, wn, is) =
     ap why_text is
-    ∙ with_rest 100 (p ++ 32 ∷ n) (lit< tt) (clean_both p (32 ∷ n) (clean_number 99999999 p pid wp) (clean_more 32 n (lit< tt) (clean_number 1000000 n count wn)))
+    ∙ with_rest 100 (p ++ 32 ∷ n) (lit< tt) (clean_both p (32 ∷ n) (clean_number LAST_PROCESS p pid wp) (clean_more 32 n (lit< tt) (clean_number MOST_TURN n count wn)))
     (dispatch_event (Some (p ++ 32 ∷ n)) ∙ two_follow Process Turn p n pid count wp wn)
 text_passes Interrupt text is = ap why_text is ∙ letter_alone 105 (lit< tt) interrupt_event
 text_passes (Hands count) text (n, wn, is) =
-    ap why_text is ∙ with_rest 104 n (lit< tt) (clean_number 8192 n count wn) (hands_event (Some n) ∙ last_follows Moves n count wn)
+    ap why_text is ∙ with_rest 104 n (lit< tt) (clean_number MOST_MOVES n count wn) (hands_event (Some n) ∙ last_follows Moves n count wn)
 text_passes Swapper text is = ap why_text is ∙ letter_alone 119 (lit< tt) swapper_event
 text_passes Audit text is = ap why_text is ∙ letter_alone 109 (lit< tt) audit_event
 

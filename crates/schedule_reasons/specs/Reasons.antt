@@ -3,6 +3,7 @@ use Rattle.std.specs.Prelude.{ℕ, Bool, ◌&&◌, ◌||◌, nat_le, ◌==◌, L
 use Rattle.std.specs.List.{list_any}
 use Rattle.vm_facts.specs.declared.event.Event.{Event}
 use Rattle.run_text.specs.Schedule.{IsEventLine}
+use Rattle.run_text.specs.declared.limits.TheConstants.{SCHEDULE_LINES, LAST_PROCESS, MOST_TURN, MOST_MOVES}
 use Rattle.schedule_reasons.specs.declared.reasons.Argument.{Argument}
 use Rattle.schedule_reasons.specs.declared.reasons.Argument.TheVariants.{Process, Turn, Moves}
 use Rattle.schedule_reasons.specs.declared.reasons.Reason.{Reason}
@@ -43,9 +44,9 @@ why_of reasons.NoLineFeed = NoLineFeed
 
 -- the most that a number of an event may be; the least is 1
 abbrev pub most_of : Argument → ℕ
-most_of Process = 99999999
-most_of Turn = 1000000
-most_of Moves = 8192
+most_of Process = LAST_PROCESS
+most_of Turn = MOST_TURN
+most_of Moves = MOST_MOVES
 
 -- why a word is no value of a number: it is none, or out of its range
 abbrev pub why_value : Argument → List ℕ → Option ℕ → Option Why
@@ -106,7 +107,7 @@ why_line line = or_else (why_text (text_in line)) (if ends_in 10 line then None 
 
 -- why the line of this number is bad
 unfoldable pub why_at : ℕ → List ℕ → Option Why
-why_at number bytes = if nat_le number 65536 then why_line (line_at number bytes) else Some TooManyLines
+why_at number bytes = if nat_le number SCHEDULE_LINES then why_line (line_at number bytes) else Some TooManyLines
 
 -- a line has a reason exactly where it is the line of no event
 abbrev pub RefusedHaveReasons : Type 0

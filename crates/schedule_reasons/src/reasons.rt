@@ -4,6 +4,7 @@ ghost use Rattle.std.specs.List.{list_any};
 ghost use Rattle.schedule_reasons.specs.Reasons.{why_of, most_of, why_value, why_number, why_more, why_numbers, no_event, is_plain, why_event, why_text, why_line, why_at, RefusedHaveReasons};
 
 use crate::digits::decimal_of;
+use run_text::{LAST_PROCESS, MOST_MOVES, MOST_TURN, SCHEDULE_LINES};
 use text_lines::{ends_in, line_at, rest_in, text_in, word_in};
 
 /// A number of an event, which is at least 1.
@@ -53,9 +54,9 @@ impl Argument {
         ensures { result ≡ most_of self }
     {
         match self {
-            Argument::Process => 99_999_999,
-            Argument::Turn => 1_000_000,
-            Argument::Moves => 8_192,
+            Argument::Process => LAST_PROCESS,
+            Argument::Turn => MOST_TURN,
+            Argument::Moves => MOST_MOVES,
         }
     }
 }
@@ -200,7 +201,7 @@ fn why_line<'a>(line: &'a [u8]) -> Option<Reason<'a>>
 pub fn bad_line<'a>(bytes: &'a [u8], number: u32) -> Option<Reason<'a>>
     ensures { option_map why_of result ≡ why_at number bytes.now }
 {
-    if number <= 65536 {
+    if number <= SCHEDULE_LINES {
         why_line(line_at(bytes, number))
     } else {
         Some(Reason::TooManyLines)
