@@ -1,5 +1,6 @@
 ghost use Rattle.std.specs.Prelude.{◌≡◌, ◌≤◌, ◌<◌, ◌^◌, length, IfOk};
 ghost use Rattle.io_edge.specs.Calls.{KeepsFiles};
+ghost use Rattle.reference_text.specs.Grammar.{most_references};
 ghost use Rattle.command_ending.specs.Ending.{ending_of};
 ghost use Rattle.command_ending.specs.Command.{Made};
 ghost use Rattle.policy_command.specs.Command.{references_told, EndsBytes, EndsText, EndsPolicies, Compares};
@@ -19,7 +20,7 @@ pub const REFERENCES_BYTES: u64 = 67_108_864;
 fn references_of<'a>(alloc: Global, bytes: &[u8]) -> Result<Vec<Page>, Fault<'a>>
     requires { length bytes.now < 2 ^ 32 }
     ensures ends { EndsBytes bytes.now result }
-    ensures few { IfOk result (λ refs. length refs.items ≤ 4000000) }
+    ensures few { IfOk result (λ refs. length refs.items ≤ most_references) }
 {
     match read_references(alloc, bytes) {
         Ok(References::Are(refs)) => Ok(refs),

@@ -1,3 +1,4 @@
+pub use Rattle.reference_text.specs.Grammar
 pub mod Numbers
 pub mod Texts
 pub mod Answers

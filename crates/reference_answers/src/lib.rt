@@ -4,6 +4,7 @@
 #![tactic(auto)]
 
 ghost use Rattle.std.specs.Prelude.{◌≡◌, ◌≤◌, ◌++◌, length, vec_len, codes, IfOk};
+ghost use Rattle.reference_text.specs.Grammar.{most_references};
 ghost use Rattle.command_ending.specs.Ending.{numbered_line};
 ghost use Rattle.reference_answers.specs.Texts.{curve_text, references_text, policy_lines};
 ghost use Rattle.reference_answers.specs.Answers.{IsOptimumText, IsPoliciesText};
@@ -24,7 +25,7 @@ use vm_facts::{NoMemory, Page};
 /// Takes memory in proportion to the references; the one error is that there is none left.
 pub fn optimum_text(alloc: Global, refs: &[Page], frames: u32) -> Result<Vec<u8>, NoMemory>
     requires frames { 1 ≤ frames }
-    requires small { length refs.now ≤ 4000000 }
+    requires small { length refs.now ≤ most_references }
     ensures { IfOk result (λ text. IsOptimumText refs.now frames text.items) }
 {
     let numbered = number_pages(alloc, refs)?;
@@ -44,7 +45,7 @@ pub fn optimum_text(alloc: Global, refs: &[Page], frames: u32) -> Result<Vec<u8>
 /// the lines are this project's profile). At most 4,000,000 references. Takes memory in proportion to the references;
 /// the one error is that there is none left.
 pub fn curve_text(alloc: Global, refs: &[Page]) -> Result<Vec<u8>, NoMemory>
-    requires { length refs.now ≤ 4000000 }
+    requires { length refs.now ≤ most_references }
     ensures { IfOk result (λ text. text.items ≡ curve_text refs.now) }
 {
     let numbered = number_pages(alloc, refs)?;
@@ -59,7 +60,7 @@ pub fn curve_text(alloc: Global, refs: &[Page]) -> Result<Vec<u8>, NoMemory>
 /// to the references; the one error is that there is none left.
 pub fn policies_text(alloc: Global, refs: &[Page], frames: u32) -> Result<Vec<u8>, NoMemory>
     requires frames { 1 ≤ frames }
-    requires small { length refs.now ≤ 4000000 }
+    requires small { length refs.now ≤ most_references }
     ensures { IfOk result (λ text. IsPoliciesText refs.now frames text.items) }
 {
     let numbered = number_pages(alloc, refs)?;
@@ -105,8 +106,8 @@ fn policy_lines(
 
 /// The lines with the counts of references and of pages, before others.
 fn count_lines(alloc: Global, numbered: &Numbered) -> Result<Vec<u8>, AllocError>
-    requires references { vec_len numbered.now.numbers ≤ 4000000 }
-    requires pages { vec_len numbered.now.pages ≤ 4000000 }
+    requires references { vec_len numbered.now.numbers ≤ most_references }
+    requires pages { vec_len numbered.now.pages ≤ most_references }
     ensures { IfOk result (λ text.
         text.items ≡ numbered_line (codes "references ") (vec_len numbered.now.numbers) ++ numbered_line (codes "pages ") (vec_len numbered.now.pages)) }
 {

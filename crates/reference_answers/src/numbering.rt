@@ -1,6 +1,7 @@
 //! Pages as numbers, by the order of their first references.
 ghost use Rattle.std.specs.Prelude.{◌≡◌, ◌<◌, ◌≤◌, length, map, vec_len, IfOk, OnOk};
 ghost use Rattle.flat_model.specs.Touched.{distinct};
+ghost use Rattle.reference_text.specs.Grammar.{most_references};
 ghost use Rattle.reference_answers.specs.Numbers.{number_from, numbers_of};
 ghost use Rattle.reference_answers.specs.Keys.{key_of, with_page};
 
@@ -22,7 +23,7 @@ pub(crate) struct Numbered {
 
 /// Numbers the pages of references from 1, in the order of their first references.
 pub(crate) fn number_pages(alloc: Global, refs: &[Page]) -> Result<Numbered, NoMemory>
-    requires { length refs.now ≤ 4000000 }
+    requires { length refs.now ≤ most_references }
     ensures pages { IfOk result (λ numbered. numbered.pages.items ≡ distinct refs.now) }
     ensures numbers { IfOk result (λ numbered. numbered.numbers.items ≡ numbers_of refs.now) }
 {
@@ -39,7 +40,7 @@ pub(crate) fn number_pages(alloc: Global, refs: &[Page]) -> Result<Numbered, NoM
 /// The number of a page among pages, which it joins as the last one where it is none of them. The keys are those of
 /// the pages, in their order.
 fn number_page(keys: &mut IndexSet<Key>, pages: &mut Vec<Page>, page: Page) -> Result<u32, NoMemory>
-    requires small { vec_len pages.old < 4000000 }
+    requires small { vec_len pages.old < most_references }
     requires keys { keys.old.keys ≡ map key_of pages.old.items }
     ensures keys { OnOk result (keys.new.keys ≡ map key_of pages.new.items) }
     ensures pages { OnOk result (pages.new.items ≡ with_page pages.old.items page) }

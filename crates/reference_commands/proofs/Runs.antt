@@ -19,11 +19,13 @@ use Rattle.run_command.proofs.Finishing.{units_below}
 use Rattle.run_command.specs.Lawful.{RunFinished}
 use Rattle.run_command.specs.RunEnds.{IsAskedOf}
 use Rattle.run_files.specs.ImageWords.{IsShortName}
+use Rattle.reference_answers.specs.Grammar.{most_references}
 use Rattle.replay_check.specs.Images.{FlatFile, IsImageFile, images_of}
 use Rattle.replay_check.specs.Verdicts.{references_of, first_bad}
 use Rattle.transcript_laws.proofs.Fronts.{none_is_bad}
 use Rattle.command_ending.specs.Named.{Why}
 use Rattle.command_words.specs.declared.command.Numbers.{Numbers}
+use Rattle.command_words.specs.declared.limits.TheConstants.{MOST_SHORT_LIMIT}
 use Rattle.run_opening.specs.declared.images.OpenedImage.{OpenedImage}
 use Rattle.run_opening.specs.Images.{images_found, images_in, IsIn}
 use Rattle.io_edge.specs.Octets.{AreOctetFiles}
@@ -37,7 +39,7 @@ use Rattle.reference_commands.proofs.Names.{all_found}
 
 -- The run is finished.
 
-pub finished : (A : Inputs) (journal : List Entry) (left : Option (List ℕ)) (pages : List Page) → A.limit ≤ 100000
+pub finished : (A : Inputs) (journal : List Entry) (left : Option (List ℕ)) (pages : List Page) → A.limit ≤ MOST_SHORT_LIMIT
     → RunFinished A journal (blank_swap A.swap_blocks) left
     → (first_bad A journal ≡ None → pages ≡ references_of A journal) → HasReferences A pages
 finished A journal left pages limit run answer =
@@ -45,7 +47,7 @@ finished A journal left pages limit run answer =
     let count : instructions_of journal ≡ run.state.count = run.made.lawful.count in
     let are : pages ≡ references_of A journal = answer (none_is_bad A journal run.state.point run.made.lawful.flat (omega arith)) in
     let few : length (references_of A journal) ≤ 28 * instructions_of journal = references_few A journal run.made.can.images in
-    record { journal = journal; left = left; finished = run; are = are; few = subst (λ (xs : List Page). length xs ≤ 4000000) (sym are) (omega arith) }
+    record { journal = journal; left = left; finished = run; are = are; few = subst (λ (xs : List Page). length xs ≤ most_references) (sym are) (omega arith) }
 
 -- Images that were opened.
 

@@ -17,6 +17,7 @@ use Rattle.run_command.specs.Full.{RunFull, RunOver}
 use Rattle.run_command.specs.RunEnds.{RunEnds}
 use Rattle.run_files.specs.ImageWords.{IsShortName}
 use Rattle.run_text.specs.Schedule.{IsInRanges}
+use Rattle.reference_answers.specs.Grammar.{most_references}
 use Rattle.replay_check.specs.Images.{FlatFile, AreNumbers, images_of}
 use Rattle.replay_check.specs.Verdicts.{references_of}
 use Rattle.command_ending.specs.declared.fault.Fault.{Fault}
@@ -25,6 +26,7 @@ use Rattle.command_words.specs.declared.command.Numbers.{Numbers}
 use Rattle.command_words.specs.Command.{AreAllowed}
 use Rattle.run_opening.specs.declared.images.OpenedImage.{OpenedImage}
 use Rattle.run_opening.specs.Images.{images_in, IsIn}
+use Rattle.run_opening.specs.Schedules.{schedule_lines}
 use Rattle.run_command.specs.Machines.{journal_entries}
 use Rattle.command_ending.specs.Ending.{Ending}
 use Rattle.reference_commands.specs.declared.question.Question.{Question}
@@ -62,7 +64,7 @@ pub record IsRunnable (numbers : Numbers) (images : ℕ) (first : List ℕ) (lin
   pub numbers_are : AreNumbers images first
   pub few_first : length first ≤ 16
   pub ranges : All IsInRanges lines
-  pub few_lines : length lines ≤ 65536
+  pub few_lines : length lines ≤ schedule_lines
 
 -- The run ended so, with a machine whose journal has at most so many entries, and whose swap area is that of the inputs; where the run is
 -- over, or halted since its journal is full, the machine stands where the journal leads to. Where it has not stopped it runs.
@@ -87,7 +89,7 @@ pub record HasReferences (A : Inputs) (pages : List Page) : Type 0 where
   pub left : Option (List ℕ)
   pub finished : RunFinished A journal (blank_swap A.swap_blocks) left
   pub are : pages ≡ references_of A journal
-  pub few : length pages ≤ 4000000
+  pub few : length pages ≤ most_references
 
 -- the run halted where its journal has all entries that it may have
 pub record HasHalted (A : Inputs) : Type 0 where

@@ -3,7 +3,7 @@ ghost use Rattle.std.specs.Prelude.{◌≡◌, ◌≢◌, ℕ, ◌^◌, ◌<◌,
 ghost use Rattle.vm_facts.specs.declared.page.Page.{Page as PageOf};
 ghost use Rattle.run_text.specs.Text.{parts};
 ghost use Rattle.run_text.specs.Transcript.{AllBelow, page_numbers};
-ghost use Rattle.reference_text.specs.Grammar.{page_word, IsReference, IsRemark, IsLineText, IsReferenceLine, IsReadReferences};
+ghost use Rattle.reference_text.specs.Grammar.{page_word, IsReference, IsRemark, IsLineText, IsReferenceLine, most_references, IsReadReferences};
 ghost use Rattle.reference_text.specs.Adding.{ReadsAs, AddsOrRefuses};
 
 use crate::answers::References;
@@ -83,7 +83,7 @@ fn read_text(text: &[u8]) -> Option<Option<Page>>
 
 // Reads a line, and pushes its reference, if it has one. False where the line is bad.
 fn add_line(refs: &mut Vec<Page>, line: &[u8]) -> Result<bool, NoMemory>
-    requires { vec_len refs.old ≤ 4000000 }
+    requires { vec_len refs.old ≤ most_references }
     ensures { IfOk result (AddsOrRefuses refs.old.items refs.new.items line.now) }
 {
     let Some(text) = strip_end(line, b"\n") else {
