@@ -10,7 +10,7 @@ use Rattle.flat_state.specs.Flat.{NamedImage}
 use Rattle.flat_state.specs.declared.change.Change.TheVariants.{Resize, Fork, Lend, Exec, End}
 use Rattle.page_model.specs.Pages.{Zeros}
 use Rattle.page_model.specs.Placement.{Placement}
-use Rattle.place_vectors.proofs.Walk.{Operation, Fixed, Serve, Step, Seen, Made, Ends, named, slot, empty, frames, starting, walk}
+use Rattle.place_vectors.proofs.Walk.{Operation, Fixed, Serve, Step, Seen, Made, Ends, named, slot, empty, frames, starting, walk, made, text_of}
 
 images : List NamedImage
 images =
@@ -43,25 +43,12 @@ last : Placement
 last = record {
   spaces = [];
   texts =
-      record {
-        image = 1;
-        text_pages =
-            slot (Invalid 2) false Zeros ∷ slot (Invalid 3) false Zeros ∷
-            replicate 14 (slot Unfilled false Zeros);
-      } ∷
-      record {
-        image = 2;
-        text_pages = replicate 16 (slot Unfilled false Zeros);
-      } ∷
-      record {
-        image = 3;
-        text_pages =
-            slot (Invalid 6) false Zeros ∷ slot (Invalid 7) false Zeros ∷
-            replicate 14 (slot Unfilled false Zeros);
-      } ∷ [];
-  holds =
-      None ∷ Some (Text 1 0) ∷ Some (Text 1 1) ∷ None ∷ None ∷ Some (Text 3 0) ∷ Some (Text 3 1) ∷
-      empty 121;
+      text_of 1 (slot (Invalid 2) false Zeros ∷ slot (Invalid 3) false Zeros ∷
+      replicate 14 (slot Unfilled false Zeros)) ∷
+      text_of 2 (replicate 16 (slot Unfilled false Zeros)) ∷
+      text_of 3 (slot (Invalid 6) false Zeros ∷ slot (Invalid 7) false Zeros ∷
+      replicate 14 (slot Unfilled false Zeros)) ∷ [];
+  holds = None ∷ Some (Text 1 0) ∷ Some (Text 1 1) ∷ None ∷ None ∷ Some (Text 3 0) ∷ Some (Text 3 1) ∷ empty 121;
   free = 1 ∷ 4 ∷ 8 ∷ 5 ∷ 10 ∷ 9 ∷ frames 11 118 ++ 3 ∷ 7 ∷ 6 ∷ 2 ∷ [];
   transfers = [];
   front = 33;
@@ -72,17 +59,9 @@ last = record {
 
 seen : List Seen
 seen =
-    Made (Some (entries.Get (Text 1 0) 0 2)) ∷
-    Made None ∷
-    Made (Some entries.Done) ∷
-    Made (Some (entries.Get (Data 1 0) 0 1)) ∷
-    Made (Some entries.Done) ∷
-    Made (Some (entries.Get (Text 3 0) 0 2)) ∷
-    Made (Some entries.Done) ∷
-    Made (Some (entries.Get (Data 4 0) 0 1)) ∷
-    Made (Some entries.Done) ∷
-    Made (Some (entries.Get (Data 6 0) 0 1)) ∷
-    Made (Some entries.Done) ∷
+    Made (Some (entries.Get (Text 1 0) 0 2)) ∷ Made None ∷
+    made (entries.Done ∷ entries.Get (Data 1 0) 0 1 ∷ entries.Done ∷ entries.Get (Text 3 0) 0 2 ∷ entries.Done ∷
+    entries.Get (Data 4 0) 0 1 ∷ entries.Done ∷ entries.Get (Data 6 0) 0 1 ∷ entries.Done ∷ []) ++
     Ends last ∷ []
 
 borrowers_of_many_images : walk images operations (starting images (1 ∷ []) 128) ≡ seen

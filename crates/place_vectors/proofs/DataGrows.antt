@@ -9,7 +9,7 @@ use Rattle.flat_state.specs.Flat.{NamedImage}
 use Rattle.flat_state.specs.declared.change.Change.TheVariants.{Resize, End}
 use Rattle.page_model.specs.Pages.{Zeros}
 use Rattle.page_model.specs.Placement.{Placement}
-use Rattle.place_vectors.proofs.Walk.{Operation, Fixed, Serve, Step, Seen, Made, Ends, named, slot, empty, frames, starting, walk, space}
+use Rattle.place_vectors.proofs.Walk.{Operation, Fixed, Serve, Step, Seen, Made, Ends, named, slot, empty, frames, starting, walk, space, text_of, residence}
 
 images : List NamedImage
 images =
@@ -26,32 +26,21 @@ operations =
 last : Placement
 last = record {
   spaces =
-      space 1 1 (replicate 49 (slot Unfilled false Zeros)) (slot (Valid 1) true Zeros ∷ []) ∷ [];
-  texts =
-      record {
-        image = 1;
-        text_pages = slot (Valid 3) false Zeros ∷ [];
-      } ∷
-      record {
-        image = 2;
-        text_pages = slot (Invalid 4) false Zeros ∷ [];
-      } ∷ [];
+      space 1 1 (replicate 49 (slot Unfilled false Zeros))
+      (slot (Valid 1) true Zeros ∷ []) ∷ [];
+  texts = text_of 1 (slot (Valid 3) false Zeros ∷ []) ∷ text_of 2 (slot (Invalid 4) false Zeros ∷ []) ∷ [];
   holds = Some (Stack 1 0) ∷ None ∷ Some (Text 1 0) ∷ Some (Text 2 0) ∷ empty 60;
   free = 2 ∷ frames 5 60 ++ 4 ∷ [];
   transfers = [];
   front = 17;
   back = 1;
-  residents =
-      record { pid = 1; out = false; since = 0 } ∷ [];
+  residents = residence 1 false 0 ∷ [];
   due = [];
 }
 
 seen : List Seen
 seen =
-    Made (Some (entries.Get (Text 1 0) 0 1)) ∷
-    Made None ∷
-    Made (Some (entries.Get (Text 2 0) 0 1)) ∷
-    Made None ∷
+    Made (Some (entries.Get (Text 1 0) 0 1)) ∷ Made None ∷ Made (Some (entries.Get (Text 2 0) 0 1)) ∷ Made None ∷
     Ends last ∷ []
 
 data_grows : walk images operations (starting images (1 ∷ 2 ∷ []) 64) ≡ seen

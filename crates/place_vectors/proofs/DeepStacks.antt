@@ -11,7 +11,7 @@ use Rattle.flat_state.specs.declared.change.Change.TheVariants.{Resize, Fork, En
 use Rattle.page_model.specs.Pages.{Zeros}
 use Rattle.page_model.specs.Placement.{Placement}
 use Rattle.page_model.specs.Swapper.{Nothing}
-use Rattle.place_vectors.proofs.Walk.{Operation, Fixed, Serve, Choose, Step, Seen, Made, Chose, Ends, named, runner, slot, empty, frames, starting, walk, rows}
+use Rattle.place_vectors.proofs.Walk.{Operation, Fixed, Serve, Choose, Step, Seen, Made, Chose, Ends, named, runner, slot, empty, frames, starting, walk, rows, made, text_of}
 
 images : List NamedImage
 images =
@@ -38,28 +38,14 @@ last : Placement
 last = record {
   spaces = [];
   texts =
-      record {
-        image = 1;
-        text_pages =
-            slot (Invalid 8) false Zeros ∷ slot (Invalid 9) false Zeros ∷
-            replicate 14 (slot Unfilled false Zeros);
-      } ∷
-      record {
-        image = 2;
-        text_pages =
-            slot (Invalid 5) false Zeros ∷ slot (Invalid 6) false Zeros ∷
-            replicate 14 (slot Unfilled false Zeros);
-      } ∷
-      record {
-        image = 3;
-        text_pages = replicate 16 (slot Unfilled false Zeros);
-      } ∷ [];
-  holds =
-      empty 4 ++ Some (Text 2 0) ∷ Some (Text 2 1) ∷ None ∷ Some (Text 1 0) ∷ Some (Text 1 1) ∷
-      empty 55;
+      text_of 1 (slot (Invalid 8) false Zeros ∷ slot (Invalid 9) false Zeros ∷
+      replicate 14 (slot Unfilled false Zeros)) ∷
+      text_of 2 (slot (Invalid 5) false Zeros ∷ slot (Invalid 6) false Zeros ∷
+      replicate 14 (slot Unfilled false Zeros)) ∷
+      text_of 3 (replicate 16 (slot Unfilled false Zeros)) ∷ [];
+  holds = empty 4 ++ Some (Text 2 0) ∷ Some (Text 2 1) ∷ None ∷ Some (Text 1 0) ∷ Some (Text 1 1) ∷ empty 55;
   free =
-      20 ∷ 19 ∷ 18 ∷ 17 ∷ 16 ∷ 15 ∷ 14 ∷ 13 ∷ 12 ∷ 11 ∷ 10 ∷ 1 ∷ 2 ∷ 3 ∷ 4 ∷ 7 ∷ frames 21 44 ++ 6 ∷
-      9 ∷ 8 ∷ 5 ∷ [];
+      20 ∷ 19 ∷ 18 ∷ 17 ∷ 16 ∷ 15 ∷ 14 ∷ 13 ∷ 12 ∷ 11 ∷ 10 ∷ 1 ∷ 2 ∷ 3 ∷ 4 ∷ 7 ∷ frames 21 44 ++ 6 ∷ 9 ∷ 8 ∷ 5 ∷ [];
   transfers = [];
   front = 17;
   back = 1;
@@ -69,21 +55,10 @@ last = record {
 
 seen : List Seen
 seen =
-    Made (Some (entries.Get (Text 2 0) 0 2)) ∷
-    Made None ∷
-    Chose Nothing ∷
-    Made (Some (entries.Get (Data 4 0) 0 1)) ∷
-    Made None ∷
-    Made (Some (entries.Get (Text 1 0) 0 2)) ∷
-    Made None ∷
-    Made (Some entries.Done) ∷
-    Made (Some entries.Done) ∷
-    Made (Some (entries.Zero (Stack 4 1))) ∷
-    Made (Some (entries.Zero (Stack 4 2))) ∷
-    Made (Some (entries.Zero (Stack 4 3))) ∷
-    Made (Some (entries.Zero (Stack 4 4))) ∷
-    Made (Some (entries.Zero (Stack 4 5))) ∷
-    Made (Some (entries.Zero (Stack 4 6))) ∷
+    Made (Some (entries.Get (Text 2 0) 0 2)) ∷ Made None ∷ Chose Nothing ∷
+    Made (Some (entries.Get (Data 4 0) 0 1)) ∷ Made None ∷ Made (Some (entries.Get (Text 1 0) 0 2)) ∷ Made None ∷
+    made (entries.Done ∷ entries.Done ∷
+    rows 1 6 (λ k. entries.Zero (Stack 4 k) ∷ [])) ++
     Ends last ∷ []
 
 deep_stacks : walk images operations (starting images (1 ∷ 1 ∷ 1 ∷ 2 ∷ []) 64) ≡ seen

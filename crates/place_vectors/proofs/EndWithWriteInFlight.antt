@@ -10,7 +10,7 @@ use Rattle.flat_state.specs.Flat.{NamedImage}
 use Rattle.flat_state.specs.declared.change.Change.TheVariants.{End}
 use Rattle.page_model.specs.Pages.{Zeros}
 use Rattle.page_model.specs.Placement.{Placement}
-use Rattle.place_vectors.proofs.Walk.{Operation, Fixed, Serve, Step, Seen, Made, Ends, named, slot, empty, frames, starting, walk, rows}
+use Rattle.place_vectors.proofs.Walk.{Operation, Fixed, Serve, Step, Seen, Made, Ends, named, slot, empty, frames, starting, walk, rows, made, text_of}
 
 images : List NamedImage
 images =
@@ -26,16 +26,12 @@ operations =
 last : Placement
 last = record {
   spaces = [];
-  texts =
-      record {
-        image = 1;
-        text_pages = slot (Invalid 2) false Zeros ∷ [];
-      } ∷ [];
+  texts = text_of 1 (slot (Invalid 2) false Zeros ∷ []) ∷ [];
   holds = None ∷ Some (Text 1 0) ∷ empty 62;
   free =
-      1 ∷ 50 ∷ 49 ∷ 48 ∷ 47 ∷ 46 ∷ 45 ∷ 44 ∷ 43 ∷ 42 ∷ 41 ∷ 40 ∷ 39 ∷ 38 ∷ 37 ∷ 36 ∷ 35 ∷ 34 ∷ 33 ∷
-      32 ∷ 31 ∷ 30 ∷ 29 ∷ 28 ∷ 27 ∷ 26 ∷ 25 ∷ 24 ∷ 23 ∷ 22 ∷ 21 ∷ 20 ∷ 19 ∷ 18 ∷ 17 ∷ 16 ∷ 15 ∷ 14 ∷
-      13 ∷ 12 ∷ 11 ∷ 10 ∷ 9 ∷ 8 ∷ 7 ∷ 6 ∷ 5 ∷ 4 ∷ 3 ∷ frames 51 14 ++ 2 ∷ [];
+      1 ∷ 50 ∷ 49 ∷ 48 ∷ 47 ∷ 46 ∷ 45 ∷ 44 ∷ 43 ∷ 42 ∷ 41 ∷ 40 ∷ 39 ∷ 38 ∷ 37 ∷ 36 ∷ 35 ∷ 34 ∷ 33 ∷ 32 ∷ 31 ∷ 30 ∷
+      29 ∷ 28 ∷ 27 ∷ 26 ∷ 25 ∷ 24 ∷ 23 ∷ 22 ∷ 21 ∷ 20 ∷ 19 ∷ 18 ∷ 17 ∷ 16 ∷ 15 ∷ 14 ∷ 13 ∷ 12 ∷ 11 ∷ 10 ∷ 9 ∷ 8 ∷
+      7 ∷ 6 ∷ 5 ∷ 4 ∷ 3 ∷ frames 51 14 ++ 2 ∷ [];
   transfers = [];
   front = 34;
   back = 18;
@@ -45,56 +41,8 @@ last = record {
 
 seen : List Seen
 seen =
-    Made (Some (entries.Get (Text 1 0) 0 1)) ∷
-    Made None ∷
-    Made (Some (entries.Zero (Data 1 0))) ∷
-    Made (Some (entries.Zero (Data 1 1))) ∷
-    Made (Some (entries.Zero (Data 1 2))) ∷
-    Made (Some (entries.Zero (Data 1 3))) ∷
-    Made (Some (entries.Zero (Data 1 4))) ∷
-    Made (Some (entries.Zero (Data 1 5))) ∷
-    Made (Some (entries.Zero (Data 1 6))) ∷
-    Made (Some (entries.Zero (Data 1 7))) ∷
-    Made (Some (entries.Zero (Data 1 8))) ∷
-    Made (Some (entries.Zero (Data 1 9))) ∷
-    Made (Some (entries.Zero (Data 1 10))) ∷
-    Made (Some (entries.Zero (Data 1 11))) ∷
-    Made (Some (entries.Zero (Data 1 12))) ∷
-    Made (Some (entries.Zero (Data 1 13))) ∷
-    Made (Some (entries.Zero (Data 1 14))) ∷
-    Made (Some (entries.Zero (Data 1 15))) ∷
-    Made (Some (entries.Zero (Data 1 16))) ∷
-    Made (Some (entries.Zero (Data 1 17))) ∷
-    Made (Some (entries.Zero (Data 1 18))) ∷
-    Made (Some (entries.Zero (Data 1 19))) ∷
-    Made (Some (entries.Zero (Data 1 20))) ∷
-    Made (Some (entries.Zero (Data 1 21))) ∷
-    Made (Some (entries.Zero (Data 1 22))) ∷
-    Made (Some (entries.Zero (Data 1 23))) ∷
-    Made (Some (entries.Zero (Data 1 24))) ∷
-    Made (Some (entries.Zero (Data 1 25))) ∷
-    Made (Some (entries.Zero (Data 1 26))) ∷
-    Made (Some (entries.Zero (Data 1 27))) ∷
-    Made (Some (entries.Zero (Data 1 28))) ∷
-    Made (Some (entries.Zero (Data 1 29))) ∷
-    Made (Some (entries.Zero (Data 1 30))) ∷
-    Made (Some (entries.Zero (Data 1 31))) ∷
-    Made (Some (entries.Zero (Data 1 32))) ∷
-    Made (Some (entries.Zero (Data 1 33))) ∷
-    Made (Some (entries.Zero (Data 1 34))) ∷
-    Made (Some (entries.Zero (Data 1 35))) ∷
-    Made (Some (entries.Zero (Data 1 36))) ∷
-    Made (Some (entries.Zero (Data 1 37))) ∷
-    Made (Some (entries.Zero (Data 1 38))) ∷
-    Made (Some (entries.Zero (Data 1 39))) ∷
-    Made (Some (entries.Zero (Data 1 40))) ∷
-    Made (Some (entries.Zero (Data 1 41))) ∷
-    Made (Some (entries.Zero (Data 1 42))) ∷
-    Made (Some (entries.Zero (Data 1 43))) ∷
-    Made (Some (entries.Zero (Data 1 44))) ∷
-    Made (Some (entries.Zero (Data 1 45))) ∷
-    Made (Some (entries.Zero (Data 1 46))) ∷
-    Made (Some (entries.Zero (Data 1 47))) ∷
+    Made (Some (entries.Get (Text 1 0) 0 1)) ∷ Made None ∷
+    made (rows 0 48 (λ k. entries.Zero (Data 1 k) ∷ [])) ++
     Ends last ∷ []
 
 end_with_write_in_flight : walk images operations (starting images (1 ∷ []) 64) ≡ seen

@@ -11,7 +11,7 @@ use Rattle.flat_state.specs.declared.change.Change.TheVariants.{Resize, Fork, Ex
 use Rattle.page_model.specs.Pages.{Zeros, OfImage}
 use Rattle.page_model.specs.Placement.{Placement}
 use Rattle.page_model.specs.Swapper.{Nothing}
-use Rattle.place_vectors.proofs.Walk.{Operation, Fixed, Serve, Choose, Step, Seen, Made, Chose, Ends, named, runner, slot, empty, frames, starting, walk, space}
+use Rattle.place_vectors.proofs.Walk.{Operation, Fixed, Serve, Choose, Step, Seen, Made, Chose, Ends, named, runner, slot, empty, frames, starting, walk, space, made, text_of, residence}
 
 images : List NamedImage
 images =
@@ -45,53 +45,27 @@ last = record {
       slot (Valid 4) true Zeros ∷ replicate 3 (slot Unfilled false Zeros))
       (slot (Valid 8) true Zeros ∷ []) ∷ [];
   texts =
-      record {
-        image = 1;
-        text_pages =
-            slot (Valid 2) false Zeros ∷ slot (Invalid 3) false Zeros ∷
-            replicate 14 (slot Unfilled false Zeros);
-      } ∷
-      record {
-        image = 2;
-        text_pages = replicate 16 (slot Unfilled false Zeros);
-      } ∷ [];
+      text_of 1 (slot (Valid 2) false Zeros ∷ slot (Invalid 3) false Zeros ∷
+      replicate 14 (slot Unfilled false Zeros)) ∷
+      text_of 2 (replicate 16 (slot Unfilled false Zeros)) ∷ [];
   holds =
-      Some (Data 3 3) ∷ Some (Text 1 0) ∷ Some (Text 1 1) ∷ Some (Data 4 3) ∷ Some (Stack 3 0) ∷
-      None ∷ None ∷ Some (Stack 4 0) ∷ empty 56;
+      Some (Data 3 3) ∷ Some (Text 1 0) ∷ Some (Text 1 1) ∷ Some (Data 4 3) ∷ Some (Stack 3 0) ∷ None ∷ None ∷
+      Some (Stack 4 0) ∷ empty 56;
   free = 6 ∷ 7 ∷ frames 9 56 ++ 3 ∷ [];
   transfers = [];
   front = 17;
   back = 1;
-  residents =
-      record { pid = 1; out = false; since = 0 } ∷
-      record { pid = 3; out = false; since = 110 } ∷ [];
+  residents = residence 1 false 0 ∷ residence 3 false 110 ∷ [];
   due = [];
 }
 
 seen : List Seen
 seen =
-    Made (Some (entries.Get (Text 1 0) 0 2)) ∷
-    Made None ∷
-    Chose Nothing ∷
-    Chose Nothing ∷
-    Chose Nothing ∷
-    Chose Nothing ∷
-    Chose Nothing ∷
-    Chose Nothing ∷
-    Chose Nothing ∷
-    Made (Some (entries.Zero (Data 1 3))) ∷
-    Made (Some (entries.Get (Data 1 0) 0 1)) ∷
-    Made None ∷
-    Chose Nothing ∷
-    Made None ∷
-    Chose Nothing ∷
-    Made None ∷
-    Made None ∷
-    Chose Nothing ∷
-    Made (Some (entries.Zero (Data 1 1))) ∷
-    Made (Some (entries.Zero (Stack 1 1))) ∷
-    Made (Some (entries.Zero (Data 1 2))) ∷
-    Made (Some (entries.Zero (Data 3 3))) ∷
+    Made (Some (entries.Get (Text 1 0) 0 2)) ∷ Made None ∷ replicate 7 (Chose Nothing) ++
+    Made (Some (entries.Zero (Data 1 3))) ∷ Made (Some (entries.Get (Data 1 0) 0 1)) ∷ Made None ∷ Chose Nothing ∷
+    Made None ∷ Chose Nothing ∷ Made None ∷ Made None ∷ Chose Nothing ∷
+    made (entries.Zero (Data 1 1) ∷ entries.Zero (Stack 1 1) ∷ entries.Zero (Data 1 2) ∷
+    entries.Zero (Data 3 3) ∷ []) ++
     Ends last ∷ []
 
 execve_of_own_image : walk images operations (starting images (1 ∷ []) 64) ≡ seen

@@ -11,7 +11,7 @@ use Rattle.flat_state.specs.declared.change.Change.TheVariants.{Resize, Fork, Le
 use Rattle.page_model.specs.Pages.{Zeros}
 use Rattle.page_model.specs.Placement.{Placement}
 use Rattle.page_model.specs.Swapper.{Nothing}
-use Rattle.place_vectors.proofs.Walk.{Operation, Fixed, Serve, Choose, Step, Seen, Made, Chose, Ends, named, runner, slot, empty, frames, starting, walk, rows, space}
+use Rattle.place_vectors.proofs.Walk.{Operation, Fixed, Serve, Choose, Step, Seen, Made, Chose, Ends, named, runner, slot, empty, frames, starting, walk, rows, space, made, text_of, residence}
 
 images : List NamedImage
 images =
@@ -106,88 +106,39 @@ last = record {
       space 27 1 (slot (Valid 35) true Zeros ∷ replicate 3 (slot Unfilled false Zeros))
       (slot (Valid 34) true Zeros ∷ replicate 16 (slot Unfilled false Zeros) ++ slot (Valid 45) true Zeros ∷ []) ∷
       space 29 1 (slot (Valid 36) true Zeros ∷ replicate 3 (slot Unfilled false Zeros))
-      (slot (Valid 15) true Zeros ∷ replicate 16 (slot Unfilled false Zeros) ++ slot (Valid 46) true Zeros ∷ []) ∷ [];
+      (slot (Valid 15) true Zeros ∷ replicate 16 (slot Unfilled false Zeros) ++
+      slot (Valid 46) true Zeros ∷ []) ∷ [];
   texts =
-      record {
-        image = 1;
-        text_pages =
-            slot (Valid 5) false Zeros ∷ slot (Invalid 6) false Zeros ∷
-            replicate 14 (slot Unfilled false Zeros);
-      } ∷ [];
+      text_of 1 (slot (Valid 5) false Zeros ∷ slot (Invalid 6) false Zeros ∷
+      replicate 14 (slot Unfilled false Zeros)) ∷ [];
   holds =
-      Some (Stack 1 0) ∷ Some (Stack 2 0) ∷ Some (Stack 3 0) ∷ Some (Stack 4 0) ∷ Some (Text 1 0) ∷
-      Some (Text 1 1) ∷ Some (Stack 8 0) ∷ Some (Stack 13 0) ∷ Some (Stack 17 0) ∷
-      Some (Stack 19 0) ∷ Some (Stack 25 0) ∷ Some (Data 2 0) ∷ Some (Stack 2 17) ∷
-      Some (Stack 11 0) ∷ Some (Stack 29 0) ∷ Some (Data 13 0) ∷ Some (Data 3 0) ∷
-      Some (Stack 3 17) ∷ Some (Stack 15 0) ∷ Some (Data 15 0) ∷ Some (Data 17 0) ∷
-      Some (Data 19 0) ∷ Some (Data 8 0) ∷ Some (Stack 8 17) ∷ Some (Stack 21 0) ∷
-      Some (Data 21 0) ∷ Some (Data 1 0) ∷ Some (Stack 1 17) ∷ Some (Stack 23 0) ∷
-      Some (Data 23 0) ∷ Some (Data 25 0) ∷ Some (Data 4 0) ∷ Some (Stack 4 17) ∷
-      Some (Stack 27 0) ∷ Some (Data 27 0) ∷ Some (Data 29 0) ∷ Some (Data 11 0) ∷
-      Some (Stack 13 17) ∷ Some (Stack 15 17) ∷ Some (Stack 17 17) ∷ Some (Stack 19 17) ∷
-      Some (Stack 21 17) ∷ Some (Stack 23 17) ∷ Some (Stack 25 17) ∷ Some (Stack 27 17) ∷
-      Some (Stack 29 17) ∷ empty 18;
+      rows 1 4 (λ k. Some (Stack k 0) ∷ []) ++ Some (Text 1 0) ∷ Some (Text 1 1) ∷ Some (Stack 8 0) ∷
+      Some (Stack 13 0) ∷ Some (Stack 17 0) ∷ Some (Stack 19 0) ∷ Some (Stack 25 0) ∷ Some (Data 2 0) ∷
+      Some (Stack 2 17) ∷ Some (Stack 11 0) ∷ Some (Stack 29 0) ∷ Some (Data 13 0) ∷ Some (Data 3 0) ∷
+      Some (Stack 3 17) ∷ Some (Stack 15 0) ∷ Some (Data 15 0) ∷ Some (Data 17 0) ∷ Some (Data 19 0) ∷
+      Some (Data 8 0) ∷ Some (Stack 8 17) ∷ Some (Stack 21 0) ∷ Some (Data 21 0) ∷ Some (Data 1 0) ∷
+      Some (Stack 1 17) ∷ Some (Stack 23 0) ∷ Some (Data 23 0) ∷ Some (Data 25 0) ∷ Some (Data 4 0) ∷
+      Some (Stack 4 17) ∷ Some (Stack 27 0) ∷ Some (Data 27 0) ∷ Some (Data 29 0) ∷ Some (Data 11 0) ∷
+      rows 0 9 (λ k. Some (Stack (2 * k + 13) 17) ∷ []) ++ empty 18;
   free = frames 47 18 ++ 6 ∷ [];
   transfers = [];
   front = 17;
   back = 1;
   residents =
-      record { pid = 1; out = false; since = 0 } ∷
-      record { pid = 2; out = false; since = 0 } ∷
-      record { pid = 3; out = false; since = 0 } ∷
-      record { pid = 4; out = false; since = 0 } ∷
-      record { pid = 5; out = false; since = 14 } ∷
-      record { pid = 6; out = false; since = 17 } ∷
-      record { pid = 7; out = false; since = 20 } ∷
-      record { pid = 8; out = false; since = 23 } ∷
-      record { pid = 9; out = false; since = 30 } ∷
-      record { pid = 10; out = false; since = 38 } ∷
-      record { pid = 11; out = false; since = 41 } ∷
-      record { pid = 12; out = false; since = 46 } ∷
-      record { pid = 13; out = false; since = 54 } ∷
-      record { pid = 14; out = false; since = 57 } ∷
-      record { pid = 15; out = false; since = 68 } ∷ [];
+      residence 1 false 0 ∷ residence 2 false 0 ∷ residence 3 false 0 ∷ residence 4 false 0 ∷ residence 5 false 14 ∷
+      residence 6 false 17 ∷ residence 7 false 20 ∷ residence 8 false 23 ∷ residence 9 false 30 ∷
+      residence 10 false 38 ∷ residence 11 false 41 ∷ residence 12 false 46 ∷ residence 13 false 54 ∷
+      residence 14 false 57 ∷ residence 15 false 68 ∷ [];
   due = [];
 }
 
 seen : List Seen
 seen =
-    Made (Some (entries.Get (Text 1 0) 0 2)) ∷
-    Made None ∷
-    Made None ∷
-    Chose Nothing ∷
-    Chose Nothing ∷
-    Chose Nothing ∷
-    Chose Nothing ∷
-    Made (Some (entries.Zero (Data 2 0))) ∷
-    Made (Some (entries.Zero (Stack 2 17))) ∷
-    Made (Some (entries.Zero (Data 3 0))) ∷
-    Made (Some (entries.Zero (Stack 3 17))) ∷
-    Made (Some (entries.Zero (Data 8 0))) ∷
-    Made (Some (entries.Zero (Stack 8 17))) ∷
-    Made (Some (entries.Zero (Data 1 0))) ∷
-    Made (Some (entries.Zero (Stack 1 17))) ∷
-    Made (Some (entries.Zero (Data 4 0))) ∷
-    Made (Some (entries.Zero (Stack 4 17))) ∷
-    Made (Some (entries.Zero (Data 11 0))) ∷
-    Made (Some (entries.Zero (Data 13 0))) ∷
-    Made (Some (entries.Zero (Stack 13 17))) ∷
-    Made (Some (entries.Zero (Data 15 0))) ∷
-    Made (Some (entries.Zero (Stack 15 17))) ∷
-    Made (Some (entries.Zero (Data 17 0))) ∷
-    Made (Some (entries.Zero (Stack 17 17))) ∷
-    Made (Some (entries.Zero (Data 19 0))) ∷
-    Made (Some (entries.Zero (Stack 19 17))) ∷
-    Made (Some (entries.Zero (Data 21 0))) ∷
-    Made (Some (entries.Zero (Stack 21 17))) ∷
-    Made (Some (entries.Zero (Data 23 0))) ∷
-    Made (Some (entries.Zero (Stack 23 17))) ∷
-    Made (Some (entries.Zero (Data 25 0))) ∷
-    Made (Some (entries.Zero (Stack 25 17))) ∷
-    Made (Some (entries.Zero (Data 27 0))) ∷
-    Made (Some (entries.Zero (Stack 27 17))) ∷
-    Made (Some (entries.Zero (Data 29 0))) ∷
-    Made (Some (entries.Zero (Stack 29 17))) ∷
+    Made (Some (entries.Get (Text 1 0) 0 2)) ∷ Made None ∷ Made None ∷ replicate 4 (Chose Nothing) ++
+    made (entries.Zero (Data 2 0) ∷ entries.Zero (Stack 2 17) ∷ entries.Zero (Data 3 0) ∷
+    entries.Zero (Stack 3 17) ∷ entries.Zero (Data 8 0) ∷ entries.Zero (Stack 8 17) ∷ entries.Zero (Data 1 0) ∷
+    entries.Zero (Stack 1 17) ∷ entries.Zero (Data 4 0) ∷ entries.Zero (Stack 4 17) ∷ entries.Zero (Data 11 0) ∷
+    rows 0 9 (λ k. entries.Zero (Data (2 * k + 13) 0) ∷ entries.Zero (Stack (2 * k + 13) 17) ∷ [])) ++
     Ends last ∷ []
 
 forks_of_four : walk images operations (starting images (1 ∷ 1 ∷ 1 ∷ 1 ∷ []) 64) ≡ seen

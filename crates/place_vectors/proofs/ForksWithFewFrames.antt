@@ -11,7 +11,7 @@ use Rattle.flat_state.specs.declared.change.Change.TheVariants.{Fork, Lend, End}
 use Rattle.page_model.specs.Pages.{Zeros}
 use Rattle.page_model.specs.Placement.{Placement}
 use Rattle.page_model.specs.Swapper.{Nothing}
-use Rattle.place_vectors.proofs.Walk.{Operation, Fixed, Serve, Choose, Step, Seen, Made, Chose, Ends, named, runner, slot, empty, starting, walk, rows, space}
+use Rattle.place_vectors.proofs.Walk.{Operation, Fixed, Serve, Choose, Step, Seen, Made, Chose, Ends, named, runner, slot, empty, starting, walk, rows, space, made, text_of, residence}
 
 images : List NamedImage
 images =
@@ -70,13 +70,8 @@ operations =
 last : Placement
 last = record {
   spaces =
-      space 3 1 (replicate 7 (slot OnSwap false Zeros) ++ slot (Invalid 62) false Zeros ∷
-      slot (Invalid 63) false Zeros ∷ slot (Invalid 64) false Zeros ∷ slot (Invalid 65) false Zeros ∷
-      slot (Invalid 4) false Zeros ∷ slot (Valid 17) true Zeros ∷ slot (Valid 18) true Zeros ∷
-      slot (Valid 19) true Zeros ∷ slot (Valid 20) true Zeros ∷ slot (Valid 21) true Zeros ∷
-      slot (Valid 22) true Zeros ∷ slot (Valid 23) true Zeros ∷ slot (Valid 24) true Zeros ∷
-      slot (Valid 25) true Zeros ∷ slot (Valid 26) true Zeros ∷ slot (Valid 27) true Zeros ∷
-      slot (Valid 28) true Zeros ∷ slot (Valid 29) true Zeros ∷ slot (Valid 2) true Zeros ∷
+      space 3 1 (replicate 7 (slot OnSwap false Zeros) ++ rows 62 4 (λ k. slot (Invalid k) false Zeros ∷ []) ++
+      slot (Invalid 4) false Zeros ∷ rows 17 13 (λ k. slot (Valid k) true Zeros ∷ []) ++ slot (Valid 2) true Zeros ∷
       slot (Valid 57) true Zeros ∷ slot (Valid 56) true Zeros ∷ slot Unfilled false Zeros ∷
       slot Unfilled false Zeros ∷ [])
       (slot (Valid 30) true Zeros ∷ []) ∷
@@ -86,133 +81,42 @@ last = record {
       slot (Valid 36) true Zeros ∷ slot (Valid 34) true Zeros ∷ slot (Valid 32) true Zeros ∷
       slot OnSwap false Zeros ∷ slot (Valid 51) true Zeros ∷ slot (Valid 47) true Zeros ∷
       slot (Valid 45) true Zeros ∷ slot (Valid 52) true Zeros ∷ slot (Valid 54) true Zeros ∷
-      slot (Valid 58) true Zeros ∷ slot (Valid 59) true Zeros ∷ slot (Valid 60) true Zeros ∷
-      replicate 5 (slot Unfilled false Zeros))
+      rows 58 3 (λ k. slot (Valid k) true Zeros ∷ []) ++ replicate 5 (slot Unfilled false Zeros))
       (slot (Valid 61) true Zeros ∷ []) ∷ [];
-  texts =
-      record {
-        image = 1;
-        text_pages = slot (Valid 3) false Zeros ∷ replicate 15 (slot Unfilled false Zeros);
-      } ∷ [];
+  texts = text_of 1 (slot (Valid 3) false Zeros ∷ replicate 15 (slot Unfilled false Zeros)) ∷ [];
   holds =
-      None ∷ Some (Data 3 25) ∷ Some (Text 1 0) ∷ Some (Data 3 11) ∷ empty 12 ++ Some (Data 3 12) ∷
-      Some (Data 3 13) ∷ Some (Data 3 14) ∷ Some (Data 3 15) ∷ Some (Data 3 16) ∷ Some (Data 3 17) ∷
-      Some (Data 3 18) ∷ Some (Data 3 19) ∷ Some (Data 3 20) ∷ Some (Data 3 21) ∷ Some (Data 3 22) ∷
-      Some (Data 3 23) ∷ Some (Data 3 24) ∷ Some (Stack 3 0) ∷ None ∷ Some (Data 4 15) ∷ None ∷
-      Some (Data 4 14) ∷ None ∷ Some (Data 4 13) ∷ Some (Data 4 12) ∷ Some (Data 4 11) ∷
-      Some (Data 4 10) ∷ Some (Data 4 9) ∷ Some (Data 4 8) ∷ Some (Data 4 7) ∷ Some (Data 4 6) ∷
-      Some (Data 4 5) ∷ Some (Data 4 19) ∷ None ∷ Some (Data 4 18) ∷ None ∷ None ∷ None ∷
-      Some (Data 4 17) ∷ Some (Data 4 20) ∷ None ∷ Some (Data 4 21) ∷ None ∷ Some (Data 3 27) ∷
-      Some (Data 3 26) ∷ Some (Data 4 22) ∷ Some (Data 4 23) ∷ Some (Data 4 24) ∷ Some (Stack 4 0) ∷
-      Some (Data 3 7) ∷ Some (Data 3 8) ∷ Some (Data 3 9) ∷ Some (Data 3 10) ∷ [];
+      None ∷ Some (Data 3 25) ∷ Some (Text 1 0) ∷ Some (Data 3 11) ∷ empty 12 ++
+      rows 12 13 (λ k. Some (Data 3 k) ∷ []) ++ Some (Stack 3 0) ∷ None ∷ Some (Data 4 15) ∷ None ∷
+      Some (Data 4 14) ∷ None ∷ Some (Data 4 13) ∷ Some (Data 4 12) ∷ Some (Data 4 11) ∷ Some (Data 4 10) ∷
+      Some (Data 4 9) ∷ Some (Data 4 8) ∷ Some (Data 4 7) ∷ Some (Data 4 6) ∷ Some (Data 4 5) ∷ Some (Data 4 19) ∷
+      None ∷ Some (Data 4 18) ∷ replicate 3 None ++ Some (Data 4 17) ∷ Some (Data 4 20) ∷ None ∷ Some (Data 4 21) ∷
+      None ∷ Some (Data 3 27) ∷ Some (Data 3 26) ∷ rows 22 3 (λ k. Some (Data 4 k) ∷ []) ++ Some (Stack 4 0) ∷
+      rows 7 4 (λ k. Some (Data 3 k) ∷ []);
   free =
-      55 ∷ 53 ∷ 50 ∷ 46 ∷ 48 ∷ 49 ∷ 31 ∷ 33 ∷ 35 ∷ 16 ∷ 15 ∷ 14 ∷ 13 ∷ 12 ∷ 11 ∷ 10 ∷ 9 ∷ 8 ∷ 7 ∷
-      6 ∷ 5 ∷ 1 ∷ 62 ∷ 63 ∷ 64 ∷ 65 ∷ 4 ∷ [];
+      55 ∷ 53 ∷ 50 ∷ 46 ∷ 48 ∷ 49 ∷ 31 ∷ 33 ∷ 35 ∷ 16 ∷ 15 ∷ 14 ∷ 13 ∷ 12 ∷ 11 ∷ 10 ∷ 9 ∷ 8 ∷ 7 ∷ 6 ∷ 5 ∷ 1 ∷ 62 ∷
+      63 ∷ 64 ∷ 65 ∷ 4 ∷ [];
   transfers = [];
   front = 7;
   back = 56;
-  residents =
-      record { pid = 5; out = false; since = 145 } ∷
-      record { pid = 6; out = false; since = 186 } ∷ [];
+  residents = residence 5 false 145 ∷ residence 6 false 186 ∷ [];
   due = [];
 }
 
 seen : List Seen
 seen =
-    Made (Some (entries.Get (Text 1 0) 0 2)) ∷
-    Made None ∷
-    Chose Nothing ∷
-    Chose Nothing ∷
-    Chose Nothing ∷
-    Made (Some (entries.Zero (Data 2 2))) ∷
-    Made (Some (entries.Zero (Data 2 3))) ∷
-    Made (Some (entries.Zero (Data 2 4))) ∷
-    Made (Some (entries.Zero (Data 2 5))) ∷
-    Made (Some (entries.Zero (Data 2 6))) ∷
-    Made (Some (entries.Zero (Data 2 7))) ∷
-    Made (Some (entries.Zero (Data 2 8))) ∷
-    Made (Some (entries.Zero (Data 2 9))) ∷
-    Made (Some (entries.Zero (Data 2 10))) ∷
-    Made (Some (entries.Zero (Data 2 11))) ∷
-    Made (Some (entries.Zero (Data 2 12))) ∷
-    Made (Some (entries.Zero (Data 2 13))) ∷
-    Made (Some (entries.Zero (Data 2 14))) ∷
-    Made (Some (entries.Zero (Data 2 15))) ∷
-    Made (Some (entries.Zero (Data 2 16))) ∷
-    Made (Some (entries.Zero (Data 2 17))) ∷
-    Made (Some (entries.Zero (Data 2 18))) ∷
-    Made (Some (entries.Zero (Data 2 19))) ∷
-    Made (Some (entries.Zero (Data 2 20))) ∷
-    Made (Some (entries.Zero (Data 2 21))) ∷
-    Made (Some (entries.Zero (Data 2 22))) ∷
-    Made (Some (entries.Zero (Data 2 0))) ∷
-    Made (Some (entries.Zero (Data 2 1))) ∷
-    Made (Some (entries.Zero (Data 1 2))) ∷
-    Made (Some (entries.Zero (Data 1 3))) ∷
-    Made (Some (entries.Zero (Data 1 4))) ∷
-    Made (Some (entries.Zero (Data 1 5))) ∷
-    Made (Some (entries.Zero (Data 1 6))) ∷
-    Made (Some (entries.Zero (Data 1 7))) ∷
-    Made (Some (entries.Zero (Data 1 8))) ∷
-    Made (Some (entries.Zero (Data 1 9))) ∷
-    Made (Some (entries.Zero (Data 1 10))) ∷
-    Made (Some (entries.Zero (Data 1 11))) ∷
-    Made (Some (entries.Zero (Data 1 12))) ∷
-    Made (Some (entries.Zero (Data 1 13))) ∷
-    Made (Some (entries.Zero (Data 1 14))) ∷
-    Made (Some (entries.Zero (Data 1 15))) ∷
-    Made (Some (entries.Zero (Data 1 16))) ∷
-    Made (Some (entries.Zero (Data 1 17))) ∷
-    Made (Some (entries.Zero (Data 1 18))) ∷
-    Made (Some (entries.Zero (Data 1 19))) ∷
-    Made (Some (entries.Zero (Data 1 20))) ∷
-    Made (Some (entries.Zero (Data 1 21))) ∷
-    Made (Some (entries.Zero (Data 1 22))) ∷
-    Made (Some (entries.Zero (Data 1 0))) ∷
-    Made (Some (entries.Zero (Data 1 1))) ∷
-    Made (Some (entries.Zero (Data 1 23))) ∷
-    Made (Some (entries.Zero (Data 1 24))) ∷
-    Made (Some (entries.Zero (Data 2 23))) ∷
-    Made (Some (entries.Zero (Data 2 24))) ∷
-    Made (Some (entries.Get (Data 2 0) 0 2)) ∷
-    Made (Some entries.Done) ∷
-    Made (Some (entries.Reclaim (Data 2 1))) ∷
-    Made (Some (entries.Get (Data 2 14) 14 1)) ∷
-    Made (Some entries.Done) ∷
-    Made (Some (entries.Get (Data 2 15) 15 1)) ∷
-    Made (Some entries.Done) ∷
-    Made (Some (entries.Get (Data 2 16) 16 1)) ∷
-    Made (Some entries.Done) ∷
-    Made (Some (entries.Get (Data 2 17) 17 1)) ∷
-    Made (Some entries.Done) ∷
-    Made (Some (entries.Get (Data 2 18) 18 1)) ∷
-    Made (Some entries.Done) ∷
-    Made (Some (entries.Get (Data 2 19) 19 1)) ∷
-    Made (Some entries.Done) ∷
-    Made (Some (entries.Hands 1)) ∷
-    Made (Some (entries.Hands 1)) ∷
-    Made (Some (entries.Hands 1)) ∷
-    Made (Some (entries.Hands 1)) ∷
-    Made (Some (entries.Hands 1)) ∷
-    Made (Some entries.Done) ∷
-    Made (Some (entries.Get (Data 2 20) 20 1)) ∷
-    Made (Some entries.Done) ∷
-    Made (Some (entries.Hands 1)) ∷
-    Made (Some entries.Done) ∷
-    Made (Some (entries.Get (Data 2 21) 21 1)) ∷
-    Made (Some entries.Done) ∷
-    Made (Some (entries.Hands 1)) ∷
-    Made (Some (entries.Hands 1)) ∷
-    Made (Some entries.Done) ∷
-    Made (Some (entries.Get (Data 2 22) 22 3)) ∷
-    Made (Some entries.Done) ∷
-    Made (Some (entries.Reclaim (Data 2 23))) ∷
-    Made (Some (entries.Reclaim (Data 2 24))) ∷
-    Made (Some (entries.Reclaim (Stack 2 0))) ∷
-    Made (Some (entries.Reclaim (Text 1 0))) ∷
-    Made (Some (entries.Zero (Data 3 25))) ∷
-    Made (Some (entries.Zero (Data 3 26))) ∷
-    Made (Some (entries.Zero (Data 3 27))) ∷
+    Made (Some (entries.Get (Text 1 0) 0 2)) ∷ Made None ∷ replicate 3 (Chose Nothing) ++
+    made (rows 2 21 (λ k. entries.Zero (Data 2 k) ∷ []) ++
+    entries.Zero (Data 2 0) ∷ entries.Zero (Data 2 1) ∷
+    rows 2 21 (λ k. entries.Zero (Data 1 k) ∷ []) ++
+    entries.Zero (Data 1 0) ∷ entries.Zero (Data 1 1) ∷ entries.Zero (Data 1 23) ∷ entries.Zero (Data 1 24) ∷
+    entries.Zero (Data 2 23) ∷ entries.Zero (Data 2 24) ∷ entries.Get (Data 2 0) 0 2 ∷ entries.Done ∷
+    entries.Reclaim (Data 2 1) ∷
+    rows 14 6 (λ k. entries.Get (Data 2 k) k 1 ∷ entries.Done ∷ []) ++
+    replicate 5 (entries.Hands 1) ++ entries.Done ∷ entries.Get (Data 2 20) 20 1 ∷ entries.Done ∷ entries.Hands 1 ∷
+    entries.Done ∷ entries.Get (Data 2 21) 21 1 ∷ entries.Done ∷ entries.Hands 1 ∷ entries.Hands 1 ∷ entries.Done ∷
+    entries.Get (Data 2 22) 22 3 ∷ entries.Done ∷ entries.Reclaim (Data 2 23) ∷ entries.Reclaim (Data 2 24) ∷
+    entries.Reclaim (Stack 2 0) ∷ entries.Reclaim (Text 1 0) ∷
+    rows 25 3 (λ k. entries.Zero (Data 3 k) ∷ [])) ++
     Ends last ∷ []
 
 forks_with_few_frames : walk images operations (starting images (1 ∷ 1 ∷ []) 65) ≡ seen

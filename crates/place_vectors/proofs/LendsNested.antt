@@ -9,7 +9,7 @@ use Rattle.flat_state.specs.Flat.{NamedImage}
 use Rattle.flat_state.specs.declared.change.Change.TheVariants.{Lend, End}
 use Rattle.page_model.specs.Pages.{Zeros}
 use Rattle.page_model.specs.Placement.{Placement}
-use Rattle.place_vectors.proofs.Walk.{Operation, Fixed, Serve, Step, Seen, Made, Ends, named, slot, empty, frames, starting, walk}
+use Rattle.place_vectors.proofs.Walk.{Operation, Fixed, Serve, Step, Seen, Made, Ends, named, slot, empty, frames, starting, walk, text_of}
 
 images : List NamedImage
 images =
@@ -24,11 +24,7 @@ operations =
 last : Placement
 last = record {
   spaces = [];
-  texts =
-      record {
-        image = 1;
-        text_pages = slot (Invalid 2) false Zeros ∷ [];
-      } ∷ [];
+  texts = text_of 1 (slot (Invalid 2) false Zeros ∷ []) ∷ [];
   holds = None ∷ Some (Text 1 0) ∷ empty 62;
   free = 1 ∷ frames 3 62 ++ 2 ∷ [];
   transfers = [];
@@ -40,9 +36,7 @@ last = record {
 
 seen : List Seen
 seen =
-    Made (Some (entries.Get (Text 1 0) 0 1)) ∷
-    Made (Some entries.Done) ∷
-    Made (Some (entries.Zero (Data 1 0))) ∷
+    Made (Some (entries.Get (Text 1 0) 0 1)) ∷ Made (Some entries.Done) ∷ Made (Some (entries.Zero (Data 1 0))) ∷
     Ends last ∷ []
 
 lends_nested : walk images operations (starting images (1 ∷ []) 64) ≡ seen

@@ -10,7 +10,7 @@ use Rattle.flat_state.specs.Flat.{NamedImage}
 use Rattle.page_model.specs.Pages.{Zeros}
 use Rattle.page_model.specs.Placement.{Placement}
 use Rattle.page_model.specs.Swapper.{Out}
-use Rattle.place_vectors.proofs.Walk.{Operation, Fixed, Serve, PutsOut, Choose, Seen, Made, Chose, Ends, named, runner, slot, empty, frames, starting, walk, rows, space}
+use Rattle.place_vectors.proofs.Walk.{Operation, Fixed, Serve, PutsOut, Choose, Seen, Made, Chose, Ends, named, runner, slot, empty, frames, starting, walk, rows, space, made, text_of, residence}
 
 images : List NamedImage
 images =
@@ -28,127 +28,27 @@ operations =
 last : Placement
 last = record {
   spaces =
-      space 1 1 (slot (Invalid 3) false Zeros ∷ slot (Invalid 4) false Zeros ∷ slot (Invalid 5) false Zeros ∷
-      slot (Invalid 6) false Zeros ∷ slot (Invalid 7) false Zeros ∷ slot (Invalid 8) false Zeros ∷
-      slot (Invalid 9) false Zeros ∷ slot (Invalid 10) false Zeros ∷ slot (Invalid 11) false Zeros ∷
-      slot (Invalid 12) false Zeros ∷ slot (Invalid 13) false Zeros ∷ slot (Invalid 14) false Zeros ∷
-      slot (Invalid 15) false Zeros ∷ slot (Invalid 16) false Zeros ∷ slot (Invalid 17) false Zeros ∷
-      slot (Invalid 18) false Zeros ∷ slot (Invalid 19) false Zeros ∷ slot (Invalid 20) false Zeros ∷
-      slot (Invalid 21) false Zeros ∷ slot (Invalid 22) false Zeros ∷ slot (Invalid 23) false Zeros ∷
-      slot (Invalid 24) false Zeros ∷ slot (Invalid 25) false Zeros ∷ slot (Invalid 26) false Zeros ∷
-      slot (Invalid 27) false Zeros ∷ slot (Invalid 28) false Zeros ∷ slot (Invalid 29) false Zeros ∷
-      slot (Invalid 30) false Zeros ∷ slot (Invalid 31) false Zeros ∷ slot (Invalid 32) false Zeros ∷
-      slot (Invalid 33) false Zeros ∷ slot (Invalid 34) false Zeros ∷ slot (Invalid 35) false Zeros ∷
-      slot (Invalid 36) false Zeros ∷ slot (Invalid 37) false Zeros ∷ slot (Invalid 38) false Zeros ∷
-      slot (Invalid 39) false Zeros ∷ slot (Invalid 40) false Zeros ∷ slot (Invalid 41) false Zeros ∷
-      slot (Invalid 42) false Zeros ∷ slot (Invalid 43) false Zeros ∷ slot (Invalid 44) false Zeros ∷
-      slot (Invalid 45) false Zeros ∷ slot (Invalid 46) false Zeros ∷ slot (Invalid 47) false Zeros ∷
-      slot (Invalid 48) false Zeros ∷ slot (Invalid 49) false Zeros ∷ slot (Invalid 50) false Zeros ∷
-      slot (Invalid 51) false Zeros ∷ slot (Invalid 52) false Zeros ∷ slot (Invalid 53) false Zeros ∷
-      slot (Invalid 54) false Zeros ∷ slot (Invalid 55) false Zeros ∷ slot (Invalid 56) false Zeros ∷
-      slot (Invalid 57) false Zeros ∷ slot (Invalid 58) false Zeros ∷ slot (Valid 59) true Zeros ∷
+      space 1 1 (rows 3 56 (λ k. slot (Invalid k) false Zeros ∷ []) ++ slot (Valid 59) true Zeros ∷
       replicate 143 (slot Unfilled false Zeros))
       (slot (Invalid 1) false Zeros ∷ []) ∷ [];
-  texts =
-      record {
-        image = 1;
-        text_pages = slot (Valid 2) false Zeros ∷ [];
-      } ∷ [];
-  holds =
-      Some (Stack 1 0) ∷ Some (Text 1 0) ∷ Some (Data 1 0) ∷ Some (Data 1 1) ∷ Some (Data 1 2) ∷
-      Some (Data 1 3) ∷ Some (Data 1 4) ∷ Some (Data 1 5) ∷ Some (Data 1 6) ∷ Some (Data 1 7) ∷
-      Some (Data 1 8) ∷ Some (Data 1 9) ∷ Some (Data 1 10) ∷ Some (Data 1 11) ∷ Some (Data 1 12) ∷
-      Some (Data 1 13) ∷ Some (Data 1 14) ∷ Some (Data 1 15) ∷ Some (Data 1 16) ∷ Some (Data 1 17) ∷
-      Some (Data 1 18) ∷ Some (Data 1 19) ∷ Some (Data 1 20) ∷ Some (Data 1 21) ∷ Some (Data 1 22) ∷
-      Some (Data 1 23) ∷ Some (Data 1 24) ∷ Some (Data 1 25) ∷ Some (Data 1 26) ∷ Some (Data 1 27) ∷
-      Some (Data 1 28) ∷ Some (Data 1 29) ∷ Some (Data 1 30) ∷ Some (Data 1 31) ∷ Some (Data 1 32) ∷
-      Some (Data 1 33) ∷ Some (Data 1 34) ∷ Some (Data 1 35) ∷ Some (Data 1 36) ∷ Some (Data 1 37) ∷
-      Some (Data 1 38) ∷ Some (Data 1 39) ∷ Some (Data 1 40) ∷ Some (Data 1 41) ∷ Some (Data 1 42) ∷
-      Some (Data 1 43) ∷ Some (Data 1 44) ∷ Some (Data 1 45) ∷ Some (Data 1 46) ∷ Some (Data 1 47) ∷
-      Some (Data 1 48) ∷ Some (Data 1 49) ∷ Some (Data 1 50) ∷ Some (Data 1 51) ∷ Some (Data 1 52) ∷
-      Some (Data 1 53) ∷ Some (Data 1 54) ∷ Some (Data 1 55) ∷ Some (Data 1 56) ∷ empty 5;
+  texts = text_of 1 (slot (Valid 2) false Zeros ∷ []) ∷ [];
+  holds = Some (Stack 1 0) ∷ Some (Text 1 0) ∷ rows 0 57 (λ k. Some (Data 1 k) ∷ []) ++ empty 5;
   free = frames 60 5 ++ frames 3 56 ++ 1 ∷ [];
   transfers = [];
   front = 17;
   back = 1;
-  residents =
-      record { pid = 1; out = false; since = 135 } ∷ [];
+  residents = residence 1 false 135 ∷ [];
   due = [];
 }
 
 seen : List Seen
 seen =
-    Made (Some (entries.Get (Text 1 0) 0 1)) ∷
-    Made None ∷
-    Made (Some (entries.Zero (Data 1 0))) ∷
-    Made (Some (entries.Zero (Data 1 1))) ∷
-    Made (Some (entries.Zero (Data 1 2))) ∷
-    Made (Some (entries.Zero (Data 1 3))) ∷
-    Made (Some (entries.Zero (Data 1 4))) ∷
-    Made (Some (entries.Zero (Data 1 5))) ∷
-    Made (Some (entries.Zero (Data 1 6))) ∷
-    Made (Some (entries.Zero (Data 1 7))) ∷
-    Made (Some (entries.Zero (Data 1 8))) ∷
-    Made (Some (entries.Zero (Data 1 9))) ∷
-    Made (Some (entries.Zero (Data 1 10))) ∷
-    Made (Some (entries.Zero (Data 1 11))) ∷
-    Made (Some (entries.Zero (Data 1 12))) ∷
-    Made (Some (entries.Zero (Data 1 13))) ∷
-    Made (Some (entries.Zero (Data 1 14))) ∷
-    Made (Some (entries.Zero (Data 1 15))) ∷
-    Made (Some (entries.Zero (Data 1 16))) ∷
-    Made (Some (entries.Zero (Data 1 17))) ∷
-    Made (Some (entries.Zero (Data 1 18))) ∷
-    Made (Some (entries.Zero (Data 1 19))) ∷
-    Made (Some (entries.Zero (Data 1 20))) ∷
-    Made (Some (entries.Zero (Data 1 21))) ∷
-    Made (Some (entries.Zero (Data 1 22))) ∷
-    Made (Some (entries.Zero (Data 1 23))) ∷
-    Made (Some (entries.Zero (Data 1 24))) ∷
-    Made (Some (entries.Zero (Data 1 25))) ∷
-    Made (Some (entries.Zero (Data 1 26))) ∷
-    Made (Some (entries.Zero (Data 1 27))) ∷
-    Made (Some (entries.Zero (Data 1 28))) ∷
-    Made (Some (entries.Zero (Data 1 29))) ∷
-    Made (Some (entries.Zero (Data 1 30))) ∷
-    Made (Some (entries.Zero (Data 1 31))) ∷
-    Made (Some (entries.Zero (Data 1 32))) ∷
-    Made (Some (entries.Zero (Data 1 33))) ∷
-    Made (Some (entries.Zero (Data 1 34))) ∷
-    Made (Some (entries.Zero (Data 1 35))) ∷
-    Made (Some (entries.Zero (Data 1 36))) ∷
-    Made (Some (entries.Zero (Data 1 37))) ∷
-    Made (Some (entries.Zero (Data 1 38))) ∷
-    Made (Some (entries.Zero (Data 1 39))) ∷
-    Made (Some (entries.Zero (Data 1 40))) ∷
-    Made (Some (entries.Zero (Data 1 41))) ∷
-    Made (Some (entries.Zero (Data 1 42))) ∷
-    Made (Some (entries.Zero (Data 1 43))) ∷
-    Made (Some (entries.Zero (Data 1 44))) ∷
-    Made (Some (entries.Zero (Data 1 45))) ∷
-    Made (Some (entries.Zero (Data 1 46))) ∷
-    Made (Some (entries.Zero (Data 1 47))) ∷
-    Made (Some (entries.Zero (Data 1 48))) ∷
-    Made (Some (entries.Zero (Data 1 49))) ∷
-    Made (Some (entries.Zero (Data 1 50))) ∷
-    Made (Some (entries.Zero (Data 1 51))) ∷
-    Made (Some (entries.Zero (Data 1 52))) ∷
-    Made (Some (entries.Zero (Data 1 53))) ∷
-    Made (Some (entries.Zero (Data 1 54))) ∷
-    Made (Some (entries.Zero (Data 1 55))) ∷
+    Made (Some (entries.Get (Text 1 0) 0 1)) ∷ Made None ∷
+    made (rows 0 56 (λ k. entries.Zero (Data 1 k) ∷ [])) ++
     Chose (Out 1) ∷
-    Made (Some (entries.Put (Data 1 0) 16)) ∷
-    Made (Some entries.Done) ∷
-    Made (Some (entries.Put (Data 1 16) 16)) ∷
-    Made (Some entries.Done) ∷
-    Made (Some (entries.Put (Data 1 32) 16)) ∷
-    Made (Some entries.Done) ∷
-    Made (Some (entries.Put (Data 1 48) 8)) ∷
-    Made (Some entries.Done) ∷
-    Made (Some (entries.Put (Stack 1 0) 1)) ∷
-    Made (Some entries.Done) ∷
-    Made (Some (entries.SwapOut 1)) ∷
-    Made (Some (entries.Zero (Data 1 56))) ∷
+    made (rows 0 3 (λ k. entries.Put (Data 1 (16 * k)) 16 ∷ entries.Done ∷ []) ++
+    entries.Put (Data 1 48) 8 ∷ entries.Done ∷ entries.Put (Stack 1 0) 1 ∷ entries.Done ∷ entries.SwapOut 1 ∷
+    entries.Zero (Data 1 56) ∷ []) ++
     Ends last ∷ []
 
 put_out_and_in : walk images operations (starting images (1 ∷ []) 64) ≡ seen

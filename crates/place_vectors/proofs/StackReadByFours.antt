@@ -10,7 +10,7 @@ use Rattle.flat_state.specs.Flat.{NamedImage}
 use Rattle.flat_state.specs.declared.change.Change.TheVariants.{Keep, Resize, Fork, End}
 use Rattle.page_model.specs.Pages.{Zeros}
 use Rattle.page_model.specs.Placement.{Placement}
-use Rattle.place_vectors.proofs.Walk.{Operation, Fixed, Serve, Step, Seen, Made, Ends, named, slot, starting, walk, rows, space}
+use Rattle.place_vectors.proofs.Walk.{Operation, Fixed, Serve, Step, Seen, Made, Ends, named, slot, starting, walk, rows, space, made, text_of, residence}
 
 images : List NamedImage
 images =
@@ -357,559 +357,112 @@ last = record {
       slot (Valid 6) true Zeros ∷ slot (Valid 9) true Zeros ∷ slot (Valid 10) true Zeros ∷
       slot (Valid 5) true Zeros ∷ slot (Valid 12) true Zeros ∷ slot (Valid 14) true Zeros ∷
       slot (Valid 17) true Zeros ∷ slot (Valid 19) true Zeros ∷ []) ∷ [];
-  texts =
-      record {
-        image = 1;
-        text_pages = slot (Valid 20) true Zeros ∷ replicate 15 (slot Unfilled false Zeros);
-      } ∷ [];
+  texts = text_of 1 (slot (Valid 20) true Zeros ∷ replicate 15 (slot Unfilled false Zeros)) ∷ [];
   holds =
-      Some (Stack 10 18) ∷ Some (Stack 10 19) ∷ Some (Stack 3 20) ∷ Some (Stack 3 27) ∷
-      Some (Stack 10 27) ∷ Some (Stack 10 24) ∷ Some (Stack 3 28) ∷ Some (Stack 3 26) ∷
-      Some (Stack 10 25) ∷ Some (Stack 10 26) ∷ Some (Stack 3 25) ∷ Some (Stack 10 28) ∷
-      Some (Stack 3 29) ∷ Some (Stack 10 29) ∷ Some (Stack 3 24) ∷ Some (Stack 3 30) ∷
-      Some (Stack 10 30) ∷ Some (Stack 3 31) ∷ Some (Stack 10 31) ∷ Some (Text 1 0) ∷
-      Some (Stack 10 2) ∷ Some (Stack 10 0) ∷ Some (Stack 3 3) ∷ Some (Data 10 1) ∷
-      Some (Stack 10 3) ∷ Some (Stack 10 1) ∷ Some (Stack 3 2) ∷ Some (Stack 3 5) ∷
-      Some (Stack 10 7) ∷ Some (Stack 3 4) ∷ Some (Stack 3 8) ∷ Some (Stack 10 8) ∷
-      Some (Stack 3 6) ∷ Some (Stack 3 9) ∷ Some (Stack 3 7) ∷ Some (Stack 3 11) ∷
-      Some (Stack 10 11) ∷ Some (Stack 10 4) ∷ Some (Stack 10 10) ∷ Some (Stack 10 5) ∷
-      Some (Stack 10 6) ∷ Some (Stack 10 9) ∷ Some (Stack 3 10) ∷ Some (Stack 3 12) ∷
-      Some (Stack 10 12) ∷ Some (Stack 3 14) ∷ Some (Stack 3 13) ∷ Some (Stack 10 14) ∷
-      Some (Stack 10 13) ∷ Some (Stack 10 17) ∷ Some (Stack 3 18) ∷ Some (Stack 3 15) ∷
-      Some (Stack 10 20) ∷ Some (Stack 3 21) ∷ Some (Stack 10 21) ∷ Some (Stack 10 15) ∷
-      Some (Stack 3 17) ∷ Some (Stack 3 19) ∷ Some (Stack 3 22) ∷ Some (Stack 3 16) ∷
+      Some (Stack 10 18) ∷ Some (Stack 10 19) ∷ Some (Stack 3 20) ∷ Some (Stack 3 27) ∷ Some (Stack 10 27) ∷
+      Some (Stack 10 24) ∷ Some (Stack 3 28) ∷ Some (Stack 3 26) ∷ Some (Stack 10 25) ∷ Some (Stack 10 26) ∷
+      Some (Stack 3 25) ∷ Some (Stack 10 28) ∷ Some (Stack 3 29) ∷ Some (Stack 10 29) ∷ Some (Stack 3 24) ∷
+      Some (Stack 3 30) ∷ Some (Stack 10 30) ∷ Some (Stack 3 31) ∷ Some (Stack 10 31) ∷ Some (Text 1 0) ∷
+      Some (Stack 10 2) ∷ Some (Stack 10 0) ∷ Some (Stack 3 3) ∷ Some (Data 10 1) ∷ Some (Stack 10 3) ∷
+      Some (Stack 10 1) ∷ Some (Stack 3 2) ∷ Some (Stack 3 5) ∷ Some (Stack 10 7) ∷ Some (Stack 3 4) ∷
+      Some (Stack 3 8) ∷ Some (Stack 10 8) ∷ Some (Stack 3 6) ∷ Some (Stack 3 9) ∷ Some (Stack 3 7) ∷
+      Some (Stack 3 11) ∷ Some (Stack 10 11) ∷ Some (Stack 10 4) ∷ Some (Stack 10 10) ∷ Some (Stack 10 5) ∷
+      Some (Stack 10 6) ∷ Some (Stack 10 9) ∷ Some (Stack 3 10) ∷ Some (Stack 3 12) ∷ Some (Stack 10 12) ∷
+      Some (Stack 3 14) ∷ Some (Stack 3 13) ∷ Some (Stack 10 14) ∷ Some (Stack 10 13) ∷ Some (Stack 10 17) ∷
+      Some (Stack 3 18) ∷ Some (Stack 3 15) ∷ Some (Stack 10 20) ∷ Some (Stack 3 21) ∷ Some (Stack 10 21) ∷
+      Some (Stack 10 15) ∷ Some (Stack 3 17) ∷ Some (Stack 3 19) ∷ Some (Stack 3 22) ∷ Some (Stack 3 16) ∷
       Some (Stack 10 22) ∷ Some (Stack 3 23) ∷ Some (Stack 10 23) ∷ Some (Stack 10 16) ∷ [];
   free = [];
   transfers = [];
   front = 37;
   back = 21;
   residents =
-      record { pid = 2; out = false; since = 0 } ∷
-      record { pid = 3; out = false; since = 0 } ∷
-      record { pid = 4; out = false; since = 124 } ∷
-      record { pid = 7; out = false; since = 551 } ∷
-      record { pid = 8; out = false; since = 621 } ∷
-      record { pid = 9; out = false; since = 824 } ∷
-      record { pid = 10; out = false; since = 892 } ∷ [];
+      residence 2 false 0 ∷ residence 3 false 0 ∷ residence 4 false 124 ∷ residence 7 false 551 ∷
+      residence 8 false 621 ∷ residence 9 false 824 ∷ residence 10 false 892 ∷ [];
   due = [];
 }
 
 seen : List Seen
 seen =
-    Made (Some (entries.Get (Text 1 0) 0 2)) ∷
-    Made None ∷
-    Made None ∷
-    Made None ∷
-    Made None ∷
-    Made None ∷
-    Made None ∷
-    Made None ∷
-    Made None ∷
-    Made None ∷
-    Made None ∷
-    Made None ∷
-    Made (Some (entries.Zero (Data 1 1))) ∷
-    Made (Some (entries.Zero (Data 1 3))) ∷
-    Made (Some (entries.Zero (Stack 1 1))) ∷
-    Made (Some (entries.Zero (Stack 1 2))) ∷
-    Made (Some (entries.Zero (Stack 1 3))) ∷
-    Made (Some (entries.Zero (Stack 1 4))) ∷
-    Made (Some (entries.Zero (Stack 1 5))) ∷
-    Made (Some (entries.Zero (Stack 1 6))) ∷
-    Made (Some (entries.Zero (Stack 1 7))) ∷
-    Made (Some (entries.Zero (Stack 1 8))) ∷
-    Made (Some (entries.Zero (Stack 1 9))) ∷
-    Made (Some (entries.Zero (Stack 1 10))) ∷
-    Made (Some (entries.Zero (Stack 1 11))) ∷
-    Made (Some (entries.Zero (Stack 1 12))) ∷
-    Made (Some (entries.Zero (Stack 1 13))) ∷
-    Made (Some (entries.Zero (Stack 1 14))) ∷
-    Made (Some (entries.Zero (Stack 1 15))) ∷
-    Made (Some (entries.Zero (Stack 1 16))) ∷
-    Made (Some (entries.Zero (Stack 1 17))) ∷
-    Made (Some (entries.Zero (Stack 1 18))) ∷
-    Made (Some (entries.Zero (Stack 1 19))) ∷
-    Made (Some (entries.Zero (Stack 1 20))) ∷
-    Made (Some (entries.Zero (Stack 1 21))) ∷
-    Made (Some (entries.Zero (Stack 1 22))) ∷
-    Made (Some (entries.Zero (Stack 1 23))) ∷
-    Made (Some (entries.Zero (Stack 1 24))) ∷
-    Made (Some (entries.Zero (Stack 1 25))) ∷
-    Made (Some (entries.Zero (Stack 1 26))) ∷
-    Made (Some (entries.Zero (Stack 1 27))) ∷
-    Made (Some (entries.Zero (Stack 1 28))) ∷
-    Made (Some (entries.Zero (Stack 1 29))) ∷
-    Made (Some (entries.Zero (Stack 1 30))) ∷
-    Made (Some (entries.Zero (Stack 1 31))) ∷
-    Made (Some (entries.Reclaim (Stack 1 26))) ∷
-    Made (Some (entries.Get (Stack 1 10) 10 1)) ∷
-    Made (Some entries.Done) ∷
-    Made (Some (entries.Hands 1)) ∷
-    Made (Some (entries.Hands 1)) ∷
-    Made (Some (entries.Hands 1)) ∷
-    Made (Some (entries.Hands 1)) ∷
-    Made (Some (entries.Hands 1)) ∷
-    Made (Some entries.Done) ∷
-    Made (Some (entries.Get (Stack 1 11) 11 1)) ∷
-    Made (Some entries.Done) ∷
-    Made (Some (entries.Hands 1)) ∷
-    Made (Some entries.Done) ∷
-    Made (Some (entries.Get (Stack 1 12) 12 4)) ∷
-    Made (Some entries.Done) ∷
-    Made (Some (entries.Reclaim (Stack 1 13))) ∷
-    Made (Some (entries.Reclaim (Stack 1 14))) ∷
-    Made (Some (entries.Reclaim (Stack 1 15))) ∷
-    Made (Some (entries.Get (Stack 1 16) 16 1)) ∷
-    Made (Some entries.Done) ∷
-    Made (Some (entries.Get (Stack 1 17) 17 1)) ∷
-    Made (Some entries.Done) ∷
-    Made (Some (entries.Get (Stack 1 18) 18 1)) ∷
-    Made (Some entries.Done) ∷
-    Made (Some (entries.Get (Stack 1 19) 19 1)) ∷
-    Made (Some entries.Done) ∷
-    Made (Some (entries.Hands 1)) ∷
-    Made (Some (entries.Hands 1)) ∷
-    Made (Some (entries.Hands 1)) ∷
-    Made (Some (entries.Hands 1)) ∷
-    Made (Some (entries.Hands 1)) ∷
-    Made (Some (entries.Hands 1)) ∷
-    Made (Some (entries.Hands 1)) ∷
-    Made (Some (entries.Hands 1)) ∷
-    Made (Some (entries.Hands 1)) ∷
-    Made (Some (entries.Hands 1)) ∷
-    Made (Some (entries.Hands 1)) ∷
-    Made (Some (entries.Hands 1)) ∷
-    Made (Some (entries.Hands 1)) ∷
-    Made (Some (entries.Hands 1)) ∷
-    Made (Some (entries.Hands 1)) ∷
-    Made (Some (entries.Hands 1)) ∷
-    Made (Some entries.Done) ∷
-    Made (Some (entries.Get (Stack 1 20) 20 1)) ∷
-    Made (Some entries.Done) ∷
-    Made (Some (entries.Get (Stack 1 21) 21 1)) ∷
-    Made (Some entries.Done) ∷
-    Made (Some (entries.Get (Stack 1 22) 22 1)) ∷
-    Made (Some entries.Done) ∷
-    Made (Some (entries.Get (Stack 1 23) 23 1)) ∷
-    Made (Some entries.Done) ∷
-    Made (Some (entries.Get (Stack 1 24) 24 1)) ∷
-    Made (Some entries.Done) ∷
-    Made (Some (entries.Get (Stack 1 27) 27 1)) ∷
-    Made (Some entries.Done) ∷
-    Made (Some (entries.Get (Stack 1 28) 28 1)) ∷
-    Made (Some entries.Done) ∷
-    Made (Some (entries.Get (Stack 1 29) 29 1)) ∷
-    Made (Some entries.Done) ∷
-    Made (Some (entries.Get (Stack 1 30) 30 1)) ∷
-    Made (Some entries.Done) ∷
-    Made (Some (entries.Reclaim (Text 1 0))) ∷
-    Made (Some (entries.Hands 1)) ∷
-    Made (Some (entries.Hands 1)) ∷
-    Made (Some (entries.Hands 1)) ∷
-    Made (Some entries.Done) ∷
-    Made (Some (entries.Get (Data 4 1) 1 1)) ∷
-    Made (Some entries.Done) ∷
-    Made (Some (entries.Hands 1)) ∷
-    Made (Some (entries.Hands 1)) ∷
-    Made (Some (entries.Hands 1)) ∷
-    Made (Some (entries.Hands 1)) ∷
-    Made (Some (entries.Hands 1)) ∷
-    Made (Some (entries.Hands 1)) ∷
-    Made (Some (entries.Hands 1)) ∷
-    Made (Some (entries.Hands 1)) ∷
-    Made (Some (entries.Hands 1)) ∷
-    Made (Some (entries.Hands 1)) ∷
-    Made (Some entries.Done) ∷
-    Made (Some (entries.Get (Data 4 3) 3 1)) ∷
-    Made (Some entries.Done) ∷
-    Made (Some (entries.Get (Stack 4 0) 0 1)) ∷
-    Made (Some entries.Done) ∷
-    Made (Some (entries.Get (Stack 4 1) 1 1)) ∷
-    Made (Some entries.Done) ∷
-    Made (Some (entries.Get (Stack 4 2) 2 1)) ∷
-    Made (Some entries.Done) ∷
-    Made (Some (entries.Get (Stack 4 3) 3 3)) ∷
-    Made (Some entries.Done) ∷
-    Made (Some (entries.Reclaim (Stack 4 4))) ∷
-    Made (Some (entries.Reclaim (Stack 4 5))) ∷
-    Made (Some (entries.Get (Stack 4 6) 6 1)) ∷
-    Made (Some entries.Done) ∷
-    Made (Some (entries.Get (Stack 4 7) 7 1)) ∷
-    Made (Some entries.Done) ∷
-    Made (Some (entries.Get (Stack 4 8) 8 1)) ∷
-    Made (Some entries.Done) ∷
-    Made (Some (entries.Get (Stack 4 9) 9 1)) ∷
-    Made (Some entries.Done) ∷
-    Made (Some (entries.Hands 1)) ∷
-    Made (Some (entries.Hands 1)) ∷
-    Made (Some entries.Done) ∷
-    Made (Some (entries.Get (Stack 4 10) 10 1)) ∷
-    Made (Some entries.Done) ∷
-    Made (Some (entries.Hands 1)) ∷
-    Made (Some (entries.Hands 1)) ∷
-    Made (Some (entries.Get (Stack 4 11) 11 1)) ∷
-    Made (Some entries.Done) ∷
-    Made (Some (entries.Hands 1)) ∷
-    Made (Some (entries.Get (Stack 4 12) 12 1)) ∷
-    Made (Some entries.Done) ∷
-    Made (Some (entries.Hands 1)) ∷
-    Made (Some entries.Done) ∷
-    Made (Some (entries.Get (Stack 4 13) 13 1)) ∷
-    Made (Some entries.Done) ∷
-    Made (Some (entries.Get (Stack 4 14) 14 1)) ∷
-    Made (Some entries.Done) ∷
-    Made (Some (entries.Hands 1)) ∷
-    Made (Some (entries.Hands 1)) ∷
-    Made (Some (entries.Hands 1)) ∷
-    Made (Some (entries.Hands 1)) ∷
-    Made (Some (entries.Get (Stack 4 15) 15 1)) ∷
-    Made (Some entries.Done) ∷
-    Made (Some (entries.Get (Stack 4 16) 16 1)) ∷
-    Made (Some entries.Done) ∷
-    Made (Some (entries.Get (Stack 4 17) 17 1)) ∷
-    Made (Some entries.Done) ∷
-    Made (Some (entries.Get (Stack 4 18) 18 1)) ∷
-    Made (Some entries.Done) ∷
-    Made (Some (entries.Get (Stack 4 19) 19 1)) ∷
-    Made (Some entries.Done) ∷
-    Made (Some (entries.Hands 1)) ∷
-    Made (Some (entries.Get (Stack 4 20) 20 1)) ∷
-    Made (Some entries.Done) ∷
-    Made (Some (entries.Hands 1)) ∷
-    Made (Some (entries.Hands 1)) ∷
-    Made (Some (entries.Get (Stack 4 21) 21 1)) ∷
-    Made (Some entries.Done) ∷
-    Made (Some (entries.Hands 1)) ∷
-    Made (Some (entries.Hands 1)) ∷
-    Made (Some (entries.Get (Stack 4 22) 22 1)) ∷
-    Made (Some entries.Done) ∷
-    Made (Some (entries.Hands 1)) ∷
-    Made (Some (entries.Hands 1)) ∷
-    Made (Some (entries.Get (Stack 4 23) 23 1)) ∷
-    Made (Some entries.Done) ∷
-    Made (Some (entries.Get (Stack 4 24) 24 1)) ∷
-    Made (Some entries.Done) ∷
-    Made (Some (entries.Get (Stack 4 25) 25 1)) ∷
-    Made (Some entries.Done) ∷
-    Made (Some (entries.Get (Stack 4 26) 26 1)) ∷
-    Made (Some entries.Done) ∷
-    Made (Some (entries.Hands 1)) ∷
-    Made (Some (entries.Hands 1)) ∷
-    Made (Some entries.Done) ∷
-    Made (Some (entries.Get (Stack 4 27) 27 1)) ∷
-    Made (Some entries.Done) ∷
-    Made (Some (entries.Hands 1)) ∷
-    Made (Some (entries.Get (Stack 4 28) 28 1)) ∷
-    Made (Some entries.Done) ∷
-    Made (Some (entries.Hands 1)) ∷
-    Made (Some (entries.Hands 1)) ∷
-    Made (Some (entries.Hands 1)) ∷
-    Made (Some (entries.Get (Stack 4 29) 29 1)) ∷
-    Made (Some entries.Done) ∷
-    Made (Some (entries.Hands 1)) ∷
-    Made (Some (entries.Hands 1)) ∷
-    Made (Some (entries.Get (Stack 4 30) 30 1)) ∷
-    Made (Some entries.Done) ∷
-    Made (Some (entries.Hands 1)) ∷
-    Made (Some (entries.Get (Stack 4 31) 31 1)) ∷
-    Made (Some entries.Done) ∷
-    Made None ∷
-    Made None ∷
-    Made None ∷
-    Made (Some (entries.Get (Text 1 0) 0 1)) ∷
-    Made None ∷
-    Made (Some (entries.Zero (Data 3 1))) ∷
-    Made (Some (entries.Zero (Data 3 3))) ∷
-    Made (Some (entries.Get (Stack 3 0) 0 1)) ∷
-    Made None ∷
-    Made (Some (entries.Zero (Data 2 1))) ∷
-    Made (Some (entries.Zero (Data 2 3))) ∷
-    Made (Some (entries.Get (Stack 2 0) 0 1)) ∷
-    Made None ∷
-    Made (Some entries.Done) ∷
-    Made (Some (entries.Zero (Stack 2 1))) ∷
-    Made (Some (entries.Zero (Stack 2 2))) ∷
-    Made (Some (entries.Zero (Stack 2 3))) ∷
-    Made (Some (entries.Zero (Stack 2 4))) ∷
-    Made (Some (entries.Zero (Stack 2 5))) ∷
-    Made (Some (entries.Zero (Stack 2 6))) ∷
-    Made (Some (entries.Zero (Stack 2 7))) ∷
-    Made (Some (entries.Zero (Stack 2 8))) ∷
-    Made (Some (entries.Zero (Stack 2 9))) ∷
-    Made (Some (entries.Zero (Stack 2 10))) ∷
-    Made (Some (entries.Zero (Stack 2 11))) ∷
-    Made (Some (entries.Zero (Stack 2 12))) ∷
-    Made (Some (entries.Zero (Stack 2 13))) ∷
-    Made (Some (entries.Zero (Stack 2 14))) ∷
-    Made (Some (entries.Zero (Stack 2 15))) ∷
-    Made (Some (entries.Zero (Stack 2 16))) ∷
-    Made (Some (entries.Zero (Stack 2 17))) ∷
-    Made (Some (entries.Zero (Stack 2 18))) ∷
-    Made (Some (entries.Zero (Stack 2 19))) ∷
-    Made (Some (entries.Zero (Stack 2 20))) ∷
-    Made (Some (entries.Zero (Stack 2 21))) ∷
-    Made (Some (entries.Zero (Stack 2 22))) ∷
-    Made (Some (entries.Zero (Stack 2 23))) ∷
-    Made (Some (entries.Zero (Stack 2 24))) ∷
-    Made (Some (entries.Zero (Stack 2 25))) ∷
-    Made (Some (entries.Zero (Stack 2 26))) ∷
-    Made (Some (entries.Zero (Stack 2 27))) ∷
-    Made (Some (entries.Zero (Stack 2 28))) ∷
-    Made (Some (entries.Zero (Stack 2 29))) ∷
-    Made (Some (entries.Zero (Stack 2 30))) ∷
-    Made (Some (entries.Zero (Stack 2 31))) ∷
-    Made (Some (entries.Reclaim (Stack 2 27))) ∷
-    Made (Some (entries.Reclaim (Stack 2 28))) ∷
-    Made (Some (entries.Reclaim (Stack 2 29))) ∷
-    Made (Some (entries.Reclaim (Stack 2 30))) ∷
-    Made (Some (entries.Reclaim (Stack 2 31))) ∷
-    Made (Some (entries.Reclaim (Text 1 0))) ∷
-    Made (Some (entries.Hands 1)) ∷
-    Made (Some entries.Done) ∷
-    Made (Some (entries.Get (Stack 2 0) 0 1)) ∷
-    Made (Some entries.Done) ∷
-    Made (Some (entries.Hands 1)) ∷
-    Made (Some (entries.Hands 1)) ∷
-    Made (Some (entries.Hands 1)) ∷
-    Made (Some entries.Done) ∷
-    Made (Some (entries.Get (Data 2 1) 1 1)) ∷
-    Made (Some entries.Done) ∷
-    Made (Some (entries.Hands 1)) ∷
-    Made (Some (entries.Hands 1)) ∷
-    Made (Some (entries.Hands 1)) ∷
-    Made (Some entries.Done) ∷
-    Made (Some (entries.Get (Stack 2 1) 1 2)) ∷
-    Made (Some entries.Done) ∷
-    Made (Some (entries.Reclaim (Stack 2 2))) ∷
-    Made (Some (entries.Get (Stack 2 3) 3 1)) ∷
-    Made (Some entries.Done) ∷
-    Made (Some (entries.Get (Stack 2 4) 4 1)) ∷
-    Made (Some entries.Done) ∷
-    Made (Some (entries.Get (Stack 2 5) 5 1)) ∷
-    Made (Some entries.Done) ∷
-    Made (Some (entries.Hands 1)) ∷
-    Made (Some (entries.Hands 1)) ∷
-    Made (Some (entries.Hands 1)) ∷
-    Made (Some entries.Done) ∷
-    Made (Some (entries.Get (Stack 2 6) 6 1)) ∷
-    Made (Some entries.Done) ∷
-    Made (Some (entries.Reclaim (Stack 2 14))) ∷
-    Made (Some (entries.Reclaim (Stack 2 15))) ∷
-    Made (Some (entries.Reclaim (Stack 2 16))) ∷
-    Made (Some (entries.Get (Stack 2 17) 17 1)) ∷
-    Made (Some entries.Done) ∷
-    Made (Some (entries.Get (Stack 2 18) 18 1)) ∷
-    Made (Some entries.Done) ∷
-    Made (Some (entries.Get (Stack 2 19) 19 1)) ∷
-    Made (Some entries.Done) ∷
-    Made (Some (entries.Hands 1)) ∷
-    Made (Some entries.Done) ∷
-    Made (Some (entries.Get (Stack 2 20) 20 1)) ∷
-    Made (Some entries.Done) ∷
-    Made (Some (entries.Get (Stack 2 21) 21 1)) ∷
-    Made (Some entries.Done) ∷
-    Made (Some (entries.Get (Stack 2 22) 22 1)) ∷
-    Made (Some entries.Done) ∷
-    Made (Some (entries.Get (Stack 2 23) 23 1)) ∷
-    Made (Some entries.Done) ∷
-    Made (Some (entries.Get (Stack 2 24) 24 3)) ∷
-    Made (Some entries.Done) ∷
-    Made (Some (entries.Reclaim (Stack 2 25))) ∷
-    Made (Some (entries.Reclaim (Stack 2 26))) ∷
-    Made (Some (entries.Get (Stack 3 0) 0 1)) ∷
-    Made (Some entries.Done) ∷
-    Made (Some (entries.Zero (Stack 3 1))) ∷
-    Made (Some (entries.Zero (Stack 3 2))) ∷
-    Made (Some (entries.Zero (Stack 3 3))) ∷
-    Made (Some (entries.Hands 1)) ∷
-    Made (Some (entries.Hands 1)) ∷
-    Made (Some (entries.Hands 1)) ∷
-    Made (Some (entries.Hands 1)) ∷
-    Made (Some (entries.Hands 1)) ∷
-    Made (Some (entries.Hands 1)) ∷
-    Made (Some (entries.Hands 1)) ∷
-    Made (Some (entries.Hands 1)) ∷
-    Made (Some (entries.Hands 1)) ∷
-    Made (Some (entries.Hands 1)) ∷
-    Made (Some (entries.Hands 1)) ∷
-    Made (Some (entries.Hands 1)) ∷
-    Made (Some (entries.Hands 1)) ∷
-    Made (Some (entries.Hands 1)) ∷
-    Made (Some (entries.Hands 1)) ∷
-    Made (Some (entries.Hands 1)) ∷
-    Made (Some entries.Done) ∷
-    Made (Some (entries.Zero (Stack 3 4))) ∷
-    Made (Some (entries.Hands 1)) ∷
-    Made (Some (entries.Hands 1)) ∷
-    Made (Some entries.Done) ∷
-    Made (Some (entries.Zero (Stack 3 5))) ∷
-    Made (Some (entries.Zero (Stack 3 6))) ∷
-    Made (Some (entries.Zero (Stack 3 7))) ∷
-    Made (Some (entries.Zero (Stack 3 8))) ∷
-    Made (Some (entries.Zero (Stack 3 9))) ∷
-    Made (Some (entries.Hands 1)) ∷
-    Made (Some (entries.Zero (Stack 3 10))) ∷
-    Made (Some (entries.Hands 1)) ∷
-    Made (Some (entries.Hands 1)) ∷
-    Made (Some entries.Done) ∷
-    Made (Some (entries.Zero (Stack 3 11))) ∷
-    Made (Some (entries.Hands 1)) ∷
-    Made (Some (entries.Hands 1)) ∷
-    Made (Some entries.Done) ∷
-    Made (Some (entries.Zero (Stack 3 12))) ∷
-    Made (Some (entries.Zero (Stack 3 13))) ∷
-    Made (Some (entries.Zero (Stack 3 14))) ∷
-    Made (Some (entries.Zero (Stack 3 15))) ∷
-    Made (Some (entries.Zero (Stack 3 16))) ∷
-    Made (Some (entries.Zero (Stack 3 17))) ∷
-    Made (Some (entries.Zero (Stack 3 18))) ∷
-    Made (Some (entries.Zero (Stack 3 19))) ∷
-    Made (Some (entries.Zero (Stack 3 20))) ∷
-    Made (Some (entries.Zero (Stack 3 21))) ∷
-    Made (Some (entries.Zero (Stack 3 22))) ∷
-    Made (Some (entries.Hands 1)) ∷
-    Made (Some (entries.Hands 1)) ∷
-    Made (Some (entries.Hands 1)) ∷
-    Made (Some (entries.Hands 1)) ∷
-    Made (Some (entries.Zero (Stack 3 23))) ∷
-    Made (Some (entries.Hands 1)) ∷
-    Made (Some (entries.Hands 1)) ∷
-    Made (Some (entries.Zero (Stack 3 24))) ∷
-    Made (Some (entries.Hands 1)) ∷
-    Made (Some (entries.Zero (Stack 3 25))) ∷
-    Made (Some (entries.Hands 1)) ∷
-    Made (Some (entries.Hands 1)) ∷
-    Made (Some (entries.Zero (Stack 3 26))) ∷
-    Made (Some (entries.Hands 1)) ∷
-    Made (Some (entries.Hands 1)) ∷
-    Made (Some (entries.Hands 1)) ∷
-    Made (Some (entries.Hands 1)) ∷
-    Made (Some (entries.Hands 1)) ∷
-    Made (Some (entries.Hands 1)) ∷
-    Made (Some (entries.Hands 1)) ∷
-    Made (Some (entries.Hands 1)) ∷
-    Made (Some (entries.Zero (Stack 3 27))) ∷
-    Made (Some (entries.Hands 1)) ∷
-    Made (Some entries.Done) ∷
-    Made (Some (entries.Zero (Stack 3 28))) ∷
-    Made (Some (entries.Zero (Stack 3 29))) ∷
-    Made (Some (entries.Zero (Stack 3 30))) ∷
-    Made (Some (entries.Zero (Stack 3 31))) ∷
-    Made (Some (entries.Get (Data 3 1) 1 1)) ∷
-    Made (Some entries.Done) ∷
-    Made (Some (entries.Hands 1)) ∷
-    Made (Some (entries.Hands 1)) ∷
-    Made (Some entries.Done) ∷
-    Made (Some (entries.Get (Data 3 3) 3 1)) ∷
-    Made (Some entries.Done) ∷
-    Made (Some (entries.Reclaim (Text 1 0))) ∷
-    Made (Some (entries.Get (Stack 3 0) 0 1)) ∷
-    Made (Some entries.Done) ∷
-    Made (Some (entries.Get (Stack 3 1) 1 1)) ∷
-    Made (Some entries.Done) ∷
-    Made (Some (entries.Get (Stack 3 2) 2 1)) ∷
-    Made (Some entries.Done) ∷
-    Made (Some (entries.Get (Stack 3 3) 3 1)) ∷
-    Made (Some entries.Done) ∷
-    Made (Some (entries.Hands 1)) ∷
-    Made (Some (entries.Hands 1)) ∷
-    Made (Some (entries.Hands 1)) ∷
-    Made (Some (entries.Hands 1)) ∷
-    Made (Some (entries.Hands 1)) ∷
-    Made (Some (entries.Hands 1)) ∷
-    Made (Some (entries.Hands 1)) ∷
-    Made (Some (entries.Hands 1)) ∷
-    Made (Some (entries.Hands 1)) ∷
-    Made (Some (entries.Hands 1)) ∷
-    Made (Some (entries.Hands 1)) ∷
-    Made (Some (entries.Hands 1)) ∷
-    Made (Some (entries.Hands 1)) ∷
-    Made (Some (entries.Hands 1)) ∷
-    Made (Some (entries.Hands 1)) ∷
-    Made (Some entries.Done) ∷
-    Made (Some (entries.Get (Stack 3 4) 4 4)) ∷
-    Made (Some entries.Done) ∷
-    Made (Some (entries.Reclaim (Stack 3 5))) ∷
-    Made (Some (entries.Reclaim (Stack 3 6))) ∷
-    Made (Some (entries.Reclaim (Stack 3 7))) ∷
-    Made (Some (entries.Get (Stack 3 8) 8 1)) ∷
-    Made (Some entries.Done) ∷
-    Made (Some (entries.Get (Stack 3 9) 9 1)) ∷
-    Made (Some entries.Done) ∷
-    Made (Some (entries.Get (Stack 3 10) 10 1)) ∷
-    Made (Some entries.Done) ∷
-    Made (Some (entries.Get (Stack 3 11) 11 1)) ∷
-    Made (Some entries.Done) ∷
-    Made (Some (entries.Hands 1)) ∷
-    Made (Some (entries.Hands 1)) ∷
-    Made (Some (entries.Hands 1)) ∷
-    Made (Some (entries.Hands 1)) ∷
-    Made (Some (entries.Hands 1)) ∷
-    Made (Some (entries.Hands 1)) ∷
-    Made (Some (entries.Hands 1)) ∷
-    Made (Some (entries.Hands 1)) ∷
-    Made (Some entries.Done) ∷
-    Made (Some (entries.Get (Stack 3 12) 12 1)) ∷
-    Made (Some entries.Done) ∷
-    Made (Some (entries.Get (Stack 3 13) 13 1)) ∷
-    Made (Some entries.Done) ∷
-    Made (Some (entries.Hands 1)) ∷
-    Made (Some entries.Done) ∷
-    Made (Some (entries.Get (Stack 3 14) 14 1)) ∷
-    Made (Some entries.Done) ∷
-    Made (Some (entries.Get (Stack 3 15) 15 1)) ∷
-    Made (Some entries.Done) ∷
-    Made (Some (entries.Get (Stack 3 16) 16 1)) ∷
-    Made (Some entries.Done) ∷
-    Made (Some (entries.Get (Stack 3 17) 17 1)) ∷
-    Made (Some entries.Done) ∷
-    Made (Some (entries.Hands 1)) ∷
-    Made (Some (entries.Get (Stack 3 18) 18 1)) ∷
-    Made (Some entries.Done) ∷
-    Made (Some (entries.Get (Stack 3 19) 19 1)) ∷
-    Made (Some entries.Done) ∷
-    Made (Some (entries.Get (Stack 3 20) 20 1)) ∷
-    Made (Some entries.Done) ∷
-    Made (Some (entries.Get (Stack 3 21) 21 1)) ∷
-    Made (Some entries.Done) ∷
-    Made (Some (entries.Get (Stack 3 22) 22 1)) ∷
-    Made (Some entries.Done) ∷
-    Made (Some (entries.Get (Stack 3 23) 23 1)) ∷
-    Made (Some entries.Done) ∷
-    Made (Some (entries.Get (Stack 3 24) 24 4)) ∷
-    Made (Some entries.Done) ∷
-    Made (Some (entries.Reclaim (Stack 3 25))) ∷
-    Made (Some (entries.Reclaim (Stack 3 26))) ∷
-    Made (Some (entries.Reclaim (Stack 3 27))) ∷
-    Made (Some (entries.Get (Stack 3 28) 28 1)) ∷
-    Made (Some entries.Done) ∷
-    Made (Some (entries.Get (Stack 3 29) 29 1)) ∷
-    Made (Some entries.Done) ∷
-    Made (Some (entries.Hands 1)) ∷
-    Made (Some (entries.Hands 1)) ∷
-    Made (Some (entries.Hands 1)) ∷
-    Made (Some (entries.Hands 1)) ∷
-    Made (Some (entries.Hands 1)) ∷
-    Made (Some (entries.Hands 1)) ∷
-    Made (Some (entries.Hands 1)) ∷
-    Made (Some (entries.Hands 1)) ∷
-    Made (Some (entries.Hands 1)) ∷
-    Made (Some (entries.Hands 1)) ∷
-    Made (Some (entries.Hands 1)) ∷
-    Made (Some (entries.Hands 1)) ∷
-    Made (Some (entries.Hands 1)) ∷
-    Made (Some (entries.Hands 1)) ∷
-    Made (Some (entries.Hands 1)) ∷
-    Made (Some (entries.Hands 1)) ∷
-    Made (Some (entries.Hands 1)) ∷
-    Made (Some entries.Done) ∷
-    Made (Some (entries.Get (Stack 3 30) 30 1)) ∷
-    Made (Some entries.Done) ∷
-    Made (Some (entries.Get (Stack 3 31) 31 1)) ∷
-    Made (Some entries.Done) ∷
-    Made (Some (entries.Hands 1)) ∷
-    Made (Some (entries.Get (Text 1 0) 0 1)) ∷
-    Made (Some entries.Done) ∷
+    Made (Some (entries.Get (Text 1 0) 0 2)) ∷ replicate 11 (Made None) ++
+    made (entries.Zero (Data 1 1) ∷ entries.Zero (Data 1 3) ∷
+    rows 1 31 (λ k. entries.Zero (Stack 1 k) ∷ []) ++
+    entries.Reclaim (Stack 1 26) ∷ entries.Get (Stack 1 10) 10 1 ∷ entries.Done ∷ replicate 5 (entries.Hands 1) ++
+    entries.Done ∷ entries.Get (Stack 1 11) 11 1 ∷ entries.Done ∷ entries.Hands 1 ∷ entries.Done ∷
+    entries.Get (Stack 1 12) 12 4 ∷ entries.Done ∷
+    rows 13 3 (λ k. entries.Reclaim (Stack 1 k) ∷ []) ++
+    rows 16 4 (λ k. entries.Get (Stack 1 k) k 1 ∷ entries.Done ∷ []) ++
+    replicate 16 (entries.Hands 1) ++
+    rows 20 5 (λ k. entries.Done ∷ entries.Get (Stack 1 k) k 1 ∷ []) ++
+    rows 27 4 (λ k. entries.Done ∷ entries.Get (Stack 1 k) k 1 ∷ []) ++
+    entries.Done ∷ entries.Reclaim (Text 1 0) ∷ replicate 3 (entries.Hands 1) ++ entries.Done ∷
+    entries.Get (Data 4 1) 1 1 ∷ entries.Done ∷ replicate 10 (entries.Hands 1) ++ entries.Done ∷
+    entries.Get (Data 4 3) 3 1 ∷
+    rows 0 3 (λ k. entries.Done ∷ entries.Get (Stack 4 k) k 1 ∷ []) ++
+    entries.Done ∷ entries.Get (Stack 4 3) 3 3 ∷ entries.Done ∷ entries.Reclaim (Stack 4 4) ∷
+    entries.Reclaim (Stack 4 5) ∷
+    rows 6 4 (λ k. entries.Get (Stack 4 k) k 1 ∷ entries.Done ∷ []) ++
+    entries.Hands 1 ∷ entries.Hands 1 ∷ entries.Done ∷ entries.Get (Stack 4 10) 10 1 ∷ entries.Done ∷
+    entries.Hands 1 ∷ entries.Hands 1 ∷ entries.Get (Stack 4 11) 11 1 ∷ entries.Done ∷ entries.Hands 1 ∷
+    entries.Get (Stack 4 12) 12 1 ∷ entries.Done ∷ entries.Hands 1 ∷ entries.Done ∷ entries.Get (Stack 4 13) 13 1 ∷
+    entries.Done ∷ entries.Get (Stack 4 14) 14 1 ∷ entries.Done ∷ replicate 4 (entries.Hands 1) ++
+    rows 15 5 (λ k. entries.Get (Stack 4 k) k 1 ∷ entries.Done ∷ []) ++
+    rows 20 3 (λ k. entries.Hands 1 ∷ entries.Get (Stack 4 k) k 1 ∷ entries.Done ∷ entries.Hands 1 ∷ []) ++
+    entries.Hands 1 ∷
+    rows 23 4 (λ k. entries.Get (Stack 4 k) k 1 ∷ entries.Done ∷ []) ++
+    entries.Hands 1 ∷ entries.Hands 1 ∷ entries.Done ∷ entries.Get (Stack 4 27) 27 1 ∷ entries.Done ∷
+    entries.Hands 1 ∷ entries.Get (Stack 4 28) 28 1 ∷ entries.Done ∷ replicate 3 (entries.Hands 1) ++
+    entries.Get (Stack 4 29) 29 1 ∷ entries.Done ∷ entries.Hands 1 ∷ entries.Hands 1 ∷
+    entries.Get (Stack 4 30) 30 1 ∷ entries.Done ∷ entries.Hands 1 ∷ entries.Get (Stack 4 31) 31 1 ∷
+    entries.Done ∷ []) ++
+    replicate 3 (Made None) ++ Made (Some (entries.Get (Text 1 0) 0 1)) ∷ Made None ∷
+    Made (Some (entries.Zero (Data 3 1))) ∷ Made (Some (entries.Zero (Data 3 3))) ∷
+    Made (Some (entries.Get (Stack 3 0) 0 1)) ∷ Made None ∷ Made (Some (entries.Zero (Data 2 1))) ∷
+    Made (Some (entries.Zero (Data 2 3))) ∷ Made (Some (entries.Get (Stack 2 0) 0 1)) ∷ Made None ∷
+    made (entries.Done ∷
+    rows 1 31 (λ k. entries.Zero (Stack 2 k) ∷ []) ++
+    rows 27 5 (λ k. entries.Reclaim (Stack 2 k) ∷ []) ++
+    entries.Reclaim (Text 1 0) ∷ entries.Hands 1 ∷ entries.Done ∷ entries.Get (Stack 2 0) 0 1 ∷ entries.Done ∷
+    replicate 3 (entries.Hands 1) ++ entries.Done ∷ entries.Get (Data 2 1) 1 1 ∷ entries.Done ∷
+    replicate 3 (entries.Hands 1) ++ entries.Done ∷ entries.Get (Stack 2 1) 1 2 ∷ entries.Done ∷
+    entries.Reclaim (Stack 2 2) ∷
+    rows 3 3 (λ k. entries.Get (Stack 2 k) k 1 ∷ entries.Done ∷ []) ++
+    replicate 3 (entries.Hands 1) ++ entries.Done ∷ entries.Get (Stack 2 6) 6 1 ∷ entries.Done ∷
+    rows 14 3 (λ k. entries.Reclaim (Stack 2 k) ∷ []) ++
+    rows 17 3 (λ k. entries.Get (Stack 2 k) k 1 ∷ entries.Done ∷ []) ++
+    entries.Hands 1 ∷
+    rows 20 4 (λ k. entries.Done ∷ entries.Get (Stack 2 k) k 1 ∷ []) ++
+    entries.Done ∷ entries.Get (Stack 2 24) 24 3 ∷ entries.Done ∷ entries.Reclaim (Stack 2 25) ∷
+    entries.Reclaim (Stack 2 26) ∷ entries.Get (Stack 3 0) 0 1 ∷ entries.Done ∷
+    rows 1 3 (λ k. entries.Zero (Stack 3 k) ∷ []) ++
+    replicate 16 (entries.Hands 1) ++ entries.Done ∷ entries.Zero (Stack 3 4) ∷ entries.Hands 1 ∷ entries.Hands 1 ∷
+    entries.Done ∷
+    rows 5 5 (λ k. entries.Zero (Stack 3 k) ∷ []) ++
+    entries.Hands 1 ∷ entries.Zero (Stack 3 10) ∷ entries.Hands 1 ∷ entries.Hands 1 ∷ entries.Done ∷
+    entries.Zero (Stack 3 11) ∷ entries.Hands 1 ∷ entries.Hands 1 ∷ entries.Done ∷
+    rows 12 11 (λ k. entries.Zero (Stack 3 k) ∷ []) ++
+    replicate 4 (entries.Hands 1) ++ entries.Zero (Stack 3 23) ∷ entries.Hands 1 ∷ entries.Hands 1 ∷
+    entries.Zero (Stack 3 24) ∷ entries.Hands 1 ∷ entries.Zero (Stack 3 25) ∷ entries.Hands 1 ∷ entries.Hands 1 ∷
+    entries.Zero (Stack 3 26) ∷ replicate 8 (entries.Hands 1) ++ entries.Zero (Stack 3 27) ∷ entries.Hands 1 ∷
+    entries.Done ∷
+    rows 28 4 (λ k. entries.Zero (Stack 3 k) ∷ []) ++
+    entries.Get (Data 3 1) 1 1 ∷ entries.Done ∷ entries.Hands 1 ∷ entries.Hands 1 ∷ entries.Done ∷
+    entries.Get (Data 3 3) 3 1 ∷ entries.Done ∷ entries.Reclaim (Text 1 0) ∷
+    rows 0 4 (λ k. entries.Get (Stack 3 k) k 1 ∷ entries.Done ∷ []) ++
+    replicate 15 (entries.Hands 1) ++ entries.Done ∷ entries.Get (Stack 3 4) 4 4 ∷ entries.Done ∷
+    rows 5 3 (λ k. entries.Reclaim (Stack 3 k) ∷ []) ++
+    rows 8 4 (λ k. entries.Get (Stack 3 k) k 1 ∷ entries.Done ∷ []) ++
+    replicate 8 (entries.Hands 1) ++ entries.Done ∷ entries.Get (Stack 3 12) 12 1 ∷ entries.Done ∷
+    entries.Get (Stack 3 13) 13 1 ∷ entries.Done ∷ entries.Hands 1 ∷
+    rows 14 4 (λ k. entries.Done ∷ entries.Get (Stack 3 k) k 1 ∷ []) ++
+    entries.Done ∷ entries.Hands 1 ∷
+    rows 18 6 (λ k. entries.Get (Stack 3 k) k 1 ∷ entries.Done ∷ []) ++
+    entries.Get (Stack 3 24) 24 4 ∷ entries.Done ∷
+    rows 25 3 (λ k. entries.Reclaim (Stack 3 k) ∷ []) ++
+    entries.Get (Stack 3 28) 28 1 ∷ entries.Done ∷ entries.Get (Stack 3 29) 29 1 ∷ entries.Done ∷
+    replicate 17 (entries.Hands 1) ++ entries.Done ∷ entries.Get (Stack 3 30) 30 1 ∷ entries.Done ∷
+    entries.Get (Stack 3 31) 31 1 ∷ entries.Done ∷ entries.Hands 1 ∷ entries.Get (Text 1 0) 0 1 ∷
+    entries.Done ∷ []) ++
     Ends last ∷ []
 
 stack_read_by_fours : walk images operations (starting images (1 ∷ 1 ∷ 1 ∷ []) 64) ≡ seen

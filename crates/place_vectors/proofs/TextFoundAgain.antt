@@ -10,7 +10,7 @@ use Rattle.flat_state.specs.Flat.{NamedImage}
 use Rattle.flat_state.specs.declared.change.Change.TheVariants.{Exec, End}
 use Rattle.page_model.specs.Pages.{Zeros}
 use Rattle.page_model.specs.Placement.{Placement}
-use Rattle.place_vectors.proofs.Walk.{Operation, Fixed, Serve, Step, Seen, Made, Ends, named, slot, empty, frames, starting, walk}
+use Rattle.place_vectors.proofs.Walk.{Operation, Fixed, Serve, Step, Seen, Ends, named, slot, empty, frames, starting, walk, made, text_of}
 
 images : List NamedImage
 images =
@@ -27,15 +27,7 @@ operations =
 last : Placement
 last = record {
   spaces = [];
-  texts =
-      record {
-        image = 1;
-        text_pages = slot (Invalid 3) false Zeros ∷ [];
-      } ∷
-      record {
-        image = 2;
-        text_pages = slot (Invalid 1) false Zeros ∷ [];
-      } ∷ [];
+  texts = text_of 1 (slot (Invalid 3) false Zeros ∷ []) ∷ text_of 2 (slot (Invalid 1) false Zeros ∷ []) ∷ [];
   holds = Some (Text 2 0) ∷ None ∷ Some (Text 1 0) ∷ empty 61;
   free = 2 ∷ frames 4 61 ++ 1 ∷ 3 ∷ [];
   transfers = [];
@@ -47,11 +39,8 @@ last = record {
 
 seen : List Seen
 seen =
-    Made (Some (entries.Get (Text 1 0) 0 1)) ∷
-    Made (Some entries.Done) ∷
-    Made (Some (entries.Get (Text 2 0) 0 1)) ∷
-    Made (Some entries.Done) ∷
-    Made (Some (entries.Reclaim (Text 1 0))) ∷
+    made (entries.Get (Text 1 0) 0 1 ∷ entries.Done ∷ entries.Get (Text 2 0) 0 1 ∷ entries.Done ∷
+    entries.Reclaim (Text 1 0) ∷ []) ++
     Ends last ∷ []
 
 text_found_again : walk images operations (starting images (1 ∷ 2 ∷ []) 64) ≡ seen

@@ -6,8 +6,8 @@ use Rattle.vm_facts.specs.declared.entry.Entry.{Entry}
 use Rattle.aout_image.specs.declared.Kind.{Kind}
 use Rattle.flat_state.specs.Flat.{NamedImage, image_numbered}
 use Rattle.flat_state.specs.declared.change.Change.{Change}
-use Rattle.page_model.specs.Pages.{Slot, Filling, SpacePages}
-use Rattle.page_model.specs.Placement.{Placement, Starting, start_placement}
+use Rattle.page_model.specs.Pages.{Slot, Filling, SpacePages, TextPages}
+use Rattle.page_model.specs.Placement.{Placement, Starting, Residence, start_placement}
 use Rattle.page_model.specs.Moves.{touch_all}
 use Rattle.page_model.specs.Hands.{wants_moves}
 use Rattle.page_model.specs.Serve.{serve_unit}
@@ -29,6 +29,14 @@ slot state mark filling = record { state = state; mark = mark; filling = filling
 -- a space by its number, its image, its data pages and its stack pages
 abbrev pub space : ℕ → ℕ → List Slot → List Slot → SpacePages
 space sid image data_pages stack_pages = record { sid = sid; image = image; data_pages = data_pages; stack_pages = stack_pages }
+
+-- the text of an image, by its number, and its pages
+abbrev pub text_of : ℕ → List Slot → TextPages
+text_of image text_pages = record { image = image; text_pages = text_pages }
+
+-- a process's place in memory or out of it: its pid, whether it is out, and since when
+abbrev pub residence : ℕ → Bool → ℕ → Residence
+residence pid out since = record { pid = pid; out = out; since = since }
 
 -- what the swapper asks of a process: its pid, its space, whether it borrowed that, and whether it sleeps
 abbrev pub runner : ℕ → ℕ → Bool → Bool → Runner
