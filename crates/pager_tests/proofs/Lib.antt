@@ -1,3 +1,2 @@
 pub mod SmallMachine
 pub mod Readiness
-pub mod CallersSeen

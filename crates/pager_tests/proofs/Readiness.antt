@@ -62,6 +62,12 @@ has_room p e = record {
   rest = subst (λ (n : ℕ). 0 + n / 4 < n) (sym e) (lit< tt);
 }
 
+pub has_more_room : (p : Placement) (q : Page) → length p.holds ≡ 64 → HasRoom p (q ∷ [])
+has_more_room p q e = record {
+  quarter = subst (λ (n : ℕ). 0 < n / 4) (sym e) (lit< tt);
+  rest = subst (λ (n : ℕ). 1 + n / 4 < n) (sym e) (lit< tt);
+}
+
 -- The moves that the last entry counts.
 
 pub last_is : (journal : List Entry) (e : Entry) → slice_get journal (length journal - 1) ≡ Some e → moves e ≡ last_moves journal

@@ -1,5 +1,5 @@
 use Rattle.std.proofs.Common.{arith}
-use Rattle.pager_tests.proofs.CallersSeen.{has_more_room}
+use Rattle.pager_tests.proofs.Readiness.{has_more_room}
 use Rattle.pager_tests.proofs.calls.see_more_frames.Goals as goal
 
 pub returns : goal.returns
