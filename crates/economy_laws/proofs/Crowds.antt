@@ -2,28 +2,25 @@
 use Rattle.std.proofs.Common.{◌≡◌, ℕ, ◌%◌, ◌*◌, ◌<◌, ◌≤◌, ◌==◌, ◌||◌, nat_lt, nat_le, not, Bool, true, false, List, [], ◌∷◌, length, filter, find, Option, Some, None, Result, Ok, Err, ℤ, refl, arith}
 use Rattle.std.proofs.lemmas.Bool.Decides.{nat_tests}
 use Rattle.std.proofs.lemmas.List.{length-append, length-map}
+use Rattle.run_laws.proofs.Computations.{AllGives, gives_any, reply_gives, refused_gives}
 use Rattle.run_laws.proofs.Sizing.{left_count}
 use Rattle.flat_state.proofs.Processes.{length-replaced, length-returned}
-use Rattle.vm_facts.specs.Answers.{Answers, ByteWrite}
+use Rattle.vm_facts.specs.Answers.{ByteWrite}
 use Rattle.flat_state.specs.Space.{Space, answers_of, puts}
 use Rattle.flat_state.specs.Flat.{Holding, Holds, Lends, Zombie, Process, FlatState, NamedImage, Inputs, image_numbered, process_of}
-use Rattle.vm_facts.specs.declared.memory.ByteRead.{ByteRead}
-use Rattle.vm_facts.specs.declared.memory.ByteRead.TheVariants as bytes
-use Rattle.vm_facts.specs.declared.memory.MayWrite.{MayWrite}
-use Rattle.vm_facts.specs.declared.memory.MayWrite.TheVariants as tests
 use Rattle.vm_facts.specs.declared.regs.Regs.{Regs}
 use Rattle.user_vax.specs.Effects.{Effect}
-use Rattle.user_vax.specs.Program.{Program, Gives, Refuses, Reads, Tests, ◌>>=◌, run, after_read, after_test}
+use Rattle.user_vax.specs.Program.{Gives, ◌>>=◌, run}
 use Rattle.user_vax.specs.declared.refused.Refused.{Refused}
 use Rattle.user_vax.specs.declared.refused.Refused.TheVariants.{Miss, Below, Signal}
 use Rattle.flat_state.specs.declared.change.Change.{Change}
 use Rattle.flat_state.specs.declared.change.Change.TheVariants.{Keep, Resize, Fork, Lend, Exec, Reap, Sleep, End}
 use Rattle.flat_state.specs.Change.{replaced, replaced_by, with_process, without_process, returned, returned_by, given_back, entered, is_zombie_child, without_parent, orphaned, awake, woken, left, ended, changed, changed_by, changed_if, apply_change, wrote_by, wrote_if, apply_writes}
 use Rattle.flat_model.specs.declared.calls.Reply.{Reply}
-use Rattle.flat_model.specs.declared.calls.Reply.TheVariants.{Fails, Does, Writes, Waits, Exits}
+use Rattle.flat_model.specs.declared.calls.Reply.TheVariants.{Does, Writes, Exits}
 use Rattle.flat_model.specs.declared.calls.SystemCall.{SystemCall}
 use Rattle.flat_model.specs.declared.calls.SystemCall.TheVariants as calls
-use Rattle.flat_model.specs.Calls.{call_of, argument, three_arguments, bytes_from, string_from, arguments_at, exit_reply, child_by, written_to, write_reply, break_by, break_reply, pages_up_to, stack_pages_of, data_limit, path_image, starts, execve_of, execve_reply, wait_by, wait_reply, reply_of, or_fault, refused_reply, unless_refused, wants_space, string_limit, write_limit, process_limit}
+use Rattle.flat_model.specs.Calls.{call_of, argument, three_arguments, bytes_from, string_from, arguments_at, exit_reply, child_by, written_to, write_reply, break_by, break_reply, pages_up_to, stack_pages_of, data_limit, path_image, starts, execve_of, execve_reply, wait_by, wait_reply, reply_of, or_fault, string_limit, write_limit, process_limit}
 use Rattle.flat_model.specs.Step.{written_process, replied_step, reply_behind, called_step, step_behind, step_of}
 
 -- How many.
@@ -97,37 +94,6 @@ abbrev pub ReplyRoom : FlatState → Reply → Type 0
 ReplyRoom F (Does regs change) = RoomFor F change
 ReplyRoom F _ = Unit {0}
 
-abbrev AllRoom : FlatState → Program Reply → Type 0
-AllRoom F (Gives x) = ReplyRoom F x
-AllRoom F (Refuses signal) = Unit {0}
-AllRoom F (Reads a next) = (byte : ℕ) → AllRoom F (next byte)
-AllRoom F (Tests a next) = AllRoom F next
-
-all_bind : {A : Type 0} (F : FlatState) (p : Program A) (f : A → Program Reply) → ((x : A) → AllRoom F (f x)) → AllRoom F (p >>= f)
-all_bind F (Gives x) f h = h x
-all_bind F (Refuses signal) f h = tt
-all_bind F (Reads a next) f h = λ byte. all_bind F (next byte) f h
-all_bind F (Tests a next) f h = all_bind F next f h
-
-run_room : (F : FlatState) (memory : Answers) (p : Program Reply) → AllRoom F p → ReplyRoom F (or_fault (run memory p))
-run_room F memory (Gives x) h = h
-run_room F memory (Refuses signal) h = tt
-run_room F memory (Reads a next) h = go (λ byte. run_room F memory (next byte) (h byte)) (memory.read a)
-  where
-    go : ((byte : ℕ) → ReplyRoom F (or_fault (run memory (next byte)))) → (answer : ByteRead) → ReplyRoom F (or_fault (after_read answer a (λ byte. run memory (next byte))))
-    go later (bytes.Is byte) = later byte
-    go later bytes.Miss = tt
-    go later bytes.Below = tt
-    go later bytes.Outside = tt
-run_room F memory (Tests a next) h = go (run_room F memory next h) (memory.may_write a)
-  where
-    go : ReplyRoom F (or_fault (run memory next)) → (answer : MayWrite) → ReplyRoom F (or_fault (after_test answer a (run memory next)))
-    go later tests.May = later
-    go later tests.Miss = tt
-    go later tests.Below = tt
-    go later tests.Text = tt
-    go later tests.Outside = tt
-
 child_room : (F : FlatState) (b : Bool) (regs : Regs) (child : ℕ) → nat_lt (length F.processes) process_limit ≡ b
     → ReplyRoom F (child_by b regs child (Fork F.next_pid)) × ReplyRoom F (child_by b regs child (Lend F.next_pid))
 child_room F true regs child e =
@@ -135,9 +101,9 @@ child_room F true regs child e =
     let l : length F.processes < 64 = less (length F.processes) e in (l, l)
 child_room F false regs child e = (tt, tt)
 
-written_room : (F : FlatState) (b : Bool) (buffer count : ℕ) → AllRoom F (written_to b buffer count)
+written_room : (F : FlatState) (b : Bool) (buffer count : ℕ) → AllGives (ReplyRoom F) (written_to b buffer count)
 unfolding written_to
-written_room F true buffer count = all_bind F (bytes_from (Rattle.std.specs.Prelude.min count write_limit) buffer) (λ x. Gives (Writes x)) (λ x. tt)
+written_room F true buffer count = gives_any (ReplyRoom F) (bytes_from (Rattle.std.specs.Prelude.min count write_limit) buffer) (λ x. Gives (Writes x)) (λ x. tt)
 written_room F false buffer count = tt
 
 break_room : (F : FlatState) (b : Bool) (regs : Regs) (x y : ℕ) → ReplyRoom F (break_by b regs x y)
@@ -148,9 +114,9 @@ starts_room : (F : FlatState) (found : ℕ × NamedImage) (arguments : Option (L
 starts_room F found None = tt
 starts_room F found (Some arguments) = tt
 
-execve_room : (F : FlatState) (argv : ℕ) (found : Option (ℕ × NamedImage)) → AllRoom F (execve_of argv found)
+execve_room : (F : FlatState) (argv : ℕ) (found : Option (ℕ × NamedImage)) → AllGives (ReplyRoom F) (execve_of argv found)
 execve_room F argv None = tt
-execve_room F argv (Some found) = all_bind F (arguments_at argv) (λ arguments. Gives (starts found arguments)) (λ arguments. starts_room F found arguments)
+execve_room F argv (Some found) = gives_any (ReplyRoom F) (arguments_at argv) (λ arguments. Gives (starts found arguments)) (λ arguments. starts_room F found arguments)
 
 wait_room : (F : FlatState) (pid : ℕ) (regs : Regs) → ReplyRoom F (wait_reply F pid regs)
 wait_room F pid regs = go (find (λ q. q.parent == pid) F.processes) (find (is_zombie_child pid) F.processes)
@@ -160,33 +126,21 @@ wait_room F pid regs = go (find (λ q. q.parent == pid) F.processes) (find (is_z
     go (Some child) None = tt
     go (Some child) (Some z) = tt
 
-all_room : (images : List NamedImage) (F : FlatState) (p : Process) (s : Space) (call : SystemCall) (regs : Regs) → AllRoom F (reply_of images F p s call regs)
+all_room : (images : List NamedImage) (F : FlatState) (p : Process) (s : Space) (call : SystemCall) (regs : Regs) → AllGives (ReplyRoom F) (reply_of images F p s call regs)
 unfolding reply_of exit_reply write_reply break_reply execve_reply
-all_room images F p s calls.Exit regs = all_bind F (argument regs 1) (λ code. Gives (Exits (code % 256 * 256))) (λ code. tt)
+all_room images F p s calls.Exit regs = gives_any (ReplyRoom F) (argument regs 1) (λ code. Gives (Exits (code % 256 * 256))) (λ code. tt)
 all_room images F p s calls.Fork regs = (child_room F (nat_lt (length F.processes) process_limit) regs F.next_pid refl).0
 all_room images F p s calls.Write regs =
-    all_bind F (three_arguments regs) (λ asked. written_to (asked.0 == 1 || asked.0 == 2) asked.1 asked.2) (λ asked. written_room F (asked.0 == 1 || asked.0 == 2) asked.1 asked.2)
+    gives_any (ReplyRoom F) (three_arguments regs) (λ asked. written_to (asked.0 == 1 || asked.0 == 2) asked.1 asked.2) (λ asked. written_room F (asked.0 == 1 || asked.0 == 2) asked.1 asked.2)
 all_room images F p s calls.Break regs =
-    all_bind F (argument regs 1) (λ address. Gives (break_by (nat_le (pages_up_to s address) data_limit) regs (pages_up_to s address) (stack_pages_of s)))
+    gives_any (ReplyRoom F) (argument regs 1) (λ address. Gives (break_by (nat_le (pages_up_to s address) data_limit) regs (pages_up_to s address) (stack_pages_of s)))
     (λ address. break_room F (nat_le (pages_up_to s address) data_limit) regs (pages_up_to s address) (stack_pages_of s))
 all_room images F p s calls.Getpid regs = tt
 all_room images F p s calls.Execve regs =
-    all_bind F (three_arguments regs) (λ asked. string_from string_limit asked.0 >>= λ path. execve_of asked.1 (path_image images path))
-    (λ asked. all_bind F (string_from string_limit asked.0) (λ path. execve_of asked.1 (path_image images path)) (λ path. execve_room F asked.1 (path_image images path)))
+    gives_any (ReplyRoom F) (three_arguments regs) (λ asked. string_from string_limit asked.0 >>= λ path. execve_of asked.1 (path_image images path))
+    (λ asked. gives_any (ReplyRoom F) (string_from string_limit asked.0) (λ path. execve_of asked.1 (path_image images path)) (λ path. execve_room F asked.1 (path_image images path)))
 all_room images F p s calls.Vfork regs = (child_room F (nat_lt (length F.processes) process_limit) regs F.next_pid refl).1
 all_room images F p s calls.Wait regs = wait_room F p.pid regs
-
-refused_room : (F : FlatState) (refused : Bool) (reply : Reply) → ReplyRoom F reply → ReplyRoom F (refused_reply refused reply)
-refused_room F false reply h = h
-refused_room F true (Does regs change) h = go (wants_space change)
-  where
-    go : (b : Bool) → ReplyRoom F (unless_refused b (Does regs change))
-    go true = tt
-    go false = h
-refused_room F true (Fails error) h = tt
-refused_room F true (Writes bytes) h = tt
-refused_room F true Waits h = tt
-refused_room F true (Exits status) h = tt
 
 -- Steps.
 
@@ -206,10 +160,10 @@ behind_room images F p s refused effect (Some number) = go (call_of number)
     go : (o : Option SystemCall) → RoomFor (apply_writes F p.pid (called_step images F p s refused effect o).writes) (called_step images F p s refused effect o).change
     go None = tt
     go (Some call) = replied_room images F p call effect (reply_behind images F p s refused call effect)
-        (refused_room (apply_writes F p.pid effect.writes) refused
-        (or_fault (run (answers_of (puts s effect.writes)) (reply_of images (apply_writes F p.pid effect.writes) (written_process p s effect.writes) (puts s effect.writes) call effect.regs)))
-        (run_room (apply_writes F p.pid effect.writes) (answers_of (puts s effect.writes))
-        (reply_of images (apply_writes F p.pid effect.writes) (written_process p s effect.writes) (puts s effect.writes) call effect.regs)
+        (refused_gives (ReplyRoom (apply_writes F p.pid effect.writes)) refused
+        (or_fault (run (answers_of (puts s effect.writes)) (reply_of images (apply_writes F p.pid effect.writes) (written_process p s effect.writes) (puts s effect.writes) call effect.regs))) tt
+        (reply_gives (ReplyRoom (apply_writes F p.pid effect.writes)) (answers_of (puts s effect.writes))
+        (reply_of images (apply_writes F p.pid effect.writes) (written_process p s effect.writes) (puts s effect.writes) call effect.regs) tt
         (all_room images (apply_writes F p.pid effect.writes) (written_process p s effect.writes) (puts s effect.writes) call effect.regs)))
 
 pub of_room : (images : List NamedImage) (F : FlatState) (p : Process) (s : Space) (refused : Bool) (r : Result Effect Refused)

@@ -1,4 +1,5 @@
 pub use Rattle.run_laws.proofs.FlatLawsAsking
+pub use Rattle.run_laws.proofs.Computations
 pub use Rattle.run_laws.proofs.Finding
 pub use Rattle.run_laws.proofs.Others
 pub use Rattle.run_laws.proofs.Shown

@@ -6,6 +6,7 @@ pub mod Entries
 pub mod Pages
 pub mod Shown
 pub mod Finding
+pub mod Computations
 pub mod Replies
 pub mod Others
 pub mod Numbers

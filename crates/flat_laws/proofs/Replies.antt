@@ -3,58 +3,23 @@ use Rattle.std.proofs.Common.{◌&&◌, ◌≡◌, ℕ, ◌==◌, ◌||◌, nat_
 use Rattle.vm_facts.specs.Answers.{Answers}
 use Rattle.flat_state.specs.Space.{Space}
 use Rattle.flat_state.specs.Flat.{Holding, Zombie, Process, FlatState, NamedImage}
-use Rattle.vm_facts.specs.declared.memory.ByteRead.{ByteRead}
-use Rattle.vm_facts.specs.declared.memory.ByteRead.TheVariants as bytes
-use Rattle.vm_facts.specs.declared.memory.MayWrite.{MayWrite}
-use Rattle.vm_facts.specs.declared.memory.MayWrite.TheVariants as tests
 use Rattle.vm_facts.specs.declared.regs.Regs.{Regs}
-use Rattle.user_vax.specs.Program.{Program, Gives, Refuses, Reads, Tests, ◌>>=◌, run, after_read, after_test}
+use Rattle.user_vax.specs.Program.{Gives, ◌>>=◌, run}
 use Rattle.flat_state.specs.Change.{is_zombie_child, is_zombie, NamesChild}
 use Rattle.flat_state.specs.declared.change.Change.TheVariants.{Fork, Lend, Reap}
 use Rattle.flat_model.specs.declared.calls.Reply.{Reply}
-use Rattle.flat_model.specs.declared.calls.Reply.TheVariants.{Fails, Does, Writes, Waits, Exits}
+use Rattle.flat_model.specs.declared.calls.Reply.TheVariants.{Does, Writes, Exits}
 use Rattle.flat_model.specs.declared.calls.SystemCall.{SystemCall}
 use Rattle.flat_model.specs.declared.calls.SystemCall.TheVariants as calls
-use Rattle.flat_model.specs.Calls.{argument, three_arguments, bytes_from, string_from, arguments_at, exit_reply, child_by, written_to, write_reply, break_by, break_reply, pages_up_to, stack_pages_of, data_limit, path_image, starts, execve_of, execve_reply, wait_by, wait_reply, reply_of, or_fault, refused_reply, unless_refused, wants_space, string_limit, write_limit, process_limit}
+use Rattle.flat_model.specs.Calls.{argument, three_arguments, bytes_from, string_from, arguments_at, exit_reply, child_by, written_to, write_reply, break_by, break_reply, pages_up_to, stack_pages_of, data_limit, path_image, starts, execve_of, execve_reply, wait_by, wait_reply, reply_of, or_fault, refused_reply, string_limit, write_limit, process_limit}
 use Rattle.flat_state.specs.Numbers.{AllDistinct}
+use Rattle.flat_laws.proofs.Computations.{AllGives, gives_any, reply_gives, refused_gives}
 use Rattle.flat_laws.proofs.Finding.{pids, found_by_number, zombie_passes}
 
 -- a reply whose change may be made
 abbrev pub ReplyFits : FlatState → Reply → Type 0
 ReplyFits F (Does regs change) = NamesChild F change
 ReplyFits F _ = Unit {0}
-
--- all that a computation may give
-abbrev AllGive : FlatState → Program Reply → Type 0
-AllGive F (Gives x) = ReplyFits F x
-AllGive F (Refuses signal) = Unit {0}
-AllGive F (Reads a next) = (byte : ℕ) → AllGive F (next byte)
-AllGive F (Tests a next) = AllGive F next
-
-all_bind : {A : Type 0} (F : FlatState) (p : Program A) (f : A → Program Reply) → ((x : A) → AllGive F (f x)) → AllGive F (p >>= f)
-all_bind F (Gives x) f h = h x
-all_bind F (Refuses signal) f h = tt
-all_bind F (Reads a next) f h = λ byte. all_bind F (next byte) f h
-all_bind F (Tests a next) f h = all_bind F next f h
-
-run_fits : (F : FlatState) (memory : Answers) (p : Program Reply) → AllGive F p → ReplyFits F (or_fault (run memory p))
-run_fits F memory (Gives x) h = h
-run_fits F memory (Refuses signal) h = tt
-run_fits F memory (Reads a next) h = go (λ byte. run_fits F memory (next byte) (h byte)) (memory.read a)
-  where
-    go : ((byte : ℕ) → ReplyFits F (or_fault (run memory (next byte)))) → (answer : ByteRead) → ReplyFits F (or_fault (after_read answer a (λ byte. run memory (next byte))))
-    go later (bytes.Is byte) = later byte
-    go later bytes.Miss = tt
-    go later bytes.Below = tt
-    go later bytes.Outside = tt
-run_fits F memory (Tests a next) h = go (run_fits F memory next h) (memory.may_write a)
-  where
-    go : ReplyFits F (or_fault (run memory next)) → (answer : MayWrite) → ReplyFits F (or_fault (after_test answer a (run memory next)))
-    go later tests.May = later
-    go later tests.Miss = tt
-    go later tests.Below = tt
-    go later tests.Text = tt
-    go later tests.Outside = tt
 
 -- The calls.
 
@@ -63,9 +28,9 @@ child_fits : (F : FlatState) (b : Bool) (regs : Regs) (child : ℕ)
 child_fits F true regs child = (refl, refl)
 child_fits F false regs child = (tt, tt)
 
-written_fits : (F : FlatState) (b : Bool) (buffer count : ℕ) → AllGive F (written_to b buffer count)
+written_fits : (F : FlatState) (b : Bool) (buffer count : ℕ) → AllGives (ReplyFits F) (written_to b buffer count)
 unfolding written_to
-written_fits F true buffer count = all_bind F (bytes_from (min count write_limit) buffer) (λ x. Gives (Writes x)) (λ x. tt)
+written_fits F true buffer count = gives_any (ReplyFits F) (bytes_from (min count write_limit) buffer) (λ x. Gives (Writes x)) (λ x. tt)
 written_fits F false buffer count = tt
 
 break_fits : (F : FlatState) (b : Bool) (regs : Regs) (x y : ℕ) → ReplyFits F (break_by b regs x y)
@@ -76,9 +41,9 @@ starts_fits : (F : FlatState) (found : ℕ × NamedImage) (arguments : Option (L
 starts_fits F found None = tt
 starts_fits F found (Some arguments) = tt
 
-execve_fits : (F : FlatState) (argv : ℕ) (found : Option (ℕ × NamedImage)) → AllGive F (execve_of argv found)
+execve_fits : (F : FlatState) (argv : ℕ) (found : Option (ℕ × NamedImage)) → AllGives (ReplyFits F) (execve_of argv found)
 execve_fits F argv None = tt
-execve_fits F argv (Some found) = all_bind F (arguments_at argv) (λ arguments. Gives (starts found arguments)) (λ arguments. starts_fits F found arguments)
+execve_fits F argv (Some found) = gives_any (ReplyFits F) (arguments_at argv) (λ arguments. Gives (starts found arguments)) (λ arguments. starts_fits F found arguments)
 
 zombie_is : (held : Holding) → is_zombie held ≡ true → (status : ℕ) × (held ≡ Zombie status)
 zombie_is (Zombie status) h = (status, refl)
@@ -104,38 +69,26 @@ wait_fits F pid regs own = go (find (λ q. q.parent == pid) F.processes) (find (
     go (Some child) (Some z) e = zombie_fits F pid z own e
 
 all_fit : (images : List NamedImage) (F : FlatState) (p : Process) (s : Space) (call : SystemCall) (regs : Regs) → AllDistinct (pids F.processes)
-    → AllGive F (reply_of images F p s call regs)
+    → AllGives (ReplyFits F) (reply_of images F p s call regs)
 unfolding reply_of exit_reply write_reply break_reply execve_reply
-all_fit images F p s calls.Exit regs own = all_bind F (argument regs 1) (λ code. Gives (Exits (code % 256 * 256))) (λ code. tt)
+all_fit images F p s calls.Exit regs own = gives_any (ReplyFits F) (argument regs 1) (λ code. Gives (Exits (code % 256 * 256))) (λ code. tt)
 all_fit images F p s calls.Fork regs own = (child_fits F (nat_lt (length F.processes) process_limit) regs F.next_pid).0
 all_fit images F p s calls.Write regs own =
-    all_bind F (three_arguments regs) (λ asked. written_to (asked.0 == 1 || asked.0 == 2) asked.1 asked.2) (λ asked. written_fits F (asked.0 == 1 || asked.0 == 2) asked.1 asked.2)
+    gives_any (ReplyFits F) (three_arguments regs) (λ asked. written_to (asked.0 == 1 || asked.0 == 2) asked.1 asked.2) (λ asked. written_fits F (asked.0 == 1 || asked.0 == 2) asked.1 asked.2)
 all_fit images F p s calls.Break regs own =
-    all_bind F (argument regs 1) (λ address. Gives (break_by (nat_le (pages_up_to s address) data_limit) regs (pages_up_to s address) (stack_pages_of s)))
+    gives_any (ReplyFits F) (argument regs 1) (λ address. Gives (break_by (nat_le (pages_up_to s address) data_limit) regs (pages_up_to s address) (stack_pages_of s)))
     (λ address. break_fits F (nat_le (pages_up_to s address) data_limit) regs (pages_up_to s address) (stack_pages_of s))
 all_fit images F p s calls.Getpid regs own = tt
 all_fit images F p s calls.Execve regs own =
-    all_bind F (three_arguments regs) (λ asked. string_from string_limit asked.0 >>= λ path. execve_of asked.1 (path_image images path))
-    (λ asked. all_bind F (string_from string_limit asked.0) (λ path. execve_of asked.1 (path_image images path)) (λ path. execve_fits F asked.1 (path_image images path)))
+    gives_any (ReplyFits F) (three_arguments regs) (λ asked. string_from string_limit asked.0 >>= λ path. execve_of asked.1 (path_image images path))
+    (λ asked. gives_any (ReplyFits F) (string_from string_limit asked.0) (λ path. execve_of asked.1 (path_image images path)) (λ path. execve_fits F asked.1 (path_image images path)))
 all_fit images F p s calls.Vfork regs own = (child_fits F (nat_lt (length F.processes) process_limit) regs F.next_pid).1
 all_fit images F p s calls.Wait regs own = wait_fits F p.pid regs own
-
-refused_fits : (F : FlatState) (refused : Bool) (reply : Reply) → ReplyFits F reply → ReplyFits F (refused_reply refused reply)
-refused_fits F false reply h = h
-refused_fits F true (Does regs change) h = go (wants_space change)
-  where
-    go : (b : Bool) → ReplyFits F (unless_refused b (Does regs change))
-    go true = tt
-    go false = h
-refused_fits F true (Fails error) h = tt
-refused_fits F true (Writes bytes) h = tt
-refused_fits F true Waits h = tt
-refused_fits F true (Exits status) h = tt
 
 -- the reply of a call takes nobody who holds a space, and its child has the next number
 pub reply_fits : (images : List NamedImage) (F : FlatState) (memory : Answers) (p : Process) (s : Space) (call : SystemCall) (regs : Regs) (refused : Bool)
     → AllDistinct (pids F.processes)
     → ReplyFits F (refused_reply refused (or_fault (run memory (reply_of images F p s call regs))))
 reply_fits images F memory p s call regs refused own =
-    refused_fits F refused (or_fault (run memory (reply_of images F p s call regs)))
-    (run_fits F memory (reply_of images F p s call regs) (all_fit images F p s call regs own))
+    refused_gives (ReplyFits F) refused (or_fault (run memory (reply_of images F p s call regs))) tt
+    (reply_gives (ReplyFits F) memory (reply_of images F p s call regs) tt (all_fit images F p s call regs own))

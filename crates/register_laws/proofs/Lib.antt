@@ -1,5 +1,6 @@
 pub use Rattle.flat_laws.proofs.Asking as FlatLawsAsking
 pub use Rattle.flat_laws.proofs.Few as FlatLawsFew
+pub use Rattle.flat_laws.proofs.Computations
 pub use Rattle.flat_laws.proofs.Finding
 pub use Rattle.flat_laws.proofs.Numbers
 pub use Rattle.flat_laws.proofs.Others

@@ -2,16 +2,11 @@
 use Rattle.std.proofs.Common.{◌≡◌, ℕ, zero, suc, ◌+◌, ◌-◌, ◌*◌, ◌<◌, ◌≤◌, ◌==◌, ◌||◌, nat_lt, nat_le, min, ◌%◌, Bool, true, false, List, [], ◌∷◌, ◌++◌, length, find, bytes_eq, replicate, Option, Some, None, Result, Ok, Err, ℤ, refl, sym, ap, ◌∙◌, arith, length-append}
 use Rattle.std.specs.Prelude.{slice_get}
 use Rattle.std.proofs.lemmas.List.{length-replicate}
-use Rattle.vm_facts.specs.Answers.{Answers}
 use Rattle.flat_state.specs.Space.{Space, answers_of, puts}
 use Rattle.flat_state.specs.Flat.{Holding, Holds, Lends, Zombie, Process, FlatState, NamedImage, Inputs, image_numbered, process_of, strings_of, argument_area, start_page}
-use Rattle.vm_facts.specs.declared.memory.ByteRead.{ByteRead}
-use Rattle.vm_facts.specs.declared.memory.ByteRead.TheVariants as bytes
-use Rattle.vm_facts.specs.declared.memory.MayWrite.{MayWrite}
-use Rattle.vm_facts.specs.declared.memory.MayWrite.TheVariants as tests
 use Rattle.vm_facts.specs.declared.regs.Regs.{Regs}
 use Rattle.user_vax.specs.Effects.{Effect}
-use Rattle.user_vax.specs.Program.{Program, Gives, Refuses, Reads, Tests, ◌>>=◌, after_read, after_test, run}
+use Rattle.user_vax.specs.Program.{Program, Gives, ◌>>=◌, run}
 use Rattle.user_vax.specs.Operands.{number_at}
 use Rattle.user_vax.specs.declared.refused.Refused.{Refused}
 use Rattle.user_vax.specs.declared.refused.Refused.TheVariants.{Miss, Below, Signal}
@@ -20,34 +15,14 @@ use Rattle.flat_state.specs.declared.change.Change.TheVariants.{Fork, Lend}
 use Rattle.flat_model.proofs.Strings.{area_count}
 use Rattle.flat_model.specs.Instruction.{instruction_in}
 use Rattle.flat_model.specs.declared.calls.Reply.{Reply}
-use Rattle.flat_model.specs.declared.calls.Reply.TheVariants.{Fails, Does, Writes, Waits, Exits}
+use Rattle.flat_model.specs.declared.calls.Reply.TheVariants.{Does, Writes, Exits}
 use Rattle.flat_model.specs.declared.calls.SystemCall.{SystemCall}
 use Rattle.flat_model.specs.declared.calls.SystemCall.TheVariants as calls
-use Rattle.flat_model.specs.Calls.{call_of, argument, three_arguments, bytes_from, before, string_after, string_from, string_before, last_pointer, pointer_after, arguments_from, arguments_at, argument_limit, string_limit, write_limit, data_limit, process_limit, child_by, written_to, break_by, pages_up_to, stack_pages_of, numbered_by, image_named, path_image, starts, execve_of, wait_by, reply_of, exit_reply, write_reply, break_reply, execve_reply, or_fault, unless_refused, wants_space, refused_reply}
+use Rattle.flat_model.specs.Calls.{call_of, argument, three_arguments, bytes_from, before, string_after, string_from, string_before, last_pointer, pointer_after, arguments_from, arguments_at, argument_limit, string_limit, write_limit, data_limit, process_limit, child_by, written_to, break_by, pages_up_to, stack_pages_of, numbered_by, image_named, path_image, starts, execve_of, wait_by, reply_of, exit_reply, write_reply, break_reply, execve_reply, or_fault}
 use Rattle.flat_model.specs.Step.{replied_step, reply_behind, called_step, step_behind, step_of, step_holding, step_if, flat_step, written_process}
 use Rattle.kernel_model.specs.Invariant.{EntersImage}
+use Rattle.register_laws.proofs.Computations.{AllGives, gives_bind, gives_any, reply_gives, refused_gives}
 use Rattle.run_laws.proofs.Acts.{ExecsFit}
-
--- What computations give.
-
-abbrev pub AllGives : {A : Type 0} → (A → Type 0) → Program A → Type 0
-AllGives P (Gives x) = P x
-AllGives P (Refuses signal) = Unit {0}
-AllGives P (Reads a next) = (byte : ℕ) → AllGives P (next byte)
-AllGives P (Tests a next) = AllGives P next
-
-pub gives_bind : {A B : Type 0} (P : A → Type 0) (Q : B → Type 0) (p : Program A) (f : A → Program B) → AllGives P p
-    → ((x : A) → P x → AllGives Q (f x)) → AllGives Q (p >>= f)
-gives_bind P Q (Gives x) f h k = k x h
-gives_bind P Q (Refuses signal) f h k = tt
-gives_bind P Q (Reads a next) f h k = λ byte. gives_bind P Q (next byte) f (h byte) k
-gives_bind P Q (Tests a next) f h k = gives_bind P Q next f h k
-
-pub gives_any : {A B : Type 0} (Q : B → Type 0) (p : Program A) (f : A → Program B) → ((x : A) → AllGives Q (f x)) → AllGives Q (p >>= f)
-gives_any Q (Gives x) f k = k x
-gives_any Q (Refuses signal) f k = tt
-gives_any Q (Reads a next) f k = λ byte. gives_any Q (next byte) f k
-gives_any Q (Tests a next) f k = gives_any Q next f k
 
 -- Strings.
 
@@ -206,37 +181,6 @@ all_execs images F p s calls.Execve regs = gives_any (ReplyExecs images) (three_
 all_execs images F p s calls.Vfork regs = (child_execs images (nat_lt (length F.processes) process_limit) regs F.next_pid).1
 all_execs images F p s calls.Wait regs = wait_execs images (find (λ q. q.parent == p.pid) F.processes) (find (is_zombie_child p.pid) F.processes) regs
 
-run_execs : (images : List NamedImage) (memory : Answers) (p : Program Reply) → AllGives (ReplyExecs images) p → ReplyExecs images (or_fault (run memory p))
-run_execs images memory (Gives x) h = h
-run_execs images memory (Refuses signal) h = tt
-run_execs images memory (Reads a next) h = go (λ byte. run_execs images memory (next byte) (h byte)) (memory.read a)
-  where
-    go : ((byte : ℕ) → ReplyExecs images (or_fault (run memory (next byte)))) → (answer : ByteRead) → ReplyExecs images (or_fault (after_read answer a (λ byte. run memory (next byte))))
-    go later (bytes.Is byte) = later byte
-    go later bytes.Miss = tt
-    go later bytes.Below = tt
-    go later bytes.Outside = tt
-run_execs images memory (Tests a next) h = go (run_execs images memory next h) (memory.may_write a)
-  where
-    go : ReplyExecs images (or_fault (run memory next)) → (answer : MayWrite) → ReplyExecs images (or_fault (after_test answer a (run memory next)))
-    go later tests.May = later
-    go later tests.Miss = tt
-    go later tests.Below = tt
-    go later tests.Text = tt
-    go later tests.Outside = tt
-
-refused_execs : (images : List NamedImage) (refused : Bool) (reply : Reply) → ReplyExecs images reply → ReplyExecs images (refused_reply refused reply)
-refused_execs images false reply h = h
-refused_execs images true (Does regs change) h = go (wants_space change)
-  where
-    go : (b : Bool) → ReplyExecs images (unless_refused b (Does regs change))
-    go true = tt
-    go false = h
-refused_execs images true (Fails error) h = tt
-refused_execs images true (Writes bytes) h = tt
-refused_execs images true Waits h = tt
-refused_execs images true (Exits status) h = tt
-
 -- Steps.
 
 replied_execs : (images : List NamedImage) (F : FlatState) (p : Process) (call : SystemCall) (effect : Effect) (reply : Reply)
@@ -248,9 +192,10 @@ called_execs : (images : List NamedImage) (F : FlatState) (p : Process) (s : Spa
     → EntersImage images (called_step images F p s refused effect o).change
 called_execs images F p s refused effect None = tt
 called_execs images F p s refused effect (Some call) = replied_execs images F p call effect (reply_behind images F p s refused call effect)
-    (refused_execs images refused
-    (or_fault (run (answers_of (puts s effect.writes)) (reply_of images (apply_writes F p.pid effect.writes) (written_process p s effect.writes) (puts s effect.writes) call effect.regs)))
-    (run_execs images (answers_of (puts s effect.writes)) (reply_of images (apply_writes F p.pid effect.writes) (written_process p s effect.writes) (puts s effect.writes) call effect.regs)
+    (refused_gives (ReplyExecs images) refused
+    (or_fault (run (answers_of (puts s effect.writes)) (reply_of images (apply_writes F p.pid effect.writes) (written_process p s effect.writes) (puts s effect.writes) call effect.regs))) tt
+    (reply_gives (ReplyExecs images) (answers_of (puts s effect.writes))
+    (reply_of images (apply_writes F p.pid effect.writes) (written_process p s effect.writes) (puts s effect.writes) call effect.regs) tt
     (all_execs images (apply_writes F p.pid effect.writes) (written_process p s effect.writes) (puts s effect.writes) call effect.regs)))
 
 behind_execs : (images : List NamedImage) (F : FlatState) (p : Process) (s : Space) (refused : Bool) (effect : Effect) (o : Option ℤ)

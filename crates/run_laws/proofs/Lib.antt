@@ -1,4 +1,5 @@
 pub use Rattle.register_laws.proofs.FlatLawsAsking
+pub use Rattle.register_laws.proofs.Computations
 pub use Rattle.register_laws.proofs.Finding
 pub use Rattle.register_laws.proofs.Others
 pub use Rattle.register_laws.proofs.Shown

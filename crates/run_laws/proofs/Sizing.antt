@@ -13,7 +13,7 @@ use Rattle.vm_facts.specs.declared.memory.MayWrite.TheVariants as tests
 use Rattle.vm_facts.specs.declared.regs.Regs.{Regs}
 use Rattle.vm_facts.specs.declared.entry.Entry.{Entry}
 use Rattle.user_vax.specs.Effects.{Effect}
-use Rattle.user_vax.specs.Program.{Program, Gives, Refuses, Reads, Tests, ◌>>=◌, run, after_read, after_test}
+use Rattle.user_vax.specs.Program.{Program, Gives, Reads, Tests, ◌>>=◌, run, after_read, after_test}
 use Rattle.user_vax.specs.declared.refused.Refused.{Refused}
 use Rattle.user_vax.specs.declared.refused.Refused.TheVariants.{Miss, Below, Signal}
 use Rattle.flat_state.specs.declared.spot.Spot.{Spot}
@@ -31,10 +31,10 @@ use Rattle.kernel_laws.proofs.Flat.Lists.{sid_of, held}
 use Rattle.page_laws.proofs.Lists.Local.{none_some}
 use Rattle.std.proofs.lemmas.Option.{same_Some}
 use Rattle.flat_model.specs.declared.calls.Reply.{Reply}
-use Rattle.flat_model.specs.declared.calls.Reply.TheVariants.{Fails, Does, Writes, Waits, Exits}
+use Rattle.flat_model.specs.declared.calls.Reply.TheVariants.{Does, Writes, Waits, Exits}
 use Rattle.flat_model.specs.declared.calls.SystemCall.{SystemCall}
 use Rattle.flat_model.specs.declared.calls.SystemCall.TheVariants as calls
-use Rattle.flat_model.specs.Calls.{call_of, argument, three_arguments, bytes_from, string_from, arguments_at, exit_reply, child_by, written_to, write_reply, break_by, break_reply, pages_up_to, stack_pages_of, data_limit, path_image, starts, execve_of, execve_reply, wait_by, reply_of, or_fault, refused_reply, unless_refused, wants_space, string_limit, write_limit, process_limit}
+use Rattle.flat_model.specs.Calls.{call_of, argument, three_arguments, bytes_from, string_from, arguments_at, exit_reply, child_by, written_to, write_reply, break_by, break_reply, pages_up_to, stack_pages_of, data_limit, path_image, starts, execve_of, execve_reply, wait_by, reply_of, or_fault, string_limit, write_limit, process_limit}
 use Rattle.flat_model.specs.Instruction.{instruction_in}
 use Rattle.flat_model.specs.Step.{pages_down_to, data_pages_of as data_pages_in, replied_step, reply_behind, called_step, step_behind, step_of, step_holding, step_if, flat_step, written_process}
 use Rattle.flat_model.specs.Run.{Point, flat_run}
@@ -49,7 +49,8 @@ use Rattle.run_laws.specs.Sized.{SpaceSized, HoldingSized, FlatSized, InputsSize
 use Rattle.run_laws.proofs.Writing.{SameSpace, puts_same}
 use Rattle.run_laws.proofs.Texts.{each_replaced, each_left, each_mapped, each_last}
 use Rattle.run_laws.proofs.Touching.{found_process}
-use Rattle.run_laws.proofs.Execs.{AllGives, gives_any, execs_fit}
+use Rattle.register_laws.proofs.Computations.{AllGives, gives_any, reply_gives, refused_gives}
+use Rattle.run_laws.proofs.Execs.{execs_fit}
 
 abbrev Sized : Process → Type 0
 Sized q = HoldingSized q.holding
@@ -230,37 +231,6 @@ all_sized images F p s calls.Execve regs t = gives_any (ReplySized F) (three_arg
 all_sized images F p s calls.Vfork regs t = (child_sized F (nat_lt (length F.processes) process_limit) regs F.next_pid refl).1
 all_sized images F p s calls.Wait regs t = wait_sized F (find (λ q. q.parent == p.pid) F.processes) (find (is_zombie_child p.pid) F.processes) regs
 
-run_sized : (F : FlatState) (memory : Answers) (p : Program Reply) → AllGives (ReplySized F) p → ReplySized F (or_fault (run memory p))
-run_sized F memory (Gives x) h = h
-run_sized F memory (Refuses signal) h = tt
-run_sized F memory (Reads a next) h = go (λ byte. run_sized F memory (next byte) (h byte)) (memory.read a)
-  where
-    go : ((byte : ℕ) → ReplySized F (or_fault (run memory (next byte)))) → (answer : ByteRead) → ReplySized F (or_fault (after_read answer a (λ byte. run memory (next byte))))
-    go later (bytes.Is byte) = later byte
-    go later bytes.Miss = tt
-    go later bytes.Below = tt
-    go later bytes.Outside = tt
-run_sized F memory (Tests a next) h = go (run_sized F memory next h) (memory.may_write a)
-  where
-    go : ReplySized F (or_fault (run memory next)) → (answer : MayWrite) → ReplySized F (or_fault (after_test answer a (run memory next)))
-    go later tests.May = later
-    go later tests.Miss = tt
-    go later tests.Below = tt
-    go later tests.Text = tt
-    go later tests.Outside = tt
-
-refused_sized : (F : FlatState) (refused : Bool) (reply : Reply) → ReplySized F reply → ReplySized F (refused_reply refused reply)
-refused_sized F false reply h = h
-refused_sized F true (Does regs change) h = go (wants_space change)
-  where
-    go : (b : Bool) → ReplySized F (unless_refused b (Does regs change))
-    go true = tt
-    go false = h
-refused_sized F true (Fails error) h = tt
-refused_sized F true (Writes bytes) h = tt
-refused_sized F true Waits h = tt
-refused_sized F true (Exits status) h = tt
-
 -- An access below the stack is within its reach.
 
 below_or : {B : Type 0} (memory : Answers) (p : Program B) (a : ℕ) → run memory p ≡ Err (Below a)
@@ -344,10 +314,10 @@ called_sized A F p s refused effect (Some call) sz fit t x h =
     let t1 : SpaceSized (puts s effect.writes) =
     record { data_size = let a = z.data_size in let b = t.data_size in omega arith; stack_size = let a = z.stack_size in let b = t.stack_size in omega arith } in
     replied_sized A F p call effect (reply_behind A.images F p s refused call effect) sz fit x
-    (refused_sized (apply_writes F p.pid effect.writes) refused
-    (or_fault (run (answers_of (puts s effect.writes)) (reply_of A.images (apply_writes F p.pid effect.writes) (written_process p s effect.writes) (puts s effect.writes) call effect.regs)))
-    (run_sized (apply_writes F p.pid effect.writes) (answers_of (puts s effect.writes))
-    (reply_of A.images (apply_writes F p.pid effect.writes) (written_process p s effect.writes) (puts s effect.writes) call effect.regs)
+    (refused_gives (ReplySized (apply_writes F p.pid effect.writes)) refused
+    (or_fault (run (answers_of (puts s effect.writes)) (reply_of A.images (apply_writes F p.pid effect.writes) (written_process p s effect.writes) (puts s effect.writes) call effect.regs))) tt
+    (reply_gives (ReplySized (apply_writes F p.pid effect.writes)) (answers_of (puts s effect.writes))
+    (reply_of A.images (apply_writes F p.pid effect.writes) (written_process p s effect.writes) (puts s effect.writes) call effect.regs) tt
     (all_sized A.images (apply_writes F p.pid effect.writes) (written_process p s effect.writes) (puts s effect.writes) call effect.regs t1))) h
 
 behind_sized : (A : Inputs) (F : FlatState) (p : Process) (s : Space) (refused : Bool) (effect : Effect) (o : Option ℤ) → InputsSized A

@@ -1,11 +1,7 @@
 -- An instruction that makes a call writes nothing itself.
-use Rattle.std.proofs.Common.{◌≡◌, ◌⊎◌, inl, inr, ℕ, zero, suc, ◌^◌, Bool, true, false, List, [], ◌∷◌, Option, Some, None, Result, Ok, Err, ℤ, refl, sym, ap, ◌∙◌, subst}
+use Rattle.std.proofs.Common.{◌≡◌, ◌⊎◌, inl, inr, ℕ, zero, suc, ◌^◌, Bool, true, false, List, [], ◌∷◌, Option, Some, None, Result, Ok, Err, ℤ, refl, sym, ap, ◌∙◌}
 use Rattle.std.specs.Prelude.{if◌then◌else◌, ◌==◌, nat_le}
 use Rattle.vm_facts.specs.Answers.{Answers}
-use Rattle.vm_facts.specs.declared.memory.ByteRead.{ByteRead}
-use Rattle.vm_facts.specs.declared.memory.ByteRead.TheVariants as reads
-use Rattle.vm_facts.specs.declared.memory.MayWrite.{MayWrite}
-use Rattle.vm_facts.specs.declared.memory.MayWrite.TheVariants as tests
 use Rattle.vm_facts.specs.declared.regs.Regs.{Regs}
 use Rattle.vax_alu.specs.Results.{quotient_of}
 use Rattle.vax_code.specs.declared.instr.Instr.{Instr}
@@ -16,15 +12,14 @@ use Rattle.vax_code.specs.Table.{row_for}
 use Rattle.user_vax.specs.declared.operand.Evaluated.{Evaluated}
 use Rattle.user_vax.specs.declared.operand.Place.{Place}
 use Rattle.user_vax.specs.declared.operand.Place.TheVariants as places
-use Rattle.user_vax.specs.declared.refused.Refused.{Refused}
-use Rattle.user_vax.specs.Program.{Program, Gives, Refuses, Reads, Tests, run, after_read, after_test, ◌>>=◌}
+use Rattle.user_vax.specs.Program.{Gives, Refuses, run, ◌>>=◌}
 use Rattle.user_vax.specs.Signals.{sigill, sigfpe}
 use Rattle.user_vax.specs.Operands.{register, number_at}
 use Rattle.user_vax.specs.Effects.{Effect, registers_only, with_move_codes, store_effect, result_effect, push_onto, push_effect, division, pop_into, subroutine_return}
 use Rattle.user_vax.specs.Frames.{push_all, with_frame, procedure_entry, procedure_call, registers_returned, procedure_return}
 use Rattle.user_vax.specs.Computation.{computation}
 use Rattle.user_vax.specs.Instruction.{fetch, evaluations, write_tests, tested_effect, execution, execution_by, instruction}
-use Rattle.economy_laws.proofs.Execs.{AllGives, gives_bind, gives_any}
+use Rattle.economy_laws.proofs.Computations.{AllGives, gives_bind, gives_any, run_gives}
 
 -- it makes no call, or writes nothing
 abbrev pub IsQuiet : Effect → Type 0
@@ -168,32 +163,10 @@ pub instruction_quiet : (regs : Regs) → AllGives IsQuiet (instruction regs)
 unfolding instruction
 instruction_quiet regs = gives_any IsQuiet (fetch 20 (register regs 15) []) (λ instr. execution_by (row_for instr.op) regs instr) (λ instr. executed_quiet (row_for instr.op) regs instr)
 
--- what a computation gives over any memory
-pub given_of : {A : Type 0} (P : A → Type 0) (memory : Answers) (p : Program A) (x : A) → AllGives P p → run memory p ≡ Ok x → P x
-given_of P memory (Gives y) x h e = subst P (let z : y ≡ x = cc in z) h
-given_of P memory (Refuses signal) x h e = absurd cc
-given_of {A} P memory (Reads address next) x h e = go (λ byte k. given_of P memory (next byte) x (h byte) k) (memory.read address) e
-  where
-    go : ((byte : ℕ) → run memory (next byte) ≡ Ok x → P x) → (r : ByteRead)
-        → after_read {A = A} r address (λ byte. run memory (next byte)) ≡ Ok x → P x
-    go later (reads.Is byte) k = later byte k
-    go later reads.Miss k = absurd cc
-    go later reads.Below k = absurd cc
-    go later reads.Outside k = absurd cc
-given_of {A} P memory (Tests address next) x h e = go (λ k. given_of P memory next x h k) (memory.may_write address) e
-  where
-    go : (run memory next ≡ Ok x → P x) → (r : MayWrite)
-        → after_test {A = A} r address (run memory next) ≡ Ok x → P x
-    go later tests.May k = later k
-    go later tests.Miss k = absurd cc
-    go later tests.Below k = absurd cc
-    go later tests.Text k = absurd cc
-    go later tests.Outside k = absurd cc
-
 -- who makes a call writes nothing
 pub calls_write_none : (memory : Answers) (regs : Regs) (effect : Effect) (number : ℤ) → run memory (instruction regs) ≡ Ok effect
     → effect.call ≡ Some number → effect.writes ≡ []
-calls_write_none memory regs effect number e c = elim (given_of IsQuiet memory (instruction regs) effect (instruction_quiet regs) e) [
+calls_write_none memory regs effect number e c = elim (run_gives IsQuiet memory (instruction regs) effect (instruction_quiet regs) e) [
   | inl n ↦ let z : Some number ≡ None = sym c ∙ n in absurd cc
   | inr w ↦ w
 ]

@@ -8,6 +8,7 @@ pub use Rattle.economy_laws.proofs.Opening
 pub use Rattle.economy_laws.proofs.Sleeping
 pub use Rattle.economy_laws.proofs.Writes
 pub use Rattle.economy_laws.proofs.FlatLawsAsking
+pub use Rattle.economy_laws.proofs.Computations
 pub use Rattle.economy_laws.proofs.Finding
 pub use Rattle.economy_laws.proofs.Others
 pub use Rattle.economy_laws.proofs.Shown

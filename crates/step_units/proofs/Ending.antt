@@ -31,11 +31,7 @@ use Rattle.run_units.specs.Stepping.{GivesBack, returned, with_holdings}
 use Rattle.run_units.specs.Touching.{IsRunning, IsCalledFor}
 use Rattle.run_units.proofs.Stepping.{none_asked}
 use Rattle.vm_facts.specs.Answers.{Answers, ByteWrite}
-use Rattle.vm_facts.specs.declared.memory.ByteRead.{ByteRead}
-use Rattle.vm_facts.specs.declared.memory.ByteRead.TheVariants as bytes
-use Rattle.vm_facts.specs.declared.memory.MayWrite.{MayWrite}
-use Rattle.vm_facts.specs.declared.memory.MayWrite.TheVariants as tests
-use Rattle.user_vax.specs.Program.{Program, Gives, Refuses, Reads, Tests, after_read, after_test, run}
+use Rattle.user_vax.specs.Program.{Gives, run}
 use Rattle.user_vax.specs.Effects.{Effect}
 use Rattle.user_vax.specs.declared.refused.Refused.{Refused}
 use Rattle.flat_model.specs.declared.calls.Reply.{Reply}
@@ -45,7 +41,7 @@ use Rattle.flat_model.specs.Calls.{argument, reply_of, exit_reply}
 use Rattle.machine_state.specs.UserMemory.{kernel_answers}
 use Rattle.swapper.specs.Stops.{StopsBefore}
 use Rattle.proc_calls.specs.declared.replying.Called.{Called}
-use Rattle.run_units.proofs.Execs.{AllGives, gives_any}
+use Rattle.run_units.proofs.Computations.{AllGives, gives_any, run_gives}
 use Rattle.step_units.specs.Machines.{MachineAt, RunsOn, MakesCall}
 use Rattle.step_units.specs.Stepped.{StepLeads, StopLeads, CallLeads}
 use Rattle.step_units.specs.Leaving.{EndsWith}
@@ -123,27 +119,6 @@ module _ (A : Inputs) (s : State) (old : Standing) (holds : Option (List NamedFi
       once y =
           let l : Left A s old y.reached image pid now p x j = has_left A s old holds image pid now p x m gives y.reached j y.far in
           left_stops A s old y.reached image pid now p x j l (entries.Ended pid status) new stop ends.begins first tt y.stops
-
--- What a computation gives, it comes to.
-
-pub run_gives : {X : Type 0} (P : X → Type 0) (memory : Answers) (p : Program X) (value : X) → AllGives P p → run memory p ≡ Ok value → P value
-run_gives P memory (Gives y) value h e = subst P (let same : y ≡ value = cc in same) h
-run_gives P memory (Refuses signal) value h e = absurd cc
-run_gives {X} P memory (Reads a next) value h e = go (λ byte k. run_gives P memory (next byte) value (h byte) k) (memory.read a) e
-  where
-    go : ((byte : ℕ) → run memory (next byte) ≡ Ok value → P value) → (answer : ByteRead) → after_read {A = X} answer a (λ byte. run memory (next byte)) ≡ Ok value → P value
-    go later (bytes.Is byte) k = later byte k
-    go later bytes.Miss k = absurd cc
-    go later bytes.Below k = absurd cc
-    go later bytes.Outside k = absurd cc
-run_gives {X} P memory (Tests a next) value h e = go (λ k. run_gives P memory next value h k) (memory.may_write a) e
-  where
-    go : (run memory next ≡ Ok value → P value) → (answer : MayWrite) → after_test {A = X} answer a (run memory next) ≡ Ok value → P value
-    go later tests.May k = later k
-    go later tests.Miss k = absurd cc
-    go later tests.Below k = absurd cc
-    go later tests.Text k = absurd cc
-    go later tests.Outside k = absurd cc
 
 exit_gives : (regs : Regs) → AllGives IsExit (exit_reply regs)
 unfolding exit_reply

@@ -38,7 +38,7 @@ use Rattle.proc_calls.specs.Leaving.{HasLeft, StopsAlive}
 use Rattle.proc_calls.specs.Making.{without_pieces}
 use Rattle.proc_calls.specs.Starting.{image_found, HasStarted, StartsBy, ExecComes, StopsFinding, StopsExec}
 use Rattle.proc_calls.proofs.Starts.{is_ready}
-use Rattle.run_units.proofs.Execs.{AllGives, gives_any}
+use Rattle.run_units.proofs.Computations.{AllGives, gives_any, run_gives}
 use Rattle.run_units.specs.Touching.{IsCalledFor}
 use Rattle.step_units.specs.Stepped.{StopLeads, StepLeads, CallLeads}
 use Rattle.step_units.proofs.Filling.{LeadsTo, forced_fill, filling_stops}
@@ -51,7 +51,6 @@ use Rattle.step_units.proofs.Refusing.{IsRefusal, refusal, refused_fails, refuse
 use Rattle.step_units.proofs.Leading.{led_told, led_at}
 use Rattle.step_units.proofs.Replying.{ready, called_step, fails}
 use Rattle.step_units.proofs.Tables.{IsKept, is_kept}
-use Rattle.step_units.proofs.Ending.{run_gives}
 use Rattle.step_units.proofs.Starting.{found_back, exec_asked, pieces_same, exec_called, exec_step, exec_first, exec_gives, IsImaged, imaged}
 use Rattle.step_units.proofs.Leaving.{Left, has_left, stops_leaving, left_stops}
 

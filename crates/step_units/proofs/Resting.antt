@@ -45,7 +45,7 @@ use Rattle.run_units.specs.Shown.{IsCallOf}
 use Rattle.run_units.specs.Serving.{At}
 use Rattle.run_units.specs.Stepping.{PassesNone}
 use Rattle.run_units.specs.Touching.{IsRunning, WantsPage, MakesNone, IsWhole, IsReadyFor, IsAnswered, IsCalledFor}
-use Rattle.run_units.proofs.Execs.{AllGives, gives_any}
+use Rattle.run_units.proofs.Computations.{AllGives, gives_any, run_gives}
 use Rattle.run_units.proofs.Flows.{on_steps}
 use Rattle.run_units.proofs.Instructing.{hit_ready, miss_wanted, call_ready, call_wanted}
 use Rattle.run_units.proofs.Stepping.{step_known, none_asked}
@@ -53,7 +53,6 @@ use Rattle.step_units.specs.Machines.{MakesCall}
 use Rattle.step_units.specs.Rests.{ReplyRests, EndRests, SentRests, RefusedRests, RestIsMade, RestStops}
 use Rattle.step_units.proofs.Begun.{is_refused_by, refused_due, out_due, out_unrefused, begins_refused, goes_on_behind, none_lost}
 use Rattle.step_units.proofs.Behind.{StepWaits, KeepsDue, running_same, wanted_same}
-use Rattle.step_units.proofs.Ending.{run_gives}
 use Rattle.step_units.proofs.Entering.{complete_leads, entered, stopped_before}
 use Rattle.step_units.proofs.Executing.{IsStart, exec_replies}
 use Rattle.step_units.proofs.Replying.{asked_here, called_on, called_step, refused_step}
