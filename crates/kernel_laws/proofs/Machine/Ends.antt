@@ -347,14 +347,39 @@ end_kernel k pid sid borrowed ps journal =
       journal = journal;
     }
 
+-- what is asked of the flat state after an end, of the tables alone
+pub record LeavesTables (flat after : FlatState) (sid : ℕ) (borrowed : Bool) : Type 0 where
+  pub other : (m : ℕ) → (borrowed ≡ false → m ≢ sid) → numbered sid_of m (spaces_of after) ≡ numbered sid_of m (spaces_of flat)
+  pub gone : borrowed ≡ false → numbered sid_of sid (spaces_of after) ≡ None
+
+-- An end, where the space goes unless it was borrowed.
+pub leave_fits : (k : Kernel) (flat after : FlatState) (pid sid : ℕ) (borrowed : Bool) (ps : List Proc) (journal : List Entry)
+    → LeavesTables flat after sid borrowed → AllFit flat k.place
+    → AllFit after (end_kernel k pid sid borrowed ps journal).place
+leave_fits k flat after pid sid borrowed ps journal a all =
+    let l : Kernel = end_kernel k pid sid borrowed ps journal in
+    let p1 : Placement = give_up_unless borrowed k.place sid in
+    let g : Gone k.place p1 borrowed sid = gone_unless borrowed k.place sid in
+    let kept_fits : (m : ℕ) → (borrowed ≡ false → m ≢ sid) → Fits (numbered sid_of m (spaces_of after)) (numbered space_number m l.place.spaces) = λ m d.
+    subst (λ (o : Option Space). Fits o (numbered space_number m l.place.spaces)) (sym (a.other m d))
+    (fit_shapes (numbered sid_of m (spaces_of flat)) (numbered space_number m k.place.spaces) (numbered space_number m l.place.spaces) (g.other m d) (all m)) in
+    let fits : AllFit after l.place = λ m. elim (cases_Bool borrowed) [
+      | inl t ↦ kept_fits m (λ e. absurd (let j : true ≡ false = sym t ∙ e in cc))
+      | inr t ↦ elim (cases_eq m sid) [
+        | inl i ↦ subst (λ (n : ℕ). Fits (numbered sid_of n (spaces_of after)) (numbered space_number n l.place.spaces)) (sym i)
+            (subst (λ (o : Option Space). Fits o (numbered space_number sid l.place.spaces)) (sym (a.gone t)) (subst (Fits None) (sym (g.own t)) tt))
+        | inr d ↦ kept_fits m (λ e. d)
+      ]
+    ] in
+    fits
+
 -- what is asked of the space and of the flat state after the end
 pub record Leaving (k : Kernel) (flat after : FlatState) (pid sid : ℕ) (borrowed : Bool) : Type 0 where
   pub frames : OwnsFrames k.place
   pub due : k.place.due ≡ []
   pub settled : borrowed ≡ false → IsSettled k.place sid
   pub aside : TextAside (end_residence (give_up_unless borrowed k.place sid) pid)
-  pub other : (m : ℕ) → (borrowed ≡ false → m ≢ sid) → numbered sid_of m (spaces_of after) ≡ numbered sid_of m (spaces_of flat)
-  pub gone : borrowed ≡ false → numbered sid_of sid (spaces_of after) ≡ None
+  pub tables : LeavesTables flat after sid borrowed
 
 pub end_core : (k : Kernel) (images : List NamedImage) (image : List ℕ) (flat after : FlatState) (pid sid : ℕ) (borrowed : Bool)
     (ps : List Proc) (journal : List Entry)
@@ -367,18 +392,7 @@ end_core k images image flat after pid sid borrowed ps journal a all pages =
     let coupled : CouplesPages l.place (beside_kernel l images image after) = still_coupled p1 l.place (beside_kernel l images image after) (λ w. refl) refl refl
     (other_coupled p1 (beside_kernel k images image flat) (beside_kernel l images image after)
     (unless_coupled borrowed k.place sid (beside_kernel k images image flat) a.frames a.settled pages) no_copy refl others (λ i v. refl)) in
-    let kept_fits : (m : ℕ) → (borrowed ≡ false → m ≢ sid) → Fits (numbered sid_of m (spaces_of after)) (numbered space_number m l.place.spaces) = λ m d.
-    subst (λ (o : Option Space). Fits o (numbered space_number m l.place.spaces)) (sym (a.other m d))
-    (fit_shapes (numbered sid_of m (spaces_of flat)) (numbered space_number m k.place.spaces) (numbered space_number m l.place.spaces) (g.other m d) (all m)) in
-    let fits : AllFit after l.place = λ m. elim (cases_Bool borrowed) [
-      | inl t ↦ kept_fits m (λ e. absurd (let j : true ≡ false = sym t ∙ e in cc))
-      | inr t ↦ elim (cases_eq m sid) [
-        | inl i ↦ subst (λ (n : ℕ). Fits (numbered sid_of n (spaces_of after)) (numbered space_number n l.place.spaces)) (sym i)
-            (subst (λ (o : Option Space). Fits o (numbered space_number sid l.place.spaces)) (sym (a.gone t)) (subst (Fits None) (sym (g.own t)) tt))
-        | inr d ↦ kept_fits m (λ e. d)
-      ]
-    ] in
-    (fits, coupled)
+    (leave_fits k flat after pid sid borrowed ps journal a.tables all, coupled)
   where
     l : Kernel
     l = end_kernel k pid sid borrowed ps journal
@@ -409,13 +423,13 @@ end_core k images image flat after pid sid borrowed ps journal a all pages =
       file = ap (λ (i : ℕ). page_at v (data_of (image_numbered images i)))
           (image_by_shape (numbered space_number m k.place.spaces) (numbered space_number m p1.spaces) (g.other m (gone_data k.place p1 borrowed sid m v g there)));
       start = refl;
-      memory = ap (λ (o : Option Space). page_at v (data_bytes_in o)) (a.other m (gone_data k.place p1 borrowed sid m v g there));
+      memory = ap (λ (o : Option Space). page_at v (data_bytes_in o)) (a.tables.other m (gone_data k.place p1 borrowed sid m v g there));
       swap = swap_of (Data m v) there;
     }
     others (Stack m v) there = record {
       file = refl;
       start = refl;
-      memory = ap (λ (o : Option Space). page_at v (stack_bytes_in o)) (a.other m (gone_stack k.place p1 borrowed sid m v g there));
+      memory = ap (λ (o : Option Space). page_at v (stack_bytes_in o)) (a.tables.other m (gone_stack k.place p1 borrowed sid m v g there));
       swap = swap_of (Stack m v) there;
     }
     others (Text m v) there = record { file = refl; start = refl; memory = refl; swap = swap_of (Text m v) there }
@@ -463,8 +477,10 @@ end_coupled_step size k images image flat pid regs e status q s so nums outs due
       due = due;
       settled = λ i. settled;
       aside = place_change_aside (record { images = (facts_of images); pid = kp.pid; sid = s.sid; borrowed = false; next_sid = k.next_sid; at = 0 }) k.place (End status) o.aside forget;
-      other = λ m d. ap (numbered sid_of m) spaces ∙ held_other flat.processes fp s m held_here (d refl) refl;
-      gone = λ i. ap (numbered sid_of s.sid) spaces ∙ held_now flat.processes fp s held_here;
+      tables = record {
+        other = λ m d. ap (numbered sid_of m) spaces ∙ held_other flat.processes fp s m held_here (d refl) refl;
+        gone = λ i. ap (numbered sid_of s.sid) spaces ∙ held_now flat.processes fp s held_here;
+      };
     } in
     let core : AllFit after l.place × CouplesPages l.place (beside_kernel l images image after) =
     end_core k images image flat after kp.pid s.sid false (left_procs (kp.parent == 0) (orphaned_procs k.processes kp.pid) kp status) (append k.journal e) leaves c.tables.spaces c.pages in

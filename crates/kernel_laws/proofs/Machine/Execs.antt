@@ -76,39 +76,30 @@ exec_kernel k next sid borrowed number o top ps journal =
       journal = journal;
     }
 
--- what is asked of the new image and of the flat state after it
-pub record Entering (k : Kernel) (images : List NamedImage) (flat after : FlatState) (next sid number : ℕ) (borrowed : Bool) (named : NamedImage)
-    (top : List ℕ) : Type 0 where
-  pub frames : OwnsFrames k.place
-  pub due : k.place.due ≡ []
-  pub starts : KeepsStarts k
+-- what is asked of the new image and of the flat state after it, of the tables alone
+pub record EntersTables (k : Kernel) (flat after : FlatState) (next sid number : ℕ) (borrowed : Bool) (named : NamedImage) (top : List ℕ) : Type 0 where
   pub new : IsNew k.place next
-  pub flat_new : numbered sid_of next (spaces_of flat) ≡ None
   pub apart : borrowed ≡ false → next ≢ sid
-  pub settled : borrowed ≡ false → IsSettled k.place sid
-  pub aside : TextAside (give_up_unless borrowed (enter_image k.place next number (Some named.image.facts)) sid)
-  pub image : image_numbered images number ≡ Some named
   pub fits : DataFits named.image
   pub whole : length top ≡ 1024
   pub own : numbered sid_of next (spaces_of after) ≡ Some (space_with next number named.image top)
   pub other : (m : ℕ) → m ≢ next → (borrowed ≡ false → m ≢ sid) → numbered sid_of m (spaces_of after) ≡ numbered sid_of m (spaces_of flat)
   pub gone : borrowed ≡ false → numbered sid_of sid (spaces_of after) ≡ None
 
-pub exec_core : (k : Kernel) (images : List NamedImage) (image : List ℕ) (flat after : FlatState) (next sid number : ℕ) (borrowed : Bool) (named : NamedImage)
-    (top : List ℕ) (ps : List Proc) (journal : List Entry)
-    → Entering k images flat after next sid number borrowed named top
-    → AllFit flat k.place → CouplesPages k.place (beside_kernel k images image flat)
+-- A new image, where the old space goes unless it was borrowed.
+pub enter_fits : (k : Kernel) (flat after : FlatState) (next sid number : ℕ) (borrowed : Bool) (named : NamedImage) (top : List ℕ)
+    (ps : List Proc) (journal : List Entry)
+    → EntersTables k flat after next sid number borrowed named top → AllFit flat k.place
     → AllFit after (exec_kernel k next sid borrowed number (Some named.image.facts) top ps journal).place
-    × CouplesPages (exec_kernel k next sid borrowed number (Some named.image.facts) top ps journal).place
-    (beside_kernel (exec_kernel k next sid borrowed number (Some named.image.facts) top ps journal) images image after)
-exec_core k images image flat after next sid number borrowed named top ps journal a all pages =
-    let entered_pages : CouplesPages p1 c1 = enter_coupled k.place next number facts b c1 pages a.new a.due same datas start (λ i v. refl) in
-    -- without the old space
-    let left_pages : CouplesPages l.place c1 =
-    unless_coupled borrowed p1 sid c1 (enter_image_owner k.place next number (Some named.image.facts) a.frames a.new)
-    (λ e. enter_settled k.place next number sid (Some named.image.facts) a.frames a.new (a.settled e)) entered_pages in
-    let coupled : CouplesPages l.place (beside_kernel l images image after) = other_coupled l.place c1 (beside_kernel l images image after) left_pages no_copy refl others (λ i v. refl) in
-    -- tables
+enter_fits k flat after next sid number borrowed named top ps journal a all =
+    let l : Kernel = exec_kernel k next sid borrowed number (Some named.image.facts) top ps journal in
+    let facts : Image = named.image.facts in
+    let z : Space = space_with next number named.image top in
+    let x : SpacePages = new_pages next number facts in
+    let p1 : Placement = enter_space k.place next number facts in
+    let g : Gone p1 l.place borrowed sid = gone_unless borrowed p1 sid in
+    let place_own : numbered space_number next p1.spaces ≡ Some x = added_same next k.place.spaces x refl a.new in
+    let place_other : (m : ℕ) → m ≢ next → numbered space_number m p1.spaces ≡ numbered space_number m k.place.spaces = λ m d. added_other m k.place.spaces x (λ i. d (sym i)) in
     let sized : IsSized z x = record {
       image = refl;
       data_size = let f : DataFits named.image = a.fits in f.size ∙ ap (λ (m : ℕ). 1024 * m) (sym (unfilled_length facts 0 (image_data_pages facts)));
@@ -133,7 +124,35 @@ exec_core k images image flat after next sid number borrowed named top ps journa
         ]
       ]
     ] in
-    (fits, coupled)
+    fits
+
+-- what is asked of the new image and of the flat state after it
+pub record Entering (k : Kernel) (images : List NamedImage) (flat after : FlatState) (next sid number : ℕ) (borrowed : Bool) (named : NamedImage)
+    (top : List ℕ) : Type 0 where
+  pub frames : OwnsFrames k.place
+  pub due : k.place.due ≡ []
+  pub starts : KeepsStarts k
+  pub flat_new : numbered sid_of next (spaces_of flat) ≡ None
+  pub settled : borrowed ≡ false → IsSettled k.place sid
+  pub aside : TextAside (give_up_unless borrowed (enter_image k.place next number (Some named.image.facts)) sid)
+  pub image : image_numbered images number ≡ Some named
+  pub tables : EntersTables k flat after next sid number borrowed named top
+
+pub exec_core : (k : Kernel) (images : List NamedImage) (image : List ℕ) (flat after : FlatState) (next sid number : ℕ) (borrowed : Bool) (named : NamedImage)
+    (top : List ℕ) (ps : List Proc) (journal : List Entry)
+    → Entering k images flat after next sid number borrowed named top
+    → AllFit flat k.place → CouplesPages k.place (beside_kernel k images image flat)
+    → AllFit after (exec_kernel k next sid borrowed number (Some named.image.facts) top ps journal).place
+    × CouplesPages (exec_kernel k next sid borrowed number (Some named.image.facts) top ps journal).place
+    (beside_kernel (exec_kernel k next sid borrowed number (Some named.image.facts) top ps journal) images image after)
+exec_core k images image flat after next sid number borrowed named top ps journal a all pages =
+    let entered_pages : CouplesPages p1 c1 = enter_coupled k.place next number facts b c1 pages a.tables.new a.due same datas start (λ i v. refl) in
+    -- without the old space
+    let left_pages : CouplesPages l.place c1 =
+    unless_coupled borrowed p1 sid c1 (enter_image_owner k.place next number (Some named.image.facts) a.frames a.tables.new)
+    (λ e. enter_settled k.place next number sid (Some named.image.facts) a.frames a.tables.new (a.settled e)) entered_pages in
+    let coupled : CouplesPages l.place (beside_kernel l images image after) = other_coupled l.place c1 (beside_kernel l images image after) left_pages no_copy refl others (λ i v. refl) in
+    (enter_fits k flat after next sid number borrowed named top ps journal a.tables all, coupled)
   where
     l : Kernel
     l = exec_kernel k next sid borrowed number (Some named.image.facts) top ps journal
@@ -154,7 +173,7 @@ exec_core k images image flat after next sid number borrowed named top ps journa
     g = gone_unless borrowed p1 sid
 
     place_own : numbered space_number next p1.spaces ≡ Some x
-    place_own = added_same next k.place.spaces x refl a.new
+    place_own = added_same next k.place.spaces x refl a.tables.new
 
     place_other : (m : ℕ) → m ≢ next → numbered space_number m p1.spaces ≡ numbered space_number m k.place.spaces
     place_other m d = added_other m k.place.spaces x (λ i. d (sym i))
@@ -180,11 +199,11 @@ exec_core k images image flat after next sid number borrowed named top ps journa
 
     old_data : (m v : ℕ) → IsThere k.place (Data m v) → m ≢ next
     old_data m v there i = absurd (let w : v < length (slots_of k.place (Data next v)) = subst (λ (y : ℕ). IsThere k.place (Data y v)) i there in
-        let n = ap (λ (o : Option SpacePages). length (data_in o)) a.new in omega arith)
+        let n = ap (λ (o : Option SpacePages). length (data_in o)) a.tables.new in omega arith)
 
     old_stack : (m v : ℕ) → IsThere k.place (Stack m v) → m ≢ next
     old_stack m v there i = absurd (let w : v < length (slots_of k.place (Stack next v)) = subst (λ (y : ℕ). IsThere k.place (Stack y v)) i there in
-        let n = ap (λ (o : Option SpacePages). length (stack_in o)) a.new in omega arith)
+        let n = ap (λ (o : Option SpacePages). length (stack_in o)) a.tables.new in omega arith)
 
     stack_sid : (m n v w : ℕ) → Stack m v ≡ Stack n w → m ≡ n
     stack_sid m n v w e = cc
@@ -220,11 +239,11 @@ exec_core k images image flat after next sid number borrowed named top ps journa
       where
         go : (t : Bool) → nat_lt (1024 * v) (data_given facts) ≡ t → FillsBy c1 (Data next v) (cond t OfImage Zeros)
         go true e = new_file v ∙ sym (new_data v)
-        go false e = let f : DataFits named.image = a.fits in sym (new_data v ∙ f.rest v (not_lt (1024 * v) (data_given facts) e) w)
+        go false e = let f : DataFits named.image = a.tables.fits in sym (new_data v ∙ f.rest v (not_lt (1024 * v) (data_given facts) e) w)
 
     start : c1.start (Stack next 0) ≡ c1.memory (Stack next 0)
     start = start_new k.starts (record { page = Stack next 0; bytes = top }) (a.starts (Stack next 0) (ap (λ (ds : List Due). is_start (due_of_page ds (Stack next 0))) a.due))
-        ∙ sym (ap (λ (o : Option Space). page_at 0 (stack_bytes_in o)) both_own ∙ take_all 1024 top (let h = a.whole in omega arith))
+        ∙ sym (ap (λ (o : Option Space). page_at 0 (stack_bytes_in o)) both_own ∙ take_all 1024 top (let h = a.tables.whole in omega arith))
 
     no_copy : (w : Page) → NoCopy (due_of_page l.place.due w)
     no_copy w = subst (λ (ds : List Due). NoCopy (due_of_page ds w)) (sym g.due) (go (same_page (Stack next 0) w))
@@ -235,8 +254,8 @@ exec_core k images image flat after next sid number borrowed named top ps journa
 
     spaces_same : (m : ℕ) → (borrowed ≡ false → m ≢ sid) → numbered sid_of m (spaces_of after) ≡ numbered sid_of m (spaces_of both)
     spaces_same m d = elim (cases_eq m next) [
-      | inl i ↦ subst (λ (n : ℕ). numbered sid_of n (spaces_of after) ≡ numbered sid_of n (spaces_of both)) (sym i) (a.own ∙ sym both_own)
-      | inr n ↦ a.other m n d ∙ sym (both_other m n)
+      | inl i ↦ subst (λ (n : ℕ). numbered sid_of n (spaces_of after) ≡ numbered sid_of n (spaces_of both)) (sym i) (a.tables.own ∙ sym both_own)
+      | inr n ↦ a.tables.other m n d ∙ sym (both_other m n)
     ]
 
     swap_of : (w : Page) → IsThere l.place w → (stored l.holdings image w ≡ stored k.holdings image w) ⊎ Rattle.kernel_laws.proofs.Machine.Gone.AsideText l.place w
@@ -324,20 +343,22 @@ exec_coupled_step size before k images image flat pid regs e number top named q 
       frames = o.frames;
       due = due;
       starts = starts;
-      new = next_new flat k.place nums c.tables.spaces;
       flat_new = next_sid_none flat nums;
-      apart = λ i. apart;
       settled = λ i. settled;
       aside = subst (λ (x : Option Image). TextAside (give_up_unless false (enter_image k.place n number x) s.sid)) (facts_found images number named im)
           (subst (λ (m : ℕ). TextAside (place_change (record { images = (facts_of images); pid = pid; sid = s.sid; borrowed = false; next_sid = m; at = 0 }) k.place (Exec number top)))
           c.tables.next_sid
           (place_change_aside (record { images = (facts_of images); pid = pid; sid = s.sid; borrowed = false; next_sid = k.next_sid; at = 0 }) k.place (Exec number top) o.aside forget));
       image = im;
-      fits = fit;
-      whole = whole;
-      own = held_new flat.processes fp s n held_here (next_sid_none flat nums) ∙ numbered_hit sid_of n z [] refl;
-      other = λ m a b. held_other flat.processes fp s m held_here (b refl) (numbered_miss sid_of m z [] (λ i. a (sym i)));
-      gone = λ i. held_now flat.processes fp s held_here ∙ numbered_miss sid_of s.sid z [] apart;
+      tables = record {
+        new = next_new flat k.place nums c.tables.spaces;
+        apart = λ i. apart;
+        fits = fit;
+        whole = whole;
+        own = held_new flat.processes fp s n held_here (next_sid_none flat nums) ∙ numbered_hit sid_of n z [] refl;
+        other = λ m a b. held_other flat.processes fp s m held_here (b refl) (numbered_miss sid_of m z [] (λ i. a (sym i)));
+        gone = λ i. held_now flat.processes fp s held_here ∙ numbered_miss sid_of s.sid z [] apart;
+      };
     } in
     let core : AllFit after l.place × CouplesPages l.place (beside_kernel l images image after) =
     exec_core k images image flat after n s.sid number false named top (with_proc k.processes kp) (append k.journal e) enters c.tables.spaces c.pages in

@@ -244,21 +244,23 @@ exec_back size before k images image flat pid regs e number top named q m s so n
       frames = o.frames;
       due = due;
       starts = starts;
-      new = next_new flat k.place nums c.tables.spaces;
       flat_new = next_sid_none flat nums;
-      apart = λ i. absurd cc;
       settled = λ i. absurd cc;
       aside = subst (λ (x : Option Image). TextAside (give_up_unless true (enter_image k.place n number x) 0)) (facts_found images number named im)
           (place_change_aside (record { images = (facts_of images); pid = pid; sid = 0; borrowed = true; next_sid = n; at = 0 }) k.place (Exec number top) o.aside (λ i. absurd cc));
       image = im;
-      fits = fit;
-      whole = whole;
-      own = gain.1 n apart ∙ held_new flat.processes fp s n held_here (next_sid_none flat nums) ∙ numbered_hit sid_of n z [] refl;
-      other = λ y d _. elim (cases_eq y s.sid) [
-        | inl i ↦ ap (λ (x : ℕ). numbered sid_of x (spaces_of after)) i ∙ gain.0 ∙ sym (held_own flat.processes fp s held_here) ∙ ap (λ (x : ℕ). numbered sid_of x (spaces_of flat)) (sym i)
-        | inr j ↦ gain.1 y j ∙ held_other flat.processes fp s y held_here j (numbered_miss sid_of y z [] (λ i. d (sym i)))
-      ];
-      gone = λ i. absurd cc;
+      tables = record {
+        new = next_new flat k.place nums c.tables.spaces;
+        apart = λ i. absurd cc;
+        fits = fit;
+        whole = whole;
+        own = gain.1 n apart ∙ held_new flat.processes fp s n held_here (next_sid_none flat nums) ∙ numbered_hit sid_of n z [] refl;
+        other = λ y d _. elim (cases_eq y s.sid) [
+          | inl i ↦ ap (λ (x : ℕ). numbered sid_of x (spaces_of after)) i ∙ gain.0 ∙ sym (held_own flat.processes fp s held_here) ∙ ap (λ (x : ℕ). numbered sid_of x (spaces_of flat)) (sym i)
+          | inr j ↦ gain.1 y j ∙ held_other flat.processes fp s y held_here j (numbered_miss sid_of y z [] (λ i. d (sym i)))
+        ];
+        gone = λ i. absurd cc;
+      };
     } in
     let core : AllFit after l.place × CouplesPages l.place (beside_kernel l images image after) =
     exec_core k images image flat after n 0 number true named top (with_proc k1.processes kp) (append k.journal e) enters c.tables.spaces c.pages in
@@ -332,11 +334,13 @@ end_back size k images image flat pid regs e status q m s so nums outs due f h i
       due = due;
       settled = λ i. absurd cc;
       aside = place_change_aside (record { images = (facts_of images); pid = kp.pid; sid = 0; borrowed = true; next_sid = k.next_sid; at = 0 }) k.place (End status) o.aside (λ i. absurd cc);
-      other = λ y _. ap (numbered sid_of y) spaces ∙ elim (cases_eq y s.sid) [
-        | inl i ↦ ap (λ (x : ℕ). numbered sid_of x (held rs)) i ∙ gain.0 ∙ sym (held_own flat.processes fp s held_here) ∙ ap (λ (x : ℕ). numbered sid_of x (spaces_of flat)) (sym i)
-        | inr j ↦ gain.1 y j ∙ held_other flat.processes fp s y held_here j refl
-      ];
-      gone = λ i. absurd cc;
+      tables = record {
+        other = λ y _. ap (numbered sid_of y) spaces ∙ elim (cases_eq y s.sid) [
+          | inl i ↦ ap (λ (x : ℕ). numbered sid_of x (held rs)) i ∙ gain.0 ∙ sym (held_own flat.processes fp s held_here) ∙ ap (λ (x : ℕ). numbered sid_of x (spaces_of flat)) (sym i)
+          | inr j ↦ gain.1 y j ∙ held_other flat.processes fp s y held_here j refl
+        ];
+        gone = λ i. absurd cc;
+      };
     } in
     let core : AllFit after l.place × CouplesPages l.place (beside_kernel l images image after) =
     end_core k images image flat after kp.pid 0 true (left_procs (kp.parent == 0) (orphaned_procs k1.processes kp.pid) kp status) (append k.journal e) leaves c.tables.spaces c.pages in

@@ -1,18 +1,17 @@
 -- The tables of the machine are those of the flat state through each change, with no bytes.
 use Rattle.std.proofs.Common.{◌≡◌, ◌≢◌, inl, inr, ℕ, ◌+◌, ◌*◌, ◌==◌, Bool, true, false, List, [], ◌∷◌, ◌++◌, length, map, Option, Some, None, refl, sym, ap, ◌∙◌, subst, not, filter}
-use Rattle.std.proofs.lemmas.Bool.{cases_eq, cases_Bool, eqb-true}
+use Rattle.std.proofs.lemmas.Bool.{cases_eq, eqb-true}
 use Rattle.flat_state.specs.Space.{Space}
 use Rattle.flat_state.specs.Flat.{Holds, Process, FlatState, Lends, Zombie, NamedImage, process_of, image_numbered, space_with, spaces_of, space_held}
 use Rattle.vm_facts.specs.declared.page.Page.TheVariants.{Data, Stack}
 use Rattle.vm_facts.specs.declared.regs.Regs.{Regs}
 use Rattle.vm_facts.specs.declared.entry.Entry.{Entry}
-use Rattle.aout_image.specs.Image.{image_data_pages}
 use Rattle.flat_state.specs.declared.change.Change.TheVariants.{Fork, Lend, Resize, Exec, End, Keep, Reap, Sleep}
 use Rattle.flat_state.specs.Change.{replaced, with_results, child_of, forked, apply_change, lent, with_process, resized_bytes, resized, replaced_by, returned, returned_by, entered, is_zombie, is_zombie_child, without_parent, orphaned, awake, woken, left, ended, without_process, lends_to, is_borrower}
 use Rattle.flat_state.specs.Journal.{append}
 use Rattle.page_model.specs.Pages.{SpacePages, numbered}
-use Rattle.page_model.specs.Placement.{Placement, space_number, slots_of, image_of, new_pages}
-use Rattle.page_model.specs.Place.{child_slot, enter_space, give_up_unless, facts_of}
+use Rattle.page_model.specs.Placement.{Placement, space_number, slots_of, image_of}
+use Rattle.page_model.specs.Place.{child_slot, facts_of}
 use Rattle.page_model.specs.Conditions.{IsNew}
 use Rattle.flat_state.specs.Numbers.{IsNumbered, AllDistinct}
 use Rattle.flat_state.specs.Lenders.{IsLender}
@@ -23,7 +22,7 @@ use Rattle.kernel_model.specs.ChangeStep.{with_proc, child_proc, change_step, pa
 use Rattle.page_laws.proofs.Lists.Local.{none_some}
 use Rattle.std.proofs.lemmas.Option.{same_Some}
 use Rattle.page_laws.proofs.Ownership.Changes.{added_other, added_same, dropped_pages}
-use Rattle.page_laws.proofs.Bytes.Spaces.{map_length, unfilled_length}
+use Rattle.page_laws.proofs.Bytes.Spaces.{map_length}
 use Rattle.kernel_laws.proofs.Flat.Numbered.{pushed_new, pushed_old, pushed_found, map_pushed, none_absent, removed_not}
 use Rattle.page_laws.proofs.Lists.Pages.{numbered_hit, numbered_miss}
 use Rattle.kernel_laws.proofs.Flat.Lists.{pid_of, sid_of, held, found_is, replaced_at, replaced_not, same_held, held-append, held_at, held_own, HeldAt, held_other, held_now, held_new, held_gain}
@@ -34,13 +33,12 @@ use Rattle.kernel_laws.proofs.Machine.Still.{outline_is}
 use Rattle.kernel_laws.proofs.Machine.Processes.{with_at, with_not, with_replaced, holds_there, Stepping, stepping, by_life, step_is, not_own_parent, removed_outlines, held_filter, distinct_filter, pids_same}
 use Rattle.kernel_laws.proofs.Machine.Forks.{next_pid_none, kept_none, next_new, next_sid_none, forked_kernel, fit_image}
 use Rattle.page_model.specs.Moves.{drop_all}
-use Rattle.kernel_laws.proofs.Machine.Shapes.{Shaped, fit_shaped, drop_all_shaped, fit_shapes}
+use Rattle.kernel_laws.proofs.Machine.Shapes.{Shaped, fit_shaped, drop_all_shaped}
 use Rattle.aout_image.specs.declared.Image.{Image}
-use Rattle.kernel_laws.proofs.Machine.Gone.{Gone, gone_unless}
 use Rattle.kernel_laws.proofs.Machine.Breaks.{fit_cut, resized_own, resized_other}
-use Rattle.kernel_laws.proofs.Machine.Execs.{returned_none, borrower_replaced, exec_kernel}
+use Rattle.kernel_laws.proofs.Machine.Execs.{returned_none, borrower_replaced, exec_kernel, EntersTables, enter_fits}
 use Rattle.kernel_laws.proofs.Machine.Lends.{pass_is, passed, passed_list, passed_child}
-use Rattle.kernel_laws.proofs.Machine.Ends.{end_held, with_pids, end_kernel, left_flat, left_is, orphans, ended_outlines}
+use Rattle.kernel_laws.proofs.Machine.Ends.{end_held, with_pids, end_kernel, LeavesTables, leave_fits, left_flat, left_is, orphans, ended_outlines}
 use Rattle.kernel_laws.proofs.Machine.Returns.{passes, Borrowing, borrowing, back_kernel, back_proc, Back, back}
 use Rattle.kernel_laws.proofs.Machine.Images.{image_known}
 
@@ -182,56 +180,6 @@ lend_tables k images flat pid regs e q s nums f h c =
     (subst (λ (xs : List Proc). SameTables (record k1 { processes = xs }) after) (sym processes)
     (tables_of l after outlines (ap (λ (m : ℕ). m + 1) c.next_pid) c.next_sid fits))))
 
--- what is asked of the new image and of the flat state after it, of the tables alone
-pub record EntersTables (k : Kernel) (flat after : FlatState) (next sid number : ℕ) (borrowed : Bool) (named : NamedImage) (top : List ℕ) : Type 0 where
-  pub new : IsNew k.place next
-  pub apart : borrowed ≡ false → next ≢ sid
-  pub fits : DataFits named.image
-  pub whole : length top ≡ 1024
-  pub own : numbered sid_of next (spaces_of after) ≡ Some (space_with next number named.image top)
-  pub other : (m : ℕ) → m ≢ next → (borrowed ≡ false → m ≢ sid) → numbered sid_of m (spaces_of after) ≡ numbered sid_of m (spaces_of flat)
-  pub gone : borrowed ≡ false → numbered sid_of sid (spaces_of after) ≡ None
-
--- A new image, where the old space goes unless it was borrowed.
-enter_fits : (k : Kernel) (flat after : FlatState) (next sid number : ℕ) (borrowed : Bool) (named : NamedImage) (top : List ℕ)
-    (ps : List Proc) (journal : List Entry)
-    → EntersTables k flat after next sid number borrowed named top → AllFit flat k.place
-    → AllFit after (exec_kernel k next sid borrowed number (Some named.image.facts) top ps journal).place
-enter_fits k flat after next sid number borrowed named top ps journal a all =
-    let l : Kernel = exec_kernel k next sid borrowed number (Some named.image.facts) top ps journal in
-    let facts : Image = named.image.facts in
-    let z : Space = space_with next number named.image top in
-    let x : SpacePages = new_pages next number facts in
-    let p1 : Placement = enter_space k.place next number facts in
-    let g : Gone p1 l.place borrowed sid = gone_unless borrowed p1 sid in
-    let place_own : numbered space_number next p1.spaces ≡ Some x = added_same next k.place.spaces x refl a.new in
-    let place_other : (m : ℕ) → m ≢ next → numbered space_number m p1.spaces ≡ numbered space_number m k.place.spaces = λ m d. added_other m k.place.spaces x (λ i. d (sym i)) in
-    let sized : IsSized z x = record {
-      image = refl;
-      data_size = let f : DataFits named.image = a.fits in f.size ∙ ap (λ (m : ℕ). 1024 * m) (sym (unfilled_length facts 0 (image_data_pages facts)));
-      stack_size = a.whole;
-    } in
-    let kept_fits : (m : ℕ) → m ≢ next → (borrowed ≡ false → m ≢ sid) → Fits (numbered sid_of m (spaces_of after)) (numbered space_number m l.place.spaces) = λ m n d.
-    subst (λ (o : Option Space). Fits o (numbered space_number m l.place.spaces)) (sym (a.other m n d))
-    (fit_shapes (numbered sid_of m (spaces_of flat)) (numbered space_number m p1.spaces) (numbered space_number m l.place.spaces) (g.other m d)
-    (subst (Fits (numbered sid_of m (spaces_of flat))) (sym (place_other m n)) (all m))) in
-    let new_fits : Fits (numbered sid_of next (spaces_of after)) (numbered space_number next l.place.spaces) =
-    subst (λ (o : Option Space). Fits o (numbered space_number next l.place.spaces)) (sym a.own)
-    (fit_shapes (Some z) (numbered space_number next p1.spaces) (numbered space_number next l.place.spaces) (g.other next a.apart) (subst (Fits (Some z)) (sym place_own) sized)) in
-    let gone_fits : borrowed ≡ false → Fits (numbered sid_of sid (spaces_of after)) (numbered space_number sid l.place.spaces) = λ e.
-    subst (λ (o : Option Space). Fits o (numbered space_number sid l.place.spaces)) (sym (a.gone e)) (subst (Fits None) (sym (g.own e)) tt) in
-    let fits : AllFit after l.place = λ m. elim (cases_eq m next) [
-      | inl i ↦ subst (λ (n : ℕ). Fits (numbered sid_of n (spaces_of after)) (numbered space_number n l.place.spaces)) (sym i) new_fits
-      | inr n ↦ elim (cases_Bool borrowed) [
-        | inl t ↦ kept_fits m n (λ e. absurd (let j : true ≡ false = sym t ∙ e in cc))
-        | inr t ↦ elim (cases_eq m sid) [
-          | inl i ↦ subst (λ (n : ℕ). Fits (numbered sid_of n (spaces_of after)) (numbered space_number n l.place.spaces)) (sym i) (gone_fits t)
-          | inr d ↦ kept_fits m n (λ e. d)
-        ]
-      ]
-    ] in
-    fits
-
 -- Execve of a process that holds its own space.
 pub exec_tables : (k : Kernel) (images : List NamedImage) (flat : FlatState) (pid : ℕ) (regs : Regs) (e : Entry) (number : ℕ) (top : List ℕ)
     (named : NamedImage) (q : Process) (s : Space)
@@ -271,32 +219,6 @@ exec_tables k images flat pid regs e number top named q s nums f h own_space im 
     (subst (λ (xs : List Process). SameTables l (record flat { processes = xs; next_sid = n + 1 }))
     (sym (returned_none (replaced flat.processes fp) q.pid s (borrower_replaced flat.processes fp q.pid refl (ap (is_borrower flat.processes) g.pid_was ∙ own_space))))
     (tables_of l after outlines c.next_pid refl (enter_fits k flat after n s.sid number false named top (with_proc k.processes kp) (append k.journal e) enters c.spaces))))))
-
--- what is asked of the flat state after an end, of the tables alone
-pub record LeavesTables (flat after : FlatState) (sid : ℕ) (borrowed : Bool) : Type 0 where
-  pub other : (m : ℕ) → (borrowed ≡ false → m ≢ sid) → numbered sid_of m (spaces_of after) ≡ numbered sid_of m (spaces_of flat)
-  pub gone : borrowed ≡ false → numbered sid_of sid (spaces_of after) ≡ None
-
--- An end, where the space goes unless it was borrowed.
-leave_fits : (k : Kernel) (flat after : FlatState) (pid sid : ℕ) (borrowed : Bool) (ps : List Proc) (journal : List Entry)
-    → LeavesTables flat after sid borrowed → AllFit flat k.place
-    → AllFit after (end_kernel k pid sid borrowed ps journal).place
-leave_fits k flat after pid sid borrowed ps journal a all =
-    let l : Kernel = end_kernel k pid sid borrowed ps journal in
-    let p1 : Placement = give_up_unless borrowed k.place sid in
-    let g : Gone k.place p1 borrowed sid = gone_unless borrowed k.place sid in
-    let kept_fits : (m : ℕ) → (borrowed ≡ false → m ≢ sid) → Fits (numbered sid_of m (spaces_of after)) (numbered space_number m l.place.spaces) = λ m d.
-    subst (λ (o : Option Space). Fits o (numbered space_number m l.place.spaces)) (sym (a.other m d))
-    (fit_shapes (numbered sid_of m (spaces_of flat)) (numbered space_number m k.place.spaces) (numbered space_number m l.place.spaces) (g.other m d) (all m)) in
-    let fits : AllFit after l.place = λ m. elim (cases_Bool borrowed) [
-      | inl t ↦ kept_fits m (λ e. absurd (let j : true ≡ false = sym t ∙ e in cc))
-      | inr t ↦ elim (cases_eq m sid) [
-        | inl i ↦ subst (λ (n : ℕ). Fits (numbered sid_of n (spaces_of after)) (numbered space_number n l.place.spaces)) (sym i)
-            (subst (λ (o : Option Space). Fits o (numbered space_number sid l.place.spaces)) (sym (a.gone t)) (subst (Fits None) (sym (g.own t)) tt))
-        | inr d ↦ kept_fits m (λ e. d)
-      ]
-    ] in
-    fits
 
 -- The end of a process that holds its own space.
 pub end_tables : (k : Kernel) (images : List NamedImage) (flat : FlatState) (pid : ℕ) (regs : Regs) (e : Entry) (status : ℕ) (q : Process) (s : Space)
