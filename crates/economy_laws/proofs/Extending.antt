@@ -35,11 +35,11 @@ filter_both test (x ∷ xs) ys = go (test x) (filter_both test xs ys)
     go false e = e
 
 -- no page of the list is this one
-abbrev NotSeen : List Page → Page → Type 0
+abbrev pub NotSeen : List Page → Page → Type 0
 NotSeen [] n = Unit {0}
 NotSeen (x ∷ xs) n = (same_page x n ≡ false) × NotSeen xs n
 
-distinct_more : (xs zs : List Page) (n : Page) → NotSeen xs n → (more : List Page) × (distinct (xs ++ n ∷ zs) ≡ distinct xs ++ n ∷ more)
+pub distinct_more : (xs zs : List Page) (n : Page) → NotSeen xs n → (more : List Page) × (distinct (xs ++ n ∷ zs) ≡ distinct xs ++ n ∷ more)
 unfolding distinct
 distinct_more [] zs n h = (filter (λ other. not (same_page n other)) (distinct zs), refl)
 distinct_more (x ∷ xs) zs n h =

@@ -36,6 +36,7 @@ use Rattle.load_laws.specs.Left.{images_for, IsLoad, load_counts, rounds_left, i
 use Rattle.load_laws.specs.Counting.{IsUnderWay}
 use Rattle.load_laws.proofs.Pieces.{AllUnder}
 use Rattle.load_laws.proofs.Sleepers.{lives_for, has_live, AllAwaited, NoneZero, none_zero}
+use Rattle.load_laws.proofs.Calling.{fresh_bank}
 use Rattle.load_laws.proofs.Family.{forks_of, ends_of, Family}
 use Rattle.load_laws.proofs.Loading.{pending, Stands, IsLoadRun, refusals_of, Through, through}
 
@@ -45,23 +46,7 @@ w_named : ℕ → NamedImage
 w_named pages = record { name = 0x77 ∷ []; image = one_page_image (w_bytes pages) w_bss }
 
 start_bank : Bank
-start_bank = record {
-  r0 = 0;
-  r1 = 0;
-  r2 = 0;
-  r3 = 0;
-  r4 = 0;
-  r5 = 0;
-  r6 = 0;
-  r7 = 0;
-  r8 = 0;
-  r9 = 0;
-  r10 = 0;
-  r11 = 0;
-  ap = 0;
-  fp = 0;
-  sp = 0x7fffebe8;
-}
+start_bank = record fresh_bank { sp = 0x7fffebe8 }
 
 begins : (pages pid : ℕ) → StandsAt pages BeforeBreak (start_process pid 1 (w_named pages))
 unfolding w_named start_bank text_page start_regs argument_area

@@ -1,5 +1,5 @@
 -- After growth of its stack a process touches what it touched before, and next the page of the byte for which it grew.
-use Rattle.std.proofs.Common.{◌≡◌, ℕ, ◌+◌, ◌-◌, ◌*◌, ◌/◌, ◌≤◌, ◌&&◌, nat_lt, nat_le, not, cond, Bool, true, false, List, [], ◌∷◌, ◌++◌, length, filter, filter_map, append_assoc, Option, Some, None, Result, Err, if◌then◌else◌, refl, sym, ap, ◌∙◌, arith}
+use Rattle.std.proofs.Common.{◌≡◌, ℕ, ◌+◌, ◌-◌, ◌*◌, ◌/◌, ◌≤◌, ◌&&◌, nat_lt, nat_le, Bool, true, false, List, [], ◌∷◌, ◌++◌, length, filter_map, append_assoc, Option, Some, None, Result, Err, if◌then◌else◌, refl, sym, ap, ◌∙◌, arith}
 use Rattle.std.specs.List.{cons_option}
 use Rattle.std.proofs.lemmas.Bool.Decides.{nat_tests}
 use Rattle.std.proofs.lemmas.List.{append-nil}
@@ -33,36 +33,9 @@ use Rattle.flat_model.specs.Step.{data_pages_of, pages_down_to}
 use Rattle.flat_model.specs.Touched.{page_read, page_tested, page_of_access, accesses_after, step_accesses, distinct, touched}
 use Rattle.kernel_model.specs.Coupled.{Fits}
 use Rattle.page_model.specs.Pages.{SpacePages}
-use Rattle.run_units.proofs.Extending.{Bigger, Reached, reached, grown_page}
+use Rattle.run_units.proofs.Extending.{NotSeen, distinct_more, Bigger, Reached, reached, grown_page}
 use Rattle.run_units.proofs.Growing.{below_spot}
 use Rattle.run_units.proofs.Idle.{found_after}
-
--- Lists in which each page stands once.
-
-filter_both : (test : Page → Bool) (xs ys : List Page) → filter test (xs ++ ys) ≡ filter test xs ++ filter test ys
-filter_both test [] ys = refl
-filter_both test (x ∷ xs) ys = go (test x) (filter_both test xs ys)
-  where
-    go : (b : Bool) → filter test (xs ++ ys) ≡ filter test xs ++ filter test ys
-        → cond b (x ∷ filter test (xs ++ ys)) (filter test (xs ++ ys)) ≡ cond b (x ∷ filter test xs) (filter test xs) ++ filter test ys
-    go true e = ap (λ (l : List Page). x ∷ l) e
-    go false e = e
-
--- no page of the list is this one
-abbrev NotSeen : List Page → Page → Type 0
-NotSeen [] n = Unit {0}
-NotSeen (x ∷ xs) n = (same_page x n ≡ false) × NotSeen xs n
-
-distinct_more : (xs zs : List Page) (n : Page) → NotSeen xs n → (more : List Page) × (distinct (xs ++ n ∷ zs) ≡ distinct xs ++ n ∷ more)
-unfolding distinct
-distinct_more [] zs n h = (filter (λ other. not (same_page n other)) (distinct zs), refl)
-distinct_more (x ∷ xs) zs n h =
-    let test : Page → Bool = λ other. not (same_page x other) in
-    let k = distinct_more xs zs n h.1 in (
-      filter test k.0,
-      ap (λ (l : List Page). x ∷ filter test l) k.1 ∙ ap (λ (l : List Page). x ∷ l) (filter_both test (distinct xs) (n ∷ k.0))
-          ∙ ap (λ (b : Bool). x ∷ (filter test (distinct xs) ++ cond (not b) (n ∷ filter test k.0) (filter test k.0))) h.0,
-    )
 
 -- The byte for which the stack grew.
 
