@@ -1,5 +1,5 @@
 -- Which entry comes next is determined.
-use Rattle.std.proofs.Common.{◌≡◌, ℕ, ◌==◌, Bool, true, false, ◌&&◌, List, [], ◌∷◌, bytes_eq, Option, Some, None, refl, sym, ap, ◌∙◌, if◌then◌else◌}
+use Rattle.std.proofs.Common.{◌≡◌, ℕ, ◌==◌, Bool, true, false, ◌&&◌, List, [], ◌∷◌, bytes_eq, Option, Some, refl, sym, ap, ◌∙◌, if◌then◌else◌}
 use Rattle.std.proofs.lemmas.Slice.Eq.{bytes_eq-Decides}
 use Rattle.std.proofs.lemmas.Bool.{eqb-true, and_parts}
 use Rattle.flat_state.specs.Flat.{FlatState, Inputs, can_step}
@@ -18,30 +18,12 @@ due_by false es = es
 
 -- what is due depends on whether bytes are out alone
 due_same : (last : Option Entry) (pid : ℕ) (es : List Entry) → due last pid es ≡ due_by (is_writing last pid) es
-due_same None pid es = refl
-due_same (Some (entries.Event a)) pid es = refl
-due_same (Some (entries.Turn a)) pid es = refl
-due_same (Some (entries.Ran a b)) pid es = refl
 due_same (Some (entries.Out p bytes)) pid es = go (p == pid)
   where
     go : (b : Bool) → (if b then behind_first es else es) ≡ due_by b es
     go true = refl
     go false = refl
-due_same (Some (entries.Grew a b)) pid es = refl
-due_same (Some (entries.Call a b c d e)) pid es = refl
-due_same (Some (entries.Refused a)) pid es = refl
-due_same (Some (entries.Sleeps a)) pid es = refl
-due_same (Some (entries.Ended a b)) pid es = refl
-due_same (Some (entries.Zero a)) pid es = refl
-due_same (Some (entries.Get a b c)) pid es = refl
-due_same (Some (entries.Copy a)) pid es = refl
-due_same (Some (entries.Reclaim a)) pid es = refl
-due_same (Some (entries.Hands a)) pid es = refl
-due_same (Some (entries.Put a b)) pid es = refl
-due_same (Some entries.Done) pid es = refl
-due_same (Some (entries.SwapOut a)) pid es = refl
-due_same (Some (entries.SwapIn a)) pid es = refl
-due_same (Some (entries.Owners a b c d)) pid es = refl
+due_same _ pid es = refl
 
 pub next_same : (A : Inputs) (point other : Point) (pid : ℕ) → other.flat ≡ point.flat → is_refused other.last pid ≡ is_refused point.last pid
     → is_writing other.last pid ≡ is_writing point.last pid → entry_of_step A other pid ≡ entry_of_step A point pid

@@ -1,5 +1,5 @@
 -- Between two boundaries a process that runs does what it does in a turn of the closing phase.
-use Rattle.std.proofs.Common.{◌≡◌, ℕ, ◌+◌, ◌<◌, ◌&&◌, nat_lt, Bool, true, false, List, [], ◌∷◌, length, Option, Some, None, refl, sym, ap, ◌∙◌, subst, arith}
+use Rattle.std.proofs.Common.{◌≡◌, ℕ, ◌+◌, ◌<◌, ◌&&◌, nat_lt, Bool, true, false, List, [], ◌∷◌, length, Option, Some, refl, sym, ap, ◌∙◌, subst, arith}
 use Rattle.std.proofs.lemmas.Bool.Decides.{nat_tests}
 use Rattle.std.proofs.lemmas.Bool.{and_parts}
 use Rattle.vm_facts.specs.declared.page.Page.{Page}
@@ -251,24 +251,7 @@ waits_turn A s pid k f o w = go o w
     go : (o : Option Entry) → WaitsBy A s o → WaitsBy A (turned A s pid k) o
     go (Some (entries.Refused p)) w = awaits p w
     go (Some (entries.Out p bytes)) w = awaits p w
-    go (Some (entries.Event a)) w = tt
-    go (Some (entries.Turn a)) w = tt
-    go (Some (entries.Ran a n)) w = tt
-    go (Some (entries.Grew a n)) w = tt
-    go (Some (entries.Call a n c r0 r1)) w = tt
-    go (Some (entries.Sleeps a)) w = tt
-    go (Some (entries.Ended a n)) w = tt
-    go (Some (entries.Zero a)) w = tt
-    go (Some (entries.Get a lo n)) w = tt
-    go (Some (entries.Copy a)) w = tt
-    go (Some (entries.Reclaim a)) w = tt
-    go (Some (entries.Hands n)) w = tt
-    go (Some (entries.Put a n)) w = tt
-    go (Some entries.Done) w = tt
-    go (Some (entries.SwapOut a)) w = tt
-    go (Some (entries.SwapIn a)) w = tt
-    go (Some (entries.Owners a b c d)) w = tt
-    go None w = tt
+    go _ w = tt
 
 pub run_turn : (A : Inputs) (s : State) (pid k : ℕ) → TurnsFor s.mark pid k s.count → IsRun A s → IsRun A (turned A s pid k)
 run_turn A s pid k f r =

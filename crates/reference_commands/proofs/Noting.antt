@@ -51,24 +51,7 @@ looked_at A s f h i image at =
 
 one_made : (u : Entry) → length (append [] u) ≡ 1
 one_made (entries.Event line) = refl
-one_made (entries.Turn pid) = refl
-one_made (entries.Ran pid n) = refl
-one_made (entries.Out pid bytes) = refl
-one_made (entries.Grew pid pages) = refl
-one_made (entries.Call pid number carry r0 r1) = refl
-one_made (entries.Refused pid) = refl
-one_made (entries.Sleeps pid) = refl
-one_made (entries.Ended pid status) = refl
-one_made (entries.Zero q) = refl
-one_made (entries.Get q lo n) = refl
-one_made (entries.Copy q) = refl
-one_made (entries.Reclaim q) = refl
-one_made (entries.Hands n) = refl
-one_made (entries.Put q n) = refl
-one_made entries.Done = refl
-one_made (entries.SwapOut pid) = refl
-one_made (entries.SwapIn pid) = refl
-one_made (entries.Owners free used moving held) = refl
+one_made _ = refl
 
 none_made : (units : List Entry) → appended [] units ≡ [] → units ≡ []
 none_made [] e = refl

@@ -200,26 +200,9 @@ expected_more A point G new pid count rest more all verdict runs = go (flat_entr
 -- The process that is due.
 
 free_begun : (o : Option Entry) → IsBetween o → begun o ≡ None
-free_begun None free = refl
-free_begun (Some (entries.Event x0)) free = refl
-free_begun (Some (entries.Turn x0)) free = refl
-free_begun (Some (entries.Ran x0 x1)) free = refl
 free_begun (Some (entries.Out x0 x1)) free = absurd free
-free_begun (Some (entries.Grew x0 x1)) free = refl
-free_begun (Some (entries.Call x0 x1 x2 x3 x4)) free = refl
 free_begun (Some (entries.Refused x0)) free = absurd free
-free_begun (Some (entries.Sleeps x0)) free = refl
-free_begun (Some (entries.Ended x0 x1)) free = refl
-free_begun (Some (entries.Zero x0)) free = refl
-free_begun (Some (entries.Get x0 x1 x2)) free = refl
-free_begun (Some (entries.Copy x0)) free = refl
-free_begun (Some (entries.Reclaim x0)) free = refl
-free_begun (Some (entries.Hands x0)) free = refl
-free_begun (Some (entries.Put x0 x1)) free = refl
-free_begun (Some entries.Done) free = refl
-free_begun (Some (entries.SwapOut x0)) free = refl
-free_begun (Some (entries.SwapIn x0)) free = refl
-free_begun (Some (entries.Owners x0 x1 x2 x3)) free = refl
+free_begun _ free = refl
 
 pub free_due : (A : Inputs) (F : FlatState) (last : Last) (point : Point) (e : Entry) → last ≡ lasts.Other → IsAt A F last point
     → due_process point.last e ≡ process_of_entry e

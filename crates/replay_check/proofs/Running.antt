@@ -113,14 +113,4 @@ skipped A point (entries.Hands n) ran out grew call refused sleeps ended = go n
     go : (k : ℕ) → flat_units A (Some point) (repeated (entries.Hands 1) k []) ≡ Some point
     go zero = refl
     go (suc k) = go k
-skipped A point (entries.Event x0) ran out grew call refused sleeps ended = refl
-skipped A point (entries.Turn x0) ran out grew call refused sleeps ended = refl
-skipped A point (entries.Zero x0) ran out grew call refused sleeps ended = refl
-skipped A point (entries.Get x0 x1 x2) ran out grew call refused sleeps ended = refl
-skipped A point (entries.Copy x0) ran out grew call refused sleeps ended = refl
-skipped A point (entries.Reclaim x0) ran out grew call refused sleeps ended = refl
-skipped A point (entries.Put x0 x1) ran out grew call refused sleeps ended = refl
-skipped A point entries.Done ran out grew call refused sleeps ended = refl
-skipped A point (entries.SwapOut x0) ran out grew call refused sleeps ended = refl
-skipped A point (entries.SwapIn x0) ran out grew call refused sleeps ended = refl
-skipped A point (entries.Owners x0 x1 x2 x3) ran out grew call refused sleeps ended = refl
+skipped A point _ ran out grew call refused sleeps ended = refl

@@ -20,24 +20,7 @@ use Rattle.replay_laws.specs.Accepting.{IsLastLine, HasPlainLine}
 no_fault : (e : Entry) → is_fault_line (line_of e) ≡ false
 unfolding line_of
 no_fault (entries.Event line) = refl
-no_fault (entries.Turn pid) = refl
-no_fault (entries.Ran pid count) = refl
-no_fault (entries.Out pid bytes) = refl
-no_fault (entries.Grew pid pages) = refl
-no_fault (entries.Call pid number carry r0 r1) = refl
-no_fault (entries.Refused pid) = refl
-no_fault (entries.Sleeps pid) = refl
-no_fault (entries.Ended pid status) = refl
-no_fault (entries.Zero page) = refl
-no_fault (entries.Get page lo n) = refl
-no_fault (entries.Copy page) = refl
-no_fault (entries.Reclaim page) = refl
-no_fault (entries.Hands count) = refl
-no_fault (entries.Put page n) = refl
-no_fault entries.Done = refl
-no_fault (entries.SwapOut pid) = refl
-no_fault (entries.SwapIn pid) = refl
-no_fault (entries.Owners free used moving held) = refl
+no_fault _ = refl
 
 -- So such lines stay, and the line of a fault after them goes.
 

@@ -171,18 +171,7 @@ held_is A s pid u q t found e o f h suits pieces = go u e o suits
     go (entries.Ended p n) e o k = at p o
     go (entries.Out p bytes) e o k = absurd e
     go (entries.Refused p) e o k = absurd e
-    go (entries.Event line) e o k = absurd cc
-    go (entries.Turn p) e o k = absurd cc
-    go (entries.Zero v) e o k = absurd cc
-    go (entries.Get v lo n) e o k = absurd cc
-    go (entries.Copy v) e o k = absurd cc
-    go (entries.Reclaim v) e o k = absurd cc
-    go (entries.Hands n) e o k = absurd cc
-    go (entries.Put v n) e o k = absurd cc
-    go entries.Done e o k = absurd cc
-    go (entries.SwapOut p) e o k = absurd cc
-    go (entries.SwapIn p) e o k = absurd cc
-    go (entries.Owners a b c d) e o k = absurd cc
+    go _ e o k = absurd cc
 
 -- the pieces of a step that isn't refused are found
 pub found_pieces : (A : Inputs) (s : State) (pid : ℕ) (q : Process) (t : Space) → can_step s.point.flat pid ≡ true

@@ -115,24 +115,7 @@ awaited_by A s u pid now r o w = go o w
     go : (o : Option Entry) → WaitsBy A s o → awaits o pid ≡ true
     go (Some (entries.Refused p)) w = ap (λ (x : ℕ). x == pid) (one p w) ∙ eq_self pid
     go (Some (entries.Out p bytes)) w = ap (λ (x : ℕ). x == pid) (one p w) ∙ eq_self pid
-    go None w = refl
-    go (Some (entries.Event line)) w = refl
-    go (Some (entries.Turn p)) w = refl
-    go (Some (entries.Ran p n)) w = refl
-    go (Some (entries.Grew p n)) w = refl
-    go (Some (entries.Call p n c r0 r1)) w = refl
-    go (Some (entries.Sleeps p)) w = refl
-    go (Some (entries.Ended p n)) w = refl
-    go (Some (entries.Zero q)) w = refl
-    go (Some (entries.Get q lo n)) w = refl
-    go (Some (entries.Copy q)) w = refl
-    go (Some (entries.Reclaim q)) w = refl
-    go (Some (entries.Hands n)) w = refl
-    go (Some (entries.Put q n)) w = refl
-    go (Some entries.Done) w = refl
-    go (Some (entries.SwapOut p)) w = refl
-    go (Some (entries.SwapIn p)) w = refl
-    go (Some (entries.Owners a b c d)) w = refl
+    go _ w = refl
 
 -- No unit but one of a process that acts is a flat entry.
 
@@ -535,26 +518,9 @@ plain_waits A s u o h n w = subst (λ (x : Point). WaitsBy A (after A s u) x.las
     one p a = subst (λ (x : Entry). Awaits A (after A s x) p) (sym (act_plain A s p u (awaits_next A s u p a h) n)) (done_awaits A s p o a)
 
     go : (l : Option Entry) → WaitsBy A s l → WaitsBy A (after A s u) l
-    go None w = tt
     go (Some (entries.Refused p)) w = one p w
     go (Some (entries.Out p bytes)) w = one p w
-    go (Some (entries.Event line)) w = tt
-    go (Some (entries.Turn p)) w = tt
-    go (Some (entries.Ran p k)) w = tt
-    go (Some (entries.Grew p k)) w = tt
-    go (Some (entries.Call p k c r0 r1)) w = tt
-    go (Some (entries.Sleeps p)) w = tt
-    go (Some (entries.Ended p k)) w = tt
-    go (Some (entries.Zero q)) w = tt
-    go (Some (entries.Get q lo k)) w = tt
-    go (Some (entries.Copy q)) w = tt
-    go (Some (entries.Reclaim q)) w = tt
-    go (Some (entries.Hands k)) w = tt
-    go (Some (entries.Put q k)) w = tt
-    go (Some entries.Done) w = tt
-    go (Some (entries.SwapOut p)) w = tt
-    go (Some (entries.SwapIn p)) w = tt
-    go (Some (entries.Owners a b c d)) w = tt
+    go _ w = tt
 
 -- what is so after each next unit
 pub flows_on : (A : Inputs) (s : State) (u : Entry) → OwnsFrames s.place → Flows A s → next_unit A s ≡ Some u → Flows A (after A s u)

@@ -41,35 +41,25 @@ use Rattle.run_laws.proofs.Touching.{Present, touched_present, each_split}
 
 pub plain_place : (A : Inputs) (s : State) (u : Entry) → process_of_entry u ≡ None → (after A s u).place ≡ place_entry (locked A s) (place_at s u) s.place u
 unfolding after
-plain_place A s (entries.Event line) k = refl
-plain_place A s (entries.Turn p) k = refl
-plain_place A s (entries.Zero q) k = refl
-plain_place A s (entries.Get q lo n) k = refl
-plain_place A s (entries.Copy q) k = refl
-plain_place A s (entries.Reclaim q) k = refl
-plain_place A s (entries.Hands n) k = refl
-plain_place A s (entries.Put q n) k = refl
-plain_place A s entries.Done k = refl
-plain_place A s (entries.SwapOut p) k = refl
-plain_place A s (entries.SwapIn p) k = refl
-plain_place A s (entries.Owners a b c d) k = refl
-plain_place A s _ k = absurd cc
+plain_place A s (entries.Ran p n) k = absurd cc
+plain_place A s (entries.Out p bytes) k = absurd cc
+plain_place A s (entries.Grew p pages) k = absurd cc
+plain_place A s (entries.Call p number carry r0 r1) k = absurd cc
+plain_place A s (entries.Refused p) k = absurd cc
+plain_place A s (entries.Sleeps p) k = absurd cc
+plain_place A s (entries.Ended p status) k = absurd cc
+plain_place A s _ k = refl
 
 pub plain_holdings : (A : Inputs) (s : State) (u : Entry) → process_of_entry u ≡ None → (after A s u).holdings ≡ s.holdings
 unfolding after
-plain_holdings A s (entries.Event line) k = refl
-plain_holdings A s (entries.Turn p) k = refl
-plain_holdings A s (entries.Zero q) k = refl
-plain_holdings A s (entries.Get q lo n) k = refl
-plain_holdings A s (entries.Copy q) k = refl
-plain_holdings A s (entries.Reclaim q) k = refl
-plain_holdings A s (entries.Hands n) k = refl
-plain_holdings A s (entries.Put q n) k = refl
-plain_holdings A s entries.Done k = refl
-plain_holdings A s (entries.SwapOut p) k = refl
-plain_holdings A s (entries.SwapIn p) k = refl
-plain_holdings A s (entries.Owners a b c d) k = refl
-plain_holdings A s _ k = absurd cc
+plain_holdings A s (entries.Ran p n) k = absurd cc
+plain_holdings A s (entries.Out p bytes) k = absurd cc
+plain_holdings A s (entries.Grew p pages) k = absurd cc
+plain_holdings A s (entries.Call p number carry r0 r1) k = absurd cc
+plain_holdings A s (entries.Refused p) k = absurd cc
+plain_holdings A s (entries.Sleeps p) k = absurd cc
+plain_holdings A s (entries.Ended p status) k = absurd cc
+plain_holdings A s _ k = refl
 
 -- what stands, of a state
 abbrev pub Stood : Inputs → State → Type 0

@@ -23,88 +23,20 @@ use Rattle.run_stats.specs.Agreeing.{last_look, AgreesWith, EndsAt}
 -- One entry.
 
 one_filled : (e : Entry) → filled_with_zeros (what_of e) ≡ zero_fills e
-one_filled (entries.Event line) = refl
-one_filled (entries.Turn pid) = refl
-one_filled (entries.Ran pid n) = refl
-one_filled (entries.Out pid bytes) = refl
-one_filled (entries.Grew pid pages) = refl
-one_filled (entries.Call pid number carry r0 r1) = refl
-one_filled (entries.Refused pid) = refl
-one_filled (entries.Sleeps pid) = refl
-one_filled (entries.Ended pid status) = refl
 one_filled (entries.Zero q) = refl
-one_filled (entries.Get q lo n) = refl
-one_filled (entries.Copy q) = refl
-one_filled (entries.Reclaim q) = refl
-one_filled (entries.Hands n) = refl
-one_filled (entries.Put q n) = refl
-one_filled entries.Done = refl
-one_filled (entries.SwapOut pid) = refl
-one_filled (entries.SwapIn pid) = refl
-one_filled (entries.Owners free used moving held) = refl
+one_filled _ = refl
 
 one_found : (e : Entry) → reclaimed (what_of e) ≡ reclaims e
-one_found (entries.Event line) = refl
-one_found (entries.Turn pid) = refl
-one_found (entries.Ran pid n) = refl
-one_found (entries.Out pid bytes) = refl
-one_found (entries.Grew pid pages) = refl
-one_found (entries.Call pid number carry r0 r1) = refl
-one_found (entries.Refused pid) = refl
-one_found (entries.Sleeps pid) = refl
-one_found (entries.Ended pid status) = refl
-one_found (entries.Zero q) = refl
-one_found (entries.Get q lo n) = refl
-one_found (entries.Copy q) = refl
 one_found (entries.Reclaim q) = refl
-one_found (entries.Hands n) = refl
-one_found (entries.Put q n) = refl
-one_found entries.Done = refl
-one_found (entries.SwapOut pid) = refl
-one_found (entries.SwapIn pid) = refl
-one_found (entries.Owners free used moving held) = refl
+one_found _ = refl
 
 one_copied : (e : Entry) → copied_from_parent (what_of e) ≡ copies e
-one_copied (entries.Event line) = refl
-one_copied (entries.Turn pid) = refl
-one_copied (entries.Ran pid n) = refl
-one_copied (entries.Out pid bytes) = refl
-one_copied (entries.Grew pid pages) = refl
-one_copied (entries.Call pid number carry r0 r1) = refl
-one_copied (entries.Refused pid) = refl
-one_copied (entries.Sleeps pid) = refl
-one_copied (entries.Ended pid status) = refl
-one_copied (entries.Zero q) = refl
-one_copied (entries.Get q lo n) = refl
 one_copied (entries.Copy q) = refl
-one_copied (entries.Reclaim q) = refl
-one_copied (entries.Hands n) = refl
-one_copied (entries.Put q n) = refl
-one_copied entries.Done = refl
-one_copied (entries.SwapOut pid) = refl
-one_copied (entries.SwapIn pid) = refl
-one_copied (entries.Owners free used moving held) = refl
+one_copied _ = refl
 
 one_moved : (e : Entry) → hand_moves (what_of e) ≡ moves e
-one_moved (entries.Event line) = refl
-one_moved (entries.Turn pid) = refl
-one_moved (entries.Ran pid n) = refl
-one_moved (entries.Out pid bytes) = refl
-one_moved (entries.Grew pid pages) = refl
-one_moved (entries.Call pid number carry r0 r1) = refl
-one_moved (entries.Refused pid) = refl
-one_moved (entries.Sleeps pid) = refl
-one_moved (entries.Ended pid status) = refl
-one_moved (entries.Zero q) = refl
-one_moved (entries.Get q lo n) = refl
-one_moved (entries.Copy q) = refl
-one_moved (entries.Reclaim q) = refl
 one_moved (entries.Hands n) = refl
-one_moved (entries.Put q n) = refl
-one_moved entries.Done = refl
-one_moved (entries.SwapOut pid) = refl
-one_moved (entries.SwapIn pid) = refl
-one_moved (entries.Owners free used moving held) = refl
+one_moved _ = refl
 
 -- a sum over notes, and one over their entries, go on alike
 sum_on : (f : Note → ℕ) (g : Entry → ℕ) (x : Note) (xs : List Note) (e : Entry) (es : List Entry) → f x ≡ g e → sum_by f xs ≡ sum_by g es

@@ -63,24 +63,7 @@ last_joined u h n (e ∷ j) = after_joined u h e j
 -- but for moves of the hands a unit adds one entry
 pub adds_one : (b : Bool) (u : Entry) → is_hands u ≡ false → adds b u ≡ 1
 adds_one b (entries.Hands n) h = absurd cc
-adds_one true (entries.Event a) h = refl
-adds_one true (entries.Turn a) h = refl
-adds_one true (entries.Ran a b) h = refl
-adds_one true (entries.Out a b) h = refl
-adds_one true (entries.Grew a b) h = refl
-adds_one true (entries.Call a b c d e) h = refl
-adds_one true (entries.Refused a) h = refl
-adds_one true (entries.Sleeps a) h = refl
-adds_one true (entries.Ended a b) h = refl
-adds_one true (entries.Zero a) h = refl
-adds_one true (entries.Get a b c) h = refl
-adds_one true (entries.Copy a) h = refl
-adds_one true (entries.Reclaim a) h = refl
-adds_one true (entries.Put a b) h = refl
-adds_one true entries.Done h = refl
-adds_one true (entries.SwapOut a) h = refl
-adds_one true (entries.SwapIn a) h = refl
-adds_one true (entries.Owners a b c d) h = refl
+adds_one true _ h = refl
 adds_one false u h = refl
 
 pub unit_joined : (j : List Entry) (u : Entry) → Joined j (append j u) u
