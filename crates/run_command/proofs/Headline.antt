@@ -1,5 +1,5 @@
 -- The headline holds of a run that words ask for, however it ended.
-use Rattle.std.proofs.Common.{◌≡◌, ◌⊎◌, inl, inr, ℕ, List, [], Option, Some, Ok, Err, ap, ◌∙◌}
+use Rattle.std.proofs.Common.{◌≡◌, ◌≢◌, ◌⊎◌, inl, inr, ℕ, List, [], Option, Some, Ok, Err, ap, ◌∙◌}
 use Rattle.vm_facts.specs.declared.entry.Entry.{Entry}
 use Rattle.io_edge.specs.FileHolding.{NamedFile}
 use Rattle.io_edge.specs.Striping.{pair_blocks, first_blocks, pair_image}
@@ -8,6 +8,7 @@ use Rattle.vm_core.specs.Headline.{Headline}
 use Rattle.vm_core.proofs.Headlines.{carries_headline}
 use Rattle.command_ending.specs.declared.fault.Fault.{Fault}
 use Rattle.command_ending.specs.declared.fault.Fault.TheVariants.{Absent, NotImage, BadSchedule, FileFault, SwapReadFault, SwapWriteFault, NoMemory, JournalFull, NoSpace, ShortDevice}
+use Rattle.command_ending.proofs.Statuses.{status_is_not_0}
 use Rattle.command_words.specs.Asked.{Request}
 use Rattle.run_command.specs.Paired.{image_together}
 use Rattle.run_command.specs.Seen.{Seen}
@@ -59,6 +60,14 @@ module _ (request : Request) (seen : Seen) (files : List NamedFile) (es : List E
   told (Err (NoSpace pid)) e = of_words (Err (NoSpace pid)) e
   told (Err fault) e = of_words (Err fault) e
 
+  -- of a run that is finished the headline holds, and one that isn't has a status of its own
+  carried : (ending : RunEnding) → EndsTold request seen files es image ending → ((es ≡ []) × (status_of ending ≢ 0)) ⊎ HeadlineOfWords request files es
+  carried (Ok done) w = inr (record { inputs = w.inputs; asks = w.asks; headline = carries_headline w.inputs es w.ended.state w.ended.made })
+  carried (Err fault) e = elim (told (Err fault) e) [
+    | inl none ↦ inl (none, status_is_not_0 fault)
+    | inr headline ↦ inr headline
+  ]
+
 -- the image of a pair is told where both devices tell theirs
 pair_told : (blocks : ℕ) (zero one : Option (List ℕ)) (evens odds : List ℕ) → zero ≡ Some evens → one ≡ Some odds
     → pair_image blocks zero one ≡ Some (first_blocks blocks evens odds)
@@ -75,6 +84,6 @@ run_carries request seen status r zero one swap = record {
   writes = r.writes;
   told = λ files evens odds is octets first second.
       let blocks : ℕ = pair_blocks seen.zero_blocks seen.one_blocks in
-      told request seen files r.journal (first_blocks blocks evens odds) r.ending
+      carried request seen files r.journal (first_blocks blocks evens odds) r.ending
       (r.told files (first_blocks blocks evens odds) is octets (swap ∙ pair_told blocks zero one evens odds first second));
 }
