@@ -2,10 +2,11 @@
 use Rattle.std.specs.Prelude.{ℕ, Bool, ◌&&◌, not, List, [], ◌∷◌, Option, Some, None, option_and_then, if◌then◌else◌, bytes_eq, codes}
 use Rattle.std.specs.List.{list_all, list_any}
 use Rattle.std.specs.Option.{option_map}
+use Rattle.io_edge.specs.Striping.{most_blocks}
 use Rattle.run_files.specs.ImageWords.{starts}
 use Rattle.command_words.specs.declared.command.Numbers.{Numbers}
 use Rattle.command_words.specs.declared.command.FilmSteps.{FilmSteps}
-use Rattle.command_words.specs.declared.limits.TheConstants.{MOST_FRAMES, MOST_LIMIT, MOST_SHORT_LIMIT, LAST_LOAD, JOURNAL_ENTRIES}
+use Rattle.command_words.specs.declared.limits.TheConstants.{LEAST_FRAMES, MOST_FRAMES, LEAST_SWAP, MOST_LIMIT, MOST_SHORT_LIMIT, LAST_LOAD, JOURNAL_ENTRIES}
 use Rattle.command_words.specs.Words.{is_plain, number_in, is_name, are_image_words, is_trace, without_trace}
 
 -- a command, with the numbers and the names that its words give
@@ -37,7 +38,7 @@ all_numbers _ _ _ = None
 
 -- `FRAMES SWAP LIMIT`, with a limit up to so many
 unfoldable pub run_numbers : ℕ → List ℕ → List ℕ → List ℕ → Option Numbers
-run_numbers most frames swap limit = all_numbers (number_in 64 4096 frames) (number_in 256 131072 swap) (number_in 1 most limit)
+run_numbers most frames swap limit = all_numbers (number_in LEAST_FRAMES MOST_FRAMES frames) (number_in LEAST_SWAP most_blocks swap) (number_in 1 most limit)
 
 -- `FRAMES SWAP LIMIT SCHED IMAGE..`, with a limit up to so many, and what is made of these numbers, this
 -- schedule and these images
@@ -98,7 +99,7 @@ asked_policies _ = None
 -- the words after `run`, and what is made of them: one of them may be `--trace`; of the others none is empty or begins with a hyphen
 abbrev pub words_of_run : {A : Type 0} → (Bool → Numbers → List ℕ → List (List ℕ) → A) → List (List ℕ) → Option A
 words_of_run made words =
-    if list_all is_plain (without_trace words) then asked_with_run 1000000 (made (list_any is_trace words)) (without_trace words) else None
+    if list_all is_plain (without_trace words) then asked_with_run MOST_LIMIT (made (list_any is_trace words)) (without_trace words) else None
 
 -- the words after `run`
 unfoldable pub asked_run : List (List ℕ) → Option Asked
