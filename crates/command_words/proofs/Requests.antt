@@ -5,6 +5,7 @@ use Rattle.std.specs.Option.{option_map, option_and_then}
 use Rattle.run_files.specs.ImageWords.{starts}
 use Rattle.command_words.specs.declared.command.Numbers.{Numbers}
 use Rattle.command_words.specs.declared.command.FilmSteps.{FilmSteps}
+use Rattle.command_words.specs.declared.limits.TheConstants.{MOST_FRAMES, MOST_LIMIT, MOST_SHORT_LIMIT, LAST_LOAD, JOURNAL_ENTRIES}
 use Rattle.command_words.specs.Words.{is_plain, number_in, is_name, are_image_words, is_trace, without_trace}
 use Rattle.command_words.specs.Asked.{Asked, Run, Load, Replay, Assemble, Show, Optimum, Curve, Owners, Film, Stats, References, Policies, Request, run_numbers, asked_with_run, asked_load, asked_replay, asked_assemble, asked_show, asked_optimum, asked_owners, film_steps, asked_film, asked_policies, words_of_run, asked_run, request_for, request_of, asked_other, asked_of, request_in}
 
@@ -37,7 +38,7 @@ about_run most command (frames ∷ swap ∷ limit ∷ schedule ∷ images) none 
 load : (words : List (List ℕ)) → request_in (asked_load words) ≡ None
 unfolding asked_load
 load [] = refl
-load (number ∷ []) = mapped Load (number_in 0 9999 number) (λ n. refl)
+load (number ∷ []) = mapped Load (number_in 0 LAST_LOAD number) (λ n. refl)
 load (_ ∷ _ ∷ _) = refl
 
 replay : (words : List (List ℕ)) → request_in (asked_replay words) ≡ None
@@ -61,13 +62,13 @@ optimum : (words : List (List ℕ)) → request_in (asked_optimum words) ≡ Non
 unfolding asked_optimum
 optimum [] = refl
 optimum (size ∷ words) =
-    chained (λ (n : ℕ). asked_with_run 100000 (Optimum n) words) (number_in 1 4096 size) (λ n. about_run 100000 (Optimum n) words (λ numbers schedule images. refl))
+    chained (λ (n : ℕ). asked_with_run MOST_SHORT_LIMIT (Optimum n) words) (number_in 1 MOST_FRAMES size) (λ n. about_run MOST_SHORT_LIMIT (Optimum n) words (λ numbers schedule images. refl))
 
 owners : (words : List (List ℕ)) → request_in (asked_owners words) ≡ None
 unfolding asked_owners
 owners [] = refl
 owners (entries ∷ words) =
-    chained (λ (n : ℕ). asked_with_run 1000000 (Owners n) words) (number_in 0 16777216 entries) (λ n. about_run 1000000 (Owners n) words (λ numbers schedule images. refl))
+    chained (λ (n : ℕ). asked_with_run MOST_LIMIT (Owners n) words) (number_in 0 JOURNAL_ENTRIES entries) (λ n. about_run MOST_LIMIT (Owners n) words (λ numbers schedule images. refl))
 
 film : (words : List (List ℕ)) → request_in (asked_film words) ≡ None
 unfolding asked_film
@@ -75,14 +76,14 @@ film [] = refl
 film (_ ∷ []) = refl
 film (_ ∷ _ ∷ []) = refl
 film (from ∷ to ∷ every ∷ words) =
-    chained (λ (steps : FilmSteps). asked_with_run 1000000 (Film steps) words) (film_steps from to every) (λ steps. about_run 1000000 (Film steps) words (λ numbers schedule images. refl))
+    chained (λ (steps : FilmSteps). asked_with_run MOST_LIMIT (Film steps) words) (film_steps from to every) (λ steps. about_run MOST_LIMIT (Film steps) words (λ numbers schedule images. refl))
 
 policies : (words : List (List ℕ)) → request_in (asked_policies words) ≡ None
 unfolding asked_policies
 policies [] = refl
 policies (_ ∷ []) = refl
 policies (size ∷ references ∷ []) =
-    either (is_name references) _ None (mapped (λ (n : ℕ). Policies n references) (number_in 1 4096 size) (λ n. refl)) refl
+    either (is_name references) _ None (mapped (λ (n : ℕ). Policies n references) (number_in 1 MOST_FRAMES size) (λ n. refl)) refl
 policies (_ ∷ _ ∷ _ ∷ _) = refl
 
 pub no_request : (name : List ℕ) (words : List (List ℕ)) → request_in (asked_other name words) ≡ None
@@ -94,23 +95,23 @@ no_request name words =
     (either (bytes_eq name (codes "as")) _ _ (assemble words)
     (either (bytes_eq name (codes "dis")) _ _ (show words)
     (either (bytes_eq name (codes "opt")) _ _ (optimum words)
-    (either (bytes_eq name (codes "curve")) _ _ (about_run 100000 Curve words (λ numbers schedule images. refl))
+    (either (bytes_eq name (codes "curve")) _ _ (about_run MOST_SHORT_LIMIT Curve words (λ numbers schedule images. refl))
     (either (bytes_eq name (codes "owners")) _ _ (owners words)
     (either (bytes_eq name (codes "film")) _ _ (film words)
-    (either (bytes_eq name (codes "stats")) _ _ (about_run 1000000 Stats words (λ numbers schedule images. refl))
-    (either (bytes_eq name (codes "refs")) _ _ (about_run 100000 References words (λ numbers schedule images. refl))
+    (either (bytes_eq name (codes "stats")) _ _ (about_run MOST_LIMIT Stats words (λ numbers schedule images. refl))
+    (either (bytes_eq name (codes "refs")) _ _ (about_run MOST_SHORT_LIMIT References words (λ numbers schedule images. refl))
     (either (bytes_eq name (codes "policies")) _ _ (policies words) refl)))))))))))
 
 -- Words that ask for a run.
 
 run_request : (traced : Bool) (words : List (List ℕ))
-    → request_in (asked_with_run 1000000 (Run traced) words) ≡ asked_with_run 1000000 (request_for traced) words
+    → request_in (asked_with_run MOST_LIMIT (Run traced) words) ≡ asked_with_run MOST_LIMIT (request_for traced) words
 unfolding asked_with_run
 run_request traced [] = refl
 run_request traced (_ ∷ []) = refl
 run_request traced (_ ∷ _ ∷ []) = refl
 run_request traced (_ ∷ _ ∷ _ ∷ []) = refl
-run_request traced (frames ∷ swap ∷ limit ∷ schedule ∷ images) = go (is_name schedule && are_image_words images) (run_numbers 1000000 frames swap limit)
+run_request traced (frames ∷ swap ∷ limit ∷ schedule ∷ images) = go (is_name schedule && are_image_words images) (run_numbers MOST_LIMIT frames swap limit)
   where
     go : (b : Bool) (o : Option Numbers) → request_in (if b then option_map (λ (n : Numbers). Run traced n schedule images) o else None)
         ≡ (if b then option_map (λ (n : Numbers). request_for traced n schedule images) o else None)
@@ -122,8 +123,8 @@ words_request : (words : List (List ℕ)) → request_in (asked_run words) ≡ w
 unfolding asked_run
 words_request words = go (list_all is_plain (without_trace words))
   where
-    go : (b : Bool) → request_in (if b then asked_with_run 1000000 (Run (list_any is_trace words)) (without_trace words) else None)
-        ≡ (if b then asked_with_run 1000000 (request_for (list_any is_trace words)) (without_trace words) else None)
+    go : (b : Bool) → request_in (if b then asked_with_run MOST_LIMIT (Run (list_any is_trace words)) (without_trace words) else None)
+        ≡ (if b then asked_with_run MOST_LIMIT (request_for (list_any is_trace words)) (without_trace words) else None)
     go true = run_request (list_any is_trace words) (without_trace words)
     go false = refl
 

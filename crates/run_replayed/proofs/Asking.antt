@@ -4,6 +4,7 @@ use Rattle.std.specs.List.{list_all, list_any}
 use Rattle.std.specs.Option.{option_map}
 use Rattle.std.proofs.lemmas.Bool.{and_parts}
 use Rattle.command_words.specs.declared.command.Numbers.{Numbers}
+use Rattle.command_words.specs.declared.limits.TheConstants.{MOST_LIMIT}
 use Rattle.command_words.specs.Words.{is_plain, is_name, are_image_words, is_trace, without_trace}
 use Rattle.command_words.specs.Asked.{Run, Replay, run_numbers, asked_with_run, asked_replay, asked_run, request_for, asked_other, asked_of, request_in}
 use Rattle.command_words.proofs.Requests.{no_request}
@@ -21,7 +22,7 @@ module _ (traced : Bool) (numbers : Numbers) (schedule : List ℕ) (images : Lis
   same_images option name words None is = absurd cc
   same_images option name words (Some n) is = cc
 
-  by_places : (option : Bool) (words : List (List ℕ)) → list_all is_plain words ≡ true → asked_with_run 1000000 (Run option) words ≡ Some (Run traced numbers schedule images) → AreGood images
+  by_places : (option : Bool) (words : List (List ℕ)) → list_all is_plain words ≡ true → asked_with_run MOST_LIMIT (Run option) words ≡ Some (Run traced numbers schedule images) → AreGood images
   unfolding asked_with_run
   by_places option [] plain is = absurd cc
   by_places option (_ ∷ []) plain is = absurd cc
@@ -35,9 +36,9 @@ module _ (traced : Bool) (numbers : Numbers) (schedule : List ℕ) (images : Lis
       go (is_name name) (are_image_words words) rest.1 refl is
     where
       go : (named good : Bool) → list_all is_plain words ≡ true → are_image_words words ≡ good
-          → (if named && good then option_map (λ (n : Numbers). Run option n name words) (run_numbers 1000000 frames swap limit) else None) ≡ Some (Run traced numbers schedule images)
+          → (if named && good then option_map (λ (n : Numbers). Run option n name words) (run_numbers MOST_LIMIT frames swap limit) else None) ≡ Some (Run traced numbers schedule images)
           → AreGood images
-      go true true all are same = subst AreGood (same_images option name words (run_numbers 1000000 frames swap limit) same) (record { plain = all; images_are = are })
+      go true true all are same = subst AreGood (same_images option name words (run_numbers MOST_LIMIT frames swap limit) same) (record { plain = all; images_are = are })
       go true false all are same = absurd cc
       go false good all are same = absurd cc
 
@@ -46,7 +47,7 @@ module _ (traced : Bool) (numbers : Numbers) (schedule : List ℕ) (images : Lis
   after_run words is = go (list_all is_plain (without_trace words)) refl is
     where
       go : (plain : Bool) → list_all is_plain (without_trace words) ≡ plain
-          → (if plain then asked_with_run 1000000 (Run (list_any is_trace words)) (without_trace words) else None) ≡ Some (Run traced numbers schedule images) → AreGood images
+          → (if plain then asked_with_run MOST_LIMIT (Run (list_any is_trace words)) (without_trace words) else None) ≡ Some (Run traced numbers schedule images) → AreGood images
       go true all same = by_places (list_any is_trace words) (without_trace words) all same
       go false all same = absurd cc
 
