@@ -6,7 +6,7 @@ use Rattle.machine_state.specs.Files.{AreFiles}
 use Rattle.machine_state.specs.Machine.{image_shown}
 use Rattle.machine_state.specs.New.{AreSound}
 use Rattle.machine_state.specs.Sourced.{AreNames}
-use Rattle.vm_core.specs.Cores.{Underway, GoesOn}
+use Rattle.vm_core.specs.Cores.{Underway, StandsUnderway}
 use Rattle.vm_core.specs.Starting.{IsFresh}
 
 -- images of which a core may be made, whose files these are
@@ -26,6 +26,6 @@ pub record MayStart (c : Underway) (first : List ℕ) (holds : Option (List Name
 
 -- It started, and may take the next line, or close the run.
 pub record MayGoOn (c : Underway) (holds : Option (List NamedFile)) (blocks : ℕ) : Type 0 where
-  pub goes_on : GoesOn c
+  pub goes_on : StandsUnderway c
   pub area : c.machine.params.swap_blocks ≤ blocks
   pub files : AreFiles c.machine.images holds

@@ -126,7 +126,8 @@ wait_room F pid regs = go (find (λ q. q.parent == pid) F.processes) (find (is_z
     go (Some child) None = tt
     go (Some child) (Some z) = tt
 
-all_room : (images : List NamedImage) (F : FlatState) (p : Process) (s : Space) (call : SystemCall) (regs : Regs) → AllGives (ReplyRoom F) (reply_of images F p s call regs)
+all_room : (images : List NamedImage) (F : FlatState) (p : Process) (s : Space) (call : SystemCall) (regs : Regs)
+    → AllGives (ReplyRoom F) (reply_of images F p s call regs)
 unfolding reply_of exit_reply write_reply break_reply execve_reply
 all_room images F p s calls.Exit regs = gives_any (ReplyRoom F) (argument regs 1) (λ code. Gives (Exits (code % 256 * 256))) (λ code. tt)
 all_room images F p s calls.Fork regs = (child_room F (nat_lt (length F.processes) process_limit) regs F.next_pid refl).0

@@ -29,7 +29,7 @@ use Rattle.run_model.specs.Next.{next_unit}
 use Rattle.run_model.specs.Kinds.{Kind, Fills, Brings, Copies, Serves, Acts, ComesIn, Interrupts, Moves, PutsOut, Notes, Begins}
 use Rattle.run_model.specs.Lawful.{Follows}
 use Rattle.run_model.proofs.NextUnits.{kind_of}
-use Rattle.run_laws.specs.Running.{IsRun, IsReady}
+use Rattle.run_laws.specs.Running.{IsRun, ReadyToStep}
 use Rattle.run_laws.proofs.Plain.{IsPaging, serve_paging, zero_paging, copy_paging}
 use Rattle.run_laws.proofs.Stepping.{touched_due}
 use Rattle.run_laws.proofs.Units.{owns, sixteen}
@@ -106,9 +106,9 @@ step_opens A s pid u e =
 pub opens : (A : Inputs) (s : State) (u : Entry) → next_unit A s ≡ Some u → begins_stretch u ≡ true → Opens (after A s u).place.due
 unfolding after
 opens A s (entries.Turn p) h b = Nothing (turn_clear A s p (kind_of A s (entries.Turn p) h))
-opens A s (entries.Ran p n) h b = let k : IsReady A s p = unit_ready A s (entries.Ran p n) p h refl in step_opens A s p (entries.Ran p n) k.clear
-opens A s (entries.Call p n c r0 r1) h b = let k : IsReady A s p = unit_ready A s (entries.Call p n c r0 r1) p h refl in step_opens A s p (entries.Call p n c r0 r1) k.clear
-opens A s (entries.Ended p n) h b = let k : IsReady A s p = unit_ready A s (entries.Ended p n) p h refl in step_opens A s p (entries.Ended p n) k.clear
+opens A s (entries.Ran p n) h b = let k : ReadyToStep A s p = unit_ready A s (entries.Ran p n) p h refl in step_opens A s p (entries.Ran p n) k.clear
+opens A s (entries.Call p n c r0 r1) h b = let k : ReadyToStep A s p = unit_ready A s (entries.Call p n c r0 r1) p h refl in step_opens A s p (entries.Call p n c r0 r1) k.clear
+opens A s (entries.Ended p n) h b = let k : ReadyToStep A s p = unit_ready A s (entries.Ended p n) p h refl in step_opens A s p (entries.Ended p n) k.clear
 opens A s _ h b = absurd cc
 
 -- what is left of a stretch at its beginning

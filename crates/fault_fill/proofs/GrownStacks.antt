@@ -29,9 +29,9 @@ use Rattle.machine_state.specs.Wants.{wanted_of, found_for, fits_for}
 use Rattle.machine_state.specs.Conditions.{KeepsFlat, SameEverywhere}
 use Rattle.machine_state.specs.Applying.{CanApply, MayAct, facts_named}
 use Rattle.machine_state.specs.UserMemory.{CanLend}
-use Rattle.fault_fill.specs.Growth.{space_held, IsGrowth, growth, growth_found, with_pieces, Grown, GrowthRefused}
+use Rattle.fault_fill.specs.Growth.{space_of_pid, IsGrowth, growth, growth_found, with_pieces, Grown, GrowthRefused}
 use Rattle.fault_fill.specs.Serving.{CanServe}
-use Rattle.fault_fill.specs.Touches.{IsReady}
+use Rattle.fault_fill.specs.Touches.{MayServePage}
 use Rattle.fault_fill.proofs.Grows.{growth_asked}
 use Rattle.fault_fill.proofs.Touching.{held_there}
 
@@ -41,20 +41,20 @@ abbrev pub stack_want : ℕ → ℕ → List Want
 stack_want sid pages = record { owner = owners.Stack sid; blocks = 2 * pages } ∷ []
 
 own_wants : (m : Standing) (pid pages : ℕ)
-    → lengths (owners.Stack (space_held m.kernel pid)) m.kernel.holdings ≡ pieces (2 * stack_count m.kernel.place (space_held m.kernel pid))
+    → lengths (owners.Stack (space_of_pid m.kernel pid)) m.kernel.holdings ≡ pieces (2 * stack_count m.kernel.place (space_of_pid m.kernel pid))
     → asked (facts_named m.images) m.kernel pid (growth m.kernel pid pages)
-    ≡ wanted_of m.kernel.holdings (stack_want (space_held m.kernel pid) pages)
-own_wants m pid pages held = growth_asked (facts_named m.images) m.kernel.place m.kernel.holdings (space_held m.kernel pid) m.kernel.next_sid pages held
+    ≡ wanted_of m.kernel.holdings (stack_want (space_of_pid m.kernel pid) pages)
+own_wants m pid pages held = growth_asked (facts_named m.images) m.kernel.place m.kernel.holdings (space_of_pid m.kernel pid) m.kernel.next_sid pages held
 
 -- what is found for the one request is what growth asks for
-pub wants_found : (m : Standing) (pid sid pages : ℕ) → CanGoOn m → IsGrowth m.kernel.place (space_held m.kernel pid) sid pages
+pub wants_found : (m : Standing) (pid sid pages : ℕ) → CanGoOn m → IsGrowth m.kernel.place (space_of_pid m.kernel pid) sid pages
     → growth_found m pid pages ≡ found_for m.params.swap_blocks m.kernel.holdings (stack_want sid pages)
 wants_found m pid sid pages ready g =
     ap (place_all m.params.swap_blocks m.kernel.holdings)
-    (own_wants m pid pages (sym (ap (lengths (owners.Stack (space_held m.kernel pid))) ready.whole) ∙ ready.running.sound.owner.blocks.stack_held (space_held m.kernel pid))
+    (own_wants m pid pages (sym (ap (lengths (owners.Stack (space_of_pid m.kernel pid))) ready.whole) ∙ ready.running.sound.owner.blocks.stack_held (space_of_pid m.kernel pid))
     ∙ ap (λ (n : ℕ). wanted_of m.kernel.holdings (stack_want n pages)) (sym g.own))
 
-pub refused_growth : (m n : Standing) (pid sid pages : ℕ) → CanGoOn m → IsGrowth m.kernel.place (space_held m.kernel pid) sid pages
+pub refused_growth : (m n : Standing) (pid sid pages : ℕ) → CanGoOn m → IsGrowth m.kernel.place (space_of_pid m.kernel pid) sid pages
     → false ≡ fits_for m.params.swap_blocks m.kernel.holdings (stack_want sid pages)
     → n ≡ record m { kernel = note_step m.kernel (Refused pid); room = None } → KeepsFlat m.kernel n.kernel → SameEverywhere m.kernel n.kernel
     → GrowthRefused m n pid pages
@@ -76,8 +76,8 @@ none_lost p held sid pages g (inl l) = omega arith
 none_lost p held sid pages g (inr l) = let a = g.more in let b = ap (stack_count p) g.own in omega arith
 
 module _ (m : Standing) (pid sid pages : ℕ) (ready : CanGoOn m) (clear : m.kernel.place.due ≡ []) (lends : CanLend m.kernel pid)
-    (g : IsGrowth m.kernel.place (space_held m.kernel pid) sid pages) where
-  can_apply : (hs : Holdings) → growth_found m pid pages ≡ Ok hs → data_count m.kernel.place (space_held m.kernel pid) ≤ 4096
+    (g : IsGrowth m.kernel.place (space_of_pid m.kernel pid) sid pages) where
+  can_apply : (hs : Holdings) → growth_found m pid pages ≡ Ok hs → data_count m.kernel.place (space_of_pid m.kernel pid) ≤ 4096
       → CanApply (with_pieces m hs) pid (Grew pid pages) (growth m.kernel pid pages)
   can_apply hs finds small = record {
     clear = clear;
@@ -85,7 +85,7 @@ module _ (m : Standing) (pid sid pages : ℕ) (ready : CanGoOn m) (clear : m.ker
       alive = lives_by (proc_of m.kernel pid) lends.sid lends.holds;
       next = tt;
       reaps = tt;
-      space = (held_there m.kernel pid lends, λ loses. absurd (none_lost m.kernel.place (space_held m.kernel pid) sid pages g loses));
+      space = (held_there m.kernel pid lends, λ loses. absurd (none_lost m.kernel.place (space_of_pid m.kernel pid) sid pages g loses));
     };
     acts = subst (λ (l : Life). MayAct l (growth m.kernel pid pages)) (sym lends.holds) tt;
     resident = lends.resident;
@@ -97,7 +97,7 @@ module _ (m : Standing) (pid sid pages : ℕ) (ready : CanGoOn m) (clear : m.ker
   }
 
   pub can_grow : (a : Standing) (d : ℕ) (hs : Holdings) → growth_found m pid pages ≡ Ok hs → a ≡ with_pieces m hs
-      → d ≡ data_count m.kernel.place (space_held m.kernel pid) → d ≤ 4096 → CanApply a pid (Grew pid pages) (Resize d pages)
+      → d ≡ data_count m.kernel.place (space_of_pid m.kernel pid) → d ≤ 4096 → CanApply a pid (Grew pid pages) (Resize d pages)
   can_grow a d hs finds is count small =
       subst (λ (s : Standing). CanApply s pid (Grew pid pages) (Resize d pages)) (sym is)
       (subst (λ (n : ℕ). CanApply (with_pieces m hs) pid (Grew pid pages) (Resize n pages)) (sym count) (can_apply hs finds (omega arith)))
@@ -132,24 +132,24 @@ serves_new p sid d pages there clear some = record {
   blank = λ e. clear;
 }
 
-held_is : (k : Kernel) (pid : ℕ) (process : Proc) → proc_of k pid ≡ Some process → space_held k pid ≡ space_of_life process.life
+held_is : (k : Kernel) (pid : ℕ) (process : Proc) → proc_of k pid ≡ Some process → space_of_pid k pid ≡ space_of_life process.life
 held_is k pid process there = ap (λ (o : Option Proc). space_of_life (life_of_proc o)) there
 
 module _ (m n : Standing) (pid sid pages : ℕ) (h : Grown m n pid pages) (lends : CanLend m.kernel pid)
-    (g : IsGrowth m.kernel.place (space_held m.kernel pid) sid pages) where
+    (g : IsGrowth m.kernel.place (space_of_pid m.kernel pid) sid pages) where
   abbrev before : Kernel
   before = record m.kernel { holdings = h.found }
 
   step_is : n.kernel ≡ change_by (facts_named m.images) before h.process (Grew pid pages) (growth m.kernel pid pages)
   step_is = h.step ∙ ap (change_if (facts_named m.images) before h.process.regs (Grew pid pages) (growth m.kernel pid pages)) h.there
 
-  place_is : n.kernel.place ≡ cut_space m.kernel.place sid (data_count m.kernel.place (space_held m.kernel pid)) pages
+  place_is : n.kernel.place ≡ cut_space m.kernel.place sid (data_count m.kernel.place (space_of_pid m.kernel pid)) pages
   place_is =
       ap (λ (k : Kernel). k.place) step_is
-      ∙ ap (λ (i : ℕ). resize m.kernel.place i (data_count m.kernel.place (space_held m.kernel pid)) pages) (sym (held_is m.kernel pid h.process h.there) ∙ sym g.own)
-      ∙ only_cut m.kernel.place sid (data_count m.kernel.place (space_held m.kernel pid)) pages (let a = ap (data_count m.kernel.place) g.own in omega arith) (let a = g.more in omega arith)
+      ∙ ap (λ (i : ℕ). resize m.kernel.place i (data_count m.kernel.place (space_of_pid m.kernel pid)) pages) (sym (held_is m.kernel pid h.process h.there) ∙ sym g.own)
+      ∙ only_cut m.kernel.place sid (data_count m.kernel.place (space_of_pid m.kernel pid)) pages (let a = ap (data_count m.kernel.place) g.own in omega arith) (let a = g.more in omega arith)
 
-  pub grown_ready : CanGoOn n → m.kernel.place.due ≡ [] → IsReady (page_names.Stack sid (pages - 1)) m n
+  pub grown_ready : CanGoOn n → m.kernel.place.due ≡ [] → MayServePage (page_names.Stack sid (pages - 1)) m n
   grown_ready ready clear = record {
     ready = ready;
     params = ap (λ (s : Standing). s.params) h.rest;
@@ -159,6 +159,6 @@ module _ (m n : Standing) (pid sid pages : ℕ) (h : Grown m n pid pages) (lends
         let a : last_moves n.kernel.journal ≡ 0 = ap (λ (k : Kernel). last_moves k.journal) step_is ∙ last_of m.kernel.journal (Grew pid pages) in
         omega arith;
     can = subst (λ (p : Placement). CanServe p (page_names.Stack sid (pages - 1))) (sym place_is)
-        (serves_new m.kernel.place sid (data_count m.kernel.place (space_held m.kernel pid)) pages (subst (λ (i : ℕ). HasSpace m.kernel.place i) (sym g.own) (held_there m.kernel pid lends)) clear
+        (serves_new m.kernel.place sid (data_count m.kernel.place (space_of_pid m.kernel pid)) pages (subst (λ (i : ℕ). HasSpace m.kernel.place i) (sym g.own) (held_there m.kernel pid lends)) clear
         (let a = g.more in omega arith));
   }

@@ -30,7 +30,7 @@ use Rattle.machine_state.proofs.UserFrames.{get_within, get_below}
 use Rattle.fault_fill.specs.declared.access.Access.{Access}
 use Rattle.fault_fill.specs.declared.access.Access.TheVariants as accesses
 use Rattle.fault_fill.specs.Access.{access_at, access_of}
-use Rattle.fault_fill.specs.Growth.{space_held, access_to, IsGrowth, IsAsked}
+use Rattle.fault_fill.specs.Growth.{space_of_pid, access_to, IsGrowth, IsAsked}
 use Rattle.fault_fill.proofs.Homes.{home_place, some_place}
 use Rattle.fault_fill.proofs.Accesses.{IsOf, of_space, access_there}
 
@@ -47,7 +47,7 @@ none_holds (Some p) sid h e = absurd cc
 pub not_there : (k : Kernel) (pid : ℕ) → CanLend k pid → proc_of k pid ≡ None → ⊥
 not_there k pid c e = none_holds (proc_of k pid) c.sid c.holds e
 
-pub held_there : (k : Kernel) (pid : ℕ) → CanLend k pid → HasSpace k.place (space_held k pid)
+pub held_there : (k : Kernel) (pid : ℕ) → CanLend k pid → HasSpace k.place (space_of_pid k pid)
 held_there k pid c = subst (λ (l : Life). HasSpace k.place (space_of_life l)) (sym c.holds) c.there
 
 -- The sizes of segments.

@@ -22,8 +22,8 @@ use Rattle.fault_fill.specs.declared.access.Access.TheVariants as accesses
 use Rattle.fault_fill.specs.Access.{access_at}
 
 -- the space that a process holds
-abbrev pub space_held : Kernel → ℕ → ℕ
-space_held k pid = space_of_life (life_in k pid)
+abbrev pub space_of_pid : Kernel → ℕ → ℕ
+space_of_pid k pid = space_of_life (life_in k pid)
 
 -- what an access of a byte of a space asks for
 abbrev pub access_to : Placement → ℕ → ℕ → Bool → Access
@@ -31,7 +31,7 @@ access_to p sid address write = access_at sid (image_of p sid) address (spot_in 
 
 -- and of the space that a process holds
 abbrev pub access_by : Kernel → ℕ → ℕ → Bool → Access
-access_by k pid address write = access_to k.place (space_held k pid) address write
+access_by k pid address write = access_to k.place (space_of_pid k pid) address write
 
 -- the stack of this space grows, to no more pages than a stack may have
 pub record IsGrowth (p : Placement) (held sid pages : ℕ) : Type 0 where
@@ -52,7 +52,7 @@ AsksGrowth _ = ⊥
 
 -- growth of the stack of a process to so many pages
 abbrev pub growth : Kernel → ℕ → ℕ → Change
-growth k pid pages = Resize (data_count k.place (space_held k pid)) pages
+growth k pid pages = Resize (data_count k.place (space_of_pid k pid)) pages
 
 -- the holdings once the pieces for that are found, or the length of the first piece that finds no place
 abbrev pub growth_found : Standing → ℕ → ℕ → Result Holdings ℕ

@@ -31,7 +31,7 @@ Reaches (accesses.Growth sid pages) (Ok r) pid old new = (r ≡ page_names.Stack
 Reaches (accesses.Growth sid pages) (Err answer) pid old new = (answer ≡ served.NoSpace) × GrowthRefused old new pid pages
 
 -- the page may be served in this machine, whose bounds are those of the other
-pub record IsReady (q : Page) (old new : Standing) : Type 0 where
+pub record MayServePage (q : Page) (old new : Standing) : Type 0 where
   pub ready : CanGoOn new
   pub params : new.params ≡ old.params
   pub images : new.images ≡ old.images
@@ -41,7 +41,7 @@ pub record IsReady (q : Page) (old new : Standing) : Type 0 where
 
 -- the page of an access, where there is one, may be served
 abbrev pub ReadyIf : Result Page Served → Standing → Standing → Type 0
-ReadyIf (Ok q) old new = IsReady q old new
+ReadyIf (Ok q) old new = MayServePage q old new
 ReadyIf (Err answer) old new = Unit {0}
 
 -- Answers.

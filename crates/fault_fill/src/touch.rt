@@ -14,7 +14,7 @@ ghost use Rattle.machine_state.specs.UserMemory.{CanLend};
 ghost use Rattle.machine_state.specs.Outside.{stop_of, TransfersPages};
 ghost use Rattle.clock_hands.specs.LastMoves.{last_moves};
 ghost use Rattle.kernel_model.specs.Unit.{proc_of};
-ghost use Rattle.fault_fill.specs.Growth.{space_held, access_by, IsAsked, AsksGrowth, IsGrowth, GrowsBy};
+ghost use Rattle.fault_fill.specs.Growth.{space_of_pid, access_by, IsAsked, AsksGrowth, IsGrowth, GrowsBy};
 ghost use Rattle.fault_fill.specs.Touches.{Reaches, ReadyIf, TouchedAs, TouchedNow, AccessComes, AccessStops};
 
 use crate::access::{Access, access_in};
@@ -59,8 +59,8 @@ fn process(m: &Machine, pid: u32) -> Proc
 fn map_of(m: &Machine, pid: u32) -> &SpaceMap
     requires running { IsRunning m.now }
     requires lends { CanLend m.now.kernel pid }
-    ensures named { result.now.sid ≡ space_held m.now.kernel pid }
-    ensures of_image { result.now.image ≡ image_of m.now.kernel.place (space_held m.now.kernel pid) }
+    ensures named { result.now.sid ≡ space_of_pid m.now.kernel pid }
+    ensures of_image { result.now.image ≡ image_of m.now.kernel.place (space_of_pid m.now.kernel pid) }
     ensures shows { (core : Frames) → ShowsCore m.now.kernel.place core → ShowsSpace m.now.kernel.place core result.now }
 {
     let Life::Holds(sid) = process(m, pid).state else {
@@ -76,7 +76,7 @@ fn map_of(m: &Machine, pid: u32) -> &SpaceMap
 fn data_pages_of(m: &Machine, pid: u32) -> u32
     requires running { IsRunning m.now }
     requires lends { CanLend m.now.kernel pid }
-    ensures count { result ≡ data_count m.now.kernel.place (space_held m.now.kernel pid) }
+    ensures count { result ≡ data_count m.now.kernel.place (space_of_pid m.now.kernel pid) }
     ensures few { result ≤ 4096 }
 {
     let _core = m.core();
@@ -88,7 +88,7 @@ fn access_of(m: &Machine, pid: u32, address: u32, write: bool) -> Access
     requires running { IsRunning m.now }
     requires lends { CanLend m.now.kernel pid }
     ensures is { result ≡ access_by m.now.kernel pid address write }
-    ensures can { IsAsked m.now.kernel.place (space_held m.now.kernel pid) result }
+    ensures can { IsAsked m.now.kernel.place (space_of_pid m.now.kernel pid) result }
 {
     let _core = m.core();
     access_in(map_of(m, pid), address, write)
@@ -99,7 +99,7 @@ fn grow(m: &mut Machine, pid: u32, sid: u32, pages: u32) -> Result<bool, Stop>
     requires ready { CanGoOn m.old }
     requires clear { m.old.kernel.place.due ≡ [] }
     requires lends { CanLend m.old.kernel pid }
-    requires growth { IsGrowth m.old.kernel.place (space_held m.old.kernel pid) sid pages }
+    requires growth { IsGrowth m.old.kernel.place (space_of_pid m.old.kernel pid) sid pages }
     ensures grows { IfOk result (λ grew. GrowsBy grew m.old m.new pid pages) }
     ensures has_room { OnOk result (length m.old.kernel.journal < m.old.params.journal) }
     ensures stop { OnErr result (HasStopped m.old m.new) }

@@ -16,7 +16,7 @@ use Rattle.run_model.specs.After.{after, AllFlat}
 use Rattle.run_model.specs.Next.{next_unit}
 use Rattle.run_model.specs.Lawful.{Follows, IsLawful}
 use Rattle.run_model.proofs.FlatRuns.{run_flat}
-use Rattle.run_laws.specs.Running.{IsRun, IsReady}
+use Rattle.run_laws.specs.Running.{IsRun, ReadyToStep}
 use Rattle.run_laws.specs.Standing.{Placed}
 use Rattle.run_laws.proofs.Units.{owns}
 use Rattle.run_laws.proofs.Lawful.{all_units}
@@ -55,7 +55,7 @@ used_are A number (u ∷ us) s f =
 touched_usable : (A : Inputs) (number : Page → ℕ) (s : State) (u : Entry) (pid x : ℕ) → IsRun A s → next_unit A s ≡ Some u → process_of_entry u ≡ Some pid
     → has x (map number (touched A s.point.flat pid)) ≡ true → has x (usable number s.place) ≡ true
 touched_usable A number s u pid x r n e h =
-    let y : IsReady A s pid = unit_ready A s u pid n e in
+    let y : ReadyToStep A s pid = unit_ready A s u pid n e in
     pages_usable number s.place (touched A s.point.flat pid) x (owns A s r.placed) y.pages h
 
 used_usable : (A : Inputs) (number : Page → ℕ) (s : State) (u : Entry) (x : ℕ) → IsRun A s → next_unit A s ≡ Some u

@@ -11,7 +11,7 @@ use Rattle.page_laws.specs.Leaving.{IsDirtyIn, IsUnwritten, StaysOrWritten}
 use Rattle.flat_model.specs.Run.{process_of_entry}
 use Rattle.run_model.specs.State.{State}
 use Rattle.run_model.specs.After.{snapshot_of, after}
-use Rattle.paging_laws.specs.RunLawsRunning.{IsReady}
+use Rattle.paging_laws.specs.RunLawsRunning.{ReadyToStep}
 use Rattle.paging_laws.specs.Called.{IsWanted, IsStartDue, IsCopyDue, IsParentOfDue, IsSmallRead}
 use Rattle.paging_laws.specs.Lost.{IsLost}
 use Rattle.paging_laws.specs.Cleaned.{IsCleaned}
@@ -47,7 +47,7 @@ IsCalledFor A s u = Unit {0}
 -- and what must be written, text among it, stays off the free list till its write has ended, but for units of processes.
 pub record IsAccounted (A : Inputs) (s : State) (u : Entry) : Type 0 where
   pub owned : IsOwned A (snapshot_of (after A s u))
-  pub ready : (pid : ℕ) → process_of_entry u ≡ Some pid → IsReady A s pid
+  pub ready : (pid : ℕ) → process_of_entry u ≡ Some pid → ReadyToStep A s pid
   pub refusal : RefusesRightly A (snapshot_of s) u
   pub called : IsCalledFor A s u
   pub leaves : (q : Page) (f : ℕ) → frame_of (state_of s.place q) ≡ Some f → frame_of (state_of (after A s u).place q) ≢ Some f

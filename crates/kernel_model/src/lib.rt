@@ -12,7 +12,7 @@
 //! - Stands: what the coupling asks beside it.
 //! - Taken, Asks: the pieces of swap that a change wants, and the machine once they are found.
 //! - Start: `start_kernel`, the machine at the start of a run; `begin_step`, one first process begins.
-//! - Unit: `KernelUnit`, one case for each step of the kernel, and `state_after`: what it does to the machine, to the pieces
+//! - Unit: `KernelUnit`, one case for each step of the kernel, and `kernel_after`: what it does to the machine, to the pieces
 //!   that wait, to the swap image and to the flat state.
 //! - Invariant: `Invariant`, all that is so of the kernel between two units; and `May`, what each unit asks.
 //!

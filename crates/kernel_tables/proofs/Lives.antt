@@ -12,7 +12,7 @@ use Rattle.page_model.specs.Pages.{numbered}
 use Rattle.kernel_model.specs.Kernel.{HoldsSpace, Proc}
 use Rattle.kernel_model.specs.ChangeStep.{life_of_proc}
 use Rattle.kernel_tables.specs.Machine.{life_shown, proc_shown, proc_of_record, processes_of}
-use Rattle.kernel_tables.specs.Lives.{space_by, space_held}
+use Rattle.kernel_tables.specs.Lives.{space_by, space_of_record}
 use Rattle.kernel_tables.proofs.Records.{keeps_none, keeps_some, found_pid}
 
 abbrev pub pid_of : Proc → ℕ
@@ -61,11 +61,11 @@ life_space _ sid e = absurd cc
 
 -- a process that holds a space has it in its record
 pub holds_space : (ps : List Record) (next pid sid : ℕ) → life_of_proc (numbered pid_of pid (processes_of ps next)) ≡ HoldsSpace sid
-    → space_held (find pid ps) ≡ Some sid
+    → space_of_record (find pid ps) ≡ Some sid
 holds_space ps next pid sid e = go (numbered pid_of pid (processes_of ps next)) refl e
   where
-    go : (o : Option Proc) → numbered pid_of pid (processes_of ps next) ≡ o → life_of_proc o ≡ HoldsSpace sid → space_held (find pid ps) ≡ Some sid
+    go : (o : Option Proc) → numbered pid_of pid (processes_of ps next) ≡ o → life_of_proc o ≡ HoldsSpace sid → space_of_record (find pid ps) ≡ Some sid
     go None f k = absurd cc
     go (Some q) f k =
         let r : HasRecord ps pid q = record_of ps next pid q f in
-        ap space_held r.there ∙ life_space r.found.state sid (ap (λ (p : Proc). p.life) r.shows ∙ k)
+        ap space_of_record r.there ∙ life_space r.found.state sid (ap (λ (p : Proc). p.life) r.shows ∙ k)

@@ -24,7 +24,7 @@ use Rattle.kernel_tables.specs.Shown.{placed}
 use Rattle.kernel_tables.specs.View.{placement_of, frames_of}
 use Rattle.kernel_tables.specs.Known.{Known}
 use Rattle.kernel_tables.specs.Moves.{WroteByte}
-use Rattle.kernel_tables.specs.Machine.{Runs, Stands, lists_of, kernel_by, before_of, images_of, image_at}
+use Rattle.kernel_tables.specs.Machine.{KernelRuns, Stands, lists_of, kernel_by, before_of, images_of, image_at}
 use Rattle.page_model.specs.Holdings.{Holdings}
 use Rattle.kernel_tables.proofs.Stills.{images_heads, sourced_still}
 use Rattle.kernel_tables.proofs.Entries.{head_of, placed_heads}
@@ -87,8 +87,8 @@ pub wrote_itself : (t u : Tables) (q : Page) (f at byte : ℕ) → Writing t u q
 wrote_itself t u q f at byte w = record { known = w.known; valid = w.valid; writable = w.writable; wrote = record { free = w.wrote.free; slots = w.wrote.slots; spaces = w.wrote.spaces; rest = refl } }
 
 write_runs : (t u : Tables) (q : Page) (f at byte : ℕ) (j : List Entry) (b : Bool) (hs : Holdings)
-    → Runs (record (kernel_by t j b) { holdings = hs }) (lists_of t) t.book.size → Writing t u q f at byte
-    → Runs (record (kernel_by u j b) { holdings = hs }) (lists_of u) t.book.size
+    → KernelRuns (record (kernel_by t j b) { holdings = hs }) (lists_of t) t.book.size → Writing t u q f at byte
+    → KernelRuns (record (kernel_by u j b) { holdings = hs }) (lists_of u) t.book.size
 write_runs t u q f at byte j b hs r w =
     let k : Kernel = record (kernel_by t j b) { holdings = hs } in
     let i : InFrame (lists_of t) q f = in_frame (lists_of t) q f w.known w.valid in

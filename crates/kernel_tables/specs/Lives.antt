@@ -15,9 +15,9 @@ space_by (lives.Lends sid child) = None
 space_by (lives.Zombie status) = None
 
 -- the space in which the process of a record runs, if there is a record
-abbrev pub space_held : Option Record → Option ℕ
-space_held None = None
-space_held (Some p) = space_by p.state
+abbrev pub space_of_record : Option Record → Option ℕ
+space_of_record None = None
+space_of_record (Some p) = space_by p.state
 
 -- each record is marked by whether some process lends a space to its own
 abbrev pub AreMarked : List Process → List Record → Type 0

@@ -113,7 +113,7 @@ pub record Standing : Type 0 where
 
 -- What holds of a kernel that runs: each frame and each block has one owner, spaces and processes have numbers of
 -- their own, what is due stands, and the tables are tied.
-pub record Runs (k : Kernel) (t : Lists) (size : ℕ) : Type 0 where
+pub record KernelRuns (k : Kernel) (t : Lists) (size : ℕ) : Type 0 where
   pub sound : Sound size k
   pub numbered : Numbered k
   pub due : DueStand k.place
@@ -130,7 +130,7 @@ image_at t sid = image_of (placement_of (lists_of t)) sid
 
 -- What holds of a machine that runs. It is sound with the holdings before the last pieces were found.
 pub record Stands (t : Tables) (journal : List Entry) (stopped : Bool) : Type 0 where
-  pub runs : Runs (record (kernel_by t journal stopped) { holdings = before_of t }) (lists_of t) t.book.size
+  pub runs : KernelRuns (record (kernel_by t journal stopped) { holdings = before_of t }) (lists_of t) t.book.size
   pub ring : AreSourced (images_of t) (image_at t) (before_of t) t.book.size t.ring
   pub within : length journal ≤ t.params.journal
   pub book : t.book.size ≡ t.params.swap_blocks

@@ -1,7 +1,7 @@
 //! The records of the processes.
 ghost use Rattle.std.specs.Prelude.{◌≡◌, Some, IsSome};
 ghost use Rattle.proc_table.specs.Records.{find, Changes, IsProcTable};
-ghost use Rattle.kernel_tables.specs.Lives.{space_held};
+ghost use Rattle.kernel_tables.specs.Lives.{space_of_record};
 ghost use Rattle.kernel_tables.specs.Moves.{LeftRegs};
 
 use crate::tables::Tables;
@@ -54,7 +54,7 @@ impl Tables {
 
     /// The space that a process holds.
     pub fn space_of(&self, pid: u32) -> Option<u32>
-        ensures { result ≡ space_held (find pid self.now.processes) }
+        ensures { result ≡ space_of_record (find pid self.now.processes) }
     {
         match self.processes.get(pid)?.state {
             Life::Holds(sid) => Some(sid),

@@ -23,7 +23,7 @@ use Rattle.run_model.specs.Next.{when, turn_of, next_turned, last_turned, line_o
 use Rattle.run_model.specs.Kinds.{ProcessRuns}
 use Rattle.run_model.specs.Lawful.{Follows, Reaches}
 use Rattle.run_laws.specs.Sized.{InputsSized, PlaceSized}
-use Rattle.run_laws.specs.Running.{IsRun, CanRun, IsReady}
+use Rattle.run_laws.specs.Running.{IsRun, CanRun, ReadyToStep}
 use Rattle.run_laws.proofs.Flows.{on_running}
 use Rattle.run_laws.proofs.Lawful.{next_is_unit}
 use Rattle.run_laws.proofs.Settling.{IsMark}
@@ -173,7 +173,7 @@ all_stops (u ∷ us) A s t images r z f = by (sort_of u) (all_stops us A (after 
     by (Turned p i) k = none (ap counts i) k
     by (Lined line i) k = none (ap counts i) k
     by (Counted c pid own e t0) k =
-        let ready : IsReady A s pid = unit_ready A s u pid f.0 own in
+        let ready : ReadyToStep A s pid = unit_ready A s u pid f.0 own in
         let clear = ap copy_dues ready.clear in
         let few = unit_copies A s u images r (z [] s refl) f.0 in
         let opened = opens_few (after A s u).place.due (opens A s u f.0 e) in

@@ -15,7 +15,7 @@ use Rattle.machine_state.specs.declared.machine.Machine.TheInside.{Inside}
 use Rattle.swap_wants.specs.Wants.{found_for, fits_for, book_asked}
 use Rattle.table_steps.specs.Conditions.{HasStopped}
 use Rattle.table_steps.specs.Sourced.{AreSourced}
-use Rattle.table_steps.specs.Machine.{Standing, Runs, lists_of, kernel_by, images_of, image_at, before_of}
+use Rattle.table_steps.specs.Machine.{Standing, KernelRuns, lists_of, kernel_by, images_of, image_at, before_of}
 use Rattle.machine_state.specs.Fields.{standing_of, RunsNow, RunsInside}
 use Rattle.machine_state.proofs.Standings.{stands_now, whole_now}
 
@@ -101,8 +101,8 @@ asked_stands m s b found ws hs a h r =
     let size : t.book.size ≡ b.size = ap (λ (x : Book). x.size) (sym a.book) in
     record {
       stands = record {
-        runs = subst (λ (x : ℕ). Runs (record (kernel_by t m.journal.items m.stopped) { holdings = take (length b.holdings - found) b.holdings }) (lists_of t) x) size
-            (subst (λ (x : Holdings). Runs (record (kernel_by t m.journal.items m.stopped) { holdings = x }) (lists_of t) t.book.size) before n.stands.runs);
+        runs = subst (λ (x : ℕ). KernelRuns (record (kernel_by t m.journal.items m.stopped) { holdings = take (length b.holdings - found) b.holdings }) (lists_of t) x) size
+            (subst (λ (x : Holdings). KernelRuns (record (kernel_by t m.journal.items m.stopped) { holdings = x }) (lists_of t) t.book.size) before n.stands.runs);
         ring = subst (λ (x : ℕ). AreSourced (images_of t) (image_at t) (take (length b.holdings - found) b.holdings) x t.ring) size
             (subst (λ (x : Holdings). AreSourced (images_of t) (image_at t) x t.book.size t.ring) before n.stands.ring);
         within = n.stands.within;

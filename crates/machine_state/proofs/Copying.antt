@@ -32,7 +32,7 @@ use Rattle.table_steps.specs.View.{Lists, flown_at, bytes_by, due_shown, starts_
 use Rattle.table_steps.specs.Due.{DueOnce}
 use Rattle.table_steps.specs.Steps.{taken, seated_in}
 use Rattle.table_steps.specs.Moves.{TookFrame, SeatedPage, FinishedFill}
-use Rattle.table_steps.specs.Machine.{Runs, lists_of, kernel_by}
+use Rattle.table_steps.specs.Machine.{KernelRuns, lists_of, kernel_by}
 use Rattle.table_steps.specs.Known.{Known}
 use Rattle.table_steps.specs.Calls.{CanCopy}
 use Rattle.table_steps.specs.Conditions.{KeepsFlat, SameElsewhere}

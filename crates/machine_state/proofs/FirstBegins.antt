@@ -32,7 +32,7 @@ use Rattle.table_steps.specs.Tables.{Tables}
 use Rattle.machine_state.specs.declared.machine.Machine.TheInside.{Inside}
 use Rattle.table_steps.specs.Sourced.{ImageNamed, named_at}
 use Rattle.table_steps.specs.View.{placement_of}
-use Rattle.table_steps.specs.Machine.{Standing, Runs, lists_of, kernel_by, image_shown, before_of}
+use Rattle.table_steps.specs.Machine.{Standing, KernelRuns, lists_of, kernel_by, image_shown, before_of}
 use Rattle.table_steps.specs.New.{fresh_kernel}
 use Rattle.machine_state.specs.Fields.{standing_of, RunsNow, RunsInside}
 use Rattle.machine_state.specs.Going.{CanGoOn}
@@ -43,7 +43,7 @@ use Rattle.machine_state.proofs.Standings.{running, stands_now, whole_now}
 
 -- What is known before.
 pub record Before (m : Inside) (pid image : ℕ) : Type 0 where
-  pub runs : Runs (kernel_by m.tables m.journal.items m.stopped) (lists_of m.tables) m.tables.book.size
+  pub runs : KernelRuns (kernel_by m.tables m.journal.items m.stopped) (lists_of m.tables) m.tables.book.size
   pub now : RunsNow m
   pub whole : before_of m.tables ≡ m.tables.book.holdings
   pub may : MayStart (standing_of m) pid image

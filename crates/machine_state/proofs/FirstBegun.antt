@@ -23,7 +23,7 @@ use Rattle.machine_state.specs.declared.machine.Machine.TheInside.{Inside}
 use Rattle.table_steps.specs.Tied.{Tied}
 use Rattle.table_steps.specs.Sourced.{ImageNamed, AreNames, named_at, AreSourced}
 use Rattle.table_steps.specs.View.{Lists, placement_of, frames_of, starts_of}
-use Rattle.table_steps.specs.Machine.{Standing, Runs, WereFound, lists_of, kernel_by, images_of, image_at, image_shown, before_of, processes_of, residents_of}
+use Rattle.table_steps.specs.Machine.{Standing, KernelRuns, WereFound, lists_of, kernel_by, images_of, image_at, image_shown, before_of, processes_of, residents_of}
 use Rattle.machine_state.specs.Fields.{standing_of, HasRoom, RunsNow}
 use Rattle.table_steps.specs.Changing.{EnteredImage, started_place, processes_in, residents_in}
 use Rattle.machine_state.specs.Beginning.{StartedFirst, found_first, BeganFirst}
@@ -135,24 +135,24 @@ began_pieces m pid image facts hs u b =
 -- The invariant.
 
 began_runs : (m : Inside) (pid image : ℕ) (facts : Image) (hs : Holdings) (u : Tables) (b : Began m pid image facts hs u) (s : Bool) → s ≡ m.stopped
-    → Runs (kernel_by u m.journal.items s) (lists_of u) m.tables.book.size
+    → KernelRuns (kernel_by u m.journal.items s) (lists_of u) m.tables.book.size
 began_runs m pid image facts hs u b s same =
     let t : Tables = m.tables in
     let k : Kernel = kernel_by t m.journal.items m.stopped in
     let size : ℕ = t.book.size in
     let named : ImageNamed = b.began.named in
     let number : t.next_sid ≡ t.next_pid = same_number m pid image b.before in
-    let r : Runs k (lists_of t) size = b.before.runs in
+    let r : KernelRuns k (lists_of t) size = b.before.runs in
     let tied : Tied (lists_of u) =
     subst Tied (sym (ap lists_of b.began.one_more.rest)) (tied_still (lists_of b.began.entered_in) (residents_of u.processes u.next_pid) b.began.entered.shows.known.tied) in
-    let runs : Runs (begin_step k hs image named.name named.facts) (lists_of u) size = record {
+    let runs : KernelRuns (begin_step k hs image named.name named.facts) (lists_of u) size = record {
       sound = begin_sound size k hs image named.name named.facts r.sound r.numbered number (began_pieces m pid image facts hs u b);
       numbered = begin_numbered k hs image named.name named.facts number r.numbered;
       due = begins_due k hs image named.name named.facts r.numbered number r.due;
       tied = tied;
     } in
-    subst (λ (x : Bool). Runs (kernel_by u m.journal.items x) (lists_of u) size) (sym same)
-    (subst (λ (x : Kernel). Runs x (lists_of u) size) (sym (began_kernel m pid image facts hs u b m.journal.items m.stopped)) runs)
+    subst (λ (x : Bool). KernelRuns (kernel_by u m.journal.items x) (lists_of u) size) (sym same)
+    (subst (λ (x : Kernel). KernelRuns x (lists_of u) size) (sym (began_kernel m pid image facts hs u b m.journal.items m.stopped)) runs)
 
 -- spaces have the images that they had
 began_images : (m : Inside) (pid image : ℕ) (facts : Image) (hs : Holdings) (u : Tables) (b : Began m pid image facts hs u) (sid : ℕ) → sid ≢ m.tables.next_pid
@@ -190,8 +190,8 @@ began_stands m pid image facts hs u b s same =
     record {
       stands = record {
         runs =
-            subst (λ (xs : Holdings). Runs (record (kernel_by w m.journal.items s) { holdings = xs }) (lists_of w) w.book.size) (sym whole)
-            (subst (λ (x : ℕ). Runs (kernel_by u m.journal.items s) (lists_of u) x) (sym size) (began_runs m pid image facts hs u b s same));
+            subst (λ (xs : Holdings). KernelRuns (record (kernel_by w m.journal.items s) { holdings = xs }) (lists_of w) w.book.size) (sym whole)
+            (subst (λ (x : ℕ). KernelRuns (kernel_by u m.journal.items s) (lists_of u) x) (sym size) (began_runs m pid image facts hs u b s same));
         ring =
             subst (λ (ns : List ImageNamed). AreSourced ns (image_at w) (before_of w) w.book.size w.ring) (sym images)
             (subst (λ (xs : Holdings). AreSourced (images_of t) (image_at w) xs w.book.size w.ring) (sym (whole ∙ holdings))

@@ -39,8 +39,8 @@ use Rattle.machine_state.specs.declared.machine.Machine.TheInside.{Inside}
 use Rattle.table_steps.specs.KernelTablesShown.{space_shown}
 use Rattle.table_steps.specs.View.{placement_of}
 use Rattle.table_steps.specs.Alike.{AreRecords}
-use Rattle.table_steps.specs.Lives.{space_by, space_held}
-use Rattle.table_steps.specs.Machine.{life_shown, proc_shown, Runs, Stands, lists_of, kernel_by, before_of}
+use Rattle.table_steps.specs.Lives.{space_by, space_of_record}
+use Rattle.table_steps.specs.Machine.{life_shown, proc_shown, KernelRuns, Stands, lists_of, kernel_by, before_of}
 use Rattle.table_steps.specs.Calls.{CanGoOut, CanComeIn}
 use Rattle.table_steps.specs.Done.{StandsTold}
 use Rattle.table_steps.specs.Swapping.{u_block, Lasts, MovedRecord, IsUPage, AreStored, WritesU, KeepsOut, KeepsIn}
@@ -164,8 +164,8 @@ leaving t j b pid can =
 pub leaving_alive : (t : Tables) (k : Kernel) (pid : ℕ) → Leaving t k pid → lives_at k.processes pid ≡ true
 leaving_alive t k pid l = ap lives_in l.kept ∙ ap has_life l.holds
 
-pub leaving_held : (t : Tables) (k : Kernel) (pid : ℕ) (l : Leaving t k pid) → space_held (find pid t.processes) ≡ Some l.sid
-leaving_held t k pid l = ap space_held l.there ∙ ap space_by l.state
+pub leaving_held : (t : Tables) (k : Kernel) (pid : ℕ) (l : Leaving t k pid) → space_of_record (find pid t.processes) ≡ Some l.sid
+leaving_held t k pid l = ap space_of_record l.there ∙ ap space_by l.state
 
 holding_lasts : (l : RecordLife) (sid : ℕ) → l ≡ lives.Holds sid → Lasts l
 holding_lasts l sid e = subst Lasts (sym e) tt

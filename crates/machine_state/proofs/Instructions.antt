@@ -32,7 +32,7 @@ use Rattle.table_steps.specs.Alike.{AreRecords}
 use Rattle.table_steps.specs.Sourced.{AreNames, AreSourced}
 use Rattle.machine_state.specs.declared.machine.Machine.TheInside.{Inside}
 use Rattle.machine_state.specs.Fields.{RunsNow}
-use Rattle.table_steps.specs.Machine.{Runs, lists_of, kernel_by}
+use Rattle.table_steps.specs.Machine.{KernelRuns, lists_of, kernel_by}
 use Rattle.table_steps.proofs.Lives.{HasRecord, record_of}
 use Rattle.table_steps.proofs.Records.{regs_are, residents_are}
 use Rattle.table_steps.proofs.Recorded.{regs_records}
@@ -97,7 +97,7 @@ module _ (t u : Tables) (pid : ℕ) (regs : Regs) (left : LeftRegs t u pid regs)
 
 -- the step
 pub regs_steps : (m n : Inside) (pid : ℕ) (regs : Regs) (count : ℕ) → LeftRegs m.tables n.tables pid regs → RunsNow m
-    → Runs (kernel_by m.tables m.journal.items m.stopped) (lists_of m.tables) m.tables.book.size
+    → KernelRuns (kernel_by m.tables m.journal.items m.stopped) (lists_of m.tables) m.tables.book.size
     → n.journal.items ≡ append m.journal.items (Ran pid count) → length n.journal.items ≤ m.tables.params.journal
     → n.stopped ≡ m.stopped → n.lost ≡ m.lost → n.room ≡ None
     → Steps m n (ran_by (kernel_by m.tables m.journal.items m.stopped) pid regs (Ran pid count))

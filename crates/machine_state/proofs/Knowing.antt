@@ -2,7 +2,7 @@
 use Rattle.std.proofs.Common.{◌≡◌, subst}
 use Rattle.core_map.specs.Frames.{IsSoundMap}
 use Rattle.flat_state.specs.Numbers.{AllDistinct}
-use Rattle.table_steps.specs.Machine.{Standing, Runs, lists_of, kernel_by}
+use Rattle.table_steps.specs.Machine.{Standing, KernelRuns, lists_of, kernel_by}
 use Rattle.machine_state.specs.declared.machine.Machine.TheInside.{Inside}
 use Rattle.table_steps.proofs.Shows.{sids_shown}
 use Rattle.table_steps.proofs.Held.{flown_numbers}
@@ -12,7 +12,7 @@ use Rattle.machine_state.specs.Going.{CanGoOn}
 use Rattle.machine_state.proofs.Standings.{running}
 
 pub known_of : (m : Inside) → IsSoundMap m.tables.core.free m.tables.core.slots
-    → Runs (kernel_by m.tables m.journal.items m.stopped) (lists_of m.tables) m.tables.book.size → Known (lists_of m.tables)
+    → KernelRuns (kernel_by m.tables m.journal.items m.stopped) (lists_of m.tables) m.tables.book.size → Known (lists_of m.tables)
 known_of m c r = record {
   core = c;
   owns = r.sound.owner.frames;

@@ -19,7 +19,7 @@ use Rattle.machine_state.specs.declared.machine.Machine.TheInside.{Inside}
 use Rattle.table_steps.specs.Alike.{AreRecords}
 use Rattle.table_steps.specs.Sourced.{ImageNamed, IsFlightSourced, AreOwnBlocks, AreSourced}
 use Rattle.table_steps.specs.View.{placement_of, starts_of}
-use Rattle.table_steps.specs.Machine.{Runs, Stands, lists_of, kernel_by, images_of, image_at, before_of, processes_of}
+use Rattle.table_steps.specs.Machine.{KernelRuns, Stands, lists_of, kernel_by, images_of, image_at, before_of, processes_of}
 use Rattle.table_steps.specs.Launches.{HaveOwnBlocks, IsOwnWrite, AddsWrite, MovedOn}
 use Rattle.table_steps.proofs.Kernels.{kernel_ext}
 use Rattle.table_steps.proofs.Sources.{own_place}
@@ -30,7 +30,7 @@ use Rattle.table_steps.proofs.Stills.{appended, sourced_more}
 
 -- What is known of such a step.
 pub record Moving (m : Inside) (u : Tables) (p : Placement) (locked : List Page) (e : Entry) : Type 0 where
-  pub runs : Runs (kernel_by m.tables m.journal.items m.stopped) (lists_of m.tables) m.tables.book.size
+  pub runs : KernelRuns (kernel_by m.tables m.journal.items m.stopped) (lists_of m.tables) m.tables.book.size
   pub moved : MovedOn m.tables u p
   pub is : p ≡ place_entry locked (length (append m.journal.items e)) (placement_of (lists_of m.tables)) e
   pub can : CanPlace (placement_of (lists_of m.tables)) e

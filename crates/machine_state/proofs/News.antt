@@ -28,7 +28,7 @@ use Rattle.table_steps.specs.TableViewShown.{state_shown}
 use Rattle.table_steps.specs.Found.{cached_by, frame_holding}
 use Rattle.table_steps.specs.View.{Lists, pages_in, text_slot, texts_of, page_by, bytes_by, page_held, bytes_held, placement_of, frames_of, transfer_shown, flown, starts_of}
 use Rattle.table_steps.specs.New.{fresh_kernel, AreSound}
-use Rattle.table_steps.specs.Machine.{Standing, Runs, Stands, images_of, image_at, before_of, lists_of, kernel_by, processes_of, residents_of}
+use Rattle.table_steps.specs.Machine.{Standing, KernelRuns, Stands, images_of, image_at, before_of, lists_of, kernel_by, processes_of, residents_of}
 use Rattle.table_steps.specs.Alike.{AreRecords}
 use Rattle.table_steps.specs.Sourced.{AreNames, AreSourced}
 use Rattle.proc_table.specs.declared.process.Proc.{Proc as Record}
@@ -160,7 +160,7 @@ small_pages n image (x ∷ more) h = elim (cases_eq n image) [
 ]
 
 pub new_runs : (facts : List Image) (frames size : ℕ) → 0 < frames → frames ≤ 4096 → length facts ≤ 16 → AreSound facts
-    → Runs (fresh_kernel facts frames) (new_lists facts frames) size
+    → KernelRuns (fresh_kernel facts frames) (new_lists facts frames) size
 unfolding place_all
 new_runs facts frames size some few images sound = record {
   sound = record {
@@ -251,12 +251,12 @@ new_before t e = ap (λ (hs : Holdings). take (length hs - t.found) hs) e ∙ no
     none (suc n) = refl
 
 pub new_stands : (t : Tables) (journal : List Entry) → t.book.holdings ≡ [] → t.ring ≡ [] → journal ≡ [] → t.book.size ≡ t.params.swap_blocks → t.processes ≡ []
-    → AreNames (images_of t) → t.next_pid ≡ 1 → t.next_sid ≡ 1 → Runs (kernel_by t journal false) (lists_of t) t.book.size → Stands t journal false
+    → AreNames (images_of t) → t.next_pid ≡ 1 → t.next_sid ≡ 1 → KernelRuns (kernel_by t journal false) (lists_of t) t.book.size → Stands t journal false
 unfolding place_all
 new_stands t journal hs ring none size processes named pid sid r =
     let same : t.book.holdings ≡ before_of t = hs ∙ sym (new_before t hs) in
     record {
-      runs = subst (λ (x : Holdings). Runs (record (kernel_by t journal false) { holdings = x }) (lists_of t) t.book.size) same r;
+      runs = subst (λ (x : Holdings). KernelRuns (record (kernel_by t journal false) { holdings = x }) (lists_of t) t.book.size) same r;
       ring = subst (AreSourced (images_of t) (image_at t) (before_of t) t.book.size) (sym ring) tt;
       within = subst (λ (j : List Entry). length j ≤ t.params.journal) (sym none) (omega arith);
       book = size;

@@ -7,7 +7,7 @@ use Rattle.table_steps.specs.Joined.{instructions_in, last_says}
 use Rattle.swap_book.specs.Holdings.{Holdings}
 use Rattle.swap_book.specs.Placing.{place_all}
 use Rattle.machine_state.specs.declared.machine.Machine.TheInside.{Inside}
-use Rattle.table_steps.specs.Machine.{Standing, Runs, WereFound, lists_of, kernel_by, before_of}
+use Rattle.table_steps.specs.Machine.{Standing, KernelRuns, WereFound, lists_of, kernel_by, before_of}
 use Rattle.machine_state.specs.Fields.{standing_of, HasRoom, RunsNow, RunsInside}
 use Rattle.machine_state.specs.Going.{CanGoOn}
 use Rattle.machine_state.specs.Holders.{HoldersStand}
@@ -16,11 +16,11 @@ use Rattle.table_steps.specs.Tables.{Tables}
 
 -- a machine that runs, with no pieces found for an entry to come
 pub running : (m : Inside) (s : Standing) → RunsInside m → standing_of m ≡ s → CanGoOn s
-    → Runs (kernel_by m.tables m.journal.items m.stopped) (lists_of m.tables) m.tables.book.size
+    → KernelRuns (kernel_by m.tables m.journal.items m.stopped) (lists_of m.tables) m.tables.book.size
 running m s h e g =
     let n : RunsNow m = h.running (ap (λ (x : Standing). x.kernel.stopped) e ∙ g.running.runs) in
     let same : before_of m.tables ≡ m.tables.book.holdings = ap (λ (x : Standing). x.before) e ∙ g.whole ∙ sym (ap (λ (x : Standing). x.kernel.holdings) e) in
-    subst (λ (hs : Holdings). Runs (record (kernel_by m.tables m.journal.items m.stopped) { holdings = hs }) (lists_of m.tables) m.tables.book.size) same n.stands.runs
+    subst (λ (hs : Holdings). KernelRuns (record (kernel_by m.tables m.journal.items m.stopped) { holdings = hs }) (lists_of m.tables) m.tables.book.size) same n.stands.runs
 
 pub stands_now : (m : Inside) (s : Standing) → RunsInside m → standing_of m ≡ s → s.kernel.stopped ≡ false → RunsNow m
 stands_now m s h e r = h.running (ap (λ (x : Standing). x.kernel.stopped) e ∙ r)

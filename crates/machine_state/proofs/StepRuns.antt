@@ -21,12 +21,12 @@ use Rattle.table_steps.proofs.Gets.{reads_fresh}
 use Rattle.table_steps.proofs.Kernels.{writable_shared}
 use Rattle.table_steps.specs.Calls.{CanCopy}
 use Rattle.table_steps.specs.Conditions.{CanZero, CanBringIn}
-use Rattle.table_steps.specs.Machine.{Runs}
+use Rattle.table_steps.specs.Machine.{KernelRuns}
 use Rattle.table_steps.specs.Tied.{Tied}
 use Rattle.table_steps.specs.View.{Lists}
 
-module _ (size : ℕ) (k : Kernel) (l w : Lists) (r : Runs k l size) (tied : Tied w) where
-  pub zero_runs : (q : Page) → CanZero k.place q → LeavesDue k.place (entries.Zero q) → Runs (zero_step k q) w size
+module _ (size : ℕ) (k : Kernel) (l w : Lists) (r : KernelRuns k l size) (tied : Tied w) where
+  pub zero_runs : (q : Page) → CanZero k.place q → LeavesDue k.place (entries.Zero q) → KernelRuns (zero_step k q) w size
   zero_runs q can due =
       let enter : CanPlace k.place (entries.Zero q) = record { there = can.there; frameless = ap frame_of can.unfilled } in
       record {
@@ -36,7 +36,7 @@ module _ (size : ℕ) (k : Kernel) (l w : Lists) (r : Runs k l size) (tied : Tie
         tied = tied;
       }
 
-  pub copy_runs : (q parent : Page) → CanCopy k.place q parent → LeavesDue k.place (entries.Copy q) → Runs (copy_step k q) w size
+  pub copy_runs : (q parent : Page) → CanCopy k.place q parent → LeavesDue k.place (entries.Copy q) → KernelRuns (copy_step k q) w size
   copy_runs q parent can due =
       let enter : CanPlace k.place (entries.Copy q) = record { there = can.there; frameless = ap frame_of can.unfilled } in
       record {
@@ -46,7 +46,7 @@ module _ (size : ℕ) (k : Kernel) (l w : Lists) (r : Runs k l size) (tied : Tie
         tied = tied;
       }
 
-  pub plain_runs : (locked : List Page) (e : Entry) → CanPlace k.place e → LeavesDue k.place e → Sound size (plain_step k locked e) → Runs (plain_step k locked e) w size
+  pub plain_runs : (locked : List Page) (e : Entry) → CanPlace k.place e → LeavesDue k.place e → Sound size (plain_step k locked e) → KernelRuns (plain_step k locked e) w size
   plain_runs locked e can due sound = record {
     sound = sound;
     numbered = plain_numbered k locked e r.numbered;
@@ -54,18 +54,18 @@ module _ (size : ℕ) (k : Kernel) (l w : Lists) (r : Runs k l size) (tied : Tie
     tied = tied;
   }
 
-  pub get_runs : (q : Page) (lo n : ℕ) → CanBringIn k.place q lo n → Runs (get_step k q lo n) w size
+  pub get_runs : (q : Page) (lo n : ℕ) → CanBringIn k.place q lo n → KernelRuns (get_step k q lo n) w size
   get_runs q lo n can =
       plain_runs [] (entries.Get q lo n) can.enter
       (each_page_imp (ReadsFrom k.place (source_for (state_of k.place q)) q) (NotDue k.place.due) (pages_from q lo n) can.reads
       (λ s e. reads_fresh k.place (source_for (state_of k.place q)) q s r.due e))
       (plain_sound size k [] (entries.Get q lo n) r.sound can.enter can.shared (let l = can.room in omega arith))
 
-  pub reclaim_runs : (q : Page) → EntryShared k.place (entries.Reclaim q) → Runs (plain_step k [] (entries.Reclaim q)) w size
+  pub reclaim_runs : (q : Page) → EntryShared k.place (entries.Reclaim q) → KernelRuns (plain_step k [] (entries.Reclaim q)) w size
   reclaim_runs q shared =
       plain_runs [] (entries.Reclaim q) tt tt (plain_sound size k [] (entries.Reclaim q) r.sound tt shared (let l = r.sound.few_transfers in omega arith))
 
-  pub done_runs : (read : List (List ℕ)) → Runs (done_step k read) w size
+  pub done_runs : (read : List (List ℕ)) → KernelRuns (done_step k read) w size
   done_runs read = record {
     sound = done_sound size k read r.sound;
     numbered = done_numbered k read r.numbered;

@@ -12,7 +12,7 @@ use Rattle.machine_state.specs.declared.machine.Machine.TheInside.{Inside}
 use Rattle.table_steps.specs.Named.{Named}
 use Rattle.table_steps.specs.New.{AreSound}
 use Rattle.table_steps.specs.Sourced.{ImageNamed, AreNames, AreSourced}
-use Rattle.table_steps.specs.Machine.{Standing, Runs, Stands, WereFound, lists_of, kernel_by, images_of, image_at, image_shown, before_of}
+use Rattle.table_steps.specs.Machine.{Standing, KernelRuns, Stands, WereFound, lists_of, kernel_by, images_of, image_at, image_shown, before_of}
 use Rattle.table_steps.specs.Alike.{AreRecords}
 use Rattle.machine_state.specs.Fields.{standing_of, RunsNow, RunsInside}
 use Rattle.machine_state.specs.Going.{IsRunning, CanGoOn}
@@ -68,7 +68,7 @@ pub record Kept (t w : Tables) : Type 0 where
 pub record Steps (m n : Inside) (k : Kernel) : Type 0 where
   pub kept : Kept m.tables n.tables
   pub is : kernel_by n.tables n.journal.items n.stopped ≡ k
-  pub runs : Runs k (lists_of n.tables) m.tables.book.size
+  pub runs : KernelRuns k (lists_of n.tables) m.tables.book.size
   pub ring : AreSourced (images_of m.tables) (image_at m.tables) (before_of m.tables) m.tables.book.size n.tables.ring
   pub images : (sid : ℕ) → image_at n.tables sid ≡ image_at m.tables sid
   pub holders : HoldersStand (kernel_by m.tables m.journal.items m.stopped) → HoldersStand k
@@ -103,8 +103,8 @@ module _ (m n : Inside) (s : Standing) (k : Kernel) (h : RunsInside m) (e : stan
       let w : Tables = n.tables in
       let now : Kernel = kernel_by w n.journal.items n.stopped in
       record {
-        runs = subst (λ (hs : Holdings). Runs (record now { holdings = hs }) (lists_of w) w.book.size) (sym whole)
-            (subst (λ (x : Book). Runs now (lists_of w) x.size) (sym z.kept.book) (subst (λ (x : Kernel). Runs x (lists_of w) t.book.size) (sym z.is) z.runs));
+        runs = subst (λ (hs : Holdings). KernelRuns (record now { holdings = hs }) (lists_of w) w.book.size) (sym whole)
+            (subst (λ (x : Book). KernelRuns now (lists_of w) x.size) (sym z.kept.book) (subst (λ (x : Kernel). KernelRuns x (lists_of w) t.book.size) (sym z.is) z.runs));
         ring = subst (λ (ns : List ImageNamed). AreSourced ns (image_at w) (before_of w) w.book.size w.ring) (sym images)
             (subst (λ (hs : Holdings). AreSourced (images_of t) (image_at w) hs w.book.size w.ring) (sym before)
             (subst (λ (x : Book). AreSourced (images_of t) (image_at w) (before_of t) x.size w.ring) (sym z.kept.book)

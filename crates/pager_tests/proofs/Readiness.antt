@@ -32,7 +32,7 @@ use Rattle.machine_state.proofs.FirstBegins.{shown_facts}
 use Rattle.paging_units.specs.Spans.{moves}
 use Rattle.paging_units.specs.LastMoves.{last_moves}
 use Rattle.proc_calls.specs.Serving.{CanServe}
-use Rattle.pager_tests.specs.Ready.{IsReady, HasStarted}
+use Rattle.pager_tests.specs.Ready.{MachineIsReady, HasStarted}
 use Rattle.pager_tests.proofs.SmallMachine.{has_file, shown_files}
 
 -- What a page asks that is to be served.
@@ -139,7 +139,7 @@ can_zero p t b d f = record {
 pub started_ready : (m : Standing) (facts : Image) (holds : Option (List NamedFile)) (blocks : ℕ) → HasStarted m facts → file_length_of facts ≤ 32768
     → blocks ≡ 260
     → ((images : List ImageNamed) → ((files : List NamedFile) → 0 < length files → 32768 ≤ length (bytes_at files 0) → HaveFiles images files)
-    → AreFiles images holds) → IsReady m holds blocks
+    → AreFiles images holds) → MachineIsReady m holds blocks
 started_ready m facts holds blocks s l b f = record {
   ready = s.ready;
   area = let size = s.blocks in omega arith;

@@ -10,7 +10,7 @@ use Rattle.machine_state.specs.Machine.{Standing}
 use Rattle.machine_state.specs.Files.{AreFiles, HaveFiles}
 
 -- The machine can go on, the device has its blocks, and the files are those of its images.
-pub record IsReady (m : Standing) (holds : Option (List NamedFile)) (blocks : ℕ) : Type 0 where
+pub record MachineIsReady (m : Standing) (holds : Option (List NamedFile)) (blocks : ℕ) : Type 0 where
   pub ready : CanGoOn m
   pub area : m.params.swap_blocks ≤ blocks
   pub files : AreFiles m.images holds

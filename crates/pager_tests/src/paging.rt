@@ -13,7 +13,7 @@ ghost use Rattle.machine_state.specs.Machine.{image_shown};
 ghost use Rattle.paging_units.specs.LastMoves.{last_moves};
 ghost use Rattle.paging_units.specs.Spans.{moves};
 ghost use Rattle.proc_calls.specs.Serving.{CanServe};
-ghost use Rattle.pager_tests.specs.Ready.{IsReady, HasStarted};
+ghost use Rattle.pager_tests.specs.Ready.{MachineIsReady, HasStarted};
 
 use aout_image::{Image, Kind};
 use io_edge::{Files, MemFiles, MemSink, MemSwap, Moved, SwapDev};
@@ -115,7 +115,7 @@ fn begun(rt: &impl Abort, alloc: Global, facts: Image) -> Machine
 fn fill_stack(rt: &impl Abort, m: &mut Machine)
     requires ready { CanGoOn m.old }
     requires due { m.old.kernel.place.due ≡ Start (Page.Stack 1 0) ∷ [] }
-    ensures { (holds : Option (List NamedFile)) (blocks : ℕ) → IsReady m.old holds blocks → IsReady m.new holds blocks }
+    ensures { (holds : Option (List NamedFile)) (blocks : ℕ) → MachineIsReady m.old holds blocks → MachineIsReady m.new holds blocks }
 {
     let page = Page::Stack { sid: 1, v: 0 };
     assert!(rt; m.state_of(page).is_some());
@@ -199,8 +199,8 @@ fn serve(
     swap: &mut MemSwap,
     page: Page,
 ) -> Result<(), Stop>
-    requires { IsReady m.old (⟦<MemFiles as Files>⟧.holds files.old) (⟦<MemSwap as SwapDev>⟧.blocks swap.old) }
-    ensures { OnOk result (IsReady m.new (⟦<MemFiles as Files>⟧.holds files.new) (⟦<MemSwap as SwapDev>⟧.blocks swap.new)) }
+    requires { MachineIsReady m.old (⟦<MemFiles as Files>⟧.holds files.old) (⟦<MemSwap as SwapDev>⟧.blocks swap.old) }
+    ensures { OnOk result (MachineIsReady m.new (⟦<MemFiles as Files>⟧.holds files.new) (⟦<MemSwap as SwapDev>⟧.blocks swap.new)) }
 {
     see_served(rt, m, page);
     see_frames(rt, m);
@@ -216,8 +216,8 @@ pub(crate) fn bring(
     swap: &mut MemSwap,
     page: Page,
 )
-    requires { IsReady m.old (⟦<MemFiles as Files>⟧.holds files.old) (⟦<MemSwap as SwapDev>⟧.blocks swap.old) }
-    ensures { IsReady m.new (⟦<MemFiles as Files>⟧.holds files.new) (⟦<MemSwap as SwapDev>⟧.blocks swap.new) }
+    requires { MachineIsReady m.old (⟦<MemFiles as Files>⟧.holds files.old) (⟦<MemSwap as SwapDev>⟧.blocks swap.old) }
+    ensures { MachineIsReady m.new (⟦<MemFiles as Files>⟧.holds files.new) (⟦<MemSwap as SwapDev>⟧.blocks swap.new) }
 {
     serve(rt, m, files, swap, page).expect(rt, "a page that comes in");
 }
@@ -230,9 +230,9 @@ pub(crate) fn moved(
     swap: &mut MemSwap,
     n: u32,
 ) -> u32
-    requires ready { IsReady m.old (⟦<MemFiles as Files>⟧.holds files.old) (⟦<MemSwap as SwapDev>⟧.blocks swap.old) }
+    requires ready { MachineIsReady m.old (⟦<MemFiles as Files>⟧.holds files.old) (⟦<MemSwap as SwapDev>⟧.blocks swap.old) }
     requires few { n ≤ 1000 }
-    ensures { IsReady m.new (⟦<MemFiles as Files>⟧.holds files.new) (⟦<MemSwap as SwapDev>⟧.blocks swap.new) }
+    ensures { MachineIsReady m.new (⟦<MemFiles as Files>⟧.holds files.new) (⟦<MemSwap as SwapDev>⟧.blocks swap.new) }
 {
     assert!(rt; last_moves(m) <= 1000);
     move_hands(m, files, swap, n).expect(rt, "hands that move")
@@ -240,8 +240,8 @@ pub(crate) fn moved(
 
 // The oldest transfer ends.
 fn landed(rt: &impl Abort, m: &mut Machine, files: &mut MemFiles, swap: &mut MemSwap)
-    requires { IsReady m.old (⟦<MemFiles as Files>⟧.holds files.old) (⟦<MemSwap as SwapDev>⟧.blocks swap.old) }
-    ensures { IsReady m.new (⟦<MemFiles as Files>⟧.holds files.new) (⟦<MemSwap as SwapDev>⟧.blocks swap.new) }
+    requires { MachineIsReady m.old (⟦<MemFiles as Files>⟧.holds files.old) (⟦<MemSwap as SwapDev>⟧.blocks swap.old) }
+    ensures { MachineIsReady m.new (⟦<MemFiles as Files>⟧.holds files.new) (⟦<MemSwap as SwapDev>⟧.blocks swap.new) }
 {
     let some = m.done(files, swap).expect(rt, "a transfer that ends");
     assert!(rt; some);
@@ -260,7 +260,7 @@ pub(crate) fn with_stack(
     requires blocks { ⟦<MemSwap as SwapDev>⟧.blocks _swap.now ≡ 260 }
     requires files { (images : List ImageNamed) → ((files : List NamedFile) → 0 < length files → 32768 ≤ length (bytes_at files 0) → HaveFiles images files)
         → AreFiles images (⟦<MemFiles as Files>⟧.holds _files.now) }
-    ensures { IsReady result (⟦<MemFiles as Files>⟧.holds _files.now) (⟦<MemSwap as SwapDev>⟧.blocks _swap.now) }
+    ensures { MachineIsReady result (⟦<MemFiles as Files>⟧.holds _files.now) (⟦<MemSwap as SwapDev>⟧.blocks _swap.now) }
 {
     let mut m = begun(rt, alloc, facts);
     fill_stack(rt, &mut m);
@@ -276,8 +276,8 @@ fn bring_data(
     from: u32,
     to: u32,
 )
-    requires { IsReady m.old (⟦<MemFiles as Files>⟧.holds files.old) (⟦<MemSwap as SwapDev>⟧.blocks swap.old) }
-    ensures { IsReady m.new (⟦<MemFiles as Files>⟧.holds files.new) (⟦<MemSwap as SwapDev>⟧.blocks swap.new) }
+    requires { MachineIsReady m.old (⟦<MemFiles as Files>⟧.holds files.old) (⟦<MemSwap as SwapDev>⟧.blocks swap.old) }
+    ensures { MachineIsReady m.new (⟦<MemFiles as Files>⟧.holds files.new) (⟦<MemSwap as SwapDev>⟧.blocks swap.new) }
 {
     for v in from..to {
         bring(rt, m, files, swap, data(v));
@@ -295,7 +295,7 @@ pub(crate) fn filled(
     requires blocks { ⟦<MemSwap as SwapDev>⟧.blocks swap.old ≡ 260 }
     requires files { (images : List ImageNamed) → ((files : List NamedFile) → 0 < length files → 32768 ≤ length (bytes_at files 0) → HaveFiles images files)
         → AreFiles images (⟦<MemFiles as Files>⟧.holds files.old) }
-    ensures { IsReady result (⟦<MemFiles as Files>⟧.holds files.new) (⟦<MemSwap as SwapDev>⟧.blocks swap.new) }
+    ensures { MachineIsReady result (⟦<MemFiles as Files>⟧.holds files.new) (⟦<MemSwap as SwapDev>⟧.blocks swap.new) }
 {
     let mut m = with_stack(rt, alloc, files, swap, of_zeros());
     bring(rt, &mut m, files, swap, text(0));
@@ -311,8 +311,8 @@ fn begin_read(
     swap: &mut MemSwap,
     page: Page,
 )
-    requires { IsReady m.old (⟦<MemFiles as Files>⟧.holds files.old) (⟦<MemSwap as SwapDev>⟧.blocks swap.old) }
-    ensures { IsReady m.new (⟦<MemFiles as Files>⟧.holds files.new) (⟦<MemSwap as SwapDev>⟧.blocks swap.new) }
+    requires { MachineIsReady m.old (⟦<MemFiles as Files>⟧.holds files.old) (⟦<MemSwap as SwapDev>⟧.blocks swap.old) }
+    ensures { MachineIsReady m.new (⟦<MemFiles as Files>⟧.holds files.new) (⟦<MemSwap as SwapDev>⟧.blocks swap.new) }
 {
     see_served(rt, m, page);
     let came = serve_page(m, files, swap, page).expect(rt, "a read that begins");
@@ -327,8 +327,8 @@ fn begin_reads(
     swap: &mut MemSwap,
     count: u32,
 )
-    requires { IsReady m.old (⟦<MemFiles as Files>⟧.holds files.old) (⟦<MemSwap as SwapDev>⟧.blocks swap.old) }
-    ensures { IsReady m.new (⟦<MemFiles as Files>⟧.holds files.new) (⟦<MemSwap as SwapDev>⟧.blocks swap.new) }
+    requires { MachineIsReady m.old (⟦<MemFiles as Files>⟧.holds files.old) (⟦<MemSwap as SwapDev>⟧.blocks swap.old) }
+    ensures { MachineIsReady m.new (⟦<MemFiles as Files>⟧.holds files.new) (⟦<MemSwap as SwapDev>⟧.blocks swap.new) }
 {
     for v in 0..count {
         begin_read(rt, m, files, swap, data(v));
@@ -337,8 +337,8 @@ fn begin_reads(
 
 // A frame is forced.
 fn forced(rt: &impl Abort, m: &mut Machine, files: &mut MemFiles, swap: &mut MemSwap)
-    requires { IsReady m.old (⟦<MemFiles as Files>⟧.holds files.old) (⟦<MemSwap as SwapDev>⟧.blocks swap.old) }
-    ensures { IsReady m.new (⟦<MemFiles as Files>⟧.holds files.new) (⟦<MemSwap as SwapDev>⟧.blocks swap.new) }
+    requires { MachineIsReady m.old (⟦<MemFiles as Files>⟧.holds files.old) (⟦<MemSwap as SwapDev>⟧.blocks swap.old) }
+    ensures { MachineIsReady m.new (⟦<MemFiles as Files>⟧.holds files.new) (⟦<MemSwap as SwapDev>⟧.blocks swap.new) }
 {
     see_frames(rt, m);
     assert!(rt; last_moves(m) <= 1000);

@@ -29,7 +29,7 @@ use Rattle.run_laws.specs.Standing.{machine_of, Placed, IsAllowed}
 use Rattle.run_laws.proofs.Units.{plain_place, owns}
 use Rattle.run_laws.proofs.Wholes.{unit_allowed}
 use Rattle.run_laws.proofs.Writing.{touch_all_placed}
-use Rattle.paging_laws.specs.Lost.{space_held, IsLost, WasFree, WasCutOff, WasReplaced, HasEnded}
+use Rattle.paging_laws.specs.Lost.{space_of_maker, IsLost, WasFree, WasCutOff, WasReplaced, HasEnded}
 
 -- Units of no process.
 
@@ -53,7 +53,7 @@ unit_written A s u q f r h n w = subst (λ (p : Placement). StaysOrWritten s.pla
 
 -- the page's frame is another one after the change, so the change gave the page up
 given : (A : Inputs) (s : State) (u : Entry) (q : Page) (f pid : ℕ) (change : Change) → process_of_entry u ≡ Some pid → (step_at A s.point pid).change ≡ change
-    → IsGivenUp (space_held s pid) (is_borrower s.point.flat.processes pid) change q → IsLost A s u q f
+    → IsGivenUp (space_of_maker s pid) (is_borrower s.point.flat.processes pid) change q → IsLost A s u q f
 given A s u q f pid (Resize d t) e i k = WasCutOff pid d t e i k
 given A s u q f pid (Exec image top) e i k = WasReplaced pid image top e i (record { own = k.0; page = k.1 })
 given A s u q f pid (End status) e i k = HasEnded pid status e i (record { own = k.0; page = k.1 })

@@ -9,7 +9,7 @@ use Rattle.page_laws.specs.Leaving.{IsGivenUp, IsWritten}
 use Rattle.flat_model.specs.Run.{process_of_entry, step_at}
 use Rattle.run_model.specs.State.{State}
 use Rattle.run_model.specs.After.{after}
-use Rattle.paging_laws.specs.Lost.{space_held}
+use Rattle.paging_laws.specs.Lost.{space_of_maker}
 
 -- why a page that was dirty in this frame isn't so after a unit: its write completed, or it was given up
 pub data IsCleaned (A : Inputs) (s : State) (u : Entry) (q : Page) (f : ℕ) : Type 0 where
@@ -17,7 +17,7 @@ pub data IsCleaned (A : Inputs) (s : State) (u : Entry) (q : Page) (f : ℕ) : T
   WasWritten : u ≡ entries.Done → IsWritten s.place (after A s u).place q f → IsCleaned A s u q f
   -- the step of a process gave the page up
   WasGivenUp : (pid : ℕ) → process_of_entry u ≡ Some pid
-      → IsGivenUp (space_held s pid) (is_borrower s.point.flat.processes pid) (step_at A s.point pid).change q → IsCleaned A s u q f
+      → IsGivenUp (space_of_maker s pid) (is_borrower s.point.flat.processes pid) (step_at A s.point pid).change q → IsCleaned A s u q f
 
 -- one of these units, from this state on, did so
 abbrev pub CleanedIn : Inputs → State → List Entry → Page → ℕ → Type 0

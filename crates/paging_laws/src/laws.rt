@@ -12,7 +12,7 @@ ghost use Rattle.run_model.specs.After.{after};
 ghost use Rattle.run_model.specs.Next.{next_unit};
 ghost use Rattle.run_model.specs.Lawful.{Follows};
 ghost use Rattle.kernel_model.specs.Start.{ImagesFit};
-ghost use Rattle.run_laws.specs.Running.{IsRun, IsReady};
+ghost use Rattle.run_laws.specs.Running.{IsRun, ReadyToStep};
 ghost use Rattle.paging_laws.specs.Called.{IsWanted, IsStartDue, IsCopyDue, IsParentOfDue, IsSmallRead};
 ghost use Rattle.paging_laws.specs.Lost.{IsLost};
 ghost use Rattle.paging_laws.specs.Cleaned.{IsCleaned, CleanedIn};
@@ -20,12 +20,12 @@ ghost use Rattle.paging_laws.specs.Cleaned.{IsCleaned, CleanedIn};
 /// Where an instruction is counted, a stack grows, and a process calls, sleeps or ends, the process can step and is in,
 /// nothing is due, and all pages that the instruction touches are valid.
 pub fn processes_are_ready()
-    ensures ran { (A : Inputs) (s : State) (pid n : ℕ) → next_unit A s ≡ Some (entries.Ran pid n) → IsReady A s pid }
-    ensures grew { (A : Inputs) (s : State) (pid pages : ℕ) → next_unit A s ≡ Some (entries.Grew pid pages) → IsReady A s pid }
+    ensures ran { (A : Inputs) (s : State) (pid n : ℕ) → next_unit A s ≡ Some (entries.Ran pid n) → ReadyToStep A s pid }
+    ensures grew { (A : Inputs) (s : State) (pid pages : ℕ) → next_unit A s ≡ Some (entries.Grew pid pages) → ReadyToStep A s pid }
     ensures call { (A : Inputs) (s : State) (pid number r0 r1 : ℕ) (carry : Bool)
-        → next_unit A s ≡ Some (entries.Call pid number carry r0 r1) → IsReady A s pid }
-    ensures sleeps { (A : Inputs) (s : State) (pid : ℕ) → next_unit A s ≡ Some (entries.Sleeps pid) → IsReady A s pid }
-    ensures ended { (A : Inputs) (s : State) (pid status : ℕ) → next_unit A s ≡ Some (entries.Ended pid status) → IsReady A s pid }
+        → next_unit A s ≡ Some (entries.Call pid number carry r0 r1) → ReadyToStep A s pid }
+    ensures sleeps { (A : Inputs) (s : State) (pid : ℕ) → next_unit A s ≡ Some (entries.Sleeps pid) → ReadyToStep A s pid }
+    ensures ended { (A : Inputs) (s : State) (pid status : ℕ) → next_unit A s ≡ Some (entries.Ended pid status) → ReadyToStep A s pid }
 {}
 
 /// Pages come only as they are called for. A fill with zeros is of the page that a running process waits for, or of a

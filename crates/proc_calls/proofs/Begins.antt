@@ -40,7 +40,7 @@ use Rattle.proc_calls.specs.Leaving.{HasSettled, HasLeftBy}
 use Rattle.proc_calls.specs.Starting.{image_wanted, image_found, LeavesFor, FindsBy, Finds, Starts, ExecComes, StopsImage, StopsExec}
 use Rattle.proc_calls.proofs.Callers.{caller_lives}
 use Rattle.machine_state.proofs.Asked.{stopped_found}
-use Rattle.fault_fill.specs.Growth.{space_held, with_pieces}
+use Rattle.fault_fill.specs.Growth.{space_of_pid, with_pieces}
 use Rattle.proc_calls.proofs.Stopping.{stops_before}
 use Rattle.proc_calls.proofs.Starts.{is_ready}
 use Rattle.proc_calls.proofs.Leaving.{GoesOn, settled_goes, space_stays, lender_lives}
@@ -49,7 +49,7 @@ use Rattle.proc_calls.proofs.Leaving.{GoesOn, settled_goes, space_stays, lender_
 
 can_start_settled : (m b : Standing) (hs : Holdings) (pid image : ℕ) (regs : Regs) (top : List ℕ) (holds : Option (List NamedFile))
     (before after : Option (List ℕ))
-    → IsCaller m pid → has_lender m.kernel.processes pid ≡ false → HasSettled m b (space_held m.kernel pid) holds before after → image_found image b ≡ Ok hs
+    → IsCaller m pid → has_lender m.kernel.processes pid ≡ false → HasSettled m b (space_of_pid m.kernel pid) holds before after → image_found image b ≡ Ok hs
     → 0 < image → image ≤ length m.images → length top ≡ 1024 → CanApply (with_pieces b hs) pid (call_entry pid Execve regs) (Exec image top)
 can_start_settled m b hs pid image regs top holds before after c alone s found above within page = record {
   clear = on.due ∙ c.clear;
@@ -72,7 +72,7 @@ can_start_settled m b hs pid image regs top holds before after c alone s found a
 }
   where
     on : GoesOn m.kernel b.kernel
-    on = settled_goes (sources m holds) (space_held m.kernel pid) m.kernel b.kernel before after s.settled
+    on = settled_goes (sources m holds) (space_of_pid m.kernel pid) m.kernel b.kernel before after s.settled
 
     held : life_in b.kernel pid ≡ HoldsSpace c.lends.sid
     held = ap (λ (ps : List Proc). life_of_proc (numbered (λ (p : Proc). p.pid) pid ps)) on.processes ∙ c.lends.holds

@@ -21,7 +21,7 @@ use Rattle.kernel_model.specs.Sound.{TextFits}
 use Rattle.kernel_model.specs.Coupled.{SameTables, Fits, image_text}
 use Rattle.machine_state.proofs.FlatMemory.{IsPaged}
 use Rattle.machine_state.specs.UserMemory.{text_len}
-use Rattle.fault_fill.specs.Growth.{space_held}
+use Rattle.fault_fill.specs.Growth.{space_of_pid}
 use Rattle.proc_calls.specs.Sizing.{break_at, break_read, pages_to}
 
 paged : (k : Kernel) (x : Space) (o : Option SpacePages) → numbered space_number x.sid k.place.spaces ≡ o → Fits (Some x) o → IsPaged k x
@@ -46,7 +46,7 @@ module _ (images : List NamedImage) (k : Kernel) (flat : FlatState) (x : Space) 
       ap (λ (o : Option SpacePages). length (stack_in o)) there.there
       ∙ whole_pages (length there.pages.stack_pages) (length x.stack_bytes) there.sized.stack_size
 
-  module _ (pid : ℕ) (regs : Regs) (held : space_held k pid ≡ x.sid) where
+  module _ (pid : ℕ) (regs : Regs) (held : space_of_pid k pid ≡ x.sid) where
     pages_same : (address : ℕ) → pages_up_to x address ≡ pages_to k pid address
     pages_same address = sym (ap (λ (n : ℕ). pages_for (address - n)) (ap (text_len k.place) held ∙ text_same))
 

@@ -23,7 +23,7 @@ use Rattle.fault_fill.specs.Stops.{StopsAt}
 use Rattle.fault_fill.proofs.Keeping.{made_shaped, keeps_flat, keeps_both}
 use Rattle.fault_fill.specs.Forced.{Forced, StopsForcing}
 use Rattle.fault_fill.specs.Answers.{ServesNow}
-use Rattle.proc_calls.specs.Copying.{in_space, AreCopiesFrom, IsCopyFirst, CopiesPage, StopsPage, GoesOn, CopiesAll, HasCopied, StopsCopying}
+use Rattle.proc_calls.specs.Copying.{in_space, AreCopiesFrom, IsCopyFirst, CopiesPage, StopsPage, OnceCopied, CopiesAll, HasCopied, StopsCopying}
 use Rattle.proc_calls.proofs.Copies.{Stay, stay_both, serves_stay, forces_stay, can_serve, filled_frames, last_copy, first_gone}
 
 -- One page.
@@ -90,7 +90,7 @@ copied_by (Err stop) child parent old served roomy new holds later i h j e s f k
 pub goes_on : {A : Type 0} (r : Result A Stop) (child parent : Page) (old served roomy new : Standing) (holds later : Option (List NamedFile))
     (i h j : Option (List ℕ))
     → Stay old.kernel.place roomy.kernel.place → ServesNow (parent ∷ []) parent old served holds i h → Forced (parent ∷ []) served roomy later h j
-    → OnOk r (new.kernel ≡ copy_step roomy.kernel child) → OnOk r (new ≡ record roomy { kernel = new.kernel; room = None }) → OnOk r (GoesOn child old new)
+    → OnOk r (new.kernel ≡ copy_step roomy.kernel child) → OnOk r (new ≡ record roomy { kernel = new.kernel; room = None }) → OnOk r (OnceCopied child old new)
 goes_on (Err stop) child parent old served roomy new holds later i h j stay s f step rest = tt
 goes_on (Ok x) child parent old served roomy new holds later i h j stay s f step rest =
     let is : new ≡ copied_from roomy child = copied_as roomy new child step rest in
@@ -157,7 +157,7 @@ copies_more (Err stop) ds others dues child parent old next new holds later i h 
     ))
 
 -- what is so after them
-pub copied_on : {A : Type 0} (r : Result A Stop) (child : Page) (old next new : Standing) → GoesOn child old next → OnOk r (HasCopied next new)
+pub copied_on : {A : Type 0} (r : Result A Stop) (child : Page) (old next new : Standing) → OnceCopied child old next → OnOk r (HasCopied next new)
     → OnOk r (HasCopied old new)
 copied_on (Ok x) child old next new g h = record {
   params = h.params ∙ g.params;
@@ -196,7 +196,7 @@ copies_none old holds i = record { more = λ new j c. c; stops = λ stop new j s
 
 pub copies_one : (old now next : Standing) (others : List Due) (child parent : Page) (holds later latest : Option (List NamedFile)) (i h k : Option (List ℕ))
     → now.kernel.place.due ≡ CopyOf child parent ∷ others → next.kernel.place.due ≡ others → latest ≡ later
-    → CopiesPage child parent now next later h k → GoesOn child now next
+    → CopiesPage child parent now next later h k → OnceCopied child now next
     → CopiesSoFar old now holds later i h → CopiesSoFar old next holds latest i k
 copies_one old now next others child parent holds later latest i h k e d same page on so =
     let done : Result (Unit {0}) Stop = Ok tt in

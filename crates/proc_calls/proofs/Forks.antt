@@ -41,7 +41,7 @@ use Rattle.machine_state.specs.Conditions.{KeepsFlat}
 use Rattle.machine_state.specs.UserMemory.{CanLend}
 use Rattle.fault_fill.specs.LastMoves.{last_moves}
 use Rattle.fault_fill.proofs.LastMoves.{last_of}
-use Rattle.fault_fill.specs.Growth.{space_held, with_pieces}
+use Rattle.fault_fill.specs.Growth.{space_of_pid, with_pieces}
 use Rattle.proc_calls.specs.declared.replying.Called.{Called}
 use Rattle.proc_calls.specs.Answered.{Answered, Replied}
 use Rattle.proc_calls.specs.Callers.{IsCaller}
@@ -91,15 +91,15 @@ module _ (k : Kernel) (size : ℕ) (s : Sound size k) (n : Numbered k) (parent :
       ∙ ap (λ (xs : List Wanted). data_pieces ++ (xs ++ wanted_of k.holdings (u_want k.next_pid ∷ [])))
       (all_pieces k.holdings (owners.Stack k.next_sid) (2 * stack_count k.place parent) (no_stack size k k.holdings s n))
 
-pub fork_asks : (m : Standing) (pid child parent : ℕ) (ws : List Want) → ws ≡ fork_wants m.kernel parent → parent ≡ space_held m.kernel pid
+pub fork_asks : (m : Standing) (pid child parent : ℕ) (ws : List Want) → ws ≡ fork_wants m.kernel parent → parent ≡ space_of_pid m.kernel pid
     → child ≡ m.kernel.next_pid → CanGoOn m
     → wanted_of m.kernel.holdings ws ≡ asked (facts_named m.images) m.kernel pid (Fork child)
 fork_asks m pid child parent ws wants held named on =
     let now : Sound m.params.swap_blocks m.kernel = sound_now m on in
     let n = on.running.numbered in
     ap (wanted_of m.kernel.holdings) (wants ∙ ap (fork_wants m.kernel) held)
-    ∙ all_looked m.kernel m.params.swap_blocks now n (space_held m.kernel pid)
-    ∙ ap (λ (xs : List Wanted). data_pieces m.kernel m.params.swap_blocks now n (space_held m.kernel pid) ++ (stack_pieces m.kernel m.params.swap_blocks now n (space_held m.kernel pid) ++ xs))
+    ∙ all_looked m.kernel m.params.swap_blocks now n (space_of_pid m.kernel pid)
+    ∙ ap (λ (xs : List Wanted). data_pieces m.kernel m.params.swap_blocks now n (space_of_pid m.kernel pid) ++ (stack_pieces m.kernel m.params.swap_blocks now n (space_of_pid m.kernel pid) ++ xs))
     (u_asked m.kernel.holdings m.kernel.next_pid (no_u_page m.params.swap_blocks m.kernel m.kernel.holdings now n))
     ∙ ap (λ (i : ℕ). asked (facts_named m.images) m.kernel pid (Fork i)) (sym named)
 
@@ -186,10 +186,10 @@ forked_by images k child regs e (Some p) s =
 -- of machines, where the pieces of the child were found before
 behind_fork : (m new : Standing) (pid child : ℕ) (regs : Regs) (hs : Holdings) → IsCaller m pid
     → Answered (with_pieces m hs) new pid calls.Fork regs (Fork child)
-    → HasDue m.kernel new.kernel (space_held m.kernel pid) (call_entry pid calls.Fork regs)
+    → HasDue m.kernel new.kernel (space_of_pid m.kernel pid) (call_entry pid calls.Fork regs)
 behind_fork m new pid child regs hs c answer =
     let e : Entry = call_entry pid calls.Fork regs in
-    let sid = space_held m.kernel pid in
+    let sid = space_of_pid m.kernel pid in
     let found : Kernel = record m.kernel { holdings = hs } in
     let b : HasDue found (change_step (facts_named m.images) found pid regs e (Fork child)) sid e =
     forked_by (facts_named m.images) found child regs e (proc_of m.kernel pid) (caller_there m.kernel pid c.lends) in

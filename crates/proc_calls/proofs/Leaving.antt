@@ -27,7 +27,7 @@ use Rattle.machine_state.specs.Applying.{CanApply, MayAct}
 use Rattle.machine_state.specs.Done.{Sources, sources}
 use Rattle.machine_state.specs.Settled.{EndsWhile, SettledBy}
 use Rattle.vfork_pass.specs.Passed.{HasGivenBack}
-use Rattle.fault_fill.specs.Growth.{space_held}
+use Rattle.fault_fill.specs.Growth.{space_of_pid}
 use Rattle.proc_calls.specs.Callers.{IsCaller}
 use Rattle.proc_calls.specs.Leaving.{HasSettled, HasLeftBy, HasLeft}
 use Rattle.proc_calls.proofs.Callers.{caller_lives}
@@ -83,7 +83,7 @@ none_asked size before now e = ap (λ (hs : Holdings). Ok hs) e
 
 pub can_end_settled : (m n : Standing) (pid status : ℕ) (holds : Option (List NamedFile)) (before after : Option (List ℕ)) → IsCaller m pid
     → has_lender m.kernel.processes pid ≡ false
-    → HasSettled m n (space_held m.kernel pid) holds before after → CanApply n pid (entries.Ended pid status) (End status)
+    → HasSettled m n (space_of_pid m.kernel pid) holds before after → CanApply n pid (entries.Ended pid status) (End status)
 can_end_settled m n pid status holds before after c alone s = record {
   clear = on.due ∙ c.clear;
   ready = record {
@@ -105,7 +105,7 @@ can_end_settled m n pid status holds before after c alone s = record {
 }
   where
     on : GoesOn m.kernel n.kernel
-    on = settled_goes (sources m holds) (space_held m.kernel pid) m.kernel n.kernel before after s.settled
+    on = settled_goes (sources m holds) (space_of_pid m.kernel pid) m.kernel n.kernel before after s.settled
 
     held : life_in n.kernel pid ≡ HoldsSpace c.lends.sid
     held = ap (λ (ps : List Proc). life_of_proc (numbered (λ (p : Proc). p.pid) pid ps)) on.processes ∙ c.lends.holds

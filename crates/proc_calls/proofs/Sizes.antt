@@ -41,7 +41,7 @@ use Rattle.machine_state.specs.Done.{sources}
 use Rattle.machine_state.specs.UserMemory.{CanLend}
 use Rattle.machine_state.specs.Wants.{wanted_of, found_for}
 use Rattle.machine_state.specs.Want.{Want}
-use Rattle.fault_fill.specs.Growth.{space_held, with_pieces}
+use Rattle.fault_fill.specs.Growth.{space_of_pid, with_pieces}
 use Rattle.proc_calls.specs.Callers.{IsCaller}
 use Rattle.proc_calls.specs.Sizing.{process_data_pages, process_stack_pages, break_at, pieces_found}
 use Rattle.proc_calls.specs.Leaving.{HasSettled}
@@ -144,11 +144,11 @@ data_asked images p hs sid next pages held =
 -- The change may be made.
 
 module _ (n : Standing) (pid : ℕ) (regs : Regs) (lends : CanLend n.kernel pid) where
-  has_space : HasSpace n.kernel.place (space_held n.kernel pid)
+  has_space : HasSpace n.kernel.place (space_of_pid n.kernel pid)
   has_space = subst (HasSpace n.kernel.place) (sym (ap space_of_life lends.holds)) lends.there
 
   pub can_size : (wanted stack : ℕ) → n.kernel.place.due ≡ []
-      → (LosesPages n.kernel.place (space_held n.kernel pid) wanted stack → is_settled n.kernel.place (space_held n.kernel pid) ≡ true)
+      → (LosesPages n.kernel.place (space_of_pid n.kernel pid) wanted stack → is_settled n.kernel.place (space_of_pid n.kernel pid) ≡ true)
       → wanted ≤ 4096 → stack ≤ 512
       → place_all n.params.swap_blocks n.before (asked (facts_named n.images) n.kernel pid (Resize wanted stack)) ≡ Ok n.kernel.holdings
       → CanApply n pid (call_entry pid Break regs) (Resize wanted stack)
@@ -180,17 +180,17 @@ module _ (m : Standing) (pid : ℕ) (regs : Regs) (c : IsCaller m pid) (wanted s
       few short
       (none_placed m.params.swap_blocks m.before m.kernel.holdings (asked (facts_named m.images) m.kernel pid (Resize wanted stack)) c.ready.whole
       (ap (λ (t : ℕ). asked (facts_named m.images) m.kernel pid (Resize wanted t)) is
-      ∙ none_asked (facts_named m.images) m.kernel.place (space_held m.kernel pid) m.kernel.next_sid wanted (omega (arith, same))))
+      ∙ none_asked (facts_named m.images) m.kernel.place (space_of_pid m.kernel pid) m.kernel.next_sid wanted (omega (arith, same))))
 
   -- with more, whose pieces are found
-  module _ (sid : ℕ) (own : sid ≡ space_held m.kernel pid) where
-    held : lengths (owners.Data (space_held m.kernel pid)) m.kernel.holdings ≡ pieces (2 * process_data_pages m.kernel pid)
-    held = ap (λ (hs : Holdings). lengths (owners.Data (space_held m.kernel pid)) hs) (sym c.ready.whole) ∙ c.ready.running.sound.owner.blocks.data_held (space_held m.kernel pid)
+  module _ (sid : ℕ) (own : sid ≡ space_of_pid m.kernel pid) where
+    held : lengths (owners.Data (space_of_pid m.kernel pid)) m.kernel.holdings ≡ pieces (2 * process_data_pages m.kernel pid)
+    held = ap (λ (hs : Holdings). lengths (owners.Data (space_of_pid m.kernel pid)) hs) (sym c.ready.whole) ∙ c.ready.running.sound.owner.blocks.data_held (space_of_pid m.kernel pid)
 
     asks : asked (facts_named m.images) m.kernel pid (Resize wanted stack) ≡ wanted_of m.kernel.holdings (data_want sid wanted)
     asks =
         ap (λ (t : ℕ). asked (facts_named m.images) m.kernel pid (Resize wanted t)) is
-        ∙ data_asked (facts_named m.images) m.kernel.place m.kernel.holdings (space_held m.kernel pid) m.kernel.next_sid wanted held
+        ∙ data_asked (facts_named m.images) m.kernel.place m.kernel.holdings (space_of_pid m.kernel pid) m.kernel.next_sid wanted held
         ∙ ap (λ (x : ℕ). wanted_of m.kernel.holdings (data_want x wanted)) (sym own)
 
     pub finds : pieces_found m pid wanted ≡ found_for m.params.swap_blocks m.kernel.holdings (data_want sid wanted)
@@ -217,11 +217,11 @@ further_by : (owner : Owner) (a b new : ℕ) → pieces (2 * a) ≡ pieces (2 * 
 further_by owner a b new e = ap (λ (xs : List ℕ). wanted owner (drop (length xs) (pieces (2 * new)))) e
 
 module _ (m n : Standing) (pid : ℕ) (regs : Regs) (c : IsCaller m pid) (holds : Option (List NamedFile)) (before after : Option (List ℕ))
-    (s : HasSettled m n (space_held m.kernel pid) holds before after) where
+    (s : HasSettled m n (space_of_pid m.kernel pid) holds before after) where
   on : GoesOn m.kernel n.kernel
-  on = settled_goes (sources m holds) (space_held m.kernel pid) m.kernel n.kernel before after s.settled
+  on = settled_goes (sources m holds) (space_of_pid m.kernel pid) m.kernel n.kernel before after s.settled
 
-  same_space : space_held n.kernel pid ≡ space_held m.kernel pid
+  same_space : space_of_pid n.kernel pid ≡ space_of_pid m.kernel pid
   same_space = ap (λ (ps : List Proc). space_of_life (life_of_proc (numbered (λ (p : Proc). p.pid) pid ps))) on.processes
 
   lends_on : CanLend n.kernel pid
@@ -256,7 +256,7 @@ module _ (m n : Standing) (pid : ℕ) (regs : Regs) (c : IsCaller m pid) (holds 
         (none_placed n.params.swap_blocks n.before n.kernel.holdings (asked (facts_named n.images) n.kernel pid (Resize wanted stack)) (s.rest.before ∙ c.ready.whole ∙ sym on.holdings)
         (ap (λ (t : ℕ). asked (facts_named n.images) n.kernel pid (Resize wanted t)) is
         ∙ ap (λ (x : ℕ). change_asks (facts_named n.images) n.kernel.place x n.kernel.next_sid (Resize wanted (process_stack_pages m.kernel pid))) same_space
-        ∙ still_none (facts_named n.images) (space_held m.kernel pid) n.kernel.next_sid wanted (omega (arith, fewer))))
+        ∙ still_none (facts_named n.images) (space_of_pid m.kernel pid) n.kernel.next_sid wanted (omega (arith, fewer))))
 
 -- The reply.
 

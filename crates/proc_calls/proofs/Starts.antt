@@ -19,7 +19,7 @@ use Rattle.machine_state.specs.Conditions.{KeepsFlat}
 use Rattle.machine_state.specs.Done.{Sources, sources}
 use Rattle.machine_state.specs.Settled.{EndsWhile}
 use Rattle.machine_state.specs.Wants.{found_for, fits_for}
-use Rattle.fault_fill.specs.Growth.{space_held, with_pieces}
+use Rattle.fault_fill.specs.Growth.{space_of_pid, with_pieces}
 use Rattle.proc_calls.specs.Leaving.{HasLeftBy, HasLeft}
 use Rattle.proc_calls.specs.Making.{without_pieces}
 use Rattle.proc_calls.specs.Starting.{wants_found, Finds}
@@ -86,7 +86,7 @@ ready_by true m n pid holds before after h = subst (IsReady m) (sym h.step) (rec
   before = refl;
 })
 ready_by false m n pid holds before after h = record {
-  kernel = ends_stay (sources m holds) (space_held m.kernel pid) h.settled.count m.kernel n.kernel before after h.settled.ends;
+  kernel = ends_stay (sources m holds) (space_of_pid m.kernel pid) h.settled.count m.kernel n.kernel before after h.settled.ends;
   params = h.rest.params;
   images = h.rest.images;
   before = h.rest.before;

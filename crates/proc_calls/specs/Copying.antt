@@ -53,7 +53,7 @@ StopsPage child parent old new holds before after stop =
     × StopsOnce (λ m. ServesNow (parent ∷ []) parent old m holds before told) (λ m. StopsFilling (Copy child) (parent ∷ []) m new holds told after stop))
 
 -- once a page is copied it isn't due, and there are as many frames as before
-pub record GoesOn (child : Page) (old new : Standing) : Type 0 where
+pub record OnceCopied (child : Page) (old new : Standing) : Type 0 where
   pub params : new.params ≡ old.params
   pub images : new.images ≡ old.images
   pub due : new.kernel.place.due ≡ due_after old.kernel.place.due child

@@ -10,7 +10,7 @@ use Rattle.page_model.specs.Place.{data_count, stack_count, fork_space}
 use Rattle.kernel_model.specs.Kernel.{Kernel}
 use Rattle.machine_state.specs.Want.{Want}
 use Rattle.machine_state.specs.Machine.{Standing}
-use Rattle.fault_fill.specs.Growth.{space_held}
+use Rattle.fault_fill.specs.Growth.{space_of_pid}
 use Rattle.proc_calls.specs.Answered.{StopsOnce}
 use Rattle.proc_calls.specs.Copying.{AreCopiesFrom, CopiesAll, StopsCopying}
 use Rattle.proc_calls.specs.Making.{HasChild, MakesChild, StopsMaking}
@@ -26,8 +26,8 @@ fork_wants k parent =
 -- `fork_space`: data first, rising, each from the page of its name in the parent's space.
 pub record HasNewSpace (old new : Standing) (pid : ℕ) (regs : Regs) (child : ℕ) : Type 0 where
   pub made : HasChild old new pid Fork regs child (changes.Fork child)
-  pub due : let forked = fork_space old.kernel.place (space_held old.kernel pid) old.kernel.next_sid in new.kernel.place.due ≡ forked.due
-  pub copies : AreCopiesFrom (space_held old.kernel pid) new.kernel.place.due
+  pub due : let forked = fork_space old.kernel.place (space_of_pid old.kernel pid) old.kernel.next_sid in new.kernel.place.due ≡ forked.due
+  pub copies : AreCopiesFrom (space_of_pid old.kernel pid) new.kernel.place.due
 
 -- a fork before its copies
 abbrev pub ForkAnswered : Standing → Standing → ℕ → Regs → Type 0

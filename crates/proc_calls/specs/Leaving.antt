@@ -15,7 +15,7 @@ use Rattle.machine_state.specs.Machine.{Standing}
 use Rattle.machine_state.specs.Settled.{SettledBy, IsSameBeside, StopsSettling}
 use Rattle.machine_state.specs.Done.{sources, KeepsThrough}
 use Rattle.fault_fill.specs.Stops.{StopsBefore}
-use Rattle.fault_fill.specs.Growth.{space_held}
+use Rattle.fault_fill.specs.Growth.{space_of_pid}
 use Rattle.proc_calls.specs.Callers.{regs_of}
 use Rattle.proc_calls.specs.Answered.{Entered, Comes, StopsReading, StopsOnce}
 use Rattle.proc_calls.specs.declared.replying.Called.{Called}
@@ -37,7 +37,7 @@ pub record HasReturned (old new : Standing) (pid : ℕ) (before after : Option (
 -- by whether some process lends its space to this one
 abbrev pub HasLeftBy : Bool → Standing → Standing → ℕ → Option (List NamedFile) → Option (List ℕ) → Option (List ℕ) → Type 0
 HasLeftBy true old new pid holds before after = HasReturned old new pid before after
-HasLeftBy false old new pid holds before after = HasSettled old new (space_held old.kernel pid) holds before after
+HasLeftBy false old new pid holds before after = HasSettled old new (space_of_pid old.kernel pid) holds before after
 
 -- a process left its space: it went back to its lender, or is its own and settled
 abbrev pub HasLeft : Standing → Standing → ℕ → Option (List NamedFile) → Option (List ℕ) → Option (List ℕ) → Type 0
@@ -66,7 +66,7 @@ ExitComes old new pid regs (Err refused) holds before after called = Comes old n
 -- for the entry that follows.
 abbrev pub StopsLeaving : Standing → Standing → ℕ → Option (List NamedFile) → Option (List ℕ) → Option (List ℕ) → Stop → Type 0
 StopsLeaving old new pid holds before after stop =
-    ((has_lender old.kernel.processes pid ≡ false) × StopsSettling (space_held old.kernel pid) old new holds before after stop)
+    ((has_lender old.kernel.processes pid ≡ false) × StopsSettling (space_of_pid old.kernel pid) old new holds before after stop)
     ⊎ ((has_lender old.kernel.processes pid ≡ true) × StopsBefore old new stop × (after ≡ before))
 
 -- A run stops before a process has ended or has its image: as the process leaves its space, or once it has, before the entry that

@@ -5,7 +5,7 @@ ghost use Rattle.machine_state.specs.Going.{CanGoOn};
 ghost use Rattle.machine_state.specs.Files.{AreFiles};
 ghost use Rattle.machine_state.specs.Outside.{stop_of, TransfersPages};
 ghost use Rattle.fault_fill.specs.LastMoves.{last_moves};
-ghost use Rattle.proc_calls.specs.Copying.{in_space, AreCopiesFrom, IsCopyFirst, CopiesPage, StopsPage, GoesOn, CopiesAll, HasCopied, StopsCopying};
+ghost use Rattle.proc_calls.specs.Copying.{in_space, AreCopiesFrom, IsCopyFirst, CopiesPage, StopsPage, OnceCopied, CopiesAll, HasCopied, StopsCopying};
 
 use fault_fill::clock_hands::make_room;
 use fault_fill::serve_page_now;
@@ -40,7 +40,7 @@ pub fn copy_page<F: Files, D: SwapDev>(
     requires low { last_moves m.old.kernel.journal ≤ 1000000 }
     ensures copied { MatchResult result (λ u. CopiesPage child parent m.old m.new (F.holds files.old) (D.image swap.old) (D.image swap.new))
         (StopsPage child parent m.old m.new (F.holds files.old) (D.image swap.old) (D.image swap.new)) }
-    ensures on { OnOk result (GoesOn child m.old m.new) }
+    ensures on { OnOk result (OnceCopied child m.old m.new) }
     ensures outside { TransfersPages F.Files D.SwapDev (stop_of result) files.old files.new swap.old swap.new }
     ensures goes_on { OnOk result (CanGoOn m.new) }
 {

@@ -9,7 +9,7 @@ ghost use Rattle.machine_state.specs.Files.{AreFiles};
 ghost use Rattle.machine_state.specs.UserMemory.{CanLend, kernel_answers};
 ghost use Rattle.machine_state.specs.Outside.{stop_of, TransfersPages};
 ghost use Rattle.vfork_pass.specs.Passed.{HasGivenBack};
-ghost use Rattle.fault_fill.specs.Growth.{space_held};
+ghost use Rattle.fault_fill.specs.Growth.{space_of_pid};
 ghost use Rattle.proc_calls.specs.Callers.{IsCaller};
 ghost use Rattle.proc_calls.specs.Leaving.{HasLeft, HasEnded, IsExit, ExitComes, StopsLeaving, StopsAlive, StopsExit};
 
@@ -35,10 +35,10 @@ fn is_borrower(m: &Machine, pid: u32) -> bool
 }
 
 // The number of the space that a process holds.
-pub fn space_held(m: &Machine, pid: u32) -> u32
+pub fn space_of_pid(m: &Machine, pid: u32) -> u32
     requires running { IsRunning m.now }
     requires lends { CanLend m.now.kernel pid }
-    ensures { result ≡ space_held m.now.kernel pid }
+    ensures { result ≡ space_of_pid m.now.kernel pid }
 {
     match process(m, pid).state {
         Life::Holds(sid) => sid,
@@ -69,7 +69,7 @@ pub fn leave_space<F: Files, D: SwapDev>(
         give_back(m, pid);
         return Ok(());
     }
-    let sid = space_held(m, pid);
+    let sid = space_of_pid(m, pid);
     m.settle(files, swap, sid)
 }
 
@@ -122,7 +122,7 @@ pub fn kill<F: Files, D: SwapDev>(
 fn read_status(m: &mut Machine, pid: u32, regs: &Regs) -> Asked<Reply>
     requires ready { CanGoOn m.old }
     requires lends { CanLend m.old.kernel pid }
-    ensures value { result ≡ run (kernel_answers m.old.kernel (space_held m.old.kernel pid)) (exit_reply regs.now) }
+    ensures value { result ≡ run (kernel_answers m.old.kernel (space_of_pid m.old.kernel pid)) (exit_reply regs.now) }
     ensures same { m.new ≡ m.old }
 {
     exit_reply(&m.memory(pid), *regs)
@@ -150,9 +150,9 @@ pub fn exit<F: Files, D: SwapDev>(
     requires calls { IsCaller m.old pid }
     requires area { m.old.params.swap_blocks ≤ D.blocks swap.old }
     requires files { AreFiles m.old.images (F.holds files.old) }
-    ensures comes { IfOk result (λ called. ExitComes m.old m.new pid regs.now (run (kernel_answers m.old.kernel (space_held m.old.kernel pid))
+    ensures comes { IfOk result (λ called. ExitComes m.old m.new pid regs.now (run (kernel_answers m.old.kernel (space_of_pid m.old.kernel pid))
         (exit_reply regs.now)) (F.holds files.old) (D.image swap.old) (D.image swap.new) called) }
-    ensures stops { IfErr result (StopsExit m.old m.new pid (run (kernel_answers m.old.kernel (space_held m.old.kernel pid)) (exit_reply regs.now))
+    ensures stops { IfErr result (StopsExit m.old m.new pid (run (kernel_answers m.old.kernel (space_of_pid m.old.kernel pid)) (exit_reply regs.now))
         (F.holds files.old) (D.image swap.old) (D.image swap.new)) }
     ensures outside { TransfersPages F.Files D.SwapDev (stop_of result) files.old files.new swap.old swap.new }
     ensures goes_on { OnOk result (CanGoOn m.new) }

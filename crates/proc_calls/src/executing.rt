@@ -8,7 +8,7 @@ ghost use Rattle.machine_state.specs.Going.{CanGoOn};
 ghost use Rattle.machine_state.specs.Files.{AreFiles};
 ghost use Rattle.machine_state.specs.UserMemory.{CanLend, kernel_answers};
 ghost use Rattle.machine_state.specs.Outside.{stop_of, TransfersPages};
-ghost use Rattle.fault_fill.specs.Growth.{space_held};
+ghost use Rattle.fault_fill.specs.Growth.{space_of_pid};
 ghost use Rattle.proc_calls.specs.Callers.{IsCaller};
 ghost use Rattle.proc_calls.specs.Reading.{AreNamed, StartsAs};
 ghost use Rattle.proc_calls.specs.Starting.{IsImageOf, execve_read, ExecComes, StopsExec};
@@ -33,7 +33,7 @@ fn read_call(
     requires ready { CanGoOn m.old }
     requires lends { CanLend m.old.kernel pid }
     ensures value { (known : List NamedImage) → AreNamed known m.old.images
-        → IfOk result (λ asked. asked ≡ run (kernel_answers m.old.kernel (space_held m.old.kernel pid)) (execve_reply known regs.now)) }
+        → IfOk result (λ asked. asked ≡ run (kernel_answers m.old.kernel (space_of_pid m.old.kernel pid)) (execve_reply known regs.now)) }
     ensures starts { IfOk result (λ asked. IfOk asked (StartsAs (IsImageOf m.old))) }
     ensures same { m.new ≡ m.old }
 {

@@ -8,14 +8,14 @@ ghost use Rattle.kernel_model.specs.Asks.{HasSpace};
 ghost use Rattle.machine_state.specs.Going.{CanGoOn, IsRunning};
 ghost use Rattle.machine_state.specs.Files.{AreFiles};
 ghost use Rattle.machine_state.specs.Outside.{stop_of, TransfersPages};
-ghost use Rattle.fault_fill.specs.Growth.{space_held};
+ghost use Rattle.fault_fill.specs.Growth.{space_of_pid};
 ghost use Rattle.proc_calls.specs.Callers.{IsCaller};
 ghost use Rattle.proc_calls.specs.Copying.{HasCopied};
 ghost use Rattle.proc_calls.specs.Forking.{fork_wants, ForkAnswered, Forked, StopsForking};
 ghost use Rattle.proc_calls.specs.Making.{is_below_limit, Vforked, StopsMaking};
 
 use crate::copying::copy_due;
-use crate::ending::space_held;
+use crate::ending::space_of_pid;
 use crate::replying::{Called, fail, replied_both, reply};
 use flat_model::{EAGAIN, ENOMEM, PROCESS_LIMIT, SystemCall};
 use flat_state::Change;
@@ -89,7 +89,7 @@ fn fork_wants(m: &Machine, parent: u32) -> [Want; 3]
 // A fork before its copies.
 fn enter_fork(m: &mut Machine, pid: u32, parent: u32, regs: &Regs) -> Result<Called, Stop>
     requires calls { IsCaller m.old pid }
-    requires held { parent ≡ space_held m.old.kernel pid }
+    requires held { parent ≡ space_of_pid m.old.kernel pid }
     ensures ready { IfOk result (λ called. called ≡ Called.Ready) }
     ensures answer { OnOk result (ForkAnswered m.old m.new pid regs.now) }
     ensures stop { IfErr result (StopsMaking m.old m.new pid (ForkOf m.old.kernel.next_pid)) }
@@ -128,7 +128,7 @@ pub fn fork<F: Files, D: SwapDev>(
     ensures outside { TransfersPages F.Files D.SwapDev (stop_of result) files.old files.new swap.old swap.new }
     ensures goes_on { OnOk result (CanGoOn m.new) }
 {
-    let parent = space_held(m, pid);
+    let parent = space_of_pid(m, pid);
     let called = enter_fork(m, pid, parent, regs)?;
     copy_due(m, files, swap, parent)?;
     Ok(called)

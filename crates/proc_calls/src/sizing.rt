@@ -16,7 +16,7 @@ ghost use Rattle.machine_state.specs.Applying.{CanApply};
 ghost use Rattle.machine_state.specs.Files.{AreFiles};
 ghost use Rattle.machine_state.specs.UserMemory.{CanLend, kernel_answers};
 ghost use Rattle.machine_state.specs.Outside.{stop_of, TransfersPages};
-ghost use Rattle.fault_fill.specs.Growth.{space_held};
+ghost use Rattle.fault_fill.specs.Growth.{space_of_pid};
 ghost use Rattle.proc_calls.specs.Answered.{Replied};
 ghost use Rattle.proc_calls.specs.Callers.{IsCaller};
 ghost use Rattle.proc_calls.specs.Sizing.{process_data_pages, process_stack_pages, pages_to, Grows, CutData, MovesEnd, BreakComes, StopsPlain, StopsBreaking, StopsBreak};
@@ -44,8 +44,8 @@ struct Sizes {
 fn space_of(m: &Machine, pid: u32) -> &SpaceMap
     requires running { IsRunning m.now }
     requires lends { CanLend m.now.kernel pid }
-    ensures named { result.now.sid ≡ space_held m.now.kernel pid }
-    ensures of_image { result.now.image ≡ image_of m.now.kernel.place (space_held m.now.kernel pid) }
+    ensures named { result.now.sid ≡ space_of_pid m.now.kernel pid }
+    ensures of_image { result.now.image ≡ image_of m.now.kernel.place (space_of_pid m.now.kernel pid) }
     ensures shows { (core : Frames) → ShowsCore m.now.kernel.place core → ShowsSpace m.now.kernel.place core result.now }
 {
     let Life::Holds(sid) = process(m, pid).state else {
@@ -61,7 +61,7 @@ fn space_of(m: &Machine, pid: u32) -> &SpaceMap
 fn sizes_to(m: &Machine, pid: u32, address: u32) -> Sizes
     requires running { IsRunning m.now }
     requires lends { CanLend m.now.kernel pid }
-    ensures named { result.sid ≡ space_held m.now.kernel pid }
+    ensures named { result.sid ≡ space_of_pid m.now.kernel pid }
     ensures holds { result.data_pages ≡ process_data_pages m.now.kernel pid }
     ensures stack { result.stack_pages ≡ process_stack_pages m.now.kernel pid }
     ensures wanted { result.wanted ≡ pages_to m.now.kernel pid address }
@@ -98,7 +98,7 @@ fn resize(m: &mut Machine, pid: u32, regs: &Regs, sizes: Sizes) -> Result<Called
 // More pages of data, where their pieces find their places.
 fn grow(m: &mut Machine, pid: u32, regs: &Regs, sizes: Sizes) -> Result<Called, Stop>
     requires calls { IsCaller m.old pid }
-    requires named { sizes.sid ≡ space_held m.old.kernel pid }
+    requires named { sizes.sid ≡ space_of_pid m.old.kernel pid }
     requires stack { sizes.stack_pages ≡ process_stack_pages m.old.kernel pid }
     requires few { sizes.stack_pages ≤ 512 }
     requires most { sizes.wanted ≤ data_limit }
@@ -130,7 +130,7 @@ fn cut<F: Files, D: SwapDev>(
     requires calls { IsCaller m.old pid }
     requires area { m.old.params.swap_blocks ≤ D.blocks swap.old }
     requires files { AreFiles m.old.images (F.holds files.old) }
-    requires named { sizes.sid ≡ space_held m.old.kernel pid }
+    requires named { sizes.sid ≡ space_of_pid m.old.kernel pid }
     requires stack { sizes.stack_pages ≡ process_stack_pages m.old.kernel pid }
     requires few { sizes.stack_pages ≤ 512 }
     requires most { sizes.wanted ≤ data_limit }
@@ -148,7 +148,7 @@ fn cut<F: Files, D: SwapDev>(
 fn read_address(m: &mut Machine, pid: u32, regs: &Regs) -> Asked<u32>
     requires ready { CanGoOn m.old }
     requires lends { CanLend m.old.kernel pid }
-    ensures value { result ≡ run (kernel_answers m.old.kernel (space_held m.old.kernel pid)) (argument regs.now 1) }
+    ensures value { result ≡ run (kernel_answers m.old.kernel (space_of_pid m.old.kernel pid)) (argument regs.now 1) }
     ensures same { m.new ≡ m.old }
 {
     argument(&m.memory(pid), *regs, 1)
@@ -196,9 +196,9 @@ pub fn brk<F: Files, D: SwapDev>(
     requires calls { IsCaller m.old pid }
     requires area { m.old.params.swap_blocks ≤ D.blocks swap.old }
     requires files { AreFiles m.old.images (F.holds files.old) }
-    ensures comes { IfOk result (BreakComes m.old m.new pid regs.now (run (kernel_answers m.old.kernel (space_held m.old.kernel pid)) (argument regs.now 1))
+    ensures comes { IfOk result (BreakComes m.old m.new pid regs.now (run (kernel_answers m.old.kernel (space_of_pid m.old.kernel pid)) (argument regs.now 1))
         (F.holds files.old) (D.image swap.old) (D.image swap.new)) }
-    ensures stops { IfErr result (StopsBreak m.old m.new pid (run (kernel_answers m.old.kernel (space_held m.old.kernel pid)) (argument regs.now 1))
+    ensures stops { IfErr result (StopsBreak m.old m.new pid (run (kernel_answers m.old.kernel (space_of_pid m.old.kernel pid)) (argument regs.now 1))
         (F.holds files.old) (D.image swap.old) (D.image swap.new)) }
     ensures outside { TransfersPages F.Files D.SwapDev (stop_of result) files.old files.new swap.old swap.new }
     ensures goes_on { OnOk result (CanGoOn m.new) }

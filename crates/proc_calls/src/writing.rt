@@ -7,7 +7,7 @@ ghost use Rattle.flat_model.specs.declared.calls.SystemCall.TheVariants.{Write};
 ghost use Rattle.machine_state.specs.Going.{CanGoOn};
 ghost use Rattle.machine_state.specs.Conditions.{HasStopped};
 ghost use Rattle.machine_state.specs.UserMemory.{CanLend, kernel_answers};
-ghost use Rattle.fault_fill.specs.Growth.{space_held};
+ghost use Rattle.fault_fill.specs.Growth.{space_of_pid};
 ghost use Rattle.proc_calls.specs.Answered.{GoneOut, Replied, Comes};
 ghost use Rattle.proc_calls.specs.Callers.{IsCaller};
 ghost use Rattle.proc_calls.specs.Writing.{IsWrite, StopsOut};
@@ -63,7 +63,7 @@ fn read_bytes(
 ) -> Result<Asked<Reply>, NoMemory>
     requires ready { CanGoOn m.old }
     requires lends { CanLend m.old.kernel pid }
-    ensures value { IfOk result (λ asked. asked ≡ run (kernel_answers m.old.kernel (space_held m.old.kernel pid)) (write_reply regs.now)) }
+    ensures value { IfOk result (λ asked. asked ≡ run (kernel_answers m.old.kernel (space_of_pid m.old.kernel pid)) (write_reply regs.now)) }
     ensures same { m.new ≡ m.old }
 {
     write_reply(alloc, &m.memory(pid), *regs)
@@ -88,8 +88,8 @@ fn answer(m: &mut Machine, pid: u32, regs: &Regs, reply: Reply) -> Result<Called
 pub fn write(alloc: Global, m: &mut Machine, pid: u32, regs: &Regs) -> Result<Called, Stop>
     requires calls { IsCaller m.old pid }
     ensures comes { IfOk result
-        (Comes m.old m.new pid Write regs.now (run (kernel_answers m.old.kernel (space_held m.old.kernel pid)) (write_reply regs.now))) }
-    ensures stop { IfErr result (StopsOut m.old m.new pid (run (kernel_answers m.old.kernel (space_held m.old.kernel pid)) (write_reply regs.now))) }
+        (Comes m.old m.new pid Write regs.now (run (kernel_answers m.old.kernel (space_of_pid m.old.kernel pid)) (write_reply regs.now))) }
+    ensures stop { IfErr result (StopsOut m.old m.new pid (run (kernel_answers m.old.kernel (space_of_pid m.old.kernel pid)) (write_reply regs.now))) }
     ensures goes_on { OnOk result (CanGoOn m.new) }
 {
     let asked = read_bytes(alloc, m, pid, regs);

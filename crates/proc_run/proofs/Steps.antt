@@ -30,7 +30,7 @@ use Rattle.machine_state.specs.UserMemory.{kernel_answers, writes_in}
 use Rattle.steady_laws.specs.Stops.{LeftBy}
 use Rattle.steady_laws.specs.Callers.{regs_of}
 use Rattle.steady_laws.specs.Leaving.{HasEnded, StopsAlive}
-use Rattle.steady_laws.specs.Growth.{space_held}
+use Rattle.steady_laws.specs.Growth.{space_of_pid}
 use Rattle.run_model.specs.Act.{act}
 use Rattle.run_model.specs.State.{State}
 use Rattle.run_model.specs.Wanted.{wanted, touched_next}
@@ -54,7 +54,7 @@ use Rattle.proc_run.specs.Runs.{RunsAt}
 
 module _ (A : Inputs) (s : State) (m : Standing) (holds : Option (List NamedFile)) (i : Option (List ℕ)) (image : List ℕ) (pid : ℕ) (now : Bool) (p : Process) (x : Space) (before : Regs)
     (r : RunsAt A s m holds i image pid now p x) (same : before ≡ regs_of m.kernel pid) where
-  space : space_held m.kernel pid ≡ x.sid
+  space : space_of_pid m.kernel pid ≡ x.sid
   space = same_space A s m.kernel image pid now p x r.on.machine.at r.on.running
 
   regs : before ≡ p.regs
@@ -124,7 +124,7 @@ module _ (A : Inputs) (s : State) (m : Standing) (holds : Option (List NamedFile
   -- Instructions that are complete.
 
   pub instruction_led : (l : Kernel) (effect : Effect) → run (own_answers m pid) (instruction before) ≡ Ok effect → effect.call ≡ None
-      → l ≡ ran_by (writes_in m.kernel (space_held m.kernel pid) effect.writes) pid effect.regs (entries.Ran pid 1) → StepLeads A s m.kernel image 1 l i
+      → l ≡ ran_by (writes_in m.kernel (space_of_pid m.kernel pid) effect.writes) pid effect.regs (entries.Ran pid 1) → StepLeads A s m.kernel image 1 l i
   instruction_led l effect e none h =
       told 1 l
       (instruction_made A s m l holds image pid now p x effect r.on (sym own ∙ e) none

@@ -33,7 +33,7 @@ use Rattle.machine_state.specs.UserMemoryLaws.{writes_answer, writes_append}
 use Rattle.machine_state.proofs.Further.{more_at_last, some_last}
 use Rattle.machine_state.proofs.Joins.{last_is, runs_kind}
 use Rattle.steady_laws.specs.Callers.{regs_of, regs_by}
-use Rattle.steady_laws.specs.Growth.{space_held}
+use Rattle.steady_laws.specs.Growth.{space_of_pid}
 use Rattle.proc_run.specs.Calls.{own_answers}
 use Rattle.proc_run.specs.Choosing.{can_run, steps_by, may_run}
 use Rattle.proc_run.specs.Stretch.{CarriesOn, Stretch, StretchOf, RanOne, RanOn}
@@ -148,7 +148,7 @@ regs_put pid regs ps there = go (at_pid ps pid) refl there
 module _ (old : Standing) (pid : ℕ) (regs : Regs) (clear : old.kernel.place.due ≡ []) (can : may_run old.kernel pid ≡ true) (has : regs ≡ regs_of old.kernel pid)
     (front : List Entry) (last : ℕ) (ends : old.kernel.journal ≡ front ++ Ran pid last ∷ []) where
   abbrev sid : ℕ
-  sid = space_held old.kernel pid
+  sid = space_of_pid old.kernel pid
 
   abbrev after_writes : List ByteWrite → Kernel
   after_writes ws = writes_in old.kernel sid ws
@@ -196,10 +196,10 @@ module _ (old : Standing) (pid : ℕ) (regs : Regs) (clear : old.kernel.place.du
       regs_put pid mid (after_writes ws).processes (steps_written ws)
       ∙ sym (ap regs_by (numbered_map (λ (p : Proc). p.pid) (with_regs pid mid) (number_still pid mid) pid (after_writes ws).processes))
 
-  space_still : (ws : List ByteWrite) → space_held (after_writes ws) pid ≡ sid
+  space_still : (ws : List ByteWrite) → space_of_pid (after_writes ws) pid ≡ sid
   space_still ws = ap (λ (ps : List Proc). space_of_life (life_of_proc (numbered (λ (p : Proc). p.pid) pid ps))) (same ws).processes
 
-  space_at : (n : ℕ) (ws : List ByteWrite) (mid : Regs) → space_held (at n ws mid).kernel pid ≡ sid
+  space_at : (n : ℕ) (ws : List ByteWrite) (mid : Regs) → space_of_pid (at n ws mid).kernel pid ≡ sid
   space_at zero ws mid = space_still ws
   space_at (suc n) ws mid =
       ap (λ (o : Option Proc). space_of_life (life_of_proc o)) (numbered_map (λ (p : Proc). p.pid) (with_regs pid mid) (number_still pid mid) pid (after_writes ws).processes)
@@ -244,7 +244,7 @@ module _ (old : Standing) (pid : ℕ) (regs : Regs) (clear : old.kernel.place.du
     own = run (own_answers (at n ws mid) pid) (instruction mid)
 
     abbrev own_sid : ℕ
-    own_sid = space_held (at n ws mid).kernel pid
+    own_sid = space_of_pid (at n ws mid).kernel pid
 
     own_is : own ≡ outcome
     own_is = ap (λ (m : Answers). run m (instruction mid)) (answers_at n ws mid each)
@@ -321,9 +321,9 @@ pub none_ran : (old new : Standing) (sid : ℕ) (memory : Answers) (regs after :
 none_ran old new sid memory regs after zero e h = h.2.machine ∙ ap (λ (ws : List ByteWrite). let m : Standing = record old { kernel = writes_in old.kernel sid ws } in m) h.1.0
 none_ran old new sid memory regs after (suc n) e h = absurd (omega (arith, e))
 
-module _ (old new : Standing) (pid : ℕ) (ws : List ByteWrite) (w : Wrote old (space_held old.kernel pid) ws new) where
+module _ (old new : Standing) (pid : ℕ) (ws : List ByteWrite) (w : Wrote old (space_of_pid old.kernel pid) ws new) where
   pub wrote_journal : new.kernel.journal ≡ old.kernel.journal
-  wrote_journal = ap (λ (m : Standing). m.kernel.journal) w.machine ∙ (writes_same ws old.kernel (space_held old.kernel pid)).journal
+  wrote_journal = ap (λ (m : Standing). m.kernel.journal) w.machine ∙ (writes_same ws old.kernel (space_of_pid old.kernel pid)).journal
 
 -- the last entry counts instructions of the process
 pub ends_counted : (journal : List Entry) (pid : ℕ) → is_some (last_says (instructions_in pid) journal) ≡ true
@@ -335,9 +335,9 @@ ends_counted journal pid h =
 
 -- the machine that counted them at once
 pub at_once : (old mid new : Standing) (pid n : ℕ) (ws : List ByteWrite) (after : Regs)
-    → Wrote old (space_held old.kernel pid) ws mid → new.kernel ≡ ran_by mid.kernel pid after (Ran pid n)
+    → Wrote old (space_of_pid old.kernel pid) ws mid → new.kernel ≡ ran_by mid.kernel pid after (Ran pid n)
     → new ≡ record mid { kernel = new.kernel; room = None }
-    → new ≡ (let m : Standing = record old { kernel = ran_by (writes_in old.kernel (space_held old.kernel pid) ws) pid after (Ran pid n); room = None } in m)
+    → new ≡ (let m : Standing = record old { kernel = ran_by (writes_in old.kernel (space_of_pid old.kernel pid) ws) pid after (Ran pid n); room = None } in m)
 at_once old mid new pid n ws after w step rest =
     rest ∙ ap (λ (k : Kernel). let m : Standing = record mid { kernel = k; room = None } in m) step
     ∙ ap (λ (x : Standing). let m : Standing = record x { kernel = ran_by x.kernel pid after (Ran pid n); room = None } in m) w.machine

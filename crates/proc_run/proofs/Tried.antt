@@ -31,7 +31,7 @@ use Rattle.step_units.specs.Stepped.{StopLeads, LeadsFrom, StopsFrom}
 use Rattle.steady_laws.specs.Ready.{Continues}
 use Rattle.steady_laws.proofs.Running.{continues_from}
 use Rattle.steady_laws.proofs.Entries.{room_continues, writes_continue, ran_continues}
-use Rattle.steady_laws.specs.Growth.{space_held}
+use Rattle.steady_laws.specs.Growth.{space_of_pid}
 use Rattle.proc_run.specs.declared.advancing.Advance.{Advance}
 use Rattle.proc_run.specs.declared.advancing.Advance.TheVariants as advances
 use Rattle.proc_run.specs.Calls.{own_answers}
@@ -72,7 +72,7 @@ module _ (old at last : Standing) (pid : ℕ) (now : Bool) (holds : Option (List
 
 -- Where it is complete.
 
-module _ (old mid new : Standing) (pid : ℕ) (before : Regs) (o : RoomOnly old mid) (w : Wrote mid (space_held mid.kernel pid) (writes_of (run (own_answers mid pid) (instruction before))) new) where
+module _ (old mid new : Standing) (pid : ℕ) (before : Regs) (o : RoomOnly old mid) (w : Wrote mid (space_of_pid mid.kernel pid) (writes_of (run (own_answers mid pid) (instruction before))) new) where
   abbrev ws : List ByteWrite
   ws = writes_of (run (own_answers mid pid) (instruction before))
 
@@ -81,17 +81,17 @@ module _ (old mid new : Standing) (pid : ℕ) (before : Regs) (o : RoomOnly old 
   was r e = sym (room_answers old mid pid before o) ∙ e
 
   pub journal_same : new.kernel.journal ≡ old.kernel.journal
-  journal_same = ap (λ (m : Standing). m.kernel.journal) w.machine ∙ (writes_same ws mid.kernel (space_held mid.kernel pid)).journal ∙ ap (λ (m : Standing). m.kernel.journal) o.only
+  journal_same = ap (λ (m : Standing). m.kernel.journal) w.machine ∙ (writes_same ws mid.kernel (space_of_pid mid.kernel pid)).journal ∙ ap (λ (m : Standing). m.kernel.journal) o.only
 
   pub lends_still : CanGoOn new → CanLend mid.kernel pid → CanLend new.kernel pid
-  lends_still = wrote_lends mid new pid (space_held mid.kernel pid) ws w.machine
+  lends_still = wrote_lends mid new pid (space_of_pid mid.kernel pid) ws w.machine
 
   module _ (clear : old.kernel.place.due ≡ []) (a : answer_of (run (own_answers mid pid) (instruction before)) ≡ steps.Done) (last : Standing) (after : Regs)
       (e : after ≡ registers_after before (run (own_answers mid pid) (instruction before))) (step : last.kernel ≡ ran_by new.kernel pid after (Ran pid 1)) where
     pub ran_goes_on : last ≡ record new { kernel = last.kernel; room = None } → Continues old last 1
     ran_goes_on rest =
         let made : Continues old mid 0 = room_continues old mid o.made clear o.only in
-        let written : Continues mid new 0 = writes_continue mid new (space_held mid.kernel pid) ws made.clear w.machine in
+        let written : Continues mid new 0 = writes_continue mid new (space_of_pid mid.kernel pid) ws made.clear w.machine in
         continues_from old mid last 1 made
         (continues_from mid new last 1 written
         (ran_continues new last pid after written.clear
@@ -105,8 +105,8 @@ module _ (old mid new : Standing) (pid : ℕ) (before : Regs) (o : RoomOnly old 
         instruction_led A s old holds i image pid now p x before r same last.kernel d.0 (was (Ok d.0) d.1) d.2
         (step ∙ ap (λ (g : Regs). ran_by new.kernel pid g (Ran pid 1)) (e ∙ ap (registers_after before) d.1)
         ∙ ap (λ (m : Standing). ran_by m.kernel pid d.0.regs (Ran pid 1)) w.machine
-        ∙ ap (λ (y : Result Effect Refused). ran_by (writes_in mid.kernel (space_held mid.kernel pid) (writes_of y)) pid d.0.regs (Ran pid 1)) d.1
-        ∙ ap (λ (k : Kernel). ran_by (writes_in k (space_held k pid) d.0.writes) pid d.0.regs (Ran pid 1)) room)
+        ∙ ap (λ (y : Result Effect Refused). ran_by (writes_in mid.kernel (space_of_pid mid.kernel pid) (writes_of y)) pid d.0.regs (Ran pid 1)) d.1
+        ∙ ap (λ (k : Kernel). ran_by (writes_in k (space_of_pid k pid) d.0.writes) pid d.0.regs (Ran pid 1)) room)
 
 -- Where it isn't, by what it came to in a machine that is as it was but for the room.
 

@@ -29,11 +29,11 @@ use Rattle.steady_laws.specs.Sizing.{BreakComes, StopsBreak}
 use Rattle.steady_laws.specs.Starting.{ExecComes, StopsExec}
 use Rattle.steady_laws.specs.Waiting.{wait_answer}
 use Rattle.steady_laws.specs.Writing.{StopsOut}
-use Rattle.steady_laws.specs.Growth.{space_held}
+use Rattle.steady_laws.specs.Growth.{space_of_pid}
 
 -- what a process reads of its space, over the frames
 abbrev pub own_answers : Standing → ℕ → Answers
-own_answers m pid = kernel_answers m.kernel (space_held m.kernel pid)
+own_answers m pid = kernel_answers m.kernel (space_of_pid m.kernel pid)
 
 -- the fork answered, and the pages that were due are copied
 pub record ForkComes (old new : Standing) (pid : ℕ) (regs : Regs) (holds : Option (List NamedFile)) (i j : Option (List ℕ)) : Type 0 where

@@ -7,7 +7,7 @@ ghost use Rattle.user_vax.specs.Instruction.{instruction, answer_of, registers_a
 ghost use Rattle.machine_state.specs.Going.{CanGoOn};
 ghost use Rattle.machine_state.specs.Joined.{instructions_in, last_says, IsFullFor};
 ghost use Rattle.machine_state.specs.UserMemory.{CanLend, Wrote, kernel_answers};
-ghost use Rattle.steady_laws.specs.Growth.{space_held};
+ghost use Rattle.steady_laws.specs.Growth.{space_of_pid};
 ghost use Rattle.proc_run.specs.Stretch.{Leaves};
 
 use machine_state::Machine;
@@ -48,7 +48,7 @@ pub fn completes(alloc: Global, m: &mut Machine, pid: u32, regs: &Regs) -> Resul
     requires ready { CanGoOn m.old }
     requires lends { CanLend m.old.kernel pid }
     ensures value { IfOk result
-        (λ done. (done ≡ true) ↔ (answer_of (run (kernel_answers m.old.kernel (space_held m.old.kernel pid)) (instruction regs.now)) ≡ Stepped.Done)) }
+        (λ done. (done ≡ true) ↔ (answer_of (run (kernel_answers m.old.kernel (space_of_pid m.old.kernel pid)) (instruction regs.now)) ≡ Stepped.Done)) }
     ensures same { m.new ≡ m.old }
 {
     dry_run::completes(alloc, &m.memory(pid), regs)
@@ -58,10 +58,10 @@ pub fn completes(alloc: Global, m: &mut Machine, pid: u32, regs: &Regs) -> Resul
 pub fn attempt(m: &mut Machine, pid: u32, regs: &mut Regs) -> Stepped
     requires ready { CanGoOn m.old }
     requires lends { CanLend m.old.kernel pid }
-    ensures answer { result ≡ answer_of (run (kernel_answers m.old.kernel (space_held m.old.kernel pid)) (instruction regs.old)) }
-    ensures registers { regs.new ≡ registers_after regs.old (run (kernel_answers m.old.kernel (space_held m.old.kernel pid)) (instruction regs.old)) }
-    ensures wrote { Wrote m.old (space_held m.old.kernel pid)
-        (writes_of (run (kernel_answers m.old.kernel (space_held m.old.kernel pid)) (instruction regs.old))) m.new }
+    ensures answer { result ≡ answer_of (run (kernel_answers m.old.kernel (space_of_pid m.old.kernel pid)) (instruction regs.old)) }
+    ensures registers { regs.new ≡ registers_after regs.old (run (kernel_answers m.old.kernel (space_of_pid m.old.kernel pid)) (instruction regs.old)) }
+    ensures wrote { Wrote m.old (space_of_pid m.old.kernel pid)
+        (writes_of (run (kernel_answers m.old.kernel (space_of_pid m.old.kernel pid)) (instruction regs.old))) m.new }
     ensures only { Leaves result m.old m.new }
     ensures goes_on { CanGoOn m.new }
 {

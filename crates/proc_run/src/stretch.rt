@@ -3,7 +3,7 @@ ghost use Rattle.std.specs.Prelude.{◌+◌, ◌<◌, ◌≤◌, ◌^◌, false}
 ghost use Rattle.flat_state.specs.Journal.{instructions_of};
 ghost use Rattle.machine_state.specs.Going.{CanGoOn};
 ghost use Rattle.machine_state.specs.UserMemory.{CanLend, Wrote, kernel_answers};
-ghost use Rattle.steady_laws.specs.Growth.{space_held};
+ghost use Rattle.steady_laws.specs.Growth.{space_of_pid};
 ghost use Rattle.proc_run.specs.Runs.{IsSteady};
 ghost use Rattle.proc_run.specs.Stretch.{GoesOr, StretchOf, RanOn};
 
@@ -46,8 +46,8 @@ fn carry_on(m: &mut Machine, pid: u32, regs: &mut Regs, most: u32) -> u32
     requires ready { CanGoOn m.old }
     requires lends { CanLend m.old.kernel pid }
     ensures few { result ≤ most }
-    ensures carried { StretchOf (kernel_answers m.old.kernel (space_held m.old.kernel pid)) regs.old result regs.new
-        (λ ws. Wrote m.old (space_held m.old.kernel pid) ws m.new) }
+    ensures carried { StretchOf (kernel_answers m.old.kernel (space_of_pid m.old.kernel pid)) regs.old result regs.new
+        (λ ws. Wrote m.old (space_of_pid m.old.kernel pid) ws m.new) }
     ensures goes_on { CanGoOn m.new }
 {
     stretch(&mut m.memory(pid), regs, most)

@@ -78,10 +78,10 @@ pub record HasRun (A : Inputs) (entries : ℕ) (m : Standing) (ran : Result (Uni
   pub runs : m.kernel.stopped ≡ false → IsRunning m
 
 -- there the machine runs on
-abbrev pub RunsOn : Standing → Result (Unit {0}) Unfinished → Type 0
-RunsOn m (Ok done) = IsRunning m
-RunsOn m (Err (Stopped stops.JournalFull)) = IsRunning m
-RunsOn m (Err _) = Unit {0}
+abbrev pub StaysRunning : Standing → Result (Unit {0}) Unfinished → Type 0
+StaysRunning m (Ok done) = IsRunning m
+StaysRunning m (Err (Stopped stops.JournalFull)) = IsRunning m
+StaysRunning m (Err _) = Unit {0}
 
 -- the run is finished, and these are its references, which are few enough to be asked about
 pub record HasReferences (A : Inputs) (pages : List Page) : Type 0 where

@@ -13,7 +13,7 @@ ghost use Rattle.io_edge.specs.Octets.{AreOctetFiles};
 ghost use Rattle.owner_lines.specs.Owners.{owners_lines};
 ghost use Rattle.run_command.specs.Machines.{journal_entries};
 ghost use Rattle.reference_commands.specs.Answering.{blank_swap};
-ghost use Rattle.reference_commands.specs.InMemory.{file_of, inputs_with, AreOpened, IsRunnable, HasRun, RunsOn, EndsRun, EndsAnswer, AllDiffer};
+ghost use Rattle.reference_commands.specs.InMemory.{file_of, inputs_with, AreOpened, IsRunnable, HasRun, StaysRunning, EndsRun, EndsAnswer, AllDiffer};
 ghost use Rattle.reference_commands.specs.declared.question.Question.TheVariants as questions;
 
 use crate::copying::files_of;
@@ -97,7 +97,7 @@ fn owners_at_end<'a>(
     machine: &Machine,
     ran: Result<(), Unfinished>,
 ) -> Result<Vec<u8>, Fault<'a>>
-    requires running { RunsOn machine.now ran }
+    requires running { StaysRunning machine.now ran }
     ensures ends { (A : Inputs) (entries : ℕ) → HasRun A entries machine.now ran → EndsAnswer (questions.Owners entries) A (ending_of result) }
 {
     match ran {

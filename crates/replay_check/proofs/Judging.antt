@@ -17,7 +17,8 @@ use Rattle.replay_check.specs.declared.replaying.Last.TheVariants as lasts
 use Rattle.flat_machine.specs.Machine.{entries_of, state_if, entries_if}
 use Rattle.replay_check.specs.Judging.{is_other, refused_in, begins, IsAt, IsVerdict}
 
-free_last : (o : Option Entry) (pid : ℕ) (es : List Entry) (e : Entry) → IsBetween o → (is_refused o pid ≡ false) × (due o pid es ≡ es) × (may_follow o e ≡ true)
+free_last : (o : Option Entry) (pid : ℕ) (es : List Entry) (e : Entry) → IsBetween o
+    → (is_refused o pid ≡ false) × (due o pid es ≡ es) × (may_follow o e ≡ true)
 free_last None pid es e free = (refl, refl, refl)
 free_last (Some (entries.Event x0)) pid es e free = (refl, refl, refl)
 free_last (Some (entries.Turn x0)) pid es e free = (refl, refl, refl)

@@ -37,8 +37,8 @@ pub record IsJudged (words : List (List ℕ)) (read : Read) (entries : List Entr
   pub verdict : FirstBadIs images (first_images (image_names words) words) entries bad
 
 -- the transcript's entries are a run of the flat machine over these images, and the output is the line that says so
-abbrev pub IsRun : List (List ℕ) → Read → List ℕ → Type 0
-IsRun words read output = (entries : List Entry) × IsJudged words read entries None × (output ≡ run_line (length entries))
+abbrev pub IsFlatRun : List (List ℕ) → Read → List ℕ → Type 0
+IsFlatRun words read output = (entries : List Entry) × IsJudged words read entries None × (output ≡ run_line (length entries))
 
 -- the transcript's entries are no run of the flat machine over these images: so many of the first are the fewest that are none
 abbrev pub IsNoRun : List (List ℕ) → Read → ℕ → Type 0
@@ -55,7 +55,7 @@ LacksImage read why = IsGood read × (read.images ≡ Err why)
 -- How the replay of the transcript of this name over the images of these words ends, by what is read. The transcript
 -- comes first, then the images in their order, then the verdict.
 abbrev pub EndsReplay : List ℕ → List (List ℕ) → Read → Faults → Ending → Type 0
-EndsReplay name words read f (Ok output) = NoFaults f × IsRun words read output
+EndsReplay name words read f (Ok output) = NoFaults f × IsFlatRun words read output
 EndsReplay name words read f (Err (Absent absent)) =
     ((absent.now ≡ name) × (read.transcript ≡ Err unreads.Absent)) ⊎ LacksImage read (absent.now, unreads.Absent)
 EndsReplay name words read f (Err (NotImage file reason)) = LacksImage read (file.now, unreads.NotImage reason)

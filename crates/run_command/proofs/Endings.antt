@@ -80,8 +80,8 @@ module _ (A : Inputs) (es : List Entry) (image : List ℕ) (after : Option (List
   fault_flat (NoSpace pid) e = none_flat e.0.0
   fault_flat _ e = absurd e
 
-pub ended_flat : (seen : Seen) (A : Inputs) (es : List Entry) (image : List ℕ) (r : RunEnding) → A.limit ≤ MOST_LIMIT → HaveNumbers es → RunEnded seen A es image r
-    → (traced : Bool) → IsFlatText A traced es
+pub ended_flat : (seen : Seen) (A : Inputs) (es : List Entry) (image : List ℕ) (r : RunEnding) → A.limit ≤ MOST_LIMIT → HaveNumbers es
+    → RunEnded seen A es image r → (traced : Bool) → IsFlatText A traced es
 ended_flat seen A es image (Ok done) limit numbers e traced = made_flat A es image seen.swap_after limit numbers traced e.state e.made
 ended_flat seen A es image (Err NoMemory) limit numbers (inl (calm, inl none)) traced = none_flat A es image seen.swap_after limit numbers traced none.0
 ended_flat seen A es image (Err NoMemory) limit numbers (inl (calm, inr starved)) traced = made_flat A es image seen.swap_after limit numbers traced starved.state starved.made

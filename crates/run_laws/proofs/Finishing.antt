@@ -32,7 +32,7 @@ use Rattle.run_model.specs.Next.{when, or_else, due_unit, under, pid_if, next_re
 use Rattle.run_model.specs.Kinds.{ProcessRuns}
 use Rattle.run_model.specs.Lawful.{Follows, Reaches, IsFinished}
 use Rattle.run_laws.specs.Flowing.{Awaits, WaitsBy, Flows}
-use Rattle.run_laws.specs.Running.{IsRun, IsReady, IsIdle}
+use Rattle.run_laws.specs.Running.{IsRun, ReadyToStep, IsIdle}
 use Rattle.run_laws.proofs.Refusals.{HasEntry}
 use Rattle.run_laws.proofs.Acts.{Stepper, stepper}
 use Rattle.run_laws.proofs.Flows.{acts_some, on_steps, on_running, runs_next, has_some}
@@ -217,7 +217,7 @@ unit_below A s u h l = go (counted_flat u (next_is_unit A s u h) (flat_or u))
   where
     go : (counted u ≡ 0) ⊎ ((pid : ℕ) × (process_of_entry u ≡ Some pid) × (counted u ≤ 1)) → (after A s u).count ≤ A.limit
     go (inl e) = let c = after_count A s u in omega (arith, e, l)
-    go (inr (pid, e, k)) = let c = after_count A s u in let r : IsReady A s pid = unit_ready A s u pid h e in let b = r.below in omega (arith, k)
+    go (inr (pid, e, k)) = let c = after_count A s u in let r : ReadyToStep A s pid = unit_ready A s u pid h e in let b = r.below in omega (arith, k)
 
 pub units_below : (A : Inputs) (us : List Entry) (s t : State) → Follows A s us t → s.count ≤ A.limit → t.count ≤ A.limit
 units_below A [] s t f l = subst (λ (x : State). x.count ≤ A.limit) f l

@@ -22,7 +22,7 @@ use Rattle.run_model.specs.Lawful.{Follows, Reaches, IsLawful}
 use Rattle.run_model.proofs.NextUnits.{kind_of}
 use Rattle.std.proofs.lemmas.Bool.{and_parts}
 use Rattle.run_laws.specs.Standing.{IsAllowed}
-use Rattle.run_laws.specs.Running.{IsRun, CanRun, IsReady}
+use Rattle.run_laws.specs.Running.{IsRun, CanRun, ReadyToStep}
 use Rattle.run_laws.proofs.Flows.{Acted, Settles, Refuses, Steps, acted, steps_own, on_steps, on_running}
 use Rattle.run_laws.proofs.Plain.{zero_flat, copy_flat, serve_flat, move_flat, put_flat, mark_flat}
 use Rattle.run_laws.proofs.Units.{Good, kind_good}
@@ -82,17 +82,17 @@ on_below A s (marks.Turn p since) pid true g =
     (and_parts (can_step s.point.flat pid) (nat_lt s.count A.limit && nat_lt s.count (since + turn_instructions)) g.1).1).0
 on_below A s _ pid now g = absurd g
 
-pub unit_ready : (A : Inputs) (s : State) (u : Entry) (pid : ℕ) → next_unit A s ≡ Some u → process_of_entry u ≡ Some pid → IsReady A s pid
+pub unit_ready : (A : Inputs) (s : State) (u : Entry) (pid : ℕ) → next_unit A s ≡ Some u → process_of_entry u ≡ Some pid → ReadyToStep A s pid
 unit_ready A s u pid h e = go (kind_of A s u h)
   where
-    none : process_of_entry u ≡ None → IsReady A s pid
+    none : process_of_entry u ≡ None → ReadyToStep A s pid
     none n = absurd (let z : None ≡ Some pid = sym n ∙ e in cc)
 
     same : (p : ℕ) → Some p ≡ Some pid → p ≡ pid
     same p k = cc
 
-    ready : (p : ℕ) (now : Bool) → ProcessRuns A s p now → wanted A s ≡ None → p ≡ pid → IsReady A s pid
-    ready p now r w i = subst (IsReady A s) i (record {
+    ready : (p : ℕ) (now : Bool) → ProcessRuns A s p now → wanted A s ≡ None → p ≡ pid → ReadyToStep A s pid
+    ready p now r w i = subst (ReadyToStep A s) i (record {
       steps = on_steps A s s.mark p now r.on;
       resident = r.resident;
       clear = r.clear;
@@ -100,12 +100,12 @@ unit_ready A s u pid h e = go (kind_of A s u h)
       below = on_below A s s.mark p now r.on;
     })
 
-    acts : (p : ℕ) (now : Bool) → ProcessRuns A s p now → wanted A s ≡ None → Acted A s p u → IsReady A s pid
+    acts : (p : ℕ) (now : Bool) → ProcessRuns A s p now → wanted A s ≡ None → Acted A s p u → ReadyToStep A s pid
     acts p now r w (Settles i) = none (ap process_of_entry i)
     acts p now r w (Refuses i) = ready p now r w (same p (ap process_of_entry (sym i) ∙ e))
     acts p now r w (Steps f g i) = ready p now r w (same p (sym (steps_own A s.point p u i) ∙ e))
 
-    go : Kind A s u → IsReady A s pid
+    go : Kind A s u → ReadyToStep A s pid
     go (Acts p now r w a) = acts p now r w (acted A s p u a)
     go (Fills q due e i) = none (ap process_of_entry i ∙ zero_flat s.place q)
     go (Brings q parent due e i) = none (ap process_of_entry (unit_is s.place parent true u i).1 ∙ serve_flat s.place parent)

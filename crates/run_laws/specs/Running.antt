@@ -40,7 +40,7 @@ pub record CanRun (A : Inputs) (hs : Holdings) : Type 0 where
   pub pieces : start_held A ≡ Ok hs
 
 -- A process that makes a flat entry can step, is in, and all pages that it touches are valid.
-pub record IsReady (A : Inputs) (s : State) (pid : ℕ) : Type 0 where
+pub record ReadyToStep (A : Inputs) (s : State) (pid : ℕ) : Type 0 where
   pub steps : can_step s.point.flat pid ≡ true
   pub resident : is_out s.place pid ≡ false
   pub clear : s.place.due ≡ []

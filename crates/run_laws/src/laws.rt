@@ -14,7 +14,7 @@ ghost use Rattle.register_laws.specs.Whole.{EachWhole};
 ghost use Rattle.flat_model.specs.Touched.{touched};
 ghost use Rattle.run_model.specs.Wanted.{wanted, locked};
 ghost use Rattle.run_laws.specs.Standing.{IsAllowed};
-ghost use Rattle.run_laws.specs.Running.{IsRun, CanRun, IsReady, IsIdle};
+ghost use Rattle.run_laws.specs.Running.{IsRun, CanRun, ReadyToStep, IsIdle};
 
 /// What stands of a run: at its start, after each next unit, after each list of next units, and so at each state that
 /// a run reaches. Each frame and each block has one owner; at most 16 transfers are in flight, each with a page; the
@@ -30,7 +30,7 @@ pub fn runs_stand()
 /// step, is in, and all of whose touched pages are valid, while fewer instructions than the limit are counted.
 pub fn units_allowed()
     ensures allowed { (A : Inputs) (s : State) (u : Entry) → IsRun A s → next_unit A s ≡ Some u → IsAllowed s.place u }
-    ensures ready { (A : Inputs) (s : State) (u : Entry) (pid : ℕ) → next_unit A s ≡ Some u → process_of_entry u ≡ Some pid → IsReady A s pid }
+    ensures ready { (A : Inputs) (s : State) (u : Entry) (pid : ℕ) → next_unit A s ≡ Some u → process_of_entry u ≡ Some pid → ReadyToStep A s pid }
 {}
 
 /// A journal that next units make is a run of the flat machine to the state's point, with the state's count and

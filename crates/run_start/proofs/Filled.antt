@@ -18,10 +18,10 @@ use Rattle.machine_state.specs.Calls.{due_and_parent}
 use Rattle.machine_state.specs.Files.{AreImages}
 use Rattle.machine_state.specs.Machine.{Standing}
 use Rattle.machine_state.specs.Sourced.{ImageNamed}
-use Rattle.steady_laws.specs.Copying.{IsCopyFirst, CopiesPage, StopsPage, GoesOn}
+use Rattle.steady_laws.specs.Copying.{IsCopyFirst, CopiesPage, StopsPage, OnceCopied}
 use Rattle.steady_laws.specs.Filling.{IsStartFirst, FillsStart, StopsStart}
 use Rattle.steady_laws.specs.LastMoves.{last_moves}
-use Rattle.steady_laws.specs.Ready.{RunsOn, RunsDue, Continues}
+use Rattle.steady_laws.specs.Ready.{CountsOn, RunsDue, Continues}
 use Rattle.steady_laws.specs.Sizes.{KeptAtStop}
 use Rattle.steady_laws.proofs.Lines.{fill_continues}
 use Rattle.steady_laws.proofs.Running.{runs_self, runs_both, continues}
@@ -83,13 +83,13 @@ room_one p q l = record { quarter = omega (arith, l); rest = omega (arith, l) }
 
 pub copy_fills : {A : Type 0} (r : Result A Stop) (page parent : Page) (o : Option Page) (old new : Standing) (holds : Option (List NamedFile))
     (i j : Option (List ℕ)) → o ≡ Some parent
-    → MatchResult r (λ x. CopiesPage page parent old new holds i j) (StopsPage page parent old new holds i j) → OnOk r (GoesOn page old new)
+    → MatchResult r (λ x. CopiesPage page parent old new holds i j) (StopsPage page parent old new holds i j) → OnOk r (OnceCopied page old new)
     → MatchResult r (λ x. FillsDue (due_of page o) old new holds i j) (StopsDue (due_of page o) old new holds i j)
 copy_fills r page parent o old new holds i j e m on =
     subst (λ (x : Option Page). MatchResult r (λ y. FillsDue (due_of page x) old new holds i j) (StopsDue (due_of page x) old new holds i j)) (sym e) (both r m on)
   where
-    both : {A : Type 0} (r : Result A Stop) → MatchResult r (λ x. CopiesPage page parent old new holds i j) (StopsPage page parent old new holds i j) → OnOk r (GoesOn page old new)
-        → MatchResult r (λ x. CopiesPage page parent old new holds i j × GoesOn page old new) (StopsPage page parent old new holds i j)
+    both : {A : Type 0} (r : Result A Stop) → MatchResult r (λ x. CopiesPage page parent old new holds i j) (StopsPage page parent old new holds i j) → OnOk r (OnceCopied page old new)
+        → MatchResult r (λ x. CopiesPage page parent old new holds i j × OnceCopied page old new) (StopsPage page parent old new holds i j)
     both (Ok x) m on = (m, on)
     both (Err stop) m on = m
 
@@ -104,7 +104,7 @@ pub due_filled : (d : Due) (ds : List Due) (old next : Standing) (holds : Option
     → old.kernel.place.due ≡ d ∷ ds → FillsDue d old next holds i j → RunsDue old next 0 ds
 due_filled (Start q) ds old next holds i j e f = fill_continues old next q ds holds i j e f
 due_filled (CopyOf q parent) ds old next holds i j e f =
-    let g : GoesOn q old next = f.1 in
+    let g : OnceCopied q old next = f.1 in
     record {
       on = record {
         params = g.params;
@@ -150,7 +150,7 @@ due_stops (CopyOf q parent) ds A s old new holds image j stop at e f = page_stop
 
 -- The machine goes on, but for what is due still, and next units led there.
 pub record FilledSoFar (old now : Standing) (holds later : Option (List NamedFile)) (i h : Option (List ℕ)) : Type 0 where
-  pub on : RunsOn old now 0
+  pub on : CountsOn old now 0
   pub low : last_moves now.kernel.journal ≤ last_moves old.kernel.journal
   pub files : later ≡ holds
   pub leads : (A : Inputs) (s : State) (image : List ℕ) → MachineAt A s old holds image → i ≡ Some image
@@ -168,7 +168,7 @@ filled_none old holds i = record {
 
 -- the machine stands where they led
 there : (A : Inputs) (s : State) (old now : Standing) (holds : Option (List NamedFile)) (image : List ℕ) (h : Option (List ℕ)) (ds : List Due)
-    → MachineAt A s old holds image → RunsOn old now 0
+    → MachineAt A s old holds image → CountsOn old now 0
     → (led : LeadsTo A s old.kernel image ds now.kernel h) → MachineAt A led.state now holds led.leads.behind
 there A s old now holds image h ds at on led = record {
   at = led_at A s led.state old.kernel now.kernel image h led.units at.at led.leads;

@@ -5,7 +5,7 @@ use Rattle.vm_facts.specs.declared.stop.Stop.{Stop}
 use Rattle.io_edge.specs.FileHolding.{NamedFile}
 use Rattle.page_model.specs.Placement.{Placement, Due, Start, CopyOf}
 use Rattle.machine_state.specs.Machine.{Standing}
-use Rattle.steady_laws.specs.Copying.{CopiesPage, StopsPage, GoesOn}
+use Rattle.steady_laws.specs.Copying.{CopiesPage, StopsPage, OnceCopied}
 use Rattle.steady_laws.specs.Filling.{FillsStart, StopsStart}
 
 -- what is due of a page, by its parent's page, where it is to be copied from one
@@ -21,7 +21,7 @@ pub record IsDueFirst (p : Placement) (d : Due) : Type 0 where
 -- a new stack page is filled; or a child's page is copied, and the machine goes on
 abbrev pub FillsDue : Due → Standing → Standing → Option (List NamedFile) → Option (List ℕ) → Option (List ℕ) → Type 0
 FillsDue (Start q) old new holds before after = FillsStart q old new holds before after
-FillsDue (CopyOf q parent) old new holds before after = CopiesPage q parent old new holds before after × GoesOn q old new
+FillsDue (CopyOf q parent) old new holds before after = CopiesPage q parent old new holds before after × OnceCopied q old new
 
 -- or the run stops there
 abbrev pub StopsDue : Due → Standing → Standing → Option (List NamedFile) → Option (List ℕ) → Option (List ℕ) → Stop → Type 0

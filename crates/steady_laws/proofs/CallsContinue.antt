@@ -33,7 +33,7 @@ use Rattle.proc_calls.specs.Waiting.{is_child, is_ended_child, wait_by_records, 
 use Rattle.proc_calls.specs.Writing.{IsWriteReply}
 use Rattle.proc_calls.proofs.Writes.{may_write}
 use Rattle.proc_calls.proofs.Callers.{caller_there, still_calls}
-use Rattle.proc_calls.specs.Growth.{space_held, with_pieces}
+use Rattle.proc_calls.specs.Growth.{space_of_pid, with_pieces}
 use Rattle.steady_laws.specs.Calls.{called_count, RepliesNone, AnswersNone}
 use Rattle.steady_laws.specs.Ready.{Continues}
 use Rattle.steady_laws.proofs.Transfers.{settled_on}
@@ -168,9 +168,9 @@ pub record Left (old new : Standing) (pid : ℕ) : Type 0 where
   pub numbers : new.kernel.next_sid ≡ old.kernel.next_sid
 
 pub left_settled : (old new : Standing) (pid : ℕ) (holds : Option (List NamedFile)) (i j : Option (List ℕ)) → IsCaller old pid
-    → HasSettled old new (space_held old.kernel pid) holds i j → Left old new pid
+    → HasSettled old new (space_of_pid old.kernel pid) holds i j → Left old new pid
 left_settled old new pid holds i j c h =
-    let e = settled_on (sources old holds) (space_held old.kernel pid) old new i j c.clear h.settled h.rest in
+    let e = settled_on (sources old holds) (space_of_pid old.kernel pid) old new i j c.clear h.settled h.rest in
     record {
       on = e.on;
       may = record {

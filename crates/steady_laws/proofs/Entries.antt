@@ -28,7 +28,7 @@ use Rattle.proc_calls.specs.Callers.{IsCaller}
 use Rattle.proc_calls.specs.Growth.{with_pieces}
 use Rattle.proc_calls.proofs.Callers.{caller_there}
 use Rattle.steady_laws.specs.Entries.{LeavesNone}
-use Rattle.steady_laws.specs.Ready.{RunsOn, Continues}
+use Rattle.steady_laws.specs.Ready.{CountsOn, Continues}
 use Rattle.steady_laws.proofs.Placements.{Keeps, keeps_self, keeps_both, touch_keeps, change_frames, change_due}
 use Rattle.steady_laws.proofs.Journals.{last_plain, last_ran, counts_one}
 use Rattle.steady_laws.proofs.Running.{entry_on}
@@ -69,7 +69,7 @@ entered_behind old new pid regs e change s h =
 
 -- where a process is there that made an entry, the machine runs on
 pub entered_runs : (old new : Standing) (pid : ℕ) (regs : Regs) (e : Entry) (change : Change) → IsSome (proc_of old.kernel pid)
-    → Entered old new pid regs e change → RunsOn old new (counted e)
+    → Entered old new pid regs e change → CountsOn old new (counted e)
 entered_runs old new pid regs e change s h =
     let b = entered_behind old new pid regs e change s h in
     record {

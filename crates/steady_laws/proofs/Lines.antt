@@ -22,7 +22,7 @@ use Rattle.swapper.specs.declared.Turned.{Turned}
 use Rattle.swapper.specs.declared.Turned.TheVariants as turns
 use Rattle.swapper.specs.Putting.{PutOut}
 use Rattle.swapper.specs.Turns.{Turns}
-use Rattle.steady_laws.specs.Ready.{RunsOn, Continues, RunsDue, RunsMoved}
+use Rattle.steady_laws.specs.Ready.{CountsOn, Continues, RunsDue, RunsMoved}
 use Rattle.steady_laws.proofs.Placements.{entry_frames, forces_due, first_gone}
 use Rattle.steady_laws.proofs.Journals.{last_plain, counts_one}
 use Rattle.steady_laws.proofs.Running.{continues_self, entry_on, runs_both, made_counted, made_frames, made_clear, units_run}
@@ -94,7 +94,7 @@ turn_continues (turns.Out pid) old new holds i j d h = out_continues old new pid
 
 -- after a fill the pages are due that were after this one, and the last entry counts no moves
 pub record Filled (page : Page) (old new : Standing) : Type 0 where
-  pub on : RunsOn old new 0
+  pub on : CountsOn old new 0
   pub due : new.kernel.place.due ≡ due_after old.kernel.place.due page
   pub last : last_moves new.kernel.journal ≡ 0
 

@@ -9,24 +9,24 @@ use Rattle.machine_state.specs.Machine.{Standing}
 use Rattle.swapper.specs.LastMoves.{last_moves}
 use Rattle.swapper.specs.Made.{Ground, MadeBy, Made, Makes}
 use Rattle.swapper.proofs.PagingUnitsUnits.{unit_place, unit_journal}
-use Rattle.steady_laws.specs.Ready.{RunsOn, Continues}
+use Rattle.steady_laws.specs.Ready.{CountsOn, Continues}
 use Rattle.steady_laws.specs.Sizes.{SameSizes}
 use Rattle.steady_laws.proofs.Placements.{entry_frames, entry_clear}
 use Rattle.steady_laws.proofs.Journals.{counts_one}
 
 -- Machines.
 
-pub continues : (old new : Standing) (n : ℕ) → RunsOn old new n → new.kernel.place.due ≡ []
+pub continues : (old new : Standing) (n : ℕ) → CountsOn old new n → new.kernel.place.due ≡ []
     → last_moves new.kernel.journal ≤ last_moves old.kernel.journal → Continues old new n
 continues old new n on clear low = record { params = on.params; images = on.images; clear = clear; frames = on.frames; low = low; counted = on.counted }
 
-pub runs_on : (old new : Standing) (n : ℕ) → Continues old new n → RunsOn old new n
+pub runs_on : (old new : Standing) (n : ℕ) → Continues old new n → CountsOn old new n
 runs_on old new n c = record { params = c.params; images = c.images; frames = c.frames; counted = c.counted }
 
-pub runs_self : (m : Standing) → RunsOn m m 0
+pub runs_self : (m : Standing) → CountsOn m m 0
 runs_self m = record { params = refl; images = refl; frames = refl; counted = omega arith }
 
-pub runs_both : (a b c : Standing) (m n : ℕ) → RunsOn a b m → RunsOn b c n → RunsOn a c (m + n)
+pub runs_both : (a b c : Standing) (m n : ℕ) → CountsOn a b m → CountsOn b c n → CountsOn a c (m + n)
 runs_both a b c m n s t = record {
   params = t.params ∙ s.params;
   images = t.images ∙ s.images;
@@ -90,7 +90,7 @@ made_clear g (e ∷ us) k l i j c m =
     made_clear g us m.next l m.image j
     (ap (λ (p : Placement). p.due) (unit_place g e k m.next i m.made) ∙ entry_clear g.locked (length (append k.journal e)) k.place e c) m.rest
 
-pub units_run : (g : Ground) (us : List Entry) (old new : Standing) (i j : Option (List ℕ)) → Makes g us old new i j → RunsOn old new 0
+pub units_run : (g : Ground) (us : List Entry) (old new : Standing) (i j : Option (List ℕ)) → Makes g us old new i j → CountsOn old new 0
 units_run g us old new i j m = record {
   params = m.beside.params;
   images = m.beside.images;

@@ -44,7 +44,7 @@ use Rattle.proc_calls.specs.Growth.{with_pieces}
 use Rattle.proc_calls.specs.Making.{is_below_limit, finds_pieces}
 use Rattle.proc_calls.specs.Starting.{HasStarted}
 use Rattle.proc_calls.proofs.Callers.{caller_there}
-use Rattle.steady_laws.specs.Ready.{RunsOn, Continues}
+use Rattle.steady_laws.specs.Ready.{CountsOn, Continues}
 use Rattle.steady_laws.proofs.Placements.{exec_filled}
 use Rattle.steady_laws.proofs.Journals.{counts_one}
 use Rattle.steady_laws.proofs.Running.{continues, runs_on, runs_both, made_counted}
@@ -104,7 +104,7 @@ filled_by images k regs e image top (Some p) s d =
 
 -- once the pieces were found, with the process there
 record ExecOn (asked new : Standing) : Type 0 where
-  on : RunsOn asked new 1
+  on : CountsOn asked new 1
   filled : due_after new.kernel.place.due (Stack asked.kernel.next_sid 0) ≡ []
 
 exec_on : (asked new : Standing) (pid : ℕ) (after : Regs) (image : ℕ) (top : List ℕ) → MayEnter asked pid
@@ -127,7 +127,7 @@ start_continues old between new pid after image top holds later h i j c s f =
     exec_on (with_pieces went s.finds.found) between pid after image top (found_enters went s.finds.found pid l.may)
     (subst (λ (m : Standing). Answered m between pid system_calls.Execve after (Exec image top)) s.finds.step s.answer) in
     let z = start_fills between new (Stack old.kernel.next_sid 0) later i j f in
-    let started : RunsOn went between 1 = record { params = x.on.params; images = x.on.images; frames = x.on.frames; counted = x.on.counted } in
+    let started : CountsOn went between 1 = record { params = x.on.params; images = x.on.images; frames = x.on.frames; counted = x.on.counted } in
     continues old new 1 (runs_both old between new 1 0 (runs_both old went between 0 1 (runs_on old went 0 l.on) started) z.on)
     (z.due ∙ ap (λ (n : ℕ). due_after between.kernel.place.due (Stack n 0)) (sym l.numbers) ∙ x.filled)
     (let last = z.last in omega arith)

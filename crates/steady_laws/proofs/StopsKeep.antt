@@ -29,7 +29,7 @@ use Rattle.proc_calls.specs.Touches.{AccessStops}
 use Rattle.proc_calls.specs.FaultFillAccessAccess.{Access}
 use Rattle.proc_calls.specs.FaultFillAccessAccess.TheVariants as accesses
 use Rattle.proc_calls.specs.Answered.{Entered, GoneOut, StopsOnce, StopsReading}
-use Rattle.proc_calls.specs.Growth.{space_held}
+use Rattle.proc_calls.specs.Growth.{space_of_pid}
 use Rattle.proc_calls.specs.Copying.{CopiesPage, StopsPage, StopsCopying}
 use Rattle.proc_calls.specs.Filling.{StopsStart, StopsFilling}
 use Rattle.proc_calls.specs.Forking.{HasNewSpace, ForkAnswered, StopsForking}
@@ -285,7 +285,7 @@ moving_same old new pid pages holds i j stop h = elim h [
   | inl x ↦ plain_same old new pid pages stop x.0
   | inr x ↦ elim x.1 [
     | inl y ↦ settling_same old new _ holds i j stop y
-    | inr y ↦ once_before old new stop (λ m. HasSettled old m (space_held old.kernel pid) holds i j) (λ m f. beside_same old m f.rest) y
+    | inr y ↦ once_before old new stop (λ m. HasSettled old m (space_of_pid old.kernel pid) holds i j) (λ m f. beside_same old m f.rest) y
   ]
 ]
 

@@ -9,7 +9,7 @@ use Rattle.swapper.specs.LastMoves.{last_moves}
 
 -- A call left the machine so: its sizes and images are those of before, it has as many frames, and so many more instructions
 -- are counted.
-pub record RunsOn (old new : Standing) (n : ℕ) : Type 0 where
+pub record CountsOn (old new : Standing) (n : ℕ) : Type 0 where
   pub params : new.params ≡ old.params
   pub images : new.images ≡ old.images
   pub frames : length new.kernel.place.holds ≡ length old.kernel.place.holds
@@ -27,13 +27,13 @@ pub record Continues (old new : Standing) (n : ℕ) : Type 0 where
 
 -- it goes on, but that these pages are due
 pub record RunsDue (old new : Standing) (n : ℕ) (ds : List Due) : Type 0 where
-  pub on : RunsOn old new n
+  pub on : CountsOn old new n
   pub due : new.kernel.place.due ≡ ds
   pub low : last_moves new.kernel.journal ≤ last_moves old.kernel.journal
 
 -- it goes on, but that the last entry counts so many more moves of the hands at most
 pub record RunsMoved (old new : Standing) (moves : ℕ) : Type 0 where
-  pub on : RunsOn old new 0
+  pub on : CountsOn old new 0
   pub clear : new.kernel.place.due ≡ []
   pub most : last_moves new.kernel.journal ≤ last_moves old.kernel.journal + moves
 

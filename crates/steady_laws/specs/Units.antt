@@ -4,11 +4,11 @@ use Rattle.vm_facts.specs.declared.entry.Entry.{Entry}
 use Rattle.machine_state.specs.Machine.{Standing}
 use Rattle.swapper.specs.LastMoves.{last_moves}
 use Rattle.swapper.specs.Made.{Ground, Makes}
-use Rattle.steady_laws.specs.Ready.{RunsOn, Continues}
+use Rattle.steady_laws.specs.Ready.{CountsOn, Continues}
 
 -- whatever is due, and however many moves of the hands they are
 abbrev pub UnitsRunOn : Type 0
-UnitsRunOn = (g : Ground) (us : List Entry) (old new : Standing) (i j : Option (List ℕ)) → Makes g us old new i j → RunsOn old new 0
+UnitsRunOn = (g : Ground) (us : List Entry) (old new : Standing) (i j : Option (List ℕ)) → Makes g us old new i j → CountsOn old new 0
 
 -- where nothing is due, and the last entry counts no more moves than before
 abbrev pub UnitsContinue : Type 0

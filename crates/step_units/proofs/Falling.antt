@@ -35,7 +35,7 @@ use Rattle.machine_state.specs.Machine.{Standing}
 use Rattle.machine_state.specs.UserMemory.{kernel_answers}
 use Rattle.swapper.specs.Made.{ground}
 use Rattle.proc_calls.specs.FaultFillAccessSpecs.{access_at}
-use Rattle.proc_calls.specs.Growth.{space_held, access_to, growth, growth_found}
+use Rattle.proc_calls.specs.Growth.{space_of_pid, access_to, growth, growth_found}
 use Rattle.proc_calls.specs.FaultFillAccessAccess.TheVariants as accesses
 use Rattle.run_model.specs.Act.{loses_pages, loses_in, loses_if, settled, must_settle}
 use Rattle.run_model.specs.Next.{next_unit}
@@ -66,7 +66,7 @@ pub record Falls (A : Inputs) (s : State) (m : Standing) (pid : ℕ) (p : Proces
   pub below : address_in x address ≡ spots.Below
   pub step : step_at A s.point pid ≡ grown_step A.images s.point.flat p x address
   pub number : p.pid ≡ pid
-  pub held : space_held m.kernel pid ≡ x.sid
+  pub held : space_of_pid m.kernel pid ≡ x.sid
   pub size : data_count m.kernel.place x.sid ≡ data_pages_of x
   pub finds : fits A.swap_blocks s.holdings (asks A s.point.flat pid) ≡ is_ok (growth_found m pid (pages_down_to address))
 
@@ -111,7 +111,7 @@ falls A s m holds image pid now p x address r e = record {
     step : step_at A s.point pid ≡ grown_step A.images F p x address
     step = step_known A s pid now p x (Err (Below address)) i ready ∙ ap (λ (b : Bool). step_of A.images F p x b (Err (Below address))) unrefused
 
-    held : space_held m.kernel pid ≡ x.sid
+    held : space_of_pid m.kernel pid ≡ x.sid
     held = same_space A s m.kernel image pid now p x at i
 
     size : data_count m.kernel.place x.sid ≡ data_pages_of x

@@ -21,7 +21,7 @@ use Rattle.machine_state.specs.Done.{sources}
 use Rattle.machine_state.specs.Settled.{StopsSettling}
 use Rattle.swapper.proofs.Stopping.{stays_starved, full_here}
 use Rattle.swapper.specs.Stops.{StaysPut, StaysStarved, StaysReturned, LeftBy, StopsBefore}
-use Rattle.proc_calls.specs.Growth.{space_held}
+use Rattle.proc_calls.specs.Growth.{space_of_pid}
 use Rattle.proc_calls.specs.Leaving.{HasSettled, HasLeftBy, HasLeft, StopsLeaving}
 use Rattle.proc_calls.proofs.Leaving.{GoesOn, settled_goes}
 use Rattle.run_model.specs.State.{State}
@@ -113,7 +113,7 @@ module _ (A : Inputs) (s : State) (old : Standing) (holds : Option (List NamedFi
   lends : is_borrower s.point.flat.processes pid ≡ has_lender old.kernel.processes pid
   lends = borrows A s old.kernel image pid m.at
 
-  held : space_held old.kernel pid ≡ x.sid
+  held : space_of_pid old.kernel pid ≡ x.sid
   held = held_is old.kernel pid p x (is_kept A s old.kernel image pid now p x m.at g.running)
 
   -- a space of its own is settled first
@@ -148,7 +148,7 @@ module _ (A : Inputs) (s : State) (old : Standing) (holds : Option (List NamedFi
     by false e h =
         let led : IsSettled A s old between holds image j pid now p x =
         has_settled A s old holds image pid now p x m g.running (leaving e) between j (subst (λ (sid : ℕ). HasSettled old between sid holds (Some image) j) held h) in
-        let on : GoesOn old.kernel between.kernel = settled_goes (sources old holds) (space_held old.kernel pid) old.kernel between.kernel (Some image) j h.settled in
+        let on : GoesOn old.kernel between.kernel = settled_goes (sources old holds) (space_of_pid old.kernel pid) old.kernel between.kernel (Some image) j h.settled in
         let alone : has_lender between.kernel.processes pid ≡ false = ap (λ (ps : List Proc). has_lender ps pid) on.processes ∙ e in
         record {
           units = led.units;
@@ -180,7 +180,7 @@ module _ (A : Inputs) (s : State) (old : Standing) (holds : Option (List NamedFi
       → StopsLeaving old new pid holds (Some image) j stop → StopLeads A s old.kernel image stop new j
   stops_leaving u new j stop b e own h = elim h [ inl y ↦ settling y.0 y.1 | inr y ↦ back y.0 y.1 y.2 ]
     where
-      settling : has_lender old.kernel.processes pid ≡ false → StopsSettling (space_held old.kernel pid) old new holds (Some image) j stop
+      settling : has_lender old.kernel.processes pid ≡ false → StopsSettling (space_of_pid old.kernel pid) old new holds (Some image) j stop
           → StopLeads A s old.kernel image stop new j
       settling none y =
           stops_settling A s old holds image pid now p x m g.running (leaving none) new j stop

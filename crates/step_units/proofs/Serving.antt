@@ -19,7 +19,7 @@ use Rattle.kernel_laws.proofs.Machine.Processes.{Stepping, stepping}
 use Rattle.machine_state.specs.Machine.{Standing}
 use Rattle.swapper.specs.Made.{Ground, ground}
 use Rattle.swapper.specs.Stops.{StopsAt, SpoilsBy}
-use Rattle.proc_calls.specs.Growth.{space_held}
+use Rattle.proc_calls.specs.Growth.{space_of_pid}
 use Rattle.proc_calls.specs.Serving.{ServesTo, StopsServing}
 use Rattle.proc_calls.specs.Touches.{TouchedAs, TouchedNow, StopsAtPage}
 use Rattle.proc_calls.specs.Units.{is_flying, NeedsFrame}
@@ -45,7 +45,7 @@ use Rattle.page_laws.proofs.Moves.Cases.{frameless_not, serving_starved}
 
 -- The space that the machine has for a process is the one that the process holds.
 pub same_space : (A : Inputs) (s : State) (k : Kernel) (image : List ℕ) (pid : ℕ) (now : Bool) (p : Process) (x : Space) → At A s k image
-    → IsRunning A s pid now p x → space_held k pid ≡ x.sid
+    → IsRunning A s pid now p x → space_of_pid k pid ≡ x.sid
 same_space A s k image pid now p x at r =
     let i : Stepping k s.point.flat pid p x = stepping k s.point.flat pid p x at.stands.keeps.coupled.tables r.here r.holds in
     ap space_of_life (ap life_of_proc i.kept ∙ i.life)

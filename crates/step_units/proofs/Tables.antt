@@ -19,7 +19,7 @@ use Rattle.kernel_laws.proofs.Machine.Tables.{kept_at, outline_at}
 use Rattle.machine_state.specs.Calls.{life_in}
 use Rattle.proc_calls.specs.Callers.{regs_of, regs_by, parent_of, parent_by}
 use Rattle.proc_calls.specs.Waiting.{is_child, is_ended_child, exit_status as kept_status, wait_by_records as kept_wait, wait_answer as wait_among}
-use Rattle.proc_calls.specs.Growth.{space_held}
+use Rattle.proc_calls.specs.Growth.{space_of_pid}
 use Rattle.run_model.specs.State.{State}
 use Rattle.run_units.specs.Serving.{At}
 use Rattle.run_units.specs.Touching.{IsRunning}
@@ -61,7 +61,7 @@ parent_is k pid p x h = ap parent_by h.there ∙ ap (λ (o : Outline). o.parent)
 pub life_is : (k : Kernel) (pid : ℕ) (p : Process) (x : Space) → IsKept k pid p x → life_in k pid ≡ HoldsSpace x.sid
 life_is k pid p x h = ap life_of_proc h.there ∙ h.life
 
-pub held_is : (k : Kernel) (pid : ℕ) (p : Process) (x : Space) → IsKept k pid p x → space_held k pid ≡ x.sid
+pub held_is : (k : Kernel) (pid : ℕ) (p : Process) (x : Space) → IsKept k pid p x → space_of_pid k pid ≡ x.sid
 held_is k pid p x h = ap space_of_life (life_is k pid p x h)
 
 -- How many processes there are.

@@ -8,22 +8,22 @@ use Rattle.page_model.specs.Pages.{numbered}
 use Rattle.kernel_model.specs.Kernel.{Kernel, Proc}
 use Rattle.kernel_model.specs.ChangeStep.{life_of_proc}
 use Rattle.machine_state.specs.Machine.{processes_of}
-use Rattle.machine_state.specs.Lives.{space_by, space_held}
+use Rattle.machine_state.specs.Lives.{space_by, space_of_record}
 use Rattle.machine_state.proofs.Lives.{holds_space}
 use Rattle.swapper.specs.Putting.{HoldsThere}
 
 pub held_sid : (k : Kernel) (ps : List Record) (next pid sid : ℕ) → k.processes ≡ processes_of ps next → HoldsThere k pid sid
-    → space_held (find pid ps) ≡ Some sid
+    → space_of_record (find pid ps) ≡ Some sid
 held_sid k ps next pid sid e h =
     holds_space ps next pid sid (sym (ap (λ (qs : List Proc). life_of_proc (numbered (λ (p : Proc). p.pid) pid qs)) e) ∙ h.holds)
 
 pub none_held : (k : Kernel) (ps : List Record) (next pid : ℕ) → k.processes ≡ processes_of ps next → (sid : ℕ) × HoldsThere k pid sid → find pid ps ≡ None → ⊥
-none_held k ps next pid e h n = let x = sym (ap space_held n) ∙ held_sid k ps next pid h.0 e h.1 in absurd cc
+none_held k ps next pid e h n = let x = sym (ap space_of_record n) ∙ held_sid k ps next pid h.0 e h.1 in absurd cc
 
 pub state_held : (k : Kernel) (ps : List Record) (next pid : ℕ) (p : Record) → k.processes ≡ processes_of ps next
     → (sid : ℕ) × HoldsThere k pid sid → find pid ps ≡ Some p
     → (sid : ℕ) × HoldsThere k pid sid × (p.state ≡ lives.Holds sid)
-state_held k ps next pid p e h f = (h.0, h.1, by p.state h.0 (sym (ap space_held f) ∙ held_sid k ps next pid h.0 e h.1))
+state_held k ps next pid p e h f = (h.0, h.1, by p.state h.0 (sym (ap space_of_record f) ∙ held_sid k ps next pid h.0 e h.1))
   where
     by : (l : RecordLife) (sid : ℕ) → space_by l ≡ Some sid → l ≡ lives.Holds sid
     by lives.New sid x = absurd cc

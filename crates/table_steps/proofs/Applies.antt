@@ -21,7 +21,7 @@ use Rattle.kernel_model.specs.ChangeStep.{space_of_life, gave_back, life_of_proc
 use Rattle.kernel_tables.specs.declared.tables.Tables.{Tables}
 use Rattle.kernel_tables.specs.declared.named.Named.{Named}
 use Rattle.kernel_tables.specs.Alike.{AreRecords}
-use Rattle.kernel_tables.specs.Lives.{space_by, space_held}
+use Rattle.kernel_tables.specs.Lives.{space_by, space_of_record}
 use Rattle.kernel_tables.specs.Machine.{life_shown, processes_of, lists_of, images_of, image_shown}
 use Rattle.kernel_tables.specs.Changing.{Resized, EnteredImage, Forked, HasProcesses, HasOneMore, HasChanged, HasEnded, HoldsOrNew}
 use Rattle.kernel_tables.specs.Changing.{processes_in, residents_in, process_in, life_at}
@@ -48,7 +48,7 @@ shown_held _ = refl
 space_is : (t : Tables) (pid : ℕ) (p : Proc) → process_in t pid ≡ Some p → space_at t pid ≡ life_held p.life
 space_is t pid p e =
     let r : HasRecord t.processes pid p = record_of t.processes t.next_pid pid p e in
-    ap space_held r.there ∙ shown_held r.found.state ∙ ap (λ (q : Proc). life_held q.life) r.shows
+    ap space_of_record r.there ∙ shown_held r.found.state ∙ ap (λ (q : Proc). life_held q.life) r.shows
 
 held_one : (l : Life) (sid : ℕ) → Some sid ≡ life_held l → l ≡ HoldsSpace sid
 held_one (HoldsSpace n) sid e = ap HoldsSpace (sym (same_Some sid n e))

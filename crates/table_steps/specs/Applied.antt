@@ -17,7 +17,7 @@ use Rattle.kernel_model.specs.ChangeStep.{space_of_life, gave_back, procs_after,
 use Rattle.kernel_tables.specs.declared.tables.Tables.{Tables}
 use Rattle.kernel_tables.specs.Rising.{sids_of}
 use Rattle.kernel_tables.specs.Alike.{AreRecords}
-use Rattle.kernel_tables.specs.Lives.{space_held}
+use Rattle.kernel_tables.specs.Lives.{space_of_record}
 use Rattle.kernel_tables.specs.View.{starts_of, placement_of, frames_of}
 use Rattle.kernel_tables.specs.Tied.{Tied}
 use Rattle.kernel_tables.specs.Known.{Known}
@@ -49,7 +49,7 @@ LeftSpace t u (Some sid) = GaveUp t u sid
 
 -- the space in which the process of this number runs, if it has one
 abbrev pub space_at : Tables → ℕ → Option ℕ
-space_at t pid = space_held (find pid t.processes)
+space_at t pid = space_of_record (find pid t.processes)
 
 -- The change.
 

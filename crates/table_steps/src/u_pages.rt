@@ -5,7 +5,7 @@ ghost use Rattle.proc_table.specs.Records.{find};
 ghost use Rattle.swap_book.specs.declared.Owner.TheVariants.{U as UOwner};
 ghost use Rattle.swap_book.specs.Holdings.{block_in};
 ghost use Rattle.page_model.specs.Pages.{numbered};
-ghost use Rattle.kernel_tables.specs.Lives.{space_held};
+ghost use Rattle.kernel_tables.specs.Lives.{space_of_record};
 ghost use Rattle.kernel_tables.specs.Swapping.{MovedRecord, IsUPage};
 
 use kernel_tables::{Tables, record_of, u_page};
@@ -53,7 +53,7 @@ pub fn u_block(tables: &Tables, pid: u32) -> u32
 
 /// The u page of a process that holds a space.
 pub fn u_page_of(tables: &Tables, pid: u32) -> [u8; 1024]
-    requires holds { (sid : ℕ) × (space_held (find pid tables.now.processes) ≡ Some sid) × IsSome (numbered (λ s. s.sid) sid tables.now.spaces) }
+    requires holds { (sid : ℕ) × (space_of_record (find pid tables.now.processes) ≡ Some sid) × IsSome (numbered (λ s. s.sid) sid tables.now.spaces) }
     ensures { IsUPage tables.now pid result }
 {
     let process = tables.process(pid);

@@ -19,7 +19,7 @@ use Rattle.kernel_laws.proofs.Machine.Tables.{kept_at, outline_at}
 use Rattle.machine_state.specs.Machine.{Standing}
 use Rattle.machine_state.specs.UserMemory.{kernel_answers, page_in}
 use Rattle.machine_state.proofs.FlatMemory.{memory_covers}
-use Rattle.proc_calls.specs.Growth.{space_held}
+use Rattle.proc_calls.specs.Growth.{space_of_pid}
 use Rattle.proc_calls.specs.Reading.{AreNamed}
 use Rattle.flat_model.specs.Step.{written_process}
 use Rattle.flat_model.specs.Touched.{page_of_access, step_accesses, distinct, touched, touched_by, touched_in, touched_if}
@@ -48,7 +48,7 @@ use Rattle.touched_pages.proofs.Nexts.{NextOf, step_next}
 -- It holds its space, and over the frames this answers as the flat one does, or misses.
 
 held_is : (A : Inputs) (s : State) (k : Kernel) (image : List ℕ) (pid : ℕ) (now : Bool) (p : Process) (x : Space) → At A s k image
-    → IsRunning A s pid now p x → space_held k pid ≡ x.sid
+    → IsRunning A s pid now p x → space_of_pid k pid ≡ x.sid
 held_is A s k image pid now p x at r =
     let flat : FlatState = s.point.flat in
     let tables : SameTables k flat = at.stands.keeps.coupled.tables in
@@ -113,7 +113,7 @@ module _ (A : Inputs) (s : State) (now : Bool) (m : Standing) (pid : ℕ) (regs 
   none_so_far = record { valid = tt; first = none_first all_pages }
 
   abbrev pub shown_pages : List Page → Answers
-  shown_pages ps = shown_in k (space_held k pid) ps
+  shown_pages ps = shown_in k (space_of_pid k pid) ps
 
   -- the writes of the instruction over these pages, which are none
   abbrev pub writes : List Page → List ByteWrite
@@ -127,7 +127,7 @@ module _ (A : Inputs) (s : State) (now : Bool) (m : Standing) (pid : ℕ) (regs 
   spots : SameSpots k x
   spots = same_spots A s k r.image pid p x r.at r.running.here r.running.holds
 
-  held : space_held k pid ≡ x.sid
+  held : space_of_pid k pid ≡ x.sid
   held = held_is A s k r.image pid now p x r.at r.running
 
   next_so_far : (ps : List Page) → AreSoFar ps
@@ -219,14 +219,14 @@ module _ (A : Inputs) (s : State) (now : Bool) (m : Standing) (pid : ℕ) (regs 
   -- what the machine found, by the pages that it was shown
   pub found_so_far : (n : Standing) (ps qs : List Page) (o : Option Page) → n ≡ m → qs ≡ ps
       → ((F : FlatState) (y : Process) (z : Space) → AreNamed A.images n.images
-      → o ≡ valid_only n.kernel.place (page_missed n.kernel pid (first_missed A.images F y z (shown_in n.kernel (space_held n.kernel pid) qs) regs)))
+      → o ≡ valid_only n.kernel.place (page_missed n.kernel pid (first_missed A.images F y z (shown_in n.kernel (space_of_pid n.kernel pid) qs) regs)))
       → o ≡ valid_only k.place (beyond_so_far ps)
   found_so_far n ps qs o same list h =
       let F : FlatState = apply_writes flat p.pid (writes ps) in
       let y : Process = written_process p x (writes ps) in
       let z : Space = puts x (writes ps) in
       (subst (λ (i : Standing). AreNamed A.images i.images
-      → o ≡ valid_only i.kernel.place (page_missed i.kernel pid (first_missed A.images F y z (shown_in i.kernel (space_held i.kernel pid) ps) regs))) same
+      → o ≡ valid_only i.kernel.place (page_missed i.kernel pid (first_missed A.images F y z (shown_in i.kernel (space_of_pid i.kernel pid) ps) regs))) same
       (subst (λ (pages : List Page). AreNamed A.images n.images
-      → o ≡ valid_only n.kernel.place (page_missed n.kernel pid (first_missed A.images F y z (shown_in n.kernel (space_held n.kernel pid) pages) regs)))
+      → o ≡ valid_only n.kernel.place (page_missed n.kernel pid (first_missed A.images F y z (shown_in n.kernel (space_of_pid n.kernel pid) pages) regs)))
       list (h F y z))) r.named

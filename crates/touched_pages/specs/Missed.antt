@@ -16,7 +16,7 @@ use Rattle.page_model.specs.Pages.{is_valid}
 use Rattle.page_model.specs.Placement.{Placement, state_of}
 use Rattle.kernel_model.specs.Kernel.{Kernel}
 use Rattle.machine_state.specs.UserMemory.{page_in, kernel_answers}
-use Rattle.proc_calls.specs.Growth.{space_held}
+use Rattle.proc_calls.specs.Growth.{space_of_pid}
 
 -- the byte for which a computation missed
 abbrev pub missed_byte : {A : Type 0} → Result A Refused → Option ℕ
@@ -47,7 +47,7 @@ first_missed images F p s memory regs = missed_behind images F p s memory (run m
 -- the page of that byte
 abbrev pub page_missed : Kernel → ℕ → Option ℕ → Option Page
 page_missed k pid None = None
-page_missed k pid (Some address) = page_in k.place (space_held k pid) address
+page_missed k pid (Some address) = page_in k.place (space_of_pid k pid) address
 
 -- the page, by whether it is valid
 abbrev pub valid_by : Bool → Page → Option Page
@@ -61,4 +61,4 @@ valid_only p (Some q) = valid_by (is_valid (state_of p q)) q
 
 -- an instruction of the process with these registers writes nothing over the frames
 abbrev pub WritesNothing : Kernel → ℕ → Regs → Type 0
-WritesNothing k pid regs = writes_of (run (kernel_answers k (space_held k pid)) (instruction regs)) ≡ []
+WritesNothing k pid regs = writes_of (run (kernel_answers k (space_of_pid k pid)) (instruction regs)) ≡ []

@@ -6,7 +6,7 @@ ghost use Rattle.flat_state.specs.Space.{Space};
 ghost use Rattle.flat_model.specs.Calls.{reply_of, refusal_of};
 ghost use Rattle.machine_state.specs.Going.{CanGoOn};
 ghost use Rattle.machine_state.specs.UserMemory.{CanLend};
-ghost use Rattle.proc_calls.specs.Growth.{space_held};
+ghost use Rattle.proc_calls.specs.Growth.{space_of_pid};
 ghost use Rattle.proc_calls.specs.Reading.{AreNamed};
 ghost use Rattle.touched_pages.specs.Shown.{shown_in};
 
@@ -44,7 +44,8 @@ pub fn read_call(
     requires ready { CanGoOn m.old }
     requires lends { CanLend m.old.kernel pid }
     ensures value { (known : List NamedImage) (F : FlatState) (p : Process) (s : Space) → AreNamed known m.old.images
-        → IfOk result (λ asked. asked ≡ refusal_of (run (shown_in m.old.kernel (space_held m.old.kernel pid) pages.now) (reply_of known F p s call regs.now))) }
+        → IfOk result (λ asked. asked ≡ refusal_of (run (shown_in m.old.kernel (space_of_pid m.old.kernel pid) pages.now)
+        (reply_of known F p s call regs.now))) }
     ensures same { m.new ≡ m.old }
 {
     let shown = Shown {

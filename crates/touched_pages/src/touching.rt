@@ -10,7 +10,7 @@ ghost use Rattle.machine_state.specs.Going.{CanGoOn, IsRunning};
 ghost use Rattle.machine_state.specs.UserMemory.{CanLend, page_in};
 ghost use Rattle.run_model.specs.State.{State};
 ghost use Rattle.run_model.specs.Wanted.{locked};
-ghost use Rattle.proc_calls.specs.Growth.{space_held};
+ghost use Rattle.proc_calls.specs.Growth.{space_of_pid};
 ghost use Rattle.proc_calls.specs.Reading.{AreNamed};
 ghost use Rattle.touched_pages.specs.Shown.{shown_in};
 ghost use Rattle.touched_pages.specs.Missed.{missed_byte, missed_by_call, first_missed, page_missed, valid_only, WritesNothing};
@@ -30,8 +30,8 @@ fn try_step(m: &mut Machine, pid: u32, regs: &mut Regs, pages: &[Page]) -> Stepp
     requires ready { CanGoOn m.old }
     requires lends { CanLend m.old.kernel pid }
     requires quiet { WritesNothing m.old.kernel pid regs.old }
-    ensures answer { result ≡ answer_of (run (shown_in m.old.kernel (space_held m.old.kernel pid) pages.now) (instruction regs.old)) }
-    ensures registers { regs.new ≡ registers_after regs.old (run (shown_in m.old.kernel (space_held m.old.kernel pid) pages.now) (instruction regs.old)) }
+    ensures answer { result ≡ answer_of (run (shown_in m.old.kernel (space_of_pid m.old.kernel pid) pages.now) (instruction regs.old)) }
+    ensures registers { regs.new ≡ registers_after regs.old (run (shown_in m.old.kernel (space_of_pid m.old.kernel pid) pages.now) (instruction regs.old)) }
     ensures same { m.new ≡ m.old }
 {
     let mut shown = Shown {
@@ -62,7 +62,7 @@ fn missed_by_call(
     requires ready { CanGoOn m.old }
     requires lends { CanLend m.old.kernel pid }
     ensures value { (known : List NamedImage) (F : FlatState) (p : Process) (s : Space) → AreNamed known m.old.images
-        → IfOk result (λ byte. byte ≡ missed_by_call known F p s (shown_in m.old.kernel (space_held m.old.kernel pid) pages.now) regs.now call) }
+        → IfOk result (λ byte. byte ≡ missed_by_call known F p s (shown_in m.old.kernel (space_of_pid m.old.kernel pid) pages.now) regs.now call) }
     ensures same { m.new ≡ m.old }
 {
     match call {
@@ -84,7 +84,7 @@ fn first_missed(
     requires lends { CanLend m.old.kernel pid }
     requires quiet { WritesNothing m.old.kernel pid regs.now }
     ensures value { (known : List NamedImage) (F : FlatState) (p : Process) (s : Space) → AreNamed known m.old.images
-        → IfOk result (λ byte. byte ≡ first_missed known F p s (shown_in m.old.kernel (space_held m.old.kernel pid) pages.now) regs.now) }
+        → IfOk result (λ byte. byte ≡ first_missed known F p s (shown_in m.old.kernel (space_of_pid m.old.kernel pid) pages.now) regs.now) }
     ensures same { m.new ≡ m.old }
 {
     let mut after = *regs;
@@ -101,7 +101,7 @@ fn first_missed(
 fn page_at(m: &mut Machine, pid: u32, address: u32) -> Option<Page>
     requires ready { CanGoOn m.old }
     requires lends { CanLend m.old.kernel pid }
-    ensures page { result ≡ page_in m.old.kernel.place (space_held m.old.kernel pid) address }
+    ensures page { result ≡ page_in m.old.kernel.place (space_of_pid m.old.kernel pid) address }
     ensures same { m.new ≡ m.old }
 {
     m.memory(pid).page_of(address)
@@ -120,7 +120,7 @@ fn next_page(
     requires quiet { WritesNothing m.old.kernel pid regs.now }
     ensures value { (known : List NamedImage) (F : FlatState) (p : Process) (s : Space) → AreNamed known m.old.images
         → IfOk result
-        (λ page. page ≡ page_missed m.old.kernel pid (first_missed known F p s (shown_in m.old.kernel (space_held m.old.kernel pid) pages.now) regs.now)) }
+        (λ page. page ≡ page_missed m.old.kernel pid (first_missed known F p s (shown_in m.old.kernel (space_of_pid m.old.kernel pid) pages.now) regs.now)) }
     ensures same { m.new ≡ m.old }
 {
     match first_missed(alloc, m, pid, regs, pages)? {
@@ -160,7 +160,7 @@ fn next_valid(
     requires quiet { WritesNothing m.old.kernel pid regs.now }
     ensures value { (known : List NamedImage) (F : FlatState) (p : Process) (s : Space) → AreNamed known m.old.images
         → IfOk result (λ page. page ≡ valid_only m.old.kernel.place
-        (page_missed m.old.kernel pid (first_missed known F p s (shown_in m.old.kernel (space_held m.old.kernel pid) pages.now) regs.now))) }
+        (page_missed m.old.kernel pid (first_missed known F p s (shown_in m.old.kernel (space_of_pid m.old.kernel pid) pages.now) regs.now))) }
     ensures same { m.new ≡ m.old }
 {
     let page = next_page(alloc, m, pid, regs, pages)?;

@@ -22,7 +22,7 @@ use Rattle.run_start.specs.Stepped.{StopLeads, LeadsFrom, StopsFrom}
 use Rattle.run_start.specs.Sizes.{KeptAtStop}
 use Rattle.run_start.specs.Starting.{AreAmong, StartsFrom}
 use Rattle.run_start.specs.Leading.{IsTold, machine_at_start}
-use Rattle.vm_core.specs.Cores.{Underway, GoesOn, InputsOf}
+use Rattle.vm_core.specs.Cores.{Underway, StandsUnderway, InputsOf}
 use Rattle.vm_core.specs.Starting.{CoreStarted, StartsRun, StopsStartingRun}
 use Rattle.vm_core.specs.Schedules.{IsBeforeLines, LinesFinished}
 use Rattle.vm_core.specs.Full.{RunFull, RunOver, RunStopsAt}
@@ -172,7 +172,7 @@ module _ (A : Inputs) (old : Underway) (numbers : List ℕ) (lines : List Event)
         d.none
 
     -- since there is no next unit
-    pub lines_over : (new : Underway) (j : Option (List ℕ)) → LeadsFrom (IsBeforeLines mid lines holds h) (LinesFinished mid new j) → GoesOn new → RunOver A new.machine image
+    pub lines_over : (new : Underway) (j : Option (List ℕ)) → LeadsFrom (IsBeforeLines mid lines holds h) (LinesFinished mid new j) → StandsUnderway new → RunOver A new.machine image
     lines_over new j f on =
         let d = f A started.state started.behind before_lines in
         over_run A started.holdings started.can first_few image is.room new j (started.units ++ d.units) d.state

@@ -37,7 +37,7 @@ use Rattle.journal_laws.specs.Leads.{Leads}
 use Rattle.run_start.specs.Leading.{machine_at_start}
 use Rattle.run_start.specs.Stepped.{StopLeads, StopsNext}
 use Rattle.journal_laws.proofs.Journals.{leads_follow, journal_lawful, journal_accounted, journal_economical, journal_image}
-use Rattle.vm_core.specs.Cores.{Underway, GoesOn}
+use Rattle.vm_core.specs.Cores.{Underway, StandsUnderway}
 use Rattle.vm_core.specs.Halting.{HaltsFor, SpoilsParts, SpoilsOldest, LeavesImage}
 use Rattle.vm_core.specs.Lawful.{IsJournalOf, RunFinished, RunHalted, RunStarved}
 use Rattle.vm_core.specs.Full.{StandsThere, StarvedThere, StoppedThere, LessThere, ReturnedThere, LeftThere, RunLeft, RunFull, RunOver}
@@ -97,7 +97,7 @@ finished_run A hs can few image room new j us t a none =
 -- where it is over the machine stands there
 pub over_run : (A : Inputs) (hs : Holdings) (can : CanRun A hs) (few : length A.first ≤ 64) (image : List ℕ) (room : 512 * A.swap_blocks ≤ length image)
     (new : Underway) (j : Option (List ℕ)) (us : List Entry) (t : State)
-    → Leads A (start A hs) (machine_at_start A hs) image us t new.machine.kernel j → next_unit A t ≡ None → GoesOn new → RunOver A new.machine image
+    → Leads A (start A hs) (machine_at_start A hs) image us t new.machine.kernel j → next_unit A t ≡ None → StandsUnderway new → RunOver A new.machine image
 over_run A hs can few image room new j us t a none on = record {
   state = t;
   made = made A hs can few image room us t new.machine.kernel j a;

@@ -26,7 +26,7 @@ pub record Underway : Type 0 where
   pub counted : ℕ
 
 -- What stands of a run between two calls, whatever the devices tell.
-pub record GoesOn (c : Underway) : Type 0 where
+pub record StandsUnderway (c : Underway) : Type 0 where
   pub steady : IsSteady c.machine
   pub counted : instructions_of c.machine.kernel.journal ≡ c.counted
 

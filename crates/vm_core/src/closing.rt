@@ -13,7 +13,7 @@ ghost use Rattle.proc_run.specs.Choosing.{turn_after};
 ghost use Rattle.proc_run.specs.Runs.{IsSteady};
 ghost use Rattle.proc_run.specs.Running.{CountsTo};
 ghost use Rattle.vm_core.specs.Steady.{StaysSteady};
-ghost use Rattle.vm_core.specs.Cores.{GoesOn};
+ghost use Rattle.vm_core.specs.Cores.{StandsUnderway};
 ghost use Rattle.vm_core.specs.Closing.{EndsPhase, CountsTurn, DueTurn, AllTaken, TurnAt, InTurn, TurnHad, LinesAre, Closed};
 ghost use Rattle.vm_core.specs.Accounts.{StopsAccountedFrom};
 
@@ -161,14 +161,14 @@ impl Core {
         files: &mut F,
         swap: &mut D,
     ) -> Result<(), Stop>
-        requires goes_on { GoesOn self.old }
+        requires goes_on { StandsUnderway self.old }
         requires area { self.old.machine.params.swap_blocks ≤ D.blocks swap.old }
         requires files { AreFiles self.old.machine.images (F.holds files.old) }
         ensures closes { OnOk result (LeadsFrom (AllTaken self.old (F.holds files.old) (D.image swap.old))
             (Closed self.old.machine self.new.machine (F.holds files.old) (D.image swap.new) self.new.counted)) }
         ensures stops { IfErr result
             (StopsAccountedFrom (AllTaken self.old (F.holds files.old) (D.image swap.old)) self.old.machine self.new.machine (D.image swap.new)) }
-        ensures goes_on { OnOk result (GoesOn self.new) }
+        ensures goes_on { OnOk result (StandsUnderway self.new) }
         ensures params { OnOk result (self.new.machine.params ≡ self.old.machine.params) }
         ensures images { OnOk result (self.new.machine.images ≡ self.old.machine.images) }
         ensures kept { IfErr result (KeptAtStop self.old.machine self.new.machine) }

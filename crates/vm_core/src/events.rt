@@ -9,7 +9,7 @@ ghost use Rattle.run_start.specs.Stepped.{LeadsFrom, StopsFrom};
 ghost use Rattle.proc_run.specs.Runs.{IsSteady};
 ghost use Rattle.proc_run.specs.Running.{CountsTo};
 ghost use Rattle.vm_core.specs.Steady.{HasFewMoves};
-ghost use Rattle.vm_core.specs.Cores.{GoesOn, LineDueAt, LineTaken, AskedAt, LineDone};
+ghost use Rattle.vm_core.specs.Cores.{StandsUnderway, LineDueAt, LineTaken, AskedAt, LineDone};
 ghost use Rattle.vm_core.specs.Accounts.{StopsAccountedFrom};
 
 use crate::lines::{audit, hands, interrupt, note, swapper};
@@ -81,7 +81,7 @@ impl Core {
         line: u32,
         e: Event,
     ) -> Result<Went, Stop>
-        requires goes_on { GoesOn self.old }
+        requires goes_on { StandsUnderway self.old }
         requires area { self.old.machine.params.swap_blocks ≤ D.blocks swap.old }
         requires files { AreFiles self.old.machine.images (F.holds files.old) }
         requires few { HasFewMoves e }
@@ -89,7 +89,7 @@ impl Core {
             (LineTaken self.old self.new (F.holds files.old) (D.image swap.new))) }
         ensures stops { IfErr result
             (StopsAccountedFrom (LineDueAt self.old line e (F.holds files.old) (D.image swap.old)) self.old.machine self.new.machine (D.image swap.new)) }
-        ensures goes_on { OnOk result (GoesOn self.new) }
+        ensures goes_on { OnOk result (StandsUnderway self.new) }
         ensures limit { IfOk result (λ went. (went ≡ Went.LimitReached) ↔ (self.new.machine.params.limit ≤ self.new.counted)) }
         ensures params { OnOk result (self.new.machine.params ≡ self.old.machine.params) }
         ensures images { OnOk result (self.new.machine.images ≡ self.old.machine.images) }

@@ -8,7 +8,7 @@ ghost use Rattle.machine_state.specs.Outside.{stop_of, TransfersPages};
 ghost use Rattle.run_start.specs.Sizes.{KeptAtStop};
 ghost use Rattle.run_start.specs.Starting.{StartsFrom};
 ghost use Rattle.run_start.specs.Stepped.{LeadsFrom, StopsFrom};
-ghost use Rattle.vm_core.specs.Cores.{GoesOn};
+ghost use Rattle.vm_core.specs.Cores.{StandsUnderway};
 ghost use Rattle.vm_core.specs.Starting.{IsFresh};
 ghost use Rattle.vm_core.specs.Schedules.{HaveFewMoves, IsBeforeLines, LinesWent, LinesFinished};
 ghost use Rattle.vm_facts.specs.declared.stop.Stop.{Stop as Halt};
@@ -46,7 +46,7 @@ fn take_lines<F: Files, D: SwapDev>(
     swap: &mut D,
     lines: &[Event],
 ) -> Result<Went, Stop>
-    requires goes_on { GoesOn core.old }
+    requires goes_on { StandsUnderway core.old }
     requires below { core.old.counted < core.old.machine.params.limit }
     requires area { core.old.machine.params.swap_blocks ≤ D.blocks swap.old }
     requires files { AreFiles core.old.machine.images (F.holds files.old) }
@@ -56,7 +56,7 @@ fn take_lines<F: Files, D: SwapDev>(
         (LinesWent core.old core.new went (length lines.now) (F.holds files.old) (D.image swap.new))) }
     ensures stops { IfErr result
         (StopsFrom (IsBeforeLines core.old lines.now (F.holds files.old) (D.image swap.old)) core.old.machine core.new.machine (D.image swap.new)) }
-    ensures goes_on { OnOk result (GoesOn core.new) }
+    ensures goes_on { OnOk result (StandsUnderway core.new) }
     ensures params { OnOk result (core.new.machine.params ≡ core.old.machine.params) }
     ensures images { OnOk result (core.new.machine.images ≡ core.old.machine.images) }
     ensures kept { IfErr result (KeptAtStop core.old.machine core.new.machine) }
@@ -80,13 +80,13 @@ fn finish<F: Files, D: SwapDev>(
     swap: &mut D,
     lines: &[Event],
 ) -> Result<(), Stop>
-    requires goes_on { GoesOn core.old }
+    requires goes_on { StandsUnderway core.old }
     requires below { core.old.counted < core.old.machine.params.limit }
     requires area { core.old.machine.params.swap_blocks ≤ D.blocks swap.old }
     requires files { AreFiles core.old.machine.images (F.holds files.old) }
     requires few { HaveFewMoves lines.now }
     requires count { length lines.now < 2 ^ 32 }
-    ensures goes_on { OnOk result (GoesOn core.new) }
+    ensures goes_on { OnOk result (StandsUnderway core.new) }
     ensures params { OnOk result (core.new.machine.params ≡ core.old.machine.params) }
     ensures images { OnOk result (core.new.machine.images ≡ core.old.machine.images) }
     ensures kept { IfErr result (KeptAtStop core.old.machine core.new.machine) }
@@ -128,7 +128,7 @@ fn run_through<F: Files, D: SwapDev>(
     ensures over { OnOk result
         ((A : Inputs) (image : List ℕ) → IsAskedOf A core.old.machine first.now lines.now (F.holds files.old) image → D.image swap.old ≡ Some image
         → RunOver A core.new.machine image) }
-    ensures goes_on { OnOk result (GoesOn core.new) }
+    ensures goes_on { OnOk result (StandsUnderway core.new) }
     ensures running { OnOk result (IsRunning core.new.machine) }
     ensures unmade_running { (pid : ℕ) → result ≡ Err (Unfinished.NoSpace pid) → IsRunning core.new.machine }
     ensures params { core.new.machine.params ≡ core.old.machine.params }
@@ -176,7 +176,7 @@ pub fn run_schedule<F: Files, D: SwapDev>(
     ensures over { OnOk result
         ((A : Inputs) (image : List ℕ) → IsAskedOf A core.old.machine first.now lines.now (F.holds files.old) image → D.image swap.old ≡ Some image
         → RunOver A core.new.machine image) }
-    ensures goes_on { OnOk result (GoesOn core.new) }
+    ensures goes_on { OnOk result (StandsUnderway core.new) }
     ensures running { OnOk result (IsRunning core.new.machine) }
     ensures unmade_running { (pid : ℕ) → result ≡ Err (Unfinished.NoSpace pid) → IsRunning core.new.machine }
     ensures left_running { core.new.machine.kernel.stopped ≡ false → IsRunning core.new.machine }

@@ -8,7 +8,7 @@ ghost use Rattle.machine_state.specs.Outside.{stop_of, TransfersPages};
 ghost use Rattle.run_start.specs.Sizes.{KeptAtStop};
 ghost use Rattle.run_start.specs.Starting.{AreAmong, StartsFrom, started_by};
 ghost use Rattle.run_start.specs.Leading.{IsTold};
-ghost use Rattle.vm_core.specs.Cores.{GoesOn};
+ghost use Rattle.vm_core.specs.Cores.{StandsUnderway};
 ghost use Rattle.vm_core.specs.Starting.{IsFresh, StartsRun, StopsStartingRun};
 
 use crate::run::Core;
@@ -39,7 +39,7 @@ impl Core {
         ensures starts { result ≡ Ok Started.Ok → StartsRun self.old self.new first.now (F.holds files.old) (D.image swap.old) (D.image swap.new) }
         ensures stops { (A : Inputs) (image : List ℕ) → IsTold A self.old.machine first.now (F.holds files.old) image → D.image swap.old ≡ Some image
             → IfErr result (λ stop. StopsStartingRun A self.new.machine image stop (D.image swap.new)) }
-        ensures goes_on { result ≡ Ok Started.Ok → GoesOn self.new }
+        ensures goes_on { result ≡ Ok Started.Ok → StandsUnderway self.new }
         ensures params { result ≡ Ok Started.Ok → self.new.machine.params ≡ self.old.machine.params }
         ensures images { result ≡ Ok Started.Ok → self.new.machine.images ≡ self.old.machine.images }
         ensures kept { IfErr result (KeptAtStop self.old.machine self.new.machine) }

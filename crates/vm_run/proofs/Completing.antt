@@ -18,7 +18,7 @@ use Rattle.reference_commands.specs.Seen.{Seen}
 use Rattle.reference_commands.specs.Machines.{journal_entries}
 use Rattle.reference_commands.specs.RunCommandEnds.{RunEnding, status_of, DevicesSuffice, IsCaused, IsJudged, EndsTold}
 use Rattle.reference_commands.specs.Loads.{load_numbers, IsLoadCaused}
-use Rattle.vm_run.specs.Complete.{IsSound, NoneRose, RunsComplete, LoadsComplete, ToldLoadsComplete}
+use Rattle.vm_run.specs.Complete.{IsWellTold, NoneRose, RunsComplete, LoadsComplete, ToldLoadsComplete}
 
 -- what was written whole has the status of its ending
 whole_status : (before after : Option (List ℕ)) (old new : ℕ) (text : List ℕ) (whole status : ℕ) → Writes before after old new text whole status
@@ -54,7 +54,7 @@ no_failed_image found why all fails =
 abbrev Left : RunEnding → List Entry → Type 0
 Left ending journal = (status_of ending ≡ 0) ⊎ ((status_of ending ≡ 9) ⊎ ((status_of ending ≡ 10) × (length journal ≡ journal_entries)))
 
-module _ (request : Request) (seen : Seen) (files : List NamedFile) (image : List ℕ) (journal : List Entry) (is : IsSound request seen files image) (none : NoneRose seen) where
+module _ (request : Request) (seen : Seen) (files : List NamedFile) (image : List ℕ) (journal : List Entry) (is : IsWellTold request seen files image) (none : NoneRose seen) where
   left : (ending : RunEnding) → IsCaused request seen journal ending → IsJudged request seen files ending → EndsTold request seen files journal image ending → Left ending journal
   left (Ok done) caused judged told = inl refl
   left (Err NoMemory) caused judged told = inr (inl refl)

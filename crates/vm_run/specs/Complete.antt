@@ -13,7 +13,7 @@ use Rattle.reference_commands.specs.RunCommandEnds.{DevicesSuffice, AllGood, Run
 use Rattle.reference_commands.specs.Loads.{load_numbers, Loads}
 
 -- Files and swap are told, the schedule, the images and the devices are good, and the first processes' pieces find their places.
-pub record IsSound (request : Request) (seen : Seen) (files : List NamedFile) (image : List ℕ) : Type 0 where
+pub record IsWellTold (request : Request) (seen : Seen) (files : List NamedFile) (image : List ℕ) : Type 0 where
   pub files_told : seen.files ≡ Some files
   pub swap_told : seen.swap_before ≡ Some image
   pub octets : AreOctetFiles files
@@ -36,7 +36,7 @@ IsComplete request seen status runs = (status ≡ 0) ⊎ ((status ≡ 9) ⊎ ((s
 abbrev pub RunsComplete : Type 0
 RunsComplete =
     (request : Request) (seen : Seen) (status : ℕ) (files : List NamedFile) (image : List ℕ) (runs : Runs request seen status)
-    → IsSound request seen files image → NoneRose seen → IsComplete request seen status runs
+    → IsWellTold request seen files image → NoneRose seen → IsComplete request seen status runs
 
 -- The same of a load, whose devices have the blocks that it needs.
 abbrev pub IsCompleteLoad : (number : ℕ) (seen : Seen) (status : ℕ) → Loads number seen status → Type 0

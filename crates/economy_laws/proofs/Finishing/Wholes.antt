@@ -22,7 +22,7 @@ use Rattle.run_model.specs.Lawful.{Follows, Reaches, IsLawful, IsFinished}
 use Rattle.run_model.proofs.Followed.{followed_once}
 use Rattle.run_model.proofs.After.{after_count}
 use Rattle.run_model.proofs.NextUnits.{kind_of}
-use Rattle.run_laws.specs.Running.{IsRun, CanRun, IsReady}
+use Rattle.run_laws.specs.Running.{IsRun, CanRun, ReadyToStep}
 use Rattle.run_laws.proofs.Flows.{Acted, Settles, Refuses, Steps, acted, steps_own}
 use Rattle.run_laws.proofs.Lawful.{next_is_unit}
 use Rattle.run_laws.proofs.Plain.{IsPaging, serve_paging, zero_paging, copy_paging, move_paging}
@@ -177,7 +177,7 @@ between_turns k A n l s images frames fewer later more w = stage_ends A (Within 
   where
     by : (t : State) (u : Entry) → Within A n l k t → next_unit A t ≡ Some u → Bounds A t u → Finishes A (after A t u)
     by t u x h (Counts c pid e) =
-        let r : IsReady A t pid = unit_ready A t u pid h e in
+        let r : ReadyToStep A t pid = unit_ready A t u pid h e in
         let a = after_count A t u in
         let b = counts_one u (next_is_unit A t u h) c in
         let d = r.below in

@@ -50,4 +50,5 @@ returns-in_err-swap_out-clause-kept g c =
     let stop = c.in_err-swap_out.field-0.0 in
     let x = c.in_err-swap_out.ensures.stopped in
     stops_on c.from_residual.result stop (KeptAtStop old new) c.from_residual.ensures.1
-    (kept_turning old new (g.F.Files.holds c.args.files.now) (g.D.SwapDev.image c.args.swap.now) (g.D.SwapDev.image c.swap_out.new.swap) (turns.Out c.args.pid) stop x.2.params x.2.images x)
+    (kept_turning old new (g.F.Files.holds c.args.files.now) (g.D.SwapDev.image c.args.swap.now) (g.D.SwapDev.image c.swap_out.new.swap)
+    (turns.Out c.args.pid) stop x.2.there.params x.2.there.images x)

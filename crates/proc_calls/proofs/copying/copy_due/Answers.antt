@@ -1,6 +1,6 @@
 use Rattle.std.proofs.Common.{sym, ◌∙◌, subst, arith, None}
 use Rattle.std.proofs.lemmas.Result.{err_from_is_err_and}
-use Rattle.proc_calls.specs.Copying.{AreCopiesFrom, IsCopyFirst, GoesOn}
+use Rattle.proc_calls.specs.Copying.{AreCopiesFrom, IsCopyFirst, OnceCopied}
 use Rattle.proc_calls.proofs.Copies.{room_for}
 use Rattle.proc_calls.proofs.CopiedPages.{FirstOf, first_of, copy_first, list_first, others_due, stops_first, fewer_due, area_next, files_next, copies_none, copies_one, copies_all, copied_all}
 use Rattle.machine_state.proofs.Transfers.{transfers_none, transfers_then}
@@ -51,7 +51,7 @@ loop-child-smaller g c =
     let now = c.loop-child.m in
     let next = c.copy_page.new.m in
     let child = c.in-Some.child in
-    let on : GoesOn child now next = c.in_ok-copy_page.ensures.on in
+    let on : OnceCopied child now next = c.in_ok-copy_page.ensures.on in
     let f : FirstOf c.args.parent now.kernel.place.due child = first_of c.args.parent now.kernel.place.due child so.due (sym c.due.ensures ∙ c.in-Some.is) in
     fewer_due now.kernel.place next.kernel.place c.args.parent child f on.due
 
@@ -61,7 +61,7 @@ loop-child-preserved g c =
     let now = c.loop-child.m in
     let next = c.copy_page.new.m in
     let child = c.in-Some.child in
-    let on : GoesOn child now next = c.in_ok-copy_page.ensures.on in
+    let on : OnceCopied child now next = c.in_ok-copy_page.ensures.on in
     let f : FirstOf c.args.parent now.kernel.place.due child = first_of c.args.parent now.kernel.place.due child so.due (sym c.due.ensures ∙ c.in-Some.is) in
     let zero = on.last in
     record {

@@ -17,6 +17,6 @@ returns-then-is_borrower-clause-left g c =
 
 pub returns-clause-stops : goal.returns-clause-stops
 returns-clause-stops g c =
-    own_stops c.settle.result c.args.m.now c.settle.new.self c.args.pid c.space_held-sid.result (g.F.Files.holds c.args.files.now) (g.D.SwapDev.image c.args.swap.now)
+    own_stops c.settle.result c.args.m.now c.settle.new.self c.args.pid c.space_of_pid-sid.result (g.F.Files.holds c.args.files.now) (g.D.SwapDev.image c.args.swap.now)
     (g.D.SwapDev.image c.settle.new.swap)
-    (sym c.is_borrower.ensures ∙ c.if-is_borrower.false) c.space_held-sid.ensures c.settle.ensures.stops
+    (sym c.is_borrower.ensures ∙ c.if-is_borrower.false) c.space_of_pid-sid.ensures c.settle.ensures.stops

@@ -7,7 +7,7 @@ use Rattle.machine_state.specs.Sourced.{ImageNamed}
 use Rattle.machine_state.specs.UserMemory.{kernel_answers}
 use Rattle.kernel_model.specs.ChangeStep.{space_of_life}
 use Rattle.kernel_model.specs.Kernel.{Life}
-use Rattle.fault_fill.specs.Growth.{space_held}
+use Rattle.fault_fill.specs.Growth.{space_of_pid}
 use Rattle.proc_calls.specs.Reading.{IsAmong}
 use Rattle.proc_calls.specs.Starting.{IsImageOf}
 use Rattle.proc_calls.proofs.Execs.{shown_by, all_fit, few_shown, all_start, is_image}
@@ -22,7 +22,7 @@ execve_reply-requires-clause-entries c = all_fit c.args.m.now c.memory-memory.re
 pub returns-clause-value : goal.returns-clause-value
 returns-clause-value c = λ known named.
     let asks = λ (m : Standing) (sid : ℕ). IfOk c.execve_reply.result (λ asked. asked ≡ run (kernel_answers m.kernel sid) (execve_reply known c.args.regs.now)) in
-    let held : c.memory-memory.result.layout.sid ≡ space_held c.args.m.now.kernel c.args.pid = sym (ap space_of_life c.memory-memory.ensures.space) in
+    let held : c.memory-memory.result.layout.sid ≡ space_of_pid c.args.m.now.kernel c.args.pid = sym (ap space_of_life c.memory-memory.ensures.space) in
     subst (λ (sid : ℕ). asks c.args.m.now sid) held
     (subst (λ (m : Standing). asks m c.memory-memory.result.layout.sid) c.memory-memory.ensures.now
     (c.execve_reply.ensures.value known (shown_by known c.args.m.now c.memory-memory.result.machine.now c.images.result.now c.memory-memory.ensures.now c.images.ensures named)))

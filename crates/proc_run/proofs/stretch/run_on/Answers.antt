@@ -3,7 +3,7 @@ use Rattle.std.specs.Option.{is_some}
 use Rattle.vm_facts.specs.declared.entry.Entry.{Entry}
 use Rattle.machine_state.specs.Joined.{instructions_in, last_says}
 use Rattle.steady_laws.proofs.Journals.{last_counts_few}
-use Rattle.steady_laws.specs.Growth.{space_held}
+use Rattle.steady_laws.specs.Growth.{space_of_pid}
 use Rattle.proc_run.proofs.SoFar.{lends_there}
 use Rattle.proc_run.proofs.Stretched.{none_ran, wrote_journal, ends_counted, ran_all, at_once}
 use Rattle.proc_run.proofs.Written.{wrote_lends}
@@ -15,7 +15,7 @@ carry_on-count-requires-clause-lends c = lends_there c.args.m.now c.args.pid c.r
 pub ran_on-requires-clause-can : goal.ran_on-requires-clause-can
 ran_on-requires-clause-can c =
     let did = c.carry_on-count.ensures.carried in
-    wrote_lends c.args.m.now c.carry_on-count.new.m c.args.pid (space_held c.args.m.now.kernel c.args.pid) did.0 did.2.machine c.carry_on-count.ensures.goes_on
+    wrote_lends c.args.m.now c.carry_on-count.new.m c.args.pid (space_of_pid c.args.m.now.kernel c.args.pid) did.0 did.2.machine c.carry_on-count.ensures.goes_on
     (lends_there c.args.m.now c.args.pid c.requires.steady c.in-Some.ensures.ready)
 
 pub ran_on-requires-clause-counts : goal.ran_on-requires-clause-counts
@@ -33,7 +33,7 @@ ran_on-requires-clause-fits c = λ count before h.
 
 pub returns-then-count-eq0-clause-ran : goal.returns-then-count-eq0-clause-ran
 returns-then-count-eq0-clause-ran c =
-    none_ran c.args.m.now c.carry_on-count.new.m (space_held c.args.m.now.kernel c.args.pid)
+    none_ran c.args.m.now c.carry_on-count.new.m (space_of_pid c.args.m.now.kernel c.args.pid)
     _ c.in-Some.regs c.carry_on-count.new.regs c.carry_on-count.result c.if-count-eq0.true c.carry_on-count.ensures.carried
 
 pub returns-clause-ran : goal.returns-clause-ran

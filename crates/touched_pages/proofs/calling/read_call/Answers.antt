@@ -6,7 +6,7 @@ use Rattle.machine_state.specs.Going.{CanGoOn}
 use Rattle.machine_state.specs.Machine.{Standing}
 use Rattle.machine_state.specs.Sourced.{ImageNamed}
 use Rattle.kernel_model.specs.ChangeStep.{space_of_life}
-use Rattle.proc_calls.specs.Growth.{space_held}
+use Rattle.proc_calls.specs.Growth.{space_of_pid}
 use Rattle.proc_calls.specs.Reading.{AreNamed}
 use Rattle.touched_pages.specs.Shown.{shown_in}
 use Rattle.touched_pages.proofs.calling.read_call.Goals as goal
@@ -18,7 +18,7 @@ pub returns-clause-value : goal.returns-clause-value
 returns-clause-value c = λ known F p s named.
     let asks = λ (m : Standing) (sid : ℕ). IfOk c.read_shown.result
     (λ asked. asked ≡ refusal_of (run (shown_in m.kernel sid c.args.pages.now) (reply_of known F p s c.args.call c.args.regs.now))) in
-    let held : c.memory.result.layout.sid ≡ space_held c.args.m.now.kernel c.args.pid = sym (ap space_of_life c.memory.ensures.space) in
+    let held : c.memory.result.layout.sid ≡ space_of_pid c.args.m.now.kernel c.args.pid = sym (ap space_of_life c.memory.ensures.space) in
     subst (λ (sid : ℕ). asks c.args.m.now sid) held
     (subst (λ (m : Standing). asks m c.memory.result.layout.sid) c.memory.ensures.now
     (c.read_shown.ensures known F p s (subst (λ (ns : List ImageNamed). AreNamed known ns) (sym (ap (λ (m : Standing). m.images) c.memory.ensures.now)) named)))

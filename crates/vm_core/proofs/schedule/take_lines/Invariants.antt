@@ -1,5 +1,5 @@
 use Rattle.std.proofs.Common.{◌≡◌, ◌<◌, None}
-use Rattle.vm_core.specs.Cores.{GoesOn}
+use Rattle.vm_core.specs.Cores.{StandsUnderway}
 use Rattle.vm_core.proofs.Going.{HasTaken}
 use Rattle.machine_state.specs.Outside.{TransfersPages}
 use Rattle.vm_core.proofs.schedule.take_lines.Given as goal
@@ -7,7 +7,7 @@ use Rattle.vm_core.proofs.schedule.take_lines.Given as goal
 abbrev pub invariant-loop-e : goal.invariant-loop-e
 invariant-loop-e g l = record {
   takes : HasTaken l.fn.core l.core l.line l.lines (g.F.Files.holds l.fn.files) (g.D.SwapDev.image l.fn.swap) (g.D.SwapDev.image l.swap);
-  goes_on : GoesOn l.core;
+  goes_on : StandsUnderway l.core;
   below : l.core.counted < l.core.machine.params.limit;
   number : l.line ≡ l.e-index;
   params : l.core.machine.params ≡ l.fn.core.machine.params;

@@ -6,7 +6,7 @@ use Rattle.table_steps.specs.Named.{Named}
 use Rattle.table_steps.specs.Tables.{Tables}
 use Rattle.table_steps.specs.View.{Lists}
 use Rattle.table_steps.specs.New.{fresh_kernel}
-use Rattle.table_steps.specs.Machine.{Runs, lists_of, kernel_by}
+use Rattle.table_steps.specs.Machine.{KernelRuns, lists_of, kernel_by}
 use Rattle.table_steps.proofs.Shows.{length_map}
 use Rattle.machine_state.proofs.News.{NewTables, new_lists_are, new_kernel_is, new_runs, new_before, new_stands, new_standing}
 use Rattle.machine_state.proofs.Standings.{runs_within}
@@ -53,9 +53,9 @@ invariant_of-result c =
     let facts : List Image = map (λ (x : Named). x.facts) c.args.images.items in
     let t : Tables = tables c in
     let n = fresh c in
-    let runs : Runs (kernel_by t c.new-8.result.items false) (lists_of t) t.book.size =
-    subst (λ (k : Kernel). Runs k (lists_of t) t.book.size) (sym (new_kernel_is t facts c.args.params.frames c.new-8.result.items n c.new-8.ensures.items))
-    (subst (λ (l : Lists). Runs (fresh_kernel facts c.args.params.frames) l t.book.size) (sym (new_lists_are t facts c.args.params.frames n))
+    let runs : KernelRuns (kernel_by t c.new-8.result.items false) (lists_of t) t.book.size =
+    subst (λ (k : Kernel). KernelRuns k (lists_of t) t.book.size) (sym (new_kernel_is t facts c.args.params.frames c.new-8.result.items n c.new-8.ensures.items))
+    (subst (λ (l : Lists). KernelRuns (fresh_kernel facts c.args.params.frames) l t.book.size) (sym (new_lists_are t facts c.args.params.frames n))
     (new_runs facts c.args.params.frames t.book.size c.requires.some c.requires.few
     (subst (λ (k : ℕ). k ≤ 16) (sym (length_map (λ (x : Named). x.facts) c.args.images.items)) c.requires.images) c.requires.sound)) in
     record {

@@ -1,5 +1,5 @@
 use Rattle.std.proofs.Common.{sym, subst, arith}
-use Rattle.vm_core.specs.Cores.{Underway, GoesOn, LineDueAt, LineTaken}
+use Rattle.vm_core.specs.Cores.{Underway, StandsUnderway, LineDueAt, LineTaken}
 use Rattle.vm_core.specs.Accounts.{StopsAccountedFrom}
 use Rattle.vm_core.proofs.Noting.{stops_on}
 use Rattle.vm_core.proofs.Taking.{takes_line, stops_carrying, stops_noted}
@@ -21,7 +21,7 @@ returns-in_err-note-clause-stops g c =
 
 pub carry_out-requires-clause-counted : goal.carry_out-requires-clause-counted
 carry_out-requires-clause-counted g c =
-    let goes : GoesOn (record { machine = c.self.inside.machine; counted = c.self.inside.counted }) = subst GoesOn (sym c.self.view_is) c.requires.goes_on in
+    let goes : StandsUnderway (record { machine = c.self.inside.machine; counted = c.self.inside.counted }) = subst StandsUnderway (sym c.self.view_is) c.requires.goes_on in
     let a = c.in_ok-note.ensures.steady.counted in let b = goes.counted in omega arith
 
 pub returns-in_err-self-inside-clause-stops : goal.returns-in_err-self-inside-clause-stops
