@@ -1,54 +1,63 @@
 -- Why the relation of a pair of devices is one of a device.
-use Rattle.std.proofs.Common.{◌≤◌, ℕ, zero, suc, Option, inl, inr, arith, le_refl, le_trans, refl, sym, ◌∙◌}
-use Rattle.std.proofs.Math.Nat.{eq-or-lt_of_le}
-use Rattle.io_edge.specs.Count.{Rose}
+use Rattle.std.proofs.Common.{◌≡◌, ◌≤◌, ◌+◌, ℕ, zero, suc, Option, Some, inl, inr, arith}
+use Rattle.io_edge.specs.Count.{count_after}
 use Rattle.io_edge.specs.Striping.{of_device}
 use Rattle.io_edge.specs.PairFailures.{AddsFailures}
 
--- the count of one device of two doesn't fall
-each_grows : (device old_zero new_zero old_one new_one : ℕ) → old_zero ≤ new_zero → old_one ≤ new_one
-    → of_device device old_zero old_one ≤ of_device device new_zero new_one
-each_grows zero old_zero new_zero old_one new_one zero_grows one_grows = zero_grows
-each_grows (suc _) old_zero new_zero old_one new_one zero_grows one_grows = one_grows
+-- no more failed calls are none
+pub none_after : (count : ℕ) → count ≡ count_after count 0
+none_after count = omega arith
 
--- a count that rose, and then didn't fall, rose
-pub rose_then : (a b c : ℕ) → Rose a b → b ≤ c → Rose a c
-rose_then a b c (inl rises) grows = inl (omega arith)
-rose_then a b c (inr stands) grows =
-    let still : a ≤ c = omega (arith, stands.1) in
-    elim (eq-or-lt_of_le still) [ inl same ↦ inr (stands.0, sym same) | inr rises ↦ inl rises ]
+-- so many failed calls, and then so many more, are as many together
+pub more_after : (a b c k l : ℕ) → b ≡ count_after a k → c ≡ count_after b l → c ≡ count_after a (k + l)
+more_after a b c k l first then = omega (arith, first, then)
 
--- a count that didn't fall, and then rose, rose
-pub then_rose : (a b c : ℕ) → a ≤ b → Rose b c → Rose a c
-then_rose a b c grows (inl rises) = inl (omega arith)
-then_rose a b c grows (inr stands) =
-    let still : a ≤ c = omega (arith, stands.1) in
-    elim (eq-or-lt_of_le still) [ inl same ↦ inr (omega (arith, stands.0, stands.1), sym same) | inr rises ↦ inl rises ]
+-- the same of the calls of two devices together
+pub both_after : (a b c even_k odd_k even_l odd_l : ℕ) → b ≡ count_after a (even_k + odd_k) → c ≡ count_after b (even_l + odd_l)
+    → c ≡ count_after a ((even_k + even_l) + (odd_k + odd_l))
+both_after a b c even_k odd_k even_l odd_l first then = omega (arith, first, then)
+
+-- a device on which calls failed in the first row, or in the second, is one on which calls failed
+failed_first : (device even_k odd_k even_l odd_l : ℕ) → 1 ≤ of_device device even_k odd_k → 1 ≤ of_device device (even_k + even_l) (odd_k + odd_l)
+failed_first zero even_k odd_k even_l odd_l some = omega (arith, some)
+failed_first (suc _) even_k odd_k even_l odd_l some = omega (arith, some)
+
+failed_then : (device even_k odd_k even_l odd_l : ℕ) → 1 ≤ of_device device even_l odd_l → 1 ≤ of_device device (even_k + even_l) (odd_k + odd_l)
+failed_then zero even_k odd_k even_l odd_l some = omega (arith, some)
+failed_then (suc _) even_k odd_k even_l odd_l some = omega (arith, some)
 
 -- a row of no calls adds no failure
 pub adds_nothing : (count : ℕ) (last : Option ℕ) (even odd : ℕ) → AddsFailures count count last last even even odd odd
-adds_nothing count last even odd = record { grows = le_refl count; named = λ device same. inl same; still = λ same below. (refl, refl) }
+adds_nothing count last even odd = record {
+  on_zero = 0;
+  on_one = 0;
+  together = none_after count;
+  zero = none_after even;
+  one = none_after odd;
+  named = λ device same. inl same;
+}
 
 -- the failures of one row of calls and then of another are those of both rows as one
-pub adds_through : (count_a count_b count_c : ℕ) (last_a last_b last_c : Option ℕ) (zero_a zero_b zero_c one_a one_b one_c : ℕ) → zero_a ≤ zero_b
-    → zero_b ≤ zero_c → one_a ≤ one_b → one_b ≤ one_c → AddsFailures count_a count_b last_a last_b zero_a zero_b one_a one_b
-    → AddsFailures count_b count_c last_b last_c zero_b zero_c one_b one_c → AddsFailures count_a count_c last_a last_c zero_a zero_c one_a one_c
-adds_through count_a count_b count_c last_a last_b last_c zero_a zero_b zero_c one_a one_b one_c zero_first zero_then one_first one_then first then = record {
-  grows = le_trans first.grows then.grows;
+pub adds_through : (count_a count_b count_c : ℕ) (last_a last_b last_c : Option ℕ) (zero_a zero_b zero_c one_a one_b one_c : ℕ)
+    → AddsFailures count_a count_b last_a last_b zero_a zero_b one_a one_b → AddsFailures count_b count_c last_b last_c zero_b zero_c one_b one_c
+    → AddsFailures count_a count_c last_a last_c zero_a zero_c one_a one_c
+adds_through count_a count_b count_c last_a last_b last_c zero_a zero_b zero_c one_a one_b one_c first then = record {
+  on_zero = first.on_zero + then.on_zero;
+  on_one = first.on_one + then.on_one;
+  together = both_after count_a count_b count_c first.on_zero first.on_one then.on_zero then.on_one first.together then.together;
+  zero = more_after zero_a zero_b zero_c first.on_zero then.on_zero first.zero then.zero;
+  one = more_after one_a one_b one_c first.on_one then.on_one first.one then.one;
   named = λ device named.
       elim (then.named device named) [
         | inl before ↦ elim (first.named device before) [
           | inl at_first ↦ inl at_first
-          | inr rose ↦ inr (rose_then (of_device device zero_a one_a) (of_device device zero_b one_b) (of_device device zero_c one_c) rose
-              (each_grows device zero_b zero_c one_b one_c zero_then one_then))
+          | inr some ↦ inr (failed_first device first.on_zero first.on_one then.on_zero then.on_one some)
         ]
-        | inr rose ↦ inr (then_rose (of_device device zero_a one_a) (of_device device zero_b one_b) (of_device device zero_c one_c)
-            (each_grows device zero_a zero_b one_a one_b zero_first one_first) rose)
+        | inr some ↦ inr (failed_then device first.on_zero first.on_one then.on_zero then.on_one some)
       ];
-  still = λ same below.
-      let a = first.grows in
-      let b = then.grows in
-      let x = first.still (omega (arith, same)) below in
-      let y = then.still (omega (arith, same)) (omega (arith, same)) in
-      (y.0 ∙ x.0, y.1 ∙ x.1);
 }
+
+-- the pair's count never falls
+pub adds_grow : (old_count new_count : ℕ) (old_last new_last : Option ℕ) (old_zero new_zero old_one new_one : ℕ)
+    → AddsFailures old_count new_count old_last new_last old_zero new_zero old_one new_one → old_count ≤ new_count
+adds_grow old_count new_count old_last new_last old_zero new_zero old_one new_one adds = let risen = adds.together in omega (arith, risen)

@@ -6,7 +6,7 @@ ghost use Rattle.io_edge.specs.SwapImage.{HoldsPage, WritesPage, SpoilsPage, Lea
 ghost use Rattle.io_edge.specs.Striping.{device_of, place_of, pair_blocks, pair_image, zero_needs, one_needs, IsDevice, IsLargestSwap, KeepsBeyond};
 ghost use Rattle.io_edge.specs.Beyond.{zero_through, one_through};
 ghost use Rattle.io_edge.specs.PairFailures.{AddsFailures};
-ghost use Rattle.io_edge.specs.PairLeads.{adds_nothing, adds_through};
+ghost use Rattle.io_edge.specs.PairLeads.{adds_grow, adds_nothing, adds_through};
 ghost use Rattle.io_edge.specs.StripeSizes.{tell_blocks, pair_whole};
 
 use crate::failures::Failures;
@@ -45,8 +45,9 @@ fn striped_blocks(zero: u32, one: u32) -> u32
 ///
 /// It counts its own failed calls, in a `u64` that stands still at its last value. Where calls lead from
 /// one state of the pair to a later one, its two references are the same, calls lead from each device's
-/// earlier state to its later one, and a device that is named anew for a failed call has failed: its own
-/// count of that kind rose. What a device has beyond the blocks that the pair needs of it is as it was.
+/// earlier state to its later one, the pair's count of a kind rose by the failed calls of both devices
+/// together, each device's by its own, and a device that is named anew for a failed call is one on which
+/// a call failed. What a device has beyond the blocks that the pair needs of it is as it was.
 #[derive(Drop)]
 pub struct SwapPair<'a, D, E> {
     /// Device 0.
@@ -233,14 +234,10 @@ impl<'a, D: SwapDev, E: SwapDev> SwapDev for SwapPair<'a, D, E> {
       E.leads_through p.one.now q.one.now r.one.now first.3 then.3,
       adds_through p.reads.count q.reads.count r.reads.count p.reads.last q.reads.last r.reads.last
           (D.read_faults p.zero.now) (D.read_faults q.zero.now) (D.read_faults r.zero.now)
-          (E.read_faults p.one.now) (E.read_faults q.one.now) (E.read_faults r.one.now)
-          (D.reads_grow p.zero.now q.zero.now first.2) (D.reads_grow q.zero.now r.zero.now then.2)
-          (E.reads_grow p.one.now q.one.now first.3) (E.reads_grow q.one.now r.one.now then.3) first.4 then.4,
+          (E.read_faults p.one.now) (E.read_faults q.one.now) (E.read_faults r.one.now) first.4 then.4,
       adds_through p.writes.count q.writes.count r.writes.count p.writes.last q.writes.last r.writes.last
           (D.write_faults p.zero.now) (D.write_faults q.zero.now) (D.write_faults r.zero.now)
-          (E.write_faults p.one.now) (E.write_faults q.one.now) (E.write_faults r.one.now)
-          (D.writes_grow p.zero.now q.zero.now first.2) (D.writes_grow q.zero.now r.zero.now then.2)
-          (E.writes_grow p.one.now q.one.now first.3) (E.writes_grow q.one.now r.one.now then.3) first.5 then.5,
+          (E.write_faults p.one.now) (E.write_faults q.one.now) (E.write_faults r.one.now) first.5 then.5,
       zero_through (D.blocks p.zero.now) (E.blocks p.one.now) (D.blocks q.zero.now) (E.blocks q.one.now)
           (D.image p.zero.now) (D.image q.zero.now) (D.image r.zero.now)
           (D.blocks_stay p.zero.now q.zero.now first.2) (E.blocks_stay p.one.now q.one.now first.3) first.6 then.6,
@@ -255,7 +252,11 @@ impl<'a, D: SwapDev, E: SwapDev> SwapDev for SwapPair<'a, D, E> {
         ∙ ap (λ size. pair_blocks (D.blocks p.zero.now) size)
         (E.blocks_stay p.one.now q.one.now led.3) };
 
-    ghost reads_grow = { λ _ _ led. let failed = led.4 in failed.grows };
+    ghost reads_grow = { λ p q led. adds_grow p.reads.count q.reads.count p.reads.last q.reads.last
+        (D.read_faults p.zero.now) (D.read_faults q.zero.now)
+        (E.read_faults p.one.now) (E.read_faults q.one.now) led.4 };
 
-    ghost writes_grow = { λ _ _ led. let failed = led.5 in failed.grows };
+    ghost writes_grow = { λ p q led. adds_grow p.writes.count q.writes.count p.writes.last q.writes.last
+        (D.write_faults p.zero.now) (D.write_faults q.zero.now)
+        (E.write_faults p.one.now) (E.write_faults q.one.now) led.5 };
 }

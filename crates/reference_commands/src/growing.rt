@@ -4,7 +4,7 @@ ghost use Rattle.std.proofs.Common.{le_refl, le_trans};
 ghost use Rattle.io_edge.specs.Told.{extends_itself, extends_through};
 ghost use Rattle.io_edge.specs.Written.{Extends};
 
-use io_edge::{Moved, Sink};
+use io_edge::{Moved, Sink, raised};
 use std::alloc::Global;
 
 /// Output in memory, which fails only where memory is wanting. A failing call appends nothing.
@@ -42,7 +42,7 @@ impl Sink for GrowingText {
 
     fn put(&mut self, bytes: &[u8]) -> Moved {
         if self.bytes.extend_from_slice(bytes).is_err() {
-            self.faults = self.faults.saturating_add(1);
+            self.faults = raised(self.faults);
             return Moved::Failed;
         }
         Moved::Done

@@ -1,8 +1,8 @@
-use Rattle.std.proofs.Common.{◌≡◌, ◌∙◌, sym, arith}
+use Rattle.std.proofs.Common.{rules, ◌≡◌, ◌∙◌, refl, sym, arith}
 use Rattle.io_edge.specs.Striping.{device_of}
 use Rattle.io_edge.proofs.Stripes.{place_of-even}
 use Rattle.io_edge.proofs.StripeWrites.{not_even, inside_even, inside_odd}
-use Rattle.io_edge.proofs.PairCalls.{on_done, pair_reads_even, pair_reads_odd}
+use Rattle.io_edge.proofs.PairCalls.{adds_none, adds_on_one, adds_on_zero, on_done, pair_reads_even, pair_reads_odd}
 use Rattle.io_edge.proofs.swap_pair.SwapPairSwapDev.read.Goals as goal
 
 pub read-moved-requires-clause-even : goal.read-moved-requires-clause-even
@@ -38,3 +38,31 @@ returns-else-device_number-eq0-clause-done g c =
     (g.met.D.SwapDev.whole c.args.self.now.zero.now) (g.met.E.SwapDev.whole c.args.self.now.one.now)
     c.place_on_device-place.ensures on c.requires.even c.requires.inside)
     c.read-moved-else-device_number-eq0.ensures.done
+
+pub returns-then-device_number-eq0-clause-leads : goal.returns-then-device_number-eq0-clause-leads
+returns-then-device_number-eq0-clause-leads g c =
+    let read = c.read-moved in
+    let noted = c.note.ensures in (
+      search rules,
+      search rules,
+      search rules,
+      search rules,
+      adds_on_zero read.result _ _ _ _ _ _ _ read.ensures.read_faults noted.count noted.failed noted.done,
+      adds_none _ _ _ _ _ _ _ _ refl refl read.ensures.write_faults refl,
+      search rules,
+      refl,
+    )
+
+pub returns-else-device_number-eq0-clause-leads : goal.returns-else-device_number-eq0-clause-leads
+returns-else-device_number-eq0-clause-leads g c =
+    let read = c.read-moved-else-device_number-eq0 in
+    let noted = c.note-else-device_number-eq0.ensures in (
+      search rules,
+      search rules,
+      search rules,
+      search rules,
+      adds_on_one read.result _ _ _ _ _ _ _ read.ensures.read_faults noted.count noted.failed noted.done,
+      adds_none _ _ _ _ _ _ _ _ refl refl refl read.ensures.write_faults,
+      refl,
+      search rules,
+    )

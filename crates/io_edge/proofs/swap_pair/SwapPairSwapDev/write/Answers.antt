@@ -3,7 +3,7 @@ use Rattle.io_edge.specs.Striping.{device_of, zero_needs, one_needs, pair_blocks
 use Rattle.io_edge.proofs.Stripes.{place_of-even}
 use Rattle.io_edge.proofs.StripeWrites.{not_even, inside_even, inside_odd}
 use Rattle.io_edge.proofs.BeyondPair.{within_zero, within_one, leaves_beyond}
-use Rattle.io_edge.proofs.PairCalls.{on_done, on_failed, pair_writes_even, pair_writes_odd, pair_spoils_even, pair_spoils_odd}
+use Rattle.io_edge.proofs.PairCalls.{adds_none, adds_on_one, adds_on_zero, on_done, on_failed, pair_writes_even, pair_writes_odd, pair_spoils_even, pair_spoils_odd}
 use Rattle.io_edge.proofs.swap_pair.SwapPairSwapDev.write.Goals as goal
 
 pub write-moved-requires-clause-even : goal.write-moved-requires-clause-even
@@ -61,13 +61,14 @@ returns-else-device_number-eq0-clause-failed g c =
 pub returns-then-device_number-eq0-clause-leads : goal.returns-then-device_number-eq0-clause-leads
 returns-then-device_number-eq0-clause-leads g c =
     let on : device_of c.args.block ≡ 0 = sym c.device_number.ensures ∙ c.if-device_number-eq0.true in
-    let wrote = c.write-moved in (
+    let wrote = c.write-moved in
+    let noted = c.note.ensures in (
       search rules,
       search rules,
       search rules,
       search rules,
-      search rules,
-      search rules,
+      adds_none _ _ _ _ _ _ _ _ refl refl wrote.ensures.read_faults refl,
+      adds_on_zero wrote.result _ _ _ _ _ _ _ wrote.ensures.write_faults noted.count noted.failed noted.done,
       leaves_beyond wrote.result c.place_on_device-place.result _ _ _ _ c.args.bytes.now (g.met.D.SwapDev.whole c.args.self.now.zero.now)
           (subst (λ (p : ℕ). p + 2 ≤ g.D.SwapDev.blocks c.args.self.now.zero.now) (sym c.place_on_device-place.ensures) (inside_even c.args.block _ _ c.requires.even c.requires.inside on))
           (subst (λ (p : ℕ). p + 2 ≤ zero_needs (pair_blocks (g.D.SwapDev.blocks c.args.self.now.zero.now) (g.E.SwapDev.blocks c.args.self.now.one.now))) (sym c.place_on_device-place.ensures)
@@ -79,13 +80,14 @@ returns-then-device_number-eq0-clause-leads g c =
 pub returns-else-device_number-eq0-clause-leads : goal.returns-else-device_number-eq0-clause-leads
 returns-else-device_number-eq0-clause-leads g c =
     let on : device_of c.args.block ≡ 1 = not_even c.args.block (λ on. c.if-device_number-eq0.false (c.device_number.ensures ∙ on)) in
-    let wrote = c.write-moved-else-device_number-eq0 in (
+    let wrote = c.write-moved-else-device_number-eq0 in
+    let noted = c.note-else-device_number-eq0.ensures in (
       search rules,
       search rules,
       search rules,
       search rules,
-      search rules,
-      search rules,
+      adds_none _ _ _ _ _ _ _ _ refl refl refl wrote.ensures.read_faults,
+      adds_on_one wrote.result _ _ _ _ _ _ _ wrote.ensures.write_faults noted.count noted.failed noted.done,
       refl,
       leaves_beyond wrote.result c.place_on_device-place.result _ _ _ _ c.args.bytes.now (g.met.E.SwapDev.whole c.args.self.now.one.now)
           (subst (λ (p : ℕ). p + 2 ≤ g.E.SwapDev.blocks c.args.self.now.one.now) (sym c.place_on_device-place.ensures) (inside_odd c.args.block _ _ c.requires.even c.requires.inside on))
