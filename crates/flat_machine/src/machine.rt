@@ -1,4 +1,4 @@
-ghost use Rattle.std.specs.Prelude.{◌≡◌, ℕ, ◌+◌, ◌-◌, ◌*◌, ◌/◌, ◌^◌, ◌<◌, ◌≤◌, ◌==◌, ◌++◌, ◌∷◌, [], List, Bool, true, false, not, length, map, filter, find, position, slice_set, slice_get, slice_index_or, Option, Some, None, IsSome, IfOk, IfSome, OnOk, IsTrue, All, Result, is_some};
+ghost use Rattle.std.specs.Prelude.{◌≡◌, ℕ, ◌+◌, ◌-◌, ◌*◌, ◌/◌, ◌^◌, ◌<◌, ◌≤◌, ◌==◌, ◌++◌, ◌∷◌, [], List, Bool, true, false, not, length, map, filter, find, position, slice_set, slice_get, slice_index_or, Option, Some, None, IsSome, IfOk, IfSome, OnOk, OnErr, IsTrue, All, Result, is_some};
 ghost use Rattle.flat_state.specs.Space.{Space, answers_of, stack_top};
 ghost use Rattle.flat_state.specs.Flat.{Holds, Lends, Zombie, Process as Record, FlatState, NamedImage, Inputs, can_step, image_numbered, process_of, holds_space, space_with, start_if, start_state};
 ghost use Rattle.flat_state.specs.Change.{changed, resized, apply_change, forked, lent, entered, ended, given_back, returned, orphaned, woken, left, apply_writes, with_process, without_process, child_of, lends_to, is_zombie_child, without_parent, awake};
@@ -42,7 +42,8 @@ impl Model for Machine {
 
 // The next number; want of memory, where there is none.
 fn next(number: u32) -> Result<u32, NoMemory>
-    ensures { IfOk result (λ n. n ≡ number + 1) }
+    ensures next { IfOk result (λ n. n ≡ number + 1) }
+    ensures none { OnErr result (number + 1 ≡ 2 ^ 32) }
 {
     match number.checked_add(1) {
         Some(next) => Ok(next),

@@ -1,5 +1,5 @@
 //! Spaces that come: in which an image starts.
-ghost use Rattle.std.specs.Prelude.{◌≡◌, ◌+◌, ℕ, ◌≤◌, length, Some, IfOk, OnOk};
+ghost use Rattle.std.specs.Prelude.{◌≡◌, ◌+◌, ◌^◌, ℕ, ◌≤◌, length, Some, IfOk, OnOk, OnErr};
 ghost use Rattle.aout_image.specs.declared.Image.{Image as Facts};
 ghost use Rattle.flat_state.specs.Numbers.{AllBelow};
 ghost use Rattle.page_model.specs.Dues.{DueStand};
@@ -20,7 +20,8 @@ use vm_facts::{Bytes, NoMemory, Page};
 
 /// The number after this one; want of memory where there is none.
 pub(crate) fn next(number: u32) -> Result<u32, NoMemory>
-    ensures { IfOk result (λ next. next ≡ number + 1) }
+    ensures next { IfOk result (λ next. next ≡ number + 1) }
+    ensures none { OnErr result (number + 1 ≡ 2 ^ 32) }
 {
     match number.checked_add(1) {
         Some(next) => Ok(next),

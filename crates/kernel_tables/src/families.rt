@@ -1,5 +1,5 @@
 //! The records of processes that come, change what they hold, sleep and go.
-ghost use Rattle.std.specs.Prelude.{◌≡◌, ◌≢◌, ◌<◌, ◌+◌, true, false, length, Some, None, IsSome, OnOk};
+ghost use Rattle.std.specs.Prelude.{◌≡◌, ◌≢◌, ◌<◌, ◌+◌, ◌^◌, true, false, length, Some, None, IsSome, OnOk, OnErr};
 ghost use Rattle.proc_table.specs.Records.{find, Changes, IsProcTable};
 ghost use Rattle.proc_table.specs.declared.process.Proc.{Proc as Record};
 ghost use Rattle.proc_table.specs.declared.process.Life.TheVariants as lives;
@@ -54,6 +54,7 @@ impl Tables {
         requires fresh { HoldsOrNew (life_shown state) }
         ensures one_more { OnOk result
             (HasOneMore self.old self.new (record { pid = self.old.next_pid; parent = parent; regs = regs; life = life_shown state; asleep = false }) since) }
+        ensures none_left { OnErr result (self.old.next_pid + 1 ≡ 2 ^ 32) }
         ensures params { self.new.params ≡ self.old.params }
         ensures images { self.new.images ≡ self.old.images }
     {

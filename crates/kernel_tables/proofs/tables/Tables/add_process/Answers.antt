@@ -16,4 +16,4 @@ pub returns-clause-one_more : goal.returns-clause-one_more
 returns-clause-one_more c =
     let u : Tables = record c.args.self.now { processes = c.put_in.new.processes; next_pid = c.in_ok-number.number } in
     let p : Record = record { pid = c.args.self.now.next_pid; parent = c.args.parent; regs = c.args.regs; state = c.args.state; asleep = false; out = false; borrowed = false; since = c.args.since } in
-    one_more c.args.self.now u p c.requires.records refl c.requires.fresh refl refl c.put_in.ensures.record c.put_in.ensures.sound refl c.in_ok-number.ensures
+    one_more c.args.self.now u p c.requires.records refl c.requires.fresh refl refl c.put_in.ensures.record c.put_in.ensures.sound refl c.in_ok-number.ensures.next

@@ -24,6 +24,7 @@ enter-requires c =
       room =
           let few = few_share (lists_of c.args.self.now) c.image-image.result c.requires.known.tied (omega (arith, r.0, e)) (omega (arith, r.1, e)) in
           let last = c.in_ok-push.ensures.few in
+          let one_more = c.in_ok-number.ensures.next in
           let sid : c.place_text.new.space.sid ≡ c.args.self.now.next_sid = ap (λ (s : Places). s.sid) c.place_text.ensures ∙ c.requires.number in
           omega arith;
     }
