@@ -13,6 +13,6 @@ pub use explaining::explain_words;
 pub use image_words::ImageWords;
 pub use limits::{
     JOURNAL_ENTRIES, LAST_LOAD, LEAST_FRAMES, LEAST_SWAP, MOST_FRAMES, MOST_LIMIT,
-    MOST_SHORT_LIMIT, MOST_SWAP,
+    MOST_SHORT_LIMIT, MOST_SWAP, ranges_are_documented,
 };
 pub use reasons::{Argument, BadWord, bad_word, refused_words_have_reasons};

@@ -1,4 +1,5 @@
 // The ranges of a command's numbers (this project's profile).
+ghost use Rattle.command_words.specs.Documented.{DocumentedRanges};
 
 /// The fewest page frames of a machine.
 pub const LEAST_FRAMES: u32 = 64;
@@ -23,3 +24,8 @@ pub const LAST_LOAD: u32 = 9_999;
 
 /// The most entries of a journal.
 pub const JOURNAL_ENTRIES: u32 = 16_777_216;
+
+/// The ends of these ranges are the numbers that README, `vmrun --help` and FORMATS have.
+pub fn ranges_are_documented()
+    ensures { DocumentedRanges }
+{}

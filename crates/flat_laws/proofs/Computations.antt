@@ -9,7 +9,7 @@ use Rattle.user_vax.specs.Program.{Program, Gives, Refuses, Reads, Tests, ◌>>=
 use Rattle.user_vax.specs.declared.refused.Refused.{Refused}
 use Rattle.flat_model.specs.declared.calls.Reply.{Reply}
 use Rattle.flat_model.specs.declared.calls.Reply.TheVariants.{Fails, Does, Writes, Waits, Exits}
-use Rattle.flat_model.specs.Calls.{or_fault, fault, no_memory, wants_space, unless_refused, refused_reply}
+use Rattle.flat_model.specs.Calls.{or_fault, bad_address, no_memory, wants_space, unless_refused, refused_reply}
 
 -- all that a computation may give has this
 abbrev pub AllGives : {A : Type 0} → (A → Type 0) → Program A → Type 0
@@ -52,7 +52,7 @@ run_gives {A} P memory (Tests a next) value h e = go (λ k. run_gives P memory n
     go later tests.Outside k = absurd cc
 
 -- so it is of a call's reply, where EFAULT has it
-pub reply_gives : (P : Reply → Type 0) (memory : Answers) (p : Program Reply) → P (Fails fault) → AllGives P p → P (or_fault (run memory p))
+pub reply_gives : (P : Reply → Type 0) (memory : Answers) (p : Program Reply) → P (Fails bad_address) → AllGives P p → P (or_fault (run memory p))
 reply_gives P memory p faulted h = go (run memory p) refl
   where
     go : (r : Result Reply Refused) → run memory p ≡ r → P (or_fault r)

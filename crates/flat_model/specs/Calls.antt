@@ -14,7 +14,7 @@ use Rattle.flat_model.specs.declared.calls.Reply.{Reply}
 use Rattle.flat_model.specs.declared.calls.Reply.TheVariants.{Fails, Does, Writes, Waits, Exits}
 use Rattle.flat_model.specs.declared.calls.SystemCall.{SystemCall}
 use Rattle.flat_model.specs.declared.calls.SystemCall.TheVariants as calls
-use Rattle.flat_model.specs.declared.calls.TheConstants.{ENOENT, EBADF, ECHILD, EAGAIN, ENOMEM, EFAULT, WRITE_LIMIT, PROCESS_LIMIT, DATA_LIMIT, STRING_LIMIT, ARGUMENT_LIMIT}
+use Rattle.flat_model.specs.declared.calls.TheConstants.{ENOENT, E2BIG, EBADF, ECHILD, EAGAIN, ENOMEM, EFAULT, WRITE_LIMIT, PROCESS_LIMIT, DATA_LIMIT, STRING_LIMIT, ARGUMENT_LIMIT}
 
 -- The numbers of the errors: ENOENT, E2BIG, EBADF, ECHILD, EAGAIN, ENOMEM and EFAULT.
 
@@ -24,7 +24,7 @@ no_such_file = ENOENT
 
 -- E2BIG: more arguments than may be, or one that is too long
 abbrev pub too_big : ℕ
-too_big = 7
+too_big = E2BIG
 
 -- EBADF: the file of a write isn't 1 or 2
 abbrev pub bad_file : ℕ
@@ -43,8 +43,8 @@ abbrev pub no_memory : ℕ
 no_memory = ENOMEM
 
 -- EFAULT: a byte that the call reads is refused
-abbrev pub fault : ℕ
-fault = EFAULT
+abbrev pub bad_address : ℕ
+bad_address = EFAULT
 
 -- The limits: the bytes of one write, the processes, the pages of a data segment, the bytes of a path or an argument
 -- with its final 0, and the arguments.
@@ -285,7 +285,7 @@ reply_of images F p s calls.Wait regs = Gives (wait_reply F p.pid regs)
 -- the reply of a call, or EFAULT where a byte that it reads is refused
 abbrev pub or_fault : Result Reply Refused → Reply
 or_fault (Ok reply) = reply
-or_fault (Err refused) = Fails fault
+or_fault (Err refused) = Fails bad_address
 
 -- Space on swap that is refused.
 

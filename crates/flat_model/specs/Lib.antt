@@ -1,6 +1,7 @@
 pub use Rattle.user_vax.specs.Laws
 pub mod Arguments
 pub mod Calls
+pub mod Documented
 pub mod Instruction
 pub mod Step
 pub mod Run

@@ -12,7 +12,8 @@
 //! - Shown: `shown`, what a space answers of which some pages alone are there.
 //! - Asked: `asks` and `held`, the pieces of swap space that a step wants, and who holds which.
 //!
-//! `runs_go_on`, a law with no body: a run of the flat machine goes on by one entry.
+//! Two laws with no body: by `runs_go_on` a run of the flat machine goes on by one entry, and `calls_are_documented` has the
+//! numbers of the errors and the limits of the calls.
 #![tactic(auto)]
 
 mod arguments;
@@ -26,7 +27,7 @@ pub use calls::{
     ARGUMENT_LIMIT, DATA_LIMIT, E2BIG, EAGAIN, EBADF, ECHILD, EFAULT, ENOENT, ENOMEM,
     PROCESS_LIMIT, Reply, STRING_LIMIT, SystemCall, WRITE_LIMIT,
 };
-pub use laws::runs_go_on;
+pub use laws::{calls_are_documented, runs_go_on};
 pub use reading::{
     Asked, argument, arguments_at, exit_reply, string_from, three_arguments, write_reply,
 };

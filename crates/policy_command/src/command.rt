@@ -3,7 +3,7 @@ ghost use Rattle.io_edge.specs.Calls.{KeepsFiles};
 ghost use Rattle.reference_text.specs.Grammar.{most_references};
 ghost use Rattle.command_ending.specs.Ending.{ending_of};
 ghost use Rattle.command_ending.specs.Command.{Made};
-ghost use Rattle.policy_command.specs.Command.{references_told, EndsBytes, EndsText, EndsPolicies, Compares};
+ghost use Rattle.policy_command.specs.Command.{references_bytes, references_told, EndsBytes, EndsText, EndsPolicies, Compares};
 
 use command_ending::{Fault, write_ending};
 use io_edge::{Files, Sink};
@@ -15,6 +15,11 @@ use vm_facts::Page;
 
 /// The most bytes of a file of references.
 pub const REFERENCES_BYTES: u64 = 67_108_864;
+
+/// A file of references has at most the number of bytes that FORMATS has.
+pub fn reference_bytes_are_documented()
+    ensures { references_bytes ≡ 67108864 }
+{}
 
 // The references that the bytes of a file are.
 fn references_of<'a>(alloc: Global, bytes: &[u8]) -> Result<Vec<Page>, Fault<'a>>

@@ -3,4 +3,4 @@
 
 mod command;
 
-pub use command::{REFERENCES_BYTES, compare_policies};
+pub use command::{REFERENCES_BYTES, compare_policies, reference_bytes_are_documented};

@@ -12,7 +12,7 @@ use Rattle.flat_state.specs.declared.change.Change.TheVariants.{Keep, Sleep}
 use Rattle.flat_model.specs.declared.calls.Reply.{Reply}
 use Rattle.flat_model.specs.declared.calls.Reply.TheVariants.{Fails, Does, Writes, Waits, Exits}
 use Rattle.flat_model.specs.declared.calls.SystemCall.{SystemCall}
-use Rattle.flat_model.specs.Calls.{fault, replied}
+use Rattle.flat_model.specs.Calls.{bad_address, replied}
 use Rattle.flat_model.specs.Step.{call_entry}
 use Rattle.kernel_model.specs.ChangeStep.{change_step}
 use Rattle.machine_state.specs.Machine.{Standing}
@@ -61,8 +61,8 @@ Replied old new pid call regs (Exits status) called = ⊥
 abbrev pub Comes : Standing → Standing → ℕ → SystemCall → Regs → Result Reply Refused → Called → Type 0
 Comes old new pid call regs (Ok reply) called = Replied old new pid call regs reply called
 Comes old new pid call regs (Err (Miss address write)) called = (called ≡ calls.Miss address) × (new ≡ old)
-Comes old new pid call regs (Err (Below address)) called = Replied old new pid call regs (Fails fault) called
-Comes old new pid call regs (Err (Signal number)) called = Replied old new pid call regs (Fails fault) called
+Comes old new pid call regs (Err (Below address)) called = Replied old new pid call regs (Fails bad_address) called
+Comes old new pid call regs (Err (Signal number)) called = Replied old new pid call regs (Fails bad_address) called
 
 -- A call stopped on its way: it had come so far, to a machine, and there it stopped so.
 pub record StopsOnce (Far There : Standing → Type 0) : Type 0 where

@@ -5,4 +5,4 @@ mod answers;
 mod reader;
 
 pub use answers::References;
-pub use reader::read_references;
+pub use reader::{read_references, references_are_documented};

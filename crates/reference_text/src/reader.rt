@@ -14,6 +14,11 @@ use vm_facts::{NoMemory, Page};
 /// No file has more references.
 pub const MOST_REFERENCES: usize = 4_000_000;
 
+/// A file has at most the number of references that `vmrun --help` and FORMATS have.
+pub fn references_are_documented()
+    ensures { most_references ≡ 4000000 }
+{}
+
 // The two numbers, each after a space, that the text consists of.
 fn read_pair(text: &[u8]) -> Option<(u32, u32)>
     ensures { MatchOption result ((a b : ℕ) → a < 2 ^ 32 → b < 2 ^ 32 → text.now ≢ parts (a ∷ b ∷ []))

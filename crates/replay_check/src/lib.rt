@@ -10,5 +10,5 @@ mod touching;
 
 pub use expecting::{Expected, Misfit, explain};
 pub use flat_process::{Flat, are_images, are_numbers};
-pub use replaying::{Verdict, replay};
+pub use replaying::{Verdict, instructions_are_documented, replay};
 pub use touching::references;

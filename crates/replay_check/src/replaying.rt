@@ -19,6 +19,11 @@ use vm_facts::{Entry, NoMemory, Regs};
 /// Instructions that a transcript may have.
 pub const INSTRUCTION_LIMIT: u32 = 1_000_000;
 
+/// A run that is judged has at most the number of instructions that FORMATS has.
+pub fn instructions_are_documented()
+    ensures { instruction_limit ≡ 1000000 }
+{}
+
 /// What `replay` answers.
 #[derive(Clone, Copy, Debug, PartialEq, Eq, Drop)]
 pub enum Verdict {

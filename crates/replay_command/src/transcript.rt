@@ -4,7 +4,7 @@ ghost use Rattle.io_edge.specs.Calls.{KeepsFiles};
 ghost use Rattle.io_edge.specs.FileHolding.{NamedFile};
 ghost use Rattle.run_files.specs.Told.{whole_told};
 ghost use Rattle.command_ending.specs.Command.{Made};
-ghost use Rattle.replay_command.specs.Reading.{EndsLines, EndsTranscript, items_of};
+ghost use Rattle.replay_command.specs.Reading.{transcript_bytes, EndsLines, EndsTranscript, items_of};
 
 use crate::last_line::without_fault_line;
 use command_ending::Fault;
@@ -16,6 +16,11 @@ use vm_facts::Entry;
 
 /// A transcript with more bytes than this isn't read.
 pub const TRANSCRIPT_BYTES: u64 = 67_108_864;
+
+/// A transcript has at most the number of bytes that FORMATS has.
+pub fn transcript_bytes_are_documented()
+    ensures { transcript_bytes ≡ 67108864 }
+{}
 
 // The entries that the bytes of a transcript are.
 fn entries_of<'a>(alloc: Global, bytes: &[u8]) -> Result<Vec<Entry>, Fault<'a>>

@@ -9,4 +9,4 @@ mod schedule;
 pub use devices::device_fault;
 pub use images::{OpenedImage, open_images};
 pub use opening::{Opening, open_run};
-pub use schedule::{SCHEDULE_BYTES, open_schedule};
+pub use schedule::{SCHEDULE_BYTES, open_schedule, schedule_bytes_are_documented};

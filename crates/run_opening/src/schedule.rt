@@ -4,7 +4,7 @@ ghost use Rattle.io_edge.specs.Calls.{KeepsFiles};
 ghost use Rattle.io_edge.specs.FileHolding.{NamedFile};
 ghost use Rattle.run_text.specs.Schedule.{IsInRanges};
 ghost use Rattle.command_ending.specs.Command.{Made};
-ghost use Rattle.run_opening.specs.Schedules.{schedule_lines, schedule_found, EndsEvents, EndsSchedule};
+ghost use Rattle.run_opening.specs.Schedules.{schedule_lines, schedule_bytes, schedule_found, EndsEvents, EndsSchedule};
 ghost use Rattle.run_opening.specs.Opening.{CountsOpen};
 
 use command_ending::Fault;
@@ -16,6 +16,11 @@ use vm_facts::Event;
 
 /// No more bytes of a schedule are read: a good one has at most 65,536 lines of at most 20 bytes.
 pub const SCHEDULE_BYTES: u64 = 1_310_741;
+
+/// A schedule is read up to the number of bytes that FORMATS has.
+pub fn schedule_bytes_are_documented()
+    ensures { schedule_bytes ≡ 1310741 }
+{}
 
 // The events that the bytes of a schedule are.
 fn events_of<'a>(alloc: Global, bytes: &[u8]) -> Result<Vec<Event>, Fault<'a>>

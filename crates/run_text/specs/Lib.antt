@@ -1,4 +1,5 @@
 pub mod Buffered
+pub mod Documented
 pub mod EntryParts
 pub mod Lines
 pub mod Pieces

@@ -19,7 +19,7 @@ mod writer;
 
 pub use answers::{Schedule, Transcript};
 pub use entry_reader::page_from;
-pub use limits::{LAST_PROCESS, MOST_MOVES, MOST_TURN, SCHEDULE_LINES};
+pub use limits::{LAST_PROCESS, MOST_MOVES, MOST_TURN, SCHEDULE_LINES, limits_are_documented};
 pub use line::{put_named, put_page};
 pub use numbers::{Numbers, read_numbers};
 pub use pieces::{first_line, read_decimal, strip_end, strip_front};

@@ -1,4 +1,5 @@
 // The limits of a schedule (this project's profile).
+ghost use Rattle.run_text.specs.Documented.{DocumentedLimits};
 
 /// The most lines of a schedule.
 pub const SCHEDULE_LINES: u32 = 65_536;
@@ -11,3 +12,8 @@ pub const MOST_TURN: u32 = 1_000_000;
 
 /// The most moves of the hands by one line.
 pub const MOST_MOVES: u32 = 8_192;
+
+/// These limits are the numbers that `vmrun --help` and FORMATS have.
+pub fn limits_are_documented()
+    ensures { DocumentedLimits }
+{}

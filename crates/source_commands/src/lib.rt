@@ -12,4 +12,4 @@ pub use explaining::explain_source;
 pub use laws::programs_are_images;
 pub use listing::list_file;
 pub use program_file::file_of;
-pub use source::assemble_file;
+pub use source::{assemble_file, source_bytes_are_documented};

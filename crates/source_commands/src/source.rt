@@ -1,9 +1,10 @@
+ghost use Rattle.std.specs.Prelude.{◌≡◌};
 ghost use Rattle.io_edge.specs.Calls.{KeepsFiles};
 ghost use Rattle.io_edge.specs.FileHolding.{NamedFile};
 ghost use Rattle.run_files.specs.Told.{bytes_told};
 ghost use Rattle.command_ending.specs.Ending.{ending_of};
 ghost use Rattle.command_ending.specs.Command.{Made};
-ghost use Rattle.source_commands.specs.Command.{Assembles, EndsAssembly};
+ghost use Rattle.source_commands.specs.Command.{source_bytes, Assembles, EndsAssembly};
 
 use crate::program_file::file_of;
 use command_ending::{Fault, write_ending};
@@ -14,6 +15,11 @@ use vax_asm::{Assembled, assemble};
 
 /// How many bytes of a source are read. A good one has at most 4,096 lines of 121 bytes, which is one byte less.
 pub const SOURCE_BYTES: u64 = 495_617;
+
+/// A source is read up to the number of bytes that FORMATS has.
+pub fn source_bytes_are_documented()
+    ensures { source_bytes ≡ 495617 }
+{}
 
 // The file that a source makes.
 fn file_from<'a, F: Files>(

@@ -13,7 +13,7 @@ use Rattle.flat_model.specs.declared.calls.Reply.{Reply}
 use Rattle.flat_model.specs.declared.calls.Reply.TheVariants.{Fails, Does, Writes, Waits, Exits}
 use Rattle.flat_model.specs.declared.calls.SystemCall.{SystemCall}
 use Rattle.flat_model.specs.declared.calls.SystemCall.TheVariants as system_calls
-use Rattle.flat_model.specs.Calls.{fault, data_limit, replied, replied_both, no_memory, try_again, break_by, write_reply}
+use Rattle.flat_model.specs.Calls.{bad_address, data_limit, replied, replied_both, no_memory, try_again, break_by, write_reply}
 use Rattle.flat_model.specs.Step.{call_entry}
 use Rattle.page_model.specs.Pages.{numbered}
 use Rattle.kernel_model.specs.Kernel.{Proc, Kernel}
@@ -82,8 +82,8 @@ call_continues old new pid call regs (Ok reply) called c n h = reply_continues o
 call_continues old new pid call regs (Err (Miss address write)) called c n h =
     subst (λ (y : Called). Continues old new (called_count y)) (sym h.0)
     (subst (λ (m : Standing). Continues old m 0) (sym h.1) (continues_self old c.clear))
-call_continues old new pid call regs (Err (Below address)) called c n h = reply_continues old new pid call regs (Fails fault) called c tt h
-call_continues old new pid call regs (Err (Signal number)) called c n h = reply_continues old new pid call regs (Fails fault) called c tt h
+call_continues old new pid call regs (Err (Below address)) called c n h = reply_continues old new pid call regs (Fails bad_address) called c tt h
+call_continues old new pid call regs (Err (Signal number)) called c n h = reply_continues old new pid call regs (Fails bad_address) called c tt h
 
 -- A write and a wait.
 

@@ -21,10 +21,10 @@ pub enum Refused {
     Signal(u8),
 }
 
-/// The numbers of the signals are those of 4.3BSD, which the clauses of `step` speak of.
+/// The signals that the clauses of `step` speak of have these numbers, as in 4.3BSD and FORMATS.
 pub fn signals_are_numbered()
-    ensures illegal { SIGILL ≡ sigill }
-    ensures arithmetic { SIGFPE ≡ sigfpe }
-    ensures bus { SIGBUS ≡ sigbus }
-    ensures segmentation { SIGSEGV ≡ sigsegv }
+    ensures illegal { sigill ≡ 4 }
+    ensures arithmetic { sigfpe ≡ 8 }
+    ensures bus { sigbus ≡ 10 }
+    ensures segmentation { sigsegv ≡ 11 }
 {}
