@@ -1,6 +1,6 @@
 //! A list of frame numbers as links by frame number in both directions. The links run in a circle
 //! round the number 0, which is no frame: `next[0]` is the first frame and `prev[0]` the last.
-ghost use Rattle.std.specs.Prelude.{◌≡◌, ℕ, ◌+◌, ◌<◌, ◌≤◌, List, [], ◌∷◌, ◌++◌, length, IfOk, IsNone, IfNone, IfSome, ◌↔◌, ◌-◌, ◌^◌};
+ghost use Rattle.std.specs.Prelude.{◌≡◌, ℕ, ◌+◌, ◌<◌, ◌≤◌, List, [], ◌∷◌, ◌++◌, length, IfOk, IsNone, IfNone, IfSome, ◌↔◌, ◌-◌, ◌^◌, slice_index};
 ghost use Rattle.core_map.specs.Fresh.{first_frames as first_numbers};
 ghost use Rattle.core_map.specs.Order.{place_from};
 ghost use Rattle.vm_facts.specs.Lists.{times, without};
@@ -123,18 +123,18 @@ impl FrameList {
         self.push_front(frame);
     }
 
-    /// The place of a frame in the list, from 1 on; 0 where it isn't there.
-    pub fn place(&self, frame: u32) -> u32
-        ensures { result ≡ place_from 1 frame self.now.frames }
+    /// Writes the place of each frame of the list, from 1 on, at the frame's number.
+    pub fn put_places(&self, places: &mut [u32])
+        requires { self.now.bound ≤ length places.old }
+        ensures length { length places.new ≡ length places.old }
+        ensures listed { (frame : ℕ) → 0 < times frame self.now.frames → slice_index places.new frame ≡ place_from 1 frame self.now.frames }
+        ensures others { (frame : ℕ) → times frame self.now.frames ≡ 0 → slice_index places.new frame ≡ slice_index places.old frame }
     {
         let mut at = 0;
         for before in 0..self.len {
             at = self.next[at as usize];
-            if at == frame {
-                return before + 1;
-            }
+            places[at as usize] = before + 1;
         }
-        0
     }
 }
 

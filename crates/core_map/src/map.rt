@@ -1,10 +1,10 @@
 // The map itself, over the slots, the free list and the index of text pages.
 
-ghost use Rattle.std.specs.Prelude.{◌≡◌, ℕ, ◌+◌, ◌<◌, ◌≤◌, List, [], ◌∷◌, ◌++◌, length, slice_set, IsTrue, IfSome, IfNone, IsNone, ◌↔◌, None, Some, is_some, false, IfOk, ◌-◌, ◌^◌};
+ghost use Rattle.std.specs.Prelude.{◌≡◌, ℕ, ◌+◌, ◌<◌, ◌≤◌, List, [], ◌∷◌, ◌++◌, length, slice_index, slice_set, IsTrue, IfSome, IfNone, IsNone, ◌↔◌, None, Some, is_some, false, IfOk, ◌-◌, ◌^◌};
 ghost use Rattle.core_map.specs.Fresh.{first_frames, fresh_slots};
 ghost use Rattle.core_map.specs.Order.{place_from};
 ghost use Rattle.core_map.specs.Frames.{IsAway, IsSoundMap, HoldsNot, TakesHead};
-ghost use Rattle.vm_facts.specs.Lists.{without};
+ghost use Rattle.vm_facts.specs.Lists.{times, without};
 ghost use Rattle.core_map.specs.Slots.{ShowsOwner, slot_at, is_free, is_resident, is_slot_dirty, slot_owner, slot_page, token_of, with_byte, with_dirty};
 ghost use Rattle.core_map.specs.declared.slot.Slot.TheVariants.{Free as FreeSlot, Resident as ResidentSlot, Away as AwaySlot};
 ghost use Rattle.vm_facts.specs.declared.page.Page.TheVariants.{Text as TextPage};
@@ -67,11 +67,15 @@ impl CoreMap {
         self.free.len()
     }
 
-    /// The place of a frame on the free list, 1 for its head; 0 where the frame isn't free.
-    pub fn free_place(&self, frame: u32) -> u32
-        ensures { result ≡ place_from 1 frame self.now.free }
+    /// Writes the place of each free frame on the free list, 1 for its head, at the frame's number; what stands at other numbers stays.
+    /// It takes one walk of the list.
+    pub fn put_free_places(&self, places: &mut [u32])
+        requires { length self.now.slots ≤ length places.old }
+        ensures length { length places.new ≡ length places.old }
+        ensures free { (frame : ℕ) → 0 < times frame self.now.free → slice_index places.new frame ≡ place_from 1 frame self.now.free }
+        ensures others { (frame : ℕ) → times frame self.now.free ≡ 0 → slice_index places.new frame ≡ slice_index places.old frame }
     {
-        self.free.place(frame)
+        self.free.put_places(places);
     }
 
     /// Takes the frame at the head of the free list, and tells the page that it still held; the map

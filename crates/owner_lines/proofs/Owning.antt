@@ -190,6 +190,15 @@ module _ (p : Placement) (core : Frames) (owns : OwnsFrames p) (shows : ShowsCor
       go (slots.Resident token held mark) is = absurd (let x : whose.Resident held ≡ whose.Free page = sym (ap slot_owner is) ∙ e in cc)
       go slots.Away is = absurd (let x : whose.Away ≡ whose.Free page = sym (ap slot_owner is) ∙ e in cc)
 
+  -- such a frame is on the placement's free list
+  pub free_listed : (page : Option Page) → slot_owner (slot_at core.slots f) ≡ whose.Free page → 0 < times f p.free
+  free_listed page e = go (slot_at core.slots f) refl
+    where
+      go : (s : Slot) → slot_at core.slots f ≡ s → 0 < times f p.free
+      go (slots.Free token held) is = let l = shows.listed f ∙ ap listings is in let same = ap (times f) shows.free in omega (arith, l, same)
+      go (slots.Resident token held mark) is = absurd (let x : whose.Resident held ≡ whose.Free page = sym (ap slot_owner is) ∙ e in cc)
+      go slots.Away is = absurd (let x : whose.Away ≡ whose.Free page = sym (ap slot_owner is) ∙ e in cc)
+
   -- off the free list
   off_list : listings (slot_at core.slots f) ≡ 0 → owner_text p f (free_place p f) ≡ used_text p (page_of p f)
   off_list h = ap (λ (xs : List ℕ). owner_text p f (place_from 1 f xs)) shows.free ∙ ap (owner_text p f) (place_none 1 f core.free (shows.listed f ∙ h))

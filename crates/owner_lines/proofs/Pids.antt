@@ -14,8 +14,8 @@ use Rattle.machine_state.specs.Alike.{AreRecords}
 use Rattle.machine_state.specs.Machine.{life_shown, proc_shown, proc_of_record, processes_of, residence_by, residence_of, residents_of}
 use Rattle.machine_state.proofs.Records.{keeps_none, keeps_some, found_pid}
 use Rattle.machine_state.proofs.ByNumber.{over, over_some, next_follows, none_follows, residence_over}
-use Rattle.owner_lines.specs.Owners.{life_text, registers_in, registers_text, process_line, process_lines}
-use Rattle.owner_lines.specs.Recorded.{record_line, record_lines, record_if}
+use Rattle.owner_lines.specs.Owners.{life_text, registers_in, registers_text, process_lines}
+use Rattle.owner_lines.specs.Recorded.{record_lines, record_if}
 use Rattle.run_text.specs.Text.{parts}
 
 -- Whether a process is out, by its record.

@@ -1,7 +1,7 @@
 // The lines of the frames.
 #![tactic(auto, using(run_text::proofs::Putting::text_none))]
 
-ghost use Rattle.std.specs.Prelude.{◌≡◌, ◌+◌, ◌<◌, ◌^◌, map, slice_get};
+ghost use Rattle.std.specs.Prelude.{◌≡◌, ◌+◌, ◌<◌, ◌^◌, length, map, slice_get, slice_index};
 ghost use Rattle.core_map.specs.Slots.{slot_owner, slot_at, is_slot_dirty};
 ghost use Rattle.core_map.specs.declared.slot.Whose.TheVariants.{Resident as ResidentOwner};
 ghost use Rattle.page_model.specs.Pages.{is_valid};
@@ -13,6 +13,7 @@ ghost use Rattle.machine_state.specs.View.{in_part, out_part, transfer_shown};
 ghost use Rattle.run_text.specs.Text.{parts};
 ghost use Rattle.run_text.specs.Writing.{PutsText};
 ghost use Rattle.owner_lines.specs.Owners.{kept_text, moved_text, used_by, free_text, free_place, owner_text, frame_line, frame_lines};
+ghost use Rattle.owner_lines.specs.FreePlaces.{AreFreePlaces};
 ghost use Rattle.owner_lines.specs.Carried.{page_in, is_write, carried_in, carried_if, carried_from, carried_text};
 
 use crate::words::{put_if, put_page_if};
@@ -215,20 +216,30 @@ fn put_carried<S: Sink>(out: &mut Writer<'_, S>, found: Option<Carried>) -> Resu
     }
 }
 
-// Puts what is said of a frame.
+// The place that is written at a frame's number.
+fn place_of(places: &[u32], frame: u32) -> u32
+    requires { frame < length places.now }
+    ensures { result ≡ slice_index places.now frame }
+{
+    places[frame as usize]
+}
+
+// Puts what is said of a frame, by the places of the free ones.
 fn put_owner<S: Sink>(
     out: &mut Writer<'_, S>,
     machine: &Machine,
     core: &CoreMap,
+    places: &[u32],
     frame: u32,
 ) -> Result<(), Failed>
     requires running { IsRunning machine.now }
     requires shows { ShowsCore machine.now.kernel.place core.now }
+    requires places { AreFreePlaces machine.now.kernel.place places.now }
     requires frame { IsFrame machine.now.kernel.place frame }
     ensures { PutsText S.Sink result (owner_text machine.now.kernel.place frame (free_place machine.now.kernel.place frame)) out.old out.new }
 {
     match core.owner(frame) {
-        Whose::Free(page) => put_free(out, core.free_place(frame), page),
+        Whose::Free(page) => put_free(out, place_of(places, frame), page),
         Whose::Resident(page) => put_used(out, machine, core, frame, page),
         Whose::Away => put_carried(out, find_carrier(machine, frame)),
     }
@@ -239,16 +250,47 @@ fn put_frame<S: Sink>(
     out: &mut Writer<'_, S>,
     machine: &Machine,
     core: &CoreMap,
+    places: &[u32],
     frame: u32,
 ) -> Result<(), Failed>
     requires running { IsRunning machine.now }
     requires shows { ShowsCore machine.now.kernel.place core.now }
+    requires places { AreFreePlaces machine.now.kernel.place places.now }
     requires frame { IsFrame machine.now.kernel.place frame }
     ensures { PutsText S.Sink result (frame_line machine.now.kernel.place frame) out.old out.new }
 {
     put_named(out, b"frame", &[frame])?;
-    put_owner(out, machine, core, frame)?;
+    put_owner(out, machine, core, places, frame)?;
     out.put(b"\n")
+}
+
+// Puts the lines of all frames, by the places of the free ones.
+fn put_placed<S: Sink>(
+    out: &mut Writer<'_, S>,
+    machine: &Machine,
+    core: &CoreMap,
+    places: &[u32],
+) -> Result<(), Failed>
+    requires running { IsRunning machine.now }
+    requires shows { ShowsCore machine.now.kernel.place core.now }
+    requires places { AreFreePlaces machine.now.kernel.place places.now }
+    ensures { PutsText S.Sink result (frame_lines machine.now.kernel.place) out.old out.new }
+{
+    for before in 0..core.frames() {
+        put_frame(out, machine, core, places, before + 1)?;
+    }
+    Ok(())
+}
+
+// The places of the free frames, each at its frame's number.
+fn free_places(machine: &Machine, core: &CoreMap) -> [u32; 4097]
+    requires running { IsRunning machine.now }
+    requires shows { ShowsCore machine.now.kernel.place core.now }
+    ensures { AreFreePlaces machine.now.kernel.place result }
+{
+    let mut places = [0u32; 4097];
+    core.put_free_places(&mut places);
+    places
 }
 
 /// Puts the lines of all frames, from 1 on.
@@ -257,8 +299,6 @@ pub(crate) fn put_frames<S: Sink>(out: &mut Writer<'_, S>, machine: &Machine) ->
     ensures { PutsText S.Sink result (frame_lines machine.now.kernel.place) out.old out.new }
 {
     let core = machine.core();
-    for before in 0..core.frames() {
-        put_frame(out, machine, core, before + 1)?;
-    }
-    Ok(())
+    let places = free_places(machine, core);
+    put_placed(out, machine, core, &places)
 }

@@ -4,7 +4,7 @@ use Rattle.std.specs.List.{flat_map}
 use Rattle.page_model.specs.Frames.{count_up}
 use Rattle.owner_lines.specs.Owners.{frame_line, frame_lines}
 use Rattle.run_text.proofs.Putting.{Leaves}
-use Rattle.owner_lines.proofs.frames.put_frames.Given as goal
+use Rattle.owner_lines.proofs.frames.put_placed.Given as goal
 
 abbrev pub invariant-loop-before : goal.invariant-loop-before
 invariant-loop-before g l =
