@@ -48,6 +48,7 @@ use Rattle.economy_laws.proofs.Stretching.{open_last}
 use Rattle.economy_laws.proofs.Sleeping.{Does, does}
 use Rattle.economy_laws.proofs.Crowds.{RoomFor, of_room, many_applied, many_written}
 use Rattle.economy_laws.proofs.Steps.{step_is, act_some, Grows, grows_of}
+use Rattle.run_laws.proofs.Turning.{turned_ready}
 
 -- How many can step.
 
@@ -277,27 +278,6 @@ turn_next A s p l h = go (nat_lt s.count A.limit) (nat_lt s.lines (length A.line
     go false b x y e = absurd cc
     go true true x y e = absurd (let z = less s.lines (length A.lines) y in omega arith)
     go true false x y e = (less s.count A.limit x, turn (next_turned s.point.flat (last_turned s.mark)) e)
-
-ready_found : (F : FlatState) (above p : ℕ) → Rattle.flat_state.specs.Numbers.AllDistinct (Rattle.flat_state.specs.Numbers.pids_of F)
-    → next_ready F above ≡ Some p → can_step F p ≡ true
-ready_found F above p distinct h = go (find (λ (q : Process). is_ready q && nat_lt above q.pid) F.processes) refl h
-  where
-    number : (z : Process) → Some z.pid ≡ Some p → z.pid ≡ p
-    number z e = cc
-
-    go : (o : Option Process) → find (λ (q : Process). is_ready q && nat_lt above q.pid) F.processes ≡ o → pid_if o ≡ Some p → can_step F p ≡ true
-    go None e k = absurd cc
-    go (Some z) e k = subst (λ (n : ℕ). can_step F n ≡ true) (number z k)
-        (ap ready_if (found_by_number (λ (q : Process). is_ready q && nat_lt above q.pid) F.processes z distinct e)
-        ∙ (and_parts (is_ready z) (nat_lt above z.pid) (found_passes (λ (q : Process). is_ready q && nat_lt above q.pid) F.processes z e)).0)
-
-turned_ready : (F : FlatState) (last p : ℕ) → Rattle.flat_state.specs.Numbers.AllDistinct (Rattle.flat_state.specs.Numbers.pids_of F)
-    → next_turned F last ≡ Some p → can_step F p ≡ true
-turned_ready F last p distinct h = go (next_ready F last) refl h
-  where
-    go : (o : Option ℕ) → next_ready F last ≡ o → or_else o (next_ready F 0) ≡ Some p → can_step F p ≡ true
-    go None e k = ready_found F 0 p distinct k
-    go (Some q) e k = ready_found F last p distinct (e ∙ k)
 
 -- a process whose turn it is, that can step, goes on
 turn_goes : (A : Inputs) (s : State) (pid since : ℕ) → IsRun A s → s.mark ≡ marks.Turn pid since → since ≡ s.count → can_step s.point.flat pid ≡ true

@@ -9,6 +9,7 @@ use Rattle.run_model.specs.After.{after}
 use Rattle.run_model.specs.Next.{next_unit}
 use Rattle.run_model.specs.Lawful.{Follows}
 use Rattle.paging_laws.specs.RunLawsRunning.{IsRun}
+use Rattle.paging_laws.proofs.Turning.{comes_in_turn}
 use Rattle.paging_laws.proofs.Wholes.{unit_run, unit_ready}
 use Rattle.paging_laws.proofs.Called.{zero_called, get_called, get_run, reclaim_called, copy_called}
 use Rattle.paging_laws.proofs.SmallReads.{read_small}
@@ -31,6 +32,7 @@ unit_accounted : (A : Inputs) (s : State) (u : Entry) → ImagesFit A.images →
 unit_accounted A s u images r h = record {
   owned = run_owned A (after A s u) (unit_run A s u images r h);
   ready = λ pid e. unit_ready A s u pid h e;
+  turn = comes_in_turn A s u r h;
   refusal = unit_rightly A s u r h;
   called = unit_called A s u r h;
   leaves = λ q f a b. unit_lost A s u q f r h a b;

@@ -12,6 +12,7 @@ use Rattle.flat_model.specs.Run.{process_of_entry}
 use Rattle.run_model.specs.State.{State}
 use Rattle.run_model.specs.After.{snapshot_of, after}
 use Rattle.paging_laws.specs.RunLawsRunning.{ReadyToStep}
+use Rattle.paging_laws.specs.Turns.{ComesInTurn}
 use Rattle.paging_laws.specs.Called.{IsWanted, IsStartDue, IsCopyDue, IsParentOfDue, IsSmallRead}
 use Rattle.paging_laws.specs.Lost.{IsLost}
 use Rattle.paging_laws.specs.Cleaned.{IsCleaned}
@@ -42,12 +43,14 @@ IsCalledFor A s u = Unit {0}
 -- The account.
 
 -- What is so of a unit, at the state before it: after it each frame and block has one owner or is free; where it is an entry of a
--- process, that can step, is in, and has all pages that its instruction touches; space is refused where there is none; pages come
+-- process, that can step, is in, and has all pages that its instruction touches; it comes in its turn, and who steps does so in memory;
+-- space is refused where there is none; pages come
 -- as they are called for; a page that lost its frame did so for a reason; a dirty page is so still, or was written or given up;
 -- and what must be written, text among it, stays off the free list till its write has ended, but for units of processes.
 pub record IsAccounted (A : Inputs) (s : State) (u : Entry) : Type 0 where
   pub owned : IsOwned A (snapshot_of (after A s u))
   pub ready : (pid : ℕ) → process_of_entry u ≡ Some pid → ReadyToStep A s pid
+  pub turn : ComesInTurn A (snapshot_of s) u
   pub refusal : RefusesRightly A (snapshot_of s) u
   pub called : IsCalledFor A s u
   pub leaves : (q : Page) (f : ℕ) → frame_of (state_of s.place q) ≡ Some f → frame_of (state_of (after A s u).place q) ≢ Some f

@@ -5,6 +5,5 @@ pub mod Places
 pub mod Telling
 pub mod Area
 pub mod Auditing
-pub mod Noting
 pub mod First
 pub mod Registers

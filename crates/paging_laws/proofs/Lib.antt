@@ -3,6 +3,7 @@ pub use Rattle.run_laws.proofs.Lawful
 pub use Rattle.run_laws.proofs.Machines
 pub use Rattle.run_laws.proofs.Plain
 pub use Rattle.run_laws.proofs.SwapImages
+pub use Rattle.run_laws.proofs.Turning
 pub use Rattle.run_laws.proofs.Wholes
 pub mod Called
 pub mod SmallReads

@@ -41,6 +41,8 @@ pub mod LongerJournals
 pub mod Beginning
 pub mod Execs
 pub mod Wholes
+pub mod Noting
+pub mod Turning
 pub mod Finishing
 pub mod CoupledUnits
 pub mod CoupledKinds

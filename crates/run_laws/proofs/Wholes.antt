@@ -93,6 +93,7 @@ unit_ready A s u pid h e = go (kind_of A s u h)
 
     ready : (p : ℕ) (now : Bool) → ProcessRuns A s p now → wanted A s ≡ None → p ≡ pid → ReadyToStep A s pid
     ready p now r w i = subst (ReadyToStep A s) i (record {
+      runs = on_running A s s.mark p now r.on;
       steps = on_steps A s s.mark p now r.on;
       resident = r.resident;
       clear = r.clear;

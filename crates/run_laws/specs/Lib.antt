@@ -4,6 +4,7 @@ pub use Rattle.register_laws.specs.Whole
 pub mod Standing
 pub mod Flowing
 pub mod Running
+pub mod Turns
 pub mod Machine
 pub mod Images
 pub mod Sized

@@ -1,5 +1,5 @@
 -- What stands after each unit of a run.
-use Rattle.std.specs.Prelude.{◌≡◌, ℕ, ◌<◌, ◌≤◌, true, false, List, [], ◌∷◌, length, Some, Ok}
+use Rattle.std.specs.Prelude.{◌≡◌, ℕ, ◌<◌, ◌≤◌, true, false, List, [], ◌∷◌, length, Option, Some, Ok}
 use Rattle.swap_book.specs.Holdings.{Holdings}
 use Rattle.flat_state.specs.Flat.{NamedImage, Inputs, image_numbered, can_step}
 use Rattle.page_model.specs.Swapper.{is_out}
@@ -8,7 +8,7 @@ use Rattle.flat_state.specs.Numbers.{IsNumbered}
 use Rattle.flat_state.specs.Lenders.{LendsStand}
 use Rattle.flat_model.specs.Asked.{start_held}
 use Rattle.flat_model.specs.Touched.{touched}
-use Rattle.run_model.specs.Wanted.{AllValid}
+use Rattle.run_model.specs.Wanted.{running, AllValid}
 use Rattle.run_model.specs.State.{State}
 use Rattle.register_laws.specs.Whole.{AllSized}
 use Rattle.run_laws.specs.Standing.{Placed, TextsHeld, MarkStands}
@@ -39,8 +39,9 @@ pub record CanRun (A : Inputs) (hs : Holdings) : Type 0 where
   pub frames : 0 < A.frames
   pub pieces : start_held A ≡ Ok hs
 
--- A process that makes a flat entry can step, is in, and all pages that it touches are valid.
+-- A process that makes a flat entry runs under the mark, can step, is in, and all pages that it touches are valid.
 pub record ReadyToStep (A : Inputs) (s : State) (pid : ℕ) : Type 0 where
+  pub runs : running s.mark ≡ Some pid
   pub steps : can_step s.point.flat pid ≡ true
   pub resident : is_out s.place pid ≡ false
   pub clear : s.place.due ≡ []

@@ -5,7 +5,7 @@ ghost use Rattle.flat_state.specs.Flat.{Inputs};
 ghost use Rattle.kernel_model.specs.Start.{ImagesFit};
 ghost use Rattle.flat_model.specs.Run.{process_of_entry};
 ghost use Rattle.run_model.specs.State.{State, start};
-ghost use Rattle.run_model.specs.After.{after};
+ghost use Rattle.run_model.specs.After.{snapshot_of, after};
 ghost use Rattle.run_model.specs.Next.{next_unit};
 ghost use Rattle.run_model.specs.Lawful.{Follows, Reaches, IsLawful, IsFinished};
 ghost use Rattle.run_model.specs.Kinds.{ProcessRuns};
@@ -15,6 +15,7 @@ ghost use Rattle.flat_model.specs.Touched.{touched};
 ghost use Rattle.run_model.specs.Wanted.{wanted, locked};
 ghost use Rattle.run_laws.specs.Standing.{IsAllowed};
 ghost use Rattle.run_laws.specs.Running.{IsRun, CanRun, ReadyToStep, IsIdle};
+ghost use Rattle.run_laws.specs.Turns.{ComesInTurn};
 
 /// What stands of a run: at its start, after each next unit, after each list of next units, and so at each state that
 /// a run reaches. Each frame and each block has one owner; at most 16 transfers are in flight, each with a page; the
@@ -27,10 +28,12 @@ pub fn runs_stand()
 {}
 
 /// What each next unit finds: a paging entry its pages, its frame and its transfer; and a flat entry a process that can
-/// step, is in, and all of whose touched pages are valid, while fewer instructions than the limit are counted.
+/// step, is in, and all of whose touched pages are valid, while fewer instructions than the limit are counted. Lines come in their
+/// order and turns after them, notes have the numbers of their state, and who steps does so in frames that no transfer has.
 pub fn units_allowed()
     ensures allowed { (A : Inputs) (s : State) (u : Entry) → IsRun A s → next_unit A s ≡ Some u → IsAllowed s.place u }
     ensures ready { (A : Inputs) (s : State) (u : Entry) (pid : ℕ) → next_unit A s ≡ Some u → process_of_entry u ≡ Some pid → ReadyToStep A s pid }
+    ensures turn { (A : Inputs) (s : State) (u : Entry) → IsRun A s → next_unit A s ≡ Some u → ComesInTurn A (snapshot_of s) u }
 {}
 
 /// A journal that next units make is a run of the flat machine to the state's point, with the state's count and

@@ -21,7 +21,7 @@ use Rattle.swapper.specs.Stops.{StopsBefore}
 use Rattle.flat_model.specs.declared.calls.Reply.{Reply}
 use Rattle.flat_model.specs.declared.calls.Reply.TheVariants.{Fails, Does, Writes, Waits, Exits}
 use Rattle.flat_model.specs.declared.calls.SystemCall.{SystemCall}
-use Rattle.flat_model.specs.Calls.{fault, or_fault, replied}
+use Rattle.flat_model.specs.Calls.{bad_address, or_fault, replied}
 use Rattle.flat_model.specs.Step.{Step, reply_asked, replied_step}
 use Rattle.flat_model.specs.Run.{step_at}
 use Rattle.proc_calls.specs.declared.replying.Called.{Called}
@@ -109,10 +109,10 @@ comes_made A s old new holds image pid now p x effect call (Ok reply) called h m
     quiet_made A s old new holds image pid now p x effect call (Ok reply) reply called h m.names (ready A s old holds image pid now p x effect call (Ok reply) h m e tt) refl q g
 comes_made A s old new holds image pid now p x effect call (Err (Miss address write)) called h m e q g = missed A s old new holds image pid now p x effect call address write called h m e g
 comes_made A s old new holds image pid now p x effect call (Err (Below address)) called h m e q g =
-    quiet_made A s old new holds image pid now p x effect call (Err (Below address)) (Fails fault) called h m.names
+    quiet_made A s old new holds image pid now p x effect call (Err (Below address)) (Fails bad_address) called h m.names
     (ready A s old holds image pid now p x effect call (Err (Below address)) h m e tt) refl tt g
 comes_made A s old new holds image pid now p x effect call (Err (Signal number)) called h m e q g =
-    quiet_made A s old new holds image pid now p x effect call (Err (Signal number)) (Fails fault) called h m.names
+    quiet_made A s old new holds image pid now p x effect call (Err (Signal number)) (Fails bad_address) called h m.names
     (ready A s old holds image pid now p x effect call (Err (Signal number)) h m e tt) refl tt g
 
 -- Where the run stops before the step's first entry.

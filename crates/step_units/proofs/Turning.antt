@@ -27,27 +27,7 @@ use Rattle.step_units.specs.Stepped.{StopLeads}
 use Rattle.step_units.specs.Lines.{IsClear, TurnDue, TurnBegun, CameIn}
 use Rattle.step_units.proofs.Stopping.{stops_here}
 use Rattle.step_units.proofs.Beginning.{one_leads, next_turn}
-
--- Who has a turn can step.
-
-ready_found : (F : FlatState) (above p : ℕ) → AllDistinct (pids_of F) → next_ready F above ≡ Some p → can_step F p ≡ true
-ready_found F above p distinct h = go (find (λ (q : Process). is_ready q && nat_lt above q.pid) F.processes) refl h
-  where
-    number : (z : Process) → Some z.pid ≡ Some p → z.pid ≡ p
-    number z e = cc
-
-    go : (o : Option Process) → find (λ (q : Process). is_ready q && nat_lt above q.pid) F.processes ≡ o → pid_if o ≡ Some p → can_step F p ≡ true
-    go None e k = absurd cc
-    go (Some z) e k = subst (λ (n : ℕ). can_step F n ≡ true) (number z k)
-        (ap ready_if (found_by_number (λ (q : Process). is_ready q && nat_lt above q.pid) F.processes z distinct e)
-        ∙ (and_parts (is_ready z) (nat_lt above z.pid) (found_passes (λ (q : Process). is_ready q && nat_lt above q.pid) F.processes z e)).0)
-
-pub turned_ready : (F : FlatState) (last p : ℕ) → AllDistinct (pids_of F) → next_turned F last ≡ Some p → can_step F p ≡ true
-turned_ready F last p distinct h = go (next_ready F last) refl h
-  where
-    go : (o : Option ℕ) → next_ready F last ≡ o → or_else o (next_ready F 0) ≡ Some p → can_step F p ≡ true
-    go None e k = ready_found F 0 p distinct k
-    go (Some q) e k = ready_found F last p distinct (e ∙ k)
+use Rattle.run_laws.proofs.Turning.{turned_ready}
 
 below : (a b : ℕ) → a < b → nat_lt a b ≡ true
 below a b e = grind (arith, nat_tests)

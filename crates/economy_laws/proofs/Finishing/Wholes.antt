@@ -34,51 +34,13 @@ use Rattle.economy_laws.proofs.Idle.{few_turns}
 use Rattle.economy_laws.proofs.Finishing.Stages.{is_boundary, Stage}
 use Rattle.economy_laws.proofs.Finishing.Marks.{still_ends}
 use Rattle.economy_laws.proofs.Finishing.Processes.{process_ends}
+use Rattle.run_laws.proofs.Turning.{mark_is_next}
 
 -- Within a stage the run finishes.
 stage_ends : (A : Inputs) (P : State → Type 0) (s : State) → Stage A P → P s → Finishes A s
 stage_ends A P s g p = still_ends A P s g (process_ends A P s g p) p
 
 -- What boundaries are.
-
-paging_unmarked : (u : Entry) → IsPaging u → IsMark u → ⊥
-paging_unmarked (entries.Event line) k m = k
-paging_unmarked (entries.Turn p) k m = k
-paging_unmarked _ k m = m
-
-flat_unmarked : (u : Entry) (pid : ℕ) → process_of_entry u ≡ Some pid → IsMark u → ⊥
-flat_unmarked (entries.Event line) pid e m = absurd cc
-flat_unmarked (entries.Turn p) pid e m = absurd cc
-flat_unmarked _ pid e m = m
-
--- a line or a turn is the next mark
-mark_next : (A : Inputs) (s : State) (u : Entry) → next_unit A s ≡ Some u → IsMark u → next_mark A s ≡ Some u
-mark_next A s u h m = go (kind_of A s u h)
-  where
-    paging : (x : Entry) → u ≡ x → IsPaging x → next_mark A s ≡ Some u
-    paging x i k = absurd (paging_unmarked u (subst IsPaging (sym i) k) m)
-
-    other : (x : Entry) → u ≡ x → (IsMark x → ⊥) → next_mark A s ≡ Some u
-    other x i k = absurd (k (subst IsMark i m))
-
-    acts : (pid : ℕ) → Acted A s pid u → next_mark A s ≡ Some u
-    acts pid (Settles i) = other entries.Done i (λ z. z)
-    acts pid (Refuses i) = other (entries.Refused pid) i (λ z. z)
-    acts pid (Steps f g i) = absurd (flat_unmarked u pid (steps_own A s.point pid u i) m)
-
-    go : Kind A s u → next_mark A s ≡ Some u
-    go (Fills q ds e i) = paging _ i (zero_paging s.place q)
-    go (Brings q parent ds e i) = paging _ (unit_is s.place parent true u i).1 (serve_paging s.place parent)
-    go (Copies q parent ds e k i) = paging _ i (copy_paging s.place q)
-    go (Serves pid now q r w i) = paging _ (unit_is s.place q now u i).1 (serve_paging s.place q)
-    go (Acts pid now r w a) = acts pid (acted A s pid u a)
-    go (ComesIn pid e c i) = other (entries.SwapIn pid) i (λ z. z)
-    go (Interrupts e k i) = other entries.Done i (λ z. z)
-    go (Moves count e k l w i) = paging _ i (move_paging s.place (locked A s))
-    go (PutsOut pid e k i) = unit_case (λ (x : Entry). u ≡ x → next_mark A s ≡ Some u) s.place pid (space_of_process (process_of s.point.flat pid))
-        (λ t ts z j. other entries.Done j (λ y. y)) (λ v a z y j. other _ j (λ x. x)) (λ a z j. other _ j (λ x. x)) i
-    go (Notes e k i) = other _ i (λ z. z)
-    go (Begins e k i) = i
 
 -- a line comes while there are some, and a turn after them
 mark_lines : (A : Inputs) (s : State) (u : Entry) → next_mark A s ≡ Some u
@@ -182,11 +144,11 @@ between_turns k A n l s images frames fewer later more w = stage_ends A (Within 
         let b = counts_one u (next_is_unit A t u h) c in
         let d = r.below in
         fewer (after A t u) (unit_run A t u images x.run h) (omega arith) (omega (arith, x.limit))
-    by t u x h (Line m e z) = elim (mark_lines A t u (mark_next A t u h m)) [
+    by t u x h (Line m e z) = elim (mark_lines A t u (mark_is_next A t u m h)) [
       | inl y ↦ later (after A t u) (unit_run A t u images x.run h) (omega (arith, after_count A t u, x.limit)) (let a = y.0 in omega arith) (omega (arith, x.lines))
       | inr y ↦ absurd (let a = y.1 in omega arith)
     ]
-    by t u x h (Turning m e z c) = elim (mark_lines A t u (mark_next A t u h m)) [
+    by t u x h (Turning m e z c) = elim (mark_lines A t u (mark_is_next A t u m h)) [
       | inl y ↦ absurd (let a = y.1 in omega arith)
       | inr y ↦
           let on = turns_less A t u k (x.turns y.0) h c in

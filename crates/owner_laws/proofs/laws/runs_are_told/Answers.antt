@@ -1,5 +1,5 @@
 use Rattle.owner_laws.proofs.Auditing.{told_there, audit_there}
-use Rattle.owner_laws.proofs.Noting.{noted_are}
+use Rattle.run_laws.proofs.Noting.{noted_are}
 use Rattle.owner_laws.proofs.laws.runs_are_told.Goals as goal
 
 pub returns-clause-told : goal.returns-clause-told
