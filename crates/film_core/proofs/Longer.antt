@@ -36,6 +36,11 @@ last_few [] e n h l = absurd cc
 last_few (f ∷ []) e n h l = subst (λ (x : Entry). moves x ≤ n) (let z : e ≡ f = cc in z) l
 last_few (f ∷ g ∷ es) e n h l = last_few (g ∷ es) e n h l
 
+pub last_is : (es : List Entry) (e : Entry) → Some e ≡ last_entry es → last_moves es ≡ moves e
+last_is [] e h = absurd cc
+last_is (f ∷ []) e h = ap moves (let z : f ≡ e = cc in z)
+last_is (f ∷ g ∷ es) e h = last_is (g ∷ es) e h
+
 pub last_none : (es : List Entry) → None ≡ last_entry es → last_moves es ≡ 0
 last_none [] h = refl
 last_none (f ∷ []) h = absurd cc

@@ -38,6 +38,7 @@ use Rattle.vm_core.proofs.Going.{few_at}
 use Rattle.film_core.specs.Films.{IsInOrder}
 use Rattle.film_core.specs.Marks.{marked_by, marked_if, mark_behind, lines_behind}
 use Rattle.film_core.proofs.Longer.{same_behind}
+use Rattle.run_laws.proofs.Turning.{next_begins}
 
 -- One entry more is made by its own units.
 
@@ -49,64 +50,6 @@ one_follows A s t us e f j =
     let own : units_of (s.journal ++ e ∷ []) ≡ units_of s.journal ++ units_with e [] = units-append s.journal (e ∷ []) in
     let same : us ≡ units_with e [] = same_behind (units_of s.journal) us (units_with e []) (sym all ∙ ap units_of (sym behind ∙ j) ∙ own) in
     subst (λ (vs : List Entry). Follows A s vs t) same f
-
--- A line or a turn begins where the last mark is over.
-
-mark_pages : (u : Entry) → IsMark u → IsPaging u → ⊥
-mark_pages (entries.Event line) k p = p
-mark_pages (entries.Turn pid) k p = p
-mark_pages _ k p = k
-
-mark_own : (u : Entry) → IsMark u → process_of_entry u ≡ None
-mark_own (entries.Event line) k = refl
-mark_own (entries.Turn pid) k = refl
-mark_own _ k = absurd k
-
-mark_begins : (A : Inputs) (s : State) (u : Entry) → IsMark u → Kind A s u → next_mark A s ≡ Some u
-mark_begins A s u k (Fills q ds e i) = absurd (mark_pages u k (subst IsPaging (sym i) (zero_paging s.place q)))
-mark_begins A s u k (Brings q parent ds e i) = absurd (mark_pages u k (subst IsPaging (sym (unit_is s.place parent true u i).1) (serve_paging s.place parent)))
-mark_begins A s u k (Copies q parent ds e v i) = absurd (mark_pages u k (subst IsPaging (sym i) (copy_paging s.place q)))
-mark_begins A s u k (Serves pid now q r w i) = absurd (mark_pages u k (subst IsPaging (sym (unit_is s.place q now u i).1) (serve_paging s.place q)))
-mark_begins A s u k (Acts pid now r w a) = by (acted A s pid u a)
-  where
-    by : Acted A s pid u → next_mark A s ≡ Some u
-    by (Settles i) = absurd (subst IsMark i k)
-    by (Refuses i) = absurd (subst IsMark i k)
-    by (Steps f g i) = absurd (let z : None ≡ Some pid = sym (mark_own u k) ∙ steps_own A s.point pid u i in cc)
-mark_begins A s u k (ComesIn pid e c i) = absurd (subst IsMark i k)
-mark_begins A s u k (Interrupts e m i) = absurd (subst IsMark i k)
-mark_begins A s u k (Moves count e m l w i) = absurd (mark_pages u k (subst IsPaging (sym i) (move_paging s.place (locked A s))))
-mark_begins A s u k (PutsOut pid e m i) = absurd (unit_case (λ (x : Entry). IsMark x → ⊥) s.place pid (space_of_process (process_of s.point.flat pid))
-    (λ t ts h z. z) (λ v a h w z. z) (λ a h z. z) (subst IsMark i k))
-mark_begins A s u k (Notes e m i) = absurd (subst IsMark i k)
-mark_begins A s u k (Begins e m i) = i
-
--- a line is the next one, and there; and before a turn all lines are taken
-abbrev BeginsSo : Inputs → State → Entry → Type 0
-BeginsSo A s (entries.Event line) = (line ≡ s.lines + 1) × (s.lines < length A.lines)
-BeginsSo A s (entries.Turn pid) = length A.lines ≤ s.lines
-BeginsSo A s _ = ⊥
-
-begins_so : (A : Inputs) (s : State) (u : Entry) → next_mark A s ≡ Some u → BeginsSo A s u
-begins_so A s u h = go (nat_lt s.count A.limit) (nat_lt s.lines (length A.lines)) refl h
-  where
-    behind : nat_lt s.lines (length A.lines) ≡ false → length A.lines ≤ s.lines
-    behind e = grind (arith, nat_tests)
-
-    before : nat_lt s.lines (length A.lines) ≡ true → s.lines < length A.lines
-    before e = grind (arith, nat_tests)
-
-    turn : (o : Option ℕ) → length A.lines ≤ s.lines → turn_of o ≡ Some u → BeginsSo A s u
-    turn None l e = absurd cc
-    turn (Some pid) l e = subst (BeginsSo A s) (let same : entries.Turn pid ≡ u = cc in same) l
-
-    go : (a b : Bool) → nat_lt s.lines (length A.lines) ≡ b → when a (line_or_turn s b) ≡ Some u → BeginsSo A s u
-    go false b x e = absurd cc
-    go true true x e = subst (BeginsSo A s) (let same : entries.Event (s.lines + 1) ≡ u = cc in same) (refl, before x)
-    go true false x e = turn (next_turned s.point.flat (last_turned s.mark)) (behind x) e
-
-next_begins : (A : Inputs) (s : State) (u : Entry) → IsMark u → next_unit A s ≡ Some u → BeginsSo A s u
-next_begins A s u k n = begins_so A s u (mark_begins A s u k (kind_of A s u n))
 
 -- No more lines are taken than there are.
 
@@ -291,7 +234,7 @@ pub order_follows : (A : Inputs) (s t : State) (k : Kernel) (count : ℕ) (e : E
     → Follows A s (units_with e []) t
     → IsInOrder A.lines (lines_behind s.lines e) (mark_behind k count (slice_get A.lines s.lines) s.mark e)
 order_follows A s t k count (entries.Event line) few h f = asked_if_order k A.lines s.lines line count (slice_get A.lines s.lines) few refl
-order_follows A s t k count (entries.Turn pid) few h f = next_begins A s (entries.Turn pid) tt f.0
+order_follows A s t k count (entries.Turn pid) few h f = (next_begins A s (entries.Turn pid) tt f.0).0
 order_follows A s t k count (entries.Hands n) few h f = moved_order A.lines s.lines n s.mark h
 order_follows A s t k count entries.Done few h f = completed_order A.lines s.lines s.mark h
 order_follows A s t k count (entries.SwapIn pid) few h f = brought_order A.lines s.lines s.mark h

@@ -1,5 +1,5 @@
 //! What is known of a run beside its machine.
-ghost use Rattle.std.specs.Prelude.{◌≡◌, ◌≤◌, true};
+ghost use Rattle.std.specs.Prelude.{◌≡◌, ◌≤◌, ◌↔◌, true};
 ghost use Rattle.flat_state.specs.Journal.{counted};
 ghost use Rattle.machine_state.specs.Going.{IsRunning};
 ghost use Rattle.journal_laws.specs.LastMoves.{last_moves};
@@ -181,7 +181,7 @@ fn moves_counted(e: &Entry) -> u32
 
 /// Whether the last entry counts no more than a million moves of the hands.
 pub(crate) fn has_few_moves(journal: &[Entry]) -> bool
-    ensures { result ≡ true → last_moves journal.now ≤ 1000000 }
+    ensures { result ≡ true ↔ last_moves journal.now ≤ 1000000 }
 {
     match journal.last() {
         Some(e) => moves_counted(e) <= 1_000_000,
