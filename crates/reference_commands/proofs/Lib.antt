@@ -1,3 +1,4 @@
+pub use Rattle.run_command.proofs.Found
 pub mod Bytes
 pub mod Copies
 pub mod Counts

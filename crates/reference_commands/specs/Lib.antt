@@ -1,5 +1,6 @@
 pub use Rattle.run_command.specs.Asking as RunCommandAsking
 pub use Rattle.run_command.specs.Ends as RunCommandEnds
+pub use Rattle.run_command.specs.Headline as RunHeadline
 pub use Rattle.run_command.specs.Headlines
 pub use Rattle.run_command.specs.Outside
 pub use Rattle.run_command.specs.Loads

@@ -1,19 +1,40 @@
 -- The headline holds of a run that words ask for, however it ended.
-use Rattle.std.proofs.Common.{◌≡◌, ◌≢◌, ◌⊎◌, inl, inr, ℕ, List, [], Option, Some, Ok, Err, ap, ◌∙◌}
+use Rattle.std.proofs.Common.{◌≡◌, ◌⊎◌, inl, inr, ℕ, List, [], Option, Some, Result, Ok, Err, sym, ap, ◌∙◌}
 use Rattle.vm_facts.specs.declared.entry.Entry.{Entry}
 use Rattle.io_edge.specs.FileHolding.{NamedFile}
 use Rattle.io_edge.specs.Striping.{pair_blocks, first_blocks, pair_image}
-use Rattle.flat_state.specs.Flat.{Inputs}
-use Rattle.vm_core.specs.Headline.{Headline}
-use Rattle.vm_core.proofs.Headlines.{carries_headline}
+use Rattle.flat_state.specs.Flat.{NamedImage, Inputs}
+use Rattle.flat_model.specs.Asked.{start_held}
+use Rattle.run_files.specs.declared.answers.Unread.{Unread}
+use Rattle.run_files.specs.ImageWords.{image_names}
+use Rattle.vm_core.specs.Headline.{Headline, HeadlineOver}
+use Rattle.vm_core.proofs.Headlines.{carries_headline, headline_over}
 use Rattle.command_ending.specs.declared.fault.Fault.{Fault}
 use Rattle.command_ending.specs.declared.fault.Fault.TheVariants.{Absent, NotImage, BadSchedule, FileFault, SwapReadFault, SwapWriteFault, NoMemory, JournalFull, NoSpace, ShortDevice}
-use Rattle.command_ending.proofs.Statuses.{status_is_not_0}
+use Rattle.command_ending.specs.Named.{Why}
 use Rattle.command_words.specs.Asked.{Request}
+use Rattle.run_opening.specs.Schedules.{schedule_found, HasBadEvent}
+use Rattle.run_opening.specs.Images.{images_found}
+use Rattle.run_command.specs.Asking.{AsksFor}
 use Rattle.run_command.specs.Paired.{image_together}
 use Rattle.run_command.specs.Seen.{Seen}
-use Rattle.run_command.specs.Ends.{RunEnding, status_of, line_of, FaultEnded, RunEnded, RunOfWords, EndsTold, Runs}
-use Rattle.run_command.specs.Headlines.{HeadlineOfWords, CarriesHeadline}
+use Rattle.run_command.specs.Ends.{RunEnding, IsCaused, IsJudged, FaultEnded, RunEnded, RunOfWords, EndsTold, Runs}
+use Rattle.run_command.proofs.Found.{no_absent, no_bad_event}
+use Rattle.run_command.specs.Headlines.{OfWords, AskForNothing, HeadlineOfWords, Says, CarriesHeadline}
+
+-- What words ask for that isn't there.
+
+module _ (request : Request) (files : List NamedFile) where
+  unread_schedule : (unread : Unread) → schedule_found files request.schedule ≡ Err unread → AskForNothing request files
+  unread_schedule unread is A asks = no_absent (schedule_found files request.schedule) A.lines unread asks.lines is
+
+  no_image : (why : Why) → images_found files (image_names request.words) ≡ Err why → AskForNothing request files
+  no_image why is A asks = absurd (let z : (let r : Result (List NamedImage) Why = Err why in r) ≡ Ok A.images = sym is ∙ asks.images in cc)
+
+  bad_schedule : (line : ℕ) → HasBadEvent (schedule_found files request.schedule) line → AskForNothing request files
+  bad_schedule line bad A asks = no_bad_event (schedule_found files request.schedule) A.lines line asks.lines bad
+
+-- How a run ended.
 
 module _ (A : Inputs) (es : List Entry) (image : List ℕ) (after : Option (List ℕ)) where
   halted : (fault : Fault) → FaultEnded A es image after fault → (es ≡ []) ⊎ Headline A es
@@ -24,49 +45,39 @@ module _ (A : Inputs) (es : List Entry) (image : List ℕ) (after : Option (List
   halted (NoSpace pid) e = inl e.0.0
   halted _ e = absurd e
 
-module _ (seen : Seen) (A : Inputs) (es : List Entry) (image : List ℕ) where
-  ended : (ending : RunEnding) → RunEnded seen A es image ending → (es ≡ []) ⊎ Headline A es
-  ended (Ok done) e = inr (carries_headline A es e.state e.made)
-  ended (Err NoMemory) (inl (calm, inl none)) = inl none.0
-  ended (Err NoMemory) (inl (calm, inr starved)) = inr (carries_headline A es starved.state starved.made)
-  ended (Err NoMemory) (inr lost) = halted A es image seen.swap_after lost.0 lost.2.1
-  ended (Err FileFault) e = halted A es image seen.swap_after FileFault e
-  ended (Err (SwapReadFault device)) e = halted A es image seen.swap_after (SwapReadFault device) e
-  ended (Err (SwapWriteFault device)) e = halted A es image seen.swap_after (SwapWriteFault device) e
-  ended (Err JournalFull) e = halted A es image seen.swap_after JournalFull e
-  ended (Err (NoSpace pid)) e = halted A es image seen.swap_after (NoSpace pid) e
-  ended (Err _) e = absurd e
+-- where memory lacked, nothing ran, or the headline holds
+lacked : (seen : Seen) (A : Inputs) (es : List Entry) (image : List ℕ) → RunEnded seen A es image (Err NoMemory) → (es ≡ []) ⊎ Headline A es
+lacked seen A es image (inl (calm, inl none)) = inl none.0
+lacked seen A es image (inl (calm, inr starved)) = inr (carries_headline A es starved.state starved.made)
+lacked seen A es image (inr lost) = halted A es image seen.swap_after lost.0 lost.2.1
 
 module _ (request : Request) (seen : Seen) (files : List NamedFile) (es : List Entry) (image : List ℕ) where
-  of_words : (ending : RunEnding) → RunOfWords request seen files es image ending → (es ≡ []) ⊎ HeadlineOfWords request files es
-  of_words ending w = elim (ended seen w.inputs es image ending w.ended) [
+  starved_words : RunOfWords request seen files es image (Err NoMemory) → (es ≡ []) ⊎ HeadlineOfWords request files es
+  starved_words w = elim (lacked seen w.inputs es image w.ended) [
     | inl none ↦ inl none
-    | inr headline ↦ inr (record { inputs = w.inputs; asks = w.asks; headline = headline })
+    | inr headline ↦ inr (record { inputs = w.inputs; asks = w.asks; so = headline })
   ]
 
-  told : (ending : RunEnding) → EndsTold request seen files es image ending → (es ≡ []) ⊎ HeadlineOfWords request files es
-  told (Ok done) e = of_words (Ok done) e
-  told (Err (Absent name)) e = inl e.0
-  told (Err (NotImage name reason)) e = inl e.0
-  told (Err (BadSchedule line)) e = inl e.0
-  told (Err (ShortDevice device blocks needed)) e = inl e.0
-  told (Err FileFault) (inl before) = inl before.1.0
-  told (Err FileFault) (inr within) = of_words (Err FileFault) within.2
-  told (Err NoMemory) (inl none) = inl none.1.0
-  told (Err NoMemory) (inr words) = of_words (Err NoMemory) words
-  told (Err (SwapReadFault device)) e = of_words (Err (SwapReadFault device)) e
-  told (Err (SwapWriteFault device)) e = of_words (Err (SwapWriteFault device)) e
-  told (Err JournalFull) e = of_words (Err JournalFull) e
-  told (Err (NoSpace pid)) e = of_words (Err (NoSpace pid)) e
-  told (Err fault) e = of_words (Err fault) e
-
-  -- of a run that is finished the headline holds, and one that isn't has a status of its own
-  carried : (ending : RunEnding) → EndsTold request seen files es image ending → ((es ≡ []) × (status_of ending ≢ 0)) ⊎ HeadlineOfWords request files es
-  carried (Ok done) w = inr (record { inputs = w.inputs; asks = w.asks; headline = carries_headline w.inputs es w.ended.state w.ended.made })
-  carried (Err fault) e = elim (told (Err fault) e) [
-    | inl none ↦ inl (none, status_is_not_0 fault)
-    | inr headline ↦ inr headline
-  ]
+  says : (ending : RunEnding) → IsCaused request seen es ending → IsJudged request seen files ending → EndsTold request seen files es image ending
+      → Says request files seen.zero_blocks seen.one_blocks es ending
+  says (Ok done) c j w = record { inputs = w.inputs; asks = w.asks; so = headline_over w.inputs es image seen.swap_after w.ended }
+  says (Err (Absent name)) c (inl (is, absent)) e = (e.0, unread_schedule request files _ absent)
+  says (Err (Absent name)) c (inr fails) e = (e.0, no_image request files _ fails.1)
+  says (Err (NotImage name reason)) c fails e = (e.0, no_image request files _ fails.1)
+  says (Err (BadSchedule line)) c bad e = (e.0, bad_schedule request files line bad)
+  says (Err (ShortDevice device blocks needed)) c short e = (e.0, c.1)
+  says (Err FileFault) c j (inl before) = inl before.1.0
+  says (Err FileFault) c j (inr within) =
+      let w = within.2 in
+      inr (record { inputs = w.inputs; asks = w.asks; so = carries_headline w.inputs es w.ended.state w.ended.made })
+  says (Err NoMemory) c j (inl none) = inl none.1.0
+  says (Err NoMemory) c j (inr words) = starved_words words
+  says (Err (SwapReadFault device)) c j w = record { inputs = w.inputs; asks = w.asks; so = carries_headline w.inputs es w.ended.state w.ended.made }
+  says (Err (SwapWriteFault device)) c j w = record { inputs = w.inputs; asks = w.asks; so = carries_headline w.inputs es w.ended.state w.ended.made }
+  says (Err JournalFull) c j w =
+      (record { inputs = w.inputs; asks = w.asks; so = carries_headline w.inputs es w.ended.state w.ended.made }, c.0.1)
+  says (Err (NoSpace pid)) c j w = (w.ended.0.0, record { inputs = w.inputs; asks = w.asks; so = w.ended.1 })
+  says (Err _) c j w = absurd c.0
 
 -- the image of a pair is told where both devices tell theirs
 pair_told : (blocks : ℕ) (zero one : Option (List ℕ)) (evens odds : List ℕ) → zero ≡ Some evens → one ≡ Some odds
@@ -76,14 +87,14 @@ pair_told blocks zero one evens odds first second =
 
 pub run_carries : (request : Request) (seen : Seen) (status : ℕ) → Runs request seen status
     → (zero one : Option (List ℕ)) → seen.swap_before ≡ image_together seen.zero_blocks seen.one_blocks zero one
-    → CarriesHeadline request seen.files zero one seen.written_before seen.written_after seen.sink_faults_before seen.sink_faults_after status
+    → CarriesHeadline request seen.files zero one seen.zero_blocks seen.one_blocks
+    seen.written_before seen.written_after seen.sink_faults_before seen.sink_faults_after status
 run_carries request seen status r zero one swap = record {
   journal = r.journal;
-  line = line_of r.ending;
-  whole = status_of r.ending;
+  ending = r.ending;
   writes = r.writes;
   told = λ files evens odds is octets first second.
       let blocks : ℕ = pair_blocks seen.zero_blocks seen.one_blocks in
-      carried request seen files r.journal (first_blocks blocks evens odds) r.ending
+      says request seen files r.journal (first_blocks blocks evens odds) r.ending r.caused (r.judged files is)
       (r.told files (first_blocks blocks evens odds) is octets (swap ∙ pair_told blocks zero one evens odds first second));
 }

@@ -5,6 +5,8 @@ pub mod Inputs
 pub mod Endings
 pub mod Pairs
 pub mod Runs
+pub mod Found
+pub mod Early
 pub mod Headline
 pub mod LoadSpace
 pub mod Counted

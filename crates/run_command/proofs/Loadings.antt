@@ -50,7 +50,7 @@ fault_written number journal fault before after old new status w = w
 
 -- files that never fail are the cause of none
 no_file_fault : (A : Type 0) → Rose 0 0 → A
-no_file_fault A (inl low) = absurd (omega arith)
+no_file_fault A (inl rises) = absurd (let one_more = rises.1 in omega (arith, one_more))
 no_file_fault A (inr last) = absurd (let most = last.0 in omega arith)
 
 -- so the run didn't halt by one

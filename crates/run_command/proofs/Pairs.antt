@@ -4,7 +4,9 @@ use Rattle.std.specs.Option.{ForSome}
 use Rattle.vm_facts.specs.declared.entry.Entry.{Entry}
 use Rattle.vm_facts.specs.declared.stop.Stop.{Stop}
 use Rattle.vm_facts.specs.declared.stop.Stop.TheVariants as stops
+use Rattle.io_edge.specs.Count.{Rose}
 use Rattle.io_edge.specs.PairFailures.{AddsFailures}
+use Rattle.io_edge.proofs.PairCalls.{none_rose, rose_alone}
 use Rattle.flat_state.specs.Flat.{Inputs}
 use Rattle.machine_state.specs.Outside.{CountsReadFaults, CountsWriteFaults}
 use Rattle.vm_core.specs.declared.schedule.Unfinished.{Unfinished}
@@ -23,14 +25,20 @@ stopped_ends A es image j stop fault e x = subst (λ (u : Unfinished). RunEnds A
 -- while a pair that counted no failed call counts none, no device does
 pub none_failed : (f : DeviceFaults) (old new : ℕ) (before after : Option ℕ)
     → AddsFailures old new before after f.zero_before f.zero_after f.one_before f.one_after → old ≡ 0 → new ≡ old → NoneFailed f
-none_failed f old new before after a none same = let both = a.still same (omega arith) in record { zero = both.0; one = both.1 }
+none_failed f old new before after a none same =
+    let both = none_rose old new before after f.zero_before f.zero_after f.one_before f.one_after a none same in
+    record { zero = both.0; one = both.1 }
 
--- the device that is named failed
+rose_once : (old new : ℕ) → old ≡ 0 → Rose old new → new ≤ 1
+rose_once old new none (inl rises) = let one_more = rises.1 in omega (arith, none, one_more)
+rose_once old new none (inr stands) = let same = stands.1 in omega (arith, none, same)
+
+-- once it counts one, the device that is named failed, by one call, and the other by none
 pub device_failed : (f : DeviceFaults) (old new : ℕ) (before after : Option ℕ) (device : ℕ)
-    → AddsFailures old new before after f.zero_before f.zero_after f.one_before f.one_after → before ≡ None
+    → AddsFailures old new before after f.zero_before f.zero_after f.one_before f.one_after → old ≡ 0 → before ≡ None → Rose old new
     → ForSome after (λ (d : ℕ). d < 2) → after ≡ Some device → DeviceFailed device f
-device_failed f old new before after device a none low named =
-    (low device named, elim (a.named device named) [ inl e ↦ absurd cc | inr rose ↦ rose ])
+device_failed f old new before after device a none unnamed rose low named =
+    (low device named, rose_alone old new before after f.zero_before f.zero_after f.one_before f.one_after device a none unnamed (rose_once old new none rose) named)
 
 -- a stop that isn't of a read from swap, or of a write
 stop_of : (stop : Stop) (fault : Fault) (other : Stop) → IsFaultOf stop fault → (unfinished_by fault ≡ ends.Stopped other → ⊥) → stop ≡ other → ⊥
@@ -58,6 +66,15 @@ writes_stay stops.JournalFull old new other c = c
 writes_stay stops.FileFault old new other c = c
 writes_stay stops.SwapReadFault old new other c = c
 
+-- a stop that is said as a failed read is one, and so is one that is said as a failed write
+rose_at : (stop : Stop) (old new device : ℕ) → IsFaultOf stop (SwapReadFault device) → CountsReadFaults (Some stop) old new → Rose old new
+rose_at stop old new device is c =
+    subst (λ (s : Stop). CountsReadFaults (Some s) old new) (let same : stop ≡ stops.SwapReadFault = cc in same) c
+
+wrote_at : (stop : Stop) (old new device : ℕ) → IsFaultOf stop (SwapWriteFault device) → CountsWriteFaults (Some stop) old new → Rose old new
+wrote_at stop old new device is c =
+    subst (λ (s : Stop). CountsWriteFaults (Some s) old new) (let same : stop ≡ stops.SwapWriteFault = cc in same) c
+
 module _ (f : DeviceFaults) (old new : ℕ) (before after : Option ℕ) (a : AddsFailures old new before after f.zero_before f.zero_after f.one_before f.one_after) (zero : old ≡ 0) (none : before ≡ None)
     (low : ForSome after (λ (d : ℕ). d < 2)) (stop : Stop) where
   reads_none : (fault : Fault) → CountsReadFaults (Some stop) old new → IsFaultOf stop fault → (unfinished_by fault ≡ ends.Stopped stops.SwapReadFault → ⊥) → NoneFailed f
@@ -68,7 +85,7 @@ module _ (f : DeviceFaults) (old new : ℕ) (before after : Option ℕ) (a : Add
 
   pub reads_fail : (fault : Fault) → CountsReadFaults (Some stop) old new → IsFaultOf stop fault → IsRunFault fault → ((device : ℕ) → fault ≡ SwapReadFault device → after ≡ Some device)
       → ReadsFail (Err fault) f
-  reads_fail (SwapReadFault device) c is kind named = device_failed f old new before after device a none low (named device refl)
+  reads_fail (SwapReadFault device) c is kind named = device_failed f old new before after device a zero none (rose_at stop old new device is c) low (named device refl)
   reads_fail FileFault c is kind named = reads_none FileFault c is (λ e. cc)
   reads_fail (SwapWriteFault device) c is kind named = reads_none (SwapWriteFault device) c is (λ e. cc)
   reads_fail NoMemory c is kind named = reads_none NoMemory c is (λ e. cc)
@@ -78,7 +95,7 @@ module _ (f : DeviceFaults) (old new : ℕ) (before after : Option ℕ) (a : Add
 
   pub writes_fail : (fault : Fault) → CountsWriteFaults (Some stop) old new → IsFaultOf stop fault → IsRunFault fault → ((device : ℕ) → fault ≡ SwapWriteFault device → after ≡ Some device)
       → WritesFail (Err fault) f
-  writes_fail (SwapWriteFault device) c is kind named = device_failed f old new before after device a none low (named device refl)
+  writes_fail (SwapWriteFault device) c is kind named = device_failed f old new before after device a zero none (wrote_at stop old new device is c) low (named device refl)
   writes_fail FileFault c is kind named = writes_none FileFault c is (λ e. cc)
   writes_fail (SwapReadFault device) c is kind named = writes_none (SwapReadFault device) c is (λ e. cc)
   writes_fail NoMemory c is kind named = writes_none NoMemory c is (λ e. cc)

@@ -138,8 +138,7 @@ caused_so request seen es (Err FileFault) c d = inr (c, d)
 caused_so request seen es (Err (SwapReadFault device)) c d = (c, d)
 caused_so request seen es (Err (SwapWriteFault device)) c d = (c, d)
 caused_so request seen es (Err JournalFull) c d = (c, d)
-caused_so request seen es (Err NoMemory) (inl none) d = inl none
-caused_so request seen es (Err NoMemory) (inr lost) d = inr (lost, d)
+caused_so request seen es (Err NoMemory) c d = inr (c, d)
 caused_so request seen es (Err (NoSpace pid)) c d = (c, d)
 caused_so request seen es (Err _) c d = absurd c
 
@@ -224,7 +223,7 @@ module _ (request : Request) (seen : Seen) (same : seen.swap_after ≡ seen.swap
     journal = [];
     writes = w;
     within = omega arith;
-    caused = inl (none_faulted opens);
+    caused = inl (unbegun opens);
     judged = λ files told. inl (none_faulted opens);
     told = λ files image told octets swap. inl (unbegun opens, (refl, same ∙ swap));
   }
@@ -240,7 +239,7 @@ module _ (request : Request) (seen : Seen) (same : seen.swap_after ≡ seen.swap
   unopened_caused (BadSchedule line) found ends opens = unbegun opens
   unopened_caused (ShortDevice device blocks needed) found ends opens = (unbegun opens, ends.1)
   unopened_caused FileFault found ends opens = inl (ends, nothing)
-  unopened_caused NoMemory found ends opens = inl (none_faulted opens)
+  unopened_caused NoMemory found ends opens = inl (unbegun opens)
   unopened_caused _ found ends opens = absurd ends
 
   unopened_judged : (fault : Fault) (found : FoundFiles) (files : List NamedFile) → OpeningOf request seen found fault → CountsAt fault seen.faults.open_before seen.faults.open_after

@@ -33,9 +33,9 @@ status_of (Ok done) = 0
 status_of (Err fault) = fault_status fault
 
 -- the line after the transcript; none where the run is finished
-abbrev pub line_of : RunEnding → List ℕ
-line_of (Ok done) = []
-line_of (Err fault) = fault_line fault
+abbrev pub ending_line : RunEnding → List ℕ
+ending_line (Ok done) = []
+ending_line (Err fault) = fault_line fault
 
 -- Causes, whether or not files and devices are told.
 
@@ -57,19 +57,19 @@ pub record NoneFaulted (seen : Seen) : Type 0 where
   pub reads : NoneFailed seen.reads
   pub writes : NoneFailed seen.writes
 
--- a file failed after its first bytes, and no other call
+-- one read of a file failed after its first bytes, and no other call
 pub record PageFailedAlone (seen : Seen) : Type 0 where
   pub page : PageFailed seen.faults
   pub reads : NoneFailed seen.reads
   pub writes : NoneFailed seen.writes
 
--- a read of this device failed, and no call of another kind
+-- one read of this device failed, and no other call, of this device or another
 pub record ReadFailedAlone (device : ℕ) (seen : Seen) : Type 0 where
   pub files : NoFaults seen.faults
   pub read : DeviceFailed device seen.reads
   pub writes : NoneFailed seen.writes
 
--- a write of this device failed, and no call of another kind
+-- one write of this device failed, and no other call, of this device or another
 pub record WriteFailedAlone (device : ℕ) (seen : Seen) : Type 0 where
   pub files : NoFaults seen.faults
   pub reads : NoneFailed seen.reads
@@ -111,8 +111,7 @@ IsCaused request seen journal (Err (BadSchedule line)) = Unbegun seen journal
 IsCaused request seen journal (Err (ShortDevice device blocks needed)) =
     Unbegun seen journal × (device_fault request.numbers.swap seen.zero_blocks seen.one_blocks ≡ Some (ShortDevice device blocks needed))
 IsCaused request seen journal (Err FileFault) = FailsBefore seen journal ⊎ (HaltCaused seen journal FileFault × DevicesSuffice request.numbers.swap seen)
-IsCaused request seen journal (Err NoMemory) =
-    HaltCaused seen journal NoMemory ⊎ (LineLost (HaltCaused seen journal) × DevicesSuffice request.numbers.swap seen)
+IsCaused request seen journal (Err NoMemory) = Unbegun seen journal ⊎ (RunCaused seen journal (Err NoMemory) × DevicesSuffice request.numbers.swap seen)
 IsCaused request seen journal ending = RunCaused seen journal ending × DevicesSuffice request.numbers.swap seen
 
 -- What is judged before the run, where the files are told: the schedule, then the images in their order, then the devices; the first
@@ -195,13 +194,13 @@ CanBeLost (Err fault) = NeedsMemory fault
 -- a run is written as it ended; or, where its line could be lost, as one that found no memory
 abbrev pub WritesRun : Bool → List Entry → RunEnding → Option (List ℕ) → Option (List ℕ) → ℕ → ℕ → ℕ → Type 0
 WritesRun traced journal ending before after old_faults new_faults status =
-    Writes before after old_faults new_faults (text_of traced journal ++ line_of ending) (status_of ending) status
+    Writes before after old_faults new_faults (text_of traced journal ++ ending_line ending) (status_of ending) status
     ⊎ (CanBeLost ending × Writes before after old_faults new_faults (text_of traced journal ++ fault_line NoMemory) (fault_status NoMemory) status)
 
 -- the text of the journal and the line of the ending were written, with its status; or the output failed, and a prefix was
 abbrev pub Writing : Bool → Seen → List Entry → RunEnding → ℕ → Type 0
 Writing traced seen journal ending status =
-    Writes seen.written_before seen.written_after seen.sink_faults_before seen.sink_faults_after (text_of traced journal ++ line_of ending)
+    Writes seen.written_before seen.written_after seen.sink_faults_before seen.sink_faults_after (text_of traced journal ++ ending_line ending)
     (status_of ending) status
 
 -- What a run is: it has one ending and one journal. What was written is the text of the journal and the line of the ending, and the

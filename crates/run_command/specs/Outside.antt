@@ -1,4 +1,5 @@
 -- What a command leaves outside, whether or not anything is told.
+use Rattle.std.specs.Prelude.{◌≡◌, ℕ, ◌==◌, ◌||◌, Bool, true}
 use Rattle.io_edge.specs.Calls.{KeepsFiles, KeepsSwap}
 use Rattle.io_edge.specs.Striping.{zero_needs, one_needs, pair_blocks, KeepsBeyond}
 use Rattle.io_edge.specs.Written.{Extends}
@@ -25,3 +26,12 @@ pub record KeepsOutside {F D E S : Type 0} (f : FilesGhosts F) (d : SwapGhosts D
   pub files : KeepsFiles f files_old files_new
   pub devices : KeepsDevices d e zero_old zero_new one_old one_new
   pub output : KeepsOutput s sink_old sink_new
+
+-- A status of a run that ended before its first entry, by what was found or is there: no file, no image, a bad schedule, no swap for a
+-- first process, a device that is too short.
+abbrev pub is_early : ℕ → Bool
+is_early status = status == 2 || (status == 3 || (status == 4 || (status == 11 || status == 12)))
+
+-- this is so at such a status
+abbrev pub Early : ℕ → Type 0 → Type 0
+Early status so = is_early status ≡ true → so

@@ -1,8 +1,7 @@
 -- What a run sees of its files, devices and output, before and after.
 use Rattle.std.specs.Prelude.{◌≡◌, ◌<◌, ℕ, List, Option}
-use Rattle.io_edge.specs.Count.{Rose}
 use Rattle.io_edge.specs.FileHolding.{NamedFile}
-use Rattle.io_edge.specs.Striping.{of_device}
+use Rattle.io_edge.specs.PairFailures.{RoseAlone}
 use Rattle.command_ending.specs.Command.{Faults}
 
 -- counts of failed calls of one kind on both swap devices
@@ -17,9 +16,9 @@ pub record NoneFailed (f : DeviceFaults) : Type 0 where
   pub zero : f.zero_after ≡ f.zero_before
   pub one : f.one_after ≡ f.one_before
 
--- the device is 0 or 1, and a call on it failed
+-- the device is 0 or 1, one call on it failed, and none on the other
 abbrev pub DeviceFailed : ℕ → DeviceFaults → Type 0
-DeviceFailed device f = (device < 2) × Rose (of_device device f.zero_before f.one_before) (of_device device f.zero_after f.one_after)
+DeviceFailed device f = (device < 2) × RoseAlone device f.zero_before f.zero_after f.one_before f.one_after
 
 -- what a run sees of its files, its two swap devices and its output, before and after
 pub record Seen : Type 0 where

@@ -9,7 +9,7 @@ ghost use Rattle.command_words.specs.declared.limits.TheConstants.{MOST_FRAMES, 
 ghost use Rattle.vm_core.specs.Starting.{IsFresh};
 ghost use Rattle.run_command.specs.Naming.{shown_as};
 ghost use Rattle.run_command.specs.Machines.{machine_up_to, machine_of, SuitsMachine, IsOfOpening};
-ghost use Rattle.run_command.specs.Outside.{KeepsOutside};
+ghost use Rattle.run_command.specs.Outside.{KeepsOutside, Early};
 ghost use Rattle.run_command.specs.Sight.{seen_of_all};
 ghost use Rattle.run_command.specs.Ends.{Runs, RunsOpened};
 ghost use Rattle.run_command.specs.Headlines.{CarriesHeadline};
@@ -86,6 +86,8 @@ fn run_opened<F: Files, D: SwapDev, E: SwapDev, S: Sink>(
     ensures runs { RunsOpened (IsOfOpening numbers opening.now (F.holds files.old)) traced
         (seen_of_all F.Files D.SwapDev E.SwapDev S.Sink files.old files.new zero.old zero.new one.old one.new sink.old sink.new) result }
     ensures kept { KeepsOutside F.Files D.SwapDev E.SwapDev S.Sink files.old files.new zero.old zero.new one.old one.new sink.old sink.new }
+    ensures zero_left { Early result (zero.new ≡ zero.old) }
+    ensures one_left { Early result (one.new ≡ one.old) }
 {
     let Ok(mut core) = core_of(alloc, numbers, opening.images.as_slice()) else {
         return write_run(alloc, sink, traced, &[], Err(Fault::NoMemory));
@@ -120,9 +122,11 @@ fn run_words<F: Files, D: SwapDev, E: SwapDev, S: Sink>(
     ensures runs { Runs (record { traced = traced; numbers = numbers; schedule = schedule.now; words = map (λ word. word.now) words.now })
         (seen_of_all F.Files D.SwapDev E.SwapDev S.Sink files.old files.new zero.old zero.new one.old one.new sink.old sink.new) result }
     ensures headline { CarriesHeadline (record { traced = traced; numbers = numbers; schedule = schedule.now; words = map (λ word. word.now) words.now })
-        (F.holds files.old) (D.image zero.old) (E.image one.old) (S.written sink.old) (S.written sink.new) (S.faults sink.old) (S.faults sink.new)
-        result }
+        (F.holds files.old) (D.image zero.old) (E.image one.old) (D.blocks zero.old) (E.blocks one.old)
+        (S.written sink.old) (S.written sink.new) (S.faults sink.old) (S.faults sink.new) result }
     ensures kept { KeepsOutside F.Files D.SwapDev E.SwapDev S.Sink files.old files.new zero.old zero.new one.old one.new sink.old sink.new }
+    ensures zero_left { Early result (zero.new ≡ zero.old) }
+    ensures one_left { Early result (one.new ≡ one.old) }
 {
     let opened = open_run(
         alloc,
@@ -162,9 +166,11 @@ pub fn run_command<F: Files, D: SwapDev, E: SwapDev, S: Sink>(
         (seen_of_all F.Files D.SwapDev E.SwapDev S.Sink files.old files.new zero.old zero.new one.old one.new sink.old sink.new) result }
     ensures headline { CarriesHeadline
         (record { traced = traced; numbers = numbers; schedule = schedule.now; words = map (λ word. word.now) (word_list images.entry) })
-        (F.holds files.old) (D.image zero.old) (E.image one.old) (S.written sink.old) (S.written sink.new) (S.faults sink.old) (S.faults sink.new)
-        result }
+        (F.holds files.old) (D.image zero.old) (E.image one.old) (D.blocks zero.old) (E.blocks one.old)
+        (S.written sink.old) (S.written sink.new) (S.faults sink.old) (S.faults sink.new) result }
     ensures kept { KeepsOutside F.Files D.SwapDev E.SwapDev S.Sink files.old files.new zero.old zero.new one.old one.new sink.old sink.new }
+    ensures zero_left { Early result (zero.new ≡ zero.old) }
+    ensures one_left { Early result (one.new ≡ one.old) }
 {
     match images.to_vec(alloc) {
         Ok(words) => run_words(

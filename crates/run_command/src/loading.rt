@@ -11,7 +11,7 @@ ghost use Rattle.vm_core.specs.Schedules.{HaveFewMoves};
 ghost use Rattle.vm_core.specs.RunEnds.{IsAskedOf};
 ghost use Rattle.run_command.specs.Naming.{shown_as};
 ghost use Rattle.run_command.specs.Machines.{machine_of};
-ghost use Rattle.run_command.specs.Outside.{KeepsDevices, KeepsOutput};
+ghost use Rattle.run_command.specs.Outside.{KeepsDevices, KeepsOutput, Early};
 ghost use Rattle.run_command.specs.Sight.{seen_beside};
 ghost use Rattle.run_command.specs.Loads.{load_first, load_numbers, WritesCounts, Loads, LoadRuns};
 
@@ -84,6 +84,8 @@ fn run_load<D: SwapDev, E: SwapDev, S: Sink>(
         }) D.SwapDev E.SwapDev S.Sink zero.old zero.new one.old one.new sink.old sink.new) result }
     ensures devices { KeepsDevices D.SwapDev E.SwapDev zero.old zero.new one.old one.new }
     ensures output { KeepsOutput S.Sink sink.old sink.new }
+    ensures zero_left { Early result (zero.new ≡ zero.old) }
+    ensures one_left { Early result (one.new ≡ one.old) }
 {
     let Ok(mut core) = core_of(alloc, LOAD_NUMBERS, images) else {
         return write_counts(alloc, sink, number, &[], Err(Fault::NoMemory));
@@ -116,6 +118,8 @@ pub fn load_command<D: SwapDev, E: SwapDev, S: Sink>(
     }) D.SwapDev E.SwapDev S.Sink zero.old zero.new one.old one.new sink.old sink.new) result }
     ensures devices { KeepsDevices D.SwapDev E.SwapDev zero.old zero.new one.old one.new }
     ensures output { KeepsOutput S.Sink sink.old sink.new }
+    ensures zero_left { Early result (zero.new ≡ zero.old) }
+    ensures one_left { Early result (one.new ≡ one.old) }
 {
     let Ok(Load { files, lines }) = make_load(alloc, number) else {
         return write_counts(alloc, sink, number, &[], Err(Fault::NoMemory));

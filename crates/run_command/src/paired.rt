@@ -125,9 +125,8 @@ pub fn run_paired<'a, F: Files, D: SwapDev, E: SwapDev>(
         (image_together (D.blocks zero.new) (E.blocks one.new) (D.image zero.new) (E.image one.new)) }
     ensures no_space { (A : Inputs) → StartsFrom A core.old.machine first.now → (pid : ℕ) → result ≡ Err (Fault.NoSpace pid) → start_held A ≡ Err pid }
     ensures none_made { (pid : ℕ) → result ≡ Err (Fault.NoSpace pid) → core.new.machine.kernel.journal ≡ [] }
-    ensures untouched { (pid : ℕ) → result ≡ Err (Fault.NoSpace pid)
-        → image_together (D.blocks zero.new) (E.blocks one.new) (D.image zero.new) (E.image one.new)
-        ≡ image_together (D.blocks zero.old) (E.blocks one.old) (D.image zero.old) (E.image one.old) }
+    ensures zero_left { (pid : ℕ) → result ≡ Err (Fault.NoSpace pid) → zero.new ≡ zero.old }
+    ensures one_left { (pid : ℕ) → result ≡ Err (Fault.NoSpace pid) → one.new ≡ one.old }
     ensures within { length core.new.machine.kernel.journal ≤ core.old.machine.params.journal }
     ensures full { result ≡ Err Fault.JournalFull → length core.new.machine.kernel.journal ≡ core.old.machine.params.journal }
     ensures kind { IfErr result IsRunFault }

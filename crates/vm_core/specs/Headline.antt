@@ -1,12 +1,13 @@
 -- What is claimed of every run, whatever the policy by which pages come and go.
-use Rattle.std.specs.Prelude.{◌≡◌, List, [], ◌∷◌, Some, Ok}
+use Rattle.std.specs.Prelude.{◌≡◌, ◌⊎◌, ◌<◌, ◌≤◌, ℕ, false, List, [], ◌∷◌, length, Some, Ok}
 use Rattle.vm_facts.specs.declared.entry.Entry.{Entry}
 use Rattle.swap_book.specs.Holdings.{Holdings}
-use Rattle.flat_state.specs.Flat.{Inputs}
-use Rattle.flat_state.specs.Journal.{appended}
-use Rattle.flat_model.specs.Run.{Point, flat_run}
+use Rattle.flat_state.specs.Flat.{Inputs, can_step}
+use Rattle.flat_state.specs.Journal.{appended, units_of, instructions_of}
+use Rattle.flat_model.specs.Run.{flat_run}
 use Rattle.flat_model.specs.Asked.{start_held}
 use Rattle.run_model.specs.Snapshot.{Snapshot, start_snapshot, snapshot_after}
+use Rattle.run_laws.specs.Turns.{ComesInTurn}
 use Rattle.journal_laws.specs.Owners.{IsOwned, RefusesRightly}
 
 -- Before each of these units and after the last one each frame and each block of swap has one owner or is free; and a unit says that
@@ -15,14 +16,40 @@ abbrev pub KeepsOwners : Inputs → Snapshot → List Entry → Type 0
 KeepsOwners A x [] = IsOwned A x
 KeepsOwners A x (u ∷ us) = IsOwned A x × RefusesRightly A x u × KeepsOwners A (snapshot_after A x u) us
 
--- The headline. The journal is a run of a machine in which each process has flat memory of its own, lent only during vfork, and
--- nothing is paged. It is made of units, before the first of which and after each of which every frame and every block of swap has
--- one owner or is free; and space is refused exactly where no extent of swap fits.
+-- Each of these units comes in its turn: lines, turns and notes in their order, and an entry of a process where it steps in memory.
+abbrev pub KeepsTurns : Inputs → Snapshot → List Entry → Type 0
+KeepsTurns A x [] = Unit {0}
+KeepsTurns A x (u ∷ us) = ComesInTurn A x u × KeepsTurns A (snapshot_after A x u) us
+
+-- the snapshot after these units
+unfoldable pub snapshot_behind : Inputs → Snapshot → List Entry → Snapshot
+snapshot_behind A x [] = x
+snapshot_behind A x (u ∷ us) = snapshot_behind A (snapshot_after A x u) us
+
+-- the snapshot at which a journal ends, of a run that starts with these holdings
+abbrev pub last_snapshot : Inputs → Holdings → List Entry → Snapshot
+last_snapshot A holdings journal = snapshot_behind A (start_snapshot A holdings) (units_of journal)
+
+-- The headline. The first processes' pieces of swap found their places. The journal is a run of a machine in which each process has
+-- flat memory of its own, lent only during vfork, and nothing is paged. Before each of its units and after the last one every frame
+-- and every block of swap has one owner or is free, and space is refused exactly where no extent of swap fits. Each unit comes in its
+-- turn, and who steps has all pages of the step in frames that no transfer has. No more instructions are counted than may run.
 pub record Headline (A : Inputs) (journal : List Entry) : Type 0 where
-  pub point : Point
-  pub flat : flat_run A journal ≡ Some point
   pub holdings : Holdings
   pub found : start_held A ≡ Ok holdings
-  pub units : List Entry
-  pub joined : appended [] units ≡ journal
-  pub owned : KeepsOwners A (start_snapshot A holdings) units
+  pub joined : appended [] (units_of journal) ≡ journal
+  pub flat : flat_run A journal ≡ Some (last_snapshot A holdings journal).point
+  pub owned : KeepsOwners A (start_snapshot A holdings) (units_of journal)
+  pub turns : KeepsTurns A (start_snapshot A holdings) (units_of journal)
+  pub within : instructions_of journal ≤ A.limit
+
+-- A journal that ends at this snapshot is over: as many instructions are counted as may run, or all lines are taken and no process
+-- can step.
+abbrev pub RunIsOver : Inputs → List Entry → Snapshot → Type 0
+RunIsOver A journal x =
+    (instructions_of journal ≡ A.limit) ⊎ ((length A.lines ≤ x.lines) × ((pid : ℕ) → 0 < pid → can_step x.point.flat pid ≡ false))
+
+-- the headline holds of a journal that is over
+pub record HeadlineOver (A : Inputs) (journal : List Entry) : Type 0 where
+  pub headline : Headline A journal
+  pub over : RunIsOver A journal (last_snapshot A headline.holdings journal)

@@ -1,23 +1,16 @@
 -- Which endings sound inputs leave.
-use Rattle.std.proofs.Common.{◌≡◌, ◌⊎◌, inl, inr, ℕ, ◌+◌, ◌≤◌, List, [], ◌∷◌, ◌++◌, length, Option, Some, None, Result, Ok, Err, refl, sym, ◌∙◌, subst, arith}
+use Rattle.std.proofs.Common.{◌≡◌, ◌⊎◌, inl, inr, ℕ, List, length, Option, Some, None, Ok, Err, refl, sym, ◌∙◌}
 use Rattle.io_edge.specs.Count.{Rose}
 use Rattle.io_edge.specs.FileHolding.{NamedFile}
 use Rattle.vm_facts.specs.declared.entry.Entry.{Entry}
-use Rattle.vm_facts.specs.declared.event.Event.{Event}
-use Rattle.flat_state.specs.Flat.{NamedImage}
-use Rattle.run_files.specs.declared.answers.Unread.{Unread}
-use Rattle.run_text.specs.Lines.{AreLines}
-use Rattle.run_text.specs.Schedule.{IsEventLine}
 use Rattle.command_ending.specs.declared.fault.Fault.TheVariants.{Absent, NotImage, BadSchedule, FileFault, SwapReadFault, SwapWriteFault, NoMemory, JournalFull, NoSpace, ShortDevice}
-use Rattle.command_ending.specs.Named.{Why}
 use Rattle.command_ending.specs.Command.{Writes, All, Prefix}
-use Rattle.run_opening.specs.Schedules.{HasEvents, HasBadEvent}
-use Rattle.run_opening.specs.Opening.{FoundFiles, HasAll, FailsAtImage}
 use Rattle.command_words.specs.Asked.{Request}
 use Rattle.reference_commands.specs.Seen.{Seen}
 use Rattle.reference_commands.specs.Machines.{journal_entries}
 use Rattle.reference_commands.specs.RunCommandEnds.{RunEnding, status_of, DevicesSuffice, IsCaused, IsJudged, EndsTold}
 use Rattle.reference_commands.specs.Loads.{load_numbers, IsLoadCaused}
+use Rattle.reference_commands.proofs.Found.{no_absent, no_bad_event, no_failed_image}
 use Rattle.vm_run.specs.Complete.{IsWellTold, NoneRose, RunsComplete, LoadsComplete, ToldLoadsComplete}
 
 -- what was written whole has the status of its ending
@@ -25,30 +18,6 @@ whole_status : (before after : Option (List ℕ)) (old new : ℕ) (text : List �
     → (Rose old new → ⊥) → status ≡ whole
 whole_status before after old new text whole status (All same appends faults) never = same
 whole_status before after old new text whole status (Prefix is appends rose) never = absurd (never rose)
-
--- each line of items is that of one of them
-line_among : {E : Type 0} (IsLine : E → List ℕ → Type 0) (items : List E) (before : List (List ℕ)) (line : List ℕ) (after : List (List ℕ))
-    → AreLines IsLine items (before ++ line ∷ after)
-    → (e : E) × IsLine e line × (length before + 1 ≤ length items)
-line_among IsLine [] [] line after h = absurd h
-line_among IsLine (e ∷ es) [] line after h = (e, h.0, omega arith)
-line_among IsLine [] (l ∷ ls) line after h = absurd h
-line_among IsLine (e ∷ es) (l ∷ ls) line after h = let found = line_among IsLine es ls line after h.1 in (found.0, found.1, (let more = found.2 in omega arith))
-
--- a schedule that has events has no bad line
-no_bad_event : (found : Result (List ℕ) Unread) (events : List Event) (line : ℕ) → HasEvents found events → HasBadEvent found line → ⊥
-no_bad_event (Ok bytes) events line h bad =
-    let among = line_among IsEventLine events bad.before bad.bad bad.after (subst (AreLines IsEventLine events) bad.split h.0) in
-    bad.none (let number = bad.number in let most = h.1 in let few = among.2 in omega arith) among.0 among.1
-no_bad_event (Err unread) events line h bad = h
-
-no_absent : (found : Result (List ℕ) Unread) (events : List Event) (unread : Unread) → HasEvents found events → found ≡ Err unread → ⊥
-no_absent found events unread h is = subst (λ (f : Result (List ℕ) Unread). HasEvents f events) is h
-
-no_failed_image : (found : FoundFiles) (why : Why) → HasAll found → FailsAtImage found why → ⊥
-no_failed_image found why all fails =
-    let same : (let r : Result (List NamedImage) Why = Ok all.1.0 in r) ≡ Err why = sym all.1.1 ∙ fails.1 in
-    cc
 
 -- what is left for an ending
 abbrev Left : RunEnding → List Entry → Type 0

@@ -1,2 +1,3 @@
+pub use Rattle.reference_commands.proofs.Found
 pub mod Completing
 pub mod Telling

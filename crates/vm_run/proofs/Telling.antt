@@ -1,14 +1,18 @@
 -- What words do where files and a swap image are told.
-use Rattle.std.proofs.Common.{◌≡◌, ◌∙◌, ℕ, List, [], Option, Some, None, ap, subst}
+use Rattle.std.proofs.Common.{◌≡◌, ◌∙◌, ℕ, List, [], ◌++◌, Option, Some, None, ap, subst}
 use Rattle.io_edge.specs.FileHolding.{NamedFile}
-use Rattle.command_words.specs.Asked.{Asked, Run, Load, Replay, Assemble, Show, Optimum, Curve, Owners, Film, Stats, References, Policies}
+use Rattle.command_words.specs.Asked.{Request, Asked, Run, Load, Replay, Assemble, Show, Optimum, Curve, Owners, Film, Stats, References, Policies}
 use Rattle.command_ending.specs.Ending.{Ending as CommandEnding}
-use Rattle.command_ending.specs.Command.{Faults, Completes}
+use Rattle.command_ending.specs.Command.{Faults, Writes, Completes}
+use Rattle.run_text.specs.Text.{text_of}
 use Rattle.io_edge.specs.Octets.{AreOctetFiles}
+use Rattle.reference_commands.specs.Headlines.{Says}
+use Rattle.reference_commands.specs.RunCommandEnds.{ending_line, status_of}
 use Rattle.reference_commands.specs.Seen.{Seen}
 use Rattle.reference_commands.specs.Paired.{image_together}
 use Rattle.vm_run.specs.Obeying.{Obeys}
-use Rattle.vm_run.specs.InMemory.{blank_pair, seen_of, CompletesTold, ObeysTold}
+use Rattle.vm_run.specs.Headline.{CarriesFor}
+use Rattle.vm_run.specs.InMemory.{blank_pair, seen_of, CompletesTold, ObeysTold, HeadlineInMemory}
 
 completes_told : {R : Type 0} (Ends : R → Faults → CommandEnding → Type 0) (told : List NamedFile → R) (seen : Seen) (files : List NamedFile) (status : ℕ)
     → seen.files ≡ Some files
@@ -69,3 +73,19 @@ together zb ob zero_blocks one_blocks i j zero one zs os is js =
     ∙ ap (λ (k : ℕ). image_together zero_blocks k i j) os
     ∙ ap (λ (x : Option (List ℕ)). image_together zero_blocks one_blocks x j) is
     ∙ ap (λ (x : Option (List ℕ)). image_together zero_blocks one_blocks zero x) js
+
+-- The headline, where all is told.
+pub headline_told : (asked : Option Request) (files : Option (List NamedFile)) (list : List NamedFile)
+    (zero one : Option (List ℕ)) (zero_image one_image : List ℕ)
+    (zb ob zero_blocks one_blocks : ℕ) (empty written : Option (List ℕ)) (none faults status : ℕ) → files ≡ Some list → AreOctetFiles list
+    → zero ≡ Some zero_image → one ≡ Some one_image → zb ≡ zero_blocks → ob ≡ one_blocks → empty ≡ Some [] → none ≡ 0
+    → CarriesFor asked files zero one zb ob empty written none faults status → HeadlineInMemory asked list zero_blocks one_blocks written faults status
+headline_told None files list zero one zero_image one_image zb ob zero_blocks one_blocks empty written none faults status f octets z o zs os e n c = tt
+headline_told (Some request) files list zero one zero_image one_image zb ob zero_blocks one_blocks empty written none faults status f octets z o zs os e n c = record {
+  journal = c.journal;
+  ending = c.ending;
+  writes = subst (λ (k : ℕ). Writes (Some []) written k faults (text_of request.traced c.journal ++ ending_line c.ending) (status_of c.ending) status) n
+      (subst (λ (b : Option (List ℕ)). Writes b written none faults (text_of request.traced c.journal ++ ending_line c.ending) (status_of c.ending) status) e c.writes);
+  says = subst (λ (k : ℕ). Says request list k one_blocks c.journal c.ending) zs
+      (subst (λ (k : ℕ). Says request list zb k c.journal c.ending) os (c.told list zero_image one_image f octets z o));
+}

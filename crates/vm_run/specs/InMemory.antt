@@ -1,9 +1,10 @@
 -- What words do where files, swap devices and output are in memory, and tell what they hold: what is told, without a premise.
-use Rattle.std.specs.Prelude.{◌≡◌, ◌≤◌, ℕ, List, [], length, Option, Some, None}
+use Rattle.std.specs.Prelude.{◌≡◌, ◌≤◌, ℕ, List, [], ◌++◌, length, Option, Some, None}
 use Rattle.io_edge.specs.FileHolding.{NamedFile}
 use Rattle.io_edge.specs.Striping.{pair_blocks, first_blocks}
 use Rattle.io_edge.specs.Written.{Appends}
 use Rattle.vm_facts.specs.declared.entry.Entry.{Entry}
+use Rattle.run_text.specs.Text.{text_of}
 use Rattle.run_files.specs.Told.{bytes_told, image_told}
 use Rattle.command_words.specs.Asked.{Asked, Run, Load, Replay, Assemble, Show, Optimum, Curve, Owners, Film, Stats, References, Policies}
 use Rattle.command_ending.specs.Ending.{Ending as CommandEnding}
@@ -15,7 +16,8 @@ use Rattle.command_words.specs.Asked.{Request}
 use Rattle.reference_commands.specs.Seen.{Seen}
 use Rattle.reference_commands.specs.Machines.{journal_entries}
 use Rattle.reference_commands.specs.Paired.{image_together}
-use Rattle.reference_commands.specs.RunCommandEnds.{RunEnding, status_of, Writing, IsCaused, IsJudged, EndsTold}
+use Rattle.reference_commands.specs.Headlines.{Says}
+use Rattle.reference_commands.specs.RunCommandEnds.{RunEnding, status_of, ending_line, Writing, IsCaused, IsJudged, EndsTold}
 use Rattle.reference_commands.specs.Loads.{load_written, finished_lines, IsLoadCaused, LoadEnded}
 use Rattle.reference_commands.specs.declared.question.Question.{Question}
 use Rattle.reference_commands.specs.declared.question.Question.TheVariants as questions
@@ -108,3 +110,16 @@ abbrev pub DoesInMemory : Option Asked → List NamedFile → ℕ → ℕ → Op
 DoesInMemory asked files zero_blocks one_blocks zero one written faults status =
     ObeysTold asked (seen_of files zero_blocks one_blocks (image_together zero_blocks one_blocks zero one) written faults) files
     (blank_pair zero_blocks one_blocks) status
+
+-- The headline, of a run whose files and devices are in memory, and of an output that was empty: the text of a journal was written, then
+-- the line of the ending, of which the ending says what is so; or the output failed, and a prefix of that was written.
+pub record HeadlineTold (request : Request) (files : List NamedFile) (zero_blocks one_blocks : ℕ) (written : Option (List ℕ)) (faults status : ℕ) : Type 0 where
+  pub journal : List Entry
+  pub ending : RunEnding
+  pub writes : Writes (Some []) written 0 faults (text_of request.traced journal ++ ending_line ending) (status_of ending) status
+  pub says : Says request files zero_blocks one_blocks journal ending
+
+-- the same of words, where they ask for a run
+abbrev pub HeadlineInMemory : Option Request → List NamedFile → ℕ → ℕ → Option (List ℕ) → ℕ → ℕ → Type 0
+HeadlineInMemory None files zero_blocks one_blocks written faults status = Unit {0}
+HeadlineInMemory (Some request) files zero_blocks one_blocks written faults status = HeadlineTold request files zero_blocks one_blocks written faults status

@@ -1,5 +1,8 @@
+pub use Rattle.reference_commands.specs.RunCommandAsking
+pub use Rattle.reference_commands.specs.Seen
 pub use Rattle.reference_commands.specs.Paired
 pub use Rattle.reference_commands.specs.RunCommandEnds
+pub use Rattle.reference_commands.specs.RunHeadline
 pub use Rattle.reference_commands.specs.Headlines
 pub mod Obeying
 pub mod Headline

@@ -5,6 +5,7 @@ use Rattle.command_ending.specs.declared.fault.Fault.TheVariants.{BadWords}
 use Rattle.command_ending.specs.Command.{WritesEnding}
 use Rattle.source_commands.specs.Command.{Assembles, Lists}
 use Rattle.replay_command.specs.Command.{Replays}
+use Rattle.reference_commands.specs.Outside.{Early}
 use Rattle.reference_commands.specs.Seen.{Seen}
 use Rattle.reference_commands.specs.RunCommandEnds.{Runs}
 use Rattle.reference_commands.specs.Loads.{Loads}
@@ -51,8 +52,8 @@ LeavesFiles None same = same
 LeavesFiles (Some (Load number)) same = same
 LeavesFiles asked same = Unit {0}
 
--- a command that touches no swap device leaves them
-abbrev pub LeavesDevice : Option Asked → Type 0 → Type 0
-LeavesDevice (Some (Run traced numbers schedule images)) same = Unit {0}
-LeavesDevice (Some (Load number)) same = Unit {0}
-LeavesDevice asked same = same
+-- a run that ended before its first entry leaves the swap devices, and so does a command that touches none
+abbrev pub LeavesDevice : Option Asked → ℕ → Type 0 → Type 0
+LeavesDevice (Some (Run traced numbers schedule images)) status same = Early status same
+LeavesDevice (Some (Load number)) status same = Early status same
+LeavesDevice asked status same = same

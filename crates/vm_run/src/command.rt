@@ -36,11 +36,11 @@ pub fn vmrun<F: Files, D: SwapDev, E: SwapDev, S: Sink>(
     ensures obeys { Obeys (asked_of (map (λ word. word.now) words.now))
         (seen_of_all F.Files D.SwapDev E.SwapDev S.Sink files.old files.new zero.old zero.new one.old one.new sink.old sink.new) result }
     ensures headline { CarriesFor (request_of (map (λ word. word.now) words.now)) (F.holds files.old) (D.image zero.old) (E.image one.old)
-        (S.written sink.old) (S.written sink.new) (S.faults sink.old) (S.faults sink.new) result }
+        (D.blocks zero.old) (E.blocks one.old) (S.written sink.old) (S.written sink.new) (S.faults sink.old) (S.faults sink.new) result }
     ensures files { LeavesFiles (asked_of (map (λ word. word.now) words.now)) (files.new ≡ files.old) }
     ensures kept { KeepsOutside F.Files D.SwapDev E.SwapDev S.Sink files.old files.new zero.old zero.new one.old one.new sink.old sink.new }
-    ensures zero { LeavesDevice (asked_of (map (λ word. word.now) words.now)) (zero.new ≡ zero.old) }
-    ensures one { LeavesDevice (asked_of (map (λ word. word.now) words.now)) (one.new ≡ one.old) }
+    ensures zero { LeavesDevice (asked_of (map (λ word. word.now) words.now)) result (zero.new ≡ zero.old) }
+    ensures one { LeavesDevice (asked_of (map (λ word. word.now) words.now)) result (one.new ≡ one.old) }
 {
     match read_words(words) {
         Some(

@@ -1,8 +1,8 @@
 //! What words do where files, swap devices and output are in memory.
 ghost use Rattle.std.specs.Prelude.{◌<◌, ◌^◌, map, vec_len, IfOk};
 ghost use Rattle.io_edge.specs.FileHolding.{named_file};
-ghost use Rattle.command_words.specs.Asked.{asked_of};
-ghost use Rattle.vm_run.specs.InMemory.{DoesInMemory};
+ghost use Rattle.command_words.specs.Asked.{request_of, asked_of};
+ghost use Rattle.vm_run.specs.InMemory.{DoesInMemory, HeadlineInMemory};
 
 use crate::command::vmrun;
 use io_edge::{MemSink, NoMemory, Sink, SureFiles, SureSwap, SwapDev, are_octet_files};
@@ -36,9 +36,11 @@ pub fn vmrun_in_memory(
     room: usize,
 ) -> Result<InMemory, NoMemory>
     requires { vec_len files < 2 ^ 32 }
-    ensures { IfOk result (λ done. DoesInMemory (asked_of (map (λ word. word.now) words.now)) (map named_file files.items) zero_blocks one_blocks
+    ensures does { IfOk result (λ done. DoesInMemory (asked_of (map (λ word. word.now) words.now)) (map named_file files.items) zero_blocks one_blocks
         (⟦<SureSwap as SwapDev>⟧.image done.zero) (⟦<SureSwap as SwapDev>⟧.image done.one) (⟦<MemSink as Sink>⟧.written done.output)
         (⟦<MemSink as Sink>⟧.faults done.output) done.status) }
+    ensures headline { IfOk result (λ done. HeadlineInMemory (request_of (map (λ word. word.now) words.now)) (map named_file files.items) zero_blocks one_blocks
+        (⟦<MemSink as Sink>⟧.written done.output) (⟦<MemSink as Sink>⟧.faults done.output) done.status) }
 {
     are_octet_files(files.as_slice());
     let mut files = SureFiles::new(files);
