@@ -7,17 +7,15 @@ use Rattle.flat_state.specs.Flat.{NamedImage, Inputs, can_step}
 use Rattle.flat_model.specs.Run.{Point, flat_run}
 use Rattle.run_text.specs.Text.{text_of}
 use Rattle.run_files.specs.ImageWords.{image_names, first_images}
-use Rattle.command_ending.specs.declared.fault.Fault.{Fault}
-use Rattle.command_ending.specs.Command.{All, Prefix}
+use Rattle.command_ending.specs.Command.{Writes, All, Prefix}
 use Rattle.command_ending.specs.Named.{Why}
 use Rattle.command_ending.proofs.Statuses.{status_is_not_0}
-use Rattle.command_words.specs.Asked.{Asked, Run}
-use Rattle.command_words.specs.declared.command.Numbers.{Numbers}
 use Rattle.run_opening.specs.Images.{images_found}
 use Rattle.command_words.specs.Asked.{Request}
-use Rattle.vm_run.specs.Paired.{image_together}
-use Rattle.vm_run.specs.RunCommandEnds.{Writing, EndsTold}
-use Rattle.vm_run.specs.InMemory.{seen_of, blank_pair, RunsTold, DoesInMemory}
+use Rattle.vm_run.specs.RunHeadline.{last_snapshot}
+use Rattle.vm_run.specs.Headlines.{Says}
+use Rattle.vm_run.specs.RunCommandEnds.{RunEnding, ending_line, status_of}
+use Rattle.vm_run.specs.InMemory.{HeadlineTold, HeadlineInMemory}
 use Rattle.outcome_laws.specs.Visible.{visible_of, has_end, IsSingle, Begins}
 use Rattle.outcome_laws.specs.Agreement.{IsPair}
 use Rattle.outcome_laws.proofs.Pairs.{visible_agrees, over_is_all, both_over, end_is_last}
@@ -33,34 +31,33 @@ record IsWritten (words : List (List ℕ)) (files : List NamedFile) (traced : Bo
   pub runs : flat_run inputs journal ≡ Some point
   pub wrote : written ≡ Some (text_of traced journal)
 
-run_written : (request : Request) (files : List NamedFile) (zero_blocks one_blocks : ℕ) (swap written : Option (List ℕ)) (faults : ℕ)
-    (image : List ℕ) (status : ℕ)
-    → RunsTold request (seen_of files zero_blocks one_blocks swap written faults) files image status → status ≡ 0
-    → IsWritten request.words files request.traced written
-run_written request files zero_blocks one_blocks swap written faults image status told zero = go told.ending told.writes told.told
+-- the headline of a run that ended with status 0
+run_written : (request : Request) (files : List NamedFile) (zero_blocks one_blocks : ℕ) (written : Option (List ℕ)) (faults status : ℕ)
+    → HeadlineTold request files zero_blocks one_blocks written faults status → status ≡ 0 → IsWritten request.words files request.traced written
+run_written request files zero_blocks one_blocks written faults status headline zero = go headline.ending headline.writes headline.says
   where
-    go : (ending : Result (Unit {0}) Fault) → Writing request.traced (seen_of files zero_blocks one_blocks swap written faults) told.journal ending status
-        → EndsTold request (seen_of files zero_blocks one_blocks swap written faults) files told.journal image ending → IsWritten request.words files request.traced written
-    go (Ok done) (All whole appends none) run = record {
-      inputs = run.inputs;
-      journal = told.journal;
-      point = run.ended.state.point;
-      images = run.asks.images;
-      first = run.asks.first;
-      runs = run.ended.made.lawful.flat;
-      wrote = appends ∙ ap (λ (text : List ℕ). Some text) (append-nil (text_of request.traced told.journal));
+    go : (ending : RunEnding) → Writes (Some []) written 0 faults (text_of request.traced headline.journal ++ ending_line ending) (status_of ending) status
+        → Says request files zero_blocks one_blocks headline.journal ending → IsWritten request.words files request.traced written
+    go (Ok done) (All whole appends none) says = record {
+      inputs = says.inputs;
+      journal = headline.journal;
+      point = (last_snapshot says.inputs says.so.headline.holdings headline.journal).point;
+      images = says.asks.images;
+      first = says.asks.first;
+      runs = says.so.headline.flat;
+      wrote = appends ∙ ap (λ (text : List ℕ). Some text) (append-nil (text_of request.traced headline.journal));
     }
-    go (Ok done) (Prefix whole appends rose) run = absurd (omega (arith, whole, zero))
-    go (Err fault) (All whole appends none) run = absurd (status_is_not_0 fault (sym whole ∙ zero))
-    go (Err fault) (Prefix whole appends rose) run = absurd (omega (arith, whole, zero))
+    go (Ok done) (Prefix whole appends rose) says = absurd (omega (arith, whole, zero))
+    go (Err fault) (All whole appends none) says = absurd (status_is_not_0 fault (sym whole ∙ zero))
+    go (Err fault) (Prefix whole appends rose) says = absurd (omega (arith, whole, zero))
 
-asked_written : (asked : Option Asked) (files : List NamedFile) (zero_blocks one_blocks : ℕ) (zero one written : Option (List ℕ)) (faults status : ℕ)
-    (traced : Bool) (numbers : Numbers) (schedule : List ℕ) (words : List (List ℕ)) → asked ≡ Some (Run traced numbers schedule words)
-    → DoesInMemory asked files zero_blocks one_blocks zero one written faults status → status ≡ 0 → IsWritten words files traced written
-asked_written asked files zero_blocks one_blocks zero one written faults status traced numbers schedule words is does none =
-    run_written (record { traced = traced; numbers = numbers; schedule = schedule; words = words }) files zero_blocks one_blocks
-    (image_together zero_blocks one_blocks zero one) written faults (blank_pair zero_blocks one_blocks) status
-    (subst (λ (a : Option Asked). DoesInMemory a files zero_blocks one_blocks zero one written faults status) is does) none
+asked_written : (asked : Option Request) (files : List NamedFile) (zero_blocks one_blocks : ℕ) (written : Option (List ℕ))
+    (faults status : ℕ) (request : Request)
+    → asked ≡ Some request → HeadlineInMemory asked files zero_blocks one_blocks written faults status
+    → status ≡ 0 → IsWritten request.words files request.traced written
+asked_written asked files zero_blocks one_blocks written faults status request is headline zero =
+    run_written request files zero_blocks one_blocks written faults status
+    (subst (λ (a : Option Request). HeadlineInMemory a files zero_blocks one_blocks written faults status) is headline) zero
 
 same_images : (xs ys : List NamedImage) → ◌≡◌ {A = Result (List NamedImage) Why} (Ok xs) (Ok ys) → xs ≡ ys
 same_images xs ys h = cc
@@ -100,15 +97,15 @@ wrote_alike words files others traced also_traced written beside one two alike =
     over_too alone also end = end_is_last two.inputs two.journal two.point (both alone also).two end
 
 -- two calls in memory: what they wrote is alike
-pub paging_is_unseen : (asked : Option Asked) (files : List NamedFile) (zero_blocks one_blocks : ℕ) (zero one written : Option (List ℕ)) (faults status : ℕ)
-    (also_asked : Option Asked) (others : List NamedFile) (also_zero_blocks also_one_blocks : ℕ) (also_zero also_one beside : Option (List ℕ))
-    (also_faults also_status : ℕ)
-    → DoesInMemory asked files zero_blocks one_blocks zero one written faults status
-    → DoesInMemory also_asked others also_zero_blocks also_one_blocks also_zero also_one beside also_faults also_status
+pub paging_is_unseen : (asked : Option Request) (files : List NamedFile) (zero_blocks one_blocks : ℕ) (written : Option (List ℕ)) (faults status : ℕ)
+    (also_asked : Option Request) (others : List NamedFile) (also_zero_blocks also_one_blocks : ℕ) (beside : Option (List ℕ)) (also_faults also_status : ℕ)
+    → HeadlineInMemory asked files zero_blocks one_blocks written faults status
+    → HeadlineInMemory also_asked others also_zero_blocks also_one_blocks beside also_faults also_status
     → PagingIsUnseen asked files status written also_asked others also_status beside
-paging_is_unseen asked files zero_blocks one_blocks zero one written faults status also_asked others also_zero_blocks also_one_blocks also_zero also_one beside also_faults also_status does also_does =
-    λ traced also_traced numbers also_numbers schedule also_schedule words is also_is alike none also_none.
-    wrote_alike words files others traced also_traced written beside
-    (asked_written asked files zero_blocks one_blocks zero one written faults status traced numbers schedule words is does none)
-    (asked_written also_asked others also_zero_blocks also_one_blocks also_zero also_one beside also_faults also_status also_traced also_numbers also_schedule words also_is also_does also_none)
+paging_is_unseen asked files zero_blocks one_blocks written faults status also_asked others also_zero_blocks also_one_blocks beside also_faults also_status headline also =
+    λ one two is also_is same alike none also_none.
+    wrote_alike one.words files others one.traced two.traced written beside
+    (asked_written asked files zero_blocks one_blocks written faults status one is headline none)
+    (subst (λ (words : List (List ℕ)). IsWritten words others two.traced beside) same
+    (asked_written also_asked others also_zero_blocks also_one_blocks beside also_faults also_status two also_is also also_none))
     alike

@@ -4,8 +4,7 @@ use Rattle.vm_facts.specs.declared.entry.Entry.{Entry}
 use Rattle.io_edge.specs.FileHolding.{NamedFile}
 use Rattle.run_text.specs.Text.{text_of}
 use Rattle.run_files.specs.ImageWords.{image_names, first_images}
-use Rattle.command_words.specs.Asked.{Asked, Run}
-use Rattle.command_words.specs.declared.command.Numbers.{Numbers}
+use Rattle.command_words.specs.Asked.{Request}
 use Rattle.run_opening.specs.Images.{images_found}
 use Rattle.outcome_laws.specs.Others.{is_refusal}
 use Rattle.outcome_laws.specs.Visible.{visible_of, has_end, is_fork, HasNo, Begins}
@@ -37,8 +36,7 @@ pub record WroteAlike (traced also_traced : Bool) (written beside : Option (List
 
 -- Paging is not seen: two calls, each of which asks for a run and has status 0, wrote alike where they start alike. Their numbers and
 -- their schedules may differ: frames, swap space, how many instructions may run, and what happens when.
-abbrev pub PagingIsUnseen : Option Asked → List NamedFile → ℕ → Option (List ℕ) → Option Asked → List NamedFile → ℕ → Option (List ℕ) → Type 0
+abbrev pub PagingIsUnseen : Option Request → List NamedFile → ℕ → Option (List ℕ) → Option Request → List NamedFile → ℕ → Option (List ℕ) → Type 0
 PagingIsUnseen asked files status written also_asked others also_status beside =
-    (traced also_traced : Bool) (numbers also_numbers : Numbers) (schedule also_schedule : List ℕ) (words : List (List ℕ))
-    → asked ≡ Some (Run traced numbers schedule words) → also_asked ≡ Some (Run also_traced also_numbers also_schedule words)
-    → StartAlike words files others → status ≡ 0 → also_status ≡ 0 → WroteAlike traced also_traced written beside
+    (one two : Request) → asked ≡ Some one → also_asked ≡ Some two → two.words ≡ one.words
+    → StartAlike one.words files others → status ≡ 0 → also_status ≡ 0 → WroteAlike one.traced two.traced written beside

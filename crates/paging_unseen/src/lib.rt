@@ -4,7 +4,7 @@
 
 ghost use Rattle.std.specs.Prelude.{◌<◌, ◌^◌, map, vec_len, IfOk};
 ghost use Rattle.io_edge.specs.FileHolding.{named_file};
-ghost use Rattle.command_words.specs.Asked.{asked_of};
+ghost use Rattle.command_words.specs.Asked.{request_of, asked_of};
 ghost use Rattle.vm_run.specs.InMemory.{DoesInMemory};
 ghost use Rattle.paging_unseen.specs.Unseen.{PagingIsUnseen};
 
@@ -55,9 +55,9 @@ pub fn two_runs(alloc: Global, one: Call<'_>, other: Call<'_>) -> Result<TwoRuns
         (⟦<SureSwap as SwapDev>⟧.image done.other.zero) (⟦<SureSwap as SwapDev>⟧.image done.other.one)
         (⟦<MemSink as Sink>⟧.written done.other.output) (⟦<MemSink as Sink>⟧.faults done.other.output) done.other.status) }
     ensures unseen { IfOk result (λ done. PagingIsUnseen
-        (asked_of (map (λ word. word.now) one.entry.words.now)) (map named_file one.entry.files.items)
+        (request_of (map (λ word. word.now) one.entry.words.now)) (map named_file one.entry.files.items)
         done.one.status (⟦<MemSink as Sink>⟧.written done.one.output)
-        (asked_of (map (λ word. word.now) other.entry.words.now)) (map named_file other.entry.files.items)
+        (request_of (map (λ word. word.now) other.entry.words.now)) (map named_file other.entry.files.items)
         done.other.status (⟦<MemSink as Sink>⟧.written done.other.output)) }
 {
     let first = vmrun_in_memory(

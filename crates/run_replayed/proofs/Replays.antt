@@ -35,7 +35,7 @@ abbrev no_faults : Faults
 no_faults = record { open_before = 0; open_after = 0; page_before = 0; page_after = 0 }
 
 never_rose : Rose 0 0 → ⊥
-never_rose (inl less) = omega (arith, less)
+never_rose (inl rises) = omega (arith, rises.1)
 never_rose (inr stands) = omega (arith, stands.0)
 
 -- How a replay ends.

@@ -1,7 +1,6 @@
-use Rattle.std.proofs.Common.{◌*◌, ℕ, List, Some, Bor, map, take}
+use Rattle.std.proofs.Common.{ℕ, List, Some, Bor, map, take}
 use Rattle.io_edge.specs.FileHolding.{named_file}
-use Rattle.io_edge.specs.Zeros.{with_zeros}
-use Rattle.command_words.specs.Asked.{asked_of}
+use Rattle.command_words.specs.Asked.{request_of}
 use Rattle.paging_unseen.proofs.Finished.{paging_is_unseen}
 use Rattle.paging_unseen.proofs.two_runs.Goals as goal
 
@@ -10,10 +9,8 @@ returns-clause-unseen c =
     let first = c.in_ok-first.first in
     let second = c.in_ok-second.second in
     paging_is_unseen
-    (asked_of (map (λ (word : Bor (List ℕ)). word.now) c.args.one.words.now)) (map named_file c.args.one.files.items) c.args.one.zero_blocks c.args.one.one_blocks
-    (Some (with_zeros (512 * first.zero.blocks) first.zero.written.items)) (Some (with_zeros (512 * first.one.blocks) first.one.written.items))
+    (request_of (map (λ (word : Bor (List ℕ)). word.now) c.args.one.words.now)) (map named_file c.args.one.files.items) c.args.one.zero_blocks c.args.one.one_blocks
     (Some (take first.output.len first.output.room.items)) first.output.faults first.status
-    (asked_of (map (λ (word : Bor (List ℕ)). word.now) c.args.other.words.now)) (map named_file c.args.other.files.items) c.args.other.zero_blocks c.args.other.one_blocks
-    (Some (with_zeros (512 * second.zero.blocks) second.zero.written.items)) (Some (with_zeros (512 * second.one.blocks) second.one.written.items))
+    (request_of (map (λ (word : Bor (List ℕ)). word.now) c.args.other.words.now)) (map named_file c.args.other.files.items) c.args.other.zero_blocks c.args.other.one_blocks
     (Some (take second.output.len second.output.room.items)) second.output.faults second.status
-    c.in_ok-first.ensures c.in_ok-second.ensures
+    c.in_ok-first.ensures.headline c.in_ok-second.ensures.headline

@@ -27,7 +27,7 @@ returns-clause-replayed c =
     run_replayed words files c.args.zero_blocks c.args.one_blocks
     (Some (with_zeros (512 * run.zero.blocks) run.zero.written.items)) (Some (with_zeros (512 * run.one.blocks) run.one.written.items))
     (Some (take run.output.len run.output.room.items)) run.output.faults run.status name text zero one after replay.output.faults replay.status
-    c.requires.plain c.requires.name c.requires.new c.in_ok-run.ensures c.written.ensures
+    c.requires.plain c.requires.name c.requires.new c.in_ok-run.ensures.does c.written.ensures
     (subst (λ (ws : List (List ℕ)). DoesInMemory (asked_of ws) (files ++ record { name = name; bytes = text } ∷ []) 0 0 zero one after replay.output.faults replay.status) asked
     (subst (λ (fs : List NamedFile). DoesInMemory (asked_of (map (λ (word : Bor (List ℕ)). word.now) c.as_slice-2.result.now)) fs 0 0 zero one after replay.output.faults replay.status) beside
-    c.in_ok-replay.ensures))
+    c.in_ok-replay.ensures.does))
