@@ -28,16 +28,16 @@ use Rattle.user_vax.specs.Operands.{number_at, address_of, evaluation_at, evalua
 use Rattle.vax_code.specs.Reading.{next_byte, next_number as number_read, next_signed, next_displacement, base_at, indexed_at, next_specifier, next_operand, with_count, operand_in_place, next_operands, instruction_at, decoded}
 use Rattle.vax_code.specs.Table.{all_rows, row_for}
 
-more : Option Entry → Inputs → State → (State → List Entry) → List Entry
+pub more : Option Entry → Inputs → State → (State → List Entry) → List Entry
 more None A s next = []
 more (Some u) A s next = u ∷ next (after A s u)
 
 -- so many next units from a state on
-units_from : ℕ → Inputs → State → List Entry
+pub units_from : ℕ → Inputs → State → List Entry
 units_from zero A s = []
 units_from (suc n) A s = more (next_unit A s) A s (units_from n A)
 
-hi_image : NamedImage
+pub hi_image : NamedImage
 hi_image = record {
   name = 104 ∷ 105 ∷ [];
   image = record {
@@ -134,17 +134,17 @@ nest_image = record {
   };
 }
 
-hi : Inputs
+pub hi : Inputs
 hi = record { images = hi_image ∷ []; first = 1 ∷ []; lines = []; frames = 64; swap_blocks = 256; limit = 100 }
 
-hi_held : Holdings
+pub hi_held : Holdings
 hi_held = or_before [] (start_held hi)
 
-abbrev hi_units : List Entry
+abbrev pub hi_units : List Entry
 hi_units = Zero (Stack 1 0) ∷ Turn 1 ∷ Get (Text 1 0) 0 1 ∷ Done ∷ Ran 1 1 ∷ Out 1 (104 ∷ 105 ∷ []) ∷ Call 1 4 false 2 0 ∷ Ran 1 1 ∷ Ended 1 0 ∷ []
 
 -- from the start the run makes these units, and no more
-hi_makes : units_from 10 hi (start hi hi_held) ≡ hi_units
+pub hi_makes : units_from 10 hi (start hi hi_held) ≡ hi_units
 unfolding units_from more hi hi_held hi_image next_unit after state_after act asks held_step flat_step distinct step_accesses touched argument three_arguments bytes_from exit_reply written_to
     write_reply reply_of replaced returned apply_change apply_writes argument_area start_regs spot_at kept place_all computation bytes_at store_effect fetch evaluations write_tests tested_effect
     execution execution_by instruction number_at address_of evaluation_at evaluation_through evaluation next_byte number_read next_signed next_displacement base_at indexed_at
