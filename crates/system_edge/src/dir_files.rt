@@ -2,16 +2,12 @@
 ghost use Rattle.std.specs.Prelude.{◌≡◌, ◌≤◌, None, refl};
 ghost use Rattle.std.proofs.Common.{le_refl, le_trans};
 
-use crate::Refusal;
+use crate::source::{Source, take_source};
+use crate::{LockFile, OffsetFile, Refusal};
 use io_edge::{Files, Found, Moved, raised};
 use std::alloc::{AllocError, Allocator};
-use std::fs::OpenFile;
-use std::io::{ErrorKind, Read, Seek, SeekFrom};
+use std::io::ErrorKind;
 use std::{fs, io, rt};
-
-// The most bytes that are taken of what is no plain file: one more than the longest transcript has.
-// Whoever reads a file takes fewer, so what gives more is told as too long by its reader.
-const MOST_HELD: u64 = 67_108_865;
 
 // The number of a file that was found, and its length as it was then.
 #[derive(Clone, Copy)]
@@ -20,60 +16,12 @@ struct Opened {
     len: u64,
 }
 
-// Where the bytes of a file are.
-#[derive(Drop)]
-enum Source<F: Drop, A: Allocator> {
-    // In a plain file, which stays open.
-    Plain(F),
-    // In memory, since the system gives them but once, or doesn't tell how many there are.
-    Held(Vec<u8, A>),
-}
-
-impl<F: Read + Seek + Drop, A: Allocator> Source<F, A> {
-    fn is_held(&self) -> bool {
-        matches!(self, Source::Held(_))
-    }
-
-    // Fills the buffer from this offset on.
-    fn fill(&mut self, offset: u64, buf: &mut [u8]) -> io::Result<()> {
-        match self {
-            Source::Plain(file) => {
-                file.seek(SeekFrom::Start(offset))?;
-                file.read_exact(buf)
-            }
-            Source::Held(bytes) => copy_range(bytes.as_slice(), offset, buf),
-        }
-    }
-}
-
-// Fills the buffer from this offset of these bytes on.
-fn copy_range(bytes: &[u8], offset: u64, buf: &mut [u8]) -> io::Result<()> {
-    match bytes.get(offset as usize..) {
-        Some(mut rest) => rest.read_exact(buf),
-        None => Err(io::Error::from(ErrorKind::UnexpectedEof)),
-    }
-}
-
 // A file that was found, and its length as it was then.
 #[derive(Drop)]
 struct Named<F: Drop, A: Allocator> {
     name: String<A>,
     len: u64,
     source: Source<F, A>,
-}
-
-// Reads what is no plain file, and what has no length, into memory.
-fn take_source<F: Read + Seek + OpenFile + Drop, A: Allocator>(
-    alloc: A,
-    file: F,
-) -> io::Result<(u64, Source<F, A>)> {
-    let found = file.metadata()?;
-    if found.is_file() && found.len() > 0 {
-        return Ok((found.len(), Source::Plain(file)));
-    }
-    let mut bytes = Vec::new(alloc);
-    file.take(MOST_HELD).read_to_end(&mut bytes)?;
-    Ok((bytes.len() as u64, Source::Held(bytes)))
 }
 
 // Why a call on a file failed.
@@ -89,9 +37,11 @@ fn fault_of<A: Allocator>(alloc: A, name: &str, error: io::Error) -> Option<Faul
     Some(Fault { name, error })
 }
 
-/// The files of the current folder of a runtime. A file that was found stays open. What isn't a plain
-/// file, and what has the length 0 by the system, as a pipe, is read to its end when it is found, and
-/// kept in memory under its name: up to 67,108,865 bytes, the rest is left. The files aren't told.
+/// The files of the current folder of a runtime. A plain file that was found stays open, and locked against
+/// whoever wants it alone, as a swap device does. Every later read of it fails where its length or the time of
+/// its last change isn't what it was then. What isn't a plain file, and what has the length 0 by the system, as
+/// a pipe, is read to its end when it is found, and kept in memory under its name: up to 67,108,865 bytes, the
+/// rest is left. The files aren't told.
 #[derive(Drop)]
 pub struct DirFiles<'r, R: rt::Files + Alloc> {
     rt: &'r R,
@@ -101,7 +51,10 @@ pub struct DirFiles<'r, R: rt::Files + Alloc> {
     page_faults: u64,
 }
 
-impl<'r, R: rt::Files + Alloc> DirFiles<'r, R> {
+impl<'r, R: rt::Files + Alloc> DirFiles<'r, R>
+where
+    R::File: LockFile + OffsetFile,
+{
     /// The current folder, before the first call.
     pub fn new(rt: &'r R) -> DirFiles<'r, R>
         ensures open_faults { ⟦<DirFiles<'r, R> as Files>⟧.open_faults result ≡ 0 }
@@ -167,7 +120,7 @@ impl<'r, R: rt::Files + Alloc> DirFiles<'r, R> {
         ensures open_faults { self.new.open_faults ≡ self.old.open_faults }
         ensures page_faults { self.new.page_faults ≡ self.old.page_faults }
     {
-        match self.opened.get_mut(id as usize) {
+        match self.opened.get(id as usize) {
             Some(named) => named.source.fill(offset, buf),
             None => Err(io::Error::from(ErrorKind::NotFound)),
         }
@@ -185,7 +138,10 @@ impl<'r, R: rt::Files + Alloc> DirFiles<'r, R> {
     }
 }
 
-impl<R: rt::Files + Alloc> Files for DirFiles<'_, R> {
+impl<R: rt::Files + Alloc> Files for DirFiles<'_, R>
+where
+    R::File: LockFile + OffsetFile,
+{
     ghost holds = { λ _. None };
 
     ghost open_faults = { λ f. f.open_faults };

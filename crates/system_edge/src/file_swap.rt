@@ -1,19 +1,19 @@
 // A swap device that is a file.
-ghost use Rattle.std.specs.Prelude.{◌≡◌, ◌*◌, ◌≤◌, None, refl};
+ghost use Rattle.std.specs.Prelude.{◌≡◌, ◌*◌, ◌+◌, ◌≤◌, ◌<◌, ◌↔◌, None, IsOk, IsTrue, OnOk, OnErr, max, replicate, refl};
 ghost use Rattle.io_edge.specs.Told.{untold_length};
+ghost use Rattle.system_edge.specs.Holding.{HoldsBytes};
 ghost use Rattle.std.proofs.Common.{◌∙◌, le_refl, le_trans};
 
 use crate::own_file::open_own;
-use crate::{LockFile, Refusal};
+use crate::{LockFile, OffsetFile, Refusal};
 use io_edge::{Moved, SwapDev, raised};
-use std::io::{Read, Seek, SeekFrom, Write};
 use std::{io, rt};
 
 /// A swap device that is a file of the current folder of a runtime. The first `read` or `write` makes
-/// the file, or empties it where it is there, and fails where that fails. A file that is a link, or has
-/// another name, or isn't a plain one of this user is refused, and so is one that another run has: it is
-/// left as it is. A new device holds zeros; the file has what was written, and grows with it. Its
-/// content isn't told.
+/// the file, or empties it where it is there, and fails where that fails. Its owner alone may read and write
+/// it. A file that is a link, or has another name, or isn't a plain one of this user is refused, and so is one
+/// that another run has, or that this one reads: it is left as it is. A new device holds zeros; the file has what
+/// was written, and grows with it. Its content isn't told.
 #[derive(Drop)]
 pub struct FileSwap<'r, R: rt::Files> {
     rt: &'r R,
@@ -39,30 +39,54 @@ fn offset_of(block: u32) -> u64
     u64::from(block) * 512
 }
 
-impl<F: Read + Write + Seek + Drop> SwapFile<F> {
+// Whether nothing was written from this block on, in a file of this length: then there are zeros.
+fn is_past(block: u32, len: u64) -> bool
+    ensures { IsTrue result ↔ (len ≤ block * 512) }
+{
+    len <= offset_of(block)
+}
+
+// The length of a file of this length once the page from this block on was written.
+fn length_after(len: u64, block: u32) -> u64
+    ensures { result ≡ max len (block * 512 + 1024) }
+{
+    len.max(offset_of(block) + 1024)
+}
+
+fn clear(page: &mut [u8; 1024])
+    ensures { page.new ≡ replicate 1024 0 }
+{
+    *page = [0; 1024];
+}
+
+impl<F: OffsetFile + Drop> SwapFile<F> {
     // Reads a page; what lies past the end of what was written is zeros.
-    fn read_page(&mut self, block: u32, buf: &mut [u8; 1024]) -> io::Result<()> {
-        let offset = offset_of(block);
-        if offset >= self.len {
-            *buf = [0; 1024];
+    fn read_page(&self, block: u32, page: &mut [u8; 1024]) -> io::Result<()>
+        ensures past { self.now.len ≤ block * 512 → IsOk result × (page.new ≡ replicate 1024 0) }
+        ensures written { block * 512 < self.now.len → OnOk result (HoldsBytes (F.bytes self.now.file) (block * 512) page.new) }
+    {
+        if is_past(block, self.len) {
+            clear(page);
             return Ok(());
         }
-        self.file.seek(SeekFrom::Start(offset))?;
-        self.file.read_exact(buf)
+        self.file.read_range(offset_of(block), page)
     }
 
-    fn write_page(&mut self, block: u32, bytes: &[u8; 1024]) -> io::Result<()> {
-        let offset = offset_of(block);
-        self.file.seek(SeekFrom::Start(offset))?;
-        self.file.write_all(bytes)?;
-        self.len = self.len.max(offset + 1024);
+    // Writes a page. Where that fails the file counts as no longer than before.
+    fn write_page(&mut self, block: u32, bytes: &[u8; 1024]) -> io::Result<()>
+        ensures done { OnOk result (HoldsBytes (F.bytes self.new.file) (block * 512) bytes.now) }
+        ensures longer { OnOk result (self.new.len ≡ max self.old.len (block * 512 + 1024)) }
+        ensures failed { OnErr result (self.new.len ≡ self.old.len) }
+    {
+        self.file.write_range(offset_of(block), bytes)?;
+        self.len = length_after(self.len, block);
         Ok(())
     }
 }
 
 impl<'r, R: rt::Files> FileSwap<'r, R>
 where
-    R::File: LockFile,
+    R::File: LockFile + OffsetFile,
 {
     /// A device of this many blocks on the file of this name, which is left alone so far.
     pub fn new(rt: &'r R, name: &'r str, blocks: u32) -> FileSwap<'r, R>
@@ -110,7 +134,7 @@ where
         ensures read_faults { self.new.read_faults ≡ self.old.read_faults }
         ensures write_faults { self.new.write_faults ≡ self.old.write_faults }
     {
-        let mut file = self.take_file()?;
+        let file = self.take_file()?;
         let moved = file.read_page(block, buf);
         self.file = Some(file);
         moved
@@ -130,7 +154,7 @@ where
 
 impl<R: rt::Files> SwapDev for FileSwap<'_, R>
 where
-    R::File: LockFile,
+    R::File: LockFile + OffsetFile,
 {
     ghost image = { λ _. None };
 
