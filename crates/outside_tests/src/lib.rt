@@ -2,6 +2,10 @@
 #![tactic(auto)]
 
 #[cfg(test)]
+mod calls;
+#[cfg(test)]
+mod guards;
+#[cfg(test)]
 mod memory;
 #[cfg(test)]
 mod real_files;

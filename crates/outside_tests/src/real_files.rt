@@ -1,5 +1,6 @@
 // Real files that aren't plain ones of a run's own: pipes, files of /proc, folders, links, and files that another run has. They are
 // made and removed in the folder that the tests run in.
+use crate::calls::{Answer, Call, answers};
 use io_edge::{Files, Found, Moved, SureSwap, SwapDev};
 use std::alloc::{AllocError, Global};
 use std::io::Write;
@@ -130,7 +131,7 @@ fn has_its_file_for_itself(rt: HostRuntime) -> Result<(), Fail> {
         tells(
             rt.alloc(),
             second.last_refusal(),
-            "one.swap: in use by another run in this folder"
+            "one.swap: in use by another run in this folder, or as a file of this run"
         )?
     );
     assert_eq!(rt; first.read(0, &mut page), Moved::Done);
@@ -191,27 +192,20 @@ fn refuses_a_file_that_is_not_its_own(rt: HostRuntime) -> Result<(), Fail> {
 #[test]
 fn holds_zeros_after_what_was_written(rt: HostRuntime) -> Result<(), Fail> {
     let mut swap = SureSwap::new(rt.alloc(), 131_072)?;
-    let mut page = [9; 1024];
-    assert_eq!(rt; swap.read(6, &mut page), Moved::Done);
-    assert_eq!(rt; page, [0; 1024]);
-    assert_eq!(rt; swap.write(6, &[1; 1024]), Moved::Done);
-    assert_eq!(rt; swap.read(2, &mut page), Moved::Done);
-    assert_eq!(rt; page, [0; 1024]);
-    assert_eq!(rt; swap.write(2, &[2; 1024]), Moved::Done);
-    assert_eq!(rt; swap.read(4_000, &mut page), Moved::Done);
-    assert_eq!(rt; page, [0; 1024]);
-    assert_eq!(rt; swap.write(4_000, &[3; 1024]), Moved::Done);
-    assert_eq!(rt; swap.read(131_070, &mut page), Moved::Done);
-    assert_eq!(rt; page, [0; 1024]);
-    assert_eq!(rt; swap.read(4_002, &mut page), Moved::Done);
-    assert_eq!(rt; page, [0; 1024]);
-    assert_eq!(rt; swap.read(4_000, &mut page), Moved::Done);
-    assert_eq!(rt; page, [3; 1024]);
-    assert_eq!(rt; swap.read(6, &mut page), Moved::Done);
-    assert_eq!(rt; page, [1; 1024]);
-    assert_eq!(rt; swap.read(2, &mut page), Moved::Done);
-    assert_eq!(rt; page, [2; 1024]);
-    assert_eq!(rt; swap.read(0, &mut page), Moved::Done);
-    assert_eq!(rt; page, [0; 1024]);
+    let calls = [
+        (Call::Read(6), Answer::Filled(0)),
+        (Call::Write(6, 1), Answer::Written),
+        (Call::Read(2), Answer::Filled(0)),
+        (Call::Write(2, 2), Answer::Written),
+        (Call::Read(4_000), Answer::Filled(0)),
+        (Call::Write(4_000, 3), Answer::Written),
+        (Call::Read(131_070), Answer::Filled(0)),
+        (Call::Read(4_002), Answer::Filled(0)),
+        (Call::Read(4_000), Answer::Filled(3)),
+        (Call::Read(6), Answer::Filled(1)),
+        (Call::Read(2), Answer::Filled(2)),
+        (Call::Read(0), Answer::Filled(0)),
+    ];
+    answers(&rt, &mut swap, &calls);
     Ok(())
 }

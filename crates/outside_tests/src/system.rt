@@ -1,5 +1,7 @@
 // The adapters over the system: a real folder, an output that takes little at a time, and a disk that is full. No clause can
 // say what a disk gives.
+ghost use Rattle.std.specs.Prelude.{None};
+
 use io_edge::{Files, Found, Moved, Sink, SureSwap, SwapDev, SwapPair};
 use std::alloc::{AllocError, Allocator, Global};
 use std::cell::Cell;
@@ -8,7 +10,7 @@ use std::fs::{Metadata, OpenFile, OpenOptions};
 use std::io::{ErrorKind, Read, Seek, SeekFrom, Write};
 use std::test::Fail;
 use std::{fs, io, rt};
-use system_edge::{DirFiles, FileSwap, LockFile, OutSink};
+use system_edge::{DirFiles, FileSwap, LockFile, OffsetFile, OutSink};
 
 #[test]
 fn an_absent_file_is_told_from_one_that_cannot_be_read(rt: HostRuntime) -> Result<(), Fail> {
@@ -215,6 +217,22 @@ impl OpenFile for FullFile {
 impl LockFile for FullFile {
     fn try_lock_exclusive(&self) -> io::Result<()> {
         Ok(())
+    }
+
+    fn try_share(&self) -> io::Result<()> {
+        Ok(())
+    }
+}
+
+impl OffsetFile for FullFile {
+    ghost bytes = { λ _. None };
+
+    fn read_range(&self, _offset: u64, _buf: &mut [u8]) -> io::Result<()> {
+        Err(io::Error::from(ErrorKind::UnexpectedEof))
+    }
+
+    fn write_range(&mut self, _offset: u64, piece: &[u8]) -> io::Result<()> {
+        self.write_all(piece)
     }
 }
 
