@@ -19,21 +19,13 @@ fn a_page_is_read_changed_written_and_found_again(rt: HostRuntime) {
     let mut resident = filling.filled();
     resident.bytes_mut()[6] = 2;
     let cleaning = resident.begin_clean();
-    assert_eq!(rt;
-        (cleaning.number(), cleaning.bytes()[5], cleaning.bytes()[6]),
-        (7, 1, 2)
-    );
+    let written = (cleaning.number(), cleaning.bytes()[5], cleaning.bytes()[6]);
     let again = cleaning.failed().release().reclaim();
-    assert_eq!(rt;
-        (again.number(), again.bytes()[5], again.bytes()[6]),
-        (7, 1, 2)
-    );
+    let found = (again.number(), again.bytes()[5], again.bytes()[6]);
     let clean = again.begin_clean().cleaned().zeroed();
-    assert_eq!(rt;
-        (clean.number(), clean.bytes()[5], clean.bytes()[1023]),
-        (7, 0, 0)
-    );
+    let zeroed = (clean.number(), clean.bytes()[5], clean.bytes()[1023]);
     clean.release().begin_fill().failed().retire();
+    assert_eq!(rt; [written, found, zeroed], [(7, 1, 2), (7, 1, 2), (7, 0, 0)]);
 }
 
 const TEXT: Page = Page::Text { image: 1, v: 7 };
@@ -41,10 +33,11 @@ const TEXT: Page = Page::Text { image: 1, v: 7 };
 #[test]
 fn a_new_map_has_all_frames_free(rt: HostRuntime) {
     let map = CoreMap::new(rt.alloc(), 2).expect(&rt, "memory for two frames");
-    assert_eq!(rt; (map.frames(), map.free_frames()), (2, 2));
-    assert_eq!(rt; map.owner(2), Whose::Free(None));
-    assert_eq!(rt; map.owner(3), Whose::Away);
+    let counts = (map.frames(), map.free_frames());
+    let owners = [map.owner(2), map.owner(3)];
     map.close();
+    assert_eq!(rt; counts, (2, 2));
+    assert_eq!(rt; owners, [Whose::Free(None), Whose::Away]);
 }
 
 #[test]
@@ -61,11 +54,10 @@ fn a_freed_text_page_is_found_and_reclaimed(rt: HostRuntime) {
     };
     map.put_byte(1, 3, 9);
     map.set_dirty(1, true);
-    assert_eq!(rt; (page, map.bytes(1)[3], map.is_dirty(1)), (TEXT, 9, true));
+    let changed = (page, map.bytes(1)[3], map.is_dirty(1));
     let token = map.lift(1);
     map.give_tail(token.release(), page);
-    assert_eq!(rt; map.find_text(1, 7), Some(1));
-    assert_eq!(rt; map.find_text(2, 7), None);
+    let found = [map.find_text(1, 7), map.find_text(2, 7)];
 
     // It comes back with its bytes, and is unchanged from there on.
     let Whose::Free(Some(page)) = map.owner(1) else {
@@ -76,9 +68,11 @@ fn a_freed_text_page_is_found_and_reclaimed(rt: HostRuntime) {
     let Whose::Resident(page) = map.owner(1) else {
         panic!(&rt; "not resident");
     };
-    assert_eq!(rt; (page, map.bytes(1)[3], map.is_dirty(1)), (TEXT, 9, false));
-    assert_eq!(rt; map.free_frames(), 2);
+    let unchanged = (page, map.bytes(1)[3], map.is_dirty(1));
+    let free = map.free_frames();
     map.close();
+    assert_eq!(rt; [changed, unchanged], [(TEXT, 9, true), (TEXT, 9, false)]);
+    assert_eq!(rt; (found, free), ([Some(1), None], 2));
 }
 
 #[test]
@@ -88,16 +82,17 @@ fn a_forgotten_frame_is_taken_first(rt: HostRuntime) {
     assert_eq!(rt; token.number(), 1);
     assert_eq!(rt; map.find_text(1, 7), None);
     map.give_tail(token, TEXT);
-    assert_eq!(rt; map.find_text(1, 7), Some(1));
+    let listed = map.find_text(1, 7);
     let Whose::Free(page) = map.owner(1) else {
         panic!(&rt; "not free");
     };
-    assert_eq!(rt; page, Some(TEXT));
     map.forget(1);
-    assert_eq!(rt; map.find_text(1, 7), None);
-    let (token, page) = map.take_free().expect(&rt, "a free frame");
-    assert_eq!(rt; (token.number(), page), (1, None));
+    let forgotten = map.find_text(1, 7);
+    let (token, whose) = map.take_free().expect(&rt, "a free frame");
+    let number = token.number();
     map.give_head(token);
-    assert_eq!(rt; map.free_frames(), 3);
+    let free = map.free_frames();
     map.close();
+    assert_eq!(rt; (listed, page, forgotten), (Some(1), Some(TEXT), None));
+    assert_eq!(rt; (number, whose, free), (1, None, 3));
 }

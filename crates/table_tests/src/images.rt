@@ -1,6 +1,9 @@
 // Images: headers made word by word, as the book has them, and what the files give to the pages.
+ghost use Rattle.aout_image.specs.Image.{IsSound};
+
 use aout_image::{Image, Judged, Kind, read_image, write_image};
 use byteorder::{ByteOrder, LittleEndian};
+use std::process::Abort;
 
 const IMPURE: u32 = 0o407;
 
@@ -73,49 +76,63 @@ fn a_written_header_is_read_back(rt: HostRuntime) {
     assert_eq!(rt; read_image(&head, 32 + 1500 + 600), Judged::Is(image));
 }
 
+// The sizes of a header: its magic number, and the lengths of text, data and bss.
+type Sizes = (u32, u32, u32, u32);
+
+// The image of a file of this length whose header has these sizes.
+fn image_of(rt: &impl Abort, sizes: Sizes, len: u64) -> Image
+    ensures { IsSound result }
+{
+    let (magic, text, data, bss) = sizes;
+    match read_image(&header(magic, text, data, bss, 0), u64::max(len, 32)) {
+        Judged::Is(image) => image,
+        Judged::NotImage(reason) => panic!(rt; "no image: {reason}"),
+    }
+}
+
+// What the file gives to a page of text, or of data: from where on, and how many bytes.
+fn span_of(image: &Image, of_text: bool, v: u32) -> Option<(u64, u32)>
+    requires { IsSound image.now }
+{
+    match of_text {
+        true if v < image.text_pages() => Some(image.file_span(true, v)),
+        false if v < image.data_pages() => Some(image.file_span(false, v)),
+        _ => None,
+    }
+}
+
 #[test]
-fn pages_are_filled_from_the_file_as_far_as_it_goes(rt: HostRuntime) {
-    for (sizes, len, pages, text_span, data_spans) in [
-        ((PAGED, 0, 1024, 0), 2048, (0, 1, 0), None, [None, None]),
-        (
-            (SHARED, 1500, 600, 4000),
-            2132,
-            (2, 5, 2048),
-            Some((1, (32 + 1024, 476))),
-            [Some((0, (32 + 1500, 600))), Some((4, (32 + 1500 + 600, 0)))],
-        ),
-        (
-            (IMPURE, 1500, 600, 4000),
-            2132,
-            (0, 6, 0),
-            None,
-            [Some((2, (32 + 2048, 52))), None],
-        ),
-        (
-            (PAGED, 2048, 1024, 0),
-            4096,
-            (2, 1, 2048),
-            Some((1, (2048, 1024))),
-            [Some((0, (3072, 1024))), None],
-        ),
+fn an_image_has_pages_of_text_and_of_data(rt: HostRuntime) {
+    for (sizes, len, pages) in [
+        ((PAGED, 0, 1024, 0), 2048, (0, 1, 0)),
+        ((SHARED, 1500, 600, 4000), 2132, (2, 5, 2048)),
+        ((IMPURE, 1500, 600, 4000), 2132, (0, 6, 0)),
+        ((PAGED, 2048, 1024, 0), 4096, (2, 1, 2048)),
     ] {
-        let (magic, text, data, bss) = sizes;
-        let Judged::Is(image) = read_image(&header(magic, text, data, bss, 0), len) else {
-            panic!(&rt; "no image");
-        };
-        let (text_pages, data_pages) = (image.text_pages(), image.data_pages());
+        let image = image_of(&rt, sizes, len);
         assert_eq!(rt;
-            (text_pages, data_pages, image.data_start()),
+            (image.text_pages(), image.data_pages(), image.data_start()),
             pages,
             "{sizes:?}"
         );
-        if let Some((v, span)) = text_span {
-            assert!(rt; v < text_pages);
-            assert_eq!(rt; image.file_span(true, v), span, "{sizes:?} text {v}");
-        }
-        for (v, span) in data_spans.into_iter().flatten() {
-            assert!(rt; v < data_pages);
-            assert_eq!(rt; image.file_span(false, v), span, "{sizes:?} data {v}");
-        }
+    }
+}
+
+#[test]
+fn pages_are_filled_from_the_file_as_far_as_it_goes(rt: HostRuntime) {
+    let shared = (SHARED, 1500, 600, 4000);
+    let impure = (IMPURE, 1500, 600, 4000);
+    let paged = (PAGED, 2048, 1024, 0);
+    for (sizes, len, of_text, v, span) in [
+        (shared, 2132, true, 1, (32 + 1024, 476)),
+        (shared, 2132, false, 0, (32 + 1500, 600)),
+        (shared, 2132, false, 4, (32 + 1500 + 600, 0)),
+        (impure, 2132, false, 2, (32 + 2048, 52)),
+        (paged, 4096, true, 1, (2048, 1024)),
+        (paged, 4096, false, 0, (3072, 1024)),
+    ] {
+        let image = image_of(&rt, sizes, len);
+        let given = span_of(&image, of_text, v);
+        assert_eq!(rt; given, Some(span), "{sizes:?}, page {v}, text: {of_text}");
     }
 }

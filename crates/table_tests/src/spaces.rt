@@ -60,12 +60,24 @@ fn three_pages() -> Image
     }
 }
 
-#[test]
-fn a_page_that_was_dropped_comes_back_as_zeros(rt: HostRuntime) {
-    let mut map = SpaceMap::new(rt.alloc(), 7, 1, three_pages(), 2, 1).expect(
-        &rt,
-        "memory for a map",
-    );
+// A space 7 of these pages: one of data, one of bss and one of stack.
+fn small(rt: &impl Abort, alloc: Global) -> SpaceMap {
+    SpaceMap::new(alloc, 7, 1, three_pages(), 2, 1).expect(rt, "memory for a map")
+}
+
+// Puts a page at a place, where the map has the page.
+fn put(map: &mut SpaceMap, page: Page, place: Place) -> bool
+    requires { IsInRange place }
+{
+    if !map.has(page) {
+        return false;
+    }
+    map.set_place(page, place);
+    true
+}
+
+// Checks that data page 1 of the small space has zeros again once it was dropped, and that data page 0 stays on swap.
+fn comes_back_as_zeros(rt: &impl Abort, map: &mut SpaceMap) {
     let first = Page::Data { sid: 7, v: 0 };
     let second = Page::Data { sid: 7, v: 1 };
     for (page, place) in [
@@ -77,35 +89,36 @@ fn a_page_that_was_dropped_comes_back_as_zeros(rt: HostRuntime) {
     ] {
         assert_eq!(rt; map.place(page), place);
     }
-    assert!(rt; map.place(first).is_some());
-    map.set_place(first, Place::Swap);
-    assert!(rt; map.place(second).is_some());
-    map.set_place(second, Place::Swap);
-    assert_eq!(rt; map.resize(1, 1), Ok(()));
-    assert_eq!(rt; map.place(second), None);
+    let put = [put(map, first, Place::Swap), put(map, second, Place::Swap)];
+    assert_eq!(rt; put, [true, true]);
+    assert_eq!(rt; (map.resize(1, 1), map.place(second)), (Ok(()), None));
     assert_eq!(rt; map.resize(2, 1), Ok(()));
-    assert_eq!(rt; map.place(first), Some(Place::Swap));
-    assert_eq!(rt; map.place(second), Some(Place::Zero));
+    let places = [map.place(first), map.place(second)];
+    assert_eq!(rt; places, [Some(Place::Swap), Some(Place::Zero)]);
+}
+
+#[test]
+fn a_page_that_was_dropped_comes_back_as_zeros(rt: HostRuntime) {
+    let mut map = small(&rt, rt.alloc());
+    comes_back_as_zeros(&rt, &mut map);
+}
+
+// Checks the frames that the small space shows of data page 1.
+fn shows_its_frame(rt: &impl Abort, map: &mut SpaceMap) {
+    let at_first = [map.text_frame(0), map.data_frame(1), map.stack_frame(0)];
+    assert_eq!(rt; at_first, [None, None, None]);
+    let page = Page::Data { sid: 7, v: 1 };
+    assert!(rt; put(map, page, in_frame_5(true, false)));
+    assert_eq!(rt; map.data_frame(1), Some(5));
+    assert!(rt; put(map, page, in_frame_5(false, false)));
+    assert_eq!(rt; [map.data_frame(1), map.data_frame(2)], [None, None]);
+    assert!(rt; !map.has(Page::Data { sid: 7, v: 2 }));
 }
 
 #[test]
 fn a_frame_is_shown_while_its_page_is_valid(rt: HostRuntime) {
-    let mut map = SpaceMap::new(rt.alloc(), 7, 1, three_pages(), 2, 1).expect(
-        &rt,
-        "memory for a map",
-    );
-    assert_eq!(rt; map.text_frame(0), None);
-    assert_eq!(rt; map.data_frame(1), None);
-    assert_eq!(rt; map.stack_frame(0), None);
-    let page = Page::Data { sid: 7, v: 1 };
-    assert!(rt; map.has(page));
-    map.set_place(page, in_frame_5(true, false));
-    assert_eq!(rt; map.data_frame(1), Some(5));
-    assert!(rt; map.has(page));
-    map.set_place(page, in_frame_5(false, false));
-    assert_eq!(rt; map.data_frame(1), None);
-    assert_eq!(rt; map.data_frame(2), None);
-    assert!(rt; !map.has(Page::Data { sid: 7, v: 2 }));
+    let mut map = small(&rt, rt.alloc());
+    shows_its_frame(&rt, &mut map);
 }
 
 // Of text 520 pages, two of data, and bss.

@@ -38,10 +38,14 @@ fn no_extent_crosses_a_unit(rt: HostRuntime) -> Result<(), Fail> {
         let extent = map.extents().get(at);
         assert_eq!(rt; extent.map(|e| (e.start, e.length)), pair);
     }
-    assert_eq!(rt; map.alloc(1000), Ok(Some(0)));
-    assert_eq!(rt; map.alloc(100), Ok(Some(1024)));
-    assert_eq!(rt; map.alloc(24), Ok(Some(1000)));
-    assert_eq!(rt; map.alloc(1000), Ok(None));
+    for (length, start) in [
+        (1000, Some(0)),
+        (100, Some(1024)),
+        (24, Some(1000)),
+        (1000, None),
+    ] {
+        assert_eq!(rt; map.alloc(length), Ok(start));
+    }
     Ok(())
 }
 

@@ -231,19 +231,13 @@ fn a_page_that_was_written_is_read_back(rt: HostRuntime) {
     let mut swap = device(&rt, rt.alloc(), Vec::new(rt.alloc()), Vec::new(rt.alloc()));
     begin_write(&mut ring, write_of(&rt, rt.alloc(), 9, 4));
     begin_read(&mut ring, read_of(&rt, rt.alloc(), 3, 4));
-    assert_eq!(rt;
-        (ring.len(), ring.names(1), ring.names_text(2)),
-        (2, true, true)
-    );
+    let both = (ring.len(), ring.names(1), ring.names_text(2));
     let written = ended(complete(rt.alloc(), &mut ring, &mut swap));
-    assert_eq!(rt; written, ("done", [9, 0, 0, 0]));
-    assert_eq!(rt;
-        (ring.len(), ring.names(1), ring.names_text(2)),
-        (1, true, false)
-    );
+    let one = (ring.len(), ring.names(1), ring.names_text(2));
     let read = ended(complete(rt.alloc(), &mut ring, &mut swap));
-    assert_eq!(rt; read, ("done", [9, 0, 0, 0]));
     ring.close();
+    assert_eq!(rt; [both, one], [(2, true, true), (1, true, false)]);
+    assert_eq!(rt; [written, read], [("done", [9, 0, 0, 0]); 2]);
 }
 
 #[test]
@@ -256,13 +250,16 @@ fn a_failed_call_hands_the_transfer_back(rt: HostRuntime) -> Result<(), Fail> {
     begin_write(&mut ring, write_of(&rt, rt.alloc(), 8, 2));
     begin_read(&mut ring, read_of(&rt, rt.alloc(), 3, 4));
     let written = ended(complete(rt.alloc(), &mut ring, &mut swap));
-    assert_eq!(rt; written, ("done", [9, 0, 0, 0]));
-    let failed = ended(complete(rt.alloc(), &mut ring, &mut swap));
-    assert_eq!(rt; failed, ("write fault", [8, 0, 0, 0]));
-    let failed = ended(complete(rt.alloc(), &mut ring, &mut swap));
-    assert_eq!(rt; failed, ("read fault", [0, 0, 0, 0]));
-    assert_eq!(rt; (swap.blocks(), ring.len()), (8, 0));
+    let not_written = ended(complete(rt.alloc(), &mut ring, &mut swap));
+    let not_read = ended(complete(rt.alloc(), &mut ring, &mut swap));
+    let left = (swap.blocks(), ring.len());
     ring.close();
+    let wanted = [
+        ("done", [9, 0, 0, 0]),
+        ("write fault", [8, 0, 0, 0]),
+        ("read fault", [0, 0, 0, 0]),
+    ];
+    assert_eq!(rt; ([written, not_written, not_read], left), (wanted, (8, 0)));
     Ok(())
 }
 
@@ -274,24 +271,27 @@ fn a_read_of_three_pages_calls_the_device_for_each(rt: HostRuntime) -> Result<()
     let mut swap = device(&rt, alloc, fail_reads, Vec::new(alloc));
     begin_write(&mut ring, write_of_three(&rt, alloc));
     let written = ended(complete(alloc, &mut ring, &mut swap));
-    assert_eq!(rt; written, ("done", [1, 2, 3, 0]));
 
     // Reads 1 to 3 succeed, and so does 4. Read 5 fails, and the last page isn't asked for.
     begin_read(&mut ring, read_of_three(&rt, alloc));
     let whole = ended(complete(alloc, &mut ring, &mut swap));
-    assert_eq!(rt; whole, ("done", [1, 2, 3, 0]));
     begin_read(&mut ring, read_of_three(&rt, alloc));
     let cut = ended(complete(alloc, &mut ring, &mut swap));
-    assert_eq!(rt; cut, ("read fault", [1, 0, 0, 0]));
 
     // So the next read is the 6th, and the one after it fails.
     begin_read(&mut ring, read_of(&rt, alloc, 3, 4));
     let sixth = ended(complete(alloc, &mut ring, &mut swap));
-    assert_eq!(rt; sixth, ("done", [3, 0, 0, 0]));
     begin_read(&mut ring, read_of(&rt, alloc, 3, 4));
     let seventh = ended(complete(alloc, &mut ring, &mut swap));
-    assert_eq!(rt; seventh, ("read fault", [0, 0, 0, 0]));
     ring.close();
+    let wanted = [
+        ("done", [1, 2, 3, 0]),
+        ("done", [1, 2, 3, 0]),
+        ("read fault", [1, 0, 0, 0]),
+        ("done", [3, 0, 0, 0]),
+        ("read fault", [0, 0, 0, 0]),
+    ];
+    assert_eq!(rt; [written, whole, cut, sixth, seventh], wanted);
     Ok(())
 }
 
@@ -305,26 +305,30 @@ fn a_write_of_three_pages_calls_the_device_for_each(rt: HostRuntime) -> Result<(
     // Write 2 fails: the first page was written, and the last one isn't tried.
     begin_write(&mut ring, write_of_three(&rt, alloc));
     let cut = ended(complete(alloc, &mut ring, &mut swap));
-    assert_eq!(rt; cut, ("write fault", [1, 2, 3, 0]));
     begin_read(&mut ring, read_of_three(&rt, alloc));
     let kept = ended(complete(alloc, &mut ring, &mut swap));
-    assert_eq!(rt; kept, ("done", [1, 0, 0, 0]));
 
     // So the next write is the 3rd, and the one after it fails.
     begin_write(&mut ring, write_of(&rt, alloc, 9, 4));
     let third = ended(complete(alloc, &mut ring, &mut swap));
-    assert_eq!(rt; third, ("done", [9, 0, 0, 0]));
     begin_write(&mut ring, write_of(&rt, alloc, 8, 4));
     let fourth = ended(complete(alloc, &mut ring, &mut swap));
-    assert_eq!(rt; fourth, ("write fault", [8, 0, 0, 0]));
     ring.close();
+    let wanted = [
+        ("write fault", [1, 2, 3, 0]),
+        ("done", [1, 0, 0, 0]),
+        ("done", [9, 0, 0, 0]),
+        ("write fault", [8, 0, 0, 0]),
+    ];
+    assert_eq!(rt; [cut, kept, third, fourth], wanted);
     Ok(())
 }
 
 #[test]
 fn the_rest_of_a_page_from_a_file_is_zeros(rt: HostRuntime) -> Result<(), Fail> {
-    let mut list = Vec::new(rt.alloc());
-    list.push(("hi".to_string(rt.alloc())?, [7, 8, 9].to_vec(rt.alloc())?))?;
+    let name = "hi".to_string(rt.alloc())?;
+    let bytes = [7, 8, 9].to_vec(rt.alloc())?;
+    let list = vec![in rt.alloc(); (name, bytes)]?;
     let mut files = MemFiles::new(list, Vec::new(rt.alloc()));
     let Found::Is { id, len } = files.find("hi") else {
         return Err(Fail::from("not found"));
@@ -342,8 +346,8 @@ fn the_rest_of_a_page_from_a_file_is_zeros(rt: HostRuntime) -> Result<(), Fail> 
         _other => unreachable!(),
     }
     let read = ended(ring.complete_oldest(&mut files, &mut swap));
-    assert_eq!(rt; read, ("done", [8, 0, 0, 0]));
     ring.close();
+    assert_eq!(rt; read, ("done", [8, 0, 0, 0]));
     Ok(())
 }
 
@@ -353,7 +357,7 @@ fn the_seventeenth_transfer_is_handed_back(rt: HostRuntime) -> Result<(), Fail> 
     for v in 0..16 {
         begin_read(&mut ring, read_of(&rt, rt.alloc(), v, 4));
     }
-    assert_eq!(rt; ring.len(), 16);
+    let full = ring.len();
     let refused = match ring.begin_read(read_of(&rt, rt.alloc(), 16, 4)) {
         Begun::RingFull(transfer) => {
             end(transfer);
@@ -361,10 +365,11 @@ fn the_seventeenth_transfer_is_handed_back(rt: HostRuntime) -> Result<(), Fail> 
         }
         Begun::Ok => false,
     };
-    assert_eq!(rt; (refused, ring.len()), (true, 16));
+    let still_full = ring.len();
     while let Some(transfer) = ring.abandon() {
         end(transfer);
     }
     ring.close();
+    assert_eq!(rt; (full, refused, still_full), (16, true, 16));
     Ok(())
 }
