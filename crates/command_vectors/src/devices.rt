@@ -12,6 +12,8 @@ use std::alloc::Global;
 pub enum Lie {
     /// The first byte of the first page that is read.
     FirstByte,
+    /// The first byte of each page that is read.
+    EachFirstByte,
     /// Byte 20 of the page from this block on.
     Byte20(u32),
     Nothing,
@@ -53,6 +55,7 @@ impl SwapDev for LyingSwap {
                 buf[0] = buf[0].wrapping_add(1);
                 self.lie = Lie::Nothing;
             }
+            Lie::EachFirstByte => buf[0] = buf[0].wrapping_add(1),
             Lie::Byte20(place) if place == block => buf[20] = buf[20].wrapping_add(1),
             Lie::Byte20(_) | Lie::Nothing => {}
         }

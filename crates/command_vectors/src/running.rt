@@ -8,7 +8,7 @@ use std::alloc::{AllocError, Global};
 use vm_run::{explain, vmrun, vmrun_in_memory};
 
 /// The room of the output.
-const ROOM: usize = 65_536;
+const ROOM: usize = 131_072;
 
 /// What is asked of a run, and what is wanted.
 #[derive(Drop)]
@@ -93,6 +93,7 @@ impl Asked {
                 self.one = one.parse::<u32>()?;
             }
             "lie" if rest == "first" => self.lie = Lie::FirstByte,
+            "lie" if rest == "each" => self.lie = Lie::EachFirstByte,
             "lie" => self.lie = Lie::Byte20(rest.parse::<u32>()?),
             "fail" => self.fail(rest)?,
             "vmrun" => self.words.push_str(rest)?,
