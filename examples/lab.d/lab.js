@@ -6,17 +6,19 @@ const page = document.querySelector('meta[name="page"]').content;
 const FIELDS = ["frames", "swap", "limit", "images"];
 const FIRST = ".word 0\nmovl $5,r1\nl: sobgtr r1,l\nmoval *$code,r12\nchmk $1\ncode: .long 1\n.long 7\n";
 const LINE = 22;
+// the server takes so many bytes of a question
+const MOST_ASKED = 4 << 20;
+// so many lines of a text get numbers: no source and no schedule has more lines, but for the one that is too many
+const MOST_NUMBERED = { source: 4097, schedule: 65537 };
 
 const lab = { beginning: null, programs: [], current: 0, run: null, last: Promise.resolve(), asked: 0, waiting: 0, typed: 0 };
 
 // ---- What is asked of the server, one question after another. ----
 
 async function post(name, asked) {
-  const answer = await fetch(name, {
-    method: "POST",
-    headers: { "Content-Type": "application/json" },
-    body: JSON.stringify({ page, ...asked }),
-  });
+  const body = new Blob([JSON.stringify({ page, ...asked })]);
+  if (body.size > MOST_ASKED) throw new Error("The page has more than 4 MiB of programs and schedule.");
+  const answer = await fetch(name, { method: "POST", headers: { "Content-Type": "application/json" }, body });
   const text = await answer.text();
   if (!answer.ok) throw new Error(text.trim());
   return JSON.parse(text);
@@ -53,7 +55,7 @@ function setup() {
 
 function editorOf(name) {
   const [text, said, go] = [at(`lab-${name}`), at(`lab-${name}-said`), at(`lab-${name}-go`)];
-  const editor = { text, said, go, numbers: at(`lab-${name}-editor`).querySelector("ol"), lines: 0, bad: 0, now: 0 };
+  const editor = { text, said, go, most: MOST_NUMBERED[name], numbers: at(`lab-${name}-editor`).querySelector("ol"), lines: 0, bad: 0, now: 0 };
   editor.text.addEventListener("scroll", () => scrollEditor(editor));
   editor.go.addEventListener("click", () => goToLine(editor, editor.bad));
   return editor;
@@ -72,7 +74,9 @@ function scrollEditor(editor) {
 function numberLines(editor) {
   const lines = editor.text.value.split("\n").length;
   if (lines !== editor.lines) {
-    editor.numbers.replaceChildren(...Array.from({ length: lines }, (_, index) => element("li", "", String(index + 1))));
+    const numbers = document.createDocumentFragment();
+    for (let line = 1; line <= Math.min(lines, editor.most); line++) numbers.append(element("li", "", String(line)));
+    editor.numbers.replaceChildren(numbers);
     editor.lines = lines;
     mark(editor, "now", editor.now);
     mark(editor, "bad", editor.bad);
@@ -83,7 +87,7 @@ function numberLines(editor) {
 // Marks a line, or none, which is line 0.
 function mark(editor, kind, line) {
   for (const it of editor.numbers.querySelectorAll(`.${kind}`)) it.classList.remove(kind);
-  if (line > 0 && line <= editor.lines) editor.numbers.children[line - 1].classList.add(kind);
+  if (line > 0 && line <= editor.numbers.children.length) editor.numbers.children[line - 1].classList.add(kind);
   editor[kind] = line;
   scrollEditor(editor);
 }
@@ -554,8 +558,8 @@ function drawPlot(answer) {
   const all = LINES.map(([kind, words, points]) => [kind, words, points(answer)]);
   const lines = all.map(([kind, words, points]) => [kind, words, points.filter(([frames]) => frames >= least)]);
   const points = lines.flatMap(([, , points]) => points);
-  const wide = Math.max(...points.map(([frames]) => frames), 1);
-  const high = Math.max(...points.map(([, faults]) => faults), 1);
+  const wide = points.reduce((most, [frames]) => Math.max(most, frames), 1);
+  const high = points.reduce((most, [, faults]) => Math.max(most, faults), 1);
   const x = (frames) => left + (frames / wide) * (width - left - right);
   const y = (faults) => height - bottom - (faults / high) * (height - top - bottom);
   const svg = shape("svg", { width, height, role: "img", "aria-labelledby": "lab-plot-title" });

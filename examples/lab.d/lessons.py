@@ -1,5 +1,7 @@
-"""What can be loaded: the programs of the folder examples, the rows of their table, and the runs of docs/TOUR.md."""
+"""What can be loaded: the programs of the folder examples, the rows of their table, and the runs of docs/TOUR.md; and what the lines
+mean, of docs/LINES.md."""
 import glob
+import html
 import os
 import re
 
@@ -7,6 +9,7 @@ HERE = os.path.dirname(os.path.realpath(__file__))
 EXAMPLES = os.path.dirname(HERE)
 TOUR = f"{EXAMPLES}/../docs/TOUR.md"
 TABLE = f"{EXAMPLES}/README.md"
+LINES = f"{EXAMPLES}/../docs/LINES.md"
 # programs that are images in the folder, with no source
 IMAGES = ("hi7", "hi8", "self7")
 PICTURES = f"{EXAMPLES}/../docs/pictures"
@@ -15,7 +18,7 @@ OWN = ("mine", "mine2", "mine3", "mine4")
 ROW = re.compile(r"^\| `(\w+)` \| (.*) \| `(\d+) (\d+) (\d+) s ([=\w ]+)` \| `.*` \|$", re.M)
 RUN = re.compile(r"vmrun run (?:--trace )?(\d+) (\d+) (\d+) (\w+) ([=\w]+(?: [=\w]+)*)")
 PICTURE = re.compile(r"!\[([^\]]*)\]\(pictures/([\w-]+)\.svg\)")
-SCHEDULE = re.compile(r"printf '([^']*)' >(\w+)")
+SCHEDULE = re.compile(r"(?:for \w+ in \$\(seq (\d+)\); do )?printf '([^']*)'(?:; done)? >(\w+)")
 
 
 def text_of(file):
@@ -69,6 +72,28 @@ def blocks(text):
     return found
 
 
+def marked(text):
+    """A line of a document as HTML, with its words in backquotes and its bold ones marked."""
+    text = html.escape(plain(text.replace("**", "\0")), quote=False)
+    return re.sub(r"\0([^\0]*)\0", r"<b>\1</b>", re.sub(r"`([^`]*)`", r"<code>\1</code>", text))
+
+
+def lines():
+    """What each line of a transcript, of a schedule and of an owners' text means, as HTML: the tables of docs/LINES.md and what stands
+    between them."""
+    made = []
+    for part in re.split(r"\n\n+", text_of(LINES).partition("\n")[2].strip("\n")):
+        if part.startswith("|"):
+            head, _, *rows = [[marked(it.strip()) for it in row.strip("|").split("|")] for row in part.split("\n")]
+            kinds = [("th", head), *(("td", row) for row in rows)]
+            made.append(f"<table>{''.join('<tr>' + ''.join(f'<{kind}>{it}</{kind}>' for it in row) + '</tr>' for kind, row in kinds)}</table>")
+        elif part.startswith("    "):
+            made.append(f"<pre>{html.escape(re.sub(r'(?m)^    ', '', part), quote=False)}</pre>")
+        else:
+            made.append(f"<p>{marked(' '.join(part.split()))}</p>")
+    return "\n".join(made)
+
+
 def lessons():
     """The runs of the tour, section by section: of each its words and its schedule, and the section's text."""
     found = []
@@ -76,8 +101,8 @@ def lessons():
         title, _, text = section.partition("\n")
         schedules, seen = {"s": ""}, set()
         for line in re.findall(r"(?m)^    \$ (.*)$", text):
-            for schedule, name in SCHEDULE.findall(line):
-                schedules[name] = schedule.replace("\\n", "\n")
+            for times, schedule, name in SCHEDULE.findall(line):
+                schedules[name] = schedule.replace("\\n", "\n") * int(times or 1)
             for frames, swap, limit, name, images in RUN.findall(line):
                 words = f"{frames} {swap} {limit} {name} {images}"
                 if name in schedules and words not in seen:
