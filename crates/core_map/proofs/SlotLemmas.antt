@@ -1,5 +1,5 @@
 -- Facts on the slots of a sound core map.
-use Rattle.std.proofs.Common.{◌≡◌, ◌≢◌, ℕ, ◌<◌, List, [], ◌∷◌, ◌++◌, zero, suc, length, get_or, set, get_or-set_same, get_or-set_other, length-set, refl, sym, ap, subst, ◌∙◌, inl, inr, arith, Bool, true, false, Option, Some, None, map}
+use Rattle.std.proofs.Common.{◌≡◌, ◌≢◌, ℕ, ◌+◌, ◌<◌, List, [], ◌∷◌, ◌++◌, zero, suc, length, get_or, set, get_or-set_same, get_or-set_other, length-set, refl, sym, ap, subst, ◌∙◌, inl, inr, arith, Bool, true, false, Option, Some, None, map}
 use Rattle.std.proofs.lemmas.Bool.{cases_lt, false≢true, cases_eq}
 use Rattle.std.proofs.lemmas.List.{get_or_past, get_or_read, map-set, set-get_or}
 use Rattle.std.specs.Prelude.{IfSome}
@@ -9,10 +9,10 @@ use Rattle.vm_facts.specs.declared.page.Page.TheVariants.{Text}
 use Rattle.frame_state.specs.Frame.{Frame}
 use Rattle.core_map.specs.declared.slot.Slot.{Slot}
 use Rattle.core_map.specs.declared.slot.Slot.TheVariants.{Free, Resident, Away}
-use Rattle.vm_facts.specs.Lists.{times, without}
+use Rattle.vm_facts.specs.Lists.{times, without, overwritten}
 use Rattle.core_map.specs.declared.text_index.TextKey.{TextKey}
 use Rattle.core_map.specs.Chains.{key_at}
-use Rattle.core_map.specs.Slots.{slot_at, listings, is_free, is_resident, slot_number, slot_page, text_of, key_of, with_byte, with_dirty, IsWhole}
+use Rattle.core_map.specs.Slots.{slot_at, listings, is_free, is_resident, slot_number, slot_page, text_of, key_of, with_byte, with_bytes, with_dirty, IsWhole}
 use Rattle.core_map.specs.Frames.{IsSoundMap}
 use Rattle.vm_facts.proofs.Lists.{times-append, times_head, times_other, times-without_same, times-without_other}
 
@@ -254,6 +254,30 @@ page_of-with_dirty (Free t p) m = refl
 page_of-with_dirty (Resident t p d) m = refl
 page_of-with_dirty Away m = refl
 
+pub is_resident-with_bytes : (s : Slot) (at : ℕ) (bs : List ℕ) → is_resident (with_bytes s at bs) ≡ is_resident s
+is_resident-with_bytes (Free t p) at bs = refl
+is_resident-with_bytes (Resident t p d) at bs = refl
+is_resident-with_bytes Away at bs = refl
+
+pub number_of-with_bytes : (s : Slot) (at : ℕ) (bs : List ℕ) (f : ℕ) → slot_number (with_bytes s at bs) f ≡ slot_number s f
+number_of-with_bytes (Free t p) at bs f = refl
+number_of-with_bytes (Resident t p d) at bs f = refl
+number_of-with_bytes Away at bs f = refl
+
+pub page_of-with_bytes : (s : Slot) (at : ℕ) (bs : List ℕ) → slot_page (with_bytes s at bs) ≡ slot_page s
+page_of-with_bytes (Free t p) at bs = refl
+page_of-with_bytes (Resident t p d) at bs = refl
+page_of-with_bytes Away at bs = refl
+
+pub length-overwritten : (xs : List ℕ) (at : ℕ) (ys : List ℕ) → length (overwritten xs at ys) ≡ length xs
+length-overwritten xs at [] = refl
+length-overwritten xs at (y ∷ ys) = length-overwritten (set xs at y) (at + 1) ys ∙ length-set xs at y
+
+IsWhole-with_bytes : (s : Slot) (at : ℕ) (bs : List ℕ) → IsWhole s → IsWhole (with_bytes s at bs)
+IsWhole-with_bytes (Free t p) at bs h = h
+IsWhole-with_bytes (Resident t p d) at bs h = length-overwritten t.bytes at bs ∙ h
+IsWhole-with_bytes Away at bs h = tt
+
 IsWhole-with_byte : (s : Slot) (at b : ℕ) → IsWhole s → IsWhole (with_byte s at b)
 IsWhole-with_byte (Free t p) at b h = h
 IsWhole-with_byte (Resident t p d) at b h = length-set t.bytes at b ∙ h
@@ -269,6 +293,12 @@ pub sound_byte : (free : List ℕ) (slots : List Slot) (f at b : ℕ) → IsSoun
 sound_byte free slots f at b sound res =
     let s = slot_at slots f in
     sound_resident free slots f (with_byte s at b) sound res (is_resident-with_byte s at b ∙ res) (IsWhole-with_byte s at b (sound.whole f)) (number_of-with_byte s at b f) (page_of-with_byte s at b)
+
+pub sound_bytes : (free : List ℕ) (slots : List Slot) (f at : ℕ) (bs : List ℕ) → IsSoundMap free slots → is_resident (slot_at slots f) ≡ true
+    → IsSoundMap free (set slots f (with_bytes (slot_at slots f) at bs))
+sound_bytes free slots f at bs sound res =
+    let s = slot_at slots f in
+    sound_resident free slots f (with_bytes s at bs) sound res (is_resident-with_bytes s at bs ∙ res) (IsWhole-with_bytes s at bs (sound.whole f)) (number_of-with_bytes s at bs f) (page_of-with_bytes s at bs)
 
 pub sound_dirty : (free : List ℕ) (slots : List Slot) (f : ℕ) (m : Bool) → IsSoundMap free slots → is_resident (slot_at slots f) ≡ true
     → IsSoundMap free (set slots f (with_dirty (slot_at slots f) m))

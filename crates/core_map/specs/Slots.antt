@@ -1,5 +1,6 @@
 -- What the core map has for one frame.
 use Rattle.std.specs.Prelude.{◌≡◌, ℕ, List, Bool, true, false, Option, Some, None, IsTrue, length, slice_set, slice_index_or, []}
+use Rattle.vm_facts.specs.Lists.{overwritten}
 use Rattle.vm_facts.specs.declared.page.Page.{Page}
 use Rattle.vm_facts.specs.declared.page.Page.TheVariants.{Data, Stack, Text}
 use Rattle.frame_state.specs.Frame.{Frame}
@@ -60,6 +61,12 @@ abbrev pub with_byte : Slot → ℕ → ℕ → Slot
 with_byte (Free token page) at byte = Free token page
 with_byte (Resident token page dirty) at byte = Resident (record token { bytes = slice_set token.bytes at byte }) page dirty
 with_byte Away at byte = Away
+
+-- a resident frame after its bytes from a place on were written
+abbrev pub with_bytes : Slot → ℕ → List ℕ → Slot
+with_bytes (Free token page) at bytes = Free token page
+with_bytes (Resident token page dirty) at bytes = Resident (record token { bytes = overwritten token.bytes at bytes }) page dirty
+with_bytes Away at bytes = Away
 
 -- a resident frame with this mark
 abbrev pub with_dirty : Slot → Bool → Slot

@@ -5,7 +5,7 @@ ghost use Rattle.core_map.specs.Fresh.{first_frames, fresh_slots};
 ghost use Rattle.core_map.specs.Order.{place_from};
 ghost use Rattle.core_map.specs.Frames.{IsAway, IsSoundMap, HoldsNot, TakesHead};
 ghost use Rattle.vm_facts.specs.Lists.{times, without};
-ghost use Rattle.core_map.specs.Slots.{ShowsOwner, slot_at, is_free, is_resident, is_slot_dirty, slot_owner, slot_page, token_of, with_byte, with_dirty};
+ghost use Rattle.core_map.specs.Slots.{ShowsOwner, slot_at, is_free, is_resident, is_slot_dirty, slot_owner, slot_page, token_of, with_byte, with_bytes, with_dirty};
 ghost use Rattle.core_map.specs.declared.slot.Slot.TheVariants.{Free as FreeSlot, Resident as ResidentSlot, Away as AwaySlot};
 ghost use Rattle.vm_facts.specs.declared.page.Page.TheVariants.{Text as TextPage};
 
@@ -219,6 +219,17 @@ impl CoreMap {
             ≡ slice_set self.old.slots frame (with_byte (slot_at self.old.slots frame) at byte) }
     {
         slot::put_byte(&mut self.slots[frame as usize], at, byte);
+    }
+
+    /// Changes the bytes of a resident frame from a place on, and leaves its mark as it is.
+    pub fn put_bytes(&mut self, frame: u32, at: u32, bytes: &[u8])
+        requires resident { IsTrue (is_resident (slot_at self.old.slots frame)) }
+        requires within { at + length bytes.now ≤ 1024 }
+        ensures free { self.new.free ≡ self.old.free }
+        ensures slots { self.new.slots
+            ≡ slice_set self.old.slots frame (with_bytes (slot_at self.old.slots frame) at bytes.now) }
+    {
+        slot::put_bytes(&mut self.slots[frame as usize], at, bytes);
     }
 
     /// Whose the frame is. A number that is no frame's is away.

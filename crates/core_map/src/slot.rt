@@ -1,13 +1,13 @@
 //! What the map holds for each frame.
-ghost use Rattle.std.specs.Prelude.{◌≡◌, ℕ, ◌<◌, length, slice_set, IsTrue, Some, None, IfOk, ◌-◌, ◌^◌};
+ghost use Rattle.std.specs.Prelude.{◌≡◌, ℕ, ◌+◌, ◌<◌, ◌≤◌, length, slice_set, IsTrue, Some, None, IfOk, ◌-◌, ◌^◌};
 ghost use Rattle.core_map.specs.Fresh.{fresh_slots};
-ghost use Rattle.core_map.specs.Slots.{slot_at, is_free, is_resident, with_byte, with_dirty};
+ghost use Rattle.core_map.specs.Slots.{slot_at, is_free, is_resident, with_byte, with_bytes, with_dirty};
 ghost use Rattle.core_map.specs.declared.slot.Slot.TheVariants.{Free as FreeSlot, Resident as ResidentSlot, Away as AwaySlot};
 
 use frame_state::{Free, Resident};
 use std::alloc::Global;
 use std::mem;
-use vm_facts::{NoMemory, Page};
+use vm_facts::{NoMemory, Page, overwrite};
 
 /// Whose a frame is.
 #[derive(Clone, Copy, Debug, PartialEq, Eq)]
@@ -97,6 +97,18 @@ pub(crate) fn put_byte(slot: &mut Slot, at: u32, byte: u8)
 {
     match slot {
         Slot::Resident { token, .. } => token.bytes_mut()[at as usize] = byte,
+        _ => unreachable!(),
+    }
+}
+
+/// Changes the bytes of a resident slot from a place on.
+pub(crate) fn put_bytes(slot: &mut Slot, at: u32, bytes: &[u8])
+    requires resident { IsTrue (is_resident slot.old) }
+    requires within { at + length bytes.now ≤ 1024 }
+    ensures { slot.new ≡ with_bytes slot.old at bytes.now }
+{
+    match slot {
+        Slot::Resident { token, .. } => overwrite(token.bytes_mut(), at as usize, bytes),
         _ => unreachable!(),
     }
 }

@@ -1,5 +1,5 @@
 -- Journals with one entry more, and the last entry of a journal.
-use Rattle.std.proofs.Common.{◌≡◌, ℕ, suc, ◌+◌, ◌≤◌, List, [], ◌∷◌, ◌++◌, length, refl, sym, ap, ◌∙◌, subst, arith}
+use Rattle.std.proofs.Common.{◌≡◌, ℕ, suc, ◌+◌, List, [], ◌∷◌, ◌++◌, length, refl, sym, ap, ◌∙◌, arith}
 use Rattle.std.proofs.lemmas.List.{length-append}
 use Rattle.std.proofs.Math.Seq.{drop-append_seam}
 use Rattle.std.specs.Prelude.{drop, slice_get, ◌-◌, Some, None}
@@ -30,11 +30,6 @@ pub last_behind : (es : List Entry) (e : Entry) → last_entry (es ++ e ∷ []) 
 last_behind [] e = refl
 last_behind (f ∷ []) e = refl
 last_behind (f ∷ g ∷ es) e = last_behind (g ∷ es) e
-
-pub last_few : (es : List Entry) (e : Entry) (n : ℕ) → Some e ≡ last_entry es → moves e ≤ n → last_moves es ≤ n
-last_few [] e n h l = absurd cc
-last_few (f ∷ []) e n h l = subst (λ (x : Entry). moves x ≤ n) (let z : e ≡ f = cc in z) l
-last_few (f ∷ g ∷ es) e n h l = last_few (g ∷ es) e n h l
 
 pub last_is : (es : List Entry) (e : Entry) → Some e ≡ last_entry es → last_moves es ≡ moves e
 last_is [] e h = absurd cc

@@ -14,7 +14,7 @@ ghost use Rattle.film_core.specs.Ways.{StaysOn, RestAt, RestDone};
 use io_edge::{Files, SwapDev};
 use journal_laws::clock_hands::move_hands;
 use machine_state::Machine;
-use proc_run::{Patience, can_step, run};
+use proc_run::{DecodeCache, Patience, can_step, run};
 use run_model::Mark;
 use run_start::swapper::{swap_in, swap_out};
 use std::alloc::Global;
@@ -58,7 +58,17 @@ fn dispatch<F: Files, D: SwapDev>(
     ensures outside { TransfersPages F.Files D.SwapDev (stop_of result) files.old files.new swap.old swap.new }
 {
     let until = count_behind(m, since, more);
-    run(alloc, m, files, swap, pid, counted, until, Patience::Stops)
+    run(
+        alloc,
+        &mut DecodeCache::empty(),
+        m,
+        files,
+        swap,
+        pid,
+        counted,
+        until,
+        Patience::Stops,
+    )
 }
 
 // A process has what is left of its turn.
@@ -88,7 +98,16 @@ fn turn<F: Files, D: SwapDev>(
         return Ok(counted);
     }
     come_in(m, files, swap, pid)?;
-    finish(alloc, m, files, swap, pid, counted, since)
+    finish(
+        alloc,
+        &mut DecodeCache::empty(),
+        m,
+        files,
+        swap,
+        pid,
+        counted,
+        since,
+    )
 }
 
 // The oldest transfer ends.

@@ -20,13 +20,14 @@ use flat_process::{
 use flat_state::{Change, PAGE, STACK_TOP};
 use std::alloc::Global;
 use std::marker::Model;
-use user_vax::Stepped;
+use user_vax::{DecodeCache, Stepped};
 use vm_facts::{Bytes, NoMemory, Page, Regs};
 
 /// The flat machine. Contracts see its processes by rising pid, and the numbers of the next process and the
 /// next space.
 #[derive(Drop)]
 pub struct Machine {
+    cache: DecodeCache,
     list: Vec<Process>,
     next_pid: u32,
     next_sid: u32,
@@ -158,6 +159,7 @@ impl Machine {
         ensures { (A : Inputs) → A.images ≡ programs.now → A.first ≡ first.now → IfOk result (λ machine. machine ≡ start_state A) }
     {
         let mut machine = Machine {
+            cache: DecodeCache::empty(),
             list: Vec::new(alloc),
             next_pid: 1,
             next_sid: 1,
@@ -491,7 +493,7 @@ impl Machine {
         ensures behind { IsBehind self.old (process_at self.old place) (space_at self.old place)
             (instruction_in (space_at self.old place) (process_at self.old place).regs) self.new place result.0 result.1 }
     {
-        self.list[place].run()
+        self.list[place].run(&mut self.cache)
     }
 
     // Runs the next instruction of the process at this place over its space, and answers with it the pages that the

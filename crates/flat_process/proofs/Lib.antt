@@ -4,3 +4,4 @@ pub mod Short
 pub mod Hits
 pub mod Paging
 pub mod Ahead
+pub mod Together

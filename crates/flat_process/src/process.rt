@@ -14,7 +14,7 @@ use crate::program::Program;
 use crate::space::FlatSpace;
 use std::alloc::Global;
 use std::marker::Model;
-use user_vax::{Stepped, step};
+use user_vax::{DecodeCache, Stepped, step_cached};
 use vm_facts::{NoMemory, Page, Regs};
 
 /// What a process has.
@@ -220,7 +220,7 @@ impl Process {
     /// Runs its next instruction over its space: what it came to, and the registers that it left. The process
     /// keeps those that it had.
     #[tactic(auto, using(flat_state::proofs::SpaceLaws::wrote_puts, crate::proofs::Falling::near_step))]
-    pub fn run(&mut self) -> (Stepped, Regs)
+    pub fn run(&mut self, cache: &mut DecodeCache) -> (Stepped, Regs)
         requires { IsTrue (holds_space self.old.holding) }
         ensures answer { result.0 ≡ answer_of (instruction_in (space_in self.old.holding) self.old.regs) }
         ensures near { IsNearStep result.0 }
@@ -232,7 +232,7 @@ impl Process {
         let mut regs = self.regs;
         match &mut self.held {
             Held::Space(space) => {
-                let stepped = step(&mut regs, space);
+                let stepped = step_cached(cache, &mut regs, space);
                 (stepped, regs)
             }
             Held::Lent { .. } | Held::Zombie(_) => unreachable!(),

@@ -1,4 +1,5 @@
-ghost use Rattle.std.specs.Prelude.{◌≡◌, ℕ, ◌+◌, ◌*◌, ◌/◌, ◌%◌, ◌-◌, ◌^◌, ◌<◌, ◌≤◌, drop, length, take, refl, IfOk, OnOk, OnErr};
+ghost use Rattle.std.specs.Prelude.{◌≡◌, ℕ, ◌+◌, ◌*◌, ◌/◌, ◌%◌, ◌-◌, ◌^◌, ◌<◌, ◌≤◌, true, false, drop, length, take, refl, IfOk, OnOk, OnErr};
+ghost use Rattle.vm_facts.specs.Lists.{overwritten};
 ghost use Rattle.flat_state.specs.Space.{Space, address_in, answers_of};
 ghost use Rattle.flat_state.specs.Change.{resized, resized_bytes};
 ghost use Rattle.flat_state.specs.Writes.{IsWithin, Wrote};
@@ -11,7 +12,7 @@ ghost use Rattle.flat_process.specs.Sizes.{IsSized};
 use flat_state::{PAGE, Spot, locate};
 use std::alloc::Global;
 use std::marker::Model;
-use vm_facts::{ByteRead, MayWrite, Memory, NoMemory, Page};
+use vm_facts::{ByteRead, MayWrite, Memory, NoMemory, Page, overwrite};
 
 /// A space: its number, its image's number, and the bytes of its segments. Contracts see just these.
 #[derive(Drop)]
@@ -65,6 +66,22 @@ fn page_from(bytes: &[u8], index: u32) -> &[u8]
 {
     let from = index as usize;
     &bytes[from..from + 1024 - from % 1024]
+}
+
+// Bytes are written over those of a segment from a place on, where they are so few; the answer is whether they were.
+#[tactic(auto, using(crate::proofs::Together::overwritten_length))]
+fn put_in(segment: &mut Vec<u8>, index: u32, room: u32, bytes: &[u8]) -> bool
+    requires { index + room ≤ length segment.old.items }
+    ensures few { result ≡ true → length bytes.now ≤ room }
+    ensures done { result ≡ true → segment.new.items ≡ overwritten segment.old.items index bytes.now }
+    ensures left { result ≡ false → segment.new.items ≡ segment.old.items }
+    ensures long { length segment.new.items ≡ length segment.old.items }
+{
+    if bytes.len() > room as usize {
+        return false;
+    }
+    overwrite(segment.as_mut_slice(), index as usize, bytes);
+    true
 }
 
 impl FlatSpace {
@@ -246,6 +263,17 @@ impl Memory for FlatSpace {
             Spot::Data(index) => self.data.len() as u32 - index,
             Spot::Stack(index) => PAGE - index % PAGE,
             Spot::Text(_) | Spot::Below | Spot::Outside => 0,
+        }
+    }
+
+    fn put(&mut self, address: u32, bytes: &[u8]) -> bool {
+        match self.spot(address) {
+            Spot::Data(index) => {
+                let room = self.data.len() as u32 - index;
+                put_in(&mut self.data, index, room, bytes)
+            }
+            Spot::Stack(index) => put_in(&mut self.stack, index, PAGE - index % PAGE, bytes),
+            Spot::Text(_) | Spot::Below | Spot::Outside => false,
         }
     }
 

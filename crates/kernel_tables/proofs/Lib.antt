@@ -48,6 +48,7 @@ pub mod Recorded
 pub mod Touches
 pub mod Writes
 pub mod UserFrames
+pub mod WritesTogether
 pub mod PlaceStates
 pub mod Lives
 pub mod UPages

@@ -7,7 +7,7 @@ use Rattle.vm_facts.specs.declared.entry.Entry.{Entry}
 use Rattle.vax_pte.specs.declared.Place.TheVariants as places
 use Rattle.core_map.specs.declared.slot.Slot.{Slot as Token}
 use Rattle.core_map.specs.declared.slot.Slot.TheVariants as tokens
-use Rattle.core_map.specs.Slots.{slot_at, with_byte, with_dirty}
+use Rattle.core_map.specs.Slots.{slot_at, with_byte, with_bytes, with_dirty}
 use Rattle.space_map.specs.Space.{Places}
 use Rattle.page_model.specs.Pages.{frame_of}
 use Rattle.page_model.specs.Placement.{state_of}
@@ -42,6 +42,15 @@ pub marked_byte : (old one two : List Token) (f at byte : ℕ) → f < length ol
     → two ≡ set old f (with_dirty (with_byte (slot_at old f) at byte) true)
 marked_byte old one two f at byte l e1 e2 =
     let x : Token = with_byte (slot_at old f) at byte in
+    e2 ∙ ap (λ (ss : List Token). set ss f (with_dirty (slot_at ss f) true)) e1
+    ∙ ap (λ (s : Token). set (set old f x) f (with_dirty s true)) (get_or-set_same old f x tokens.Away l)
+    ∙ set-set old f x (with_dirty x true)
+
+pub marked_bytes : (old one two : List Token) (f at : ℕ) (bytes : List ℕ) → f < length old → one ≡ set old f (with_bytes (slot_at old f) at bytes)
+    → two ≡ set one f (with_dirty (slot_at one f) true)
+    → two ≡ set old f (with_dirty (with_bytes (slot_at old f) at bytes) true)
+marked_bytes old one two f at bytes l e1 e2 =
+    let x : Token = with_bytes (slot_at old f) at bytes in
     e2 ∙ ap (λ (ss : List Token). set ss f (with_dirty (slot_at ss f) true)) e1
     ∙ ap (λ (s : Token). set (set old f x) f (with_dirty s true)) (get_or-set_same old f x tokens.Away l)
     ∙ set-set old f x (with_dirty x true)

@@ -19,7 +19,7 @@ use Rattle.text_table.specs.Texts.{IsTextTable}
 use Rattle.vax_pte.specs.declared.Place.TheVariants as places
 use Rattle.frame_state.specs.Frame.{Frame}
 use Rattle.core_map.specs.declared.slot.Slot.TheVariants as tokens
-use Rattle.core_map.specs.Slots.{slot_at, slot_page, with_byte, with_dirty}
+use Rattle.core_map.specs.Slots.{slot_at, slot_page, with_byte, with_bytes, with_dirty}
 use Rattle.vm_facts.specs.declared.regs.Regs.{Regs}
 use Rattle.proc_table.specs.declared.process.Proc.{Proc as Record}
 use Rattle.proc_table.specs.Records.{find, Changes, IsProcTable as AreRecords}
@@ -99,6 +99,13 @@ pub record RevivedPage (t u : Tables) (q : Page) (f : ℕ) (changed : Bool) : Ty
 pub record WroteByte (t u : Tables) (q : Page) (f at byte : ℕ) : Type 0 where
   pub free : u.core.free ≡ t.core.free
   pub slots : u.core.slots ≡ slice_set t.core.slots f (with_dirty (with_byte (slot_at t.core.slots f) at byte) true)
+  pub spaces : u.spaces ≡ map (placed q (places.Frame f true true)) t.spaces
+  pub rest : u ≡ record t { core = u.core; spaces = u.spaces }
+
+-- the bytes of a page from a place on were written in its frame, and the page is dirty
+pub record WroteBytes (t u : Tables) (q : Page) (f at : ℕ) (bytes : List ℕ) : Type 0 where
+  pub free : u.core.free ≡ t.core.free
+  pub slots : u.core.slots ≡ slice_set t.core.slots f (with_dirty (with_bytes (slot_at t.core.slots f) at bytes) true)
   pub spaces : u.spaces ≡ map (placed q (places.Frame f true true)) t.spaces
   pub rest : u ≡ record t { core = u.core; spaces = u.spaces }
 

@@ -18,7 +18,7 @@ use Rattle.page_model.specs.Pages.{SpacePages}
 use Rattle.page_model.specs.Placement.{Placement, space_number, slots_of, state_of, image_of}
 use Rattle.page_model.specs.Swapper.{is_out}
 use Rattle.page_model.specs.Ownership.{OwnsFrames}
-use Rattle.kernel_model.specs.Kernel.{HoldsSpace, Kernel, frame_bytes, write_by_state}
+use Rattle.kernel_model.specs.Kernel.{HoldsSpace, Kernel, frame_bytes, write_step, write_by_state}
 use Rattle.kernel_model.specs.Asks.{HasSpace}
 use Rattle.kernel_tables.specs.Calls.{life_in}
 use Rattle.kernel_tables.specs.Rising.{sids_of, AreRising}
@@ -102,6 +102,11 @@ kernel_answers k sid = record {
 -- a byte of a page is written, where the page is valid
 abbrev pub write_page : Kernel → Page → ℕ → ℕ → Kernel
 write_page k q at byte = write_by_state k q (state_of k.place q) at byte
+
+-- the bytes of a page from a place on are written in its frame, one after another
+abbrev pub write_run : Kernel → Page → ℕ → ℕ → List ℕ → Kernel
+write_run k q f at [] = k
+write_run k q f at (byte ∷ bytes) = write_run (write_step k q f at byte) q f (at + 1) bytes
 
 -- the byte that an address names is written, where it is of a valid page of data or stack
 abbrev pub write_spot : Kernel → ℕ → Spot → ℕ → Kernel
@@ -198,5 +203,14 @@ pub record IsHeld (p : Placement) (f : ℕ) : Type 0 where
 -- a byte of a valid page was written, in frames each of which has one owner
 pub record WrotePage (old new : Standing) (q : Page) (at byte : ℕ) : Type 0 where
   pub machine : new ≡ record old { kernel = write_page old.kernel q at byte }
+  pub owner : OwnsFrames old.kernel.place
+  pub whole : AreWhole old.kernel
+
+-- the bytes of a valid page from a place on were written in its frame, in frames each of which has one owner
+pub record WroteRun (old new : Standing) (q : Page) (at : ℕ) (bytes : List ℕ) : Type 0 where
+  pub frame : ℕ
+  pub valid : state_of old.kernel.place q ≡ Valid frame
+  pub within : at + length bytes ≤ 1024
+  pub machine : new ≡ record old { kernel = write_run old.kernel q frame at bytes }
   pub owner : OwnsFrames old.kernel.place
   pub whole : AreWhole old.kernel

@@ -1,14 +1,14 @@
 //! The tables of the machine, with what they are moved by. Nothing is promised of them but what each call does.
-ghost use Rattle.std.specs.Prelude.{◌≡◌, ℕ, ◌<◌, ◌≤◌, ◌^◌, ◌∷◌, map, length, drop, true, Some, IsSome, IsTrue, slice_set};
+ghost use Rattle.std.specs.Prelude.{◌≡◌, ℕ, ◌+◌, ◌<◌, ◌≤◌, ◌^◌, ◌∷◌, map, length, drop, true, Some, IsSome, IsTrue, slice_set};
 ghost use Rattle.page_model.specs.Ownership.{owner_of, block_of};
 ghost use Rattle.flat_state.specs.PageNames.{number_of, beside};
-ghost use Rattle.kernel_tables.specs.Moves.{RevivedPage, WroteByte};
+ghost use Rattle.kernel_tables.specs.Moves.{RevivedPage, WroteByte, WroteBytes};
 ghost use Rattle.vm_facts.specs.declared.page.Page.TheVariants.{Text as TextPage};
 ghost use Rattle.vax_pte.specs.Words.{IsInRange};
 ghost use Rattle.vax_pte.specs.declared.Place.TheVariants.{Frame as FramePlace};
 ghost use Rattle.core_map.specs.Frames.{IsAway, HoldsNot};
 ghost use Rattle.vm_facts.specs.Lists.{without};
-ghost use Rattle.core_map.specs.Slots.{slot_at, slot_page, is_resident, with_byte, with_dirty};
+ghost use Rattle.core_map.specs.Slots.{slot_at, slot_page, is_resident, with_byte, with_bytes, with_dirty};
 ghost use Rattle.core_map.specs.declared.slot.Slot.TheVariants.{Free as FreeSlot, Resident as ResidentSlot, Away as AwaySlot};
 ghost use Rattle.kernel_tables.specs.Rising.{IsHome};
 ghost use Rattle.kernel_tables.specs.Shown.{placed};
@@ -122,6 +122,18 @@ fn mark_byte(core: &mut CoreMap, frame: u32, at: u32, byte: u8)
     core.set_dirty(frame, true);
 }
 
+// The bytes of a resident frame from a place on are written, whose page is dirty then.
+fn mark_bytes(core: &mut CoreMap, frame: u32, at: u32, bytes: &[u8])
+    requires resident { IsTrue (is_resident (slot_at core.old.slots frame)) }
+    requires below { frame < length core.old.slots }
+    requires within { at + length bytes.now ≤ 1024 }
+    ensures free { core.new.free ≡ core.old.free }
+    ensures slots { core.new.slots ≡ slice_set core.old.slots frame (with_dirty (with_bytes (slot_at core.old.slots frame) at bytes.now) true) }
+{
+    core.put_bytes(frame, at, bytes);
+    core.set_dirty(frame, true);
+}
+
 impl Tables {
     /// A byte of a valid page of data or stack is written, and the page is dirty. Its space stands at `index`.
     pub fn write_byte(&mut self, index: usize, page: Page, frame: u32, at: u32, byte: u8)
@@ -134,6 +146,26 @@ impl Tables {
         ensures { WroteByte self.old self.new page frame at byte }
     {
         mark_byte(&mut self.core, frame, at, byte);
+        let place = Place::Frame {
+            f: frame,
+            valid: true,
+            changed: true,
+        };
+        self.spaces.set_place_at(index, page, place);
+    }
+
+    /// The bytes of a valid page of data or stack from a place on are written, and the page is dirty. Its space stands at
+    /// `index`.
+    pub fn write_bytes(&mut self, index: usize, page: Page, frame: u32, at: u32, bytes: &[u8])
+        requires home { IsHome self.old.spaces index page }
+        requires resident { IsTrue (is_resident (slot_at self.old.core.slots frame)) }
+        requires below { frame < length self.old.core.slots }
+        requires within { at + length bytes.now ≤ 1024 }
+        requires above { 1 ≤ frame }
+        requires small { frame < 2 ^ 21 }
+        ensures { WroteBytes self.old self.new page frame at bytes.now }
+    {
+        mark_bytes(&mut self.core, frame, at, bytes);
         let place = Place::Frame {
             f: frame,
             valid: true,

@@ -1,10 +1,12 @@
 -- Bytes of one page that lie together are so many addresses of its space.
-use Rattle.std.proofs.Common.{◌≡◌, ◌∙◌, ℕ, ◌+◌, ◌-◌, ◌*◌, ◌/◌, ◌%◌, ◌^◌, ◌<◌, ◌≤◌, List, length, length-drop, drop, refl, ap, sym, arith}
+use Rattle.std.proofs.Common.{◌≡◌, ◌∙◌, ℕ, suc, ◌+◌, ◌-◌, ◌*◌, ◌/◌, ◌%◌, ◌^◌, ◌<◌, ◌≤◌, List, [], ◌∷◌, length, length-drop, drop, refl, ap, sym, subst, arith}
 use Rattle.std.specs.Prelude.{slice_index, Some}
 use Rattle.std.proofs.lemmas.List.{get_or-drop}
 use Rattle.vm_facts.specs.Ahead.{AreAhead, MayAhead}
+use Rattle.vm_facts.specs.Answers.{writes_from}
 use Rattle.vm_facts.specs.declared.memory.ByteRead.{ByteRead}
 use Rattle.vm_facts.specs.declared.memory.ByteRead.TheVariants as reads
+use Rattle.vm_facts.specs.declared.memory.MayWrite.TheVariants as tests
 use Rattle.vm_facts.specs.declared.page.Page.{Page}
 use Rattle.vm_facts.specs.declared.page.Page.TheVariants as pages
 use Rattle.vm_facts.specs.declared.page.PageState.{PageState}
@@ -14,9 +16,14 @@ use Rattle.flat_state.specs.declared.spot.Spot.TheVariants.{Text, Data, Stack}
 use Rattle.flat_state.proofs.Spots.{text_spot, data_spot, stack_spot, OfStack}
 use Rattle.flat_state.proofs.SpotsBeside.{text_beside, data_beside, stack_beside}
 use Rattle.page_model.specs.Placement.{state_of, image_of, slots_of}
-use Rattle.kernel_model.specs.Kernel.{Kernel, frame_bytes}
-use Rattle.table_steps.specs.UserMemory.{spot_in, text_len, data_len, stack_len, read_by_state, read_page, read_spot, valid_frame, may_write_by, may_write_spot, kernel_answers, IsLaidOut}
+use Rattle.page_model.specs.PageBytes.{IsWritable}
+use Rattle.page_model.specs.Ownership.{OwnsFrames}
+use Rattle.page_laws.proofs.Ownership.Pages.{touch_owner}
+use Rattle.kernel_model.specs.Kernel.{Kernel, frame_bytes, write_step, write_by_state}
+use Rattle.table_steps.specs.Machine.{Standing}
+use Rattle.table_steps.specs.UserMemory.{spot_in, text_len, data_len, stack_len, read_by_state, read_page, read_spot, valid_frame, may_write_by, may_write_spot, kernel_answers, write_page, write_spot, writes_in, write_run, AreWhole, AreWritten, Wrote, WroteRun, IsLaidOut}
 use Rattle.machine_state.specs.Ahead.{LendsFrom, MayFrom}
+use Rattle.machine_state.specs.UserMemoryLaws.{IsTouched, touch_state, spot_same, whole_after}
 
 same_page : (i j : ℕ) → i % 1024 + j < 1024 → (i + j) / 1024 ≡ i / 1024
 same_page i j near = omega (arith, near)
@@ -28,7 +35,7 @@ same_column i j near = omega (arith, near)
 whole_within : (count i j : ℕ) → i < 1024 * count → i % 1024 + j < 1024 → i + j < 1024 * count
 whole_within count i j below near = omega (arith, below, near)
 
-no_wrap : (a i j : ℕ) → a + 1024 ≤ 2 ^ 32 → i % 1024 + j < 1024 → (a + j) % 2 ^ 32 ≡ a + j
+no_wrap : (a i j : ℕ) → a + 1024 < 2 ^ 32 → i % 1024 + j < 1024 → (a + j) % 2 ^ 32 ≡ a + j
 no_wrap a i j low near = omega (arith, low, near)
 
 -- the addresses from one on name the bytes of its page from the byte that it names on
@@ -36,7 +43,7 @@ abbrev AreBeside : Kernel → ℕ → ℕ → ℕ → (ℕ → Spot) → Type 0
 AreBeside k sid a i make = (j : ℕ) → i % 1024 + j < 1024 → spot_in k.place sid (a + j) ≡ make (i + j)
 
 reads_ahead : (k : Kernel) (sid a i : ℕ) (make : ℕ → Spot) (q : ℕ → Page) → ((x : ℕ) → read_spot k sid (make x) ≡ read_page k (q (x / 1024)) (x % 1024))
-    → AreBeside k sid a i make → a + 1024 ≤ 2 ^ 32 → (bytes : List ℕ) → LendsFrom k (q (i / 1024)) (i % 1024) bytes → AreAhead (kernel_answers k sid) a bytes
+    → AreBeside k sid a i make → a + 1024 < 2 ^ 32 → (bytes : List ℕ) → LendsFrom k (q (i / 1024)) (i % 1024) bytes → AreAhead (kernel_answers k sid) a bytes
 reads_ahead k sid a i make q by beside low bytes from j below =
     let near : i % 1024 + j < 1024 = (from j below).0 in
     ap (λ (x : ℕ). read_spot k sid (spot_in k.place sid x)) (no_wrap a i j low near)
@@ -48,7 +55,7 @@ reads_ahead k sid a i make q by beside low bytes from j below =
 
 may_ahead : (k : Kernel) (sid a i : ℕ) (make : ℕ → Spot) (q : ℕ → Page)
     → ((x : ℕ) → may_write_spot k.place sid (make x) ≡ may_write_by (state_of k.place (q (x / 1024))))
-    → AreBeside k sid a i make → a + 1024 ≤ 2 ^ 32 → (count : ℕ) → MayFrom (state_of k.place (q (i / 1024))) (i % 1024) count
+    → AreBeside k sid a i make → a + 1024 < 2 ^ 32 → (count : ℕ) → MayFrom (state_of k.place (q (i / 1024))) (i % 1024) count
     → MayAhead (kernel_answers k sid) a count
 may_ahead k sid a i make q by beside low count from j below =
     let near : i % 1024 + j < 1024 = (from j below).0 in
@@ -57,6 +64,81 @@ may_ahead k sid a i make q by beside low count from j below =
     ∙ by (i + j)
     ∙ ap (λ (v : ℕ). may_write_by (state_of k.place (q v))) (same_page i j near)
     ∙ (from j below).1
+
+-- a valid page, whose bytes the addresses from one on name
+record IsNamed (k : Kernel) (sid a i : ℕ) (make : ℕ → Spot) (q : Page) (f : ℕ) : Type 0 where
+  beside : AreBeside k sid a i make
+  valid : state_of k.place q ≡ Valid f
+  owner : OwnsFrames k.place
+  whole : AreWhole k
+
+named_after : (k : Kernel) (sid a i : ℕ) (make : ℕ → Spot) (q : Page) (f at byte : ℕ) → IsWritable q → at < 1024
+    → IsNamed k sid a i make q f → IsNamed (write_step k q f at byte) sid a i make q f
+named_after k sid a i make q f at byte writable within n = record {
+  beside = λ j near. spot_same k.place q sid (a + j) ∙ n.beside j near;
+  valid = touch_state k.place q q f writable n.valid ∙ n.valid;
+  owner = touch_owner k.place q n.owner;
+  whole = whole_after k q f at byte (record { writable = writable; valid = n.valid; owner = n.owner; whole = n.whole q f n.valid; within = within }) n.whole;
+}
+
+-- writes of bytes from an address on are writes of the bytes of a page from a place on
+pub record AreOfPage (k : Kernel) (sid : ℕ) (q : Page) (f at a : ℕ) (bytes : List ℕ) : Type 0 where
+  pub kernel : writes_in k sid (writes_from a bytes) ≡ write_run k q f at bytes
+  pub each : AreWritten k sid (writes_from a bytes)
+
+of_page : (sid a i : ℕ) (make : ℕ → Spot) (q : ℕ → Page) (f : ℕ)
+    → ((k : Kernel) (x byte : ℕ) → write_spot k sid (make x) byte ≡ write_page k (q (x / 1024)) (x % 1024) byte)
+    → ((k : Kernel) (x : ℕ) → may_write_spot k.place sid (make x) ≡ may_write_by (state_of k.place (q (x / 1024))))
+    → IsWritable (q (i / 1024)) → a + 1024 < 2 ^ 32 → (bytes : List ℕ) (j : ℕ) (k : Kernel) → i % 1024 + j + length bytes ≤ 1024
+    → IsNamed k sid a i make (q (i / 1024)) f → AreOfPage k sid (q (i / 1024)) f (i % 1024 + j) (a + j) bytes
+of_page sid a i make q f by may writable low [] j k fits n = record { kernel = refl; each = tt }
+of_page sid a i make q f by may writable low (byte ∷ bytes) j k fits n =
+    let near : i % 1024 + j < 1024 = omega (arith, fits) in
+    let p : Page = q (i / 1024) in
+    let here : spot_in k.place sid (a + j) ≡ make (i + j) = n.beside j near in
+    let after : Kernel = write_step k p f (i % 1024 + j) byte in
+    let one : write_spot k sid (spot_in k.place sid (a + j)) byte ≡ after =
+    ap (λ (s : Spot). write_spot k sid s byte) here
+    ∙ by k (i + j) byte
+    ∙ ap (λ (v : ℕ). write_page k (q v) ((i + j) % 1024) byte) (same_page i j near)
+    ∙ ap (λ (x : ℕ). write_page k p x byte) (same_column i j near)
+    ∙ ap (λ (s : PageState). write_by_state k p s (i % 1024 + j) byte) n.valid in
+    let test : may_write_spot k.place sid (spot_in k.place sid (a + j)) ≡ tests.May =
+    ap (may_write_spot k.place sid) here
+    ∙ may k (i + j)
+    ∙ ap (λ (v : ℕ). may_write_by (state_of k.place (q v))) (same_page i j near)
+    ∙ ap may_write_by n.valid in
+    let next : (a + j + 1) % 2 ^ 32 ≡ a + suc j = omega (arith, low, near) in
+    let rest : AreOfPage after sid p f (i % 1024 + suc j) (a + suc j) bytes =
+    of_page sid a i make q f by may writable low bytes (suc j) after (omega (arith, fits)) (named_after k sid a i make p f (i % 1024 + j) byte writable near n) in
+    record {
+      kernel =
+          ap (λ (x : Kernel). writes_in x sid (writes_from ((a + j + 1) % 2 ^ 32) bytes)) one
+          ∙ ap (λ (x : ℕ). writes_in after sid (writes_from x bytes)) next
+          ∙ rest.kernel
+          ∙ ap (λ (x : ℕ). write_run after p f x bytes) (let e : i % 1024 + suc j ≡ i % 1024 + j + 1 = omega arith in e);
+      each = (
+        record { may = test; owner = n.owner; whole = n.whole },
+        subst (λ (x : Kernel). AreWritten x sid (writes_from ((a + j + 1) % 2 ^ 32) bytes)) (sym one)
+            (subst (λ (x : ℕ). AreWritten after sid (writes_from x bytes)) (sym next) rest.each),
+      );
+    }
+
+-- with the whole machine
+wrote_together : (old new : Standing) (sid a i : ℕ) (make : ℕ → Spot) (q : ℕ → Page) (bytes : List ℕ)
+    → ((k : Kernel) (x byte : ℕ) → write_spot k sid (make x) byte ≡ write_page k (q (x / 1024)) (x % 1024) byte)
+    → ((k : Kernel) (x : ℕ) → may_write_spot k.place sid (make x) ≡ may_write_by (state_of k.place (q (x / 1024))))
+    → IsWritable (q (i / 1024)) → a + 1024 < 2 ^ 32 → AreBeside old.kernel sid a i make → WroteRun old new (q (i / 1024)) (i % 1024) bytes
+    → Wrote old sid (writes_from a bytes) new
+wrote_together old new sid a i make q bytes by may writable low beside w =
+    let column : i % 1024 + 0 ≡ i % 1024 = omega arith in
+    let place : a + 0 ≡ a = omega arith in
+    let n : IsNamed old.kernel sid a i make (q (i / 1024)) w.frame = record { beside = beside; valid = w.valid; owner = w.owner; whole = w.whole } in
+    let at : AreOfPage old.kernel sid (q (i / 1024)) w.frame (i % 1024) a bytes =
+    subst (λ (x : ℕ). AreOfPage old.kernel sid (q (i / 1024)) w.frame (i % 1024) x bytes) place
+    (subst (λ (x : ℕ). AreOfPage old.kernel sid (q (i / 1024)) w.frame x (a + 0) bytes) column
+    (of_page sid a i make q w.frame by may writable low bytes 0 old.kernel (omega (arith, w.within)) n)) in
+    record { machine = w.machine ∙ ap (λ (x : Kernel). record old { kernel = x }) (sym at.kernel); each = at.each }
 
 module _ (k : Kernel) (index sid image t d s : ℕ) (laid : IsLaidOut k index sid image t d s) where
   pub text_ahead : (a i : ℕ) (bytes : List ℕ) → spot_in k.place sid a ≡ Text i
@@ -68,7 +150,7 @@ module _ (k : Kernel) (index sid image t d s : ℕ) (laid : IsLaidOut k index si
       (whole_within (length (slots_of k.place (pages.Text (image_of k.place sid) 0))) i j at.1 near))
       (omega (arith, at.0, at.1, laid.low, laid.text_is)) bytes from
 
-  below_data : (a i : ℕ) → spot_in k.place sid a ≡ Data i → a + 1024 ≤ 2 ^ 32
+  below_data : (a i : ℕ) → spot_in k.place sid a ≡ Data i → a + 1024 < 2 ^ 32
   below_data a i e =
       let at : (a ≡ text_len k.place sid + i) × (i < data_len k.place sid) = data_spot (text_len k.place sid) (data_len k.place sid) (stack_len k.place sid) a i e in
       omega (arith, at.0, at.1, laid.low, laid.text_is, laid.data_is)
@@ -86,7 +168,7 @@ module _ (k : Kernel) (index sid image t d s : ℕ) (laid : IsLaidOut k index si
       → MayFrom (state_of k.place (pages.Data sid (i / 1024))) (i % 1024) count → MayAhead (kernel_answers k sid) a count
   data_writable a i count e from = may_ahead k sid a i (λ x. Data x) (λ v. pages.Data sid v) (λ x. refl) (beside_data a i e) (below_data a i e) count from
 
-  below_stack : (a i : ℕ) → spot_in k.place sid a ≡ Stack i → a + 1024 ≤ 2 ^ 32
+  below_stack : (a i : ℕ) → spot_in k.place sid a ≡ Stack i → a + 1024 < 2 ^ 32
   below_stack a i e =
       let at : OfStack (stack_len k.place sid) a i = stack_spot (text_len k.place sid) (data_len k.place sid) (stack_len k.place sid) a i e in
       omega (arith, at.below)
@@ -101,6 +183,19 @@ module _ (k : Kernel) (index sid image t d s : ℕ) (laid : IsLaidOut k index si
   pub stack_writable : (a i count : ℕ) → spot_in k.place sid a ≡ Stack i
       → MayFrom (state_of k.place (pages.Stack sid (i / 1024))) (i % 1024) count → MayAhead (kernel_answers k sid) a count
   stack_writable a i count e from = may_ahead k sid a i (λ x. Stack x) (λ v. pages.Stack sid v) (λ x. refl) (beside_stack a i e) (below_stack a i e) count from
+
+module _ (old new : Standing) (index sid image t d s : ℕ) (laid : IsLaidOut old.kernel index sid image t d s) where
+  pub data_together : (a i : ℕ) (bytes : List ℕ) → spot_in old.kernel.place sid a ≡ Data i
+      → WroteRun old new (pages.Data sid (i / 1024)) (i % 1024) bytes → Wrote old sid (writes_from a bytes) new
+  data_together a i bytes e w =
+      wrote_together old new sid a i (λ x. Data x) (λ v. pages.Data sid v) bytes (λ k x byte. refl) (λ k x. refl) tt
+      (below_data old.kernel index sid image t d s laid a i e) (beside_data old.kernel index sid image t d s laid a i e) w
+
+  pub stack_together : (a i : ℕ) (bytes : List ℕ) → spot_in old.kernel.place sid a ≡ Stack i
+      → WroteRun old new (pages.Stack sid (i / 1024)) (i % 1024) bytes → Wrote old sid (writes_from a bytes) new
+  stack_together a i bytes e w =
+      wrote_together old new sid a i (λ x. Stack x) (λ v. pages.Stack sid v) bytes (λ k x byte. refl) (λ k x. refl) tt
+      (below_stack old.kernel index sid image t d s laid a i e) (beside_stack old.kernel index sid image t d s laid a i e) w
 
 -- a page in this frame is read by the bytes of the frame
 in_frame : (k : Kernel) (s : PageState) (f : ℕ) → Some f ≡ valid_frame s → read_by_state k s ≡ (λ (x : ℕ). reads.Is (slice_index (frame_bytes k f) x))

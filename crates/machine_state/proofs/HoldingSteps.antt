@@ -1,5 +1,5 @@
 -- Who holds a space holds one that is there, and alone: the steps of the kernel keep that.
-use Rattle.std.proofs.Common.{◌≡◌, ◌≢◌, ◌⊎◌, inl, inr, ℕ, zero, suc, ◌<◌, ◌≤◌, ◌==◌, Bool, true, false, cond, List, [], ◌∷◌, ◌++◌, length, map, Option, Some, None, refl, sym, ap, ◌∙◌, subst, arith}
+use Rattle.std.proofs.Common.{◌≡◌, ◌≢◌, ◌⊎◌, inl, inr, ℕ, zero, suc, ◌+◌, ◌<◌, ◌≤◌, ◌==◌, Bool, true, false, cond, List, [], ◌∷◌, ◌++◌, length, map, Option, Some, None, refl, sym, ap, ◌∙◌, subst, arith}
 use Rattle.std.specs.Prelude.{slice_get}
 use Rattle.std.proofs.lemmas.Bool.{cases_eq, eq-eqb, ne_eqb}
 use Rattle.vm_facts.specs.declared.page.Page.{Page}
@@ -24,6 +24,7 @@ use Rattle.kernel_laws.proofs.Machine.Shapes.{touch_shaped}
 use Rattle.kernel_laws.proofs.Machine.Swaps.{with_regs_pid}
 use Rattle.table_steps.specs.Applying.{facts_named, MayAct, IsWholeChange, MayPass}
 use Rattle.table_steps.specs.Calls.{life_in}
+use Rattle.table_steps.specs.UserMemory.{write_run}
 use Rattle.table_steps.specs.Sourced.{ImageNamed}
 use Rattle.machine_state.specs.Holders.{HoldersStand}
 use Rattle.machine_state.proofs.Holding.{life_at, mapped_has, same_has, with_has, pushed_has, without_has, end_has, entry_has, shaped_has, unless_has, resize_has, more_has, new_has}
@@ -70,6 +71,11 @@ page_keeps k l locked at e same is = stand_kept k l (λ n sid h. sym (ap (λ (ps
 pub write_keeps : (k : Kernel) (q : Page) (f at byte : ℕ) → HoldersStand k → HoldersStand (write_step k q f at byte)
 write_keeps k q f at byte =
     stand_kept k (write_step k q f at byte) (λ n sid h. h) (λ sid h. shaped_has k.place (touch k.place q) sid ((touch_shaped k.place q).spaces sid) h)
+
+-- writes of the bytes of a page
+pub run_keeps : (k : Kernel) (q : Page) (f at : ℕ) (bytes : List ℕ) → HoldersStand k → HoldersStand (write_run k q f at bytes)
+run_keeps k q f at [] h = h
+run_keeps k q f at (byte ∷ bytes) h = run_keeps (write_step k q f at byte) q f (at + 1) bytes (write_keeps k q f at byte h)
 
 -- a process with other registers
 pub regs_keep : (k l : Kernel) (pid : ℕ) (regs : Regs) → l.processes ≡ map (with_regs pid regs) k.processes

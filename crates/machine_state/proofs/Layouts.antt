@@ -1,5 +1,5 @@
 -- A user write leaves the layout of each space.
-use Rattle.std.proofs.Common.{◌≡◌, ℕ, ◌*◌, ◌==◌, Bool, true, false, cond, List, [], ◌∷◌, map, refl, sym, ap, ◌∙◌}
+use Rattle.std.proofs.Common.{◌≡◌, ℕ, ◌+◌, ◌*◌, ◌==◌, Bool, true, false, cond, List, [], ◌∷◌, map, refl, sym, ap, ◌∙◌}
 use Rattle.std.specs.Prelude.{slice_get}
 use Rattle.vm_facts.specs.declared.page.Page.{Page}
 use Rattle.vm_facts.specs.declared.page.Page.TheVariants.{Data, Stack, Text}
@@ -10,7 +10,7 @@ use Rattle.page_model.specs.Placement.{Placement, space_number, state_of, image_
 use Rattle.page_model.specs.Moves.{touch, touch_to}
 use Rattle.kernel_model.specs.Kernel.{Kernel, write_step}
 use Rattle.table_steps.proofs.Shapes.{touch_shaped, image_kept, sizes_kept}
-use Rattle.table_steps.specs.UserMemory.{bytes_of, IsLaidOut}
+use Rattle.table_steps.specs.UserMemory.{bytes_of, write_run, IsLaidOut}
 
 changed_kept : {A : Type 0} (number : A → ℕ) (n : ℕ) (change : A → A) (g : A → ℕ) → ((x : A) → g (change x) ≡ g x) → (xs : List A)
     → map g (changed number n change xs) ≡ map g xs
@@ -65,3 +65,10 @@ layout_kept k q f at byte index sid image t d s h =
       low = h.low;
       high = h.high;
     }
+
+-- so do writes of the bytes of a page
+pub layout_after : (k : Kernel) (q : Page) (f at : ℕ) (bytes : List ℕ) (index sid image t d s : ℕ) → IsLaidOut k index sid image t d s
+    → IsLaidOut (write_run k q f at bytes) index sid image t d s
+layout_after k q f at [] index sid image t d s h = h
+layout_after k q f at (byte ∷ bytes) index sid image t d s h =
+    layout_after (write_step k q f at byte) q f (at + 1) bytes index sid image t d s (layout_kept k q f at byte index sid image t d s h)

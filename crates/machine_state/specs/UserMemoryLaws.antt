@@ -1,5 +1,5 @@
 -- Writes to valid pages, and what the space answers afterwards.
-use Rattle.std.proofs.Common.{◌≡◌, ◌≢◌, ℕ, zero, suc, ◌*◌, ◌/◌, ◌%◌, ◌<◌, ◌≤◌, ◌==◌, ◌⊎◌, inl, inr, Bool, true, false, List, [], ◌∷◌, ◌++◌, length, set, refl, sym, ap, ◌∙◌, subst, arith, eq-eqb}
+use Rattle.std.proofs.Common.{◌≡◌, ◌≢◌, ℕ, zero, suc, ◌*◌, ◌/◌, ◌%◌, ◌<◌, ◌≤◌, ◌==◌, ◌⊎◌, inl, inr, Bool, true, false, List, [], ◌∷◌, ◌++◌, length, length-set, set, refl, sym, ap, ◌∙◌, subst, arith, eq-eqb}
 use Rattle.std.specs.Prelude.{slice_index}
 use Rattle.std.proofs.lemmas.Bool.{cases_eq}
 use Rattle.std.proofs.lemmas.Bool.Decides.{nat_tests}
@@ -53,7 +53,7 @@ touch_state p q r f w e = subst (λ (s : PageState). state_of (touch_to p q s) r
     go (pages.Text n v) w e c = absurd w
 
 -- a space's addresses name the same
-spot_same : (p : Placement) (q : Page) (sid a : ℕ) → spot_in (touch p q) sid a ≡ spot_in p sid a
+pub spot_same : (p : Placement) (q : Page) (sid a : ℕ) → spot_in (touch p q) sid a ≡ spot_in p sid a
 spot_same p q sid a =
     let size : (r : Page) → bytes_of (touch p q) r ≡ bytes_of p r = λ r. ap (λ (n : ℕ). 1024 * n) (sizes_kept p (touch p q) (touch_shaped p q) r) in
     let image : image_of (touch p q) sid ≡ image_of p sid = image_kept p (touch p q) (touch_shaped p q) sid in
@@ -82,6 +82,16 @@ frame_after : (k : Kernel) (q : Page) (f at byte : ℕ) → IsTouched k q f at �
 frame_after k q f at byte t =
     let there = frame_there k.frames f t.whole in
     at_set_same k.frames f (set (frame_bytes k f) at byte) [] there.0 there.1
+
+-- the frames of valid pages still have the bytes of a page
+pub whole_after : (k : Kernel) (q : Page) (f at byte : ℕ) → IsTouched k q f at → AreWhole k → AreWhole (write_step k q f at byte)
+whole_after k q f at byte t whole r g e =
+    let before : state_of k.place r ≡ Valid g = sym (touch_state k.place q r f t.writable t.valid) ∙ e in
+    elim (cases_eq g f) [
+      | inl same ↦ subst (λ (n : ℕ). length (frame_bytes (write_step k q f at byte) n) ≡ 1024) (sym same)
+          (ap length (frame_after k q f at byte t) ∙ length-set (frame_bytes k f) at byte ∙ t.whole)
+      | inr d ↦ ap length (at_set_other k.frames f g (set (frame_bytes k f) at byte) [] d) ∙ whole r g before
+    ]
 
 read_there : (k : Kernel) (q : Page) (f at byte : ℕ) → IsTouched k q f at → read_page (write_step k q f at byte) q at ≡ reads.Is byte
 read_there k q f at byte t =

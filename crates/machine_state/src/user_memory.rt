@@ -1,5 +1,5 @@
 //! The memory of one process, as an instruction meets it: the bytes of the frames of its valid pages.
-ghost use Rattle.std.specs.Prelude.{◌≡◌, ℕ, ◌<◌, ◌/◌, false, drop, length, map, Some, IfSome, slice_get, slice_index};
+ghost use Rattle.std.specs.Prelude.{◌≡◌, ℕ, ◌+◌, ◌<◌, ◌≤◌, ◌/◌, true, false, drop, length, map, Some, IfSome, slice_get, slice_index};
 ghost use Rattle.vm_facts.specs.declared.page.Page.{Page};
 ghost use Rattle.vm_facts.specs.declared.page.PageState.{PageState};
 ghost use Rattle.vm_facts.specs.declared.page.PageState.TheVariants.{Valid};
@@ -12,7 +12,7 @@ ghost use Rattle.table_steps.specs.Calls.{life_in};
 ghost use Rattle.table_steps.specs.Machine.{image_shown};
 ghost use Rattle.machine_state.specs.Going.{CanGoOn};
 ghost use Rattle.machine_state.specs.Ahead.{MayFrom, LendsFrom};
-ghost use Rattle.table_steps.specs.UserMemory.{spot_in, page_in, read_page, valid_frame, may_write_by, NamesFrames, IsOwnPage, IsLaidOut, HasLengths, CanLend, IsHeld, AreWhole, WrotePage};
+ghost use Rattle.table_steps.specs.UserMemory.{spot_in, page_in, read_page, valid_frame, may_write_by, NamesFrames, IsOwnPage, IsLaidOut, HasLengths, CanLend, IsHeld, AreWhole, WrotePage, WroteRun};
 
 use crate::machine::Machine;
 use flat_state::{PAGE, Spot, locate};
@@ -127,6 +127,20 @@ impl Machine {
     {
         let _frames = self.tables.core.frames();
         self.tables.write_byte(index, page, frame, at, byte);
+    }
+
+    // The bytes of a valid page of data or stack from a place on are written, at least one. The page's space stands at `index`.
+    fn write_bytes(&mut self, index: usize, page: Page, frame: u32, at: u32, bytes: &[u8])
+        requires running { self.old.kernel.stopped ≡ false }
+        requires own { IsOwnPage self.old.kernel.place index page }
+        requires writable { IsWritable page }
+        requires valid { state_of self.old.kernel.place page ≡ Valid frame }
+        requires some { 0 < length bytes.now }
+        requires within { at + length bytes.now ≤ 1024 }
+        ensures { WroteRun self.old self.new page at bytes.now }
+    {
+        let _frames = self.tables.core.frames();
+        self.tables.write_bytes(index, page, frame, at, bytes);
     }
 
     // How the space of a process is laid out.
@@ -297,6 +311,29 @@ impl SpaceMemory<'_> {
             None => unreachable!(),
         }
     }
+
+    // The bytes of a page from a place on are written, by its frame, where they end within the page; the answer is whether
+    // they were.
+    fn put_page(&mut self, page: Page, frame: Option<u32>, at: u32, bytes: &[u8]) -> bool
+        requires own { IsOwnPage self.old.machine.now.kernel.place self.old.layout.index page }
+        requires writable { IsWritable page }
+        requires frame { frame ≡ valid_frame (state_of self.old.machine.now.kernel.place page) }
+        requires within { at < 1024 }
+        ensures same_reference { self.new.machine.ghost_name ≡ self.old.machine.ghost_name }
+        ensures layout { self.new.layout ≡ self.old.layout }
+        ensures done { result ≡ true → WroteRun self.old.machine.now self.new.machine.now page at bytes.now }
+        ensures left { result ≡ false → self.new ≡ self.old }
+    {
+        let Some(frame) = frame else {
+            return false;
+        };
+        if bytes.is_empty() || bytes.len() > (PAGE - at) as usize {
+            return false;
+        }
+        self.machine
+            .write_bytes(self.layout.index, page, frame, at, bytes);
+        true
+    }
 }
 
 impl Memory for SpaceMemory<'_> {
@@ -355,6 +392,20 @@ impl Memory for SpaceMemory<'_> {
             Spot::Data(at) => writable_in(self.data_frame(at), at % PAGE),
             Spot::Stack(at) => writable_in(self.stack_frame(at), at % PAGE),
             Spot::Text(_) | Spot::Below | Spot::Outside => 0,
+        }
+    }
+
+    fn put(&mut self, address: u32, bytes: &[u8]) -> bool {
+        match self.spot(address) {
+            Spot::Data(at) => {
+                let frame = self.data_frame(at);
+                self.put_page(self.data_page(at), frame, at % PAGE, bytes)
+            }
+            Spot::Stack(at) => {
+                let frame = self.stack_frame(at);
+                self.put_page(self.stack_page(at), frame, at % PAGE, bytes)
+            }
+            Spot::Text(_) | Spot::Below | Spot::Outside => false,
         }
     }
 

@@ -14,6 +14,7 @@ use crate::stretch::run_on;
 use io_edge::{Files, SwapDev};
 use machine_state::Machine;
 use std::alloc::Global;
+use user_vax::DecodeCache;
 use vm_facts::Stop;
 
 /// More pages than one instruction waits for: with its call it touches 28 at most.
@@ -23,6 +24,7 @@ const MOST_WAITS: u32 = 32;
 /// step, or it would have to wait for a page and is not to. The answer is how many are counted then.
 pub fn run<F: Files, D: SwapDev>(
     alloc: Global,
+    cache: &mut DecodeCache,
     m: &mut Machine,
     files: &mut F,
     swap: &mut D,
@@ -53,7 +55,7 @@ pub fn run<F: Files, D: SwapDev>(
             Advance::Counted => {
                 count += 1;
                 waits = 0;
-                count += run_on(m, pid, until - count);
+                count += run_on(cache, m, pid, until - count);
             }
             Advance::Served => waits += 1,
             Advance::Stuck => return Ok(count),

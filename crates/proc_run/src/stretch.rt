@@ -10,15 +10,15 @@ ghost use Rattle.proc_run.specs.Stretch.{GoesOr, StretchOf, RanOn};
 use crate::attempting::last_counts;
 use crate::choosing::ready_regs;
 use machine_state::Machine;
-use user_vax::{Stepped, step};
+use user_vax::{DecodeCache, Stepped, step_cached};
 use vm_facts::{Memory, Regs};
 
 // Carries an instruction out, unless it makes a call. The answer is whether it was carried out; where it wasn't, nothing changed.
-fn go_on<M: Memory>(memory: &mut M, regs: &mut Regs) -> bool
+fn go_on<M: Memory>(cache: &mut DecodeCache, memory: &mut M, regs: &mut Regs) -> bool
     ensures { GoesOr result (M.answers memory.old) regs.old regs.new (λ ws. M.wrote memory.old ws memory.new) }
 {
     let before = *regs;
-    match step(regs, memory) {
+    match step_cached(cache, regs, memory) {
         Stepped::Done => true,
         Stepped::Call(_) => {
             *regs = before;
@@ -29,12 +29,12 @@ fn go_on<M: Memory>(memory: &mut M, regs: &mut Regs) -> bool
 }
 
 // Carries instructions out, one after another, up to one that isn't, and at most so many. The answer is how many they were.
-fn stretch<M: Memory>(memory: &mut M, regs: &mut Regs, most: u32) -> u32
+fn stretch<M: Memory>(cache: &mut DecodeCache, memory: &mut M, regs: &mut Regs, most: u32) -> u32
     ensures few { result ≤ most }
     ensures carried { StretchOf (M.answers memory.old) regs.old result regs.new (λ ws. M.wrote memory.old ws memory.new) }
 {
     for count in 0..most {
-        if !go_on(memory, regs) {
+        if !go_on(cache, memory, regs) {
             return count;
         }
     }
@@ -42,7 +42,7 @@ fn stretch<M: Memory>(memory: &mut M, regs: &mut Regs, most: u32) -> u32
 }
 
 // The same over the frames of the machine.
-fn carry_on(m: &mut Machine, pid: u32, regs: &mut Regs, most: u32) -> u32
+fn carry_on(cache: &mut DecodeCache, m: &mut Machine, pid: u32, regs: &mut Regs, most: u32) -> u32
     requires ready { CanGoOn m.old }
     requires lends { CanLend m.old.kernel pid }
     ensures few { result ≤ most }
@@ -50,13 +50,13 @@ fn carry_on(m: &mut Machine, pid: u32, regs: &mut Regs, most: u32) -> u32
         (λ ws. Wrote m.old (space_of_pid m.old.kernel pid) ws m.new) }
     ensures goes_on { CanGoOn m.new }
 {
-    stretch(&mut m.memory(pid), regs, most)
+    stretch(cache, &mut m.memory(pid), regs, most)
 }
 
 /// Further instructions of a process are carried out and counted, one after another and at most so many, up to one that makes a
 /// call or has no access to a byte. The answer is how many they are: none where the process can't run, or the last entry counts none
 /// of its instructions.
-pub fn run_on(m: &mut Machine, pid: u32, most: u32) -> u32
+pub fn run_on(cache: &mut DecodeCache, m: &mut Machine, pid: u32, most: u32) -> u32
     requires steady { IsSteady m.old }
     requires fits { instructions_of m.old.kernel.journal + most < 2 ^ 32 }
     ensures few { result ≤ most }
@@ -69,7 +69,7 @@ pub fn run_on(m: &mut Machine, pid: u32, most: u32) -> u32
     if !last_counts(m.journal(), pid) {
         return 0;
     }
-    let count = carry_on(m, pid, &mut regs, most);
+    let count = carry_on(cache, m, pid, &mut regs, most);
     if count == 0 {
         return 0;
     }

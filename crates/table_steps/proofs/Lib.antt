@@ -46,6 +46,7 @@ pub use Rattle.kernel_tables.proofs.Stills
 pub use Rattle.kernel_tables.proofs.Touches
 pub use Rattle.kernel_tables.proofs.UserFrames
 pub use Rattle.kernel_tables.proofs.Writes
+pub use Rattle.kernel_tables.proofs.WritesTogether
 pub use Rattle.kernel_tables.proofs.Zeros
 pub use Rattle.page_laws.proofs.Blocks.Aside
 pub use Rattle.page_laws.proofs.Bytes.Others

@@ -91,6 +91,11 @@ fetched_first memory pc count held instr ahead small few e =
     fetched memory pc small
     ∙ ap (λ (d : Decoded). settled d (unfetched memory pc 20)) (ap decoded found.1 ∙ decoded_extends (take count held) found.0 instr e)
 
+-- the same of sixteen bytes
+pub fetched_sixteen : (memory : Answers) (pc : ℕ) (held : List ℕ) (instr : Instr) → AreAhead memory pc held → pc < 2 ^ 32
+    → decoded (take 16 held) ≡ decodings.Is instr → run memory (fetch 20 pc []) ≡ Ok instr
+fetched_sixteen memory pc held instr ahead small e = fetched_first memory pc 16 held instr ahead small (omega arith) e
+
 -- bytes that lie together and begin no instruction are refused
 pub refused_first : (memory : Answers) (pc count : ℕ) (held : List ℕ) → AreAhead memory pc held → pc < 2 ^ 32 → count ≤ 19
     → decoded (take count held) ≡ decodings.Reserved → run memory (fetch 20 pc []) ≡ Err (Signal sigill)

@@ -5,6 +5,7 @@ pub mod Writing
 pub mod Allowed
 pub mod Fetching
 pub mod Ahead
+pub mod Together
 pub mod OwnSignals
 pub mod Order
 pub mod SignalOrder

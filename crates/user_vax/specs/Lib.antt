@@ -11,3 +11,4 @@ pub mod Fetching
 pub mod Code
 pub mod Outcomes
 pub mod ArrayMemory
+pub mod OneProof

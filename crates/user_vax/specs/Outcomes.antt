@@ -17,7 +17,7 @@ use Rattle.user_vax.specs.Operands.{IsPlace}
 use Rattle.user_vax.specs.Effects.{Effect, bytes_at}
 use Rattle.user_vax.specs.Computation.{computation}
 use Rattle.user_vax.specs.Program.{Program, ◌>>=◌, run}
-use Rattle.user_vax.specs.Instruction.{MayAll, tested_effect, answer_of}
+use Rattle.user_vax.specs.Instruction.{MayAll, tested_effect, answer_of, registers_after}
 
 -- ---- Numbers that go to memory.
 
@@ -45,9 +45,9 @@ abbrev pub bytes_in : Option Write → List ByteWrite
 bytes_in None = []
 bytes_in (Some write) = bytes_of write
 
--- the effect that an outcome stands for
-abbrev pub effect_of : Outcome → Effect
-effect_of outcome = record { regs = outcome.regs; writes = bytes_in outcome.write; call = outcome.call }
+-- the effect that registers and an outcome stand for
+abbrev pub effect_of : Regs → Outcome → Effect
+effect_of regs outcome = record { regs = regs; writes = bytes_in outcome.write; call = outcome.call }
 
 -- a number that is written, if there is one, has 1, 2 or 4 bytes
 abbrev pub HasSize : Option Write → Type 0
@@ -103,10 +103,10 @@ calls_procedure _ = false
 
 -- ---- What the code came to. What it changes in place is worth something only where it isn't refused.
 
--- an effect, by what stands in the outcome
-abbrev pub ComesTo : Result (Unit {0}) Refused → Outcome → Result Effect Refused → Type 0
-ComesTo (Ok done) outcome wanted = wanted ≡ Ok (effect_of outcome)
-ComesTo (Err refused) outcome wanted = wanted ≡ Err refused
+-- an effect
+abbrev pub ComesTo : Result (Unit {0}) Refused → Effect → Result Effect Refused → Type 0
+ComesTo (Ok done) effect wanted = wanted ≡ Ok effect
+ComesTo (Err refused) effect wanted = wanted ≡ Err refused
 
 -- an effect, by the registers and what was pushed
 abbrev pub CallsTo : Result (Unit {0}) Refused → Regs → Pushes → Result Effect Refused → Type 0
@@ -138,7 +138,7 @@ abbrev pub Prepares : Answers → Result Ready Refused → Regs → Result Effec
 Prepares memory (Ok ready) regs wanted = wanted ≡ run memory (completion ready regs)
 Prepares memory (Err refused) regs wanted = wanted ≡ Err refused
 
--- what `step` answers of what the code came to
-abbrev pub stepped_by : Result Stepped Refused → Stepped
-stepped_by (Ok stepped) = stepped
-stepped_by (Err refused) = answer_of (Err refused)
+-- an instruction, by its answer and the registers after it, whichever were before
+abbrev pub CarriesOut : Result Stepped Refused → Regs → Result Effect Refused → Type 0
+CarriesOut (Ok stepped) regs wanted = (stepped ≡ answer_of wanted) × ((before : Regs) → regs ≡ registers_after before wanted)
+CarriesOut (Err refused) regs wanted = wanted ≡ Err refused

@@ -97,9 +97,9 @@ fn put_byte<M: Memory>(memory: &mut M, address: u32, byte: u8)
     memory.write(address, byte);
 }
 
-/// Writes a number, each byte of which may be written.
+/// Writes a number byte by byte, each of which may be written.
 #[tactic(auto, unfolding(crate::specs::Effects::bytes_at))]
-fn put_write<M: Memory>(memory: &mut M, write: &Write)
+fn put_bytes<M: Memory>(memory: &mut M, write: &Write)
     requires { IsReady (M.answers memory.old) write.now }
     ensures wrote { M.wrote memory.old (bytes_of write.now) memory.new }
     ensures tests { (M.answers memory.new).may_write ≡ (M.answers memory.old).may_write }
@@ -120,6 +120,19 @@ fn put_write<M: Memory>(memory: &mut M, write: &Write)
             put_byte(memory, address.wrapping_add(2), c);
             put_byte(memory, address.wrapping_add(3), d);
         }
+    }
+}
+
+/// Writes a number, each byte of which may be written.
+fn put_write<M: Memory>(memory: &mut M, write: &Write)
+    requires { IsReady (M.answers memory.old) write.now }
+    ensures wrote { M.wrote memory.old (bytes_of write.now) memory.new }
+    ensures tests { (M.answers memory.new).may_write ≡ (M.answers memory.old).may_write }
+{
+    let mut bytes = [0u8; 4];
+    LittleEndian::write_u32(&mut bytes, write.value);
+    if !memory.put(write.address, &bytes[..write.size as usize]) {
+        put_bytes(memory, write);
     }
 }
 

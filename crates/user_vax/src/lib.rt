@@ -9,6 +9,7 @@ mod calling;
 mod code;
 mod commit;
 mod compute;
+mod decode_cache;
 mod effect;
 mod laws;
 mod operand;
@@ -22,7 +23,8 @@ mod returning;
 mod stack;
 mod stepping;
 
+pub use decode_cache::DecodeCache;
 pub use laws::{first_refusal_decides, missing_bytes_only_stop, writes_are_allowed};
 pub use reading::{read_byte, read_long};
 pub use refused::{Refused, SIGBUS, SIGFPE, SIGILL, SIGSEGV, signals_are_numbered};
-pub use stepping::{Stepped, step};
+pub use stepping::{Stepped, step, step_cached};

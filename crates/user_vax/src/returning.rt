@@ -1,10 +1,9 @@
-ghost use Rattle.std.specs.Prelude.{◌≡◌, ◌<◌, ◌*◌, ◌%◌, OnOk, if◌then◌else◌};
+ghost use Rattle.std.specs.Prelude.{◌≡◌, ◌<◌, ◌*◌, ◌%◌, if◌then◌else◌};
 ghost use Rattle.user_vax.specs.Program.{run, Gives};
-ghost use Rattle.user_vax.specs.Effects.{pop_into};
+ghost use Rattle.user_vax.specs.Effects.{pop_into, registers_only};
 ghost use Rattle.user_vax.specs.Frames.{bit, restored, linkage, with_raised_stack, arguments_dropped, unwound, with_state_codes, registers_returned, procedure_return};
-ghost use Rattle.user_vax.specs.Outcomes.{IsFresh, IsOutcome, ComesTo, Leaves};
+ghost use Rattle.user_vax.specs.Outcomes.{ComesTo, Leaves};
 
-use crate::outcome::Outcome;
 use crate::refused::{Refused, SIGILL};
 use crate::stack::{pop, pop_into};
 use vm_facts::{Memory, Regs};
@@ -105,10 +104,8 @@ fn return_registers<M: Memory>(memory: &M, regs: &mut Regs) -> Result<(), Refuse
 
 /// The return from a procedure.
 #[tactic(auto, using(crate::proofs::Runs::run_bind), unfolding(crate::specs::Frames::procedure_return))]
-pub fn return_from_procedure<M: Memory>(memory: &M, outcome: &mut Outcome) -> Result<(), Refused>
-    requires { IsFresh outcome.old }
-    ensures value { ComesTo result outcome.new (run (M.answers memory.now) (procedure_return outcome.old.regs)) }
-    ensures sound { OnOk result (IsOutcome outcome.new) }
+pub fn return_from_procedure<M: Memory>(memory: &M, regs: &mut Regs) -> Result<(), Refused>
+    ensures { ComesTo result (registers_only regs.new) (run (M.answers memory.now) (procedure_return regs.old)) }
 {
-    return_registers(memory, &mut outcome.regs)
+    return_registers(memory, regs)
 }

@@ -1,9 +1,8 @@
-ghost use Rattle.std.specs.Prelude.{◌≡◌, ◌<◌, OnOk};
+ghost use Rattle.std.specs.Prelude.{◌≡◌, ◌<◌};
 ghost use Rattle.user_vax.specs.Program.{run};
-ghost use Rattle.user_vax.specs.Effects.{pop, pop_into, subroutine_return};
-ghost use Rattle.user_vax.specs.Outcomes.{IsFresh, IsOutcome, ComesTo, Leaves, LeavesWith};
+ghost use Rattle.user_vax.specs.Effects.{pop, pop_into, registers_only, subroutine_return};
+ghost use Rattle.user_vax.specs.Outcomes.{ComesTo, Leaves, LeavesWith};
 
-use crate::outcome::Outcome;
 use crate::reading::read_long;
 use crate::refused::Refused;
 use crate::registers::set_register;
@@ -33,10 +32,8 @@ pub fn pop_into<M: Memory>(memory: &M, regs: &mut Regs, reg: u8) -> Result<(), R
 
 /// The return from a subroutine.
 #[tactic(auto, using(crate::proofs::Runs::run_bind), unfolding(crate::specs::Effects::subroutine_return))]
-pub fn return_from_subroutine<M: Memory>(memory: &M, outcome: &mut Outcome) -> Result<(), Refused>
-    requires { IsFresh outcome.old }
-    ensures value { ComesTo result outcome.new (run (M.answers memory.now) (subroutine_return outcome.old.regs)) }
-    ensures sound { OnOk result (IsOutcome outcome.new) }
+pub fn return_from_subroutine<M: Memory>(memory: &M, regs: &mut Regs) -> Result<(), Refused>
+    ensures { ComesTo result (registers_only regs.new) (run (M.answers memory.now) (subroutine_return regs.old)) }
 {
-    pop_into(memory, &mut outcome.regs, 15)
+    pop_into(memory, regs, 15)
 }

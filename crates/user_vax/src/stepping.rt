@@ -1,21 +1,27 @@
-ghost use Rattle.std.specs.Prelude.{◌≡◌, [], true, false, IfOk, OnOk};
-ghost use Rattle.vax_code.specs.Valid.{HasOperands};
+ghost use Rattle.std.specs.Prelude.{◌≡◌, ◌⊎◌, [], true, false, IfOk, OnOk, Some, Result, Ok};
+ghost use Rattle.vax_code.specs.Table.{row_for};
+ghost use Rattle.vax_code.specs.Valid.{HasOperands, IsOperand};
+ghost use Rattle.vax_code.specs.declared.instr.Operand.TheVariants.{Literal};
 ghost use Rattle.user_vax.specs.Program.{run};
 ghost use Rattle.user_vax.specs.Code.{reads_from};
 ghost use Rattle.user_vax.specs.Instruction.{fetch, evaluations, instruction, answer_of, registers_after, writes_of};
-ghost use Rattle.user_vax.specs.Outcomes.{IsFresh, HasPlaces, LeavesInstr, LeavesOperands, Prepares, calls_procedure, completion, stepped_by};
+ghost use Rattle.user_vax.specs.Effects.{Effect};
+ghost use Rattle.user_vax.specs.Operands.{IsPlace, evaluation, register};
+ghost use Rattle.user_vax.specs.Outcomes.{HasPlaces, LeavesInstr, LeavesOperands, LeavesWith, Prepares, CarriesOut, calls_procedure, completion};
+ghost use Rattle.user_vax.specs.declared.refused.Refused.{Refused};
 
 use crate::calling::call;
 use crate::code::{Code, decode_first};
 use crate::commit::{put_all, put_one, test_all, test_one};
 use crate::compute::compute;
-use crate::operand::evaluate;
+use crate::decode_cache::DecodeCache;
+use crate::operand::{Evaluated, Place, evaluate};
 use crate::outcome::Outcome;
 use crate::pushes::Pushes;
 use crate::reading::read_byte;
 use crate::ready::Ready;
 use crate::refused::{Refused, SIGILL};
-use vax_code::{Fault, Instr, Row, decode_into, row_of};
+use vax_code::{Fault, Instr, Operand, Row, Slot, decode_into, row_of};
 use vm_facts::{Memory, Regs};
 
 /// What one instruction came to.
@@ -75,6 +81,33 @@ fn fetch<M: Memory>(memory: &M, pc: u32, into: &mut Instr) -> Result<(), Refused
     }
 }
 
+/// The operand in a place evaluated; the registers become those after it. One that the instruction doesn't have is a literal 0,
+/// and changes nothing.
+#[inline(always)]
+#[tactic(auto, unfolding(crate::specs::Operands::evaluation))]
+fn evaluate_place<M: Memory>(
+    memory: &M,
+    slot: Slot,
+    regs: &mut Regs,
+    present: bool,
+    operand: &Operand,
+) -> Result<Evaluated, Refused>
+    requires operand { IsOperand operand.now }
+    requires absent { present ≡ false → operand.now ≡ Literal 0 }
+    requires size { (slot.size ≡ 1) ⊎ (slot.size ≡ 2) ⊎ (slot.size ≡ 4) }
+    ensures value { LeavesWith result regs.new (run (M.answers memory.now) (evaluation slot regs.old operand.now)) }
+    ensures place { IfOk result (λ x. IsPlace x.place) }
+{
+    if present {
+        evaluate(memory, slot, regs, operand)
+    } else {
+        Ok(Evaluated {
+            value: 0,
+            place: Place::Nowhere,
+        })
+    }
+}
+
 /// The three operands, evaluated from left to right; the registers become those after them.
 #[tactic(auto, using(crate::proofs::Runs::run_bind), unfolding(crate::specs::Instruction::evaluations))]
 fn evaluate_all<M: Memory>(
@@ -88,9 +121,9 @@ fn evaluate_all<M: Memory>(
     ensures name { IfOk result (λ ready. ready.name ≡ row.now.name) }
     ensures places { IfOk result HasPlaces }
 {
-    let a = evaluate(memory, row.slot(0), regs, &instr.a)?;
-    let b = evaluate(memory, row.slot(1), regs, &instr.b)?;
-    let c = evaluate(memory, row.slot(2), regs, &instr.c)?;
+    let a = evaluate_place(memory, row.slot(0), regs, instr.count > 0, &instr.a)?;
+    let b = evaluate_place(memory, row.slot(1), regs, instr.count > 1, &instr.b)?;
+    let c = evaluate_place(memory, row.slot(2), regs, instr.count > 2, &instr.c)?;
     Ok(Ready {
         name: row.name,
         a,
@@ -99,42 +132,80 @@ fn evaluate_all<M: Memory>(
     })
 }
 
-/// The instruction that PC names, as far as its operands; the registers become those after them.
+/// An instruction that was fetched at PC, as far as its operands; the registers become those after them.
 #[tactic(auto, using(crate::proofs::Runs::run_bind), unfolding(crate::specs::Instruction::instruction, crate::specs::Instruction::execution_by, crate::specs::Instruction::execution, crate::specs::Outcomes::completion))]
+fn prepare_fetched<M: Memory>(
+    memory: &M,
+    regs: &mut Regs,
+    row: &Row,
+    instr: &Instr,
+) -> Result<Ready, Refused>
+    requires fetched { run (M.answers memory.now) (fetch 20 (register regs.old 15) []) ≡ Ok instr.now }
+    requires listed { row_for instr.now.op ≡ Some row.now }
+    requires operands { HasOperands instr.now }
+    ensures value { Prepares (M.answers memory.now) result regs.new (run (M.answers memory.now) (instruction regs.old)) }
+    ensures places { IfOk result HasPlaces }
+{
+    regs.r[15] = regs.r[15].wrapping_add(u32::from(instr.length));
+    evaluate_all(memory, row, regs, instr)
+}
+
+/// The instruction that PC names, as far as its operands.
+#[tactic(auto, using(crate::proofs::Runs::run_bind), unfolding(crate::specs::Instruction::instruction, crate::specs::Instruction::execution_by))]
 fn prepare<M: Memory>(memory: &M, regs: &mut Regs) -> Result<Ready, Refused>
     ensures value { Prepares (M.answers memory.now) result regs.new (run (M.answers memory.now) (instruction regs.old)) }
     ensures places { IfOk result HasPlaces }
 {
-    let pc = regs.r[15];
     let mut instr = Instr::blank();
-    fetch(memory, pc, &mut instr)?;
+    fetch(memory, regs.r[15], &mut instr)?;
     let Some(row) = row_of(instr.op) else {
         return Err(Refused::Signal(SIGILL));
     };
-    regs.r[15] = pc.wrapping_add(u32::from(instr.length));
-    evaluate_all(memory, &row, regs, &instr)
+    prepare_fetched(memory, regs, &row, &instr)
 }
 
-/// Carries an instruction out from its operands on, where it may write all that it does. The outcome has the registers
-/// after the operands.
-#[tactic(auto, using(crate::proofs::Runs::run_bind), unfolding(crate::specs::Outcomes::completion, crate::specs::Instruction::tested_effect))]
-fn complete<M: Memory>(
-    memory: &mut M,
+/// The same, by what is in the cache.
+fn prepare_cached<M: Memory>(
+    cache: &mut DecodeCache,
+    memory: &M,
     regs: &mut Regs,
-    outcome: &mut Outcome,
-    ready: &Ready,
-) -> Result<Stepped, Refused>
-    requires fresh { IsFresh outcome.old }
+) -> Result<Ready, Refused>
+    ensures value { Prepares (M.answers memory.now) result regs.new (run (M.answers memory.now) (instruction regs.old)) }
+    ensures places { IfOk result HasPlaces }
+{
+    match cache.find(memory, regs.r[15]) {
+        Some(decoding) => prepare_fetched(memory, regs, &decoding.row, &decoding.instr),
+        None => prepare_anew(cache, memory, regs),
+    }
+}
+
+/// The same where it isn't there, but will be.
+#[inline(never)]
+fn prepare_anew<M: Memory>(
+    cache: &mut DecodeCache,
+    memory: &M,
+    regs: &mut Regs,
+) -> Result<Ready, Refused>
+    ensures value { Prepares (M.answers memory.now) result regs.new (run (M.answers memory.now) (instruction regs.old)) }
+    ensures places { IfOk result HasPlaces }
+{
+    cache.enter(memory, regs.r[15]);
+    prepare(memory, regs)
+}
+
+/// Carries an instruction out from its operands on, where it may write all that it does. The registers are those after the
+/// operands; those that it leaves take their place, which are worth nothing where it is refused.
+#[tactic(auto, using(crate::proofs::Runs::run_bind), unfolding(crate::specs::Outcomes::completion, crate::specs::Instruction::tested_effect))]
+fn complete<M: Memory>(memory: &mut M, regs: &mut Regs, ready: &Ready) -> Result<Stepped, Refused>
     requires places { HasPlaces ready.now }
     requires no_frame { calls_procedure ready.now.name ≡ false }
-    ensures answer { stepped_by result ≡ answer_of (run (M.answers memory.old) (completion ready.now outcome.old.regs)) }
-    ensures registers { regs.new ≡ registers_after regs.old (run (M.answers memory.old) (completion ready.now outcome.old.regs)) }
-    ensures wrote { M.wrote memory.old (writes_of (run (M.answers memory.old) (completion ready.now outcome.old.regs))) memory.new }
+    ensures carried { CarriesOut result regs.new (run (M.answers memory.old) (completion ready.now regs.old)) }
+    ensures wrote { M.wrote memory.old (writes_of (run (M.answers memory.old) (completion ready.now regs.old))) memory.new }
 {
-    compute(memory, outcome, ready)?;
+    let mut outcome = Outcome::none();
+    compute(memory, regs, &mut outcome, ready)?;
     test_one(memory, &outcome.write)?;
     put_one(memory, &outcome.write);
-    *regs = outcome.regs;
     Ok(match outcome.call {
         None => Stepped::Done,
         Some(number) => Stepped::Call(number),
@@ -146,35 +217,67 @@ fn complete<M: Memory>(
 fn complete_call<M: Memory>(
     memory: &mut M,
     regs: &mut Regs,
-    outcome: &mut Outcome,
     ready: &Ready,
 ) -> Result<Stepped, Refused>
     requires calls { calls_procedure ready.now.name ≡ true }
-    ensures answer { stepped_by result ≡ answer_of (run (M.answers memory.old) (completion ready.now outcome.old.regs)) }
-    ensures registers { regs.new ≡ registers_after regs.old (run (M.answers memory.old) (completion ready.now outcome.old.regs)) }
-    ensures wrote { M.wrote memory.old (writes_of (run (M.answers memory.old) (completion ready.now outcome.old.regs))) memory.new }
+    ensures carried { CarriesOut result regs.new (run (M.answers memory.old) (completion ready.now regs.old)) }
+    ensures wrote { M.wrote memory.old (writes_of (run (M.answers memory.old) (completion ready.now regs.old))) memory.new }
 {
     let mut pushes = Pushes::none();
-    call(memory, &mut pushes, &mut outcome.regs, ready)?;
+    call(memory, &mut pushes, regs, ready)?;
     test_all(memory, pushes.written())?;
     put_all(memory, pushes.written());
-    *regs = outcome.regs;
     Ok(Stepped::Done)
 }
 
-/// Carries the instruction that PC names out, or changes nothing and says why.
+/// The same of any instruction.
+fn finish<M: Memory>(memory: &mut M, regs: &mut Regs, ready: &Ready) -> Result<Stepped, Refused>
+    requires { HasPlaces ready.now }
+    ensures carried { CarriesOut result regs.new (run (M.answers memory.old) (completion ready.now regs.old)) }
+    ensures wrote { M.wrote memory.old (writes_of (run (M.answers memory.old) (completion ready.now regs.old))) memory.new }
+{
+    if ready.calls_procedure() {
+        complete_call(memory, regs, ready)
+    } else {
+        complete(memory, regs, ready)
+    }
+}
+
+/// Carries the instruction that PC names out, or changes nothing but the registers and says why.
 fn try_step<M: Memory>(regs: &mut Regs, memory: &mut M) -> Result<Stepped, Refused>
-    ensures answer { stepped_by result ≡ answer_of (run (M.answers memory.old) (instruction regs.old)) }
-    ensures registers { regs.new ≡ registers_after regs.old (run (M.answers memory.old) (instruction regs.old)) }
+    ensures carried { CarriesOut result regs.new (run (M.answers memory.old) (instruction regs.old)) }
     ensures wrote { M.wrote memory.old (writes_of (run (M.answers memory.old) (instruction regs.old))) memory.new }
 {
-    let mut outcome = Outcome::of_registers(*regs);
-    let ready = prepare(memory, &mut outcome.regs)?;
-    if ready.calls_procedure() {
-        complete_call(memory, regs, &mut outcome, &ready)
-    } else {
-        complete(memory, regs, &mut outcome, &ready)
-    }
+    let ready = prepare(memory, regs)?;
+    finish(memory, regs, &ready)
+}
+
+/// The same, by what is in the cache.
+fn try_step_cached<M: Memory>(
+    cache: &mut DecodeCache,
+    regs: &mut Regs,
+    memory: &mut M,
+) -> Result<Stepped, Refused>
+    ensures carried { CarriesOut result regs.new (run (M.answers memory.old) (instruction regs.old)) }
+    ensures wrote { M.wrote memory.old (writes_of (run (M.answers memory.old) (instruction regs.old))) memory.new }
+{
+    let ready = prepare_cached(cache, memory, regs)?;
+    finish(memory, regs, &ready)
+}
+
+/// What is told of an instruction that was tried. Where it was refused, the registers are those before it again.
+fn told(tried: Result<Stepped, Refused>, regs: &mut Regs, before: &Regs) -> Stepped
+    ensures answer { (wanted : Result Effect Refused) → CarriesOut tried regs.old wanted → result ≡ answer_of wanted }
+    ensures registers { (wanted : Result Effect Refused) → CarriesOut tried regs.old wanted → regs.new ≡ registers_after before.now wanted }
+{
+    let stepped = match tried {
+        Ok(stepped) => return stepped,
+        Err(Refused::Miss { address, write }) => Stepped::Miss { address, write },
+        Err(Refused::Below { address }) => Stepped::Below { address },
+        Err(Refused::Signal(number)) => Stepped::Signal(number),
+    };
+    *regs = *before;
+    stepped
 }
 
 /// Runs one instruction: the one that PC names, by this project's profile of the VAX. `Done` and `Call`
@@ -186,10 +289,16 @@ pub fn step<M: Memory>(regs: &mut Regs, memory: &mut M) -> Stepped
     ensures registers { regs.new ≡ registers_after regs.old (run (M.answers memory.old) (instruction regs.old)) }
     ensures wrote { M.wrote memory.old (writes_of (run (M.answers memory.old) (instruction regs.old))) memory.new }
 {
-    match try_step(regs, memory) {
-        Ok(stepped) => stepped,
-        Err(Refused::Miss { address, write }) => Stepped::Miss { address, write },
-        Err(Refused::Below { address }) => Stepped::Below { address },
-        Err(Refused::Signal(number)) => Stepped::Signal(number),
-    }
+    let before = *regs;
+    told(try_step(regs, memory), regs, &before)
+}
+
+/// Runs one instruction, as `step` does. One that is in the cache isn't decoded anew, and another one is entered.
+pub fn step_cached<M: Memory>(cache: &mut DecodeCache, regs: &mut Regs, memory: &mut M) -> Stepped
+    ensures answer { result ≡ answer_of (run (M.answers memory.old) (instruction regs.old)) }
+    ensures registers { regs.new ≡ registers_after regs.old (run (M.answers memory.old) (instruction regs.old)) }
+    ensures wrote { M.wrote memory.old (writes_of (run (M.answers memory.old) (instruction regs.old))) memory.new }
+{
+    let before = *regs;
+    told(try_step_cached(cache, regs, memory), regs, &before)
 }

@@ -1,5 +1,5 @@
 -- The operands whose registers are registers.
-use Rattle.std.specs.Prelude.{◌<◌}
+use Rattle.std.specs.Prelude.{◌≡◌, ◌<◌, ◌≤◌}
 use Rattle.vax_code.specs.declared.instr.Operand.{Operand}
 use Rattle.vax_code.specs.declared.instr.Operand.TheVariants as operands
 use Rattle.vax_code.specs.declared.instr.Base.{Base}
@@ -31,11 +31,14 @@ IsOperand (operands.Absolute address) = Unit {0}
 IsOperand (operands.Disp reg by deferred) = reg < 16
 IsOperand (operands.Indexed index base) = (index < 16) × IsBase base
 
--- the registers that the three operands of an instruction name are registers
+-- the registers that the three operands of an instruction name are registers, and an operand that it doesn't have is the literal 0
 pub record HasOperands (instr : Instr) : Type 0 where
   pub first : IsOperand instr.a
   pub second : IsOperand instr.b
   pub third : IsOperand instr.c
+  pub no_first : instr.count ≤ 0 → instr.a ≡ operands.Literal 0
+  pub no_second : instr.count ≤ 1 → instr.b ≡ operands.Literal 0
+  pub no_third : instr.count ≤ 2 → instr.c ≡ operands.Literal 0
 
 -- what was decoded is made of such operands
 abbrev pub IsSound : Decoded → Type 0

@@ -22,7 +22,7 @@ use crate::run::Core;
 use crate::running::finish;
 use io_edge::{Files, SwapDev};
 use machine_state::Machine;
-use proc_run::next_turned;
+use proc_run::{DecodeCache, next_turned};
 use proc_table::Life;
 use run_start::swapper::swap_in;
 use std::alloc::Global;
@@ -74,6 +74,7 @@ pub fn come_in<F: Files, D: SwapDev>(
 // A turn of a process, which comes in first where it is out. The answer is how many instructions are counted then.
 fn turn<F: Files, D: SwapDev>(
     alloc: Global,
+    cache: &mut DecodeCache,
     m: &mut Machine,
     files: &mut F,
     swap: &mut D,
@@ -93,7 +94,7 @@ fn turn<F: Files, D: SwapDev>(
 {
     note(m, Entry::Turn { pid })?;
     come_in(m, files, swap, pid)?;
-    finish(alloc, m, files, swap, pid, counted, counted)
+    finish(alloc, cache, m, files, swap, pid, counted, counted)
 }
 
 // The process of the next turn: none where as many instructions are counted as may, too many turns in a row counted none, or no
@@ -126,6 +127,7 @@ fn idle_behind(idle: u32, before: u32, count: u32) -> u32
 // The whole phase. The answer is how many instructions are counted then.
 fn close<F: Files, D: SwapDev>(
     alloc: Global,
+    cache: &mut DecodeCache,
     m: &mut Machine,
     files: &mut F,
     swap: &mut D,
@@ -146,7 +148,7 @@ fn close<F: Files, D: SwapDev>(
     let mut last = 0;
     let mut idle = 0;
     while let Some(pid) = next_turn(m, count, last, idle) {
-        let more = turn(alloc, m, files, swap, pid, count)?;
+        let more = turn(alloc, cache, m, files, swap, pid, count)?;
         idle = idle_behind(idle, count, more);
         count = more;
         last = pid;
@@ -174,7 +176,14 @@ impl Core {
         ensures kept { IfErr result (KeptAtStop self.old.machine self.new.machine) }
         ensures outside { TransfersPages F.Files D.SwapDev (stop_of result) files.old files.new swap.old swap.new }
     {
-        self.counted = close(self.alloc, &mut self.machine, files, swap, self.counted)?;
+        self.counted = close(
+            self.alloc,
+            &mut self.cache,
+            &mut self.machine,
+            files,
+            swap,
+            self.counted,
+        )?;
         Ok(())
     }
 }

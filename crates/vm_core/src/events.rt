@@ -17,6 +17,7 @@ use crate::run::Core;
 use crate::running::dispatch;
 use io_edge::{Files, SwapDev};
 use machine_state::Machine;
+use proc_run::DecodeCache;
 use std::alloc::Global;
 use vm_facts::{Entry, Event, Stop};
 
@@ -32,6 +33,7 @@ pub enum Went {
 // Does what a line asks for, and tells how many instructions are counted then.
 fn carry_out<F: Files, D: SwapDev>(
     alloc: Global,
+    cache: &mut DecodeCache,
     m: &mut Machine,
     files: &mut F,
     swap: &mut D,
@@ -52,7 +54,9 @@ fn carry_out<F: Files, D: SwapDev>(
     ensures outside { TransfersPages F.Files D.SwapDev (stop_of result) files.old files.new swap.old swap.new }
 {
     match e {
-        Event::Dispatch { pid, count } => dispatch(alloc, m, files, swap, pid, counted, count),
+        Event::Dispatch { pid, count } => dispatch(
+            alloc, cache, m, files, swap, pid, counted, count,
+        ),
         Event::Interrupt => {
             interrupt(m, files, swap)?;
             Ok(counted)
@@ -97,7 +101,15 @@ impl Core {
         ensures outside { TransfersPages F.Files D.SwapDev (stop_of result) files.old files.new swap.old swap.new }
     {
         note(&mut self.machine, Entry::Event { line })?;
-        self.counted = carry_out(self.alloc, &mut self.machine, files, swap, self.counted, e)?;
+        self.counted = carry_out(
+            self.alloc,
+            &mut self.cache,
+            &mut self.machine,
+            files,
+            swap,
+            self.counted,
+            e,
+        )?;
         if self.is_over() {
             Ok(Went::LimitReached)
         } else {

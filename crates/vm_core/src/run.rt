@@ -6,6 +6,7 @@ ghost use Rattle.machine_state.specs.Sourced.{AreNames};
 ghost use Rattle.vm_core.specs.Starting.{IsFresh};
 
 use machine_state::{Machine, Named};
+use proc_run::DecodeCache;
 use std::alloc::Global;
 use std::marker::Model;
 use vm_facts::{Entry, NoMemory, Params};
@@ -13,6 +14,7 @@ use vm_facts::{Entry, NoMemory, Params};
 /// A run; contracts see its machine, and how many instructions were counted. It must be ended.
 pub struct Core {
     pub(crate) alloc: Global,
+    pub(crate) cache: DecodeCache,
     pub(crate) machine: Machine,
 
     // The instructions so far.
@@ -48,6 +50,7 @@ impl Core {
     {
         Ok(Core {
             alloc,
+            cache: DecodeCache::empty(),
             machine: Machine::new(alloc, params, images)?,
             counted: 0,
         })
@@ -79,6 +82,7 @@ impl Core {
     pub fn end(self) {
         let Core {
             alloc: _,
+            cache: _,
             machine,
             counted: _,
         } = self;

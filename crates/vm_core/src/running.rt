@@ -12,7 +12,7 @@ ghost use Rattle.vm_core.specs.Cores.{AskedAt, LineDone};
 
 use io_edge::{Files, SwapDev};
 use machine_state::Machine;
-use proc_run::{Patience, run};
+use proc_run::{DecodeCache, Patience, run};
 use std::alloc::Global;
 use vm_facts::{Event, Stop};
 
@@ -29,6 +29,7 @@ pub fn count_behind(m: &Machine, since: u32, more: u32) -> u32
 /// A process that is in runs so many instructions at most, and waits for no page.
 pub(crate) fn dispatch<F: Files, D: SwapDev>(
     alloc: Global,
+    cache: &mut DecodeCache,
     m: &mut Machine,
     files: &mut F,
     swap: &mut D,
@@ -50,12 +51,23 @@ pub(crate) fn dispatch<F: Files, D: SwapDev>(
     ensures outside { TransfersPages F.Files D.SwapDev (stop_of result) files.old files.new swap.old swap.new }
 {
     let until = count_behind(m, counted, count);
-    run(alloc, m, files, swap, pid, counted, until, Patience::Stops)
+    run(
+        alloc,
+        cache,
+        m,
+        files,
+        swap,
+        pid,
+        counted,
+        until,
+        Patience::Stops,
+    )
 }
 
 /// A process that is in has its turn, or what is left of it: so many instructions at most since it began, and it waits for its pages.
 pub fn finish<F: Files, D: SwapDev>(
     alloc: Global,
+    cache: &mut DecodeCache,
     m: &mut Machine,
     files: &mut F,
     swap: &mut D,
@@ -75,5 +87,15 @@ pub fn finish<F: Files, D: SwapDev>(
     ensures outside { TransfersPages F.Files D.SwapDev (stop_of result) files.old files.new swap.old swap.new }
 {
     let until = count_behind(m, since, TURN);
-    run(alloc, m, files, swap, pid, counted, until, Patience::Waits)
+    run(
+        alloc,
+        cache,
+        m,
+        files,
+        swap,
+        pid,
+        counted,
+        until,
+        Patience::Waits,
+    )
 }

@@ -1,5 +1,5 @@
 -- What a memory answers for each address, and what it answers after bytes were written.
-use Rattle.std.specs.Prelude.{ℕ, Bool, true, false, ◌==◌, List, [], ◌∷◌}
+use Rattle.std.specs.Prelude.{ℕ, ◌+◌, ◌%◌, ◌^◌, Bool, true, false, ◌==◌, List, [], ◌∷◌}
 use Rattle.vm_facts.specs.declared.memory.ByteRead.{ByteRead}
 use Rattle.vm_facts.specs.declared.memory.ByteRead.TheVariants.{Is}
 use Rattle.vm_facts.specs.declared.memory.MayWrite.{MayWrite}
@@ -13,6 +13,11 @@ pub record Answers : Type 0 where
 pub record ByteWrite : Type 0 where
   pub address : ℕ
   pub byte : ℕ
+
+-- these bytes, each at its place from an address on
+abbrev pub writes_from : ℕ → List ℕ → List ByteWrite
+writes_from address [] = []
+writes_from address (byte ∷ bytes) = record { address = address; byte = byte } ∷ writes_from ((address + 1) % 2 ^ 32) bytes
 
 -- what is read at an address after a write: the byte there, and elsewhere what it was
 abbrev pub read_by : Bool → ℕ → ByteRead → ByteRead

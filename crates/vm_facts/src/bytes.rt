@@ -1,4 +1,5 @@
-ghost use Rattle.std.specs.Prelude.{◌≡◌, ℕ, List};
+ghost use Rattle.std.specs.Prelude.{◌≡◌, ◌+◌, ◌≤◌, ℕ, List, length};
+ghost use Rattle.vm_facts.specs.Lists.{overwritten};
 
 use std::marker::Model;
 
@@ -28,4 +29,12 @@ impl Bytes {
     {
         self.items.as_slice()
     }
+}
+
+/// Writes bytes over those that stand from a place on.
+pub fn overwrite(bytes: &mut [u8], at: usize, with: &[u8])
+    requires { at + length with.now ≤ length bytes.old }
+    ensures { bytes.new ≡ overwritten bytes.old at with.now }
+{
+    bytes[at..at + with.len()].copy_from_slice(with);
 }

@@ -12,7 +12,7 @@ mod regs;
 mod stop;
 mod transfers;
 
-pub use bytes::Bytes;
+pub use bytes::{Bytes, overwrite};
 pub use entry::Entry;
 pub use event::Event;
 pub use memory::{ByteRead, MayWrite, Memory};

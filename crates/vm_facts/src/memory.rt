@@ -1,6 +1,6 @@
-ghost use Rattle.std.specs.Prelude.{◌≡◌, ℕ, List, [], ◌∷◌, ◌++◌};
+ghost use Rattle.std.specs.Prelude.{◌≡◌, ℕ, true, false, List, [], ◌∷◌, ◌++◌, length};
 ghost use Rattle.vm_facts.specs.Ahead.{AreAhead, MayAhead};
-ghost use Rattle.vm_facts.specs.Answers.{Answers, ByteWrite, written};
+ghost use Rattle.vm_facts.specs.Answers.{Answers, ByteWrite, written, writes_from};
 
 /// What a read of one byte answers.
 #[derive(Clone, Copy, Debug, PartialEq, Eq, Drop)]
@@ -65,6 +65,16 @@ pub trait Memory {
         ensures { MayAhead (answers self.now) address result }
     {
         0
+    }
+
+    /// Writes bytes that lie together from an address on, each of which may be written, where the memory does so at
+    /// once. The answer is whether it did: where it didn't, nothing changed, and each byte is to be written by itself.
+    fn put(&mut self, address: u32, bytes: &[u8]) -> bool
+        requires { MayAhead (answers self.old) address (length bytes.now) }
+        ensures done { result ≡ true → wrote self.old (writes_from address bytes.now) self.new }
+        ensures left { result ≡ false → self.new ≡ self.old }
+    {
+        false
     }
 
     /// No write leads from a memory to itself.

@@ -5,5 +5,5 @@ use Rattle.proc_run.proofs.stretch.go_on.Goals as goal
 
 pub returns-in-Call : goal.returns-in-Call
 returns-in-Call g c =
-    let none = call_unwritten (g.M.Memory.answers c.args.memory.now) c.args.regs.now _ (sym c.step.ensures.answer ∙ c.in-Call.is) in
-    (refl, subst (λ (ws : List ByteWrite). g.M.Memory.wrote c.args.memory.now ws c.step.new.memory) none c.step.ensures.wrote)
+    let none = call_unwritten (g.M.Memory.answers c.args.memory.now) c.args.regs.now _ (sym c.step_cached.ensures.answer ∙ c.in-Call.is) in
+    (refl, subst (λ (ws : List ByteWrite). g.M.Memory.wrote c.args.memory.now ws c.step_cached.new.memory) none c.step_cached.ensures.wrote)
