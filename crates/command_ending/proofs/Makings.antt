@@ -1,9 +1,9 @@
 -- What a command makes of what it reads.
-use Rattle.std.proofs.Common.{◌≡◌, inl, inr, ℕ, List, Option, Some, None, Err, refl, sym, ap, subst}
+use Rattle.std.proofs.Common.{◌≡◌, inl, inr, ℕ, List, Option, Some, None, Ok, Err, refl, sym, ap, subst}
 use Rattle.io_edge.specs.FileHolding.{NamedFile}
-use Rattle.command_ending.specs.declared.fault.Fault.TheVariants.{NoMemory}
-use Rattle.command_ending.specs.Ending.{Ending}
-use Rattle.command_ending.specs.Command.{Faults, Made, Completes, WritesSome}
+use Rattle.command_ending.specs.declared.fault.Fault.TheVariants.{FileFault, NoMemory}
+use Rattle.command_ending.specs.Ending.{Ending, CanBeLost}
+use Rattle.command_ending.specs.Command.{Faults, NoFaults, EndCounted, Made, Completes, WritesSome}
 
 -- something that may have been read, and is what is told where the files are told
 record Reading {R : Type 0} (P : R → Type 0) (told : List NamedFile → R) (holds : Option (List NamedFile)) : Type 0 where
@@ -42,13 +42,21 @@ pub made_by : {R E : Type 0} (Ends : R → Faults → E → Type 0) (told : List
 made_by {R} Ends told holds f ending read tells ends =
     made_where (λ (r : R). r ≡ read) Ends read told holds f ending refl tells (λ r is. subst (λ (x : R). Ends x f ending) (sym is) ends)
 
+-- an ending whose text can be lost counted no fault of a file
+lost_counted : (ending : Ending) (f : Faults) → CanBeLost ending → EndCounted ending f → NoFaults f
+lost_counted (Ok output) f lost counted = absurd lost
+lost_counted (Err FileFault) f lost counted = absurd lost
+lost_counted (Err _) f lost counted = counted
+
 -- the ending was written, or forgotten for want of memory
 pub completed : {R : Type 0} (Ends : R → Faults → Ending → Type 0) (told : List NamedFile → R) (holds : Option (List NamedFile)) (f : Faults)
     (before after : Option (List ℕ)) (old new status : ℕ) (ending : Ending) → ((read : R) → Ends read f (Err NoMemory)) → Made Ends told holds f ending
-    → WritesSome before after old new ending status → Completes Ends told holds f before after old new status
-completed Ends told holds f before after old new status ending forget made (inl writes) = record { ending = ending; made = made; writes = writes }
-completed Ends told holds f before after old new status ending forget made (inr lost) = record {
+    → EndCounted ending f → WritesSome before after old new ending status → Completes Ends told holds f before after old new status
+completed Ends told holds f before after old new status ending forget made counted (inl writes) =
+    record { ending = ending; made = made; counted = counted; writes = writes }
+completed Ends told holds f before after old new status ending forget made counted (inr lost) = record {
   ending = Err NoMemory;
   made = record { read = made.read; is_told = made.is_told; ends = forget made.read };
+  counted = lost_counted ending f lost.0 counted;
   writes = lost.1;
 }

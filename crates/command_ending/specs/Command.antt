@@ -1,9 +1,10 @@
 -- What a command does: what it reads, how it ends by that, and what it writes.
-use Rattle.std.specs.Prelude.{◌≡◌, ◌⊎◌, ℕ, List, Option, Some, Err}
+use Rattle.std.specs.Prelude.{◌≡◌, ◌⊎◌, ℕ, List, Option, Some, Result, Ok, Err}
 use Rattle.io_edge.specs.Count.{Rose}
 use Rattle.io_edge.specs.FileHolding.{NamedFile}
 use Rattle.io_edge.specs.Written.{Appends, AppendsSome}
-use Rattle.command_ending.specs.declared.fault.Fault.TheVariants.{NoMemory}
+use Rattle.command_ending.specs.declared.fault.Fault.{Fault}
+use Rattle.command_ending.specs.declared.fault.Fault.TheVariants.{FileFault, NoMemory}
 use Rattle.command_ending.specs.Ending.{Ending, ending_text, status_of, sink_fault, CanBeLost}
 
 -- the two counts of the files' faults, before and after
@@ -34,6 +35,16 @@ OneFailed f = OpenFailed f ⊎ PageFailed f
 abbrev pub FailedBehind : Type 0 → Faults → Type 0
 FailedBehind Good f = OpenFailed f ⊎ (PageFailed f × Good)
 
+-- what was counted of the files where this is the fault: one that failed, where the fault says so, and else none
+abbrev pub FaultCounted : Fault → Faults → Type 0
+FaultCounted FileFault f = OneFailed f
+FaultCounted _ f = NoFaults f
+
+-- what was counted of the files by an end: one that failed, where that is the fault, and else none
+abbrev pub EndCounted : {A : Type 0} → Result A Fault → Faults → Type 0
+EndCounted (Ok made) f = NoFaults f
+EndCounted (Err fault) f = FaultCounted fault f
+
 -- an end by what was read, which is what is told where the files are told
 pub record Made {R E : Type 0} (Ends : R → Faults → E → Type 0) (told : List NamedFile → R) (holds : Option (List NamedFile)) (f : Faults)
     (ending : E) : Type 0 where
@@ -57,9 +68,11 @@ WritesSome before after old_faults new_faults ending status =
     WritesEnding before after old_faults new_faults ending status
     ⊎ (CanBeLost ending × WritesEnding before after old_faults new_faults (Err NoMemory) status)
 
--- A command's status and text: there is one ending, by what was read, and its text was written.
+-- A command's status and text: there is one ending, by what was read, and its text was written. A file's fault was counted just where
+-- that is how it ended.
 pub record Completes {R : Type 0} (Ends : R → Faults → Ending → Type 0) (told : List NamedFile → R) (holds : Option (List NamedFile)) (f : Faults)
     (before after : Option (List ℕ)) (old_faults new_faults status : ℕ) : Type 0 where
   pub ending : Ending
   pub made : Made Ends told holds f ending
+  pub counted : EndCounted ending f
   pub writes : WritesEnding before after old_faults new_faults ending status

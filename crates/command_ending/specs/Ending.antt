@@ -1,5 +1,5 @@
 -- The endings of a command: what it made, or its fault, with the statuses and the lines of the faults.
-use Rattle.std.specs.Prelude.{ℕ, List, ◌++◌, codes, decimal, Vec, Result, Ok, Err}
+use Rattle.std.specs.Prelude.{ℕ, ◌≤◌, List, ◌++◌, codes, decimal, Vec, Result, Ok, Err}
 use Rattle.std.specs.Borrow.{Bor}
 use Rattle.run_files.specs.declared.answers.Unread.{Unread}
 use Rattle.run_files.specs.declared.answers.Unread.TheVariants as unreads
@@ -86,15 +86,15 @@ fault_line (BadSource line) = numbered_line (codes "vmrun: bad source line ") li
 fault_line (BadReferences line) = numbered_line (codes "vmrun: bad references line ") line
 fault_line ReferencesTooLong = codes "vmrun: references too long\n"
 
--- a fault whose line has a name or a number in it, so that memory is needed to write it
+-- a fault whose line has a name or a number in it, so that memory is needed to write it; those of devices 0 and 1 are at hand
 abbrev pub NeedsMemory : Fault → Type 0
 NeedsMemory BadWords = ⊥
 NeedsMemory (Absent name) = Unit {0}
 NeedsMemory (NotImage name reason) = Unit {0}
 NeedsMemory (BadSchedule line) = Unit {0}
 NeedsMemory FileFault = ⊥
-NeedsMemory (SwapReadFault device) = Unit {0}
-NeedsMemory (SwapWriteFault device) = Unit {0}
+NeedsMemory (SwapReadFault device) = 2 ≤ device
+NeedsMemory (SwapWriteFault device) = 2 ≤ device
 NeedsMemory NoMemory = ⊥
 NeedsMemory JournalFull = ⊥
 NeedsMemory (NoSpace pid) = Unit {0}

@@ -3,7 +3,8 @@ ghost use Rattle.command_ending.specs.declared.fault.Fault.TheVariants.{NoMemory
 ghost use Rattle.command_ending.specs.Ending.{fault_of, fault_status, fault_line, bytes_of, NeedsMemory};
 
 use crate::lines::{
-    Line, NO_MEMORY, absent_line, not_image_line, numbered_line, short_device_line,
+    Line, NO_MEMORY, absent_line, not_image_line, numbered_line, short_device_line, swap_read_line,
+    swap_write_line,
 };
 use run_files::Unread;
 use std::alloc::{AllocError, Global};
@@ -98,7 +99,7 @@ impl<'a> Fault<'a> {
     }
 
     /// The line that is written in place of what the command is for. Only one with a name or a number in
-    /// it needs memory.
+    /// it needs memory, and of these not that of a fault of swap device 0 or 1.
     pub fn line(self, alloc: Global) -> Result<Line, AllocError>
         ensures line { IfOk result (λ line. bytes_of line ≡ fault_line self.entry) }
         ensures lost { IfErr result (λ _. NeedsMemory self.entry) }
@@ -109,12 +110,8 @@ impl<'a> Fault<'a> {
             Fault::NotImage(name, reason) => not_image_line(alloc, name, reason),
             Fault::BadSchedule(line) => numbered_line(alloc, b"vmrun: bad schedule line ", line),
             Fault::FileFault => return Ok(Line::Fixed(b"vmrun: file fault\n")),
-            Fault::SwapReadFault(device) => {
-                numbered_line(alloc, b"vmrun: swap read fault on device ", device)
-            }
-            Fault::SwapWriteFault(device) => {
-                numbered_line(alloc, b"vmrun: swap write fault on device ", device)
-            }
+            Fault::SwapReadFault(device) => return swap_read_line(alloc, device),
+            Fault::SwapWriteFault(device) => return swap_write_line(alloc, device),
             Fault::NoMemory => return Ok(Line::Fixed(NO_MEMORY)),
             Fault::JournalFull => return Ok(Line::Fixed(b"vmrun: journal full\n")),
             Fault::NoSpace(pid) => numbered_line(alloc, b"vmrun: no swap for process ", pid),

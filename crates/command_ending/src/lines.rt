@@ -1,5 +1,5 @@
 // The lines about faults, which the commands share.
-ghost use Rattle.std.specs.Prelude.{◌≡◌, ◌++◌, IfOk, OnOk, decimal};
+ghost use Rattle.std.specs.Prelude.{◌≡◌, ◌≤◌, ◌++◌, IfOk, IfErr, OnOk, codes, decimal};
 ghost use Rattle.command_ending.specs.Ending.{bytes_of, absent_line, not_image_line, numbered_line, short_device_line};
 
 use itoa::Buffer;
@@ -86,4 +86,34 @@ pub fn short_device_line(
     put_number(&mut line, needed)?;
     line.extend_from_slice(b" needed\n")?;
     Ok(line)
+}
+
+/// The line about a swap device that could not be read. Those of devices 0 and 1 need no memory.
+pub fn swap_read_line(alloc: Global, device: u32) -> Result<Line, AllocError>
+    ensures line { IfOk result (λ line. bytes_of line ≡ numbered_line (codes "vmrun: swap read fault on device ") device) }
+    ensures lost { IfErr result (λ _. 2 ≤ device) }
+{
+    match device {
+        0 => Ok(Line::Fixed(b"vmrun: swap read fault on device 0\n")),
+        1 => Ok(Line::Fixed(b"vmrun: swap read fault on device 1\n")),
+        _ => {
+            let line = numbered_line(alloc, b"vmrun: swap read fault on device ", device)?;
+            Ok(Line::Made(line))
+        }
+    }
+}
+
+/// The line about a swap device that could not be written. Those of devices 0 and 1 need no memory.
+pub fn swap_write_line(alloc: Global, device: u32) -> Result<Line, AllocError>
+    ensures line { IfOk result (λ line. bytes_of line ≡ numbered_line (codes "vmrun: swap write fault on device ") device) }
+    ensures lost { IfErr result (λ _. 2 ≤ device) }
+{
+    match device {
+        0 => Ok(Line::Fixed(b"vmrun: swap write fault on device 0\n")),
+        1 => Ok(Line::Fixed(b"vmrun: swap write fault on device 1\n")),
+        _ => {
+            let line = numbered_line(alloc, b"vmrun: swap write fault on device ", device)?;
+            Ok(Line::Made(line))
+        }
+    }
 }

@@ -6,7 +6,7 @@ use Rattle.run_files.specs.declared.answers.Unread.TheVariants as unreads
 use Rattle.run_files.specs.Answering.{Answers, CountsFault, IsOfAnyFile}
 use Rattle.command_ending.specs.declared.fault.Fault.TheVariants as faults
 use Rattle.command_ending.specs.Ending.{Ending, fault_of}
-use Rattle.command_ending.specs.Command.{Faults, NoFaults, Made}
+use Rattle.command_ending.specs.Command.{Faults, NoFaults, EndCounted, Made}
 use Rattle.command_ending.proofs.Makings.{made_by, made_nothing}
 use Rattle.policy_command.specs.Command.{references_told, EndsText, EndsPolicies}
 
@@ -17,6 +17,12 @@ text_ends frames name bytes f (Ok text) none ends = (none, ends)
 text_ends frames name bytes f (Err faults.NoMemory) none ends = tt
 text_ends frames name bytes f (Err (faults.BadReferences line)) none ends = ends
 text_ends frames name bytes f (Err _) none ends = absurd ends
+
+pub text_counted : (frames : ℕ) (bytes : List ℕ) (f : Faults) (ending : Ending) → NoFaults f → EndsText frames bytes ending → EndCounted ending f
+text_counted frames bytes f (Ok text) none ends = none
+text_counted frames bytes f (Err faults.NoMemory) none ends = none
+text_counted frames bytes f (Err (faults.BadReferences line)) none ends = none
+text_counted frames bytes f (Err _) none ends = absurd ends
 
 pub file_ends : (frames : ℕ) (name bytes : List ℕ) (holds : Option (List NamedFile)) (f : Faults) (ending : Ending)
     → ((files : List NamedFile) → holds ≡ Some files → references_told name files ≡ Ok (Some bytes)) → NoFaults f → EndsText frames bytes ending

@@ -2,7 +2,7 @@ ghost use Rattle.std.specs.Prelude.{◌≡◌, ◌≤◌, ◌<◌, ◌^◌, leng
 ghost use Rattle.io_edge.specs.Calls.{KeepsFiles};
 ghost use Rattle.reference_text.specs.Grammar.{most_references};
 ghost use Rattle.command_ending.specs.Ending.{ending_of};
-ghost use Rattle.command_ending.specs.Command.{Made};
+ghost use Rattle.command_ending.specs.Command.{EndCounted, Made};
 ghost use Rattle.policy_command.specs.Command.{references_bytes, references_told, EndsBytes, EndsText, EndsPolicies, Compares};
 
 use command_ending::{Fault, write_ending};
@@ -62,6 +62,12 @@ fn text_from<'a, F: Files>(
           page_before = F.page_faults files.old;
           page_after = F.page_faults files.new;
         }) (ending_of result) }
+    ensures counted { EndCounted (ending_of result) (record {
+      open_before = F.open_faults files.old;
+      open_after = F.open_faults files.new;
+      page_before = F.page_faults files.old;
+      page_after = F.page_faults files.new;
+    }) }
     ensures kept { KeepsFiles F.Files files.old files.new }
 {
     match read_whole(alloc, files, name, REFERENCES_BYTES) {

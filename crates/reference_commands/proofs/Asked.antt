@@ -1,6 +1,5 @@
 -- What a question makes of what it reads.
-use Rattle.std.proofs.Common.{◌≡◌, inl, inr, ℕ, List, [], Option, Some, Vec, Result, Ok, Err, refl, ◌∙◌, subst}
-use Rattle.io_edge.specs.Count.{Rose}
+use Rattle.std.proofs.Common.{◌≡◌, inl, inr, ℕ, List, [], Option, Some, Vec, Result, Ok, Err, refl, subst}
 use Rattle.io_edge.specs.FileHolding.{NamedFile}
 use Rattle.vm_facts.specs.declared.event.Event.{Event}
 use Rattle.flat_state.specs.Flat.{Inputs}
@@ -12,9 +11,11 @@ use Rattle.command_ending.specs.declared.fault.Fault.{Fault}
 use Rattle.command_ending.specs.declared.fault.Fault.TheVariants as faults
 use Rattle.command_ending.specs.Ending.{Ending}
 use Rattle.command_ending.specs.Named.{Why, AnswersNamed}
-use Rattle.command_ending.specs.Command.{Faults, NoFaults, OneFailed, Made}
+use Rattle.command_ending.specs.Command.{Faults, NoFaults, FaultCounted, EndCounted, Made}
+use Rattle.command_ending.proofs.Counting.{none_then, one_then}
 use Rattle.command_ending.proofs.Makings.{made_where, made_nothing}
 use Rattle.run_opening.specs.Schedules.{schedule_found, HasEvents, EndsSchedule}
+use Rattle.run_opening.specs.Opening.{CountsAt}
 use Rattle.replay_command.specs.Reading.{FaultsBy, images_told}
 use Rattle.reference_commands.specs.declared.question.Question.{Question}
 use Rattle.reference_commands.specs.declared.question.Question.TheVariants as questions
@@ -41,12 +42,10 @@ over_second c = record { open_before = c.open_between; open_after = c.open_after
 abbrev pub over_both : Counts → Faults
 over_both c = record { open_before = c.open_before; open_after = c.open_after; page_before = c.page_before; page_after = c.page_after }
 
-none_first : (c : Counts) → NoFaults (over_first c) → OneFailed (over_second c) → OneFailed (over_both c)
-none_first c none (inl failed) = inl (subst (λ (n : ℕ). Rose n c.open_after) none.open_same failed.0, failed.1 ∙ none.page_same)
-none_first c none (inr failed) = inr (failed.0 ∙ none.open_same, subst (λ (n : ℕ). Rose n c.page_after) none.page_same failed.1)
-
-none_both : (c : Counts) → NoFaults (over_first c) → NoFaults (over_second c) → NoFaults (over_both c)
-none_both c first second = record { open_same = second.open_same ∙ first.open_same; page_same = second.page_same ∙ first.page_same }
+-- what opening a schedule counted, by its fault
+pub opened_counted : (fault : Fault) (f : Faults) → CountsAt fault f.open_before f.open_after → f.page_after ≡ f.page_before → FaultCounted fault f
+opened_counted faults.FileFault f counts stays = inl (counts, stays)
+opened_counted _ f counts stays = record { open_same = counts; page_same = stays }
 
 -- the schedule was read, and this of the images
 pub record Reads (subject : Subject) (holds : Option (List NamedFile)) (lines : List Event) (images : Result (List FlatFile) Why) : Type 0 where
@@ -114,7 +113,8 @@ images_end question subject holds c lines faults.FileFault made view answers by 
     made_where (λ (read : Read). HasEvents read.schedule lines.items) (EndsQuestion question subject) (record { schedule = made.read; images = Ok [] })
     (read_told subject.schedule subject.words) holds (over_both c)
     (Err faults.FileFault) made.ends.1 (λ list told. subst (λ (read : Result (List ℕ) Unread). HasEvents read lines.items) (made.is_told list told) made.ends.1)
-    (λ read has. elim (none_first c made.ends.0 by) [ inl first ↦ inl first | inr behind ↦ inr (behind, (lines.items, has)) ])
+    (λ read has. elim (one_then c.open_before c.open_between c.open_after c.page_before c.page_between c.page_after made.ends.0 by)
+    [ inl first ↦ inl first | inr behind ↦ inr (behind, (lines.items, has)) ])
 images_end question subject holds c lines faults.NoMemory made view answers by = refused question subject holds (over_both c)
 images_end question subject holds c lines _ made view answers by = absurd by
 
@@ -150,6 +150,14 @@ answer_ends question subject f lines images (Err (faults.NoSpace pid)) read none
     (none, record { inputs = over subject images lines; are = are_inputs subject lines images read has; refused = x })
 answer_ends question subject f lines images (Err _) read none x has = absurd x
 
+-- a run in memory counts nothing
+pub answer_counted : (question : Question) (A : Inputs) (f : Faults) (ending : Ending) → NoFaults f → EndsAnswer question A ending → EndCounted ending f
+answer_counted question A f (Ok text) none x = none
+answer_counted question A f (Err faults.NoMemory) none x = none
+answer_counted question A f (Err faults.JournalFull) none x = none
+answer_counted question A f (Err (faults.NoSpace pid)) none x = none
+answer_counted question A f (Err _) none x = absurd x
+
 pub asked_ends : {V : Type 0} (question : Question) (subject : Subject) (holds : Option (List NamedFile)) (c : Counts) (lines : Vec Event V)
     (images : List FlatFile) (ending : Ending)
     → Made {E = Result (Vec Event V) Fault} (EndsSchedule subject.schedule) (λ list. schedule_found list subject.schedule) holds (over_first c) (Ok lines)
@@ -160,4 +168,5 @@ pub asked_ends : {V : Type 0} (question : Question) (subject : Subject) (holds :
 asked_ends question subject holds c lines images ending made answers none x =
     made_read question subject holds (over_both c) lines.items (Ok images) ending
     (record { read = made.read; has = made.ends.1; schedule_told = made.is_told; images_are = answers })
-    (λ read has. answer_ends question subject (over_both c) lines.items images ending read (none_both c made.ends.0 none) x has)
+    (λ read has. answer_ends question subject (over_both c) lines.items images ending read
+    (none_then c.open_before c.open_between c.open_after c.page_before c.page_between c.page_after made.ends.0 none) x has)

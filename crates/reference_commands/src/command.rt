@@ -6,7 +6,7 @@ ghost use Rattle.replay_check.specs.Images.{AreImageFiles};
 ghost use Rattle.command_words.specs.Command.{AreImageWords, IsFittingRun};
 ghost use Rattle.command_words.specs.declared.limits.TheConstants.{MOST_FRAMES, MOST_SHORT_LIMIT};
 ghost use Rattle.command_ending.specs.Ending.{ending_of};
-ghost use Rattle.command_ending.specs.Command.{Made};
+ghost use Rattle.command_ending.specs.Command.{EndCounted, Made};
 ghost use Rattle.reference_commands.specs.Reading.{read_told};
 ghost use Rattle.reference_commands.specs.Asking.{IsQuestion, limit_of};
 ghost use Rattle.reference_commands.specs.Ends.{EndsQuestion, Answers};
@@ -158,6 +158,12 @@ fn answer_from<'a, F: Files>(
           page_before = F.page_faults files.old;
           page_after = F.page_faults files.new;
         }) (ending_of result) }
+    ensures counted { EndCounted (ending_of result) (record {
+      open_before = F.open_faults files.old;
+      open_after = F.open_faults files.new;
+      page_before = F.page_faults files.old;
+      page_after = F.page_faults files.new;
+    }) }
     ensures kept { KeepsFiles F.Files files.old files.new }
 {
     let lines = open_schedule(alloc, files, schedule)?;

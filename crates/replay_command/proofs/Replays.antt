@@ -1,6 +1,5 @@
 -- What a replay makes of what it reads.
-use Rattle.std.proofs.Common.{◌≡◌, inl, inr, ℕ, List, [], Option, Some, None, Result, Ok, Err, refl, ◌∙◌, subst}
-use Rattle.io_edge.specs.Count.{Rose}
+use Rattle.std.proofs.Common.{◌≡◌, inl, inr, ℕ, List, [], Option, Some, None, Result, Ok, Err, refl, subst}
 use Rattle.io_edge.specs.FileHolding.{NamedFile}
 use Rattle.vm_facts.specs.declared.entry.Entry.{Entry}
 use Rattle.run_files.specs.declared.answers.Unread.{Unread}
@@ -12,7 +11,8 @@ use Rattle.command_ending.specs.declared.fault.Fault.{Fault}
 use Rattle.command_ending.specs.declared.fault.Fault.TheVariants as faults
 use Rattle.command_ending.specs.Ending.{Ending}
 use Rattle.command_ending.specs.Named.{Why, AnswersNamed}
-use Rattle.command_ending.specs.Command.{Faults, NoFaults, OneFailed, Made}
+use Rattle.command_ending.specs.Command.{Faults, NoFaults, FaultCounted, EndCounted, Made}
+use Rattle.command_ending.proofs.Counting.{none_then, one_then}
 use Rattle.command_ending.proofs.Makings.{made_where, made_nothing}
 use Rattle.replay_command.specs.Reading.{Read, HasEntries, EndsTranscript, FaultsBy, images_told, read_of_transcript}
 use Rattle.replay_command.specs.Command.{EndsVerdict, EndsReplay}
@@ -44,15 +44,13 @@ pub refused : (name : List ℕ) (words : List (List ℕ)) (holds : Option (List 
 refused name words holds f =
     made_nothing (EndsReplay name words) (record { transcript = Ok None; images = Ok [] }) (read_of_transcript name words) holds f (Err faults.NoMemory) (λ read. tt)
 
--- counts that stayed, and then rose or stayed
-none_before : (open_before open_between open_after page_before page_between page_after : ℕ)
-    → NoFaults (record { open_before = open_before; open_after = open_between; page_before = page_before; page_after = page_between })
-    → OneFailed (record { open_before = open_between; open_after = open_after; page_before = page_between; page_after = page_after })
-    → OneFailed (record { open_before = open_before; open_after = open_after; page_before = page_before; page_after = page_after })
-none_before open_before open_between open_after page_before page_between page_after none (inl failed) =
-    inl (subst (λ (n : ℕ). Rose n open_after) none.open_same failed.0, failed.1 ∙ none.page_same)
-none_before open_before open_between open_after page_before page_between page_after none (inr failed) =
-    inr (failed.0 ∙ none.open_same, subst (λ (n : ℕ). Rose n page_after) none.page_same failed.1)
+-- what reading images counted, by their fault
+pub images_counted : (A : Type 0) (f : Faults) (fault : Fault) → FaultsBy {A = A} (Err fault) f → FaultCounted fault f
+images_counted A f (faults.Absent absent) by = by
+images_counted A f (faults.NotImage file reason) by = by
+images_counted A f faults.FileFault by = by
+images_counted A f faults.NoMemory by = by
+images_counted A f _ by = absurd by
 
 -- the transcript's entries were read, and this of the images
 record Reads (name : List ℕ) (words : List (List ℕ)) (holds : Option (List NamedFile)) (entries : List Entry)
@@ -101,9 +99,17 @@ images_end name words holds open_before open_between open_after page_before page
     made_where (λ (read : Read). HasEntries read.transcript entries) (EndsReplay name words) (record { transcript = made.read; images = Ok [] })
     (read_of_transcript name words) holds _ (Err faults.FileFault)
     made.ends.1 (λ list told. subst (λ (read : Result (Option (List ℕ)) Unread). HasEntries read entries) (made.is_told list told) made.ends.1)
-    (λ read has. elim (none_before open_before open_between open_after page_before page_between page_after made.ends.0 by) [ inl first ↦ inl first | inr behind ↦ inr (behind, (entries, has)) ])
+    (λ read has. elim (one_then open_before open_between open_after page_before page_between page_after made.ends.0 by) [ inl first ↦ inl first | inr behind ↦ inr (behind, (entries, has)) ])
 images_end name words holds open_before open_between open_after page_before page_between page_after entries faults.NoMemory made view answers by = refused name words holds _
 images_end name words holds open_before open_between open_after page_before page_between page_after entries _ made view answers by = absurd by
+
+-- judging counts nothing
+pub verdict_counted : (images : List FlatFile) (first : List ℕ) (entries : List Entry) (f : Faults) (ending : Ending) → NoFaults f
+    → EndsVerdict images first entries ending → EndCounted ending f
+verdict_counted images first entries f (Ok output) none verdict = none
+verdict_counted images first entries f (Err faults.NoMemory) none verdict = none
+verdict_counted images first entries f (Err (faults.NotFlatRun line)) none verdict = none
+verdict_counted images first entries f (Err _) none verdict = absurd verdict
 
 -- the verdict is that of the replay
 verdict_ends : (name : List ℕ) (words : List (List ℕ)) (f : Faults) (entries : List Entry) (images : List FlatFile) (ending : Ending) (read : Read)
@@ -129,4 +135,4 @@ judged_ends name words holds open_before open_between open_after page_before pag
     made_read name words holds _ entries (Ok images) ending
     (record { read = made.read; has = made.ends.1; transcript_told = made.is_told; images_are = answers })
     (λ read has. verdict_ends name words _ entries images ending read
-    (record { open_same = none.open_same ∙ made.ends.0.open_same; page_same = none.page_same ∙ made.ends.0.page_same }) verdict has)
+    (none_then open_before open_between open_after page_before page_between page_after made.ends.0 none) verdict has)

@@ -10,7 +10,7 @@ use Rattle.run_text.specs.Transcript.{IsEntryLine}
 use Rattle.command_ending.specs.declared.fault.Fault.{Fault}
 use Rattle.command_ending.specs.declared.fault.Fault.TheVariants as faults
 use Rattle.command_ending.specs.Ending.{fault_of}
-use Rattle.command_ending.specs.Command.{Faults, NoFaults, Made}
+use Rattle.command_ending.specs.Command.{Faults, NoFaults, EndCounted, Made}
 use Rattle.command_ending.proofs.Makings.{made_by, made_nothing}
 use Rattle.replay_command.specs.Reading.{EndsLines, EndsTranscript}
 use Rattle.replay_command.proofs.LastLines.{few_lines}
@@ -33,6 +33,12 @@ ends_read name bytes f (Ok entries) none ends = (none, ends)
 ends_read name bytes f (Err faults.NoMemory) none ends = tt
 ends_read name bytes f (Err (faults.BadTranscript line)) none ends = ends
 ends_read name bytes f (Err _) none ends = absurd ends
+
+pub lines_counted : (bytes : List ℕ) (f : Faults) (result : Result (List Entry) Fault) → NoFaults f → EndsLines bytes result → EndCounted result f
+lines_counted bytes f (Ok entries) none ends = none
+lines_counted bytes f (Err faults.NoMemory) none ends = none
+lines_counted bytes f (Err (faults.BadTranscript line)) none ends = none
+lines_counted bytes f (Err _) none ends = absurd ends
 
 -- a transcript that wasn't read
 pub unread_transcript : {A : Type 0} (view : A → Option (List ℕ)) (name : Bor (List ℕ)) (told : List NamedFile → Result (Option (List ℕ)) Unread)

@@ -37,10 +37,10 @@ images_told files (name ∷ names) = before (flat_in name (image_told files name
 -- the counts of faults over a call that reads images, and the faults that it may have
 abbrev pub FaultsBy : {A : Type 0} → Result A Fault → Faults → Type 0
 FaultsBy (Ok x) f = NoFaults f
-FaultsBy (Err (Absent name)) f = Unit {0}
-FaultsBy (Err (NotImage name reason)) f = Unit {0}
+FaultsBy (Err (Absent name)) f = NoFaults f
+FaultsBy (Err (NotImage name reason)) f = NoFaults f
 FaultsBy (Err FileFault) f = OneFailed f
-FaultsBy (Err NoMemory) f = Unit {0}
+FaultsBy (Err NoMemory) f = NoFaults f
 FaultsBy (Err _) f = ⊥
 
 -- ---- the transcript

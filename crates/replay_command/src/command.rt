@@ -3,7 +3,7 @@ ghost use Rattle.io_edge.specs.Calls.{KeepsFiles};
 ghost use Rattle.run_files.specs.ImageWords.{name_in};
 ghost use Rattle.replay_check.specs.Images.{AreImageFiles, AreNumbers};
 ghost use Rattle.command_ending.specs.Ending.{ending_of};
-ghost use Rattle.command_ending.specs.Command.{Made};
+ghost use Rattle.command_ending.specs.Command.{EndCounted, Made};
 ghost use Rattle.replay_command.specs.Reading.{read_of_transcript};
 ghost use Rattle.replay_command.specs.Command.{run_line, EndsReplay, EndsVerdict, Replays};
 
@@ -67,6 +67,12 @@ fn line_from<'a, F: Files>(
           page_before = F.page_faults files.old;
           page_after = F.page_faults files.new;
         }) (ending_of result) }
+    ensures counted { EndCounted (ending_of result) (record {
+      open_before = F.open_faults files.old;
+      open_after = F.open_faults files.new;
+      page_before = F.page_faults files.old;
+      page_after = F.page_faults files.new;
+    }) }
     ensures kept { KeepsFiles F.Files files.old files.new }
 {
     let entries = read_entries(alloc, files, transcript)?;

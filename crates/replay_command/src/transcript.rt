@@ -3,7 +3,7 @@ ghost use Rattle.std.specs.Prelude.{◌≡◌, ◌≤◌, ◌<◌, ◌^◌, ℕ,
 ghost use Rattle.io_edge.specs.Calls.{KeepsFiles};
 ghost use Rattle.io_edge.specs.FileHolding.{NamedFile};
 ghost use Rattle.run_files.specs.Told.{whole_told};
-ghost use Rattle.command_ending.specs.Command.{Made};
+ghost use Rattle.command_ending.specs.Command.{EndCounted, Made};
 ghost use Rattle.replay_command.specs.Reading.{transcript_bytes, EndsLines, EndsTranscript, items_of};
 
 use crate::last_line::without_fault_line;
@@ -48,6 +48,12 @@ pub fn read_entries<'a, F: Files>(
           page_before = F.page_faults files.old;
           page_after = F.page_faults files.new;
         }) (items_of result) }
+    ensures counted { EndCounted (items_of result) (record {
+      open_before = F.open_faults files.old;
+      open_after = F.open_faults files.new;
+      page_before = F.page_faults files.old;
+      page_after = F.page_faults files.new;
+    }) }
     ensures few { IfOk result (λ entries. length entries.items ≤ 67108864) }
     ensures kept { KeepsFiles F.Files files.old files.new }
 {

@@ -1,5 +1,5 @@
 -- How a run over two devices ends, as the command's ending.
-use Rattle.std.proofs.Common.{◌≡◌, inl, inr, ℕ, ◌≤◌, Bool, List, [], Option, Ok, Err, sym, subst}
+use Rattle.std.proofs.Common.{◌≡◌, inl, inr, ℕ, ◌≤◌, ◌<◌, Bool, List, [], Option, Ok, Err, sym, subst, arith}
 use Rattle.std.specs.Prelude.{IfErr}
 use Rattle.vm_facts.specs.declared.entry.Entry.{Entry}
 use Rattle.flat_state.specs.Flat.{Inputs}
@@ -13,52 +13,44 @@ use Rattle.command_words.specs.declared.limits.TheConstants.{MOST_LIMIT}
 use Rattle.command_ending.specs.declared.fault.Fault.{Fault}
 use Rattle.command_ending.specs.declared.fault.Fault.TheVariants.{FileFault, SwapReadFault, SwapWriteFault, NoMemory, JournalFull, NoSpace}
 use Rattle.run_command.specs.Seen.{Seen}
-use Rattle.run_command.specs.Ends.{RunEnding, NoneFaulted, HaltCaused, RunCaused, FaultEnded, RunEnded, CanBeLost}
+use Rattle.run_command.specs.Ends.{RunEnding, NothingDone, Unbegun, NoneFaulted, RunCaused, FaultEnded, RunEnded, CanBeLost}
 use Rattle.run_command.specs.Paired.{unfinished_of, IsRunFault}
 
--- the cause of an ending, before its line is written
-abbrev pub StopCaused : Seen → List Entry → RunEnding → Type 0
-StopCaused seen es (Ok done) = NoneFaulted seen
-StopCaused seen es (Err fault) = HaltCaused seen es fault
+-- the line of a fault of a device that there is isn't lost
+at_hand : (A : Type 0) (device : ℕ) → 2 ≤ device → device < 2 → A
+at_hand A device lost is = absurd (omega (arith, lost, is))
 
 module _ (seen : Seen) (es : List Entry) where
-  pub caused_as : (r : RunEnding) → IfErr r IsRunFault → StopCaused seen es r → RunCaused seen es r
-  caused_as (Ok done) kind c = c
-  caused_as (Err FileFault) kind c = c
-  caused_as (Err (SwapReadFault device)) kind c = c
-  caused_as (Err (SwapWriteFault device)) kind c = c
-  caused_as (Err JournalFull) kind c = c
-  caused_as (Err (NoSpace pid)) kind c = c
-  caused_as (Err NoMemory) kind c = inl c
-  caused_as (Err _) kind c = absurd kind
+  pub none_faulted : Unbegun seen es → NoneFaulted seen
+  none_faulted u = let n : NothingDone seen es = u.nothing in record { files = u.files; reads = n.reads; writes = n.writes }
 
-  -- Where the line of a halt is lost, that is want of memory.
-  pub lost_caused : (r : RunEnding) → IfErr r IsRunFault → CanBeLost r → StopCaused seen es r → RunCaused seen es (Err NoMemory)
+  -- Where the line of a halt is lost, that is want of memory, and no call failed.
+  pub lost_caused : (r : RunEnding) → IfErr r IsRunFault → CanBeLost r → RunCaused seen es r → RunCaused seen es (Err NoMemory)
   lost_caused (Ok done) kind lost c = absurd lost
-  lost_caused (Err (SwapReadFault device)) kind lost c = inr (SwapReadFault device, lost, c)
-  lost_caused (Err (SwapWriteFault device)) kind lost c = inr (SwapWriteFault device, lost, c)
-  lost_caused (Err (NoSpace pid)) kind lost c = inr (NoSpace pid, lost, c)
+  lost_caused (Err (SwapReadFault device)) kind lost c = at_hand (NoneFaulted seen) device lost c.read.0
+  lost_caused (Err (SwapWriteFault device)) kind lost c = at_hand (NoneFaulted seen) device lost c.write.0
+  lost_caused (Err (NoSpace pid)) kind lost c = none_faulted c
   lost_caused (Err FileFault) kind lost c = absurd lost
   lost_caused (Err JournalFull) kind lost c = absurd lost
   lost_caused (Err NoMemory) kind lost c = absurd lost
   lost_caused (Err _) kind lost c = absurd kind
 
 module _ (seen : Seen) (A : Inputs) (es : List Entry) (image : List ℕ) where
-  pub run_ended : (r : RunEnding) → IfErr r IsRunFault → StopCaused seen es r → RunEnds A es image (unfinished_of r) seen.swap_after → RunEnded seen A es image r
+  pub run_ended : (r : RunEnding) → IfErr r IsRunFault → RunCaused seen es r → RunEnds A es image (unfinished_of r) seen.swap_after → RunEnded seen A es image r
   run_ended (Ok done) kind c e = e
   run_ended (Err FileFault) kind c e = e
   run_ended (Err (SwapReadFault device)) kind c e = e
   run_ended (Err (SwapWriteFault device)) kind c e = e
   run_ended (Err JournalFull) kind c e = e
   run_ended (Err (NoSpace pid)) kind c e = e
-  run_ended (Err NoMemory) kind c e = inl (c, e)
+  run_ended (Err NoMemory) kind c e = (c, e)
   run_ended (Err _) kind c e = absurd kind
 
-  pub lost_ended : (r : RunEnding) → IfErr r IsRunFault → CanBeLost r → StopCaused seen es r → RunEnded seen A es image r → RunEnded seen A es image (Err NoMemory)
+  pub lost_ended : (r : RunEnding) → IfErr r IsRunFault → CanBeLost r → RunCaused seen es r → RunEnded seen A es image r → RunEnded seen A es image (Err NoMemory)
   lost_ended (Ok done) kind lost c e = absurd lost
-  lost_ended (Err (SwapReadFault device)) kind lost c e = inr (SwapReadFault device, lost, (c, e))
-  lost_ended (Err (SwapWriteFault device)) kind lost c e = inr (SwapWriteFault device, lost, (c, e))
-  lost_ended (Err (NoSpace pid)) kind lost c e = inr (NoSpace pid, lost, (c, e))
+  lost_ended (Err (SwapReadFault device)) kind lost c e = at_hand (RunEnded seen A es image (Err NoMemory)) device lost c.read.0
+  lost_ended (Err (SwapWriteFault device)) kind lost c e = at_hand (RunEnded seen A es image (Err NoMemory)) device lost c.write.0
+  lost_ended (Err (NoSpace pid)) kind lost c e = (none_faulted seen es c, inl e.0)
   lost_ended (Err FileFault) kind lost c e = absurd lost
   lost_ended (Err JournalFull) kind lost c e = absurd lost
   lost_ended (Err NoMemory) kind lost c e = absurd lost
@@ -83,9 +75,8 @@ module _ (A : Inputs) (es : List Entry) (image : List ℕ) (after : Option (List
 pub ended_flat : (seen : Seen) (A : Inputs) (es : List Entry) (image : List ℕ) (r : RunEnding) → A.limit ≤ MOST_LIMIT → HaveNumbers es
     → RunEnded seen A es image r → (traced : Bool) → IsFlatText A traced es
 ended_flat seen A es image (Ok done) limit numbers e traced = made_flat A es image seen.swap_after limit numbers traced e.state e.made
-ended_flat seen A es image (Err NoMemory) limit numbers (inl (calm, inl none)) traced = none_flat A es image seen.swap_after limit numbers traced none.0
-ended_flat seen A es image (Err NoMemory) limit numbers (inl (calm, inr starved)) traced = made_flat A es image seen.swap_after limit numbers traced starved.state starved.made
-ended_flat seen A es image (Err NoMemory) limit numbers (inr lost) traced = fault_flat A es image seen.swap_after limit numbers traced lost.0 lost.2.1
+ended_flat seen A es image (Err NoMemory) limit numbers (calm, inl none) traced = none_flat A es image seen.swap_after limit numbers traced none.0
+ended_flat seen A es image (Err NoMemory) limit numbers (calm, inr starved) traced = made_flat A es image seen.swap_after limit numbers traced starved.state starved.made
 ended_flat seen A es image (Err FileFault) limit numbers e traced = fault_flat A es image seen.swap_after limit numbers traced FileFault e
 ended_flat seen A es image (Err (SwapReadFault device)) limit numbers e traced = fault_flat A es image seen.swap_after limit numbers traced (SwapReadFault device) e
 ended_flat seen A es image (Err (SwapWriteFault device)) limit numbers e traced = fault_flat A es image seen.swap_after limit numbers traced (SwapWriteFault device) e

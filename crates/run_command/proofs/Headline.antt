@@ -9,7 +9,6 @@ use Rattle.run_files.specs.declared.answers.Unread.{Unread}
 use Rattle.run_files.specs.ImageWords.{image_names}
 use Rattle.vm_core.specs.Headline.{Headline, HeadlineOver}
 use Rattle.vm_core.proofs.Headlines.{carries_headline, headline_over}
-use Rattle.command_ending.specs.declared.fault.Fault.{Fault}
 use Rattle.command_ending.specs.declared.fault.Fault.TheVariants.{Absent, NotImage, BadSchedule, FileFault, SwapReadFault, SwapWriteFault, NoMemory, JournalFull, NoSpace, ShortDevice}
 use Rattle.command_ending.specs.Named.{Why}
 use Rattle.command_words.specs.Asked.{Request}
@@ -18,7 +17,7 @@ use Rattle.run_opening.specs.Images.{images_found}
 use Rattle.run_command.specs.Asking.{AsksFor}
 use Rattle.run_command.specs.Paired.{image_together}
 use Rattle.run_command.specs.Seen.{Seen}
-use Rattle.run_command.specs.Ends.{RunEnding, IsCaused, IsJudged, FaultEnded, RunEnded, RunOfWords, EndsTold, Runs}
+use Rattle.run_command.specs.Ends.{RunEnding, IsCaused, IsJudged, RunEnded, RunOfWords, EndsTold, Runs}
 use Rattle.run_command.proofs.Found.{no_absent, no_bad_event}
 use Rattle.run_command.specs.Headlines.{OfWords, AskForNothing, HeadlineOfWords, Says, CarriesHeadline}
 
@@ -36,20 +35,10 @@ module _ (request : Request) (files : List NamedFile) where
 
 -- How a run ended.
 
-module _ (A : Inputs) (es : List Entry) (image : List ℕ) (after : Option (List ℕ)) where
-  halted : (fault : Fault) → FaultEnded A es image after fault → (es ≡ []) ⊎ Headline A es
-  halted FileFault e = inr (carries_headline A es e.state e.made)
-  halted (SwapReadFault device) e = inr (carries_headline A es e.state e.made)
-  halted (SwapWriteFault device) e = inr (carries_headline A es e.state e.made)
-  halted JournalFull e = inr (carries_headline A es e.state e.made)
-  halted (NoSpace pid) e = inl e.0.0
-  halted _ e = absurd e
-
 -- where memory lacked, nothing ran, or the headline holds
 lacked : (seen : Seen) (A : Inputs) (es : List Entry) (image : List ℕ) → RunEnded seen A es image (Err NoMemory) → (es ≡ []) ⊎ Headline A es
-lacked seen A es image (inl (calm, inl none)) = inl none.0
-lacked seen A es image (inl (calm, inr starved)) = inr (carries_headline A es starved.state starved.made)
-lacked seen A es image (inr lost) = halted A es image seen.swap_after lost.0 lost.2.1
+lacked seen A es image (calm, inl none) = inl none.0
+lacked seen A es image (calm, inr starved) = inr (carries_headline A es starved.state starved.made)
 
 module _ (request : Request) (seen : Seen) (files : List NamedFile) (es : List Entry) (image : List ℕ) where
   starved_words : RunOfWords request seen files es image (Err NoMemory) → (es ≡ []) ⊎ HeadlineOfWords request files es

@@ -24,7 +24,7 @@ use Rattle.run_command.specs.Loads.{load_inputs, load_numbers, load_written, Cou
 use Rattle.run_command.proofs.LoadSpace.{all_start}
 use Rattle.run_command.proofs.Counted.{counted_by}
 use Rattle.run_command.proofs.LoadLength.{load_fits}
-use Rattle.run_command.proofs.Endings.{StopCaused, caused_as, lost_caused, run_ended, lost_ended}
+use Rattle.run_command.proofs.Endings.{none_faulted, lost_caused, run_ended, lost_ended}
 
 -- Writing.
 
@@ -77,7 +77,7 @@ as_run (Err _) began = absurd began
 load_stops : (seen : Seen) (journal : List Entry) (r : RunEnding) → IsRunEnding r → NoFaults seen.faults → ReadsFail r seen.reads → WritesFail r seen.writes
     → ((pid : ℕ) → r ≡ Err (faults.NoSpace pid) → journal ≡ [])
     → ((pid : ℕ) → r ≡ Err (faults.NoSpace pid) → seen.swap_after ≡ seen.swap_before) → (r ≡ Err faults.JournalFull → length journal ≡ journal_entries)
-    → StopCaused seen journal r
+    → RunCaused seen journal r
 load_stops seen journal (Ok done) began files reads writes none same full = record { files = files; reads = reads; writes = writes }
 load_stops seen journal (Err faults.FileFault) began files reads writes none same full = absurd began
 load_stops seen journal (Err (faults.SwapReadFault device)) began files reads writes none same full = record { files = files; read = reads; writes = writes }
@@ -90,14 +90,14 @@ load_stops seen journal (Err _) began files reads writes none same full = absurd
 
 -- The lines of an ending found no memory: that is want of memory, also of a run that is finished.
 
-counts_lost_caused : (seen : Seen) (journal : List Entry) (r : RunEnding) → IsRunEnding r → CountsBeLost r → StopCaused seen journal r
+counts_lost_caused : (seen : Seen) (journal : List Entry) (r : RunEnding) → IsRunEnding r → CountsBeLost r → RunCaused seen journal r
     → RunCaused seen journal (Err faults.NoMemory)
-counts_lost_caused seen journal (Ok done) began lost c = inl c
+counts_lost_caused seen journal (Ok done) began lost c = c
 counts_lost_caused seen journal (Err fault) began lost c = lost_caused seen journal (Err fault) (as_run (Err fault) began) lost c
 
-counts_starve : (seen : Seen) (A : Inputs) (journal : List Entry) (image : List ℕ) (r : RunEnding) → IsRunEnding r → CountsBeLost r → StopCaused seen journal r
+counts_starve : (seen : Seen) (A : Inputs) (journal : List Entry) (image : List ℕ) (r : RunEnding) → IsRunEnding r → CountsBeLost r → RunCaused seen journal r
     → RunEnded seen A journal image r → RunEnded seen A journal image (Err faults.NoMemory)
-counts_starve seen A journal image (Ok done) began lost c e = inl (c, inr (record { state = e.state; made = e.made; left = e.left }))
+counts_starve seen A journal image (Ok done) began lost c e = (c, inr (record { state = e.state; made = e.made; left = e.left }))
 counts_starve seen A journal image (Err fault) began lost c e = lost_ended seen A journal image (Err fault) (as_run (Err fault) began) lost c e
 
 other_fault : (pid : ℕ) → (let r : RunEnding = Err faults.NoMemory in r) ≡ Err (faults.NoSpace pid) → ⊥
@@ -105,13 +105,13 @@ other_fault pid e = cc
 
 -- the run of a machine, as it was written
 load_runs : (IsOf : Inputs → List ℕ → Type 0) (Starts : Inputs → Type 0) (number : ℕ) (seen : Seen) (status : ℕ) (journal : List Entry) (r : RunEnding)
-    → IsRunEnding r → length journal ≤ journal_entries → StopCaused seen journal r
+    → IsRunEnding r → length journal ≤ journal_entries → RunCaused seen journal r
     → ((A : Inputs) → Starts A → (pid : ℕ) → r ≡ Err (faults.NoSpace pid) → start_held A ≡ Err pid)
     → ((A : Inputs) (image : List ℕ) → IsOf A image → seen.swap_before ≡ Some image → RunEnded seen A journal image r)
     → WritesCounts number journal r seen.written_before seen.written_after seen.sink_faults_before seen.sink_faults_after status
     → LoadRuns IsOf Starts number seen status
 load_runs IsOf Starts number seen status journal r began within caused space ended (inl w) =
-    record { ending = r; journal = journal; writes = w; within = within; caused = caused_as seen journal r (as_run r began) caused; began = began; space = space; ended = ended }
+    record { ending = r; journal = journal; writes = w; within = within; caused = caused; began = began; space = space; ended = ended }
 load_runs IsOf Starts number seen status journal r began within caused space ended (inr (lost, w)) = record {
   ending = Err faults.NoMemory;
   journal = journal;
@@ -144,7 +144,7 @@ pub load_unmade : (IsOf : Inputs → List ℕ → Type 0) (Starts : Inputs → T
     → WritesCounts number [] (Err faults.NoMemory) seen.written_before seen.written_after seen.sink_faults_before seen.sink_faults_after status
     → LoadRuns IsOf Starts number seen status
 load_unmade IsOf Starts number seen status same none w =
-    load_runs IsOf Starts number seen status [] (Err faults.NoMemory) tt (omega arith) none (λ A starts pid e. absurd (other_fault pid e)) (λ A image is told. inl (none, inl (refl, same ∙ told))) w
+    load_runs IsOf Starts number seen status [] (Err faults.NoMemory) tt (omega arith) none (λ A starts pid e. absurd (other_fault pid e)) (λ A image is told. (none, inl (refl, same ∙ told))) w
 
 -- Loads.
 
@@ -158,8 +158,7 @@ load_caused seen journal (Err (faults.SwapReadFault device)) began never c d = (
 load_caused seen journal (Err (faults.SwapWriteFault device)) began never c d = (c, d)
 load_caused seen journal (Err faults.JournalFull) began never c d = (c, d)
 load_caused seen journal (Err (faults.NoSpace pid)) began never c d = absurd (never pid refl)
-load_caused seen journal (Err faults.NoMemory) began never (inl none) d = inl none
-load_caused seen journal (Err faults.NoMemory) began never (inr lost) d = inr (lost, d)
+load_caused seen journal (Err faults.NoMemory) began never c d = inr (c, d)
 load_caused seen journal (Err _) began never c d = absurd began
 
 load_ended : (number : ℕ) (seen : Seen) (journal : List Entry) (image : List ℕ) (r : RunEnding) → IsRunEnding r
@@ -199,17 +198,18 @@ pub loads_unmade : (number : ℕ) (seen : Seen) (status : ℕ) → seen.swap_aft
     → Loads number seen status
 loads_unmade number seen status same none (inl w) =
     let ends : (image : List ℕ) → seen.swap_before ≡ Some image → LoadEnded number seen [] image (Err faults.NoMemory)
-    = λ image told. inl (none, inl (refl, same ∙ told)) in
+    = λ image told. (none, inl (refl, same ∙ told)) in
+    let unbegun : Unbegun seen [] = record { nothing = record { journal_is = refl; swap = same; reads = none.reads; writes = none.writes }; files = none.files } in
     record {
       ending = Err faults.NoMemory;
       journal = [];
       writes = w;
       within = omega arith;
-      caused = inl none;
+      caused = inl unbegun;
       files = none.files;
       told = ends;
       counted = counted_by number seen status [] (Err faults.NoMemory) w ends;
-      fits = load_fits number seen status [] (Err faults.NoMemory) w (inl none) ends;
+      fits = load_fits number seen status [] (Err faults.NoMemory) w (inl unbegun) ends;
     }
 loads_unmade number seen status same none (inr never) = absurd never.0
 
@@ -223,9 +223,6 @@ is_short : (zero_short one_short : Bool) (z zn o on : ℕ) (fault : Fault)
 is_short true one_short z zn o on fault e = let same : faults.ShortDevice 0 z zn ≡ fault = cc in subst IsShort same tt
 is_short false true z zn o on fault e = let same : faults.ShortDevice 1 o on ≡ fault = cc in subst IsShort same tt
 is_short false false z zn o on fault e = absurd cc
-
-as_faulted : (seen : Seen) (journal : List Entry) → Unbegun seen journal → NoneFaulted seen
-as_faulted seen journal u = let n : NothingDone seen journal = u.nothing in record { files = u.files; reads = n.reads; writes = n.writes }
 
 loads_short : (number : ℕ) (seen : Seen) (status : ℕ) (fault : Fault) → IsShort fault
     → device_fault load_numbers.swap seen.zero_blocks seen.one_blocks ≡ Some fault → Unbegun seen []
@@ -245,7 +242,7 @@ loads_short number seen status (faults.ShortDevice device blocks needed) short i
       fits = load_fits number seen status [] (Err (faults.ShortDevice device blocks needed)) w (done, is) ends;
     }
 loads_short number seen status (faults.ShortDevice device blocks needed) short is done (inr (lost, w)) =
-    loads_unmade number seen status (let n : NothingDone seen [] = done.nothing in n.swap) (as_faulted seen [] done) (inl w)
+    loads_unmade number seen status (let n : NothingDone seen [] = done.nothing in n.swap) (none_faulted seen [] done) (inl w)
 loads_short number seen status _ short is done w = absurd short
 
 pub loads_judged : (number : ℕ) (seen : Seen) (status : ℕ) (fault : Fault)

@@ -34,7 +34,7 @@ use Rattle.run_command.specs.Paired.{image_together, unfinished_of, IsRunFault, 
 use Rattle.run_command.specs.Ends.{RunEnding, NothingDone, Unbegun, NoneFaulted, RunCaused, DevicesSuffice, IsCaused, AllGood, IsJudged, RunEnded, RunOfWords, EndsTold, WritesRun, Writing, RunsOpened, Runs}
 use Rattle.run_command.proofs.Openings.{shown_facts}
 use Rattle.run_command.proofs.Inputs.{KnownOpening, inputs_of, asks_for, is_asked_of}
-use Rattle.run_command.proofs.Endings.{StopCaused, caused_as, lost_caused, lost_ended, ended_flat}
+use Rattle.run_command.proofs.Endings.{lost_caused, lost_ended, ended_flat}
 
 -- The machine of what was opened.
 
@@ -87,7 +87,7 @@ pub run_caused : (seen : Seen) (es : List Entry) (r : RunEnding) → IfErr r IsR
     → CountsFileFaults (stop_of (stopped_as (unfinished_of r))) seen.faults.page_before seen.faults.page_after
     → ReadsFail r seen.reads → WritesFail r seen.writes → ((pid : ℕ) → r ≡ Err (NoSpace pid) → es ≡ [])
     → ((pid : ℕ) → r ≡ Err (NoSpace pid) → seen.swap_after ≡ seen.swap_before)
-    → (r ≡ Err JournalFull → length es ≡ journal_entries) → StopCaused seen es r
+    → (r ≡ Err JournalFull → length es ≡ journal_entries) → RunCaused seen es r
 run_caused seen es (Ok done) kind opens pages reads writes none same full =
     record { files = record { open_same = opens; page_same = pages }; reads = reads; writes = writes }
 run_caused seen es (Err FileFault) kind opens pages reads writes none same full = record { page = (opens, pages); reads = reads; writes = writes }
@@ -108,10 +108,10 @@ run_caused seen es (Err _) kind opens pages reads writes none same full = absurd
 
 pub opened_runs : (IsOf : Inputs → List ℕ → Type 0) (traced : Bool) (seen : Seen) (es : List Entry) (r : RunEnding) (status : ℕ)
     → WritesRun traced es r seen.written_before seen.written_after seen.sink_faults_before seen.sink_faults_after status → HaveNumbers es
-    → length es ≤ journal_entries → StopCaused seen es r → IfErr r IsRunFault
+    → length es ≤ journal_entries → RunCaused seen es r → IfErr r IsRunFault
     → ((A : Inputs) (image : List ℕ) → IsOf A image → seen.swap_before ≡ Some image → RunEnded seen A es image r) → RunsOpened IsOf traced seen status
 opened_runs IsOf traced seen es r status (inl writes) numbers within caused kind ended =
-    record { ending = r; journal = es; writes = writes; within = within; caused = caused_as seen es r kind caused; numbers = numbers; ended = ended }
+    record { ending = r; journal = es; writes = writes; within = within; caused = caused; numbers = numbers; ended = ended }
 opened_runs IsOf traced seen es r status (inr (lost, writes)) numbers within caused kind ended = record {
   ending = Err NoMemory;
   journal = es;
@@ -126,7 +126,7 @@ pub opened_lacking : (IsOf : Inputs → List ℕ → Type 0) (traced : Bool) (se
     → WritesRun traced [] (Err NoMemory) seen.written_before seen.written_after seen.sink_faults_before seen.sink_faults_after status
     → seen.swap_after ≡ seen.swap_before → NoneFaulted seen → RunsOpened IsOf traced seen status
 opened_lacking IsOf traced seen status (inl writes) same none =
-    record { ending = Err NoMemory; journal = []; writes = writes; within = omega arith; caused = inl none; numbers = tt; ended = λ A image is told. inl (none, inl (refl, same ∙ told)) }
+    record { ending = Err NoMemory; journal = []; writes = writes; within = omega arith; caused = none; numbers = tt; ended = λ A image is told. (none, inl (refl, same ∙ told)) }
 opened_lacking IsOf traced seen status (inr (lost, writes)) same none = absurd lost
 
 -- The same for the words.

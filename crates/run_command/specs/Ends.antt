@@ -85,14 +85,9 @@ HaltCaused seen journal JournalFull = NoneFaulted seen × (length journal ≡ jo
 HaltCaused seen journal NoMemory = NoneFaulted seen
 HaltCaused seen journal _ = ⊥
 
--- the line of a fault found no memory; this is so of the fault
-abbrev pub LineLost : (Fault → Type 0) → Type 0
-LineLost IsSo = (fault : Fault) × NeedsMemory fault × IsSo fault
-
--- Of a run that may have begun. Where memory is wanted, that may be for the line of another fault, which has its own cause.
+-- the cause of the ending of a run that may have begun
 abbrev pub RunCaused : Seen → List Entry → RunEnding → Type 0
 RunCaused seen journal (Ok done) = NoneFaulted seen
-RunCaused seen journal (Err NoMemory) = HaltCaused seen journal NoMemory ⊎ LineLost (HaltCaused seen journal)
 RunCaused seen journal (Err fault) = HaltCaused seen journal fault
 
 -- the devices have as many blocks as a swap of so many needs of them
@@ -149,13 +144,11 @@ FaultEnded A journal image after JournalFull = RunHalted A journal stops.Journal
 FaultEnded A journal image after (NoSpace pid) = NoneMade journal image after × (start_held A ≡ Err pid)
 FaultEnded A journal image after _ = ⊥
 
--- Want of memory may come at any place, before anything was done too. It may also come for the line of another fault, by which the run
--- had halted then.
+-- Want of memory may come at any place, before anything was done too, but in place of no failed call.
 abbrev pub RunEnded : Seen → Inputs → List Entry → List ℕ → RunEnding → Type 0
 RunEnded seen A journal image (Ok done) = RunFinished A journal image seen.swap_after
 RunEnded seen A journal image (Err NoMemory) =
-    (NoneFaulted seen × (NoneMade journal image seen.swap_after ⊎ RunStarved A journal image seen.swap_after))
-    ⊎ LineLost (λ fault. HaltCaused seen journal fault × FaultEnded A journal image seen.swap_after fault)
+    NoneFaulted seen × (NoneMade journal image seen.swap_after ⊎ RunStarved A journal image seen.swap_after)
 RunEnded seen A journal image (Err fault) = FaultEnded A journal image seen.swap_after fault
 
 -- It ended so for inputs that the words ask for. A judge of transcripts accepts the text of its journal over the images of these inputs,

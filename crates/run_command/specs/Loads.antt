@@ -17,7 +17,7 @@ use Rattle.load_laws.specs.Left.{load_counts}
 use Rattle.run_command.specs.Seen.{Seen}
 use Rattle.run_command.specs.Machines.{journal_entries}
 use Rattle.run_command.specs.Paired.{IsRunFault}
-use Rattle.run_command.specs.Ends.{RunEnding, status_of, Unbegun, HaltCaused, LineLost, RunCaused, DevicesSuffice, RunEnded}
+use Rattle.run_command.specs.Ends.{RunEnding, status_of, Unbegun, NoneFaulted, RunCaused, DevicesSuffice, RunEnded}
 
 -- ---- the inputs
 
@@ -74,15 +74,15 @@ WritesCounts number journal ending before after old_faults new_faults status =
 
 -- ---- the ending
 
--- The cause of an ending: that of a run, over devices that suffice; or a device is too short, and nothing was done. A file is never the
--- cause, since the files are in memory; nor is want of swap space for a first process, since the pieces of all find their places.
+-- The cause of an ending: that of a run, over devices that suffice; or a device is too short, or memory lacked first, and nothing was done.
+-- A file is never the cause, since the files are in memory; nor is want of swap space for a first process, since the pieces of all find
+-- their places.
 abbrev pub IsLoadCaused : Seen → List Entry → RunEnding → Type 0
 IsLoadCaused seen journal (Err (ShortDevice device blocks needed)) =
     Unbegun seen journal × (device_fault load_numbers.swap seen.zero_blocks seen.one_blocks ≡ Some (ShortDevice device blocks needed))
 IsLoadCaused seen journal (Err FileFault) = ⊥
 IsLoadCaused seen journal (Err (NoSpace pid)) = ⊥
-IsLoadCaused seen journal (Err NoMemory) =
-    HaltCaused seen journal NoMemory ⊎ (LineLost (HaltCaused seen journal) × DevicesSuffice load_numbers.swap seen)
+IsLoadCaused seen journal (Err NoMemory) = Unbegun seen journal ⊎ (NoneFaulted seen × DevicesSuffice load_numbers.swap seen)
 IsLoadCaused seen journal ending = RunCaused seen journal ending × DevicesSuffice load_numbers.swap seen
 
 -- How the run ended, where the devices are told. Where a device is short, nothing was done.

@@ -3,7 +3,7 @@ ghost use Rattle.io_edge.specs.Calls.{KeepsFiles};
 ghost use Rattle.aout_image.specs.Image.{IsSound, file_length_of, pages_of, offset_of, given_of};
 ghost use Rattle.run_files.specs.Told.{image_told};
 ghost use Rattle.command_ending.specs.Ending.{ending_of};
-ghost use Rattle.command_ending.specs.Command.{Made};
+ghost use Rattle.command_ending.specs.Command.{EndCounted, Made};
 ghost use Rattle.source_commands.specs.Listing.{code_at};
 ghost use Rattle.source_commands.specs.Command.{Lists, EndsListing};
 
@@ -55,6 +55,12 @@ fn listing_from<'a, F: Files>(
           page_before = F.page_faults files.old;
           page_after = F.page_faults files.new;
         }) (ending_of result) }
+    ensures counted { EndCounted (ending_of result) (record {
+      open_before = F.open_faults files.old;
+      open_after = F.open_faults files.new;
+      page_before = F.page_faults files.old;
+      page_after = F.page_faults files.new;
+    }) }
     ensures kept { KeepsFiles F.Files files.old files.new }
 {
     let loaded = match load_image(alloc, files, name) {

@@ -3,7 +3,7 @@ ghost use Rattle.io_edge.specs.Calls.{KeepsFiles};
 ghost use Rattle.io_edge.specs.FileHolding.{NamedFile};
 ghost use Rattle.run_files.specs.Told.{bytes_told};
 ghost use Rattle.command_ending.specs.Ending.{ending_of};
-ghost use Rattle.command_ending.specs.Command.{Made};
+ghost use Rattle.command_ending.specs.Command.{EndCounted, Made};
 ghost use Rattle.source_commands.specs.Command.{source_bytes, Assembles, EndsAssembly};
 
 use crate::program_file::file_of;
@@ -34,6 +34,12 @@ fn file_from<'a, F: Files>(
           page_before = F.page_faults files.old;
           page_after = F.page_faults files.new;
         }) (ending_of result) }
+    ensures counted { EndCounted (ending_of result) (record {
+      open_before = F.open_faults files.old;
+      open_after = F.open_faults files.new;
+      page_before = F.page_faults files.old;
+      page_after = F.page_faults files.new;
+    }) }
     ensures kept { KeepsFiles F.Files files.old files.new }
 {
     let source = match read_file(alloc, files, name, SOURCE_BYTES) {

@@ -9,3 +9,4 @@ pub mod Headline
 pub mod Complete
 pub mod Explaining
 pub mod InMemory
+pub mod Failing

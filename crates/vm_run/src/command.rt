@@ -3,6 +3,7 @@ ghost use Rattle.command_words.specs.Asked.{request_of, asked_of};
 ghost use Rattle.reference_commands.specs.Outside.{KeepsOutside};
 ghost use Rattle.reference_commands.specs.Sight.{seen_of_all};
 ghost use Rattle.vm_run.specs.Headline.{CarriesFor};
+ghost use Rattle.vm_run.specs.Failing.{FailsByStatus};
 ghost use Rattle.vm_run.specs.Obeying.{Obeys, LeavesFiles, LeavesDevice};
 
 use command_ending::{Fault, write_ending};
@@ -15,17 +16,8 @@ use replay_command::replay_file;
 use source_commands::{assemble_file, list_file};
 use std::alloc::Global;
 
-/// Does what the words of a command line ask for, without the program's name, over files, two swap devices and an
-/// output, and answers the exit status: 0 where it was done; 1 bad words; 2 an absent file; 3 no image; 4 a bad schedule;
-/// 5 a file fault; 6 a fault of a swap device that is read, 7 of one that is written; 8 a fault of the output; 9 want of
-/// memory; 10 a full journal; 11 no swap for a first process; 12 a swap device that is too short; 14 a transcript that is no run;
-/// 15 a bad transcript; 16 one that is too long, or a file of references; 17 a bad source; 18 a bad line of references. The first
-/// thing met decides, but an output that fails gives 8
-/// whatever came before (this project's profile).
-///
-/// A run reads its pages from the files, and a load from files of its own in memory; both write to the swap devices and read from
-/// them. Other commands leave the devices as they are: the runs of `opt`, `curve`, `owners`, `film`, `stats` and `refs` have a swap of their own in memory.
-pub fn vmrun<F: Files, D: SwapDev, E: SwapDev, S: Sink>(
+// Does what the words of a command line ask for, and answers the status.
+fn obey<F: Files, D: SwapDev, E: SwapDev, S: Sink>(
     alloc: Global,
     words: &[&str],
     files: &mut F,
@@ -157,4 +149,39 @@ pub fn vmrun<F: Files, D: SwapDev, E: SwapDev, S: Sink>(
         }
         None => write_ending(alloc, sink, Err(Fault::BadWords)),
     }
+}
+
+/// Does what the words of a command line ask for, without the program's name, over files, two swap devices and an
+/// output, and answers the exit status: 0 where it was done; 1 bad words; 2 an absent file; 3 no image; 4 a bad schedule;
+/// 5 a file fault; 6 a fault of a swap device that is read, 7 of one that is written; 8 a fault of the output; 9 want of
+/// memory; 10 a full journal; 11 no swap for a first process; 12 a swap device that is too short; 14 a transcript that is no run;
+/// 15 a bad transcript; 16 one that is too long, or a file of references; 17 a bad source; 18 a bad line of references. The first
+/// thing met decides, but an output that fails gives 8
+/// whatever came before (this project's profile).
+///
+/// At 5, 6, 7 and 8 just one call failed of the kind that the status names: of a file, a read of a swap device, a write of one, of the
+/// output. At 8 one of the others may have failed before, and at any other status none failed.
+///
+/// A run reads its pages from the files, and a load from files of its own in memory; both write to the swap devices and read from
+/// them. Other commands leave the devices as they are: the runs of `opt`, `curve`, `owners`, `film`, `stats` and `refs` have a swap of their own in memory.
+pub fn vmrun<F: Files, D: SwapDev, E: SwapDev, S: Sink>(
+    alloc: Global,
+    words: &[&str],
+    files: &mut F,
+    zero: &mut D,
+    one: &mut E,
+    sink: &mut S,
+) -> u8
+    ensures obeys { Obeys (asked_of (map (λ word. word.now) words.now))
+        (seen_of_all F.Files D.SwapDev E.SwapDev S.Sink files.old files.new zero.old zero.new one.old one.new sink.old sink.new) result }
+    ensures headline { CarriesFor (request_of (map (λ word. word.now) words.now)) (F.holds files.old) (D.image zero.old) (E.image one.old)
+        (D.blocks zero.old) (E.blocks one.old) (S.written sink.old) (S.written sink.new) (S.faults sink.old) (S.faults sink.new) result }
+    ensures files { LeavesFiles (asked_of (map (λ word. word.now) words.now)) (files.new ≡ files.old) }
+    ensures kept { KeepsOutside F.Files D.SwapDev E.SwapDev S.Sink files.old files.new zero.old zero.new one.old one.new sink.old sink.new }
+    ensures zero { LeavesDevice (asked_of (map (λ word. word.now) words.now)) result (zero.new ≡ zero.old) }
+    ensures one { LeavesDevice (asked_of (map (λ word. word.now) words.now)) result (one.new ≡ one.old) }
+    ensures fails { FailsByStatus
+        (seen_of_all F.Files D.SwapDev E.SwapDev S.Sink files.old files.new zero.old zero.new one.old one.new sink.old sink.new) result }
+{
+    obey(alloc, words, files, zero, one, sink)
 }

@@ -2,9 +2,10 @@ use Rattle.std.proofs.Common.{ℕ, List, Option, Ok, Err, Vec, Global, sym, ap, 
 use Rattle.std.specs.Option.{option_map}
 use Rattle.command_ending.specs.declared.fault.Fault.{Fault}
 use Rattle.command_ending.specs.Ending.{ending_of}
-use Rattle.command_ending.specs.Command.{Faults, Made}
+use Rattle.command_ending.specs.Command.{Faults, FaultCounted, Made}
+use Rattle.command_ending.proofs.Counting.{unread_counted}
 use Rattle.policy_command.specs.Command.{references_told, EndsText, EndsPolicies}
-use Rattle.policy_command.proofs.Compared.{file_ends, too_long, unread_file}
+use Rattle.policy_command.proofs.Compared.{text_counted, file_ends, too_long, unread_file}
 use Rattle.policy_command.proofs.command.text_from.Goals as goal
 
 pub returns-in-Ok-Some-clause-made : goal.returns-in-Ok-Some-clause-made
@@ -30,3 +31,19 @@ returns-in-Err-clause-made g c =
     subst (λ (e : Fault). Made (EndsPolicies c.args.frames c.args.name.now) (references_told c.args.name.now) (g.F.Files.holds c.args.files.now) f (Err e)) (sym c.of_unread.ensures)
     (unread_file {A = Option (Vec ℕ Global)} (option_map (λ (bytes : Vec ℕ Global). bytes.items)) c.args.frames c.args.name (g.F.Files.holds c.args.files.now) f c.in-Err.unread
     c.in-Err.ensures.answers c.in-Err.ensures.error c.in-Err.ensures.open_faults c.in-Err.ensures.page_faults)
+
+pub returns-in-Ok-Some-clause-counted : goal.returns-in-Ok-Some-clause-counted
+returns-in-Ok-Some-clause-counted g c =
+    text_counted c.args.frames _ _ (ending_of c.compare_on.result) (record { open_same = c.in-Ok-Some.ensures.open_faults; page_same = c.in-Ok-Some.ensures.page_faults })
+    c.compare_on.ensures
+
+pub returns-in-Err-clause-counted : goal.returns-in-Err-clause-counted
+returns-in-Err-clause-counted g c =
+    let f : Faults = record {
+      open_before = g.F.Files.open_faults c.args.files.now;
+      open_after = g.F.Files.open_faults c.read_whole.new.files;
+      page_before = g.F.Files.page_faults c.args.files.now;
+      page_after = g.F.Files.page_faults c.read_whole.new.files;
+    } in
+    subst (λ (e : Fault). FaultCounted e f) (sym c.of_unread.ensures)
+    (unread_counted (Option (Vec ℕ Global)) c.args.name c.in-Err.unread f c.in-Err.ensures.open_faults c.in-Err.ensures.page_faults)

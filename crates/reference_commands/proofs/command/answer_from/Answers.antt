@@ -4,16 +4,18 @@ use Rattle.run_files.specs.ImageWords.{image_names, first_images}
 use Rattle.replay_check.specs.Images.{FlatFile, AreNumbers}
 use Rattle.command_ending.specs.Ending.{Ending, ending_of}
 use Rattle.command_ending.specs.Named.{AnswersNamed}
-use Rattle.command_ending.specs.Command.{Faults, Made}
+use Rattle.command_ending.specs.Command.{Faults, EndCounted, Made}
+use Rattle.command_ending.proofs.Counting.{none_then, counted_then}
 use Rattle.run_opening.proofs.Lists.{few_started}
 use Rattle.replay_command.specs.Reading.{images_told}
+use Rattle.replay_command.proofs.Replays.{images_counted}
 use Rattle.reference_commands.specs.Reading.{read_told}
 use Rattle.reference_commands.specs.Asking.{Subject}
 use Rattle.reference_commands.specs.Ends.{EndsQuestion}
 use Rattle.reference_commands.specs.InMemory.{inputs_with, IsRunnable, EndsAnswer, AllDiffer}
 use Rattle.reference_commands.proofs.Names.{names_differ}
 use Rattle.reference_commands.proofs.Words.{short_names}
-use Rattle.reference_commands.proofs.Asked.{refused, schedule_ends, images_end, asked_ends}
+use Rattle.reference_commands.proofs.Asked.{opened_counted, refused, schedule_ends, images_end, answer_counted, asked_ends}
 use Rattle.reference_commands.proofs.command.answer_from.Goals as goal
 
 abbrev now_of : List (Bor (List ℕ)) → List (List ℕ)
@@ -122,3 +124,43 @@ returns-clause-made g c =
     (subst (λ (images : List FlatFile). ends images first c.in_ok-lines.lines.items) c.as_slice-2.ensures.value
     (subst (λ (numbers : List ℕ). ends c.as_slice-2.result.now numbers c.in_ok-lines.lines.items) (c.as_slice-4.ensures.value ∙ c.in_ok-naming.ensures.first)
     (subst (λ (lines : List Event). ends c.as_slice-2.result.now c.as_slice-4.result.now lines) c.as_slice-5.ensures.value c.answer_over.ensures)))
+
+pub returns-in_err-lines-clause-counted : goal.returns-in_err-lines-clause-counted
+returns-in_err-lines-clause-counted g c =
+    let f : Faults = record {
+      open_before = g.F.Files.open_faults c.args.files.now;
+      open_after = g.F.Files.open_faults c.open_schedule.new.files;
+      page_before = g.F.Files.page_faults c.args.files.now;
+      page_after = g.F.Files.page_faults c.open_schedule.new.files;
+    } in
+    let is : c.from_residual.result ≡ Err c.in_err-lines.field-0.0 = search rules in
+    subst (λ (e : Ending). EndCounted e f) (sym (ap ending_of is))
+    (opened_counted c.in_err-lines.field-0.0 f c.in_err-lines.ensures.open_faults c.in_err-lines.ensures.page_faults)
+
+pub returns-in_err-naming-clause-counted : goal.returns-in_err-naming-clause-counted
+returns-in_err-naming-clause-counted g c =
+    let f : Faults = record {
+      open_before = g.F.Files.open_faults c.args.files.now;
+      open_after = g.F.Files.open_faults c.open_schedule.new.files;
+      page_before = g.F.Files.page_faults c.args.files.now;
+      page_after = g.F.Files.page_faults c.open_schedule.new.files;
+    } in
+    let is : c.from_residual-in_err-naming.result ≡ Err c.in_err-naming.field-0.0 = search rules in
+    subst (λ (e : Ending). EndCounted e f) (sym (ap ending_of is ∙ ap Err c.in_err-naming.ensures.error)) c.in_ok-lines.ensures.ends.ends.0
+
+pub returns-in_err-images-clause-counted : goal.returns-in_err-images-clause-counted
+returns-in_err-images-clause-counted g c =
+    let f : Faults = record {
+      open_before = g.F.Files.open_faults c.args.files.now;
+      open_after = g.F.Files.open_faults c.load_images.new.files;
+      page_before = g.F.Files.page_faults c.args.files.now;
+      page_after = g.F.Files.page_faults c.load_images.new.files;
+    } in
+    let is : c.from_residual-in_err-images.result ≡ Err c.in_err-images.field-0.0 = search rules in
+    subst (λ (e : Ending). EndCounted e f) (sym (ap ending_of is))
+    (counted_then _ _ _ _ _ _ c.in_err-images.field-0.0 c.in_ok-lines.ensures.ends.ends.0
+    (images_counted (Vec FlatFile Global) _ c.in_err-images.field-0.0 c.in_err-images.ensures.faults))
+
+pub returns-clause-counted : goal.returns-clause-counted
+returns-clause-counted g c =
+    answer_counted c.args.question _ _ (ending_of c.answer_over.result) (none_then _ _ _ _ _ _ c.in_ok-lines.ensures.ends.ends.0 c.in_ok-images.ensures.faults) c.answer_over.ensures

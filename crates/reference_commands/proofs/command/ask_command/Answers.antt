@@ -18,4 +18,4 @@ returns-clause-answers g c =
     } in
     completed (EndsQuestion c.args.question subject) (read_told subject.schedule subject.words) (g.F.Files.holds c.args.files.now) f
     (g.S.Sink.written c.args.sink.now) (g.S.Sink.written c.write_ending.new.sink) (g.S.Sink.faults c.args.sink.now) (g.S.Sink.faults c.write_ending.new.sink) c.write_ending.result
-    (ending_of c.answer_from-made.result) (λ read. tt) c.answer_from-made.ensures.made c.write_ending.ensures.writes
+    (ending_of c.answer_from-made.result) (λ read. tt) c.answer_from-made.ensures.made c.answer_from-made.ensures.counted c.write_ending.ensures.writes

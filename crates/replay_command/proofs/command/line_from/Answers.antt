@@ -4,10 +4,11 @@ use Rattle.run_files.specs.ImageWords.{image_names, first_images}
 use Rattle.replay_check.specs.Images.{FlatFile}
 use Rattle.command_ending.specs.Ending.{Ending, ending_of}
 use Rattle.command_ending.specs.Named.{AnswersNamed}
-use Rattle.command_ending.specs.Command.{Faults, Made}
+use Rattle.command_ending.specs.Command.{Faults, EndCounted, Made}
+use Rattle.command_ending.proofs.Counting.{none_then, counted_then}
 use Rattle.replay_command.specs.Reading.{images_told, read_of_transcript}
 use Rattle.replay_command.specs.Command.{EndsVerdict, EndsReplay}
-use Rattle.replay_command.proofs.Replays.{transcript_ends, refused, images_end, judged_ends}
+use Rattle.replay_command.proofs.Replays.{transcript_ends, refused, images_counted, images_end, verdict_counted, judged_ends}
 use Rattle.replay_command.proofs.command.line_from.Goals as goal
 
 pub returns-in_err-entries-clause-made : goal.returns-in_err-entries-clause-made
@@ -69,3 +70,42 @@ returns-clause-made g c =
     (subst (λ (images : List FlatFile). EndsVerdict images (first_images (image_names words) words) c.in_ok-entries.entries.items (ending_of c.judge.result)) c.as_slice-2.ensures.value
     (subst (λ (first : List ℕ). EndsVerdict c.as_slice-2.result.now first c.in_ok-entries.entries.items (ending_of c.judge.result)) (c.as_slice-3.ensures.value ∙ c.in_ok-naming.ensures.first)
     (subst (λ (entries : List Entry). EndsVerdict c.as_slice-2.result.now c.as_slice-3.result.now entries (ending_of c.judge.result)) c.as_slice-4.ensures.value c.judge.ensures)))
+
+pub returns-in_err-entries-clause-counted : goal.returns-in_err-entries-clause-counted
+returns-in_err-entries-clause-counted g c =
+    let f : Faults = record {
+      open_before = g.F.Files.open_faults c.args.files.now;
+      open_after = g.F.Files.open_faults c.read_entries.new.files;
+      page_before = g.F.Files.page_faults c.args.files.now;
+      page_after = g.F.Files.page_faults c.read_entries.new.files;
+    } in
+    let is : c.from_residual.result ≡ Err c.in_err-entries.field-0.0 = search rules in
+    subst (λ (e : Ending). EndCounted e f) (sym (ap ending_of is)) c.in_err-entries.ensures.counted
+
+pub returns-in_err-naming-clause-counted : goal.returns-in_err-naming-clause-counted
+returns-in_err-naming-clause-counted g c =
+    let f : Faults = record {
+      open_before = g.F.Files.open_faults c.args.files.now;
+      open_after = g.F.Files.open_faults c.read_entries.new.files;
+      page_before = g.F.Files.page_faults c.args.files.now;
+      page_after = g.F.Files.page_faults c.read_entries.new.files;
+    } in
+    let is : c.from_residual-in_err-naming.result ≡ Err c.in_err-naming.field-0.0 = search rules in
+    subst (λ (e : Ending). EndCounted e f) (sym (ap ending_of is ∙ ap Err c.in_err-naming.ensures.error)) c.in_ok-entries.ensures.counted
+
+pub returns-in_err-images-clause-counted : goal.returns-in_err-images-clause-counted
+returns-in_err-images-clause-counted g c =
+    let f : Faults = record {
+      open_before = g.F.Files.open_faults c.args.files.now;
+      open_after = g.F.Files.open_faults c.load_images.new.files;
+      page_before = g.F.Files.page_faults c.args.files.now;
+      page_after = g.F.Files.page_faults c.load_images.new.files;
+    } in
+    let is : c.from_residual-in_err-images.result ≡ Err c.in_err-images.field-0.0 = search rules in
+    subst (λ (e : Ending). EndCounted e f) (sym (ap ending_of is))
+    (counted_then _ _ _ _ _ _ c.in_err-images.field-0.0 c.in_ok-entries.ensures.counted
+    (images_counted (Vec FlatFile Global) _ c.in_err-images.field-0.0 c.in_err-images.ensures.faults))
+
+pub returns-clause-counted : goal.returns-clause-counted
+returns-clause-counted g c =
+    verdict_counted _ _ _ _ (ending_of c.judge.result) (none_then _ _ _ _ _ _ c.in_ok-entries.ensures.counted c.in_ok-images.ensures.faults) c.judge.ensures

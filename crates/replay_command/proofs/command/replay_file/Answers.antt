@@ -17,4 +17,4 @@ returns-clause-replays g c =
     } in
     completed (EndsReplay c.args.transcript.now words) (read_of_transcript c.args.transcript.now words) (g.F.Files.holds c.args.files.now) f
     (g.S.Sink.written c.args.sink.now) (g.S.Sink.written c.write_ending.new.sink) (g.S.Sink.faults c.args.sink.now) (g.S.Sink.faults c.write_ending.new.sink) c.write_ending.result
-    (ending_of c.line_from-made.result) (λ read. tt) c.line_from-made.ensures.made c.write_ending.ensures.writes
+    (ending_of c.line_from-made.result) (λ read. tt) c.line_from-made.ensures.made c.line_from-made.ensures.counted c.write_ending.ensures.writes

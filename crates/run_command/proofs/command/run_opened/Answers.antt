@@ -10,9 +10,9 @@ use Rattle.run_command.specs.Seen.{Seen}
 use Rattle.run_command.specs.Naming.{shown_as}
 use Rattle.run_command.specs.Machines.{journal_entries, machine_of, IsOfOpening}
 use Rattle.run_command.specs.Paired.{image_together}
-use Rattle.run_command.specs.Ends.{NoneFaulted, WritesRun}
+use Rattle.run_command.specs.Ends.{NoneFaulted, RunCaused, WritesRun}
 use Rattle.run_command.proofs.Early.{left_together, run_early}
-use Rattle.run_command.proofs.Endings.{StopCaused, run_ended}
+use Rattle.run_command.proofs.Endings.{run_ended}
 use Rattle.run_command.proofs.Runs.{run_caused, opened_runs, opened_lacking}
 use Rattle.run_command.proofs.command.run_opened.Goals as goal
 
@@ -79,7 +79,7 @@ returns-clause-runs g c =
     = subst (λ (entries : List Entry). WritesRun c.args.traced entries r seen.written_before seen.written_after seen.sink_faults_before seen.sink_faults_after c.write_run-status.result)
     c.journal.ensures c.write_run-status.ensures.writes in
     let machine = c.in-Ok.ensures.machine ∙ ap (λ (images : List OpenedImage). machine_of c.args.numbers (map shown_as images)) c.as_slice.ensures.value in
-    let caused : StopCaused seen es r = run_caused seen es r ran.kind ran.files_read.open_faults ran.files_read.page_faults ran.reads ran.writes ran.none_made
+    let caused : RunCaused seen es r = run_caused seen es r ran.kind ran.files_read.open_faults ran.files_read.page_faults ran.reads ran.writes ran.none_made
     (λ pid is. left_together g.D.SwapDev g.E.SwapDev zero zero_after one one_after (ran.zero_left pid is) (ran.one_left pid is))
     (subst (λ (m : Standing). r ≡ Err JournalFull → length es ≡ m.params.journal) machine ran.full) in
     let within : length es ≤ journal_entries = subst (λ (m : Standing). length es ≤ m.params.journal) machine ran.within in

@@ -17,4 +17,4 @@ returns-clause-lists g c =
     } in
     completed (EndsListing c.args.name.now) (λ (files : List NamedFile). image_told files c.args.name.now) (g.F.Files.holds c.args.files.now) f
     (g.S.Sink.written c.args.sink.now) (g.S.Sink.written c.write_ending.new.sink) (g.S.Sink.faults c.args.sink.now) (g.S.Sink.faults c.write_ending.new.sink) c.write_ending.result
-    (ending_of c.listing_from-made.result) (λ read. tt) c.listing_from-made.ensures.made c.write_ending.ensures.writes
+    (ending_of c.listing_from-made.result) (λ read. tt) c.listing_from-made.ensures.made c.listing_from-made.ensures.counted c.write_ending.ensures.writes

@@ -6,7 +6,8 @@ use Rattle.run_files.specs.Told.{image_told}
 use Rattle.command_ending.specs.declared.fault.Fault.{Fault}
 use Rattle.command_ending.specs.declared.fault.Fault.TheVariants.{NoMemory}
 use Rattle.source_commands.specs.Listing.{IsListing, code_at}
-use Rattle.command_ending.specs.Command.{Faults, Made}
+use Rattle.command_ending.specs.Command.{Faults, FaultCounted, Made}
+use Rattle.command_ending.proofs.Counting.{unloaded_counted}
 use Rattle.source_commands.specs.Command.{EndsListing}
 use Rattle.command_ending.proofs.Makings.{made_by, made_nothing}
 use Rattle.source_commands.proofs.Makings.{unread_image}
@@ -24,6 +25,16 @@ returns-in-Err-clause-made g c =
     (unread_image {A = Loaded} (λ loaded. (loaded.image, loaded.bytes.items)) c.args.name (λ (list : List NamedFile). image_told list c.args.name.now)
     (g.F.Files.holds c.args.files.now) f c.in-Err.unread
     c.in-Err.ensures.answers c.in-Err.ensures.faults c.in-Err.ensures.order)
+
+pub returns-in-Err-clause-counted : goal.returns-in-Err-clause-counted
+returns-in-Err-clause-counted g c =
+    let f : Faults = record {
+      open_before = g.F.Files.open_faults c.args.files.now;
+      open_after = g.F.Files.open_faults c.load_image.new.files;
+      page_before = g.F.Files.page_faults c.args.files.now;
+      page_after = g.F.Files.page_faults c.load_image.new.files;
+    } in
+    subst (λ (e : Fault). FaultCounted e f) (sym c.of_unread.ensures) (unloaded_counted Loaded c.args.name c.in-Err.unread f c.in-Err.ensures.faults)
 
 pub returns-in-Ok-listing_of-clause-made : goal.returns-in-Ok-listing_of-clause-made
 returns-in-Ok-listing_of-clause-made g c =

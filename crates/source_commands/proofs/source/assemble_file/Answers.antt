@@ -17,4 +17,4 @@ returns-clause-assembles g c =
     } in
     completed (EndsAssembly c.args.name.now) (λ (files : List NamedFile). bytes_told files c.args.name.now source_bytes) (g.F.Files.holds c.args.files.now) f
     (g.S.Sink.written c.args.sink.now) (g.S.Sink.written c.write_ending.new.sink) (g.S.Sink.faults c.args.sink.now) (g.S.Sink.faults c.write_ending.new.sink) c.write_ending.result
-    (ending_of c.file_from-made.result) (λ read. tt) c.file_from-made.ensures.made c.write_ending.ensures.writes
+    (ending_of c.file_from-made.result) (λ read. tt) c.file_from-made.ensures.made c.file_from-made.ensures.counted c.write_ending.ensures.writes

@@ -5,7 +5,8 @@ use Rattle.run_files.specs.declared.answers.Unread.TheVariants as unreads
 use Rattle.run_files.specs.Told.{bytes_told}
 use Rattle.command_ending.specs.declared.fault.Fault.{Fault}
 use Rattle.command_ending.specs.declared.fault.Fault.TheVariants.{NoMemory, BadSource}
-use Rattle.command_ending.specs.Command.{Faults, Made}
+use Rattle.command_ending.specs.Command.{Faults, FaultCounted, Made}
+use Rattle.command_ending.proofs.Counting.{unread_counted}
 use Rattle.source_commands.specs.Command.{EndsAssembly}
 use Rattle.source_commands.proofs.Limits.{program_limit}
 use Rattle.command_ending.proofs.Makings.{made_by, made_nothing}
@@ -24,6 +25,17 @@ returns-in-Err-clause-made g c =
     (sym c.of_unread.ensures)
     (unread_source {A = Vec ℕ Global} (λ bytes. bytes.items) c.args.name (λ (list : List NamedFile). bytes_told list c.args.name.now 495617) (g.F.Files.holds c.args.files.now) f c.in-Err.unread
     c.in-Err.ensures.answers c.in-Err.ensures.error c.in-Err.ensures.open_faults c.in-Err.ensures.page_faults)
+
+pub returns-in-Err-clause-counted : goal.returns-in-Err-clause-counted
+returns-in-Err-clause-counted g c =
+    let f : Faults = record {
+      open_before = g.F.Files.open_faults c.args.files.now;
+      open_after = g.F.Files.open_faults c.read_file.new.files;
+      page_before = g.F.Files.page_faults c.args.files.now;
+      page_after = g.F.Files.page_faults c.read_file.new.files;
+    } in
+    subst (λ (e : Fault). FaultCounted e f) (sym c.of_unread.ensures)
+    (unread_counted (Vec ℕ Global) c.args.name c.in-Err.unread f c.in-Err.ensures.open_faults c.in-Err.ensures.page_faults)
 
 pub file_of-requires : goal.file_of-requires
 file_of-requires g c =
