@@ -1,2 +1,2 @@
-pub mod Lines
-mod Sums
+pub mod Sums
+pub mod Counting

@@ -68,7 +68,7 @@ pub enum Count {
 }
 
 // The instructions that an entry counts.
-fn instructions(entry: &Entry) -> u64
+pub(crate) fn instructions(entry: &Entry) -> u64
     ensures { result ≡ instructions entry.now }
 {
     match entry {
@@ -80,7 +80,7 @@ fn instructions(entry: &Entry) -> u64
 }
 
 // The bytes that a process wrote.
-fn output_length(entry: &Entry) -> u64
+pub(crate) fn output_length(entry: &Entry) -> u64
     ensures { result ≡ output_length entry.now }
 {
     match entry {
@@ -90,7 +90,7 @@ fn output_length(entry: &Entry) -> u64
 }
 
 // A reply to a system call.
-fn calls(entry: &Entry) -> u64
+pub(crate) fn calls(entry: &Entry) -> u64
     ensures { result ≡ calls entry.now }
 {
     match entry {
@@ -100,7 +100,7 @@ fn calls(entry: &Entry) -> u64
 }
 
 // A growth of a stack.
-fn growths(entry: &Entry) -> u64
+pub(crate) fn growths(entry: &Entry) -> u64
     ensures { result ≡ growths entry.now }
 {
     match entry {
@@ -110,7 +110,7 @@ fn growths(entry: &Entry) -> u64
 }
 
 // A refusal of swap space.
-fn refusals(entry: &Entry) -> u64
+pub(crate) fn refusals(entry: &Entry) -> u64
     ensures { result ≡ refusals entry.now }
 {
     match entry {
@@ -120,7 +120,7 @@ fn refusals(entry: &Entry) -> u64
 }
 
 // A wait for a child.
-fn waits(entry: &Entry) -> u64
+pub(crate) fn waits(entry: &Entry) -> u64
     ensures { result ≡ waits entry.now }
 {
     match entry {
@@ -130,7 +130,7 @@ fn waits(entry: &Entry) -> u64
 }
 
 // A process goes out.
-fn times_out(entry: &Entry) -> u64
+pub(crate) fn times_out(entry: &Entry) -> u64
     ensures { result ≡ times_out entry.now }
 {
     match entry {
@@ -140,7 +140,7 @@ fn times_out(entry: &Entry) -> u64
 }
 
 // A process comes in.
-fn times_in(entry: &Entry) -> u64
+pub(crate) fn times_in(entry: &Entry) -> u64
     ensures { result ≡ times_in entry.now }
 {
     match entry {
@@ -240,7 +240,7 @@ fn transfers(entry: &Entry) -> u64
 }
 
 // The number of the process that an entry is of; 0 where it is of none, since no process has that number.
-fn process_of(entry: &Entry) -> u32
+pub(crate) fn process_of(entry: &Entry) -> u32
     ensures { result ≡ process_of entry.now }
 {
     match entry {

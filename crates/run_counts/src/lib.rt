@@ -2,9 +2,11 @@
 #![tactic(auto)]
 
 mod amounts;
-mod texts;
+mod deeds;
+mod tables;
 mod totals;
 
 pub use amounts::{Count, Owner, PageHead, ProcessHead, is_same_owner, owner_of};
-pub use texts::counts_text;
+pub use deeds::{Deeds, deeds_of};
+pub use tables::{add_at, count_at};
 pub use totals::total;

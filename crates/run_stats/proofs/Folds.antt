@@ -1,15 +1,9 @@
--- One more item in a sum, and in a fold of what is left.
-use Rattle.std.proofs.Common.{◌≡◌, ◌<◌, ◌≤◌, ◌+◌, ◌-◌, ℕ, suc, List, [], ◌∷◌, length, take, drop, get_or, sym, ap, ◌∙◌, arith}
+-- One more item in a fold of what is left.
+use Rattle.std.proofs.Common.{◌≡◌, ◌<◌, ◌≤◌, ◌+◌, ◌-◌, ℕ, suc, List, [], ◌∷◌, length, drop, get_or, sym, ap, ◌∙◌, arith}
 use Rattle.std.specs.List.{sum_by}
-use Rattle.std.proofs.lemmas.List.Sums.{sum_by-cons, sum_by_more}
+use Rattle.std.proofs.lemmas.List.Sums.{sum_by-cons}
 use Rattle.page_model.specs.Frames.{count_up}
-use Rattle.run_stats.specs.declared.noting.Note.{Note}
-use Rattle.run_stats.specs.Amounts.{larger, smaller, most_held, least_free}
 use Rattle.std.proofs.lemmas.List.{at_drop_more, at_drop_all}
-
-pub sum_more : {A : Type 0} (f : A → ℕ) (xs : List A) (i n k : ℕ) (d : A) → i < length xs → n ≡ sum_by f (take i xs) → k ≡ f (get_or xs i d)
-    → n + k ≡ sum_by f (take (i + 1) xs)
-sum_more f xs i n k d lt so_far here = let more = sum_by_more f xs i d lt in omega (arith, so_far, here, more)
 
 -- what a function gives of the items from one on
 pub rest_more : {A B : Type 0} (f : List A → B) (xs : List A) (i : ℕ) (d : A) → i < length xs → f (drop i xs) ≡ f (get_or xs i d ∷ drop (i + 1) xs)
@@ -18,17 +12,6 @@ rest_more f xs i d lt = at_drop_more f xs i d lt
 -- nothing is left
 pub rest_none : {A B : Type 0} (f : List A → B) (xs : List A) (i : ℕ) → length xs ≤ i → f (drop i xs) ≡ f []
 rest_none f xs i h = at_drop_all f xs i h
-
--- one note more
-pub most_more : (xs : List Note) (i now new whole : ℕ) (d : Note) → i < length xs → new ≡ larger now (get_or xs i d).after.held
-    → most_held now (drop i xs) ≡ whole
-    → most_held new (drop (i + 1) xs) ≡ whole
-most_more xs i now new whole d lt put left = ap (λ (n : ℕ). most_held n (drop (i + 1) xs)) put ∙ sym (rest_more (most_held now) xs i d lt) ∙ left
-
-pub least_more : (xs : List Note) (i now new whole : ℕ) (d : Note) → i < length xs → new ≡ smaller now (get_or xs i d).after.free
-    → least_free now (drop i xs) ≡ whole
-    → least_free new (drop (i + 1) xs) ≡ whole
-least_more xs i now new whole d lt put left = ap (λ (n : ℕ). least_free n (drop (i + 1) xs)) put ∙ sym (rest_more (least_free now) xs i d lt) ∙ left
 
 -- the numbers from one on, of which some are left
 pub count_first : (f : ℕ → ℕ) (n : ℕ) → 0 + sum_by f (count_up (0 + 1) (n - 0)) ≡ sum_by f (count_up 1 n)

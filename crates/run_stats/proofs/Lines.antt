@@ -1,8 +1,9 @@
 -- Texts that go on: one more item's, and one more part.
-use Rattle.std.proofs.Common.{OnOk, Result, Ok, Err, ◌≡◌, ◌<◌, ◌≤◌, ◌+◌, ℕ, List, ◌++◌, length, drop, get_or, refl, sym, ap, ◌∙◌, append_assoc}
+use Rattle.std.proofs.Common.{OnOk, IfOk, Result, Ok, Err, ◌≡◌, ◌<◌, ◌≤◌, ◌+◌, ℕ, suc, List, ◌++◌, length, drop, get_or, refl, sym, ap, ◌∙◌, subst, append_assoc, add-one}
 use Rattle.std.specs.List.{flat_map}
 use Rattle.std.proofs.lemmas.List.{append-nil}
 use Rattle.run_stats.specs.Rows.{plain_row, row}
+use Rattle.run_stats.specs.Table.{lines_to}
 use Rattle.run_stats.proofs.Folds.{rest_more, rest_none}
 
 pub text_more : {A : Type 0} (f : A → List ℕ) (xs : List A) (i : ℕ) (d : A) (text new whole : List ℕ) → i < length xs
@@ -44,3 +45,22 @@ three_rows (Ok x) old one two three a b c k k' m m' n n' h i j first second thir
     plain_put two three c c n n' third refl j
     ∙ ap (λ (t : List ℕ). t ++ plain_row c n') (parts_then old one two (plain_row a k') (plain_row b m') (plain_put old one a a k k' first refl h) (plain_put one two b b m m' second refl i))
     ∙ append_assoc old (plain_row a k' ++ plain_row b m') (plain_row c n')
+
+-- one line more
+pub lines_none : (line : ℕ → List ℕ) (old : List ℕ) → old ≡ old ++ lines_to line 0
+unfolding lines_to
+lines_none line old = sym (append-nil old)
+
+step : (line : ℕ → List ℕ) (old text new : List ℕ) (n : ℕ) → text ≡ old ++ lines_to line n → new ≡ text ++ line (suc n) → new ≡ old ++ lines_to line (suc n)
+unfolding lines_to
+step line old text new n so_far put = put ∙ ap (λ (t : List ℕ). t ++ line (suc n)) so_far ∙ append_assoc old (lines_to line n) (line (suc n))
+
+pub lines_more : (line : ℕ → List ℕ) (old text new : List ℕ) (n : ℕ) → text ≡ old ++ lines_to line n → new ≡ text ++ line (n + 1)
+    → new ≡ old ++ lines_to line (n + 1)
+lines_more line old text new n so_far =
+    subst (λ (k : ℕ). new ≡ text ++ line k → new ≡ old ++ lines_to line k) (sym (add-one n)) (step line old text new n so_far)
+
+-- what is made is the same by another name
+pub ok_same : {T E : Type 0} (r : Result T E) (f : T → List ℕ) (a b : List ℕ) → a ≡ b → IfOk r (λ x. f x ≡ a) → IfOk r (λ x. f x ≡ b)
+ok_same (Ok x) f a b same h = h ∙ same
+ok_same (Err e) f a b same h = tt

@@ -2,6 +2,8 @@ pub mod Looks
 pub mod Seen
 pub mod Notes
 pub mod Amounts
+pub mod Sums
+pub mod Ends
 pub mod Story
 pub mod Rows
 pub mod Table

@@ -1,11 +1,10 @@
 // The heads of the table, and what an entry adds under each.
 ghost use Rattle.std.specs.Prelude.{◌≡◌};
-ghost use Rattle.run_stats.specs.Amounts.{filled_with_zeros, copied_from_parent, reclaimed, file_read, file_pages, swap_read, swap_pages, hand_moves, made_invalid, freed_clean, hand_writes, reclaimed_between, file_transfer, swap_transfer_in, swap_transfer_out, pages_written, paging_amount, run_amount, head_amount};
-ghost use Rattle.run_stats.specs.declared.heads.Head.TheVariants.{OfRunner};
+ghost use Rattle.run_stats.specs.Amounts.{filled_with_zeros, copied_from_parent, reclaimed, file_read, file_pages, swap_read, swap_pages, hand_moves, made_invalid, freed_clean, hand_writes, reclaimed_between, file_transfer, swap_transfer_in, swap_transfer_out, paging_amount, run_amount};
 
 use crate::look::{Flight, Look};
 use crate::noting::{Note, What};
-use run_counts::{Owner, is_same_owner};
+use run_counts::Owner;
 
 /// What is counted of the pages that come while a process runs (this project's profile).
 #[derive(Clone, Copy, Debug, PartialEq, Eq, Drop)]
@@ -193,22 +192,7 @@ fn swap_transfer_out(what: What, oldest: Flight) -> u64
     }
 }
 
-fn pages_written(owner: Owner, what: What, oldest: Flight) -> u64
-    ensures { result ≡ pages_written owner what oldest }
-{
-    match (what, oldest) {
-        (What::Ended, Flight::ToSwap(other, pages)) => {
-            if is_same_owner(other, owner) {
-                pages
-            } else {
-                0
-            }
-        }
-        _ => 0,
-    }
-}
-
-fn paging_amount(head: PagingHead, note: &Note) -> u64
+pub(crate) fn paging_amount(head: PagingHead, note: &Note) -> u64
     ensures { result ≡ paging_amount head note.now }
 {
     match head {
@@ -222,7 +206,7 @@ fn paging_amount(head: PagingHead, note: &Note) -> u64
     }
 }
 
-fn run_amount(head: RunHead, note: &Note) -> u64
+pub(crate) fn run_amount(head: RunHead, note: &Note) -> u64
     ensures { result ≡ run_amount head note.now }
 {
     match head {
@@ -234,26 +218,5 @@ fn run_amount(head: RunHead, note: &Note) -> u64
         RunHead::FileTransfers => file_transfer(note.what, note.before.oldest),
         RunHead::SwapTransfersIn => swap_transfer_in(note.what, note.before.oldest),
         RunHead::SwapTransfersOut => swap_transfer_out(note.what, note.before.oldest),
-    }
-}
-
-fn of_runner(pid: u32, head: PagingHead, note: &Note) -> u64
-    ensures { result ≡ head_amount (OfRunner pid head) note.now }
-{
-    if note.after.runner == pid {
-        paging_amount(head, note)
-    } else {
-        0
-    }
-}
-
-/// What an entry adds under a head.
-pub(crate) fn head_amount(head: Head, note: &Note) -> u64
-    ensures { result ≡ head_amount head note.now }
-{
-    match head {
-        Head::OfRunner(pid, head) => of_runner(pid, head, note),
-        Head::WrittenOf(owner) => pages_written(owner, note.what, note.before.oldest),
-        Head::OfRun(head) => run_amount(head, note),
     }
 }

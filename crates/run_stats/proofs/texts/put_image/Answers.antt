@@ -5,4 +5,4 @@ use Rattle.run_stats.proofs.texts.put_image.Goals as goal
 
 pub returns : goal.returns
 returns c =
-    counted_row c.put_row.result c.args.text.now.items c.put_row.new.text.items (codes "image ") (codes " pages-written ") c.args.image c.sum_of-count.result _ c.sum_of-count.ensures c.put_row.ensures
+    counted_row c.put_row.result c.args.text.now.items c.put_row.new.text.items (codes "image ") (codes " pages-written ") c.args.image c.of-count.result _ c.of-count.ensures c.put_row.ensures

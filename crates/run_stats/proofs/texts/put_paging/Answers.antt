@@ -2,6 +2,7 @@
 use Rattle.std.proofs.Common.{◌++◌, codes, ap, ◌∙◌, arith}
 use Rattle.std.specs.List.{flat_map}
 use Rattle.run_stats.specs.declared.heads.PagingHead.TheVariants.{ZeroFills}
+use Rattle.run_stats.specs.Sums.{sum_in}
 use Rattle.run_stats.specs.Table.{paging_row}
 use Rattle.run_stats.proofs.Lines.{text_more, text_all, row_put}
 use Rattle.run_stats.proofs.texts.put_paging.Goals as goal
@@ -11,15 +12,15 @@ loop-head-preserved c =
     let heads = c.paging_heads-heads.result.now in
     record {
       text =
-          text_more (paging_row c.args.notes.now c.args.pid) heads c.loop-head.head-index ZeroFills c.loop-head.text.items c.put_row.new.text.items
-          (c.args.text.now.items ++ flat_map (paging_row c.args.notes.now c.args.pid) heads) c.loop-head-test.true c.loop-head.invariant.text
-          (row_put c.loop-head.text.items c.put_row.new.text.items (codes "process ") c.paging_words.result.now _ c.args.pid c.sum_of-count.result _ c.in_ok-put_row.ensures c.paging_words.ensures
-          c.sum_of-count.ensures);
+          text_more (paging_row (sum_in c.args.tally.now) c.args.pid) heads c.loop-head.head-index ZeroFills c.loop-head.text.items c.put_row.new.text.items
+          (c.args.text.now.items ++ flat_map (paging_row (sum_in c.args.tally.now) c.args.pid) heads) c.loop-head-test.true c.loop-head.invariant.text
+          (row_put c.loop-head.text.items c.put_row.new.text.items (codes "process ") c.paging_words.result.now _ c.args.pid c.of-count.result _ c.in_ok-put_row.ensures c.paging_words.ensures
+          c.of-count.ensures);
     }
 
 pub returns : goal.returns
 returns c =
     let heads = c.paging_heads-heads.result.now in
-    text_all (paging_row c.args.notes.now c.args.pid) heads c.loop-head.head-index c.loop-head.text.items (c.args.text.now.items ++ flat_map (paging_row c.args.notes.now c.args.pid) heads)
+    text_all (paging_row (sum_in c.args.tally.now) c.args.pid) heads c.loop-head.head-index c.loop-head.text.items (c.args.text.now.items ++ flat_map (paging_row (sum_in c.args.tally.now) c.args.pid) heads)
     (omega arith) c.loop-head.invariant.text
-    ∙ ap (λ t. c.args.text.now.items ++ flat_map (paging_row c.args.notes.now c.args.pid) t) c.paging_heads-heads.ensures
+    ∙ ap (λ t. c.args.text.now.items ++ flat_map (paging_row (sum_in c.args.tally.now) c.args.pid) t) c.paging_heads-heads.ensures

@@ -1,8 +1,9 @@
 -- What was put so far, and the rest is left.
 use Rattle.std.proofs.Common.{◌≡◌, ◌++◌, drop}
 use Rattle.std.specs.List.{flat_map}
+use Rattle.run_stats.specs.Sums.{sum_in}
 use Rattle.run_stats.specs.Table.{run_row}
 use Rattle.run_stats.proofs.texts.put_run.Given as goal
 
 abbrev pub invariant-loop-head : goal.invariant-loop-head
-invariant-loop-head l = record { text : l.text.items ++ flat_map (run_row l.notes) (drop l.head-index l.heads) ≡ l.fn.text.items ++ flat_map (run_row l.notes) l.heads }
+invariant-loop-head l = record { text : l.text.items ++ flat_map (run_row (sum_in l.tally)) (drop l.head-index l.heads) ≡ l.fn.text.items ++ flat_map (run_row (sum_in l.tally)) l.heads }
