@@ -28,16 +28,16 @@ use Rattle.user_vax.specs.Operands.{number_at, address_of, evaluation_at, evalua
 use Rattle.vax_code.specs.Reading.{next_byte, next_number as number_read, next_signed, next_displacement, base_at, indexed_at, next_specifier, next_operand, with_count, operand_in_place, next_operands, instruction_at, decoded}
 use Rattle.vax_code.specs.Table.{all_rows, row_for}
 
-pub more : Option Entry → Inputs → State → (State → List Entry) → List Entry
+unfoldable pub more : Option Entry → Inputs → State → (State → List Entry) → List Entry
 more None A s next = []
 more (Some u) A s next = u ∷ next (after A s u)
 
 -- so many next units from a state on
-pub units_from : ℕ → Inputs → State → List Entry
+unfoldable pub units_from : ℕ → Inputs → State → List Entry
 units_from zero A s = []
 units_from (suc n) A s = more (next_unit A s) A s (units_from n A)
 
-pub hi_image : NamedImage
+unfoldable pub hi_image : NamedImage
 hi_image = record {
   name = 104 ∷ 105 ∷ [];
   image = record {
@@ -134,10 +134,10 @@ nest_image = record {
   };
 }
 
-pub hi : Inputs
+unfoldable pub hi : Inputs
 hi = record { images = hi_image ∷ []; first = 1 ∷ []; lines = []; frames = 64; swap_blocks = 256; limit = 100 }
 
-pub hi_held : Holdings
+unfoldable pub hi_held : Holdings
 hi_held = or_before [] (start_held hi)
 
 abbrev pub hi_units : List Entry
