@@ -3,9 +3,9 @@ ghost use Rattle.std.specs.Prelude.{◌<◌, ◌^◌, vec_len, IfOk};
 
 use crate::bad::Bad;
 use crate::devices::{Lie, LyingSwap};
-use io_edge::{MemFiles, MemSink, MemSwap, SwapDev};
+use io_edge::{MemFiles, MemSink, MemSwap, NoMemory, SwapDev};
 use std::alloc::{AllocError, Global};
-use vm_run::{explain, vmrun, vmrun_in_memory};
+use vm_run::{InMemory, explain, vmrun, vmrun_in_memory};
 
 /// The room of the output.
 const ROOM: usize = 131_072;
@@ -138,6 +138,55 @@ fn shown(bytes: &[u8]) -> &str {
     str::from_utf8(bytes).unwrap_or("bytes that are no text\n")
 }
 
+// What the words of a run say when they are run over these, by its status.
+fn status_of<D: SwapDev>(
+    alloc: Global,
+    words: &[&str],
+    files: &mut MemFiles,
+    zero: &mut D,
+    one: &mut MemSwap,
+    sink: &mut MemSink,
+) -> u8 {
+    vmrun(alloc, words, files, zero, one, sink)
+}
+
+// What is told beside a run that ended with this status: no byte where nothing is.
+fn told_of(alloc: Global, words: &[&str], files: &mut MemFiles, given: u8) -> Vec<u8> {
+    match explain(alloc, words, files, given) {
+        Ok(Some(told)) => told,
+        Ok(None) | Err(_) => Vec::new(alloc),
+    }
+}
+
+// What a run wrote, told and answered, where that isn't what is wanted.
+fn unlike(
+    alloc: Global,
+    asked: &Asked,
+    status: u8,
+    written: &[u8],
+    told: &[u8],
+    given: u8,
+) -> Result<String, AllocError> {
+    if given == status && written == asked.wanted.as_slice() && told == asked.told.as_slice() {
+        return Ok(String::new(alloc));
+    }
+    let words = asked.words.as_str();
+    let (text, told) = (shown(written), shown(told));
+    format!(in alloc; "vmrun {words}\n{text}{told}status {given}\n")
+}
+
+// An output with room for a run, whose calls of these numbers fail.
+fn sink_for(alloc: Global, asked: &Asked) -> Result<MemSink, Bad> {
+    let fail_output = Vec::from_slice(alloc, asked.fail_output.as_slice())?;
+    Ok(MemSink::new(alloc, ROOM, fail_output)?)
+}
+
+// The files, whose calls of these numbers fail.
+fn files_for(alloc: Global, files: &[(String, Vec<u8>)], asked: &Asked) -> Result<MemFiles, Bad> {
+    let fail_files = Vec::from_slice(alloc, asked.fail_files.as_slice())?;
+    Ok(MemFiles::new(copies_of(alloc, files)?, fail_files))
+}
+
 // Runs the words over a device 0, and tells what differs.
 fn over<D: SwapDev>(
     alloc: Global,
@@ -147,32 +196,41 @@ fn over<D: SwapDev>(
     zero: &mut D,
 ) -> Result<String, Bad> {
     let words = words_of(alloc, asked.words.as_str())?;
-    let fail_files = Vec::from_slice(alloc, asked.fail_files.as_slice())?;
-    let mut held = MemFiles::new(copies_of(alloc, files)?, fail_files);
+    let mut held = files_for(alloc, files, asked)?;
     let mut one = MemSwap::new(alloc, asked.one, Vec::new(alloc), Vec::new(alloc))?;
-    let fail_output = Vec::from_slice(alloc, asked.fail_output.as_slice())?;
-    let mut sink = MemSink::new(alloc, ROOM, fail_output)?;
-    let given = vmrun(
-        alloc,
-        words.as_slice(),
-        &mut held,
-        zero,
-        &mut one,
-        &mut sink,
-    );
-    let told = match explain(alloc, words.as_slice(), &mut held, given) {
-        Ok(told) => told.unwrap_or(Vec::new(alloc)),
-        Err(_) => Vec::new(alloc),
-    };
-    if given == status
-        && sink.written() == asked.wanted.as_slice()
-        && told.as_slice() == asked.told.as_slice()
-    {
+    let mut sink = sink_for(alloc, asked)?;
+    let words = words.as_slice();
+    let given = status_of(alloc, words, &mut held, zero, &mut one, &mut sink);
+    let told = told_of(alloc, words, &mut held, given);
+    let written = sink.written();
+    Ok(unlike(alloc, asked, status, written, told.as_slice(), given)?)
+}
+
+// What a run wrote and answered where all is in memory, where that isn't what is wanted.
+fn unlike_in_memory(
+    alloc: Global,
+    asked: &Asked,
+    status: u8,
+    done: &InMemory,
+) -> Result<String, AllocError> {
+    let (written, given) = (done.output.written(), done.status);
+    if given == status && written == asked.wanted.as_slice() {
         return Ok(String::new(alloc));
     }
-    let words = asked.words.as_str();
-    let (text, told) = (shown(sink.written()), shown(told.as_slice()));
-    Ok(format!(in alloc; "vmrun {words}\n{text}{told}status {given}\n")?)
+    let (words, text) = (asked.words.as_str(), shown(written));
+    format!(in alloc; "vmrun {words}, in memory\n{text}status {given}\n")
+}
+
+// Runs words over these files, where all is in memory and nothing fails.
+fn done_in_memory(
+    alloc: Global,
+    words: &[&str],
+    held: Vec<(String, Vec<u8>)>,
+    asked: &Asked,
+) -> Result<InMemory, NoMemory>
+    requires { vec_len held < 2 ^ 32 }
+{
+    vmrun_in_memory(alloc, words, held, asked.zero, asked.one, ROOM)
 }
 
 // Runs the words where all is in memory and nothing fails, and tells what differs.
@@ -183,14 +241,8 @@ fn in_memory(
     status: u8,
 ) -> Result<String, Bad> {
     let words = words_of(alloc, asked.words.as_str())?;
-    let held = copies_of(alloc, files)?;
-    let done = vmrun_in_memory(alloc, words.as_slice(), held, asked.zero, asked.one, ROOM)?;
-    if done.status == status && done.output.written() == asked.wanted.as_slice() {
-        return Ok(String::new(alloc));
-    }
-    let (words, given) = (asked.words.as_str(), done.status);
-    let text = shown(done.output.written());
-    Ok(format!(in alloc; "vmrun {words}, in memory\n{text}status {given}\n")?)
+    let done = done_in_memory(alloc, words.as_slice(), copies_of(alloc, files)?, asked)?;
+    Ok(unlike_in_memory(alloc, asked, status, &done)?)
 }
 
 /// Runs the words, and tells what came of it; nothing where it is as wanted. Where no call is to fail, they are run once more

@@ -4,6 +4,8 @@
 #[cfg(test)]
 mod calls;
 #[cfg(test)]
+mod folder;
+#[cfg(test)]
 mod guards;
 #[cfg(test)]
 mod memory;

@@ -1,18 +1,35 @@
 // Real files that aren't plain ones of a run's own: pipes, files of /proc, folders, links, and files that another run has. They are
 // made and removed in the folder that the tests run in.
 use crate::calls::{Answer, Call, answers};
+use crate::folder::{bytes_at, length_of, told};
 use io_edge::{Files, Found, Moved, SureSwap, SwapDev};
 use std::alloc::{AllocError, Global};
 use std::io::Write;
 use std::os::unix::fs::symlink;
 use std::os::unix::io::AsRawFd;
+use std::process::Abort;
 use std::test::Fail;
-use std::{fs, io};
-use system_edge::{DirFiles, FileSwap, Refusal};
+use std::{fs, io, rt};
+use system_edge::{DirFiles, FileSwap};
 
 // The name of an open descriptor.
 fn descriptor_name(alloc: Global, fd: i32) -> Result<String, AllocError> {
     format!(in alloc; "/dev/fd/{fd}")
+}
+
+// Checks the pipe of this name, which has five bytes.
+fn is_read_whole_and_once(rt: &impl Abort, files: &mut DirFiles<'_, HostRuntime>, name: &str) {
+    let Found::Is { id, len } = files.find(name) else {
+        panic!(rt; "not found");
+    };
+    let read = [
+        bytes_at(files, id, 2),
+        bytes_at(files, id, 0),
+        bytes_at(files, id, 3),
+    ];
+    let again = files.find(name);
+    assert_eq!(rt; (len, again), (5, Found::Is { id, len }));
+    assert_eq!(rt; read, [Some(*b"llo"), Some(*b"hel"), None]);
 }
 
 #[test]
@@ -21,136 +38,122 @@ fn reads_a_pipe_whole_and_once(rt: HostRuntime) -> Result<(), Fail> {
     writer.write_all(b"hello")?;
     drop(writer);
     let name = descriptor_name(rt.alloc(), reader.as_raw_fd())?;
-    let mut files = DirFiles::new(&rt);
-    let Found::Is { id, len } = files.find(name.as_str()) else {
-        return Err(Fail::from("not found"));
-    };
-    assert_eq!(rt; len, 5);
-    let mut buf = [0; 3];
-    assert_eq!(rt; files.read_at(id, 2, &mut buf), Moved::Done);
-    assert_eq!(rt; buf.as_slice(), b"llo".as_slice());
-    assert_eq!(rt; files.read_at(id, 0, &mut buf), Moved::Done);
-    assert_eq!(rt; buf.as_slice(), b"hel".as_slice());
-    assert_eq!(rt; files.read_at(id, 3, &mut buf), Moved::Failed);
-    assert_eq!(rt; files.find(name.as_str()), Found::Is { id, len });
+    is_read_whole_and_once(&rt, &mut DirFiles::new(&rt), name.as_str());
     Ok(())
 }
 
 // The system says the length 0 of files of /proc, and they have bytes.
 #[test]
-fn reads_what_has_no_length_by_the_system(rt: HostRuntime) -> Result<(), Fail> {
+fn reads_what_has_no_length_by_the_system(rt: HostRuntime) {
     let mut files = DirFiles::new(&rt);
     let Found::Is { id, len } = files.find("/proc/self/statm") else {
-        return Err(Fail::from("not found"));
+        panic!(&rt; "not found");
     };
     assert!(rt; len > 0);
-    let mut last = [0];
-    assert_eq!(rt; files.read_at(id, len - 1, &mut last), Moved::Done);
-    assert_eq!(rt; last, [b'\n']);
-    assert_eq!(rt; files.read_at(id, len, &mut last), Moved::Failed);
-    let Found::Is { len, .. } = files.find("/dev/null") else {
-        return Err(Fail::from("not found"));
+    let last = [
+        bytes_at(&mut files, id, len - 1),
+        bytes_at(&mut files, id, len),
+    ];
+    let null = files.find("/dev/null");
+    assert_eq!(rt; last, [Some([b'\n']), None]);
+    assert!(rt; matches!(null, Found::Is { len: 0, .. }), "{null:?}");
+}
+
+// Checks what is told of a folder, and of a file of five bytes.
+fn are_named_where_refused(rt: &impl Abort, alloc: Global, files: &mut DirFiles<'_, HostRuntime>) {
+    let at_first = files.last_refusal().is_none();
+    let found = files.find("refused.folder");
+    let of_folder = told(alloc, files.last_refusal());
+    let Found::Is { id, .. } = files.find("short.file") else {
+        panic!(rt; "not found");
     };
-    assert_eq!(rt; len, 0);
-    Ok(())
+    let read: Option<[u8; 9]> = bytes_at(files, id, 0);
+    let of_file = told(alloc, files.last_refusal());
+    assert_eq!(rt; (at_first, found, read), (true, Found::Failed, None));
+    assert_eq!(rt;
+        [of_folder.as_str(), of_file.as_str()],
+        [
+            "refused.folder: Is a directory (os error 21)",
+            "short.file: failed to fill whole buffer"
+        ]
+    );
 }
 
 #[test]
 fn names_the_file_that_the_system_refused(rt: HostRuntime) -> Result<(), Fail> {
     fs::create_dir(&rt, "refused.folder")?;
     fs::write(&rt, "short.file", "hello")?;
-    let mut files = DirFiles::new(&rt);
-    assert!(rt; files.last_refusal().is_none());
-    assert_eq!(rt; files.find("refused.folder"), Found::Failed);
-    assert!(rt;
-        tells(
-            rt.alloc(),
-            files.last_refusal(),
-            "refused.folder: Is a directory (os error 21)"
-        )?
-    );
-    let Found::Is { id, .. } = files.find("short.file") else {
-        return Err(Fail::from("not found"));
-    };
-    let mut buf = [0; 9];
-    assert_eq!(rt; files.read_at(id, 0, &mut buf), Moved::Failed);
-    assert!(rt;
-        tells(
-            rt.alloc(),
-            files.last_refusal(),
-            "short.file: failed to fill whole buffer"
-        )?
-    );
+    are_named_where_refused(&rt, rt.alloc(), &mut DirFiles::new(&rt));
     fs::remove_dir(&rt, "refused.folder")?;
     fs::remove_file(&rt, "short.file")?;
     Ok(())
 }
 
-// Whether a refusal is told by this text.
-fn tells(alloc: Global, refusal: Option<Refusal<'_>>, text: &str) -> Result<bool, AllocError> {
-    match refusal {
-        Some(refusal) => Ok(format!(in alloc; "{refusal}")?.as_str() == text),
-        None => Ok(false),
+// Checks what a device answers to each of these calls, and how long its file is after each.
+fn grows<R: Abort + rt::Files, D: SwapDev>(
+    rt: &R,
+    device: &mut D,
+    name: &str,
+    calls: &[(Call, Answer, u64)],
+) {
+    for (call, wanted, length) in calls {
+        answers(rt, device, &[(*call, *wanted)]);
+        assert_eq!(rt; length_of(rt, name), Some(*length), "{call:?}");
     }
 }
 
 #[test]
 fn grows_its_file_as_it_is_written(rt: HostRuntime) -> Result<(), Fail> {
     let mut swap = FileSwap::new(&rt, "grown.swap", 65_536);
-    let mut page = [9; 1024];
-    assert_eq!(rt; swap.read(65_534, &mut page), Moved::Done);
-    assert_eq!(rt; page, [0; 1024]);
-    assert_eq!(rt; fs::metadata(&rt, "grown.swap")?.len(), 0);
-    assert_eq!(rt; swap.write(2, &[1; 1024]), Moved::Done);
-    assert_eq!(rt; fs::metadata(&rt, "grown.swap")?.len(), 2_048);
-    assert_eq!(rt; swap.write(0, &[2; 1024]), Moved::Done);
-    assert_eq!(rt; fs::metadata(&rt, "grown.swap")?.len(), 2_048);
-    assert_eq!(rt; swap.write(65_534, &[3; 1024]), Moved::Done);
-    assert_eq!(rt; fs::metadata(&rt, "grown.swap")?.len(), 33_554_432);
-    assert_eq!(rt; swap.read(0, &mut page), Moved::Done);
-    assert_eq!(rt; page, [2; 1024]);
-    assert_eq!(rt; swap.read(2, &mut page), Moved::Done);
-    assert_eq!(rt; page, [1; 1024]);
-    assert_eq!(rt; swap.read(4, &mut page), Moved::Done);
-    assert_eq!(rt; page, [0; 1024]);
-    assert_eq!(rt; swap.read(65_534, &mut page), Moved::Done);
-    assert_eq!(rt; page, [3; 1024]);
+    let growing = [
+        (Call::Read(65_534), Answer::Filled(0), 0),
+        (Call::Write(2, 1), Answer::Written, 2_048),
+        (Call::Write(0, 2), Answer::Written, 2_048),
+        (Call::Write(65_534, 3), Answer::Written, 33_554_432),
+    ];
+    grows(&rt, &mut swap, "grown.swap", &growing);
+    let grown = [
+        (Call::Read(0), Answer::Filled(2)),
+        (Call::Read(2), Answer::Filled(1)),
+        (Call::Read(4), Answer::Filled(0)),
+        (Call::Read(65_534), Answer::Filled(3)),
+    ];
+    answers(&rt, &mut swap, &grown);
     fs::remove_file(&rt, "grown.swap")?;
     Ok(())
 }
 
 #[test]
 fn has_its_file_for_itself(rt: HostRuntime) -> Result<(), Fail> {
-    let mut page = [0; 1024];
     let mut first = FileSwap::new(&rt, "one.swap", 8);
     let mut second = FileSwap::new(&rt, "one.swap", 8);
-    assert_eq!(rt; first.write(0, &[5; 1024]), Moved::Done);
-    assert_eq!(rt; second.write(0, &[6; 1024]), Moved::Failed);
-    assert_eq!(rt; second.read(0, &mut page), Moved::Failed);
-    assert!(rt;
-        tells(
-            rt.alloc(),
-            second.last_refusal(),
-            "one.swap: in use by another run in this folder, or as a file of this run"
-        )?
-    );
-    assert_eq!(rt; first.read(0, &mut page), Moved::Done);
-    assert_eq!(rt; page, [5; 1024]);
+    answers(&rt, &mut first, &[(Call::Write(0, 5), Answer::Written)]);
+    let refused = [
+        (Call::Write(0, 6), Answer::Failed),
+        (Call::Read(0), Answer::Failed),
+    ];
+    answers(&rt, &mut second, &refused);
+    let why = told(rt.alloc(), second.last_refusal());
+    answers(&rt, &mut first, &[(Call::Read(0), Answer::Filled(5))]);
     drop(first);
-    assert_eq!(rt; second.write(2, &[6; 1024]), Moved::Done);
-    assert_eq!(rt; second.read(0, &mut page), Moved::Done);
-    assert_eq!(rt; page, [0; 1024]);
+    let taken = [
+        (Call::Write(2, 6), Answer::Written),
+        (Call::Read(0), Answer::Filled(0)),
+    ];
+    answers(&rt, &mut second, &taken);
+    assert_eq!(rt;
+        why.as_str(),
+        "one.swap: in use by another run in this folder, or as a file of this run"
+    );
     fs::remove_file(&rt, "one.swap")?;
     Ok(())
 }
 
-// Whether a device on this name refuses to write, says so, and leaves the file `precious.file` as it is.
-fn is_refused(rt: &HostRuntime, name: &str, why: &str) -> Result<bool, Fail> {
+// How a device on this name answers a write, and what it tells of that.
+fn answered(rt: &HostRuntime, name: &str) -> (Moved, String) {
     let mut swap = FileSwap::new(rt, name, 8);
     let moved = swap.write(0, &[5; 1024]);
-    let told = tells(rt.alloc(), swap.last_refusal(), why)?;
-    let kept = fs::read_to_string(rt, "precious.file")?.as_str() == "precious";
-    Ok(moved == Moved::Failed && told && kept)
+    (moved, told(rt.alloc(), swap.last_refusal()))
 }
 
 #[test]
@@ -174,7 +177,13 @@ fn refuses_a_file_that_is_not_its_own(rt: HostRuntime) -> Result<(), Fail> {
         ("/dev/null", "/dev/null: is no plain file"),
     ];
     for (name, why) in refused {
-        assert!(rt; is_refused(&rt, name, why)?);
+        let (moved, reason) = answered(&rt, name);
+        let kept = fs::read_to_string(&rt, "precious.file")?;
+        assert_eq!(rt;
+            (moved, reason.as_str(), kept.as_str()),
+            (Moved::Failed, why, "precious"),
+            "{name}"
+        );
     }
     assert!(rt; !fs::exists(&rt, "absent.file")?);
     for name in [

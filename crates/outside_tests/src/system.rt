@@ -2,35 +2,43 @@
 // say what a disk gives.
 ghost use Rattle.std.specs.Prelude.{None};
 
+use crate::calls::{Answer, Call, answers};
+use crate::folder::{bytes_at, length_of};
 use io_edge::{Files, Found, Moved, Sink, SureSwap, SwapDev, SwapPair};
 use std::alloc::{AllocError, Allocator, Global};
 use std::cell::Cell;
 use std::fmt::Display;
 use std::fs::{Metadata, OpenFile, OpenOptions};
 use std::io::{ErrorKind, Read, Seek, SeekFrom, Write};
+use std::process::Abort;
 use std::test::Fail;
 use std::{fs, io, rt};
 use system_edge::{DirFiles, FileSwap, LockFile, OffsetFile, OutSink};
+
+// Checks what is found of a folder with the file `some.file` of five bytes and a folder.
+fn absent_is_told_from_unread(rt: &impl Abort, files: &mut DirFiles<'_, HostRuntime>) {
+    let none = files.find("none.file");
+    let Found::Is { id, len } = files.find("some.file") else {
+        panic!(rt; "not found");
+    };
+    let read = [bytes_at(files, id, 2), bytes_at(files, id, 3)];
+
+    // A file has no files in it: whether there is one can't be told.
+    let inside = [
+        files.find("some.file/inside"),
+        files.find("some.folder/inside"),
+        files.find("some.folder"),
+    ];
+    assert_eq!(rt; (none, len), (Found::Absent, 5));
+    assert_eq!(rt; read, [Some(*b"llo"), None]);
+    assert_eq!(rt; inside, [Found::Failed, Found::Absent, Found::Failed]);
+}
 
 #[test]
 fn an_absent_file_is_told_from_one_that_cannot_be_read(rt: HostRuntime) -> Result<(), Fail> {
     fs::write(&rt, "some.file", "hello")?;
     fs::create_dir(&rt, "some.folder")?;
-    let mut files = DirFiles::new(&rt);
-    assert_eq!(rt; files.find("none.file"), Found::Absent);
-    let Found::Is { id, len } = files.find("some.file") else {
-        return Err(Fail::from("not found"));
-    };
-    assert_eq!(rt; len, 5);
-    let mut buf = [0; 3];
-    assert_eq!(rt; files.read_at(id, 2, &mut buf), Moved::Done);
-    assert_eq!(rt; buf.as_slice(), "llo".as_bytes());
-    assert_eq!(rt; files.read_at(id, 3, &mut buf), Moved::Failed);
-
-    // A file has no files in it: whether there is one can't be told.
-    assert_eq!(rt; files.find("some.file/inside"), Found::Failed);
-    assert_eq!(rt; files.find("some.folder/inside"), Found::Absent);
-    assert_eq!(rt; files.find("some.folder"), Found::Failed);
+    absent_is_told_from_unread(&rt, &mut DirFiles::new(&rt));
     fs::remove_file(&rt, "some.file")?;
     fs::remove_dir(&rt, "some.folder")?;
     Ok(())
@@ -45,26 +53,42 @@ fn unlike(alloc: Global, count: u32) -> Result<Vec<u8>, AllocError> {
     Ok(bytes)
 }
 
+// Checks the pages of the file `some.image` from these places on, and its end.
+fn is_read_as(
+    rt: &impl Abort,
+    files: &mut DirFiles<'_, HostRuntime>,
+    bytes: &[u8],
+    starts: &[usize],
+) {
+    let Found::Is { id, len } = files.find("some.image") else {
+        panic!(rt; "not found");
+    };
+    assert_eq!(rt; len, 2080);
+    for start in starts {
+        let end = start.saturating_add(1024);
+        let Some(page) = bytes_at::<1024>(files, id, *start as u64) else {
+            panic!(rt; "not read at {start}");
+        };
+        assert_eq!(rt; bytes.get(*start..end), Some(page.as_slice()), "at {start}");
+    }
+    let Some(rest) = bytes_at::<4>(files, id, 2076) else {
+        panic!(rt; "not read at the end");
+    };
+    assert_eq!(rt; bytes.get(2076..2080), Some(rest.as_slice()));
+    assert_eq!(rt; bytes_at::<4>(files, id, 2077), None);
+}
+
 // The text of an image that isn't paged begins after its header of 32 bytes, so its pages begin at no multiple of 1,024.
 #[test]
 fn a_page_is_read_from_where_it_begins(rt: HostRuntime) -> Result<(), Fail> {
     let bytes = unlike(rt.alloc(), 2080)?;
     fs::write(&rt, "some.image", bytes.as_slice())?;
-    let mut files = DirFiles::new(&rt);
-    let Found::Is { id, len } = files.find("some.image") else {
-        return Err(Fail::from("not found"));
-    };
-    assert_eq!(rt; len, 2080);
-    for start in [32usize, 1056, 0, 1055] {
-        let mut page = [0; 1024];
-        let end = start.saturating_add(1024);
-        assert_eq!(rt; files.read_at(id, start as u64, &mut page), Moved::Done);
-        assert_eq!(rt; bytes.get(start..end), Some(page.as_slice()), "at {start}");
-    }
-    let mut rest = [0; 4];
-    assert_eq!(rt; files.read_at(id, 2076, &mut rest), Moved::Done);
-    assert_eq!(rt; bytes.get(2076..2080), Some(rest.as_slice()));
-    assert_eq!(rt; files.read_at(id, 2077, &mut rest), Moved::Failed);
+    is_read_as(
+        &rt,
+        &mut DirFiles::new(&rt),
+        bytes.as_slice(),
+        &[32, 1056, 0, 1055],
+    );
     fs::remove_file(&rt, "some.image")?;
     Ok(())
 }
@@ -105,52 +129,59 @@ impl Print for NarrowOutput {
 }
 
 #[test]
-fn a_piece_is_written_in_parts_until_output_takes_nothing(rt: HostRuntime) -> Result<(), Fail> {
+fn a_piece_is_written_in_parts_until_output_takes_nothing(rt: HostRuntime) {
     let output = NarrowOutput {
         taken: Cell::new(0),
         digits: Cell::new(0),
     };
     let mut sink = OutSink::new(&output);
-    assert_eq!(rt; sink.put(&[1, 2, 3]), Moved::Done);
-    assert_eq!(rt; output.taken.get(), 3);
-    assert_eq!(rt; output.digits.get(), 123);
-    assert_eq!(rt; sink.put(&[4, 5, 6]), Moved::Failed);
-    assert_eq!(rt; output.taken.get(), 5);
-    assert_eq!(rt; output.digits.get(), 12_345);
-    Ok(())
+    let first = (
+        sink.put(&[1, 2, 3]),
+        output.taken.get(),
+        output.digits.get(),
+    );
+    let second = (
+        sink.put(&[4, 5, 6]),
+        output.taken.get(),
+        output.digits.get(),
+    );
+    assert_eq!(rt;
+        [first, second],
+        [(Moved::Done, 3, 123), (Moved::Failed, 5, 12_345)]
+    );
+}
+
+// Cuts a file short.
+fn cut(rt: &HostRuntime, name: &str, len: u64) -> io::Result<()> {
+    let file = OpenOptions::new().write(true).open(rt, name)?;
+    file.set_len(len)
 }
 
 #[test]
 fn a_swap_file_holds_each_page_apart(rt: HostRuntime) -> Result<(), Fail> {
     let mut swap = FileSwap::new(&rt, "some.swap", 8);
     assert_eq!(rt; swap.blocks(), 8);
-    assert!(rt; fs::open(&rt, "some.swap").is_err());
-    assert_eq!(rt; swap.write(2, &[5; 1024]), Moved::Done);
-    let mut page = [9; 1024];
-    assert_eq!(rt; swap.read(6, &mut page), Moved::Done);
-    assert_eq!(rt; page, [0; 1024]);
-    assert_eq!(rt; swap.read(2, &mut page), Moved::Done);
-    assert_eq!(rt; page, [5; 1024]);
-
-    // The first page, the next one and the last one, the last one first.
-    assert_eq!(rt; swap.write(6, &[3; 1024]), Moved::Done);
-    assert_eq!(rt; swap.write(0, &[1; 1024]), Moved::Done);
-    assert_eq!(rt; swap.write(2, &[2; 1024]), Moved::Done);
-    assert_eq!(rt; swap.read(0, &mut page), Moved::Done);
-    assert_eq!(rt; page, [1; 1024]);
-    assert_eq!(rt; swap.read(2, &mut page), Moved::Done);
-    assert_eq!(rt; page, [2; 1024]);
-    assert_eq!(rt; swap.read(6, &mut page), Moved::Done);
-    assert_eq!(rt; page, [3; 1024]);
-    assert_eq!(rt; swap.read(4, &mut page), Moved::Done);
-    assert_eq!(rt; page, [0; 1024]);
-
-    // The file is cut short.
-    let file = OpenOptions::new().write(true).open(&rt, "some.swap")?;
-    file.set_len(1030)?;
-    assert_eq!(rt; swap.read(2, &mut page), Moved::Failed);
-    assert_eq!(rt; swap.read(0, &mut page), Moved::Done);
-    assert_eq!(rt; page, [1; 1024]);
+    assert_eq!(rt; length_of(&rt, "some.swap"), None);
+    let calls = [
+        (Call::Write(2, 5), Answer::Written),
+        (Call::Read(6), Answer::Filled(0)),
+        (Call::Read(2), Answer::Filled(5)),
+        // The first page, the next one and the last one, the last one first.
+        (Call::Write(6, 3), Answer::Written),
+        (Call::Write(0, 1), Answer::Written),
+        (Call::Write(2, 2), Answer::Written),
+        (Call::Read(0), Answer::Filled(1)),
+        (Call::Read(2), Answer::Filled(2)),
+        (Call::Read(6), Answer::Filled(3)),
+        (Call::Read(4), Answer::Filled(0)),
+    ];
+    answers(&rt, &mut swap, &calls);
+    cut(&rt, "some.swap", 1030)?;
+    let short = [
+        (Call::Read(2), Answer::Failed),
+        (Call::Read(0), Answer::Filled(1)),
+    ];
+    answers(&rt, &mut swap, &short);
     fs::remove_file(&rt, "some.swap")?;
     Ok(())
 }
@@ -288,15 +319,20 @@ fn what_the_system_refuses_fails(rt: HostRuntime) -> Result<(), Fail> {
     let mut zero = SureSwap::new(rt.alloc(), 2048)?;
     let mut one = FileSwap::new(&disk, "full.swap", 2048);
     let mut pair = SwapPair::new(&mut zero, &mut one);
-    assert_eq!(rt; pair.blocks(), 4096);
-    assert_eq!(rt; pair.write(0, &[1; 1024]), Moved::Done);
-    assert_eq!(rt; pair.write(1024, &[1; 1024]), Moved::Done);
-    assert_eq!(rt; pair.failed_write(), None);
-    assert_eq!(rt; pair.write(1026, &[1; 1024]), Moved::Failed);
-    assert_eq!(rt; pair.failed_write(), Some(1));
-
-    let mut page = [0; 1024];
-    assert_eq!(rt; pair.read(1024, &mut page), Moved::Failed);
-    assert_eq!(rt; pair.failed_read(), Some(1));
+    let blocks = pair.blocks();
+    let written = [
+        (Call::Write(0, 1), Answer::Written),
+        (Call::Write(1024, 1), Answer::Written),
+    ];
+    answers(&rt, &mut pair, &written);
+    let none = pair.failed_write();
+    answers(&rt, &mut pair, &[(Call::Write(1026, 1), Answer::Failed)]);
+    let writing = pair.failed_write();
+    answers(&rt, &mut pair, &[(Call::Read(1024), Answer::Failed)]);
+    let reading = pair.failed_read();
+    assert_eq!(rt;
+        (blocks, none, writing, reading),
+        (4096, None, Some(1), Some(1))
+    );
     Ok(())
 }

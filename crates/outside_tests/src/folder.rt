@@ -1,0 +1,37 @@
+// What the tests ask of a real folder.
+use io_edge::{Files, Moved};
+use std::alloc::Global;
+use std::{fs, rt};
+use system_edge::{DirFiles, Refusal};
+
+/// So many bytes of a file that was found, from an offset on; `None` where the read fails.
+pub fn bytes_at<const N: usize>(
+    files: &mut DirFiles<'_, HostRuntime>,
+    id: u32,
+    offset: u64,
+) -> Option<[u8; N]> {
+    let mut bytes = [0; N];
+    match files.read_at(id, offset, &mut bytes) {
+        Moved::Done => Some(bytes),
+        Moved::Failed => None,
+    }
+}
+
+/// How long a file is, where it is there.
+pub fn length_of<R: rt::Files>(rt: &R, name: &str) -> Option<u64> {
+    match fs::metadata(rt, name) {
+        Ok(metadata) => Some(metadata.len()),
+        Err(_) => None,
+    }
+}
+
+/// What is told of a refusal; no byte where there is none.
+pub fn told(alloc: Global, refusal: Option<Refusal<'_>>) -> String {
+    let Some(refusal) = refusal else {
+        return String::new(alloc);
+    };
+    match format!(in alloc; "{refusal}") {
+        Ok(text) => text,
+        Err(_) => String::new(alloc),
+    }
+}
