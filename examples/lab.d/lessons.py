@@ -9,9 +9,48 @@ HERE = os.path.dirname(os.path.realpath(__file__))
 EXAMPLES = os.path.dirname(HERE)
 TOUR = f"{EXAMPLES}/../docs/TOUR.md"
 TABLE = f"{EXAMPLES}/README.md"
+C_TABLE = f"{EXAMPLES}/c/README.md"
 LINES = f"{EXAMPLES}/../docs/LINES.md"
 # programs that are images in the folder, with no source
 IMAGES = ("hi7", "hi8", "self7")
+# what a program in C is at first
+FIRST_C = """#include <stdio.h>
+
+int main(void)
+{
+    static char pages[100 * 1024];
+    int sum = 0;
+    for (int round = 0; round < 2; round++)
+        for (int page = 0; page < 100; page++)
+            sum += ++pages[page * 1024];
+    printf("sum %d\\n", sum);
+    return 0;
+}
+"""
+# what one learns of each run of the tour, by its section and its words. Each has its line here: lab-check looks
+TITLES = {
+    ("The address space", "64 256 100 s args"): "arguments lie at the top of the stack",
+    ("The address space", "64 512 100 s deep2"): "a touch far below grows the stack",
+    ("The address space", "64 256 100 s brk"): "break grows and shrinks the data",
+    ("The states of a page", "64 1024 2000 s ring"): "new pages are filled with zeros at a touch",
+    ("No frame is free", "64 1024 1000 forced ring"): "the two hands free frames, move by move",
+    ("A page that is used stays", "64 256 148 touched walk"): "touched between the hands, a page stays",
+    ("A page that is used stays", "64 256 147 late walk"): "touched too late, it is taken back without a read",
+    ("Neighbours", "64 1024 2000 s ring"): "a read from swap brings neighbours along",
+    ("Neighbours", "64 256 100 s code"): "a text page brings the next one along",
+    ("Before it is too late: the daemon", "64 1024 10000 daemon wider"): "hands that move ahead of need",
+    ("A page in flight", "64 256 147 flight walk"): "who touches a page that is being written waits",
+    ("Out and in", "64 1024 1000 swapped waits"): "a process goes out to swap, and comes in",
+    ("fork copies", "64 256 100 s forky"): "a child's pages are copied at once",
+    ("vfork lends", "64 256 100 s lendy"): "a child in its parent's space copies nothing",
+    ("vfork lends", "64 1024 100 s lendx =big"): "at an execve the space goes back",
+    ("execve", "64 256 100 s lendx =big"): "with too little swap execve is refused",
+    ("The end", "128 1024 1000 zombie waits"): "a status is kept until the parent asks",
+    ("A text is shared and kept", "64 256 100 s hi hi"): "two processes share one text",
+    ("A text is shared and kept", "64 256 100 s hi ex"): "a text that nobody runs is kept a while",
+    ("What the program sees", "64 1024 10000 s ring"): "64 frames: what the program sees",
+    ("What the program sees", "4096 1024 10000 s ring"): "4,096 frames: the program sees the same",
+}
 PICTURES = f"{EXAMPLES}/../docs/pictures"
 # the names that a program of one's own may have
 OWN = ("mine", "mine2", "mine3", "mine4")
@@ -31,6 +70,13 @@ def sources():
     """The source of each example, by its name."""
     files = sorted(glob.glob(f"{EXAMPLES}/*.s"))
     return {os.path.basename(it)[:-2]: text_of(it) for it in files if os.path.basename(it)[:-2] not in OWN}
+
+
+def c_examples():
+    """The programs of examples/c of one image: of each its source, and the words of its run."""
+    rows = re.findall(r"(?m)^### (\w+)\n\nRun: `(\d+) (\d+) s \1`$", text_of(C_TABLE))
+    words = [(name, {"frames": "64", "swap": swap, "limit": limit, "schedule": ""}) for name, swap, limit in rows]
+    return [{"title": f"{name}.c", "text": text_of(f"{EXAMPLES}/c/{name}.c"), **row} for name, row in words]
 
 
 def pictures():
@@ -108,5 +154,5 @@ def lessons():
                 if name in schedules and words not in seen:
                     seen.add(words)
                     asked = {"frames": frames, "swap": swap, "limit": limit, "images": images}
-                    found.append({"section": title, "title": words, "schedule": schedules[name], "text": blocks(text), **asked})
+                    found.append({"section": title, "title": TITLES.get((title, words), words), "words": words, "schedule": schedules[name], "text": blocks(text), **asked})
     return found

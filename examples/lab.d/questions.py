@@ -1,109 +1,52 @@
 """What a page may ask of a run. Each answer is the program's; what is counted here are lines that it wrote."""
+import json
 import re
-import shutil
 
 import lessons
 from runs import Refused
+from setups import NAMES, NO_COMPILER, SOURCES, Program, Setup, bad, has_compiler, known, lines_of, make, prepare, write
 
-# a number as the page gives it: the program says what is wrong with it
-NUMBER = re.compile(r"[0-9A-Za-z.,_ ]{0,12}")
-MOST_PROGRAMS = 16
 # how many steps a film may have, by the frames of its machine
 MOST_STEPS = ((256, 400), (1024, 100), (4096, 30))
 # what of a transcript is handed to the page, in bytes
 MOST_TRANSCRIPT = 8 << 20
-# at how many sizes of memory the fewest faults are asked, and the run's own
+# at how many sizes of memory faults are asked, and the run's own
 SIZES = 40
-SOURCES = lessons.sources()
-# every name that a file of a run may have. A name that a page gives is looked for here, and is never itself a file's name
-NAMES = {name: name for name in (*SOURCES, *lessons.IMAGES, *lessons.OWN)}
-
-
-def text(asked, name, most):
-    """A text of what is asked."""
-    value = asked.get(name)
-    if not isinstance(value, str) or len(value) > most:
-        raise Refused(400, f"{name} is no text of at most {most} characters")
-    return value
-
-
-def known(name):
-    """The name of this table that a page's name is."""
-    if not isinstance(name, str) or name not in NAMES:
-        raise Refused(400, "no program of this page, and no example, has this name")
-    return NAMES[name]
-
-
-class Setup:
-    """What a page has set up: its programs, and the words of its run."""
-
-    def __init__(self, asked):
-        self.numbers = [text(asked, name, 12).strip() for name in ("frames", "swap", "limit")]
-        if not all(map(NUMBER.fullmatch, self.numbers)):
-            raise Refused(400, "a number has a character that no number has")
-        self.schedule = text(asked, "schedule", 1 << 21)
-        programs = asked.get("programs")
-        if not isinstance(programs, dict) or len(programs) > MOST_PROGRAMS:
-            raise Refused(400, f"programs is no table of at most {MOST_PROGRAMS}")
-        self.programs = {known(name): text(programs, name, 1 << 20) for name in programs}
-        words = text(asked, "images", 1024).split()
-        self.images = [("=" if word.startswith("=") else "") + known(word.removeprefix("=")) for word in words]
-
-    def words(self, frames=None):
-        """The words of the run, with as many frames as it has or others."""
-        return [*([str(frames)] if frames else self.numbers[:1]), *self.numbers[1:], "schedule", *self.images]
-
-
-def write(folder, name, content):
-    """Writes a file of the run's folder."""
-    with open(f"{folder}/{name}", "wb") as it:
-        it.write(content)
-
-
-def bad(answer, **more):
-    """What is told of an answer that isn't one of status 0."""
-    last = answer.text().rstrip("\n").rpartition("\n")[2][-400:]
-    return {"status": answer.status, "line": last, "said": answer.told()[-2000:], "cut": answer.cut, **more}
-
-
-def assemble(run, name, source):
-    """Makes the image of a source: nothing, or what is told of a bad one."""
-    write(run.folder, f"{name}.s", source.encode(errors="replace"))
-    answer = run.launched("as", f"{name}.s")
-    if answer.status or answer.cut:
-        return bad(answer, program=name)
-    write(run.folder, name, answer.output)
-    return None
-
-
-def prepare(run, setup):
-    """Makes the files of a run: nothing, or what is told of a program that is bad."""
-    write(run.folder, "schedule", setup.schedule.encode(errors="replace"))
-    named = {image.removeprefix("=") for image in setup.images}
-    for name in [name for name in NAMES if name in named]:
-        if name in setup.programs or name in SOURCES:
-            wrong = assemble(run, name, setup.programs.get(name, SOURCES.get(name)))
-            if wrong:
-                return wrong
-        elif name in lessons.IMAGES:
-            shutil.copyfile(f"{lessons.EXAMPLES}/{name}", f"{run.folder}/{name}")
-        else:
-            raise Refused(400, f"the page has no program {name}")
-    return None
+# `refs` takes no higher limit than this where it takes less than `run`
+LEAST_LIMIT = 100_000
+POLICIES = ("fifo", "clock", "hands", "lru", "least")
+CARD = f"{lessons.HERE}/card.json"
 
 
 def ask_check(run, asked):
-    """Assembles one program, and lists its instructions."""
+    """Makes the image of one program, and lists its instructions."""
     name = known(asked.get("program"))
-    wrong = assemble(run, name, text(asked, "source", 1 << 20))
-    return wrong or {"status": 0, "program": name, "listing": run.program("dis", name).text()}
+    wrong = make(run, name, Program(asked, "source"))
+    if wrong:
+        return wrong
+    answer = run.program("dis", name)
+    if answer.status or answer.cut:
+        return bad(answer, program=name)
+    return {"status": 0, "program": name, "listing": answer.text()}
+
+
+def names_of(setup):
+    """The names of the images that a process begins with."""
+    return [image for image in dict.fromkeys(setup.images) if not image.startswith("=")]
 
 
 def listings(run, setup):
     """The listing of each image that a process begins with, by its name."""
-    names = [image for image in dict.fromkeys(setup.images) if not image.startswith("=")]
-    answers = {name: run.program("dis", name) for name in names}
+    answers = {name: run.program("dis", name) for name in names_of(setup)}
     return {name: answer.text() for name, answer in answers.items() if not answer.status and not answer.cut}
+
+
+def ending(transcript, many):
+    """How a run ended, by its transcript: how many instructions ran, and which processes have not ended. At first there are many, and
+    more by fork and vfork."""
+    ran = sum(map(int, re.findall(r"(?m)^r \d+ (\d+)$", transcript)))
+    begun = {*range(1, many + 1), *map(int, re.findall(r"(?m)^c \d+ (?:2|66) 0 (\d+) ", transcript))}
+    return {"ran": ran, "left": sorted(begun - set(map(int, re.findall(r"(?m)^x (\d+) ", transcript))))}
 
 
 def ask_run(run, asked):
@@ -116,7 +59,9 @@ def ask_run(run, asked):
     answer = run.program("run", "--trace", *setup.words())
     whole = answer.text()
     shown = whole[: whole.rfind("\n", 0, MOST_TRANSCRIPT) + 1] if len(whole) > MOST_TRANSCRIPT else whole
-    return bad(answer, transcript=shown, short=len(shown) < len(whole), listings=listed)
+    lines = {name: found for name in names_of(setup) if (found := lines_of(run, name)) is not None}
+    told = {"transcript": shown, "short": len(shown) < len(whole), "listings": listed, "lines": lines}
+    return bad(answer, **told, **ending(whole, sum(not image.startswith("=") for image in setup.images)))
 
 
 def step_number(asked, name):
@@ -145,34 +90,82 @@ def ask_film(run, asked):
     return bad(answer) if answer.status or answer.cut else {"status": 0, "film": answer.text()}
 
 
+def counted(text):
+    """Of each step of a film its number, the frames that are free, and the blocks of swap that are held."""
+    rows = []
+    for step in re.split(r"(?m)^step ", text)[1:]:
+        pieces = re.findall(r"(?m)^swap \d+ (\d+) (free)?", step)
+        rows.append((int(step.split(None, 1)[0]), len(re.findall(r"(?m)^frame \d+ free ", step)), sum(int(many) for many, free in pieces if not free)))
+    return rows
+
+
+def ask_course(run, asked):
+    """What is free and held along the run, at some of its steps, from the first to the last."""
+    setup = Setup(asked)
+    last = step_number(asked, "last")
+    wrong = prepare(run, setup)
+    if wrong:
+        return wrong
+    every = max(1, -(-last // (steps_of(setup.numbers[0]) // 2 or 1)))
+    answer = run.program("film", "0", str(last), str(every), *setup.words())
+    return bad(answer) if answer.status or answer.cut else {"status": 0, "counted": counted(answer.text())}
+
+
 def sizes_of(pages, frames):
-    """Sizes of memory to ask about: evenly from few frames to all pages, and the run's own."""
+    """Sizes of memory to ask about: evenly from few frames to all pages, and the run's own. They come so that the first of them are far
+    apart, and each further one stands between others."""
     step = max(1, (pages + SIZES - 1) // SIZES)
     most = max(pages + 2 * step, 70)
     own = [int(frames)] if frames.isdecimal() and int(frames) <= most else []
-    return sorted({*range(step, most + 1, step), *own})
+    even = list(range(step, most + 1, step))
+    spread = [even[at] for stride in (8, 4, 2, 1) for at in range(0, len(even), stride)]
+    return list(dict.fromkeys([*own, *spread, even[-1]]))
+
+
+def references(run, setup):
+    """The pages that the run touches, and up to which limit: that of the run, or the highest that `refs` takes."""
+    answer = run.program("refs", *setup.words())
+    if answer.status == 1 and "LIMIT is" in answer.told():
+        return run.program("refs", *setup.words(limit=LEAST_LIMIT)), LEAST_LIMIT
+    return answer, None
+
+
+def faults_at(run, setup, frames):
+    """The faults with so many frames: of each policy, and of the run itself without its reclaims, and these; or an answer that is bad."""
+    answer = run.program("policies", str(frames), "references")
+    if answer.status or answer.cut:
+        return answer
+    told = {name: int(many) for name, many in re.findall(r"(?m)^(\w+) (\d+)$", answer.text())}
+    if 64 <= frames <= 4096:
+        answer = run.program("run", "--trace", *setup.words(frames))
+        if answer.status or answer.cut:
+            return answer
+        letters = [line[0] for line in answer.text().splitlines()]
+        told |= {"bare": sum(map(letters.count, "ZGC")), "reclaims": letters.count("R")}
+    return told
 
 
 def ask_faults(run, asked):
-    """The page faults at each size of memory: of LRU, of the best replacement, and of the run itself."""
+    """The page faults at sizes of memory: of each policy on the pages that the run touches, and of the run itself. Where time is up those
+    that there are."""
     setup = Setup(asked)
     wrong = prepare(run, setup)
-    curve = None if wrong else run.program("curve", *setup.words())
-    if wrong or curve.status or curve.cut:
-        return wrong or bad(curve)
-    rows = [tuple(map(int, line.split())) for line in curve.text().splitlines() if line[0].isdecimal()]
-    told = {"status": 0, "lru": rows, "best": [], "own": []}
-    for frames in sizes_of(len(rows), setup.numbers[0]):
-        least = run.program("opt", str(frames), *setup.words())
-        traced = run.program("run", "--trace", *setup.words(frames)) if 64 <= frames <= 4096 else None
-        for answer in filter(None, (least, traced)):
-            if answer.status or answer.cut:
-                return bad(answer)
-        told["best"].append((frames, int(re.search(r"(?m)^least faults (\d+)$", least.text())[1])))
-        if traced:
-            letters = [line[0] for line in traced.text().splitlines()]
-            told["own"].append((frames, sum(map(letters.count, "ZGC")), letters.count("R")))
-    return told
+    found, limit = (None, None) if wrong else references(run, setup)
+    if wrong or found.status or found.cut:
+        return wrong or bad(found)
+    write(run.folder, "references", found.output)
+    lines = found.text().splitlines()
+    rows, cut = [], False
+    for frames in sizes_of(len(set(lines)), setup.numbers[0]):
+        told = faults_at(run, setup, frames)
+        if not isinstance(told, dict):
+            if told.cut == "time" and rows:
+                cut = True
+                break
+            return bad(told)
+        rows.append({"frames": frames, **told})
+    rows.sort(key=lambda row: row["frames"])
+    return {"status": 0, "rows": rows, "references": len(lines), "pages": len(set(lines)), "limit": limit, "cut": cut}
 
 
 def ask_stats(run, asked):
@@ -185,7 +178,7 @@ def ask_stats(run, asked):
     return {"status": 0, "rows": [line.split(" ") for line in answer.text().splitlines()]}
 
 
-QUESTIONS = {"check": ask_check, "run": ask_run, "film": ask_film, "faults": ask_faults, "stats": ask_stats}
+QUESTIONS = {"check": ask_check, "run": ask_run, "film": ask_film, "course": ask_course, "faults": ask_faults, "stats": ask_stats}
 
 
 def has_stats(run):
@@ -194,7 +187,14 @@ def has_stats(run):
     return re.search(r"\bstats\b", answer.text() + answer.told()) is not None
 
 
+def card():
+    """What can be written in a source, as lab.d/make-card has put it together."""
+    with open(CARD, encoding="utf-8") as it:
+        return json.load(it)
+
+
 def beginning(stats, seconds):
     """What a page is told when it begins."""
-    made = {"sources": SOURCES, "own": lessons.OWN, "names": list(NAMES), "stats": stats, "seconds": seconds}
-    return {**made, "steps": MOST_STEPS, "examples": lessons.examples(), "lessons": lessons.lessons()}
+    made = {"sources": SOURCES, "own": lessons.OWN, "names": list(NAMES), "stats": stats, "seconds": seconds, "policies": POLICIES}
+    compiler = {"c": has_compiler(), "noCompiler": NO_COMPILER, "cFirst": lessons.FIRST_C, "cExamples": lessons.c_examples()}
+    return {**made, **compiler, "steps": MOST_STEPS, "examples": lessons.examples(), "lessons": lessons.lessons(), "card": card()}

@@ -1,0 +1,100 @@
+// The plot of page faults by page frames.
+import { asked } from "./ask.js";
+import { cellsOf } from "./counts.js";
+import { hasFailed, hasResult } from "./results.js";
+import { setup, tellResult } from "./state.js";
+import { tellBad, tellEmpty } from "./told.js";
+
+const LINES = [
+  ["fifo", "FIFO", (row) => row.fifo],
+  ["clock", "clock", (row) => row.clock],
+  ["hands", "two hands", (row) => row.hands],
+  ["lru", "LRU", (row) => row.lru],
+  ["least", "the fewest of any (OPT)", (row) => row.least],
+  ["own", "the run, with its reclaims", (row) => (row.bare === undefined ? undefined : row.bare + row.reclaims)],
+  ["bare", "the run, without them", (row) => row.bare],
+];
+
+const PLOT = { width: 760, height: 360, left: 78, right: 14, top: 14, bottom: 44 };
+let faults = null;
+let plotWidth = 0;
+
+// Some six round numbers from 0 to the most.
+function ticks(most) {
+  const rough = Math.max(1, most / 6);
+  const power = 10 ** Math.floor(Math.log10(rough));
+  const step = [1, 2, 5, 10].map((it) => it * power).find((it) => it >= rough);
+  return Array.from({ length: Math.floor(most / step) + 1 }, (_, index) => index * step);
+}
+
+function drawAxes(svg, x, y, wide, high) {
+  const { width, height, left, right, top, bottom } = PLOT;
+  for (const tick of ticks(high)) {
+    svg.append(shape("line", { class: "grid", x1: left, x2: width - right, y1: y(tick), y2: y(tick) }));
+    svg.append(shape("text", { x: left - 6, y: y(tick) + 4, "text-anchor": "end" }, number(tick)));
+  }
+  for (const tick of ticks(wide)) svg.append(shape("text", { x: x(tick), y: height - bottom + 18, "text-anchor": "middle" }, number(tick)));
+  svg.append(shape("path", { class: "axis", d: `M${left} ${top}V${height - bottom}H${width - right}` }));
+  svg.append(shape("text", { class: "name", x: (left + width - right) / 2, y: height - 6, "text-anchor": "middle" }, "page frames"));
+  const middle = (top + height - bottom) / 2;
+  svg.append(shape("text", { class: "name", x: 14, y: middle, "text-anchor": "middle", transform: `rotate(-90 14 ${middle})` }, "page faults"));
+}
+
+// The faults at each size of memory, as wide as there is room. The smallest sizes stand in the table alone, where there are more: there
+// nearly every reference is a fault.
+export function drawPlot() {
+  const { rows, frames: own } = faults;
+  PLOT.width = Math.max(280, Math.floor(at("lab-plot").clientWidth));
+  plotWidth = PLOT.width;
+  const { width, height, left, right, top, bottom } = PLOT;
+  const shown = rows.filter(({ frames }) => frames > 2 || rows.length < 8);
+  const lines = LINES.map(([kind, words, value]) => [kind, words, shown.map((row) => [row.frames, value(row)]).filter(([, many]) => many !== undefined)]);
+  const points = lines.flatMap(([, , points]) => points);
+  const wide = points.reduce((most, [frames]) => Math.max(most, frames), 1);
+  const high = points.reduce((most, [, faults]) => Math.max(most, faults), 1);
+  const x = (frames) => left + (frames / wide) * (width - left - right);
+  const y = (faults) => height - bottom - (faults / high) * (height - top - bottom);
+  const svg = shape("svg", { width, height, role: "img", "aria-labelledby": "lab-plot-title lab-plot-of" });
+  drawAxes(svg, x, y, wide, high);
+  if (own <= wide) svg.append(shape("line", { class: "here", x1: x(own), x2: x(own), y1: top, y2: height - bottom }));
+  for (const [kind, , points] of lines) {
+    svg.append(shape("polyline", { class: `lab-${kind}`, points: points.map(([frames, faults]) => `${x(frames).toFixed(1)},${y(faults).toFixed(1)}`).join(" ") }));
+    const here = points.find(([frames]) => frames === own) || (points.length === 1 ? points[0] : null);
+    if (here) svg.append(shape("circle", { class: `lab-${kind}`, cx: x(here[0]), cy: y(here[1]), r: 4 }));
+  }
+  at("lab-plot").replaceChildren(svg);
+  at("lab-plot-legend").replaceChildren(...lines.map(([kind, words]) => element("li", `lab-${kind}`, words)));
+  const cells = rows.map((row) => cellsOf("td", [row.frames, ...LINES.map(([, , value]) => value(row) ?? "")]));
+  at("lab-plot-table").replaceChildren(cellsOf("th", ["frames", ...LINES.map(([, words]) => words)]), ...cells);
+}
+
+// What the faults are counted of, where that isn't the whole run at all sizes.
+function partWords({ limit, cut, references, pages }) {
+  const part = limit === null ? "" : ` The policies have the first ${number(limit)} instructions alone.`;
+  const sizes = cut ? " Time was up: fewer sizes than otherwise." : "";
+  return `${many(references, "reference")} to ${many(pages, "page")}. A policy brings in one page at a time; a read of the run may bring neighbours along, so it may have fewer faults.${part}${sizes}`;
+}
+
+export async function plot() {
+  if (tellEmpty()) return;
+  const given = setup();
+  const answer = await asked("faults", given, "Counting faults at each size of memory ..");
+  if (!answer?.rows) {
+    hasFailed("plot");
+    return answer && tellResult(tellBad(answer), true);
+  }
+  at("lab-plot-part").hidden = false;
+  at("lab-plot-part").open = true;
+  faults = { ...answer, frames: Number(given.frames) };
+  at("lab-plot-part-said").textContent = partWords(answer);
+  drawPlot();
+  hasResult("plot", given);
+  tellResult("The faults are drawn below.", false);
+}
+
+// At another width the plot is drawn anew.
+export function watchPlot() {
+  new ResizeObserver(([{ contentRect }]) => {
+    if (faults && contentRect.width > 0 && Math.floor(contentRect.width) !== plotWidth) drawPlot();
+  }).observe(at("lab-plot"));
+}
