@@ -90,6 +90,9 @@ REGISTERS.update({"%ap": "r12", "%fp": "r13", "%sp": "r14", "%pc": "r15"})
 STACK = "r14"
 PUSH, TOP, POP = Operand("-(r14)"), Operand("(r14)"), Operand("(r14)+")
 
+# a stack has at most so many bytes
+MOST_STACK = 512 * 1024
+
 FLOATS = re.compile(r"(mov|cmp|tst|mneg|add|sub|mul|div|clr|pol|emod)[fdgh][23]?$|(cvtr?)([fdgh][bwlfdgh]|[bwl][fdgh])$|acb[fdgh]$")
 LONG_LONGS = re.compile(r"(movq|clrq|ashq|adwc|sbwc|emul|ediv|cmpq|tstq|pushaq|movaq)$")
 LONG_LONG_CALLS = re.compile(r"__\w+di[0-9]?$|__(fix|fixuns)\w+di$|__float\w*di\w*$")
@@ -176,6 +179,13 @@ class Function:
         self.line = 0
         self.loops = 0
         self.narrow = None
+        self.variables = 0  # how many bytes they have, where these are too many
+
+    def at_line(self, line):
+        """a line of C begins; the room for variables is made before the first one"""
+        self.line = line
+        if self.variables:
+            self.refuse(f"{self.variables} bytes for its variables, and a stack has {MOST_STACK}")
 
     def refuse(self, needs):
         line = ":" + str(self.line) if self.line else ""
@@ -207,6 +217,8 @@ class Function:
         self.narrow = None
         if name == "calls" and LONG_LONG_CALLS.match(operands[1].symbol or ""):
             self.refuse("64-bit numbers, which the machine hasn't")
+        if name == "subl2" and operands[1].form == STACK and operands[0].is_constant() and not 0 <= operands[0].value < MOST_STACK:
+            self.variables = operands[0].value & 0xffffffff
         if name in OPERANDS and len(operands) == len(OPERANDS[name]):
             self.emit(name, *operands)
         elif not self.other(name, operands):
@@ -440,7 +452,7 @@ class Reader:
         elif name == ".stabn":
             values = split_operands(rest)
             if values[0] == "68" and self.function:
-                self.function.line = int(values[2])
+                self.function.at_line(int(values[2]))
         elif name in (".byte", ".word", ".long"):
             self.values(SIZES[name[1]], split_operands(rest))
         elif name in (".ascii", ".asciz"):

@@ -265,6 +265,20 @@ class Layout:
                 lines = own
             return octets + assemble(pieces, size, folder, vmrun)
 
+    def lines(self):
+        """the addresses of the text at which another line of a file begins, each with its line, or 0 for none, and its file; at
+        last where the functions end"""
+        told = (0, "")
+        for unit in self.functions:
+            at = self.addresses[id(unit)]
+            for number, step in enumerate(unit.body):
+                size = step_size(step, number in self.far[id(unit)])
+                if size and told != (step.line, unit.file):
+                    told = (step.line, unit.file)
+                    yield at, *told
+                at += size
+        yield self.code_size, 0, "-"
+
     def packed(self, units, base, size):
         octets = bytearray(size)
         for unit in units:

@@ -1,7 +1,9 @@
 /* Memory by first fit. The free blocks are a list by rising addresses, and the first that is long enough is taken; where
    there is none the data grow by the call break. A block that is given back is joined with the free ones beside it. */
 
+#include <errno.h>
 #include <stdlib.h>
+#include <string.h>
 #include <unistd.h>
 
 struct block {
@@ -11,6 +13,7 @@ struct block {
 
 #define UNIT 8			/* lengths are multiples of it */
 #define GROWTH 4096		/* the data grow by so much at least */
+#define MOST (4096 * 1024)	/* the data have no more bytes */
 
 static struct block *first;
 
@@ -36,6 +39,10 @@ void *malloc(size_t bytes)
 {
 	struct block **at, *block, *rest;
 
+	if (bytes > MOST) {
+		errno = ENOMEM;
+		return 0;
+	}
 	bytes = (bytes + sizeof(struct block) + UNIT - 1) & ~(UNIT - 1);
 	for (;;) {
 		for (at = &first; *at != 0; at = &(*at)->next)
@@ -81,4 +88,39 @@ void free(void *memory)
 		before->next = block->next;
 	} else
 		before->next = block;
+}
+
+/* memory of zeros */
+void *calloc(size_t count, size_t bytes)
+{
+	void *memory;
+
+	if (bytes != 0 && count > MOST / bytes) {
+		errno = ENOMEM;
+		return 0;
+	}
+	memory = malloc(count * bytes);
+	if (memory != 0)
+		memset(memory, 0, count * bytes);
+	return memory;
+}
+
+/* the same bytes where there is room for so many; where there is none, the old memory stays */
+void *realloc(void *memory, size_t bytes)
+{
+	struct block *block = (struct block *)memory - 1;
+	size_t held;
+	void *other;
+
+	if (memory == 0)
+		return malloc(bytes);
+	held = block->bytes - sizeof(struct block);
+	if (bytes <= held)
+		return memory;
+	other = malloc(bytes);
+	if (other == 0)
+		return 0;
+	memcpy(other, memory, held);
+	free(memory);
+	return other;
 }

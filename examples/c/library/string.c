@@ -20,6 +20,17 @@ char *strcpy(char *to, const char *from)
 	return to;
 }
 
+char *strncpy(char *to, const char *from, size_t most)
+{
+	char *at = to;
+
+	for (; most > 0 && *from; most--)
+		*at++ = *from++;
+	for (; most > 0; most--)
+		*at++ = 0;
+	return to;
+}
+
 char *strcat(char *to, const char *from)
 {
 	strcpy(to + strlen(to), from);
@@ -47,6 +58,37 @@ char *strchr(const char *text, int wanted)
 		if (*text == 0)
 			return 0;
 	return (char *)text;
+}
+
+char *strrchr(const char *text, int wanted)
+{
+	const char *found = 0;
+
+	do
+		if (*text == (char)wanted)
+			found = text;
+	while (*text++);
+	return (char *)found;
+}
+
+char *strstr(const char *text, const char *wanted)
+{
+	size_t length = strlen(wanted);
+
+	for (; strncmp(text, wanted, length) != 0; text++)
+		if (*text == 0)
+			return 0;
+	return (char *)text;
+}
+
+void *memchr(const void *bytes, int wanted, size_t count)
+{
+	const unsigned char *at = bytes;
+
+	for (; count > 0; count--, at++)
+		if (*at == (unsigned char)wanted)
+			return (void *)at;
+	return 0;
 }
 
 void *memcpy(void *to, const void *from, size_t bytes)

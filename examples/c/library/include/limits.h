@@ -1,3 +1,6 @@
+#ifndef LIMITS_H
+#define LIMITS_H
+
 #define CHAR_BIT 8
 #define SCHAR_MIN (-128)
 #define SCHAR_MAX 127
@@ -13,3 +16,5 @@
 #define LONG_MIN INT_MIN
 #define LONG_MAX INT_MAX
 #define ULONG_MAX UINT_MAX
+
+#endif

@@ -4,12 +4,23 @@
 #include <stddef.h>
 
 #define RAND_MAX 32767
+#define EXIT_SUCCESS 0
+#define EXIT_FAILURE 1
 
 void exit(int code);
+void abort(void);	/* ends by signal 4; what waits in the buffer of stdout is lost */
 void *malloc(size_t bytes);
+void *calloc(size_t count, size_t bytes);
+void *realloc(void *memory, size_t bytes);
 void free(void *memory);
 void qsort(void *base, size_t count, size_t width, int (*compare)(const void *, const void *));
 int rand(void);
 void srand(unsigned seed);
+int abs(int number);
+long labs(long number);
+int atoi(const char *text);
+long atol(const char *text);
+long strtol(const char *text, char **end, int base);
+unsigned long strtoul(const char *text, char **end, int base);
 
 #endif

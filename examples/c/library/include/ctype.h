@@ -1,0 +1,20 @@
+#ifndef CTYPE_H
+#define CTYPE_H
+
+/* what kind of character it is, of ASCII: each is 0 for any other number, as that of EOF */
+int isalnum(int character);
+int isalpha(int character);
+int isblank(int character);
+int iscntrl(int character);
+int isdigit(int character);
+int isgraph(int character);
+int islower(int character);
+int isprint(int character);
+int ispunct(int character);
+int isspace(int character);
+int isupper(int character);
+int isxdigit(int character);
+int tolower(int character);
+int toupper(int character);
+
+#endif
