@@ -3,9 +3,12 @@
  * FAULTS_COUNTS  a file of one number of 64 bits for each kind; how often each was called is counted there
  * FAULTS_KIND    the kind whose call fails, by its number in `enum kind`
  * FAULTS_AT      which of its calls: 1 is the first
- * FAULTS_HOW     the number of the error; 0 has a read or write of several bytes move one
+ * FAULTS_HOW     the number of the error; 0 has a read or write of several bytes move one, -1 none
+ * FAULTS_STAYS   1: all later calls of the kind do the same
  *
- * The calls are made by syscall(2), so that nothing of the C library is called twice. */
+ * The calls are made by syscall(2), so that nothing of the C library is called twice. What goes to standard error is not counted:
+ * a disk that is full isn't that of the terminal. As the program begins getppid is called once, which nothing else does: in what
+ * strace tells, the calls of the system's loader stand before it. */
 #define _GNU_SOURCE
 #include <errno.h>
 #include <fcntl.h>
@@ -13,17 +16,18 @@
 #include <stdint.h>
 #include <stdlib.h>
 #include <sys/mman.h>
+#include <sys/stat.h>
 #include <sys/syscall.h>
 #include <sys/types.h>
 #include <sys/uio.h>
 #include <unistd.h>
 
-enum kind { OPEN, READ, WRITE, PREAD, PWRITE, FTRUNCATE, FLOCK, CLOSE, MMAP, LSEEK, MEMORY, KINDS };
+enum kind { OPEN, READ, WRITE, PREAD, PWRITE, FTRUNCATE, FLOCK, CLOSE, STATX, FCHMOD, MEMORY, KINDS };
 
 void *__libc_malloc(size_t), *__libc_calloc(size_t, size_t), *__libc_realloc(void *, size_t), *__libc_memalign(size_t, size_t);
 
 static uint64_t none[KINDS], *counts = none;
-static long kind = -1, at, how;
+static long kind = -1, at, how, stays;
 
 static long number(const char *name)
 {
@@ -34,6 +38,7 @@ static long number(const char *name)
 __attribute__((constructor)) static void begin(void)
 {
     const char *file = getenv("FAULTS_COUNTS");
+    syscall(SYS_getppid);
     int fd = file ? (int)syscall(SYS_openat, AT_FDCWD, file, O_RDWR) : -1;
     if (fd < 0)
         return;
@@ -44,25 +49,27 @@ __attribute__((constructor)) static void begin(void)
     counts = place;
     at = number("FAULTS_AT");
     how = number("FAULTS_HOW");
+    stays = number("FAULTS_STAYS") == 1;
     kind = number("FAULTS_KIND");
 }
 
-/* whether this call is the one */
+/* whether this call is the one, or a later one of a fault that stays */
 static int is_hit(enum kind called)
 {
-    return ++counts[called] == (uint64_t)at && kind == (long)called;
+    uint64_t now = ++counts[called];
+    return kind == (long)called && (now == (uint64_t)at || (stays && now > (uint64_t)at));
 }
 
 /* whether this call fails, with errno set */
 static int fails(enum kind called)
 {
-    if (!is_hit(called) || how == 0)
+    if (!is_hit(called) || how <= 0)
         return 0;
     errno = (int)how;
     return 1;
 }
 
-/* how many bytes a call moves; 0 where it fails, with errno set */
+/* how many bytes a call moves; 0 where it fails, with errno set, or moves none */
 static size_t moved(enum kind called, size_t size, int *failed)
 {
     *failed = 0;
@@ -70,6 +77,8 @@ static size_t moved(enum kind called, size_t size, int *failed)
         return size;
     if (how == 0)
         return size > 1 ? 1 : size;
+    if (how < 0)
+        return 0;
     errno = (int)how;
     *failed = 1;
     return 0;
@@ -111,8 +120,9 @@ ssize_t read(int fd, void *to, size_t size)
 
 ssize_t write(int fd, const void *from, size_t size)
 {
-    int failed;
-    size = moved(WRITE, size, &failed);
+    int failed = 0;
+    if (fd != STDERR_FILENO)
+        size = moved(WRITE, size, &failed);
     return failed ? -1 : syscall(SYS_write, fd, from, size);
 }
 
@@ -122,11 +132,15 @@ ssize_t writev(int fd, const struct iovec *parts, int many)
     size_t whole = 0;
     for (int part = 0; part < many; part++)
         whole += parts[part].iov_len;
+    if (fd == STDERR_FILENO)
+        return syscall(SYS_writev, fd, parts, many);
     size_t size = moved(WRITE, whole, &failed);
     if (failed)
         return -1;
     if (size == whole)
         return syscall(SYS_writev, fd, parts, many);
+    if (size == 0)
+        return 0;
     while (parts->iov_len == 0)
         parts++;
     return syscall(SYS_write, fd, parts->iov_base, size);
@@ -168,19 +182,15 @@ int close(int fd)
     return fails(CLOSE) ? -1 : closed;
 }
 
-void *mmap(void *place, size_t size, int may, int flags, int fd, off_t from)
+int statx(int folder, const char *name, int flags, unsigned mask, struct statx *to)
 {
-    return fails(MMAP) ? MAP_FAILED : (void *)syscall(SYS_mmap, place, size, may, flags, fd, from);
+    return fails(STATX) ? -1 : (int)syscall(SYS_statx, folder, name, flags, mask, to);
 }
 
-void *mmap64(void *, size_t, int, int, int, off64_t) __attribute__((alias("mmap")));
-
-off_t lseek(int fd, off_t place, int from)
+int fchmod(int fd, mode_t mode)
 {
-    return fails(LSEEK) ? -1 : syscall(SYS_lseek, fd, place, from);
+    return fails(FCHMOD) ? -1 : (int)syscall(SYS_fchmod, fd, mode);
 }
-
-off64_t lseek64(int, off64_t, int) __attribute__((alias("lseek")));
 
 void *malloc(size_t size)
 {
