@@ -426,3 +426,12 @@ left_more i faults references hits counts l le lt =
 
 pub hits_fit : (hits refs : List ℕ) → total (take (length hits) hits) + lru_faults refs (length hits) ≡ length refs → total hits ≤ length refs
 hits_fit hits refs both = let all = ap (λ (xs : List ℕ). total xs) (take_all (length hits) hits (omega arith)) in omega arith
+
+-- where the hits at all depths are counted, room for more makes no more of them
+pub same_past : (hits refs : List ℕ) (n m : ℕ) → length hits ≤ m → m ≤ n → ((k : ℕ) → total (take k hits) + lru_faults refs k ≡ length refs)
+    → lru_faults refs n ≡ lru_faults refs m
+same_past hits refs n m all more counts =
+    let upper = counts n in
+    let lower = counts m in
+    let same = ap (λ (xs : List ℕ). total xs) (take_all n hits (omega arith) ∙ sym (take_all m hits all)) in
+    omega arith

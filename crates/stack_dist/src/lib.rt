@@ -19,12 +19,15 @@ use std::alloc::Global;
 pub use vm_facts::NoMemory;
 
 /// The page faults of LRU at each size of memory: entry n - 1 has the faults with room for n pages, from 1
-/// to as many as there are distinct pages. The references are page numbers, the first one first (LRU as in
-/// Belady; the method is Mattson's; the limit of 4,000,000 references is this project's profile).
+/// to as many as there are distinct pages. With room for more there are as many as at the last entry. The
+/// references are page numbers, the first one first (LRU as in Belady; the method is Mattson's; the limit of
+/// 4,000,000 references is this project's profile).
 pub fn curve(alloc: Global, refs: &[u32]) -> Result<Vec<u32>, NoMemory>
     requires { length refs.now ≤ 4_000_000 }
     ensures sizes { IfOk result (λ faults. vec_len faults ≡ distinct_pages refs.now) }
     ensures entries { IfOk result (λ faults. (n : ℕ) → 0 < n → n ≤ distinct_pages refs.now → slice_index_or faults.items (n - 1) 0 ≡ lru_faults refs.now n) }
+    ensures past { IfOk result (λ faults. (n : ℕ) → distinct_pages refs.now ≤ n
+        → lru_faults refs.now n ≡ lru_faults refs.now (distinct_pages refs.now)) }
 {
     let mut counts = hits_by_depth(alloc, refs)?;
     hits_to_faults(&mut counts, refs.len() as u32);
