@@ -1,5 +1,5 @@
 -- What a cache is, and when its pages are used next.
-use Rattle.std.specs.Prelude.{◌≡◌, ℕ, ◌+◌, ◌<◌, ◌≤◌, Bool, true, false, ◌==◌, cond, nat_lt, List, [], ◌∷◌, length, Option, Some, None}
+use Rattle.std.specs.Prelude.{◌≡◌, ℕ, ◌+◌, ◌<◌, ◌≤◌, Bool, true, false, ◌==◌, cond, nat_lt, List, [], ◌∷◌, length, drop, slice_index, slice_index_or, Option, Some, None}
 use Rattle.page_opt.specs.Furthest.{next_use}
 
 -- a test as a number
@@ -24,6 +24,11 @@ pub record IsCache (n : ℕ) (cache : List ℕ) : Type 0 where
 -- the place of a page's next use, if there is one; the references to come begin at a place
 unfoldable pub next_at : ℕ → ℕ → List ℕ → Option ℕ
 next_at at page future = cond (nat_lt (next_use page future) (length future)) (Some (at + next_use page future)) None
+
+-- for each reference the place of the next use of its page, if there is one
+pub record AreNextUses (refs : List ℕ) (next : List (Option ℕ)) : Type 0 where
+  pub len : length next ≡ length refs
+  pub each : (i : ℕ) (d : Option ℕ) → i < length refs → slice_index_or next i d ≡ next_at (i + 1) (slice_index refs i) (drop (i + 1) refs)
 
 -- a set after one number was put in or taken out
 pub record Changed (old new : ℕ → Bool) (k : ℕ) (to : Bool) : Type 0 where

@@ -10,7 +10,7 @@ ghost use Rattle.std.specs.Prelude.{◌≡◌, ℕ, ◌+◌, ◌<◌, ◌≤◌,
 ghost use Rattle.page_opt.specs.declared.Victim.{Victim as VictimOf};
 ghost use Rattle.page_opt.specs.Plans.{IsPlan, Rises, plan_faults};
 ghost use Rattle.page_opt.specs.Furthest.{furthest_victims};
-ghost use Rattle.page_opt.specs.Cache.{next_at};
+ghost use Rattle.page_opt.specs.Cache.{next_at, AreNextUses};
 ghost use Rattle.page_opt.specs.Held.{IsWithin, HasPages, HasRoom, Stands};
 
 mod next_use;
@@ -18,7 +18,7 @@ mod place_set;
 mod replay;
 mod resident;
 
-use next_use::next_uses;
+pub use next_use::next_uses;
 use replay::Replay;
 use resident::Resident;
 use std::alloc::Global;
@@ -54,6 +54,25 @@ pub fn least_faults(alloc: Global, refs: &[u32], frames: u32) -> Result<Plan, No
     ensures furthest { IfOk result (λ plan. plan.victims.items ≡ furthest_victims refs.now frames) }
 {
     let next = next_uses(alloc, refs)?;
+    least_faults_by_uses(alloc, refs, next.as_slice(), frames)
+}
+
+/// The same of references whose next uses are known, as `next_uses` finds them: those who ask for several numbers of frames
+/// find them once.
+pub fn least_faults_by_uses(
+    alloc: Global,
+    refs: &[u32],
+    next: &[Option<u32>],
+    frames: u32,
+) -> Result<Plan, NoMemory>
+    requires frames { 1 ≤ frames }
+    requires small { length refs.now ≤ 4000000 }
+    requires next { AreNextUses refs.now next.now }
+    ensures plan { IfOk result (λ plan. IsPlan refs.now frames plan.victims.items) }
+    ensures faults { IfOk result (λ plan. plan_faults refs.now frames plan.victims.items ≡ Some plan.faults) }
+    ensures least { IfOk result (λ plan. (victims : List VictimOf) (m : ℕ) → plan_faults refs.now frames victims ≡ Some m → plan.faults ≤ m) }
+    ensures furthest { IfOk result (λ plan. plan.victims.items ≡ furthest_victims refs.now frames) }
+{
     let mut resident = Resident::new(alloc, refs.len())?;
     let mut plan = Plan {
         faults: 0,

@@ -1,17 +1,16 @@
 //! When each page is used again.
 ghost use Rattle.std.specs.Prelude.{◌≡◌, ℕ, ◌+◌, ◌<◌, ◌≤◌, length, drop, slice_index, slice_index_or, vec_len, Option, IfOk, None};
-ghost use Rattle.page_opt.specs.Cache.{next_at};
+ghost use Rattle.page_opt.specs.Cache.{next_at, AreNextUses};
 
 use crate::NoMemory;
 use std::alloc::Global;
 use std::collections::HashMap;
 
-/// For each reference the place of the next one to the same page, if there is one.
-pub(crate) fn next_uses(alloc: Global, refs: &[u32]) -> Result<Vec<Option<u32>>, NoMemory>
+/// For each reference the place of the next one to the same page, if there is one: places count from 0. At most 4,000,000
+/// references. The one error is that there is no memory left.
+pub fn next_uses(alloc: Global, refs: &[u32]) -> Result<Vec<Option<u32>>, NoMemory>
     requires { length refs.now ≤ 4000000 }
-    ensures len { IfOk result (λ next. vec_len next ≡ length refs.now) }
-    ensures next { IfOk result (λ next. (i : ℕ) (d : Option ℕ) → i < length refs.now
-        → slice_index_or next.items i d ≡ next_at (i + 1) (slice_index refs.now i) (drop (i + 1) refs.now)) }
+    ensures { IfOk result (λ next. AreNextUses refs.now next.items) }
 {
     let mut next = vec![in alloc; None; refs.len()]?;
     let mut seen = HashMap::new(alloc);

@@ -6,7 +6,7 @@ use Rattle.page_opt.specs.Furthest.{furthest_victims}
 use Rattle.page_opt.specs.Held.{Stands}
 use Rattle.page_opt.proofs.Least.{least_of_all}
 use Rattle.page_opt.proofs.Standing.{stands_start, stands_end}
-use Rattle.page_opt.proofs.least_faults.Goals as goal
+use Rattle.page_opt.proofs.least_faults_by_uses.Goals as goal
 
 pub loop-i-init : goal.loop-i-init
 loop-i-init c = record {
@@ -16,22 +16,25 @@ loop-i-init c = record {
       c.in_ok-resident.ensures.used);
 }
 
--- the victims are Belady's, and these their faults
-at_end : (c : goal.After-drop-next-2) → (c.loop-i.plan.victims.items ≡ furthest_victims c.args.refs.now c.args.frames)
-    × (plan_faults c.args.refs.now c.args.frames (furthest_victims c.args.refs.now c.args.frames) ≡ Some c.loop-i.plan.faults)
-at_end c =
-    stands_end c.args.refs.now c.args.frames c.loop-i.i c.loop-i.resident c.loop-i.plan.victims.items c.loop-i.plan.faults
-    (omega (arith, c.deref-next-items.ensures.len, c.in_ok-next.ensures.len)) c.loop-i.invariant.stands
-
 pub returns-clause-furthest : goal.returns-clause-furthest
-returns-clause-furthest c = (at_end c).0
+returns-clause-furthest c = (stands_end c.args.refs.now c.args.frames c.loop-i.i c.loop-i.resident c.loop-i.plan.victims.items c.loop-i.plan.faults
+    (omega (arith, c.requires.next.len)) c.loop-i.invariant.stands).0
 
 pub returns-clause-faults : goal.returns-clause-faults
-returns-clause-faults c = ap (plan_faults c.args.refs.now c.args.frames) (at_end c).0 ∙ (at_end c).1
+returns-clause-faults c =
+    let end = stands_end c.args.refs.now c.args.frames c.loop-i.i c.loop-i.resident c.loop-i.plan.victims.items c.loop-i.plan.faults
+    (omega (arith, c.requires.next.len)) c.loop-i.invariant.stands in
+    ap (plan_faults c.args.refs.now c.args.frames) end.0 ∙ end.1
 
 pub returns-clause-plan : goal.returns-clause-plan
-returns-clause-plan c = ap (λ (o : Option ℕ). is_some o) (ap (plan_faults c.args.refs.now c.args.frames) (at_end c).0 ∙ (at_end c).1)
+returns-clause-plan c =
+    let end = stands_end c.args.refs.now c.args.frames c.loop-i.i c.loop-i.resident c.loop-i.plan.victims.items c.loop-i.plan.faults
+    (omega (arith, c.requires.next.len)) c.loop-i.invariant.stands in
+    ap (λ (o : Option ℕ). is_some o) (ap (plan_faults c.args.refs.now c.args.frames) end.0 ∙ end.1)
 
 pub returns-clause-least : goal.returns-clause-least
 returns-clause-least c = λ victims m plan.
-    least_of_all c.args.refs.now c.args.frames victims c.loop-i.plan.faults m c.requires.frames (at_end c).1 plan
+    least_of_all c.args.refs.now c.args.frames victims c.loop-i.plan.faults m c.requires.frames
+    (stands_end c.args.refs.now c.args.frames c.loop-i.i c.loop-i.resident c.loop-i.plan.victims.items c.loop-i.plan.faults
+    (omega (arith, c.requires.next.len)) c.loop-i.invariant.stands).1
+    plan

@@ -1,5 +1,5 @@
 use Rattle.page_opt.specs.Held.{Stands}
-use Rattle.page_opt.proofs.least_faults.Given as goal
+use Rattle.page_opt.proofs.least_faults_by_uses.Given as goal
 
 abbrev pub invariant-loop-i : goal.invariant-loop-i
 invariant-loop-i l = record {

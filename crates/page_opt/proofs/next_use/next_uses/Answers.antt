@@ -32,5 +32,8 @@ loop-i-preserved c =
           (c.in_ok-next-2.ensures.old ∙ subst (λ (i : ℕ). get nat_eq c.loop-i.seen (get_or refs j 0) ≡ next_at i (get_or refs j 0) (drop i refs)) last (seen (get_or refs j 0)));
     }
 
-pub returns-clause-next : goal.returns-clause-next
-returns-clause-next c = λ i d l. c.loop-i.invariant.next i d (omega arith) l
+pub returns : goal.returns
+returns c = record {
+  len = omega (arith, c.loop-i.invariant.len, c.loop-i.next.ok);
+  each = λ i d l. c.loop-i.invariant.next i d (omega arith) l;
+}
