@@ -1,5 +1,5 @@
 -- Which pages a ring has after the hands went on, and after room was made.
-use Rattle.std.proofs.Common.{◌≡◌, ℕ, zero, suc, ◌/◌, ◌<◌, ◌≤◌, Bool, true, false, cond, nat_lt, List, [], ◌∷◌, ◌++◌, length, drop, Option, refl, sym, ap, ◌∙◌, arith}
+use Rattle.std.proofs.Common.{◌≡◌, ℕ, zero, suc, ◌<◌, ◌≤◌, Bool, true, false, cond, nat_lt, List, [], ◌∷◌, ◌++◌, length, drop, Option, refl, sym, ap, ◌∙◌, arith}
 use Rattle.std.specs.Prelude.{◌==◌}
 use Rattle.page_opt.specs.Plans.{has}
 use Rattle.page_opt.specs.Cache.{tally, count_in}
@@ -111,15 +111,15 @@ tally-clock_room f n ms = go (nat_lt (length ms) n)
         let same = tally-swept f n ms in
         omega arith
 
-pub tally-hands_room : (f : ℕ → Bool) (n : ℕ) (ms : List MarkedPage) → tally f (ring_pages (hands_room n ms)) ≤ tally f (ring_pages ms)
-tally-hands_room f n ms = go (nat_lt (length ms) n)
+pub tally-hands_room : (f : ℕ → Bool) (n ahead : ℕ) (ms : List MarkedPage) → tally f (ring_pages (hands_room n ahead ms)) ≤ tally f (ring_pages ms)
+tally-hands_room f n ahead ms = go (nat_lt (length ms) n)
   where
-    go : (b : Bool) → tally f (ring_pages (cond b ms (drop 1 (hands_moved (n / 4) n ms)))) ≤ tally f (ring_pages ms)
+    go : (b : Bool) → tally f (ring_pages (cond b ms (drop 1 (hands_moved ahead n ms)))) ≤ tally f (ring_pages ms)
     go true = omega arith
     go false =
-        let less = tally-drop f (ring_pages (hands_moved (n / 4) n ms)) in
-        let dropped = ap (λ (qs : List ℕ). tally f qs) (pages-drop (hands_moved (n / 4) n ms)) in
-        let same = tally-hands f (n / 4) n ms in
+        let less = tally-drop f (ring_pages (hands_moved ahead n ms)) in
+        let dropped = ap (λ (qs : List ℕ). tally f qs) (pages-drop (hands_moved ahead n ms)) in
+        let same = tally-hands f ahead n ms in
         omega arith
 
 -- a page that isn't there isn't there when room was made
@@ -132,8 +132,8 @@ fifo_away page n qs away = fewer_away page qs (fifo_room n qs) away (tally-fifo_
 pub clock_away : (page n : ℕ) (ms : List MarkedPage) → is_in_memory page ms ≡ false → is_in_memory page (clock_room n ms) ≡ false
 clock_away page n ms away = fewer_away page (ring_pages ms) (ring_pages (clock_room n ms)) away (tally-clock_room (λ (r : ℕ). r == page) n ms)
 
-pub hands_away : (page n : ℕ) (ms : List MarkedPage) → is_in_memory page ms ≡ false → is_in_memory page (hands_room n ms) ≡ false
-hands_away page n ms away = fewer_away page (ring_pages ms) (ring_pages (hands_room n ms)) away (tally-hands_room (λ (r : ℕ). r == page) n ms)
+pub hands_away : (page n ahead : ℕ) (ms : List MarkedPage) → is_in_memory page ms ≡ false → is_in_memory page (hands_room n ahead ms) ≡ false
+hands_away page n ahead ms away = fewer_away page (ring_pages ms) (ring_pages (hands_room n ahead ms)) away (tally-hands_room (λ (r : ℕ). r == page) n ahead ms)
 
 -- ---- moves, one after another
 

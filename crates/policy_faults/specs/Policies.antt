@@ -1,5 +1,5 @@
 -- Page faults under first in, first out, and under clocks with one hand and with two. A memory has room for n pages, and is empty at first.
-use Rattle.std.specs.Prelude.{ℕ, zero, suc, ◌+◌, ◌/◌, Bool, if◌then◌else◌, nat_lt, List, [], ◌∷◌, ◌++◌, length, drop}
+use Rattle.std.specs.Prelude.{ℕ, zero, suc, ◌+◌, Bool, if◌then◌else◌, nat_lt, List, [], ◌∷◌, ◌++◌, length, drop}
 use Rattle.page_opt.specs.Plans.{has}
 use Rattle.policy_faults.specs.Ring.{MarkedPage, is_in_memory, marked_page, unmarked_at, is_hand_marked, hand_passed, paged_in}
 
@@ -41,17 +41,17 @@ clock_faults refs n = faults_over is_in_memory (ring_after (clock_room n)) [] re
 
 -- The clock with two hands, where nothing tells that a page was referenced: a mark says that the page is valid. A page that isn't valid stays
 -- in memory until its frame is taken, and is valid again when it is referenced. The back hand is at the first page, and the front hand is
--- ahead of it. At each frame the front hand makes its page invalid, and then the back hand stops where its page is invalid; else both go on,
+-- so many frames ahead of it. At each frame the front hand makes its page invalid, and then the back hand stops where its page is invalid; else both go on,
 -- by so many moves at most.
 unfoldable pub hands_moved : (ahead : ℕ) → ℕ → List MarkedPage → List MarkedPage
 hands_moved ahead zero memory = memory
 hands_moved ahead (suc moves) memory =
     if is_hand_marked (unmarked_at ahead memory) then hands_moved ahead moves (hand_passed (unmarked_at ahead memory)) else unmarked_at ahead memory
 
--- where there is no room, the page leaves at which the back hand stops, at most once round; the front hand is ahead by a quarter of the frames
-abbrev pub hands_room : ℕ → List MarkedPage → List MarkedPage
-hands_room n memory = if nat_lt (length memory) n then memory else drop 1 (hands_moved (n / 4) n memory)
+-- where there is no room, the page leaves at which the back hand stops, at most once round
+abbrev pub hands_room : (n ahead : ℕ) → List MarkedPage → List MarkedPage
+hands_room n ahead memory = if nat_lt (length memory) n then memory else drop 1 (hands_moved ahead n memory)
 
--- the faults under the clock with two hands
-abbrev pub hands_faults : List ℕ → ℕ → ℕ
-hands_faults refs n = faults_over is_in_memory (ring_after (hands_room n)) [] refs
+-- the faults under the clock with two hands, of which the front hand is so many frames ahead
+abbrev pub hands_faults : List ℕ → (n ahead : ℕ) → ℕ
+hands_faults refs n ahead = faults_over is_in_memory (ring_after (hands_room n ahead)) [] refs

@@ -40,17 +40,20 @@ pub fn clock_faults(alloc: Global, refs: &[u32], frames: u32) -> Result<u32, NoM
 
 /// The page faults under the clock with two hands and no bit of reference, the rule of 4.3BSD's kernel in its simplest form: the
 /// hands move only where there is no room, nothing is written, and a page's frame is given to the page that comes. The front hand
-/// is a quarter of the frames ahead. At each frame it makes its page invalid, and the back hand takes its frame where that page is
-/// invalid. An invalid page that is referenced is valid again, and that is no fault. A page comes in valid. At most 4,000,000
-/// references. Each move of the hands passes a page that a reference made valid. The one error is that there is no memory left.
-pub fn hands_faults(alloc: Global, refs: &[u32], frames: u32) -> Result<u32, NoMemory>
+/// is `spread` frames ahead, 0 to `frames - 1` of them: the kernel's handspread. At each frame it makes its page invalid, and the
+/// back hand takes its frame where that page is invalid. An invalid page that is referenced is valid again, and that is no fault. A
+/// page comes in valid. Where both hands are at one frame, the page that came first leaves. Where the front hand is right behind
+/// the back hand, at `frames - 1`, a page has nearly a round to be referenced in, as under a clock with one hand. From `frames` on
+/// the front hand is at no page, and no page leaves but after a whole round. At most 4,000,000 references. The one error is that
+/// there is no memory left.
+pub fn hands_faults(alloc: Global, refs: &[u32], frames: u32, spread: u32) -> Result<u32, NoMemory>
     requires { length refs.now ≤ 4000000 }
-    ensures { IfOk result (λ faults. faults ≡ hands_faults refs.now frames) }
+    ensures { IfOk result (λ faults. faults ≡ hands_faults refs.now frames spread) }
 {
     let mut ring = PageRing::new(alloc);
     let mut faults = 0;
     for page in refs {
-        faults += hands_reference(&mut ring, *page, frames)?;
+        faults += hands_reference(&mut ring, *page, frames, spread)?;
     }
     Ok(faults)
 }
@@ -85,14 +88,19 @@ fn clock_reference(ring: &mut PageRing, page: u32, frames: u32) -> Result<u32, N
 
 // A reference under the clock with two hands, and how many faults it is.
 #[tactic(auto, unfolding(crate::specs::Policies::ring_after))]
-fn hands_reference(ring: &mut PageRing, page: u32, frames: u32) -> Result<u32, NoMemory>
-    ensures after { OnOk result (ring.new ≡ ring_after (hands_room frames) page ring.old) }
+fn hands_reference(
+    ring: &mut PageRing,
+    page: u32,
+    frames: u32,
+    spread: u32,
+) -> Result<u32, NoMemory>
+    ensures after { OnOk result (ring.new ≡ ring_after (hands_room frames spread) page ring.old) }
     ensures faults { IfOk result (λ faults. faults ≡ (if is_in_memory page ring.old then 0 else 1)) }
 {
     if ring.touch(page) {
         return Ok(0);
     }
-    make_hands_room(ring, frames);
+    make_hands_room(ring, frames, spread);
     ring.page_in(page)?;
     Ok(1)
 }
@@ -117,11 +125,11 @@ fn make_clock_room(ring: &mut PageRing, frames: u32)
 }
 
 // Where there is no room, the page leaves at which the back hand stops.
-fn make_hands_room(ring: &mut PageRing, frames: u32)
-    ensures { ring.new ≡ hands_room frames ring.old }
+fn make_hands_room(ring: &mut PageRing, frames: u32, spread: u32)
+    ensures { ring.new ≡ hands_room frames spread ring.old }
 {
     if ring.len() >= frames as usize {
-        move_hands(ring, frames as usize / 4, frames);
+        move_hands(ring, spread as usize, frames);
         ring.drop_first();
     }
 }

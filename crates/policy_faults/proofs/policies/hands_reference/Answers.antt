@@ -6,5 +6,5 @@ use Rattle.policy_faults.proofs.policies.hands_reference.Goals as goal
 
 pub page_in-requires : goal.page_in-requires
 page_in-requires c =
-    ap (λ (ms : List MarkedPage). is_in_memory c.args.page ms) (c.make_hands_room.ensures ∙ ap (λ (ms : List MarkedPage). hands_room c.args.frames ms) (c.if-touch.ensures.same refl))
-    ∙ hands_away c.args.page c.args.frames c.args.ring.now (sym c.if-touch.ensures.there)
+    ap (λ (ms : List MarkedPage). is_in_memory c.args.page ms) (c.make_hands_room.ensures ∙ ap (λ (ms : List MarkedPage). hands_room c.args.frames c.args.spread ms) (c.if-touch.ensures.same refl))
+    ∙ hands_away c.args.page c.args.frames c.args.spread c.args.ring.now (sym c.if-touch.ensures.there)
