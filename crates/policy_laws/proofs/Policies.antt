@@ -1,5 +1,5 @@
 -- Each policy steps so.
-use Rattle.std.proofs.Common.{◌≡◌, ℕ, zero, suc, ◌+◌, ◌/◌, ◌≤◌, Bool, true, false, cond, nat_lt, List, [], ◌∷◌, ◌++◌, length, take, drop, refl, sym, ap, subst, arith, inl, inr, length-append}
+use Rattle.std.proofs.Common.{◌≡◌, ℕ, zero, suc, ◌+◌, ◌≤◌, Bool, true, false, cond, nat_lt, List, [], ◌∷◌, ◌++◌, length, take, drop, refl, sym, ap, subst, arith, inl, inr, length-append}
 use Rattle.std.specs.Prelude.{◌==◌, ◌||◌, if◌then◌else◌}
 use Rattle.std.proofs.lemmas.Bool.{cases_Bool, cases_lt, lt-ltb, le-ltb}
 use Rattle.std.proofs.lemmas.List.{length-take, length-drop}
@@ -79,9 +79,9 @@ same_length ms turned same =
 pub clock_demand : (n : ℕ) → 1 ≤ n → IsDemand n ring_pages is_in_memory (ring_after (clock_room n))
 clock_demand n some = ring_demand n (clock_room n) (λ f ms. tally-clock_room f n ms) (λ ms small. has_room n ms (swept n ms) some small (same_length ms (swept n ms) (λ f. tally-swept f n ms)))
 
-pub hands_demand : (n : ℕ) → 1 ≤ n → IsDemand n ring_pages is_in_memory (ring_after (hands_room n))
-hands_demand n some = ring_demand n (hands_room n) (λ f ms. tally-hands_room f n ms)
-    (λ ms small. has_room n ms (hands_moved (n / 4) n ms) some small (same_length ms (hands_moved (n / 4) n ms) (λ f. tally-hands f (n / 4) n ms)))
+pub hands_demand : (n ahead : ℕ) → 1 ≤ n → IsDemand n ring_pages is_in_memory (ring_after (hands_room n ahead))
+hands_demand n ahead some = ring_demand n (hands_room n ahead) (λ f ms. tally-hands_room f n ahead ms)
+    (λ ms small. has_room n ms (hands_moved ahead n ms) some small (same_length ms (hands_moved ahead n ms) (λ f. tally-hands f ahead n ms)))
 
 -- ---- least recently used
 
@@ -149,9 +149,10 @@ pub clock_least : IsAboveLeast clock_faults
 unfolding ring_pages
 clock_least refs n least some fewer = at_least n ring_pages is_in_memory (ring_after (clock_room n)) (clock_demand n some) [] refs least refl (empty_cache n) fewer
 
-pub hands_least : IsAboveLeast hands_faults
+pub hands_least : (ahead : ℕ → ℕ) → IsAboveLeast (λ refs n. hands_faults refs n (ahead n))
 unfolding ring_pages
-hands_least refs n least some fewer = at_least n ring_pages is_in_memory (ring_after (hands_room n)) (hands_demand n some) [] refs least refl (empty_cache n) fewer
+hands_least ahead refs n least some fewer =
+    at_least n ring_pages is_in_memory (ring_after (hands_room n (ahead n))) (hands_demand n (ahead n) some) [] refs least refl (empty_cache n) fewer
 
 pub lru_least : IsAboveLeast lru_faults
 lru_least refs n least some fewer =
