@@ -1,17 +1,20 @@
 -- Words have a reason exactly where they ask for no command.
-use Rattle.std.proofs.Common.{◌≡◌, ℕ, ◌∙◌, Bool, true, false, ◌&&◌, not, if◌then◌else◌, is_none, is_some, nat_le, List, [], ◌∷◌, length, refl, sym, ap, Option, Some, None, find, bytes_eq, codes}
+use Rattle.std.proofs.Common.{◌≡◌, ℕ, ◌-◌, ◌/◌, ◌∙◌, Bool, true, false, ◌&&◌, not, if◌then◌else◌, is_none, is_some, nat_le, List, [], ◌∷◌, length, refl, sym, ap, Option, Some, None, find, bytes_eq, codes}
 use Rattle.std.specs.List.{list_all, list_any}
 use Rattle.std.specs.Option.{option_map, option_and_then}
+use Rattle.std.specs.Prelude.{unwrap_or}
 use Rattle.io_edge.specs.Striping.{most_blocks}
 use Rattle.run_files.specs.ImageWords.{starts}
 use Rattle.command_words.specs.declared.command.Numbers.{Numbers}
 use Rattle.command_words.specs.declared.command.FilmSteps.{FilmSteps}
-use Rattle.command_words.specs.declared.limits.TheConstants.{LEAST_FRAMES, MOST_FRAMES, LEAST_SWAP, MOST_LIMIT, MOST_SHORT_LIMIT, LAST_LOAD, JOURNAL_ENTRIES}
+use Rattle.command_words.specs.declared.command.Comparison.{Comparison}
+use Rattle.command_words.specs.declared.command.Comparison.TheVariants.{At, Sweep}
+use Rattle.command_words.specs.declared.limits.TheConstants.{LEAST_FRAMES, MOST_FRAMES, MOST_COMPARED, LEAST_SWAP, MOST_LIMIT, MOST_SHORT_LIMIT, LAST_LOAD, JOURNAL_ENTRIES}
 use Rattle.command_words.specs.declared.reasons.Argument.{Argument}
-use Rattle.command_words.specs.declared.reasons.Argument.TheVariants.{Frames, Swap, Limit, ShortLimit, Number, Size, Entries, From, To, Every, Schedule, Transcript, Source, ReferenceFile, Listed, Image}
+use Rattle.command_words.specs.declared.reasons.Argument.TheVariants.{Frames, Swap, Limit, ShortLimit, Number, Size, Compared, Spread, FirstFrames, LastFrames, MoreFrames, Entries, From, To, Every, Schedule, Transcript, Source, ReferenceFile, Listed, Image}
 use Rattle.command_words.specs.Words.{is_plain, number_in, is_name, is_image_word, are_image_words, without_trace}
-use Rattle.command_words.specs.Asked.{Asked, Load, Replay, Assemble, Show, Optimum, Curve, Owners, Film, Stats, References, Policies, all_numbers, run_numbers, asked_with_run, asked_load, asked_replay, asked_assemble, asked_show, asked_optimum, asked_owners, all_steps, film_steps, asked_film, asked_policies, asked_run, asked_other, asked_of}
-use Rattle.command_words.specs.Reasons.{Why, Refused, NotPlain, takes, bad_image, or_else, why_images, why_rest, why_words, bad_plain, why_form, why_other, why_command, why_bad}
+use Rattle.command_words.specs.Asked.{Asked, Load, Replay, Assemble, Show, Optimum, Curve, Owners, Film, Stats, References, Policies, all_numbers, run_numbers, asked_with_run, asked_load, asked_replay, asked_assemble, asked_show, asked_optimum, asked_owners, all_steps, film_steps, asked_film, quarter_ahead, so_far_ahead, each_of_several, compared_on, asked_policies, asked_run, asked_other, asked_of}
+use Rattle.command_words.specs.Reasons.{Why, Refused, NotPlain, takes, bad_image, or_else, why_images, why_rest, why_words, bad_plain, why_form, frames_or_one, why_spread, why_sweep, why_policies, why_other, why_command, why_bad}
 
 -- Choices.
 
@@ -47,6 +50,10 @@ never false = refl
 always : (b : Bool) → b && true ≡ b
 always true = refl
 always false = refl
+
+grouped : (a b c : Bool) → a && (b && c) ≡ (a && b) && c
+grouped true b c = refl
+grouped false b c = refl
 
 -- Words of images.
 
@@ -261,22 +268,106 @@ film (from ∷ to ∷ []) =
     (lacking To (Every ∷ Frames ∷ Swap ∷ Limit ∷ Schedule ∷ []) true to [] (missing Every (Frames ∷ Swap ∷ Limit ∷ Schedule ∷ []) true))
 film (from ∷ to ∷ every ∷ words) = film_whole from to every words
 
-policies : (words : List (List ℕ)) → is_none (why_words (Size ∷ ReferenceFile ∷ []) false words) ≡ is_some (asked_policies words)
-unfolding asked_policies takes
-policies [] = missing Size (ReferenceFile ∷ []) false
-policies (n ∷ []) = lacking Size (ReferenceFile ∷ []) false n [] (missing ReferenceFile [] false)
-policies (n ∷ f ∷ []) =
-    next Size (ReferenceFile ∷ []) false n (f ∷ [])
-    ∙ ap (λ (b : Bool). takes Size n && b) (next ReferenceFile [] false f [] ∙ ap (λ (b : Bool). takes ReferenceFile f && b) rest_none ∙ always _)
-    ∙ either_way (is_some (number_in 1 MOST_FRAMES n)) (is_name f)
-    ∙ sym (where_so (is_name f) _ ∙ ap (λ (b : Bool). is_name f && b) (mapped (λ k. Policies k f) (number_in 1 MOST_FRAMES n)))
+either_way : (a b : Bool) → a && b ≡ b && a
+either_way true b = sym (always b)
+either_way false b = sym (never b)
+
+-- a comparison is one, and its file is named
+on_file : (references : List ℕ) (comparison : Option Comparison) (b : Bool) → b ≡ is_some comparison
+    → b && is_name references ≡ is_some (compared_on references comparison)
+unfolding compared_on
+on_file references comparison b is =
+    either_way b (is_name references) ∙ ap (λ (c : Bool). is_name references && c) (is ∙ sym (mapped (λ c. Policies c references) comparison))
+    ∙ sym (where_so (is_name references) _)
+
+-- the last word of a comparison is the name of a file
+last_word : (argument : Argument) (word references : List ℕ)
+    → is_none (why_words (argument ∷ ReferenceFile ∷ []) false (word ∷ references ∷ [])) ≡ takes argument word && is_name references
+unfolding takes
+last_word argument word references =
+    next argument (ReferenceFile ∷ []) false word (references ∷ [])
+    ∙ ap (λ (b : Bool). takes argument word && b)
+    (next ReferenceFile [] false references [] ∙ ap (λ (b : Bool). is_name references && b) rest_none ∙ always _)
+
+made_of : {A B : Type 0} (f : A → B) (o : Option A) → is_some (option_map f o) ≡ is_some o
+made_of f None = refl
+made_of f (Some x) = refl
+
+-- `N FILE`
+at_frames : (frames references : List ℕ)
+    → is_none (why_words (Compared ∷ ReferenceFile ∷ []) false (frames ∷ references ∷ [])) ≡ is_some (compared_on references (quarter_ahead frames))
+unfolding takes quarter_ahead
+at_frames frames references =
+    last_word Compared frames references
+    ∙ on_file references (quarter_ahead frames) (is_some (number_in 1 MOST_COMPARED frames))
+    (sym (made_of (λ n. At n (n / 4)) (number_in 1 MOST_COMPARED frames)))
+
+-- `N hands SPREAD FILE`
+after_frames : (o : Option ℕ) (spread : ℕ → Option ℕ)
+    → is_some o && is_some (spread (unwrap_or o 1)) ≡ is_some (option_and_then (λ n. option_map (At n) (spread n)) o)
+after_frames None spread = refl
+after_frames (Some n) spread = sym (made_of (At n) (spread n))
+
+spread_ahead : (frames word references : List ℕ)
+    → is_none (why_spread frames (word ∷ references ∷ [])) ≡ is_some (compared_on references (so_far_ahead frames word))
+unfolding takes so_far_ahead
+spread_ahead frames word references =
+    unless (takes Compared frames) _ _
+    ∙ ap (λ (b : Bool). is_some (number_in 1 MOST_COMPARED frames) && b) (last_word (Spread (frames_or_one frames)) word references)
+    ∙ grouped (is_some (number_in 1 MOST_COMPARED frames)) (is_some (number_in 0 (frames_or_one frames - 1) word)) (is_name references)
+    ∙ on_file references (so_far_ahead frames word) _ (after_frames (number_in 1 MOST_COMPARED frames) (λ n. number_in 0 (n - 1) word))
+
+-- `FROM TO EVERY FILE`
+after_first : (o : Option ℕ) (last : ℕ → Option ℕ) (every : Option ℕ)
+    → is_some o && (is_some (last (unwrap_or o 1)) && is_some every)
+    ≡ is_some (option_and_then (λ first. option_and_then (λ to. option_map (Sweep first to) every) (last first)) o)
+after_first None last every = refl
+after_first (Some first) last every = by (last first)
   where
-    either_way : (a b : Bool) → a && b ≡ b && a
-    either_way true b = sym (always b)
-    either_way false b = sym (never b)
-policies (n ∷ f ∷ w ∷ ws) = lacking Size (ReferenceFile ∷ []) false n (f ∷ w ∷ ws) (lacking ReferenceFile [] false f (w ∷ ws) (rest_more w ws))
+    by : (to : Option ℕ) → is_some to && is_some every ≡ is_some (option_and_then (λ to. option_map (Sweep first to) every) to)
+    by None = refl
+    by (Some to) = sym (made_of (Sweep first to) every)
+
+several : (from to every references : List ℕ)
+    → is_none (why_sweep from (from ∷ to ∷ every ∷ references ∷ [])) ≡ is_some (compared_on references (each_of_several from to every))
+unfolding takes each_of_several
+several from to every references =
+    let a = is_some (number_in 1 MOST_COMPARED from) in
+    let b = is_some (number_in (frames_or_one from) MOST_COMPARED to) in
+    let c = is_some (number_in 1 MOST_COMPARED every) in
+    next FirstFrames (LastFrames (frames_or_one from) ∷ MoreFrames ∷ ReferenceFile ∷ []) false from (to ∷ every ∷ references ∷ [])
+    ∙ ap (λ (x : Bool). a && x)
+    (next (LastFrames (frames_or_one from)) (MoreFrames ∷ ReferenceFile ∷ []) false to (every ∷ references ∷ [])
+    ∙ ap (λ (x : Bool). b && x) (last_word MoreFrames every references) ∙ grouped b c (is_name references))
+    ∙ grouped a (b && c) (is_name references)
+    ∙ on_file references (each_of_several from to every) (a && (b && c))
+    (after_first (number_in 1 MOST_COMPARED from) (λ first. number_in first MOST_COMPARED to) (number_in 1 MOST_COMPARED every))
+
+policies : (words : List (List ℕ)) → is_none (why_policies words) ≡ is_some (asked_policies words)
+unfolding asked_policies why_policies
+policies [] = missing Compared (ReferenceFile ∷ []) false
+policies (n ∷ []) = lacking Compared (ReferenceFile ∷ []) false n [] (missing ReferenceFile [] false)
+policies (n ∷ f ∷ []) = at_frames n f
+policies (a ∷ b ∷ c ∷ []) =
+    refused (bytes_eq b (codes "hands")) _ _
+    (refused (takes Compared a) _ _ (lacking (Spread (frames_or_one a)) (ReferenceFile ∷ []) false c [] (missing ReferenceFile [] false)) refl)
+    (lacking FirstFrames (LastFrames (frames_or_one a) ∷ MoreFrames ∷ ReferenceFile ∷ []) false a (b ∷ c ∷ [])
+    (lacking (LastFrames (frames_or_one a)) (MoreFrames ∷ ReferenceFile ∷ []) false b (c ∷ [])
+    (lacking MoreFrames (ReferenceFile ∷ []) false c [] (missing ReferenceFile [] false))))
+policies (a ∷ b ∷ c ∷ f ∷ []) = chosen (bytes_eq b (codes "hands")) _ _ _ _ (spread_ahead a c f) (several a b c f)
+policies (a ∷ b ∷ c ∷ f ∷ w ∷ ws) =
+    refused (bytes_eq b (codes "hands")) _ _
+    (refused (takes Compared a) _ _
+    (lacking (Spread (frames_or_one a)) (ReferenceFile ∷ []) false c (f ∷ w ∷ ws) (lacking ReferenceFile [] false f (w ∷ ws) (rest_more w ws))) refl)
+    (lacking FirstFrames (LastFrames (frames_or_one a) ∷ MoreFrames ∷ ReferenceFile ∷ []) false a (b ∷ c ∷ f ∷ w ∷ ws)
+    (lacking (LastFrames (frames_or_one a)) (MoreFrames ∷ ReferenceFile ∷ []) false b (c ∷ f ∷ w ∷ ws)
+    (lacking MoreFrames (ReferenceFile ∷ []) false c (f ∷ w ∷ ws) (lacking ReferenceFile [] false f (w ∷ ws) (rest_more w ws)))))
 
 -- Options.
+
+-- words of which none may be an option
+without_options : (words : List (List ℕ)) (why : Option Why) → is_none (or_else (bad_plain words) why) ≡ list_all is_plain words && is_none why
+without_options words why = first_of (bad_plain words) why ∙ ap (λ (b : Bool). b && is_none why) (plain words)
 
 form : (arguments : List Argument) (more : Bool) (words : List (List ℕ))
     → is_none (why_form arguments more words) ≡ list_all is_plain words && is_none (why_words arguments more words)
@@ -330,7 +421,8 @@ other_by true name words are =
     (chosen (bytes_eq name (codes "film")) _ _ _ _ (with_plain _ _ words _ are (film words))
     (chosen (bytes_eq name (codes "stats")) _ _ _ _ (with_plain _ _ words _ are (run Limit MOST_LIMIT Stats words long_limit))
     (chosen (bytes_eq name (codes "refs")) _ _ _ _ (with_plain _ _ words _ are (run ShortLimit MOST_SHORT_LIMIT References words short_limit))
-    (chosen (bytes_eq name (codes "policies")) _ _ _ _ (with_plain _ _ words _ are (policies words)) refl))))))))))
+    (chosen (bytes_eq name (codes "policies")) _ _ _ _
+    (without_options words (why_policies words) ∙ ap (λ (b : Bool). b && is_none (why_policies words)) are ∙ policies words) refl))))))))))
 other_by false name words are =
     refused (bytes_eq name (codes "load")) _ _ (with_option _ _ words are)
     (refused (bytes_eq name (codes "replay")) _ _ (with_option _ _ words are)
@@ -342,7 +434,8 @@ other_by false name words are =
     (refused (bytes_eq name (codes "film")) _ _ (with_option _ _ words are)
     (refused (bytes_eq name (codes "stats")) _ _ (with_option _ _ words are)
     (refused (bytes_eq name (codes "refs")) _ _ (with_option _ _ words are)
-    (refused (bytes_eq name (codes "policies")) _ _ (with_option _ _ words are) refl))))))))))
+    (refused (bytes_eq name (codes "policies")) _ _
+    (without_options words (why_policies words) ∙ ap (λ (b : Bool). b && is_none (why_policies words)) are) refl))))))))))
 
 unless_plain : (p : Bool) (asked : Option Asked) → is_some (if not p then None else asked) ≡ p && is_some asked
 unless_plain true asked = refl

@@ -5,9 +5,10 @@ use Rattle.std.specs.Option.{option_map, option_and_then}
 use Rattle.run_files.specs.ImageWords.{starts}
 use Rattle.command_words.specs.declared.command.Numbers.{Numbers}
 use Rattle.command_words.specs.declared.command.FilmSteps.{FilmSteps}
+use Rattle.command_words.specs.declared.command.Comparison.{Comparison}
 use Rattle.command_words.specs.declared.limits.TheConstants.{MOST_FRAMES, MOST_LIMIT, MOST_SHORT_LIMIT, LAST_LOAD, JOURNAL_ENTRIES}
 use Rattle.command_words.specs.Words.{is_plain, number_in, is_name, are_image_words, is_trace, without_trace}
-use Rattle.command_words.specs.Asked.{Asked, Run, Load, Replay, Assemble, Show, Optimum, Curve, Owners, Film, Stats, References, Policies, Request, run_numbers, asked_with_run, asked_load, asked_replay, asked_assemble, asked_show, asked_optimum, asked_owners, film_steps, asked_film, asked_policies, words_of_run, asked_run, request_for, request_of, asked_other, asked_of, request_in}
+use Rattle.command_words.specs.Asked.{Asked, Run, Load, Replay, Assemble, Show, Optimum, Curve, Owners, Film, Stats, References, Policies, Request, run_numbers, asked_with_run, asked_load, asked_replay, asked_assemble, asked_show, asked_optimum, asked_owners, film_steps, asked_film, quarter_ahead, so_far_ahead, each_of_several, compared_on, asked_policies, words_of_run, asked_run, request_for, request_of, asked_other, asked_of, request_in}
 
 -- Words that ask for no run.
 
@@ -78,13 +79,20 @@ film (_ ∷ _ ∷ []) = refl
 film (from ∷ to ∷ every ∷ words) =
     chained (λ (steps : FilmSteps). asked_with_run MOST_LIMIT (Film steps) words) (film_steps from to every) (λ steps. about_run MOST_LIMIT (Film steps) words (λ numbers schedule images. refl))
 
+compared : (references : List ℕ) (comparison : Option Comparison) → request_in (compared_on references comparison) ≡ None
+unfolding compared_on
+compared references comparison =
+    either (is_name references) _ None (mapped (λ (c : Comparison). Policies c references) comparison (λ c. refl)) refl
+
 policies : (words : List (List ℕ)) → request_in (asked_policies words) ≡ None
 unfolding asked_policies
 policies [] = refl
 policies (_ ∷ []) = refl
-policies (size ∷ references ∷ []) =
-    either (is_name references) _ None (mapped (λ (n : ℕ). Policies n references) (number_in 1 MOST_FRAMES size) (λ n. refl)) refl
-policies (_ ∷ _ ∷ _ ∷ _) = refl
+policies (frames ∷ references ∷ []) = compared references (quarter_ahead frames)
+policies (_ ∷ _ ∷ _ ∷ []) = refl
+policies (first ∷ second ∷ third ∷ references ∷ []) =
+    either (bytes_eq second (codes "hands")) _ _ (compared references (so_far_ahead first third)) (compared references (each_of_several first second third))
+policies (_ ∷ _ ∷ _ ∷ _ ∷ _ ∷ _) = refl
 
 pub no_request : (name : List ℕ) (words : List (List ℕ)) → request_in (asked_other name words) ≡ None
 unfolding asked_other

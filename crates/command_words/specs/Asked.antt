@@ -1,12 +1,14 @@
 -- What the words of a command line ask for.
-use Rattle.std.specs.Prelude.{ℕ, Bool, ◌&&◌, not, List, [], ◌∷◌, Option, Some, None, option_and_then, if◌then◌else◌, bytes_eq, codes}
+use Rattle.std.specs.Prelude.{ℕ, ◌-◌, ◌/◌, Bool, ◌&&◌, not, List, [], ◌∷◌, Option, Some, None, option_and_then, if◌then◌else◌, bytes_eq, codes}
 use Rattle.std.specs.List.{list_all, list_any}
 use Rattle.std.specs.Option.{option_map}
 use Rattle.io_edge.specs.Striping.{most_blocks}
 use Rattle.run_files.specs.ImageWords.{starts}
 use Rattle.command_words.specs.declared.command.Numbers.{Numbers}
 use Rattle.command_words.specs.declared.command.FilmSteps.{FilmSteps}
-use Rattle.command_words.specs.declared.limits.TheConstants.{LEAST_FRAMES, MOST_FRAMES, LEAST_SWAP, MOST_LIMIT, MOST_SHORT_LIMIT, LAST_LOAD, JOURNAL_ENTRIES}
+use Rattle.command_words.specs.declared.command.Comparison.{Comparison}
+use Rattle.command_words.specs.declared.command.Comparison.TheVariants.{At, Sweep}
+use Rattle.command_words.specs.declared.limits.TheConstants.{LEAST_FRAMES, MOST_FRAMES, MOST_COMPARED, LEAST_SWAP, MOST_LIMIT, MOST_SHORT_LIMIT, LAST_LOAD, JOURNAL_ENTRIES}
 use Rattle.command_words.specs.Words.{is_plain, number_in, is_name, are_image_words, is_trace, without_trace}
 
 -- a command, with the numbers and the names that its words give
@@ -22,7 +24,7 @@ pub data Asked : Type 0 where
   Film : FilmSteps → Numbers → (schedule : List ℕ) → (images : List (List ℕ)) → Asked
   Stats : Numbers → (schedule : List ℕ) → (images : List (List ℕ)) → Asked
   References : Numbers → (schedule : List ℕ) → (images : List (List ℕ)) → Asked
-  Policies : (size : ℕ) → (references : List ℕ) → Asked
+  Policies : Comparison → (references : List ℕ) → Asked
 
 -- what the words of a run ask for: the option `--trace`, the numbers, the name of the schedule, and the words of the images
 pub record Request : Type 0 where
@@ -91,9 +93,31 @@ unfoldable pub asked_film : List (List ℕ) → Option Asked
 asked_film (from ∷ to ∷ every ∷ words) = option_and_then (λ steps. asked_with_run MOST_LIMIT (Film steps) words) (film_steps from to every)
 asked_film _ = None
 
--- `N FILE`
+-- `N`: the front hand is a quarter of the frames ahead
+unfoldable pub quarter_ahead : List ℕ → Option Comparison
+quarter_ahead frames = option_map (λ n. At n (n / 4)) (number_in 1 MOST_COMPARED frames)
+
+-- `N` and `SPREAD`: the front hand is so many frames ahead, fewer than there are
+unfoldable pub so_far_ahead : (frames spread : List ℕ) → Option Comparison
+so_far_ahead frames spread = option_and_then (λ n. option_map (At n) (number_in 0 (n - 1) spread)) (number_in 1 MOST_COMPARED frames)
+
+-- `FROM TO EVERY`: several numbers of frames, the last not before the first
+unfoldable pub each_of_several : (from to every : List ℕ) → Option Comparison
+each_of_several from to every =
+    option_and_then
+    (λ first. option_and_then (λ last. option_map (Sweep first last) (number_in 1 MOST_COMPARED every)) (number_in first MOST_COMPARED to))
+    (number_in 1 MOST_COMPARED from)
+
+-- a comparison, where it is one, on the references of a file
+unfoldable pub compared_on : (references : List ℕ) → Option Comparison → Option Asked
+compared_on references comparison = if is_name references then option_map (λ c. Policies c references) comparison else None
+
+-- `N FILE`, `N hands SPREAD FILE` or `FROM TO EVERY FILE`
 unfoldable pub asked_policies : List (List ℕ) → Option Asked
-asked_policies (size ∷ references ∷ []) = if is_name references then option_map (λ n. Policies n references) (number_in 1 MOST_FRAMES size) else None
+asked_policies (frames ∷ references ∷ []) = compared_on references (quarter_ahead frames)
+asked_policies (first ∷ second ∷ third ∷ references ∷ []) =
+    if bytes_eq second (codes "hands") then compared_on references (so_far_ahead first third)
+    else compared_on references (each_of_several first second third)
 asked_policies _ = None
 
 -- the words after `run`, and what is made of them: one of them may be `--trace`; of the others none is empty or begins with a hyphen

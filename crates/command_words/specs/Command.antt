@@ -3,9 +3,11 @@ use Rattle.std.specs.Prelude.{◌≤◌, ◌<◌, ℕ, IsTrue, List, ◌++◌, l
 use Rattle.std.specs.List.{list_any}
 use Rattle.io_edge.specs.Striping.{most_blocks}
 use Rattle.run_files.specs.ImageWords.{IsShortName, starts, name_in}
-use Rattle.command_words.specs.declared.limits.TheConstants.{LEAST_FRAMES, MOST_FRAMES, LEAST_SWAP, MOST_LIMIT, MOST_SHORT_LIMIT, LAST_LOAD, JOURNAL_ENTRIES}
+use Rattle.command_words.specs.declared.limits.TheConstants.{LEAST_FRAMES, MOST_FRAMES, MOST_COMPARED, LEAST_SWAP, MOST_LIMIT, MOST_SHORT_LIMIT, LAST_LOAD, JOURNAL_ENTRIES}
 use Rattle.command_words.specs.declared.command.Numbers.{Numbers}
 use Rattle.command_words.specs.declared.command.FilmSteps.{FilmSteps}
+use Rattle.command_words.specs.declared.command.Comparison.{Comparison}
+use Rattle.command_words.specs.declared.command.Comparison.TheVariants.{At, Sweep}
 use Rattle.command_words.specs.declared.command.Command.{Command}
 use Rattle.command_words.specs.declared.command.Command.TheVariants as commands
 use Rattle.command_words.specs.declared.image_words.ImageWords.{ImageWords}
@@ -29,7 +31,7 @@ asked_by (commands.Owners entries numbers schedule images) = Owners entries numb
 asked_by (commands.Film steps numbers schedule images) = Film steps numbers schedule.now (map (λ word. word.now) images.now)
 asked_by (commands.Stats numbers schedule images) = Stats numbers schedule.now (map (λ word. word.now) images.now)
 asked_by (commands.References numbers schedule images) = References numbers schedule.now (map (λ word. word.now) images.now)
-asked_by (commands.Policies size references) = Policies size references.now
+asked_by (commands.Policies comparison references) = Policies comparison references.now
 
 -- each number is in its range
 pub record AreAllowed (numbers : Numbers) : Type 0 where
@@ -46,6 +48,25 @@ pub record AreSteps (steps : FilmSteps) : Type 0 where
   pub to : steps.to ≤ JOURNAL_ENTRIES
   pub least_every : 1 ≤ steps.every
   pub most_every : steps.every ≤ JOURNAL_ENTRIES
+
+-- a number of frames is in its range, and the front hand is at one of the frames
+pub record IsFrameNumber (frames spread : ℕ) : Type 0 where
+  pub some : 1 ≤ frames
+  pub most : frames ≤ MOST_COMPARED
+  pub ahead : spread < frames
+
+-- so are the numbers of frames from one to another, which isn't before it
+pub record AreFrameNumbers (from to every : ℕ) : Type 0 where
+  pub some : 1 ≤ from
+  pub order : from ≤ to
+  pub most : to ≤ MOST_COMPARED
+  pub least_every : 1 ≤ every
+  pub most_every : every ≤ MOST_COMPARED
+
+-- the numbers of a comparison are in their ranges
+abbrev pub IsFittingComparison : Comparison → Type 0
+IsFittingComparison (At frames spread) = IsFrameNumber frames spread
+IsFittingComparison (Sweep from to every) = AreFrameNumbers from to every
 
 -- 1 to 16 words of images, each with a name of 1 to 63 bytes, and at least one of them starts a process
 pub record AreImageWords (words : List (Bor (List ℕ))) : Type 0 where
@@ -75,4 +96,4 @@ IsFitting (commands.Owners entries numbers schedule images) = (entries ≤ JOURN
 IsFitting (commands.Film steps numbers schedule images) = AreSteps steps × IsFittingRun MOST_LIMIT numbers schedule images.now
 IsFitting (commands.Stats numbers schedule images) = IsFittingRun MOST_LIMIT numbers schedule images.now
 IsFitting (commands.References numbers schedule images) = IsFittingRun MOST_SHORT_LIMIT numbers schedule images.now
-IsFitting (commands.Policies size references) = ((1 ≤ size) × (size ≤ MOST_FRAMES)) × IsShortName references.now
+IsFitting (commands.Policies comparison references) = IsFittingComparison comparison × IsShortName references.now

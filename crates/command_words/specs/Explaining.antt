@@ -2,7 +2,7 @@
 use Rattle.std.specs.Prelude.{ℕ, List, [], ◌∷◌, ◌++◌, codes, decimal, Option}
 use Rattle.std.specs.Option.{option_map}
 use Rattle.command_words.specs.declared.reasons.Argument.{Argument}
-use Rattle.command_words.specs.declared.reasons.Argument.TheVariants.{Frames, Swap, Limit, ShortLimit, Number, Size, Entries, From, To, Every, Schedule, Transcript, Source, ReferenceFile, Listed, Image}
+use Rattle.command_words.specs.declared.reasons.Argument.TheVariants.{Frames, Swap, Limit, ShortLimit, Number, Size, Compared, Spread, FirstFrames, LastFrames, MoreFrames, Entries, From, To, Every, Schedule, Transcript, Source, ReferenceFile, Listed, Image}
 use Rattle.command_words.specs.Reasons.{Why, NoCommand, Unknown, NotPlain, Missing, Refused, TooMany, TooManyImages, NoneStarts, least_of, most_of, why_bad}
 
 -- an argument as `--help` calls it
@@ -13,6 +13,11 @@ argument_name Limit = codes "LIMIT"
 argument_name ShortLimit = codes "LIMIT"
 argument_name Number = codes "NUMBER"
 argument_name Size = codes "N"
+argument_name Compared = codes "N"
+argument_name (Spread frames) = codes "SPREAD"
+argument_name FirstFrames = codes "FROM"
+argument_name (LastFrames first) = codes "TO"
+argument_name MoreFrames = codes "EVERY"
 argument_name Entries = codes "N"
 argument_name From = codes "FROM"
 argument_name To = codes "TO"

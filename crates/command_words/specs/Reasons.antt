@@ -1,14 +1,14 @@
 -- Why words are no command's: the first word that isn't what it is for.
-use Rattle.std.specs.Prelude.{ℕ, Bool, true, false, ◌&&◌, not, nat_le, is_none, is_some, ◌≡◌, List, [], ◌∷◌, length, Option, Some, None, if◌then◌else◌, bytes_eq, codes, find}
+use Rattle.std.specs.Prelude.{ℕ, ◌-◌, Bool, true, false, ◌&&◌, not, nat_le, is_none, is_some, ◌≡◌, List, [], ◌∷◌, length, Option, Some, None, unwrap_or, if◌then◌else◌, bytes_eq, codes, find}
 use Rattle.std.specs.List.{list_any}
 use Rattle.std.specs.Option.{option_map}
 use Rattle.io_edge.specs.Striping.{most_blocks}
 use Rattle.run_files.specs.ImageWords.{starts}
 use Rattle.command_words.specs.Words.{is_plain, number_in, is_name, is_image_word, without_trace}
 use Rattle.command_words.specs.Asked.{asked_of}
-use Rattle.command_words.specs.declared.limits.TheConstants.{LEAST_FRAMES, MOST_FRAMES, LEAST_SWAP, MOST_LIMIT, MOST_SHORT_LIMIT, LAST_LOAD, JOURNAL_ENTRIES}
+use Rattle.command_words.specs.declared.limits.TheConstants.{LEAST_FRAMES, MOST_FRAMES, MOST_COMPARED, LEAST_SWAP, MOST_LIMIT, MOST_SHORT_LIMIT, LAST_LOAD, JOURNAL_ENTRIES}
 use Rattle.command_words.specs.declared.reasons.Argument.{Argument}
-use Rattle.command_words.specs.declared.reasons.Argument.TheVariants.{Frames, Swap, Limit, ShortLimit, Number, Size, Entries, From, To, Every, Schedule, Transcript, Source, ReferenceFile, Listed, Image}
+use Rattle.command_words.specs.declared.reasons.Argument.TheVariants.{Frames, Swap, Limit, ShortLimit, Number, Size, Compared, Spread, FirstFrames, LastFrames, MoreFrames, Entries, From, To, Every, Schedule, Transcript, Source, ReferenceFile, Listed, Image}
 use Rattle.command_words.specs.declared.reasons.BadWord.{BadWord}
 use Rattle.command_words.specs.declared.reasons.BadWord.TheVariants as bad
 
@@ -42,6 +42,10 @@ least_of Limit = 1
 least_of ShortLimit = 1
 least_of Size = 1
 least_of Every = 1
+least_of Compared = 1
+least_of FirstFrames = 1
+least_of (LastFrames first) = first
+least_of MoreFrames = 1
 least_of _ = 0
 
 -- the most that an argument may be, where it is a number
@@ -56,6 +60,11 @@ most_of Entries = JOURNAL_ENTRIES
 most_of From = JOURNAL_ENTRIES
 most_of To = JOURNAL_ENTRIES
 most_of Every = JOURNAL_ENTRIES
+most_of Compared = MOST_COMPARED
+most_of (Spread frames) = frames - 1
+most_of FirstFrames = MOST_COMPARED
+most_of (LastFrames first) = MOST_COMPARED
+most_of MoreFrames = MOST_COMPARED
 most_of _ = 0
 
 -- whether a word may stand for an argument
@@ -109,6 +118,25 @@ bad_plain words = option_map NotPlain (find (λ word. not (is_plain word)) words
 unfoldable pub why_form : List Argument → (images : Bool) → List (List ℕ) → Option Why
 why_form arguments images words = or_else (bad_plain words) (why_words arguments images words)
 
+-- how many frames a word says that there are, and one where it isn't such a number
+abbrev pub frames_or_one : List ℕ → ℕ
+frames_or_one word = unwrap_or (number_in 1 MOST_COMPARED word) 1
+
+-- `N hands SPREAD FILE`, by the first word and those after the second
+abbrev pub why_spread : (frames : List ℕ) → (words : List (List ℕ)) → Option Why
+why_spread frames words =
+    if takes Compared frames then why_words (Spread (frames_or_one frames) ∷ ReferenceFile ∷ []) false words else Some (Refused Compared frames)
+
+-- `FROM TO EVERY FILE`, by the first word and all of them
+abbrev pub why_sweep : (from : List ℕ) → (words : List (List ℕ)) → Option Why
+why_sweep from words = why_words (FirstFrames ∷ LastFrames (frames_or_one from) ∷ MoreFrames ∷ ReferenceFile ∷ []) false words
+
+-- the words after `policies`: up to two are `N FILE`
+unfoldable pub why_policies : List (List ℕ) → Option Why
+why_policies (first ∷ second ∷ third ∷ more) =
+    if bytes_eq second (codes "hands") then why_spread first (third ∷ more) else why_sweep first (first ∷ second ∷ third ∷ more)
+why_policies words = why_words (Compared ∷ ReferenceFile ∷ []) false words
+
 -- the words after the name of a command other than `run`
 unfoldable pub why_other : List ℕ → List (List ℕ) → Option Why
 why_other name words =
@@ -122,7 +150,7 @@ why_other name words =
     else (if bytes_eq name (codes "film") then why_form (From ∷ To ∷ Every ∷ Frames ∷ Swap ∷ Limit ∷ Schedule ∷ []) true words
     else (if bytes_eq name (codes "stats") then why_form (Frames ∷ Swap ∷ Limit ∷ Schedule ∷ []) true words
     else (if bytes_eq name (codes "refs") then why_form (Frames ∷ Swap ∷ ShortLimit ∷ Schedule ∷ []) true words
-    else (if bytes_eq name (codes "policies") then why_form (Size ∷ ReferenceFile ∷ []) false words
+    else (if bytes_eq name (codes "policies") then or_else (bad_plain words) (why_policies words)
     else Some (Unknown name)))))))))))
 
 -- the words after the name of a command

@@ -2,13 +2,13 @@
 ghost use Rattle.std.specs.Prelude.{◌≡◌, ◌≤◌, ℕ, List, drop, map, IsSome, IfSome};
 ghost use Rattle.std.specs.Option.{option_map};
 ghost use Rattle.run_files.specs.ImageWords.{IsShortName};
-ghost use Rattle.command_words.specs.Asked.{Asked, request_of, request_in, asked_of, asked_run, asked_other, asked_load, asked_replay, asked_assemble, asked_show, asked_optimum, asked_owners, asked_film, film_steps, asked_policies, asked_with_run, run_numbers, Curve, Stats, References};
-ghost use Rattle.command_words.specs.Command.{word_list, asked_by, AreAllowed, AreImageWords, AreSteps, IsFitting};
+ghost use Rattle.command_words.specs.Asked.{Asked, request_of, request_in, asked_of, asked_run, asked_other, asked_load, asked_replay, asked_assemble, asked_show, asked_optimum, asked_owners, asked_film, film_steps, quarter_ahead, so_far_ahead, each_of_several, compared_on, asked_policies, asked_with_run, run_numbers, Curve, Stats, References};
+ghost use Rattle.command_words.specs.Command.{word_list, asked_by, AreAllowed, AreImageWords, AreSteps, IsFittingComparison, IsFitting};
 ghost use Rattle.command_words.specs.declared.limits.TheConstants.{MOST_LIMIT, MOST_SHORT_LIMIT};
 
 use crate::image_words::{ImageWords, from_place, has_trace};
 use crate::limits::{
-    JOURNAL_ENTRIES, LAST_LOAD, LEAST_FRAMES, LEAST_SWAP, MOST_FRAMES, MOST_LIMIT,
+    JOURNAL_ENTRIES, LAST_LOAD, LEAST_FRAMES, LEAST_SWAP, MOST_COMPARED, MOST_FRAMES, MOST_LIMIT,
     MOST_SHORT_LIMIT, MOST_SWAP,
 };
 use crate::word::{is_name, read_number, starts};
@@ -34,6 +34,16 @@ pub struct FilmSteps {
     pub to: u32,
     /// How many entries lie between one and the next: 1 to 16,777,216.
     pub every: u32,
+}
+
+/// The numbers of frames with which policies of replacement are compared (this project's profile).
+#[derive(Clone, Copy, Debug, PartialEq, Eq, Drop)]
+pub enum Comparison {
+    /// One number, 1 to 1,000,000. Of the clock with two hands the front hand is so many frames ahead, which are fewer.
+    At { frames: u32, spread: u32 },
+    /// Several numbers: the first, 1 to 1,000,000; the one behind which there is none, from the first to 1,000,000; and how
+    /// many lie between one and the next, 1 to 1,000,000.
+    Sweep { from: u32, to: u32, every: u32 },
 }
 
 /// What the words after the program's name ask for, with the numbers and the names in them (this project's
@@ -108,10 +118,10 @@ pub enum Command<'a> {
         schedule: &'a str,
         images: &'a [&'a str],
     },
-    /// `policies N FILE`: the page faults that policies of replacement with 1 to 4,096 frames have on the references of a
-    /// file.
+    /// `policies N FILE`, `policies N hands SPREAD FILE` or `policies FROM TO EVERY FILE`: the page faults that policies of
+    /// replacement have on the references of a file.
     Policies {
-        size: u32,
+        comparison: Comparison,
         references: &'a str,
     },
 }
@@ -122,12 +132,15 @@ pub enum Command<'a> {
 /// - `load NUMBER`, `replay TRANSCRIPT IMAGE..`, `as SOURCE`, `dis IMAGE`
 /// - `opt N FRAMES SWAP LIMIT SCHED IMAGE..`, `curve FRAMES SWAP LIMIT SCHED IMAGE..`
 /// - `owners N FRAMES SWAP LIMIT SCHED IMAGE..`, `film FROM TO EVERY FRAMES SWAP LIMIT SCHED IMAGE..`
-/// - `stats FRAMES SWAP LIMIT SCHED IMAGE..`, `refs FRAMES SWAP LIMIT SCHED IMAGE..`, `policies N FILE`
+/// - `stats FRAMES SWAP LIMIT SCHED IMAGE..`, `refs FRAMES SWAP LIMIT SCHED IMAGE..`
+/// - `policies N FILE`, where the front hand is a quarter of the frames ahead, `policies N hands SPREAD FILE`,
+///   `policies FROM TO EVERY FILE`
 ///
 /// and it is `None` where they are any others. No other word begins with `-` or is empty. A number has 1 to 8 ASCII
 /// digits, leading zeros among them: FRAMES is 64 to 4,096, SWAP 256 to 131,072, LIMIT 1 to 1,000,000 but at most
-/// 100,000 for `opt`, `curve` and `refs`, NUMBER 0 to 9,999, N 1 to 4,096 for `opt` and `policies` and 0 to
-/// 16,777,216 for `owners`, FROM and TO 0 to 16,777,216, and EVERY 1 to 16,777,216. A name has 1 to 63 bytes. There are 1 to 16
+/// 100,000 for `opt`, `curve` and `refs`, NUMBER 0 to 9,999, N 1 to 4,096 for `opt`, 1 to 1,000,000 for `policies` and 0 to
+/// 16,777,216 for `owners`. FROM and TO of `film` are 0 to 16,777,216, and its EVERY 1 to 16,777,216. FROM and EVERY of
+/// `policies` are 1 to 1,000,000, TO is FROM to 1,000,000, and SPREAD 0 to N - 1. A name has 1 to 63 bytes. There are 1 to 16
 /// words of images: a name starts a process, and one after a `=` only makes the
 /// image known; at least one starts. The image of `dis` has no `=`. It takes no memory. Source: this project's profile.
 pub fn read_words<'a>(words: &'a [&'a str]) -> Option<Command<'a>>
@@ -358,21 +371,74 @@ fn read_references<'a>(words: &'a [&'a str]) -> Option<Command<'a>>
     })
 }
 
+// `N`, where the front hand is a quarter of the frames ahead.
+#[tactic(auto, unfolding(crate::specs::Asked::quarter_ahead))]
+fn read_frames(frames: &str) -> Option<Comparison>
+    ensures exact { result ≡ quarter_ahead frames.now }
+    ensures fits { IfSome result IsFittingComparison }
+{
+    let frames = read_number(frames, 1, MOST_COMPARED)?;
+    Some(Comparison::At {
+        frames,
+        spread: frames / 4,
+    })
+}
+
+// `N` and `SPREAD`.
+#[tactic(auto, unfolding(crate::specs::Asked::so_far_ahead))]
+fn read_spread(frames: &str, spread: &str) -> Option<Comparison>
+    ensures exact { result ≡ so_far_ahead frames.now spread.now }
+    ensures fits { IfSome result IsFittingComparison }
+{
+    let frames = read_number(frames, 1, MOST_COMPARED)?;
+    let spread = read_number(spread, 0, frames - 1)?;
+    Some(Comparison::At { frames, spread })
+}
+
+// `FROM TO EVERY` of a comparison.
+#[tactic(auto, unfolding(crate::specs::Asked::each_of_several))]
+fn read_sweep(from: &str, to: &str, every: &str) -> Option<Comparison>
+    ensures exact { result ≡ each_of_several from.now to.now every.now }
+    ensures fits { IfSome result IsFittingComparison }
+{
+    let from = read_number(from, 1, MOST_COMPARED)?;
+    let to = read_number(to, from, MOST_COMPARED)?;
+    let every = read_number(every, 1, MOST_COMPARED)?;
+    Some(Comparison::Sweep { from, to, every })
+}
+
+// A comparison on the references of a file.
+#[tactic(auto, unfolding(crate::specs::Asked::compared_on))]
+fn compare_on<'a>(comparison: Option<Comparison>, references: &'a str) -> Option<Command<'a>>
+    requires { IfSome comparison IsFittingComparison }
+    ensures exact { option_map asked_by result ≡ compared_on references.now comparison }
+    ensures fits { IfSome result IsFitting }
+{
+    if is_name(references) {
+        Some(Command::Policies {
+            comparison: comparison?,
+            references,
+        })
+    } else {
+        None
+    }
+}
+
 #[tactic(auto, unfolding(crate::specs::Asked::asked_policies))]
 fn read_policies<'a>(words: &[&'a str]) -> Option<Command<'a>>
     ensures exact { option_map asked_by result ≡ asked_policies (map (λ word. word.now) words.now) }
     ensures fits { IfSome result IsFitting }
 {
-    let [size, references] = words else {
+    if let [frames, references] = words {
+        return compare_on(read_frames(frames), references);
+    }
+    let [first, second, third, references] = words else {
         return None;
     };
-    if is_name(references) {
-        Some(Command::Policies {
-            size: read_number(size, 1, MOST_FRAMES)?,
-            references,
-        })
+    if *second == "hands" {
+        compare_on(read_spread(first, third), references)
     } else {
-        None
+        compare_on(read_sweep(first, second, third), references)
     }
 }
 

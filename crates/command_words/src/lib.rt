@@ -8,11 +8,11 @@ mod limits;
 mod reasons;
 mod word;
 
-pub use command::{Command, FilmSteps, Numbers, read_words};
+pub use command::{Command, Comparison, FilmSteps, Numbers, read_words};
 pub use explaining::explain_words;
 pub use image_words::ImageWords;
 pub use limits::{
-    JOURNAL_ENTRIES, LAST_LOAD, LEAST_FRAMES, LEAST_SWAP, MOST_FRAMES, MOST_LIMIT,
+    JOURNAL_ENTRIES, LAST_LOAD, LEAST_FRAMES, LEAST_SWAP, MOST_COMPARED, MOST_FRAMES, MOST_LIMIT,
     MOST_SHORT_LIMIT, MOST_SWAP, ranges_are_documented,
 };
 pub use reasons::{Argument, BadWord, bad_word, refused_words_have_reasons};

@@ -4,8 +4,11 @@ ghost use Rattle.command_words.specs.Documented.{DocumentedRanges};
 /// The fewest page frames of a machine.
 pub const LEAST_FRAMES: u32 = 64;
 
-/// The most page frames, of a machine and of a replacement.
+/// The most page frames, of a machine and of a replacement on its references.
 pub const MOST_FRAMES: u32 = 4_096;
+
+/// The most frames with which policies are compared on a file of references.
+pub const MOST_COMPARED: u32 = 1_000_000;
 
 /// The fewest blocks of swap.
 pub const LEAST_SWAP: u32 = 256;

@@ -1,15 +1,14 @@
 // Why words are no command's.
-ghost use Rattle.std.specs.Prelude.{◌≡◌, ◌≤◌, map, option_map, find, not, IfOk, [], ◌∷◌, true, Some, None, if◌then◌else◌};
+ghost use Rattle.std.specs.Prelude.{◌≡◌, map, option_map, find, not, IfOk, [], ◌∷◌, true, Some, None, if◌then◌else◌};
 ghost use Rattle.std.specs.List.{list_any};
 ghost use Rattle.run_files.specs.ImageWords.{starts};
 ghost use Rattle.command_words.specs.Words.{is_image_word, is_plain, without_trace};
-ghost use Rattle.command_words.specs.declared.limits.TheConstants.{LEAST_SWAP};
 ghost use Rattle.command_words.specs.declared.reasons.Argument.TheVariants.{Frames, Swap, Limit, Schedule};
-ghost use Rattle.command_words.specs.Reasons.{why_of, least_of, most_of, takes, bad_image, bad_plain, none_starts, why_images, why_rest, why_words, why_form, why_other, why_command, why_bad, RefusedHaveReasons};
+ghost use Rattle.command_words.specs.Reasons.{why_of, least_of, most_of, takes, bad_image, bad_plain, none_starts, why_images, why_rest, why_words, why_form, frames_or_one, why_spread, why_sweep, why_policies, why_other, why_command, why_bad, RefusedHaveReasons};
 
 use crate::image_words::ImageWords;
 use crate::limits::{
-    JOURNAL_ENTRIES, LAST_LOAD, LEAST_FRAMES, LEAST_SWAP, MOST_FRAMES, MOST_LIMIT,
+    JOURNAL_ENTRIES, LAST_LOAD, LEAST_FRAMES, LEAST_SWAP, MOST_COMPARED, MOST_FRAMES, MOST_LIMIT,
     MOST_SHORT_LIMIT, MOST_SWAP,
 };
 use crate::word::{is_image_word, is_name, is_plain, read_number, starts};
@@ -28,8 +27,18 @@ pub enum Argument {
     ShortLimit,
     /// The number of a load.
     Number,
-    /// How many frames a replacement has.
+    /// How many frames a replacement has on the references of a run.
     Size,
+    /// How many frames policies have on a file of references.
+    Compared,
+    /// How many of so many frames the front hand is ahead.
+    Spread(u32),
+    /// The first number of frames of several.
+    FirstFrames,
+    /// Behind which there is no number of frames. It isn't before this one.
+    LastFrames(u32),
+    /// How many frames lie between one number and the next.
+    MoreFrames,
     /// How many entries of a journal are made.
     Entries,
     /// The first step of a film.
@@ -76,13 +85,14 @@ pub enum BadWord<'a> {
 impl Argument {
     /// The least that it may be, where it is a number.
     pub fn least(self) -> u32
-        ensures exact { result ≡ least_of self }
-        ensures few { result ≤ LEAST_SWAP }
+        ensures { result ≡ least_of self }
     {
         match self {
             Argument::Frames => LEAST_FRAMES,
             Argument::Swap => LEAST_SWAP,
             Argument::Limit | Argument::ShortLimit | Argument::Size | Argument::Every => 1,
+            Argument::Compared | Argument::FirstFrames | Argument::MoreFrames => 1,
+            Argument::LastFrames(first) => first,
             _ => 0,
         }
     }
@@ -98,6 +108,11 @@ impl Argument {
             Argument::ShortLimit => MOST_SHORT_LIMIT,
             Argument::Number => LAST_LOAD,
             Argument::Entries | Argument::From | Argument::To | Argument::Every => JOURNAL_ENTRIES,
+            Argument::Compared
+            | Argument::FirstFrames
+            | Argument::LastFrames(_)
+            | Argument::MoreFrames => MOST_COMPARED,
+            Argument::Spread(frames) => frames.saturating_sub(1),
             _ => 0,
         }
     }
@@ -214,6 +229,58 @@ fn why_form<'a>(arguments: &[Argument], images: bool, words: &[&'a str]) -> Opti
     bad_plain(words).or_else(|| why_words(arguments, images, words))
 }
 
+// How many frames a word says that there are, and one where it isn't such a number.
+fn frames_or_one(word: &str) -> u32
+    ensures { result ≡ frames_or_one word.now }
+{
+    read_number(word, 1, MOST_COMPARED).unwrap_or(1)
+}
+
+// What is wrong with the words `N hands`, of which the first is this, and with those after them.
+fn why_spread<'a>(frames: &'a str, words: &[&'a str]) -> Option<BadWord<'a>>
+    ensures { option_map why_of result ≡ why_spread frames.now (map (λ word. word.now) words.now) }
+{
+    if Argument::Compared.takes(frames) {
+        let arguments = [
+            Argument::Spread(frames_or_one(frames)),
+            Argument::ReferenceFile,
+        ];
+        why_words(&arguments, false, words)
+    } else {
+        Some(BadWord::Refused(Argument::Compared, frames))
+    }
+}
+
+// What is wrong with words that ask for several numbers of frames, of which the first is this.
+fn why_sweep<'a>(from: &str, words: &[&'a str]) -> Option<BadWord<'a>>
+    ensures { option_map why_of result ≡ why_sweep from.now (map (λ word. word.now) words.now) }
+{
+    let arguments = [
+        Argument::FirstFrames,
+        Argument::LastFrames(frames_or_one(from)),
+        Argument::MoreFrames,
+        Argument::ReferenceFile,
+    ];
+    why_words(&arguments, false, words)
+}
+
+// What is wrong with the words after `policies`, none of which is an option.
+#[tactic(auto, unfolding(crate::specs::Reasons::why_policies))]
+fn why_policies<'a>(words: &[&'a str]) -> Option<BadWord<'a>>
+    ensures { option_map why_of result ≡ why_policies (map (λ word. word.now) words.now) }
+{
+    let [first, second, more @ ..] = words else {
+        return why_words(&[Argument::Compared, Argument::ReferenceFile], false, words);
+    };
+    if more.is_empty() {
+        why_words(&[Argument::Compared, Argument::ReferenceFile], false, words)
+    } else if *second == "hands" {
+        why_spread(first, more)
+    } else {
+        why_sweep(first, words)
+    }
+}
+
 // What is wrong with the words after the name of a command other than `run`.
 #[tactic(auto, unfolding(crate::specs::Reasons::why_other))]
 fn why_other<'a>(name: &'a str, words: &[&'a str]) -> Option<BadWord<'a>>
@@ -289,7 +356,7 @@ fn why_other<'a>(name: &'a str, words: &[&'a str]) -> Option<BadWord<'a>>
             true,
             words,
         ),
-        "policies" => why_form(&[Argument::Size, Argument::ReferenceFile], false, words),
+        "policies" => bad_plain(words).or_else(|| why_policies(words)),
         _ => Some(BadWord::Unknown(name)),
     }
 }
