@@ -121,7 +121,3 @@ came_kept marks new page ps qs last are away m = subst (λ (xs : List ℕ). Have
 -- nothing stands there
 pub place_past : (n place : ℕ) → (place < n → false ≡ true) → n ≤ place
 place_past n place none = elim (cases_lt place n) [ inl within ↦ absurd (false≢true (none within)) | inr past ↦ past ]
-
--- a page that is there has a mark
-pub no_mark : (o : Option Bool) → is_some o ≡ true → o ≡ None → ⊥
-no_mark o there none = false≢true (sym (ap (λ (x : Option Bool). is_some x) none) ∙ there)

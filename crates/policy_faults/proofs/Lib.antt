@@ -1,4 +1,5 @@
 pub mod Rings
 pub mod Turning
 pub mod Calls
+pub mod Marking
 pub mod Counting

@@ -1,6 +1,5 @@
--- How the code keeps a ring: the pages from the hand on, and the marks by page.
-use Rattle.std.specs.Prelude.{◌≡◌, ◌≤◌, ℕ, Bool, false, List, [], ◌∷◌, nat_eq, Option, is_some, unwrap_or}
-use Rattle.std.specs.HashMap.{get}
+-- How the code keeps a ring: the pages from the hand on, and by page the marks, which may end before a page that isn't there.
+use Rattle.std.specs.Prelude.{◌≡◌, ◌≤◌, ℕ, Bool, false, List, [], ◌∷◌, slice_index_or, Option, None, is_some, unwrap_or}
 use Rattle.page_opt.specs.Plans.{has}
 use Rattle.page_opt.specs.Cache.{count_in}
 use Rattle.policy_faults.specs.Ring.{MarkedPage}
@@ -18,8 +17,8 @@ pub record HaveMarks (marks : ℕ → Option Bool) (pages : List ℕ) : Type 0 w
 
 -- the ring as its callers see it: each page with its mark
 abbrev pub ring_of : Inside → List MarkedPage
-ring_of a = with_marks (λ page. get nat_eq a.marks page) a.pages.items
+ring_of a = with_marks (λ page. slice_index_or a.marks.items page None) a.pages.items
 
 -- each page of the ring stands once, and just these have a mark
 abbrev pub IsPageRing : Inside → Type 0
-IsPageRing a = HaveMarks (λ page. get nat_eq a.marks page) a.pages.items
+IsPageRing a = HaveMarks (λ page. slice_index_or a.marks.items page None) a.pages.items

@@ -1,9 +1,9 @@
 //! Pages in memory, in a ring that the hand of a clock goes round.
-ghost use Rattle.std.specs.Prelude.{◌≡◌, ◌<◌, ◌≤◌, length, drop, true, false, OnOk, []};
+ghost use Rattle.std.specs.Prelude.{◌≡◌, ◌<◌, ◌≤◌, ℕ, length, drop, true, false, vec_len, slice_index_or, slice_set, None, OnOk, []};
 ghost use Rattle.policy_faults.specs.Ring.{is_in_memory, marked_page, unmarked_at, is_hand_marked, hand_passed, paged_in};
 
 use std::alloc::Global;
-use std::collections::{HashMap, VecDeque};
+use std::collections::VecDeque;
 use std::marker::Model;
 use vm_facts::NoMemory;
 
@@ -11,8 +11,8 @@ use vm_facts::NoMemory;
 #[derive(Drop)]
 pub(crate) struct PageRing {
     pages: VecDeque<u32>,
-    /// Whether a page that is there is marked.
-    marks: HashMap<u32, bool>,
+    /// By its number whether a page is marked, and none where it isn't there, as those past the end aren't.
+    marks: Vec<Option<bool>>,
 }
 
 impl Model for PageRing {
@@ -34,7 +34,7 @@ impl PageRing {
     {
         PageRing {
             pages: VecDeque::new(alloc),
-            marks: HashMap::new(alloc),
+            marks: Vec::new(alloc),
         }
     }
 
@@ -49,7 +49,7 @@ impl PageRing {
     pub(crate) fn contains(&self, page: u32) -> bool
         ensures { result ≡ is_in_memory page self.now }
     {
-        self.marks.contains_key(&page)
+        mark_of(&self.marks, page).is_some()
     }
 
     /// Marks a page, where it is there, and answers whether it is.
@@ -58,12 +58,10 @@ impl PageRing {
         ensures marked { result ≡ true → self.new ≡ marked_page page self.old }
         ensures same { result ≡ false → self.new ≡ self.old }
     {
-        if !self.marks.contains_key(&page) {
+        if mark_of(&self.marks, page).is_none() {
             return false;
         }
-        let Ok(_) = self.marks.insert(page, true) else {
-            unreachable!()
-        };
+        put_mark(&mut self.marks, page, Some(true));
         true
     }
 
@@ -74,9 +72,7 @@ impl PageRing {
         let Some(page) = self.pages.get(place) else {
             return;
         };
-        let Ok(_) = self.marks.insert(*page, false) else {
-            unreachable!()
-        };
+        put_mark(&mut self.marks, *page, Some(false));
     }
 
     /// Whether the page at the hand is marked.
@@ -86,7 +82,7 @@ impl PageRing {
         let Some(page) = self.pages.front() else {
             return false;
         };
-        self.marks.get(page).copied().unwrap_or(false)
+        mark_of(&self.marks, *page).unwrap_or(false)
     }
 
     /// The hand goes on by one page.
@@ -108,7 +104,7 @@ impl PageRing {
         let Some(page) = self.pages.pop_front() else {
             return;
         };
-        self.marks.remove(&page);
+        put_mark(&mut self.marks, page, None);
     }
 
     /// A page that isn't there comes, marked, as the last that the hand comes to.
@@ -117,10 +113,41 @@ impl PageRing {
         ensures { OnOk result (self.new ≡ paged_in page self.old) }
     {
         self.pages.reserve(1)?;
-        self.marks.insert(page, true)?;
+        have_place(&mut self.marks, page)?;
+        put_mark(&mut self.marks, page, Some(true));
         let Ok(()) = self.pages.push_back(page) else {
             unreachable!()
         };
         Ok(())
     }
+}
+
+// The mark of a page, where it is there.
+fn mark_of(marks: &[Option<bool>], page: u32) -> Option<bool>
+    ensures { result ≡ slice_index_or marks.now page None }
+{
+    match marks.get(page as usize) {
+        Some(mark) => *mark,
+        None => None,
+    }
+}
+
+// Puts the mark of a page, or none.
+fn put_mark(marks: &mut Vec<Option<bool>>, page: u32, mark: Option<bool>)
+    requires { page < vec_len marks.old }
+    ensures { marks.new.items ≡ slice_set marks.old.items page mark }
+{
+    marks[page as usize] = mark;
+}
+
+// Makes a place for the mark of a page, where there is none.
+fn have_place(marks: &mut Vec<Option<bool>>, page: u32) -> Result<(), NoMemory>
+    ensures place { OnOk result (page < vec_len marks.new) }
+    ensures same { (q : ℕ) → slice_index_or marks.new.items q None ≡ slice_index_or marks.old.items q None }
+{
+    let places = page as usize + 1;
+    if marks.len() < places {
+        marks.resize(places, None)?;
+    }
+    Ok(())
 }

@@ -9,7 +9,8 @@ use std::alloc::Global;
 use vm_facts::NoMemory;
 
 /// The page faults under first in, first out, with 1 or more frames: where there is no room, the page leaves that came first.
-/// At most 4,000,000 references, each of which is served in O(1). The one error is that there is no memory left.
+/// At most 4,000,000 references, each of which is served in O(1). Takes memory in proportion to the highest page. The one error is
+/// that there is no memory left.
 pub fn fifo_faults(alloc: Global, refs: &[u32], frames: u32) -> Result<u32, NoMemory>
     requires { length refs.now ≤ 4000000 }
     ensures { IfOk result (λ faults. faults ≡ fifo_faults refs.now frames) }
@@ -25,7 +26,8 @@ pub fn fifo_faults(alloc: Global, refs: &[u32], frames: u32) -> Result<u32, NoMe
 /// The page faults under the clock with one hand: each page has a bit that is set when it is referenced. Where there is no room,
 /// the hand goes round the frames. It clears each bit that is set, and takes the first frame whose bit is clear (Corbato, "A
 /// Paging Experiment with the Multics System"). A page comes in with its bit set. At most 4,000,000 references. Each move of the
-/// hand clears a bit that a reference set, so there are no more of them. The one error is that there is no memory left.
+/// hand clears a bit that a reference set, so there are no more of them. Takes memory in proportion to the highest page. The one
+/// error is that there is no memory left.
 pub fn clock_faults(alloc: Global, refs: &[u32], frames: u32) -> Result<u32, NoMemory>
     requires { length refs.now ≤ 4000000 }
     ensures { IfOk result (λ faults. faults ≡ clock_faults refs.now frames) }
@@ -44,8 +46,8 @@ pub fn clock_faults(alloc: Global, refs: &[u32], frames: u32) -> Result<u32, NoM
 /// back hand takes its frame where that page is invalid. An invalid page that is referenced is valid again, and that is no fault. A
 /// page comes in valid. Where both hands are at one frame, the page that came first leaves. Where the front hand is right behind
 /// the back hand, at `frames - 1`, a page has nearly a round to be referenced in, as under a clock with one hand. From `frames` on
-/// the front hand is at no page, and no page leaves but after a whole round. At most 4,000,000 references. The one error is that
-/// there is no memory left.
+/// the front hand is at no page, and no page leaves but after a whole round. At most 4,000,000 references. Takes memory in
+/// proportion to the highest page. The one error is that there is no memory left.
 pub fn hands_faults(alloc: Global, refs: &[u32], frames: u32, spread: u32) -> Result<u32, NoMemory>
     requires { length refs.now ≤ 4000000 }
     ensures { IfOk result (λ faults. faults ≡ hands_faults refs.now frames spread) }

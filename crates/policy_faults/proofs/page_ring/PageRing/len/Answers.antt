@@ -1,9 +1,8 @@
-use Rattle.std.proofs.Common.{ℕ, nat_eq, arith}
-use Rattle.std.specs.HashMap.{get}
+use Rattle.std.proofs.Common.{ℕ, get_or, None, arith}
 use Rattle.policy_faults.proofs.Calls.{size_told}
 use Rattle.policy_faults.proofs.page_ring.PageRing.len.Goals as goal
 
 pub returns : goal.returns
 returns c =
-    let size = size_told (λ (q : ℕ). get nat_eq c.self.inside.marks q) c.self.inside.pages.items c.args.self.now c.self.view_is in
+    let size = size_told (λ (q : ℕ). get_or c.self.inside.marks.items q None) c.self.inside.pages.items c.args.self.now c.self.view_is in
     omega (arith, c.self.inside.pages.ok.0)
