@@ -4,3 +4,4 @@ pub mod Counting
 pub mod Finding
 pub mod Curve
 pub mod TextLaws
+pub mod SweepLaws

@@ -47,14 +47,14 @@ is_optimum_text refs pages frames faults victims vs t0 t1 t2 t3 e0 e1 e2 e3 ps v
     ∙ ap (λ ws. counted_text refs ++ a ++ b ++ flat_map (victim_line (distinct refs)) ws) v
 
 -- the text about policies, by the numbers in it
-pub is_policies_text : (refs numbers : List ℕ) (frames least fifo clock hands lru : ℕ) (text : List ℕ) → refs ≡ numbers
+pub is_policies_text : (refs numbers : List ℕ) (frames ahead least fifo clock hands lru : ℕ) (text : List ℕ) → refs ≡ numbers
     → text ≡ policy_lines fifo clock hands lru least
-    → fifo ≡ fifo_faults refs frames → clock ≡ clock_faults refs frames → hands ≡ hands_faults refs frames → lru ≡ lru_faults refs frames
-    → text ≡ policies_text numbers frames least
-is_policies_text refs numbers frames least fifo clock hands lru text same lines f c h l =
+    → fifo ≡ fifo_faults refs frames → clock ≡ clock_faults refs frames → hands ≡ hands_faults refs frames ahead → lru ≡ lru_faults refs frames
+    → text ≡ policies_text numbers frames ahead least
+is_policies_text refs numbers frames ahead least fifo clock hands lru text same lines f c h l =
     lines
     ∙ ap (λ k. policy_lines k clock hands lru least) f
     ∙ ap (λ k. policy_lines (fifo_faults refs frames) k hands lru least) c
     ∙ ap (λ k. policy_lines (fifo_faults refs frames) (clock_faults refs frames) k lru least) h
-    ∙ ap (λ k. policy_lines (fifo_faults refs frames) (clock_faults refs frames) (hands_faults refs frames) k least) l
-    ∙ ap (λ ns. policies_text ns frames least) same
+    ∙ ap (λ k. policy_lines (fifo_faults refs frames) (clock_faults refs frames) (hands_faults refs frames ahead) k least) l
+    ∙ ap (λ ns. policies_text ns frames ahead least) same

@@ -1,5 +1,5 @@
 -- The texts of the answers: lines of counts, of victims, and of sizes.
-use Rattle.std.specs.Prelude.{ℕ, ◌+◌, List, [], ◌∷◌, ◌++◌, length, map, Option, Some, None, codes, decimal}
+use Rattle.std.specs.Prelude.{ℕ, ◌+◌, ◌-◌, ◌*◌, ◌/◌, List, [], ◌∷◌, ◌++◌, length, map, Option, Some, None, codes, decimal}
 use Rattle.std.specs.List.{flat_map, range_with_len}
 use Rattle.vm_facts.specs.declared.page.Page.{Page}
 use Rattle.flat_model.specs.Touched.{distinct}
@@ -62,6 +62,31 @@ policy_lines fifo clock hands lru least =
     numbered_line (codes "lru ") lru ++
     numbered_line (codes "least ") least
 
--- the faults of the policies on references to pages with these numbers, with so many frames, beside the least of any plan
-abbrev pub policies_text : List ℕ → ℕ → ℕ → List ℕ
-policies_text refs frames least = policy_lines (fifo_faults refs frames) (clock_faults refs frames) (hands_faults refs frames) (lru_faults refs frames) least
+-- the faults of the policies on references to pages with these numbers, with so many frames and the front hand so many of them ahead,
+-- beside the least of any plan
+abbrev pub policies_text : List ℕ → (frames ahead least : ℕ) → List ℕ
+policies_text refs frames ahead least =
+    policy_lines (fifo_faults refs frames) (clock_faults refs frames) (hands_faults refs frames ahead) (lru_faults refs frames) least
+
+-- the numbers of frames that are asked: so many, each of them so many more than the one before
+abbrev pub first_numbers : (from every count : ℕ) → List ℕ
+first_numbers from every count = map (λ k. from + k * every) (range_with_len 0 count)
+
+-- FROM, FROM + EVERY, .. up to TO
+abbrev pub frame_numbers : (from to every : ℕ) → List ℕ
+frame_numbers from to every = first_numbers from every ((to - from) / every + 1)
+
+-- the same counts in a line, after the number of frames
+abbrev pub policies_line : (frames fifo clock hands lru least : ℕ) → List ℕ
+policies_line frames fifo clock hands lru least =
+    decimal frames ++
+    codes " fifo" ++ part fifo ++
+    codes " clock" ++ part clock ++
+    codes " hands" ++ part hands ++
+    codes " lru" ++ part lru ++
+    codes " least" ++ part least ++ codes "\n"
+
+-- the faults of the policies with so many frames, a quarter of which the front hand is ahead
+abbrev pub sweep_line : List ℕ → (frames least : ℕ) → List ℕ
+sweep_line refs frames least =
+    policies_line frames (fifo_faults refs frames) (clock_faults refs frames) (hands_faults refs frames (frames / 4)) (lru_faults refs frames) least

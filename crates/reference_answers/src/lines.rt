@@ -6,7 +6,7 @@ ghost use Rattle.run_text.specs.Text.{page_text, part};
 ghost use Rattle.command_ending.specs.Ending.{numbered_line};
 ghost use Rattle.reference_answers.specs.Numbers.{page_numbered};
 ghost use Rattle.reference_text.specs.Grammar.{page_word};
-ghost use Rattle.reference_answers.specs.Texts.{victim_line, size_lines, reference_line};
+ghost use Rattle.reference_answers.specs.Texts.{victim_line, size_lines, reference_line, policies_line};
 
 use command_ending::put_number;
 use page_opt::Victim;
@@ -75,6 +75,36 @@ fn put_size(text: &mut Vec<u8>, size: u32, faults: u32) -> Result<(), AllocError
     put_part(text, faults)?;
     text.push(b'\n')?;
     Ok(())
+}
+
+/// Puts the line of a number of frames: each policy with its faults.
+pub(crate) fn put_policies_line(
+    text: &mut Vec<u8>,
+    frames: u32,
+    fifo: u32,
+    clock: u32,
+    hands: u32,
+    lru: u32,
+    least: u32,
+) -> Result<(), AllocError>
+    ensures { OnOk result (text.new.items ≡ text.old.items ++ policies_line frames fifo clock hands lru least) }
+{
+    put_number(text, frames)?;
+    put_named_number(text, b" fifo", fifo)?;
+    put_named_number(text, b" clock", clock)?;
+    put_named_number(text, b" hands", hands)?;
+    put_named_number(text, b" lru", lru)?;
+    put_named_number(text, b" least", least)?;
+    text.push(b'\n')?;
+    Ok(())
+}
+
+/// Puts words, and a number after a space.
+fn put_named_number(text: &mut Vec<u8>, words: &[u8], number: u32) -> Result<(), AllocError>
+    ensures { OnOk result (text.new.items ≡ text.old.items ++ words.now ++ part number) }
+{
+    text.extend_from_slice(words)?;
+    put_part(text, number)
 }
 
 /// Puts references, one a line.

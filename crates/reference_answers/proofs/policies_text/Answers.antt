@@ -39,11 +39,13 @@ returns c =
     let numbers = c.as_slice-numbers.ensures.value ∙ c.in_ok-numbered.ensures.numbers in
     record {
       least = c.in_ok-plan.plan.faults;
-      victims = c.in_ok-plan.plan.victims.items;
-      optimum =
-          subst (λ (ns : List ℕ). IsOptimum ns c.args.frames c.in_ok-plan.plan.faults c.in_ok-plan.plan.victims.items) numbers
-          (record { plan = c.in_ok-plan.ensures.faults; least = c.in_ok-plan.ensures.least; furthest = c.in_ok-plan.ensures.furthest });
+      fewest = record {
+        victims = c.in_ok-plan.plan.victims.items;
+        optimum =
+            subst (λ (ns : List ℕ). IsOptimum ns c.args.frames c.in_ok-plan.plan.faults c.in_ok-plan.plan.victims.items) numbers
+            (record { plan = c.in_ok-plan.ensures.faults; least = c.in_ok-plan.ensures.least; furthest = c.in_ok-plan.ensures.furthest });
+      };
       is =
-          is_policies_text c.as_slice-numbers.result.now _ c.args.frames c.in_ok-plan.plan.faults c.in_ok-fifo.fifo c.in_ok-clock.clock c.in_ok-hands.hands c.in_ok-lru.lru
+          is_policies_text c.as_slice-numbers.result.now _ c.args.frames c.args.spread c.in_ok-plan.plan.faults c.in_ok-fifo.fifo c.in_ok-clock.clock c.in_ok-hands.hands c.in_ok-lru.lru
           c.in_ok-text.text.items numbers c.in_ok-text.ensures c.in_ok-fifo.ensures c.in_ok-clock.ensures c.in_ok-hands.ensures c.in_ok-lru.ensures;
     }
