@@ -6,11 +6,14 @@ use Rattle.run_files.specs.declared.answers.Unread.{Unread}
 use Rattle.run_files.specs.declared.answers.Unread.TheVariants as unreads
 use Rattle.run_files.specs.Told.{whole_told}
 use Rattle.reference_text.specs.Grammar.{ReadsReferences, HasBadReference}
-use Rattle.reference_answers.specs.Answers.{IsPoliciesText}
+use Rattle.reference_answers.specs.Texts.{frame_numbers}
+use Rattle.reference_answers.specs.Answers.{IsPoliciesText, IsSweepText}
 use Rattle.command_ending.specs.declared.fault.Fault.{Fault}
 use Rattle.command_ending.specs.declared.fault.Fault.TheVariants.{Absent, FileFault, NoMemory, BadReferences, ReferencesTooLong}
 use Rattle.command_ending.specs.Ending.{Ending}
 use Rattle.command_ending.specs.Command.{Faults, NoFaults, OpenFailed, Completes}
+use Rattle.command_words.specs.declared.command.Comparison.{Comparison}
+use Rattle.command_words.specs.declared.command.Comparison.TheVariants.{At, Sweep}
 use Rattle.policy_command.specs.declared.command.TheConstants.{REFERENCES_BYTES}
 
 -- the most bytes of a file of references
@@ -33,11 +36,16 @@ IsBadAt (Ok (Some bytes)) line = HasBadReference bytes line
 IsBadAt (Ok None) line = ⊥
 IsBadAt (Err unread) line = ⊥
 
+-- the text has the faults of the policies on references: with so many frames, or a line for each of several numbers of them
+abbrev pub SaysOfPolicies : Comparison → List Page → List ℕ → Type 0
+SaysOfPolicies (At frames spread) refs text = IsPoliciesText refs frames spread text
+SaysOfPolicies (Sweep from to every) refs text = IsSweepText refs (frame_numbers from to every) text
+
 -- the text is about the policies on the references of the file
-pub record IsCompared (frames : ℕ) (read : Result (Option (List ℕ)) Unread) (text : List ℕ) : Type 0 where
+pub record IsCompared (asked : Comparison) (read : Result (Option (List ℕ)) Unread) (text : List ℕ) : Type 0 where
   pub refs : List Page
   pub has : GivesReferences read refs
-  pub answer : IsPoliciesText refs frames text
+  pub answer : SaysOfPolicies asked refs text
 
 -- what the bytes of a file give
 abbrev pub EndsBytes : {A : Type 0} → List ℕ → Result (Vec Page A) Fault → Type 0
@@ -46,24 +54,24 @@ EndsBytes bytes (Err NoMemory) = Unit {0}
 EndsBytes bytes (Err (BadReferences line)) = HasBadReference bytes line
 EndsBytes bytes (Err _) = ⊥
 
--- what the bytes of a file give, as a text about policies with so many frames
-abbrev pub EndsText : ℕ → List ℕ → Ending → Type 0
-EndsText frames bytes (Ok text) = IsCompared frames (Ok (Some bytes)) text
-EndsText frames bytes (Err NoMemory) = Unit {0}
-EndsText frames bytes (Err (BadReferences line)) = HasBadReference bytes line
-EndsText frames bytes (Err _) = ⊥
+-- what the bytes of a file give, as a text about policies that are compared so
+abbrev pub EndsText : Comparison → List ℕ → Ending → Type 0
+EndsText asked bytes (Ok text) = IsCompared asked (Ok (Some bytes)) text
+EndsText asked bytes (Err NoMemory) = Unit {0}
+EndsText asked bytes (Err (BadReferences line)) = HasBadReference bytes line
+EndsText asked bytes (Err _) = ⊥
 
--- How comparing policies with so many frames on the file of this name ends, by what is read.
-abbrev pub EndsPolicies : ℕ → List ℕ → Result (Option (List ℕ)) Unread → Faults → Ending → Type 0
-EndsPolicies frames name read f (Ok text) = NoFaults f × IsCompared frames read text
-EndsPolicies frames name read f (Err (Absent absent)) = (absent.now ≡ name) × (read ≡ Err unreads.Absent)
-EndsPolicies frames name read f (Err FileFault) = OpenFailed f
-EndsPolicies frames name read f (Err NoMemory) = Unit {0}
-EndsPolicies frames name read f (Err (BadReferences line)) = IsBadAt read line
-EndsPolicies frames name read f (Err ReferencesTooLong) = read ≡ Ok None
-EndsPolicies frames name read f (Err _) = ⊥
+-- How comparing policies so on the file of this name ends, by what is read.
+abbrev pub EndsPolicies : Comparison → List ℕ → Result (Option (List ℕ)) Unread → Faults → Ending → Type 0
+EndsPolicies asked name read f (Ok text) = NoFaults f × IsCompared asked read text
+EndsPolicies asked name read f (Err (Absent absent)) = (absent.now ≡ name) × (read ≡ Err unreads.Absent)
+EndsPolicies asked name read f (Err FileFault) = OpenFailed f
+EndsPolicies asked name read f (Err NoMemory) = Unit {0}
+EndsPolicies asked name read f (Err (BadReferences line)) = IsBadAt read line
+EndsPolicies asked name read f (Err ReferencesTooLong) = read ≡ Ok None
+EndsPolicies asked name read f (Err _) = ⊥
 
--- comparing policies with so many frames on the file of this name
-abbrev pub Compares : ℕ → List ℕ → Option (List NamedFile) → Faults → Option (List ℕ) → Option (List ℕ) → ℕ → ℕ → ℕ → Type 0
-Compares frames name holds f before after old_faults new_faults status =
-    Completes (EndsPolicies frames name) (references_told name) holds f before after old_faults new_faults status
+-- comparing policies so on the file of this name
+abbrev pub Compares : Comparison → List ℕ → Option (List NamedFile) → Faults → Option (List ℕ) → Option (List ℕ) → ℕ → ℕ → ℕ → Type 0
+Compares asked name holds f before after old_faults new_faults status =
+    Completes (EndsPolicies asked name) (references_told name) holds f before after old_faults new_faults status

@@ -12,6 +12,6 @@ returns-clause-compares g c =
       page_before = g.F.Files.page_faults c.args.files.now;
       page_after = g.F.Files.page_faults c.text_from-made.new.files;
     } in
-    completed (EndsPolicies c.args.frames c.args.name.now) (references_told c.args.name.now) (g.F.Files.holds c.args.files.now) f
+    completed (EndsPolicies c.args.comparison c.args.name.now) (references_told c.args.name.now) (g.F.Files.holds c.args.files.now) f
     (g.S.Sink.written c.args.sink.now) (g.S.Sink.written c.write_ending.new.sink) (g.S.Sink.faults c.args.sink.now) (g.S.Sink.faults c.write_ending.new.sink) c.write_ending.result
     (ending_of c.text_from-made.result) (λ read. tt) c.text_from-made.ensures.made c.text_from-made.ensures.counted c.write_ending.ensures.writes
