@@ -208,5 +208,5 @@ module _ (seen : Seen) (status : ℕ) (F Z O : Type 0) (files : F → NoFaults s
       completes_fails seen _ _ status x (λ read device ends. ends) (λ read device ends. ends) (no_reads z o) (no_writes z o)
   obeys_fails (Some (References numbers schedule images)) x f z o =
       completes_fails seen _ _ status x (λ read device ends. ends) (λ read device ends. ends) (no_reads z o) (no_writes z o)
-  obeys_fails (Some (Policies size references)) x f z o =
+  obeys_fails (Some (Policies comparison references)) x f z o =
       completes_fails seen _ _ status x (λ read device ends. ends) (λ read device ends. ends) (no_reads z o) (no_writes z o)

@@ -41,7 +41,7 @@ obeys_told (Some (Owners entries numbers schedule images)) seen files image stat
 obeys_told (Some (Film steps numbers schedule images)) seen files image status is octets swap x = completes_told _ _ seen files status is x
 obeys_told (Some (Stats numbers schedule images)) seen files image status is octets swap x = completes_told _ _ seen files status is x
 obeys_told (Some (References numbers schedule images)) seen files image status is octets swap x = completes_told _ _ seen files status is x
-obeys_told (Some (Policies size references)) seen files image status is octets swap x = completes_told _ _ seen files status is x
+obeys_told (Some (Policies comparison references)) seen files image status is octets swap x = completes_told _ _ seen files status is x
 
 -- What is seen where files and devices are in memory.
 pub same_seen : (files : Option (List NamedFile)) (list : List NamedFile) (zb ob zero_blocks one_blocks : ℕ) (before after swap : Option (List ℕ))

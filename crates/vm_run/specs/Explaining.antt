@@ -35,7 +35,7 @@ ExplainsAsked (Stats numbers schedule images) status holds text = ExplainsRun sc
 ExplainsAsked (References numbers schedule images) status holds text = ExplainsRun schedule status holds text
 ExplainsAsked (Assemble source) status holds text = ToldWhere (status == 17) (ExplainsSource source holds text) text
 ExplainsAsked (Replay transcript images) status holds text = ToldWhere (status == 14) (ExplainsTranscript transcript images holds text) text
-ExplainsAsked (Policies size references) status holds text = ToldWhere (status == 18) (ExplainsReferences references holds text) text
+ExplainsAsked (Policies comparison references) status holds text = ToldWhere (status == 18) (ExplainsReferences references holds text) text
 ExplainsAsked asked status holds text = text ≡ None
 
 -- of words that ask for none: the first that isn't what it is for
@@ -71,7 +71,7 @@ LacksAsked (Stats numbers schedule images) status holds f fault = LacksRun sched
 LacksAsked (References numbers schedule images) status holds f fault = LacksRun schedule status holds fault
 LacksAsked (Assemble source) status holds f fault = LacksWhere (status == 17) (LacksFile (LacksSource source holds) source fault)
 LacksAsked (Replay transcript images) status holds f fault = LacksWhere (status == 14) (LacksTranscript transcript images holds f fault)
-LacksAsked (Policies size references) status holds f fault = LacksWhere (status == 18) (LacksFile (LacksReferences references holds) references fault)
+LacksAsked (Policies comparison references) status holds f fault = LacksWhere (status == 18) (LacksFile (LacksReferences references holds) references fault)
 LacksAsked asked status holds f fault = ⊥
 
 -- of words that ask for none: memory was refused

@@ -102,8 +102,8 @@ ObeysTold (Some (Stats numbers schedule images)) seen files image status =
     AnswersTold questions.Stats (record { numbers = numbers; schedule = schedule; words = images }) seen files status
 ObeysTold (Some (References numbers schedule images)) seen files image status =
     AnswersTold questions.References (record { numbers = numbers; schedule = schedule; words = images }) seen files status
-ObeysTold (Some (Policies size references)) seen files image status =
-    CompletesTold (EndsPolicies size references) (references_told references files) seen status
+ObeysTold (Some (Policies comparison references)) seen files image status =
+    CompletesTold (EndsPolicies comparison references) (references_told references files) seen status
 
 -- words over these files and two blank devices leave this on the devices and the output, with this status
 abbrev pub DoesInMemory : Option Asked → List NamedFile → ℕ → ℕ → Option (List ℕ) → Option (List ℕ) → Option (List ℕ) → ℕ → ℕ → Type 0

@@ -43,8 +43,8 @@ Obeys (Some (Stats numbers schedule images)) seen status =
 Obeys (Some (References numbers schedule images)) seen status =
     Answers questions.References (record { numbers = numbers; schedule = schedule; words = images })
     seen.files seen.faults seen.written_before seen.written_after seen.sink_faults_before seen.sink_faults_after status
-Obeys (Some (Policies size references)) seen status =
-    Compares size references seen.files seen.faults seen.written_before seen.written_after seen.sink_faults_before seen.sink_faults_after status
+Obeys (Some (Policies comparison references)) seen status =
+    Compares comparison references seen.files seen.faults seen.written_before seen.written_after seen.sink_faults_before seen.sink_faults_after status
 
 -- words that ask for no command, or for one that reads no file, leave the files
 abbrev pub LeavesFiles : Option Asked → Type 0 → Type 0

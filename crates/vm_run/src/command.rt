@@ -144,9 +144,12 @@ fn obey<F: Files, D: SwapDev, E: SwapDev, S: Sink>(
             schedule,
             images,
         ),
-        Some(Command::Policies { size, references }) => {
-            compare_policies(alloc, files, sink, size, references)
-        }
+        Some(
+            Command::Policies {
+                comparison,
+                references,
+            },
+        ) => compare_policies(alloc, files, sink, comparison, references),
         None => write_ending(alloc, sink, Err(Fault::BadWords)),
     }
 }
