@@ -1,4 +1,7 @@
 // Files of references: what they read as, why the first bad lines of a few are bad, and the text about policies.
+ghost use Rattle.command_words.specs.Command.{IsFittingComparison};
+
+use command_words::Comparison;
 use io_edge::{MemFiles, MemSink};
 use policy_command::compare_policies;
 use reference_answers::references_text;
@@ -127,26 +130,55 @@ fn of_good_references_nothing_is_told(rt: HostRuntime) -> Result<(), Fail> {
     Ok(())
 }
 
-// What is written about policies with two frames on a file of references, and the status.
-fn compared(alloc: Global, bytes: &[u8]) -> Result<(u8, Vec<u8>), Fail> {
+// What is written about policies that are compared so on a file of references, and the status.
+fn compared(alloc: Global, comparison: Comparison, bytes: &[u8]) -> Result<(u8, Vec<u8>), Fail>
+    requires { IsFittingComparison comparison }
+{
     let mut held = Vec::new(alloc);
     held.push(("r".to_string(alloc)?, Vec::from_slice(alloc, bytes)?))?;
     let mut files = MemFiles::new(held, Vec::new(alloc));
     let Ok(mut sink) = MemSink::new(alloc, 400, Vec::new(alloc)) else {
         return Err(Fail::from("no memory"));
     };
-    let status = compare_policies(alloc, &mut files, &mut sink, 2, "r");
+    let status = compare_policies(alloc, &mut files, &mut sink, comparison, "r");
     Ok((status, Vec::from_slice(alloc, sink.written())?))
+}
+
+// The same with two frames, of which the front hand is at the back hand's.
+fn compared_with_two(alloc: Global, bytes: &[u8]) -> Result<(u8, Vec<u8>), Fail> {
+    let frames = Comparison::At {
+        frames: 2,
+        spread: 0,
+    };
+    compared(alloc, frames, bytes)
+}
+
+// The same with one frame and with three.
+fn compared_with_each(alloc: Global, bytes: &[u8]) -> Result<(u8, Vec<u8>), Fail> {
+    let frames = Comparison::Sweep {
+        from: 1,
+        to: 4,
+        every: 2,
+    };
+    compared(alloc, frames, bytes)
 }
 
 #[test]
 fn policies_are_compared_on_a_file(rt: HostRuntime) -> Result<(), Fail> {
     let file = b"x 1 0\nx 1 0\nd 1 0\nd 1 1\nx 1 0\nd 1 0\nx 1 0\nx 1 0\nd 1 0\n".as_slice();
-    let (status, text) = compared(rt.alloc(), file)?;
+    let (status, text) = compared_with_two(rt.alloc(), file)?;
     assert_eq!(rt; status, 0);
-    let wanted = b"fifo 5\nclock 5\nhands 5\nlru 5\nleast 4\n".as_slice();
-    assert_eq!(rt; text.as_slice(), wanted);
-    let (status, text) = compared(rt.alloc(), b"1\n01\n".as_slice())?;
+    assert_eq!(rt;
+        text.as_slice(),
+        b"fifo 5\nclock 5\nhands 5\nlru 5\nleast 4\n".as_slice()
+    );
+    let (status, text) = compared_with_each(rt.alloc(), file)?;
+    assert_eq!(rt; status, 0);
+    assert_eq!(rt;
+        text.as_slice(),
+        b"1 fifo 7 clock 7 hands 7 lru 7 least 7\n3 fifo 3 clock 3 hands 3 lru 3 least 3\n".as_slice()
+    );
+    let (status, text) = compared_with_two(rt.alloc(), b"1\n01\n".as_slice())?;
     assert_eq!(rt; status, 18);
     assert_eq!(rt;
         text.as_slice(),

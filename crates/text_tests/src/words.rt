@@ -38,7 +38,7 @@ fn a_run_has_its_option_its_numbers_and_its_names(rt: HostRuntime) -> Result<(),
 }
 
 // Command lines that are good; one space parts two words.
-const GOOD: [&'static str; 16] = [
+const GOOD: [&'static str; 22] = [
     // The option stands at any place after the first word, but once.
     "run --trace 64 256 100 s hi",
     "run 64 256 100 s a --trace b",
@@ -50,6 +50,13 @@ const GOOD: [&'static str; 16] = [
     "owners 0 64 256 1000000 s hi",
     "owners 16777216 64 256 100 s hi",
     "film 16777216 0 1 64 256 1000000 s hi",
+    // The three forms of one command.
+    "policies 1000000 references",
+    "policies 8 hands",
+    "policies 8 hands 7 references",
+    "policies 1 hands 0 hands",
+    "policies 1 1000000 1000000 references",
+    "policies 8 8 1 hands",
     // Names of files.
     "as xxxxxxxxxxxxxxxxxxxxxxxxxxxxxxxxxxxxxxxxxxxxxxxxxxxxxxxxxxxxxxx",
     "dis hi",
@@ -61,7 +68,7 @@ const GOOD: [&'static str; 16] = [
     "curve 64 256 100 s hi",
 ];
 
-const BAD: [&'static str; 40] = [
+const BAD: [&'static str; 51] = [
     "",
     "--trace run 64 256 100 s hi",
     "run --trace 64 --trace 256 100 s hi",
@@ -76,7 +83,18 @@ const BAD: [&'static str; 40] = [
     "run 64 256 1000001 s hi",
     "stats 64 256 1000001 s hi",
     "refs 64 256 100001 s hi",
-    "policies 4097 references",
+    "policies 0 references",
+    "policies 1000001 references",
+    "policies 8 hands references",
+    "policies 8 hands 8 references",
+    "policies 0 hands 0 references",
+    "policies 1000001 hands 0 references",
+    "policies 8 hands 7 references more",
+    "policies 8 spread 7 references",
+    "policies 8 7 1 references",
+    "policies 0 8 1 references",
+    "policies 8 1000001 1 references",
+    "policies 8 16 0 references",
     "run +64 256 100 s hi",
     "curve 64 256 100001 s hi",
     "opt 0 64 256 100 s hi",
@@ -121,13 +139,40 @@ fn words_ask_for_a_command_or_for_none(rt: HostRuntime) -> Result<(), Fail> {
 
 #[test]
 fn the_first_word_that_is_refused_is_told(rt: HostRuntime) -> Result<(), Fail> {
-    let Some(line) = explain_words(rt.alloc(), &["run", "63", "256", "100", "s", "hi"])? else {
-        return Err("the words are good".into());
-    };
-    assert_eq!(rt;
-        line.as_slice(),
-        b"vmrun: FRAMES is 63: 64 to 4096\n".as_slice()
-    );
+    let rows = [
+        (
+            "run 63 256 100 s hi",
+            b"FRAMES is 63: 64 to 4096".as_slice(),
+        ),
+        ("policies 0 r", b"N is 0: 1 to 1000000".as_slice()),
+        ("policies x hands 8 r", b"N is x: 1 to 1000000".as_slice()),
+        ("policies 8 hands 8 r", b"SPREAD is 8: 0 to 7".as_slice()),
+        (
+            "policies 8 hands 7",
+            b"FILE is missing: a name of 1 to 63 bytes".as_slice(),
+        ),
+        ("policies 8 hands 7 r s", b"s is a word too many".as_slice()),
+        ("policies 0 8 1 r", b"FROM is 0: 1 to 1000000".as_slice()),
+        ("policies 8 7 1 r", b"TO is 7: 8 to 1000000".as_slice()),
+        ("policies 8 16 r", b"EVERY is r: 1 to 1000000".as_slice()),
+        (
+            "policies 8 16 4 r -s",
+            b"-s is no option of this command".as_slice(),
+        ),
+    ];
+    for (line, reason) in rows {
+        let mut words = Vec::new(rt.alloc());
+        for word in line.split(' ') {
+            words.push(word)?;
+        }
+        let Some(told) = explain_words(rt.alloc(), words.as_slice())? else {
+            return Err("the words are good".into());
+        };
+        let mut wanted = Vec::from_slice(rt.alloc(), b"vmrun: ")?;
+        wanted.extend_from_slice(reason)?;
+        wanted.push(b'\n')?;
+        assert_eq!(rt; told.as_slice(), wanted.as_slice());
+    }
     assert!(rt; explain_words(rt.alloc(), &["as", "ring.s"])?.is_none());
     Ok(())
 }
