@@ -403,7 +403,7 @@ asked_plain name words =
     else (if bytes_eq name (codes "owners") then asked_owners words
     else (if bytes_eq name (codes "film") then asked_film words
     else (if bytes_eq name (codes "stats") then asked_with_run MOST_LIMIT Stats words
-    else (if bytes_eq name (codes "refs") then asked_with_run MOST_SHORT_LIMIT References words
+    else (if bytes_eq name (codes "refs") then asked_with_run MOST_LIMIT References words
     else (if bytes_eq name (codes "policies") then asked_policies words
     else None))))))))))
 
@@ -420,7 +420,7 @@ other_by true name words are =
     (chosen (bytes_eq name (codes "owners")) _ _ _ _ (with_plain _ _ words _ are (owners words))
     (chosen (bytes_eq name (codes "film")) _ _ _ _ (with_plain _ _ words _ are (film words))
     (chosen (bytes_eq name (codes "stats")) _ _ _ _ (with_plain _ _ words _ are (run Limit MOST_LIMIT Stats words long_limit))
-    (chosen (bytes_eq name (codes "refs")) _ _ _ _ (with_plain _ _ words _ are (run ShortLimit MOST_SHORT_LIMIT References words short_limit))
+    (chosen (bytes_eq name (codes "refs")) _ _ _ _ (with_plain _ _ words _ are (run Limit MOST_LIMIT References words long_limit))
     (chosen (bytes_eq name (codes "policies")) _ _ _ _
     (without_options words (why_policies words) ∙ ap (λ (b : Bool). b && is_none (why_policies words)) are ∙ policies words) refl))))))))))
 other_by false name words are =

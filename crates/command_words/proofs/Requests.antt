@@ -107,7 +107,7 @@ no_request name words =
     (either (bytes_eq name (codes "owners")) _ _ (owners words)
     (either (bytes_eq name (codes "film")) _ _ (film words)
     (either (bytes_eq name (codes "stats")) _ _ (about_run MOST_LIMIT Stats words (λ numbers schedule images. refl))
-    (either (bytes_eq name (codes "refs")) _ _ (about_run MOST_SHORT_LIMIT References words (λ numbers schedule images. refl))
+    (either (bytes_eq name (codes "refs")) _ _ (about_run MOST_LIMIT References words (λ numbers schedule images. refl))
     (either (bytes_eq name (codes "policies")) _ _ (policies words) refl)))))))))))
 
 -- Words that ask for a run.

@@ -151,7 +151,7 @@ asked_other name words =
     else (if bytes_eq name (codes "owners") then asked_owners words
     else (if bytes_eq name (codes "film") then asked_film words
     else (if bytes_eq name (codes "stats") then asked_with_run MOST_LIMIT Stats words
-    else (if bytes_eq name (codes "refs") then asked_with_run MOST_SHORT_LIMIT References words
+    else (if bytes_eq name (codes "refs") then asked_with_run MOST_LIMIT References words
     else (if bytes_eq name (codes "policies") then asked_policies words
     else None)))))))))))
 

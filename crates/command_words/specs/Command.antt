@@ -95,5 +95,5 @@ IsFitting (commands.Curve numbers schedule images) = IsFittingRun MOST_SHORT_LIM
 IsFitting (commands.Owners entries numbers schedule images) = (entries ≤ JOURNAL_ENTRIES) × IsFittingRun MOST_LIMIT numbers schedule images.now
 IsFitting (commands.Film steps numbers schedule images) = AreSteps steps × IsFittingRun MOST_LIMIT numbers schedule images.now
 IsFitting (commands.Stats numbers schedule images) = IsFittingRun MOST_LIMIT numbers schedule images.now
-IsFitting (commands.References numbers schedule images) = IsFittingRun MOST_SHORT_LIMIT numbers schedule images.now
+IsFitting (commands.References numbers schedule images) = IsFittingRun MOST_LIMIT numbers schedule images.now
 IsFitting (commands.Policies comparison references) = IsFittingComparison comparison × IsShortName references.now

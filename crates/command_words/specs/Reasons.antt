@@ -149,7 +149,7 @@ why_other name words =
     else (if bytes_eq name (codes "owners") then why_form (Entries ∷ Frames ∷ Swap ∷ Limit ∷ Schedule ∷ []) true words
     else (if bytes_eq name (codes "film") then why_form (From ∷ To ∷ Every ∷ Frames ∷ Swap ∷ Limit ∷ Schedule ∷ []) true words
     else (if bytes_eq name (codes "stats") then why_form (Frames ∷ Swap ∷ Limit ∷ Schedule ∷ []) true words
-    else (if bytes_eq name (codes "refs") then why_form (Frames ∷ Swap ∷ ShortLimit ∷ Schedule ∷ []) true words
+    else (if bytes_eq name (codes "refs") then why_form (Frames ∷ Swap ∷ Limit ∷ Schedule ∷ []) true words
     else (if bytes_eq name (codes "policies") then or_else (bad_plain words) (why_policies words)
     else Some (Unknown name)))))))))))
 

@@ -20,8 +20,7 @@ pub struct Numbers {
     pub frames: u32,
     /// The blocks of 512 bytes of the swap device: 256 to 131,072.
     pub swap: u32,
-    /// The most instructions that may run in all: 1 to 1,000,000, but at most 100,000 for `opt`, `curve` and
-    /// `refs`.
+    /// The most instructions that may run in all: 1 to 1,000,000, but at most 100,000 for `opt` and `curve`.
     pub limit: u32,
 }
 
@@ -138,7 +137,7 @@ pub enum Command<'a> {
 ///
 /// and it is `None` where they are any others. No other word begins with `-` or is empty. A number has 1 to 8 ASCII
 /// digits, leading zeros among them: FRAMES is 64 to 4,096, SWAP 256 to 131,072, LIMIT 1 to 1,000,000 but at most
-/// 100,000 for `opt`, `curve` and `refs`, NUMBER 0 to 9,999, N 1 to 4,096 for `opt`, 1 to 1,000,000 for `policies` and 0 to
+/// 100,000 for `opt` and `curve`, NUMBER 0 to 9,999, N 1 to 4,096 for `opt`, 1 to 1,000,000 for `policies` and 0 to
 /// 16,777,216 for `owners`. FROM and TO of `film` are 0 to 16,777,216, and its EVERY 1 to 16,777,216. FROM and EVERY of
 /// `policies` are 1 to 1,000,000, TO is FROM to 1,000,000, and SPREAD 0 to N - 1. A name has 1 to 63 bytes. There are 1 to 16
 /// words of images: a name starts a process, and one after a `=` only makes the
@@ -360,10 +359,10 @@ fn read_stats<'a>(words: &'a [&'a str]) -> Option<Command<'a>>
 }
 
 fn read_references<'a>(words: &'a [&'a str]) -> Option<Command<'a>>
-    ensures exact { option_map asked_by result ≡ asked_with_run MOST_SHORT_LIMIT References (map (λ word. word.now) words.now) }
+    ensures exact { option_map asked_by result ≡ asked_with_run MOST_LIMIT References (map (λ word. word.now) words.now) }
     ensures fits { IfSome result IsFitting }
 {
-    let head = RunHead::of(ImageWords::all(words), MOST_SHORT_LIMIT)?;
+    let head = RunHead::of(ImageWords::all(words), MOST_LIMIT)?;
     Some(Command::References {
         numbers: head.numbers,
         schedule: head.schedule,

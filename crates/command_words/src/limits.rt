@@ -19,7 +19,7 @@ pub const MOST_SWAP: u32 = 131_072;
 /// The most instructions of a run.
 pub const MOST_LIMIT: u32 = 1_000_000;
 
-/// The most instructions of a run whose references are kept.
+/// The most instructions of a run about whose references `opt` and `curve` are asked.
 pub const MOST_SHORT_LIMIT: u32 = 100_000;
 
 /// The highest number of a load.

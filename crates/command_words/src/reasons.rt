@@ -23,7 +23,7 @@ pub enum Argument {
     Swap,
     /// How many instructions may run.
     Limit,
-    /// The same, of a run whose references are kept.
+    /// The same, of a run about whose references `opt` and `curve` are asked.
     ShortLimit,
     /// The number of a load.
     Number,
@@ -350,7 +350,7 @@ fn why_other<'a>(name: &'a str, words: &[&'a str]) -> Option<BadWord<'a>>
             &[
                 Argument::Frames,
                 Argument::Swap,
-                Argument::ShortLimit,
+                Argument::Limit,
                 Argument::Schedule,
             ],
             true,

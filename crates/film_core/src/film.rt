@@ -1,20 +1,23 @@
 //! A film and its machine.
-ghost use Rattle.std.specs.Prelude.{◌≡◌, ◌+◌, ◌<◌, ◌≤◌, false, [], length, map, None, IfOk};
-ghost use Rattle.machine_state.specs.Going.{CanGoOn};
+ghost use Rattle.std.specs.Prelude.{◌≡◌, ◌↔◌, ◌+◌, ◌<◌, ◌≤◌, true, false, [], length, map, None, IfOk};
+ghost use Rattle.machine_state.specs.Going.{CanGoOn, IsRunning};
 ghost use Rattle.machine_state.specs.Machine.{image_shown};
 ghost use Rattle.machine_state.specs.New.{fresh_kernel, AreSound};
 ghost use Rattle.machine_state.specs.Sourced.{AreNames};
+ghost use Rattle.proc_run.specs.Choosing.{turn_after};
 
 use machine_state::{Machine, Named};
+use proc_run::{DecodeCache, next_turned};
 use run_model::Mark;
 use std::alloc::Global;
 use std::marker::Model;
-use vm_facts::{Entry, NoMemory, Params};
+use vm_facts::{Entry, Event, NoMemory, Params};
 
 /// A run that goes on from entry to entry: contracts see its machine, how many lines were taken, the last mark, how many
 /// instructions were counted, and whether the run is over. It must be ended.
 pub struct Film {
     pub(crate) alloc: Global,
+    pub(crate) cache: DecodeCache,
     pub(crate) machine: Machine,
 
     // The lines taken so far.
@@ -62,6 +65,7 @@ impl Film {
     {
         Ok(Film {
             alloc,
+            cache: DecodeCache::empty(),
             machine: Machine::new(alloc, params, images)?,
             lines: 0,
             mark: Mark::Over,
@@ -91,6 +95,13 @@ impl Film {
         self.machine.journal()
     }
 
+    /// How many instructions were counted.
+    pub fn counted(&self) -> u32
+        ensures { result ≡ self.now.counted }
+    {
+        self.counted
+    }
+
     /// Whether no further unit comes.
     pub fn is_over(&self) -> bool
         ensures { result ≡ self.now.over }
@@ -98,10 +109,19 @@ impl Film {
         self.over
     }
 
+    /// Whether all lines of the run were taken, which are these, and no process can step.
+    pub fn is_idle(&self, lines: &[Event]) -> bool
+        requires { IsRunning self.now.machine }
+        ensures { (result ≡ true) ↔ ((length lines.now ≤ self.now.lines) × (turn_after self.now.machine.kernel 0 ≡ None)) }
+    {
+        lines.len() <= self.lines as usize && next_turned(&self.machine, 0).is_none()
+    }
+
     /// Ends the film, with all frames.
     pub fn end(self) {
         let Film {
             alloc: _,
+            cache: _,
             machine,
             lines: _,
             mark: _,

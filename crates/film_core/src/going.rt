@@ -25,7 +25,7 @@ use crate::resting::rest;
 use crate::settling::settle;
 use io_edge::{Files, SwapDev};
 use machine_state::Machine;
-use proc_run::next_turned;
+use proc_run::{DecodeCache, next_turned};
 use run_model::Mark;
 use std::alloc::Global;
 use vm_core::note;
@@ -65,6 +65,7 @@ fn next_of(m: &Machine, lines: &[Event], taken: u32, counted: u32, last: u32) ->
 // The rest of a mark, where the journal has no room for another.
 fn round<F: Files, D: SwapDev>(
     alloc: Global,
+    cache: &mut DecodeCache,
     m: &mut Machine,
     files: &mut F,
     swap: &mut D,
@@ -87,7 +88,7 @@ fn round<F: Files, D: SwapDev>(
     ensures kept { IfErr result (KeptAtStop m.old m.new) }
     ensures outside { TransfersPages F.Files D.SwapDev (stop_of result) files.old files.new swap.old swap.new }
 {
-    let count = rest(alloc, m, files, swap, counted, mark)?;
+    let count = rest(alloc, cache, m, files, swap, counted, mark)?;
     match next_of(m, lines, taken, count, last_turned(mark)) {
         Next::Over => Ok(()),
         Next::Line(_) | Next::Turn(_) => Err(Stop::JournalFull),
@@ -97,6 +98,7 @@ fn round<F: Files, D: SwapDev>(
 // The next line of the schedule begins, and then as much of it comes as has room.
 fn take_line<F: Files, D: SwapDev>(
     alloc: Global,
+    cache: &mut DecodeCache,
     m: &mut Machine,
     files: &mut F,
     swap: &mut D,
@@ -126,12 +128,23 @@ fn take_line<F: Files, D: SwapDev>(
 {
     note(m, Entry::Event { line: taken + 1 })?;
     let mark = mark_of_event(m, counted, e);
-    round(alloc, m, files, swap, mark, lines, taken + 1, counted)
+    round(
+        alloc,
+        cache,
+        m,
+        files,
+        swap,
+        mark,
+        lines,
+        taken + 1,
+        counted,
+    )
 }
 
 // A turn begins, and then as much of it comes as has room.
 fn take_turn<F: Files, D: SwapDev>(
     alloc: Global,
+    cache: &mut DecodeCache,
     m: &mut Machine,
     files: &mut F,
     swap: &mut D,
@@ -164,12 +177,13 @@ fn take_turn<F: Files, D: SwapDev>(
         pid,
         since: counted,
     };
-    round(alloc, m, files, swap, mark, lines, taken, counted)
+    round(alloc, cache, m, files, swap, mark, lines, taken, counted)
 }
 
 // What comes after a mark, as much as has room.
 fn pass<F: Files, D: SwapDev>(
     alloc: Global,
+    cache: &mut DecodeCache,
     m: &mut Machine,
     files: &mut F,
     swap: &mut D,
@@ -195,14 +209,17 @@ fn pass<F: Files, D: SwapDev>(
 {
     match next_of(m, lines, taken, counted, last) {
         Next::Over => Ok(()),
-        Next::Line(e) => take_line(alloc, m, files, swap, lines, taken, counted, last, e),
-        Next::Turn(pid) => take_turn(alloc, m, files, swap, lines, taken, counted, last, pid),
+        Next::Line(e) => take_line(alloc, cache, m, files, swap, lines, taken, counted, last, e),
+        Next::Turn(pid) => take_turn(
+            alloc, cache, m, files, swap, lines, taken, counted, last, pid,
+        ),
     }
 }
 
 // The rest of a step and of the last mark. The answer is how many instructions are counted then.
 fn get_over<F: Files, D: SwapDev>(
     alloc: Global,
+    cache: &mut DecodeCache,
     m: &mut Machine,
     files: &mut F,
     swap: &mut D,
@@ -227,12 +244,13 @@ fn get_over<F: Files, D: SwapDev>(
     ensures outside { TransfersPages F.Files D.SwapDev (stop_of result) files.old files.new swap.old swap.new }
 {
     let count = settle(m, files, swap, counted)?;
-    rest(alloc, m, files, swap, count, mark)
+    rest(alloc, cache, m, files, swap, count, mark)
 }
 
 // Next units, as long as there are some and they have room.
 fn go_further<F: Files, D: SwapDev>(
     alloc: Global,
+    cache: &mut DecodeCache,
     m: &mut Machine,
     files: &mut F,
     swap: &mut D,
@@ -258,9 +276,10 @@ fn go_further<F: Files, D: SwapDev>(
     ensures kept { IfErr result (KeptAtStop m.old m.new) }
     ensures outside { TransfersPages F.Files D.SwapDev (stop_of result) files.old files.new swap.old swap.new }
 {
-    let count = get_over(alloc, m, files, swap, mark, lines, taken, counted)?;
+    let count = get_over(alloc, cache, m, files, swap, mark, lines, taken, counted)?;
     pass(
         alloc,
+        cache,
         m,
         files,
         swap,
@@ -274,6 +293,7 @@ fn go_further<F: Files, D: SwapDev>(
 // One entry more, where the journal is full and a unit comes: whether the run is over then.
 fn one_entry<F: Files, D: SwapDev>(
     alloc: Global,
+    cache: &mut DecodeCache,
     m: &mut Machine,
     files: &mut F,
     swap: &mut D,
@@ -302,7 +322,7 @@ fn one_entry<F: Files, D: SwapDev>(
 {
     let entries = m.params().journal + 1;
     m.widen(entries);
-    let went = go_further(alloc, m, files, swap, mark, lines, taken, counted);
+    let went = go_further(alloc, cache, m, files, swap, mark, lines, taken, counted);
     m.always();
     match went {
         Ok(()) => Ok(true),
@@ -358,6 +378,7 @@ impl Film {
         }
         self.over = one_entry(
             self.alloc,
+            &mut self.cache,
             &mut self.machine,
             files,
             swap,

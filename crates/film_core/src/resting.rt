@@ -35,6 +35,7 @@ fn may_step(m: &Machine, pid: u32) -> bool
 // A process that is in runs on, and waits for no page.
 fn dispatch<F: Files, D: SwapDev>(
     alloc: Global,
+    cache: &mut DecodeCache,
     m: &mut Machine,
     files: &mut F,
     swap: &mut D,
@@ -60,7 +61,7 @@ fn dispatch<F: Files, D: SwapDev>(
     let until = count_behind(m, since, more);
     run(
         alloc,
-        &mut DecodeCache::empty(),
+        cache,
         m,
         files,
         swap,
@@ -74,6 +75,7 @@ fn dispatch<F: Files, D: SwapDev>(
 // A process has what is left of its turn.
 fn turn<F: Files, D: SwapDev>(
     alloc: Global,
+    cache: &mut DecodeCache,
     m: &mut Machine,
     files: &mut F,
     swap: &mut D,
@@ -98,16 +100,7 @@ fn turn<F: Files, D: SwapDev>(
         return Ok(counted);
     }
     come_in(m, files, swap, pid)?;
-    finish(
-        alloc,
-        &mut DecodeCache::empty(),
-        m,
-        files,
-        swap,
-        pid,
-        counted,
-        since,
-    )
+    finish(alloc, cache, m, files, swap, pid, counted, since)
 }
 
 // The oldest transfer ends.
@@ -231,6 +224,7 @@ fn note_owners<F: Files, D: SwapDev>(
 /// What is still to come of a mark. The answer is how many instructions are counted then.
 pub(crate) fn rest<F: Files, D: SwapDev>(
     alloc: Global,
+    cache: &mut DecodeCache,
     m: &mut Machine,
     files: &mut F,
     swap: &mut D,
@@ -252,13 +246,13 @@ pub(crate) fn rest<F: Files, D: SwapDev>(
     match mark {
         Mark::Over => Ok(counted),
         Mark::Dispatch { pid, count, since } => {
-            dispatch(alloc, m, files, swap, counted, pid, count, since)
+            dispatch(alloc, cache, m, files, swap, counted, pid, count, since)
         }
         Mark::Interrupt => wait(m, files, swap, counted),
         Mark::Hands { count } => hands(m, files, swap, counted, count),
         Mark::BringIn { pid } => bring_in(m, files, swap, counted, pid),
         Mark::PutOut { pid } => put_out(m, files, swap, counted, pid),
         Mark::Audit => note_owners(m, files, swap, counted),
-        Mark::Turn { pid, since } => turn(alloc, m, files, swap, counted, pid, since),
+        Mark::Turn { pid, since } => { turn(alloc, cache, m, files, swap, counted, pid, since) },
     }
 }

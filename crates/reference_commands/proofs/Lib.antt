@@ -5,7 +5,3 @@ pub mod Counts
 pub mod Names
 pub mod Runs
 pub mod Owning
-pub mod Steps
-pub mod Noting
-pub mod Asked
-pub mod Words

@@ -25,7 +25,7 @@ use Rattle.replay_check.specs.Verdicts.{references_of, first_bad}
 use Rattle.transcript_laws.proofs.Fronts.{none_is_bad}
 use Rattle.command_ending.specs.Named.{Why}
 use Rattle.command_words.specs.declared.command.Numbers.{Numbers}
-use Rattle.command_words.specs.declared.limits.TheConstants.{MOST_SHORT_LIMIT}
+use Rattle.command_words.specs.declared.limits.TheConstants.{MOST_LIMIT, MOST_SHORT_LIMIT}
 use Rattle.run_opening.specs.declared.images.OpenedImage.{OpenedImage}
 use Rattle.run_opening.specs.Images.{images_found, images_in, IsIn}
 use Rattle.io_edge.specs.Octets.{AreOctetFiles}
@@ -39,15 +39,23 @@ use Rattle.reference_commands.proofs.Names.{all_found}
 
 -- The run is finished.
 
-pub finished : (A : Inputs) (journal : List Entry) (left : Option (List ℕ)) (pages : List Page) → A.limit ≤ MOST_SHORT_LIMIT
+pub finished : (A : Inputs) (journal : List Entry) (left : Option (List ℕ)) (pages : List Page) → A.limit ≤ MOST_LIMIT
     → RunFinished A journal (blank_swap A.swap_blocks) left
     → (first_bad A journal ≡ None → pages ≡ references_of A journal) → HasReferences A pages
 finished A journal left pages limit run answer =
     let below : run.state.count ≤ A.limit = units_below A run.made.units (start A run.made.holdings) run.state run.made.follows (omega arith) in
     let count : instructions_of journal ≡ run.state.count = run.made.lawful.count in
     let are : pages ≡ references_of A journal = answer (none_is_bad A journal run.state.point run.made.lawful.flat (omega arith)) in
-    let few : length (references_of A journal) ≤ 28 * instructions_of journal = references_few A journal run.made.can.images in
-    record { journal = journal; left = left; finished = run; are = are; few = subst (λ (xs : List Page). length xs ≤ most_references) (sym are) (omega arith) }
+    record { journal = journal; left = left; finished = run; are = are }
+
+-- a run of at most 100,000 instructions has so few that `opt` and `curve` can be asked about them
+pub few_references : (A : Inputs) (pages : List Page) → A.limit ≤ MOST_SHORT_LIMIT → HasReferences A pages → length pages ≤ most_references
+few_references A pages limit has =
+    let run : RunFinished A has.journal (blank_swap A.swap_blocks) has.left = has.finished in
+    let below : run.state.count ≤ A.limit = units_below A run.made.units (start A run.made.holdings) run.state run.made.follows (omega arith) in
+    let count : instructions_of has.journal ≡ run.state.count = run.made.lawful.count in
+    let few : length (references_of A has.journal) ≤ 28 * instructions_of has.journal = references_few A has.journal run.made.can.images in
+    subst (λ (xs : List Page). length xs ≤ most_references) (sym has.are) (omega arith)
 
 -- Images that were opened.
 

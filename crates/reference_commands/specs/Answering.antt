@@ -9,11 +9,14 @@ use Rattle.kernel_model.specs.Start.{kept_of}
 use Rattle.run_model.specs.State.{State, start}
 use Rattle.run_model.specs.Next.{next_unit}
 use Rattle.page_model.specs.Holdings.{Holdings}
-use Rattle.run_laws.specs.Running.{CanRun}
+use Rattle.run_laws.specs.Running.{CanRun, IsIdle}
+use Rattle.run_stats.specs.declared.finish.Finish.{Finish}
+use Rattle.run_stats.specs.declared.finish.Finish.TheVariants.{Over, Cut}
 use Rattle.run_stats.specs.declared.noting.Note.{Note}
 use Rattle.run_stats.specs.Looks.{look_at}
 use Rattle.run_stats.specs.Story.{AreNoted}
 use Rattle.run_stats.specs.Table.{stats_text}
+use Rattle.run_stats.specs.Finishing.{finish_row}
 use Rattle.run_command.specs.Lawful.{IsJournalOf, RunFinished}
 use Rattle.replay_check.specs.Verdicts.{references_of}
 use Rattle.reference_answers.specs.Texts.{curve_text, references_text}
@@ -22,7 +25,7 @@ use Rattle.run_text.specs.Text.{line_of}
 use Rattle.owner_lines.specs.Owners.{owners_text}
 use Rattle.command_words.specs.declared.command.FilmSteps.{FilmSteps}
 use Rattle.reference_commands.specs.declared.question.Question.{Question}
-use Rattle.reference_commands.specs.declared.question.Question.TheVariants.{Optimum, Curve, Owners, Film, Stats, References}
+use Rattle.reference_commands.specs.declared.question.Question.TheVariants.{Optimum, Curve, Owners, Film, Stats, WasCut, References}
 
 -- a swap, or a device of it, of so many blocks to which nothing was written
 abbrev pub blank_swap : ℕ → List ℕ
@@ -94,10 +97,33 @@ pub record SaysFilm (steps : FilmSteps) (A : Inputs) (text : List ℕ) : Type 0 
   pub tell : TellSteps A (step_numbers steps (length journal)) texts
   pub told : text ≡ concat texts
 
+-- How a run came to its end.
+
+-- The run that ends at this state is over: all lines were read, and no process can step. Or it was cut: as many instructions ran as may,
+-- and it isn't over.
+abbrev pub EndsSo : Finish → Inputs → State → Type 0
+EndsSo Over A s = IsIdle A s
+EndsSo Cut A s = (s.count ≡ A.limit) × (IsIdle A s → ⊥)
+
+-- what is told of a run that was cut by this limit; nothing of one that is over
+abbrev pub cut_line : Finish → ℕ → List ℕ
+cut_line Over limit = []
+cut_line Cut limit = codes "vmrun: LIMIT is " ++ decimal limit ++ codes ", which cut the run: what would come after is not counted\n"
+
+-- The run is finished, and the text says whether its limit cut it.
+pub record SaysCut (A : Inputs) (text : List ℕ) : Type 0 where
+  pub journal : List Entry
+  pub state : State
+  pub made : IsJournalOf A journal state
+  pub none : next_unit A state ≡ None
+  pub finish : Finish
+  pub ends : EndsSo finish A state
+  pub told : text ≡ cut_line finish A.limit
+
 -- Counts.
 
 -- The run is finished, and the text is the table of its counts: by its journal, by what is looked at at its start, and by what is noted of
--- each of its entries, at the states to which they lead.
+-- each of its entries, at the states to which they lead. The last row says how it came to its end.
 pub record SaysStats (A : Inputs) (text : List ℕ) : Type 0 where
   pub journal : List Entry
   pub state : State
@@ -107,15 +133,19 @@ pub record SaysStats (A : Inputs) (text : List ℕ) : Type 0 where
   pub can : CanRun A holdings
   pub notes : List Note
   pub noted : AreNoted A (start A holdings) notes state
+  pub finish : Finish
+  pub ends : EndsSo finish A state
   pub told : text ≡ stats_text journal (look_at (start A holdings)) notes (state.point.flat.next_pid - 1) (state.point.flat.next_sid - 1) (length A.images)
+      ++ finish_row finish state.count
 
 -- The answer to a question: the fewest faults that any replacement in so many frames has, with the victims by which it has them; the faults
 -- of least-recently-used replacement in each number of frames; who owns what after so many entries, or after each of several numbers of
--- them; what it did, counted; or the references themselves.
+-- them; what it did, counted; whether its limit cut it; or the references themselves.
 abbrev pub IsAnswer : Question → Inputs → List ℕ → Type 0
 IsAnswer (Optimum frames) A text = SaysOfReferences (λ refs. IsOptimumText refs frames text) A
 IsAnswer Curve A text = SaysOfReferences (λ refs. text ≡ curve_text refs) A
 IsAnswer (Owners entries) A text = SaysOwners entries A text
 IsAnswer (Film steps) A text = SaysFilm steps A text
 IsAnswer Stats A text = SaysStats A text
+IsAnswer WasCut A text = SaysCut A text
 IsAnswer References A text = SaysOfReferences (λ refs. text ≡ references_text refs) A

@@ -8,7 +8,7 @@ use Rattle.command_words.specs.Command.{AreSteps}
 use Rattle.command_words.specs.declared.limits.TheConstants.{MOST_FRAMES, MOST_LIMIT, MOST_SHORT_LIMIT}
 use Rattle.run_opening.specs.Schedules.{HasEvents}
 use Rattle.reference_commands.specs.declared.question.Question.{Question}
-use Rattle.reference_commands.specs.declared.question.Question.TheVariants.{Optimum, Curve, Owners, Film, Stats, References}
+use Rattle.reference_commands.specs.declared.question.Question.TheVariants.{Optimum, Curve, Owners, Film, Stats, WasCut, References}
 use Rattle.reference_commands.specs.Reading.{Read}
 
 -- the run that is asked about: its numbers, the name of its schedule, and the words of its images
@@ -35,6 +35,7 @@ IsQuestion Curve = Unit {0}
 IsQuestion (Owners entries) = Unit {0}
 IsQuestion (Film steps) = AreSteps steps
 IsQuestion Stats = Unit {0}
+IsQuestion WasCut = Unit {0}
 IsQuestion References = Unit {0}
 
 -- the most instructions of a run that may be asked about
@@ -44,4 +45,5 @@ limit_of Curve = MOST_SHORT_LIMIT
 limit_of (Owners entries) = MOST_LIMIT
 limit_of (Film steps) = MOST_LIMIT
 limit_of Stats = MOST_LIMIT
-limit_of References = MOST_SHORT_LIMIT
+limit_of WasCut = MOST_SHORT_LIMIT
+limit_of References = MOST_LIMIT

@@ -13,7 +13,7 @@ use Rattle.command_ending.specs.Command.{Faults, NoFaults, FailedBehind, Complet
 use Rattle.run_opening.specs.Schedules.{HasBadEvent}
 use Rattle.run_command.specs.Machines.{journal_entries}
 use Rattle.reference_commands.specs.declared.question.Question.{Question}
-use Rattle.reference_commands.specs.declared.question.Question.TheVariants.{Optimum, Curve, Owners, Film, Stats, References}
+use Rattle.reference_commands.specs.declared.question.Question.TheVariants.{Optimum, Curve, Owners, Film, Stats, WasCut, References}
 use Rattle.reference_commands.specs.Reading.{Read, read_told, HasSchedule, LacksImage}
 use Rattle.reference_commands.specs.Asking.{Subject, AreInputsOf}
 use Rattle.reference_commands.specs.Answering.{blank_swap, IsAnswer}
@@ -40,6 +40,7 @@ IsFilled Curve subject read = HasFilled subject read
 IsFilled (Owners entries) subject read = ⊥
 IsFilled (Film steps) subject read = ⊥
 IsFilled Stats subject read = HasFilled subject read
+IsFilled WasCut subject read = HasFilled subject read
 IsFilled References subject read = HasFilled subject read
 
 -- this is the first of the first processes whose pieces of swap find no place

@@ -17,7 +17,6 @@ use Rattle.run_command.specs.Full.{RunFull, RunOver}
 use Rattle.run_command.specs.RunEnds.{RunEnds}
 use Rattle.run_files.specs.ImageWords.{IsShortName}
 use Rattle.run_text.specs.Schedule.{IsInRanges}
-use Rattle.reference_answers.specs.Grammar.{most_references}
 use Rattle.replay_check.specs.Images.{FlatFile, AreNumbers, images_of}
 use Rattle.replay_check.specs.Verdicts.{references_of}
 use Rattle.command_ending.specs.declared.fault.Fault.{Fault}
@@ -30,7 +29,7 @@ use Rattle.run_opening.specs.Schedules.{schedule_lines}
 use Rattle.run_command.specs.Machines.{journal_entries}
 use Rattle.command_ending.specs.Ending.{Ending}
 use Rattle.reference_commands.specs.declared.question.Question.{Question}
-use Rattle.reference_commands.specs.declared.question.Question.TheVariants.{Optimum, Curve, Owners, Film, Stats, References}
+use Rattle.reference_commands.specs.declared.question.Question.TheVariants.{Optimum, Curve, Owners, Film, Stats, WasCut, References}
 use Rattle.reference_commands.specs.Answering.{blank_swap, IsAnswer}
 
 -- the files of images
@@ -83,13 +82,12 @@ StaysRunning m (Ok done) = IsRunning m
 StaysRunning m (Err (Stopped stops.JournalFull)) = IsRunning m
 StaysRunning m (Err _) = Unit {0}
 
--- the run is finished, and these are its references, which are few enough to be asked about
+-- the run is finished, and these are its references
 pub record HasReferences (A : Inputs) (pages : List Page) : Type 0 where
   pub journal : List Entry
   pub left : Option (List ℕ)
   pub finished : RunFinished A journal (blank_swap A.swap_blocks) left
   pub are : pages ≡ references_of A journal
-  pub few : length pages ≤ most_references
 
 -- the run halted where its journal has all entries that it may have
 pub record HasHalted (A : Inputs) : Type 0 where
@@ -113,6 +111,7 @@ HaltsAnswer Curve A = HasHalted A
 HaltsAnswer (Owners entries) A = ⊥
 HaltsAnswer (Film steps) A = ⊥
 HaltsAnswer Stats A = HasHalted A
+HaltsAnswer WasCut A = HasHalted A
 HaltsAnswer References A = HasHalted A
 
 -- how answering the question about it ends

@@ -13,5 +13,3 @@ pub mod Asking
 pub mod Answering
 pub mod Ends
 pub mod InMemory
-pub mod Filmed
-pub mod Counted

@@ -11,8 +11,10 @@ pub enum Question {
     Owners(u32),
     /// The same after each of several numbers of entries, from 0 to 16,777,216, at least one apart.
     Film(FilmSteps),
-    /// What it did, counted.
+    /// What it did, counted, and how it came to its end.
     Stats,
+    /// Whether the limit of instructions cut it, of a run whose references are asked about.
+    WasCut,
     /// Its references themselves.
     References,
 }

@@ -6,7 +6,7 @@ ghost use Rattle.run_files.specs.ImageWords.{IsShortName};
 ghost use Rattle.replay_check.specs.Images.{AreImageFiles, AreNumbers, images_of};
 ghost use Rattle.run_command.specs.Full.{RunFull, RunOver};
 ghost use Rattle.run_command.specs.RunEnds.{RunEnds};
-ghost use Rattle.command_words.specs.declared.limits.TheConstants.{MOST_SHORT_LIMIT};
+ghost use Rattle.command_words.specs.declared.limits.TheConstants.{MOST_LIMIT};
 ghost use Rattle.replay_command.specs.Reading.{items_of};
 ghost use Rattle.command_ending.specs.Ending.{ending_of};
 ghost use Rattle.io_edge.specs.Octets.{AreOctetFiles};
@@ -40,7 +40,7 @@ fn references_at_end<'a>(
 ) -> Result<Vec<Page>, Fault<'a>>
     requires images { AreImageFiles images.now }
     requires first { AreNumbers (length images.now) first.now }
-    ensures ends { (A : Inputs) (after : Option (List ℕ)) → A.images ≡ images_of images.now → A.first ≡ first.now → A.limit ≤ MOST_SHORT_LIMIT
+    ensures ends { (A : Inputs) (after : Option (List ℕ)) → A.images ≡ images_of images.now → A.first ≡ first.now → A.limit ≤ MOST_LIMIT
         → RunEnds A journal.now (blank_swap A.swap_blocks) ran after → (ran ≡ Err (Unfinished.Stopped Stop.JournalFull) → journal_entries ≤ length journal.now)
         → EndsRun A (items_of result) }
 {
@@ -55,8 +55,8 @@ fn references_at_end<'a>(
     }
 }
 
-// The lines of a machine that runs.
-pub(crate) fn lines_of(alloc: Global, machine: &Machine, over: bool) -> Result<Vec<u8>, NoMemory>
+/// The lines about who owns what in a machine that runs, and whether its run is over. The one error is that no memory is left.
+pub fn lines_of(alloc: Global, machine: &Machine, over: bool) -> Result<Vec<u8>, NoMemory>
     requires running { IsRunning machine.now }
     ensures { IfOk result (λ text. text.items ≡ owners_lines machine.now over) }
 {
@@ -139,13 +139,13 @@ fn run_opened(
 }
 
 /// Files in memory, and images that were opened from them.
-pub(crate) struct OpenedInMemory<'a> {
-    pub(crate) files: SureFiles,
-    pub(crate) images: Vec<OpenedImage<'a>>,
+pub struct OpenedInMemory<'a> {
+    pub files: SureFiles,
+    pub images: Vec<OpenedImage<'a>>,
 }
 
-/// Images of these names, held in memory and opened there.
-pub(crate) fn open_in_memory<'a>(
+/// Images of these names, held in memory and opened there. The one error is that no memory is left.
+pub fn open_in_memory<'a>(
     alloc: Global,
     images: &[Flat],
     names: &[&'a str],
@@ -223,7 +223,6 @@ pub fn run_references<'a>(
     requires short { All (λ name. IsShortName name.now) names.now }
     requires differ { AllDiffer (map (λ name. name.now) names.now) }
     requires runnable { IsRunnable numbers (length images.now) first.now lines.now }
-    requires limit { numbers.limit ≤ MOST_SHORT_LIMIT }
     ensures { EndsRun (inputs_with numbers images.now first.now lines.now) (items_of result) }
 {
     let Ok(ran) = run_images(alloc, numbers, JOURNAL_ENTRIES, images, names, first, lines) else {

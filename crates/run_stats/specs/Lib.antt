@@ -7,4 +7,5 @@ pub mod Ends
 pub mod Story
 pub mod Rows
 pub mod Table
+pub mod Finishing
 pub mod Agreeing

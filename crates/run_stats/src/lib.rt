@@ -2,6 +2,7 @@
 #![tactic(auto)]
 
 mod ends;
+mod finish;
 mod heads;
 mod laws;
 mod look;
@@ -11,6 +12,7 @@ mod sums;
 mod texts;
 mod valid;
 
+pub use finish::{Finish, put_finish};
 pub use heads::{Head, PagingHead, RunHead};
 pub use laws::{counts_agree, ends_are_looked_at};
 pub use look::{Flight, Look, look_over};

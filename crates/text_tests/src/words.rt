@@ -38,7 +38,7 @@ fn a_run_has_its_option_its_numbers_and_its_names(rt: HostRuntime) -> Result<(),
 }
 
 // Command lines that are good; one space parts two words.
-const GOOD: [&'static str; 22] = [
+const GOOD: [&'static str; 23] = [
     // The option stands at any place after the first word, but once.
     "run --trace 64 256 100 s hi",
     "run 64 256 100 s a --trace b",
@@ -47,6 +47,7 @@ const GOOD: [&'static str; 22] = [
     "run 00000064 256 1000000 s hi",
     "curve 4096 131072 100000 s hi",
     "opt 4096 64 256 100000 s hi",
+    "refs 64 256 1000000 s hi",
     "owners 0 64 256 1000000 s hi",
     "owners 16777216 64 256 100 s hi",
     "film 16777216 0 1 64 256 1000000 s hi",
@@ -82,7 +83,7 @@ const BAD: [&'static str; 51] = [
     "run 64 256 0 s hi",
     "run 64 256 1000001 s hi",
     "stats 64 256 1000001 s hi",
-    "refs 64 256 100001 s hi",
+    "refs 64 256 1000001 s hi",
     "policies 0 references",
     "policies 1000001 references",
     "policies 8 hands references",

@@ -12,6 +12,8 @@ use Rattle.command_words.specs.Explaining.{words_explained}
 use Rattle.source_commands.specs.Explaining.{ExplainsSource, LacksSource}
 use Rattle.replay_command.specs.Explaining.{ExplainsTranscript, LacksTranscript}
 use Rattle.schedule_reasons.specs.Explaining.{ExplainsSchedule, LacksSchedule}
+use Rattle.reference_commands.specs.Asking.{Subject}
+use Rattle.question_command.specs.Explaining.{ExplainsLimit, LacksLimit}
 use Rattle.reference_reasons.specs.Explaining.{ExplainsReferences, LacksReferences}
 
 -- where the status is the one that goes with a reason, the reason is told, and else nothing
@@ -23,12 +25,23 @@ ToldWhere false told text = text ≡ None
 abbrev pub ExplainsRun : List ℕ → ℕ → Option (List NamedFile) → Option (List ℕ) → Type 0
 ExplainsRun schedule status holds text = ToldWhere (status == 4) (ExplainsSchedule schedule holds text) text
 
--- of words that ask for a command: why a schedule, a source or a file of references is bad, or what the flat machine gives
--- where a transcript is no run of it
+-- where the status is 0 this holds, and else that
+abbrev pub WhereDone : Bool → Type 0 → Type 0 → Type 0
+WhereDone true done other = done
+WhereDone false done other = other
+
+-- whether its limit cut a run about which there is an answer; and why its schedule is bad, where it is
+abbrev pub ExplainsAnswer : Subject → ℕ → Option (List NamedFile) → Option (List ℕ) → Type 0
+ExplainsAnswer subject status holds text = WhereDone (status == 0) (ExplainsLimit subject holds text) (ExplainsRun subject.schedule status holds text)
+
+-- of words that ask for a command: why a schedule, a source or a file of references is bad, what the flat machine gives where a
+-- transcript is no run of it, or that its limit cut the run
 abbrev pub ExplainsAsked : Asked → ℕ → Option (List NamedFile) → Option (List ℕ) → Type 0
 ExplainsAsked (Run traced numbers schedule images) status holds text = ExplainsRun schedule status holds text
-ExplainsAsked (Optimum size numbers schedule images) status holds text = ExplainsRun schedule status holds text
-ExplainsAsked (Curve numbers schedule images) status holds text = ExplainsRun schedule status holds text
+ExplainsAsked (Optimum size numbers schedule images) status holds text =
+    ExplainsAnswer (record { numbers = numbers; schedule = schedule; words = images }) status holds text
+ExplainsAsked (Curve numbers schedule images) status holds text =
+    ExplainsAnswer (record { numbers = numbers; schedule = schedule; words = images }) status holds text
 ExplainsAsked (Owners entries numbers schedule images) status holds text = ExplainsRun schedule status holds text
 ExplainsAsked (Film steps numbers schedule images) status holds text = ExplainsRun schedule status holds text
 ExplainsAsked (Stats numbers schedule images) status holds text = ExplainsRun schedule status holds text
@@ -60,11 +73,17 @@ LacksWhere false lacks = ⊥
 abbrev pub LacksRun : List ℕ → ℕ → Option (List NamedFile) → Fault → Type 0
 LacksRun schedule status holds fault = LacksWhere (status == 4) (LacksFile (LacksSchedule schedule holds) schedule fault)
 
+-- nor could it be found whether its limit cut the run
+abbrev pub LacksAnswer : Subject → ℕ → Option (List NamedFile) → Faults → Fault → Type 0
+LacksAnswer subject status holds f fault = WhereDone (status == 0) (LacksLimit subject holds f fault) (LacksRun subject.schedule status holds fault)
+
 -- of words that ask for a command: the file of which a reason was to be told wasn't read, or memory was refused
 abbrev pub LacksAsked : Asked → ℕ → Option (List NamedFile) → Faults → Fault → Type 0
 LacksAsked (Run traced numbers schedule images) status holds f fault = LacksRun schedule status holds fault
-LacksAsked (Optimum size numbers schedule images) status holds f fault = LacksRun schedule status holds fault
-LacksAsked (Curve numbers schedule images) status holds f fault = LacksRun schedule status holds fault
+LacksAsked (Optimum size numbers schedule images) status holds f fault =
+    LacksAnswer (record { numbers = numbers; schedule = schedule; words = images }) status holds f fault
+LacksAsked (Curve numbers schedule images) status holds f fault =
+    LacksAnswer (record { numbers = numbers; schedule = schedule; words = images }) status holds f fault
 LacksAsked (Owners entries numbers schedule images) status holds f fault = LacksRun schedule status holds fault
 LacksAsked (Film steps numbers schedule images) status holds f fault = LacksRun schedule status holds fault
 LacksAsked (Stats numbers schedule images) status holds f fault = LacksRun schedule status holds fault

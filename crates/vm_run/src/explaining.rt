@@ -10,11 +10,15 @@ ghost use Rattle.vm_run.specs.Explaining.{Explains, LacksFile, LacksReason};
 use command_ending::Fault;
 use command_words::{Command, explain_words, read_words};
 use io_edge::Files;
+use question_command::explain_limit;
 use reference_reasons::explain_references;
 use replay_command::explain_transcript;
 use schedule_reasons::explain_schedule;
 use source_commands::explain_source;
 use std::alloc::Global;
+
+/// The status of what was done.
+const DONE: u8 = 0;
 
 /// The status of bad words.
 const BAD_WORDS: u8 = 1;
@@ -92,7 +96,8 @@ fn explain_bad_words<'a>(alloc: Global, words: &'a [&'a str]) -> Result<Option<V
 
 /// What else a user should know of words for which `vmrun` answered this status, for standard error: where they are bad,
 /// which of them isn't what it is for; where a schedule, a source or a file of references is bad, why the line that was named is;
-/// where a transcript is no run of the flat machine, what that gives there. None for every other command and status. The files
+/// where a transcript is no run of the flat machine, what that gives there; where `opt` or `curve` answered about a run that LIMIT cut,
+/// that it was cut. None for every other command and status. The files
 /// are read again, so a reason may be lost where that fails, and is that of the files as they are then (this project's
 /// profile).
 pub fn explain<'a, F: Files>(
@@ -121,6 +126,19 @@ pub fn explain<'a, F: Files>(
         Some(Command::Policies { references, .. }) if status == BAD_REFERENCES => {
             explain_bad_references(alloc, files, references)
         }
+        Some(
+            Command::Optimum {
+                numbers,
+                schedule,
+                images,
+                ..
+            }
+            | Command::Curve {
+                numbers,
+                schedule,
+                images,
+            },
+        ) if status == DONE => explain_limit(alloc, files, numbers, schedule, images),
         Some(
             Command::Run { schedule, .. }
             | Command::Optimum { schedule, .. }

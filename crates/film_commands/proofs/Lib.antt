@@ -1,0 +1,3 @@
+pub mod Steps
+pub mod Finishes
+pub mod Noting
