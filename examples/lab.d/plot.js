@@ -23,7 +23,7 @@ let plotWidth = 0;
 function ticks(most) {
   const rough = Math.max(1, most / 6);
   const power = 10 ** Math.floor(Math.log10(rough));
-  const step = [1, 2, 5, 10].map((it) => it * power).find((it) => it >= rough);
+  const step = [1, 2, 2.5, 5, 10].map((it) => it * power).find((it) => it >= rough && Number.isInteger(it));
   return Array.from({ length: Math.floor(most / step) + 1 }, (_, index) => index * step);
 }
 
@@ -68,11 +68,10 @@ export function drawPlot() {
   at("lab-plot-table").replaceChildren(cellsOf("th", ["frames", ...LINES.map(([, words]) => words)]), ...cells);
 }
 
-// What the faults are counted of, where that isn't the whole run at all sizes.
-function partWords({ limit, cut, references, pages }) {
-  const part = limit === null ? "" : ` The policies have the first ${number(limit)} instructions alone.`;
+// What the faults are counted of.
+function partWords({ cut, references, pages }) {
   const sizes = cut ? " Time was up: fewer sizes than otherwise." : "";
-  return `${many(references, "reference")} to ${many(pages, "page")}. A policy brings in one page at a time; a read of the run may bring neighbours along, so it may have fewer faults.${part}${sizes}`;
+  return `${many(references, "reference")} to ${many(pages, "page")}. A policy brings in one page at a time; a read of the run may bring neighbours along, so it may have fewer faults.${sizes}`;
 }
 
 export async function plot() {

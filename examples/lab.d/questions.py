@@ -12,8 +12,8 @@ MOST_STEPS = ((256, 400), (1024, 100), (4096, 30))
 MOST_TRANSCRIPT = 8 << 20
 # at how many sizes of memory faults are asked, and the run's own
 SIZES = 40
-# `refs` takes no higher limit than this where it takes less than `run`
-LEAST_LIMIT = 100_000
+# what `stats` counts of a run's faults
+FAULTS = r"(?m)^(?:process \d+|start) (zero-fills|file-reads|swap-reads|copies|reclaims) (\d+)$"
 POLICIES = ("fifo", "clock", "hands", "lru", "least")
 CARD = f"{lessons.HERE}/card.json"
 
@@ -112,37 +112,45 @@ def ask_course(run, asked):
 
 
 def sizes_of(pages, frames):
-    """Sizes of memory to ask about: evenly from few frames to all pages, and the run's own. They come so that the first of them are far
-    apart, and each further one stands between others."""
-    step = max(1, (pages + SIZES - 1) // SIZES)
+    """Sizes of memory to ask about, as ranges of page frames: the run's own, and evenly from few frames to all pages. Those of the first even
+    range are far apart, and each further one stands between."""
+    step = max(1, -(-pages // SIZES))
     most = max(pages + 2 * step, 70)
-    own = [int(frames)] if frames.isdecimal() and int(frames) <= most else []
-    even = list(range(step, most + 1, step))
-    spread = [even[at] for stride in (8, 4, 2, 1) for at in range(0, len(even), stride)]
-    return list(dict.fromkeys([*own, *spread, even[-1]]))
+    own = [range(int(frames), int(frames) + 1)] if frames.isdecimal() and int(frames) <= most else []
+    return own + [range(step * first, most + 1, step * apart) for first, apart in ((1, 8), (5, 8), (3, 4), (2, 2))]
 
 
-def references(run, setup):
-    """The pages that the run touches, and up to which limit: that of the run, or the highest that `refs` takes."""
-    answer = run.program("refs", *setup.words())
-    if answer.status == 1 and "LIMIT is" in answer.told():
-        return run.program("refs", *setup.words(limit=LEAST_LIMIT)), LEAST_LIMIT
-    return answer, None
+def policies_at(run, sizes):
+    """The faults of each policy with each of these numbers of frames, of those that the program could still tell; and its answer."""
+    answer = run.program("policies", str(sizes[0]), str(sizes[-1]), str(sizes.step), "references")
+    rows = [line.split(" ") for line in answer.text().splitlines() if re.fullmatch(r"\d+( [a-z]+ \d+){5}", line)]
+    return [{"frames": int(frames), **dict(zip(told[::2], map(int, told[1::2])))} for frames, *told in rows], answer
 
 
-def faults_at(run, setup, frames):
-    """The faults with so many frames: of each policy, and of the run itself without its reclaims, and these; or an answer that is bad."""
-    answer = run.program("policies", str(frames), "references")
-    if answer.status or answer.cut:
-        return answer
-    told = {name: int(many) for name, many in re.findall(r"(?m)^(\w+) (\d+)$", answer.text())}
-    if 64 <= frames <= 4096:
-        answer = run.program("run", "--trace", *setup.words(frames))
+def own_at(run, setup, frames):
+    """The faults of the run itself with so many frames, without its reclaims, and these; and the program's answer."""
+    answer = run.program("stats", *setup.words(frames))
+    counts = {"reclaims": 0}
+    for name, many in re.findall(FAULTS, answer.text()):
+        counts[name] = counts.get(name, 0) + int(many)
+    return {"bare": sum(many for name, many in counts.items() if name != "reclaims"), "reclaims": counts["reclaims"]}, answer
+
+
+def rows_of(run, setup, pages):
+    """The faults at each size of memory, and the first answer that is bad, or nothing."""
+    rows = []
+    for sizes in sizes_of(pages, setup.numbers[0]):
+        told, answer = policies_at(run, sizes)
+        rows += told
         if answer.status or answer.cut:
-            return answer
-        letters = [line[0] for line in answer.text().splitlines()]
-        told |= {"bare": sum(map(letters.count, "ZGC")), "reclaims": letters.count("R")}
-    return told
+            return rows, answer
+        for row in told:
+            if 64 <= row["frames"] <= 4096:
+                own, answer = own_at(run, setup, row["frames"])
+                if answer.status or answer.cut:
+                    return rows, answer
+                row |= own
+    return rows, None
 
 
 def ask_faults(run, asked):
@@ -150,22 +158,17 @@ def ask_faults(run, asked):
     that there are."""
     setup = Setup(asked)
     wrong = prepare(run, setup)
-    found, limit = (None, None) if wrong else references(run, setup)
+    found = None if wrong else run.program("refs", *setup.words())
     if wrong or found.status or found.cut:
         return wrong or bad(found)
     write(run.folder, "references", found.output)
     lines = found.text().splitlines()
-    rows, cut = [], False
-    for frames in sizes_of(len(set(lines)), setup.numbers[0]):
-        told = faults_at(run, setup, frames)
-        if not isinstance(told, dict):
-            if told.cut == "time" and rows:
-                cut = True
-                break
-            return bad(told)
-        rows.append({"frames": frames, **told})
-    rows.sort(key=lambda row: row["frames"])
-    return {"status": 0, "rows": rows, "references": len(lines), "pages": len(set(lines)), "limit": limit, "cut": cut}
+    pages = len(set(lines))
+    rows, answer = rows_of(run, setup, pages)
+    if answer and not (answer.cut == "time" and rows):
+        return bad(answer)
+    each = {row["frames"]: row for row in reversed(rows)}
+    return {"status": 0, "rows": [each[it] for it in sorted(each)], "references": len(lines), "pages": pages, "cut": answer is not None}
 
 
 def ask_stats(run, asked):

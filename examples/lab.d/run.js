@@ -60,10 +60,16 @@ export async function run() {
   at("lab-course").hidden = true;
   await goTo(0);
   drawLines(true);
-  at("lab-runs").scrollIntoView();
+  bringRun();
   at("lab-transcript").focus({ preventScroll: true });
   if (performance.now() - begun < SOON) countCourse(lab.run);
   else at("lab-course").hidden = false;
+}
+
+// Brings the run in sight: from the line with what is told of it, or, where a plot or counts are open between, from the transcript.
+function bringRun() {
+  const between = ["lab-plot-part", "lab-stats-part", "lab-meaning"].some((id) => at(id).open && !at(id).hidden);
+  at(between ? "lab-shown" : "lab-runs").scrollIntoView();
 }
 
 function failed(words) {

@@ -78,10 +78,10 @@ class Setup:
         words = text(asked, "images", 1024).split()
         self.images = [("=" if word.startswith("=") else "") + known(word.removeprefix("=")) for word in words]
 
-    def words(self, frames=None, limit=None):
-        """The words of the run, with as many frames and as high a limit as it has, or others."""
-        own, swap, most = self.numbers
-        return [str(frames or own), swap, str(limit or most), "schedule", *self.images]
+    def words(self, frames=None):
+        """The words of the run, with as many frames as it has, or others."""
+        own, swap, limit = self.numbers
+        return [str(frames or own), swap, limit, "schedule", *self.images]
 
 
 def write(folder, name, content):
