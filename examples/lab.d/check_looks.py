@@ -118,7 +118,7 @@ MORE = """#!/bin/sh
 case $1 in
 --help) echo 'usage: vmrun stats FRAMES SWAP LIMIT SCHED IMAGE..' ;;
 stats) printf 'process %s\\n' '1 instructions 7' '1 ended 4' '2 instructions 1205' '2 zero-fills 3'; printf 'hands moves 0\\nspace 1 pages-written 12\\n' ;;
-*) exec "$PROGRAM" "$@" ;;
+*) unset VMRUN && exec "$PROGRAM" "$@" ;;
 esac
 """
 
