@@ -12,7 +12,6 @@ pub mod Stopping
 pub mod Begins
 pub mod Execs
 pub mod Fills
-pub mod Names
 pub mod Crowded
 pub mod Forks
 pub mod Copies

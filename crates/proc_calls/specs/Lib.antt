@@ -11,6 +11,7 @@ pub use Rattle.fault_fill.specs.declared.pages.PageServed
 pub use Rattle.fault_fill.specs.declared.touch.Served as FaultFillTouchServed
 pub use Rattle.fault_fill.specs.Spans
 pub use Rattle.vfork_pass.specs.Passed
+pub use Rattle.call_reads.specs.Reading
 pub mod Answered
 pub mod Callers
 pub mod Leaving
@@ -21,5 +22,4 @@ pub mod Sizing
 pub mod Starting
 pub mod Filling
 pub mod Waiting
-pub mod Reading
 pub mod Writing

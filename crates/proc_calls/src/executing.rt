@@ -9,13 +9,13 @@ ghost use Rattle.machine_state.specs.Files.{AreFiles};
 ghost use Rattle.machine_state.specs.UserMemory.{CanLend, kernel_answers};
 ghost use Rattle.machine_state.specs.Outside.{stop_of, TransfersPages};
 ghost use Rattle.fault_fill.specs.Growth.{space_of_pid};
+ghost use Rattle.call_reads.specs.Reading.{AreNamed, StartsAs};
 ghost use Rattle.proc_calls.specs.Callers.{IsCaller};
-ghost use Rattle.proc_calls.specs.Reading.{AreNamed, StartsAs};
 ghost use Rattle.proc_calls.specs.Starting.{IsImageOf, execve_read, ExecComes, StopsExec};
 
-use crate::reading::execve_reply;
 use crate::replying::{Called, fail, refuse};
 use crate::starting::start_image;
+use call_reads::execve_reply;
 use flat_model::{Asked, Reply, SystemCall};
 use flat_state::Change;
 use io_edge::{Files, SwapDev};

@@ -19,8 +19,8 @@ use Rattle.kernel_laws.proofs.Machine.Tables.{kept_at, outline_at}
 use Rattle.machine_state.specs.Machine.{Standing}
 use Rattle.machine_state.specs.UserMemory.{kernel_answers, page_in}
 use Rattle.machine_state.proofs.FlatMemory.{memory_covers}
-use Rattle.proc_calls.specs.Growth.{space_of_pid}
-use Rattle.proc_calls.specs.Reading.{AreNamed}
+use Rattle.fault_fill.specs.Growth.{space_of_pid}
+use Rattle.call_reads.specs.Reading.{AreNamed}
 use Rattle.flat_model.specs.Step.{written_process}
 use Rattle.flat_model.specs.Touched.{page_of_access, step_accesses, distinct, touched, touched_by, touched_in, touched_if}
 use Rattle.run_units.proofs.FlatLawsAsking.{own_space}

@@ -6,14 +6,14 @@ ghost use Rattle.flat_state.specs.Space.{Space};
 ghost use Rattle.flat_model.specs.Calls.{reply_of, refusal_of};
 ghost use Rattle.machine_state.specs.Going.{CanGoOn};
 ghost use Rattle.machine_state.specs.UserMemory.{CanLend};
-ghost use Rattle.proc_calls.specs.Growth.{space_of_pid};
-ghost use Rattle.proc_calls.specs.Reading.{AreNamed};
+ghost use Rattle.fault_fill.specs.Growth.{space_of_pid};
+ghost use Rattle.call_reads.specs.Reading.{AreNamed};
 ghost use Rattle.touched_pages.specs.Shown.{shown_in};
 
 use crate::shown::Shown;
+use call_reads::read_by_call;
 use flat_model::{Asked, SystemCall};
 use machine_state::Machine;
-use proc_calls::read_by_call;
 use std::alloc::Global;
 use vm_facts::{NoMemory, Page, Regs};
 

@@ -8,9 +8,11 @@ use Rattle.machine_state.specs.UserMemory.{kernel_answers}
 use Rattle.kernel_model.specs.ChangeStep.{space_of_life}
 use Rattle.kernel_model.specs.Kernel.{Life}
 use Rattle.fault_fill.specs.Growth.{space_of_pid}
-use Rattle.proc_calls.specs.Reading.{IsAmong}
+use Rattle.call_reads.specs.Reading.{IsAmong}
+use Rattle.call_reads.proofs.Images.{shown_by, all_fit, few_shown}
+use Rattle.call_reads.proofs.Replies.{all_start}
 use Rattle.proc_calls.specs.Starting.{IsImageOf}
-use Rattle.proc_calls.proofs.Execs.{shown_by, all_fit, few_shown, all_start, is_image}
+use Rattle.proc_calls.proofs.Execs.{is_image}
 use Rattle.proc_calls.proofs.executing.read_call.Goals as goal
 
 pub execve_reply-requires-clause-few : goal.execve_reply-requires-clause-few

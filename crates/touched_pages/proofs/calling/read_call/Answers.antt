@@ -6,8 +6,8 @@ use Rattle.machine_state.specs.Going.{CanGoOn}
 use Rattle.machine_state.specs.Machine.{Standing}
 use Rattle.machine_state.specs.Sourced.{ImageNamed}
 use Rattle.kernel_model.specs.ChangeStep.{space_of_life}
-use Rattle.proc_calls.specs.Growth.{space_of_pid}
-use Rattle.proc_calls.specs.Reading.{AreNamed}
+use Rattle.fault_fill.specs.Growth.{space_of_pid}
+use Rattle.call_reads.specs.Reading.{AreNamed}
 use Rattle.touched_pages.specs.Shown.{shown_in}
 use Rattle.touched_pages.proofs.calling.read_call.Goals as goal
 

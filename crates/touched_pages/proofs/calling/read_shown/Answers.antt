@@ -1,5 +1,5 @@
 use Rattle.std.proofs.Common.{refl}
-use Rattle.proc_calls.proofs.Execs.{shown_by, all_fit, few_shown}
+use Rattle.call_reads.proofs.Images.{shown_by, all_fit, few_shown}
 use Rattle.touched_pages.proofs.calling.read_shown.Goals as goal
 
 pub read_by_call-requires-clause-few : goal.read_by_call-requires-clause-few

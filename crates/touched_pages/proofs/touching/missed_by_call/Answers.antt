@@ -1,7 +1,7 @@
 use Rattle.std.proofs.Common.{sym, ap, ◌∙◌}
 use Rattle.touched_pages.specs.Shown.{shown_in}
 use Rattle.touched_pages.specs.Missed.{missed_by_call}
-use Rattle.proc_calls.specs.Growth.{space_of_pid}
+use Rattle.fault_fill.specs.Growth.{space_of_pid}
 use Rattle.touched_pages.proofs.Calls.{one_call}
 use Rattle.touched_pages.proofs.touching.missed_by_call.Goals as goal
 

@@ -1,6 +1,6 @@
 use Rattle.std.proofs.Common.{◌≡◌, Some, Ok, sym, ◌∙◌}
-use Rattle.proc_calls.proofs.Names.{starts_is}
-use Rattle.proc_calls.proofs.reading.start_of.Goals as goal
+use Rattle.call_reads.proofs.Names.{starts_is}
+use Rattle.call_reads.proofs.reading.start_of.Goals as goal
 
 pub returns-in_ok-top-in-Ok-Some-clause-value : goal.returns-in_ok-top-in-Ok-Some-clause-value
 returns-in_ok-top-in-Ok-Some-clause-value g c = λ known is.

@@ -4,10 +4,10 @@ use Rattle.user_vax.specs.declared.refused.Refused.{Refused}
 use Rattle.aout_image.specs.declared.Image.{Image}
 use Rattle.machine_state.specs.Named.{Named}
 use Rattle.flat_model.specs.declared.calls.Reply.TheVariants.{Fails}
-use Rattle.proc_calls.specs.Reading.{IsAmong}
-use Rattle.proc_calls.proofs.Names.{ExecveBy, execve_is, got, started}
-use Rattle.proc_calls.proofs.Execs.{all_start}
-use Rattle.proc_calls.proofs.reading.execve_at.Goals as goal
+use Rattle.call_reads.specs.Reading.{IsAmong}
+use Rattle.call_reads.proofs.Names.{ExecveBy, execve_is, got, started}
+use Rattle.call_reads.proofs.Replies.{all_start}
+use Rattle.call_reads.proofs.reading.execve_at.Goals as goal
 
 pub returns-in-Err-clause-value : goal.returns-in-Err-clause-value
 returns-in-Err-clause-value g c = λ known shown.

@@ -15,7 +15,7 @@ use Rattle.flat_model.specs.declared.calls.Reply.{Reply}
 use Rattle.flat_model.specs.declared.calls.Reply.TheVariants.{Fails, Does, Exits}
 use Rattle.flat_model.specs.Calls.{numbered_by, image_named, path_image, argument, string_from, string_limit, execve_of, arguments_at, starts, exit_reply, break_reply, break_by, pages_up_to, stack_pages_of, data_limit, refusal_of}
 use Rattle.machine_state.specs.Named.{Named}
-use Rattle.proc_calls.specs.Reading.{AreShown, number_by, number_from, IsPathImage, execve_from}
+use Rattle.call_reads.specs.Reading.{AreShown, number_by, number_from, IsPathImage, execve_from}
 
 -- the image that has the number
 record IsFrom (n : ℕ) (images : List NamedImage) (shown : List Named) (name : List ℕ) (number : ℕ) : Type 0 where

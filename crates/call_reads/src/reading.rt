@@ -4,7 +4,7 @@ ghost use Rattle.user_vax.specs.Program.{run};
 ghost use Rattle.flat_state.specs.Flat.{NamedImage, FlatState, Process};
 ghost use Rattle.flat_state.specs.Space.{Space};
 ghost use Rattle.flat_model.specs.Calls.{string_limit, string_from, execve_of, execve_reply, reply_of, refusal_of};
-ghost use Rattle.proc_calls.specs.Reading.{AreShown, number_from, IsPathImage, IsAmong, EntriesFit, StartsAs, execve_from};
+ghost use Rattle.call_reads.specs.Reading.{AreShown, number_from, IsPathImage, IsAmong, EntriesFit, StartsAs, execve_from};
 
 use flat_model::{
     Asked, E2BIG, ENOENT, Reply, SystemCall, argument, arguments_at, start_page, start_regs,
