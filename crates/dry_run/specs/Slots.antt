@@ -5,8 +5,8 @@ use Rattle.vm_facts.specs.declared.memory.ByteRead.{ByteRead}
 use Rattle.vm_facts.specs.declared.memory.ByteRead.TheVariants as bytes
 use Rattle.vm_facts.specs.declared.memory.MayWrite.{MayWrite}
 use Rattle.vm_facts.specs.declared.memory.MayWrite.TheVariants as tests
-use Rattle.user_vax.specs.declared.stepping.Stepped.{Stepped}
-use Rattle.user_vax.specs.declared.stepping.Stepped.TheVariants as steps
+use Rattle.user_vax.specs.declared.stepped.Stepped.{Stepped}
+use Rattle.user_vax.specs.declared.stepped.Stepped.TheVariants as steps
 use Rattle.dry_run.specs.declared.slots.Slot.{Slot}
 
 -- whether a byte has a slot

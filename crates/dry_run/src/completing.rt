@@ -6,7 +6,8 @@ ghost use Rattle.dry_run.specs.Slots.{wanted};
 
 use crate::slots::DryMemory;
 use std::alloc::Global;
-use user_vax::{Stepped, step};
+use user_step::step;
+use user_vax::Stepped;
 use vm_facts::{MayWrite, Memory, NoMemory, Regs};
 
 // The byte for which a trial missed, where it may be written.

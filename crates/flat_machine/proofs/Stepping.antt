@@ -10,8 +10,8 @@ use Rattle.user_vax.specs.Effects.{Effect}
 use Rattle.user_vax.specs.Instruction.{answer_of, answer_of_call, registers_after, writes_of, instruction}
 use Rattle.user_vax.specs.declared.refused.Refused.{Refused}
 use Rattle.user_vax.specs.declared.refused.Refused.TheVariants as refusals
-use Rattle.user_vax.specs.declared.stepping.Stepped.{Stepped}
-use Rattle.user_vax.specs.declared.stepping.Stepped.TheVariants as steps
+use Rattle.user_vax.specs.declared.stepped.Stepped.{Stepped}
+use Rattle.user_vax.specs.declared.stepped.Stepped.TheVariants as steps
 use Rattle.flat_model.specs.Instruction.{instruction_in}
 use Rattle.flat_state.specs.Change.{apply_writes, apply_change, wrote_by, wrote_if, with_process}
 use Rattle.flat_state.specs.declared.change.Change.TheVariants.{Keep}

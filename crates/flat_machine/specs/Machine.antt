@@ -5,7 +5,7 @@ use Rattle.flat_state.specs.Space.{Space}
 use Rattle.flat_state.specs.Flat.{Process, FlatState, NamedImage, holds_space}
 use Rattle.vm_facts.specs.declared.entry.Entry.{Entry}
 use Rattle.vm_facts.specs.declared.entry.Entry.TheVariants.{Ran, Grew, Sleeps, Ended}
-use Rattle.user_vax.specs.declared.stepping.Stepped.{Stepped}
+use Rattle.user_vax.specs.declared.stepped.Stepped.{Stepped}
 use Rattle.flat_model.specs.Step.{call_entry, out_entries, Step, step_with, written_process}
 use Rattle.vm_facts.specs.declared.regs.Regs.{Regs}
 use Rattle.user_vax.specs.Effects.{Effect}

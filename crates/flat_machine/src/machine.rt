@@ -20,7 +20,8 @@ use flat_process::{
 use flat_state::{Change, PAGE, STACK_TOP};
 use std::alloc::Global;
 use std::marker::Model;
-use user_vax::{DecodeCache, Stepped};
+use user_step::DecodeCache;
+use user_vax::Stepped;
 use vm_facts::{Bytes, NoMemory, Page, Regs};
 
 /// The flat machine. Contracts see its processes by rising pid, and the numbers of the next process and the

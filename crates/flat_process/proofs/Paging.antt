@@ -23,8 +23,8 @@ use Rattle.flat_state.proofs.SpaceLaws.{spot_after, put_answers, wrote_puts, put
 use Rattle.flat_model.specs.Touched.{page_read, page_tested, page_of_access, distinct, call_accesses, accesses_behind, accesses_after, step_accesses, touched_in, touched_by, touched_if, touched}
 use Rattle.user_vax.specs.Effects.{Effect}
 use Rattle.user_vax.specs.Instruction.{instruction, answer_of, answer_of_call, registers_after, writes_of}
-use Rattle.user_vax.specs.declared.stepping.Stepped.{Stepped}
-use Rattle.user_vax.specs.declared.stepping.Stepped.TheVariants as steps
+use Rattle.user_vax.specs.declared.stepped.Stepped.{Stepped}
+use Rattle.user_vax.specs.declared.stepped.Stepped.TheVariants as steps
 use Rattle.user_vax.proofs.Runs.{then, run_bind}
 use Rattle.flat_model.specs.Instruction.{instruction_in}
 use Rattle.flat_model.specs.Calls.{call_of, reply_of, argument, exit_reply, break_reply, break_by, pages_up_to, stack_pages_of, data_limit, refusal_of}

@@ -2,8 +2,8 @@
 use Rattle.std.specs.Prelude.{ℕ, ◌-◌, ◌<◌, ◌≤◌, false, []}
 use Rattle.flat_state.specs.Space.{Space, stack_top, stack_reach}
 use Rattle.flat_state.specs.Flat.{Holding, Holds, Lends, Zombie, Process, cleared}
-use Rattle.user_vax.specs.declared.stepping.Stepped.{Stepped}
-use Rattle.user_vax.specs.declared.stepping.Stepped.TheVariants as steps
+use Rattle.user_vax.specs.declared.stepped.Stepped.{Stepped}
+use Rattle.user_vax.specs.declared.stepped.Stepped.TheVariants as steps
 use Rattle.flat_process.specs.declared.process.Held.{Held}
 use Rattle.flat_process.specs.declared.process.Held.TheVariants as helds
 

@@ -20,7 +20,8 @@ use crate::program::Program;
 use crate::space::FlatSpace;
 use flat_model::SystemCall;
 use std::alloc::Global;
-use user_vax::{Refused, Stepped, step};
+use user_step::step;
+use user_vax::{Refused, Stepped};
 use vm_facts::{ByteRead, MayWrite, Memory, NoMemory, Page, Regs};
 
 /// A space and those of its pages that are present.

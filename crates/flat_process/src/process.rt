@@ -14,7 +14,8 @@ use crate::program::Program;
 use crate::space::FlatSpace;
 use std::alloc::Global;
 use std::marker::Model;
-use user_vax::{DecodeCache, Stepped, step_cached};
+use user_step::{DecodeCache, step_cached};
+use user_vax::Stepped;
 use vm_facts::{NoMemory, Page, Regs};
 
 /// What a process has.

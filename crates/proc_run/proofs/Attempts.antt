@@ -8,8 +8,8 @@ use Rattle.user_vax.specs.Effects.{Effect}
 use Rattle.user_vax.specs.Instruction.{instruction, answer_of, answer_of_call, registers_after, writes_of}
 use Rattle.user_vax.specs.declared.refused.Refused.{Refused}
 use Rattle.user_vax.specs.declared.refused.Refused.TheVariants.{Miss, Below, Signal}
-use Rattle.user_vax.specs.declared.stepping.Stepped.{Stepped}
-use Rattle.user_vax.specs.declared.stepping.Stepped.TheVariants as steps
+use Rattle.user_vax.specs.declared.stepped.Stepped.{Stepped}
+use Rattle.user_vax.specs.declared.stepped.Stepped.TheVariants as steps
 use Rattle.flat_state.specs.Space.{Space}
 use Rattle.flat_state.specs.Flat.{Process, Inputs}
 use Rattle.machine_state.specs.Going.{CanGoOn}

@@ -13,7 +13,7 @@ use Rattle.user_vax.specs.Program.{run}
 use Rattle.user_vax.specs.Effects.{Effect}
 use Rattle.user_vax.specs.Instruction.{instruction, answer_of, registers_after, writes_of}
 use Rattle.user_vax.specs.declared.refused.Refused.{Refused}
-use Rattle.user_vax.specs.declared.stepping.Stepped.TheVariants as steps
+use Rattle.user_vax.specs.declared.stepped.Stepped.TheVariants as steps
 use Rattle.flat_state.specs.Journal.{append}
 use Rattle.flat_state.specs.declared.spot.Spot.{Spot}
 use Rattle.flat_state.specs.declared.spot.Spot.TheVariants.{Text, Data, Stack, Below, Outside}

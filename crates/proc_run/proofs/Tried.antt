@@ -12,7 +12,7 @@ use Rattle.user_vax.specs.Program.{run}
 use Rattle.user_vax.specs.Effects.{Effect}
 use Rattle.user_vax.specs.Instruction.{instruction, answer_of, registers_after, writes_of}
 use Rattle.user_vax.specs.declared.refused.Refused.{Refused}
-use Rattle.user_vax.specs.declared.stepping.Stepped.TheVariants as steps
+use Rattle.user_vax.specs.declared.stepped.Stepped.TheVariants as steps
 use Rattle.flat_state.specs.Journal.{append}
 use Rattle.flat_state.specs.Space.{Space}
 use Rattle.flat_state.specs.Flat.{Process, Inputs}

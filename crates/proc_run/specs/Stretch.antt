@@ -5,8 +5,8 @@ use Rattle.vm_facts.specs.declared.regs.Regs.{Regs}
 use Rattle.io_edge.specs.FileHolding.{NamedFile}
 use Rattle.user_vax.specs.Program.{run}
 use Rattle.user_vax.specs.Instruction.{instruction, answer_of, registers_after, writes_of}
-use Rattle.user_vax.specs.declared.stepping.Stepped.{Stepped}
-use Rattle.user_vax.specs.declared.stepping.Stepped.TheVariants as steps
+use Rattle.user_vax.specs.declared.stepped.Stepped.{Stepped}
+use Rattle.user_vax.specs.declared.stepped.Stepped.TheVariants as steps
 use Rattle.machine_state.specs.Machine.{Standing}
 use Rattle.steady_laws.specs.Ready.{Continues}
 use Rattle.step_units.specs.Stepped.{LeadsFrom}

@@ -12,7 +12,8 @@ ghost use Rattle.proc_run.specs.Stretch.{Leaves};
 
 use machine_state::Machine;
 use std::alloc::Global;
-use user_vax::{Stepped, step};
+use user_step::step;
+use user_vax::Stepped;
 use vm_facts::{Entry, NoMemory, Regs};
 
 // Whether an entry counts instructions of this process.

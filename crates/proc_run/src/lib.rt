@@ -15,4 +15,4 @@ pub use advancing::Patience;
 pub use choosing::{can_step, next_turned, ready_regs};
 pub use finishing::{Begun, begun_step, begun_steps_are_told, finish_step};
 pub use running::run;
-pub use user_vax::DecodeCache;
+pub use user_step::DecodeCache;

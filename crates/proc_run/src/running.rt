@@ -14,7 +14,7 @@ use crate::stretch::run_on;
 use io_edge::{Files, SwapDev};
 use machine_state::Machine;
 use std::alloc::Global;
-use user_vax::DecodeCache;
+use user_step::DecodeCache;
 use vm_facts::Stop;
 
 /// More pages than one instruction waits for: with its call it touches 28 at most.

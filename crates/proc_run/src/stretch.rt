@@ -10,7 +10,8 @@ ghost use Rattle.proc_run.specs.Stretch.{GoesOr, StretchOf, RanOn};
 use crate::attempting::last_counts;
 use crate::choosing::ready_regs;
 use machine_state::Machine;
-use user_vax::{DecodeCache, Stepped, step_cached};
+use user_step::{DecodeCache, step_cached};
+use user_vax::Stepped;
 use vm_facts::{Memory, Regs};
 
 // Carries an instruction out, unless it makes a call. The answer is whether it was carried out; where it wasn't, nothing changed.

@@ -22,7 +22,8 @@ use crate::touched::Touched;
 use flat_model::{Asked, SystemCall};
 use machine_state::Machine;
 use std::alloc::Global;
-use user_vax::{Refused, Stepped, step};
+use user_step::step;
+use user_vax::{Refused, Stepped};
 use vm_facts::{NoMemory, Page, PageState, Regs};
 
 // What an instruction that writes nothing comes to where these pages alone are shown.

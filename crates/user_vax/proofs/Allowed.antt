@@ -11,7 +11,7 @@ use Rattle.user_vax.specs.Effects.{Effect}
 use Rattle.user_vax.specs.Computation.{computation}
 use Rattle.user_vax.specs.Instruction.{MayAll, fetch, evaluations, write_tests, tested_effect, execution, execution_by, instruction}
 use Rattle.user_vax.proofs.Runs.{ok_of_bind}
-use Rattle.user_vax.proofs.Writing.{tested_may}
+use Rattle.user_vax.proofs.Tested.{tested_may}
 
 tested_allowed : (memory : Answers) (given effect : Effect) → run memory (tested_effect given) ≡ Ok effect → MayAll memory effect.writes
 unfolding tested_effect

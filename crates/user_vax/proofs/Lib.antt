@@ -1,14 +1,9 @@
 pub mod Runs
 pub mod Numbers
-pub mod Pushing
-pub mod Writing
+pub mod Lent
+pub mod Tested
 pub mod Allowed
-pub mod Fetching
-pub mod Ahead
-pub mod Together
 pub mod OwnSignals
 pub mod Order
 pub mod SignalOrder
-pub mod Saving
-pub mod Restoring
 pub mod ArrayLemmas

@@ -13,8 +13,8 @@ use Rattle.user_vax.specs.declared.refused.Refused.{Refused}
 use Rattle.user_vax.specs.declared.refused.Refused.TheVariants as refusals
 use Rattle.user_vax.specs.Signals.{sigill}
 use Rattle.user_vax.specs.declared.operand.Evaluated.{Evaluated}
-use Rattle.user_vax.specs.declared.stepping.Stepped.{Stepped}
-use Rattle.user_vax.specs.declared.stepping.Stepped.TheVariants as answers
+use Rattle.user_vax.specs.declared.stepped.Stepped.{Stepped}
+use Rattle.user_vax.specs.declared.stepped.Stepped.TheVariants as answers
 use Rattle.user_vax.specs.Program.{Program, Gives, Refuses, Reads, Tests, ◌>>=◌}
 use Rattle.user_vax.specs.Operands.{register, with_register, past, evaluation}
 use Rattle.user_vax.specs.Effects.{Effect}

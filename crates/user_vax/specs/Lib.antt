@@ -7,8 +7,4 @@ pub mod Bytes
 pub mod Frames
 pub mod Computation
 pub mod Instruction
-pub mod Fetching
-pub mod Code
-pub mod Outcomes
 pub mod ArrayMemory
-pub mod OneProof

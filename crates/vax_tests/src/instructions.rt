@@ -6,7 +6,8 @@ ghost use Rattle.user_vax.specs.ArrayMemory.{array_answers, written-append};
 
 use dry_run::completes;
 use std::test::Fail;
-use user_vax::{Stepped, step};
+use user_step::step;
+use user_vax::Stepped;
 use vax_alu::{Sum, add, compare, div, mul, neg, shift, sub};
 use vax_code::{Decoded, Instr, Operand, decode};
 use vm_facts::{ByteRead, MayWrite, Memory, Regs};

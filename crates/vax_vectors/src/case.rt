@@ -1,7 +1,8 @@
 use crate::bytes::{Bytes, zeros};
 use crate::text::{byte, number};
 use std::alloc::{AllocError, Global};
-use user_vax::{Stepped, step};
+use user_step::step;
+use user_vax::Stepped;
 use vm_facts::Regs;
 
 /// The registers that three fields give: R0 to R14, PC, and the codes.

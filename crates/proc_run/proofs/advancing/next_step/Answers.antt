@@ -6,7 +6,7 @@ use Rattle.vm_facts.specs.declared.stop.Stop.{Stop}
 use Rattle.vm_facts.specs.declared.stop.Stop.TheVariants as stops
 use Rattle.user_vax.specs.Program.{run}
 use Rattle.user_vax.specs.Instruction.{instruction, answer_of}
-use Rattle.user_vax.specs.declared.stepping.Stepped.{Stepped}
+use Rattle.user_vax.specs.declared.stepped.Stepped.{Stepped}
 use Rattle.flat_state.specs.Journal.{instructions_of}
 use Rattle.machine_state.specs.Machine.{Standing}
 use Rattle.steady_laws.proofs.CallsContinue.{end_continues}

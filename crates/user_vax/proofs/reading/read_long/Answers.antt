@@ -1,6 +1,6 @@
 use Rattle.std.proofs.Common.{◌<◌, ◌^◌, ℕ, Ok, Result, sym, ap, ◌∙◌, arith}
 use Rattle.user_vax.specs.declared.refused.Refused.{Refused}
-use Rattle.user_vax.proofs.Ahead.{number_ahead}
+use Rattle.user_vax.proofs.Lent.{number_ahead}
 use Rattle.user_vax.proofs.reading.read_long.Goals as goal
 
 pub returns-then-bytes-ge4 : goal.returns-then-bytes-ge4

@@ -1,0 +1,4 @@
+pub mod Writing
+pub mod Fetching
+pub mod Ahead
+pub mod Together

@@ -1,0 +1,4 @@
+pub mod Fetching
+pub mod Code
+pub mod Tried
+pub mod OneProof

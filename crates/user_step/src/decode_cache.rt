@@ -1,0 +1,92 @@
+//! A cache of decoded instructions, each beside the bytes that it was decoded from.
+ghost use Rattle.std.specs.Prelude.{◌≡◌, ◌≤◌, [], Some, Ok, IfSome, take};
+ghost use Rattle.vax_code.specs.declared.instr.Decoded.TheVariants.{Is};
+ghost use Rattle.vax_code.specs.Reading.{decoded};
+ghost use Rattle.vax_code.specs.Table.{row_for};
+ghost use Rattle.vax_code.specs.declared.instr.Operand.TheVariants.{Literal};
+ghost use Rattle.vax_code.specs.Valid.{IsOperand};
+ghost use Rattle.user_vax.specs.Program.{run};
+ghost use Rattle.user_vax.specs.Instruction.{fetch};
+ghost use Rattle.user_step.specs.OneProof.{IsOperand-prop};
+
+use vax_code::{Front, Instr, Row, decode_into, row_of};
+use vm_facts::Memory;
+
+/// It holds so many instructions.
+const PLACES: usize = 512;
+
+/// An instruction with its row of the instruction table, and sixteen bytes that begin with it.
+#[derive(Clone, Copy)]
+pub struct Decoding {
+    bytes: [u8; 16],
+    pub instr: Instr,
+    pub row: Row,
+    ghost decodes: { decoded bytes ≡ Is instr },
+    ghost listed: { row_for instr.op ≡ Some row },
+
+    // Together these say `HasOperands` of the instruction.
+    ghost first: { IsOperand instr.a } by { IsOperand-prop instr.a },
+    ghost second: { IsOperand instr.b } by { IsOperand-prop instr.b },
+    ghost third: { IsOperand instr.c } by { IsOperand-prop instr.c },
+    ghost no_first: { instr.count ≤ 0 → instr.a ≡ Literal 0 },
+    ghost no_second: { instr.count ≤ 1 → instr.b ≡ Literal 0 },
+    ghost no_third: { instr.count ≤ 2 → instr.c ≡ Literal 0 },
+}
+
+/// A cache of decoded instructions, so that those of a loop are decoded once. An instruction has its place in it by the low bits of
+/// its address. Its bytes are compared where it is looked up, so the cache is right for any memory, and whatever was written.
+#[derive(Drop)]
+pub struct DecodeCache {
+    places: [Option<Decoding>; PLACES],
+}
+
+/// The instruction that sixteen bytes begin with, if there is one.
+fn decode(bytes: &[u8; 16]) -> Option<Decoding> {
+    let mut instr = Instr::blank();
+    decode_into(&mut Front::of(bytes), &mut instr).ok()?;
+    let row = row_of(instr.op)?;
+    Some(Decoding {
+        bytes: *bytes,
+        instr,
+        row,
+    })
+}
+
+impl DecodeCache {
+    /// No instruction so far.
+    pub fn empty() -> DecodeCache {
+        DecodeCache {
+            places: [None; PLACES],
+        }
+    }
+
+    // What is in the place of an address, where these bytes begin with the same sixteen.
+    #[inline(always)]
+    fn same(&self, address: u32, bytes: &[u8]) -> Option<&Decoding>
+        ensures { IfSome result (λ found. decoded (take 16 bytes.now) ≡ Is found.now.instr) }
+    {
+        let first = bytes.first_chunk::<16>()?;
+        match &self.places[address as usize % PLACES] {
+            Some(decoding) if decoding.bytes == *first => Some(decoding),
+            _ => None,
+        }
+    }
+
+    /// The instruction at an address of a memory, where the cache has it.
+    #[inline(always)]
+    pub fn find<M: Memory>(&self, memory: &M, address: u32) -> Option<&Decoding>
+        ensures { IfSome result (λ found. run (M.answers memory.now) (fetch 20 address []) ≡ Ok found.now.instr) }
+    {
+        let found = self.same(address, memory.ahead(address))?;
+        Some(found)
+    }
+
+    /// Enters the instruction at an address of a memory, in the place of another one. One whose bytes don't lie together with as
+    /// many more as make sixteen isn't entered.
+    #[inline(never)]
+    pub fn enter<M: Memory>(&mut self, memory: &M, address: u32) {
+        if let Some(first) = memory.ahead(address).first_chunk::<16>() {
+            self.places[address as usize % PLACES] = decode(first);
+        }
+    }
+}

@@ -1,0 +1,12 @@
+//! One instruction of a user process carried out, over any memory.
+//!
+//! `step` either carries out the whole instruction or changes nothing.
+#![tactic(auto)]
+
+mod code;
+mod commit;
+mod decode_cache;
+mod stepping;
+
+pub use decode_cache::DecodeCache;
+pub use stepping::{step, step_cached};

@@ -1,0 +1,231 @@
+ghost use Rattle.std.specs.Prelude.{◌≡◌, [], true, false, IfOk, OnOk, Some, Result, Ok};
+ghost use Rattle.vax_code.specs.Table.{row_for};
+ghost use Rattle.vax_code.specs.Valid.{HasOperands};
+ghost use Rattle.user_vax.specs.Program.{run};
+ghost use Rattle.user_step.specs.Code.{reads_from};
+ghost use Rattle.user_vax.specs.Instruction.{fetch, instruction, answer_of, registers_after, writes_of};
+ghost use Rattle.user_vax.specs.Effects.{Effect};
+ghost use Rattle.user_vax.specs.Operands.{register};
+ghost use Rattle.vax_execute.specs.Outcomes.{HasPlaces, calls_procedure};
+ghost use Rattle.user_step.specs.Tried.{LeavesInstr, Prepares, CarriesOut, completion};
+ghost use Rattle.user_vax.specs.declared.refused.Refused.{Refused};
+
+use crate::code::{Code, decode_first};
+use crate::commit::{put_all, put_one, test_all, test_one};
+use crate::decode_cache::DecodeCache;
+use user_vax::{Refused, SIGILL, Stepped, read_byte};
+use vax_code::{Fault, Instr, Row, decode_into, row_of};
+use vax_execute::{Outcome, Pushes, Ready, call, compute, evaluate_all};
+use vm_facts::{Memory, Regs};
+
+/// Reads bytes from an address on, one more than an instruction has.
+#[tactic(auto, using(crate::proofs::Fetching::reads_more, crate::proofs::Fetching::reads_all), unfolding(crate::specs::Code::reads_from))]
+fn read_on<M: Memory>(memory: &M, pc: u32) -> Result<(), Refused>
+    ensures { result ≡ run (M.answers memory.now) (reads_from pc 20) }
+{
+    for count in 0..20u32 {
+        read_byte(memory, pc.wrapping_add(count))?;
+    }
+    Ok(())
+}
+
+/// Reads the instruction at an address byte by byte, each of its bytes once. Where they end within it, the first byte that
+/// isn't there decides.
+#[tactic(auto, using(crate::proofs::Fetching::fetched))]
+fn fetch_by_bytes<M: Memory>(memory: &M, pc: u32, into: &mut Instr) -> Result<(), Refused>
+    ensures value { LeavesInstr result into.new (run (M.answers memory.now) (fetch 20 pc [])) }
+    ensures valid { OnOk result (HasOperands into.new) }
+{
+    match decode_into(&mut Code::from(memory, pc), into) {
+        Ok(()) => Ok(()),
+        Err(Fault::Bad) => Err(Refused::Signal(SIGILL)),
+        Err(Fault::Short) => {
+            read_on(memory, pc)?;
+            Err(Refused::Signal(SIGILL))
+        }
+    }
+}
+
+/// Reads the instruction at an address: of the bytes that lie together, where they hold it whole.
+#[tactic(auto, using(crate::proofs::Ahead::fetched_first, crate::proofs::Ahead::refused_first))]
+fn fetch<M: Memory>(memory: &M, pc: u32, into: &mut Instr) -> Result<(), Refused>
+    ensures value { LeavesInstr result into.new (run (M.answers memory.now) (fetch 20 pc [])) }
+    ensures valid { OnOk result (HasOperands into.new) }
+{
+    match decode_first(memory.ahead(pc), into) {
+        Ok(()) => Ok(()),
+        Err(Fault::Bad) => Err(Refused::Signal(SIGILL)),
+        Err(Fault::Short) => fetch_by_bytes(memory, pc, into),
+    }
+}
+
+/// An instruction that was fetched at PC, as far as its operands; the registers become those after them.
+#[tactic(auto, using(user_vax::proofs::Runs::run_bind), unfolding(user_vax::specs::Instruction::instruction, user_vax::specs::Instruction::execution_by, user_vax::specs::Instruction::execution, crate::specs::Tried::completion))]
+fn prepare_fetched<M: Memory>(
+    memory: &M,
+    regs: &mut Regs,
+    row: &Row,
+    instr: &Instr,
+) -> Result<Ready, Refused>
+    requires fetched { run (M.answers memory.now) (fetch 20 (register regs.old 15) []) ≡ Ok instr.now }
+    requires listed { row_for instr.now.op ≡ Some row.now }
+    requires operands { HasOperands instr.now }
+    ensures value { Prepares (M.answers memory.now) result regs.new (run (M.answers memory.now) (instruction regs.old)) }
+    ensures places { IfOk result HasPlaces }
+{
+    regs.r[15] = regs.r[15].wrapping_add(u32::from(instr.length));
+    evaluate_all(memory, row, regs, instr)
+}
+
+/// The instruction that PC names, as far as its operands.
+#[tactic(auto, using(user_vax::proofs::Runs::run_bind), unfolding(user_vax::specs::Instruction::instruction, user_vax::specs::Instruction::execution_by))]
+fn prepare<M: Memory>(memory: &M, regs: &mut Regs) -> Result<Ready, Refused>
+    ensures value { Prepares (M.answers memory.now) result regs.new (run (M.answers memory.now) (instruction regs.old)) }
+    ensures places { IfOk result HasPlaces }
+{
+    let mut instr = Instr::blank();
+    fetch(memory, regs.r[15], &mut instr)?;
+    let Some(row) = row_of(instr.op) else {
+        return Err(Refused::Signal(SIGILL));
+    };
+    prepare_fetched(memory, regs, &row, &instr)
+}
+
+/// The same, by what is in the cache.
+fn prepare_cached<M: Memory>(
+    cache: &mut DecodeCache,
+    memory: &M,
+    regs: &mut Regs,
+) -> Result<Ready, Refused>
+    ensures value { Prepares (M.answers memory.now) result regs.new (run (M.answers memory.now) (instruction regs.old)) }
+    ensures places { IfOk result HasPlaces }
+{
+    match cache.find(memory, regs.r[15]) {
+        Some(decoding) => prepare_fetched(memory, regs, &decoding.row, &decoding.instr),
+        None => prepare_anew(cache, memory, regs),
+    }
+}
+
+/// The same where it isn't there, but will be.
+#[inline(never)]
+fn prepare_anew<M: Memory>(
+    cache: &mut DecodeCache,
+    memory: &M,
+    regs: &mut Regs,
+) -> Result<Ready, Refused>
+    ensures value { Prepares (M.answers memory.now) result regs.new (run (M.answers memory.now) (instruction regs.old)) }
+    ensures places { IfOk result HasPlaces }
+{
+    cache.enter(memory, regs.r[15]);
+    prepare(memory, regs)
+}
+
+/// Carries an instruction out from its operands on, where it may write all that it does. The registers are those after the
+/// operands; those that it leaves take their place, which are worth nothing where it is refused.
+#[tactic(auto, using(user_vax::proofs::Runs::run_bind), unfolding(crate::specs::Tried::completion, user_vax::specs::Instruction::tested_effect))]
+fn complete<M: Memory>(memory: &mut M, regs: &mut Regs, ready: &Ready) -> Result<Stepped, Refused>
+    requires places { HasPlaces ready.now }
+    requires no_frame { calls_procedure ready.now.name ≡ false }
+    ensures carried { CarriesOut result regs.new (run (M.answers memory.old) (completion ready.now regs.old)) }
+    ensures wrote { M.wrote memory.old (writes_of (run (M.answers memory.old) (completion ready.now regs.old))) memory.new }
+{
+    let mut outcome = Outcome::none();
+    compute(memory, regs, &mut outcome, ready)?;
+    test_one(memory, &outcome.write)?;
+    put_one(memory, &outcome.write);
+    Ok(match outcome.call {
+        None => Stepped::Done,
+        Some(number) => Stepped::Call(number),
+    })
+}
+
+/// The same of an instruction that calls a procedure.
+#[tactic(auto, using(user_vax::proofs::Runs::run_bind), unfolding(crate::specs::Tried::completion, user_vax::specs::Instruction::tested_effect))]
+fn complete_call<M: Memory>(
+    memory: &mut M,
+    regs: &mut Regs,
+    ready: &Ready,
+) -> Result<Stepped, Refused>
+    requires calls { calls_procedure ready.now.name ≡ true }
+    ensures carried { CarriesOut result regs.new (run (M.answers memory.old) (completion ready.now regs.old)) }
+    ensures wrote { M.wrote memory.old (writes_of (run (M.answers memory.old) (completion ready.now regs.old))) memory.new }
+{
+    let mut pushes = Pushes::none();
+    call(memory, &mut pushes, regs, ready)?;
+    test_all(memory, pushes.written())?;
+    put_all(memory, pushes.written());
+    Ok(Stepped::Done)
+}
+
+/// The same of any instruction.
+fn finish<M: Memory>(memory: &mut M, regs: &mut Regs, ready: &Ready) -> Result<Stepped, Refused>
+    requires { HasPlaces ready.now }
+    ensures carried { CarriesOut result regs.new (run (M.answers memory.old) (completion ready.now regs.old)) }
+    ensures wrote { M.wrote memory.old (writes_of (run (M.answers memory.old) (completion ready.now regs.old))) memory.new }
+{
+    if ready.calls_procedure() {
+        complete_call(memory, regs, ready)
+    } else {
+        complete(memory, regs, ready)
+    }
+}
+
+/// Carries the instruction that PC names out, or changes nothing but the registers and says why.
+fn try_step<M: Memory>(regs: &mut Regs, memory: &mut M) -> Result<Stepped, Refused>
+    ensures carried { CarriesOut result regs.new (run (M.answers memory.old) (instruction regs.old)) }
+    ensures wrote { M.wrote memory.old (writes_of (run (M.answers memory.old) (instruction regs.old))) memory.new }
+{
+    let ready = prepare(memory, regs)?;
+    finish(memory, regs, &ready)
+}
+
+/// The same, by what is in the cache.
+fn try_step_cached<M: Memory>(
+    cache: &mut DecodeCache,
+    regs: &mut Regs,
+    memory: &mut M,
+) -> Result<Stepped, Refused>
+    ensures carried { CarriesOut result regs.new (run (M.answers memory.old) (instruction regs.old)) }
+    ensures wrote { M.wrote memory.old (writes_of (run (M.answers memory.old) (instruction regs.old))) memory.new }
+{
+    let ready = prepare_cached(cache, memory, regs)?;
+    finish(memory, regs, &ready)
+}
+
+/// What is told of an instruction that was tried. Where it was refused, the registers are those before it again.
+fn told(tried: Result<Stepped, Refused>, regs: &mut Regs, before: &Regs) -> Stepped
+    ensures answer { (wanted : Result Effect Refused) → CarriesOut tried regs.old wanted → result ≡ answer_of wanted }
+    ensures registers { (wanted : Result Effect Refused) → CarriesOut tried regs.old wanted → regs.new ≡ registers_after before.now wanted }
+{
+    let stepped = match tried {
+        Ok(stepped) => return stepped,
+        Err(Refused::Miss { address, write }) => Stepped::Miss { address, write },
+        Err(Refused::Below { address }) => Stepped::Below { address },
+        Err(Refused::Signal(number)) => Stepped::Signal(number),
+    };
+    *regs = *before;
+    stepped
+}
+
+/// Runs one instruction: the one that PC names, by this project's profile of the VAX. `Done` and `Call`
+/// come where every byte that it reads or writes is there. `Miss` and `Below` name the first byte, in the
+/// order of its accesses, for which the memory answered so. After `Miss`, `Below` and `Signal` the
+/// registers and the memory are as before.
+pub fn step<M: Memory>(regs: &mut Regs, memory: &mut M) -> Stepped
+    ensures answer { result ≡ answer_of (run (M.answers memory.old) (instruction regs.old)) }
+    ensures registers { regs.new ≡ registers_after regs.old (run (M.answers memory.old) (instruction regs.old)) }
+    ensures wrote { M.wrote memory.old (writes_of (run (M.answers memory.old) (instruction regs.old))) memory.new }
+{
+    let before = *regs;
+    told(try_step(regs, memory), regs, &before)
+}
+
+/// Runs one instruction, as `step` does. One that is in the cache isn't decoded anew, and another one is entered.
+pub fn step_cached<M: Memory>(cache: &mut DecodeCache, regs: &mut Regs, memory: &mut M) -> Stepped
+    ensures answer { result ≡ answer_of (run (M.answers memory.old) (instruction regs.old)) }
+    ensures registers { regs.new ≡ registers_after regs.old (run (M.answers memory.old) (instruction regs.old)) }
+    ensures wrote { M.wrote memory.old (writes_of (run (M.answers memory.old) (instruction regs.old))) memory.new }
+{
+    let before = *regs;
+    told(try_step_cached(cache, regs, memory), regs, &before)
+}
