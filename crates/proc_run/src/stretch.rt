@@ -10,7 +10,7 @@ ghost use Rattle.proc_run.specs.Stretch.{GoesOr, StretchOf, RanOn};
 use crate::attempting::last_counts;
 use crate::choosing::ready_regs;
 use machine_state::Machine;
-use user_step::{DecodeCache, step_cached};
+use user_step::{DecodeCache, step_unless_call};
 use user_vax::Stepped;
 use vm_facts::{Memory, Regs};
 
@@ -18,13 +18,9 @@ use vm_facts::{Memory, Regs};
 fn go_on<M: Memory>(cache: &mut DecodeCache, memory: &mut M, regs: &mut Regs) -> bool
     ensures { GoesOr result (M.answers memory.old) regs.old regs.new (λ ws. M.wrote memory.old ws memory.new) }
 {
-    let before = *regs;
-    match step_cached(cache, regs, memory) {
+    match step_unless_call(cache, regs, memory) {
         Stepped::Done => true,
-        Stepped::Call(_) => {
-            *regs = before;
-            false
-        }
+        Stepped::Call(_) => false,
         Stepped::Miss { .. } | Stepped::Below { .. } | Stepped::Signal(_) => false,
     }
 }

@@ -1,14 +1,15 @@
 -- What a try of an instruction came to.
-use Rattle.std.specs.Prelude.{◌≡◌, Option, Some, None, Result, Ok, Err}
+use Rattle.std.specs.Prelude.{◌≡◌, ℤ, Option, Some, None, Result, Ok, Err}
 use Rattle.vm_facts.specs.Answers.{Answers}
 use Rattle.vm_facts.specs.declared.regs.Regs.{Regs}
 use Rattle.vax_code.specs.declared.instr.Instr.{Instr}
 use Rattle.user_vax.specs.declared.refused.Refused.{Refused}
 use Rattle.user_vax.specs.declared.stepped.Stepped.{Stepped}
+use Rattle.user_vax.specs.declared.stepped.Stepped.TheVariants as answers
 use Rattle.user_vax.specs.Effects.{Effect}
 use Rattle.user_vax.specs.Computation.{computation}
 use Rattle.user_vax.specs.Program.{Program, ◌>>=◌, run}
-use Rattle.user_vax.specs.Instruction.{MayAll, tested_effect, answer_of, registers_after}
+use Rattle.user_vax.specs.Instruction.{MayAll, tested_effect, answer_of, answer_of_call, registers_after}
 use Rattle.vax_execute.specs.declared.outcome.Write.{Write}
 use Rattle.vax_execute.specs.declared.ready.Ready.{Ready}
 use Rattle.vax_execute.specs.Outcomes.{IsSize, bytes_of}
@@ -43,7 +44,12 @@ abbrev pub Prepares : Answers → Result Ready Refused → Regs → Result Effec
 Prepares memory (Ok ready) regs wanted = wanted ≡ run memory (completion ready regs)
 Prepares memory (Err refused) regs wanted = wanted ≡ Err refused
 
--- an instruction, by its answer and the registers after it, whichever were before
-abbrev pub CarriesOut : Result Stepped Refused → Regs → Result Effect Refused → Type 0
-CarriesOut (Ok stepped) regs wanted = (stepped ≡ answer_of wanted) × ((before : Regs) → regs ≡ registers_after before wanted)
+-- an instruction, by the number of its call, if it makes one, and the registers after it, whichever were before
+abbrev pub CarriesOut : Result (Option ℤ) Refused → Regs → Result Effect Refused → Type 0
+CarriesOut (Ok call) regs wanted = (answer_of wanted ≡ answer_of_call call) × ((before : Regs) → regs ≡ registers_after before wanted)
 CarriesOut (Err refused) regs wanted = wanted ≡ Err refused
+
+-- the registers after an instruction that was tried: those before, unless it was carried out and makes no call
+abbrev pub registers_tried : Stepped → Regs → Result Effect Refused → Regs
+registers_tried answers.Done before wanted = registers_after before wanted
+registers_tried _ before wanted = before

@@ -9,4 +9,4 @@ mod decode_cache;
 mod stepping;
 
 pub use decode_cache::DecodeCache;
-pub use stepping::{step, step_cached};
+pub use stepping::{step, step_cached, step_unless_call};

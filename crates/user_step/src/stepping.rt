@@ -1,14 +1,12 @@
-ghost use Rattle.std.specs.Prelude.{◌≡◌, [], true, false, IfOk, OnOk, Some, Result, Ok};
+ghost use Rattle.std.specs.Prelude.{◌≡◌, [], true, false, IfOk, OnOk, Some, Ok, Err};
 ghost use Rattle.vax_code.specs.Table.{row_for};
 ghost use Rattle.vax_code.specs.Valid.{HasOperands};
 ghost use Rattle.user_vax.specs.Program.{run};
 ghost use Rattle.user_step.specs.Code.{reads_from};
 ghost use Rattle.user_vax.specs.Instruction.{fetch, instruction, answer_of, registers_after, writes_of};
-ghost use Rattle.user_vax.specs.Effects.{Effect};
 ghost use Rattle.user_vax.specs.Operands.{register};
 ghost use Rattle.vax_execute.specs.Outcomes.{HasPlaces, calls_procedure};
-ghost use Rattle.user_step.specs.Tried.{LeavesInstr, Prepares, CarriesOut, completion};
-ghost use Rattle.user_vax.specs.declared.refused.Refused.{Refused};
+ghost use Rattle.user_step.specs.Tried.{LeavesInstr, Prepares, CarriesOut, completion, registers_tried};
 
 use crate::code::{Code, decode_first};
 use crate::commit::{put_all, put_one, test_all, test_one};
@@ -123,7 +121,11 @@ fn prepare_anew<M: Memory>(
 /// Carries an instruction out from its operands on, where it may write all that it does. The registers are those after the
 /// operands; those that it leaves take their place, which are worth nothing where it is refused.
 #[tactic(auto, using(user_vax::proofs::Runs::run_bind), unfolding(crate::specs::Tried::completion, user_vax::specs::Instruction::tested_effect))]
-fn complete<M: Memory>(memory: &mut M, regs: &mut Regs, ready: &Ready) -> Result<Stepped, Refused>
+fn complete<M: Memory>(
+    memory: &mut M,
+    regs: &mut Regs,
+    ready: &Ready,
+) -> Result<Option<i32>, Refused>
     requires places { HasPlaces ready.now }
     requires no_frame { calls_procedure ready.now.name ≡ false }
     ensures carried { CarriesOut result regs.new (run (M.answers memory.old) (completion ready.now regs.old)) }
@@ -133,10 +135,7 @@ fn complete<M: Memory>(memory: &mut M, regs: &mut Regs, ready: &Ready) -> Result
     compute(memory, regs, &mut outcome, ready)?;
     test_one(memory, &outcome.write)?;
     put_one(memory, &outcome.write);
-    Ok(match outcome.call {
-        None => Stepped::Done,
-        Some(number) => Stepped::Call(number),
-    })
+    Ok(outcome.call)
 }
 
 /// The same of an instruction that calls a procedure.
@@ -145,7 +144,7 @@ fn complete_call<M: Memory>(
     memory: &mut M,
     regs: &mut Regs,
     ready: &Ready,
-) -> Result<Stepped, Refused>
+) -> Result<Option<i32>, Refused>
     requires calls { calls_procedure ready.now.name ≡ true }
     ensures carried { CarriesOut result regs.new (run (M.answers memory.old) (completion ready.now regs.old)) }
     ensures wrote { M.wrote memory.old (writes_of (run (M.answers memory.old) (completion ready.now regs.old))) memory.new }
@@ -154,11 +153,11 @@ fn complete_call<M: Memory>(
     call(memory, &mut pushes, regs, ready)?;
     test_all(memory, pushes.written())?;
     put_all(memory, pushes.written());
-    Ok(Stepped::Done)
+    Ok(None)
 }
 
 /// The same of any instruction.
-fn finish<M: Memory>(memory: &mut M, regs: &mut Regs, ready: &Ready) -> Result<Stepped, Refused>
+fn finish<M: Memory>(memory: &mut M, regs: &mut Regs, ready: &Ready) -> Result<Option<i32>, Refused>
     requires { HasPlaces ready.now }
     ensures carried { CarriesOut result regs.new (run (M.answers memory.old) (completion ready.now regs.old)) }
     ensures wrote { M.wrote memory.old (writes_of (run (M.answers memory.old) (completion ready.now regs.old))) memory.new }
@@ -171,7 +170,7 @@ fn finish<M: Memory>(memory: &mut M, regs: &mut Regs, ready: &Ready) -> Result<S
 }
 
 /// Carries the instruction that PC names out, or changes nothing but the registers and says why.
-fn try_step<M: Memory>(regs: &mut Regs, memory: &mut M) -> Result<Stepped, Refused>
+fn try_step<M: Memory>(regs: &mut Regs, memory: &mut M) -> Result<Option<i32>, Refused>
     ensures carried { CarriesOut result regs.new (run (M.answers memory.old) (instruction regs.old)) }
     ensures wrote { M.wrote memory.old (writes_of (run (M.answers memory.old) (instruction regs.old))) memory.new }
 {
@@ -184,7 +183,7 @@ fn try_step_cached<M: Memory>(
     cache: &mut DecodeCache,
     regs: &mut Regs,
     memory: &mut M,
-) -> Result<Stepped, Refused>
+) -> Result<Option<i32>, Refused>
     ensures carried { CarriesOut result regs.new (run (M.answers memory.old) (instruction regs.old)) }
     ensures wrote { M.wrote memory.old (writes_of (run (M.answers memory.old) (instruction regs.old))) memory.new }
 {
@@ -192,19 +191,15 @@ fn try_step_cached<M: Memory>(
     finish(memory, regs, &ready)
 }
 
-/// What is told of an instruction that was tried. Where it was refused, the registers are those before it again.
-fn told(tried: Result<Stepped, Refused>, regs: &mut Regs, before: &Regs) -> Stepped
-    ensures answer { (wanted : Result Effect Refused) → CarriesOut tried regs.old wanted → result ≡ answer_of wanted }
-    ensures registers { (wanted : Result Effect Refused) → CarriesOut tried regs.old wanted → regs.new ≡ registers_after before.now wanted }
+/// What is told of an instruction that was refused.
+fn refusal(refused: Refused) -> Stepped
+    ensures { result ≡ answer_of (Err refused) }
 {
-    let stepped = match tried {
-        Ok(stepped) => return stepped,
-        Err(Refused::Miss { address, write }) => Stepped::Miss { address, write },
-        Err(Refused::Below { address }) => Stepped::Below { address },
-        Err(Refused::Signal(number)) => Stepped::Signal(number),
-    };
-    *regs = *before;
-    stepped
+    match refused {
+        Refused::Miss { address, write } => Stepped::Miss { address, write },
+        Refused::Below { address } => Stepped::Below { address },
+        Refused::Signal(number) => Stepped::Signal(number),
+    }
 }
 
 /// Runs one instruction: the one that PC names, by this project's profile of the VAX. `Done` and `Call`
@@ -217,7 +212,14 @@ pub fn step<M: Memory>(regs: &mut Regs, memory: &mut M) -> Stepped
     ensures wrote { M.wrote memory.old (writes_of (run (M.answers memory.old) (instruction regs.old))) memory.new }
 {
     let before = *regs;
-    told(try_step(regs, memory), regs, &before)
+    match try_step(regs, memory) {
+        Ok(None) => Stepped::Done,
+        Ok(Some(number)) => Stepped::Call(number),
+        Err(refused) => {
+            *regs = before;
+            refusal(refused)
+        }
+    }
 }
 
 /// Runs one instruction, as `step` does. One that is in the cache isn't decoded anew, and another one is entered.
@@ -227,5 +229,44 @@ pub fn step_cached<M: Memory>(cache: &mut DecodeCache, regs: &mut Regs, memory: 
     ensures wrote { M.wrote memory.old (writes_of (run (M.answers memory.old) (instruction regs.old))) memory.new }
 {
     let before = *regs;
-    told(try_step_cached(cache, regs, memory), regs, &before)
+    match try_step_cached(cache, regs, memory) {
+        Ok(None) => Stepped::Done,
+        Ok(Some(number)) => Stepped::Call(number),
+        Err(refused) => {
+            *regs = before;
+            refusal(refused)
+        }
+    }
+}
+
+/// Runs one instruction, as `step_cached` does, but for one that makes a call: after it the registers are as before too.
+pub fn step_unless_call<M: Memory>(
+    cache: &mut DecodeCache,
+    regs: &mut Regs,
+    memory: &mut M,
+) -> Stepped
+    ensures answer { result ≡ answer_of (run (M.answers memory.old) (instruction regs.old)) }
+    ensures registers { regs.new ≡ registers_tried result regs.old (run (M.answers memory.old) (instruction regs.old)) }
+    ensures wrote { M.wrote memory.old (writes_of (run (M.answers memory.old) (instruction regs.old))) memory.new }
+{
+    let before = *regs;
+    match try_step_cached(cache, regs, memory) {
+        Ok(None) => Stepped::Done,
+        Ok(Some(number)) => {
+            *regs = before;
+            Stepped::Call(number)
+        }
+        Err(Refused::Miss { address, write }) => {
+            *regs = before;
+            Stepped::Miss { address, write }
+        }
+        Err(Refused::Below { address }) => {
+            *regs = before;
+            Stepped::Below { address }
+        }
+        Err(Refused::Signal(number)) => {
+            *regs = before;
+            Stepped::Signal(number)
+        }
+    }
 }
