@@ -298,7 +298,8 @@ pub sound_bytes : (free : List ℕ) (slots : List Slot) (f at : ℕ) (bs : List 
     → IsSoundMap free (set slots f (with_bytes (slot_at slots f) at bs))
 sound_bytes free slots f at bs sound res =
     let s = slot_at slots f in
-    sound_resident free slots f (with_bytes s at bs) sound res (is_resident-with_bytes s at bs ∙ res) (IsWhole-with_bytes s at bs (sound.whole f)) (number_of-with_bytes s at bs f) (page_of-with_bytes s at bs)
+    sound_resident free slots f (with_bytes s at bs) sound res (is_resident-with_bytes s at bs ∙ res) (IsWhole-with_bytes s at bs (sound.whole f))
+    (number_of-with_bytes s at bs f) (page_of-with_bytes s at bs)
 
 pub sound_dirty : (free : List ℕ) (slots : List Slot) (f : ℕ) (m : Bool) → IsSoundMap free slots → is_resident (slot_at slots f) ≡ true
     → IsSoundMap free (set slots f (with_dirty (slot_at slots f) m))

@@ -28,7 +28,8 @@ least_behind first [] x = refl
 least_behind first (y ∷ ys) x = least_behind (smaller first y.after.free) ys x
 
 -- the tally of no note
-pub tallies_none : (t : Tally) (first : Look) → ((pid : ℕ) (head : PagingHead) → paging_sum t.paging pid head ≡ 0) → ((owner : Owner) → written_sum t.written owner ≡ 0)
+pub tallies_none : (t : Tally) (first : Look) → ((pid : ℕ) (head : PagingHead) → paging_sum t.paging pid head ≡ 0)
+    → ((owner : Owner) → written_sum t.written owner ≡ 0)
     → ((head : RunHead) → run_sum t.run head ≡ 0) → t.most_held ≡ first.held → t.least_free ≡ first.free → Tallies t first []
 tallies_none t first paging written run most least = record {
   sums = none;

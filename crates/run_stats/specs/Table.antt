@@ -66,4 +66,5 @@ table_by deeds sums journal most least processes spaces images =
 -- is noted of each.
 unfoldable pub stats_text : List Entry → Look → List Note → ℕ → ℕ → ℕ → List ℕ
 stats_text journal start notes processes spaces images =
-    table_by (λ pid head. total (OfProcess pid head) journal) (λ head. sum_of head notes) journal (most_held start.held notes) (least_free start.free notes) processes spaces images
+    table_by (λ pid head. total (OfProcess pid head) journal) (λ head. sum_of head notes) journal (most_held start.held notes) (least_free start.free notes)
+    processes spaces images

@@ -16,5 +16,6 @@ loop-entry-preserved c =
     record {
       endings = λ pid.
           subst (λ (ys : List Entry). IsEnding pid (ending_at c.note_end.new.endings.items pid) ys) (sym more)
-          (subst (λ (x : Ending). IsEnding pid x (take i js ++ e ∷ [])) (sym (c.in_ok-note_end.ensures pid)) (ending_more pid (ending_at c.loop-entry.endings.items pid) (take i js) e (c.loop-entry.invariant.endings pid)));
+          (subst (λ (x : Ending). IsEnding pid x (take i js ++ e ∷ [])) (sym (c.in_ok-note_end.ensures pid))
+          (ending_more pid (ending_at c.loop-entry.endings.items pid) (take i js) e (c.loop-entry.invariant.endings pid)));
     }

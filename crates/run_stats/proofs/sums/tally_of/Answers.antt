@@ -15,5 +15,6 @@ pub loop-note-preserved : goal.loop-note-preserved
 loop-note-preserved c =
     let more = c.in_ok-add.ensures in
     record {
-      tallies = tallies_then c.loop-note.tally c.add.new.self c.args.first.now c.args.notes.now c.loop-note.note-index _ c.loop-note-test.true c.loop-note.invariant.tallies more.value more.grows more.most more.least;
+      tallies = tallies_then c.loop-note.tally c.add.new.self c.args.first.now c.args.notes.now c.loop-note.note-index _ c.loop-note-test.true
+          c.loop-note.invariant.tallies more.value more.grows more.most more.least;
     }

@@ -21,6 +21,7 @@ loop-head-preserved c =
 pub returns : goal.returns
 returns c =
     let heads = c.process_heads-heads.result.now in
-    text_all (process_row (deed_of c.args.deeds.now) c.args.pid) heads c.loop-head.head-index c.loop-head.text.items (c.args.text.now.items ++ flat_map (process_row (deed_of c.args.deeds.now) c.args.pid) heads)
+    text_all (process_row (deed_of c.args.deeds.now) c.args.pid) heads c.loop-head.head-index c.loop-head.text.items
+    (c.args.text.now.items ++ flat_map (process_row (deed_of c.args.deeds.now) c.args.pid) heads)
     (omega arith) c.loop-head.invariant.text
     ∙ ap (λ t. c.args.text.now.items ++ flat_map (process_row (deed_of c.args.deeds.now) c.args.pid) t) c.process_heads-heads.ensures

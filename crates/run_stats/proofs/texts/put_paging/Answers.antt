@@ -21,6 +21,7 @@ loop-head-preserved c =
 pub returns : goal.returns
 returns c =
     let heads = c.paging_heads-heads.result.now in
-    text_all (paging_row (sum_in c.args.tally.now) c.args.pid) heads c.loop-head.head-index c.loop-head.text.items (c.args.text.now.items ++ flat_map (paging_row (sum_in c.args.tally.now) c.args.pid) heads)
+    text_all (paging_row (sum_in c.args.tally.now) c.args.pid) heads c.loop-head.head-index c.loop-head.text.items
+    (c.args.text.now.items ++ flat_map (paging_row (sum_in c.args.tally.now) c.args.pid) heads)
     (omega arith) c.loop-head.invariant.text
     ∙ ap (λ t. c.args.text.now.items ++ flat_map (paging_row (sum_in c.args.tally.now) c.args.pid) t) c.paging_heads-heads.ensures

@@ -11,6 +11,7 @@ loop-before-init c = record { text = lines_none (process_rows (deed_of c.args.de
 pub loop-before-preserved : goal.loop-before-preserved
 loop-before-preserved c = record {
   text =
-      lines_more (process_rows (deed_of c.args.deeds.now) (sum_in c.args.tally.now) c.args.journal.now) c.args.text.now.items c.loop-before.text.items c.put_process.new.text.items c.loop-before.before c.loop-before.invariant.text
+      lines_more (process_rows (deed_of c.args.deeds.now) (sum_in c.args.tally.now) c.args.journal.now) c.args.text.now.items c.loop-before.text.items
+      c.put_process.new.text.items c.loop-before.before c.loop-before.invariant.text
       c.in_ok-put_process.ensures;
 }

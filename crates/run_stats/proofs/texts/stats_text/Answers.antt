@@ -14,5 +14,6 @@ table_by-requires c pid =
 pub returns : goal.returns
 returns c =
     ok_same c.table_by.result (λ text. text.items) _ _
-    (table_same (deed_of c.in_ok-deeds.deeds) c.in_ok-tally.tally c.args.journal.now c.args.start.now c.args.notes.now c.args.processes c.args.spaces c.args.images c.in_ok-deeds.ensures c.in_ok-tally.ensures)
+    (table_same (deed_of c.in_ok-deeds.deeds) c.in_ok-tally.tally c.args.journal.now c.args.start.now c.args.notes.now c.args.processes c.args.spaces
+    c.args.images c.in_ok-deeds.ensures c.in_ok-tally.ensures)
     c.table_by.ensures

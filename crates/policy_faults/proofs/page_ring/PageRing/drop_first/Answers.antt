@@ -16,11 +16,13 @@ put_mark-requires c =
 pub invariant_of-self-2 : goal.invariant_of-self-2
 invariant_of-self-2 c =
     let there = front_there (λ (q : ℕ). get_or c.self.inside.marks.items q None) c.in-Some.page c.self.inside.pages.items c.pop_front.new.self.items c.in-Some.ensures.items c.self.invariant in
-    first_kept (λ (q : ℕ). get_or c.self.inside.marks.items q None) (λ (q : ℕ). get_or c.put_mark.new.marks.items q None) c.in-Some.page c.self.inside.pages.items c.pop_front.new.self.items c.in-Some.ensures.items c.self.invariant
+    first_kept (λ (q : ℕ). get_or c.self.inside.marks.items q None) (λ (q : ℕ). get_or c.put_mark.new.marks.items q None) c.in-Some.page
+    c.self.inside.pages.items c.pop_front.new.self.items c.in-Some.ensures.items c.self.invariant
     (mark_put c.self.inside.marks.items c.put_mark.new.marks.items c.in-Some.page None (there_within c.self.inside.marks.items c.in-Some.page there) c.put_mark.ensures)
 
 pub returns : goal.returns
 returns c =
     let there = front_there (λ (q : ℕ). get_or c.self.inside.marks.items q None) c.in-Some.page c.self.inside.pages.items c.pop_front.new.self.items c.in-Some.ensures.items c.self.invariant in
-    left (λ (q : ℕ). get_or c.self.inside.marks.items q None) c.self.inside.pages.items c.args.self.now c.self.view_is (λ (q : ℕ). get_or c.put_mark.new.marks.items q None) c.in-Some.page c.pop_front.new.self.items c.in-Some.ensures.items c.self.invariant
+    left (λ (q : ℕ). get_or c.self.inside.marks.items q None) c.self.inside.pages.items c.args.self.now c.self.view_is
+    (λ (q : ℕ). get_or c.put_mark.new.marks.items q None) c.in-Some.page c.pop_front.new.self.items c.in-Some.ensures.items c.self.invariant
     (mark_put c.self.inside.marks.items c.put_mark.new.marks.items c.in-Some.page None (there_within c.self.inside.marks.items c.in-Some.page there) c.put_mark.ensures)

@@ -16,7 +16,8 @@ invariant_of-self-2 c =
 
 pub returns : goal.returns
 returns c =
-    came (λ (q : ℕ). get_or c.self.inside.marks.items q None) c.self.inside.pages.items c.args.self.now c.self.view_is (λ (q : ℕ). get_or c.put_mark.new.marks.items q None) c.args.page c.push_back.new.self.items
+    came (λ (q : ℕ). get_or c.self.inside.marks.items q None) c.self.inside.pages.items c.args.self.now c.self.view_is
+    (λ (q : ℕ). get_or c.put_mark.new.marks.items q None) c.args.page c.push_back.new.self.items
     (c.in-Ok.ensures.items ∙ ap (λ (ps : List ℕ). ps ++ c.args.page ∷ []) c.reserve.ensures.items) c.requires
     (mark_came c.have_place.new.marks.items c.self.inside.marks.items c.put_mark.new.marks.items c.args.page (Some true)
     (omega (arith, c.in_ok-have_place.ensures.place, c.have_place.new.marks.ok)) c.in_ok-have_place.ensures.same c.put_mark.ensures)

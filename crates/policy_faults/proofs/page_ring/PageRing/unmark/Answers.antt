@@ -21,7 +21,8 @@ invariant_of-self c =
     let within : c.args.place < length c.self.inside.pages.items = omega (arith, c.self.inside.pages.ok.0, c.in-Some.ensures.variant.0 refl) in
     let is = get_or_read c.self.inside.pages.items c.args.place c.in-Some.page.now within c.in-Some.ensures.lookup 0 in
     let there = there_at (λ (q : ℕ). get_or c.self.inside.marks.items q None) c.in-Some.page.now c.args.place c.self.inside.pages.items within is c.self.invariant in
-    unmarked_kept (λ (q : ℕ). get_or c.self.inside.marks.items q None) (λ (q : ℕ). get_or c.put_mark.new.marks.items q None) c.in-Some.page.now c.args.place c.self.inside.pages.items within is c.self.invariant
+    unmarked_kept (λ (q : ℕ). get_or c.self.inside.marks.items q None) (λ (q : ℕ). get_or c.put_mark.new.marks.items q None) c.in-Some.page.now c.args.place
+    c.self.inside.pages.items within is c.self.invariant
     (mark_put c.self.inside.marks.items c.put_mark.new.marks.items c.in-Some.page.now (Some false) (there_within c.self.inside.marks.items c.in-Some.page.now there) c.put_mark.ensures)
 
 pub returns : goal.returns
@@ -29,5 +30,6 @@ returns c =
     let within : c.args.place < length c.self.inside.pages.items = omega (arith, c.self.inside.pages.ok.0, c.in-Some.ensures.variant.0 refl) in
     let is = get_or_read c.self.inside.pages.items c.args.place c.in-Some.page.now within c.in-Some.ensures.lookup 0 in
     let there = there_at (λ (q : ℕ). get_or c.self.inside.marks.items q None) c.in-Some.page.now c.args.place c.self.inside.pages.items within is c.self.invariant in
-    unmarked (λ (q : ℕ). get_or c.self.inside.marks.items q None) c.self.inside.pages.items c.args.self.now c.self.view_is (λ (q : ℕ). get_or c.put_mark.new.marks.items q None) c.in-Some.page.now c.args.place within is c.self.invariant
+    unmarked (λ (q : ℕ). get_or c.self.inside.marks.items q None) c.self.inside.pages.items c.args.self.now c.self.view_is
+    (λ (q : ℕ). get_or c.put_mark.new.marks.items q None) c.in-Some.page.now c.args.place within is c.self.invariant
     (mark_put c.self.inside.marks.items c.put_mark.new.marks.items c.in-Some.page.now (Some false) (there_within c.self.inside.marks.items c.in-Some.page.now there) c.put_mark.ensures)
