@@ -299,7 +299,8 @@ function draw() {
   at("slider").max = steps.length - 1;
   at("slider").value = film.index;
   at("slider").setAttribute("aria-valuetext", `step ${step.number}: ${at("line").textContent}`);
-  at("where").textContent = `step ${number(step.number)} of ${number(steps[0].number)} to ${number(steps[steps.length - 1].number)}`;
+  const [from, to] = [steps[0], steps[steps.length - 1]].map((it) => number(it.number));
+  at("where").textContent = from === "0" ? `step ${number(step.number)} of ${to}` : `step ${number(step.number)}, from ${from} to ${to}`;
   for (const id of ["first", "before"]) at(id).disabled = film.index === 0;
   for (const id of ["next", "last"]) at(id).disabled = film.index === steps.length - 1;
   drawFrames(now, before);
