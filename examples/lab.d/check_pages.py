@@ -99,6 +99,12 @@ def by_ends(check, browser, lab):
     run(browser)
     told = shown(browser, "lab-result").partition(". ")[2]
     check.same("a run of lines with no end", told, "Cut by its limit: 100 instructions ran, and process 1 hasn't ended.")
+    write(browser, "lab-source", ".word 0\nl: chmk $20\nbrb l")
+    run(browser)
+    told = shown(browser, "lab-result").partition(". ")[2]
+    check.same("a run half of whose instructions are calls", told, "Cut by its limit: 100 instructions ran, and process 1 hasn't ended.")
+    write(browser, "lab-source", ".word 0\nl: brb l")
+    run(browser)
     browser.value("document.getElementById('lab-schedule').focus()")
     browser.value("document.activeElement.blur()")
     write(browser, "lab-limit", "1000")
@@ -111,6 +117,12 @@ def by_ends(check, browser, lab):
         check.same(f"an empty {field}", (shown(browser, "lab-machine-said"), shown(browser, "lab-result")), (told, told))
         write(browser, f"lab-{field}", old)
     write(browser, "lab-schedule", "")
+    write(browser, "lab-swap", "256")
+    write(browser, "lab-source", ".bss 204800\n.word 0\nl: brb l")
+    run(browser)
+    told = "SWAP is 256: the first processes take 516 blocks before they run"
+    check.same("too little swap", (shown(browser, "lab-result"), shown(browser, "lab-machine-said")), (f"Status 11: {told}", told))
+    write(browser, "lab-swap", "1024")
     for source, told in ENDS:
         write(browser, "lab-source", EMPTY + source)
         run(browser)

@@ -220,7 +220,7 @@ def by_lesson(check, browser, folder):
     check.same("the images of ex", browser.value("document.getElementById('lab-images').value"), "ex =hi")
     check.same("its programs", browser.value("[...document.querySelectorAll('#lab-tabs button')].map((it) => it.textContent)"), ["ex", "hi"])
     run(browser)
-    check.same("its run", shown(browser, "lab-result").partition(". ")[2], "Over: each process has ended, after 3 instructions.")
+    check.same("its run", shown(browser, "lab-result").partition(". ")[2], "Over: each process has ended, after 6 instructions.")
     choose(browser, "lab-example", "auto: ")
     write(browser, "lab-source", MENDED)
     run(browser)

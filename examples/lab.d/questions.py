@@ -10,6 +10,8 @@ from setups import NAMES, NO_COMPILER, SOURCES, Program, Setup, bad, has_compile
 MOST_STEPS = ((256, 400), (1024, 100), (4096, 30))
 # what of a transcript is handed to the page, in bytes
 MOST_TRANSCRIPT = 8 << 20
+# the most blocks of swap
+MOST_SWAP = "131072"
 # at how many sizes of memory faults are asked, and the run's own
 SIZES = 40
 # what `stats` counts of a run's faults
@@ -42,11 +44,22 @@ def listings(run, setup):
 
 
 def ending(transcript, many):
-    """How a run ended, by its transcript: how many instructions ran, and which processes have not ended. At first there are many, and
-    more by fork and vfork."""
-    ran = sum(map(int, re.findall(r"(?m)^r \d+ (\d+)$", transcript)))
+    """How a run ended, by its transcript: how many instructions ran, of which each call that was answered and each end is one, and which
+    processes have not ended. At first there are many, and more by fork and vfork."""
+    ran = sum(map(int, re.findall(r"(?m)^r \d+ (\d+)$", transcript))) + len(re.findall(r"(?m)^[cx] ", transcript))
     begun = {*range(1, many + 1), *map(int, re.findall(r"(?m)^c \d+ (?:2|66) 0 (\d+) ", transcript))}
     return {"ran": ran, "left": sorted(begun - set(map(int, re.findall(r"(?m)^x (\d+) ", transcript))))}
+
+
+def bad_run(run, setup, answer, **more):
+    """What is told of a run that isn't one of status 0. Where its first processes find no room in the swap it is how much they take: the
+    first block that is free, before the run, where there is as much swap as there may be."""
+    told = bad(answer, **more)
+    if answer.status == 11:
+        frames, swap, *rest = setup.words()
+        found = re.search(r"(?m)^swap (\d+) \d+ free\n\Z", run.program("owners", "0", frames, MOST_SWAP, *rest).text())
+        told["said"] += f"vmrun: SWAP is {swap}: the first processes take {found[1]} blocks before they run\n" if found else ""
+    return told
 
 
 def ask_run(run, asked):
@@ -61,7 +74,7 @@ def ask_run(run, asked):
     shown = whole[: whole.rfind("\n", 0, MOST_TRANSCRIPT) + 1] if len(whole) > MOST_TRANSCRIPT else whole
     lines = {name: found for name in names_of(setup) if (found := lines_of(run, name)) is not None}
     told = {"transcript": shown, "short": len(shown) < len(whole), "listings": listed, "lines": lines}
-    return bad(answer, **told, **ending(whole, sum(not image.startswith("=") for image in setup.images)))
+    return bad_run(run, setup, answer, **told, **ending(whole, sum(not image.startswith("=") for image in setup.images)))
 
 
 def step_number(asked, name):
@@ -160,7 +173,7 @@ def ask_faults(run, asked):
     wrong = prepare(run, setup)
     found = None if wrong else run.program("refs", *setup.words())
     if wrong or found.status or found.cut:
-        return wrong or bad(found)
+        return wrong or bad_run(run, setup, found)
     write(run.folder, "references", found.output)
     lines = found.text().splitlines()
     pages = len(set(lines))
@@ -177,7 +190,7 @@ def ask_stats(run, asked):
     wrong = prepare(run, setup)
     answer = None if wrong else run.program("stats", *setup.words())
     if wrong or answer.status or answer.cut:
-        return wrong or bad(answer)
+        return wrong or bad_run(run, setup, answer)
     return {"status": 0, "rows": [line.split(" ") for line in answer.text().splitlines()]}
 
 

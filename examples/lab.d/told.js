@@ -70,6 +70,7 @@ export function tellBad(answer) {
     if (word) tellMachine(word.toLowerCase(), `${word} ${words}`);
     else tellMachine("images", words);
   }
+  if (answer.status === 11) tellMachine("swap", saidOf(answer).pop() || "");
   return `Status ${answer.status}: ${saidOf(answer).pop() || answer.line.replace(/^vmrun: /, "")}`;
 }
 
