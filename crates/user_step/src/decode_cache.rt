@@ -1,26 +1,29 @@
 //! A cache of decoded instructions, each beside the bytes that it was decoded from.
-ghost use Rattle.std.specs.Prelude.{◌≡◌, ◌≤◌, [], Some, Ok, IfSome, take};
+ghost use Rattle.std.specs.Prelude.{◌≡◌, ◌≤◌, [], true, false, Some, Ok, IfSome, take};
 ghost use Rattle.vax_code.specs.declared.instr.Decoded.TheVariants.{Is};
 ghost use Rattle.vax_code.specs.Reading.{decoded};
 ghost use Rattle.vax_code.specs.Table.{row_for};
 ghost use Rattle.vax_code.specs.declared.instr.Operand.TheVariants.{Literal};
 ghost use Rattle.vax_code.specs.Valid.{IsOperand};
+ghost use Rattle.vax_execute.specs.Plain.{is_at_hand, is_plain, is_push};
 ghost use Rattle.user_vax.specs.Program.{run};
 ghost use Rattle.user_vax.specs.Instruction.{fetch};
 ghost use Rattle.user_step.specs.OneProof.{IsOperand-prop};
 
 use vax_code::{Front, Instr, Row, decode_into, row_of};
+use vax_execute::stays_in_registers;
 use vm_facts::Memory;
 
 /// It holds so many instructions.
 const PLACES: usize = 512;
 
-/// An instruction with its row of the instruction table, and sixteen bytes that begin with it.
+/// An instruction with its row of the instruction table, and sixteen bytes that begin with it. It is known whether it stays in registers.
 #[derive(Clone, Copy)]
 pub struct Decoding {
     bytes: [u8; 16],
     pub instr: Instr,
     pub row: Row,
+    pub stays: bool,
     ghost decodes: { decoded bytes ≡ Is instr },
     ghost listed: { row_for instr.op ≡ Some row },
 
@@ -31,6 +34,13 @@ pub struct Decoding {
     ghost no_first: { instr.count ≤ 0 → instr.a ≡ Literal 0 },
     ghost no_second: { instr.count ≤ 1 → instr.b ≡ Literal 0 },
     ghost no_third: { instr.count ≤ 2 → instr.c ≡ Literal 0 },
+
+    // Together these say `StaysInRegisters` of one that stays there.
+    ghost plain: { stays ≡ true → is_plain row.name ≡ true },
+    ghost pushes_none: { stays ≡ true → is_push row.name ≡ false },
+    ghost first_at_hand: { stays ≡ true → is_at_hand instr.a ≡ true },
+    ghost second_at_hand: { stays ≡ true → is_at_hand instr.b ≡ true },
+    ghost third_at_hand: { stays ≡ true → is_at_hand instr.c ≡ true },
 }
 
 /// A cache of decoded instructions, so that those of a loop are decoded once. An instruction has its place in it by the low bits of
@@ -45,10 +55,12 @@ fn decode(bytes: &[u8; 16]) -> Option<Decoding> {
     let mut instr = Instr::blank();
     decode_into(&mut Front::of(bytes), &mut instr).ok()?;
     let row = row_of(instr.op)?;
+    let stays = stays_in_registers(row.name, &instr);
     Some(Decoding {
         bytes: *bytes,
         instr,
         row,
+        stays,
     })
 }
 

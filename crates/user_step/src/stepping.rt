@@ -1,19 +1,21 @@
-ghost use Rattle.std.specs.Prelude.{◌≡◌, [], true, false, IfOk, OnOk, Some, Ok, Err};
+ghost use Rattle.std.specs.Prelude.{◌≡◌, [], true, false, IfOk, OnOk, Some, Result, Ok, Err};
 ghost use Rattle.vax_code.specs.Table.{row_for};
 ghost use Rattle.vax_code.specs.Valid.{HasOperands};
 ghost use Rattle.user_vax.specs.Program.{run};
 ghost use Rattle.user_step.specs.Code.{reads_from};
 ghost use Rattle.user_vax.specs.Instruction.{fetch, instruction, answer_of, registers_after, writes_of};
+ghost use Rattle.user_vax.specs.Effects.{Effect, registers_only};
 ghost use Rattle.user_vax.specs.Operands.{register};
+ghost use Rattle.user_vax.specs.declared.refused.Refused.{Refused};
 ghost use Rattle.vax_execute.specs.Outcomes.{HasPlaces, calls_procedure};
 ghost use Rattle.user_step.specs.Tried.{LeavesInstr, Prepares, CarriesOut, completion, registers_tried};
 
 use crate::code::{Code, decode_first};
 use crate::commit::{put_all, put_one, test_all, test_one};
-use crate::decode_cache::DecodeCache;
+use crate::decode_cache::{DecodeCache, Decoding};
 use user_vax::{Refused, SIGILL, Stepped, read_byte};
 use vax_code::{Fault, Instr, Row, decode_into, row_of};
-use vax_execute::{Outcome, Pushes, Ready, call, compute, evaluate_all};
+use vax_execute::{Outcome, Pushes, Ready, call, compute, evaluate_all, execute_in_registers};
 use vm_facts::{Memory, Regs};
 
 /// Reads bytes from an address on, one more than an instruction has.
@@ -89,35 +91,6 @@ fn prepare<M: Memory>(memory: &M, regs: &mut Regs) -> Result<Ready, Refused>
     prepare_fetched(memory, regs, &row, &instr)
 }
 
-/// The same, by what is in the cache.
-fn prepare_cached<M: Memory>(
-    cache: &mut DecodeCache,
-    memory: &M,
-    regs: &mut Regs,
-) -> Result<Ready, Refused>
-    ensures value { Prepares (M.answers memory.now) result regs.new (run (M.answers memory.now) (instruction regs.old)) }
-    ensures places { IfOk result HasPlaces }
-{
-    match cache.find(memory, regs.r[15]) {
-        Some(decoding) => prepare_fetched(memory, regs, &decoding.row, &decoding.instr),
-        None => prepare_anew(cache, memory, regs),
-    }
-}
-
-/// The same where it isn't there, but will be.
-#[inline(never)]
-fn prepare_anew<M: Memory>(
-    cache: &mut DecodeCache,
-    memory: &M,
-    regs: &mut Regs,
-) -> Result<Ready, Refused>
-    ensures value { Prepares (M.answers memory.now) result regs.new (run (M.answers memory.now) (instruction regs.old)) }
-    ensures places { IfOk result HasPlaces }
-{
-    cache.enter(memory, regs.r[15]);
-    prepare(memory, regs)
-}
-
 /// Carries an instruction out from its operands on, where it may write all that it does. The registers are those after the
 /// operands; those that it leaves take their place, which are worth nothing where it is refused.
 #[tactic(auto, using(user_vax::proofs::Runs::run_bind), unfolding(crate::specs::Tried::completion, user_vax::specs::Instruction::tested_effect))]
@@ -178,16 +151,17 @@ fn try_step<M: Memory>(regs: &mut Regs, memory: &mut M) -> Result<Option<i32>, R
     finish(memory, regs, &ready)
 }
 
-/// The same, by what is in the cache.
-fn try_step_cached<M: Memory>(
-    cache: &mut DecodeCache,
+/// The same of an instruction that is decoded.
+fn try_decoded<M: Memory>(
+    decoding: &Decoding,
     regs: &mut Regs,
     memory: &mut M,
 ) -> Result<Option<i32>, Refused>
+    requires { run (M.answers memory.old) (fetch 20 (register regs.old 15) []) ≡ Ok decoding.now.instr }
     ensures carried { CarriesOut result regs.new (run (M.answers memory.old) (instruction regs.old)) }
     ensures wrote { M.wrote memory.old (writes_of (run (M.answers memory.old) (instruction regs.old))) memory.new }
 {
-    let ready = prepare_cached(cache, memory, regs)?;
+    let ready = prepare_fetched(memory, regs, &decoding.row, &decoding.instr)?;
     finish(memory, regs, &ready)
 }
 
@@ -202,6 +176,51 @@ fn refusal(refused: Refused) -> Stepped
     }
 }
 
+/// What is told of an instruction that was tried. The registers become those before where it was refused.
+fn settle(tried: Result<Option<i32>, Refused>, before: &Regs, regs: &mut Regs) -> Stepped
+    ensures answer { (wanted : Result Effect Refused) → CarriesOut tried regs.old wanted → result ≡ answer_of wanted }
+    ensures registers { (wanted : Result Effect Refused) → CarriesOut tried regs.old wanted → regs.new ≡ registers_after before.now wanted }
+{
+    match tried {
+        Ok(None) => Stepped::Done,
+        Ok(Some(number)) => Stepped::Call(number),
+        Err(refused) => {
+            *regs = *before;
+            refusal(refused)
+        }
+    }
+}
+
+/// The same, but that the registers become those before after a call too.
+fn settle_unless_call(
+    tried: Result<Option<i32>, Refused>,
+    before: &Regs,
+    regs: &mut Regs,
+) -> Stepped
+    ensures answer { (wanted : Result Effect Refused) → CarriesOut tried regs.old wanted → result ≡ answer_of wanted }
+    ensures registers { (wanted : Result Effect Refused) → CarriesOut tried regs.old wanted → regs.new ≡ registers_tried result before.now wanted }
+{
+    match tried {
+        Ok(None) => Stepped::Done,
+        Ok(Some(number)) => {
+            *regs = *before;
+            Stepped::Call(number)
+        }
+        Err(Refused::Miss { address, write }) => {
+            *regs = *before;
+            Stepped::Miss { address, write }
+        }
+        Err(Refused::Below { address }) => {
+            *regs = *before;
+            Stepped::Below { address }
+        }
+        Err(Refused::Signal(number)) => {
+            *regs = *before;
+            Stepped::Signal(number)
+        }
+    }
+}
+
 /// Runs one instruction: the one that PC names, by this project's profile of the VAX. `Done` and `Call`
 /// come where every byte that it reads or writes is there. `Miss` and `Below` name the first byte, in the
 /// order of its accesses, for which the memory answered so. After `Miss`, `Below` and `Signal` the
@@ -212,14 +231,43 @@ pub fn step<M: Memory>(regs: &mut Regs, memory: &mut M) -> Stepped
     ensures wrote { M.wrote memory.old (writes_of (run (M.answers memory.old) (instruction regs.old))) memory.new }
 {
     let before = *regs;
-    match try_step(regs, memory) {
-        Ok(None) => Stepped::Done,
-        Ok(Some(number)) => Stepped::Call(number),
-        Err(refused) => {
-            *regs = before;
-            refusal(refused)
-        }
-    }
+    let tried = try_step(regs, memory);
+    settle(tried, &before, regs)
+}
+
+/// Carries out an instruction that is decoded and stays in registers.
+#[inline(always)]
+#[tactic(auto, using(user_vax::proofs::Runs::run_bind), unfolding(user_vax::specs::Instruction::instruction))]
+fn step_in_registers<M: Memory>(decoding: &Decoding, regs: &mut Regs, memory: &M)
+    requires fetched { run (M.answers memory.now) (fetch 20 (register regs.old 15) []) ≡ Ok decoding.now.instr }
+    requires stays { decoding.now.stays ≡ true }
+    ensures { run (M.answers memory.now) (instruction regs.old) ≡ Ok (registers_only regs.new) }
+{
+    execute_in_registers(regs, &decoding.row, &decoding.instr);
+}
+
+/// Runs one instruction, which is decoded.
+#[inline(never)]
+fn step_decoded<M: Memory>(decoding: &Decoding, regs: &mut Regs, memory: &mut M) -> Stepped
+    requires { run (M.answers memory.old) (fetch 20 (register regs.old 15) []) ≡ Ok decoding.now.instr }
+    ensures answer { result ≡ answer_of (run (M.answers memory.old) (instruction regs.old)) }
+    ensures registers { regs.new ≡ registers_after regs.old (run (M.answers memory.old) (instruction regs.old)) }
+    ensures wrote { M.wrote memory.old (writes_of (run (M.answers memory.old) (instruction regs.old))) memory.new }
+{
+    let before = *regs;
+    let tried = try_decoded(decoding, regs, memory);
+    settle(tried, &before, regs)
+}
+
+/// Runs one instruction that isn't in the cache, but will be.
+#[inline(never)]
+fn step_anew<M: Memory>(cache: &mut DecodeCache, regs: &mut Regs, memory: &mut M) -> Stepped
+    ensures answer { result ≡ answer_of (run (M.answers memory.old) (instruction regs.old)) }
+    ensures registers { regs.new ≡ registers_after regs.old (run (M.answers memory.old) (instruction regs.old)) }
+    ensures wrote { M.wrote memory.old (writes_of (run (M.answers memory.old) (instruction regs.old))) memory.new }
+{
+    cache.enter(memory, regs.r[15]);
+    step(regs, memory)
 }
 
 /// Runs one instruction, as `step` does. One that is in the cache isn't decoded anew, and another one is entered.
@@ -228,15 +276,48 @@ pub fn step_cached<M: Memory>(cache: &mut DecodeCache, regs: &mut Regs, memory: 
     ensures registers { regs.new ≡ registers_after regs.old (run (M.answers memory.old) (instruction regs.old)) }
     ensures wrote { M.wrote memory.old (writes_of (run (M.answers memory.old) (instruction regs.old))) memory.new }
 {
-    let before = *regs;
-    match try_step_cached(cache, regs, memory) {
-        Ok(None) => Stepped::Done,
-        Ok(Some(number)) => Stepped::Call(number),
-        Err(refused) => {
-            *regs = before;
-            refusal(refused)
-        }
+    let Some(decoding) = cache.find(memory, regs.r[15]) else {
+        return step_anew(cache, regs, memory);
+    };
+    if decoding.stays {
+        step_in_registers(decoding, regs, memory);
+        return Stepped::Done;
     }
+    step_decoded(decoding, regs, memory)
+}
+
+/// Runs one instruction, which is decoded, but for one that makes a call.
+#[inline(never)]
+fn step_decoded_unless_call<M: Memory>(
+    decoding: &Decoding,
+    regs: &mut Regs,
+    memory: &mut M,
+) -> Stepped
+    requires { run (M.answers memory.old) (fetch 20 (register regs.old 15) []) ≡ Ok decoding.now.instr }
+    ensures answer { result ≡ answer_of (run (M.answers memory.old) (instruction regs.old)) }
+    ensures registers { regs.new ≡ registers_tried result regs.old (run (M.answers memory.old) (instruction regs.old)) }
+    ensures wrote { M.wrote memory.old (writes_of (run (M.answers memory.old) (instruction regs.old))) memory.new }
+{
+    let before = *regs;
+    let tried = try_decoded(decoding, regs, memory);
+    settle_unless_call(tried, &before, regs)
+}
+
+/// Runs one instruction that isn't in the cache, but will be; but for one that makes a call.
+#[inline(never)]
+fn step_anew_unless_call<M: Memory>(
+    cache: &mut DecodeCache,
+    regs: &mut Regs,
+    memory: &mut M,
+) -> Stepped
+    ensures answer { result ≡ answer_of (run (M.answers memory.old) (instruction regs.old)) }
+    ensures registers { regs.new ≡ registers_tried result regs.old (run (M.answers memory.old) (instruction regs.old)) }
+    ensures wrote { M.wrote memory.old (writes_of (run (M.answers memory.old) (instruction regs.old))) memory.new }
+{
+    cache.enter(memory, regs.r[15]);
+    let before = *regs;
+    let tried = try_step(regs, memory);
+    settle_unless_call(tried, &before, regs)
 }
 
 /// Runs one instruction, as `step_cached` does, but for one that makes a call: after it the registers are as before too.
@@ -249,24 +330,12 @@ pub fn step_unless_call<M: Memory>(
     ensures registers { regs.new ≡ registers_tried result regs.old (run (M.answers memory.old) (instruction regs.old)) }
     ensures wrote { M.wrote memory.old (writes_of (run (M.answers memory.old) (instruction regs.old))) memory.new }
 {
-    let before = *regs;
-    match try_step_cached(cache, regs, memory) {
-        Ok(None) => Stepped::Done,
-        Ok(Some(number)) => {
-            *regs = before;
-            Stepped::Call(number)
-        }
-        Err(Refused::Miss { address, write }) => {
-            *regs = before;
-            Stepped::Miss { address, write }
-        }
-        Err(Refused::Below { address }) => {
-            *regs = before;
-            Stepped::Below { address }
-        }
-        Err(Refused::Signal(number)) => {
-            *regs = before;
-            Stepped::Signal(number)
-        }
+    let Some(decoding) = cache.find(memory, regs.r[15]) else {
+        return step_anew_unless_call(cache, regs, memory);
+    };
+    if decoding.stays {
+        step_in_registers(decoding, regs, memory);
+        return Stepped::Done;
     }
+    step_decoded_unless_call(decoding, regs, memory)
 }

@@ -1,3 +1,4 @@
 pub mod Pushing
 pub mod Saving
 pub mod Restoring
+pub mod Fresh

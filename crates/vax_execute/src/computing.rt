@@ -1,4 +1,4 @@
-ghost use Rattle.std.specs.Prelude.{◌≡◌, false, ◌^◌, ◌%◌, ◌-◌, ℕ, Some, OnOk};
+ghost use Rattle.std.specs.Prelude.{◌≡◌, false, ◌^◌, ◌%◌, ◌-◌, ℕ, true, Some, Ok, OnOk};
 ghost use Rattle.std.specs.Int.{w16, cast_signed};
 ghost use Rattle.vm_facts.specs.Answers.{Answers};
 ghost use Rattle.user_vax.specs.Program.{run};
@@ -6,6 +6,7 @@ ghost use Rattle.user_vax.specs.Computation.{computation};
 ghost use Rattle.user_vax.specs.Effects.{division, complement};
 ghost use Rattle.user_vax.specs.Operands.{IsPlace};
 ghost use Rattle.vax_execute.specs.Outcomes.{IsFresh, IsOutcome, HasPlaces, effect_of, calls_procedure, ComesTo};
+ghost use Rattle.vax_execute.specs.Plain.{LiesOutside, is_plain, is_push};
 
 use crate::byte::{decrement_byte, increment_byte, low_byte, narrow, widen};
 use crate::effect::{count, enter, jump_if, move_to, push_moved, store_result, test_to};
@@ -19,26 +20,32 @@ use vax_alu::{add, compare, div, mul, neg, shift, sub};
 use vax_code::Name;
 use vm_facts::{Memory, Regs};
 
-/// What an instruction computes from its operands.
+/// Whether an instruction isn't refused once its operands are evaluated, reads no more of memory, and makes no call.
+#[inline(always)]
+pub fn is_plain(name: Name) -> bool
+    ensures { result ≡ is_plain name }
+{
+    !matches!(
+        name,
+        Name::Ret | Name::Rsb | Name::Chmk | Name::Divl2 | Name::Divl3 | Name::Callg | Name::Calls
+    )
+}
+
+/// What a plain instruction computes from its operands.
+#[inline(always)]
 #[tactic(auto, unfolding(user_vax::specs::Computation::computation))]
-pub fn compute<M: Memory>(
-    memory: &M,
-    regs: &mut Regs,
-    outcome: &mut Outcome,
-    ready: &Ready,
-) -> Result<(), Refused>
+pub fn compute_plain(regs: &mut Regs, outcome: &mut Outcome, ready: &Ready)
     requires fresh { IsFresh outcome.old }
     requires places { HasPlaces ready.now }
-    requires no_frame { calls_procedure ready.now.name ≡ false }
-    ensures value { ComesTo result (effect_of regs.new outcome.new)
-        (run (M.answers memory.now) (computation ready.now.name regs.old ready.now.a ready.now.b ready.now.c)) }
-    ensures sound { OnOk result (IsOutcome outcome.new) }
+    requires plain { is_plain ready.now.name ≡ true }
+    ensures value { (memory : Answers)
+        → run memory (computation ready.now.name regs.old ready.now.a ready.now.b ready.now.c) ≡ Ok (effect_of regs.new outcome.new) }
+    ensures sound { IsOutcome outcome.new }
+    ensures unwritten { is_push ready.now.name ≡ false → LiesOutside ready.now → IsFresh outcome.new }
 {
     let (a, b, c) = (&ready.a, &ready.b, &ready.c);
     match ready.name {
         Name::Nop => {},
-        Name::Ret => return return_from_procedure(memory, regs),
-        Name::Rsb => return return_from_subroutine(memory, regs),
         Name::Bsbb | Name::Bsbw | Name::Jsb => enter(regs, outcome, a.value),
         Name::Brb | Name::Brw | Name::Jmp => regs.r[15] = a.value,
         Name::Bneq => jump_if(regs, !regs.z, a.value),
@@ -66,15 +73,12 @@ pub fn compute<M: Memory>(
         Name::Tstb => set_test_codes(regs, 1, a.value),
         Name::Tstl => set_test_codes(regs, 4, a.value),
         Name::Pushab | Name::Pushal | Name::Pushl => push_moved(regs, outcome, a.value),
-        Name::Chmk => call(outcome, a.value),
         Name::Addl2 => store_result(regs, outcome, 4, &b.place, add(b.value, a.value)),
         Name::Addl3 => store_result(regs, outcome, 4, &c.place, add(b.value, a.value)),
         Name::Subl2 => store_result(regs, outcome, 4, &b.place, sub(b.value, a.value)),
         Name::Subl3 => store_result(regs, outcome, 4, &c.place, sub(b.value, a.value)),
         Name::Mull2 => store_result(regs, outcome, 4, &b.place, mul(b.value, a.value)),
         Name::Mull3 => store_result(regs, outcome, 4, &c.place, mul(b.value, a.value)),
-        Name::Divl2 => return divide(regs, outcome, &b.place, b.value, a.value),
-        Name::Divl3 => return divide(regs, outcome, &c.place, b.value, a.value),
         Name::Ashl => store_result(
             regs,
             outcome,
@@ -97,7 +101,6 @@ pub fn compute<M: Memory>(
         Name::Incl => store_result(regs, outcome, 4, &a.place, add(a.value, 1)),
         Name::Decb => store_result(regs, outcome, 1, &a.place, decrement_byte(a.value)),
         Name::Decl => store_result(regs, outcome, 4, &a.place, sub(a.value, 1)),
-        Name::Callg | Name::Calls => unreachable!(),
         Name::Blbs => jump_if(regs, a.value % 2 == 1, b.value),
         Name::Blbc => jump_if(regs, a.value % 2 == 0, b.value),
         Name::Aoblss => {
@@ -118,8 +121,59 @@ pub fn compute<M: Memory>(
             let sum = sub(a.value, 1);
             count(regs, outcome, &a.place, sum, !(sum.n || sum.z), b.value)
         }
+        _ => unreachable!(),
+    }
+}
+
+/// What an instruction that isn't plain computes from its operands.
+#[inline(never)]
+#[tactic(auto, unfolding(user_vax::specs::Computation::computation))]
+fn compute_special<M: Memory>(
+    memory: &M,
+    regs: &mut Regs,
+    outcome: &mut Outcome,
+    ready: &Ready,
+) -> Result<(), Refused>
+    requires fresh { IsFresh outcome.old }
+    requires places { HasPlaces ready.now }
+    requires no_frame { calls_procedure ready.now.name ≡ false }
+    requires special { is_plain ready.now.name ≡ false }
+    ensures value { ComesTo result (effect_of regs.new outcome.new)
+        (run (M.answers memory.now) (computation ready.now.name regs.old ready.now.a ready.now.b ready.now.c)) }
+    ensures sound { OnOk result (IsOutcome outcome.new) }
+{
+    let (a, b, c) = (&ready.a, &ready.b, &ready.c);
+    match ready.name {
+        Name::Ret => return return_from_procedure(memory, regs),
+        Name::Rsb => return return_from_subroutine(memory, regs),
+        Name::Chmk => call(outcome, a.value),
+        Name::Divl2 => return divide(regs, outcome, &b.place, b.value, a.value),
+        Name::Divl3 => return divide(regs, outcome, &c.place, b.value, a.value),
+        _ => unreachable!(),
     }
     Ok(())
+}
+
+/// What an instruction computes from its operands.
+pub fn compute<M: Memory>(
+    memory: &M,
+    regs: &mut Regs,
+    outcome: &mut Outcome,
+    ready: &Ready,
+) -> Result<(), Refused>
+    requires fresh { IsFresh outcome.old }
+    requires places { HasPlaces ready.now }
+    requires no_frame { calls_procedure ready.now.name ≡ false }
+    ensures value { ComesTo result (effect_of regs.new outcome.new)
+        (run (M.answers memory.now) (computation ready.now.name regs.old ready.now.a ready.now.b ready.now.c)) }
+    ensures sound { OnOk result (IsOutcome outcome.new) }
+{
+    if is_plain(ready.name) {
+        compute_plain(regs, outcome, ready);
+        Ok(())
+    } else {
+        compute_special(memory, regs, outcome, ready)
+    }
 }
 
 /// Each bit turned.

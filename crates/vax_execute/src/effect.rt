@@ -1,7 +1,8 @@
-ghost use Rattle.std.specs.Prelude.{◌≡◌};
+ghost use Rattle.std.specs.Prelude.{◌≡◌, false};
 ghost use Rattle.user_vax.specs.Effects.{registers_only, with_move_codes, with_test_codes, store_effect, move_effect, result_effect, jump_effect, count_effect, entry_effect, push_effect};
 ghost use Rattle.user_vax.specs.Operands.{IsPlace};
 ghost use Rattle.vax_execute.specs.Outcomes.{IsFresh, IsSize, IsOutcome, effect_of};
+ghost use Rattle.vax_execute.specs.Plain.{is_in_memory};
 
 use crate::outcome::{Outcome, Write};
 use crate::registers::{set_codes, set_move_codes, set_register, set_test_codes};
@@ -18,6 +19,7 @@ pub fn store(regs: &mut Regs, outcome: &mut Outcome, size: u8, place: &Place, va
     requires size { IsSize size }
     ensures effect { effect_of regs.new outcome.new ≡ store_effect regs.old size place.now value }
     ensures sound { IsOutcome outcome.new }
+    ensures unwritten { is_in_memory place.now ≡ false → IsFresh outcome.new }
 {
     match place {
         Place::Nowhere => {}
@@ -46,6 +48,7 @@ pub fn move_to(regs: &mut Regs, outcome: &mut Outcome, size: u8, place: &Place, 
     requires size { IsSize size }
     ensures effect { effect_of regs.new outcome.new ≡ move_effect regs.old size place.now value }
     ensures sound { IsOutcome outcome.new }
+    ensures unwritten { is_in_memory place.now ≡ false → IsFresh outcome.new }
 {
     set_move_codes(regs, size, value);
     store(regs, outcome, size, place, value);
@@ -58,6 +61,7 @@ pub fn test_to(regs: &mut Regs, outcome: &mut Outcome, place: &Place, value: u32
     requires place { IsPlace place.now }
     ensures effect { effect_of regs.new outcome.new ≡ store_effect (with_test_codes regs.old 4 value) 4 place.now value }
     ensures sound { IsOutcome outcome.new }
+    ensures unwritten { is_in_memory place.now ≡ false → IsFresh outcome.new }
 {
     set_test_codes(regs, 4, value);
     store(regs, outcome, 4, place, value);
@@ -71,6 +75,7 @@ pub fn store_result(regs: &mut Regs, outcome: &mut Outcome, size: u8, place: &Pl
     requires size { IsSize size }
     ensures effect { effect_of regs.new outcome.new ≡ result_effect regs.old size place.now sum }
     ensures sound { IsOutcome outcome.new }
+    ensures unwritten { is_in_memory place.now ≡ false → IsFresh outcome.new }
 {
     set_codes(regs, sum);
     store(regs, outcome, size, place, sum.value);
@@ -99,6 +104,7 @@ pub fn count(
     requires place { IsPlace place.now }
     ensures effect { effect_of regs.new outcome.new ≡ count_effect regs.old place.now sum test target }
     ensures sound { IsOutcome outcome.new }
+    ensures unwritten { is_in_memory place.now ≡ false → IsFresh outcome.new }
 {
     regs.n = sum.n;
     regs.z = sum.z;
@@ -110,6 +116,7 @@ pub fn count(
 }
 
 /// The call of a subroutine.
+#[inline(always)]
 pub fn enter(regs: &mut Regs, outcome: &mut Outcome, target: u32)
     requires { IsFresh outcome.old }
     ensures effect { effect_of regs.new outcome.new ≡ entry_effect regs.old target }
@@ -121,6 +128,7 @@ pub fn enter(regs: &mut Regs, outcome: &mut Outcome, target: u32)
 }
 
 /// A longword to the stack.
+#[inline(always)]
 pub fn push(regs: &mut Regs, outcome: &mut Outcome, value: u32)
     requires { IsFresh outcome.old }
     ensures effect { effect_of regs.new outcome.new ≡ push_effect regs.old value }
@@ -130,6 +138,7 @@ pub fn push(regs: &mut Regs, outcome: &mut Outcome, value: u32)
 }
 
 /// A longword to the stack, with the codes of its move.
+#[inline(always)]
 pub fn push_moved(regs: &mut Regs, outcome: &mut Outcome, value: u32)
     requires { IsFresh outcome.old }
     ensures effect { effect_of regs.new outcome.new ≡ push_effect (with_move_codes regs.old 4 value) value }

@@ -1,9 +1,11 @@
 //! Operands are evaluated.
-ghost use Rattle.std.specs.Prelude.{◌%◌, ◌≡◌, ◌<◌, ◌≤◌, ◌⊎◌, ℕ, false, IfOk, ◌^◌};
+ghost use Rattle.std.specs.Prelude.{◌%◌, ◌≡◌, ◌<◌, ◌≤◌, ◌⊎◌, ℕ, true, false, IfOk, Ok, ◌^◌};
+ghost use Rattle.vm_facts.specs.Answers.{Answers};
 ghost use Rattle.user_vax.specs.Program.{run};
 ghost use Rattle.user_vax.specs.Instruction.{evaluations};
 ghost use Rattle.user_vax.specs.Operands.{IsPlace, register, with_register, address_of, evaluation_at, evaluation_through, evaluation};
 ghost use Rattle.vax_execute.specs.Outcomes.{HasPlaces, LeavesOperands, LeavesWith};
+ghost use Rattle.vax_execute.specs.Plain.{is_at_hand, is_in_memory};
 ghost use Rattle.vm_facts.specs.declared.regs.Regs.{Regs};
 ghost use Rattle.vax_code.specs.declared.instr.Operand.TheVariants.{Indexed, Literal};
 ghost use Rattle.vax_code.specs.Valid.{HasOperands, IsBase, IsOperand};
@@ -109,6 +111,38 @@ fn evaluate_indexed<M: Memory>(
     evaluate_at(memory, slot, address.wrapping_add(offset))
 }
 
+/// An operand that is a number, a register or a branch target, evaluated. No register changes.
+#[inline(always)]
+#[tactic(auto, unfolding(user_vax::specs::Operands::evaluation))]
+pub fn evaluate_at_hand(slot: Slot, regs: &Regs, operand: &Operand) -> Evaluated
+    requires operand { IsOperand operand.now }
+    requires at_hand { is_at_hand operand.now ≡ true }
+    requires size { (slot.size ≡ 1) ⊎ (slot.size ≡ 2) ⊎ (slot.size ≡ 4) }
+    ensures value { (memory : Answers) → run memory (evaluation slot regs.now operand.now) ≡ Ok (regs.now, result) }
+    ensures place { IsPlace result.place }
+    ensures outside { is_in_memory result.place ≡ false }
+{
+    match operand {
+        Operand::Literal(value) => Evaluated {
+            value: u32::from(*value),
+            place: Place::Nowhere,
+        },
+        Operand::Immediate(value) => Evaluated {
+            value: *value,
+            place: Place::Nowhere,
+        },
+        Operand::Register(reg) => Evaluated {
+            value: low_bytes(regs.r[*reg as usize], slot.size),
+            place: Place::Register(*reg),
+        },
+        Operand::Branch(by) => Evaluated {
+            value: regs.r[15].wrapping_add_signed(*by),
+            place: Place::Nowhere,
+        },
+        _ => unreachable!(),
+    }
+}
+
 /// The operand evaluated; the registers become those after it.
 #[inline(always)]
 #[tactic(auto, using(user_vax::proofs::Runs::run_bind), unfolding(user_vax::specs::Operands::evaluation))]
@@ -124,28 +158,8 @@ fn evaluate<M: Memory>(
     ensures place { IfOk result (λ x. IsPlace x.place) }
 {
     let base = match operand {
-        Operand::Literal(value) => {
-            return Ok(Evaluated {
-                value: u32::from(*value),
-                place: Place::Nowhere,
-            });
-        }
-        Operand::Immediate(value) => return Ok(Evaluated {
-            value: *value,
-            place: Place::Nowhere,
-        }),
-        Operand::Register(reg) => {
-            return Ok(Evaluated {
-                value: low_bytes(regs.r[*reg as usize], slot.size),
-                place: Place::Register(*reg),
-            });
-        }
-        Operand::Branch(by) => {
-            return Ok(Evaluated {
-                value: regs.r[15].wrapping_add_signed(*by),
-                place: Place::Nowhere,
-            });
-        }
+        Operand::Literal(_) | Operand::Immediate(_) | Operand::Register(_) | Operand::Branch(_) =>
+            return Ok(evaluate_at_hand(slot, regs, operand)),
         Operand::Indexed { index, base } => {
             return evaluate_indexed(memory, slot, regs, *index, base);
         }

@@ -22,6 +22,7 @@ pub struct Outcome {
 
 impl Outcome {
     /// Pushes a longword, the one number that is written.
+    #[inline(always)]
     #[tactic(auto, unfolding(user_vax::specs::Effects::push_onto))]
     pub fn push(&mut self, regs: &mut Regs, value: u32)
         requires { IsFresh self.old }
@@ -38,6 +39,7 @@ impl Outcome {
     }
 
     /// Writes the one number.
+    #[inline(always)]
     pub fn write(&mut self, write: Write)
         requires fresh { IsFresh self.old }
         requires size { IsSize write.size }
