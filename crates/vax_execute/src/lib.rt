@@ -15,6 +15,7 @@ mod ready;
 mod registers;
 mod returning;
 mod stack;
+mod window;
 
 pub use calling::call;
 pub use computing::compute;
