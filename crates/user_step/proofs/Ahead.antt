@@ -15,7 +15,7 @@ use Rattle.vax_code.proofs.Law.{decoded_extends, decoded_stuck}
 use Rattle.user_vax.specs.declared.refused.Refused.TheVariants.{Signal}
 use Rattle.user_vax.specs.Signals.{sigill}
 use Rattle.user_vax.specs.Program.{run, after_test}
-use Rattle.user_vax.specs.Operands.{past}
+use Rattle.user_vax.specs.Operands.{past, back}
 use Rattle.user_vax.specs.Effects.{bytes_at}
 use Rattle.user_vax.specs.Instruction.{fetch, write_tests}
 use Rattle.user_vax.proofs.Numbers.{past-past, past-none}
@@ -90,9 +90,12 @@ tests_from memory (suc size) i count address value may within =
     ∙ ap (λ (a : ℕ). run memory (write_tests (bytes_at size a (value / 256)))) next
     ∙ tests_from memory size (suc i) count address (value / 256) may (omega (arith, within))
 
--- bytes that lie together may be written, where so many may
-pub tests_ahead : (memory : Answers) (size count address value : ℕ) → MayAhead memory address count → address < 2 ^ 32 → size ≤ count
-    → run memory (write_tests (bytes_at size address value)) ≡ Ok tt
-tests_ahead memory size count address value may small within =
-    ap (λ (a : ℕ). run memory (write_tests (bytes_at size a value))) (sym (past-none address small))
-    ∙ tests_from memory size 0 count address value may (omega (arith, within))
+past-back : (address from : ℕ) → address < 2 ^ 32 → from < 2 ^ 32 → past from (back address from) ≡ address
+past-back address from small low = grind arith
+
+-- bytes among those that lie together may be written, where these may
+pub tests_within : (memory : Answers) (size many from address value : ℕ) → MayAhead memory from many → address < 2 ^ 32 → from < 2 ^ 32
+    → back address from + size ≤ many → run memory (write_tests (bytes_at size address value)) ≡ Ok tt
+tests_within memory size many from address value may small low within =
+    ap (λ (a : ℕ). run memory (write_tests (bytes_at size a value))) (sym (past-back address from small low))
+    ∙ tests_from memory size (back address from) many from value may within

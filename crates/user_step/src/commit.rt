@@ -1,5 +1,6 @@
 ghost use Rattle.std.specs.Prelude.{OnOk, ◌≡◌, ℕ, ◌∷◌, [], ◌%◌};
 ghost use Rattle.std.specs.List.{All};
+ghost use Rattle.vm_facts.specs.Ahead.{MayAhead};
 ghost use Rattle.vm_facts.specs.Answers.{Answers, ByteWrite};
 ghost use Rattle.user_vax.specs.Program.{run, Gives, Tests};
 ghost use Rattle.user_vax.specs.Instruction.{write_tests};
@@ -29,10 +30,10 @@ fn test_byte<M: Memory>(memory: &M, address: u32) -> Result<(), Refused>
 
 /// The bytes of a number may be written, one byte after another.
 #[tactic(auto, using(user_vax::proofs::Runs::run_bind, user_vax::proofs::Tested::tested_may), unfolding(user_vax::specs::Instruction::write_tests, user_vax::specs::Effects::bytes_at))]
-fn test_bytes<M: Memory>(memory: &M, write: &Write) -> Result<(), Refused>
-    requires { IsSize write.now.size }
-    ensures value { result ≡ run (M.answers memory.now) (write_tests (bytes_of write.now)) }
-    ensures ready { OnOk result (IsReady (M.answers memory.now) write.now) }
+fn test_bytes<M: Memory>(memory: &M, write: Write) -> Result<(), Refused>
+    requires { IsSize write.size }
+    ensures value { result ≡ run (M.answers memory.now) (write_tests (bytes_of write)) }
+    ensures ready { OnOk result (IsReady (M.answers memory.now) write) }
 {
     let address = write.address;
     match write.size {
@@ -50,14 +51,16 @@ fn test_bytes<M: Memory>(memory: &M, write: &Write) -> Result<(), Refused>
     }
 }
 
-/// The bytes of a number may be written.
-#[tactic(auto, using(crate::proofs::Ahead::tests_ahead, user_vax::proofs::Tested::tested_may))]
-fn test_write<M: Memory>(memory: &M, write: &Write) -> Result<(), Refused>
-    requires { IsSize write.now.size }
-    ensures value { result ≡ run (M.answers memory.now) (write_tests (bytes_of write.now)) }
-    ensures ready { OnOk result (IsReady (M.answers memory.now) write.now) }
+/// The bytes of a number may be written. So many bytes from an address on may be, among which they may be.
+#[tactic(auto, using(crate::proofs::Ahead::tests_within, user_vax::proofs::Tested::tested_may))]
+fn test_within<M: Memory>(memory: &M, from: u32, many: u32, write: Write) -> Result<(), Refused>
+    requires size { IsSize write.size }
+    requires may { MayAhead (M.answers memory.now) from many }
+    ensures value { result ≡ run (M.answers memory.now) (write_tests (bytes_of write)) }
+    ensures ready { OnOk result (IsReady (M.answers memory.now) write) }
 {
-    if memory.writable_ahead(write.address) >= u32::from(write.size) {
+    let at = write.address.wrapping_sub(from);
+    if u64::from(at) + u64::from(write.size) <= u64::from(many) {
         return Ok(());
     }
     test_bytes(memory, write)
@@ -65,26 +68,30 @@ fn test_write<M: Memory>(memory: &M, write: &Write) -> Result<(), Refused>
 
 /// The number, if there is one, may be written.
 #[tactic(auto, unfolding(user_vax::specs::Instruction::write_tests))]
-pub fn test_one<M: Memory>(memory: &M, write: &Option<Write>) -> Result<(), Refused>
-    requires { HasSize write.now }
-    ensures value { result ≡ run (M.answers memory.now) (write_tests (bytes_in write.now)) }
-    ensures ready { OnOk result (IsOneReady (M.answers memory.now) write.now) }
+pub fn test_one<M: Memory>(memory: &M, write: Option<Write>) -> Result<(), Refused>
+    requires { HasSize write }
+    ensures value { result ≡ run (M.answers memory.now) (write_tests (bytes_in write)) }
+    ensures ready { OnOk result (IsOneReady (M.answers memory.now) write) }
 {
     match write {
         None => Ok(()),
-        Some(write) => test_write(memory, write),
+        Some(write) => {
+            let many = memory.writable_ahead(write.address);
+            test_within(memory, write.address, many, write)
+        }
     }
 }
 
-/// All these numbers may be written.
+/// All these numbers may be written. Those that lie together from an address on are tested at once.
 #[tactic(auto, using(crate::proofs::Writing::tests_more), unfolding(user_vax::specs::Instruction::write_tests))]
-pub fn test_all<M: Memory>(memory: &M, writes: &[Write]) -> Result<(), Refused>
+pub fn test_all<M: Memory>(memory: &M, from: u32, writes: &[Write]) -> Result<(), Refused>
     requires { All (λ write. IsSize write.size) writes.now }
     ensures value { result ≡ run (M.answers memory.now) (write_tests (all_bytes writes.now)) }
     ensures ready { OnOk result (All (IsReady (M.answers memory.now)) writes.now) }
 {
+    let many = memory.writable_ahead(from);
     for write in writes {
-        test_write(memory, write)?;
+        test_within(memory, from, many, *write)?;
     }
     Ok(())
 }
@@ -100,9 +107,9 @@ fn put_byte<M: Memory>(memory: &mut M, address: u32, byte: u8)
 
 /// Writes a number byte by byte, each of which may be written.
 #[tactic(auto, unfolding(user_vax::specs::Effects::bytes_at))]
-fn put_bytes<M: Memory>(memory: &mut M, write: &Write)
-    requires { IsReady (M.answers memory.old) write.now }
-    ensures wrote { M.wrote memory.old (bytes_of write.now) memory.new }
+fn put_bytes<M: Memory>(memory: &mut M, write: Write)
+    requires { IsReady (M.answers memory.old) write }
+    ensures wrote { M.wrote memory.old (bytes_of write) memory.new }
     ensures tests { (M.answers memory.new).may_write ≡ (M.answers memory.old).may_write }
 {
     let address = write.address;
@@ -125,9 +132,9 @@ fn put_bytes<M: Memory>(memory: &mut M, write: &Write)
 }
 
 /// Writes a number, each byte of which may be written.
-fn put_write<M: Memory>(memory: &mut M, write: &Write)
-    requires { IsReady (M.answers memory.old) write.now }
-    ensures wrote { M.wrote memory.old (bytes_of write.now) memory.new }
+fn put_write<M: Memory>(memory: &mut M, write: Write)
+    requires { IsReady (M.answers memory.old) write }
+    ensures wrote { M.wrote memory.old (bytes_of write) memory.new }
     ensures tests { (M.answers memory.new).may_write ≡ (M.answers memory.old).may_write }
 {
     let mut bytes = [0u8; 4];
@@ -138,9 +145,9 @@ fn put_write<M: Memory>(memory: &mut M, write: &Write)
 }
 
 /// Writes the number, if there is one.
-pub fn put_one<M: Memory>(memory: &mut M, write: &Option<Write>)
-    requires { IsOneReady (M.answers memory.old) write.now }
-    ensures { M.wrote memory.old (bytes_in write.now) memory.new }
+pub fn put_one<M: Memory>(memory: &mut M, write: Option<Write>)
+    requires { IsOneReady (M.answers memory.old) write }
+    ensures { M.wrote memory.old (bytes_in write) memory.new }
 {
     if let Some(write) = write {
         put_write(memory, write);
@@ -154,6 +161,6 @@ pub fn put_all<M: Memory>(memory: &mut M, writes: &[Write])
     ensures { M.wrote memory.old (all_bytes writes.now) memory.new }
 {
     for write in writes {
-        put_write(memory, write);
+        put_write(memory, *write);
     }
 }

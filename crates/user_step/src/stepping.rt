@@ -8,6 +8,7 @@ ghost use Rattle.user_vax.specs.Effects.{Effect, registers_only};
 ghost use Rattle.user_vax.specs.Operands.{register};
 ghost use Rattle.user_vax.specs.declared.refused.Refused.{Refused};
 ghost use Rattle.vax_execute.specs.Outcomes.{HasPlaces, calls_procedure};
+ghost use Rattle.vax_execute.specs.Plain.{is_plain};
 ghost use Rattle.user_step.specs.Tried.{LeavesInstr, Prepares, CarriesOut, completion, registers_tried};
 
 use crate::code::{Code, decode_first};
@@ -15,7 +16,10 @@ use crate::commit::{put_all, put_one, test_all, test_one};
 use crate::decode_cache::{DecodeCache, Decoding};
 use user_vax::{Refused, SIGILL, Stepped, read_byte};
 use vax_code::{Fault, Instr, Row, decode_into, row_of};
-use vax_execute::{Outcome, Pushes, Ready, call, compute, evaluate_all, execute_in_registers};
+use vax_execute::{
+    Outcome, Pushes, Ready, call, compute, compute_plain, evaluate_all, execute_in_registers,
+    is_plain,
+};
 use vm_facts::{Memory, Regs};
 
 /// Reads bytes from an address on, one more than an instruction has.
@@ -60,6 +64,7 @@ fn fetch<M: Memory>(memory: &M, pc: u32, into: &mut Instr) -> Result<(), Refused
 }
 
 /// An instruction that was fetched at PC, as far as its operands; the registers become those after them.
+#[inline(always)]
 #[tactic(auto, using(user_vax::proofs::Runs::run_bind), unfolding(user_vax::specs::Instruction::instruction, user_vax::specs::Instruction::execution_by, user_vax::specs::Instruction::execution, crate::specs::Tried::completion))]
 fn prepare_fetched<M: Memory>(
     memory: &M,
@@ -106,8 +111,8 @@ fn complete<M: Memory>(
 {
     let mut outcome = Outcome::none();
     compute(memory, regs, &mut outcome, ready)?;
-    test_one(memory, &outcome.write)?;
-    put_one(memory, &outcome.write);
+    test_one(memory, outcome.write)?;
+    put_one(memory, outcome.write);
     Ok(outcome.call)
 }
 
@@ -124,21 +129,60 @@ fn complete_call<M: Memory>(
 {
     let mut pushes = Pushes::none();
     call(memory, &mut pushes, regs, ready)?;
-    test_all(memory, pushes.written())?;
+    test_all(memory, regs.r[14], pushes.written())?;
     put_all(memory, pushes.written());
     Ok(None)
 }
 
+/// The same of a plain instruction.
+#[inline(always)]
+#[tactic(auto, using(user_vax::proofs::Runs::run_bind), unfolding(crate::specs::Tried::completion, user_vax::specs::Instruction::tested_effect))]
+fn complete_plain<M: Memory>(
+    memory: &mut M,
+    regs: &mut Regs,
+    ready: &Ready,
+) -> Result<Option<i32>, Refused>
+    requires places { HasPlaces ready.now }
+    requires plain { is_plain ready.now.name ≡ true }
+    ensures carried { CarriesOut result regs.new (run (M.answers memory.old) (completion ready.now regs.old)) }
+    ensures wrote { M.wrote memory.old (writes_of (run (M.answers memory.old) (completion ready.now regs.old))) memory.new }
+{
+    let mut outcome = Outcome::none();
+    compute_plain(regs, &mut outcome, ready);
+    test_one(memory, outcome.write)?;
+    put_one(memory, outcome.write);
+    Ok(outcome.call)
+}
+
+/// The same of an instruction that isn't plain.
+#[inline(never)]
+fn complete_special<M: Memory>(
+    memory: &mut M,
+    regs: &mut Regs,
+    ready: Ready,
+) -> Result<Option<i32>, Refused>
+    requires { HasPlaces ready }
+    ensures carried { CarriesOut result regs.new (run (M.answers memory.old) (completion ready regs.old)) }
+    ensures wrote { M.wrote memory.old (writes_of (run (M.answers memory.old) (completion ready regs.old))) memory.new }
+{
+    if ready.calls_procedure() {
+        complete_call(memory, regs, &ready)
+    } else {
+        complete(memory, regs, &ready)
+    }
+}
+
 /// The same of any instruction.
+#[inline(always)]
 fn finish<M: Memory>(memory: &mut M, regs: &mut Regs, ready: &Ready) -> Result<Option<i32>, Refused>
     requires { HasPlaces ready.now }
     ensures carried { CarriesOut result regs.new (run (M.answers memory.old) (completion ready.now regs.old)) }
     ensures wrote { M.wrote memory.old (writes_of (run (M.answers memory.old) (completion ready.now regs.old))) memory.new }
 {
-    if ready.calls_procedure() {
-        complete_call(memory, regs, ready)
+    if is_plain(ready.name) {
+        complete_plain(memory, regs, ready)
     } else {
-        complete(memory, regs, ready)
+        complete_special(memory, regs, *ready)
     }
 }
 
@@ -152,6 +196,7 @@ fn try_step<M: Memory>(regs: &mut Regs, memory: &mut M) -> Result<Option<i32>, R
 }
 
 /// The same of an instruction that is decoded.
+#[inline(always)]
 fn try_decoded<M: Memory>(
     decoding: &Decoding,
     regs: &mut Regs,

@@ -18,7 +18,7 @@ mod stack;
 mod window;
 
 pub use calling::call;
-pub use computing::compute;
+pub use computing::{compute, compute_plain, is_plain};
 pub use evaluating::evaluate_all;
 pub use outcome::{Outcome, Write};
 pub use plain::{execute_in_registers, stays_in_registers};
