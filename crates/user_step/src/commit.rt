@@ -52,6 +52,7 @@ fn test_bytes<M: Memory>(memory: &M, write: Write) -> Result<(), Refused>
 }
 
 /// The bytes of a number may be written. So many bytes from an address on may be, among which they may be.
+#[inline(always)]
 #[tactic(auto, using(crate::proofs::Ahead::tests_within, user_vax::proofs::Tested::tested_may))]
 fn test_within<M: Memory>(memory: &M, from: u32, many: u32, write: Write) -> Result<(), Refused>
     requires size { IsSize write.size }
@@ -67,6 +68,7 @@ fn test_within<M: Memory>(memory: &M, from: u32, many: u32, write: Write) -> Res
 }
 
 /// The number, if there is one, may be written.
+#[inline(always)]
 #[tactic(auto, unfolding(user_vax::specs::Instruction::write_tests))]
 pub fn test_one<M: Memory>(memory: &M, write: Option<Write>) -> Result<(), Refused>
     requires { HasSize write }
@@ -145,6 +147,7 @@ fn put_write<M: Memory>(memory: &mut M, write: Write)
 }
 
 /// Writes the number, if there is one.
+#[inline(always)]
 pub fn put_one<M: Memory>(memory: &mut M, write: Option<Write>)
     requires { IsOneReady (M.answers memory.old) write }
     ensures { M.wrote memory.old (bytes_in write) memory.new }

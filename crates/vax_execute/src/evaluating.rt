@@ -17,6 +17,7 @@ use vax_code::{Access, Base, Instr, Operand, Row, Slot};
 use vm_facts::{Memory, Regs};
 
 /// The address that a base names; the registers become those after it.
+#[inline(always)]
 #[tactic(auto, using(user_vax::proofs::Runs::run_bind), unfolding(user_vax::specs::Operands::address_of))]
 fn address_of<M: Memory>(memory: &M, regs: &mut Regs, size: u8, base: &Base) -> Result<u32, Refused>
     requires { IsBase base.now }
@@ -53,6 +54,7 @@ fn address_of<M: Memory>(memory: &M, regs: &mut Regs, size: u8, base: &Base) -> 
 }
 
 /// The operand in memory at an address.
+#[inline(always)]
 #[tactic(auto, using(user_vax::proofs::Runs::run_bind), unfolding(user_vax::specs::Operands::evaluation_at))]
 fn evaluate_at<M: Memory>(memory: &M, slot: Slot, address: u32) -> Result<Evaluated, Refused>
     requires { (slot.size ≡ 1) ⊎ (slot.size ≡ 2) ⊎ (slot.size ≡ 4) }
@@ -73,7 +75,7 @@ fn evaluate_at<M: Memory>(memory: &M, slot: Slot, address: u32) -> Result<Evalua
     }
 }
 
-#[inline(never)]
+#[inline(always)]
 #[tactic(auto, using(user_vax::proofs::Runs::run_bind), unfolding(user_vax::specs::Operands::evaluation_through))]
 fn evaluate_through<M: Memory>(
     memory: &M,
@@ -217,6 +219,7 @@ fn evaluate_place<M: Memory>(
 }
 
 /// The three operands, evaluated from left to right; the registers become those after them.
+#[inline(always)]
 #[tactic(auto, using(user_vax::proofs::Runs::run_bind), unfolding(user_vax::specs::Instruction::evaluations))]
 pub fn evaluate_all<M: Memory>(
     memory: &M,
