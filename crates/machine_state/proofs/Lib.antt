@@ -64,6 +64,8 @@ pub mod Knowing
 pub mod StepRuns
 pub mod ReclaimTies
 pub mod WriteStanding
+pub mod KeptEntry
+pub mod PageWrites
 pub mod Transfers
 pub mod Holding
 pub mod HoldingSteps

@@ -130,6 +130,7 @@ impl Machine {
     }
 
     // The bytes of a valid page of data or stack from a place on are written, at least one. The page's space stands at `index`.
+    // A page that was dirty keeps its entry and its frame's mark, which say so.
     fn write_bytes(&mut self, index: usize, page: Page, frame: u32, at: u32, bytes: &[u8])
         requires running { self.old.kernel.stopped ≡ false }
         requires own { IsOwnPage self.old.kernel.place index page }
@@ -140,6 +141,9 @@ impl Machine {
         ensures { WroteRun self.old self.new page at bytes.now }
     {
         let _frames = self.tables.core.frames();
+        if self.tables.core.is_dirty(frame) {
+            return self.tables.core.put_bytes(frame, at, bytes);
+        }
         self.tables.write_bytes(index, page, frame, at, bytes);
     }
 

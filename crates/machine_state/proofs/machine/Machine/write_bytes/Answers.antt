@@ -1,34 +1,75 @@
-use Rattle.std.proofs.Common.{◌≡◌, IsTrue, length, sym, ap, ◌∙◌, subst, arith, refl, rules}
-use Rattle.vm_facts.specs.declared.page.PageState.TheVariants.{Valid}
-use Rattle.core_map.specs.declared.slot.Slot.{Slot as Token}
-use Rattle.core_map.specs.Slots.{is_resident}
-use Rattle.page_model.specs.Placement.{state_of}
-use Rattle.page_model.specs.Ownership.{OwnsFrames}
+use Rattle.std.proofs.Common.{◌≡◌, true, sym, ◌∙◌, subst, arith}
+use Rattle.core_map.specs.Slots.{slot_at, is_slot_dirty}
 use Rattle.table_steps.specs.Tables.{Tables}
-use Rattle.table_steps.specs.View.{placement_of}
 use Rattle.table_steps.specs.Known.{Known}
-use Rattle.machine_state.specs.Fields.{HasRoom}
-use Rattle.table_steps.specs.Machine.{Standing, lists_of, kernel_by}
-use Rattle.table_steps.specs.UserMemory.{IsOwnPage, AreWhole, write_run}
-use Rattle.machine_state.proofs.Standings.{stands_now, runs_by, runs_within, holders_by}
-use Rattle.machine_state.proofs.HoldingSteps.{run_keeps}
-use Rattle.table_steps.proofs.Touches.{InFrame, in_frame}
-use Rattle.table_steps.proofs.WritesTogether.{CanWrite, CameTo, came_to}
-use Rattle.machine_state.proofs.WriteStanding.{run_standing}
-use Rattle.table_steps.proofs.UserFrames.{known_by, own_home, held_whole}
+use Rattle.table_steps.specs.Machine.{Standing, lists_of}
+use Rattle.table_steps.specs.Moves.{WroteBytes}
+use Rattle.table_steps.specs.UserMemory.{IsOwnPage}
+use Rattle.table_steps.proofs.Touches.{InFrame}
+use Rattle.table_steps.proofs.WritesTogether.{CanWrite}
+use Rattle.table_steps.proofs.UserFrames.{own_home}
+use Rattle.machine_state.specs.declared.machine.Machine.TheInside.{Inside}
+use Rattle.machine_state.proofs.PageWrites.{can_write, known_then, frame_then, resident_then, wrote_again, bytes_run, bytes_ran}
 use Rattle.machine_state.proofs.machine.Machine.write_bytes.Goals as goal
+
+pub is_dirty-requires : goal.is_dirty-requires
+is_dirty-requires c =
+    let m : Inside = c.self.inside in
+    let q = c.args.page in
+    let f = c.args.frame in
+    let can : CanWrite m.tables q f m.journal.items m.stopped =
+    can_write m c.args.self.now q f c.self.invariant c.self.view_is c.requires.running c.frames-frames.ensures.sound c.requires.valid c.requires.writable in
+    resident_then m.tables q f m.journal.items m.stopped can
+
+pub put_bytes-requires : goal.put_bytes-requires
+put_bytes-requires c =
+    let m : Inside = c.self.inside in
+    let q = c.args.page in
+    let f = c.args.frame in
+    let can : CanWrite m.tables q f m.journal.items m.stopped =
+    can_write m c.args.self.now q f c.self.invariant c.self.view_is c.requires.running c.frames-frames.ensures.sound c.requires.valid c.requires.writable in
+    record { resident = resident_then m.tables q f m.journal.items m.stopped can; within = c.requires.within }
+
+pub invariant_of-self : goal.invariant_of-self
+invariant_of-self c =
+    let m : Inside = c.self.inside in
+    let q = c.args.page in
+    let f = c.args.frame in
+    let bytes = c.args.bytes.now in
+    let u : Tables = record m.tables { core = c.put_bytes.new.self } in
+    let can : CanWrite m.tables q f m.journal.items m.stopped =
+    can_write m c.args.self.now q f c.self.invariant c.self.view_is c.requires.running c.frames-frames.ensures.sound c.requires.valid c.requires.writable in
+    let dirty : is_slot_dirty (slot_at m.tables.core.slots f) ≡ true = sym c.is_dirty.ensures ∙ c.if-is_dirty.true in
+    let wrote : WroteBytes m.tables u q f c.args.at bytes =
+    wrote_again m.tables c.put_bytes.new.self q f c.args.at bytes m.journal.items m.stopped can dirty c.put_bytes.ensures.free c.put_bytes.ensures.slots in
+    bytes_run m c.args.self.now u q f c.args.at bytes c.self.invariant c.self.view_is c.requires.running can c.requires.some wrote
+
+pub returns-then-is_dirty : goal.returns-then-is_dirty
+returns-then-is_dirty c =
+    let m : Inside = c.self.inside in
+    let q = c.args.page in
+    let f = c.args.frame in
+    let bytes = c.args.bytes.now in
+    let u : Tables = record m.tables { core = c.put_bytes.new.self } in
+    let can : CanWrite m.tables q f m.journal.items m.stopped =
+    can_write m c.args.self.now q f c.self.invariant c.self.view_is c.requires.running c.frames-frames.ensures.sound c.requires.valid c.requires.writable in
+    let dirty : is_slot_dirty (slot_at m.tables.core.slots f) ≡ true = sym c.is_dirty.ensures ∙ c.if-is_dirty.true in
+    let wrote : WroteBytes m.tables u q f c.args.at bytes =
+    wrote_again m.tables c.put_bytes.new.self q f c.args.at bytes m.journal.items m.stopped can dirty c.put_bytes.ensures.free c.put_bytes.ensures.slots in
+    bytes_ran m c.args.self.now u q f c.args.at bytes c.self.view_is can c.requires.valid c.requires.some c.requires.within wrote
 
 pub write_bytes-requires : goal.write_bytes-requires
 write_bytes-requires c =
-    let t : Tables = c.self.inside.tables in
-    let now = stands_now c.self.inside c.args.self.now c.self.invariant c.self.view_is c.requires.running in
-    let k : Known (lists_of t) = known_by t c.self.inside.journal.items c.self.inside.stopped c.frames-frames.ensures.sound now.stands in
-    let valid : state_of (placement_of (lists_of t)) c.args.page ≡ Valid c.args.frame =
-    subst (λ (s : Standing). state_of s.kernel.place c.args.page ≡ Valid c.args.frame) (sym c.self.view_is) c.requires.valid in
-    let i : InFrame (lists_of t) c.args.page c.args.frame = in_frame (lists_of t) c.args.page c.args.frame k valid in
+    let m : Inside = c.self.inside in
+    let q = c.args.page in
+    let f = c.args.frame in
+    let can : CanWrite m.tables q f m.journal.items m.stopped =
+    can_write m c.args.self.now q f c.self.invariant c.self.view_is c.requires.running c.frames-frames.ensures.sound c.requires.valid c.requires.writable in
+    let k : Known (lists_of m.tables) = known_then m.tables q f m.journal.items m.stopped can in
+    let i : InFrame (lists_of m.tables) q f = frame_then m.tables q f m.journal.items m.stopped can in
     record {
-      home = own_home (lists_of t) c.args.index c.args.page c.requires.writable (subst (λ (s : Standing). IsOwnPage s.kernel.place c.args.index c.args.page) (sym c.self.view_is) c.requires.own);
-      resident = subst (λ (s : Token). IsTrue (is_resident s)) (sym i.resident) refl;
+      home = own_home (lists_of m.tables) c.args.index q c.requires.writable (subst (λ (s : Standing). IsOwnPage s.kernel.place c.args.index q) (sym c.self.view_is) c.requires.own);
+      resident = resident_then m.tables q f m.journal.items m.stopped can;
       below = i.below;
       within = c.requires.within;
       above = i.above;
@@ -38,49 +79,20 @@ write_bytes-requires c =
           omega arith;
     }
 
-pub invariant_of-self : goal.invariant_of-self
-invariant_of-self c =
-    runs_within _ (runs_by c.self.inside c.args.self.now c.self.view_is c.requires.running) (λ _.
-    let t : Tables = c.self.inside.tables in
-    let now = stands_now c.self.inside c.args.self.now c.self.invariant c.self.view_is c.requires.running in
-    let can : CanWrite t c.args.page c.args.frame c.self.inside.journal.items c.self.inside.stopped = record {
-      core = c.frames-frames.ensures.sound;
-      stands = now.stands;
-      valid = subst (λ (s : Standing). state_of s.kernel.place c.args.page ≡ Valid c.args.frame) (sym c.self.view_is) c.requires.valid;
-      writable = c.requires.writable;
-    } in
-    let came : CameTo t c.write_bytes.new.self c.args.page c.args.frame c.args.at c.args.bytes.now c.self.inside.journal.items c.self.inside.stopped =
-    came_to t c.write_bytes.new.self c.args.page c.args.frame c.args.at c.args.bytes.now c.self.inside.journal.items c.self.inside.stopped can
-    (λ e. absurd (let none : length c.args.bytes.now ≡ 0 = ap length e in omega (arith, none, c.requires.some))) c.write_bytes.ensures in
-    record {
-      stands = came.stands;
-      holders = holders_by t c.write_bytes.new.self c.self.inside.journal.items c.self.inside.journal.items c.self.inside.stopped c.self.inside.stopped _ came.kernel
-          (run_keeps (kernel_by t c.self.inside.journal.items c.self.inside.stopped) c.args.page c.args.frame c.args.at c.args.bytes.now) now.holders;
-      none_lost = now.none_lost;
-      room = subst (λ (x : Tables). HasRoom c.self.inside.room c.self.inside.journal x.params.journal) (sym c.write_bytes.ensures.rest) now.room;
-    })
+pub invariant_of-self-2 : goal.invariant_of-self-2
+invariant_of-self-2 c =
+    let m : Inside = c.self.inside in
+    let q = c.args.page in
+    let f = c.args.frame in
+    let can : CanWrite m.tables q f m.journal.items m.stopped =
+    can_write m c.args.self.now q f c.self.invariant c.self.view_is c.requires.running c.frames-frames.ensures.sound c.requires.valid c.requires.writable in
+    bytes_run m c.args.self.now c.write_bytes.new.self q f c.args.at c.args.bytes.now c.self.invariant c.self.view_is c.requires.running can c.requires.some c.write_bytes.ensures
 
 pub returns : goal.returns
 returns c =
-    let t : Tables = c.self.inside.tables in
-    let now = stands_now c.self.inside c.args.self.now c.self.invariant c.self.view_is c.requires.running in
-    let k : Known (lists_of t) = known_by t c.self.inside.journal.items c.self.inside.stopped c.frames-frames.ensures.sound now.stands in
-    let can : CanWrite t c.args.page c.args.frame c.self.inside.journal.items c.self.inside.stopped = record {
-      core = c.frames-frames.ensures.sound;
-      stands = now.stands;
-      valid = subst (λ (s : Standing). state_of s.kernel.place c.args.page ≡ Valid c.args.frame) (sym c.self.view_is) c.requires.valid;
-      writable = c.requires.writable;
-    } in
-    let came : CameTo t c.write_bytes.new.self c.args.page c.args.frame c.args.at c.args.bytes.now c.self.inside.journal.items c.self.inside.stopped =
-    came_to t c.write_bytes.new.self c.args.page c.args.frame c.args.at c.args.bytes.now c.self.inside.journal.items c.self.inside.stopped can
-    (λ e. absurd (let none : length c.args.bytes.now ≡ 0 = ap length e in omega (arith, none, c.requires.some))) c.write_bytes.ensures in
-    record {
-      frame = c.args.frame;
-      valid = c.requires.valid;
-      within = c.requires.within;
-      machine =
-          run_standing c.self.inside c.write_bytes.new.self c.args.page c.args.frame c.args.at c.args.bytes.now c.write_bytes.ensures came.kernel
-          ∙ ap (λ (s : Standing). record s { kernel = write_run s.kernel c.args.page c.args.frame c.args.at c.args.bytes.now }) c.self.view_is;
-      owner = subst (λ (s : Standing). OwnsFrames s.kernel.place) c.self.view_is k.owns;
-      whole = subst (λ (s : Standing). AreWhole s.kernel) c.self.view_is (held_whole (lists_of t) k);
-    }
+    let m : Inside = c.self.inside in
+    let q = c.args.page in
+    let f = c.args.frame in
+    let can : CanWrite m.tables q f m.journal.items m.stopped =
+    can_write m c.args.self.now q f c.self.invariant c.self.view_is c.requires.running c.frames-frames.ensures.sound c.requires.valid c.requires.writable in
+    bytes_ran m c.args.self.now c.write_bytes.new.self q f c.args.at c.args.bytes.now c.self.view_is can c.requires.valid c.requires.some c.requires.within c.write_bytes.ensures
