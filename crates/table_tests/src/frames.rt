@@ -1,14 +1,19 @@
 // Page frames, and the map of them: that the calls that take memory succeed, and what becomes of a page's bytes.
+ghost use Rattle.std.specs.Prelude.{◌≡◌, Some, IsTrue};
+ghost use Rattle.core_map.specs.Frames.{HoldsNot};
+ghost use Rattle.core_map.specs.Slots.{is_free, is_resident, slot_at, slot_page};
+
+use crate::checks::{are, equals, is};
 use core_map::{CoreMap, Whose};
 use frame_state::Free;
-use std::test::Fail;
+use std::process::Abort;
 use vm_facts::{Bytes, Page};
 
 #[test]
-fn the_bytes_of_a_vector_are_lent(rt: HostRuntime) -> Result<(), Fail> {
-    let bytes = Bytes::from_vec([104, 105].to_vec(rt.alloc())?);
-    assert_eq!(rt; bytes.as_slice(), "hi".as_bytes());
-    Ok(())
+fn the_bytes_of_a_vector_are_lent(rt: HostRuntime) {
+    let held = [104, 105].to_vec(rt.alloc()).expect(&rt, "memory");
+    let bytes = Bytes::from_vec(held);
+    are(&rt, bytes.as_slice(), "hi".as_bytes());
 }
 
 #[test]
@@ -25,7 +30,11 @@ fn a_page_is_read_changed_written_and_found_again(rt: HostRuntime) {
     let clean = again.begin_clean().cleaned().zeroed();
     let zeroed = (clean.number(), clean.bytes()[5], clean.bytes()[1023]);
     clean.release().begin_fill().failed().retire();
-    assert_eq!(rt; [written, found, zeroed], [(7, 1, 2), (7, 1, 2), (7, 0, 0)]);
+    is(
+        &rt,
+        &[written, found, zeroed],
+        &[(7, 1, 2), (7, 1, 2), (7, 0, 0)],
+    );
 }
 
 const TEXT: Page = Page::Text { image: 1, v: 7 };
@@ -36,22 +45,52 @@ fn a_new_map_has_all_frames_free(rt: HostRuntime) {
     let counts = (map.frames(), map.free_frames());
     let owners = [map.owner(2), map.owner(3)];
     map.close();
-    assert_eq!(rt; counts, (2, 2));
-    assert_eq!(rt; owners, [Whose::Free(None), Whose::Away]);
+    is(
+        &rt,
+        &(counts, owners),
+        &((2, 2), [Whose::Free(None), Whose::Away]),
+    );
+}
+
+// Checks that no frame of the map holds the page of text.
+fn has_no_text(rt: &impl Abort, core: &CoreMap)
+    ensures { HoldsNot core.now (Page.Text 1 7) }
+{
+    assert_eq!(rt; core.find_text(1, 7), None);
+}
+
+// The page of a frame that is in use.
+fn page_in_use(rt: &impl Abort, core: &CoreMap, frame: u32) -> Page
+    ensures resident { IsTrue (is_resident (slot_at core.now.slots frame)) }
+    ensures page { slot_page (slot_at core.now.slots frame) ≡ Some result }
+{
+    let Whose::Resident(page) = core.owner(frame) else {
+        panic!(rt; "not resident");
+    };
+    page
+}
+
+// The page that a free frame still holds.
+fn page_kept(rt: &impl Abort, core: &CoreMap, frame: u32) -> Page
+    ensures free { IsTrue (is_free (slot_at core.now.slots frame)) }
+    ensures page { slot_page (slot_at core.now.slots frame) ≡ Some result }
+{
+    let Whose::Free(Some(page)) = core.owner(frame) else {
+        panic!(rt; "not free, or with no page");
+    };
+    page
 }
 
 #[test]
 fn a_freed_text_page_is_found_and_reclaimed(rt: HostRuntime) {
     let mut map = CoreMap::new(rt.alloc(), 3).expect(&rt, "memory for three frames");
     let (token, _page) = map.take_free().expect(&rt, "a free frame");
-    assert_eq!(rt; token.number(), 1);
-    assert_eq!(rt; map.find_text(1, 7), None);
+    equals(&rt, token.number(), 1);
+    has_no_text(&rt, &map);
     map.seat(token.zeroed(), TEXT);
 
     // It is changed, and freed.
-    let Whose::Resident(page) = map.owner(1) else {
-        panic!(&rt; "not resident");
-    };
+    let page = page_in_use(&rt, &map, 1);
     map.put_byte(1, 3, 9);
     map.set_dirty(1, true);
     let changed = (page, map.bytes(1)[3], map.is_dirty(1));
@@ -60,32 +99,29 @@ fn a_freed_text_page_is_found_and_reclaimed(rt: HostRuntime) {
     let found = [map.find_text(1, 7), map.find_text(2, 7)];
 
     // It comes back with its bytes, and is unchanged from there on.
-    let Whose::Free(Some(page)) = map.owner(1) else {
-        panic!(&rt; "not free");
-    };
+    let page = page_kept(&rt, &map, 1);
     let token = map.reclaim(1);
     map.seat(token, page);
-    let Whose::Resident(page) = map.owner(1) else {
-        panic!(&rt; "not resident");
-    };
+    let page = page_in_use(&rt, &map, 1);
     let unchanged = (page, map.bytes(1)[3], map.is_dirty(1));
     let free = map.free_frames();
     map.close();
-    assert_eq!(rt; [changed, unchanged], [(TEXT, 9, true), (TEXT, 9, false)]);
-    assert_eq!(rt; (found, free), ([Some(1), None], 2));
+    is(
+        &rt,
+        &([changed, unchanged], found, free),
+        &([(TEXT, 9, true), (TEXT, 9, false)], [Some(1), None], 2),
+    );
 }
 
 #[test]
 fn a_forgotten_frame_is_taken_first(rt: HostRuntime) {
     let mut map = CoreMap::new(rt.alloc(), 3).expect(&rt, "memory for three frames");
     let (token, _page) = map.take_free().expect(&rt, "a free frame");
-    assert_eq!(rt; token.number(), 1);
-    assert_eq!(rt; map.find_text(1, 7), None);
+    equals(&rt, token.number(), 1);
+    has_no_text(&rt, &map);
     map.give_tail(token, TEXT);
     let listed = map.find_text(1, 7);
-    let Whose::Free(page) = map.owner(1) else {
-        panic!(&rt; "not free");
-    };
+    let page = page_kept(&rt, &map, 1);
     map.forget(1);
     let forgotten = map.find_text(1, 7);
     let (token, whose) = map.take_free().expect(&rt, "a free frame");
@@ -93,6 +129,9 @@ fn a_forgotten_frame_is_taken_first(rt: HostRuntime) {
     map.give_head(token);
     let free = map.free_frames();
     map.close();
-    assert_eq!(rt; (listed, page, forgotten), (Some(1), Some(TEXT), None));
-    assert_eq!(rt; (number, whose, free), (1, None, 3));
+    is(
+        &rt,
+        &(listed, page, forgotten, number, whose, free),
+        &(Some(1), TEXT, None, 1, None, 3),
+    );
 }

@@ -3,11 +3,11 @@
 ghost use Rattle.std.specs.Prelude.{◌≡◌, ℕ, ◌<◌, ◌∷◌, ◌++◌, [], length, drop};
 ghost use Rattle.transfer_ring.specs.Sound.{AreReachable, IsBlock, IsReachable, IsRead, IsSource, IsSourceThere, IsWrite};
 
+use crate::checks::is;
 use frame_state::Free;
 use io_edge::{Files, Found, MemFiles, MemSwap, SwapDev};
 use std::alloc::Global;
 use std::process::Abort;
-use std::test::Fail;
 use transfer_ring::{Begun, Finished, Inbound, Outbound, Source, Transfer, TransferRing};
 use vm_facts::Page;
 
@@ -224,34 +224,83 @@ fn complete(alloc: Global, ring: &mut TransferRing, swap: &mut MemSwap) -> Finis
     ring.complete_oldest(&mut files, swap)
 }
 
+// Begins a read in a ring that is empty, and completes it.
+fn read_alone(
+    alloc: Global,
+    ring: &mut TransferRing,
+    swap: &mut MemSwap,
+    t: Transfer,
+) -> (&'static str, [u8; 4])
+    requires empty { ring.old ≡ [] }
+    requires eight { ⟦<MemSwap as SwapDev>⟧.blocks swap.old ≡ 8 }
+    requires read { IsRead t }
+    requires is { (holds : _) → IsReachable holds 8 t }
+    ensures empty { ring.new ≡ [] }
+    ensures eight { ⟦<MemSwap as SwapDev>⟧.blocks swap.new ≡ 8 }
+{
+    begin_read(ring, t);
+    ended(complete(alloc, ring, swap))
+}
+
+// Begins a write in a ring that is empty, and completes it.
+fn write_alone(
+    alloc: Global,
+    ring: &mut TransferRing,
+    swap: &mut MemSwap,
+    t: Transfer,
+) -> (&'static str, [u8; 4])
+    requires empty { ring.old ≡ [] }
+    requires eight { ⟦<MemSwap as SwapDev>⟧.blocks swap.old ≡ 8 }
+    requires write { IsWrite t }
+    requires is { (holds : _) → IsReachable holds 8 t }
+    ensures empty { ring.new ≡ [] }
+    ensures eight { ⟦<MemSwap as SwapDev>⟧.blocks swap.new ≡ 8 }
+{
+    begin_write(ring, t);
+    ended(complete(alloc, ring, swap))
+}
+
 // The transfers, begun one after another, end in their order.
 #[test]
 fn a_page_that_was_written_is_read_back(rt: HostRuntime) {
-    let mut ring = TransferRing::new(rt.alloc()).expect(&rt, "memory for a ring");
-    let mut swap = device(&rt, rt.alloc(), Vec::new(rt.alloc()), Vec::new(rt.alloc()));
-    begin_write(&mut ring, write_of(&rt, rt.alloc(), 9, 4));
-    begin_read(&mut ring, read_of(&rt, rt.alloc(), 3, 4));
+    let alloc = rt.alloc();
+    let mut ring = TransferRing::new(alloc).expect(&rt, "memory for a ring");
+    let mut swap = device(&rt, alloc, Vec::new(alloc), Vec::new(alloc));
+    begin_write(&mut ring, write_of(&rt, alloc, 9, 4));
+    begin_read(&mut ring, read_of(&rt, alloc, 3, 4));
     let both = (ring.len(), ring.names(1), ring.names_text(2));
-    let written = ended(complete(rt.alloc(), &mut ring, &mut swap));
+    let written = ended(complete(alloc, &mut ring, &mut swap));
     let one = (ring.len(), ring.names(1), ring.names_text(2));
-    let read = ended(complete(rt.alloc(), &mut ring, &mut swap));
+    let read = ended(complete(alloc, &mut ring, &mut swap));
     ring.close();
-    assert_eq!(rt; [both, one], [(2, true, true), (1, true, false)]);
-    assert_eq!(rt; [written, read], [("done", [9, 0, 0, 0]); 2]);
+    is(
+        &rt,
+        &([both, one], [written, read]),
+        &(
+            [(2, true, true), (1, true, false)],
+            [("done", [9, 0, 0, 0]); 2],
+        ),
+    );
+}
+
+// The calls of these numbers.
+fn calls(rt: &impl Abort, alloc: Global, numbers: &[u64]) -> Vec<u64> {
+    Vec::from_slice(alloc, numbers).expect(rt, "memory for numbers")
 }
 
 #[test]
-fn a_failed_call_hands_the_transfer_back(rt: HostRuntime) -> Result<(), Fail> {
-    let first = [1].to_vec(rt.alloc())?;
-    let second = [2].to_vec(rt.alloc())?;
-    let mut ring = TransferRing::new(rt.alloc()).expect(&rt, "memory for a ring");
-    let mut swap = device(&rt, rt.alloc(), first, second);
-    begin_write(&mut ring, write_of(&rt, rt.alloc(), 9, 4));
-    begin_write(&mut ring, write_of(&rt, rt.alloc(), 8, 2));
-    begin_read(&mut ring, read_of(&rt, rt.alloc(), 3, 4));
-    let written = ended(complete(rt.alloc(), &mut ring, &mut swap));
-    let not_written = ended(complete(rt.alloc(), &mut ring, &mut swap));
-    let not_read = ended(complete(rt.alloc(), &mut ring, &mut swap));
+fn a_failed_call_hands_the_transfer_back(rt: HostRuntime) {
+    let alloc = rt.alloc();
+    let mut ring = TransferRing::new(alloc).expect(&rt, "memory for a ring");
+    let fail_reads = calls(&rt, alloc, &[1]);
+    let fail_writes = calls(&rt, alloc, &[2]);
+    let mut swap = device(&rt, alloc, fail_reads, fail_writes);
+    begin_write(&mut ring, write_of(&rt, alloc, 9, 4));
+    begin_write(&mut ring, write_of(&rt, alloc, 8, 2));
+    begin_read(&mut ring, read_of(&rt, alloc, 3, 4));
+    let written = ended(complete(alloc, &mut ring, &mut swap));
+    let not_written = ended(complete(alloc, &mut ring, &mut swap));
+    let not_read = ended(complete(alloc, &mut ring, &mut swap));
     let left = (swap.blocks(), ring.len());
     ring.close();
     let wanted = [
@@ -259,30 +308,28 @@ fn a_failed_call_hands_the_transfer_back(rt: HostRuntime) -> Result<(), Fail> {
         ("write fault", [8, 0, 0, 0]),
         ("read fault", [0, 0, 0, 0]),
     ];
-    assert_eq!(rt; ([written, not_written, not_read], left), (wanted, (8, 0)));
-    Ok(())
+    is(
+        &rt,
+        &([written, not_written, not_read], left),
+        &(wanted, (8, 0)),
+    );
 }
 
 #[test]
-fn a_read_of_three_pages_calls_the_device_for_each(rt: HostRuntime) -> Result<(), Fail> {
+fn a_read_of_three_pages_calls_the_device_for_each(rt: HostRuntime) {
     let alloc = rt.alloc();
-    let fail_reads = [5, 7].to_vec(alloc)?;
-    let mut ring = TransferRing::new(alloc)?;
+    let mut ring = TransferRing::new(alloc).expect(&rt, "memory for a ring");
+    let fail_reads = calls(&rt, alloc, &[5, 7]);
     let mut swap = device(&rt, alloc, fail_reads, Vec::new(alloc));
-    begin_write(&mut ring, write_of_three(&rt, alloc));
-    let written = ended(complete(alloc, &mut ring, &mut swap));
+    let written = write_alone(alloc, &mut ring, &mut swap, write_of_three(&rt, alloc));
 
     // Reads 1 to 3 succeed, and so does 4. Read 5 fails, and the last page isn't asked for.
-    begin_read(&mut ring, read_of_three(&rt, alloc));
-    let whole = ended(complete(alloc, &mut ring, &mut swap));
-    begin_read(&mut ring, read_of_three(&rt, alloc));
-    let cut = ended(complete(alloc, &mut ring, &mut swap));
+    let whole = read_alone(alloc, &mut ring, &mut swap, read_of_three(&rt, alloc));
+    let cut = read_alone(alloc, &mut ring, &mut swap, read_of_three(&rt, alloc));
 
     // So the next read is the 6th, and the one after it fails.
-    begin_read(&mut ring, read_of(&rt, alloc, 3, 4));
-    let sixth = ended(complete(alloc, &mut ring, &mut swap));
-    begin_read(&mut ring, read_of(&rt, alloc, 3, 4));
-    let seventh = ended(complete(alloc, &mut ring, &mut swap));
+    let sixth = read_alone(alloc, &mut ring, &mut swap, read_of(&rt, alloc, 3, 4));
+    let seventh = read_alone(alloc, &mut ring, &mut swap, read_of(&rt, alloc, 3, 4));
     ring.close();
     let wanted = [
         ("done", [1, 2, 3, 0]),
@@ -291,28 +338,23 @@ fn a_read_of_three_pages_calls_the_device_for_each(rt: HostRuntime) -> Result<()
         ("done", [3, 0, 0, 0]),
         ("read fault", [0, 0, 0, 0]),
     ];
-    assert_eq!(rt; [written, whole, cut, sixth, seventh], wanted);
-    Ok(())
+    is(&rt, &[written, whole, cut, sixth, seventh], &wanted);
 }
 
 #[test]
-fn a_write_of_three_pages_calls_the_device_for_each(rt: HostRuntime) -> Result<(), Fail> {
+fn a_write_of_three_pages_calls_the_device_for_each(rt: HostRuntime) {
     let alloc = rt.alloc();
-    let fail_writes = [2, 4].to_vec(alloc)?;
-    let mut ring = TransferRing::new(alloc)?;
+    let mut ring = TransferRing::new(alloc).expect(&rt, "memory for a ring");
+    let fail_writes = calls(&rt, alloc, &[2, 4]);
     let mut swap = device(&rt, alloc, Vec::new(alloc), fail_writes);
 
     // Write 2 fails: the first page was written, and the last one isn't tried.
-    begin_write(&mut ring, write_of_three(&rt, alloc));
-    let cut = ended(complete(alloc, &mut ring, &mut swap));
-    begin_read(&mut ring, read_of_three(&rt, alloc));
-    let kept = ended(complete(alloc, &mut ring, &mut swap));
+    let cut = write_alone(alloc, &mut ring, &mut swap, write_of_three(&rt, alloc));
+    let kept = read_alone(alloc, &mut ring, &mut swap, read_of_three(&rt, alloc));
 
     // So the next write is the 3rd, and the one after it fails.
-    begin_write(&mut ring, write_of(&rt, alloc, 9, 4));
-    let third = ended(complete(alloc, &mut ring, &mut swap));
-    begin_write(&mut ring, write_of(&rt, alloc, 8, 4));
-    let fourth = ended(complete(alloc, &mut ring, &mut swap));
+    let third = write_alone(alloc, &mut ring, &mut swap, write_of(&rt, alloc, 9, 4));
+    let fourth = write_alone(alloc, &mut ring, &mut swap, write_of(&rt, alloc, 8, 4));
     ring.close();
     let wanted = [
         ("write fault", [1, 2, 3, 0]),
@@ -320,39 +362,44 @@ fn a_write_of_three_pages_calls_the_device_for_each(rt: HostRuntime) -> Result<(
         ("done", [9, 0, 0, 0]),
         ("write fault", [8, 0, 0, 0]),
     ];
-    assert_eq!(rt; [cut, kept, third, fourth], wanted);
-    Ok(())
+    is(&rt, &[cut, kept, third, fourth], &wanted);
+}
+
+// A file `hi` of these three bytes.
+fn three_bytes(rt: &impl Abort, alloc: Global) -> MemFiles {
+    let name = "hi".to_string(alloc).expect(rt, "memory for a name");
+    let bytes = [7, 8, 9].to_vec(alloc).expect(rt, "memory for bytes");
+    let mut list = Vec::with_capacity(alloc, 1).expect(rt, "memory for a file");
+    list.push_reserved((name, bytes));
+    MemFiles::new(list, Vec::new(alloc))
 }
 
 #[test]
-fn the_rest_of_a_page_from_a_file_is_zeros(rt: HostRuntime) -> Result<(), Fail> {
-    let name = "hi".to_string(rt.alloc())?;
-    let bytes = [7, 8, 9].to_vec(rt.alloc())?;
-    let list = vec![in rt.alloc(); (name, bytes)]?;
-    let mut files = MemFiles::new(list, Vec::new(rt.alloc()));
+fn the_rest_of_a_page_from_a_file_is_zeros(rt: HostRuntime) {
+    let alloc = rt.alloc();
+    let mut files = three_bytes(&rt, alloc);
     let Found::Is { id, len } = files.find("hi") else {
-        return Err(Fail::from("not found"));
+        panic!(&rt; "not found");
     };
     assert_eq!(rt; len, 3);
-    let mut ring = TransferRing::new(rt.alloc()).expect(&rt, "memory for a ring");
-    let mut swap = device(&rt, rt.alloc(), Vec::new(rt.alloc()), Vec::new(rt.alloc()));
+    let mut ring = TransferRing::new(alloc).expect(&rt, "memory for a ring");
+    let mut swap = device(&rt, alloc, Vec::new(alloc), Vec::new(alloc));
     let source = Source::File {
         id,
         offset: 1,
         count: 2,
     };
-    match ring.begin_read(read_from(&rt, rt.alloc(), 3, source)) {
+    match ring.begin_read(read_from(&rt, alloc, 3, source)) {
         Begun::Ok => {}
         _other => unreachable!(),
     }
     let read = ended(ring.complete_oldest(&mut files, &mut swap));
     ring.close();
-    assert_eq!(rt; read, ("done", [8, 0, 0, 0]));
-    Ok(())
+    is(&rt, &read, &("done", [8, 0, 0, 0]));
 }
 
 #[test]
-fn the_seventeenth_transfer_is_handed_back(rt: HostRuntime) -> Result<(), Fail> {
+fn the_seventeenth_transfer_is_handed_back(rt: HostRuntime) {
     let mut ring = TransferRing::new(rt.alloc()).expect(&rt, "memory for a ring");
     for v in 0..16 {
         begin_read(&mut ring, read_of(&rt, rt.alloc(), v, 4));
@@ -370,6 +417,5 @@ fn the_seventeenth_transfer_is_handed_back(rt: HostRuntime) -> Result<(), Fail> 
         end(transfer);
     }
     ring.close();
-    assert_eq!(rt; (full, refused, still_full), (16, true, 16));
-    Ok(())
+    is(&rt, &(full, refused, still_full), &(16, true, 16));
 }
