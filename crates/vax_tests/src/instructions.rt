@@ -5,37 +5,39 @@ ghost use Rattle.vm_facts.specs.Answers.{written};
 ghost use Rattle.user_vax.specs.ArrayMemory.{array_answers, written-append};
 
 use dry_run::completes;
-use std::test::Fail;
+use std::alloc::Global;
+use std::process::Abort;
 use user_step::step;
 use user_vax::Stepped;
 use vax_alu::{Sum, add, compare, div, mul, neg, shift, sub};
 use vax_code::{Decoded, Instr, Operand, decode};
 use vm_facts::{ByteRead, MayWrite, Memory, Regs};
 
+// Checks a value, and which of the condition codes are set.
+fn is_sum(rt: &impl Abort, sum: Sum, value: u32, codes: &str) {
+    let wanted = Sum {
+        value,
+        n: codes.contains('n'),
+        z: codes.contains('z'),
+        v: codes.contains('v'),
+        c: codes.contains('c'),
+    };
+    assert_eq!(rt; sum, wanted);
+}
+
 #[test]
 fn results_have_their_condition_codes(rt: HostRuntime) {
-    assert_eq!(rt; div(1, 0), None);
     let quotient = div(0x8000_0000, 0xffff_ffff).expect(&rt, "a quotient");
-    for (sum, value, codes) in [
-        (add(0x7fff_ffff, 1), 0x8000_0000, "nv"),
-        (sub(0, 1), 0xffff_ffff, "nc"),
-        (mul(0x1_0000, 0x1_0000), 0, "zv"),
-        (quotient, 0x8000_0000, "nv"),
-        (neg(0x8000_0000), 0x8000_0000, "nvc"),
-        (shift(1, 31), 0x8000_0000, "nv"),
-        (shift(1, 32), 0, "zv"),
-        (shift(0x8000_0000, -128), 0xffff_ffff, "n"),
-        (compare(1, 0xff, 1), 0, "c"),
-    ] {
-        let wanted = Sum {
-            value,
-            n: codes.contains('n'),
-            z: codes.contains('z'),
-            v: codes.contains('v'),
-            c: codes.contains('c'),
-        };
-        assert_eq!(rt; sum, wanted);
-    }
+    is_sum(&rt, add(0x7fff_ffff, 1), 0x8000_0000, "nv");
+    is_sum(&rt, sub(0, 1), 0xffff_ffff, "nc");
+    is_sum(&rt, mul(0x1_0000, 0x1_0000), 0, "zv");
+    is_sum(&rt, quotient, 0x8000_0000, "nv");
+    is_sum(&rt, neg(0x8000_0000), 0x8000_0000, "nvc");
+    is_sum(&rt, shift(1, 31), 0x8000_0000, "nv");
+    is_sum(&rt, shift(1, 32), 0, "zv");
+    is_sum(&rt, shift(0x8000_0000, -128), 0xffff_ffff, "n");
+    is_sum(&rt, compare(1, 0xff, 1), 0, "c");
+    assert_eq!(rt; div(1, 0), None);
 }
 
 #[test]
@@ -62,20 +64,23 @@ fn bytes_spell_an_instruction_a_prefix_or_none(rt: HostRuntime) {
         b: Operand::Absolute(0x404),
         c: Operand::Literal(0),
     };
-    let cases: [(&[u8], Decoded); 6] = [
-        (&[0xD0, 0x05, 0x81], Decoded::Is(movl)),
-        (&[0xD0, 0x05], Decoded::NeedMore),
-        (&[], Decoded::NeedMore),
-        (&[0xD0, 0x4F], Decoded::Reserved),
-        (&[0xFD], Decoded::Reserved),
-        (
-            &[0xD0, 0xAF, 0x10, 0x9F, 0x04, 0x04, 0x00, 0x00],
-            Decoded::Is(from_pc),
-        ),
+    let decoded = [
+        decode(&[0xD0, 0x05, 0x81]),
+        decode(&[0xD0, 0x05]),
+        decode(&[]),
+        decode(&[0xD0, 0x4F]),
+        decode(&[0xFD]),
+        decode(&[0xD0, 0xAF, 0x10, 0x9F, 0x04, 0x04, 0x00, 0x00]),
     ];
-    for (bytes, decoded) in cases {
-        assert_eq!(rt; decode(bytes), decoded, "{bytes:?}");
-    }
+    let wanted = [
+        Decoded::Is(movl),
+        Decoded::NeedMore,
+        Decoded::NeedMore,
+        Decoded::Reserved,
+        Decoded::Reserved,
+        Decoded::Is(from_pc),
+    ];
+    assert_eq!(rt; decoded, wanted);
 }
 
 // A memory of 64 bytes, of which those from `missing` on aren't there.
@@ -139,44 +144,50 @@ fn start(code: &[u8]) -> ([u8; 64], Regs) {
     (bytes, regs)
 }
 
+// Carries out the instruction that PC names.
+fn stepped(regs: &mut Regs, memory: &mut ArrayMemory) -> Stepped {
+    step(regs, memory)
+}
+
+// Whether it would be carried out.
+fn completed(rt: &impl Abort, alloc: Global, memory: &ArrayMemory, regs: &Regs) -> bool {
+    completes(alloc, memory, regs).expect(rt, "memory to try it")
+}
+
 // A store of four bytes, by a register that rises. It is tried first, which writes nothing.
 #[test]
-fn a_store_across_a_missing_byte_changes_nothing_and_then_is_done(
-    rt: HostRuntime,
-) -> Result<(), Fail> {
+fn a_store_across_a_missing_byte_changes_nothing_and_then_is_done(rt: HostRuntime) {
     let (bytes, mut regs) = start(&[0xD0, 0x05, 0x81]);
     regs.r[1] = 40;
     let before = regs;
     let mut memory = ArrayMemory { bytes, missing: 42 };
-    assert_eq!(rt; completes(rt.alloc(), &memory, &regs)?, false);
-    let missed = step(&mut regs, &mut memory);
-    assert_eq!(rt;
-        missed,
-        Stepped::Miss {
-            address: 42,
-            write: true
-        }
-    );
-    assert_eq!(rt; regs, before);
-    assert_eq!(rt; memory.bytes, bytes);
+    let tried = completed(&rt, rt.alloc(), &memory, &regs);
+    let missed = stepped(&mut regs, &mut memory);
+    let after = (regs, memory.bytes);
     memory.missing = 44;
-    assert_eq!(rt; completes(rt.alloc(), &memory, &regs)?, true);
-    assert_eq!(rt; memory.bytes, bytes);
+    let tried_again = completed(&rt, rt.alloc(), &memory, &regs);
+    let untouched = memory.bytes;
     memory.missing = 64;
-    assert_eq!(rt; step(&mut regs, &mut memory), Stepped::Done);
-    assert_eq!(rt; regs.r[1], 44);
-    assert_eq!(rt; regs.r[15], 3);
-    assert_eq!(rt; memory.bytes[40], 5);
-    Ok(())
+    let done = stepped(&mut regs, &mut memory);
+    let written = (regs.r[1], regs.r[15], memory.bytes[40]);
+    let miss = Stepped::Miss {
+        address: 42,
+        write: true,
+    };
+    assert_eq!(rt; [tried, tried_again], [false, true]);
+    assert_eq!(rt; (after, untouched), ((before, bytes), bytes));
+    assert_eq!(rt;
+        ([missed, done], written),
+        ([miss, Stepped::Done], (44, 3, 5))
+    );
 }
 
 // What calls the system is carried out, but not all that it does.
 #[test]
-fn a_call_of_the_system_has_its_number_and_does_not_complete(rt: HostRuntime) -> Result<(), Fail> {
+fn a_call_of_the_system_has_its_number_and_does_not_complete(rt: HostRuntime) {
     let (bytes, mut regs) = start(&[0xBC, 0x8F, 0x42, 0x00]);
     let mut memory = ArrayMemory { bytes, missing: 64 };
-    assert_eq!(rt; completes(rt.alloc(), &memory, &regs)?, false);
-    assert_eq!(rt; step(&mut regs, &mut memory), Stepped::Call(66));
-    assert_eq!(rt; regs.r[15], 4);
-    Ok(())
+    let tried = completed(&rt, rt.alloc(), &memory, &regs);
+    let called = stepped(&mut regs, &mut memory);
+    assert_eq!(rt; (tried, called, regs.r[15]), (false, Stepped::Call(66), 4));
 }
