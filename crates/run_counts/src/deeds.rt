@@ -1,7 +1,6 @@
 // What processes did, in one walk of a journal.
 ghost use Rattle.std.specs.Prelude.{◌≡◌, ◌+◌, ◌<◌, ◌≤◌, ◌^◌, ℕ, IfOk, OnOk};
 ghost use Rattle.run_counts.specs.declared.amounts.ProcessHead.{ProcessHead as AnyHead};
-ghost use Rattle.run_counts.specs.declared.amounts.Count.TheVariants.{OfProcess};
 ghost use Rattle.run_counts.specs.Counts.{amount, total};
 ghost use Rattle.run_counts.specs.Tables.{table_of, deed_of};
 
@@ -45,7 +44,7 @@ fn no_deeds(alloc: Global) -> Deeds
 fn add_entry(deeds: &mut Deeds, entry: &Entry) -> Result<(), AllocError>
     requires { (pid : ℕ) (head : AnyHead) → deed_of deeds.old pid head + 2 ^ 64 ≤ 2 ^ 128 }
     ensures value { OnOk result ((pid : ℕ) (head : AnyHead)
-        → deed_of deeds.new pid head ≡ deed_of deeds.old pid head + amount (OfProcess pid head) entry.now) }
+        → deed_of deeds.new pid head ≡ deed_of deeds.old pid head + amount pid head entry.now) }
     ensures grows { OnOk result ((pid : ℕ) (head : AnyHead) → deed_of deeds.new pid head < deed_of deeds.old pid head + 2 ^ 64) }
 {
     let pid = process_of(entry);
@@ -62,7 +61,7 @@ fn add_entry(deeds: &mut Deeds, entry: &Entry) -> Result<(), AllocError>
 
 /// What the processes of the run did that has this journal. It takes one walk of the journal. The one error is that no memory is left.
 pub fn deeds_of(alloc: Global, journal: &[Entry]) -> Result<Deeds, AllocError>
-    ensures { IfOk result (λ deeds. (pid : ℕ) (head : AnyHead) → deed_of deeds pid head ≡ total (OfProcess pid head) journal.now) }
+    ensures { IfOk result (λ deeds. (pid : ℕ) (head : AnyHead) → deed_of deeds pid head ≡ total pid head journal.now) }
 {
     let mut deeds = no_deeds(alloc);
     for entry in journal {

@@ -6,7 +6,6 @@ use Rattle.std.proofs.lemmas.List.Sums.{sum_by_push}
 use Rattle.vm_facts.specs.declared.entry.Entry.{Entry}
 use Rattle.run_counts.specs.declared.amounts.Owner.{Owner}
 use Rattle.run_counts.specs.declared.amounts.ProcessHead.{ProcessHead}
-use Rattle.run_counts.specs.declared.amounts.Count.TheVariants.{OfProcess}
 use Rattle.run_counts.specs.Counts.{total}
 use Rattle.run_stats.specs.declared.look.Look.{Look}
 use Rattle.run_stats.specs.declared.noting.Note.{Note}
@@ -68,11 +67,11 @@ tallies_fit t first xs h k few = omega (arith, k.small h, few)
 
 -- the table by what is counted is the table of the notes
 pub table_same : (deeds : ℕ → ProcessHead → ℕ) (t : Tally) (journal : List Entry) (first : Look) (notes : List Note) (p s i : ℕ)
-    → ((pid : ℕ) (head : ProcessHead) → deeds pid head ≡ total (OfProcess pid head) journal) → Tallies t first notes
+    → ((pid : ℕ) (head : ProcessHead) → deeds pid head ≡ total pid head journal) → Tallies t first notes
     → table_by deeds (sum_in t) journal t.most_held t.least_free p s i ≡ stats_text journal first notes p s i
 unfolding stats_text
 table_same deeds t journal first notes p s i same k =
     ap (λ (f : ℕ → ProcessHead → ℕ). table_by f (sum_in t) journal t.most_held t.least_free p s i) (fun_ext (λ pid. fun_ext (λ head. same pid head)))
-    ∙ ap (λ (f : Head → ℕ). table_by (λ pid head. total (OfProcess pid head) journal) f journal t.most_held t.least_free p s i) (fun_ext (λ head. k.sums head))
-    ∙ ap (λ (n : ℕ). table_by (λ pid head. total (OfProcess pid head) journal) (λ head. sum_of head notes) journal n t.least_free p s i) k.most
-    ∙ ap (λ (n : ℕ). table_by (λ pid head. total (OfProcess pid head) journal) (λ head. sum_of head notes) journal (most_held first.held notes) n p s i) k.least
+    ∙ ap (λ (f : Head → ℕ). table_by (λ pid head. total pid head journal) f journal t.most_held t.least_free p s i) (fun_ext (λ head. k.sums head))
+    ∙ ap (λ (n : ℕ). table_by (λ pid head. total pid head journal) (λ head. sum_of head notes) journal n t.least_free p s i) k.most
+    ∙ ap (λ (n : ℕ). table_by (λ pid head. total pid head journal) (λ head. sum_of head notes) journal (most_held first.held notes) n p s i) k.least

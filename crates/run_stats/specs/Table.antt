@@ -4,7 +4,6 @@ use Rattle.std.specs.List.{flat_map}
 use Rattle.vm_facts.specs.declared.entry.Entry.{Entry}
 use Rattle.run_counts.specs.declared.amounts.Owner.TheVariants.{Space, Image}
 use Rattle.run_counts.specs.declared.amounts.ProcessHead.{ProcessHead}
-use Rattle.run_counts.specs.declared.amounts.Count.TheVariants.{OfProcess}
 use Rattle.run_counts.specs.Counts.{total}
 use Rattle.run_stats.specs.declared.look.Look.{Look}
 use Rattle.run_stats.specs.declared.noting.Note.{Note}
@@ -66,5 +65,5 @@ table_by deeds sums journal most least processes spaces images =
 -- is noted of each.
 unfoldable pub stats_text : List Entry → Look → List Note → ℕ → ℕ → ℕ → List ℕ
 stats_text journal start notes processes spaces images =
-    table_by (λ pid head. total (OfProcess pid head) journal) (λ head. sum_of head notes) journal (most_held start.held notes) (least_free start.free notes)
+    table_by (λ pid head. total pid head journal) (λ head. sum_of head notes) journal (most_held start.held notes) (least_free start.free notes)
     processes spaces images

@@ -2,13 +2,12 @@
 use Rattle.std.proofs.Common.{◌≡◌, ◌≤◌, ◌*◌, ◌^◌, ℕ, take}
 use Rattle.std.specs.List.{sum_by}
 use Rattle.run_counts.specs.declared.amounts.ProcessHead.{ProcessHead}
-use Rattle.run_counts.specs.declared.amounts.Count.TheVariants.{OfProcess}
 use Rattle.run_counts.specs.Counts.{amount}
 use Rattle.run_counts.specs.Tables.{deed_of}
 use Rattle.run_counts.proofs.deeds.deeds_of.Given as goal
 
 abbrev pub invariant-loop-entry : goal.invariant-loop-entry
 invariant-loop-entry l = record {
-  sums : (pid : ℕ) (head : ProcessHead) → deed_of l.deeds pid head ≡ sum_by (amount (OfProcess pid head)) (take l.entry-index l.journal);
+  sums : (pid : ℕ) (head : ProcessHead) → deed_of l.deeds pid head ≡ sum_by (amount pid head) (take l.entry-index l.journal);
   fits : (pid : ℕ) (head : ProcessHead) → deed_of l.deeds pid head ≤ 2 ^ 64 * l.entry-index;
 }
