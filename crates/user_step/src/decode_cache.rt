@@ -5,7 +5,7 @@ ghost use Rattle.vax_code.specs.Reading.{decoded};
 ghost use Rattle.vax_code.specs.Table.{row_for};
 ghost use Rattle.vax_code.specs.declared.instr.Operand.TheVariants.{Literal};
 ghost use Rattle.vax_code.specs.Valid.{IsOperand};
-ghost use Rattle.vax_execute.specs.Plain.{is_at_hand, is_plain, is_push};
+ghost use Rattle.vax_execute.specs.Plain.{StaysInRegisters, is_at_hand, is_plain, is_push};
 ghost use Rattle.user_vax.specs.Program.{run};
 ghost use Rattle.user_vax.specs.Instruction.{fetch};
 ghost use Rattle.user_step.specs.OneProof.{IsOperand-prop};
@@ -41,6 +41,7 @@ pub struct Decoding {
     ghost first_at_hand: { stays ≡ true → is_at_hand instr.a ≡ true },
     ghost second_at_hand: { stays ≡ true → is_at_hand instr.b ≡ true },
     ghost third_at_hand: { stays ≡ true → is_at_hand instr.c ≡ true },
+    ghost leaves: { stays ≡ false → StaysInRegisters row.name instr → ⊥ },
 }
 
 /// A cache of decoded instructions, so that those of a loop are decoded once. An instruction has its place in it by the low bits of

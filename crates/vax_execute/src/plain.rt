@@ -42,7 +42,8 @@ fn is_at_hand(operand: &Operand) -> bool
 /// Whether an instruction stays in registers: it is plain and pushes nothing, and each of its operands is a number, a register or a
 /// branch target.
 pub fn stays_in_registers(name: Name, instr: &Instr) -> bool
-    ensures { result ≡ true → StaysInRegisters name instr.now }
+    ensures stays { result ≡ true → StaysInRegisters name instr.now }
+    ensures leaves { result ≡ false → StaysInRegisters name instr.now → ⊥ }
 {
     is_plain(name)
         && !is_push(name)
