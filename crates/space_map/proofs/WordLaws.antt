@@ -5,10 +5,10 @@ use Rattle.std.proofs.lemmas.List.{take_all, map-append}
 use Rattle.std.proofs.lemmas.List.Elements.{All-get_or, All-same, All-append, All-take, All-replicate}
 use Rattle.std.proofs.lemmas.Option.{slice_get-map, slice_get_within, get_or_from_slice_get, slice_get_read}
 use Rattle.std.specs.List.{All}
-use Rattle.vax_pte.specs.Words.{IsInRange, word_of, PacksTo}
+use Rattle.vax_pte.specs.Words.{IsInRange, word_of, PacksTo, place_named}
 use Rattle.vax_pte.specs.declared.Place.{Place}
 use Rattle.vax_pte.specs.declared.Place.TheVariants.{Zero, Image, Swap, Frame}
-use Rattle.space_map.specs.Tables.{place_named, IsWord}
+use Rattle.space_map.specs.Tables.{IsWord}
 
 pub named : (user_write : Bool) (place : Place) → IsInRange place → place_named (word_of (record { user_write = user_write; place = place })) ≡ place
 unfolding place_named

@@ -1,7 +1,8 @@
 -- The table of a segment by its fields.
 use Rattle.std.specs.Prelude.{List, map}
 use Rattle.std.specs.List.{All}
-use Rattle.space_map.specs.Tables.{place_named, IsWord}
+use Rattle.vax_pte.specs.Words.{place_named}
+use Rattle.space_map.specs.Tables.{IsWord}
 use Rattle.space_map.specs.declared.page_table.PageTable.TheInside.{Inside}
 use Rattle.vax_pte.specs.declared.Place.{Place}
 

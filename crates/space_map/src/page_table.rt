@@ -8,7 +8,7 @@ ghost use Rattle.space_map.specs.Space.{first_place, first_places, entry_frame};
 use aout_image::Image;
 use std::alloc::Global;
 use std::marker::Model;
-use vax_pte::{Place, Pte, pack, unpack, valid_frame};
+use vax_pte::{Place, Pte, pack, place_named, valid_frame};
 use vm_facts::NoMemory;
 
 /// The entries of a segment's pages, packed. Contracts see the places.
@@ -94,8 +94,7 @@ impl PageTable {
         ensures { result ≡ slice_get self.now v }
     {
         let word = *self.words.get(v as usize)?;
-        let entry = unpack(word)?;
-        Some(entry.place)
+        Some(place_named(word))
     }
 
     /// The frame of a page, where it is valid.

@@ -1,5 +1,5 @@
 -- The word of a page table entry: the sum of its fields, each times the power of 2 of its lowest bit.
-use Rattle.std.specs.Prelude.{◌≡◌, ℕ, ◌+◌, ◌*◌, ◌^◌, ◌≤◌, ◌<◌, Bool, true, false, Option, Some, None}
+use Rattle.std.specs.Prelude.{◌≡◌, ℕ, ◌+◌, ◌*◌, ◌/◌, ◌%◌, ◌^◌, ◌≤◌, ◌<◌, ◌==◌, nat_le, Bool, true, false, Option, Some, None, if◌then◌else◌}
 use Rattle.vax_pte.specs.declared.Place.{Place}
 use Rattle.vax_pte.specs.declared.Place.TheVariants.{Zero, Image, Swap, Frame}
 use Rattle.vax_pte.specs.declared.Pte.{Pte}
@@ -41,3 +41,12 @@ word_of e = protection e.user_write * 2 ^ 27 + place_bits e.place
 -- the entry is in range, and this is its word
 abbrev pub PacksTo : Pte → ℕ → Type 0
 PacksTo e word = IsInRange e.place × (word_of e ≡ word)
+
+-- the place in the word of an entry
+unfoldable pub place_named : ℕ → Place
+place_named word =
+    let bits = word % 2 ^ 26 in
+    if bits == 0 then Swap
+    else (if bits == 2 ^ 25 then Zero
+    else (if nat_le (2 ^ 25) bits then Image (word % 2 ^ 24)
+    else Frame bits (nat_le (2 ^ 31) word) (word / 2 ^ 26 % 2 == 1)))

@@ -14,7 +14,7 @@
 #![tactic(auto)]
 
 ghost use Rattle.std.specs.Prelude.{◌≡◌, ◌<◌, ◌+◌, ◌*◌, ◌^◌, MatchOption};
-ghost use Rattle.vax_pte.specs.Words.{IsInRange, PacksTo, usable_frame, place_bits, word_of, one_if};
+ghost use Rattle.vax_pte.specs.Words.{IsInRange, PacksTo, usable_frame, place_bits, place_named, word_of, one_if};
 ghost use Rattle.vax_pte.specs.declared.Place.{Place};
 ghost use Rattle.vax_pte.specs.declared.Pte.{Pte};
 
@@ -101,6 +101,29 @@ pub fn unpack(word: u32) -> Option<Pte>
     };
     let place = place_of(word >= VALID, word % PROTECTION)?;
     Some(Pte { user_write, place })
+}
+
+/// The place in the word of an entry.
+#[tactic(auto, unfolding(crate::specs::Words::place_named))]
+pub fn place_named(word: u32) -> Place
+    ensures named { result ≡ place_named word }
+    ensures inverse { (e : Pte) → PacksTo e word → result ≡ e.place }
+{
+    let bits = word % CHANGED;
+    if bits == 0 {
+        return Place::Swap;
+    }
+    if bits == FILL {
+        return Place::Zero;
+    }
+    if bits >= FILL {
+        return Place::Image(word % FROM_IMAGE);
+    }
+    Place::Frame {
+        f: bits,
+        valid: word >= VALID,
+        changed: word / CHANGED % 2 == 1,
+    }
 }
 
 /// The frame of the page whose entry has this word, where the page is valid.

@@ -1,6 +1,6 @@
 use Rattle.std.proofs.Common.{sym, ap, ◌∙◌, map, take}
 use Rattle.std.proofs.lemmas.List.{take-map}
-use Rattle.space_map.specs.Tables.{place_named}
+use Rattle.vax_pte.specs.Words.{place_named}
 use Rattle.space_map.proofs.page_table.PageTable.cut.Goals as goal
 
 pub returns : goal.returns

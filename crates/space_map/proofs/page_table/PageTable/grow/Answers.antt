@@ -3,7 +3,8 @@ use Rattle.std.proofs.lemmas.Grind.{common_steps}
 use Rattle.std.proofs.lemmas.List.{length-map}
 use Rattle.vax_pte.specs.declared.Place.{Place}
 use Rattle.vax_pte.specs.declared.Place.TheVariants.{Zero}
-use Rattle.space_map.specs.Tables.{place_named, IsWord}
+use Rattle.vax_pte.specs.Words.{place_named}
+use Rattle.space_map.specs.Tables.{IsWord}
 use Rattle.space_map.proofs.WordLaws.{named, is_word, grown_words, grown_places}
 use Rattle.space_map.proofs.page_table.PageTable.grow.Goals as goal
 

@@ -4,10 +4,10 @@ use Rattle.std.proofs.lemmas.List.{map-append}
 use Rattle.std.proofs.lemmas.List.Elements.{All-push, All-same}
 use Rattle.std.proofs.lemmas.List.FromFn.{map-range_with_len_more}
 use Rattle.aout_image.specs.Image.{given_of}
-use Rattle.vax_pte.specs.Words.{IsInRange}
+use Rattle.vax_pte.specs.Words.{IsInRange, place_named}
 use Rattle.vax_pte.specs.declared.Place.{Place}
 use Rattle.space_map.specs.Space.{first_place}
-use Rattle.space_map.specs.Tables.{place_named, IsWord}
+use Rattle.space_map.specs.Tables.{IsWord}
 use Rattle.space_map.proofs.WordLaws.{named, is_word, filled_in_range}
 use Rattle.space_map.proofs.page_table.PageTable.of_image.Goals as goal
 

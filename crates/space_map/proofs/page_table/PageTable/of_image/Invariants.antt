@@ -1,7 +1,8 @@
 use Rattle.std.proofs.Common.{◌≡◌, length, map, vec_capacity}
 use Rattle.std.specs.List.{All}
 use Rattle.space_map.specs.Space.{first_places}
-use Rattle.space_map.specs.Tables.{place_named, IsWord}
+use Rattle.vax_pte.specs.Words.{place_named}
+use Rattle.space_map.specs.Tables.{IsWord}
 use Rattle.space_map.proofs.page_table.PageTable.of_image.Given as goal
 
 abbrev pub invariant-loop-v : goal.invariant-loop-v

@@ -2,7 +2,8 @@ use Rattle.std.proofs.Common.{List, sym, ap, ap₂, ◌∙◌, subst, slice_set}
 use Rattle.std.proofs.lemmas.List.{map-set}
 use Rattle.std.proofs.lemmas.List.Elements.{All-set}
 use Rattle.vax_pte.specs.declared.Place.{Place}
-use Rattle.space_map.specs.Tables.{place_named, IsWord}
+use Rattle.vax_pte.specs.Words.{place_named}
+use Rattle.space_map.specs.Tables.{IsWord}
 use Rattle.space_map.proofs.WordLaws.{named, is_word}
 use Rattle.space_map.proofs.page_table.PageTable.set.Goals as goal
 

@@ -1,7 +1,8 @@
 use Rattle.std.proofs.Common.{List, sym, ap, ◌∙◌, slice_get}
 use Rattle.vax_pte.specs.declared.Place.{Place}
 use Rattle.space_map.specs.Space.{entry_frame}
-use Rattle.space_map.specs.Tables.{place_named, IsWord}
+use Rattle.vax_pte.specs.Words.{place_named}
+use Rattle.space_map.specs.Tables.{IsWord}
 use Rattle.space_map.proofs.WordLaws.{read_at, word_at, place_at}
 use Rattle.space_map.proofs.page_table.PageTable.valid_frame.Goals as goal
 
