@@ -64,4 +64,5 @@ pub mod ForkedSpaces
 pub mod Removed
 pub mod Stills
 pub mod ResizedMaps
+pub mod HomePages
 pub mod Outcomes

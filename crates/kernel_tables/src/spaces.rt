@@ -1,8 +1,10 @@
 //! The page places of all spaces.
 ghost use Rattle.std.specs.Prelude.{◌≡◌, ℕ, ◌<◌, ◌≤◌, map, length, Some, [], ◌∷◌, ◌++◌, OnOk, OnErr, IfSome, IfNone, IsTrue, slice_get, option_copied, option_map};
 ghost use Rattle.aout_image.specs.Image.{text_pages_of};
-ghost use Rattle.vax_pte.specs.Words.{IsInRange};
+ghost use Rattle.vax_pte.specs.Words.{IsInRange, was_filled};
 ghost use Rattle.flat_state.specs.Numbers.{IsAbsent, AllBelow};
+ghost use Rattle.flat_state.specs.PageNames.{beside};
+ghost use Rattle.space_map.specs.Space.{IsNextOfKind};
 ghost use Rattle.page_model.specs.Pages.{numbered};
 ghost use Rattle.kernel_tables.specs.Rising.{sids_of, AreRising, StandsAt, IsHome, space_named};
 ghost use Rattle.kernel_tables.specs.Shown.{entry_in, placed, is_frame, frame_named, changed_named};
@@ -154,6 +156,24 @@ impl Spaces {
         ensures { self.new ≡ map (placed page place) self.old }
     {
         set_place(&mut self.maps[index], page, place);
+    }
+
+    /// Where the space that a page of data or stack is of stands among all; None for text, and where no space has that
+    /// number.
+    pub fn home_of(&self, page: Page) -> Option<usize>
+        ensures found { IfSome result (λ index. IsHome self.now index page) }
+        ensures absent { IfNone result ((sid : ℕ) → space_named page ≡ Some sid → IsAbsent sid (sids_of self.now)) }
+    {
+        self.index_of(space_of(page)?)
+    }
+
+    /// Of the segment that a page is of, the first page from a number on, up to another, that was filled. Its space stands
+    /// there among all.
+    pub fn next_filled_at(&self, index: usize, page: Page, from: u32, to: u32) -> Option<u32>
+        requires { IsHome self.now index page }
+        ensures { IsNextOfKind was_filled (λ v. entry_in self.now (beside page v)) from to result }
+    {
+        self.maps[index].next_filled(page, from, to)
     }
 
     /// The image of the space with this number; None exactly where there is none.

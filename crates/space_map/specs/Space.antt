@@ -1,5 +1,5 @@
 -- What a space's map shows: for each segment the places of its pages, in order.
-use Rattle.std.specs.Prelude.{ℕ, ◌-◌, ◌*◌, ◌==◌, nat_lt, Bool, List, ◌++◌, length, map, take, replicate, slice_set, slice_get, Option, Some, None, if◌then◌else◌}
+use Rattle.std.specs.Prelude.{◌≡◌, ℕ, ◌<◌, ◌≤◌, ◌-◌, ◌*◌, ◌==◌, nat_lt, Bool, true, false, List, [], ◌++◌, length, map, take, replicate, slice_set, slice_get, Option, Some, None, IfSome, unwrap_or, if◌then◌else◌}
 use Rattle.std.specs.List.{range_with_len}
 use Rattle.aout_image.specs.Image.{given_of}
 use Rattle.aout_image.specs.declared.Image.{Image as Facts}
@@ -40,6 +40,22 @@ place_in s (Text image v) = if image == s.image then slice_get s.text v else Non
 abbrev pub entry_frame : Option Place → Option ℕ
 entry_frame (Some place) = usable_frame place
 entry_frame None = None
+
+-- the places of the segment that a page is of; none where the page is of no segment of the space
+abbrev pub segment_in : Places → Page → List Place
+segment_in s (Data sid v) = if sid == s.sid then s.data else []
+segment_in s (Stack sid v) = if sid == s.sid then s.stack else []
+segment_in s (Text image v) = if image == s.image then s.text else []
+
+-- there is an entry, whose place is of this kind
+abbrev pub is_of_kind : (Place → Bool) → Option Place → Bool
+is_of_kind kind (Some place) = kind place
+is_of_kind kind None = false
+
+-- of the pages with these entries, from a number on up to another, the first whose place is of this kind; none where none is
+pub record IsNextOfKind (kind : Place → Bool) (entries : ℕ → Option Place) (from to : ℕ) (next : Option ℕ) : Type 0 where
+  pub none_before : (v : ℕ) → from ≤ v → v < unwrap_or next to → is_of_kind kind (entries v) ≡ false
+  pub found : IfSome next (λ v. (from ≤ v) × (v < to) × (is_of_kind kind (entries v) ≡ true))
 
 -- the map after a page of the space took this place
 abbrev pub with_place : Places → Page → Place → Places

@@ -1,14 +1,14 @@
 //! The page table of one segment, an entry a page.
-ghost use Rattle.std.specs.Prelude.{◌≡◌, ◌<◌, ◌≤◌, ◌^◌, ◌-◌, ◌++◌, [], length, take, replicate, slice_get, slice_set, IfOk, IsOk, OnOk, OnErr};
+ghost use Rattle.std.specs.Prelude.{◌≡◌, ◌<◌, ◌≤◌, ◌^◌, ◌-◌, ◌++◌, [], length, map, take, replicate, slice_get, slice_set, IfOk, IsOk, OnOk, OnErr};
 ghost use Rattle.aout_image.specs.Image.{IsSound};
-ghost use Rattle.vax_pte.specs.Words.{IsInRange};
+ghost use Rattle.vax_pte.specs.Words.{IsInRange, was_filled, place_named};
 ghost use Rattle.vax_pte.specs.declared.Place.TheVariants.{Zero};
-ghost use Rattle.space_map.specs.Space.{first_place, first_places, entry_frame};
+ghost use Rattle.space_map.specs.Space.{first_place, first_places, entry_frame, IsNextOfKind};
 
 use aout_image::Image;
 use std::alloc::Global;
 use std::marker::Model;
-use vax_pte::{Place, Pte, pack, place_named, valid_frame};
+use vax_pte::{Place, Pte, pack, place_named, valid_frame, was_filled};
 use vm_facts::NoMemory;
 
 /// The entries of a segment's pages, packed. Contracts see the places.
@@ -45,6 +45,32 @@ fn first_place(facts: &Image, text: bool, v: u32) -> Place
         Place::Image(v)
     } else {
         Place::Zero
+    }
+}
+
+// The first of the pages with these words, from a number on up to another, that was filled.
+fn first_filled(words: &[u32], from: u32, to: u32) -> Option<u32>
+    requires { to ≤ length words.now }
+    ensures { IsNextOfKind was_filled (slice_get (map place_named words.now)) from to result }
+{
+    for v in from..to {
+        if was_filled(words[v as usize]) {
+            return Some(v);
+        }
+    }
+    None
+}
+
+// A number of pages, but no more than there are.
+fn no_more(pages: u32, count: usize) -> u32
+    ensures most { result ≤ pages }
+    ensures within { result ≤ count }
+    ensures all { result < pages → result ≡ count }
+{
+    if (pages as usize) <= count {
+        pages
+    } else {
+        count as u32
     }
 }
 
@@ -103,6 +129,14 @@ impl PageTable {
     {
         let word = *self.words.get(v as usize)?;
         valid_frame(word)
+    }
+
+    /// The first page from a number on, up to another, that was filled.
+    pub fn next_filled(&self, from: u32, to: u32) -> Option<u32>
+        ensures { IsNextOfKind was_filled (slice_get self.now) from to result }
+    {
+        let words = self.words.as_slice();
+        first_filled(words, from, no_more(to, words.len()))
     }
 
     /// Puts a page in its place.

@@ -1,9 +1,9 @@
 // The map itself, over the tables of its three segments.
 ghost use Rattle.std.specs.Prelude.{◌≡◌, ◌≤◌, true, false, length, replicate, IfOk, IsOk, OnOk, OnErr, IsSome, is_some, slice_get};
 ghost use Rattle.aout_image.specs.Image.{IsSound, text_pages_of};
-ghost use Rattle.vax_pte.specs.Words.{IsInRange};
+ghost use Rattle.vax_pte.specs.Words.{IsInRange, was_filled};
 ghost use Rattle.vax_pte.specs.declared.Place.TheVariants.{Zero};
-ghost use Rattle.space_map.specs.Space.{first_places, resized, place_in, entry_frame, with_place};
+ghost use Rattle.space_map.specs.Space.{first_places, resized, place_in, segment_in, entry_frame, IsNextOfKind, with_place};
 
 use crate::page_table::PageTable;
 use aout_image::Image;
@@ -136,6 +136,19 @@ impl SpaceMap {
             Page::Data { sid, v } if sid == self.sid => self.data.get(v),
             Page::Stack { sid, v } if sid == self.sid => self.stack.get(v),
             Page::Text { image, v } if image == self.image => self.text.get(v),
+            _ => None,
+        }
+    }
+
+    /// Of the segment that a page is of, the first page from a number on, up to another, that was filled: it is in a frame
+    /// or on swap. None where none was, or where the page isn't of this space.
+    pub fn next_filled(&self, page: Page, from: u32, to: u32) -> Option<u32>
+        ensures { IsNextOfKind was_filled (slice_get (segment_in self.now page)) from to result }
+    {
+        match page {
+            Page::Data { sid, .. } if sid == self.sid => self.data.next_filled(from, to),
+            Page::Stack { sid, .. } if sid == self.sid => self.stack.next_filled(from, to),
+            Page::Text { image, .. } if image == self.image => self.text.next_filled(from, to),
             _ => None,
         }
     }

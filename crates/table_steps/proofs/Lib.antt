@@ -92,5 +92,6 @@ pub mod TextsLeft
 pub mod LeftSpace
 pub mod GoneKnown
 pub mod GivenUp
+pub mod Passed
 pub mod Hands
 pub mod Moved

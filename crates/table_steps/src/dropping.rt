@@ -64,7 +64,7 @@ pub fn drop_page(tables: &mut Tables, page: Page)
     }
 }
 
-/// The pages of a segment from one on, up to another, are forgotten.
+/// The pages of a segment from one on, up to another, are forgotten. Those that weren't filled yet are passed over.
 pub fn drop_pages(tables: &mut Tables, page: Page, from: u32, to: u32)
     requires known { Known (lists_of tables.old) }
     requires writable { IsWritable page }
@@ -72,8 +72,13 @@ pub fn drop_pages(tables: &mut Tables, page: Page, from: u32, to: u32)
     requires rest { EachPage (λ q. AtRest (state_of (placement_of (lists_of tables.old)) q)) (pages_from page from (to - from)) }
     ensures { Dropped tables.old tables.new (pages_from page from (to - from)) }
 {
-    for v in from..to {
-        drop_page(tables, beside(page, v));
+    let Some(index) = tables.spaces.home_of(page) else {
+        return;
+    };
+    let mut v = from;
+    while let Some(filled) = tables.spaces.next_filled_at(index, page, v, to) {
+        drop_page(tables, beside(page, filled));
+        v = filled + 1;
     }
 }
 

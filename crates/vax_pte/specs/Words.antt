@@ -16,6 +16,13 @@ abbrev pub usable_frame : Place → Option ℕ
 usable_frame (Frame f true changed) = Some f
 usable_frame _ = None
 
+-- a page that was filled has its bytes in a frame or on swap; another waits to be filled
+abbrev pub was_filled : Place → Bool
+was_filled Zero = false
+was_filled (Image v) = false
+was_filled Swap = true
+was_filled (Frame f valid changed) = true
+
 -- a flag as a number
 abbrev pub one_if : Bool → ℕ
 one_if true = 1

@@ -14,7 +14,7 @@
 #![tactic(auto)]
 
 ghost use Rattle.std.specs.Prelude.{◌≡◌, ◌<◌, ◌+◌, ◌*◌, ◌^◌, MatchOption};
-ghost use Rattle.vax_pte.specs.Words.{IsInRange, PacksTo, usable_frame, place_bits, place_named, word_of, one_if};
+ghost use Rattle.vax_pte.specs.Words.{IsInRange, PacksTo, usable_frame, was_filled, place_bits, place_named, word_of, one_if};
 ghost use Rattle.vax_pte.specs.declared.Place.{Place};
 ghost use Rattle.vax_pte.specs.declared.Pte.{Pte};
 
@@ -135,6 +135,14 @@ pub fn valid_frame(word: u32) -> Option<u32>
     } else {
         None
     }
+}
+
+/// Whether the page whose entry has this word was filled: its bytes are in a frame or on swap.
+#[tactic(auto, unfolding(crate::specs::Words::place_named))]
+pub fn was_filled(word: u32) -> bool
+    ensures { result ≡ was_filled (place_named word) }
+{
+    word % CHANGED < FILL
 }
 
 /// The place of an entry that is or isn't valid and has these bits below its protection.
