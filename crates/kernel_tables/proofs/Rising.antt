@@ -49,7 +49,7 @@ rises (s ∷ ss) d zero (suc j) h l k = above ss j h.0 (omega arith)
 rises (s ∷ ss) d (suc i) zero h l k = absurd (omega arith)
 rises (s ∷ ss) d (suc i) (suc j) h l k = rises ss d i j h.1 (omega arith) (omega arith)
 
-at_place : (ss : List Places) (d : Places) (i sid : ℕ) → i < length ss → (get_or ss i d).sid ≡ sid → slice_get (sids_of ss) i ≡ Some sid
+pub at_place : (ss : List Places) (d : Places) (i sid : ℕ) → i < length ss → (get_or ss i d).sid ≡ sid → slice_get (sids_of ss) i ≡ Some sid
 at_place [] d i sid l e = absurd (omega arith)
 at_place (s ∷ ss) d zero sid l e = ap (λ (n : ℕ). Some n) e
 at_place (s ∷ ss) d (suc i) sid l e = at_place ss d i sid (omega arith) e

@@ -105,6 +105,34 @@ fn text_pages(maps: &[SpaceMap], image: u32) -> Option<u32>
     None
 }
 
+// Where a space of this number most likely stands: there it stands where no number is wanting before its own, or where it is
+// the last.
+fn likely_index(maps: &[SpaceMap], sid: u32) -> usize {
+    match maps.first() {
+        Some(first) => (sid.saturating_sub(first.sid()) as usize).min(maps.len().saturating_sub(1)),
+        None => 0,
+    }
+}
+
+// Whether the space with this number stands there.
+fn stands_there(maps: &[SpaceMap], index: usize, sid: u32) -> bool
+    ensures { IsTrue result → StandsAt maps.now sid index }
+{
+    match maps.get(index) {
+        Some(space) => space.sid() == sid,
+        None => false,
+    }
+}
+
+// Where the space with this number stands among spaces by rising numbers.
+fn index_among(maps: &[SpaceMap], sid: u32) -> Option<usize>
+    requires { AreRising (sids_of maps.now) }
+    ensures found { IfSome result (StandsAt maps.now sid) }
+    ensures absent { IfNone result (IsAbsent sid (sids_of maps.now)) }
+{
+    maps.binary_search_by_key(&sid, |space| space.sid()).ok()
+}
+
 impl Spaces {
     /// No space.
     pub fn new(alloc: Global) -> Spaces
@@ -120,9 +148,12 @@ impl Spaces {
         ensures found { IfSome result (StandsAt self.now sid) }
         ensures absent { IfNone result (IsAbsent sid (sids_of self.now)) }
     {
-        self.maps
-            .binary_search_by_key(&sid, |space| space.sid())
-            .ok()
+        let maps = self.maps.as_slice();
+        let likely = likely_index(maps, sid);
+        if stands_there(maps, likely, sid) {
+            return Some(likely);
+        }
+        index_among(maps, sid)
     }
 
     /// The space with this number; None exactly where there is none.

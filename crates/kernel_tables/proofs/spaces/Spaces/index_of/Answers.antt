@@ -1,13 +1,24 @@
-use Rattle.std.proofs.Common.{rules}
-use Rattle.std.proofs.lemmas.List.Sorted.{answers_always}
-use Rattle.kernel_tables.proofs.Rising.{searched}
+use Rattle.std.proofs.Common.{◌≡◌, ℕ, List, Option, IfSome, IfNone, sym, ap, ◌∙◌, subst}
+use Rattle.space_map.specs.Space.{Places}
+use Rattle.flat_state.specs.Numbers.{IsAbsent}
+use Rattle.kernel_tables.specs.Rising.{sids_of, AreRising, StandsAt}
 use Rattle.kernel_tables.proofs.spaces.Spaces.index_of.Goals as goal
+
+pub index_among-requires : goal.index_among-requires
+index_among-requires c = subst (λ (ss : List Places). AreRising (sids_of ss)) (sym c.as_slice-maps.ensures.value) c.self.invariant
+
+pub returns-then-stands_there : goal.returns-then-stands_there
+returns-then-stands_there c =
+    let same : c.as_slice-maps.result.now ≡ c.args.self.now = c.as_slice-maps.ensures.value ∙ c.self.view_is in
+    record {
+      found = subst (λ (ss : List Places). StandsAt ss c.args.sid c.likely_index-likely.result) same (c.stands_there.ensures c.if-stands_there.true);
+      absent = tt;
+    }
 
 pub returns : goal.returns
 returns c =
-    let facts = c.binary_search_by_key.ensures in
-    let by_key = facts.position (λ space. space.sid) (answers_always _ _ _ (λ f a r g called. search rules)) in
+    let same : c.as_slice-maps.result.now ≡ c.args.self.now = c.as_slice-maps.ensures.value ∙ c.self.view_is in
     record {
-      found = rw (c.ok.ensures.value, ← c.self.view_is, ← c.deref.ensures.value) (searched _ (rw c.deref.ensures.value c.self.invariant) c.args.sid _ facts.bound by_key).found;
-      absent = rw (c.ok.ensures.value, ← c.self.view_is, ← c.deref.ensures.value) (searched _ (rw c.deref.ensures.value c.self.invariant) c.args.sid _ facts.bound by_key).absent;
+      found = subst (λ (ss : List Places). IfSome c.index_among.result (StandsAt ss c.args.sid)) same c.index_among.ensures.found;
+      absent = subst (λ (ss : List Places). IfNone c.index_among.result (IsAbsent c.args.sid (sids_of ss))) same c.index_among.ensures.absent;
     }
