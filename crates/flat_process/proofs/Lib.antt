@@ -5,3 +5,4 @@ pub mod Hits
 pub mod Paging
 pub mod Ahead
 pub mod Together
+pub mod Going

@@ -2,3 +2,4 @@ pub mod Sizes
 pub mod Images
 pub mod Present
 pub mod Holdings
+pub mod Running

@@ -1,4 +1,4 @@
-ghost use Rattle.std.specs.Prelude.{◌≡◌, ℕ, Bool, true, false, ◌==◌, ◌≤◌, ◌<◌, ◌^◌, length, IsTrue, IfOk, OnOk};
+ghost use Rattle.std.specs.Prelude.{◌≡◌, ◌↔◌, ℕ, Bool, true, false, ◌==◌, ◌≤◌, ◌<◌, ◌^◌, length, IsTrue, IfOk, OnOk};
 ghost use Rattle.flat_state.specs.Flat.{Holding, Holds, Lends, Zombie, Process as Record, FlatState, is_ready, holds_space};
 ghost use Rattle.flat_model.specs.Touched.{touched_in};
 ghost use Rattle.user_vax.specs.Program.{run};
@@ -8,13 +8,14 @@ ghost use Rattle.flat_state.specs.Change.{resized, with_results, is_zombie, is_z
 ghost use Rattle.flat_model.specs.Calls.{status_of};
 ghost use Rattle.flat_model.specs.Instruction.{instruction_in};
 ghost use Rattle.flat_process.specs.Holdings.{space_in, holding_of, IsNearStep};
+ghost use Rattle.flat_process.specs.Running.{outcome_of, Goes, GoesFor, StopsAfter};
 
 use crate::present::Paged;
 use crate::program::Program;
 use crate::space::FlatSpace;
 use std::alloc::Global;
 use std::marker::Model;
-use user_step::{DecodeCache, step_cached};
+use user_step::{DecodeCache, step_cached, step_unless_call};
 use user_vax::Stepped;
 use vm_facts::{NoMemory, Page, Regs};
 
@@ -75,6 +76,20 @@ fn is_zombie(held: &Held) -> bool
     match held {
         Held::Zombie(_) => true,
         Held::Space(_) | Held::Lent { .. } => false,
+    }
+}
+
+// Carries an instruction out over a space, unless it makes a call; the answer is whether it was carried out.
+#[tactic(auto, using(flat_state::proofs::SpaceLaws::wrote_puts, crate::proofs::Going::tried_done))]
+fn carry_out(cache: &mut DecodeCache, regs: &mut Regs, space: &mut FlatSpace) -> bool
+    ensures done { (result ≡ true) ↔ (answer_of (instruction_in space.old regs.old) ≡ Stepped.Done) }
+    ensures registers { result ≡ true → regs.new ≡ registers_after regs.old (instruction_in space.old regs.old) }
+    ensures wrote { space.new ≡ puts space.old (writes_of (instruction_in space.old regs.old)) }
+{
+    match step_unless_call(cache, regs, space) {
+        Stepped::Done => true,
+        Stepped::Call(_) => false,
+        Stepped::Miss { .. } | Stepped::Below { .. } | Stepped::Signal(_) => false,
     }
 }
 
@@ -238,6 +253,36 @@ impl Process {
             }
             Held::Lent { .. } | Held::Zombie(_) => unreachable!(),
         }
+    }
+
+    // Its next instruction is carried out, unless it makes a call; the answer is whether it was.
+    #[tactic(auto, using(crate::proofs::Going::goes_on))]
+    fn go_on(&mut self, cache: &mut DecodeCache) -> bool
+        requires { IsTrue (holds_space self.old.holding) }
+        ensures goes { result ≡ true → Goes self.old self.new }
+        ensures stops { result ≡ false → answer_of (outcome_of self.old) ≡ Stepped.Done → ⊥ }
+        ensures holds { IsTrue (holds_space self.new.holding) }
+    {
+        match &mut self.held {
+            Held::Space(space) => carry_out(cache, &mut self.regs, space),
+            Held::Lent { .. } | Held::Zombie(_) => unreachable!(),
+        }
+    }
+
+    /// Runs its next instructions over its space, one after another and at most so many, up to one that isn't carried out or
+    /// makes a call. The answer is how many ran. Where one didn't, it may have left its writes, and nothing is told of the process.
+    pub fn run_on(&mut self, cache: &mut DecodeCache, most: u32) -> u32
+        requires { IsTrue (holds_space self.old.holding) }
+        ensures few { result ≤ most }
+        ensures all { result ≡ most → GoesFor self.old most self.new }
+        ensures stops { result < most → StopsAfter self.old result }
+    {
+        for count in 0..most {
+            if !self.go_on(cache) {
+                return count;
+            }
+        }
+        most
     }
 
     /// Runs its next instruction over its space: what it came to, the registers that it left, and the pages that
