@@ -1,4 +1,5 @@
 pub mod Lists
 pub mod Changing
 pub mod Stepping
+pub mod Ran
 pub mod Touches

@@ -89,7 +89,7 @@ behind_at F G place stepped regs at is answer registers =
       hits = instruction_hits (space_at F place) (process_at F place).regs;
     }
 
-flat_at : (A : Inputs) (images : List NamedImage) (F : FlatState) (place : ℕ) (refused : Bool) → IsPlace F place → A.images ≡ images
+pub flat_at : (A : Inputs) (images : List NamedImage) (F : FlatState) (place : ℕ) (refused : Bool) → IsPlace F place → A.images ≡ images
     → flat_step A F (process_at F place).pid refused
     ≡ step_of images F (process_at F place) (space_at F place) refused (instruction_in (space_at F place) (process_at F place).regs)
 unfolding flat_step

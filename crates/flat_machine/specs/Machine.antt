@@ -1,12 +1,13 @@
 -- What the code of the flat machine keeps and answers.
-use Rattle.std.specs.Prelude.{◌≡◌, ℕ, ◌<◌, ◌==◌, true, false, List, [], ◌∷◌, ◌++◌, length, position, slice_index_or, IsTrue, Some, Result, Err, Bool}
+use Rattle.std.specs.Prelude.{◌≡◌, ℕ, zero, suc, ◌<◌, ◌==◌, true, false, List, [], ◌∷◌, ◌++◌, length, position, slice_index_or, IsTrue, Some, Result, Err, Bool}
 use Rattle.vm_facts.specs.Answers.{ByteWrite}
 use Rattle.flat_state.specs.Space.{Space}
-use Rattle.flat_state.specs.Flat.{Process, FlatState, NamedImage, holds_space}
+use Rattle.flat_state.specs.Flat.{Process, FlatState, NamedImage, Inputs, can_step, holds_space}
 use Rattle.vm_facts.specs.declared.entry.Entry.{Entry}
 use Rattle.vm_facts.specs.declared.entry.Entry.TheVariants.{Ran, Grew, Sleeps, Ended}
 use Rattle.user_vax.specs.declared.stepped.Stepped.{Stepped}
-use Rattle.flat_model.specs.Step.{call_entry, out_entries, Step, step_with, written_process}
+use Rattle.flat_model.specs.Step.{call_entry, out_entries, Step, step_with, flat_step, written_process}
+use Rattle.flat_model.specs.Run.{is_first_of}
 use Rattle.vm_facts.specs.declared.regs.Regs.{Regs}
 use Rattle.user_vax.specs.Effects.{Effect}
 use Rattle.user_vax.specs.Instruction.{answer_of, registers_after, writes_of}
@@ -64,3 +65,22 @@ pub record IsBehind (F : FlatState) (p : Process) (s : Space) (r : Result Effect
   pub answer : stepped ≡ answer_of r
   pub registers : regs ≡ registers_after p.regs r
   pub hits : (address : ℕ) (write : Bool) → r ≡ Err (refusals.Miss address write) → ⊥
+
+-- Instructions of a process, one after another.
+
+-- its next step is one instruction that ran, and leads to this state
+pub record RunsOne (A : Inputs) (F : FlatState) (pid : ℕ) (G : FlatState) : Type 0 where
+  pub can : can_step F pid ≡ true
+  pub entries : (flat_step A F pid false).entries ≡ Ran pid 1 ∷ []
+  pub after : G ≡ (flat_step A F pid false).after
+
+-- so many of its steps are
+abbrev pub RunsFor : Inputs → FlatState → ℕ → ℕ → FlatState → Type 0
+RunsFor A F pid zero G = G ≡ F
+RunsFor A F pid (suc count) G = (mid : FlatState) × RunsFor A F pid count mid × RunsOne A mid pid G
+
+-- so many are, and the next one doesn't begin with an instruction that ran
+abbrev pub RunsNoMore : Inputs → FlatState → ℕ → ℕ → Type 0
+RunsNoMore A F pid count =
+    (mid : FlatState) × RunsFor A F pid count mid
+    × (is_first_of (entries_if (can_step mid pid) (flat_step A mid pid false)) (Ran pid 1) ≡ false)

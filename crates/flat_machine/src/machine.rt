@@ -9,8 +9,9 @@ ghost use Rattle.user_vax.specs.Instruction.{writes_of, answer_of, registers_aft
 ghost use Rattle.flat_model.specs.Instruction.{instruction_in};
 ghost use Rattle.flat_model.specs.Touched.{touched_in, touched};
 ghost use Rattle.flat_process.specs.Images.{CanChange, CanReply};
-ghost use Rattle.flat_machine.specs.Machine.{IsPlace, process_at, space_at, IsBehind, step_by, entries_of, state_if, entries_if};
+ghost use Rattle.flat_machine.specs.Machine.{IsPlace, process_at, space_at, IsBehind, step_by, entries_of, state_if, entries_if, RunsFor, RunsNoMore};
 ghost use Rattle.flat_process.specs.Holdings.{space_in, holding_of, IsNear, IsNearStep};
+ghost use Rattle.flat_process.specs.Running.{GoesFor, StopsAfter};
 
 use crate::deed::{Deed, Did};
 use flat_model::{Arguments, Reply, SystemCall, WRITE_LIMIT, start_page, start_regs};
@@ -495,6 +496,32 @@ impl Machine {
             (instruction_in (space_at self.old place) (process_at self.old place).regs) self.new place result.0 result.1 }
     {
         self.list[place].run(&mut self.cache)
+    }
+
+    // Runs the next instructions of the process at this place over its space, one after another and at most so many, up to one
+    // that isn't carried out or makes a call.
+    fn run_at(&mut self, place: usize, most: u32) -> u32
+        requires { IsPlace self.old place }
+        ensures few { result ≤ most }
+        ensures all { result ≡ most → (q : Record) × GoesFor (process_at self.old place) most q × (self.new ≡ with_process self.old q) }
+        ensures stops { result < most → StopsAfter (process_at self.old place) result }
+    {
+        self.list[place].run_on(&mut self.cache, most)
+    }
+
+    /// The next steps of the process of this number, one after another and at most so many, as long as each is an instruction
+    /// that ran. The answer is how many were. Where the next one isn't, its instruction may have been tried, and nothing is told of
+    /// the machine.
+    #[tactic(auto, using(crate::proofs::Ran::ran_for, crate::proofs::Ran::ran_only, crate::proofs::Ran::idle_for, crate::proofs::Ran::idle_only))]
+    pub fn run_on(&mut self, pid: u32, most: u32) -> u32
+        ensures few { result ≤ most }
+        ensures all { (A : Inputs) → result ≡ most → RunsFor A self.old pid most self.new }
+        ensures stops { (A : Inputs) → result < most → RunsNoMore A self.old pid result }
+    {
+        match self.ready_place(pid) {
+            None => 0,
+            Some(place) => self.run_at(place, most),
+        }
     }
 
     // Runs the next instruction of the process at this place over its space, and answers with it the pages that the
