@@ -159,6 +159,17 @@ entry_of A point F G pid refused e did opens of es after =
     then Some (behind point H (entries_if (can_step F pid) (flat_step A F pid refused))) else None) after)
     ∙ sym (ap (λ (xs : List Entry). if is_first_of xs e then Some (behind point G xs) else None) es)
 
+-- an entry with which the step of its process doesn't begin is none
+pub not_first : (A : Inputs) (point : Point) (F G : FlatState) (new : Last) (pid : ℕ) (refused : Bool) (e : Entry)
+    → Opens F pid refused point × (may_follow point.last e ≡ true) → IsOf pid e
+    → is_first_of (entries_if (can_step F pid) (flat_step A F pid refused)) e ≡ false
+    → IsVerdict A false G new (flat_entry A point e)
+not_first A point F G new pid refused e opens of none =
+    let step : Step = flat_step A F pid refused in
+    subst (λ (o : Option Point). IsVerdict A false G new o)
+    (sym (followed A point pid e true of.owner opens.1 ∙ of.made A point ∙ made A point F pid refused e opens.0 ∙ if_made point F (can_step F pid) step e
+    ∙ ap (λ (b : Bool). if b then Some (behind point (state_if (can_step F pid) F step) (entries_if (can_step F pid) step)) else None) none)) tt
+
 -- the verdict on the last entry of a step
 pub last_verdict : (A : Inputs) (F : FlatState) (x : Entry) (b c : Bool) → IsBetween (Some x) → b ≡ c
     → IsVerdict A b F lasts.Other (if c then Some (record { flat = F; last = Some x }) else None)

@@ -19,13 +19,13 @@ use Rattle.replay_check.specs.declared.replaying.Last.{Last}
 use Rattle.replay_check.specs.declared.replaying.Last.TheVariants as lasts
 use Rattle.replay_check.specs.declared.expecting.Expected.{Expected}
 use Rattle.replay_check.specs.declared.expecting.Expected.TheVariants.{Comes, CannotStep, NoProcess, TooMany}
-use Rattle.flat_machine.specs.Machine.{entries_of, state_if, entries_if}
+use Rattle.flat_machine.specs.Machine.{entries_of, state_if, entries_if, RunsFor, RunsNoMore}
 use Rattle.replay_check.specs.Judging.{refused_in, begins, is_other, IsWriting, IsAt, IsVerdict, HasTaken}
 use Rattle.replay_check.specs.Verdicts.{instruction_limit, is_run, first_bad}
 use Rattle.replay_check.specs.Expecting.{begun, or_else, due_process, comes_if, missing, expected_by, expected_of, follows_if, comes_or, is_one, ran_or, RunsOnly, IsExpected, IsExpectedOf, IsExpectedAt, IsExpectedIf, IsExpectedBehind, IsMisfit}
 use Rattle.replay_check.proofs.Judging.{Opens, free_at, open_at}
 use Rattle.flat_machine.proofs.Lists.{is_first, found_at, none_found}
-use Rattle.replay_check.proofs.Running.{ran_at, ran_begins, ran_busy, units_one, skipped}
+use Rattle.replay_check.proofs.Running.{ran_at, ran_begins, ran_busy, ran_none, ran_next, ran_fails, all_ran, not_ran, units_one, skipped}
 use Rattle.replay_check.proofs.Verdicts.{taken_none, taken_run, next_front, bad_at, good_before}
 use Rattle.flat_state.proofs.Joins.{count-append}
 use Rattle.flat_model.proofs.Folds.{run_more}
@@ -138,6 +138,50 @@ runs_some A F G last new point pid count ran few h stop = record {
   runs = verdict_some A F last (flat_units A (Some point) (units_with (entries.Ran pid ran) [])) h;
   stops = λ less. verdict_none A G new (flat_units A (Some point) (units_with (entries.Ran pid (ran + 1)) [])) stop;
 }
+
+-- where a step is begun none run
+pub runs_busy : (A : Inputs) (F : FlatState) (last : Last) (point : Point) (pid count : ℕ) → is_other last ≡ false → IsAt A F last point
+    → RunsOnly A point pid count 0
+runs_busy A F last point pid count other at =
+    let none = ran_none A F last point pid at in
+    runs_some A F F last last point pid count 0 (omega arith) none (ran_next A (Some point) F F last last pid 0 false none (λ p here. ran_busy A p F F last last pid other here))
+
+pub none_run : (A : Inputs) (F : FlatState) (last : Last) (point : Point) (pid count : ℕ) → 0 ≡ count → IsAt A F last point
+    → IsVerdict A true F last (flat_units A (Some point) (units_with (entries.Ran pid count) []))
+none_run A F last point pid count none at =
+    subst (λ (n : ℕ). IsVerdict A true F last (flat_units A (Some point) (units_with (entries.Ran pid n) []))) none (ran_none A F last point pid at)
+
+-- those run that the machine runs
+pub runs_free : (A : Inputs) (F G : FlatState) (last : Last) (point : Point) (pid count ran : ℕ) → ran ≤ count → is_other last ≡ true → IsAt A F last point
+    → (ran ≡ count → RunsFor A F pid count G) → (ran < count → RunsNoMore A F pid ran) → RunsOnly A point pid count ran
+runs_free A F G last point pid count ran few other at all stops = go (ran == count) refl
+  where
+    go : (b : Bool) → (ran == count) ≡ b → RunsOnly A point pid count ran
+    go true e =
+        let is : ran ≡ count = grind (arith, nat_tests) in
+        runs_all A G last point pid count ran is
+        (subst (λ (n : ℕ). IsVerdict A true G last (flat_units A (Some point) (units_with (entries.Ran pid n) []))) (sym is) (all_ran A F last point pid other at count G (all is)))
+    go false e =
+        let less : ran < count = grind (arith, nat_tests) in
+        let h = stops less in
+        let so = all_ran A F last point pid other at ran h.0 h.1 in
+        runs_some A h.0 h.0 last last point pid count ran few so
+        (ran_next A (Some point) h.0 h.0 last last pid ran false so (λ p here. not_ran A h.0 h.0 last last p pid other here h.2))
+
+-- the verdict on so many, by how many run
+pub runs_verdict : (A : Inputs) (G : FlatState) (last : Last) (point : Point) (pid count ran : ℕ) → RunsOnly A point pid count ran
+    → (ran ≡ count → IsVerdict A true G last (flat_units A (Some point) (units_with (entries.Ran pid count) [])))
+    → IsVerdict A (ran == count) G last (flat_units A (Some point) (units_with (entries.Ran pid count) []))
+runs_verdict A G last point pid count ran only all = go (ran == count) refl
+  where
+    go : (b : Bool) → (ran == count) ≡ b → IsVerdict A b G last (flat_units A (Some point) (units_with (entries.Ran pid count) []))
+    go true e = all (let is : ran ≡ count = grind (arith, nat_tests) in is)
+    go false e =
+        let few : ran ≤ count = only.few in
+        let less : ran < count = grind (arith, nat_tests) in
+        let last_one : ran + 1 ≤ count = omega (arith, less) in
+        ran_fails A (Some point) G G last last pid (ran + 1) count last_one
+        (subst (λ (o : Option Point). IsVerdict A false G last o) (sym (only.stops less)) tt)
 
 runs_zero : (A : Inputs) (point : Point) (pid : ℕ) → IsSome (flat_units A (Some point) (units_with (entries.Ran pid 0) []))
 unfolding flat_units

@@ -9,9 +9,10 @@ use Rattle.flat_model.specs.Run.{Point, flat_entry, flat_units}
 use Rattle.flat_machine.specs.declared.deed.Did.{Did}
 use Rattle.flat_machine.specs.declared.deed.Did.TheVariants as deeds
 use Rattle.replay_check.specs.declared.replaying.Last.{Last}
-use Rattle.flat_machine.specs.Machine.{entries_of, state_if, entries_if}
+use Rattle.flat_machine.specs.Machine.{entries_of, state_if, entries_if, RunsOne, RunsFor}
+use Rattle.flat_model.specs.Run.{is_first_of}
 use Rattle.replay_check.specs.Judging.{is_other, begins, IsAt, IsVerdict}
-use Rattle.replay_check.proofs.Judging.{free_at, busy_at, blocked, sole_at}
+use Rattle.replay_check.proofs.Judging.{free_at, busy_at, blocked, not_first, sole_at}
 use Rattle.vm_facts.proofs.Tests.{eq_self}
 use Rattle.replay_check.proofs.JudgingGrowth.{other_last}
 
@@ -94,6 +95,30 @@ ran_fails A o F G last new pid n count few h =
     subst (λ (p : Option Point). IsVerdict A false G new p)
     (sym (subst (λ (k : ℕ). flat_units A o (repeated (entries.Ran pid 1) k []) ≡ None) (let e : count - n + n ≡ count = omega arith in e)
     (repeated_fails A o (entries.Ran pid 1) n (count - n) (failed A F last (flat_units A o (units_with (entries.Ran pid n) [])) h)))) tt
+
+one_ran : (A : Inputs) (F G : FlatState) (last : Last) (point : Point) (pid : ℕ) → is_other last ≡ true → IsAt A F last point → RunsOne A F pid G
+    → IsVerdict A true G last (flat_entry A point (entries.Ran pid 1))
+one_ran A F G last point pid other at runs =
+    ran_at A point F G last last pid deeds.Ran true other refl at
+    (sym (ap (λ (b : Bool). entries_if b (flat_step A F pid false)) runs.can ∙ runs.entries))
+    (runs.after ∙ sym (ap (λ (b : Bool). state_if b F (flat_step A F pid false)) runs.can))
+    (ran_begins pid)
+
+-- instructions that ran one after another lead on
+pub all_ran : (A : Inputs) (F : FlatState) (last : Last) (point : Point) (pid : ℕ) → is_other last ≡ true → IsAt A F last point → (n : ℕ) (G : FlatState)
+    → RunsFor A F pid n G → IsVerdict A true G last (flat_units A (Some point) (units_with (entries.Ran pid n) []))
+all_ran A F last point pid other at zero G h =
+    subst (λ (H : FlatState). IsVerdict A true H last (flat_units A (Some point) (units_with (entries.Ran pid 0) []))) (sym h) (ran_none A F last point pid at)
+all_ran A F last point pid other at (suc n) G h =
+    subst (λ (k : ℕ). IsVerdict A true G last (flat_units A (Some point) (units_with (entries.Ran pid k) []))) (let e : n + 1 ≡ suc n = omega arith in e)
+    (ran_next A (Some point) h.0 G last last pid n true (all_ran A F last point pid other at n h.0 h.1) (λ p here. one_ran A h.0 G last p pid other here h.2))
+
+-- a step that doesn't begin with an instruction that ran has none
+pub not_ran : (A : Inputs) (F G : FlatState) (last new : Last) (point : Point) (pid : ℕ) → is_other last ≡ true → IsAt A F last point
+    → is_first_of (entries_if (can_step F pid) (flat_step A F pid false)) (entries.Ran pid 1) ≡ false
+    → IsVerdict A false G new (flat_entry A point (entries.Ran pid 1))
+not_ran A F G last new point pid other at none =
+    not_first A point F G new pid false (entries.Ran pid 1) (free_at A F last pid (entries.Ran pid 1) point other at) (record { owner = refl; made = λ A point. refl }) none
 
 -- an entry that no process made leaves the point as it is
 pub skipped : (A : Inputs) (point : Point) (e : Entry) → ((p n : ℕ) → e ≡ entries.Ran p n → ⊥) → ((p : ℕ) (bytes : List ℕ) → e ≡ entries.Out p bytes → ⊥)

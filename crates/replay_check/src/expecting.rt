@@ -1,5 +1,5 @@
 // What the flat machine gives where an entry is none of its run.
-ghost use Rattle.std.specs.Prelude.{◌≡◌, ℕ, ◌+◌, ◌-◌, ◌^◌, ◌<◌, ◌≤◌, ◌++◌, ◌∷◌, [], List, nat_le, length, is_some, Bool, true, Some, None, IfOk, OnOk};
+ghost use Rattle.std.specs.Prelude.{◌≡◌, ℕ, ◌+◌, ◌-◌, ◌^◌, ◌<◌, ◌++◌, ◌∷◌, [], List, nat_le, length, is_some, Bool, true, Some, None, IfOk, OnOk};
 ghost use Rattle.flat_state.specs.Flat.{Inputs, process_of};
 ghost use Rattle.flat_state.specs.Journal.{counted, instructions_of};
 ghost use Rattle.vm_facts.specs.declared.entry.Entry.TheVariants.{Ran};
@@ -9,7 +9,7 @@ ghost use Rattle.flat_machine.specs.Machine.{entries_of};
 ghost use Rattle.flat_process.specs.Images.{AreImageFiles, AreNumbers, images_of};
 ghost use Rattle.replay_check.specs.Judging.{refused_in, IsAt, IsVerdict, HasTaken};
 ghost use Rattle.replay_check.specs.Verdicts.{first_bad, instruction_limit};
-ghost use Rattle.replay_check.specs.Expecting.{follows_if, comes_if, comes_or, run_length, missing, is_one, expected_of, RunsOnly, IsExpected, IsExpectedAt, IsExpectedBehind, IsExplained};
+ghost use Rattle.replay_check.specs.Expecting.{follows_if, comes_if, comes_or, run_length, missing, is_one, expected_of, IsExpected, IsExpectedAt, IsExpectedBehind, IsExplained};
 
 use crate::replaying::{Judge, Last, Verdict, replay};
 use flat_machine::{Did, Machine};
@@ -181,20 +181,6 @@ impl<'a> Judge<'a> {
         Ok(comes_or(refused, pid, first_entry(pid, did), absent))
     }
 
-    // How many of so many instructions of a process run.
-    fn runs(&mut self, pid: u32, count: u32) -> Result<u32, NoMemory>
-        ensures runs { (A : Inputs) (point : Point) → A.images ≡ self.old.programs.now → IsAt A self.old.machine self.old.last point
-            → IfOk result (RunsOnly A point pid count) }
-        ensures few { IfOk result (λ ran. ran ≤ count) }
-    {
-        for ran in 0..count {
-            if !self.ran_once(pid)? {
-                return Ok(ran);
-            }
-        }
-        Ok(count)
-    }
-
     // The instructions that run of so many, and else the next entry of the process, where no step has begun.
     fn expected_free(&mut self, pid: u32, count: u32) -> Result<Expected, NoMemory>
         ensures { (A : Inputs) (point : Point) → A.images ≡ self.old.programs.now → self.old.last ≡ Last.Other
@@ -207,7 +193,7 @@ impl<'a> Judge<'a> {
         if !is_one(&expected) {
             return Ok(expected);
         }
-        let more = self.runs(pid, count - 1)?;
+        let more = self.runs(pid, count - 1);
         Ok(Expected::Comes(Entry::Ran {
             pid,
             count: more + 1,

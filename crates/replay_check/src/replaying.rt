@@ -1,4 +1,4 @@
-ghost use Rattle.std.specs.Prelude.{◌≡◌, ℕ, ◌+◌, ◌^◌, ◌<◌, ◌≤◌, ◌==◌, ◌&&◌, ◌++◌, ◌∷◌, [], List, length, Some, IfOk, IfSome, OnOk, MatchOption};
+ghost use Rattle.std.specs.Prelude.{◌≡◌, ℕ, ◌+◌, ◌^◌, ◌<◌, ◌≤◌, ◌==◌, ◌&&◌, ◌++◌, ◌∷◌, [], List, length, true, Some, IfOk, IfSome, OnOk, MatchOption};
 ghost use Rattle.flat_process.specs.Images.{AreImageFiles, AreNumbers, images_of};
 ghost use Rattle.flat_state.specs.Flat.{Inputs, can_step};
 ghost use Rattle.user_vax.specs.Operands.{register};
@@ -6,6 +6,7 @@ ghost use Rattle.flat_model.specs.Step.{flat_step, call_entry};
 ghost use Rattle.flat_machine.specs.Machine.{entries_of, state_if, entries_if};
 ghost use Rattle.replay_check.specs.Judging.{is_other, refused_in, last_behind, begins, IsAt, IsVerdict, HasTaken, HasJudged};
 ghost use Rattle.replay_check.specs.Verdicts.{instruction_limit, first_bad, verdict_of};
+ghost use Rattle.replay_check.specs.Expecting.{RunsOnly};
 ghost use Rattle.flat_state.specs.Journal.{units_with, counted};
 ghost use Rattle.flat_model.specs.Run.{Point, flat_entry, flat_units, same_entry, same_carry};
 ghost use Rattle.vm_facts.specs.declared.entry.Entry.TheVariants.{Ran, Out, Grew, Call, Sleeps, Refused, Ended};
@@ -77,17 +78,6 @@ fn is_replied(did: Did, number: u32, carry: bool, r0: u32, r1: u32) -> bool
         Did::Wrote(call, bytes, regs) => {
             bytes.as_slice().is_empty() && is_answer(call, &regs, number, carry, r0, r1)
         }
-        _ => false,
-    }
-}
-
-// Whether one instruction ran.
-#[tactic(auto, using(crate::proofs::Running::ran_begins))]
-fn is_ran(did: Did) -> bool
-    ensures { (pid : ℕ) → result ≡ begins pid did (Ran pid 1) }
-{
-    match did {
-        Did::Ran => true,
         _ => false,
     }
 }
@@ -169,32 +159,27 @@ impl<'a> Judge<'a> {
         self.machine.step(self.alloc, self.programs, pid, refused)
     }
 
-    // Whether one instruction of a process is the next of a run.
-    #[tactic(auto, using(crate::proofs::Running::ran_busy))]
-    pub fn ran_once(&mut self, pid: u32) -> Result<bool, NoMemory>
-        ensures verdict { (A : Inputs) (point : Point) → A.images ≡ self.old.programs.now → IsAt A self.old.machine self.old.last point
-            → IfOk result (λ ok. IsVerdict A ok self.new.machine self.new.last (flat_entry A point (Ran pid 1))) }
+    // How many of so many instructions of a process run.
+    pub fn runs(&mut self, pid: u32, count: u32) -> u32
+        ensures few { result ≤ count }
+        ensures runs { (A : Inputs) (point : Point) → IsAt A self.old.machine self.old.last point → RunsOnly A point pid count result }
+        ensures all { (A : Inputs) (point : Point) → IsAt A self.old.machine self.old.last point → result ≡ count
+            → IsVerdict A true self.new.machine self.new.last (flat_units A (Some point) (units_with (Ran pid count) [])) }
         ensures programs { self.new.programs ≡ self.old.programs }
     {
         if !self.is_free() {
-            return Ok(false);
+            return 0;
         }
-        let did = self.step(pid, false)?;
-        Ok(is_ran(did))
+        self.machine.run_on(pid, count)
     }
 
     // Whether so many instructions of a process are the next of a run.
-    fn ran(&mut self, pid: u32, count: u32) -> Result<bool, NoMemory>
-        ensures verdict { (A : Inputs) (point : Point) → A.images ≡ self.old.programs.now → IsAt A self.old.machine self.old.last point
-            → IfOk result (λ ok. IsVerdict A ok self.new.machine self.new.last (flat_units A (Some point) (units_with (Ran pid count) []))) }
+    fn ran(&mut self, pid: u32, count: u32) -> bool
+        ensures verdict { (A : Inputs) (point : Point) → IsAt A self.old.machine self.old.last point
+            → IsVerdict A result self.new.machine self.new.last (flat_units A (Some point) (units_with (Ran pid count) [])) }
         ensures programs { self.new.programs ≡ self.old.programs }
     {
-        for _ in 0..count {
-            if !self.ran_once(pid)? {
-                return Ok(false);
-            }
-        }
-        Ok(true)
+        self.runs(pid, count) == count
     }
 
     // Whether no step is begun.
@@ -321,7 +306,7 @@ impl<'a> Judge<'a> {
         ensures programs { self.new.programs ≡ self.old.programs }
     {
         match entry {
-            Entry::Ran { pid, count } => self.ran(*pid, *count),
+            Entry::Ran { pid, count } => Ok(self.ran(*pid, *count)),
             Entry::Out { pid, bytes } => self.wrote(*pid, bytes.as_slice()),
             Entry::Grew { pid, pages } => self.grew(*pid, *pages),
             Entry::Call {

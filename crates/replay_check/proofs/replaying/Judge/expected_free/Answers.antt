@@ -20,13 +20,13 @@ returns-then-not-is_one c = λ A point same other at.
     (c.in_ok-expected.ensures.expected A point same (ap (refused_in c.args.pid) other) at)
 
 pub overflow_add-result : goal.overflow_add-result
-overflow_add-result c = let few = c.in_ok-more.ensures.few in omega arith
+overflow_add-result c = let few = c.runs-more.ensures.few in omega arith
 
 pub returns : goal.returns
 returns c = λ A point same other at.
     let one : is_one c.in_ok-expected.expected ≡ true = cc in
     let all : c.args.count ≡ c.args.count - 1 + 1 = omega arith in
-    expected_more A point c.next_of.new.self.machine c.next_of.new.self.last c.args.pid c.args.count (c.args.count - 1) c.in_ok-more.more all
+    expected_more A point c.next_of.new.self.machine c.next_of.new.self.last c.args.pid c.args.count (c.args.count - 1) c.runs-more.result all
     (subst (λ (b : Bool). IsVerdict A b c.next_of.new.self.machine c.next_of.new.self.last (flat_entry A point (Ran c.args.pid 1))) one
     (c.in_ok-expected.ensures.verdict A point same (ap (refused_in c.args.pid) other) other at))
-    (λ next here. c.in_ok-more.ensures.runs A next (cc) here)
+    (λ next here. c.runs-more.ensures.runs A next here)

@@ -1,7 +1,16 @@
-use Rattle.std.proofs.Common.{refl, sym, ap, ◌∙◌}
+use Rattle.std.proofs.Common.{[], Some, refl, sym, ap, ◌∙◌, subst}
+use Rattle.vm_facts.specs.declared.entry.Entry.{Entry}
 use Rattle.vm_facts.specs.declared.entry.Entry.TheVariants.{Out, Grew, Call, Sleeps, Refused, Ended}
+use Rattle.flat_state.specs.Journal.{units_with}
+use Rattle.flat_model.specs.Run.{flat_units}
+use Rattle.replay_check.specs.Judging.{IsVerdict}
 use Rattle.replay_check.proofs.Running.{unit_of, skipped}
 use Rattle.replay_check.proofs.replaying.Judge.judge.Goals as goal
+
+pub returns-in-Ran-clause-verdict : goal.returns-in-Ran-clause-verdict
+returns-in-Ran-clause-verdict c = λ A point same at.
+    subst (λ (e : Entry). IsVerdict A c.ran.result c.ran.new.self.machine c.ran.new.self.last (flat_units A (Some point) (units_with e []))) (sym c.in-Ran.is)
+    (c.ran.ensures.verdict A point at)
 
 pub returns-in-Out-clause-verdict : goal.returns-in-Out-clause-verdict
 returns-in-Out-clause-verdict c = λ A point same at.
