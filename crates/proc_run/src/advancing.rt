@@ -17,13 +17,14 @@ ghost use Rattle.step_units.specs.Stepped.{LeadsFrom, StopsFrom};
 ghost use Rattle.proc_run.specs.Calls.{own_answers};
 ghost use Rattle.proc_run.specs.Runs.{IsSteady, is_now, counts, HasRunner, AdvancesTo};
 
-use crate::attempting::{attempt, completes, has_room};
+use crate::attempting::{attempt_cached, completes, has_room};
 use crate::calling::call;
 use crate::serving::serve_access;
 use io_edge::{Files, SwapDev};
 use machine_state::{Machine, or_stop};
 use std::alloc::Global;
 use steady_laws::proc_calls::kill;
+use user_step::DecodeCache;
 use user_vax::Stepped;
 use vm_facts::{Regs, Stop};
 
@@ -75,6 +76,7 @@ fn make_room(alloc: Global, m: &mut Machine, pid: u32, before: &Regs) -> Result<
 /// run stops, and nothing was written.
 pub fn next_step<F: Files, D: SwapDev>(
     alloc: Global,
+    cache: &mut DecodeCache,
     m: &mut Machine,
     files: &mut F,
     swap: &mut D,
@@ -98,7 +100,7 @@ pub fn next_step<F: Files, D: SwapDev>(
 {
     make_room(alloc, m, pid, before)?;
     let mut regs = *before;
-    match attempt(m, pid, &mut regs) {
+    match attempt_cached(cache, m, pid, &mut regs) {
         Stepped::Done => {
             m.ran(pid, &regs);
             Ok(Advance::Counted)

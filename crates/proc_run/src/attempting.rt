@@ -12,7 +12,7 @@ ghost use Rattle.proc_run.specs.Stretch.{Leaves};
 
 use machine_state::Machine;
 use std::alloc::Global;
-use user_step::step;
+use user_step::{DecodeCache, step, step_cached};
 use user_vax::Stepped;
 use vm_facts::{Entry, NoMemory, Regs};
 
@@ -67,4 +67,23 @@ pub fn attempt(m: &mut Machine, pid: u32, regs: &mut Regs) -> Stepped
     ensures goes_on { CanGoOn m.new }
 {
     step(regs, &mut m.memory(pid))
+}
+
+/// The same by a cache: an instruction that is in it isn't decoded anew, and another one is entered.
+pub fn attempt_cached(
+    cache: &mut DecodeCache,
+    m: &mut Machine,
+    pid: u32,
+    regs: &mut Regs,
+) -> Stepped
+    requires ready { CanGoOn m.old }
+    requires lends { CanLend m.old.kernel pid }
+    ensures answer { result ≡ answer_of (run (kernel_answers m.old.kernel (space_of_pid m.old.kernel pid)) (instruction regs.old)) }
+    ensures registers { regs.new ≡ registers_after regs.old (run (kernel_answers m.old.kernel (space_of_pid m.old.kernel pid)) (instruction regs.old)) }
+    ensures wrote { Wrote m.old (space_of_pid m.old.kernel pid)
+        (writes_of (run (kernel_answers m.old.kernel (space_of_pid m.old.kernel pid)) (instruction regs.old))) m.new }
+    ensures only { Leaves result m.old m.new }
+    ensures goes_on { CanGoOn m.new }
+{
+    step_cached(cache, regs, &mut m.memory(pid))
 }

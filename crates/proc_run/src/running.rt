@@ -51,7 +51,7 @@ pub fn run<F: Files, D: SwapDev>(
         let Some(regs) = ready_regs(m, pid) else {
             return Ok(count);
         };
-        match next_step(alloc, m, files, swap, pid, &regs, patience)? {
+        match next_step(alloc, cache, m, files, swap, pid, &regs, patience)? {
             Advance::Counted => {
                 count += 1;
                 waits = 0;

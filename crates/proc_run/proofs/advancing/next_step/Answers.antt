@@ -53,13 +53,13 @@ returns-in_err-make_room-clause-stops g c =
 pub ran-requires-clause-can : goal.ran-requires-clause-can
 ran-requires-clause-can g c =
     let o = asked c.args.m.now c.make_room.new.m c.in_ok-make_room.ensures.only in
-    lends_still c.args.m.now c.make_room.new.m c.attempt.new.m c.args.pid c.args.before.now o c.in-Done.ensures.wrote c.in-Done.ensures.goes_on
+    lends_still c.args.m.now c.make_room.new.m c.attempt_cached.new.m c.args.pid c.args.before.now o c.in-Done.ensures.wrote c.in-Done.ensures.goes_on
     (room_lends c.args.m.now c.make_room.new.m c.args.pid o c.requires.lends)
 
 pub ran-requires-clause-fits : goal.ran-requires-clause-fits
 ran-requires-clause-fits g c = λ count before h.
     let o = asked c.args.m.now c.make_room.new.m c.in_ok-make_room.ensures.only in
-    let same = journal_same c.args.m.now c.make_room.new.m c.attempt.new.m c.args.pid c.args.before.now o c.in-Done.ensures.wrote in
+    let same = journal_same c.args.m.now c.make_room.new.m c.attempt_cached.new.m c.args.pid c.args.before.now o c.in-Done.ensures.wrote in
     let few = last_counts_few c.args.m.now.kernel.journal before c.args.pid count (sym same ∙ h) in
     let fits : instructions_of c.args.m.now.kernel.journal + 1 < 4294967296 = c.requires.fits in
     omega (arith, few, fits)
@@ -67,15 +67,15 @@ ran-requires-clause-fits g c = λ count before h.
 pub returns-in-Done-clause-advances : goal.returns-in-Done-clause-advances
 returns-in-Done-clause-advances g c =
     let o = asked c.args.m.now c.make_room.new.m c.in_ok-make_room.ensures.only in
-    ran_advances c.args.m.now c.make_room.new.m c.attempt.new.m c.args.pid c.args.before.now o c.in-Done.ensures.wrote c.requires.steady.clear (sym c.in-Done.ensures.answer)
-    c.ran.new.self c.attempt.new.regs c.in-Done.ensures.registers c.ran.ensures.step
+    ran_advances c.args.m.now c.make_room.new.m c.attempt_cached.new.m c.args.pid c.args.before.now o c.in-Done.ensures.wrote c.requires.steady.clear (sym c.in-Done.ensures.answer)
+    c.ran.new.self c.attempt_cached.new.regs c.in-Done.ensures.registers c.ran.ensures.step
     (is_now c.args.patience) (g.F.Files.holds c.args.files.now) (g.D.SwapDev.image c.args.swap.now) c.requires.registers
 
 pub returns-in-Done-clause-continues : goal.returns-in-Done-clause-continues
 returns-in-Done-clause-continues g c =
     let o = asked c.args.m.now c.make_room.new.m c.in_ok-make_room.ensures.only in
-    ran_goes_on c.args.m.now c.make_room.new.m c.attempt.new.m c.args.pid c.args.before.now o c.in-Done.ensures.wrote c.requires.steady.clear (sym c.in-Done.ensures.answer)
-    c.ran.new.self c.attempt.new.regs c.in-Done.ensures.registers c.ran.ensures.step c.ran.ensures.rest
+    ran_goes_on c.args.m.now c.make_room.new.m c.attempt_cached.new.m c.args.pid c.args.before.now o c.in-Done.ensures.wrote c.requires.steady.clear (sym c.in-Done.ensures.answer)
+    c.ran.new.self c.attempt_cached.new.regs c.in-Done.ensures.registers c.ran.ensures.step c.ran.ensures.rest
 
 -- Where it makes a call.
 
@@ -83,89 +83,89 @@ pub call-requires-clause-made : goal.call-requires-clause-made
 call-requires-clause-made g c =
     let fits : FitsSigned w32 c.in-Call.number = search rules in
     let same : to_z w32 (of_z w32 c.in-Call.number) ≡ c.in-Call.number = to_z-of_z w32 c.in-Call.number fits in
-    subst (λ (z : ℤ). MadeCall c.attempt.new.m c.args.pid c.args.before.now z c.attempt.new.regs) (sym same)
-    (subst (λ (m : Standing). MadeCall m c.args.pid c.args.before.now c.in-Call.number c.attempt.new.regs) (sym c.in-Call.ensures.only)
-    (call_made c.make_room.new.m c.args.pid c.args.before.now c.attempt.new.regs c.in-Call.number (sym c.in-Call.ensures.answer) c.in-Call.ensures.registers))
+    subst (λ (z : ℤ). MadeCall c.attempt_cached.new.m c.args.pid c.args.before.now z c.attempt_cached.new.regs) (sym same)
+    (subst (λ (m : Standing). MadeCall m c.args.pid c.args.before.now c.in-Call.number c.attempt_cached.new.regs) (sym c.in-Call.ensures.only)
+    (call_made c.make_room.new.m c.args.pid c.args.before.now c.attempt_cached.new.regs c.in-Call.number (sym c.in-Call.ensures.answer) c.in-Call.ensures.registers))
 
 pub returns-in-Call-clause-advances : goal.returns-in-Call-clause-advances
 returns-in-Call-clause-advances g c =
-    let at = tried c.args.m.now c.make_room.new.m c.attempt.new.m c.in_ok-make_room.ensures.only c.in-Call.ensures.only in
-    later_advances c.args.m.now c.attempt.new.m c.call.new.m c.args.pid (is_now c.args.patience) (g.F.Files.holds c.args.files.now) (g.D.SwapDev.image c.args.swap.now)
+    let at = tried c.args.m.now c.make_room.new.m c.attempt_cached.new.m c.in_ok-make_room.ensures.only c.in-Call.ensures.only in
+    later_advances c.args.m.now c.attempt_cached.new.m c.call.new.m c.args.pid (is_now c.args.patience) (g.F.Files.holds c.args.files.now) (g.D.SwapDev.image c.args.swap.now)
     (g.D.SwapDev.image c.call.new.swap) at c.call.result c.call.ensures.advances
 
 pub returns-in-Call-clause-stops : goal.returns-in-Call-clause-stops
 returns-in-Call-clause-stops g c =
-    let at = tried c.args.m.now c.make_room.new.m c.attempt.new.m c.in_ok-make_room.ensures.only c.in-Call.ensures.only in
-    later_stops c.args.m.now c.attempt.new.m c.call.new.m c.args.pid (is_now c.args.patience) (g.F.Files.holds c.args.files.now) (g.D.SwapDev.image c.args.swap.now)
+    let at = tried c.args.m.now c.make_room.new.m c.attempt_cached.new.m c.in_ok-make_room.ensures.only c.in-Call.ensures.only in
+    later_stops c.args.m.now c.attempt_cached.new.m c.call.new.m c.args.pid (is_now c.args.patience) (g.F.Files.holds c.args.files.now) (g.D.SwapDev.image c.args.swap.now)
     (g.D.SwapDev.image c.call.new.swap) at c.call.result c.call.ensures.stops
 
 pub returns-in-Call-clause-continues : goal.returns-in-Call-clause-continues
 returns-in-Call-clause-continues g c =
-    let at = tried c.args.m.now c.make_room.new.m c.attempt.new.m c.in_ok-make_room.ensures.only c.in-Call.ensures.only in
-    later_goes_on c.args.m.now c.attempt.new.m c.call.new.m c.args.pid (is_now c.args.patience) (g.F.Files.holds c.args.files.now) (g.D.SwapDev.image c.args.swap.now)
+    let at = tried c.args.m.now c.make_room.new.m c.attempt_cached.new.m c.in_ok-make_room.ensures.only c.in-Call.ensures.only in
+    later_goes_on c.args.m.now c.attempt_cached.new.m c.call.new.m c.args.pid (is_now c.args.patience) (g.F.Files.holds c.args.files.now) (g.D.SwapDev.image c.args.swap.now)
     (g.D.SwapDev.image c.call.new.swap) at c.call.result c.requires.steady.clear c.call.ensures.continues
 
 -- Where it waits for a page.
 
 pub returns-in-Miss-clause-advances : goal.returns-in-Miss-clause-advances
 returns-in-Miss-clause-advances g c =
-    let at = tried c.args.m.now c.make_room.new.m c.attempt.new.m c.in_ok-make_room.ensures.only c.in-Miss.ensures.only in
-    served_advances c.args.m.now c.attempt.new.m c.serve_access.new.m c.args.pid (is_now c.args.patience) (g.F.Files.holds c.args.files.now) (g.D.SwapDev.image c.args.swap.now)
+    let at = tried c.args.m.now c.make_room.new.m c.attempt_cached.new.m c.in_ok-make_room.ensures.only c.in-Miss.ensures.only in
+    served_advances c.args.m.now c.attempt_cached.new.m c.serve_access.new.m c.args.pid (is_now c.args.patience) (g.F.Files.holds c.args.files.now) (g.D.SwapDev.image c.args.swap.now)
     (g.D.SwapDev.image c.serve_access.new.swap) at c.args.before.now c.requires.registers c.in-Miss.address c.in-Miss.write
-    (inl (again c.make_room.new.m c.attempt.new.m c.args.pid c.args.before.now _ c.in-Miss.ensures.only c.in-Miss.ensures.answer))
+    (inl (again c.make_room.new.m c.attempt_cached.new.m c.args.pid c.args.before.now _ c.in-Miss.ensures.only c.in-Miss.ensures.answer))
     c.serve_access.result c.serve_access.ensures.advances
 
 pub returns-in-Miss-clause-stops : goal.returns-in-Miss-clause-stops
 returns-in-Miss-clause-stops g c =
-    let at = tried c.args.m.now c.make_room.new.m c.attempt.new.m c.in_ok-make_room.ensures.only c.in-Miss.ensures.only in
-    served_stops c.args.m.now c.attempt.new.m c.serve_access.new.m c.args.pid (is_now c.args.patience) (g.F.Files.holds c.args.files.now) (g.D.SwapDev.image c.args.swap.now)
+    let at = tried c.args.m.now c.make_room.new.m c.attempt_cached.new.m c.in_ok-make_room.ensures.only c.in-Miss.ensures.only in
+    served_stops c.args.m.now c.attempt_cached.new.m c.serve_access.new.m c.args.pid (is_now c.args.patience) (g.F.Files.holds c.args.files.now) (g.D.SwapDev.image c.args.swap.now)
     (g.D.SwapDev.image c.serve_access.new.swap) at c.args.before.now c.requires.registers c.in-Miss.address c.in-Miss.write
-    (inl (again c.make_room.new.m c.attempt.new.m c.args.pid c.args.before.now _ c.in-Miss.ensures.only c.in-Miss.ensures.answer))
+    (inl (again c.make_room.new.m c.attempt_cached.new.m c.args.pid c.args.before.now _ c.in-Miss.ensures.only c.in-Miss.ensures.answer))
     c.serve_access.result c.serve_access.ensures.stops
 
 pub returns-in-Below-clause-advances : goal.returns-in-Below-clause-advances
 returns-in-Below-clause-advances g c =
-    let at = tried c.args.m.now c.make_room.new.m c.attempt.new.m c.in_ok-make_room.ensures.only c.in-Below.ensures.only in
-    served_advances c.args.m.now c.attempt.new.m c.serve_access-in-Below.new.m c.args.pid (is_now c.args.patience) (g.F.Files.holds c.args.files.now) (g.D.SwapDev.image c.args.swap.now)
+    let at = tried c.args.m.now c.make_room.new.m c.attempt_cached.new.m c.in_ok-make_room.ensures.only c.in-Below.ensures.only in
+    served_advances c.args.m.now c.attempt_cached.new.m c.serve_access-in-Below.new.m c.args.pid (is_now c.args.patience) (g.F.Files.holds c.args.files.now) (g.D.SwapDev.image c.args.swap.now)
     (g.D.SwapDev.image c.serve_access-in-Below.new.swap) at c.args.before.now c.requires.registers c.in-Below.address false
-    (inr (again c.make_room.new.m c.attempt.new.m c.args.pid c.args.before.now _ c.in-Below.ensures.only c.in-Below.ensures.answer, refl))
+    (inr (again c.make_room.new.m c.attempt_cached.new.m c.args.pid c.args.before.now _ c.in-Below.ensures.only c.in-Below.ensures.answer, refl))
     c.serve_access-in-Below.result c.serve_access-in-Below.ensures.advances
 
 pub returns-in-Below-clause-stops : goal.returns-in-Below-clause-stops
 returns-in-Below-clause-stops g c =
-    let at = tried c.args.m.now c.make_room.new.m c.attempt.new.m c.in_ok-make_room.ensures.only c.in-Below.ensures.only in
-    served_stops c.args.m.now c.attempt.new.m c.serve_access-in-Below.new.m c.args.pid (is_now c.args.patience) (g.F.Files.holds c.args.files.now) (g.D.SwapDev.image c.args.swap.now)
+    let at = tried c.args.m.now c.make_room.new.m c.attempt_cached.new.m c.in_ok-make_room.ensures.only c.in-Below.ensures.only in
+    served_stops c.args.m.now c.attempt_cached.new.m c.serve_access-in-Below.new.m c.args.pid (is_now c.args.patience) (g.F.Files.holds c.args.files.now) (g.D.SwapDev.image c.args.swap.now)
     (g.D.SwapDev.image c.serve_access-in-Below.new.swap) at c.args.before.now c.requires.registers c.in-Below.address false
-    (inr (again c.make_room.new.m c.attempt.new.m c.args.pid c.args.before.now _ c.in-Below.ensures.only c.in-Below.ensures.answer, refl))
+    (inr (again c.make_room.new.m c.attempt_cached.new.m c.args.pid c.args.before.now _ c.in-Below.ensures.only c.in-Below.ensures.answer, refl))
     c.serve_access-in-Below.result c.serve_access-in-Below.ensures.stops
 
 -- Where it ends its process.
 
 pub returns-in_err-kill-in-Signal-clause-stops : goal.returns-in_err-kill-in-Signal-clause-stops
 returns-in_err-kill-in-Signal-clause-stops g c =
-    let at = tried c.args.m.now c.make_room.new.m c.attempt.new.m c.in_ok-make_room.ensures.only c.in-Signal.ensures.only in
+    let at = tried c.args.m.now c.make_room.new.m c.attempt_cached.new.m c.in_ok-make_room.ensures.only c.in-Signal.ensures.only in
     let r = err_from_is_err_and c.from_residual-in_err-kill-in-Signal.result c.from_residual-in_err-kill-in-Signal.ensures.1 in
     rw (r.1, r.2) (
-    signal_halts c.args.m.now c.attempt.new.m c.kill.new.m c.args.pid (is_now c.args.patience) (g.F.Files.holds c.args.files.now) (g.D.SwapDev.image c.args.swap.now)
+    signal_halts c.args.m.now c.attempt_cached.new.m c.kill.new.m c.args.pid (is_now c.args.patience) (g.F.Files.holds c.args.files.now) (g.D.SwapDev.image c.args.swap.now)
     (g.D.SwapDev.image c.kill.new.swap) at c.args.before.now c.requires.registers c.in-Signal.signal
-    (again c.make_room.new.m c.attempt.new.m c.args.pid c.args.before.now _ c.in-Signal.ensures.only c.in-Signal.ensures.answer)
+    (again c.make_room.new.m c.attempt_cached.new.m c.args.pid c.args.before.now _ c.in-Signal.ensures.only c.in-Signal.ensures.answer)
     c.in_err-kill-in-Signal.field-0.0 c.in_err-kill-in-Signal.ensures.stops)
 
 pub returns-in_ok-kill-in-Signal-clause-advances : goal.returns-in_ok-kill-in-Signal-clause-advances
 returns-in_ok-kill-in-Signal-clause-advances g c =
-    let at = tried c.args.m.now c.make_room.new.m c.attempt.new.m c.in_ok-make_room.ensures.only c.in-Signal.ensures.only in
-    signal_advances c.args.m.now c.attempt.new.m c.kill.new.m c.args.pid (is_now c.args.patience) (g.F.Files.holds c.args.files.now) (g.D.SwapDev.image c.args.swap.now)
+    let at = tried c.args.m.now c.make_room.new.m c.attempt_cached.new.m c.in_ok-make_room.ensures.only c.in-Signal.ensures.only in
+    signal_advances c.args.m.now c.attempt_cached.new.m c.kill.new.m c.args.pid (is_now c.args.patience) (g.F.Files.holds c.args.files.now) (g.D.SwapDev.image c.args.swap.now)
     (g.D.SwapDev.image c.kill.new.swap) at c.args.before.now c.requires.registers c.in-Signal.signal
-    (again c.make_room.new.m c.attempt.new.m c.args.pid c.args.before.now _ c.in-Signal.ensures.only c.in-Signal.ensures.answer)
+    (again c.make_room.new.m c.attempt_cached.new.m c.args.pid c.args.before.now _ c.in-Signal.ensures.only c.in-Signal.ensures.answer)
     c.in_ok-kill-in-Signal.ensures.ended
 
 pub returns-in_ok-kill-in-Signal-clause-continues : goal.returns-in_ok-kill-in-Signal-clause-continues
 returns-in_ok-kill-in-Signal-clause-continues g c =
-    let at = tried c.args.m.now c.make_room.new.m c.attempt.new.m c.in_ok-make_room.ensures.only c.in-Signal.ensures.only in
-    room_goes_on c.args.m.now c.attempt.new.m c.kill.new.m 1 at c.requires.steady.clear
-    (end_continues c.attempt.new.m c.kill.new.m c.args.pid c.in-Signal.signal (g.F.Files.holds c.args.files.now) (g.D.SwapDev.image c.args.swap.now) (g.D.SwapDev.image c.kill.new.swap)
-    (caller_of c.attempt.new.m c.args.pid (room_steady c.args.m.now c.attempt.new.m at c.requires.steady c.attempt.ensures.goes_on)
-    (room_lends c.args.m.now c.attempt.new.m c.args.pid at c.requires.lends))
+    let at = tried c.args.m.now c.make_room.new.m c.attempt_cached.new.m c.in_ok-make_room.ensures.only c.in-Signal.ensures.only in
+    room_goes_on c.args.m.now c.attempt_cached.new.m c.kill.new.m 1 at c.requires.steady.clear
+    (end_continues c.attempt_cached.new.m c.kill.new.m c.args.pid c.in-Signal.signal (g.F.Files.holds c.args.files.now) (g.D.SwapDev.image c.args.swap.now) (g.D.SwapDev.image c.kill.new.swap)
+    (caller_of c.attempt_cached.new.m c.args.pid (room_steady c.args.m.now c.attempt_cached.new.m at c.requires.steady c.attempt_cached.ensures.goes_on)
+    (room_lends c.args.m.now c.attempt_cached.new.m c.args.pid at c.requires.lends))
     c.in_ok-kill-in-Signal.ensures.ended)
 
 -- Where the run stops, the sizes and images stay, and a journal is full only at its bound.
@@ -179,23 +179,23 @@ returns-in_err-make_room-clause-kept g c =
 
 pub returns-in-Call-clause-kept : goal.returns-in-Call-clause-kept
 returns-in-Call-clause-kept g c =
-    let at = tried c.args.m.now c.make_room.new.m c.attempt.new.m c.in_ok-make_room.ensures.only c.in-Call.ensures.only in
-    later_kept c.call.result c.args.m.now c.attempt.new.m c.call.new.m at c.call.ensures.kept
+    let at = tried c.args.m.now c.make_room.new.m c.attempt_cached.new.m c.in_ok-make_room.ensures.only c.in-Call.ensures.only in
+    later_kept c.call.result c.args.m.now c.attempt_cached.new.m c.call.new.m at c.call.ensures.kept
 
 pub returns-in-Miss-clause-kept : goal.returns-in-Miss-clause-kept
 returns-in-Miss-clause-kept g c =
-    let at = tried c.args.m.now c.make_room.new.m c.attempt.new.m c.in_ok-make_room.ensures.only c.in-Miss.ensures.only in
-    later_kept c.serve_access.result c.args.m.now c.attempt.new.m c.serve_access.new.m at c.serve_access.ensures.kept
+    let at = tried c.args.m.now c.make_room.new.m c.attempt_cached.new.m c.in_ok-make_room.ensures.only c.in-Miss.ensures.only in
+    later_kept c.serve_access.result c.args.m.now c.attempt_cached.new.m c.serve_access.new.m at c.serve_access.ensures.kept
 
 pub returns-in-Below-clause-kept : goal.returns-in-Below-clause-kept
 returns-in-Below-clause-kept g c =
-    let at = tried c.args.m.now c.make_room.new.m c.attempt.new.m c.in_ok-make_room.ensures.only c.in-Below.ensures.only in
-    later_kept c.serve_access-in-Below.result c.args.m.now c.attempt.new.m c.serve_access-in-Below.new.m at c.serve_access-in-Below.ensures.kept
+    let at = tried c.args.m.now c.make_room.new.m c.attempt_cached.new.m c.in_ok-make_room.ensures.only c.in-Below.ensures.only in
+    later_kept c.serve_access-in-Below.result c.args.m.now c.attempt_cached.new.m c.serve_access-in-Below.new.m at c.serve_access-in-Below.ensures.kept
 
 pub returns-in_err-kill-in-Signal-clause-kept : goal.returns-in_err-kill-in-Signal-clause-kept
 returns-in_err-kill-in-Signal-clause-kept g c =
-    let at = tried c.args.m.now c.make_room.new.m c.attempt.new.m c.in_ok-make_room.ensures.only c.in-Signal.ensures.only in
+    let at = tried c.args.m.now c.make_room.new.m c.attempt_cached.new.m c.in_ok-make_room.ensures.only c.in-Signal.ensures.only in
     let r = err_from_is_err_and c.from_residual-in_err-kill-in-Signal.result c.from_residual-in_err-kill-in-Signal.ensures.1 in
-    rw (r.1, r.2) (later_same c.args.m.now c.attempt.new.m c.kill.new.m c.in_err-kill-in-Signal.field-0.0 at
-    (alive_same c.attempt.new.m c.kill.new.m c.args.pid (g.F.Files.holds c.args.files.now) (g.D.SwapDev.image c.args.swap.now)
+    rw (r.1, r.2) (later_same c.args.m.now c.attempt_cached.new.m c.kill.new.m c.in_err-kill-in-Signal.field-0.0 at
+    (alive_same c.attempt_cached.new.m c.kill.new.m c.args.pid (g.F.Files.holds c.args.files.now) (g.D.SwapDev.image c.args.swap.now)
     (g.D.SwapDev.image c.kill.new.swap) c.in_err-kill-in-Signal.field-0.0 c.in_err-kill-in-Signal.ensures.stops))
