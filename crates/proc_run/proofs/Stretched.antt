@@ -1,5 +1,6 @@
 -- Instructions that were carried out one after another within one loan, and counted at once, were counted one after another.
-use Rattle.std.proofs.Common.{◌≡◌, ◌≢◌, ℕ, ℤ, zero, suc, ◌+◌, ◌-◌, ◌/◌, ◌%◌, ◌==◌, Bool, true, false, cond, not, ◌&&◌, List, [], ◌∷◌, ◌++◌, map, Option, Some, None, Result, eq-eqb, refl, sym, ap, ◌∙◌, subst, arith}
+use Rattle.std.proofs.Common.{◌≡◌, ◌≢◌, ℕ, ℤ, zero, suc, ◌+◌, ◌/◌, ◌%◌, ◌==◌, Bool, true, false, cond, not, ◌&&◌, List, [], ◌∷◌, ◌++◌, map, Option, Some, None, Result, eq-eqb, refl, sym, ap, ◌∙◌, subst, arith}
+use Rattle.std.specs.Prelude.{IfSome}
 use Rattle.std.proofs.lemmas.Bool.{and_parts}
 use Rattle.vm_facts.specs.Answers.{Answers, ByteWrite, written}
 use Rattle.vm_facts.specs.declared.entry.Entry.{Entry}
@@ -36,8 +37,9 @@ use Rattle.steady_laws.specs.Callers.{regs_of, regs_by}
 use Rattle.steady_laws.specs.Growth.{space_of_pid}
 use Rattle.proc_run.specs.Calls.{own_answers}
 use Rattle.proc_run.specs.Choosing.{can_run, steps_by, may_run}
-use Rattle.proc_run.specs.Stretch.{CarriesOn, Stretch, StretchOf, RanOne, RanOn}
-use Rattle.proc_run.proofs.Attempts.{no_room, writes_none}
+use Rattle.proc_run.specs.Stretch.{CarriesOn, Stretch, StretchOf, MissesByte, RanOne, RanOn}
+use Rattle.proc_run.specs.declared.stretch.Missed.{Missed}
+use Rattle.proc_run.proofs.Attempts.{missed, no_room, writes_none}
 use Rattle.proc_run.proofs.Tried.{ran_advances, ran_goes_on}
 use Rattle.proc_run.proofs.Written.{writes_same}
 
@@ -313,7 +315,33 @@ module _ (old : Standing) (pid : ℕ) (regs : Regs) (clear : old.kernel.place.du
   ran_all zero ws after new d h each e = absurd (d refl)
   ran_all (suc n) ws after new d h each e = subst (RanOn old pid (suc n)) (sym e) (reached (suc n) ws after h each).ran
 
+  -- so it misses the byte that an instruction missed after the loan
+  pub missed_on : (n : ℕ) (ws : List ByteWrite) (after : Regs) (mid new : Standing) → n ≢ 0 → AreWritten old.kernel sid ws
+      → mid ≡ (let m : Standing = record old { kernel = after_writes ws } in m)
+      → new ≡ (let m : Standing = record old { kernel = ran_by (after_writes ws) pid after (Ran pid n); room = None } in m)
+      → (o : Option Missed) → IfSome o (MissesByte (kernel_answers mid.kernel sid) after)
+      → IfSome o (MissesByte (own_answers new pid) (regs_of new.kernel pid))
+  missed_on zero ws after mid new d each e f o h = absurd (d refl)
+  missed_on (suc n) ws after mid new d each e f o h =
+      let here : kernel_answers mid.kernel sid ≡ written (kernel_answers old.kernel sid) ws =
+      ap (λ (m : Standing). kernel_answers m.kernel sid) e ∙ writes_answer old.kernel sid ws each in
+      let there : own_answers new pid ≡ written (kernel_answers old.kernel sid) ws =
+      ap (λ (m : Standing). own_answers m pid) f ∙ answers_at (suc n) ws after each in
+      let left : after ≡ regs_of new.kernel pid = has_at (suc n) ws after tt ∙ sym (ap (λ (m : Standing). regs_of m.kernel pid) f) in
+      subst (λ (rs : Regs). IfSome o (MissesByte (own_answers new pid) rs)) left
+      (subst (λ (m : Answers). IfSome o (MissesByte m after)) (here ∙ sym there) h)
+
 -- What a stretch leaves.
+
+-- a byte that was missed is missed again
+pub missed_still : (memory later : Answers) (before after : Regs) (address : ℕ) (write : Bool)
+    → answer_of (run memory (instruction before)) ≡ steps.Miss address write → after ≡ before
+    → later ≡ written memory (writes_of (run memory (instruction before)))
+    → answer_of (run later (instruction after)) ≡ steps.Miss address write
+missed_still memory later before after address write a same wrote =
+    let none : writes_of (run memory (instruction before)) ≡ [] = ap writes_of (missed (run memory (instruction before)) address write a) in
+    let as_before : later ≡ memory = wrote ∙ ap (written memory) none in
+    ap (λ (m : Answers). answer_of (run m (instruction after))) as_before ∙ ap (λ (rs : Regs). answer_of (run memory (instruction rs))) same ∙ a
 
 -- none leaves the machine as it was
 pub none_ran : (old new : Standing) (sid : ℕ) (memory : Answers) (regs after : Regs) (n : ℕ) → n ≡ 0
@@ -347,3 +375,20 @@ pub call_unwritten : (memory : Answers) (before : Regs) (number : ℤ) → answe
     → writes_of (run memory (instruction before)) ≡ []
 call_unwritten memory before number a =
     writes_none memory before (run memory (instruction before)) refl (λ d. let z : steps.Call number ≡ steps.Done = sym a ∙ d in absurd cc)
+
+-- where none was carried out the process has the registers that it had
+pub none_left : (memory : Answers) (regs after : Regs) (n : ℕ) (Wrote : List ByteWrite → Type 0) → n ≡ 0 → StretchOf memory regs n after Wrote → after ≡ regs
+none_left memory regs after zero Wrote e h = h.1.1
+none_left memory regs after (suc n) Wrote e h = absurd (omega (arith, e))
+
+-- and misses the same byte in the machine, which is as before
+pub missed_first : (old mid : Standing) (pid : ℕ) (regs after : Regs) (o : Option Missed) → regs ≡ regs_of old.kernel pid → mid ≡ old → after ≡ regs
+    → IfSome o (MissesByte (kernel_answers mid.kernel (space_of_pid old.kernel pid)) after) → IfSome o (MissesByte (own_answers mid pid) (regs_of mid.kernel pid))
+missed_first old mid pid regs after o has same left h =
+    subst (λ (m : Standing). IfSome o (MissesByte (own_answers m pid) (regs_of m.kernel pid))) (sym same)
+    (subst (λ (rs : Regs). IfSome o (MissesByte (own_answers old pid) rs)) (left ∙ has)
+    (subst (λ (m : Standing). IfSome o (MissesByte (kernel_answers m.kernel (space_of_pid old.kernel pid)) after)) same h))
+
+-- an instruction that misses a byte writes nothing
+pub missed_quiet : (memory : Answers) (before : Regs) (byte : Missed) → MissesByte memory before byte → writes_of (run memory (instruction before)) ≡ []
+missed_quiet memory before byte h = ap writes_of (missed (run memory (instruction before)) byte.address byte.write h)

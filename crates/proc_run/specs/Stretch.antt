@@ -11,6 +11,7 @@ use Rattle.machine_state.specs.Machine.{Standing}
 use Rattle.steady_laws.specs.Ready.{Continues}
 use Rattle.step_units.specs.Stepped.{LeadsFrom}
 use Rattle.proc_run.specs.declared.advancing.Advance.TheVariants as advances
+use Rattle.proc_run.specs.declared.stretch.Missed.{Missed}
 use Rattle.proc_run.specs.Choosing.{may_run}
 use Rattle.proc_run.specs.Runs.{HasRunner, AdvancesTo}
 
@@ -41,6 +42,10 @@ Stretch memory before (suc count) writes after =
 -- and what they wrote is so
 abbrev pub StretchOf : Answers → Regs → ℕ → Regs → (List ByteWrite → Type 0) → Type 0
 StretchOf memory before count after Wrote = (writes : List ByteWrite) × Stretch memory before count writes after × Wrote writes
+
+-- the instruction of these registers has no access yet to this byte
+abbrev pub MissesByte : Answers → Regs → Missed → Type 0
+MissesByte memory regs missed = answer_of (run memory (instruction regs)) ≡ steps.Miss missed.address missed.write
 
 -- Over a machine.
 

@@ -1,5 +1,5 @@
 //! The next instruction of a process, or a page that it waits for.
-ghost use Rattle.std.specs.Prelude.{◌≡◌, ◌⊎◌, ◌+◌, ◌^◌, ◌<◌, ◌≤◌, false, Some, IfOk, OnOk, IfErr, OnErr, Err};
+ghost use Rattle.std.specs.Prelude.{◌≡◌, ◌⊎◌, ◌+◌, ◌^◌, ◌<◌, ◌≤◌, false, Some, IfOk, OnOk, IfErr, OnErr, IfSome, Err};
 ghost use Rattle.vm_facts.specs.declared.entry.Entry.TheVariants.{Ran};
 ghost use Rattle.user_vax.specs.Program.{run};
 ghost use Rattle.user_vax.specs.Instruction.{instruction, answer_of};
@@ -16,10 +16,12 @@ ghost use Rattle.steady_laws.specs.Sizes.{KeptAtStop};
 ghost use Rattle.step_units.specs.Stepped.{LeadsFrom, StopsFrom};
 ghost use Rattle.proc_run.specs.Calls.{own_answers};
 ghost use Rattle.proc_run.specs.Runs.{IsSteady, is_now, counts, HasRunner, AdvancesTo};
+ghost use Rattle.proc_run.specs.Stretch.{MissesByte};
 
 use crate::attempting::{attempt_cached, completes, has_room};
 use crate::calling::call;
 use crate::serving::serve_access;
+use crate::stretch::Missed;
 use io_edge::{Files, SwapDev};
 use machine_state::{Machine, or_stop};
 use std::alloc::Global;
@@ -116,5 +118,48 @@ pub fn next_step<F: Files, D: SwapDev>(
             kill(m, files, swap, pid, signal)?;
             Ok(Advance::Counted)
         }
+    }
+}
+
+/// The next instruction of a process, as `next_step` has it, or the page of a byte that it is known to miss.
+pub fn advance_from<F: Files, D: SwapDev>(
+    alloc: Global,
+    cache: &mut DecodeCache,
+    m: &mut Machine,
+    files: &mut F,
+    swap: &mut D,
+    pid: u32,
+    before: &Regs,
+    missed: Option<Missed>,
+    patience: Patience,
+) -> Result<Advance, Stop>
+    requires steady { IsSteady m.old }
+    requires lends { CanLend m.old.kernel pid }
+    requires area { m.old.params.swap_blocks ≤ D.blocks swap.old }
+    requires files { AreFiles m.old.images (F.holds files.old) }
+    requires registers { before.now ≡ regs_of m.old.kernel pid }
+    requires fits { instructions_of m.old.kernel.journal + 1 < 2 ^ 32 }
+    requires known { IfSome missed (MissesByte (own_answers m.old pid) before.now) }
+    ensures advances { IfOk result (λ advance. LeadsFrom (HasRunner m.old (F.holds files.old) (D.image swap.old) pid (is_now patience))
+        (AdvancesTo m.old.kernel m.new.kernel (D.image swap.new) advance)) }
+    ensures stops { IfErr result (StopsFrom (HasRunner m.old (F.holds files.old) (D.image swap.old) pid (is_now patience)) m.old m.new (D.image swap.new)) }
+    ensures continues { IfOk result (λ advance. Continues m.old m.new (counts advance)) }
+    ensures goes_on { OnOk result (CanGoOn m.new) }
+    ensures kept { IfErr result (KeptAtStop m.old m.new) }
+    ensures outside { TransfersPages F.Files D.SwapDev (stop_of result) files.old files.new swap.old swap.new }
+{
+    match missed {
+        Some(byte) => serve_access(
+            alloc,
+            m,
+            files,
+            swap,
+            pid,
+            before,
+            byte.address,
+            byte.write,
+            patience,
+        ),
+        None => next_step(alloc, cache, m, files, swap, pid, before, patience),
     }
 }

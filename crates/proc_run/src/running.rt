@@ -8,9 +8,9 @@ ghost use Rattle.step_units.specs.Stepped.{LeadsFrom, StopsFrom};
 ghost use Rattle.proc_run.specs.Runs.{IsSteady, is_now};
 ghost use Rattle.proc_run.specs.Running.{CountsTo, UnderMark, RunLeads};
 
-use crate::advancing::{Advance, Patience, next_step};
+use crate::advancing::{Advance, Patience, advance_from};
 use crate::choosing::ready_regs;
-use crate::stretch::run_on;
+use crate::stretch::{Missed, run_on};
 use io_edge::{Files, SwapDev};
 use machine_state::Machine;
 use std::alloc::Global;
@@ -47,17 +47,23 @@ pub fn run<F: Files, D: SwapDev>(
 {
     let mut count = counted;
     let mut waits = 0;
+    let mut missed: Option<Missed> = None;
     while count < until && waits < MOST_WAITS {
         let Some(regs) = ready_regs(m, pid) else {
             return Ok(count);
         };
-        match next_step(alloc, cache, m, files, swap, pid, &regs, patience)? {
+        match advance_from(alloc, cache, m, files, swap, pid, &regs, missed, patience)? {
             Advance::Counted => {
                 count += 1;
                 waits = 0;
-                count += run_on(cache, m, pid, until - count);
+                let reach = run_on(cache, m, pid, until - count);
+                count += reach.count;
+                missed = reach.missed;
             }
-            Advance::Served => waits += 1,
+            Advance::Served => {
+                waits += 1;
+                missed = None;
+            }
             Advance::Stuck => return Ok(count),
         }
     }

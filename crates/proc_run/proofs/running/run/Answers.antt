@@ -1,8 +1,12 @@
-use Rattle.std.proofs.Common.{◌+◌, ◌-◌, ◌<◌, ◌≤◌, ◌∙◌, subst, refl, arith, None}
+use Rattle.std.proofs.Common.{◌+◌, ◌-◌, ◌<◌, ◌≤◌, ◌∙◌, sym, subst, refl, arith, None}
+use Rattle.std.specs.Prelude.{IfSome}
+use Rattle.vm_facts.specs.declared.regs.Regs.{Regs}
 use Rattle.std.proofs.lemmas.Result.{err_from_is_err_and}
 use Rattle.steady_laws.specs.Ready.{Continues}
 use Rattle.proc_run.specs.declared.advancing.Advance.TheVariants as advances
+use Rattle.proc_run.specs.Calls.{own_answers}
 use Rattle.proc_run.specs.Runs.{is_now, counts, HasRunner, AdvancesTo}
+use Rattle.proc_run.specs.Stretch.{MissesByte}
 use Rattle.proc_run.proofs.SoFar.{ran_far, ran_all_continue, none_so_far, counted_far, served_far, stuck_runs, stops_far, idle_runs, done_runs, waited_runs, steady_on, lends_there}
 use Rattle.machine_state.proofs.Transfers.{transfers_none, transfers_then}
 use Rattle.steady_laws.proofs.StopsKeep.{kept_through}
@@ -18,6 +22,7 @@ loop-count-init g c = record {
   more = omega arith;
   few = omega arith;
   so_far = none_so_far c.args.m.now c.args.pid (is_now c.args.patience) c.args.counted c.args.until (g.F.Files.holds c.args.files.now) (g.D.SwapDev.image c.args.swap.now);
+  known = tt;
   outside = transfers_none g.met.F.Files.leads_nowhere g.met.D.SwapDev.leads_nowhere c.args.files.now c.args.swap.now;
 }
 
@@ -27,30 +32,34 @@ returns-in_default-clause-runs g c =
     idle_runs c.args.m.now c.loop-count.m c.args.pid (is_now c.args.patience) c.args.counted c.args.until (g.F.Files.holds c.args.files.now) (g.D.SwapDev.image c.args.swap.now)
     (g.D.SwapDev.image c.loop-count.swap) c.loop-count.count c.loop-count.waits so.so_far (c.ready_regs.ensures.none c.in_default.is)
 
-pub next_step-requires-clause-lends : goal.next_step-requires-clause-lends
-next_step-requires-clause-lends g c = lends_there c.loop-count.m c.args.pid c.loop-count.invariant.steady c.in-Some.ensures.ready
+pub advance_from-requires-clause-lends : goal.advance_from-requires-clause-lends
+advance_from-requires-clause-lends g c = lends_there c.loop-count.m c.args.pid c.loop-count.invariant.steady c.in-Some.ensures.ready
 
-pub returns-in_err-next_step-clause-stops : goal.returns-in_err-next_step-clause-stops
-returns-in_err-next_step-clause-stops g c =
+pub advance_from-requires-clause-known : goal.advance_from-requires-clause-known
+advance_from-requires-clause-known g c =
+    subst (λ (rs : Regs). IfSome c.loop-count.missed (MissesByte (own_answers c.loop-count.m c.args.pid) rs)) (sym c.in-Some.ensures.registers) c.loop-count.invariant.known
+
+pub returns-in_err-advance_from-clause-stops : goal.returns-in_err-advance_from-clause-stops
+returns-in_err-advance_from-clause-stops g c =
     let so = c.loop-count.invariant in
     let e = err_from_is_err_and c.from_residual.result c.from_residual.ensures.1 in
     rw (e.1, e.2) (
-    stops_far c.args.m.now c.loop-count.m c.next_step.new.m c.args.pid (is_now c.args.patience) c.args.counted c.args.until (g.F.Files.holds c.args.files.now) (g.D.SwapDev.image c.args.swap.now)
-    (g.D.SwapDev.image c.loop-count.swap) (g.D.SwapDev.image c.next_step.new.swap) c.loop-count.count c.loop-count.waits so.so_far c.loop-count-test.true c.in-Some.ensures.ready
-    c.in_err-next_step.field-0.0
-    (subst (λ hs. StopsFrom (HasRunner c.loop-count.m hs (g.D.SwapDev.image c.loop-count.swap) c.args.pid (is_now c.args.patience)) c.loop-count.m c.next_step.new.m
-    (g.D.SwapDev.image c.next_step.new.swap) c.in_err-next_step.field-0.0) so.outside.files.holds c.in_err-next_step.ensures.stops))
+    stops_far c.args.m.now c.loop-count.m c.advance_from.new.m c.args.pid (is_now c.args.patience) c.args.counted c.args.until (g.F.Files.holds c.args.files.now) (g.D.SwapDev.image c.args.swap.now)
+    (g.D.SwapDev.image c.loop-count.swap) (g.D.SwapDev.image c.advance_from.new.swap) c.loop-count.count c.loop-count.waits so.so_far c.loop-count-test.true c.in-Some.ensures.ready
+    c.in_err-advance_from.field-0.0
+    (subst (λ hs. StopsFrom (HasRunner c.loop-count.m hs (g.D.SwapDev.image c.loop-count.swap) c.args.pid (is_now c.args.patience)) c.loop-count.m c.advance_from.new.m
+    (g.D.SwapDev.image c.advance_from.new.swap) c.in_err-advance_from.field-0.0) so.outside.files.holds c.in_err-advance_from.ensures.stops))
 
-pub run_on-count-requires-clause-steady : goal.run_on-count-requires-clause-steady
-run_on-count-requires-clause-steady g c =
-    let on : Continues c.loop-count.m c.next_step.new.m (counts advances.Counted) =
-    subst (λ a. Continues c.loop-count.m c.next_step.new.m (counts a)) c.in-Counted.is c.in_ok-next_step.ensures.continues in
-    steady_on c.loop-count.m c.next_step.new.m 1 c.loop-count.invariant.steady on c.in_ok-next_step.ensures.goes_on
+pub run_on-reach-requires-clause-steady : goal.run_on-reach-requires-clause-steady
+run_on-reach-requires-clause-steady g c =
+    let on : Continues c.loop-count.m c.advance_from.new.m (counts advances.Counted) =
+    subst (λ a. Continues c.loop-count.m c.advance_from.new.m (counts a)) c.in-Counted.is c.in_ok-advance_from.ensures.continues in
+    steady_on c.loop-count.m c.advance_from.new.m 1 c.loop-count.invariant.steady on c.in_ok-advance_from.ensures.goes_on
 
-pub run_on-count-requires-clause-fits : goal.run_on-count-requires-clause-fits
-run_on-count-requires-clause-fits g c =
-    let on : Continues c.loop-count.m c.next_step.new.m (counts advances.Counted) =
-    subst (λ a. Continues c.loop-count.m c.next_step.new.m (counts a)) c.in-Counted.is c.in_ok-next_step.ensures.continues in
+pub run_on-reach-requires-clause-fits : goal.run_on-reach-requires-clause-fits
+run_on-reach-requires-clause-fits g c =
+    let on : Continues c.loop-count.m c.advance_from.new.m (counts advances.Counted) =
+    subst (λ a. Continues c.loop-count.m c.advance_from.new.m (counts a)) c.in-Counted.is c.in_ok-advance_from.ensures.continues in
     let a = on.counted in
     let b = c.loop-count.invariant.counts in
     let room : c.loop-count.count < c.args.until = c.loop-count-test.true in
@@ -60,74 +69,76 @@ run_on-count-requires-clause-fits g c =
 pub loop-count-preserved-in-Counted : goal.loop-count-preserved-in-Counted
 loop-count-preserved-in-Counted g c =
     let so = c.loop-count.invariant in
-    let on : Continues c.loop-count.m c.next_step.new.m (counts advances.Counted) =
-    subst (λ a. Continues c.loop-count.m c.next_step.new.m (counts a)) c.in-Counted.is c.in_ok-next_step.ensures.continues in
+    let on : Continues c.loop-count.m c.advance_from.new.m (counts advances.Counted) =
+    subst (λ a. Continues c.loop-count.m c.advance_from.new.m (counts a)) c.in-Counted.is c.in_ok-advance_from.ensures.continues in
     let led : LeadsFrom (HasRunner c.loop-count.m (g.F.Files.holds c.args.files.now) (g.D.SwapDev.image c.loop-count.swap) c.args.pid (is_now c.args.patience))
-    (AdvancesTo c.loop-count.m.kernel c.next_step.new.m.kernel (g.D.SwapDev.image c.next_step.new.swap) advances.Counted) =
+    (AdvancesTo c.loop-count.m.kernel c.advance_from.new.m.kernel (g.D.SwapDev.image c.advance_from.new.swap) advances.Counted) =
     subst (λ hs. LeadsFrom (HasRunner c.loop-count.m hs (g.D.SwapDev.image c.loop-count.swap) c.args.pid (is_now c.args.patience))
-    (AdvancesTo c.loop-count.m.kernel c.next_step.new.m.kernel (g.D.SwapDev.image c.next_step.new.swap) advances.Counted))
+    (AdvancesTo c.loop-count.m.kernel c.advance_from.new.m.kernel (g.D.SwapDev.image c.advance_from.new.swap) advances.Counted))
     so.outside.files.holds
     (subst (λ a. LeadsFrom (HasRunner c.loop-count.m (g.F.Files.holds c.loop-count.files) (g.D.SwapDev.image c.loop-count.swap) c.args.pid (is_now c.args.patience))
-    (AdvancesTo c.loop-count.m.kernel c.next_step.new.m.kernel (g.D.SwapDev.image c.next_step.new.swap) a)) c.in-Counted.is c.in_ok-next_step.ensures.advances) in
-    let one = counted_far c.args.m.now c.loop-count.m c.next_step.new.m c.args.pid (is_now c.args.patience) c.args.counted c.args.until (g.F.Files.holds c.args.files.now)
-    (g.D.SwapDev.image c.args.swap.now) (g.D.SwapDev.image c.loop-count.swap) (g.D.SwapDev.image c.next_step.new.swap) c.loop-count.count c.loop-count.waits so.so_far c.loop-count-test.true
+    (AdvancesTo c.loop-count.m.kernel c.advance_from.new.m.kernel (g.D.SwapDev.image c.advance_from.new.swap) a)) c.in-Counted.is c.in_ok-advance_from.ensures.advances) in
+    let one = counted_far c.args.m.now c.loop-count.m c.advance_from.new.m c.args.pid (is_now c.args.patience) c.args.counted c.args.until (g.F.Files.holds c.args.files.now)
+    (g.D.SwapDev.image c.args.swap.now) (g.D.SwapDev.image c.loop-count.swap) (g.D.SwapDev.image c.advance_from.new.swap) c.loop-count.count c.loop-count.waits so.so_far c.loop-count-test.true
     c.in-Some.ensures.ready on.params on.images led in
-    let steady = steady_on c.loop-count.m c.next_step.new.m 1 so.steady on c.in_ok-next_step.ensures.goes_on in
-    let further = ran_all_continue c.run_on-count.result c.args.pid c.next_step.new.m c.run_on-count.new.m on.clear c.run_on-count.ensures.ran in
-    let most : c.run_on-count.result ≤ c.args.until - (c.loop-count.count + 1) = c.run_on-count.ensures.few in
+    let steady = steady_on c.loop-count.m c.advance_from.new.m 1 so.steady on c.in_ok-advance_from.ensures.goes_on in
+    let further = ran_all_continue c.run_on-reach.result.count c.args.pid c.advance_from.new.m c.run_on-reach.new.m on.clear c.run_on-reach.ensures.ran in
+    let most : c.run_on-reach.result.count ≤ c.args.until - (c.loop-count.count + 1) = c.run_on-reach.ensures.few in
     let room : c.loop-count.count < c.args.until = c.loop-count-test.true in
-    let few : c.loop-count.count + 1 + c.run_on-count.result ≤ c.args.until = omega arith in
+    let few : c.loop-count.count + 1 + c.run_on-reach.result.count ≤ c.args.until = omega arith in
     record {
-      steady = steady_on c.next_step.new.m c.run_on-count.new.m c.run_on-count.result steady further c.run_on-count.ensures.goes_on;
+      steady = steady_on c.advance_from.new.m c.run_on-reach.new.m c.run_on-reach.result.count steady further c.run_on-reach.ensures.goes_on;
       params = further.params ∙ on.params ∙ so.params;
       images = further.images ∙ on.images ∙ so.images;
       counts = let a = on.counted in let b = so.counts in let d = further.counted in omega arith;
       more = let a = so.more in omega arith;
       few = omega arith;
-      so_far = ran_far c.run_on-count.result c.args.pid c.args.m.now c.next_step.new.m c.run_on-count.new.m (is_now c.args.patience) c.args.counted c.args.until (g.F.Files.holds c.args.files.now)
-          (g.D.SwapDev.image c.args.swap.now) (g.D.SwapDev.image c.next_step.new.swap) (c.loop-count.count + 1) one c.run_on-count.ensures.ran few;
-      outside = transfers_then {stop = None} g.met.F.Files.leads_through g.met.D.SwapDev.leads_through so.outside c.in_ok-next_step.ensures.outside;
+      so_far = ran_far c.run_on-reach.result.count c.args.pid c.args.m.now c.advance_from.new.m c.run_on-reach.new.m (is_now c.args.patience) c.args.counted c.args.until
+          (g.F.Files.holds c.args.files.now) (g.D.SwapDev.image c.args.swap.now) (g.D.SwapDev.image c.advance_from.new.swap) (c.loop-count.count + 1) one c.run_on-reach.ensures.ran few;
+      known = c.run_on-reach.ensures.missed;
+      outside = transfers_then {stop = None} g.met.F.Files.leads_through g.met.D.SwapDev.leads_through so.outside c.in_ok-advance_from.ensures.outside;
     }
 
 pub loop-count-preserved : goal.loop-count-preserved
 loop-count-preserved g c =
     let so = c.loop-count.invariant in
-    let on : Continues c.loop-count.m c.next_step.new.m (counts advances.Served) =
-    subst (λ a. Continues c.loop-count.m c.next_step.new.m (counts a)) c.in-Served.is c.in_ok-next_step.ensures.continues in
+    let on : Continues c.loop-count.m c.advance_from.new.m (counts advances.Served) =
+    subst (λ a. Continues c.loop-count.m c.advance_from.new.m (counts a)) c.in-Served.is c.in_ok-advance_from.ensures.continues in
     let led : LeadsFrom (HasRunner c.loop-count.m (g.F.Files.holds c.args.files.now) (g.D.SwapDev.image c.loop-count.swap) c.args.pid (is_now c.args.patience))
-    (AdvancesTo c.loop-count.m.kernel c.next_step.new.m.kernel (g.D.SwapDev.image c.next_step.new.swap) advances.Served) =
+    (AdvancesTo c.loop-count.m.kernel c.advance_from.new.m.kernel (g.D.SwapDev.image c.advance_from.new.swap) advances.Served) =
     subst (λ hs. LeadsFrom (HasRunner c.loop-count.m hs (g.D.SwapDev.image c.loop-count.swap) c.args.pid (is_now c.args.patience))
-    (AdvancesTo c.loop-count.m.kernel c.next_step.new.m.kernel (g.D.SwapDev.image c.next_step.new.swap) advances.Served))
+    (AdvancesTo c.loop-count.m.kernel c.advance_from.new.m.kernel (g.D.SwapDev.image c.advance_from.new.swap) advances.Served))
     so.outside.files.holds
     (subst (λ a. LeadsFrom (HasRunner c.loop-count.m (g.F.Files.holds c.loop-count.files) (g.D.SwapDev.image c.loop-count.swap) c.args.pid (is_now c.args.patience))
-    (AdvancesTo c.loop-count.m.kernel c.next_step.new.m.kernel (g.D.SwapDev.image c.next_step.new.swap) a)) c.in-Served.is c.in_ok-next_step.ensures.advances) in
+    (AdvancesTo c.loop-count.m.kernel c.advance_from.new.m.kernel (g.D.SwapDev.image c.advance_from.new.swap) a)) c.in-Served.is c.in_ok-advance_from.ensures.advances) in
     record {
-      steady = steady_on c.loop-count.m c.next_step.new.m 0 so.steady on c.in_ok-next_step.ensures.goes_on;
+      steady = steady_on c.loop-count.m c.advance_from.new.m 0 so.steady on c.in_ok-advance_from.ensures.goes_on;
       params = on.params ∙ so.params;
       images = on.images ∙ so.images;
       counts = let a = on.counted in let b = so.counts in omega arith;
       more = so.more;
       few = let w = c.if-waits-lt-MOST_WAITS.true in omega arith;
-      so_far = served_far c.args.m.now c.loop-count.m c.next_step.new.m c.args.pid (is_now c.args.patience) c.args.counted c.args.until (g.F.Files.holds c.args.files.now)
-          (g.D.SwapDev.image c.args.swap.now) (g.D.SwapDev.image c.loop-count.swap) (g.D.SwapDev.image c.next_step.new.swap) c.loop-count.count c.loop-count.waits so.so_far c.loop-count-test.true
+      so_far = served_far c.args.m.now c.loop-count.m c.advance_from.new.m c.args.pid (is_now c.args.patience) c.args.counted c.args.until (g.F.Files.holds c.args.files.now)
+          (g.D.SwapDev.image c.args.swap.now) (g.D.SwapDev.image c.loop-count.swap) (g.D.SwapDev.image c.advance_from.new.swap) c.loop-count.count c.loop-count.waits so.so_far c.loop-count-test.true
           c.in-Some.ensures.ready on.params on.images led;
-      outside = transfers_then {stop = None} g.met.F.Files.leads_through g.met.D.SwapDev.leads_through so.outside c.in_ok-next_step.ensures.outside;
+      known = tt;
+      outside = transfers_then {stop = None} g.met.F.Files.leads_through g.met.D.SwapDev.leads_through so.outside c.in_ok-advance_from.ensures.outside;
     }
 
 pub returns-in-Stuck-clause-runs : goal.returns-in-Stuck-clause-runs
 returns-in-Stuck-clause-runs g c =
     let so = c.loop-count.invariant in
-    let on : Continues c.loop-count.m c.next_step.new.m (counts advances.Stuck) =
-    subst (λ a. Continues c.loop-count.m c.next_step.new.m (counts a)) c.in-Stuck.is c.in_ok-next_step.ensures.continues in
+    let on : Continues c.loop-count.m c.advance_from.new.m (counts advances.Stuck) =
+    subst (λ a. Continues c.loop-count.m c.advance_from.new.m (counts a)) c.in-Stuck.is c.in_ok-advance_from.ensures.continues in
     let led : LeadsFrom (HasRunner c.loop-count.m (g.F.Files.holds c.args.files.now) (g.D.SwapDev.image c.loop-count.swap) c.args.pid (is_now c.args.patience))
-    (AdvancesTo c.loop-count.m.kernel c.next_step.new.m.kernel (g.D.SwapDev.image c.next_step.new.swap) advances.Stuck) =
+    (AdvancesTo c.loop-count.m.kernel c.advance_from.new.m.kernel (g.D.SwapDev.image c.advance_from.new.swap) advances.Stuck) =
     subst (λ hs. LeadsFrom (HasRunner c.loop-count.m hs (g.D.SwapDev.image c.loop-count.swap) c.args.pid (is_now c.args.patience))
-    (AdvancesTo c.loop-count.m.kernel c.next_step.new.m.kernel (g.D.SwapDev.image c.next_step.new.swap) advances.Stuck))
+    (AdvancesTo c.loop-count.m.kernel c.advance_from.new.m.kernel (g.D.SwapDev.image c.advance_from.new.swap) advances.Stuck))
     so.outside.files.holds
     (subst (λ a. LeadsFrom (HasRunner c.loop-count.m (g.F.Files.holds c.loop-count.files) (g.D.SwapDev.image c.loop-count.swap) c.args.pid (is_now c.args.patience))
-    (AdvancesTo c.loop-count.m.kernel c.next_step.new.m.kernel (g.D.SwapDev.image c.next_step.new.swap) a)) c.in-Stuck.is c.in_ok-next_step.ensures.advances) in
-    stuck_runs c.args.m.now c.loop-count.m c.next_step.new.m c.args.pid (is_now c.args.patience) c.args.counted c.args.until (g.F.Files.holds c.args.files.now)
-    (g.D.SwapDev.image c.args.swap.now) (g.D.SwapDev.image c.loop-count.swap) (g.D.SwapDev.image c.next_step.new.swap) c.loop-count.count c.loop-count.waits so.so_far c.loop-count-test.true
+    (AdvancesTo c.loop-count.m.kernel c.advance_from.new.m.kernel (g.D.SwapDev.image c.advance_from.new.swap) a)) c.in-Stuck.is c.in_ok-advance_from.ensures.advances) in
+    stuck_runs c.args.m.now c.loop-count.m c.advance_from.new.m c.args.pid (is_now c.args.patience) c.args.counted c.args.until (g.F.Files.holds c.args.files.now)
+    (g.D.SwapDev.image c.args.swap.now) (g.D.SwapDev.image c.loop-count.swap) (g.D.SwapDev.image c.advance_from.new.swap) c.loop-count.count c.loop-count.waits so.so_far c.loop-count-test.true
     c.in-Some.ensures.ready on.params on.images led
 
 pub returns-else-waits-lt-MOST_WAITS-clause-runs : goal.returns-else-waits-lt-MOST_WAITS-clause-runs
@@ -142,8 +153,8 @@ returns-after-loop-count-clause-runs g c =
     done_runs c.args.m.now c.loop-count.m c.args.pid (is_now c.args.patience) c.args.counted c.args.until (g.F.Files.holds c.args.files.now) (g.D.SwapDev.image c.args.swap.now)
     (g.D.SwapDev.image c.loop-count.swap) c.loop-count.count c.loop-count.waits so.so_far c.loop-count-test.false
 
-pub returns-in_err-next_step-clause-kept : goal.returns-in_err-next_step-clause-kept
-returns-in_err-next_step-clause-kept g c =
+pub returns-in_err-advance_from-clause-kept : goal.returns-in_err-advance_from-clause-kept
+returns-in_err-advance_from-clause-kept g c =
     let so = c.loop-count.invariant in
     let e = err_from_is_err_and c.from_residual.result c.from_residual.ensures.1 in
-    rw (e.1, e.2) (kept_through c.args.m.now c.loop-count.m c.next_step.new.m c.in_err-next_step.field-0.0 (record { params = so.params; images = so.images }) c.in_err-next_step.ensures.kept)
+    rw (e.1, e.2) (kept_through c.args.m.now c.loop-count.m c.advance_from.new.m c.in_err-advance_from.field-0.0 (record { params = so.params; images = so.images }) c.in_err-advance_from.ensures.kept)

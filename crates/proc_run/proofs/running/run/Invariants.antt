@@ -1,6 +1,10 @@
 use Rattle.std.proofs.Common.{◌-◌, ◌≡◌, ◌≤◌, ◌+◌, ◌*◌, None}
+use Rattle.std.specs.Prelude.{IfSome}
 use Rattle.flat_state.specs.Journal.{instructions_of}
+use Rattle.steady_laws.specs.Callers.{regs_of}
+use Rattle.proc_run.specs.Calls.{own_answers}
 use Rattle.proc_run.specs.Runs.{IsSteady, is_now}
+use Rattle.proc_run.specs.Stretch.{MissesByte}
 use Rattle.proc_run.proofs.SoFar.{LedSoFar}
 use Rattle.machine_state.specs.Outside.{TransfersPages}
 use Rattle.proc_run.proofs.running.run.Given as goal
@@ -15,6 +19,7 @@ invariant-loop-count g l = record {
   more : l.counted ≤ l.count;
   few : l.waits ≤ 32;
   so_far : LedSoFar l.fn.m l.m l.pid (is_now l.patience) l.counted l.until (g.F.Files.holds l.fn.files) (g.D.SwapDev.image l.fn.swap) (g.D.SwapDev.image l.swap) l.count l.waits;
+  known : IfSome l.missed (MissesByte (own_answers l.m l.pid) (regs_of l.m.kernel l.pid));
   outside : TransfersPages g.F.Files g.D.SwapDev None l.fn.files l.files l.fn.swap l.swap;
 }
 
