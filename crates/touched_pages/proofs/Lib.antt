@@ -11,3 +11,4 @@ pub mod Missing
 pub mod Calls
 pub mod Nexts
 pub mod Running
+mod Beginning

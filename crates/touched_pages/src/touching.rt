@@ -108,7 +108,8 @@ fn page_at(m: &mut Machine, pid: u32, address: u32) -> Option<Page>
     m.memory(pid).page_of(address)
 }
 
-// The first page that an instruction and its call touch beyond these.
+// The first page that an instruction and its call touch beyond these. Where there are none it is the page of the instruction's
+// first byte, for which nothing is tried.
 fn next_page(
     alloc: Global,
     m: &mut Machine,
@@ -124,6 +125,9 @@ fn next_page(
         (λ page. page ≡ page_missed m.old.kernel pid (first_missed known F p s (shown_in m.old.kernel (space_of_pid m.old.kernel pid) pages.now) regs.now)) }
     ensures same { m.new ≡ m.old }
 {
+    if pages.is_empty() {
+        return Ok(page_at(m, pid, regs.r[15]));
+    }
     match first_missed(alloc, m, pid, regs, pages)? {
         Some(address) => Ok(page_at(m, pid, address)),
         None => Ok(None),
