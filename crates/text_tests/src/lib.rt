@@ -3,9 +3,13 @@
 #![tactic(auto)]
 
 #[cfg(test)]
+mod checks;
+#[cfg(test)]
 mod examples;
 #[cfg(test)]
 mod files;
+#[cfg(test)]
+mod fixtures;
 #[cfg(test)]
 mod flat;
 #[cfg(test)]

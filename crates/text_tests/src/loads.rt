@@ -1,9 +1,9 @@
 // The workload of a load: the bytes, the lines and the text that were written down before there was a crate that makes it.
+use crate::checks::{are, is};
 use crate::examples::{LINES, Part, V, W};
-use load_maker::{Counts, counts_of, load_text, make_load};
+use load_maker::{Counts, Load, counts_of, load_text, make_load};
 use std::alloc::{AllocError, Global};
 use std::process::Abort;
-use std::test::Fail;
 use vm_facts::{Bytes, Entry, Event};
 
 // A file of one page of text, with these parts at their addresses, and so many zeros after it.
@@ -34,23 +34,35 @@ fn line_of_letter(letter: u8) -> Event {
     }
 }
 
+// Checks a file of a load by its parts.
+fn is_of_parts(
+    rt: &impl Abort,
+    alloc: Global,
+    file: &(String, Vec<u8>),
+    name: &str,
+    parts: &[Part],
+    bss: u32,
+) {
+    let wanted = file_of_parts(alloc, parts, bss).expect(rt, "memory for a file");
+    assert_eq!(rt;
+        (file.0.as_str(), file.1.as_slice()),
+        (name, wanted.as_slice())
+    );
+}
+
+// The load of a number.
+fn load(rt: &impl Abort, alloc: Global, number: u32) -> Load {
+    make_load(alloc, number).expect(rt, "memory for a load")
+}
+
 #[test]
-fn the_two_images_are_as_written_down(rt: HostRuntime) -> Result<(), Fail> {
-    let load = make_load(rt.alloc(), 7)?;
+fn the_two_images_are_as_written_down(rt: HostRuntime) {
+    let load = load(&rt, rt.alloc(), 7);
     let [w, v] = load.files.as_slice() else {
         panic!(&rt; "not two files");
     };
-    assert_eq!(rt; w.0.as_str(), "w");
-    assert_eq!(rt;
-        w.1.as_slice(),
-        file_of_parts(rt.alloc(), &W, 8192)?.as_slice()
-    );
-    assert_eq!(rt; v.0.as_str(), "v");
-    assert_eq!(rt;
-        v.1.as_slice(),
-        file_of_parts(rt.alloc(), &V, 48_128)?.as_slice()
-    );
-    Ok(())
+    is_of_parts(&rt, rt.alloc(), w, "w", &W, 8192);
+    is_of_parts(&rt, rt.alloc(), v, "v", &V, 48_128);
 }
 
 // Checks the longword at a place.
@@ -60,8 +72,8 @@ fn holds(rt: &impl Abort, bytes: &[u8], at: u16, long: u32) {
 }
 
 // Checks how many pages the programs of a number change.
-fn changes(rt: &impl Abort, alloc: Global, number: u32, pages: u16) -> Result<(), Fail> {
-    let load = make_load(alloc, number)?;
+fn changes(rt: &impl Abort, alloc: Global, number: u32, pages: u16) {
+    let load = load(rt, alloc, number);
     let [w, v] = load.files.as_slice() else {
         panic!(rt; "not two files");
     };
@@ -70,25 +82,28 @@ fn changes(rt: &impl Abort, alloc: Global, number: u32, pages: u16) -> Result<()
     holds(rt, w.1.as_slice(), 1024 + 0xa4, 1024 + 1024 * pages);
     holds(rt, v.1.as_slice(), 1024 + 0x0e, pages);
     holds(rt, v.1.as_slice(), 12, 1024 * pages);
-    Ok(())
 }
 
 #[test]
-fn from_40_to_64_pages_are_changed(rt: HostRuntime) -> Result<(), Fail> {
-    changes(&rt, rt.alloc(), 0, 40)?;
-    changes(&rt, rt.alloc(), 24, 64)?;
-    changes(&rt, rt.alloc(), 25, 40)?;
-    changes(&rt, rt.alloc(), 9999, 64)
+fn from_40_to_64_pages_are_changed(rt: HostRuntime) {
+    changes(&rt, rt.alloc(), 0, 40);
+    changes(&rt, rt.alloc(), 24, 64);
+    changes(&rt, rt.alloc(), 25, 40);
+    changes(&rt, rt.alloc(), 9999, 64);
 }
 
-#[test]
-fn the_schedule_is_as_written_down(rt: HostRuntime) -> Result<(), Fail> {
-    let load = make_load(rt.alloc(), 7)?;
-    assert_eq!(rt; load.lines.len(), LINES.len());
-    for (line, letter) in load.lines.iter().zip(LINES) {
+// Checks the lines of a load by the letters that they stand for.
+fn are_of_letters(rt: &impl Abort, lines: &[Event], letters: &[u8]) {
+    assert_eq!(rt; lines.len(), letters.len());
+    for (line, letter) in lines.iter().zip(letters) {
         assert_eq!(rt; *line, line_of_letter(*letter));
     }
-    Ok(())
+}
+
+#[test]
+fn the_schedule_is_as_written_down(rt: HostRuntime) {
+    let load = load(&rt, rt.alloc(), 7);
+    are_of_letters(&rt, load.lines.as_slice(), LINES);
 }
 
 // A reply of a system call.
@@ -103,29 +118,29 @@ fn reply(number: u32, carry: bool) -> Entry {
 }
 
 // A journal of each kind of entry that counts, and of some that don't.
-fn journal(alloc: Global) -> Result<Vec<Entry>, Fail> {
-    let mut journal = Vec::new(alloc);
+fn journal(alloc: Global) -> Result<Vec<Entry>, AllocError> {
     let bytes = Bytes::from_vec(Vec::from_slice(alloc, b"hi\n")?);
-    journal.push(Entry::Event { line: 1 })?;
-    journal.push(Entry::Ran { pid: 1, count: 70 })?;
-    journal.push(reply(2, false))?;
-    journal.push(Entry::Refused { pid: 1 })?;
-    journal.push(reply(2, true))?;
-    journal.push(reply(66, false))?;
-    journal.push(reply(66, true))?;
-    journal.push(reply(20, false))?;
-    journal.push(Entry::Out { pid: 2, bytes })?;
-    journal.push(reply(4, false))?;
-    journal.push(Entry::Sleeps { pid: 1 })?;
-    journal.push(Entry::Ended { pid: 2, status: 0 })?;
-    journal.push(Entry::Ended { pid: 3, status: 11 })?;
-    journal.push(Entry::Hands { count: 5 })?;
-    Ok(journal)
+    Ok(vec![in alloc;
+        Entry::Event { line: 1 },
+        Entry::Ran { pid: 1, count: 70 },
+        reply(2, false),
+        Entry::Refused { pid: 1 },
+        reply(2, true),
+        reply(66, false),
+        reply(66, true),
+        reply(20, false),
+        Entry::Out { pid: 2, bytes },
+        reply(4, false),
+        Entry::Sleeps { pid: 1 },
+        Entry::Ended { pid: 2, status: 0 },
+        Entry::Ended { pid: 3, status: 11 },
+        Entry::Hands { count: 5 },
+    ]?)
 }
 
 #[test]
-fn what_a_run_did_is_counted_and_told(rt: HostRuntime) -> Result<(), Fail> {
-    let counts = counts_of(4, &journal(rt.alloc())?);
+fn what_a_run_did_is_counted(rt: HostRuntime) {
+    let journal = journal(rt.alloc()).expect(&rt, "memory for a journal");
     let expected = Counts {
         instructions: 78,
         processes: 6,
@@ -133,7 +148,11 @@ fn what_a_run_did_is_counted_and_told(rt: HostRuntime) -> Result<(), Fail> {
         refused: 1,
         bytes_out: 3,
     };
-    assert_eq!(rt; counts, expected);
+    is(&rt, &counts_of(4, &journal), &expected);
+}
+
+#[test]
+fn what_a_run_did_is_told(rt: HostRuntime) {
     let counts = Counts {
         instructions: 34_632,
         processes: 8,
@@ -141,10 +160,7 @@ fn what_a_run_did_is_counted_and_told(rt: HostRuntime) -> Result<(), Fail> {
         refused: 0,
         bytes_out: 16,
     };
+    let told = load_text(rt.alloc(), 7, counts).expect(&rt, "memory for a text");
     let text = b"load 7\ninstructions 34632\nprocesses 8\nended 8\nrefused 0\nbytes out 16\n";
-    assert_eq!(rt;
-        load_text(rt.alloc(), 7, counts)?.as_slice(),
-        text.as_slice()
-    );
-    Ok(())
+    are(&rt, told.as_slice(), text);
 }

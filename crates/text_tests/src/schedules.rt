@@ -1,10 +1,11 @@
 // Why the first bad lines of a few schedules are bad.
-use io_edge::MemFiles;
+use crate::fixtures::{interrupts, mem_files, says, says_nothing};
 use schedule_reasons::explain_schedule;
-use std::test::Fail;
+use std::alloc::Global;
+use std::process::Abort;
 
 // A schedule's bytes, and what is told of it.
-const ROWS: [(&'static [u8], &'static [u8]); 19] = [
+static ROWS: [(&[u8], &[u8]); 19] = [
     (b"\n", b"1: the line is empty"),
     (
         b"i\r\nw\r\n",
@@ -32,51 +33,34 @@ const ROWS: [(&'static [u8], &'static [u8]); 19] = [
     (b"m\nh 8192", b"2: the last line has no line feed"),
 ];
 
-#[test]
-fn a_bad_line_has_its_first_reason(rt: HostRuntime) -> Result<(), Fail> {
-    let alloc = rt.alloc();
-    for (bytes, reason) in ROWS {
-        let mut held = Vec::new(alloc);
-        held.push(("s".to_string(alloc)?, Vec::from_slice(alloc, bytes)?))?;
-        let mut files = MemFiles::new(held, Vec::new(alloc));
-        let mut wanted = Vec::from_slice(alloc, b"vmrun: s line ")?;
-        wanted.extend_from_slice(reason)?;
-        wanted.push(b'\n')?;
-        let Ok(Some(told)) = explain_schedule(alloc, &mut files, "s") else {
-            return Err(Fail::from("nothing told"));
-        };
-        assert_eq!(rt; told.as_slice(), wanted.as_slice());
-    }
-    Ok(())
+// The line that is told of a schedule `s` of these bytes, where one is.
+fn told_of(rt: &impl Abort, alloc: Global, bytes: &[u8]) -> Option<Vec<u8>> {
+    let mut files = mem_files(rt, alloc, &[("s", bytes)], &[]);
+    explain_schedule(alloc, &mut files, "s").expect(rt, "a file that is read")
 }
 
 #[test]
-fn a_line_after_the_last_that_may_be_is_one_too_many(rt: HostRuntime) -> Result<(), Fail> {
-    let alloc = rt.alloc();
-    let mut lines = Vec::new(alloc);
-    for _ in 0..65_537 {
-        lines.extend_from_slice(b"i\n")?;
+fn a_bad_line_has_its_first_reason(rt: HostRuntime) {
+    for (bytes, reason) in ROWS.iter() {
+        let told = told_of(&rt, rt.alloc(), bytes);
+        says(&rt, told, b"vmrun: s line ", reason);
     }
-    let mut held = Vec::new(alloc);
-    held.push(("s".to_string(alloc)?, lines))?;
-    let mut files = MemFiles::new(held, Vec::new(alloc));
-    let Ok(Some(told)) = explain_schedule(alloc, &mut files, "s") else {
-        return Err(Fail::from("nothing told"));
-    };
-    assert_eq!(rt;
-        told.as_slice(),
-        b"vmrun: s line 65537: more than 65536 lines\n".as_slice()
+}
+
+#[test]
+fn a_line_after_the_last_that_may_be_is_one_too_many(rt: HostRuntime) {
+    let lines = interrupts(&rt, rt.alloc(), 65_537);
+    let told = told_of(&rt, rt.alloc(), lines.as_slice());
+    says(
+        &rt,
+        told,
+        b"vmrun: s line ",
+        b"65537: more than 65536 lines",
     );
-    Ok(())
 }
 
 #[test]
-fn of_a_good_schedule_nothing_is_told(rt: HostRuntime) -> Result<(), Fail> {
-    let alloc = rt.alloc();
-    let mut held = Vec::new(alloc);
-    let lines = b"d 1 1000000\ni\nh 8192\nw\nm\n".as_slice();
-    held.push(("s".to_string(alloc)?, Vec::from_slice(alloc, lines)?))?;
-    let mut files = MemFiles::new(held, Vec::new(alloc));
-    assert!(rt; matches!(explain_schedule(alloc, &mut files, "s"), Ok(None)));
-    Ok(())
+fn of_a_good_schedule_nothing_is_told(rt: HostRuntime) {
+    let told = told_of(&rt, rt.alloc(), b"d 1 1000000\ni\nh 8192\nw\nm\n");
+    says_nothing(&rt, told);
 }

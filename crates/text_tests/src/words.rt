@@ -1,9 +1,16 @@
 // The words of worked command lines.
+use crate::fixtures::{says, says_nothing};
 use command_words::{Command, Numbers, explain_words, read_words};
-use std::test::Fail;
+use std::alloc::Global;
+use std::process::Abort;
+
+// Checks the names of a run of two images.
+fn has_names(rt: &impl Abort, schedule: &str, images: &[&str]) {
+    assert_eq!(rt; (schedule, images), ("s", ["hi", "=v"].as_slice()));
+}
 
 #[test]
-fn a_run_has_its_option_its_numbers_and_its_names(rt: HostRuntime) -> Result<(), Fail> {
+fn a_run_has_its_option_its_numbers_and_its_names(rt: HostRuntime) {
     let words = ["run", "64", "--trace", "256", "100", "s", "hi", "=v"];
     let Some(
         Command::Run {
@@ -14,31 +21,30 @@ fn a_run_has_its_option_its_numbers_and_its_names(rt: HostRuntime) -> Result<(),
         },
     ) = read_words(&words)
     else {
-        return Err("bad words".into());
+        panic!(&rt; "bad words");
     };
     let wanted = Numbers {
         frames: 64,
         swap: 256,
         limit: 100,
     };
-    assert!(rt; traced);
-    assert_eq!(rt; numbers, wanted);
-    assert_eq!(rt; schedule, "s");
-    assert_eq!(rt;
-        images.to_vec(rt.alloc())?.as_slice(),
-        ["hi", "=v"].as_slice()
-    );
+    assert_eq!(rt; (traced, numbers), (true, wanted));
+    let images = images.to_vec(rt.alloc()).expect(&rt, "memory for names");
+    has_names(&rt, schedule, images.as_slice());
+}
+
+#[test]
+fn a_load_has_its_number(rt: HostRuntime) {
     assert!(rt;
         matches!(
             read_words(&["load", "07"]),
             Some(Command::Load { number: 7 })
         )
     );
-    Ok(())
 }
 
 // Command lines that are good; one space parts two words.
-const GOOD: [&'static str; 23] = [
+static GOOD: [&str; 23] = [
     // The option stands at any place after the first word, but once.
     "run --trace 64 256 100 s hi",
     "run 64 256 100 s a --trace b",
@@ -69,7 +75,7 @@ const GOOD: [&'static str; 23] = [
     "curve 64 256 100 s hi",
 ];
 
-const BAD: [&'static str; 51] = [
+static BAD: [&str; 51] = [
     "",
     "--trace run 64 256 100 s hi",
     "run --trace 64 --trace 256 100 s hi",
@@ -123,57 +129,61 @@ const BAD: [&'static str; 51] = [
     "run",
 ];
 
-#[test]
-fn words_ask_for_a_command_or_for_none(rt: HostRuntime) -> Result<(), Fail> {
-    assert!(rt; read_words(&[]).is_none());
-    for (lines, good) in [(GOOD.as_slice(), true), (BAD.as_slice(), false)] {
-        for line in lines {
-            let mut words = Vec::new(rt.alloc());
-            for word in line.split(' ') {
-                words.push(word)?;
-            }
-            assert_eq!(rt; read_words(words.as_slice()).is_some(), good, "{line}");
-        }
+// The words of a line, which one space parts.
+fn words_of<'a>(rt: &impl Abort, alloc: Global, line: &'a str) -> Vec<&'a str> {
+    let mut words = Vec::new(alloc);
+    for word in line.split(' ') {
+        words.push(word).expect(rt, "memory for a word");
     }
-    Ok(())
+    words
+}
+
+// Checks whether the words of this line ask for a command.
+fn ask(rt: &impl Abort, alloc: Global, line: &str, good: bool) {
+    let words = words_of(rt, alloc, line);
+    assert_eq!(rt; read_words(words.as_slice()).is_some(), good, "{line}");
 }
 
 #[test]
-fn the_first_word_that_is_refused_is_told(rt: HostRuntime) -> Result<(), Fail> {
-    let rows = [
-        (
-            "run 63 256 100 s hi",
-            b"FRAMES is 63: 64 to 4096".as_slice(),
-        ),
-        ("policies 0 r", b"N is 0: 1 to 1000000".as_slice()),
-        ("policies x hands 8 r", b"N is x: 1 to 1000000".as_slice()),
-        ("policies 8 hands 8 r", b"SPREAD is 8: 0 to 7".as_slice()),
-        (
-            "policies 8 hands 7",
-            b"FILE is missing: a name of 1 to 63 bytes".as_slice(),
-        ),
-        ("policies 8 hands 7 r s", b"s is a word too many".as_slice()),
-        ("policies 0 8 1 r", b"FROM is 0: 1 to 1000000".as_slice()),
-        ("policies 8 7 1 r", b"TO is 7: 8 to 1000000".as_slice()),
-        ("policies 8 16 r", b"EVERY is r: 1 to 1000000".as_slice()),
-        (
-            "policies 8 16 4 r -s",
-            b"-s is no option of this command".as_slice(),
-        ),
-    ];
-    for (line, reason) in rows {
-        let mut words = Vec::new(rt.alloc());
-        for word in line.split(' ') {
-            words.push(word)?;
-        }
-        let Some(told) = explain_words(rt.alloc(), words.as_slice())? else {
-            return Err("the words are good".into());
-        };
-        let mut wanted = Vec::from_slice(rt.alloc(), b"vmrun: ")?;
-        wanted.extend_from_slice(reason)?;
-        wanted.push(b'\n')?;
-        assert_eq!(rt; told.as_slice(), wanted.as_slice());
+fn words_ask_for_a_command_or_for_none(rt: HostRuntime) {
+    assert!(rt; read_words(&[]).is_none());
+    for line in GOOD.iter() {
+        ask(&rt, rt.alloc(), line, true);
     }
-    assert!(rt; explain_words(rt.alloc(), &["as", "ring.s"])?.is_none());
-    Ok(())
+    for line in BAD.iter() {
+        ask(&rt, rt.alloc(), line, false);
+    }
+}
+
+// The words of a line, and what is told of the first that is refused.
+static ROWS: [(&str, &[u8]); 10] = [
+    ("run 63 256 100 s hi", b"FRAMES is 63: 64 to 4096"),
+    ("policies 0 r", b"N is 0: 1 to 1000000"),
+    ("policies x hands 8 r", b"N is x: 1 to 1000000"),
+    ("policies 8 hands 8 r", b"SPREAD is 8: 0 to 7"),
+    (
+        "policies 8 hands 7",
+        b"FILE is missing: a name of 1 to 63 bytes",
+    ),
+    ("policies 8 hands 7 r s", b"s is a word too many"),
+    ("policies 0 8 1 r", b"FROM is 0: 1 to 1000000"),
+    ("policies 8 7 1 r", b"TO is 7: 8 to 1000000"),
+    ("policies 8 16 r", b"EVERY is r: 1 to 1000000"),
+    ("policies 8 16 4 r -s", b"-s is no option of this command"),
+];
+
+// The line that is told of the words of a line, where one is.
+fn told_of(rt: &impl Abort, alloc: Global, line: &str) -> Option<Vec<u8>> {
+    let words = words_of(rt, alloc, line);
+    explain_words(alloc, words.as_slice()).expect(rt, "memory for a line")
+}
+
+#[test]
+fn the_first_word_that_is_refused_is_told(rt: HostRuntime) {
+    for (line, reason) in ROWS.iter() {
+        let told = told_of(&rt, rt.alloc(), line);
+        says(&rt, told, b"vmrun: ", reason);
+    }
+    let told = told_of(&rt, rt.alloc(), "as ring.s");
+    says_nothing(&rt, told);
 }
