@@ -10,12 +10,12 @@ ghost use Rattle.machine_state.specs.New.{AreSound};
 ghost use Rattle.machine_state.specs.Sourced.{ImageNamed, AreNames};
 ghost use Rattle.machine_state.specs.Machine.{image_shown};
 
+use crate::checks::is;
 use aout_image::{Image, Kind};
 use io_edge::{Files, MemFiles, MemSwap, SwapDev};
 use machine_state::{Machine, Named, Want};
 use std::alloc::{AllocError, Global};
 use std::process::Abort;
-use std::test::Fail;
 use swap_book::Owner;
 use vm_facts::{Entry, Page, Params, Stop};
 
@@ -157,74 +157,83 @@ fn counts(machine: &Machine) -> (u32, u32, u32, usize) {
     )
 }
 
+// The calls of these numbers.
+fn numbers(rt: &impl Abort, alloc: Global, calls: &[u64]) -> Vec<u64> {
+    Vec::from_slice(alloc, calls).expect(rt, "memory for numbers")
+}
+
+// How the oldest transfer ends where these reads of the file and these writes of the device fail, and how many pages of the device
+// aren't all zeros then.
+fn lands(
+    rt: &impl Abort,
+    alloc: Global,
+    machine: &mut Machine,
+    fail: &[u64],
+    fail_writes: &[u64],
+) -> (Result<bool, Stop>, u32)
+    requires ready { CanGoOn machine.old }
+    requires blocks { machine.old.params.swap_blocks ≡ 128 }
+    requires files { (files : List NamedFile) → 0 < length files → 4096 ≤ length (bytes_at files 0) → HaveFiles machine.old.images files }
+{
+    let mut files = one_file(rt, alloc, numbers(rt, alloc, fail));
+    let mut swap = area(rt, alloc, numbers(rt, alloc, fail_writes));
+    let landed = machine.done(&mut files, &mut swap);
+    (landed, written_pages(&mut swap))
+}
+
 #[test]
 fn a_page_that_is_due_takes_a_frame_and_is_written(rt: HostRuntime) {
-    let alloc = rt.alloc();
-    let mut machine = writing(&rt, alloc);
+    let mut machine = writing(&rt, rt.alloc());
     let before = counts(&machine);
-    let mut files = one_file(&rt, alloc, Vec::new(alloc));
-    let mut swap = area(&rt, alloc, Vec::new(alloc));
-    let landed = machine.done(&mut files, &mut swap);
+    let landed = lands(&rt, rt.alloc(), &mut machine, &[], &[]);
     let after = counts(&machine);
     machine.end();
-    assert_eq!(rt; before, (1, 1, 7, 2));
-    assert_eq!(rt; landed, Ok(true));
-    assert_eq!(rt; after, (0, 0, 8, 3));
-    assert_eq!(rt; written_pages(&mut swap), 1);
+    is(
+        &rt,
+        &(before, landed, after),
+        &((1, 1, 7, 2), (Ok(true), 1), (0, 0, 8, 3)),
+    );
 }
 
 #[test]
-fn a_write_that_fails_stops_the_machine_which_ends_with_its_frames(
-    rt: HostRuntime,
-) -> Result<(), Fail> {
-    let alloc = rt.alloc();
-    let fail_writes = [1].to_vec(alloc)?;
-    let mut machine = writing(&rt, alloc);
-    let mut files = one_file(&rt, alloc, Vec::new(alloc));
-    let mut swap = area(&rt, alloc, fail_writes);
-    let landed = machine.done(&mut files, &mut swap);
-    let after = machine.journal().len();
+fn a_write_that_fails_stops_the_machine_which_ends_with_its_frames(rt: HostRuntime) {
+    let mut machine = writing(&rt, rt.alloc());
+    let landed = lands(&rt, rt.alloc(), &mut machine, &[], &[1]);
+    let entries = machine.journal().len();
     machine.end();
-    assert_eq!(rt; landed, Err(Stop::SwapWriteFault));
-    assert_eq!(rt; after, 2);
-    assert_eq!(rt; written_pages(&mut swap), 0);
-    Ok(())
+    is(
+        &rt,
+        &(landed, entries),
+        &((Err(Stop::SwapWriteFault), 0), 2),
+    );
 }
 
+// The page that wasn't asked for is in a frame that is free then.
 #[test]
 fn two_pages_of_text_are_read_in_one_transfer(rt: HostRuntime) {
-    let alloc = rt.alloc();
-    let mut machine = reading(&rt, alloc);
+    let mut machine = reading(&rt, rt.alloc());
     let before = counts(&machine);
-    let mut files = one_file(&rt, alloc, Vec::new(alloc));
-    let mut swap = area(&rt, alloc, Vec::new(alloc));
-    let landed = machine.done(&mut files, &mut swap);
+    let landed = lands(&rt, rt.alloc(), &mut machine, &[], &[]);
     let after = counts(&machine);
     machine.end();
-    assert_eq!(rt; before, (1, 2, 6, 1));
-    assert_eq!(rt; landed, Ok(true));
-
-    // The page that wasn't asked for is in a frame that is free.
-    assert_eq!(rt; after, (0, 0, 7, 2));
+    is(
+        &rt,
+        &(before, landed, after),
+        &((1, 2, 6, 1), (Ok(true), 0), (0, 0, 7, 2)),
+    );
 }
 
 #[test]
-fn a_read_whose_second_page_fails_stops_the_machine(rt: HostRuntime) -> Result<(), Fail> {
-    let alloc = rt.alloc();
-    let fail = [2].to_vec(alloc)?;
-    let mut machine = reading(&rt, alloc);
-    let mut files = one_file(&rt, alloc, fail);
-    let mut swap = area(&rt, alloc, Vec::new(alloc));
-    let landed = machine.done(&mut files, &mut swap);
-    let after = machine.journal().len();
+fn a_read_whose_second_page_fails_stops_the_machine(rt: HostRuntime) {
+    let mut machine = reading(&rt, rt.alloc());
+    let landed = lands(&rt, rt.alloc(), &mut machine, &[2], &[]);
+    let entries = machine.journal().len();
     machine.end();
-    assert_eq!(rt; landed, Err(Stop::FileFault));
-    assert_eq!(rt; after, 1);
-    Ok(())
+    is(&rt, &(landed, entries), &((Err(Stop::FileFault), 0), 1));
 }
 
 #[test]
-fn a_machine_begins_takes_a_note_and_ends(rt: HostRuntime) -> Result<(), Fail> {
+fn a_machine_begins_takes_a_note_and_ends(rt: HostRuntime) {
     let params = Params {
         frames: 64,
         swap_blocks: 256,
@@ -242,13 +251,11 @@ fn a_machine_begins_takes_a_note_and_ends(rt: HostRuntime) -> Result<(), Fail> {
     let seen = (machine.journal().len(), machine.free_frames());
     let hands = machine.hands();
     machine.end();
-    assert_eq!(rt; seen, (1, 64));
-    assert_eq!(rt; hands, (17, 1));
-    Ok(())
+    is(&rt, &(seen, hands), &((1, 64), (17, 1)));
 }
 
 #[test]
-fn pieces_are_found_where_all_fit(rt: HostRuntime) -> Result<(), Fail> {
+fn pieces_are_found_where_all_fit(rt: HostRuntime) {
     let params = Params {
         frames: 64,
         swap_blocks: 64,
@@ -271,14 +278,11 @@ fn pieces_are_found_where_all_fit(rt: HostRuntime) -> Result<(), Fail> {
     let found = machine.ask(1, &[data]).expect(&rt, "memory for a piece");
     let held = machine.holdings().len();
     machine.end();
-    assert_eq!(rt; (fits, found, held), (false, true, 1));
-    Ok(())
+    is(&rt, &(fits, found, held), &(false, true, 1));
 }
 
 #[test]
-fn a_first_process_begins_with_its_pieces_and_a_page_that_is_due(
-    rt: HostRuntime,
-) -> Result<(), Fail> {
+fn a_first_process_begins_with_its_pieces_and_a_page_that_is_due(rt: HostRuntime) {
     let params = Params {
         frames: 64,
         swap_blocks: 68,
@@ -292,7 +296,6 @@ fn a_first_process_begins_with_its_pieces_and_a_page_that_is_due(
     let numbers = machine.next_numbers();
     let due = machine.due();
     machine.end();
-    assert_eq!(rt; (began, held, numbers), (true, 4, (2, 2)));
-    assert_eq!(rt; due, Some(Page::Stack { sid: 1, v: 0 }));
-    Ok(())
+    let stack = Some(Page::Stack { sid: 1, v: 0 });
+    is(&rt, &(began, held, numbers, due), &(true, 4, (2, 2), stack));
 }

@@ -11,7 +11,6 @@ use machine_state::{Machine, Named};
 use owner_lines::write_owners;
 use std::alloc::{AllocError, Global};
 use std::process::Abort;
-use std::test::Fail;
 use vm_facts::Params;
 
 // One image, of a page of text and a page of data.
@@ -70,14 +69,11 @@ const LINES: &[u8] = b"\
     swap 68 2 free\n";
 
 #[test]
-fn the_lines_of_a_machine_with_a_process_that_began(rt: HostRuntime) -> Result<(), Fail> {
-    let Ok(mut sink) = MemSink::new(rt.alloc(), 500, Vec::new(rt.alloc())) else {
-        return Err(Fail::from("no memory"));
-    };
+fn the_lines_of_a_machine_with_a_process_that_began(rt: HostRuntime) {
+    let sink = MemSink::new(rt.alloc(), 500, Vec::new(rt.alloc()));
+    let mut sink = sink.expect(&rt, "memory for an output");
     let machine = begun(&rt, rt.alloc());
     let moved = write_owners(&mut sink, &machine, true);
     machine.end();
-    assert_eq!(rt; moved, Moved::Done);
-    assert_eq!(rt; sink.written(), LINES);
-    Ok(())
+    assert_eq!(rt; (moved, sink.written()), (Moved::Done, LINES));
 }

@@ -15,6 +15,7 @@ ghost use Rattle.paging_units.specs.Spans.{moves};
 ghost use Rattle.proc_calls.specs.Serving.{CanServe};
 ghost use Rattle.pager_tests.specs.Ready.{MachineIsReady, HasStarted};
 
+use crate::checks::is;
 use aout_image::{Image, Kind};
 use io_edge::{Files, MemFiles, MemSink, MemSwap, Moved, SwapDev};
 use machine_state::{Machine, Named};
@@ -23,7 +24,6 @@ use proc_calls::fault_fill::{PageServed, serve_page, serve_page_now};
 use run_text::write_text;
 use std::alloc::{AllocError, Global};
 use std::process::Abort;
-use std::test::Fail;
 use vm_facts::{Entry, Page, PageState, Params, Stop};
 
 pub(crate) fn data(v: u32) -> Page {
@@ -382,114 +382,214 @@ pub(crate) fn see_lines(
     assert_eq!(rt; sink.written(), lines.as_str().as_bytes());
 }
 
-#[test]
-fn two_neighbouring_pages_of_text_come_in_by_one_read(rt: HostRuntime) {
-    let alloc = rt.alloc();
-    let mut files = file(&rt, alloc);
-    let mut swap = area(&rt, alloc, Vec::new(alloc));
-    let mut m = with_stack(&rt, alloc, &files, &swap, of_two_text_pages());
-    bring(&rt, &mut m, &mut files, &mut swap, text(0));
-    bring(&rt, &mut m, &mut files, &mut swap, text(1));
-    let lines = Ok(String::new(alloc));
-    see_lines(&rt, alloc, &m, lines, "Z s 1 0\nG x 1 0 0 2\nD\nR x 1 1\n");
+// What is done with a machine, or seen of it.
+#[derive(Clone, Copy)]
+enum Step {
+    // A page is brought in.
+    Bring(Page),
+    // So are the pages of data from one to before another.
+    BringData(u32, u32),
+    // The reads of the first pages of data begin, so many.
+    BeginReads(u32),
+    // The hands move so often.
+    Move(u32),
+    // The oldest transfer ends.
+    Land,
+    // A frame is forced.
+    Force,
+    // So many transfers are in flight.
+    SeeInFlight(u32),
+    // So many frames are free.
+    SeeFree(u32),
+    // The page is in this state.
+    See(Page, PageState),
+}
+
+// Does that, or checks it.
+fn take(rt: &impl Abort, m: &mut Machine, files: &mut MemFiles, swap: &mut MemSwap, step: Step)
+    requires { MachineIsReady m.old (⟦<MemFiles as Files>⟧.holds files.old) (⟦<MemSwap as SwapDev>⟧.blocks swap.old) }
+    ensures { MachineIsReady m.new (⟦<MemFiles as Files>⟧.holds files.new) (⟦<MemSwap as SwapDev>⟧.blocks swap.new) }
+{
+    match step {
+        Step::Bring(page) => bring(rt, m, files, swap, page),
+        Step::BringData(from, to) => bring_data(rt, m, files, swap, from, to),
+        Step::BeginReads(count) => begin_reads(rt, m, files, swap, count),
+        Step::Move(n) => {
+            assert!(rt; n <= 1000);
+            let moves = moved(rt, m, files, swap, n);
+            assert_eq!(rt; moves, n);
+        }
+        Step::Land => landed(rt, m, files, swap),
+        Step::Force => forced(rt, m, files, swap),
+        Step::SeeInFlight(count) => assert_eq!(rt; m.in_flight(), count),
+        Step::SeeFree(count) => assert_eq!(rt; m.free_frames(), count),
+        Step::See(page, state) => assert_eq!(rt; m.state_of(page), Some(state)),
+    }
+}
+
+// Does these one after another.
+fn take_all(
+    rt: &impl Abort,
+    m: &mut Machine,
+    files: &mut MemFiles,
+    swap: &mut MemSwap,
+    steps: &[Step],
+)
+    requires { MachineIsReady m.old (⟦<MemFiles as Files>⟧.holds files.old) (⟦<MemSwap as SwapDev>⟧.blocks swap.old) }
+{
+    for step in steps {
+        take(rt, m, files, swap, *step);
+    }
+}
+
+// Checks the whole journal of a machine whose first process, of this image, has its stack page, after these steps: the lines, and after
+// them those.
+fn comes_to(
+    rt: &impl Abort,
+    alloc: Global,
+    facts: Image,
+    steps: &[Step],
+    lines: Result<String, AllocError>,
+    behind: &str,
+)
+    requires sound { IsSound facts }
+    requires short { file_length_of facts ≤ 32768 }
+{
+    let mut files = file(rt, alloc);
+    let mut swap = area(rt, alloc, Vec::new(alloc));
+    let mut m = with_stack(rt, alloc, &files, &swap, facts);
+    take_all(rt, &mut m, &mut files, &mut swap, steps);
+    see_lines(rt, alloc, &m, lines, behind);
     m.end();
 }
+
+const TEXT_0: Page = Page::Text { image: 1, v: 0 };
+
+const TEXT_1: Page = Page::Text { image: 1, v: 1 };
+
+const DATA_14: Page = Page::Data { sid: 1, v: 14 };
+
+static NEIGHBOURS: [Step; 2] = [Step::Bring(TEXT_0), Step::Bring(TEXT_1)];
+
+#[test]
+fn two_neighbouring_pages_of_text_come_in_by_one_read(rt: HostRuntime) {
+    let lines = Ok(String::new(rt.alloc()));
+    let behind = "Z s 1 0\nG x 1 0 0 2\nD\nR x 1 1\n";
+    comes_to(
+        &rt,
+        rt.alloc(),
+        of_two_text_pages(),
+        &NEIGHBOURS,
+        lines,
+        behind,
+    );
+}
+
+static FREED: [Step; 5] = [
+    Step::Bring(TEXT_0),
+    Step::BringData(0, 48),
+    Step::Move(17),
+    Step::Land,
+    Step::Bring(DATA_14),
+];
 
 #[test]
 fn a_page_that_the_back_hand_freed_is_reclaimed_with_no_read(rt: HostRuntime) {
-    let alloc = rt.alloc();
-    let mut files = file(&rt, alloc);
-    let mut swap = area(&rt, alloc, Vec::new(alloc));
-    let mut m = filled(&rt, alloc, &mut files, &mut swap, 48);
-    let moves = moved(&rt, &mut m, &mut files, &mut swap, 17);
-    landed(&rt, &mut m, &mut files, &mut swap);
-    bring(&rt, &mut m, &mut files, &mut swap, data(14));
-    let lines = lines_of_filled(alloc, 48);
-    see_lines(&rt, alloc, &m, lines, "H 17\nD\nR d 1 14\n");
-    m.end();
-    assert_eq!(rt; moves, 17);
+    let lines = lines_of_filled(rt.alloc(), 48);
+    comes_to(
+        &rt,
+        rt.alloc(),
+        of_zeros(),
+        &FREED,
+        lines,
+        "H 17\nD\nR d 1 14\n",
+    );
 }
+
+static TOUCHED: [Step; 7] = [
+    Step::Bring(TEXT_0),
+    Step::BringData(0, 48),
+    Step::Move(16),
+    Step::Bring(DATA_14),
+    Step::Move(1),
+    Step::See(DATA_14, PageState::Valid(17)),
+    Step::SeeInFlight(0),
+];
 
 #[test]
 fn a_page_that_is_touched_between_the_hands_stays(rt: HostRuntime) {
-    let alloc = rt.alloc();
-    let mut files = file(&rt, alloc);
-    let mut swap = area(&rt, alloc, Vec::new(alloc));
-    let mut m = filled(&rt, alloc, &mut files, &mut swap, 48);
-    moved(&rt, &mut m, &mut files, &mut swap, 16);
-    bring(&rt, &mut m, &mut files, &mut swap, data(14));
-    moved(&rt, &mut m, &mut files, &mut swap, 1);
-    let seen = (m.state_of(data(14)), m.in_flight());
-    let lines = lines_of_filled(alloc, 48);
-    see_lines(&rt, alloc, &m, lines, "H 16\nR d 1 14\nH 1\n");
-    m.end();
-    assert_eq!(rt; seen, (Some(PageState::Valid(17)), 0));
+    let lines = lines_of_filled(rt.alloc(), 48);
+    comes_to(
+        &rt,
+        rt.alloc(),
+        of_zeros(),
+        &TOUCHED,
+        lines,
+        "H 16\nR d 1 14\nH 1\n",
+    );
 }
+
+static FORCED: [Step; 5] = [
+    Step::Bring(TEXT_0),
+    Step::BringData(0, 62),
+    Step::SeeFree(0),
+    Step::Force,
+    Step::SeeFree(2),
+];
 
 #[test]
 fn a_frame_is_forced_where_none_of_64_is_free(rt: HostRuntime) {
-    let alloc = rt.alloc();
-    let mut files = file(&rt, alloc);
-    let mut swap = area(&rt, alloc, Vec::new(alloc));
-    let mut m = filled(&rt, alloc, &mut files, &mut swap, 62);
-    let before = m.free_frames();
-    forced(&rt, &mut m, &mut files, &mut swap);
-    let after = m.free_frames();
-    let lines = lines_of_filled(alloc, 62);
-    see_lines(&rt, alloc, &m, lines, "H 17\nD\n");
-    m.end();
-    assert_eq!(rt; (before, after), (0, 2));
+    let lines = lines_of_filled(rt.alloc(), 62);
+    comes_to(&rt, rt.alloc(), of_zeros(), &FORCED, lines, "H 17\nD\n");
 }
 
 #[test]
-fn the_third_write_fails_and_the_machine_stops(rt: HostRuntime) -> Result<(), Fail> {
+fn the_third_write_fails_and_the_machine_stops(rt: HostRuntime) {
     let alloc = rt.alloc();
     let mut files = file(&rt, alloc);
-    let mut swap = area(&rt, alloc, [3].to_vec(alloc)?);
+    let fail_writes = [3].to_vec(alloc).expect(&rt, "memory for a number");
+    let mut swap = area(&rt, alloc, fail_writes);
     let mut m = filled(&rt, alloc, &mut files, &mut swap, 64);
     let answer = serve(&rt, &mut m, &mut files, &mut swap, data(64));
     let lines = lines_of_filled(alloc, 62);
     see_lines(&rt, alloc, &m, lines, "H 17\nD\nZ d 1 62\nZ d 1 63\nH 2\n");
     m.end();
-    assert_eq!(rt; answer, Err(Stop::SwapWriteFault));
-    Ok(())
+    is(&rt, &answer, &Err(Stop::SwapWriteFault));
 }
+
+static SIXTEEN: [Step; 5] = [
+    Step::BeginReads(16),
+    Step::BringData(16, 48),
+    Step::SeeInFlight(16),
+    Step::Move(18),
+    Step::SeeInFlight(16),
+];
 
 #[test]
 fn the_oldest_of_sixteen_ends_before_a_move_that_begins_a_write(rt: HostRuntime) {
-    let alloc = rt.alloc();
-    let mut files = file(&rt, alloc);
-    let mut swap = area(&rt, alloc, Vec::new(alloc));
-    let mut m = with_stack(&rt, alloc, &files, &swap, of_file());
-    begin_reads(&rt, &mut m, &mut files, &mut swap, 16);
-    bring_data(&rt, &mut m, &mut files, &mut swap, 16, 48);
-    let before = m.in_flight();
-    let moves = moved(&rt, &mut m, &mut files, &mut swap, 18);
-    let after = m.in_flight();
-    let lines = lines_of_reads(alloc);
-    see_lines(&rt, alloc, &m, lines, "H 17\nD\nH 1\n");
-    m.end();
-    assert_eq!(rt; (before, moves, after), (16, 18, 16));
+    let lines = lines_of_reads(rt.alloc());
+    comes_to(
+        &rt,
+        rt.alloc(),
+        of_file(),
+        &SIXTEEN,
+        lines,
+        "H 17\nD\nH 1\n",
+    );
 }
+
+static FIVE_WRITES: [Step; 6] = [
+    Step::Bring(TEXT_0),
+    Step::BringData(0, 48),
+    Step::Move(66),
+    Step::SeeInFlight(5),
+    Step::Bring(TEXT_0),
+    Step::Bring(DATA_14),
+];
 
 #[test]
 fn five_writes_are_in_flight_and_then_the_page_is_reclaimed(rt: HostRuntime) {
-    let alloc = rt.alloc();
-    let mut files = file(&rt, alloc);
-    let mut swap = area(&rt, alloc, Vec::new(alloc));
-    let mut m = filled(&rt, alloc, &mut files, &mut swap, 48);
-    moved(&rt, &mut m, &mut files, &mut swap, 66);
-    let flying = m.in_flight();
-    bring(&rt, &mut m, &mut files, &mut swap, text(0));
-    bring(&rt, &mut m, &mut files, &mut swap, data(14));
-    let lines = lines_of_filled(alloc, 48);
-    see_lines(
-        &rt,
-        alloc,
-        &m,
-        lines,
-        "H 66\nD\nD\nD\nD\nD\nR x 1 0\nR d 1 14\n",
-    );
-    m.end();
-    assert_eq!(rt; flying, 5);
+    let lines = lines_of_filled(rt.alloc(), 48);
+    let behind = "H 66\nD\nD\nD\nD\nD\nR x 1 0\nR d 1 14\n";
+    comes_to(&rt, rt.alloc(), of_zeros(), &FIVE_WRITES, lines, behind);
 }
