@@ -1,6 +1,7 @@
 // What the tests ask of a real folder.
 use io_edge::{Files, Moved};
 use std::alloc::Global;
+use std::process::Abort;
 use std::{fs, rt};
 use system_edge::{DirFiles, Refusal};
 
@@ -34,4 +35,24 @@ pub fn told(alloc: Global, refusal: Option<Refusal<'_>>) -> String {
         Ok(text) => text,
         Err(_) => String::new(alloc),
     }
+}
+
+/// Makes a file of this text.
+pub fn make<R: Abort + rt::Files>(rt: &R, name: &str, text: &str) {
+    fs::write(rt, name, text).expect(rt, "a file that is made");
+}
+
+/// Removes a file.
+pub fn remove<R: Abort + rt::Files>(rt: &R, name: &str) {
+    fs::remove_file(rt, name).expect(rt, "a file that is removed");
+}
+
+/// Makes a folder.
+pub fn make_folder<R: Abort + rt::Files>(rt: &R, name: &str) {
+    fs::create_dir(rt, name).expect(rt, "a folder that is made");
+}
+
+/// Removes an empty folder.
+pub fn remove_folder<R: Abort + rt::Files>(rt: &R, name: &str) {
+    fs::remove_dir(rt, name).expect(rt, "a folder that is removed");
 }

@@ -1,14 +1,16 @@
 // What keeps a run from a wrong answer: a file that is read is nobody's swap file, a file that changes is a fault, and so
 // is an output that fails. The files are made and removed in the folder that the tests run in.
+use crate::checks::is;
+use crate::folder::{make, remove};
 use io_edge::{Files, Found, Moved, Sink, SwapDev};
 use std::cell::Cell;
 use std::fmt::Display;
 use std::fs::{FileTimes, OpenOptions};
 use std::io::{ErrorKind, Write};
 use std::os::unix::fs::MetadataExt;
-use std::test::Fail;
+use std::process::Abort;
 use std::time::SystemTime;
-use std::{fs, io};
+use std::{fs, io, rt};
 use system_edge::{DirFiles, FileSwap, OutSink};
 
 // Whether a device on this name refuses to write.
@@ -23,15 +25,17 @@ fn found(rt: &HostRuntime, name: &str) -> Found {
     files.find(name)
 }
 
-// Whether a swap file is refused while a file of this name is read, and the file is left as it is.
-fn is_kept_while_read(rt: &HostRuntime, name: &str) -> Result<bool, Fail> {
-    let before = fs::metadata(rt, name)?;
+// How the file of this name is found, and whether a swap file is refused while it is read.
+fn found_and_refused(rt: &HostRuntime, name: &str) -> (Found, bool) {
     let mut files = DirFiles::new(rt);
-    let is_found = files.find(name) == Found::Is { id: 0, len: 5 };
-    let is_refused = refuses(rt, name);
-    let after = fs::metadata(rt, name)?;
-    let is_left = after.len() == 5 && after.mode() == before.mode();
-    Ok(is_found && is_refused && is_left)
+    let found = files.find(name);
+    (found, refuses(rt, name))
+}
+
+// The length of the file of this name, and its rights.
+fn length_and_mode<R: Abort + rt::Files>(rt: &R, name: &str) -> (u64, u32) {
+    let metadata = fs::metadata(rt, name).expect(rt, "a file that is there");
+    (metadata.len(), metadata.mode())
 }
 
 // How the file of this name is found while a device has it.
@@ -42,34 +46,38 @@ fn found_while_swapped(rt: &HostRuntime, name: &str) -> (Moved, Found) {
 }
 
 #[test]
-fn a_file_that_is_read_is_nobodys_swap_file(rt: HostRuntime) -> Result<(), Fail> {
-    fs::write(&rt, "read.swap", "hello")?;
-    let answers = [
-        is_kept_while_read(&rt, "read.swap")?,
-        found_while_swapped(&rt, "read.swap") == (Moved::Done, Found::Failed),
-        found(&rt, "read.swap") == Found::Is { id: 0, len: 1024 },
-    ];
-    assert_eq!(rt; answers, [true; 3]);
-    fs::remove_file(&rt, "read.swap")?;
-    Ok(())
-}
-
-// The rights to the file of this name after a device wrote to it.
-fn mode_after_write(rt: &HostRuntime, name: &str) -> Result<u32, Fail> {
-    let is_refused = refuses(rt, name);
-    let mode = fs::metadata(rt, name)?.mode() % 0o1000;
-    Ok(if is_refused { 0 } else { mode })
+fn a_file_that_is_read_is_nobodys_swap_file(rt: HostRuntime) {
+    make(&rt, "read.swap", "hello");
+    let (_, mode) = length_and_mode(&rt, "read.swap");
+    let while_read = found_and_refused(&rt, "read.swap");
+    let left = length_and_mode(&rt, "read.swap");
+    let while_swapped = found_while_swapped(&rt, "read.swap");
+    let swapped = found(&rt, "read.swap");
+    is(
+        &rt,
+        &(while_read, left),
+        &((Found::Is { id: 0, len: 5 }, true), (5, mode)),
+    );
+    is(
+        &rt,
+        &(while_swapped, swapped),
+        &((Moved::Done, Found::Failed), Found::Is { id: 0, len: 1024 }),
+    );
+    remove(&rt, "read.swap");
 }
 
 #[test]
-fn a_swap_file_is_for_its_owner_alone(rt: HostRuntime) -> Result<(), Fail> {
-    let made = mode_after_write(&rt, "private.swap")?;
-    fs::remove_file(&rt, "private.swap")?;
-    fs::write(&rt, "private.swap", "kept")?;
-    let kept = mode_after_write(&rt, "private.swap")?;
-    assert_eq!(rt; [made, kept], [0o600; 2]);
-    fs::remove_file(&rt, "private.swap")?;
-    Ok(())
+fn a_swap_file_is_for_its_owner_alone(rt: HostRuntime) {
+    let is_refused = refuses(&rt, "private.swap");
+    let (_, mode) = length_and_mode(&rt, "private.swap");
+    let made = (is_refused, mode % 0o1000);
+    remove(&rt, "private.swap");
+    make(&rt, "private.swap", "kept");
+    let is_refused = refuses(&rt, "private.swap");
+    let (_, mode) = length_and_mode(&rt, "private.swap");
+    let kept = (is_refused, mode % 0o1000);
+    is(&rt, &[made, kept], &[(false, 0o600), (false, 0o600)]);
+    remove(&rt, "private.swap");
 }
 
 fn read_first(files: &mut DirFiles<'_, HostRuntime>) -> Moved {
@@ -89,53 +97,58 @@ fn set_time(rt: &HostRuntime, name: &str) -> io::Result<()> {
 }
 
 // How the reads end before the file of this name becomes longer, and afterwards.
-fn reads_around_append(rt: &HostRuntime, name: &str) -> Result<[Moved; 2], Fail> {
+fn reads_around_append(rt: &HostRuntime, name: &str) -> (Moved, bool, Moved) {
     let mut files = DirFiles::new(rt);
     let _ = files.find(name);
     let before = read_first(&mut files);
-    append(rt, name)?;
-    Ok([before, read_first(&mut files)])
+    let is_longer = append(rt, name).is_ok();
+    (before, is_longer, read_first(&mut files))
 }
 
 // The same where its time is set.
-fn reads_around_time(rt: &HostRuntime, name: &str) -> Result<[Moved; 2], Fail> {
+fn reads_around_time(rt: &HostRuntime, name: &str) -> (Moved, bool, Moved) {
     let mut files = DirFiles::new(rt);
     let _ = files.find(name);
     let before = read_first(&mut files);
-    set_time(rt, name)?;
-    Ok([before, read_first(&mut files)])
+    let is_set = set_time(rt, name).is_ok();
+    (before, is_set, read_first(&mut files))
 }
 
 #[test]
-fn a_file_that_was_changed_is_not_read(rt: HostRuntime) -> Result<(), Fail> {
-    fs::write(&rt, "changed.file", "hello")?;
-    let longer = reads_around_append(&rt, "changed.file")?;
-    let later = reads_around_time(&rt, "changed.file")?;
-    assert_eq!(rt; [longer, later], [[Moved::Done, Moved::Failed]; 2]);
-    fs::remove_file(&rt, "changed.file")?;
-    Ok(())
+fn a_file_that_was_changed_is_not_read(rt: HostRuntime) {
+    make(&rt, "changed.file", "hello");
+    let longer = reads_around_append(&rt, "changed.file");
+    let later = reads_around_time(&rt, "changed.file");
+    is(
+        &rt,
+        &[longer, later],
+        &[(Moved::Done, true, Moved::Failed); 2],
+    );
+    remove(&rt, "changed.file");
 }
 
-// More than a pipe holds at a time, and more than any reader takes.
-#[test]
-fn of_what_never_ends_one_byte_too_many_is_kept(rt: HostRuntime) -> Result<(), Fail> {
-    let mut files = DirFiles::new(&rt);
+// Checks a file that never ends. More is asked for than a pipe holds at a time, and than any reader takes.
+fn is_read_up_to_its_limit(rt: &impl Abort, files: &mut DirFiles<'_, HostRuntime>) {
     let zeros = files.find("/dev/zero");
     let mut last = [9];
     let answers = [
         files.read_at(0, 67_108_864, &mut last),
         files.read_at(0, 67_108_865, &mut last),
     ];
-    assert_eq!(rt;
-        zeros,
-        Found::Is {
-            id: 0,
-            len: 67_108_865
-        }
+    let found = Found::Is {
+        id: 0,
+        len: 67_108_865,
+    };
+    is(
+        rt,
+        &(zeros, answers, last),
+        &(found, [Moved::Done, Moved::Failed], [0]),
     );
-    assert_eq!(rt; answers, [Moved::Done, Moved::Failed]);
-    assert_eq!(rt; last, [0]);
-    Ok(())
+}
+
+#[test]
+fn of_what_never_ends_one_byte_too_many_is_kept(rt: HostRuntime) {
+    is_read_up_to_its_limit(&rt, &mut DirFiles::new(&rt));
 }
 
 // A standard output that answers this error so many times, and then takes all.
@@ -182,7 +195,7 @@ fn put_after(error: ErrorKind) -> (Moved, bool) {
 }
 
 #[test]
-fn an_output_that_answers_an_error_has_failed(rt: HostRuntime) -> Result<(), Fail> {
+fn an_output_that_answers_an_error_has_failed(rt: HostRuntime) {
     let answers = [
         put_after(ErrorKind::StorageFull),
         put_after(ErrorKind::BrokenPipe),
@@ -193,8 +206,7 @@ fn an_output_that_answers_an_error_has_failed(rt: HostRuntime) -> Result<(), Fai
         (Moved::Failed, true),
         (Moved::Done, false),
     ];
-    assert_eq!(rt; answers, wanted);
-    Ok(())
+    is(&rt, &answers, &wanted);
 }
 
 // Whether this is the last line of an output of these pieces.
@@ -211,7 +223,7 @@ fn is_last_line(pieces: &[&str], line: &str) -> bool {
 }
 
 #[test]
-fn the_last_line_of_an_output_is_kept(rt: HostRuntime) -> Result<(), Fail> {
+fn the_last_line_of_an_output_is_kept(rt: HostRuntime) {
     let answers = [
         is_last_line(&[], ""),
         is_last_line(&["t 1\nvmrun: file fault\n"], "vmrun: file fault\n"),
@@ -219,6 +231,5 @@ fn the_last_line_of_an_output_is_kept(rt: HostRuntime) -> Result<(), Fail> {
         is_last_line(&["t 1\n", "vmrun: no memory\n"], "vmrun: no memory\n"),
         is_last_line(&["t 1\n", "x"], "x"),
     ];
-    assert_eq!(rt; answers, [true; 5]);
-    Ok(())
+    is(&rt, &answers, &[true; 5]);
 }

@@ -1,105 +1,130 @@
 // Files, devices and outputs in memory: that the calls that take memory succeed, and what code that knows a device by its
 // contract alone does over two of them.
-ghost use Rattle.std.specs.Prelude.{◌≡◌, ◌+◌, ◌%◌, ◌≤◌, Some, IfOk, vec_len};
+ghost use Rattle.std.specs.Prelude.{◌≡◌, ◌+◌, ◌%◌, ◌≤◌, Some};
 ghost use Rattle.io_edge.specs.Count.{Rose};
 
 use crate::calls::{Answer, Call, answers, puts};
+use crate::checks::{are, is};
 use io_edge::{
     Files, Found, MemSink, MemSwap, Moved, Sink, SureFiles, SureSink, SureSwap, SwapDev, SwapPair,
 };
-use std::alloc::{AllocError, Global};
-use std::test::Fail;
+use std::alloc::Global;
+use std::process::Abort;
 
 // Two files, of two bytes and of none.
-fn two_files(alloc: Global) -> Result<Vec<(String, Vec<u8>)>, AllocError>
-    ensures { IfOk result (λ files. vec_len files ≡ 2) }
-{
-    let mut files = Vec::new(alloc);
-    files.push(("hi".to_string(alloc)?, [7, 8].to_vec(alloc)?))?;
-    files.push(("empty".to_string(alloc)?, Vec::new(alloc)))?;
-    Ok(files)
+fn two_files(rt: &impl Abort, alloc: Global) -> SureFiles {
+    let hi = "hi".to_string(alloc).expect(rt, "memory for a name");
+    let empty = "empty".to_string(alloc).expect(rt, "memory for a name");
+    let bytes = [7, 8].to_vec(alloc).expect(rt, "memory for bytes");
+    let mut files = Vec::with_capacity(alloc, 2).expect(rt, "memory for files");
+    files.push_reserved((hi, bytes));
+    files.push_reserved((empty, Vec::new(alloc)));
+    SureFiles::new(files)
 }
 
-#[test]
-fn files_are_found_and_read(rt: HostRuntime) -> Result<(), Fail> {
-    let mut files = SureFiles::new(two_files(rt.alloc())?);
-    assert_eq!(rt; files.find("empty"), Found::Is { id: 1, len: 0 });
-    assert_eq!(rt; files.find("h"), Found::Absent);
+// Checks what is found and read of those files.
+fn are_found_and_read(rt: &impl Abort, files: &mut SureFiles) {
+    let empty = files.find("empty");
+    let absent = files.find("h");
     let Found::Is { id, len } = files.find("hi") else {
-        return Err(Fail::from("not found"));
+        panic!(rt; "not found");
     };
     assert_eq!(rt; len, 2);
     let mut buf = [0];
-    assert_eq!(rt; files.read_at(id, 1, &mut buf), Moved::Done);
-    assert_eq!(rt; buf, [8]);
-    Ok(())
+    let moved = files.read_at(id, 1, &mut buf);
+    is(
+        rt,
+        &[empty, absent],
+        &[Found::Is { id: 1, len: 0 }, Found::Absent],
+    );
+    is(rt, &(moved, buf), &(Moved::Done, [8]));
 }
 
 #[test]
-fn a_device_holds_zeros_and_what_was_written(rt: HostRuntime) -> Result<(), Fail> {
-    let mut swap = SureSwap::new(rt.alloc(), 6)?;
-    assert_eq!(rt; swap.blocks(), 6);
-    let calls = [
-        (Call::Write(2, 5), Answer::Written),
-        (Call::Read(4), Answer::Filled(0)),
-        (Call::Read(2), Answer::Filled(5)),
-    ];
-    answers(&rt, &mut swap, &calls);
-    Ok(())
+fn files_are_found_and_read(rt: HostRuntime) {
+    let mut files = two_files(&rt, rt.alloc());
+    are_found_and_read(&rt, &mut files);
 }
 
-#[test]
-fn a_device_fails_the_numbered_calls(rt: HostRuntime) -> Result<(), Fail> {
-    let fail_reads = [1].to_vec(rt.alloc())?;
-    let fail_writes = [2].to_vec(rt.alloc())?;
-    let mut swap = MemSwap::new(rt.alloc(), 4, fail_reads, fail_writes)?;
-    let calls = [
-        (Call::Read(0), Answer::Failed),
-        (Call::Write(2, 5), Answer::Written),
-        (Call::Write(2, 6), Answer::Failed),
-        (Call::Read(2), Answer::Filled(5)),
-    ];
-    answers(&rt, &mut swap, &calls);
-    Ok(())
-}
+static OF_A_DEVICE: [(Call, Answer); 3] = [
+    (Call::Write(2, 5), Answer::Written),
+    (Call::Read(4), Answer::Filled(0)),
+    (Call::Read(2), Answer::Filled(5)),
+];
 
 #[test]
-fn an_output_takes_what_fits_and_fails_the_numbered_calls(rt: HostRuntime) -> Result<(), Fail> {
-    let fail = [2].to_vec(rt.alloc())?;
-    let mut sink = MemSink::new(rt.alloc(), 5, fail)?;
-    let pieces: [(&[u8], Moved); 4] = [
-        (&[1, 2], Moved::Done),
-        (&[3], Moved::Failed),
-        (&[3, 4, 5, 6], Moved::Failed),
-        (&[3, 4, 5], Moved::Done),
-    ];
-    puts(&rt, &mut sink, &pieces);
-    assert_eq!(rt; sink.written(), [1, 2, 3, 4, 5].as_slice());
-    assert_eq!(rt; SureSink::new().put(&[1]), Moved::Done);
-    Ok(())
+fn a_device_holds_zeros_and_what_was_written(rt: HostRuntime) {
+    let mut swap = SureSwap::new(rt.alloc(), 6).expect(&rt, "memory for a device");
+    is(&rt, &swap.blocks(), &6);
+    answers(&rt, &mut swap, &OF_A_DEVICE);
 }
 
+// The calls of these numbers.
+fn numbers(rt: &impl Abort, alloc: Global, calls: &[u64]) -> Vec<u64> {
+    Vec::from_slice(alloc, calls).expect(rt, "memory for numbers")
+}
+
+static OF_ONE_THAT_FAILS: [(Call, Answer); 4] = [
+    (Call::Read(0), Answer::Failed),
+    (Call::Write(2, 5), Answer::Written),
+    (Call::Write(2, 6), Answer::Failed),
+    (Call::Read(2), Answer::Filled(5)),
+];
+
 #[test]
-fn units_of_1024_blocks_are_striped_over_two_devices(rt: HostRuntime) -> Result<(), Fail> {
-    let mut zero = SureSwap::new(rt.alloc(), 2048)?;
-    let mut one = SureSwap::new(rt.alloc(), 2048)?;
+fn a_device_fails_the_numbered_calls(rt: HostRuntime) {
+    let alloc = rt.alloc();
+    let fail_reads = numbers(&rt, alloc, &[1]);
+    let fail_writes = numbers(&rt, alloc, &[2]);
+    let swap = MemSwap::new(alloc, 4, fail_reads, fail_writes);
+    let mut swap = swap.expect(&rt, "memory for a device");
+    answers(&rt, &mut swap, &OF_ONE_THAT_FAILS);
+}
+
+static PIECES: [(&[u8], Moved); 4] = [
+    (&[1, 2], Moved::Done),
+    (&[3], Moved::Failed),
+    (&[3, 4, 5, 6], Moved::Failed),
+    (&[3, 4, 5], Moved::Done),
+];
+
+#[test]
+fn an_output_takes_what_fits_and_fails_the_numbered_calls(rt: HostRuntime) {
+    let fail = numbers(&rt, rt.alloc(), &[2]);
+    let mut sink = MemSink::new(rt.alloc(), 5, fail).expect(&rt, "memory for an output");
+    puts(&rt, &mut sink, &PIECES);
+    are(&rt, sink.written(), &[1, 2, 3, 4, 5]);
+    is(&rt, &SureSink::new().put(&[1]), &Moved::Done);
+}
+
+static OF_PAIR: [(Call, Answer); 4] = [
+    (Call::Write(1024, 1), Answer::Written),
+    (Call::Write(2048, 2), Answer::Written),
+    (Call::Write(3072, 3), Answer::Written),
+    (Call::Read(2048), Answer::Filled(2)),
+];
+
+static OF_ONE: [(Call, Answer); 2] = [
+    (Call::Read(0), Answer::Filled(1)),
+    (Call::Read(1024), Answer::Filled(3)),
+];
+
+static OF_ZERO: [(Call, Answer); 1] = [(Call::Read(1024), Answer::Filled(2))];
+
+#[test]
+fn units_of_1024_blocks_are_striped_over_two_devices(rt: HostRuntime) {
+    let mut zero = SureSwap::new(rt.alloc(), 2048).expect(&rt, "memory for device 0");
+    let mut one = SureSwap::new(rt.alloc(), 2048).expect(&rt, "memory for device 1");
     let mut pair = SwapPair::new(&mut zero, &mut one);
-    assert_eq!(rt; pair.blocks(), 4096);
-    let of_pair = [
-        (Call::Write(1024, 1), Answer::Written),
-        (Call::Write(2048, 2), Answer::Written),
-        (Call::Write(3072, 3), Answer::Written),
-        (Call::Read(2048), Answer::Filled(2)),
-    ];
-    answers(&rt, &mut pair, &of_pair);
-    assert_eq!(rt; [zero.blocks(), one.blocks()], [2048, 2048]);
-    let of_one = [
-        (Call::Read(0), Answer::Filled(1)),
-        (Call::Read(1024), Answer::Filled(3)),
-    ];
-    answers(&rt, &mut one, &of_one);
-    answers(&rt, &mut zero, &[(Call::Read(1024), Answer::Filled(2))]);
-    Ok(())
+    let blocks = pair.blocks();
+    answers(&rt, &mut pair, &OF_PAIR);
+    is(
+        &rt,
+        &[blocks, zero.blocks(), one.blocks()],
+        &[4096, 2048, 2048],
+    );
+    answers(&rt, &mut one, &OF_ONE);
+    answers(&rt, &mut zero, &OF_ZERO);
 }
 
 // Copies one page of a device that is known by its contract alone. No more than one of its reads fails.
@@ -136,18 +161,28 @@ fn copy_across<D: SwapDev, E: SwapDev>(zero: &mut D, one: &mut E) -> Option<u32>
     pair.failed_read()
 }
 
+// Checks that a device has so many blocks.
+fn has_blocks<D: SwapDev>(rt: &impl Abort, device: &D, blocks: u32)
+    ensures { D.blocks device.now ≡ blocks }
+{
+    assert_eq!(rt; device.blocks(), blocks);
+}
+
 #[test]
-fn a_pair_names_the_device_of_a_failed_read(rt: HostRuntime) -> Result<(), Fail> {
-    let fail_reads = [2].to_vec(rt.alloc())?;
-    let mut zero = MemSwap::new(rt.alloc(), 1024, fail_reads, Vec::new(rt.alloc()))?;
-    let mut one = SureSwap::new(rt.alloc(), 2)?;
-    assert_eq!(rt; zero.write(0, &[4; 1024]), Moved::Done);
-    assert_eq!(rt; copy_across(&mut zero, &mut one), None);
-    assert_eq!(rt; zero.blocks(), 1024);
-    assert_eq!(rt; one.blocks(), 2);
+fn a_pair_names_the_device_of_a_failed_read(rt: HostRuntime) {
+    let alloc = rt.alloc();
+    let fail_reads = numbers(&rt, alloc, &[2]);
+    let zero = MemSwap::new(alloc, 1024, fail_reads, Vec::new(alloc));
+    let mut zero = zero.expect(&rt, "memory for device 0");
+    let mut one = SureSwap::new(alloc, 2).expect(&rt, "memory for device 1");
+    let written = zero.write(0, &[4; 1024]);
+    let none = copy_across(&mut zero, &mut one);
+    has_blocks(&rt, &zero, 1024);
+    has_blocks(&rt, &one, 2);
     let mut page = [0; 1024];
-    assert_eq!(rt; one.read(0, &mut page), Moved::Done);
-    assert_eq!(rt; page, [4; 1024]);
-    assert_eq!(rt; copy_across(&mut zero, &mut one), Some(0));
-    Ok(())
+    let read = one.read(0, &mut page);
+    let named = copy_across(&mut zero, &mut one);
+    is(&rt, &[written, read], &[Moved::Done, Moved::Done]);
+    is(&rt, &[none, named], &[None, Some(0)]);
+    is(&rt, &page, &[4; 1024]);
 }

@@ -1,14 +1,14 @@
 // Real files that aren't plain ones of a run's own: pipes, files of /proc, folders, links, and files that another run has. They are
 // made and removed in the folder that the tests run in.
 use crate::calls::{Answer, Call, answers};
-use crate::folder::{bytes_at, length_of, told};
+use crate::checks::{are, is};
+use crate::folder::{bytes_at, length_of, make, make_folder, remove, remove_folder, told};
 use io_edge::{Files, Found, Moved, SureSwap, SwapDev};
 use std::alloc::{AllocError, Global};
 use std::io::Write;
 use std::os::unix::fs::symlink;
 use std::os::unix::io::AsRawFd;
 use std::process::Abort;
-use std::test::Fail;
 use std::{fs, io, rt};
 use system_edge::{DirFiles, FileSwap};
 
@@ -33,30 +33,31 @@ fn is_read_whole_and_once(rt: &impl Abort, files: &mut DirFiles<'_, HostRuntime>
 }
 
 #[test]
-fn reads_a_pipe_whole_and_once(rt: HostRuntime) -> Result<(), Fail> {
-    let (reader, mut writer) = io::pipe(&rt)?;
-    writer.write_all(b"hello")?;
+fn reads_a_pipe_whole_and_once(rt: HostRuntime) {
+    let (reader, mut writer) = io::pipe(&rt).expect(&rt, "a pipe");
+    writer.write_all(b"hello").expect(&rt, "room in the pipe");
     drop(writer);
-    let name = descriptor_name(rt.alloc(), reader.as_raw_fd())?;
+    let name = descriptor_name(rt.alloc(), reader.as_raw_fd());
+    let name = name.expect(&rt, "memory for a name");
     is_read_whole_and_once(&rt, &mut DirFiles::new(&rt), name.as_str());
-    Ok(())
+}
+
+// Checks a file of /proc, and one that has no bytes.
+fn are_read_with_no_length(rt: &impl Abort, files: &mut DirFiles<'_, HostRuntime>) {
+    let Found::Is { id, len } = files.find("/proc/self/statm") else {
+        panic!(rt; "not found");
+    };
+    assert!(rt; len > 0);
+    let last = [bytes_at(files, id, len - 1), bytes_at(files, id, len)];
+    let null = files.find("/dev/null");
+    assert_eq!(rt; last, [Some([b'\n']), None]);
+    assert!(rt; matches!(null, Found::Is { len: 0, .. }), "{null:?}");
 }
 
 // The system says the length 0 of files of /proc, and they have bytes.
 #[test]
 fn reads_what_has_no_length_by_the_system(rt: HostRuntime) {
-    let mut files = DirFiles::new(&rt);
-    let Found::Is { id, len } = files.find("/proc/self/statm") else {
-        panic!(&rt; "not found");
-    };
-    assert!(rt; len > 0);
-    let last = [
-        bytes_at(&mut files, id, len - 1),
-        bytes_at(&mut files, id, len),
-    ];
-    let null = files.find("/dev/null");
-    assert_eq!(rt; last, [Some([b'\n']), None]);
-    assert!(rt; matches!(null, Found::Is { len: 0, .. }), "{null:?}");
+    are_read_with_no_length(&rt, &mut DirFiles::new(&rt));
 }
 
 // Checks what is told of a folder, and of a file of five bytes.
@@ -80,13 +81,12 @@ fn are_named_where_refused(rt: &impl Abort, alloc: Global, files: &mut DirFiles<
 }
 
 #[test]
-fn names_the_file_that_the_system_refused(rt: HostRuntime) -> Result<(), Fail> {
-    fs::create_dir(&rt, "refused.folder")?;
-    fs::write(&rt, "short.file", "hello")?;
+fn names_the_file_that_the_system_refused(rt: HostRuntime) {
+    make_folder(&rt, "refused.folder");
+    make(&rt, "short.file", "hello");
     are_named_where_refused(&rt, rt.alloc(), &mut DirFiles::new(&rt));
-    fs::remove_dir(&rt, "refused.folder")?;
-    fs::remove_file(&rt, "short.file")?;
-    Ok(())
+    remove_folder(&rt, "refused.folder");
+    remove(&rt, "short.file");
 }
 
 // Checks what a device answers to each of these calls, and how long its file is after each.
@@ -102,51 +102,55 @@ fn grows<R: Abort + rt::Files, D: SwapDev>(
     }
 }
 
-#[test]
-fn grows_its_file_as_it_is_written(rt: HostRuntime) -> Result<(), Fail> {
-    let mut swap = FileSwap::new(&rt, "grown.swap", 65_536);
-    let growing = [
-        (Call::Read(65_534), Answer::Filled(0), 0),
-        (Call::Write(2, 1), Answer::Written, 2_048),
-        (Call::Write(0, 2), Answer::Written, 2_048),
-        (Call::Write(65_534, 3), Answer::Written, 33_554_432),
-    ];
-    grows(&rt, &mut swap, "grown.swap", &growing);
-    let grown = [
-        (Call::Read(0), Answer::Filled(2)),
-        (Call::Read(2), Answer::Filled(1)),
-        (Call::Read(4), Answer::Filled(0)),
-        (Call::Read(65_534), Answer::Filled(3)),
-    ];
-    answers(&rt, &mut swap, &grown);
-    fs::remove_file(&rt, "grown.swap")?;
-    Ok(())
-}
+static GROWING: [(Call, Answer, u64); 4] = [
+    (Call::Read(65_534), Answer::Filled(0), 0),
+    (Call::Write(2, 1), Answer::Written, 2_048),
+    (Call::Write(0, 2), Answer::Written, 2_048),
+    (Call::Write(65_534, 3), Answer::Written, 33_554_432),
+];
+
+static GROWN: [(Call, Answer); 4] = [
+    (Call::Read(0), Answer::Filled(2)),
+    (Call::Read(2), Answer::Filled(1)),
+    (Call::Read(4), Answer::Filled(0)),
+    (Call::Read(65_534), Answer::Filled(3)),
+];
 
 #[test]
-fn has_its_file_for_itself(rt: HostRuntime) -> Result<(), Fail> {
+fn grows_its_file_as_it_is_written(rt: HostRuntime) {
+    let mut swap = FileSwap::new(&rt, "grown.swap", 65_536);
+    grows(&rt, &mut swap, "grown.swap", &GROWING);
+    answers(&rt, &mut swap, &GROWN);
+    remove(&rt, "grown.swap");
+}
+
+static WRITTEN: [(Call, Answer); 1] = [(Call::Write(0, 5), Answer::Written)];
+
+static REFUSED: [(Call, Answer); 2] = [
+    (Call::Write(0, 6), Answer::Failed),
+    (Call::Read(0), Answer::Failed),
+];
+
+static READ: [(Call, Answer); 1] = [(Call::Read(0), Answer::Filled(5))];
+
+static TAKEN: [(Call, Answer); 2] = [
+    (Call::Write(2, 6), Answer::Written),
+    (Call::Read(0), Answer::Filled(0)),
+];
+
+#[test]
+fn has_its_file_for_itself(rt: HostRuntime) {
     let mut first = FileSwap::new(&rt, "one.swap", 8);
     let mut second = FileSwap::new(&rt, "one.swap", 8);
-    answers(&rt, &mut first, &[(Call::Write(0, 5), Answer::Written)]);
-    let refused = [
-        (Call::Write(0, 6), Answer::Failed),
-        (Call::Read(0), Answer::Failed),
-    ];
-    answers(&rt, &mut second, &refused);
+    answers(&rt, &mut first, &WRITTEN);
+    answers(&rt, &mut second, &REFUSED);
     let why = told(rt.alloc(), second.last_refusal());
-    answers(&rt, &mut first, &[(Call::Read(0), Answer::Filled(5))]);
+    answers(&rt, &mut first, &READ);
     drop(first);
-    let taken = [
-        (Call::Write(2, 6), Answer::Written),
-        (Call::Read(0), Answer::Filled(0)),
-    ];
-    answers(&rt, &mut second, &taken);
-    assert_eq!(rt;
-        why.as_str(),
-        "one.swap: in use by another run in this folder, or as a file of this run"
-    );
-    fs::remove_file(&rt, "one.swap")?;
-    Ok(())
+    answers(&rt, &mut second, &TAKEN);
+    let wanted = "one.swap: in use by another run in this folder, or as a file of this run";
+    are(&rt, why.as_bytes(), wanted.as_bytes());
+    remove(&rt, "one.swap");
 }
 
 // How a device on this name answers a write, and what it tells of that.
@@ -156,65 +160,68 @@ fn answered(rt: &HostRuntime, name: &str) -> (Moved, String) {
     (moved, told(rt.alloc(), swap.last_refusal()))
 }
 
-#[test]
-fn refuses_a_file_that_is_not_its_own(rt: HostRuntime) -> Result<(), Fail> {
-    fs::write(&rt, "precious.file", "precious")?;
-    symlink(&rt, "precious.file", "linked.swap")?;
-    symlink(&rt, "absent.file", "dangling.swap")?;
-    fs::hard_link(&rt, "precious.file", "second.swap")?;
-    fs::create_dir(&rt, "folder.swap")?;
-    let refused = [
-        ("linked.swap", "linked.swap: is a link, and no plain file"),
-        (
-            "dangling.swap",
-            "dangling.swap: is a link, and no plain file",
-        ),
-        (
-            "second.swap",
-            "second.swap: is a file that has another name too",
-        ),
-        ("folder.swap", "folder.swap: is no plain file"),
-        ("/dev/null", "/dev/null: is no plain file"),
-    ];
-    for (name, why) in refused {
-        let (moved, reason) = answered(&rt, name);
-        let kept = fs::read_to_string(&rt, "precious.file")?;
-        assert_eq!(rt;
-            (moved, reason.as_str(), kept.as_str()),
-            (Moved::Failed, why, "precious"),
-            "{name}"
-        );
-    }
-    assert!(rt; !fs::exists(&rt, "absent.file")?);
-    for name in [
-        "linked.swap",
-        "dangling.swap",
-        "second.swap",
-        "precious.file",
-    ] {
-        fs::remove_file(&rt, name)?;
-    }
-    fs::remove_dir(&rt, "folder.swap")?;
-    Ok(())
+// Checks that a write was refused for this reason, and that the file of another is as it was.
+fn is_refused(rt: &impl Abort, answered: &(Moved, String), why: &str, kept: io::Result<String>) {
+    let kept = kept.expect(rt, "a file that is read");
+    let (moved, reason) = answered;
+    assert_eq!(rt;
+        (*moved, reason.as_str(), kept.as_str()),
+        (Moved::Failed, why, "precious")
+    );
 }
 
+static NOT_ITS_OWN: [(&str, &str); 5] = [
+    ("linked.swap", "linked.swap: is a link, and no plain file"),
+    (
+        "dangling.swap",
+        "dangling.swap: is a link, and no plain file",
+    ),
+    (
+        "second.swap",
+        "second.swap: is a file that has another name too",
+    ),
+    ("folder.swap", "folder.swap: is no plain file"),
+    ("/dev/null", "/dev/null: is no plain file"),
+];
+
 #[test]
-fn holds_zeros_after_what_was_written(rt: HostRuntime) -> Result<(), Fail> {
-    let mut swap = SureSwap::new(rt.alloc(), 131_072)?;
-    let calls = [
-        (Call::Read(6), Answer::Filled(0)),
-        (Call::Write(6, 1), Answer::Written),
-        (Call::Read(2), Answer::Filled(0)),
-        (Call::Write(2, 2), Answer::Written),
-        (Call::Read(4_000), Answer::Filled(0)),
-        (Call::Write(4_000, 3), Answer::Written),
-        (Call::Read(131_070), Answer::Filled(0)),
-        (Call::Read(4_002), Answer::Filled(0)),
-        (Call::Read(4_000), Answer::Filled(3)),
-        (Call::Read(6), Answer::Filled(1)),
-        (Call::Read(2), Answer::Filled(2)),
-        (Call::Read(0), Answer::Filled(0)),
-    ];
-    answers(&rt, &mut swap, &calls);
-    Ok(())
+fn refuses_a_file_that_is_not_its_own(rt: HostRuntime) {
+    make(&rt, "precious.file", "precious");
+    symlink(&rt, "precious.file", "linked.swap").expect(&rt, "a link");
+    symlink(&rt, "absent.file", "dangling.swap").expect(&rt, "a link");
+    fs::hard_link(&rt, "precious.file", "second.swap").expect(&rt, "another name");
+    make_folder(&rt, "folder.swap");
+    for (name, why) in NOT_ITS_OWN.iter() {
+        let answered = answered(&rt, name);
+        let kept = fs::read_to_string(&rt, "precious.file");
+        is_refused(&rt, &answered, why, kept);
+    }
+    let is_made = fs::exists(&rt, "absent.file").expect(&rt, "an answer");
+    is(&rt, &is_made, &false);
+    remove(&rt, "linked.swap");
+    remove(&rt, "dangling.swap");
+    remove(&rt, "second.swap");
+    remove(&rt, "precious.file");
+    remove_folder(&rt, "folder.swap");
+}
+
+static AFTER_WRITTEN: [(Call, Answer); 12] = [
+    (Call::Read(6), Answer::Filled(0)),
+    (Call::Write(6, 1), Answer::Written),
+    (Call::Read(2), Answer::Filled(0)),
+    (Call::Write(2, 2), Answer::Written),
+    (Call::Read(4_000), Answer::Filled(0)),
+    (Call::Write(4_000, 3), Answer::Written),
+    (Call::Read(131_070), Answer::Filled(0)),
+    (Call::Read(4_002), Answer::Filled(0)),
+    (Call::Read(4_000), Answer::Filled(3)),
+    (Call::Read(6), Answer::Filled(1)),
+    (Call::Read(2), Answer::Filled(2)),
+    (Call::Read(0), Answer::Filled(0)),
+];
+
+#[test]
+fn holds_zeros_after_what_was_written(rt: HostRuntime) {
+    let mut swap = SureSwap::new(rt.alloc(), 131_072).expect(&rt, "memory for a device");
+    answers(&rt, &mut swap, &AFTER_WRITTEN);
 }

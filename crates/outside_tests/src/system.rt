@@ -3,15 +3,15 @@
 ghost use Rattle.std.specs.Prelude.{None};
 
 use crate::calls::{Answer, Call, answers};
-use crate::folder::{bytes_at, length_of};
+use crate::checks::is;
+use crate::folder::{bytes_at, length_of, make, make_folder, remove, remove_folder};
 use io_edge::{Files, Found, Moved, Sink, SureSwap, SwapDev, SwapPair};
-use std::alloc::{AllocError, Allocator, Global};
+use std::alloc::{Allocator, Global};
 use std::cell::Cell;
 use std::fmt::Display;
 use std::fs::{Metadata, OpenFile, OpenOptions};
 use std::io::{ErrorKind, Read, Seek, SeekFrom, Write};
 use std::process::Abort;
-use std::test::Fail;
 use std::{fs, io, rt};
 use system_edge::{DirFiles, FileSwap, LockFile, OffsetFile, OutSink};
 
@@ -35,22 +35,23 @@ fn absent_is_told_from_unread(rt: &impl Abort, files: &mut DirFiles<'_, HostRunt
 }
 
 #[test]
-fn an_absent_file_is_told_from_one_that_cannot_be_read(rt: HostRuntime) -> Result<(), Fail> {
-    fs::write(&rt, "some.file", "hello")?;
-    fs::create_dir(&rt, "some.folder")?;
+fn an_absent_file_is_told_from_one_that_cannot_be_read(rt: HostRuntime) {
+    make(&rt, "some.file", "hello");
+    make_folder(&rt, "some.folder");
     absent_is_told_from_unread(&rt, &mut DirFiles::new(&rt));
-    fs::remove_file(&rt, "some.file")?;
-    fs::remove_dir(&rt, "some.folder")?;
-    Ok(())
+    remove(&rt, "some.file");
+    remove_folder(&rt, "some.folder");
 }
 
 // So many bytes, no two pages of which are alike.
-fn unlike(alloc: Global, count: u32) -> Result<Vec<u8>, AllocError> {
+fn unlike(rt: &impl Abort, alloc: Global, count: u32) -> Vec<u8> {
     let mut bytes = Vec::new(alloc);
     for place in 0..count {
-        bytes.push((place % 251) as u8)?;
+        bytes
+            .push((place % 251) as u8)
+            .expect(rt, "memory for a byte");
     }
-    Ok(bytes)
+    bytes
 }
 
 // Checks the pages of the file `some.image` from these places on, and its end.
@@ -80,17 +81,16 @@ fn is_read_as(
 
 // The text of an image that isn't paged begins after its header of 32 bytes, so its pages begin at no multiple of 1,024.
 #[test]
-fn a_page_is_read_from_where_it_begins(rt: HostRuntime) -> Result<(), Fail> {
-    let bytes = unlike(rt.alloc(), 2080)?;
-    fs::write(&rt, "some.image", bytes.as_slice())?;
+fn a_page_is_read_from_where_it_begins(rt: HostRuntime) {
+    let bytes = unlike(&rt, rt.alloc(), 2080);
+    fs::write(&rt, "some.image", bytes.as_slice()).expect(&rt, "a file that is made");
     is_read_as(
         &rt,
         &mut DirFiles::new(&rt),
         bytes.as_slice(),
         &[32, 1056, 0, 1055],
     );
-    fs::remove_file(&rt, "some.image")?;
-    Ok(())
+    remove(&rt, "some.image");
 }
 
 // A standard output that takes two bytes at a time, and no more than five.
@@ -145,9 +145,10 @@ fn a_piece_is_written_in_parts_until_output_takes_nothing(rt: HostRuntime) {
         output.taken.get(),
         output.digits.get(),
     );
-    assert_eq!(rt;
-        [first, second],
-        [(Moved::Done, 3, 123), (Moved::Failed, 5, 12_345)]
+    is(
+        &rt,
+        &[first, second],
+        &[(Moved::Done, 3, 123), (Moved::Failed, 5, 12_345)],
     );
 }
 
@@ -157,33 +158,34 @@ fn cut(rt: &HostRuntime, name: &str, len: u64) -> io::Result<()> {
     file.set_len(len)
 }
 
+static WHOLE: [(Call, Answer); 10] = [
+    (Call::Write(2, 5), Answer::Written),
+    (Call::Read(6), Answer::Filled(0)),
+    (Call::Read(2), Answer::Filled(5)),
+    // The first page, the next one and the last one, the last one first.
+    (Call::Write(6, 3), Answer::Written),
+    (Call::Write(0, 1), Answer::Written),
+    (Call::Write(2, 2), Answer::Written),
+    (Call::Read(0), Answer::Filled(1)),
+    (Call::Read(2), Answer::Filled(2)),
+    (Call::Read(6), Answer::Filled(3)),
+    (Call::Read(4), Answer::Filled(0)),
+];
+
+static CUT_SHORT: [(Call, Answer); 2] = [
+    (Call::Read(2), Answer::Failed),
+    (Call::Read(0), Answer::Filled(1)),
+];
+
 #[test]
-fn a_swap_file_holds_each_page_apart(rt: HostRuntime) -> Result<(), Fail> {
+fn a_swap_file_holds_each_page_apart(rt: HostRuntime) {
     let mut swap = FileSwap::new(&rt, "some.swap", 8);
-    assert_eq!(rt; swap.blocks(), 8);
-    assert_eq!(rt; length_of(&rt, "some.swap"), None);
-    let calls = [
-        (Call::Write(2, 5), Answer::Written),
-        (Call::Read(6), Answer::Filled(0)),
-        (Call::Read(2), Answer::Filled(5)),
-        // The first page, the next one and the last one, the last one first.
-        (Call::Write(6, 3), Answer::Written),
-        (Call::Write(0, 1), Answer::Written),
-        (Call::Write(2, 2), Answer::Written),
-        (Call::Read(0), Answer::Filled(1)),
-        (Call::Read(2), Answer::Filled(2)),
-        (Call::Read(6), Answer::Filled(3)),
-        (Call::Read(4), Answer::Filled(0)),
-    ];
-    answers(&rt, &mut swap, &calls);
-    cut(&rt, "some.swap", 1030)?;
-    let short = [
-        (Call::Read(2), Answer::Failed),
-        (Call::Read(0), Answer::Filled(1)),
-    ];
-    answers(&rt, &mut swap, &short);
-    fs::remove_file(&rt, "some.swap")?;
-    Ok(())
+    let at_first = (swap.blocks(), length_of(&rt, "some.swap"));
+    is(&rt, &at_first, &(8, None));
+    answers(&rt, &mut swap, &WHOLE);
+    cut(&rt, "some.swap", 1030).expect(&rt, "a file that is cut");
+    answers(&rt, &mut swap, &CUT_SHORT);
+    remove(&rt, "some.swap");
 }
 
 // A file system whose disk gets full: a file takes a page and no more.
@@ -313,26 +315,31 @@ impl rt::Files for FullDisk {
     }
 }
 
+static WITH_ROOM: [(Call, Answer); 2] = [
+    (Call::Write(0, 1), Answer::Written),
+    (Call::Write(1024, 1), Answer::Written),
+];
+
+static WITH_NONE: [(Call, Answer); 1] = [(Call::Write(1026, 1), Answer::Failed)];
+
+static READ_BACK: [(Call, Answer); 1] = [(Call::Read(1024), Answer::Failed)];
+
 #[test]
-fn what_the_system_refuses_fails(rt: HostRuntime) -> Result<(), Fail> {
+fn what_the_system_refuses_fails(rt: HostRuntime) {
     let disk = FullDisk;
-    let mut zero = SureSwap::new(rt.alloc(), 2048)?;
+    let mut zero = SureSwap::new(rt.alloc(), 2048).expect(&rt, "memory for device 0");
     let mut one = FileSwap::new(&disk, "full.swap", 2048);
     let mut pair = SwapPair::new(&mut zero, &mut one);
     let blocks = pair.blocks();
-    let written = [
-        (Call::Write(0, 1), Answer::Written),
-        (Call::Write(1024, 1), Answer::Written),
-    ];
-    answers(&rt, &mut pair, &written);
+    answers(&rt, &mut pair, &WITH_ROOM);
     let none = pair.failed_write();
-    answers(&rt, &mut pair, &[(Call::Write(1026, 1), Answer::Failed)]);
+    answers(&rt, &mut pair, &WITH_NONE);
     let writing = pair.failed_write();
-    answers(&rt, &mut pair, &[(Call::Read(1024), Answer::Failed)]);
+    answers(&rt, &mut pair, &READ_BACK);
     let reading = pair.failed_read();
-    assert_eq!(rt;
-        (blocks, none, writing, reading),
-        (4096, None, Some(1), Some(1))
+    is(
+        &rt,
+        &(blocks, none, writing, reading),
+        &(4096, None, Some(1), Some(1)),
     );
-    Ok(())
 }
