@@ -166,13 +166,13 @@ fn unlike(
     written: &[u8],
     told: &[u8],
     given: u8,
-) -> Result<String, AllocError> {
+) -> Result<String, Bad> {
     if given == status && written == asked.wanted.as_slice() && told == asked.told.as_slice() {
         return Ok(String::new(alloc));
     }
     let words = asked.words.as_str();
     let (text, told) = (shown(written), shown(told));
-    format!(in alloc; "vmrun {words}\n{text}{told}status {given}\n")
+    Ok(format!(in alloc; "vmrun {words}\n{text}{told}status {given}\n")?)
 }
 
 // An output with room for a run, whose calls of these numbers fail.
@@ -202,8 +202,7 @@ fn over<D: SwapDev>(
     let words = words.as_slice();
     let given = status_of(alloc, words, &mut held, zero, &mut one, &mut sink);
     let told = told_of(alloc, words, &mut held, given);
-    let written = sink.written();
-    Ok(unlike(alloc, asked, status, written, told.as_slice(), given)?)
+    unlike(alloc, asked, status, sink.written(), told.as_slice(), given)
 }
 
 // What a run wrote and answered where all is in memory, where that isn't what is wanted.
@@ -212,13 +211,13 @@ fn unlike_in_memory(
     asked: &Asked,
     status: u8,
     done: &InMemory,
-) -> Result<String, AllocError> {
+) -> Result<String, Bad> {
     let (written, given) = (done.output.written(), done.status);
     if given == status && written == asked.wanted.as_slice() {
         return Ok(String::new(alloc));
     }
     let (words, text) = (asked.words.as_str(), shown(written));
-    format!(in alloc; "vmrun {words}, in memory\n{text}status {given}\n")
+    Ok(format!(in alloc; "vmrun {words}, in memory\n{text}status {given}\n")?)
 }
 
 // Runs words over these files, where all is in memory and nothing fails.
@@ -242,7 +241,7 @@ fn in_memory(
 ) -> Result<String, Bad> {
     let words = words_of(alloc, asked.words.as_str())?;
     let done = done_in_memory(alloc, words.as_slice(), copies_of(alloc, files)?, asked)?;
-    Ok(unlike_in_memory(alloc, asked, status, &done)?)
+    unlike_in_memory(alloc, asked, status, &done)
 }
 
 /// Runs the words, and tells what came of it; nothing where it is as wanted. Where no call is to fail, they are run once more
