@@ -8,7 +8,6 @@ use Rattle.std.proofs.lemmas.List.Sums.{sum_by-cons}
 use Rattle.vm_facts.specs.declared.entry.Entry.{Entry}
 use Rattle.vm_facts.specs.declared.entry.Entry.TheVariants as entries
 use Rattle.flat_state.specs.Flat.{Inputs}
-use Rattle.run_counts.specs.Counts.{zero_fills, reclaims, copies, moves}
 use Rattle.run_model.specs.State.{State}
 use Rattle.run_stats.specs.declared.look.Look.{Look}
 use Rattle.run_stats.specs.declared.noting.Note.{Note}
@@ -18,7 +17,7 @@ use Rattle.run_stats.specs.Looks.{look_at}
 use Rattle.run_stats.specs.Notes.{what_of, note_of}
 use Rattle.run_stats.specs.Story.{IsNoted, AreNoted}
 use Rattle.run_stats.specs.Amounts.{filled_with_zeros, copied_from_parent, reclaimed, hand_moves, paging_amount, run_amount, larger, smaller, most_held, least_free}
-use Rattle.run_stats.specs.Agreeing.{last_look, AgreesWith, EndsAt}
+use Rattle.run_stats.specs.Agreeing.{zero_fills, reclaims, copies, moves, last_look, AgreesWith, EndsAt}
 
 -- One entry.
 

@@ -3,7 +3,6 @@ use Rattle.std.specs.Prelude.{◌≡◌, ◌≤◌, ◌-◌, ◌+◌, ℕ, List,
 use Rattle.std.specs.List.{sum_by}
 use Rattle.vm_facts.specs.declared.entry.Entry.{Entry}
 use Rattle.vm_facts.specs.declared.entry.Entry.TheVariants as noted
-use Rattle.run_counts.specs.Counts.{zero_fills, reclaims, copies, moves}
 use Rattle.run_model.specs.State.{State}
 use Rattle.run_model.specs.Next.{owners_of}
 use Rattle.run_stats.specs.declared.look.Look.{Look}
@@ -12,6 +11,26 @@ use Rattle.run_stats.specs.declared.heads.PagingHead.TheVariants.{ZeroFills, Rec
 use Rattle.run_stats.specs.declared.heads.RunHead.TheVariants.{HandMoves}
 use Rattle.run_stats.specs.Looks.{look_at}
 use Rattle.run_stats.specs.Amounts.{paging_amount, run_amount, most_held, least_free}
+
+-- a page that is filled with zeros
+abbrev pub zero_fills : Entry → ℕ
+zero_fills (noted.Zero page) = 1
+zero_fills _ = 0
+
+-- a page that a frame still holds
+abbrev pub reclaims : Entry → ℕ
+reclaims (noted.Reclaim page) = 1
+reclaims _ = 0
+
+-- a page that is filled from the parent's
+abbrev pub copies : Entry → ℕ
+copies (noted.Copy page) = 1
+copies _ = 0
+
+-- the moves of the hands
+abbrev pub moves : Entry → ℕ
+moves (noted.Hands count) = count
+moves _ = 0
 
 -- what is looked at last, or this before the first entry
 abbrev pub last_look : Look → List Note → Look

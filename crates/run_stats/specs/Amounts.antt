@@ -1,8 +1,8 @@
 -- What an entry adds under each head, by what is noted of it.
-use Rattle.std.specs.Prelude.{ℕ, ◌-◌, ◌==◌, nat_lt, if◌then◌else◌, List, [], ◌∷◌}
+use Rattle.std.specs.Prelude.{ℕ, ◌-◌, ◌==◌, Bool, false, nat_lt, if◌then◌else◌, List, [], ◌∷◌}
 use Rattle.std.specs.List.{sum_by}
 use Rattle.run_counts.specs.declared.amounts.Owner.{Owner}
-use Rattle.run_counts.specs.Counts.{is_same_owner}
+use Rattle.run_counts.specs.declared.amounts.Owner.TheVariants.{Space, Image}
 use Rattle.run_stats.specs.declared.look.Look.{Look}
 use Rattle.run_stats.specs.declared.look.Flight.{Flight}
 use Rattle.run_stats.specs.declared.look.Flight.TheVariants.{OfFile, OfSwap, ToSwap}
@@ -96,6 +96,12 @@ swap_transfer_in _ _ = 0
 abbrev pub swap_transfer_out : What → Flight → ℕ
 swap_transfer_out Ended (ToSwap owner pages) = 1
 swap_transfer_out _ _ = 0
+
+-- both are one space, or one image
+abbrev pub is_same_owner : Owner → Owner → Bool
+is_same_owner (Space a) (Space b) = a == b
+is_same_owner (Image a) (Image b) = a == b
+is_same_owner _ _ = false
 
 -- the pages of an owner that the transfer which ends has written
 abbrev pub pages_written : Owner → What → Flight → ℕ

@@ -1,13 +1,12 @@
 // Sums and extremes over what is noted of a run, kept in tables by number as the notes come.
 ghost use Rattle.std.specs.Prelude.{◌≡◌, ◌+◌, ◌≤◌, ◌<◌, ◌^◌, ℕ, [], if◌then◌else◌, IfOk, OnOk};
 ghost use Rattle.run_counts.specs.declared.amounts.Owner.{Owner as AnyOwner};
-ghost use Rattle.run_counts.specs.Counts.{is_same_owner};
 ghost use Rattle.run_stats.specs.declared.heads.PagingHead.{PagingHead as AnyPagingHead};
 ghost use Rattle.run_stats.specs.declared.heads.RunHead.{RunHead as AnyRunHead};
 ghost use Rattle.run_stats.specs.declared.heads.Head.{Head as AnyHead};
 ghost use Rattle.run_stats.specs.declared.heads.Head.TheVariants.{OfRunner};
 ghost use Rattle.run_stats.specs.declared.look.Look.{Look as Looked};
-ghost use Rattle.run_stats.specs.Amounts.{pages_written, run_amount, head_amount, larger, smaller};
+ghost use Rattle.run_stats.specs.Amounts.{is_same_owner, pages_written, run_amount, head_amount, larger, smaller};
 ghost use Rattle.run_stats.specs.Sums.{paging_table, paging_sum, written_sum, run_sum, sum_in, Tallies};
 
 use crate::heads::{PagingHead, RunHead, paging_amount, run_amount};
