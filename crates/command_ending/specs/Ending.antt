@@ -6,7 +6,7 @@ use Rattle.run_files.specs.declared.answers.Unread.TheVariants as unreads
 use Rattle.command_ending.specs.declared.lines.Line.{Line}
 use Rattle.command_ending.specs.declared.lines.Line.TheVariants.{Fixed, Made}
 use Rattle.command_ending.specs.declared.fault.Fault.{Fault}
-use Rattle.command_ending.specs.declared.fault.Fault.TheVariants.{BadWords, Absent, NotImage, BadSchedule, FileFault, SwapReadFault, SwapWriteFault, NoMemory, JournalFull, NoSpace, ShortDevice, NotFlatRun, BadTranscript, TooLong, BadSource, BadReferences, ReferencesTooLong}
+use Rattle.command_ending.specs.declared.fault.Fault.TheVariants.{BadWords, Absent, NotImage, BadSchedule, FileFault, SwapReadFault, SwapWriteFault, NoMemory, JournalFull, NoSpace, ShortDevice, NotFlatRun, BadTranscript, TooLong, BadSource, BadReferences, ReferencesTooLong, NotAsWritten, WrittenSoFar}
 
 -- what a command makes, or why it doesn't
 abbrev pub Ending : Type 0
@@ -43,6 +43,8 @@ fault_status TooLong = 16
 fault_status (BadSource line) = 17
 fault_status (BadReferences line) = 18
 fault_status ReferencesTooLong = 16
+fault_status (NotAsWritten line) = 19
+fault_status (WrittenSoFar entries) = 20
 
 -- the bytes of a line about a fault
 abbrev pub bytes_of : Line → List ℕ
@@ -66,6 +68,10 @@ abbrev pub short_device_line : ℕ → ℕ → ℕ → List ℕ
 short_device_line device blocks needed =
     codes "vmrun: swap device " ++ decimal device ++ codes " has " ++ decimal blocks ++ codes " blocks, " ++ decimal needed ++ codes " needed\n"
 
+-- the line of a trace that has the first entries of a run, so many
+abbrev pub so_far_line : ℕ → List ℕ
+so_far_line entries = codes "as written so far: " ++ decimal entries ++ codes " entries\n"
+
 -- the line of a fault
 abbrev pub fault_line : Fault → List ℕ
 fault_line BadWords = codes "vmrun: bad words\n"
@@ -85,6 +91,8 @@ fault_line TooLong = codes "vmrun: transcript too long\n"
 fault_line (BadSource line) = numbered_line (codes "vmrun: bad source line ") line
 fault_line (BadReferences line) = numbered_line (codes "vmrun: bad references line ") line
 fault_line ReferencesTooLong = codes "vmrun: references too long\n"
+fault_line (NotAsWritten line) = numbered_line (codes "not as written: line ") line
+fault_line (WrittenSoFar entries) = so_far_line entries
 
 -- a fault whose line has a name or a number in it, so that memory is needed to write it; those of devices 0 and 1 are at hand
 abbrev pub NeedsMemory : Fault → Type 0
@@ -105,6 +113,8 @@ NeedsMemory TooLong = ⊥
 NeedsMemory (BadSource line) = Unit {0}
 NeedsMemory (BadReferences line) = Unit {0}
 NeedsMemory ReferencesTooLong = ⊥
+NeedsMemory (NotAsWritten line) = Unit {0}
+NeedsMemory (WrittenSoFar entries) = Unit {0}
 
 -- an ending whose text can be lost for want of memory: what was made is at hand
 abbrev pub CanBeLost : Ending → Type 0

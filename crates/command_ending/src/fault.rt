@@ -3,8 +3,8 @@ ghost use Rattle.command_ending.specs.declared.fault.Fault.TheVariants.{NoMemory
 ghost use Rattle.command_ending.specs.Ending.{fault_of, fault_status, fault_line, bytes_of, NeedsMemory};
 
 use crate::lines::{
-    Line, NO_MEMORY, absent_line, not_image_line, numbered_line, short_device_line, swap_read_line,
-    swap_write_line,
+    Line, NO_MEMORY, absent_line, not_image_line, numbered_line, short_device_line, so_far_line,
+    swap_read_line, swap_write_line,
 };
 use run_files::Unread;
 use std::alloc::{AllocError, Global};
@@ -50,6 +50,10 @@ pub enum Fault<'a> {
     BadReferences(u32),
     /// A file of references has more bytes than it may.
     ReferencesTooLong,
+    /// The entries of a trace are none that the written policy writes, first at this line.
+    NotAsWritten(u32),
+    /// The entries of a trace are the first ones that the written policy writes, so many, and it writes more.
+    WrittenSoFar(u32),
 }
 
 impl<'a> From<AllocError> for Fault<'a> {
@@ -95,6 +99,8 @@ impl<'a> Fault<'a> {
             Fault::BadSource(_) => 17,
             Fault::BadReferences(_) => 18,
             Fault::ReferencesTooLong => 16,
+            Fault::NotAsWritten(_) => 19,
+            Fault::WrittenSoFar(_) => 20,
         }
     }
 
@@ -132,6 +138,8 @@ impl<'a> Fault<'a> {
             Fault::ReferencesTooLong => {
                 return Ok(Line::Fixed(b"vmrun: references too long\n"));
             }
+            Fault::NotAsWritten(line) => numbered_line(alloc, b"not as written: line ", line),
+            Fault::WrittenSoFar(entries) => so_far_line(alloc, entries),
         }?;
         Ok(Line::Made(made))
     }

@@ -1,6 +1,6 @@
 // The lines about faults, which the commands share.
 ghost use Rattle.std.specs.Prelude.{◌≡◌, ◌≤◌, ◌++◌, IfOk, IfErr, OnOk, codes, decimal};
-ghost use Rattle.command_ending.specs.Ending.{bytes_of, absent_line, not_image_line, numbered_line, short_device_line};
+ghost use Rattle.command_ending.specs.Ending.{bytes_of, absent_line, not_image_line, numbered_line, short_device_line, so_far_line};
 
 use itoa::Buffer;
 use std::alloc::{AllocError, Global};
@@ -85,6 +85,16 @@ pub fn short_device_line(
     line.extend_from_slice(b" blocks, ")?;
     put_number(&mut line, needed)?;
     line.extend_from_slice(b" needed\n")?;
+    Ok(line)
+}
+
+/// The line about a trace that has the first entries of a run, so many.
+pub fn so_far_line(alloc: Global, entries: u32) -> Result<Vec<u8>, AllocError>
+    ensures { IfOk result (λ line. line.items ≡ so_far_line entries) }
+{
+    let mut line = Vec::from_slice(alloc, b"as written so far: ")?;
+    put_number(&mut line, entries)?;
+    line.extend_from_slice(b" entries\n")?;
     Ok(line)
 }
 

@@ -11,9 +11,9 @@ use Rattle.command_words.specs.declared.command.Comparison.{Comparison}
 use Rattle.command_words.specs.declared.command.Comparison.TheVariants.{At, Sweep}
 use Rattle.command_words.specs.declared.limits.TheConstants.{LEAST_FRAMES, MOST_FRAMES, MOST_COMPARED, LEAST_SWAP, MOST_LIMIT, MOST_SHORT_LIMIT, LAST_LOAD, JOURNAL_ENTRIES}
 use Rattle.command_words.specs.declared.reasons.Argument.{Argument}
-use Rattle.command_words.specs.declared.reasons.Argument.TheVariants.{Frames, Swap, Limit, ShortLimit, Number, Size, Compared, Spread, FirstFrames, LastFrames, MoreFrames, Entries, From, To, Every, Schedule, Transcript, Source, ReferenceFile, Listed, Image}
+use Rattle.command_words.specs.declared.reasons.Argument.TheVariants.{Frames, Swap, Limit, ShortLimit, Number, Size, Compared, Spread, FirstFrames, LastFrames, MoreFrames, Entries, From, To, Every, Schedule, Transcript, Trace, Source, ReferenceFile, Listed, Image}
 use Rattle.command_words.specs.Words.{is_plain, number_in, is_name, is_image_word, are_image_words, without_trace}
-use Rattle.command_words.specs.Asked.{Asked, Load, Replay, Assemble, Show, Optimum, Curve, Owners, Film, Stats, References, Policies, all_numbers, run_numbers, asked_with_run, asked_load, asked_replay, asked_assemble, asked_show, asked_optimum, asked_owners, all_steps, film_steps, asked_film, quarter_ahead, so_far_ahead, each_of_several, compared_on, asked_policies, asked_run, asked_other, asked_of}
+use Rattle.command_words.specs.Asked.{Asked, Load, Replay, Assemble, Show, Optimum, Curve, Owners, Film, Stats, References, Grade, Policies, all_numbers, run_numbers, asked_with_run, asked_load, asked_replay, asked_assemble, asked_show, asked_optimum, asked_owners, all_steps, film_steps, asked_film, grade_for, asked_grade, quarter_ahead, so_far_ahead, each_of_several, compared_on, asked_policies, asked_run, asked_other, asked_of}
 use Rattle.command_words.specs.Reasons.{Why, Refused, NotPlain, takes, bad_image, or_else, why_images, why_rest, why_words, bad_plain, why_form, frames_or_one, why_spread, why_sweep, why_policies, why_other, why_command, why_bad}
 
 -- Choices.
@@ -268,6 +268,45 @@ film (from ∷ to ∷ []) =
     (lacking To (Every ∷ Frames ∷ Swap ∷ Limit ∷ Schedule ∷ []) true to [] (missing Every (Frames ∷ Swap ∷ Limit ∷ Schedule ∷ []) true))
 film (from ∷ to ∷ every ∷ words) = film_whole from to every words
 
+traced_turn : (a b c n t i : Bool) → a && (b && (c && (n && (t && i)))) ≡ t && ((n && i) && (a && (b && c)))
+traced_turn true true true n true i = sym (always (n && i))
+traced_turn true true true n false i = never n
+traced_turn false b c n t i = sym (ap (λ (x : Bool). t && x) (never (n && i)) ∙ never t)
+traced_turn true false c n t i = sym (ap (λ (x : Bool). t && x) (never (n && i)) ∙ never t)
+traced_turn true true false n t i = sym (ap (λ (x : Bool). t && x) (never (n && i)) ∙ never t)
+
+grade_whole : (f s l n t : List ℕ) (ws : List (List ℕ))
+    → is_none (why_words (Frames ∷ Swap ∷ Limit ∷ Schedule ∷ Trace ∷ []) true (f ∷ s ∷ l ∷ n ∷ t ∷ ws)) ≡ is_some (asked_grade (f ∷ s ∷ l ∷ n ∷ t ∷ ws))
+unfolding asked_grade takes
+grade_whole f s l n t ws =
+    let a = is_some (number_in LEAST_FRAMES MOST_FRAMES f) in
+    let b = is_some (number_in LEAST_SWAP most_blocks s) in
+    let c = is_some (number_in 1 MOST_LIMIT l) in
+    next Frames (Swap ∷ Limit ∷ Schedule ∷ Trace ∷ []) true f (s ∷ l ∷ n ∷ t ∷ ws)
+    ∙ ap (λ (x : Bool). a && x)
+    (next Swap (Limit ∷ Schedule ∷ Trace ∷ []) true s (l ∷ n ∷ t ∷ ws)
+    ∙ ap (λ (x : Bool). b && x)
+    (next Limit (Schedule ∷ Trace ∷ []) true l (n ∷ t ∷ ws)
+    ∙ ap (λ (x : Bool). c && x)
+    (next Schedule (Trace ∷ []) true n (t ∷ ws)
+    ∙ ap (λ (x : Bool). is_name n && x) (next Trace [] true t ws ∙ ap (λ (x : Bool). is_name t && x) (rest_images ws)))))
+    ∙ traced_turn a b c (is_name n) (is_name t) (are_image_words ws)
+    ∙ sym (where_so (is_name t) _ ∙ ap (λ (x : Bool). is_name t && x) (asked_whole MOST_LIMIT (grade_for t) f s l n ws))
+
+grade : (words : List (List ℕ)) → is_none (why_words (Frames ∷ Swap ∷ Limit ∷ Schedule ∷ Trace ∷ []) true words) ≡ is_some (asked_grade words)
+unfolding asked_grade
+grade [] = missing Frames (Swap ∷ Limit ∷ Schedule ∷ Trace ∷ []) true
+grade (f ∷ []) = lacking Frames (Swap ∷ Limit ∷ Schedule ∷ Trace ∷ []) true f [] (missing Swap (Limit ∷ Schedule ∷ Trace ∷ []) true)
+grade (f ∷ s ∷ []) = lacking Frames (Swap ∷ Limit ∷ Schedule ∷ Trace ∷ []) true f (s ∷ []) (lacking Swap (Limit ∷ Schedule ∷ Trace ∷ []) true s [] (missing Limit (Schedule ∷ Trace ∷ []) true))
+grade (f ∷ s ∷ l ∷ []) =
+    lacking Frames (Swap ∷ Limit ∷ Schedule ∷ Trace ∷ []) true f (s ∷ l ∷ [])
+    (lacking Swap (Limit ∷ Schedule ∷ Trace ∷ []) true s (l ∷ []) (lacking Limit (Schedule ∷ Trace ∷ []) true l [] (missing Schedule (Trace ∷ []) true)))
+grade (f ∷ s ∷ l ∷ n ∷ []) =
+    lacking Frames (Swap ∷ Limit ∷ Schedule ∷ Trace ∷ []) true f (s ∷ l ∷ n ∷ [])
+    (lacking Swap (Limit ∷ Schedule ∷ Trace ∷ []) true s (l ∷ n ∷ [])
+    (lacking Limit (Schedule ∷ Trace ∷ []) true l (n ∷ []) (lacking Schedule (Trace ∷ []) true n [] (missing Trace [] true))))
+grade (f ∷ s ∷ l ∷ n ∷ t ∷ ws) = grade_whole f s l n t ws
+
 either_way : (a b : Bool) → a && b ≡ b && a
 either_way true b = sym (always b)
 either_way false b = sym (never b)
@@ -404,8 +443,9 @@ asked_plain name words =
     else (if bytes_eq name (codes "film") then asked_film words
     else (if bytes_eq name (codes "stats") then asked_with_run MOST_LIMIT Stats words
     else (if bytes_eq name (codes "refs") then asked_with_run MOST_LIMIT References words
+    else (if bytes_eq name (codes "grade") then asked_grade words
     else (if bytes_eq name (codes "policies") then asked_policies words
-    else None))))))))))
+    else None)))))))))))
 
 other_by : (p : Bool) (name : List ℕ) (words : List (List ℕ)) → list_all is_plain words ≡ p
     → is_none (why_other name words) ≡ p && is_some (asked_plain name words)
@@ -421,8 +461,9 @@ other_by true name words are =
     (chosen (bytes_eq name (codes "film")) _ _ _ _ (with_plain _ _ words _ are (film words))
     (chosen (bytes_eq name (codes "stats")) _ _ _ _ (with_plain _ _ words _ are (run Limit MOST_LIMIT Stats words long_limit))
     (chosen (bytes_eq name (codes "refs")) _ _ _ _ (with_plain _ _ words _ are (run Limit MOST_LIMIT References words long_limit))
+    (chosen (bytes_eq name (codes "grade")) _ _ _ _ (with_plain _ _ words _ are (grade words))
     (chosen (bytes_eq name (codes "policies")) _ _ _ _
-    (without_options words (why_policies words) ∙ ap (λ (b : Bool). b && is_none (why_policies words)) are ∙ policies words) refl))))))))))
+    (without_options words (why_policies words) ∙ ap (λ (b : Bool). b && is_none (why_policies words)) are ∙ policies words) refl)))))))))))
 other_by false name words are =
     refused (bytes_eq name (codes "load")) _ _ (with_option _ _ words are)
     (refused (bytes_eq name (codes "replay")) _ _ (with_option _ _ words are)
@@ -434,8 +475,9 @@ other_by false name words are =
     (refused (bytes_eq name (codes "film")) _ _ (with_option _ _ words are)
     (refused (bytes_eq name (codes "stats")) _ _ (with_option _ _ words are)
     (refused (bytes_eq name (codes "refs")) _ _ (with_option _ _ words are)
+    (refused (bytes_eq name (codes "grade")) _ _ (with_option _ _ words are)
     (refused (bytes_eq name (codes "policies")) _ _
-    (without_options words (why_policies words) ∙ ap (λ (b : Bool). b && is_none (why_policies words)) are) refl))))))))))
+    (without_options words (why_policies words) ∙ ap (λ (b : Bool). b && is_none (why_policies words)) are) refl)))))))))))
 
 unless_plain : (p : Bool) (asked : Option Asked) → is_some (if not p then None else asked) ≡ p && is_some asked
 unless_plain true asked = refl

@@ -8,7 +8,7 @@ use Rattle.command_words.specs.declared.command.FilmSteps.{FilmSteps}
 use Rattle.command_words.specs.declared.command.Comparison.{Comparison}
 use Rattle.command_words.specs.declared.limits.TheConstants.{MOST_FRAMES, MOST_LIMIT, MOST_SHORT_LIMIT, LAST_LOAD, JOURNAL_ENTRIES}
 use Rattle.command_words.specs.Words.{is_plain, number_in, is_name, are_image_words, is_trace, without_trace}
-use Rattle.command_words.specs.Asked.{Asked, Run, Load, Replay, Assemble, Show, Optimum, Curve, Owners, Film, Stats, References, Policies, Request, run_numbers, asked_with_run, asked_load, asked_replay, asked_assemble, asked_show, asked_optimum, asked_owners, film_steps, asked_film, quarter_ahead, so_far_ahead, each_of_several, compared_on, asked_policies, words_of_run, asked_run, request_for, request_of, asked_other, asked_of, request_in}
+use Rattle.command_words.specs.Asked.{Asked, Run, Load, Replay, Assemble, Show, Optimum, Curve, Owners, Film, Stats, References, Grade, Policies, Request, run_numbers, asked_with_run, asked_load, asked_replay, asked_assemble, asked_show, asked_optimum, asked_owners, film_steps, asked_film, grade_for, asked_grade, quarter_ahead, so_far_ahead, each_of_several, compared_on, asked_policies, words_of_run, asked_run, request_for, request_of, asked_other, asked_of, request_in}
 
 -- Words that ask for no run.
 
@@ -79,6 +79,17 @@ film (_ ∷ _ ∷ []) = refl
 film (from ∷ to ∷ every ∷ words) =
     chained (λ (steps : FilmSteps). asked_with_run MOST_LIMIT (Film steps) words) (film_steps from to every) (λ steps. about_run MOST_LIMIT (Film steps) words (λ numbers schedule images. refl))
 
+grade : (words : List (List ℕ)) → request_in (asked_grade words) ≡ None
+unfolding asked_grade
+grade [] = refl
+grade (_ ∷ []) = refl
+grade (_ ∷ _ ∷ []) = refl
+grade (_ ∷ _ ∷ _ ∷ []) = refl
+grade (_ ∷ _ ∷ _ ∷ _ ∷ []) = refl
+grade (frames ∷ swap ∷ limit ∷ schedule ∷ trace ∷ images) =
+    either (is_name trace) _ None
+    (about_run MOST_LIMIT (grade_for trace) (frames ∷ swap ∷ limit ∷ schedule ∷ images) (λ numbers schedule images. refl)) refl
+
 compared : (references : List ℕ) (comparison : Option Comparison) → request_in (compared_on references comparison) ≡ None
 unfolding compared_on
 compared references comparison =
@@ -108,7 +119,8 @@ no_request name words =
     (either (bytes_eq name (codes "film")) _ _ (film words)
     (either (bytes_eq name (codes "stats")) _ _ (about_run MOST_LIMIT Stats words (λ numbers schedule images. refl))
     (either (bytes_eq name (codes "refs")) _ _ (about_run MOST_LIMIT References words (λ numbers schedule images. refl))
-    (either (bytes_eq name (codes "policies")) _ _ (policies words) refl)))))))))))
+    (either (bytes_eq name (codes "grade")) _ _ (grade words)
+    (either (bytes_eq name (codes "policies")) _ _ (policies words) refl))))))))))))
 
 -- Words that ask for a run.
 

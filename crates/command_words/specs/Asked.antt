@@ -24,6 +24,7 @@ pub data Asked : Type 0 where
   Film : FilmSteps → Numbers → (schedule : List ℕ) → (images : List (List ℕ)) → Asked
   Stats : Numbers → (schedule : List ℕ) → (images : List (List ℕ)) → Asked
   References : Numbers → (schedule : List ℕ) → (images : List (List ℕ)) → Asked
+  Grade : Numbers → (schedule trace : List ℕ) → (images : List (List ℕ)) → Asked
   Policies : Comparison → (references : List ℕ) → Asked
 
 -- what the words of a run ask for: the option `--trace`, the numbers, the name of the schedule, and the words of the images
@@ -93,6 +94,16 @@ unfoldable pub asked_film : List (List ℕ) → Option Asked
 asked_film (from ∷ to ∷ every ∷ words) = option_and_then (λ steps. asked_with_run MOST_LIMIT (Film steps) words) (film_steps from to every)
 asked_film _ = None
 
+-- a comparison of this trace with the run of these numbers, this schedule and these images
+abbrev pub grade_for : (trace : List ℕ) → Numbers → (schedule : List ℕ) → (images : List (List ℕ)) → Asked
+grade_for trace numbers schedule images = Grade numbers schedule trace images
+
+-- `FRAMES SWAP LIMIT SCHED TRACE IMAGE..`
+unfoldable pub asked_grade : List (List ℕ) → Option Asked
+asked_grade (frames ∷ swap ∷ limit ∷ schedule ∷ trace ∷ images) =
+    if is_name trace then asked_with_run MOST_LIMIT (grade_for trace) (frames ∷ swap ∷ limit ∷ schedule ∷ images) else None
+asked_grade _ = None
+
 -- `N`: the front hand is a quarter of the frames ahead
 unfoldable pub quarter_ahead : List ℕ → Option Comparison
 quarter_ahead frames = option_map (λ n. At n (n / 4)) (number_in 1 MOST_COMPARED frames)
@@ -152,8 +163,9 @@ asked_other name words =
     else (if bytes_eq name (codes "film") then asked_film words
     else (if bytes_eq name (codes "stats") then asked_with_run MOST_LIMIT Stats words
     else (if bytes_eq name (codes "refs") then asked_with_run MOST_LIMIT References words
+    else (if bytes_eq name (codes "grade") then asked_grade words
     else (if bytes_eq name (codes "policies") then asked_policies words
-    else None)))))))))))
+    else None))))))))))))
 
 -- what the words after the program's name ask for, and `None` where they are no command's
 unfoldable pub asked_of : List (List ℕ) → Option Asked

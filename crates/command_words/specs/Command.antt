@@ -11,7 +11,7 @@ use Rattle.command_words.specs.declared.command.Comparison.TheVariants.{At, Swee
 use Rattle.command_words.specs.declared.command.Command.{Command}
 use Rattle.command_words.specs.declared.command.Command.TheVariants as commands
 use Rattle.command_words.specs.declared.image_words.ImageWords.{ImageWords}
-use Rattle.command_words.specs.Asked.{Asked, Run, Load, Replay, Assemble, Show, Optimum, Curve, Owners, Film, Stats, References, Policies}
+use Rattle.command_words.specs.Asked.{Asked, Run, Load, Replay, Assemble, Show, Optimum, Curve, Owners, Film, Stats, References, Grade, Policies}
 use denote.Ref.{Bor}
 
 -- the words, as one list
@@ -31,6 +31,7 @@ asked_by (commands.Owners entries numbers schedule images) = Owners entries numb
 asked_by (commands.Film steps numbers schedule images) = Film steps numbers schedule.now (map (λ word. word.now) images.now)
 asked_by (commands.Stats numbers schedule images) = Stats numbers schedule.now (map (λ word. word.now) images.now)
 asked_by (commands.References numbers schedule images) = References numbers schedule.now (map (λ word. word.now) images.now)
+asked_by (commands.Grade numbers schedule trace images) = Grade numbers schedule.now trace.now (map (λ word. word.now) images.now)
 asked_by (commands.Policies comparison references) = Policies comparison references.now
 
 -- each number is in its range
@@ -96,4 +97,5 @@ IsFitting (commands.Owners entries numbers schedule images) = (entries ≤ JOURN
 IsFitting (commands.Film steps numbers schedule images) = AreSteps steps × IsFittingRun MOST_LIMIT numbers schedule images.now
 IsFitting (commands.Stats numbers schedule images) = IsFittingRun MOST_LIMIT numbers schedule images.now
 IsFitting (commands.References numbers schedule images) = IsFittingRun MOST_LIMIT numbers schedule images.now
+IsFitting (commands.Grade numbers schedule trace images) = IsShortName trace.now × IsFittingRun MOST_LIMIT numbers schedule images.now
 IsFitting (commands.Policies comparison references) = IsFittingComparison comparison × IsShortName references.now

@@ -2,7 +2,7 @@
 use Rattle.std.specs.Prelude.{ℕ, List, [], ◌∷◌, ◌++◌, codes, decimal, Option}
 use Rattle.std.specs.Option.{option_map}
 use Rattle.command_words.specs.declared.reasons.Argument.{Argument}
-use Rattle.command_words.specs.declared.reasons.Argument.TheVariants.{Frames, Swap, Limit, ShortLimit, Number, Size, Compared, Spread, FirstFrames, LastFrames, MoreFrames, Entries, From, To, Every, Schedule, Transcript, Source, ReferenceFile, Listed, Image}
+use Rattle.command_words.specs.declared.reasons.Argument.TheVariants.{Frames, Swap, Limit, ShortLimit, Number, Size, Compared, Spread, FirstFrames, LastFrames, MoreFrames, Entries, From, To, Every, Schedule, Transcript, Trace, Source, ReferenceFile, Listed, Image}
 use Rattle.command_words.specs.Reasons.{Why, NoCommand, Unknown, NotPlain, Missing, Refused, TooMany, TooManyImages, NoneStarts, least_of, most_of, why_bad}
 
 -- an argument as `--help` calls it
@@ -24,6 +24,7 @@ argument_name To = codes "TO"
 argument_name Every = codes "EVERY"
 argument_name Schedule = codes "SCHED"
 argument_name Transcript = codes "TRANSCRIPT"
+argument_name Trace = codes "TRACE"
 argument_name Source = codes "SOURCE"
 argument_name ReferenceFile = codes "FILE"
 argument_name Listed = codes "IMAGE"
@@ -37,6 +38,7 @@ range_text argument = decimal (least_of argument) ++ codes " to " ++ decimal (mo
 abbrev pub kind_text : Argument → List ℕ
 kind_text Schedule = codes "a name of 1 to 63 bytes"
 kind_text Transcript = codes "a name of 1 to 63 bytes"
+kind_text Trace = codes "a name of 1 to 63 bytes"
 kind_text Source = codes "a name of 1 to 63 bytes"
 kind_text ReferenceFile = codes "a name of 1 to 63 bytes"
 kind_text Listed = codes "a name of 1 to 63 bytes, with no = before it"
@@ -45,7 +47,7 @@ kind_text argument = range_text argument
 
 -- the commands that there are
 abbrev pub commands_text : List ℕ
-commands_text = codes "run, load, opt, curve, owners, film, stats, refs, policies, replay, as or dis"
+commands_text = codes "run, load, opt, curve, owners, film, stats, refs, grade, policies, replay, as or dis"
 
 -- a reason in words
 abbrev pub why_text : Why → List ℕ

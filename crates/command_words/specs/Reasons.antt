@@ -8,7 +8,7 @@ use Rattle.command_words.specs.Words.{is_plain, number_in, is_name, is_image_wor
 use Rattle.command_words.specs.Asked.{asked_of}
 use Rattle.command_words.specs.declared.limits.TheConstants.{LEAST_FRAMES, MOST_FRAMES, MOST_COMPARED, LEAST_SWAP, MOST_LIMIT, MOST_SHORT_LIMIT, LAST_LOAD, JOURNAL_ENTRIES}
 use Rattle.command_words.specs.declared.reasons.Argument.{Argument}
-use Rattle.command_words.specs.declared.reasons.Argument.TheVariants.{Frames, Swap, Limit, ShortLimit, Number, Size, Compared, Spread, FirstFrames, LastFrames, MoreFrames, Entries, From, To, Every, Schedule, Transcript, Source, ReferenceFile, Listed, Image}
+use Rattle.command_words.specs.declared.reasons.Argument.TheVariants.{Frames, Swap, Limit, ShortLimit, Number, Size, Compared, Spread, FirstFrames, LastFrames, MoreFrames, Entries, From, To, Every, Schedule, Transcript, Trace, Source, ReferenceFile, Listed, Image}
 use Rattle.command_words.specs.declared.reasons.BadWord.{BadWord}
 use Rattle.command_words.specs.declared.reasons.BadWord.TheVariants as bad
 
@@ -71,6 +71,7 @@ most_of _ = 0
 unfoldable pub takes : Argument → List ℕ → Bool
 takes Schedule word = is_name word
 takes Transcript word = is_name word
+takes Trace word = is_name word
 takes Source word = is_name word
 takes ReferenceFile word = is_name word
 takes Listed word = is_name word && starts word
@@ -150,8 +151,9 @@ why_other name words =
     else (if bytes_eq name (codes "film") then why_form (From ∷ To ∷ Every ∷ Frames ∷ Swap ∷ Limit ∷ Schedule ∷ []) true words
     else (if bytes_eq name (codes "stats") then why_form (Frames ∷ Swap ∷ Limit ∷ Schedule ∷ []) true words
     else (if bytes_eq name (codes "refs") then why_form (Frames ∷ Swap ∷ Limit ∷ Schedule ∷ []) true words
+    else (if bytes_eq name (codes "grade") then why_form (Frames ∷ Swap ∷ Limit ∷ Schedule ∷ Trace ∷ []) true words
     else (if bytes_eq name (codes "policies") then or_else (bad_plain words) (why_policies words)
-    else Some (Unknown name)))))))))))
+    else Some (Unknown name))))))))))))
 
 -- the words after the name of a command
 unfoldable pub why_command : List ℕ → List (List ℕ) → Option Why

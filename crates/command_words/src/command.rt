@@ -2,7 +2,7 @@
 ghost use Rattle.std.specs.Prelude.{◌≡◌, ◌≤◌, ℕ, List, drop, map, IsSome, IfSome};
 ghost use Rattle.std.specs.Option.{option_map};
 ghost use Rattle.run_files.specs.ImageWords.{IsShortName};
-ghost use Rattle.command_words.specs.Asked.{Asked, request_of, request_in, asked_of, asked_run, asked_other, asked_load, asked_replay, asked_assemble, asked_show, asked_optimum, asked_owners, asked_film, film_steps, quarter_ahead, so_far_ahead, each_of_several, compared_on, asked_policies, asked_with_run, run_numbers, Curve, Stats, References};
+ghost use Rattle.command_words.specs.Asked.{Asked, request_of, request_in, asked_of, asked_run, asked_other, asked_load, asked_replay, asked_assemble, asked_show, asked_optimum, asked_owners, asked_film, asked_grade, film_steps, quarter_ahead, so_far_ahead, each_of_several, compared_on, asked_policies, asked_with_run, run_numbers, Curve, Stats, References};
 ghost use Rattle.command_words.specs.Command.{word_list, asked_by, AreAllowed, AreImageWords, AreSteps, IsFittingComparison, IsFitting};
 ghost use Rattle.command_words.specs.declared.limits.TheConstants.{MOST_LIMIT, MOST_SHORT_LIMIT};
 
@@ -117,6 +117,13 @@ pub enum Command<'a> {
         schedule: &'a str,
         images: &'a [&'a str],
     },
+    /// `grade FRAMES SWAP LIMIT SCHED TRACE IMAGE..`: a trace is compared with the journal of a run.
+    Grade {
+        numbers: Numbers,
+        schedule: &'a str,
+        trace: &'a str,
+        images: &'a [&'a str],
+    },
     /// `policies N FILE`, `policies N hands SPREAD FILE` or `policies FROM TO EVERY FILE`: the page faults that policies of
     /// replacement have on the references of a file.
     Policies {
@@ -132,6 +139,7 @@ pub enum Command<'a> {
 /// - `opt N FRAMES SWAP LIMIT SCHED IMAGE..`, `curve FRAMES SWAP LIMIT SCHED IMAGE..`
 /// - `owners N FRAMES SWAP LIMIT SCHED IMAGE..`, `film FROM TO EVERY FRAMES SWAP LIMIT SCHED IMAGE..`
 /// - `stats FRAMES SWAP LIMIT SCHED IMAGE..`, `refs FRAMES SWAP LIMIT SCHED IMAGE..`
+/// - `grade FRAMES SWAP LIMIT SCHED TRACE IMAGE..`
 /// - `policies N FILE`, where the front hand is a quarter of the frames ahead, `policies N hands SPREAD FILE`,
 ///   `policies FROM TO EVERY FILE`
 ///
@@ -205,6 +213,7 @@ fn read_other<'a>(name: &str, words: &'a [&'a str]) -> Option<Command<'a>>
         "film" => read_film(words),
         "stats" => read_stats(words),
         "refs" => read_references(words),
+        "grade" => read_grade(words),
         "policies" => read_policies(words),
         _ => None,
     }
@@ -367,6 +376,26 @@ fn read_references<'a>(words: &'a [&'a str]) -> Option<Command<'a>>
         numbers: head.numbers,
         schedule: head.schedule,
         images: from_place(words, 4),
+    })
+}
+
+#[tactic(auto, unfolding(crate::specs::Asked::asked_grade))]
+fn read_grade<'a>(words: &'a [&'a str]) -> Option<Command<'a>>
+    ensures exact { option_map asked_by result ≡ asked_grade (map (λ word. word.now) words.now) }
+    ensures fits { IfSome result IsFitting }
+{
+    let [_, _, _, _, trace, images @ ..] = words else {
+        return None;
+    };
+    if !is_name(trace) {
+        return None;
+    }
+    let head = RunHead::of(ImageWords::without_fifth(words), MOST_LIMIT)?;
+    Some(Command::Grade {
+        numbers: head.numbers,
+        schedule: head.schedule,
+        trace,
+        images,
     })
 }
 

@@ -9,7 +9,7 @@ use std::alloc::{AllocError, Global};
 
 /// The commands that there are.
 const COMMANDS: &[u8] =
-    b"run, load, opt, curve, owners, film, stats, refs, policies, replay, as or dis";
+    b"run, load, opt, curve, owners, film, stats, refs, grade, policies, replay, as or dis";
 
 fn argument_name(argument: Argument) -> &'static [u8]
     ensures { result.now ≡ argument_name argument }
@@ -26,6 +26,7 @@ fn argument_name(argument: Argument) -> &'static [u8]
         Argument::Every | Argument::MoreFrames => b"EVERY",
         Argument::Schedule => b"SCHED",
         Argument::Transcript => b"TRANSCRIPT",
+        Argument::Trace => b"TRACE",
         Argument::Source => b"SOURCE",
         Argument::ReferenceFile => b"FILE",
         Argument::Listed | Argument::Image => b"IMAGE",
@@ -44,8 +45,11 @@ fn put_kind(text: &mut Vec<u8>, argument: Argument) -> Result<(), AllocError>
     ensures { OnOk result (text.new.items ≡ text.old.items ++ kind_text argument) }
 {
     match argument {
-        Argument::Schedule | Argument::Transcript | Argument::Source | Argument::ReferenceFile =>
-            text.extend_from_slice(b"a name of 1 to 63 bytes"),
+        Argument::Schedule
+        | Argument::Transcript
+        | Argument::Trace
+        | Argument::Source
+        | Argument::ReferenceFile => text.extend_from_slice(b"a name of 1 to 63 bytes"),
         Argument::Listed => {
             text.extend_from_slice(b"a name of 1 to 63 bytes, with no = before it")
         }

@@ -1,5 +1,5 @@
 // Lists of words, and those around an option.
-ghost use Rattle.std.specs.Prelude.{◌≡◌, ◌<◌, length, map, drop, position, IsTrue, IfSome, IfOk};
+ghost use Rattle.std.specs.Prelude.{◌≡◌, ◌<◌, ◌≤◌, ◌++◌, length, map, take, drop, position, IsTrue, IfSome, IfOk};
 ghost use Rattle.std.specs.List.{list_all, list_any};
 ghost use Rattle.run_files.specs.ImageWords.{starts};
 ghost use Rattle.command_words.specs.Command.{word_list, AreImageWords};
@@ -91,6 +91,17 @@ impl<'a> ImageWords<'a> {
                 after: from_place(words, place + 1),
             },
             None => Self::all(words),
+        }
+    }
+
+    // These words without the fifth, of which there are that many.
+    pub(crate) fn without_fifth(words: &'a [&'a str]) -> Self
+        requires { 5 ≤ length words.now }
+        ensures { word_list result ≡ take 4 words.now ++ drop 5 words.now }
+    {
+        ImageWords {
+            before: &words[..4],
+            after: from_place(words, 5),
         }
     }
 

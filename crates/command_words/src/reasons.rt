@@ -51,6 +51,8 @@ pub enum Argument {
     Schedule,
     /// The name of a transcript.
     Transcript,
+    /// The name of a trace, which is a transcript with its paging entries.
+    Trace,
     /// The name of a source.
     Source,
     /// The name of a file of references.
@@ -125,6 +127,7 @@ impl Argument {
         match self {
             Argument::Schedule
             | Argument::Transcript
+            | Argument::Trace
             | Argument::Source
             | Argument::ReferenceFile => is_name(word),
             Argument::Listed => is_name(word) && starts(word),
@@ -352,6 +355,17 @@ fn why_other<'a>(name: &'a str, words: &[&'a str]) -> Option<BadWord<'a>>
                 Argument::Swap,
                 Argument::Limit,
                 Argument::Schedule,
+            ],
+            true,
+            words,
+        ),
+        "grade" => why_form(
+            &[
+                Argument::Frames,
+                Argument::Swap,
+                Argument::Limit,
+                Argument::Schedule,
+                Argument::Trace,
             ],
             true,
             words,

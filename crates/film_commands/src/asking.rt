@@ -104,8 +104,12 @@ fn answer_run<'a, F: Files, D: SwapDev>(
     }
 }
 
-// The film of a run of these images, with no process yet.
-fn film_of(alloc: Global, numbers: Numbers, images: &[OpenedImage<'_>]) -> Result<Film, NoMemory>
+/// The film of a run of these images, with no process yet.
+pub fn film_of(
+    alloc: Global,
+    numbers: Numbers,
+    images: &[OpenedImage<'_>],
+) -> Result<Film, NoMemory>
     requires some { 0 < numbers.frames }
     requires most { numbers.frames ≤ MOST_FRAMES }
     requires few { length images.now ≤ 16 }

@@ -50,8 +50,8 @@ fn has_step(steps: FilmSteps, entries: u32) -> bool
     }
 }
 
-// The line of an entry.
-fn entry_line(alloc: Global, entry: &Entry) -> Result<Vec<u8>, NoMemory>
+/// The line of an entry, as a transcript has it. Only memory can be wanting.
+pub fn entry_line(alloc: Global, entry: &Entry) -> Result<Vec<u8>, NoMemory>
     ensures { IfOk result (λ line. line.items ≡ line_of entry.now) }
 {
     let mut line = GrowingText::new(alloc);

@@ -7,4 +7,5 @@ mod counting;
 mod ending;
 mod filming;
 
-pub use asking::{FilmQuestion, film_answer};
+pub use asking::{FilmQuestion, film_answer, film_of};
+pub use filming::entry_line;

@@ -12,4 +12,4 @@ pub use command::replay_file;
 pub use explaining::explain_transcript;
 pub use images::load_images;
 pub use naming::{Naming, name_images};
-pub use transcript::transcript_bytes_are_documented;
+pub use transcript::{read_entries, transcript_bytes_are_documented};

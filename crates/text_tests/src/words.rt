@@ -44,7 +44,7 @@ fn a_load_has_its_number(rt: HostRuntime) {
 }
 
 // Command lines that are good; one space parts two words.
-static GOOD: [&str; 23] = [
+static GOOD: [&str; 25] = [
     // The option stands at any place after the first word, but once.
     "run --trace 64 256 100 s hi",
     "run 64 256 100 s a --trace b",
@@ -57,6 +57,8 @@ static GOOD: [&str; 23] = [
     "owners 0 64 256 1000000 s hi",
     "owners 16777216 64 256 100 s hi",
     "film 16777216 0 1 64 256 1000000 s hi",
+    "grade 64 256 1000000 s t hi",
+    "grade 4096 131072 1 s s =hi hi",
     // The three forms of one command.
     "policies 1000000 references",
     "policies 8 hands",
@@ -75,7 +77,7 @@ static GOOD: [&str; 23] = [
     "curve 64 256 100 s hi",
 ];
 
-static BAD: [&str; 51] = [
+static BAD: [&str; 56] = [
     "",
     "--trace run 64 256 100 s hi",
     "run --trace 64 --trace 256 100 s hi",
@@ -114,6 +116,11 @@ static BAD: [&str; 51] = [
     "film 0 16777217 1 64 256 100 s hi",
     "film 0 9 16777217 64 256 100 s hi",
     "film 0 9 64 256 100 s hi",
+    "grade 64 256 1000001 s t hi",
+    "grade 63 256 100 s t hi",
+    "grade 64 256 100 s t",
+    "grade 64 256 100 s",
+    "grade 64 256 100 s t =hi",
     "load 10000",
     "load",
     "as xxxxxxxxxxxxxxxxxxxxxxxxxxxxxxxxxxxxxxxxxxxxxxxxxxxxxxxxxxxxxxxx",
@@ -156,7 +163,7 @@ fn words_ask_for_a_command_or_for_none(rt: HostRuntime) {
 }
 
 // The words of a line, and what is told of the first that is refused.
-static ROWS: [(&str, &[u8]); 10] = [
+static ROWS: [(&str, &[u8]); 11] = [
     ("run 63 256 100 s hi", b"FRAMES is 63: 64 to 4096"),
     ("policies 0 r", b"N is 0: 1 to 1000000"),
     ("policies x hands 8 r", b"N is x: 1 to 1000000"),
@@ -169,6 +176,10 @@ static ROWS: [(&str, &[u8]); 10] = [
     ("policies 0 8 1 r", b"FROM is 0: 1 to 1000000"),
     ("policies 8 7 1 r", b"TO is 7: 8 to 1000000"),
     ("policies 8 16 r", b"EVERY is r: 1 to 1000000"),
+    (
+        "grade 64 256 100 s",
+        b"TRACE is missing: a name of 1 to 63 bytes",
+    ),
     ("policies 8 16 4 r -s", b"-s is no option of this command"),
 ];
 

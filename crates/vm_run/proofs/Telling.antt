@@ -1,7 +1,7 @@
 -- What words do where files and a swap image are told.
 use Rattle.std.proofs.Common.{◌≡◌, ◌∙◌, ℕ, List, [], ◌++◌, Option, Some, None, ap, subst}
 use Rattle.io_edge.specs.FileHolding.{NamedFile}
-use Rattle.command_words.specs.Asked.{Request, Asked, Run, Load, Replay, Assemble, Show, Optimum, Curve, Owners, Film, Stats, References, Policies}
+use Rattle.command_words.specs.Asked.{Request, Asked, Run, Load, Replay, Assemble, Show, Optimum, Curve, Owners, Film, Stats, References, Grade, Policies}
 use Rattle.command_ending.specs.Ending.{Ending as CommandEnding}
 use Rattle.command_ending.specs.Command.{Faults, Writes, Completes}
 use Rattle.run_text.specs.Text.{text_of}
@@ -41,6 +41,7 @@ obeys_told (Some (Owners entries numbers schedule images)) seen files image stat
 obeys_told (Some (Film steps numbers schedule images)) seen files image status is octets swap x = completes_told _ _ seen files status is x
 obeys_told (Some (Stats numbers schedule images)) seen files image status is octets swap x = completes_told _ _ seen files status is x
 obeys_told (Some (References numbers schedule images)) seen files image status is octets swap x = completes_told _ _ seen files status is x
+obeys_told (Some (Grade numbers schedule trace images)) seen files image status is octets swap x = completes_told _ _ seen files status is x
 obeys_told (Some (Policies comparison references)) seen files image status is octets swap x = completes_told _ _ seen files status is x
 
 -- What is seen where files and devices are in memory.

@@ -7,13 +7,14 @@ use Rattle.command_ending.specs.declared.fault.Fault.{Fault}
 use Rattle.command_ending.specs.declared.fault.Fault.TheVariants.{NoMemory}
 use Rattle.command_ending.specs.Ending.{fault_of}
 use Rattle.command_ending.specs.Command.{Faults}
-use Rattle.command_words.specs.Asked.{Asked, Run, Assemble, Replay, Optimum, Curve, Owners, Film, Stats, References, Policies, asked_of}
+use Rattle.command_words.specs.Asked.{Asked, Run, Assemble, Replay, Optimum, Curve, Owners, Film, Stats, References, Grade, Policies, asked_of}
 use Rattle.command_words.specs.Explaining.{words_explained}
 use Rattle.source_commands.specs.Explaining.{ExplainsSource, LacksSource}
 use Rattle.replay_command.specs.Explaining.{ExplainsTranscript, LacksTranscript}
 use Rattle.schedule_reasons.specs.Explaining.{ExplainsSchedule, LacksSchedule}
 use Rattle.reference_commands.specs.Asking.{Subject}
 use Rattle.question_command.specs.Explaining.{ExplainsLimit, LacksLimit}
+use Rattle.grade_command.specs.Explaining.{ExplainsGrade, LacksPolicy}
 use Rattle.reference_reasons.specs.Explaining.{ExplainsReferences, LacksReferences}
 
 -- where the status is the one that goes with a reason, the reason is told, and else nothing
@@ -25,17 +26,22 @@ ToldWhere false told text = text ≡ None
 abbrev pub ExplainsRun : List ℕ → ℕ → Option (List NamedFile) → Option (List ℕ) → Type 0
 ExplainsRun schedule status holds text = ToldWhere (status == 4) (ExplainsSchedule schedule holds text) text
 
--- where the status is 0 this holds, and else that
-abbrev pub WhereDone : Bool → Type 0 → Type 0 → Type 0
-WhereDone true done other = done
-WhereDone false done other = other
+-- where it is so this holds, and else that
+abbrev pub WhereSo : Bool → Type 0 → Type 0 → Type 0
+WhereSo true here other = here
+WhereSo false here other = other
+
+-- what the policy writes where a trace isn't as written; and why the schedule is bad, where it is
+abbrev pub ExplainsTrace : Subject → List ℕ → ℕ → Option (List NamedFile) → Option (List ℕ) → Type 0
+ExplainsTrace subject trace status holds text =
+    WhereSo (status == 19) (ExplainsGrade subject trace holds text) (ExplainsRun subject.schedule status holds text)
 
 -- whether its limit cut a run about which there is an answer; and why its schedule is bad, where it is
 abbrev pub ExplainsAnswer : Subject → ℕ → Option (List NamedFile) → Option (List ℕ) → Type 0
-ExplainsAnswer subject status holds text = WhereDone (status == 0) (ExplainsLimit subject holds text) (ExplainsRun subject.schedule status holds text)
+ExplainsAnswer subject status holds text = WhereSo (status == 0) (ExplainsLimit subject holds text) (ExplainsRun subject.schedule status holds text)
 
 -- of words that ask for a command: why a schedule, a source or a file of references is bad, what the flat machine gives where a
--- transcript is no run of it, or that its limit cut the run
+-- transcript is no run of it, what the policy writes where a trace isn't as written, or that its limit cut the run
 abbrev pub ExplainsAsked : Asked → ℕ → Option (List NamedFile) → Option (List ℕ) → Type 0
 ExplainsAsked (Run traced numbers schedule images) status holds text = ExplainsRun schedule status holds text
 ExplainsAsked (Optimum size numbers schedule images) status holds text =
@@ -46,6 +52,8 @@ ExplainsAsked (Owners entries numbers schedule images) status holds text = Expla
 ExplainsAsked (Film steps numbers schedule images) status holds text = ExplainsRun schedule status holds text
 ExplainsAsked (Stats numbers schedule images) status holds text = ExplainsRun schedule status holds text
 ExplainsAsked (References numbers schedule images) status holds text = ExplainsRun schedule status holds text
+ExplainsAsked (Grade numbers schedule trace images) status holds text =
+    ExplainsTrace (record { numbers = numbers; schedule = schedule; words = images }) trace status holds text
 ExplainsAsked (Assemble source) status holds text = ToldWhere (status == 17) (ExplainsSource source holds text) text
 ExplainsAsked (Replay transcript images) status holds text = ToldWhere (status == 14) (ExplainsTranscript transcript images holds text) text
 ExplainsAsked (Policies comparison references) status holds text = ToldWhere (status == 18) (ExplainsReferences references holds text) text
@@ -75,7 +83,12 @@ LacksRun schedule status holds fault = LacksWhere (status == 4) (LacksFile (Lack
 
 -- nor could it be found whether its limit cut the run
 abbrev pub LacksAnswer : Subject → ℕ → Option (List NamedFile) → Faults → Fault → Type 0
-LacksAnswer subject status holds f fault = WhereDone (status == 0) (LacksLimit subject holds f fault) (LacksRun subject.schedule status holds fault)
+LacksAnswer subject status holds f fault = WhereSo (status == 0) (LacksLimit subject holds f fault) (LacksRun subject.schedule status holds fault)
+
+-- nor could the trace be graded again
+abbrev pub LacksTrace : Subject → List ℕ → ℕ → Option (List NamedFile) → Faults → Fault → Type 0
+LacksTrace subject trace status holds f fault =
+    WhereSo (status == 19) (LacksPolicy subject trace holds f fault) (LacksRun subject.schedule status holds fault)
 
 -- of words that ask for a command: the file of which a reason was to be told wasn't read, or memory was refused
 abbrev pub LacksAsked : Asked → ℕ → Option (List NamedFile) → Faults → Fault → Type 0
@@ -88,6 +101,8 @@ LacksAsked (Owners entries numbers schedule images) status holds f fault = Lacks
 LacksAsked (Film steps numbers schedule images) status holds f fault = LacksRun schedule status holds fault
 LacksAsked (Stats numbers schedule images) status holds f fault = LacksRun schedule status holds fault
 LacksAsked (References numbers schedule images) status holds f fault = LacksRun schedule status holds fault
+LacksAsked (Grade numbers schedule trace images) status holds f fault =
+    LacksTrace (record { numbers = numbers; schedule = schedule; words = images }) trace status holds f fault
 LacksAsked (Assemble source) status holds f fault = LacksWhere (status == 17) (LacksFile (LacksSource source holds) source fault)
 LacksAsked (Replay transcript images) status holds f fault = LacksWhere (status == 14) (LacksTranscript transcript images holds f fault)
 LacksAsked (Policies comparison references) status holds f fault = LacksWhere (status == 18) (LacksFile (LacksReferences references holds) references fault)

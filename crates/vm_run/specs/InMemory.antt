@@ -6,7 +6,7 @@ use Rattle.io_edge.specs.Written.{Appends}
 use Rattle.vm_facts.specs.declared.entry.Entry.{Entry}
 use Rattle.run_text.specs.Text.{text_of}
 use Rattle.run_files.specs.Told.{bytes_told, image_told}
-use Rattle.command_words.specs.Asked.{Asked, Run, Load, Replay, Assemble, Show, Optimum, Curve, Owners, Film, Stats, References, Policies}
+use Rattle.command_words.specs.Asked.{Asked, Run, Load, Replay, Assemble, Show, Optimum, Curve, Owners, Film, Stats, References, Grade, Policies}
 use Rattle.command_ending.specs.Ending.{Ending as CommandEnding}
 use Rattle.command_ending.specs.Command.{Faults, Writes, WritesEnding}
 use Rattle.source_commands.specs.Command.{source_bytes, EndsAssembly, EndsListing}
@@ -25,6 +25,8 @@ use Rattle.reference_commands.specs.Reading.{read_told}
 use Rattle.reference_commands.specs.Answering.{blank_swap}
 use Rattle.reference_commands.specs.Asking.{Subject}
 use Rattle.reference_commands.specs.Ends.{EndsQuestion}
+use Rattle.grade_command.specs.Reading.{trace_told}
+use Rattle.grade_command.specs.Command.{EndsGrade}
 use Rattle.policy_command.specs.Command.{EndsPolicies, references_told}
 use Rattle.vm_run.specs.Obeying.{Obeys}
 
@@ -80,6 +82,10 @@ pub record CompletesTold {R : Type 0} (Ends : R → Faults → CommandEnding →
 abbrev pub AnswersTold : Question → Subject → Seen → List NamedFile → ℕ → Type 0
 AnswersTold question subject seen files status = CompletesTold (EndsQuestion question subject) (read_told subject.schedule subject.words files) seen status
 
+-- a trace that is graded
+abbrev pub GradesTold : Subject → List ℕ → Seen → List NamedFile → ℕ → Type 0
+GradesTold subject trace seen files status = CompletesTold (EndsGrade subject trace) (trace_told subject trace files) seen status
+
 -- The words are none of a command, and the line that says so was written; or they ask for a command, and it did what it is for.
 abbrev pub ObeysTold : Option Asked → Seen → List NamedFile → List ℕ → ℕ → Type 0
 ObeysTold None seen files image status = Obeys None seen status
@@ -102,6 +108,8 @@ ObeysTold (Some (Stats numbers schedule images)) seen files image status =
     AnswersTold questions.Stats (record { numbers = numbers; schedule = schedule; words = images }) seen files status
 ObeysTold (Some (References numbers schedule images)) seen files image status =
     AnswersTold questions.References (record { numbers = numbers; schedule = schedule; words = images }) seen files status
+ObeysTold (Some (Grade numbers schedule trace images)) seen files image status =
+    GradesTold (record { numbers = numbers; schedule = schedule; words = images }) trace seen files status
 ObeysTold (Some (Policies comparison references)) seen files image status =
     CompletesTold (EndsPolicies comparison references) (references_told references files) seen status
 

@@ -8,6 +8,7 @@ ghost use Rattle.vm_run.specs.Obeying.{Obeys, LeavesFiles, LeavesDevice};
 
 use command_ending::{Fault, write_ending};
 use command_words::{Command, read_words};
+use grade_command::grade_file;
 use io_edge::{Files, Sink, SwapDev};
 use policy_command::compare_policies;
 use question_command::{Question, ask_command};
@@ -145,6 +146,14 @@ fn obey<F: Files, D: SwapDev, E: SwapDev, S: Sink>(
             images,
         ),
         Some(
+            Command::Grade {
+                numbers,
+                schedule,
+                trace,
+                images,
+            },
+        ) => grade_file(alloc, files, sink, numbers, schedule, trace, images),
+        Some(
             Command::Policies {
                 comparison,
                 references,
@@ -158,15 +167,16 @@ fn obey<F: Files, D: SwapDev, E: SwapDev, S: Sink>(
 /// output, and answers the exit status: 0 where it was done; 1 bad words; 2 an absent file; 3 no image; 4 a bad schedule;
 /// 5 a file fault; 6 a fault of a swap device that is read, 7 of one that is written; 8 a fault of the output; 9 want of
 /// memory; 10 a full journal; 11 no swap for a first process; 12 a swap device that is too short; 14 a transcript that is no run;
-/// 15 a bad transcript; 16 one that is too long, or a file of references; 17 a bad source; 18 a bad line of references. The first
-/// thing met decides, but an output that fails gives 8
-/// whatever came before (this project's profile).
+/// 15 a bad transcript; 16 one that is too long, or a file of references; 17 a bad source; 18 a bad line of references; 19 a trace that the
+/// policy doesn't write; 20 one of which it writes more. The first thing met decides, but an output that fails gives 8 whatever came before
+/// (this project's profile).
 ///
 /// At 5, 6, 7 and 8 just one call failed of the kind that the status names: of a file, a read of a swap device, a write of one, of the
 /// output. At 8 one of the others may have failed before, and at any other status none failed.
 ///
 /// A run reads its pages from the files, and a load from files of its own in memory; both write to the swap devices and read from
-/// them. Other commands leave the devices as they are: the runs of `opt`, `curve`, `owners`, `film`, `stats` and `refs` have a swap of their own in memory.
+/// them. Other commands leave the devices as they are: the runs of `opt`, `curve`, `owners`, `film`, `stats`, `refs` and `grade` have a
+/// swap of their own in memory.
 pub fn vmrun<F: Files, D: SwapDev, E: SwapDev, S: Sink>(
     alloc: Global,
     words: &[&str],

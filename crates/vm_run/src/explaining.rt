@@ -9,6 +9,7 @@ ghost use Rattle.vm_run.specs.Explaining.{Explains, LacksFile, LacksReason};
 
 use command_ending::Fault;
 use command_words::{Command, explain_words, read_words};
+use grade_command::explain_grade;
 use io_edge::Files;
 use question_command::explain_limit;
 use reference_reasons::explain_references;
@@ -34,6 +35,9 @@ const BAD_SOURCE: u8 = 17;
 
 /// The status of a bad line of references.
 const BAD_REFERENCES: u8 = 18;
+
+/// The status of a trace that the policy doesn't write.
+const NOT_AS_WRITTEN: u8 = 19;
 
 // Why a source is bad.
 fn explain_bad_source<'a, F: Files>(
@@ -96,10 +100,9 @@ fn explain_bad_words<'a>(alloc: Global, words: &'a [&'a str]) -> Result<Option<V
 
 /// What else a user should know of words for which `vmrun` answered this status, for standard error: where they are bad,
 /// which of them isn't what it is for; where a schedule, a source or a file of references is bad, why the line that was named is;
-/// where a transcript is no run of the flat machine, what that gives there; where `opt` or `curve` answered about a run that LIMIT cut,
-/// that it was cut. None for every other command and status. The files
-/// are read again, so a reason may be lost where that fails, and is that of the files as they are then (this project's
-/// profile).
+/// where a transcript is no run of the flat machine, what that gives there; where a trace isn't as the policy writes it, what that writes
+/// there; where `opt` or `curve` answered about a run that LIMIT cut, that it was cut. None for every other command and status. The files
+/// are read again, so a reason may be lost where that fails, and is that of the files as they are then (this project's profile).
 pub fn explain<'a, F: Files>(
     alloc: Global,
     words: &'a [&'a str],
@@ -122,6 +125,16 @@ pub fn explain<'a, F: Files>(
         }
         Some(Command::Replay { transcript, images }) if status == NOT_FLAT_RUN => {
             explain_transcript(alloc, files, transcript, images)
+        }
+        Some(
+            Command::Grade {
+                numbers,
+                schedule,
+                trace,
+                images,
+            },
+        ) if status == NOT_AS_WRITTEN => {
+            explain_grade(alloc, files, numbers, schedule, trace, images)
         }
         Some(Command::Policies { references, .. }) if status == BAD_REFERENCES => {
             explain_bad_references(alloc, files, references)
@@ -146,7 +159,8 @@ pub fn explain<'a, F: Files>(
             | Command::Owners { schedule, .. }
             | Command::Film { schedule, .. }
             | Command::Stats { schedule, .. }
-            | Command::References { schedule, .. },
+            | Command::References { schedule, .. }
+            | Command::Grade { schedule, .. },
         ) if status == BAD_SCHEDULE => explain_bad_schedule(alloc, files, schedule),
         None if status == BAD_WORDS => explain_bad_words(alloc, words),
         _ => Ok(None),

@@ -1,0 +1,3 @@
+mod Comparisons
+mod Lookups
+mod Readings

@@ -1,0 +1,24 @@
+use Rattle.std.proofs.Common.{ℕ, List, Bor, map}
+use Rattle.command_ending.specs.Ending.{ending_of}
+use Rattle.reference_commands.specs.Asking.{Subject}
+use Rattle.grade_command.proofs.Comparisons.{graded_ends, verdict_counted, fault_ends}
+use Rattle.grade_command.proofs.command.verdict_from.Goals as goal
+
+pub returns-in-Ok-clause-made : goal.returns-in-Ok-clause-made
+returns-in-Ok-clause-made g c =
+    let subject : Subject = record { numbers = c.args.numbers; schedule = c.args.schedule.now; words = map (λ (word : Bor (List ℕ)). word.now) c.args.words.now } in
+    let made = c.in-Ok.ensures.made in
+    record {
+      read = made.read;
+      is_told = made.is_told;
+      ends = graded_ends subject made.read c.in-Ok.graded made.ends.1 c.args.trace.now _ (ending_of c.verdict.result) made.ends.0 c.verdict.ensures;
+    }
+
+pub returns-in-Ok-clause-counted : goal.returns-in-Ok-clause-counted
+returns-in-Ok-clause-counted g c = verdict_counted c.in-Ok.graded _ (ending_of c.verdict.result) c.in-Ok.ensures.counted c.verdict.ensures
+
+pub returns-in-Err-clause-made : goal.returns-in-Err-clause-made
+returns-in-Err-clause-made g c =
+    let subject : Subject = record { numbers = c.args.numbers; schedule = c.args.schedule.now; words = map (λ (word : Bor (List ℕ)). word.now) c.args.words.now } in
+    let made = c.in-Err.ensures.made in
+    record { read = made.read; is_told = made.is_told; ends = fault_ends subject c.args.trace.now made.read _ c.in-Err.fault made.ends }
