@@ -16,10 +16,10 @@ use Rattle.run_laws.proofs.Others.{number_of_found}
 use Rattle.run_laws.proofs.Turning.{turned_ready}
 use Rattle.run_laws.proofs.Wholes.{reached_run}
 use Rattle.run_laws.proofs.Finishing.{finished_ends}
-use Rattle.proc_run.specs.Choosing.{turn_after}
-use Rattle.proc_run.proofs.Ready.{turned_same}
+use Rattle.film_core.specs.Choosing.{turn_after}
+use Rattle.film_core.proofs.Ready.{turned_same}
 use Rattle.film_core.specs.Films.{Filming, FilmAt}
-use Rattle.run_command.specs.Machines.{journal_entries}
+use Rattle.reference_commands.specs.Machines.{journal_entries}
 use Rattle.run_stats.specs.declared.finish.Finish.{Finish}
 use Rattle.run_stats.specs.declared.finish.Finish.TheVariants.{Over, Cut}
 use Rattle.reference_commands.specs.Answering.{blank_swap, EndsSo, cut_line, SaysCut}

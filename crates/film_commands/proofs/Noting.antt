@@ -21,7 +21,7 @@ use Rattle.run_model.specs.Swapped.{swapped}
 use Rattle.run_laws.specs.Machine.{StandsAt}
 use Rattle.run_laws.specs.Running.{CanRun}
 use Rattle.run_laws.proofs.Machines.{makes_follows}
-use Rattle.run_command.specs.Machines.{journal_entries}
+use Rattle.reference_commands.specs.Machines.{journal_entries}
 use Rattle.film_core.specs.Films.{Filming, FilmAt, FilmBegun, OneMore, FilmGoes}
 use Rattle.owner_laws.specs.First.{ComeFirst}
 use Rattle.run_laws.proofs.LongerJournals.{units_long}

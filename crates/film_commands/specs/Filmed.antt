@@ -6,7 +6,7 @@ use Rattle.io_edge.specs.FileHolding.{NamedFile}
 use Rattle.flat_state.specs.Flat.{Inputs}
 use Rattle.machine_state.specs.Machine.{Standing}
 use Rattle.run_model.specs.State.{State}
-use Rattle.vm_core.specs.RunEnds.{IsAskedOf}
+use Rattle.film_core.specs.RunEnds.{IsAskedOf}
 use Rattle.film_core.specs.Films.{Filming, FilmAt}
 use Rattle.owner_lines.specs.Owners.{owners_lines}
 use Rattle.command_words.specs.declared.command.FilmSteps.{FilmSteps}

@@ -1,3 +1,9 @@
+pub use Rattle.reference_commands.specs.Reading
+pub use Rattle.reference_commands.specs.Asking
+pub use Rattle.reference_commands.specs.Ends
+pub use Rattle.reference_commands.specs.InMemory
+pub use Rattle.reference_commands.specs.declared.question.Question
+pub use Rattle.reference_commands.specs.Answering
 pub mod Asked
 pub mod Filmed
 pub mod Counted

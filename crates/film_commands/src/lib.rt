@@ -9,3 +9,4 @@ mod filming;
 
 pub use asking::{FilmQuestion, film_answer, film_of};
 pub use filming::entry_line;
+pub use reference_commands;

@@ -34,8 +34,8 @@ use Rattle.run_start.specs.Lines.{IsOver}
 use Rattle.run_start.specs.Stepped.{StopsNext}
 use Rattle.journal_laws.specs.Stops.{StaysPut}
 use Rattle.run_start.proofs.Led.{stands_at_start}
-use Rattle.proc_run.specs.Choosing.{turn_after as chosen_next}
-use Rattle.proc_run.proofs.Ready.{turned_same}
+use Rattle.vm_core.specs.Choosing.{turn_after as chosen_next}
+use Rattle.vm_core.proofs.Ready.{turned_same}
 use Rattle.vm_core.specs.Cores.{InputsOf, StandsIn}
 use Rattle.vm_core.specs.RunEnds.{IsAskedOf}
 use Rattle.vm_core.proofs.Journals.{same_left}

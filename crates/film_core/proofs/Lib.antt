@@ -1,3 +1,5 @@
+pub use Rattle.vm_core.proofs.Ending
+pub use Rattle.vm_core.proofs.Ready
 pub mod Begins
 pub mod Catching
 pub mod Composing

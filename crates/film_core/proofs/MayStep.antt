@@ -8,7 +8,7 @@ use Rattle.kernel_model.specs.Unit.{proc_of}
 use Rattle.machine_state.specs.Alike.{AreRecords}
 use Rattle.machine_state.specs.Machine.{proc_shown, proc_of_record as shown_of, processes_of}
 use Rattle.machine_state.proofs.Listed.{process_is}
-use Rattle.proc_run.specs.Choosing.{can_run, steps_by}
+use Rattle.vm_core.specs.Choosing.{can_run, steps_by}
 
 module _ (k : Kernel) (ps : List Record) (pid : ℕ) (procs : k.processes ≡ processes_of ps k.next_pid) (known : AreRecords ps k.next_pid) where
   recorded : proc_of k pid ≡ shown_of (find pid ps)

@@ -24,8 +24,8 @@ use Rattle.run_start.specs.Stepped.{StopLeads, AtSome, LeadsFrom, StopsFrom}
 use Rattle.run_start.specs.Lines.{IsOver, LineBegun, TurnBegun, TurnDue}
 use Rattle.run_start.proofs.StepUnitsBeginning.{line_begins, line_stops, turn_stops}
 use Rattle.run_start.proofs.Turning.{turn_begins}
-use Rattle.proc_run.specs.Choosing.{turn_after as chosen_next}
-use Rattle.proc_run.proofs.Ready.{turned_same}
+use Rattle.vm_core.specs.Choosing.{turn_after as chosen_next}
+use Rattle.vm_core.proofs.Ready.{turned_same}
 use Rattle.vm_core.specs.Cores.{StandsIn}
 use Rattle.vm_core.specs.Schedules.{HaveFewMoves}
 use Rattle.vm_core.specs.Steady.{StaysSteady}

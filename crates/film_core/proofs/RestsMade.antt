@@ -28,10 +28,10 @@ use Rattle.step_units.proofs.Asking.{hands_made, hands_stop}
 use Rattle.step_units.proofs.Finding.{interrupt_waits}
 use Rattle.step_units.proofs.PuttingOut.{in_comes, out_comes, out_stops}
 use Rattle.step_units.proofs.Stopping.{stops_here}
-use Rattle.proc_run.specs.Choosing.{steps_by}
-use Rattle.proc_run.specs.Runs.{IsSteady}
-use Rattle.proc_run.specs.Running.{UnderMark, CountsTo, RunLeads}
-use Rattle.proc_run.proofs.Marks.{steps_same, goes_true, goes_false, idle}
+use Rattle.vm_core.specs.Choosing.{steps_by}
+use Rattle.vm_core.specs.Runs.{IsSteady}
+use Rattle.vm_core.specs.Running.{UnderMark, CountsTo, RunLeads}
+use Rattle.vm_core.proofs.Marks.{steps_same, goes_true, goes_false, idle}
 use Rattle.vm_core.specs.Closing.{TurnAt, ResidentTurn, InTurn, TurnDone}
 use Rattle.vm_core.specs.Lines.{LineAt}
 use Rattle.vm_core.specs.Steady.{StaysSteady}

@@ -9,9 +9,9 @@ use Rattle.run_model.specs.State.{State}
 use Rattle.run_start.specs.Leading.{FillsLead, ToldAt}
 use Rattle.run_start.specs.Stepped.{StepLeads, AtSome, LeadsFrom, StopsFrom}
 use Rattle.step_units.specs.Rests.{before_done}
-use Rattle.proc_run.specs.Rests.{begun_by, BegunAt}
-use Rattle.proc_run.specs.declared.finishing.Begun.{Begun}
-use Rattle.proc_run.proofs.BegunTold.{begun_told, none_between}
+use Rattle.vm_core.specs.Rests.{begun_by, BegunAt}
+use Rattle.vm_core.specs.Begun.{Begun}
+use Rattle.vm_core.proofs.BegunTold.{begun_told, none_between}
 use Rattle.film_core.specs.Ways.{WayAt, StepSettled}
 use Rattle.film_core.proofs.Composing.{then_lead, then_stop, leads_reached}
 

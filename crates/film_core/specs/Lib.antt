@@ -1,3 +1,7 @@
+pub use Rattle.vm_core.specs.Schedules
+pub use Rattle.vm_core.specs.RunEnds
+pub use Rattle.run_start.specs.declared.starting.Started
+pub use Rattle.vm_core.specs.Choosing
 pub mod Films
 pub mod Fields
 pub mod Marks

@@ -4,13 +4,13 @@ ghost use Rattle.machine_state.specs.Going.{CanGoOn, IsRunning};
 ghost use Rattle.machine_state.specs.Machine.{image_shown};
 ghost use Rattle.machine_state.specs.New.{fresh_kernel, AreSound};
 ghost use Rattle.machine_state.specs.Sourced.{AreNames};
-ghost use Rattle.proc_run.specs.Choosing.{turn_after};
+ghost use Rattle.vm_core.specs.Choosing.{turn_after};
 
 use machine_state::{Machine, Named};
-use proc_run::{DecodeCache, next_turned};
 use run_model::Mark;
 use std::alloc::Global;
 use std::marker::Model;
+use vm_core::proc_run::{DecodeCache, next_turned};
 use vm_facts::{Entry, Event, NoMemory, Params};
 
 /// A run that goes on from entry to entry: contracts see its machine, how many lines were taken, the last mark, how many

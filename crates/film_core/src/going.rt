@@ -9,8 +9,8 @@ ghost use Rattle.machine_state.specs.Outside.{stop_of, TransfersPages};
 ghost use Rattle.journal_laws.specs.LastMoves.{last_moves};
 ghost use Rattle.run_start.specs.Sizes.{KeptAtStop};
 ghost use Rattle.run_start.specs.Stepped.{AtSome, LeadsFrom, StopsFrom};
-ghost use Rattle.proc_run.specs.Choosing.{turn_after};
-ghost use Rattle.proc_run.specs.Runs.{IsSteady};
+ghost use Rattle.vm_core.specs.Choosing.{turn_after};
+ghost use Rattle.vm_core.specs.Runs.{IsSteady};
 ghost use Rattle.vm_core.specs.Schedules.{HaveFewMoves};
 ghost use Rattle.film_core.specs.Films.{IsFilming, FilmGoes, one_wider, StopsElse, FilmsAt};
 ghost use Rattle.film_core.specs.Marks.{last_entry};
@@ -25,10 +25,10 @@ use crate::resting::rest;
 use crate::settling::settle;
 use io_edge::{Files, SwapDev};
 use machine_state::Machine;
-use proc_run::{DecodeCache, next_turned};
 use run_model::Mark;
 use std::alloc::Global;
 use vm_core::note;
+use vm_core::proc_run::{DecodeCache, next_turned};
 use vm_facts::{Entry, Event, Stop};
 
 /// What comes after a mark.

@@ -7,17 +7,17 @@ ghost use Rattle.machine_state.specs.Files.{AreFiles};
 ghost use Rattle.machine_state.specs.Outside.{stop_of, TransfersPages};
 ghost use Rattle.run_start.specs.Sizes.{KeptAtStop};
 ghost use Rattle.run_start.specs.Stepped.{AtSome, LeadsFrom, StopsFrom};
-ghost use Rattle.proc_run.specs.Choosing.{steps_by};
-ghost use Rattle.proc_run.specs.Runs.{IsSteady};
+ghost use Rattle.vm_core.specs.Choosing.{steps_by};
+ghost use Rattle.vm_core.specs.Runs.{IsSteady};
 ghost use Rattle.film_core.specs.Ways.{StaysOn, RestAt, RestDone};
 
 use io_edge::{Files, SwapDev};
 use journal_laws::clock_hands::move_hands;
 use machine_state::Machine;
-use proc_run::{DecodeCache, Patience, can_step, run};
 use run_model::Mark;
 use run_start::swapper::{swap_in, swap_out};
 use std::alloc::Global;
+use vm_core::proc_run::{DecodeCache, Patience, can_step, run};
 use vm_core::{TURN, audit, come_in, count_behind, finish, interrupt};
 use vm_facts::Stop;
 

@@ -1,3 +1,4 @@
+pub use Rattle.film_core.proofs.Ending
 mod Entries
 mod Parting
 mod Going

@@ -3,7 +3,7 @@ ghost use Rattle.std.specs.Prelude.{◌≡◌, ◌↔◌, ◌+◌, ◌-◌, ◌<
 ghost use Rattle.io_edge.specs.FileHolding.{NamedFile};
 ghost use Rattle.flat_state.specs.Flat.{Inputs};
 ghost use Rattle.machine_state.specs.Files.{AreFiles};
-ghost use Rattle.vm_core.specs.Schedules.{HaveFewMoves};
+ghost use Rattle.film_core.specs.Schedules.{HaveFewMoves};
 ghost use Rattle.film_core.specs.Films.{IsFilming, FilmBegun};
 ghost use Rattle.grade_check.specs.Grading.{IsGraded};
 ghost use Rattle.grade_check.specs.Along.{Along};

@@ -5,5 +5,6 @@ mod grading;
 mod laws;
 mod same;
 
+pub use film_core;
 pub use grading::{Grade, grade_trace};
 pub use laws::traces_have_one_grade;

@@ -5,7 +5,7 @@ use Rattle.command_ending.specs.declared.fault.Fault.{Fault}
 use Rattle.command_ending.specs.declared.fault.Fault.TheVariants as faults
 use Rattle.command_ending.specs.Ending.{Ending}
 use Rattle.command_ending.specs.Command.{Faults, NoFaults, EndCounted}
-use Rattle.reference_commands.specs.Asking.{Subject}
+use Rattle.question_command.specs.Asking.{Subject}
 use Rattle.grade_check.specs.declared.grading.Grade.{Grade}
 use Rattle.grade_check.specs.declared.grading.Grade.TheVariants.{Written, Front, Differs}
 use Rattle.grade_check.specs.Grading.{IsGraded}

@@ -18,9 +18,9 @@ use Rattle.command_ending.proofs.Counting.{one_then}
 use Rattle.command_ending.proofs.Makings.{made_where, made_nothing}
 use Rattle.run_opening.specs.Schedules.{schedule_found, HasEvents, EndsSchedule}
 use Rattle.replay_command.specs.Reading.{HasEntries, EndsTranscript, FaultsBy, images_told}
-use Rattle.reference_commands.specs.Reading.{Read as RunRead, HasSchedule}
-use Rattle.reference_commands.specs.Asking.{Subject, AreInputsOf}
-use Rattle.reference_commands.specs.InMemory.{inputs_with}
+use Rattle.question_command.specs.Reading.{Read as RunRead, HasSchedule}
+use Rattle.question_command.specs.Asking.{Subject, AreInputsOf}
+use Rattle.question_command.specs.InMemory.{inputs_with}
 use Rattle.question_command.proofs.Asked.{Counts, over_first, over_second, over_both}
 use Rattle.grade_command.specs.declared.judging.Graded.{Graded}
 use Rattle.grade_command.specs.Telling.{EndsGrading}

@@ -13,8 +13,8 @@ use Rattle.command_ending.specs.Ending.{Ending}
 use Rattle.command_ending.specs.Command.{Faults, NoFaults, FailedBehind, Completes}
 use Rattle.run_opening.specs.Schedules.{HasBadEvent}
 use Rattle.replay_command.specs.Reading.{HasEntries, HasBadLine}
-use Rattle.reference_commands.specs.Reading.{HasSchedule}
-use Rattle.reference_commands.specs.Asking.{Subject, AreInputsOf}
+use Rattle.question_command.specs.Reading.{HasSchedule}
+use Rattle.question_command.specs.Asking.{Subject, AreInputsOf}
 use Rattle.grade_check.specs.Grading.{IsFrontOf, PartsAt}
 use Rattle.grade_command.specs.declared.judging.Graded.{Graded}
 use Rattle.grade_command.specs.Telling.{written_line, TellsGrade}

@@ -4,7 +4,7 @@ use Rattle.vm_facts.specs.declared.entry.Entry.{Entry}
 use Rattle.io_edge.specs.FileHolding.{NamedFile}
 use Rattle.command_ending.specs.declared.fault.Fault.{Fault}
 use Rattle.command_ending.specs.Command.{Faults, Made}
-use Rattle.reference_commands.specs.Asking.{Subject}
+use Rattle.question_command.specs.Asking.{Subject}
 use Rattle.grade_check.specs.Grading.{IsFrontOf, PartsAt}
 use Rattle.grade_command.specs.Telling.{policy_line}
 use Rattle.grade_command.specs.Reading.{TraceRead, trace_told}

@@ -6,8 +6,8 @@ use Rattle.run_files.specs.declared.answers.Unread.{Unread}
 use Rattle.run_files.specs.Told.{whole_told}
 use Rattle.command_ending.specs.Named.{Why}
 use Rattle.replay_command.specs.Reading.{transcript_bytes, HasEntries}
-use Rattle.reference_commands.specs.Reading.{Read as RunRead, read_told as run_told, HasSchedule}
-use Rattle.reference_commands.specs.Asking.{Subject}
+use Rattle.question_command.specs.Reading.{Read as RunRead, read_told as run_told, HasSchedule}
+use Rattle.question_command.specs.Asking.{Subject}
 
 -- a schedule and images, and the bytes of a trace, none of one that is too long
 pub record TraceRead : Type 0 where

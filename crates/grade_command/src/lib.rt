@@ -7,3 +7,4 @@ mod judging;
 
 pub use command::grade_file;
 pub use explaining::explain_grade;
+pub use question_command;

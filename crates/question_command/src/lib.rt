@@ -5,4 +5,5 @@
 mod command;
 
 pub use command::{ask_command, explain_limit};
-pub use reference_commands::Question;
+pub use film_commands;
+pub use film_commands::reference_commands::Question;

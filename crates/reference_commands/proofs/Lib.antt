@@ -1,4 +1,7 @@
 pub use Rattle.run_command.proofs.Found
+pub use Rattle.run_command.proofs.Openings
+pub use Rattle.run_command.proofs.Inputs
+pub use Rattle.run_command.proofs.Runs as RunCommandRuns
 pub mod Bytes
 pub mod Copies
 pub mod Counts

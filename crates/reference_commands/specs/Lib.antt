@@ -8,6 +8,7 @@ pub use Rattle.run_command.specs.Machines
 pub use Rattle.run_command.specs.Paired
 pub use Rattle.run_command.specs.Seen
 pub use Rattle.run_command.specs.Sight
+pub use Rattle.run_command.specs.Naming
 pub mod Reading
 pub mod Asking
 pub mod Answering

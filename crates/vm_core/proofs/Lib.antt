@@ -2,6 +2,9 @@ pub use Rattle.run_laws.proofs.Images
 pub use Rattle.run_laws.proofs.Octets
 pub use Rattle.run_laws.proofs.Filing
 pub use Rattle.run_laws.proofs.Finishing
+pub use Rattle.proc_run.proofs.Ready
+pub use Rattle.proc_run.proofs.Marks
+pub use Rattle.proc_run.proofs.BegunTold
 pub mod Pieces
 pub mod Accounts
 pub mod Steadying

@@ -2,6 +2,11 @@ pub use Rattle.run_start.specs.Reading
 pub use Rattle.run_laws.specs.Longwords
 pub use Rattle.run_laws.specs.Files
 pub use Rattle.run_start.specs.Starting as RunStartStarting
+pub use Rattle.proc_run.specs.Choosing
+pub use Rattle.proc_run.specs.Runs
+pub use Rattle.proc_run.specs.Running
+pub use Rattle.proc_run.specs.Rests
+pub use Rattle.proc_run.specs.declared.finishing.Begun
 pub mod Steady
 pub mod Accounts
 pub mod Lines

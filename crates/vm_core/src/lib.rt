@@ -13,6 +13,7 @@ mod starting;
 pub use closing::come_in;
 pub use events::Went;
 pub use lines::{audit, interrupt, note};
+pub use proc_run;
 pub use run::Core;
 pub use run_start::Started;
 pub use running::{TURN, count_behind, finish};

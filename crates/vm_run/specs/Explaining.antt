@@ -13,7 +13,7 @@ use Rattle.source_commands.specs.Explaining.{ExplainsSource, LacksSource}
 use Rattle.replay_command.specs.Explaining.{ExplainsTranscript, LacksTranscript}
 use Rattle.schedule_reasons.specs.Explaining.{ExplainsSchedule, LacksSchedule}
 use Rattle.reference_commands.specs.Asking.{Subject}
-use Rattle.question_command.specs.Explaining.{ExplainsLimit, LacksLimit}
+use Rattle.grade_command.specs.QuestionCommandExplaining.{ExplainsLimit, LacksLimit}
 use Rattle.grade_command.specs.Explaining.{ExplainsGrade, LacksPolicy}
 use Rattle.reference_reasons.specs.Explaining.{ExplainsReferences, LacksReferences}
 

@@ -1,6 +1,6 @@
 use Rattle.std.proofs.Common.{length, map, sym, ap, ◌∙◌}
-use Rattle.run_command.proofs.Openings.{are_sound, are_names, images_length}
-use Rattle.run_command.proofs.Inputs.{have_few_moves}
+use Rattle.reference_commands.proofs.Openings.{are_sound, are_names, images_length}
+use Rattle.reference_commands.proofs.Inputs.{have_few_moves}
 use Rattle.reference_commands.specs.Answering.{blank_swap}
 use Rattle.reference_commands.specs.InMemory.{file_of, inputs_with}
 use Rattle.reference_commands.proofs.Runs.{asked, opened_files}

@@ -2,8 +2,8 @@ use Rattle.std.proofs.Common.{rules, ◌≡◌, List, Option, Ok, sym, ap, subst
 use Rattle.vm_facts.specs.declared.params.Params.{Params}
 use Rattle.io_edge.specs.FileHolding.{NamedFile}
 use Rattle.machine_state.specs.Files.{AreFiles}
-use Rattle.run_start.specs.declared.starting.Started.TheVariants as starteds
-use Rattle.vm_core.proofs.Ending.{are_among}
+use Rattle.film_core.specs.Started.TheVariants as starteds
+use Rattle.film_core.proofs.Ending.{are_among}
 use Rattle.film_commands.proofs.Steps.{begun_over, filming_begun, none_so_far}
 use Rattle.film_commands.proofs.asking.answer_run.Goals as goal
 

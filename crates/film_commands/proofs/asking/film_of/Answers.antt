@@ -3,8 +3,8 @@ use Rattle.machine_state.specs.Applying.{facts_named}
 use Rattle.machine_state.specs.Machine.{Standing, image_shown}
 use Rattle.machine_state.specs.New.{fresh_kernel, AreSound}
 use Rattle.machine_state.specs.Named.{Named}
-use Rattle.run_command.proofs.Openings.{shown_facts}
-use Rattle.run_command.proofs.Runs.{fresh_machine}
+use Rattle.reference_commands.proofs.Openings.{shown_facts}
+use Rattle.reference_commands.proofs.RunCommandRuns.{fresh_machine}
 use Rattle.film_commands.proofs.asking.film_of.Goals as goal
 
 pub new-requires-clause-sound : goal.new-requires-clause-sound

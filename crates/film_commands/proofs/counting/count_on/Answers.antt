@@ -1,7 +1,7 @@
 use Rattle.std.proofs.Common.{List, length, sym, ap, ◌∙◌, subst, arith}
 use Rattle.run_stats.specs.declared.noting.Note.{Note}
 use Rattle.film_commands.specs.Counted.{look_at_film, Counted}
-use Rattle.run_command.specs.Machines.{journal_entries}
+use Rattle.reference_commands.specs.Machines.{journal_entries}
 use Rattle.film_commands.proofs.Steps.{goes_further}
 use Rattle.film_commands.proofs.Noting.{counted_first}
 use Rattle.film_commands.proofs.counting.count_on.Goals as goal

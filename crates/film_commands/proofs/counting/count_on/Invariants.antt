@@ -2,7 +2,7 @@
 use Rattle.std.proofs.Common.{◌≡◌, ◌≤◌, ◌-◌, ℕ, List, length}
 use Rattle.flat_state.specs.Flat.{Inputs}
 use Rattle.machine_state.specs.Files.{AreFiles}
-use Rattle.run_command.specs.Machines.{journal_entries}
+use Rattle.reference_commands.specs.Machines.{journal_entries}
 use Rattle.film_core.specs.Films.{IsFilming, FilmBegun}
 use Rattle.film_commands.specs.Counted.{look_at_film, Counted}
 use Rattle.film_commands.proofs.counting.count_on.Given as goal

@@ -1,5 +1,5 @@
 use Rattle.std.proofs.Common.{length, sym, ap, ◌∙◌, arith}
-use Rattle.run_command.specs.Machines.{journal_entries}
+use Rattle.reference_commands.specs.Machines.{journal_entries}
 use Rattle.film_commands.proofs.Steps.{goes_further}
 use Rattle.film_commands.proofs.ending.go_to_end.Goals as goal
 

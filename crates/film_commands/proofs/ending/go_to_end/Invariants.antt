@@ -2,7 +2,7 @@
 use Rattle.std.proofs.Common.{◌≡◌, ◌≤◌, ◌-◌, ℕ, List, length}
 use Rattle.flat_state.specs.Flat.{Inputs}
 use Rattle.machine_state.specs.Files.{AreFiles}
-use Rattle.run_command.specs.Machines.{journal_entries}
+use Rattle.reference_commands.specs.Machines.{journal_entries}
 use Rattle.film_core.specs.Films.{IsFilming, FilmBegun}
 use Rattle.film_commands.specs.Filmed.{IsAtState}
 use Rattle.film_commands.proofs.ending.go_to_end.Given as goal

@@ -10,9 +10,9 @@ use Rattle.command_ending.proofs.Counting.{none_then, counted_then}
 use Rattle.run_opening.proofs.Lists.{few_started}
 use Rattle.replay_command.specs.Reading.{images_told}
 use Rattle.replay_command.proofs.Replays.{images_counted}
-use Rattle.reference_commands.specs.Asking.{Subject}
-use Rattle.reference_commands.specs.InMemory.{inputs_with, IsRunnable, AllDiffer}
-use Rattle.reference_commands.proofs.Names.{names_differ}
+use Rattle.question_command.specs.Asking.{Subject}
+use Rattle.question_command.specs.InMemory.{inputs_with, IsRunnable, AllDiffer}
+use Rattle.question_command.proofs.Names.{names_differ}
 use Rattle.question_command.proofs.Words.{short_names}
 use Rattle.question_command.proofs.Asked.{opened_counted}
 use Rattle.grade_command.specs.declared.judging.Graded.{Graded}

@@ -1,6 +1,6 @@
 use Rattle.std.proofs.Common.{ℕ, List, Bor, map}
 use Rattle.command_ending.specs.Ending.{ending_of}
-use Rattle.reference_commands.specs.Asking.{Subject}
+use Rattle.question_command.specs.Asking.{Subject}
 use Rattle.grade_command.proofs.Comparisons.{graded_ends, verdict_counted, fault_ends}
 use Rattle.grade_command.proofs.command.verdict_from.Goals as goal
 

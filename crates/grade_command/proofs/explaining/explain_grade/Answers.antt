@@ -1,5 +1,5 @@
 use Rattle.std.proofs.Common.{ℕ, List, Bor, Vec, Global, option_map, map}
-use Rattle.reference_commands.specs.Asking.{Subject}
+use Rattle.question_command.specs.Asking.{Subject}
 use Rattle.grade_command.proofs.Comparisons.{tells_policy}
 use Rattle.grade_command.proofs.explaining.explain_grade.Goals as goal
 

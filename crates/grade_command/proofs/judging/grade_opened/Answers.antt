@@ -1,8 +1,8 @@
-use Rattle.run_command.proofs.Openings.{are_sound, are_names}
-use Rattle.run_command.proofs.Inputs.{have_few_moves}
-use Rattle.reference_commands.specs.Answering.{blank_swap}
-use Rattle.reference_commands.specs.InMemory.{inputs_with}
-use Rattle.reference_commands.proofs.Runs.{asked, opened_files}
+use Rattle.question_command.proofs.Openings.{are_sound, are_names}
+use Rattle.question_command.proofs.Inputs.{have_few_moves}
+use Rattle.question_command.specs.Answering.{blank_swap}
+use Rattle.question_command.specs.InMemory.{inputs_with}
+use Rattle.question_command.proofs.Runs.{asked, opened_files}
 use Rattle.grade_command.proofs.judging.grade_opened.Goals as goal
 
 pub film_of-requires-clause-sound : goal.film_of-requires-clause-sound

@@ -2,9 +2,9 @@ use Rattle.std.proofs.Common.{rules, ◌≡◌, List, Option, Ok, sym, ap, subst
 use Rattle.vm_facts.specs.declared.params.Params.{Params}
 use Rattle.io_edge.specs.FileHolding.{NamedFile}
 use Rattle.machine_state.specs.Files.{AreFiles}
-use Rattle.run_start.specs.declared.starting.Started.TheVariants as starteds
-use Rattle.vm_core.proofs.Ending.{are_among}
-use Rattle.film_commands.proofs.Steps.{begun_over, filming_begun, none_so_far}
+use Rattle.grade_check.specs.Started.TheVariants as starteds
+use Rattle.grade_check.proofs.Ending.{are_among}
+use Rattle.question_command.proofs.Steps.{begun_over, filming_begun, none_so_far}
 use Rattle.grade_command.proofs.judging.grade_run.Goals as goal
 
 pub start-requires-clause-numbers : goal.start-requires-clause-numbers
