@@ -5,7 +5,7 @@
 //! both directions, so that a frame leaves it wherever it stands. The frames of text pages are found
 //! by hash chains, as many as there are frames, so that a chain has one frame on average. Each call
 //! takes the same time whatever the number of frames, but that finding a text page, and taking its
-//! frame out or off the free list, walks along one chain.
+//! frame out or off the free list, walks along one chain, and `put_free_places` along the free list.
 #![tactic(auto)]
 
 mod frame_list;
