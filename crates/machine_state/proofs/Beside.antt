@@ -39,7 +39,7 @@ no_wrap : (a i j : ℕ) → a + 1024 < 2 ^ 32 → i % 1024 + j < 1024 → (a + j
 no_wrap a i j low near = omega (arith, low, near)
 
 -- the addresses from one on name the bytes of its page from the byte that it names on
-abbrev AreBeside : Kernel → ℕ → ℕ → ℕ → (ℕ → Spot) → Type 0
+abbrev pub AreBeside : Kernel → ℕ → ℕ → ℕ → (ℕ → Spot) → Type 0
 AreBeside k sid a i make = (j : ℕ) → i % 1024 + j < 1024 → spot_in k.place sid (a + j) ≡ make (i + j)
 
 reads_ahead : (k : Kernel) (sid a i : ℕ) (make : ℕ → Spot) (q : ℕ → Page) → ((x : ℕ) → read_spot k sid (make x) ≡ read_page k (q (x / 1024)) (x % 1024))
@@ -66,13 +66,13 @@ may_ahead k sid a i make q by beside low count from j below =
     ∙ (from j below).1
 
 -- a valid page, whose bytes the addresses from one on name
-record IsNamed (k : Kernel) (sid a i : ℕ) (make : ℕ → Spot) (q : Page) (f : ℕ) : Type 0 where
-  beside : AreBeside k sid a i make
-  valid : state_of k.place q ≡ Valid f
-  owner : OwnsFrames k.place
-  whole : AreWhole k
+pub record IsNamed (k : Kernel) (sid a i : ℕ) (make : ℕ → Spot) (q : Page) (f : ℕ) : Type 0 where
+  pub beside : AreBeside k sid a i make
+  pub valid : state_of k.place q ≡ Valid f
+  pub owner : OwnsFrames k.place
+  pub whole : AreWhole k
 
-named_after : (k : Kernel) (sid a i : ℕ) (make : ℕ → Spot) (q : Page) (f at byte : ℕ) → IsWritable q → at < 1024
+pub named_after : (k : Kernel) (sid a i : ℕ) (make : ℕ → Spot) (q : Page) (f at byte : ℕ) → IsWritable q → at < 1024
     → IsNamed k sid a i make q f → IsNamed (write_step k q f at byte) sid a i make q f
 named_after k sid a i make q f at byte writable within n = record {
   beside = λ j near. spot_same k.place q sid (a + j) ∙ n.beside j near;
@@ -86,7 +86,7 @@ pub record AreOfPage (k : Kernel) (sid : ℕ) (q : Page) (f at a : ℕ) (bytes :
   pub kernel : writes_in k sid (writes_from a bytes) ≡ write_run k q f at bytes
   pub each : AreWritten k sid (writes_from a bytes)
 
-of_page : (sid a i : ℕ) (make : ℕ → Spot) (q : ℕ → Page) (f : ℕ)
+pub of_page : (sid a i : ℕ) (make : ℕ → Spot) (q : ℕ → Page) (f : ℕ)
     → ((k : Kernel) (x byte : ℕ) → write_spot k sid (make x) byte ≡ write_page k (q (x / 1024)) (x % 1024) byte)
     → ((k : Kernel) (x : ℕ) → may_write_spot k.place sid (make x) ≡ may_write_by (state_of k.place (q (x / 1024))))
     → IsWritable (q (i / 1024)) → a + 1024 < 2 ^ 32 → (bytes : List ℕ) (j : ℕ) (k : Kernel) → i % 1024 + j + length bytes ≤ 1024
@@ -150,12 +150,12 @@ module _ (k : Kernel) (index sid image t d s : ℕ) (laid : IsLaidOut k index si
       (whole_within (length (slots_of k.place (pages.Text (image_of k.place sid) 0))) i j at.1 near))
       (omega (arith, at.0, at.1, laid.low, laid.text_is)) bytes from
 
-  below_data : (a i : ℕ) → spot_in k.place sid a ≡ Data i → a + 1024 < 2 ^ 32
+  pub below_data : (a i : ℕ) → spot_in k.place sid a ≡ Data i → a + 1024 < 2 ^ 32
   below_data a i e =
       let at : (a ≡ text_len k.place sid + i) × (i < data_len k.place sid) = data_spot (text_len k.place sid) (data_len k.place sid) (stack_len k.place sid) a i e in
       omega (arith, at.0, at.1, laid.low, laid.text_is, laid.data_is)
 
-  beside_data : (a i : ℕ) → spot_in k.place sid a ≡ Data i → AreBeside k sid a i (λ x. Data x)
+  pub beside_data : (a i : ℕ) → spot_in k.place sid a ≡ Data i → AreBeside k sid a i (λ x. Data x)
   beside_data a i e j near =
       let at : (a ≡ text_len k.place sid + i) × (i < data_len k.place sid) = data_spot (text_len k.place sid) (data_len k.place sid) (stack_len k.place sid) a i e in
       data_beside (text_len k.place sid) (data_len k.place sid) (stack_len k.place sid) a i j e (whole_within (length (slots_of k.place (pages.Data sid 0))) i j at.1 near)
@@ -168,12 +168,12 @@ module _ (k : Kernel) (index sid image t d s : ℕ) (laid : IsLaidOut k index si
       → MayFrom (state_of k.place (pages.Data sid (i / 1024))) (i % 1024) count → MayAhead (kernel_answers k sid) a count
   data_writable a i count e from = may_ahead k sid a i (λ x. Data x) (λ v. pages.Data sid v) (λ x. refl) (beside_data a i e) (below_data a i e) count from
 
-  below_stack : (a i : ℕ) → spot_in k.place sid a ≡ Stack i → a + 1024 < 2 ^ 32
+  pub below_stack : (a i : ℕ) → spot_in k.place sid a ≡ Stack i → a + 1024 < 2 ^ 32
   below_stack a i e =
       let at : OfStack (stack_len k.place sid) a i = stack_spot (text_len k.place sid) (data_len k.place sid) (stack_len k.place sid) a i e in
       omega (arith, at.below)
 
-  beside_stack : (a i : ℕ) → spot_in k.place sid a ≡ Stack i → AreBeside k sid a i (λ x. Stack x)
+  pub beside_stack : (a i : ℕ) → spot_in k.place sid a ≡ Stack i → AreBeside k sid a i (λ x. Stack x)
   beside_stack a i e j near = stack_beside (text_len k.place sid) (data_len k.place sid) (stack_len k.place sid) a i j e near
 
   pub stack_ahead : (a i : ℕ) (bytes : List ℕ) → spot_in k.place sid a ≡ Stack i
@@ -196,6 +196,11 @@ module _ (old new : Standing) (index sid image t d s : ℕ) (laid : IsLaidOut ol
   stack_together a i bytes e w =
       wrote_together old new sid a i (λ x. Stack x) (λ v. pages.Stack sid v) bytes (λ k x byte. refl) (λ k x. refl) tt
       (below_stack old.kernel index sid image t d s laid a i e) (beside_stack old.kernel index sid image t d s laid a i e) w
+
+-- bytes of a page that were written may be written
+pub run_may : (old new : Standing) (q : Page) (at : ℕ) (bytes : List ℕ) → WroteRun old new q at bytes
+    → MayFrom (state_of old.kernel.place q) at (length bytes)
+run_may old new q at bytes w i below = let within : at + length bytes ≤ 1024 = w.within in (omega (arith, within, below), ap may_write_by w.valid)
 
 -- a page in this frame is read by the bytes of the frame
 in_frame : (k : Kernel) (s : PageState) (f : ℕ) → Some f ≡ valid_frame s → read_by_state k s ≡ (λ (x : ℕ). reads.Is (slice_index (frame_bytes k f) x))

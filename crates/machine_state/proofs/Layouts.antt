@@ -31,7 +31,7 @@ spaces_kept g e spaces (Data n v) s m = changed_kept space_number n (with_data v
 spaces_kept g e spaces (Stack n v) s m = changed_kept space_number n (with_stack v s m) g (λ x. (e v s m x).1) spaces
 spaces_kept g e spaces (Text i v) s m = refl
 
-touch_kept : (g : SpacePages → ℕ) → IsSteady g → (p : Placement) (q : Page) → map g (touch p q).spaces ≡ map g p.spaces
+pub touch_kept : (g : SpacePages → ℕ) → IsSteady g → (p : Placement) (q : Page) → map g (touch p q).spaces ≡ map g p.spaces
 touch_kept g e p q = go q (state_of p q)
   where
     go : (q : Page) (s : PageState) → map g (touch_to p q s).spaces ≡ map g p.spaces

@@ -47,6 +47,7 @@ pub mod Settling
 pub mod Counts
 pub mod Dirty
 pub mod Layouts
+pub mod Downwards
 pub mod Beside
 pub mod FlatMemory
 pub mod FlatSteps

@@ -28,6 +28,7 @@ pub mod Fields
 pub mod Showing
 pub mod Beginning
 pub mod Ahead
+pub mod Down
 pub mod Lent
 pub mod UserMemoryLaws
 pub mod Outside

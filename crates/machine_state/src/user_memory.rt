@@ -1,5 +1,5 @@
 //! The memory of one process, as an instruction meets it: the bytes of the frames of its valid pages.
-ghost use Rattle.std.specs.Prelude.{◌≡◌, ℕ, ◌+◌, ◌<◌, ◌≤◌, ◌/◌, true, false, drop, length, map, Some, IfSome, slice_get, slice_index};
+ghost use Rattle.std.specs.Prelude.{◌≡◌, ℕ, ◌+◌, ◌*◌, ◌<◌, ◌≤◌, ◌/◌, true, false, drop, length, map, Some, IfSome, slice_get, slice_index};
 ghost use Rattle.vm_facts.specs.declared.page.Page.{Page};
 ghost use Rattle.vm_facts.specs.declared.page.PageState.{PageState};
 ghost use Rattle.vm_facts.specs.declared.page.PageState.TheVariants.{Valid};
@@ -12,6 +12,7 @@ ghost use Rattle.table_steps.specs.Calls.{life_in};
 ghost use Rattle.table_steps.specs.Machine.{image_shown};
 ghost use Rattle.machine_state.specs.Going.{CanGoOn};
 ghost use Rattle.machine_state.specs.Ahead.{MayFrom, LendsFrom};
+ghost use Rattle.machine_state.specs.Down.{WroteDown};
 ghost use Rattle.table_steps.specs.UserMemory.{spot_in, page_in, read_page, valid_frame, may_write_by, NamesFrames, IsOwnPage, IsLaidOut, HasLengths, CanLend, IsHeld, AreWhole, WrotePage, WroteRun};
 
 use crate::machine::Machine;
@@ -19,6 +20,9 @@ use flat_state::{PAGE, Spot, locate};
 use table_steps::kernel_tables::{Named, Spaces};
 use table_steps::space_map::SpaceMap;
 use vm_facts::{ByteRead, MayWrite, Memory, Page};
+
+/// A page has so many longwords.
+const LONGWORDS: usize = 256;
 
 /// Where a space stands among all, and what its addresses name: the lengths of its segments are in bytes.
 #[derive(Clone, Copy, Drop)]
@@ -145,6 +149,28 @@ impl Machine {
             return self.tables.core.put_bytes(frame, at, bytes);
         }
         self.tables.write_bytes(index, page, frame, at, bytes);
+    }
+
+    // Longwords are written downwards in a valid page of data or stack, at least one, the last of them at a place. The page's space
+    // stands at `index`.
+    fn write_down(&mut self, index: usize, page: Page, frame: u32, at: u32, longwords: &[u32])
+        requires running { self.old.kernel.stopped ≡ false }
+        requires own { IsOwnPage self.old.kernel.place index page }
+        requires writable { IsWritable page }
+        requires valid { state_of self.old.kernel.place page ≡ Valid frame }
+        requires some { 0 < length longwords.now }
+        requires within { at + 4 * length longwords.now ≤ 1024 }
+        ensures { WroteDown self.old self.new page at longwords.now }
+    {
+        let [longword, rest @ ..] = longwords else {
+            unreachable!()
+        };
+        let place = at + 4 * rest.len() as u32;
+        self.write_bytes(index, page, frame, place, &longword.to_le_bytes());
+        if rest.is_empty() {
+            return;
+        }
+        self.write_down(index, page, frame, at, rest);
     }
 
     // How the space of a process is laid out.
@@ -338,6 +364,29 @@ impl SpaceMemory<'_> {
             .write_bytes(self.layout.index, page, frame, at, bytes);
         true
     }
+
+    // Longwords are written downwards in a page, by its frame, the last of them at a place, where they end within the page; the
+    // answer is whether they were.
+    fn put_page_down(&mut self, page: Page, frame: Option<u32>, at: u32, longwords: &[u32]) -> bool
+        requires own { IsOwnPage self.old.machine.now.kernel.place self.old.layout.index page }
+        requires writable { IsWritable page }
+        requires frame { frame ≡ valid_frame (state_of self.old.machine.now.kernel.place page) }
+        requires within { at < 1024 }
+        ensures same_reference { self.new.machine.ghost_name ≡ self.old.machine.ghost_name }
+        ensures layout { self.new.layout ≡ self.old.layout }
+        ensures done { result ≡ true → WroteDown self.old.machine.now self.new.machine.now page at longwords.now }
+        ensures left { result ≡ false → self.new ≡ self.old }
+    {
+        let Some(frame) = frame else {
+            return false;
+        };
+        if longwords.is_empty() || longwords.len() > ((PAGE - at) / 4) as usize {
+            return false;
+        }
+        self.machine
+            .write_down(self.layout.index, page, frame, at, longwords);
+        true
+    }
 }
 
 impl Memory for SpaceMemory<'_> {
@@ -408,6 +457,24 @@ impl Memory for SpaceMemory<'_> {
             Spot::Stack(at) => {
                 let frame = self.stack_frame(at);
                 self.put_page(self.stack_page(at), frame, at % PAGE, bytes)
+            }
+            Spot::Text(_) | Spot::Below | Spot::Outside => false,
+        }
+    }
+
+    fn put_down(&mut self, address: u32, longwords: &[u32]) -> bool {
+        if longwords.len() > LONGWORDS {
+            return false;
+        }
+        let low = address.wrapping_sub(4 * longwords.len() as u32);
+        match self.spot(low) {
+            Spot::Data(at) => {
+                let frame = self.data_frame(at);
+                self.put_page_down(self.data_page(at), frame, at % PAGE, longwords)
+            }
+            Spot::Stack(at) => {
+                let frame = self.stack_frame(at);
+                self.put_page_down(self.stack_page(at), frame, at % PAGE, longwords)
             }
             Spot::Text(_) | Spot::Below | Spot::Outside => false,
         }

@@ -90,6 +90,13 @@ tests_from memory (suc size) i count address value may within =
     ∙ ap (λ (a : ℕ). run memory (write_tests (bytes_at size a (value / 256)))) next
     ∙ tests_from memory size (suc i) count address (value / 256) may (omega (arith, within))
 
+-- a number may be written, where so many bytes from its address on may
+pub tests_at : (memory : Answers) (size address value : ℕ) → address < 2 ^ 32 → MayAhead memory address size
+    → run memory (write_tests (bytes_at size address value)) ≡ Ok tt
+tests_at memory size address value small may =
+    ap (λ (a : ℕ). run memory (write_tests (bytes_at size a value))) (sym (past-none address small))
+    ∙ tests_from memory size 0 size address value may (omega arith)
+
 past-back : (address from : ℕ) → address < 2 ^ 32 → from < 2 ^ 32 → past from (back address from) ≡ address
 past-back address from small low = grind arith
 

@@ -2,3 +2,4 @@ pub mod Writing
 pub mod Fetching
 pub mod Ahead
 pub mod Together
+pub mod Downwards

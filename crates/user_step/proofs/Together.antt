@@ -1,14 +1,12 @@
 -- The bytes of a number, as the code has them.
-use Rattle.std.proofs.Common.{◌≡◌, ◌∙◌, ℕ, zero, suc, ◌+◌, ◌%◌, ◌/◌, ◌^◌, ◌<◌, inl, inr, List, [], ◌∷◌, ◌++◌, get_or, length, take, refl, ap, sym, subst, arith}
+use Rattle.std.proofs.Common.{◌≡◌, ℕ, ◌+◌, ◌%◌, ◌/◌, inl, inr, List, [], ◌∷◌, ◌++◌, get_or, length, take, refl, arith}
 use Rattle.byteorder.specs.Endian.{little_bytes}
-use Rattle.vm_facts.specs.Ahead.{MayAhead}
-use Rattle.vm_facts.specs.Answers.{Answers, writes_from}
+use Rattle.vm_facts.specs.Answers.{writes_from}
 use Rattle.vm_facts.specs.declared.memory.MayWrite.TheVariants as tests
 use Rattle.user_vax.specs.Operands.{past}
 use Rattle.user_vax.specs.Effects.{bytes_at}
-use Rattle.user_vax.specs.Instruction.{MayAll}
 use Rattle.vax_execute.specs.Outcomes.{IsSize}
-use Rattle.user_vax.proofs.Numbers.{past-past, past-none}
+use Rattle.user_vax.proofs.Numbers.{past-past}
 
 -- ---- one after another
 
@@ -45,19 +43,3 @@ pub length_number : (size value : ℕ) (bytes : List ℕ) → IsSize size → by
 length_number size value bytes (inl one) is = rw (one, is) refl
 length_number size value bytes (inr (inl two)) is = rw (two, is) refl
 length_number size value bytes (inr (inr four)) is = rw (four, is) refl
-
-may_from : (memory : Answers) (size i address value : ℕ) → MayAll memory (bytes_at size (past address i) value) → (j : ℕ) → j < size
-    → memory.may_write (past address (i + j)) ≡ tests.May
-unfolding bytes_at
-may_from memory zero i address value all j below = absurd (omega (arith, below))
-may_from memory (suc size) i address value all zero below = ap (λ (k : ℕ). memory.may_write (past address k)) (let e : i + 0 ≡ i = omega arith in e) ∙ all.0
-may_from memory (suc size) i address value all (suc j) below =
-    let next : past (past address i) 1 ≡ past address (suc i) = past-past address i ∙ ap (past address) (let e : i + 1 ≡ suc i = omega arith in e) in
-    ap (λ (k : ℕ). memory.may_write (past address k)) (let e : i + suc j ≡ suc i + j = omega arith in e)
-    ∙ may_from memory size (suc i) address (value / 256) (subst (λ (a : ℕ). MayAll memory (bytes_at size a (value / 256))) next all.1) j (omega (arith, below))
-
--- they lie together
-pub may_ahead : (memory : Answers) (size address value : ℕ) → address < 2 ^ 32 → MayAll memory (bytes_at size address value) → MayAhead memory address size
-may_ahead memory size address value small all j below =
-    ap (λ (k : ℕ). memory.may_write (past address k)) (let e : j ≡ 0 + j = omega arith in e)
-    ∙ may_from memory size 0 address value (subst (λ (a : ℕ). MayAll memory (bytes_at size a value)) (sym (past-none address small)) all) j below

@@ -1,12 +1,12 @@
 -- What a try of an instruction came to.
-use Rattle.std.specs.Prelude.{◌≡◌, ℤ, Option, Some, None, Result, Ok, Err}
-use Rattle.vm_facts.specs.Answers.{Answers}
+use Rattle.std.specs.Prelude.{◌≡◌, ℕ, ℤ, List, ◌++◌, drop, slice_index, Option, Some, None, Result, Ok, Err}
+use Rattle.vm_facts.specs.Answers.{Answers, ByteWrite, writes_down}
 use Rattle.vm_facts.specs.declared.regs.Regs.{Regs}
 use Rattle.vax_code.specs.declared.instr.Instr.{Instr}
 use Rattle.user_vax.specs.declared.refused.Refused.{Refused}
 use Rattle.user_vax.specs.declared.stepped.Stepped.{Stepped}
 use Rattle.user_vax.specs.declared.stepped.Stepped.TheVariants as answers
-use Rattle.user_vax.specs.Effects.{Effect}
+use Rattle.user_vax.specs.Effects.{Effect, bytes_at}
 use Rattle.user_vax.specs.Computation.{computation}
 use Rattle.user_vax.specs.Program.{Program, ◌>>=◌, run}
 use Rattle.user_vax.specs.Instruction.{MayAll, tested_effect, answer_of, answer_of_call, registers_after}
@@ -25,6 +25,10 @@ pub record IsReady (memory : Answers) (write : Write) : Type 0 where
 abbrev pub IsOneReady : Answers → Option Write → Type 0
 IsOneReady memory None = Unit {0}
 IsOneReady memory (Some write) = IsReady memory write
+
+-- a longword at an address, and those that lie just below it
+abbrev pub writes_below : ℕ → List ℕ → List ByteWrite
+writes_below address longwords = bytes_at 4 address (slice_index longwords 0) ++ writes_down address (drop 1 longwords)
 
 -- ---- An instruction whose operands are evaluated.
 

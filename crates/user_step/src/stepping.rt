@@ -12,7 +12,7 @@ ghost use Rattle.vax_execute.specs.Plain.{is_plain};
 ghost use Rattle.user_step.specs.Tried.{LeavesInstr, Prepares, CarriesOut, completion, registers_tried};
 
 use crate::code::{Code, decode_first};
-use crate::commit::{put_all, put_one, test_all, test_one};
+use crate::commit::{write_one, write_pushes};
 use crate::decode_cache::{DecodeCache, Decoding};
 use user_vax::{Refused, SIGILL, Stepped, read_byte};
 use vax_code::{Fault, Instr, Row, decode_into, row_of};
@@ -111,8 +111,7 @@ fn complete<M: Memory>(
 {
     let mut outcome = Outcome::none();
     compute(memory, regs, &mut outcome, ready)?;
-    test_one(memory, outcome.write)?;
-    put_one(memory, outcome.write);
+    write_one(memory, outcome.write)?;
     Ok(outcome.call)
 }
 
@@ -129,8 +128,7 @@ fn complete_call<M: Memory>(
 {
     let mut pushes = Pushes::none();
     call(memory, &mut pushes, regs, ready)?;
-    test_all(memory, regs.r[14], pushes.written())?;
-    put_all(memory, pushes.written());
+    write_pushes(memory, regs.r[14], &pushes)?;
     Ok(None)
 }
 
@@ -149,8 +147,7 @@ fn complete_plain<M: Memory>(
 {
     let mut outcome = Outcome::none();
     compute_plain(regs, &mut outcome, ready);
-    test_one(memory, outcome.write)?;
-    put_one(memory, outcome.write);
+    write_one(memory, outcome.write)?;
     Ok(outcome.call)
 }
 

@@ -1,7 +1,6 @@
 -- What operands and a computation come to, and the effect that it stands for.
-use Rattle.std.specs.Prelude.{◌≡◌, ℕ, ◌≤◌, ◌⊎◌, Bool, true, false, List, [], take, Option, Some, None, Result, Ok, Err}
-use Rattle.std.specs.List.{All, flat_map}
-use Rattle.vm_facts.specs.Answers.{ByteWrite}
+use Rattle.std.specs.Prelude.{◌≡◌, ℕ, ◌≤◌, ◌⊎◌, Bool, true, false, List, [], ◌∷◌, ◌++◌, take, drop, slice_index, Option, Some, None, Result, Ok, Err}
+use Rattle.vm_facts.specs.Answers.{ByteWrite, longword_below, writes_down}
 use Rattle.vm_facts.specs.declared.regs.Regs.{Regs}
 use Rattle.vax_code.specs.declared.table.Name.{Name}
 use Rattle.vax_code.specs.declared.table.Name.TheVariants as names
@@ -11,7 +10,7 @@ use Rattle.vax_execute.specs.declared.ready.Ready.{Ready}
 use Rattle.vax_execute.specs.declared.outcome.Write.{Write}
 use Rattle.vax_execute.specs.declared.outcome.Outcome.{Outcome}
 use Rattle.vax_execute.specs.declared.pushes.Pushes.{Pushes}
-use Rattle.user_vax.specs.Operands.{IsPlace}
+use Rattle.user_vax.specs.Operands.{IsPlace, register}
 use Rattle.user_vax.specs.Effects.{Effect, bytes_at}
 
 -- ---- Numbers that go to memory.
@@ -23,10 +22,6 @@ IsSize size = (size ≡ 1) ⊎ (size ≡ 2) ⊎ (size ≡ 4)
 -- the bytes of a number, in the order of writing
 abbrev pub bytes_of : Write → List ByteWrite
 bytes_of write = bytes_at write.size write.address write.value
-
--- the bytes of some numbers, in the order of writing
-abbrev pub all_bytes : List Write → List ByteWrite
-all_bytes writes = flat_map bytes_of writes
 
 -- ---- The outcome of an instruction that calls no procedure.
 
@@ -55,18 +50,40 @@ pub record IsFresh (outcome : Outcome) : Type 0 where
 
 -- ---- What a procedure call pushes.
 
--- the numbers that it writes
-abbrev pub writes_in : Pushes → List Write
-writes_in pushes = take pushes.count pushes.writes
+-- the bytes of the count of arguments at its address, where it is pushed
+abbrev pub counted_bytes : Option ℕ → ℕ → List ByteWrite
+counted_bytes None count = []
+counted_bytes (Some address) count = bytes_at 4 address count
 
--- at most 18 numbers, of 1, 2 or 4 bytes
-pub record ArePushes (pushes : Pushes) : Type 0 where
-  pub few : pushes.count ≤ 18
-  pub sizes : All (λ write. IsSize write.size) (writes_in pushes)
+-- the longwords of the frame, in order
+abbrev pub frame_in : Pushes → List ℕ
+frame_in pushes = take pushes.frame_length (drop 1 pushes.longwords)
+
+-- the bytes that are pushed: the count of arguments, where it is pushed, and then the frame
+abbrev pub pushed_bytes : Pushes → List ByteWrite
+pushed_bytes pushes = counted_bytes pushes.counted_at (slice_index pushes.longwords 0) ++ writes_down pushes.top (frame_in pushes)
+
+-- the address of the last of some longwords, of which the first lies just below an address; the address itself where there are none
+abbrev pub lowest : ℕ → List ℕ → ℕ
+lowest address [] = address
+lowest address (longword ∷ longwords) = lowest (longword_below address) longwords
+
+-- nothing is pushed yet
+pub record IsUnpushed (pushes : Pushes) : Type 0 where
+  pub uncounted : pushes.counted_at ≡ None
+  pub unframed : pushes.frame_length ≡ 0
+
+-- the frame has at most 17 longwords
+abbrev pub ArePushes : Pushes → Type 0
+ArePushes pushes = pushes.frame_length ≤ 17
+
+-- SP stands at the last longword of the frame
+abbrev pub IsAtFrame : Regs → Pushes → Type 0
+IsAtFrame regs pushes = register regs 14 ≡ lowest pushes.top (frame_in pushes)
 
 -- the effect so far: the registers, and all that was pushed
 abbrev pub pushing : Regs → Pushes → Effect
-pushing regs pushes = record { regs = regs; writes = all_bytes (writes_in pushes); call = None }
+pushing regs pushes = record { regs = regs; writes = pushed_bytes pushes; call = None }
 
 -- ---- An instruction whose operands are evaluated.
 

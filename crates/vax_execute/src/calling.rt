@@ -2,7 +2,7 @@ ghost use Rattle.std.specs.Prelude.{◌≡◌, ◌<◌, ◌≤◌, ◌+◌, ◌+
 ghost use Rattle.user_vax.specs.Program.{run};
 ghost use Rattle.user_vax.specs.Computation.{computation};
 ghost use Rattle.user_vax.specs.Frames.{push_all, saved, state_longword, with_frame, procedure_entry, procedure_call};
-ghost use Rattle.vax_execute.specs.Outcomes.{ArePushes, CallsTo, calls_procedure, pushing};
+ghost use Rattle.vax_execute.specs.Outcomes.{ArePushes, CallsTo, IsAtFrame, IsUnpushed, calls_procedure, pushing};
 
 use crate::pushes::Pushes;
 use crate::ready::Ready;
@@ -10,15 +10,15 @@ use user_vax::{Refused, SIGILL, read_word};
 use vax_code::Name;
 use vm_facts::{Memory, Regs};
 
-/// Pushes a longword where the test holds.
+/// Pushes a longword of the frame where the test holds.
 #[tactic(auto, unfolding(user_vax::specs::Frames::push_all))]
 fn push_if(pushes: &mut Pushes, regs: &mut Regs, test: bool, value: u32)
-    requires room { pushes.old.count < 18 }
-    requires sound { ArePushes pushes.old }
+    requires room { pushes.old.frame_length < 17 }
+    requires place { IsAtFrame regs.old pushes.old }
     ensures pushed { (values : List ℕ)
         → push_all (pushing regs.new pushes.new) values ≡ push_all (pushing regs.old pushes.old) (if test then value ∷ values else values) }
-    ensures sound { ArePushes pushes.new }
-    ensures count { pushes.new.count ≤ pushes.old.count + 1 }
+    ensures place { IsAtFrame regs.new pushes.new }
+    ensures longer { pushes.new.frame_length ≤ pushes.old.frame_length + 1 }
 {
     if test {
         pushes.push(regs, value);
@@ -28,12 +28,12 @@ fn push_if(pushes: &mut Pushes, regs: &mut Regs, test: bool, value: u32)
 /// Pushes the registers that a mask names, R11 first.
 #[tactic(auto, using(crate::proofs::Saving::saved_more), unfolding(user_vax::specs::Frames::saved))]
 fn save(pushes: &mut Pushes, regs: &mut Regs, registers: &[u32; 16], mask: u32)
-    requires room { pushes.old.count ≤ 1 }
-    requires sound { ArePushes pushes.old }
+    requires unframed { pushes.old.frame_length ≡ 0 }
+    requires place { IsAtFrame regs.old pushes.old }
     ensures pushed { (values : List ℕ)
         → push_all (pushing regs.new pushes.new) values ≡ push_all (pushing regs.old pushes.old) (saved 12 registers.now mask ++ values) }
-    ensures sound { ArePushes pushes.new }
-    ensures count { pushes.new.count ≤ pushes.old.count + 12 }
+    ensures place { IsAtFrame regs.new pushes.new }
+    ensures few { pushes.new.frame_length ≤ 12 }
 {
     for done in 0..12u32 {
         let k = 11 - done;
@@ -54,14 +54,13 @@ fn state_longword(low: u32, counted: bool, mask: u32) -> u32
 /// Pushes the frame of a procedure.
 #[tactic(auto, unfolding(user_vax::specs::Frames::with_frame, user_vax::specs::Frames::push_all))]
 fn push_frame(pushes: &mut Pushes, regs: &mut Regs, counted: bool, mask: u32)
-    requires room { pushes.old.count ≤ 1 }
-    requires sound { ArePushes pushes.old }
+    requires unframed { pushes.old.frame_length ≡ 0 }
     requires mask { mask < 2 ^ 12 }
     ensures effect { pushing regs.new pushes.new ≡ with_frame (pushing regs.old pushes.old) counted mask }
     ensures sound { ArePushes pushes.new }
 {
     let r = regs.r;
-    regs.r[14] = r[14] / 4 * 4;
+    pushes.begin_frame(regs);
     save(pushes, regs, &r, mask);
     pushes.push(regs, r[15]);
     pushes.push(regs, r[13]);
@@ -93,8 +92,7 @@ fn call_procedure<M: Memory>(
     ap: u32,
     target: u32,
 ) -> Result<(), Refused>
-    requires room { pushes.old.count ≤ 1 }
-    requires sound { ArePushes pushes.old }
+    requires unframed { pushes.old.frame_length ≡ 0 }
     ensures value { CallsTo result regs.new pushes.new (run (M.answers memory.now) (procedure_call (pushing regs.old pushes.old) counted ap target)) }
     ensures sound { OnOk result (ArePushes pushes.new) }
 {
@@ -116,15 +114,14 @@ pub fn call<M: Memory>(
     ready: &Ready,
 ) -> Result<(), Refused>
     requires calls { calls_procedure ready.now.name ≡ true }
-    requires none { pushes.old.count ≡ 0 }
-    requires sound { ArePushes pushes.old }
+    requires none { IsUnpushed pushes.old }
     ensures value { CallsTo result regs.new pushes.new (run (M.answers memory.now) (computation ready.now.name regs.old ready.now.a ready.now.b ready.now.c)) }
     ensures sound { OnOk result (ArePushes pushes.new) }
 {
     match ready.name {
         Name::Callg => call_procedure(memory, pushes, regs, false, ready.a.value, ready.b.value),
         Name::Calls => {
-            pushes.push(regs, ready.a.value);
+            pushes.push_count(regs, ready.a.value);
             let ap = regs.r[14];
             call_procedure(memory, pushes, regs, true, ap, ready.b.value)
         }

@@ -1,3 +1,4 @@
 pub mod Lists
 pub mod Swap
 pub mod Tests
+pub mod Below

@@ -1,5 +1,5 @@
 -- Bytes that lie together in a memory.
-use Rattle.std.specs.Prelude.{◌≡◌, ℕ, ◌+◌, ◌%◌, ◌^◌, ◌<◌, List, length, slice_index}
+use Rattle.std.specs.Prelude.{◌≡◌, ℕ, ◌+◌, ◌-◌, ◌%◌, ◌^◌, ◌<◌, List, length, slice_index}
 use Rattle.vm_facts.specs.Answers.{Answers}
 use Rattle.vm_facts.specs.declared.memory.ByteRead.TheVariants.{Is}
 use Rattle.vm_facts.specs.declared.memory.MayWrite.TheVariants.{May}
@@ -12,3 +12,7 @@ AreAhead memory address bytes =
 -- so many bytes from the address on may be written
 abbrev pub MayAhead : Answers → ℕ → ℕ → Type 0
 MayAhead memory address count = (i : ℕ) → i < count → memory.may_write ((address + i) % 2 ^ 32) ≡ May
+
+-- so many bytes just below the address may be written
+abbrev pub MayBelow : Answers → ℕ → ℕ → Type 0
+MayBelow memory address count = (i : ℕ) → i < count → memory.may_write ((address + (2 ^ 32 - (i + 1))) % 2 ^ 32) ≡ May

@@ -1,5 +1,6 @@
 -- What a memory answers for each address, and what it answers after bytes were written.
-use Rattle.std.specs.Prelude.{ℕ, ◌+◌, ◌%◌, ◌^◌, Bool, true, false, ◌==◌, List, [], ◌∷◌}
+use Rattle.std.specs.Prelude.{ℕ, ◌+◌, ◌-◌, ◌%◌, ◌^◌, Bool, true, false, ◌==◌, List, [], ◌∷◌, ◌++◌}
+use Rattle.std.specs.Int.{w32, to_le_bytes}
 use Rattle.vm_facts.specs.declared.memory.ByteRead.{ByteRead}
 use Rattle.vm_facts.specs.declared.memory.ByteRead.TheVariants.{Is}
 use Rattle.vm_facts.specs.declared.memory.MayWrite.{MayWrite}
@@ -18,6 +19,16 @@ pub record ByteWrite : Type 0 where
 abbrev pub writes_from : ℕ → List ℕ → List ByteWrite
 writes_from address [] = []
 writes_from address (byte ∷ bytes) = record { address = address; byte = byte } ∷ writes_from ((address + 1) % 2 ^ 32) bytes
+
+-- the address of the longword just below another address
+abbrev pub longword_below : ℕ → ℕ
+longword_below address = (address + (2 ^ 32 - 4)) % 2 ^ 32
+
+-- these longwords, the first just below an address and each further one just below the one before
+abbrev pub writes_down : ℕ → List ℕ → List ByteWrite
+writes_down address [] = []
+writes_down address (longword ∷ longwords) =
+    writes_from (longword_below address) (to_le_bytes w32 longword) ++ writes_down (longword_below address) longwords
 
 -- what is read at an address after a write: the byte there, and elsewhere what it was
 abbrev pub read_by : Bool → ℕ → ByteRead → ByteRead

@@ -1,6 +1,6 @@
-ghost use Rattle.std.specs.Prelude.{◌≡◌, ℕ, true, false, List, [], ◌∷◌, ◌++◌, length};
-ghost use Rattle.vm_facts.specs.Ahead.{AreAhead, MayAhead};
-ghost use Rattle.vm_facts.specs.Answers.{Answers, ByteWrite, written, writes_from};
+ghost use Rattle.std.specs.Prelude.{◌≡◌, ℕ, ◌*◌, true, false, List, [], ◌∷◌, ◌++◌, length};
+ghost use Rattle.vm_facts.specs.Ahead.{AreAhead, MayAhead, MayBelow};
+ghost use Rattle.vm_facts.specs.Answers.{Answers, ByteWrite, written, writes_from, writes_down};
 
 /// What a read of one byte answers.
 #[derive(Clone, Copy, Debug, PartialEq, Eq, Drop)]
@@ -67,11 +67,21 @@ pub trait Memory {
         0
     }
 
-    /// Writes bytes that lie together from an address on, each of which may be written, where the memory does so at
-    /// once. The answer is whether it did: where it didn't, nothing changed, and each byte is to be written by itself.
+    /// Writes bytes that lie together from an address on, where the memory does so at once. The answer is whether it did:
+    /// where it didn't, each byte is to be tested and written by itself.
     fn put(&mut self, address: u32, bytes: &[u8]) -> bool
-        requires { MayAhead (answers self.old) address (length bytes.now) }
+        ensures may { result ≡ true → MayAhead (answers self.old) address (length bytes.now) }
         ensures done { result ≡ true → wrote self.old (writes_from address bytes.now) self.new }
+        ensures left { result ≡ false → self.new ≡ self.old }
+    {
+        false
+    }
+
+    /// Writes longwords downwards from an address, where the memory does so at once. The answer is whether it did: where it
+    /// didn't, each longword is to be tested and written by itself.
+    fn put_down(&mut self, address: u32, longwords: &[u32]) -> bool
+        ensures may { result ≡ true → MayBelow (answers self.old) address (4 * length longwords.now) }
+        ensures done { result ≡ true → wrote self.old (writes_down address longwords.now) self.new }
         ensures left { result ≡ false → self.new ≡ self.old }
     {
         false

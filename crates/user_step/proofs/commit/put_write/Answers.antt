@@ -1,18 +1,10 @@
-use Rattle.std.proofs.Common.{◌<◌, ◌^◌, List, refl, subst, arith}
-use Rattle.vm_facts.specs.Answers.{ByteWrite}
-use Rattle.user_step.proofs.Together.{writes_from_number, length_number, may_ahead}
+use Rattle.std.proofs.Common.{◌∙◌, refl, ap}
+use Rattle.vm_facts.specs.Answers.{Answers}
+use Rattle.vax_execute.specs.Outcomes.{bytes_of}
+use Rattle.user_step.proofs.Writing.{written_tests}
 use Rattle.user_step.proofs.commit.put_write.Goals as goal
 
-pub put-requires : goal.put-requires
-put-requires g c i below =
-    let w = c.args.write in
-    let count = length_number w.size w.value c.write_u32.new.buf c.requires.size c.write_u32.ensures in
-    let small : w.address < 2 ^ 32 = omega arith in
-    may_ahead (g.M.Memory.answers c.args.memory.now) w.size w.address w.value small c.requires.may i (omega (arith, below, count))
-
-pub returns-else-not-put-clause-wrote : goal.returns-else-not-put-clause-wrote
-returns-else-not-put-clause-wrote g c =
-    let w = c.args.write in
-    subst (λ (writes : List ByteWrite). g.M.Memory.wrote c.args.memory.now writes c.put.new.self)
-    (writes_from_number w.size w.address w.value c.write_u32.new.buf c.requires.size c.write_u32.ensures)
-    (c.if-not-put.ensures.done refl)
+pub returns-else-not-put_number-clause-tests : goal.returns-else-not-put_number-clause-tests
+returns-else-not-put_number-clause-tests g c =
+    ap (λ (memory : Answers). memory.may_write) (g.met.M.Memory.wrote_answers _ _ _ (c.if-not-put_number.ensures.done refl))
+    ∙ written_tests (g.M.Memory.answers c.args.memory.now) (bytes_of c.args.write)

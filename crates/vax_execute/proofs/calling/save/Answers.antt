@@ -15,6 +15,6 @@ loop-done-preserved c =
           (sym (cond_append (bit c.args.mask (11 - c.loop-done.done)) (get_or c.args.registers.now (11 - c.loop-done.done) 0) rest values)
           ∙ ap (λ (l : List ℕ). l ++ values) (sym (saved_more c.loop-done.done c.args.registers.now c.args.mask below)))
           ∙ c.loop-done.invariant.pushed values;
-      sound = c.push_if.ensures.sound;
-      count = omega arith;
+      place = c.push_if.ensures.place;
+      few = omega arith;
     }
