@@ -1,32 +1,14 @@
 -- The pages of a segment, by the space that stands at their home.
-use Rattle.std.proofs.Common.{◌≡◌, ℕ, ◌==◌, Bool, true, false, List, [], Option, Some, None, IfSome, IfNone, get_or, slice_get, if◌then◌else◌, refl, sym, ap, ◌∙◌, subst}
+use Rattle.std.proofs.Common.{◌≡◌, ℕ, List, Option, Some, None, IfSome, IfNone, get_or, slice_get, refl, sym, ◌∙◌, subst}
 use Rattle.vm_facts.specs.declared.page.Page.{Page}
 use Rattle.vm_facts.specs.declared.page.Page.TheVariants.{Data, Stack, Text}
-use Rattle.vax_pte.specs.declared.Place.{Place}
 use Rattle.flat_state.specs.Numbers.{IsAbsent}
 use Rattle.flat_state.specs.PageNames.{beside}
-use Rattle.space_map.specs.Space.{Places, place_in, segment_in}
+use Rattle.space_map.specs.Space.{Places, segment_in}
+use Rattle.table_view.proofs.Segments.{beside_place}
 use Rattle.kernel_tables.specs.Rising.{sids_of, AreRising, StandsAt, IsHome, space_named}
 use Rattle.kernel_tables.specs.Shown.{entry_in}
 use Rattle.kernel_tables.proofs.Rising.{of_space, found_entry, found_here}
-
--- the place of another page of the segment
-beside_place : (s : Places) (q : Page) (v : ℕ) → place_in s (beside q v) ≡ slice_get (segment_in s q) v
-beside_place s (Data sid w) v = go (sid == s.sid)
-  where
-    go : (b : Bool) → (if b then slice_get s.data v else None) ≡ slice_get (if b then s.data else []) v
-    go true = refl
-    go false = refl
-beside_place s (Stack sid w) v = go (sid == s.sid)
-  where
-    go : (b : Bool) → (if b then slice_get s.stack v else None) ≡ slice_get (if b then s.stack else []) v
-    go true = refl
-    go false = refl
-beside_place s (Text image w) v = go (image == s.image)
-  where
-    go : (b : Bool) → (if b then slice_get s.text v else None) ≡ slice_get (if b then s.text else []) v
-    go true = refl
-    go false = refl
 
 beside_named : (q : Page) (v : ℕ) → space_named (beside q v) ≡ space_named q
 beside_named (Data sid w) v = refl

@@ -1,14 +1,15 @@
 //! The page table of one segment, an entry a page.
 ghost use Rattle.std.specs.Prelude.{◌≡◌, ◌<◌, ◌≤◌, ◌^◌, ◌-◌, ◌++◌, [], length, map, take, replicate, slice_get, slice_set, IfOk, IsOk, OnOk, OnErr};
 ghost use Rattle.aout_image.specs.Image.{IsSound};
-ghost use Rattle.vax_pte.specs.Words.{IsInRange, was_filled, place_named};
+ghost use Rattle.vax_pte.specs.Words.{IsInRange, place_named};
 ghost use Rattle.vax_pte.specs.declared.Place.TheVariants.{Zero};
 ghost use Rattle.space_map.specs.Space.{first_place, first_places, entry_frame, IsNextOfKind};
+ghost use Rattle.space_map.specs.Tables.{is_sought};
 
 use aout_image::Image;
 use std::alloc::Global;
 use std::marker::Model;
-use vax_pte::{Place, Pte, pack, place_named, valid_frame, was_filled};
+use vax_pte::{Place, Pte, is_in_frame, pack, place_named, valid_frame, was_filled};
 use vm_facts::NoMemory;
 
 /// The entries of a segment's pages, packed. Contracts see the places.
@@ -48,13 +49,32 @@ fn first_place(facts: &Image, text: bool, v: u32) -> Place
     }
 }
 
-// The first of the pages with these words, from a number on up to another, that was filled.
-fn first_filled(words: &[u32], from: u32, to: u32) -> Option<u32>
+/// Which pages are sought.
+#[derive(Clone, Copy, Drop)]
+pub(crate) enum Sought {
+    /// Those that were filled.
+    Filled,
+    /// Those that are in a frame.
+    InFrame,
+}
+
+// Whether the page whose entry has this word is sought.
+fn is_sought(sought: Sought, word: u32) -> bool
+    ensures { result ≡ is_sought sought (place_named word) }
+{
+    match sought {
+        Sought::Filled => was_filled(word),
+        Sought::InFrame => is_in_frame(word),
+    }
+}
+
+// The first of the pages with these words, from a number on up to another, that is sought.
+fn first_sought(words: &[u32], sought: Sought, from: u32, to: u32) -> Option<u32>
     requires { to ≤ length words.now }
-    ensures { IsNextOfKind was_filled (slice_get (map place_named words.now)) from to result }
+    ensures { IsNextOfKind (is_sought sought) (slice_get (map place_named words.now)) from to result }
 {
     for v in from..to {
-        if was_filled(words[v as usize]) {
+        if is_sought(sought, words[v as usize]) {
             return Some(v);
         }
     }
@@ -131,12 +151,12 @@ impl PageTable {
         valid_frame(word)
     }
 
-    /// The first page from a number on, up to another, that was filled.
-    pub fn next_filled(&self, from: u32, to: u32) -> Option<u32>
-        ensures { IsNextOfKind was_filled (slice_get self.now) from to result }
+    /// The first page from a number on, up to another, that is sought.
+    pub(crate) fn next_sought(&self, sought: Sought, from: u32, to: u32) -> Option<u32>
+        ensures { IsNextOfKind (is_sought sought) (slice_get self.now) from to result }
     {
         let words = self.words.as_slice();
-        first_filled(words, from, no_more(to, words.len()))
+        first_sought(words, sought, from, no_more(to, words.len()))
     }
 
     /// Puts a page in its place.

@@ -1,11 +1,12 @@
 // The map itself, over the tables of its three segments.
 ghost use Rattle.std.specs.Prelude.{◌≡◌, ◌≤◌, true, false, length, replicate, IfOk, IsOk, OnOk, OnErr, IsSome, is_some, slice_get};
 ghost use Rattle.aout_image.specs.Image.{IsSound, text_pages_of};
-ghost use Rattle.vax_pte.specs.Words.{IsInRange, was_filled};
+ghost use Rattle.vax_pte.specs.Words.{IsInRange, was_filled, is_in_frame};
 ghost use Rattle.vax_pte.specs.declared.Place.TheVariants.{Zero};
+ghost use Rattle.space_map.specs.Tables.{is_sought};
 ghost use Rattle.space_map.specs.Space.{first_places, resized, place_in, segment_in, entry_frame, IsNextOfKind, with_place};
 
-use crate::page_table::PageTable;
+use crate::page_table::{PageTable, Sought};
 use aout_image::Image;
 use std::alloc::Global;
 use std::marker::Model;
@@ -145,10 +146,27 @@ impl SpaceMap {
     pub fn next_filled(&self, page: Page, from: u32, to: u32) -> Option<u32>
         ensures { IsNextOfKind was_filled (slice_get (segment_in self.now page)) from to result }
     {
+        self.next_sought(Sought::Filled, page, from, to)
+    }
+
+    /// Of the segment that a page is of, the first page from a number on, up to another, that is in a frame. None where none
+    /// is, or where the page isn't of this space.
+    pub fn next_in_frame(&self, page: Page, from: u32, to: u32) -> Option<u32>
+        ensures { IsNextOfKind is_in_frame (slice_get (segment_in self.now page)) from to result }
+    {
+        self.next_sought(Sought::InFrame, page, from, to)
+    }
+
+    // Of the segment that a page is of, the first page from a number on, up to another, that is sought.
+    fn next_sought(&self, sought: Sought, page: Page, from: u32, to: u32) -> Option<u32>
+        ensures { IsNextOfKind (is_sought sought) (slice_get (segment_in self.now page)) from to result }
+    {
         match page {
-            Page::Data { sid, .. } if sid == self.sid => self.data.next_filled(from, to),
-            Page::Stack { sid, .. } if sid == self.sid => self.stack.next_filled(from, to),
-            Page::Text { image, .. } if image == self.image => self.text.next_filled(from, to),
+            Page::Data { sid, .. } if sid == self.sid => self.data.next_sought(sought, from, to),
+            Page::Stack { sid, .. } if sid == self.sid => self.stack.next_sought(sought, from, to),
+            Page::Text { image, .. } if image == self.image => self
+                .text
+                .next_sought(sought, from, to),
             _ => None,
         }
     }

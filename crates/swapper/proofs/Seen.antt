@@ -1,17 +1,23 @@
 -- What the entries of a space tell of its pages.
-use Rattle.std.proofs.Common.{◌≡◌, ℕ, zero, suc, ◌+◌, ◌-◌, ◌<◌, Bool, true, false, cond, List, [], ◌∷◌, ◌++◌, length, Option, Some, None, IsSome, slice_get, refl, sym, ap, ap₂, ◌∙◌, subst, arith}
+use Rattle.std.proofs.Common.{◌≡◌, ℕ, zero, suc, ◌+◌, ◌-◌, ◌<◌, ◌≤◌, Bool, true, false, cond, List, [], ◌∷◌, ◌++◌, length, Option, Some, None, IsSome, slice_get, refl, sym, ap, ap₂, ◌∙◌, subst, inl, inr, arith}
+use Rattle.std.proofs.lemmas.Bool.{cases_lt}
+use Rattle.std.proofs.lemmas.List.{get_or_past}
 use Rattle.vm_facts.specs.declared.page.Page.{Page}
 use Rattle.vm_facts.specs.declared.page.Page.TheVariants.{Data, Stack}
 use Rattle.vax_pte.specs.declared.Place.{Place}
+use Rattle.vax_pte.specs.declared.Place.TheVariants as places
+use Rattle.vax_pte.specs.Words.{is_in_frame}
 use Rattle.core_map.specs.declared.slot.Slot.{Slot}
 use Rattle.core_map.specs.Frames.{Frames}
-use Rattle.flat_state.specs.PageNames.{beside, pages_from}
-use Rattle.space_map.specs.Space.{Places, place_in}
-use Rattle.page_model.specs.Placement.{Placement, IsThere}
-use Rattle.page_model.specs.Runs.{is_seated}
+use Rattle.flat_state.specs.PageNames.{number_of, beside, pages_from}
+use Rattle.space_map.specs.Space.{Places, place_in, segment_in, is_of_kind}
+use Rattle.page_model.specs.Pages.{Slot as PageSlot, no_slot}
+use Rattle.page_model.specs.Placement.{Placement, IsThere, slots_of}
+use Rattle.page_model.specs.Runs.{is_seated, is_seated_by}
 use Rattle.page_model.specs.Swapper.{first_seated, seated_count}
 use Rattle.page_model.specs.Place.{data_from, stack_from, data_count, stack_count, pages_of_space}
 use Rattle.vm_facts.proofs.Tests.{eq_self}
+use Rattle.table_view.proofs.Segments.{beside_place}
 use Rattle.table_view.specs.Views.{IsNamedBy, ShowsPage, ShowsSpace}
 
 -- Whether a frame off the free list has the page, by the slot of its frame.
@@ -53,6 +59,56 @@ count_found p q v n c b l e f =
     ap (λ (k : ℕ). seated_count p (pages_from q v k)) m
     ∙ ap (λ (d : Bool). cond d 1 0 + seated_count p (pages_from q (v + 1) (n - (v + 1)))) (sym e ∙ f) in
     omega arith
+
+-- Pages that are in no frame are passed over.
+
+unframed : (p : Placement) (slots : List Slot) (q : Page) (o : Option Place) → ShowsPage p slots q o → is_of_kind is_in_frame o ≡ false
+    → is_seated p q ≡ false
+unframed p slots q None x e = elim (cases_lt (number_of q) (length (slots_of p q))) [
+  | inl there ↦ absurd (x there)
+  | inr past ↦ ap (λ (s : PageSlot). is_seated_by p s.state) (get_or_past (slots_of p q) (number_of q) no_slot past)
+]
+unframed p slots q (Some places.Zero) x e = ap (is_seated_by p) x.1
+unframed p slots q (Some (places.Image v)) x e = ap (is_seated_by p) x.1
+unframed p slots q (Some places.Swap) x e = ap (is_seated_by p) x.1
+unframed p slots q (Some (places.Frame f valid changed)) x e = absurd cc
+
+-- of the segment's pages from one on, up to another, none is in a frame
+abbrev pub NoneFramed : Places → Page → ℕ → ℕ → Type 0
+NoneFramed s q v w = (k : ℕ) → v ≤ k → k < w → is_of_kind is_in_frame (slice_get (segment_in s q) k) ≡ false
+
+module _ (p : Placement) (core : Frames) (s : Places) (q : Page) (h : ShowsSpace p core s) (named : (v : ℕ) → IsNamedBy s (beside q v)) where
+  unseated : (v w : ℕ) → NoneFramed s q v w → (k : ℕ) → v ≤ k → k < w → is_seated p (beside q k) ≡ false
+  unseated v w none k l m =
+      unframed p core.slots (beside q k) (place_in s (beside q k)) (h.pages (beside q k) (named k)) (ap (is_of_kind is_in_frame) (beside_place s q k) ∙ none k l m)
+
+  pub first_passed : (v w n : ℕ) → v ≤ w → w ≤ n → NoneFramed s q v w → first_seated p (pages_from q v (n - v)) ≡ first_seated p (pages_from q w (n - w))
+  first_passed v w n low high none =
+      let end : v + (w - v) ≡ w = omega arith in
+      let all : v + (w - v) ≤ w = omega arith in
+      subst (λ (x : ℕ). first_seated p (pages_from q v (n - v)) ≡ first_seated p (pages_from q x (n - x))) end (go (w - v) all)
+    where
+      go : (m : ℕ) → v + m ≤ w → first_seated p (pages_from q v (n - v)) ≡ first_seated p (pages_from q (v + m) (n - (v + m)))
+      go zero l = let start : v ≡ v + zero = omega arith in ap (λ (x : ℕ). first_seated p (pages_from q x (n - x))) start
+      go (suc m) l =
+          let next : v + m + 1 ≡ v + suc m = omega arith in
+          go m (omega arith) ∙ first_passes p q (v + m) n false (omega (arith, high, l)) (sym (unseated v w none (v + m) (omega arith) (omega (arith, l)))) refl
+          ∙ ap (λ (x : ℕ). first_seated p (pages_from q x (n - x))) next
+
+  pub count_passed : (v w n : ℕ) → v ≤ w → w ≤ n → NoneFramed s q v w → seated_count p (pages_from q v (n - v)) ≡ seated_count p (pages_from q w (n - w))
+  count_passed v w n low high none =
+      let end : v + (w - v) ≡ w = omega arith in
+      let all : v + (w - v) ≤ w = omega arith in
+      subst (λ (x : ℕ). seated_count p (pages_from q v (n - v)) ≡ seated_count p (pages_from q x (n - x))) end (go (w - v) all)
+    where
+      go : (m : ℕ) → v + m ≤ w → seated_count p (pages_from q v (n - v)) ≡ seated_count p (pages_from q (v + m) (n - (v + m)))
+      go zero l = let start : v ≡ v + zero = omega arith in ap (λ (x : ℕ). seated_count p (pages_from q x (n - x))) start
+      go (suc m) l =
+          let next : v + m + 1 ≡ v + suc m = omega arith in
+          let here : 0 + seated_count p (pages_from q (v + m + 1) (n - (v + m + 1))) ≡ 0 + seated_count p (pages_from q (v + m) (n - (v + m))) =
+          count_passes p q (v + m) n 0 false (omega (arith, high, l)) (sym (unseated v w none (v + m) (omega arith) (omega (arith, l)))) refl in
+          let same : seated_count p (pages_from q (v + m) (n - (v + m))) ≡ seated_count p (pages_from q (v + m + 1) (n - (v + m + 1))) = omega (arith, here) in
+          go m (omega arith) ∙ same ∙ ap (λ (x : ℕ). seated_count p (pages_from q x (n - x))) next
 
 same_count : (a b : ℕ) → ((v : ℕ) → v < a → v < b) → ((v : ℕ) → v < b → v < a) → a ≡ b
 same_count zero zero f g = refl

@@ -77,11 +77,13 @@ fn first_in(core: &CoreMap, space: &SpaceMap, segment: Page, pages: u32) -> Opti
     ensures { (p : Placement) → ShowsSpace p core.now space.now → ((v : ℕ) → IsNamedBy space.now (beside segment v))
         → result ≡ first_seated p (pages_from segment 0 pages) }
 {
-    for v in 0..pages {
-        let page = beside(segment, v);
+    let mut v = 0;
+    while let Some(framed) = space.next_in_frame(segment, v, pages) {
+        let page = beside(segment, framed);
         if is_seated(core, space, page) {
             return Some(page);
         }
+        v = framed + 1;
     }
     None
 }
@@ -93,10 +95,12 @@ fn count_in(core: &CoreMap, space: &SpaceMap, segment: Page, pages: u32) -> u32
         → result ≡ seated_count p (pages_from segment 0 pages) }
 {
     let mut count = 0;
-    for v in 0..pages {
-        if is_seated(core, space, beside(segment, v)) {
+    let mut v = 0;
+    while let Some(framed) = space.next_in_frame(segment, v, pages) {
+        if is_seated(core, space, beside(segment, framed)) {
             count += 1;
         }
+        v = framed + 1;
     }
     count
 }

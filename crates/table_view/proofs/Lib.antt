@@ -1,1 +1,2 @@
 mod Witness
+pub mod Segments

@@ -23,6 +23,11 @@ was_filled (Image v) = false
 was_filled Swap = true
 was_filled (Frame f valid changed) = true
 
+-- the page is in a frame
+abbrev pub is_in_frame : Place → Bool
+is_in_frame (Frame f valid changed) = true
+is_in_frame _ = false
+
 -- a flag as a number
 abbrev pub one_if : Bool → ℕ
 one_if true = 1

@@ -14,7 +14,7 @@
 #![tactic(auto)]
 
 ghost use Rattle.std.specs.Prelude.{◌≡◌, ◌<◌, ◌+◌, ◌*◌, ◌^◌, MatchOption};
-ghost use Rattle.vax_pte.specs.Words.{IsInRange, PacksTo, usable_frame, was_filled, place_bits, place_named, word_of, one_if};
+ghost use Rattle.vax_pte.specs.Words.{IsInRange, PacksTo, usable_frame, was_filled, is_in_frame, place_bits, place_named, word_of, one_if};
 ghost use Rattle.vax_pte.specs.declared.Place.{Place};
 ghost use Rattle.vax_pte.specs.declared.Pte.{Pte};
 
@@ -143,6 +143,15 @@ pub fn was_filled(word: u32) -> bool
     ensures { result ≡ was_filled (place_named word) }
 {
     word % CHANGED < FILL
+}
+
+/// Whether the page whose entry has this word is in a frame.
+#[tactic(auto, unfolding(crate::specs::Words::place_named))]
+pub fn is_in_frame(word: u32) -> bool
+    ensures { result ≡ is_in_frame (place_named word) }
+{
+    let bits = word % CHANGED;
+    0 < bits && bits < FILL
 }
 
 /// The place of an entry that is or isn't valid and has these bits below its protection.

@@ -5,8 +5,13 @@ use Rattle.page_model.specs.Swapper.{seated_count}
 use Rattle.table_view.specs.Views.{IsNamedBy, ShowsSpace}
 use Rattle.swapper.proofs.seats.count_in.Given as goal
 
-abbrev pub invariant-loop-v : goal.invariant-loop-v
-invariant-loop-v l =
-    (l.count ≤ l.v)
-    × ((p : Placement) → ShowsSpace p l.core l.space → ((v : ℕ) → IsNamedBy l.space (beside l.segment v))
-    → l.count + seated_count p (pages_from l.segment l.v (l.pages - l.v)) ≡ seated_count p (pages_from l.segment 0 l.pages))
+abbrev pub invariant-loop-framed : goal.invariant-loop-framed
+invariant-loop-framed l = record {
+  within : l.v ≤ l.pages;
+  few : l.count ≤ l.v;
+  so_far : (p : Placement) → ShowsSpace p l.core l.space → ((v : ℕ) → IsNamedBy l.space (beside l.segment v))
+      → l.count + seated_count p (pages_from l.segment l.v (l.pages - l.v)) ≡ seated_count p (pages_from l.segment 0 l.pages);
+}
+
+abbrev pub decreases-loop-framed : goal.decreases-loop-framed
+decreases-loop-framed l = l.pages - l.v

@@ -1,4 +1,4 @@
-use Rattle.std.proofs.Common.{◌≡◌, ℕ, Option, Some, sym, ◌∙◌}
+use Rattle.std.proofs.Common.{sym}
 use Rattle.kernel_tables.proofs.HomePages.{home_found, home_absent, no_home_found, no_home_absent}
 use Rattle.kernel_tables.proofs.spaces.Spaces.home_of.Goals as goal
 

@@ -1,4 +1,4 @@
-use Rattle.std.proofs.Common.{◌≡◌, ℕ, List, Option, IfSome, IfNone, sym, ap, ◌∙◌, subst}
+use Rattle.std.proofs.Common.{◌≡◌, List, IfSome, IfNone, sym, ◌∙◌, subst}
 use Rattle.space_map.specs.Space.{Places}
 use Rattle.flat_state.specs.Numbers.{IsAbsent}
 use Rattle.kernel_tables.specs.Rising.{sids_of, AreRising, StandsAt}

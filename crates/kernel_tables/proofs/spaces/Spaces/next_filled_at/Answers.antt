@@ -1,4 +1,4 @@
-use Rattle.std.proofs.Common.{◌≡◌, ℕ, List, get_or, slice_get, sym, ap, ◌∙◌, subst}
+use Rattle.std.proofs.Common.{◌≡◌, List, get_or, slice_get, sym, ap, ◌∙◌, subst}
 use Rattle.flat_state.specs.PageNames.{beside}
 use Rattle.vax_pte.specs.Words.{was_filled}
 use Rattle.space_map.specs.Space.{Places, segment_in}
