@@ -4,7 +4,6 @@ use Rattle.std.specs.Prelude.{slice_get}
 use Rattle.std.specs.Int.{w32, to_le_bytes}
 use Rattle.vm_facts.specs.Ahead.{MayBelow}
 use Rattle.vm_facts.specs.Answers.{ByteWrite, longword_below, writes_from, writes_down}
-use Rattle.vm_facts.specs.declared.memory.MayWrite.TheVariants as tests
 use Rattle.vm_facts.specs.declared.page.Page.{Page}
 use Rattle.vm_facts.specs.declared.page.Page.TheVariants as pages
 use Rattle.vm_facts.specs.declared.page.PageState.TheVariants.{Valid}

@@ -11,5 +11,5 @@ IsWord user_write word = PacksTo (record { user_write = user_write; place = plac
 
 -- whether a page in a place is sought
 abbrev pub is_sought : Sought → Place → Bool
-is_sought Filled = was_filled
-is_sought InFrame = is_in_frame
+is_sought Filled place = was_filled place
+is_sought InFrame place = is_in_frame place

@@ -164,9 +164,9 @@ impl SpaceMap {
         match page {
             Page::Data { sid, .. } if sid == self.sid => self.data.next_sought(sought, from, to),
             Page::Stack { sid, .. } if sid == self.sid => self.stack.next_sought(sought, from, to),
-            Page::Text { image, .. } if image == self.image => self
-                .text
-                .next_sought(sought, from, to),
+            Page::Text { image, .. } if image == self.image => {
+                self.text.next_sought(sought, from, to)
+            }
             _ => None,
         }
     }

@@ -1,8 +1,7 @@
 -- The bytes of a number, as the code has them.
-use Rattle.std.proofs.Common.{◌≡◌, ℕ, ◌+◌, ◌%◌, ◌/◌, inl, inr, List, [], ◌∷◌, ◌++◌, get_or, length, take, refl, arith}
+use Rattle.std.proofs.Common.{◌≡◌, ℕ, ◌%◌, ◌/◌, inl, inr, List, [], ◌∷◌, ◌++◌, get_or, length, take, refl, arith}
 use Rattle.byteorder.specs.Endian.{little_bytes}
 use Rattle.vm_facts.specs.Answers.{writes_from}
-use Rattle.vm_facts.specs.declared.memory.MayWrite.TheVariants as tests
 use Rattle.user_vax.specs.Operands.{past}
 use Rattle.user_vax.specs.Effects.{bytes_at}
 use Rattle.vax_execute.specs.Outcomes.{IsSize}

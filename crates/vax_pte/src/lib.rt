@@ -151,7 +151,10 @@ pub fn is_in_frame(word: u32) -> bool
     ensures { result ≡ is_in_frame (place_named word) }
 {
     let bits = word % CHANGED;
-    0 < bits && bits < FILL
+    if bits == 0 {
+        return false;
+    }
+    bits < FILL
 }
 
 /// The place of an entry that is or isn't valid and has these bits below its protection.

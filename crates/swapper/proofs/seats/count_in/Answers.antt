@@ -8,6 +8,17 @@ use Rattle.swapper.proofs.Seen.{count_passes, count_found, count_passed}
 use Rattle.swapper.proofs.seats.count_in.Goals.{then-is_seated, else-is_seated}
 use Rattle.swapper.proofs.seats.count_in.Goals as goal
 
+pub loop-framed-init : goal.loop-framed-init
+loop-framed-init c = record {
+  within = omega arith;
+  few = omega arith;
+  so_far = λ p h n.
+      let all : c.args.pages - 0 ≡ c.args.pages = omega arith in
+      let same : seated_count p (pages_from c.args.segment 0 (c.args.pages - 0)) ≡ seated_count p (pages_from c.args.segment 0 c.args.pages) =
+      ap (λ (k : ℕ). seated_count p (pages_from c.args.segment 0 k)) all in
+      omega (arith, same);
+}
+
 pub loop-framed-preserved : goal.loop-framed-preserved
 loop-framed-preserved c =
     let w : ℕ = c.in-Some.framed in

@@ -7,6 +7,12 @@ use Rattle.table_view.specs.Views.{IsNamedBy}
 use Rattle.swapper.proofs.Seen.{first_passes, first_found, first_passed}
 use Rattle.swapper.proofs.seats.first_in.Goals as goal
 
+pub loop-framed-init : goal.loop-framed-init
+loop-framed-init c = record {
+  within = omega arith;
+  so_far = λ p h n. let all : c.args.pages - 0 ≡ c.args.pages = omega arith in ap (λ (k : ℕ). first_seated p (pages_from c.args.segment 0 k)) all;
+}
+
 pub returns-then-is_seated : goal.returns-then-is_seated
 returns-then-is_seated c = λ p h n.
     let w : ℕ = c.in-Some.framed in
