@@ -67,7 +67,7 @@ impl SwapDev for LyingSwap {
         Moved::Done
     }
 
-    ghost whole = { λ d bytes told. untold_length bytes (512 * ⟦<SureSwap as SwapDev>⟧.blocks d.store) told };
+    ghost whole = { λ d image told. untold_length image (512 * ⟦<SureSwap as SwapDev>⟧.blocks d.store) told };
 
     ghost leads_nowhere = { λ _. refl };
 

@@ -4,9 +4,10 @@ use Rattle.std.proofs.lemmas.List.{length-take-le}
 use Rattle.std.proofs.lemmas.Slice.{drop-append-drop}
 use Rattle.io_edge.specs.declared.Moved.{Moved}
 use Rattle.io_edge.specs.declared.Moved.TheVariants.{Done, Failed}
-use Rattle.io_edge.specs.SwapImage.{WritesPage, LeavesPage}
+use Rattle.io_edge.specs.SwapImage.{ReadsPage, WritesPage, LeavesPage}
 use Rattle.io_edge.specs.Striping.{device_of, place_of, of_device, zero_needs, one_needs, bytes_beyond, KeepsBeyond}
 use Rattle.vm_facts.specs.Swap.{put_blocks}
+use Rattle.vm_facts.specs.SwapImages.{SwapImage}
 
 -- The pages of a pair lie within the blocks that it needs of their device.
 
@@ -39,15 +40,21 @@ dropped place blocks bytes image within inside whole =
     drop-append-drop (512 * place + 1024) image (take (512 * place) image ++ bytes) (512 * blocks) (omega arith)
     (length-append (take (512 * place) image) bytes ∙ omega (arith, length-take-le (512 * place) image, whole))
 
-writes_beyond : (place blocks size : ℕ) (old new : Option (List ℕ)) (bytes : List ℕ) → ((image : List ℕ) → old ≡ Some image → length image ≡ 512 * size)
+writes_beyond : (place blocks size : ℕ) (old new : Option SwapImage) (bytes : List ℕ)
+    → ((image : SwapImage) → old ≡ Some image → length image.bytes ≡ 512 * size)
     → place + 2 ≤ size → place + 2 ≤ blocks → length bytes ≡ 1024 → WritesPage old place bytes new → KeepsBeyond blocks old new
 writes_beyond place blocks size None new bytes long inside within whole written = ap (bytes_beyond blocks) written
 writes_beyond place blocks size (Some image) new bytes long inside within whole written =
-    ap (bytes_beyond blocks) written ∙ ap (λ (rest : List ℕ). Some rest) (dropped place blocks bytes image within (omega (arith, long image refl, inside)) whole)
+    ap (bytes_beyond blocks) written ∙ ap (λ (rest : List ℕ). Some rest) (dropped place blocks bytes image.bytes within (omega (arith, long image refl, inside)) whole)
 
-pub leaves_beyond : (moved : Moved) (place blocks size : ℕ) (old new : Option (List ℕ)) (bytes : List ℕ)
-    → ((image : List ℕ) → old ≡ Some image → length image ≡ 512 * size)
+pub leaves_beyond : (moved : Moved) (place blocks size : ℕ) (old new : Option SwapImage) (bytes : List ℕ)
+    → ((image : SwapImage) → old ≡ Some image → length image.bytes ≡ 512 * size)
     → place + 2 ≤ size → place + 2 ≤ blocks → length bytes ≡ 1024 → LeavesPage moved old place bytes new → KeepsBeyond blocks old new
 leaves_beyond Done place blocks size old new bytes long inside within whole left = writes_beyond place blocks size old new bytes long inside within whole left.0
 leaves_beyond Failed place blocks size old new bytes long inside within whole left =
     let spoiled = left.1 in writes_beyond place blocks size old new spoiled.0 long inside within spoiled.1 spoiled.2
+
+-- a page that is read leaves all bytes
+pub reads_beyond : (place blocks : ℕ) (old new : Option SwapImage) → ReadsPage old place new → KeepsBeyond blocks old new
+reads_beyond place blocks None new asked = ap (bytes_beyond blocks) asked
+reads_beyond place blocks (Some image) new asked = ap (bytes_beyond blocks) asked

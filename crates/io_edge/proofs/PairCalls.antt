@@ -1,15 +1,16 @@
 -- What a call on one device of a pair means for the pair.
-use Rattle.std.proofs.Common.{◌≡◌, ◌≤◌, ◌+◌, ◌*◌, ◌%◌, ℕ, List, length, Option, zero, suc, Some, None, inl, inr, ◌∙◌, subst, refl, sym, arith}
+use Rattle.std.proofs.Common.{◌≡◌, ◌≤◌, ◌+◌, ◌*◌, ◌%◌, ℕ, List, length, Option, zero, suc, Some, None, inl, inr, ◌∙◌, ap, subst, refl, sym, arith}
 use Rattle.std.proofs.lemmas.Bool.{cases_lt}
 use Rattle.io_edge.specs.declared.Moved.{Moved}
 use Rattle.io_edge.specs.declared.Moved.TheVariants.{Done, Failed}
 use Rattle.io_edge.specs.Count.{Counts, OnDone, OnFailed, Rose, count_after, last_count}
-use Rattle.io_edge.specs.SwapImage.{HoldsPage, WritesPage, SpoilsPage}
+use Rattle.io_edge.specs.SwapImage.{bytes_told, HoldsPage, ReadsPage, WritesPage, SpoilsPage}
+use Rattle.vm_facts.specs.SwapImages.{SwapImage}
 use Rattle.io_edge.specs.Striping.{of_device, device_of, place_of, pair_blocks, pair_image}
 use Rattle.io_edge.specs.PairFailures.{AddsFailures, RoseAlone}
 use Rattle.io_edge.specs.PairLeads.{none_after}
 use Rattle.io_edge.specs.StripeSizes.{tell_blocks}
-use Rattle.io_edge.proofs.StripeWrites.{holds_even, holds_odd, writes_even, writes_odd}
+use Rattle.io_edge.proofs.StripeWrites.{holds_even, holds_odd, asks_even, asks_odd, writes_even, writes_odd}
 
 none_is_none : (device : ℕ) → None ≡ Some device → ⊥
 none_is_none device same = cc
@@ -23,24 +24,57 @@ on_failed Done P Q then held = tt
 on_failed Failed P Q then held = then held
 
 -- a told image has its size
-abbrev pub IsWhole : Option (List ℕ) → ℕ → Type 0
-IsWhole image size = (bytes : List ℕ) → image ≡ Some bytes → length bytes ≡ 512 * size
+abbrev pub IsWhole : Option SwapImage → ℕ → Type 0
+IsWhole told size = (image : SwapImage) → told ≡ Some image → length image.bytes ≡ 512 * size
 
-pub pair_reads_even : (even_size odd_size place block : ℕ) (evens odds : Option (List ℕ)) (bytes : List ℕ) → IsWhole evens even_size
+pub pair_reads_even : (even_size odd_size place block : ℕ) (evens odds : Option SwapImage) (bytes : List ℕ) → IsWhole evens even_size
     → IsWhole odds odd_size → place ≡ place_of block → device_of block ≡ 0 → block % 2 ≡ 0 → block + 2 ≤ pair_blocks even_size odd_size
-    → HoldsPage evens place bytes → HoldsPage (pair_image (pair_blocks even_size odd_size) evens odds) block bytes
+    → HoldsPage (bytes_told evens) place bytes → HoldsPage (bytes_told (pair_image (pair_blocks even_size odd_size) evens odds)) block bytes
 pair_reads_even even_size odd_size place block evens odds bytes even_whole odd_whole there on even within held =
     holds_even (pair_blocks even_size odd_size) block evens odds bytes even (omega arith) (tell_blocks even_size odd_size evens odds even_whole odd_whole) on
-    (subst (λ (p : ℕ). HoldsPage evens p bytes) there held)
+    (subst (λ (p : ℕ). HoldsPage (bytes_told evens) p bytes) there held)
 
-pub pair_reads_odd : (even_size odd_size place block : ℕ) (evens odds : Option (List ℕ)) (bytes : List ℕ) → IsWhole evens even_size
+pub pair_reads_odd : (even_size odd_size place block : ℕ) (evens odds : Option SwapImage) (bytes : List ℕ) → IsWhole evens even_size
     → IsWhole odds odd_size → place ≡ place_of block → device_of block ≡ 1 → block % 2 ≡ 0 → block + 2 ≤ pair_blocks even_size odd_size
-    → HoldsPage odds place bytes → HoldsPage (pair_image (pair_blocks even_size odd_size) evens odds) block bytes
+    → HoldsPage (bytes_told odds) place bytes → HoldsPage (bytes_told (pair_image (pair_blocks even_size odd_size) evens odds)) block bytes
 pair_reads_odd even_size odd_size place block evens odds bytes even_whole odd_whole there on even within held =
     holds_odd (pair_blocks even_size odd_size) block 0 evens odds bytes even (omega arith) (tell_blocks even_size odd_size evens odds even_whole odd_whole) on
-    (subst (λ (p : ℕ). HoldsPage odds p bytes) there held)
+    (subst (λ (p : ℕ). HoldsPage (bytes_told odds) p bytes) there held)
 
-pub pair_writes_even : (even_size new_size odd_size place block : ℕ) (evens odds new : Option (List ℕ)) (bytes : List ℕ) → IsWhole evens even_size
+-- a read changes no byte
+same_bytes : (old new : Option SwapImage) (block : ℕ) → ReadsPage old block new → bytes_told new ≡ bytes_told old
+same_bytes None new block asked = ap bytes_told asked
+same_bytes (Some image) new block asked = ap bytes_told asked
+
+pub pair_asks_even : (even_size new_size odd_size place block : ℕ) (evens odds new : Option SwapImage) → new_size ≡ even_size → place ≡ place_of block
+    → device_of block ≡ 0 → ReadsPage evens place new
+    → ReadsPage (pair_image (pair_blocks even_size odd_size) evens odds) block (pair_image (pair_blocks new_size odd_size) new odds)
+pair_asks_even even_size new_size odd_size place block evens odds new same there on asked =
+    subst (λ (size : ℕ). ReadsPage (pair_image (pair_blocks even_size odd_size) evens odds) block (pair_image (pair_blocks size odd_size) new odds)) (sym same)
+    (asks_even (pair_blocks even_size odd_size) block evens odds new on (subst (λ (p : ℕ). ReadsPage evens p new) there asked))
+
+pub pair_asks_odd : (even_size odd_size new_size place block : ℕ) (evens odds new : Option SwapImage) → new_size ≡ odd_size → place ≡ place_of block
+    → device_of block ≡ 1 → ReadsPage odds place new
+    → ReadsPage (pair_image (pair_blocks even_size odd_size) evens odds) block (pair_image (pair_blocks even_size new_size) evens new)
+pair_asks_odd even_size odd_size new_size place block evens odds new same there on asked =
+    subst (λ (size : ℕ). ReadsPage (pair_image (pair_blocks even_size odd_size) evens odds) block (pair_image (pair_blocks even_size size) evens new)) (sym same)
+    (asks_odd (pair_blocks even_size odd_size) block 0 evens odds new on (subst (λ (p : ℕ). ReadsPage odds p new) there asked))
+
+pub pair_bytes_even : (even_size new_size odd_size place block : ℕ) (evens odds new : Option SwapImage) → new_size ≡ even_size → place ≡ place_of block
+    → device_of block ≡ 0 → ReadsPage evens place new
+    → bytes_told (pair_image (pair_blocks new_size odd_size) new odds) ≡ bytes_told (pair_image (pair_blocks even_size odd_size) evens odds)
+pair_bytes_even even_size new_size odd_size place block evens odds new same there on asked =
+    same_bytes (pair_image (pair_blocks even_size odd_size) evens odds) (pair_image (pair_blocks new_size odd_size) new odds) block
+    (pair_asks_even even_size new_size odd_size place block evens odds new same there on asked)
+
+pub pair_bytes_odd : (even_size odd_size new_size place block : ℕ) (evens odds new : Option SwapImage) → new_size ≡ odd_size → place ≡ place_of block
+    → device_of block ≡ 1 → ReadsPage odds place new
+    → bytes_told (pair_image (pair_blocks even_size new_size) evens new) ≡ bytes_told (pair_image (pair_blocks even_size odd_size) evens odds)
+pair_bytes_odd even_size odd_size new_size place block evens odds new same there on asked =
+    same_bytes (pair_image (pair_blocks even_size odd_size) evens odds) (pair_image (pair_blocks even_size new_size) evens new) block
+    (pair_asks_odd even_size odd_size new_size place block evens odds new same there on asked)
+
+pub pair_writes_even : (even_size new_size odd_size place block : ℕ) (evens odds new : Option SwapImage) (bytes : List ℕ) → IsWhole evens even_size
     → IsWhole odds odd_size → new_size ≡ even_size → place ≡ place_of block → device_of block ≡ 0 → block % 2 ≡ 0
     → block + 2 ≤ pair_blocks even_size odd_size → length bytes ≡ 1024 → WritesPage evens place bytes new
     → WritesPage (pair_image (pair_blocks even_size odd_size) evens odds) block bytes (pair_image (pair_blocks new_size odd_size) new odds)
@@ -49,7 +83,7 @@ pair_writes_even even_size new_size odd_size place block evens odds new bytes ev
     (writes_even (pair_blocks even_size odd_size) block evens odds new bytes even (omega arith) (tell_blocks even_size odd_size evens odds even_whole odd_whole) whole on
     (subst (λ (p : ℕ). WritesPage evens p bytes new) there written))
 
-pub pair_writes_odd : (even_size odd_size new_size place block : ℕ) (evens odds new : Option (List ℕ)) (bytes : List ℕ) → IsWhole evens even_size
+pub pair_writes_odd : (even_size odd_size new_size place block : ℕ) (evens odds new : Option SwapImage) (bytes : List ℕ) → IsWhole evens even_size
     → IsWhole odds odd_size → new_size ≡ odd_size → place ≡ place_of block → device_of block ≡ 1 → block % 2 ≡ 0
     → block + 2 ≤ pair_blocks even_size odd_size → length bytes ≡ 1024 → WritesPage odds place bytes new
     → WritesPage (pair_image (pair_blocks even_size odd_size) evens odds) block bytes (pair_image (pair_blocks even_size new_size) evens new)
@@ -58,14 +92,14 @@ pair_writes_odd even_size odd_size new_size place block evens odds new bytes eve
     (writes_odd (pair_blocks even_size odd_size) block 0 evens odds new bytes even (omega arith) (tell_blocks even_size odd_size evens odds even_whole odd_whole) whole on
     (subst (λ (p : ℕ). WritesPage odds p bytes new) there written))
 
-pub pair_spoils_even : (even_size new_size odd_size place block : ℕ) (evens odds new : Option (List ℕ)) → IsWhole evens even_size
+pub pair_spoils_even : (even_size new_size odd_size place block : ℕ) (evens odds new : Option SwapImage) → IsWhole evens even_size
     → IsWhole odds odd_size → new_size ≡ even_size → place ≡ place_of block → device_of block ≡ 0 → block % 2 ≡ 0
     → block + 2 ≤ pair_blocks even_size odd_size → SpoilsPage evens place new
     → SpoilsPage (pair_image (pair_blocks even_size odd_size) evens odds) block (pair_image (pair_blocks new_size odd_size) new odds)
 pair_spoils_even even_size new_size odd_size place block evens odds new even_whole odd_whole same there on even within spoiled =
     (spoiled.0, spoiled.1, pair_writes_even even_size new_size odd_size place block evens odds new spoiled.0 even_whole odd_whole same there on even within spoiled.1 spoiled.2)
 
-pub pair_spoils_odd : (even_size odd_size new_size place block : ℕ) (evens odds new : Option (List ℕ)) → IsWhole evens even_size
+pub pair_spoils_odd : (even_size odd_size new_size place block : ℕ) (evens odds new : Option SwapImage) → IsWhole evens even_size
     → IsWhole odds odd_size → new_size ≡ odd_size → place ≡ place_of block → device_of block ≡ 1 → block % 2 ≡ 0
     → block + 2 ≤ pair_blocks even_size odd_size → SpoilsPage odds place new
     → SpoilsPage (pair_image (pair_blocks even_size odd_size) evens odds) block (pair_image (pair_blocks even_size new_size) evens new)

@@ -1,9 +1,10 @@
 -- A page that is written to a pair of devices.
-use Rattle.std.proofs.Common.{◌≡◌, ◌≤◌, ◌<◌, ◌+◌, ◌*◌, ◌%◌, ◌⊎◌, inl, inr, ℕ, zero, suc, List, ◌++◌, length, Option, Some, None, ap, subst, sym, refl, ◌∙◌, arith}
+use Rattle.std.proofs.Common.{◌≡◌, ◌≤◌, ◌<◌, ◌+◌, ◌*◌, ◌%◌, ◌⊎◌, inl, inr, ℕ, zero, suc, List, ◌∷◌, ◌++◌, length, Option, Some, None, ap, subst, sym, refl, ◌∙◌, arith}
 use Rattle.std.proofs.Math.Nat.{eq-or-lt_of_le}
-use Rattle.io_edge.specs.SwapImage.{HoldsPage, WritesPage}
+use Rattle.io_edge.specs.SwapImage.{bytes_told, HoldsPage, ReadsPage, WritesPage}
 use Rattle.vm_facts.specs.Swap.{blocks_at, put_blocks}
-use Rattle.io_edge.specs.Striping.{device_of, place_of, of_device, block_at, first_blocks, pair_blocks, pair_image}
+use Rattle.vm_facts.specs.SwapImages.{SwapRequest, SwapRead, SwapWrite, Noted, Both, SwapImage, with_request}
+use Rattle.io_edge.specs.Striping.{device_of, place_of, of_device, block_at, first_blocks, pair_blocks, block_asked, placed, asked_of_zero, asked_of_one, images_paired, pair_image}
 use Rattle.vm_facts.proofs.Swap.{blocks_at-put_blocks_same}
 use Rattle.io_edge.proofs.Pages.{put_blocks-append, put_blocks_last, block_at-put_blocks_other}
 use Rattle.io_edge.specs.StripeSizes.{zero_has, one_has, HasBlocks, TellBlocks, length-first_blocks}
@@ -107,40 +108,87 @@ put_odd blocks block unit bytes evens odds even within has whole on =
     ∙ blocks_at-put_blocks_same odds bytes (place_of block) inside whole)
 
 -- a page that was read from a pair
-pub holds_even : (blocks block : ℕ) (evens odds : Option (List ℕ)) (bytes : List ℕ) → block % 2 ≡ 0 → suc (suc block) ≤ blocks
-    → TellBlocks blocks evens odds → device_of block ≡ 0 → HoldsPage evens (place_of block) bytes
-    → HoldsPage (pair_image blocks evens odds) block bytes
+pub holds_even : (blocks block : ℕ) (evens odds : Option SwapImage) (bytes : List ℕ) → block % 2 ≡ 0 → suc (suc block) ≤ blocks
+    → TellBlocks blocks evens odds → device_of block ≡ 0 → HoldsPage (bytes_told evens) (place_of block) bytes
+    → HoldsPage (bytes_told (pair_image blocks evens odds)) block bytes
 holds_even blocks block None odds bytes even within tell on held = tt
 holds_even blocks block (Some evens) None bytes even within tell on held = tt
 holds_even blocks block (Some evens) (Some odds) bytes even within tell on held =
-    held ∙ sym (page_of_pair blocks block evens odds even within (tell evens odds refl refl) ∙ ap (λ (device : ℕ). blocks_at (of_device device evens odds) (place_of block)) on)
+    held
+    ∙ sym (page_of_pair blocks block evens.bytes odds.bytes even within (tell evens odds refl refl)
+    ∙ ap (λ (device : ℕ). blocks_at (of_device device evens.bytes odds.bytes) (place_of block)) on)
 
-pub holds_odd : (blocks block unit : ℕ) (evens odds : Option (List ℕ)) (bytes : List ℕ) → block % 2 ≡ 0 → suc (suc block) ≤ blocks
-    → TellBlocks blocks evens odds → device_of block ≡ suc unit → HoldsPage odds (place_of block) bytes
-    → HoldsPage (pair_image blocks evens odds) block bytes
+pub holds_odd : (blocks block unit : ℕ) (evens odds : Option SwapImage) (bytes : List ℕ) → block % 2 ≡ 0 → suc (suc block) ≤ blocks
+    → TellBlocks blocks evens odds → device_of block ≡ suc unit → HoldsPage (bytes_told odds) (place_of block) bytes
+    → HoldsPage (bytes_told (pair_image blocks evens odds)) block bytes
 holds_odd blocks block unit None odds bytes even within tell on held = tt
 holds_odd blocks block unit (Some evens) None bytes even within tell on held = tt
 holds_odd blocks block unit (Some evens) (Some odds) bytes even within tell on held =
-    held ∙ sym (page_of_pair blocks block evens odds even within (tell evens odds refl refl) ∙ ap (λ (device : ℕ). blocks_at (of_device device evens odds) (place_of block)) on)
+    held
+    ∙ sym (page_of_pair blocks block evens.bytes odds.bytes even within (tell evens odds refl refl)
+    ∙ ap (λ (device : ℕ). blocks_at (of_device device evens.bytes odds.bytes) (place_of block)) on)
+
+-- What the devices note of a request that is made of their pair.
+
+-- by the device that gets it
+abbrev either_noted : SwapImage → SwapImage → SwapRequest → ℕ → List SwapRequest → Noted
+either_noted evens odds r device more =
+    Both (evens.noted (of_device device (placed r ∷ asked_of_zero more) (asked_of_zero more)))
+    (odds.noted (of_device device (asked_of_one more) (placed r ∷ asked_of_one more)))
+
+-- on device 0
+noted_even : (evens odds : SwapImage) (r : SwapRequest) → device_of (block_asked r) ≡ 0
+    → with_request r (images_paired 0 evens odds) ≡ images_paired 0 (with_request (placed r) evens) odds
+noted_even evens odds r on =
+    ap (λ (device : ℕ). record (images_paired 0 evens odds) { noted = either_noted evens odds r device }) on
+
+-- on device 1
+noted_odd : (evens odds : SwapImage) (r : SwapRequest) (unit : ℕ) → device_of (block_asked r) ≡ suc unit
+    → with_request r (images_paired 0 evens odds) ≡ images_paired 0 evens (with_request (placed r) odds)
+noted_odd evens odds r unit on =
+    ap (λ (device : ℕ). record (images_paired 0 evens odds) { noted = either_noted evens odds r device }) on
+
+-- a page that was asked of a pair
+pub asks_even : (blocks block : ℕ) (evens odds new : Option SwapImage) → device_of block ≡ 0 → ReadsPage evens (place_of block) new
+    → ReadsPage (pair_image blocks evens odds) block (pair_image blocks new odds)
+asks_even blocks block None odds new on asked = ap (λ (image : Option SwapImage). pair_image blocks image odds) asked
+asks_even blocks block (Some evens) None new on asked = ap (λ (image : Option SwapImage). pair_image blocks image None) asked
+asks_even blocks block (Some evens) (Some odds) new on asked =
+    ap (λ (image : Option SwapImage). pair_image blocks image (Some odds)) asked
+    ∙ ap (λ (image : SwapImage). Some (record image { bytes = first_blocks blocks evens.bytes odds.bytes })) (sym (noted_even evens odds (SwapRead block) on))
+
+pub asks_odd : (blocks block unit : ℕ) (evens odds new : Option SwapImage) → device_of block ≡ suc unit → ReadsPage odds (place_of block) new
+    → ReadsPage (pair_image blocks evens odds) block (pair_image blocks evens new)
+asks_odd blocks block unit None odds new on asked = refl
+asks_odd blocks block unit (Some evens) None new on asked = ap (λ (image : Option SwapImage). pair_image blocks (Some evens) image) asked
+asks_odd blocks block unit (Some evens) (Some odds) new on asked =
+    ap (λ (image : Option SwapImage). pair_image blocks (Some evens) image) asked
+    ∙ ap (λ (image : SwapImage). Some (record image { bytes = first_blocks blocks evens.bytes odds.bytes })) (sym (noted_odd evens odds (SwapRead block) unit on))
 
 -- a page that was written to a pair
-pub writes_even : (blocks block : ℕ) (evens odds new : Option (List ℕ)) (bytes : List ℕ) → block % 2 ≡ 0 → suc (suc block) ≤ blocks
+pub writes_even : (blocks block : ℕ) (evens odds new : Option SwapImage) (bytes : List ℕ) → block % 2 ≡ 0 → suc (suc block) ≤ blocks
     → TellBlocks blocks evens odds → length bytes ≡ 1024 → device_of block ≡ 0 → WritesPage evens (place_of block) bytes new
     → WritesPage (pair_image blocks evens odds) block bytes (pair_image blocks new odds)
-writes_even blocks block None odds new bytes even within tell whole on written = ap (λ (image : Option (List ℕ)). pair_image blocks image odds) written
-writes_even blocks block (Some evens) None new bytes even within tell whole on written = ap (λ (image : Option (List ℕ)). pair_image blocks image None) written
+writes_even blocks block None odds new bytes even within tell whole on written = ap (λ (image : Option SwapImage). pair_image blocks image odds) written
+writes_even blocks block (Some evens) None new bytes even within tell whole on written = ap (λ (image : Option SwapImage). pair_image blocks image None) written
 writes_even blocks block (Some evens) (Some odds) new bytes even within tell whole on written =
-    ap (λ (image : Option (List ℕ)). pair_image blocks image (Some odds)) written
-    ∙ ap (λ (image : List ℕ). Some image) (sym (put_even blocks block bytes evens odds even within (tell evens odds refl refl) whole on))
+    ap (λ (image : Option SwapImage). pair_image blocks image (Some odds)) written
+    ∙ ap (λ (image : SwapImage). Some (record image { bytes = first_blocks blocks (put_blocks evens.bytes (place_of block) bytes) odds.bytes }))
+    (sym (noted_even evens odds (SwapWrite block) on))
+    ∙ ap (λ (all : List ℕ). Some (with_request (SwapWrite block) (record (images_paired blocks evens odds) { bytes = all })))
+    (sym (put_even blocks block bytes evens.bytes odds.bytes even within (tell evens odds refl refl) whole on))
 
-pub writes_odd : (blocks block unit : ℕ) (evens odds new : Option (List ℕ)) (bytes : List ℕ) → block % 2 ≡ 0 → suc (suc block) ≤ blocks
+pub writes_odd : (blocks block unit : ℕ) (evens odds new : Option SwapImage) (bytes : List ℕ) → block % 2 ≡ 0 → suc (suc block) ≤ blocks
     → TellBlocks blocks evens odds → length bytes ≡ 1024 → device_of block ≡ suc unit → WritesPage odds (place_of block) bytes new
     → WritesPage (pair_image blocks evens odds) block bytes (pair_image blocks evens new)
 writes_odd blocks block unit None odds new bytes even within tell whole on written = refl
-writes_odd blocks block unit (Some evens) None new bytes even within tell whole on written = ap (λ (image : Option (List ℕ)). pair_image blocks (Some evens) image) written
+writes_odd blocks block unit (Some evens) None new bytes even within tell whole on written = ap (λ (image : Option SwapImage). pair_image blocks (Some evens) image) written
 writes_odd blocks block unit (Some evens) (Some odds) new bytes even within tell whole on written =
-    ap (λ (image : Option (List ℕ)). pair_image blocks (Some evens) image) written
-    ∙ ap (λ (image : List ℕ). Some image) (sym (put_odd blocks block unit bytes evens odds even within (tell evens odds refl refl) whole on))
+    ap (λ (image : Option SwapImage). pair_image blocks (Some evens) image) written
+    ∙ ap (λ (image : SwapImage). Some (record image { bytes = first_blocks blocks evens.bytes (put_blocks odds.bytes (place_of block) bytes) }))
+    (sym (noted_odd evens odds (SwapWrite block) unit on))
+    ∙ ap (λ (all : List ℕ). Some (with_request (SwapWrite block) (record (images_paired blocks evens odds) { bytes = all })))
+    (sym (put_odd blocks block unit bytes evens.bytes odds.bytes even within (tell evens odds refl refl) whole on))
 
 -- where a page lies
 pub not_even : (block : ℕ) → (device_of block ≡ 0 → ⊥) → device_of block ≡ 1

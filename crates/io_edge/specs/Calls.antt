@@ -1,6 +1,7 @@
 -- What calls leave as it was, over a bound `F: Files`, `D: SwapDev` or `S: Sink`.
 use Rattle.std.specs.Prelude.{◌≡◌, ℕ, List}
 use Rattle.io_edge.specs.Count.{Counts, OnDone, OnFailed}
+use Rattle.io_edge.specs.SwapImage.{bytes_told}
 use Rattle.io_edge.specs.Written.{Appends, AppendsSome}
 use Rattle.io_edge.specs.declared.Moved.{Moved}
 use Rattle.io_edge.specs.declared.files.Files.{Ghosts as FilesGhosts}
@@ -27,7 +28,7 @@ pub record KeepsSwap {D : Type 0} (g : SwapGhosts D) (old new : D) : Type 0 wher
 pub record ReadsSwap {D : Type 0} (g : SwapGhosts D) (old new : D) : Type 0 where
   pub leads : g.leads old new
   pub blocks : g.blocks new ≡ g.blocks old
-  pub image : g.image new ≡ g.image old
+  pub bytes : bytes_told (g.image new) ≡ bytes_told (g.image old)
   pub write_faults : g.write_faults new ≡ g.write_faults old
 
 -- a swap device over writes

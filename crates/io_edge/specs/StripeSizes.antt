@@ -2,7 +2,9 @@
 use Rattle.std.specs.Prelude.{◌≡◌, ◌<◌, ◌≤◌, ◌+◌, ◌*◌, ℕ, zero, suc, List, length, drop, Option, Some, None}
 use Rattle.std.proofs.Common.{arith, refl, sym, ap, ◌∙◌, length-append}
 use Rattle.std.proofs.lemmas.List.{length-take-le, length-drop}
-use Rattle.io_edge.specs.Striping.{device_of, place_of, of_device, pair_blocks, block_at, first_blocks, pair_image}
+use Rattle.std.proofs.lemmas.Option.{same_Some}
+use Rattle.vm_facts.specs.SwapImages.{SwapImage}
+use Rattle.io_edge.specs.Striping.{device_of, place_of, of_device, pair_blocks, block_at, first_blocks, images_paired, pair_image}
 
 -- each block of the pair is within its device
 pub zero_has : (block even_size odd_size : ℕ) → block < pair_blocks even_size odd_size → device_of block ≡ 0 → place_of block < even_size
@@ -47,22 +49,21 @@ length-first_blocks (suc block) evens odds has =
     omega (arith, length-append (first_blocks block evens odds) (pair_block block evens odds), before, last)
 
 -- told images have each block of the pair
-abbrev pub TellBlocks : ℕ → Option (List ℕ) → Option (List ℕ) → Type 0
-TellBlocks blocks evens odds = (even_bytes odd_bytes : List ℕ) → evens ≡ Some even_bytes → odds ≡ Some odd_bytes → HasBlocks blocks even_bytes odd_bytes
+abbrev pub TellBlocks : ℕ → Option SwapImage → Option SwapImage → Type 0
+TellBlocks blocks evens odds = (even odd : SwapImage) → evens ≡ Some even → odds ≡ Some odd → HasBlocks blocks even.bytes odd.bytes
 
 -- devices that tell whole images tell each block of the pair
-pub tell_blocks : (even_size odd_size : ℕ) (evens odds : Option (List ℕ)) → ((bytes : List ℕ) → evens ≡ Some bytes → length bytes ≡ 512 * even_size)
-    → ((bytes : List ℕ) → odds ≡ Some bytes → length bytes ≡ 512 * odd_size) → TellBlocks (pair_blocks even_size odd_size) evens odds
-tell_blocks even_size odd_size evens odds even_whole odd_whole even_bytes odd_bytes even_told odd_told =
-    has_blocks even_size odd_size even_bytes odd_bytes (even_whole even_bytes even_told) (odd_whole odd_bytes odd_told)
-
-some_is : (a b : List ℕ) → Some a ≡ Some b → a ≡ b
-some_is a b same = cc
+pub tell_blocks : (even_size odd_size : ℕ) (evens odds : Option SwapImage)
+    → ((image : SwapImage) → evens ≡ Some image → length image.bytes ≡ 512 * even_size)
+    → ((image : SwapImage) → odds ≡ Some image → length image.bytes ≡ 512 * odd_size) → TellBlocks (pair_blocks even_size odd_size) evens odds
+tell_blocks even_size odd_size evens odds even_whole odd_whole even odd even_told odd_told =
+    has_blocks even_size odd_size even.bytes odd.bytes (even_whole even even_told) (odd_whole odd odd_told)
 
 -- a told image of the pair has 512 bytes for each block
-pub pair_whole : (blocks : ℕ) (evens odds : Option (List ℕ)) (bytes : List ℕ) → TellBlocks blocks evens odds
-    → pair_image blocks evens odds ≡ Some bytes → length bytes ≡ 512 * blocks
-pair_whole blocks None odds bytes tell told = cc
-pair_whole blocks (Some evens) None bytes tell told = cc
-pair_whole blocks (Some evens) (Some odds) bytes tell told =
-    ap length (sym (some_is (first_blocks blocks evens odds) bytes told)) ∙ length-first_blocks blocks evens odds (tell evens odds refl refl)
+pub pair_whole : (blocks : ℕ) (evens odds : Option SwapImage) (image : SwapImage) → TellBlocks blocks evens odds
+    → pair_image blocks evens odds ≡ Some image → length image.bytes ≡ 512 * blocks
+pair_whole blocks None odds image tell told = cc
+pair_whole blocks (Some evens) None image tell told = cc
+pair_whole blocks (Some evens) (Some odds) image tell told =
+    ap (λ (paired : SwapImage). length paired.bytes) (sym (same_Some (images_paired blocks evens odds) image told))
+    ∙ length-first_blocks blocks evens.bytes odds.bytes (tell evens odds refl refl)

@@ -1,5 +1,6 @@
 -- A pair of swap devices, striped by units of 1,024 blocks: even units on device 0, odd ones on device 1.
-use Rattle.std.specs.Prelude.{◌≡◌, ◌≤◌, ◌<◌, ◌+◌, ◌*◌, ◌/◌, ◌%◌, ◌-◌, min, ℕ, zero, suc, List, [], ◌++◌, take, drop, Option, Some, None}
+use Rattle.std.specs.Prelude.{◌≡◌, ◌≤◌, ◌<◌, ◌+◌, ◌*◌, ◌/◌, ◌%◌, ◌-◌, min, ℕ, zero, suc, List, [], ◌∷◌, ◌++◌, take, drop, Option, Some, None}
+use Rattle.vm_facts.specs.SwapImages.{SwapRequest, SwapRead, SwapWrite, Noted, Both, SwapImage}
 
 -- the number of a device of a pair
 abbrev pub IsDevice : ℕ → Type 0
@@ -45,12 +46,12 @@ unfoldable pub pair_blocks : ℕ → ℕ → ℕ
 pair_blocks even_size odd_size = min most_blocks (min (even_size / 1024 * 2048 + even_size % 1024) (1024 + odd_size / 1024 * 2048 + odd_size % 1024))
 
 -- the bytes of a device after so many blocks
-abbrev pub bytes_beyond : ℕ → Option (List ℕ) → Option (List ℕ)
+abbrev pub bytes_beyond : ℕ → Option SwapImage → Option (List ℕ)
 bytes_beyond blocks None = None
-bytes_beyond blocks (Some image) = Some (drop (512 * blocks) image)
+bytes_beyond blocks (Some image) = Some (drop (512 * blocks) image.bytes)
 
 -- a device keeps what it has beyond so many blocks
-abbrev pub KeepsBeyond : ℕ → Option (List ℕ) → Option (List ℕ) → Type 0
+abbrev pub KeepsBeyond : ℕ → Option SwapImage → Option SwapImage → Type 0
 KeepsBeyond blocks old new = bytes_beyond blocks new ≡ bytes_beyond blocks old
 
 -- one block of an image
@@ -62,8 +63,36 @@ unfoldable pub first_blocks : ℕ → List ℕ → List ℕ → List ℕ
 first_blocks zero evens odds = []
 first_blocks (suc block) evens odds = first_blocks block evens odds ++ block_at (of_device (device_of block) evens odds) (place_of block)
 
--- the image of a pair of so many blocks, told where both devices tell theirs
-abbrev pub pair_image : ℕ → Option (List ℕ) → Option (List ℕ) → Option (List ℕ)
+-- the first block that a request names
+abbrev pub block_asked : SwapRequest → ℕ
+block_asked (SwapRead block) = block
+block_asked (SwapWrite block) = block
+
+-- the same request of the device that has the block, at its place there
+abbrev pub placed : SwapRequest → SwapRequest
+placed (SwapRead block) = SwapRead (place_of block)
+placed (SwapWrite block) = SwapWrite (place_of block)
+
+-- of the requests made of a pair, those that device 0 gets
+abbrev pub asked_of_zero : List SwapRequest → List SwapRequest
+asked_of_zero [] = []
+asked_of_zero (r ∷ rs) = of_device (device_of (block_asked r)) (placed r ∷ asked_of_zero rs) (asked_of_zero rs)
+
+-- and those that device 1 gets
+abbrev pub asked_of_one : List SwapRequest → List SwapRequest
+asked_of_one [] = []
+asked_of_one (r ∷ rs) = of_device (device_of (block_asked r)) (asked_of_one rs) (placed r ∷ asked_of_one rs)
+
+-- what two devices have noted, once these requests are made of their pair
+abbrev pub both_noted : SwapImage → SwapImage → List SwapRequest → Noted
+both_noted evens odds more = Both (evens.noted (asked_of_zero more)) (odds.noted (asked_of_one more))
+
+-- the image of a pair of so many blocks
+abbrev pub images_paired : ℕ → SwapImage → SwapImage → SwapImage
+images_paired blocks evens odds = record { bytes = first_blocks blocks evens.bytes odds.bytes; noted = both_noted evens odds }
+
+-- the same, told where both devices tell theirs
+abbrev pub pair_image : ℕ → Option SwapImage → Option SwapImage → Option SwapImage
 pair_image blocks None _ = None
 pair_image blocks (Some evens) None = None
-pair_image blocks (Some evens) (Some odds) = Some (first_blocks blocks evens odds)
+pair_image blocks (Some evens) (Some odds) = Some (images_paired blocks evens odds)

@@ -1,14 +1,16 @@
 -- What follows where content is told.
 use Rattle.std.specs.Prelude.{◌≡◌, ℕ, List, [], ◌++◌, length, Option, Some, None}
 use Rattle.std.proofs.Common.{subst, refl, ap, sym, ◌∙◌, append_assoc, append-nil}
+use Rattle.std.proofs.lemmas.Option.{same_Some}
+use Rattle.vm_facts.specs.SwapImages.{SwapImage}
 use Rattle.io_edge.specs.Written.{Extends}
 
 some_is : (a b : List ℕ) → Some a ≡ Some b → a ≡ b
 some_is a b same = cc
 
 -- the length of what is told
-pub told_length : (a b : List ℕ) (n : ℕ) → Some a ≡ Some b → length a ≡ n → length b ≡ n
-told_length a b n same long = subst (λ (bytes : List ℕ). length bytes ≡ n) (some_is a b same) long
+pub told_length : (a b : SwapImage) (n : ℕ) → Some a ≡ Some b → length a.bytes ≡ n → length b.bytes ≡ n
+told_length a b n same long = subst (λ (image : SwapImage). length image.bytes ≡ n) (same_Some a b same) long
 
 -- a sink after no call
 pub extends_itself : (written : Option (List ℕ)) → Extends written written
@@ -27,5 +29,5 @@ extends_through (Some x) (Some y) c first then = (
 )
 
 -- what isn't told has any length
-pub untold_length : (bytes : List ℕ) (n : ℕ) → None ≡ Some bytes → length bytes ≡ n
-untold_length bytes n told = cc
+pub untold_length : (image : SwapImage) (n : ℕ) → None ≡ Some image → length image.bytes ≡ n
+untold_length image n told = cc

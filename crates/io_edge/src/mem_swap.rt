@@ -5,7 +5,8 @@ ghost use Rattle.io_edge.specs.Calls.{ReadsSwap, WritesSwap};
 ghost use Rattle.io_edge.specs.Count.{Counts, OnDone, OnFailed};
 ghost use Rattle.io_edge.specs.Plan.{FailsNext, IsNewPlan, LaterCalls, NextCall};
 ghost use Rattle.io_edge.specs.PlanLaws.{later_itself, later_through};
-ghost use Rattle.io_edge.specs.SwapImage.{HoldsPage, WritesPage, SpoilsPage};
+ghost use Rattle.io_edge.specs.SwapImage.{bytes_told, HoldsPage, ReadsPage, WritesPage, SpoilsPage};
+ghost use Rattle.vm_facts.specs.SwapImages.{unnoted};
 ghost use Rattle.io_edge.specs.Zeros.{with_zeros, length-with_zeros};
 ghost use Rattle.vm_facts.specs.Swap.{blocks_at, put_blocks};
 ghost use Rattle.io_edge.specs.Told.{told_length};
@@ -51,7 +52,7 @@ fn grow(bytes: &mut Vec<u8>, len: usize)
     }
 }
 
-/// A swap device in memory that never fails. It keeps the bytes up to the last page that was written;
+/// A swap device in memory that never fails, and notes nothing. It keeps the bytes up to the last page that was written;
 /// the memory for all of them is had when it is made.
 #[derive(Drop)]
 pub struct SureSwap {
@@ -66,7 +67,7 @@ impl SureSwap {
     /// A device of this many blocks of zeros.
     pub fn new(alloc: Global, blocks: u32) -> Result<SureSwap, NoMemory>
         ensures blocks { IfOk result (λ swap. ⟦<SureSwap as SwapDev>⟧.blocks swap ≡ blocks) }
-        ensures zeros { IfOk result (λ swap. ⟦<SureSwap as SwapDev>⟧.image swap ≡ Some (replicate (512 * blocks) 0)) }
+        ensures zeros { IfOk result (λ swap. ⟦<SureSwap as SwapDev>⟧.image swap ≡ Some (unnoted (replicate (512 * blocks) 0))) }
     {
         let written = Vec::with_capacity(alloc, blocks as usize * 512)?;
         Ok(SureSwap { written, blocks })
@@ -87,7 +88,7 @@ impl SureSwap {
 }
 
 impl SwapDev for SureSwap {
-    ghost image = { λ d. Some (with_zeros (512 * d.blocks) d.written.items) };
+    ghost image = { λ d. Some (unnoted (with_zeros (512 * d.blocks) d.written.items)) };
 
     ghost blocks = { λ d. d.blocks };
 
@@ -112,7 +113,7 @@ impl SwapDev for SureSwap {
         Moved::Done
     }
 
-    ghost whole = { λ d bytes told. told_length (with_zeros (512 * d.blocks) d.written.items) bytes (512 * d.blocks) told
+    ghost whole = { λ d image told. told_length (unnoted (with_zeros (512 * d.blocks) d.written.items)) image (512 * d.blocks) told
         (length-with_zeros (512 * d.blocks) d.written.items d.within) };
 
     ghost leads_nowhere = { λ _. refl };
@@ -126,7 +127,7 @@ impl SwapDev for SureSwap {
     ghost writes_grow = { λ _ _ _. lit≤ tt };
 }
 
-/// A swap device in memory with calls that are to fail.
+/// A swap device in memory with calls that are to fail. It notes nothing.
 #[derive(Drop)]
 pub struct MemSwap {
     store: SureSwap,
@@ -147,7 +148,7 @@ impl MemSwap {
         fail_writes: Vec<u64>,
     ) -> Result<MemSwap, NoMemory>
         ensures blocks { IfOk result (λ swap. ⟦<MemSwap as SwapDev>⟧.blocks swap ≡ blocks) }
-        ensures zeros { IfOk result (λ swap. ⟦<MemSwap as SwapDev>⟧.image swap ≡ Some (replicate (512 * blocks) 0)) }
+        ensures zeros { IfOk result (λ swap. ⟦<MemSwap as SwapDev>⟧.image swap ≡ Some (unnoted (replicate (512 * blocks) 0))) }
         ensures read_faults { IfOk result (λ swap. ⟦<MemSwap as SwapDev>⟧.read_faults swap ≡ 0) }
         ensures write_faults { IfOk result (λ swap. ⟦<MemSwap as SwapDev>⟧.write_faults swap ≡ 0) }
         ensures reads { IfOk result (λ swap. IsNewPlan swap.reads fail_reads.items) }
@@ -164,7 +165,7 @@ impl MemSwap {
 }
 
 impl SwapDev for MemSwap {
-    ghost image = { λ d. Some (with_zeros (512 * d.store.blocks) d.store.written.items) };
+    ghost image = { λ d. Some (unnoted (with_zeros (512 * d.store.blocks) d.store.written.items)) };
 
     ghost blocks = { λ d. d.store.blocks };
 
@@ -183,7 +184,8 @@ impl SwapDev for MemSwap {
         requires even { block % 2 ≡ 0 }
         requires inside { block + 2 ≤ self.old.store.blocks }
         ensures kept { ReadsSwap ⟦<MemSwap as SwapDev>⟧ self.old self.new }
-        ensures done { OnDone result (HoldsPage (⟦<MemSwap as SwapDev>⟧.image self.old) block buf.new) }
+        ensures image { ReadsPage (⟦<MemSwap as SwapDev>⟧.image self.old) block (⟦<MemSwap as SwapDev>⟧.image self.new) }
+        ensures done { OnDone result (HoldsPage (bytes_told (⟦<MemSwap as SwapDev>⟧.image self.old)) block buf.new) }
         ensures read_faults { Counts result self.old.read_faults self.new.read_faults }
 
         // Just the reads whose numbers are listed fail.
@@ -219,7 +221,7 @@ impl SwapDev for MemSwap {
         self.store.write(block, bytes)
     }
 
-    ghost whole = { λ d bytes told. told_length (with_zeros (512 * d.store.blocks) d.store.written.items) bytes (512 * d.store.blocks) told
+    ghost whole = { λ d image told. told_length (unnoted (with_zeros (512 * d.store.blocks) d.store.written.items)) image (512 * d.store.blocks) told
         (length-with_zeros (512 * d.store.blocks) d.store.written.items d.store.within) };
 
     ghost leads_nowhere = { λ d. (refl, le_refl d.read_faults, le_refl d.write_faults, later_itself d.reads, later_itself d.writes) };

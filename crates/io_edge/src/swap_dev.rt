@@ -1,7 +1,8 @@
 // A swap device: blocks of 512 bytes, moved two at a time, as a page of memory has 1,024.
-ghost use Rattle.std.specs.Prelude.{◌≡◌, ℕ, ◌+◌, ◌*◌, ◌%◌, ◌≤◌, List, Option, Some, length};
+ghost use Rattle.std.specs.Prelude.{◌≡◌, ℕ, ◌+◌, ◌*◌, ◌%◌, ◌≤◌, Option, Some, length};
 ghost use Rattle.io_edge.specs.Count.{Counts, OnDone, OnFailed};
-ghost use Rattle.io_edge.specs.SwapImage.{HoldsPage, WritesPage, SpoilsPage};
+ghost use Rattle.io_edge.specs.SwapImage.{bytes_told, HoldsPage, ReadsPage, WritesPage, SpoilsPage};
+ghost use Rattle.vm_facts.specs.SwapImages.{SwapImage};
 
 use crate::Moved;
 
@@ -9,8 +10,10 @@ use crate::Moved;
 /// even number (this project's profile). Failed reads and failed writes are counted, each in a count
 /// that never falls. It is kept as a `u64`, which stands still at its last value.
 pub trait SwapDev {
-    /// All bytes of the device, block after block, where they are told.
-    ghost image: { Self → Option (List ℕ) };
+    /// All bytes of the device, block after block, and what it has noted of the calls that were made of it; where they are told.
+    /// Code over any device knows what is noted by the clauses of the calls alone: each call notes its request, also one that fails,
+    /// and nothing else does.
+    ghost image: { Self → Option SwapImage };
 
     /// How many blocks the device has.
     ghost blocks: { Self → ℕ };
@@ -35,8 +38,9 @@ pub trait SwapDev {
         requires inside { block + 2 ≤ blocks self.old }
         ensures leads { leads self.old self.new }
         ensures blocks { blocks self.new ≡ blocks self.old }
-        ensures image { image self.new ≡ image self.old }
-        ensures done { OnDone result (HoldsPage (image self.old) block buf.new) }
+        ensures image { ReadsPage (image self.old) block (image self.new) }
+        ensures bytes { bytes_told (image self.new) ≡ bytes_told (image self.old) }
+        ensures done { OnDone result (HoldsPage (bytes_told (image self.old)) block buf.new) }
         ensures read_faults { Counts result (read_faults self.old) (read_faults self.new) }
         ensures write_faults { write_faults self.new ≡ write_faults self.old };
 
@@ -53,7 +57,7 @@ pub trait SwapDev {
         ensures write_faults { Counts result (write_faults self.old) (write_faults self.new) };
 
     /// A told image has 512 bytes for each block.
-    ghost whole: { (d : Self) (bytes : List ℕ) → image d ≡ Some bytes → length bytes ≡ 512 * blocks d };
+    ghost whole: { (d : Self) (told : SwapImage) → image d ≡ Some told → length told.bytes ≡ 512 * blocks d };
 
     /// No call leads from a state to itself.
     ghost leads_nowhere: { (d : Self) → leads d d };

@@ -2,7 +2,7 @@
 ghost use Rattle.std.specs.Prelude.{◌≡◌, ◌+◌, ◌%◌, ◌≤◌, ◌<◌, ◌↔◌, IsTrue, IsNone, IfSome, None, refl};
 ghost use Rattle.std.proofs.Common.{sym, ◌∙◌, ap};
 ghost use Rattle.io_edge.specs.Count.{Counts, OnDone, OnFailed, next_count};
-ghost use Rattle.io_edge.specs.SwapImage.{HoldsPage, WritesPage, SpoilsPage, LeavesPage};
+ghost use Rattle.io_edge.specs.SwapImage.{bytes_told, HoldsPage, ReadsPage, WritesPage, SpoilsPage, LeavesPage};
 ghost use Rattle.io_edge.specs.Striping.{device_of, place_of, pair_blocks, pair_image, zero_needs, one_needs, IsDevice, IsLargestSwap, KeepsBeyond};
 ghost use Rattle.io_edge.specs.Beyond.{zero_through, one_through};
 ghost use Rattle.io_edge.specs.PairFailures.{AddsFailures};
@@ -138,10 +138,12 @@ impl<'a, D: SwapDev, E: SwapDev> SwapDev for SwapPair<'a, D, E> {
         ensures leads { ⟦<SwapPair<'a, D, E> as SwapDev>⟧.leads self.old self.new }
         ensures blocks { ⟦<SwapPair<'a, D, E> as SwapDev>⟧.blocks self.new
             ≡ ⟦<SwapPair<'a, D, E> as SwapDev>⟧.blocks self.old }
-        ensures image { ⟦<SwapPair<'a, D, E> as SwapDev>⟧.image self.new
-            ≡ ⟦<SwapPair<'a, D, E> as SwapDev>⟧.image self.old }
+        ensures image { ReadsPage (⟦<SwapPair<'a, D, E> as SwapDev>⟧.image self.old) block
+            (⟦<SwapPair<'a, D, E> as SwapDev>⟧.image self.new) }
+        ensures bytes { bytes_told (⟦<SwapPair<'a, D, E> as SwapDev>⟧.image self.new)
+            ≡ bytes_told (⟦<SwapPair<'a, D, E> as SwapDev>⟧.image self.old) }
         ensures done { OnDone result
-            (HoldsPage (⟦<SwapPair<'a, D, E> as SwapDev>⟧.image self.old) block buf.new) }
+            (HoldsPage (bytes_told (⟦<SwapPair<'a, D, E> as SwapDev>⟧.image self.old)) block buf.new) }
         ensures read_faults { Counts result
             (⟦<SwapPair<'a, D, E> as SwapDev>⟧.read_faults self.old)
             (⟦<SwapPair<'a, D, E> as SwapDev>⟧.read_faults self.new) }
@@ -152,9 +154,13 @@ impl<'a, D: SwapDev, E: SwapDev> SwapDev for SwapPair<'a, D, E> {
         ensures failed_calls { OnFailed result (⟦<SwapPair<'a, D, E> as SwapDev>⟧.read_faults self.new
             ≡ next_count (⟦<SwapPair<'a, D, E> as SwapDev>⟧.read_faults self.old)) }
 
-        // No block of either device changes.
-        ensures zero_image { D.image self.new.zero.now ≡ D.image self.old.zero.now }
-        ensures one_image { E.image self.new.one.now ≡ E.image self.old.one.now }
+        // The block's device is asked for the page at its place, and the other device not at all.
+        ensures on_zero { device_of block ≡ 0 → ReadsPage (D.image self.old.zero.now) (place_of block)
+            (D.image self.new.zero.now) }
+        ensures not_on_zero { device_of block ≡ 1 → self.new.zero.now ≡ self.old.zero.now }
+        ensures on_one { device_of block ≡ 1 → ReadsPage (E.image self.old.one.now) (place_of block)
+            (E.image self.new.one.now) }
+        ensures not_on_one { device_of block ≡ 0 → self.new.one.now ≡ self.old.one.now }
     {
         let place = place_on_device(block);
         if device_number(block) == 0 {

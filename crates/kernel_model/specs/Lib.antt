@@ -10,3 +10,4 @@ pub mod Stands
 pub mod Start
 pub mod Unit
 pub mod Invariant
+pub mod SwapRequests

@@ -1,15 +1,16 @@
 -- The end of a transfer, through its device.
 use Rattle.std.specs.Prelude.{◌≡◌, ◌⊎◌, ◌↔◌, ℕ, ◌<◌, ◌≤◌, Bool, List, [], ◌∷◌, length, Option, Some, None, Result, Ok, Err}
 use Rattle.flat_state.specs.Flat.{FlatState, NamedImage}
+use Rattle.vm_facts.specs.SwapImages.{SwapImage}
 use Rattle.vm_facts.specs.declared.stop.Stop.{Stop}
 use Rattle.vm_facts.specs.declared.stop.Stop.TheVariants as stops
 use Rattle.transfer_ring.specs.FileHolding.{NamedFile}
 use Rattle.page_model.specs.Placement.{Transfer, Part, Source, FromSwap, FromFile, Errand, Writes, Reads}
 use Rattle.page_model.specs.Ownership.{block_of}
-use Rattle.kernel_model.specs.Kernel.{Kernel, done_step, image_after, frame_bytes}
+use Rattle.kernel_model.specs.Kernel.{Kernel, done_step, frame_bytes}
+use Rattle.kernel_model.specs.SwapRequests.{read_at, write_at, image_done}
 use Rattle.kernel_model.specs.Sound.{TextFits}
 use Rattle.kernel_model.specs.Coupled.{Coupled, AreRead, beside_kernel}
-use Rattle.page_model.specs.Stored.{store_at}
 use Rattle.kernel_tables.specs.Sourced.{ImageNamed}
 use Rattle.kernel_tables.specs.Machine.{Standing}
 use Rattle.kernel_tables.specs.Conditions.{HasStopped}
@@ -35,13 +36,13 @@ pub record Sources : Type 0 where
   pub files : Option (List NamedFile)
 
 -- where the files and the swap image are told, these are the bytes that stand where the oldest transfer reads
-abbrev pub ReadsTold : Sources → Option (List ℕ) → Kernel → List (List ℕ) → Type 0
+abbrev pub ReadsTold : Sources → Option SwapImage → Kernel → List (List ℕ) → Type 0
 ReadsTold from None k read = Unit {0}
 ReadsTold from (Some image) k read =
-    (images : List NamedImage) (flat : FlatState) → AreImages from.images from.files images → AreRead (beside_kernel k images image flat) k.place.transfers read
+    (images : List NamedImage) (flat : FlatState) → AreImages from.images from.files images → AreRead (beside_kernel k images image.bytes flat) k.place.transfers read
 
 -- the oldest transfer is complete; of a read, with the bytes that were read, which are those of the files and the swap image
-pub record IsDone (from : Sources) (before : Option (List ℕ)) (old new : Kernel) : Type 0 where
+pub record IsDone (from : Sources) (before : Option SwapImage) (old new : Kernel) : Type 0 where
   pub some : 0 < length old.place.transfers
   pub read : List (List ℕ)
   pub step : new ≡ done_step old read
@@ -52,37 +53,53 @@ abbrev pub sources : Standing → Option (List NamedFile) → Sources
 sources m holds = record { images = m.images; files = holds }
 
 -- the machine stands for the flat state, with a swap image that is told
-abbrev pub StandsTold : Kernel → List NamedImage → Option (List ℕ) → FlatState → Type 0
+abbrev pub StandsTold : Kernel → List NamedImage → Option SwapImage → FlatState → Type 0
 StandsTold k images None flat = ⊥
-StandsTold k images (Some image) flat = Coupled k images image flat
+StandsTold k images (Some image) flat = Coupled k images image.bytes flat
 
 -- with the images that the files have, the machine still stands for the flat states that it stood for; a told image stays told
-abbrev pub KeepsThrough : Standing → Standing → Option (List NamedFile) → Option (List ℕ) → Option (List ℕ) → Type 0
+abbrev pub KeepsThrough : Standing → Standing → Option (List NamedFile) → Option SwapImage → Option SwapImage → Type 0
 KeepsThrough old new holds before after =
     (images : List NamedImage) (flat : FlatState) → AreImages old.images holds images → TextFits images old.kernel.place
     → StandsTold old.kernel images before flat → StandsTold new.kernel images after flat
 
--- the swap image, where it is told, after the oldest transfer
-abbrev pub ImageAfter : Kernel → Option (List ℕ) → Option (List ℕ) → Type 0
+-- the swap image, where it is told, after the oldest transfer: each page of swap was asked for once, in their order
+abbrev pub ImageAfter : Kernel → Option SwapImage → Option SwapImage → Type 0
 ImageAfter k None after = after ≡ None
-ImageAfter k (Some image) after = after ≡ Some (image_after k image)
+ImageAfter k (Some image) after = after ≡ Some (image_done k image)
 
--- some pages of a write are in their blocks, and one page's blocks have any bytes
-abbrev pub SpoilsAll : Kernel → List ℕ → List Part → List ℕ → Type 0
+-- some pages of a write are in their blocks, and one page's blocks have any bytes: its write is the last request
+abbrev pub SpoilsAll : Kernel → SwapImage → List Part → SwapImage → Type 0
 SpoilsAll k image [] after = ⊥
 SpoilsAll k image (x ∷ xs) after =
-    ((bytes : List ℕ) × (length bytes ≡ 1024) × (after ≡ store_at image (block_of k.holdings x.page) bytes))
-    ⊎ SpoilsAll k (store_at image (block_of k.holdings x.page) (frame_bytes k x.frame)) xs after
+    ((bytes : List ℕ) × (length bytes ≡ 1024) × (after ≡ write_at image (block_of k.holdings x.page) bytes))
+    ⊎ SpoilsAll k (write_at image (block_of k.holdings x.page) (frame_bytes k x.frame)) xs after
 
 -- what a write that failed leaves of the image: the oldest transfer is that write
-abbrev pub SpoilsFirst : Kernel → List ℕ → List Transfer → List ℕ → Type 0
+abbrev pub SpoilsFirst : Kernel → SwapImage → List Transfer → SwapImage → Type 0
 SpoilsFirst k image [] after = ⊥
 SpoilsFirst k image (t ∷ ts) after = (t.errand ≡ Writes) × SpoilsAll k image t.parts after
 
 -- the swap image, where it is told, after the oldest transfer's write failed
-abbrev pub SpoilsAfter : Kernel → Option (List ℕ) → Option (List ℕ) → Type 0
+abbrev pub SpoilsAfter : Kernel → Option SwapImage → Option SwapImage → Type 0
 SpoilsAfter k None after = after ≡ None
-SpoilsAfter k (Some image) after = (spoiled : List ℕ) × (after ≡ Some spoiled) × SpoilsFirst k image k.place.transfers spoiled
+SpoilsAfter k (Some image) after = (spoiled : SwapImage) × (after ≡ Some spoiled) × SpoilsFirst k image k.place.transfers spoiled
+
+-- some pages of a read were asked for, in their order, and no byte changed: the last of them is the one whose read failed
+abbrev pub AskedAll : Kernel → SwapImage → List Part → SwapImage → Type 0
+AskedAll k image [] after = ⊥
+AskedAll k image (x ∷ xs) after =
+    (after ≡ read_at image (block_of k.holdings x.page)) ⊎ AskedAll k (read_at image (block_of k.holdings x.page)) xs after
+
+-- what a read from swap that failed leaves of the image: the oldest transfer is that read
+abbrev pub AskedFirst : Kernel → SwapImage → List Transfer → SwapImage → Type 0
+AskedFirst k image [] after = ⊥
+AskedFirst k image (t ∷ ts) after = AskedAll k image t.parts after
+
+-- the swap image, where it is told, after the oldest transfer's read from swap failed
+abbrev pub AskedAfter : Kernel → Option SwapImage → Option SwapImage → Type 0
+AskedAfter k None after = after ≡ None
+AskedAfter k (Some image) after = (asked : SwapImage) × (after ≡ Some asked) × AskedFirst k image k.place.transfers asked
 
 -- what the oldest transfer is for
 abbrev pub IsReadFrom : Source → Errand → Type 0
@@ -108,14 +125,16 @@ StopsFor (Err stops.FileFault) ts = OldestReadsFrom FromFile ts
 StopsFor (Err stops.SwapReadFault) ts = OldestReadsFrom FromSwap ts
 StopsFor (Err stops.SwapWriteFault) ts = OldestWrites ts
 
--- the swap image after a call that stopped: only a write that failed changes it
-abbrev pub SwapAfter : Result Bool Stop → Kernel → Option (List ℕ) → Option (List ℕ) → Type 0
+-- The swap image after a call that stopped: it has the requests up to the one that failed, and only a write that failed changes
+-- a byte.
+abbrev pub SwapAfter : Result Bool Stop → Kernel → Option SwapImage → Option SwapImage → Type 0
+SwapAfter (Err stops.SwapReadFault) k before after = AskedAfter k before after
 SwapAfter (Err stops.SwapWriteFault) k before after = SpoilsAfter k before after
 SwapAfter _ k before after = after ≡ before
 
 -- The end of the oldest transfer stops the machine, in which no pieces wait: the journal was full exactly where it was at its
--- bound, a fault comes of a transfer of its own kind, which is lost with its frames, and only a write that failed changes the swap image.
-pub record StopsEnding (old new : Standing) (before after : Option (List ℕ)) (stop : Stop) : Type 0 where
+-- bound, a fault comes of a transfer of its own kind, which is lost with its frames, and of swap no more was asked than up to the fault.
+pub record StopsEnding (old new : Standing) (before after : Option SwapImage) (stop : Stop) : Type 0 where
   pub stopped : HasStopped old new
   pub whole : old.before ≡ old.kernel.holdings
   pub full : (stop ≡ stops.JournalFull) ↔ ((0 < length old.kernel.place.transfers) × (old.params.journal ≤ length old.kernel.journal))

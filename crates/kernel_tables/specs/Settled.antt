@@ -1,5 +1,6 @@
 -- Transfers that end one after another until a space is settled.
 use Rattle.std.specs.Prelude.{◌≡◌, ℕ, zero, suc, ◌==◌, true, false, cond, List, [], ◌∷◌, Option, Some, None}
+use Rattle.vm_facts.specs.SwapImages.{SwapImage}
 use Rattle.vm_facts.specs.declared.stop.Stop.{Stop}
 use Rattle.transfer_ring.specs.FileHolding.{NamedFile}
 use Rattle.space_map.specs.Space.{Places}
@@ -9,14 +10,14 @@ use Rattle.kernel_tables.specs.Machine.{Standing}
 use Rattle.kernel_tables.specs.Done.{Sources, sources, IsDone, ImageAfter, StopsEnding}
 
 -- so many transfers end, one after another, each while the space isn't settled
-abbrev pub EndsWhile : Sources → ℕ → ℕ → Kernel → Option (List ℕ) → Kernel → Option (List ℕ) → Type 0
+abbrev pub EndsWhile : Sources → ℕ → ℕ → Kernel → Option SwapImage → Kernel → Option SwapImage → Type 0
 EndsWhile from sid zero k i l j = (l ≡ k) × (j ≡ i)
 EndsWhile from sid (suc n) k i l j =
     (is_settled k.place sid ≡ false)
-    × ((next : Kernel) × (between : Option (List ℕ)) × IsDone from i k next × ImageAfter k i between × EndsWhile from sid n next between l j)
+    × ((next : Kernel) × (between : Option SwapImage) × IsDone from i k next × ImageAfter k i between × EndsWhile from sid n next between l j)
 
 -- until it is settled
-pub record SettledBy (from : Sources) (sid : ℕ) (old new : Kernel) (before after : Option (List ℕ)) : Type 0 where
+pub record SettledBy (from : Sources) (sid : ℕ) (old new : Kernel) (before after : Option SwapImage) : Type 0 where
   pub count : ℕ
   pub ends : EndsWhile from sid count old before new after
   pub settled : is_settled new.place sid ≡ true
@@ -28,10 +29,10 @@ pub record IsSameBeside (old new : Standing) : Type 0 where
   pub before : new.before ≡ old.before
 
 -- the machine stops at the end of a transfer, after so many, and the space isn't settled there
-pub record StopsSettling (sid : ℕ) (old new : Standing) (holds : Option (List NamedFile)) (before after : Option (List ℕ)) (stop : Stop) : Type 0 where
+pub record StopsSettling (sid : ℕ) (old new : Standing) (holds : Option (List NamedFile)) (before after : Option SwapImage) (stop : Stop) : Type 0 where
   pub count : ℕ
   pub between : Standing
-  pub image : Option (List ℕ)
+  pub image : Option SwapImage
   pub ends : EndsWhile (sources old holds) sid count old.kernel before between.kernel image
   pub beside : IsSameBeside old between
   pub unsettled : is_settled between.kernel.place sid ≡ false

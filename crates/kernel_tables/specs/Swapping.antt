@@ -1,6 +1,7 @@
 -- Processes that go out and come in, through the swap device.
 use Rattle.std.specs.Prelude.{◌≡◌, ℕ, Bool, List, length, Option, Some, None, Result, Err}
 use Rattle.flat_state.specs.Flat.{FlatState, NamedImage}
+use Rattle.vm_facts.specs.SwapImages.{SwapImage}
 use Rattle.vm_facts.specs.declared.regs.Regs.{Regs}
 use Rattle.vm_facts.specs.declared.stop.Stop.{Stop}
 use Rattle.vm_facts.specs.declared.stop.Stop.TheVariants as stops
@@ -12,8 +13,9 @@ use Rattle.proc_table.specs.declared.process.Life.{Life as RecordLife}
 use Rattle.proc_table.specs.declared.process.Life.TheVariants as lives
 use Rattle.proc_table.specs.Records.{find, Changes, IsProcTable}
 use Rattle.page_model.specs.Pages.{numbered}
-use Rattle.page_model.specs.Stored.{stored_at, store_at}
+use Rattle.page_model.specs.Stored.{stored_at}
 use Rattle.kernel_model.specs.Kernel.{Kernel, in_step}
+use Rattle.kernel_model.specs.SwapRequests.{read_at, write_at}
 use Rattle.kernel_model.specs.UPage.{u_page, regs_in, AreRegs}
 use Rattle.kernel_model.specs.Unit.{u_bytes, proc_of}
 use Rattle.kernel_model.specs.Invariant.{MayReturn}
@@ -25,28 +27,34 @@ abbrev pub u_block : Kernel → ℕ → Option ℕ
 u_block k pid = block_in k.holdings (owners.U pid) 0
 
 -- where the swap image is told, the registers are those of the u page
-abbrev pub AreStored : Kernel → ℕ → Option (List ℕ) → Regs → Type 0
+abbrev pub AreStored : Kernel → ℕ → Option SwapImage → Regs → Type 0
 AreStored k pid None regs = Unit {0}
-AreStored k pid (Some image) regs = regs ≡ regs_in (stored_at image (u_block k pid))
+AreStored k pid (Some image) regs = regs ≡ regs_in (stored_at image.bytes (u_block k pid))
 
 -- the process is in, with registers that were read
-pub record IsIn (old new : Kernel) (pid : ℕ) (image : Option (List ℕ)) : Type 0 where
+pub record IsIn (old new : Kernel) (pid : ℕ) (image : Option SwapImage) : Type 0 where
   pub regs : Regs
   pub stored : AreStored old pid image regs
   pub step : new ≡ in_step old pid regs
 
 -- the swap image, where it is told, once the u page of a process was written
-abbrev pub WritesU : Kernel → ℕ → Option (List ℕ) → Option (List ℕ) → Type 0
+abbrev pub WritesU : Kernel → ℕ → Option SwapImage → Option SwapImage → Type 0
 WritesU k pid None after = after ≡ None
-WritesU k pid (Some image) after = after ≡ Some (store_at image (u_block k pid) (u_bytes k (proc_of k pid)))
+WritesU k pid (Some image) after = after ≡ Some (write_at image (u_block k pid) (u_bytes k (proc_of k pid)))
 
--- any bytes are in the blocks of the u page
-abbrev pub SpoilsU : Kernel → ℕ → Option (List ℕ) → Option (List ℕ) → Type 0
+-- once it was asked for, by a read
+abbrev pub AsksU : Kernel → ℕ → Option SwapImage → Option SwapImage → Type 0
+AsksU k pid None after = after ≡ None
+AsksU k pid (Some image) after = after ≡ Some (read_at image (u_block k pid))
+
+-- any bytes are in the blocks of the u page, once its write failed
+abbrev pub SpoilsU : Kernel → ℕ → Option SwapImage → Option SwapImage → Type 0
 SpoilsU k pid None after = after ≡ None
-SpoilsU k pid (Some image) after = (bytes : List ℕ) × (length bytes ≡ 1024) × (after ≡ Some (store_at image (u_block k pid) bytes))
+SpoilsU k pid (Some image) after = (bytes : List ℕ) × (length bytes ≡ 1024) × (after ≡ Some (write_at image (u_block k pid) bytes))
 
--- the swap image after a call that stopped: only a write that failed changes it
-abbrev pub SwapBehind : {A : Type 0} → Result A Stop → Kernel → ℕ → Option (List ℕ) → Option (List ℕ) → Type 0
+-- The swap image after a call that stopped: only a write that failed changes a byte, and where no call failed nothing was asked.
+abbrev pub SwapBehind : {A : Type 0} → Result A Stop → Kernel → ℕ → Option SwapImage → Option SwapImage → Type 0
+SwapBehind (Err stops.SwapReadFault) k pid before after = AsksU k pid before after
 SwapBehind (Err stops.SwapWriteFault) k pid before after = SpoilsU k pid before after
 SwapBehind _ k pid before after = after ≡ before
 
@@ -57,11 +65,11 @@ CallsNone (Err stops.NoMemory) old new = new ≡ old
 CallsNone _ old new = Unit {0}
 
 -- whatever the images, the machine still stands for the flat states that it stood for; a told swap image stays told
-abbrev pub KeepsOut : Kernel → Kernel → Option (List ℕ) → Option (List ℕ) → Type 0
+abbrev pub KeepsOut : Kernel → Kernel → Option SwapImage → Option SwapImage → Type 0
 KeepsOut old new before after = (images : List NamedImage) (flat : FlatState) → StandsTold old images before flat → StandsTold new images after flat
 
 -- so it does of each flat state in which the process's registers are longwords
-abbrev pub KeepsIn : Kernel → Kernel → ℕ → Option (List ℕ) → Option (List ℕ) → Type 0
+abbrev pub KeepsIn : Kernel → Kernel → ℕ → Option SwapImage → Option SwapImage → Type 0
 KeepsIn old new pid before after =
     (images : List NamedImage) (flat : FlatState) → MayReturn old flat pid → StandsTold old images before flat → StandsTold new images after flat
 

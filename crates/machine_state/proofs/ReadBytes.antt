@@ -2,6 +2,8 @@
 use Rattle.std.proofs.Common.{◌≡◌, inl, inr, ℕ, zero, suc, ◌+◌, ◌-◌, ◌*◌, ◌/◌, ◌≤◌, min, Bool, true, false, List, [], ◌∷◌, ◌++◌, length, map, take, drop, replicate, Option, Some, None, slice_get, refl, sym, ap, ◌∙◌, subst, arith}
 use Rattle.std.proofs.lemmas.List.{take-append-drop, length-take}
 use Rattle.flat_state.specs.Flat.{FlatState, NamedImage, image_numbered}
+use Rattle.vm_facts.specs.SwapImages.{SwapRequest, SwapRead, SwapWrite, SwapImage, with_requests}
+use Rattle.vm_facts.proofs.Requests.{with_requests-append}
 use Rattle.vm_facts.specs.declared.page.Page.{Page}
 use Rattle.vm_facts.specs.declared.page.Page.TheVariants.{Data, Stack, Text}
 use Rattle.aout_image.specs.declared.Image.{Image}
@@ -12,18 +14,20 @@ use Rattle.transfer_ring.specs.declared.transfer.Inbound.{Inbound}
 use Rattle.transfer_ring.specs.declared.transfer.Outbound.{Outbound}
 use Rattle.transfer_ring.specs.declared.transfer.Source.{Source as From}
 use Rattle.transfer_ring.specs.declared.transfer.Source.TheVariants as froms
-use Rattle.transfer_ring.specs.Parts.{HasRead, AreSameParts, PartsAreRead as AreReadParts, WritesParts, SpoilsParts}
-use Rattle.page_model.specs.Placement.{Placement, Part, Source, image_of}
+use Rattle.transfer_ring.specs.Parts.{HasRead, AreSameParts, PartsAreRead as AreReadParts, AsksSource, AsksParts, AsksSome, WritesParts, SpoilsParts}
+use Rattle.swap_book.specs.Holdings.{Holdings}
+use Rattle.page_model.specs.Placement.{Placement, Part, Source, FromSwap, FromFile, Reads, image_of}
 use Rattle.page_model.specs.Ownership.{block_of}
 use Rattle.page_model.specs.PageBytes.{source_bytes}
 use Rattle.kernel_model.specs.Kernel.{Kernel, store_all, frame_bytes}
 use Rattle.kernel_model.specs.Coupled.{beside_kernel, file_of, image_text, data_of}
 use Rattle.page_model.specs.Stored.{store_at}
+use Rattle.kernel_model.specs.SwapRequests.{asked_at, pages_asked, errand_asks, read_at, write_at}
 use Rattle.table_steps.specs.View.{source_of, in_part, out_part}
 use Rattle.table_steps.specs.Sourced.{ImageNamed, named_at, IsRange, IsRangeOf, IsPageRange, IsSourced, AreSourcedIn, AreOwnBlocks}
 use Rattle.table_steps.specs.Files.{HasFile, HaveFiles, AreFiles, AreLoaded, AreImages}
-use Rattle.table_steps.specs.Done.{AreWholePages, SpoilsAll}
-use Rattle.machine_state.proofs.Device.{read_is, written_is}
+use Rattle.table_steps.specs.Done.{AreWholePages, AskedAll, SpoilsAll}
+use Rattle.machine_state.proofs.Device.{read_is, asked_is, written_is, written_first}
 use Rattle.machine_state.proofs.Reaches.{file_at, given_within}
 use Rattle.machine_state.proofs.Ends.{AreBytes}
 
@@ -129,34 +133,105 @@ pages_read ns k size holds images image flat s (x ∷ xs) (y ∷ ys) f l r p w h
     (page_read ns k size holds images image flat x.page x.source s y.token.bytes f l r.1 r.0 w.0 (subst (λ (z : From). HasRead holds (Some image) z y.token.bytes) p.0.source h.0))
     ∙ ap (λ (bs : List (List ℕ)). source_bytes (beside_kernel k images image flat) s x.page ∷ bs) (pages_read ns k size holds images image flat s xs ys f l r.2 p.1 w.1 h.1)
 
--- Pages that were written.
+-- Pages that were asked for.
 
-pub pages_written : (k : Kernel) (size : ℕ) (image : List ℕ) (xs : List Outbound) (new : Option (List ℕ)) → AreOwnBlocks k.holdings size xs
-    → AreBytes k.frames xs → WritesParts xs (Some image) new
-    → new ≡ Some (store_all k image (map out_part xs))
-pages_written k size image [] new o b h = h
-pages_written k size image (x ∷ xs) new o b h =
-    let next : List ℕ = store_at image (block_of k.holdings x.page) (frame_bytes k x.token.number) in
-    let one : h.0 ≡ Some next = written_is k.holdings image x.token.bytes x.page x.block h.0 o.0.own h.1 ∙ ap (λ (bs : List ℕ). Some (store_at image (block_of k.holdings x.page) bs)) (sym b.0) in
-    pages_written k size next xs new o.1 b.1 (subst (λ (i : Option (List ℕ)). WritesParts xs i new) one h.2)
+source_asked : (ns : List ImageNamed) (f : ℕ → ℕ) (hs : Holdings) (size : ℕ) (image : SwapImage) (q : Page) (x : From) (new : Option SwapImage)
+    → source_of x ≡ FromSwap → IsSourced ns f hs size q x → AsksSource x (Some image) new → new ≡ Some (read_at image (block_of hs q))
+source_asked ns f hs size image q (froms.Swap block) new e r h = asked_is hs image q block new r.own h
+source_asked ns f hs size image q (froms.File id offset count) new e r h = absurd cc
 
-pub none_written : (xs : List Outbound) (new : Option (List ℕ)) → WritesParts xs None new → new ≡ None
-none_written [] new h = h
-none_written (x ∷ xs) new h = none_written xs new (subst (λ (i : Option (List ℕ)). WritesParts xs i new) h.1 h.2)
+source_unasked : (x : From) (old new : Option SwapImage) → source_of x ≡ FromFile → AsksSource x old new → new ≡ old
+source_unasked (froms.Swap block) old new e h = absurd cc
+source_unasked (froms.File id offset count) old new e h = h
 
-pub pages_spoiled : (k : Kernel) (size : ℕ) (image : List ℕ) (xs : List Outbound) (new : Option (List ℕ)) → AreOwnBlocks k.holdings size xs
-    → AreBytes k.frames xs → SpoilsParts xs (Some image) new
-    → (after : List ℕ) × (new ≡ Some after) × SpoilsAll k image (map out_part xs) after
-pages_spoiled k size image [] new o b h = absurd h
-pages_spoiled k size image (x ∷ xs) new o b (inl s) =
-    (store_at image (block_of k.holdings x.page) s.0, written_is k.holdings image s.0 x.page x.block new o.0.own s.2, inl (s.0, s.1, refl))
-pages_spoiled k size image (x ∷ xs) new o b (inr h) =
-    let next : List ℕ = store_at image (block_of k.holdings x.page) (frame_bytes k x.token.number) in
-    let one : h.0 ≡ Some next = written_is k.holdings image x.token.bytes x.page x.block h.0 o.0.own h.1 ∙ ap (λ (bs : List ℕ). Some (store_at image (block_of k.holdings x.page) bs)) (sym b.0) in
-    let more = pages_spoiled k size next xs new o.1 b.1 (subst (λ (i : Option (List ℕ)). SpoilsParts xs i new) one h.2) in
+none_of_source : (x : From) (new : Option SwapImage) → AsksSource x None new → new ≡ None
+none_of_source (froms.Swap block) new h = h
+none_of_source (froms.File id offset count) new h = h
+
+swap_asked : (ns : List ImageNamed) (f : ℕ → ℕ) (hs : Holdings) (size : ℕ) (image : SwapImage) (xs : List Inbound) (new : Option SwapImage)
+    → AreSourcedIn ns f hs size FromSwap xs → AsksParts xs (Some image) new
+    → new ≡ Some (with_requests (pages_asked hs SwapRead (map in_part xs)) image)
+swap_asked ns f hs size image [] new r h = h
+swap_asked ns f hs size image (x ∷ xs) new r h =
+    let next : SwapImage = read_at image (block_of hs x.page) in
+    let one : h.0 ≡ Some next = source_asked ns f hs size image x.page x.source h.0 r.0 r.1 h.1 in
+    swap_asked ns f hs size next xs new r.2 (subst (λ (i : Option SwapImage). AsksParts xs i new) one h.2)
+    ∙ ap (λ (i : SwapImage). Some i)
+    (sym (with_requests-append (asked_at SwapRead (block_of hs x.page)) (pages_asked hs SwapRead (map in_part xs)) image))
+
+files_asked : (ns : List ImageNamed) (f : ℕ → ℕ) (hs : Holdings) (size : ℕ) (xs : List Inbound) (old new : Option SwapImage)
+    → AreSourcedIn ns f hs size FromFile xs → AsksParts xs old new → new ≡ old
+files_asked ns f hs size [] old new r h = h
+files_asked ns f hs size (x ∷ xs) old new r h = files_asked ns f hs size xs h.0 new r.2 h.2 ∙ source_unasked x.source old h.0 r.0 h.1
+
+pub pages_asked_for : (ns : List ImageNamed) (f : ℕ → ℕ) (hs : Holdings) (size : ℕ) (s : Source) (demanded : Page) (image : SwapImage) (xs : List Inbound)
+    (new : Option SwapImage) → AreSourcedIn ns f hs size s xs → AsksParts xs (Some image) new
+    → new ≡ Some (with_requests (errand_asks hs (Reads s demanded) (map in_part xs)) image)
+pages_asked_for ns f hs size FromSwap demanded image xs new r h = swap_asked ns f hs size image xs new r h
+pages_asked_for ns f hs size FromFile demanded image xs new r h = files_asked ns f hs size xs (Some image) new r h
+
+pub none_asked : (xs : List Inbound) (new : Option SwapImage) → AsksParts xs None new → new ≡ None
+none_asked [] new h = h
+none_asked (x ∷ xs) new h = none_asked xs new (subst (λ (i : Option SwapImage). AsksParts xs i new) (none_of_source x.source h.0 h.1) h.2)
+
+-- Pages that were asked for up to a fault.
+
+pub swap_asked_some : (ns : List ImageNamed) (f : ℕ → ℕ) (k : Kernel) (size : ℕ) (image : SwapImage) (xs : List Inbound) (new : Option SwapImage)
+    → AreSourcedIn ns f k.holdings size FromSwap xs → AsksSome xs (Some image) new
+    → (after : SwapImage) × (new ≡ Some after) × AskedAll k image (map in_part xs) after
+swap_asked_some ns f k size image [] new r h = absurd h
+swap_asked_some ns f k size image (x ∷ xs) new r (inl h) =
+    (read_at image (block_of k.holdings x.page), source_asked ns f k.holdings size image x.page x.source new r.0 r.1 h, inl refl)
+swap_asked_some ns f k size image (x ∷ xs) new r (inr h) =
+    let next : SwapImage = read_at image (block_of k.holdings x.page) in
+    let one : h.0 ≡ Some next = source_asked ns f k.holdings size image x.page x.source h.0 r.0 r.1 h.1 in
+    let more = swap_asked_some ns f k size next xs new r.2 (subst (λ (i : Option SwapImage). AsksSome xs i new) one h.2) in
     (more.0, more.1, inr more.2)
 
-pub none_spoiled : (xs : List Outbound) (new : Option (List ℕ)) → SpoilsParts xs None new → new ≡ None
+pub files_asked_some : (ns : List ImageNamed) (f : ℕ → ℕ) (hs : Holdings) (size : ℕ) (xs : List Inbound) (old new : Option SwapImage)
+    → AreSourcedIn ns f hs size FromFile xs → AsksSome xs old new → new ≡ old
+files_asked_some ns f hs size [] old new r h = absurd h
+files_asked_some ns f hs size (x ∷ xs) old new r (inl h) = source_unasked x.source old new r.0 h
+files_asked_some ns f hs size (x ∷ xs) old new r (inr h) = files_asked_some ns f hs size xs h.0 new r.2 h.2 ∙ source_unasked x.source old h.0 r.0 h.1
+
+pub none_asked_some : (xs : List Inbound) (new : Option SwapImage) → AsksSome xs None new → new ≡ None
+none_asked_some [] new h = absurd h
+none_asked_some (x ∷ xs) new (inl h) = none_of_source x.source new h
+none_asked_some (x ∷ xs) new (inr h) =
+    none_asked_some xs new (subst (λ (i : Option SwapImage). AsksSome xs i new) (none_of_source x.source h.0 h.1) h.2)
+
+-- Pages that were written.
+
+pub pages_written : (k : Kernel) (size : ℕ) (image : SwapImage) (xs : List Outbound) (new : Option SwapImage) → AreOwnBlocks k.holdings size xs
+    → AreBytes k.frames xs → WritesParts xs (Some image) new
+    → new ≡ Some (with_requests (pages_asked k.holdings SwapWrite (map out_part xs)) (record image { bytes = store_all k image.bytes (map out_part xs) }))
+pages_written k size image [] new o b h = h
+pages_written k size image (x ∷ xs) new o b h =
+    let block : Option ℕ = block_of k.holdings x.page in
+    let bytes : List ℕ = frame_bytes k x.token.number in
+    let rest : List SwapRequest = pages_asked k.holdings SwapWrite (map out_part xs) in
+    let one : h.0 ≡ Some (write_at image block bytes) =
+    written_is k.holdings image x.token.bytes x.page x.block h.0 o.0.own h.1 ∙ ap (λ (bs : List ℕ). Some (write_at image block bs)) (sym b.0) in
+    pages_written k size (write_at image block bytes) xs new o.1 b.1 (subst (λ (i : Option SwapImage). WritesParts xs i new) one h.2)
+    ∙ ap (λ (i : SwapImage). Some i) (written_first image block bytes (store_all k (store_at image.bytes block bytes) (map out_part xs)) rest)
+
+pub none_written : (xs : List Outbound) (new : Option SwapImage) → WritesParts xs None new → new ≡ None
+none_written [] new h = h
+none_written (x ∷ xs) new h = none_written xs new (subst (λ (i : Option SwapImage). WritesParts xs i new) h.1 h.2)
+
+pub pages_spoiled : (k : Kernel) (size : ℕ) (image : SwapImage) (xs : List Outbound) (new : Option SwapImage) → AreOwnBlocks k.holdings size xs
+    → AreBytes k.frames xs → SpoilsParts xs (Some image) new
+    → (after : SwapImage) × (new ≡ Some after) × SpoilsAll k image (map out_part xs) after
+pages_spoiled k size image [] new o b h = absurd h
+pages_spoiled k size image (x ∷ xs) new o b (inl s) =
+    (write_at image (block_of k.holdings x.page) s.0, written_is k.holdings image s.0 x.page x.block new o.0.own s.2, inl (s.0, s.1, refl))
+pages_spoiled k size image (x ∷ xs) new o b (inr h) =
+    let next : SwapImage = write_at image (block_of k.holdings x.page) (frame_bytes k x.token.number) in
+    let one : h.0 ≡ Some next = written_is k.holdings image x.token.bytes x.page x.block h.0 o.0.own h.1 ∙ ap (λ (bs : List ℕ). Some (write_at image (block_of k.holdings x.page) bs)) (sym b.0) in
+    let more = pages_spoiled k size next xs new o.1 b.1 (subst (λ (i : Option SwapImage). SpoilsParts xs i new) one h.2) in
+    (more.0, more.1, inr more.2)
+
+pub none_spoiled : (xs : List Outbound) (new : Option SwapImage) → SpoilsParts xs None new → new ≡ None
 none_spoiled [] new h = absurd h
 none_spoiled (x ∷ xs) new (inl s) = s.2
-none_spoiled (x ∷ xs) new (inr h) = none_spoiled xs new (subst (λ (i : Option (List ℕ)). SpoilsParts xs i new) h.1 h.2)
+none_spoiled (x ∷ xs) new (inr h) = none_spoiled xs new (subst (λ (i : Option SwapImage). SpoilsParts xs i new) h.1 h.2)

@@ -4,7 +4,7 @@ ghost use Rattle.kernel_model.specs.Kernel.{out_step};
 ghost use Rattle.table_steps.specs.Calls.{CanGoOut, CanComeIn};
 ghost use Rattle.table_steps.specs.Conditions.{HasStopped};
 ghost use Rattle.table_steps.specs.Failing.{FailsFor};
-ghost use Rattle.table_steps.specs.Swapping.{IsIn, WritesU, SwapBehind, CallsNone, KeepsOut, KeepsIn};
+ghost use Rattle.table_steps.specs.Swapping.{IsIn, WritesU, AsksU, SwapBehind, CallsNone, KeepsOut, KeepsIn};
 ghost use Rattle.machine_state.specs.Going.{CanGoOn};
 ghost use Rattle.machine_state.specs.Outside.{stop_of, MovesSwapPages};
 
@@ -65,7 +65,8 @@ impl Machine {
         ensures step { OnOk result (IsIn self.old.kernel self.new.kernel pid (D.image swap.old)) }
         ensures rest { OnOk result (self.new ≡ record self.old { kernel = self.new.kernel; room = None }) }
         ensures keeps { OnOk result (KeepsIn self.old.kernel self.new.kernel pid (D.image swap.old) (D.image swap.new)) }
-        ensures image { D.image swap.new ≡ D.image swap.old }
+        ensures asked { OnOk result (AsksU self.old.kernel pid (D.image swap.old) (D.image swap.new)) }
+        ensures left { OnErr result (SwapBehind result self.old.kernel pid (D.image swap.old) (D.image swap.new)) }
         ensures uncalled { CallsNone result swap.old swap.new }
         ensures stop { OnErr result (HasStopped self.old self.new) }
         ensures cause { OnErr result ((result ≡ Err Stop.JournalFull) ⊎ ((result ≡ Err Stop.NoMemory) ⊎ (result ≡ Err Stop.SwapReadFault))) }

@@ -13,7 +13,7 @@ use std::{io, rt};
 /// the file, or empties it where it is there, and fails where that fails. Its owner alone may read and write
 /// it. A file that is a link, or has another name, or isn't a plain one of this user is refused, and so is one
 /// that another run has, or that this one reads: it is left as it is. A new device holds zeros; the file has what
-/// was written, and grows with it. Its content isn't told.
+/// was written, and grows with it. Neither its content nor what was asked of it is told.
 #[derive(Drop)]
 pub struct FileSwap<'r, R: rt::Files> {
     rt: &'r R,
@@ -192,7 +192,7 @@ where
         }
     }
 
-    ghost whole = { λ d bytes told. untold_length bytes (512 * d.blocks) told };
+    ghost whole = { λ d image told. untold_length image (512 * d.blocks) told };
 
     ghost leads_nowhere = { λ d. (refl, le_refl d.read_faults, le_refl d.write_faults) };
 

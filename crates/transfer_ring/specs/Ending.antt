@@ -2,13 +2,15 @@
 use Rattle.std.specs.Prelude.{◌≡◌, ℕ, List, [], ◌∷◌, Option}
 use Rattle.vm_facts.specs.declared.page.Page.{Page}
 use Rattle.io_edge.specs.Count.{Rose}
+use Rattle.vm_facts.specs.SwapImages.{SwapImage}
 use Rattle.io_edge.specs.FileHolding.{NamedFile}
+use Rattle.io_edge.specs.SwapImage.{bytes_told}
 use Rattle.transfer_ring.specs.declared.transfer.Transfer.{Transfer}
 use Rattle.transfer_ring.specs.declared.transfer.Transfer.TheVariants.{Read, Write}
 use Rattle.transfer_ring.specs.declared.transfer.Inbound.{Inbound}
 use Rattle.transfer_ring.specs.declared.transfer.Finished.{Finished}
 use Rattle.transfer_ring.specs.declared.transfer.Finished.TheVariants.{Done, FileFault, SwapReadFault, SwapWriteFault, Idle}
-use Rattle.transfer_ring.specs.Parts.{AreSameParts, PartsAreRead, WritesParts, SpoilsParts, IsSwap, IsFile, SomeFrom}
+use Rattle.transfer_ring.specs.Parts.{AreSameParts, PartsAreRead, AsksParts, AsksSome, WritesParts, SpoilsParts, IsSwap, IsFile, SomeFrom}
 
 -- the same read: its pages, frames and sources
 abbrev pub IsSameRead : Page → List Inbound → Transfer → Type 0
@@ -17,20 +19,28 @@ IsSameRead demanded parts (Write news) = ⊥
 
 -- each page of the read has the bytes of its source
 abbrev pub IsReadWhole : Option (List NamedFile) → Option (List ℕ) → Transfer → Type 0
-IsReadWhole holds image (Read page parts) = PartsAreRead holds image parts.items
-IsReadWhole holds image (Write parts) = ⊥
+IsReadWhole holds swap (Read page parts) = PartsAreRead holds swap parts.items
+IsReadWhole holds swap (Write parts) = ⊥
 
 -- how a read of these parts ends, a fault only where some part has a source of its kind
 abbrev pub EndsRead : Page → List Inbound → Option (List NamedFile) → Option (List ℕ) → Finished → Type 0
-EndsRead demanded parts holds image (Done transfer) = IsSameRead demanded parts transfer × IsReadWhole holds image transfer
-EndsRead demanded parts holds image (FileFault transfer) = IsSameRead demanded parts transfer × SomeFrom IsFile parts
-EndsRead demanded parts holds image (SwapReadFault transfer) = IsSameRead demanded parts transfer × SomeFrom IsSwap parts
-EndsRead demanded parts holds image (SwapWriteFault transfer) = ⊥
-EndsRead demanded parts holds image Idle = ⊥
+EndsRead demanded parts holds swap (Done transfer) = IsSameRead demanded parts transfer × IsReadWhole holds swap transfer
+EndsRead demanded parts holds swap (FileFault transfer) = IsSameRead demanded parts transfer × SomeFrom IsFile parts
+EndsRead demanded parts holds swap (SwapReadFault transfer) = IsSameRead demanded parts transfer × SomeFrom IsSwap parts
+EndsRead demanded parts holds swap (SwapWriteFault transfer) = ⊥
+EndsRead demanded parts holds swap Idle = ⊥
 
--- how a transfer ends, by the swap image before and after, which a read leaves as it is
-abbrev pub Ends : Transfer → Option (List NamedFile) → Option (List ℕ) → Option (List ℕ) → Finished → Type 0
-Ends (Read demanded parts) holds old new finished = EndsRead demanded parts.items holds old finished × (new ≡ old)
+-- the swap image after a read of these parts that ended so: each page of swap was asked for once, up to the first fault
+abbrev pub AsksUntil : List Inbound → Option SwapImage → Option SwapImage → Finished → Type 0
+AsksUntil parts old new (Done transfer) = AsksParts parts old new
+AsksUntil parts old new (FileFault transfer) = AsksSome parts old new
+AsksUntil parts old new (SwapReadFault transfer) = AsksSome parts old new
+AsksUntil parts old new (SwapWriteFault transfer) = ⊥
+AsksUntil parts old new Idle = ⊥
+
+-- how a transfer ends, by the swap image before and after, of which a read changes no byte
+abbrev pub Ends : Transfer → Option (List NamedFile) → Option SwapImage → Option SwapImage → Finished → Type 0
+Ends (Read demanded parts) holds old new finished = EndsRead demanded parts.items holds (bytes_told old) finished × AsksUntil parts.items old new finished
 Ends (Write parts) holds old new (Done transfer) = (transfer ≡ Write parts) × WritesParts parts.items old new
 Ends (Write parts) holds old new (SwapWriteFault transfer) = (transfer ≡ Write parts) × SpoilsParts parts.items old new
 Ends (Write parts) holds old new (FileFault transfer) = ⊥
@@ -38,7 +48,7 @@ Ends (Write parts) holds old new (SwapReadFault transfer) = ⊥
 Ends (Write parts) holds old new Idle = ⊥
 
 -- the oldest transfer ends so; where there is none, nothing changes
-abbrev pub EndsOldest : List Transfer → Option (List NamedFile) → Option (List ℕ) → Option (List ℕ) → Finished → Type 0
+abbrev pub EndsOldest : List Transfer → Option (List NamedFile) → Option SwapImage → Option SwapImage → Finished → Type 0
 EndsOldest [] holds old new finished = (finished ≡ Idle) × (new ≡ old)
 EndsOldest (oldest ∷ rest) holds old new finished = Ends oldest holds old new finished
 

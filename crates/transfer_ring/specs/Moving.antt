@@ -1,11 +1,12 @@
 -- What a read's end says of its sources and of the counts of faults.
-use Rattle.std.specs.Prelude.{◌≡◌, ℕ, List, ⊤}
+use Rattle.std.specs.Prelude.{◌≡◌, ℕ, List, Option, ⊤}
+use Rattle.vm_facts.specs.SwapImages.{SwapImage}
 use Rattle.io_edge.specs.Count.{Rose}
 use Rattle.transfer_ring.specs.declared.moving.Filled.{Filled}
 use Rattle.transfer_ring.specs.declared.moving.Filled.TheVariants.{Done, FileFault, SwapFault}
 use Rattle.transfer_ring.specs.declared.transfer.Inbound.{Inbound}
 use Rattle.transfer_ring.specs.declared.transfer.Source.{Source}
-use Rattle.transfer_ring.specs.Parts.{IsSwap, IsFile, SomeFrom}
+use Rattle.transfer_ring.specs.Parts.{IsSwap, IsFile, SomeFrom, AsksParts, AsksSome}
 
 -- the fact holds where all was read
 abbrev pub OnFilled : Filled → Type 0 → Type 0
@@ -24,6 +25,12 @@ abbrev pub FailsFromSome : Filled → List Inbound → Type 0
 FailsFromSome Done parts = ⊤
 FailsFromSome FileFault parts = SomeFrom IsFile parts
 FailsFromSome SwapFault parts = SomeFrom IsSwap parts
+
+-- the swap image after a read of these parts
+abbrev pub AsksFor : Filled → List Inbound → Option SwapImage → Option SwapImage → Type 0
+AsksFor Done parts old new = AsksParts parts old new
+AsksFor FileFault parts old new = AsksSome parts old new
+AsksFor SwapFault parts old new = AsksSome parts old new
 
 -- the files' count of faults rises where a file's read failed, and nowhere else
 abbrev pub CountsFile : Filled → ℕ → ℕ → Type 0

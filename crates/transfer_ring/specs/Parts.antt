@@ -1,17 +1,18 @@
 -- The parts of a transfer before and after its completion.
 use Rattle.std.specs.Prelude.{◌≡◌, ◌⊎◌, ◌-◌, ℕ, List, [], ◌∷◌, Option, take, drop, replicate, ⊤}
 use Rattle.io_edge.specs.FileHolding.{NamedFile, HoldsRange}
-use Rattle.io_edge.specs.SwapImage.{HoldsPage, WritesPage, SpoilsPage}
+use Rattle.io_edge.specs.SwapImage.{HoldsPage, ReadsPage, WritesPage, SpoilsPage}
+use Rattle.vm_facts.specs.SwapImages.{SwapImage}
 use Rattle.transfer_ring.specs.declared.transfer.Inbound.{Inbound}
 use Rattle.transfer_ring.specs.declared.transfer.Outbound.{Outbound}
 use Rattle.transfer_ring.specs.declared.transfer.Source.{Source}
 use Rattle.transfer_ring.specs.declared.transfer.Source.TheVariants.{Swap, File}
 
--- the bytes of a page that was read: those of the swap image, or those of the range of the file, and
--- zeros after them; where the image or the files aren't told, any that such a source may have
+-- the bytes of a page that was read: those of swap, or those of the range of the file, and
+-- zeros after them; where the bytes of swap or the files aren't told, any that such a source may have
 abbrev pub HasRead : Option (List NamedFile) → Option (List ℕ) → Source → List ℕ → Type 0
-HasRead holds image (Swap block) bytes = HoldsPage image block bytes
-HasRead holds image (File id offset count) bytes = HoldsRange holds id offset (take count bytes) × (drop count bytes ≡ replicate (1024 - count) 0)
+HasRead holds swap (Swap block) bytes = HoldsPage swap block bytes
+HasRead holds swap (File id offset count) bytes = HoldsRange holds id offset (take count bytes) × (drop count bytes ≡ replicate (1024 - count) 0)
 
 -- the two kinds of sources
 abbrev pub IsSwap : Source → Type 0
@@ -42,17 +43,33 @@ AreSameParts olds news = ⊥
 
 -- every part was read
 abbrev pub PartsAreRead : Option (List NamedFile) → Option (List ℕ) → List Inbound → Type 0
-PartsAreRead holds image [] = ⊤
-PartsAreRead holds image (part ∷ rest) = HasRead holds image part.source part.token.bytes × PartsAreRead holds image rest
+PartsAreRead holds swap [] = ⊤
+PartsAreRead holds swap (part ∷ rest) = HasRead holds swap part.source part.token.bytes × PartsAreRead holds swap rest
+
+-- what a read from this source asks of the swap device: its page, or nothing where a file has it
+abbrev pub AsksSource : Source → Option SwapImage → Option SwapImage → Type 0
+AsksSource (Swap block) old new = ReadsPage old block new
+AsksSource (File id offset count) old new = new ≡ old
+
+-- the swap image after all parts were read, one after another
+abbrev pub AsksParts : List Inbound → Option SwapImage → Option SwapImage → Type 0
+AsksParts [] old new = new ≡ old
+AsksParts (part ∷ rest) old new = (next : Option SwapImage) × AsksSource part.source old next × AsksParts rest next new
+
+-- the swap image after the read of one part failed; those before it were read, and those after it weren't tried
+abbrev pub AsksSome : List Inbound → Option SwapImage → Option SwapImage → Type 0
+AsksSome [] old new = ⊥
+AsksSome (part ∷ rest) old new =
+    AsksSource part.source old new ⊎ ((next : Option SwapImage) × AsksSource part.source old next × AsksSome rest next new)
 
 -- the swap image after all parts were written, one after another
-abbrev pub WritesParts : List Outbound → Option (List ℕ) → Option (List ℕ) → Type 0
+abbrev pub WritesParts : List Outbound → Option SwapImage → Option SwapImage → Type 0
 WritesParts [] old new = new ≡ old
-WritesParts (part ∷ rest) old new = (next : Option (List ℕ)) × WritesPage old part.block part.token.bytes next × WritesParts rest next new
+WritesParts (part ∷ rest) old new = (next : Option SwapImage) × WritesPage old part.block part.token.bytes next × WritesParts rest next new
 
 -- the swap image after the write of one part failed; those before it were written, and those after it
 -- weren't tried
-abbrev pub SpoilsParts : List Outbound → Option (List ℕ) → Option (List ℕ) → Type 0
+abbrev pub SpoilsParts : List Outbound → Option SwapImage → Option SwapImage → Type 0
 SpoilsParts [] old new = ⊥
 SpoilsParts (part ∷ rest) old new =
-    SpoilsPage old part.block new ⊎ ((next : Option (List ℕ)) × WritesPage old part.block part.token.bytes next × SpoilsParts rest next new)
+    SpoilsPage old part.block new ⊎ ((next : Option SwapImage) × WritesPage old part.block part.token.bytes next × SpoilsParts rest next new)

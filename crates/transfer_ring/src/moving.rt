@@ -1,11 +1,12 @@
 // The calls of the devices that complete a transfer, one for each page.
 ghost use Rattle.std.specs.Prelude.{◌≡◌, length, take, drop, replicate, ◌-◌, ◌<◌, ◌≤◌};
-ghost use Rattle.transfer_ring.specs.Moving.{OnFilled, FailsFrom, FailsFromSome, CountsFile, CountsSwap};
+ghost use Rattle.transfer_ring.specs.Moving.{AsksFor, OnFilled, FailsFrom, FailsFromSome, CountsFile, CountsSwap};
 ghost use Rattle.transfer_ring.specs.Sound.{IsSource, IsSourceThere, AreSources, AreThere, AreBlocks};
-ghost use Rattle.transfer_ring.specs.Parts.{HasRead, IsSamePart, AreSameParts, PartsAreRead, WritesParts, SpoilsParts};
+ghost use Rattle.transfer_ring.specs.Parts.{AsksSource, HasRead, IsSamePart, AreSameParts, PartsAreRead, WritesParts, SpoilsParts};
 ghost use Rattle.io_edge.specs.Calls.{ReadsPages, ReadsSwap, WritesSwap};
 ghost use Rattle.io_edge.specs.Count.{Counts, OnDone, OnFailed};
 ghost use Rattle.io_edge.specs.FileHolding.{HasRange, HoldsRange};
+ghost use Rattle.io_edge.specs.SwapImage.{bytes_told};
 
 use crate::{Inbound, Outbound, Source};
 use io_edge::{Files, Moved, SwapDev};
@@ -44,10 +45,11 @@ fn fill<F: Files, D: SwapDev>(part: &mut Inbound, files: &mut F, swap: &mut D) -
     requires source { IsSource part.old.source }
     requires there { IsSourceThere (F.holds files.old) (D.blocks swap.old) part.old.source }
     ensures same { IsSamePart part.old part.new }
-    ensures read { OnFilled result (HasRead (F.holds files.old) (D.image swap.old) part.old.source part.new.token.bytes) }
+    ensures read { OnFilled result (HasRead (F.holds files.old) (bytes_told (D.image swap.old)) part.old.source part.new.token.bytes) }
     ensures fault { FailsFrom result part.old.source }
     ensures files { ReadsPages F.Files files.old files.new }
     ensures swap { ReadsSwap D.SwapDev swap.old swap.new }
+    ensures asked { AsksSource part.old.source (D.image swap.old) (D.image swap.new) }
     ensures page_faults { CountsFile result (F.page_faults files.old) (F.page_faults files.new) }
     ensures read_faults { CountsSwap result (D.read_faults swap.old) (D.read_faults swap.new) }
 {
@@ -75,10 +77,11 @@ pub(crate) fn fill_all<F: Files, D: SwapDev>(
     requires sources { AreSources parts.old }
     requires there { AreThere (F.holds files.old) (D.blocks swap.old) parts.old }
     ensures same { AreSameParts parts.old parts.new }
-    ensures read { OnFilled result (PartsAreRead (F.holds files.old) (D.image swap.old) parts.new) }
+    ensures read { OnFilled result (PartsAreRead (F.holds files.old) (bytes_told (D.image swap.old)) parts.new) }
     ensures fault { FailsFromSome result parts.old }
     ensures files { ReadsPages F.Files files.old files.new }
     ensures swap { ReadsSwap D.SwapDev swap.old swap.new }
+    ensures asked { AsksFor result parts.old (D.image swap.old) (D.image swap.new) }
     ensures page_faults { CountsFile result (F.page_faults files.old) (F.page_faults files.new) }
     ensures read_faults { CountsSwap result (D.read_faults swap.old) (D.read_faults swap.new) }
 {

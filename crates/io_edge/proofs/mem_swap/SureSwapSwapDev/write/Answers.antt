@@ -1,6 +1,7 @@
 use Rattle.std.proofs.Common.{◌≡◌, ◌≤◌, ◌+◌, ◌-◌, ◌*◌, ℕ, List, length, replicate, drop, Some, ap, sym, ◌∙◌, arith, length-append}
 use Rattle.std.proofs.lemmas.List.{length-replicate}
 use Rattle.vm_facts.specs.Swap.{put_blocks}
+use Rattle.vm_facts.specs.SwapImages.{unnoted}
 use Rattle.vm_facts.proofs.Swap.{length-put_blocks}
 use Rattle.io_edge.specs.Zeros.{with_zeros}
 use Rattle.io_edge.proofs.Pages.{take_at}
@@ -23,6 +24,6 @@ returns-clause-done c =
     let put : image ≡ put_blocks grown block page = c.put_blocks.ensures ∙ ap (λ (bytes : List ℕ). put_blocks bytes block page) c.deref_mut.ensures.value in
     let whole : length page ≡ 1024 = c.told-bytes in
     let stays : length image ≡ c.grow.new.bytes.len = ap length put ∙ length-put_blocks grown page block within whole ∙ sym (ap length c.deref_mut.ensures.value) ∙ c.deref_mut.ensures.len in
-    ap (λ (bytes : List ℕ). Some (with_zeros size bytes)) (take_at c.grow.new.bytes.len image (drop (length image) grown) stays ∙ put)
-    ∙ ap (λ (bytes : List ℕ). Some bytes) (put_blocks-kept size block page grown whole within
+    ap (λ (bytes : List ℕ). Some (unnoted (with_zeros size bytes))) (take_at c.grow.new.bytes.len image (drop (length image) grown) stays ∙ put)
+    ∙ ap (λ (bytes : List ℕ). Some (unnoted bytes)) (put_blocks-kept size block page grown whole within
     ∙ ap (λ (bytes : List ℕ). put_blocks bytes block page) (ap (λ (bytes : List ℕ). with_zeros size bytes) c.grow.ensures.items ∙ more_kept size more kept fits))

@@ -2,7 +2,8 @@ use Rattle.std.proofs.Common.{rules, ◌≡◌, ◌∙◌, refl, sym, arith}
 use Rattle.io_edge.specs.Striping.{device_of}
 use Rattle.io_edge.proofs.Stripes.{place_of-even}
 use Rattle.io_edge.proofs.StripeWrites.{not_even, inside_even, inside_odd}
-use Rattle.io_edge.proofs.PairCalls.{adds_none, adds_on_one, adds_on_zero, on_done, pair_reads_even, pair_reads_odd}
+use Rattle.io_edge.proofs.BeyondPair.{reads_beyond}
+use Rattle.io_edge.proofs.PairCalls.{adds_none, adds_on_one, adds_on_zero, on_done, pair_reads_even, pair_reads_odd, pair_asks_even, pair_asks_odd, pair_bytes_even, pair_bytes_odd}
 use Rattle.io_edge.proofs.swap_pair.SwapPairSwapDev.read.Goals as goal
 
 pub read-moved-requires-clause-even : goal.read-moved-requires-clause-even
@@ -39,6 +40,28 @@ returns-else-device_number-eq0-clause-done g c =
     c.place_on_device-place.ensures on c.requires.even c.requires.inside)
     c.read-moved-else-device_number-eq0.ensures.done
 
+pub returns-then-device_number-eq0-clause-image : goal.returns-then-device_number-eq0-clause-image
+returns-then-device_number-eq0-clause-image g c =
+    let on : device_of c.args.block ≡ 0 = sym c.device_number.ensures ∙ c.if-device_number-eq0.true in
+    pair_asks_even _ _ _ c.place_on_device-place.result c.args.block _ _ _ c.read-moved.ensures.blocks c.place_on_device-place.ensures on c.read-moved.ensures.image
+
+pub returns-else-device_number-eq0-clause-image : goal.returns-else-device_number-eq0-clause-image
+returns-else-device_number-eq0-clause-image g c =
+    let on : device_of c.args.block ≡ 1 = not_even c.args.block (λ on. c.if-device_number-eq0.false (c.device_number.ensures ∙ on)) in
+    let read = c.read-moved-else-device_number-eq0.ensures in
+    pair_asks_odd _ _ _ c.place_on_device-place.result c.args.block _ _ _ read.blocks c.place_on_device-place.ensures on read.image
+
+pub returns-then-device_number-eq0-clause-bytes : goal.returns-then-device_number-eq0-clause-bytes
+returns-then-device_number-eq0-clause-bytes g c =
+    let on : device_of c.args.block ≡ 0 = sym c.device_number.ensures ∙ c.if-device_number-eq0.true in
+    pair_bytes_even _ _ _ c.place_on_device-place.result c.args.block _ _ _ c.read-moved.ensures.blocks c.place_on_device-place.ensures on c.read-moved.ensures.image
+
+pub returns-else-device_number-eq0-clause-bytes : goal.returns-else-device_number-eq0-clause-bytes
+returns-else-device_number-eq0-clause-bytes g c =
+    let on : device_of c.args.block ≡ 1 = not_even c.args.block (λ on. c.if-device_number-eq0.false (c.device_number.ensures ∙ on)) in
+    let read = c.read-moved-else-device_number-eq0.ensures in
+    pair_bytes_odd _ _ _ c.place_on_device-place.result c.args.block _ _ _ read.blocks c.place_on_device-place.ensures on read.image
+
 pub returns-then-device_number-eq0-clause-leads : goal.returns-then-device_number-eq0-clause-leads
 returns-then-device_number-eq0-clause-leads g c =
     let read = c.read-moved in
@@ -49,7 +72,7 @@ returns-then-device_number-eq0-clause-leads g c =
       search rules,
       adds_on_zero read.result _ _ _ _ _ _ _ read.ensures.read_faults noted.count noted.failed noted.done,
       adds_none _ _ _ _ _ _ _ _ refl refl read.ensures.write_faults refl,
-      search rules,
+      reads_beyond c.place_on_device-place.result _ _ _ read.ensures.image,
       refl,
     )
 
@@ -64,5 +87,5 @@ returns-else-device_number-eq0-clause-leads g c =
       adds_on_one read.result _ _ _ _ _ _ _ read.ensures.read_faults noted.count noted.failed noted.done,
       adds_none _ _ _ _ _ _ _ _ refl refl refl read.ensures.write_faults,
       refl,
-      search rules,
+      reads_beyond c.place_on_device-place.result _ _ _ read.ensures.image,
     )
