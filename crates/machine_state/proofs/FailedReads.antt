@@ -1,5 +1,6 @@
 -- What a read that failed was from.
 use Rattle.std.proofs.Common.{◌≡◌, inl, inr, ℕ, List, [], ◌∷◌, map, Option, refl, sym, ◌∙◌}
+use Rattle.vm_facts.specs.SwapImages.{SwapImage}
 use Rattle.io_edge.specs.FileHolding.{NamedFile}
 use Rattle.swap_book.specs.Holdings.{Holdings}
 use Rattle.transfer_ring.specs.declared.transfer.Inbound.{Inbound}
@@ -32,7 +33,7 @@ one_kind ns f hs size source kind IsKind (x ∷ xs) shown a (inl k) = sym a.0 �
 one_kind ns f hs size source kind IsKind (x ∷ xs) shown a (inr h) = one_kind ns f hs size source kind IsKind xs shown a.2 h
 
 pub file_failed : (ns : List ImageNamed) (f : ℕ → ℕ) (hs : Holdings) (size : ℕ) (ts : List Flight) (n : Flight) (holds : Option (List NamedFile))
-    (before after : Option (List ℕ))
+    (before after : Option SwapImage)
     → AreSourced ns f hs size ts → EndsOldest ts holds before after (answers.FileFault n) → OldestReadsFrom FromFile (map transfer_shown ts)
 file_failed ns f hs size [] n holds before after a e = let x : answers.FileFault n ≡ answers.Idle = e.0 in absurd cc
 file_failed ns f hs size (flights.Read demanded parts ∷ ts) n holds before after a e =
@@ -40,7 +41,7 @@ file_failed ns f hs size (flights.Read demanded parts ∷ ts) n holds before aft
 file_failed ns f hs size (flights.Write parts ∷ ts) n holds before after a e = absurd e
 
 pub swap_read_failed : (ns : List ImageNamed) (f : ℕ → ℕ) (hs : Holdings) (size : ℕ) (ts : List Flight) (n : Flight) (holds : Option (List NamedFile))
-    (before after : Option (List ℕ))
+    (before after : Option SwapImage)
     → AreSourced ns f hs size ts → EndsOldest ts holds before after (answers.SwapReadFault n) → OldestReadsFrom FromSwap (map transfer_shown ts)
 swap_read_failed ns f hs size [] n holds before after a e = let x : answers.SwapReadFault n ≡ answers.Idle = e.0 in absurd cc
 swap_read_failed ns f hs size (flights.Read demanded parts ∷ ts) n holds before after a e =

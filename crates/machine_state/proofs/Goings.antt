@@ -8,8 +8,8 @@ use Rattle.vm_facts.specs.declared.entry.Entry.{Entry}
 use Rattle.vm_facts.specs.declared.entry.Entry.TheVariants as entries
 use Rattle.vm_facts.specs.declared.page.Page.TheVariants.{Data, Stack}
 use Rattle.vm_facts.specs.declared.regs.Regs.{Regs}
-use Rattle.vm_facts.specs.Swap.{put_blocks}
-use Rattle.io_edge.specs.SwapImage.{HoldsPage, WritesPage}
+use Rattle.vm_facts.specs.SwapImages.{SwapImage}
+use Rattle.io_edge.specs.SwapImage.{bytes_told, HoldsPage, ReadsPage, page_written, WritesPage, SpoilsPage}
 use Rattle.core_map.specs.declared.slot.Slot.{Slot as Token}
 use Rattle.table_steps.specs.Space.{Places}
 use Rattle.proc_table.specs.declared.process.Proc.{Proc as Record}
@@ -27,6 +27,7 @@ use Rattle.page_model.specs.Swapper.{is_out}
 use Rattle.page_model.specs.Dues.{DueStand}
 use Rattle.page_model.specs.Stored.{stored_at, store_at}
 use Rattle.kernel_model.specs.Kernel.{Kernel, Proc, HoldsSpace, with_regs, out_step, in_step}
+use Rattle.kernel_model.specs.SwapRequests.{read_at, write_at}
 use Rattle.kernel_model.specs.ChangeStep.{space_of_life}
 use Rattle.kernel_model.specs.Sound.{Sound, has_life, lives_in, lives as lives_at}
 use Rattle.kernel_model.specs.Numbers.{Numbered}
@@ -43,7 +44,7 @@ use Rattle.table_steps.specs.Lives.{space_by, space_of_record}
 use Rattle.table_steps.specs.Machine.{life_shown, proc_shown, KernelRuns, Stands, lists_of, kernel_by, before_of}
 use Rattle.table_steps.specs.Calls.{CanGoOut, CanComeIn}
 use Rattle.table_steps.specs.Done.{StandsTold}
-use Rattle.table_steps.specs.Swapping.{u_block, Lasts, MovedRecord, IsUPage, AreStored, WritesU, KeepsOut, KeepsIn}
+use Rattle.table_steps.specs.Swapping.{u_block, Lasts, MovedRecord, IsUPage, AreStored, WritesU, AsksU, SpoilsU, KeepsOut, KeepsIn}
 use Rattle.table_steps.proofs.Kernels.{kernel_ext}
 use Rattle.table_steps.proofs.Lives.{HasRecord, record_of}
 use Rattle.table_steps.proofs.Stills.{pushed}
@@ -215,38 +216,48 @@ block_place size k pid block s e =
 
 -- The device.
 
-pub written : (k : Kernel) (pid block : ℕ) (bytes : List ℕ) (before after : Option (List ℕ)) → u_block k pid ≡ Some block
+pub written : (k : Kernel) (pid block : ℕ) (bytes : List ℕ) (before after : Option SwapImage) → u_block k pid ≡ Some block
     → bytes ≡ u_bytes k (proc_of k pid) → WritesPage before block bytes after → WritesU k pid before after
 written k pid block bytes None after e b h = h
 written k pid block bytes (Some image) after e b h =
-    h ∙ ap (λ (x : List ℕ). Some (put_blocks image block x)) b ∙ ap (λ (o : Option ℕ). Some (store_at image o (u_bytes k (proc_of k pid)))) (sym e)
+    h ∙ ap (λ (x : List ℕ). Some (page_written image block x)) b ∙ ap (λ (o : Option ℕ). Some (write_at image o (u_bytes k (proc_of k pid)))) (sym e)
 
-pub read_regs : (k : Kernel) (pid block : ℕ) (bytes : List ℕ) (regs : Regs) (image : Option (List ℕ)) → u_block k pid ≡ Some block
-    → regs ≡ regs_in bytes → HoldsPage image block bytes → AreStored k pid image regs
+pub u_asked : (k : Kernel) (pid block : ℕ) (before after : Option SwapImage) → u_block k pid ≡ Some block → ReadsPage before block after
+    → AsksU k pid before after
+u_asked k pid block None after e h = h
+u_asked k pid block (Some image) after e h = h ∙ ap (λ (o : Option ℕ). Some (read_at image o)) (sym e)
+
+pub u_spoiled : (k : Kernel) (pid block : ℕ) (before after : Option SwapImage) → u_block k pid ≡ Some block → SpoilsPage before block after
+    → SpoilsU k pid before after
+u_spoiled k pid block None after e h = h.2
+u_spoiled k pid block (Some image) after e h = (h.0, h.1, h.2 ∙ ap (λ (o : Option ℕ). Some (write_at image o h.0)) (sym e))
+
+pub read_regs : (k : Kernel) (pid block : ℕ) (bytes : List ℕ) (regs : Regs) (image : Option SwapImage) → u_block k pid ≡ Some block
+    → regs ≡ regs_in bytes → HoldsPage (bytes_told image) block bytes → AreStored k pid image regs
 read_regs k pid block bytes regs None e r h = tt
-read_regs k pid block bytes regs (Some image) e r h = r ∙ ap regs_in (h ∙ sym (ap (stored_at image) e))
+read_regs k pid block bytes regs (Some image) e r h = r ∙ ap regs_in (h ∙ sym (ap (stored_at image.bytes) e))
 
 -- Coupling.
 
-pub out_keeps : (size : ℕ) (t : Tables) (k : Kernel) (pid : ℕ) (before after : Option (List ℕ)) → Leaving t k pid → Sound size k → Numbered k
+pub out_keeps : (size : ℕ) (t : Tables) (k : Kernel) (pid : ℕ) (before after : Option SwapImage) → Leaving t k pid → Sound size k → Numbered k
     → is_out k.place pid ≡ false
-    → (bytes : List ℕ) → IsUPage t pid bytes → ((image : List ℕ) → before ≡ Some image → 512 * size ≤ length image) → WritesU k pid before after
+    → (bytes : List ℕ) → IsUPage t pid bytes → ((image : SwapImage) → before ≡ Some image → 512 * size ≤ length image.bytes) → WritesU k pid before after
     → KeepsOut k (out_step k pid) before after
 out_keeps size t k pid None after l s n out bytes u long w images flat c = absurd c
 out_keeps size t k pid (Some image) after l s n out bytes u long w images flat c =
     let q : Proc = l.process in
     let alive : has_life q.life ≡ true = ap has_life l.holds in
     let regs : u.process.regs ≡ q.regs = ap (λ (p : Proc). p.regs) (ap proc_shown (same_Some u.process l.found (sym u.found ∙ l.there)) ∙ l.shows) in
-    subst (λ (o : Option (List ℕ)). StandsTold (out_step k pid) images o flat) (sym w)
-    (subst (λ (o : Option Proc). Coupled (out_step k pid) images (store_at image (u_block k pid) (u_bytes k o)) flat) (sym l.kept)
-    (out_coupled size k images image flat pid q s (long image refl) l.kept alive (subst Rattle.kernel_model.specs.UPage.AreRegs regs u.regs) (n.residents pid (leaving_alive t k pid l)) out c))
+    subst (λ (o : Option SwapImage). StandsTold (out_step k pid) images o flat) (sym w)
+    (subst (λ (o : Option Proc). Coupled (out_step k pid) images (store_at image.bytes (u_block k pid) (u_bytes k o)) flat) (sym l.kept)
+    (out_coupled size k images image.bytes flat pid q s (long image refl) l.kept alive (subst Rattle.kernel_model.specs.UPage.AreRegs regs u.regs) (n.residents pid (leaving_alive t k pid l)) out c))
 
-pub in_keeps : (k : Kernel) (pid : ℕ) (regs : Regs) (before after : Option (List ℕ)) → AreStored k pid before regs → after ≡ before
+pub in_keeps : (k : Kernel) (pid : ℕ) (regs : Regs) (before after : Option SwapImage) → AreStored k pid before regs → AsksU k pid before after
     → KeepsIn k (in_step k pid regs) pid before after
 in_keeps k pid regs None after a e images flat may c = absurd c
 in_keeps k pid regs (Some image) after a e images flat may c =
-    subst (λ (o : Option (List ℕ)). StandsTold (in_step k pid regs) images o flat) (sym e)
-    (in_coupled_any k images image flat pid regs may.process may.here may.out may.regs a c)
+    subst (λ (o : Option SwapImage). StandsTold (in_step k pid regs) images o flat) (sym e)
+    (in_coupled_any k images image.bytes flat pid regs may.process may.here may.out may.regs a c)
 
 -- Who comes in.
 

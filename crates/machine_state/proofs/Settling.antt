@@ -1,6 +1,7 @@
 -- What a machine keeps through the end of a transfer, for those that follow.
 use Rattle.std.proofs.Common.{◌≡◌, ◌↔◌, refl, ℕ, suc, ◌*◌, ◌<◌, ◌≤◌, Bool, false, List, [], ◌∷◌, length, Option, None, Result, Err, sym, ap, ◌∙◌, subst, arith}
 use Rattle.vm_facts.specs.declared.page.Page.TheVariants.{Text}
+use Rattle.vm_facts.specs.SwapImages.{SwapImage}
 use Rattle.io_edge.specs.FileHolding.{NamedFile}
 use Rattle.flat_state.specs.Flat.{NamedImage}
 use Rattle.page_model.specs.Placement.{Transfer}
@@ -33,19 +34,19 @@ same_sources old next holds later e b =
     ap (λ (x : Option (List NamedFile)). sources next x) e ∙ ap (λ (ns : List ImageNamed). let f : Sources = record { images = ns; files = holds } in f) b.images
 
 -- one transfer fewer is in flight
-pub fewer : (from : Sources) (i : Option (List ℕ)) (k l : Kernel) → IsDone from i k l → length l.place.transfers < length k.place.transfers
+pub fewer : (from : Sources) (i : Option SwapImage) (k l : Kernel) → IsDone from i k l → length l.place.transfers < length k.place.transfers
 fewer from i k l d = subst (λ (x : Kernel). length x.place.transfers < length k.place.transfers) (sym d.step) (go k.place.transfers d.some)
   where
     go : (ts : List Transfer) → 0 < length ts → length (done_of k.place ts).transfers < length ts
     go [] m = absurd (omega arith)
     go (t ∷ ts) m = let e = ap (λ (us : List Transfer). length us) (land_all_rest t.parts k.place t.errand ts) in omega arith
 
-fits_on : (from : Sources) (i : Option (List ℕ)) (k l : Kernel) (images : List NamedImage) → IsDone from i k l → TextFits images k.place
+fits_on : (from : Sources) (i : Option SwapImage) (k l : Kernel) (images : List NamedImage) → IsDone from i k l → TextFits images k.place
     → TextFits images l.place
 fits_on from i k l images d f = subst (λ (x : Kernel). TextFits images x.place) (sym d.step)
     (λ t. f t ∙ ap (λ (n : ℕ). 1024 * n) (sym (sizes_kept k.place (done k.place) (done_shaped k.place) (Text t 0))))
 
-pub one_more : (from later : Sources) (sid : ℕ) (old next new : Kernel) (i j h : Option (List ℕ)) → later ≡ from → is_settled old.place sid ≡ false
+pub one_more : (from later : Sources) (sid : ℕ) (old next new : Kernel) (i j h : Option SwapImage) → later ≡ from → is_settled old.place sid ≡ false
     → IsDone from i old next → ImageAfter old i j
     → SettledBy later sid next new j h → SettledBy from sid old new i h
 one_more from later sid old next new i j h e u d a s = record {
@@ -54,7 +55,7 @@ one_more from later sid old next new i j h e u d a s = record {
   settled = s.settled;
 }
 
-pub one_stopped : (sid : ℕ) (old next new : Standing) (holds later : Option (List NamedFile)) (i j h : Option (List ℕ)) (stop : Stop) → later ≡ holds
+pub one_stopped : (sid : ℕ) (old next new : Standing) (holds later : Option (List NamedFile)) (i j h : Option SwapImage) (stop : Stop) → later ≡ holds
     → IsSameBeside old next
     → is_settled old.kernel.place sid ≡ false → IsDone (sources old holds) i old.kernel next.kernel → ImageAfter old.kernel i j
     → StopsSettling sid next new later j h stop → StopsSettling sid old new holds i h stop
@@ -73,7 +74,7 @@ one_stopped sid old next new holds later i j h stop e b u d a s =
 err_same : (s t : Stop) → (let r : Result Bool Stop = Err s in r) ≡ Err t → s ≡ t
 err_same s t e = cc
 
-pub stopped_first : (sid : ℕ) (old new : Standing) (holds : Option (List NamedFile)) (i j : Option (List ℕ)) (stop : Stop)
+pub stopped_first : (sid : ℕ) (old new : Standing) (holds : Option (List NamedFile)) (i j : Option SwapImage) (stop : Stop)
     → is_settled old.kernel.place sid ≡ false
     → HasStopped old new → old.before ≡ old.kernel.holdings → StopsFor (Err stop) old.kernel.place.transfers
     → (((let r : Result Bool Stop = Err stop in r) ≡ Err stops.JournalFull)
@@ -99,7 +100,7 @@ stopped_first sid old new holds i j stop u s w c full lost a = record {
   };
 }
 
-pub through : (from : Sources) (i : Option (List ℕ)) (old next new : Standing) (holds later : Option (List NamedFile)) (a b c : Option (List ℕ))
+pub through : (from : Sources) (i : Option SwapImage) (old next new : Standing) (holds later : Option (List NamedFile)) (a b c : Option SwapImage)
     → IsSameBeside old next → IsDone from i old.kernel next.kernel → later ≡ holds
     → KeepsThrough old next holds a b → KeepsThrough next new later b c → KeepsThrough old new holds a c
 through from i old next new holds later a b c g d e f s images flat l t h =

@@ -1,4 +1,5 @@
 use Rattle.std.proofs.Common.{◌≡◌, ℕ, ◌*◌, ◌<◌, ◌≤◌, List, [], ◌∷◌, ◌++◌, length, map, drop, Some, refl, sym, ap, ◌∙◌, subst, arith, rules}
+use Rattle.vm_facts.specs.SwapImages.{SwapImage}
 use Rattle.vm_facts.specs.declared.entry.Entry.{Entry}
 use Rattle.vm_facts.specs.declared.entry.Entry.TheVariants as entries
 use Rattle.transfer_ring.specs.declared.transfer.Finished.TheVariants as answers
@@ -6,7 +7,7 @@ use Rattle.page_model.specs.Placement.{FromSwap, FromFile}
 use Rattle.kernel_model.specs.Kernel.{Kernel, done_step}
 use Rattle.kernel_model.specs.Sound.{TextFits}
 use Rattle.table_steps.specs.View.{transfer_shown}
-use Rattle.table_steps.specs.Done.{sources, ReadsTold, StandsTold, ImageAfter, SpoilsAfter, OldestReadsFrom}
+use Rattle.table_steps.specs.Done.{sources, ReadsTold, StandsTold, ImageAfter, AskedAfter, SpoilsAfter, OldestReadsFrom}
 use Rattle.machine_state.proofs.Ends.{brought}
 use Rattle.transfer_ring.specs.declared.transfer.Transfer.{Transfer as Flight}
 use Rattle.table_steps.specs.Tables.{Tables}
@@ -20,7 +21,7 @@ use Rattle.machine_state.proofs.HoldingSteps.{page_keeps}
 use Rattle.machine_state.proofs.StepRuns.{done_runs}
 use Rattle.table_steps.proofs.Stills.{pushed}
 use Rattle.machine_state.proofs.Reaches.{reachable}
-use Rattle.machine_state.proofs.Dones.{Came, came, done_back, was_lists, back_known, Doing, done_kernel, before, rest_sourced, done_image, done_told, spoiled_image, done_keeps}
+use Rattle.machine_state.proofs.Dones.{Came, came, done_back, was_lists, back_known, Doing, done_kernel, before, rest_sourced, done_image, done_told, spoiled_image, asked_image, unasked_image, done_keeps}
 use Rattle.machine_state.proofs.FailedReads.{file_failed, swap_read_failed}
 use Rattle.machine_state.proofs.Losing.{lost}
 use Rattle.machine_state.proofs.machine.Machine.done.Given.{Over}
@@ -115,7 +116,7 @@ returns-in-Done g c =
           let area = c.requires.area in
           let size = (stands_now c.self.inside c.args.self.now c.self.invariant c.self.view_is c.requires.ready.running.runs).stands.book in
           let p = ap (λ (s : Standing). s.params.swap_blocks) c.self.view_is in
-          let long : (image : List ℕ) → (g.D.SwapDev.image c.args.swap.now) ≡ Some image → 512 * t.book.size ≤ length image =
+          let long : (image : SwapImage) → (g.D.SwapDev.image c.args.swap.now) ≡ Some image → 512 * t.book.size ≤ length image.bytes =
           λ image i. let m = g.met.D.SwapDev.whole c.args.swap.now image i in omega arith in
           z.says (λ (k l : Kernel). TextFits images k.place → StandsTold k images (g.D.SwapDev.image c.args.swap.now) flat → StandsTold l images (g.D.SwapDev.image c.complete_oldest.new.swap) flat)
           (λ fits. done_keeps t (images_of t) b e.oldest n e.rest t.book.size (g.F.Files.holds c.args.files.now) (g.D.SwapDev.image c.args.swap.now)
@@ -145,6 +146,35 @@ returns-in-SwapWriteFault-clause-spoiled g c =
     let f = before c.self.inside c.args.self.now e.oldest e.rest c.self.invariant c.self.view_is c.requires.ready c.frames-frames.ensures.sound e.ring_is in
     subst (λ (s : Standing). SpoilsAfter s.kernel (g.D.SwapDev.image c.args.swap.now) (g.D.SwapDev.image c.complete_oldest.new.swap)) c.self.view_is (spoiled_image t (images_of t) b e.oldest
     c.in-SwapWriteFault.transfer e.rest t.book.size (g.F.Files.holds c.args.files.now) (g.D.SwapDev.image c.args.swap.now) (g.D.SwapDev.image c.complete_oldest.new.swap) f e.ends)
+
+pub returns-in-FileFault-clause-spoiled : goal.returns-in-FileFault-clause-spoiled
+returns-in-FileFault-clause-spoiled g c =
+    let t : Tables = c.self.inside.tables in
+    let now = stands_now c.self.inside c.args.self.now c.self.invariant c.self.view_is c.requires.ready.running.runs in
+    let e : Came t.ring (g.F.Files.holds c.args.files.now) (g.D.SwapDev.image c.args.swap.now) (g.D.SwapDev.image c.complete_oldest.new.swap) (answers.FileFault c.in-FileFault.transfer) =
+    came t.ring (g.F.Files.holds c.args.files.now) (g.D.SwapDev.image c.args.swap.now) (g.D.SwapDev.image c.complete_oldest.new.swap)
+    (answers.FileFault c.in-FileFault.transfer) c.in-FileFault.ensures.ends (λ i. let x = i in cc) in
+    let b : Kernel = kernel_by t c.self.inside.journal.items c.self.inside.stopped in
+    let f = before c.self.inside c.args.self.now e.oldest e.rest c.self.invariant c.self.view_is c.requires.ready c.frames-frames.ensures.sound e.ring_is in
+    unasked_image t (images_of t) b e.oldest c.in-FileFault.transfer e.rest t.book.size (g.F.Files.holds c.args.files.now) (g.D.SwapDev.image c.args.swap.now)
+    (g.D.SwapDev.image c.complete_oldest.new.swap) f
+    (file_failed (images_of t) (image_at t) (before_of t) t.book.size t.ring c.in-FileFault.transfer (g.F.Files.holds c.args.files.now) (g.D.SwapDev.image c.args.swap.now)
+    (g.D.SwapDev.image c.complete_oldest.new.swap) now.stands.ring c.in-FileFault.ensures.ends) e.ends
+
+pub returns-in-SwapReadFault-clause-spoiled : goal.returns-in-SwapReadFault-clause-spoiled
+returns-in-SwapReadFault-clause-spoiled g c =
+    let t : Tables = c.self.inside.tables in
+    let now = stands_now c.self.inside c.args.self.now c.self.invariant c.self.view_is c.requires.ready.running.runs in
+    let e : Came t.ring (g.F.Files.holds c.args.files.now) (g.D.SwapDev.image c.args.swap.now) (g.D.SwapDev.image c.complete_oldest.new.swap) (answers.SwapReadFault c.in-SwapReadFault.transfer) =
+    came t.ring (g.F.Files.holds c.args.files.now) (g.D.SwapDev.image c.args.swap.now) (g.D.SwapDev.image c.complete_oldest.new.swap)
+    (answers.SwapReadFault c.in-SwapReadFault.transfer) c.in-SwapReadFault.ensures.ends (λ i. let x = i in cc) in
+    let b : Kernel = kernel_by t c.self.inside.journal.items c.self.inside.stopped in
+    let f = before c.self.inside c.args.self.now e.oldest e.rest c.self.invariant c.self.view_is c.requires.ready c.frames-frames.ensures.sound e.ring_is in
+    subst (λ (s : Standing). AskedAfter s.kernel (g.D.SwapDev.image c.args.swap.now) (g.D.SwapDev.image c.complete_oldest.new.swap)) c.self.view_is
+    (asked_image t (images_of t) b e.oldest c.in-SwapReadFault.transfer e.rest t.book.size (g.F.Files.holds c.args.files.now) (g.D.SwapDev.image c.args.swap.now)
+    (g.D.SwapDev.image c.complete_oldest.new.swap) f
+    (swap_read_failed (images_of t) (image_at t) (before_of t) t.book.size t.ring c.in-SwapReadFault.transfer (g.F.Files.holds c.args.files.now) (g.D.SwapDev.image c.args.swap.now)
+    (g.D.SwapDev.image c.complete_oldest.new.swap) now.stands.ring c.in-SwapReadFault.ensures.ends) e.ends)
 
 pub returns-in-FileFault-clause-cause : goal.returns-in-FileFault-clause-cause
 returns-in-FileFault-clause-cause g c =

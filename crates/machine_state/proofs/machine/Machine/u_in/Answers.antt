@@ -5,11 +5,11 @@ use Rattle.kernel_model.specs.Kernel.{Kernel, in_step}
 use Rattle.table_steps.specs.Tables.{Tables}
 use Rattle.table_steps.specs.Machine.{Standing, kernel_by}
 use Rattle.table_steps.specs.Calls.{CanComeIn}
-use Rattle.table_steps.specs.Swapping.{AreStored, KeepsIn, IsIn}
+use Rattle.table_steps.specs.Swapping.{AreStored, AsksU, KeepsIn, IsIn}
 use Rattle.machine_state.proofs.Standings.{running, stands_now}
 use Rattle.machine_state.proofs.Stepping.{Stepped, stepped}
 use Rattle.table_steps.proofs.MovedRecords.{IsOutThere}
-use Rattle.machine_state.proofs.Goings.{Gone, with_records, in_is, gone_steps, block_there, block_place, read_regs, in_keeps, entering, entering_alive, entering_lasts}
+use Rattle.machine_state.proofs.Goings.{Gone, with_records, in_is, gone_steps, block_there, block_place, u_asked, read_regs, in_keeps, entering, entering_alive, entering_lasts}
 use Rattle.table_steps.proofs.KernelLawsSoundSteps.{in_sound}
 use Rattle.table_steps.proofs.NumbersApart.{in_numbered}
 use Rattle.table_steps.proofs.PageLawsDueEntries.{entry_due}
@@ -94,13 +94,17 @@ returns-in-Done u c =
     let a : AreStored k c.args.pid (u.D.SwapDev.image c.args.swap.now) c.regs_in-regs.result =
     read_regs k c.args.pid c.u_block-block.result c.read.new.buf c.regs_in-regs.result (u.D.SwapDev.image c.args.swap.now)
     (sym c.u_block-block.ensures) c.regs_in-regs.ensures c.in-Done.ensures.done in
+    let w : AsksU k c.args.pid (u.D.SwapDev.image c.args.swap.now) (u.D.SwapDev.image c.read.new.self) =
+    u_asked k c.args.pid c.u_block-block.result (u.D.SwapDev.image c.args.swap.now) (u.D.SwapDev.image c.read.new.self) (sym c.u_block-block.ensures)
+    c.read.ensures.image in
     record {
       step = z.says (λ (k l : Kernel). IsIn k l c.args.pid (u.D.SwapDev.image c.args.swap.now)) (record { regs = c.regs_in-regs.result; stored = a; step = refl });
       rest = search rules;
       keeps =
           z.says (λ (k l : Kernel). KeepsIn k l c.args.pid (u.D.SwapDev.image c.args.swap.now) (u.D.SwapDev.image c.read.new.self))
-          (in_keeps k c.args.pid c.regs_in-regs.result (u.D.SwapDev.image c.args.swap.now) (u.D.SwapDev.image c.read.new.self) a c.read.ensures.image);
-      image = search rules;
+          (in_keeps k c.args.pid c.regs_in-regs.result (u.D.SwapDev.image c.args.swap.now) (u.D.SwapDev.image c.read.new.self) a w);
+      asked = subst (λ (s : Standing). AsksU s.kernel c.args.pid (u.D.SwapDev.image c.args.swap.now) (u.D.SwapDev.image c.read.new.self)) c.self.view_is w;
+      left = search rules;
       uncalled = search rules;
       stop = search rules;
       cause = search rules;
@@ -109,3 +113,11 @@ returns-in-Done u c =
       goes_on = z.goes_on;
       outside = record { leads = search rules; blocks = search rules; read_faults = search rules; write_faults = search rules };
     }
+
+pub returns-in-Failed-clause-left : goal.returns-in-Failed-clause-left
+returns-in-Failed-clause-left u c =
+    let m = c.self.inside in
+    let k : Kernel = kernel_by m.tables m.journal.items m.stopped in
+    subst (λ (s : Standing). AsksU s.kernel c.args.pid (u.D.SwapDev.image c.args.swap.now) (u.D.SwapDev.image c.read.new.self)) c.self.view_is
+    (u_asked k c.args.pid c.u_block-block.result (u.D.SwapDev.image c.args.swap.now) (u.D.SwapDev.image c.read.new.self) (sym c.u_block-block.ensures)
+    c.read.ensures.image)

@@ -1,14 +1,15 @@
 use Rattle.std.proofs.Common.{◌≡◌, ℕ, ◌+◌, ◌*◌, ◌≤◌, true, List, [], ◌∷◌, ◌++◌, length, Some, refl, sym, ap, ◌∙◌, subst, arith, rules}
+use Rattle.vm_facts.specs.SwapImages.{SwapImage}
 use Rattle.vm_facts.specs.declared.entry.Entry.{Entry}
 use Rattle.vm_facts.specs.declared.entry.Entry.TheVariants as entries
 use Rattle.kernel_model.specs.Kernel.{Kernel, out_step}
 use Rattle.table_steps.specs.Tables.{Tables}
 use Rattle.table_steps.specs.Machine.{Standing, kernel_by}
 use Rattle.table_steps.specs.Calls.{CanGoOut}
-use Rattle.table_steps.specs.Swapping.{WritesU, KeepsOut}
+use Rattle.table_steps.specs.Swapping.{WritesU, SpoilsU, KeepsOut}
 use Rattle.machine_state.proofs.Standings.{running, stands_now}
 use Rattle.machine_state.proofs.Stepping.{Stepped, stepped}
-use Rattle.machine_state.proofs.Goings.{Gone, with_records, out_is, gone_steps, Leaving, leaving, leaving_alive, leaving_held, leaving_lasts, bytes_are, block_there, block_place, written, out_keeps}
+use Rattle.machine_state.proofs.Goings.{Gone, with_records, out_is, gone_steps, Leaving, leaving, leaving_alive, leaving_held, leaving_lasts, bytes_are, block_there, block_place, written, u_spoiled, out_keeps}
 use Rattle.flat_state.specs.Flat.{cleared}
 use Rattle.table_steps.proofs.KernelLawsSoundSteps.{out_sound}
 use Rattle.table_steps.proofs.NumbersApart.{out_numbered}
@@ -105,7 +106,7 @@ returns-in-Done u c =
           let area = c.requires.area in
           let size = now.stands.book in
           let ps = ap (λ (s : Standing). s.params.swap_blocks) c.self.view_is in
-          let long : (image : List ℕ) → u.D.SwapDev.image c.args.swap.now ≡ Some image → 512 * t.book.size ≤ length image =
+          let long : (image : SwapImage) → u.D.SwapDev.image c.args.swap.now ≡ Some image → 512 * t.book.size ≤ length image.bytes =
           λ image i. let long = u.met.D.SwapDev.whole c.args.swap.now image i in omega arith in
           z.says (λ (k l : Kernel). KeepsOut k l (u.D.SwapDev.image c.args.swap.now) (u.D.SwapDev.image c.write.new.self))
           (out_keeps t.book.size t k c.args.pid (u.D.SwapDev.image c.args.swap.now) (u.D.SwapDev.image c.write.new.self) l r.sound r.numbered can.resident c.u_page_of-page.result
@@ -120,3 +121,11 @@ returns-in-Done u c =
       goes_on = z.goes_on;
       outside = record { leads = search rules; blocks = search rules; read_faults = search rules; write_faults = search rules };
     }
+
+pub returns-in-Failed-clause-spoiled : goal.returns-in-Failed-clause-spoiled
+returns-in-Failed-clause-spoiled u c =
+    let m = c.self.inside in
+    let k : Kernel = kernel_by m.tables m.journal.items m.stopped in
+    subst (λ (s : Standing). SpoilsU s.kernel c.args.pid (u.D.SwapDev.image c.args.swap.now) (u.D.SwapDev.image c.write.new.self)) c.self.view_is
+    (u_spoiled k c.args.pid c.u_block-block.result (u.D.SwapDev.image c.args.swap.now) (u.D.SwapDev.image c.write.new.self) (sym c.u_block-block.ensures)
+    c.in-Failed.ensures.failed)
