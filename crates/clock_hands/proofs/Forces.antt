@@ -1,5 +1,6 @@
 -- Forcing a frame, unit by unit.
 use Rattle.std.proofs.Common.{◌≡◌, ℕ, ◌+◌, ◌<◌, ◌≤◌, ◌^◌, false, List, [], ◌∷◌, length, Option, Some, refl, sym, ap, ◌∙◌, subst, arith}
+use Rattle.vm_facts.specs.SwapImages.{SwapImage}
 use Rattle.vm_facts.specs.declared.page.Page.{Page}
 use Rattle.vm_facts.specs.declared.entry.Entry.{Entry}
 use Rattle.vm_facts.specs.declared.stop.Stop.{Stop}
@@ -80,19 +81,19 @@ units_last locked (e ∷ us) p r journal f =
 
 -- One unit, and then the others.
 
-pub falls_on : (locked : List Page) (old next : Standing) (holds : Option (List NamedFile)) (i h : Option (List ℕ)) → OwnsFrames old.kernel.place
+pub falls_on : (locked : List Page) (old next : Standing) (holds : Option (List NamedFile)) (i h : Option SwapImage) → OwnsFrames old.kernel.place
     → HandsStand old.kernel.place → HasRoom old.kernel.place locked → old.kernel.place.free ≡ []
     → MakesUnit (ground old holds locked) (force_entry old.kernel.place.transfers) old next i h → far next.kernel.place locked < far old.kernel.place locked
 falls_on locked old next holds i h o s r n m =
     subst (λ (p : Placement). far p locked < far old.kernel.place locked) (sym (forced_place (ground old holds locked) old.kernel next.kernel i m.made)) (force_falls old.kernel.place locked o s r n)
 
-pub room_on : (locked : List Page) (old next : Standing) (holds : Option (List NamedFile)) (i h : Option (List ℕ)) → OwnsFrames old.kernel.place
+pub room_on : (locked : List Page) (old next : Standing) (holds : Option (List NamedFile)) (i h : Option SwapImage) → OwnsFrames old.kernel.place
     → HasRoom old.kernel.place locked
     → MakesUnit (ground old holds locked) (force_entry old.kernel.place.transfers) old next i h → HasRoom next.kernel.place locked
 room_on locked old next holds i h o r m =
     subst (λ (p : Placement). HasRoom p locked) (sym (forced_place (ground old holds locked) old.kernel next.kernel i m.made)) (force_room old.kernel.place locked o r)
 
-pub fits_on : (locked : List Page) (old next : Standing) (holds : Option (List NamedFile)) (i h : Option (List ℕ))
+pub fits_on : (locked : List Page) (old next : Standing) (holds : Option (List NamedFile)) (i h : Option SwapImage)
     → far next.kernel.place locked < far old.kernel.place locked
     → MakesUnit (ground old holds locked) (force_entry old.kernel.place.transfers) old next i h
     → last_moves old.kernel.journal + far old.kernel.place locked < 2 ^ 32 → last_moves next.kernel.journal + far next.kernel.place locked < 2 ^ 32
@@ -103,11 +104,11 @@ fits_on locked old next holds i h f m l =
     let one = one_move old.kernel.place.transfers in
     omega arith
 
-pub forced_none : (locked : List Page) (s : Standing) (holds : Option (List NamedFile)) (i : Option (List ℕ)) → 0 < length s.kernel.place.free
+pub forced_none : (locked : List Page) (s : Standing) (holds : Option (List NamedFile)) (i : Option SwapImage) → 0 < length s.kernel.place.free
     → Forced locked s s holds i i
 forced_none locked s holds i l = record { units = []; forces = refl; makes = makes_none (ground s holds locked) s s i i refl refl; free = l; moves = omega arith }
 
-pub forced_first : (locked : List Page) (old next new : Standing) (holds later : Option (List NamedFile)) (i h j : Option (List ℕ)) → later ≡ holds
+pub forced_first : (locked : List Page) (old next new : Standing) (holds later : Option (List NamedFile)) (i h j : Option SwapImage) → later ≡ holds
     → OwnsFrames old.kernel.place → HandsStand old.kernel.place → HasRoom old.kernel.place locked → old.kernel.place.free ≡ []
     → MakesUnit (ground old holds locked) (force_entry old.kernel.place.transfers) old next i h → Forced locked next new later h j
     → Forced locked old new holds i j
@@ -123,14 +124,14 @@ forced_first locked old next new holds later i h j e o s r n m f =
       moves = forced_moves (force_entry old.kernel.place.transfers ∷ f.units) old.kernel.place new.kernel.place locked o s r forces;
     }
 
-pub stops_here : (locked : List Page) (old : Standing) (stop : Stop) (new : Standing) (holds : Option (List NamedFile)) (i j : Option (List ℕ))
+pub stops_here : (locked : List Page) (old : Standing) (stop : Stop) (new : Standing) (holds : Option (List NamedFile)) (i j : Option SwapImage)
     → old.kernel.place.free ≡ [] → new.params ≡ old.params → new.images ≡ old.images
     → StopsAt (force_entry old.kernel.place.transfers) old.kernel i stop new j → StopsForcing locked old stop new holds i j
 stops_here locked old stop new holds i j n a b s =
     stops_at_first (ground old holds locked) (StillForcing locked old.kernel.place) (λ p. Some (force_entry p.transfers)) old new i j stop
     (record { forces = refl; none = n }) (record { entry = force_entry old.kernel.place.transfers; next = refl; stops = s; params = a; images = b })
 
-pub stops_first : (locked : List Page) (old next : Standing) (stop : Stop) (new : Standing) (holds later : Option (List NamedFile)) (i h j : Option (List ℕ))
+pub stops_first : (locked : List Page) (old next : Standing) (stop : Stop) (new : Standing) (holds later : Option (List NamedFile)) (i h j : Option SwapImage)
     → later ≡ holds → old.kernel.place.free ≡ []
     → MakesUnit (ground old holds locked) (force_entry old.kernel.place.transfers) old next i h → StopsForcing locked next stop new later h j
     → StopsForcing locked old stop new holds i j
@@ -153,7 +154,7 @@ few_units p r locked journal us o f =
     let b = units_added_false journal us in
     omega arith
 
-pub forced_few : (locked : List Page) (old new : Standing) (holds : Option (List NamedFile)) (i j : Option (List ℕ)) → OwnsFrames old.kernel.place
+pub forced_few : (locked : List Page) (old new : Standing) (holds : Option (List NamedFile)) (i j : Option SwapImage) → OwnsFrames old.kernel.place
     → Forced locked old new holds i j
     → length new.kernel.journal + length new.kernel.place.transfers ≤ length old.kernel.journal + length old.kernel.place.transfers + 2
 forced_few locked old new holds i j o f =
@@ -161,7 +162,7 @@ forced_few locked old new holds i j o f =
     let same = ap (λ (js : List Entry). length js) (made_journal (ground old holds locked) f.units old.kernel new.kernel i j f.makes.made) in
     omega arith
 
-pub stopped_few : (locked : List Page) (old : Standing) (stop : Stop) (new : Standing) (holds : Option (List NamedFile)) (i j : Option (List ℕ))
+pub stopped_few : (locked : List Page) (old : Standing) (stop : Stop) (new : Standing) (holds : Option (List NamedFile)) (i j : Option SwapImage)
     → OwnsFrames old.kernel.place → StopsForcing locked old stop new holds i j
     → length new.kernel.journal ≤ length old.kernel.journal + length old.kernel.place.transfers + 2
 stopped_few locked old stop new holds i j o f =
@@ -169,7 +170,7 @@ stopped_few locked old stop new holds i j o f =
     let same = ap (λ (js : List Entry). length js) (f.there.stops.journal ∙ made_journal (ground old holds locked) f.units old.kernel f.at i f.image f.made) in
     omega arith
 
-pub forced_flights : (locked : List Page) (old new : Standing) (holds : Option (List NamedFile)) (i j : Option (List ℕ)) → OwnsFrames old.kernel.place
+pub forced_flights : (locked : List Page) (old new : Standing) (holds : Option (List NamedFile)) (i j : Option SwapImage) → OwnsFrames old.kernel.place
     → Forced locked old new holds i j
     → length new.kernel.place.transfers ≤ length old.kernel.place.transfers
 forced_flights locked old new holds i j o f =
@@ -177,7 +178,7 @@ forced_flights locked old new holds i j o f =
     let k : Short false f.units new.kernel.place (length p.transfers + 2) (length p.transfers) (length f.units) = forced_short false f.units p new.kernel.place locked o f.forces in
     k.rest f.free
 
-pub forced_last : (locked : List Page) (old new : Standing) (holds : Option (List NamedFile)) (i j : Option (List ℕ)) → Forced locked old new holds i j
+pub forced_last : (locked : List Page) (old new : Standing) (holds : Option (List NamedFile)) (i j : Option SwapImage) → Forced locked old new holds i j
     → last_moves new.kernel.journal ≤ last_moves old.kernel.journal + length old.kernel.place.holds
 forced_last locked old new holds i j f =
     let more = units_last locked f.units old.kernel.place new.kernel.place old.kernel.journal f.forces in
@@ -189,21 +190,21 @@ units_spare : (us : List Entry) (p r : Placement) (locked : List Page) → OwnsF
 units_spare [] p r locked o f = subst (λ (x : Placement). Spares p x locked) f (λ w a v. v)
 units_spare (e ∷ us) p r locked o f = spares_both p (force p locked) r locked (force_spares p locked o) (units_spare us (force p locked) r locked (force_owner p locked o) f.2)
 
-pub forced_spares : (locked : List Page) (old new : Standing) (holds : Option (List NamedFile)) (i j : Option (List ℕ)) → OwnsFrames old.kernel.place
+pub forced_spares : (locked : List Page) (old new : Standing) (holds : Option (List NamedFile)) (i j : Option SwapImage) → OwnsFrames old.kernel.place
     → Forced locked old new holds i j → Spares old.kernel.place new.kernel.place locked
 forced_spares locked old new holds i j o f = units_spare f.units old.kernel.place new.kernel.place locked o f.forces
 
 -- What is forced so far and what is left make the whole.
 
-pub record ForcesSoFar (locked : List Page) (old now : Standing) (holds later : Option (List NamedFile)) (i h : Option (List ℕ)) : Type 0 where
-  pub more : (new : Standing) (j : Option (List ℕ)) → Forced locked now new later h j → Forced locked old new holds i j
-  pub stops : (stop : Stop) (new : Standing) (j : Option (List ℕ)) → StopsForcing locked now stop new later h j → StopsForcing locked old stop new holds i j
-  pub keeps : (new : Standing) (j : Option (List ℕ)) → KeepsThrough now new later h j → KeepsThrough old new holds i j
+pub record ForcesSoFar (locked : List Page) (old now : Standing) (holds later : Option (List NamedFile)) (i h : Option SwapImage) : Type 0 where
+  pub more : (new : Standing) (j : Option SwapImage) → Forced locked now new later h j → Forced locked old new holds i j
+  pub stops : (stop : Stop) (new : Standing) (j : Option SwapImage) → StopsForcing locked now stop new later h j → StopsForcing locked old stop new holds i j
+  pub keeps : (new : Standing) (j : Option SwapImage) → KeepsThrough now new later h j → KeepsThrough old new holds i j
 
-pub forces_none : (locked : List Page) (old : Standing) (holds : Option (List NamedFile)) (i : Option (List ℕ)) → ForcesSoFar locked old old holds holds i i
+pub forces_none : (locked : List Page) (old : Standing) (holds : Option (List NamedFile)) (i : Option SwapImage) → ForcesSoFar locked old old holds holds i i
 forces_none locked old holds i = record { more = λ new j f. f; stops = λ stop new j f. f; keeps = λ new j k. k }
 
-pub forces_one : (locked : List Page) (old now next : Standing) (holds later latest : Option (List NamedFile)) (i h k : Option (List ℕ)) → latest ≡ later
+pub forces_one : (locked : List Page) (old now next : Standing) (holds later latest : Option (List NamedFile)) (i h k : Option SwapImage) → latest ≡ later
     → OwnsFrames now.kernel.place → HandsStand now.kernel.place → HasRoom now.kernel.place locked → now.kernel.place.free ≡ []
     → MakesUnit (ground now later locked) (force_entry now.kernel.place.transfers) now next h k → KeepsThrough now next later h k
     → ForcesSoFar locked old now holds later i h → ForcesSoFar locked old next holds latest i k

@@ -1,6 +1,7 @@
 -- The unit that the policy names for a move of the hands.
 use Rattle.std.proofs.Common.{◌≡◌, ◌⊎◌, inl, inr, ℕ, ◌+◌, ◌-◌, ◌^◌, ◌<◌, ◌≤◌, ◌&&◌, nat_le, Bool, true, false, is_some, List, [], ◌∷◌, length, Option, Some, None, refl, sym, ap, ◌∙◌, subst, arith}
 use Rattle.std.proofs.lemmas.Bool.Decides.{nat_tests}
+use Rattle.vm_facts.specs.SwapImages.{SwapImage}
 use Rattle.vm_facts.specs.declared.page.Page.{Page}
 use Rattle.vm_facts.specs.declared.entry.Entry.{Entry}
 use Rattle.vm_facts.specs.declared.entry.Entry.TheVariants as entries
@@ -47,7 +48,7 @@ moves_now p lo n r o = go (hand_run p []) refl r
     ]
 
 -- the call that makes a move
-pub hand_makes : (locked : List Page) (e : Entry) (old new : Standing) (holds : Option (List NamedFile)) (i : Option (List ℕ)) → e ≡ entries.Hands 1
+pub hand_makes : (locked : List Page) (e : Entry) (old new : Standing) (holds : Option (List NamedFile)) (i : Option SwapImage) → e ≡ entries.Hands 1
     → new.kernel ≡ hand_step old.kernel locked
     → new ≡ record old { kernel = new.kernel; room = None } → MakesUnit (ground old holds locked) e old new i i
 hand_makes locked e old new holds i h k r = subst (λ (u : Entry). MakesUnit (ground old holds locked) u old new i i) (sym h) (record {
@@ -62,21 +63,21 @@ at_any : (p : Placement) (e : Entry) (at : ℕ) (moved : Bool) → IsMoveOf e mo
 at_any p e at true h = ap (place_entry [] at p) h ∙ sym (ap (place_entry [] 0 p) h)
 at_any p e at false h = ap (place_entry [] at p) h ∙ sym (ap (place_entry [] 0 p) h)
 
-moved_place : (e : Entry) (moved : Bool) (old next : Standing) (holds : Option (List NamedFile)) (i h : Option (List ℕ)) → IsMoveOf e moved
+moved_place : (e : Entry) (moved : Bool) (old next : Standing) (holds : Option (List NamedFile)) (i h : Option SwapImage) → IsMoveOf e moved
     → MakesUnit (ground old holds []) e old next i h
     → next.kernel.place ≡ place_entry [] 0 old.kernel.place e
 moved_place e moved old next holds i h k m =
     unit_place (ground old holds []) e old.kernel next.kernel i m.made ∙ at_any old.kernel.place e (length (append old.kernel.journal e)) moved k
 
 moves_first : (e : Entry) (moved : Bool) (n left : ℕ) (us : List Entry) (old next : Standing) (r : Placement) (holds : Option (List NamedFile))
-    (i h : Option (List ℕ)) → IsMoveOf e moved
+    (i h : Option SwapImage) → IsMoveOf e moved
     → e ≡ move_unit old.kernel.place [] → n - moves e ≡ left
     → 0 < n → wants_moves old.kernel.place ≡ true → MakesUnit (ground old holds []) e old next i h → Moves us left next.kernel.place r
     → Moves (e ∷ us) n old.kernel.place r
 moves_first e moved n left us old next r holds i h k u l s w m f =
     (s, w, u, subst (λ (a : ℕ). Moves us a (place_entry [] 0 old.kernel.place e) r) (sym l) (subst (λ (p : Placement). Moves us left p r) (moved_place e moved old next holds i h k m) f))
 
-module _ (n : ℕ) (old next new : Standing) (holds later : Option (List NamedFile)) (i h j : Option (List ℕ)) (same_files : later ≡ holds) (some : 0 < n) (wants : wants_moves old.kernel.place ≡ true)
+module _ (n : ℕ) (old next new : Standing) (holds later : Option (List NamedFile)) (i h j : Option SwapImage) (same_files : later ≡ holds) (some : 0 < n) (wants : wants_moves old.kernel.place ≡ true)
     (m : MakesUnit (ground old holds []) (move_unit old.kernel.place []) old next i h) where
   abbrev e : Entry
   e = move_unit old.kernel.place []
@@ -135,7 +136,7 @@ module _ (n : ℕ) (old next new : Standing) (holds later : Option (List NamedFi
       })
       f
 
-pub stops_moving : (n : ℕ) (old : Standing) (stop : Stop) (new : Standing) (holds : Option (List NamedFile)) (i j : Option (List ℕ)) → 0 < n
+pub stops_moving : (n : ℕ) (old : Standing) (stop : Stop) (new : Standing) (holds : Option (List NamedFile)) (i j : Option SwapImage) → 0 < n
     → wants_moves old.kernel.place ≡ true → new.params ≡ old.params → new.images ≡ old.images
     → StopsAt (move_unit old.kernel.place []) old.kernel i stop new j → StopsMoving n old stop new holds i j
 stops_moving n old stop new holds i j l w a b s =
@@ -144,7 +145,7 @@ stops_moving n old stop new holds i j l w a b s =
 
 -- What a unit leaves for the next.
 
-pub move_flies : (old next : Standing) (holds : Option (List NamedFile)) (i h : Option (List ℕ)) → IsMoveOf (move_unit old.kernel.place []) true
+pub move_flies : (old next : Standing) (holds : Option (List NamedFile)) (i h : Option SwapImage) → IsMoveOf (move_unit old.kernel.place []) true
     → MakesUnit (ground old holds []) (move_unit old.kernel.place []) old next i h
     → length next.kernel.place.transfers ≤ length old.kernel.place.transfers + 1
 move_flies old next holds i h k m =
@@ -154,7 +155,7 @@ move_flies old next holds i h k m =
     let l = entry_count [] 0 old.kernel.place (entries.Hands 1) in
     omega arith
 
-pub done_flies : (old next : Standing) (holds : Option (List NamedFile)) (i h : Option (List ℕ)) → IsMoveOf (move_unit old.kernel.place []) false
+pub done_flies : (old next : Standing) (holds : Option (List NamedFile)) (i h : Option SwapImage) → IsMoveOf (move_unit old.kernel.place []) false
     → MakesUnit (ground old holds []) (move_unit old.kernel.place []) old next i h
     → length next.kernel.place.transfers < length old.kernel.place.transfers
 done_flies old next holds i h k m =
@@ -165,7 +166,7 @@ done_flies old next holds i h k m =
     let l = done_less old.kernel.place (λ z. absurd (let n = ap (λ (ts : List Transfer). length ts) z in omega arith)) in
     omega arith
 
-pub move_last : (n : ℕ) (old next : Standing) (holds : Option (List NamedFile)) (i h : Option (List ℕ)) → 0 < n → IsMoveOf (move_unit old.kernel.place []) true
+pub move_last : (n : ℕ) (old next : Standing) (holds : Option (List NamedFile)) (i h : Option SwapImage) → 0 < n → IsMoveOf (move_unit old.kernel.place []) true
     → MakesUnit (ground old holds []) (move_unit old.kernel.place []) old next i h
     → last_moves old.kernel.journal + n < 2 ^ 32 → last_moves next.kernel.journal + (n - 1) < 2 ^ 32
 move_last n old next holds i h s k m l =
@@ -173,7 +174,7 @@ move_last n old next holds i h s k m l =
     let more = last_more old.kernel.journal in
     omega arith
 
-pub done_last : (n : ℕ) (old next : Standing) (holds : Option (List NamedFile)) (i h : Option (List ℕ)) → IsMoveOf (move_unit old.kernel.place []) false
+pub done_last : (n : ℕ) (old next : Standing) (holds : Option (List NamedFile)) (i h : Option SwapImage) → IsMoveOf (move_unit old.kernel.place []) false
     → MakesUnit (ground old holds []) (move_unit old.kernel.place []) old next i h
     → last_moves old.kernel.journal + n < 2 ^ 32 → last_moves next.kernel.journal + n < 2 ^ 32
 done_last n old next holds i h k m l =
@@ -183,15 +184,15 @@ done_last n old next holds i h k m l =
 
 -- What is moved so far and what is left make the whole.
 
-pub record MovesSoFar (n left : ℕ) (old now : Standing) (holds later : Option (List NamedFile)) (i h : Option (List ℕ)) : Type 0 where
-  pub more : (new : Standing) (j : Option (List ℕ)) (made : ℕ) → Moved left now new made later h j → Moved n old new (n - left + made) holds i j
-  pub stops : (stop : Stop) (new : Standing) (j : Option (List ℕ)) → StopsMoving left now stop new later h j → StopsMoving n old stop new holds i j
-  pub keeps : (new : Standing) (j : Option (List ℕ)) → KeepsThrough now new later h j → KeepsThrough old new holds i j
+pub record MovesSoFar (n left : ℕ) (old now : Standing) (holds later : Option (List NamedFile)) (i h : Option SwapImage) : Type 0 where
+  pub more : (new : Standing) (j : Option SwapImage) (made : ℕ) → Moved left now new made later h j → Moved n old new (n - left + made) holds i j
+  pub stops : (stop : Stop) (new : Standing) (j : Option SwapImage) → StopsMoving left now stop new later h j → StopsMoving n old stop new holds i j
+  pub keeps : (new : Standing) (j : Option SwapImage) → KeepsThrough now new later h j → KeepsThrough old new holds i j
 
 none_moved : (n made : ℕ) → made ≡ n - n + made
 none_moved n made = omega arith
 
-pub moves_none : (n : ℕ) (old : Standing) (holds : Option (List NamedFile)) (i : Option (List ℕ)) → MovesSoFar n n old old holds holds i i
+pub moves_none : (n : ℕ) (old : Standing) (holds : Option (List NamedFile)) (i : Option SwapImage) → MovesSoFar n n old old holds holds i i
 moves_none n old holds i = record {
   more = λ new j made f. subst (λ (k : ℕ). Moved n old new k holds i j) (none_moved n made) f;
   stops = λ stop new j f. f;
@@ -201,7 +202,7 @@ moves_none n old holds i = record {
 one_moved : (n left made : ℕ) → left ≤ n → 0 < left → n - left + (1 + made) ≡ n - (left - 1) + made
 one_moved n left made l s = omega (arith, l, s)
 
-pub moves_one : (n left : ℕ) (old now next : Standing) (holds later latest : Option (List NamedFile)) (i h k : Option (List ℕ))
+pub moves_one : (n left : ℕ) (old now next : Standing) (holds later latest : Option (List NamedFile)) (i h k : Option SwapImage)
     → latest ≡ later → left ≤ n → 0 < left
     → wants_moves now.kernel.place ≡ true → MakesUnit (ground now later []) (move_unit now.kernel.place []) now next h k
     → IsMoveOf (move_unit now.kernel.place []) true
@@ -213,7 +214,7 @@ moves_one n left old now next holds later latest i h k e l s w m u t so = record
   keeps = λ new j f. so.keeps new j (keeps_on (ground now later []) (move_unit now.kernel.place []) now next new h later latest k j m e t f);
 }
 
-pub moves_done : (n left : ℕ) (old now next : Standing) (holds later latest : Option (List NamedFile)) (i h k : Option (List ℕ)) → latest ≡ later → 0 < left
+pub moves_done : (n left : ℕ) (old now next : Standing) (holds later latest : Option (List NamedFile)) (i h k : Option SwapImage) → latest ≡ later → 0 < left
     → wants_moves now.kernel.place ≡ true → MakesUnit (ground now later []) (move_unit now.kernel.place []) now next h k
     → IsMoveOf (move_unit now.kernel.place []) false
     → KeepsThrough now next later h k → MovesSoFar n left old now holds later i h → MovesSoFar n left old next holds latest i k
@@ -223,7 +224,7 @@ moves_done n left old now next holds later latest i h k e s w m u t so = record 
   keeps = λ new j f. so.keeps new j (keeps_on (ground now later []) (move_unit now.kernel.place []) now next new h later latest k j m e t f);
 }
 
-pub moves_all : (n left : ℕ) (old now : Standing) (holds later : Option (List NamedFile)) (i h : Option (List ℕ))
+pub moves_all : (n left : ℕ) (old now : Standing) (holds later : Option (List NamedFile)) (i h : Option SwapImage)
     → (0 < left → wants_moves now.kernel.place ≡ false)
     → MovesSoFar n left old now holds later i h → Moved n old now (n - left) holds i h
 moves_all n left old now holds later i h f so =

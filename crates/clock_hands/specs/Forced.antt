@@ -1,5 +1,6 @@
 -- A frame that is forced.
 use Rattle.std.specs.Prelude.{◌≡◌, ℕ, ◌<◌, ◌≤◌, List, [], length, Option, Some}
+use Rattle.vm_facts.specs.SwapImages.{SwapImage}
 use Rattle.vm_facts.specs.declared.page.Page.{Page}
 use Rattle.vm_facts.specs.declared.entry.Entry.{Entry}
 use Rattle.vm_facts.specs.declared.stop.Stop.{Stop}
@@ -14,7 +15,7 @@ use Rattle.paging_units.specs.Stops.{StopsAmong}
 
 -- The call makes the units that force a frame, each where none is free, and a frame is free at the end. The swap images,
 -- where they are told, are those before and after it, and the files those that it reads from.
-pub record Forced (locked : List Page) (old new : Standing) (holds : Option (List NamedFile)) (i j : Option (List ℕ)) : Type 0 where
+pub record Forced (locked : List Page) (old new : Standing) (holds : Option (List NamedFile)) (i j : Option SwapImage) : Type 0 where
   pub units : List Entry
   pub forces : Forces units old.kernel.place locked new.kernel.place
   pub makes : Makes (ground old holds locked) units old new i j
@@ -28,6 +29,6 @@ pub record StillForcing (locked : List Page) (p : Placement) (us : List Entry) (
   pub none : k.place.free ≡ []
 
 -- the call stops while it forces a frame
-abbrev pub StopsForcing : List Page → Standing → Stop → Standing → Option (List NamedFile) → Option (List ℕ) → Option (List ℕ) → Type 0
+abbrev pub StopsForcing : List Page → Standing → Stop → Standing → Option (List NamedFile) → Option SwapImage → Option SwapImage → Type 0
 StopsForcing locked old stop new holds i j =
     StopsAmong (ground old holds locked) (StillForcing locked old.kernel.place) (λ p. Some (force_entry p.transfers)) old new i j stop

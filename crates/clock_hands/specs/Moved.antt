@@ -1,5 +1,6 @@
 -- Moves of the hands, as a line of the schedule asks for them.
 use Rattle.std.specs.Prelude.{◌≡◌, ℕ, ◌-◌, ◌<◌, ◌≤◌, Bool, true, false, List, [], ◌∷◌, Option, Some}
+use Rattle.vm_facts.specs.SwapImages.{SwapImage}
 use Rattle.vm_facts.specs.declared.entry.Entry.{Entry}
 use Rattle.vm_facts.specs.declared.entry.Entry.TheVariants as entries
 use Rattle.vm_facts.specs.declared.stop.Stop.{Stop}
@@ -27,7 +28,7 @@ IsMoveOf e false = e ≡ entries.Done
 
 -- The call makes such units and answers how many moves they are: as many as are asked for, or fewer where a quarter of the
 -- frames are free then.
-pub record Moved (n : ℕ) (old new : Standing) (made : ℕ) (holds : Option (List NamedFile)) (i j : Option (List ℕ)) : Type 0 where
+pub record Moved (n : ℕ) (old new : Standing) (made : ℕ) (holds : Option (List NamedFile)) (i j : Option SwapImage) : Type 0 where
   pub units : List Entry
   pub moves : Moves units n old.kernel.place new.kernel.place
   pub makes : Makes (ground old holds []) units old new i j
@@ -42,6 +43,6 @@ pub record StillMoving (n : ℕ) (p : Placement) (us : List Entry) (k : Kernel) 
   pub wants : wants_moves k.place ≡ true
 
 -- the call stops while it moves the hands
-abbrev pub StopsMoving : ℕ → Standing → Stop → Standing → Option (List NamedFile) → Option (List ℕ) → Option (List ℕ) → Type 0
+abbrev pub StopsMoving : ℕ → Standing → Stop → Standing → Option (List NamedFile) → Option SwapImage → Option SwapImage → Type 0
 StopsMoving n old stop new holds i j =
     StopsAmong (ground old holds []) (StillMoving n old.kernel.place) (λ p. Some (move_unit p [])) old new i j stop

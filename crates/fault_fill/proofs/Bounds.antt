@@ -9,6 +9,7 @@ use Rattle.vm_facts.specs.declared.entry.Entry.{Entry}
 use Rattle.io_edge.specs.FileHolding.{NamedFile}
 use Rattle.vm_facts.specs.declared.entry.Entry.TheVariants as entries
 use Rattle.std.proofs.lemmas.Option.{same_Some}
+use Rattle.vm_facts.specs.SwapImages.{SwapImage}
 use Rattle.flat_state.specs.Journal.{append, appended}
 use Rattle.flat_state.specs.PageNames.{is_among, same_page}
 use Rattle.flat_state.proofs.PageNames.{same_page_self}
@@ -45,7 +46,7 @@ match_err P Q (Ok x) f m = tt
 match_err P Q (Err e) f m = f e m
 
 -- how far serving came, however far it came
-pub serves_short : (now : Bool) (locked : List Page) (q : Page) (old new : Standing) (holds : Option (List NamedFile)) (i j : Option (List ℕ))
+pub serves_short : (now : Bool) (locked : List Page) (q : Page) (old new : Standing) (holds : Option (List NamedFile)) (i j : Option SwapImage)
     → OwnsFrames old.kernel.place → IsThere old.kernel.place q
     → ServesTo now locked q old new holds i j → IsShort q old new
 serves_short now locked q old new holds i j o there s =
@@ -58,7 +59,7 @@ serves_short now locked q old new holds i j o there s =
       flights = λ v. (let r = k.rest v in omega arith);
     }
 
-pub serves_takings : (now : Bool) (locked : List Page) (q : Page) (old new : Standing) (holds : Option (List NamedFile)) (i j : Option (List ℕ))
+pub serves_takings : (now : Bool) (locked : List Page) (q : Page) (old new : Standing) (holds : Option (List NamedFile)) (i j : Option SwapImage)
     → OwnsFrames old.kernel.place → IsThere old.kernel.place q
     → (s : ServesTo now locked q old new holds i j) → takings s.units ≤ 1
 serves_takings now locked q old new holds i j o there s =
@@ -66,7 +67,7 @@ serves_takings now locked q old new holds i j o there s =
     served_short false s.units old.kernel.place new.kernel.place locked q now o there s.leads in
     k.taken
 
-pub stops_short : (now : Bool) (locked : List Page) (q : Page) (old new : Standing) (holds : Option (List NamedFile)) (i j : Option (List ℕ)) (stop : Stop)
+pub stops_short : (now : Bool) (locked : List Page) (q : Page) (old new : Standing) (holds : Option (List NamedFile)) (i j : Option SwapImage) (stop : Stop)
     → OwnsFrames old.kernel.place
     → IsThere old.kernel.place q → StopsServing now locked q old new holds i j stop
     → length new.kernel.journal ≤ length old.kernel.journal + length old.kernel.place.transfers + 5
@@ -162,14 +163,14 @@ last_low [] p r locked q journal o c h v = omega arith
 last_low (e ∷ us) p r locked q journal o c h v =
     let a = last_none (e ∷ us) p r locked q journal o c h (unit_is p q true e h.0).0 v in omega arith
 
-pub calls_calm : (q : Page) (old new : Standing) (holds : Option (List NamedFile)) (i j : Option (List ℕ))
+pub calls_calm : (q : Page) (old new : Standing) (holds : Option (List NamedFile)) (i j : Option SwapImage)
     → ServesTo false [] q old new holds i j → last_moves new.kernel.journal ≤ last_moves old.kernel.journal
 calls_calm q old new holds i j s =
     let a = last_calm s.units old.kernel.place new.kernel.place q old.kernel.journal s.leads in
     let b = ap last_moves (made_journal (ground old holds []) s.units old.kernel new.kernel i j s.makes.made) in
     omega arith
 
-pub calls_low : (locked : List Page) (q : Page) (old new : Standing) (holds : Option (List NamedFile)) (i j : Option (List ℕ))
+pub calls_low : (locked : List Page) (q : Page) (old new : Standing) (holds : Option (List NamedFile)) (i j : Option SwapImage)
     → OwnsFrames old.kernel.place → CanServe old.kernel.place q
     → ServesTo true locked q old new holds i j → is_valid (state_of new.kernel.place q) ≡ true → last_moves new.kernel.journal ≤ last_moves old.kernel.journal
 calls_low locked q old new holds i j o c s v =

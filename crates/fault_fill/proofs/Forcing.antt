@@ -1,5 +1,6 @@
 -- A frame that is forced serves a page that needs one.
 use Rattle.std.proofs.Common.{◌≡◌, ℕ, true, List, [], ◌∷◌, length, Option, None, ap, ◌∙◌, subst, arith}
+use Rattle.vm_facts.specs.SwapImages.{SwapImage}
 use Rattle.vm_facts.specs.declared.page.Page.{Page}
 use Rattle.vm_facts.specs.declared.stop.Stop.{Stop}
 use Rattle.vm_facts.specs.declared.entry.Entry.{Entry}
@@ -27,7 +28,7 @@ still_frameless (e ∷ us) p r locked q o n h =
     let s : Stays p (force p locked) = force_stays p locked o in
     still_frameless us (force p locked) r locked q (force_owner p locked o) (s.frames q ∙ n) h.2
 
-pub room_further : (locked : List Page) (q : Page) (old next new : Standing) (holds later : Option (List NamedFile)) (i h j : Option (List ℕ)) (came : Came)
+pub room_further : (locked : List Page) (q : Page) (old next new : Standing) (holds later : Option (List NamedFile)) (i h j : Option SwapImage) (came : Came)
     → came ≡ units.Starves → ComesTo came q old next holds i h → later ≡ holds → OwnsFrames old.kernel.place → Forced locked next new later h j
     → KeepsThrough next new later h j → Further locked q old new holds i j
 room_further locked q old next new holds later i h j came is made e o f keeps = record {
@@ -47,14 +48,14 @@ room_further locked q old next new holds later i h j came is made e o f keeps = 
     d : Forced locked old new holds i j
     d =
         subst (λ (s : Standing). Forced locked s new holds i j) n.0.machine
-        (subst (λ (x : Option (List ℕ)). Forced locked next new holds x j) n.0.image (subst (λ (x : Option (List NamedFile)). Forced locked next new x h j) e f))
+        (subst (λ (x : Option SwapImage). Forced locked next new holds x j) n.0.image (subst (λ (x : Option (List NamedFile)). Forced locked next new x h j) e f))
 
     kept : KeepsThrough old new holds i j
     kept =
         subst (λ (s : Standing). KeepsThrough s new holds i j) n.0.machine
-        (subst (λ (x : Option (List ℕ)). KeepsThrough next new holds x j) n.0.image (subst (λ (x : Option (List NamedFile)). KeepsThrough next new x h j) e keeps))
+        (subst (λ (x : Option SwapImage). KeepsThrough next new holds x j) n.0.image (subst (λ (x : Option (List NamedFile)). KeepsThrough next new x h j) e keeps))
 
-pub room_stops : (locked : List Page) (q : Page) (old next new : Standing) (holds later : Option (List NamedFile)) (i h j : Option (List ℕ))
+pub room_stops : (locked : List Page) (q : Page) (old next new : Standing) (holds later : Option (List NamedFile)) (i h j : Option SwapImage)
     (stop : Stop) (came : Came)
     → came ≡ units.Starves → ComesTo came q old next holds i h → later ≡ holds → OwnsFrames old.kernel.place → StopsForcing locked next stop new later h j
     → StopsServing true locked q old new holds i j stop
@@ -79,4 +80,4 @@ room_stops locked q old next new holds later i h j stop came is made e o f = rec
     d : StopsForcing locked old stop new holds i j
     d =
         subst (λ (s : Standing). StopsForcing locked s stop new holds i j) n.0.machine
-        (subst (λ (x : Option (List ℕ)). StopsForcing locked next stop new holds x j) n.0.image (subst (λ (x : Option (List NamedFile)). StopsForcing locked next stop new x h j) e f))
+        (subst (λ (x : Option SwapImage). StopsForcing locked next stop new holds x j) n.0.image (subst (λ (x : Option (List NamedFile)). StopsForcing locked next stop new x h j) e f))

@@ -1,6 +1,7 @@
 -- Units of serving, and calls of them, one after another.
 use Rattle.std.proofs.Common.{◌≡◌, ◌↔◌, ◌⊎◌, ℕ, ◌+◌, ◌<◌, ◌≤◌, Bool, true, false, List, [], ◌∷◌, ◌++◌, length, Option, Some, None, Result, Ok, Err, MatchResult, OnOk, OnErr, refl, sym, ap, ◌∙◌, subst, arith}
 use Rattle.std.proofs.lemmas.List.{length_push}
+use Rattle.vm_facts.specs.SwapImages.{SwapImage}
 use Rattle.vm_facts.specs.declared.page.Page.{Page}
 use Rattle.vm_facts.specs.declared.stop.Stop.{Stop}
 use Rattle.vm_facts.specs.declared.stop.Stop.TheVariants as stops
@@ -50,7 +51,7 @@ beside_of old new e = record {
 }
 
 pub plain_made : (q : Page) (e : Entry) (old new : Standing) → ((now : Bool) → serve_unit old.kernel.place q now ≡ Some e)
-    → ((g : Ground) (i : Option (List ℕ)) → MadeBy g e old.kernel i new.kernel) → ((i : Option (List ℕ)) → ImageBy e old.kernel i i)
+    → ((g : Ground) (i : Option SwapImage) → MadeBy g e old.kernel i new.kernel) → ((i : Option SwapImage) → ImageBy e old.kernel i i)
     → new ≡ record old { kernel = new.kernel; room = None } → KeepsFlat old.kernel new.kernel → PlainMade q old new
 plain_made q e old new next made told rest keeps = λ holds image now locked. record {
   entry = e;
@@ -84,7 +85,7 @@ cause_same {A} stop h = elim h [
 
 pub plain_stops : {A : Type 0} (q : Page) (e : Entry) (old new : Standing) (stop : Stop) → ((now : Bool) → serve_unit old.kernel.place q now ≡ Some e)
     → ((s : Stop) (ts : List Transfer) → (s ≡ stops.JournalFull) ⊎ (s ≡ stops.NoMemory) → CauseBy e s ts)
-    → ((i : Option (List ℕ)) → SpoilsBy e stop old.kernel i i) → append old.kernel.journal e ≡ old.kernel.journal ++ e ∷ []
+    → ((i : Option SwapImage) → SpoilsBy e stop old.kernel i i) → append old.kernel.journal e ≡ old.kernel.journal ++ e ∷ []
     → HasStopped old new → old.before ≡ old.kernel.holdings
     → ((let r : Result A Stop = Err stop in r) ≡ Err stops.JournalFull) ⊎ ((let r : Result A Stop = Err stop in r) ≡ Err stops.NoMemory)
     → ((let r : Result A Stop = Err stop in r) ≡ Err stops.JournalFull) ↔ (old.params.journal ≤ length old.kernel.journal) → PlainStop q old new stop
@@ -104,9 +105,9 @@ plain_stops {A} q e old new stop next causes spoils plain has whole cause full =
 
 -- an entry of a step that calls no device, and is never joined to the last one
 pub record CallsNone (e : Entry) : Type 0 where
-  pub told : (k : Kernel) (i : Option (List ℕ)) → ImageBy e k i i
+  pub told : (k : Kernel) (i : Option SwapImage) → ImageBy e k i i
   pub causes : (s : Stop) (ts : List Transfer) → (s ≡ stops.JournalFull) ⊎ (s ≡ stops.NoMemory) → CauseBy e s ts
-  pub spoils : (s : Stop) (k : Kernel) (i : Option (List ℕ)) → SpoilsBy e s k i i
+  pub spoils : (s : Stop) (k : Kernel) (i : Option SwapImage) → SpoilsBy e s k i i
   pub longer : (journal : List Entry) → append journal e ≡ journal ++ e ∷ []
 
 pub zero_calls : (q : Page) → CallsNone (entries.Zero q)
@@ -120,7 +121,7 @@ reclaim_calls q = record { told = λ k i. refl; causes = λ s ts h. h; spoils = 
 
 pub plain_either : {A S : Type 0} (r : Result A Stop) (q : Page) (e : Entry) (old new : Standing) → CallsNone e
     → ((now : Bool) → serve_unit old.kernel.place q now ≡ Some e)
-    → (S → (g : Ground) (i : Option (List ℕ)) → MadeBy g e old.kernel i new.kernel)
+    → (S → (g : Ground) (i : Option SwapImage) → MadeBy g e old.kernel i new.kernel)
     → OnOk r S → OnOk r (new ≡ record old { kernel = new.kernel; room = None }) → OnOk r (KeepsFlat old.kernel new.kernel)
     → OnErr r (HasStopped old new) → old.before ≡ old.kernel.holdings → OnErr r ((r ≡ Err stops.JournalFull) ⊎ (r ≡ Err stops.NoMemory))
     → ((r ≡ Err stops.JournalFull) ↔ (old.params.journal ≤ length old.kernel.journal)) → MatchResult r (λ (u : A). PlainMade q old new) (PlainStop q old new)
@@ -131,11 +132,11 @@ plain_either {A} (Err s) q e old new calls next made step rest keeps stopped who
 
 -- The end of a transfer, where it is the next unit.
 
-pub end_unit : (now : Bool) (locked : List Page) (q : Page) (old new : Standing) (holds : Option (List NamedFile)) (before after : Option (List ℕ))
+pub end_unit : (now : Bool) (locked : List Page) (q : Page) (old new : Standing) (holds : Option (List NamedFile)) (before after : Option SwapImage)
     → serve_unit old.kernel.place q now ≡ Some entries.Done → EndMade old new holds before after → UnitMade now locked q old new holds before after
 end_unit now locked q old new holds before after next m = record { entry = entries.Done; next = next; made = m.done; told = m.told; rest = m.rest; keeps = m.keeps }
 
-pub end_stops : (now : Bool) (q : Page) (old new : Standing) (before after : Option (List ℕ)) (stop : Stop)
+pub end_stops : (now : Bool) (q : Page) (old new : Standing) (before after : Option SwapImage) (stop : Stop)
     → serve_unit old.kernel.place q now ≡ Some entries.Done → EndStops old new before after stop → UnitStops now q old new before after stop
 end_stops now q old new before after stop next m = record { entry = entries.Done; next = next; stops = m.at; params = m.params; images = m.images }
 
@@ -150,7 +151,7 @@ files_on old new a b r e f =
 
 -- Units in order.
 
-pub one_serves : (now : Bool) (locked : List Page) (q : Page) (old new : Standing) (holds : Option (List NamedFile)) (before after : Option (List ℕ))
+pub one_serves : (now : Bool) (locked : List Page) (q : Page) (old new : Standing) (holds : Option (List NamedFile)) (before after : Option SwapImage)
     → CanServe old.kernel.place q → UnitMade now locked q old new holds before after → ServesTo now locked q old new holds before after
 one_serves now locked q old new holds before after c u = record {
   units = u.entry ∷ [];
@@ -159,7 +160,7 @@ one_serves now locked q old new holds before after c u = record {
   keeps = u.keeps;
 }
 
-pub both_serve : (now : Bool) (locked : List Page) (q : Page) (old next new : Standing) (holds later : Option (List NamedFile)) (a b c : Option (List ℕ))
+pub both_serve : (now : Bool) (locked : List Page) (q : Page) (old next new : Standing) (holds later : Option (List NamedFile)) (a b c : Option SwapImage)
     → later ≡ holds
     → ServesTo now locked q old next holds a b → ServesTo now locked q next new later b c → ServesTo now locked q old new holds a c
 both_serve now locked q old next new holds later a b c e s t = record {
@@ -170,13 +171,13 @@ both_serve now locked q old next new holds later a b c e s t = record {
 }
 
 pub stops_here : (now : Bool) (locked : List Page) (q : Page) (old new : Standing) (holds : Option (List NamedFile))
-    (before after : Option (List ℕ)) (stop : Stop)
+    (before after : Option SwapImage) (stop : Stop)
     → UnitStops now q old new before after stop → StopsServing now locked q old new holds before after stop
 stops_here now locked q old new holds before after stop u =
     stops_at_first (ground old holds locked) (λ us k. Serves us old.kernel.place locked q now k.place) (λ p. serve_unit p q now) old new before after stop refl u
 
 pub stops_later : (now : Bool) (locked : List Page) (q : Page) (old next new : Standing) (holds later : Option (List NamedFile))
-    (a b c : Option (List ℕ)) (stop : Stop)
+    (a b c : Option SwapImage) (stop : Stop)
     → later ≡ holds
     → ServesTo now locked q old next holds a b → StopsServing now locked q next new later b c stop → StopsServing now locked q old new holds a c stop
 stops_later now locked q old next new holds later a b c stop e s t = record {
@@ -191,14 +192,14 @@ stops_later now locked q old next new holds later a b c stop e s t = record {
 
 -- After a unit.
 
-pub unit_behind : (now : Bool) (locked : List Page) (q : Page) (old new : Standing) (holds : Option (List NamedFile)) (before after : Option (List ℕ))
+pub unit_behind : (now : Bool) (locked : List Page) (q : Page) (old new : Standing) (holds : Option (List NamedFile)) (before after : Option SwapImage)
     → OwnsFrames old.kernel.place → CanServe old.kernel.place q → UnitMade now locked q old new holds before after
     → Behind old.kernel.place new.kernel.place locked q
 unit_behind now locked q old new holds before after o c u =
     let s : ServesTo now locked q old new holds before after = one_serves now locked q old new holds before after c u in
     served_behind s.units old.kernel.place new.kernel.place locked q now o c s.leads
 
-pub unit_nearer : (q : Page) (old new : Standing) (holds : Option (List NamedFile)) (before after : Option (List ℕ))
+pub unit_nearer : (q : Page) (old new : Standing) (holds : Option (List NamedFile)) (before after : Option SwapImage)
     → OwnsFrames old.kernel.place → CanServe old.kernel.place q → UnitMade false [] q old new holds before after
     → near new.kernel.place q < near old.kernel.place q
 unit_nearer q old new holds before after o c u =
@@ -206,18 +207,18 @@ unit_nearer q old new holds before after o c u =
     (sym (served_place (ground old holds []) q false u.entry old.kernel new.kernel before u.next u.made))
     (near_falls old.kernel.place q u.entry o c.there u.next)
 
-pub served_later : (answer : PageServed) (q : Page) (old next new : Standing) (holds later : Option (List NamedFile)) (a b c : Option (List ℕ)) → later ≡ holds
+pub served_later : (answer : PageServed) (q : Page) (old next new : Standing) (holds later : Option (List NamedFile)) (a b c : Option SwapImage) → later ≡ holds
     → ServesTo false [] q old next holds a b → ServesAs answer q next new later b c → ServesAs answer q old new holds a c
 served_later answer q old next new holds later a b c e s t = (both_serve false [] q old next new holds later a b c e s t.0, t.1)
 
-pub served_now_later : (locked : List Page) (q : Page) (old next new : Standing) (holds later : Option (List NamedFile)) (a b c : Option (List ℕ))
+pub served_now_later : (locked : List Page) (q : Page) (old next new : Standing) (holds later : Option (List NamedFile)) (a b c : Option SwapImage)
     → later ≡ holds
     → ServesTo true locked q old next holds a b → ServesNow locked q next new later b c → ServesNow locked q old new holds a c
 served_now_later locked q old next new holds later a b c e s t = (both_serve true locked q old next new holds later a b c e s t.0, t.1)
 
 -- Serving now: further by one unit.
 
-pub unit_further : (locked : List Page) (q : Page) (old new : Standing) (holds : Option (List NamedFile)) (before after : Option (List ℕ))
+pub unit_further : (locked : List Page) (q : Page) (old new : Standing) (holds : Option (List NamedFile)) (before after : Option SwapImage)
     → CanServe old.kernel.place q → (u : UnitMade true locked q old new holds before after) → last_moves (append old.kernel.journal u.entry) ≡ 0
     → Further locked q old new holds before after
 unit_further locked q old new holds before after c u z = record {
@@ -231,7 +232,7 @@ unit_further locked q old new holds before after c u z = record {
   low = λ e. (let j = ap last_moves (unit_journal (ground old holds locked) u.entry old.kernel new.kernel before u.made) in omega arith);
 }
 
-pub any_further : (locked : List Page) (q : Page) (old new : Standing) (holds : Option (List NamedFile)) (before after : Option (List ℕ))
+pub any_further : (locked : List Page) (q : Page) (old new : Standing) (holds : Option (List NamedFile)) (before after : Option SwapImage)
     (came : Came) → came ≡ units.Nearer → ComesTo came q old new holds before after → CanServe old.kernel.place q → Further locked q old new holds before after
 any_further locked q old new holds before after came is made c =
     let any : AnyUnit q old new holds before after = subst (λ (x : Came). ComesTo x q old new holds before after) is made in
@@ -242,18 +243,18 @@ any_further locked q old new holds before after came is made c =
     (subst (λ (e : Entry). last_moves (append old.kernel.journal e) ≡ 0) same (calm_unit old.kernel.place q v.entry old.kernel.journal v.next))
 
 -- nothing was done before
-pub end_same : (old next new : Standing) (holds later : Option (List NamedFile)) (i h j : Option (List ℕ)) → NoneMade old next i h → later ≡ holds
+pub end_same : (old next new : Standing) (holds later : Option (List NamedFile)) (i h j : Option SwapImage) → NoneMade old next i h → later ≡ holds
     → EndMade next new later h j → EndMade old new holds i j
 end_same old next new holds later i h j n e m =
     subst (λ (s : Standing). EndMade s new holds i j) n.machine
-    (subst (λ (x : Option (List ℕ)). EndMade next new holds x j) n.image (subst (λ (x : Option (List NamedFile)). EndMade next new x h j) e m))
+    (subst (λ (x : Option SwapImage). EndMade next new holds x j) n.image (subst (λ (x : Option (List NamedFile)). EndMade next new x h j) e m))
 
-pub stop_same : (old next new : Standing) (i h j : Option (List ℕ)) (stop : Stop) → NoneMade old next i h → EndStops next new h j stop
+pub stop_same : (old next new : Standing) (i h j : Option SwapImage) (stop : Stop) → NoneMade old next i h → EndStops next new h j stop
     → EndStops old new i j stop
 stop_same old next new i h j stop n m =
-    subst (λ (s : Standing). EndStops s new i j stop) n.machine (subst (λ (x : Option (List ℕ)). EndStops next new x j stop) n.image m)
+    subst (λ (s : Standing). EndStops s new i j stop) n.machine (subst (λ (x : Option SwapImage). EndStops next new x j stop) n.image m)
 
-pub end_further : (locked : List Page) (q : Page) (old next new : Standing) (holds later : Option (List NamedFile)) (i h j : Option (List ℕ)) (came : Came)
+pub end_further : (locked : List Page) (q : Page) (old next new : Standing) (holds later : Option (List NamedFile)) (i h j : Option SwapImage) (came : Came)
     → came ≡ units.Waits → ComesTo came q old next holds i h → later ≡ holds → CanServe old.kernel.place q → EndMade next new later h j
     → Further locked q old new holds i j
 end_further locked q old next new holds later i h j came is made e c m =
@@ -267,7 +268,7 @@ end_further locked q old next new holds later i h j came is made e c m =
     d : EndMade old new holds i j
     d = end_same old next new holds later i h j w.0 e m
 
-pub end_stops_now : (locked : List Page) (q : Page) (old next new : Standing) (holds : Option (List NamedFile)) (i h j : Option (List ℕ))
+pub end_stops_now : (locked : List Page) (q : Page) (old next new : Standing) (holds : Option (List NamedFile)) (i h j : Option SwapImage)
     (stop : Stop) (came : Came)
     → came ≡ units.Waits → ComesTo came q old next holds i h → EndStops next new h j stop → StopsServing true locked q old new holds i j stop
 end_stops_now locked q old next new holds i h j stop came is made m =

@@ -1,5 +1,6 @@
 -- Where the run stops as the page of an access is served.
 use Rattle.std.proofs.Common.{◌≡◌, ◌≤◌, ◌+◌, ℕ, Bool, List, length, Option, Result, Ok, inr, subst}
+use Rattle.vm_facts.specs.SwapImages.{SwapImage}
 use Rattle.vm_facts.specs.declared.page.Page.{Page}
 use Rattle.vm_facts.specs.declared.stop.Stop.{Stop}
 use Rattle.io_edge.specs.FileHolding.{NamedFile}
@@ -11,7 +12,7 @@ use Rattle.fault_fill.specs.declared.access.Access.TheVariants as accesses
 use Rattle.fault_fill.specs.declared.touch.Served.{Served}
 
 reached_stops : (now : Bool) (locked : List Page) (access : Access) (q : Page) (pid : ℕ) (old mid new : Standing) (holds : Option (List NamedFile))
-    (i j : Option (List ℕ)) (stop : Stop)
+    (i j : Option SwapImage) (stop : Stop)
     → Reaches access (Ok q) pid old mid → StopsAtPage now locked q mid new holds i j stop → AccessStops now locked access pid old new holds i j stop
 reached_stops now locked (accesses.Page p) q pid old mid new holds i j stop r s =
     subst (λ (m : Standing). StopsAtPage now locked p m new holds i j stop) r.1 (subst (λ (w : Page). StopsAtPage now locked w mid new holds i j stop) r.0 s)
@@ -21,7 +22,7 @@ reached_stops now locked (accesses.Growth sid pages) q pid old mid new holds i j
 
 -- the page for which the stack grew where it had to
 pub page_stops : (now : Bool) (locked : List Page) (access : Access) (page : Result Page Served) (q : Page) (pid : ℕ) (old mid new : Standing)
-    (holds : Option (List NamedFile)) (i j : Option (List ℕ)) (stop : Stop)
+    (holds : Option (List NamedFile)) (i j : Option SwapImage) (stop : Stop)
     → page ≡ Ok q → Reaches access page pid old mid → StopsServing now locked q mid new holds i j stop
     → length new.kernel.journal ≤ length mid.kernel.journal + length mid.kernel.place.transfers + 5 → AccessStops now locked access pid old new holds i j stop
 page_stops now locked access page q pid old mid new holds i j stop e r s few =

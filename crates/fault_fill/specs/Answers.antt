@@ -1,5 +1,6 @@
 -- What the calls that serve a page answer.
 use Rattle.std.specs.Prelude.{◌≡◌, ℕ, ◌+◌, ◌≤◌, Bool, true, false, List, [], length, Option}
+use Rattle.vm_facts.specs.SwapImages.{SwapImage}
 use Rattle.vm_facts.specs.declared.page.Page.{Page}
 use Rattle.io_edge.specs.FileHolding.{NamedFile}
 use Rattle.page_model.specs.Pages.{is_valid}
@@ -19,24 +20,24 @@ IsAnswer page_served.NoFrame p q = NeedsFrame p q
 
 -- served so, and at most one unit takes frames for the page: a fill with zeros or a read
 pub record TakesOnce (now : Bool) (locked : List Page) (q : Page) (old new : Standing) (holds : Option (List NamedFile))
-    (before after : Option (List ℕ)) : Type 0 where
+    (before after : Option SwapImage) : Type 0 where
   pub serves : ServesTo now locked q old new holds before after
   pub takes : takings serves.units ≤ 1
 
 -- units of serving lead to where the answer is so
-abbrev pub ServesAs : PageServed → Page → Standing → Standing → Option (List NamedFile) → Option (List ℕ) → Option (List ℕ) → Type 0
+abbrev pub ServesAs : PageServed → Page → Standing → Standing → Option (List NamedFile) → Option SwapImage → Option SwapImage → Type 0
 ServesAs answer q old new holds before after = ServesTo false [] q old new holds before after × IsAnswer answer new.kernel.place q
 
 -- units of serving, for which waiting is allowed, lead to where the page is valid
-abbrev pub ServesNow : List Page → Page → Standing → Standing → Option (List NamedFile) → Option (List ℕ) → Option (List ℕ) → Type 0
+abbrev pub ServesNow : List Page → Page → Standing → Standing → Option (List NamedFile) → Option SwapImage → Option SwapImage → Type 0
 ServesNow locked q old new holds before after = ServesTo true locked q old new holds before after × (is_valid (state_of new.kernel.place q) ≡ true)
 
 -- the page was served as far as that needs no waiting
-abbrev pub ServedAs : PageServed → Page → Standing → Standing → Option (List NamedFile) → Option (List ℕ) → Option (List ℕ) → Type 0
+abbrev pub ServedAs : PageServed → Page → Standing → Standing → Option (List NamedFile) → Option SwapImage → Option SwapImage → Type 0
 ServedAs answer q old new holds before after = TakesOnce false [] q old new holds before after × IsAnswer answer new.kernel.place q
 
 -- the page was served until it is valid
-abbrev pub ServedNow : List Page → Page → Standing → Standing → Option (List NamedFile) → Option (List ℕ) → Option (List ℕ) → Type 0
+abbrev pub ServedNow : List Page → Page → Standing → Standing → Option (List NamedFile) → Option SwapImage → Option SwapImage → Type 0
 ServedNow locked q old new holds before after = TakesOnce true locked q old new holds before after × (is_valid (state_of new.kernel.place q) ≡ true)
 
 -- each page that was valid still is

@@ -1,5 +1,6 @@
 -- What serving a page asks, and what it does.
 use Rattle.std.specs.Prelude.{◌≡◌, ℕ, Bool, true, List, [], Option, Some}
+use Rattle.vm_facts.specs.SwapImages.{SwapImage}
 use Rattle.vm_facts.specs.declared.page.Page.{Page}
 use Rattle.vm_facts.specs.declared.entry.Entry.{Entry}
 use Rattle.vm_facts.specs.declared.stop.Stop.{Stop}
@@ -25,7 +26,7 @@ pub record CanServe (p : Placement) (q : Page) : Type 0 where
 
 -- the next unit of serving the page was made, with the swap image before and after it
 pub record UnitMade (now : Bool) (locked : List Page) (q : Page) (old new : Standing) (holds : Option (List NamedFile))
-    (before after : Option (List ℕ)) : Type 0 where
+    (before after : Option SwapImage) : Type 0 where
   pub entry : Entry
   pub next : serve_unit old.kernel.place q now ≡ Some entry
   pub made : MadeBy (ground old holds locked) entry old.kernel before new.kernel
@@ -34,19 +35,19 @@ pub record UnitMade (now : Bool) (locked : List Page) (q : Page) (old new : Stan
   pub keeps : KeepsThrough old new holds before after
 
 -- the run stopped where that unit comes next
-abbrev pub UnitStops : Bool → Page → Standing → Standing → Option (List ℕ) → Option (List ℕ) → Stop → Type 0
+abbrev pub UnitStops : Bool → Page → Standing → Standing → Option SwapImage → Option SwapImage → Stop → Type 0
 UnitStops now q old new before after stop = StopsAtNext (serve_unit old.kernel.place q now) old.kernel old new before after stop
 
 -- Units of serving the page, one after another, lead from the one machine and swap image to the other, and the flat states
 -- for which the machine stood stay so.
 pub record ServesTo (now : Bool) (locked : List Page) (q : Page) (old new : Standing) (holds : Option (List NamedFile))
-    (before after : Option (List ℕ)) : Type 0 where
+    (before after : Option SwapImage) : Type 0 where
   pub units : List Entry
   pub leads : Serves units old.kernel.place locked q now new.kernel.place
   pub makes : Makes (ground old holds locked) units old new before after
   pub keeps : KeepsThrough old new holds before after
 
 -- units of serving the page were made, and the run stopped where the next one comes
-abbrev pub StopsServing : Bool → List Page → Page → Standing → Standing → Option (List NamedFile) → Option (List ℕ) → Option (List ℕ) → Stop → Type 0
+abbrev pub StopsServing : Bool → List Page → Page → Standing → Standing → Option (List NamedFile) → Option SwapImage → Option SwapImage → Stop → Type 0
 StopsServing now locked q old new holds before after stop =
     StopsAmong (ground old holds locked) (λ us k. Serves us old.kernel.place locked q now k.place) (λ p. serve_unit p q now) old new before after stop

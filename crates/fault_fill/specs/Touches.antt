@@ -1,5 +1,6 @@
 -- What serving an access of a process comes to.
 use Rattle.std.specs.Prelude.{◌≡◌, ◌⊎◌, ℕ, ◌+◌, ◌-◌, ◌≤◌, Bool, List, length, Option, Result, Ok, Err}
+use Rattle.vm_facts.specs.SwapImages.{SwapImage}
 use Rattle.vm_facts.specs.declared.page.Page.{Page}
 use Rattle.vm_facts.specs.declared.page.Page.TheVariants as page_names
 use Rattle.vm_facts.specs.declared.stop.Stop.{Stop}
@@ -47,21 +48,21 @@ ReadyIf (Err answer) old new = Unit {0}
 -- Answers.
 
 -- the page was served, in few entries; other valid pages stay valid
-pub record PageComes (answer : PageServed) (q : Page) (old new : Standing) (holds : Option (List NamedFile)) (before after : Option (List ℕ)) : Type 0 where
+pub record PageComes (answer : PageServed) (q : Page) (old new : Standing) (holds : Option (List NamedFile)) (before after : Option SwapImage) : Type 0 where
   pub serves : ServedAs answer q old new holds before after
   pub few : IsShort q old new
   pub low : last_moves new.kernel.journal ≤ last_moves old.kernel.journal
   pub stay : AllStayValid old.kernel.place new.kernel.place
 
 -- the page was served until it is valid; locked pages that were valid stay so
-pub record PageComesNow (locked : List Page) (q : Page) (old new : Standing) (holds : Option (List NamedFile)) (before after : Option (List ℕ)) : Type 0 where
+pub record PageComesNow (locked : List Page) (q : Page) (old new : Standing) (holds : Option (List NamedFile)) (before after : Option SwapImage) : Type 0 where
   pub serves : ServedNow locked q old new holds before after
   pub few : IsShort q old new
   pub low : last_moves new.kernel.journal ≤ last_moves old.kernel.journal
   pub spares : Spares old.kernel.place new.kernel.place locked
 
 -- what the answer says of the page of an access
-abbrev pub TouchedAs : Served → Page → Standing → Standing → Option (List NamedFile) → Option (List ℕ) → Option (List ℕ) → Type 0
+abbrev pub TouchedAs : Served → Page → Standing → Standing → Option (List NamedFile) → Option SwapImage → Option SwapImage → Type 0
 TouchedAs served.Valid q old new holds before after = PageComes page_served.Valid q old new holds before after
 TouchedAs (served.Asleep r) q old new holds before after = PageComes (page_served.Asleep r) q old new holds before after
 TouchedAs served.NoFrame q old new holds before after = PageComes page_served.NoFrame q old new holds before after
@@ -69,7 +70,7 @@ TouchedAs served.NoSpace q old new holds before after = ⊥
 TouchedAs (served.Signal signal) q old new holds before after = ⊥
 
 -- and of one that is served until it is valid
-abbrev pub TouchedNow : List Page → Served → Page → Standing → Standing → Option (List NamedFile) → Option (List ℕ) → Option (List ℕ) → Type 0
+abbrev pub TouchedNow : List Page → Served → Page → Standing → Standing → Option (List NamedFile) → Option SwapImage → Option SwapImage → Type 0
 TouchedNow locked served.Valid q old new holds before after = PageComesNow locked q old new holds before after
 TouchedNow locked _ q old new holds before after = ⊥
 
@@ -80,18 +81,18 @@ pub record GrownFirst (old : Standing) (pid pages : ℕ) (Then : Standing → Ty
   pub behind : Then between
 
 -- nothing was done
-pub record NothingDone (old new : Standing) (before after : Option (List ℕ)) : Type 0 where
+pub record NothingDone (old new : Standing) (before after : Option SwapImage) : Type 0 where
   pub machine : new ≡ old
   pub image : after ≡ before
 
 -- growth was refused, and nothing else done
-pub record OnlyRefused (old new : Standing) (pid pages : ℕ) (before after : Option (List ℕ)) : Type 0 where
+pub record OnlyRefused (old new : Standing) (pid pages : ℕ) (before after : Option SwapImage) : Type 0 where
   pub refused : GrowthRefused old new pid pages
   pub image : after ≡ before
 
 -- What serving an access comes to, by what it asks for and by the answer, where a page is served so. It is refused exactly
 -- where the answer is a signal, and finds no space exactly where growth finds no place for its pieces.
-abbrev pub AccessComes : (Served → Page → Standing → Type 0) → Access → Served → ℕ → Standing → Standing → Option (List ℕ) → Option (List ℕ) → Type 0
+abbrev pub AccessComes : (Served → Page → Standing → Type 0) → Access → Served → ℕ → Standing → Standing → Option SwapImage → Option SwapImage → Type 0
 AccessComes Touched (accesses.Page q) answer pid old new before after = Touched answer q old
 AccessComes Touched (accesses.Refused signal) answer pid old new before after = (answer ≡ served.Signal signal) × NothingDone old new before after
 AccessComes Touched (accesses.Growth sid pages) served.NoSpace pid old new before after = OnlyRefused old new pid pages before after
@@ -100,13 +101,13 @@ AccessComes Touched (accesses.Growth sid pages) answer pid old new before after 
 -- Stops.
 
 -- the run stopped while the page was served, after few entries
-pub record StopsAtPage (now : Bool) (locked : List Page) (q : Page) (old new : Standing) (holds : Option (List NamedFile)) (before after : Option (List ℕ))
+pub record StopsAtPage (now : Bool) (locked : List Page) (q : Page) (old new : Standing) (holds : Option (List NamedFile)) (before after : Option SwapImage)
     (stop : Stop) : Type 0 where
   pub serving : StopsServing now locked q old new holds before after stop
   pub few : length new.kernel.journal ≤ length old.kernel.journal + length old.kernel.place.transfers + 5
 
 -- A refused access never stops the run. Where the stack has to grow, the run stops before growth or its refusal, or once it grew.
-abbrev pub AccessStops : Bool → List Page → Access → ℕ → Standing → Standing → Option (List NamedFile) → Option (List ℕ) → Option (List ℕ) → Stop → Type 0
+abbrev pub AccessStops : Bool → List Page → Access → ℕ → Standing → Standing → Option (List NamedFile) → Option SwapImage → Option SwapImage → Stop → Type 0
 AccessStops now locked (accesses.Page q) pid old new holds before after stop = StopsAtPage now locked q old new holds before after stop
 AccessStops now locked (accesses.Refused signal) pid old new holds before after stop = ⊥
 AccessStops now locked (accesses.Growth sid pages) pid old new holds before after stop =

@@ -1,5 +1,6 @@
 -- What one unit of serving comes to, whether waiting is allowed or not.
 use Rattle.std.specs.Prelude.{◌≡◌, ℕ, ◌<◌, ◌≤◌, Bool, true, false, List, [], length, Option, None}
+use Rattle.vm_facts.specs.SwapImages.{SwapImage}
 use Rattle.vm_facts.specs.declared.page.Page.{Page}
 use Rattle.vm_facts.specs.declared.page.PageState.{PageState}
 use Rattle.vm_facts.specs.declared.page.PageState.TheVariants.{Coming, Going}
@@ -29,41 +30,41 @@ pub record NeedsFrame (p : Placement) (q : Page) : Type 0 where
   pub none : p.free ≡ []
 
 -- a unit that is the next one whether waiting is allowed or not
-abbrev pub AnyUnit : Page → Standing → Standing → Option (List NamedFile) → Option (List ℕ) → Option (List ℕ) → Type 0
+abbrev pub AnyUnit : Page → Standing → Standing → Option (List NamedFile) → Option SwapImage → Option SwapImage → Type 0
 AnyUnit q old new holds before after = (now : Bool) (locked : List Page) → UnitMade now locked q old new holds before after
 
 -- a stop where the next unit would be, whether waiting is allowed or not
-abbrev pub AnyStop : Page → Standing → Standing → Option (List ℕ) → Option (List ℕ) → Stop → Type 0
+abbrev pub AnyStop : Page → Standing → Standing → Option SwapImage → Option SwapImage → Stop → Type 0
 AnyStop q old new before after stop = (now : Bool) → UnitStops now q old new before after stop
 
 -- a unit that calls no device
 abbrev pub PlainMade : Page → Standing → Standing → Type 0
-PlainMade q old new = (holds : Option (List NamedFile)) (image : Option (List ℕ)) → AnyUnit q old new holds image image
+PlainMade q old new = (holds : Option (List NamedFile)) (image : Option SwapImage) → AnyUnit q old new holds image image
 
 -- a stop where no device is called
 abbrev pub PlainStop : Page → Standing → Standing → Stop → Type 0
-PlainStop q old new stop = (image : Option (List ℕ)) → AnyStop q old new image image stop
+PlainStop q old new stop = (image : Option SwapImage) → AnyStop q old new image image stop
 
 -- the end of the oldest transfer
-pub record EndMade (old new : Standing) (holds : Option (List NamedFile)) (before after : Option (List ℕ)) : Type 0 where
+pub record EndMade (old new : Standing) (holds : Option (List NamedFile)) (before after : Option SwapImage) : Type 0 where
   pub done : IsDone (sources old holds) before old.kernel new.kernel
   pub told : ImageAfter old.kernel before after
   pub rest : IsSameBeside old new
   pub keeps : KeepsThrough old new holds before after
 
 -- the run stopped at the end of the oldest transfer
-pub record EndStops (old new : Standing) (before after : Option (List ℕ)) (stop : Stop) : Type 0 where
+pub record EndStops (old new : Standing) (before after : Option SwapImage) (stop : Stop) : Type 0 where
   pub at : StopsAt entries.Done old.kernel before stop new after
   pub params : new.params ≡ old.params
   pub images : new.images ≡ old.images
 
 -- nothing was done
-pub record NoneMade (old new : Standing) (before after : Option (List ℕ)) : Type 0 where
+pub record NoneMade (old new : Standing) (before after : Option SwapImage) : Type 0 where
   pub machine : new ≡ old
   pub image : after ≡ before
 
 -- by what it came to
-abbrev pub ComesTo : Came → Page → Standing → Standing → Option (List NamedFile) → Option (List ℕ) → Option (List ℕ) → Type 0
+abbrev pub ComesTo : Came → Page → Standing → Standing → Option (List NamedFile) → Option SwapImage → Option SwapImage → Type 0
 ComesTo came.Served q old new holds before after = NoneMade old new before after × (is_valid (state_of old.kernel.place q) ≡ true)
 ComesTo came.Nearer q old new holds before after = AnyUnit q old new holds before after
 ComesTo came.Waits q old new holds before after = NoneMade old new before after × (is_flying (state_of old.kernel.place q) ≡ true)
@@ -71,12 +72,12 @@ ComesTo came.Starves q old new holds before after = NoneMade old new before afte
 
 -- Where a call that serves the page now came to: further, by some units, after which a last entry that counts moves of the
 -- hands counts few where no frame is free; or it did nothing, since the page is valid.
-pub record Further (locked : List Page) (q : Page) (old new : Standing) (holds : Option (List NamedFile)) (before after : Option (List ℕ)) : Type 0 where
+pub record Further (locked : List Page) (q : Page) (old new : Standing) (holds : Option (List NamedFile)) (before after : Option SwapImage) : Type 0 where
   pub serves : ServesTo true locked q old new holds before after
   pub some : 0 < length serves.units
   pub low : new.kernel.place.free ≡ [] → last_moves new.kernel.journal ≤ 1000000
 
 -- what serving the page now came to, by whether it went further
-abbrev pub GoesFurther : Bool → List Page → Page → Standing → Standing → Option (List NamedFile) → Option (List ℕ) → Option (List ℕ) → Type 0
+abbrev pub GoesFurther : Bool → List Page → Page → Standing → Standing → Option (List NamedFile) → Option SwapImage → Option SwapImage → Type 0
 GoesFurther true locked q old new holds before after = Further locked q old new holds before after
 GoesFurther false locked q old new holds before after = NoneMade old new before after × (is_valid (state_of old.kernel.place q) ≡ true)

@@ -1,6 +1,7 @@
 -- A film begins: it stands before the first entry.
 use Rattle.std.proofs.Common.{◌≡◌, inl, inr, ◌↔◌, ℕ, ◌+◌, ◌<◌, ◌≤◌, true, false, List, [], ◌∷◌, length, slice_get, Option, Some, None, refl, sym, ap, ◌∙◌, subst, arith}
 use Rattle.std.proofs.lemmas.Option.{same_Some}
+use Rattle.vm_facts.specs.SwapImages.{SwapImage}
 use Rattle.vm_facts.specs.declared.entry.Entry.{Entry}
 use Rattle.vm_facts.specs.declared.entry.Entry.TheVariants as entries
 use Rattle.vm_facts.specs.declared.event.Event.{Event}
@@ -66,7 +67,7 @@ empty (e ∷ es) l = absurd (omega (arith, l))
 
 -- The machine stands at the start, with no entry.
 
-pub told_of : (A : Inputs) (old : Filming) (numbers : List ℕ) (lines : List Event) (holds : Option (List NamedFile)) (image : List ℕ)
+pub told_of : (A : Inputs) (old : Filming) (numbers : List ℕ) (lines : List Event) (holds : Option (List NamedFile)) (image : SwapImage)
     → IsAskedOf A old.machine numbers lines holds image → IsTold A old.machine numbers holds image
 told_of A old numbers lines holds image asked = record {
   starts = record { named = asked.named; first = asked.first; frames = asked.frames; blocks = asked.blocks };
@@ -75,7 +76,7 @@ told_of A old numbers lines holds image asked = record {
   room = asked.room;
 }
 
-module _ (A : Inputs) (old new : Filming) (numbers : List ℕ) (lines : List Event) (holds : Option (List NamedFile)) (image : List ℕ) (j : Option (List ℕ))
+module _ (A : Inputs) (old new : Filming) (numbers : List ℕ) (lines : List Event) (holds : Option (List NamedFile)) (image : SwapImage) (j : Option SwapImage)
     (asked : IsAskedOf A old.machine numbers lines holds image)
     (few : length numbers ≤ 16) (unbegun : IsUnbegun old) (params : new.machine.params ≡ old.machine.params) (images : new.machine.images ≡ old.machine.images)
     (within : length new.machine.kernel.journal ≤ new.machine.params.journal) (none_taken : new.lines ≡ old.lines) (same_mark : new.mark ≡ old.mark) (none_counted : new.counted ≡ old.counted) where
@@ -91,7 +92,7 @@ module _ (A : Inputs) (old new : Filming) (numbers : List ℕ) (lines : List Eve
   no_entry : new.machine.kernel.journal ≡ []
   no_entry = empty new.machine.kernel.journal (let b = no_room in omega (arith, within, b))
 
-  module _ (hs : Holdings) (can : CanRun A hs) (us : List Entry) (t : State) (behind : List ℕ) (l : Leads A (start A hs) (machine_at_start A hs) image us t new.machine.kernel (Some behind))
+  module _ (hs : Holdings) (can : CanRun A hs) (us : List Entry) (t : State) (behind : SwapImage) (l : Leads A (start A hs) (machine_at_start A hs) image us t new.machine.kernel (Some behind))
       (told : j ≡ Some behind) where
     at_start : At A (start A hs) (machine_at_start A hs) image
     at_start = stands_at_start A hs image can asked.room
@@ -210,7 +211,7 @@ module _ (A : Inputs) (old new : Filming) (numbers : List ℕ) (lines : List Eve
       → (new.over ≡ true) ↔ ((lines ≡ []) × (chosen_next new.machine.kernel 0 ≡ None)) → FilmBegun A new holds j image
   started ready l some e =
       let led : Leads A (start A l.holdings) (machine_at_start A l.holdings) image l.units l.state new.machine.kernel (Some l.leads.behind) =
-      subst (λ (o : Option (List ℕ)). Leads A (start A l.holdings) (machine_at_start A l.holdings) image l.units l.state new.machine.kernel o) l.leads.told l.leads in
+      subst (λ (o : Option SwapImage). Leads A (start A l.holdings) (machine_at_start A l.holdings) image l.units l.state new.machine.kernel o) l.leads.told l.leads in
       begun_at l.holdings l.can l.units l.state l.leads.behind led l.leads.told ready
       (over_so l.holdings l.can l.units l.state l.leads.behind led l.leads.told l.clear some e)
 

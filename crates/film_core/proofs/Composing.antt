@@ -1,6 +1,7 @@
 -- What stands after next units, and two leads as one.
 use Rattle.std.proofs.Common.{◌≡◌, ℕ, ◌≤◌, false, List, [], ◌∷◌, ◌++◌, length, Option, Some, sym, ap, ◌∙◌, subst, arith}
 use Rattle.std.proofs.lemmas.Option.{same_Some}
+use Rattle.vm_facts.specs.SwapImages.{SwapImage}
 use Rattle.vm_facts.specs.declared.entry.Entry.{Entry}
 use Rattle.vm_facts.specs.declared.stop.Stop.{Stop}
 use Rattle.io_edge.specs.FileHolding.{NamedFile}
@@ -29,19 +30,19 @@ use Rattle.run_laws.proofs.LongerJournals.{units_long}
 
 -- Two leads.
 
-pub then_lead : (A : Inputs) (s t r : State) (k l m : Kernel) (image : List ℕ) (i j : Option (List ℕ)) (us vs : List Entry) → (a : Leads A s k image us t l i)
+pub then_lead : (A : Inputs) (s t r : State) (k l m : Kernel) (image : SwapImage) (i j : Option SwapImage) (us vs : List Entry) → (a : Leads A s k image us t l i)
     → Leads A t l a.behind vs r m j
     → Leads A s k image (us ++ vs) r m j
 then_lead A s t r k l m image i j us vs a b =
-    both_lead A s t r k l m image i j us vs a (λ y e. subst (λ (x : List ℕ). Leads A t l x vs r m j) (same_Some a.behind y (sym a.told ∙ e)) b)
+    both_lead A s t r k l m image i j us vs a (λ y e. subst (λ (x : SwapImage). Leads A t l x vs r m j) (same_Some a.behind y (sym a.told ∙ e)) b)
 
-pub then_stop : (A : Inputs) (s t : State) (k l : Kernel) (image : List ℕ) (i j : Option (List ℕ)) (us : List Entry) (stop : Stop) (new : Standing)
+pub then_stop : (A : Inputs) (s t : State) (k l : Kernel) (image : SwapImage) (i j : Option SwapImage) (us : List Entry) (stop : Stop) (new : Standing)
     → (a : Leads A s k image us t l i)
     → StopLeads A t l a.behind stop new j → StopLeads A s k image stop new j
 then_stop A s t k l image i j us stop new a x =
-    leads_to_stop A s t k l image a.behind us stop new j (subst (λ (o : Option (List ℕ)). Leads A s k image us t l o) a.told a) x
+    leads_to_stop A s t k l image a.behind us stop new j (subst (λ (o : Option SwapImage). Leads A s k image us t l o) a.told a) x
 
-pub then_out : (A : Inputs) (s t : State) (old mid new : Standing) (image : List ℕ) (i j : Option (List ℕ)) (us : List Entry)
+pub then_out : (A : Inputs) (s t : State) (old mid new : Standing) (image : SwapImage) (i j : Option SwapImage) (us : List Entry)
     → (a : Leads A s old.kernel image us t mid.kernel i)
     → RunsOut mid new j A t a.behind → RunsOut old new j A s image
 then_out A s t old mid new image i j us a b = record {
@@ -52,8 +53,8 @@ then_out A s t old mid new image i j us a b = record {
 }
 
 -- no units lead to where one is
-pub here_leads : (A : Inputs) (s : State) (k : Kernel) (image : List ℕ) (i : Option (List ℕ)) → i ≡ Some image → Leads A s k image [] s k i
-here_leads A s k image i e = subst (λ (o : Option (List ℕ)). Leads A s k image [] s k o) (sym e) (none_leads A s k image)
+pub here_leads : (A : Inputs) (s : State) (k : Kernel) (image : SwapImage) (i : Option SwapImage) → i ≡ Some image → Leads A s k image [] s k i
+here_leads A s k image i e = subst (λ (o : Option SwapImage). Leads A s k image [] s k o) (sym e) (none_leads A s k image)
 
 -- What stands.
 
@@ -68,11 +69,11 @@ reached_on A s t us r f = record {
 pub reached_below : (A : Inputs) (s : State) → IsReached A s → s.count ≤ A.limit
 reached_below A s r = units_below A r.units (start A r.holdings) s r.follows (omega arith)
 
-pub leads_reached : (A : Inputs) (s t : State) (k l : Kernel) (image : List ℕ) (us : List Entry) (j : Option (List ℕ)) → IsReached A s
+pub leads_reached : (A : Inputs) (s t : State) (k l : Kernel) (image : SwapImage) (us : List Entry) (j : Option SwapImage) → IsReached A s
     → Leads A s k image us t l j → IsReached A t
 leads_reached A s t k l image us j r a = reached_on A s t us r (leads_follow A s t k l image us j a)
 
-pub stands_then : (A : Inputs) (s t : State) (old new : Standing) (holds : Option (List NamedFile)) (i j : Option (List ℕ)) (image : List ℕ) (us : List Entry)
+pub stands_then : (A : Inputs) (s t : State) (old new : Standing) (holds : Option (List NamedFile)) (i j : Option SwapImage) (image : SwapImage) (us : List Entry)
     (counted count : ℕ) → IsReached A s
     → StandsIn A s old holds i image counted → (a : Leads A s old.kernel image us t new.kernel j) → new.params ≡ old.params
     → new.images ≡ old.images → t.count ≡ count
@@ -82,17 +83,17 @@ stands_then A s t old new holds i j image us counted count r st a params images 
     (let most = reached_below A t (leads_reached A s t old.kernel new.kernel image us j r a) in omega (arith, most, same))
 
 -- no unit stops the machine
-makes_run : (A : Inputs) (us : List Entry) (s t : State) (k l : Kernel) (image behind : List ℕ) → Makes A s k image us t l behind → l.stopped ≡ k.stopped
+makes_run : (A : Inputs) (us : List Entry) (s t : State) (k l : Kernel) (image behind : SwapImage) → Makes A s k image us t l behind → l.stopped ≡ k.stopped
 makes_run A [] s t k l image behind m = sym (ap (λ (x : Kernel). x.stopped) m.1)
 makes_run A (u ∷ us) s t k l image behind m =
     makes_run A us (after A s u) t (unit_step A s k image m.1.0 u) l (unit_image k image u) behind m.1.2 ∙ unit_goes A s k image m.1.0 u
 
-pub leads_run : (A : Inputs) (s t : State) (k l : Kernel) (image : List ℕ) (us : List Entry) (j : Option (List ℕ)) → Leads A s k image us t l j
+pub leads_run : (A : Inputs) (s t : State) (k l : Kernel) (image : SwapImage) (us : List Entry) (j : Option SwapImage) → Leads A s k image us t l j
     → k.stopped ≡ false → l.stopped ≡ false
 leads_run A s t k l image us j a r = makes_run A us s t k l image a.behind a.makes ∙ r
 
 -- the journal of a machine at a state that was reached
-pub journal_of_reached : (A : Inputs) (t : State) (l : Kernel) (behind : List ℕ) → length A.first ≤ 64 → (r : IsReached A t) → StandsAt A t l behind
+pub journal_of_reached : (A : Inputs) (t : State) (l : Kernel) (behind : SwapImage) → length A.first ≤ 64 → (r : IsReached A t) → StandsAt A t l behind
     → IsJournalOf A l.journal t
 journal_of_reached A t l behind few r at =
     let lawful = journal_lawful A r.holdings r.units t r.can r.follows in
@@ -112,7 +113,7 @@ pub reached_of_journal : (A : Inputs) (s : State) (journal : List Entry) → IsJ
 reached_of_journal A s journal m = record { holdings = m.holdings; can = m.can; units = m.units; follows = m.follows }
 
 -- a machine's journal gets no shorter
-pub leads_longer : (A : Inputs) (s t : State) (k l : Kernel) (image behind : List ℕ) (us : List Entry) (j : Option (List ℕ)) → StandsAt A s k image
+pub leads_longer : (A : Inputs) (s t : State) (k l : Kernel) (image behind : SwapImage) (us : List Entry) (j : Option SwapImage) → StandsAt A s k image
     → StandsAt A t l behind → Leads A s k image us t l j
     → length k.journal ≤ length l.journal
 leads_longer A s t k l image behind us j at there a =

@@ -1,6 +1,7 @@
 -- A film stands at its next entry.
 use Rattle.std.proofs.Common.{◌≡◌, inl, ℕ, suc, ◌+◌, ◌<◌, ◌^◌, Bool, true, false, List, [], ◌∷◌, ◌++◌, length, slice_get, Option, Some, refl, sym, ap, ◌∙◌, subst, arith}
 use Rattle.std.proofs.lemmas.Option.{same_Some}
+use Rattle.vm_facts.specs.SwapImages.{SwapImage}
 use Rattle.vm_facts.specs.declared.entry.Entry.{Entry}
 use Rattle.vm_facts.specs.declared.event.Event.{Event}
 use Rattle.vm_facts.specs.declared.stop.Stop.{Stop}
@@ -36,7 +37,7 @@ not_true b e f = let z : false ≡ true = sym e ∙ f in cc
 
 -- A film that isn't over stands where its journal is full and a unit comes.
 
-pub film_full : (A : Inputs) (s : State) (f : Filming) (lines : List Event) (holds : Option (List NamedFile)) (i : Option (List ℕ)) (image : List ℕ)
+pub film_full : (A : Inputs) (s : State) (f : Filming) (lines : List Event) (holds : Option (List NamedFile)) (i : Option SwapImage) (image : SwapImage)
     → A.lines ≡ lines → f.over ≡ false → FilmAt A s f holds i image
     → FullAt f.machine f.mark lines f.lines f.counted holds i A s image
 film_full A s f lines holds i image are on at = record {
@@ -58,7 +59,7 @@ film_full A s f lines holds i image are on at = record {
 counts_behind : (es : List Entry) (e : Entry) → instructions_of (es ++ e ∷ []) ≡ instructions_of es + counted e
 counts_behind es e = let both = count-append es (e ∷ []) in omega (arith, both)
 
-module _ (A : Inputs) (s : State) (old : Filming) (m : Standing) (ended : Bool) (holds : Option (List NamedFile)) (i j : Option (List ℕ)) (image : List ℕ) (at : FilmAt A s old holds i image)
+module _ (A : Inputs) (s : State) (old : Filming) (m : Standing) (ended : Bool) (holds : Option (List NamedFile)) (i j : Option SwapImage) (image : SwapImage) (at : FilmAt A s old holds i image)
     (x : EntryMade old.machine m ended holds j A s image) where
   follows : Follows A s x.units x.state
   follows = leads_follow A s x.state old.machine.kernel m.kernel image x.units j x.leads
@@ -155,7 +156,7 @@ module _ (A : Inputs) (s : State) (old : Filming) (m : Standing) (ended : Bool) 
 abbrev pub CaughtUp : Filming → Filming → List Event → Type 0
 CaughtUp mid new lines = (e : Entry) → last_entry mid.machine.kernel.journal ≡ Some e → new ≡ caught_up mid lines e
 
-pub film_goes : (old new : Filming) (m : Standing) (ended : Bool) (lines : List Event) (holds : Option (List NamedFile)) (i j : Option (List ℕ))
+pub film_goes : (old new : Filming) (m : Standing) (ended : Bool) (lines : List Event) (holds : Option (List NamedFile)) (i j : Option SwapImage)
     → old.over ≡ false → HaveFewMoves lines → CanGoOn m
     → LeadsFrom (FullAt old.machine old.mark lines old.lines old.counted holds i) (EntryMade old.machine m ended holds j)
     → CaughtUp (record old { machine = m; over = ended }) new lines
@@ -164,13 +165,13 @@ film_goes old new m ended lines holds i j on few ready f c A s image are at =
     let x = f A s image (film_full A s old lines holds i image are on at) in
     one_more A s old m ended holds i j image at x ready lines are few new (c (entry A s old m ended holds i j image at x).0 (last_made A s old m ended holds i j image at x))
 
-pub film_stops : (old : Filming) (new : Filming) (lines : List Event) (holds : Option (List NamedFile)) (i j : Option (List ℕ)) (stop : Stop) → old.over ≡ false
+pub film_stops : (old : Filming) (new : Filming) (lines : List Event) (holds : Option (List NamedFile)) (i j : Option SwapImage) (stop : Stop) → old.over ≡ false
     → StopsElse (FullAt old.machine old.mark lines old.lines old.counted holds i) old.machine new.machine j stop
     → StopsElse (FilmsAt old lines holds i) old.machine new.machine j stop
 film_stops old new lines holds i j stop on f = (f.0, λ A s image at. f.1 A s image (film_full A s old lines holds i image at.0 on at.1))
 
 -- the count fits
-pub film_fits : (old : Filming) (m : Standing) (ended : Bool) (lines : List Event) (holds : Option (List NamedFile)) (i j : Option (List ℕ)) → old.over ≡ false
+pub film_fits : (old : Filming) (m : Standing) (ended : Bool) (lines : List Event) (holds : Option (List NamedFile)) (i j : Option SwapImage) → old.over ≡ false
     → IsFilming old lines holds i
     → LeadsFrom (FullAt old.machine old.mark lines old.lines old.counted holds i) (EntryMade old.machine m ended holds j) → (e : Entry)
     → last_entry m.kernel.journal ≡ Some e
@@ -182,7 +183,7 @@ film_fits old m ended lines holds i j on x f e is =
     (made_fits x.inputs x.state old m ended holds i j x.image x.at y)
 
 -- no memory is found before a unit
-pub starved_film : (old : Filming) (lines : List Event) (holds : Option (List NamedFile)) (i : Option (List ℕ))
+pub starved_film : (old : Filming) (lines : List Event) (holds : Option (List NamedFile)) (i : Option SwapImage)
     → StopsElse (FilmsAt old lines holds i) old.machine old.machine i stops.NoMemory
 starved_film old lines holds i = (
   (λ e. cc),
@@ -199,7 +200,7 @@ starved_film old lines holds i = (
 )
 
 -- it has the machine with the entry
-pub film_machine : (old new : Filming) (m : Standing) (ended : Bool) (lines : List Event) (holds : Option (List NamedFile)) (i j : Option (List ℕ))
+pub film_machine : (old new : Filming) (m : Standing) (ended : Bool) (lines : List Event) (holds : Option (List NamedFile)) (i j : Option SwapImage)
     → old.over ≡ false → IsFilming old lines holds i
     → LeadsFrom (FullAt old.machine old.mark lines old.lines old.counted holds i) (EntryMade old.machine m ended holds j)
     → CaughtUp (record old { machine = m; over = ended }) new lines → new.machine ≡ m

@@ -1,5 +1,6 @@
 -- The rest of a step and of a mark, together, and the whole way.
 use Rattle.std.proofs.Common.{◌≡◌, ℕ, ◌+◌, ◌<◌, ◌≤◌, ◌^◌, List, ◌++◌, length, Option, sym, ap, ◌∙◌, subst, arith}
+use Rattle.vm_facts.specs.SwapImages.{SwapImage}
 use Rattle.vm_facts.specs.declared.event.Event.{Event}
 use Rattle.vm_facts.specs.declared.params.Params.{Params}
 use Rattle.vm_facts.specs.declared.stop.Stop.{Stop}
@@ -15,19 +16,19 @@ use Rattle.film_core.specs.Films.{IsInOrder}
 use Rattle.film_core.specs.Ways.{WayAt, RestAt, StaysOn, OverAt, GoesAt, StepSettled, RestDone, RunsOut}
 use Rattle.film_core.proofs.Composing.{then_lead, then_stop, then_out, leads_reached, reached_below, stands_then, leads_longer}
 
-pub going_fits : (m : Standing) (last : Mark) (schedule : List Event) (taken counted : ℕ) (holds : Option (List NamedFile)) (i : Option (List ℕ))
+pub going_fits : (m : Standing) (last : Mark) (schedule : List Event) (taken counted : ℕ) (holds : Option (List NamedFile)) (i : Option SwapImage)
     → AtSome (GoesAt m last schedule taken counted holds i) → counted + 1 < 2 ^ 32
 going_fits m last schedule taken counted holds i (A, s, image, at) =
     let few = at.stands.inputs.few in let below = reached_below A s at.reached in let same = at.stands.count in omega (arith, few, below, same)
 
 way_at : (A : Inputs) (s : State) (m : Standing) (last : Mark) (schedule : List Event) (taken counted : ℕ) (holds : Option (List NamedFile))
-    (i : Option (List ℕ)) (image : List ℕ) → GoesAt m last schedule taken counted holds i A s image
+    (i : Option SwapImage) (image : SwapImage) → GoesAt m last schedule taken counted holds i A s image
     → WayAt m holds i A s image
 way_at A s m last schedule taken counted holds i image at = record { machine = at.stands.machine; told = at.stands.told; reached = at.reached }
 
-module _ (old mid : Standing) (last : Mark) (schedule : List Event) (taken counted count : ℕ) (holds : Option (List NamedFile)) (i h : Option (List ℕ)) (to : CountsTo old mid counted count)
+module _ (old mid : Standing) (last : Mark) (schedule : List Event) (taken counted count : ℕ) (holds : Option (List NamedFile)) (i h : Option SwapImage) (to : CountsTo old mid counted count)
     (f : LeadsFrom (WayAt old holds i) (StepSettled old mid counted count h))
-    (A : Inputs) (s : State) (image : List ℕ) (at : GoesAt old last schedule taken counted holds i A s image) where
+    (A : Inputs) (s : State) (image : SwapImage) (at : GoesAt old last schedule taken counted holds i A s image) where
   settled : (n : ℕ) × (count ≡ counted + n) × StepLeads A s old.kernel image n mid.kernel h
   settled = f A s image (way_at A s old last schedule taken counted holds i image at)
 
@@ -44,7 +45,7 @@ module _ (old mid : Standing) (last : Mark) (schedule : List Event) (taken count
     order = subst (λ (es : List Event). IsInOrder es led.state.lines last) (sym at.are) (subst (λ (n : ℕ). IsInOrder schedule n last) (sym (led.lines ∙ at.lines)) at.order);
   }
 
-pub going_under : (old mid : Standing) (last : Mark) (schedule : List Event) (taken counted count : ℕ) (holds : Option (List NamedFile)) (i h : Option (List ℕ))
+pub going_under : (old mid : Standing) (last : Mark) (schedule : List Event) (taken counted count : ℕ) (holds : Option (List NamedFile)) (i h : Option SwapImage)
     → CountsTo old mid counted count
     → LeadsFrom (WayAt old holds i) (StepSettled old mid counted count h) → AtSome (GoesAt old last schedule taken counted holds i)
     → AtSome (RestAt mid last count holds h)
@@ -53,7 +54,7 @@ going_under old mid last schedule taken counted count holds i h to f (A, s, imag
     (A, l.state, l.leads.behind, rest_at old mid last schedule taken counted count holds i h to f A s image at)
 
 pub gets_over : (old mid new : Standing) (last : Mark) (schedule : List Event) (taken counted count more : ℕ) (holds : Option (List NamedFile))
-    (i h j : Option (List ℕ)) → CountsTo old mid counted count
+    (i h j : Option SwapImage) → CountsTo old mid counted count
     → LeadsFrom (WayAt old holds i) (StepSettled old mid counted count h) → LeadsFrom (RestAt mid last count holds h) (RestDone mid new last more j)
     → LeadsFrom (GoesAt old last schedule taken counted holds i) (RestDone old new last more j)
 gets_over old mid new last schedule taken counted count more holds i h j to f r A s image at =
@@ -70,7 +71,7 @@ gets_over old mid new last schedule taken counted count more holds i h j to f r 
     }
 
 pub rest_stops_going : (old mid new : Standing) (last : Mark) (schedule : List Event) (taken counted count : ℕ) (holds : Option (List NamedFile))
-    (i h j : Option (List ℕ)) (stop : Stop) → CountsTo old mid counted count
+    (i h j : Option SwapImage) (stop : Stop) → CountsTo old mid counted count
     → LeadsFrom (WayAt old holds i) (StepSettled old mid counted count h) → StopsFrom (RestAt mid last count holds h) mid new j stop
     → StopsFrom (GoesAt old last schedule taken counted holds i) old new j stop
 rest_stops_going old mid new last schedule taken counted count holds i h j stop to f r A s image at =
@@ -79,9 +80,9 @@ rest_stops_going old mid new last schedule taken counted count holds i h j stop 
 
 -- The whole way.
 
-module _ (old mid : Standing) (last : Mark) (schedule : List Event) (taken counted count turn : ℕ) (holds : Option (List NamedFile)) (i h : Option (List ℕ)) (on : StaysOn old mid count)
+module _ (old mid : Standing) (last : Mark) (schedule : List Event) (taken counted count turn : ℕ) (holds : Option (List NamedFile)) (i h : Option SwapImage) (on : StaysOn old mid count)
     (f : LeadsFrom (GoesAt old last schedule taken counted holds i) (RestDone old mid last count h)) (e : turn ≡ last_turned last) where
-  past_at : (A : Inputs) (s : State) (image : List ℕ) (at : GoesAt old last schedule taken counted holds i A s image) → let d =
+  past_at : (A : Inputs) (s : State) (image : SwapImage) (at : GoesAt old last schedule taken counted holds i A s image) → let d =
       f A s image at in OverAt mid schedule taken count turn holds h A d.state d.leads.behind
   past_at A s image at =
       let d = f A s image at in
@@ -106,12 +107,12 @@ module _ (old mid : Standing) (last : Mark) (schedule : List Event) (taken count
       let same = ap (λ (p : Params). p.journal) on.params in
       omega (arith, long, same, wide)
 
-  pub goes_over : (new : Standing) (j : Option (List ℕ)) → LeadsFrom (OverAt mid schedule taken count turn holds h) (RunsOut mid new j)
+  pub goes_over : (new : Standing) (j : Option SwapImage) → LeadsFrom (OverAt mid schedule taken count turn holds h) (RunsOut mid new j)
       → LeadsFrom (GoesAt old last schedule taken counted holds i) (RunsOut old new j)
   goes_over new j p A s image at =
       let d = f A s image at in then_out A s d.state old mid new image h j d.units d.leads (p A d.state d.leads.behind (past_at A s image at))
 
-  pub stops_going : (new : Standing) (j : Option (List ℕ)) (stop : Stop) → StopsFrom (OverAt mid schedule taken count turn holds h) mid new j stop
+  pub stops_going : (new : Standing) (j : Option SwapImage) (stop : Stop) → StopsFrom (OverAt mid schedule taken count turn holds h) mid new j stop
       → StopsFrom (GoesAt old last schedule taken counted holds i) old new j stop
   stops_going new j stop p A s image at =
       let d = f A s image at in then_stop A s d.state old.kernel mid.kernel image h j d.units stop new d.leads (p A d.state d.leads.behind (past_at A s image at))

@@ -1,6 +1,7 @@
 -- One entry more, where the journal has room for no other.
 use Rattle.std.proofs.Common.{◌≡◌, ℕ, suc, ◌+◌, ◌<◌, ◌≤◌, true, false, List, [], ◌∷◌, length, Option, Some, None, refl, sym, ap, ◌∙◌, subst, arith}
 use Rattle.std.proofs.lemmas.Option.{same_Some}
+use Rattle.vm_facts.specs.SwapImages.{SwapImage}
 use Rattle.vm_facts.specs.declared.entry.Entry.{Entry}
 use Rattle.vm_facts.specs.declared.entry.Entry.TheVariants as entries
 use Rattle.vm_facts.specs.declared.event.Event.{Event}
@@ -41,7 +42,7 @@ pub widened_by : (old mid : Standing) (p : Params) → p ≡ old.params
     → (let m : Standing = record old { params = record old.params { journal = p.journal + 1 } } in mid ≡ m) → mid ≡ widened old
 widened_by old mid p e h = h ∙ ap (λ (x : Params). let m : Standing = record old { params = record old.params { journal = x.journal + 1 } } in m) e
 
-wide_stands : (A : Inputs) (s : State) (m : Standing) (holds : Option (List NamedFile)) (i : Option (List ℕ)) (image : List ℕ) (counted : ℕ)
+wide_stands : (A : Inputs) (s : State) (m : Standing) (holds : Option (List NamedFile)) (i : Option SwapImage) (image : SwapImage) (counted : ℕ)
     → StandsIn A s m holds i image counted
     → StandsIn A s (widened m) holds i image counted
 wide_stands A s m holds i image counted st = record {
@@ -54,7 +55,7 @@ wide_stands A s m holds i image counted st = record {
 }
 
 wide_goes : (A : Inputs) (s : State) (old mid : Standing) (mark : Mark) (lines : List Event) (taken counted : ℕ) (holds : Option (List NamedFile))
-    (i : Option (List ℕ)) (image : List ℕ) → mid ≡ widened old
+    (i : Option SwapImage) (image : SwapImage) → mid ≡ widened old
     → GoesAt old mark lines taken counted holds i A s image → GoesAt mid mark lines taken counted holds i A s image
 wide_goes A s old mid mark lines taken counted holds i image e at = subst (λ (m : Standing). GoesAt m mark lines taken counted holds i A s image) (sym e) (record {
   stands = wide_stands A s old holds i image counted at.stands;
@@ -67,7 +68,7 @@ wide_goes A s old mid mark lines taken counted holds i image e at = subst (λ (m
 
 -- Units that lead to where none comes make a journal longer.
 
-grown : (A : Inputs) (s t : State) (k l : Kernel) (image behind : List ℕ) (us : List Entry) (j : Option (List ℕ)) → StandsAt A s k image → StandsAt A t l behind
+grown : (A : Inputs) (s t : State) (k l : Kernel) (image behind : SwapImage) (us : List Entry) (j : Option SwapImage) → StandsAt A s k image → StandsAt A t l behind
     → Leads A s k image us t l j
     → l.journal ≡ appended k.journal us
 grown A s t k l image behind us j at there a =
@@ -82,12 +83,12 @@ some_made A [] s t journal f more complete none = absurd (more (ap (next_unit A)
 some_made A (u ∷ us) s t journal f more complete none = goes_behind journal u us (complete u f.0)
 
 -- where a journal is full the swap image is as it was
-full_spoils : (u : Entry) (k : Kernel) (i j : Option (List ℕ)) → SpoilsBy u stops.JournalFull k i j → j ≡ i
+full_spoils : (u : Entry) (k : Kernel) (i j : Option SwapImage) → SpoilsBy u stops.JournalFull k i j → j ≡ i
 full_spoils entries.Done k i j h = h
 full_spoils (entries.SwapOut pid) k i j h = h
 full_spoils _ k i j h = h
 
-module _ (old mid new : Standing) (mark : Mark) (lines : List Event) (taken counted : ℕ) (holds : Option (List NamedFile)) (i j : Option (List ℕ)) (wide : mid ≡ widened old)
+module _ (old mid new : Standing) (mark : Mark) (lines : List Event) (taken counted : ℕ) (holds : Option (List NamedFile)) (i j : Option SwapImage) (wide : mid ≡ widened old)
     (within : length new.kernel.journal ≤ new.params.journal) where
   same_kernel : mid.kernel ≡ old.kernel
   same_kernel = ap (λ (m : Standing). m.kernel) wide
@@ -129,7 +130,7 @@ module _ (old mid new : Standing) (mark : Mark) (lines : List Event) (taken coun
       let n : StopsNext A x.state x.kernel x.behind stops.JournalFull new j = x.by in
       let still : new.kernel ≡ x.kernel = x.held.kernel in
       let there : Leads A s mid.kernel image x.units x.state new.kernel j =
-      subst (λ (o : Option (List ℕ)). Leads A s mid.kernel image x.units x.state new.kernel o) (sym (full_spoils n.entry x.kernel (Some x.behind) j n.spoils))
+      subst (λ (o : Option SwapImage). Leads A s mid.kernel image x.units x.state new.kernel o) (sym (full_spoils n.entry x.kernel (Some x.behind) j n.spoils))
       (subst (λ (k : Kernel). Leads A s mid.kernel image x.units x.state k (Some x.behind)) (sym still) x.leads) in
       let size : length new.kernel.journal ≡ length x.kernel.journal = ap (λ (k : Kernel). length k.journal) still in
       let room : new.params.journal ≡ suc (length old.kernel.journal) = room_is new.params kept.sizes.params (sym full.bound) in

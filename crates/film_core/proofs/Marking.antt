@@ -1,6 +1,7 @@
 -- What is known of a run beside its machine, behind one entry more.
 use Rattle.std.proofs.Common.{◌≡◌, ℕ, zero, suc, ◌+◌, ◌-◌, ◌<◌, ◌≤◌, nat_lt, Bool, true, false, List, [], ◌∷◌, ◌++◌, length, slice_get, Option, Some, None, refl, sym, ap, ◌∙◌, subst, arith}
 use Rattle.std.proofs.lemmas.Bool.Decides.{nat_tests}
+use Rattle.vm_facts.specs.SwapImages.{SwapImage}
 use Rattle.vm_facts.specs.declared.entry.Entry.{Entry}
 use Rattle.vm_facts.specs.declared.entry.Entry.TheVariants as entries
 use Rattle.vm_facts.specs.declared.event.Event.{Event}
@@ -81,7 +82,7 @@ few_lines A (u ∷ us) s t f l = few_lines A us (after A s u) t f.1 (unit_lines 
 
 -- The mark of a line, by the machine.
 
-pub marked_at : (A : Inputs) (t : State) (k : Kernel) (image : List ℕ) (e : Event) → At A t k image → mark_of_event t e ≡ marked_by k t.count e
+pub marked_at : (A : Inputs) (t : State) (k : Kernel) (image : SwapImage) (e : Event) → At A t k image → mark_of_event t e ≡ marked_by k t.count e
 marked_at A t k image (events.Dispatch pid n) at = refl
 marked_at A t k image events.Interrupt at = ap (λ (p : Placement). interrupt_mark p.transfers) (sym at.stands.place)
 marked_at A t k image (events.Hands n) at = refl
@@ -90,7 +91,7 @@ marked_at A t k image events.Swapper at =
     ∙ ap (λ rs. swap_mark (swap_choice k.place rs)) (sym (runners_same k t.point.flat at.stands.keeps.coupled.tables))
 marked_at A t k image events.Audit at = refl
 
-line_at : (A : Inputs) (s : State) (line : ℕ) (k : Kernel) (image : List ℕ) (o : Option Event) → At A (after A s (entries.Event line)) k image
+line_at : (A : Inputs) (s : State) (line : ℕ) (k : Kernel) (image : SwapImage) (o : Option Event) → At A (after A s (entries.Event line)) k image
     → mark_of_line s o ≡ marked_if k s.count o
 unfolding after
 line_at A s line k image None at = refl
@@ -127,7 +128,7 @@ hands_still A (suc n) s t f =
 
 -- Behind an entry.
 
-module _ (A : Inputs) (s t : State) (k : Kernel) (image : List ℕ) (at : At A t k image) where
+module _ (A : Inputs) (s t : State) (k : Kernel) (image : SwapImage) (at : At A t k image) where
   same_mark : (u : Entry) → after A s u ≡ t → t.mark ≡ (after A s u).mark
   same_mark u f = sym (ap (λ (x : State). x.mark) f)
 

@@ -1,6 +1,7 @@
 -- What comes after a mark, and the whole way, by what the parts say.
 use Rattle.std.proofs.Common.{◌≡◌, ◌⊎◌, inl, inr, ℕ, zero, suc, ◌+◌, ◌<◌, ◌≤◌, nat_lt, Bool, true, false, List, [], ◌∷◌, length, slice_get, Option, Some, None, refl, sym, ap, ◌∙◌, subst, arith}
 use Rattle.std.proofs.lemmas.Bool.Decides.{nat_tests}
+use Rattle.vm_facts.specs.SwapImages.{SwapImage}
 use Rattle.vm_facts.specs.declared.entry.Entry.{Entry}
 use Rattle.vm_facts.specs.declared.entry.Entry.TheVariants as entries
 use Rattle.vm_facts.specs.declared.event.Event.{Event}
@@ -71,7 +72,7 @@ idle_ends A t l e = go (nat_lt t.count A.limit) (nat_lt t.lines (length A.lines)
     go true true x = absurd (never x)
     go true false x = ap turn_of e
 
-module _ (A : Inputs) (s : State) (m : Standing) (schedule : List Event) (taken count last : ℕ) (holds : Option (List NamedFile)) (i : Option (List ℕ)) (image : List ℕ)
+module _ (A : Inputs) (s : State) (m : Standing) (schedule : List Event) (taken count last : ℕ) (holds : Option (List NamedFile)) (i : Option SwapImage) (image : SwapImage)
     (at : OverAt m schedule taken count last holds i A s image) where
   turned : next_turned s.point.flat (last_turned s.mark) ≡ chosen_next m.kernel last
   turned = ap (next_turned s.point.flat) at.turned ∙ sym (turned_same m.kernel s.point.flat last at.stands.machine.at.stands.keeps.coupled.tables)
@@ -105,7 +106,7 @@ module _ (A : Inputs) (s : State) (m : Standing) (schedule : List Event) (taken 
 -- A mark is over.
 
 pub over_at : (A : Inputs) (s : State) (old new : Standing) (last : Mark) (schedule : List Event) (taken counted count turn : ℕ)
-    (holds : Option (List NamedFile)) (i j : Option (List ℕ)) (image : List ℕ)
+    (holds : Option (List NamedFile)) (i j : Option SwapImage) (image : SwapImage)
     → (at : RoundAt old last schedule taken counted holds i A s image) → (d : RestDone old new last count j A s image) → StaysOn old new count
     → turn ≡ last_turned last
     → OverAt new schedule taken count turn holds j A d.state d.leads.behind
@@ -119,7 +120,7 @@ over_at A s old new last schedule taken counted count turn holds i j image at d 
 }
 
 pub over_rounds : (old new : Standing) (last : Mark) (schedule : List Event) (taken counted count turn : ℕ) (holds : Option (List NamedFile))
-    (i j : Option (List ℕ)) → LeadsFrom (RestAt old last counted holds i) (RestDone old new last count j)
+    (i j : Option SwapImage) → LeadsFrom (RestAt old last counted holds i) (RestDone old new last count j)
     → StaysOn old new count → turn ≡ last_turned last → (new.params.limit ≤ count) ⊎ ((slice_get schedule taken ≡ None) × (chosen_next new.kernel turn ≡ None))
     → LeadsFrom (RoundAt old last schedule taken counted holds i) (RunsOut old new j)
 over_rounds old new last schedule taken counted count turn holds i j f on e why A s image at =
@@ -147,24 +148,24 @@ ComesNext m schedule taken count turn =
     ((e : Event) × (count < m.params.limit) × (slice_get schedule taken ≡ Some e))
     ⊎ ((pid : ℕ) × (count < m.params.limit) × (slice_get schedule taken ≡ None) × (chosen_next m.kernel turn ≡ Some pid))
 
-module _ (A : Inputs) (s : State) (m : Standing) (schedule : List Event) (taken count last : ℕ) (holds : Option (List NamedFile)) (i : Option (List ℕ)) (image : List ℕ)
+module _ (A : Inputs) (s : State) (m : Standing) (schedule : List Event) (taken count last : ℕ) (holds : Option (List NamedFile)) (i : Option SwapImage) (image : SwapImage)
     (at : OverAt m schedule taken count last holds i A s image) where
   pub stop_line : (new : Standing) (e : Event) (stop : Stop) → count < m.params.limit → slice_get schedule taken ≡ Some e → StopsBefore m new stop → StopLeads A s m.kernel image stop new i
   stop_line new e stop l x n =
-      subst (λ (o : Option (List ℕ)). StopLeads A s m.kernel image stop new o) (sym at.stands.told)
+      subst (λ (o : Option SwapImage). StopLeads A s m.kernel image stop new o) (sym at.stands.told)
       (line_stops A s m new holds image e stop at.stands.machine at.over (below A s m schedule taken count last holds i image at l) (due_line A s m schedule taken count last holds i image at e x) n)
 
   pub stop_turn : (new : Standing) (pid : ℕ) (stop : Stop) → count < m.params.limit → slice_get schedule taken ≡ None → chosen_next m.kernel last ≡ Some pid → StopsBefore m new stop
       → StopLeads A s m.kernel image stop new i
   stop_turn new pid stop l x y n =
-      subst (λ (o : Option (List ℕ)). StopLeads A s m.kernel image stop new o) (sym at.stands.told)
+      subst (λ (o : Option SwapImage). StopLeads A s m.kernel image stop new o) (sym at.stands.told)
       (turn_stops A s m new holds image pid stop at.stands.machine (due_turn A s m schedule taken count last holds i image at pid l x y) n)
 
   stop_full : MayNote m → m.params.journal ≤ length m.kernel.journal → ComesNext m schedule taken count last → StopLeads A s m.kernel image stops.JournalFull m i
   stop_full may full (inl (e, l, x)) = stop_line m e stops.JournalFull l x (stops_full m may full)
   stop_full may full (inr (pid, l, x, y)) = stop_turn m pid stops.JournalFull l x y (stops_full m may full)
 
-grown_full : (A : Inputs) (s t : State) (old new : Standing) (holds : Option (List NamedFile)) (i j : Option (List ℕ)) (image behind : List ℕ) (us : List Entry)
+grown_full : (A : Inputs) (s t : State) (old new : Standing) (holds : Option (List NamedFile)) (i j : Option SwapImage) (image behind : SwapImage) (us : List Entry)
     (counted count room : ℕ)
     → StandsIn A s old holds i image counted → StandsIn A t new holds j behind count → Leads A s old.kernel image us t new.kernel j
     → room ≤ length old.kernel.journal → room ≤ length new.kernel.journal
@@ -174,10 +175,10 @@ grown_full A s t old new holds i j image behind us counted count room st there a
 same_room : (old new : Standing) → new.params ≡ old.params → (n : ℕ) → old.params.journal ≤ n → new.params.journal ≤ n
 same_room old new e n l = subst (λ (p : Params). p.journal ≤ n) (sym e) l
 
-module _ (old new : Standing) (last : Mark) (schedule : List Event) (taken counted count turn : ℕ) (holds : Option (List NamedFile)) (i j : Option (List ℕ))
+module _ (old new : Standing) (last : Mark) (schedule : List Event) (taken counted count turn : ℕ) (holds : Option (List NamedFile)) (i j : Option SwapImage)
     (f : LeadsFrom (RestAt old last counted holds i) (RestDone old new last count j))
     (on : StaysOn old new count) (e : turn ≡ last_turned last) (full : old.params.journal ≤ length old.kernel.journal) where
-  round_full : (A : Inputs) (s : State) (image : List ℕ) → RoundAt old last schedule taken counted holds i A s image → new.params.journal ≤ length new.kernel.journal
+  round_full : (A : Inputs) (s : State) (image : SwapImage) → RoundAt old last schedule taken counted holds i A s image → new.params.journal ≤ length new.kernel.journal
   round_full A s image at =
       let d = f A s image at.rest in
       let o = over_at A s old new last schedule taken counted count turn holds i j image at d on e in
@@ -197,14 +198,14 @@ module _ (old new : Standing) (last : Mark) (schedule : List Event) (taken count
 -- The next line, or a turn, begins.
 
 pub record NextBegun (A : Inputs) (s : State) (old new : Standing) (mark : Mark) (schedule : List Event) (taken counted : ℕ) (holds : Option (List NamedFile))
-    (i : Option (List ℕ)) (image : List ℕ) : Type 0 where
+    (i : Option SwapImage) (image : SwapImage) : Type 0 where
   pub units : List Entry
   pub state : State
   pub leads : Leads A s old.kernel image units state new.kernel i
   pub at : RoundAt new mark schedule taken counted holds i A state leads.behind
 
 pub line_begun : (A : Inputs) (s : State) (old new : Standing) (mark : Mark) (schedule : List Event) (taken counted turn : ℕ) (holds : Option (List NamedFile))
-    (i : Option (List ℕ)) (image : List ℕ) (e : Event)
+    (i : Option SwapImage) (image : SwapImage) (e : Event)
     → OverAt old schedule taken counted turn holds i A s image → counted < old.params.limit → slice_get schedule taken ≡ Some e → HaveFewMoves schedule
     → StaysSteady old new 0 → new.kernel ≡ note_step old.kernel (entries.Event (taken + 1))
     → mark ≡ marked_by new.kernel counted e → NextBegun A s old new mark schedule (taken + 1) counted holds i image
@@ -213,7 +214,7 @@ line_begun A s old new mark schedule taken counted turn holds i image e at l x f
     let b : LineBegun A s old.kernel image e new.kernel = line_begins A s old new.kernel holds image e at.stands.machine at.over (below A s old schedule taken counted turn holds i image at l)
     (due_line A s old schedule taken counted turn holds i image at e x) (k ∙ ap (λ (n : ℕ). note_step old.kernel (entries.Event n)) number) in
     let a : Leads A s old.kernel image (entries.Event (s.lines + 1) ∷ []) b.state new.kernel i =
-    subst (λ (o : Option (List ℕ)). Leads A s old.kernel image (entries.Event (s.lines + 1) ∷ []) b.state new.kernel o) (sym at.stands.told) b.leads in
+    subst (λ (o : Option SwapImage). Leads A s old.kernel image (entries.Event (s.lines + 1) ∷ []) b.state new.kernel o) (sym at.stands.told) b.leads in
     let st = stands_then A s b.state old new holds i i image (entries.Event (s.lines + 1) ∷ []) counted counted at.reached at.stands a n.params n.images (b.count ∙ at.stands.count) in
     let marked : b.state.mark ≡ mark =
     mark_follows A s b.state new.kernel a.behind st.machine.at (entries.Event (s.lines + 1)) (leads_follow A s b.state old.kernel new.kernel image (entries.Event (s.lines + 1) ∷ []) i a)
@@ -237,7 +238,7 @@ line_begun A s old new mark schedule taken counted turn holds i image e at l x f
     }
 
 pub turn_begun : (A : Inputs) (s : State) (old new : Standing) (schedule : List Event) (taken counted turn : ℕ) (holds : Option (List NamedFile))
-    (i : Option (List ℕ)) (image : List ℕ) (pid : ℕ)
+    (i : Option SwapImage) (image : SwapImage) (pid : ℕ)
     → OverAt old schedule taken counted turn holds i A s image → counted < old.params.limit → slice_get schedule taken ≡ None
     → chosen_next old.kernel turn ≡ Some pid
     → StaysSteady old new 0 → new.kernel ≡ note_step old.kernel (entries.Turn pid)
@@ -246,7 +247,7 @@ turn_begun A s old new schedule taken counted turn holds i image pid at l x y n 
     let due = due_turn A s old schedule taken counted turn holds i image at pid l x y in
     let b : TurnBegun A s old.kernel image pid new.kernel = turn_begins A s old new.kernel holds image pid at.stands.machine due k in
     let a : Leads A s old.kernel image (entries.Turn pid ∷ []) b.state new.kernel i =
-    subst (λ (o : Option (List ℕ)). Leads A s old.kernel image (entries.Turn pid ∷ []) b.state new.kernel o) (sym at.stands.told) b.leads in
+    subst (λ (o : Option SwapImage). Leads A s old.kernel image (entries.Turn pid ∷ []) b.state new.kernel o) (sym at.stands.told) b.leads in
     let st = stands_then A s b.state old new holds i i image (entries.Turn pid ∷ []) counted counted at.reached at.stands a n.params n.images (b.count ∙ at.stands.count) in
     record {
       units = entries.Turn pid ∷ [];
@@ -267,14 +268,14 @@ turn_begun A s old new schedule taken counted turn holds i image pid at l x y n 
 
 -- what is led to from there is led to from before
 begun_over : (A : Inputs) (s : State) (old mid new : Standing) (mark : Mark) (schedule : List Event) (taken counted : ℕ) (holds : Option (List NamedFile))
-    (i j : Option (List ℕ)) (image : List ℕ)
+    (i j : Option SwapImage) (image : SwapImage)
     → (b : NextBegun A s old mid mark schedule taken counted holds i image) → LeadsFrom (RoundAt mid mark schedule taken counted holds i) (RunsOut mid new j)
     → RunsOut old new j A s image
 begun_over A s old mid new mark schedule taken counted holds i j image b f =
     then_out A s b.state old mid new image i j b.units b.leads (f A b.state b.leads.behind b.at)
 
 begun_stops : (A : Inputs) (s : State) (old mid new : Standing) (mark : Mark) (schedule : List Event) (taken counted : ℕ) (holds : Option (List NamedFile))
-    (i j : Option (List ℕ)) (image : List ℕ) (stop : Stop)
+    (i j : Option SwapImage) (image : SwapImage) (stop : Stop)
     → (b : NextBegun A s old mid mark schedule taken counted holds i image) → StopsFrom (RoundAt mid mark schedule taken counted holds i) mid new j stop
     → StopLeads A s old.kernel image stop new j
 begun_stops A s old mid new mark schedule taken counted holds i j image stop b f =
@@ -282,10 +283,10 @@ begun_stops A s old mid new mark schedule taken counted holds i j image stop b f
 
 -- A line.
 
-module _ (old mid new : Standing) (mark : Mark) (schedule : List Event) (taken counted turn : ℕ) (holds : Option (List NamedFile)) (i j : Option (List ℕ)) (e : Event)
+module _ (old mid new : Standing) (mark : Mark) (schedule : List Event) (taken counted turn : ℕ) (holds : Option (List NamedFile)) (i j : Option SwapImage) (e : Event)
     (l : counted < old.params.limit) (x : slice_get schedule taken ≡ Some e) (few : HaveFewMoves schedule) (n : StaysSteady old mid 0)
     (k : mid.kernel ≡ note_step old.kernel (entries.Event (taken + 1))) (m : mark ≡ marked_by mid.kernel counted e) where
-  line_there : (A : Inputs) (s : State) (image : List ℕ) → OverAt old schedule taken counted turn holds i A s image → NextBegun A s old mid mark schedule (taken + 1) counted holds i image
+  line_there : (A : Inputs) (s : State) (image : SwapImage) → OverAt old schedule taken counted turn holds i A s image → NextBegun A s old mid mark schedule (taken + 1) counted holds i image
   line_there A s image at = line_begun A s old mid mark schedule taken counted turn holds i image e at l x few n k m
 
   pub line_round : AtSome (OverAt old schedule taken counted turn holds i) → AtSome (RoundAt mid mark schedule (taken + 1) counted holds i)
@@ -299,10 +300,10 @@ module _ (old mid new : Standing) (mark : Mark) (schedule : List Event) (taken c
 
 -- A turn.
 
-module _ (old mid new : Standing) (schedule : List Event) (taken counted turn : ℕ) (holds : Option (List NamedFile)) (i j : Option (List ℕ)) (pid : ℕ)
+module _ (old mid new : Standing) (schedule : List Event) (taken counted turn : ℕ) (holds : Option (List NamedFile)) (i j : Option SwapImage) (pid : ℕ)
     (l : counted < old.params.limit) (x : slice_get schedule taken ≡ None) (y : chosen_next old.kernel turn ≡ Some pid) (n : StaysSteady old mid 0)
     (k : mid.kernel ≡ note_step old.kernel (entries.Turn pid)) where
-  turn_there : (A : Inputs) (s : State) (image : List ℕ) → OverAt old schedule taken counted turn holds i A s image
+  turn_there : (A : Inputs) (s : State) (image : SwapImage) → OverAt old schedule taken counted turn holds i A s image
       → NextBegun A s old mid (marks.Turn pid counted) schedule taken counted holds i image
   turn_there A s image at = turn_begun A s old mid schedule taken counted turn holds i image pid at l x y n k
 
@@ -316,18 +317,18 @@ module _ (old mid new : Standing) (schedule : List Event) (taken counted turn : 
       → StopsFrom (OverAt old schedule taken counted turn holds i) old new j stop
   turn_stops_passing stop f A s image at = begun_stops A s old mid new (marks.Turn pid counted) schedule taken counted holds i j image stop (turn_there A s image at) f
 
-pub line_noting : (old new : Standing) (schedule : List Event) (taken counted turn : ℕ) (holds : Option (List NamedFile)) (i : Option (List ℕ)) (e : Event)
+pub line_noting : (old new : Standing) (schedule : List Event) (taken counted turn : ℕ) (holds : Option (List NamedFile)) (i : Option SwapImage) (e : Event)
     (stop : Stop) → counted < old.params.limit
     → slice_get schedule taken ≡ Some e → StopsBefore old new stop → StopsFrom (OverAt old schedule taken counted turn holds i) old new i stop
 line_noting old new schedule taken counted turn holds i e stop l x n A s image at = stop_line A s old schedule taken counted turn holds i image at new e stop l x n
 
-pub turn_noting : (old new : Standing) (schedule : List Event) (taken counted turn : ℕ) (holds : Option (List NamedFile)) (i : Option (List ℕ)) (pid : ℕ)
+pub turn_noting : (old new : Standing) (schedule : List Event) (taken counted turn : ℕ) (holds : Option (List NamedFile)) (i : Option SwapImage) (pid : ℕ)
     (stop : Stop) → counted < old.params.limit
     → slice_get schedule taken ≡ None → chosen_next old.kernel turn ≡ Some pid → StopsBefore old new stop
     → StopsFrom (OverAt old schedule taken counted turn holds i) old new i stop
 turn_noting old new schedule taken counted turn holds i pid stop l x y n A s image at = stop_turn A s old schedule taken counted turn holds i image at new pid stop l x y n
 
-pub none_passes : (m : Standing) (schedule : List Event) (taken counted turn : ℕ) (holds : Option (List NamedFile)) (i : Option (List ℕ))
+pub none_passes : (m : Standing) (schedule : List Event) (taken counted turn : ℕ) (holds : Option (List NamedFile)) (i : Option SwapImage)
     → (m.params.limit ≤ counted) ⊎ ((slice_get schedule taken ≡ None) × (chosen_next m.kernel turn ≡ None))
     → LeadsFrom (OverAt m schedule taken counted turn holds i) (RunsOut m m i)
 none_passes m schedule taken counted turn holds i why A s image at = record {

@@ -2,6 +2,7 @@
 use Rattle.std.proofs.Common.{◌≡◌, ◌⊎◌, inl, inr, ℕ, ◌+◌, ◌<◌, ◌≤◌, Bool, true, false, List, [], ◌++◌, Option, None, refl, sym, ap, ◌∙◌, subst, arith}
 use Rattle.std.specs.Prelude.{min}
 use Rattle.std.proofs.lemmas.Option.{same_Some}
+use Rattle.vm_facts.specs.SwapImages.{SwapImage}
 use Rattle.vm_facts.specs.declared.entry.Entry.TheVariants as entries
 use Rattle.vm_facts.specs.declared.event.Event.TheVariants as events
 use Rattle.vm_facts.specs.declared.stop.Stop.{Stop}
@@ -56,7 +57,7 @@ steady_stays old new counted is s = record {
 
 -- A mark that is over.
 
-over_rest : (A : Inputs) (s : State) (m : Standing) (mark : Mark) (counted : ℕ) (holds : Option (List NamedFile)) (i : Option (List ℕ)) (image : List ℕ)
+over_rest : (A : Inputs) (s : State) (m : Standing) (mark : Mark) (counted : ℕ) (holds : Option (List NamedFile)) (i : Option SwapImage) (image : SwapImage)
     → RestAt m mark counted holds i A s image
     → under A s mark ≡ None → RestDone m m mark counted i A s image
 over_rest A s m mark counted holds i image at over = record {
@@ -69,13 +70,13 @@ over_rest A s m mark counted holds i image at over = record {
   turned = ap last_turned at.mark;
 }
 
-pub over_rests : (m : Standing) (counted : ℕ) (holds : Option (List NamedFile)) (i : Option (List ℕ))
+pub over_rests : (m : Standing) (counted : ℕ) (holds : Option (List NamedFile)) (i : Option SwapImage)
     → LeadsFrom (RestAt m marks.Over counted holds i) (RestDone m m marks.Over counted i)
 over_rests m counted holds i A s image at = over_rest A s m marks.Over counted holds i image at refl
 
 -- A line whose last unit was made.
 
-line_rest : (A : Inputs) (s : State) (old new : Standing) (mark : Mark) (counted : ℕ) (holds : Option (List NamedFile)) (i j : Option (List ℕ)) (image : List ℕ)
+line_rest : (A : Inputs) (s : State) (old new : Standing) (mark : Mark) (counted : ℕ) (holds : Option (List NamedFile)) (i j : Option SwapImage) (image : SwapImage)
     → RestAt old mark counted holds i A s image
     → last_turned mark ≡ 0 → LineLeads A s old.kernel image new.kernel j → RestDone old new mark counted j A s image
 line_rest A s old new mark counted holds i j image at none l = record {
@@ -90,7 +91,7 @@ line_rest A s old new mark counted holds i j image at none l = record {
 
 -- Dispatches.
 
-dispatched : (A : Inputs) (s : State) (m : Standing) (pid more since counted until : ℕ) (holds : Option (List NamedFile)) (i : Option (List ℕ)) (image : List ℕ)
+dispatched : (A : Inputs) (s : State) (m : Standing) (pid more since counted until : ℕ) (holds : Option (List NamedFile)) (i : Option SwapImage) (image : SwapImage)
     → until ≡ min (since + more) m.params.limit
     → RestAt m (marks.Dispatch pid more since) counted holds i A s image → UnderMark m holds i pid false counted until A s image
 dispatched A s m pid more since counted until holds i image u at = record {
@@ -102,7 +103,7 @@ dispatched A s m pid more since counted until holds i image u at = record {
   asks = (more, since, at.mark, u ∙ ap (min (since + more)) (sym at.stands.inputs.limit));
 }
 
-pub dispatch_rests : (old new : Standing) (pid more since counted until count : ℕ) (holds : Option (List NamedFile)) (i j : Option (List ℕ))
+pub dispatch_rests : (old new : Standing) (pid more since counted until count : ℕ) (holds : Option (List NamedFile)) (i j : Option SwapImage)
     → until ≡ min (since + more) old.params.limit
     → LeadsFrom (UnderMark old holds i pid false counted until) (RunLeads old.kernel pid false new.kernel j count)
     → LeadsFrom (RestAt old (marks.Dispatch pid more since) counted holds i) (RestDone old new (marks.Dispatch pid more since) count j)
@@ -118,7 +119,7 @@ dispatch_rests old new pid more since counted until count holds i j u f A s imag
       turned = ap last_turned (l.mark ∙ at.mark);
     }
 
-pub dispatch_stops : (old new : Standing) (pid more since counted until : ℕ) (holds : Option (List NamedFile)) (i j : Option (List ℕ)) (stop : Stop)
+pub dispatch_stops : (old new : Standing) (pid more since counted until : ℕ) (holds : Option (List NamedFile)) (i j : Option SwapImage) (stop : Stop)
     → until ≡ min (since + more) old.params.limit
     → StopsFrom (UnderMark old holds i pid false counted until) old new j stop
     → StopsFrom (RestAt old (marks.Dispatch pid more since) counted holds i) old new j stop
@@ -130,7 +131,7 @@ dispatch_stops old new pid more since counted until holds i j stop u f A s image
 turn_idle : (A : Inputs) (s : State) (pid since : ℕ) → goes_on A s pid (since + turn_instructions) ≡ false → under A s (marks.Turn pid since) ≡ None
 turn_idle A s pid since e = ap (λ (b : Bool). when b (turn_unit A s pid)) e
 
-pub turn_spent : (m : Standing) (pid since counted until : ℕ) (holds : Option (List NamedFile)) (i : Option (List ℕ))
+pub turn_spent : (m : Standing) (pid since counted until : ℕ) (holds : Option (List NamedFile)) (i : Option SwapImage)
     → until ≡ min (since + turn_instructions) m.params.limit
     → (until ≤ counted) ⊎ (steps_by (proc_of m.kernel pid) ≡ false)
     → LeadsFrom (RestAt m (marks.Turn pid since) counted holds i) (RestDone m m (marks.Turn pid since) counted i)
@@ -140,7 +141,7 @@ turn_spent m pid since counted until holds i u why A s image at =
       | inr e ↦ idle A s pid (since + turn_instructions) (steps_same m.kernel s.point.flat pid at.stands.machine.at.stands.keeps.coupled.tables ∙ e)
     ]))
 
-turn_at : (A : Inputs) (s : State) (m : Standing) (pid since counted until : ℕ) (holds : Option (List NamedFile)) (i : Option (List ℕ)) (image : List ℕ)
+turn_at : (A : Inputs) (s : State) (m : Standing) (pid since counted until : ℕ) (holds : Option (List NamedFile)) (i : Option SwapImage) (image : SwapImage)
     → until ≡ min (since + turn_instructions) m.params.limit → counted < until → steps_by (proc_of m.kernel pid) ≡ true
     → RestAt m (marks.Turn pid since) counted holds i A s image
     → TurnAt m holds i counted since pid A s image
@@ -153,7 +154,7 @@ turn_at A s m pid since counted until holds i image u l e at = record {
   lines = at.order;
 }
 
-pub turn_rests : (old mid new : Standing) (pid since counted until count : ℕ) (holds : Option (List NamedFile)) (i h j : Option (List ℕ))
+pub turn_rests : (old mid new : Standing) (pid since counted until count : ℕ) (holds : Option (List NamedFile)) (i h j : Option SwapImage)
     → until ≡ min (since + turn_instructions) old.params.limit
     → counted < until → steps_by (proc_of old.kernel pid) ≡ true → LeadsFrom (TurnAt old holds i counted since pid) (InTurn old mid holds h counted since pid)
     → LeadsFrom (ResidentTurn mid holds h counted since pid) (TurnDone mid new j pid count)
@@ -166,20 +167,20 @@ turn_rests old mid new pid since counted until count holds i h j u l e comes fin
       units = c.units ++ d.units;
       state = d.state;
       leads = then_lead A s c.state d.state old.kernel mid.kernel new.kernel image h j c.units d.units c.leads
-          (subst (λ (y : List ℕ). Leads A c.state mid.kernel y d.units d.state new.kernel j) same d.leads);
+          (subst (λ (y : SwapImage). Leads A c.state mid.kernel y d.units d.state new.kernel j) same d.leads);
       over = d.over;
       counts = d.counts;
       lines = d.lines ∙ c.lines;
       turned = d.turned;
     }
 
-pub turn_coming_stops : (old new : Standing) (pid since counted until : ℕ) (holds : Option (List NamedFile)) (i j : Option (List ℕ)) (stop : Stop)
+pub turn_coming_stops : (old new : Standing) (pid since counted until : ℕ) (holds : Option (List NamedFile)) (i j : Option SwapImage) (stop : Stop)
     → until ≡ min (since + turn_instructions) old.params.limit
     → counted < until → steps_by (proc_of old.kernel pid) ≡ true → StopsFrom (TurnAt old holds i counted since pid) old new j stop
     → StopsFrom (RestAt old (marks.Turn pid since) counted holds i) old new j stop
 turn_coming_stops old new pid since counted until holds i j stop u l e f A s image at = f A s image (turn_at A s old pid since counted until holds i image u l e at)
 
-pub turn_stops : (old mid new : Standing) (pid since counted until : ℕ) (holds : Option (List NamedFile)) (i h j : Option (List ℕ)) (stop : Stop)
+pub turn_stops : (old mid new : Standing) (pid since counted until : ℕ) (holds : Option (List NamedFile)) (i h j : Option SwapImage) (stop : Stop)
     → until ≡ min (since + turn_instructions) old.params.limit
     → counted < until → steps_by (proc_of old.kernel pid) ≡ true → LeadsFrom (TurnAt old holds i counted since pid) (InTurn old mid holds h counted since pid)
     → StopsFrom (ResidentTurn mid holds h counted since pid) mid new j stop
@@ -188,11 +189,11 @@ turn_stops old mid new pid since counted until holds i h j stop u l e comes f A 
     let c = comes A s image (turn_at A s old pid since counted until holds i image u l e at) in
     let same : c.behind ≡ c.leads.behind = same_Some c.behind c.leads.behind (sym c.at.stands.told ∙ c.leads.told) in
     then_stop A s c.state old.kernel mid.kernel image h j c.units stop new c.leads
-    (subst (λ (y : List ℕ). StopLeads A c.state mid.kernel y stop new j) same (f A c.state c.behind (c.at, c.resident)))
+    (subst (λ (y : SwapImage). StopLeads A c.state mid.kernel y stop new j) same (f A c.state c.behind (c.at, c.resident)))
 
 -- The end of a transfer.
 
-waiting : (A : Inputs) (s : State) (m : Standing) (counted : ℕ) (holds : Option (List NamedFile)) (i : Option (List ℕ)) (image : List ℕ)
+waiting : (A : Inputs) (s : State) (m : Standing) (counted : ℕ) (holds : Option (List NamedFile)) (i : Option SwapImage) (image : SwapImage)
     → RestAt m marks.Interrupt counted holds i A s image
     → LineAt m holds i events.Interrupt A s image
 waiting A s m counted holds i image at = record {
@@ -203,20 +204,20 @@ waiting A s m counted holds i image at = record {
   fit = at.stands.longwords.fit;
 }
 
-pub wait_rests : (old new : Standing) (counted : ℕ) (holds : Option (List NamedFile)) (i j : Option (List ℕ))
+pub wait_rests : (old new : Standing) (counted : ℕ) (holds : Option (List NamedFile)) (i j : Option SwapImage)
     → LeadsFrom (LineAt old holds i events.Interrupt) (λ A s image. LineLeads A s old.kernel image new.kernel j)
     → LeadsFrom (RestAt old marks.Interrupt counted holds i) (RestDone old new marks.Interrupt counted j)
 wait_rests old new counted holds i j f A s image at =
     line_rest A s old new marks.Interrupt counted holds i j image at refl (f A s image (waiting A s old counted holds i image at))
 
-pub wait_stops : (old new : Standing) (counted : ℕ) (holds : Option (List NamedFile)) (i j : Option (List ℕ)) (stop : Stop)
+pub wait_stops : (old new : Standing) (counted : ℕ) (holds : Option (List NamedFile)) (i j : Option SwapImage) (stop : Stop)
     → StopsFrom (LineAt old holds i events.Interrupt) old new j stop
     → StopsFrom (RestAt old marks.Interrupt counted holds i) old new j stop
 wait_stops old new counted holds i j stop f A s image at = f A s image (waiting A s old counted holds i image at)
 
 -- Numbers that are noted.
 
-auditing : (A : Inputs) (s : State) (m : Standing) (counted : ℕ) (holds : Option (List NamedFile)) (i : Option (List ℕ)) (image : List ℕ)
+auditing : (A : Inputs) (s : State) (m : Standing) (counted : ℕ) (holds : Option (List NamedFile)) (i : Option SwapImage) (image : SwapImage)
     → RestAt m marks.Audit counted holds i A s image
     → LineAt m holds i events.Audit A s image
 auditing A s m counted holds i image at = record {
@@ -227,32 +228,32 @@ auditing A s m counted holds i image at = record {
   fit = at.stands.longwords.fit;
 }
 
-pub audit_rests : (old new : Standing) (counted : ℕ) (holds : Option (List NamedFile)) (i j : Option (List ℕ))
+pub audit_rests : (old new : Standing) (counted : ℕ) (holds : Option (List NamedFile)) (i j : Option SwapImage)
     → LeadsFrom (LineAt old holds i events.Audit) (λ A s image. LineLeads A s old.kernel image new.kernel j)
     → LeadsFrom (RestAt old marks.Audit counted holds i) (RestDone old new marks.Audit counted j)
 audit_rests old new counted holds i j f A s image at =
     line_rest A s old new marks.Audit counted holds i j image at refl (f A s image (auditing A s old counted holds i image at))
 
-pub audit_stops : (old new : Standing) (counted : ℕ) (holds : Option (List NamedFile)) (i j : Option (List ℕ)) (stop : Stop)
+pub audit_stops : (old new : Standing) (counted : ℕ) (holds : Option (List NamedFile)) (i j : Option SwapImage) (stop : Stop)
     → StopsFrom (LineAt old holds i events.Audit) old new j stop
     → StopsFrom (RestAt old marks.Audit counted holds i) old new j stop
 audit_stops old new counted holds i j stop f A s image at = f A s image (auditing A s old counted holds i image at)
 
 -- Moves of the hands.
 
-pub hands_rest : (old new : Standing) (left made counted : ℕ) (holds : Option (List NamedFile)) (i j : Option (List ℕ)) → Moved left old new made holds i j
+pub hands_rest : (old new : Standing) (left made counted : ℕ) (holds : Option (List NamedFile)) (i j : Option SwapImage) → Moved left old new made holds i j
     → LeadsFrom (RestAt old (marks.Hands left) counted holds i) (RestDone old new (marks.Hands left) counted j)
 hands_rest old new left made counted holds i j m A s image at =
     line_rest A s old new (marks.Hands left) counted holds i j image at refl
-    (hands_made A s old new holds image j left made at.stands.machine at.clear at.mark (subst (λ (o : Option (List ℕ)). Moved left old new made holds o j) at.stands.told m))
+    (hands_made A s old new holds image j left made at.stands.machine at.clear at.mark (subst (λ (o : Option SwapImage). Moved left old new made holds o j) at.stands.told m))
 
-pub hands_stops : (old new : Standing) (left counted : ℕ) (holds : Option (List NamedFile)) (i j : Option (List ℕ)) (stop : Stop)
+pub hands_stops : (old new : Standing) (left counted : ℕ) (holds : Option (List NamedFile)) (i j : Option SwapImage) (stop : Stop)
     → StopsMoving left old stop new holds i j
     → StopsFrom (RestAt old (marks.Hands left) counted holds i) old new j stop
 hands_stops old new left counted holds i j stop x A s image at =
-    hands_stop A s old new holds image j left stop at.stands.machine at.clear at.mark (subst (λ (o : Option (List ℕ)). StopsMoving left old stop new holds o j) at.stands.told x)
+    hands_stop A s old new holds image j left stop at.stands.machine at.clear at.mark (subst (λ (o : Option SwapImage). StopsMoving left old stop new holds o j) at.stands.told x)
 
-pub hands_stay : (old new : Standing) (left made counted : ℕ) (holds : Option (List NamedFile)) (i j : Option (List ℕ)) → IsSteady old
+pub hands_stay : (old new : Standing) (left made counted : ℕ) (holds : Option (List NamedFile)) (i j : Option SwapImage) → IsSteady old
     → instructions_of old.kernel.journal ≡ counted
     → Moved left old new made holds i j → CanGoOn new → StaysOn old new counted
 hands_stay old new left made counted holds i j s is m ready =
@@ -269,36 +270,36 @@ hands_stay old new left made counted holds i j s is m ready =
     }
 
 -- the line asked for few
-pub hands_fit : (A : Inputs) (s : State) (m : Standing) (left counted : ℕ) (holds : Option (List NamedFile)) (i : Option (List ℕ)) (image : List ℕ)
+pub hands_fit : (A : Inputs) (s : State) (m : Standing) (left counted : ℕ) (holds : Option (List NamedFile)) (i : Option SwapImage) (image : SwapImage)
     → RestAt m (marks.Hands left) counted holds i A s image
     → left ≤ 1000000
 hands_fit A s m left counted holds i image at = at.order
 
 -- Processes that come in and go out.
 
-pub bring_rests : (old new : Standing) (pid counted : ℕ) (holds : Option (List NamedFile)) (i j : Option (List ℕ)) → IsIn old.kernel new.kernel pid i → j ≡ i
+pub bring_rests : (old new : Standing) (pid counted : ℕ) (holds : Option (List NamedFile)) (i j : Option SwapImage) → IsIn old.kernel new.kernel pid i → j ≡ i
     → LeadsFrom (RestAt old (marks.BringIn pid) counted holds i) (RestDone old new (marks.BringIn pid) counted j)
 bring_rests old new pid counted holds i j is same A s image at =
     line_rest A s old new (marks.BringIn pid) counted holds i j image at refl
-    (in_comes A s old new image j pid at.clear at.mark (subst (λ (o : Option (List ℕ)). IsIn old.kernel new.kernel pid o) at.stands.told is) (same ∙ at.stands.told))
+    (in_comes A s old new image j pid at.clear at.mark (subst (λ (o : Option SwapImage). IsIn old.kernel new.kernel pid o) at.stands.told is) (same ∙ at.stands.told))
 
-pub bring_stops : (old new : Standing) (pid counted : ℕ) (holds : Option (List NamedFile)) (i j : Option (List ℕ)) (stop : Stop)
+pub bring_stops : (old new : Standing) (pid counted : ℕ) (holds : Option (List NamedFile)) (i j : Option SwapImage) (stop : Stop)
     → StopsAt (entries.SwapIn pid) old.kernel i stop new j
     → StopsFrom (RestAt old (marks.BringIn pid) counted holds i) old new j stop
 bring_stops old new pid counted holds i j stop x A s image at =
     stops_here A s old.kernel image stop new j (entries.SwapIn pid) ((line_asks A s at.clear.clear).0 pid at.mark)
-    (subst (λ (o : Option (List ℕ)). StopsAt (entries.SwapIn pid) old.kernel o stop new j) at.stands.told x)
+    (subst (λ (o : Option SwapImage). StopsAt (entries.SwapIn pid) old.kernel o stop new j) at.stands.told x)
 
-pub put_rests : (old new : Standing) (pid sid counted : ℕ) (holds : Option (List NamedFile)) (i j : Option (List ℕ)) → HoldsThere old.kernel pid sid
+pub put_rests : (old new : Standing) (pid sid counted : ℕ) (holds : Option (List NamedFile)) (i j : Option SwapImage) → HoldsThere old.kernel pid sid
     → PutOut pid sid old new holds i j
     → LeadsFrom (RestAt old (marks.PutOut pid) counted holds i) (RestDone old new (marks.PutOut pid) counted j)
 put_rests old new pid sid counted holds i j there o A s image at =
     line_rest A s old new (marks.PutOut pid) counted holds i j image at refl
     (out_comes A s old new holds image j pid sid at.stands.machine at.clear at.stands.longwords.fit at.mark there
-    (subst (λ (x : Option (List ℕ)). PutOut pid sid old new holds x j) at.stands.told o))
+    (subst (λ (x : Option SwapImage). PutOut pid sid old new holds x j) at.stands.told o))
 
-pub put_stops : (old new : Standing) (pid sid counted : ℕ) (holds : Option (List NamedFile)) (i j : Option (List ℕ)) (stop : Stop)
+pub put_stops : (old new : Standing) (pid sid counted : ℕ) (holds : Option (List NamedFile)) (i j : Option SwapImage) (stop : Stop)
     → HoldsThere old.kernel pid sid
     → StopsPutting pid sid old stop new holds i j → StopsFrom (RestAt old (marks.PutOut pid) counted holds i) old new j stop
 put_stops old new pid sid counted holds i j stop there x A s image at =
-    out_stops A s old new holds image j pid sid stop at.stands.machine at.clear at.mark there (subst (λ (o : Option (List ℕ)). StopsPutting pid sid old stop new holds o j) at.stands.told x)
+    out_stops A s old new holds image j pid sid stop at.stands.machine at.clear at.mark there (subst (λ (o : Option SwapImage). StopsPutting pid sid old stop new holds o j) at.stands.told x)

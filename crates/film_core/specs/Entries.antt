@@ -1,5 +1,6 @@
 -- One entry more.
 use Rattle.std.specs.Prelude.{◌≡◌, ◌↔◌, ◌+◌, ◌<◌, ℕ, suc, Bool, true, List, length, slice_get, Option, Some, None}
+use Rattle.vm_facts.specs.SwapImages.{SwapImage}
 use Rattle.vm_facts.specs.declared.entry.Entry.{Entry}
 use Rattle.vm_facts.specs.declared.event.Event.{Event}
 use Rattle.vm_facts.specs.declared.stop.Stop.TheVariants as stops
@@ -17,8 +18,8 @@ use Rattle.film_core.specs.Marks.{mark_behind, lines_behind}
 use Rattle.film_core.specs.Ways.{GoesAt}
 
 -- The machine stands at a state of a run whose journal is full and complete, and that has a next unit.
-pub record FullAt (m : Standing) (mark : Mark) (lines : List Event) (taken counted : ℕ) (holds : Option (List NamedFile)) (i : Option (List ℕ))
-    (A : Inputs) (s : State) (image : List ℕ) : Type 0 where
+pub record FullAt (m : Standing) (mark : Mark) (lines : List Event) (taken counted : ℕ) (holds : Option (List NamedFile)) (i : Option SwapImage)
+    (A : Inputs) (s : State) (image : SwapImage) : Type 0 where
   pub going : GoesAt m mark lines taken counted holds i A s image
   pub complete : (u : Entry) → next_unit A s ≡ Some u → length m.kernel.journal < length (append m.kernel.journal u)
   pub bound : m.params.journal ≡ length m.kernel.journal
@@ -26,11 +27,11 @@ pub record FullAt (m : Standing) (mark : Mark) (lines : List Event) (taken count
 
 -- Next units lead to a state at which the machine stands with one entry more, and its journal is full and complete again; and it is
 -- said whether the run is over there.
-pub record EntryMade (old new : Standing) (ended : Bool) (holds : Option (List NamedFile)) (j : Option (List ℕ)) (A : Inputs) (s : State)
-    (image : List ℕ) : Type 0 where
+pub record EntryMade (old new : Standing) (ended : Bool) (holds : Option (List NamedFile)) (j : Option SwapImage) (A : Inputs) (s : State)
+    (image : SwapImage) : Type 0 where
   pub units : List Entry
   pub state : State
-  pub behind : List ℕ
+  pub behind : SwapImage
   pub leads : Leads A s old.kernel image units state new.kernel j
   pub stands : StandsIn A state new holds j behind state.count
   pub complete : (u : Entry) → next_unit A state ≡ Some u → length new.kernel.journal < length (append new.kernel.journal u)

@@ -1,5 +1,6 @@
 -- A run that goes on from entry to entry, and the state at which it stands after each.
 use Rattle.std.specs.Prelude.{◌≡◌, ◌↔◌, ◌<◌, ◌≤◌, ℕ, suc, Bool, true, false, List, [], length, Option, Some, None}
+use Rattle.vm_facts.specs.SwapImages.{SwapImage}
 use Rattle.vm_facts.specs.declared.entry.Entry.{Entry}
 use Rattle.vm_facts.specs.declared.event.Event.{Event}
 use Rattle.vm_facts.specs.declared.params.Params.{Params}
@@ -39,7 +40,7 @@ IsInOrder lines taken _ = Unit {0}
 -- The film stands at the state of a run to which its journal leads, with a swap image that is told: its machine runs and stands for
 -- the state, bytes and registers too, and no pieces of swap wait. The next unit, if there is one, isn't joined to the last entry, and
 -- the journal has no room for it; where there is none the run is over. It began with 64 processes at most.
-pub record FilmAt (A : Inputs) (s : State) (f : Filming) (holds : Option (List NamedFile)) (i : Option (List ℕ)) (image : List ℕ)
+pub record FilmAt (A : Inputs) (s : State) (f : Filming) (holds : Option (List NamedFile)) (i : Option SwapImage) (image : SwapImage)
     : Type 0 where
   pub stands : StandsIn A s f.machine holds i image f.counted
   pub made : IsJournalOf A f.machine.kernel.journal s
@@ -54,10 +55,10 @@ pub record FilmAt (A : Inputs) (s : State) (f : Filming) (holds : Option (List N
   pub few : length A.first ≤ 64
 
 -- it stands at a state of some run that has these lines, in 64 frames or more
-pub record IsFilming (f : Filming) (lines : List Event) (holds : Option (List NamedFile)) (i : Option (List ℕ)) : Type 0 where
+pub record IsFilming (f : Filming) (lines : List Event) (holds : Option (List NamedFile)) (i : Option SwapImage) : Type 0 where
   pub inputs : Inputs
   pub state : State
-  pub image : List ℕ
+  pub image : SwapImage
   pub are : inputs.lines ≡ lines
   pub frames : 64 ≤ inputs.frames
   pub at : FilmAt inputs state f holds i image
@@ -74,40 +75,40 @@ pub record IsUnbegun (f : Filming) : Type 0 where
   pub over : f.over ≡ false
 
 -- it stands at the state of the run before the first entry
-pub record FilmBegun (A : Inputs) (f : Filming) (holds : Option (List NamedFile)) (i : Option (List ℕ)) (image : List ℕ) : Type 0 where
+pub record FilmBegun (A : Inputs) (f : Filming) (holds : Option (List NamedFile)) (i : Option SwapImage) (image : SwapImage) : Type 0 where
   pub state : State
   pub at : FilmAt A state f holds i image
   pub first : f.machine.kernel.journal ≡ []
 
 -- for all inputs that are the machine's, with these first processes and this schedule, where the files and a swap image are told
-abbrev pub BeginsFilm : Filming → Filming → List ℕ → List Event → Option (List NamedFile) → Option (List ℕ) → Option (List ℕ) → Type 0
+abbrev pub BeginsFilm : Filming → Filming → List ℕ → List Event → Option (List NamedFile) → Option SwapImage → Option SwapImage → Type 0
 BeginsFilm old new numbers lines holds i j =
-    (A : Inputs) (image : List ℕ) → IsAskedOf A old.machine numbers lines holds image → i ≡ Some image
+    (A : Inputs) (image : SwapImage) → IsAskedOf A old.machine numbers lines holds image → i ≡ Some image
     → FilmBegun A new holds j image
 
 -- One entry more.
 
 -- next units lead to where the film stands with one entry more
-pub record OneMore (A : Inputs) (s : State) (old new : Filming) (holds : Option (List NamedFile)) (image : List ℕ) (j : Option (List ℕ))
+pub record OneMore (A : Inputs) (s : State) (old new : Filming) (holds : Option (List NamedFile)) (image : SwapImage) (j : Option SwapImage)
     : Type 0 where
   pub units : List Entry
   pub state : State
-  pub behind : List ℕ
+  pub behind : SwapImage
   pub leads : Leads A s old.machine.kernel image units state new.machine.kernel j
   pub at : FilmAt A state new holds j behind
   pub longer : length new.machine.kernel.journal ≡ suc (length old.machine.kernel.journal)
 
 -- for every state of a run with these lines at which the film stands
-abbrev pub FilmGoes : Filming → Filming → List Event → Option (List NamedFile) → Option (List ℕ) → Option (List ℕ) → Type 0
+abbrev pub FilmGoes : Filming → Filming → List Event → Option (List NamedFile) → Option SwapImage → Option SwapImage → Type 0
 FilmGoes old new lines holds i j =
-    (A : Inputs) (s : State) (image : List ℕ) → A.lines ≡ lines → FilmAt A s old holds i image → OneMore A s old new holds image j
+    (A : Inputs) (s : State) (image : SwapImage) → A.lines ≡ lines → FilmAt A s old holds i image → OneMore A s old new holds image j
 
 -- The run stopped on the way from each state at which this is so, for another cause than a full journal.
-abbrev pub StopsElse : (Inputs → State → List ℕ → Type 0) → Standing → Standing → Option (List ℕ) → Stop → Type 0
+abbrev pub StopsElse : (Inputs → State → SwapImage → Type 0) → Standing → Standing → Option SwapImage → Stop → Type 0
 StopsElse IsAt old new j stop = (stop ≡ stops.JournalFull → ⊥) × StopsFrom IsAt old new j stop
 
 -- the film stands at a state of a run with these lines
-abbrev pub FilmsAt : Filming → List Event → Option (List NamedFile) → Option (List ℕ) → Inputs → State → List ℕ → Type 0
+abbrev pub FilmsAt : Filming → List Event → Option (List NamedFile) → Option SwapImage → Inputs → State → SwapImage → Type 0
 FilmsAt f lines holds i A s image = (A.lines ≡ lines) × FilmAt A s f holds i image
 
 -- the sizes of a machine, with a journal of one entry more

@@ -1,5 +1,6 @@
 -- On the way from an entry to the next one.
 use Rattle.std.specs.Prelude.{◌≡◌, ℕ, ◌+◌, ◌≤◌, List, [], length, Option, Some, None}
+use Rattle.vm_facts.specs.SwapImages.{SwapImage}
 use Rattle.vm_facts.specs.declared.entry.Entry.{Entry}
 use Rattle.vm_facts.specs.declared.event.Event.{Event}
 use Rattle.io_edge.specs.FileHolding.{NamedFile}
@@ -30,20 +31,20 @@ pub record IsReached (A : Inputs) (s : State) : Type 0 where
 -- The rest of a step.
 
 -- The machine stands at a state of a run, whatever is due there and whatever step is begun.
-pub record WayAt (m : Standing) (holds : Option (List NamedFile)) (i : Option (List ℕ)) (A : Inputs) (s : State) (image : List ℕ) : Type 0 where
+pub record WayAt (m : Standing) (holds : Option (List NamedFile)) (i : Option SwapImage) (A : Inputs) (s : State) (image : SwapImage) : Type 0 where
   pub machine : MachineAt A s m holds image
   pub told : i ≡ Some image
   pub reached : IsReached A s
 
 -- next units fill what is due and complete a step that is begun; so many instructions more are counted then
-abbrev pub StepSettled : Standing → Standing → ℕ → ℕ → Option (List ℕ) → Inputs → State → List ℕ → Type 0
+abbrev pub StepSettled : Standing → Standing → ℕ → ℕ → Option SwapImage → Inputs → State → SwapImage → Type 0
 StepSettled old new counted count j A s image = (n : ℕ) × (count ≡ counted + n) × StepLeads A s old.kernel image n new.kernel j
 
 -- The rest of a mark.
 
 -- The machine stands at a state under this mark, with nothing due and no step begun, so many instructions being counted.
-pub record RestAt (m : Standing) (last : Mark) (counted : ℕ) (holds : Option (List NamedFile)) (i : Option (List ℕ)) (A : Inputs) (s : State)
-    (image : List ℕ) : Type 0 where
+pub record RestAt (m : Standing) (last : Mark) (counted : ℕ) (holds : Option (List NamedFile)) (i : Option SwapImage) (A : Inputs) (s : State)
+    (image : SwapImage) : Type 0 where
   pub stands : StandsIn A s m holds i image counted
   pub reached : IsReached A s
   pub clear : IsClear s
@@ -51,7 +52,7 @@ pub record RestAt (m : Standing) (last : Mark) (counted : ℕ) (holds : Option (
   pub order : IsInOrder A.lines s.lines last
 
 -- next units lead to where nothing more is to come of it, so many instructions being counted
-pub record RestDone (old new : Standing) (mark : Mark) (count : ℕ) (j : Option (List ℕ)) (A : Inputs) (s : State) (image : List ℕ) : Type 0 where
+pub record RestDone (old new : Standing) (mark : Mark) (count : ℕ) (j : Option SwapImage) (A : Inputs) (s : State) (image : SwapImage) : Type 0 where
   pub units : List Entry
   pub state : State
   pub leads : Leads A s old.kernel image units state new.kernel j
@@ -78,8 +79,8 @@ pub record StaysOn (old new : Standing) (count : ℕ) : Type 0 where
 
 -- The machine stands at a state at which the last mark is over, so many lines being taken and so many instructions counted; and this
 -- process had the last turn, if any had.
-pub record OverAt (m : Standing) (schedule : List Event) (taken counted last : ℕ) (holds : Option (List NamedFile)) (i : Option (List ℕ))
-    (A : Inputs) (s : State) (image : List ℕ) : Type 0 where
+pub record OverAt (m : Standing) (schedule : List Event) (taken counted last : ℕ) (holds : Option (List NamedFile)) (i : Option SwapImage)
+    (A : Inputs) (s : State) (image : SwapImage) : Type 0 where
   pub stands : StandsIn A s m holds i image counted
   pub reached : IsReached A s
   pub over : IsOver A s
@@ -88,7 +89,7 @@ pub record OverAt (m : Standing) (schedule : List Event) (taken counted last : �
   pub turned : last_turned s.mark ≡ last
 
 -- next units lead to a state that has none
-pub record RunsOut (old new : Standing) (j : Option (List ℕ)) (A : Inputs) (s : State) (image : List ℕ) : Type 0 where
+pub record RunsOut (old new : Standing) (j : Option SwapImage) (A : Inputs) (s : State) (image : SwapImage) : Type 0 where
   pub units : List Entry
   pub state : State
   pub leads : Leads A s old.kernel image units state new.kernel j
@@ -103,8 +104,8 @@ pub record EndsRunning (old new : Standing) : Type 0 where
 -- The next mark, whose entry is there already.
 
 -- The machine stands at a state under a mark, of a run with these lines, of which so many were taken.
-pub record RoundAt (m : Standing) (last : Mark) (schedule : List Event) (taken counted : ℕ) (holds : Option (List NamedFile)) (i : Option (List ℕ))
-    (A : Inputs) (s : State) (image : List ℕ) : Type 0 where
+pub record RoundAt (m : Standing) (last : Mark) (schedule : List Event) (taken counted : ℕ) (holds : Option (List NamedFile)) (i : Option SwapImage)
+    (A : Inputs) (s : State) (image : SwapImage) : Type 0 where
   pub rest : RestAt m last counted holds i A s image
   pub are : A.lines ≡ schedule
   pub lines : s.lines ≡ taken
@@ -112,8 +113,8 @@ pub record RoundAt (m : Standing) (last : Mark) (schedule : List Event) (taken c
 -- The whole way.
 
 -- The machine stands at a state of a run with these lines, of which so many were taken, under a mark.
-pub record GoesAt (m : Standing) (last : Mark) (schedule : List Event) (taken counted : ℕ) (holds : Option (List NamedFile)) (i : Option (List ℕ))
-    (A : Inputs) (s : State) (image : List ℕ) : Type 0 where
+pub record GoesAt (m : Standing) (last : Mark) (schedule : List Event) (taken counted : ℕ) (holds : Option (List NamedFile)) (i : Option SwapImage)
+    (A : Inputs) (s : State) (image : SwapImage) : Type 0 where
   pub stands : StandsIn A s m holds i image counted
   pub reached : IsReached A s
   pub are : A.lines ≡ schedule

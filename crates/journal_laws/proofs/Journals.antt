@@ -24,15 +24,15 @@ use Rattle.journal_laws.proofs.Stretches.{units_economical}
 
 -- Machines.
 
-pub leads_follow : (A : Inputs) (s t : State) (k l : Kernel) (image : List ℕ) (us : List Entry) (j : Option (List ℕ)) → Leads A s k image us t l j
+pub leads_follow : (A : Inputs) (s t : State) (k l : Kernel) (image : SwapImage) (us : List Entry) (j : Option SwapImage) → Leads A s k image us t l j
     → Follows A s us t
 leads_follow A s t k l image us j a = makes_follows A us s t k l image a.behind a.makes
 
-pub leads_image : (A : Inputs) (s t : State) (k l : Kernel) (image : List ℕ) (us : List Entry) (j : Option (List ℕ)) → At A s k image
+pub leads_image : (A : Inputs) (s t : State) (k l : Kernel) (image : SwapImage) (us : List Entry) (j : Option SwapImage) → At A s k image
     → (a : Leads A s k image us t l j) → a.behind ≡ swapped_from A s us image
 leads_image A s t k l image us j at a = images_same A us s t k l image a.behind at.fit at.run at.stands a.makes
 
-pub leads_told : (A : Inputs) (s t : State) (k l : Kernel) (image : List ℕ) (us : List Entry) (j : Option (List ℕ)) → At A s k image
+pub leads_told : (A : Inputs) (s t : State) (k l : Kernel) (image : SwapImage) (us : List Entry) (j : Option SwapImage) → At A s k image
     → Leads A s k image us t l j → j ≡ Some (swapped_from A s us image)
 leads_told A s t k l image us j at a = a.told ∙ ap (λ (x : List ℕ). Some x) (leads_image A s t k l image us j at a)
 
@@ -60,7 +60,7 @@ module _ (A : Inputs) (hs : Holdings) (us : List Entry) (t : State) (can : CanRu
   pub journal_economical : length A.first ≤ 64 → Economy A (start A hs) us
   journal_economical l = units_economical A (start A hs) t us can.images (start_run A hs can) f (let few = few_started A.images 1 A.first in omega (arith, few, l))
 
-pub journal_image : (A : Inputs) (hs : Holdings) (t : State) (k l : Kernel) (image : List ℕ) (us : List Entry) (j : Option (List ℕ)) → CanRun A hs
+pub journal_image : (A : Inputs) (hs : Holdings) (t : State) (k l : Kernel) (image : SwapImage) (us : List Entry) (j : Option SwapImage) → CanRun A hs
     → StandsAt A (start A hs) k image
     → Leads A (start A hs) k image us t l j → j ≡ Some (swapped A (appended [] us) image)
 journal_image A hs t k l image us j can at a =

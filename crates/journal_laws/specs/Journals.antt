@@ -1,5 +1,6 @@
 -- What stands of the units of a run, and of the journal that they make.
 use Rattle.std.specs.Prelude.{◌≡◌, ℕ, ◌≤◌, List, [], length, Option, Some}
+use Rattle.vm_facts.specs.SwapImages.{SwapImage}
 use Rattle.vm_facts.specs.declared.entry.Entry.{Entry}
 use Rattle.swap_book.specs.Holdings.{Holdings}
 use Rattle.flat_state.specs.Flat.{Inputs}
@@ -29,7 +30,7 @@ UnitsAreEconomical = (A : Inputs) (s t : State) (us : List Entry)
 
 -- the swap image that a machine comes to with these units is the one that they say
 abbrev pub LeadsSayImage : Type 0
-LeadsSayImage = (A : Inputs) (s t : State) (k l : Kernel) (image : List ℕ) (us : List Entry) (j : Option (List ℕ))
+LeadsSayImage = (A : Inputs) (s t : State) (k l : Kernel) (image : SwapImage) (us : List Entry) (j : Option SwapImage)
     → At A s k image → Leads A s k image us t l j → j ≡ Some (swapped_from A s us image)
 
 -- Next units, from the start of a run.
@@ -51,5 +52,5 @@ JournalsAreEconomical = (A : Inputs) (hs : Holdings) (us : List Entry) (t : Stat
 
 -- the swap image that a machine comes to is the one that the journal says
 abbrev pub JournalsLeaveImage : Type 0
-JournalsLeaveImage = (A : Inputs) (hs : Holdings) (t : State) (k l : Kernel) (image : List ℕ) (us : List Entry) (j : Option (List ℕ))
+JournalsLeaveImage = (A : Inputs) (hs : Holdings) (t : State) (k l : Kernel) (image : SwapImage) (us : List Entry) (j : Option SwapImage)
     → CanRun A hs → StandsAt A (start A hs) k image → Leads A (start A hs) k image us t l j → j ≡ Some (swapped A (appended [] us) image)

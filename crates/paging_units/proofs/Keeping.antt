@@ -1,5 +1,6 @@
 -- What a machine stands for, through units of paging.
 use Rattle.std.proofs.Common.{◌≡◌, ℕ, ◌*◌, List, [], ◌∷◌, length, Option, Some, None, sym, ap, ◌∙◌, subst}
+use Rattle.vm_facts.specs.SwapImages.{SwapImage}
 use Rattle.vm_facts.specs.declared.page.Page.TheVariants.{Text}
 use Rattle.vm_facts.specs.declared.entry.Entry.{Entry}
 use Rattle.io_edge.specs.FileHolding.{NamedFile}
@@ -23,7 +24,7 @@ use Rattle.paging_units.proofs.Units.{unit_place}
 
 -- Sizes and images of spaces stay.
 
-place_shaped : (g : Ground) (e : Entry) (k l : Kernel) (at : ℕ) (i : Option (List ℕ)) → MadeBy g e k i l → Shaped k.place (place_entry g.locked at k.place e)
+place_shaped : (g : Ground) (e : Entry) (k l : Kernel) (at : ℕ) (i : Option SwapImage) → MadeBy g e k i l → Shaped k.place (place_entry g.locked at k.place e)
 place_shaped g (entries.Zero q) k l at i h = filled_shaped k.place q
 place_shaped g (entries.Copy q) k l at i h = filled_shaped k.place q
 place_shaped g (entries.Get q lo n) k l at i h = get_run_shaped k.place (read_errand k.place q) (pages_from q lo n)
@@ -33,11 +34,11 @@ place_shaped g (entries.Put q n) k l at i h = put_step_shaped k.place q (pages_f
 place_shaped g entries.Done k l at i h = done_shaped k.place
 place_shaped g _ k l at i h = absurd h
 
-pub unit_shaped : (g : Ground) (e : Entry) (k l : Kernel) (i : Option (List ℕ)) → MadeBy g e k i l → Shaped k.place l.place
+pub unit_shaped : (g : Ground) (e : Entry) (k l : Kernel) (i : Option SwapImage) → MadeBy g e k i l → Shaped k.place l.place
 unit_shaped g e k l i h =
     subst (λ (p : Placement). Shaped k.place p) (sym (unit_place g e k l i h)) (place_shaped g e k l (length (append k.journal e)) i h)
 
-pub made_shaped : (g : Ground) (us : List Entry) (k l : Kernel) (i j : Option (List ℕ)) → Made g us k i l j → Shaped k.place l.place
+pub made_shaped : (g : Ground) (us : List Entry) (k l : Kernel) (i j : Option SwapImage) → Made g us k i l j → Shaped k.place l.place
 made_shaped g [] k l i j a = subst (λ (x : Kernel). Shaped k.place x.place) a.0 (shaped_self k.place)
 made_shaped g (e ∷ us) k l i j a = shaped_both k.place a.next.place l.place (unit_shaped g e k a.next i a.made) (made_shaped g us a.next l a.image j a.rest)
 
@@ -46,17 +47,17 @@ fits_shaped p q s images f = λ i. f i ∙ ap (λ (n : ℕ). 1024 * n) (sym (siz
 
 -- The flat states for which a machine stands.
 
-stands_flat : (k l : Kernel) (images : List NamedImage) (i : Option (List ℕ)) (flat : FlatState) → KeepsFlat k l → StandsTold k images i flat
+stands_flat : (k l : Kernel) (images : List NamedImage) (i : Option SwapImage) (flat : FlatState) → KeepsFlat k l → StandsTold k images i flat
     → StandsTold l images i flat
 stands_flat k l images None flat f h = absurd h
-stands_flat k l images (Some image) flat f h = f images image flat h
+stands_flat k l images (Some image) flat f h = f images image.bytes flat h
 
 -- a step that calls no device
-pub keeps_flat : (old new : Standing) (holds : Option (List NamedFile)) (i : Option (List ℕ)) → KeepsFlat old.kernel new.kernel → KeepsThrough old new holds i i
+pub keeps_flat : (old new : Standing) (holds : Option (List NamedFile)) (i : Option SwapImage) → KeepsFlat old.kernel new.kernel → KeepsThrough old new holds i i
 keeps_flat old new holds i f = λ images flat l t h. stands_flat old.kernel new.kernel images i flat f h
 
 -- one part after another
-pub keeps_both : (old next new : Standing) (holds later : Option (List NamedFile)) (a b c : Option (List ℕ)) → next.images ≡ old.images
+pub keeps_both : (old next new : Standing) (holds later : Option (List NamedFile)) (a b c : Option SwapImage) → next.images ≡ old.images
     → Shaped old.kernel.place next.kernel.place → later ≡ holds
     → KeepsThrough old next holds a b → KeepsThrough next new later b c → KeepsThrough old new holds a c
 keeps_both old next new holds later a b c g p e f s images flat l t h =

@@ -1,6 +1,7 @@
 -- A call that stops at a unit.
 use Rattle.std.proofs.Common.{◌≡◌, ◌⊎◌, ◌↔◌, inl, inr, ℕ, ◌<◌, ◌≤◌, Bool, List, [], ◌∷◌, length, map, Option, Some, None, Result, Ok, Err, OnErr, IfErr, refl, sym, ap, ◌∙◌, subst, arith}
 use Rattle.std.proofs.lemmas.List.{length-append}
+use Rattle.vm_facts.specs.SwapImages.{SwapImage, with_requests}
 use Rattle.vm_facts.specs.declared.page.Page.{Page}
 use Rattle.vm_facts.specs.declared.entry.Entry.{Entry}
 use Rattle.vm_facts.specs.declared.entry.Entry.TheVariants as entries
@@ -12,7 +13,8 @@ use Rattle.flat_state.specs.Journal.{append, IsPlain}
 use Rattle.flat_state.proofs.Joins.{append_plain}
 use Rattle.page_model.specs.Placement.{Placement, Transfer, Source, FromSwap, FromFile}
 use Rattle.page_model.specs.Holdings.{Holdings}
-use Rattle.kernel_model.specs.Kernel.{Kernel}
+use Rattle.kernel_model.specs.Kernel.{Kernel, image_after_of}
+use Rattle.kernel_model.specs.SwapRequests.{oldest_asks}
 use Rattle.kernel_model.specs.Coupled.{outline_kept}
 use Rattle.machine_state.specs.Machine.{Standing}
 use Rattle.machine_state.specs.Conditions.{HasStopped}
@@ -105,7 +107,7 @@ err_cause {A} stop c = elim c [
 ]
 
 -- a call of the machine that makes this unit and calls no device
-pub call_stops : {A : Type 0} (r : Result A Stop) (e : Entry) (old new : Standing) (i : Option (List ℕ))
+pub call_stops : {A : Type 0} (r : Result A Stop) (e : Entry) (old new : Standing) (i : Option SwapImage)
     → ((stop : Stop) → (stop ≡ stops.JournalFull) ⊎ (stop ≡ stops.NoMemory) → CauseBy e stop old.kernel.place.transfers)
     → ((stop : Stop) → SpoilsBy e stop old.kernel i i)
     → ((r ≡ Err stops.JournalFull) ↔ ((old.params.journal ≤ length old.kernel.journal) × (length old.kernel.journal < length (append old.kernel.journal e))))
@@ -147,7 +149,7 @@ stops_some ts stops.SwapReadFault h = some_reads FromSwap ts h
 stops_some ts stops.SwapWriteFault h = some_writes ts h
 
 -- the call that ends the oldest transfer
-pub done_stops : (stop : Stop) (old new : Standing) (i j : Option (List ℕ)) → HasStopped old new → StopsFor (Err stop) old.kernel.place.transfers
+pub done_stops : (stop : Stop) (old new : Standing) (i j : Option SwapImage) → HasStopped old new → StopsFor (Err stop) old.kernel.place.transfers
     → (((let r : Result Bool Stop = Err stop in r) ≡ Err stops.JournalFull)
     ↔ ((0 < length old.kernel.place.transfers) × (old.params.journal ≤ length old.kernel.journal)))
     → LosesFor (Err stop) old new → SwapAfter (Err stop) old.kernel i j
@@ -168,7 +170,7 @@ done_stops stop old new i j s c full lost image w = record {
 }
 
 -- a stop where some unit comes next, after a part of the call that left its sizes and images
-pub next_later : (coming : Option Entry) (k : Kernel) (old between new : Standing) (i j : Option (List ℕ)) (stop : Stop) → IsSameBeside old between
+pub next_later : (coming : Option Entry) (k : Kernel) (old between new : Standing) (i j : Option SwapImage) (stop : Stop) → IsSameBeside old between
     → StopsAtNext coming k between new i j stop → StopsAtNext coming k old new i j stop
 next_later coming k old between new i j stop b s = record {
   entry = s.entry;
@@ -180,14 +182,14 @@ next_later coming k old between new i j stop b s = record {
 
 -- a call that stops where its first unit comes next
 pub stops_at_first : (g : Ground) (Leads : List Entry → Kernel → Type 0) (next_at : Placement → Option Entry) (old new : Standing)
-    (i j : Option (List ℕ)) (stop : Stop)
+    (i j : Option SwapImage) (stop : Stop)
     → Leads [] old.kernel → StopsAtNext (next_at old.kernel.place) old.kernel old new i j stop → StopsAmong g Leads next_at old new i j stop
 stops_at_first g Leads next_at old new i j stop leads there =
     record { units = []; at = old.kernel; image = i; made = (refl, refl); leads = leads; there = there }
 
 -- a unit, and then a call that stops on its way
 pub stops_after_unit : (Leads Later : List Entry → Kernel → Type 0) (next_at : Placement → Option Entry) (e : Entry) (old between new : Standing)
-    (holds later : Option (List NamedFile)) (locked : List Page) (i h j : Option (List ℕ)) (stop : Stop) → later ≡ holds
+    (holds later : Option (List NamedFile)) (locked : List Page) (i h j : Option SwapImage) (stop : Stop) → later ≡ holds
     → MakesUnit (ground old holds locked) e old between i h → ((us : List Entry) (k : Kernel) → Later us k → Leads (e ∷ us) k)
     → StopsAmong (ground between later locked) Later next_at between new h j stop → StopsAmong (ground old holds locked) Leads next_at old new i j stop
 stops_after_unit Leads Later next_at e old between new holds later locked i h j stop same m on f = record {
@@ -206,6 +208,7 @@ stops_after_unit Leads Later next_at e old between new holds later locked i h j 
 }
 
 -- where no transfer is in flight the end of none leaves the image
-pub image_idle : (k : Kernel) (i j : Option (List ℕ)) → k.place.transfers ≡ [] → ImageAfter k i j → j ≡ i
+pub image_idle : (k : Kernel) (i j : Option SwapImage) → k.place.transfers ≡ [] → ImageAfter k i j → j ≡ i
 image_idle k None j e h = h
-image_idle k (Some image) j e h = h ∙ ap (λ (ts : List Transfer). Some (Rattle.kernel_model.specs.Kernel.image_after_of k image ts)) e
+image_idle k (Some image) j e h =
+    h ∙ ap (λ (ts : List Transfer). Some (with_requests (oldest_asks k.holdings ts) (record image { bytes = image_after_of k image.bytes ts }))) e

@@ -1,5 +1,6 @@
 -- Which kernels units of paging lead to, and what they make of the swap image.
 use Rattle.std.specs.Prelude.{◌≡◌, ℕ, List, [], ◌∷◌, Option}
+use Rattle.vm_facts.specs.SwapImages.{SwapImage}
 use Rattle.vm_facts.specs.declared.page.Page.{Page}
 use Rattle.vm_facts.specs.declared.entry.Entry.{Entry}
 use Rattle.vm_facts.specs.declared.entry.Entry.TheVariants as entries
@@ -19,7 +20,7 @@ abbrev pub ground : Standing → Option (List NamedFile) → List Page → Groun
 ground m holds locked = record { locked = locked; from = sources m holds }
 
 -- one unit, with the swap image before it, where that is told; of the others none is a unit of paging
-abbrev pub MadeBy : Ground → Entry → Kernel → Option (List ℕ) → Kernel → Type 0
+abbrev pub MadeBy : Ground → Entry → Kernel → Option SwapImage → Kernel → Type 0
 MadeBy g (entries.Zero q) k i l = l ≡ zero_step k q
 MadeBy g (entries.Copy q) k i l = l ≡ copy_step k q
 MadeBy g (entries.Get q lo n) k i l = l ≡ get_step k q lo n
@@ -29,32 +30,32 @@ MadeBy g (entries.Put q n) k i l = l ≡ push_step k q n
 MadeBy g entries.Done k i l = IsDone g.from i k l
 MadeBy g _ k i l = ⊥
 
--- the swap image, where it is told, before a unit and after it: the end of a transfer alone may change it
-abbrev pub ImageBy : Entry → Kernel → Option (List ℕ) → Option (List ℕ) → Type 0
+-- the swap image, where it is told, before a unit and after it: the end of a transfer alone may change it, or ask anything
+abbrev pub ImageBy : Entry → Kernel → Option SwapImage → Option SwapImage → Type 0
 ImageBy entries.Done k i j = ImageAfter k i j
 ImageBy _ k i j = j ≡ i
 
 -- a unit, and then something is so of the kernel and the image after it
-pub record MadeFirst (g : Ground) (e : Entry) (k : Kernel) (i : Option (List ℕ)) (Rest : Kernel → Option (List ℕ) → Type 0) : Type 0 where
+pub record MadeFirst (g : Ground) (e : Entry) (k : Kernel) (i : Option SwapImage) (Rest : Kernel → Option SwapImage → Type 0) : Type 0 where
   pub next : Kernel
-  pub image : Option (List ℕ)
+  pub image : Option SwapImage
   pub made : MadeBy g e k i next
   pub told : ImageBy e k i image
   pub rest : Rest next image
 
 -- these units, in order, lead from a kernel with a swap image to another
-abbrev pub Made : Ground → List Entry → Kernel → Option (List ℕ) → Kernel → Option (List ℕ) → Type 0
+abbrev pub Made : Ground → List Entry → Kernel → Option SwapImage → Kernel → Option SwapImage → Type 0
 Made g [] k i l j = (k ≡ l) × (i ≡ j)
 Made g (e ∷ us) k i l j = MadeFirst g e k i (λ m h. Made g us m h l j)
 
 -- Of a machine: a call that makes one unit, and leaves its sizes and images.
-pub record MakesUnit (g : Ground) (e : Entry) (old new : Standing) (i j : Option (List ℕ)) : Type 0 where
+pub record MakesUnit (g : Ground) (e : Entry) (old new : Standing) (i j : Option SwapImage) : Type 0 where
   pub made : MadeBy g e old.kernel i new.kernel
   pub told : ImageBy e old.kernel i j
   pub beside : IsSameBeside old new
 
 -- a call that makes these units in order, and leaves the machine's sizes and images
-pub record Makes (g : Ground) (us : List Entry) (old new : Standing) (i j : Option (List ℕ)) : Type 0 where
+pub record Makes (g : Ground) (us : List Entry) (old new : Standing) (i j : Option SwapImage) : Type 0 where
   pub made : Made g us old.kernel i new.kernel j
   pub beside : IsSameBeside old new
 

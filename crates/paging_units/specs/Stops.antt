@@ -1,5 +1,6 @@
 -- What is known of a call that stops where a unit comes next.
 use Rattle.std.specs.Prelude.{◌≡◌, ◌⊎◌, ◌↔◌, ℕ, ◌<◌, ◌≤◌, List, length, map, Bool, true, Option, Some, Result, Err}
+use Rattle.vm_facts.specs.SwapImages.{SwapImage}
 use Rattle.vm_facts.specs.declared.entry.Entry.{Entry}
 use Rattle.vm_facts.specs.declared.entry.Entry.TheVariants as entries
 use Rattle.vm_facts.specs.declared.stop.Stop.{Stop}
@@ -24,10 +25,12 @@ CauseBy (entries.SwapOut pid) stop ts = (stop ≡ stops.JournalFull) ⊎ ((stop 
 CauseBy (entries.SwapIn pid) stop ts = (stop ≡ stops.JournalFull) ⊎ ((stop ≡ stops.NoMemory) ⊎ (stop ≡ stops.SwapReadFault))
 CauseBy _ stop ts = (stop ≡ stops.JournalFull) ⊎ (stop ≡ stops.NoMemory)
 
--- the swap image after a unit that stops the run: only a write that failed changes it
-abbrev pub SpoilsBy : Entry → Stop → Kernel → Option (List ℕ) → Option (List ℕ) → Type 0
+-- the swap image after a unit that stops the run: it has the requests up to the one that failed, and only a write that failed
+-- changes a byte
+abbrev pub SpoilsBy : Entry → Stop → Kernel → Option SwapImage → Option SwapImage → Type 0
 SpoilsBy entries.Done stop k i j = SwapAfter (Err stop) k i j
 SpoilsBy (entries.SwapOut pid) stop k i j = let r : Result Bool Stop = Err stop in SwapBehind r k pid i j
+SpoilsBy (entries.SwapIn pid) stop k i j = let r : Result Bool Stop = Err stop in SwapBehind r k pid i j
 SpoilsBy _ stop k i j = j ≡ i
 
 -- The machine has this kernel, and no pieces wait: it is as it was, its bytes and registers too.
@@ -70,7 +73,7 @@ LeftBy stops.SwapWriteFault k new = StopsLess k new ⊎ StopsPut k new
 
 -- The call stops where this unit comes next, in a kernel with a swap image, with the journal as it was in that kernel. The journal
 -- was full exactly where it was at its bound and the unit wouldn't join its last entry. The machine is left there by the cause.
-pub record StopsAt (e : Entry) (k : Kernel) (i : Option (List ℕ)) (stop : Stop) (new : Standing) (j : Option (List ℕ)) : Type 0 where
+pub record StopsAt (e : Entry) (k : Kernel) (i : Option SwapImage) (stop : Stop) (new : Standing) (j : Option SwapImage) : Type 0 where
   pub journal : new.kernel.journal ≡ k.journal
   pub held : LeftBy stop k new
   pub full : (stop ≡ stops.JournalFull) ↔ ((new.params.journal ≤ length k.journal) × (length k.journal < length (append k.journal e)))
@@ -78,7 +81,7 @@ pub record StopsAt (e : Entry) (k : Kernel) (i : Option (List ℕ)) (stop : Stop
   pub image : SpoilsBy e stop k i j
 
 -- A call stops where some unit comes next, in a kernel with a swap image. The sizes and images of its machine are as before.
-pub record StopsAtNext (coming : Option Entry) (k : Kernel) (old new : Standing) (i j : Option (List ℕ)) (stop : Stop) : Type 0 where
+pub record StopsAtNext (coming : Option Entry) (k : Kernel) (old new : Standing) (i j : Option SwapImage) (stop : Stop) : Type 0 where
   pub entry : Entry
   pub next : coming ≡ Some entry
   pub stops : StopsAt entry k i stop new j
@@ -88,10 +91,10 @@ pub record StopsAtNext (coming : Option Entry) (k : Kernel) (old new : Standing)
 -- A call stops on its way. These units were made, of which something is so with the kernel to which they lead; there it stops where
 -- some unit comes next.
 pub record StopsAmong (g : Ground) (Leads : List Entry → Kernel → Type 0) (next_at : Placement → Option Entry) (old new : Standing)
-    (i j : Option (List ℕ)) (stop : Stop) : Type 0 where
+    (i j : Option SwapImage) (stop : Stop) : Type 0 where
   pub units : List Entry
   pub at : Kernel
-  pub image : Option (List ℕ)
+  pub image : Option SwapImage
   pub made : Made g units old.kernel i at image
   pub leads : Leads units at
   pub there : StopsAtNext (next_at at.place) at old new image j stop

@@ -1,6 +1,7 @@
 -- A process that has left its space may start an image, once its pieces are found.
 use Rattle.std.proofs.Common.{◌≡◌, ◌⊎◌, ◌<◌, ◌≤◌, ℕ, Bool, true, false, List, length, Option, refl, sym, ap, ◌∙◌, subst, inl, inr}
 use Rattle.std.specs.Prelude.{Result, Ok, Err, IfOk, OnOk, IfErr}
+use Rattle.vm_facts.specs.SwapImages.{SwapImage}
 use Rattle.io_edge.specs.FileHolding.{NamedFile}
 use Rattle.vm_facts.specs.declared.page.Page.{Page}
 use Rattle.vm_facts.specs.declared.page.Page.TheVariants.{Stack}
@@ -48,7 +49,7 @@ use Rattle.proc_calls.proofs.Leaving.{GoesOn, settled_goes, space_stays, lender_
 -- Once its space is settled.
 
 can_start_settled : (m b : Standing) (hs : Holdings) (pid image : ℕ) (regs : Regs) (top : List ℕ) (holds : Option (List NamedFile))
-    (before after : Option (List ℕ))
+    (before after : Option SwapImage)
     → IsCaller m pid → has_lender m.kernel.processes pid ≡ false → HasSettled m b (space_of_pid m.kernel pid) holds before after → image_found image b ≡ Ok hs
     → 0 < image → image ≤ length m.images → length top ≡ 1024 → CanApply (with_pieces b hs) pid (call_entry pid Execve regs) (Exec image top)
 can_start_settled m b hs pid image regs top holds before after c alone s found above within page = record {
@@ -117,7 +118,7 @@ can_start_returned m hs pid image regs top c g found above within page = record 
 
 -- Either way.
 
-module _ (m n : Standing) (pid image : ℕ) (holds : Option (List NamedFile)) (before after : Option (List ℕ)) (c : IsCaller m pid) where
+module _ (m n : Standing) (pid image : ℕ) (holds : Option (List NamedFile)) (before after : Option SwapImage) (c : IsCaller m pid) where
   can_by : (lent : Bool) (b : Standing) (hs : Holdings) (regs : Regs) (top : List ℕ) → has_lender m.kernel.processes pid ≡ lent → HasLeftBy lent m b pid holds before after
       → (has_lender m.kernel.processes pid ≡ true → HasGivenBack m.kernel b.kernel pid (lender_among m.kernel.processes pid)) → image_found image b ≡ Ok hs
       → 0 < image → image ≤ length m.images → length top ≡ 1024 → CanApply (with_pieces b hs) pid (call_entry pid Execve regs) (Exec image top)
@@ -145,12 +146,12 @@ module _ (m n : Standing) (pid image : ℕ) (holds : Option (List NamedFile)) (b
 
 -- What was found.
 
-pub found_of : (fits b : Bool) (m n : Standing) (pid image : ℕ) (holds : Option (List NamedFile)) (before after : Option (List ℕ)) → fits ≡ b
+pub found_of : (fits b : Bool) (m n : Standing) (pid image : ℕ) (holds : Option (List NamedFile)) (before after : Option SwapImage) → fits ≡ b
     → Finds (image_found image) fits m n pid holds before after → FindsBy b (image_found image) m n pid holds before after
 found_of fits b m n pid image holds before after e f = subst (λ (x : Bool). FindsBy x (image_found image) m n pid holds before after) e f.finds
 
 pub exec_ok : (r : Result Called Stop) (old m new : Standing) (pid image : ℕ) (regs after : Regs) (top : List ℕ) (asked : Result Reply Refused)
-    (holds : Option (List NamedFile)) (i j : Option (List ℕ)) → m ≡ old → asked ≡ Ok (Does after (Exec image top)) → IfOk r (λ called. called ≡ calls.Ready)
+    (holds : Option (List NamedFile)) (i j : Option SwapImage) → m ≡ old → asked ≡ Ok (Does after (Exec image top)) → IfOk r (λ called. called ≡ calls.Ready)
     → OnOk r (Starts m new pid regs after image top holds i j) → IfOk r (λ called. ExecComes old new pid regs asked holds i j called)
 exec_ok (Err stop) old m new pid image regs after top asked holds i j same e ready s = tt
 exec_ok (Ok called) old m new pid image regs after top asked holds i j same e ready s =
@@ -160,7 +161,7 @@ exec_ok (Ok called) old m new pid image regs after top asked holds i j same e re
 -- Where it stops.
 
 pub reply_stops : (stop : Stop) (fits : Bool) (m asked new : Standing) (pid image : ℕ) (after : Regs) (top : List ℕ)
-    (holds : Option (List NamedFile)) (i j : Option (List ℕ))
+    (holds : Option (List NamedFile)) (i j : Option SwapImage)
     → fits ≡ true → Finds (image_found image) fits m asked pid holds i j → m.before ≡ m.kernel.holdings
     → length asked.kernel.journal < asked.params.journal → HasStopped asked new
     → ((let r : Result Called Stop = Err stop in r) ≡ Err stops.JournalFull) ⊎ ((let r : Result Called Stop = Err stop in r) ≡ Err stops.NoMemory)
@@ -181,7 +182,7 @@ reply_stops stop fits m asked new pid image after top holds i j e f w room s cau
     )))
 
 pub fill_stops : (stop : Stop) (fits : Bool) (m asked between new : Standing) (pid image : ℕ) (after : Regs) (top : List ℕ) (page : Page)
-    (holds later : Option (List NamedFile)) (i told j : Option (List ℕ))
+    (holds later : Option (List NamedFile)) (i told j : Option SwapImage)
     → later ≡ holds → fits ≡ true → page ≡ Stack m.kernel.next_sid 0 → Finds (image_found image) fits m asked pid holds i told
     → Answered asked between pid Execve after (Exec image top) → StopsStart page between new later told j stop
     → StopsImage m new pid after image top holds i j stop
@@ -196,7 +197,7 @@ fill_stops stop fits m asked between new pid image after top page holds later i 
     )
 
 pub exec_stops : (r : Result Called Stop) (old m new : Standing) (pid image : ℕ) (after : Regs) (top : List ℕ) (asked : Result Reply Refused)
-    (holds : Option (List NamedFile)) (i j : Option (List ℕ))
+    (holds : Option (List NamedFile)) (i j : Option SwapImage)
     → m ≡ old → asked ≡ Ok (Does after (Exec image top)) → IfErr r (StopsImage m new pid after image top holds i j)
     → IfErr r (StopsExec old new pid asked holds i j)
 exec_stops (Ok called) old m new pid image after top asked holds i j same e s = tt

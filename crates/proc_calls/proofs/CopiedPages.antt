@@ -2,6 +2,7 @@
 use Rattle.std.proofs.Common.{◌≡◌, inl, inr, ℕ, suc, ◌<◌, ◌≤◌, List, [], ◌∷◌, length, Option, Some, None, refl, sym, ap, ◌∙◌, subst, arith}
 use Rattle.std.specs.Prelude.{Result, Ok, Err, OnOk, OnErr, IfErr, MatchResult}
 use Rattle.std.proofs.lemmas.Option.{same_Some}
+use Rattle.vm_facts.specs.SwapImages.{SwapImage}
 use Rattle.vm_facts.specs.declared.page.Page.{Page}
 use Rattle.vm_facts.specs.declared.entry.Entry.TheVariants as entries
 use Rattle.vm_facts.specs.declared.stop.Stop.{Stop}
@@ -28,14 +29,14 @@ use Rattle.proc_calls.proofs.Copies.{Stay, stay_both, serves_stay, forces_stay, 
 
 -- One page.
 
-pub served_stay : (child parent : Page) (old served : Standing) (holds : Option (List NamedFile)) (i h : Option (List ℕ))
+pub served_stay : (child parent : Page) (old served : Standing) (holds : Option (List NamedFile)) (i h : Option SwapImage)
     → CanGoOn old → IsCopyFirst old.kernel.place child parent → ServesNow (parent ∷ []) parent old served holds i h
     → Stay old.kernel.place served.kernel.place
 served_stay child parent old served holds i h on f s =
     serves_stay s.0.units old.kernel.place served.kernel.place (parent ∷ []) parent on.running.sound.owner.frames
     (can_serve old.kernel.place child parent on.running.due f) s.0.leads
 
-pub forced_stay : (parent : Page) (old served roomy : Standing) (holds : Option (List NamedFile)) (h j : Option (List ℕ))
+pub forced_stay : (parent : Page) (old served roomy : Standing) (holds : Option (List NamedFile)) (h j : Option SwapImage)
     → Stay old.kernel.place served.kernel.place
     → Forced (parent ∷ []) served roomy holds h j → Stay old.kernel.place roomy.kernel.place
 forced_stay parent old served roomy holds h j s f =
@@ -51,16 +52,16 @@ copied_as roomy new child step rest = rest ∙ ap (λ (k : Kernel). let s : Stan
 
 -- A frame is forced, or the run stops at that, over the files as they were before.
 
-same_files : (parent : Page) (served roomy : Standing) (holds later : Option (List NamedFile)) (h j : Option (List ℕ)) → later ≡ holds
+same_files : (parent : Page) (served roomy : Standing) (holds later : Option (List NamedFile)) (h j : Option SwapImage) → later ≡ holds
     → Forced (parent ∷ []) served roomy later h j → Forced (parent ∷ []) served roomy holds h j
 same_files parent served roomy holds later h j e f = subst (λ (x : Option (List NamedFile)). Forced (parent ∷ []) served roomy x h j) e f
 
-pub forcing_stops : (parent : Page) (served new : Standing) (stop : Stop) (holds later : Option (List NamedFile)) (h j : Option (List ℕ)) → later ≡ holds
+pub forcing_stops : (parent : Page) (served new : Standing) (stop : Stop) (holds later : Option (List NamedFile)) (h j : Option SwapImage) → later ≡ holds
     → StopsForcing (parent ∷ []) served stop new later h j → StopsForcing (parent ∷ []) served stop new holds h j
 forcing_stops parent served new stop holds later h j e f = subst (λ (x : Option (List NamedFile)). StopsForcing (parent ∷ []) served stop new x h j) e f
 
 pub copied_by : {A : Type 0} (r : Result A Stop) (child parent : Page) (old served roomy new : Standing) (holds later : Option (List NamedFile))
-    (i h j : Option (List ℕ)) → later ≡ holds → ServesNow (parent ∷ []) parent old served holds i h → Forced (parent ∷ []) served roomy later h j
+    (i h j : Option SwapImage) → later ≡ holds → ServesNow (parent ∷ []) parent old served holds i h → Forced (parent ∷ []) served roomy later h j
     → KeepsThrough served roomy later h j → OnOk r (new.kernel ≡ copy_step roomy.kernel child)
     → OnOk r (new ≡ record roomy { kernel = new.kernel; room = None })
     → OnOk r (KeepsFlat roomy.kernel new.kernel) → IfErr r (λ stop. StopsAt (entries.Copy child) roomy.kernel j stop new j)
@@ -88,7 +89,7 @@ copied_by (Err stop) child parent old served roomy new holds later i h j e s f k
     )
 
 pub goes_on : {A : Type 0} (r : Result A Stop) (child parent : Page) (old served roomy new : Standing) (holds later : Option (List NamedFile))
-    (i h j : Option (List ℕ))
+    (i h j : Option SwapImage)
     → Stay old.kernel.place roomy.kernel.place → ServesNow (parent ∷ []) parent old served holds i h → Forced (parent ∷ []) served roomy later h j
     → OnOk r (new.kernel ≡ copy_step roomy.kernel child) → OnOk r (new ≡ record roomy { kernel = new.kernel; room = None }) → OnOk r (OnceCopied child old new)
 goes_on (Err stop) child parent old served roomy new holds later i h j stay s f step rest = tt
@@ -131,14 +132,14 @@ copy_first p sid child parent e f = record { others = f.others; first = f.first 
 pub others_due : (p r : Placement) (sid : ℕ) (child : Page) (f : FirstOf sid p.due child) → r.due ≡ due_after p.due child → r.due ≡ f.others
 others_due p r sid child f e = e ∙ ap (λ (ds : List Due). due_after ds child) f.first ∙ first_gone child (in_space sid child) f.others
 
-pub stops_first : (ds others : List Due) (child parent : Page) (old new : Standing) (holds : Option (List NamedFile)) (i j : Option (List ℕ)) (stop : Stop)
+pub stops_first : (ds others : List Due) (child parent : Page) (old new : Standing) (holds : Option (List NamedFile)) (i j : Option SwapImage) (stop : Stop)
     → ds ≡ CopyOf child parent ∷ others → StopsPage child parent old new holds i j stop → StopsCopying ds old new holds i j stop
 stops_first ds others child parent old new holds i j stop e s =
     subst (λ (xs : List Due). StopsCopying xs old new holds i j stop) (sym e) (inl s)
 
 pub copies_more : {A : Type 0} (r : Result A Stop) (ds others dues : List Due) (child parent : Page) (old next new : Standing)
     (holds later : Option (List NamedFile))
-    (i h j : Option (List ℕ)) → ds ≡ CopyOf child parent ∷ others → dues ≡ others → later ≡ holds → CopiesPage child parent old next holds i h
+    (i h j : Option SwapImage) → ds ≡ CopyOf child parent ∷ others → dues ≡ others → later ≡ holds → CopiesPage child parent old next holds i h
     → MatchResult r (λ x. CopiesAll dues next new later h j) (StopsCopying dues next new later h j)
     → MatchResult r (λ x. CopiesAll ds old new holds i j) (StopsCopying ds old new holds i j)
 copies_more (Ok x) ds others dues child parent old next new holds later i h j e d same page more =
@@ -185,16 +186,16 @@ files_next old next a b r e f =
 
 -- What is copied so far and what is left make the whole.
 
-pub record CopiesSoFar (old now : Standing) (holds later : Option (List NamedFile)) (i h : Option (List ℕ)) : Type 0 where
-  pub more : (new : Standing) (j : Option (List ℕ)) → CopiesAll now.kernel.place.due now new later h j → CopiesAll old.kernel.place.due old new holds i j
-  pub stops : (stop : Stop) (new : Standing) (j : Option (List ℕ)) → StopsCopying now.kernel.place.due now new later h j stop
+pub record CopiesSoFar (old now : Standing) (holds later : Option (List NamedFile)) (i h : Option SwapImage) : Type 0 where
+  pub more : (new : Standing) (j : Option SwapImage) → CopiesAll now.kernel.place.due now new later h j → CopiesAll old.kernel.place.due old new holds i j
+  pub stops : (stop : Stop) (new : Standing) (j : Option SwapImage) → StopsCopying now.kernel.place.due now new later h j stop
       → StopsCopying old.kernel.place.due old new holds i j stop
   pub on : (new : Standing) → HasCopied now new → HasCopied old new
 
-pub copies_none : (old : Standing) (holds : Option (List NamedFile)) (i : Option (List ℕ)) → CopiesSoFar old old holds holds i i
+pub copies_none : (old : Standing) (holds : Option (List NamedFile)) (i : Option SwapImage) → CopiesSoFar old old holds holds i i
 copies_none old holds i = record { more = λ new j c. c; stops = λ stop new j s. s; on = λ new h. h }
 
-pub copies_one : (old now next : Standing) (others : List Due) (child parent : Page) (holds later latest : Option (List NamedFile)) (i h k : Option (List ℕ))
+pub copies_one : (old now next : Standing) (others : List Due) (child parent : Page) (holds later latest : Option (List NamedFile)) (i h k : Option SwapImage)
     → now.kernel.place.due ≡ CopyOf child parent ∷ others → next.kernel.place.due ≡ others → latest ≡ later
     → CopiesPage child parent now next later h k → OnceCopied child now next
     → CopiesSoFar old now holds later i h → CopiesSoFar old next holds latest i k
@@ -211,12 +212,12 @@ none_due : (ds : List Due) → first_due ds ≡ None → ds ≡ []
 none_due [] e = refl
 none_due (d ∷ ds) e = absurd cc
 
-pub copies_all : (old now : Standing) (holds later : Option (List NamedFile)) (i h : Option (List ℕ)) → first_due now.kernel.place.due ≡ None
+pub copies_all : (old now : Standing) (holds later : Option (List NamedFile)) (i h : Option SwapImage) → first_due now.kernel.place.due ≡ None
     → CopiesSoFar old now holds later i h → CopiesAll old.kernel.place.due old now holds i h
 copies_all old now holds later i h e so =
     so.more now h (subst (λ (ds : List Due). CopiesAll ds now now later h h) (sym (none_due now.kernel.place.due e)) (refl, refl))
 
-pub copied_all : (old now : Standing) (holds later : Option (List NamedFile)) (i h : Option (List ℕ)) → first_due now.kernel.place.due ≡ None
+pub copied_all : (old now : Standing) (holds later : Option (List NamedFile)) (i h : Option SwapImage) → first_due now.kernel.place.due ≡ None
     → CopiesSoFar old now holds later i h → HasCopied old now
 copied_all old now holds later i h e so = so.on now (record {
   params = refl;

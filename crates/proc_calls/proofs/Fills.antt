@@ -1,6 +1,7 @@
 -- A new stack page is filled: what the fill asks, and what is so after it.
 use Rattle.std.proofs.Common.{◌≡◌, ℕ, inr, Bool, cond, List, [], ◌∷◌, Option, Some, refl, sym, ap, ◌∙◌, subst}
 use Rattle.std.specs.Prelude.{Result, Ok, Err, OnOk, OnErr, IfErr, MatchResult, None}
+use Rattle.vm_facts.specs.SwapImages.{SwapImage}
 use Rattle.vm_facts.specs.declared.page.Page.{Page}
 use Rattle.vm_facts.specs.declared.entry.Entry.{Entry}
 use Rattle.vm_facts.specs.declared.entry.Entry.TheVariants as entries
@@ -34,7 +35,7 @@ due_stays (e ∷ us) p r locked o s =
 start_at : (page : Page) (ds : List Due) → due_of_page (Start page ∷ ds) page ≡ Some (Start page)
 start_at page ds = ap (λ (b : Bool). cond b (Some (Start page)) (due_of_page ds page)) (same_page_self page)
 
-pub can_fill : (page : Page) (old roomy : Standing) (holds : Option (List NamedFile)) (i j : Option (List ℕ)) → CanGoOn old
+pub can_fill : (page : Page) (old roomy : Standing) (holds : Option (List NamedFile)) (i j : Option SwapImage) → CanGoOn old
     → CanGoOn roomy → IsStartFirst old.kernel.place page → Forced [] old roomy holds i j → CanZero roomy.kernel.place page
 can_fill page old roomy holds i j on later s f =
     let e : roomy.kernel.place.due ≡ Start page ∷ s.others = due_stays f.units old.kernel.place roomy.kernel.place [] on.running.sound.owner.frames f.forces ∙ s.first in
@@ -48,7 +49,7 @@ can_fill page old roomy holds i j on later s f =
       frame = f.free;
     }
 
-pub filled_by : {A : Type 0} (r : Result A Stop) (page : Page) (old roomy new : Standing) (holds later : Option (List NamedFile)) (i j : Option (List ℕ))
+pub filled_by : {A : Type 0} (r : Result A Stop) (page : Page) (old roomy new : Standing) (holds later : Option (List NamedFile)) (i j : Option SwapImage)
     → later ≡ holds
     → Forced [] old roomy holds i j → KeepsThrough old roomy holds i j → OnOk r (new.kernel ≡ zero_step roomy.kernel page)
     → OnOk r (new ≡ record roomy { kernel = new.kernel; room = None }) → OnOk r (KeepsFlat roomy.kernel new.kernel)

@@ -1,6 +1,7 @@
 -- A process that has left its space may end.
 use Rattle.std.proofs.Common.{◌≡◌, ℕ, zero, suc, Bool, true, false, List, [], Option, Some, None, refl, sym, ap, ◌∙◌, subst}
 use Rattle.std.specs.Prelude.{Ok, length}
+use Rattle.vm_facts.specs.SwapImages.{SwapImage}
 use Rattle.io_edge.specs.FileHolding.{NamedFile}
 use Rattle.vm_facts.specs.declared.entry.Entry.TheVariants as entries
 use Rattle.swap_book.specs.Holdings.{Holdings}
@@ -64,12 +65,12 @@ both_go k l m a b = record {
   spaces = b.spaces ∙ a.spaces;
 }
 
-pub ends_go : (from : Sources) (sid n : ℕ) (old new : Kernel) (before after : Option (List ℕ)) → EndsWhile from sid n old before new after → GoesOn old new
+pub ends_go : (from : Sources) (sid n : ℕ) (old new : Kernel) (before after : Option SwapImage) → EndsWhile from sid n old before new after → GoesOn old new
 ends_go from sid zero old new before after e = subst (GoesOn old) (sym e.0) (stays old)
 ends_go from sid (suc n) old new before after e =
     both_go old e.1.0 new (subst (GoesOn old) (sym e.1.2.step) (done_goes old e.1.2.read)) (ends_go from sid n e.1.0 new e.1.1 after e.1.4)
 
-pub settled_goes : (from : Sources) (sid : ℕ) (old new : Kernel) (before after : Option (List ℕ)) → SettledBy from sid old new before after → GoesOn old new
+pub settled_goes : (from : Sources) (sid : ℕ) (old new : Kernel) (before after : Option SwapImage) → SettledBy from sid old new before after → GoesOn old new
 settled_goes from sid old new before after s = ends_go from sid s.count old new before after s.ends
 
 pub space_stays : (p q : Placement) (sid : ℕ) → SameSpaces p q → HasSpace p sid → HasSpace q sid
@@ -81,7 +82,7 @@ none_asked size before now e = ap (λ (hs : Holdings). Ok hs) e
 
 -- Once its space is settled.
 
-pub can_end_settled : (m n : Standing) (pid status : ℕ) (holds : Option (List NamedFile)) (before after : Option (List ℕ)) → IsCaller m pid
+pub can_end_settled : (m n : Standing) (pid status : ℕ) (holds : Option (List NamedFile)) (before after : Option SwapImage) → IsCaller m pid
     → has_lender m.kernel.processes pid ≡ false
     → HasSettled m n (space_of_pid m.kernel pid) holds before after → CanApply n pid (entries.Ended pid status) (End status)
 can_end_settled m n pid status holds before after c alone s = record {
@@ -151,7 +152,7 @@ can_end_returned m pid status c g = record {
 
 -- Either way.
 
-module _ (m n : Standing) (pid : ℕ) (holds : Option (List NamedFile)) (before after : Option (List ℕ)) (c : IsCaller m pid) where
+module _ (m n : Standing) (pid : ℕ) (holds : Option (List NamedFile)) (before after : Option SwapImage) (c : IsCaller m pid) where
   can_by : (b : Bool) (status : ℕ) → has_lender m.kernel.processes pid ≡ b → HasLeftBy b m n pid holds before after
       → (has_lender m.kernel.processes pid ≡ true → HasGivenBack m.kernel n.kernel pid (lender_among m.kernel.processes pid))
       → CanApply n pid (entries.Ended pid status) (End status)

@@ -2,6 +2,7 @@
 use Rattle.std.proofs.Common.{◌≡◌, ℕ, ◌+◌, ◌*◌, ◌/◌, ◌%◌, ◌<◌, ◌≤◌, min, Bool, true, false, List, Option, [], ◌∷◌, ◌++◌, length, drop, refl, sym, ap, ◌∙◌, subst, inl, inr, arith}
 use Rattle.std.specs.Prelude.{Ok}
 use Rattle.std.proofs.lemmas.Bool.{cases_lt, le-leb, lt-leb}
+use Rattle.vm_facts.specs.SwapImages.{SwapImage}
 use Rattle.vm_facts.specs.declared.regs.Regs.{Regs}
 use Rattle.vm_facts.specs.declared.page.Page.TheVariants as pages
 use Rattle.core_map.specs.Frames.{Frames}
@@ -216,7 +217,7 @@ module _ (m : Standing) (pid : ℕ) (regs : Regs) (c : IsCaller m pid) (wanted s
 further_by : (owner : Owner) (a b new : ℕ) → pieces (2 * a) ≡ pieces (2 * b) → further owner a new ≡ further owner b new
 further_by owner a b new e = ap (λ (xs : List ℕ). wanted owner (drop (length xs) (pieces (2 * new)))) e
 
-module _ (m n : Standing) (pid : ℕ) (regs : Regs) (c : IsCaller m pid) (holds : Option (List NamedFile)) (before after : Option (List ℕ))
+module _ (m n : Standing) (pid : ℕ) (regs : Regs) (c : IsCaller m pid) (holds : Option (List NamedFile)) (before after : Option SwapImage)
     (s : HasSettled m n (space_of_pid m.kernel pid) holds before after) where
   on : GoesOn m.kernel n.kernel
   on = settled_goes (sources m holds) (space_of_pid m.kernel pid) m.kernel n.kernel before after s.settled

@@ -5,6 +5,7 @@ use Rattle.std.proofs.lemmas.Bool.{cases_eq, eq-eqb, ne_eqb, lt-ltb, ltb-true, l
 use Rattle.std.proofs.lemmas.List.{append-nil, length-map}
 use Rattle.std.proofs.lemmas.Option.{same_Some}
 use Rattle.std.proofs.Math.Nat.{mul-mod_right}
+use Rattle.vm_facts.specs.SwapImages.{SwapImage}
 use Rattle.io_edge.specs.FileHolding.{NamedFile}
 use Rattle.vm_facts.specs.declared.stop.Stop.{Stop}
 use Rattle.vm_facts.specs.declared.page.Page.TheVariants.{Text}
@@ -246,7 +247,7 @@ wanted_stays m n image r =
     ∙ no_place n.kernel.place p (sharers p image) (length (slots_of p (Text image 0))) m.kernel.next_sid image o
     ∙ sym (by_counts p m.kernel.next_sid image o)
 
-by_wants : (fits : Bool) (m n : Standing) (pid image : ℕ) (ws : List Want) (holds : Option (List NamedFile)) (before after : Option (List ℕ))
+by_wants : (fits : Bool) (m n : Standing) (pid image : ℕ) (ws : List Want) (holds : Option (List NamedFile)) (before after : Option SwapImage)
     → wanted_of m.kernel.holdings ws ≡ image_wanted m image → FindsBy fits (wants_found ws) m n pid holds before after
     → FindsBy fits (image_found image) m n pid holds before after
 by_wants false m n pid image ws holds before after e f = f
@@ -262,7 +263,7 @@ by_wants true m n pid image ws holds before after e f =
       step = f.step;
     }
 
-pub finds : (r : Result Bool Stop) (m n : Standing) (pid image : ℕ) (ws : List Want) (holds : Option (List NamedFile)) (before after : Option (List ℕ))
+pub finds : (r : Result Bool Stop) (m n : Standing) (pid image : ℕ) (ws : List Want) (holds : Option (List NamedFile)) (before after : Option SwapImage)
     → wanted_of m.kernel.holdings ws ≡ image_wanted m image → IfOk r (λ fits. Finds (wants_found ws) fits m n pid holds before after)
     → IfOk r (λ fits. Finds (image_found image) fits m n pid holds before after)
 finds (Err stop) m n pid image ws holds before after e f = tt
@@ -272,7 +273,7 @@ finds (Ok fits) m n pid image ws holds before after e f = record {
 }
 
 -- where the run stops as they are looked for, it stops as those of the image are
-pub finding_stops : (r : Result Bool Stop) (m n : Standing) (pid image : ℕ) (ws : List Want) (holds : Option (List NamedFile)) (before after : Option (List ℕ))
+pub finding_stops : (r : Result Bool Stop) (m n : Standing) (pid image : ℕ) (ws : List Want) (holds : Option (List NamedFile)) (before after : Option SwapImage)
     → wanted_of m.kernel.holdings ws ≡ image_wanted m image → IfErr r (StopsFinding (wants_found ws) m n pid holds before after)
     → IfErr r (StopsFinding (image_found image) m n pid holds before after)
 finding_stops (Ok fits) m n pid image ws holds before after e h = tt

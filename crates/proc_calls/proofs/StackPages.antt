@@ -1,6 +1,7 @@
 -- The new stack page of an image: what its fill asks of the machine, after the entry by which the image starts.
 use Rattle.std.proofs.Common.{◌≡◌, ℕ, zero, suc, ◌<◌, ◌≤◌, true, List, [], ◌∷◌, length, Option, Some, None, refl, sym, ap, ◌∙◌, subst, arith}
 use Rattle.std.specs.Prelude.{slice_get}
+use Rattle.vm_facts.specs.SwapImages.{SwapImage}
 use Rattle.io_edge.specs.FileHolding.{NamedFile}
 use Rattle.vm_facts.specs.declared.page.Page.TheVariants.{Stack}
 use Rattle.vm_facts.specs.declared.regs.Regs.{Regs}
@@ -79,7 +80,7 @@ pub record IsStarted (old new : Standing) : Type 0 where
   pub frames : length new.kernel.place.holds ≡ length old.kernel.place.holds
   pub last : last_moves new.kernel.journal ≡ 0
 
-pub is_started : (old asked new : Standing) (pid image : ℕ) (regs : Regs) (top : List ℕ) (holds : Option (List NamedFile)) (before after : Option (List ℕ))
+pub is_started : (old asked new : Standing) (pid image : ℕ) (regs : Regs) (top : List ℕ) (holds : Option (List NamedFile)) (before after : Option SwapImage)
     → 0 < image → image ≤ length old.images → LeavesFor (image_found image) old asked pid holds before after
     → CanApply asked pid (call_entry pid Execve regs) (Exec image top) → Answered asked new pid Execve regs (Exec image top) → IsStarted old new
 is_started old asked new pid image regs top holds before after above within left can answer =

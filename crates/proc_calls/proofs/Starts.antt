@@ -1,6 +1,7 @@
 -- What is so of a machine whose process starts an image.
 use Rattle.std.proofs.Common.{◌≡◌, ℕ, zero, suc, Bool, true, false, List, length, Option, refl, sym, ap, ◌∙◌, subst}
 use Rattle.std.specs.Prelude.{Result, Ok, Err, IfOk}
+use Rattle.vm_facts.specs.SwapImages.{SwapImage}
 use Rattle.io_edge.specs.FileHolding.{NamedFile}
 use Rattle.vm_facts.specs.declared.params.Params.{Params}
 use Rattle.vm_facts.specs.declared.stop.Stop.{Stop}
@@ -64,7 +65,7 @@ both_stay k l m a b = record {
   frames = b.frames ∙ a.frames;
 }
 
-pub ends_stay : (from : Sources) (sid n : ℕ) (old new : Kernel) (before after : Option (List ℕ)) → EndsWhile from sid n old before new after → StaysFor old new
+pub ends_stay : (from : Sources) (sid n : ℕ) (old new : Kernel) (before after : Option SwapImage) → EndsWhile from sid n old before new after → StaysFor old new
 ends_stay from sid zero old new before after e = subst (StaysFor old) (sym e.0) (stays_for old)
 ends_stay from sid (suc n) old new before after e =
     both_stay old e.1.0 new (subst (StaysFor old) (sym e.1.2.step) (done_stays old e.1.2.read)) (ends_stay from sid n e.1.0 new e.1.1 after e.1.4)
@@ -77,7 +78,7 @@ pub record IsReady (old new : Standing) : Type 0 where
   pub images : new.images ≡ old.images
   pub before : new.before ≡ old.before
 
-ready_by : (lent : Bool) (m n : Standing) (pid : ℕ) (holds : Option (List NamedFile)) (before after : Option (List ℕ))
+ready_by : (lent : Bool) (m n : Standing) (pid : ℕ) (holds : Option (List NamedFile)) (before after : Option SwapImage)
     → HasLeftBy lent m n pid holds before after → IsReady m n
 ready_by true m n pid holds before after h = subst (IsReady m) (sym h.step) (record {
   kernel = record { holdings = refl; number = refl; sharing = λ i. refl; texts = λ i. refl; frames = refl };
@@ -92,7 +93,7 @@ ready_by false m n pid holds before after h = record {
   before = h.rest.before;
 }
 
-pub is_ready : (m n : Standing) (pid : ℕ) (holds : Option (List NamedFile)) (before after : Option (List ℕ)) → HasLeft m n pid holds before after → IsReady m n
+pub is_ready : (m n : Standing) (pid : ℕ) (holds : Option (List NamedFile)) (before after : Option SwapImage) → HasLeft m n pid holds before after → IsReady m n
 is_ready m n pid holds before after h = ready_by (has_lender m.kernel.processes pid) m n pid holds before after h
 
 same_fits : (m n : Standing) (wants : List Want) → IsReady m n
@@ -106,7 +107,7 @@ differs e = absurd cc
 
 -- The pieces find no place.
 
-pub none_found : (r : Result Bool Stop) (old between new : Standing) (pid : ℕ) (wants : List Want) (holds : Option (List NamedFile)) (before : Option (List ℕ))
+pub none_found : (r : Result Bool Stop) (old between new : Standing) (pid : ℕ) (wants : List Want) (holds : Option (List NamedFile)) (before : Option SwapImage)
     → between ≡ old
     → fits_for old.params.swap_blocks old.kernel.holdings wants ≡ false
     → IfOk r (λ fits. fits ≡ fits_for between.params.swap_blocks between.kernel.holdings wants)
@@ -127,7 +128,7 @@ none_found (Ok false) old between new pid wants holds before e none answer refus
 -- They find their places, and the process left its space.
 
 pub left_found : (r : Result Bool Stop) (old between new : Standing) (pid : ℕ) (wants : List Want) (holds : Option (List NamedFile))
-    (before after : Option (List ℕ))
+    (before after : Option SwapImage)
     → HasLeft old between pid holds before after → fits_for old.params.swap_blocks old.kernel.holdings wants ≡ true
     → IfOk r (λ fits. fits ≡ fits_for between.params.swap_blocks between.kernel.holdings wants)
     → (r ≡ Ok true → (hs : Holdings) × (found_for between.params.swap_blocks between.kernel.holdings wants ≡ Ok hs) × (new ≡ with_pieces between hs))

@@ -1,5 +1,6 @@
 -- A call that stops before an entry, where no pieces wait but those that the entry takes.
 use Rattle.std.proofs.Common.{◌≡◌, ◌⊎◌, inl, inr, ℕ, ◌<◌, ◌≤◌, Bool, true, false, List, length, Option, Result, Ok, Err, OnErr, IfErr, is_ok, refl, sym, ap, ◌∙◌, subst}
+use Rattle.vm_facts.specs.SwapImages.{SwapImage}
 use Rattle.io_edge.specs.FileHolding.{NamedFile}
 use Rattle.vm_facts.specs.declared.stop.Stop.{Stop}
 use Rattle.vm_facts.specs.declared.stop.Stop.TheVariants as stops
@@ -48,7 +49,7 @@ grown_stops {A} (Err stop) m asked new pid pages hs e w room s c f =
     inl (stops_before {A = A} m new stop w (stopped_found m asked new hs e room s) c
     (λ h. subst (λ (x : Standing). x.params.journal ≤ length x.kernel.journal) e (f h)))
 
-pub cut_stops : {A : Type 0} (r : Result A Stop) (m b new : Standing) (pid pages : ℕ) (holds : Option (List NamedFile)) (i j : Option (List ℕ))
+pub cut_stops : {A : Type 0} (r : Result A Stop) (m b new : Standing) (pid pages : ℕ) (holds : Option (List NamedFile)) (i j : Option SwapImage)
     → pages < process_data_pages m.kernel pid
     → HasSettled m b (space_of_pid m.kernel pid) holds i j → b.before ≡ b.kernel.holdings → OnErr r (HasStopped b new)
     → OnErr r ((r ≡ Err stops.JournalFull) ⊎ (r ≡ Err stops.NoMemory))
@@ -59,7 +60,7 @@ cut_stops {A} (Err stop) m b new pid pages holds i j l h w s c f =
     inr (l, inr (record { reached = b; far = h; stops = stops_before {A = A} b new stop w s c f }))
 
 -- a call that stops once the process has left its space
-pub once_left : {A : Type 0} (r : Result A Stop) (m b new : Standing) (pid : ℕ) (holds : Option (List NamedFile)) (i j : Option (List ℕ))
+pub once_left : {A : Type 0} (r : Result A Stop) (m b new : Standing) (pid : ℕ) (holds : Option (List NamedFile)) (i j : Option SwapImage)
     → b.before ≡ b.kernel.holdings → HasLeft m b pid holds i j → OnErr r (HasStopped b new)
     → OnErr r ((r ≡ Err stops.JournalFull) ⊎ (r ≡ Err stops.NoMemory))
     → (r ≡ Err stops.JournalFull → b.params.journal ≤ length b.kernel.journal)
@@ -70,14 +71,14 @@ once_left {A} (Err stop) m b new pid holds i j w left s c f = inr (record { reac
 -- Where a process leaves its space.
 
 -- a space of its own that doesn't settle
-pub own_stops : {A : Type 0} (r : Result A Stop) (m new : Standing) (pid sid : ℕ) (holds : Option (List NamedFile)) (i j : Option (List ℕ))
+pub own_stops : {A : Type 0} (r : Result A Stop) (m new : Standing) (pid sid : ℕ) (holds : Option (List NamedFile)) (i j : Option SwapImage)
     → has_lender m.kernel.processes pid ≡ false
     → sid ≡ space_of_pid m.kernel pid → IfErr r (StopsSettling sid m new holds i j) → IfErr r (StopsLeaving m new pid holds i j)
 own_stops (Ok x) m new pid sid holds i j e held s = tt
 own_stops (Err stop) m new pid sid holds i j e held s = inl (e, subst (λ (n : ℕ). StopsSettling n m new holds i j stop) held s)
 
 -- a space that it borrowed goes back
-pub lent_left : (m b new : Standing) (pid : ℕ) (holds : Option (List NamedFile)) (i : Option (List ℕ)) → has_lender m.kernel.processes pid ≡ true → b ≡ m
+pub lent_left : (m b new : Standing) (pid : ℕ) (holds : Option (List NamedFile)) (i : Option SwapImage) → has_lender m.kernel.processes pid ≡ true → b ≡ m
     → length m.kernel.journal < m.params.journal → new ≡ record b { kernel = pass_step b.kernel pid (lender_among b.kernel.processes pid) }
     → HasLeft m new pid holds i i
 lent_left m b new pid holds i e same room step =
@@ -88,7 +89,7 @@ lent_left m b new pid holds i e same room step =
     })
 
 -- before a space that it borrowed goes back
-pub lent_stops : (stop : Stop) (m new : Standing) (pid : ℕ) (holds : Option (List NamedFile)) (i : Option (List ℕ)) → has_lender m.kernel.processes pid ≡ true
+pub lent_stops : (stop : Stop) (m new : Standing) (pid : ℕ) (holds : Option (List NamedFile)) (i : Option SwapImage) → has_lender m.kernel.processes pid ≡ true
     → m.before ≡ m.kernel.holdings → HasStopped m new
     → (let r : Result (Unit {0}) Stop = Err stop in (r ≡ Err stops.JournalFull) ⊎ (r ≡ Err stops.NoMemory))
     → (let r : Result (Unit {0}) Stop = Err stop in r ≡ Err stops.JournalFull → m.params.journal ≤ length m.kernel.journal)
@@ -119,7 +120,7 @@ out_starved m new pid (Err (Signal number)) stop e w c = starved_before m new st
 
 -- before the process has left its space
 pub asked_before : {A : Type 0} (r : Result A Stop) (pieces : Standing → Result Holdings ℕ) (m b new : Standing) (pid : ℕ) (holds : Option (List NamedFile))
-    (i : Option (List ℕ)) → b ≡ m → b.before ≡ b.kernel.holdings → OnErr r (HasStopped b new)
+    (i : Option SwapImage) → b ≡ m → b.before ≡ b.kernel.holdings → OnErr r (HasStopped b new)
     → OnErr r ((r ≡ Err stops.JournalFull) ⊎ (r ≡ Err stops.NoMemory))
     → (r ≡ Err stops.JournalFull → b.params.journal ≤ length b.kernel.journal)
     → IfErr r (StopsFinding pieces m new pid holds i i)
@@ -129,7 +130,7 @@ asked_before {A} (Err stop) pieces m b new pid holds i e w s c f =
 
 -- once it has, since they find their places
 pub asked_alive : {A : Type 0} (r : Result A Stop) (pieces : Standing → Result Holdings ℕ) (m new : Standing) (pid : ℕ) (holds : Option (List NamedFile))
-    (i j : Option (List ℕ)) → is_ok (pieces m) ≡ true
+    (i j : Option SwapImage) → is_ok (pieces m) ≡ true
     → IfErr r (StopsAlive m new pid holds i j) → IfErr r (StopsFinding pieces m new pid holds i j)
 asked_alive (Ok x) pieces m new pid holds i j fit s = tt
 asked_alive (Err stop) pieces m new pid holds i j fit s = inr (fit, s)

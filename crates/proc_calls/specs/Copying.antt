@@ -1,5 +1,6 @@
 -- The pages of a child are copied, each from its parent's page.
 use Rattle.std.specs.Prelude.{◌≡◌, ◌⊎◌, ℕ, ◌≤◌, true, List, [], ◌∷◌, length, Option, None}
+use Rattle.vm_facts.specs.SwapImages.{SwapImage}
 use Rattle.vm_facts.specs.declared.page.Page.{Page}
 use Rattle.vm_facts.specs.declared.page.Page.TheVariants.{Data, Stack, Text}
 use Rattle.vm_facts.specs.declared.entry.Entry.TheVariants.{Copy}
@@ -36,9 +37,9 @@ pub record IsCopyFirst (p : Placement) (child parent : Page) : Type 0 where
 
 -- The parent's page is served until it is valid, a frame is forced by hands that pass over it, and the child's page is copied.
 -- The flat states for which the machine stood stay so.
-pub record CopiesPage (child parent : Page) (old new : Standing) (holds : Option (List NamedFile)) (before after : Option (List ℕ)) : Type 0 where
+pub record CopiesPage (child parent : Page) (old new : Standing) (holds : Option (List NamedFile)) (before after : Option SwapImage) : Type 0 where
   pub served : Standing
-  pub behind : Option (List ℕ)
+  pub behind : Option SwapImage
   pub serves : ServesNow (parent ∷ []) parent old served holds before behind
   pub roomy : Standing
   pub forces : Forced (parent ∷ []) served roomy holds behind after
@@ -46,10 +47,10 @@ pub record CopiesPage (child parent : Page) (old new : Standing) (holds : Option
   pub keeps : KeepsThrough old new holds before after
 
 -- The run stops as the parent's page is served, or once it was, as the child's page takes a frame.
-abbrev pub StopsPage : Page → Page → Standing → Standing → Option (List NamedFile) → Option (List ℕ) → Option (List ℕ) → Stop → Type 0
+abbrev pub StopsPage : Page → Page → Standing → Standing → Option (List NamedFile) → Option SwapImage → Option SwapImage → Stop → Type 0
 StopsPage child parent old new holds before after stop =
     StopsServing true (parent ∷ []) parent old new holds before after stop
-    ⊎ ((told : Option (List ℕ))
+    ⊎ ((told : Option SwapImage)
     × StopsOnce (λ m. ServesNow (parent ∷ []) parent old m holds before told) (λ m. StopsFilling (Copy child) (parent ∷ []) m new holds told after stop))
 
 -- once a page is copied it isn't due, and there are as many frames as before
@@ -61,11 +62,11 @@ pub record OnceCopied (child : Page) (old new : Standing) : Type 0 where
   pub last : last_moves new.kernel.journal ≡ 0
 
 -- all pages that are due are copied in turn
-abbrev pub CopiesAll : List Due → Standing → Standing → Option (List NamedFile) → Option (List ℕ) → Option (List ℕ) → Type 0
+abbrev pub CopiesAll : List Due → Standing → Standing → Option (List NamedFile) → Option SwapImage → Option SwapImage → Type 0
 CopiesAll [] old new holds before after = (new ≡ old) × (after ≡ before)
 CopiesAll (Start q ∷ ds) old new holds before after = ⊥
 CopiesAll (CopyOf child parent ∷ ds) old new holds before after =
-    (next : Standing) × (between : Option (List ℕ)) × CopiesPage child parent old next holds before between × CopiesAll ds next new holds between after
+    (next : Standing) × (between : Option SwapImage) × CopiesPage child parent old next holds before between × CopiesAll ds next new holds between after
 
 -- after the copies no page is due, there are as many frames as before, and the last entry counts no more moves of the hands
 pub record HasCopied (old new : Standing) : Type 0 where
@@ -76,9 +77,9 @@ pub record HasCopied (old new : Standing) : Type 0 where
   pub low : last_moves new.kernel.journal ≤ last_moves old.kernel.journal
 
 -- the run stops at one of them
-abbrev pub StopsCopying : List Due → Standing → Standing → Option (List NamedFile) → Option (List ℕ) → Option (List ℕ) → Stop → Type 0
+abbrev pub StopsCopying : List Due → Standing → Standing → Option (List NamedFile) → Option SwapImage → Option SwapImage → Stop → Type 0
 StopsCopying [] old new holds before after stop = ⊥
 StopsCopying (Start q ∷ ds) old new holds before after stop = ⊥
 StopsCopying (CopyOf child parent ∷ ds) old new holds before after stop =
     StopsPage child parent old new holds before after stop
-    ⊎ ((told : Option (List ℕ)) × StopsOnce (λ m. CopiesPage child parent old m holds before told) (λ m. StopsCopying ds m new holds told after stop))
+    ⊎ ((told : Option SwapImage) × StopsOnce (λ m. CopiesPage child parent old m holds before told) (λ m. StopsCopying ds m new holds told after stop))

@@ -1,5 +1,6 @@
 -- A new stack page that is due is filled.
 use Rattle.std.specs.Prelude.{◌≡◌, ◌⊎◌, ℕ, List, [], ◌∷◌, Option, None}
+use Rattle.vm_facts.specs.SwapImages.{SwapImage}
 use Rattle.vm_facts.specs.declared.page.Page.{Page}
 use Rattle.vm_facts.specs.declared.entry.Entry.{Entry}
 use Rattle.vm_facts.specs.declared.entry.Entry.TheVariants.{Zero}
@@ -20,7 +21,7 @@ pub record IsStartFirst (p : Placement) (page : Page) : Type 0 where
 
 -- A frame is forced by hands that pass over no page, and the page takes it. The flat states for which the machine stood stay
 -- so.
-pub record FillsStart (page : Page) (old new : Standing) (holds : Option (List NamedFile)) (before after : Option (List ℕ)) : Type 0 where
+pub record FillsStart (page : Page) (old new : Standing) (holds : Option (List NamedFile)) (before after : Option SwapImage) : Type 0 where
   pub roomy : Standing
   pub forces : Forced [] old roomy holds before after
   pub fills : new ≡ record roomy { kernel = zero_step roomy.kernel page; room = None }
@@ -28,12 +29,12 @@ pub record FillsStart (page : Page) (old new : Standing) (holds : Option (List N
 
 -- The run stops as a frame is forced by hands that pass over these pages, or once it was, at the entry of the page that takes it,
 -- with the sizes and images of before.
-abbrev pub StopsFilling : Entry → List Page → Standing → Standing → Option (List NamedFile) → Option (List ℕ) → Option (List ℕ) → Stop → Type 0
+abbrev pub StopsFilling : Entry → List Page → Standing → Standing → Option (List NamedFile) → Option SwapImage → Option SwapImage → Stop → Type 0
 StopsFilling e locked old new holds before after stop =
     StopsForcing locked old stop new holds before after
     ⊎ StopsOnce (λ m. Forced locked old m holds before after)
     (λ m. StopsAt e m.kernel after stop new after × (new.params ≡ m.params) × (new.images ≡ m.images))
 
 -- it stops so as the new stack page is filled
-abbrev pub StopsStart : Page → Standing → Standing → Option (List NamedFile) → Option (List ℕ) → Option (List ℕ) → Stop → Type 0
+abbrev pub StopsStart : Page → Standing → Standing → Option (List NamedFile) → Option SwapImage → Option SwapImage → Stop → Type 0
 StopsStart page old new holds before after stop = StopsFilling (Zero page) [] old new holds before after stop

@@ -1,5 +1,6 @@
 -- What becomes of the machine by a fork, and where it stops.
 use Rattle.std.specs.Prelude.{◌≡◌, ◌⊎◌, ℕ, ◌*◌, List, [], ◌∷◌, Option}
+use Rattle.vm_facts.specs.SwapImages.{SwapImage}
 use Rattle.vm_facts.specs.declared.regs.Regs.{Regs}
 use Rattle.vm_facts.specs.declared.stop.Stop.{Stop}
 use Rattle.io_edge.specs.FileHolding.{NamedFile}
@@ -34,13 +35,13 @@ abbrev pub ForkAnswered : Standing → Standing → ℕ → Regs → Type 0
 ForkAnswered old new pid regs = MakesChild old new pid Fork regs (changes.Fork old.kernel.next_pid) (HasNewSpace old new pid regs old.kernel.next_pid)
 
 -- the call answers, and then all pages that are due are copied: none where there is no child
-pub record Forked (old new : Standing) (pid : ℕ) (regs : Regs) (holds : Option (List NamedFile)) (before after : Option (List ℕ)) : Type 0 where
+pub record Forked (old new : Standing) (pid : ℕ) (regs : Regs) (holds : Option (List NamedFile)) (before after : Option SwapImage) : Type 0 where
   pub between : Standing
   pub answer : ForkAnswered old between pid regs
   pub copies : CopiesAll between.kernel.place.due between new holds before after
 
 -- The run stops where the call would answer, before any device is called, or once it has answered, as a page is copied.
-abbrev pub StopsForking : Standing → Standing → ℕ → Regs → Option (List NamedFile) → Option (List ℕ) → Option (List ℕ) → Stop → Type 0
+abbrev pub StopsForking : Standing → Standing → ℕ → Regs → Option (List NamedFile) → Option SwapImage → Option SwapImage → Stop → Type 0
 StopsForking old new pid regs holds before after stop =
     (StopsMaking old new pid (changes.Fork old.kernel.next_pid) stop × (after ≡ before))
     ⊎ StopsOnce (λ m. ForkAnswered old m pid regs) (λ m. StopsCopying m.kernel.place.due m new holds before after stop)

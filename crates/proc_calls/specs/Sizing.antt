@@ -1,5 +1,6 @@
 -- What a break comes to.
 use Rattle.std.specs.Prelude.{◌≡◌, ◌⊎◌, ℕ, ◌-◌, ◌<◌, ◌≤◌, nat_le, false, List, Option, Result, Ok, Err, is_ok}
+use Rattle.vm_facts.specs.SwapImages.{SwapImage}
 use Rattle.vm_facts.specs.declared.regs.Regs.{Regs}
 use Rattle.vm_facts.specs.declared.stop.Stop.{Stop}
 use Rattle.io_edge.specs.FileHolding.{NamedFile}
@@ -83,7 +84,7 @@ pub record NoPieces (old new : Standing) (pid : ℕ) (regs : Regs) (pages : ℕ)
   pub replied : Replied (without_pieces old pid) new pid Break regs (Fails no_memory) called
 
 -- fewer pages: transfers end until the space is settled, before the reply
-pub record CutData (old new : Standing) (pid : ℕ) (regs : Regs) (pages : ℕ) (holds : Option (List NamedFile)) (before after : Option (List ℕ)) (called : Called)
+pub record CutData (old new : Standing) (pid : ℕ) (regs : Regs) (pages : ℕ) (holds : Option (List NamedFile)) (before after : Option SwapImage) (called : Called)
     : Type 0 where
   pub fewer : pages < process_data_pages old.kernel pid
   pub between : Standing
@@ -99,12 +100,12 @@ abbrev pub Plain : Standing → Standing → ℕ → Regs → ℕ → Called →
 Plain old new pid regs pages called = SameData old new pid regs pages called ⊎ Grows old new pid regs pages called
 
 -- the data gets so many pages
-abbrev pub MovesEnd : Standing → Standing → ℕ → Regs → ℕ → Option (List NamedFile) → Option (List ℕ) → Option (List ℕ) → Called → Type 0
+abbrev pub MovesEnd : Standing → Standing → ℕ → Regs → ℕ → Option (List NamedFile) → Option SwapImage → Option SwapImage → Called → Type 0
 MovesEnd old new pid regs pages holds before after called =
     (Plain old new pid regs pages called × (after ≡ before)) ⊎ CutData old new pid regs pages holds before after called
 
 -- by what the argument reads as
-abbrev pub BreakComes : Standing → Standing → ℕ → Regs → Result ℕ Refused → Option (List NamedFile) → Option (List ℕ) → Option (List ℕ) → Called → Type 0
+abbrev pub BreakComes : Standing → Standing → ℕ → Regs → Result ℕ Refused → Option (List NamedFile) → Option SwapImage → Option SwapImage → Called → Type 0
 BreakComes old new pid regs (Ok address) holds before after called = MovesEnd old new pid regs (pages_to old.kernel pid address) holds before after called
 BreakComes old new pid regs (Err refused) holds before after called = Comes old new pid Break regs (Err refused) called × (after ≡ before)
 
@@ -119,7 +120,7 @@ StopsPlain old new pid pages stop =
 
 -- A break stops with no call of a device, or, with fewer pages, as the space settles, or once it has, with the swap image as it
 -- was there.
-abbrev pub StopsBreaking : Standing → Standing → ℕ → ℕ → Option (List NamedFile) → Option (List ℕ) → Option (List ℕ) → Stop → Type 0
+abbrev pub StopsBreaking : Standing → Standing → ℕ → ℕ → Option (List NamedFile) → Option SwapImage → Option SwapImage → Stop → Type 0
 StopsBreaking old new pid pages holds before after stop =
     (StopsPlain old new pid pages stop × (after ≡ before))
     ⊎ ((pages < process_data_pages old.kernel pid)
@@ -127,6 +128,6 @@ StopsBreaking old new pid pages holds before after stop =
     ⊎ StopsOnce (λ m. HasSettled old m (space_of_pid old.kernel pid) holds before after) (λ m. StopsBefore m new stop)))
 
 -- by what the argument reads as
-abbrev pub StopsBreak : Standing → Standing → ℕ → Result ℕ Refused → Option (List NamedFile) → Option (List ℕ) → Option (List ℕ) → Stop → Type 0
+abbrev pub StopsBreak : Standing → Standing → ℕ → Result ℕ Refused → Option (List NamedFile) → Option SwapImage → Option SwapImage → Stop → Type 0
 StopsBreak old new pid (Ok address) holds before after stop = StopsBreaking old new pid (pages_to old.kernel pid address) holds before after stop
 StopsBreak old new pid (Err refused) holds before after stop = StopsReading old new refused stop × (after ≡ before)

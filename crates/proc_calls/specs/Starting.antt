@@ -1,5 +1,6 @@
 -- What becomes of the machine where a process starts another image, and where it stops.
 use Rattle.std.specs.Prelude.{◌≡◌, ◌⊎◌, ℕ, ◌*◌, ◌<◌, ◌≤◌, nat_lt, Bool, true, false, List, [], ◌∷◌, length, Option, Some, Result, Ok, Err, is_ok}
+use Rattle.vm_facts.specs.SwapImages.{SwapImage}
 use Rattle.io_edge.specs.FileHolding.{NamedFile}
 use Rattle.vm_facts.specs.declared.regs.Regs.{Regs}
 use Rattle.vm_facts.specs.declared.page.Page.TheVariants.{Stack}
@@ -75,7 +76,7 @@ pub record AreNextWants (m : Standing) (image : ℕ) (wants : List Want) : Type 
 
 -- a process left its space, and then pieces were found
 pub record LeavesFor (pieces : Standing → Result Holdings ℕ) (old new : Standing) (pid : ℕ) (holds : Option (List NamedFile))
-    (before after : Option (List ℕ)) : Type 0 where
+    (before after : Option SwapImage) : Type 0 where
   pub between : Standing
   pub left : HasLeft old between pid holds before after
   pub found : Holdings
@@ -83,44 +84,44 @@ pub record LeavesFor (pieces : Standing → Result Holdings ℕ) (old new : Stan
   pub step : new ≡ with_pieces between found
 
 -- an entry says that they find no place, and leaves the flat states as they are
-pub record StaysWithout (old new : Standing) (pid : ℕ) (before after : Option (List ℕ)) : Type 0 where
+pub record StaysWithout (old new : Standing) (pid : ℕ) (before after : Option SwapImage) : Type 0 where
   pub step : new ≡ without_pieces old pid
   pub keeps : KeepsFlat old.kernel new.kernel
   pub image : after ≡ before
 
 -- by whether they find their places
-abbrev pub FindsBy : Bool → (Standing → Result Holdings ℕ) → Standing → Standing → ℕ → Option (List NamedFile) → Option (List ℕ) → Option (List ℕ) → Type 0
+abbrev pub FindsBy : Bool → (Standing → Result Holdings ℕ) → Standing → Standing → ℕ → Option (List NamedFile) → Option SwapImage → Option SwapImage → Type 0
 FindsBy true pieces old new pid holds before after = LeavesFor pieces old new pid holds before after
 FindsBy false pieces old new pid holds before after = StaysWithout old new pid before after
 
 -- Pieces are looked for, and where they find their places the process leaves its space before they are found.
 pub record Finds (pieces : Standing → Result Holdings ℕ) (fits : Bool) (old new : Standing) (pid : ℕ) (holds : Option (List NamedFile))
-    (before after : Option (List ℕ)) : Type 0 where
+    (before after : Option SwapImage) : Type 0 where
   pub answer : fits ≡ is_ok (pieces old)
   pub finds : FindsBy fits pieces old new pid holds before after
 
 -- once the process left its space and the pieces of the image were found, the call answers with the change
 pub record HasStarted (old new : Standing) (pid : ℕ) (after : Regs) (image : ℕ) (top : List ℕ) (holds : Option (List NamedFile))
-    (before behind : Option (List ℕ)) : Type 0 where
+    (before behind : Option SwapImage) : Type 0 where
   pub asked : Standing
   pub finds : LeavesFor (image_found image) old asked pid holds before behind
   pub answer : Answered asked new pid Execve after (Exec image top)
 
 -- and then its stack page 0 is filled
 pub record HasStartedFilled (old new : Standing) (pid : ℕ) (after : Regs) (image : ℕ) (top : List ℕ) (holds : Option (List NamedFile))
-    (before behind : Option (List ℕ)) : Type 0 where
+    (before behind : Option SwapImage) : Type 0 where
   pub between : Standing
-  pub told : Option (List ℕ)
+  pub told : Option SwapImage
   pub started : HasStarted old between pid after image top holds before told
   pub fills : FillsStart (Stack old.kernel.next_sid 0) between new holds told behind
 
 -- by whether the pieces of the image find their places: else that is an entry, and then the call fails
-abbrev pub StartsBy : Bool → Standing → Standing → ℕ → Regs → Regs → ℕ → List ℕ → Option (List NamedFile) → Option (List ℕ) → Option (List ℕ) → Type 0
+abbrev pub StartsBy : Bool → Standing → Standing → ℕ → Regs → Regs → ℕ → List ℕ → Option (List NamedFile) → Option SwapImage → Option SwapImage → Type 0
 StartsBy true old new pid regs after image top holds before behind = HasStartedFilled old new pid after image top holds before behind
 StartsBy false old new pid regs after image top holds before behind = IsRefused old new pid Execve regs × (behind ≡ before)
 
 -- an execve starts an image, or the pieces find no place and it fails
-abbrev pub Starts : Standing → Standing → ℕ → Regs → Regs → ℕ → List ℕ → Option (List NamedFile) → Option (List ℕ) → Option (List ℕ) → Type 0
+abbrev pub Starts : Standing → Standing → ℕ → Regs → Regs → ℕ → List ℕ → Option (List NamedFile) → Option SwapImage → Option SwapImage → Type 0
 Starts old new pid regs after image top holds before behind = StartsBy (is_ok (image_found image old)) old new pid regs after image top holds before behind
 
 -- what an execve of a process comes to by what its memory has, with these images
@@ -128,7 +129,7 @@ abbrev pub execve_read : List NamedImage → Standing → ℕ → Regs → Resul
 execve_read known m pid regs = run (kernel_answers m.kernel (space_of_pid m.kernel pid)) (execve_reply known regs)
 
 -- What becomes of the machine by that.
-abbrev pub ExecComes : Standing → Standing → ℕ → Regs → Result Reply Refused → Option (List NamedFile) → Option (List ℕ) → Option (List ℕ) → Called → Type 0
+abbrev pub ExecComes : Standing → Standing → ℕ → Regs → Result Reply Refused → Option (List NamedFile) → Option SwapImage → Option SwapImage → Called → Type 0
 ExecComes old new pid regs (Ok (Does after (Exec image top))) holds before behind called =
     (called ≡ calls.Ready) × Starts old new pid regs after image top holds before behind
 ExecComes old new pid regs (Ok reply) holds before behind called = Comes old new pid Execve regs (Ok reply) called × (behind ≡ before)
@@ -137,21 +138,21 @@ ExecComes old new pid regs (Err refused) holds before behind called = Comes old 
 -- Where the run stops.
 
 -- as it was, or where the pieces find their places: as the process leaves its space, or after that
-abbrev pub StopsFinding : (Standing → Result Holdings ℕ) → Standing → Standing → ℕ → Option (List NamedFile) → Option (List ℕ) → Option (List ℕ) → Stop → Type 0
+abbrev pub StopsFinding : (Standing → Result Holdings ℕ) → Standing → Standing → ℕ → Option (List NamedFile) → Option SwapImage → Option SwapImage → Stop → Type 0
 StopsFinding pieces old new pid holds before after stop =
     (StopsBefore old new stop × (after ≡ before)) ⊎ ((is_ok (pieces old) ≡ true) × StopsAlive old new pid holds before after stop)
 
 -- as the pieces of the image are found, or after the entry that says that they find no place, or once the call has answered, as the
 -- new stack page is filled
-abbrev pub StopsImage : Standing → Standing → ℕ → Regs → ℕ → List ℕ → Option (List NamedFile) → Option (List ℕ) → Option (List ℕ) → Stop → Type 0
+abbrev pub StopsImage : Standing → Standing → ℕ → Regs → ℕ → List ℕ → Option (List NamedFile) → Option SwapImage → Option SwapImage → Stop → Type 0
 StopsImage old new pid after image top holds before behind stop =
     (StopsFinding (image_found image) old new pid holds before behind stop
     ⊎ ((is_ok (image_found image old) ≡ false) × StopsBefore (without_pieces old pid) new stop × (behind ≡ before)))
-    ⊎ ((told : Option (List ℕ)) × StopsOnce (λ m. HasStarted old m pid after image top holds before told)
+    ⊎ ((told : Option SwapImage) × StopsOnce (λ m. HasStarted old m pid after image top holds before told)
     (λ m. StopsStart (Stack old.kernel.next_sid 0) m new holds told behind stop))
 
 -- by what the reads come to
-abbrev pub StopsExec : Standing → Standing → ℕ → Result Reply Refused → Option (List NamedFile) → Option (List ℕ) → Option (List ℕ) → Stop → Type 0
+abbrev pub StopsExec : Standing → Standing → ℕ → Result Reply Refused → Option (List NamedFile) → Option SwapImage → Option SwapImage → Stop → Type 0
 StopsExec old new pid (Ok (Does after (Exec image top))) holds before behind stop = StopsImage old new pid after image top holds before behind stop
 StopsExec old new pid (Ok reply) holds before behind stop = StopsBefore old new stop × (behind ≡ before)
 StopsExec old new pid (Err refused) holds before behind stop = StopsReading old new refused stop × (behind ≡ before)

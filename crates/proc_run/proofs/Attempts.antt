@@ -1,5 +1,6 @@
 -- What an instruction that was tried came to, and the machine that it was tried in.
 use Rattle.std.proofs.Common.{◌≡◌, ◌≢◌, ℕ, ℤ, Bool, List, [], Option, Some, None, Result, Ok, Err, refl, sym, ap, ◌∙◌, subst}
+use Rattle.vm_facts.specs.SwapImages.{SwapImage}
 use Rattle.vm_facts.specs.Answers.{Answers, ByteWrite}
 use Rattle.vm_facts.specs.declared.regs.Regs.{Regs}
 use Rattle.io_edge.specs.FileHolding.{NamedFile}
@@ -98,7 +99,7 @@ room_regs old new pid regs o h = room_kernel (λ m. regs ≡ regs_of m.kernel pi
 pub room_goes_on : (old mid new : Standing) (n : ℕ) → RoomOnly old mid → old.kernel.place.due ≡ [] → Continues mid new n → Continues old new n
 room_goes_on old mid new n o clear c = continues_from old mid new n (room_continues old mid o.made clear o.only) c
 
-pub room_runs : (A : Inputs) (s : State) (old new : Standing) (holds : Option (List NamedFile)) (i : Option (List ℕ)) (image : List ℕ) (pid : ℕ) (now : Bool)
+pub room_runs : (A : Inputs) (s : State) (old new : Standing) (holds : Option (List NamedFile)) (i : Option SwapImage) (image : SwapImage) (pid : ℕ) (now : Bool)
     (p : Process) (x : Space)
     → RoomOnly old new
     → RunsAt A s old holds i image pid now p x → RunsAt A s new holds i image pid now p x

@@ -1,5 +1,6 @@
 -- A call, whichever it is, is the process's step.
 use Rattle.std.proofs.Common.{◌≡◌, ℕ, Bool, List, Option, Some, sym, ap, subst}
+use Rattle.vm_facts.specs.SwapImages.{SwapImage}
 use Rattle.io_edge.specs.FileHolding.{NamedFile}
 use Rattle.vm_facts.specs.Answers.{Answers}
 use Rattle.vm_facts.specs.declared.stop.Stop.{Stop}
@@ -32,24 +33,24 @@ use Rattle.step_units.proofs.Ending.{exit_made, exit_stops}
 use Rattle.step_units.proofs.Executing.{exec_made, exec_stops}
 use Rattle.proc_run.specs.Calls.{own_answers, CallComes, CallStops}
 
-module _ (A : Inputs) (s : State) (old new : Standing) (holds : Option (List NamedFile)) (image : List ℕ) (pid : ℕ) (now : Bool) (p : Process) (x : Space) (effect : Effect)
+module _ (A : Inputs) (s : State) (old new : Standing) (holds : Option (List NamedFile)) (image : SwapImage) (pid : ℕ) (now : Bool) (p : Process) (x : Space) (effect : Effect)
     (on : RunsOn A s old holds image pid now p x) (named : AreNamed A.images old.images) where
   -- the process reads its own space
   own : own_answers old pid ≡ kernel_answers old.kernel x.sid
   own = ap (kernel_answers old.kernel) (same_space A s old.kernel image pid now p x on.machine.at on.running)
 
-  told : (call : SystemCall) (j : Option (List ℕ)) (called : Called) → j ≡ Some image → CallLeads A s old.kernel image x called new.kernel (Some image)
+  told : (call : SystemCall) (j : Option SwapImage) (called : Called) → j ≡ Some image → CallLeads A s old.kernel image x called new.kernel (Some image)
       → CallLeads A s old.kernel image x called new.kernel j
-  told call j called e h = subst (λ (i : Option (List ℕ)). CallLeads A s old.kernel image x called new.kernel i) (sym e) h
+  told call j called e h = subst (λ (i : Option SwapImage). CallLeads A s old.kernel image x called new.kernel i) (sym e) h
 
-  stop_told : (stop : Stop) (j : Option (List ℕ)) → j ≡ Some image → StopLeads A s old.kernel image stop new (Some image) → StopLeads A s old.kernel image stop new j
-  stop_told stop j e h = subst (λ (i : Option (List ℕ)). StopLeads A s old.kernel image stop new i) (sym e) h
+  stop_told : (stop : Stop) (j : Option SwapImage) → j ≡ Some image → StopLeads A s old.kernel image stop new (Some image) → StopLeads A s old.kernel image stop new j
+  stop_told stop j e h = subst (λ (i : Option SwapImage). StopLeads A s old.kernel image stop new i) (sym e) h
 
   -- one that has its reply
-  ready : (called : Called) (j : Option (List ℕ)) → called ≡ calls.Ready → CallLeads A s old.kernel image x calls.Ready new.kernel j → CallLeads A s old.kernel image x called new.kernel j
+  ready : (called : Called) (j : Option SwapImage) → called ≡ calls.Ready → CallLeads A s old.kernel image x calls.Ready new.kernel j → CallLeads A s old.kernel image x called new.kernel j
   ready called j e h = subst (λ (c : Called). CallLeads A s old.kernel image x c new.kernel j) (sym e) h
 
-  pub call_leads : (call : SystemCall) (j : Option (List ℕ)) (called : Called) → MakesCall old p x effect call
+  pub call_leads : (call : SystemCall) (j : Option SwapImage) (called : Called) → MakesCall old p x effect call
       → CallComes call old new pid effect.regs holds (Some image) j called
       → CallLeads A s old.kernel image x called new.kernel j
   call_leads system_calls.Exit j called m h =
@@ -69,7 +70,7 @@ module _ (A : Inputs) (s : State) (old new : Standing) (holds : Option (List Nam
   call_leads system_calls.Vfork j called m h = ready called j h.0 (told system_calls.Vfork j calls.Ready h.2 (vfork_made A s old new holds image pid now p x effect on m h.1))
   call_leads system_calls.Wait j called m h = told system_calls.Wait j called h.1 (wait_made A s old new holds image pid now p x effect called on m h.0)
 
-  pub call_stops : (call : SystemCall) (j : Option (List ℕ)) (stop : Stop) → MakesCall old p x effect call
+  pub call_stops : (call : SystemCall) (j : Option SwapImage) (stop : Stop) → MakesCall old p x effect call
       → CallStops call old new pid effect.regs holds (Some image) j stop
       → StopLeads A s old.kernel image stop new j
   call_stops system_calls.Exit j stop m h =

@@ -1,5 +1,6 @@
 -- A machine goes on after a call, whichever it is.
 use Rattle.std.proofs.Common.{◌≡◌, ℕ, List, Option, sym, subst}
+use Rattle.vm_facts.specs.SwapImages.{SwapImage}
 use Rattle.io_edge.specs.FileHolding.{NamedFile}
 use Rattle.vm_facts.specs.declared.regs.Regs.{Regs}
 use Rattle.user_vax.specs.Program.{run}
@@ -20,7 +21,7 @@ use Rattle.steady_laws.proofs.CallsContinue.{reply_continues, write_continues, w
 use Rattle.steady_laws.proofs.SpacesContinue.{fork_continues, exec_continues}
 use Rattle.proc_run.specs.Calls.{own_answers, CallComes}
 
-module _ (old new : Standing) (pid : ℕ) (regs : Regs) (holds : Option (List NamedFile)) (i j : Option (List ℕ)) (caller : IsCaller old pid) where
+module _ (old new : Standing) (pid : ℕ) (regs : Regs) (holds : Option (List NamedFile)) (i j : Option SwapImage) (caller : IsCaller old pid) where
   counted : (called : Called) → called ≡ calls.Ready → Continues old new 1 → Continues old new (called_count called)
   counted called e h = subst (λ (c : Called). Continues old new (called_count c)) (sym e) h
 

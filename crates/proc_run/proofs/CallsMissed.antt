@@ -1,5 +1,6 @@
 -- A call whose read misses a byte leaves the machine as it was.
 use Rattle.std.proofs.Common.{◌≡◌, inl, inr, ℕ, List, Option, Result, Ok, Err}
+use Rattle.vm_facts.specs.SwapImages.{SwapImage}
 use Rattle.io_edge.specs.FileHolding.{NamedFile}
 use Rattle.vm_facts.specs.declared.regs.Regs.{Regs}
 use Rattle.user_vax.specs.Program.{run}
@@ -42,7 +43,7 @@ module _ (old new : Standing) (pid : ℕ) (regs : Regs) (address : ℕ) where
   comes call (Err (Below a)) h = absurd (replied old new pid regs address call (Fails 14) h)
   comes call (Err (Signal number)) h = absurd (replied old new pid regs address call (Fails 14) h)
 
-  module _ (holds : Option (List NamedFile)) (i j : Option (List ℕ)) where
+  module _ (holds : Option (List NamedFile)) (i j : Option SwapImage) where
     exit_missed : (r : Result Reply Refused) → ExitComes old new pid regs r holds i j (calls.Miss address) → new ≡ old
     exit_missed (Ok (Exits status)) h = let e = h.0 in absurd cc
     exit_missed (Ok _) h = absurd h

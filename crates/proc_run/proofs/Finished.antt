@@ -2,6 +2,7 @@
 use Rattle.std.proofs.Common.{◌≡◌, ◌⊎◌, inl, inr, ℕ, ℤ, ◌+◌, not, ◌&&◌, Bool, true, List, length, Option, Some, None, Result, Ok, Err, refl, sym, ap, ap₂, ◌∙◌, subst, arith}
 use Rattle.std.specs.Prelude.{IfErr, OnOk}
 use Rattle.std.proofs.lemmas.Option.{same_Some}
+use Rattle.vm_facts.specs.SwapImages.{SwapImage}
 use Rattle.io_edge.specs.FileHolding.{NamedFile}
 use Rattle.vm_facts.specs.declared.entry.Entry.{Entry}
 use Rattle.vm_facts.specs.declared.entry.Entry.TheVariants as entries
@@ -58,7 +59,7 @@ use Rattle.proc_run.proofs.SoFar.{steady_on}
 abbrev Rests : Inputs → State → Standing → Begun → ℕ → Type 0
 Rests A s m b pid = SentFew b × (ReplyRests A s m pid (carry_of b) (r0_of b) ⊎ EndRests A s m pid)
 
-module _ (A : Inputs) (s : State) (m : Standing) (b : Begun) (holds : Option (List NamedFile)) (i : Option (List ℕ)) (image : List ℕ) (pid : ℕ) (is : pid ≡ pid_of b)
+module _ (A : Inputs) (s : State) (m : Standing) (b : Begun) (holds : Option (List NamedFile)) (i : Option SwapImage) (image : SwapImage) (pid : ℕ) (is : pid ≡ pid_of b)
     (h : BegunAt m b holds i A s image) where
   rests : Rests A s m b pid
   rests = subst (Rests A s m b) (sym is) (go s.point.last refl h.begun)
@@ -83,7 +84,7 @@ module _ (A : Inputs) (s : State) (m : Standing) (b : Begun) (holds : Option (Li
     | inr r ↦ runs_so r.now r.process r.space r.running
   ]
 
-module _ (m : Standing) (b : Begun) (holds : Option (List NamedFile)) (i : Option (List ℕ)) (pid : ℕ) (is : pid ≡ pid_of b) (h : AtSome (BegunAt m b holds i)) where
+module _ (m : Standing) (b : Begun) (holds : Option (List NamedFile)) (i : Option SwapImage) (pid : ℕ) (is : pid ≡ pid_of b) (h : AtSome (BegunAt m b holds i)) where
   pub begun_runs : may_run m.kernel pid ≡ true
   begun_runs = rest_runs h.0 h.1 m b holds i h.2 pid is h.3
 
@@ -92,17 +93,17 @@ module _ (m : Standing) (b : Begun) (holds : Option (List NamedFile)) (i : Optio
 
 -- The instruction of the process, with the registers of its record.
 
-module _ (m : Standing) (b : Begun) (holds : Option (List NamedFile)) (i : Option (List ℕ)) (pid : ℕ) (is : pid ≡ pid_of b) (before : Regs) (same : before ≡ regs_of m.kernel pid) where
+module _ (m : Standing) (b : Begun) (holds : Option (List NamedFile)) (i : Option SwapImage) (pid : ℕ) (is : pid ≡ pid_of b) (before : Regs) (same : before ≡ regs_of m.kernel pid) where
   abbrev tried : Result Effect Refused
   tried = run (own_answers m pid) (instruction before)
 
-  own : (A : Inputs) (s : State) (image : List ℕ) (now : Bool) (p : Process) (x : Space) → At A s m.kernel image → IsRunning A s pid now p x
+  own : (A : Inputs) (s : State) (image : SwapImage) (now : Bool) (p : Process) (x : Space) → At A s m.kernel image → IsRunning A s pid now p x
       → tried ≡ run (kernel_answers m.kernel x.sid) (instruction p.regs)
   own A s image now p x at r =
       ap (λ (n : ℕ). run (kernel_answers m.kernel n) (instruction before)) (same_space A s m.kernel image pid now p x at r)
       ∙ ap (λ (g : Regs). run (kernel_answers m.kernel x.sid) (instruction g)) (same ∙ regs_is m.kernel pid p x (is_kept A s m.kernel image pid now p x at r))
 
-  module _ (A : Inputs) (s : State) (image : List ℕ) (h : BegunAt m b holds i A s image) where
+  module _ (A : Inputs) (s : State) (image : SwapImage) (h : BegunAt m b holds i A s image) where
     replies : (r : ReplyRests A s m pid (carry_of b) (r0_of b)) → tried ≡ Ok r.effect
     replies r = own A s image r.now r.process r.space h.machine.at r.running ∙ r.makes.made
 
@@ -131,7 +132,7 @@ module _ (m : Standing) (b : Begun) (holds : Option (List NamedFile)) (i : Optio
       never_below r = let e : Ok made.effect ≡ Err (Below r.address) = sym made.made ∙ below r in absurd cc
 
       answer_leads : (new : Standing) → Answered m new pid call (replied after (carry_of b) (r0_of b)) Keep → StepLeads A s m.kernel image 1 new.kernel i
-      answer_leads new a = subst (λ (o : Option (List ℕ)). StepLeads A s m.kernel image 1 new.kernel o) (sym h.told) (elim (rests A s m b holds i image pid is h).1 [
+      answer_leads new a = subst (λ (o : Option SwapImage). StepLeads A s m.kernel image 1 new.kernel o) (sym h.told) (elim (rests A s m b holds i image pid is h).1 [
         | inl r ↦ rest_made A s m new holds image pid (carry_of b) (r0_of b) h.machine r
             (subst (λ (c : SystemCall). Answered m new pid c (replied r.effect.regs (carry_of b) (r0_of b)) Keep) (same_call r)
             (subst (λ (g : Regs). Answered m new pid call (replied g (carry_of b) (r0_of b)) Keep) (sym made.left ∙ ap (λ (y : Effect). y.regs) (sym (same_effect r))) a))
@@ -139,26 +140,26 @@ module _ (m : Standing) (b : Begun) (holds : Option (List NamedFile)) (i : Optio
       ])
 
       answer_halts : (new : Standing) (stop : Stop) → StopsBefore m new stop → StopLeads A s m.kernel image stop new i
-      answer_halts new stop a = subst (λ (o : Option (List ℕ)). StopLeads A s m.kernel image stop new o) (sym h.told) (elim (rests A s m b holds i image pid is h).1 [
+      answer_halts new stop a = subst (λ (o : Option SwapImage). StopLeads A s m.kernel image stop new o) (sym h.told) (elim (rests A s m b holds i image pid is h).1 [
         | inl r ↦ rest_stops A s m new image pid (carry_of b) (r0_of b) stop r a
         | inr r ↦ absurd (never_below r)
       ])
 
     -- A process that fell below its stack ends.
-    module _ (address : ℕ) (down : tried ≡ Err (Below address)) (new : Standing) (j : Option (List ℕ)) where
+    module _ (address : ℕ) (down : tried ≡ Err (Below address)) (new : Standing) (j : Option SwapImage) where
       never_replies : (r : ReplyRests A s m pid (carry_of b) (r0_of b)) → ⊥
       never_replies r = let e : Ok r.effect ≡ Err (Below address) = sym (replies r) ∙ down in absurd cc
 
       end_leads : HasEnded m new pid 11 holds i j → StepLeads A s m.kernel image 1 new.kernel j
       end_leads e = elim (rests A s m b holds i image pid is h).1 [
         | inl r ↦ absurd (never_replies r)
-        | inr r ↦ ended A s m holds image pid r.now r.process r.space 11 h.machine r.running r.ends new j (subst (λ (o : Option (List ℕ)). HasEnded m new pid 11 holds o j) h.told e)
+        | inr r ↦ ended A s m holds image pid r.now r.process r.space 11 h.machine r.running r.ends new j (subst (λ (o : Option SwapImage). HasEnded m new pid 11 holds o j) h.told e)
       ]
 
       end_halts : (stop : Stop) → StopsAlive m new pid holds i j stop → StopLeads A s m.kernel image stop new j
       end_halts stop e = elim (rests A s m b holds i image pid is h).1 [
         | inl r ↦ absurd (never_replies r)
-        | inr r ↦ end_stops A s m holds image pid r.now r.process r.space 11 h.machine r.running r.ends new j stop (subst (λ (o : Option (List ℕ)). StopsAlive m new pid holds o j stop) h.told e)
+        | inr r ↦ end_stops A s m holds image pid r.now r.process r.space 11 h.machine r.running r.ends new j stop (subst (λ (o : Option SwapImage). StopsAlive m new pid holds o j stop) h.told e)
       ]
 
   -- It came to nothing else.
@@ -191,7 +192,7 @@ module _ (m : Standing) (b : Begun) (holds : Option (List NamedFile)) (i : Optio
 
 -- The attempt left the machine as it was.
 
-module _ (old mid new : Standing) (f : mid ≡ old) (b : Begun) (holds : Option (List NamedFile)) (i : Option (List ℕ)) (pid : ℕ) (is : pid ≡ pid_of b) (before : Regs)
+module _ (old mid new : Standing) (f : mid ≡ old) (b : Begun) (holds : Option (List NamedFile)) (i : Option SwapImage) (pid : ℕ) (is : pid ≡ pid_of b) (before : Regs)
     (same : before ≡ regs_of old.kernel pid) where
   module _ (number : ℤ) (after : Regs) (call : SystemCall) (made : MadeCall old pid before number after) (names : call_of number ≡ Some call) where
     pub answer_finishes : Answered mid new pid call (replied after (carry_of b) (r0_of b)) Keep → LeadsFrom (BegunAt old b holds i) (λ A s image. StepLeads A s old.kernel image 1 new.kernel i)
@@ -203,7 +204,7 @@ module _ (old mid new : Standing) (f : mid ≡ old) (b : Begun) (holds : Option 
     answer_stops stop a A s image h =
         answer_halts old b holds i pid is before same A s image h number after call made names new stop (subst (λ (m : Standing). StopsBefore m new stop) f a)
 
-  module _ (address : ℕ) (down : answer_of (run (own_answers old pid) (instruction before)) ≡ steps.Below address) (j : Option (List ℕ)) where
+  module _ (address : ℕ) (down : answer_of (run (own_answers old pid) (instruction before)) ≡ steps.Below address) (j : Option SwapImage) where
     pub end_finishes : (r : Result (Unit {0}) Stop) → OnOk r (HasEnded mid new pid 11 holds i j)
         → OnOk r (LeadsFrom (BegunAt old b holds i) (λ A s image. StepLeads A s old.kernel image 1 new.kernel j))
     end_finishes (Err stop) e = tt
@@ -232,7 +233,7 @@ module _ (old mid new : Standing) (f : mid ≡ old) (pid : ℕ) (steady : IsStea
       (reply_continues old new pid call regs (Does regs Keep) calls.Ready (caller_of old pid steady lends) tt
       (refl, subst (λ (m : Standing). Answered m new pid call regs Keep) f a))
 
-  pub end_counts : (holds : Option (List NamedFile)) (i j : Option (List ℕ)) (r : Result (Unit {0}) Stop) → OnOk r (HasEnded mid new pid 11 holds i j) → OnOk r (CanGoOn new)
+  pub end_counts : (holds : Option (List NamedFile)) (i j : Option SwapImage) (r : Result (Unit {0}) Stop) → OnOk r (HasEnded mid new pid 11 holds i j) → OnOk r (CanGoOn new)
       → OnOk r (CountsTo old new (instructions_of old.kernel.journal) (instructions_of old.kernel.journal + 1))
   end_counts holds i j (Err stop) e ready = tt
   end_counts holds i j (Ok x) e ready =

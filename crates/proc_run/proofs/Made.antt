@@ -1,6 +1,7 @@
 -- What the call of an instruction comes to, and what follows where a byte that it reads misses.
 use Rattle.std.proofs.Common.{◌≡◌, ◌⊎◌, inl, inr, ℕ, ℤ, Bool, false, List, Option, Some, Result, Ok, Err, refl, sym, ap, ◌∙◌, subst}
 use Rattle.std.specs.Prelude.{IfOk, IfErr}
+use Rattle.vm_facts.specs.SwapImages.{SwapImage}
 use Rattle.io_edge.specs.FileHolding.{NamedFile}
 use Rattle.vm_facts.specs.declared.regs.Regs.{Regs}
 use Rattle.vm_facts.specs.declared.stop.Stop.{Stop}
@@ -34,7 +35,7 @@ pub caller_of : (m : Standing) (pid : ℕ) → IsSteady m → CanLend m.kernel p
 caller_of m pid h l = record { ready = h.ready; clear = h.clear; lends = l }
 
 -- a call that a byte misses changed nothing
-pub unchanged : (call : SystemCall) (old new : Standing) (pid : ℕ) (after : Regs) (holds : Option (List NamedFile)) (i j : Option (List ℕ)) (called : Called)
+pub unchanged : (call : SystemCall) (old new : Standing) (pid : ℕ) (after : Regs) (holds : Option (List NamedFile)) (i j : Option SwapImage) (called : Called)
     (address : ℕ) → called ≡ calls.Miss address → CallComes call old new pid after holds i j called → new ≡ old
 unchanged call old new pid after holds i j called address is given =
     call_missed old new pid after address holds i j (known old.images) (are_known old.images) call
@@ -44,17 +45,17 @@ unchanged call old new pid after holds i j called address is given =
 pub made_quiet : (m : Standing) (pid : ℕ) (before : Regs) (number : ℤ) (after : Regs) → MadeCall m pid before number after → WritesNothing m.kernel pid before
 made_quiet m pid before number after c = ap writes_of c.made ∙ calls_write_none (own_answers m pid) before c.effect number c.made c.number_is
 
-module _ (old new : Standing) (pid : ℕ) (before : Regs) (number : ℤ) (after : Regs) (call : SystemCall) (holds : Option (List NamedFile)) (i j : Option (List ℕ)) (now : Bool)
+module _ (old new : Standing) (pid : ℕ) (before : Regs) (number : ℤ) (after : Regs) (call : SystemCall) (holds : Option (List NamedFile)) (i j : Option SwapImage) (now : Bool)
     (steady : IsSteady old) (lends : CanLend old.kernel pid) (same : before ≡ regs_of old.kernel pid) (made : MadeCall old pid before number after) (names : call_of number ≡ Some call) where
   pub goes_on : (called : Called) → CallComes call old new pid after holds i j called → Continues old new (called_count called)
   goes_on called h = calls_go_on old new pid after holds i j (caller_of old pid steady lends) (known old.images) (are_known old.images) call called h
 
   pub leads : (called : Called) → CallComes call old new pid after holds i j called
-      → (A : Inputs) (s : State) (image : List ℕ) (p : Process) (x : Space) → RunsAt A s old holds i image pid now p x → CallLeads A s old.kernel image x called new.kernel j
+      → (A : Inputs) (s : State) (image : SwapImage) (p : Process) (x : Space) → RunsAt A s old holds i image pid now p x → CallLeads A s old.kernel image x called new.kernel j
   leads called h A s image p x r =
       call_leads A s old new holds image pid now p x made.effect r.on r.named call j called (makes_call A s old holds i image pid now p x before r same number after call made names)
       (subst (λ (g : Regs). CallComes call old new pid g holds (Some image) j called) (sym made.left)
-      (subst (λ (o : Option (List ℕ)). CallComes call old new pid after holds o j called) r.told h))
+      (subst (λ (o : Option SwapImage). CallComes call old new pid after holds o j called) r.told h))
 
   pub ready_advances : (called : Called) → (called ≡ calls.Ready) ⊎ (called ≡ calls.Gone) → CallComes call old new pid after holds i j called
       → LeadsFrom (HasRunner old holds i pid now) (AdvancesTo old.kernel new.kernel j advances.Counted)
@@ -81,7 +82,7 @@ module _ (old new : Standing) (pid : ℕ) (before : Regs) (number : ℤ) (after 
   stopped stop h A s image (p, x, r) =
       call_stops A s old new holds image pid now p x made.effect r.on r.named call j stop (makes_call A s old holds i image pid now p x before r same number after call made names)
       (subst (λ (g : Regs). CallStops call old new pid g holds (Some image) j stop) (sym made.left)
-      (subst (λ (o : Option (List ℕ)). CallStops call old new pid after holds o j stop) r.told h))
+      (subst (λ (o : Option SwapImage). CallStops call old new pid after holds o j stop) r.told h))
 
   -- A byte that it reads misses.
 
@@ -89,7 +90,7 @@ module _ (old new : Standing) (pid : ℕ) (before : Regs) (number : ℤ) (after 
     comes : CallComes call old new pid after holds i j (calls.Miss address)
     comes = subst (λ (d : Called). CallComes call old new pid after holds i j d) is given
 
-    module _ (last : Standing) (later : Option (List NamedFile)) (k : Option (List ℕ)) (files : later ≡ holds) where
+    module _ (last : Standing) (later : Option (List NamedFile)) (k : Option SwapImage) (files : later ≡ holds) where
       pub missed_advances : (o : Result Advance Stop) → IfOk o (λ advance. LeadsFrom (WaitsAt new later j pid now address false) (AdvancesTo new.kernel last.kernel k advance))
           → IfOk o (λ advance. LeadsFrom (HasRunner old holds i pid now) (AdvancesTo old.kernel last.kernel k advance))
       missed_advances (Err stop) h = tt

@@ -3,6 +3,7 @@ use Rattle.std.proofs.Common.{◌≡◌, ℕ, ◌+◌, ◌<◌, ◌≤◌, ◌==
 use Rattle.std.specs.Prelude.{find, cond, min, if◌then◌else◌}
 use Rattle.std.proofs.lemmas.Bool.{and_parts}
 use Rattle.std.proofs.lemmas.Bool.Decides.{nat_tests}
+use Rattle.vm_facts.specs.SwapImages.{SwapImage}
 use Rattle.flat_state.specs.Space.{Space}
 use Rattle.flat_state.specs.Flat.{FlatState, Process, Inputs, Holding, Holds, Lends, Zombie, process_of, ready_if, can_step as flat_steps, holds_space as flat_holds}
 use Rattle.page_model.specs.Pages.{numbered}
@@ -99,7 +100,7 @@ is_false : (b : Bool) → not b ≡ true → b ≡ false
 is_false true e = absurd cc
 is_false false e = refl
 
-module _ (A : Inputs) (s : State) (k : Kernel) (image : List ℕ) (pid until : ℕ) (at : At A s k image) where
+module _ (A : Inputs) (s : State) (k : Kernel) (image : SwapImage) (pid until : ℕ) (at : At A s k image) where
   pub can_steps : flat_steps s.point.flat pid ≡ steps_by (proc_of k pid)
   can_steps = steps_same k s.point.flat pid at.stands.keeps.coupled.tables
 

@@ -1,6 +1,7 @@
 -- A process that runs in a machine at a state of a run.
 use Rattle.std.proofs.Common.{◌≡◌, ℕ, Bool, true, List, Option, Result, Ok, sym, ◌∙◌, subst}
 use Rattle.std.specs.Prelude.{IfOk}
+use Rattle.vm_facts.specs.SwapImages.{SwapImage}
 use Rattle.io_edge.specs.FileHolding.{NamedFile}
 use Rattle.vm_facts.specs.declared.page.Page.{Page}
 use Rattle.vm_facts.specs.declared.stop.NoMemory.{NoMemory}
@@ -17,7 +18,7 @@ use Rattle.proc_run.specs.Runs.{RunsAt}
 use Rattle.proc_run.specs.Serving.{AreLocked}
 
 -- with the registers that the machine keeps
-pub runs_with : (A : Inputs) (s : State) (m : Standing) (holds : Option (List NamedFile)) (i : Option (List ℕ)) (image : List ℕ) (pid : ℕ) (now : Bool)
+pub runs_with : (A : Inputs) (s : State) (m : Standing) (holds : Option (List NamedFile)) (i : Option SwapImage) (image : SwapImage) (pid : ℕ) (now : Bool)
     (p : Process) (x : Space) (regs : Regs)
     → regs ≡ regs_of m.kernel pid → RunsAt A s m holds i image pid now p x → RunsWith A s now m pid regs
 runs_with A s m holds i image pid now p x regs e r = record {
@@ -31,7 +32,7 @@ runs_with A s m holds i image pid now p x regs e r = record {
 }
 
 -- the pages that the instruction touches before the first that isn't valid are those that the run keeps
-pub kept : (m : Standing) (holds : Option (List NamedFile)) (i : Option (List ℕ)) (pid : ℕ) (regs : Regs) (r : Result (List Page) NoMemory)
+pub kept : (m : Standing) (holds : Option (List NamedFile)) (i : Option SwapImage) (pid : ℕ) (regs : Regs) (r : Result (List Page) NoMemory)
     (touched pages : List Page)
     → regs ≡ regs_of m.kernel pid
     → pages ≡ touched → r ≡ Ok touched

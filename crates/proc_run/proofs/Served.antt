@@ -1,6 +1,7 @@
 -- An access that was served is next units of the run, and an end of the process after it.
 use Rattle.std.proofs.Common.{◌≡◌, inl, inr, ℕ, ◌-◌, Bool, true, false, List, [], ◌∷◌, Option, Some, Result, Ok, Err, refl, sym, ap, ◌∙◌, subst}
 use Rattle.std.specs.Prelude.{IfOk, OnOk, IfErr, MatchResult}
+use Rattle.vm_facts.specs.SwapImages.{SwapImage}
 use Rattle.io_edge.specs.FileHolding.{NamedFile}
 use Rattle.vm_facts.specs.declared.page.Page.{Page}
 use Rattle.vm_facts.specs.declared.page.Page.TheVariants as page_names
@@ -41,20 +42,20 @@ use Rattle.proc_run.specs.Serving.{AreLocked, ServedBy, StopsServed}
 -- Whatever the devices tell.
 
 pub served_on : (r : Result Served Stop) (old new : Standing) (pid address : ℕ) (write : Bool) (holds : Option (List NamedFile))
-    (i j : Option (List ℕ)) → IsCaller old pid
+    (i j : Option SwapImage) → IsCaller old pid
     → MatchResult r (ServedBy false old new pid address write holds i j) (StopsServed false old new pid address write holds i j) → OnOk r (Continues old new 0)
 served_on (Err stop) old new pid address write holds i j c h = tt
 served_on (Ok answer) old new pid address write holds i j c h = access_continues old new pid (access_by old.kernel pid address write) answer holds i j c h
 
 pub brought_on : (r : Result Served Stop) (old new : Standing) (pid address : ℕ) (write : Bool) (holds : Option (List NamedFile))
-    (i j : Option (List ℕ)) → IsCaller old pid
+    (i j : Option SwapImage) → IsCaller old pid
     → IfOk r (ServedBy true old new pid address write holds i j) → OnOk r (Continues old new 0)
 brought_on (Err stop) old new pid address write holds i j c h = tt
 brought_on (Ok answer) old new pid address write holds i j c h = access_now_continues old new pid (access_by old.kernel pid address write) answer h.pages holds i j c h.comes
 
 -- In a run.
 
-module _ (A : Inputs) (s : State) (old mid : Standing) (holds : Option (List NamedFile)) (i j : Option (List ℕ)) (image : List ℕ) (pid : ℕ) (now : Bool) (p : Process) (x : Space)
+module _ (A : Inputs) (s : State) (old mid : Standing) (holds : Option (List NamedFile)) (i j : Option SwapImage) (image : SwapImage) (pid : ℕ) (now : Bool) (p : Process) (x : Space)
     (address : ℕ) (write : Bool) (before : List Page) (r : RunsAt A s old holds i image pid now p x) (w : WaitsForPage A s old p x address write before) where
   kept : locked A s ≡ before
   kept = elim w [
@@ -65,7 +66,7 @@ module _ (A : Inputs) (s : State) (old mid : Standing) (holds : Option (List Nam
   ]
 
 -- by whether it is served by waiting
-pub served_leads : (now : Bool) (A : Inputs) (s : State) (old mid : Standing) (holds : Option (List NamedFile)) (i j : Option (List ℕ)) (image : List ℕ)
+pub served_leads : (now : Bool) (A : Inputs) (s : State) (old mid : Standing) (holds : Option (List NamedFile)) (i j : Option SwapImage) (image : SwapImage)
     (pid : ℕ) (p : Process) (x : Space)
     (address : ℕ) (write : Bool) (before : List Page) (answer : Served) → RunsAt A s old holds i image pid now p x
     → WaitsForPage A s old p x address write before
@@ -73,30 +74,30 @@ pub served_leads : (now : Bool) (A : Inputs) (s : State) (old mid : Standing) (h
 served_leads true A s old mid holds i j image pid p x address write before answer r w h =
     let same = h.kept A s image p x r ∙ kept A s old mid holds i j image pid true p x address write before r w in
     serve_now_made A s old mid holds image j pid p x address write before answer r.on w
-    (subst (λ (o : Option (List ℕ)). AccessComes (λ came q from. TouchedNow before came q from mid holds o j) (access_by old.kernel pid address write) answer pid old mid o j) r.told
+    (subst (λ (o : Option SwapImage). AccessComes (λ came q from. TouchedNow before came q from mid holds o j) (access_by old.kernel pid address write) answer pid old mid o j) r.told
     (subst (λ (qs : List Page). AccessComes (λ came q from. TouchedNow qs came q from mid holds i j) (access_by old.kernel pid address write) answer pid old mid i j) same h.comes))
 served_leads false A s old mid holds i j image pid p x address write before answer r w h =
-    serve_made A s old mid holds image j pid p x address write before answer r.on w (subst (λ (o : Option (List ℕ)). ServedBy false old mid pid address write holds o j answer) r.told h)
+    serve_made A s old mid holds image j pid p x address write before answer r.on w (subst (λ (o : Option SwapImage). ServedBy false old mid pid address write holds o j answer) r.told h)
 
-pub served_stops : (now : Bool) (A : Inputs) (s : State) (old new : Standing) (holds : Option (List NamedFile)) (i j : Option (List ℕ)) (image : List ℕ)
+pub served_stops : (now : Bool) (A : Inputs) (s : State) (old new : Standing) (holds : Option (List NamedFile)) (i j : Option SwapImage) (image : SwapImage)
     (pid : ℕ) (p : Process) (x : Space)
     (address : ℕ) (write : Bool) (before : List Page) (stop : Stop) → RunsAt A s old holds i image pid now p x → WaitsForPage A s old p x address write before
     → StopsServed now old new pid address write holds i j stop → StopLeads A s old.kernel image stop new j
 served_stops true A s old new holds i j image pid p x address write before stop r w h = elim h [
-  | inl o ↦ subst (λ (z : Option (List ℕ)). StopLeads A s old.kernel image stop new z) (sym (o.image ∙ r.told)) (stopped_short A s old new image stop o.stopped o.cause o.whole)
+  | inl o ↦ subst (λ (z : Option SwapImage). StopLeads A s old.kernel image stop new z) (sym (o.image ∙ r.told)) (stopped_short A s old new image stop o.stopped o.cause o.whole)
   | inr n ↦ (
       let same = n.kept A s image p x r ∙ kept A s old new holds i j image pid true p x address write before r w in
       access_stops A s old new holds image j pid true p x address write before before stop (λ e. refl) r.on w
-      (subst (λ (o : Option (List ℕ)). AccessStops true before (access_by old.kernel pid address write) pid old new holds o j stop) r.told
+      (subst (λ (o : Option SwapImage). AccessStops true before (access_by old.kernel pid address write) pid old new holds o j stop) r.told
       (subst (λ (qs : List Page). AccessStops true qs (access_by old.kernel pid address write) pid old new holds i j stop) same n.stops)))
 ]
 served_stops false A s old new holds i j image pid p x address write before stop r w h =
     access_stops A s old new holds image j pid false p x address write before [] stop (λ e. absurd cc) r.on w
-    (subst (λ (o : Option (List ℕ)). AccessStops false [] (access_by old.kernel pid address write) pid old new holds o j stop) r.told h)
+    (subst (λ (o : Option SwapImage). AccessStops false [] (access_by old.kernel pid address write) pid old new holds o j stop) r.told h)
 
 -- The process ends after the entry that says that its stack finds no place.
 
-module _ (A : Inputs) (s : State) (old mid : Standing) (holds : Option (List NamedFile)) (told : Option (List ℕ)) (image : List ℕ) (pid : ℕ) (now : Bool) (p : Process) (x : Space)
+module _ (A : Inputs) (s : State) (old mid : Standing) (holds : Option (List NamedFile)) (told : Option SwapImage) (image : SwapImage) (pid : ℕ) (now : Bool) (p : Process) (x : Space)
     (on : RunsOn A s old holds image pid now p x) (params : mid.params ≡ old.params) (images : mid.images ≡ old.images) (e : EndsUngrown A s old mid holds image pid now p x)
     (t : told ≡ Some image) where
   at_refusal : MachineAt A e.state mid holds image
@@ -106,16 +107,16 @@ module _ (A : Inputs) (s : State) (old mid : Standing) (holds : Option (List Nam
     blocks = ap (λ (y : Params). y.swap_blocks) params ∙ on.machine.blocks;
   }
 
-  pub refused_ends : (new : Standing) (j : Option (List ℕ)) → HasEnded mid new pid 11 holds told j → StepLeads A s old.kernel image 1 new.kernel j
+  pub refused_ends : (new : Standing) (j : Option SwapImage) → HasEnded mid new pid 11 holds told j → StepLeads A s old.kernel image 1 new.kernel j
   refused_ends new j h =
       leads_then A s e.state old.kernel mid.kernel new.kernel image image j (entries.Refused pid ∷ []) 1 e.leads e.count e.lines e.mark
-      (ended A e.state mid holds image pid now p x 11 at_refusal e.running e.ends new j (subst (λ (o : Option (List ℕ)). HasEnded mid new pid 11 holds o j) t h))
+      (ended A e.state mid holds image pid now p x 11 at_refusal e.running e.ends new j (subst (λ (o : Option SwapImage). HasEnded mid new pid 11 holds o j) t h))
 
-  pub refused_stops : (new : Standing) (j : Option (List ℕ)) (stop : Stop) → StopsAlive mid new pid holds told j stop
+  pub refused_stops : (new : Standing) (j : Option SwapImage) (stop : Stop) → StopsAlive mid new pid holds told j stop
       → StopLeads A s old.kernel image stop new j
   refused_stops new j stop h =
       stops_then A s e.state old.kernel mid.kernel image image j (entries.Refused pid ∷ []) stop new e.leads
-      (end_stops A e.state mid holds image pid now p x 11 at_refusal e.running e.ends new j stop (subst (λ (o : Option (List ℕ)). StopsAlive mid new pid holds o j stop) t h))
+      (end_stops A e.state mid holds image pid now p x 11 at_refusal e.running e.ends new j stop (subst (λ (o : Option SwapImage). StopsAlive mid new pid holds o j stop) t h))
 
 -- As the clauses of the calls say it.
 
@@ -125,7 +126,7 @@ IsEnd served.NoSpace = Unit {0}
 IsEnd (served.Signal number) = Unit {0}
 IsEnd _ = ⊥
 
-access_ends : (Touched : Served → Page → Standing → Type 0) (access : Access) (answer : Served) (pid : ℕ) (old new : Standing) (i j : Option (List ℕ))
+access_ends : (Touched : Served → Page → Standing → Type 0) (access : Access) (answer : Served) (pid : ℕ) (old new : Standing) (i j : Option SwapImage)
     → ((q : Page) (m : Standing) (number : ℕ) → Touched (served.Signal number) q m → ⊥) → ((q : Page) (m : Standing) → Touched served.NoSpace q m → ⊥)
     → IsEnd answer → AccessComes Touched access answer pid old new i j → CanLend old.kernel pid → CanLend new.kernel pid
 access_ends Touched (accesses.Page q) served.NoSpace pid old new i j f g e h c = absurd (g q old h)
@@ -137,7 +138,7 @@ access_ends Touched (accesses.Growth sid pages) served.NoSpace pid old new i j f
 access_ends Touched (accesses.Growth sid pages) (served.Signal number) pid old new i j f g e h c = absurd (f (page_names.Stack sid (pages - 1)) h.between number h.behind)
 access_ends Touched (accesses.Growth sid pages) _ pid old new i j f g e h c = absurd e
 
-ends_there : (now : Bool) (old new : Standing) (pid address : ℕ) (write : Bool) (holds : Option (List NamedFile)) (i j : Option (List ℕ)) (answer : Served)
+ends_there : (now : Bool) (old new : Standing) (pid address : ℕ) (write : Bool) (holds : Option (List NamedFile)) (i j : Option SwapImage) (answer : Served)
     → IsEnd answer
     → ServedBy now old new pid address write holds i j answer → CanLend old.kernel pid → CanLend new.kernel pid
 ends_there true old new pid address write holds i j answer e h c =
@@ -146,7 +147,7 @@ ends_there false old new pid address write holds i j answer e h c =
     access_ends (λ came q from. TouchedAs came q from new holds i j) (access_by old.kernel pid address write) answer pid old new i j (λ q m number x. x) (λ q m x. x) e h c
 
 -- what serving leads to, where the process doesn't end
-pub advances_valid : (now : Bool) (A : Inputs) (s : State) (old mid : Standing) (holds : Option (List NamedFile)) (i j : Option (List ℕ)) (image : List ℕ)
+pub advances_valid : (now : Bool) (A : Inputs) (s : State) (old mid : Standing) (holds : Option (List NamedFile)) (i j : Option SwapImage) (image : SwapImage)
     (pid : ℕ) (p : Process) (x : Space)
     (address : ℕ) (write : Bool) (before : List Page) (answer : Served) → answer ≡ served.Valid → RunsAt A s old holds i image pid now p x
     → WaitsForPage A s old p x address write before
@@ -160,7 +161,7 @@ IsStuck (served.Asleep q) = Unit {0}
 IsStuck served.NoFrame = Unit {0}
 IsStuck _ = ⊥
 
-pub advances_stuck : (now : Bool) (A : Inputs) (s : State) (old mid : Standing) (holds : Option (List NamedFile)) (i j : Option (List ℕ)) (image : List ℕ)
+pub advances_stuck : (now : Bool) (A : Inputs) (s : State) (old mid : Standing) (holds : Option (List NamedFile)) (i j : Option SwapImage) (image : SwapImage)
     (pid : ℕ) (p : Process) (x : Space)
     (address : ℕ) (write : Bool) (before : List Page) (answer : Served) → IsStuck answer → RunsAt A s old holds i image pid now p x
     → WaitsForPage A s old p x address write before
@@ -179,7 +180,7 @@ EndsBy (served.Signal number) status = status ≡ number
 EndsBy _ status = ⊥
 
 -- who ends may be killed
-pub ends_calls : (now : Bool) (old new : Standing) (pid address : ℕ) (write : Bool) (holds : Option (List NamedFile)) (i j : Option (List ℕ))
+pub ends_calls : (now : Bool) (old new : Standing) (pid address : ℕ) (write : Bool) (holds : Option (List NamedFile)) (i j : Option SwapImage)
     (answer : Served) (status : ℕ)
     → EndsBy answer status → ServedBy now old new pid address write holds i j answer → CanLend old.kernel pid → CanGoOn new
     → Continues old new 0 → IsCaller new pid
@@ -191,8 +192,8 @@ ends_calls now old new pid address write holds i j answer status e h c ready on 
     is_end (served.Signal number) e = tt
     is_end _ e = absurd e
 
-pub advances_ended : (now : Bool) (A : Inputs) (s : State) (old mid new : Standing) (holds : Option (List NamedFile)) (i told j : Option (List ℕ))
-    (image : List ℕ) (pid : ℕ) (p : Process) (x : Space)
+pub advances_ended : (now : Bool) (A : Inputs) (s : State) (old mid new : Standing) (holds : Option (List NamedFile)) (i told j : Option SwapImage)
+    (image : SwapImage) (pid : ℕ) (p : Process) (x : Space)
     (address : ℕ) (write : Bool) (before : List Page) (answer : Served) (status : ℕ) → EndsBy answer status → Continues old mid 0
     → RunsAt A s old holds i image pid now p x
     → WaitsForPage A s old p x address write before → ServedBy now old mid pid address write holds i told answer → HasEnded mid new pid status holds told j
@@ -206,7 +207,7 @@ advances_ended now A s old mid new holds i told j image pid p x address write be
     go (served.Signal number) e m = absurd m
     go _ e m = absurd e
 
-pub stops_ended : (now : Bool) (A : Inputs) (s : State) (old mid new : Standing) (holds : Option (List NamedFile)) (i told j : Option (List ℕ)) (image : List ℕ)
+pub stops_ended : (now : Bool) (A : Inputs) (s : State) (old mid new : Standing) (holds : Option (List NamedFile)) (i told j : Option SwapImage) (image : SwapImage)
     (pid : ℕ) (p : Process) (x : Space)
     (address : ℕ) (write : Bool) (before : List Page) (answer : Served) (status : ℕ) (stop : Stop) → EndsBy answer status → Continues old mid 0
     → RunsAt A s old holds i image pid now p x
@@ -222,13 +223,13 @@ stops_ended now A s old mid new holds i told j image pid p x address write befor
 
 -- A page that was brought in.
 
-abbrev Brought : Standing → Standing → ℕ → ℕ → Bool → Option (List NamedFile) → Option (List ℕ) → Option (List ℕ) → List Page → Result Served Stop → Type 0
+abbrev Brought : Standing → Standing → ℕ → ℕ → Bool → Option (List NamedFile) → Option SwapImage → Option SwapImage → List Page → Result Served Stop → Type 0
 Brought old new pid address write holds i j pages r =
     MatchResult r (λ answer. AccessComes (λ came q from. TouchedNow pages came q from new holds i j) (access_by old.kernel pid address write) answer pid old new i j)
     (AccessStops true pages (access_by old.kernel pid address write) pid old new holds i j)
 
 pub brought : (r : Result Served Stop) (old mid new : Standing) (pid address : ℕ) (write : Bool) (holds : Option (List NamedFile))
-    (i j : Option (List ℕ)) (pages : List Page)
+    (i j : Option SwapImage) (pages : List Page)
     → mid ≡ old
     → AreLocked old holds i pid pages → Brought mid new pid address write holds i j pages r → IfOk r (ServedBy true old new pid address write holds i j)
 brought (Err stop) old mid new pid address write holds i j pages e k h = tt
@@ -239,7 +240,7 @@ brought (Ok answer) old mid new pid address write holds i j pages e k h = record
 }
 
 pub brought_stops : (r : Result Served Stop) (old mid new : Standing) (pid address : ℕ) (write : Bool) (holds : Option (List NamedFile))
-    (i j : Option (List ℕ)) (pages : List Page)
+    (i j : Option SwapImage) (pages : List Page)
     → mid ≡ old
     → AreLocked old holds i pid pages → Brought mid new pid address write holds i j pages r → IfErr r (StopsServed true old new pid address write holds i j)
 brought_stops (Ok answer) old mid new pid address write holds i j pages e k h = tt

@@ -1,6 +1,7 @@
 -- What a process has led to so far in a run, an attempt after another.
 use Rattle.std.proofs.Common.{◌≡◌, ℕ, zero, suc, ◌+◌, ◌<◌, ◌≤◌, Bool, true, false, not, List, [], ◌++◌, length, Option, Some, None, refl, sym, ap, ◌∙◌, subst, arith}
 use Rattle.std.proofs.lemmas.Bool.{and_parts}
+use Rattle.vm_facts.specs.SwapImages.{SwapImage}
 use Rattle.io_edge.specs.FileHolding.{NamedFile}
 use Rattle.vm_facts.specs.declared.entry.Entry.{Entry}
 use Rattle.vm_facts.specs.declared.params.Params.{Params}
@@ -38,11 +39,11 @@ use Rattle.proc_run.proofs.Marks.{runs, over_counted, over_idle}
 
 -- Next units led to a state under the same mark, at which as many instructions are counted, and at least so many pages are valid of
 -- those that the process touches first.
-pub record SoFar (A : Inputs) (s : State) (k : Kernel) (image : List ℕ) (m : Standing) (holds : Option (List NamedFile)) (j : Option (List ℕ))
+pub record SoFar (A : Inputs) (s : State) (k : Kernel) (image : SwapImage) (m : Standing) (holds : Option (List NamedFile)) (j : Option SwapImage)
     (count waits : ℕ) : Type 0 where
   pub units : List Entry
   pub state : State
-  pub behind : List ℕ
+  pub behind : SwapImage
   pub leads : Leads A s k image units state m.kernel (Some behind)
   pub told : j ≡ Some behind
   pub machine : MachineAt A state m holds behind
@@ -54,11 +55,11 @@ pub record SoFar (A : Inputs) (s : State) (k : Kernel) (image : List ℕ) (m : S
   pub waited : waits ≤ length (locked A state)
 
 -- for every state at which the machine stood
-abbrev pub LedSoFar : Standing → Standing → ℕ → Bool → ℕ → ℕ → Option (List NamedFile) → Option (List ℕ) → Option (List ℕ) → ℕ → ℕ → Type 0
+abbrev pub LedSoFar : Standing → Standing → ℕ → Bool → ℕ → ℕ → Option (List NamedFile) → Option SwapImage → Option SwapImage → ℕ → ℕ → Type 0
 LedSoFar old m pid now counted until holds i j count waits =
-    (A : Inputs) (s : State) (image : List ℕ) → UnderMark old holds i pid now counted until A s image → SoFar A s old.kernel image m holds j count waits
+    (A : Inputs) (s : State) (image : SwapImage) → UnderMark old holds i pid now counted until A s image → SoFar A s old.kernel image m holds j count waits
 
-pub none_so_far : (old : Standing) (pid : ℕ) (now : Bool) (counted until : ℕ) (holds : Option (List NamedFile)) (i : Option (List ℕ))
+pub none_so_far : (old : Standing) (pid : ℕ) (now : Bool) (counted until : ℕ) (holds : Option (List NamedFile)) (i : Option SwapImage)
     → LedSoFar old old pid now counted until holds i i counted 0
 none_so_far old pid now counted until holds i A s image u = record {
   units = [];
@@ -79,10 +80,10 @@ asks_still : (A : Inputs) (s t : State) (pid : ℕ) (now : Bool) (until : ℕ) �
 asks_still A s t pid false until e (n, since, m, u) = (n, since, e ∙ m, u)
 asks_still A s t pid true until e (since, m, u) = (since, e ∙ m, u)
 
-module _ (old m new : Standing) (pid : ℕ) (now : Bool) (counted until : ℕ) (holds : Option (List NamedFile)) (i j h : Option (List ℕ)) (count waits : ℕ)
+module _ (old m new : Standing) (pid : ℕ) (now : Bool) (counted until : ℕ) (holds : Option (List NamedFile)) (i j h : Option SwapImage) (count waits : ℕ)
     (so_far : LedSoFar old m pid now counted until holds i j count waits) where
   -- the process runs there
-  runs_there : count < until → may_run m.kernel pid ≡ true → (A : Inputs) (s : State) (image : List ℕ) (u : UnderMark old holds i pid now counted until A s image)
+  runs_there : count < until → may_run m.kernel pid ≡ true → (A : Inputs) (s : State) (image : SwapImage) (u : UnderMark old holds i pid now counted until A s image)
       → (let f = so_far A s image u in HasRunner m holds j pid now A f.state f.behind)
   runs_there l r A s image u =
       let f = so_far A s image u in
@@ -91,13 +92,13 @@ module _ (old m new : Standing) (pid : ℕ) (now : Bool) (counted until : ℕ) (
 
   module _ (more : count < until) (can : may_run m.kernel pid ≡ true) where
     -- one attempt more
-    step_far : (n waited : ℕ) (A : Inputs) (s : State) (image : List ℕ) (u : UnderMark old holds i pid now counted until A s image)
+    step_far : (n waited : ℕ) (A : Inputs) (s : State) (image : SwapImage) (u : UnderMark old holds i pid now counted until A s image)
         → (let f = so_far A s image u in (led : StepLeads A f.state m.kernel f.behind n new.kernel h) → new.params ≡ m.params → new.images ≡ m.images → waited ≤ length (locked A led.state)
         → SoFar A s old.kernel image new holds h (count + n) waited)
     step_far n waited A s image u led params images w =
         let f = so_far A s image u in
         let there : Leads A f.state m.kernel f.behind led.units led.state new.kernel (Some led.leads.behind) =
-        subst (λ (o : Option (List ℕ)). Leads A f.state m.kernel f.behind led.units led.state new.kernel o) led.leads.told led.leads in
+        subst (λ (o : Option SwapImage). Leads A f.state m.kernel f.behind led.units led.state new.kernel o) led.leads.told led.leads in
         record {
           units = f.units ++ led.units;
           state = led.state;
@@ -146,7 +147,7 @@ module _ (old m new : Standing) (pid : ℕ) (now : Bool) (counted until : ℕ) (
         record {
           units = z.units;
           state = z.state;
-          leads = subst (λ (o : Option (List ℕ)). Leads A s old.kernel image z.units z.state new.kernel o) (sym z.told) z.leads;
+          leads = subst (λ (o : Option SwapImage). Leads A s old.kernel image z.units z.state new.kernel o) (sym z.told) z.leads;
           clear = z.clear;
           over = λ e. b.over;
           counts = let c = z.counted in omega arith;
@@ -162,16 +163,16 @@ module _ (old m new : Standing) (pid : ℕ) (now : Bool) (counted until : ℕ) (
 
 -- Where it ends.
 
-module _ (old m : Standing) (pid : ℕ) (now : Bool) (counted until : ℕ) (holds : Option (List NamedFile)) (i j : Option (List ℕ)) (count waits : ℕ)
+module _ (old m : Standing) (pid : ℕ) (now : Bool) (counted until : ℕ) (holds : Option (List NamedFile)) (i j : Option SwapImage) (count waits : ℕ)
     (so_far : LedSoFar old m pid now counted until holds i j count waits) where
-  ends : (A : Inputs) (s : State) (image : List ℕ) (u : UnderMark old holds i pid now counted until A s image)
+  ends : (A : Inputs) (s : State) (image : SwapImage) (u : UnderMark old holds i pid now counted until A s image)
       → (let f = so_far A s image u in ((now ≡ true → is_out f.state.place pid ≡ false) → under A f.state f.state.mark ≡ None) → RunLeads old.kernel pid now m.kernel j count A s image)
   ends A s image u over =
       let f = so_far A s image u in
       record {
         units = f.units;
         state = f.state;
-        leads = subst (λ (o : Option (List ℕ)). Leads A s old.kernel image f.units f.state m.kernel o) (sym f.told) f.leads;
+        leads = subst (λ (o : Option SwapImage). Leads A s old.kernel image f.units f.state m.kernel o) (sym f.told) f.leads;
         clear = f.clear;
         over = over;
         counts = f.counted;
@@ -233,7 +234,7 @@ lends_there m pid s r =
 
 -- Instructions that were counted one after another.
 
-pub ran_far : (n pid : ℕ) (old m new : Standing) (now : Bool) (counted until : ℕ) (holds : Option (List NamedFile)) (i j : Option (List ℕ)) (count : ℕ)
+pub ran_far : (n pid : ℕ) (old m new : Standing) (now : Bool) (counted until : ℕ) (holds : Option (List NamedFile)) (i j : Option SwapImage) (count : ℕ)
     → LedSoFar old m pid now counted until holds i j count 0 → RanOn m pid n new → count + n ≤ until
     → LedSoFar old new pid now counted until holds i j (count + n) 0
 ran_far zero pid old m new now counted until holds i j count so_far h few =

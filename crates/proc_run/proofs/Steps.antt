@@ -1,5 +1,6 @@
 -- What an attempt at an instruction leads to in a run.
 use Rattle.std.proofs.Common.{◌≡◌, ◌⊎◌, inl, inr, ℕ, ℤ, ◌<◌, ◌≤◌, Bool, false, List, [], ◌∷◌, length, Option, Some, None, Result, Ok, Err, refl, sym, ap, ◌∙◌, subst}
+use Rattle.vm_facts.specs.SwapImages.{SwapImage}
 use Rattle.io_edge.specs.FileHolding.{NamedFile}
 use Rattle.vm_facts.specs.declared.entry.Entry.{Entry}
 use Rattle.vm_facts.specs.declared.entry.Entry.TheVariants as entries
@@ -52,7 +53,7 @@ use Rattle.step_units.proofs.Tables.{regs_is, is_kept}
 use Rattle.proc_run.specs.Calls.{own_answers, MadeCall}
 use Rattle.proc_run.specs.Runs.{RunsAt}
 
-module _ (A : Inputs) (s : State) (m : Standing) (holds : Option (List NamedFile)) (i : Option (List ℕ)) (image : List ℕ) (pid : ℕ) (now : Bool) (p : Process) (x : Space) (before : Regs)
+module _ (A : Inputs) (s : State) (m : Standing) (holds : Option (List NamedFile)) (i : Option SwapImage) (image : SwapImage) (pid : ℕ) (now : Bool) (p : Process) (x : Space) (before : Regs)
     (r : RunsAt A s m holds i image pid now p x) (same : before ≡ regs_of m.kernel pid) where
   space : space_of_pid m.kernel pid ≡ x.sid
   space = same_space A s m.kernel image pid now p x r.on.machine.at r.on.running
@@ -65,10 +66,10 @@ module _ (A : Inputs) (s : State) (m : Standing) (holds : Option (List NamedFile
   own = ap (λ (n : ℕ). run (kernel_answers m.kernel n) (instruction before)) space ∙ ap (λ (g : Regs). run (kernel_answers m.kernel x.sid) (instruction g)) regs
 
   told : (n : ℕ) (l : Kernel) → StepLeads A s m.kernel image n l (Some image) → StepLeads A s m.kernel image n l i
-  told n l h = subst (λ (o : Option (List ℕ)). StepLeads A s m.kernel image n l o) (sym r.told) h
+  told n l h = subst (λ (o : Option SwapImage). StepLeads A s m.kernel image n l o) (sym r.told) h
 
   stop_told : (stop : Stop) (new : Standing) → StopLeads A s m.kernel image stop new (Some image) → StopLeads A s m.kernel image stop new i
-  stop_told stop new h = subst (λ (o : Option (List ℕ)). StopLeads A s m.kernel image stop new o) (sym r.told) h
+  stop_told stop new h = subst (λ (o : Option SwapImage). StopLeads A s m.kernel image stop new o) (sym r.told) h
 
   -- Pages that it waits for.
 
@@ -87,33 +88,33 @@ module _ (A : Inputs) (s : State) (m : Standing) (holds : Option (List NamedFile
 
   -- Ends.
 
-  pub signal_led : (new : Standing) (j : Option (List ℕ)) (number : ℕ) → run (own_answers m pid) (instruction before) ≡ Err (Signal number)
+  pub signal_led : (new : Standing) (j : Option SwapImage) (number : ℕ) → run (own_answers m pid) (instruction before) ≡ Err (Signal number)
       → HasEnded m new pid number holds i j
       → StepLeads A s m.kernel image 1 new.kernel j
   signal_led new j number e h =
       ended A s m holds image pid now p x number r.on.machine r.on.running (signal_ends A s m holds image pid now p x number r.on (sym own ∙ e)) new j
-      (subst (λ (o : Option (List ℕ)). HasEnded m new pid number holds o j) r.told h)
+      (subst (λ (o : Option SwapImage). HasEnded m new pid number holds o j) r.told h)
 
-  pub signal_stops : (new : Standing) (j : Option (List ℕ)) (number : ℕ) (stop : Stop)
+  pub signal_stops : (new : Standing) (j : Option SwapImage) (number : ℕ) (stop : Stop)
       → run (own_answers m pid) (instruction before) ≡ Err (Signal number) → StopsAlive m new pid holds i j stop
       → StopLeads A s m.kernel image stop new j
   signal_stops new j number stop e h =
       end_stops A s m holds image pid now p x number r.on.machine r.on.running (signal_ends A s m holds image pid now p x number r.on (sym own ∙ e)) new j stop
-      (subst (λ (o : Option (List ℕ)). StopsAlive m new pid holds o j stop) r.told h)
+      (subst (λ (o : Option SwapImage). StopsAlive m new pid holds o j stop) r.told h)
 
-  pub no_call_led : (new : Standing) (j : Option (List ℕ)) (number : ℤ) (after : Regs) → MadeCall m pid before number after → call_of number ≡ None
+  pub no_call_led : (new : Standing) (j : Option SwapImage) (number : ℤ) (after : Regs) → MadeCall m pid before number after → call_of number ≡ None
       → HasEnded m new pid 12 holds i j
       → StepLeads A s m.kernel image 1 new.kernel j
   no_call_led new j number after c none h =
       ended A s m holds image pid now p x 12 r.on.machine r.on.running (no_call_ends A s m holds image pid now p x c.effect number r.on (sym own ∙ c.made) c.number_is none) new j
-      (subst (λ (o : Option (List ℕ)). HasEnded m new pid 12 holds o j) r.told h)
+      (subst (λ (o : Option SwapImage). HasEnded m new pid 12 holds o j) r.told h)
 
-  pub no_call_stops : (new : Standing) (j : Option (List ℕ)) (number : ℤ) (after : Regs) (stop : Stop) → MadeCall m pid before number after
+  pub no_call_stops : (new : Standing) (j : Option SwapImage) (number : ℤ) (after : Regs) (stop : Stop) → MadeCall m pid before number after
       → call_of number ≡ None
       → StopsAlive m new pid holds i j stop → StopLeads A s m.kernel image stop new j
   no_call_stops new j number after stop c none h =
       end_stops A s m holds image pid now p x 12 r.on.machine r.on.running (no_call_ends A s m holds image pid now p x c.effect number r.on (sym own ∙ c.made) c.number_is none) new j stop
-      (subst (λ (o : Option (List ℕ)). StopsAlive m new pid holds o j stop) r.told h)
+      (subst (λ (o : Option SwapImage). StopsAlive m new pid holds o j stop) r.told h)
 
   -- Calls.
 

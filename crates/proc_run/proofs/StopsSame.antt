@@ -1,6 +1,7 @@
 -- Where a process stops the run, the machine has its sizes and its images still, and a journal is full only at its bound.
 use Rattle.std.proofs.Common.{inl, inr, ℕ, Bool, true, false, [], List, Option, ap}
 use Rattle.std.specs.Prelude.{Result, Ok, Err, IfErr}
+use Rattle.vm_facts.specs.SwapImages.{SwapImage}
 use Rattle.io_edge.specs.FileHolding.{NamedFile}
 use Rattle.vm_facts.specs.declared.regs.Regs.{Regs}
 use Rattle.vm_facts.specs.declared.stop.Stop.{Stop}
@@ -19,7 +20,7 @@ use Rattle.proc_run.specs.Serving.{StopsServed}
 use Rattle.proc_run.proofs.Attempts.{RoomOnly}
 use Rattle.proc_run.proofs.Known.{known, are_known}
 
-pub call_same : (call : SystemCall) (old new : Standing) (pid : ℕ) (regs : Regs) (holds : Option (List NamedFile)) (i j : Option (List ℕ)) (stop : Stop)
+pub call_same : (call : SystemCall) (old new : Standing) (pid : ℕ) (regs : Regs) (holds : Option (List NamedFile)) (i j : Option SwapImage) (stop : Stop)
     → CallStops call old new pid regs holds i j stop → KeptAtStop old new stop
 call_same system_calls.Exit old new pid regs holds i j stop h = exit_same old new pid (run (own_answers old pid) (exit_reply regs)) holds i j stop h
 call_same system_calls.Fork old new pid regs holds i j stop h = forking_same old new pid regs holds i j stop h
@@ -31,7 +32,7 @@ call_same system_calls.Execve old new pid regs holds i j stop h =
 call_same system_calls.Vfork old new pid regs holds i j stop h = making_same old new pid (Lend old.kernel.next_pid) stop h.0
 call_same system_calls.Wait old new pid regs holds i j stop h = before_same old new stop h.0
 
-pub served_same : (now : Bool) (old new : Standing) (pid address : ℕ) (write : Bool) (holds : Option (List NamedFile)) (i j : Option (List ℕ)) (stop : Stop)
+pub served_same : (now : Bool) (old new : Standing) (pid address : ℕ) (write : Bool) (holds : Option (List NamedFile)) (i j : Option SwapImage) (stop : Stop)
     → StopsServed now old new pid address write holds i j stop → KeptAtStop old new stop
 served_same true old new pid address write holds i j stop h = elim h [
   | inl x ↦ starved_here old new stop x.stopped x.cause

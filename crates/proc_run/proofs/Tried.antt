@@ -1,6 +1,7 @@
 -- What follows of an attempt at an instruction, by what it came to.
 use Rattle.std.proofs.Common.{◌≡◌, ◌⊎◌, inl, inr, ℕ, ◌<◌, ◌≤◌, Bool, false, List, [], length, Option, None, Result, Ok, Err, refl, sym, ap, ◌∙◌, subst}
 use Rattle.std.specs.Prelude.{IfOk, IfErr}
+use Rattle.vm_facts.specs.SwapImages.{SwapImage}
 use Rattle.io_edge.specs.FileHolding.{NamedFile}
 use Rattle.vm_facts.specs.Answers.{ByteWrite}
 use Rattle.vm_facts.specs.declared.entry.Entry.TheVariants.{Ran}
@@ -42,7 +43,7 @@ use Rattle.proc_run.proofs.Written.{writes_same, wrote_lends}
 
 -- What a later call leads to is what the attempt leads to.
 
-module _ (old at last : Standing) (pid : ℕ) (now : Bool) (holds : Option (List NamedFile)) (i j : Option (List ℕ)) (o : RoomOnly old at) where
+module _ (old at last : Standing) (pid : ℕ) (now : Bool) (holds : Option (List NamedFile)) (i j : Option SwapImage) (o : RoomOnly old at) where
   kernel_same : at.kernel ≡ old.kernel
   kernel_same = ap (λ (m : Standing). m.kernel) o.only
 
@@ -97,7 +98,7 @@ module _ (old mid new : Standing) (pid : ℕ) (before : Regs) (o : RoomOnly old 
         (ran_continues new last pid after written.clear
         (rest ∙ ap (λ (k : Kernel). let m : Standing = record new { kernel = k; room = None } in m) step)))
 
-    pub ran_advances : (now : Bool) (holds : Option (List NamedFile)) (i : Option (List ℕ)) → before ≡ regs_of old.kernel pid
+    pub ran_advances : (now : Bool) (holds : Option (List NamedFile)) (i : Option SwapImage) → before ≡ regs_of old.kernel pid
         → LeadsFrom (HasRunner old holds i pid now) (AdvancesTo old.kernel last.kernel i advances.Counted)
     ran_advances now holds i same A s image (p, x, r) =
         let d = did_all (run (own_answers mid pid) (instruction before)) a in
@@ -110,14 +111,14 @@ module _ (old mid new : Standing) (pid : ℕ) (before : Regs) (o : RoomOnly old 
 
 -- Where it isn't, by what it came to in a machine that is as it was but for the room.
 
-module _ (old at last : Standing) (pid : ℕ) (now : Bool) (holds : Option (List NamedFile)) (i j : Option (List ℕ)) (o : RoomOnly old at) (before : Regs) (same : before ≡ regs_of old.kernel pid) where
+module _ (old at last : Standing) (pid : ℕ) (now : Bool) (holds : Option (List NamedFile)) (i j : Option SwapImage) (o : RoomOnly old at) (before : Regs) (same : before ≡ regs_of old.kernel pid) where
   -- it waits for a byte
   abbrev Misses : ℕ → Bool → Type 0
   Misses address write =
       (answer_of (run (own_answers at pid) (instruction before)) ≡ steps.Miss address write)
       ⊎ ((answer_of (run (own_answers at pid) (instruction before)) ≡ steps.Below address) × (write ≡ false))
 
-  module _ (address : ℕ) (write : Bool) (e : Misses address write) (A : Inputs) (s : State) (image : List ℕ) (p : Process) (x : Space) (r : RunsAt A s at holds i image pid now p x) where
+  module _ (address : ℕ) (write : Bool) (e : Misses address write) (A : Inputs) (s : State) (image : SwapImage) (p : Process) (x : Space) (r : RunsAt A s at holds i image pid now p x) where
     waits : (qs : List Page) × WaitsForPage A s at p x address write qs
     waits = let here = room_regs old at pid before o same in elim e [
       | inl m ↦ waits_missed A s at holds i image pid now p x before r here address write (missed (run (own_answers at pid) (instruction before)) address write m)
@@ -155,7 +156,7 @@ module _ (old at last : Standing) (pid : ℕ) (now : Bool) (holds : Option (List
 
 -- Where the run stops for want of room.
 
-pub asked_stops : (old last : Standing) (pid : ℕ) (before : Regs) (stop : Stop) (now : Bool) (holds : Option (List NamedFile)) (i : Option (List ℕ))
+pub asked_stops : (old last : Standing) (pid : ℕ) (before : Regs) (stop : Stop) (now : Bool) (holds : Option (List NamedFile)) (i : Option SwapImage)
     → before ≡ regs_of old.kernel pid → HasStopped old last
     → old.before ≡ old.kernel.holdings → (stop ≡ stops.JournalFull) ⊎ (stop ≡ stops.NoMemory)
     → (stop ≡ stops.JournalFull → (old.params.journal ≤ length old.kernel.journal)

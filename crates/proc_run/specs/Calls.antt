@@ -1,5 +1,6 @@
 -- What the call that an instruction makes comes to, whichever it is, and where the run stops in it.
 use Rattle.std.specs.Prelude.{◌≡◌, ℕ, ℤ, List, Option, Some, Ok}
+use Rattle.vm_facts.specs.SwapImages.{SwapImage}
 use Rattle.io_edge.specs.FileHolding.{NamedFile}
 use Rattle.vm_facts.specs.Answers.{Answers}
 use Rattle.vm_facts.specs.declared.regs.Regs.{Regs}
@@ -36,12 +37,12 @@ abbrev pub own_answers : Standing → ℕ → Answers
 own_answers m pid = kernel_answers m.kernel (space_of_pid m.kernel pid)
 
 -- the fork answered, and the pages that were due are copied
-pub record ForkComes (old new : Standing) (pid : ℕ) (regs : Regs) (holds : Option (List NamedFile)) (i j : Option (List ℕ)) : Type 0 where
+pub record ForkComes (old new : Standing) (pid : ℕ) (regs : Regs) (holds : Option (List NamedFile)) (i j : Option SwapImage) : Type 0 where
   pub forked : Forked old new pid regs holds i j
   pub on : HasCopied old new
 
 -- what a call comes to, by which one it is
-abbrev pub CallComes : SystemCall → Standing → Standing → ℕ → Regs → Option (List NamedFile) → Option (List ℕ) → Option (List ℕ) → Called → Type 0
+abbrev pub CallComes : SystemCall → Standing → Standing → ℕ → Regs → Option (List NamedFile) → Option SwapImage → Option SwapImage → Called → Type 0
 CallComes system_calls.Exit old new pid regs holds i j called = ExitComes old new pid regs (run (own_answers old pid) (exit_reply regs)) holds i j called
 CallComes system_calls.Fork old new pid regs holds i j called = (called ≡ calls.Ready) × ForkComes old new pid regs holds i j
 CallComes system_calls.Write old new pid regs holds i j called =
@@ -55,7 +56,7 @@ CallComes system_calls.Vfork old new pid regs holds i j called = (called ≡ cal
 CallComes system_calls.Wait old new pid regs holds i j called = Replied old new pid system_calls.Wait regs (wait_answer old.kernel pid regs) called × (j ≡ i)
 
 -- where the run stops in a call, by which one it is
-abbrev pub CallStops : SystemCall → Standing → Standing → ℕ → Regs → Option (List NamedFile) → Option (List ℕ) → Option (List ℕ) → Stop → Type 0
+abbrev pub CallStops : SystemCall → Standing → Standing → ℕ → Regs → Option (List NamedFile) → Option SwapImage → Option SwapImage → Stop → Type 0
 CallStops system_calls.Exit old new pid regs holds i j stop = StopsExit old new pid (run (own_answers old pid) (exit_reply regs)) holds i j stop
 CallStops system_calls.Fork old new pid regs holds i j stop = StopsForking old new pid regs holds i j stop
 CallStops system_calls.Write old new pid regs holds i j stop = StopsOut old new pid (run (own_answers old pid) (write_reply regs)) stop × (j ≡ i)

@@ -1,5 +1,6 @@
 -- A step that its first entry began, and what is left of it.
 use Rattle.std.specs.Prelude.{◌≡◌, ℕ, ◌≤◌, Bool, true, false, List, length, Option, Some, None}
+use Rattle.vm_facts.specs.SwapImages.{SwapImage}
 use Rattle.vm_facts.specs.declared.entry.Entry.{Entry}
 use Rattle.vm_facts.specs.declared.entry.Entry.TheVariants as entries
 use Rattle.io_edge.specs.FileHolding.{NamedFile}
@@ -53,8 +54,8 @@ abbrev pub NoneIsBetween : Type 0
 NoneIsBetween = (last : Option Entry) → begun_by last ≡ None → IsBetween last
 
 -- The machine stands at a state of a run at which a step is begun so, with a swap image that is told.
-pub record BegunAt (m : Standing) (b : Begun) (holds : Option (List NamedFile)) (i : Option (List ℕ)) (A : Inputs) (s : State)
-    (image : List ℕ) : Type 0 where
+pub record BegunAt (m : Standing) (b : Begun) (holds : Option (List NamedFile)) (i : Option SwapImage) (A : Inputs) (s : State)
+    (image : SwapImage) : Type 0 where
   pub machine : MachineAt A s m holds image
   pub told : i ≡ Some image
   pub begun : begun_by s.point.last ≡ Some b

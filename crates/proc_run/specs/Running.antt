@@ -1,5 +1,6 @@
 -- What a process that runs leads to, in a dispatch and in a turn.
 use Rattle.std.specs.Prelude.{◌≡◌, ℕ, ◌+◌, ◌≤◌, min, Bool, true, false, List, Option, Some, None}
+use Rattle.vm_facts.specs.SwapImages.{SwapImage}
 use Rattle.vm_facts.specs.declared.entry.Entry.{Entry}
 use Rattle.io_edge.specs.FileHolding.{NamedFile}
 use Rattle.flat_state.specs.Flat.{Inputs}
@@ -22,8 +23,8 @@ AsksRun A s pid false until = (n : ℕ) × (since : ℕ) × (s.mark ≡ marks.Di
 AsksRun A s pid true until = (since : ℕ) × (s.mark ≡ marks.Turn pid since) × (until ≡ min (since + turn_instructions) A.limit)
 
 -- The machine stands at a state under such a mark, with nothing due and no step begun, and a swap image that is told.
-pub record UnderMark (m : Standing) (holds : Option (List NamedFile)) (i : Option (List ℕ)) (pid : ℕ) (now : Bool) (counted until : ℕ) (A : Inputs)
-    (s : State) (image : List ℕ) : Type 0 where
+pub record UnderMark (m : Standing) (holds : Option (List NamedFile)) (i : Option SwapImage) (pid : ℕ) (now : Bool) (counted until : ℕ) (A : Inputs)
+    (s : State) (image : SwapImage) : Type 0 where
   pub machine : MachineAt A s m holds image
   pub named : AreNamed A.images m.images
   pub told : i ≡ Some image
@@ -32,8 +33,8 @@ pub record UnderMark (m : Standing) (holds : Option (List NamedFile)) (i : Optio
   pub asks : AsksRun A s pid now until
 
 -- Next units lead to where nothing more is to come of the mark, unless it is a turn whose process is out.
-pub record RunLeads (k : Kernel) (pid : ℕ) (now : Bool) (l : Kernel) (j : Option (List ℕ)) (count : ℕ) (A : Inputs) (s : State)
-    (image : List ℕ) : Type 0 where
+pub record RunLeads (k : Kernel) (pid : ℕ) (now : Bool) (l : Kernel) (j : Option SwapImage) (count : ℕ) (A : Inputs) (s : State)
+    (image : SwapImage) : Type 0 where
   pub units : List Entry
   pub state : State
   pub leads : Leads A s k image units state l j

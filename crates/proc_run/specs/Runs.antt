@@ -1,5 +1,6 @@
 -- What a process that runs leads to in a run.
 use Rattle.std.specs.Prelude.{◌≡◌, ℕ, ◌<◌, ◌≤◌, Bool, true, false, List, [], length, Option, Some}
+use Rattle.vm_facts.specs.SwapImages.{SwapImage}
 use Rattle.vm_facts.specs.declared.page.Page.{Page}
 use Rattle.io_edge.specs.FileHolding.{NamedFile}
 use Rattle.flat_state.specs.Space.{Space}
@@ -33,18 +34,18 @@ is_now patience.Stops = false
 is_now patience.Waits = true
 
 -- The machine stands at a state at which a process runs, between two steps, with a swap image that is told.
-pub record RunsAt (A : Inputs) (s : State) (m : Standing) (holds : Option (List NamedFile)) (i : Option (List ℕ)) (image : List ℕ) (pid : ℕ) (now : Bool)
+pub record RunsAt (A : Inputs) (s : State) (m : Standing) (holds : Option (List NamedFile)) (i : Option SwapImage) (image : SwapImage) (pid : ℕ) (now : Bool)
     (p : Process) (x : Space) : Type 0 where
   pub on : RunsOn A s m holds image pid now p x
   pub named : AreNamed A.images m.images
   pub told : i ≡ Some image
 
 -- a process runs at it, over some space
-abbrev pub HasRunner : Standing → Option (List NamedFile) → Option (List ℕ) → ℕ → Bool → Inputs → State → List ℕ → Type 0
+abbrev pub HasRunner : Standing → Option (List NamedFile) → Option SwapImage → ℕ → Bool → Inputs → State → SwapImage → Type 0
 HasRunner m holds i pid now A s image = (p : Process) × (x : Space) × RunsAt A s m holds i image pid now p x
 
 -- and waits for the page of this byte
-abbrev pub WaitsAt : Standing → Option (List NamedFile) → Option (List ℕ) → ℕ → Bool → ℕ → Bool → Inputs → State → List ℕ → Type 0
+abbrev pub WaitsAt : Standing → Option (List NamedFile) → Option SwapImage → ℕ → Bool → ℕ → Bool → Inputs → State → SwapImage → Type 0
 WaitsAt m holds i pid now address write A s image =
     (p : Process) × (x : Space) × (before : List Page) × RunsAt A s m holds i image pid now p x × WaitsForPage A s m p x address write before
 
@@ -52,7 +53,7 @@ WaitsAt m holds i pid now address write A s image =
 
 -- What it leads to: an instruction more; or none, and one more page is valid of the first that it touches; or nothing more is to
 -- come of the mark.
-abbrev pub AdvancesTo : Kernel → Kernel → Option (List ℕ) → Advance → Inputs → State → List ℕ → Type 0
+abbrev pub AdvancesTo : Kernel → Kernel → Option SwapImage → Advance → Inputs → State → SwapImage → Type 0
 AdvancesTo k l j advances.Counted A s image = StepLeads A s k image 1 l j
 AdvancesTo k l j advances.Served A s image = (led : StepLeads A s k image 0 l j) × (length (locked A s) < length (locked A led.state))
 AdvancesTo k l j advances.Stuck A s image = MarkEnds A s k image l j

@@ -1,5 +1,6 @@
 -- What serving an access of a process comes to, and where the run stops in it.
 use Rattle.std.specs.Prelude.{◌≡◌, ◌⊎◌, ℕ, Bool, true, false, List, [], Option}
+use Rattle.vm_facts.specs.SwapImages.{SwapImage}
 use Rattle.io_edge.specs.FileHolding.{NamedFile}
 use Rattle.vm_facts.specs.declared.page.Page.{Page}
 use Rattle.vm_facts.specs.declared.stop.Stop.{Stop}
@@ -16,19 +17,19 @@ use Rattle.run_model.specs.Wanted.{locked}
 use Rattle.proc_run.specs.Runs.{RunsAt}
 
 -- at each state at which the machine stands these are the pages that the run keeps
-abbrev pub AreLocked : Standing → Option (List NamedFile) → Option (List ℕ) → ℕ → List Page → Type 0
+abbrev pub AreLocked : Standing → Option (List NamedFile) → Option SwapImage → ℕ → List Page → Type 0
 AreLocked old holds i pid pages =
-    (A : Inputs) (s : State) (image : List ℕ) (p : Process) (x : Space) → RunsAt A s old holds i image pid true p x → pages ≡ locked A s
+    (A : Inputs) (s : State) (image : SwapImage) (p : Process) (x : Space) → RunsAt A s old holds i image pid true p x → pages ≡ locked A s
 
 -- it is served until its page is valid, by hands that pass over these
-pub record ServedNow (old new : Standing) (pid address : ℕ) (write : Bool) (holds : Option (List NamedFile)) (i j : Option (List ℕ))
+pub record ServedNow (old new : Standing) (pid address : ℕ) (write : Bool) (holds : Option (List NamedFile)) (i j : Option SwapImage)
     (answer : Served) : Type 0 where
   pub pages : List Page
   pub kept : AreLocked old holds i pid pages
   pub comes : AccessComes (λ came q from. TouchedNow pages came q from new holds i j) (access_by old.kernel pid address write) answer pid old new i j
 
 -- by whether it is served by waiting
-abbrev pub ServedBy : Bool → Standing → Standing → ℕ → ℕ → Bool → Option (List NamedFile) → Option (List ℕ) → Option (List ℕ) → Served → Type 0
+abbrev pub ServedBy : Bool → Standing → Standing → ℕ → ℕ → Bool → Option (List NamedFile) → Option SwapImage → Option SwapImage → Served → Type 0
 ServedBy true old new pid address write holds i j answer = ServedNow old new pid address write holds i j answer
 ServedBy false old new pid address write holds i j answer =
     AccessComes (λ came q from. TouchedAs came q from new holds i j) (access_by old.kernel pid address write) answer pid old new i j
@@ -36,20 +37,20 @@ ServedBy false old new pid address write holds i j answer =
 -- Stops.
 
 -- as it is served until its page is valid
-pub record StopsServedNow (old new : Standing) (pid address : ℕ) (write : Bool) (holds : Option (List NamedFile)) (i j : Option (List ℕ))
+pub record StopsServedNow (old new : Standing) (pid address : ℕ) (write : Bool) (holds : Option (List NamedFile)) (i j : Option SwapImage)
     (stop : Stop) : Type 0 where
   pub pages : List Page
   pub kept : AreLocked old holds i pid pages
   pub stops : AccessStops true pages (access_by old.kernel pid address write) pid old new holds i j stop
 
 -- for want of memory before any unit
-pub record StopsAtOnce (old new : Standing) (i j : Option (List ℕ)) (stop : Stop) : Type 0 where
+pub record StopsAtOnce (old new : Standing) (i j : Option SwapImage) (stop : Stop) : Type 0 where
   pub stopped : HasStopped old new
   pub whole : old.before ≡ old.kernel.holdings
   pub cause : stop ≡ stops.NoMemory
   pub image : j ≡ i
 
 -- by whether it is served by waiting
-abbrev pub StopsServed : Bool → Standing → Standing → ℕ → ℕ → Bool → Option (List NamedFile) → Option (List ℕ) → Option (List ℕ) → Stop → Type 0
+abbrev pub StopsServed : Bool → Standing → Standing → ℕ → ℕ → Bool → Option (List NamedFile) → Option SwapImage → Option SwapImage → Stop → Type 0
 StopsServed true old new pid address write holds i j stop = StopsAtOnce old new i j stop ⊎ StopsServedNow old new pid address write holds i j stop
 StopsServed false old new pid address write holds i j stop = AccessStops false [] (access_by old.kernel pid address write) pid old new holds i j stop

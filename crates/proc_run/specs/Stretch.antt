@@ -1,5 +1,6 @@
 -- Instructions of a process one after another, each carried out and none a call.
 use Rattle.std.specs.Prelude.{◌≡◌, ℕ, zero, suc, Bool, true, false, List, [], ◌++◌, Option}
+use Rattle.vm_facts.specs.SwapImages.{SwapImage}
 use Rattle.vm_facts.specs.Answers.{Answers, ByteWrite, written}
 use Rattle.vm_facts.specs.declared.regs.Regs.{Regs}
 use Rattle.io_edge.specs.FileHolding.{NamedFile}
@@ -52,7 +53,7 @@ MissesByte memory regs missed = answer_of (run memory (instruction regs)) ≡ st
 -- an instruction more of a process that runs was counted, for every state at which the machine stands
 pub record RanOne (old : Standing) (pid : ℕ) (new : Standing) : Type 0 where
   pub can : may_run old.kernel pid ≡ true
-  pub advances : (now : Bool) (holds : Option (List NamedFile)) (i : Option (List ℕ))
+  pub advances : (now : Bool) (holds : Option (List NamedFile)) (i : Option SwapImage)
       → LeadsFrom (HasRunner old holds i pid now) (AdvancesTo old.kernel new.kernel i advances.Counted)
   pub continues : Continues old new 1
 

@@ -1,5 +1,6 @@
 -- A machine with its bytes along a whole run.
 use Rattle.std.proofs.Common.{◌≡◌, ap, ℕ, ◌*◌, ◌≤◌, true, false, List, [], ◌∷◌, length, Option, Some, refl, sym, ◌∙◌, subst}
+use Rattle.vm_facts.specs.SwapImages.{SwapImage}
 use Rattle.vm_facts.specs.declared.page.Page.{Page}
 use Rattle.vm_facts.specs.declared.entry.Entry.{Entry}
 use Rattle.vm_facts.specs.declared.entry.Entry.TheVariants as entries
@@ -26,7 +27,7 @@ use Rattle.flat_state.specs.Change.{apply_writes}
 use Rattle.run_laws.proofs.Written.{Mid}
 use Rattle.run_laws.proofs.MachineUnits.{mid_stands, stands_behind, unit_stands}
 use Rattle.kernel_model.specs.Unit.{proc_of, u_bytes}
-use Rattle.run_laws.specs.Machine.{written_step, taken_step, EndsStep, process_step, ran_step, unit_step, unit_image, IsGiven, StandsAt, Makes, IsNote, Completes, Next}
+use Rattle.run_laws.specs.Machine.{written_step, taken_step, EndsStep, process_step, ran_step, unit_step, unit_image, unit_swap, IsGiven, StandsAt, Makes, MakesSwap, IsNote, Completes, Next}
 use Rattle.run_laws.proofs.Execs.{execs_fit}
 use Rattle.run_laws.proofs.Beginning.{are_starting, run_start}
 use Rattle.run_laws.proofs.Wholes.{unit_run}
@@ -45,6 +46,24 @@ units_keep A (u ∷ us) s t k l image behind images r at m =
 pub makes_follows : (A : Inputs) (us : List Entry) (s t : State) (k l : Kernel) (image behind : List ℕ) → Makes A s k image us t l behind → Follows A s us t
 makes_follows A [] s t k l image behind m = m.0
 makes_follows A (u ∷ us) s t k l image behind m = (m.0, makes_follows A us (after A s u) t (unit_step A s k image m.1.0 u) l (unit_image k image u) behind m.1.2)
+
+-- With the swap device as it is told.
+
+-- the same of its bytes
+pub bytes_made : (A : Inputs) (us : List Entry) (s t : State) (k l : Kernel) (image behind : SwapImage) → MakesSwap A s k image us t l behind
+    → Makes A s k image.bytes us t l behind.bytes
+bytes_made A [] s t k l image behind m = (m.0, m.1, ap (λ (i : SwapImage). i.bytes) m.2)
+bytes_made A (u ∷ us) s t k l image behind m =
+    (m.0, (m.1.0, m.1.1, bytes_made A us (after A s u) t (unit_step A s k image.bytes m.1.0 u) l (unit_swap k image u) behind m.1.2))
+
+pub swaps_keep : (A : Inputs) (us : List Entry) (s t : State) (k l : Kernel) (image behind : SwapImage) → ImagesFit A.images → IsRun A s
+    → StandsAt A s k image.bytes → MakesSwap A s k image us t l behind → StandsAt A t l behind.bytes
+swaps_keep A us s t k l image behind images r at m =
+    units_keep A us s t k l image.bytes behind.bytes images r at (bytes_made A us s t k l image behind m)
+
+pub swaps_follow : (A : Inputs) (us : List Entry) (s t : State) (k l : Kernel) (image behind : SwapImage) → MakesSwap A s k image us t l behind
+    → Follows A s us t
+swaps_follow A us s t k l image behind m = makes_follows A us s t k l image.bytes behind.bytes (bytes_made A us s t k l image behind m)
 
 pub start_keeps : (A : Inputs) (hs : Holdings) (frames : List (List ℕ)) (image : List ℕ) → CanRun A hs → length frames ≡ A.frames
     → 512 * A.swap_blocks ≤ length image

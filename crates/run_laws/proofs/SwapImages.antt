@@ -2,6 +2,8 @@
 use Rattle.std.proofs.Common.{◌≡◌, ◌⊎◌, inl, inr, ℕ, ◌*◌, ◌≤◌, Bool, true, false, List, [], ◌∷◌, ◌++◌, length, map, replicate, Option, Some, None, refl, sym, ap, ◌∙◌, subst}
 use Rattle.std.proofs.lemmas.List.{length-replicate}
 use Rattle.flat_state.specs.Flat.{Process, Inputs, process_of}
+use Rattle.vm_facts.specs.SwapImages.{SwapRequest, SwapImage, with_requests}
+use Rattle.vm_facts.proofs.Requests.{with_requests-append}
 use Rattle.vm_facts.specs.declared.page.Page.{Page}
 use Rattle.vm_facts.specs.declared.page.Page.TheVariants.{Data, Stack}
 use Rattle.vm_facts.specs.declared.page.PageState.TheVariants.{Going, OnSwap}
@@ -18,6 +20,7 @@ use Rattle.page_model.specs.Swapper.{is_out}
 use Rattle.page_model.specs.Ownership.{Each, IsMoving, OwnsFrames, OneOwner, block_of}
 use Rattle.page_model.specs.PageBytes.{bytes_in, IfSaved}
 use Rattle.kernel_model.specs.Kernel.{Kernel, Proc, store_all, image_after_by, image_after_of}
+use Rattle.kernel_model.specs.SwapRequests.{unit_asks}
 use Rattle.kernel_model.specs.Coupled.{Outline, KeepsRegs, Coupled, SameTables, memory_of, beside_kernel}
 use Rattle.kernel_model.specs.Sound.{lives, Sound}
 use Rattle.kernel_model.specs.UPage.{AreRegs, u_page}
@@ -37,11 +40,11 @@ use Rattle.run_model.specs.State.{State, start}
 use Rattle.run_model.specs.Snapshot.{starting}
 use Rattle.run_model.specs.After.{after}
 use Rattle.run_model.specs.Lawful.{Follows}
-use Rattle.run_model.specs.Swapped.{pages_stored, done_stored, oldest_stored, u_stored, image_behind, swapped_from, swapped}
+use Rattle.run_model.specs.Swapped.{pages_stored, done_stored, oldest_stored, u_stored, image_behind, swapped_from, swapped, requests_from, left_from, swap_left}
 use Rattle.run_model.proofs.NextUnits.{kind_of}
 use Rattle.run_laws.specs.Running.{IsRun, CanRun}
 use Rattle.kernel_model.specs.Unit.{u_bytes}
-use Rattle.run_laws.specs.Machine.{unit_step, unit_image, IsGiven, Keeps, StandsAt, Makes, Next}
+use Rattle.run_laws.specs.Machine.{unit_step, unit_image, unit_swap, IsGiven, Keeps, StandsAt, Makes, MakesSwap, Next}
 use Rattle.run_laws.specs.Images.{AreFlat, WritesFlat, AllFlat, HasSwapped}
 use Rattle.run_laws.proofs.Wholes.{unit_run}
 use Rattle.run_laws.proofs.Lawful.{all_units}
@@ -202,6 +205,23 @@ images_same A (u ∷ us) s t k l image behind images r at m =
     images_same A us (after A s u) t (unit_step A s k image m.1.0 u) l (unit_image k image u) behind images (unit_run A s u images r m.0) (unit_keeps A s k image m.1.0 u x m.1.1) m.1.2
     ∙ ap (swapped_from A (after A s u) us) (image_same A s k image u x)
 
+-- with the swap device as it is told: the requests made of it are those of the units
+pub images_left : (A : Inputs) (us : List Entry) (s t : State) (k l : Kernel) (image behind : SwapImage) → ImagesFit A.images → IsRun A s
+    → StandsAt A s k image.bytes → MakesSwap A s k image us t l behind → behind ≡ left_from A s us image
+unfolding swapped_from requests_from
+images_left A [] s t k l image behind images r at m = sym m.2
+images_left A (u ∷ us) s t k l image behind images r at m =
+    let x : Next A s k image.bytes u = record { images = images; run = r; at = at; next = m.0 } in
+    let next : State = after A s u in
+    let rest : List SwapRequest = requests_from A next us in
+    let bytes : List ℕ = swapped_from A next us (image_behind A s u image.bytes) in
+    images_left A us next t (unit_step A s k image.bytes m.1.0 u) l (unit_swap k image u) behind images (unit_run A s u images r m.0)
+    (unit_keeps A s k image.bytes m.1.0 u x m.1.1) m.1.2
+    ∙ ap (λ (put : List ℕ). with_requests rest (record (unit_swap k image u) { bytes = swapped_from A next us put })) (image_same A s k image.bytes u x)
+    ∙ ap (λ (p : Placement). with_requests rest (with_requests (unit_asks p k.holdings u) (record image { bytes = bytes }))) at.place
+    ∙ ap (λ (hs : Holdings). with_requests rest (with_requests (unit_asks s.place hs u) (record image { bytes = bytes }))) at.holdings
+    ∙ sym (with_requests-append (unit_asks s.place s.holdings u) rest (record image { bytes = bytes }))
+
 -- Each run has a machine, where who goes out has registers of longwords.
 
 -- who goes out has sixteen registers of longwords
@@ -257,6 +277,12 @@ pub swapped_same : (A : Inputs) (hs : Holdings) (us journal : List Entry) (t : S
 swapped_same A hs us journal t image c f j =
     sym (ap (λ (h : Holdings). swapped_from A (start A h) (units_of journal) image) (ap (or_before []) c.pieces)
     ∙ ap (λ (vs : List Entry). swapped_from A (start A hs) vs image) (ap units_of (sym j) ∙ appended_units [] us (all_units A us (start A hs) t f)))
+
+pub left_same : (A : Inputs) (hs : Holdings) (us journal : List Entry) (t : State) (image : SwapImage) → CanRun A hs → Follows A (start A hs) us t
+    → appended [] us ≡ journal → left_from A (start A hs) us image ≡ swap_left A journal image
+left_same A hs us journal t image c f j =
+    sym (ap (λ (h : Holdings). left_from A (start A h) (units_of journal) image) (ap (or_before []) c.pieces)
+    ∙ ap (λ (vs : List Entry). left_from A (start A hs) vs image) (ap units_of (sym j) ∙ appended_units [] us (all_units A us (start A hs) t f)))
 
 pub run_swaps : (A : Inputs) (hs : Holdings) (us journal : List Entry) (t : State) (image : List ℕ) → CanRun A hs → Follows A (start A hs) us t
     → appended [] us ≡ journal → OutsFit A (start A hs) us

@@ -1,6 +1,7 @@
 -- What each unit of a run makes of the whole machine with its bytes and of the swap image, and what stands of it then.
 use Rattle.std.specs.Prelude.{◌≡◌, ℕ, ◌*◌, ◌%◌, ◌≤◌, true, List, [], ◌∷◌, length, Option, Some, None}
 use Rattle.vm_facts.specs.Answers.{ByteWrite}
+use Rattle.vm_facts.specs.SwapImages.{SwapImage, with_requests}
 use Rattle.flat_state.specs.Space.{Space, address_in}
 use Rattle.flat_state.specs.Flat.{Holding, Holds, Lends, Zombie, Process, FlatState, Inputs, process_of}
 use Rattle.vm_facts.specs.declared.page.Page.{Page}
@@ -21,6 +22,7 @@ use Rattle.kernel_model.specs.Coupled.{Coupled, AreRead, beside_kernel}
 use Rattle.kernel_model.specs.UPage.{AreRegs, regs_in}
 use Rattle.page_model.specs.Stored.{stored_at, store_at}
 use Rattle.kernel_model.specs.ChangeStep.{ran_by}
+use Rattle.kernel_model.specs.SwapRequests.{unit_asks}
 use Rattle.kernel_model.specs.Unit.{passing_change, u_bytes, proc_of}
 use Rattle.kernel_model.specs.Numbers.{Numbered}
 use Rattle.kernel_model.specs.Stands.{Stands}
@@ -119,6 +121,10 @@ unit_image k image entries.Done = image_after k image
 unit_image k image (entries.SwapOut pid) = store_at image (block_in k.holdings (owners.U pid) 0) (u_bytes k (proc_of k pid))
 unit_image k image e = image
 
+-- the same of the swap device as it is told: the unit's requests were made of it
+abbrev pub unit_swap : Kernel → SwapImage → Entry → SwapImage
+unit_swap k image u = with_requests (unit_asks k.place k.holdings u) (record image { bytes = unit_image k image.bytes u })
+
 -- what a unit is given: at `Done` what was read is what stands where the transfer reads; and who goes out has sixteen
 -- registers of longwords
 abbrev pub IsGiven : Inputs → State → Kernel → List ℕ → List (List ℕ) → Entry → Type 0
@@ -157,6 +163,14 @@ Makes A s k image [] t l behind = (s ≡ t) × (k ≡ l) × (image ≡ behind)
 Makes A s k image (u ∷ us) t l behind =
     (next_unit A s ≡ Some u)
     × ((read : List (List ℕ)) × IsGiven A s k image read u × Makes A (after A s u) (unit_step A s k image read u) (unit_image k image u) us t l behind)
+
+-- the same with the swap device as it is told
+abbrev pub MakesSwap : Inputs → State → Kernel → SwapImage → List Entry → State → Kernel → SwapImage → Type 0
+MakesSwap A s k image [] t l behind = (s ≡ t) × (k ≡ l) × (image ≡ behind)
+MakesSwap A s k image (u ∷ us) t l behind =
+    (next_unit A s ≡ Some u)
+    × ((read : List (List ℕ)) × IsGiven A s k image.bytes read u
+    × MakesSwap A (after A s u) (unit_step A s k image.bytes read u) (unit_swap k image u) us t l behind)
 
 -- Kinds of units.
 

@@ -3,6 +3,7 @@ use Rattle.std.proofs.Common.{◌≡◌, inl, inr, ℕ, suc, ◌<◌, ◌≤◌,
 use Rattle.std.specs.Option.{option_map}
 use Rattle.std.specs.Prelude.{slice_get, Result, Ok, Err, OnOk, MatchResult}
 use Rattle.std.proofs.lemmas.Option.{same_Some}
+use Rattle.vm_facts.specs.SwapImages.{SwapImage}
 use Rattle.vm_facts.specs.declared.entry.Entry.TheVariants as entries
 use Rattle.vm_facts.specs.declared.page.Page.{Page}
 use Rattle.vm_facts.specs.declared.params.Params.{Params}
@@ -82,7 +83,7 @@ room_one p q l = record { quarter = omega (arith, l); rest = omega (arith, l) }
 -- It is filled.
 
 pub copy_fills : {A : Type 0} (r : Result A Stop) (page parent : Page) (o : Option Page) (old new : Standing) (holds : Option (List NamedFile))
-    (i j : Option (List ℕ)) → o ≡ Some parent
+    (i j : Option SwapImage) → o ≡ Some parent
     → MatchResult r (λ x. CopiesPage page parent old new holds i j) (StopsPage page parent old new holds i j) → OnOk r (OnceCopied page old new)
     → MatchResult r (λ x. FillsDue (due_of page o) old new holds i j) (StopsDue (due_of page o) old new holds i j)
 copy_fills r page parent o old new holds i j e m on =
@@ -94,13 +95,13 @@ copy_fills r page parent o old new holds i j e m on =
     both (Err stop) m on = m
 
 pub start_fills : {A : Type 0} (r : Result A Stop) (page : Page) (o : Option Page) (old new : Standing) (holds : Option (List NamedFile))
-    (i j : Option (List ℕ)) → o ≡ None
+    (i j : Option SwapImage) → o ≡ None
     → MatchResult r (λ x. FillsStart page old new holds i j) (StopsStart page old new holds i j)
     → MatchResult r (λ x. FillsDue (due_of page o) old new holds i j) (StopsDue (due_of page o) old new holds i j)
 start_fills r page o old new holds i j e m =
     subst (λ (x : Option Page). MatchResult r (λ y. FillsDue (due_of page x) old new holds i j) (StopsDue (due_of page x) old new holds i j)) (sym e) m
 
-pub due_filled : (d : Due) (ds : List Due) (old next : Standing) (holds : Option (List NamedFile)) (i j : Option (List ℕ))
+pub due_filled : (d : Due) (ds : List Due) (old next : Standing) (holds : Option (List NamedFile)) (i j : Option SwapImage)
     → old.kernel.place.due ≡ d ∷ ds → FillsDue d old next holds i j → RunsDue old next 0 ds
 due_filled (Start q) ds old next holds i j e f = fill_continues old next q ds holds i j e f
 due_filled (CopyOf q parent) ds old next holds i j e f =
@@ -116,7 +117,7 @@ due_filled (CopyOf q parent) ds old next holds i j e f =
       low = let last = g.last in omega (arith, last);
     }
 
-stop_keeps : (d : Due) (old new : Standing) (holds : Option (List NamedFile)) (i j : Option (List ℕ)) (stop : Stop) → StopsDue d old new holds i j stop
+stop_keeps : (d : Due) (old new : Standing) (holds : Option (List NamedFile)) (i j : Option SwapImage) (stop : Stop) → StopsDue d old new holds i j stop
     → KeptAtStop old new stop
 stop_keeps (Start q) old new holds i j stop f = start_same q old new holds i j stop f
 stop_keeps (CopyOf q parent) old new holds i j stop f = page_same q parent old new holds i j stop f
@@ -126,7 +127,7 @@ stop_keeps (CopyOf q parent) old new holds i j stop f = page_same q parent old n
 start_first : (s : State) (page : Page) (ds : List Due) → s.place.due ≡ Start page ∷ ds → FillsFirst s.place s.place.due (entries.Zero page) []
 start_first s page ds e = subst (λ (xs : List Due). FillsFirst s.place xs (entries.Zero page) []) (sym e) (refl, refl)
 
-due_leads : (d : Due) (ds : List Due) (A : Inputs) (s : State) (old next : Standing) (holds : Option (List NamedFile)) (image : List ℕ) (j : Option (List ℕ))
+due_leads : (d : Due) (ds : List Due) (A : Inputs) (s : State) (old next : Standing) (holds : Option (List NamedFile)) (image : SwapImage) (j : Option SwapImage)
     → MachineAt A s old holds image
     → s.place.due ≡ d ∷ ds → FillsDue d old next holds (Some image) j → LeadsTo A s old.kernel image ds next.kernel j
 due_leads (Start q) ds A s old next holds image j at e f =
@@ -134,13 +135,13 @@ due_leads (Start q) ds A s old next holds image j at e f =
     (forced_fill A s old f.roomy holds image j (Start q) ds [] at.at at.images e (start_first s q ds e) f.forces)
 due_leads (CopyOf q parent) ds A s old next holds image j at e f = page_copied A s old next holds image j q parent ds at.at at.images e f.0
 
-start_stops : (A : Inputs) (s : State) (old new : Standing) (holds : Option (List NamedFile)) (image : List ℕ) (j : Option (List ℕ)) (page : Page)
+start_stops : (A : Inputs) (s : State) (old new : Standing) (holds : Option (List NamedFile)) (image : SwapImage) (j : Option SwapImage) (page : Page)
     (ds : List Due) (stop : Stop) → MachineAt A s old holds image
     → s.place.due ≡ Start page ∷ ds → StopsStart page old new holds (Some image) j stop → StopLeads A s old.kernel image stop new j
 start_stops A s old new holds image j page ds stop at e f =
     filling_stops A s old new holds image j (entries.Zero page) [] stop at.at at.images (start_first s page ds e) f
 
-due_stops : (d : Due) (ds : List Due) (A : Inputs) (s : State) (old new : Standing) (holds : Option (List NamedFile)) (image : List ℕ) (j : Option (List ℕ))
+due_stops : (d : Due) (ds : List Due) (A : Inputs) (s : State) (old new : Standing) (holds : Option (List NamedFile)) (image : SwapImage) (j : Option SwapImage)
     (stop : Stop) → MachineAt A s old holds image
     → s.place.due ≡ d ∷ ds → StopsDue d old new holds (Some image) j stop → StopLeads A s old.kernel image stop new j
 due_stops (Start q) ds A s old new holds image j stop at e f = start_stops A s old new holds image j q ds stop at e f
@@ -149,25 +150,25 @@ due_stops (CopyOf q parent) ds A s old new holds image j stop at e f = page_stop
 -- What was filled so far.
 
 -- The machine goes on, but for what is due still, and next units led there.
-pub record FilledSoFar (old now : Standing) (holds later : Option (List NamedFile)) (i h : Option (List ℕ)) : Type 0 where
+pub record FilledSoFar (old now : Standing) (holds later : Option (List NamedFile)) (i h : Option SwapImage) : Type 0 where
   pub on : CountsOn old now 0
   pub low : last_moves now.kernel.journal ≤ last_moves old.kernel.journal
   pub files : later ≡ holds
-  pub leads : (A : Inputs) (s : State) (image : List ℕ) → MachineAt A s old holds image → i ≡ Some image
+  pub leads : (A : Inputs) (s : State) (image : SwapImage) → MachineAt A s old holds image → i ≡ Some image
       → LeadsTo A s old.kernel image now.kernel.place.due now.kernel h
 
-pub filled_none : (old : Standing) (holds : Option (List NamedFile)) (i : Option (List ℕ)) → FilledSoFar old old holds holds i i
+pub filled_none : (old : Standing) (holds : Option (List NamedFile)) (i : Option SwapImage) → FilledSoFar old old holds holds i i
 filled_none old holds i = record {
   on = runs_self old;
   low = omega arith;
   files = refl;
   leads = λ A s image at e.
-      subst (λ (o : Option (List ℕ)). LeadsTo A s old.kernel image old.kernel.place.due old.kernel o) (sym e)
+      subst (λ (o : Option SwapImage). LeadsTo A s old.kernel image old.kernel.place.due old.kernel o) (sym e)
       (stays A s old.kernel image old.kernel.place.due (ap (λ (p : Placement). p.due) (sym at.at.stands.place)));
 }
 
 -- the machine stands where they led
-there : (A : Inputs) (s : State) (old now : Standing) (holds : Option (List NamedFile)) (image : List ℕ) (h : Option (List ℕ)) (ds : List Due)
+there : (A : Inputs) (s : State) (old now : Standing) (holds : Option (List NamedFile)) (image : SwapImage) (h : Option SwapImage) (ds : List Due)
     → MachineAt A s old holds image → CountsOn old now 0
     → (led : LeadsTo A s old.kernel image ds now.kernel h) → MachineAt A led.state now holds led.leads.behind
 there A s old now holds image h ds at on led = record {
@@ -176,8 +177,8 @@ there A s old now holds image h ds at on led = record {
   blocks = ap (λ (p : Params). p.swap_blocks) on.params ∙ at.blocks;
 }
 
-module _ (old now : Standing) (holds later : Option (List NamedFile)) (i h : Option (List ℕ)) (so : FilledSoFar old now holds later i h) where
-  pub filled_one : (next : Standing) (latest : Option (List NamedFile)) (k : Option (List ℕ)) (d : Due) → IsDueFirst now.kernel.place d → latest ≡ later → FillsDue d now next later h k
+module _ (old now : Standing) (holds later : Option (List NamedFile)) (i h : Option SwapImage) (so : FilledSoFar old now holds later i h) where
+  pub filled_one : (next : Standing) (latest : Option (List NamedFile)) (k : Option SwapImage) (d : Due) → IsDueFirst now.kernel.place d → latest ≡ later → FillsDue d now next later h k
       → FilledSoFar old next holds latest i k
   filled_one next latest k d first same f =
       let one : RunsDue now next 0 first.others = due_filled d first.others now next later h k first.first f in
@@ -187,9 +188,9 @@ module _ (old now : Standing) (holds later : Option (List NamedFile)) (i h : Opt
         files = same ∙ so.files;
         leads = λ A s image at e.
             let led : LeadsTo A s old.kernel image now.kernel.place.due now.kernel h = so.leads A s image at e in
-            let behind : List ℕ = led.leads.behind in
+            let behind : SwapImage = led.leads.behind in
             let here : FillsDue d now next holds (Some behind) k =
-            subst (λ (o : Option (List ℕ)). FillsDue d now next holds o k) led.leads.told (subst (λ (x : Option (List NamedFile)). FillsDue d now next x h k) so.files f) in
+            subst (λ (o : Option SwapImage). FillsDue d now next holds o k) led.leads.told (subst (λ (x : Option (List NamedFile)). FillsDue d now next x h k) so.files f) in
             let more : LeadsTo A led.state now.kernel behind first.others next.kernel k =
             due_leads d first.others A led.state now next holds behind k (there A s old now holds image h now.kernel.place.due at so.on led) (led.due ∙ first.first) here in
             subst (λ (ds : List Due). LeadsTo A s old.kernel image ds next.kernel k) (sym one.due)
@@ -212,14 +213,14 @@ module _ (old now : Standing) (holds later : Option (List NamedFile)) (i h : Opt
   pub filled_goes_on : now.kernel.place.due ≡ [] → Continues old now 0
   filled_goes_on none = continues old now 0 so.on none so.low
 
-  pub filled_stops : (new : Standing) (k : Option (List ℕ)) (d : Due) (stop : Stop) → IsDueFirst now.kernel.place d → StopsDue d now new later h k stop → StopsFrom (ToldAt old holds i) old new k stop
+  pub filled_stops : (new : Standing) (k : Option SwapImage) (d : Due) (stop : Stop) → IsDueFirst now.kernel.place d → StopsDue d now new later h k stop → StopsFrom (ToldAt old holds i) old new k stop
   filled_stops new k d stop first f A s image at =
       let led : LeadsTo A s old.kernel image now.kernel.place.due now.kernel h = so.leads A s image at.machine at.told in
-      let behind : List ℕ = led.leads.behind in
+      let behind : SwapImage = led.leads.behind in
       let here : StopsDue d now new holds (Some behind) k stop =
-      subst (λ (o : Option (List ℕ)). StopsDue d now new holds o k stop) led.leads.told (subst (λ (x : Option (List NamedFile)). StopsDue d now new x h k stop) so.files f) in
+      subst (λ (o : Option SwapImage). StopsDue d now new holds o k stop) led.leads.told (subst (λ (x : Option (List NamedFile)). StopsDue d now new x h k stop) so.files f) in
       stops_then A s led.state old.kernel now.kernel image behind k led.units stop new (led_told A s led.state old.kernel now.kernel image h led.units led.leads)
       (due_stops d first.others A led.state now new holds behind k stop (there A s old now holds image h now.kernel.place.due at.machine so.on led) (led.due ∙ first.first) here)
 
-  pub filled_kept : (new : Standing) (k : Option (List ℕ)) (d : Due) (stop : Stop) → StopsDue d now new later h k stop → KeptAtStop old new stop
+  pub filled_kept : (new : Standing) (k : Option SwapImage) (d : Due) (stop : Stop) → StopsDue d now new later h k stop → KeptAtStop old new stop
   filled_kept new k d stop f = kept_through old now new stop (record { params = so.on.params; images = so.on.images }) (stop_keeps d now new later h k stop f)

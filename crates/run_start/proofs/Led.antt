@@ -1,6 +1,7 @@
 -- From the start of a run next units fill what is due.
 use Rattle.std.proofs.Common.{◌≡◌, true, inl, inr, ℕ, ◌*◌, ◌≤◌, List, [], length, replicate, Option, Some, sym, ap, ◌∙◌, subst, arith}
 use Rattle.std.proofs.lemmas.List.{length-replicate}
+use Rattle.vm_facts.specs.SwapImages.{SwapImage}
 use Rattle.vm_facts.specs.declared.stop.Stop.{Stop}
 use Rattle.vm_facts.specs.declared.stop.Stop.TheVariants as stops
 use Rattle.vm_facts.specs.declared.params.Params.{Params}
@@ -35,7 +36,7 @@ pub all_began : (started : Started) (numbers : List ℕ) (old begun : Standing) 
 all_began started numbers old begun e b = subst (λ (s : Started). Begins s numbers old begun) e b
 
 -- the machine at the start stands there
-pub stands_at_start : (A : Inputs) (hs : Holdings) (image : List ℕ) → CanRun A hs → 512 * A.swap_blocks ≤ length image
+pub stands_at_start : (A : Inputs) (hs : Holdings) (image : SwapImage) → CanRun A hs → 512 * A.swap_blocks ≤ length image
     → At A (start A hs) (machine_at_start A hs) image
 stands_at_start A hs image can room = record {
   fit = can.images;
@@ -43,7 +44,7 @@ stands_at_start A hs image can room = record {
   stands = start_keeps A hs (replicate A.frames zeros) image can (length-replicate {A = List ℕ} A.frames zeros) room;
 }
 
-module _ (A : Inputs) (numbers : List ℕ) (old begun : Standing) (holds : Option (List NamedFile)) (image : List ℕ) (is_new : IsNew old) (big : 64 ≤ old.params.frames)
+module _ (A : Inputs) (numbers : List ℕ) (old begun : Standing) (holds : Option (List NamedFile)) (image : SwapImage) (is_new : IsNew old) (big : 64 ≤ old.params.frames)
     (told : IsTold A old numbers holds image) (began : BeginsAll numbers old begun) (on : SameSizes old begun) where
   abbrev hs : Holdings
   hs = begun.kernel.holdings
@@ -71,18 +72,18 @@ module _ (A : Inputs) (numbers : List ℕ) (old begun : Standing) (holds : Optio
   begun_there : MachineAt A (start A begun.kernel.holdings) begun holds image
   begun_there = record { at = begun_at_start; images = begun_images; blocks = ap (λ (p : Params). p.swap_blocks) on.params ∙ sym told.starts.blocks }
 
-  pub start_leads : (new : Standing) (i j : Option (List ℕ)) → i ≡ Some image → LeadsFrom (ToldAt begun holds i) (FillsLead begun new holds j) → StartLeads A new holds image j
+  pub start_leads : (new : Standing) (i j : Option SwapImage) → i ≡ Some image → LeadsFrom (ToldAt begun holds i) (FillsLead begun new holds j) → StartLeads A new holds image j
   start_leads new i j e fills =
       let f : FillsLead begun new holds j A (start A hs) image = fills A (start A hs) image (record { machine = begun_there; told = e }) in
       let from : (l : Leads A (start A hs) (machine_at_start A hs) image f.units f.state new.kernel j) × MachineAt A f.state new holds l.behind =
       subst (λ (k : Kernel). (l : Leads A (start A hs) k image f.units f.state new.kernel j) × MachineAt A f.state new holds l.behind) is_begun.kernel (f.leads, f.machine) in
       record { holdings = hs; can = can; units = f.units; state = f.state; leads = from.0; same = f.same; clear = f.clear; machine = from.1 }
 
-  pub start_stops : (new : Standing) (i j : Option (List ℕ)) (stop : Stop) → i ≡ Some image → StopsFrom (ToldAt begun holds i) begun new j stop → StartStops A new image stop j
+  pub start_stops : (new : Standing) (i j : Option SwapImage) (stop : Stop) → i ≡ Some image → StopsFrom (ToldAt begun holds i) begun new j stop → StartStops A new image stop j
   start_stops new i j stop e fills =
       inr (hs, can, subst (λ (k : Kernel). StopLeads A (start A hs) k image stop new j) is_begun.kernel (fills A (start A hs) image (record { machine = begun_there; told = e })))
 
-pub begin_stops : (A : Inputs) (new : Standing) (image : List ℕ) (stop : Stop) (j : Option (List ℕ)) → stop ≡ stops.NoMemory → new.kernel.stopped ≡ true
+pub begin_stops : (A : Inputs) (new : Standing) (image : SwapImage) (stop : Stop) (j : Option SwapImage) → stop ≡ stops.NoMemory → new.kernel.stopped ≡ true
     → new.kernel.journal ≡ [] → j ≡ Some image
     → StartStops A new image stop j
 begin_stops A new image stop j cause stopped journal told = inl (record { cause = cause; stopped = stopped; journal = journal; told = told })

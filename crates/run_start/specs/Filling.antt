@@ -1,5 +1,6 @@
 -- What is due is filled: a new stack page with its bytes, a page of a child by a copy.
 use Rattle.std.specs.Prelude.{◌≡◌, ℕ, List, ◌∷◌, Option, Some, None}
+use Rattle.vm_facts.specs.SwapImages.{SwapImage}
 use Rattle.vm_facts.specs.declared.page.Page.{Page}
 use Rattle.vm_facts.specs.declared.stop.Stop.{Stop}
 use Rattle.io_edge.specs.FileHolding.{NamedFile}
@@ -19,11 +20,11 @@ pub record IsDueFirst (p : Placement) (d : Due) : Type 0 where
   pub first : p.due ≡ d ∷ others
 
 -- a new stack page is filled; or a child's page is copied, and the machine goes on
-abbrev pub FillsDue : Due → Standing → Standing → Option (List NamedFile) → Option (List ℕ) → Option (List ℕ) → Type 0
+abbrev pub FillsDue : Due → Standing → Standing → Option (List NamedFile) → Option SwapImage → Option SwapImage → Type 0
 FillsDue (Start q) old new holds before after = FillsStart q old new holds before after
 FillsDue (CopyOf q parent) old new holds before after = CopiesPage q parent old new holds before after × OnceCopied q old new
 
 -- or the run stops there
-abbrev pub StopsDue : Due → Standing → Standing → Option (List NamedFile) → Option (List ℕ) → Option (List ℕ) → Stop → Type 0
+abbrev pub StopsDue : Due → Standing → Standing → Option (List NamedFile) → Option SwapImage → Option SwapImage → Stop → Type 0
 StopsDue (Start q) old new holds before after stop = StopsStart q old new holds before after stop
 StopsDue (CopyOf q parent) old new holds before after stop = StopsPage q parent old new holds before after stop

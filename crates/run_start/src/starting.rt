@@ -1,5 +1,6 @@
 //! The first processes of a run start.
 ghost use Rattle.std.specs.Prelude.{◌≡◌, ◌≤◌, ℕ, List, [], length, Some, IfOk, IfErr, Ok};
+ghost use Rattle.vm_facts.specs.SwapImages.{SwapImage};
 ghost use Rattle.flat_state.specs.Flat.{Inputs};
 ghost use Rattle.flat_model.specs.Asked.{start_held};
 ghost use Rattle.machine_state.specs.Files.{AreFiles};
@@ -45,9 +46,9 @@ pub fn start<F: Files, D: SwapDev>(
     ensures kept_images { (pid : ℕ) → result ≡ Ok (Started.NoSpace pid) → m.new.images ≡ m.old.images }
     ensures kept { IfErr result (KeptAtStop m.old m.new) }
     ensures goes_on { result ≡ Ok Started.Ok → HasStarted m.old m.new }
-    ensures leads { (A : Inputs) (image : List ℕ) → IsTold A m.old first.now (F.holds files.old) image → D.image swap.old ≡ Some image
+    ensures leads { (A : Inputs) (image : SwapImage) → IsTold A m.old first.now (F.holds files.old) image → D.image swap.old ≡ Some image
         → result ≡ Ok Started.Ok → StartLeads A m.new (F.holds files.old) image (D.image swap.new) }
-    ensures stops { (A : Inputs) (image : List ℕ) → IsTold A m.old first.now (F.holds files.old) image → D.image swap.old ≡ Some image
+    ensures stops { (A : Inputs) (image : SwapImage) → IsTold A m.old first.now (F.holds files.old) image → D.image swap.old ≡ Some image
         → IfErr result (λ stop. StartStops A m.new image stop (D.image swap.new)) }
     ensures outside { TransfersPages F.Files D.SwapDev (stop_of result) files.old files.new swap.old swap.new }
 {

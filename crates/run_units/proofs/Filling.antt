@@ -1,5 +1,6 @@
 -- Filling the page that is due first is what a run does next.
 use Rattle.std.proofs.Common.{◌≡◌, ℕ, true, List, [], ◌∷◌, Option, Some, refl, sym, ap, ◌∙◌, subst}
+use Rattle.vm_facts.specs.SwapImages.{SwapImage}
 use Rattle.vm_facts.specs.declared.entry.Entry.{Entry}
 use Rattle.vm_facts.specs.declared.entry.Entry.TheVariants as entries
 use Rattle.vm_facts.specs.declared.page.Page.{Page}
@@ -22,7 +23,7 @@ use Rattle.run_model.specs.State.{State}
 use Rattle.run_model.specs.Wanted.{locked, locked_by}
 use Rattle.run_model.specs.After.{after, place_at}
 use Rattle.run_model.specs.Next.{next_unit, or_else, under, next_mark, due_unit, fill_unit, fill_by, copy_unit_by}
-use Rattle.economy_laws.specs.Machine.{unit_image}
+use Rattle.economy_laws.specs.Machine.{unit_swap}
 use Rattle.economy_laws.specs.RunLawsRunning.{IsRun}
 use Rattle.economy_laws.proofs.Plain.{IsPaging, serve_paging}
 use Rattle.economy_laws.proofs.Marks.{due_free}
@@ -83,18 +84,18 @@ mark_free A s e kept run h = go s.place.due refl h
     go [] k x = absurd x
     go (d ∷ ds) k x = due_free s d ds k s.mark run.mark
 
-pub record Forced (A : Inputs) (g : Ground) (s : State) (k : Kernel) (image : List ℕ) (e : Entry) (us : List Entry) (l : Kernel)
-    (j : Option (List ℕ)) : Type 0 where
+pub record Forced (A : Inputs) (g : Ground) (s : State) (k : Kernel) (image : SwapImage) (e : Entry) (us : List Entry) (l : Kernel)
+    (j : Option SwapImage) : Type 0 where
   pub led : LeadsDue A s k image us l j
   pub fills : FillsFirst led.state.place led.state.place.due e g.locked
 
-forced : (us : List Entry) (A : Inputs) (g : Ground) (s : State) (k l : Kernel) (image : List ℕ) (j : Option (List ℕ)) (e : Entry) → At A s k image
+forced : (us : List Entry) (A : Inputs) (g : Ground) (s : State) (k l : Kernel) (image : SwapImage) (j : Option SwapImage) (e : Entry) → At A s k image
     → HasImages g A
     → FillsFirst s.place s.place.due e g.locked → Forces us k.place g.locked l.place → Made g us k (Some image) l j → Forced A g s k image e us l j
 forced [] A g s k l image j e at f h x m = record {
   led = record {
     state = s;
-    leads = subst (λ (y : Kernel). Leads A s k image [] s y j) m.0 (subst (λ (o : Option (List ℕ)). Leads A s k image [] s k o) m.1 (none_leads A s k image));
+    leads = subst (λ (y : Kernel). Leads A s k image [] s y j) m.0 (subst (λ (o : Option SwapImage). Leads A s k image [] s k o) m.1 (none_leads A s k image));
     same = record { point = refl; holdings = refl; count = refl; lines = refl; mark = refl };
     due = refl;
   };
@@ -113,7 +114,7 @@ forced (u ∷ us) A g s k l image j e at f h x m =
     p.place ∙ ap (λ (qs : List Page). place_entry qs (place_at s u) s.place u) (sym kept) ∙ ap (λ (y : Entry). place_entry g.locked (place_at s u) s.place y) is
     ∙ forcing_place g.locked (place_at s u) s.place in
     let due : (after A s u).place.due ≡ s.place.due = ap (λ (y : Placement). y.due) place ∙ (force_stays s.place g.locked own).due in
-    let image1 : List ℕ = unit_image k image u in
+    let image1 : SwapImage = unit_swap k image u in
     let first : Leads A s k image (u ∷ []) (after A s u) m.next (Some image1) =
     first_leads A s (after A s u) k m.next m.next image m.image (Some image1) u [] next one (none_leads A (after A s u) m.next image1) in
     let fills : FillsFirst (after A s u).place (after A s u).place.due e g.locked =
@@ -124,7 +125,7 @@ forced (u ∷ us) A g s k l image j e at f h x m =
     (sym (forced_place g k m.next (Some image) (subst (λ (y : Entry). Rattle.fault_fill.specs.Made.MadeBy g y k (Some image) m.next) x.1 m.made))) x.2 in
     let more : Forced A g (after A s u) m.next image1 e us l j =
     forced us A g (after A s u) m.next l image1 j e (leads_at A s (after A s u) k m.next image image1 (u ∷ []) at first) f fills rest
-    (subst (λ (o : Option (List ℕ)). Made g us m.next o l j) one.told m.rest) in
+    (subst (λ (o : Option SwapImage). Made g us m.next o l j) one.told m.rest) in
     record {
       led = record {
         state = more.led.state;
@@ -135,7 +136,7 @@ forced (u ∷ us) A g s k l image j e at f h x m =
       fills = more.fills;
     }
 
-pub forcing : (A : Inputs) (g : Ground) (s : State) (k l : Kernel) (image : List ℕ) (j : Option (List ℕ)) (e : Entry) (us : List Entry)
+pub forcing : (A : Inputs) (g : Ground) (s : State) (k l : Kernel) (image : SwapImage) (j : Option SwapImage) (e : Entry) (us : List Entry)
     → At A s k image → HasImages g A
     → FillsFirst s.place s.place.due e g.locked → Forces us k.place g.locked l.place → Made g us k (Some image) l j
     → (led : LeadsDue A s k image us l j) × FillsFirst led.state.place led.state.place.due e g.locked
@@ -148,14 +149,14 @@ pub brought_next : (A : Inputs) (s : State) (child parent : Page) (ds : List Due
 brought_next A s child parent ds u d h =
     due_next A s u (ap (due_unit s.place) d ∙ ap (λ (o : Option Entry). Some (copy_unit_by s.place child o)) h)
 
-pub bringing : (us : List Entry) (A : Inputs) (g : Ground) (s : State) (k l : Kernel) (image : List ℕ) (j : Option (List ℕ))
+pub bringing : (us : List Entry) (A : Inputs) (g : Ground) (s : State) (k l : Kernel) (image : SwapImage) (j : Option SwapImage)
     (child parent : Page) (ds : List Due)
     → At A s k image → HasImages g A
     → g.locked ≡ parent ∷ [] → s.place.due ≡ CopyOf child parent ∷ ds → Serves us k.place g.locked parent true l.place → Made g us k (Some image) l j
     → LeadsDue A s k image us l j
 bringing [] A g s k l image j child parent ds at f e d x m = record {
   state = s;
-  leads = subst (λ (y : Kernel). Leads A s k image [] s y j) m.0 (subst (λ (o : Option (List ℕ)). Leads A s k image [] s k o) m.1 (none_leads A s k image));
+  leads = subst (λ (y : Kernel). Leads A s k image [] s y j) m.0 (subst (λ (o : Option SwapImage). Leads A s k image [] s k o) m.1 (none_leads A s k image));
   same = record { point = refl; holdings = refl; count = refl; lines = refl; mark = refl };
   due = refl;
 }
@@ -171,14 +172,14 @@ bringing (u ∷ us) A g s k l image j child parent ds at f e d x m =
     let idle : NotDue s.place.due parent = not_due s.place parent at.run.placed.dues (source_of A s child parent ds at.run d).source.1 in
     let place : (after A s u).place ≡ serve_step s.place g.locked parent = after_served A s u g.locked parent (sym kept) asked in
     let due : (after A s u).place.due ≡ s.place.due = ap (λ (y : Placement). y.due) place ∙ serve_dues s.place g.locked parent own idle in
-    let image1 : List ℕ = unit_image k image u in
+    let image1 : SwapImage = unit_swap k image u in
     let first : Leads A s k image (u ∷ []) (after A s u) m.next (Some image1) =
     first_leads A s (after A s u) k m.next m.next image m.image (Some image1) u [] next one (none_leads A (after A s u) m.next image1) in
     let rest : Serves us m.next.place g.locked parent true l.place =
     subst (λ (y : Placement). Serves us y g.locked parent true l.place) (sym (served_place g parent true u k m.next (Some image) x.0 m.made)) x.1 in
     let more : LeadsDue A (after A s u) m.next image1 us l j =
     bringing us A g (after A s u) m.next l image1 j child parent ds (leads_at A s (after A s u) k m.next image image1 (u ∷ []) at first) f e (due ∙ d) rest
-    (subst (λ (o : Option (List ℕ)). Made g us m.next o l j) one.told m.rest) in
+    (subst (λ (o : Option SwapImage). Made g us m.next o l j) one.told m.rest) in
     record {
       state = more.state;
       leads = first_leads A s more.state k m.next l image m.image j u us next one more.leads;

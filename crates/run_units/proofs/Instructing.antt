@@ -2,6 +2,7 @@
 use Rattle.std.proofs.Common.{◌≡◌, ◌⊎◌, inl, inr, ℕ, ◌*◌, ◌/◌, Bool, true, false, List, [], ◌∷◌, ◌++◌, length, filter_map, Option, Some, None, Result, Ok, Err, ℤ, refl, sym, ap, ◌∙◌, subst}
 use Rattle.std.specs.List.{cons_option}
 use Rattle.std.proofs.lemmas.List.Elements.{filter_map-append}
+use Rattle.vm_facts.specs.SwapImages.{SwapImage}
 use Rattle.vm_facts.specs.Answers.{Answers, ByteWrite}
 use Rattle.vm_facts.specs.declared.page.Page.{Page}
 use Rattle.vm_facts.specs.declared.page.Page.TheVariants as pages
@@ -60,17 +61,17 @@ sized_in : (k : Kernel) (x : Space) (o : Option SpacePages) → numbered space_n
 sized_in k x None e h = absurd h
 sized_in k x (Some y) e h = (y, e, h)
 
-lent : (A : Inputs) (s : State) (k : Kernel) (image : List ℕ) (pid : ℕ) (p : Process) (x : Space) → At A s k image
+lent : (A : Inputs) (s : State) (k : Kernel) (image : SwapImage) (pid : ℕ) (p : Process) (x : Space) → At A s k image
     → process_of s.point.flat pid ≡ Some p → p.holding ≡ Holds x → Lent A k x
 lent A s k image pid p x at here holds = record {
   spots = record { image = same_image; spots = spot_same };
-  covers = memory_covers A.images k image flat x keeps.coupled keeps.stands.texts own same_text;
+  covers = memory_covers A.images k image.bytes flat x keeps.coupled keeps.stands.texts own same_text;
 }
   where
     flat : FlatState
     flat = s.point.flat
 
-    keeps : Rattle.economy_laws.specs.Machine.Keeps A flat k image
+    keeps : Rattle.economy_laws.specs.Machine.Keeps A flat k image.bytes
     keeps = at.stands.keeps
 
     own : numbered (λ (y : Space). y.sid) x.sid (spaces_of flat) ≡ Some x
@@ -105,7 +106,7 @@ lent A s k image pid p x at here holds = record {
         ∙ ap (λ (d : ℕ). spot_at (length x.text_bytes) d (stack_len k.place x.sid) a) data_same
         ∙ ap (λ (z : ℕ). spot_at (length x.text_bytes) (length x.data_bytes) z a) stack_same
 
-pub same_spots : (A : Inputs) (s : State) (k : Kernel) (image : List ℕ) (pid : ℕ) (p : Process) (x : Space) → At A s k image
+pub same_spots : (A : Inputs) (s : State) (k : Kernel) (image : SwapImage) (pid : ℕ) (p : Process) (x : Space) → At A s k image
     → process_of s.point.flat pid ≡ Some p → p.holding ≡ Holds x → SameSpots k x
 same_spots A s k image pid p x at here holds = (lent A s k image pid p x at here holds).spots
 
@@ -212,7 +213,7 @@ found_first : (x : Space) (a : ByteAccess) (q : Page) (list : List ByteAccess) �
 found_first x a q list e = ap (λ (o : Option Page). cons_option o (filter_map (page_of_access x) list)) e
 
 -- the byte of an access that misses, after others that don't, is of the page that the process waits for
-wanted_at : (A : Inputs) (s : State) (k : Kernel) (image : List ℕ) (pid : ℕ) (now : Bool) (p : Process) (x : Space)
+wanted_at : (A : Inputs) (s : State) (k : Kernel) (image : SwapImage) (pid : ℕ) (now : Bool) (p : Process) (x : Space)
     (front rest : List ByteAccess) (last : ByteAccess)
     (address : ℕ) (write : Bool)
     → At A s k image → IsRunning A s pid now p x → step_accesses A.images s.point.flat p x ≡ front ++ last ∷ rest → AllHit (kernel_answers k x.sid) front
@@ -242,7 +243,7 @@ wanted_at A s k image pid now p x front rest last address write at r e hits miss
     }
 
 -- where no access misses the process waits for none
-ready_at : (A : Inputs) (s : State) (k : Kernel) (image : List ℕ) (pid : ℕ) (now : Bool) (p : Process) (x : Space) (list : List ByteAccess)
+ready_at : (A : Inputs) (s : State) (k : Kernel) (image : SwapImage) (pid : ℕ) (now : Bool) (p : Process) (x : Space) (list : List ByteAccess)
     → At A s k image → IsRunning A s pid now p x
     → step_accesses A.images s.point.flat p x ≡ list → AllHit (kernel_answers k x.sid) list → wanted A s ≡ None
 ready_at A s k image pid now p x list at r e hits =
@@ -307,7 +308,7 @@ stepped : (A : Inputs) (s : State) (p : Process) (x : Space) → step_accesses A
 unfolding step_accesses
 stepped A s p x = refl
 
-pub miss_wanted : (A : Inputs) (s : State) (k : Kernel) (image : List ℕ) (pid : ℕ) (now : Bool) (p : Process) (x : Space) (address : ℕ) (write : Bool)
+pub miss_wanted : (A : Inputs) (s : State) (k : Kernel) (image : SwapImage) (pid : ℕ) (now : Bool) (p : Process) (x : Space) (address : ℕ) (write : Bool)
     → At A s k image
     → IsRunning A s pid now p x → run (kernel_answers k x.sid) (instruction p.regs) ≡ Err (Miss address write) → WantsPage A s k x address write
 miss_wanted A s k image pid now p x address write at r m =
@@ -331,7 +332,7 @@ none_after images F p x (Ok effect) h = go effect.call h
     go (Some number) h = ap (Rattle.flat_model.specs.Touched.call_accesses images F p x effect) h
 none_after images F p x (Err refused) h = refl
 
-pub hit_ready : (A : Inputs) (s : State) (k : Kernel) (image : List ℕ) (pid : ℕ) (now : Bool) (p : Process) (x : Space) → At A s k image
+pub hit_ready : (A : Inputs) (s : State) (k : Kernel) (image : SwapImage) (pid : ℕ) (now : Bool) (p : Process) (x : Space) → At A s k image
     → IsRunning A s pid now p x
     → IsWhole (run (kernel_answers k x.sid) (instruction p.regs)) → IsReadyFor A s p x (run (kernel_answers k x.sid) (instruction p.regs))
 hit_ready A s k image pid now p x at r w =
@@ -358,7 +359,7 @@ call_after images F p x effect call c w =
     ap (Rattle.flat_model.specs.Touched.accesses_behind images F p x effect) c.is_number ∙ ap (Rattle.flat_model.specs.Touched.call_accesses images F p x effect) c.names
     ∙ ap (λ (ws : List ByteWrite). accesses (answers_of (puts x ws)) (reply_asked images F p x call effect)) w
 
-pub call_wanted : (A : Inputs) (s : State) (k : Kernel) (image : List ℕ) (pid : ℕ) (now : Bool) (p : Process) (x : Space) (effect : Effect) (call : SystemCall)
+pub call_wanted : (A : Inputs) (s : State) (k : Kernel) (image : SwapImage) (pid : ℕ) (now : Bool) (p : Process) (x : Space) (effect : Effect) (call : SystemCall)
     (address : ℕ) (write : Bool)
     → At A s k image → IsRunning A s pid now p x → run (kernel_answers k x.sid) (instruction p.regs) ≡ Ok effect → IsCallOf effect call
     → run (kernel_answers k x.sid) (reply_asked A.images s.point.flat p x call effect) ≡ Err (Miss address write) → WantsPage A s k x address write
@@ -377,7 +378,7 @@ call_wanted A s k image pid now p x effect call address write at r i c m =
     ∙ ap (λ (list : List ByteAccess). accesses memory (instruction p.regs) ++ list) after ∙ sym (append_one (accesses memory (instruction p.regs)) e.front (e.last ∷ e.rest)))
     (hit_both memory (accesses memory (instruction p.regs)) e.front (all_hit memory (instruction p.regs) n) e.hits) e.misses
 
-pub call_ready : (A : Inputs) (s : State) (k : Kernel) (image : List ℕ) (pid : ℕ) (now : Bool) (p : Process) (x : Space) (effect : Effect) (call : SystemCall)
+pub call_ready : (A : Inputs) (s : State) (k : Kernel) (image : SwapImage) (pid : ℕ) (now : Bool) (p : Process) (x : Space) (effect : Effect) (call : SystemCall)
     → At A s k image → IsRunning A s pid now p x → run (kernel_answers k x.sid) (instruction p.regs) ≡ Ok effect → IsCallOf effect call
     → IsAnswered (run (kernel_answers k x.sid) (reply_asked A.images s.point.flat p x call effect))
     → IsCalledFor A s p x call effect (run (kernel_answers k x.sid) (reply_asked A.images s.point.flat p x call effect))

@@ -1,5 +1,6 @@
 -- Moves of the hands that a line asks for are what a run does next.
 use Rattle.std.proofs.Common.{◌≡◌, ℕ, zero, suc, ◌+◌, ◌-◌, ◌<◌, ◌&&◌, nat_lt, Bool, true, false, List, [], ◌∷◌, Option, Some, None, refl, sym, ap, ◌∙◌, subst, arith}
+use Rattle.vm_facts.specs.SwapImages.{SwapImage}
 use Rattle.vm_facts.specs.declared.entry.Entry.{Entry}
 use Rattle.vm_facts.specs.declared.entry.Entry.TheVariants as entries
 use Rattle.vm_facts.specs.declared.page.Page.{Page}
@@ -20,7 +21,7 @@ use Rattle.run_model.specs.Wanted.{running, locked_by, locked}
 use Rattle.run_model.specs.Snapshot.{touched_of, before_absent}
 use Rattle.run_model.specs.After.{after, completed, moved_on}
 use Rattle.run_model.specs.Next.{when, begins_write, move_by, move_unit, under, next_unit}
-use Rattle.economy_laws.specs.Machine.{unit_image}
+use Rattle.economy_laws.specs.Machine.{unit_swap}
 use Rattle.fault_fill.specs.Made.{Ground, Made}
 use Rattle.fault_fill.proofs.PagingUnitsUnits.{unit_place}
 use Rattle.fault_fill.specs.Moved.{Moves}
@@ -82,12 +83,12 @@ moved_by A s n false o h e = record {
 fewer : (n a b : ℕ) → (n - a) - b ≡ n - (a + b)
 fewer n a b = omega arith
 
-pub moving : (us : List Entry) (A : Inputs) (g : Ground) (s : State) (k l : Kernel) (image : List ℕ) (j : Option (List ℕ)) (n : ℕ) → At A s k image
+pub moving : (us : List Entry) (A : Inputs) (g : Ground) (s : State) (k l : Kernel) (image : SwapImage) (j : Option SwapImage) (n : ℕ) → At A s k image
     → HasImages g A → g.locked ≡ []
     → AsksMoves s n → Moves us n k.place l.place → Made g us k (Some image) l j → LeadsMoving A s k image n us l j
 moving [] A g s k l image j n at f e h x m = record {
   state = s;
-  leads = subst (λ (y : Kernel). Leads A s k image [] s y j) m.0 (subst (λ (o : Option (List ℕ)). Leads A s k image [] s k o) m.1 (none_leads A s k image));
+  leads = subst (λ (y : Kernel). Leads A s k image [] s y j) m.0 (subst (λ (o : Option SwapImage). Leads A s k image [] s k o) m.1 (none_leads A s k image));
   asks = subst (AsksMoves s) (none_fewer n) h;
   point = refl;
   holdings = refl;
@@ -103,13 +104,13 @@ moving (u ∷ us) A g s k l image j n at f e h x m =
     let own : OwnsFrames s.place = at.run.placed.sound.owner.frames in
     let t : State = after A s u in
     let moved : Moved A s n u = subst (Moved A s n) (sym asked.2) (moved_by A s n (begins_write s.place [] && is_full s.place) own h kept) in
-    let image1 : List ℕ = unit_image k image u in
+    let image1 : SwapImage = unit_swap k image u in
     let first : Leads A s k image (u ∷ []) t m.next (Some image1) = first_leads A s t k m.next m.next image m.image (Some image1) u [] next one (none_leads A t m.next image1) in
     let at1 : At A t m.next image1 = leads_at A s t k m.next image image1 (u ∷ []) at first in
     let rest : Moves us (n - moves u) m.next.place l.place =
     subst (λ (y : Placement). Moves us (n - moves u) y l.place) (sym (at1.stands.place ∙ moved.place)) asked.3 in
     let more : LeadsMoving A t m.next image1 (n - moves u) us l j =
-    moving us A g t m.next l image1 j (n - moves u) at1 f e moved.asks rest (subst (λ (o : Option (List ℕ)). Made g us m.next o l j) one.told m.rest) in
+    moving us A g t m.next l image1 j (n - moves u) at1 f e moved.asks rest (subst (λ (o : Option SwapImage). Made g us m.next o l j) one.told m.rest) in
     record {
       state = more.state;
       leads = first_leads A s more.state k m.next l image m.image j u us next one more.leads;

@@ -1,6 +1,7 @@
 -- Serving the page that a process waits for is what a run does next.
 use Rattle.std.proofs.Common.{◌≡◌, ℕ, ◌+◌, ◌&&◌, nat_lt, inl, inr, Bool, true, false, List, [], ◌∷◌, ◌++◌, Option, Some, refl, sym, ap, ◌∙◌, subst}
 use Rattle.std.proofs.lemmas.Option.{same_Some}
+use Rattle.vm_facts.specs.SwapImages.{SwapImage}
 use Rattle.vm_facts.specs.declared.entry.Entry.{Entry}
 use Rattle.vm_facts.specs.declared.entry.Entry.TheVariants as entries
 use Rattle.vm_facts.specs.declared.page.Page.{Page}
@@ -28,7 +29,7 @@ use Rattle.run_model.specs.After.{after, place_at, completed, moved_on, audited}
 use Rattle.run_model.specs.Next.{next_unit, under, work, work_by, or_else, due_unit, next_mark, goes_on, turn_instructions}
 use Rattle.run_model.specs.Kinds.{ProcessRuns, GoesOn}
 use Rattle.run_model.proofs.Wanting.{splits_wanted, splits_locked}
-use Rattle.economy_laws.specs.Machine.{unit_image}
+use Rattle.economy_laws.specs.Machine.{unit_swap}
 use Rattle.economy_laws.proofs.Plain.{IsPaging, paging_stays, serve_paging}
 use Rattle.economy_laws.proofs.Paging.{entry_out}
 use Rattle.economy_laws.proofs.Marks.{IsFree, on_free}
@@ -174,7 +175,7 @@ is_there p [] rest q h = h.0.there
 is_there p (b ∷ before) rest q h = is_there p before rest q h.1
 
 -- the process still waits for it after a unit that serves it
-pub waits_on : (A : Inputs) (g : Ground) (s : State) (k : Kernel) (image : List ℕ) (pid : ℕ) (now : Bool) (before : List Page) (q : Page) (u : Entry)
+pub waits_on : (A : Inputs) (g : Ground) (s : State) (k : Kernel) (image : SwapImage) (pid : ℕ) (now : Bool) (before : List Page) (q : Page) (u : Entry)
     → At A s k image
     → IsWaiting A g s pid now before q → serve_unit s.place q now ≡ Some u → Paged A s u → IsWaiting A g (after A s u) pid now before q
 waits_on A g s k image pid now before q u at w h p =
@@ -202,13 +203,13 @@ waits_on A g s k image pid now before q u at w h p =
 pub same_both : (s t r : State) → SameBut s t → SameBut t r → SameBut s r
 same_both s t r a b = record { point = b.point ∙ a.point; holdings = b.holdings ∙ a.holdings; count = b.count ∙ a.count; lines = b.lines ∙ a.lines; mark = b.mark ∙ a.mark }
 
-pub served : (us : List Entry) (A : Inputs) (g : Ground) (s : State) (k l : Kernel) (image : List ℕ) (j : Option (List ℕ)) (pid : ℕ) (now : Bool)
+pub served : (us : List Entry) (A : Inputs) (g : Ground) (s : State) (k l : Kernel) (image : SwapImage) (j : Option SwapImage) (pid : ℕ) (now : Bool)
     (before : List Page) (q : Page)
     → At A s k image → IsWaiting A g s pid now before q → Serves us k.place g.locked q now l.place → Made g us k (Some image) l j
     → ServingLeads A g s k image pid now before q us l j
 served [] A g s k l image j pid now before q at w h m = record {
   state = s;
-  leads = subst (λ (x : Kernel). Leads A s k image [] s x j) m.0 (subst (λ (o : Option (List ℕ)). Leads A s k image [] s k o) m.1 (none_leads A s k image));
+  leads = subst (λ (x : Kernel). Leads A s k image [] s x j) m.0 (subst (λ (o : Option SwapImage). Leads A s k image [] s k o) m.1 (none_leads A s k image));
   same = record { point = refl; holdings = refl; count = refl; lines = refl; mark = refl };
   waiting = w;
 }
@@ -221,14 +222,14 @@ served (u ∷ us) A g s k l image j pid now before q at w h m =
     let one : MadeAs A s k image u m.next m.image =
     one_made A g s k m.next image m.image u w.images (keeps_locked A g s before q u now (splits_locked A s before q w.runs.clear d) w.locked asked) m.made m.told in
     let p : Paged A s u = paged A s u (subst IsPaging (sym n.1) (serve_paging s.place q)) (on_free A s s.mark pid now w.runs.on) in
-    let x : List ℕ = unit_image k image u in
+    let x : SwapImage = unit_swap k image u in
     let first : Leads A s k image (u ∷ []) (after A s u) m.next (Some x) =
     first_leads A s (after A s u) k m.next m.next image m.image (Some x) u [] next one (none_leads A (after A s u) m.next x) in
     let rest : Serves us m.next.place g.locked q now l.place =
     subst (λ (y : Placement). Serves us y g.locked q now l.place) (sym (served_place g q now u k m.next (Some image) h.0 m.made)) h.1 in
     let more : ServingLeads A g (after A s u) m.next x pid now before q us l j =
     served us A g (after A s u) m.next l x j pid now before q (leads_at A s (after A s u) k m.next image x (u ∷ []) at first) (waits_on A g s k image pid now before q u at w asked p) rest
-    (subst (λ (o : Option (List ℕ)). Made g us m.next o l j) one.told m.rest) in
+    (subst (λ (o : Option SwapImage). Made g us m.next o l j) one.told m.rest) in
     record {
       state = more.state;
       leads = first_leads A s more.state k m.next l image m.image j u us next one more.leads;

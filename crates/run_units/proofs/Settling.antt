@@ -1,5 +1,6 @@
 -- Settling a space is what its process does next.
 use Rattle.std.proofs.Common.{◌≡◌, ℕ, zero, suc, not, ◌&&◌, Bool, true, false, List, [], ◌∷◌, replicate, Option, Some, None, refl, sym, ap, ◌∙◌, subst}
+use Rattle.vm_facts.specs.SwapImages.{SwapImage}
 use Rattle.vm_facts.specs.declared.entry.Entry.{Entry}
 use Rattle.vm_facts.specs.declared.entry.Entry.TheVariants as entries
 use Rattle.vm_facts.specs.declared.page.Page.{Page}
@@ -21,7 +22,7 @@ use Rattle.run_model.specs.Act.{act, act_if, act_by, settled, must_refuse, must_
 use Rattle.run_model.specs.Next.{next_unit}
 use Rattle.run_model.specs.Kinds.{ProcessRuns}
 use Rattle.run_model.proofs.Wanting.{wanted_none, all_unwanted}
-use Rattle.economy_laws.specs.Machine.{unit_image}
+use Rattle.economy_laws.specs.Machine.{unit_swap}
 use Rattle.economy_laws.proofs.Marks.{on_free}
 use Rattle.economy_laws.proofs.Flows.{on_steps, runs_next, spared}
 use Rattle.machine_state.specs.Settled.{EndsWhile}
@@ -82,28 +83,28 @@ leaves_on A s pid now sid o h p =
         ap (λ (y : Point). Rattle.run_model.specs.Act.loses_if (Rattle.flat_state.specs.Change.is_borrower y.flat.processes pid)
         (Rattle.flat_model.specs.Run.step_at A y pid).change (Rattle.flat_state.specs.Flat.process_of y.flat pid)) e.point
 
-pub settles : (n : ℕ) (A : Inputs) (g : Ground) (s : State) (k l : Kernel) (image : List ℕ) (j : Option (List ℕ)) (pid : ℕ) (now : Bool) (sid : ℕ)
+pub settles : (n : ℕ) (A : Inputs) (g : Ground) (s : State) (k l : Kernel) (image : SwapImage) (j : Option SwapImage) (pid : ℕ) (now : Bool) (sid : ℕ)
     → At A s k image → HasImages g A
     → IsLeaving A s pid now sid → EndsWhile g.from sid n k (Some image) l j → LeadsLeaving A s k image pid now sid (replicate n entries.Done) l j
 settles zero A g s k l image j pid now sid at f h e = record {
   state = s;
-  leads = subst (λ (y : Kernel). Leads A s k image [] s y j) (sym e.0) (subst (λ (o : Option (List ℕ)). Leads A s k image [] s k o) (sym e.1) (none_leads A s k image));
+  leads = subst (λ (y : Kernel). Leads A s k image [] s y j) (sym e.0) (subst (λ (o : Option SwapImage). Leads A s k image [] s k o) (sym e.1) (none_leads A s k image));
   same = record { point = refl; holdings = refl; count = refl; lines = refl; mark = refl };
   leaving = h;
 }
 settles (suc n) A g s k l image j pid now sid at f h e =
     let next : Kernel = e.1.0 in
-    let i : Option (List ℕ) = e.1.1 in
+    let i : Option SwapImage = e.1.1 in
     let unsettled : is_settled s.place sid ≡ false = subst (λ (y : Placement). is_settled y sid ≡ false) at.stands.place e.0 in
     let u : next_unit A s ≡ Some entries.Done = settled_next A s pid now sid h unsettled in
     let one : MadeAs A s k image entries.Done next i = one_made A g s k next image i entries.Done f tt e.1.2 e.1.3 in
     let p : Paged A s entries.Done = paged A s entries.Done tt (on_free A s s.mark pid now h.runs.on) in
-    let x : List ℕ = unit_image k image entries.Done in
+    let x : SwapImage = unit_swap k image entries.Done in
     let t : State = after A s entries.Done in
     let first : Leads A s k image (entries.Done ∷ []) t next (Some x) = first_leads A s t k next next image i (Some x) entries.Done [] u one (none_leads A t next x) in
     let more : LeadsLeaving A t next x pid now sid (replicate n entries.Done) l j =
     settles n A g t next l x j pid now sid (leads_at A s t k next image x (entries.Done ∷ []) at first) f (leaves_on A s pid now sid at.run.placed.sound.owner.frames h p)
-    (subst (λ (o : Option (List ℕ)). EndsWhile g.from sid n next o l j) one.told e.1.4) in
+    (subst (λ (o : Option SwapImage). EndsWhile g.from sid n next o l j) one.told e.1.4) in
     record {
       state = more.state;
       leads = first_leads A s more.state k next l image i j entries.Done (replicate n entries.Done) u one more.leads;

@@ -1,5 +1,6 @@
 -- The steps of processes, as a machine makes them, are units of a run.
 use Rattle.std.proofs.Common.{◌≡◌, ℕ, ◌*◌, ◌/◌, ◌%◌, Bool, true, false, List, [], ◌∷◌, length, Option, Some, None, Result, Ok, Err, refl, sym, ap, ◌∙◌, subst}
+use Rattle.vm_facts.specs.SwapImages.{SwapImage}
 use Rattle.vm_facts.specs.Answers.{ByteWrite}
 use Rattle.vm_facts.specs.declared.entry.Entry.{Entry}
 use Rattle.vm_facts.specs.declared.entry.Entry.TheVariants as entries
@@ -76,7 +77,7 @@ unwritten : (A : Inputs) (s : State) (k : Kernel) (pid : ℕ) (step : Step) → 
 unwritten A s k pid step e w =
     ap (λ (x : Step). process_written k (process_of s.point.flat pid) x.writes) e ∙ ap (process_written k (process_of s.point.flat pid)) w ∙ none_written k (process_of s.point.flat pid)
 
-wanted_is : (A : Inputs) (s : State) (k : Kernel) (image : List ℕ) (pid : ℕ) (now : Bool) (p : Process) (x : Space) (change : Change) → At A s k image
+wanted_is : (A : Inputs) (s : State) (k : Kernel) (image : SwapImage) (pid : ℕ) (now : Bool) (p : Process) (x : Space) (change : Change) → At A s k image
     → IsRunning A s pid now p x
     → wanted_if A.images s.point.flat change (process_of s.point.flat pid) ≡ asked (facts_of A.images) k pid change
 wanted_is A s k image pid now p x change at r =
@@ -84,7 +85,7 @@ wanted_is A s k image pid now p x change at r =
     ap (wanted_if A.images s.point.flat change) r.here ∙ ap (wanted_in A.images s.point.flat change) r.holds
     ∙ sym (change_same A.images k s.point.flat pid p x change at.fit keeps.stands.texts keeps.numbered at.run.numbers keeps.coupled.tables r.here r.holds)
 
-taken : (A : Inputs) (s : State) (k : Kernel) (image : List ℕ) (pid : ℕ) (now : Bool) (p : Process) (x : Space) (step : Step) (found : Holdings)
+taken : (A : Inputs) (s : State) (k : Kernel) (image : SwapImage) (pid : ℕ) (now : Bool) (p : Process) (x : Space) (step : Step) (found : Holdings)
     → At A s k image → IsRunning A s pid now p x
     → step_at A s.point pid ≡ step → step.writes ≡ [] → place_all A.swap_blocks k.holdings (asked (facts_of A.images) k pid step.change) ≡ Ok found
     → taken_step A s k pid ≡ with_holdings k found
@@ -94,14 +95,14 @@ taken A s k image pid now p x step found at r e w f =
     ∙ ap (takes_step A k) (wanted_is A s k image pid now p x step.change at r)
     ∙ ap (λ (o : Result Holdings ℕ). with_holdings k (or_before k.holdings o)) f
 
-made_is : (A : Inputs) (s : State) (k : Kernel) (image : List ℕ) (pid : ℕ) (u : Entry) → Completes pid u → unit_step A s k image [] u ≡ process_step A s k pid u
+made_is : (A : Inputs) (s : State) (k : Kernel) (image : SwapImage) (pid : ℕ) (u : Entry) → Completes pid u → unit_step A s k image.bytes [] u ≡ process_step A s k pid u
 made_is A s k image pid (entries.Grew q pages) c = ap (λ (n : ℕ). process_step A s k n (entries.Grew q pages)) c
 made_is A s k image pid (entries.Call q number carry r0 r1) c = ap (λ (n : ℕ). process_step A s k n (entries.Call q number carry r0 r1)) c
 made_is A s k image pid (entries.Sleeps q) c = ap (λ (n : ℕ). process_step A s k n (entries.Sleeps q)) c
 made_is A s k image pid (entries.Ended q status) c = ap (λ (n : ℕ). process_step A s k n (entries.Ended q status)) c
 made_is A s k image pid _ c = absurd c
 
-by_unit : (A : Inputs) (s : State) (k l : Kernel) (image : List ℕ) (pid : ℕ) (u : Entry) → Completes pid u → l ≡ unit_step A s k image [] u
+by_unit : (A : Inputs) (s : State) (k l : Kernel) (image : SwapImage) (pid : ℕ) (u : Entry) → Completes pid u → l ≡ unit_step A s k image.bytes [] u
     → MadeAs A s k image u l (Some image)
 by_unit A s k l image pid (entries.Grew q pages) c e = record { read = []; given = tt; made = e; told = refl }
 by_unit A s k l image pid (entries.Call q number carry r0 r1) c e = record { read = []; given = tt; made = e; told = refl }
@@ -109,7 +110,7 @@ by_unit A s k l image pid (entries.Sleeps q) c e = record { read = []; given = t
 by_unit A s k l image pid (entries.Ended q status) c e = record { read = []; given = tt; made = e; told = refl }
 by_unit A s k l image pid _ c e = absurd c
 
-pub step_made : (A : Inputs) (s : State) (k l : Kernel) (image : List ℕ) (pid : ℕ) (now : Bool) (p : Process) (x : Space) (u : Entry)
+pub step_made : (A : Inputs) (s : State) (k l : Kernel) (image : SwapImage) (pid : ℕ) (now : Bool) (p : Process) (x : Space) (u : Entry)
     (step : Step) (found : Holdings)
     → At A s k image → IsRunning A s pid now p x → Completes pid u → step_at A s.point pid ≡ step → step.writes ≡ []
     → place_all A.swap_blocks k.holdings (asked (facts_of A.images) k pid step.change) ≡ Ok found
@@ -171,7 +172,7 @@ same_writes [] k x e = refl
 same_writes (w ∷ ws) k x e =
     same_writes ws (write_in k x.sid w) x (written_spots k x (spot_in k.place x.sid w.address) w.byte e) ∙ ap (λ (y : Kernel). write_bytes y x ws) (same_write k x w e)
 
-pub ran_made : (A : Inputs) (s : State) (k l : Kernel) (image : List ℕ) (pid : ℕ) (now : Bool) (p : Process) (x : Space) (step : Step)
+pub ran_made : (A : Inputs) (s : State) (k l : Kernel) (image : SwapImage) (pid : ℕ) (now : Bool) (p : Process) (x : Space) (step : Step)
     → At A s k image → IsRunning A s pid now p x
     → step_at A s.point pid ≡ step → l ≡ ran_by (writes_in k x.sid step.writes) pid step.regs (entries.Ran pid 1)
     → MadeAs A s k image (entries.Ran pid 1) l (Some image)
@@ -209,13 +210,13 @@ call_known A s pid now p x effect call r i c h =
     ∙ ap (λ (ws : List ByteWrite). replied_step A.images F p call effect (refused_reply refused (or_fault (run (answers_of (puts x ws)) (reply_asked A.images F p x call effect))))) h.writes
     ∙ ap (λ (z : Result Reply Refused). replied_step A.images F p call effect (refused_reply refused (or_fault z))) h.replies
 
-pub record_registers : (A : Inputs) (s : State) (k : Kernel) (image : List ℕ) (pid : ℕ) (now : Bool) (p : Process) (x : Space) (kept : Proc) → At A s k image
+pub record_registers : (A : Inputs) (s : State) (k : Kernel) (image : SwapImage) (pid : ℕ) (now : Bool) (p : Process) (x : Space) (kept : Proc) → At A s k image
     → IsRunning A s pid now p x → proc_of k pid ≡ Some kept → kept.regs ≡ p.regs
 record_registers A s k image pid now p x kept at i e =
     let number : p.pid ≡ pid = (found_at s.point.flat pid p i.here).0 in
     let resident : is_out k.place p.pid ≡ false = ap (is_out k.place) number ∙ ap (λ (y : Placement). is_out y pid) at.stands.place ∙ i.runs.resident in
     let regs = at.stands.keeps.coupled.regs p kept (ap (process_of s.point.flat) number ∙ i.here) (ap (proc_of k) number ∙ e) in
-    subst (λ (b : Bool). KeepsRegs k image b p kept.regs (space_of_holding p.holding)) resident regs
+    subst (λ (b : Bool). KeepsRegs k image.bytes b p kept.regs (space_of_holding p.holding)) resident regs
 
 -- A change with which no space passes.
 
@@ -233,7 +234,7 @@ plain_change true images k pid regs e changes.Sleep h = refl
 plain_change false images k pid regs e changes.Sleep h = refl
 plain_change b images k pid regs e _ h = absurd h
 
-pub plain_made : (A : Inputs) (s : State) (k l : Kernel) (image : List ℕ) (pid : ℕ) (now : Bool) (p : Process) (x : Space) (u : Entry)
+pub plain_made : (A : Inputs) (s : State) (k l : Kernel) (image : SwapImage) (pid : ℕ) (now : Bool) (p : Process) (x : Space) (u : Entry)
     (step : Step) (found : Holdings)
     → At A s k image → IsRunning A s pid now p x → Completes pid u → step_at A s.point pid ≡ step → step.writes ≡ [] → PassesNone step.change
     → place_all A.swap_blocks k.holdings (asked (facts_of A.images) k pid step.change) ≡ Ok found
@@ -252,7 +253,7 @@ back_change true images k found pid regs e (changes.End status) h = refl
 back_change false images k found pid regs e (changes.End status) h = refl
 back_change b images k found pid regs e _ h = absurd h
 
-pub returning_made : (A : Inputs) (s : State) (k l : Kernel) (image : List ℕ) (pid : ℕ) (now : Bool) (p : Process) (x : Space) (u : Entry)
+pub returning_made : (A : Inputs) (s : State) (k l : Kernel) (image : SwapImage) (pid : ℕ) (now : Bool) (p : Process) (x : Space) (u : Entry)
     (step : Step) (found : Holdings)
     → At A s k image → IsRunning A s pid now p x → Completes pid u → step_at A s.point pid ≡ step → step.writes ≡ [] → GivesBack step.change
     → place_all A.swap_blocks k.holdings (asked (facts_of A.images) k pid step.change) ≡ Ok found
@@ -269,7 +270,7 @@ lent_change : (b : Bool) (images : List Image) (k : Kernel) (pid : ℕ) (regs : 
 lent_change true images k pid regs e child = refl
 lent_change false images k pid regs e child = refl
 
-pub lending_made : (A : Inputs) (s : State) (k l : Kernel) (image : List ℕ) (pid : ℕ) (now : Bool) (p : Process) (x : Space) (u : Entry) (step : Step)
+pub lending_made : (A : Inputs) (s : State) (k l : Kernel) (image : SwapImage) (pid : ℕ) (now : Bool) (p : Process) (x : Space) (u : Entry) (step : Step)
     (found : Holdings) (child : ℕ)
     → At A s k image → IsRunning A s pid now p x → Completes pid u → step_at A s.point pid ≡ step → step.writes ≡ [] → step.change ≡ changes.Lend child
     → place_all A.swap_blocks k.holdings (asked (facts_of A.images) k pid step.change) ≡ Ok found
@@ -299,7 +300,7 @@ headers_agree A g h = go g.from.files h
     go None x = absurd x
     go (Some files) x = loaded_facts g.from.images files A.images x
 
-pub growth_counts : (A : Inputs) (s : State) (k : Kernel) (image : List ℕ) (pid : ℕ) (now : Bool) (p : Process) (x : Space) → At A s k image
+pub growth_counts : (A : Inputs) (s : State) (k : Kernel) (image : SwapImage) (pid : ℕ) (now : Bool) (p : Process) (x : Space) → At A s k image
     → IsRunning A s pid now p x
     → (data_count k.place x.sid ≡ data_pages_of x) × (stack_count k.place x.sid ≡ stack_pages_of x)
 growth_counts A s k image pid now p x at r =
@@ -308,7 +309,7 @@ growth_counts A s k image pid now p x at r =
     subst (λ (o : Option Space). Fits o (numbered space_number x.sid k.place.spaces)) own (at.stands.keeps.coupled.tables.spaces x.sid) in
     (data_counted x (numbered space_number x.sid k.place.spaces) fits, stack_counted x (numbered space_number x.sid k.place.spaces) fits)
 
-pub growth_made : (A : Inputs) (s : State) (k l : Kernel) (image : List ℕ) (pid : ℕ) (now : Bool) (p : Process) (x : Space) (address : ℕ)
+pub growth_made : (A : Inputs) (s : State) (k l : Kernel) (image : SwapImage) (pid : ℕ) (now : Bool) (p : Process) (x : Space) (address : ℕ)
     (kept : Proc) (found : Holdings)
     → At A s k image → IsRunning A s pid now p x → IsReadyFor A s p x (Err (Below address)) → is_refused s.point.last pid ≡ false → proc_of k pid ≡ Some kept
     → place_all A.swap_blocks k.holdings (asked (facts_of A.images) k pid (growth_to k x address)) ≡ Ok found

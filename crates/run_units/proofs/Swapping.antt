@@ -1,6 +1,7 @@
 -- Processes that are put out or come in, and entries that move no page, are units of a run.
 use Rattle.std.proofs.Common.{◌≡◌, ℕ, ◌+◌, ◌<◌, ◌&&◌, nat_lt, Bool, true, false, List, [], ◌∷◌, length, Option, Some, None, refl, sym, ap, ◌∙◌, subst, arith}
 use Rattle.std.proofs.lemmas.Bool.Decides.{nat_tests}
+use Rattle.vm_facts.specs.SwapImages.{SwapImage}
 use Rattle.vm_facts.specs.declared.entry.Entry.{Entry}
 use Rattle.vm_facts.specs.declared.entry.Entry.TheVariants as entries
 use Rattle.vm_facts.specs.declared.page.Page.{Page}
@@ -17,7 +18,7 @@ use Rattle.page_laws.proofs.Bytes.Others.{put_steady}
 use Rattle.kernel_model.specs.Kernel.{Kernel, Proc, out_step, in_step, note_step}
 use Rattle.kernel_model.specs.UPage.{AreRegs}
 use Rattle.kernel_model.specs.Unit.{proc_of}
-use Rattle.machine_state.specs.Swapping.{WritesU, IsIn}
+use Rattle.machine_state.specs.Swapping.{WritesU, AsksU, IsIn}
 use Rattle.flat_model.specs.Run.{Point}
 use Rattle.run_model.specs.declared.mark.Mark.{Mark}
 use Rattle.run_model.specs.declared.mark.Mark.TheVariants as marks
@@ -25,7 +26,7 @@ use Rattle.run_model.specs.State.{State}
 use Rattle.run_model.specs.Wanted.{locked}
 use Rattle.run_model.specs.After.{after, completed, place_at}
 use Rattle.run_model.specs.Next.{when, or_else, due_unit, line_or_turn, turn_of, under, next_mark, next_unit, owners_entry, next_turned, last_turned}
-use Rattle.economy_laws.specs.Machine.{unit_image, IsNote}
+use Rattle.economy_laws.specs.Machine.{unit_swap, IsNote}
 use Rattle.fault_fill.specs.Made.{Ground, MadeBy, Made}
 use Rattle.fault_fill.proofs.PagingUnitsUnits.{unit_place}
 use Rattle.run_units.specs.Leads.{HasImages, KeepsLocked, MadeAs, Leads}
@@ -79,15 +80,15 @@ turn_comes A s pid d o c l t =
 
 -- One unit.
 
-pub out_made : (A : Inputs) (s : State) (k l : Kernel) (image : List ℕ) (j : Option (List ℕ)) (pid : ℕ) → ((p : Proc) → proc_of k pid ≡ Some p → AreRegs p.regs)
+pub out_made : (A : Inputs) (s : State) (k l : Kernel) (image : SwapImage) (j : Option SwapImage) (pid : ℕ) → ((p : Proc) → proc_of k pid ≡ Some p → AreRegs p.regs)
     → l ≡ out_step k pid → WritesU k pid (Some image) j → MadeAs A s k image (entries.SwapOut pid) l j
 out_made A s k l image j pid r m w = record { read = []; given = r; made = m; told = w }
 
-pub in_made : (A : Inputs) (s : State) (k l : Kernel) (image : List ℕ) (pid : ℕ) → IsIn k l pid (Some image)
-    → MadeAs A s k image (entries.SwapIn pid) l (Some image)
-in_made A s k l image pid h = record { read = []; given = tt; made = h.step ∙ ap (in_step k pid) h.stored; told = refl }
+pub in_made : (A : Inputs) (s : State) (k l : Kernel) (image : SwapImage) (j : Option SwapImage) (pid : ℕ) → IsIn k l pid (Some image)
+    → AsksU k pid (Some image) j → MadeAs A s k image (entries.SwapIn pid) l j
+in_made A s k l image j pid h a = record { read = []; given = tt; made = h.step ∙ ap (in_step k pid) h.stored; told = a }
 
-pub note_made : (A : Inputs) (s : State) (k l : Kernel) (image : List ℕ) (u : Entry) → IsNote u → l ≡ note_step k u → MadeAs A s k image u l (Some image)
+pub note_made : (A : Inputs) (s : State) (k l : Kernel) (image : SwapImage) (u : Entry) → IsNote u → l ≡ note_step k u → MadeAs A s k image u l (Some image)
 note_made A s k l image (entries.Event line) n m = record { read = []; given = tt; made = m; told = refl }
 note_made A s k l image (entries.Turn pid) n m = record { read = []; given = tt; made = m; told = refl }
 note_made A s k l image (entries.Out pid bytes) n m = record { read = []; given = tt; made = m; told = refl }
@@ -103,7 +104,7 @@ IsPut entries.Done = Unit {0}
 IsPut (entries.Put q n) = Unit {0}
 IsPut _ = ⊥
 
-put_or_last : (p : Placement) (pid sid : ℕ) (g : Ground) (k l : Kernel) (i : Option (List ℕ)) → MadeBy g (put_out_unit p pid sid) k i l
+put_or_last : (p : Placement) (pid sid : ℕ) (g : Ground) (k l : Kernel) (i : Option SwapImage) → MadeBy g (put_out_unit p pid sid) k i l
     → IsPut (put_out_unit p pid sid)
 put_or_last p pid sid g k l i h = go (is_settled p sid) h
   where
@@ -144,12 +145,12 @@ put_by A s (entries.Put q n) pid sid o h i = record {
 }
 put_by A s _ pid sid o h i = absurd i
 
-pub putting : (us : List Entry) (A : Inputs) (g : Ground) (s : State) (k l : Kernel) (image : List ℕ) (j : Option (List ℕ)) (pid sid at : ℕ)
+pub putting : (us : List Entry) (A : Inputs) (g : Ground) (s : State) (k l : Kernel) (image : SwapImage) (j : Option SwapImage) (pid sid at : ℕ)
     → At A s k image → HasImages g A
     → PutsProcess s pid sid → PutsOut us at k.place pid sid l.place → Made g us k (Some image) l j → LeadsPutting A s k image pid sid us l j
 putting [] A g s k l image j pid sid at here f h x m = record {
   state = s;
-  leads = subst (λ (y : Kernel). Leads A s k image [] s y j) m.0 (subst (λ (o : Option (List ℕ)). Leads A s k image [] s k o) m.1 (none_leads A s k image));
+  leads = subst (λ (y : Kernel). Leads A s k image [] s y j) m.0 (subst (λ (o : Option SwapImage). Leads A s k image [] s k o) m.1 (none_leads A s k image));
   same = record { point = refl; holdings = refl; count = refl; lines = refl; mark = refl };
   puts = h;
 }
@@ -161,14 +162,14 @@ putting (u ∷ us) A g s k l image j pid sid at here f h x m =
     let one : MadeAs A s k image u m.next m.image = one_made A g s k m.next image m.image u f (put_locked g A s u i) m.made m.told in
     let t : State = after A s u in
     let p : Put A s u pid sid = put_by A s u pid sid here.run.placed.sound.owner.frames h i in
-    let image1 : List ℕ = unit_image k image u in
+    let image1 : SwapImage = unit_swap k image u in
     let first : Leads A s k image (u ∷ []) t m.next (Some image1) = first_leads A s t k m.next m.next image m.image (Some image1) u [] next one (none_leads A t m.next image1) in
     let at1 : At A t m.next image1 = leads_at A s t k m.next image image1 (u ∷ []) here first in
     let rest : PutsOut us (at + 1) m.next.place pid sid l.place =
     subst (λ (y : Placement). PutsOut us (at + 1) y pid sid l.place)
     (ap (λ (y : Placement). place_entry [] (at + 1) y u) place ∙ sym (p.place (at + 1)) ∙ sym at1.stands.place) x.2 in
     let more : LeadsPutting A t m.next image1 pid sid us l j =
-    putting us A g t m.next l image1 j pid sid (at + 1) at1 f p.puts rest (subst (λ (o : Option (List ℕ)). Made g us m.next o l j) one.told m.rest) in
+    putting us A g t m.next l image1 j pid sid (at + 1) at1 f p.puts rest (subst (λ (o : Option SwapImage). Made g us m.next o l j) one.told m.rest) in
     record {
       state = more.state;
       leads = first_leads A s more.state k m.next l image m.image j u us next one more.leads;

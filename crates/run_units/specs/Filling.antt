@@ -1,5 +1,6 @@
 -- Pages that are due are filled.
 use Rattle.std.specs.Prelude.{◌≡◌, ℕ, true, List, [], ◌∷◌, Option, Some}
+use Rattle.vm_facts.specs.SwapImages.{SwapImage}
 use Rattle.vm_facts.specs.declared.page.Page.{Page}
 use Rattle.vm_facts.specs.declared.entry.Entry.{Entry}
 use Rattle.vm_facts.specs.declared.entry.Entry.TheVariants as entries
@@ -22,7 +23,7 @@ FillsFirst p (Start q ∷ ds) e locked = (e ≡ entries.Zero q) × (locked ≡ [
 FillsFirst p (CopyOf q parent ∷ ds) e locked = (e ≡ entries.Copy q) × (locked ≡ parent ∷ []) × (is_valid (state_of p parent) ≡ true)
 
 -- units are next units of the run, and lead to a state with the same but for pages and journal, where the same is due
-pub record LeadsDue (A : Inputs) (s : State) (k : Kernel) (image : List ℕ) (us : List Entry) (l : Kernel) (j : Option (List ℕ)) : Type 0 where
+pub record LeadsDue (A : Inputs) (s : State) (k : Kernel) (image : SwapImage) (us : List Entry) (l : Kernel) (j : Option SwapImage) : Type 0 where
   pub state : State
   pub leads : Leads A s k image us state l j
   pub same : SameBut s state
@@ -31,7 +32,7 @@ pub record LeadsDue (A : Inputs) (s : State) (k : Kernel) (image : List ℕ) (us
 -- each unit that forces a frame for the page that is due first is the next unit of the run, and the same fills it then
 abbrev pub ForcingIsNext : Type 0
 ForcingIsNext =
-    (A : Inputs) (g : Ground) (s : State) (k l : Kernel) (image : List ℕ) (j : Option (List ℕ)) (e : Entry) (us : List Entry)
+    (A : Inputs) (g : Ground) (s : State) (k l : Kernel) (image : SwapImage) (j : Option SwapImage) (e : Entry) (us : List Entry)
     → At A s k image → HasImages g A → FillsFirst s.place s.place.due e g.locked → Forces us k.place g.locked l.place → Made g us k (Some image) l j
     → (led : LeadsDue A s k image us l j) × FillsFirst led.state.place led.state.place.due e g.locked
 
@@ -50,7 +51,7 @@ FillIsNext =
 -- each unit that serves the parent's page of a child's page that is due first is the next unit of the run
 abbrev pub BringingIsNext : Type 0
 BringingIsNext =
-    (A : Inputs) (g : Ground) (s : State) (k l : Kernel) (image : List ℕ) (j : Option (List ℕ)) (child parent : Page) (ds : List Due) (us : List Entry)
+    (A : Inputs) (g : Ground) (s : State) (k l : Kernel) (image : SwapImage) (j : Option SwapImage) (child parent : Page) (ds : List Due) (us : List Entry)
     → At A s k image → HasImages g A → g.locked ≡ parent ∷ [] → s.place.due ≡ CopyOf child parent ∷ ds
     → Serves us k.place g.locked parent true l.place → Made g us k (Some image) l j → LeadsDue A s k image us l j
 

@@ -1,5 +1,6 @@
 -- Units that a machine makes, as next units of a run.
 use Rattle.std.specs.Prelude.{◌≡◌, ℕ, ◌↔◌, List, Option, Some}
+use Rattle.vm_facts.specs.SwapImages.{SwapImage}
 use Rattle.vm_facts.specs.declared.entry.Entry.{Entry}
 use Rattle.vm_facts.specs.declared.entry.Entry.TheVariants as entries
 use Rattle.flat_state.specs.Flat.{Inputs}
@@ -7,7 +8,7 @@ use Rattle.kernel_model.specs.Kernel.{Kernel}
 use Rattle.machine_state.specs.Files.{AreImages}
 use Rattle.run_model.specs.State.{State}
 use Rattle.run_model.specs.Wanted.{locked}
-use Rattle.economy_laws.specs.Machine.{unit_step, unit_image, IsGiven, Makes}
+use Rattle.economy_laws.specs.Machine.{unit_step, unit_swap, IsGiven, MakesSwap}
 use Rattle.fault_fill.specs.Made.{Ground}
 
 -- the files, where they are told, hold the images of the run
@@ -20,14 +21,14 @@ KeepsLocked g A s (entries.Hands n) = g.locked ≡ locked A s
 KeepsLocked g A s _ = Unit {0}
 
 -- A kernel and a swap image, which is told, are what a unit of the run makes of others, with what it is given.
-pub record MadeAs (A : Inputs) (s : State) (k : Kernel) (image : List ℕ) (u : Entry) (l : Kernel) (j : Option (List ℕ)) : Type 0 where
+pub record MadeAs (A : Inputs) (s : State) (k : Kernel) (image : SwapImage) (u : Entry) (l : Kernel) (j : Option SwapImage) : Type 0 where
   pub read : List (List ℕ)
-  pub given : IsGiven A s k image read u
-  pub made : l ≡ unit_step A s k image read u
-  pub told : j ≡ Some (unit_image k image u)
+  pub given : IsGiven A s k image.bytes read u
+  pub made : l ≡ unit_step A s k image.bytes read u
+  pub told : j ≡ Some (unit_swap k image u)
 
 -- Next units of the run lead from a state, with a kernel and a swap image, to another; the swap image is told then too.
-pub record Leads (A : Inputs) (s : State) (k : Kernel) (image : List ℕ) (us : List Entry) (t : State) (l : Kernel) (j : Option (List ℕ)) : Type 0 where
-  pub behind : List ℕ
+pub record Leads (A : Inputs) (s : State) (k : Kernel) (image : SwapImage) (us : List Entry) (t : State) (l : Kernel) (j : Option SwapImage) : Type 0 where
+  pub behind : SwapImage
   pub told : j ≡ Some behind
-  pub makes : Makes A s k image us t l behind
+  pub makes : MakesSwap A s k image us t l behind

@@ -1,5 +1,6 @@
 -- Moves of the hands that a line of the schedule asks for.
 use Rattle.std.specs.Prelude.{◌≡◌, ℕ, ◌-◌, ◌<◌, true, false, List, [], Option, Some, None}
+use Rattle.vm_facts.specs.SwapImages.{SwapImage}
 use Rattle.vm_facts.specs.declared.entry.Entry.{Entry}
 use Rattle.flat_state.specs.Flat.{Inputs}
 use Rattle.page_model.specs.Hands.{wants_moves}
@@ -19,7 +20,7 @@ pub record AsksMoves (s : State) (n : ℕ) : Type 0 where
   pub clear : s.place.due ≡ []
 
 -- Units are next units of the run; after them so many moves fewer are asked for, and the flat machine is where it was.
-pub record LeadsMoving (A : Inputs) (s : State) (k : Kernel) (image : List ℕ) (n : ℕ) (us : List Entry) (l : Kernel) (j : Option (List ℕ)) : Type 0 where
+pub record LeadsMoving (A : Inputs) (s : State) (k : Kernel) (image : SwapImage) (n : ℕ) (us : List Entry) (l : Kernel) (j : Option SwapImage) : Type 0 where
   pub state : State
   pub leads : Leads A s k image us state l j
   pub asks : AsksMoves state (n - moves_of us)
@@ -31,7 +32,7 @@ pub record LeadsMoving (A : Inputs) (s : State) (k : Kernel) (image : List ℕ) 
 -- each move of the hands, and each transfer that ends before one, is the next unit of the run
 abbrev pub MovingIsNext : Type 0
 MovingIsNext =
-    (A : Inputs) (g : Ground) (s : State) (k l : Kernel) (image : List ℕ) (j : Option (List ℕ)) (n : ℕ) (us : List Entry)
+    (A : Inputs) (g : Ground) (s : State) (k l : Kernel) (image : SwapImage) (j : Option SwapImage) (n : ℕ) (us : List Entry)
     → At A s k image → HasImages g A → g.locked ≡ [] → AsksMoves s n → Moves us n k.place l.place → Made g us k (Some image) l j
     → LeadsMoving A s k image n us l j
 

@@ -1,5 +1,6 @@
 -- Pages that are served for a process that runs.
 use Rattle.std.specs.Prelude.{◌≡◌, ℕ, Bool, true, List, ◌++◌, ◌∷◌, Option, Some}
+use Rattle.vm_facts.specs.SwapImages.{SwapImage}
 use Rattle.vm_facts.specs.declared.page.Page.{Page}
 use Rattle.vm_facts.specs.declared.entry.Entry.{Entry}
 use Rattle.flat_state.specs.Flat.{Inputs}
@@ -34,16 +35,16 @@ pub record IsWaiting (A : Inputs) (g : Ground) (s : State) (pid : ℕ) (now : Bo
   pub locked : now ≡ true → g.locked ≡ before
 
 -- A machine stands at a state of a run.
-pub record At (A : Inputs) (s : State) (k : Kernel) (image : List ℕ) : Type 0 where
+pub record At (A : Inputs) (s : State) (k : Kernel) (image : SwapImage) : Type 0 where
   pub fit : ImagesFit A.images
   pub run : IsRun A s
-  pub stands : StandsAt A s k image
+  pub stands : StandsAt A s k image.bytes
 
 -- Units that served the page are next units of the run, and lead to a state with the same but for pages and journal, at
 -- which the process still waits for the page, or finds it valid.
-pub record ServingLeads (A : Inputs) (g : Ground) (s : State) (k : Kernel) (image : List ℕ) (pid : ℕ) (now : Bool) (before : List Page)
+pub record ServingLeads (A : Inputs) (g : Ground) (s : State) (k : Kernel) (image : SwapImage) (pid : ℕ) (now : Bool) (before : List Page)
     (q : Page) (us : List Entry)
-    (l : Kernel) (j : Option (List ℕ)) : Type 0 where
+    (l : Kernel) (j : Option SwapImage) : Type 0 where
   pub state : State
   pub leads : Leads A s k image us state l j
   pub same : SameBut s state
@@ -52,7 +53,7 @@ pub record ServingLeads (A : Inputs) (g : Ground) (s : State) (k : Kernel) (imag
 -- each unit of serving that was made is the next unit of the run
 abbrev pub ServingIsNext : Type 0
 ServingIsNext =
-    (A : Inputs) (g : Ground) (s : State) (k l : Kernel) (image : List ℕ) (j : Option (List ℕ)) (pid : ℕ) (now : Bool) (before : List Page)
+    (A : Inputs) (g : Ground) (s : State) (k l : Kernel) (image : SwapImage) (j : Option SwapImage) (pid : ℕ) (now : Bool) (before : List Page)
     (q : Page) (us : List Entry)
     → At A s k image → IsWaiting A g s pid now before q → Serves us k.place g.locked q now l.place → Made g us k (Some image) l j
     → ServingLeads A g s k image pid now before q us l j

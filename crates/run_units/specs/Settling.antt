@@ -1,5 +1,6 @@
 -- A space settles before its process's step gives it up or drops pages of it.
 use Rattle.std.specs.Prelude.{◌≡◌, ℕ, Bool, true, false, List, replicate, Option, Some, None}
+use Rattle.vm_facts.specs.SwapImages.{SwapImage}
 use Rattle.vm_facts.specs.declared.entry.Entry.{Entry}
 use Rattle.vm_facts.specs.declared.entry.Entry.TheVariants as entries
 use Rattle.flat_state.specs.Flat.{FlatState, Inputs, can_step}
@@ -26,8 +27,8 @@ pub record IsLeaving (A : Inputs) (s : State) (pid : ℕ) (now : Bool) (sid : �
   pub own : (p : Placement) → settled s.point.flat p pid ≡ is_settled p sid
 
 -- units are next units of the run, and the process leaves the space yet
-pub record LeadsLeaving (A : Inputs) (s : State) (k : Kernel) (image : List ℕ) (pid : ℕ) (now : Bool) (sid : ℕ) (us : List Entry) (l : Kernel)
-    (j : Option (List ℕ)) : Type 0 where
+pub record LeadsLeaving (A : Inputs) (s : State) (k : Kernel) (image : SwapImage) (pid : ℕ) (now : Bool) (sid : ℕ) (us : List Entry) (l : Kernel)
+    (j : Option SwapImage) : Type 0 where
   pub state : State
   pub leads : Leads A s k image us state l j
   pub same : SameBut s state
@@ -36,7 +37,7 @@ pub record LeadsLeaving (A : Inputs) (s : State) (k : Kernel) (image : List ℕ)
 -- each transfer that ends while the space isn't settled is the next unit of the run
 abbrev pub SettlingIsNext : Type 0
 SettlingIsNext =
-    (A : Inputs) (g : Ground) (s : State) (k l : Kernel) (image : List ℕ) (j : Option (List ℕ)) (pid : ℕ) (now : Bool) (sid n : ℕ)
+    (A : Inputs) (g : Ground) (s : State) (k l : Kernel) (image : SwapImage) (j : Option SwapImage) (pid : ℕ) (now : Bool) (sid n : ℕ)
     → At A s k image → HasImages g A → IsLeaving A s pid now sid → EndsWhile g.from sid n k (Some image) l j
     → LeadsLeaving A s k image pid now sid (replicate n entries.Done) l j
 

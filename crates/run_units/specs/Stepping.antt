@@ -1,5 +1,6 @@
 -- The steps of processes, as a machine makes them.
 use Rattle.std.specs.Prelude.{◌≡◌, ℕ, Bool, true, false, List, [], ◌∷◌, Option, Some, None, Result, Ok, Err}
+use Rattle.vm_facts.specs.SwapImages.{SwapImage}
 use Rattle.vm_facts.specs.declared.entry.Entry.{Entry}
 use Rattle.vm_facts.specs.declared.entry.Entry.TheVariants as entries
 use Rattle.vm_facts.specs.declared.regs.Regs.{Regs}
@@ -49,7 +50,7 @@ with_holdings k found = record k { holdings = found }
 -- the unit of the run; the instruction wrote nothing.
 abbrev pub StepIsMade : Type 0
 StepIsMade =
-    (A : Inputs) (s : State) (k l : Kernel) (image : List ℕ) (pid : ℕ) (now : Bool) (p : Process) (x : Space) (u : Entry) (step : Step) (found : Holdings)
+    (A : Inputs) (s : State) (k l : Kernel) (image : SwapImage) (pid : ℕ) (now : Bool) (p : Process) (x : Space) (u : Entry) (step : Step) (found : Holdings)
     → At A s k image → IsRunning A s pid now p x → Completes pid u → step_at A s.point pid ≡ step → step.writes ≡ []
     → place_all A.swap_blocks k.holdings (asked (facts_of A.images) k pid step.change) ≡ Ok found
     → l ≡ passing_change (has_lender k.processes pid) (facts_of A.images) (with_holdings k found) pid step.regs u step.change
@@ -58,7 +59,7 @@ StepIsMade =
 -- An instruction whose bytes were written, and which was counted, is the unit of the run.
 abbrev pub RanIsMade : Type 0
 RanIsMade =
-    (A : Inputs) (s : State) (k l : Kernel) (image : List ℕ) (pid : ℕ) (now : Bool) (p : Process) (x : Space) (step : Step)
+    (A : Inputs) (s : State) (k l : Kernel) (image : SwapImage) (pid : ℕ) (now : Bool) (p : Process) (x : Space) (step : Step)
     → At A s k image → IsRunning A s pid now p x → step_at A s.point pid ≡ step
     → l ≡ ran_by (writes_in k x.sid step.writes) pid step.regs (entries.Ran pid 1)
     → MadeAs A s k image (entries.Ran pid 1) l (Some image)
@@ -80,7 +81,7 @@ CallIsKnown =
 -- The registers with which a process runs are those of its record.
 abbrev pub RecordHasRegisters : Type 0
 RecordHasRegisters =
-    (A : Inputs) (s : State) (k : Kernel) (image : List ℕ) (pid : ℕ) (now : Bool) (p : Process) (x : Space) (kept : Proc)
+    (A : Inputs) (s : State) (k : Kernel) (image : SwapImage) (pid : ℕ) (now : Bool) (p : Process) (x : Space) (kept : Proc)
     → At A s k image → IsRunning A s pid now p x → proc_of k pid ≡ Some kept → kept.regs ≡ p.regs
 
 -- no space passes with the change
@@ -95,7 +96,7 @@ PassesNone _ = ⊥
 -- then the change is that of the machine's own call
 abbrev pub PlainStepIsMade : Type 0
 PlainStepIsMade =
-    (A : Inputs) (s : State) (k l : Kernel) (image : List ℕ) (pid : ℕ) (now : Bool) (p : Process) (x : Space) (u : Entry) (step : Step) (found : Holdings)
+    (A : Inputs) (s : State) (k l : Kernel) (image : SwapImage) (pid : ℕ) (now : Bool) (p : Process) (x : Space) (u : Entry) (step : Step) (found : Holdings)
     → At A s k image → IsRunning A s pid now p x → Completes pid u → step_at A s.point pid ≡ step → step.writes ≡ [] → PassesNone step.change
     → place_all A.swap_blocks k.holdings (asked (facts_of A.images) k pid step.change) ≡ Ok found
     → l ≡ change_step (facts_of A.images) (with_holdings k found) pid step.regs u step.change
@@ -115,7 +116,7 @@ returned false k pid = k
 -- Before a new image and an end a borrowed space went back, with no entry of its own.
 abbrev pub ReturningStepIsMade : Type 0
 ReturningStepIsMade =
-    (A : Inputs) (s : State) (k l : Kernel) (image : List ℕ) (pid : ℕ) (now : Bool) (p : Process) (x : Space) (u : Entry) (step : Step) (found : Holdings)
+    (A : Inputs) (s : State) (k l : Kernel) (image : SwapImage) (pid : ℕ) (now : Bool) (p : Process) (x : Space) (u : Entry) (step : Step) (found : Holdings)
     → At A s k image → IsRunning A s pid now p x → Completes pid u → step_at A s.point pid ≡ step → step.writes ≡ [] → GivesBack step.change
     → place_all A.swap_blocks k.holdings (asked (facts_of A.images) k pid step.change) ≡ Ok found
     → l ≡ change_step (facts_of A.images) (with_holdings (returned (has_lender k.processes pid) k pid) found) pid step.regs u step.change
@@ -124,7 +125,7 @@ ReturningStepIsMade =
 -- After a vfork the space passes to the child, with no entry of its own.
 abbrev pub LendingStepIsMade : Type 0
 LendingStepIsMade =
-    (A : Inputs) (s : State) (k l : Kernel) (image : List ℕ) (pid : ℕ) (now : Bool) (p : Process) (x : Space) (u : Entry) (step : Step)
+    (A : Inputs) (s : State) (k l : Kernel) (image : SwapImage) (pid : ℕ) (now : Bool) (p : Process) (x : Space) (u : Entry) (step : Step)
     (found : Holdings) (child : ℕ)
     → At A s k image → IsRunning A s pid now p x → Completes pid u → step_at A s.point pid ≡ step → step.writes ≡ [] → step.change ≡ changes.Lend child
     → place_all A.swap_blocks k.holdings (asked (facts_of A.images) k pid step.change) ≡ Ok found
@@ -146,13 +147,13 @@ growth_to k x address = changes.Resize (data_count k.place x.sid) (pages_down_to
 -- growth counts the pages of data that the flat space has
 abbrev pub GrowthCounts : Type 0
 GrowthCounts =
-    (A : Inputs) (s : State) (k : Kernel) (image : List ℕ) (pid : ℕ) (now : Bool) (p : Process) (x : Space)
+    (A : Inputs) (s : State) (k : Kernel) (image : SwapImage) (pid : ℕ) (now : Bool) (p : Process) (x : Space)
     → At A s k image → IsRunning A s pid now p x → (data_count k.place x.sid ≡ data_pages_of x) × (stack_count k.place x.sid ≡ stack_pages_of x)
 
 -- The growth of a stack, for a byte below it, is the unit of the run, once its pieces were found; its registers are the record's.
 abbrev pub GrowthIsMade : Type 0
 GrowthIsMade =
-    (A : Inputs) (s : State) (k l : Kernel) (image : List ℕ) (pid : ℕ) (now : Bool) (p : Process) (x : Space) (address : ℕ) (kept : Proc) (found : Holdings)
+    (A : Inputs) (s : State) (k l : Kernel) (image : SwapImage) (pid : ℕ) (now : Bool) (p : Process) (x : Space) (address : ℕ) (kept : Proc) (found : Holdings)
     → At A s k image → IsRunning A s pid now p x → IsReadyFor A s p x (Err (Below address)) → is_refused s.point.last pid ≡ false → proc_of k pid ≡ Some kept
     → place_all A.swap_blocks k.holdings (asked (facts_of A.images) k pid (growth_to k x address)) ≡ Ok found
     → l ≡ change_step (facts_of A.images) (with_holdings k found) pid kept.regs (entries.Grew pid (pages_down_to address)) (growth_to k x address)

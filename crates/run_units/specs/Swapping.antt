@@ -1,5 +1,6 @@
 -- Processes that are put out or come in, and entries that move no page.
 use Rattle.std.specs.Prelude.{◌≡◌, ℕ, ◌+◌, ◌<◌, true, List, [], length, Option, Some, None}
+use Rattle.vm_facts.specs.SwapImages.{SwapImage}
 use Rattle.vm_facts.specs.declared.entry.Entry.{Entry}
 use Rattle.vm_facts.specs.declared.entry.Entry.TheVariants as entries
 use Rattle.flat_state.specs.Flat.{Inputs, process_of}
@@ -9,7 +10,7 @@ use Rattle.page_model.specs.Swapper.{put_out_unit}
 use Rattle.kernel_model.specs.Kernel.{Kernel, Proc, out_step, note_step}
 use Rattle.kernel_model.specs.UPage.{AreRegs}
 use Rattle.kernel_model.specs.Unit.{proc_of}
-use Rattle.machine_state.specs.Swapping.{WritesU, IsIn}
+use Rattle.machine_state.specs.Swapping.{WritesU, AsksU, IsIn}
 use Rattle.run_model.specs.declared.mark.Mark.TheVariants as marks
 use Rattle.run_model.specs.State.{State}
 use Rattle.run_model.specs.Next.{under, next_mark, next_unit, owners_entry, next_turned, last_turned}
@@ -25,7 +26,7 @@ pub record PutsProcess (s : State) (pid sid : ℕ) : Type 0 where
   pub own : space_of_process (process_of s.point.flat pid) ≡ sid
 
 -- units are next units of the run, and the process is put out yet
-pub record LeadsPutting (A : Inputs) (s : State) (k : Kernel) (image : List ℕ) (pid sid : ℕ) (us : List Entry) (l : Kernel) (j : Option (List ℕ)) : Type 0 where
+pub record LeadsPutting (A : Inputs) (s : State) (k : Kernel) (image : SwapImage) (pid sid : ℕ) (us : List Entry) (l : Kernel) (j : Option SwapImage) : Type 0 where
   pub state : State
   pub leads : Leads A s k image us state l j
   pub same : SameBut s state
@@ -34,7 +35,7 @@ pub record LeadsPutting (A : Inputs) (s : State) (k : Kernel) (image : List ℕ)
 -- each unit by which a process is put out, but the last, is the next unit of the run
 abbrev pub PuttingIsNext : Type 0
 PuttingIsNext =
-    (A : Inputs) (g : Ground) (s : State) (k l : Kernel) (image : List ℕ) (j : Option (List ℕ)) (pid sid at : ℕ) (us : List Entry)
+    (A : Inputs) (g : Ground) (s : State) (k l : Kernel) (image : SwapImage) (j : Option SwapImage) (pid sid at : ℕ) (us : List Entry)
     → At A s k image → HasImages g A → PutsProcess s pid sid → PutsOut us at k.place pid sid l.place → Made g us k (Some image) l j
     → LeadsPutting A s k image pid sid us l j
 
@@ -45,18 +46,19 @@ PutNext = (A : Inputs) (s : State) (pid sid : ℕ) → PutsProcess s pid sid →
 -- A process that goes out with registers of longwords, whose u page was written, is the unit of the run.
 abbrev pub OutIsMade : Type 0
 OutIsMade =
-    (A : Inputs) (s : State) (k l : Kernel) (image : List ℕ) (j : Option (List ℕ)) (pid : ℕ) → ((p : Proc) → proc_of k pid ≡ Some p → AreRegs p.regs)
+    (A : Inputs) (s : State) (k l : Kernel) (image : SwapImage) (j : Option SwapImage) (pid : ℕ) → ((p : Proc) → proc_of k pid ≡ Some p → AreRegs p.regs)
     → l ≡ out_step k pid → WritesU k pid (Some image) j → MadeAs A s k image (entries.SwapOut pid) l j
 
 -- So is one that came in with the registers of its u page.
 abbrev pub InIsMade : Type 0
 InIsMade =
-    (A : Inputs) (s : State) (k l : Kernel) (image : List ℕ) (pid : ℕ) → IsIn k l pid (Some image) → MadeAs A s k image (entries.SwapIn pid) l (Some image)
+    (A : Inputs) (s : State) (k l : Kernel) (image : SwapImage) (j : Option SwapImage) (pid : ℕ) → IsIn k l pid (Some image) → AsksU k pid (Some image) j
+    → MadeAs A s k image (entries.SwapIn pid) l j
 
 -- So is an entry that goes into the journal alone.
 abbrev pub NoteIsMade : Type 0
 NoteIsMade =
-    (A : Inputs) (s : State) (k l : Kernel) (image : List ℕ) (u : Entry) → IsNote u → l ≡ note_step k u → MadeAs A s k image u l (Some image)
+    (A : Inputs) (s : State) (k l : Kernel) (image : SwapImage) (u : Entry) → IsNote u → l ≡ note_step k u → MadeAs A s k image u l (Some image)
 
 -- What comes first under a line that brings a process in, one that waits for a transfer, and one that asks for the numbers.
 abbrev pub LineAsks : Type 0

@@ -1,5 +1,6 @@
 -- What an instruction over the frames of a machine says of the pages that it touches.
 use Rattle.std.specs.Prelude.{◌≡◌, ℕ, Bool, true, false, List, [], ◌∷◌, ◌++◌, Option, Some, None, Result, Ok, Err, ℤ}
+use Rattle.vm_facts.specs.SwapImages.{SwapImage}
 use Rattle.vm_facts.specs.Answers.{Answers}
 use Rattle.vm_facts.specs.declared.page.Page.{Page}
 use Rattle.vm_facts.specs.declared.regs.Regs.{Regs}
@@ -47,7 +48,7 @@ pub record WantsPage (A : Inputs) (s : State) (k : Kernel) (x : Space) (address 
 -- where the instruction misses a byte, its process waits for that byte's page
 abbrev pub MissIsWanted : Type 0
 MissIsWanted =
-    (A : Inputs) (s : State) (k : Kernel) (image : List ℕ) (pid : ℕ) (now : Bool) (p : Process) (x : Space) (address : ℕ) (write : Bool)
+    (A : Inputs) (s : State) (k : Kernel) (image : SwapImage) (pid : ℕ) (now : Bool) (p : Process) (x : Space) (address : ℕ) (write : Bool)
     → At A s k image → IsRunning A s pid now p x → run (kernel_answers k x.sid) (instruction p.regs) ≡ Err (Miss address write)
     → WantsPage A s k x address write
 
@@ -71,7 +72,7 @@ pub record IsReadyFor (A : Inputs) (s : State) (p : Process) (x : Space) (r : Re
 -- where it doesn't, and makes none of the eight calls, the process waits for none
 abbrev pub NoMissIsReady : Type 0
 NoMissIsReady =
-    (A : Inputs) (s : State) (k : Kernel) (image : List ℕ) (pid : ℕ) (now : Bool) (p : Process) (x : Space)
+    (A : Inputs) (s : State) (k : Kernel) (image : SwapImage) (pid : ℕ) (now : Bool) (p : Process) (x : Space)
     → At A s k image → IsRunning A s pid now p x → IsWhole (run (kernel_answers k x.sid) (instruction p.regs))
     → IsReadyFor A s p x (run (kernel_answers k x.sid) (instruction p.regs))
 
@@ -97,7 +98,7 @@ pub record IsCalledFor (A : Inputs) (s : State) (p : Process) (x : Space) (call 
 -- where the reads of a call miss a byte, its process waits for that byte's page
 abbrev pub CallMissIsWanted : Type 0
 CallMissIsWanted =
-    (A : Inputs) (s : State) (k : Kernel) (image : List ℕ) (pid : ℕ) (now : Bool) (p : Process) (x : Space) (effect : Effect) (call : SystemCall)
+    (A : Inputs) (s : State) (k : Kernel) (image : SwapImage) (pid : ℕ) (now : Bool) (p : Process) (x : Space) (effect : Effect) (call : SystemCall)
     (address : ℕ) (write : Bool)
     → At A s k image → IsRunning A s pid now p x → run (kernel_answers k x.sid) (instruction p.regs) ≡ Ok effect → IsCallOf effect call
     → run (kernel_answers k x.sid) (reply_asked A.images s.point.flat p x call effect) ≡ Err (Miss address write) → WantsPage A s k x address write
@@ -105,7 +106,7 @@ CallMissIsWanted =
 -- where they don't it waits for none
 abbrev pub CallIsReady : Type 0
 CallIsReady =
-    (A : Inputs) (s : State) (k : Kernel) (image : List ℕ) (pid : ℕ) (now : Bool) (p : Process) (x : Space) (effect : Effect) (call : SystemCall)
+    (A : Inputs) (s : State) (k : Kernel) (image : SwapImage) (pid : ℕ) (now : Bool) (p : Process) (x : Space) (effect : Effect) (call : SystemCall)
     → At A s k image → IsRunning A s pid now p x → run (kernel_answers k x.sid) (instruction p.regs) ≡ Ok effect → IsCallOf effect call
     → IsAnswered (run (kernel_answers k x.sid) (reply_asked A.images s.point.flat p x call effect))
     → IsCalledFor A s p x call effect (run (kernel_answers k x.sid) (reply_asked A.images s.point.flat p x call effect))

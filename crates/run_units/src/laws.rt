@@ -1,4 +1,5 @@
 ghost use Rattle.std.specs.Prelude.{◌≡◌, ℕ, List, ◌++◌, Option, Some};
+ghost use Rattle.vm_facts.specs.SwapImages.{SwapImage};
 ghost use Rattle.vm_facts.specs.declared.entry.Entry.{Entry};
 ghost use Rattle.flat_state.specs.Flat.{Inputs};
 ghost use Rattle.kernel_model.specs.Kernel.{Kernel};
@@ -18,12 +19,12 @@ ghost use Rattle.run_units.specs.Serving.{At, ServingIsNext, ServedNext};
 /// is the same unit of the run: with what was read, which is what the files and the swap image hold. Parts follow one another,
 /// and a machine that stood at a state of the run stands at the one to which its units lead.
 pub fn units_are_next()
-    ensures one { (A : Inputs) (g : Ground) (s : State) (k l : Kernel) (image : List ℕ) (j : Option (List ℕ)) (u : Entry)
+    ensures one { (A : Inputs) (g : Ground) (s : State) (k l : Kernel) (image : SwapImage) (j : Option SwapImage) (u : Entry)
         → HasImages g A → KeepsLocked g A s u → MadeBy g u k (Some image) l → ImageBy u k (Some image) j → MadeAs A s k image u l j }
-    ensures parts { (A : Inputs) (s t r : State) (k l m : Kernel) (image : List ℕ) (i j : Option (List ℕ)) (us vs : List Entry)
-        → Leads A s k image us t l i → ((between : List ℕ) → i ≡ Some between → Leads A t l between vs r m j)
+    ensures parts { (A : Inputs) (s t r : State) (k l m : Kernel) (image : SwapImage) (i j : Option SwapImage) (us vs : List Entry)
+        → Leads A s k image us t l i → ((between : SwapImage) → i ≡ Some between → Leads A t l between vs r m j)
         → Leads A s k image (us ++ vs) r m j }
-    ensures stands { (A : Inputs) (s t : State) (k l : Kernel) (image behind : List ℕ) (us : List Entry)
+    ensures stands { (A : Inputs) (s t : State) (k l : Kernel) (image behind : SwapImage) (us : List Entry)
         → At A s k image → Leads A s k image us t l (Some behind) → At A t l behind }
 {}
 

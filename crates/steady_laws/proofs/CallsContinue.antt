@@ -1,6 +1,7 @@
 -- Machines that go on after the calls of a process.
 use Rattle.std.proofs.Common.{◌≡◌, inl, inr, ℕ, Bool, true, false, List, [], ◌∷◌, length, map, Option, Some, None, refl, sym, ap, subst}
 use Rattle.std.specs.Prelude.{find, IsSome, Result, Ok, Err, nat_le}
+use Rattle.vm_facts.specs.SwapImages.{SwapImage}
 use Rattle.vm_facts.specs.Answers.{Answers}
 use Rattle.vm_facts.specs.declared.regs.Regs.{Regs}
 use Rattle.vm_facts.specs.declared.entry.Entry.TheVariants as entries
@@ -167,7 +168,7 @@ pub record Left (old new : Standing) (pid : ℕ) : Type 0 where
   pub may : MayEnter new pid
   pub numbers : new.kernel.next_sid ≡ old.kernel.next_sid
 
-pub left_settled : (old new : Standing) (pid : ℕ) (holds : Option (List NamedFile)) (i j : Option (List ℕ)) → IsCaller old pid
+pub left_settled : (old new : Standing) (pid : ℕ) (holds : Option (List NamedFile)) (i j : Option SwapImage) → IsCaller old pid
     → HasSettled old new (space_of_pid old.kernel pid) holds i j → Left old new pid
 left_settled old new pid holds i j c h =
     let e = settled_on (sources old holds) (space_of_pid old.kernel pid) old new i j c.clear h.settled h.rest in
@@ -180,7 +181,7 @@ left_settled old new pid holds i j c h =
       numbers = e.numbers;
     }
 
-left_by : (lent : Bool) (old new : Standing) (pid : ℕ) (holds : Option (List NamedFile)) (i j : Option (List ℕ)) → IsCaller old pid
+left_by : (lent : Bool) (old new : Standing) (pid : ℕ) (holds : Option (List NamedFile)) (i j : Option SwapImage) → IsCaller old pid
     → HasLeftBy lent old new pid holds i j → Left old new pid
 left_by true old new pid holds i j c h =
     let lender = lender_among old.kernel.processes pid in
@@ -195,11 +196,11 @@ left_by true old new pid holds i j c h =
     }
 left_by false old new pid holds i j c h = left_settled old new pid holds i j c h
 
-pub left_on : (old new : Standing) (pid : ℕ) (holds : Option (List NamedFile)) (i j : Option (List ℕ)) → IsCaller old pid
+pub left_on : (old new : Standing) (pid : ℕ) (holds : Option (List NamedFile)) (i j : Option SwapImage) → IsCaller old pid
     → HasLeft old new pid holds i j → Left old new pid
 left_on old new pid holds i j c h = left_by (has_lender old.kernel.processes pid) old new pid holds i j c h
 
-pub end_continues : (old new : Standing) (pid status : ℕ) (holds : Option (List NamedFile)) (i j : Option (List ℕ)) → IsCaller old pid
+pub end_continues : (old new : Standing) (pid status : ℕ) (holds : Option (List NamedFile)) (i j : Option SwapImage) → IsCaller old pid
     → HasEnded old new pid status holds i j
     → Continues old new 1
 end_continues old new pid status holds i j c h =
@@ -208,7 +209,7 @@ end_continues old new pid status holds i j c h =
     (entered_on h.between new pid (regs_of old.kernel pid) (entries.Ended pid status) (End status) l.may tt tt h.ended)
 
 pub exit_continues : (old new : Standing) (pid : ℕ) (regs : Regs) (r : Result Reply Refused) (holds : Option (List NamedFile))
-    (i j : Option (List ℕ)) (called : Called)
+    (i j : Option SwapImage) (called : Called)
     → IsCaller old pid → ExitComes old new pid regs r holds i j called → Continues old new (called_count called)
 exit_continues old new pid regs (Ok (Exits status)) holds i j called c h =
     subst (λ (y : Called). Continues old new (called_count y)) (sym h.0) (end_continues old new pid status holds i j c h.1)
@@ -241,14 +242,14 @@ none_on : (old new : Standing) (pid : ℕ) (regs : Regs) (pages : ℕ) (called :
 none_on old new pid regs pages called c s =
     behind_refusal old new pid (called_count called) (may_enter old pid c) (λ may. fails_on (without_pieces old pid) new pid system_calls.Break regs no_memory called may s.replied)
 
-cut_on : (old new : Standing) (pid : ℕ) (regs : Regs) (pages : ℕ) (holds : Option (List NamedFile)) (i j : Option (List ℕ)) (called : Called) → IsCaller old pid
+cut_on : (old new : Standing) (pid : ℕ) (regs : Regs) (pages : ℕ) (holds : Option (List NamedFile)) (i j : Option SwapImage) (called : Called) → IsCaller old pid
     → CutData old new pid regs pages holds i j called → Continues old new (called_count called)
 cut_on old new pid regs pages holds i j called c s =
     let l = left_settled old s.between pid holds i j c s.settled in
     continues_from old s.between new (called_count called) l.on
     (break_on (nat_le pages data_limit) s.between new pid regs pages (process_stack_pages old.kernel pid) called l.may s.replied)
 
-sized_on : (old new : Standing) (pid : ℕ) (regs : Regs) (pages : ℕ) (holds : Option (List NamedFile)) (i j : Option (List ℕ)) (called : Called)
+sized_on : (old new : Standing) (pid : ℕ) (regs : Regs) (pages : ℕ) (holds : Option (List NamedFile)) (i j : Option SwapImage) (called : Called)
     → IsCaller old pid
     → MovesEnd old new pid regs pages holds i j called → Continues old new (called_count called)
 sized_on old new pid regs pages holds i j called c (inl (inl s, e)) =
@@ -258,7 +259,7 @@ sized_on old new pid regs pages holds i j called c (inl (inr (inr s), e)) = none
 sized_on old new pid regs pages holds i j called c (inr s) = cut_on old new pid regs pages holds i j called c s
 
 pub break_continues : (old new : Standing) (pid : ℕ) (regs : Regs) (r : Result ℕ Refused) (holds : Option (List NamedFile))
-    (i j : Option (List ℕ)) (called : Called)
+    (i j : Option SwapImage) (called : Called)
     → IsCaller old pid → BreakComes old new pid regs r holds i j called → Continues old new (called_count called)
 break_continues old new pid regs (Ok address) holds i j called c h = sized_on old new pid regs (pages_to old.kernel pid address) holds i j called c h
 break_continues old new pid regs (Err refused) holds i j called c h = call_continues old new pid system_calls.Break regs (Err refused) called c tt h.0

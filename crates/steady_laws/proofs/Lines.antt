@@ -1,5 +1,6 @@
 -- Machines that go on after what a line of the schedule asks for, and after the fill of a stack page.
 use Rattle.std.proofs.Common.{◌≡◌, ℕ, ◌+◌, ◌≤◌, List, [], ◌∷◌, length, Option, None, refl, sym, ap, ◌∙◌, subst, arith}
+use Rattle.vm_facts.specs.SwapImages.{SwapImage}
 use Rattle.vm_facts.specs.declared.page.Page.{Page}
 use Rattle.vm_facts.specs.declared.entry.Entry.{Entry}
 use Rattle.vm_facts.specs.declared.entry.Entry.TheVariants as entries
@@ -29,7 +30,7 @@ use Rattle.steady_laws.proofs.Running.{continues_self, entry_on, runs_both, made
 
 -- Moves of the hands.
 
-unit_last : (g : Ground) (e : Entry) (k l : Kernel) (i : Option (List ℕ)) → MadeBy g e k i l → last_moves (append k.journal e) ≤ last_moves k.journal + moves e
+unit_last : (g : Ground) (e : Entry) (k l : Kernel) (i : Option SwapImage) → MadeBy g e k i l → last_moves (append k.journal e) ≤ last_moves k.journal + moves e
 unit_last g (entries.Hands n) k l i h =
     subst (λ (m : ℕ). last_moves (append k.journal (entries.Hands m)) ≤ last_moves k.journal + m) (sym h.0) (last_more k.journal)
 unit_last g (entries.Zero q) k l i h = let last = last_plain k.journal (entries.Zero q) tt in omega arith
@@ -40,7 +41,7 @@ unit_last g (entries.Put q n) k l i h = let last = last_plain k.journal (entries
 unit_last g entries.Done k l i h = let last = last_plain k.journal entries.Done tt in omega arith
 unit_last g _ k l i h = absurd h
 
-made_last : (g : Ground) (us : List Entry) (k l : Kernel) (i j : Option (List ℕ)) → Made g us k i l j
+made_last : (g : Ground) (us : List Entry) (k l : Kernel) (i j : Option SwapImage) → Made g us k i l j
     → last_moves l.journal ≤ last_moves k.journal + moves_of us
 made_last g [] k l i j m = let same = ap (λ (x : Kernel). last_moves x.journal) m.0 in omega arith
 made_last g (e ∷ us) k l i j m =
@@ -49,7 +50,7 @@ made_last g (e ∷ us) k l i j m =
     let same = ap last_moves (unit_journal g e k m.next i m.made) in
     omega arith
 
-pub moves_continue : (old new : Standing) (n made : ℕ) (holds : Option (List NamedFile)) (i j : Option (List ℕ)) → old.kernel.place.due ≡ []
+pub moves_continue : (old new : Standing) (n made : ℕ) (holds : Option (List NamedFile)) (i j : Option SwapImage) → old.kernel.place.due ≡ []
     → Moved n old new made holds i j → RunsMoved old new made
 moves_continue old new n made holds i j d m =
     let g = ground old holds [] in
@@ -61,13 +62,13 @@ moves_continue old new n made holds i j d m =
 
 -- The swapper.
 
-in_continues : (old new : Standing) (pid : ℕ) (i : Option (List ℕ)) → old.kernel.place.due ≡ [] → IsIn old.kernel new.kernel pid i → IsSameBeside old new
+in_continues : (old new : Standing) (pid : ℕ) (i : Option SwapImage) → old.kernel.place.due ≡ [] → IsIn old.kernel new.kernel pid i → IsSameBeside old new
     → Continues old new 0
 in_continues old new pid i d h b =
     entry_on old new (entries.SwapIn pid) (record { params = b.params; images = b.images }) (ap (λ (k : Kernel). k.place.due) h.step ∙ d)
     (ap (λ (k : Kernel). length k.place.holds) h.step) (ap (λ (k : Kernel). k.journal) h.step) (last_plain old.kernel.journal (entries.SwapIn pid) tt)
 
-out_continues : (old new : Standing) (pid sid : ℕ) (holds : Option (List NamedFile)) (i j : Option (List ℕ)) → old.kernel.place.due ≡ []
+out_continues : (old new : Standing) (pid sid : ℕ) (holds : Option (List NamedFile)) (i j : Option SwapImage) → old.kernel.place.due ≡ []
     → PutOut pid sid old new holds i j → Continues old new 0
 out_continues old new pid sid holds i j d h =
     let e : Entry = entries.SwapOut pid in
@@ -84,7 +85,7 @@ out_continues old new pid sid holds i j d h =
           omega arith;
     }
 
-pub turn_continues : (turned : Turned) (old new : Standing) (holds : Option (List NamedFile)) (i j : Option (List ℕ)) → old.kernel.place.due ≡ []
+pub turn_continues : (turned : Turned) (old new : Standing) (holds : Option (List NamedFile)) (i j : Option SwapImage) → old.kernel.place.due ≡ []
     → Turns turned old new holds i j → Continues old new 0
 turn_continues turns.Nothing old new holds i j d h = subst (λ (m : Standing). Continues old m 0) (sym h.0) (continues_self old d)
 turn_continues (turns.In pid) old new holds i j d h = in_continues old new pid i d h.0 h.1
@@ -111,7 +112,7 @@ zero_fills roomy page = record {
   last = last_plain roomy.kernel.journal (entries.Zero page) tt;
 }
 
-pub start_fills : (old new : Standing) (page : Page) (holds : Option (List NamedFile)) (i j : Option (List ℕ)) → FillsStart page old new holds i j
+pub start_fills : (old new : Standing) (page : Page) (holds : Option (List NamedFile)) (i j : Option SwapImage) → FillsStart page old new holds i j
     → Filled page old new
 start_fills old new page holds i j f =
     let z : Filled page f.roomy new = subst (Filled page f.roomy) (sym f.fills) (zero_fills f.roomy page) in
@@ -121,7 +122,7 @@ start_fills old new page holds i j f =
       last = z.last;
     }
 
-pub fill_continues : (old new : Standing) (page : Page) (ds : List Due) (holds : Option (List NamedFile)) (i j : Option (List ℕ))
+pub fill_continues : (old new : Standing) (page : Page) (ds : List Due) (holds : Option (List NamedFile)) (i j : Option SwapImage)
     → old.kernel.place.due ≡ Start page ∷ ds → FillsStart page old new holds i j → RunsDue old new 0 ds
 fill_continues old new page ds holds i j d f =
     let z = start_fills old new page holds i j f in

@@ -1,5 +1,6 @@
 -- Machines that go on after accesses that were served.
 use Rattle.std.proofs.Common.{◌≡◌, ℕ, ◌-◌, List, [], Option, sym, subst}
+use Rattle.vm_facts.specs.SwapImages.{SwapImage}
 use Rattle.vm_facts.specs.declared.page.Page.{Page}
 use Rattle.vm_facts.specs.declared.page.Page.TheVariants.{Stack}
 use Rattle.vm_facts.specs.declared.entry.Entry.TheVariants as entries
@@ -21,18 +22,18 @@ use Rattle.steady_laws.proofs.Entries.{found_continues, note_continues}
 
 -- A page.
 
-page_on : (answer : PageServed) (q : Page) (old new : Standing) (holds : Option (List NamedFile)) (i j : Option (List ℕ)) → old.kernel.place.due ≡ []
+page_on : (answer : PageServed) (q : Page) (old new : Standing) (holds : Option (List NamedFile)) (i j : Option SwapImage) → old.kernel.place.due ≡ []
     → PageComes answer q old new holds i j → Continues old new 0
 page_on answer q old new holds i j r p =
     units_continue (ground old holds []) p.serves.0.serves.units old new i j r p.serves.0.serves.makes p.low
 
-page_now_on : (locked : List Page) (q : Page) (old new : Standing) (holds : Option (List NamedFile)) (i j : Option (List ℕ)) → old.kernel.place.due ≡ []
+page_now_on : (locked : List Page) (q : Page) (old new : Standing) (holds : Option (List NamedFile)) (i j : Option SwapImage) → old.kernel.place.due ≡ []
     → PageComesNow locked q old new holds i j
     → Continues old new 0
 page_now_on locked q old new holds i j r p =
     units_continue (ground old holds locked) p.serves.0.serves.units old new i j r p.serves.0.serves.makes p.low
 
-touched_on : (answer : Served) (q : Page) (old new : Standing) (holds : Option (List NamedFile)) (i j : Option (List ℕ)) → old.kernel.place.due ≡ []
+touched_on : (answer : Served) (q : Page) (old new : Standing) (holds : Option (List NamedFile)) (i j : Option SwapImage) → old.kernel.place.due ≡ []
     → TouchedAs answer q old new holds i j → Continues old new 0
 touched_on served.Valid q old new holds i j r h = page_on page_served.Valid q old new holds i j r h
 touched_on (served.Asleep p) q old new holds i j r h = page_on (page_served.Asleep p) q old new holds i j r h
@@ -40,7 +41,7 @@ touched_on served.NoFrame q old new holds i j r h = page_on page_served.NoFrame 
 touched_on served.NoSpace q old new holds i j r h = absurd h
 touched_on (served.Signal signal) q old new holds i j r h = absurd h
 
-touched_now_on : (locked : List Page) (answer : Served) (q : Page) (old new : Standing) (holds : Option (List NamedFile)) (i j : Option (List ℕ))
+touched_now_on : (locked : List Page) (answer : Served) (q : Page) (old new : Standing) (holds : Option (List NamedFile)) (i j : Option SwapImage)
     → old.kernel.place.due ≡ [] → TouchedNow locked answer q old new holds i j → Continues old new 0
 touched_now_on locked served.Valid q old new holds i j r h = page_now_on locked q old new holds i j r h
 touched_now_on locked (served.Asleep p) q old new holds i j r h = absurd h
@@ -57,7 +58,7 @@ grown_on old between pid pages c g =
 
 -- An access, whose page is served so.
 
-access_on : (Touched : Served → Page → Standing → Type 0) (old new : Standing) (pid : ℕ) (access : Access) (answer : Served) (i j : Option (List ℕ))
+access_on : (Touched : Served → Page → Standing → Type 0) (old new : Standing) (pid : ℕ) (access : Access) (answer : Served) (i j : Option SwapImage)
     → IsCaller old pid
     → ((a : Served) (q : Page) (from : Standing) → from.kernel.place.due ≡ [] → Touched a q from → Continues from new 0)
     → AccessComes Touched access answer pid old new i j → Continues old new 0
@@ -78,14 +79,14 @@ access_on Touched old new pid (accesses.Growth sid pages) answer i j c on h = by
     by served.NoFrame g = behind served.NoFrame g
     by (served.Signal signal) g = behind (served.Signal signal) g
 
-pub access_continues : (old new : Standing) (pid : ℕ) (access : Access) (answer : Served) (holds : Option (List NamedFile)) (i j : Option (List ℕ))
+pub access_continues : (old new : Standing) (pid : ℕ) (access : Access) (answer : Served) (holds : Option (List NamedFile)) (i j : Option SwapImage)
     → IsCaller old pid
     → AccessComes (λ came q from. TouchedAs came q from new holds i j) access answer pid old new i j → Continues old new 0
 access_continues old new pid access answer holds i j c h =
     access_on (λ a q from. TouchedAs a q from new holds i j) old new pid access answer i j c (λ a q from r t. touched_on a q from new holds i j r t) h
 
 pub access_now_continues : (old new : Standing) (pid : ℕ) (access : Access) (answer : Served) (locked : List Page)
-    (holds : Option (List NamedFile)) (i j : Option (List ℕ))
+    (holds : Option (List NamedFile)) (i j : Option SwapImage)
     → IsCaller old pid
     → AccessComes (λ came q from. TouchedNow locked came q from new holds i j) access answer pid old new i j → Continues old new 0
 access_now_continues old new pid access answer locked holds i j c h =

@@ -1,5 +1,6 @@
 -- Machines that run on, and units of paging behind which they do.
 use Rattle.std.proofs.Common.{◌≡◌, ℕ, ◌+◌, ◌≤◌, List, [], ◌∷◌, length, Option, refl, sym, ap, ◌∙◌, subst, arith}
+use Rattle.vm_facts.specs.SwapImages.{SwapImage}
 use Rattle.vm_facts.specs.declared.entry.Entry.{Entry}
 use Rattle.vm_facts.specs.declared.entry.Entry.TheVariants as entries
 use Rattle.flat_state.specs.Journal.{append, counted, instructions_of}
@@ -62,13 +63,13 @@ entry_on old new e same clear frames journal none = record {
 
 -- Units.
 
-unit_counts : (g : Ground) (e : Entry) (k l : Kernel) (i : Option (List ℕ)) → MadeBy g e k i l → counted e ≡ 0
+unit_counts : (g : Ground) (e : Entry) (k l : Kernel) (i : Option SwapImage) → MadeBy g e k i l → counted e ≡ 0
 unit_counts g (entries.Ran pid n) k l i h = absurd h
 unit_counts g (entries.Call pid number carry a b) k l i h = absurd h
 unit_counts g (entries.Ended pid status) k l i h = absurd h
 unit_counts g _ k l i h = refl
 
-pub made_counted : (g : Ground) (us : List Entry) (k l : Kernel) (i j : Option (List ℕ)) → Made g us k i l j
+pub made_counted : (g : Ground) (us : List Entry) (k l : Kernel) (i j : Option SwapImage) → Made g us k i l j
     → instructions_of l.journal ≡ instructions_of k.journal
 made_counted g [] k l i j m = sym (ap (λ (x : Kernel). instructions_of x.journal) m.0)
 made_counted g (e ∷ us) k l i j m =
@@ -77,20 +78,20 @@ made_counted g (e ∷ us) k l i j m =
     let none = unit_counts g e k m.next i m.made in
     omega arith
 
-pub made_frames : (g : Ground) (us : List Entry) (k l : Kernel) (i j : Option (List ℕ)) → Made g us k i l j → length l.place.holds ≡ length k.place.holds
+pub made_frames : (g : Ground) (us : List Entry) (k l : Kernel) (i j : Option SwapImage) → Made g us k i l j → length l.place.holds ≡ length k.place.holds
 made_frames g [] k l i j m = sym (ap (λ (x : Kernel). length x.place.holds) m.0)
 made_frames g (e ∷ us) k l i j m =
     made_frames g us m.next l m.image j m.rest
     ∙ ap (λ (p : Placement). length p.holds) (unit_place g e k m.next i m.made)
     ∙ entry_frames g.locked (length (append k.journal e)) k.place e
 
-pub made_clear : (g : Ground) (us : List Entry) (k l : Kernel) (i j : Option (List ℕ)) → k.place.due ≡ [] → Made g us k i l j → l.place.due ≡ []
+pub made_clear : (g : Ground) (us : List Entry) (k l : Kernel) (i j : Option SwapImage) → k.place.due ≡ [] → Made g us k i l j → l.place.due ≡ []
 made_clear g [] k l i j c m = sym (ap (λ (x : Kernel). x.place.due) m.0) ∙ c
 made_clear g (e ∷ us) k l i j c m =
     made_clear g us m.next l m.image j
     (ap (λ (p : Placement). p.due) (unit_place g e k m.next i m.made) ∙ entry_clear g.locked (length (append k.journal e)) k.place e c) m.rest
 
-pub units_run : (g : Ground) (us : List Entry) (old new : Standing) (i j : Option (List ℕ)) → Makes g us old new i j → CountsOn old new 0
+pub units_run : (g : Ground) (us : List Entry) (old new : Standing) (i j : Option SwapImage) → Makes g us old new i j → CountsOn old new 0
 units_run g us old new i j m = record {
   params = m.beside.params;
   images = m.beside.images;
@@ -98,6 +99,6 @@ units_run g us old new i j m = record {
   counted = let count = made_counted g us old.kernel new.kernel i j m.made in omega arith;
 }
 
-pub units_continue : (g : Ground) (us : List Entry) (old new : Standing) (i j : Option (List ℕ)) → old.kernel.place.due ≡ [] → Makes g us old new i j
+pub units_continue : (g : Ground) (us : List Entry) (old new : Standing) (i j : Option SwapImage) → old.kernel.place.due ≡ [] → Makes g us old new i j
     → last_moves new.kernel.journal ≤ last_moves old.kernel.journal → Continues old new 0
 units_continue g us old new i j d m low = continues old new 0 (units_run g us old new i j m) (made_clear g us old.kernel new.kernel i j d m.made) low

@@ -15,6 +15,7 @@ use Rattle.steady_laws.proofs.Executing.{exec_starts}
 use Rattle.steady_laws.proofs.CallsContinue.{call_continues, refusal_continues}
 use Rattle.std.proofs.Common.{◌≡◌, ℕ, ◌+◌, List, [], ◌∷◌, Option, Some, None, sym, ap, ◌∙◌, subst, arith}
 use Rattle.std.specs.Prelude.{IsSome}
+use Rattle.vm_facts.specs.SwapImages.{SwapImage}
 use Rattle.vm_facts.specs.declared.page.Page.{Page}
 use Rattle.vm_facts.specs.declared.page.Page.TheVariants.{Stack}
 use Rattle.vm_facts.specs.declared.regs.Regs.{Regs}
@@ -61,7 +62,7 @@ forked_counts old between pid regs child c h =
     (caller_there old.kernel pid c.lends) h.made.answer in
     on.counted
 
-pub page_counts : (child parent : Page) (old new : Standing) (holds : Option (List NamedFile)) (i j : Option (List ℕ))
+pub page_counts : (child parent : Page) (old new : Standing) (holds : Option (List NamedFile)) (i j : Option SwapImage)
     → CopiesPage child parent old new holds i j
     → instructions_of new.kernel.journal ≡ instructions_of old.kernel.journal
 page_counts child parent old new holds i j c =
@@ -72,14 +73,14 @@ page_counts child parent old new holds i j c =
     let one = counts_one c.roomy.kernel.journal new.kernel.journal (entries.Copy child) (ap (λ (m : Standing). m.kernel.journal) c.copies) in
     omega arith
 
-copies_count : (ds : List Due) (old new : Standing) (holds : Option (List NamedFile)) (i j : Option (List ℕ)) → CopiesAll ds old new holds i j
+copies_count : (ds : List Due) (old new : Standing) (holds : Option (List NamedFile)) (i j : Option SwapImage) → CopiesAll ds old new holds i j
     → instructions_of new.kernel.journal ≡ instructions_of old.kernel.journal
 copies_count [] old new holds i j c = ap (λ (m : Standing). instructions_of m.kernel.journal) c.0
 copies_count (Start q ∷ ds) old new holds i j c = absurd c
 copies_count (CopyOf child parent ∷ ds) old new holds i j c =
     copies_count ds c.0 new holds c.1 j c.3 ∙ page_counts child parent old c.0 holds i c.1 c.2
 
-pub fork_continues : (old new : Standing) (pid : ℕ) (regs : Regs) (holds : Option (List NamedFile)) (i j : Option (List ℕ)) → IsCaller old pid
+pub fork_continues : (old new : Standing) (pid : ℕ) (regs : Regs) (holds : Option (List NamedFile)) (i j : Option SwapImage) → IsCaller old pid
     → Forked old new pid regs holds i j → HasCopied old new → Continues old new 1
 fork_continues old new pid regs holds i j c f h =
     let first = child_by (is_below_limit old.kernel) (finds_pieces old pid (Fork old.kernel.next_pid)) old f.between pid system_calls.Fork regs
@@ -117,7 +118,7 @@ exec_on asked new pid after image top s h = record {
 }
 
 pub start_continues : (old between new : Standing) (pid : ℕ) (after : Regs) (image : ℕ) (top : List ℕ) (holds later : Option (List NamedFile))
-    (h i j : Option (List ℕ))
+    (h i j : Option SwapImage)
     → IsCaller old pid
     → HasStarted old between pid after image top holds h i → FillsStart (Stack old.kernel.next_sid 0) between new later i j → Continues old new 1
 start_continues old between new pid after image top holds later h i j c s f =
@@ -132,13 +133,13 @@ start_continues old between new pid after image top holds later h i j c s f =
     (z.due ∙ ap (λ (n : ℕ). due_after between.kernel.place.due (Stack n 0)) (sym l.numbers) ∙ x.filled)
     (let last = z.last in omega arith)
 
-exec_by : (fits : Bool) (old new : Standing) (pid : ℕ) (regs after : Regs) (image : ℕ) (top : List ℕ) (holds : Option (List NamedFile)) (i j : Option (List ℕ))
+exec_by : (fits : Bool) (old new : Standing) (pid : ℕ) (regs after : Regs) (image : ℕ) (top : List ℕ) (holds : Option (List NamedFile)) (i j : Option SwapImage)
     → IsCaller old pid
     → StartsBy fits old new pid regs after image top holds i j → Continues old new 1
 exec_by true old new pid regs after image top holds i j c h = start_continues old h.between new pid after image top holds holds i h.told j c h.started h.fills
 exec_by false old new pid regs after image top holds i j c h = refusal_continues old new pid system_calls.Execve regs c h.0
 
-exec_comes : (old new : Standing) (pid : ℕ) (regs : Regs) (r : Result Reply Refused) (holds : Option (List NamedFile)) (i j : Option (List ℕ)) (called : Called)
+exec_comes : (old new : Standing) (pid : ℕ) (regs : Regs) (r : Result Reply Refused) (holds : Option (List NamedFile)) (i j : Option SwapImage) (called : Called)
     → IsCaller old pid
     → StartsOrFails r → ExecComes old new pid regs r holds i j called → Continues old new (called_count called)
 exec_comes old new pid regs (Ok (Does after (Exec image top))) holds i j called c s h =
@@ -148,7 +149,7 @@ exec_comes old new pid regs (Err refused) holds i j called c s h = call_continue
 exec_comes old new pid regs (Ok _) holds i j called c s h = absurd s
 
 pub exec_continues : (old new : Standing) (pid : ℕ) (regs : Regs) (known : List NamedImage) (memory : Answers) (holds : Option (List NamedFile))
-    (i j : Option (List ℕ)) (called : Called)
+    (i j : Option SwapImage) (called : Called)
     → IsCaller old pid
     → ExecComes old new pid regs (run memory (execve_reply known regs)) holds i j called → Continues old new (called_count called)
 exec_continues old new pid regs known memory holds i j called c h =

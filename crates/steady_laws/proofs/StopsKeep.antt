@@ -1,6 +1,7 @@
 -- Where a call stops, the machine has its sizes and its images still, and a journal is full only at its bound.
 use Rattle.std.proofs.Common.{◌≡◌, ◌⊎◌, inl, inr, ℕ, ◌≤◌, Bool, true, false, List, [], ◌∷◌, length, Option, sym, ap, ◌∙◌, subst, refl}
 use Rattle.std.specs.Prelude.{Result, Ok, Err}
+use Rattle.vm_facts.specs.SwapImages.{SwapImage}
 use Rattle.vm_facts.specs.declared.page.Page.{Page}
 use Rattle.vm_facts.specs.declared.regs.Regs.{Regs}
 use Rattle.vm_facts.specs.declared.stop.Stop.{Stop}
@@ -67,7 +68,7 @@ kept_here old new stop h full = record {
 }
 
 -- a stop at a unit
-pub kept_at : (e : Entry) (k : Kernel) (i j : Option (List ℕ)) (old new : Standing) (stop : Stop) → new.params ≡ old.params → new.images ≡ old.images
+pub kept_at : (e : Entry) (k : Kernel) (i j : Option SwapImage) (old new : Standing) (stop : Stop) → new.params ≡ old.params → new.images ≡ old.images
     → StopsAt e k i stop new j → KeptAtStop old new stop
 kept_at e k i j old new stop params images at = record {
   sizes = record { params = params; images = images };
@@ -75,7 +76,7 @@ kept_at e k i j old new stop params images at = record {
 }
 
 -- a stop where some unit comes next
-pub kept_next : (coming : Option Entry) (k : Kernel) (i j : Option (List ℕ)) (old new : Standing) (stop : Stop) → StopsAtNext coming k old new i j stop
+pub kept_next : (coming : Option Entry) (k : Kernel) (i j : Option SwapImage) (old new : Standing) (stop : Stop) → StopsAtNext coming k old new i j stop
     → KeptAtStop old new stop
 kept_next coming k i j old new stop s = kept_at s.entry k i j old new stop s.params s.images s.stops
 
@@ -106,27 +107,27 @@ reading_same old new (Miss address write) stop h = starved_here old new stop h.0
 reading_same old new (Below address) stop h = before_same old new stop h
 reading_same old new (Signal number) stop h = before_same old new stop h
 
-settling_same : (old new : Standing) (sid : ℕ) (holds : Option (List NamedFile)) (i j : Option (List ℕ)) (stop : Stop)
+settling_same : (old new : Standing) (sid : ℕ) (holds : Option (List NamedFile)) (i j : Option SwapImage) (stop : Stop)
     → StopsSettling sid old new holds i j stop → KeptAtStop old new stop
 settling_same old new sid holds i j stop h =
     kept_through old h.between new stop (beside_same old h.between h.beside) (kept_here h.between new stop h.stops.stopped (λ e. (h.stops.full.0 e).1))
 
 -- Pages.
 
-forced_same : (locked : List Page) (old new : Standing) (holds : Option (List NamedFile)) (i j : Option (List ℕ))
+forced_same : (locked : List Page) (old new : Standing) (holds : Option (List NamedFile)) (i j : Option SwapImage)
     → Forced locked old new holds i j → SameSizes old new
 forced_same locked old new holds i j h = beside_same old new h.makes.beside
 
-forcing_same : (locked : List Page) (old new : Standing) (holds : Option (List NamedFile)) (i j : Option (List ℕ)) (stop : Stop)
+forcing_same : (locked : List Page) (old new : Standing) (holds : Option (List NamedFile)) (i j : Option SwapImage) (stop : Stop)
     → StopsForcing locked old stop new holds i j → KeptAtStop old new stop
 forcing_same locked old new holds i j stop h = kept_next _ h.at h.image j old new stop h.there
 
-serving_same : (now : Bool) (locked : List Page) (q : Page) (old new : Standing) (holds : Option (List NamedFile)) (i j : Option (List ℕ)) (stop : Stop)
+serving_same : (now : Bool) (locked : List Page) (q : Page) (old new : Standing) (holds : Option (List NamedFile)) (i j : Option SwapImage) (stop : Stop)
     → StopsServing now locked q old new holds i j stop
     → KeptAtStop old new stop
 serving_same now locked q old new holds i j stop h = kept_next _ h.at h.image j old new stop h.there
 
-filling_same : (e : Entry) (locked : List Page) (old new : Standing) (holds : Option (List NamedFile)) (i j : Option (List ℕ)) (stop : Stop)
+filling_same : (e : Entry) (locked : List Page) (old new : Standing) (holds : Option (List NamedFile)) (i j : Option SwapImage) (stop : Stop)
     → StopsFilling e locked old new holds i j stop → KeptAtStop old new stop
 filling_same e locked old new holds i j stop h = elim h [
   | inl x ↦ forcing_same locked old new holds i j stop x
@@ -134,11 +135,11 @@ filling_same e locked old new holds i j stop h = elim h [
       (kept_at e x.reached.kernel j j x.reached new stop x.stops.1 x.stops.2 x.stops.0)
 ]
 
-pub start_same : (page : Page) (old new : Standing) (holds : Option (List NamedFile)) (i j : Option (List ℕ)) (stop : Stop)
+pub start_same : (page : Page) (old new : Standing) (holds : Option (List NamedFile)) (i j : Option SwapImage) (stop : Stop)
     → StopsStart page old new holds i j stop → KeptAtStop old new stop
 start_same page old new holds i j stop h = filling_same (entries.Zero page) [] old new holds i j stop h
 
-pub page_same : (child parent : Page) (old new : Standing) (holds : Option (List NamedFile)) (i j : Option (List ℕ)) (stop : Stop)
+pub page_same : (child parent : Page) (old new : Standing) (holds : Option (List NamedFile)) (i j : Option SwapImage) (stop : Stop)
     → StopsPage child parent old new holds i j stop → KeptAtStop old new stop
 page_same child parent old new holds i j stop h = elim h [
   | inl x ↦ serving_same true (parent ∷ []) parent old new holds i j stop x
@@ -146,14 +147,14 @@ page_same child parent old new holds i j stop h = elim h [
       (filling_same (entries.Copy child) (parent ∷ []) x.1.reached new holds x.0 j stop x.1.stops)
 ]
 
-copied_same : (child parent : Page) (old new : Standing) (holds : Option (List NamedFile)) (i j : Option (List ℕ))
+copied_same : (child parent : Page) (old new : Standing) (holds : Option (List NamedFile)) (i j : Option SwapImage)
     → CopiesPage child parent old new holds i j → SameSizes old new
 copied_same child parent old new holds i j h =
     same_through old h.served new (beside_same old h.served h.serves.0.makes.beside)
     (same_through h.served h.roomy new (forced_same (parent ∷ []) h.served h.roomy holds h.behind j h.forces)
     (record { params = ap (λ (m : Standing). m.params) h.copies; images = ap (λ (m : Standing). m.images) h.copies }))
 
-copying_same : (ds : List Due) (old new : Standing) (holds : Option (List NamedFile)) (i j : Option (List ℕ)) (stop : Stop)
+copying_same : (ds : List Due) (old new : Standing) (holds : Option (List NamedFile)) (i j : Option SwapImage) (stop : Stop)
     → StopsCopying ds old new holds i j stop → KeptAtStop old new stop
 copying_same [] old new holds i j stop h = absurd h
 copying_same (Start q ∷ ds) old new holds i j stop h = absurd h
@@ -164,7 +165,7 @@ copying_same (CopyOf child parent ∷ ds) old new holds i j stop h = elim h [
 ]
 
 pub access_same : (now : Bool) (locked : List Page) (access : Access) (pid : ℕ) (old new : Standing) (holds : Option (List NamedFile))
-    (i j : Option (List ℕ)) (stop : Stop)
+    (i j : Option SwapImage) (stop : Stop)
     → AccessStops now locked access pid old new holds i j stop → KeptAtStop old new stop
 access_same now locked (accesses.Page q) pid old new holds i j stop h = serving_same now locked q old new holds i j stop h.serving
 access_same now locked (accesses.Refused signal) pid old new holds i j stop h = absurd h
@@ -176,26 +177,26 @@ access_same now locked (accesses.Growth sid pages) pid old new holds i j stop h 
 
 -- Ends.
 
-left_by : (lent : Bool) (old new : Standing) (pid : ℕ) (holds : Option (List NamedFile)) (i j : Option (List ℕ))
+left_by : (lent : Bool) (old new : Standing) (pid : ℕ) (holds : Option (List NamedFile)) (i j : Option SwapImage)
     → HasLeftBy lent old new pid holds i j → SameSizes old new
 left_by true old new pid holds i j h = record { params = ap (λ (m : Standing). m.params) h.step; images = ap (λ (m : Standing). m.images) h.step }
 left_by false old new pid holds i j h = beside_same old new h.rest
 
-leaving_same : (old new : Standing) (pid : ℕ) (holds : Option (List NamedFile)) (i j : Option (List ℕ)) (stop : Stop) → StopsLeaving old new pid holds i j stop
+leaving_same : (old new : Standing) (pid : ℕ) (holds : Option (List NamedFile)) (i j : Option SwapImage) (stop : Stop) → StopsLeaving old new pid holds i j stop
     → KeptAtStop old new stop
 leaving_same old new pid holds i j stop h = elim h [
   | inl x ↦ settling_same old new _ holds i j stop x.1
   | inr x ↦ before_same old new stop x.1
 ]
 
-pub alive_same : (old new : Standing) (pid : ℕ) (holds : Option (List NamedFile)) (i j : Option (List ℕ)) (stop : Stop) → StopsAlive old new pid holds i j stop
+pub alive_same : (old new : Standing) (pid : ℕ) (holds : Option (List NamedFile)) (i j : Option SwapImage) (stop : Stop) → StopsAlive old new pid holds i j stop
     → KeptAtStop old new stop
 alive_same old new pid holds i j stop h = elim h [
   | inl x ↦ leaving_same old new pid holds i j stop x
   | inr x ↦ once_before old new stop (λ m. HasLeft old m pid holds i j) (λ m h. left_by _ old m pid holds i j h) x
 ]
 
-pub exit_same : (old new : Standing) (pid : ℕ) (r : Result Reply Refused) (holds : Option (List NamedFile)) (i j : Option (List ℕ)) (stop : Stop)
+pub exit_same : (old new : Standing) (pid : ℕ) (r : Result Reply Refused) (holds : Option (List NamedFile)) (i j : Option SwapImage) (stop : Stop)
     → StopsExit old new pid r holds i j stop → KeptAtStop old new stop
 exit_same old new pid (Ok reply) holds i j stop h = alive_same old new pid holds i j stop h
 exit_same old new pid (Err refused) holds i j stop h = reading_same old new refused stop h.0
@@ -227,7 +228,7 @@ answered_same old new pid regs h =
     child_same _ _ old new pid _ regs _ h
     (λ (c : HasNewSpace old new pid regs old.kernel.next_pid). record { params = ap (λ (m : Standing). m.params) c.made.answer.rest; images = ap (λ (m : Standing). m.images) c.made.answer.rest })
 
-pub forking_same : (old new : Standing) (pid : ℕ) (regs : Regs) (holds : Option (List NamedFile)) (i j : Option (List ℕ)) (stop : Stop)
+pub forking_same : (old new : Standing) (pid : ℕ) (regs : Regs) (holds : Option (List NamedFile)) (i j : Option SwapImage) (stop : Stop)
     → StopsForking old new pid regs holds i j stop → KeptAtStop old new stop
 forking_same old new pid regs holds i j stop h = elim h [
   | inl x ↦ making_same old new pid _ stop x.0
@@ -237,23 +238,23 @@ forking_same old new pid regs holds i j stop h = elim h [
 
 -- Images.
 
-finding_same : (pieces : Standing → Result Holdings ℕ) (old new : Standing) (pid : ℕ) (holds : Option (List NamedFile)) (i j : Option (List ℕ)) (stop : Stop)
+finding_same : (pieces : Standing → Result Holdings ℕ) (old new : Standing) (pid : ℕ) (holds : Option (List NamedFile)) (i j : Option SwapImage) (stop : Stop)
     → StopsFinding pieces old new pid holds i j stop → KeptAtStop old new stop
 finding_same pieces old new pid holds i j stop h = elim h [
   | inl x ↦ before_same old new stop x.0
   | inr x ↦ alive_same old new pid holds i j stop x.1
 ]
 
-leaves_same : (pieces : Standing → Result Holdings ℕ) (old new : Standing) (pid : ℕ) (holds : Option (List NamedFile)) (i j : Option (List ℕ))
+leaves_same : (pieces : Standing → Result Holdings ℕ) (old new : Standing) (pid : ℕ) (holds : Option (List NamedFile)) (i j : Option SwapImage)
     → LeavesFor pieces old new pid holds i j → SameSizes old new
 leaves_same pieces old new pid holds i j h =
     same_through old h.between new (left_by _ old h.between pid holds i j h.left) (record { params = ap (λ (m : Standing). m.params) h.step; images = ap (λ (m : Standing). m.images) h.step })
 
-started_same : (old new : Standing) (pid : ℕ) (after : Regs) (image : ℕ) (top : List ℕ) (holds : Option (List NamedFile)) (i j : Option (List ℕ))
+started_same : (old new : Standing) (pid : ℕ) (after : Regs) (image : ℕ) (top : List ℕ) (holds : Option (List NamedFile)) (i j : Option SwapImage)
     → HasStarted old new pid after image top holds i j → SameSizes old new
 started_same old new pid after image top holds i j h = same_through old h.asked new (leaves_same (image_found image) old h.asked pid holds i j h.finds) (entered_same h.asked new pid _ _ _ h.answer)
 
-image_same : (old new : Standing) (pid : ℕ) (after : Regs) (image : ℕ) (top : List ℕ) (holds : Option (List NamedFile)) (i j : Option (List ℕ)) (stop : Stop)
+image_same : (old new : Standing) (pid : ℕ) (after : Regs) (image : ℕ) (top : List ℕ) (holds : Option (List NamedFile)) (i j : Option SwapImage) (stop : Stop)
     → StopsImage old new pid after image top holds i j stop
     → KeptAtStop old new stop
 image_same old new pid after image top holds i j stop h = elim h [
@@ -265,7 +266,7 @@ image_same old new pid after image top holds i j stop h = elim h [
       (start_same _ x.1.reached new holds x.0 j stop x.1.stops)
 ]
 
-pub exec_same : (old new : Standing) (pid : ℕ) (r : Result Reply Refused) (holds : Option (List NamedFile)) (i j : Option (List ℕ)) (stop : Stop)
+pub exec_same : (old new : Standing) (pid : ℕ) (r : Result Reply Refused) (holds : Option (List NamedFile)) (i j : Option SwapImage) (stop : Stop)
     → StopsExec old new pid r holds i j stop → KeptAtStop old new stop
 exec_same old new pid (Ok (Does after (Exec image top))) holds i j stop h = image_same old new pid after image top holds i j stop h
 exec_same old new pid (Ok reply) holds i j stop h = before_same old new stop h.0
@@ -279,7 +280,7 @@ plain_same old new pid pages stop h = elim h [
   | inr x ↦ let s = before_same _ new stop x.3 in record { sizes = record { params = s.sizes.params; images = s.sizes.images }; full = s.full }
 ]
 
-moving_same : (old new : Standing) (pid pages : ℕ) (holds : Option (List NamedFile)) (i j : Option (List ℕ)) (stop : Stop)
+moving_same : (old new : Standing) (pid pages : ℕ) (holds : Option (List NamedFile)) (i j : Option SwapImage) (stop : Stop)
     → StopsBreaking old new pid pages holds i j stop → KeptAtStop old new stop
 moving_same old new pid pages holds i j stop h = elim h [
   | inl x ↦ plain_same old new pid pages stop x.0
@@ -289,7 +290,7 @@ moving_same old new pid pages holds i j stop h = elim h [
   ]
 ]
 
-pub break_same : (old new : Standing) (pid : ℕ) (r : Result ℕ Refused) (holds : Option (List NamedFile)) (i j : Option (List ℕ)) (stop : Stop)
+pub break_same : (old new : Standing) (pid : ℕ) (r : Result ℕ Refused) (holds : Option (List NamedFile)) (i j : Option SwapImage) (stop : Stop)
     → StopsBreak old new pid r holds i j stop → KeptAtStop old new stop
 break_same old new pid (Ok address) holds i j stop h = moving_same old new pid _ holds i j stop h
 break_same old new pid (Err refused) holds i j stop h = reading_same old new refused stop h.0

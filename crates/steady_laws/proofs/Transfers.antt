@@ -1,5 +1,6 @@
 -- Machines that go on after transfers that end.
 use Rattle.std.proofs.Common.{◌≡◌, ℕ, zero, suc, ◌≤◌, List, [], Option, None, refl, sym, ap, ◌∙◌, subst, arith}
+use Rattle.vm_facts.specs.SwapImages.{SwapImage}
 use Rattle.vm_facts.specs.declared.entry.Entry.TheVariants as entries
 use Rattle.flat_state.specs.Journal.{append, instructions_of}
 use Rattle.kernel_model.specs.Kernel.{Kernel, done_step}
@@ -47,10 +48,10 @@ done_on k read = record {
   low = let last = last_done k.journal in omega arith;
 }
 
-pub one_ends : (from : Sources) (i : Option (List ℕ)) (k l : Kernel) → IsDone from i k l → EndsOn k l
+pub one_ends : (from : Sources) (i : Option SwapImage) (k l : Kernel) → IsDone from i k l → EndsOn k l
 one_ends from i k l d = subst (EndsOn k) (sym d.step) (done_on k d.read)
 
-all_end : (from : Sources) (sid n : ℕ) (k l : Kernel) (i j : Option (List ℕ)) → EndsWhile from sid n k i l j → EndsOn k l
+all_end : (from : Sources) (sid n : ℕ) (k l : Kernel) (i j : Option SwapImage) → EndsWhile from sid n k i l j → EndsOn k l
 all_end from sid zero k l i j e = subst (EndsOn k) (sym e.0) (ends_self k)
 all_end from sid (suc n) k l i j e = ends_then k e.1.0 l (one_ends from i k e.1.0 e.1.2) (all_end from sid n e.1.0 l e.1.1 j e.1.4)
 
@@ -70,13 +71,13 @@ pub record SettledOn (old new : Standing) : Type 0 where
   pub processes : new.kernel.processes ≡ old.kernel.processes
   pub numbers : new.kernel.next_sid ≡ old.kernel.next_sid
 
-pub settled_on : (from : Sources) (sid : ℕ) (old new : Standing) (i j : Option (List ℕ)) → old.kernel.place.due ≡ []
+pub settled_on : (from : Sources) (sid : ℕ) (old new : Standing) (i j : Option SwapImage) → old.kernel.place.due ≡ []
     → SettledBy from sid old.kernel new.kernel i j → IsSameBeside old new → SettledOn old new
 settled_on from sid old new i j d s b =
     let e = all_end from sid s.count old.kernel new.kernel i j s.ends in
     record { on = ended_continues old new d b e; processes = e.processes; numbers = e.next_sid }
 
-pub done_continues : (old new : Standing) (from : Sources) (i : Option (List ℕ)) → old.kernel.place.due ≡ [] → IsDone from i old.kernel new.kernel
+pub done_continues : (old new : Standing) (from : Sources) (i : Option SwapImage) → old.kernel.place.due ≡ [] → IsDone from i old.kernel new.kernel
     → new ≡ record old { kernel = new.kernel; room = None } → Continues old new 0
 done_continues old new from i clear d h =
     ended_continues old new clear

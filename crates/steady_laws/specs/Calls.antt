@@ -1,5 +1,6 @@
 -- A machine goes on after each call of a process.
 use Rattle.std.specs.Prelude.{ℕ, List, Option, Result, Ok, Err}
+use Rattle.vm_facts.specs.SwapImages.{SwapImage}
 use Rattle.vm_facts.specs.Answers.{Answers}
 use Rattle.vm_facts.specs.declared.page.Page.TheVariants.{Stack}
 use Rattle.vm_facts.specs.declared.regs.Regs.{Regs}
@@ -84,25 +85,25 @@ VforkContinues = (old new : Standing) (pid : ℕ) (regs : Regs) → IsCaller old
 -- a fork, once all pages that are due were copied
 abbrev pub ForkContinues : Type 0
 ForkContinues =
-    (old new : Standing) (pid : ℕ) (regs : Regs) (holds : Option (List NamedFile)) (before after : Option (List ℕ)) → IsCaller old pid
+    (old new : Standing) (pid : ℕ) (regs : Regs) (holds : Option (List NamedFile)) (before after : Option SwapImage) → IsCaller old pid
     → Forked old new pid regs holds before after → HasCopied old new → Continues old new 1
 
 -- An end of a process.
 abbrev pub EndContinues : Type 0
 EndContinues =
-    (old new : Standing) (pid status : ℕ) (holds : Option (List NamedFile)) (before after : Option (List ℕ)) → IsCaller old pid
+    (old new : Standing) (pid status : ℕ) (holds : Option (List NamedFile)) (before after : Option SwapImage) → IsCaller old pid
     → HasEnded old new pid status holds before after → Continues old new 1
 
 -- an exit
 abbrev pub ExitContinues : Type 0
 ExitContinues =
-    (old new : Standing) (pid : ℕ) (regs : Regs) (r : Result Reply Refused) (holds : Option (List NamedFile)) (before after : Option (List ℕ)) (called : Called)
+    (old new : Standing) (pid : ℕ) (regs : Regs) (r : Result Reply Refused) (holds : Option (List NamedFile)) (before after : Option SwapImage) (called : Called)
     → IsCaller old pid → ExitComes old new pid regs r holds before after called → Continues old new (called_count called)
 
 -- A break.
 abbrev pub BreakContinues : Type 0
 BreakContinues =
-    (old new : Standing) (pid : ℕ) (regs : Regs) (r : Result ℕ Refused) (holds : Option (List NamedFile)) (before after : Option (List ℕ)) (called : Called)
+    (old new : Standing) (pid : ℕ) (regs : Regs) (r : Result ℕ Refused) (holds : Option (List NamedFile)) (before after : Option SwapImage) (called : Called)
     → IsCaller old pid → BreakComes old new pid regs r holds before after called → Continues old new (called_count called)
 
 -- A call whose pieces find no place.
@@ -114,7 +115,7 @@ RefusalContinues =
 abbrev pub StartContinues : Type 0
 StartContinues =
     (old between new : Standing) (pid : ℕ) (after : Regs) (image : ℕ) (top : List ℕ) (holds later : Option (List NamedFile))
-    (h i j : Option (List ℕ)) → IsCaller old pid
+    (h i j : Option SwapImage) → IsCaller old pid
     → HasStarted old between pid after image top holds h i → FillsStart (Stack old.kernel.next_sid 0) between new later i j → Continues old new 1
 
 -- An execve replies nothing else, whatever the memory that it reads.
@@ -125,5 +126,5 @@ ExecStarts = (known : List NamedImage) (memory : Answers) (regs : Regs) → Star
 abbrev pub ExecContinues : Type 0
 ExecContinues =
     (old new : Standing) (pid : ℕ) (regs : Regs) (known : List NamedImage) (memory : Answers) (holds : Option (List NamedFile))
-    (i j : Option (List ℕ)) (called : Called)
+    (i j : Option SwapImage) (called : Called)
     → IsCaller old pid → ExecComes old new pid regs (run memory (execve_reply known regs)) holds i j called → Continues old new (called_count called)

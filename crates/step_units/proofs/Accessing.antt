@@ -1,5 +1,6 @@
 -- What serving an access leads to: that of its page, or growth of the stack first.
 use Rattle.std.proofs.Common.{◌≡◌, inl, inr, ℕ, ◌-◌, Bool, true, false, List, [], length, Option, Some, ap, ◌∙◌, subst, arith}
+use Rattle.vm_facts.specs.SwapImages.{SwapImage}
 use Rattle.io_edge.specs.FileHolding.{NamedFile}
 use Rattle.vm_facts.specs.declared.page.Page.{Page}
 use Rattle.vm_facts.specs.declared.page.Page.TheVariants as pages
@@ -30,7 +31,7 @@ use Rattle.step_units.proofs.Serving.{same_space, WaitsFor, PageLeads, page_lead
 
 -- The page of an access.
 
-waits_for : (A : Inputs) (s : State) (m : Standing) (holds : Option (List NamedFile)) (image : List ℕ) (pid : ℕ) (now : Bool) (p : Process) (x : Space)
+waits_for : (A : Inputs) (s : State) (m : Standing) (holds : Option (List NamedFile)) (image : SwapImage) (pid : ℕ) (now : Bool) (p : Process) (x : Space)
     (address : ℕ) (write : Bool)
     → RunsOn A s m holds image pid now p x → (w : WantsPage A s m.kernel x address write) → WaitsFor A s m holds image pid now w.before w.page
 waits_for A s m holds image pid now p x address write r w = record {
@@ -42,7 +43,7 @@ waits_for A s m holds image pid now p x address write r w = record {
   valid = w.valid;
 }
 
-same_access : (A : Inputs) (s : State) (m : Standing) (holds : Option (List NamedFile)) (image : List ℕ) (pid : ℕ) (now : Bool) (p : Process) (x : Space)
+same_access : (A : Inputs) (s : State) (m : Standing) (holds : Option (List NamedFile)) (image : SwapImage) (pid : ℕ) (now : Bool) (p : Process) (x : Space)
     (address : ℕ) (write : Bool)
     → RunsOn A s m holds image pid now p x → access_by m.kernel pid address write ≡ access_to m.kernel.place x.sid address write
 same_access A s m holds image pid now p x address write r =
@@ -60,7 +61,7 @@ pub valid_locked : (A : Inputs) (s : State) (before : List Page) → s.place.due
 valid_locked A s before d e v = ap (locked_by A s) d ∙ ap (before_absent s.place) e ∙ all_before s.place before v
 
 -- what a page leads to, as what serving leads to
-served_leads : (A : Inputs) (s : State) (old new : Standing) (holds : Option (List NamedFile)) (image : List ℕ) (j : Option (List ℕ)) (pid : ℕ) (now : Bool)
+served_leads : (A : Inputs) (s : State) (old new : Standing) (holds : Option (List NamedFile)) (image : SwapImage) (j : Option SwapImage) (pid : ℕ) (now : Bool)
     (p : Process) (x : Space)
     (before : List Page)
     (answer : Served) → locked A s ≡ before → PageLeads A s old.kernel image before new.kernel j answer
@@ -73,9 +74,9 @@ served_leads A s old new holds image j pid now p x before served.NoSpace e h = a
 served_leads A s old new holds image j pid now p x before (served.Signal number) e h = h
 
 -- after growth
-grown_page_leads : (A : Inputs) (s : State) (old between : Standing) (holds : Option (List NamedFile)) (image : List ℕ) (pid : ℕ) (now : Bool)
+grown_page_leads : (A : Inputs) (s : State) (old between : Standing) (holds : Option (List NamedFile)) (image : SwapImage) (pid : ℕ) (now : Bool)
     (before : List Page) (q : Page) (l : Kernel)
-    (j : Option (List ℕ)) (answer : Served) → (b : GrownBefore A s old between holds image pid now before q)
+    (j : Option SwapImage) (answer : Served) → (b : GrownBefore A s old between holds image pid now before q)
     → PageLeads A (after A s b.entry) between.kernel image before l j answer
     → PageLeads A s old.kernel image before l j answer
 grown_page_leads A s old between holds image pid now before q l j answer b h = go answer h
@@ -88,13 +89,13 @@ grown_page_leads A s old between holds image pid now before q l j answer b h = g
     go (served.Signal number) d = absurd d
 
 -- A page is served so that it leads on from each machine at which it is waited for.
-abbrev pub Leading : (Served → Page → Standing → Type 0) → Inputs → Standing → Option (List NamedFile) → List ℕ → Option (List ℕ) → ℕ → Bool
+abbrev pub Leading : (Served → Page → Standing → Type 0) → Inputs → Standing → Option (List NamedFile) → SwapImage → Option SwapImage → ℕ → Bool
     → List Page → Type 0
 Leading Touched A new holds image j pid now before =
     (s : State) (old : Standing) (q : Page) (answer : Served) → WaitsFor A s old holds image pid now before q → Touched answer q old → PageLeads A s old.kernel image before new.kernel j answer
 
 pub access_leads : (Touched : Served → Page → Standing → Type 0) (A : Inputs) (s : State) (old new : Standing) (holds : Option (List NamedFile))
-    (image : List ℕ) (j : Option (List ℕ)) (pid : ℕ)
+    (image : SwapImage) (j : Option SwapImage) (pid : ℕ)
     (now : Bool) (p : Process) (x : Space) (address : ℕ) (write : Bool) (before : List Page) (answer : Served)
     → Leading Touched A new holds image j pid now before
     → RunsOn A s old holds image pid now p x → WaitsForPage A s old p x address write before
@@ -137,7 +138,7 @@ access_leads Touched A s old new holds image j pid now p x address write before 
     go served.NoFrame g = served_leads A s old new holds image j pid now p x before served.NoFrame all_locked (grown served.NoFrame g)
     go (served.Signal number) g = served_leads A s old new holds image j pid now p x before (served.Signal number) all_locked (grown (served.Signal number) g)
 
-pub serve_made : (A : Inputs) (s : State) (old new : Standing) (holds : Option (List NamedFile)) (image : List ℕ) (j : Option (List ℕ)) (pid : ℕ) (p : Process)
+pub serve_made : (A : Inputs) (s : State) (old new : Standing) (holds : Option (List NamedFile)) (image : SwapImage) (j : Option SwapImage) (pid : ℕ) (p : Process)
     (x : Space) (address : ℕ)
     (write : Bool) (before : List Page) (answer : Served) → RunsOn A s old holds image pid false p x → WaitsForPage A s old p x address write before
     → AccessComes (λ came q from. TouchedAs came q from new holds (Some image) j) (access_by old.kernel pid address write) answer pid old new (Some image) j
@@ -146,7 +147,7 @@ serve_made A s old new holds image j pid p x address write before answer r w h =
     access_leads (λ came q from. TouchedAs came q from new holds (Some image) j) A s old new holds image j pid false p x address write before answer
     (λ t from q came u k. page_leads A t from new holds image j pid before q came u k) r w h
 
-pub serve_now_made : (A : Inputs) (s : State) (old new : Standing) (holds : Option (List NamedFile)) (image : List ℕ) (j : Option (List ℕ)) (pid : ℕ)
+pub serve_now_made : (A : Inputs) (s : State) (old new : Standing) (holds : Option (List NamedFile)) (image : SwapImage) (j : Option SwapImage) (pid : ℕ)
     (p : Process) (x : Space) (address : ℕ)
     (write : Bool) (before : List Page) (answer : Served) → RunsOn A s old holds image pid true p x → WaitsForPage A s old p x address write before
     → AccessComes (λ came q from. TouchedNow before came q from new holds (Some image) j)
@@ -158,7 +159,7 @@ serve_now_made A s old new holds image j pid p x address write before answer r w
 
 -- Stops.
 
-pub access_stops : (A : Inputs) (s : State) (old new : Standing) (holds : Option (List NamedFile)) (image : List ℕ) (j : Option (List ℕ)) (pid : ℕ) (now : Bool)
+pub access_stops : (A : Inputs) (s : State) (old new : Standing) (holds : Option (List NamedFile)) (image : SwapImage) (j : Option SwapImage) (pid : ℕ) (now : Bool)
     (p : Process) (x : Space)
     (address : ℕ) (write : Bool) (before kept : List Page) (stop : Stop) → (now ≡ true → kept ≡ before) → RunsOn A s old holds image pid now p x
     → WaitsForPage A s old p x address write before

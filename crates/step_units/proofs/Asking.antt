@@ -1,5 +1,6 @@
 -- What a line asks for but a turn of the swapper: the end of a transfer, moves of the hands, numbers.
 use Rattle.std.proofs.Common.{◌≡◌, ℕ, ◌-◌, ◌<◌, ◌≤◌, List, [], ◌∷◌, length, Option, Some, refl, sym, ap, ◌∙◌, subst, arith}
+use Rattle.vm_facts.specs.SwapImages.{SwapImage}
 use Rattle.vm_facts.specs.declared.entry.Entry.{Entry}
 use Rattle.vm_facts.specs.declared.entry.Entry.TheVariants as entries
 use Rattle.vm_facts.specs.declared.stop.Stop.{Stop}
@@ -44,7 +45,7 @@ interrupts s m l = m ∙ go s.place.transfers l
 pub idle_ends : (A : Inputs) (s : State) → IsClear s → s.mark ≡ interrupt_mark s.place.transfers → s.place.transfers ≡ [] → IsOver A s
 idle_ends A s c m e = record { clear = c.clear; between = c.between; over = ap (under A s) (m ∙ ap interrupt_mark e) }
 
-pub interrupt_made : (A : Inputs) (s : State) (old : Standing) (l : Kernel) (holds : Option (List NamedFile)) (image : List ℕ) (j : Option (List ℕ))
+pub interrupt_made : (A : Inputs) (s : State) (old : Standing) (l : Kernel) (holds : Option (List NamedFile)) (image : SwapImage) (j : Option SwapImage)
     → MachineAt A s old holds image → IsClear s
     → s.mark ≡ interrupt_mark s.place.transfers → 0 < length s.place.transfers → IsDone (sources old holds) (Some image) old.kernel l
     → ImageAfter old.kernel (Some image) j
@@ -57,7 +58,7 @@ interrupt_made A s old l holds image j at c m n d i =
     record {
       units = u ∷ [];
       state = after A s u;
-      leads = subst (λ (o : Option (List ℕ)). Leads A s old.kernel image (u ∷ []) (after A s u) l o) (sym i)
+      leads = subst (λ (o : Option SwapImage). Leads A s old.kernel image (u ∷ []) (after A s u) l o) (sym i)
           (one_leads A s old.kernel l image j u next (one_made A (ground old holds []) s old.kernel l image j u at.images tt d i));
       over = record { clear = (done_steady s.place at.at.run.placed.sound.owner.frames).due ∙ c.clear; between = c.between; over = ap (under A (after A s u)) (ap completed is) };
       point = refl;
@@ -66,7 +67,7 @@ interrupt_made A s old l holds image j at c m n d i =
       unturned = ap (λ (m : Mark). last_turned (completed m)) is;
     }
 
-pub interrupt_stops : (A : Inputs) (s : State) (old new : Standing) (holds : Option (List NamedFile)) (image : List ℕ) (j : Option (List ℕ)) (stop : Stop)
+pub interrupt_stops : (A : Inputs) (s : State) (old new : Standing) (holds : Option (List NamedFile)) (image : SwapImage) (j : Option SwapImage) (stop : Stop)
     → MachineAt A s old holds image → IsClear s
     → s.mark ≡ interrupt_mark s.place.transfers → 0 < length s.place.transfers → StopsEnding old new (Some image) j stop
     → StopLeads A s old.kernel image stop new j
@@ -89,14 +90,14 @@ interrupt_stops A s old new holds image j stop at c m n x = record {
 
 -- Moves of the hands.
 
-pub hands_made : (A : Inputs) (s : State) (old new : Standing) (holds : Option (List NamedFile)) (image : List ℕ) (j : Option (List ℕ)) (n made : ℕ)
+pub hands_made : (A : Inputs) (s : State) (old new : Standing) (holds : Option (List NamedFile)) (image : SwapImage) (j : Option SwapImage) (n made : ℕ)
     → MachineAt A s old holds image → IsClear s
     → s.mark ≡ marks.Hands n → Moved n old new made holds (Some image) j → LineLeads A s old.kernel image new.kernel j
 hands_made A s old new holds image j n made at c m h =
     let asks : AsksMoves s n = record { mark = m; clear = c.clear } in
     let led : LeadsMoving A s old.kernel image n h.units new.kernel j = moving h.units A (ground old holds []) s old.kernel new.kernel image j n at.at at.images refl asks h.moves h.makes.made in
     let behind = leads_at A s led.state old.kernel new.kernel image led.leads.behind h.units at.at
-    (subst (λ (o : Option (List ℕ)). Leads A s old.kernel image h.units led.state new.kernel o) led.leads.told led.leads) in
+    (subst (λ (o : Option SwapImage). Leads A s old.kernel image h.units led.state new.kernel o) led.leads.told led.leads) in
     record {
       units = h.units;
       state = led.state;
@@ -113,30 +114,30 @@ hands_made A s old new holds image j n made at c m h =
       unturned = ap last_turned led.asks.mark;
     }
 
-pub hands_stop : (A : Inputs) (s : State) (old new : Standing) (holds : Option (List NamedFile)) (image : List ℕ) (j : Option (List ℕ)) (n : ℕ) (stop : Stop)
+pub hands_stop : (A : Inputs) (s : State) (old new : Standing) (holds : Option (List NamedFile)) (image : SwapImage) (j : Option SwapImage) (n : ℕ) (stop : Stop)
     → MachineAt A s old holds image
     → IsClear s
     → s.mark ≡ marks.Hands n → StopsMoving n old stop new holds (Some image) j → StopLeads A s old.kernel image stop new j
 hands_stop A s old new holds image j n stop at c m h =
     let asks : AsksMoves s n = record { mark = m; clear = c.clear } in
     let led : LeadsMoving A s old.kernel image n h.units h.at h.image = moving h.units A (ground old holds []) s old.kernel h.at image h.image n at.at at.images refl asks h.leads.moves h.made in
-    let leads = subst (λ (o : Option (List ℕ)). Leads A s old.kernel image h.units led.state h.at o) led.leads.told led.leads in
+    let leads = subst (λ (o : Option SwapImage). Leads A s old.kernel image h.units led.state h.at o) led.leads.told led.leads in
     let behind = leads_at A s led.state old.kernel h.at image led.leads.behind h.units at.at leads in
     stops_behind A s led.state old.kernel h.at image led.leads.behind h.units stop new j h.there.entry leads
     (move_next A led.state (n - moves_of h.units) led.asks (let l = h.leads.left in omega (arith, l)) (ap wants_moves (sym behind.stands.place) ∙ h.leads.wants)
     ∙ ap (λ (p : Placement). Some (move_unit p [])) (sym behind.stands.place) ∙ h.there.next)
-    (subst (λ (o : Option (List ℕ)). StopsAt h.there.entry h.at o stop new j) led.leads.told h.there.stops)
+    (subst (λ (o : Option SwapImage). StopsAt h.there.entry h.at o stop new j) led.leads.told h.there.stops)
 
 -- Numbers.
 
-audits : (A : Inputs) (s : State) (old : Standing) (holds : Option (List NamedFile)) (image : List ℕ) → MachineAt A s old holds image → IsClear s
+audits : (A : Inputs) (s : State) (old : Standing) (holds : Option (List NamedFile)) (image : SwapImage) → MachineAt A s old holds image → IsClear s
     → s.mark ≡ marks.Audit
     → next_unit A s ≡ Some (owners_of old.kernel.place old.kernel.holdings)
 audits A s old holds image at c m =
     (line_asks A s c.clear).2 m ∙ ap (λ (p : Placement). Some (owners_of p s.holdings)) (sym at.at.stands.place)
     ∙ ap (λ hs. Some (owners_of old.kernel.place hs)) (sym at.at.stands.holdings)
 
-pub audit_made : (A : Inputs) (s : State) (old : Standing) (l : Kernel) (holds : Option (List NamedFile)) (image : List ℕ)
+pub audit_made : (A : Inputs) (s : State) (old : Standing) (l : Kernel) (holds : Option (List NamedFile)) (image : SwapImage)
     → MachineAt A s old holds image → IsClear s → s.mark ≡ marks.Audit
     → l ≡ note_step old.kernel (owners_of old.kernel.place old.kernel.holdings) → LineLeads A s old.kernel image l (Some image)
 unfolding after
@@ -153,7 +154,7 @@ audit_made A s old l holds image at c m e =
       unturned = ap (λ (x : Mark). last_turned (audited x)) m;
     }
 
-pub audit_stops : (A : Inputs) (s : State) (old new : Standing) (holds : Option (List NamedFile)) (image : List ℕ) (stop : Stop)
+pub audit_stops : (A : Inputs) (s : State) (old new : Standing) (holds : Option (List NamedFile)) (image : SwapImage) (stop : Stop)
     → MachineAt A s old holds image → IsClear s → s.mark ≡ marks.Audit
     → StopsBefore old new stop → StopLeads A s old.kernel image stop new (Some image)
 audit_stops A s old new holds image stop at c m x =

@@ -1,6 +1,7 @@
 -- What a process does next: its step's first entry, or the entry that says that its pieces find no place.
 use Rattle.std.proofs.Common.{◌≡◌, ℕ, not, ◌&&◌, Bool, true, false, List, ◌∷◌, Option, Some, Ok, refl, sym, ap, ◌∙◌}
 use Rattle.std.specs.Prelude.{is_ok, if◌then◌else◌}
+use Rattle.vm_facts.specs.SwapImages.{SwapImage}
 use Rattle.vm_facts.proofs.Tests.{eq_self}
 use Rattle.vm_facts.specs.declared.entry.Entry.{Entry}
 use Rattle.vm_facts.specs.declared.entry.Entry.TheVariants as entries
@@ -29,7 +30,7 @@ use Rattle.run_units.proofs.Acting.{step_begins, step_refused, refused_comes, re
 -- Pieces.
 
 -- what a change of the process takes, as the flat machine and the kernel say it
-pub wanted_is : (A : Inputs) (s : State) (k : Kernel) (image : List ℕ) (pid : ℕ) (now : Bool) (p : Process) (x : Space) (change : Change)
+pub wanted_is : (A : Inputs) (s : State) (k : Kernel) (image : SwapImage) (pid : ℕ) (now : Bool) (p : Process) (x : Space) (change : Change)
     → At A s k image → IsRunning A s pid now p x
     → wanted_if A.images s.point.flat change (process_of s.point.flat pid) ≡ asked (facts_of A.images) k pid change
 wanted_is A s k image pid now p x change at r =
@@ -37,7 +38,7 @@ wanted_is A s k image pid now p x change at r =
     ap (wanted_if A.images s.point.flat change) r.here ∙ ap (wanted_in A.images s.point.flat change) r.holds
     ∙ sym (change_same A.images k s.point.flat pid p x change at.fit keeps.stands.texts keeps.numbered at.run.numbers keeps.coupled.tables r.here r.holds)
 
-pub asks_is : (A : Inputs) (s : State) (k : Kernel) (image : List ℕ) (pid : ℕ) (now : Bool) (p : Process) (x : Space) → At A s k image
+pub asks_is : (A : Inputs) (s : State) (k : Kernel) (image : SwapImage) (pid : ℕ) (now : Bool) (p : Process) (x : Space) → At A s k image
     → IsRunning A s pid now p x
     → is_refused s.point.last pid ≡ false → asks A s.point.flat pid ≡ asked (facts_of A.images) k pid (step_at A s.point pid).change
 unfolding asks
@@ -46,7 +47,7 @@ asks_is A s k image pid now p x at r u =
     ∙ ap (λ (b : Bool). wanted_if A.images s.point.flat (flat_step A s.point.flat pid b).change (process_of s.point.flat pid)) (sym u)
     ∙ wanted_is A s k image pid now p x (step_at A s.point pid).change at r
 
-pub fits_is : (A : Inputs) (s : State) (k : Kernel) (image : List ℕ) (pid : ℕ) (now : Bool) (p : Process) (x : Space) (step : Step) → At A s k image
+pub fits_is : (A : Inputs) (s : State) (k : Kernel) (image : SwapImage) (pid : ℕ) (now : Bool) (p : Process) (x : Space) (step : Step) → At A s k image
     → IsRunning A s pid now p x
     → is_refused s.point.last pid ≡ false → step_at A s.point pid ≡ step
     → fits A.swap_blocks s.holdings (asks A s.point.flat pid) ≡ is_ok (place_all A.swap_blocks k.holdings (asked (facts_of A.images) k pid step.change))
@@ -65,7 +66,7 @@ whole_due (Some (entries.Out p bytes)) pid es h = absurd h
 whole_due _ pid es h = refl
 
 -- the step's first entry comes, once its pieces are found and no space has to settle
-pub begins : (A : Inputs) (s : State) (k : Kernel) (image : List ℕ) (pid : ℕ) (now : Bool) (p : Process) (x : Space) (step : Step) (e : Entry)
+pub begins : (A : Inputs) (s : State) (k : Kernel) (image : SwapImage) (pid : ℕ) (now : Bool) (p : Process) (x : Space) (step : Step) (e : Entry)
     (es : List Entry) (found : Holdings)
     → At A s k image → IsRunning A s pid now p x → IsBetween s.point.last → step_at A s.point pid ≡ step → step.entries ≡ e ∷ es
     → place_all A.swap_blocks k.holdings (asked (facts_of A.images) k pid step.change) ≡ Ok found → must_settle A s pid ≡ false → act A s pid ≡ Some e
@@ -74,7 +75,7 @@ begins A s k image pid now p x step e es found at r b i first f t =
     (fits_is A s k image pid now p x step at r (unrefused s.point.last pid b) i ∙ ap is_ok f) t
 
 -- where they find none comes the entry that says so
-pub refuses : (A : Inputs) (s : State) (k : Kernel) (image : List ℕ) (pid : ℕ) (now : Bool) (p : Process) (x : Space) (step : Step)
+pub refuses : (A : Inputs) (s : State) (k : Kernel) (image : SwapImage) (pid : ℕ) (now : Bool) (p : Process) (x : Space) (step : Step)
     → At A s k image → IsRunning A s pid now p x → IsBetween s.point.last → step_at A s.point pid ≡ step
     → is_ok (place_all A.swap_blocks k.holdings (asked (facts_of A.images) k pid step.change)) ≡ false → act A s pid ≡ Some (entries.Refused pid)
 refuses A s k image pid now p x step at r b i f =
@@ -102,7 +103,7 @@ begins_refused A s pid now p x step e es r l i first t =
     refused_comes A s pid e es (on_steps A s s.mark pid now r.runs.on) l (ap (λ (z : Step). z.entries) i ∙ first) t
 
 -- the rest of a step of which bytes went out
-pub goes_on_behind : (A : Inputs) (s : State) (k : Kernel) (image : List ℕ) (pid : ℕ) (now : Bool) (p : Process) (x : Space) (step : Step) (bytes : List ℕ)
+pub goes_on_behind : (A : Inputs) (s : State) (k : Kernel) (image : SwapImage) (pid : ℕ) (now : Bool) (p : Process) (x : Space) (step : Step) (bytes : List ℕ)
     (o e : Entry) (es : List Entry)
     (found : Holdings)
     → At A s k image → IsRunning A s pid now p x → s.point.last ≡ Some (entries.Out pid bytes) → step_at A s.point pid ≡ step → step.entries ≡ o ∷ e ∷ es
@@ -136,6 +137,6 @@ none_unsettled A s pid e = ap (λ (b : Bool). step_loses A s pid && not b) e ∙
     none false = refl
 
 -- who borrowed its space, in the flat machine and in the kernel
-pub borrows : (A : Inputs) (s : State) (k : Kernel) (image : List ℕ) (pid : ℕ) → At A s k image
+pub borrows : (A : Inputs) (s : State) (k : Kernel) (image : SwapImage) (pid : ℕ) → At A s k image
     → is_borrower s.point.flat.processes pid ≡ has_lender k.processes pid
 borrows A s k image pid at = sym (borrows_is k s.point.flat pid at.stands.keeps.coupled.tables)

@@ -2,6 +2,7 @@
 use Rattle.std.proofs.Common.{◌≡◌, ◌⊎◌, inl, inr, ℕ, ◌*◌, ◌/◌, ◌<◌, ◌≤◌, ◌||◌, nat_lt, Bool, true, false, cond, List, [], ◌∷◌, find, length, Option, Some, Result, Ok, Err, refl, sym, ap, ◌∙◌, subst, arith}
 use Rattle.std.specs.Prelude.{is_ok, nat_le, ◌==◌}
 use Rattle.std.proofs.lemmas.Bool.{le-ltb, lt-ltb}
+use Rattle.vm_facts.specs.SwapImages.{SwapImage}
 use Rattle.io_edge.specs.FileHolding.{NamedFile}
 use Rattle.vm_facts.specs.Answers.{Answers}
 use Rattle.vm_facts.specs.declared.entry.Entry.{Entry}
@@ -88,7 +89,7 @@ break_entry : (b : Bool) (images : List NamedImage) (F : FlatState) (p : Process
 break_entry true images F p effect regs pages stack = (call_entry p.pid system_calls.Break (replied regs false 0), refl, tt)
 break_entry false images F p effect regs pages stack = (call_entry p.pid system_calls.Break (replied effect.regs true no_memory), refl, tt)
 
-module _ (A : Inputs) (s : State) (old : Standing) (holds : Option (List NamedFile)) (image : List ℕ) (pid : ℕ) (now : Bool) (p : Process) (x : Space) (effect : Effect)
+module _ (A : Inputs) (s : State) (old : Standing) (holds : Option (List NamedFile)) (image : SwapImage) (pid : ℕ) (now : Bool) (p : Process) (x : Space) (effect : Effect)
     (h : RunsOn A s old holds image pid now p x) (m : MakesCall old p x effect system_calls.Break) where
   abbrev k : Kernel
   k = old.kernel
@@ -210,16 +211,16 @@ module _ (A : Inputs) (s : State) (old : Standing) (holds : Option (List NamedFi
         (none_refused A s k image pid now p x step h.machine.at h.running (unrefused s.point.last pid h.between) (step_is few) (ap is_ok (none_wanted (let a = fewer in omega (arith, a)))))
         (step_is few) (dropped_pages x (is_borrower flat.processes pid) pages (stack_held k pid) (let a = data_is in omega (arith, a, fewer)))
 
-    settled_on : (between : Standing) (j : Option (List ℕ)) → pages < pages_held k pid → HasSettled old between (space_of_pid k pid) holds (Some image) j
+    settled_on : (between : Standing) (j : Option SwapImage) → pages < pages_held k pid → HasSettled old between (space_of_pid k pid) holds (Some image) j
         → IsSettled A s old between holds image j pid now p x
     settled_on between j fewer g =
         has_settled A s old holds image pid now p x h.machine h.running (leaving fewer) between j (subst (λ (n : ℕ). HasSettled old between n holds (Some image) j) held g)
 
-    runs_settled : (between : Standing) (j : Option (List ℕ)) (t : IsSettled A s old between holds image j pid now p x) → RunsOn A t.state between holds t.behind pid now p x
+    runs_settled : (between : Standing) (j : Option SwapImage) (t : IsSettled A s old between holds image j pid now p x) → RunsOn A t.state between holds t.behind pid now p x
     runs_settled between j t =
         record { machine = t.machine; running = t.running; between = subst (λ (y : Point). IsBetween y.last) (sym t.same.point) h.between }
 
-    cut_made : (new : Standing) (j : Option (List ℕ)) (c : Called) → CutData old new pid effect.regs pages holds (Some image) j c → CallLeads A s k image x c new.kernel j
+    cut_made : (new : Standing) (j : Option SwapImage) (c : Called) → CutData old new pid effect.regs pages holds (Some image) j c → CallLeads A s k image x c new.kernel j
     cut_made new j c g =
         let between : Standing = g.between in
         let few : pages ≤ 4096 = let a = few_held in let b = g.fewer in omega (arith, a, b) in
@@ -241,7 +242,7 @@ module _ (A : Inputs) (s : State) (old : Standing) (holds : Option (List NamedFi
         let made : StepLeads A t.state l t.behind 1 new.kernel (Some t.behind) =
         answers_settled A t.state between new.kernel holds t.behind pid now p x effect system_calls.Break r after change l.holdings on m.names there
         (ap (replied_step A.images t.state.point.flat p system_calls.Break effect) (few_is few)) tt tt t.settles wants got.1.step in
-        subst (λ (o : Option (List ℕ)). CallLeads A s k image x c new.kernel o) (sym t.told)
+        subst (λ (o : Option SwapImage). CallLeads A s k image x c new.kernel o) (sym t.told)
         (subst (λ (z : Called). CallLeads A s k image x z new.kernel (Some t.behind)) (sym got.0)
         (leads_then A s t.state k l new.kernel image t.behind (Some t.behind) t.units 1 t.leads t.same.count t.same.lines t.same.mark made))
 
@@ -250,8 +251,8 @@ module _ (A : Inputs) (s : State) (old : Standing) (holds : Option (List NamedFi
     plain_made new c (inr (inl g)) = grown_made new c g
     plain_made new c (inr (inr g)) = refused_made new c g
 
-    moves_made : (new : Standing) (j : Option (List ℕ)) (c : Called) → MovesEnd old new pid effect.regs pages holds (Some image) j c → CallLeads A s k image x c new.kernel j
-    moves_made new j c (inl g) = subst (λ (o : Option (List ℕ)). CallLeads A s k image x c new.kernel o) (sym g.1) (plain_made new c g.0)
+    moves_made : (new : Standing) (j : Option SwapImage) (c : Called) → MovesEnd old new pid effect.regs pages holds (Some image) j c → CallLeads A s k image x c new.kernel j
+    moves_made new j c (inl g) = subst (λ (o : Option SwapImage). CallLeads A s k image x c new.kernel o) (sym g.1) (plain_made new c g.0)
     moves_made new j c (inr g) = cut_made new j c g
 
     -- Where the run stops.
@@ -272,7 +273,7 @@ module _ (A : Inputs) (s : State) (old : Standing) (holds : Option (List NamedFi
     stops_plainly new stop (inr g) =
         refused_stops A s old holds image pid now p x effect system_calls.Break r after change m.names called (few_is g.1) refl (no_pieces g.1 g.2) new stop g.3
 
-    stops_cutting : (new : Standing) (j : Option (List ℕ)) (stop : Stop) → pages < pages_held k pid
+    stops_cutting : (new : Standing) (j : Option SwapImage) (stop : Stop) → pages < pages_held k pid
         → StopsSettling (space_of_pid k pid) old new holds (Some image) j stop
         ⊎ StopsOnce (λ m. HasSettled old m (space_of_pid k pid) holds (Some image) j) (λ m. StopsBefore m new stop)
         → StopLeads A s k image stop new j
@@ -282,28 +283,28 @@ module _ (A : Inputs) (s : State) (old : Standing) (holds : Option (List NamedFi
     stops_cutting new j stop fewer (inr y) =
         let t : IsSettled A s old y.reached holds image j pid now p x = settled_on y.reached j fewer y.far in
         let left = left_at t.state t.same.point in
-        subst (λ (o : Option (List ℕ)). StopLeads A s k image stop new o) (sym t.told)
+        subst (λ (o : Option SwapImage). StopLeads A s k image stop new o) (sym t.told)
         (stops_then A s t.state k y.reached.kernel image t.behind (Some t.behind) t.units stop new t.leads
         (stopped_here A t.state y.reached new t.behind pid now p x left.0 [] stop t.machine.at t.running t.unwanted left.1 left.2 y.stops))
 
-    stops_moving : (new : Standing) (j : Option (List ℕ)) (stop : Stop) → StopsBreaking old new pid pages holds (Some image) j stop → StopLeads A s k image stop new j
-    stops_moving new j stop (inl g) = subst (λ (o : Option (List ℕ)). StopLeads A s k image stop new o) (sym g.1) (stops_plainly new stop g.0)
+    stops_moving : (new : Standing) (j : Option SwapImage) (stop : Stop) → StopsBreaking old new pid pages holds (Some image) j stop → StopLeads A s k image stop new j
+    stops_moving new j stop (inl g) = subst (λ (o : Option SwapImage). StopLeads A s k image stop new o) (sym g.1) (stops_plainly new stop g.0)
     stops_moving new j stop (inr g) = stops_cutting new j stop g.0 g.1
 
   -- By what the argument reads as.
 
-  break_comes : (new : Standing) (j : Option (List ℕ)) (c : Called) (o : Result ℕ Refused) → run memory (argument effect.regs 1) ≡ o → BreakComes old new pid effect.regs o holds (Some image) j c
+  break_comes : (new : Standing) (j : Option SwapImage) (c : Called) (o : Result ℕ Refused) → run memory (argument effect.regs 1) ≡ o → BreakComes old new pid effect.regs o holds (Some image) j c
       → CallLeads A s k image x c new.kernel j
   break_comes new j c (Ok address) e g = moves_made address e new j c g
   break_comes new j c (Err refused) e g =
-      subst (λ (o : Option (List ℕ)). CallLeads A s k image x c new.kernel o) (sym g.1)
+      subst (λ (o : Option SwapImage). CallLeads A s k image x c new.kernel o) (sym g.1)
       (comes_made A s old new holds image pid now p x effect system_calls.Break (Err refused) c h m (asked_is ∙ ap (break_read k pid effect.regs) e) tt g.0)
 
-  stops_at : (new : Standing) (j : Option (List ℕ)) (stop : Stop) (o : Result ℕ Refused) → run memory (argument effect.regs 1) ≡ o → StopsBreak old new pid o holds (Some image) j stop
+  stops_at : (new : Standing) (j : Option SwapImage) (stop : Stop) (o : Result ℕ Refused) → run memory (argument effect.regs 1) ≡ o → StopsBreak old new pid o holds (Some image) j stop
       → StopLeads A s k image stop new j
   stops_at new j stop (Ok address) e g = stops_moving address e new j stop g
   stops_at new j stop (Err refused) e g =
-      subst (λ (o : Option (List ℕ)). StopLeads A s k image stop new o) (sym g.1)
+      subst (λ (o : Option SwapImage). StopLeads A s k image stop new o) (sym g.1)
       (stops_reading A s old new holds image pid now p x effect system_calls.Break refused stop h m (asked_is ∙ ap (break_read k pid effect.regs) e) g.0)
 
 pub break_made : BreakIsMade

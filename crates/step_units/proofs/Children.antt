@@ -1,6 +1,7 @@
 -- What a call comes to with which a process makes another.
 use Rattle.std.proofs.Common.{◌≡◌, ℕ, nat_lt, Bool, true, false, List, [], Option, refl, sym, ap, ◌∙◌}
 use Rattle.std.specs.Prelude.{Result, Ok}
+use Rattle.vm_facts.specs.SwapImages.{SwapImage}
 use Rattle.io_edge.specs.FileHolding.{NamedFile}
 use Rattle.vm_facts.specs.Answers.{Answers}
 use Rattle.vm_facts.specs.declared.regs.Regs.{Regs}
@@ -55,7 +56,7 @@ reply_told k F regs change t =
     ∙ ap (λ (n : ℕ). child_by (is_below_limit k) regs n (change n)) (sym t.next_pid)
 
 -- the process waits for no page, and its call comes to that
-pub child_called : (A : Inputs) (s : State) (old : Standing) (holds : Option (List NamedFile)) (image : List ℕ) (pid : ℕ) (now : Bool) (p : Process) (x : Space)
+pub child_called : (A : Inputs) (s : State) (old : Standing) (holds : Option (List NamedFile)) (image : SwapImage) (pid : ℕ) (now : Bool) (p : Process) (x : Space)
     (effect : Effect) (call : SystemCall)
     (change : ℕ → Change)
     → AsksChild call change → RunsOn A s old holds image pid now p x → MakesCall old p x effect call

@@ -1,5 +1,6 @@
 -- Pages of a child are copied by next units of a run.
 use Rattle.std.proofs.Common.{◌≡◌, inl, inr, ℕ, true, List, [], ◌∷◌, Option, Some, refl, sym, ap, ◌∙◌, subst}
+use Rattle.vm_facts.specs.SwapImages.{SwapImage}
 use Rattle.vm_facts.specs.declared.page.Page.{Page}
 use Rattle.vm_facts.specs.declared.entry.Entry.{Entry}
 use Rattle.vm_facts.specs.declared.entry.Entry.TheVariants as entries
@@ -34,7 +35,7 @@ use Rattle.step_units.proofs.Filling.{LeadsTo, stays, goes_on, forced_fill, fill
 -- The parent's page.
 
 -- once it is valid, the child's page is filled by a copy
-record Brought (A : Inputs) (s : State) (m served : Standing) (holds : Option (List NamedFile)) (image : List ℕ) (i : Option (List ℕ)) (child parent : Page)
+record Brought (A : Inputs) (s : State) (m served : Standing) (holds : Option (List NamedFile)) (image : SwapImage) (i : Option SwapImage) (child parent : Page)
     (ds : List Due) : Type 0 where
   pub units : List Entry
   pub led : LeadsDue A s m.kernel image units served.kernel i
@@ -43,7 +44,7 @@ record Brought (A : Inputs) (s : State) (m served : Standing) (holds : Option (L
   pub due : led.state.place.due ≡ CopyOf child parent ∷ ds
   pub first : FillsFirst led.state.place led.state.place.due (entries.Copy child) (parent ∷ [])
 
-brought : (A : Inputs) (s : State) (m served : Standing) (holds : Option (List NamedFile)) (image : List ℕ) (i : Option (List ℕ))
+brought : (A : Inputs) (s : State) (m served : Standing) (holds : Option (List NamedFile)) (image : SwapImage) (i : Option SwapImage)
     (child parent : Page) (ds : List Due)
     → At A s m.kernel image
     → AreImages m.images holds A.images → s.place.due ≡ CopyOf child parent ∷ ds → ServesNow (parent ∷ []) parent m served holds (Some image) i
@@ -65,14 +66,14 @@ brought A s m served holds image i child parent ds at images d serves =
 
 -- One page.
 
-copied_images : (A : Inputs) (old new : Standing) (holds : Option (List NamedFile)) (i j : Option (List ℕ)) (child parent : Page)
+copied_images : (A : Inputs) (old new : Standing) (holds : Option (List NamedFile)) (i j : Option SwapImage) (child parent : Page)
     → AreImages old.images holds A.images
     → CopiesPage child parent old new holds i j → AreImages new.images holds A.images
 copied_images A old new holds i j child parent images c =
     subst (λ (ns : List ImageNamed). AreImages ns holds A.images)
     (sym (ap (λ (m : Standing). m.images) c.copies ∙ c.forces.makes.beside.images ∙ c.serves.0.makes.beside.images)) images
 
-pub page_copied : (A : Inputs) (s : State) (old new : Standing) (holds : Option (List NamedFile)) (image : List ℕ) (j : Option (List ℕ))
+pub page_copied : (A : Inputs) (s : State) (old new : Standing) (holds : Option (List NamedFile)) (image : SwapImage) (j : Option SwapImage)
     (child parent : Page) (ds : List Due)
     → At A s old.kernel image
     → AreImages old.images holds A.images → s.place.due ≡ CopyOf child parent ∷ ds → CopiesPage child parent old new holds (Some image) j
@@ -80,37 +81,37 @@ pub page_copied : (A : Inputs) (s : State) (old new : Standing) (holds : Option 
 page_copied A s old new holds image j child parent ds at images d c =
     let b : Brought A s old c.served holds image c.behind child parent ds = brought A s old c.served holds image c.behind child parent ds at images d c.serves in
     let t : State = b.led.state in
-    let behind : List ℕ = b.led.leads.behind in
+    let behind : SwapImage = b.led.leads.behind in
     let filled : LeadsTo A t c.served.kernel behind ds (copy_step c.roomy.kernel child) j =
     forced_fill A t c.served c.roomy holds behind j (CopyOf child parent) ds (parent ∷ []) b.at b.images b.due b.first
-    (subst (λ (o : Option (List ℕ)). Forced (parent ∷ []) c.served c.roomy holds o j) b.led.leads.told c.forces) in
+    (subst (λ (o : Option SwapImage). Forced (parent ∷ []) c.served c.roomy holds o j) b.led.leads.told c.forces) in
     subst (λ (m : Standing). LeadsTo A s old.kernel image ds m.kernel j) (sym c.copies)
     (goes_on A s t old.kernel c.served.kernel (copy_step c.roomy.kernel child) image behind j b.units ds
     (led_told A s t old.kernel c.served.kernel image c.behind b.units b.led.leads) b.led.same filled)
 
 -- All pages.
 
-pub all_copied : (ds : List Due) (A : Inputs) (s : State) (old new : Standing) (holds : Option (List NamedFile)) (image : List ℕ) (j : Option (List ℕ))
+pub all_copied : (ds : List Due) (A : Inputs) (s : State) (old new : Standing) (holds : Option (List NamedFile)) (image : SwapImage) (j : Option SwapImage)
     → At A s old.kernel image
     → AreImages old.images holds A.images → s.place.due ≡ ds → CopiesAll ds old new holds (Some image) j → LeadsTo A s old.kernel image [] new.kernel j
 all_copied [] A s old new holds image j at images d c =
     subst (λ (m : Standing). LeadsTo A s old.kernel image [] m.kernel j) (sym c.0)
-    (subst (λ (o : Option (List ℕ)). LeadsTo A s old.kernel image [] old.kernel o) (sym c.1) (stays A s old.kernel image [] d))
+    (subst (λ (o : Option SwapImage). LeadsTo A s old.kernel image [] old.kernel o) (sym c.1) (stays A s old.kernel image [] d))
 all_copied (Start q ∷ ds) A s old new holds image j at images d c = absurd c
 all_copied (CopyOf child parent ∷ ds) A s old new holds image j at images d c =
     let next : Standing = c.0 in
     let one : LeadsTo A s old.kernel image ds next.kernel c.1 = page_copied A s old next holds image c.1 child parent ds at images d c.2 in
     let t : State = one.state in
-    let behind : List ℕ = one.leads.behind in
+    let behind : SwapImage = one.leads.behind in
     let more : LeadsTo A t next.kernel behind [] new.kernel j =
     all_copied ds A t next new holds behind j (led_at A s t old.kernel next.kernel image c.1 one.units at one.leads)
     (copied_images A old next holds (Some image) c.1 child parent images c.2) one.due
-    (subst (λ (o : Option (List ℕ)). CopiesAll ds next new holds o j) one.leads.told c.3) in
+    (subst (λ (o : Option SwapImage). CopiesAll ds next new holds o j) one.leads.told c.3) in
     goes_on A s t old.kernel next.kernel new.kernel image behind j one.units [] (led_told A s t old.kernel next.kernel image c.1 one.units one.leads) one.same more
 
 -- Stops.
 
-serving_stops : (A : Inputs) (s : State) (m new : Standing) (holds : Option (List NamedFile)) (image : List ℕ) (j : Option (List ℕ)) (child parent : Page)
+serving_stops : (A : Inputs) (s : State) (m new : Standing) (holds : Option (List NamedFile)) (image : SwapImage) (j : Option SwapImage) (child parent : Page)
     (ds : List Due) (stop : Stop)
     → At A s m.kernel image → AreImages m.images holds A.images → s.place.due ≡ CopyOf child parent ∷ ds
     → StopsServing true (parent ∷ []) parent m new holds (Some image) j stop
@@ -119,15 +120,15 @@ serving_stops A s m new holds image j child parent ds stop at images d h =
     let led : LeadsDue A s m.kernel image h.units h.at h.image =
     bringing h.units A (ground m holds (parent ∷ [])) s m.kernel h.at image h.image child parent ds at images refl d h.leads h.made in
     let t : State = led.state in
-    let behind : List ℕ = led.leads.behind in
+    let behind : SwapImage = led.leads.behind in
     let here : h.at.place ≡ t.place = (led_at A s t m.kernel h.at image h.image h.units at led.leads).stands.place in
     let u : Entry = h.there.entry in
     let next : next_unit A t ≡ Some u =
     brought_next A t child parent ds u (led.due ∙ d) (subst (λ (p : Placement). serve_unit p parent true ≡ Some u) here h.there.next) in
     stops_then A s t m.kernel h.at image behind j h.units stop new (led_told A s t m.kernel h.at image h.image h.units led.leads)
-    (stop_at A t h.at behind u stop new j next (subst (λ (o : Option (List ℕ)). StopsAt u h.at o stop new j) led.leads.told h.there.stops))
+    (stop_at A t h.at behind u stop new j next (subst (λ (o : Option SwapImage). StopsAt u h.at o stop new j) led.leads.told h.there.stops))
 
-behind_stops : (A : Inputs) (s : State) (old new : Standing) (holds : Option (List NamedFile)) (image : List ℕ) (told j : Option (List ℕ)) (child parent : Page)
+behind_stops : (A : Inputs) (s : State) (old new : Standing) (holds : Option (List NamedFile)) (image : SwapImage) (told j : Option SwapImage) (child parent : Page)
     (ds : List Due) (stop : Stop)
     → At A s old.kernel image → AreImages old.images holds A.images → s.place.due ≡ CopyOf child parent ∷ ds
     → StopsOnce (λ m. ServesNow (parent ∷ []) parent old m holds (Some image) told)
@@ -137,12 +138,12 @@ behind_stops A s old new holds image told j child parent ds stop at images d h =
     let served : Standing = h.reached in
     let b : Brought A s old served holds image told child parent ds = brought A s old served holds image told child parent ds at images d h.far in
     let t : State = b.led.state in
-    let behind : List ℕ = b.led.leads.behind in
+    let behind : SwapImage = b.led.leads.behind in
     stops_then A s t old.kernel served.kernel image behind j b.units stop new (led_told A s t old.kernel served.kernel image told b.units b.led.leads)
     (filling_stops A t served new holds behind j (entries.Copy child) (parent ∷ []) stop b.at b.images b.first
-    (subst (λ (o : Option (List ℕ)). StopsFilling (entries.Copy child) (parent ∷ []) served new holds o j stop) b.led.leads.told h.stops))
+    (subst (λ (o : Option SwapImage). StopsFilling (entries.Copy child) (parent ∷ []) served new holds o j stop) b.led.leads.told h.stops))
 
-pub page_stops : (A : Inputs) (s : State) (old new : Standing) (holds : Option (List NamedFile)) (image : List ℕ) (j : Option (List ℕ)) (child parent : Page)
+pub page_stops : (A : Inputs) (s : State) (old new : Standing) (holds : Option (List NamedFile)) (image : SwapImage) (j : Option SwapImage) (child parent : Page)
     (ds : List Due) (stop : Stop)
     → At A s old.kernel image → AreImages old.images holds A.images → s.place.due ≡ CopyOf child parent ∷ ds
     → StopsPage child parent old new holds (Some image) j stop
@@ -152,8 +153,8 @@ page_stops A s old new holds image j child parent ds stop at images d h = elim h
   | inr x ↦ behind_stops A s old new holds image x.0 j child parent ds stop at images d x.1
 ]
 
-pub copying_stops : (ds : List Due) (A : Inputs) (s : State) (old new : Standing) (holds : Option (List NamedFile)) (image : List ℕ)
-    (j : Option (List ℕ)) (stop : Stop)
+pub copying_stops : (ds : List Due) (A : Inputs) (s : State) (old new : Standing) (holds : Option (List NamedFile)) (image : SwapImage)
+    (j : Option SwapImage) (stop : Stop)
     → At A s old.kernel image
     → AreImages old.images holds A.images → s.place.due ≡ ds → StopsCopying ds old new holds (Some image) j stop → StopLeads A s old.kernel image stop new j
 copying_stops [] A s old new holds image j stop at images d h = absurd h
@@ -164,8 +165,8 @@ copying_stops (CopyOf child parent ∷ ds) A s old new holds image j stop at ima
       let next : Standing = x.1.reached in
       let one : LeadsTo A s old.kernel image ds next.kernel x.0 = page_copied A s old next holds image x.0 child parent ds at images d x.1.far in
       let t : State = one.state in
-      let behind : List ℕ = one.leads.behind in
+      let behind : SwapImage = one.leads.behind in
       stops_then A s t old.kernel next.kernel image behind j one.units stop new (led_told A s t old.kernel next.kernel image x.0 one.units one.leads)
       (copying_stops ds A t next new holds behind j stop (led_at A s t old.kernel next.kernel image x.0 one.units at one.leads)
-      (copied_images A old next holds (Some image) x.0 child parent images x.1.far) one.due (subst (λ (o : Option (List ℕ)). StopsCopying ds next new holds o j stop) one.leads.told x.1.stops))
+      (copied_images A old next holds (Some image) x.0 child parent images x.1.far) one.due (subst (λ (o : Option SwapImage). StopsCopying ds next new holds o j stop) one.leads.told x.1.stops))
 ]

@@ -1,6 +1,7 @@
 -- The end of a process, and its exit, are its step.
 use Rattle.std.proofs.Common.{◌≡◌, inl, inr, ℕ, Bool, true, false, List, [], ◌∷◌, Option, Some, Result, Ok, Err, refl, sym, ap, ◌∙◌, subst, ◌%◌, ◌*◌}
 use Rattle.std.specs.Prelude.{is_ok}
+use Rattle.vm_facts.specs.SwapImages.{SwapImage}
 use Rattle.io_edge.specs.FileHolding.{NamedFile}
 use Rattle.vm_facts.specs.declared.entry.Entry.{Entry}
 use Rattle.vm_facts.specs.declared.entry.Entry.TheVariants as entries
@@ -62,7 +63,7 @@ returned_place : (b : Bool) (k : Kernel) (pid : ℕ) → (returned b k pid).plac
 returned_place true k pid = refl
 returned_place false k pid = refl
 
-module _ (A : Inputs) (s : State) (old : Standing) (holds : Option (List NamedFile)) (image : List ℕ) (pid : ℕ) (now : Bool) (p : Process) (x : Space) (status : ℕ)
+module _ (A : Inputs) (s : State) (old : Standing) (holds : Option (List NamedFile)) (image : SwapImage) (pid : ℕ) (now : Bool) (p : Process) (x : Space) (status : ℕ)
     (m : MachineAt A s old holds image) (r : IsRunning A s pid now p x) (ends : EndsWith A s pid p status) where
   abbrev step : Step
   step = ended_step A.images s.point.flat p [] status
@@ -82,7 +83,7 @@ module _ (A : Inputs) (s : State) (old : Standing) (holds : Option (List NamedFi
   gives : GivesUp A s pid now p x
   gives = record { running = r; unwanted = ends.unwanted; fits = goes; gives = subst (λ (z : Step). GivesBack z.change) (sym ends.step) tt }
 
-  pub ended : (new : Standing) (j : Option (List ℕ)) → HasEnded old new pid status holds (Some image) j → StepLeads A s old.kernel image 1 new.kernel j
+  pub ended : (new : Standing) (j : Option SwapImage) → HasEnded old new pid status holds (Some image) j → StepLeads A s old.kernel image 1 new.kernel j
   ended new j h =
       let between : Standing = h.between in
       let l : Left A s old between image pid now p x j = has_left A s old holds image pid now p x m gives between j h.left in
@@ -105,10 +106,10 @@ module _ (A : Inputs) (s : State) (old : Standing) (holds : Option (List NamedFi
       complete_leads A l.state l.kernel new.kernel bytes pid u
       (completes A l.state l.kernel new.kernel bytes pid now u at l.gives.running.runs l.gives.unwanted (left_acts A s old between image pid now p x j l u ends.begins first) refl
       (due_left A s old between image pid now p x j l u ends.begins first) one clear) in
-      subst (λ (o : Option (List ℕ)). StepLeads A s old.kernel image 1 new.kernel o) (sym l.told)
+      subst (λ (o : Option SwapImage). StepLeads A s old.kernel image 1 new.kernel o) (sym l.told)
       (leads_then A s l.state old.kernel l.kernel new.kernel image bytes (Some bytes) l.units 1 l.leads l.same.count l.same.lines l.same.mark led)
 
-  pub end_stops : (new : Standing) (j : Option (List ℕ)) (stop : Stop) → StopsAlive old new pid holds (Some image) j stop
+  pub end_stops : (new : Standing) (j : Option SwapImage) (stop : Stop) → StopsAlive old new pid holds (Some image) j stop
       → StopLeads A s old.kernel image stop new j
   end_stops new j stop h = elim h [
     | inl y ↦ stops_leaving A s old holds image pid now p x m gives (entries.Ended pid status) new j stop ends.begins first tt y
@@ -130,7 +131,7 @@ exit_asked : (images : List NamedImage) (F : FlatState) (p : Process) (x : Space
 unfolding reply_of
 exit_asked images F p x effect = refl
 
-module _ (A : Inputs) (s : State) (old new : Standing) (holds : Option (List NamedFile)) (image : List ℕ) (behind : Option (List ℕ)) (pid : ℕ) (now : Bool) (p : Process) (x : Space) (effect : Effect)
+module _ (A : Inputs) (s : State) (old new : Standing) (holds : Option (List NamedFile)) (image : SwapImage) (behind : Option SwapImage) (pid : ℕ) (now : Bool) (p : Process) (x : Space) (effect : Effect)
     (on : RunsOn A s old holds image pid now p x) (makes : MakesCall old p x effect system_calls.Exit) where
   abbrev memory : Answers
   memory = kernel_answers old.kernel x.sid
@@ -164,7 +165,7 @@ module _ (A : Inputs) (s : State) (old new : Standing) (holds : Option (List Nam
       go (Ok (Writes out)) e c = absurd c
       go (Ok Waits) e c = absurd c
       go (Err refused) e c =
-          subst (λ (o : Option (List ℕ)). CallLeads A s old.kernel image x called new.kernel o) (sym c.1)
+          subst (λ (o : Option SwapImage). CallLeads A s old.kernel image x called new.kernel o) (sym c.1)
           (refusal A s old new holds image pid now p x effect system_calls.Exit refused called on makes (asked_is ∙ e) c.0)
 
   pub exit_stops : (stop : Stop) → RefusedCallStops → StopsExit old new pid (run memory (exit_reply effect.regs)) holds (Some image) behind stop
@@ -181,5 +182,5 @@ module _ (A : Inputs) (s : State) (old new : Standing) (holds : Option (List Nam
       go : (r : Result Reply Refused) → run memory (exit_reply effect.regs) ≡ r → StopsExit old new pid r holds (Some image) behind stop → StopLeads A s old.kernel image stop new behind
       go (Ok reply) e c = ends reply (run_gives IsExit memory (exit_reply effect.regs) reply (exit_gives effect.regs) e) e c
       go (Err refused) e c =
-          subst (λ (o : Option (List ℕ)). StopLeads A s old.kernel image stop new o) (sym c.1)
+          subst (λ (o : Option SwapImage). StopLeads A s old.kernel image stop new o) (sym c.1)
           (refusal A s old new holds image pid now p x effect system_calls.Exit refused stop on makes (asked_is ∙ e) c.0)

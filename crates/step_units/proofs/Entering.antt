@@ -2,6 +2,7 @@
 use Rattle.std.proofs.Common.{◌≡◌, ◌⊎◌, inl, inr, ℕ, ◌+◌, ◌<◌, ◌≤◌, Bool, false, List, [], ◌∷◌, ◌++◌, length, Option, Some, None, Ok, refl, sym, ap, ◌∙◌, subst, arith}
 use Rattle.std.proofs.lemmas.List.{length-append}
 use Rattle.std.proofs.lemmas.Option.{same_Some}
+use Rattle.vm_facts.specs.SwapImages.{SwapImage}
 use Rattle.io_edge.specs.FileHolding.{NamedFile}
 use Rattle.vm_facts.specs.declared.entry.Entry.{Entry}
 use Rattle.vm_facts.specs.declared.entry.Entry.TheVariants as entries
@@ -49,16 +50,16 @@ use Rattle.step_units.proofs.Behind.{StepEnds, step_ends, KeepsDue, change_due}
 -- One unit of a process.
 
 -- the headers of a machine's images are those of the run's
-pub headers : (A : Inputs) (s : State) (m : Standing) (holds : Option (List NamedFile)) (image : List ℕ) → MachineAt A s m holds image
+pub headers : (A : Inputs) (s : State) (m : Standing) (holds : Option (List NamedFile)) (image : SwapImage) → MachineAt A s m holds image
     → facts_named m.images ≡ facts_of A.images
 headers A s m holds image h = headers_agree A (ground m holds []) h.images
 
-pub entry_leads : (A : Inputs) (s : State) (k l : Kernel) (image : List ℕ) (pid : ℕ) (now : Bool) (e : Entry) → ProcessRuns A s pid now → wanted A s ≡ None
+pub entry_leads : (A : Inputs) (s : State) (k l : Kernel) (image : SwapImage) (pid : ℕ) (now : Bool) (e : Entry) → ProcessRuns A s pid now → wanted A s ≡ None
     → act A s pid ≡ Some e
     → MadeAs A s k image e l (Some image) → Leads A s k image (e ∷ []) (after A s e) l (Some image)
 entry_leads A s k l image pid now e r w a m =
     let t : State = after A s e in
-    subst (λ (o : Option (List ℕ)). Leads A s k image (e ∷ []) t l o) (sym m.told)
+    subst (λ (o : Option SwapImage). Leads A s k image (e ∷ []) t l o) (sym m.told)
     (first_leads A s t k l l image (Some image) (Some (unit_image k image e)) e [] (runs_next A s pid now e r w a) m (none_leads A t l (unit_image k image e)))
 
 between_ends : (pid : ℕ) (e : Entry) → EndsStep pid e → IsBetween (Some e)
@@ -67,14 +68,14 @@ between_ends pid (entries.Out q bytes) c = absurd c
 between_ends pid _ c = tt
 
 -- the last entry of a step was made, and no page is due after it
-pub record IsComplete (A : Inputs) (s : State) (k l : Kernel) (image : List ℕ) (pid : ℕ) (e : Entry) : Type 0 where
+pub record IsComplete (A : Inputs) (s : State) (k l : Kernel) (image : SwapImage) (pid : ℕ) (e : Entry) : Type 0 where
   pub leads : Leads A s k image (e ∷ []) (after A s e) l (Some image)
   pub there : At A (after A s e) l image
   pub clear : (after A s e).place.due ≡ []
   pub between : IsBetween (after A s e).point.last
   pub ends : StepEnds A s pid e (after A s e)
 
-pub completes : (A : Inputs) (s : State) (k l : Kernel) (image : List ℕ) (pid : ℕ) (now : Bool) (e : Entry) → At A s k image → ProcessRuns A s pid now
+pub completes : (A : Inputs) (s : State) (k l : Kernel) (image : SwapImage) (pid : ℕ) (now : Bool) (e : Entry) → At A s k image → ProcessRuns A s pid now
     → wanted A s ≡ None → act A s pid ≡ Some e
     → EndsStep pid e → due_at A s.point pid ≡ e ∷ [] → MadeAs A s k image e l (Some image) → l.place.due ≡ []
     → IsComplete A s k l image pid e
@@ -91,7 +92,7 @@ completes A s k l image pid now e at r w a c d m clear =
       ends = ends;
     }
 
-abbrev pub complete_leads : (A : Inputs) (s : State) (k l : Kernel) (image : List ℕ) (pid : ℕ) (e : Entry) → IsComplete A s k l image pid e
+abbrev pub complete_leads : (A : Inputs) (s : State) (k l : Kernel) (image : SwapImage) (pid : ℕ) (e : Entry) → IsComplete A s k l image pid e
     → StepLeads A s k image (counted e) l (Some image)
 complete_leads A s k l image pid e h = record {
   units = e ∷ [];
@@ -106,13 +107,13 @@ complete_leads A s k l image pid e h = record {
 
 -- Units after others.
 
-pub leads_both : (A : Inputs) (s t r : State) (k l m : Kernel) (image mid : List ℕ) (j : Option (List ℕ)) (us vs : List Entry)
+pub leads_both : (A : Inputs) (s t r : State) (k l m : Kernel) (image mid : SwapImage) (j : Option SwapImage) (us vs : List Entry)
     → Leads A s k image us t l (Some mid) → Leads A t l mid vs r m j
     → Leads A s k image (us ++ vs) r m j
 leads_both A s t r k l m image mid j us vs a b =
-    both_lead A s t r k l m image (Some mid) j us vs a (λ x e. subst (λ (i : List ℕ). Leads A t l i vs r m j) (same_Some mid x e) b)
+    both_lead A s t r k l m image (Some mid) j us vs a (λ x e. subst (λ (i : SwapImage). Leads A t l i vs r m j) (same_Some mid x e) b)
 
-pub leads_then : (A : Inputs) (s t : State) (k l m : Kernel) (image mid : List ℕ) (j : Option (List ℕ)) (us : List Entry) (n : ℕ)
+pub leads_then : (A : Inputs) (s t : State) (k l m : Kernel) (image mid : SwapImage) (j : Option SwapImage) (us : List Entry) (n : ℕ)
     → Leads A s k image us t l (Some mid)
     → t.count ≡ s.count → t.lines ≡ s.lines → t.mark ≡ s.mark → StepLeads A t l mid n m j → StepLeads A s k image n m j
 leads_then A s t k l m image mid j us n a count lines mark b = record {
@@ -133,7 +134,7 @@ ends_step pid (entries.Ran q n) c = absurd c
 ends_step pid _ c = c
 
 -- an entry with the change of its step, once the pieces were found, where no space passes and no page is due after it
-pub entered : (A : Inputs) (s : State) (old : Standing) (l : Kernel) (holds : Option (List NamedFile)) (image : List ℕ) (pid : ℕ) (now : Bool) (p : Process)
+pub entered : (A : Inputs) (s : State) (old : Standing) (l : Kernel) (holds : Option (List NamedFile)) (image : SwapImage) (pid : ℕ) (now : Bool) (p : Process)
     (x : Space) (step : Step) (e : Entry)
     (found : Holdings)
     → MachineAt A s old holds image → IsRunning A s pid now p x → wanted A s ≡ None → act A s pid ≡ Some e → Completes pid e → due_at A s.point pid ≡ e ∷ []
@@ -150,7 +151,7 @@ entered A s old l holds image pid now p x step e found h r w a c d i n passes du
     (ap (λ (y : Kernel). y.place.due) m ∙ change_due (facts_named old.images) (with_holdings k found) pid step.regs e step.change dues ∙ ap (λ (y : Placement). y.due) h.at.stands.place ∙ r.runs.clear)
 
 -- the same between two steps, where no space has to settle
-pub enters : (A : Inputs) (s : State) (old : Standing) (l : Kernel) (holds : Option (List NamedFile)) (image : List ℕ) (pid : ℕ) (now : Bool) (p : Process)
+pub enters : (A : Inputs) (s : State) (old : Standing) (l : Kernel) (holds : Option (List NamedFile)) (image : SwapImage) (pid : ℕ) (now : Bool) (p : Process)
     (x : Space) (step : Step) (e : Entry)
     (found : Holdings)
     → RunsOn A s old holds image pid now p x → wanted A s ≡ None → must_settle A s pid ≡ false → Completes pid e
@@ -179,7 +180,7 @@ longer : (journal : List Entry) (e : Entry) → length journal < length (journal
 longer journal e = let h = length-append journal (e ∷ []) in omega (arith, h)
 
 -- where the journal is at its bound
-full_next : (A : Inputs) (s : State) (k : Kernel) (image : List ℕ) (e : Entry) (new : Standing) → next_unit A s ≡ Some e → IsOwn e
+full_next : (A : Inputs) (s : State) (k : Kernel) (image : SwapImage) (e : Entry) (new : Standing) → next_unit A s ≡ Some e → IsOwn e
     → new.params.journal ≤ length k.journal
     → StopsNext A s k image stops.JournalFull new (Some image)
 full_next A s k image (entries.Out q bytes) new n o b = record { entry = entries.Out q bytes; next = n; full = λ _. (b, longer k.journal (entries.Out q bytes)); cause = inl refl; spoils = refl }
@@ -207,7 +208,7 @@ stops_in old new stop h = record {
   full = λ c. subst (λ (y : Params). y.journal ≤ length old.kernel.journal) (sym h.stopped.params) (h.full c);
 }
 
-stops_by : (A : Inputs) (s : State) (k : Kernel) (new : Standing) (image : List ℕ) (e : Entry) (stop : Stop) → next_unit A s ≡ Some e → IsOwn e
+stops_by : (A : Inputs) (s : State) (k : Kernel) (new : Standing) (image : SwapImage) (e : Entry) (stop : Stop) → next_unit A s ≡ Some e → IsOwn e
     → StopsIn k new stop
     → StopsBy A s k image stop new (Some image)
 stops_by A s k new image e stop n o h = go h.cause
@@ -216,7 +217,7 @@ stops_by A s k new image e stop n o h = go h.cause
     go (inl c) = subst (λ (z : Stop). StopsBy A s k image z new (Some image)) (sym c) (full_next A s k image e new n o (h.full c))
     go (inr c) = subst (λ (z : Stop). StopsBy A s k image z new (Some image)) (sym c) refl
 
-pub stopped_in : (A : Inputs) (s : State) (k : Kernel) (new : Standing) (image : List ℕ) (pid : ℕ) (now : Bool) (e : Entry) (stop : Stop)
+pub stopped_in : (A : Inputs) (s : State) (k : Kernel) (new : Standing) (image : SwapImage) (pid : ℕ) (now : Bool) (e : Entry) (stop : Stop)
     → ProcessRuns A s pid now → wanted A s ≡ None → act A s pid ≡ Some e
     → IsOwn e → StopsIn k new stop → StopLeads A s k image stop new (Some image)
 stopped_in A s k new image pid now e stop r w a o h = record {
@@ -231,13 +232,13 @@ stopped_in A s k new image pid now e stop r w a o h = record {
 }
 
 -- before an entry of a process the run stops where that entry is next
-pub stopped_before : (A : Inputs) (s : State) (old new : Standing) (image : List ℕ) (pid : ℕ) (now : Bool) (e : Entry) (stop : Stop)
+pub stopped_before : (A : Inputs) (s : State) (old new : Standing) (image : SwapImage) (pid : ℕ) (now : Bool) (e : Entry) (stop : Stop)
     → ProcessRuns A s pid now → wanted A s ≡ None → act A s pid ≡ Some e
     → IsOwn e → StopsBefore old new stop → StopLeads A s old.kernel image stop new (Some image)
 stopped_before A s old new image pid now e stop r w a o h = stopped_in A s old.kernel new image pid now e stop r w a o (stops_in old new stop h)
 
 -- for want of memory it stops anywhere
-pub stopped_short : (A : Inputs) (s : State) (old new : Standing) (image : List ℕ) (stop : Stop) → HasStopped old new → stop ≡ stops.NoMemory
+pub stopped_short : (A : Inputs) (s : State) (old new : Standing) (image : SwapImage) (stop : Stop) → HasStopped old new → stop ≡ stops.NoMemory
     → old.before ≡ old.kernel.holdings
     → StopLeads A s old.kernel image stop new (Some image)
 stopped_short A s old new image stop h c w = record {
@@ -252,7 +253,7 @@ stopped_short A s old new image stop h c w = record {
 }
 
 -- after units
-pub stops_then : (A : Inputs) (s t : State) (k l : Kernel) (image mid : List ℕ) (j : Option (List ℕ)) (us : List Entry) (stop : Stop) (new : Standing)
+pub stops_then : (A : Inputs) (s t : State) (k l : Kernel) (image mid : SwapImage) (j : Option SwapImage) (us : List Entry) (stop : Stop) (new : Standing)
     → Leads A s k image us t l (Some mid)
     → StopLeads A t l mid stop new j → StopLeads A s k image stop new j
 stops_then A s t k l image mid j us stop new a b = record {

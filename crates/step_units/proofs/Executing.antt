@@ -14,6 +14,7 @@ use Rattle.run_model.specs.State.{State}
 use Rattle.run_units.specs.Filling.{FillsFirst}
 use Rattle.run_units.specs.Serving.{At}
 use Rattle.std.specs.Prelude.{is_ok}
+use Rattle.vm_facts.specs.SwapImages.{SwapImage}
 use Rattle.vm_facts.specs.Answers.{Answers}
 use Rattle.vm_facts.specs.declared.entry.Entry.{Entry}
 use Rattle.vm_facts.specs.declared.page.Page.TheVariants.{Stack}
@@ -57,15 +58,15 @@ use Rattle.step_units.proofs.Leaving.{Left, has_left, stops_leaving, left_stops}
 start_first : (s : State) (page : Page) → s.place.due ≡ Start page ∷ [] → FillsFirst s.place s.place.due (entries.Zero page) []
 start_first s page e = subst (λ (ds : List Due). FillsFirst s.place ds (entries.Zero page) []) (sym e) (refl, refl)
 
-module _ (A : Inputs) (s : State) (m : Standing) (holds : Option (List NamedFile)) (image : List ℕ) (page : Page) (at : At A s m.kernel image) (images : AreImages m.images holds A.images)
+module _ (A : Inputs) (s : State) (m : Standing) (holds : Option (List NamedFile)) (image : SwapImage) (page : Page) (at : At A s m.kernel image) (images : AreImages m.images holds A.images)
     (first : s.place.due ≡ Start page ∷ []) where
-  pub start_fills : (new : Standing) (j : Option (List ℕ)) → FillsStart page m new holds (Some image) j → LeadsTo A s m.kernel image [] new.kernel j
+  pub start_fills : (new : Standing) (j : Option SwapImage) → FillsStart page m new holds (Some image) j → LeadsTo A s m.kernel image [] new.kernel j
   start_fills new j h =
       subst (λ (k : Kernel). LeadsTo A s m.kernel image [] k j) (sym (ap (λ (n : Standing). n.kernel) h.fills))
       (forced_fill A s m h.roomy holds image j (Start page) [] [] at images first (start_first s page first) h.forces)
 
   -- the run stops as a frame is forced, or at the fill
-  pub start_stops : (new : Standing) (j : Option (List ℕ)) (stop : Stop) → StopsStart page m new holds (Some image) j stop
+  pub start_stops : (new : Standing) (j : Option SwapImage) (stop : Stop) → StopsStart page m new holds (Some image) j stop
       → StopLeads A s m.kernel image stop new j
   start_stops new j stop h = filling_stops A s m new holds image j (entries.Zero page) [] stop at images (start_first s page first) h
 
@@ -91,7 +92,7 @@ exec_replies images regs =
     by argv None = tt
     by argv (Some found) = gives_any IsStart (arguments_at argv) (λ arguments. Gives (starts found arguments)) (start found)
 
-module _ (A : Inputs) (s : State) (old : Standing) (holds : Option (List NamedFile)) (image : List ℕ) (pid : ℕ) (now : Bool) (p : Process) (x : Space) (effect : Effect)
+module _ (A : Inputs) (s : State) (old : Standing) (holds : Option (List NamedFile)) (image : SwapImage) (pid : ℕ) (now : Bool) (p : Process) (x : Space) (effect : Effect)
     (on : RunsOn A s old holds image pid now p x)
     (makes : MakesCall old p x effect Execve) where
   abbrev memory : Answers
@@ -114,16 +115,16 @@ module _ (A : Inputs) (s : State) (old : Standing) (holds : Option (List NamedFi
     first : (step_at A s.point pid).entries ≡ u ∷ []
     first = exec_first A s old holds image pid now p x effect on makes after_regs number top reads
 
-    abbrev Imaged : Standing → Option (List ℕ) → Type 0
+    abbrev Imaged : Standing → Option SwapImage → Type 0
     Imaged new j = IsImaged A s old holds image pid now p x effect on makes after_regs number top reads new j
 
     -- the stack page is filled after it
-    filled : (between new : Standing) (told j : Option (List ℕ)) → Imaged between told → FillsStart page between new holds told j → StepLeads A s old.kernel image 1 new.kernel j
+    filled : (between new : Standing) (told j : Option SwapImage) → Imaged between told → FillsStart page between new holds told j → StepLeads A s old.kernel image 1 new.kernel j
     filled between new told j i h =
         let bytes : List ℕ = i.leads.behind in
         let at : At A i.state between.kernel bytes = led_at A s i.state old.kernel between.kernel image told i.units on.machine.at i.leads in
         let f : LeadsTo A i.state between.kernel bytes [] new.kernel j =
-        start_fills A i.state between holds bytes page at i.images i.due new j (subst (λ (o : Option (List ℕ)). FillsStart page between new holds o j) i.leads.told h) in
+        start_fills A i.state between holds bytes page at i.images i.due new j (subst (λ (o : Option SwapImage). FillsStart page between new holds o j) i.leads.told h) in
         record {
           units = i.units ++ f.units;
           state = f.state;
@@ -136,13 +137,13 @@ module _ (A : Inputs) (s : State) (old : Standing) (holds : Option (List NamedFi
           mark = f.same.mark ∙ i.mark;
         }
 
-    filled_stops : (between new : Standing) (told j : Option (List ℕ)) (stop : Stop) → Imaged between told → StopsStart page between new holds told j stop → StopLeads A s old.kernel image stop new j
+    filled_stops : (between new : Standing) (told j : Option SwapImage) (stop : Stop) → Imaged between told → StopsStart page between new holds told j stop → StopLeads A s old.kernel image stop new j
     filled_stops between new told j stop i h =
         let bytes : List ℕ = i.leads.behind in
         let at : At A i.state between.kernel bytes = led_at A s i.state old.kernel between.kernel image told i.units on.machine.at i.leads in
         stops_then A s i.state old.kernel between.kernel image bytes j i.units stop new
         (led_told A s i.state old.kernel between.kernel image told i.units i.leads)
-        (start_stops A i.state between holds bytes page at i.images i.due new j stop (subst (λ (o : Option (List ℕ)). StopsStart page between new holds o j stop) i.leads.told h))
+        (start_stops A i.state between holds bytes page at i.images i.due new j stop (subst (λ (o : Option SwapImage). StopsStart page between new holds o j stop) i.leads.told h))
 
     -- its pieces find no place
     no_pieces : is_ok (image_found number old) ≡ false → IsRefusal A s old holds image pid now p x
@@ -150,7 +151,7 @@ module _ (A : Inputs) (s : State) (old : Standing) (holds : Option (List NamedFi
         refusal A s old holds image pid now p x (answered_step A.images s.point.flat p Execve [] after_regs (changes.Exec number top)) on called.unwanted step_is
         (ap (λ (r : Result Holdings ℕ). is_ok r) (sym (pieces_same A s old holds image pid number top on.machine)) ∙ none)
 
-    pub starts_made : (new : Standing) (j : Option (List ℕ))
+    pub starts_made : (new : Standing) (j : Option SwapImage)
         → StartsBy (is_ok (image_found number old)) old new pid effect.regs after_regs number top holds (Some image) j
         → StepLeads A s old.kernel image 1 new.kernel j
     starts_made new j h = go (is_ok (image_found number old)) refl h
@@ -159,14 +160,14 @@ module _ (A : Inputs) (s : State) (old : Standing) (holds : Option (List NamedFi
         go true ok c =
             filled c.between new c.told j (imaged A s old holds image pid now p x effect on makes after_regs number top reads c.between c.told ok c.started) c.fills
         go false none c =
-            subst (λ (o : Option (List ℕ)). StepLeads A s old.kernel image 1 new.kernel o) (sym c.1)
+            subst (λ (o : Option SwapImage). StepLeads A s old.kernel image 1 new.kernel o) (sym c.1)
             (refused_fails A s old holds image pid now p x effect Execve (Ok (Does after_regs (changes.Exec number top))) after_regs (changes.Exec number top) makes.names called refl refl
             (no_pieces none) new.kernel c.0.answer.step)
 
     -- as the process leaves its space
-    finding_stops : (new : Standing) (j : Option (List ℕ)) (stop : Stop) → StopsFinding (image_found number) old new pid holds (Some image) j stop → StopLeads A s old.kernel image stop new j
+    finding_stops : (new : Standing) (j : Option SwapImage) (stop : Stop) → StopsFinding (image_found number) old new pid holds (Some image) j stop → StopLeads A s old.kernel image stop new j
     finding_stops new j stop h = elim h [
-      | inl y ↦ subst (λ (o : Option (List ℕ)). StopLeads A s old.kernel image stop new o) (sym y.1)
+      | inl y ↦ subst (λ (o : Option SwapImage). StopLeads A s old.kernel image stop new o) (sym y.1)
           (stopped_here A s old new image pid now p x u [] stop on.machine.at on.running called.unwanted (whole_due s.point.last pid (step_at A s.point pid).entries on.between ∙ first) tt y.0)
       | inr y ↦ alive y.0 y.1
     ]
@@ -185,14 +186,14 @@ module _ (A : Inputs) (s : State) (old : Standing) (holds : Option (List NamedFi
           | inr z ↦ once ok z
         ]
 
-    without_stops : (new : Standing) (j : Option (List ℕ)) (stop : Stop) → is_ok (image_found number old) ≡ false → StopsBefore (without_pieces old pid) new stop
+    without_stops : (new : Standing) (j : Option SwapImage) (stop : Stop) → is_ok (image_found number old) ≡ false → StopsBefore (without_pieces old pid) new stop
         → j ≡ Some image → StopLeads A s old.kernel image stop new j
     without_stops new j stop none h same =
-        subst (λ (o : Option (List ℕ)). StopLeads A s old.kernel image stop new o) (sym same)
+        subst (λ (o : Option SwapImage). StopLeads A s old.kernel image stop new o) (sym same)
         (refused_stops A s old holds image pid now p x effect Execve (Ok (Does after_regs (changes.Exec number top))) after_regs (changes.Exec number top) makes.names called refl refl
         (no_pieces none) new stop h)
 
-    behind_stops : (new : Standing) (told j : Option (List ℕ)) (stop : Stop)
+    behind_stops : (new : Standing) (told j : Option SwapImage) (stop : Stop)
         → StopsOnce (λ m. HasStarted old m pid after_regs number top holds (Some image) told) (λ m. StopsStart page m new holds told j stop)
         → StopLeads A s old.kernel image stop new j
     behind_stops new told j stop h =
@@ -202,7 +203,7 @@ module _ (A : Inputs) (s : State) (old : Standing) (holds : Option (List NamedFi
         ap (λ (r : Result Holdings ℕ). is_ok r) (sym (found_back old f.between number (is_ready old f.between pid holds (Some image) told f.left)) ∙ f.finds) in
         filled_stops h.reached new told j stop (imaged A s old holds image pid now p x effect on makes after_regs number top reads h.reached told ok h.far) h.stops
 
-    pub starts_stop : (new : Standing) (j : Option (List ℕ)) (stop : Stop)
+    pub starts_stop : (new : Standing) (j : Option SwapImage) (stop : Stop)
         → StopsExec old new pid (Ok (Does after_regs (changes.Exec number top))) holds (Some image) j stop
         → StopLeads A s old.kernel image stop new j
     starts_stop new j stop h = elim h [
@@ -217,7 +218,7 @@ module _ (A : Inputs) (s : State) (old : Standing) (holds : Option (List NamedFi
 
   -- Whatever its memory has.
 
-  pub exec_made : (new : Standing) (j : Option (List ℕ)) (called : Called) → RefusedIsMade
+  pub exec_made : (new : Standing) (j : Option SwapImage) (called : Called) → RefusedIsMade
       → ExecComes old new pid effect.regs (run memory (execve_reply A.images effect.regs)) holds (Some image) j called → CallLeads A s old.kernel image x called new.kernel j
   exec_made new j called unread h = go (run memory (execve_reply A.images effect.regs)) refl h
     where
@@ -225,7 +226,7 @@ module _ (A : Inputs) (s : State) (old : Standing) (holds : Option (List NamedFi
           → CallLeads A s old.kernel image x called new.kernel j
       by (Does regs (changes.Exec number top)) i e c = subst (λ (d : Called). CallLeads A s old.kernel image x d new.kernel j) (sym c.0) (starts_made regs number top e new j c.1)
       by (Fails error) i e c =
-          subst (λ (o : Option (List ℕ)). CallLeads A s old.kernel image x called new.kernel o) (sym c.1)
+          subst (λ (o : Option SwapImage). CallLeads A s old.kernel image x called new.kernel o) (sym c.1)
           (subst (λ (d : Called). CallLeads A s old.kernel image x d new.kernel (Some image)) (sym c.0.0)
           (fails A s old new.kernel holds image pid now p x effect Execve (Ok (Fails error)) error on makes.names (fails_called error e) refl c.0.1.step))
       by _ i e c = absurd i
@@ -234,10 +235,10 @@ module _ (A : Inputs) (s : State) (old : Standing) (holds : Option (List NamedFi
           → CallLeads A s old.kernel image x called new.kernel j
       go (Ok reply) e c = by reply (run_gives IsStart memory (execve_reply A.images effect.regs) reply (exec_replies A.images effect.regs) e) e c
       go (Err refused) e c =
-          subst (λ (o : Option (List ℕ)). CallLeads A s old.kernel image x called new.kernel o) (sym c.1)
+          subst (λ (o : Option SwapImage). CallLeads A s old.kernel image x called new.kernel o) (sym c.1)
           (unread A s old new holds image pid now p x effect Execve refused called on makes (ap (run memory) (exec_asked A.images s.point.flat p x effect) ∙ e) c.0)
 
-  pub exec_stops : (new : Standing) (j : Option (List ℕ)) (stop : Stop) → RefusedCallStops
+  pub exec_stops : (new : Standing) (j : Option SwapImage) (stop : Stop) → RefusedCallStops
       → StopsExec old new pid (run memory (execve_reply A.images effect.regs)) holds (Some image) j stop → StopLeads A s old.kernel image stop new j
   exec_stops new j stop unread h = go (run memory (execve_reply A.images effect.regs)) refl h
     where
@@ -249,7 +250,7 @@ module _ (A : Inputs) (s : State) (old : Standing) (holds : Option (List NamedFi
           let called : IsCalledFor A s p x Execve effect r = fails_called error e in
           let kept : IsKept old.kernel pid p x = is_kept A s old.kernel image pid now p x on.machine.at on.running in
           let v : Entry = call_entry pid Execve (replied effect.regs true error) in
-          subst (λ (o : Option (List ℕ)). StopLeads A s old.kernel image stop new o) (sym c.1)
+          subst (λ (o : Option SwapImage). StopLeads A s old.kernel image stop new o) (sym c.1)
           (stopped_here A s old new image pid now p x v [] stop on.machine.at on.running called.unwanted (whole_due s.point.last pid (step_at A s.point pid).entries on.between ∙
           ap (λ (z : Step). z.entries) (called_step A s pid now p x effect Execve r on.running on.between makes.names called)
           ∙ ap (λ (n : ℕ). call_entry n Execve (replied effect.regs true error) ∷ []) kept.number) tt c.0)
@@ -258,5 +259,5 @@ module _ (A : Inputs) (s : State) (old : Standing) (holds : Option (List NamedFi
       go : (r : Result Reply Refused) → run memory (execve_reply A.images effect.regs) ≡ r → StopsExec old new pid r holds (Some image) j stop → StopLeads A s old.kernel image stop new j
       go (Ok reply) e c = by reply (run_gives IsStart memory (execve_reply A.images effect.regs) reply (exec_replies A.images effect.regs) e) e c
       go (Err refused) e c =
-          subst (λ (o : Option (List ℕ)). StopLeads A s old.kernel image stop new o) (sym c.1)
+          subst (λ (o : Option SwapImage). StopLeads A s old.kernel image stop new o) (sym c.1)
           (unread A s old new holds image pid now p x effect Execve refused stop on makes (ap (run memory) (exec_asked A.images s.point.flat p x effect) ∙ e) c.0)

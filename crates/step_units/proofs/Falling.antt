@@ -2,6 +2,7 @@
 use Rattle.std.proofs.Common.{◌≡◌, ℕ, ◌+◌, ◌≤◌, ◌&&◌, ◌||◌, nat_lt, not, Bool, true, false, List, [], ◌∷◌, length, Option, Some, Result, Err, refl, sym, ap, ◌∙◌, subst, arith}
 use Rattle.std.specs.Prelude.{is_ok}
 use Rattle.std.proofs.lemmas.Bool.Decides.{nat_tests}
+use Rattle.vm_facts.specs.SwapImages.{SwapImage}
 use Rattle.io_edge.specs.FileHolding.{NamedFile}
 use Rattle.vm_facts.specs.declared.entry.Entry.{Entry}
 use Rattle.vm_facts.specs.declared.entry.Entry.TheVariants as entries
@@ -70,12 +71,12 @@ pub record Falls (A : Inputs) (s : State) (m : Standing) (pid : ℕ) (p : Proces
   pub size : data_count m.kernel.place x.sid ≡ data_pages_of x
   pub finds : fits A.swap_blocks s.holdings (asks A s.point.flat pid) ≡ is_ok (growth_found m pid (pages_down_to address))
 
-ready_for : (A : Inputs) (s : State) (k : Kernel) (image : List ℕ) (pid : ℕ) (now : Bool) (p : Process) (x : Space) (r : Result Effect Refused)
+ready_for : (A : Inputs) (s : State) (k : Kernel) (image : SwapImage) (pid : ℕ) (now : Bool) (p : Process) (x : Space) (r : Result Effect Refused)
     → At A s k image → IsRunning A s pid now p x
     → run (kernel_answers k x.sid) (instruction p.regs) ≡ r → IsWhole r → IsReadyFor A s p x r
 ready_for A s k image pid now p x r at i e w = subst (IsReadyFor A s p x) e (hit_ready A s k image pid now p x at i (subst IsWhole (sym e) w))
 
-pub falls : (A : Inputs) (s : State) (m : Standing) (holds : Option (List NamedFile)) (image : List ℕ) (pid : ℕ) (now : Bool) (p : Process)
+pub falls : (A : Inputs) (s : State) (m : Standing) (holds : Option (List NamedFile)) (image : SwapImage) (pid : ℕ) (now : Bool) (p : Process)
     (x : Space) (address : ℕ)
     → RunsOn A s m holds image pid now p x → run (kernel_answers m.kernel x.sid) (instruction p.regs) ≡ Err (Below address) → Falls A s m pid p x address
 falls A s m holds image pid now p x address r e = record {
@@ -129,7 +130,7 @@ falls A s m holds image pid now p x address r e = record {
         ∙ step_same A m.kernel F pid at.fit at.stands.keeps.stands.texts at.stands.keeps.numbered at.run.numbers at.stands.keeps.coupled.tables (on_steps A s s.mark pid now i.runs.on)
 
 -- an access of the byte asks for growth
-pub asks_growth : (A : Inputs) (s : State) (m : Standing) (holds : Option (List NamedFile)) (image : List ℕ) (pid : ℕ) (now : Bool) (p : Process) (x : Space)
+pub asks_growth : (A : Inputs) (s : State) (m : Standing) (holds : Option (List NamedFile)) (image : SwapImage) (pid : ℕ) (now : Bool) (p : Process) (x : Space)
     (address : ℕ) (write : Bool)
     → RunsOn A s m holds image pid now p x → Falls A s m pid p x address
     → access_to m.kernel.place x.sid address write ≡ accesses.Growth x.sid (pages_down_to address)
@@ -176,7 +177,7 @@ grown_first A s m pid p x address f =
     ap (λ (z : Step). z.entries) f.step ∙ ap (λ (n : ℕ). let e : Entry = entries.Grew n (pages_down_to address) in e ∷ []) f.number
 
 -- it comes next where its pieces are found, or else the entry that says so
-pub growth_next : (A : Inputs) (s : State) (m : Standing) (holds : Option (List NamedFile)) (image : List ℕ) (pid : ℕ) (now : Bool) (p : Process)
+pub growth_next : (A : Inputs) (s : State) (m : Standing) (holds : Option (List NamedFile)) (image : SwapImage) (pid : ℕ) (now : Bool) (p : Process)
     (x : Space) (address : ℕ)
     → RunsOn A s m holds image pid now p x → Falls A s m pid p x address → is_ok (growth_found m pid (pages_down_to address)) ≡ true
     → next_unit A s ≡ Some (entries.Grew pid (pages_down_to address))
@@ -186,7 +187,7 @@ growth_next A s m holds image pid now p x address r f h =
     (step_begins A s pid (entries.Grew pid (pages_down_to address)) [] (on_steps A s s.mark pid now i.runs.on) r.between (grown_first A s m pid p x address f) (f.finds ∙ h)
     (unsettled A s m pid now p x address i f))
 
-pub refusal_next : (A : Inputs) (s : State) (m : Standing) (holds : Option (List NamedFile)) (image : List ℕ) (pid : ℕ) (now : Bool) (p : Process)
+pub refusal_next : (A : Inputs) (s : State) (m : Standing) (holds : Option (List NamedFile)) (image : SwapImage) (pid : ℕ) (now : Bool) (p : Process)
     (x : Space) (address : ℕ)
     → RunsOn A s m holds image pid now p x → Falls A s m pid p x address → is_ok (growth_found m pid (pages_down_to address)) ≡ false
     → next_unit A s ≡ Some (entries.Refused pid)

@@ -1,5 +1,6 @@
 -- What a machine finds under a mark.
 use Rattle.std.proofs.Common.{◌≡◌, ℕ, ◌<◌, true, false, List, [], ◌∷◌, length, Option, Some, None, refl, ap, ◌∙◌, subst, arith}
+use Rattle.vm_facts.specs.SwapImages.{SwapImage}
 use Rattle.flat_state.specs.Space.{Space}
 use Rattle.flat_state.specs.Flat.{Holding, Holds, Lends, Zombie, Process, FlatState, Inputs, process_of, holds_space}
 use Rattle.page_model.specs.Placement.{Placement, Transfer}
@@ -25,7 +26,7 @@ is_pending : (ts : List Transfer) → 0 < length ts → marks.Interrupt ≡ inte
 is_pending [] l = absurd (omega (arith, l))
 is_pending (t ∷ ts) l = refl
 
-pub interrupt_waits : (A : Inputs) (s : State) (k : Kernel) (image : List ℕ) → At A s k image → s.mark ≡ marks.Interrupt
+pub interrupt_waits : (A : Inputs) (s : State) (k : Kernel) (image : SwapImage) → At A s k image → s.mark ≡ marks.Interrupt
     → (s.mark ≡ interrupt_mark s.place.transfers) × (0 < length s.place.transfers)
 interrupt_waits A s k image at m =
     let stands : MarkStands s marks.Interrupt = subst (MarkStands s) m at.run.mark in
@@ -33,7 +34,7 @@ interrupt_waits A s k image at m =
 
 -- A process that is out.
 
-pub may_come : (A : Inputs) (s : State) (k : Kernel) (image : List ℕ) (pid : ℕ) → At A s k image → s.mark ≡ marks.BringIn pid → CanComeIn k pid
+pub may_come : (A : Inputs) (s : State) (k : Kernel) (image : SwapImage) (pid : ℕ) → At A s k image → s.mark ≡ marks.BringIn pid → CanComeIn k pid
 may_come A s k image pid at m =
     let stands : MarkStands s (marks.BringIn pid) = subst (MarkStands s) m at.run.mark in
     record {
@@ -66,7 +67,7 @@ holds_there k flat pid tables w =
     let life : life_in k pid ≡ HoldsSpace w.space.sid = ap life_of_proc kept.1 ∙ ap (λ (o : Outline). o.life) outline ∙ ap life_of w.holds in
     (w.space.sid, record { holds = life; there = holders_have_spaces k flat tables pid w.space.sid life })
 
-pub put_out_in : (A : Inputs) (s : State) (k : Kernel) (image : List ℕ) (pid : ℕ) → At A s k image → s.mark ≡ marks.PutOut pid
+pub put_out_in : (A : Inputs) (s : State) (k : Kernel) (image : SwapImage) (pid : ℕ) → At A s k image → s.mark ≡ marks.PutOut pid
     → ((sid : ℕ) × HoldsThere k pid sid) × (is_out k.place pid ≡ false)
 put_out_in A s k image pid at m =
     let stands : MarkStands s (marks.PutOut pid) = subst (MarkStands s) m at.run.mark in (

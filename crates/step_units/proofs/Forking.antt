@@ -1,5 +1,6 @@
 -- A fork is the step of its process, and after it pages are copied.
 use Rattle.std.proofs.Common.{◌≡◌, inl, inr, ℕ, ◌+◌, Bool, true, false, List, [], ◌∷◌, ◌++◌, Option, Some, refl, sym, ap, ◌∙◌, subst}
+use Rattle.vm_facts.specs.SwapImages.{SwapImage}
 use Rattle.io_edge.specs.FileHolding.{NamedFile}
 use Rattle.vm_facts.specs.declared.regs.Regs.{Regs}
 use Rattle.vm_facts.specs.declared.entry.Entry.{Entry}
@@ -42,8 +43,8 @@ use Rattle.step_units.proofs.Filling.{LeadsTo}
 use Rattle.step_units.proofs.Copying.{all_copied, copying_stops}
 
 -- the entry of the step was made, and the pages that are due then are copied
-copied_behind : (A : Inputs) (s t : State) (old between new : Standing) (holds : Option (List NamedFile)) (image : List ℕ)
-    (j : Option (List ℕ)) (us : List Entry)
+copied_behind : (A : Inputs) (s t : State) (old between new : Standing) (holds : Option (List NamedFile)) (image : SwapImage)
+    (j : Option SwapImage) (us : List Entry)
     → AreImages between.images holds A.images
     → Leads A s old.kernel image us t between.kernel (Some image) → At A t between.kernel image → IsBetween t.point.last
     → t.count ≡ s.count + 1 → t.lines ≡ s.lines → t.mark ≡ s.mark → CopiesAll between.kernel.place.due between new holds (Some image) j
@@ -63,7 +64,7 @@ copied_behind A s t old between new holds image j us images led at last count li
     }
 
 -- the child is there, and its pages are due
-record HasForked (A : Inputs) (s : State) (old between : Standing) (holds : Option (List NamedFile)) (image : List ℕ) : Type 0 where
+record HasForked (A : Inputs) (s : State) (old between : Standing) (holds : Option (List NamedFile)) (image : SwapImage) : Type 0 where
   pub units : List Entry
   pub state : State
   pub leads : Leads A s old.kernel image units state between.kernel (Some image)
@@ -74,7 +75,7 @@ record HasForked (A : Inputs) (s : State) (old between : Standing) (holds : Opti
   pub lines : state.lines ≡ s.lines
   pub mark : state.mark ≡ s.mark
 
-new_space : (A : Inputs) (s : State) (old between : Standing) (holds : Option (List NamedFile)) (image : List ℕ) (pid : ℕ) (now : Bool) (p : Process)
+new_space : (A : Inputs) (s : State) (old between : Standing) (holds : Option (List NamedFile)) (image : SwapImage) (pid : ℕ) (now : Bool) (p : Process)
     (x : Space) (effect : Effect)
     → Asking A s old holds image pid now p x effect system_calls.Fork (λ child. changes.Fork child) → is_below_limit old.kernel ≡ true
     → HasNewSpace old between pid effect.regs old.kernel.next_pid → HasForked A s old between holds image
@@ -103,7 +104,7 @@ new_space A s old between holds image pid now p x effect a b h =
       mark = ends.mark;
     }
 
-asking : (A : Inputs) (s : State) (old : Standing) (holds : Option (List NamedFile)) (image : List ℕ) (pid : ℕ) (now : Bool) (p : Process)
+asking : (A : Inputs) (s : State) (old : Standing) (holds : Option (List NamedFile)) (image : SwapImage) (pid : ℕ) (now : Bool) (p : Process)
     (x : Space) (effect : Effect)
     → RunsOn A s old holds image pid now p x → MakesCall old p x effect system_calls.Fork
     → Asking A s old holds image pid now p x effect system_calls.Fork (λ child. changes.Fork child)
@@ -115,7 +116,7 @@ asking A s old holds image pid now p x effect runs makes = record {
 }
 
 -- the machine stands at a state after the step, where the pages that are due, if any, are copied
-forked_to : (A : Inputs) (s : State) (old between : Standing) (holds : Option (List NamedFile)) (image : List ℕ) (pid : ℕ) (now : Bool) (p : Process)
+forked_to : (A : Inputs) (s : State) (old between : Standing) (holds : Option (List NamedFile)) (image : SwapImage) (pid : ℕ) (now : Bool) (p : Process)
     (x : Space) (effect : Effect)
     → RunsOn A s old holds image pid now p x → MakesCall old p x effect system_calls.Fork → ForkAnswered old between pid effect.regs
     → HasForked A s old between holds image
@@ -145,7 +146,7 @@ forked_to A s old between holds image pid now p x effect runs makes h = go (is_b
         failed (ap (λ (m : Standing). m.images) y.answer.rest) (without_place A s old between holds image pid now p x effect system_calls.Fork (λ child. changes.Fork child) a b f y)
     go true true b f y = new_space A s old between holds image pid now p x effect a b y
 
-pub fork_made : (A : Inputs) (s : State) (old new : Standing) (holds : Option (List NamedFile)) (image : List ℕ) (behind : Option (List ℕ)) (pid : ℕ)
+pub fork_made : (A : Inputs) (s : State) (old new : Standing) (holds : Option (List NamedFile)) (image : SwapImage) (behind : Option SwapImage) (pid : ℕ)
     (now : Bool) (p : Process) (x : Space)
     (effect : Effect)
     → RunsOn A s old holds image pid now p x → MakesCall old p x effect system_calls.Fork → Forked old new pid effect.regs holds (Some image) behind
@@ -157,7 +158,7 @@ fork_made A s old new holds image behind pid now p x effect runs makes h =
 -- Stops.
 
 -- as a page is copied
-pub fork_stops_behind : (A : Inputs) (s : State) (old new : Standing) (holds : Option (List NamedFile)) (image : List ℕ) (behind : Option (List ℕ)) (pid : ℕ)
+pub fork_stops_behind : (A : Inputs) (s : State) (old new : Standing) (holds : Option (List NamedFile)) (image : SwapImage) (behind : Option SwapImage) (pid : ℕ)
     (now : Bool) (p : Process) (x : Space)
     (effect : Effect) (stop : Stop)
     → RunsOn A s old holds image pid now p x → MakesCall old p x effect system_calls.Fork
@@ -168,12 +169,12 @@ fork_stops_behind A s old new holds image behind pid now p x effect stop runs ma
     stops_then A s to.state old.kernel h.reached.kernel image image behind to.units stop new to.leads
     (copying_stops h.reached.kernel.place.due A to.state h.reached new holds image behind stop to.at to.images (ap (λ (q : Placement). q.due) (sym to.at.stands.place)) h.stops)
 
-pub fork_stops : (A : Inputs) (s : State) (old new : Standing) (holds : Option (List NamedFile)) (image : List ℕ) (behind : Option (List ℕ)) (pid : ℕ)
+pub fork_stops : (A : Inputs) (s : State) (old new : Standing) (holds : Option (List NamedFile)) (image : SwapImage) (behind : Option SwapImage) (pid : ℕ)
     (now : Bool) (p : Process) (x : Space)
     (effect : Effect) (stop : Stop)
     → RunsOn A s old holds image pid now p x → MakesCall old p x effect system_calls.Fork → StopsForking old new pid effect.regs holds (Some image) behind stop
     → StopLeads A s old.kernel image stop new behind
 fork_stops A s old new holds image behind pid now p x effect stop runs makes (inl h) =
-    subst (λ (o : Option (List ℕ)). StopLeads A s old.kernel image stop new o) (sym h.1)
+    subst (λ (o : Option SwapImage). StopLeads A s old.kernel image stop new o) (sym h.1)
     (making_stops A s old new holds image pid now p x effect system_calls.Fork (λ child. changes.Fork child) stop (asking A s old holds image pid now p x effect runs makes) h.0)
 fork_stops A s old new holds image behind pid now p x effect stop runs makes (inr h) = fork_stops_behind A s old new holds image behind pid now p x effect stop runs makes h

@@ -2,6 +2,7 @@
 use Rattle.std.proofs.Common.{◌≡◌, ◌⊎◌, inl, inr, ℕ, ◌+◌, ◌-◌, ◌<◌, ◌≤◌, ◌&&◌, nat_lt, Bool, true, false, List, [], ◌∷◌, ◌++◌, length, Option, Some, None, Ok, Err, refl, sym, ap, ◌∙◌, subst, arith}
 use Rattle.std.specs.Prelude.{is_ok}
 use Rattle.std.proofs.lemmas.List.{length-append}
+use Rattle.vm_facts.specs.SwapImages.{SwapImage}
 use Rattle.io_edge.specs.FileHolding.{NamedFile}
 use Rattle.vm_facts.proofs.Tests.{eq_self}
 use Rattle.vm_facts.specs.declared.entry.Entry.{Entry}
@@ -90,7 +91,7 @@ noted : (A : Inputs) (s : State) (pid : ℕ) → Noted A s pid
 unfolding after
 noted A s pid = record { point = refl; place = refl; count = refl; lines = refl; mark = refl; wants = refl }
 
-pub growth_refused : (A : Inputs) (s : State) (old new : Standing) (holds : Option (List NamedFile)) (image : List ℕ) (pid : ℕ) (now : Bool) (p : Process)
+pub growth_refused : (A : Inputs) (s : State) (old new : Standing) (holds : Option (List NamedFile)) (image : SwapImage) (pid : ℕ) (now : Bool) (p : Process)
     (x : Space) (address : ℕ)
     → RunsOn A s old holds image pid now p x → Falls A s old pid p x address → GrowthRefused old new pid (pages_down_to address)
     → EndsUngrown A s old new holds image pid now p x
@@ -153,7 +154,7 @@ unfolding after
 behind_growth A s pid n e = record { point = ap (behind s.point (step_at A s.point pid).after) e; count = refl; lines = refl; mark = refl }
 
 -- the unit that was made, and the state after it, at which the new page is waited for
-pub record GrownBefore (A : Inputs) (s : State) (old between : Standing) (holds : Option (List NamedFile)) (image : List ℕ) (pid : ℕ) (now : Bool)
+pub record GrownBefore (A : Inputs) (s : State) (old between : Standing) (holds : Option (List NamedFile)) (image : SwapImage) (pid : ℕ) (now : Bool)
     (before : List Page) (q : Page) : Type 0 where
   pub entry : Entry
   pub next : next_unit A s ≡ Some entry
@@ -164,7 +165,7 @@ pub record GrownBefore (A : Inputs) (s : State) (old between : Standing) (holds 
   pub lines : (after A s entry).lines ≡ s.lines
   pub mark : (after A s entry).mark ≡ s.mark
 
-pub growth_before : (A : Inputs) (s : State) (old between : Standing) (holds : Option (List NamedFile)) (image : List ℕ) (pid : ℕ) (now : Bool) (p : Process)
+pub growth_before : (A : Inputs) (s : State) (old between : Standing) (holds : Option (List NamedFile)) (image : SwapImage) (pid : ℕ) (now : Bool) (p : Process)
     (x : Space) (address : ℕ)
     (before : List Page) → RunsOn A s old holds image pid now p x → Falls A s old pid p x address → touched_next A s ≡ before → AllValid s.place before
     → Grown old between pid (pages_down_to address) → GrownBefore A s old between holds image pid now before (pages.Stack x.sid (pages_down_to address - 1))
@@ -269,18 +270,18 @@ growth_before A s old between holds image pid now p x address before r f same va
 
 -- What comes after growth comes after the state before it.
 
-pub grown_leads : (A : Inputs) (s : State) (old between : Standing) (holds : Option (List NamedFile)) (image : List ℕ) (pid : ℕ) (now : Bool)
+pub grown_leads : (A : Inputs) (s : State) (old between : Standing) (holds : Option (List NamedFile)) (image : SwapImage) (pid : ℕ) (now : Bool)
     (before : List Page) (q : Page) (us : List Entry)
-    (t : State) (l : Kernel) (j : Option (List ℕ)) → (b : GrownBefore A s old between holds image pid now before q)
+    (t : State) (l : Kernel) (j : Option SwapImage) → (b : GrownBefore A s old between holds image pid now before q)
     → Leads A (after A s b.entry) between.kernel image us t l j
     → Leads A s old.kernel image (b.entry ∷ us) t l j
 grown_leads A s old between holds image pid now before q us t l j b d =
     first_leads A s t old.kernel between.kernel l image (Some image) j b.entry us b.next b.made
-    (subst (λ (z : List ℕ). Leads A (after A s b.entry) between.kernel z us t l j) (sym b.plain) d)
+    (subst (λ (z : SwapImage). Leads A (after A s b.entry) between.kernel z us t l j) (sym b.plain) d)
 
-pub grown_steps : (A : Inputs) (s : State) (old between : Standing) (holds : Option (List NamedFile)) (image : List ℕ) (pid : ℕ) (now : Bool)
+pub grown_steps : (A : Inputs) (s : State) (old between : Standing) (holds : Option (List NamedFile)) (image : SwapImage) (pid : ℕ) (now : Bool)
     (before : List Page) (q : Page) (l : Kernel)
-    (j : Option (List ℕ)) → (b : GrownBefore A s old between holds image pid now before q) → StepLeads A (after A s b.entry) between.kernel image 0 l j
+    (j : Option SwapImage) → (b : GrownBefore A s old between holds image pid now before q) → StepLeads A (after A s b.entry) between.kernel image 0 l j
     → StepLeads A s old.kernel image 0 l j
 grown_steps A s old between holds image pid now before q l j b d = record {
   units = b.entry ∷ d.units;
@@ -294,23 +295,23 @@ grown_steps A s old between holds image pid now before q l j b d = record {
 }
 
 -- and one page more is valid after both
-pub grown_more : (A : Inputs) (s : State) (old between : Standing) (holds : Option (List NamedFile)) (image : List ℕ) (pid : ℕ) (now : Bool)
+pub grown_more : (A : Inputs) (s : State) (old between : Standing) (holds : Option (List NamedFile)) (image : SwapImage) (pid : ℕ) (now : Bool)
     (before : List Page) (q : Page) (l : Kernel)
-    (j : Option (List ℕ)) → (b : GrownBefore A s old between holds image pid now before q) → LeadsMore A (after A s b.entry) between.kernel image before l j
+    (j : Option SwapImage) → (b : GrownBefore A s old between holds image pid now before q) → LeadsMore A (after A s b.entry) between.kernel image before l j
     → LeadsMore A s old.kernel image before l j
 unfolding grown_steps
 grown_more A s old between holds image pid now before q l j b d = record { led = grown_steps A s old between holds image pid now before q l j b d.led; more = d.more }
 
-pub grown_ends : (A : Inputs) (s : State) (old between : Standing) (holds : Option (List NamedFile)) (image : List ℕ) (pid : ℕ) (now : Bool)
+pub grown_ends : (A : Inputs) (s : State) (old between : Standing) (holds : Option (List NamedFile)) (image : SwapImage) (pid : ℕ) (now : Bool)
     (before : List Page) (q : Page) (l : Kernel)
-    (j : Option (List ℕ)) → (b : GrownBefore A s old between holds image pid now before q) → MarkEnds A (after A s b.entry) between.kernel image l j
+    (j : Option SwapImage) → (b : GrownBefore A s old between holds image pid now before q) → MarkEnds A (after A s b.entry) between.kernel image l j
     → MarkEnds A s old.kernel image l j
 unfolding grown_steps
 grown_ends A s old between holds image pid now before q l j b d = record { led = grown_steps A s old between holds image pid now before q l j b d.led; over = d.over }
 
-pub grown_stops : (A : Inputs) (s : State) (old between new : Standing) (holds : Option (List NamedFile)) (image : List ℕ) (pid : ℕ) (now : Bool)
+pub grown_stops : (A : Inputs) (s : State) (old between new : Standing) (holds : Option (List NamedFile)) (image : SwapImage) (pid : ℕ) (now : Bool)
     (before : List Page) (q : Page) (stop : Stop)
-    (j : Option (List ℕ)) → (b : GrownBefore A s old between holds image pid now before q) → StopLeads A (after A s b.entry) between.kernel image stop new j
+    (j : Option SwapImage) → (b : GrownBefore A s old between holds image pid now before q) → StopLeads A (after A s b.entry) between.kernel image stop new j
     → StopLeads A s old.kernel image stop new j
 grown_stops A s old between new holds image pid now before q stop j b d = record {
   units = b.entry ∷ d.units;
@@ -329,7 +330,7 @@ longer : (journal : List Entry) (u : Entry) → length journal < length (journal
 longer journal u = let k = length-append journal (u ∷ []) in omega arith
 
 -- neither is joined to another entry
-apart_next : (A : Inputs) (t : State) (k : Kernel) (image : List ℕ) (stop : Stop) (old new : Standing) (j : Option (List ℕ)) (pid n : ℕ) (u : Entry)
+apart_next : (A : Inputs) (t : State) (k : Kernel) (image : SwapImage) (stop : Stop) (old new : Standing) (j : Option SwapImage) (pid n : ℕ) (u : Entry)
     → next_unit A t ≡ Some u
     → (u ≡ entries.Grew pid n) ⊎ (u ≡ entries.Refused pid) → (stop ≡ stops.JournalFull) ⊎ (stop ≡ stops.NoMemory)
     → (stop ≡ stops.JournalFull → new.params.journal ≤ length k.journal) → j ≡ Some image
@@ -349,7 +350,7 @@ apart_next A t k image stop old new j pid n u next (inr e) c f i = record {
   spoils = i;
 }
 
-pub growth_stops : (A : Inputs) (s : State) (old new : Standing) (holds : Option (List NamedFile)) (image : List ℕ) (j : Option (List ℕ)) (pid : ℕ) (now : Bool)
+pub growth_stops : (A : Inputs) (s : State) (old new : Standing) (holds : Option (List NamedFile)) (image : SwapImage) (j : Option SwapImage) (pid : ℕ) (now : Bool)
     (p : Process) (x : Space) (address : ℕ)
     (stop : Stop) → RunsOn A s old holds image pid now p x → Falls A s old pid p x address → StopsBefore old new stop → j ≡ Some image
     → StopLeads A s old.kernel image stop new j

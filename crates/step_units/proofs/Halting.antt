@@ -2,6 +2,7 @@
 -- no place, or its first entry.
 use Rattle.std.proofs.Common.{◌≡◌, ◌⊎◌, inl, inr, ℕ, ◌<◌, ◌≤◌, ◌==◌, not, ◌&&◌, Bool, true, false, List, [], ◌∷◌, ◌++◌, length, Some, None, refl, sym, ap, ◌∙◌, subst, arith}
 use Rattle.std.proofs.lemmas.List.{length-append}
+use Rattle.vm_facts.specs.SwapImages.{SwapImage}
 use Rattle.vm_facts.specs.Pages.{is_of_space, is_of_text}
 use Rattle.vm_facts.specs.declared.params.Params.{Params}
 use Rattle.vm_facts.specs.declared.entry.Entry.{Entry}
@@ -68,7 +69,7 @@ waits_for A s pid now p x r t =
     go true false h = refl
     go false b h = absurd cc
 
-stops_done : (A : Inputs) (s : State) (old new : Standing) (image : List ℕ) (stop : Stop) → next_unit A s ≡ Some entries.Done
+stops_done : (A : Inputs) (s : State) (old new : Standing) (image : SwapImage) (stop : Stop) → next_unit A s ≡ Some entries.Done
     → 0 < length old.kernel.place.transfers → StopsBefore old new stop
     → StopsBy A s old.kernel image stop new (Some image)
 stops_done A s old new image stop n some h = go h.cause
@@ -87,7 +88,7 @@ stops_done A s old new image stop n some h = go h.cause
     go (inr c) = subst (λ (z : Stop). StopsBy A s old.kernel image z new (Some image)) (sym c) refl
 
 -- Where the entries of the step that aren't there yet begin with one that never joins another, it stops so before any of these.
-pub stopped_here : (A : Inputs) (s : State) (old new : Standing) (image : List ℕ) (pid : ℕ) (now : Bool) (p : Process) (x : Space) (e : Entry)
+pub stopped_here : (A : Inputs) (s : State) (old new : Standing) (image : SwapImage) (pid : ℕ) (now : Bool) (p : Process) (x : Space) (e : Entry)
     (es : List Entry) (stop : Stop)
     → At A s old.kernel image → IsRunning A s pid now p x → wanted A s ≡ None → due_at A s.point pid ≡ e ∷ es → IsOwn e
     → StopsBefore old new stop → StopLeads A s old.kernel image stop new (Some image)

@@ -1,5 +1,6 @@
 -- The state to which units lead, and stops where a unit is the next one.
 use Rattle.std.proofs.Common.{◌≡◌, ℕ, List, [], Option, Some, subst}
+use Rattle.vm_facts.specs.SwapImages.{SwapImage}
 use Rattle.vm_facts.specs.declared.entry.Entry.{Entry}
 use Rattle.vm_facts.specs.declared.entry.Entry.TheVariants as entries
 use Rattle.vm_facts.specs.declared.stop.Stop.{Stop}
@@ -16,24 +17,24 @@ use Rattle.run_units.proofs.Units.{none_leads, leads_at}
 use Rattle.step_units.specs.Stepped.{StopsBy, StopLeads}
 
 -- the swap image after units is told
-pub led_told : (A : Inputs) (s t : State) (k l : Kernel) (image : List ℕ) (j : Option (List ℕ)) (us : List Entry) (led : Leads A s k image us t l j)
+pub led_told : (A : Inputs) (s t : State) (k l : Kernel) (image : SwapImage) (j : Option SwapImage) (us : List Entry) (led : Leads A s k image us t l j)
     → Leads A s k image us t l (Some led.behind)
-led_told A s t k l image j us led = subst (λ (o : Option (List ℕ)). Leads A s k image us t l o) led.told led
+led_told A s t k l image j us led = subst (λ (o : Option SwapImage). Leads A s k image us t l o) led.told led
 
-pub led_at : (A : Inputs) (s t : State) (k l : Kernel) (image : List ℕ) (j : Option (List ℕ)) (us : List Entry) → At A s k image
+pub led_at : (A : Inputs) (s t : State) (k l : Kernel) (image : SwapImage) (j : Option SwapImage) (us : List Entry) → At A s k image
     → (led : Leads A s k image us t l j) → At A t l led.behind
 led_at A s t k l image j us at led = leads_at A s t k l image led.behind us at (led_told A s t k l image j us led)
 
 -- Stops.
 
 -- for want of memory no write spoils the swap image
-none_spoiled : (e : Entry) (k : Kernel) (i j : Option (List ℕ)) → SpoilsBy e stops.NoMemory k i j → j ≡ i
+none_spoiled : (e : Entry) (k : Kernel) (i j : Option SwapImage) → SpoilsBy e stops.NoMemory k i j → j ≡ i
 none_spoiled entries.Done k i j h = h
 none_spoiled (entries.SwapOut pid) k i j h = h
 none_spoiled _ k i j h = h
 
 -- a machine that stopped where a unit comes that is the run's next one
-pub stop_by : (A : Inputs) (t : State) (k : Kernel) (image : List ℕ) (e : Entry) (stop : Stop) (new : Standing) (j : Option (List ℕ))
+pub stop_by : (A : Inputs) (t : State) (k : Kernel) (image : SwapImage) (e : Entry) (stop : Stop) (new : Standing) (j : Option SwapImage)
     → next_unit A t ≡ Some e → StopsAt e k (Some image) stop new j
     → StopsBy A t k image stop new j
 stop_by A t k image e stops.NoMemory new j n h = none_spoiled e k (Some image) j h.image
@@ -42,7 +43,7 @@ stop_by A t k image e stops.FileFault new j n h = record { entry = e; next = n; 
 stop_by A t k image e stops.SwapReadFault new j n h = record { entry = e; next = n; full = h.full.0; cause = h.cause; spoils = h.image }
 stop_by A t k image e stops.SwapWriteFault new j n h = record { entry = e; next = n; full = h.full.0; cause = h.cause; spoils = h.image }
 
-pub stop_at : (A : Inputs) (t : State) (k : Kernel) (image : List ℕ) (e : Entry) (stop : Stop) (new : Standing) (j : Option (List ℕ))
+pub stop_at : (A : Inputs) (t : State) (k : Kernel) (image : SwapImage) (e : Entry) (stop : Stop) (new : Standing) (j : Option SwapImage)
     → next_unit A t ≡ Some e → StopsAt e k (Some image) stop new j
     → StopLeads A t k image stop new j
 stop_at A t k image e stop new j n h = record {

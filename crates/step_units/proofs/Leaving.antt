@@ -34,6 +34,7 @@ use Rattle.run_units.specs.Stepping.{GivesBack, returned, with_holdings}
 use Rattle.run_units.specs.Touching.{IsRunning}
 use Rattle.run_units.proofs.Units.{none_leads, leads_at}
 use Rattle.std.specs.Prelude.{length, ◌<◌, ◌≤◌}
+use Rattle.vm_facts.specs.SwapImages.{SwapImage}
 use Rattle.swap_book.specs.Holdings.{Holdings}
 use Rattle.swap_book.specs.Placing.{place_all}
 use Rattle.page_model.specs.Place.{facts_of}
@@ -59,12 +60,12 @@ pub record GivesUp (A : Inputs) (s : State) (pid : ℕ) (now : Bool) (p : Proces
 
 -- units are next units, behind which the process's step comes next; the machine's kernel is the one there, but that a borrowed
 -- space is back, and then the journal has room
-pub record Left (A : Inputs) (s : State) (old between : Standing) (image : List ℕ) (pid : ℕ) (now : Bool) (p : Process) (x : Space)
-    (j : Option (List ℕ)) : Type 0 where
+pub record Left (A : Inputs) (s : State) (old between : Standing) (image : SwapImage) (pid : ℕ) (now : Bool) (p : Process) (x : Space)
+    (j : Option SwapImage) : Type 0 where
   pub units : List Entry
   pub state : State
   pub kernel : Kernel
-  pub behind : List ℕ
+  pub behind : SwapImage
   pub told : j ≡ Some behind
   pub leads : Leads A s old.kernel image units state kernel (Some behind)
   pub same : SameBut s state
@@ -108,7 +109,7 @@ acts_first A s pid e es c r t d =
 
 -- As the space is left.
 
-module _ (A : Inputs) (s : State) (old : Standing) (holds : Option (List NamedFile)) (image : List ℕ) (pid : ℕ) (now : Bool) (p : Process) (x : Space) (m : MachineAt A s old holds image)
+module _ (A : Inputs) (s : State) (old : Standing) (holds : Option (List NamedFile)) (image : SwapImage) (pid : ℕ) (now : Bool) (p : Process) (x : Space) (m : MachineAt A s old holds image)
     (g : GivesUp A s pid now p x) where
   lends : is_borrower s.point.flat.processes pid ≡ has_lender old.kernel.processes pid
   lends = borrows A s old.kernel image pid m.at
@@ -128,7 +129,7 @@ module _ (A : Inputs) (s : State) (old : Standing) (holds : Option (List NamedFi
       none_lost A s pid now p x (step_at A s.point pid) g.running refl
       (ap (λ (b : Bool). loses_pages x b (step_at A s.point pid).change) (lends ∙ e) ∙ borrower_keeps x (step_at A s.point pid).change g.gives)
 
-  module _ (between : Standing) (j : Option (List ℕ)) where
+  module _ (between : Standing) (j : Option SwapImage) where
     by : (b : Bool) → has_lender old.kernel.processes pid ≡ b → HasLeftBy b old between pid holds (Some image) j → Left A s old between image pid now p x j
     by true e h = record {
       units = [];
@@ -175,7 +176,7 @@ module _ (A : Inputs) (s : State) (old : Standing) (holds : Option (List NamedFi
     has_left h = by (has_lender old.kernel.processes pid) refl h
 
   -- The run stops as transfers of the space end, or before the entry of the step.
-  pub stops_leaving : (u : Entry) (new : Standing) (j : Option (List ℕ)) (stop : Stop) → Begins s.point.last pid
+  pub stops_leaving : (u : Entry) (new : Standing) (j : Option SwapImage) (stop : Stop) → Begins s.point.last pid
       → (step_at A s.point pid).entries ≡ u ∷ [] → IsOwn u
       → StopsLeaving old new pid holds (Some image) j stop → StopLeads A s old.kernel image stop new j
   stops_leaving u new j stop b e own h = elim h [ inl y ↦ settling y.0 y.1 | inr y ↦ back y.0 y.1 y.2 ]
@@ -188,7 +189,7 @@ module _ (A : Inputs) (s : State) (old : Standing) (holds : Option (List NamedFi
 
       back : has_lender old.kernel.processes pid ≡ true → StopsBefore old new stop → j ≡ Some image → StopLeads A s old.kernel image stop new j
       back lent y same =
-          subst (λ (o : Option (List ℕ)). StopLeads A s old.kernel image stop new o) (sym same)
+          subst (λ (o : Option SwapImage). StopLeads A s old.kernel image stop new o) (sym same)
           (stopped_before A s old new image pid now u stop g.running.runs g.unwanted
           (acts_first A s pid u [] (on_steps A s s.mark pid now g.running.runs.on) g.fits (keeps_pages lent) (begins_due s.point.last pid (step_at A s.point pid).entries b ∙ e)) own y)
 
@@ -202,7 +203,7 @@ returned_stopped : (b : Bool) (k : Kernel) (pid : ℕ) → (returned b k pid).st
 returned_stopped true k pid = refl
 returned_stopped false k pid = refl
 
-module _ (A : Inputs) (s : State) (old between : Standing) (image : List ℕ) (pid : ℕ) (now : Bool) (p : Process) (x : Space) (j : Option (List ℕ)) (l : Left A s old between image pid now p x j) where
+module _ (A : Inputs) (s : State) (old between : Standing) (image : SwapImage) (pid : ℕ) (now : Bool) (p : Process) (x : Space) (j : Option SwapImage) (l : Left A s old between image pid now p x j) where
   -- the step is as it was
   pub step_stays : step_at A l.state.point pid ≡ step_at A s.point pid
   step_stays = ap (λ (y : Point). step_at A y pid) l.same.point
@@ -226,7 +227,7 @@ module _ (A : Inputs) (s : State) (old between : Standing) (image : List ℕ) (p
       → StopLeads A s old.kernel image stop new j
   left_stops u new stop b e own h =
       let journal : between.kernel.journal ≡ l.kernel.journal = ap (λ (k : Kernel). k.journal) l.back ∙ returned_journal (has_lender l.kernel.processes pid) l.kernel pid in
-      subst (λ (o : Option (List ℕ)). StopLeads A s old.kernel image stop new o) (sym l.told)
+      subst (λ (o : Option SwapImage). StopLeads A s old.kernel image stop new o) (sym l.told)
       (stops_then A s l.state old.kernel l.kernel image l.behind (Some l.behind) l.units stop new l.leads
       (stopped_in A l.state l.kernel new l.behind pid now u stop l.gives.running.runs l.gives.unwanted (left_acts u b e) own (record {
         journal = h.stopped.journal ∙ journal;

@@ -1,5 +1,6 @@
 -- A vfork is the step of its process.
 use Rattle.std.proofs.Common.{◌≡◌, ℕ, Bool, true, false, List, [], Option, Some, refl, ap, ◌∙◌}
+use Rattle.vm_facts.specs.SwapImages.{SwapImage}
 use Rattle.io_edge.specs.FileHolding.{NamedFile}
 use Rattle.vm_facts.specs.declared.regs.Regs.{Regs}
 use Rattle.vm_facts.specs.declared.entry.Entry.{Entry}
@@ -31,7 +32,7 @@ use Rattle.step_units.proofs.Entering.{headers, completes, complete_leads}
 use Rattle.step_units.proofs.Children.{vfork_asks, child_called}
 use Rattle.step_units.proofs.Making.{Asking, told_regs, without_child, without_place, Found, found_child, making_stops}
 
-pub lent_space : (A : Inputs) (s : State) (old new : Standing) (holds : Option (List NamedFile)) (image : List ℕ) (pid : ℕ) (now : Bool) (p : Process)
+pub lent_space : (A : Inputs) (s : State) (old new : Standing) (holds : Option (List NamedFile)) (image : SwapImage) (pid : ℕ) (now : Bool) (p : Process)
     (x : Space) (effect : Effect)
     → Asking A s old holds image pid now p x effect system_calls.Vfork (λ child. changes.Lend child) → is_below_limit old.kernel ≡ true
     → HasLentSpace old new pid effect.regs old.kernel.next_pid → StepLeads A s old.kernel image 1 new.kernel (Some image)
@@ -55,7 +56,7 @@ lent_space A s old new holds image pid now p x effect a b h =
     complete_leads A s k new.kernel image pid e
     (completes A s k new.kernel image pid now e a.runs.machine.at a.runs.running.runs a.called.unwanted f.next refl f.due made clear)
 
-asking : (A : Inputs) (s : State) (old : Standing) (holds : Option (List NamedFile)) (image : List ℕ) (pid : ℕ) (now : Bool) (p : Process)
+asking : (A : Inputs) (s : State) (old : Standing) (holds : Option (List NamedFile)) (image : SwapImage) (pid : ℕ) (now : Bool) (p : Process)
     (x : Space) (effect : Effect)
     → RunsOn A s old holds image pid now p x → MakesCall old p x effect system_calls.Vfork
     → Asking A s old holds image pid now p x effect system_calls.Vfork (λ child. changes.Lend child)
@@ -66,7 +67,7 @@ asking A s old holds image pid now p x effect runs makes = record {
   called = child_called A s old holds image pid now p x effect system_calls.Vfork (λ child. changes.Lend child) vfork_asks runs makes;
 }
 
-pub vfork_made : (A : Inputs) (s : State) (old new : Standing) (holds : Option (List NamedFile)) (image : List ℕ) (pid : ℕ) (now : Bool) (p : Process)
+pub vfork_made : (A : Inputs) (s : State) (old new : Standing) (holds : Option (List NamedFile)) (image : SwapImage) (pid : ℕ) (now : Bool) (p : Process)
     (x : Space) (effect : Effect)
     → RunsOn A s old holds image pid now p x → MakesCall old p x effect system_calls.Vfork → Vforked old new pid effect.regs
     → StepLeads A s old.kernel image 1 new.kernel (Some image)
@@ -81,7 +82,7 @@ vfork_made A s old new holds image pid now p x effect runs makes h = go (is_belo
     go true false b f y = without_place A s old new holds image pid now p x effect system_calls.Vfork (λ child. changes.Lend child) a b f y
     go true true b f y = lent_space A s old new holds image pid now p x effect a b y
 
-pub vfork_stops : (A : Inputs) (s : State) (old new : Standing) (holds : Option (List NamedFile)) (image : List ℕ) (pid : ℕ) (now : Bool) (p : Process)
+pub vfork_stops : (A : Inputs) (s : State) (old new : Standing) (holds : Option (List NamedFile)) (image : SwapImage) (pid : ℕ) (now : Bool) (p : Process)
     (x : Space) (effect : Effect) (stop : Stop)
     → RunsOn A s old holds image pid now p x → MakesCall old p x effect system_calls.Vfork → StopsMaking old new pid (changes.Lend old.kernel.next_pid) stop
     → StopLeads A s old.kernel image stop new (Some image)

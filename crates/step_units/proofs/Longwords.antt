@@ -1,5 +1,6 @@
 -- Next units keep registers of longwords.
 use Rattle.std.proofs.Common.{◌≡◌, ◌⊎◌, inl, inr, ℕ, ◌+◌, ◌<◌, ◌≤◌, ◌^◌, List, [], ◌∷◌, length, Option, Some, None, sym, ap, ◌∙◌, subst, arith}
+use Rattle.vm_facts.specs.SwapImages.{SwapImage}
 use Rattle.vm_facts.specs.declared.entry.Entry.{Entry}
 use Rattle.flat_state.specs.Flat.{FlatState, Inputs}
 use Rattle.kernel_model.specs.Kernel.{Kernel}
@@ -48,12 +49,12 @@ one_stays A s u w r n l h =
     }
 
 -- counts don't fall
-counts_on : (A : Inputs) (us : List Entry) (s t : State) (k l : Kernel) (image behind : List ℕ) → Makes A s k image us t l behind → s.count ≤ t.count
+counts_on : (A : Inputs) (us : List Entry) (s t : State) (k l : Kernel) (image behind : SwapImage) → Makes A s k image us t l behind → s.count ≤ t.count
 counts_on A [] s t k l image behind m = let e = ap (λ (x : State). x.count) m.0 in omega (arith, e)
 counts_on A (u ∷ us) s t k l image behind m =
     let c = after_count A s u in let d = counts_on A us (after A s u) t (unit_step A s k image m.1.0 u) l (unit_image k image u) behind m.1.2 in omega (arith, c, d)
 
-all_stay : (A : Inputs) (us : List Entry) (s t : State) (k l : Kernel) (image behind : List ℕ) → AllImages A.images → ImagesFit A.images → IsRun A s
+all_stay : (A : Inputs) (us : List Entry) (s t : State) (k l : Kernel) (image behind : SwapImage) → AllImages A.images → ImagesFit A.images → IsRun A s
     → Makes A s k image us t l behind
     → length A.first + 1 + t.count < 2 ^ 32 → HasLongwords A s → HasLongwords A t
 all_stay A [] s t k l image behind w f r m c h = subst (HasLongwords A) m.0 h
@@ -62,7 +63,7 @@ all_stay A (u ∷ us) s t k l image behind w f r m c h =
     all_stay A us (after A s u) t (unit_step A s k image m.1.0 u) l (unit_image k image u) behind w f (run_on A s u f (execs_fit A) r m.0) m.1.2 c
     (one_stays A s u w r m.0 (omega (arith, low, c)) h)
 
-pub longwords_stay : (A : Inputs) (s t : State) (k l : Kernel) (image : List ℕ) (j : Option (List ℕ)) (us : List Entry) → AllImages A.images
+pub longwords_stay : (A : Inputs) (s t : State) (k l : Kernel) (image : SwapImage) (j : Option SwapImage) (us : List Entry) → AllImages A.images
     → At A s k image → Leads A s k image us t l j
     → length A.first + 1 + t.count < 2 ^ 32 → HasLongwords A s → HasLongwords A t
 longwords_stay A s t k l image j us w at a c h = all_stay A us s t k l image a.behind w at.fit at.run a.makes c h

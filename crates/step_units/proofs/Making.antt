@@ -1,6 +1,7 @@
 -- A call with which a process makes another: it fails, or the pieces of the child are found.
 use Rattle.std.proofs.Common.{◌≡◌, ◌⊎◌, inl, inr, ℕ, Bool, true, false, List, [], ◌∷◌, Option, Some, refl, sym, ap, ◌∙◌, subst}
 use Rattle.std.specs.Prelude.{Result, Ok, Err, is_ok}
+use Rattle.vm_facts.specs.SwapImages.{SwapImage}
 use Rattle.io_edge.specs.FileHolding.{NamedFile}
 use Rattle.vm_facts.specs.declared.regs.Regs.{Regs}
 use Rattle.vm_facts.specs.declared.entry.Entry.{Entry}
@@ -43,7 +44,7 @@ use Rattle.step_units.proofs.Refusing.{IsRefusal, call_refusal, refused_fails, r
 use Rattle.step_units.proofs.Children.{AsksChild, child_told}
 
 -- A call that asks for a child, made by a process of a machine that stands at a state of a run.
-pub record Asking (A : Inputs) (s : State) (old : Standing) (holds : Option (List NamedFile)) (image : List ℕ) (pid : ℕ) (now : Bool) (p : Process) (x : Space)
+pub record Asking (A : Inputs) (s : State) (old : Standing) (holds : Option (List NamedFile)) (image : SwapImage) (pid : ℕ) (now : Bool) (p : Process) (x : Space)
     (effect : Effect) (call : SystemCall) (change : ℕ → Change) : Type 0 where
   pub asks : AsksChild call change
   pub runs : RunsOn A s old holds image pid now p x
@@ -69,7 +70,7 @@ told_by A s old p x effect call change below b c =
     subst (λ (z : Bool). IsCalledFor A s p x call effect (Ok (child_by z effect.regs old.kernel.next_pid (own_change old change)))) b c
 
 -- the step of the process, where there are fewer
-pub making_step : (A : Inputs) (s : State) (old : Standing) (holds : Option (List NamedFile)) (image : List ℕ) (pid : ℕ) (now : Bool) (p : Process) (x : Space)
+pub making_step : (A : Inputs) (s : State) (old : Standing) (holds : Option (List NamedFile)) (image : SwapImage) (pid : ℕ) (now : Bool) (p : Process) (x : Space)
     (effect : Effect) (call : SystemCall)
     (change : ℕ → Change)
     → Asking A s old holds image pid now p x effect call change → is_below_limit old.kernel ≡ true
@@ -79,7 +80,7 @@ making_step A s old holds image pid now p x effect call change a b =
     (told_by A s old p x effect call change true b a.called)
 
 -- what it asks for, of the machine and of the run
-pub same_pieces : (A : Inputs) (s : State) (old : Standing) (holds : Option (List NamedFile)) (image : List ℕ) (pid : ℕ) (change : Change)
+pub same_pieces : (A : Inputs) (s : State) (old : Standing) (holds : Option (List NamedFile)) (image : SwapImage) (pid : ℕ) (change : Change)
     → MachineAt A s old holds image
     → place_all old.params.swap_blocks old.kernel.holdings (asked (facts_named old.images) old.kernel pid change)
     ≡ place_all A.swap_blocks old.kernel.holdings (asked (facts_of A.images) old.kernel pid change)
@@ -87,14 +88,14 @@ same_pieces A s old holds image pid change h =
     ap (λ (n : ℕ). place_all n old.kernel.holdings (asked (facts_named old.images) old.kernel pid change)) h.blocks
     ∙ ap (λ (fs : List Image). place_all A.swap_blocks old.kernel.holdings (asked fs old.kernel pid change)) (headers A s old holds image h)
 
-none_found : (A : Inputs) (s : State) (old : Standing) (holds : Option (List NamedFile)) (image : List ℕ) (pid : ℕ) (change : ℕ → Change)
+none_found : (A : Inputs) (s : State) (old : Standing) (holds : Option (List NamedFile)) (image : SwapImage) (pid : ℕ) (change : ℕ → Change)
     → MachineAt A s old holds image
     → finds_pieces old pid (own_change old change) ≡ false
     → is_ok (place_all A.swap_blocks old.kernel.holdings (asked (facts_of A.images) old.kernel pid (own_change old change))) ≡ false
 none_found A s old holds image pid change h f = ap (λ (o : Result Holdings ℕ). is_ok o) (sym (same_pieces A s old holds image pid (own_change old change) h)) ∙ f
 
 -- its pieces found no place
-pub making_refused : (A : Inputs) (s : State) (old : Standing) (holds : Option (List NamedFile)) (image : List ℕ) (pid : ℕ) (now : Bool) (p : Process)
+pub making_refused : (A : Inputs) (s : State) (old : Standing) (holds : Option (List NamedFile)) (image : SwapImage) (pid : ℕ) (now : Bool) (p : Process)
     (x : Space) (effect : Effect)
     (call : SystemCall) (change : ℕ → Change)
     → Asking A s old holds image pid now p x effect call change → is_below_limit old.kernel ≡ true → finds_pieces old pid (own_change old change) ≡ false
@@ -104,7 +105,7 @@ making_refused A s old holds image pid now p x effect call change a b f =
     (told_by A s old p x effect call change true b a.called) refl (none_found A s old holds image pid change a.runs.machine f)
 
 -- The call fails, with no child.
-pub without_child : (A : Inputs) (s : State) (old new : Standing) (holds : Option (List NamedFile)) (image : List ℕ) (pid : ℕ) (now : Bool) (p : Process)
+pub without_child : (A : Inputs) (s : State) (old new : Standing) (holds : Option (List NamedFile)) (image : SwapImage) (pid : ℕ) (now : Bool) (p : Process)
     (x : Space) (effect : Effect)
     (call : SystemCall) (change : ℕ → Change)
     → Asking A s old holds image pid now p x effect call change → is_below_limit old.kernel ≡ false
@@ -114,7 +115,7 @@ without_child A s old new holds image pid now p x effect call change a b h =
     fails A s old new.kernel holds image pid now p x effect call (Ok (child_by false effect.regs old.kernel.next_pid (own_change old change))) try_again a.runs a.makes.names
     (told_by A s old p x effect call change false b a.called) refl h.step
 
-pub without_place : (A : Inputs) (s : State) (old new : Standing) (holds : Option (List NamedFile)) (image : List ℕ) (pid : ℕ) (now : Bool) (p : Process)
+pub without_place : (A : Inputs) (s : State) (old new : Standing) (holds : Option (List NamedFile)) (image : SwapImage) (pid : ℕ) (now : Bool) (p : Process)
     (x : Space) (effect : Effect)
     (call : SystemCall) (change : ℕ → Change)
     → Asking A s old holds image pid now p x effect call change → is_below_limit old.kernel ≡ true → finds_pieces old pid (own_change old change) ≡ false
@@ -131,7 +132,7 @@ pub record Found (A : Inputs) (s : State) (old : Standing) (pid : ℕ) (p : Proc
   pub next : act A s pid ≡ Some (call_entry pid call (told_regs old effect))
   pub pieces : place_all A.swap_blocks old.kernel.holdings (asked (facts_of A.images) old.kernel pid change) ≡ Ok found
 
-pub found_child : (A : Inputs) (s : State) (old : Standing) (holds : Option (List NamedFile)) (image : List ℕ) (pid : ℕ) (now : Bool) (p : Process) (x : Space)
+pub found_child : (A : Inputs) (s : State) (old : Standing) (holds : Option (List NamedFile)) (image : SwapImage) (pid : ℕ) (now : Bool) (p : Process) (x : Space)
     (effect : Effect) (call : SystemCall)
     (change : ℕ → Change)
     (found : Holdings) → Asking A s old holds image pid now p x effect call change → is_below_limit old.kernel ≡ true
@@ -155,7 +156,7 @@ found_child A s old holds image pid now p x effect call change found a b h =
 -- Stops.
 
 -- the entry of a call that fails is next
-fails_next : (A : Inputs) (s : State) (old : Standing) (holds : Option (List NamedFile)) (image : List ℕ) (pid : ℕ) (now : Bool) (p : Process) (x : Space)
+fails_next : (A : Inputs) (s : State) (old : Standing) (holds : Option (List NamedFile)) (image : SwapImage) (pid : ℕ) (now : Bool) (p : Process) (x : Space)
     (effect : Effect) (call : SystemCall)
     (change : ℕ → Change)
     → Asking A s old holds image pid now p x effect call change → is_below_limit old.kernel ≡ false
@@ -173,7 +174,7 @@ some_found (Ok found) h = (found, refl)
 some_found (Err n) h = absurd cc
 
 -- the run stopped as it was
-stops_first : (A : Inputs) (s : State) (old new : Standing) (holds : Option (List NamedFile)) (image : List ℕ) (pid : ℕ) (now : Bool) (p : Process) (x : Space)
+stops_first : (A : Inputs) (s : State) (old new : Standing) (holds : Option (List NamedFile)) (image : SwapImage) (pid : ℕ) (now : Bool) (p : Process) (x : Space)
     (effect : Effect) (call : SystemCall)
     (change : ℕ → Change)
     (stop : Stop) → Asking A s old holds image pid now p x effect call change → StopsBefore old new stop → StopLeads A s old.kernel image stop new (Some image)
@@ -191,7 +192,7 @@ stops_first A s old new holds image pid now p x effect call change stop a h = go
         let found = some_found (place_all old.params.swap_blocks old.kernel.holdings (asked (facts_named old.images) old.kernel pid (own_change old change))) f in
         before (call_entry pid call (told_regs old effect)) (found_child A s old holds image pid now p x effect call change found.0 a b found.1).next tt
 
-pub making_stops : (A : Inputs) (s : State) (old new : Standing) (holds : Option (List NamedFile)) (image : List ℕ) (pid : ℕ) (now : Bool) (p : Process)
+pub making_stops : (A : Inputs) (s : State) (old new : Standing) (holds : Option (List NamedFile)) (image : SwapImage) (pid : ℕ) (now : Bool) (p : Process)
     (x : Space) (effect : Effect)
     (call : SystemCall) (change : ℕ → Change)
     (stop : Stop) → Asking A s old holds image pid now p x effect call change → StopsMaking old new pid (own_change old change) stop

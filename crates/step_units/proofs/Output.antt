@@ -2,6 +2,7 @@
 use Rattle.std.proofs.Common.{◌≡◌, ℕ, ◌==◌, Bool, true, false, cond, List, [], ◌∷◌, map, length, Option, Some, None, Result, refl, sym, ap, ◌∙◌, subst}
 use Rattle.std.proofs.lemmas.Bool.{ne_eqb}
 use Rattle.std.proofs.lemmas.Option.{same_Some}
+use Rattle.vm_facts.specs.SwapImages.{SwapImage}
 use Rattle.io_edge.specs.FileHolding.{NamedFile}
 use Rattle.vm_facts.specs.declared.regs.Regs.{Regs}
 use Rattle.vm_facts.specs.declared.entry.Entry.{Entry}
@@ -82,7 +83,7 @@ noted images k pid p x e d h =
 
 -- The bytes went out, and the call's own entry comes.
 
-pub record IsOutput (A : Inputs) (s : State) (old between : Standing) (holds : Option (List NamedFile)) (image : List ℕ) (pid : ℕ) (now : Bool) (p : Process)
+pub record IsOutput (A : Inputs) (s : State) (old between : Standing) (holds : Option (List NamedFile)) (image : SwapImage) (pid : ℕ) (now : Bool) (p : Process)
     (x : Space) (u c : Entry) (step : Step) : Type 0 where
   pub leads : Leads A s old.kernel image (u ∷ []) (after A s u) between.kernel (Some image)
   pub waits : StepWaits A s u (after A s u)
@@ -93,7 +94,7 @@ pub record IsOutput (A : Inputs) (s : State) (old between : Standing) (holds : O
   pub acts : act A (after A s u) pid ≡ Some c
   pub left : due_at A (after A s u).point pid ≡ c ∷ []
 
-pub outputs : (A : Inputs) (s : State) (old between : Standing) (holds : Option (List NamedFile)) (image : List ℕ) (pid : ℕ) (now : Bool) (p : Process)
+pub outputs : (A : Inputs) (s : State) (old between : Standing) (holds : Option (List NamedFile)) (image : SwapImage) (pid : ℕ) (now : Bool) (p : Process)
     (x : Space) (effect : Effect)
     (call : SystemCall)
     (r : Result Reply Refused) (byte : ℕ) (bytes : List ℕ)
@@ -142,7 +143,7 @@ outputs A s old between holds image pid now p x effect call r byte bytes h m c e
       left = ap (λ (z : Step). due t.point.last pid z.entries) step_is ∙ ap (due t.point.last pid) first ∙ out_due t.point.last pid out_bytes u (v ∷ []) w.last;
     }
 
-pub writes_out : (A : Inputs) (s : State) (old new : Standing) (holds : Option (List NamedFile)) (image : List ℕ) (pid : ℕ) (now : Bool) (p : Process)
+pub writes_out : (A : Inputs) (s : State) (old new : Standing) (holds : Option (List NamedFile)) (image : SwapImage) (pid : ℕ) (now : Bool) (p : Process)
     (x : Space) (effect : Effect) (call : SystemCall)
     (r : Result Reply Refused) (byte : ℕ) (bytes : List ℕ)
     → RunsOn A s old holds image pid now p x → IsCallOf effect call → IsCalledFor A s p x call effect r → or_fault r ≡ Writes (byte ∷ bytes)

@@ -1,5 +1,6 @@
 -- Waits, questions for the number, writes, and calls whose reads were refused.
 use Rattle.std.proofs.Common.{◌≡◌, ◌⊎◌, inl, inr, ℕ, Bool, false, List, [], ◌∷◌, length, Option, Some, None, Result, Ok, Err, refl, sym, ap, ap₂, ◌∙◌, subst}
+use Rattle.vm_facts.specs.SwapImages.{SwapImage}
 use Rattle.io_edge.specs.FileHolding.{NamedFile}
 use Rattle.vm_facts.specs.Answers.{Answers}
 use Rattle.vm_facts.specs.declared.regs.Regs.{Regs}
@@ -43,7 +44,7 @@ use Rattle.step_units.proofs.Quiet.{IsQuiet, IsQuietRead, comes_made, stops_quie
 
 -- What the calls ask.
 
-pub asked_plainly : (A : Inputs) (s : State) (old : Standing) (holds : Option (List NamedFile)) (image : List ℕ) (pid : ℕ) (now : Bool) (p : Process)
+pub asked_plainly : (A : Inputs) (s : State) (old : Standing) (holds : Option (List NamedFile)) (image : SwapImage) (pid : ℕ) (now : Bool) (p : Process)
     (x : Space) (effect : Effect) (call : SystemCall)
     → RunsOn A s old holds image pid now p x → MakesCall old p x effect call
     → run (kernel_answers old.kernel x.sid) (reply_asked A.images s.point.flat p x call effect)
@@ -67,7 +68,7 @@ writes_run : (images : List NamedImage) (F : FlatState) (p : Process) (x : Space
 unfolding reply_of
 writes_run images F p x regs memory = refl
 
-wait_asked : (A : Inputs) (s : State) (old : Standing) (holds : Option (List NamedFile)) (image : List ℕ) (pid : ℕ) (now : Bool) (p : Process)
+wait_asked : (A : Inputs) (s : State) (old : Standing) (holds : Option (List NamedFile)) (image : SwapImage) (pid : ℕ) (now : Bool) (p : Process)
     (x : Space) (effect : Effect)
     → RunsOn A s old holds image pid now p x → MakesCall old p x effect system_calls.Wait
     → run (kernel_answers old.kernel x.sid) (reply_asked A.images s.point.flat p x system_calls.Wait effect) ≡ Ok (wait_answer old.kernel pid effect.regs)
@@ -77,7 +78,7 @@ wait_asked A s old holds image pid now p x effect h m =
     ∙ ap (λ (z : Reply). let r : Result Reply Refused = Ok z in r)
     (ap (λ (n : ℕ). flat_wait s.point.flat n effect.regs) kept.number ∙ sym (wait_is old.kernel s.point.flat pid effect.regs h.machine.at.stands.keeps.coupled.tables))
 
-number_asked : (A : Inputs) (s : State) (old : Standing) (holds : Option (List NamedFile)) (image : List ℕ) (pid : ℕ) (now : Bool) (p : Process)
+number_asked : (A : Inputs) (s : State) (old : Standing) (holds : Option (List NamedFile)) (image : SwapImage) (pid : ℕ) (now : Bool) (p : Process)
     (x : Space) (effect : Effect)
     → RunsOn A s old holds image pid now p x → MakesCall old p x effect system_calls.Getpid
     → run (kernel_answers old.kernel x.sid) (reply_asked A.images s.point.flat p x system_calls.Getpid effect)
@@ -87,7 +88,7 @@ number_asked A s old holds image pid now p x effect h m =
     asked_plainly A s old holds image pid now p x effect system_calls.Getpid h m ∙ numbers_run A.images s.point.flat p x effect.regs (kernel_answers old.kernel x.sid)
     ∙ ap₂ (λ (n parent : ℕ). let r : Result Reply Refused = Ok (Does (replied_both effect.regs n parent) changes.Keep) in r) kept.number (sym (parent_is old.kernel pid p x kept))
 
-write_asked : (A : Inputs) (s : State) (old : Standing) (holds : Option (List NamedFile)) (image : List ℕ) (pid : ℕ) (now : Bool) (p : Process)
+write_asked : (A : Inputs) (s : State) (old : Standing) (holds : Option (List NamedFile)) (image : SwapImage) (pid : ℕ) (now : Bool) (p : Process)
     (x : Space) (effect : Effect)
     → RunsOn A s old holds image pid now p x → MakesCall old p x effect system_calls.Write
     → run (kernel_answers old.kernel x.sid) (reply_asked A.images s.point.flat p x system_calls.Write effect)
@@ -147,7 +148,7 @@ pub refused_stops : RefusedCallStops
 refused_stops = stops_reading
 
 -- a write stops before the bytes that go out, or after them
-stops_writing : (A : Inputs) (s : State) (old new : Standing) (holds : Option (List NamedFile)) (image : List ℕ) (pid : ℕ) (now : Bool) (p : Process)
+stops_writing : (A : Inputs) (s : State) (old new : Standing) (holds : Option (List NamedFile)) (image : SwapImage) (pid : ℕ) (now : Bool) (p : Process)
     (x : Space) (effect : Effect)
     (reply : Reply) (stop : Stop)
     → RunsOn A s old holds image pid now p x → IsCallOf effect system_calls.Write → IsCalledFor A s p x system_calls.Write effect (Ok reply) → IsQuiet reply

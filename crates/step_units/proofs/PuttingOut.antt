@@ -1,6 +1,7 @@
 -- A turn of the swapper.
 use Rattle.std.proofs.Common.{◌≡◌, ℕ, ◌+◌, ◌==◌, Bool, true, false, cond, List, [], ◌∷◌, ◌++◌, length, find, Option, Some, None, refl, sym, ap, ◌∙◌, subst, arith}
 use Rattle.std.proofs.lemmas.Option.{same_Some}
+use Rattle.vm_facts.specs.SwapImages.{SwapImage}
 use Rattle.vm_facts.specs.declared.entry.Entry.{Entry}
 use Rattle.vm_facts.specs.declared.entry.Entry.TheVariants as entries
 use Rattle.vm_facts.specs.declared.stop.Stop.{Stop}
@@ -51,7 +52,7 @@ use Rattle.step_units.proofs.Beginning.{one_leads}
 use Rattle.step_units.proofs.Choosing.{runners_same}
 
 -- the mark is that of the choice that was made
-chosen_mark : (A : Inputs) (s : State) (old : Standing) (holds : Option (List NamedFile)) (image : List ℕ) (t : Turned) → MachineAt A s old holds image
+chosen_mark : (A : Inputs) (s : State) (old : Standing) (holds : Option (List NamedFile)) (image : SwapImage) (t : Turned) → MachineAt A s old holds image
     → s.mark ≡ swap_mark (swap_choice s.place (runners s.point.flat)) → choice_of t ≡ swap_choice old.kernel.place (runners_of old.kernel)
     → s.mark ≡ swap_mark (choice_of t)
 chosen_mark A s old holds image t at m c =
@@ -76,7 +77,7 @@ parted (u ∷ us) vs at p pid sid r h =
     }
 
 -- a unit of paging leaves no place in the journal in the placement
-anywhere : (g : Ground) (e : Entry) (k l : Kernel) (i : Option (List ℕ)) (n m : ℕ) (p : Placement) → MadeBy g e k i l
+anywhere : (g : Ground) (e : Entry) (k l : Kernel) (i : Option SwapImage) (n m : ℕ) (p : Placement) → MadeBy g e k i l
     → place_entry [] n p e ≡ place_entry [] m p e
 anywhere g (entries.Zero q) k l i n m p h = refl
 anywhere g (entries.Copy q) k l i n m p h = refl
@@ -87,7 +88,7 @@ anywhere g (entries.Put q c) k l i n m p h = refl
 anywhere g entries.Done k l i n m p h = refl
 anywhere g _ k l i n m p h = absurd h
 
-made_place : (us : List Entry) (g : Ground) (k l : Kernel) (i j : Option (List ℕ)) (at pid sid : ℕ) (r : Placement) → g.locked ≡ []
+made_place : (us : List Entry) (g : Ground) (k l : Kernel) (i j : Option SwapImage) (at pid sid : ℕ) (r : Placement) → g.locked ≡ []
     → Made g us k i l j → PutsOut us at k.place pid sid r → r ≡ l.place
 made_place [] g k l i j at pid sid r e m h = sym h ∙ ap (λ (x : Kernel). x.place) m.0
 made_place (u ∷ us) g k l i j at pid sid r e m h =
@@ -136,7 +137,7 @@ fits_found (x ∷ qs) pid q h e = go (fits_found qs pid q h.1) (x.pid == pid) e
     go later true k = let same : x ≡ q = cc in subst (λ (y : Process). AreRegs y.regs) same h.0.0
     go later false k = later k
 
-kept_registers : (A : Inputs) (s : State) (k : Kernel) (image : List ℕ) (pid sid : ℕ) → At A s k image → Holder s.point.flat pid sid
+kept_registers : (A : Inputs) (s : State) (k : Kernel) (image : SwapImage) (pid sid : ℕ) → At A s k image → Holder s.point.flat pid sid
     → is_out s.place pid ≡ false → ProcessesFit s.point.flat.processes
     → (p : Proc) → proc_of k pid ≡ Some p → AreRegs p.regs
 kept_registers A s k image pid sid at h o fit p e =
@@ -148,14 +149,14 @@ kept_registers A s k image pid sid at h o fit p e =
 
 -- What the swapper does.
 
-nothing_made : (A : Inputs) (s : State) (old new : Standing) (image : List ℕ) (j : Option (List ℕ)) → IsClear s → s.mark ≡ marks.Over → new ≡ old
+nothing_made : (A : Inputs) (s : State) (old new : Standing) (image : SwapImage) (j : Option SwapImage) → IsClear s → s.mark ≡ marks.Over → new ≡ old
     → j ≡ Some image
     → LineLeads A s old.kernel image new.kernel j
 nothing_made A s old new image j c m e i = record {
   units = [];
   state = s;
   leads = subst (λ (n : Standing). Leads A s old.kernel image [] s n.kernel j) (sym e)
-      (subst (λ (o : Option (List ℕ)). Leads A s old.kernel image [] s old.kernel o) (sym i) (none_leads A s old.kernel image));
+      (subst (λ (o : Option SwapImage). Leads A s old.kernel image [] s old.kernel o) (sym i) (none_leads A s old.kernel image));
   over = record { clear = c.clear; between = c.between; over = ap (under A s) m };
   point = refl;
   count = refl;
@@ -163,7 +164,7 @@ nothing_made A s old new image j c m e i = record {
   unturned = ap last_turned m;
 }
 
-pub in_comes : (A : Inputs) (s : State) (old new : Standing) (image : List ℕ) (j : Option (List ℕ)) (pid : ℕ) → IsClear s → s.mark ≡ marks.BringIn pid
+pub in_comes : (A : Inputs) (s : State) (old new : Standing) (image : SwapImage) (j : Option SwapImage) (pid : ℕ) → IsClear s → s.mark ≡ marks.BringIn pid
     → IsIn old.kernel new.kernel pid (Some image)
     → j ≡ Some image → LineLeads A s old.kernel image new.kernel j
 unfolding after
@@ -172,7 +173,7 @@ in_comes A s old new image j pid c m i e =
     record {
       units = u ∷ [];
       state = after A s u;
-      leads = subst (λ (o : Option (List ℕ)). Leads A s old.kernel image (u ∷ []) (after A s u) new.kernel o) (sym e)
+      leads = subst (λ (o : Option SwapImage). Leads A s old.kernel image (u ∷ []) (after A s u) new.kernel o) (sym e)
           (one_leads A s old.kernel new.kernel image (Some image) u ((line_asks A s c.clear).0 pid m) (in_made A s old.kernel new.kernel image pid i));
       over = record { clear = c.clear; between = c.between; over = ap (under A (after A s u)) (ap brought_in m) };
       point = refl;
@@ -185,7 +186,7 @@ puts_process : (s : State) (k : Kernel) (pid sid : ℕ) → IsClear s → s.mark
 puts_process s k pid sid c m h = record { mark = m; clear = c.clear; own = own_space s.point.flat pid sid h }
 
 -- after the units that put a process out it goes out
-last_out : (A : Inputs) (s : State) (k l : Kernel) (image : List ℕ) (j : Option (List ℕ)) (pid sid : ℕ) → At A s k image → IsBetween s.point.last
+last_out : (A : Inputs) (s : State) (k l : Kernel) (image : SwapImage) (j : Option SwapImage) (pid sid : ℕ) → At A s k image → IsBetween s.point.last
     → PutsProcess s pid sid → Holder s.point.flat pid sid
     → is_out s.place pid ≡ false → ProcessesFit s.point.flat.processes → entries.SwapOut pid ≡ put_out_unit s.place pid sid → l ≡ out_step k pid
     → WritesU k pid (Some image) j → LineLeads A s k image l j
@@ -197,7 +198,7 @@ last_out A s k l image j pid sid at b p h o fit e step w =
     record {
       units = u ∷ [];
       state = after A s u;
-      leads = subst (λ (x : Option (List ℕ)). Leads A s k image (u ∷ []) (after A s u) l x) (sym made.told) (one_leads A s k l image j u next made);
+      leads = subst (λ (x : Option SwapImage). Leads A s k image (u ∷ []) (after A s u) l x) (sym made.told) (one_leads A s k l image j u next made);
       over = record { clear = p.clear; between = b; over = ap (under A (after A s u)) (ap put_out p.mark) };
       point = refl;
       count = refl;
@@ -205,7 +206,7 @@ last_out A s k l image j pid sid at b p h o fit e step w =
       unturned = ap (λ (x : Mark). last_turned (put_out x)) p.mark;
     }
 
-pub out_comes : (A : Inputs) (s : State) (old new : Standing) (holds : Option (List NamedFile)) (image : List ℕ) (j : Option (List ℕ)) (pid sid : ℕ)
+pub out_comes : (A : Inputs) (s : State) (old new : Standing) (holds : Option (List NamedFile)) (image : SwapImage) (j : Option SwapImage) (pid sid : ℕ)
     → MachineAt A s old holds image → IsClear s
     → ProcessesFit s.point.flat.processes → s.mark ≡ marks.PutOut pid → HoldsThere old.kernel pid sid → PutOut pid sid old new holds (Some image) j
     → LineLeads A s old.kernel image new.kernel j
@@ -218,20 +219,20 @@ out_comes A s old new holds image j pid sid at c fit m there o =
     let led : LeadsPutting A s old.kernel image pid sid o.units o.at o.image =
     putting o.units A g s old.kernel o.at image o.image pid sid n at.at at.images (puts_process s old.kernel pid sid c m h)
     (subst (λ (y : Placement). PutsOut o.units n old.kernel.place pid sid y) same x.first) o.made in
-    let b : List ℕ = led.leads.behind in
-    let leads : Leads A s old.kernel image o.units led.state o.at (Some b) = subst (λ (z : Option (List ℕ)). Leads A s old.kernel image o.units led.state o.at z) led.leads.told led.leads in
+    let b : SwapImage = led.leads.behind in
+    let leads : Leads A s old.kernel image o.units led.state o.at (Some b) = subst (λ (z : Option SwapImage). Leads A s old.kernel image o.units led.state o.at z) led.leads.told led.leads in
     let behind : At A led.state o.at b = leads_at A s led.state old.kernel o.at image b o.units at.at leads in
     let here : x.between ≡ led.state.place = same ∙ behind.stands.place in
     let more : LineLeads A led.state o.at b new.kernel j =
     last_out A led.state o.at new.kernel b j pid sid behind (subst (λ (p : Point). IsBetween p.last) (sym led.same.point) c.between) led.puts
     (subst (λ (p : Point). Holder p.flat pid sid) (sym led.same.point) h) (ap (λ (y : Placement). is_out y pid) (sym here) ∙ x.behind.0)
     (subst (λ (p : Point). ProcessesFit p.flat.processes) (sym led.same.point) fit) (x.behind.1 ∙ ap (λ (y : Placement). put_out_unit y pid sid) here) o.step
-    (subst (λ (z : Option (List ℕ)). WritesU o.at pid z j) led.leads.told o.wrote) in
+    (subst (λ (z : Option SwapImage). WritesU o.at pid z j) led.leads.told o.wrote) in
     record {
       units = o.units ++ more.units;
       state = more.state;
       leads = both_lead A s led.state more.state old.kernel o.at new.kernel image (Some b) j o.units more.units leads
-          (λ z e. subst (λ (y : List ℕ). Leads A led.state o.at y more.units more.state new.kernel j) (same_Some b z e) more.leads);
+          (λ z e. subst (λ (y : SwapImage). Leads A led.state o.at y more.units more.state new.kernel j) (same_Some b z e) more.leads);
       over = more.over;
       point = more.point ∙ led.same.point;
       count = more.count ∙ led.same.count;
@@ -239,7 +240,7 @@ out_comes A s old new holds image j pid sid at c fit m there o =
       unturned = more.unturned;
     }
 
-pub swapper_made : (A : Inputs) (s : State) (old new : Standing) (holds : Option (List NamedFile)) (image : List ℕ) (j : Option (List ℕ)) (t : Turned)
+pub swapper_made : (A : Inputs) (s : State) (old new : Standing) (holds : Option (List NamedFile)) (image : SwapImage) (j : Option SwapImage) (t : Turned)
     → MachineAt A s old holds image → IsClear s
     → ProcessesFit s.point.flat.processes → s.mark ≡ swap_mark (swap_choice s.place (runners s.point.flat))
     → choice_of t ≡ swap_choice old.kernel.place (runners_of old.kernel)
@@ -249,7 +250,7 @@ swapper_made A s old new holds image j (turns.In pid) at c fit m e t = in_comes 
 swapper_made A s old new holds image j (turns.Out pid) at c fit m e t =
     out_comes A s old new holds image j pid t.0 at c fit (chosen_mark A s old holds image (turns.Out pid) at m e) t.1 t.2
 
-pub out_stops : (A : Inputs) (s : State) (old new : Standing) (holds : Option (List NamedFile)) (image : List ℕ) (j : Option (List ℕ))
+pub out_stops : (A : Inputs) (s : State) (old new : Standing) (holds : Option (List NamedFile)) (image : SwapImage) (j : Option SwapImage)
     (pid sid : ℕ) (stop : Stop)
     → MachineAt A s old holds image → IsClear s → s.mark ≡ marks.PutOut pid → HoldsThere old.kernel pid sid
     → StopsPutting pid sid old stop new holds (Some image) j
@@ -259,14 +260,14 @@ out_stops A s old new holds image j pid sid stop at c m there o =
     let h : Holder s.point.flat pid sid = holder old.kernel s.point.flat pid sid at.at.stands.keeps.coupled.tables there.holds in
     let led : LeadsPutting A s old.kernel image pid sid o.units o.at o.image =
     putting o.units A g s old.kernel o.at image o.image pid sid (length old.kernel.journal) at.at at.images (puts_process s old.kernel pid sid c m h) o.leads.puts o.made in
-    let b : List ℕ = led.leads.behind in
-    let leads : Leads A s old.kernel image o.units led.state o.at (Some b) = subst (λ (z : Option (List ℕ)). Leads A s old.kernel image o.units led.state o.at z) led.leads.told led.leads in
+    let b : SwapImage = led.leads.behind in
+    let leads : Leads A s old.kernel image o.units led.state o.at (Some b) = subst (λ (z : Option SwapImage). Leads A s old.kernel image o.units led.state o.at z) led.leads.told led.leads in
     let behind : At A led.state o.at b = leads_at A s led.state old.kernel o.at image b o.units at.at leads in
     stops_behind A s led.state old.kernel o.at image b o.units stop new j o.there.entry leads
     (put_next A led.state pid sid led.puts ∙ ap (λ (y : Placement). Some (put_out_unit y pid sid)) (sym behind.stands.place) ∙ o.there.next)
-    (subst (λ (z : Option (List ℕ)). StopsAt o.there.entry o.at z stop new j) led.leads.told o.there.stops)
+    (subst (λ (z : Option SwapImage). StopsAt o.there.entry o.at z stop new j) led.leads.told o.there.stops)
 
-pub swapper_stops : (A : Inputs) (s : State) (old new : Standing) (holds : Option (List NamedFile)) (image : List ℕ) (j : Option (List ℕ))
+pub swapper_stops : (A : Inputs) (s : State) (old new : Standing) (holds : Option (List NamedFile)) (image : SwapImage) (j : Option SwapImage)
     (t : Turned) (stop : Stop)
     → MachineAt A s old holds image
     → IsClear s → s.mark ≡ swap_mark (swap_choice s.place (runners s.point.flat)) → choice_of t ≡ swap_choice old.kernel.place (runners_of old.kernel)

@@ -1,5 +1,6 @@
 -- Calls that ask for no pieces and give up no space.
 use Rattle.std.proofs.Common.{◌≡◌, ℕ, Bool, false, List, [], ◌∷◌, Option, Some, Result, Ok, Err, refl, sym, ap, subst}
+use Rattle.vm_facts.specs.SwapImages.{SwapImage}
 use Rattle.io_edge.specs.FileHolding.{NamedFile}
 use Rattle.vm_facts.specs.declared.entry.Entry.{Entry}
 use Rattle.vm_facts.specs.declared.stop.Stop.{Stop}
@@ -57,7 +58,7 @@ IsQuietRead (Err refused) = Unit {0}
 
 -- What such a call comes to is the step.
 
-pub quiet_made : (A : Inputs) (s : State) (old new : Standing) (holds : Option (List NamedFile)) (image : List ℕ) (pid : ℕ) (now : Bool) (p : Process)
+pub quiet_made : (A : Inputs) (s : State) (old new : Standing) (holds : Option (List NamedFile)) (image : SwapImage) (pid : ℕ) (now : Bool) (p : Process)
     (x : Space) (effect : Effect) (call : SystemCall)
     (r : Result Reply Refused) (reply : Reply) (called : Called)
     → RunsOn A s old holds image pid now p x → IsCallOf effect call → IsCalledFor A s p x call effect r → or_fault r ≡ reply → IsQuiet reply
@@ -86,7 +87,7 @@ quiet_made A s old new holds image pid now p x effect call r Waits called h m c 
 quiet_made A s old new holds image pid now p x effect call r (Exits status) called h m c e q g = absurd q
 
 -- where a byte misses nothing was done, and the process waits for its page
-missed : (A : Inputs) (s : State) (old new : Standing) (holds : Option (List NamedFile)) (image : List ℕ) (pid : ℕ) (now : Bool) (p : Process) (x : Space)
+missed : (A : Inputs) (s : State) (old new : Standing) (holds : Option (List NamedFile)) (image : SwapImage) (pid : ℕ) (now : Bool) (p : Process) (x : Space)
     (effect : Effect) (call : SystemCall)
     (address : ℕ) (write : Bool) (called : Called)
     → RunsOn A s old holds image pid now p x → MakesCall old p x effect call
@@ -99,7 +100,7 @@ missed A s old new holds image pid now p x effect call address write called h m 
     subst (λ (z : Called). CallLeads A s old.kernel image x z new.kernel (Some image)) (sym g.0)
     (ap (λ (n : Standing). n.kernel) g.1, refl, subst (WantsPage A s old.kernel x address) reads wants)
 
-pub comes_made : (A : Inputs) (s : State) (old new : Standing) (holds : Option (List NamedFile)) (image : List ℕ) (pid : ℕ) (now : Bool) (p : Process)
+pub comes_made : (A : Inputs) (s : State) (old new : Standing) (holds : Option (List NamedFile)) (image : SwapImage) (pid : ℕ) (now : Bool) (p : Process)
     (x : Space) (effect : Effect) (call : SystemCall)
     (r : Result Reply Refused) (called : Called)
     → RunsOn A s old holds image pid now p x → MakesCall old p x effect call
@@ -138,7 +139,7 @@ first_entry A s k pid p x effect call (Writes (byte ∷ bytes)) q = record { ent
 first_entry A s k pid p x effect call Waits q = record { entry = _; rest = []; first = refl; own = tt; found = (none_asked A.swap_blocks k).0; loses = refl }
 first_entry A s k pid p x effect call (Exits status) q = absurd q
 
-pub stops_quiet : (A : Inputs) (s : State) (old new : Standing) (holds : Option (List NamedFile)) (image : List ℕ) (pid : ℕ) (now : Bool) (p : Process)
+pub stops_quiet : (A : Inputs) (s : State) (old new : Standing) (holds : Option (List NamedFile)) (image : SwapImage) (pid : ℕ) (now : Bool) (p : Process)
     (x : Space) (effect : Effect)
     (call : SystemCall)
     (r : Result Reply Refused) (stop : Stop)
@@ -152,7 +153,7 @@ stops_quiet A s old new holds image pid now p x effect call r stop h m c q g =
     (begins A s old.kernel image pid now p x step f.entry f.rest old.kernel.holdings h.machine.at h.running h.between is f.first f.found (none_lost A s pid now p x step h.running is f.loses)) f.own g
 
 -- a call whose read was refused
-pub stops_reading : (A : Inputs) (s : State) (old new : Standing) (holds : Option (List NamedFile)) (image : List ℕ) (pid : ℕ) (now : Bool) (p : Process)
+pub stops_reading : (A : Inputs) (s : State) (old new : Standing) (holds : Option (List NamedFile)) (image : SwapImage) (pid : ℕ) (now : Bool) (p : Process)
     (x : Space) (effect : Effect)
     (call : SystemCall)
     (refused : Refused) (stop : Stop)

@@ -1,6 +1,7 @@
 -- A call whose pieces find no place: an entry says so, and then the call fails.
 use Rattle.std.proofs.Common.{◌≡◌, ℕ, Bool, true, false, List, [], ◌∷◌, Option, Some, None, Result, refl, sym, ap, ◌∙◌}
 use Rattle.std.specs.Prelude.{is_ok}
+use Rattle.vm_facts.specs.SwapImages.{SwapImage}
 use Rattle.io_edge.specs.FileHolding.{NamedFile}
 use Rattle.vm_facts.specs.declared.regs.Regs.{Regs}
 use Rattle.vm_facts.specs.declared.entry.Entry.{Entry}
@@ -46,7 +47,7 @@ use Rattle.step_units.proofs.Entering.{entry_leads, complete_leads, entered, lea
 use Rattle.step_units.proofs.Replying.{called_on, called_step, refused_step}
 
 -- After the entry the process runs on, and waits for the same page; a step of it is refused.
-pub record IsRefusal (A : Inputs) (s : State) (old : Standing) (holds : Option (List NamedFile)) (image : List ℕ) (pid : ℕ) (now : Bool) (p : Process)
+pub record IsRefusal (A : Inputs) (s : State) (old : Standing) (holds : Option (List NamedFile)) (image : SwapImage) (pid : ℕ) (now : Bool) (p : Process)
     (x : Space) : Type 0 where
   pub leads : Leads A s old.kernel image (entries.Refused pid ∷ []) (after A s (entries.Refused pid)) (note_step old.kernel (entries.Refused pid)) (Some image)
   pub waits : StepWaits A s (entries.Refused pid) (after A s (entries.Refused pid))
@@ -55,7 +56,7 @@ pub record IsRefusal (A : Inputs) (s : State) (old : Standing) (holds : Option (
   pub unwanted : wanted A (after A s (entries.Refused pid)) ≡ None
 
 -- any step whose pieces find no place
-pub refusal : (A : Inputs) (s : State) (old : Standing) (holds : Option (List NamedFile)) (image : List ℕ) (pid : ℕ) (now : Bool) (p : Process)
+pub refusal : (A : Inputs) (s : State) (old : Standing) (holds : Option (List NamedFile)) (image : SwapImage) (pid : ℕ) (now : Bool) (p : Process)
     (x : Space) (step : Step)
     → RunsOn A s old holds image pid now p x → wanted A s ≡ None → step_at A s.point pid ≡ step
     → is_ok (place_all A.swap_blocks old.kernel.holdings (asked (facts_of A.images) old.kernel pid step.change)) ≡ false
@@ -77,7 +78,7 @@ refusal A s old holds image pid now p x step h w is f =
     }
 
 -- the pieces of a call
-pub call_refusal : (A : Inputs) (s : State) (old : Standing) (holds : Option (List NamedFile)) (image : List ℕ) (pid : ℕ) (now : Bool) (p : Process) (x : Space)
+pub call_refusal : (A : Inputs) (s : State) (old : Standing) (holds : Option (List NamedFile)) (image : SwapImage) (pid : ℕ) (now : Bool) (p : Process) (x : Space)
     (effect : Effect) (call : SystemCall)
     (r : Result Reply Refused) (regs : Regs) (change : Change)
     → RunsOn A s old holds image pid now p x → IsCallOf effect call → IsCalledFor A s p x call effect r → or_fault r ≡ Does regs change
@@ -87,7 +88,7 @@ call_refusal A s old holds image pid now p x effect call r regs change h m c e f
     refusal A s old holds image pid now p x step h c.unwanted (called_step A s pid now p x effect call r h.running h.between m c ∙ ap (replied_step A.images s.point.flat p call effect) e) f
 
 -- after it the step is the failure of the call
-pub failing_step : (A : Inputs) (s : State) (old : Standing) (holds : Option (List NamedFile)) (image : List ℕ) (pid : ℕ) (now : Bool) (p : Process) (x : Space)
+pub failing_step : (A : Inputs) (s : State) (old : Standing) (holds : Option (List NamedFile)) (image : SwapImage) (pid : ℕ) (now : Bool) (p : Process) (x : Space)
     (effect : Effect) (call : SystemCall)
     (r : Result Reply Refused) (regs : Regs) (change : Change)
     → IsCallOf effect call → IsCalledFor A s p x call effect r → or_fault r ≡ Does regs change → wants_space change ≡ true
@@ -100,7 +101,7 @@ failing_step A s old holds image pid now p x effect call r regs change m c e wan
     ∙ ap (λ (y : Reply). replied_step A.images s.point.flat p call effect (refused_reply true y)) e
     ∙ ap (λ (b : Bool). replied_step A.images s.point.flat p call effect (unless_refused b (Does regs change))) wants
 
-module _ (A : Inputs) (s : State) (old : Standing) (holds : Option (List NamedFile)) (image : List ℕ) (pid : ℕ) (now : Bool) (p : Process) (x : Space) (effect : Effect) (call : SystemCall)
+module _ (A : Inputs) (s : State) (old : Standing) (holds : Option (List NamedFile)) (image : SwapImage) (pid : ℕ) (now : Bool) (p : Process) (x : Space) (effect : Effect) (call : SystemCall)
     (r : Result Reply Refused) (regs : Regs) (change : Change) (m : IsCallOf effect call) (c : IsCalledFor A s p x call effect r) (e : or_fault r ≡ Does regs change)
     (wants : wants_space change ≡ true)
     (h : IsRefusal A s old holds image pid now p x) where

@@ -1,5 +1,6 @@
 -- The step of a process by what its call replies.
 use Rattle.std.proofs.Common.{◌≡◌, ℕ, Bool, true, false, List, [], ◌∷◌, Option, Some, None, Result, Ok, refl, sym, ap, ◌∙◌, subst}
+use Rattle.vm_facts.specs.SwapImages.{SwapImage}
 use Rattle.io_edge.specs.FileHolding.{NamedFile}
 use Rattle.vm_facts.specs.Answers.{ByteWrite}
 use Rattle.vm_facts.specs.declared.regs.Regs.{Regs}
@@ -61,7 +62,7 @@ asked_here A s pid p x call effect here holds w =
     ∙ ap (λ (q : Process). reply_of A.images F q x call effect.regs) (process_self p x holds)
 
 -- a call whose reads miss no byte waits for no page
-pub ready : (A : Inputs) (s : State) (old : Standing) (holds : Option (List NamedFile)) (image : List ℕ) (pid : ℕ) (now : Bool) (p : Process) (x : Space)
+pub ready : (A : Inputs) (s : State) (old : Standing) (holds : Option (List NamedFile)) (image : SwapImage) (pid : ℕ) (now : Bool) (p : Process) (x : Space)
     (effect : Effect) (call : SystemCall)
     (r : Result Reply Refused)
     → RunsOn A s old holds image pid now p x → MakesCall old p x effect call
@@ -101,7 +102,7 @@ refused_step A s pid now p x effect call r i l m h =
 
 -- A call that answers, and makes a change with which no space passes and behind which no page is due, is the step, where no space
 -- has to settle.
-pub answers_settled : (A : Inputs) (s : State) (old : Standing) (l : Kernel) (holds : Option (List NamedFile)) (image : List ℕ) (pid : ℕ) (now : Bool)
+pub answers_settled : (A : Inputs) (s : State) (old : Standing) (l : Kernel) (holds : Option (List NamedFile)) (image : SwapImage) (pid : ℕ) (now : Bool)
     (p : Process) (x : Space) (effect : Effect)
     (call : SystemCall)
     (r : Result Reply Refused) (after : Regs) (change : Change) (found : Holdings)
@@ -120,7 +121,7 @@ answers_settled A s old l holds image pid now p x effect call r after change fou
     (ap (λ (n : ℕ). call_entry n call after ∷ []) (found_at s.point.flat pid p h.running.here).0) c.writes passes dues f made)
 
 -- the same where the step gives up no space and drops no page
-pub answers : (A : Inputs) (s : State) (old : Standing) (l : Kernel) (holds : Option (List NamedFile)) (image : List ℕ) (pid : ℕ) (now : Bool) (p : Process)
+pub answers : (A : Inputs) (s : State) (old : Standing) (l : Kernel) (holds : Option (List NamedFile)) (image : SwapImage) (pid : ℕ) (now : Bool) (p : Process)
     (x : Space) (effect : Effect)
     (call : SystemCall)
     (r : Result Reply Refused) (after : Regs) (change : Change) (found : Holdings)
@@ -135,7 +136,7 @@ answers A s old l holds image pid now p x effect call r after change found h m c
     (none_lost A s pid now p x (replied_step A.images s.point.flat p call effect (Does after change)) h.running (called_step A s pid now p x effect call r h.running h.between m c ∙ e) loses) f made
 
 -- a call that fails
-pub fails : (A : Inputs) (s : State) (old : Standing) (l : Kernel) (holds : Option (List NamedFile)) (image : List ℕ) (pid : ℕ) (now : Bool) (p : Process)
+pub fails : (A : Inputs) (s : State) (old : Standing) (l : Kernel) (holds : Option (List NamedFile)) (image : SwapImage) (pid : ℕ) (now : Bool) (p : Process)
     (x : Space) (effect : Effect)
     (call : SystemCall)
     (r : Result Reply Refused) (error : ℕ)

@@ -1,5 +1,6 @@
 -- In the closing phase nobody goes out.
 use Rattle.std.proofs.Common.{◌≡◌, inl, inr, ℕ, Bool, true, false, List, [], ◌∷◌, Option, Some, refl, sym, ◌∙◌, subst}
+use Rattle.vm_facts.specs.SwapImages.{SwapImage}
 use Rattle.vm_facts.specs.declared.page.Page.{Page}
 use Rattle.vm_facts.specs.declared.entry.Entry.{Entry}
 use Rattle.vm_facts.specs.declared.entry.Entry.TheVariants as entries
@@ -131,7 +132,7 @@ not_out p q n f h = go (is_out q n) refl
     go false e = refl
     go true e = let k = sym h ∙ f e in cc
 
-all_stay_in : (A : Inputs) (us : List Entry) (s t : State) (k l : Kernel) (image behind : List ℕ) (pid n : ℕ) → IsClosing A s pid
+all_stay_in : (A : Inputs) (us : List Entry) (s t : State) (k l : Kernel) (image behind : SwapImage) (pid n : ℕ) → IsClosing A s pid
     → Makes A s k image us t l behind
     → is_out s.place n ≡ false → is_out t.place n ≡ false
 all_stay_in A [] s t k l image behind pid n c m h = subst (λ (x : State). is_out x.place n ≡ false) m.0 h
@@ -140,7 +141,7 @@ all_stay_in A (u ∷ us) s t k l image behind pid n c m h =
     all_stay_in A us (after A s u) t (unit_step A s k image m.1.0 u) l (unit_image k image u) behind d.0 n d.1 m.1.2
     (not_out s.place (after A s u).place n (out_before A s u n (none_leaves A s u pid n c m.0)) h)
 
-pub closing_stays_in : (A : Inputs) (s t : State) (k l : Kernel) (image : List ℕ) (j : Option (List ℕ)) (us : List Entry) (pid n : ℕ)
+pub closing_stays_in : (A : Inputs) (s t : State) (k l : Kernel) (image : SwapImage) (j : Option SwapImage) (us : List Entry) (pid n : ℕ)
     → IsClosing A s pid → Leads A s k image us t l j
     → is_out s.place n ≡ false → is_out t.place n ≡ false
 closing_stays_in A s t k l image j us pid n c m h = all_stay_in A us s t k l image m.behind pid n c m.makes h

@@ -2,6 +2,7 @@
 use Rattle.std.proofs.Common.{◌≡◌, ◌⊎◌, inl, inr, ℕ, ◌≤◌, ◌==◌, ◌*◌, ◌%◌, nat_lt, nat_le, Bool, true, false, List}
 use Rattle.std.proofs.Common.{[], ◌∷◌, find, length, Option, Some, None, Result, Ok, Err, ℤ, refl, sym, ap, ◌∙◌, subst}
 use Rattle.std.specs.Prelude.{if◌then◌else◌}
+use Rattle.vm_facts.specs.SwapImages.{SwapImage}
 use Rattle.vm_facts.specs.Answers.{Answers}
 use Rattle.vm_facts.specs.declared.entry.Entry.{Entry}
 use Rattle.vm_facts.specs.declared.entry.Entry.TheVariants as entries
@@ -71,7 +72,7 @@ never_wanted A s k x address write clear none w =
     let some : wanted A s ≡ Some w.page = splits_wanted A s w.before w.page clear (record { behind = w.rest; whole = w.touched; valid = w.valid; absent = w.absent }) in
     let no : None ≡ Some w.page = sym none ∙ some in cc
 
-module _ (A : Inputs) (s : State) (m : Standing) (image : List ℕ) (pid : ℕ) (now : Bool) (p : Process) (x : Space) (at : At A s m.kernel image) (i : IsRunning A s pid now p x)
+module _ (A : Inputs) (s : State) (m : Standing) (image : SwapImage) (pid : ℕ) (now : Bool) (p : Process) (x : Space) (at : At A s m.kernel image) (i : IsRunning A s pid now p x)
     (none : wanted A s ≡ None) where
   abbrev memory : Answers
   memory = kernel_answers m.kernel x.sid
@@ -188,7 +189,7 @@ reply_fails images F p x call effect (Writes bytes) w = absurd (w refl)
 reply_fails images F p x call effect Waits w = absurd (w refl)
 reply_fails images F p x call effect (Exits status) w = absurd (w refl)
 
-module _ (A : Inputs) (s : State) (m : Standing) (image : List ℕ) (pid : ℕ) (now : Bool) (p : Process) (x : Space) (at : At A s m.kernel image) (i : IsRunning A s pid now p x)
+module _ (A : Inputs) (s : State) (m : Standing) (image : SwapImage) (pid : ℕ) (now : Bool) (p : Process) (x : Space) (at : At A s m.kernel image) (i : IsRunning A s pid now p x)
     (l : s.point.last ≡ Some (entries.Refused pid)) (says : asks A s.point.flat pid ≡ [] → ⊥) where
   abbrev flat : FlatState
   flat = s.point.flat
@@ -344,7 +345,7 @@ written_read : (r : Result Reply Refused) (bytes : List ℕ) → or_fault r ≡ 
 written_read (Ok reply) bytes e = ap (λ (y : Reply). let z : Result Reply Refused = Ok y in z) e
 written_read (Err refused) bytes e = absurd cc
 
-module _ (A : Inputs) (s : State) (m : Standing) (image : List ℕ) (pid : ℕ) (now : Bool) (p : Process) (x : Space) (at : At A s m.kernel image) (i : IsRunning A s pid now p x)
+module _ (A : Inputs) (s : State) (m : Standing) (image : SwapImage) (pid : ℕ) (now : Bool) (p : Process) (x : Space) (at : At A s m.kernel image) (i : IsRunning A s pid now p x)
     (bytes : List ℕ) (l : s.point.last ≡ Some (entries.Out pid bytes)) (behind : List Entry) (says : (flat_step A s.point.flat pid false).entries ≡ entries.Out pid bytes ∷ behind) where
   -- the reply says how many bytes went out
   replies_sent : (effect : Effect) (call : SystemCall) (r : Result Reply Refused) (byte : ℕ) (more : List ℕ) → MakesCall m p x effect call → IsCalledFor A s p x call effect r

@@ -1,5 +1,6 @@
 -- Serving a page that a process waits for leads on between two steps.
 use Rattle.std.proofs.Common.{◌≡◌, ℕ, ◌+◌, ◌<◌, ◌≤◌, Bool, true, false, List, [], ◌∷◌, ◌++◌, length, Option, Some, None, refl, sym, ap, ◌∙◌, subst, arith}
+use Rattle.vm_facts.specs.SwapImages.{SwapImage}
 use Rattle.io_edge.specs.FileHolding.{NamedFile}
 use Rattle.vm_facts.specs.declared.entry.Entry.{Entry}
 use Rattle.vm_facts.specs.declared.entry.Entry.TheVariants as entries
@@ -44,7 +45,7 @@ use Rattle.step_units.specs.Stepped.{StepLeads, MarkEnds, StopsBy, StopLeads}
 use Rattle.page_laws.proofs.Moves.Cases.{frameless_not, serving_starved}
 
 -- The space that the machine has for a process is the one that the process holds.
-pub same_space : (A : Inputs) (s : State) (k : Kernel) (image : List ℕ) (pid : ℕ) (now : Bool) (p : Process) (x : Space) → At A s k image
+pub same_space : (A : Inputs) (s : State) (k : Kernel) (image : SwapImage) (pid : ℕ) (now : Bool) (p : Process) (x : Space) → At A s k image
     → IsRunning A s pid now p x → space_of_pid k pid ≡ x.sid
 same_space A s k image pid now p x at r =
     let i : Stepping k s.point.flat pid p x = stepping k s.point.flat pid p x at.stands.keeps.coupled.tables r.here r.holds in
@@ -52,7 +53,7 @@ same_space A s k image pid now p x at r =
 
 -- A process of a machine runs between two steps, and this page of its next instruction, after valid ones, is served; in a turn the
 -- hands pass over those.
-pub record WaitsFor (A : Inputs) (s : State) (m : Standing) (holds : Option (List NamedFile)) (image : List ℕ) (pid : ℕ) (now : Bool) (before : List Page)
+pub record WaitsFor (A : Inputs) (s : State) (m : Standing) (holds : Option (List NamedFile)) (image : SwapImage) (pid : ℕ) (now : Bool) (before : List Page)
     (q : Page) : Type 0 where
   pub machine : MachineAt A s m holds image
   pub runs : ProcessRuns A s pid now
@@ -61,7 +62,7 @@ pub record WaitsFor (A : Inputs) (s : State) (m : Standing) (holds : Option (Lis
   pub touched : touched_next A s ≡ before ++ q ∷ rest
   pub valid : AllValid s.place before
 
-waiting : (A : Inputs) (s : State) (m : Standing) (holds : Option (List NamedFile)) (image : List ℕ) (pid : ℕ) (now : Bool) (before kept : List Page) (q : Page)
+waiting : (A : Inputs) (s : State) (m : Standing) (holds : Option (List NamedFile)) (image : SwapImage) (pid : ℕ) (now : Bool) (before kept : List Page) (q : Page)
     → WaitsFor A s m holds image pid now before q → (now ≡ true → kept ≡ before) → IsWaiting A (ground m holds kept) s pid now before q
 waiting A s m holds image pid now before kept q w f = record {
   images = w.machine.images;
@@ -74,7 +75,7 @@ waiting A s m holds image pid now before kept q w f = record {
 
 -- what serving leads to
 
-pub leads_on : (A : Inputs) (g : Ground) (s : State) (k l : Kernel) (image : List ℕ) (j : Option (List ℕ)) (pid : ℕ) (now : Bool) (before : List Page)
+pub leads_on : (A : Inputs) (g : Ground) (s : State) (k l : Kernel) (image : SwapImage) (j : Option SwapImage) (pid : ℕ) (now : Bool) (before : List Page)
     (q : Page) (us : List Entry)
     → IsBetween s.point.last → ServingLeads A g s k image pid now before q us l j → StepLeads A s k image 0 l j
 leads_on A g s k l image j pid now before q us b v = record {
@@ -110,7 +111,7 @@ nothing_more A g s pid before q w n u =
     let d : Splits s.place (touched_next A s) before q = record { behind = w.rest; whole = w.touched; valid = w.valid; absent = n } in
     runs_work A s pid false w.runs ∙ ap (work_by A s pid false) (splits_wanted A s before q w.runs.clear d) ∙ u
 
-pub ends_mark : (A : Inputs) (g : Ground) (s : State) (k l : Kernel) (image : List ℕ) (j : Option (List ℕ)) (pid : ℕ) (before : List Page)
+pub ends_mark : (A : Inputs) (g : Ground) (s : State) (k l : Kernel) (image : SwapImage) (j : Option SwapImage) (pid : ℕ) (before : List Page)
     (q : Page) (us : List Entry)
     → At A s k image → IsBetween s.point.last → ServingLeads A g s k image pid false before q us l j
     → (is_valid (state_of l.place q) ≡ false) × (serve_unit l.place q false ≡ None)
@@ -118,7 +119,7 @@ pub ends_mark : (A : Inputs) (g : Ground) (s : State) (k l : Kernel) (image : Li
 unfolding leads_on
 ends_mark A g s k l image j pid before q us at b v n =
     let here : l.place ≡ v.state.place =
-    (leads_at A s v.state k l image v.leads.behind us at (subst (λ (o : Option (List ℕ)). Leads A s k image us v.state l o) v.leads.told v.leads)).stands.place in
+    (leads_at A s v.state k l image v.leads.behind us at (subst (λ (o : Option SwapImage). Leads A s k image us v.state l o) v.leads.told v.leads)).stands.place in
     record {
       led = leads_on A g s k l image j pid false before q us b v;
       over = nothing_more A g v.state pid before q v.waiting (subst (λ (x : Placement). is_valid (state_of x q) ≡ false) here n.0)
@@ -126,26 +127,26 @@ ends_mark A g s k l image j pid before q us at b v n =
     }
 
 -- the page is valid then: more pages are, of those that are touched first, than these
-pub record LeadsMore (A : Inputs) (s : State) (k : Kernel) (image : List ℕ) (before : List Page) (l : Kernel) (j : Option (List ℕ)) : Type 0 where
+pub record LeadsMore (A : Inputs) (s : State) (k : Kernel) (image : SwapImage) (before : List Page) (l : Kernel) (j : Option SwapImage) : Type 0 where
   pub led : StepLeads A s k image 0 l j
   pub more : length before < length (locked A led.state)
 
 -- by its answer
-abbrev pub PageLeads : Inputs → State → Kernel → List ℕ → List Page → Kernel → Option (List ℕ) → Touch → Type 0
+abbrev pub PageLeads : Inputs → State → Kernel → SwapImage → List Page → Kernel → Option SwapImage → Touch → Type 0
 PageLeads A s k image before l j served.Valid = LeadsMore A s k image before l j
 PageLeads A s k image before l j (served.Asleep q) = MarkEnds A s k image l j
 PageLeads A s k image before l j served.NoFrame = MarkEnds A s k image l j
 PageLeads A s k image before l j served.NoSpace = ⊥
 PageLeads A s k image before l j (served.Signal number) = ⊥
 
-leads_more : (A : Inputs) (g : Ground) (s : State) (k l : Kernel) (image : List ℕ) (j : Option (List ℕ)) (pid : ℕ) (now : Bool) (before : List Page)
+leads_more : (A : Inputs) (g : Ground) (s : State) (k l : Kernel) (image : SwapImage) (j : Option SwapImage) (pid : ℕ) (now : Bool) (before : List Page)
     (q : Page) (us : List Entry)
     → At A s k image → IsBetween s.point.last → ServingLeads A g s k image pid now before q us l j → is_valid (state_of l.place q) ≡ true
     → LeadsMore A s k image before l j
 unfolding leads_on
 leads_more A g s k l image j pid now before q us at b v h =
     let here : l.place ≡ v.state.place =
-    (leads_at A s v.state k l image v.leads.behind us at (subst (λ (o : Option (List ℕ)). Leads A s k image us v.state l o) v.leads.told v.leads)).stands.place in
+    (leads_at A s v.state k l image v.leads.behind us at (subst (λ (o : Option SwapImage). Leads A s k image us v.state l o) v.leads.told v.leads)).stands.place in
     let longer : length before + 1 ≤ length (before_absent v.state.place (touched_next A v.state)) =
     split_longer v.state.place (touched_next A v.state) before v.waiting.rest q v.waiting.touched v.waiting.valid (subst (λ (x : Placement). is_valid (state_of x q) ≡ true) here h) in
     let kept : locked A v.state ≡ before_absent v.state.place (touched_next A v.state) = ap (locked_by A v.state) v.waiting.runs.clear in
@@ -154,14 +155,14 @@ leads_more A g s k l image j pid now before q us at b v h =
       more = let e = ap (λ (qs : List Page). length qs) kept in omega (arith, longer, e);
     }
 
-pub served_to : (A : Inputs) (s : State) (old new : Standing) (holds : Option (List NamedFile)) (image : List ℕ) (j : Option (List ℕ)) (pid : ℕ) (now : Bool)
+pub served_to : (A : Inputs) (s : State) (old new : Standing) (holds : Option (List NamedFile)) (image : SwapImage) (j : Option SwapImage) (pid : ℕ) (now : Bool)
     (before kept : List Page) (q : Page)
     → WaitsFor A s old holds image pid now before q → (now ≡ true → kept ≡ before) → (t : ServesTo now kept q old new holds (Some image) j)
     → ServingLeads A (ground old holds kept) s old.kernel image pid now before q t.units new.kernel j
 served_to A s old new holds image j pid now before kept q w f t =
     served t.units A (ground old holds kept) s old.kernel new.kernel image j pid now before q w.machine.at (waiting A s old holds image pid now before kept q w f) t.leads t.makes.made
 
-pub page_leads : (A : Inputs) (s : State) (old new : Standing) (holds : Option (List NamedFile)) (image : List ℕ) (j : Option (List ℕ)) (pid : ℕ)
+pub page_leads : (A : Inputs) (s : State) (old new : Standing) (holds : Option (List NamedFile)) (image : SwapImage) (j : Option SwapImage) (pid : ℕ)
     (before : List Page) (q : Page) (answer : Touch)
     → WaitsFor A s old holds image pid false before q → TouchedAs answer q old new holds (Some image) j
     → PageLeads A s old.kernel image before new.kernel j answer
@@ -183,7 +184,7 @@ page_leads A s old new holds image j pid before q answer w h = go answer h
     go served.NoSpace c = absurd c
     go (served.Signal number) c = absurd c
 
-pub page_leads_now : (A : Inputs) (s : State) (old new : Standing) (holds : Option (List NamedFile)) (image : List ℕ) (j : Option (List ℕ)) (pid : ℕ)
+pub page_leads_now : (A : Inputs) (s : State) (old new : Standing) (holds : Option (List NamedFile)) (image : SwapImage) (j : Option SwapImage) (pid : ℕ)
     (before : List Page) (q : Page) (answer : Touch)
     → WaitsFor A s old holds image pid true before q → TouchedNow before answer q old new holds (Some image) j
     → PageLeads A s old.kernel image before new.kernel j answer
@@ -202,13 +203,13 @@ page_leads_now A s old new holds image j pid before q answer w h = go answer h
 -- Stops.
 
 -- for want of memory no unit changes the swap image
-unspoiled : (e : Entry) (k : Kernel) (i j : Option (List ℕ)) → SpoilsBy e stops.NoMemory k i j → j ≡ i
+unspoiled : (e : Entry) (k : Kernel) (i j : Option SwapImage) → SpoilsBy e stops.NoMemory k i j → j ≡ i
 unspoiled (entries.SwapOut pid) k i j h = h
 unspoiled entries.Done k i j h = h
 unspoiled _ k i j h = h
 
 -- a stop where a unit of the run comes next
-pub stops_by : (A : Inputs) (t : State) (k : Kernel) (behind : List ℕ) (stop : Stop) (entry : Entry) (new : Standing) (j : Option (List ℕ))
+pub stops_by : (A : Inputs) (t : State) (k : Kernel) (behind : SwapImage) (stop : Stop) (entry : Entry) (new : Standing) (j : Option SwapImage)
     → next_unit A t ≡ Some entry
     → StopsAt entry k (Some behind) stop new j → StopsBy A t k behind stop new j
 stops_by A t k behind stops.NoMemory entry new j n s = unspoiled entry k (Some behind) j s.image
@@ -217,7 +218,7 @@ stops_by A t k behind stops.FileFault entry new j n s = record { entry = entry; 
 stops_by A t k behind stops.SwapReadFault entry new j n s = record { entry = entry; next = n; full = s.full.0; cause = s.cause; spoils = s.image }
 stops_by A t k behind stops.SwapWriteFault entry new j n s = record { entry = entry; next = n; full = s.full.0; cause = s.cause; spoils = s.image }
 
-pub page_stops : (A : Inputs) (s : State) (old new : Standing) (holds : Option (List NamedFile)) (image : List ℕ) (j : Option (List ℕ)) (pid : ℕ) (now : Bool)
+pub page_stops : (A : Inputs) (s : State) (old new : Standing) (holds : Option (List NamedFile)) (image : SwapImage) (j : Option SwapImage) (pid : ℕ) (now : Bool)
     (before kept : List Page) (q : Page)
     (stop : Stop) → WaitsFor A s old holds image pid now before q → (now ≡ true → kept ≡ before) → StopsAtPage now kept q old new holds (Some image) j stop
     → StopLeads A s old.kernel image stop new j
@@ -227,7 +228,7 @@ page_stops A s old new holds image j pid now before kept q stop w f c =
     let v : ServingLeads A g s old.kernel image pid now before q d.units d.at d.image =
     served d.units A g s old.kernel d.at image d.image pid now before q w.machine.at (waiting A s old holds image pid now before kept q w f) d.leads d.made in
     let led : Leads A s old.kernel image d.units v.state d.at (Some v.leads.behind) =
-    subst (λ (o : Option (List ℕ)). Leads A s old.kernel image d.units v.state d.at o) v.leads.told v.leads in
+    subst (λ (o : Option SwapImage). Leads A s old.kernel image d.units v.state d.at o) v.leads.told v.leads in
     let here : d.at.place ≡ v.state.place = (leads_at A s v.state old.kernel d.at image v.leads.behind d.units w.machine.at led).stands.place in
     let next : next_unit A v.state ≡ Some d.there.entry =
     served_next A g v.state pid now before q d.there.entry v.waiting (subst (λ (x : Placement). serve_unit x q now ≡ Some d.there.entry) here d.there.next) in
@@ -240,5 +241,5 @@ page_stops A s old new holds image j pid now before kept q stop w f c =
       journal = d.there.stops.journal;
       held = d.there.stops.held;
       by = stops_by A v.state d.at v.leads.behind stop d.there.entry new j next
-          (subst (λ (o : Option (List ℕ)). StopsAt d.there.entry d.at o stop new j) v.leads.told d.there.stops);
+          (subst (λ (o : Option SwapImage). StopsAt d.there.entry d.at o stop new j) v.leads.told d.there.stops);
     }

@@ -2,6 +2,7 @@
 use Rattle.std.proofs.Common.{◌≡◌, ℕ, ◌<◌, ◌≤◌, not, ◌&&◌, Bool, true, false, List, [], ◌∷◌, ◌++◌, length, replicate, Option, Some, None, sym, ap, ◌∙◌, subst, arith}
 use Rattle.std.specs.Prelude.{is_ok}
 use Rattle.std.proofs.lemmas.List.{length-append}
+use Rattle.vm_facts.specs.SwapImages.{SwapImage}
 use Rattle.io_edge.specs.FileHolding.{NamedFile}
 use Rattle.vm_facts.specs.declared.params.Params.{Params}
 use Rattle.vm_facts.specs.declared.entry.Entry.{Entry}
@@ -56,7 +57,7 @@ is_leaving A s pid now p x step r w f is loses = record {
   own = λ q. ap (settled_if q) r.here ∙ ap (settled_in q) r.holds;
 }
 
-pub none_refused : (A : Inputs) (s : State) (k : Kernel) (image : List ℕ) (pid : ℕ) (now : Bool) (p : Process) (x : Space) (step : Step)
+pub none_refused : (A : Inputs) (s : State) (k : Kernel) (image : SwapImage) (pid : ℕ) (now : Bool) (p : Process) (x : Space) (step : Step)
     → At A s k image → IsRunning A s pid now p x
     → is_refused s.point.last pid ≡ false → step_at A s.point pid ≡ step
     → is_ok (place_all A.swap_blocks k.holdings (asked (facts_of A.images) k pid step.change)) ≡ true → must_refuse A s pid ≡ false
@@ -68,11 +69,11 @@ pub refused_once : (A : Inputs) (s : State) (pid : ℕ) → is_refused s.point.l
 refused_once A s pid u = ap (λ (b : Bool). not b && not (fits A.swap_blocks s.holdings (asks A s.point.flat pid))) u
 
 -- It has settled: the process runs on, its step is the same, and needn't wait.
-pub record IsSettled (A : Inputs) (s : State) (old between : Standing) (holds : Option (List NamedFile)) (image : List ℕ) (j : Option (List ℕ)) (pid : ℕ)
+pub record IsSettled (A : Inputs) (s : State) (old between : Standing) (holds : Option (List NamedFile)) (image : SwapImage) (j : Option SwapImage) (pid : ℕ)
     (now : Bool) (p : Process) (x : Space) : Type 0 where
   pub units : List Entry
   pub state : State
-  pub behind : List ℕ
+  pub behind : SwapImage
   pub told : j ≡ Some behind
   pub leads : Leads A s old.kernel image units state between.kernel (Some behind)
   pub same : SameBut s state
@@ -83,16 +84,16 @@ pub record IsSettled (A : Inputs) (s : State) (old between : Standing) (holds : 
   pub settles : must_settle A state pid ≡ false
   pub step_is : step_at A state.point pid ≡ step_at A s.point pid
 
-module _ (A : Inputs) (s : State) (old : Standing) (holds : Option (List NamedFile)) (image : List ℕ) (pid : ℕ) (now : Bool) (p : Process) (x : Space)
+module _ (A : Inputs) (s : State) (old : Standing) (holds : Option (List NamedFile)) (image : SwapImage) (pid : ℕ) (now : Bool) (p : Process) (x : Space)
     (h : MachineAt A s old holds image) (r : IsRunning A s pid now p x) (l : IsLeaving A s pid now x.sid) where
-  pub has_settled : (between : Standing) (j : Option (List ℕ)) → HasSettled old between x.sid holds (Some image) j
+  pub has_settled : (between : Standing) (j : Option SwapImage) → HasSettled old between x.sid holds (Some image) j
       → IsSettled A s old between holds image j pid now p x
   has_settled between j g =
       let led : LeadsLeaving A s old.kernel image pid now x.sid (replicate g.settled.count entries.Done) between.kernel j =
       settles g.settled.count A (ground old holds []) s old.kernel between.kernel image j pid now x.sid h.at h.images l g.settled.ends in
       let t : State = led.state in
       let leads : Leads A s old.kernel image (replicate g.settled.count entries.Done) t between.kernel (Some led.leads.behind) =
-      subst (λ (o : Option (List ℕ)). Leads A s old.kernel image (replicate g.settled.count entries.Done) t between.kernel o) led.leads.told led.leads in
+      subst (λ (o : Option SwapImage). Leads A s old.kernel image (replicate g.settled.count entries.Done) t between.kernel o) led.leads.told led.leads in
       let there : At A t between.kernel led.leads.behind = leads_at A s t old.kernel between.kernel image led.leads.behind (replicate g.settled.count entries.Done) h.at leads in
       record {
         units = replicate g.settled.count entries.Done;
@@ -114,14 +115,14 @@ module _ (A : Inputs) (s : State) (old : Standing) (holds : Option (List NamedFi
       }
 
   -- the end of a transfer stops the run
-  pub stops_settling : (new : Standing) (j : Option (List ℕ)) (stop : Stop) → StopsSettling x.sid old new holds (Some image) j stop
+  pub stops_settling : (new : Standing) (j : Option SwapImage) (stop : Stop) → StopsSettling x.sid old new holds (Some image) j stop
       → StopLeads A s old.kernel image stop new j
   stops_settling new j stop g =
       let led : LeadsLeaving A s old.kernel image pid now x.sid (replicate g.count entries.Done) g.between.kernel g.image =
       settles g.count A (ground old holds []) s old.kernel g.between.kernel image g.image pid now x.sid h.at h.images l g.ends in
       let t : State = led.state in
       let leads : Leads A s old.kernel image (replicate g.count entries.Done) t g.between.kernel (Some led.leads.behind) =
-      subst (λ (o : Option (List ℕ)). Leads A s old.kernel image (replicate g.count entries.Done) t g.between.kernel o) led.leads.told led.leads in
+      subst (λ (o : Option SwapImage). Leads A s old.kernel image (replicate g.count entries.Done) t g.between.kernel o) led.leads.told led.leads in
       let there : At A t g.between.kernel led.leads.behind = leads_at A s t old.kernel g.between.kernel image led.leads.behind (replicate g.count entries.Done) h.at leads in
       let next : next_unit A t ≡ Some entries.Done =
       settled_next A t pid now x.sid led.leaving (ap (λ (y : Placement). is_settled y x.sid) (sym there.stands.place) ∙ g.unsettled) in
@@ -139,7 +140,7 @@ module _ (A : Inputs) (s : State) (old : Standing) (holds : Option (List NamedFi
       longer : (journal : List Entry) → length journal < length (journal ++ entries.Done ∷ [])
       longer journal = let e = length-append journal (entries.Done ∷ []) in omega (arith, e)
 
-      by_end : (A : Inputs) (t : State) (between new : Standing) (told : List ℕ) (j : Option (List ℕ)) (stop : Stop) → next_unit A t ≡ Some entries.Done → StopsEnding between new (Some told) j stop
+      by_end : (A : Inputs) (t : State) (between new : Standing) (told : SwapImage) (j : Option SwapImage) (stop : Stop) → next_unit A t ≡ Some entries.Done → StopsEnding between new (Some told) j stop
           → StopsNext A t between.kernel told stop new j
       by_end A t between new told j stop n e = record {
         entry = entries.Done;
@@ -149,8 +150,8 @@ module _ (A : Inputs) (s : State) (old : Standing) (holds : Option (List NamedFi
         spoils = e.image;
       }
 
-      ending : (A : Inputs) (t : State) (between new : Standing) (told : List ℕ) (i j : Option (List ℕ)) (stop : Stop) → i ≡ Some told → next_unit A t ≡ Some entries.Done
+      ending : (A : Inputs) (t : State) (between new : Standing) (told : SwapImage) (i j : Option SwapImage) (stop : Stop) → i ≡ Some told → next_unit A t ≡ Some entries.Done
           → StopsEnding between new i j stop
           → StopsBy A t between.kernel told stop new j
       ending A t between new told i j stops.NoMemory k n e = e.image ∙ k
-      ending A t between new told i j stop k n e = by_end A t between new told j stop n (subst (λ (o : Option (List ℕ)). StopsEnding between new o j stop) k e)
+      ending A t between new told i j stop k n e = by_end A t between new told j stop n (subst (λ (o : Option SwapImage). StopsEnding between new o j stop) k e)

@@ -1,5 +1,6 @@
 -- A wait that finds no child that has ended: the process sleeps, and nothing more is to come of its mark.
 use Rattle.std.proofs.Common.{◌≡◌, ℕ, ◌+◌, ◌&&◌, not, nat_lt, Bool, true, false, List, [], ◌∷◌, Option, Some, None, Result, refl, sym, ap, ◌∙◌, subst}
+use Rattle.vm_facts.specs.SwapImages.{SwapImage}
 use Rattle.io_edge.specs.FileHolding.{NamedFile}
 use Rattle.vm_facts.specs.Answers.{ByteWrite}
 use Rattle.vm_facts.specs.declared.regs.Regs.{Regs}
@@ -70,7 +71,7 @@ asleep A F pid p x effect here holds w =
     ∙ applied A.images F p.pid p.regs changes.Sleep p x own holds in
     ap (λ (G : FlatState). can_step G pid) slept ∙ ap ready_if (found_after F pid p q here number)
 
-pub sleeps : (A : Inputs) (s : State) (old : Standing) (l : Kernel) (holds : Option (List NamedFile)) (image : List ℕ) (pid : ℕ) (now : Bool) (p : Process)
+pub sleeps : (A : Inputs) (s : State) (old : Standing) (l : Kernel) (holds : Option (List NamedFile)) (image : SwapImage) (pid : ℕ) (now : Bool) (p : Process)
     (x : Space) (effect : Effect)
     (call : SystemCall)
     (r : Result Reply Refused)

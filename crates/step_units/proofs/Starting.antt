@@ -18,6 +18,7 @@ use Rattle.machine_state.specs.Sourced.{ImageNamed}
 use Rattle.proc_calls.specs.Starting.{image_wanted, image_found, LeavesFor, HasStarted}
 use Rattle.proc_calls.proofs.Starts.{StaysFor, IsReady}
 use Rattle.std.specs.Prelude.{is_ok}
+use Rattle.vm_facts.specs.SwapImages.{SwapImage}
 use Rattle.io_edge.specs.FileHolding.{NamedFile}
 use Rattle.vm_facts.specs.Answers.{ByteWrite}
 use Rattle.vm_facts.specs.declared.entry.Entry.{Entry}
@@ -101,14 +102,14 @@ returned_pieces true k pid size number o = refl
 returned_pieces false k pid size number o = refl
 
 -- the pieces of an image are those of the change
-pub pieces_same : (A : Inputs) (s : State) (m : Standing) (holds : Option (List NamedFile)) (image : List ℕ) (pid number : ℕ) (top : List ℕ)
+pub pieces_same : (A : Inputs) (s : State) (m : Standing) (holds : Option (List NamedFile)) (image : SwapImage) (pid number : ℕ) (top : List ℕ)
     → Rattle.step_units.specs.Machines.MachineAt A s m holds image
     → image_found number m ≡ place_all A.swap_blocks m.kernel.holdings (asked (facts_of A.images) m.kernel pid (Exec number top))
 pieces_same A s m holds image pid number top h =
     ap (λ (size : ℕ). place_all size m.kernel.holdings (image_wanted m number)) h.blocks
     ∙ ap (λ (facts : List Image). place_all A.swap_blocks m.kernel.holdings (image_asked m.kernel.place m.kernel.next_sid number (facts_numbered facts number))) (headers A s m holds image h)
 
-module _ (A : Inputs) (s : State) (old : Standing) (holds : Option (List NamedFile)) (image : List ℕ) (pid : ℕ) (now : Bool) (p : Process) (x : Space) (effect : Effect)
+module _ (A : Inputs) (s : State) (old : Standing) (holds : Option (List NamedFile)) (image : SwapImage) (pid : ℕ) (now : Bool) (p : Process) (x : Space) (effect : Effect)
     (on : RunsOn A s old holds image pid now p x)
     (makes : MakesCall old p x effect Execve) (after_regs : Regs) (number : ℕ) (top : List ℕ)
     (reads : run (kernel_answers old.kernel x.sid) (execve_reply A.images effect.regs) ≡ Ok (Does after_regs (Exec number top))) where
@@ -150,7 +151,7 @@ module _ (A : Inputs) (s : State) (old : Standing) (holds : Option (List NamedFi
   }
 
   -- The machine of a process that has its new image stands at a state at which its stack page is due.
-  pub record IsImaged (new : Standing) (j : Option (List ℕ)) : Type 0 where
+  pub record IsImaged (new : Standing) (j : Option SwapImage) : Type 0 where
     pub units : List Entry
     pub state : State
     pub leads : Leads A s old.kernel image units state new.kernel j
@@ -161,7 +162,7 @@ module _ (A : Inputs) (s : State) (old : Standing) (holds : Option (List NamedFi
     pub lines : state.lines ≡ s.lines
     pub mark : state.mark ≡ s.mark
 
-  pub imaged : (new : Standing) (j : Option (List ℕ)) → is_ok (image_found number old) ≡ true
+  pub imaged : (new : Standing) (j : Option SwapImage) → is_ok (image_found number old) ≡ true
       → HasStarted old new pid after_regs number top holds (Some image) j → IsImaged new j
   imaged new j ok h =
       let f : LeavesFor (image_found number) old h.asked pid holds (Some image) j = h.finds in
@@ -192,7 +193,7 @@ module _ (A : Inputs) (s : State) (old : Standing) (holds : Option (List NamedFi
       record {
         units = l.units ++ u ∷ [];
         state = last;
-        leads = subst (λ (o : Option (List ℕ)). Leads A s old.kernel image (l.units ++ u ∷ []) last new.kernel o) (sym l.told)
+        leads = subst (λ (o : Option SwapImage). Leads A s old.kernel image (l.units ++ u ∷ []) last new.kernel o) (sym l.told)
             (leads_both A s t last old.kernel k new.kernel image bytes (Some bytes) l.units (u ∷ []) l.leads led);
         due =
             ap (λ (q : Placement). q.due) (arrives A t pid u tt refl).place

@@ -1,5 +1,6 @@
 -- Where a run stops, the unit that comes next is known.
 use Rattle.std.proofs.Common.{◌≡◌, ◌⊎◌, ℕ, ◌<◌, ◌≤◌, List, [], ◌∷◌, ◌++◌, length, Option, Some, refl, sym, ap, subst, arith, length-append}
+use Rattle.vm_facts.specs.SwapImages.{SwapImage}
 use Rattle.vm_facts.specs.declared.entry.Entry.{Entry}
 use Rattle.vm_facts.specs.declared.entry.Entry.TheVariants as entries
 use Rattle.vm_facts.specs.declared.stop.Stop.{Stop}
@@ -20,19 +21,19 @@ use Rattle.step_units.specs.Stepped.{StopsNext, StopsBy, StopLeads}
 
 -- At a unit that a call names.
 
-same_image : (e : Entry) (k : Kernel) (i j : Option (List ℕ)) → SpoilsBy e stops.NoMemory k i j → j ≡ i
+same_image : (e : Entry) (k : Kernel) (i j : Option SwapImage) → SpoilsBy e stops.NoMemory k i j → j ≡ i
 same_image entries.Done k i j h = h
 same_image (entries.SwapOut pid) k i j h = h
 same_image _ k i j h = h
 
-pub stops_by : (A : Inputs) (t : State) (k : Kernel) (image : List ℕ) (stop : Stop) (new : Standing) (j : Option (List ℕ))
+pub stops_by : (A : Inputs) (t : State) (k : Kernel) (image : SwapImage) (stop : Stop) (new : Standing) (j : Option SwapImage)
     → StopsNext A t k image stop new j → StopsBy A t k image stop new j
 stops_by A t k image stops.NoMemory new j n = same_image n.entry k (Some image) j n.spoils
 stops_by A t k image _ new j n = n
 
 -- units lead to where this one is next, and there the run stopped
-pub stops_behind : (A : Inputs) (s t : State) (k l : Kernel) (image behind : List ℕ) (us : List Entry) (stop : Stop) (new : Standing)
-    (j : Option (List ℕ)) (e : Entry)
+pub stops_behind : (A : Inputs) (s t : State) (k l : Kernel) (image behind : SwapImage) (us : List Entry) (stop : Stop) (new : Standing)
+    (j : Option SwapImage) (e : Entry)
     → Leads A s k image us t l (Some behind) → next_unit A t ≡ Some e → StopsAt e l (Some behind) stop new j → StopLeads A s k image stop new j
 stops_behind A s t k l image behind us stop new j e leads n at = record {
   units = us;
@@ -45,7 +46,7 @@ stops_behind A s t k l image behind us stop new j e leads n at = record {
   by = stops_by A t l behind stop new j (record { entry = e; next = n; full = at.full.0; cause = at.cause; spoils = at.image });
 }
 
-pub stops_here : (A : Inputs) (s : State) (k : Kernel) (image : List ℕ) (stop : Stop) (new : Standing) (j : Option (List ℕ)) (e : Entry)
+pub stops_here : (A : Inputs) (s : State) (k : Kernel) (image : SwapImage) (stop : Stop) (new : Standing) (j : Option SwapImage) (e : Entry)
     → next_unit A s ≡ Some e → StopsAt e k (Some image) stop new j → StopLeads A s k image stop new j
 stops_here A s k image stop new j e n at = stops_behind A s s k k image image [] stop new j e (none_leads A s k image) n at
 
@@ -70,7 +71,7 @@ note_cause (entries.Refused pid) stop ts h c = c
 note_cause (entries.Owners free used moving held) stop ts h c = c
 note_cause _ stop ts h c = absurd h
 
-note_spoils : (e : Entry) (stop : Stop) (k : Kernel) (i : Option (List ℕ)) → IsNote e → SpoilsBy e stop k i i
+note_spoils : (e : Entry) (stop : Stop) (k : Kernel) (i : Option SwapImage) → IsNote e → SpoilsBy e stop k i i
 note_spoils (entries.Event line) stop k i h = refl
 note_spoils (entries.Turn pid) stop k i h = refl
 note_spoils (entries.Out pid bytes) stop k i h = refl
@@ -78,7 +79,7 @@ note_spoils (entries.Refused pid) stop k i h = refl
 note_spoils (entries.Owners free used moving held) stop k i h = refl
 note_spoils _ stop k i h = absurd h
 
-pub note_stops : (A : Inputs) (s : State) (old new : Standing) (image : List ℕ) (stop : Stop) (e : Entry) → next_unit A s ≡ Some e → IsNote e
+pub note_stops : (A : Inputs) (s : State) (old new : Standing) (image : SwapImage) (stop : Stop) (e : Entry) → next_unit A s ≡ Some e → IsNote e
     → StopsBefore old new stop
     → StopLeads A s old.kernel image stop new (Some image)
 note_stops A s old new image stop e n h x = record {

@@ -3,6 +3,7 @@ use Rattle.std.proofs.Common.{◌≡◌, ℕ, ◌==◌, ◌&&◌, Bool, true, fa
 use Rattle.std.specs.Prelude.{find}
 use Rattle.std.proofs.lemmas.List.{length-map}
 use Rattle.std.proofs.lemmas.Option.{same_Some}
+use Rattle.vm_facts.specs.SwapImages.{SwapImage}
 use Rattle.vm_facts.specs.declared.regs.Regs.{Regs}
 use Rattle.flat_state.specs.Space.{Space}
 use Rattle.flat_state.specs.Flat.{Holding, Holds, Lends, Zombie, Process, FlatState, Inputs}
@@ -35,7 +36,7 @@ pub record IsKept (k : Kernel) (pid : ℕ) (p : Process) (x : Space) : Type 0 wh
   pub life : proc.life ≡ HoldsSpace x.sid
   pub regs : proc.regs ≡ p.regs
 
-pub is_kept : (A : Inputs) (s : State) (k : Kernel) (image : List ℕ) (pid : ℕ) (now : Bool) (p : Process) (x : Space) → At A s k image
+pub is_kept : (A : Inputs) (s : State) (k : Kernel) (image : SwapImage) (pid : ℕ) (now : Bool) (p : Process) (x : Space) → At A s k image
     → IsRunning A s pid now p x → IsKept k pid p x
 is_kept A s k image pid now p x at r =
     let flat : FlatState = s.point.flat in

@@ -2,6 +2,7 @@
 use Rattle.std.proofs.Common.{◌≡◌, ℕ, ◌+◌, ◌<◌, ◌&&◌, ◌==◌, nat_lt, Bool, true, false, cond, List, [], ◌∷◌, find, Option, Some, None, refl, ap, ◌∙◌, subst, arith}
 use Rattle.std.proofs.lemmas.Bool.Decides.{nat_tests}
 use Rattle.std.proofs.lemmas.Bool.{and_parts}
+use Rattle.vm_facts.specs.SwapImages.{SwapImage}
 use Rattle.vm_facts.specs.declared.entry.Entry.{Entry}
 use Rattle.vm_facts.specs.declared.entry.Entry.TheVariants as entries
 use Rattle.vm_facts.specs.declared.stop.Stop.{Stop}
@@ -44,7 +45,7 @@ fresh_goes A s pid steps l =
     all_so (can_step s.point.flat pid) (nat_lt s.count A.limit) (nat_lt s.count (s.count + turn_instructions)) steps (below s.count A.limit l)
     (below s.count (s.count + turn_instructions) (omega arith))
 
-pub turn_begins : (A : Inputs) (s : State) (old : Standing) (l : Kernel) (holds : Option (List NamedFile)) (image : List ℕ) (pid : ℕ)
+pub turn_begins : (A : Inputs) (s : State) (old : Standing) (l : Kernel) (holds : Option (List NamedFile)) (image : SwapImage) (pid : ℕ)
     → MachineAt A s old holds image → TurnDue A s pid
     → l ≡ note_step old.kernel (entries.Turn pid) → TurnBegun A s old.kernel image pid l
 unfolding after
@@ -84,7 +85,7 @@ comes_next A s pid since c m g o =
     ap (λ (ds : List Due). or_else (due_unit s.place ds) (or_else (under A s s.mark) (next_mark A s))) c.clear
     ∙ ap (λ (x : Option Entry). or_else x (next_mark A s)) (ap (under A s) m ∙ ap (λ (b : Bool). when b (turn_unit A s pid)) g ∙ ap (turn_by A s pid) o)
 
-pub comes_in : (A : Inputs) (s : State) (old new : Standing) (holds : Option (List NamedFile)) (image : List ℕ) (pid since : ℕ)
+pub comes_in : (A : Inputs) (s : State) (old new : Standing) (holds : Option (List NamedFile)) (image : SwapImage) (pid since : ℕ)
     → MachineAt A s old holds image → IsClear s
     → s.mark ≡ marks.Turn pid since → goes_on A s pid (since + turn_instructions) ≡ true → is_out s.place pid ≡ true
     → IsIn old.kernel new.kernel pid (Some image)
@@ -104,7 +105,7 @@ comes_in A s old new holds image pid since at c m g o i =
       on = g;
     }
 
-pub coming_in_stops : (A : Inputs) (s : State) (old new : Standing) (holds : Option (List NamedFile)) (image : List ℕ) (j : Option (List ℕ))
+pub coming_in_stops : (A : Inputs) (s : State) (old new : Standing) (holds : Option (List NamedFile)) (image : SwapImage) (j : Option SwapImage)
     (pid since : ℕ) (stop : Stop)
     → MachineAt A s old holds image
     → IsClear s → s.mark ≡ marks.Turn pid since → goes_on A s pid (since + turn_instructions) ≡ true → is_out s.place pid ≡ true

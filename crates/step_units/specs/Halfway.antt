@@ -1,5 +1,6 @@
 -- A machine under a mark of which some units may be made already: what it finds there, and what it makes of the rest.
 use Rattle.std.specs.Prelude.{◌≡◌, ℕ, ◌<◌, false, List, length, Option, Some}
+use Rattle.vm_facts.specs.SwapImages.{SwapImage}
 use Rattle.vm_facts.specs.declared.entry.Entry.TheVariants as entries
 use Rattle.vm_facts.specs.declared.stop.Stop.{Stop}
 use Rattle.io_edge.specs.FileHolding.{NamedFile}
@@ -25,17 +26,17 @@ use Rattle.step_units.specs.Lines.{IsClear, LineLeads}
 -- an interrupt waits for a transfer
 abbrev pub InterruptWaits : Type 0
 InterruptWaits =
-    (A : Inputs) (s : State) (k : Kernel) (image : List ℕ) → At A s k image → s.mark ≡ marks.Interrupt
+    (A : Inputs) (s : State) (k : Kernel) (image : SwapImage) → At A s k image → s.mark ≡ marks.Interrupt
     → (s.mark ≡ interrupt_mark s.place.transfers) × (0 < length s.place.transfers)
 
 -- who is to be brought in is out, and nothing is due
 abbrev pub BroughtInMayCome : Type 0
-BroughtInMayCome = (A : Inputs) (s : State) (k : Kernel) (image : List ℕ) (pid : ℕ) → At A s k image → s.mark ≡ marks.BringIn pid → CanComeIn k pid
+BroughtInMayCome = (A : Inputs) (s : State) (k : Kernel) (image : SwapImage) (pid : ℕ) → At A s k image → s.mark ≡ marks.BringIn pid → CanComeIn k pid
 
 -- who is put out holds a space that is there, and is in
 abbrev pub PutOutIsIn : Type 0
 PutOutIsIn =
-    (A : Inputs) (s : State) (k : Kernel) (image : List ℕ) (pid : ℕ) → At A s k image → s.mark ≡ marks.PutOut pid
+    (A : Inputs) (s : State) (k : Kernel) (image : SwapImage) (pid : ℕ) → At A s k image → s.mark ≡ marks.PutOut pid
     → ((sid : ℕ) × HoldsThere k pid sid) × (is_out k.place pid ≡ false)
 
 -- What it makes of the rest.
@@ -43,25 +44,25 @@ PutOutIsIn =
 -- the units that put a process out, or are left of those, are next units, and lead to where the line is over
 abbrev pub PuttingIsMade : Type 0
 PuttingIsMade =
-    (A : Inputs) (s : State) (old new : Standing) (holds : Option (List NamedFile)) (image : List ℕ) (j : Option (List ℕ)) (pid sid : ℕ)
+    (A : Inputs) (s : State) (old new : Standing) (holds : Option (List NamedFile)) (image : SwapImage) (j : Option SwapImage) (pid sid : ℕ)
     → MachineAt A s old holds image → IsClear s → ProcessesFit s.point.flat.processes → s.mark ≡ marks.PutOut pid → HoldsThere old.kernel pid sid
     → PutOut pid sid old new holds (Some image) j → LineLeads A s old.kernel image new.kernel j
 
 -- or to where the run stops
 abbrev pub PuttingStops : Type 0
 PuttingStops =
-    (A : Inputs) (s : State) (old new : Standing) (holds : Option (List NamedFile)) (image : List ℕ) (j : Option (List ℕ)) (pid sid : ℕ) (stop : Stop)
+    (A : Inputs) (s : State) (old new : Standing) (holds : Option (List NamedFile)) (image : SwapImage) (j : Option SwapImage) (pid sid : ℕ) (stop : Stop)
     → MachineAt A s old holds image → IsClear s → s.mark ≡ marks.PutOut pid → HoldsThere old.kernel pid sid
     → StopsPutting pid sid old stop new holds (Some image) j → StopLeads A s old.kernel image stop new j
 
 -- so is the unit that brings one in
 abbrev pub BringingIsMade : Type 0
 BringingIsMade =
-    (A : Inputs) (s : State) (old new : Standing) (image : List ℕ) (pid : ℕ) → IsClear s → s.mark ≡ marks.BringIn pid
+    (A : Inputs) (s : State) (old new : Standing) (image : SwapImage) (pid : ℕ) → IsClear s → s.mark ≡ marks.BringIn pid
     → IsIn old.kernel new.kernel pid (Some image) → LineLeads A s old.kernel image new.kernel (Some image)
 
 -- or the run stops at it
 abbrev pub BringingStops : Type 0
 BringingStops =
-    (A : Inputs) (s : State) (old new : Standing) (image : List ℕ) (j : Option (List ℕ)) (pid : ℕ) (stop : Stop) → IsClear s
+    (A : Inputs) (s : State) (old new : Standing) (image : SwapImage) (j : Option SwapImage) (pid : ℕ) (stop : Stop) → IsClear s
     → s.mark ≡ marks.BringIn pid → StopsAt (entries.SwapIn pid) old.kernel (Some image) stop new j → StopLeads A s old.kernel image stop new j

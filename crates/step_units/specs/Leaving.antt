@@ -1,5 +1,6 @@
 -- Ends of processes, and new images.
 use Rattle.std.specs.Prelude.{◌≡◌, ◌⊎◌, ℕ, Bool, List, [], ℤ, Option, Some, None, Ok, Err}
+use Rattle.vm_facts.specs.SwapImages.{SwapImage}
 use Rattle.vm_facts.specs.declared.entry.Entry.TheVariants as entries
 use Rattle.vm_facts.specs.declared.stop.Stop.{Stop}
 use Rattle.io_edge.specs.FileHolding.{NamedFile}
@@ -36,13 +37,13 @@ pub record EndsWith (A : Inputs) (s : State) (pid : ℕ) (p : Process) (status :
 -- an instruction that is refused with a signal ends its process so
 abbrev pub SignalEnds : Type 0
 SignalEnds =
-    (A : Inputs) (s : State) (m : Standing) (holds : Option (List NamedFile)) (image : List ℕ) (pid : ℕ) (now : Bool) (p : Process) (x : Space) (number : ℕ)
+    (A : Inputs) (s : State) (m : Standing) (holds : Option (List NamedFile)) (image : SwapImage) (pid : ℕ) (now : Bool) (p : Process) (x : Space) (number : ℕ)
     → RunsOn A s m holds image pid now p x → run (kernel_answers m.kernel x.sid) (instruction p.regs) ≡ Err (Signal number) → EndsWith A s pid p number
 
 -- and so does one that makes none of the eight calls
 abbrev pub NoCallEnds : Type 0
 NoCallEnds =
-    (A : Inputs) (s : State) (m : Standing) (holds : Option (List NamedFile)) (image : List ℕ) (pid : ℕ) (now : Bool) (p : Process) (x : Space)
+    (A : Inputs) (s : State) (m : Standing) (holds : Option (List NamedFile)) (image : SwapImage) (pid : ℕ) (now : Bool) (p : Process) (x : Space)
     (effect : Effect) (number : ℤ)
     → RunsOn A s m holds image pid now p x → run (kernel_answers m.kernel x.sid) (instruction p.regs) ≡ Ok effect → effect.call ≡ Some number
     → call_of number ≡ None → EndsWith A s pid p 12
@@ -50,7 +51,7 @@ NoCallEnds =
 -- the end of a process, once it left its space, is its step
 abbrev pub EndIsMade : Type 0
 EndIsMade =
-    (A : Inputs) (s : State) (old new : Standing) (holds : Option (List NamedFile)) (image : List ℕ) (behind : Option (List ℕ)) (pid : ℕ) (now : Bool)
+    (A : Inputs) (s : State) (old new : Standing) (holds : Option (List NamedFile)) (image : SwapImage) (behind : Option SwapImage) (pid : ℕ) (now : Bool)
     (p : Process) (x : Space) (status : ℕ)
     → MachineAt A s old holds image → IsRunning A s pid now p x → EndsWith A s pid p status → HasEnded old new pid status holds (Some image) behind
     → StepLeads A s old.kernel image 1 new.kernel behind
@@ -58,7 +59,7 @@ EndIsMade =
 -- where the machine stops before that, next units lead to the stop
 abbrev pub EndStops : Type 0
 EndStops =
-    (A : Inputs) (s : State) (old new : Standing) (holds : Option (List NamedFile)) (image : List ℕ) (behind : Option (List ℕ)) (pid : ℕ) (now : Bool)
+    (A : Inputs) (s : State) (old new : Standing) (holds : Option (List NamedFile)) (image : SwapImage) (behind : Option SwapImage) (pid : ℕ) (now : Bool)
     (p : Process) (x : Space) (status : ℕ)
     (stop : Stop)
     → MachineAt A s old holds image → IsRunning A s pid now p x → EndsWith A s pid p status → StopsAlive old new pid holds (Some image) behind stop
@@ -67,7 +68,7 @@ EndStops =
 -- an exit is the process's step
 abbrev pub ExitIsMade : Type 0
 ExitIsMade =
-    (A : Inputs) (s : State) (old new : Standing) (holds : Option (List NamedFile)) (image : List ℕ) (behind : Option (List ℕ)) (pid : ℕ) (now : Bool)
+    (A : Inputs) (s : State) (old new : Standing) (holds : Option (List NamedFile)) (image : SwapImage) (behind : Option SwapImage) (pid : ℕ) (now : Bool)
     (p : Process) (x : Space) (effect : Effect)
     (called : Called)
     → RunsOn A s old holds image pid now p x → MakesCall old p x effect system_calls.Exit
@@ -77,7 +78,7 @@ ExitIsMade =
 -- where the machine stops in it, next units lead to the stop
 abbrev pub ExitStops : Type 0
 ExitStops =
-    (A : Inputs) (s : State) (old new : Standing) (holds : Option (List NamedFile)) (image : List ℕ) (behind : Option (List ℕ)) (pid : ℕ) (now : Bool)
+    (A : Inputs) (s : State) (old new : Standing) (holds : Option (List NamedFile)) (image : SwapImage) (behind : Option SwapImage) (pid : ℕ) (now : Bool)
     (p : Process) (x : Space) (effect : Effect)
     (stop : Stop)
     → RunsOn A s old holds image pid now p x → MakesCall old p x effect system_calls.Exit
@@ -89,7 +90,7 @@ ExitStops =
 -- an execve is the process's step, and after it the new stack page is filled
 abbrev pub ExecIsMade : Type 0
 ExecIsMade =
-    (A : Inputs) (s : State) (old new : Standing) (holds : Option (List NamedFile)) (image : List ℕ) (behind : Option (List ℕ)) (pid : ℕ) (now : Bool)
+    (A : Inputs) (s : State) (old new : Standing) (holds : Option (List NamedFile)) (image : SwapImage) (behind : Option SwapImage) (pid : ℕ) (now : Bool)
     (p : Process) (x : Space) (effect : Effect)
     (called : Called)
     → RunsOn A s old holds image pid now p x → MakesCall old p x effect system_calls.Execve
@@ -99,7 +100,7 @@ ExecIsMade =
 -- where the machine stops in it, next units lead to the stop
 abbrev pub ExecStops : Type 0
 ExecStops =
-    (A : Inputs) (s : State) (old new : Standing) (holds : Option (List NamedFile)) (image : List ℕ) (behind : Option (List ℕ)) (pid : ℕ) (now : Bool)
+    (A : Inputs) (s : State) (old new : Standing) (holds : Option (List NamedFile)) (image : SwapImage) (behind : Option SwapImage) (pid : ℕ) (now : Bool)
     (p : Process) (x : Space) (effect : Effect)
     (stop : Stop)
     → RunsOn A s old holds image pid now p x → MakesCall old p x effect system_calls.Execve

@@ -1,5 +1,6 @@
 -- What a machine makes of the lines of a schedule, and of turns.
 use Rattle.std.specs.Prelude.{◌≡◌, ℕ, ◌+◌, ◌<◌, true, false, List, [], ◌∷◌, length, slice_get, Option, Some, None}
+use Rattle.vm_facts.specs.SwapImages.{SwapImage}
 use Rattle.vm_facts.specs.declared.entry.Entry.{Entry}
 use Rattle.vm_facts.specs.declared.entry.Entry.TheVariants as entries
 use Rattle.vm_facts.specs.declared.event.Event.{Event}
@@ -38,7 +39,7 @@ pub record IsClear (s : State) : Type 0 where
   pub between : IsBetween s.point.last
 
 -- Next units lead to a state between two lines. The flat machine is where it was, and the last mark is no turn.
-pub record LineLeads (A : Inputs) (s : State) (k : Kernel) (image : List ℕ) (l : Kernel) (j : Option (List ℕ)) : Type 0 where
+pub record LineLeads (A : Inputs) (s : State) (k : Kernel) (image : SwapImage) (l : Kernel) (j : Option SwapImage) : Type 0 where
   pub units : List Entry
   pub state : State
   pub leads : Leads A s k image units state l j
@@ -51,7 +52,7 @@ pub record LineLeads (A : Inputs) (s : State) (k : Kernel) (image : List ℕ) (l
 -- A line begins.
 
 -- the entry of a line is the next unit, and after it the line's mark is the last
-pub record LineBegun (A : Inputs) (s : State) (k : Kernel) (image : List ℕ) (e : Event) (l : Kernel) : Type 0 where
+pub record LineBegun (A : Inputs) (s : State) (k : Kernel) (image : SwapImage) (e : Event) (l : Kernel) : Type 0 where
   pub state : State
   pub leads : Leads A s k image (entries.Event (s.lines + 1) ∷ []) state l (Some image)
   pub clear : IsClear state
@@ -65,14 +66,14 @@ pub record LineBegun (A : Inputs) (s : State) (k : Kernel) (image : List ℕ) (e
 -- the entry of the next line, noted by a machine between two lines, begins it
 abbrev pub LineBegins : Type 0
 LineBegins =
-    (A : Inputs) (s : State) (old : Standing) (l : Kernel) (holds : Option (List NamedFile)) (image : List ℕ) (e : Event) → MachineAt A s old holds image
+    (A : Inputs) (s : State) (old : Standing) (l : Kernel) (holds : Option (List NamedFile)) (image : SwapImage) (e : Event) → MachineAt A s old holds image
     → IsOver A s → s.count < A.limit
     → slice_get A.lines s.lines ≡ Some e → l ≡ note_step old.kernel (entries.Event (s.lines + 1)) → LineBegun A s old.kernel image e l
 
 -- where the machine stops before a line's entry, next units lead to the stop
 abbrev pub LineStops : Type 0
 LineStops =
-    (A : Inputs) (s : State) (old new : Standing) (holds : Option (List NamedFile)) (image : List ℕ) (e : Event) (stop : Stop) → MachineAt A s old holds image
+    (A : Inputs) (s : State) (old new : Standing) (holds : Option (List NamedFile)) (image : SwapImage) (e : Event) (stop : Stop) → MachineAt A s old holds image
     → IsOver A s → s.count < A.limit
     → slice_get A.lines s.lines ≡ Some e → StopsBefore old new stop → StopLeads A s old.kernel image stop new (Some image)
 
@@ -81,7 +82,7 @@ LineStops =
 -- the oldest transfer ends, where one is in flight
 abbrev pub InterruptIsMade : Type 0
 InterruptIsMade =
-    (A : Inputs) (s : State) (old : Standing) (l : Kernel) (holds : Option (List NamedFile)) (image : List ℕ) (j : Option (List ℕ))
+    (A : Inputs) (s : State) (old : Standing) (l : Kernel) (holds : Option (List NamedFile)) (image : SwapImage) (j : Option SwapImage)
     → MachineAt A s old holds image → IsClear s
     → s.mark ≡ interrupt_mark s.place.transfers → 0 < length s.place.transfers → IsDone (sources old holds) (Some image) old.kernel l
     → ImageAfter old.kernel (Some image) j
@@ -94,7 +95,7 @@ IdleInterruptEnds = (A : Inputs) (s : State) → IsClear s → s.mark ≡ interr
 -- where the machine stops as it ends, next units lead to the stop
 abbrev pub InterruptStops : Type 0
 InterruptStops =
-    (A : Inputs) (s : State) (old new : Standing) (holds : Option (List NamedFile)) (image : List ℕ) (j : Option (List ℕ)) (stop : Stop)
+    (A : Inputs) (s : State) (old new : Standing) (holds : Option (List NamedFile)) (image : SwapImage) (j : Option SwapImage) (stop : Stop)
     → MachineAt A s old holds image → IsClear s
     → s.mark ≡ interrupt_mark s.place.transfers → 0 < length s.place.transfers → StopsEnding old new (Some image) j stop
     → StopLeads A s old.kernel image stop new j
@@ -102,21 +103,21 @@ InterruptStops =
 -- the hands move
 abbrev pub HandsAreMade : Type 0
 HandsAreMade =
-    (A : Inputs) (s : State) (old new : Standing) (holds : Option (List NamedFile)) (image : List ℕ) (j : Option (List ℕ)) (n made : ℕ)
+    (A : Inputs) (s : State) (old new : Standing) (holds : Option (List NamedFile)) (image : SwapImage) (j : Option SwapImage) (n made : ℕ)
     → MachineAt A s old holds image → IsClear s
     → s.mark ≡ marks.Hands n → Moved n old new made holds (Some image) j → LineLeads A s old.kernel image new.kernel j
 
 -- where the machine stops as they move, next units lead to the stop
 abbrev pub HandsStop : Type 0
 HandsStop =
-    (A : Inputs) (s : State) (old new : Standing) (holds : Option (List NamedFile)) (image : List ℕ) (j : Option (List ℕ)) (n : ℕ) (stop : Stop)
+    (A : Inputs) (s : State) (old new : Standing) (holds : Option (List NamedFile)) (image : SwapImage) (j : Option SwapImage) (n : ℕ) (stop : Stop)
     → MachineAt A s old holds image → IsClear s
     → s.mark ≡ marks.Hands n → StopsMoving n old stop new holds (Some image) j → StopLeads A s old.kernel image stop new j
 
 -- the swapper has a turn
 abbrev pub SwapperIsMade : Type 0
 SwapperIsMade =
-    (A : Inputs) (s : State) (old new : Standing) (holds : Option (List NamedFile)) (image : List ℕ) (j : Option (List ℕ)) (t : Turned)
+    (A : Inputs) (s : State) (old new : Standing) (holds : Option (List NamedFile)) (image : SwapImage) (j : Option SwapImage) (t : Turned)
     → MachineAt A s old holds image → IsClear s
     → ProcessesFit s.point.flat.processes → s.mark ≡ swap_mark (swap_choice s.place (runners s.point.flat))
     → choice_of t ≡ swap_choice old.kernel.place (runners_of old.kernel)
@@ -125,7 +126,7 @@ SwapperIsMade =
 -- where the machine stops in that turn, next units lead to the stop
 abbrev pub SwapperStops : Type 0
 SwapperStops =
-    (A : Inputs) (s : State) (old new : Standing) (holds : Option (List NamedFile)) (image : List ℕ) (j : Option (List ℕ)) (t : Turned) (stop : Stop)
+    (A : Inputs) (s : State) (old new : Standing) (holds : Option (List NamedFile)) (image : SwapImage) (j : Option SwapImage) (t : Turned) (stop : Stop)
     → MachineAt A s old holds image → IsClear s
     → s.mark ≡ swap_mark (swap_choice s.place (runners s.point.flat)) → choice_of t ≡ swap_choice old.kernel.place (runners_of old.kernel)
     → StopsTurning t old stop new holds (Some image) j → StopLeads A s old.kernel image stop new j
@@ -133,14 +134,14 @@ SwapperStops =
 -- the numbers of frames and blocks are noted
 abbrev pub AuditIsMade : Type 0
 AuditIsMade =
-    (A : Inputs) (s : State) (old : Standing) (l : Kernel) (holds : Option (List NamedFile)) (image : List ℕ) → MachineAt A s old holds image
+    (A : Inputs) (s : State) (old : Standing) (l : Kernel) (holds : Option (List NamedFile)) (image : SwapImage) → MachineAt A s old holds image
     → IsClear s → s.mark ≡ marks.Audit
     → l ≡ note_step old.kernel (owners_of old.kernel.place old.kernel.holdings) → LineLeads A s old.kernel image l (Some image)
 
 -- where the machine stops before that entry, next units lead to the stop
 abbrev pub AuditStops : Type 0
 AuditStops =
-    (A : Inputs) (s : State) (old new : Standing) (holds : Option (List NamedFile)) (image : List ℕ) (stop : Stop) → MachineAt A s old holds image
+    (A : Inputs) (s : State) (old new : Standing) (holds : Option (List NamedFile)) (image : SwapImage) (stop : Stop) → MachineAt A s old holds image
     → IsClear s → s.mark ≡ marks.Audit
     → StopsBefore old new stop → StopLeads A s old.kernel image stop new (Some image)
 
@@ -154,7 +155,7 @@ pub record TurnDue (A : Inputs) (s : State) (pid : ℕ) : Type 0 where
   pub turned : next_turned s.point.flat (last_turned s.mark) ≡ Some pid
 
 -- its entry is the next unit, and after it the turn is the last mark
-pub record TurnBegun (A : Inputs) (s : State) (k : Kernel) (image : List ℕ) (pid : ℕ) (l : Kernel) : Type 0 where
+pub record TurnBegun (A : Inputs) (s : State) (k : Kernel) (image : SwapImage) (pid : ℕ) (l : Kernel) : Type 0 where
   pub state : State
   pub leads : Leads A s k image (entries.Turn pid ∷ []) state l (Some image)
   pub clear : IsClear state
@@ -168,19 +169,19 @@ pub record TurnBegun (A : Inputs) (s : State) (k : Kernel) (image : List ℕ) (p
 -- the entry of a turn that is due begins it
 abbrev pub TurnBegins : Type 0
 TurnBegins =
-    (A : Inputs) (s : State) (old : Standing) (l : Kernel) (holds : Option (List NamedFile)) (image : List ℕ) (pid : ℕ)
+    (A : Inputs) (s : State) (old : Standing) (l : Kernel) (holds : Option (List NamedFile)) (image : SwapImage) (pid : ℕ)
     → MachineAt A s old holds image → TurnDue A s pid
     → l ≡ note_step old.kernel (entries.Turn pid) → TurnBegun A s old.kernel image pid l
 
 -- where the machine stops before that entry, next units lead to the stop
 abbrev pub TurnStops : Type 0
 TurnStops =
-    (A : Inputs) (s : State) (old new : Standing) (holds : Option (List NamedFile)) (image : List ℕ) (pid : ℕ) (stop : Stop)
+    (A : Inputs) (s : State) (old new : Standing) (holds : Option (List NamedFile)) (image : SwapImage) (pid : ℕ) (stop : Stop)
     → MachineAt A s old holds image → TurnDue A s pid
     → StopsBefore old new stop → StopLeads A s old.kernel image stop new (Some image)
 
 -- A process whose turn it is and that is out comes in first: it has its turn yet, and is in.
-pub record CameIn (A : Inputs) (s : State) (k : Kernel) (image : List ℕ) (pid since : ℕ) (l : Kernel) : Type 0 where
+pub record CameIn (A : Inputs) (s : State) (k : Kernel) (image : SwapImage) (pid since : ℕ) (l : Kernel) : Type 0 where
   pub state : State
   pub leads : Leads A s k image (entries.SwapIn pid ∷ []) state l (Some image)
   pub clear : IsClear state
@@ -194,7 +195,7 @@ pub record CameIn (A : Inputs) (s : State) (k : Kernel) (image : List ℕ) (pid 
 -- the entry by which it comes in is the next unit
 abbrev pub ComingInIsMade : Type 0
 ComingInIsMade =
-    (A : Inputs) (s : State) (old new : Standing) (holds : Option (List NamedFile)) (image : List ℕ) (pid since : ℕ) → MachineAt A s old holds image → IsClear s
+    (A : Inputs) (s : State) (old new : Standing) (holds : Option (List NamedFile)) (image : SwapImage) (pid since : ℕ) → MachineAt A s old holds image → IsClear s
     → s.mark ≡ marks.Turn pid since
     → goes_on A s pid (since + turn_instructions) ≡ true → is_out s.place pid ≡ true → IsIn old.kernel new.kernel pid (Some image)
     → CameIn A s old.kernel image pid since new.kernel
@@ -202,7 +203,7 @@ ComingInIsMade =
 -- where the machine stops before that entry, next units lead to the stop
 abbrev pub ComingInStops : Type 0
 ComingInStops =
-    (A : Inputs) (s : State) (old new : Standing) (holds : Option (List NamedFile)) (image : List ℕ) (j : Option (List ℕ)) (pid since : ℕ) (stop : Stop)
+    (A : Inputs) (s : State) (old new : Standing) (holds : Option (List NamedFile)) (image : SwapImage) (j : Option SwapImage) (pid since : ℕ) (stop : Stop)
     → MachineAt A s old holds image → IsClear s
     → s.mark ≡ marks.Turn pid since → goes_on A s pid (since + turn_instructions) ≡ true → is_out s.place pid ≡ true
     → StopsAt (entries.SwapIn pid) old.kernel (Some image) stop new j → StopLeads A s old.kernel image stop new j

@@ -1,5 +1,6 @@
 -- A machine with its files, at a state of a run.
 use Rattle.std.specs.Prelude.{◌≡◌, ℕ, Bool, List, Option, Ok}
+use Rattle.vm_facts.specs.SwapImages.{SwapImage}
 use Rattle.io_edge.specs.FileHolding.{NamedFile}
 use Rattle.user_vax.specs.Program.{run}
 use Rattle.user_vax.specs.Effects.{Effect}
@@ -17,13 +18,13 @@ use Rattle.run_units.specs.Serving.{At}
 use Rattle.run_units.specs.Touching.{IsRunning}
 
 -- A machine whose files hold the images of a run stands at a state of the run.
-pub record MachineAt (A : Inputs) (s : State) (m : Standing) (holds : Option (List NamedFile)) (image : List ℕ) : Type 0 where
+pub record MachineAt (A : Inputs) (s : State) (m : Standing) (holds : Option (List NamedFile)) (image : SwapImage) : Type 0 where
   pub at : At A s m.kernel image
   pub images : AreImages m.images holds A.images
   pub blocks : m.params.swap_blocks ≡ A.swap_blocks
 
 -- Between two steps a process runs.
-pub record RunsOn (A : Inputs) (s : State) (m : Standing) (holds : Option (List NamedFile)) (image : List ℕ) (pid : ℕ) (now : Bool) (p : Process)
+pub record RunsOn (A : Inputs) (s : State) (m : Standing) (holds : Option (List NamedFile)) (image : SwapImage) (pid : ℕ) (now : Bool) (p : Process)
     (x : Space) : Type 0 where
   pub machine : MachineAt A s m holds image
   pub running : IsRunning A s pid now p x

@@ -1,5 +1,6 @@
 -- Calls that make processes.
 use Rattle.std.specs.Prelude.{ℕ, Bool, List, Option, Some}
+use Rattle.vm_facts.specs.SwapImages.{SwapImage}
 use Rattle.io_edge.specs.FileHolding.{NamedFile}
 use Rattle.vm_facts.specs.declared.stop.Stop.{Stop}
 use Rattle.user_vax.specs.Effects.{Effect}
@@ -17,7 +18,7 @@ use Rattle.step_units.specs.Stepped.{StepLeads, StopLeads}
 -- A vfork is the process's step, and the space passes with it.
 abbrev pub VforkIsMade : Type 0
 VforkIsMade =
-    (A : Inputs) (s : State) (old new : Standing) (holds : Option (List NamedFile)) (image : List ℕ) (pid : ℕ) (now : Bool) (p : Process)
+    (A : Inputs) (s : State) (old new : Standing) (holds : Option (List NamedFile)) (image : SwapImage) (pid : ℕ) (now : Bool) (p : Process)
     (x : Space) (effect : Effect)
     → RunsOn A s old holds image pid now p x → MakesCall old p x effect system_calls.Vfork → Vforked old new pid effect.regs
     → StepLeads A s old.kernel image 1 new.kernel (Some image)
@@ -25,7 +26,7 @@ VforkIsMade =
 -- where the machine stops in it, next units lead to the stop
 abbrev pub VforkStops : Type 0
 VforkStops =
-    (A : Inputs) (s : State) (old new : Standing) (holds : Option (List NamedFile)) (image : List ℕ) (pid : ℕ) (now : Bool) (p : Process) (x : Space)
+    (A : Inputs) (s : State) (old new : Standing) (holds : Option (List NamedFile)) (image : SwapImage) (pid : ℕ) (now : Bool) (p : Process) (x : Space)
     (effect : Effect) (stop : Stop)
     → RunsOn A s old holds image pid now p x → MakesCall old p x effect system_calls.Vfork → StopsMaking old new pid (changes.Lend old.kernel.next_pid) stop
     → StopLeads A s old.kernel image stop new (Some image)
@@ -33,7 +34,7 @@ VforkStops =
 -- A fork is the process's step, and after it each page that is due is copied, from the parent's page, which comes in first.
 abbrev pub ForkIsMade : Type 0
 ForkIsMade =
-    (A : Inputs) (s : State) (old new : Standing) (holds : Option (List NamedFile)) (image : List ℕ) (behind : Option (List ℕ)) (pid : ℕ) (now : Bool)
+    (A : Inputs) (s : State) (old new : Standing) (holds : Option (List NamedFile)) (image : SwapImage) (behind : Option SwapImage) (pid : ℕ) (now : Bool)
     (p : Process) (x : Space) (effect : Effect)
     → RunsOn A s old holds image pid now p x → MakesCall old p x effect system_calls.Fork → Forked old new pid effect.regs holds (Some image) behind
     → StepLeads A s old.kernel image 1 new.kernel behind
@@ -41,7 +42,7 @@ ForkIsMade =
 -- where the machine stops in it, next units lead to the stop
 abbrev pub ForkStops : Type 0
 ForkStops =
-    (A : Inputs) (s : State) (old new : Standing) (holds : Option (List NamedFile)) (image : List ℕ) (behind : Option (List ℕ)) (pid : ℕ) (now : Bool)
+    (A : Inputs) (s : State) (old new : Standing) (holds : Option (List NamedFile)) (image : SwapImage) (behind : Option SwapImage) (pid : ℕ) (now : Bool)
     (p : Process) (x : Space) (effect : Effect)
     (stop : Stop)
     → RunsOn A s old holds image pid now p x → MakesCall old p x effect system_calls.Fork → StopsForking old new pid effect.regs holds (Some image) behind stop

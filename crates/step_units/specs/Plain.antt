@@ -1,5 +1,6 @@
 -- Calls that call no device.
 use Rattle.std.specs.Prelude.{◌≡◌, ℕ, Bool, List, Option, Some, Err}
+use Rattle.vm_facts.specs.SwapImages.{SwapImage}
 use Rattle.io_edge.specs.FileHolding.{NamedFile}
 use Rattle.vm_facts.specs.declared.stop.Stop.{Stop}
 use Rattle.user_vax.specs.Program.{run}
@@ -28,7 +29,7 @@ use Rattle.step_units.specs.Stepped.{CallLeads, StopLeads}
 -- A wait is the process's step.
 abbrev pub WaitIsMade : Type 0
 WaitIsMade =
-    (A : Inputs) (s : State) (old new : Standing) (holds : Option (List NamedFile)) (image : List ℕ) (pid : ℕ) (now : Bool) (p : Process) (x : Space)
+    (A : Inputs) (s : State) (old new : Standing) (holds : Option (List NamedFile)) (image : SwapImage) (pid : ℕ) (now : Bool) (p : Process) (x : Space)
     (effect : Effect) (called : Called)
     → RunsOn A s old holds image pid now p x → MakesCall old p x effect system_calls.Wait
     → Replied old new pid system_calls.Wait effect.regs (wait_answer old.kernel pid effect.regs) called
@@ -37,7 +38,7 @@ WaitIsMade =
 -- So is a question for its number.
 abbrev pub GetpidIsMade : Type 0
 GetpidIsMade =
-    (A : Inputs) (s : State) (old new : Standing) (holds : Option (List NamedFile)) (image : List ℕ) (pid : ℕ) (now : Bool) (p : Process) (x : Space)
+    (A : Inputs) (s : State) (old new : Standing) (holds : Option (List NamedFile)) (image : SwapImage) (pid : ℕ) (now : Bool) (p : Process) (x : Space)
     (effect : Effect) (called : Called)
     → RunsOn A s old holds image pid now p x → MakesCall old p x effect system_calls.Getpid
     → Replied old new pid system_calls.Getpid effect.regs (Does (replied_both effect.regs pid (parent_of old.kernel pid)) Keep) called
@@ -46,7 +47,7 @@ GetpidIsMade =
 -- So is a write.
 abbrev pub WriteIsMade : Type 0
 WriteIsMade =
-    (A : Inputs) (s : State) (old new : Standing) (holds : Option (List NamedFile)) (image : List ℕ) (pid : ℕ) (now : Bool) (p : Process) (x : Space)
+    (A : Inputs) (s : State) (old new : Standing) (holds : Option (List NamedFile)) (image : SwapImage) (pid : ℕ) (now : Bool) (p : Process) (x : Space)
     (effect : Effect) (called : Called)
     → RunsOn A s old holds image pid now p x → MakesCall old p x effect system_calls.Write
     → Comes old new pid system_calls.Write effect.regs (run (kernel_answers old.kernel x.sid) (write_reply effect.regs)) called
@@ -55,7 +56,7 @@ WriteIsMade =
 -- Any call whose read was refused: of a byte that misses nothing was done, and of another that is a fault.
 abbrev pub RefusedIsMade : Type 0
 RefusedIsMade =
-    (A : Inputs) (s : State) (old new : Standing) (holds : Option (List NamedFile)) (image : List ℕ) (pid : ℕ) (now : Bool) (p : Process) (x : Space)
+    (A : Inputs) (s : State) (old new : Standing) (holds : Option (List NamedFile)) (image : SwapImage) (pid : ℕ) (now : Bool) (p : Process) (x : Space)
     (effect : Effect) (call : SystemCall)
     (refused : Refused) (called : Called)
     → RunsOn A s old holds image pid now p x → MakesCall old p x effect call
@@ -73,7 +74,7 @@ AsksNothing _ = ⊥
 -- where such a call stops, its entry is the next unit
 abbrev pub PlainCallStops : Type 0
 PlainCallStops =
-    (A : Inputs) (s : State) (old new : Standing) (holds : Option (List NamedFile)) (image : List ℕ) (pid : ℕ) (now : Bool) (p : Process) (x : Space)
+    (A : Inputs) (s : State) (old new : Standing) (holds : Option (List NamedFile)) (image : SwapImage) (pid : ℕ) (now : Bool) (p : Process) (x : Space)
     (effect : Effect) (call : SystemCall)
     (stop : Stop)
     → RunsOn A s old holds image pid now p x → MakesCall old p x effect call → AsksNothing call → StopsBefore old new stop
@@ -82,7 +83,7 @@ PlainCallStops =
 -- so is that of a call whose read was refused
 abbrev pub RefusedCallStops : Type 0
 RefusedCallStops =
-    (A : Inputs) (s : State) (old new : Standing) (holds : Option (List NamedFile)) (image : List ℕ) (pid : ℕ) (now : Bool) (p : Process) (x : Space)
+    (A : Inputs) (s : State) (old new : Standing) (holds : Option (List NamedFile)) (image : SwapImage) (pid : ℕ) (now : Bool) (p : Process) (x : Space)
     (effect : Effect) (call : SystemCall)
     (refused : Refused) (stop : Stop)
     → RunsOn A s old holds image pid now p x → MakesCall old p x effect call
@@ -92,7 +93,7 @@ RefusedCallStops =
 -- where a write stops, by what it reads
 abbrev pub WriteStops : Type 0
 WriteStops =
-    (A : Inputs) (s : State) (old new : Standing) (holds : Option (List NamedFile)) (image : List ℕ) (pid : ℕ) (now : Bool) (p : Process) (x : Space)
+    (A : Inputs) (s : State) (old new : Standing) (holds : Option (List NamedFile)) (image : SwapImage) (pid : ℕ) (now : Bool) (p : Process) (x : Space)
     (effect : Effect) (stop : Stop)
     → RunsOn A s old holds image pid now p x → MakesCall old p x effect system_calls.Write
     → StopsOut old new pid (run (kernel_answers old.kernel x.sid) (write_reply effect.regs)) stop → StopLeads A s old.kernel image stop new (Some image)

@@ -1,5 +1,6 @@
 -- Registers of longwords along a run.
 use Rattle.std.specs.Prelude.{ℕ, ◌+◌, ◌<◌, ◌≤◌, ◌^◌, List, length, Option}
+use Rattle.vm_facts.specs.SwapImages.{SwapImage}
 use Rattle.vm_facts.specs.declared.entry.Entry.{Entry}
 use Rattle.flat_state.specs.Flat.{Inputs}
 use Rattle.kernel_model.specs.Kernel.{Kernel}
@@ -17,6 +18,6 @@ pub record HasLongwords (A : Inputs) (s : State) : Type 0 where
 -- next units keep that, while the numbers of processes are longwords
 abbrev pub LongwordsStay : Type 0
 LongwordsStay =
-    (A : Inputs) (s t : State) (k l : Kernel) (image : List ℕ) (j : Option (List ℕ)) (us : List Entry) → AllImages A.images → At A s k image
+    (A : Inputs) (s t : State) (k l : Kernel) (image : SwapImage) (j : Option SwapImage) (us : List Entry) → AllImages A.images → At A s k image
     → Leads A s k image us t l j
     → length A.first + 1 + t.count < 2 ^ 32 → HasLongwords A s → HasLongwords A t

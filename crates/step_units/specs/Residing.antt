@@ -1,5 +1,6 @@
 -- Who is in, in the closing phase.
 use Rattle.std.specs.Prelude.{◌≡◌, ℕ, false, List, Option}
+use Rattle.vm_facts.specs.SwapImages.{SwapImage}
 use Rattle.vm_facts.specs.declared.entry.Entry.{Entry}
 use Rattle.flat_state.specs.Flat.{Inputs}
 use Rattle.kernel_model.specs.Kernel.{Kernel}
@@ -11,5 +12,5 @@ use Rattle.run_units.specs.Leads.{Leads}
 -- in the closing phase units lead to no state at which a process is out that was in
 abbrev pub ClosingStaysIn : Type 0
 ClosingStaysIn =
-    (A : Inputs) (s t : State) (k l : Kernel) (image : List ℕ) (j : Option (List ℕ)) (us : List Entry) (pid n : ℕ)
+    (A : Inputs) (s t : State) (k l : Kernel) (image : SwapImage) (j : Option SwapImage) (us : List Entry) (pid n : ℕ)
     → IsClosing A s pid → Leads A s k image us t l j → is_out s.place n ≡ false → is_out t.place n ≡ false

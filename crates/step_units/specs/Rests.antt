@@ -1,5 +1,6 @@
 -- The rest of a step, after the entry that began it: bytes went out, or its pieces found no place.
 use Rattle.std.specs.Prelude.{◌≡◌, ◌⊎◌, ℕ, ◌≤◌, Bool, true, false, not, List, [], ◌∷◌, length, Option, Some, None, Err}
+use Rattle.vm_facts.specs.SwapImages.{SwapImage}
 use Rattle.vm_facts.specs.declared.entry.Entry.{Entry}
 use Rattle.vm_facts.specs.declared.entry.Entry.TheVariants as entries
 use Rattle.vm_facts.specs.declared.stop.Stop.{Stop}
@@ -91,24 +92,24 @@ pub record EndRests (A : Inputs) (s : State) (m : Standing) (pid : ℕ) : Type 0
 -- after bytes that went out the call replies how many there were, which are few
 abbrev pub SentRests : Type 0
 SentRests =
-    (A : Inputs) (s : State) (m : Standing) (holds : Option (List NamedFile)) (image : List ℕ) (pid : ℕ) (bytes : List ℕ) → MachineAt A s m holds image
+    (A : Inputs) (s : State) (m : Standing) (holds : Option (List NamedFile)) (image : SwapImage) (pid : ℕ) (bytes : List ℕ) → MachineAt A s m holds image
     → s.point.last ≡ Some (entries.Out pid bytes) → ReplyRests A s m pid false (length bytes) × (length bytes ≤ write_limit)
 
 -- after a refusal the call fails, or the stack that can't grow ends the process
 abbrev pub RefusedRests : Type 0
 RefusedRests =
-    (A : Inputs) (s : State) (m : Standing) (holds : Option (List NamedFile)) (image : List ℕ) (pid : ℕ) → MachineAt A s m holds image
+    (A : Inputs) (s : State) (m : Standing) (holds : Option (List NamedFile)) (image : SwapImage) (pid : ℕ) → MachineAt A s m holds image
     → s.point.last ≡ Some (entries.Refused pid) → ReplyRests A s m pid true no_memory ⊎ EndRests A s m pid
 
 -- the reply is the rest of the step
 abbrev pub RestIsMade : Type 0
 RestIsMade =
-    (A : Inputs) (s : State) (old new : Standing) (holds : Option (List NamedFile)) (image : List ℕ) (pid : ℕ) (carry : Bool) (r0 : ℕ)
+    (A : Inputs) (s : State) (old new : Standing) (holds : Option (List NamedFile)) (image : SwapImage) (pid : ℕ) (carry : Bool) (r0 : ℕ)
     → MachineAt A s old holds image → (rest : ReplyRests A s old pid carry r0) → Answered old new pid rest.call (replied rest.effect.regs carry r0) Keep
     → StepLeads A s old.kernel image 1 new.kernel (Some image)
 
 -- where the run stops before it, it comes next
 abbrev pub RestStops : Type 0
 RestStops =
-    (A : Inputs) (s : State) (old new : Standing) (image : List ℕ) (pid : ℕ) (carry : Bool) (r0 : ℕ) (stop : Stop) → ReplyRests A s old pid carry r0
+    (A : Inputs) (s : State) (old new : Standing) (image : SwapImage) (pid : ℕ) (carry : Bool) (r0 : ℕ) (stop : Stop) → ReplyRests A s old pid carry r0
     → StopsBefore old new stop → StopLeads A s old.kernel image stop new (Some image)

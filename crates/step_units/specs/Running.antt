@@ -1,5 +1,6 @@
 -- Instructions that make no call, and pages that they wait for.
 use Rattle.std.specs.Prelude.{◌≡◌, ◌⊎◌, ℕ, ◌<◌, Bool, true, false, List, [], ◌∷◌, length, Option, Some, None, Ok, Err}
+use Rattle.vm_facts.specs.SwapImages.{SwapImage}
 use Rattle.vm_facts.specs.declared.page.Page.{Page}
 use Rattle.vm_facts.specs.declared.entry.Entry.TheVariants as entries
 use Rattle.vm_facts.specs.declared.stop.Stop.{Stop}
@@ -29,7 +30,7 @@ use Rattle.step_units.specs.Leaving.{EndsWith}
 -- An instruction that makes no call, whose bytes were written and which was counted, is the process's step.
 abbrev pub InstructionIsMade : Type 0
 InstructionIsMade =
-    (A : Inputs) (s : State) (m : Standing) (l : Kernel) (holds : Option (List NamedFile)) (image : List ℕ) (pid : ℕ) (now : Bool) (p : Process)
+    (A : Inputs) (s : State) (m : Standing) (l : Kernel) (holds : Option (List NamedFile)) (image : SwapImage) (pid : ℕ) (now : Bool) (p : Process)
     (x : Space) (effect : Effect)
     → RunsOn A s m holds image pid now p x → run (kernel_answers m.kernel x.sid) (instruction p.regs) ≡ Ok effect → effect.call ≡ None
     → l ≡ ran_by (writes_in m.kernel x.sid effect.writes) pid effect.regs (entries.Ran pid 1) → StepLeads A s m.kernel image 1 l (Some image)
@@ -43,7 +44,7 @@ WaitsForPage A s m p x address write before =
 
 -- units lead to a state under the same mark, between two steps and with nothing due, or after the entry that says that the pieces
 -- of growth find no place; that ends the process by signal 11
-pub record EndsUngrown (A : Inputs) (s : State) (m new : Standing) (holds : Option (List NamedFile)) (image : List ℕ) (pid : ℕ) (now : Bool) (p : Process)
+pub record EndsUngrown (A : Inputs) (s : State) (m new : Standing) (holds : Option (List NamedFile)) (image : SwapImage) (pid : ℕ) (now : Bool) (p : Process)
     (x : Space) : Type 0 where
   pub state : State
   pub leads : Leads A s m.kernel image (entries.Refused pid ∷ []) state new.kernel (Some image)
@@ -54,12 +55,12 @@ pub record EndsUngrown (A : Inputs) (s : State) (m new : Standing) (holds : Opti
   pub mark : state.mark ≡ s.mark
 
 -- Next units count no instruction, and lead to where more pages are valid of those that the process touches first.
-pub record ServedMore (A : Inputs) (s : State) (k : Kernel) (image : List ℕ) (l : Kernel) (j : Option (List ℕ)) : Type 0 where
+pub record ServedMore (A : Inputs) (s : State) (k : Kernel) (image : SwapImage) (l : Kernel) (j : Option SwapImage) : Type 0 where
   pub led : StepLeads A s k image 0 l j
   pub more : length (locked A s) < length (locked A led.state)
 
 -- What serving comes to in a dispatch, by its answer: the process goes on, or nothing more is to come of the mark.
-abbrev pub ServeLeads : Inputs → State → Standing → Standing → Option (List NamedFile) → List ℕ → Option (List ℕ) → ℕ → Bool → Process → Space → Served → Type 0
+abbrev pub ServeLeads : Inputs → State → Standing → Standing → Option (List NamedFile) → SwapImage → Option SwapImage → ℕ → Bool → Process → Space → Served → Type 0
 ServeLeads A s old new holds image j pid now p x served.Valid = ServedMore A s old.kernel image new.kernel j
 ServeLeads A s old new holds image j pid now p x (served.Asleep q) = MarkEnds A s old.kernel image new.kernel j
 ServeLeads A s old new holds image j pid now p x served.NoFrame = MarkEnds A s old.kernel image new.kernel j
@@ -69,7 +70,7 @@ ServeLeads A s old new holds image j pid now p x (served.Signal number) = ⊥
 -- a page is served as far as that needs no waiting
 abbrev pub ServeIsMade : Type 0
 ServeIsMade =
-    (A : Inputs) (s : State) (old new : Standing) (holds : Option (List NamedFile)) (image : List ℕ) (j : Option (List ℕ)) (pid : ℕ) (p : Process) (x : Space)
+    (A : Inputs) (s : State) (old new : Standing) (holds : Option (List NamedFile)) (image : SwapImage) (j : Option SwapImage) (pid : ℕ) (p : Process) (x : Space)
     (address : ℕ) (write : Bool)
     (before : List Page) (answer : Served)
     → RunsOn A s old holds image pid false p x → WaitsForPage A s old p x address write before
@@ -79,7 +80,7 @@ ServeIsMade =
 -- where the machine stops in that, next units lead to the stop
 abbrev pub ServeStops : Type 0
 ServeStops =
-    (A : Inputs) (s : State) (old new : Standing) (holds : Option (List NamedFile)) (image : List ℕ) (j : Option (List ℕ)) (pid : ℕ) (p : Process) (x : Space)
+    (A : Inputs) (s : State) (old new : Standing) (holds : Option (List NamedFile)) (image : SwapImage) (j : Option SwapImage) (pid : ℕ) (p : Process) (x : Space)
     (address : ℕ) (write : Bool)
     (before : List Page) (stop : Stop)
     → RunsOn A s old holds image pid false p x → WaitsForPage A s old p x address write before
@@ -88,7 +89,7 @@ ServeStops =
 -- in a turn it is served until it is valid, by hands that pass over the pages before it
 abbrev pub ServeNowIsMade : Type 0
 ServeNowIsMade =
-    (A : Inputs) (s : State) (old new : Standing) (holds : Option (List NamedFile)) (image : List ℕ) (j : Option (List ℕ)) (pid : ℕ) (p : Process) (x : Space)
+    (A : Inputs) (s : State) (old new : Standing) (holds : Option (List NamedFile)) (image : SwapImage) (j : Option SwapImage) (pid : ℕ) (p : Process) (x : Space)
     (address : ℕ) (write : Bool)
     (before : List Page) (answer : Served)
     → RunsOn A s old holds image pid true p x → WaitsForPage A s old p x address write before
@@ -99,7 +100,7 @@ ServeNowIsMade =
 -- where the machine stops in that, next units lead to the stop
 abbrev pub ServeNowStops : Type 0
 ServeNowStops =
-    (A : Inputs) (s : State) (old new : Standing) (holds : Option (List NamedFile)) (image : List ℕ) (j : Option (List ℕ)) (pid : ℕ) (p : Process) (x : Space)
+    (A : Inputs) (s : State) (old new : Standing) (holds : Option (List NamedFile)) (image : SwapImage) (j : Option SwapImage) (pid : ℕ) (p : Process) (x : Space)
     (address : ℕ) (write : Bool)
     (before : List Page) (stop : Stop)
     → RunsOn A s old holds image pid true p x → WaitsForPage A s old p x address write before

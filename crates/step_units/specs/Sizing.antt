@@ -1,5 +1,6 @@
 -- The call that moves the end of the data.
 use Rattle.std.specs.Prelude.{ℕ, Bool, List, Option, Some}
+use Rattle.vm_facts.specs.SwapImages.{SwapImage}
 use Rattle.io_edge.specs.FileHolding.{NamedFile}
 use Rattle.vm_facts.specs.declared.stop.Stop.{Stop}
 use Rattle.user_vax.specs.Program.{run}
@@ -19,7 +20,7 @@ use Rattle.step_units.specs.Stepped.{CallLeads, StopLeads}
 -- A break is the process's step.
 abbrev pub BreakIsMade : Type 0
 BreakIsMade =
-    (A : Inputs) (s : State) (old new : Standing) (holds : Option (List NamedFile)) (image : List ℕ) (behind : Option (List ℕ)) (pid : ℕ) (now : Bool)
+    (A : Inputs) (s : State) (old new : Standing) (holds : Option (List NamedFile)) (image : SwapImage) (behind : Option SwapImage) (pid : ℕ) (now : Bool)
     (p : Process) (x : Space) (effect : Effect)
     (called : Called)
     → RunsOn A s old holds image pid now p x → MakesCall old p x effect system_calls.Break
@@ -29,7 +30,7 @@ BreakIsMade =
 -- where the machine stops in it, next units lead to the stop
 abbrev pub BreakStops : Type 0
 BreakStops =
-    (A : Inputs) (s : State) (old new : Standing) (holds : Option (List NamedFile)) (image : List ℕ) (behind : Option (List ℕ)) (pid : ℕ) (now : Bool)
+    (A : Inputs) (s : State) (old new : Standing) (holds : Option (List NamedFile)) (image : SwapImage) (behind : Option SwapImage) (pid : ℕ) (now : Bool)
     (p : Process) (x : Space) (effect : Effect)
     (stop : Stop)
     → RunsOn A s old holds image pid now p x → MakesCall old p x effect system_calls.Break

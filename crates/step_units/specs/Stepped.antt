@@ -1,5 +1,6 @@
 -- What a call of a machine leads to in a run.
 use Rattle.std.specs.Prelude.{◌≡◌, ℕ, ◌+◌, ◌<◌, ◌≤◌, false, List, [], length, Option, Some, None}
+use Rattle.vm_facts.specs.SwapImages.{SwapImage}
 use Rattle.vm_facts.specs.declared.entry.Entry.{Entry}
 use Rattle.vm_facts.specs.declared.stop.Stop.{Stop}
 use Rattle.vm_facts.specs.declared.stop.Stop.TheVariants as stops
@@ -19,7 +20,7 @@ use Rattle.run_units.specs.Touching.{WantsPage}
 
 -- Next units of a run lead to a state between two steps, with nothing due, under the same mark, and with so many more
 -- instructions counted.
-pub record StepLeads (A : Inputs) (s : State) (k : Kernel) (image : List ℕ) (n : ℕ) (l : Kernel) (j : Option (List ℕ)) : Type 0 where
+pub record StepLeads (A : Inputs) (s : State) (k : Kernel) (image : SwapImage) (n : ℕ) (l : Kernel) (j : Option SwapImage) : Type 0 where
   pub units : List Entry
   pub state : State
   pub leads : Leads A s k image units state l j
@@ -30,13 +31,13 @@ pub record StepLeads (A : Inputs) (s : State) (k : Kernel) (image : List ℕ) (n
   pub mark : state.mark ≡ s.mark
 
 -- they lead to one at which nothing more is to come of the mark, and count no instruction
-pub record MarkEnds (A : Inputs) (s : State) (k : Kernel) (image : List ℕ) (l : Kernel) (j : Option (List ℕ)) : Type 0 where
+pub record MarkEnds (A : Inputs) (s : State) (k : Kernel) (image : SwapImage) (l : Kernel) (j : Option SwapImage) : Type 0 where
   pub led : StepLeads A s k image 0 l j
   pub over : under A led.state led.state.mark ≡ None
 
 -- What a call of a process leads to, by what it comes to: the instruction is counted where it is complete. Where a byte that
 -- the call reads misses nothing was done, and the process waits for that byte's page.
-abbrev pub CallLeads : Inputs → State → Kernel → List ℕ → Space → Called → Kernel → Option (List ℕ) → Type 0
+abbrev pub CallLeads : Inputs → State → Kernel → SwapImage → Space → Called → Kernel → Option SwapImage → Type 0
 CallLeads A s k image x calls.Ready l j = StepLeads A s k image 1 l j
 CallLeads A s k image x calls.Gone l j = StepLeads A s k image 1 l j
 CallLeads A s k image x calls.Asleep l j = MarkEnds A s k image l j
@@ -45,7 +46,7 @@ CallLeads A s k image x (calls.Miss address) l j = (l ≡ k) × (j ≡ Some imag
 -- Stops.
 
 -- The run stopped where this unit comes next: at the bound of the journal only where the unit isn't joined.
-pub record StopsNext (A : Inputs) (t : State) (k : Kernel) (image : List ℕ) (stop : Stop) (new : Standing) (j : Option (List ℕ)) : Type 0 where
+pub record StopsNext (A : Inputs) (t : State) (k : Kernel) (image : SwapImage) (stop : Stop) (new : Standing) (j : Option SwapImage) : Type 0 where
   pub entry : Entry
   pub next : next_unit A t ≡ Some entry
   pub full : stop ≡ stops.JournalFull → (new.params.journal ≤ length k.journal) × (length k.journal < length (append k.journal entry))
@@ -53,16 +54,16 @@ pub record StopsNext (A : Inputs) (t : State) (k : Kernel) (image : List ℕ) (s
   pub spoils : SpoilsBy entry stop k (Some image) j
 
 -- for want of memory it may stop anywhere
-abbrev pub StopsBy : Inputs → State → Kernel → List ℕ → Stop → Standing → Option (List ℕ) → Type 0
+abbrev pub StopsBy : Inputs → State → Kernel → SwapImage → Stop → Standing → Option SwapImage → Type 0
 StopsBy A t k image stops.NoMemory new j = j ≡ Some image
 StopsBy A t k image stop new j = StopsNext A t k image stop new j
 
 -- Next units lead to a state, and there the run stopped. The machine is left there by the cause.
-pub record StopLeads (A : Inputs) (s : State) (k : Kernel) (image : List ℕ) (stop : Stop) (new : Standing) (j : Option (List ℕ)) : Type 0 where
+pub record StopLeads (A : Inputs) (s : State) (k : Kernel) (image : SwapImage) (stop : Stop) (new : Standing) (j : Option SwapImage) : Type 0 where
   pub units : List Entry
   pub state : State
   pub kernel : Kernel
-  pub behind : List ℕ
+  pub behind : SwapImage
   pub leads : Leads A s k image units state kernel (Some behind)
   pub journal : new.kernel.journal ≡ kernel.journal
   pub held : LeftBy stop kernel new
@@ -71,13 +72,13 @@ pub record StopLeads (A : Inputs) (s : State) (k : Kernel) (image : List ℕ) (s
 -- From wherever the machine may stand.
 
 -- At some state of a run, with this swap image, it is so.
-abbrev pub AtSome : (Inputs → State → List ℕ → Type 0) → Type 0
-AtSome IsAt = (A : Inputs) × (s : State) × (image : List ℕ) × IsAt A s image
+abbrev pub AtSome : (Inputs → State → SwapImage → Type 0) → Type 0
+AtSome IsAt = (A : Inputs) × (s : State) × (image : SwapImage) × IsAt A s image
 
 -- From each state with a swap image at which the first is so, the second is.
-abbrev pub LeadsFrom : (Inputs → State → List ℕ → Type 0) → (Inputs → State → List ℕ → Type 0) → Type 0
-LeadsFrom IsAt Leads = (A : Inputs) (s : State) (image : List ℕ) → IsAt A s image → Leads A s image
+abbrev pub LeadsFrom : (Inputs → State → SwapImage → Type 0) → (Inputs → State → SwapImage → Type 0) → Type 0
+LeadsFrom IsAt Leads = (A : Inputs) (s : State) (image : SwapImage) → IsAt A s image → Leads A s image
 
 -- The run stopped on the way from each such state: next units lead to where it stopped, and there the next one failed by the cause.
-abbrev pub StopsFrom : (Inputs → State → List ℕ → Type 0) → Standing → Standing → Option (List ℕ) → Stop → Type 0
+abbrev pub StopsFrom : (Inputs → State → SwapImage → Type 0) → Standing → Standing → Option SwapImage → Stop → Type 0
 StopsFrom IsAt old new j stop = LeadsFrom IsAt (λ A s image. StopLeads A s old.kernel image stop new j)

@@ -3,6 +3,7 @@ use Rattle.std.proofs.Common.{◌≡◌, ◌⊎◌, inl, inr, ℕ, ◌+◌, ◌<
 use Rattle.std.proofs.lemmas.Bool.{and_parts, leb-false}
 use Rattle.std.proofs.lemmas.List.{length-append}
 use Rattle.std.proofs.lemmas.Option.{same_Some}
+use Rattle.vm_facts.specs.SwapImages.{SwapImage}
 use Rattle.vm_facts.specs.declared.page.Page.{Page}
 use Rattle.vm_facts.specs.declared.page.Page.TheVariants.{Data, Stack, Text}
 use Rattle.vm_facts.specs.declared.entry.Entry.{Entry}
@@ -155,7 +156,7 @@ pub record Puts (s : Standing) (holds : Option (List NamedFile)) (blocks pid sid
   pub holds_there : HoldsThere s.kernel pid sid
   pub resident : is_out s.kernel.place pid ≡ false
 
-module _ (old next : Standing) (pid sid : ℕ) (step : Step) (holds : Option (List NamedFile)) (i h : Option (List ℕ)) (s : IsStep old.kernel.place sid step)
+module _ (old next : Standing) (pid sid : ℕ) (step : Step) (holds : Option (List NamedFile)) (i h : Option SwapImage) (s : IsStep old.kernel.place sid step)
     (m : MakesUnit (ground old holds []) (put_out_unit old.kernel.place pid sid) old next i h) where
   abbrev g : Ground
   g = ground old holds []
@@ -199,10 +200,10 @@ module _ (old next : Standing) (pid sid : ℕ) (step : Step) (holds : Option (Li
     subst (λ (x : Placement). PutsOut us (length old.kernel.journal + 1) x pid sid q) place_is (subst (λ (at : ℕ). PutsOut us at next.kernel.place pid sid q) journal_is p),
   )
 
-  same_files : (later : Option (List NamedFile)) (us : List Entry) (k : Kernel) (j : Option (List ℕ)) → later ≡ holds → Made (ground next later []) us next.kernel h k j → Made g us next.kernel h k j
+  same_files : (later : Option (List NamedFile)) (us : List Entry) (k : Kernel) (j : Option SwapImage) → later ≡ holds → Made (ground next later []) us next.kernel h k j → Made g us next.kernel h k j
   same_files later us k j q made = subst (λ (x : Ground). Made x us next.kernel h k j) (same_ground old next holds later [] q m.beside) made
 
-  pub put_first : (later : Option (List NamedFile)) (new : Standing) (j : Option (List ℕ)) → later ≡ holds → is_out old.kernel.place pid ≡ false
+  pub put_first : (later : Option (List NamedFile)) (new : Standing) (j : Option SwapImage) → later ≡ holds → is_out old.kernel.place pid ≡ false
       → PutOut pid sid next new later h j → PutOut pid sid old new holds i j
   put_first later new j q n f = record {
     units = e ∷ f.units;
@@ -217,13 +218,13 @@ module _ (old next : Standing) (pid sid : ℕ) (step : Step) (holds : Option (Li
     beside = beside_both old next new m.beside f.beside;
   }
 
-  pub stops_first : (later : Option (List NamedFile)) (stop : Stop) (new : Standing) (j : Option (List ℕ)) → later ≡ holds → is_out old.kernel.place pid ≡ false
+  pub stops_first : (later : Option (List NamedFile)) (stop : Stop) (new : Standing) (j : Option SwapImage) → later ≡ holds → is_out old.kernel.place pid ≡ false
       → StopsPutting pid sid next stop new later h j → StopsPutting pid sid old stop new holds i j
   stops_first later stop new j q n f =
       stops_after_unit (StillPutting pid sid old.kernel) (StillPutting pid sid next.kernel) (λ p. Some (put_out_unit p pid sid))
       e old next new holds later [] i h j stop q m (λ us l s. record { puts = puts_first us l.place n s.puts; still = s.still }) f
 
-pub stops_here : (pid sid : ℕ) (old : Standing) (stop : Stop) (new : Standing) (holds : Option (List NamedFile)) (i j : Option (List ℕ))
+pub stops_here : (pid sid : ℕ) (old : Standing) (stop : Stop) (new : Standing) (holds : Option (List NamedFile)) (i j : Option SwapImage)
     → is_out old.kernel.place pid ≡ false → new.params ≡ old.params → new.images ≡ old.images
     → StopsAt (put_out_unit old.kernel.place pid sid) old.kernel i stop new j → StopsPutting pid sid old stop new holds i j
 stops_here pid sid old stop new holds i j n a b s =
@@ -246,7 +247,7 @@ lives_holding (Some p) sid e = ap has_life e
 pub holder_resides : (k : Kernel) (pid sid : ℕ) → EachResides k → life_in k pid ≡ HoldsSpace sid → IsResident k.place pid
 holder_resides k pid sid r e = r pid (lives_holding (numbered (λ (p : Proc). p.pid) pid k.processes) sid e)
 
-pub put_last : (pid sid : ℕ) (old new : Standing) (holds : Option (List NamedFile)) (i j : Option (List ℕ)) → IsResident old.kernel.place pid
+pub put_last : (pid sid : ℕ) (old new : Standing) (holds : Option (List NamedFile)) (i j : Option SwapImage) → IsResident old.kernel.place pid
     → is_out old.kernel.place pid ≡ false → IsNext old.kernel.place sid None
     → new.kernel ≡ out_step old.kernel pid → IsSameBeside old new → WritesU old.kernel pid i j → PutOut pid sid old new holds i j
 put_last pid sid old new holds i j r n l e b w =
@@ -299,7 +300,7 @@ never_file stop kind other c e = elim (u_cause stop kind c) [
   ]
 ]
 
-pub out_stops : (pid sid : ℕ) (old new : Standing) (holds : Option (List NamedFile)) (i j : Option (List ℕ)) (r : Result (Unit {0}) Stop)
+pub out_stops : (pid sid : ℕ) (old new : Standing) (holds : Option (List NamedFile)) (i j : Option SwapImage) (r : Result (Unit {0}) Stop)
     → is_out old.kernel.place pid ≡ false → IsNext old.kernel.place sid None
     → OnErr r (HasStopped old new) → OnErr r ((r ≡ Err stops.JournalFull) ⊎ ((r ≡ Err stops.NoMemory) ⊎ (r ≡ Err stops.SwapWriteFault)))
     → ((r ≡ Err stops.JournalFull) ↔ (old.params.journal ≤ length old.kernel.journal)) → FailsFor r old new → OnErr r (SwapBehind r old.kernel pid i j)
@@ -333,20 +334,27 @@ in_is limit journal pid s f = (
   (λ h. err_same {A = Unit {0}} s stops.JournalFull (f.1 h.0)),
 )
 
-pub in_stops : (pid : ℕ) (old new : Standing) (i j : Option (List ℕ)) (r : Result (Unit {0}) Stop)
+pub in_stops : (pid : ℕ) (old new : Standing) (i j : Option SwapImage) (r : Result (Unit {0}) Stop)
     → OnErr r (HasStopped old new) → OnErr r ((r ≡ Err stops.JournalFull) ⊎ ((r ≡ Err stops.NoMemory) ⊎ (r ≡ Err stops.SwapReadFault)))
-    → ((r ≡ Err stops.JournalFull) ↔ (old.params.journal ≤ length old.kernel.journal)) → FailsFor r old new → j ≡ i
+    → ((r ≡ Err stops.JournalFull) ↔ (old.params.journal ≤ length old.kernel.journal)) → FailsFor r old new → OnErr r (SwapBehind r old.kernel pid i j)
     → old.before ≡ old.kernel.holdings → IfErr r (λ stop. StopsAt (entries.SwapIn pid) old.kernel i stop new j)
-in_stops pid old new i j (Ok x) s c f failed same w = tt
-in_stops pid old new i j (Err stop) s c f failed same w = record {
+in_stops pid old new i j (Ok x) s c f failed b w = tt
+in_stops pid old new i j (Err stop) s c f failed b w = record {
   journal = s.journal;
   held = moved_left stop old new s w (λ h. f.0 (ap (λ (t : Stop). let z : Result (Unit {0}) Stop = Err t in z) h)) (never_file stop stops.SwapReadFault (λ e. cc) c) failed;
   full = subst (λ (p : Params). (stop ≡ stops.JournalFull) ↔ ((p.journal ≤ length old.kernel.journal) × (length old.kernel.journal < length (append old.kernel.journal (entries.SwapIn pid)))))
       (sym s.params)
       (in_is old.params.journal old.kernel.journal pid stop f);
   cause = u_cause stop stops.SwapReadFault c;
-  image = same;
+  image = spoils stop b;
 }
+  where
+    spoils : (stop : Stop) → (let z : Result (Unit {0}) Stop = Err stop in SwapBehind z old.kernel pid i j) → SpoilsBy (entries.SwapIn pid) stop old.kernel i j
+    spoils stops.NoMemory b = b
+    spoils stops.JournalFull b = b
+    spoils stops.FileFault b = b
+    spoils stops.SwapReadFault b = b
+    spoils stops.SwapWriteFault b = b
 
 -- What is known of an answer, weakened.
 
@@ -360,15 +368,15 @@ if_err (Err e) f h = f e h
 
 -- What is put out so far and what is left make the whole.
 
-pub record PutsSoFar (pid sid : ℕ) (old now : Standing) (holds later : Option (List NamedFile)) (i h : Option (List ℕ)) : Type 0 where
-  pub more : (new : Standing) (j : Option (List ℕ)) → PutOut pid sid now new later h j → PutOut pid sid old new holds i j
-  pub stops : (stop : Stop) (new : Standing) (j : Option (List ℕ)) → StopsPutting pid sid now stop new later h j → StopsPutting pid sid old stop new holds i j
-  pub keeps : (new : Standing) (j : Option (List ℕ)) → KeepsThrough now new later h j → KeepsThrough old new holds i j
+pub record PutsSoFar (pid sid : ℕ) (old now : Standing) (holds later : Option (List NamedFile)) (i h : Option SwapImage) : Type 0 where
+  pub more : (new : Standing) (j : Option SwapImage) → PutOut pid sid now new later h j → PutOut pid sid old new holds i j
+  pub stops : (stop : Stop) (new : Standing) (j : Option SwapImage) → StopsPutting pid sid now stop new later h j → StopsPutting pid sid old stop new holds i j
+  pub keeps : (new : Standing) (j : Option SwapImage) → KeepsThrough now new later h j → KeepsThrough old new holds i j
 
-pub puts_none : (pid sid : ℕ) (old : Standing) (holds : Option (List NamedFile)) (i : Option (List ℕ)) → PutsSoFar pid sid old old holds holds i i
+pub puts_none : (pid sid : ℕ) (old : Standing) (holds : Option (List NamedFile)) (i : Option SwapImage) → PutsSoFar pid sid old old holds holds i i
 puts_none pid sid old holds i = record { more = λ new j p. p; stops = λ stop new j s. s; keeps = λ new j k. k }
 
-pub puts_one : (pid sid : ℕ) (old now next : Standing) (step : Step) (holds later latest : Option (List NamedFile)) (i h k : Option (List ℕ)) → latest ≡ later
+pub puts_one : (pid sid : ℕ) (old now next : Standing) (step : Step) (holds later latest : Option (List NamedFile)) (i h k : Option SwapImage) → latest ≡ later
     → IsStep now.kernel.place sid step → is_out now.kernel.place pid ≡ false
     → MakesUnit (ground now later []) (put_out_unit now.kernel.place pid sid) now next h k
     → KeepsThrough now next later h k → PutsSoFar pid sid old now holds later i h → PutsSoFar pid sid old next holds latest i k

@@ -1,5 +1,6 @@
 -- A process is put out.
 use Rattle.std.specs.Prelude.{◌≡◌, ℕ, ◌<◌, ◌&&◌, true, false, List, [], ◌∷◌, ◌++◌, length, Option, Some, None}
+use Rattle.vm_facts.specs.SwapImages.{SwapImage}
 use Rattle.vm_facts.specs.declared.page.Page.{Page}
 use Rattle.vm_facts.specs.declared.page.Page.TheVariants.{Data, Stack, Text}
 use Rattle.vm_facts.specs.declared.entry.Entry.{Entry}
@@ -61,10 +62,10 @@ pub record HoldsThere (k : Kernel) (pid sid : ℕ) : Type 0 where
 
 -- The call makes these units, and then the process goes out: its u page is written, and its record keeps no registers. Each
 -- is the unit that puts it out. The files and the swap images, where they are told, are those before and after the call.
-pub record PutOut (pid sid : ℕ) (old new : Standing) (holds : Option (List NamedFile)) (i j : Option (List ℕ)) : Type 0 where
+pub record PutOut (pid sid : ℕ) (old new : Standing) (holds : Option (List NamedFile)) (i j : Option SwapImage) : Type 0 where
   pub units : List Entry
   pub at : Kernel
-  pub image : Option (List ℕ)
+  pub image : Option SwapImage
   pub made : Made (ground old holds []) units old.kernel i at image
   pub step : new.kernel ≡ out_step at pid
   pub bare : (p : Proc) → proc_of at pid ≡ Some p → proc_of new.kernel pid ≡ Some (record p { regs = cleared })
@@ -79,6 +80,6 @@ pub record StillPutting (pid sid : ℕ) (k : Kernel) (us : List Entry) (l : Kern
   pub still : is_out l.place pid ≡ false
 
 -- the call stops while it puts the process out
-abbrev pub StopsPutting : ℕ → ℕ → Standing → Stop → Standing → Option (List NamedFile) → Option (List ℕ) → Option (List ℕ) → Type 0
+abbrev pub StopsPutting : ℕ → ℕ → Standing → Stop → Standing → Option (List NamedFile) → Option SwapImage → Option SwapImage → Type 0
 StopsPutting pid sid old stop new holds i j =
     StopsAmong (ground old holds []) (StillPutting pid sid old.kernel) (λ p. Some (put_out_unit p pid sid)) old new i j stop

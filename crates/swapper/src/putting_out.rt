@@ -1,5 +1,6 @@
 //! How a process goes out and comes in.
 ghost use Rattle.std.specs.Prelude.{◌≡◌, ◌⊎◌, ℕ, ◌<◌, ◌≤◌, ◌&&◌, true, false, List, [], length, Option, OnOk, OnErr, IfErr};
+ghost use Rattle.vm_facts.specs.SwapImages.{SwapImage};
 ghost use Rattle.vm_facts.specs.declared.entry.Entry.TheVariants as entries;
 ghost use Rattle.io_edge.specs.FileHolding.{NamedFile};
 ghost use Rattle.page_model.specs.Placement.{is_dirty};
@@ -14,7 +15,7 @@ ghost use Rattle.machine_state.specs.Calls.{CanComeIn};
 ghost use Rattle.machine_state.specs.Conditions.{KeepsFlat};
 ghost use Rattle.machine_state.specs.Done.{KeepsThrough};
 ghost use Rattle.machine_state.specs.Settled.{IsSameBeside};
-ghost use Rattle.machine_state.specs.Swapping.{IsIn, KeepsIn, KeepsOut};
+ghost use Rattle.machine_state.specs.Swapping.{AsksU, IsIn, KeepsIn, KeepsOut};
 ghost use Rattle.machine_state.specs.Outside.{stop_of, MovesSwapPages, TransfersPages};
 ghost use Rattle.paging_units.specs.Made.{ground, MakesUnit};
 ghost use Rattle.paging_units.specs.Stops.{StopsAt};
@@ -126,10 +127,10 @@ fn put_page(m: &mut Machine, sid: u32, page: Page) -> Result<(), Stop>
     requires own { IsOfSegment sid page }
     requires seated { is_seated m.old.kernel.place page ≡ true }
     requires room { (is_dirty m.old.kernel.place page && is_full m.old.kernel.place) ≡ false }
-    ensures made { (holds : Option (List NamedFile)) (i : Option (List ℕ))
+    ensures made { (holds : Option (List NamedFile)) (i : Option SwapImage)
         → OnOk result (MakesUnit (ground m.old holds []) (entries.Put page (run_put m.old.kernel.place page).n) m.old m.new i i) }
     ensures keeps { OnOk result (KeepsFlat m.old.kernel m.new.kernel) }
-    ensures stopped { (i : Option (List ℕ))
+    ensures stopped { (i : Option SwapImage)
         → IfErr result (λ stop. StopsAt (entries.Put page (run_put m.old.kernel.place page).n) m.old.kernel i stop m.new i) }
     ensures params { m.new.params ≡ m.old.params }
     ensures images { m.new.images ≡ m.old.images }
@@ -263,7 +264,7 @@ pub fn swap_in<D: SwapDev>(m: &mut Machine, swap: &mut D, pid: u32) -> Result<()
     ensures step { OnOk result (IsIn m.old.kernel m.new.kernel pid (D.image swap.old)) }
     ensures beside { OnOk result (IsSameBeside m.old m.new) }
     ensures keeps { OnOk result (KeepsIn m.old.kernel m.new.kernel pid (D.image swap.old) (D.image swap.new)) }
-    ensures image { D.image swap.new ≡ D.image swap.old }
+    ensures asked { OnOk result (AsksU m.old.kernel pid (D.image swap.old) (D.image swap.new)) }
     ensures stopped { IfErr result (λ stop. StopsAt (entries.SwapIn pid) m.old.kernel (D.image swap.old) stop m.new (D.image swap.new)) }
     ensures params { m.new.params ≡ m.old.params }
     ensures images { m.new.images ≡ m.old.images }

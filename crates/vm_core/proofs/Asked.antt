@@ -1,6 +1,7 @@
 -- What the machine makes of each line, by what its calls say.
 use Rattle.std.proofs.Common.{◌≡◌, ◌≤◌, ◌<◌, ℕ, Bool, true, false, List, [], ◌∷◌, length, Option, Some, None, Result, Ok, Err, refl, sym, ap, ◌∙◌, subst, arith}
 use Rattle.std.specs.Prelude.{◌↔◌}
+use Rattle.vm_facts.specs.SwapImages.{SwapImage}
 use Rattle.vm_facts.specs.declared.event.Event.TheVariants as events
 use Rattle.vm_facts.specs.declared.stop.Stop.{Stop}
 use Rattle.vm_facts.specs.declared.stop.Stop.TheVariants as stops
@@ -39,20 +40,20 @@ use Rattle.vm_core.proofs.Steadying.{steady_self, continues_steady, moved_steady
 
 -- The end of a transfer.
 
-some_still : (A : Inputs) (s : State) (m : Standing) (holds : Option (List NamedFile)) (i : Option (List ℕ)) (image : List ℕ)
+some_still : (A : Inputs) (s : State) (m : Standing) (holds : Option (List NamedFile)) (i : Option SwapImage) (image : SwapImage)
     → LineAt m holds i events.Interrupt A s image → m.kernel.place.transfers ≡ s.place.transfers
 some_still A s m holds i image at = ap (λ (p : Placement). p.transfers) at.machine.at.stands.place
 
-idle_makes : (old : Standing) (holds : Option (List NamedFile)) (i j : Option (List ℕ)) → old.kernel.place.transfers ≡ [] → ImageAfter old.kernel i j
+idle_makes : (old : Standing) (holds : Option (List NamedFile)) (i j : Option SwapImage) → old.kernel.place.transfers ≡ [] → ImageAfter old.kernel i j
     → LeadsFrom (LineAt old holds i events.Interrupt) (λ A s image. LineLeads A s old.kernel image old.kernel j)
 idle_makes old holds i j none after A s image at =
     let told : j ≡ Some image =
-    subst (λ (o : Option (List ℕ)). ImageAfter old.kernel o j) at.told after
-    ∙ ap (λ (ts : List Transfer). let o : Option (List ℕ) = Some (image_after_of old.kernel image ts) in o) none in
+    subst (λ (o : Option SwapImage). ImageAfter old.kernel o j) at.told after
+    ∙ ap (λ (ts : List Transfer). let o : Option SwapImage = Some (image_after_of old.kernel image ts) in o) none in
     record {
       units = [];
       state = s;
-      leads = subst (λ (o : Option (List ℕ)). Leads A s old.kernel image [] s old.kernel o) (sym told) (none_leads A s old.kernel image);
+      leads = subst (λ (o : Option SwapImage). Leads A s old.kernel image [] s old.kernel o) (sym told) (none_leads A s old.kernel image);
       over = idle_ends A s at.clear at.mark (sym (some_still A s old holds i image at) ∙ none);
       point = refl;
       count = refl;
@@ -60,13 +61,13 @@ idle_makes old holds i j none after A s image at =
       unturned = ap last_turned (at.mark ∙ ap interrupt_mark (sym (some_still A s old holds i image at) ∙ none));
     }
 
-done_makes : (old new : Standing) (holds : Option (List NamedFile)) (i j : Option (List ℕ)) → IsDone (sources old holds) i old.kernel new.kernel
+done_makes : (old new : Standing) (holds : Option (List NamedFile)) (i j : Option SwapImage) → IsDone (sources old holds) i old.kernel new.kernel
     → ImageAfter old.kernel i j → LeadsFrom (LineAt old holds i events.Interrupt) (λ A s image. LineLeads A s old.kernel image new.kernel j)
 done_makes old new holds i j d after A s image at =
     interrupt_made A s old new.kernel holds image j at.machine at.clear at.mark (subst (λ (ts : List Transfer). 0 < length ts) (some_still A s old holds i image at) d.some)
-    (subst (λ (o : Option (List ℕ)). IsDone (sources old holds) o old.kernel new.kernel) at.told d) (subst (λ (o : Option (List ℕ)). ImageAfter old.kernel o j) at.told after)
+    (subst (λ (o : Option SwapImage). IsDone (sources old holds) o old.kernel new.kernel) at.told d) (subst (λ (o : Option SwapImage). ImageAfter old.kernel o j) at.told after)
 
-pub interrupt_makes : (old new : Standing) (holds : Option (List NamedFile)) (i j : Option (List ℕ)) (r : Result Bool Stop) (b : Bool) → r ≡ Ok b
+pub interrupt_makes : (old new : Standing) (holds : Option (List NamedFile)) (i j : Option SwapImage) (r : Result Bool Stop) (b : Bool) → r ≡ Ok b
     → ((r ≡ Ok false) ↔ (old.kernel.place.transfers ≡ []))
     → (r ≡ Ok false → new ≡ old) → (r ≡ Ok true → IsDone (sources old holds) i old.kernel new.kernel) → ImageAfter old.kernel i j
     → LeadsFrom (LineAt old holds i events.Interrupt) (λ A s image. LineLeads A s old.kernel image new.kernel j)
@@ -74,7 +75,7 @@ interrupt_makes old new holds i j r false e idle still step after =
     subst (λ (m : Standing). LeadsFrom (LineAt old holds i events.Interrupt) (λ A s image. LineLeads A s old.kernel image m.kernel j)) (sym (still e)) (idle_makes old holds i j (idle.0 e) after)
 interrupt_makes old new holds i j r true e idle still step after = done_makes old new holds i j (step e) after
 
-pub interrupt_steady : (old new : Standing) (holds : Option (List NamedFile)) (i : Option (List ℕ)) (r : Result Bool Stop) (b : Bool) → IsSteady old → r ≡ Ok b
+pub interrupt_steady : (old new : Standing) (holds : Option (List NamedFile)) (i : Option SwapImage) (r : Result Bool Stop) (b : Bool) → IsSteady old → r ≡ Ok b
     → (r ≡ Ok false → new ≡ old)
     → (r ≡ Ok true → IsDone (sources old holds) i old.kernel new.kernel)
     → (r ≡ Ok true → new ≡ record old { kernel = new.kernel; room = None }) → CanGoOn new → StaysSteady old new 0
@@ -90,14 +91,14 @@ some_flight stops.FileFault [] h = absurd h
 some_flight stops.SwapReadFault [] h = absurd h
 some_flight stops.SwapWriteFault [] h = absurd h
 
-interrupt_ends : (old new : Standing) (holds : Option (List NamedFile)) (i j : Option (List ℕ)) (stop : Stop) → 0 < length old.kernel.place.transfers
+interrupt_ends : (old new : Standing) (holds : Option (List NamedFile)) (i j : Option SwapImage) (stop : Stop) → 0 < length old.kernel.place.transfers
     → StopsEnding old new i j stop
     → StopsFrom (LineAt old holds i events.Interrupt) old new j stop
 interrupt_ends old new holds i j stop some x A s image at =
     interrupt_stops A s old new holds image j stop at.machine at.clear at.mark (subst (λ (ts : List Transfer). 0 < length ts) (some_still A s old holds i image at) some)
-    (subst (λ (o : Option (List ℕ)). StopsEnding old new o j stop) at.told x)
+    (subst (λ (o : Option SwapImage). StopsEnding old new o j stop) at.told x)
 
-pub interrupt_halts : (old new : Standing) (holds : Option (List NamedFile)) (i j : Option (List ℕ)) (stop : Stop) → old.before ≡ old.kernel.holdings
+pub interrupt_halts : (old new : Standing) (holds : Option (List NamedFile)) (i j : Option SwapImage) (stop : Stop) → old.before ≡ old.kernel.holdings
     → HasStopped old new → (let r : Result Bool Stop = Err stop in StopsFor r old.kernel.place.transfers)
     → (let r : Result Bool Stop = Err stop in
     (r ≡ Err stops.JournalFull) ↔ ((0 < length old.kernel.place.transfers) × (old.params.journal ≤ length old.kernel.journal)))
@@ -116,49 +117,49 @@ interrupt_halts old new holds i j stop w h c f lost x =
 
 -- Moves of the hands.
 
-pub hands_make : (old new : Standing) (holds : Option (List NamedFile)) (i j : Option (List ℕ)) (n made : ℕ) → Moved n old new made holds i j
+pub hands_make : (old new : Standing) (holds : Option (List NamedFile)) (i j : Option SwapImage) (n made : ℕ) → Moved n old new made holds i j
     → LeadsFrom (LineAt old holds i (events.Hands n)) (λ A s image. LineLeads A s old.kernel image new.kernel j)
 hands_make old new holds i j n made m A s image at =
-    hands_made A s old new holds image j n made at.machine at.clear at.mark (subst (λ (o : Option (List ℕ)). Moved n old new made holds o j) at.told m)
+    hands_made A s old new holds image j n made at.machine at.clear at.mark (subst (λ (o : Option SwapImage). Moved n old new made holds o j) at.told m)
 
-pub hands_steady : (old new : Standing) (holds : Option (List NamedFile)) (i j : Option (List ℕ)) (n made : ℕ) → IsSteady old
+pub hands_steady : (old new : Standing) (holds : Option (List NamedFile)) (i j : Option SwapImage) (n made : ℕ) → IsSteady old
     → last_moves old.kernel.journal ≡ 0 → n ≤ 1000000 → Moved n old new made holds i j → CanGoOn new
     → StaysSteady old new 0
 hands_steady old new holds i j n made s first few m ready =
     moved_steady old new made s (moves_continue old new n made holds i j s.clear m) first (let most = m.most in omega arith) ready
 
-pub hands_halt : (old new : Standing) (holds : Option (List NamedFile)) (i j : Option (List ℕ)) (n : ℕ) (stop : Stop) → StopsMoving n old stop new holds i j
+pub hands_halt : (old new : Standing) (holds : Option (List NamedFile)) (i j : Option SwapImage) (n : ℕ) (stop : Stop) → StopsMoving n old stop new holds i j
     → StopsFrom (LineAt old holds i (events.Hands n)) old new j stop
 hands_halt old new holds i j n stop x A s image at =
-    hands_stop A s old new holds image j n stop at.machine at.clear at.mark (subst (λ (o : Option (List ℕ)). StopsMoving n old stop new holds o j) at.told x)
+    hands_stop A s old new holds image j n stop at.machine at.clear at.mark (subst (λ (o : Option SwapImage). StopsMoving n old stop new holds o j) at.told x)
 
 -- A turn of the swapper.
 
-pub swapper_makes : (old new : Standing) (holds : Option (List NamedFile)) (i j : Option (List ℕ)) (t : Turned)
+pub swapper_makes : (old new : Standing) (holds : Option (List NamedFile)) (i j : Option SwapImage) (t : Turned)
     → choice_of t ≡ swap_choice old.kernel.place (runners_of old.kernel) → Turns t old new holds i j
     → LeadsFrom (LineAt old holds i events.Swapper) (λ A s image. LineLeads A s old.kernel image new.kernel j)
 swapper_makes old new holds i j t c x A s image at =
-    swapper_made A s old new holds image j t at.machine at.clear at.fit at.mark c (subst (λ (o : Option (List ℕ)). Turns t old new holds o j) at.told x)
+    swapper_made A s old new holds image j t at.machine at.clear at.fit at.mark c (subst (λ (o : Option SwapImage). Turns t old new holds o j) at.told x)
 
-pub swapper_steady : (old new : Standing) (holds : Option (List NamedFile)) (i j : Option (List ℕ)) (t : Turned) → IsSteady old
+pub swapper_steady : (old new : Standing) (holds : Option (List NamedFile)) (i j : Option SwapImage) (t : Turned) → IsSteady old
     → Turns t old new holds i j → CanGoOn new → StaysSteady old new 0
 swapper_steady old new holds i j t s x ready = continues_steady old new 0 s (turn_continues t old new holds i j s.clear x) ready
 
-pub swapper_halts : (old new : Standing) (holds : Option (List NamedFile)) (i j : Option (List ℕ)) (stop : Stop)
+pub swapper_halts : (old new : Standing) (holds : Option (List NamedFile)) (i j : Option SwapImage) (stop : Stop)
     → ((t : Turned) × (choice_of t ≡ swap_choice old.kernel.place (runners_of old.kernel)) × StopsTurning t old stop new holds i j)
     → StopsFrom (LineAt old holds i events.Swapper) old new j stop
 swapper_halts old new holds i j stop x A s image at =
-    swapper_stops A s old new holds image j x.0 stop at.machine at.clear at.mark x.1 (subst (λ (o : Option (List ℕ)). StopsTurning x.0 old stop new holds o j) at.told x.2)
+    swapper_stops A s old new holds image j x.0 stop at.machine at.clear at.mark x.1 (subst (λ (o : Option SwapImage). StopsTurning x.0 old stop new holds o j) at.told x.2)
 
 -- Numbers of frames and blocks.
 
-pub audit_makes : (old new : Standing) (holds : Option (List NamedFile)) (i : Option (List ℕ))
+pub audit_makes : (old new : Standing) (holds : Option (List NamedFile)) (i : Option SwapImage)
     → new.kernel ≡ note_step old.kernel (owners_of old.kernel.place old.kernel.holdings)
     → LeadsFrom (LineAt old holds i events.Audit) (λ A s image. LineLeads A s old.kernel image new.kernel i)
 audit_makes old new holds i k A s image at =
-    subst (λ (o : Option (List ℕ)). LineLeads A s old.kernel image new.kernel o) (sym at.told) (audit_made A s old new.kernel holds image at.machine at.clear at.mark k)
+    subst (λ (o : Option SwapImage). LineLeads A s old.kernel image new.kernel o) (sym at.told) (audit_made A s old new.kernel holds image at.machine at.clear at.mark k)
 
-pub audit_halts : (old new : Standing) (holds : Option (List NamedFile)) (i : Option (List ℕ)) (stop : Stop) → StopsBefore old new stop
+pub audit_halts : (old new : Standing) (holds : Option (List NamedFile)) (i : Option SwapImage) (stop : Stop) → StopsBefore old new stop
     → StopsFrom (LineAt old holds i events.Audit) old new i stop
 audit_halts old new holds i stop x A s image at =
-    subst (λ (o : Option (List ℕ)). StopLeads A s old.kernel image stop new o) (sym at.told) (audit_stops A s old new holds image stop at.machine at.clear at.mark x)
+    subst (λ (o : Option SwapImage). StopLeads A s old.kernel image stop new o) (sym at.told) (audit_stops A s old new holds image stop at.machine at.clear at.mark x)

@@ -2,6 +2,7 @@
 use Rattle.std.proofs.Common.{◌≡◌, ◌⊎◌, inl, inr, ℕ, ◌+◌, ◌<◌, ◌≤◌, nat_lt, Bool, true, false, List, [], ◌∷◌, ◌++◌, length, Option, Some, None, refl, sym, ap, ◌∙◌, subst, arith}
 use Rattle.std.proofs.lemmas.Bool.Decides.{nat_tests}
 use Rattle.std.proofs.lemmas.Option.{same_Some}
+use Rattle.vm_facts.specs.SwapImages.{SwapImage}
 use Rattle.vm_facts.specs.declared.entry.Entry.{Entry}
 use Rattle.vm_facts.specs.declared.entry.Entry.TheVariants as entries
 use Rattle.vm_facts.specs.declared.stop.Stop.{Stop}
@@ -68,7 +69,7 @@ turns_on (u ∷ us) vs = let more = turns_on us vs in omega arith
 
 -- The phase begins.
 
-idle_none : (A : Inputs) (s : State) (m : Standing) (holds : Option (List NamedFile)) (i : Option (List ℕ)) (image : List ℕ) (count : ℕ)
+idle_none : (A : Inputs) (s : State) (m : Standing) (holds : Option (List NamedFile)) (i : Option SwapImage) (image : SwapImage) (count : ℕ)
     → StandsIn A s m holds i image count → length A.lines ≡ s.lines → IdleSince A s 0
 idle_none A s m holds i image count st lines = record {
   from = s;
@@ -81,13 +82,13 @@ idle_none A s m holds i image count st lines = record {
   many = omega arith;
 }
 
-pub closing_starts : (m : Standing) (counted : ℕ) (holds : Option (List NamedFile)) (i : Option (List ℕ))
+pub closing_starts : (m : Standing) (counted : ℕ) (holds : Option (List NamedFile)) (i : Option SwapImage)
     → LeadsFrom (LinesAre m holds i counted) (Closing m m holds i counted 0 0)
 closing_starts m counted holds i A s image at = record {
   units = [];
   state = s;
   behind = image;
-  leads = subst (λ (o : Option (List ℕ)). Leads A s m.kernel image [] s m.kernel o) (sym at.stands.told) (none_leads A s m.kernel image);
+  leads = subst (λ (o : Option SwapImage). Leads A s m.kernel image [] s m.kernel o) (sym at.stands.told) (none_leads A s m.kernel image);
   stands = at.stands;
   over = at.over;
   lines = at.lines;
@@ -97,7 +98,7 @@ closing_starts m counted holds i A s image at = record {
 
 -- It goes on by a turn.
 
-turn_due : (A : Inputs) (t : State) (m : Standing) (holds : Option (List NamedFile)) (i : Option (List ℕ)) (image : List ℕ) (count last pid : ℕ)
+turn_due : (A : Inputs) (t : State) (m : Standing) (holds : Option (List NamedFile)) (i : Option SwapImage) (image : SwapImage) (count last pid : ℕ)
     → StandsIn A t m holds i image count → IsOver A t
     → length A.lines ≡ t.lines → last_turned t.mark ≡ last → chosen_next m.kernel last ≡ Some pid → count < m.params.limit → TurnDue A t pid
 turn_due A t m holds i image count last pid st over lines turned next below = record {
@@ -107,7 +108,7 @@ turn_due A t m holds i image count last pid st over lines turned next below = re
   turned = ap (next_turned t.point.flat) turned ∙ sym (turned_same m.kernel t.point.flat last st.machine.at.stands.keeps.coupled.tables) ∙ next;
 }
 
-idle_on : (A : Inputs) (t r : State) (m : Standing) (holds : Option (List NamedFile)) (i : Option (List ℕ)) (image : List ℕ) (count idle now : ℕ) (pid : ℕ)
+idle_on : (A : Inputs) (t r : State) (m : Standing) (holds : Option (List NamedFile)) (i : Option SwapImage) (image : SwapImage) (count idle now : ℕ) (pid : ℕ)
     (us : List Entry) → StandsIn A r m holds i image count
     → length A.lines ≡ r.lines → IdleSince A t idle → Follows A t (entries.Turn pid ∷ us) r → CountsTurn t.count r.count idle now → IdleSince A r now
 idle_on A t r m holds i image count idle now pid us st lines since f (inl e) = subst (λ (n : ℕ). IdleSince A r n) (sym e) (idle_none A r m holds i image count st lines)
@@ -127,7 +128,7 @@ idle_on A t r m holds i image count idle now pid us st lines since f (inr e) =
       many = omega arith;
     }
 
-pub closing_on : (old mid new : Standing) (holds : Option (List NamedFile)) (i h j : Option (List ℕ)) (counted count last idle pid more now : ℕ)
+pub closing_on : (old mid new : Standing) (holds : Option (List NamedFile)) (i h j : Option SwapImage) (counted count last idle pid more now : ℕ)
     → LeadsFrom (LinesAre old holds i counted) (Closing old mid holds h count last idle)
     → chosen_next mid.kernel last ≡ Some pid → count < mid.params.limit → LeadsFrom (DueTurn mid holds h count pid) (TurnHad mid new holds j pid more)
     → CountsTurn count more idle now
@@ -137,7 +138,7 @@ closing_on old mid new holds i h j counted count last idle pid more now f next b
     let d : TurnHad mid new holds j pid more A c.state c.behind =
     had A c.state c.behind (c.stands, turn_due A c.state mid holds h c.behind count last pid c.stands c.over c.lines c.turned next below) in
     let first : Leads A s old.kernel image c.units c.state mid.kernel (Some c.behind) =
-    subst (λ (o : Option (List ℕ)). Leads A s old.kernel image c.units c.state mid.kernel o) c.stands.told c.leads in
+    subst (λ (o : Option SwapImage). Leads A s old.kernel image c.units c.state mid.kernel o) c.stands.told c.leads in
     let lines : length A.lines ≡ d.state.lines = c.lines ∙ sym d.lines in
     let follows : Follows A c.state (entries.Turn pid ∷ d.more) d.state = makes_follows A (entries.Turn pid ∷ d.more) c.state d.state mid.kernel new.kernel c.behind d.leads.behind d.leads.makes in
     record {
@@ -145,7 +146,7 @@ closing_on old mid new holds i h j counted count last idle pid more now f next b
       state = d.state;
       behind = d.behind;
       leads = both_lead A s c.state d.state old.kernel mid.kernel new.kernel image (Some c.behind) j c.units (entries.Turn pid ∷ d.more) first
-          (λ between same. subst (λ (y : List ℕ). Leads A c.state mid.kernel y (entries.Turn pid ∷ d.more) d.state new.kernel j) (same_Some c.behind between same) d.leads);
+          (λ between same. subst (λ (y : SwapImage). Leads A c.state mid.kernel y (entries.Turn pid ∷ d.more) d.state new.kernel j) (same_Some c.behind between same) d.leads);
       stands = d.stands;
       over = d.over;
       lines = lines;
@@ -154,13 +155,13 @@ closing_on old mid new holds i h j counted count last idle pid more now f next b
           (subst (λ (n : ℕ). CountsTurn n d.state.count idle now) (sym c.stands.count) (subst (λ (n : ℕ). CountsTurn count n idle now) (sym d.stands.count) kind));
     }
 
-pub closing_stops : (old mid new : Standing) (holds : Option (List NamedFile)) (i h j : Option (List ℕ)) (counted count last idle pid : ℕ) (stop : Stop)
+pub closing_stops : (old mid new : Standing) (holds : Option (List NamedFile)) (i h j : Option SwapImage) (counted count last idle pid : ℕ) (stop : Stop)
     → LeadsFrom (LinesAre old holds i counted) (Closing old mid holds h count last idle)
     → chosen_next mid.kernel last ≡ Some pid → count < mid.params.limit → StopsFrom (DueTurn mid holds h count pid) mid new j stop
     → StopsFrom (LinesAre old holds i counted) old new j stop
 closing_stops old mid new holds i h j counted count last idle pid stop f next below x A s image at =
     let c = f A s image at in
-    leads_to_stop A s c.state old.kernel mid.kernel image c.behind c.units stop new j (subst (λ (o : Option (List ℕ)). Leads A s old.kernel image c.units c.state mid.kernel o) c.stands.told c.leads)
+    leads_to_stop A s c.state old.kernel mid.kernel image c.behind c.units stop new j (subst (λ (o : Option SwapImage). Leads A s old.kernel image c.units c.state mid.kernel o) c.stands.told c.leads)
     (x A c.state c.behind (c.stands, turn_due A c.state mid holds h c.behind count last pid c.stands c.over c.lines c.turned next below))
 
 -- It ends.
@@ -187,7 +188,7 @@ none_comes A t o lines h =
     mark (inr e) = ap (λ (b : Bool). when (nat_lt t.count A.limit) (line_or_turn t b)) behind ∙ by (nat_lt t.count A.limit) e
 
 -- no more than 64 turns in a row count nothing
-few_idle : (A : Inputs) (t : State) (m : Standing) (holds : Option (List NamedFile)) (i : Option (List ℕ)) (image : List ℕ) (count idle : ℕ)
+few_idle : (A : Inputs) (t : State) (m : Standing) (holds : Option (List NamedFile)) (i : Option SwapImage) (image : SwapImage) (count idle : ℕ)
     → StandsIn A t m holds i image count → IdleSince A t idle → idle ≤ 64
 few_idle A t m holds i image count idle st since =
     let few = few_turns A since.from t since.units st.machine.at.fit since.run since.lines since.follows since.none in
@@ -196,7 +197,7 @@ few_idle A t m holds i image count idle st since =
     let crowd = since.crowd in
     omega arith
 
-pub closing_ends : (old new : Standing) (holds : Option (List NamedFile)) (i j : Option (List ℕ)) (counted count last idle : ℕ)
+pub closing_ends : (old new : Standing) (holds : Option (List NamedFile)) (i j : Option SwapImage) (counted count last idle : ℕ)
     → LeadsFrom (LinesAre old holds i counted) (Closing old new holds j count last idle) → EndsPhase new count last idle
     → LeadsFrom (LinesAre old holds i counted) (Closed old new holds j count)
 closing_ends old new holds i j counted count last idle f e A s image at =
@@ -220,12 +221,12 @@ closing_ends old new holds i j counted count last idle f e A s image at =
 
 -- Of a run.
 
-lines_are : (A : Inputs) (s : State) (c : Underway) (holds : Option (List NamedFile)) (i : Option (List ℕ)) (image : List ℕ) → CoreAt A s c holds i image
+lines_are : (A : Inputs) (s : State) (c : Underway) (holds : Option (List NamedFile)) (i : Option SwapImage) (image : SwapImage) → CoreAt A s c holds i image
     → length A.lines ≡ s.lines
     → LinesAre c.machine holds i c.counted A s image
 lines_are A s c holds i image at lines = record { stands = at.stands; over = at.over; lines = lines; unturned = at.unturned }
 
-pub run_stops : (old new : Underway) (holds : Option (List NamedFile)) (i j : Option (List ℕ)) (stop : Stop)
+pub run_stops : (old new : Underway) (holds : Option (List NamedFile)) (i j : Option SwapImage) (stop : Stop)
     → StopsFrom (LinesAre old.machine holds i old.counted) old.machine new.machine j stop
     → StopsAccountedFrom (AllTaken old holds i) old.machine new.machine j stop
 run_stops old new holds i j stop f A s image (at, lines) =

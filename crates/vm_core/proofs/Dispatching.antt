@@ -1,6 +1,7 @@
 -- Dispatches and turns, by what a process that runs leads to.
 use Rattle.std.proofs.Common.{◌≡◌, ℕ, ◌+◌, true, false, List, Option, sym, ap, ◌∙◌}
 use Rattle.std.specs.Prelude.{min}
+use Rattle.vm_facts.specs.SwapImages.{SwapImage}
 use Rattle.vm_facts.specs.declared.event.Event.TheVariants as events
 use Rattle.vm_facts.specs.declared.stop.Stop.{Stop}
 use Rattle.io_edge.specs.FileHolding.{NamedFile}
@@ -14,7 +15,7 @@ use Rattle.proc_run.specs.Running.{UnderMark, RunLeads}
 use Rattle.vm_core.specs.Cores.{AskedAt, LineDone}
 use Rattle.vm_core.specs.Closing.{TurnAt, ResidentTurn, TurnDone}
 
-dispatched : (A : Inputs) (s : State) (m : Standing) (holds : Option (List NamedFile)) (i : Option (List ℕ)) (image : List ℕ) (pid n counted until : ℕ)
+dispatched : (A : Inputs) (s : State) (m : Standing) (holds : Option (List NamedFile)) (i : Option SwapImage) (image : SwapImage) (pid n counted until : ℕ)
     → until ≡ min (counted + n) m.params.limit
     → AskedAt m holds i counted (events.Dispatch pid n) A s image → UnderMark m holds i pid false counted until A s image
 dispatched A s m holds i image pid n counted until u at = record {
@@ -26,7 +27,7 @@ dispatched A s m holds i image pid n counted until u at = record {
   asks = (n, s.count, at.mark, u ∙ ap (min (counted + n)) (sym at.stands.inputs.limit) ∙ ap (λ (c : ℕ). min (c + n) A.limit) (sym at.stands.count));
 }
 
-pub dispatch_done : (old new : Standing) (holds : Option (List NamedFile)) (i j : Option (List ℕ)) (pid n counted until count : ℕ)
+pub dispatch_done : (old new : Standing) (holds : Option (List NamedFile)) (i j : Option SwapImage) (pid n counted until count : ℕ)
     → until ≡ min (counted + n) old.params.limit
     → LeadsFrom (UnderMark old holds i pid false counted until) (RunLeads old.kernel pid false new.kernel j count)
     → LeadsFrom (AskedAt old holds i counted (events.Dispatch pid n)) (LineDone old new j count)
@@ -42,12 +43,12 @@ dispatch_done old new holds i j pid n counted until count u f A s image at =
       lines = l.lines;
     }
 
-pub dispatch_stops : (old new : Standing) (holds : Option (List NamedFile)) (i j : Option (List ℕ)) (pid n counted until : ℕ) (stop : Stop)
+pub dispatch_stops : (old new : Standing) (holds : Option (List NamedFile)) (i j : Option SwapImage) (pid n counted until : ℕ) (stop : Stop)
     → until ≡ min (counted + n) old.params.limit
     → StopsFrom (UnderMark old holds i pid false counted until) old new j stop → StopsFrom (AskedAt old holds i counted (events.Dispatch pid n)) old new j stop
 dispatch_stops old new holds i j pid n counted until stop u f A s image at = f A s image (dispatched A s old holds i image pid n counted until u at)
 
-turning : (A : Inputs) (s : State) (m : Standing) (holds : Option (List NamedFile)) (i : Option (List ℕ)) (image : List ℕ) (pid counted since until : ℕ)
+turning : (A : Inputs) (s : State) (m : Standing) (holds : Option (List NamedFile)) (i : Option SwapImage) (image : SwapImage) (pid counted since until : ℕ)
     → until ≡ min (since + turn_instructions) m.params.limit
     → TurnAt m holds i counted since pid A s image → UnderMark m holds i pid true counted until A s image
 turning A s m holds i image pid counted since until u at = record {
@@ -59,7 +60,7 @@ turning A s m holds i image pid counted since until u at = record {
   asks = (since, at.mark, u ∙ ap (min (since + turn_instructions)) (sym at.stands.inputs.limit));
 }
 
-pub finish_done : (old new : Standing) (holds : Option (List NamedFile)) (i j : Option (List ℕ)) (pid counted since until count : ℕ)
+pub finish_done : (old new : Standing) (holds : Option (List NamedFile)) (i j : Option SwapImage) (pid counted since until count : ℕ)
     → until ≡ min (since + turn_instructions) old.params.limit
     → LeadsFrom (UnderMark old holds i pid true counted until) (RunLeads old.kernel pid true new.kernel j count)
     → LeadsFrom (ResidentTurn old holds i counted since pid) (TurnDone old new j pid count)
@@ -79,7 +80,7 @@ finish_done old new holds i j pid counted since until count u f A s image (at, i
       turned = ap last_turned (l.mark ∙ at.mark);
     }
 
-pub finish_stops : (old new : Standing) (holds : Option (List NamedFile)) (i j : Option (List ℕ)) (pid counted since until : ℕ) (stop : Stop)
+pub finish_stops : (old new : Standing) (holds : Option (List NamedFile)) (i j : Option SwapImage) (pid counted since until : ℕ) (stop : Stop)
     → until ≡ min (since + turn_instructions) old.params.limit
     → StopsFrom (UnderMark old holds i pid true counted until) old new j stop → StopsFrom (ResidentTurn old holds i counted since pid) old new j stop
 finish_stops old new holds i j pid counted since until stop u f A s image (at, in_) = f A s image (turning A s old holds i image pid counted since until u at)

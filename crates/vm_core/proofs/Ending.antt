@@ -5,6 +5,7 @@ use Rattle.std.specs.Result.{IsErrAnd}
 use Rattle.std.proofs.lemmas.List.Elements.{All-head, All-tail}
 use Rattle.std.proofs.lemmas.Option.{same_Some}
 use Rattle.std.proofs.lemmas.Result.{err_from_is_err_and}
+use Rattle.vm_facts.specs.SwapImages.{SwapImage}
 use Rattle.vm_facts.specs.declared.event.Event.{Event}
 use Rattle.vm_facts.specs.declared.params.Params.{Params}
 use Rattle.vm_facts.specs.declared.stop.Stop.{Stop}
@@ -55,7 +56,7 @@ pub are_among : (images : List ImageNamed) (ns : List ℕ) → All (λ (n : ℕ)
 are_among images [] all = tt
 are_among images (n ∷ ns) all = let h = All-head (λ (k : ℕ). (1 ≤ k) × (k ≤ length images)) n ns all in (h.0, h.1, are_among images ns (All-tail (λ (k : ℕ). (1 ≤ k) × (k ≤ length images)) n ns all))
 
-module _ (A : Inputs) (old : Underway) (numbers : List ℕ) (lines : List Event) (holds : Option (List NamedFile)) (image : List ℕ) (few : length numbers ≤ 16)
+module _ (A : Inputs) (old : Underway) (numbers : List ℕ) (lines : List Event) (holds : Option (List NamedFile)) (image : SwapImage) (few : length numbers ≤ 16)
     (is : IsAskedOf A old.machine numbers lines holds image) where
   starts_from : StartsFrom A old.machine numbers
   starts_from = record { named = is.named; first = is.first; frames = is.frames; blocks = is.blocks }
@@ -73,7 +74,7 @@ module _ (A : Inputs) (old : Underway) (numbers : List ℕ) (lines : List Event)
 
   -- The run stopped.
 
-  stops_at : (new : Standing) (stop : Stop) (j : Option (List ℕ)) (hs : Holdings) (can : CanRun A hs) → (x : StopLeads A (start A hs) (machine_at_start A hs) image stop new j)
+  stops_at : (new : Standing) (stop : Stop) (j : Option SwapImage) (hs : Holdings) (can : CanRun A hs) → (x : StopLeads A (start A hs) (machine_at_start A hs) image stop new j)
       → RunStops A new.kernel.journal image stop j
   stops_at new stops.NoMemory j hs can x = inr (starved_run A hs can first_few image is.room new j stops.NoMemory x x.by)
   stops_at new stops.JournalFull j hs can x = halted_run A hs can first_few image is.room new j stops.JournalFull x x.by
@@ -81,8 +82,8 @@ module _ (A : Inputs) (old : Underway) (numbers : List ℕ) (lines : List Event)
   stops_at new stops.SwapReadFault j hs can x = halted_run A hs can first_few image is.room new j stops.SwapReadFault x x.by
   stops_at new stops.SwapWriteFault j hs can x = halted_run A hs can first_few image is.room new j stops.SwapWriteFault x x.by
 
-  pub start_stops : (new : Underway) (stop : Stop) (j : Option (List ℕ))
-      → ((B : Inputs) (b : List ℕ) → IsTold B old.machine numbers holds b → Some image ≡ Some b → StopsStartingRun B new.machine b stop j)
+  pub start_stops : (new : Underway) (stop : Stop) (j : Option SwapImage)
+      → ((B : Inputs) (b : SwapImage) → IsTold B old.machine numbers holds b → Some image ≡ Some b → StopsStartingRun B new.machine b stop j)
       → RunEnds A new.machine.kernel.journal image (Err (Stopped stop)) j
   start_stops new stop j f = go (f A image is_told refl)
     where
@@ -94,13 +95,13 @@ module _ (A : Inputs) (old : Underway) (numbers : List ℕ) (lines : List Event)
       go (inr (hs, can, x)) = stops_at new.machine stop j hs can x.led
 
   -- since its journal is full
-  full_at : (new : Standing) (stop : Stop) (j : Option (List ℕ)) (hs : Holdings) (can : CanRun A hs) → stop ≡ stops.JournalFull
+  full_at : (new : Standing) (stop : Stop) (j : Option SwapImage) (hs : Holdings) (can : CanRun A hs) → stop ≡ stops.JournalFull
       → (x : StopLeads A (start A hs) (machine_at_start A hs) image stop new j) → RunFull A new image
   full_at new stops.JournalFull j hs can e x = full_run A hs can first_few image is.room new j stops.JournalFull x refl x.by
   full_at new _ j hs can e x = absurd cc
 
-  pub start_full : (new : Underway) (stop : Stop) (j : Option (List ℕ)) → stop ≡ stops.JournalFull
-      → ((B : Inputs) (b : List ℕ) → IsTold B old.machine numbers holds b → Some image ≡ Some b → StopsStartingRun B new.machine b stop j) → RunFull A new.machine image
+  pub start_full : (new : Underway) (stop : Stop) (j : Option SwapImage) → stop ≡ stops.JournalFull
+      → ((B : Inputs) (b : SwapImage) → IsTold B old.machine numbers holds b → Some image ≡ Some b → StopsStartingRun B new.machine b stop j) → RunFull A new.machine image
   start_full new stop j e f = go (f A image is_told refl)
     where
       go : StopsStartingRun A new.machine image stop j → RunFull A new.machine image
@@ -108,7 +109,7 @@ module _ (A : Inputs) (old : Underway) (numbers : List ℕ) (lines : List Event)
       go (inr (hs, can, x)) = full_at new.machine stop j hs can e x.led
 
   -- where the machine is left
-  left_at : (new : Standing) (stop : Stop) (j : Option (List ℕ)) (hs : Holdings) (can : CanRun A hs) → (x : StopLeads A (start A hs) (machine_at_start A hs) image stop new j)
+  left_at : (new : Standing) (stop : Stop) (j : Option SwapImage) (hs : Holdings) (can : CanRun A hs) → (x : StopLeads A (start A hs) (machine_at_start A hs) image stop new j)
       → RunStopsAt A stop new image
   left_at new stops.NoMemory j hs can x = λ runs. left_run A hs can first_few image is.room new j stops.NoMemory x x.held (λ e. runs)
   left_at new stops.JournalFull j hs can x = left_run A hs can first_few image is.room new j stops.JournalFull x x.held (λ e. absurd cc)
@@ -120,8 +121,8 @@ module _ (A : Inputs) (old : Underway) (numbers : List ℕ) (lines : List Event)
   never_runs : (new : Standing) (stop : Stop) → stop ≡ stops.NoMemory → new.kernel.stopped ≡ true → RunStopsAt A stop new image
   never_runs new stop e stopped = subst (λ (c : Stop). RunStopsAt A c new image) (sym e) (λ runs. absurd (let z : true ≡ false = sym stopped ∙ runs in cc))
 
-  pub start_left : (new : Underway) (stop : Stop) (j : Option (List ℕ))
-      → ((B : Inputs) (b : List ℕ) → IsTold B old.machine numbers holds b → Some image ≡ Some b → StopsStartingRun B new.machine b stop j)
+  pub start_left : (new : Underway) (stop : Stop) (j : Option SwapImage)
+      → ((B : Inputs) (b : SwapImage) → IsTold B old.machine numbers holds b → Some image ≡ Some b → StopsStartingRun B new.machine b stop j)
       → RunStopsAt A stop new.machine image
   start_left new stop j f = go (f A image is_told refl)
     where
@@ -131,7 +132,7 @@ module _ (A : Inputs) (old : Underway) (numbers : List ℕ) (lines : List Event)
 
   -- After the start.
 
-  module _ (mid : Underway) (i h : Option (List ℕ)) (told : i ≡ Some image) (starts : StartsRun old mid numbers holds i h) where
+  module _ (mid : Underway) (i h : Option SwapImage) (told : i ≡ Some image) (starts : StartsRun old mid numbers holds i h) where
     started : CoreStarted A mid holds image h
     started = starts A image is_told inputs_of told
 
@@ -139,44 +140,44 @@ module _ (A : Inputs) (old : Underway) (numbers : List ℕ) (lines : List Event)
     before_lines = record { at = started.at; none = started.same.lines; are = is.lines_are }
 
     start_told : Leads A (start A started.holdings) (machine_at_start A started.holdings) image started.units started.state mid.machine.kernel (Some started.behind)
-    start_told = subst (λ (o : Option (List ℕ)). Leads A (start A started.holdings) (machine_at_start A started.holdings) image started.units started.state mid.machine.kernel o)
+    start_told = subst (λ (o : Option SwapImage). Leads A (start A started.holdings) (machine_at_start A started.holdings) image started.units started.state mid.machine.kernel o)
         started.at.stands.told started.leads
 
-    pub lines_stop : (new : Underway) (stop : Stop) (j : Option (List ℕ)) → StopsFrom (IsBeforeLines mid lines holds h) mid.machine new.machine j stop
+    pub lines_stop : (new : Underway) (stop : Stop) (j : Option SwapImage) → StopsFrom (IsBeforeLines mid lines holds h) mid.machine new.machine j stop
         → RunEnds A new.machine.kernel.journal image (Err (Stopped stop)) j
     lines_stop new stop j f =
         stops_at new.machine stop j started.holdings started.can
         (leads_to_stop A (start A started.holdings) started.state (machine_at_start A started.holdings) mid.machine.kernel image started.behind started.units stop new.machine j start_told
         (f A started.state started.behind before_lines))
 
-    pub lines_full : (new : Underway) (stop : Stop) (j : Option (List ℕ)) → stop ≡ stops.JournalFull → StopsFrom (IsBeforeLines mid lines holds h) mid.machine new.machine j stop
+    pub lines_full : (new : Underway) (stop : Stop) (j : Option SwapImage) → stop ≡ stops.JournalFull → StopsFrom (IsBeforeLines mid lines holds h) mid.machine new.machine j stop
         → RunFull A new.machine image
     lines_full new stop j e f =
         full_at new.machine stop j started.holdings started.can e
         (leads_to_stop A (start A started.holdings) started.state (machine_at_start A started.holdings) mid.machine.kernel image started.behind started.units stop new.machine j start_told
         (f A started.state started.behind before_lines))
 
-    pub lines_left : (new : Underway) (stop : Stop) (j : Option (List ℕ)) → StopsFrom (IsBeforeLines mid lines holds h) mid.machine new.machine j stop → RunStopsAt A stop new.machine image
+    pub lines_left : (new : Underway) (stop : Stop) (j : Option SwapImage) → StopsFrom (IsBeforeLines mid lines holds h) mid.machine new.machine j stop → RunStopsAt A stop new.machine image
     lines_left new stop j f =
         left_at new.machine stop j started.holdings started.can
         (leads_to_stop A (start A started.holdings) started.state (machine_at_start A started.holdings) mid.machine.kernel image started.behind started.units stop new.machine j start_told
         (f A started.state started.behind before_lines))
 
-    pub lines_finish : (new : Underway) (j : Option (List ℕ)) → LeadsFrom (IsBeforeLines mid lines holds h) (LinesFinished mid new j) → RunEnds A new.machine.kernel.journal image (Ok tt) j
+    pub lines_finish : (new : Underway) (j : Option SwapImage) → LeadsFrom (IsBeforeLines mid lines holds h) (LinesFinished mid new j) → RunEnds A new.machine.kernel.journal image (Ok tt) j
     lines_finish new j f =
         let d = f A started.state started.behind before_lines in
         finished_run A started.holdings started.can first_few image is.room new j (started.units ++ d.units) d.state
         (both_lead A (start A started.holdings) started.state d.state (machine_at_start A started.holdings) mid.machine.kernel new.machine.kernel image
         (Some started.behind) j started.units d.units start_told
-        (λ between same. subst (λ (y : List ℕ). Leads A started.state mid.machine.kernel y d.units d.state new.machine.kernel j) (same_Some started.behind between same) d.leads))
+        (λ between same. subst (λ (y : SwapImage). Leads A started.state mid.machine.kernel y d.units d.state new.machine.kernel j) (same_Some started.behind between same) d.leads))
         d.none
 
     -- since there is no next unit
-    pub lines_over : (new : Underway) (j : Option (List ℕ)) → LeadsFrom (IsBeforeLines mid lines holds h) (LinesFinished mid new j) → StandsUnderway new → RunOver A new.machine image
+    pub lines_over : (new : Underway) (j : Option SwapImage) → LeadsFrom (IsBeforeLines mid lines holds h) (LinesFinished mid new j) → StandsUnderway new → RunOver A new.machine image
     lines_over new j f on =
         let d = f A started.state started.behind before_lines in
         over_run A started.holdings started.can first_few image is.room new j (started.units ++ d.units) d.state
         (both_lead A (start A started.holdings) started.state d.state (machine_at_start A started.holdings) mid.machine.kernel new.machine.kernel image
         (Some started.behind) j started.units d.units start_told
-        (λ between same. subst (λ (y : List ℕ). Leads A started.state mid.machine.kernel y d.units d.state new.machine.kernel j) (same_Some started.behind between same) d.leads))
+        (λ between same. subst (λ (y : SwapImage). Leads A started.state mid.machine.kernel y d.units d.state new.machine.kernel j) (same_Some started.behind between same) d.leads))
         d.none on

@@ -4,6 +4,7 @@ use Rattle.std.proofs.lemmas.Bool.{cases_lt}
 use Rattle.std.proofs.lemmas.Bool.Decides.{nat_tests}
 use Rattle.std.proofs.lemmas.Option.{same_Some}
 use Rattle.std.specs.Prelude.{◌↔◌}
+use Rattle.vm_facts.specs.SwapImages.{SwapImage}
 use Rattle.vm_facts.specs.declared.entry.Entry.{Entry}
 use Rattle.vm_facts.specs.declared.event.Event.{Event}
 use Rattle.vm_facts.specs.declared.stop.Stop.{Stop}
@@ -39,27 +40,27 @@ goes_below went limit counted e iff =
     ]
 
 -- so many of these lines were taken
-abbrev pub HasTaken : Underway → Underway → ℕ → List Event → Option (List NamedFile) → Option (List ℕ) → Option (List ℕ) → Type 0
+abbrev pub HasTaken : Underway → Underway → ℕ → List Event → Option (List NamedFile) → Option SwapImage → Option SwapImage → Type 0
 HasTaken old now taken lines holds i j =
-    (A : Inputs) (s : State) (image : List ℕ) → IsBeforeLines old lines holds i A s image → LinesTaken old now holds j taken A s image
+    (A : Inputs) (s : State) (image : SwapImage) → IsBeforeLines old lines holds i A s image → LinesTaken old now holds j taken A s image
 
-pub none_taken : (old : Underway) (lines : List Event) (holds : Option (List NamedFile)) (i : Option (List ℕ)) → HasTaken old old 0 lines holds i i
+pub none_taken : (old : Underway) (lines : List Event) (holds : Option (List NamedFile)) (i : Option SwapImage) → HasTaken old old 0 lines holds i i
 none_taken old lines holds i A s image b = record {
   units = [];
   state = s;
   behind = image;
-  leads = subst (λ (o : Option (List ℕ)). Leads A s old.machine.kernel image [] s old.machine.kernel o) (sym b.at.stands.told) (none_leads A s old.machine.kernel image);
+  leads = subst (λ (o : Option SwapImage). Leads A s old.machine.kernel image [] s old.machine.kernel o) (sym b.at.stands.told) (none_leads A s old.machine.kernel image);
   at = b.at;
   lines = b.none;
 }
 
 -- their units, with the swap image that is told
-told_leads : (A : Inputs) (s : State) (old mid : Underway) (holds : Option (List NamedFile)) (h : Option (List ℕ)) (image : List ℕ) (taken : ℕ)
+told_leads : (A : Inputs) (s : State) (old mid : Underway) (holds : Option (List NamedFile)) (h : Option SwapImage) (image : SwapImage) (taken : ℕ)
     (c : LinesTaken old mid holds h taken A s image)
     → Leads A s old.machine.kernel image c.units c.state mid.machine.kernel (Some c.behind)
-told_leads A s old mid holds h image taken c = subst (λ (o : Option (List ℕ)). Leads A s old.machine.kernel image c.units c.state mid.machine.kernel o) c.at.stands.told c.leads
+told_leads A s old mid holds h image taken c = subst (λ (o : Option SwapImage). Leads A s old.machine.kernel image c.units c.state mid.machine.kernel o) c.at.stands.told c.leads
 
-module _ (A : Inputs) (s : State) (old mid : Underway) (lines : List Event) (holds : Option (List NamedFile)) (i h : Option (List ℕ)) (image : List ℕ) (taken : ℕ) (e : Event)
+module _ (A : Inputs) (s : State) (old mid : Underway) (lines : List Event) (holds : Option (List NamedFile)) (i h : Option SwapImage) (image : SwapImage) (taken : ℕ) (e : Event)
     (b : IsBeforeLines old lines holds i A s image)
     (c : LinesTaken old mid holds h taken A s image) where
   due : slice_get lines taken ≡ Some e → mid.counted < mid.machine.params.limit → LineDue A c.state (taken + 1) e
@@ -69,20 +70,20 @@ module _ (A : Inputs) (s : State) (old mid : Underway) (lines : List Event) (hol
     below = let same = c.at.stands.count in let limit = c.at.stands.inputs.limit in omega arith;
   }
 
-  on : (new : Underway) (j : Option (List ℕ)) → LineTaken mid new holds j A c.state c.behind → LinesTaken old new holds j (taken + 1) A s image
+  on : (new : Underway) (j : Option SwapImage) → LineTaken mid new holds j A c.state c.behind → LinesTaken old new holds j (taken + 1) A s image
   on new j d = record {
     units = c.units ++ d.units;
     state = d.state;
     behind = d.behind;
     leads = both_lead A s c.state d.state old.machine.kernel mid.machine.kernel new.machine.kernel image (Some c.behind) j c.units d.units (told_leads A s old mid holds h image taken c)
-        (λ between same. subst (λ (y : List ℕ). Leads A c.state mid.machine.kernel y d.units d.state new.machine.kernel j) (same_Some c.behind between same) d.leads);
+        (λ between same. subst (λ (y : SwapImage). Leads A c.state mid.machine.kernel y d.units d.state new.machine.kernel j) (same_Some c.behind between same) d.leads);
     at = d.at;
     lines = d.lines ∙ ap (λ (n : ℕ). n + 1) c.lines;
   }
 
 -- One line more is taken, or the run stops at it.
 
-pub line_taken : (old mid new : Underway) (taken : ℕ) (e : Event) (lines : List Event) (holds : Option (List NamedFile)) (i h j : Option (List ℕ))
+pub line_taken : (old mid new : Underway) (taken : ℕ) (e : Event) (lines : List Event) (holds : Option (List NamedFile)) (i h j : Option SwapImage)
     → HasTaken old mid taken lines holds i h → slice_get lines taken ≡ Some e
     → mid.counted < mid.machine.params.limit → LeadsFrom (LineDueAt mid (taken + 1) e holds h) (LineTaken mid new holds j)
     → HasTaken old new (taken + 1) lines holds i j
@@ -90,7 +91,7 @@ line_taken old mid new taken e lines holds i h j f at below t A s image b =
     let c = f A s image b in
     on A s old mid lines holds i h image taken e b c new j (t A c.state c.behind (c.at, due A s old mid lines holds i h image taken e b c at below))
 
-pub line_stops : (old mid new : Underway) (taken : ℕ) (e : Event) (lines : List Event) (holds : Option (List NamedFile)) (i h j : Option (List ℕ)) (stop : Stop)
+pub line_stops : (old mid new : Underway) (taken : ℕ) (e : Event) (lines : List Event) (holds : Option (List NamedFile)) (i h j : Option SwapImage) (stop : Stop)
     → HasTaken old mid taken lines holds i h
     → slice_get lines taken ≡ Some e → mid.counted < mid.machine.params.limit
     → StopsAccountedFrom (LineDueAt mid (taken + 1) e holds h) mid.machine new.machine j stop
@@ -101,7 +102,7 @@ line_stops old mid new taken e lines holds i h j stop f at below x A s image b =
     (x A c.state c.behind (c.at, due A s old mid lines holds i h image taken e b c at below)).led
 
 -- after a line as many instructions are counted as may
-pub limit_taken : (old new : Underway) (taken : ℕ) (lines : List Event) (holds : Option (List NamedFile)) (i j : Option (List ℕ))
+pub limit_taken : (old new : Underway) (taken : ℕ) (lines : List Event) (holds : Option (List NamedFile)) (i j : Option SwapImage)
     → HasTaken old new taken lines holds i j → new.machine.params.limit ≤ new.counted
     → LeadsFrom (IsBeforeLines old lines holds i) (LinesWent old new wents.LimitReached (length lines) holds j)
 limit_taken old new taken lines holds i j f over A s image b =
@@ -121,7 +122,7 @@ limit_ends A t o l =
     full : nat_lt t.count A.limit ≡ false
     full = grind (arith, nat_tests)
 
-pub limit_finishes : (old new : Underway) (lines : List Event) (holds : Option (List NamedFile)) (i j : Option (List ℕ))
+pub limit_finishes : (old new : Underway) (lines : List Event) (holds : Option (List NamedFile)) (i j : Option SwapImage)
     → LeadsFrom (IsBeforeLines old lines holds i) (LinesWent old new wents.LimitReached (length lines) holds j)
     → LeadsFrom (IsBeforeLines old lines holds i) (LinesFinished old new j)
 limit_finishes old new lines holds i j f A s image b =
@@ -129,7 +130,7 @@ limit_finishes old new lines holds i j f A s image b =
     let c = w.1 in
     record { units = c.units; state = c.state; leads = c.leads; none = limit_ends A c.state c.at.over (let same = c.at.stands.count in let full = w.2 in omega arith) }
 
-pub closing_finishes : (old mid new : Underway) (lines : List Event) (holds : Option (List NamedFile)) (i h j : Option (List ℕ))
+pub closing_finishes : (old mid new : Underway) (lines : List Event) (holds : Option (List NamedFile)) (i h j : Option SwapImage)
     → LeadsFrom (IsBeforeLines old lines holds i) (LinesWent old mid wents.Next (length lines) holds h)
     → LeadsFrom (AllTaken mid holds h) (Closed mid.machine new.machine holds j new.counted)
     → LeadsFrom (IsBeforeLines old lines holds i) (LinesFinished old new j)
@@ -140,11 +141,11 @@ closing_finishes old mid new lines holds i h j f close A s image b =
       units = c.units ++ d.units;
       state = d.state;
       leads = both_lead A s c.state d.state old.machine.kernel mid.machine.kernel new.machine.kernel image (Some c.behind) j c.units d.units (told_leads A s old mid holds h image (length lines) c)
-          (λ between same. subst (λ (y : List ℕ). Leads A c.state mid.machine.kernel y d.units d.state new.machine.kernel j) (same_Some c.behind between same) d.leads);
+          (λ between same. subst (λ (y : SwapImage). Leads A c.state mid.machine.kernel y d.units d.state new.machine.kernel j) (same_Some c.behind between same) d.leads);
       none = d.none;
     }
 
-pub closing_stops : (old mid new : Underway) (lines : List Event) (holds : Option (List NamedFile)) (i h j : Option (List ℕ)) (stop : Stop)
+pub closing_stops : (old mid new : Underway) (lines : List Event) (holds : Option (List NamedFile)) (i h j : Option SwapImage) (stop : Stop)
     → LeadsFrom (IsBeforeLines old lines holds i) (LinesWent old mid wents.Next (length lines) holds h)
     → StopsAccountedFrom (AllTaken mid holds h) mid.machine new.machine j stop
     → StopsFrom (IsBeforeLines old lines holds i) old.machine new.machine j stop

@@ -1,5 +1,6 @@
 -- The headline holds of the journal of a run.
 use Rattle.std.proofs.Common.{◌≡◌, ◌⊎◌, inl, inr, ℕ, ◌<◌, ◌≤◌, false, length, List, [], ◌∷◌, Option, Some, refl, sym, ap, ◌∙◌, subst, arith}
+use Rattle.vm_facts.specs.SwapImages.{SwapImage}
 use Rattle.vm_facts.specs.declared.entry.Entry.{Entry}
 use Rattle.flat_state.specs.Flat.{Inputs, can_step}
 use Rattle.flat_state.specs.Journal.{appended, units_of, instructions_of}
@@ -63,7 +64,7 @@ module _ (A : Inputs) (journal : List Entry) (s : State) (m : IsJournalOf A jour
         within = omega (arith, counted, below);
       }
 
-pub headline_over : (A : Inputs) (journal : List Entry) (image : List ℕ) (after : Option (List ℕ)) → RunFinished A journal image after → HeadlineOver A journal
+pub headline_over : (A : Inputs) (journal : List Entry) (image : SwapImage) (after : Option SwapImage) → RunFinished A journal image after → HeadlineOver A journal
 unfolding carries_headline
 headline_over A journal image after r =
     let m : IsJournalOf A journal r.state = r.made in

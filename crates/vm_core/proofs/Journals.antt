@@ -42,11 +42,11 @@ use Rattle.vm_core.specs.Halting.{HaltsFor, SpoilsParts, SpoilsOldest, LeavesIma
 use Rattle.vm_core.specs.Lawful.{IsJournalOf, RunFinished, RunHalted, RunStarved}
 use Rattle.vm_core.specs.Full.{StandsThere, StarvedThere, StoppedThere, LessThere, ReturnedThere, LeftThere, RunLeft, RunFull, RunOver}
 
-module _ (A : Inputs) (hs : Holdings) (can : CanRun A hs) (few : length A.first ≤ 64) (image : List ℕ) (room : 512 * A.swap_blocks ≤ length image) where
+module _ (A : Inputs) (hs : Holdings) (can : CanRun A hs) (few : length A.first ≤ 64) (image : SwapImage) (room : 512 * A.swap_blocks ≤ length image) where
   at_start : StandsAt A (start A hs) (machine_at_start A hs) image
   at_start = start_keeps A hs (replicate A.frames zeros) image can (length-replicate {A = List ℕ} A.frames zeros) room
 
-  module _ (us : List Entry) (t : State) (l : Kernel) (j : Option (List ℕ)) (a : Leads A (start A hs) (machine_at_start A hs) image us t l j) where
+  module _ (us : List Entry) (t : State) (l : Kernel) (j : Option SwapImage) (a : Leads A (start A hs) (machine_at_start A hs) image us t l j) where
     follows : Follows A (start A hs) us t
     follows = leads_follow A (start A hs) t (machine_at_start A hs) l image us j a
 
@@ -74,15 +74,15 @@ module _ (A : Inputs) (hs : Holdings) (can : CanRun A hs) (few : length A.first 
         ∙ ap (λ (es : List Entry). Some (swapped A es image)) (sym lawful.0 ∙ sym stands.journal)
 
 -- no unit stops the run
-makes_run : (A : Inputs) (us : List Entry) (s t : State) (k l : Kernel) (image behind : List ℕ) → Makes A s k image us t l behind → l.stopped ≡ k.stopped
+makes_run : (A : Inputs) (us : List Entry) (s t : State) (k l : Kernel) (image behind : SwapImage) → Makes A s k image us t l behind → l.stopped ≡ k.stopped
 makes_run A [] s t k l image behind m = sym (ap (λ (x : Kernel). x.stopped) m.1)
 makes_run A (u ∷ us) s t k l image behind m =
     makes_run A us (after A s u) t (unit_step A s k image m.1.0 u) l (unit_image k image u) behind m.1.2 ∙ unit_goes A s k image m.1.0 u
 
 -- Where it ends.
 
-pub finished_run : (A : Inputs) (hs : Holdings) (can : CanRun A hs) (few : length A.first ≤ 64) (image : List ℕ) (room : 512 * A.swap_blocks ≤ length image)
-    (new : Underway) (j : Option (List ℕ)) (us : List Entry) (t : State)
+pub finished_run : (A : Inputs) (hs : Holdings) (can : CanRun A hs) (few : length A.first ≤ 64) (image : SwapImage) (room : 512 * A.swap_blocks ≤ length image)
+    (new : Underway) (j : Option SwapImage) (us : List Entry) (t : State)
     → Leads A (start A hs) (machine_at_start A hs) image us t new.machine.kernel j → next_unit A t ≡ None → RunFinished A new.machine.kernel.journal image j
 finished_run A hs can few image room new j us t a none =
     let m = made A hs can few image room us t new.machine.kernel j a in
@@ -95,8 +95,8 @@ finished_run A hs can few image room new j us t a none =
     }
 
 -- where it is over the machine stands there
-pub over_run : (A : Inputs) (hs : Holdings) (can : CanRun A hs) (few : length A.first ≤ 64) (image : List ℕ) (room : 512 * A.swap_blocks ≤ length image)
-    (new : Underway) (j : Option (List ℕ)) (us : List Entry) (t : State)
+pub over_run : (A : Inputs) (hs : Holdings) (can : CanRun A hs) (few : length A.first ≤ 64) (image : SwapImage) (room : 512 * A.swap_blocks ≤ length image)
+    (new : Underway) (j : Option SwapImage) (us : List Entry) (t : State)
     → Leads A (start A hs) (machine_at_start A hs) image us t new.machine.kernel j → next_unit A t ≡ None → StandsUnderway new → RunOver A new.machine image
 over_run A hs can few image room new j us t a none on = record {
   state = t;
@@ -141,31 +141,31 @@ halts_for stops.SwapWriteFault u s c full = fails_writing u s c
 
 -- The swap image that it leaves.
 
-parts_spoiled : (A : Inputs) (s : State) (k : Kernel) (xs : List Part) (image after : List ℕ) → k.holdings ≡ s.holdings → AreFlat A s k xs
+parts_spoiled : (A : Inputs) (s : State) (k : Kernel) (xs : List Part) (image after : SwapImage) → k.holdings ≡ s.holdings → AreFlat A s k xs
     → SpoilsAll k image xs after → SpoilsParts A s xs image after
 parts_spoiled A s k [] image after same flat x = x
 parts_spoiled A s k (p ∷ ps) image after same flat x =
     elim x [
       | inl y ↦ inl (y.0, y.1, y.2 ∙ ap (λ (hs : Holdings). store_at image (block_of hs p.page) y.0) same)
       | inr y ↦ inr (parts_spoiled A s k ps (store_at image (block_of s.holdings p.page) (memory_of A.images s.point.flat p.page)) after same flat.1
-          (subst (λ (i : List ℕ). SpoilsAll k i ps after)
+          (subst (λ (i : SwapImage). SpoilsAll k i ps after)
           (ap (λ (bytes : List ℕ). store_at image (block_of k.holdings p.page) bytes) flat.0
           ∙ ap (λ (hs : Holdings). store_at image (block_of hs p.page) (memory_of A.images s.point.flat p.page)) same) y))
     ]
 
-oldest_spoiled : (A : Inputs) (s : State) (k : Kernel) (ts : List Transfer) (image after : List ℕ) → k.holdings ≡ s.holdings → InFlightFlat A s k ts
+oldest_spoiled : (A : Inputs) (s : State) (k : Kernel) (ts : List Transfer) (image after : SwapImage) → k.holdings ≡ s.holdings → InFlightFlat A s k ts
     → SpoilsTransfers k image ts after → SpoilsOldest A s ts image after
 oldest_spoiled A s k [] image after same flat x = x
 oldest_spoiled A s k (t ∷ ts) image after same flat x = (x.0, parts_spoiled A s k t.parts image after same (subst (λ (e : Errand). WritesFlat A s k e t.parts) x.0 flat.0) x.1)
 
 -- a swap image that is left
-record ImageLeft (stop : Stop) (A : Inputs) (s : State) (u : Entry) (image : List ℕ) (j : Option (List ℕ)) : Type 0 where
+record ImageLeft (stop : Stop) (A : Inputs) (s : State) (u : Entry) (image : SwapImage) (j : Option SwapImage) : Type 0 where
   left : List ℕ
   told : j ≡ Some left
   is : LeavesImage stop A s u image left
 
-module _ (A : Inputs) (s : State) (k : Kernel) (image : List ℕ) (at : StandsAt A s k image) where
-  spoils_writing : (u : Entry) (j : Option (List ℕ)) → CauseBy u stops.SwapWriteFault k.place.transfers → SpoilsBy u stops.SwapWriteFault k (Some image) j
+module _ (A : Inputs) (s : State) (k : Kernel) (image : SwapImage) (at : StandsAt A s k image) where
+  spoils_writing : (u : Entry) (j : Option SwapImage) → CauseBy u stops.SwapWriteFault k.place.transfers → SpoilsBy u stops.SwapWriteFault k (Some image) j
       → ImageLeft stops.SwapWriteFault A s u image j
   spoils_writing entries.Done j c x = record {
     left = x.0;
@@ -185,14 +185,14 @@ abbrev pub IsNoWrite : Stop → Type 0
 IsNoWrite stops.SwapWriteFault = ⊥
 IsNoWrite _ = Unit {0}
 
-pub same_left : (u : Entry) (stop : Stop) (k : Kernel) (i j : Option (List ℕ)) → IsNoWrite stop → SpoilsBy u stop k i j → j ≡ i
+pub same_left : (u : Entry) (stop : Stop) (k : Kernel) (i j : Option SwapImage) → IsNoWrite stop → SpoilsBy u stop k i j → j ≡ i
 same_left entries.Done stops.SwapWriteFault k i j n x = absurd n
 same_left entries.Done _ k i j n x = x
 same_left (entries.SwapOut pid) stops.SwapWriteFault k i j n x = absurd n
 same_left (entries.SwapOut pid) _ k i j n x = x
 same_left _ stop k i j n x = x
 
-image_left : (stop : Stop) (u : Entry) (A : Inputs) (s : State) (k : Kernel) (image : List ℕ) (j : Option (List ℕ)) → StandsAt A s k image
+image_left : (stop : Stop) (u : Entry) (A : Inputs) (s : State) (k : Kernel) (image : SwapImage) (j : Option SwapImage) → StandsAt A s k image
     → CauseBy u stop k.place.transfers → SpoilsBy u stop k (Some image) j → ImageLeft stop A s u image j
 image_left stops.SwapWriteFault u A s k image j at c x = spoils_writing A s k image at u j c x
 image_left stops.NoMemory u A s k image j at c x = record { left = image; told = same_left u stops.NoMemory k (Some image) j tt x; is = refl }
@@ -202,7 +202,7 @@ image_left stops.SwapReadFault u A s k image j at c x = record { left = image; t
 
 -- Where it halts.
 
-module _ (A : Inputs) (hs : Holdings) (can : CanRun A hs) (few : length A.first ≤ 64) (image : List ℕ) (room : 512 * A.swap_blocks ≤ length image) (new : Standing) (j : Option (List ℕ)) (stop : Stop)
+module _ (A : Inputs) (hs : Holdings) (can : CanRun A hs) (few : length A.first ≤ 64) (image : SwapImage) (room : 512 * A.swap_blocks ≤ length image) (new : Standing) (j : Option SwapImage) (stop : Stop)
     (x : StopLeads A (start A hs) (machine_at_start A hs) image stop new j) where
   made_so : IsJournalOf A new.kernel.journal x.state
   made_so = subst (λ (es : List Entry). IsJournalOf A es x.state) (sym x.journal) (made A hs can few image room x.units x.state x.kernel (Some x.behind) x.leads)
@@ -227,7 +227,7 @@ module _ (A : Inputs) (hs : Holdings) (can : CanRun A hs) (few : length A.first 
             (λ e. subst (λ (es : List Entry). length es < length (append es y.entry)) stands_so.journal (y.full e).1);
         left = i.left;
         told = i.told;
-        image_left = subst (λ (b : List ℕ). LeavesImage stop A x.state y.entry b i.left) behind_is i.is;
+        image_left = subst (λ (b : SwapImage). LeavesImage stop A x.state y.entry b i.left) behind_is i.is;
       }
 
   run : x.kernel.stopped ≡ false

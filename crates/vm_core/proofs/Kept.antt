@@ -1,6 +1,7 @@
 -- What stays of the machine where a line or a turn stops the run.
 use Rattle.std.proofs.Common.{◌≡◌, ℕ, ◌<◌, ◌≤◌, Bool, List, length, Option, Result, Err, ap}
 use Rattle.std.specs.Prelude.{◌↔◌}
+use Rattle.vm_facts.specs.SwapImages.{SwapImage}
 use Rattle.vm_facts.specs.declared.entry.Entry.TheVariants as entries
 use Rattle.vm_facts.specs.declared.stop.Stop.{Stop}
 use Rattle.vm_facts.specs.declared.stop.Stop.TheVariants as stops
@@ -24,11 +25,11 @@ pub kept_ending : (old new : Standing) (stop : Stop) → HasStopped old new
     (r ≡ Err stops.JournalFull) ↔ ((0 < length old.kernel.place.transfers) × (old.params.journal ≤ length old.kernel.journal))) → KeptAtStop old new stop
 kept_ending old new stop h f = kept_here old new stop h (λ e. (f.0 (ap (λ (s : Stop). let r : Result Bool Stop = Err s in r) e)).1)
 
-pub kept_moving : (old new : Standing) (holds : Option (List NamedFile)) (i j : Option (List ℕ)) (n : ℕ) (stop : Stop) → StopsMoving n old stop new holds i j
+pub kept_moving : (old new : Standing) (holds : Option (List NamedFile)) (i j : Option SwapImage) (n : ℕ) (stop : Stop) → StopsMoving n old stop new holds i j
     → KeptAtStop old new stop
 kept_moving old new holds i j n stop h = kept_next _ h.at h.image j old new stop h.there
 
-pub kept_turning : (old new : Standing) (holds : Option (List NamedFile)) (i j : Option (List ℕ)) (t : Turned) (stop : Stop) → new.params ≡ old.params
+pub kept_turning : (old new : Standing) (holds : Option (List NamedFile)) (i j : Option SwapImage) (t : Turned) (stop : Stop) → new.params ≡ old.params
     → new.images ≡ old.images
     → StopsTurning t old stop new holds i j → KeptAtStop old new stop
 kept_turning old new holds i j turns.Nothing stop params images h = absurd h

@@ -1,6 +1,7 @@
 -- Whether a process is out, by its record.
 use Rattle.std.proofs.Common.{◌≡◌, ℕ, ◌+◌, nat_lt, ◌&&◌, true, false, List, Option, Some, None, refl, sym, ap, ◌∙◌}
 use Rattle.std.proofs.lemmas.Bool.{and_parts}
+use Rattle.vm_facts.specs.SwapImages.{SwapImage}
 use Rattle.proc_table.specs.declared.process.Proc.{Proc as Record}
 use Rattle.proc_table.specs.declared.process.Life.{Life as RecordLife}
 use Rattle.proc_table.specs.declared.process.Life.TheVariants as lives
@@ -59,9 +60,9 @@ steps_hold k flat pid tables c =
     let outline = outline_at k.processes flat.processes tables.processes pid kept.0 w.process kept.1 found.1 in
     (w.space.sid, ap life_of_proc kept.1 ∙ ap (λ (o : Outline). o.life) outline ∙ ap life_of w.holds)
 
-pub held_in : (m : Standing) (pid counted since : ℕ) (holds : Option (List NamedFile)) (i : Option (List ℕ))
+pub held_in : (m : Standing) (pid counted since : ℕ) (holds : Option (List NamedFile)) (i : Option SwapImage)
     → ((sid : ℕ) → life_in m.kernel pid ≡ HoldsSpace sid → is_out m.kernel.place pid ≡ false)
-    → (A : Inputs) (s : State) (image : List ℕ) → TurnAt m holds i counted since pid A s image → is_out s.place pid ≡ false
+    → (A : Inputs) (s : State) (image : SwapImage) → TurnAt m holds i counted since pid A s image → is_out s.place pid ≡ false
 held_in m pid counted since holds i f A s image at =
     let steps = (and_parts (can_step s.point.flat pid) (nat_lt s.count A.limit && nat_lt s.count (since + turn_instructions)) at.on).0 in
     let held = steps_hold m.kernel s.point.flat pid at.stands.machine.at.stands.keeps.coupled.tables steps in

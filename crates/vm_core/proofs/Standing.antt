@@ -1,6 +1,7 @@
 -- Where a machine stands after next units.
 use Rattle.std.proofs.Common.{◌≡◌, ℕ, ◌≤◌, List, ◌++◌, Option, Some, sym, ap, ◌∙◌, subst, arith}
 use Rattle.std.proofs.lemmas.Option.{same_Some}
+use Rattle.vm_facts.specs.SwapImages.{SwapImage}
 use Rattle.vm_facts.specs.declared.entry.Entry.{Entry}
 use Rattle.vm_facts.specs.declared.params.Params.{Params}
 use Rattle.vm_facts.specs.declared.stop.Stop.{Stop}
@@ -28,14 +29,14 @@ inputs_on A old new is params images = record {
   few = is.few;
 }
 
-pub stands_on : (A : Inputs) (s t : State) (old new : Standing) (holds : Option (List NamedFile)) (i j : Option (List ℕ)) (image : List ℕ)
+pub stands_on : (A : Inputs) (s t : State) (old new : Standing) (holds : Option (List NamedFile)) (i j : Option SwapImage) (image : SwapImage)
     (us : List Entry) (counted count : ℕ)
     → StandsIn A s old holds i image counted → (l : Leads A s old.kernel image us t new.kernel j) → new.params ≡ old.params → new.images ≡ old.images
     → t.count ≡ count → count ≤ A.limit
     → StandsIn A t new holds j l.behind count
 stands_on A s t old new holds i j image us counted count st l params images same most = record {
   machine = record {
-    at = leads_at A s t old.kernel new.kernel image l.behind us st.machine.at (subst (λ (o : Option (List ℕ)). Leads A s old.kernel image us t new.kernel o) l.told l);
+    at = leads_at A s t old.kernel new.kernel image l.behind us st.machine.at (subst (λ (o : Option SwapImage). Leads A s old.kernel image us t new.kernel o) l.told l);
     images = subst (λ (ns : List ImageNamed). AreImages ns holds A.images) (sym images) st.machine.images;
     blocks = ap (λ (p : Params). p.swap_blocks) params ∙ st.machine.blocks;
   };
@@ -47,7 +48,7 @@ stands_on A s t old new holds i j image us counted count st l params images same
 }
 
 -- a stop after next units
-pub leads_to_stop : (A : Inputs) (s t : State) (k l : Kernel) (image behind : List ℕ) (us : List Entry) (stop : Stop) (new : Standing) (j : Option (List ℕ))
+pub leads_to_stop : (A : Inputs) (s t : State) (k l : Kernel) (image behind : SwapImage) (us : List Entry) (stop : Stop) (new : Standing) (j : Option SwapImage)
     → Leads A s k image us t l (Some behind)
     → StopLeads A t l behind stop new j → StopLeads A s k image stop new j
 leads_to_stop A s t k l image behind us stop new j a x = record {
@@ -56,7 +57,7 @@ leads_to_stop A s t k l image behind us stop new j a x = record {
   kernel = x.kernel;
   behind = x.behind;
   leads = both_lead A s t x.state k l x.kernel image (Some behind) (Some x.behind) us x.units a
-      (λ b e. subst (λ (y : List ℕ). Leads A t l y x.units x.state x.kernel (Some x.behind)) (same_Some behind b e) x.leads);
+      (λ b e. subst (λ (y : SwapImage). Leads A t l y x.units x.state x.kernel (Some x.behind)) (same_Some behind b e) x.leads);
   journal = x.journal;
   held = x.held;
   by = x.by;

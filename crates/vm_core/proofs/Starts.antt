@@ -1,6 +1,7 @@
 -- The start of a run, by that of its machine.
 use Rattle.std.proofs.Common.{◌≡◌, inl, inr, ℕ, ◌≤◌, List, length, Option, Some, Result, sym, ap, ◌∙◌, subst, arith}
 use Rattle.std.specs.Prelude.{IfErr}
+use Rattle.vm_facts.specs.SwapImages.{SwapImage}
 use Rattle.vm_facts.specs.declared.stop.Stop.{Stop}
 use Rattle.io_edge.specs.FileHolding.{NamedFile}
 use Rattle.swap_book.specs.Holdings.{Holdings}
@@ -30,7 +31,7 @@ start_crowd A hs numbers e few =
     let less : length A.first ≤ 16 = subst (λ (ns : List ℕ). length ns ≤ 16) (sym e) few in
     omega (arith, most, less)
 
-module _ (A : Inputs) (old new : Underway) (numbers : List ℕ) (holds : Option (List NamedFile)) (image : List ℕ) (j : Option (List ℕ)) (few : length numbers ≤ 16)
+module _ (A : Inputs) (old new : Underway) (numbers : List ℕ) (holds : Option (List NamedFile)) (image : SwapImage) (j : Option SwapImage) (few : length numbers ≤ 16)
     (told : IsTold A old.machine numbers holds image)
     (inputs : InputsOf A old.machine) (on : HasStarted old.machine new.machine) (none : new.counted ≡ 0) (l : StartLeads A new.machine holds image j) where
   crowd : length (start A l.holdings).point.flat.processes ≤ 64
@@ -75,15 +76,15 @@ module _ (A : Inputs) (old new : Underway) (numbers : List ℕ) (holds : Option 
     swapped = leads_swapped A (start A l.holdings) l.state (machine_at_start A l.holdings) new.machine.kernel image l.units j at_start l.leads l.leads.behind l.leads.told;
   }
 
-pub starts_run : (old new : Underway) (numbers : List ℕ) (holds : Option (List NamedFile)) (i j : Option (List ℕ)) → length numbers ≤ 16 → new.counted ≡ 0
+pub starts_run : (old new : Underway) (numbers : List ℕ) (holds : Option (List NamedFile)) (i j : Option SwapImage) → length numbers ≤ 16 → new.counted ≡ 0
     → HasStarted old.machine new.machine
-    → ((A : Inputs) (image : List ℕ) → IsTold A old.machine numbers holds image → i ≡ Some image → StartLeads A new.machine holds image j)
+    → ((A : Inputs) (image : SwapImage) → IsTold A old.machine numbers holds image → i ≡ Some image → StartLeads A new.machine holds image j)
     → StartsRun old new numbers holds i j
 starts_run old new numbers holds i j few none on f A image told inputs e = core_started A old new numbers holds image j few told inputs on none (f A image told e)
 
 -- Where it stops.
 
-start_accounted : (A : Inputs) (old new : Standing) (numbers : List ℕ) (holds : Option (List NamedFile)) (image : List ℕ) (j : Option (List ℕ))
+start_accounted : (A : Inputs) (old new : Standing) (numbers : List ℕ) (holds : Option (List NamedFile)) (image : SwapImage) (j : Option SwapImage)
     → length numbers ≤ 16 → IsTold A old numbers holds image
     → (stop : Stop) → StartStops A new image stop j → StopsStartingRun A new image stop j
 start_accounted A old new numbers holds image j few told stop h = elim h [
@@ -92,10 +93,10 @@ start_accounted A old new numbers holds image j few told stop h = elim h [
 ]
 
 -- for all inputs that are those of the machine, where the swap image is told
-abbrev pub Stopping : Result Started Stop → Standing → List ℕ → Option (List NamedFile) → Option (List ℕ) → (Inputs → List ℕ → Stop → Type 0) → Type 0
-Stopping r old numbers holds i P = (A : Inputs) (image : List ℕ) → IsTold A old numbers holds image → i ≡ Some image → IfErr r (P A image)
+abbrev pub Stopping : Result Started Stop → Standing → List ℕ → Option (List NamedFile) → Option SwapImage → (Inputs → SwapImage → Stop → Type 0) → Type 0
+Stopping r old numbers holds i P = (A : Inputs) (image : SwapImage) → IsTold A old numbers holds image → i ≡ Some image → IfErr r (P A image)
 
-pub stops_starting : (r : Result Started Stop) (old new : Standing) (numbers : List ℕ) (holds : Option (List NamedFile)) (i j : Option (List ℕ))
+pub stops_starting : (r : Result Started Stop) (old new : Standing) (numbers : List ℕ) (holds : Option (List NamedFile)) (i j : Option SwapImage)
     → length numbers ≤ 16
     → Stopping r old numbers holds i (λ A image stop. StartStops A new image stop j)
     → Stopping r old numbers holds i (λ A image stop. StopsStartingRun A new image stop j)

@@ -1,6 +1,7 @@
 -- Machines that stay steady.
 use Rattle.std.proofs.Common.{◌≡◌, ℕ, ◌≤◌, List, [], length, Option, None, Result, Ok, Err, refl, ap, ◌∙◌, arith}
 use Rattle.std.specs.Prelude.{OnOk}
+use Rattle.vm_facts.specs.SwapImages.{SwapImage}
 use Rattle.vm_facts.specs.declared.entry.Entry.{Entry}
 use Rattle.vm_facts.specs.declared.entry.Entry.TheVariants as entries
 use Rattle.vm_facts.specs.declared.stop.Stop.{Stop}
@@ -84,6 +85,6 @@ noted_steady (Ok x) old new e clear frames n k same on =
 
 -- A process that came in.
 
-pub in_steady : (old new : Standing) (pid : ℕ) (i : Option (List ℕ)) → IsSteady old → IsIn old.kernel new.kernel pid i
+pub in_steady : (old new : Standing) (pid : ℕ) (i : Option SwapImage) → IsSteady old → IsIn old.kernel new.kernel pid i
     → IsSameBeside old new → CanGoOn new → StaysSteady old new 0
 in_steady old new pid i s h b ready = continues_steady old new 0 s (turn_continues (turns.In pid) old new None i i s.clear (h, b, refl)) ready

@@ -1,6 +1,7 @@
 -- Lines of the schedule, from their entries on.
 use Rattle.std.proofs.Common.{◌≡◌, ℕ, ◌+◌, ◌≤◌, List, [], ◌∷◌, ◌++◌, Option, Some, refl, sym, ap, ◌∙◌, subst, arith}
 use Rattle.std.proofs.lemmas.Option.{same_Some}
+use Rattle.vm_facts.specs.SwapImages.{SwapImage}
 use Rattle.vm_facts.specs.declared.entry.Entry.{Entry}
 use Rattle.vm_facts.specs.declared.entry.Entry.TheVariants as entries
 use Rattle.vm_facts.specs.declared.event.Event.{Event}
@@ -34,7 +35,7 @@ use Rattle.vm_core.proofs.Standing.{stands_on, leads_to_stop}
 
 -- What a line asks for.
 
-line_at : (A : Inputs) (s : State) (m : Standing) (holds : Option (List NamedFile)) (i : Option (List ℕ)) (image : List ℕ) (counted : ℕ) (e : Event)
+line_at : (A : Inputs) (s : State) (m : Standing) (holds : Option (List NamedFile)) (i : Option SwapImage) (image : SwapImage) (counted : ℕ) (e : Event)
     → AskedAt m holds i counted e A s image
     → LineAt m holds i e A s image
 line_at A s m holds i image counted e at = record {
@@ -45,7 +46,7 @@ line_at A s m holds i image counted e at = record {
   fit = at.stands.longwords.fit;
 }
 
-pub makes_carries : (old new : Standing) (holds : Option (List NamedFile)) (i j : Option (List ℕ)) (counted : ℕ) (e : Event)
+pub makes_carries : (old new : Standing) (holds : Option (List NamedFile)) (i j : Option SwapImage) (counted : ℕ) (e : Event)
     → LeadsFrom (LineAt old holds i e) (λ A s image. LineLeads A s old.kernel image new.kernel j)
     → LeadsFrom (AskedAt old holds i counted e) (LineDone old new j counted)
 makes_carries old new holds i j counted e f A s image at =
@@ -54,7 +55,7 @@ makes_carries old new holds i j counted e f A s image at =
 
 -- After the entry of a line.
 
-record Begun (A : Inputs) (s : State) (old : Underway) (mid : Standing) (holds : Option (List NamedFile)) (i : Option (List ℕ)) (image : List ℕ)
+record Begun (A : Inputs) (s : State) (old : Underway) (mid : Standing) (holds : Option (List NamedFile)) (i : Option SwapImage) (image : SwapImage)
     (e : Event) : Type 0 where
   units : List Entry
   state : State
@@ -70,7 +71,7 @@ mark_still s t events.Swapper place point count =
     ap (λ (p : Placement). swap_mark (swap_choice p (runners s.point.flat))) (sym place) ∙ ap (λ (x : Point). swap_mark (swap_choice t.place (runners x.flat))) (sym point)
 mark_still s t events.Audit place point count = refl
 
-module _ (A : Inputs) (s : State) (old : Underway) (holds : Option (List NamedFile)) (i : Option (List ℕ)) (image : List ℕ) (line : ℕ) (e : Event) (at : CoreAt A s old holds i image)
+module _ (A : Inputs) (s : State) (old : Underway) (holds : Option (List NamedFile)) (i : Option SwapImage) (image : SwapImage) (line : ℕ) (e : Event) (at : CoreAt A s old holds i image)
     (due : LineDue A s line e) where
   begun : (mid : Standing) → StaysSteady old.machine mid 0 → mid.kernel ≡ note_step old.machine.kernel (entries.Event line) → Begun A s old mid holds i image e
   begun mid stays k =
@@ -85,22 +86,22 @@ module _ (A : Inputs) (s : State) (old : Underway) (holds : Option (List NamedFi
         state = b.state;
         leads = b.leads;
         at = record {
-          stands = subst (λ (o : Option (List ℕ)). StandsIn A b.state mid holds o image old.counted) (sym at.stands.told)
-              (subst (λ (y : List ℕ). StandsIn A b.state mid holds (Some image) y old.counted) same stands);
+          stands = subst (λ (o : Option SwapImage). StandsIn A b.state mid holds o image old.counted) (sym at.stands.told)
+              (subst (λ (y : SwapImage). StandsIn A b.state mid holds (Some image) y old.counted) same stands);
           clear = b.clear;
           mark = b.mark ∙ mark_still s b.state e b.place b.point b.count;
         };
         lines = b.lines;
       }
 
-  taken : (mid new : Standing) (j : Option (List ℕ)) (count : ℕ) → StaysSteady old.machine mid 0 → mid.kernel ≡ note_step old.machine.kernel (entries.Event line)
+  taken : (mid new : Standing) (j : Option SwapImage) (count : ℕ) → StaysSteady old.machine mid 0 → mid.kernel ≡ note_step old.machine.kernel (entries.Event line)
       → LeadsFrom (AskedAt mid holds i old.counted e) (LineDone mid new j count)
       → CountsTo mid new old.counted count → LineTaken old (let u : Underway = record { machine = new; counted = count } in u) holds j A s image
   taken mid new j count stays k f to =
       let b = begun mid stays k in
       let d = f A b.state image b.at in
       let leads = both_lead A s b.state d.state old.machine.kernel mid.kernel new.kernel image (Some image) j b.units d.units b.leads
-      (λ between same. subst (λ (y : List ℕ). Leads A b.state mid.kernel y d.units d.state new.kernel j) (same_Some image between same) d.leads) in
+      (λ between same. subst (λ (y : SwapImage). Leads A b.state mid.kernel y d.units d.state new.kernel j) (same_Some image between same) d.leads) in
       let below : d.state.count ≤ A.limit =
       units_below A (b.units ++ d.units) s d.state (makes_follows A (b.units ++ d.units) s d.state old.machine.kernel new.kernel image leads.behind leads.makes)
       (let less = due.below in omega arith) in
@@ -121,7 +122,7 @@ module _ (A : Inputs) (s : State) (old : Underway) (holds : Option (List NamedFi
         swapped = leads_swapped A s d.state old.machine.kernel new.kernel image (b.units ++ d.units) j at.stands.machine.at leads d.leads.behind d.leads.told;
       }
 
-  carrying_stops : (mid new : Standing) (j : Option (List ℕ)) (stop : Stop) → StaysSteady old.machine mid 0 → mid.kernel ≡ note_step old.machine.kernel (entries.Event line)
+  carrying_stops : (mid new : Standing) (j : Option SwapImage) (stop : Stop) → StaysSteady old.machine mid 0 → mid.kernel ≡ note_step old.machine.kernel (entries.Event line)
       → StopsFrom (AskedAt mid holds i old.counted e) mid new j stop
       → StopsAccounted A s old.machine.kernel image stop new j
   carrying_stops mid new j stop stays k f =
@@ -132,25 +133,25 @@ module _ (A : Inputs) (s : State) (old : Underway) (holds : Option (List NamedFi
   noting_stops : (new : Standing) (stop : Stop) → StopsBefore old.machine new stop → StopsAccounted A s old.machine.kernel image stop new i
   noting_stops new stop x =
       stop_accounted A s old.machine.kernel image stop new i at.stands.machine.at at.stands.crowd
-      (subst (λ (o : Option (List ℕ)). StopLeads A s old.machine.kernel image stop new o) (sym at.stands.told)
+      (subst (λ (o : Option SwapImage). StopLeads A s old.machine.kernel image stop new o) (sym at.stands.told)
       (line_stops A s old.machine new holds image e stop at.stands.machine at.over due.below due.event x))
 
 -- The whole line.
 
-pub takes_line : (old : Underway) (mid new : Standing) (holds : Option (List NamedFile)) (i j : Option (List ℕ)) (line count : ℕ) (e : Event)
+pub takes_line : (old : Underway) (mid new : Standing) (holds : Option (List NamedFile)) (i j : Option SwapImage) (line count : ℕ) (e : Event)
     → StaysSteady old.machine mid 0
     → mid.kernel ≡ note_step old.machine.kernel (entries.Event line) → LeadsFrom (AskedAt mid holds i old.counted e) (LineDone mid new j count)
     → CountsTo mid new old.counted count
     → LeadsFrom (LineDueAt old line e holds i) (LineTaken old (let u : Underway = record { machine = new; counted = count } in u) holds j)
 takes_line old mid new holds i j line count e stays k f to A s image (at, due) = taken A s old holds i image line e at due mid new j count stays k f to
 
-pub stops_carrying : (old after : Underway) (mid : Standing) (holds : Option (List NamedFile)) (i j : Option (List ℕ)) (line : ℕ) (e : Event) (stop : Stop)
+pub stops_carrying : (old after : Underway) (mid : Standing) (holds : Option (List NamedFile)) (i j : Option SwapImage) (line : ℕ) (e : Event) (stop : Stop)
     → StaysSteady old.machine mid 0
     → mid.kernel ≡ note_step old.machine.kernel (entries.Event line) → StopsFrom (AskedAt mid holds i old.counted e) mid after.machine j stop
     → StopsAccountedFrom (LineDueAt old line e holds i) old.machine after.machine j stop
 stops_carrying old after mid holds i j line e stop stays k f A s image (at, due) = carrying_stops A s old holds i image line e at due mid after.machine j stop stays k f
 
-pub stops_noted : (old after : Underway) (holds : Option (List NamedFile)) (i : Option (List ℕ)) (line : ℕ) (e : Event) (stop : Stop)
+pub stops_noted : (old after : Underway) (holds : Option (List NamedFile)) (i : Option SwapImage) (line : ℕ) (e : Event) (stop : Stop)
     → StopsBefore old.machine after.machine stop
     → StopsAccountedFrom (LineDueAt old line e holds i) old.machine after.machine i stop
 stops_noted old after holds i line e stop x A s image (at, due) = noting_stops A s old holds i image line e at due after.machine stop x

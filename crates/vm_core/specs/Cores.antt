@@ -1,5 +1,6 @@
 -- A whole run over the paged machine, between two of its calls.
 use Rattle.std.specs.Prelude.{◌≡◌, ℕ, ◌+◌, ◌<◌, ◌≤◌, ◌^◌, List, length, slice_get, Option, Some}
+use Rattle.vm_facts.specs.SwapImages.{SwapImage}
 use Rattle.vm_facts.specs.declared.entry.Entry.{Entry}
 use Rattle.vm_facts.specs.declared.event.Event.{Event}
 use Rattle.io_edge.specs.FileHolding.{NamedFile}
@@ -40,7 +41,7 @@ pub record InputsOf (A : Inputs) (m : Standing) : Type 0 where
 
 -- The machine stands at a state of a run, with a swap image that is told: so many instructions are counted, registers are
 -- longwords, there are 64 processes at most, and no turn of the closing phase was had.
-pub record StandsIn (A : Inputs) (s : State) (m : Standing) (holds : Option (List NamedFile)) (i : Option (List ℕ)) (image : List ℕ)
+pub record StandsIn (A : Inputs) (s : State) (m : Standing) (holds : Option (List NamedFile)) (i : Option SwapImage) (image : SwapImage)
     (counted : ℕ) : Type 0 where
   pub machine : MachineAt A s m holds image
   pub told : i ≡ Some image
@@ -50,7 +51,7 @@ pub record StandsIn (A : Inputs) (s : State) (m : Standing) (holds : Option (Lis
   pub count : s.count ≡ counted
 
 -- It does, between two lines, before the closing phase.
-pub record CoreAt (A : Inputs) (s : State) (c : Underway) (holds : Option (List NamedFile)) (i : Option (List ℕ)) (image : List ℕ) : Type 0 where
+pub record CoreAt (A : Inputs) (s : State) (c : Underway) (holds : Option (List NamedFile)) (i : Option SwapImage) (image : SwapImage) : Type 0 where
   pub stands : StandsIn A s c.machine holds i image c.counted
   pub over : IsOver A s
   pub unturned : last_turned s.mark ≡ 0
@@ -64,16 +65,16 @@ pub record LineDue (A : Inputs) (s : State) (line : ℕ) (e : Event) : Type 0 wh
   pub below : s.count < A.limit
 
 -- the core stands where this is the next line
-abbrev pub LineDueAt : Underway → ℕ → Event → Option (List NamedFile) → Option (List ℕ) → Inputs → State → List ℕ → Type 0
+abbrev pub LineDueAt : Underway → ℕ → Event → Option (List NamedFile) → Option SwapImage → Inputs → State → SwapImage → Type 0
 LineDueAt c line e holds i A s image = CoreAt A s c holds i image × LineDue A s line e
 
 -- Next units lead to where the core stands after the line. They are accounted for, and few, and the swap image is the one that they
 -- say.
-pub record LineTaken (old new : Underway) (holds : Option (List NamedFile)) (j : Option (List ℕ)) (A : Inputs) (s : State)
-    (image : List ℕ) : Type 0 where
+pub record LineTaken (old new : Underway) (holds : Option (List NamedFile)) (j : Option SwapImage) (A : Inputs) (s : State)
+    (image : SwapImage) : Type 0 where
   pub units : List Entry
   pub state : State
-  pub behind : List ℕ
+  pub behind : SwapImage
   pub leads : Leads A s old.machine.kernel image units state new.machine.kernel j
   pub at : CoreAt A state new holds j behind
   pub lines : state.lines ≡ s.lines + 1
@@ -84,14 +85,14 @@ pub record LineTaken (old new : Underway) (holds : Option (List NamedFile)) (j :
 -- Under the mark of a line.
 
 -- The machine stands after the entry of a line, so many instructions being counted.
-pub record AskedAt (m : Standing) (holds : Option (List NamedFile)) (i : Option (List ℕ)) (counted : ℕ) (e : Event) (A : Inputs) (s : State)
-    (image : List ℕ) : Type 0 where
+pub record AskedAt (m : Standing) (holds : Option (List NamedFile)) (i : Option SwapImage) (counted : ℕ) (e : Event) (A : Inputs) (s : State)
+    (image : SwapImage) : Type 0 where
   pub stands : StandsIn A s m holds i image counted
   pub clear : IsClear s
   pub mark : s.mark ≡ mark_of_event s e
 
 -- Next units lead to where the line is over, with so many instructions counted.
-pub record LineDone (old new : Standing) (j : Option (List ℕ)) (count : ℕ) (A : Inputs) (s : State) (image : List ℕ) : Type 0 where
+pub record LineDone (old new : Standing) (j : Option SwapImage) (count : ℕ) (A : Inputs) (s : State) (image : SwapImage) : Type 0 where
   pub units : List Entry
   pub state : State
   pub leads : Leads A s old.kernel image units state new.kernel j

@@ -1,5 +1,6 @@
 -- Where a machine stands after a run: the run is over, or its journal is full.
 use Rattle.std.specs.Prelude.{◌≡◌, ◌⊎◌, ℕ, ◌<◌, ◌≤◌, true, false, List, length, map, Some, None}
+use Rattle.vm_facts.specs.SwapImages.{SwapImage}
 use Rattle.vm_facts.specs.declared.entry.Entry.{Entry}
 use Rattle.vm_facts.specs.declared.stop.Stop.{Stop}
 use Rattle.vm_facts.specs.declared.stop.Stop.TheVariants as stops
@@ -19,13 +20,13 @@ use Rattle.vm_core.specs.Lawful.{IsJournalOf}
 
 -- The machine runs on, no pieces wait, and it stands for a state with this swap image: its frames, its records and that image have
 -- the bytes and registers of the flat machine.
-pub record StandsThere (A : Inputs) (s : State) (m : Standing) (image : List ℕ) : Type 0 where
+pub record StandsThere (A : Inputs) (s : State) (m : Standing) (image : SwapImage) : Type 0 where
   pub running : m.kernel.stopped ≡ false
   pub whole : m.before ≡ m.kernel.holdings
   pub at : StandsAt A s m.kernel image
 
 -- The machine runs on, and stands for a state, but for pieces of swap that were found for an entry for which there was no memory.
-pub record StarvedThere (A : Inputs) (s : State) (m : Standing) (image : List ℕ) : Type 0 where
+pub record StarvedThere (A : Inputs) (s : State) (m : Standing) (image : SwapImage) : Type 0 where
   pub running : m.kernel.stopped ≡ false
   pub at : StandsAt A s (kernel_before m) image
 
@@ -45,7 +46,7 @@ pub record LessThere (s : State) (m : Standing) : Type 0 where
 
 -- The machine runs on, and stands for a state, but for a space that went back to its lender before an entry for which there was no
 -- memory, and for pieces that were found for that.
-pub record ReturnedThere (A : Inputs) (s : State) (m : Standing) (image : List ℕ) : Type 0 where
+pub record ReturnedThere (A : Inputs) (s : State) (m : Standing) (image : SwapImage) : Type 0 where
   pub running : m.kernel.stopped ≡ false
   pub kernel : Kernel
   pub at : StandsAt A s kernel image
@@ -55,7 +56,7 @@ pub record ReturnedThere (A : Inputs) (s : State) (m : Standing) (image : List �
 
 -- Where the machine is left, by the cause of a stop at a state with this swap image. For want of memory that is said of a machine that
 -- runs on: it doesn't where it broke off within an entry of a process.
-abbrev pub LeftThere : Inputs → Stop → State → Standing → List ℕ → Type 0
+abbrev pub LeftThere : Inputs → Stop → State → Standing → SwapImage → Type 0
 LeftThere A stops.JournalFull s m image = StandsThere A s m image
 LeftThere A stops.NoMemory s m image = StarvedThere A s m image ⊎ ReturnedThere A s m image
 LeftThere A stops.FileFault s m image = LessThere s m
@@ -63,19 +64,19 @@ LeftThere A stops.SwapReadFault s m image = LessThere s m ⊎ StoppedThere s m
 LeftThere A stops.SwapWriteFault s m image = LessThere s m ⊎ StoppedThere s m
 
 -- The run stopped at the state to which its journal leads, and there the machine is left. The swap image before it is this one.
-pub record RunLeft (A : Inputs) (stop : Stop) (m : Standing) (image : List ℕ) : Type 0 where
+pub record RunLeft (A : Inputs) (stop : Stop) (m : Standing) (image : SwapImage) : Type 0 where
   pub state : State
   pub made : IsJournalOf A m.kernel.journal state
   pub left : LeftThere A stop state m (swapped A m.kernel.journal image)
 
 -- by the cause; for want of memory the run may also stop before its first unit, as its first processes begin, and then the machine has stopped
-abbrev pub RunStopsAt : Inputs → Stop → Standing → List ℕ → Type 0
+abbrev pub RunStopsAt : Inputs → Stop → Standing → SwapImage → Type 0
 RunStopsAt A stops.NoMemory m image = m.kernel.stopped ≡ false → RunLeft A stops.NoMemory m image
 RunStopsAt A stop m image = RunLeft A stop m image
 
 -- The journal is at its bound, the next unit isn't joined to the last entry, and the machine stands for the state to which its journal
 -- leads, with the swap image that its journal makes of this one.
-pub record RunFull (A : Inputs) (m : Standing) (image : List ℕ) : Type 0 where
+pub record RunFull (A : Inputs) (m : Standing) (image : SwapImage) : Type 0 where
   pub state : State
   pub made : IsJournalOf A m.kernel.journal state
   pub unit : Entry
@@ -86,7 +87,7 @@ pub record RunFull (A : Inputs) (m : Standing) (image : List ℕ) : Type 0 where
 
 -- There is no next unit, and the machine stands for the state to which its journal leads, with the swap image that its journal makes of
 -- this one.
-pub record RunOver (A : Inputs) (m : Standing) (image : List ℕ) : Type 0 where
+pub record RunOver (A : Inputs) (m : Standing) (image : SwapImage) : Type 0 where
   pub state : State
   pub made : IsJournalOf A m.kernel.journal state
   pub none : next_unit A state ≡ None

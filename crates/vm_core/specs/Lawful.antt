@@ -1,5 +1,6 @@
 -- The journal of a run, where its files and its swap devices are told.
 use Rattle.std.specs.Prelude.{◌≡◌, ◌⊎◌, ℕ, List, [], Option, Some, None}
+use Rattle.vm_facts.specs.SwapImages.{SwapImage}
 use Rattle.vm_facts.specs.declared.entry.Entry.{Entry}
 use Rattle.vm_facts.specs.declared.stop.Stop.{Stop}
 use Rattle.swap_book.specs.Holdings.{Holdings}
@@ -28,7 +29,7 @@ pub record IsJournalOf (A : Inputs) (journal : List Entry) (s : State) : Type 0 
   pub economy : Economy A (start A holdings) units
 
 -- The run is finished: there is no next unit, so as many instructions ran as may, or no process can step after the last line.
-pub record RunFinished (A : Inputs) (journal : List Entry) (image : List ℕ) (after : Option (List ℕ)) : Type 0 where
+pub record RunFinished (A : Inputs) (journal : List Entry) (image : SwapImage) (after : Option SwapImage) : Type 0 where
   pub state : State
   pub made : IsJournalOf A journal state
   pub none : next_unit A state ≡ None
@@ -36,7 +37,7 @@ pub record RunFinished (A : Inputs) (journal : List Entry) (image : List ℕ) (a
   pub left : after ≡ Some (swapped A journal image)
 
 -- It halted at its next unit, for a cause.
-pub record RunHalted (A : Inputs) (journal : List Entry) (stop : Stop) (image : List ℕ) (after : Option (List ℕ)) : Type 0 where
+pub record RunHalted (A : Inputs) (journal : List Entry) (stop : Stop) (image : SwapImage) (after : Option SwapImage) : Type 0 where
   pub state : State
   pub made : IsJournalOf A journal state
   pub unit : Entry
@@ -47,7 +48,7 @@ pub record RunHalted (A : Inputs) (journal : List Entry) (stop : Stop) (image : 
   pub image_left : LeavesImage stop A state unit (swapped A journal image) left
 
 -- It found no memory, at any place.
-pub record RunStarved (A : Inputs) (journal : List Entry) (image : List ℕ) (after : Option (List ℕ)) : Type 0 where
+pub record RunStarved (A : Inputs) (journal : List Entry) (image : SwapImage) (after : Option SwapImage) : Type 0 where
   pub state : State
   pub made : IsJournalOf A journal state
   pub left : after ≡ Some (swapped A journal image)

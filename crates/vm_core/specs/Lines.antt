@@ -1,5 +1,6 @@
 -- What the machine makes of a line of the schedule.
 use Rattle.std.specs.Prelude.{◌≡◌, ℕ, List, Option, Some}
+use Rattle.vm_facts.specs.SwapImages.{SwapImage}
 use Rattle.vm_facts.specs.declared.event.Event.{Event}
 use Rattle.io_edge.specs.FileHolding.{NamedFile}
 use Rattle.flat_state.specs.Flat.{Inputs}
@@ -11,8 +12,8 @@ use Rattle.run_start.specs.Machines.{MachineAt}
 use Rattle.run_start.specs.Lines.{IsClear}
 
 -- The machine stands at a state under the mark of a line, with a swap image that is told.
-pub record LineAt (m : Standing) (holds : Option (List NamedFile)) (i : Option (List ℕ)) (e : Event) (A : Inputs) (s : State)
-    (image : List ℕ) : Type 0 where
+pub record LineAt (m : Standing) (holds : Option (List NamedFile)) (i : Option SwapImage) (e : Event) (A : Inputs) (s : State)
+    (image : SwapImage) : Type 0 where
   pub machine : MachineAt A s m holds image
   pub told : i ≡ Some image
   pub clear : IsClear s

@@ -1,5 +1,6 @@
 -- How a whole run ends.
 use Rattle.std.specs.Prelude.{◌≡◌, ◌⊎◌, ℕ, ◌+◌, ◌*◌, ◌<◌, ◌≤◌, ◌^◌, List, [], length, Option, Some, Result, Ok, Err}
+use Rattle.vm_facts.specs.SwapImages.{SwapImage}
 use Rattle.vm_facts.specs.declared.entry.Entry.{Entry}
 use Rattle.vm_facts.specs.declared.event.Event.{Event}
 use Rattle.vm_facts.specs.declared.stop.Stop.{Stop}
@@ -25,7 +26,7 @@ stopped_as (Err (Stopped stop)) = Err stop
 -- Inputs of a run that are those of a machine, with these first processes and this schedule, where the files and a swap image are
 -- told: the files hold the images, which are of bytes and as long as their pages; the numbers of all processes are longwords; and
 -- the swap image has all blocks.
-pub record IsAskedOf (A : Inputs) (m : Standing) (numbers : List ℕ) (lines : List Event) (holds : Option (List NamedFile)) (image : List ℕ) : Type 0 where
+pub record IsAskedOf (A : Inputs) (m : Standing) (numbers : List ℕ) (lines : List Event) (holds : Option (List NamedFile)) (image : SwapImage) : Type 0 where
   pub named : AreNamed A.images m.images
   pub first : A.first ≡ numbers
   pub lines_are : A.lines ≡ lines
@@ -39,16 +40,16 @@ pub record IsAskedOf (A : Inputs) (m : Standing) (numbers : List ℕ) (lines : L
   pub room : 512 * A.swap_blocks ≤ length image
 
 -- nothing was done
-abbrev pub NoneMade : List Entry → List ℕ → Option (List ℕ) → Type 0
+abbrev pub NoneMade : List Entry → SwapImage → Option SwapImage → Type 0
 NoneMade journal image after = (journal ≡ []) × (after ≡ Some image)
 
 -- where the run stopped: for want of memory it may be anywhere
-abbrev pub RunStops : Inputs → List Entry → List ℕ → Stop → Option (List ℕ) → Type 0
+abbrev pub RunStops : Inputs → List Entry → SwapImage → Stop → Option SwapImage → Type 0
 RunStops A journal image stops.NoMemory after = NoneMade journal image after ⊎ RunStarved A journal image after
 RunStops A journal image stop after = RunHalted A journal stop image after
 
 -- how a run of these inputs ends, by the answer
-abbrev pub RunEnds : Inputs → List Entry → List ℕ → Result (Unit {0}) Unfinished → Option (List ℕ) → Type 0
+abbrev pub RunEnds : Inputs → List Entry → SwapImage → Result (Unit {0}) Unfinished → Option SwapImage → Type 0
 RunEnds A journal image (Ok done) after = RunFinished A journal image after
 RunEnds A journal image (Err (NoSpace pid)) after = NoneMade journal image after × (start_held A ≡ Err pid)
 RunEnds A journal image (Err (Stopped stop)) after = RunStops A journal image stop after

@@ -1,5 +1,6 @@
 -- The start of a run.
 use Rattle.std.specs.Prelude.{◌≡◌, ◌⊎◌, ℕ, List, Option, Some}
+use Rattle.vm_facts.specs.SwapImages.{SwapImage}
 use Rattle.vm_facts.specs.declared.entry.Entry.{Entry}
 use Rattle.vm_facts.specs.declared.stop.Stop.{Stop}
 use Rattle.io_edge.specs.FileHolding.{NamedFile}
@@ -26,12 +27,12 @@ pub record IsFresh (c : Underway) : Type 0 where
 -- The run of these inputs can begin, and from its start next units lead to a state that is the start but for pages and journal. The
 -- core stands there, between two lines, none of which was taken. The units are accounted for, and few, and the swap image is the one
 -- that they say.
-pub record CoreStarted (A : Inputs) (new : Underway) (holds : Option (List NamedFile)) (image : List ℕ) (j : Option (List ℕ)) : Type 0 where
+pub record CoreStarted (A : Inputs) (new : Underway) (holds : Option (List NamedFile)) (image : SwapImage) (j : Option SwapImage) : Type 0 where
   pub holdings : Holdings
   pub can : CanRun A holdings
   pub units : List Entry
   pub state : State
-  pub behind : List ℕ
+  pub behind : SwapImage
   pub leads : Leads A (start A holdings) (machine_at_start A holdings) image units state new.machine.kernel j
   pub same : SameBut (start A holdings) state
   pub at : CoreAt A state new holds j behind
@@ -40,12 +41,12 @@ pub record CoreStarted (A : Inputs) (new : Underway) (holds : Option (List Named
   pub swapped : behind ≡ swapped_from A (start A holdings) units image
 
 -- for all inputs that are those of the machine, with these first processes, where the files hold the images and a swap image is told
-abbrev pub StartsRun : Underway → Underway → List ℕ → Option (List NamedFile) → Option (List ℕ) → Option (List ℕ) → Type 0
+abbrev pub StartsRun : Underway → Underway → List ℕ → Option (List NamedFile) → Option SwapImage → Option SwapImage → Type 0
 StartsRun old new numbers holds i j =
-    (A : Inputs) (image : List ℕ) → IsTold A old.machine numbers holds image → InputsOf A old.machine → i ≡ Some image → CoreStarted A new holds image j
+    (A : Inputs) (image : SwapImage) → IsTold A old.machine numbers holds image → InputsOf A old.machine → i ≡ Some image → CoreStarted A new holds image j
 
 -- The run stops as the processes begin, for want of memory; or after next units of the run.
-abbrev pub StopsStartingRun : Inputs → Standing → List ℕ → Stop → Option (List ℕ) → Type 0
+abbrev pub StopsStartingRun : Inputs → Standing → SwapImage → Stop → Option SwapImage → Type 0
 StopsStartingRun A new image stop j =
     StopsBeginning new image stop j
     ⊎ ((hs : Holdings) × CanRun A hs × StopsAccounted A (start A hs) (machine_at_start A hs) image stop new j)

@@ -1,5 +1,6 @@
 //! What a line of the schedule asks for, but to run a process.
 ghost use Rattle.std.specs.Prelude.{◌≡◌, ◌⊎◌, ◌≤◌, ℕ, List, [], length, Option, Err, OnOk, OnErr, IfErr};
+ghost use Rattle.vm_facts.specs.SwapImages.{SwapImage};
 ghost use Rattle.io_edge.specs.FileHolding.{NamedFile};
 ghost use Rattle.kernel_model.specs.Kernel.{note_step};
 ghost use Rattle.machine_state.specs.Going.{CanGoOn};
@@ -104,9 +105,9 @@ pub(crate) fn swapper<F: Files, D: SwapDev>(
 /// The numbers of frames and blocks are noted.
 pub fn audit(m: &mut Machine) -> Result<(), Stop>
     requires steady { IsSteady m.old }
-    ensures made { (holds : Option (List NamedFile)) (i : Option (List ℕ))
+    ensures made { (holds : Option (List NamedFile)) (i : Option SwapImage)
         → OnOk result (LeadsFrom (LineAt m.old holds i Event.Audit) (λ A s image. LineLeads A s m.old.kernel image m.new.kernel i)) }
-    ensures stops { (holds : Option (List NamedFile)) (i : Option (List ℕ)) → IfErr result (StopsFrom (LineAt m.old holds i Event.Audit) m.old m.new i) }
+    ensures stops { (holds : Option (List NamedFile)) (i : Option SwapImage) → IfErr result (StopsFrom (LineAt m.old holds i Event.Audit) m.old m.new i) }
     ensures steady { OnOk result (StaysSteady m.old m.new 0) }
     ensures cause { OnErr result ((result ≡ Err Stop.JournalFull) ⊎ (result ≡ Err Stop.NoMemory)) }
     ensures kept { IfErr result (KeptAtStop m.old m.new) }

@@ -1,5 +1,6 @@
 // A run from its start to its end.
 ghost use Rattle.std.specs.Prelude.{◌≡◌, ◌<◌, ◌≤◌, ◌^◌, ℕ, false, List, [], length, Some, Err, All, IfOk, IfErr, OnOk};
+ghost use Rattle.vm_facts.specs.SwapImages.{SwapImage};
 ghost use Rattle.flat_state.specs.Flat.{Inputs};
 ghost use Rattle.flat_model.specs.Asked.{start_held};
 ghost use Rattle.machine_state.specs.Files.{AreFiles};
@@ -119,14 +120,14 @@ fn run_through<F: Files, D: SwapDev>(
     requires count { length lines.now < 2 ^ 32 }
     requires area { core.old.machine.params.swap_blocks ≤ D.blocks swap.old }
     requires files { AreFiles core.old.machine.images (F.holds files.old) }
-    ensures ends { (A : Inputs) (image : List ℕ) → IsAskedOf A core.old.machine first.now lines.now (F.holds files.old) image → D.image swap.old ≡ Some image
+    ensures ends { (A : Inputs) (image : SwapImage) → IsAskedOf A core.old.machine first.now lines.now (F.holds files.old) image → D.image swap.old ≡ Some image
         → RunEnds A core.new.machine.kernel.journal image result (D.image swap.new) }
-    ensures full { (A : Inputs) (image : List ℕ) → IsAskedOf A core.old.machine first.now lines.now (F.holds files.old) image → D.image swap.old ≡ Some image
+    ensures full { (A : Inputs) (image : SwapImage) → IsAskedOf A core.old.machine first.now lines.now (F.holds files.old) image → D.image swap.old ≡ Some image
         → result ≡ Err (Unfinished.Stopped Stop.JournalFull) → RunFull A core.new.machine image }
-    ensures left { (A : Inputs) (image : List ℕ) → IsAskedOf A core.old.machine first.now lines.now (F.holds files.old) image → D.image swap.old ≡ Some image
+    ensures left { (A : Inputs) (image : SwapImage) → IsAskedOf A core.old.machine first.now lines.now (F.holds files.old) image → D.image swap.old ≡ Some image
         → (stop : Halt) → result ≡ Err (Unfinished.Stopped stop) → RunStopsAt A stop core.new.machine image }
     ensures over { OnOk result
-        ((A : Inputs) (image : List ℕ) → IsAskedOf A core.old.machine first.now lines.now (F.holds files.old) image → D.image swap.old ≡ Some image
+        ((A : Inputs) (image : SwapImage) → IsAskedOf A core.old.machine first.now lines.now (F.holds files.old) image → D.image swap.old ≡ Some image
         → RunOver A core.new.machine image) }
     ensures goes_on { OnOk result (StandsUnderway core.new) }
     ensures running { OnOk result (IsRunning core.new.machine) }
@@ -167,14 +168,14 @@ pub fn run_schedule<F: Files, D: SwapDev>(
     requires count { length lines.now < 2 ^ 32 }
     requires area { core.old.machine.params.swap_blocks ≤ D.blocks swap.old }
     requires files { AreFiles core.old.machine.images (F.holds files.old) }
-    ensures ends { (A : Inputs) (image : List ℕ) → IsAskedOf A core.old.machine first.now lines.now (F.holds files.old) image → D.image swap.old ≡ Some image
+    ensures ends { (A : Inputs) (image : SwapImage) → IsAskedOf A core.old.machine first.now lines.now (F.holds files.old) image → D.image swap.old ≡ Some image
         → RunEnds A core.new.machine.kernel.journal image result (D.image swap.new) }
-    ensures full { (A : Inputs) (image : List ℕ) → IsAskedOf A core.old.machine first.now lines.now (F.holds files.old) image → D.image swap.old ≡ Some image
+    ensures full { (A : Inputs) (image : SwapImage) → IsAskedOf A core.old.machine first.now lines.now (F.holds files.old) image → D.image swap.old ≡ Some image
         → result ≡ Err (Unfinished.Stopped Stop.JournalFull) → RunFull A core.new.machine image }
-    ensures left { (A : Inputs) (image : List ℕ) → IsAskedOf A core.old.machine first.now lines.now (F.holds files.old) image → D.image swap.old ≡ Some image
+    ensures left { (A : Inputs) (image : SwapImage) → IsAskedOf A core.old.machine first.now lines.now (F.holds files.old) image → D.image swap.old ≡ Some image
         → (stop : Halt) → result ≡ Err (Unfinished.Stopped stop) → RunStopsAt A stop core.new.machine image }
     ensures over { OnOk result
-        ((A : Inputs) (image : List ℕ) → IsAskedOf A core.old.machine first.now lines.now (F.holds files.old) image → D.image swap.old ≡ Some image
+        ((A : Inputs) (image : SwapImage) → IsAskedOf A core.old.machine first.now lines.now (F.holds files.old) image → D.image swap.old ≡ Some image
         → RunOver A core.new.machine image) }
     ensures goes_on { OnOk result (StandsUnderway core.new) }
     ensures running { OnOk result (IsRunning core.new.machine) }

@@ -1,5 +1,6 @@
 //! The start of a run.
 ghost use Rattle.std.specs.Prelude.{◌≡◌, ◌≤◌, ℕ, List, [], length, Some, IfOk, IfErr, Ok};
+ghost use Rattle.vm_facts.specs.SwapImages.{SwapImage};
 ghost use Rattle.flat_state.specs.Flat.{Inputs};
 ghost use Rattle.flat_model.specs.Asked.{start_held};
 ghost use Rattle.machine_state.specs.Files.{AreFiles};
@@ -37,7 +38,7 @@ impl Core {
         ensures kept_params { (pid : ℕ) → result ≡ Ok (Started.NoSpace pid) → self.new.machine.params ≡ self.old.machine.params }
         ensures kept_images { (pid : ℕ) → result ≡ Ok (Started.NoSpace pid) → self.new.machine.images ≡ self.old.machine.images }
         ensures starts { result ≡ Ok Started.Ok → StartsRun self.old self.new first.now (F.holds files.old) (D.image swap.old) (D.image swap.new) }
-        ensures stops { (A : Inputs) (image : List ℕ) → IsTold A self.old.machine first.now (F.holds files.old) image → D.image swap.old ≡ Some image
+        ensures stops { (A : Inputs) (image : SwapImage) → IsTold A self.old.machine first.now (F.holds files.old) image → D.image swap.old ≡ Some image
             → IfErr result (λ stop. StopsStartingRun A self.new.machine image stop (D.image swap.new)) }
         ensures goes_on { result ≡ Ok Started.Ok → StandsUnderway self.new }
         ensures params { result ≡ Ok Started.Ok → self.new.machine.params ≡ self.old.machine.params }

@@ -1,5 +1,6 @@
 use Rattle.std.proofs.Common.{◌≡◌, ℕ, List, Bool, Option, Result, Ok, sym, ap, ◌∙◌, subst, arith}
 use Rattle.std.proofs.lemmas.Result.{on_ok_weaker}
+use Rattle.vm_facts.specs.SwapImages.{SwapImage}
 use Rattle.vm_facts.specs.declared.stop.Stop.{Stop}
 use Rattle.machine_state.specs.Machine.{Standing}
 use Rattle.machine_state.specs.Conditions.{KeepsFlat}
@@ -26,6 +27,6 @@ returns-clause-keeps g c =
     let j = g.D.SwapDev.image c.done.new.swap in
     let image : j ≡ i = image_idle old.kernel i j (c.in_ok-done.ensures.idle.0 no) c.in_ok-done.ensures.swapped in
     on_ok_weaker c.hand.result (λ (h : KeepsFlat c.done.new.self.kernel c.hand.new.self.kernel).
-    subst (λ (x : Option (List ℕ)). KeepsThrough old c.hand.new.self holds i x) (sym image)
+    subst (λ (x : Option SwapImage). KeepsThrough old c.hand.new.self holds i x) (sym image)
     (keeps_flat old c.hand.new.self holds i (subst (λ (s : Standing). KeepsFlat s.kernel c.hand.new.self.kernel) same h)))
     c.hand.ensures.keeps
