@@ -20,7 +20,7 @@ use Rattle.run_model.specs.Next.{next_unit, next_turned, under, last_turned}
 use Rattle.run_model.specs.Lawful.{Follows}
 use Rattle.run_model.proofs.After.{units_journal}
 use Rattle.run_laws.specs.Longwords.{ProcessesFit}
-use Rattle.run_laws.specs.Machine.{Makes}
+use Rattle.run_laws.specs.Machine.{MakesSwap}
 use Rattle.run_laws.specs.Running.{CanRun}
 use Rattle.run_laws.proofs.Lawful.{follows_state}
 use Rattle.run_laws.proofs.Registers.{start_regs_are}
@@ -113,8 +113,8 @@ module _ (A : Inputs) (old new : Filming) (numbers : List ℕ) (lines : List Eve
 
     same_image : behind ≡ image
     same_image =
-        let none : Makes A (start A hs) (machine_at_start A hs) image [] t new.machine.kernel l.behind =
-        subst (λ (xs : List Entry). Makes A (start A hs) (machine_at_start A hs) image xs t new.machine.kernel l.behind) no_unit l.makes in
+        let none : MakesSwap A (start A hs) (machine_at_start A hs) image [] t new.machine.kernel l.behind =
+        subst (λ (xs : List Entry). MakesSwap A (start A hs) (machine_at_start A hs) image xs t new.machine.kernel l.behind) no_unit l.makes in
         same_Some behind l.behind l.told ∙ sym none.2
 
     stands : StandsIn A t new.machine holds j behind new.counted

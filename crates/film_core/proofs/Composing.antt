@@ -14,7 +14,7 @@ use Rattle.run_model.specs.After.{after}
 use Rattle.run_model.specs.Lawful.{Follows}
 use Rattle.run_model.proofs.After.{units_journal}
 use Rattle.run_model.proofs.Followed.{followed_on}
-use Rattle.run_laws.specs.Machine.{StandsAt, Makes, unit_step, unit_image}
+use Rattle.run_laws.specs.Machine.{StandsAt, MakesSwap, unit_step, unit_swap}
 use Rattle.run_laws.proofs.Finishing.{units_below}
 use Rattle.run_laws.proofs.Going.{unit_goes}
 use Rattle.run_laws.proofs.Lawful.{follows_state}
@@ -83,17 +83,17 @@ stands_then A s t old new holds i j image us counted count r st a params images 
     (let most = reached_below A t (leads_reached A s t old.kernel new.kernel image us j r a) in omega (arith, most, same))
 
 -- no unit stops the machine
-makes_run : (A : Inputs) (us : List Entry) (s t : State) (k l : Kernel) (image behind : SwapImage) → Makes A s k image us t l behind → l.stopped ≡ k.stopped
+makes_run : (A : Inputs) (us : List Entry) (s t : State) (k l : Kernel) (image behind : SwapImage) → MakesSwap A s k image us t l behind → l.stopped ≡ k.stopped
 makes_run A [] s t k l image behind m = sym (ap (λ (x : Kernel). x.stopped) m.1)
 makes_run A (u ∷ us) s t k l image behind m =
-    makes_run A us (after A s u) t (unit_step A s k image m.1.0 u) l (unit_image k image u) behind m.1.2 ∙ unit_goes A s k image m.1.0 u
+    makes_run A us (after A s u) t (unit_step A s k image.bytes m.1.0 u) l (unit_swap k image u) behind m.1.2 ∙ unit_goes A s k image.bytes m.1.0 u
 
 pub leads_run : (A : Inputs) (s t : State) (k l : Kernel) (image : SwapImage) (us : List Entry) (j : Option SwapImage) → Leads A s k image us t l j
     → k.stopped ≡ false → l.stopped ≡ false
 leads_run A s t k l image us j a r = makes_run A us s t k l image a.behind a.makes ∙ r
 
 -- the journal of a machine at a state that was reached
-pub journal_of_reached : (A : Inputs) (t : State) (l : Kernel) (behind : SwapImage) → length A.first ≤ 64 → (r : IsReached A t) → StandsAt A t l behind
+pub journal_of_reached : (A : Inputs) (t : State) (l : Kernel) (behind : SwapImage) → length A.first ≤ 64 → (r : IsReached A t) → StandsAt A t l behind.bytes
     → IsJournalOf A l.journal t
 journal_of_reached A t l behind few r at =
     let lawful = journal_lawful A r.holdings r.units t r.can r.follows in
@@ -113,8 +113,8 @@ pub reached_of_journal : (A : Inputs) (s : State) (journal : List Entry) → IsJ
 reached_of_journal A s journal m = record { holdings = m.holdings; can = m.can; units = m.units; follows = m.follows }
 
 -- a machine's journal gets no shorter
-pub leads_longer : (A : Inputs) (s t : State) (k l : Kernel) (image behind : SwapImage) (us : List Entry) (j : Option SwapImage) → StandsAt A s k image
-    → StandsAt A t l behind → Leads A s k image us t l j
+pub leads_longer : (A : Inputs) (s t : State) (k l : Kernel) (image behind : SwapImage) (us : List Entry) (j : Option SwapImage) → StandsAt A s k image.bytes
+    → StandsAt A t l behind.bytes → Leads A s k image us t l j
     → length k.journal ≤ length l.journal
 leads_longer A s t k l image behind us j at there a =
     let grown : t.journal ≡ appended s.journal us =

@@ -68,7 +68,7 @@ wide_goes A s old mid mark lines taken counted holds i image e at = subst (λ (m
 
 -- Units that lead to where none comes make a journal longer.
 
-grown : (A : Inputs) (s t : State) (k l : Kernel) (image behind : SwapImage) (us : List Entry) (j : Option SwapImage) → StandsAt A s k image → StandsAt A t l behind
+grown : (A : Inputs) (s t : State) (k l : Kernel) (image behind : SwapImage) (us : List Entry) (j : Option SwapImage) → StandsAt A s k image.bytes → StandsAt A t l behind.bytes
     → Leads A s k image us t l j
     → l.journal ≡ appended k.journal us
 grown A s t k l image behind us j at there a =

@@ -12,7 +12,7 @@ use Rattle.flat_state.specs.Journal.{instructions_of}
 use Rattle.kernel_model.specs.Unit.{proc_of}
 use Rattle.machine_state.specs.Going.{CanGoOn}
 use Rattle.machine_state.specs.Machine.{Standing}
-use Rattle.machine_state.specs.Swapping.{IsIn}
+use Rattle.machine_state.specs.Swapping.{AsksU, IsIn}
 use Rattle.run_model.specs.declared.mark.Mark.{Mark}
 use Rattle.run_model.specs.declared.mark.Mark.TheVariants as marks
 use Rattle.run_model.specs.State.{State}
@@ -277,11 +277,12 @@ hands_fit A s m left counted holds i image at = at.order
 
 -- Processes that come in and go out.
 
-pub bring_rests : (old new : Standing) (pid counted : ℕ) (holds : Option (List NamedFile)) (i j : Option SwapImage) → IsIn old.kernel new.kernel pid i → j ≡ i
+pub bring_rests : (old new : Standing) (pid counted : ℕ) (holds : Option (List NamedFile)) (i j : Option SwapImage) → IsIn old.kernel new.kernel pid i → AsksU old.kernel pid i j
     → LeadsFrom (RestAt old (marks.BringIn pid) counted holds i) (RestDone old new (marks.BringIn pid) counted j)
-bring_rests old new pid counted holds i j is same A s image at =
+bring_rests old new pid counted holds i j is asks A s image at =
     line_rest A s old new (marks.BringIn pid) counted holds i j image at refl
-    (in_comes A s old new image j pid at.clear at.mark (subst (λ (o : Option SwapImage). IsIn old.kernel new.kernel pid o) at.stands.told is) (same ∙ at.stands.told))
+    (in_comes A s old new image j pid at.clear at.mark (subst (λ (o : Option SwapImage). IsIn old.kernel new.kernel pid o) at.stands.told is)
+    (subst (λ (o : Option SwapImage). AsksU old.kernel pid o j) at.stands.told asks))
 
 pub bring_stops : (old new : Standing) (pid counted : ℕ) (holds : Option (List NamedFile)) (i j : Option SwapImage) (stop : Stop)
     → StopsAt (entries.SwapIn pid) old.kernel i stop new j

@@ -1,5 +1,6 @@
 -- From the start of a run.
 use Rattle.std.proofs.Common.{◌≡◌, ℕ, ◌+◌, ◌≤◌, List, [], ◌∷◌, ◌++◌, length, Option, Some, None, refl, sym, ap, ◌∙◌, arith}
+use Rattle.vm_facts.specs.SwapImages.{SwapImage}
 use Rattle.vm_facts.specs.declared.entry.Entry.{Entry}
 use Rattle.swap_book.specs.Holdings.{Holdings}
 use Rattle.flat_state.specs.Flat.{NamedImage, Inputs, image_numbered, start_if, start_processes}
@@ -7,13 +8,13 @@ use Rattle.flat_state.specs.Journal.{appended}
 use Rattle.kernel_model.specs.Kernel.{Kernel}
 use Rattle.run_model.specs.State.{State, start}
 use Rattle.run_model.specs.Lawful.{Follows, IsLawful}
-use Rattle.run_model.specs.Swapped.{swapped_from, swapped}
+use Rattle.run_model.specs.Swapped.{left_from, swap_left}
 use Rattle.run_model.proofs.After.{units_journal}
 use Rattle.paging_laws.specs.Machine.{StandsAt}
 use Rattle.paging_laws.specs.RunLawsRunning.{CanRun}
 use Rattle.paging_laws.proofs.Lawful.{follows_state}
-use Rattle.paging_laws.proofs.Machines.{makes_follows}
-use Rattle.paging_laws.proofs.SwapImages.{images_same, swapped_same}
+use Rattle.paging_laws.proofs.Machines.{swaps_follow}
+use Rattle.paging_laws.proofs.SwapImages.{images_left, left_same}
 use Rattle.paging_laws.proofs.Wholes.{start_run, reached_lawful}
 use Rattle.run_units.specs.Leads.{Leads}
 use Rattle.run_units.specs.Serving.{At}
@@ -26,15 +27,15 @@ use Rattle.journal_laws.proofs.Stretches.{units_economical}
 
 pub leads_follow : (A : Inputs) (s t : State) (k l : Kernel) (image : SwapImage) (us : List Entry) (j : Option SwapImage) → Leads A s k image us t l j
     → Follows A s us t
-leads_follow A s t k l image us j a = makes_follows A us s t k l image a.behind a.makes
+leads_follow A s t k l image us j a = swaps_follow A us s t k l image a.behind a.makes
 
 pub leads_image : (A : Inputs) (s t : State) (k l : Kernel) (image : SwapImage) (us : List Entry) (j : Option SwapImage) → At A s k image
-    → (a : Leads A s k image us t l j) → a.behind ≡ swapped_from A s us image
-leads_image A s t k l image us j at a = images_same A us s t k l image a.behind at.fit at.run at.stands a.makes
+    → (a : Leads A s k image us t l j) → a.behind ≡ left_from A s us image
+leads_image A s t k l image us j at a = images_left A us s t k l image a.behind at.fit at.run at.stands a.makes
 
 pub leads_told : (A : Inputs) (s t : State) (k l : Kernel) (image : SwapImage) (us : List Entry) (j : Option SwapImage) → At A s k image
-    → Leads A s k image us t l j → j ≡ Some (swapped_from A s us image)
-leads_told A s t k l image us j at a = a.told ∙ ap (λ (x : List ℕ). Some x) (leads_image A s t k l image us j at a)
+    → Leads A s k image us t l j → j ≡ Some (left_from A s us image)
+leads_told A s t k l image us j at a = a.told ∙ ap (λ (x : SwapImage). Some x) (leads_image A s t k l image us j at a)
 
 -- The start.
 
@@ -61,8 +62,8 @@ module _ (A : Inputs) (hs : Holdings) (us : List Entry) (t : State) (can : CanRu
   journal_economical l = units_economical A (start A hs) t us can.images (start_run A hs can) f (let few = few_started A.images 1 A.first in omega (arith, few, l))
 
 pub journal_image : (A : Inputs) (hs : Holdings) (t : State) (k l : Kernel) (image : SwapImage) (us : List Entry) (j : Option SwapImage) → CanRun A hs
-    → StandsAt A (start A hs) k image
-    → Leads A (start A hs) k image us t l j → j ≡ Some (swapped A (appended [] us) image)
+    → StandsAt A (start A hs) k image.bytes
+    → Leads A (start A hs) k image us t l j → j ≡ Some (swap_left A (appended [] us) image)
 journal_image A hs t k l image us j can at a =
     leads_told A (start A hs) t k l image us j (record { fit = can.images; run = start_run A hs can; stands = at }) a
-    ∙ ap (λ (x : List ℕ). Some x) (swapped_same A hs us (appended [] us) t image can (leads_follow A (start A hs) t k l image us j a) refl)
+    ∙ ap (λ (x : SwapImage). Some x) (left_same A hs us (appended [] us) t image can (leads_follow A (start A hs) t k l image us j a) refl)

@@ -9,7 +9,7 @@ use Rattle.kernel_model.specs.Kernel.{Kernel}
 use Rattle.kernel_model.specs.Start.{ImagesFit}
 use Rattle.run_model.specs.State.{State, start}
 use Rattle.run_model.specs.Lawful.{Follows, IsLawful}
-use Rattle.run_model.specs.Swapped.{swapped_from, swapped}
+use Rattle.run_model.specs.Swapped.{left_from, swap_left}
 use Rattle.paging_laws.specs.Machine.{StandsAt}
 use Rattle.paging_laws.specs.RunLawsRunning.{IsRun, CanRun}
 use Rattle.run_units.specs.Leads.{Leads}
@@ -28,10 +28,10 @@ abbrev pub UnitsAreEconomical : Type 0
 UnitsAreEconomical = (A : Inputs) (s t : State) (us : List Entry)
     → ImagesFit A.images → IsRun A s → length s.point.flat.processes ≤ 64 → Follows A s us t → Economy A s us
 
--- the swap image that a machine comes to with these units is the one that they say
+-- the swap image that a machine comes to with these units is the one that they say, with their requests and no others
 abbrev pub LeadsSayImage : Type 0
 LeadsSayImage = (A : Inputs) (s t : State) (k l : Kernel) (image : SwapImage) (us : List Entry) (j : Option SwapImage)
-    → At A s k image → Leads A s k image us t l j → j ≡ Some (swapped_from A s us image)
+    → At A s k image → Leads A s k image us t l j → j ≡ Some (left_from A s us image)
 
 -- Next units, from the start of a run.
 
@@ -53,4 +53,4 @@ JournalsAreEconomical = (A : Inputs) (hs : Holdings) (us : List Entry) (t : Stat
 -- the swap image that a machine comes to is the one that the journal says
 abbrev pub JournalsLeaveImage : Type 0
 JournalsLeaveImage = (A : Inputs) (hs : Holdings) (t : State) (k l : Kernel) (image : SwapImage) (us : List Entry) (j : Option SwapImage)
-    → CanRun A hs → StandsAt A (start A hs) k image → Leads A (start A hs) k image us t l j → j ≡ Some (swapped A (appended [] us) image)
+    → CanRun A hs → StandsAt A (start A hs) k image.bytes → Leads A (start A hs) k image us t l j → j ≡ Some (swap_left A (appended [] us) image)

@@ -12,7 +12,8 @@ pub fn units_are_economical()
     ensures { UnitsAreEconomical }
 {}
 
-/// A machine that stands at a state of a run, and is led on by next units, leaves the swap image that these units say.
+/// A machine that stands at a state of a run, and is led on by next units, leaves the swap image that these units say, and asked of
+/// swap what they ask, in their order, and nothing else.
 pub fn leads_say_image()
     ensures { LeadsSayImage }
 {}

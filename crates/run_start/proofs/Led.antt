@@ -36,12 +36,12 @@ pub all_began : (started : Started) (numbers : List ℕ) (old begun : Standing) 
 all_began started numbers old begun e b = subst (λ (s : Started). Begins s numbers old begun) e b
 
 -- the machine at the start stands there
-pub stands_at_start : (A : Inputs) (hs : Holdings) (image : SwapImage) → CanRun A hs → 512 * A.swap_blocks ≤ length image
+pub stands_at_start : (A : Inputs) (hs : Holdings) (image : SwapImage) → CanRun A hs → 512 * A.swap_blocks ≤ length image.bytes
     → At A (start A hs) (machine_at_start A hs) image
 stands_at_start A hs image can room = record {
   fit = can.images;
   run = run_start A hs can.images can.first can.frames can.pieces;
-  stands = start_keeps A hs (replicate A.frames zeros) image can (length-replicate {A = List ℕ} A.frames zeros) room;
+  stands = start_keeps A hs (replicate A.frames zeros) image.bytes can (length-replicate {A = List ℕ} A.frames zeros) room;
 }
 
 module _ (A : Inputs) (numbers : List ℕ) (old begun : Standing) (holds : Option (List NamedFile)) (image : SwapImage) (is_new : IsNew old) (big : 64 ≤ old.params.frames)

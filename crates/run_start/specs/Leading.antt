@@ -26,7 +26,7 @@ pub record IsTold (A : Inputs) (m : Standing) (numbers : List ℕ) (holds : Opti
   pub starts : StartsFrom A m numbers
   pub images : AreImages m.images holds A.images
   pub fit : ImagesFit A.images
-  pub room : 512 * A.swap_blocks ≤ length image
+  pub room : 512 * A.swap_blocks ≤ length image.bytes
 
 -- the whole machine at the start of a run, with zeros in each frame
 abbrev pub machine_at_start : Inputs → Holdings → Kernel

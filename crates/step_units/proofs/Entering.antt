@@ -34,7 +34,7 @@ use Rattle.run_model.specs.After.{after}
 use Rattle.run_model.specs.Act.{act, must_settle}
 use Rattle.run_model.specs.Next.{next_unit}
 use Rattle.run_model.specs.Kinds.{ProcessRuns}
-use Rattle.run_units.specs.Machine.{unit_image, Completes, EndsStep}
+use Rattle.run_units.specs.Machine.{unit_swap, Completes, EndsStep}
 use Rattle.run_units.proofs.Flows.{runs_next}
 use Rattle.run_units.specs.Leads.{MadeAs, Leads}
 use Rattle.run_units.specs.Serving.{At}
@@ -60,7 +60,7 @@ pub entry_leads : (A : Inputs) (s : State) (k l : Kernel) (image : SwapImage) (p
 entry_leads A s k l image pid now e r w a m =
     let t : State = after A s e in
     subst (λ (o : Option SwapImage). Leads A s k image (e ∷ []) t l o) (sym m.told)
-    (first_leads A s t k l l image (Some image) (Some (unit_image k image e)) e [] (runs_next A s pid now e r w a) m (none_leads A t l (unit_image k image e)))
+    (first_leads A s t k l l image (Some image) (Some (unit_swap k image e)) e [] (runs_next A s pid now e r w a) m (none_leads A t l (unit_swap k image e)))
 
 between_ends : (pid : ℕ) (e : Entry) → EndsStep pid e → IsBetween (Some e)
 between_ends pid (entries.Refused q) c = absurd c

@@ -21,7 +21,7 @@ use Rattle.run_model.specs.State.{State}
 use Rattle.run_model.specs.Wanted.{locked as locked_now}
 use Rattle.run_model.specs.After.{after, place_at}
 use Rattle.run_model.specs.Next.{next_unit}
-use Rattle.run_units.specs.Machine.{unit_image}
+use Rattle.run_units.specs.Machine.{unit_swap}
 use Rattle.run_units.proofs.Marks.{IsFree, due_free}
 use Rattle.run_units.proofs.Allowed.{first_after}
 use Rattle.run_units.specs.Leads.{MadeAs, Leads}
@@ -78,7 +78,7 @@ fill_made : (A : Inputs) (s : State) (k : Kernel) (image : SwapImage) (d : Due) 
 fill_made A s k image (Start q) = record { read = []; given = tt; made = refl; told = refl }
 fill_made A s k image (CopyOf q parent) = record { read = []; given = tt; made = refl; told = refl }
 
-fill_image : (k : Kernel) (image : SwapImage) (d : Due) → unit_image k image (fill_entry d) ≡ image
+fill_image : (k : Kernel) (image : SwapImage) (d : Due) → unit_swap k image (fill_entry d) ≡ image
 fill_image k image (Start q) = refl
 fill_image k image (CopyOf q parent) = refl
 

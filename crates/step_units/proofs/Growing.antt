@@ -159,7 +159,7 @@ pub record GrownBefore (A : Inputs) (s : State) (old between : Standing) (holds 
   pub entry : Entry
   pub next : next_unit A s ≡ Some entry
   pub made : MadeAs A s old.kernel image entry between.kernel (Some image)
-  pub plain : Rattle.run_units.specs.Machine.unit_image old.kernel image entry ≡ image
+  pub plain : Rattle.run_units.specs.Machine.unit_swap old.kernel image entry ≡ image
   pub waits : WaitsFor A (after A s entry) between holds image pid now before q
   pub count : (after A s entry).count ≡ s.count
   pub lines : (after A s entry).lines ≡ s.lines

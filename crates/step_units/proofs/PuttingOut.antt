@@ -20,7 +20,7 @@ use Rattle.kernel_model.specs.UPage.{AreRegs}
 use Rattle.kernel_model.specs.Unit.{proc_of}
 use Rattle.machine_state.specs.Machine.{Standing}
 use Rattle.machine_state.specs.Calls.{life_in}
-use Rattle.machine_state.specs.Swapping.{WritesU, IsIn}
+use Rattle.machine_state.specs.Swapping.{WritesU, AsksU, IsIn}
 use Rattle.kernel_laws.proofs.Flat.Lists.{pid_of, found_is}
 use Rattle.kernel_laws.proofs.Machine.Tables.{kept_pid, outlines_at, outline_at}
 use Rattle.kernel_laws.proofs.Machine.Swaps.{found_at}
@@ -144,7 +144,7 @@ kept_registers A s k image pid sid at h o fit p e =
     let number : h.process.pid ≡ pid = (found_at s.point.flat pid h.process h.here).0 in
     let resident : is_out k.place h.process.pid ≡ false = ap (is_out k.place) number ∙ ap (λ (y : Placement). is_out y pid) at.stands.place ∙ o in
     let regs = at.stands.keeps.coupled.regs h.process p (ap (process_of s.point.flat) number ∙ h.here) (ap (proc_of k) number ∙ e) in
-    let same : p.regs ≡ h.process.regs = subst (λ (b : Bool). KeepsRegs k image b h.process p.regs (space_of_holding h.process.holding)) resident regs in
+    let same : p.regs ≡ h.process.regs = subst (λ (b : Bool). KeepsRegs k image.bytes b h.process p.regs (space_of_holding h.process.holding)) resident regs in
     subst AreRegs (sym same) (fits_found s.point.flat.processes pid h.process fit h.here)
 
 -- What the swapper does.
@@ -166,15 +166,16 @@ nothing_made A s old new image j c m e i = record {
 
 pub in_comes : (A : Inputs) (s : State) (old new : Standing) (image : SwapImage) (j : Option SwapImage) (pid : ℕ) → IsClear s → s.mark ≡ marks.BringIn pid
     → IsIn old.kernel new.kernel pid (Some image)
-    → j ≡ Some image → LineLeads A s old.kernel image new.kernel j
+    → AsksU old.kernel pid (Some image) j → LineLeads A s old.kernel image new.kernel j
 unfolding after
-in_comes A s old new image j pid c m i e =
+in_comes A s old new image j pid c m i a =
     let u : Entry = entries.SwapIn pid in
+    let made : MadeAs A s old.kernel image u new.kernel j = in_made A s old.kernel new.kernel image j pid i a in
     record {
       units = u ∷ [];
       state = after A s u;
-      leads = subst (λ (o : Option SwapImage). Leads A s old.kernel image (u ∷ []) (after A s u) new.kernel o) (sym e)
-          (one_leads A s old.kernel new.kernel image (Some image) u ((line_asks A s c.clear).0 pid m) (in_made A s old.kernel new.kernel image pid i));
+      leads = subst (λ (o : Option SwapImage). Leads A s old.kernel image (u ∷ []) (after A s u) new.kernel o) (sym made.told)
+          (one_leads A s old.kernel new.kernel image j u ((line_asks A s c.clear).0 pid m) made);
       over = record { clear = c.clear; between = c.between; over = ap (under A (after A s u)) (ap brought_in m) };
       point = refl;
       count = refl;

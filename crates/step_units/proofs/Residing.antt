@@ -20,7 +20,7 @@ use Rattle.run_model.specs.Wanted.{locked}
 use Rattle.run_model.specs.After.{after, place_at, place_behind}
 use Rattle.run_model.specs.Snapshot.{pages_written}
 use Rattle.run_model.specs.Next.{fill_unit, next_unit}
-use Rattle.run_units.specs.Machine.{Makes, unit_step, unit_image}
+use Rattle.run_units.specs.Machine.{MakesSwap, unit_step, unit_swap}
 use Rattle.run_units.proofs.Flows.{Acted, Settles, Refuses, Steps, acted, steps_own}
 use Rattle.run_units.proofs.Outs.{change_out}
 use Rattle.run_units.proofs.Paging.{Leaver, entry_out}
@@ -133,12 +133,12 @@ not_out p q n f h = go (is_out q n) refl
     go true e = let k = sym h ∙ f e in cc
 
 all_stay_in : (A : Inputs) (us : List Entry) (s t : State) (k l : Kernel) (image behind : SwapImage) (pid n : ℕ) → IsClosing A s pid
-    → Makes A s k image us t l behind
+    → MakesSwap A s k image us t l behind
     → is_out s.place n ≡ false → is_out t.place n ≡ false
 all_stay_in A [] s t k l image behind pid n c m h = subst (λ (x : State). is_out x.place n ≡ false) m.0 h
 all_stay_in A (u ∷ us) s t k l image behind pid n c m h =
     let d = still_closing A s u pid c m.0 in
-    all_stay_in A us (after A s u) t (unit_step A s k image m.1.0 u) l (unit_image k image u) behind d.0 n d.1 m.1.2
+    all_stay_in A us (after A s u) t (unit_step A s k image.bytes m.1.0 u) l (unit_swap k image u) behind d.0 n d.1 m.1.2
     (not_out s.place (after A s u).place n (out_before A s u n (none_leaves A s u pid n c m.0)) h)
 
 pub closing_stays_in : (A : Inputs) (s t : State) (k l : Kernel) (image : SwapImage) (j : Option SwapImage) (us : List Entry) (pid n : ℕ)

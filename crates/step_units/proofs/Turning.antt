@@ -1,5 +1,5 @@
 -- Turns begin, and a process that is out comes in for its turn.
-use Rattle.std.proofs.Common.{◌≡◌, ℕ, ◌+◌, ◌<◌, ◌&&◌, ◌==◌, nat_lt, Bool, true, false, cond, List, [], ◌∷◌, find, Option, Some, None, refl, ap, ◌∙◌, subst, arith}
+use Rattle.std.proofs.Common.{◌≡◌, ℕ, ◌+◌, ◌<◌, ◌&&◌, ◌==◌, nat_lt, Bool, true, false, cond, List, [], ◌∷◌, find, Option, Some, None, refl, sym, ap, ◌∙◌, subst, arith}
 use Rattle.std.proofs.lemmas.Bool.Decides.{nat_tests}
 use Rattle.std.proofs.lemmas.Bool.{and_parts}
 use Rattle.vm_facts.specs.SwapImages.{SwapImage}
@@ -14,7 +14,7 @@ use Rattle.page_model.specs.Swapper.{is_out, residence_of}
 use Rattle.page_model.specs.Placement.{Residence}
 use Rattle.kernel_model.specs.Kernel.{Kernel, note_step}
 use Rattle.machine_state.specs.Machine.{Standing}
-use Rattle.machine_state.specs.Swapping.{IsIn}
+use Rattle.machine_state.specs.Swapping.{AsksU, IsIn}
 use Rattle.swapper.specs.Stops.{StopsAt}
 use Rattle.run_units.proofs.Finding.{found_by_number, found_passes}
 use Rattle.run_model.specs.declared.mark.Mark.TheVariants as marks
@@ -22,6 +22,7 @@ use Rattle.run_model.specs.State.{State}
 use Rattle.run_model.specs.After.{after, brought_in, place_at}
 use Rattle.run_model.specs.Next.{when, or_else, due_unit, next_mark, pid_if, next_ready, next_turned, last_turned, goes_on, turn_instructions, turn_unit, turn_by, under, next_unit}
 use Rattle.page_model.specs.Placement.{Due}
+use Rattle.run_units.specs.Leads.{MadeAs, Leads}
 use Rattle.run_units.proofs.Swapping.{note_made, in_made}
 use Rattle.step_units.specs.Machines.{MachineAt}
 use Rattle.step_units.specs.Stepped.{StopLeads}
@@ -85,17 +86,19 @@ comes_next A s pid since c m g o =
     ap (λ (ds : List Due). or_else (due_unit s.place ds) (or_else (under A s s.mark) (next_mark A s))) c.clear
     ∙ ap (λ (x : Option Entry). or_else x (next_mark A s)) (ap (under A s) m ∙ ap (λ (b : Bool). when b (turn_unit A s pid)) g ∙ ap (turn_by A s pid) o)
 
-pub comes_in : (A : Inputs) (s : State) (old new : Standing) (holds : Option (List NamedFile)) (image : SwapImage) (pid since : ℕ)
+pub comes_in : (A : Inputs) (s : State) (old new : Standing) (holds : Option (List NamedFile)) (image : SwapImage) (j : Option SwapImage) (pid since : ℕ)
     → MachineAt A s old holds image → IsClear s
     → s.mark ≡ marks.Turn pid since → goes_on A s pid (since + turn_instructions) ≡ true → is_out s.place pid ≡ true
-    → IsIn old.kernel new.kernel pid (Some image)
-    → CameIn A s old.kernel image pid since new.kernel
+    → IsIn old.kernel new.kernel pid (Some image) → AsksU old.kernel pid (Some image) j
+    → CameIn A s old.kernel image pid since new.kernel j
 unfolding after
-comes_in A s old new holds image pid since at c m g o i =
+comes_in A s old new holds image j pid since at c m g o i a =
     let u : Entry = entries.SwapIn pid in
+    let made : MadeAs A s old.kernel image u new.kernel j = in_made A s old.kernel new.kernel image j pid i a in
     record {
       state = after A s u;
-      leads = one_leads A s old.kernel new.kernel image (Some image) u (comes_next A s pid since c m g o) (in_made A s old.kernel new.kernel image pid i);
+      leads = subst (λ (x : Option SwapImage). Leads A s old.kernel image (u ∷ []) (after A s u) new.kernel x) (sym made.told)
+          (one_leads A s old.kernel new.kernel image j u (comes_next A s pid since c m g o) made);
       clear = record { clear = c.clear; between = c.between };
       resident = moved_in s.place.residents pid (place_at s u);
       point = refl;

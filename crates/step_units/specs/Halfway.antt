@@ -9,7 +9,7 @@ use Rattle.page_model.specs.Swapper.{is_out}
 use Rattle.kernel_model.specs.Kernel.{Kernel}
 use Rattle.machine_state.specs.Calls.{CanComeIn}
 use Rattle.machine_state.specs.Machine.{Standing}
-use Rattle.machine_state.specs.Swapping.{IsIn}
+use Rattle.machine_state.specs.Swapping.{AsksU, IsIn}
 use Rattle.swapper.specs.Stops.{StopsAt}
 use Rattle.swapper.specs.Putting.{HoldsThere, PutOut, StopsPutting}
 use Rattle.run_model.specs.declared.mark.Mark.TheVariants as marks
@@ -58,8 +58,8 @@ PuttingStops =
 -- so is the unit that brings one in
 abbrev pub BringingIsMade : Type 0
 BringingIsMade =
-    (A : Inputs) (s : State) (old new : Standing) (image : SwapImage) (pid : ℕ) → IsClear s → s.mark ≡ marks.BringIn pid
-    → IsIn old.kernel new.kernel pid (Some image) → LineLeads A s old.kernel image new.kernel (Some image)
+    (A : Inputs) (s : State) (old new : Standing) (image : SwapImage) (j : Option SwapImage) (pid : ℕ) → IsClear s → s.mark ≡ marks.BringIn pid
+    → IsIn old.kernel new.kernel pid (Some image) → AsksU old.kernel pid (Some image) j → LineLeads A s old.kernel image new.kernel j
 
 -- or the run stops at it
 abbrev pub BringingStops : Type 0

@@ -11,7 +11,7 @@ use Rattle.page_model.specs.Swapper.{is_out, swap_choice}
 use Rattle.kernel_model.specs.Kernel.{Kernel, note_step}
 use Rattle.machine_state.specs.Machine.{Standing}
 use Rattle.machine_state.specs.Done.{sources, IsDone, ImageAfter, StopsEnding}
-use Rattle.machine_state.specs.Swapping.{IsIn}
+use Rattle.machine_state.specs.Swapping.{AsksU, IsIn}
 use Rattle.swapper.specs.Stops.{StopsAt, StopsBefore}
 use Rattle.proc_calls.specs.Moved.{Moved, StopsMoving}
 use Rattle.swapper.specs.declared.Turned.{Turned}
@@ -181,9 +181,9 @@ TurnStops =
     → StopsBefore old new stop → StopLeads A s old.kernel image stop new (Some image)
 
 -- A process whose turn it is and that is out comes in first: it has its turn yet, and is in.
-pub record CameIn (A : Inputs) (s : State) (k : Kernel) (image : SwapImage) (pid since : ℕ) (l : Kernel) : Type 0 where
+pub record CameIn (A : Inputs) (s : State) (k : Kernel) (image : SwapImage) (pid since : ℕ) (l : Kernel) (j : Option SwapImage) : Type 0 where
   pub state : State
-  pub leads : Leads A s k image (entries.SwapIn pid ∷ []) state l (Some image)
+  pub leads : Leads A s k image (entries.SwapIn pid ∷ []) state l j
   pub clear : IsClear state
   pub resident : is_out state.place pid ≡ false
   pub point : state.point ≡ s.point
@@ -195,10 +195,10 @@ pub record CameIn (A : Inputs) (s : State) (k : Kernel) (image : SwapImage) (pid
 -- the entry by which it comes in is the next unit
 abbrev pub ComingInIsMade : Type 0
 ComingInIsMade =
-    (A : Inputs) (s : State) (old new : Standing) (holds : Option (List NamedFile)) (image : SwapImage) (pid since : ℕ) → MachineAt A s old holds image → IsClear s
-    → s.mark ≡ marks.Turn pid since
+    (A : Inputs) (s : State) (old new : Standing) (holds : Option (List NamedFile)) (image : SwapImage) (j : Option SwapImage) (pid since : ℕ)
+    → MachineAt A s old holds image → IsClear s → s.mark ≡ marks.Turn pid since
     → goes_on A s pid (since + turn_instructions) ≡ true → is_out s.place pid ≡ true → IsIn old.kernel new.kernel pid (Some image)
-    → CameIn A s old.kernel image pid since new.kernel
+    → AsksU old.kernel pid (Some image) j → CameIn A s old.kernel image pid since new.kernel j
 
 -- where the machine stops before that entry, next units lead to the stop
 abbrev pub ComingInStops : Type 0

@@ -8,7 +8,7 @@ use Rattle.flat_state.specs.Flat.{Inputs}
 use Rattle.kernel_model.specs.Kernel.{Kernel}
 use Rattle.machine_state.specs.Machine.{Standing}
 use Rattle.run_model.specs.State.{State}
-use Rattle.run_model.specs.Swapped.{swapped_from}
+use Rattle.run_model.specs.Swapped.{left_from}
 use Rattle.journal_laws.specs.Leads.{Leads}
 use Rattle.journal_laws.specs.Serving.{At}
 use Rattle.run_start.specs.Stepped.{StopLeads}
@@ -26,8 +26,8 @@ module _ (A : Inputs) (s t : State) (k l : Kernel) (image : SwapImage) (us : Lis
   pub leads_economical : length s.point.flat.processes ≤ 64 → Economy A s us
   leads_economical crowd = units_economical A s t us at.fit at.run (leads_follow A s t k l image us j leads) crowd
 
-  pub leads_swapped : (behind : SwapImage) → j ≡ Some behind → behind ≡ swapped_from A s us image
-  leads_swapped behind told = same_Some behind (swapped_from A s us image) (sym told ∙ leads_told A s t k l image us j at leads)
+  pub leads_swapped : (behind : SwapImage) → j ≡ Some behind → behind ≡ left_from A s us image
+  leads_swapped behind told = same_Some behind (left_from A s us image) (sym told ∙ leads_told A s t k l image us j at leads)
 
 pub stop_accounted : (A : Inputs) (s : State) (k : Kernel) (image : SwapImage) (stop : Stop) (new : Standing) (j : Option SwapImage) → At A s k image
     → length s.point.flat.processes ≤ 64

@@ -1,7 +1,7 @@
 -- What the machine makes of each line, by what its calls say.
 use Rattle.std.proofs.Common.{◌≡◌, ◌≤◌, ◌<◌, ℕ, Bool, true, false, List, [], ◌∷◌, length, Option, Some, None, Result, Ok, Err, refl, sym, ap, ◌∙◌, subst, arith}
 use Rattle.std.specs.Prelude.{◌↔◌}
-use Rattle.vm_facts.specs.SwapImages.{SwapImage}
+use Rattle.vm_facts.specs.SwapImages.{SwapImage, with_requests}
 use Rattle.vm_facts.specs.declared.event.Event.TheVariants as events
 use Rattle.vm_facts.specs.declared.stop.Stop.{Stop}
 use Rattle.vm_facts.specs.declared.stop.Stop.TheVariants as stops
@@ -10,6 +10,7 @@ use Rattle.flat_state.specs.Flat.{Inputs}
 use Rattle.page_model.specs.Placement.{Placement, Transfer}
 use Rattle.page_model.specs.Swapper.{swap_choice}
 use Rattle.kernel_model.specs.Kernel.{note_step, image_after_of}
+use Rattle.kernel_model.specs.SwapRequests.{oldest_asks}
 use Rattle.machine_state.specs.Going.{CanGoOn}
 use Rattle.machine_state.specs.Machine.{Standing}
 use Rattle.machine_state.specs.Conditions.{HasStopped}
@@ -49,7 +50,8 @@ idle_makes : (old : Standing) (holds : Option (List NamedFile)) (i j : Option Sw
 idle_makes old holds i j none after A s image at =
     let told : j ≡ Some image =
     subst (λ (o : Option SwapImage). ImageAfter old.kernel o j) at.told after
-    ∙ ap (λ (ts : List Transfer). let o : Option SwapImage = Some (image_after_of old.kernel image ts) in o) none in
+    ∙ ap (λ (ts : List Transfer).
+    let o : Option SwapImage = Some (with_requests (oldest_asks old.kernel.holdings ts) (record image { bytes = image_after_of old.kernel image.bytes ts })) in o) none in
     record {
       units = [];
       state = s;

@@ -17,7 +17,7 @@ use Rattle.run_model.specs.Next.{or_else, when, due_unit, under, turn_of, line_o
 use Rattle.run_model.specs.Lawful.{Follows}
 use Rattle.run_model.proofs.After.{after_count}
 use Rattle.run_laws.proofs.Lawful.{next_is_unit}
-use Rattle.run_laws.proofs.Machines.{makes_follows}
+use Rattle.run_laws.proofs.Machines.{swaps_follow}
 use Rattle.journal_laws.specs.Stretch.{turns_of, counts, NoneCounts}
 use Rattle.journal_laws.proofs.Idle.{count_most, few_turns}
 use Rattle.journal_laws.specs.Leads.{Leads}
@@ -140,7 +140,7 @@ closing_on old mid new holds i h j counted count last idle pid more now f next b
     let first : Leads A s old.kernel image c.units c.state mid.kernel (Some c.behind) =
     subst (λ (o : Option SwapImage). Leads A s old.kernel image c.units c.state mid.kernel o) c.stands.told c.leads in
     let lines : length A.lines ≡ d.state.lines = c.lines ∙ sym d.lines in
-    let follows : Follows A c.state (entries.Turn pid ∷ d.more) d.state = makes_follows A (entries.Turn pid ∷ d.more) c.state d.state mid.kernel new.kernel c.behind d.leads.behind d.leads.makes in
+    let follows : Follows A c.state (entries.Turn pid ∷ d.more) d.state = swaps_follow A (entries.Turn pid ∷ d.more) c.state d.state mid.kernel new.kernel c.behind d.leads.behind d.leads.makes in
     record {
       units = c.units ++ entries.Turn pid ∷ d.more;
       state = d.state;

@@ -2,6 +2,7 @@
 use Rattle.std.proofs.Common.{◌≡◌, ◌⊎◌, inl, inr, ℕ, ◌*◌, ◌<◌, ◌≤◌, false, List, [], ◌∷◌, length, replicate, Option, Some, None, refl, sym, ap, ◌∙◌, subst}
 use Rattle.std.proofs.lemmas.List.{length-replicate}
 use Rattle.std.proofs.lemmas.Option.{same_Some}
+use Rattle.vm_facts.specs.SwapImages.{SwapImage}
 use Rattle.vm_facts.specs.declared.entry.Entry.{Entry}
 use Rattle.vm_facts.specs.declared.entry.Entry.TheVariants as entries
 use Rattle.vm_facts.specs.declared.stop.Stop.{Stop}
@@ -13,10 +14,10 @@ use Rattle.flat_state.specs.Journal.{append, appended}
 use Rattle.page_model.specs.PageBytes.{zeros}
 use Rattle.page_model.specs.Placement.{Placement, Transfer, Part, Errand}
 use Rattle.page_model.specs.Ownership.{block_of}
-use Rattle.page_model.specs.Stored.{store_at}
 use Rattle.kernel_model.specs.Kernel.{Kernel}
+use Rattle.kernel_model.specs.SwapRequests.{read_at, write_at}
 use Rattle.kernel_model.specs.Coupled.{memory_of}
-use Rattle.machine_state.specs.Done.{SpoilsAll, SpoilsFirst as SpoilsTransfers}
+use Rattle.machine_state.specs.Done.{SpoilsAll, SpoilsFirst as SpoilsTransfers, AskedAll, AskedFirst}
 use Rattle.machine_state.specs.Machine.{Standing}
 use Rattle.machine_state.specs.Failing.{LosesOldest}
 use Rattle.journal_laws.specs.Stops.{CauseBy, SpoilsBy, StaysPut, StaysStarved, StaysReturned, StopsLess, StopsPut, LeftBy}
@@ -24,13 +25,13 @@ use Rattle.run_model.specs.State.{State, start}
 use Rattle.run_model.specs.After.{after}
 use Rattle.run_model.specs.Next.{next_unit}
 use Rattle.run_model.specs.Lawful.{Follows, IsLawful}
-use Rattle.run_model.specs.Swapped.{swapped}
-use Rattle.run_laws.specs.Machine.{StandsAt, Makes, unit_step, unit_image}
+use Rattle.run_model.specs.Swapped.{swap_left}
+use Rattle.run_laws.specs.Machine.{StandsAt, MakesSwap, unit_step, unit_swap}
 use Rattle.run_laws.specs.Images.{AreFlat, WritesFlat, AllFlat as InFlightFlat}
 use Rattle.run_laws.specs.Running.{CanRun}
 use Rattle.run_laws.proofs.Finishing.{finished_ends}
 use Rattle.run_laws.proofs.Going.{unit_goes}
-use Rattle.run_laws.proofs.Machines.{start_keeps, units_keep}
+use Rattle.run_laws.proofs.Machines.{start_keeps, swaps_keep}
 use Rattle.run_laws.proofs.SwapImages.{writes_flat}
 use Rattle.run_laws.proofs.Wholes.{start_run}
 use Rattle.journal_laws.specs.Leads.{Leads}
@@ -38,13 +39,13 @@ use Rattle.run_start.specs.Leading.{machine_at_start}
 use Rattle.run_start.specs.Stepped.{StopLeads, StopsNext}
 use Rattle.journal_laws.proofs.Journals.{leads_follow, journal_lawful, journal_accounted, journal_economical, journal_image}
 use Rattle.vm_core.specs.Cores.{Underway, StandsUnderway}
-use Rattle.vm_core.specs.Halting.{HaltsFor, SpoilsParts, SpoilsOldest, LeavesImage}
+use Rattle.vm_core.specs.Halting.{HaltsFor, SpoilsParts, SpoilsOldest, AsksParts, AsksOldest, LeavesImage}
 use Rattle.vm_core.specs.Lawful.{IsJournalOf, RunFinished, RunHalted, RunStarved}
 use Rattle.vm_core.specs.Full.{StandsThere, StarvedThere, StoppedThere, LessThere, ReturnedThere, LeftThere, RunLeft, RunFull, RunOver}
 
-module _ (A : Inputs) (hs : Holdings) (can : CanRun A hs) (few : length A.first ≤ 64) (image : SwapImage) (room : 512 * A.swap_blocks ≤ length image) where
-  at_start : StandsAt A (start A hs) (machine_at_start A hs) image
-  at_start = start_keeps A hs (replicate A.frames zeros) image can (length-replicate {A = List ℕ} A.frames zeros) room
+module _ (A : Inputs) (hs : Holdings) (can : CanRun A hs) (few : length A.first ≤ 64) (image : SwapImage) (room : 512 * A.swap_blocks ≤ length image.bytes) where
+  at_start : StandsAt A (start A hs) (machine_at_start A hs) image.bytes
+  at_start = start_keeps A hs (replicate A.frames zeros) image.bytes can (length-replicate {A = List ℕ} A.frames zeros) room
 
   module _ (us : List Entry) (t : State) (l : Kernel) (j : Option SwapImage) (a : Leads A (start A hs) (machine_at_start A hs) image us t l j) where
     follows : Follows A (start A hs) us t
@@ -53,8 +54,8 @@ module _ (A : Inputs) (hs : Holdings) (can : CanRun A hs) (few : length A.first 
     lawful : (t.journal ≡ appended [] us) × IsLawful A (appended [] us) t
     lawful = journal_lawful A hs us t can follows
 
-    pub stands : StandsAt A t l a.behind
-    stands = units_keep A us (start A hs) t (machine_at_start A hs) l image a.behind can.images (start_run A hs can) at_start a.makes
+    pub stands : StandsAt A t l a.behind.bytes
+    stands = swaps_keep A us (start A hs) t (machine_at_start A hs) l image a.behind can.images (start_run A hs can) at_start a.makes
 
     pub made : IsJournalOf A l.journal t
     made = record {
@@ -68,20 +69,20 @@ module _ (A : Inputs) (hs : Holdings) (can : CanRun A hs) (few : length A.first 
       economy = journal_economical A hs us t can follows few;
     }
 
-    pub image_told : j ≡ Some (swapped A l.journal image)
+    pub image_told : j ≡ Some (swap_left A l.journal image)
     image_told =
         journal_image A hs t (machine_at_start A hs) l image us j can at_start a
-        ∙ ap (λ (es : List Entry). Some (swapped A es image)) (sym lawful.0 ∙ sym stands.journal)
+        ∙ ap (λ (es : List Entry). Some (swap_left A es image)) (sym lawful.0 ∙ sym stands.journal)
 
 -- no unit stops the run
-makes_run : (A : Inputs) (us : List Entry) (s t : State) (k l : Kernel) (image behind : SwapImage) → Makes A s k image us t l behind → l.stopped ≡ k.stopped
+makes_run : (A : Inputs) (us : List Entry) (s t : State) (k l : Kernel) (image behind : SwapImage) → MakesSwap A s k image us t l behind → l.stopped ≡ k.stopped
 makes_run A [] s t k l image behind m = sym (ap (λ (x : Kernel). x.stopped) m.1)
 makes_run A (u ∷ us) s t k l image behind m =
-    makes_run A us (after A s u) t (unit_step A s k image m.1.0 u) l (unit_image k image u) behind m.1.2 ∙ unit_goes A s k image m.1.0 u
+    makes_run A us (after A s u) t (unit_step A s k image.bytes m.1.0 u) l (unit_swap k image u) behind m.1.2 ∙ unit_goes A s k image.bytes m.1.0 u
 
 -- Where it ends.
 
-pub finished_run : (A : Inputs) (hs : Holdings) (can : CanRun A hs) (few : length A.first ≤ 64) (image : SwapImage) (room : 512 * A.swap_blocks ≤ length image)
+pub finished_run : (A : Inputs) (hs : Holdings) (can : CanRun A hs) (few : length A.first ≤ 64) (image : SwapImage) (room : 512 * A.swap_blocks ≤ length image.bytes)
     (new : Underway) (j : Option SwapImage) (us : List Entry) (t : State)
     → Leads A (start A hs) (machine_at_start A hs) image us t new.machine.kernel j → next_unit A t ≡ None → RunFinished A new.machine.kernel.journal image j
 finished_run A hs can few image room new j us t a none =
@@ -95,7 +96,7 @@ finished_run A hs can few image room new j us t a none =
     }
 
 -- where it is over the machine stands there
-pub over_run : (A : Inputs) (hs : Holdings) (can : CanRun A hs) (few : length A.first ≤ 64) (image : SwapImage) (room : 512 * A.swap_blocks ≤ length image)
+pub over_run : (A : Inputs) (hs : Holdings) (can : CanRun A hs) (few : length A.first ≤ 64) (image : SwapImage) (room : 512 * A.swap_blocks ≤ length image.bytes)
     (new : Underway) (j : Option SwapImage) (us : List Entry) (t : State)
     → Leads A (start A hs) (machine_at_start A hs) image us t new.machine.kernel j → next_unit A t ≡ None → StandsUnderway new → RunOver A new.machine image
 over_run A hs can few image room new j us t a none on = record {
@@ -105,8 +106,8 @@ over_run A hs can few image room new j us t a none on = record {
   stands = record {
     running = on.steady.ready.running.runs;
     whole = on.steady.ready.whole;
-    at = subst (StandsAt A t new.machine.kernel)
-        (same_Some a.behind (swapped A new.machine.kernel.journal image) (sym a.told ∙ image_told A hs can few image room us t new.machine.kernel j a))
+    at = subst (λ (i : SwapImage). StandsAt A t new.machine.kernel i.bytes)
+        (same_Some a.behind (swap_left A new.machine.kernel.journal image) (sym a.told ∙ image_told A hs can few image room us t new.machine.kernel j a))
         (stands A hs can few image room us t new.machine.kernel j a);
   };
 }
@@ -146,11 +147,11 @@ parts_spoiled : (A : Inputs) (s : State) (k : Kernel) (xs : List Part) (image af
 parts_spoiled A s k [] image after same flat x = x
 parts_spoiled A s k (p ∷ ps) image after same flat x =
     elim x [
-      | inl y ↦ inl (y.0, y.1, y.2 ∙ ap (λ (hs : Holdings). store_at image (block_of hs p.page) y.0) same)
-      | inr y ↦ inr (parts_spoiled A s k ps (store_at image (block_of s.holdings p.page) (memory_of A.images s.point.flat p.page)) after same flat.1
+      | inl y ↦ inl (y.0, y.1, y.2 ∙ ap (λ (hs : Holdings). write_at image (block_of hs p.page) y.0) same)
+      | inr y ↦ inr (parts_spoiled A s k ps (write_at image (block_of s.holdings p.page) (memory_of A.images s.point.flat p.page)) after same flat.1
           (subst (λ (i : SwapImage). SpoilsAll k i ps after)
-          (ap (λ (bytes : List ℕ). store_at image (block_of k.holdings p.page) bytes) flat.0
-          ∙ ap (λ (hs : Holdings). store_at image (block_of hs p.page) (memory_of A.images s.point.flat p.page)) same) y))
+          (ap (λ (bytes : List ℕ). write_at image (block_of k.holdings p.page) bytes) flat.0
+          ∙ ap (λ (hs : Holdings). write_at image (block_of hs p.page) (memory_of A.images s.point.flat p.page)) same) y))
     ]
 
 oldest_spoiled : (A : Inputs) (s : State) (k : Kernel) (ts : List Transfer) (image after : SwapImage) → k.holdings ≡ s.holdings → InFlightFlat A s k ts
@@ -158,62 +159,99 @@ oldest_spoiled : (A : Inputs) (s : State) (k : Kernel) (ts : List Transfer) (ima
 oldest_spoiled A s k [] image after same flat x = x
 oldest_spoiled A s k (t ∷ ts) image after same flat x = (x.0, parts_spoiled A s k t.parts image after same (subst (λ (e : Errand). WritesFlat A s k e t.parts) x.0 flat.0) x.1)
 
+parts_asked : (s : State) (k : Kernel) (xs : List Part) (image after : SwapImage) → k.holdings ≡ s.holdings → AskedAll k image xs after
+    → AsksParts s xs image after
+parts_asked s k [] image after same x = x
+parts_asked s k (p ∷ ps) image after same x =
+    let moved : read_at image (block_of k.holdings p.page) ≡ read_at image (block_of s.holdings p.page) =
+    ap (λ (hs : Holdings). read_at image (block_of hs p.page)) same in
+    elim x [
+      | inl y ↦ inl (y ∙ moved)
+      | inr y ↦ inr (parts_asked s k ps (read_at image (block_of s.holdings p.page)) after same (subst (λ (i : SwapImage). AskedAll k i ps after) moved y))
+    ]
+
+oldest_asked : (s : State) (k : Kernel) (ts : List Transfer) (image after : SwapImage) → k.holdings ≡ s.holdings → AskedFirst k image ts after
+    → AsksOldest s ts image after
+oldest_asked s k [] image after same x = x
+oldest_asked s k (t ∷ ts) image after same x = parts_asked s k t.parts image after same x
+
 -- a swap image that is left
 record ImageLeft (stop : Stop) (A : Inputs) (s : State) (u : Entry) (image : SwapImage) (j : Option SwapImage) : Type 0 where
-  left : List ℕ
+  left : SwapImage
   told : j ≡ Some left
   is : LeavesImage stop A s u image left
 
-module _ (A : Inputs) (s : State) (k : Kernel) (image : SwapImage) (at : StandsAt A s k image) where
+module _ (A : Inputs) (s : State) (k : Kernel) (image : SwapImage) (at : StandsAt A s k image.bytes) where
   spoils_writing : (u : Entry) (j : Option SwapImage) → CauseBy u stops.SwapWriteFault k.place.transfers → SpoilsBy u stops.SwapWriteFault k (Some image) j
       → ImageLeft stops.SwapWriteFault A s u image j
   spoils_writing entries.Done j c x = record {
     left = x.0;
     told = x.1;
-    is = oldest_spoiled A s k s.place.transfers image x.0 at.holdings (writes_flat A s k image at) (subst (λ (p : Placement). SpoilsTransfers k image p.transfers x.0) at.place x.2);
+    is = oldest_spoiled A s k s.place.transfers image x.0 at.holdings (writes_flat A s k image.bytes at) (subst (λ (p : Placement). SpoilsTransfers k image p.transfers x.0) at.place x.2);
   }
   spoils_writing (entries.SwapOut pid) j c x = record {
-    left = store_at image (block_in k.holdings (owners.U pid) 0) x.0;
+    left = write_at image (block_in k.holdings (owners.U pid) 0) x.0;
     told = x.2;
-    is = (x.0, x.1, ap (λ (hs : Holdings). store_at image (block_in hs (owners.U pid) 0) x.0) at.holdings);
+    is = (x.0, x.1, ap (λ (hs : Holdings). write_at image (block_in hs (owners.U pid) 0) x.0) at.holdings);
   }
   spoils_writing (entries.SwapIn pid) j c x = elim c [ inl e ↦ absurd cc | inr r ↦ elim r [ inl e ↦ absurd cc | inr e ↦ absurd cc ] ]
   spoils_writing _ j c x = elim c [ inl e ↦ absurd cc | inr e ↦ absurd cc ]
 
--- any other halt leaves it
-abbrev pub IsNoWrite : Stop → Type 0
-IsNoWrite stops.SwapWriteFault = ⊥
-IsNoWrite _ = Unit {0}
+  asks_reading : (u : Entry) (j : Option SwapImage) → CauseBy u stops.SwapReadFault k.place.transfers → SpoilsBy u stops.SwapReadFault k (Some image) j
+      → ImageLeft stops.SwapReadFault A s u image j
+  asks_reading entries.Done j c x = record {
+    left = x.0;
+    told = x.1;
+    is = oldest_asked s k s.place.transfers image x.0 at.holdings (subst (λ (p : Placement). AskedFirst k image p.transfers x.0) at.place x.2);
+  }
+  asks_reading (entries.SwapIn pid) j c x = record {
+    left = read_at image (block_in k.holdings (owners.U pid) 0);
+    told = x;
+    is = ap (λ (hs : Holdings). read_at image (block_in hs (owners.U pid) 0)) at.holdings;
+  }
+  asks_reading (entries.SwapOut pid) j c x = elim c [ inl e ↦ absurd cc | inr r ↦ elim r [ inl e ↦ absurd cc | inr e ↦ absurd cc ] ]
+  asks_reading _ j c x = elim c [ inl e ↦ absurd cc | inr e ↦ absurd cc ]
 
-pub same_left : (u : Entry) (stop : Stop) (k : Kernel) (i j : Option SwapImage) → IsNoWrite stop → SpoilsBy u stop k i j → j ≡ i
+-- any other halt leaves it
+abbrev pub AsksNothing : Stop → Type 0
+AsksNothing stops.SwapReadFault = ⊥
+AsksNothing stops.SwapWriteFault = ⊥
+AsksNothing _ = Unit {0}
+
+pub same_left : (u : Entry) (stop : Stop) (k : Kernel) (i j : Option SwapImage) → AsksNothing stop → SpoilsBy u stop k i j → j ≡ i
+same_left entries.Done stops.SwapReadFault k i j n x = absurd n
 same_left entries.Done stops.SwapWriteFault k i j n x = absurd n
 same_left entries.Done _ k i j n x = x
+same_left (entries.SwapOut pid) stops.SwapReadFault k i j n x = absurd n
 same_left (entries.SwapOut pid) stops.SwapWriteFault k i j n x = absurd n
 same_left (entries.SwapOut pid) _ k i j n x = x
+same_left (entries.SwapIn pid) stops.SwapReadFault k i j n x = absurd n
+same_left (entries.SwapIn pid) stops.SwapWriteFault k i j n x = absurd n
+same_left (entries.SwapIn pid) _ k i j n x = x
 same_left _ stop k i j n x = x
 
-image_left : (stop : Stop) (u : Entry) (A : Inputs) (s : State) (k : Kernel) (image : SwapImage) (j : Option SwapImage) → StandsAt A s k image
+image_left : (stop : Stop) (u : Entry) (A : Inputs) (s : State) (k : Kernel) (image : SwapImage) (j : Option SwapImage) → StandsAt A s k image.bytes
     → CauseBy u stop k.place.transfers → SpoilsBy u stop k (Some image) j → ImageLeft stop A s u image j
 image_left stops.SwapWriteFault u A s k image j at c x = spoils_writing A s k image at u j c x
 image_left stops.NoMemory u A s k image j at c x = record { left = image; told = same_left u stops.NoMemory k (Some image) j tt x; is = refl }
 image_left stops.JournalFull u A s k image j at c x = record { left = image; told = same_left u stops.JournalFull k (Some image) j tt x; is = refl }
 image_left stops.FileFault u A s k image j at c x = record { left = image; told = same_left u stops.FileFault k (Some image) j tt x; is = refl }
-image_left stops.SwapReadFault u A s k image j at c x = record { left = image; told = same_left u stops.SwapReadFault k (Some image) j tt x; is = refl }
+image_left stops.SwapReadFault u A s k image j at c x = asks_reading A s k image at u j c x
 
 -- Where it halts.
 
-module _ (A : Inputs) (hs : Holdings) (can : CanRun A hs) (few : length A.first ≤ 64) (image : SwapImage) (room : 512 * A.swap_blocks ≤ length image) (new : Standing) (j : Option SwapImage) (stop : Stop)
+module _ (A : Inputs) (hs : Holdings) (can : CanRun A hs) (few : length A.first ≤ 64) (image : SwapImage) (room : 512 * A.swap_blocks ≤ length image.bytes) (new : Standing) (j : Option SwapImage) (stop : Stop)
     (x : StopLeads A (start A hs) (machine_at_start A hs) image stop new j) where
   made_so : IsJournalOf A new.kernel.journal x.state
   made_so = subst (λ (es : List Entry). IsJournalOf A es x.state) (sym x.journal) (made A hs can few image room x.units x.state x.kernel (Some x.behind) x.leads)
 
-  stands_so : StandsAt A x.state x.kernel x.behind
-  stands_so = subst (StandsAt A x.state x.kernel) (sym (same_Some x.behind x.leads.behind x.leads.told)) (stands A hs can few image room x.units x.state x.kernel (Some x.behind) x.leads)
+  stands_so : StandsAt A x.state x.kernel x.behind.bytes
+  stands_so = subst (λ (i : SwapImage). StandsAt A x.state x.kernel i.bytes) (sym (same_Some x.behind x.leads.behind x.leads.told)) (stands A hs can few image room x.units x.state x.kernel (Some x.behind) x.leads)
 
-  behind_is : x.behind ≡ swapped A new.kernel.journal image
+  behind_is : x.behind ≡ swap_left A new.kernel.journal image
   behind_is =
-      same_Some x.behind (swapped A x.kernel.journal image) (image_told A hs can few image room x.units x.state x.kernel (Some x.behind) x.leads)
-      ∙ ap (λ (es : List Entry). swapped A es image) (sym x.journal)
+      same_Some x.behind (swap_left A x.kernel.journal image) (image_told A hs can few image room x.units x.state x.kernel (Some x.behind) x.leads)
+      ∙ ap (λ (es : List Entry). swap_left A es image) (sym x.journal)
 
   pub halted_run : StopsNext A x.state x.kernel x.behind stop new j → RunHalted A new.kernel.journal stop image j
   halted_run y =
@@ -234,14 +272,14 @@ module _ (A : Inputs) (hs : Holdings) (can : CanRun A hs) (few : length A.first 
   run = makes_run A x.units (start A hs) x.state (machine_at_start A hs) x.kernel image x.leads.behind x.leads.makes
 
   -- the kernel stands for the state with the swap image of the journal
-  stands_with : StandsAt A x.state x.kernel (swapped A new.kernel.journal image)
-  stands_with = subst (StandsAt A x.state x.kernel) behind_is stands_so
+  stands_with : StandsAt A x.state x.kernel (swap_left A new.kernel.journal image).bytes
+  stands_with = subst (λ (i : SwapImage). StandsAt A x.state x.kernel i.bytes) behind_is stands_so
 
-  stays : StaysPut x.kernel new → StandsThere A x.state new (swapped A new.kernel.journal image)
+  stays : StaysPut x.kernel new → StandsThere A x.state new (swap_left A new.kernel.journal image)
   stays h = record {
     running = ap (λ (k : Kernel). k.stopped) h.kernel ∙ run;
     whole = h.whole;
-    at = subst (λ (k : Kernel). StandsAt A x.state k (swapped A new.kernel.journal image)) (sym h.kernel) stands_with;
+    at = subst (λ (k : Kernel). StandsAt A x.state k (swap_left A new.kernel.journal image).bytes) (sym h.kernel) stands_with;
   }
 
   -- where the journal is full the machine stands there
@@ -260,13 +298,13 @@ module _ (A : Inputs) (hs : Holdings) (can : CanRun A hs) (few : length A.first 
   pub left_run : LeftBy stop x.kernel new → (stop ≡ stops.NoMemory → new.kernel.stopped ≡ false) → RunLeft A stop new image
   left_run h runs = record { state = x.state; made = made_so; left = by stop h runs }
     where
-      starves : new.kernel.stopped ≡ false → StaysStarved x.kernel new → StarvedThere A x.state new (swapped A new.kernel.journal image)
+      starves : new.kernel.stopped ≡ false → StaysStarved x.kernel new → StarvedThere A x.state new (swap_left A new.kernel.journal image)
       starves running h = record {
         running = running;
-        at = subst (λ (k : Kernel). StandsAt A x.state k (swapped A new.kernel.journal image)) (sym h) stands_with;
+        at = subst (λ (k : Kernel). StandsAt A x.state k (swap_left A new.kernel.journal image).bytes) (sym h) stands_with;
       }
 
-      gave : new.kernel.stopped ≡ false → StaysReturned x.kernel new → ReturnedThere A x.state new (swapped A new.kernel.journal image)
+      gave : new.kernel.stopped ≡ false → StaysReturned x.kernel new → ReturnedThere A x.state new (swap_left A new.kernel.journal image)
       gave running g = record {
         running = running;
         kernel = x.kernel;
@@ -297,11 +335,11 @@ module _ (A : Inputs) (hs : Holdings) (can : CanRun A hs) (few : length A.first 
       failed (inr h) = inr (put h)
 
       starved : new.kernel.stopped ≡ false → StaysStarved x.kernel new ⊎ StaysReturned x.kernel new
-          → StarvedThere A x.state new (swapped A new.kernel.journal image) ⊎ ReturnedThere A x.state new (swapped A new.kernel.journal image)
+          → StarvedThere A x.state new (swap_left A new.kernel.journal image) ⊎ ReturnedThere A x.state new (swap_left A new.kernel.journal image)
       starved running (inl h) = inl (starves running h)
       starved running (inr h) = inr (gave running h)
 
-      by : (c : Stop) → LeftBy c x.kernel new → (c ≡ stops.NoMemory → new.kernel.stopped ≡ false) → LeftThere A c x.state new (swapped A new.kernel.journal image)
+      by : (c : Stop) → LeftBy c x.kernel new → (c ≡ stops.NoMemory → new.kernel.stopped ≡ false) → LeftThere A c x.state new (swap_left A new.kernel.journal image)
       by stops.JournalFull h runs = stays h
       by stops.NoMemory h runs = starved (runs refl) (h (runs refl ∙ sym run))
       by stops.FileFault h runs = less h
@@ -309,4 +347,4 @@ module _ (A : Inputs) (hs : Holdings) (can : CanRun A hs) (few : length A.first 
       by stops.SwapWriteFault h runs = failed h
 
   pub starved_run : j ≡ Some x.behind → RunStarved A new.kernel.journal image j
-  starved_run e = record { state = x.state; made = made_so; left = e ∙ ap (λ (b : List ℕ). Some b) behind_is }
+  starved_run e = record { state = x.state; made = made_so; left = e ∙ ap (λ (b : SwapImage). Some b) behind_is }

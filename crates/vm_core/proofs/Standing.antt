@@ -13,7 +13,7 @@ use Rattle.machine_state.specs.Files.{AreImages}
 use Rattle.machine_state.specs.Machine.{Standing}
 use Rattle.run_start.specs.Reading.{AreNamed}
 use Rattle.run_model.specs.State.{State}
-use Rattle.run_laws.proofs.Machines.{makes_follows}
+use Rattle.run_laws.proofs.Machines.{swaps_follow}
 use Rattle.journal_laws.proofs.Idle.{many_on}
 use Rattle.journal_laws.specs.Leads.{Leads}
 use Rattle.journal_laws.proofs.Units.{both_lead, leads_at}
@@ -43,7 +43,7 @@ stands_on A s t old new holds i j image us counted count st l params images same
   told = l.told;
   inputs = inputs_on A old new st.inputs params images;
   longwords = longwords_stay A s t old.kernel new.kernel image j us st.inputs.images st.machine.at l (let few = st.inputs.few in omega arith) st.longwords;
-  crowd = many_on A us s t st.machine.at.fit st.machine.at.run st.crowd (makes_follows A us s t old.kernel new.kernel image l.behind l.makes);
+  crowd = many_on A us s t st.machine.at.fit st.machine.at.run st.crowd (swaps_follow A us s t old.kernel new.kernel image l.behind l.makes);
   count = same;
 }
 

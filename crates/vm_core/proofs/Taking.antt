@@ -19,7 +19,7 @@ use Rattle.run_model.specs.declared.mark.Mark.TheVariants as marks
 use Rattle.run_model.specs.State.{State, runners}
 use Rattle.run_model.specs.After.{interrupt_mark, swap_mark, mark_of_event}
 use Rattle.run_laws.proofs.Finishing.{units_below}
-use Rattle.run_laws.proofs.Machines.{makes_follows}
+use Rattle.run_laws.proofs.Machines.{swaps_follow}
 use Rattle.journal_laws.specs.Leads.{Leads}
 use Rattle.journal_laws.proofs.Units.{both_lead}
 use Rattle.run_start.specs.Stepped.{StopLeads, LeadsFrom, StopsFrom}
@@ -103,7 +103,7 @@ module _ (A : Inputs) (s : State) (old : Underway) (holds : Option (List NamedFi
       let leads = both_lead A s b.state d.state old.machine.kernel mid.kernel new.kernel image (Some image) j b.units d.units b.leads
       (λ between same. subst (λ (y : SwapImage). Leads A b.state mid.kernel y d.units d.state new.kernel j) (same_Some image between same) d.leads) in
       let below : d.state.count ≤ A.limit =
-      units_below A (b.units ++ d.units) s d.state (makes_follows A (b.units ++ d.units) s d.state old.machine.kernel new.kernel image leads.behind leads.makes)
+      units_below A (b.units ++ d.units) s d.state (swaps_follow A (b.units ++ d.units) s d.state old.machine.kernel new.kernel image leads.behind leads.makes)
       (let less = due.below in omega arith) in
       let most : count ≤ A.limit = let same = d.counts in omega arith in
       record {

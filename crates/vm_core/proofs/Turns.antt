@@ -12,7 +12,7 @@ use Rattle.page_model.specs.Swapper.{is_out}
 use Rattle.page_model.specs.Placement.{Placement}
 use Rattle.kernel_model.specs.Kernel.{Kernel, note_step}
 use Rattle.machine_state.specs.Machine.{Standing}
-use Rattle.machine_state.specs.Swapping.{IsIn}
+use Rattle.machine_state.specs.Swapping.{AsksU, IsIn}
 use Rattle.journal_laws.specs.Stops.{StopsAt, StopsBefore}
 use Rattle.run_model.specs.State.{State}
 use Rattle.run_model.specs.Next.{goes_on, turn_instructions}
@@ -24,7 +24,7 @@ use Rattle.run_start.proofs.StepUnitsBeginning.{turn_stops}
 use Rattle.run_start.proofs.Turning.{turn_begins, comes_in, coming_in_stops}
 use Rattle.run_model.specs.declared.mark.Mark.TheVariants as marks
 use Rattle.run_laws.proofs.Finishing.{units_below}
-use Rattle.run_laws.proofs.Machines.{makes_follows}
+use Rattle.run_laws.proofs.Machines.{swaps_follow}
 use Rattle.proc_run.specs.Running.{CountsTo}
 use Rattle.vm_core.specs.Steady.{StaysSteady}
 use Rattle.vm_core.specs.Cores.{StandsIn}
@@ -35,7 +35,7 @@ use Rattle.vm_core.proofs.Standing.{stands_on, leads_to_stop}
 few_counted : (A : Inputs) (s t : State) (old : Standing) (holds : Option (List NamedFile)) (i : Option SwapImage) (image : SwapImage) (us : List Entry)
     (l : Kernel) (j : Option SwapImage) → s.count ≤ A.limit
     → Leads A s old.kernel image us t l j → t.count ≤ A.limit
-few_counted A s t old holds i image us l j below a = units_below A us s t (makes_follows A us s t old.kernel l image a.behind a.makes) below
+few_counted A s t old holds i image us l j below a = units_below A us s t (swaps_follow A us s t old.kernel l image a.behind a.makes) below
 
 -- A process comes in.
 
@@ -60,20 +60,19 @@ out_there A s m holds i image counted since pid at o = ap (λ (p : Placement). i
 
 pub in_comes : (old new : Standing) (pid counted since : ℕ) (holds : Option (List NamedFile)) (i j : Option SwapImage) → is_out old.kernel.place pid ≡ true
     → IsIn old.kernel new.kernel pid i → new.params ≡ old.params
-    → new.images ≡ old.images → j ≡ i → LeadsFrom (TurnAt old holds i counted since pid) (InTurn old new holds j counted since pid)
-in_comes old new pid counted since holds i j o is params images same A s image at =
-    let c : CameIn A s old.kernel image pid since new.kernel =
-    comes_in A s old new holds image pid since at.stands.machine at.clear at.mark at.on (out_there A s old holds i image counted since pid at o)
-    (subst (λ (x : Option SwapImage). IsIn old.kernel new.kernel pid x) at.stands.told is) in
-    let leads : Leads A s old.kernel image (entries.SwapIn pid ∷ []) c.state new.kernel j =
-    subst (λ (x : Option SwapImage). Leads A s old.kernel image (entries.SwapIn pid ∷ []) c.state new.kernel x) (sym (same ∙ at.stands.told)) c.leads in
+    → new.images ≡ old.images → AsksU old.kernel pid i j → LeadsFrom (TurnAt old holds i counted since pid) (InTurn old new holds j counted since pid)
+in_comes old new pid counted since holds i j o is params images asks A s image at =
+    let c : CameIn A s old.kernel image pid since new.kernel j =
+    comes_in A s old new holds image j pid since at.stands.machine at.clear at.mark at.on (out_there A s old holds i image counted since pid at o)
+    (subst (λ (x : Option SwapImage). IsIn old.kernel new.kernel pid x) at.stands.told is)
+    (subst (λ (x : Option SwapImage). AsksU old.kernel pid x j) at.stands.told asks) in
     record {
       units = entries.SwapIn pid ∷ [];
       state = c.state;
-      behind = leads.behind;
-      leads = leads;
+      behind = c.leads.behind;
+      leads = c.leads;
       at = record {
-        stands = stands_on A s c.state old new holds i j image (entries.SwapIn pid ∷ []) counted counted at.stands leads params images (c.count ∙ at.stands.count)
+        stands = stands_on A s c.state old new holds i j image (entries.SwapIn pid ∷ []) counted counted at.stands c.leads params images (c.count ∙ at.stands.count)
             (below A s old holds i image counted since pid at);
         clear = c.clear;
         mark = c.mark;

@@ -6,7 +6,7 @@ use Rattle.flat_state.specs.Flat.{Inputs}
 use Rattle.kernel_model.specs.Kernel.{Kernel}
 use Rattle.machine_state.specs.Machine.{Standing}
 use Rattle.run_model.specs.State.{State}
-use Rattle.run_model.specs.Swapped.{swapped_from}
+use Rattle.run_model.specs.Swapped.{left_from}
 use Rattle.run_start.specs.Stepped.{StopLeads, LeadsFrom}
 use Rattle.journal_laws.specs.Accounts.{Account}
 use Rattle.journal_laws.specs.Economy.{Economy}
@@ -17,7 +17,7 @@ pub record StopsAccounted (A : Inputs) (s : State) (k : Kernel) (image : SwapIma
   pub led : StopLeads A s k image stop new j
   pub account : Account A s led.units
   pub economy : Economy A s led.units
-  pub swapped : led.behind ≡ swapped_from A s led.units image
+  pub swapped : led.behind ≡ left_from A s led.units image
 
 -- It stopped so on the way from each state with a swap image at which this is so.
 abbrev pub StopsAccountedFrom : (Inputs → State → SwapImage → Type 0) → Standing → Standing → Option SwapImage → Stop → Type 0

@@ -11,7 +11,7 @@ use Rattle.run_model.specs.declared.mark.Mark.TheVariants as marks
 use Rattle.run_model.specs.State.{State}
 use Rattle.run_model.specs.Next.{goes_on, turn_instructions, last_turned, next_unit}
 use Rattle.run_model.specs.Lawful.{Follows}
-use Rattle.run_model.specs.Swapped.{swapped_from}
+use Rattle.run_model.specs.Swapped.{left_from}
 use Rattle.run_laws.specs.Running.{IsRun}
 use Rattle.journal_laws.specs.Stretch.{turns_of, NoneCounts}
 use Rattle.journal_laws.specs.Leads.{Leads}
@@ -124,7 +124,7 @@ pub record Closed (old new : Standing) (holds : Option (List NamedFile)) (j : Op
   pub none : next_unit A state ≡ None
   pub account : Account A s units
   pub economy : Economy A s units
-  pub swapped : behind ≡ swapped_from A s units image
+  pub swapped : behind ≡ left_from A s units image
 
 -- Turns in a row.
 

@@ -12,7 +12,7 @@ use Rattle.run_laws.specs.Longwords.{AllImages}
 use Rattle.run_model.specs.State.{State}
 use Rattle.run_model.specs.After.{mark_of_event}
 use Rattle.run_model.specs.Next.{last_turned}
-use Rattle.run_model.specs.Swapped.{swapped_from}
+use Rattle.run_model.specs.Swapped.{left_from}
 use Rattle.journal_laws.specs.Leads.{Leads}
 use Rattle.run_start.specs.Machines.{MachineAt}
 use Rattle.run_start.specs.Lines.{IsOver, IsClear}
@@ -80,7 +80,7 @@ pub record LineTaken (old new : Underway) (holds : Option (List NamedFile)) (j :
   pub lines : state.lines ≡ s.lines + 1
   pub account : Account A s units
   pub economy : Economy A s units
-  pub swapped : behind ≡ swapped_from A s units image
+  pub swapped : behind ≡ left_from A s units image
 
 -- Under the mark of a line.
 

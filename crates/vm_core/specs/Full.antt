@@ -14,7 +14,7 @@ use Rattle.machine_state.specs.Conditions.{kernel_before}
 use Rattle.machine_state.specs.Failing.{LosesOldest}
 use Rattle.run_model.specs.State.{State}
 use Rattle.run_model.specs.Next.{next_unit}
-use Rattle.run_model.specs.Swapped.{swapped}
+use Rattle.run_model.specs.Swapped.{swap_left}
 use Rattle.run_laws.specs.Machine.{StandsAt}
 use Rattle.vm_core.specs.Lawful.{IsJournalOf}
 
@@ -23,12 +23,12 @@ use Rattle.vm_core.specs.Lawful.{IsJournalOf}
 pub record StandsThere (A : Inputs) (s : State) (m : Standing) (image : SwapImage) : Type 0 where
   pub running : m.kernel.stopped ≡ false
   pub whole : m.before ≡ m.kernel.holdings
-  pub at : StandsAt A s m.kernel image
+  pub at : StandsAt A s m.kernel image.bytes
 
 -- The machine runs on, and stands for a state, but for pieces of swap that were found for an entry for which there was no memory.
 pub record StarvedThere (A : Inputs) (s : State) (m : Standing) (image : SwapImage) : Type 0 where
   pub running : m.kernel.stopped ≡ false
-  pub at : StandsAt A s (kernel_before m) image
+  pub at : StandsAt A s (kernel_before m) image.bytes
 
 -- The machine has stopped there, with its pages and processes where the state has them.
 pub record StoppedThere (s : State) (m : Standing) : Type 0 where
@@ -49,7 +49,7 @@ pub record LessThere (s : State) (m : Standing) : Type 0 where
 pub record ReturnedThere (A : Inputs) (s : State) (m : Standing) (image : SwapImage) : Type 0 where
   pub running : m.kernel.stopped ≡ false
   pub kernel : Kernel
-  pub at : StandsAt A s kernel image
+  pub at : StandsAt A s kernel image.bytes
   pub borrower : ℕ
   pub lender : ℕ
   pub returned : kernel_before m ≡ pass_step kernel borrower lender
@@ -67,7 +67,7 @@ LeftThere A stops.SwapWriteFault s m image = LessThere s m ⊎ StoppedThere s m
 pub record RunLeft (A : Inputs) (stop : Stop) (m : Standing) (image : SwapImage) : Type 0 where
   pub state : State
   pub made : IsJournalOf A m.kernel.journal state
-  pub left : LeftThere A stop state m (swapped A m.kernel.journal image)
+  pub left : LeftThere A stop state m (swap_left A m.kernel.journal image)
 
 -- by the cause; for want of memory the run may also stop before its first unit, as its first processes begin, and then the machine has stopped
 abbrev pub RunStopsAt : Inputs → Stop → Standing → SwapImage → Type 0
@@ -83,7 +83,7 @@ pub record RunFull (A : Inputs) (m : Standing) (image : SwapImage) : Type 0 wher
   pub next : next_unit A state ≡ Some unit
   pub bound : m.params.journal ≤ length m.kernel.journal
   pub longer : length m.kernel.journal < length (append m.kernel.journal unit)
-  pub stands : StandsThere A state m (swapped A m.kernel.journal image)
+  pub stands : StandsThere A state m (swap_left A m.kernel.journal image)
 
 -- There is no next unit, and the machine stands for the state to which its journal leads, with the swap image that its journal makes of
 -- this one.
@@ -91,4 +91,4 @@ pub record RunOver (A : Inputs) (m : Standing) (image : SwapImage) : Type 0 wher
   pub state : State
   pub made : IsJournalOf A m.kernel.journal state
   pub none : next_unit A state ≡ None
-  pub stands : StandsThere A state m (swapped A m.kernel.journal image)
+  pub stands : StandsThere A state m (swap_left A m.kernel.journal image)

@@ -9,7 +9,7 @@ use Rattle.flat_state.specs.Journal.{appended}
 use Rattle.run_model.specs.State.{State, start}
 use Rattle.run_model.specs.Next.{next_unit}
 use Rattle.run_model.specs.Lawful.{Follows, IsLawful}
-use Rattle.run_model.specs.Swapped.{swapped}
+use Rattle.run_model.specs.Swapped.{swap_left}
 use Rattle.run_laws.specs.Running.{CanRun, IsIdle}
 use Rattle.journal_laws.specs.Accounts.{Account}
 use Rattle.journal_laws.specs.Economy.{Economy}
@@ -34,7 +34,7 @@ pub record RunFinished (A : Inputs) (journal : List Entry) (image : SwapImage) (
   pub made : IsJournalOf A journal state
   pub none : next_unit A state ≡ None
   pub ends : (state.count ≡ A.limit) ⊎ IsIdle A state
-  pub left : after ≡ Some (swapped A journal image)
+  pub left : after ≡ Some (swap_left A journal image)
 
 -- It halted at its next unit, for a cause.
 pub record RunHalted (A : Inputs) (journal : List Entry) (stop : Stop) (image : SwapImage) (after : Option SwapImage) : Type 0 where
@@ -43,12 +43,12 @@ pub record RunHalted (A : Inputs) (journal : List Entry) (stop : Stop) (image : 
   pub unit : Entry
   pub next : next_unit A state ≡ Some unit
   pub why : HaltsFor stop unit state
-  pub left : List ℕ
+  pub left : SwapImage
   pub told : after ≡ Some left
-  pub image_left : LeavesImage stop A state unit (swapped A journal image) left
+  pub image_left : LeavesImage stop A state unit (swap_left A journal image) left
 
 -- It found no memory, at any place.
 pub record RunStarved (A : Inputs) (journal : List Entry) (image : SwapImage) (after : Option SwapImage) : Type 0 where
   pub state : State
   pub made : IsJournalOf A journal state
-  pub left : after ≡ Some (swapped A journal image)
+  pub left : after ≡ Some (swap_left A journal image)

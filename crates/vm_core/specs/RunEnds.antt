@@ -37,7 +37,7 @@ pub record IsAskedOf (A : Inputs) (m : Standing) (numbers : List ℕ) (lines : L
   pub fit : ImagesFit A.images
   pub octets : AllImages A.images
   pub few : length A.first + 1 + A.limit < 2 ^ 32
-  pub room : 512 * A.swap_blocks ≤ length image
+  pub room : 512 * A.swap_blocks ≤ length image.bytes
 
 -- nothing was done
 abbrev pub NoneMade : List Entry → SwapImage → Option SwapImage → Type 0

@@ -8,7 +8,7 @@ use Rattle.swap_book.specs.Holdings.{Holdings}
 use Rattle.flat_state.specs.Flat.{Inputs}
 use Rattle.machine_state.specs.Machine.{Standing}
 use Rattle.run_model.specs.State.{State, start}
-use Rattle.run_model.specs.Swapped.{swapped_from}
+use Rattle.run_model.specs.Swapped.{left_from}
 use Rattle.run_laws.specs.Running.{CanRun}
 use Rattle.journal_laws.specs.Leads.{Leads}
 use Rattle.journal_laws.specs.Serving.{SameBut}
@@ -38,7 +38,7 @@ pub record CoreStarted (A : Inputs) (new : Underway) (holds : Option (List Named
   pub at : CoreAt A state new holds j behind
   pub account : Account A (start A holdings) units
   pub economy : Economy A (start A holdings) units
-  pub swapped : behind ≡ swapped_from A (start A holdings) units image
+  pub swapped : behind ≡ left_from A (start A holdings) units image
 
 -- for all inputs that are those of the machine, with these first processes, where the files hold the images and a swap image is told
 abbrev pub StartsRun : Underway → Underway → List ℕ → Option (List NamedFile) → Option SwapImage → Option SwapImage → Type 0

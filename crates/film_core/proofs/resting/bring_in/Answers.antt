@@ -18,7 +18,7 @@ swap_in-requires-clause-can g c =
 pub returns-clause-rests : goal.returns-clause-rests
 returns-clause-rests g c =
     bring_rests c.args.m.now c.swap_in.new.m c.args.pid c.args.counted (g.F.Files.holds c.args.files.now) (g.D.SwapDev.image c.args.swap.now) (g.D.SwapDev.image c.swap_in.new.swap)
-    c.in_ok-swap_in.ensures.step c.swap_in.ensures.image
+    c.in_ok-swap_in.ensures.step c.in_ok-swap_in.ensures.asked
 
 pub returns-clause-on : goal.returns-clause-on
 returns-clause-on g c =

@@ -1,4 +1,3 @@
-use Rattle.std.proofs.Common.{refl, Some}
 use Rattle.vm_facts.specs.declared.entry.Entry.TheVariants as entries
 use Rattle.run_units.proofs.Swapping.{line_asks}
 use Rattle.step_units.proofs.Stopping.{stops_here}
@@ -12,7 +11,7 @@ pub returns-clause-putting_stops : goal.returns-clause-putting_stops
 returns-clause-putting_stops c = out_stops
 
 pub returns-clause-brings : goal.returns-clause-brings
-returns-clause-brings c A s old new image pid clear m i = in_comes A s old new image (Some image) pid clear m i refl
+returns-clause-brings c = in_comes
 
 pub returns-clause-bringing_stops : goal.returns-clause-bringing_stops
 returns-clause-bringing_stops c A s old new image j pid stop clear m x =

@@ -20,7 +20,7 @@ returns-then-not-is_out-clause-comes g c =
 pub returns-clause-comes : goal.returns-clause-comes
 returns-clause-comes g c = λ (counted since : ℕ).
     in_comes c.args.m.now c.swap_in.new.m c.args.pid counted since (g.F.Files.holds c.args.files.now) (g.D.SwapDev.image c.args.swap.now) (g.D.SwapDev.image c.swap_in.new.swap)
-    (c.is_out.ensures.out c.if-not-is_out.false) c.in_ok-swap_in.ensures.step c.swap_in.ensures.params c.swap_in.ensures.images c.swap_in.ensures.image
+    (c.is_out.ensures.out c.if-not-is_out.false) c.in_ok-swap_in.ensures.step c.swap_in.ensures.params c.swap_in.ensures.images c.in_ok-swap_in.ensures.asked
 
 pub returns-clause-steady : goal.returns-clause-steady
 returns-clause-steady g c =
