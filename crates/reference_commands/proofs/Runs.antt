@@ -3,6 +3,7 @@ use Rattle.std.proofs.Common.{OnOk, ◌≡◌, ℕ, ◌*◌, ◌≤◌, List, []
 use Rattle.std.specs.Prelude.{All}
 use Rattle.std.proofs.lemmas.List.{length-map, length-replicate}
 use Rattle.std.proofs.lemmas.List.Elements.{All-nil, All-cons, All-head, All-tail, All-weaker}
+use Rattle.vm_facts.specs.SwapImages.{SwapImage}
 use Rattle.vm_facts.specs.declared.entry.Entry.{Entry}
 use Rattle.vm_facts.specs.declared.event.Event.{Event}
 use Rattle.vm_facts.specs.declared.page.Page.{Page}
@@ -39,7 +40,7 @@ use Rattle.reference_commands.proofs.Names.{all_found}
 
 -- The run is finished.
 
-pub finished : (A : Inputs) (journal : List Entry) (left : Option (List ℕ)) (pages : List Page) → A.limit ≤ MOST_LIMIT
+pub finished : (A : Inputs) (journal : List Entry) (left : Option SwapImage) (pages : List Page) → A.limit ≤ MOST_LIMIT
     → RunFinished A journal (blank_swap A.swap_blocks) left
     → (first_bad A journal ≡ None → pages ≡ references_of A journal) → HasReferences A pages
 finished A journal left pages limit run answer =
@@ -126,7 +127,7 @@ module _ (entries : ℕ) (numbers : Numbers) (images : List FlatFile) (opened : 
     frames = let least = r.allowed.least_frames in omega arith;
   }
 
-  asked_in : (image : List ℕ) → 512 * numbers.swap ≤ length image → IsAskedOf (over (images_in files opened)) (machine_up_to entries numbers (map shown_as opened)) first lines (Some files) image
+  asked_in : (image : SwapImage) → 512 * numbers.swap ≤ length image.bytes → IsAskedOf (over (images_in files opened)) (machine_up_to entries numbers (map shown_as opened)) first lines (Some files) image
   asked_in image room = record {
     named = named_images files opened;
     first = refl;
@@ -148,7 +149,7 @@ module _ (entries : ℕ) (numbers : Numbers) (images : List FlatFile) (opened : 
         subst (λ (n : Standing). IsAskedOf (over (images_of images)) n first lines holds (blank_swap numbers.swap)) (sym made)
         (subst (λ (h : Option (List NamedFile)). IsAskedOf (over (images_of images)) (machine_up_to entries numbers (map shown_as opened)) first lines h (blank_swap numbers.swap)) (sym held)
         (subst (λ (xs : List NamedImage). IsAskedOf (over xs) (machine_up_to entries numbers (map shown_as opened)) first lines (Some files) (blank_swap numbers.swap)) o.are
-        (asked_in (blank_swap numbers.swap) (let e = length-replicate {A = ℕ} (512 * numbers.swap) 0 in omega arith))))
+        (asked_in (blank_swap numbers.swap) (let e : length (blank_swap numbers.swap).bytes ≡ 512 * numbers.swap = length-replicate {A = ℕ} (512 * numbers.swap) 0 in omega arith))))
 
     pub opened_files : AreFiles m.images holds
     opened_files =

@@ -1,6 +1,7 @@
 -- The answer to a question about a run.
 use Rattle.std.specs.Prelude.{◌≡◌, ◌+◌, ◌-◌, ◌*◌, ◌%◌, ◌==◌, ◌<◌, ◌≤◌, ◌&&◌, nat_le, ℕ, Bool, true, false, List, [], ◌∷◌, ◌++◌, length, map, replicate, slice_get, codes, decimal, Option, Some, None}
 use Rattle.std.specs.List.{filter, concat, range_with_len}
+use Rattle.vm_facts.specs.SwapImages.{SwapImage, unnoted}
 use Rattle.vm_facts.specs.declared.entry.Entry.{Entry}
 use Rattle.vm_facts.specs.declared.page.Page.{Page}
 use Rattle.flat_state.specs.Flat.{Inputs}
@@ -27,15 +28,15 @@ use Rattle.command_words.specs.declared.command.FilmSteps.{FilmSteps}
 use Rattle.reference_commands.specs.declared.question.Question.{Question}
 use Rattle.reference_commands.specs.declared.question.Question.TheVariants.{Optimum, Curve, Owners, Film, Stats, WasCut, References}
 
--- a swap, or a device of it, of so many blocks to which nothing was written
-abbrev pub blank_swap : ℕ → List ℕ
-blank_swap blocks = replicate (512 * blocks) 0
+-- a swap, or a device of it, of so many blocks to which nothing was written, and which notes nothing
+abbrev pub blank_swap : ℕ → SwapImage
+blank_swap blocks = unnoted (replicate (512 * blocks) 0)
 
 -- The run is finished: its journal is lawful, there is no next unit, and it was made over a swap of its own that was blank. This is so of
 -- its references.
 pub record SaysOfReferences (answer : List Page → Type 0) (A : Inputs) : Type 0 where
   pub journal : List Entry
-  pub left : Option (List ℕ)
+  pub left : Option SwapImage
   pub finished : RunFinished A journal (blank_swap A.swap_blocks) left
   pub answers : answer (references_of A journal)
 

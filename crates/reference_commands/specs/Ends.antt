@@ -1,5 +1,6 @@
 -- How a question about a run ends, by what is read.
 use Rattle.std.specs.Prelude.{◌≡◌, ◌⊎◌, ◌≤◌, ℕ, List, length, Option, Ok, Err}
+use Rattle.vm_facts.specs.SwapImages.{SwapImage}
 use Rattle.vm_facts.specs.declared.entry.Entry.{Entry}
 use Rattle.vm_facts.specs.declared.stop.Stop.TheVariants as stops
 use Rattle.io_edge.specs.FileHolding.{NamedFile}
@@ -29,7 +30,7 @@ pub record HasFilled (subject : Subject) (read : Read) : Type 0 where
   pub inputs : Inputs
   pub are : AreInputsOf inputs subject read
   pub journal : List Entry
-  pub left : Option (List ℕ)
+  pub left : Option SwapImage
   pub halted : RunHalted inputs journal stops.JournalFull (blank_swap inputs.swap_blocks) left
   pub full : journal_entries ≤ length journal
 

@@ -1,5 +1,6 @@
 -- A run over images that are held in memory, and over a swap of its own.
 use Rattle.std.specs.Prelude.{◌≡◌, ◌≤◌, ℕ, false, bytes_eq, List, [], ◌∷◌, map, length, All, Option, Some, Result, Ok, Err, OnOk}
+use Rattle.vm_facts.specs.SwapImages.{SwapImage}
 use Rattle.aout_image.specs.Image.{IsSound, file_length_of}
 use Rattle.vm_facts.specs.declared.entry.Entry.{Entry}
 use Rattle.vm_facts.specs.declared.event.Event.{Event}
@@ -70,7 +71,7 @@ pub record IsRunnable (numbers : Numbers) (images : ℕ) (first : List ℕ) (lin
 pub record HasRun (A : Inputs) (entries : ℕ) (m : Standing) (ran : Result (Unit {0}) Unfinished) : Type 0 where
   pub journal : m.params.journal ≡ entries
   pub blocks : m.params.swap_blocks ≡ A.swap_blocks
-  pub left : Option (List ℕ)
+  pub left : Option SwapImage
   pub ends : RunEnds A m.kernel.journal (blank_swap A.swap_blocks) ran left
   pub full : ran ≡ Err (Stopped stops.JournalFull) → RunFull A m (blank_swap A.swap_blocks)
   pub over : OnOk ran (RunOver A m (blank_swap A.swap_blocks))
@@ -85,14 +86,14 @@ StaysRunning m (Err _) = Unit {0}
 -- the run is finished, and these are its references
 pub record HasReferences (A : Inputs) (pages : List Page) : Type 0 where
   pub journal : List Entry
-  pub left : Option (List ℕ)
+  pub left : Option SwapImage
   pub finished : RunFinished A journal (blank_swap A.swap_blocks) left
   pub are : pages ≡ references_of A journal
 
 -- the run halted where its journal has all entries that it may have
 pub record HasHalted (A : Inputs) : Type 0 where
   pub journal : List Entry
-  pub left : Option (List ℕ)
+  pub left : Option SwapImage
   pub halted : RunHalted A journal stops.JournalFull (blank_swap A.swap_blocks) left
   pub full : journal_entries ≤ length journal
 

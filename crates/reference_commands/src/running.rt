@@ -1,5 +1,6 @@
 // A run in memory, its references, and who owns what where it ends.
 ghost use Rattle.std.specs.Prelude.{◌≡◌, ◌≤◌, ℕ, List, Option, Some, Err, map, length, All, IfOk};
+ghost use Rattle.vm_facts.specs.SwapImages.{SwapImage};
 ghost use Rattle.flat_state.specs.Flat.{Inputs};
 ghost use Rattle.machine_state.specs.Going.{IsRunning};
 ghost use Rattle.run_files.specs.ImageWords.{IsShortName};
@@ -40,7 +41,7 @@ fn references_at_end<'a>(
 ) -> Result<Vec<Page>, Fault<'a>>
     requires images { AreImageFiles images.now }
     requires first { AreNumbers (length images.now) first.now }
-    ensures ends { (A : Inputs) (after : Option (List ℕ)) → A.images ≡ images_of images.now → A.first ≡ first.now → A.limit ≤ MOST_LIMIT
+    ensures ends { (A : Inputs) (after : Option SwapImage) → A.images ≡ images_of images.now → A.first ≡ first.now → A.limit ≤ MOST_LIMIT
         → RunEnds A journal.now (blank_swap A.swap_blocks) ran after → (ran ≡ Err (Unfinished.Stopped Stop.JournalFull) → journal_entries ≤ length journal.now)
         → EndsRun A (items_of result) }
 {

@@ -1,5 +1,6 @@
 -- The lines of a load that is finished.
 use Rattle.std.proofs.Common.{◌≡◌, ℕ, List, Option, Some, Ok, Err, refl, sym, ap, ◌∙◌, subst}
+use Rattle.vm_facts.specs.SwapImages.{SwapImage}
 use Rattle.vm_facts.specs.declared.entry.Entry.{Entry}
 use Rattle.flat_state.specs.Flat.{Inputs}
 use Rattle.command_ending.proofs.Statuses.{status_is_not_0}
@@ -19,14 +20,14 @@ pub is_load : (number : ℕ) → IsLoad number (load_inputs number)
 unfolding load_images
 is_load number = record { images = refl; first = refl; swap = refl; limit = refl }
 
-finished : (number : ℕ) (journal : List Entry) (image : List ℕ) (after : Option (List ℕ)) → RunFinished (load_inputs number) journal image after
+finished : (number : ℕ) (journal : List Entry) (image : SwapImage) (after : Option SwapImage) → RunFinished (load_inputs number) journal image after
     → counts_of 4 journal ≡ load_counts number
 finished number journal image after f =
     let m : IsJournalOf (load_inputs number) journal f.state = f.made in
     finished_counts number (load_inputs number) m.holdings journal f.state (is_load number) m.can
     (record { holdings = m.holdings; found = (let can = m.can in can.pieces); units = m.units; follows = m.follows; joined = m.joined }) f.none
 
-ended : (number : ℕ) (seen : Seen) (image : List ℕ) (journal : List Entry) (ending : RunEnding) → 0 ≡ status_of ending
+ended : (number : ℕ) (seen : Seen) (image : SwapImage) (journal : List Entry) (ending : RunEnding) → 0 ≡ status_of ending
     → LoadEnded number seen journal image ending
     → Appends seen.written_before (load_written number journal ending) seen.written_after
     → Appends seen.written_before (load_text number (load_counts number)) seen.written_after
@@ -37,8 +38,8 @@ ended number seen image journal (Err fault) e f w = absurd (status_is_not_0 faul
 pub counted_by : (number : ℕ) (seen : Seen) (status : ℕ) (journal : List Entry) (ending : RunEnding)
     → Writes seen.written_before seen.written_after seen.sink_faults_before seen.sink_faults_after (load_written number journal ending)
     (status_of ending) status
-    → ((image : List ℕ) → seen.swap_before ≡ Some image → LoadEnded number seen journal image ending)
-    → (image : List ℕ) → seen.swap_before ≡ Some image → status ≡ 0
+    → ((image : SwapImage) → seen.swap_before ≡ Some image → LoadEnded number seen journal image ending)
+    → (image : SwapImage) → seen.swap_before ≡ Some image → status ≡ 0
     → Appends seen.written_before (load_text number (load_counts number)) seen.written_after
 counted_by number seen status journal ending writes told image is zero = go (subst writes_with zero writes)
   where

@@ -1,6 +1,7 @@
 -- How a run over two devices ends, as the command's ending.
 use Rattle.std.proofs.Common.{◌≡◌, inl, inr, ℕ, ◌≤◌, ◌<◌, Bool, List, [], Option, Ok, Err, sym, subst, arith}
 use Rattle.std.specs.Prelude.{IfErr}
+use Rattle.vm_facts.specs.SwapImages.{SwapImage}
 use Rattle.vm_facts.specs.declared.entry.Entry.{Entry}
 use Rattle.flat_state.specs.Flat.{Inputs}
 use Rattle.run_model.specs.State.{State}
@@ -35,7 +36,7 @@ module _ (seen : Seen) (es : List Entry) where
   lost_caused (Err NoMemory) kind lost c = absurd lost
   lost_caused (Err _) kind lost c = absurd kind
 
-module _ (seen : Seen) (A : Inputs) (es : List Entry) (image : List ℕ) where
+module _ (seen : Seen) (A : Inputs) (es : List Entry) (image : SwapImage) where
   pub run_ended : (r : RunEnding) → IfErr r IsRunFault → RunCaused seen es r → RunEnds A es image (unfinished_of r) seen.swap_after → RunEnded seen A es image r
   run_ended (Ok done) kind c e = e
   run_ended (Err FileFault) kind c e = e
@@ -57,7 +58,7 @@ module _ (seen : Seen) (A : Inputs) (es : List Entry) (image : List ℕ) where
   lost_ended (Err _) kind lost c e = absurd kind
 
 -- The text of the journal of a run that ended, over the images of its inputs.
-module _ (A : Inputs) (es : List Entry) (image : List ℕ) (after : Option (List ℕ)) (limit : A.limit ≤ MOST_LIMIT) (numbers : HaveNumbers es) (traced : Bool) where
+module _ (A : Inputs) (es : List Entry) (image : SwapImage) (after : Option SwapImage) (limit : A.limit ≤ MOST_LIMIT) (numbers : HaveNumbers es) (traced : Bool) where
   made_flat : (s : State) → IsJournalOf A es s → IsFlatText A traced es
   made_flat s m = let made : IsJournalOf A es s = m in text_flat A made.holdings es s traced made.can made.lawful limit numbers
 
@@ -72,7 +73,7 @@ module _ (A : Inputs) (es : List Entry) (image : List ℕ) (after : Option (List
   fault_flat (NoSpace pid) e = none_flat e.0.0
   fault_flat _ e = absurd e
 
-pub ended_flat : (seen : Seen) (A : Inputs) (es : List Entry) (image : List ℕ) (r : RunEnding) → A.limit ≤ MOST_LIMIT → HaveNumbers es
+pub ended_flat : (seen : Seen) (A : Inputs) (es : List Entry) (image : SwapImage) (r : RunEnding) → A.limit ≤ MOST_LIMIT → HaveNumbers es
     → RunEnded seen A es image r → (traced : Bool) → IsFlatText A traced es
 ended_flat seen A es image (Ok done) limit numbers e traced = made_flat A es image seen.swap_after limit numbers traced e.state e.made
 ended_flat seen A es image (Err NoMemory) limit numbers (calm, inl none) traced = none_flat A es image seen.swap_after limit numbers traced none.0

@@ -1,8 +1,9 @@
 -- The headline holds of a run that words ask for, however it ended.
 use Rattle.std.proofs.Common.{◌≡◌, ◌⊎◌, inl, inr, ℕ, List, [], Option, Some, Result, Ok, Err, sym, ap, ◌∙◌}
+use Rattle.vm_facts.specs.SwapImages.{SwapImage}
 use Rattle.vm_facts.specs.declared.entry.Entry.{Entry}
 use Rattle.io_edge.specs.FileHolding.{NamedFile}
-use Rattle.io_edge.specs.Striping.{pair_blocks, first_blocks, pair_image}
+use Rattle.io_edge.specs.Striping.{pair_blocks, images_paired, pair_image}
 use Rattle.flat_state.specs.Flat.{NamedImage, Inputs}
 use Rattle.flat_model.specs.Asked.{start_held}
 use Rattle.run_files.specs.declared.answers.Unread.{Unread}
@@ -36,11 +37,11 @@ module _ (request : Request) (files : List NamedFile) where
 -- How a run ended.
 
 -- where memory lacked, nothing ran, or the headline holds
-lacked : (seen : Seen) (A : Inputs) (es : List Entry) (image : List ℕ) → RunEnded seen A es image (Err NoMemory) → (es ≡ []) ⊎ Headline A es
+lacked : (seen : Seen) (A : Inputs) (es : List Entry) (image : SwapImage) → RunEnded seen A es image (Err NoMemory) → (es ≡ []) ⊎ Headline A es
 lacked seen A es image (calm, inl none) = inl none.0
 lacked seen A es image (calm, inr starved) = inr (carries_headline A es starved.state starved.made)
 
-module _ (request : Request) (seen : Seen) (files : List NamedFile) (es : List Entry) (image : List ℕ) where
+module _ (request : Request) (seen : Seen) (files : List NamedFile) (es : List Entry) (image : SwapImage) where
   starved_words : RunOfWords request seen files es image (Err NoMemory) → (es ≡ []) ⊎ HeadlineOfWords request files es
   starved_words w = elim (lacked seen w.inputs es image w.ended) [
     | inl none ↦ inl none
@@ -69,13 +70,13 @@ module _ (request : Request) (seen : Seen) (files : List NamedFile) (es : List E
   says (Err _) c j w = absurd c.0
 
 -- the image of a pair is told where both devices tell theirs
-pair_told : (blocks : ℕ) (zero one : Option (List ℕ)) (evens odds : List ℕ) → zero ≡ Some evens → one ≡ Some odds
-    → pair_image blocks zero one ≡ Some (first_blocks blocks evens odds)
+pair_told : (blocks : ℕ) (zero one : Option SwapImage) (evens odds : SwapImage) → zero ≡ Some evens → one ≡ Some odds
+    → pair_image blocks zero one ≡ Some (images_paired blocks evens odds)
 pair_told blocks zero one evens odds first second =
-    ap (λ (o : Option (List ℕ)). pair_image blocks o one) first ∙ ap (λ (o : Option (List ℕ)). pair_image blocks (Some evens) o) second
+    ap (λ (o : Option SwapImage). pair_image blocks o one) first ∙ ap (λ (o : Option SwapImage). pair_image blocks (Some evens) o) second
 
 pub run_carries : (request : Request) (seen : Seen) (status : ℕ) → Runs request seen status
-    → (zero one : Option (List ℕ)) → seen.swap_before ≡ image_together seen.zero_blocks seen.one_blocks zero one
+    → (zero one : Option SwapImage) → seen.swap_before ≡ image_together seen.zero_blocks seen.one_blocks zero one
     → CarriesHeadline request seen.files zero one seen.zero_blocks seen.one_blocks
     seen.written_before seen.written_after seen.sink_faults_before seen.sink_faults_after status
 run_carries request seen status r zero one swap = record {
@@ -84,6 +85,6 @@ run_carries request seen status r zero one swap = record {
   writes = r.writes;
   told = λ files evens odds is octets first second.
       let blocks : ℕ = pair_blocks seen.zero_blocks seen.one_blocks in
-      says request seen files r.journal (first_blocks blocks evens odds) r.ending r.caused (r.judged files is)
-      (r.told files (first_blocks blocks evens odds) is octets (swap ∙ pair_told blocks zero one evens odds first second));
+      says request seen files r.journal (images_paired blocks evens odds) r.ending r.caused (r.judged files is)
+      (r.told files (images_paired blocks evens odds) is octets (swap ∙ pair_told blocks zero one evens odds first second));
 }

@@ -2,6 +2,7 @@
 use Rattle.std.proofs.Common.{◌≡◌, ℕ, ◌*◌, ◌≤◌, List, [], ◌∷◌, length, map, Option, Some, Ok, refl, sym, subst, arith}
 use Rattle.std.specs.Prelude.{All}
 use Rattle.std.proofs.lemmas.List.Elements.{All-weaker, All-head, All-tail}
+use Rattle.vm_facts.specs.SwapImages.{SwapImage}
 use Rattle.vm_facts.specs.declared.event.Event.{Event}
 use Rattle.vm_facts.specs.declared.event.Event.TheVariants as events
 use Rattle.io_edge.specs.FileHolding.{NamedFile}
@@ -78,7 +79,7 @@ module _ (request : Request) (files : List NamedFile) (opening : Opening) (k : K
     frames = let least = ranges.least_frames in omega arith;
   }
 
-  pub is_asked_of : (image : List ℕ) (holds : Option (List NamedFile)) → holds ≡ Some files → AreOctetFiles files → 512 * request.numbers.swap ≤ length image
+  pub is_asked_of : (image : SwapImage) (holds : Option (List NamedFile)) → holds ≡ Some files → AreOctetFiles files → 512 * request.numbers.swap ≤ length image.bytes
       → IsOfOpening request.numbers opening holds (inputs_of request files opening) image
   is_asked_of image holds told octets room = record {
     named = named_images files opening.images.items;

@@ -3,6 +3,7 @@ use Rattle.std.proofs.Common.{◌≡◌, ℕ, ◌+◌, ◌*◌, ◌≤◌, ◌==
 use Rattle.std.specs.List.{range_with_len}
 use Rattle.std.proofs.lemmas.List.{length-map}
 use Rattle.std.proofs.lemmas.List.FromFn.{length-map-range_with_len}
+use Rattle.vm_facts.specs.SwapImages.{SwapImage}
 use Rattle.vm_facts.specs.declared.entry.Entry.{Entry}
 use Rattle.vm_facts.specs.declared.event.Event.{Event}
 use Rattle.vm_facts.specs.declared.event.Event.TheVariants.{Dispatch, Interrupt, Hands, Swapper, Audit}
@@ -51,7 +52,7 @@ few_moves number =
     omega (arith, a, b, c)
 
 -- a run of a load never fills its journal
-never_full : (number : ℕ) (seen : Seen) (journal : List Entry) (image : List ℕ) → IsLoadCaused seen journal (Err faults.JournalFull)
+never_full : (number : ℕ) (seen : Seen) (journal : List Entry) (image : SwapImage) → IsLoadCaused seen journal (Err faults.JournalFull)
     → LoadEnded number seen journal image (Err faults.JournalFull) → ⊥
 never_full number seen journal image caused ended =
     let h : RunHalted (load_inputs number) journal stops.JournalFull image seen.swap_after = ended in
@@ -63,7 +64,7 @@ never_full number seen journal image caused ended =
     let moves = few_moves number in
     absurd (omega (arith, k, full, lines, moves))
 
-ending_fits : (number : ℕ) (seen : Seen) (journal : List Entry) (image : List ℕ) (ending : RunEnding) → IsLoadCaused seen journal ending
+ending_fits : (number : ℕ) (seen : Seen) (journal : List Entry) (image : SwapImage) (ending : RunEnding) → IsLoadCaused seen journal ending
     → LoadEnded number seen journal image ending → 10 ≡ status_of ending → ⊥
 ending_fits number seen journal image (Ok done) caused ended e = absurd cc
 ending_fits number seen journal image (Err faults.JournalFull) caused ended e = never_full number seen journal image caused ended
@@ -74,7 +75,7 @@ pub load_fits : (number : ℕ) (seen : Seen) (status : ℕ) (journal : List Entr
     → Writes seen.written_before seen.written_after seen.sink_faults_before seen.sink_faults_after (load_written number journal ending)
     (status_of ending) status
     → IsLoadCaused seen journal ending
-    → ((image : List ℕ) → seen.swap_before ≡ Some image → LoadEnded number seen journal image ending)
-    → (image : List ℕ) → seen.swap_before ≡ Some image → status ≡ 10 → ⊥
+    → ((image : SwapImage) → seen.swap_before ≡ Some image → LoadEnded number seen journal image ending)
+    → (image : SwapImage) → seen.swap_before ≡ Some image → status ≡ 10 → ⊥
 load_fits number seen status journal ending (All e w same) caused told image is ten = ending_fits number seen journal image ending caused (told image is) (sym ten ∙ e)
 load_fits number seen status journal ending (Prefix e w rose) caused told image is ten = absurd (let z = sym ten ∙ e in cc)

@@ -2,6 +2,7 @@
 use Rattle.std.proofs.Common.{◌≡◌, inl, inr, ℕ, ◌≤◌, Bool, true, false, if◌then◌else◌, nat_lt, List, [], length, Option, Some, None, Result, Ok, Err, refl, ◌∙◌, subst, arith}
 use Rattle.std.specs.Prelude.{IfErr}
 use Rattle.std.proofs.lemmas.Bool.{ltb-false}
+use Rattle.vm_facts.specs.SwapImages.{SwapImage}
 use Rattle.vm_facts.specs.declared.entry.Entry.{Entry}
 use Rattle.io_edge.specs.Count.{Rose}
 use Rattle.io_edge.specs.Striping.{zero_needs, one_needs, MeetsNeeds}
@@ -95,7 +96,7 @@ counts_lost_caused : (seen : Seen) (journal : List Entry) (r : RunEnding) → Is
 counts_lost_caused seen journal (Ok done) began lost c = c
 counts_lost_caused seen journal (Err fault) began lost c = lost_caused seen journal (Err fault) (as_run (Err fault) began) lost c
 
-counts_starve : (seen : Seen) (A : Inputs) (journal : List Entry) (image : List ℕ) (r : RunEnding) → IsRunEnding r → CountsBeLost r → RunCaused seen journal r
+counts_starve : (seen : Seen) (A : Inputs) (journal : List Entry) (image : SwapImage) (r : RunEnding) → IsRunEnding r → CountsBeLost r → RunCaused seen journal r
     → RunEnded seen A journal image r → RunEnded seen A journal image (Err faults.NoMemory)
 counts_starve seen A journal image (Ok done) began lost c e = (c, inr (record { state = e.state; made = e.made; left = e.left }))
 counts_starve seen A journal image (Err fault) began lost c e = lost_ended seen A journal image (Err fault) (as_run (Err fault) began) lost c e
@@ -104,10 +105,10 @@ other_fault : (pid : ℕ) → (let r : RunEnding = Err faults.NoMemory in r) ≡
 other_fault pid e = cc
 
 -- the run of a machine, as it was written
-load_runs : (IsOf : Inputs → List ℕ → Type 0) (Starts : Inputs → Type 0) (number : ℕ) (seen : Seen) (status : ℕ) (journal : List Entry) (r : RunEnding)
+load_runs : (IsOf : Inputs → SwapImage → Type 0) (Starts : Inputs → Type 0) (number : ℕ) (seen : Seen) (status : ℕ) (journal : List Entry) (r : RunEnding)
     → IsRunEnding r → length journal ≤ journal_entries → RunCaused seen journal r
     → ((A : Inputs) → Starts A → (pid : ℕ) → r ≡ Err (faults.NoSpace pid) → start_held A ≡ Err pid)
-    → ((A : Inputs) (image : List ℕ) → IsOf A image → seen.swap_before ≡ Some image → RunEnded seen A journal image r)
+    → ((A : Inputs) (image : SwapImage) → IsOf A image → seen.swap_before ≡ Some image → RunEnded seen A journal image r)
     → WritesCounts number journal r seen.written_before seen.written_after seen.sink_faults_before seen.sink_faults_after status
     → LoadRuns IsOf Starts number seen status
 load_runs IsOf Starts number seen status journal r began within caused space ended (inl w) =
@@ -123,14 +124,14 @@ load_runs IsOf Starts number seen status journal r began within caused space end
   ended = λ A image is told. counts_starve seen A journal image r began lost caused (ended A image is told);
 }
 
-pub load_ran : (IsOf : Inputs → List ℕ → Type 0) (Starts : Inputs → Type 0) (number : ℕ) (seen : Seen) (status : ℕ) (journal : List Entry) (r : RunEnding)
+pub load_ran : (IsOf : Inputs → SwapImage → Type 0) (Starts : Inputs → Type 0) (number : ℕ) (seen : Seen) (status : ℕ) (journal : List Entry) (r : RunEnding)
     → IfErr r IsRunFault → CountsFileFaults (stop_of (stopped_as (unfinished_of r))) 0 0
     → NoFaults seen.faults
     → ReadsFail r seen.reads → WritesFail r seen.writes → ((pid : ℕ) → r ≡ Err (faults.NoSpace pid) → journal ≡ [])
     → ((pid : ℕ) → r ≡ Err (faults.NoSpace pid) → seen.swap_after ≡ seen.swap_before)
     → (r ≡ Err faults.JournalFull → length journal ≡ journal_entries) → length journal ≤ journal_entries
     → ((A : Inputs) → Starts A → (pid : ℕ) → r ≡ Err (faults.NoSpace pid) → start_held A ≡ Err pid)
-    → ((A : Inputs) (image : List ℕ) → IsOf A image → seen.swap_before ≡ Some image → RunEnds A journal image (unfinished_of r) seen.swap_after)
+    → ((A : Inputs) (image : SwapImage) → IsOf A image → seen.swap_before ≡ Some image → RunEnds A journal image (unfinished_of r) seen.swap_after)
     → WritesCounts number journal r seen.written_before seen.written_after seen.sink_faults_before seen.sink_faults_after status
     → LoadRuns IsOf Starts number seen status
 load_ran IsOf Starts number seen status journal r kind pages files reads writes none same full within space ends w =
@@ -139,7 +140,7 @@ load_ran IsOf Starts number seen status journal r kind pages files reads writes 
     load_runs IsOf Starts number seen status journal r began within caused space (λ A image is told. run_ended seen A journal image r kind caused (ends A image is told)) w
 
 -- a machine that wasn't made
-pub load_unmade : (IsOf : Inputs → List ℕ → Type 0) (Starts : Inputs → Type 0) (number : ℕ) (seen : Seen) (status : ℕ)
+pub load_unmade : (IsOf : Inputs → SwapImage → Type 0) (Starts : Inputs → Type 0) (number : ℕ) (seen : Seen) (status : ℕ)
     → seen.swap_after ≡ seen.swap_before → NoneFaulted seen
     → WritesCounts number [] (Err faults.NoMemory) seen.written_before seen.written_after seen.sink_faults_before seen.sink_faults_after status
     → LoadRuns IsOf Starts number seen status
@@ -161,7 +162,7 @@ load_caused seen journal (Err (faults.NoSpace pid)) began never c d = absurd (ne
 load_caused seen journal (Err faults.NoMemory) began never c d = inr (c, d)
 load_caused seen journal (Err _) began never c d = absurd began
 
-load_ended : (number : ℕ) (seen : Seen) (journal : List Entry) (image : List ℕ) (r : RunEnding) → IsRunEnding r
+load_ended : (number : ℕ) (seen : Seen) (journal : List Entry) (image : SwapImage) (r : RunEnding) → IsRunEnding r
     → RunEnded seen (load_inputs number) journal image r → LoadEnded number seen journal image r
 load_ended number seen journal image (Ok done) began e = e
 load_ended number seen journal image (Err faults.FileFault) began e = e
@@ -172,12 +173,12 @@ load_ended number seen journal image (Err (faults.NoSpace pid)) began e = e
 load_ended number seen journal image (Err faults.NoMemory) began e = e
 load_ended number seen journal image (Err _) began e = absurd began
 
-pub loads_run : (IsOf : Inputs → List ℕ → Type 0) (Starts : Inputs → Type 0) (number : ℕ) (seen : Seen) (status : ℕ)
+pub loads_run : (IsOf : Inputs → SwapImage → Type 0) (Starts : Inputs → Type 0) (number : ℕ) (seen : Seen) (status : ℕ)
     → DevicesSuffice load_numbers.swap seen → NoFaults seen.faults
-    → Starts (load_inputs number) → ((image : List ℕ) → seen.swap_before ≡ Some image → IsOf (load_inputs number) image)
+    → Starts (load_inputs number) → ((image : SwapImage) → seen.swap_before ≡ Some image → IsOf (load_inputs number) image)
     → LoadRuns IsOf Starts number seen status → Loads number seen status
 loads_run IsOf Starts number seen status long files starts is_of x =
-    let ends : (image : List ℕ) → seen.swap_before ≡ Some image → LoadEnded number seen x.journal image x.ending
+    let ends : (image : SwapImage) → seen.swap_before ≡ Some image → LoadEnded number seen x.journal image x.ending
     = λ image told. load_ended number seen x.journal image x.ending x.began (x.ended (load_inputs number) image (is_of image told) told) in
     record {
       ending = x.ending;
@@ -197,7 +198,7 @@ pub loads_unmade : (number : ℕ) (seen : Seen) (status : ℕ) → seen.swap_aft
     → WritesCounts number [] (Err faults.NoMemory) seen.written_before seen.written_after seen.sink_faults_before seen.sink_faults_after status
     → Loads number seen status
 loads_unmade number seen status same none (inl w) =
-    let ends : (image : List ℕ) → seen.swap_before ≡ Some image → LoadEnded number seen [] image (Err faults.NoMemory)
+    let ends : (image : SwapImage) → seen.swap_before ≡ Some image → LoadEnded number seen [] image (Err faults.NoMemory)
     = λ image told. (none, inl (refl, same ∙ told)) in
     let unbegun : Unbegun seen [] = record { nothing = record { journal_is = refl; swap = same; reads = none.reads; writes = none.writes }; files = none.files } in
     record {
@@ -228,7 +229,7 @@ loads_short : (number : ℕ) (seen : Seen) (status : ℕ) (fault : Fault) → Is
     → device_fault load_numbers.swap seen.zero_blocks seen.one_blocks ≡ Some fault → Unbegun seen []
     → WritesCounts number [] (Err fault) seen.written_before seen.written_after seen.sink_faults_before seen.sink_faults_after status → Loads number seen status
 loads_short number seen status (faults.ShortDevice device blocks needed) short is done (inl w) =
-    let ends : (image : List ℕ) → seen.swap_before ≡ Some image → LoadEnded number seen [] image (Err (faults.ShortDevice device blocks needed))
+    let ends : (image : SwapImage) → seen.swap_before ≡ Some image → LoadEnded number seen [] image (Err (faults.ShortDevice device blocks needed))
     = λ image told. (refl, (let n : NothingDone seen [] = done.nothing in n.swap) ∙ told) in
     record {
       ending = Err (faults.ShortDevice device blocks needed);

@@ -1,6 +1,7 @@
 -- What a stop of a run over two devices is said as, and which device failed.
 use Rattle.std.proofs.Common.{◌≡◌, inl, inr, ℕ, ◌<◌, ◌≤◌, List, Option, Some, None, Err, refl, sym, ap, ◌∙◌, subst, arith}
 use Rattle.std.specs.Option.{ForSome}
+use Rattle.vm_facts.specs.SwapImages.{SwapImage}
 use Rattle.vm_facts.specs.declared.entry.Entry.{Entry}
 use Rattle.vm_facts.specs.declared.stop.Stop.{Stop}
 use Rattle.vm_facts.specs.declared.stop.Stop.TheVariants as stops
@@ -17,7 +18,7 @@ use Rattle.command_ending.specs.declared.fault.Fault.TheVariants.{FileFault, Swa
 use Rattle.run_command.specs.Seen.{DeviceFaults, NoneFailed, DeviceFailed}
 use Rattle.run_command.specs.Paired.{unfinished_by, IsFaultOf, IsRunFault, ReadsFail, WritesFail}
 
-pub stopped_ends : (A : Inputs) (es : List Entry) (image : List ℕ) (j : Option (List ℕ)) (stop : Stop) (fault : Fault) → IsFaultOf stop fault
+pub stopped_ends : (A : Inputs) (es : List Entry) (image : SwapImage) (j : Option SwapImage) (stop : Stop) (fault : Fault) → IsFaultOf stop fault
     → RunEnds A es image (Err (ends.Stopped stop)) j
     → RunEnds A es image (Err (unfinished_by fault)) j
 stopped_ends A es image j stop fault e x = subst (λ (u : Unfinished). RunEnds A es image (Err u) j) (sym e) x

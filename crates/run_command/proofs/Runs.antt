@@ -2,6 +2,7 @@
 use Rattle.std.proofs.Common.{◌≡◌, inl, inr, ℕ, ◌*◌, ◌≤◌, nat_lt, Bool, true, false, List, [], length, map, Option, Some, None, Result, Ok, Err, if◌then◌else◌, refl, sym, ap, ◌∙◌, subst, arith}
 use Rattle.std.specs.Prelude.{IfOk, IfErr, OnOk}
 use Rattle.std.proofs.lemmas.Bool.Decides.{nat_tests}
+use Rattle.vm_facts.specs.SwapImages.{SwapImage}
 use Rattle.vm_facts.specs.declared.entry.Entry.{Entry}
 use Rattle.io_edge.specs.FileHolding.{NamedFile}
 use Rattle.io_edge.specs.Striping.{zero_needs, one_needs, most_blocks, MeetsNeeds, pair_blocks}
@@ -73,9 +74,9 @@ needs_met swap zero_size one_size none = go (nat_lt zero_size (zero_needs swap))
     go false true fits short e = absurd cc
     go false false zero_fits one_fits e = (grind (arith, nat_tests), grind (arith, nat_tests))
 
-pub room_told : (zero_size one_size swap : ℕ) (zero one : Option (List ℕ)) (image : List ℕ)
-    → ((bytes : List ℕ) → zero ≡ Some bytes → length bytes ≡ 512 * zero_size) → ((bytes : List ℕ) → one ≡ Some bytes → length bytes ≡ 512 * one_size)
-    → MeetsNeeds zero_size one_size swap → swap ≤ most_blocks → image_together zero_size one_size zero one ≡ Some image → 512 * swap ≤ length image
+pub room_told : (zero_size one_size swap : ℕ) (zero one : Option SwapImage) (image : SwapImage)
+    → ((whole : SwapImage) → zero ≡ Some whole → length whole.bytes ≡ 512 * zero_size) → ((whole : SwapImage) → one ≡ Some whole → length whole.bytes ≡ 512 * one_size)
+    → MeetsNeeds zero_size one_size swap → swap ≤ most_blocks → image_together zero_size one_size zero one ≡ Some image → 512 * swap ≤ length image.bytes
 room_told zero_size one_size swap zero one image zero_whole one_whole meets most told =
     let long = pair_whole (pair_blocks zero_size one_size) zero one image (tell_blocks zero_size one_size zero one zero_whole one_whole) told in
     let fits = (largest_swap zero_size one_size).2 swap most meets in
@@ -106,10 +107,10 @@ run_caused seen es (Err _) kind opens pages reads writes none same full = absurd
 
 -- A run over a machine, as it was written.
 
-pub opened_runs : (IsOf : Inputs → List ℕ → Type 0) (traced : Bool) (seen : Seen) (es : List Entry) (r : RunEnding) (status : ℕ)
+pub opened_runs : (IsOf : Inputs → SwapImage → Type 0) (traced : Bool) (seen : Seen) (es : List Entry) (r : RunEnding) (status : ℕ)
     → WritesRun traced es r seen.written_before seen.written_after seen.sink_faults_before seen.sink_faults_after status → HaveNumbers es
     → length es ≤ journal_entries → RunCaused seen es r → IfErr r IsRunFault
-    → ((A : Inputs) (image : List ℕ) → IsOf A image → seen.swap_before ≡ Some image → RunEnded seen A es image r) → RunsOpened IsOf traced seen status
+    → ((A : Inputs) (image : SwapImage) → IsOf A image → seen.swap_before ≡ Some image → RunEnded seen A es image r) → RunsOpened IsOf traced seen status
 opened_runs IsOf traced seen es r status (inl writes) numbers within caused kind ended =
     record { ending = r; journal = es; writes = writes; within = within; caused = caused; numbers = numbers; ended = ended }
 opened_runs IsOf traced seen es r status (inr (lost, writes)) numbers within caused kind ended = record {
@@ -122,7 +123,7 @@ opened_runs IsOf traced seen es r status (inr (lost, writes)) numbers within cau
   ended = λ A image is told. lost_ended seen A es image r kind lost caused (ended A image is told);
 }
 
-pub opened_lacking : (IsOf : Inputs → List ℕ → Type 0) (traced : Bool) (seen : Seen) (status : ℕ)
+pub opened_lacking : (IsOf : Inputs → SwapImage → Type 0) (traced : Bool) (seen : Seen) (status : ℕ)
     → WritesRun traced [] (Err NoMemory) seen.written_before seen.written_after seen.sink_faults_before seen.sink_faults_after status
     → seen.swap_after ≡ seen.swap_before → NoneFaulted seen → RunsOpened IsOf traced seen status
 opened_lacking IsOf traced seen status (inl writes) same none =
@@ -153,7 +154,7 @@ judged_good request seen files es (Err NoMemory) c good = inr good
 judged_good request seen files es (Err (NoSpace pid)) c good = good
 judged_good request seen files es (Err _) c good = absurd c
 
-told_so : (request : Request) (seen : Seen) (files : List NamedFile) (es : List Entry) (image : List ℕ) (r : RunEnding) → RunCaused seen es r
+told_so : (request : Request) (seen : Seen) (files : List NamedFile) (es : List Entry) (image : SwapImage) (r : RunEnding) → RunCaused seen es r
     → AllGood request seen files
     → RunOfWords request seen files es image r → EndsTold request seen files es image r
 told_so request seen files es image (Ok done) c good x = x
@@ -165,7 +166,7 @@ told_so request seen files es image (Err NoMemory) c good x = inr x
 told_so request seen files es image (Err (NoSpace pid)) c good x = x
 told_so request seen files es image (Err _) c good x = absurd c
 
-of_words : (request : Request) (seen : Seen) (files : List NamedFile) (opening : Opening) (es : List Entry) (image : List ℕ) (r : RunEnding)
+of_words : (request : Request) (seen : Seen) (files : List NamedFile) (opening : Opening) (es : List Entry) (image : SwapImage) (r : RunEnding)
     → KnownOpening request files opening → AreAllowed request.numbers → HaveNumbers es
     → RunEnded seen (inputs_of request files opening) es image r → RunOfWords request seen files es image r
 of_words request seen files opening es image r known allowed numbers ended = record {
@@ -179,7 +180,7 @@ pub opened_words : (request : Request) (seen : Seen) (opening : Opening) (status
     request.traced seen status → AreAllowed request.numbers → DevicesSuffice request.numbers.swap seen
     → ((files : List NamedFile) → seen.files ≡ Some files → AllGood request seen files)
     → ((files : List NamedFile) → seen.files ≡ Some files → KnownOpening request files opening)
-    → ((image : List ℕ) → seen.swap_before ≡ Some image → 512 * request.numbers.swap ≤ length image) → Runs request seen status
+    → ((image : SwapImage) → seen.swap_before ≡ Some image → 512 * request.numbers.swap ≤ length image.bytes) → Runs request seen status
 opened_words request seen opening status x allowed devices good known room = record {
   ending = x.ending;
   journal = x.journal;
@@ -252,7 +253,7 @@ module _ (request : Request) (seen : Seen) (same : seen.swap_after ≡ seen.swap
   unopened_judged NoMemory found files ends opens is = inl (none_faulted opens)
   unopened_judged _ found files ends opens is = absurd ends
 
-  unopened_told : (fault : Fault) (found : FoundFiles) (files : List NamedFile) (image : List ℕ) → OpeningOf request seen found fault → CountsAt fault seen.faults.open_before seen.faults.open_after
+  unopened_told : (fault : Fault) (found : FoundFiles) (files : List NamedFile) (image : SwapImage) → OpeningOf request seen found fault → CountsAt fault seen.faults.open_before seen.faults.open_after
       → seen.swap_before ≡ Some image → EndsTold request seen files [] image (Err fault)
   unopened_told (Absent name) found files image ends opens swap = (refl, same ∙ swap)
   unopened_told (NotImage name reason) found files image ends opens swap = (refl, same ∙ swap)

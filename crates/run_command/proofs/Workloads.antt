@@ -5,6 +5,7 @@ use Rattle.std.specs.List.{list_all}
 use Rattle.std.proofs.lemmas.List.Elements.{All-nil, All-cons, All-head, All-tail}
 use Rattle.std.proofs.lemmas.Bool.{ltb-true}
 use Rattle.std.proofs.lemmas.List.FromFn.{length-map-range_with_len}
+use Rattle.vm_facts.specs.SwapImages.{SwapImage}
 use Rattle.vm_facts.specs.declared.event.Event.{Event}
 use Rattle.io_edge.specs.FileHolding.{NamedFile, HasRange}
 use Rattle.io_edge.specs.Striping.{pair_blocks, zero_needs, one_needs, device_of, MeetsNeeds}
@@ -165,9 +166,9 @@ first_numbers most some = one (1 ∷ 1 ∷ 1 ∷ []) (one (1 ∷ 1 ∷ []) (one 
     one ns all = All-cons Fits 1 ns (omega arith, some) all
 
 -- The swap image has all blocks.
-pub has_room : (z o : ℕ) (evens odds : Option (List ℕ)) (image : List ℕ) → ((bytes : List ℕ) → evens ≡ Some bytes → length bytes ≡ 512 * z)
-    → ((bytes : List ℕ) → odds ≡ Some bytes → length bytes ≡ 512 * o)
-    → MeetsNeeds z o load_numbers.swap → image_together z o evens odds ≡ Some image → 512 * load_numbers.swap ≤ length image
+pub has_room : (z o : ℕ) (evens odds : Option SwapImage) (image : SwapImage) → ((whole : SwapImage) → evens ≡ Some whole → length whole.bytes ≡ 512 * z)
+    → ((whole : SwapImage) → odds ≡ Some whole → length whole.bytes ≡ 512 * o)
+    → MeetsNeeds z o load_numbers.swap → image_together z o evens odds ≡ Some image → 512 * load_numbers.swap ≤ length image.bytes
 unfolding pair_blocks zero_needs one_needs device_of
 has_room z o evens odds image whole_z whole_o meets told =
     let long = pair_whole (pair_blocks z o) evens odds image (tell_blocks z o evens odds whole_z whole_o) told in
@@ -200,8 +201,8 @@ module _ (number : ℕ) (os : List OpenedImage) (same : images_in (load_files nu
   pub starts_from : StartsFrom (load_inputs number) (machine_of load_numbers (map shown_as os)) load_first
   starts_from = record { named = subst (λ (images : List NamedImage). AreNamed images (map shown_as os)) same (named_images (load_files number) os); first = refl; frames = refl; blocks = refl }
 
-  pub is_asked_of : (holds : Option (List NamedFile)) (lines : List Event) (image : List ℕ) → holds ≡ Some (load_files number) → lines ≡ load_lines number → All (IsIn (load_files number)) os
-      → 512 * load_numbers.swap ≤ length image → IsAskedOf (load_inputs number) (machine_of load_numbers (map shown_as os)) load_first lines holds image
+  pub is_asked_of : (holds : Option (List NamedFile)) (lines : List Event) (image : SwapImage) → holds ≡ Some (load_files number) → lines ≡ load_lines number → All (IsIn (load_files number)) os
+      → 512 * load_numbers.swap ≤ length image.bytes → IsAskedOf (load_inputs number) (machine_of load_numbers (map shown_as os)) load_first lines holds image
   is_asked_of holds lines image told lines_are are_in room = record {
     named = subst (λ (images : List NamedImage). AreNamed images (map shown_as os)) same (named_images (load_files number) os);
     first = refl;

@@ -1,5 +1,6 @@
 -- How a run ends, and what it writes.
 use Rattle.std.specs.Prelude.{◌≡◌, ◌⊎◌, ◌≤◌, ℕ, Bool, List, [], ◌++◌, length, Option, Some, None, Result, Ok, Err}
+use Rattle.vm_facts.specs.SwapImages.{SwapImage}
 use Rattle.vm_facts.specs.declared.entry.Entry.{Entry}
 use Rattle.vm_facts.specs.declared.stop.Stop.TheVariants as stops
 use Rattle.io_edge.specs.FileHolding.{NamedFile}
@@ -136,7 +137,7 @@ IsJudged request seen files ending = AllGood request seen files
 -- The run, where files and devices are told.
 
 -- it halted by this fault, which isn't want of memory
-abbrev pub FaultEnded : Inputs → List Entry → List ℕ → Option (List ℕ) → Fault → Type 0
+abbrev pub FaultEnded : Inputs → List Entry → SwapImage → Option SwapImage → Fault → Type 0
 FaultEnded A journal image after FileFault = RunHalted A journal stops.FileFault image after
 FaultEnded A journal image after (SwapReadFault device) = RunHalted A journal stops.SwapReadFault image after
 FaultEnded A journal image after (SwapWriteFault device) = RunHalted A journal stops.SwapWriteFault image after
@@ -145,7 +146,7 @@ FaultEnded A journal image after (NoSpace pid) = NoneMade journal image after ×
 FaultEnded A journal image after _ = ⊥
 
 -- Want of memory may come at any place, before anything was done too, but in place of no failed call.
-abbrev pub RunEnded : Seen → Inputs → List Entry → List ℕ → RunEnding → Type 0
+abbrev pub RunEnded : Seen → Inputs → List Entry → SwapImage → RunEnding → Type 0
 RunEnded seen A journal image (Ok done) = RunFinished A journal image seen.swap_after
 RunEnded seen A journal image (Err NoMemory) =
     NoneFaulted seen × (NoneMade journal image seen.swap_after ⊎ RunStarved A journal image seen.swap_after)
@@ -153,7 +154,7 @@ RunEnded seen A journal image (Err fault) = FaultEnded A journal image seen.swap
 
 -- It ended so for inputs that the words ask for. A judge of transcripts accepts the text of its journal over the images of these inputs,
 -- with the trace of the paging and without.
-pub record RunOfWords (request : Request) (seen : Seen) (files : List NamedFile) (journal : List Entry) (image : List ℕ) (ending : RunEnding) : Type 0 where
+pub record RunOfWords (request : Request) (seen : Seen) (files : List NamedFile) (journal : List Entry) (image : SwapImage) (ending : RunEnding) : Type 0 where
   pub inputs : Inputs
   pub asks : AsksFor inputs request files
   pub ended : RunEnded seen inputs journal image ending
@@ -161,13 +162,13 @@ pub record RunOfWords (request : Request) (seen : Seen) (files : List NamedFile)
 
 -- A file failed: before the run, and nothing was done; or in the run, and then all that is judged before it was good, and the run halted
 -- there.
-abbrev pub FileFaultTold : Request → Seen → List NamedFile → List Entry → List ℕ → Type 0
+abbrev pub FileFaultTold : Request → Seen → List NamedFile → List Entry → SwapImage → Type 0
 FileFaultTold request seen files journal image =
     (FailsBefore seen journal × NoneMade journal image seen.swap_after)
     ⊎ (PageFailed seen.faults × AllGood request seen files × RunOfWords request seen files journal image (Err FileFault))
 
 -- where files and devices are told: nothing was done, or the ending is that of a run which the words ask for
-abbrev pub EndsTold : Request → Seen → List NamedFile → List Entry → List ℕ → RunEnding → Type 0
+abbrev pub EndsTold : Request → Seen → List NamedFile → List Entry → SwapImage → RunEnding → Type 0
 EndsTold request seen files journal image (Err (Absent name)) = NoneMade journal image seen.swap_after
 EndsTold request seen files journal image (Err (NotImage name reason)) = NoneMade journal image seen.swap_after
 EndsTold request seen files journal image (Err (BadSchedule line)) = NoneMade journal image seen.swap_after
@@ -200,7 +201,7 @@ Writing traced seen journal ending status =
 -- status is the ending's; or the output failed, and a prefix of that was written. However it ended, the journal has no more entries than
 -- it may have. The ending has its cause. Where the files are told,
 -- the first thing met decides before the run; and where the devices are told too, the journal is that of a run of the inputs that the
--- words ask for, and the swap devices are left as it says.
+-- words ask for, and the swap devices are left as it says, with what it asked of them.
 pub record Runs (request : Request) (seen : Seen) (status : ℕ) : Type 0 where
   pub ending : RunEnding
   pub journal : List Entry
@@ -208,15 +209,15 @@ pub record Runs (request : Request) (seen : Seen) (status : ℕ) : Type 0 where
   pub within : length journal ≤ journal_entries
   pub caused : IsCaused request seen journal ending
   pub judged : (files : List NamedFile) → seen.files ≡ Some files → IsJudged request seen files ending
-  pub told : (files : List NamedFile) (image : List ℕ) → seen.files ≡ Some files → AreOctetFiles files → seen.swap_before ≡ Some image
+  pub told : (files : List NamedFile) (image : SwapImage) → seen.files ≡ Some files → AreOctetFiles files → seen.swap_before ≡ Some image
       → EndsTold request seen files journal image ending
 
 -- A run that was opened, over a machine: the same, for the inputs that are the machine's. Its entries are at hand.
-pub record RunsOpened (IsOf : Inputs → List ℕ → Type 0) (traced : Bool) (seen : Seen) (status : ℕ) : Type 0 where
+pub record RunsOpened (IsOf : Inputs → SwapImage → Type 0) (traced : Bool) (seen : Seen) (status : ℕ) : Type 0 where
   pub ending : RunEnding
   pub journal : List Entry
   pub writes : Writing traced seen journal ending status
   pub within : length journal ≤ journal_entries
   pub caused : RunCaused seen journal ending
   pub numbers : HaveNumbers journal
-  pub ended : (A : Inputs) (image : List ℕ) → IsOf A image → seen.swap_before ≡ Some image → RunEnded seen A journal image ending
+  pub ended : (A : Inputs) (image : SwapImage) → IsOf A image → seen.swap_before ≡ Some image → RunEnded seen A journal image ending

@@ -1,5 +1,6 @@
 -- The headline, of the command `run`.
 use Rattle.std.specs.Prelude.{◌≡◌, ◌⊎◌, ℕ, List, [], ◌++◌, length, Option, Some, Ok, Err}
+use Rattle.vm_facts.specs.SwapImages.{SwapImage}
 use Rattle.vm_facts.specs.declared.entry.Entry.{Entry}
 use Rattle.io_edge.specs.FileHolding.{NamedFile}
 use Rattle.io_edge.specs.Octets.{AreOctetFiles}
@@ -51,10 +52,10 @@ Says request files zero_blocks one_blocks journal (Err _) = ⊥
 -- What was written is the transcript of a journal, then the line of the ending, with its status; or the output failed, and a prefix
 -- of that was written. Where files and devices are told, the journal is one of which the ending says what is so. It goes by the files,
 -- by the images and blocks of both devices, and by the output and its faults before and after.
-pub record CarriesHeadline (request : Request) (files : Option (List NamedFile)) (zero one : Option (List ℕ)) (zero_blocks one_blocks : ℕ)
+pub record CarriesHeadline (request : Request) (files : Option (List NamedFile)) (zero one : Option SwapImage) (zero_blocks one_blocks : ℕ)
     (written_before written_after : Option (List ℕ)) (faults_before faults_after status : ℕ) : Type 0 where
   pub journal : List Entry
   pub ending : RunEnding
   pub writes : Writes written_before written_after faults_before faults_after (text_of request.traced journal ++ ending_line ending) (status_of ending) status
-  pub told : (holds : List NamedFile) (zero_image one_image : List ℕ) → files ≡ Some holds → AreOctetFiles holds → zero ≡ Some zero_image
+  pub told : (holds : List NamedFile) (zero_image one_image : SwapImage) → files ≡ Some holds → AreOctetFiles holds → zero ≡ Some zero_image
       → one ≡ Some one_image → Says request holds zero_blocks one_blocks journal ending

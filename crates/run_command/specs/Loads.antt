@@ -1,5 +1,6 @@
 -- What the command `load` is: a run of the workload of a number, which is counted.
 use Rattle.std.specs.Prelude.{◌≡◌, ◌⊎◌, ◌≤◌, ℕ, List, [], ◌∷◌, length, codes, IfErr, Option, Some, Ok, Err}
+use Rattle.vm_facts.specs.SwapImages.{SwapImage}
 use Rattle.aout_image.specs.Image.{Loaded}
 use Rattle.io_edge.specs.Written.{Appends}
 use Rattle.vm_facts.specs.declared.entry.Entry.{Entry}
@@ -86,7 +87,7 @@ IsLoadCaused seen journal (Err NoMemory) = Unbegun seen journal ⊎ (NoneFaulted
 IsLoadCaused seen journal ending = RunCaused seen journal ending × DevicesSuffice load_numbers.swap seen
 
 -- How the run ended, where the devices are told. Where a device is short, nothing was done.
-abbrev pub LoadEnded : ℕ → Seen → List Entry → List ℕ → RunEnding → Type 0
+abbrev pub LoadEnded : ℕ → Seen → List Entry → SwapImage → RunEnding → Type 0
 LoadEnded number seen journal image (Err (ShortDevice device blocks needed)) = NoneMade journal image seen.swap_after
 LoadEnded number seen journal image ending = RunEnded seen (load_inputs number) journal image ending
 
@@ -102,9 +103,9 @@ pub record Loads (number : ℕ) (seen : Seen) (status : ℕ) : Type 0 where
   pub within : length journal ≤ journal_entries
   pub caused : IsLoadCaused seen journal ending
   pub files : NoFaults seen.faults
-  pub told : (image : List ℕ) → seen.swap_before ≡ Some image → LoadEnded number seen journal image ending
-  pub counted : (image : List ℕ) → seen.swap_before ≡ Some image → status ≡ 0 → Appends seen.written_before (finished_lines number) seen.written_after
-  pub fits : (image : List ℕ) → seen.swap_before ≡ Some image → status ≡ 10 → ⊥
+  pub told : (image : SwapImage) → seen.swap_before ≡ Some image → LoadEnded number seen journal image ending
+  pub counted : (image : SwapImage) → seen.swap_before ≡ Some image → status ≡ 0 → Appends seen.written_before (finished_lines number) seen.written_after
+  pub fits : (image : SwapImage) → seen.swap_before ≡ Some image → status ≡ 10 → ⊥
 
 -- it ended as a run does that began, whose files never fail
 abbrev pub IsRunEnding : RunEnding → Type 0
@@ -112,7 +113,7 @@ IsRunEnding (Err FileFault) = ⊥
 IsRunEnding ending = IfErr ending IsRunFault
 
 -- A run of images that were opened, which is counted: the same, for the inputs that are its own, and for those with which it starts.
-pub record LoadRuns (IsOf : Inputs → List ℕ → Type 0) (Starts : Inputs → Type 0) (number : ℕ) (seen : Seen) (status : ℕ) : Type 0 where
+pub record LoadRuns (IsOf : Inputs → SwapImage → Type 0) (Starts : Inputs → Type 0) (number : ℕ) (seen : Seen) (status : ℕ) : Type 0 where
   pub ending : RunEnding
   pub journal : List Entry
   pub writes : Writes seen.written_before seen.written_after seen.sink_faults_before seen.sink_faults_after (load_written number journal ending)
@@ -121,4 +122,4 @@ pub record LoadRuns (IsOf : Inputs → List ℕ → Type 0) (Starts : Inputs →
   pub caused : RunCaused seen journal ending
   pub began : IsRunEnding ending
   pub space : (A : Inputs) → Starts A → (pid : ℕ) → ending ≡ Err (NoSpace pid) → start_held A ≡ Err pid
-  pub ended : (A : Inputs) (image : List ℕ) → IsOf A image → seen.swap_before ≡ Some image → RunEnded seen A journal image ending
+  pub ended : (A : Inputs) (image : SwapImage) → IsOf A image → seen.swap_before ≡ Some image → RunEnded seen A journal image ending

@@ -1,5 +1,6 @@
 -- The machine of a run that was opened.
 use Rattle.std.specs.Prelude.{◌≤◌, ◌<◌, ◌^◌, ℕ, List, [], length, map, Option, None, All}
+use Rattle.vm_facts.specs.SwapImages.{SwapImage}
 use Rattle.vm_facts.specs.declared.params.Params.{Params}
 use Rattle.io_edge.specs.FileHolding.{NamedFile}
 use Rattle.flat_state.specs.Flat.{Inputs}
@@ -49,6 +50,6 @@ pub record SuitsMachine (opening : Opening) (holds : Option (List NamedFile)) : 
   pub lines : length opening.lines.items < 2 ^ 32
 
 -- inputs that are those of the machine of what was opened, with a swap image
-abbrev pub IsOfOpening : Numbers → Opening → Option (List NamedFile) → Inputs → List ℕ → Type 0
+abbrev pub IsOfOpening : Numbers → Opening → Option (List NamedFile) → Inputs → SwapImage → Type 0
 IsOfOpening numbers opening holds A image =
     IsAskedOf A (machine_of numbers (map shown_as opening.images.items)) opening.first.items opening.lines.items holds image

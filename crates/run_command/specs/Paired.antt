@@ -1,5 +1,6 @@
 -- A run over two swap devices.
-use Rattle.std.specs.Prelude.{◌≡◌, ℕ, List, Option, Result, Ok, Err}
+use Rattle.std.specs.Prelude.{◌≡◌, ℕ, Option, Result, Ok, Err}
+use Rattle.vm_facts.specs.SwapImages.{SwapImage}
 use Rattle.vm_facts.specs.declared.stop.Stop.{Stop}
 use Rattle.vm_facts.specs.declared.stop.Stop.TheVariants as stops
 use Rattle.io_edge.specs.Striping.{pair_blocks, pair_image}
@@ -10,7 +11,7 @@ use Rattle.command_ending.specs.declared.fault.Fault.TheVariants.{FileFault, Swa
 use Rattle.run_command.specs.Seen.{DeviceFaults, NoneFailed, DeviceFailed}
 
 -- the swap image that two devices make together
-abbrev pub image_together : ℕ → ℕ → Option (List ℕ) → Option (List ℕ) → Option (List ℕ)
+abbrev pub image_together : ℕ → ℕ → Option SwapImage → Option SwapImage → Option SwapImage
 image_together zero_blocks one_blocks zero one = pair_image (pair_blocks zero_blocks one_blocks) zero one
 
 -- why a run isn't finished, but for the device that failed

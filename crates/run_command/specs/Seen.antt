@@ -1,5 +1,6 @@
 -- What a run sees of its files, devices and output, before and after.
 use Rattle.std.specs.Prelude.{◌≡◌, ◌<◌, ℕ, List, Option}
+use Rattle.vm_facts.specs.SwapImages.{SwapImage}
 use Rattle.io_edge.specs.FileHolding.{NamedFile}
 use Rattle.io_edge.specs.PairFailures.{RoseAlone}
 use Rattle.command_ending.specs.Command.{Faults}
@@ -28,8 +29,8 @@ pub record Seen : Type 0 where
   -- the blocks of the devices, the swap image that they make together, where both tell theirs, and their faults
   pub zero_blocks : ℕ
   pub one_blocks : ℕ
-  pub swap_before : Option (List ℕ)
-  pub swap_after : Option (List ℕ)
+  pub swap_before : Option SwapImage
+  pub swap_after : Option SwapImage
   pub reads : DeviceFaults
   pub writes : DeviceFaults
   -- the output, where it is told, and its faults

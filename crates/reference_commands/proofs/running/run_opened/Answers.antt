@@ -1,4 +1,5 @@
 use Rattle.std.proofs.Common.{◌≡◌, ℕ, List, Some, map, ap, ◌∙◌}
+use Rattle.vm_facts.specs.SwapImages.{SwapImage, unnoted}
 use Rattle.vm_facts.specs.declared.params.Params.{Params}
 use Rattle.flat_state.specs.Flat.{Inputs}
 use Rattle.std.specs.Prelude.{◌*◌}
@@ -36,12 +37,12 @@ returns c =
     record {
       journal = ap (λ (p : Params). p.journal) c.run_schedule-end.ensures.params ∙ ap (λ (m : Standing). m.params.journal) c.in_ok-core.ensures.machine;
       blocks = ap (λ (p : Params). p.swap_blocks) c.run_schedule-end.ensures.params ∙ ap (λ (m : Standing). m.params.swap_blocks) c.in_ok-core.ensures.machine;
-      left = Some (with_zeros (512 * c.run_schedule-end.new.swap.blocks) c.run_schedule-end.new.swap.written.items);
+      left = Some (unnoted (with_zeros (512 * c.run_schedule-end.new.swap.blocks) c.run_schedule-end.new.swap.written.items));
       ends = c.run_schedule-end.ensures.ends A (blank_swap c.args.numbers.swap) is_asked c.in_ok-swap.ensures.zeros;
       full = c.run_schedule-end.ensures.full A (blank_swap c.args.numbers.swap) is_asked c.in_ok-swap.ensures.zeros;
       over = on_ok_so c.run_schedule-end.result
-          ((B : Inputs) (image : List ℕ) → IsAskedOf B c.in_ok-core.core.machine c.args.first.now c.args.lines.now (Some (map named_file c.args.files.now.files.items)) image
-          → Some (with_zeros (512 * c.in_ok-swap.swap.blocks) c.in_ok-swap.swap.written.items) ≡ Some image
+          ((B : Inputs) (image : SwapImage) → IsAskedOf B c.in_ok-core.core.machine c.args.first.now c.args.lines.now (Some (map named_file c.args.files.now.files.items)) image
+          → Some (unnoted (with_zeros (512 * c.in_ok-swap.swap.blocks) c.in_ok-swap.swap.written.items)) ≡ Some image
           → RunOver B c.run_schedule-end.new.core.machine image)
           (RunOver A c.run_schedule-end.new.core.machine (blank_swap c.args.numbers.swap))
           (λ told. told A (blank_swap c.args.numbers.swap) is_asked c.in_ok-swap.ensures.zeros) c.run_schedule-end.ensures.over;
