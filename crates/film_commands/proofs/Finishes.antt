@@ -1,6 +1,7 @@
 -- How a run came to its end: it is over, or its limit cut it.
 use Rattle.std.proofs.Common.{◌≡◌, ◌⊎◌, inl, inr, ℕ, ◌<◌, ◌≤◌, ◌==◌, ◌&&◌, not, Bool, true, false, cond, nat_lt, List, [], ◌∷◌, length, find, Option, Some, None, refl, sym, ap, ◌∙◌, subst, arith}
 use Rattle.std.proofs.lemmas.Bool.Decides.{nat_tests}
+use Rattle.vm_facts.specs.SwapImages.{SwapImage}
 use Rattle.vm_facts.specs.declared.entry.Entry.{Entry}
 use Rattle.vm_facts.specs.declared.event.Event.{Event}
 use Rattle.vm_facts.specs.declared.stop.Stop.TheVariants as stops
@@ -9,7 +10,7 @@ use Rattle.flat_state.specs.Flat.{Process, FlatState, Inputs, process_of, can_st
 use Rattle.flat_state.specs.Numbers.{IsNumbered}
 use Rattle.flat_state.specs.Journal.{append}
 use Rattle.run_model.specs.State.{State}
-use Rattle.run_model.specs.Swapped.{swapped}
+use Rattle.run_model.specs.Swapped.{swap_left}
 use Rattle.run_model.specs.Next.{or_else, pid_if, next_ready, next_turned, next_unit}
 use Rattle.run_laws.specs.Running.{IsRun, IsIdle}
 use Rattle.run_laws.proofs.Others.{number_of_found}
@@ -75,7 +76,7 @@ twice (Some p) = refl
 
 -- Of a film.
 
-module _ (A : Inputs) (s : State) (f : Filming) (holds : Option (List NamedFile)) (i : Option (List ℕ)) (image : List ℕ) (lines : List Event)
+module _ (A : Inputs) (s : State) (f : Filming) (holds : Option (List NamedFile)) (i : Option SwapImage) (image : SwapImage) (lines : List Event)
     (are : A.lines ≡ lines) (at : FilmAt A s f holds i image) where
   turned : turn_after f.machine.kernel 0 ≡ next_turned s.point.flat 0
   turned = turned_same f.machine.kernel s.point.flat 0 at.stands.machine.at.stands.keeps.coupled.tables
@@ -115,7 +116,7 @@ module _ (A : Inputs) (s : State) (f : Filming) (holds : Option (List NamedFile)
   )
 
 -- what is said of a film that is over
-pub cut_said : (A : Inputs) (f : Filming) (holds : Option (List NamedFile)) (i : Option (List ℕ)) (finish : Finish)
+pub cut_said : (A : Inputs) (f : Filming) (holds : Option (List NamedFile)) (i : Option SwapImage) (finish : Finish)
     (limit : ℕ) (text : List ℕ) (was : IsAtState A f holds i)
     → f.over ≡ true → EndsSo finish A was.state → limit ≡ f.machine.params.limit → text ≡ cut_line finish limit → SaysCut A text
 cut_said A f holds i finish limit text was over ends same told =
@@ -131,7 +132,7 @@ cut_said A f holds i finish limit text was over ends same told =
     }
 
 -- the journal has as many entries as it may have, and the run isn't over
-pub at_full : (A : Inputs) (f : Filming) (h : Option (List NamedFile)) (i : Option (List ℕ)) → IsAtState A f h i
+pub at_full : (A : Inputs) (f : Filming) (h : Option (List NamedFile)) (i : Option SwapImage) → IsAtState A f h i
     → not f.over && nat_lt (length f.machine.kernel.journal) journal_entries ≡ false → f.over ≡ false → HasHalted A
 at_full A f h i was ends going = go (next_unit A was.state) refl
   where
@@ -146,14 +147,14 @@ at_full A f h i was ends going = go (next_unit A was.state) refl
     go None e = absurd (let over : f.over ≡ true = at.over.1 e in let no : false ≡ true = sym going ∙ over in cc)
     go (Some u) e = record {
       journal = f.machine.kernel.journal;
-      left = Some (swapped A f.machine.kernel.journal (blank_swap A.swap_blocks));
+      left = Some (swap_left A f.machine.kernel.journal (blank_swap A.swap_blocks));
       halted = record {
         state = was.state;
         made = at.made;
         unit = u;
         next = e;
         why = subst (λ (es : List Entry). length es < length (append es u)) at.stands.machine.at.stands.journal (at.complete u e);
-        left = swapped A f.machine.kernel.journal (blank_swap A.swap_blocks);
+        left = swap_left A f.machine.kernel.journal (blank_swap A.swap_blocks);
         told = refl;
         image_left = refl;
       };

@@ -3,6 +3,7 @@ use Rattle.std.proofs.Common.{◌≡◌, ℕ, suc, ◌+◌, ◌-◌, ◌<◌, �
 use Rattle.std.proofs.lemmas.Bool.Decides.{nat_tests}
 use Rattle.std.proofs.lemmas.List.{length-append}
 use Rattle.std.proofs.lemmas.Option.{same_Some}
+use Rattle.vm_facts.specs.SwapImages.{SwapImage}
 use Rattle.vm_facts.specs.declared.entry.Entry.{Entry}
 use Rattle.vm_facts.specs.declared.entry.Entry.TheVariants as entries
 use Rattle.vm_facts.specs.declared.event.Event.{Event}
@@ -20,7 +21,7 @@ use Rattle.run_model.specs.Lawful.{Follows}
 use Rattle.run_model.specs.Swapped.{swapped}
 use Rattle.run_laws.specs.Machine.{StandsAt}
 use Rattle.run_laws.specs.Running.{CanRun}
-use Rattle.run_laws.proofs.Machines.{makes_follows}
+use Rattle.run_laws.proofs.Machines.{swaps_follow}
 use Rattle.reference_commands.specs.Machines.{journal_entries}
 use Rattle.film_core.specs.Films.{Filming, FilmAt, FilmBegun, OneMore, FilmGoes}
 use Rattle.owner_laws.specs.First.{ComeFirst}
@@ -42,10 +43,10 @@ use Rattle.film_commands.specs.Counted.{look_at_film, Counted}
 same_look : (m m' : Mark) (p p' : Placement) (hs hs' : Holdings) → m ≡ m' → p ≡ p' → hs ≡ hs' → look_of m p hs ≡ look_of m' p' hs'
 same_look m m' p p' hs hs' a b c = ap (λ (x : Mark). look_of x p hs) a ∙ ap (λ (x : Placement). look_of m' x hs) b ∙ ap (λ (x : Holdings). look_of m' p' x) c
 
-looked_at : (A : Inputs) (s : State) (f : Filming) (h : Option (List NamedFile)) (i : Option (List ℕ)) (image : List ℕ) → FilmAt A s f h i image
+looked_at : (A : Inputs) (s : State) (f : Filming) (h : Option (List NamedFile)) (i : Option SwapImage) (image : SwapImage) → FilmAt A s f h i image
     → look_at_film f ≡ look_at s
 looked_at A s f h i image at =
-    let stands : StandsAt A s f.machine.kernel image = at.stands.machine.at.stands in
+    let stands : StandsAt A s f.machine.kernel image.bytes = at.stands.machine.at.stands in
     same_look f.mark s.mark f.machine.kernel.place s.place f.machine.kernel.holdings s.holdings (sym at.mark) stands.place stands.holdings
 
 -- The start.
@@ -62,7 +63,7 @@ none_made (u ∷ us) e =
     let none = ap length e in
     absurd (omega (arith, long, one, none))
 
-pub counted_first : (A : Inputs) (f : Filming) (h : Option (List NamedFile)) (i : Option (List ℕ)) (image : List ℕ) → FilmBegun A f h i image
+pub counted_first : (A : Inputs) (f : Filming) (h : Option (List NamedFile)) (i : Option SwapImage) (image : SwapImage) → FilmBegun A f h i image
     → Counted A f h i (look_at_film f) []
 counted_first A f h i image begun =
     let at : FilmAt A begun.state f h i image = begun.at in
@@ -102,7 +103,7 @@ one_longer journal more first longer =
     let sum = length-append journal rest in
     subst (OneLonger journal) (sym first.1) (one_of journal rest (omega (arith, all, sum, longer)))
 
-pub counted_more : (A : Inputs) (old new : Filming) (lines : List Event) (h h' : Option (List NamedFile)) (i j : Option (List ℕ)) (first before : Look)
+pub counted_more : (A : Inputs) (old new : Filming) (lines : List Event) (h h' : Option (List NamedFile)) (i j : Option SwapImage) (first before : Look)
     (notes notes' : List Note)
     → h' ≡ h → A.lines ≡ lines → FilmGoes old new lines h i j → before ≡ look_at_film old
     → ((so_far : List Entry) (entry : Entry) → new.machine.kernel.journal ≡ so_far ++ entry ∷ []
@@ -117,11 +118,11 @@ counted_more A old new lines h h' i j first before notes notes' same are goes lo
     let come : ComeFirst journal new.machine.kernel.journal =
     first_of_longer A journal new.machine.kernel.journal was.state more.state at.made.lawful.reaches now.made.lawful.reaches at.complete (omega (arith, wider)) in
     let one : OneLonger journal new.machine.kernel.journal = one_longer journal new.machine.kernel.journal come more.longer in
-    let stood : StandsAt A was.state old.machine.kernel was.image = at.stands.machine.at.stands in
-    let stands : StandsAt A more.state new.machine.kernel more.behind = now.stands.machine.at.stands in
+    let stood : StandsAt A was.state old.machine.kernel was.image.bytes = at.stands.machine.at.stands in
+    let stands : StandsAt A more.state new.machine.kernel more.behind.bytes = now.stands.machine.at.stands in
     let noted : IsNoted A was.state (note_by before one.entry (look_at_film new)) more.state = record {
       units = more.units;
-      follows = makes_follows A more.units was.state more.state old.machine.kernel new.machine.kernel was.image more.leads.behind more.leads.makes;
+      follows = swaps_follow A more.units was.state more.state old.machine.kernel new.machine.kernel was.image more.leads.behind more.leads.makes;
       entry = one.entry;
       more = sym stands.journal ∙ one.is ∙ ap (λ (es : List Entry). es ++ one.entry ∷ []) stood.journal;
       note = ap (λ (x : Look). note_by x one.entry (look_at_film new)) (looked ∙ looked_at A was.state old h i was.image at)
@@ -148,7 +149,7 @@ same_table journal first first' notes p p' s s' n n' a b c d =
     ∙ ap (λ (k : ℕ). stats_text journal first' notes p' k n) c
     ∙ ap (λ (k : ℕ). stats_text journal first' notes p' s' k) d
 
-pub counted_said : (A : Inputs) (f : Filming) (h : Option (List NamedFile)) (i : Option (List ℕ)) (first : Look) (notes : List Note) (pids sids images : ℕ)
+pub counted_said : (A : Inputs) (f : Filming) (h : Option (List NamedFile)) (i : Option SwapImage) (first : Look) (notes : List Note) (pids sids images : ℕ)
     (journal : List Entry) (finish : Finish) (count : ℕ) (table text : List ℕ) (was : Counted A f h i first notes)
     → f.over ≡ true → EndsSo finish A was.state → count ≡ f.counted → length A.images ≡ images → journal ≡ f.machine.kernel.journal → pids ≡ f.machine.kernel.next_pid - 1
     → sids ≡ f.machine.kernel.next_sid - 1

@@ -5,6 +5,7 @@ use Rattle.std.proofs.lemmas.Bool.Decides.{nat_tests}
 use Rattle.std.proofs.lemmas.List.{append-nil, map-id}
 use Rattle.std.proofs.lemmas.List.Folds.{concat-append}
 use Rattle.std.proofs.lemmas.List.FromFn.{filter_of_map_range_with_len_more}
+use Rattle.vm_facts.specs.SwapImages.{SwapImage}
 use Rattle.vm_facts.specs.declared.entry.Entry.{Entry}
 use Rattle.vm_facts.specs.declared.event.Event.{Event}
 use Rattle.io_edge.specs.FileHolding.{NamedFile}
@@ -29,7 +30,7 @@ ends_by A s journal true entries next at says complete within reached = (says.0 
 ends_by A s journal false entries None at says complete within reached = absurd (let never : false ≡ true = says.1 at in cc)
 ends_by A s journal false entries (Some u) at says complete within reached = (reached refl, (u, at, complete u at))
 
-end_there : (A : Inputs) (s : State) (f : Filming) (holds : Option (List NamedFile)) (i : Option (List ℕ)) (image : List ℕ) (entries : ℕ)
+end_there : (A : Inputs) (s : State) (f : Filming) (holds : Option (List NamedFile)) (i : Option SwapImage) (image : SwapImage) (entries : ℕ)
     → FilmAt A s f holds i image
     → length f.machine.kernel.journal ≤ entries → (f.over ≡ false → length f.machine.kernel.journal ≡ entries)
     → IsEnd f.over entries A f.machine.kernel.journal s
@@ -37,7 +38,7 @@ end_there A s f holds i image entries at within reached = ends_by A s f.machine.
 
 -- A step.
 
-step_told : (A : Inputs) (s : State) (f : Filming) (holds : Option (List NamedFile)) (i : Option (List ℕ)) (image : List ℕ) → FilmAt A s f holds i image
+step_told : (A : Inputs) (s : State) (f : Filming) (holds : Option (List NamedFile)) (i : Option SwapImage) (image : SwapImage) → FilmAt A s f holds i image
     → TellsStep A (length f.machine.kernel.journal) (step_text f)
 step_told A s f holds i image at = record {
   owners = owners_lines f.machine f.over;
@@ -47,7 +48,7 @@ step_told A s f holds i image at = record {
     made = at.made;
     over = f.over;
     ends = end_there A s f holds i image (length f.machine.kernel.journal) at (omega arith) (λ going. refl);
-    told = lines_there A s f.machine f.over image at.stands.machine.at.stands at.ready.whole at.stands.machine.blocks;
+    told = lines_there A s f.machine f.over image.bytes at.stands.machine.at.stands at.ready.whole at.stands.machine.blocks;
   };
   reached = refl;
   told = refl;
@@ -80,7 +81,7 @@ put_one A ns texts n step text false tell told one = record {
   told = append-nil text ∙ told;
 }
 
-put_at : (A : Inputs) (steps : FilmSteps) (s : State) (f : Filming) (holds : Option (List NamedFile)) (i : Option (List ℕ)) (image : List ℕ)
+put_at : (A : Inputs) (steps : FilmSteps) (s : State) (f : Filming) (holds : Option (List NamedFile)) (i : Option SwapImage) (image : SwapImage)
     (ns : List ℕ) (texts : List (List ℕ))
     (text text' : List ℕ) → FilmAt A s f holds i image → TellSteps A ns texts → text ≡ concat texts
     → step_numbers steps (length f.machine.kernel.journal)
@@ -121,23 +122,23 @@ some_since steps n since = let reached : nat_le steps.from n ≡ true = grind (a
 
 -- The film.
 
-pub filmed_first : (A : Inputs) (steps : FilmSteps) (s : State) (f : Filming) (holds : Option (List NamedFile)) (i : Option (List ℕ))
-    (image : List ℕ) (before text : List ℕ)
+pub filmed_first : (A : Inputs) (steps : FilmSteps) (s : State) (f : Filming) (holds : Option (List NamedFile)) (i : Option SwapImage)
+    (image : SwapImage) (before text : List ℕ)
     → FilmAt A s f holds i image → f.machine.kernel.journal ≡ [] → before ≡ []
     → text ≡ before ++ word_if (has_step steps (length f.machine.kernel.journal)) (step_text f)
     → Filmed A steps f holds i text
 filmed_first A steps s f holds i image before text at first none put =
     put_at A steps s f holds i image [] [] before text at tt none (numbers_at_first steps (length f.machine.kernel.journal) (ap length first)) put
 
-pub filmed_more : (A : Inputs) (steps : FilmSteps) (old f : Filming) (h holds : Option (List NamedFile)) (i j : Option (List ℕ)) (s : State)
-    (image : List ℕ) (text text' : List ℕ)
+pub filmed_more : (A : Inputs) (steps : FilmSteps) (old f : Filming) (h holds : Option (List NamedFile)) (i j : Option SwapImage) (s : State)
+    (image : SwapImage) (text text' : List ℕ)
     → Filmed A steps old h i text → FilmAt A s f holds j image → length f.machine.kernel.journal ≡ suc (length old.machine.kernel.journal)
     → text' ≡ text ++ word_if (has_step steps (length f.machine.kernel.journal)) (step_text f) → Filmed A steps f holds j text'
 filmed_more A steps old f h holds i j s image text text' filmed at longer put =
     put_at A steps s f holds j image (step_numbers steps (length old.machine.kernel.journal)) filmed.texts text text' at filmed.tell filmed.told
     (numbers_more steps (length old.machine.kernel.journal) (length f.machine.kernel.journal) longer) put
 
-pub film_said : (A : Inputs) (steps : FilmSteps) (f : Filming) (holds : Option (List NamedFile)) (i : Option (List ℕ)) (text : List ℕ)
+pub film_said : (A : Inputs) (steps : FilmSteps) (f : Filming) (holds : Option (List NamedFile)) (i : Option SwapImage) (text : List ℕ)
     → Filmed A steps f holds i text
     → length f.machine.kernel.journal ≤ steps.to → (f.over ≡ false → length f.machine.kernel.journal ≡ steps.to) → SaysFilm steps A text
 film_said A steps f holds i text filmed within reached =
@@ -155,11 +156,11 @@ film_said A steps f holds i text filmed within reached =
 
 -- The film begins.
 
-pub begun_over : (A : Inputs) (f : Filming) (h h' : Option (List NamedFile)) (i : Option (List ℕ)) (image : List ℕ) → h' ≡ h → FilmBegun A f h i image
+pub begun_over : (A : Inputs) (f : Filming) (h h' : Option (List NamedFile)) (i : Option SwapImage) (image : SwapImage) → h' ≡ h → FilmBegun A f h i image
     → FilmBegun A f h' i image
 begun_over A f h h' i image same begun = subst (λ (k : Option (List NamedFile)). FilmBegun A f k i image) (sym same) begun
 
-pub filming_begun : (old new : Filming) (first : List ℕ) (lines : List Event) (h h' : Option (List NamedFile)) (i j : Option (List ℕ)) → h' ≡ h
+pub filming_begun : (old new : Filming) (first : List ℕ) (lines : List Event) (h h' : Option (List NamedFile)) (i j : Option SwapImage) → h' ≡ h
     → 64 ≤ old.machine.params.frames
     → IsAskable old.machine first lines h i → BeginsFilm old new first lines h i j → IsFilming new lines h' j
 filming_begun old new first lines h h' i j same frames asked begins =
@@ -174,14 +175,14 @@ filming_begun old new first lines h h' i j same frames asked begins =
       at = begun.at;
     }
 
-pub none_so_far : (old new : Filming) (first : List ℕ) (lines : List Event) (h : Option (List NamedFile)) (i j : Option (List ℕ))
+pub none_so_far : (old new : Filming) (first : List ℕ) (lines : List Event) (h : Option (List NamedFile)) (i j : Option SwapImage)
     → IsAskable old.machine first lines h i
     → BeginsFilm old new first lines h i j → new.machine.kernel.journal ≡ []
 none_so_far old new first lines h i j asked begins = (begins asked.inputs asked.image asked.asked asked.told).first
 
 -- The film goes on by one entry.
 
-pub filming_on : (old new : Filming) (lines : List Event) (h h' : Option (List NamedFile)) (i j : Option (List ℕ)) → h' ≡ h → IsFilming old lines h i
+pub filming_on : (old new : Filming) (lines : List Event) (h h' : Option (List NamedFile)) (i j : Option SwapImage) → h' ≡ h → IsFilming old lines h i
     → FilmGoes old new lines h i j
     → IsFilming new lines h' j
 filming_on old new lines h h' i j same was goes =
@@ -195,7 +196,7 @@ filming_on old new lines h h' i j same was goes =
       at = subst (λ (k : Option (List NamedFile)). FilmAt was.inputs more.state new k j more.behind) (sym same) more.at;
     }
 
-pub state_on : (A : Inputs) (old new : Filming) (lines : List Event) (h h' : Option (List NamedFile)) (i j : Option (List ℕ))
+pub state_on : (A : Inputs) (old new : Filming) (lines : List Event) (h h' : Option (List NamedFile)) (i j : Option SwapImage)
     → h' ≡ h → A.lines ≡ lines → FilmGoes old new lines h i j → IsAtState A old h i → IsAtState A new h' j
 state_on A old new lines h h' i j same are goes was =
     let more : OneMore A was.state old new h was.image j = goes A was.state was.image are was.at in
@@ -206,7 +207,7 @@ state_on A old new lines h h' i j same are goes was =
     }
 
 pub filmed_on : (A : Inputs) (steps : FilmSteps) (old new : Filming) (lines : List Event) (h h' : Option (List NamedFile))
-    (i j : Option (List ℕ)) (text text' : List ℕ)
+    (i j : Option SwapImage) (text text' : List ℕ)
     → h' ≡ h → A.lines ≡ lines → FilmGoes old new lines h i j → Filmed A steps old h i text
     → text' ≡ text ++ word_if (has_step steps (length new.machine.kernel.journal)) (step_text new) → Filmed A steps new h' j text'
 filmed_on A steps old new lines h h' i j text text' same are goes filmed put =
@@ -214,7 +215,7 @@ filmed_on A steps old new lines h h' i j text text' same are goes filmed put =
     filmed_more A steps old new h h' i j more.state more.behind text text' filmed
     (subst (λ (k : Option (List NamedFile)). FilmAt A more.state new k j more.behind) (sym same) more.at) more.longer put
 
-pub longer_by_one : (old new : Filming) (lines : List Event) (h : Option (List NamedFile)) (i j : Option (List ℕ)) → IsFilming old lines h i
+pub longer_by_one : (old new : Filming) (lines : List Event) (h : Option (List NamedFile)) (i j : Option SwapImage) → IsFilming old lines h i
     → FilmGoes old new lines h i j
     → length new.machine.kernel.journal ≡ length old.machine.kernel.journal + 1
 longer_by_one old new lines h i j was goes =

@@ -1,5 +1,6 @@
 -- A run in memory, whose entries are noted one after another.
 use Rattle.std.specs.Prelude.{◌≡◌, ℕ, List, Option}
+use Rattle.vm_facts.specs.SwapImages.{SwapImage}
 use Rattle.io_edge.specs.FileHolding.{NamedFile}
 use Rattle.flat_state.specs.Flat.{Inputs}
 use Rattle.page_model.specs.Holdings.{Holdings}
@@ -16,9 +17,9 @@ abbrev pub look_at_film : Filming → Look
 look_at_film f = look_of f.mark f.machine.kernel.place f.machine.kernel.holdings
 
 -- The film stands at a state of the run, and these are the notes of all entries so far. This was looked at of its start.
-pub record Counted (A : Inputs) (f : Filming) (holds : Option (List NamedFile)) (i : Option (List ℕ)) (first : Look) (notes : List Note) : Type 0 where
+pub record Counted (A : Inputs) (f : Filming) (holds : Option (List NamedFile)) (i : Option SwapImage) (first : Look) (notes : List Note) : Type 0 where
   pub state : State
-  pub image : List ℕ
+  pub image : SwapImage
   pub at : FilmAt A state f holds i image
   pub holdings : Holdings
   pub can : CanRun A holdings

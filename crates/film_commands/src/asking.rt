@@ -1,5 +1,6 @@
 // What is asked of a run that goes on from entry to entry, and its answer.
 ghost use Rattle.std.specs.Prelude.{◌≡◌, ◌<◌, ◌≤◌, ◌^◌, [], ℕ, List, length, map, All, Some, IfOk};
+ghost use Rattle.vm_facts.specs.SwapImages.{SwapImage};
 ghost use Rattle.flat_state.specs.Flat.{Inputs};
 ghost use Rattle.io_edge.specs.Octets.{AreOctetFiles};
 ghost use Rattle.machine_state.specs.New.{AreSound};
@@ -62,7 +63,7 @@ fn answer_begun<'a, F: Files, D: SwapDev>(
     requires area { film.old.machine.params.swap_blocks ≤ D.blocks swap.old }
     requires files { AreFiles film.old.machine.images (F.holds files.old) }
     requires question { IsQuestion (question_of asked) }
-    ensures { (A : Inputs) (image : List ℕ) → A.lines ≡ lines.now → length A.images ≡ images → FilmBegun A film.old (F.holds files.old) (D.image swap.old) image
+    ensures { (A : Inputs) (image : SwapImage) → A.lines ≡ lines.now → length A.images ≡ images → FilmBegun A film.old (F.holds files.old) (D.image swap.old) image
         → EndsAnswer (question_of asked) A (ending_of result) }
 {
     match asked {
@@ -94,7 +95,7 @@ fn answer_run<'a, F: Files, D: SwapDev>(
     requires files { AreFiles film.old.machine.images (F.holds files.old) }
     requires question { IsQuestion (question_of asked) }
     requires inputs { IsAskable film.old.machine first.now lines.now (F.holds files.old) (D.image swap.old) }
-    ensures { (A : Inputs) (image : List ℕ) → IsAskedOf A film.old.machine first.now lines.now (F.holds files.old) image → D.image swap.old ≡ Some image
+    ensures { (A : Inputs) (image : SwapImage) → IsAskedOf A film.old.machine first.now lines.now (F.holds files.old) image → D.image swap.old ≡ Some image
         → length A.images ≡ images → EndsAnswer (question_of asked) A (ending_of result) }
 {
     match film.start(files, swap, first, lines) {

@@ -1,5 +1,6 @@
 // What a run did, counted: the run goes on from entry to entry, each is noted, and the table is made of the notes.
 ghost use Rattle.std.specs.Prelude.{◌≡◌, ◌+◌, ◌<◌, ◌≤◌, ◌^◌, ◌++◌, ◌&&◌, not, nat_lt, [], ◌∷◌, ℕ, false, true, List, length, map, All, Option, Some, IfOk, OnOk};
+ghost use Rattle.vm_facts.specs.SwapImages.{SwapImage};
 ghost use Rattle.vm_facts.specs.declared.entry.Entry.{Entry};
 ghost use Rattle.io_edge.specs.FileHolding.{NamedFile};
 ghost use Rattle.reference_commands.specs.Machines.{journal_entries};
@@ -102,7 +103,7 @@ fn count_on<F: Files, D: SwapDev>(
     requires area { film.old.machine.params.swap_blocks ≤ D.blocks swap.old }
     requires files { AreFiles film.old.machine.images (F.holds files.old) }
     ensures counted { IfOk result
-        (λ notes. (A : Inputs) (image : List ℕ) → A.lines ≡ lines.now → FilmBegun A film.old (F.holds files.old) (D.image swap.old) image
+        (λ notes. (A : Inputs) (image : SwapImage) → A.lines ≡ lines.now → FilmBegun A film.old (F.holds files.old) (D.image swap.old) image
         → Counted A film.new (F.holds files.new) (D.image swap.new) (look_at_film film.old) notes.items) }
     ensures running { OnOk result (IsRunning film.new.machine) }
     ensures ends { OnOk result (not film.new.over && nat_lt (length film.new.machine.kernel.journal) journal_entries ≡ false) }
@@ -125,7 +126,7 @@ fn whole_table(
 ) -> Result<Vec<u8>, NoMemory>
     requires running { IsRunning film.now.machine }
     requires over { film.now.over ≡ true }
-    ensures { IfOk result (λ text. (A : Inputs) (holds : Option (List NamedFile)) (i : Option (List ℕ)) → A.lines ≡ lines.now → length A.images ≡ images
+    ensures { IfOk result (λ text. (A : Inputs) (holds : Option (List NamedFile)) (i : Option SwapImage) → A.lines ≡ lines.now → length A.images ≡ images
         → Counted A film.now holds i first.now notes.now → SaysStats A text.items) }
 {
     let (pid, sid) = film.machine().next_numbers();
@@ -153,7 +154,7 @@ fn table_over<'a>(
 ) -> Result<Vec<u8>, Fault<'a>>
     requires running { IsRunning film.now.machine }
     requires over { film.now.over ≡ true }
-    ensures { (A : Inputs) (holds : Option (List NamedFile)) (i : Option (List ℕ)) → A.lines ≡ lines.now → length A.images ≡ images
+    ensures { (A : Inputs) (holds : Option (List NamedFile)) (i : Option SwapImage) → A.lines ≡ lines.now → length A.images ≡ images
         → Counted A film.now holds i first.now notes.now → EndsAnswer questions.Stats A (ending_of result) }
 {
     match whole_table(alloc, film, lines, first, notes, images) {
@@ -173,7 +174,7 @@ fn table_of<'a>(
 ) -> Result<Vec<u8>, Fault<'a>>
     requires running { IsRunning film.now.machine }
     requires ends { not film.now.over && nat_lt (length film.now.machine.kernel.journal) journal_entries ≡ false }
-    ensures { (A : Inputs) (holds : Option (List NamedFile)) (i : Option (List ℕ)) → A.lines ≡ lines.now → length A.images ≡ images
+    ensures { (A : Inputs) (holds : Option (List NamedFile)) (i : Option SwapImage) → A.lines ≡ lines.now → length A.images ≡ images
         → Counted A film.now holds i first.now notes.now → EndsAnswer questions.Stats A (ending_of result) }
 {
     if film.is_over() {
@@ -198,7 +199,7 @@ pub(crate) fn count_begun<'a, F: Files, D: SwapDev>(
     requires count { length lines.now < 2 ^ 32 }
     requires area { film.old.machine.params.swap_blocks ≤ D.blocks swap.old }
     requires files { AreFiles film.old.machine.images (F.holds files.old) }
-    ensures { (A : Inputs) (image : List ℕ) → A.lines ≡ lines.now → length A.images ≡ images → FilmBegun A film.old (F.holds files.old) (D.image swap.old) image
+    ensures { (A : Inputs) (image : SwapImage) → A.lines ≡ lines.now → length A.images ≡ images → FilmBegun A film.old (F.holds files.old) (D.image swap.old) image
         → EndsAnswer questions.Stats A (ending_of result) }
 {
     let first = look_at_film(film);

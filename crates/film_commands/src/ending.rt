@@ -1,5 +1,6 @@
 // How a run came to its end: it goes on from entry to entry until it is over.
 ghost use Rattle.std.specs.Prelude.{◌≡◌, ◌+◌, ◌<◌, ◌≤◌, ◌^◌, ◌&&◌, not, nat_lt, [], ℕ, false, true, List, length, Option, IfOk, OnOk};
+ghost use Rattle.vm_facts.specs.SwapImages.{SwapImage};
 ghost use Rattle.io_edge.specs.FileHolding.{NamedFile};
 ghost use Rattle.flat_state.specs.Flat.{Inputs};
 ghost use Rattle.run_model.specs.State.{State};
@@ -28,7 +29,7 @@ use vm_facts::{Event, NoMemory};
 pub(crate) fn finish_of(film: &Film, lines: &[Event]) -> Finish
     requires running { IsRunning film.now.machine }
     requires over { film.now.over ≡ true }
-    ensures { (A : Inputs) (s : State) (holds : Option (List NamedFile)) (i : Option (List ℕ)) (image : List ℕ) → A.lines ≡ lines.now
+    ensures { (A : Inputs) (s : State) (holds : Option (List NamedFile)) (i : Option SwapImage) (image : SwapImage) → A.lines ≡ lines.now
         → FilmAt A s film.now holds i image → EndsSo result A s }
 {
     if film.is_idle(lines) {
@@ -99,7 +100,7 @@ fn go_to_end<F: Files, D: SwapDev>(
     requires count { length lines.now < 2 ^ 32 }
     requires area { film.old.machine.params.swap_blocks ≤ D.blocks swap.old }
     requires files { AreFiles film.old.machine.images (F.holds files.old) }
-    ensures there { OnOk result ((A : Inputs) (image : List ℕ) → A.lines ≡ lines.now → FilmBegun A film.old (F.holds files.old) (D.image swap.old) image
+    ensures there { OnOk result ((A : Inputs) (image : SwapImage) → A.lines ≡ lines.now → FilmBegun A film.old (F.holds files.old) (D.image swap.old) image
         → IsAtState A film.new (F.holds files.new) (D.image swap.new)) }
     ensures running { OnOk result (IsRunning film.new.machine) }
     ensures ends { OnOk result (not film.new.over && nat_lt (length film.new.machine.kernel.journal) journal_entries ≡ false) }
@@ -114,7 +115,7 @@ fn go_to_end<F: Files, D: SwapDev>(
 fn end_over<'a>(alloc: Global, film: &Film, lines: &[Event]) -> Result<Vec<u8>, Fault<'a>>
     requires running { IsRunning film.now.machine }
     requires over { film.now.over ≡ true }
-    ensures { (A : Inputs) (holds : Option (List NamedFile)) (i : Option (List ℕ)) → A.lines ≡ lines.now → IsAtState A film.now holds i
+    ensures { (A : Inputs) (holds : Option (List NamedFile)) (i : Option SwapImage) → A.lines ≡ lines.now → IsAtState A film.now holds i
         → EndsAnswer questions.WasCut A (ending_of result) }
 {
     let limit = film.machine().params().limit;
@@ -128,7 +129,7 @@ fn end_over<'a>(alloc: Global, film: &Film, lines: &[Event]) -> Result<Vec<u8>, 
 fn end_of<'a>(alloc: Global, film: &Film, lines: &[Event]) -> Result<Vec<u8>, Fault<'a>>
     requires running { IsRunning film.now.machine }
     requires ends { not film.now.over && nat_lt (length film.now.machine.kernel.journal) journal_entries ≡ false }
-    ensures { (A : Inputs) (holds : Option (List NamedFile)) (i : Option (List ℕ)) → A.lines ≡ lines.now → IsAtState A film.now holds i
+    ensures { (A : Inputs) (holds : Option (List NamedFile)) (i : Option SwapImage) → A.lines ≡ lines.now → IsAtState A film.now holds i
         → EndsAnswer questions.WasCut A (ending_of result) }
 {
     if film.is_over() {
@@ -152,7 +153,7 @@ pub(crate) fn end_begun<'a, F: Files, D: SwapDev>(
     requires count { length lines.now < 2 ^ 32 }
     requires area { film.old.machine.params.swap_blocks ≤ D.blocks swap.old }
     requires files { AreFiles film.old.machine.images (F.holds files.old) }
-    ensures { (A : Inputs) (image : List ℕ) → A.lines ≡ lines.now → FilmBegun A film.old (F.holds files.old) (D.image swap.old) image
+    ensures { (A : Inputs) (image : SwapImage) → A.lines ≡ lines.now → FilmBegun A film.old (F.holds files.old) (D.image swap.old) image
         → EndsAnswer questions.WasCut A (ending_of result) }
 {
     match go_to_end(film, files, swap, lines) {

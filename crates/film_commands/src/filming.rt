@@ -1,5 +1,6 @@
 // A film of a run: who owns what after each of several numbers of its entries.
 ghost use Rattle.std.specs.Prelude.{◌≡◌, ◌+◌, ◌-◌, ◌<◌, ◌≤◌, ◌^◌, ◌&&◌, not, nat_lt, ℕ, false, [], ◌++◌, List, length, slice_get, map, All, Some, IfOk, OnOk};
+ghost use Rattle.vm_facts.specs.SwapImages.{SwapImage};
 ghost use Rattle.flat_state.specs.Flat.{Inputs};
 ghost use Rattle.io_edge.specs.Octets.{AreOctetFiles};
 ghost use Rattle.machine_state.specs.Going.{IsRunning};
@@ -193,7 +194,7 @@ fn film_on<F: Files, D: SwapDev>(
     requires area { film.old.machine.params.swap_blocks ≤ D.blocks swap.old }
     requires files { AreFiles film.old.machine.images (F.holds files.old) }
     requires every { 1 ≤ steps.every }
-    ensures { IfOk result (λ text. (A : Inputs) (image : List ℕ) → A.lines ≡ lines.now → FilmBegun A film.old (F.holds files.old) (D.image swap.old) image
+    ensures { IfOk result (λ text. (A : Inputs) (image : SwapImage) → A.lines ≡ lines.now → FilmBegun A film.old (F.holds files.old) (D.image swap.old) image
         → SaysFilm steps A text.items) }
 {
     let mut text = Vec::new(alloc);
@@ -220,7 +221,7 @@ pub(crate) fn film_begun<'a, F: Files, D: SwapDev>(
     requires area { film.old.machine.params.swap_blocks ≤ D.blocks swap.old }
     requires files { AreFiles film.old.machine.images (F.holds files.old) }
     requires every { 1 ≤ steps.every }
-    ensures { (A : Inputs) (image : List ℕ) → A.lines ≡ lines.now → FilmBegun A film.old (F.holds files.old) (D.image swap.old) image
+    ensures { (A : Inputs) (image : SwapImage) → A.lines ≡ lines.now → FilmBegun A film.old (F.holds files.old) (D.image swap.old) image
         → EndsAnswer (questions.Film steps) A (ending_of result) }
 {
     match film_on(alloc, film, files, swap, lines, steps) {
