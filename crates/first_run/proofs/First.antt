@@ -2,6 +2,7 @@
 use Rattle.std.proofs.Common.{◌≡◌, ◌⊎◌, inl, inr, ℕ, zero, suc, ◌+◌, ◌<◌, ◌≤◌, Bool, true, false, List, [], ◌∷◌, ◌++◌, length, map, Option, Some, None, Result, Ok, Err, refl, sym, ap, ◌∙◌, subst, arith}
 use Rattle.std.specs.Prelude.{IfOk}
 use Rattle.std.specs.Fmt.{digits}
+use Rattle.vm_facts.specs.SwapImages.{SwapImage}
 use Rattle.vm_facts.specs.declared.entry.Entry.{Entry}
 use Rattle.vm_facts.specs.declared.entry.Entry.TheVariants as entries
 use Rattle.vm_facts.specs.declared.event.Event.{Event}
@@ -205,7 +206,7 @@ written_lines : text_of false (appended [] hi_units) ++ [] ≡ six_lines
 unfolding text_of entry_line digits
 written_lines = refl
 
-module _ (swap written : Option (List ℕ)) (faults : ℕ) (image : List ℕ) (status : ℕ)
+module _ (swap : Option SwapImage) (written : Option (List ℕ)) (faults : ℕ) (image : SwapImage) (status : ℕ)
     (told : RunsTold request (seen_of first_files 256 0 swap written faults) first_files image status) where
   ended_so : (ending : RunEnding) → IsCaused request (seen_of first_files 256 0 swap written faults) told.journal ending
       → IsJudged request (seen_of first_files 256 0 swap written faults) first_files ending
@@ -256,7 +257,7 @@ unfolding asked_of asked_run asked_with_run run_numbers all_numbers number_in ha
 asked_first = refl
 
 -- what words that are these do over files that are these
-pub first_is : (words : List (List ℕ)) (files : List NamedFile) (evens odds written : Option (List ℕ)) (faults status : ℕ)
+pub first_is : (words : List (List ℕ)) (files : List NamedFile) (evens odds : Option SwapImage) (written : Option (List ℕ)) (faults status : ℕ)
     → words ≡ first_words → files ≡ first_files
     → DoesInMemory (asked_of words) files 256 0 evens odds written faults status → IsFirstRun status written
 first_is words files evens odds written faults status same are does =

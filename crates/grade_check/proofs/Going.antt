@@ -3,6 +3,7 @@ use Rattle.std.proofs.Common.{◌≡◌, ◌↔◌, ℕ, suc, ◌+◌, ◌-◌, 
 use Rattle.std.proofs.lemmas.Bool.Decides.{nat_tests}
 use Rattle.std.proofs.lemmas.Option.{same_Some}
 use Rattle.std.proofs.lemmas.List.{append-nil, append_cancel_left, length-append}
+use Rattle.vm_facts.specs.SwapImages.{SwapImage}
 use Rattle.vm_facts.specs.declared.entry.Entry.{Entry}
 use Rattle.vm_facts.specs.declared.event.Event.{Event}
 use Rattle.io_edge.specs.FileHolding.{NamedFile}
@@ -22,7 +23,7 @@ use Rattle.grade_check.proofs.Parting.{at_seam, at_end, exactly}
 
 -- The film goes on by one entry.
 
-pub filming_on : (old new : Filming) (lines : List Event) (h h' : Option (List NamedFile)) (i j : Option (List ℕ)) → h' ≡ h → IsFilming old lines h i
+pub filming_on : (old new : Filming) (lines : List Event) (h h' : Option (List NamedFile)) (i j : Option SwapImage) → h' ≡ h → IsFilming old lines h i
     → FilmGoes old new lines h i j
     → IsFilming new lines h' j
 filming_on old new lines h h' i j same was goes =
@@ -36,7 +37,7 @@ filming_on old new lines h h' i j same was goes =
       at = subst (λ (k : Option (List NamedFile)). FilmAt was.inputs more.state new k j more.behind) (sym same) more.at;
     }
 
-pub longer_by_one : (old new : Filming) (lines : List Event) (h : Option (List NamedFile)) (i j : Option (List ℕ)) → IsFilming old lines h i
+pub longer_by_one : (old new : Filming) (lines : List Event) (h : Option (List NamedFile)) (i j : Option SwapImage) → IsFilming old lines h i
     → FilmGoes old new lines h i j
     → length new.machine.kernel.journal ≡ length old.machine.kernel.journal + 1
 longer_by_one old new lines h i j was goes =
@@ -106,7 +107,7 @@ on_by_one journal new entries agrees one next says = go agrees says
       other = λ same. let no : false ≡ true = s.1 (made ∙ ap Some same ∙ sym there) in cc;
     }
 
-pub along_on : (A : Inputs) (old new : Filming) (lines : List Event) (h h' : Option (List NamedFile)) (i j : Option (List ℕ)) (entries : List Entry)
+pub along_on : (A : Inputs) (old new : Filming) (lines : List Event) (h h' : Option (List NamedFile)) (i j : Option SwapImage) (entries : List Entry)
     (agrees : Bool)
     → h' ≡ h → A.lines ≡ lines → FilmGoes old new lines h i j → length old.machine.kernel.journal < length entries
     → (agrees ≡ true)
@@ -129,7 +130,7 @@ along_on A old new lines h h' i j entries agrees same are goes below says was =
           (next_in old.machine.kernel.journal entries was.so_far below) says;
     }
 
-pub along_first : (A : Inputs) (f : Filming) (h : Option (List NamedFile)) (i : Option (List ℕ)) (image : List ℕ) (entries : List Entry)
+pub along_first : (A : Inputs) (f : Filming) (h : Option (List NamedFile)) (i : Option SwapImage) (image : SwapImage) (entries : List Entry)
     → FilmBegun A f h i image → Along A f h i true entries
 along_first A f h i image entries begun = record {
   state = begun.state;
@@ -168,7 +169,7 @@ record Finishing (A : Inputs) (f : Filming) : Type 0 where
 nothing_left : (xs ys : List Entry) → xs ++ ys ≡ xs → ys ≡ []
 nothing_left xs ys e = append_cancel_left xs ys [] (e ∙ sym (append-nil xs))
 
-film_finishes : (A : Inputs) (s : State) (f : Filming) (h : Option (List NamedFile)) (i : Option (List ℕ)) (image : List ℕ) → 64 ≤ A.frames
+film_finishes : (A : Inputs) (s : State) (f : Filming) (h : Option (List NamedFile)) (i : Option SwapImage) (image : SwapImage) → 64 ≤ A.frames
     → FilmAt A s f h i image → Finishing A f
 film_finishes A s f h i image frames at =
     let here : List Entry = f.machine.kernel.journal in
@@ -217,7 +218,7 @@ there_by : (made journal : List Entry) (number : ℕ) → slice_get made (number
     → (line : ℕ) → Differs number ≡ Differs line → slice_get made (line - 1) ≡ slice_get journal (line - 1)
 there_by made journal number same line is = subst (λ (k : ℕ). slice_get made (k - 1) ≡ slice_get journal (k - 1)) (line_of number line is) same
 
-module _ (A : Inputs) (f : Filming) (h : Option (List NamedFile)) (i : Option (List ℕ)) (entries : List Entry) (frames : 64 ≤ A.frames) where
+module _ (A : Inputs) (f : Filming) (h : Option (List NamedFile)) (i : Option SwapImage) (entries : List Entry) (frames : 64 ≤ A.frames) where
   abbrev here : List Entry
   here = f.machine.kernel.journal
 

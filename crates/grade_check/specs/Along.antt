@@ -1,5 +1,6 @@
 -- A film that goes on along a trace.
 use Rattle.std.specs.Prelude.{◌≡◌, ◌≢◌, ℕ, Bool, true, false, List, [], ◌∷◌, ◌++◌, Option}
+use Rattle.vm_facts.specs.SwapImages.{SwapImage}
 use Rattle.vm_facts.specs.declared.entry.Entry.{Entry}
 use Rattle.io_edge.specs.FileHolding.{NamedFile}
 use Rattle.flat_state.specs.Flat.{Inputs}
@@ -23,8 +24,8 @@ SoFar true journal entries = ComeFirst journal entries
 SoFar false journal entries = PartsAtLast journal entries
 
 -- The film stands at a state of the run, and its journal agrees with the trace, or has just parted from it.
-pub record Along (A : Inputs) (f : Filming) (holds : Option (List NamedFile)) (i : Option (List ℕ)) (agrees : Bool) (entries : List Entry) : Type 0 where
+pub record Along (A : Inputs) (f : Filming) (holds : Option (List NamedFile)) (i : Option SwapImage) (agrees : Bool) (entries : List Entry) : Type 0 where
   pub state : State
-  pub image : List ℕ
+  pub image : SwapImage
   pub at : FilmAt A state f holds i image
   pub so_far : SoFar agrees f.machine.kernel.journal entries

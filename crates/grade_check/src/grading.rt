@@ -1,5 +1,6 @@
 //! The comparison of a trace with a run that goes on.
 ghost use Rattle.std.specs.Prelude.{◌≡◌, ◌↔◌, ◌+◌, ◌-◌, ◌<◌, ◌≤◌, ◌^◌, ◌&&◌, not, nat_lt, [], ℕ, true, false, List, length, slice_get, Option, IfOk, OnOk};
+ghost use Rattle.vm_facts.specs.SwapImages.{SwapImage};
 ghost use Rattle.io_edge.specs.FileHolding.{NamedFile};
 ghost use Rattle.flat_state.specs.Flat.{Inputs};
 ghost use Rattle.machine_state.specs.Files.{AreFiles};
@@ -90,7 +91,7 @@ fn grade_along(film: &Film, entries: &[Entry]) -> Grade
     requires few { length entries.now < 2 ^ 32 }
     requires within { length film.now.machine.kernel.journal ≤ length entries.now }
     requires ended { not film.now.over && nat_lt (length film.now.machine.kernel.journal) (length entries.now) ≡ false }
-    ensures { (A : Inputs) (holds : Option (List NamedFile)) (i : Option (List ℕ)) → 64 ≤ A.frames → Along A film.now holds i true entries.now
+    ensures { (A : Inputs) (holds : Option (List NamedFile)) (i : Option SwapImage) → 64 ≤ A.frames → Along A film.now holds i true entries.now
         → IsGraded A entries.now film.now.machine.kernel.journal result }
 {
     let made = film.journal().len();
@@ -108,7 +109,7 @@ fn grade_of(film: &Film, entries: &[Entry], agrees: bool) -> Grade
     requires few { length entries.now < 2 ^ 32 }
     requires within { length film.now.machine.kernel.journal ≤ length entries.now }
     requires ended { agrees && (not film.now.over && nat_lt (length film.now.machine.kernel.journal) (length entries.now)) ≡ false }
-    ensures { (A : Inputs) (holds : Option (List NamedFile)) (i : Option (List ℕ)) → 64 ≤ A.frames → Along A film.now holds i agrees entries.now
+    ensures { (A : Inputs) (holds : Option (List NamedFile)) (i : Option SwapImage) → 64 ≤ A.frames → Along A film.now holds i agrees entries.now
         → IsGraded A entries.now film.now.machine.kernel.journal result }
 {
     if agrees {
@@ -134,7 +135,7 @@ pub fn grade_trace<F: Files, D: SwapDev>(
     requires few { length entries.now < 2 ^ 32 }
     requires area { film.old.machine.params.swap_blocks ≤ D.blocks swap.old }
     requires files { AreFiles film.old.machine.images (F.holds files.old) }
-    ensures { IfOk result (λ grade. (A : Inputs) (image : List ℕ) → 64 ≤ A.frames → A.lines ≡ lines.now
+    ensures { IfOk result (λ grade. (A : Inputs) (image : SwapImage) → 64 ≤ A.frames → A.lines ≡ lines.now
         → FilmBegun A film.old (F.holds files.old) (D.image swap.old) image → IsGraded A entries.now film.new.machine.kernel.journal grade) }
 {
     let mut agrees = true;

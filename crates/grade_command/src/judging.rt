@@ -1,5 +1,6 @@
 // A trace is graded by a run in memory.
 ghost use Rattle.std.specs.Prelude.{◌≡◌, ◌++◌, ◌-◌, ◌<◌, ◌≤◌, ◌^◌, [], ℕ, List, length, map, option_map, slice_get, All, Some, IfOk, OnOk};
+ghost use Rattle.vm_facts.specs.SwapImages.{SwapImage};
 ghost use Rattle.flat_state.specs.Flat.{Inputs};
 ghost use Rattle.io_edge.specs.Octets.{AreOctetFiles};
 ghost use Rattle.machine_state.specs.Files.{AreFiles};
@@ -93,7 +94,7 @@ fn grade_film<F: Files, D: SwapDev>(
     requires few { length entries.now < 2 ^ 32 }
     requires area { film.old.machine.params.swap_blocks ≤ D.blocks swap.old }
     requires files { AreFiles film.old.machine.images (F.holds files.old) }
-    ensures { IfOk result (λ graded. (A : Inputs) (image : List ℕ) → 64 ≤ A.frames → A.lines ≡ lines.now
+    ensures { IfOk result (λ graded. (A : Inputs) (image : SwapImage) → 64 ≤ A.frames → A.lines ≡ lines.now
         → FilmBegun A film.old (F.holds files.old) (D.image swap.old) image → TellsGrade A entries.now graded) }
 {
     let found = grade_trace(film, files, swap, lines, entries)?;
@@ -151,7 +152,7 @@ fn grade_run<'a, F: Files, D: SwapDev>(
     requires area { film.old.machine.params.swap_blocks ≤ D.blocks swap.old }
     requires files { AreFiles film.old.machine.images (F.holds files.old) }
     requires inputs { IsAskable film.old.machine first.now lines.now (F.holds files.old) (D.image swap.old) }
-    ensures { (A : Inputs) (image : List ℕ) → IsAskedOf A film.old.machine first.now lines.now (F.holds files.old) image → D.image swap.old ≡ Some image
+    ensures { (A : Inputs) (image : SwapImage) → IsAskedOf A film.old.machine first.now lines.now (F.holds files.old) image → D.image swap.old ≡ Some image
         → EndsGrading A entries.now result }
 {
     match film.start(files, swap, first, lines) {

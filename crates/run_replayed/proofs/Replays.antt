@@ -4,6 +4,7 @@ use Rattle.std.specs.Prelude.{nat_le}
 use Rattle.std.proofs.lemmas.Bool.{leb-true}
 use Rattle.std.proofs.lemmas.Bool.Decides.{nat_tests}
 use Rattle.std.proofs.lemmas.List.{append-nil}
+use Rattle.vm_facts.specs.SwapImages.{SwapImage}
 use Rattle.vm_facts.specs.declared.entry.Entry.{Entry}
 use Rattle.io_edge.specs.Count.{Rose}
 use Rattle.io_edge.specs.FileHolding.{NamedFile, place_of}
@@ -128,7 +129,7 @@ module _ (traced : Bool) (words : List (List ℕ)) (files : List NamedFile) (wri
       ∙ sym (ap length (begins.cut ∙ ap (λ (ls : List (List ℕ)). begins.lines ++ ls) no_lines ∙ append-nil begins.lines))
 
   -- the replay of the text, as a file of a new name beside the files
-  text_replayed : (transcript : List ℕ) (swap after : Option (List ℕ)) (failed status : ℕ) → place_of files transcript ≡ None
+  text_replayed : (transcript : List ℕ) (swap : Option SwapImage) (after : Option (List ℕ)) (failed status : ℕ) → place_of files transcript ≡ None
       → CompletesTold (EndsReplay transcript words) (read_of_transcript transcript words (files ++ record { name = transcript; bytes = text_of traced run.journal ++ [] } ∷ []))
       (seen_of (files ++ record { name = transcript; bytes = text_of traced run.journal ++ [] } ∷ []) 0 0 swap after failed) status
       → IsReplayed (text_of traced run.journal ++ []) status after
@@ -161,9 +162,9 @@ some_is : (a b : List ℕ) → Some a ≡ Some b → a ≡ b
 some_is a b same = cc
 
 -- what a run wrote, handed over as a file, is replayed
-pub run_replayed : (words : List (List ℕ)) (files : List NamedFile) (zero_blocks one_blocks : ℕ) (zero one written : Option (List ℕ)) (failed status : ℕ)
-    (transcript text : List ℕ)
-    (also_zero also_one after : Option (List ℕ)) (also_failed also_status : ℕ)
+pub run_replayed : (words : List (List ℕ)) (files : List NamedFile) (zero_blocks one_blocks : ℕ) (zero one : Option SwapImage) (written : Option (List ℕ))
+    (failed status : ℕ) (transcript text : List ℕ)
+    (also_zero also_one : Option SwapImage) (after : Option (List ℕ)) (also_failed also_status : ℕ)
     → is_plain transcript ≡ true → is_name transcript ≡ true → place_of files transcript ≡ None
     → DoesInMemory (asked_of words) files zero_blocks one_blocks zero one written failed status → written ≡ Some text
     → DoesInMemory (asked_of (replay_words transcript (asked_of words))) (files ++ record { name = transcript; bytes = text } ∷ []) 0 0 also_zero also_one

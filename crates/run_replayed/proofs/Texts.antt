@@ -1,5 +1,6 @@
 -- What a call in memory with status 0 wrote, where its words ask for a run: the text of a run of the flat machine.
 use Rattle.std.proofs.Common.{◌≡◌, ℕ, Bool, List, [], ◌++◌, Option, Some, Result, Ok, Err, sym, ◌∙◌, arith}
+use Rattle.vm_facts.specs.SwapImages.{SwapImage}
 use Rattle.vm_facts.specs.declared.entry.Entry.{Entry}
 use Rattle.io_edge.specs.FileHolding.{NamedFile}
 use Rattle.flat_state.specs.Flat.{Inputs}
@@ -23,8 +24,8 @@ pub record IsRunText (words : List (List ℕ)) (files : List NamedFile) (traced 
   pub flat : IsFlatText inputs traced journal
   pub wrote : written ≡ Some (text_of traced journal ++ [])
 
-pub run_text : (request : Request) (files : List NamedFile) (zero_blocks one_blocks : ℕ) (swap written : Option (List ℕ)) (faults : ℕ)
-    (image : List ℕ) (status : ℕ)
+pub run_text : (request : Request) (files : List NamedFile) (zero_blocks one_blocks : ℕ) (swap : Option SwapImage) (written : Option (List ℕ)) (faults : ℕ)
+    (image : SwapImage) (status : ℕ)
     → RunsTold request (seen_of files zero_blocks one_blocks swap written faults) files image status → status ≡ 0
     → IsRunText request.words files request.traced written
 run_text request files zero_blocks one_blocks swap written faults image status told zero = go told.ending told.writes told.told

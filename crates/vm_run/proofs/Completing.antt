@@ -1,5 +1,6 @@
 -- Which endings sound inputs leave.
 use Rattle.std.proofs.Common.{◌≡◌, ◌⊎◌, inl, inr, ℕ, List, length, Option, Some, None, Ok, Err, refl, sym, ◌∙◌}
+use Rattle.vm_facts.specs.SwapImages.{SwapImage}
 use Rattle.io_edge.specs.Count.{Rose}
 use Rattle.io_edge.specs.FileHolding.{NamedFile}
 use Rattle.vm_facts.specs.declared.entry.Entry.{Entry}
@@ -23,7 +24,7 @@ whole_status before after old new text whole status (Prefix is appends rose) nev
 abbrev Left : RunEnding → List Entry → Type 0
 Left ending journal = (status_of ending ≡ 0) ⊎ ((status_of ending ≡ 9) ⊎ ((status_of ending ≡ 10) × (length journal ≡ journal_entries)))
 
-module _ (request : Request) (seen : Seen) (files : List NamedFile) (image : List ℕ) (journal : List Entry) (is : IsWellTold request seen files image) (none : NoneRose seen) where
+module _ (request : Request) (seen : Seen) (files : List NamedFile) (image : SwapImage) (journal : List Entry) (is : IsWellTold request seen files image) (none : NoneRose seen) where
   left : (ending : RunEnding) → IsCaused request seen journal ending → IsJudged request seen files ending → EndsTold request seen files journal image ending → Left ending journal
   left (Ok done) caused judged told = inl refl
   left (Err NoMemory) caused judged told = inr (inl refl)

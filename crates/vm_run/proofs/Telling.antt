@@ -1,5 +1,6 @@
 -- What words do where files and a swap image are told.
 use Rattle.std.proofs.Common.{◌≡◌, ◌∙◌, ℕ, List, [], ◌++◌, Option, Some, None, ap, subst}
+use Rattle.vm_facts.specs.SwapImages.{SwapImage}
 use Rattle.io_edge.specs.FileHolding.{NamedFile}
 use Rattle.command_words.specs.Asked.{Request, Asked, Run, Load, Replay, Assemble, Show, Optimum, Curve, Owners, Film, Stats, References, Grade, Policies}
 use Rattle.command_ending.specs.Ending.{Ending as CommandEnding}
@@ -24,7 +25,7 @@ completes_told {R} Ends told seen files status is x = record {
   writes = x.writes;
 }
 
-pub obeys_told : (asked : Option Asked) (seen : Seen) (files : List NamedFile) (image : List ℕ) (status : ℕ) → seen.files ≡ Some files → AreOctetFiles files
+pub obeys_told : (asked : Option Asked) (seen : Seen) (files : List NamedFile) (image : SwapImage) (status : ℕ) → seen.files ≡ Some files → AreOctetFiles files
     → seen.swap_before ≡ Some image
     → Obeys asked seen status → ObeysTold asked seen files image status
 obeys_told None seen files image status is octets swap x = x
@@ -45,7 +46,7 @@ obeys_told (Some (Grade numbers schedule trace images)) seen files image status 
 obeys_told (Some (Policies comparison references)) seen files image status is octets swap x = completes_told _ _ seen files status is x
 
 -- What is seen where files and devices are in memory.
-pub same_seen : (files : Option (List NamedFile)) (list : List NamedFile) (zb ob zero_blocks one_blocks : ℕ) (before after swap : Option (List ℕ))
+pub same_seen : (files : Option (List NamedFile)) (list : List NamedFile) (zb ob zero_blocks one_blocks : ℕ) (before after swap : Option SwapImage)
     (empty written : Option (List ℕ)) (none faults : ℕ) → files ≡ Some list
     → zb ≡ zero_blocks → ob ≡ one_blocks → before ≡ Some (blank_pair zero_blocks one_blocks) → after ≡ swap → empty ≡ Some [] → none ≡ 0
     → (
@@ -67,17 +68,17 @@ pub same_seen : (files : Option (List NamedFile)) (list : List NamedFile) (zb ob
 same_seen files list zb ob zero_blocks one_blocks before after swap empty written none faults f z o b a e n = cc
 
 -- The swap image of two devices whose blocks and images are known.
-pub together : (zb ob zero_blocks one_blocks : ℕ) (i j zero one : Option (List ℕ)) → zb ≡ zero_blocks → ob ≡ one_blocks → i ≡ zero → j ≡ one
+pub together : (zb ob zero_blocks one_blocks : ℕ) (i j zero one : Option SwapImage) → zb ≡ zero_blocks → ob ≡ one_blocks → i ≡ zero → j ≡ one
     → image_together zb ob i j ≡ image_together zero_blocks one_blocks zero one
 together zb ob zero_blocks one_blocks i j zero one zs os is js =
     ap (λ (k : ℕ). image_together k ob i j) zs
     ∙ ap (λ (k : ℕ). image_together zero_blocks k i j) os
-    ∙ ap (λ (x : Option (List ℕ)). image_together zero_blocks one_blocks x j) is
-    ∙ ap (λ (x : Option (List ℕ)). image_together zero_blocks one_blocks zero x) js
+    ∙ ap (λ (x : Option SwapImage). image_together zero_blocks one_blocks x j) is
+    ∙ ap (λ (x : Option SwapImage). image_together zero_blocks one_blocks zero x) js
 
 -- The headline, where all is told.
 pub headline_told : (asked : Option Request) (files : Option (List NamedFile)) (list : List NamedFile)
-    (zero one : Option (List ℕ)) (zero_image one_image : List ℕ)
+    (zero one : Option SwapImage) (zero_image one_image : SwapImage)
     (zb ob zero_blocks one_blocks : ℕ) (empty written : Option (List ℕ)) (none faults status : ℕ) → files ≡ Some list → AreOctetFiles list
     → zero ≡ Some zero_image → one ≡ Some one_image → zb ≡ zero_blocks → ob ≡ one_blocks → empty ≡ Some [] → none ≡ 0
     → CarriesFor asked files zero one zb ob empty written none faults status → HeadlineInMemory asked list zero_blocks one_blocks written faults status

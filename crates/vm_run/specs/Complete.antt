@@ -1,5 +1,6 @@
 -- A run of sound inputs, over which no call fails, is finished, or lacks memory, or has a full journal.
 use Rattle.std.specs.Prelude.{◌≡◌, ◌⊎◌, ℕ, List, length, Some, Err}
+use Rattle.vm_facts.specs.SwapImages.{SwapImage}
 use Rattle.io_edge.specs.Count.{Rose}
 use Rattle.io_edge.specs.FileHolding.{NamedFile}
 use Rattle.flat_state.specs.Flat.{Inputs}
@@ -13,7 +14,7 @@ use Rattle.reference_commands.specs.RunCommandEnds.{DevicesSuffice, AllGood, Run
 use Rattle.reference_commands.specs.Loads.{load_numbers, Loads}
 
 -- Files and swap are told, the schedule, the images and the devices are good, and the first processes' pieces find their places.
-pub record IsWellTold (request : Request) (seen : Seen) (files : List NamedFile) (image : List ℕ) : Type 0 where
+pub record IsWellTold (request : Request) (seen : Seen) (files : List NamedFile) (image : SwapImage) : Type 0 where
   pub files_told : seen.files ≡ Some files
   pub swap_told : seen.swap_before ≡ Some image
   pub octets : AreOctetFiles files
@@ -35,7 +36,7 @@ IsComplete request seen status runs = (status ≡ 0) ⊎ ((status ≡ 9) ⊎ ((s
 -- a run of sound inputs is complete, where no count of failed calls rose
 abbrev pub RunsComplete : Type 0
 RunsComplete =
-    (request : Request) (seen : Seen) (status : ℕ) (files : List NamedFile) (image : List ℕ) (runs : Runs request seen status)
+    (request : Request) (seen : Seen) (status : ℕ) (files : List NamedFile) (image : SwapImage) (runs : Runs request seen status)
     → IsWellTold request seen files image → NoneRose seen → IsComplete request seen status runs
 
 -- The same of a load, whose devices have the blocks that it needs.
@@ -51,6 +52,6 @@ LoadsComplete =
 -- Where the devices are told too, its journal is far from all entries that it may have: it is finished, or it found no memory.
 abbrev pub ToldLoadsComplete : Type 0
 ToldLoadsComplete =
-    (number : ℕ) (seen : Seen) (status : ℕ) (image : List ℕ) → Loads number seen status → seen.swap_before ≡ Some image
+    (number : ℕ) (seen : Seen) (status : ℕ) (image : SwapImage) → Loads number seen status → seen.swap_before ≡ Some image
     → DevicesSuffice load_numbers.swap seen → NoneRose seen
     → (status ≡ 0) ⊎ (status ≡ 9)

@@ -1,7 +1,8 @@
 -- What words do where files, swap devices and output are in memory, and tell what they hold: what is told, without a premise.
 use Rattle.std.specs.Prelude.{◌≡◌, ◌≤◌, ℕ, List, [], ◌++◌, length, Option, Some, None}
+use Rattle.vm_facts.specs.SwapImages.{SwapImage}
 use Rattle.io_edge.specs.FileHolding.{NamedFile}
-use Rattle.io_edge.specs.Striping.{pair_blocks, first_blocks}
+use Rattle.io_edge.specs.Striping.{pair_blocks, images_paired}
 use Rattle.io_edge.specs.Written.{Appends}
 use Rattle.vm_facts.specs.declared.entry.Entry.{Entry}
 use Rattle.run_text.specs.Text.{text_of}
@@ -31,11 +32,11 @@ use Rattle.policy_command.specs.Command.{EndsPolicies, references_told}
 use Rattle.vm_run.specs.Obeying.{Obeys}
 
 -- the swap image that two devices make together to which nothing was written
-abbrev pub blank_pair : ℕ → ℕ → List ℕ
-blank_pair zero_blocks one_blocks = first_blocks (pair_blocks zero_blocks one_blocks) (blank_swap zero_blocks) (blank_swap one_blocks)
+abbrev pub blank_pair : ℕ → ℕ → SwapImage
+blank_pair zero_blocks one_blocks = images_paired (pair_blocks zero_blocks one_blocks) (blank_swap zero_blocks) (blank_swap one_blocks)
 
 -- What is seen of these files and two blank devices, which never fail, and of an output that was empty.
-abbrev pub seen_of : List NamedFile → ℕ → ℕ → Option (List ℕ) → Option (List ℕ) → ℕ → Seen
+abbrev pub seen_of : List NamedFile → ℕ → ℕ → Option SwapImage → Option (List ℕ) → ℕ → Seen
 seen_of files zero_blocks one_blocks swap written faults = record {
   files = Some files;
   faults = record { open_before = 0; open_after = 0; page_before = 0; page_after = 0 };
@@ -52,7 +53,7 @@ seen_of files zero_blocks one_blocks swap written faults = record {
 }
 
 -- a run, whose files and swap image are told
-pub record RunsTold (request : Request) (seen : Seen) (files : List NamedFile) (image : List ℕ) (status : ℕ) : Type 0 where
+pub record RunsTold (request : Request) (seen : Seen) (files : List NamedFile) (image : SwapImage) (status : ℕ) : Type 0 where
   pub ending : RunEnding
   pub journal : List Entry
   pub writes : Writing request.traced seen journal ending status
@@ -62,7 +63,7 @@ pub record RunsTold (request : Request) (seen : Seen) (files : List NamedFile) (
   pub told : EndsTold request seen files journal image ending
 
 -- a load, whose swap image is told
-pub record LoadsTold (number : ℕ) (seen : Seen) (image : List ℕ) (status : ℕ) : Type 0 where
+pub record LoadsTold (number : ℕ) (seen : Seen) (image : SwapImage) (status : ℕ) : Type 0 where
   pub ending : RunEnding
   pub journal : List Entry
   pub writes : Writes seen.written_before seen.written_after seen.sink_faults_before seen.sink_faults_after (load_written number journal ending)
@@ -87,7 +88,7 @@ abbrev pub GradesTold : Subject → List ℕ → Seen → List NamedFile → ℕ
 GradesTold subject trace seen files status = CompletesTold (EndsGrade subject trace) (trace_told subject trace files) seen status
 
 -- The words are none of a command, and the line that says so was written; or they ask for a command, and it did what it is for.
-abbrev pub ObeysTold : Option Asked → Seen → List NamedFile → List ℕ → ℕ → Type 0
+abbrev pub ObeysTold : Option Asked → Seen → List NamedFile → SwapImage → ℕ → Type 0
 ObeysTold None seen files image status = Obeys None seen status
 ObeysTold (Some (Run traced numbers schedule images)) seen files image status =
     RunsTold (record { traced = traced; numbers = numbers; schedule = schedule; words = images }) seen files image status
@@ -114,7 +115,7 @@ ObeysTold (Some (Policies comparison references)) seen files image status =
     CompletesTold (EndsPolicies comparison references) (references_told references files) seen status
 
 -- words over these files and two blank devices leave this on the devices and the output, with this status
-abbrev pub DoesInMemory : Option Asked → List NamedFile → ℕ → ℕ → Option (List ℕ) → Option (List ℕ) → Option (List ℕ) → ℕ → ℕ → Type 0
+abbrev pub DoesInMemory : Option Asked → List NamedFile → ℕ → ℕ → Option SwapImage → Option SwapImage → Option (List ℕ) → ℕ → ℕ → Type 0
 DoesInMemory asked files zero_blocks one_blocks zero one written faults status =
     ObeysTold asked (seen_of files zero_blocks one_blocks (image_together zero_blocks one_blocks zero one) written faults) files
     (blank_pair zero_blocks one_blocks) status

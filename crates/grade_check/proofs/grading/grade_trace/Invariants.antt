@@ -1,5 +1,6 @@
 -- The film stands at a state of the run, and its journal agrees with the trace, or has just parted from it.
 use Rattle.std.proofs.Common.{◌≡◌, ◌≤◌, ◌-◌, ℕ, List, length}
+use Rattle.vm_facts.specs.SwapImages.{SwapImage}
 use Rattle.flat_state.specs.Flat.{Inputs}
 use Rattle.machine_state.specs.Files.{AreFiles}
 use Rattle.film_core.specs.Films.{IsFilming, FilmBegun}
@@ -9,7 +10,7 @@ use Rattle.grade_check.proofs.grading.grade_trace.Given as goal
 abbrev pub invariant-loop-film : goal.invariant-loop-film
 invariant-loop-film g l = record {
   filming : IsFilming l.film l.lines (g.F.Files.holds l.files) (g.D.SwapDev.image l.swap);
-  so_far : (A : Inputs) (image : List ℕ) → A.lines ≡ l.lines → FilmBegun A l.fn.film (g.F.Files.holds l.fn.files) (g.D.SwapDev.image l.fn.swap) image
+  so_far : (A : Inputs) (image : SwapImage) → A.lines ≡ l.lines → FilmBegun A l.fn.film (g.F.Files.holds l.fn.files) (g.D.SwapDev.image l.fn.swap) image
       → Along A l.film (g.F.Files.holds l.files) (g.D.SwapDev.image l.swap) l.agrees l.entries;
   within : length l.film.machine.kernel.journal ≤ length l.entries;
   area : l.film.machine.params.swap_blocks ≤ g.D.SwapDev.blocks l.swap;

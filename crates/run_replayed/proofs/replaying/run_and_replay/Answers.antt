@@ -1,4 +1,5 @@
 use Rattle.std.proofs.Common.{◌≡◌, ◌*◌, ◌∙◌, ℕ, List, [], ◌∷◌, ◌++◌, Option, Some, Bor, Global, map, take, ap, subst}
+use Rattle.vm_facts.specs.SwapImages.{SwapImage, unnoted}
 use Rattle.io_edge.specs.FileHolding.{NamedFile, named_file}
 use Rattle.io_edge.specs.Zeros.{with_zeros}
 use Rattle.command_words.specs.Asked.{asked_of}
@@ -16,8 +17,8 @@ returns-clause-replayed c =
     let text = c.written.result.now in
     let run = c.in_ok-run.run' in
     let replay = c.in_ok-replay.replay in
-    let zero : Option (List ℕ) = Some (with_zeros (512 * replay.zero.blocks) replay.zero.written.items) in
-    let one : Option (List ℕ) = Some (with_zeros (512 * replay.one.blocks) replay.one.written.items) in
+    let zero : Option SwapImage = Some (unnoted (with_zeros (512 * replay.zero.blocks) replay.zero.written.items)) in
+    let one : Option SwapImage = Some (unnoted (with_zeros (512 * replay.one.blocks) replay.one.written.items)) in
     let after : Option (List ℕ) = Some (take replay.output.len replay.output.room.items) in
     let asked : map (λ (word : Bor (List ℕ)). word.now) c.as_slice-2.result.now ≡ replay_words name (asked_of words)
     = ap (map (λ (word : Bor (List ℕ)). word.now)) c.as_slice-2.ensures.value ∙ c.in_ok-asked.ensures in
@@ -25,7 +26,7 @@ returns-clause-replayed c =
     = c.in_ok-beside.ensures.files
     ∙ ap (λ (fs : List NamedFile). fs ++ record { name = name; bytes = text } ∷ []) (c.in_ok-copies.ensures ∙ ap (map (named_file {A = Global} {B = Global})) c.as_slice.ensures.value) in
     run_replayed words files c.args.zero_blocks c.args.one_blocks
-    (Some (with_zeros (512 * run.zero.blocks) run.zero.written.items)) (Some (with_zeros (512 * run.one.blocks) run.one.written.items))
+    (Some (unnoted (with_zeros (512 * run.zero.blocks) run.zero.written.items))) (Some (unnoted (with_zeros (512 * run.one.blocks) run.one.written.items)))
     (Some (take run.output.len run.output.room.items)) run.output.faults run.status name text zero one after replay.output.faults replay.status
     c.requires.plain c.requires.name c.requires.new c.in_ok-run.ensures.does c.written.ensures
     (subst (λ (ws : List (List ℕ)). DoesInMemory (asked_of ws) (files ++ record { name = name; bytes = text } ∷ []) 0 0 zero one after replay.output.faults replay.status) asked

@@ -1,4 +1,5 @@
 use Rattle.std.proofs.Common.{◌≡◌, ◌*◌, ◌∙◌, ℕ, List, Option, Some, Bor, map, refl, subst}
+use Rattle.vm_facts.specs.SwapImages.{SwapImage, unnoted}
 use Rattle.io_edge.specs.FileHolding.{NamedFile, named_file}
 use Rattle.io_edge.specs.Octets.{AreOctetFiles}
 use Rattle.io_edge.specs.Zeros.{with_zeros}
@@ -15,8 +16,8 @@ pub returns-clause-does : goal.returns-clause-does
 returns-clause-does c =
     let asked : Option Asked = asked_of (map (λ (word : Bor (List ℕ)). word.now) c.args.words.now) in
     let files : List NamedFile = map named_file c.args.files.items in
-    let zero : Option (List ℕ) = Some (with_zeros (512 * c.vmrun-status.new.zero.blocks) c.vmrun-status.new.zero.written.items) in
-    let one : Option (List ℕ) = Some (with_zeros (512 * c.vmrun-status.new.one.blocks) c.vmrun-status.new.one.written.items) in
+    let zero : Option SwapImage = Some (unnoted (with_zeros (512 * c.vmrun-status.new.zero.blocks) c.vmrun-status.new.zero.written.items)) in
+    let one : Option SwapImage = Some (unnoted (with_zeros (512 * c.vmrun-status.new.one.blocks) c.vmrun-status.new.one.written.items)) in
     let before = together c.in_ok-zero.zero.blocks c.in_ok-one.one.blocks c.args.zero_blocks c.args.one_blocks _ _ (Some (blank_swap c.args.zero_blocks))
     (Some (blank_swap c.args.one_blocks)) c.in_ok-zero.ensures.blocks c.in_ok-one.ensures.blocks c.in_ok-zero.ensures.zeros c.in_ok-one.ensures.zeros in
     let after = together c.vmrun-status.new.zero.blocks c.vmrun-status.new.one.blocks c.args.zero_blocks c.args.one_blocks zero one zero one
