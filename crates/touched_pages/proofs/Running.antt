@@ -1,5 +1,6 @@
 -- A process that runs at a state of a run, and the pages that it touches first.
 use Rattle.std.proofs.Common.{◌≡◌, ℕ, ◌≤◌, Bool, true, false, List, [], ◌∷◌, ◌++◌, length, length-append, filter, filter_map, Option, Some, None, refl, sym, ap, ◌∙◌, subst, arith}
+use Rattle.vm_facts.specs.SwapImages.{SwapImage}
 use Rattle.vm_facts.specs.Answers.{Answers, ByteWrite}
 use Rattle.vm_facts.specs.declared.page.Page.{Page}
 use Rattle.vm_facts.specs.declared.regs.Regs.{Regs}
@@ -47,7 +48,7 @@ use Rattle.touched_pages.proofs.Nexts.{NextOf, step_next}
 
 -- It holds its space, and over the frames this answers as the flat one does, or misses.
 
-held_is : (A : Inputs) (s : State) (k : Kernel) (image : List ℕ) (pid : ℕ) (now : Bool) (p : Process) (x : Space) → At A s k image
+held_is : (A : Inputs) (s : State) (k : Kernel) (image : SwapImage) (pid : ℕ) (now : Bool) (p : Process) (x : Space) → At A s k image
     → IsRunning A s pid now p x → space_of_pid k pid ≡ x.sid
 held_is A s k image pid now p x at r =
     let flat : FlatState = s.point.flat in
@@ -57,15 +58,15 @@ held_is A s k image pid now p x at r =
     let outline : outline_kept kept.0 ≡ outline_of p = outline_at k.processes flat.processes tables.processes pid kept.0 p kept.1 found.1 in
     ap space_of_life (ap life_of_proc kept.1 ∙ ap (λ (o : Outline). o.life) outline ∙ ap life_of r.holds)
 
-frames_cover : (A : Inputs) (s : State) (k : Kernel) (image : List ℕ) (pid : ℕ) (now : Bool) (p : Process) (x : Space) → At A s k image
+frames_cover : (A : Inputs) (s : State) (k : Kernel) (image : SwapImage) (pid : ℕ) (now : Bool) (p : Process) (x : Space) → At A s k image
     → IsRunning A s pid now p x
     → Covers (kernel_answers k x.sid) (answers_of x)
-frames_cover A s k image pid now p x at r = memory_covers A.images k image flat x keeps.coupled keeps.stands.texts own (text.same ∙ sym (ap image_text text.image))
+frames_cover A s k image pid now p x at r = memory_covers A.images k image.bytes flat x keeps.coupled keeps.stands.texts own (text.same ∙ sym (ap image_text text.image))
   where
     flat : FlatState
     flat = s.point.flat
 
-    keeps : Keeps A flat k image
+    keeps : Keeps A flat k image.bytes
     keeps = at.stands.keeps
 
     own : numbered (λ (y : Space). y.sid) x.sid (spaces_of flat) ≡ Some x

@@ -1,5 +1,6 @@
 -- A process that runs, at a state of a run.
-use Rattle.std.specs.Prelude.{◌≡◌, ℕ, Bool, List}
+use Rattle.std.specs.Prelude.{◌≡◌, ℕ, Bool}
+use Rattle.vm_facts.specs.SwapImages.{SwapImage}
 use Rattle.vm_facts.specs.declared.regs.Regs.{Regs}
 use Rattle.flat_state.specs.Space.{Space}
 use Rattle.flat_state.specs.Flat.{Process, Inputs}
@@ -11,7 +12,7 @@ use Rattle.run_units.specs.Touching.{IsRunning}
 
 -- A machine with the images of a run stands at a state of it, at which a process runs, with these registers.
 pub record RunsWith (A : Inputs) (s : State) (now : Bool) (m : Standing) (pid : ℕ) (regs : Regs) : Type 0 where
-  pub image : List ℕ
+  pub image : SwapImage
   pub process : Process
   pub space : Space
   pub named : AreNamed A.images m.images
