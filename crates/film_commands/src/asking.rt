@@ -63,7 +63,8 @@ fn answer_begun<'a, F: Files, D: SwapDev>(
     requires area { film.old.machine.params.swap_blocks ≤ D.blocks swap.old }
     requires files { AreFiles film.old.machine.images (F.holds files.old) }
     requires question { IsQuestion (question_of asked) }
-    ensures { (A : Inputs) (image : SwapImage) → A.lines ≡ lines.now → length A.images ≡ images → FilmBegun A film.old (F.holds files.old) (D.image swap.old) image
+    ensures { (A : Inputs) (image : SwapImage) → A.lines ≡ lines.now → length A.images ≡ images
+        → FilmBegun A film.old (F.holds files.old) (D.image swap.old) image
         → EndsAnswer (question_of asked) A (ending_of result) }
 {
     match asked {

@@ -199,7 +199,8 @@ pub(crate) fn count_begun<'a, F: Files, D: SwapDev>(
     requires count { length lines.now < 2 ^ 32 }
     requires area { film.old.machine.params.swap_blocks ≤ D.blocks swap.old }
     requires files { AreFiles film.old.machine.images (F.holds files.old) }
-    ensures { (A : Inputs) (image : SwapImage) → A.lines ≡ lines.now → length A.images ≡ images → FilmBegun A film.old (F.holds files.old) (D.image swap.old) image
+    ensures { (A : Inputs) (image : SwapImage) → A.lines ≡ lines.now → length A.images ≡ images
+        → FilmBegun A film.old (F.holds files.old) (D.image swap.old) image
         → EndsAnswer questions.Stats A (ending_of result) }
 {
     let first = look_at_film(film);

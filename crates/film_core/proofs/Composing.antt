@@ -30,7 +30,8 @@ use Rattle.run_laws.proofs.LongerJournals.{units_long}
 
 -- Two leads.
 
-pub then_lead : (A : Inputs) (s t r : State) (k l m : Kernel) (image : SwapImage) (i j : Option SwapImage) (us vs : List Entry) → (a : Leads A s k image us t l i)
+pub then_lead : (A : Inputs) (s t r : State) (k l m : Kernel) (image : SwapImage) (i j : Option SwapImage) (us vs : List Entry)
+    → (a : Leads A s k image us t l i)
     → Leads A t l a.behind vs r m j
     → Leads A s k image (us ++ vs) r m j
 then_lead A s t r k l m image i j us vs a b =
@@ -73,7 +74,8 @@ pub leads_reached : (A : Inputs) (s t : State) (k l : Kernel) (image : SwapImage
     → Leads A s k image us t l j → IsReached A t
 leads_reached A s t k l image us j r a = reached_on A s t us r (leads_follow A s t k l image us j a)
 
-pub stands_then : (A : Inputs) (s t : State) (old new : Standing) (holds : Option (List NamedFile)) (i j : Option SwapImage) (image : SwapImage) (us : List Entry)
+pub stands_then : (A : Inputs) (s t : State) (old new : Standing) (holds : Option (List NamedFile)) (i j : Option SwapImage) (image : SwapImage)
+    (us : List Entry)
     (counted count : ℕ) → IsReached A s
     → StandsIn A s old holds i image counted → (a : Leads A s old.kernel image us t new.kernel j) → new.params ≡ old.params
     → new.images ≡ old.images → t.count ≡ count

@@ -59,7 +59,8 @@ film_full A s f lines holds i image are on at = record {
 counts_behind : (es : List Entry) (e : Entry) → instructions_of (es ++ e ∷ []) ≡ instructions_of es + counted e
 counts_behind es e = let both = count-append es (e ∷ []) in omega (arith, both)
 
-module _ (A : Inputs) (s : State) (old : Filming) (m : Standing) (ended : Bool) (holds : Option (List NamedFile)) (i j : Option SwapImage) (image : SwapImage) (at : FilmAt A s old holds i image)
+module _ (A : Inputs) (s : State) (old : Filming) (m : Standing) (ended : Bool) (holds : Option (List NamedFile)) (i j : Option SwapImage)
+    (image : SwapImage) (at : FilmAt A s old holds i image)
     (x : EntryMade old.machine m ended holds j A s image) where
   follows : Follows A s x.units x.state
   follows = leads_follow A s x.state old.machine.kernel m.kernel image x.units j x.leads
@@ -165,7 +166,8 @@ film_goes old new m ended lines holds i j on few ready f c A s image are at =
     let x = f A s image (film_full A s old lines holds i image are on at) in
     one_more A s old m ended holds i j image at x ready lines are few new (c (entry A s old m ended holds i j image at x).0 (last_made A s old m ended holds i j image at x))
 
-pub film_stops : (old : Filming) (new : Filming) (lines : List Event) (holds : Option (List NamedFile)) (i j : Option SwapImage) (stop : Stop) → old.over ≡ false
+pub film_stops : (old : Filming) (new : Filming) (lines : List Event) (holds : Option (List NamedFile)) (i j : Option SwapImage) (stop : Stop)
+    → old.over ≡ false
     → StopsElse (FullAt old.machine old.mark lines old.lines old.counted holds i) old.machine new.machine j stop
     → StopsElse (FilmsAt old lines holds i) old.machine new.machine j stop
 film_stops old new lines holds i j stop on f = (f.0, λ A s image at. f.1 A s image (film_full A s old lines holds i image at.0 on at.1))

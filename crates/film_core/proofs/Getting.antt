@@ -26,7 +26,8 @@ way_at : (A : Inputs) (s : State) (m : Standing) (last : Mark) (schedule : List 
     → WayAt m holds i A s image
 way_at A s m last schedule taken counted holds i image at = record { machine = at.stands.machine; told = at.stands.told; reached = at.reached }
 
-module _ (old mid : Standing) (last : Mark) (schedule : List Event) (taken counted count : ℕ) (holds : Option (List NamedFile)) (i h : Option SwapImage) (to : CountsTo old mid counted count)
+module _ (old mid : Standing) (last : Mark) (schedule : List Event) (taken counted count : ℕ) (holds : Option (List NamedFile)) (i h : Option SwapImage)
+    (to : CountsTo old mid counted count)
     (f : LeadsFrom (WayAt old holds i) (StepSettled old mid counted count h))
     (A : Inputs) (s : State) (image : SwapImage) (at : GoesAt old last schedule taken counted holds i A s image) where
   settled : (n : ℕ) × (count ≡ counted + n) × StepLeads A s old.kernel image n mid.kernel h
@@ -45,7 +46,8 @@ module _ (old mid : Standing) (last : Mark) (schedule : List Event) (taken count
     order = subst (λ (es : List Event). IsInOrder es led.state.lines last) (sym at.are) (subst (λ (n : ℕ). IsInOrder schedule n last) (sym (led.lines ∙ at.lines)) at.order);
   }
 
-pub going_under : (old mid : Standing) (last : Mark) (schedule : List Event) (taken counted count : ℕ) (holds : Option (List NamedFile)) (i h : Option SwapImage)
+pub going_under : (old mid : Standing) (last : Mark) (schedule : List Event) (taken counted count : ℕ) (holds : Option (List NamedFile))
+    (i h : Option SwapImage)
     → CountsTo old mid counted count
     → LeadsFrom (WayAt old holds i) (StepSettled old mid counted count h) → AtSome (GoesAt old last schedule taken counted holds i)
     → AtSome (RestAt mid last count holds h)
@@ -80,7 +82,8 @@ rest_stops_going old mid new last schedule taken counted count holds i h j stop 
 
 -- The whole way.
 
-module _ (old mid : Standing) (last : Mark) (schedule : List Event) (taken counted count turn : ℕ) (holds : Option (List NamedFile)) (i h : Option SwapImage) (on : StaysOn old mid count)
+module _ (old mid : Standing) (last : Mark) (schedule : List Event) (taken counted count turn : ℕ) (holds : Option (List NamedFile)) (i h : Option SwapImage)
+    (on : StaysOn old mid count)
     (f : LeadsFrom (GoesAt old last schedule taken counted holds i) (RestDone old mid last count h)) (e : turn ≡ last_turned last) where
   past_at : (A : Inputs) (s : State) (image : SwapImage) (at : GoesAt old last schedule taken counted holds i A s image) → let d =
       f A s image at in OverAt mid schedule taken count turn holds h A d.state d.leads.behind

@@ -68,7 +68,8 @@ wide_goes A s old mid mark lines taken counted holds i image e at = subst (λ (m
 
 -- Units that lead to where none comes make a journal longer.
 
-grown : (A : Inputs) (s t : State) (k l : Kernel) (image behind : SwapImage) (us : List Entry) (j : Option SwapImage) → StandsAt A s k image.bytes → StandsAt A t l behind.bytes
+grown : (A : Inputs) (s t : State) (k l : Kernel) (image behind : SwapImage) (us : List Entry) (j : Option SwapImage) → StandsAt A s k image.bytes
+    → StandsAt A t l behind.bytes
     → Leads A s k image us t l j
     → l.journal ≡ appended k.journal us
 grown A s t k l image behind us j at there a =
@@ -88,7 +89,8 @@ full_spoils entries.Done k i j h = h
 full_spoils (entries.SwapOut pid) k i j h = h
 full_spoils _ k i j h = h
 
-module _ (old mid new : Standing) (mark : Mark) (lines : List Event) (taken counted : ℕ) (holds : Option (List NamedFile)) (i j : Option SwapImage) (wide : mid ≡ widened old)
+module _ (old mid new : Standing) (mark : Mark) (lines : List Event) (taken counted : ℕ) (holds : Option (List NamedFile)) (i j : Option SwapImage)
+    (wide : mid ≡ widened old)
     (within : length new.kernel.journal ≤ new.params.journal) where
   same_kernel : mid.kernel ≡ old.kernel
   same_kernel = ap (λ (m : Standing). m.kernel) wide

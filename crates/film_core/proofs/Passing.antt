@@ -72,7 +72,8 @@ idle_ends A t l e = go (nat_lt t.count A.limit) (nat_lt t.lines (length A.lines)
     go true true x = absurd (never x)
     go true false x = ap turn_of e
 
-module _ (A : Inputs) (s : State) (m : Standing) (schedule : List Event) (taken count last : ℕ) (holds : Option (List NamedFile)) (i : Option SwapImage) (image : SwapImage)
+module _ (A : Inputs) (s : State) (m : Standing) (schedule : List Event) (taken count last : ℕ) (holds : Option (List NamedFile)) (i : Option SwapImage)
+    (image : SwapImage)
     (at : OverAt m schedule taken count last holds i A s image) where
   turned : next_turned s.point.flat (last_turned s.mark) ≡ chosen_next m.kernel last
   turned = ap (next_turned s.point.flat) at.turned ∙ sym (turned_same m.kernel s.point.flat last at.stands.machine.at.stands.keeps.coupled.tables)
@@ -148,7 +149,8 @@ ComesNext m schedule taken count turn =
     ((e : Event) × (count < m.params.limit) × (slice_get schedule taken ≡ Some e))
     ⊎ ((pid : ℕ) × (count < m.params.limit) × (slice_get schedule taken ≡ None) × (chosen_next m.kernel turn ≡ Some pid))
 
-module _ (A : Inputs) (s : State) (m : Standing) (schedule : List Event) (taken count last : ℕ) (holds : Option (List NamedFile)) (i : Option SwapImage) (image : SwapImage)
+module _ (A : Inputs) (s : State) (m : Standing) (schedule : List Event) (taken count last : ℕ) (holds : Option (List NamedFile)) (i : Option SwapImage)
+    (image : SwapImage)
     (at : OverAt m schedule taken count last holds i A s image) where
   pub stop_line : (new : Standing) (e : Event) (stop : Stop) → count < m.params.limit → slice_get schedule taken ≡ Some e → StopsBefore m new stop → StopLeads A s m.kernel image stop new i
   stop_line new e stop l x n =
@@ -165,7 +167,8 @@ module _ (A : Inputs) (s : State) (m : Standing) (schedule : List Event) (taken 
   stop_full may full (inl (e, l, x)) = stop_line m e stops.JournalFull l x (stops_full m may full)
   stop_full may full (inr (pid, l, x, y)) = stop_turn m pid stops.JournalFull l x y (stops_full m may full)
 
-grown_full : (A : Inputs) (s t : State) (old new : Standing) (holds : Option (List NamedFile)) (i j : Option SwapImage) (image behind : SwapImage) (us : List Entry)
+grown_full : (A : Inputs) (s t : State) (old new : Standing) (holds : Option (List NamedFile)) (i j : Option SwapImage) (image behind : SwapImage)
+    (us : List Entry)
     (counted count room : ℕ)
     → StandsIn A s old holds i image counted → StandsIn A t new holds j behind count → Leads A s old.kernel image us t new.kernel j
     → room ≤ length old.kernel.journal → room ≤ length new.kernel.journal
@@ -178,7 +181,8 @@ same_room old new e n l = subst (λ (p : Params). p.journal ≤ n) (sym e) l
 module _ (old new : Standing) (last : Mark) (schedule : List Event) (taken counted count turn : ℕ) (holds : Option (List NamedFile)) (i j : Option SwapImage)
     (f : LeadsFrom (RestAt old last counted holds i) (RestDone old new last count j))
     (on : StaysOn old new count) (e : turn ≡ last_turned last) (full : old.params.journal ≤ length old.kernel.journal) where
-  round_full : (A : Inputs) (s : State) (image : SwapImage) → RoundAt old last schedule taken counted holds i A s image → new.params.journal ≤ length new.kernel.journal
+  round_full : (A : Inputs) (s : State) (image : SwapImage) → RoundAt old last schedule taken counted holds i A s image
+      → new.params.journal ≤ length new.kernel.journal
   round_full A s image at =
       let d = f A s image at.rest in
       let o = over_at A s old new last schedule taken counted count turn holds i j image at d on e in
@@ -283,10 +287,12 @@ begun_stops A s old mid new mark schedule taken counted holds i j image stop b f
 
 -- A line.
 
-module _ (old mid new : Standing) (mark : Mark) (schedule : List Event) (taken counted turn : ℕ) (holds : Option (List NamedFile)) (i j : Option SwapImage) (e : Event)
+module _ (old mid new : Standing) (mark : Mark) (schedule : List Event) (taken counted turn : ℕ) (holds : Option (List NamedFile)) (i j : Option SwapImage)
+    (e : Event)
     (l : counted < old.params.limit) (x : slice_get schedule taken ≡ Some e) (few : HaveFewMoves schedule) (n : StaysSteady old mid 0)
     (k : mid.kernel ≡ note_step old.kernel (entries.Event (taken + 1))) (m : mark ≡ marked_by mid.kernel counted e) where
-  line_there : (A : Inputs) (s : State) (image : SwapImage) → OverAt old schedule taken counted turn holds i A s image → NextBegun A s old mid mark schedule (taken + 1) counted holds i image
+  line_there : (A : Inputs) (s : State) (image : SwapImage) → OverAt old schedule taken counted turn holds i A s image
+      → NextBegun A s old mid mark schedule (taken + 1) counted holds i image
   line_there A s image at = line_begun A s old mid mark schedule taken counted turn holds i image e at l x few n k m
 
   pub line_round : AtSome (OverAt old schedule taken counted turn holds i) → AtSome (RoundAt mid mark schedule (taken + 1) counted holds i)

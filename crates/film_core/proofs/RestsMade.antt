@@ -76,7 +76,8 @@ over_rests m counted holds i A s image at = over_rest A s m marks.Over counted h
 
 -- A line whose last unit was made.
 
-line_rest : (A : Inputs) (s : State) (old new : Standing) (mark : Mark) (counted : ℕ) (holds : Option (List NamedFile)) (i j : Option SwapImage) (image : SwapImage)
+line_rest : (A : Inputs) (s : State) (old new : Standing) (mark : Mark) (counted : ℕ) (holds : Option (List NamedFile)) (i j : Option SwapImage)
+    (image : SwapImage)
     → RestAt old mark counted holds i A s image
     → last_turned mark ≡ 0 → LineLeads A s old.kernel image new.kernel j → RestDone old new mark counted j A s image
 line_rest A s old new mark counted holds i j image at none l = record {
@@ -91,7 +92,8 @@ line_rest A s old new mark counted holds i j image at none l = record {
 
 -- Dispatches.
 
-dispatched : (A : Inputs) (s : State) (m : Standing) (pid more since counted until : ℕ) (holds : Option (List NamedFile)) (i : Option SwapImage) (image : SwapImage)
+dispatched : (A : Inputs) (s : State) (m : Standing) (pid more since counted until : ℕ) (holds : Option (List NamedFile)) (i : Option SwapImage)
+    (image : SwapImage)
     → until ≡ min (since + more) m.params.limit
     → RestAt m (marks.Dispatch pid more since) counted holds i A s image → UnderMark m holds i pid false counted until A s image
 dispatched A s m pid more since counted until holds i image u at = record {
@@ -277,7 +279,8 @@ hands_fit A s m left counted holds i image at = at.order
 
 -- Processes that come in and go out.
 
-pub bring_rests : (old new : Standing) (pid counted : ℕ) (holds : Option (List NamedFile)) (i j : Option SwapImage) → IsIn old.kernel new.kernel pid i → AsksU old.kernel pid i j
+pub bring_rests : (old new : Standing) (pid counted : ℕ) (holds : Option (List NamedFile)) (i j : Option SwapImage) → IsIn old.kernel new.kernel pid i
+    → AsksU old.kernel pid i j
     → LeadsFrom (RestAt old (marks.BringIn pid) counted holds i) (RestDone old new (marks.BringIn pid) counted j)
 bring_rests old new pid counted holds i j is asks A s image at =
     line_rest A s old new (marks.BringIn pid) counted holds i j image at refl

@@ -39,7 +39,8 @@ pub record Sources : Type 0 where
 abbrev pub ReadsTold : Sources → Option SwapImage → Kernel → List (List ℕ) → Type 0
 ReadsTold from None k read = Unit {0}
 ReadsTold from (Some image) k read =
-    (images : List NamedImage) (flat : FlatState) → AreImages from.images from.files images → AreRead (beside_kernel k images image.bytes flat) k.place.transfers read
+    (images : List NamedImage) (flat : FlatState) → AreImages from.images from.files images
+    → AreRead (beside_kernel k images image.bytes flat) k.place.transfers read
 
 -- the oldest transfer is complete; of a read, with the bytes that were read, which are those of the files and the swap image
 pub record IsDone (from : Sources) (before : Option SwapImage) (old new : Kernel) : Type 0 where

@@ -197,7 +197,8 @@ unasked_image t ns k (flights.Read demanded parts) n rest size holds before afte
     unasked ns (image_of k.place) k.holdings size parts.items (source_shown parts.items) before after
     (subst (OldestReadsFrom FromFile) (oldest_first t ns k (flights.Read demanded parts) rest size b) from) b.sourced e.1
 
-done_read : (t : Tables) (ns : List ImageNamed) (k : Kernel) (o n : Flight) (rest : List Flight) (size : ℕ) (holds : Option (List NamedFile)) (image : SwapImage)
+done_read : (t : Tables) (ns : List ImageNamed) (k : Kernel) (o n : Flight) (rest : List Flight) (size : ℕ) (holds : Option (List NamedFile))
+    (image : SwapImage)
     (after : Option SwapImage) (images : List NamedImage) (flat : FlatState)
     → Before t ns k o rest size → Ends o holds (Some image) after (answers.Done n)
     → AreFiles ns holds → AreImages ns holds images → IsWholeFlight n

@@ -53,7 +53,8 @@ stands_flat k l images None flat f h = absurd h
 stands_flat k l images (Some image) flat f h = f images image.bytes flat h
 
 -- a step that calls no device
-pub keeps_flat : (old new : Standing) (holds : Option (List NamedFile)) (i : Option SwapImage) → KeepsFlat old.kernel new.kernel → KeepsThrough old new holds i i
+pub keeps_flat : (old new : Standing) (holds : Option (List NamedFile)) (i : Option SwapImage) → KeepsFlat old.kernel new.kernel
+    → KeepsThrough old new holds i i
 keeps_flat old new holds i f = λ images flat l t h. stands_flat old.kernel new.kernel images i flat f h
 
 -- one part after another

@@ -84,7 +84,8 @@ pub record NoPieces (old new : Standing) (pid : ℕ) (regs : Regs) (pages : ℕ)
   pub replied : Replied (without_pieces old pid) new pid Break regs (Fails no_memory) called
 
 -- fewer pages: transfers end until the space is settled, before the reply
-pub record CutData (old new : Standing) (pid : ℕ) (regs : Regs) (pages : ℕ) (holds : Option (List NamedFile)) (before after : Option SwapImage) (called : Called)
+pub record CutData (old new : Standing) (pid : ℕ) (regs : Regs) (pages : ℕ) (holds : Option (List NamedFile)) (before after : Option SwapImage)
+    (called : Called)
     : Type 0 where
   pub fewer : pages < process_data_pages old.kernel pid
   pub between : Standing

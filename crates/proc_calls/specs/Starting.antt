@@ -138,7 +138,8 @@ ExecComes old new pid regs (Err refused) holds before behind called = Comes old 
 -- Where the run stops.
 
 -- as it was, or where the pieces find their places: as the process leaves its space, or after that
-abbrev pub StopsFinding : (Standing → Result Holdings ℕ) → Standing → Standing → ℕ → Option (List NamedFile) → Option SwapImage → Option SwapImage → Stop → Type 0
+abbrev pub StopsFinding : (Standing → Result Holdings ℕ) → Standing → Standing → ℕ → Option (List NamedFile) → Option SwapImage → Option SwapImage → Stop
+    → Type 0
 StopsFinding pieces old new pid holds before after stop =
     (StopsBefore old new stop × (after ≡ before)) ⊎ ((is_ok (pieces old) ≡ true) × StopsAlive old new pid holds before after stop)
 

@@ -99,7 +99,8 @@ room_regs old new pid regs o h = room_kernel (λ m. regs ≡ regs_of m.kernel pi
 pub room_goes_on : (old mid new : Standing) (n : ℕ) → RoomOnly old mid → old.kernel.place.due ≡ [] → Continues mid new n → Continues old new n
 room_goes_on old mid new n o clear c = continues_from old mid new n (room_continues old mid o.made clear o.only) c
 
-pub room_runs : (A : Inputs) (s : State) (old new : Standing) (holds : Option (List NamedFile)) (i : Option SwapImage) (image : SwapImage) (pid : ℕ) (now : Bool)
+pub room_runs : (A : Inputs) (s : State) (old new : Standing) (holds : Option (List NamedFile)) (i : Option SwapImage) (image : SwapImage) (pid : ℕ)
+    (now : Bool)
     (p : Process) (x : Space)
     → RoomOnly old new
     → RunsAt A s old holds i image pid now p x → RunsAt A s new holds i image pid now p x

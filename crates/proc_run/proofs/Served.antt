@@ -55,7 +55,8 @@ brought_on (Ok answer) old new pid address write holds i j c h = access_now_cont
 
 -- In a run.
 
-module _ (A : Inputs) (s : State) (old mid : Standing) (holds : Option (List NamedFile)) (i j : Option SwapImage) (image : SwapImage) (pid : ℕ) (now : Bool) (p : Process) (x : Space)
+module _ (A : Inputs) (s : State) (old mid : Standing) (holds : Option (List NamedFile)) (i j : Option SwapImage) (image : SwapImage) (pid : ℕ) (now : Bool)
+    (p : Process) (x : Space)
     (address : ℕ) (write : Bool) (before : List Page) (r : RunsAt A s old holds i image pid now p x) (w : WaitsForPage A s old p x address write before) where
   kept : locked A s ≡ before
   kept = elim w [
@@ -97,7 +98,8 @@ served_stops false A s old new holds i j image pid p x address write before stop
 
 -- The process ends after the entry that says that its stack finds no place.
 
-module _ (A : Inputs) (s : State) (old mid : Standing) (holds : Option (List NamedFile)) (told : Option SwapImage) (image : SwapImage) (pid : ℕ) (now : Bool) (p : Process) (x : Space)
+module _ (A : Inputs) (s : State) (old mid : Standing) (holds : Option (List NamedFile)) (told : Option SwapImage) (image : SwapImage) (pid : ℕ) (now : Bool)
+    (p : Process) (x : Space)
     (on : RunsOn A s old holds image pid now p x) (params : mid.params ≡ old.params) (images : mid.images ≡ old.images) (e : EndsUngrown A s old mid holds image pid now p x)
     (t : told ≡ Some image) where
   at_refusal : MachineAt A e.state mid holds image
@@ -207,7 +209,8 @@ advances_ended now A s old mid new holds i told j image pid p x address write be
     go (served.Signal number) e m = absurd m
     go _ e m = absurd e
 
-pub stops_ended : (now : Bool) (A : Inputs) (s : State) (old mid new : Standing) (holds : Option (List NamedFile)) (i told j : Option SwapImage) (image : SwapImage)
+pub stops_ended : (now : Bool) (A : Inputs) (s : State) (old mid new : Standing) (holds : Option (List NamedFile)) (i told j : Option SwapImage)
+    (image : SwapImage)
     (pid : ℕ) (p : Process) (x : Space)
     (address : ℕ) (write : Bool) (before : List Page) (answer : Served) (status : ℕ) (stop : Stop) → EndsBy answer status → Continues old mid 0
     → RunsAt A s old holds i image pid now p x

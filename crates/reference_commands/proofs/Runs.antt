@@ -127,7 +127,8 @@ module _ (entries : ℕ) (numbers : Numbers) (images : List FlatFile) (opened : 
     frames = let least = r.allowed.least_frames in omega arith;
   }
 
-  asked_in : (image : SwapImage) → 512 * numbers.swap ≤ length image.bytes → IsAskedOf (over (images_in files opened)) (machine_up_to entries numbers (map shown_as opened)) first lines (Some files) image
+  asked_in : (image : SwapImage) → 512 * numbers.swap ≤ length image.bytes → IsAskedOf (over (images_in files opened))
+      (machine_up_to entries numbers (map shown_as opened)) first lines (Some files) image
   asked_in image room = record {
     named = named_images files opened;
     first = refl;

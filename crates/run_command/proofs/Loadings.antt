@@ -96,7 +96,8 @@ counts_lost_caused : (seen : Seen) (journal : List Entry) (r : RunEnding) → Is
 counts_lost_caused seen journal (Ok done) began lost c = c
 counts_lost_caused seen journal (Err fault) began lost c = lost_caused seen journal (Err fault) (as_run (Err fault) began) lost c
 
-counts_starve : (seen : Seen) (A : Inputs) (journal : List Entry) (image : SwapImage) (r : RunEnding) → IsRunEnding r → CountsBeLost r → RunCaused seen journal r
+counts_starve : (seen : Seen) (A : Inputs) (journal : List Entry) (image : SwapImage) (r : RunEnding) → IsRunEnding r → CountsBeLost r
+    → RunCaused seen journal r
     → RunEnded seen A journal image r → RunEnded seen A journal image (Err faults.NoMemory)
 counts_starve seen A journal image (Ok done) began lost c e = (c, inr (record { state = e.state; made = e.made; left = e.left }))
 counts_starve seen A journal image (Err fault) began lost c e = lost_ended seen A journal image (Err fault) (as_run (Err fault) began) lost c e

@@ -127,7 +127,8 @@ stop_keeps (CopyOf q parent) old new holds i j stop f = page_same q parent old n
 start_first : (s : State) (page : Page) (ds : List Due) → s.place.due ≡ Start page ∷ ds → FillsFirst s.place s.place.due (entries.Zero page) []
 start_first s page ds e = subst (λ (xs : List Due). FillsFirst s.place xs (entries.Zero page) []) (sym e) (refl, refl)
 
-due_leads : (d : Due) (ds : List Due) (A : Inputs) (s : State) (old next : Standing) (holds : Option (List NamedFile)) (image : SwapImage) (j : Option SwapImage)
+due_leads : (d : Due) (ds : List Due) (A : Inputs) (s : State) (old next : Standing) (holds : Option (List NamedFile)) (image : SwapImage)
+    (j : Option SwapImage)
     → MachineAt A s old holds image
     → s.place.due ≡ d ∷ ds → FillsDue d old next holds (Some image) j → LeadsTo A s old.kernel image ds next.kernel j
 due_leads (Start q) ds A s old next holds image j at e f =
@@ -178,7 +179,8 @@ there A s old now holds image h ds at on led = record {
 }
 
 module _ (old now : Standing) (holds later : Option (List NamedFile)) (i h : Option SwapImage) (so : FilledSoFar old now holds later i h) where
-  pub filled_one : (next : Standing) (latest : Option (List NamedFile)) (k : Option SwapImage) (d : Due) → IsDueFirst now.kernel.place d → latest ≡ later → FillsDue d now next later h k
+  pub filled_one : (next : Standing) (latest : Option (List NamedFile)) (k : Option SwapImage) (d : Due) → IsDueFirst now.kernel.place d → latest ≡ later
+      → FillsDue d now next later h k
       → FilledSoFar old next holds latest i k
   filled_one next latest k d first same f =
       let one : RunsDue now next 0 first.others = due_filled d first.others now next later h k first.first f in
@@ -213,7 +215,8 @@ module _ (old now : Standing) (holds later : Option (List NamedFile)) (i h : Opt
   pub filled_goes_on : now.kernel.place.due ≡ [] → Continues old now 0
   filled_goes_on none = continues old now 0 so.on none so.low
 
-  pub filled_stops : (new : Standing) (k : Option SwapImage) (d : Due) (stop : Stop) → IsDueFirst now.kernel.place d → StopsDue d now new later h k stop → StopsFrom (ToldAt old holds i) old new k stop
+  pub filled_stops : (new : Standing) (k : Option SwapImage) (d : Due) (stop : Stop) → IsDueFirst now.kernel.place d → StopsDue d now new later h k stop
+      → StopsFrom (ToldAt old holds i) old new k stop
   filled_stops new k d stop first f A s image at =
       let led : LeadsTo A s old.kernel image now.kernel.place.due now.kernel h = so.leads A s image at.machine at.told in
       let behind : SwapImage = led.leads.behind in

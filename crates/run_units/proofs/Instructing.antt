@@ -359,7 +359,8 @@ call_after images F p x effect call c w =
     ap (Rattle.flat_model.specs.Touched.accesses_behind images F p x effect) c.is_number ∙ ap (Rattle.flat_model.specs.Touched.call_accesses images F p x effect) c.names
     ∙ ap (λ (ws : List ByteWrite). accesses (answers_of (puts x ws)) (reply_asked images F p x call effect)) w
 
-pub call_wanted : (A : Inputs) (s : State) (k : Kernel) (image : SwapImage) (pid : ℕ) (now : Bool) (p : Process) (x : Space) (effect : Effect) (call : SystemCall)
+pub call_wanted : (A : Inputs) (s : State) (k : Kernel) (image : SwapImage) (pid : ℕ) (now : Bool) (p : Process) (x : Space) (effect : Effect)
+    (call : SystemCall)
     (address : ℕ) (write : Bool)
     → At A s k image → IsRunning A s pid now p x → run (kernel_answers k x.sid) (instruction p.regs) ≡ Ok effect → IsCallOf effect call
     → run (kernel_answers k x.sid) (reply_asked A.images s.point.flat p x call effect) ≡ Err (Miss address write) → WantsPage A s k x address write
@@ -378,7 +379,8 @@ call_wanted A s k image pid now p x effect call address write at r i c m =
     ∙ ap (λ (list : List ByteAccess). accesses memory (instruction p.regs) ++ list) after ∙ sym (append_one (accesses memory (instruction p.regs)) e.front (e.last ∷ e.rest)))
     (hit_both memory (accesses memory (instruction p.regs)) e.front (all_hit memory (instruction p.regs) n) e.hits) e.misses
 
-pub call_ready : (A : Inputs) (s : State) (k : Kernel) (image : SwapImage) (pid : ℕ) (now : Bool) (p : Process) (x : Space) (effect : Effect) (call : SystemCall)
+pub call_ready : (A : Inputs) (s : State) (k : Kernel) (image : SwapImage) (pid : ℕ) (now : Bool) (p : Process) (x : Space) (effect : Effect)
+    (call : SystemCall)
     → At A s k image → IsRunning A s pid now p x → run (kernel_answers k x.sid) (instruction p.regs) ≡ Ok effect → IsCallOf effect call
     → IsAnswered (run (kernel_answers k x.sid) (reply_asked A.images s.point.flat p x call effect))
     → IsCalledFor A s p x call effect (run (kernel_answers k x.sid) (reply_asked A.images s.point.flat p x call effect))

@@ -95,7 +95,8 @@ taken A s k image pid now p x step found at r e w f =
     ∙ ap (takes_step A k) (wanted_is A s k image pid now p x step.change at r)
     ∙ ap (λ (o : Result Holdings ℕ). with_holdings k (or_before k.holdings o)) f
 
-made_is : (A : Inputs) (s : State) (k : Kernel) (image : SwapImage) (pid : ℕ) (u : Entry) → Completes pid u → unit_step A s k image.bytes [] u ≡ process_step A s k pid u
+made_is : (A : Inputs) (s : State) (k : Kernel) (image : SwapImage) (pid : ℕ) (u : Entry) → Completes pid u
+    → unit_step A s k image.bytes [] u ≡ process_step A s k pid u
 made_is A s k image pid (entries.Grew q pages) c = ap (λ (n : ℕ). process_step A s k n (entries.Grew q pages)) c
 made_is A s k image pid (entries.Call q number carry r0 r1) c = ap (λ (n : ℕ). process_step A s k n (entries.Call q number carry r0 r1)) c
 made_is A s k image pid (entries.Sleeps q) c = ap (λ (n : ℕ). process_step A s k n (entries.Sleeps q)) c

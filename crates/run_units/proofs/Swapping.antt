@@ -80,7 +80,8 @@ turn_comes A s pid d o c l t =
 
 -- One unit.
 
-pub out_made : (A : Inputs) (s : State) (k l : Kernel) (image : SwapImage) (j : Option SwapImage) (pid : ℕ) → ((p : Proc) → proc_of k pid ≡ Some p → AreRegs p.regs)
+pub out_made : (A : Inputs) (s : State) (k l : Kernel) (image : SwapImage) (j : Option SwapImage) (pid : ℕ)
+    → ((p : Proc) → proc_of k pid ≡ Some p → AreRegs p.regs)
     → l ≡ out_step k pid → WritesU k pid (Some image) j → MadeAs A s k image (entries.SwapOut pid) l j
 out_made A s k l image j pid r m w = record { read = []; given = r; made = m; told = w }
 

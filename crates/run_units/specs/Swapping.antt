@@ -26,7 +26,8 @@ pub record PutsProcess (s : State) (pid sid : ℕ) : Type 0 where
   pub own : space_of_process (process_of s.point.flat pid) ≡ sid
 
 -- units are next units of the run, and the process is put out yet
-pub record LeadsPutting (A : Inputs) (s : State) (k : Kernel) (image : SwapImage) (pid sid : ℕ) (us : List Entry) (l : Kernel) (j : Option SwapImage) : Type 0 where
+pub record LeadsPutting (A : Inputs) (s : State) (k : Kernel) (image : SwapImage) (pid sid : ℕ) (us : List Entry) (l : Kernel)
+    (j : Option SwapImage) : Type 0 where
   pub state : State
   pub leads : Leads A s k image us state l j
   pub same : SameBut s state

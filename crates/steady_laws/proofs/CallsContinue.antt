@@ -242,7 +242,8 @@ none_on : (old new : Standing) (pid : ℕ) (regs : Regs) (pages : ℕ) (called :
 none_on old new pid regs pages called c s =
     behind_refusal old new pid (called_count called) (may_enter old pid c) (λ may. fails_on (without_pieces old pid) new pid system_calls.Break regs no_memory called may s.replied)
 
-cut_on : (old new : Standing) (pid : ℕ) (regs : Regs) (pages : ℕ) (holds : Option (List NamedFile)) (i j : Option SwapImage) (called : Called) → IsCaller old pid
+cut_on : (old new : Standing) (pid : ℕ) (regs : Regs) (pages : ℕ) (holds : Option (List NamedFile)) (i j : Option SwapImage) (called : Called)
+    → IsCaller old pid
     → CutData old new pid regs pages holds i j called → Continues old new (called_count called)
 cut_on old new pid regs pages holds i j called c s =
     let l = left_settled old s.between pid holds i j c s.settled in

@@ -139,7 +139,8 @@ exec_by : (fits : Bool) (old new : Standing) (pid : ℕ) (regs after : Regs) (im
 exec_by true old new pid regs after image top holds i j c h = start_continues old h.between new pid after image top holds holds i h.told j c h.started h.fills
 exec_by false old new pid regs after image top holds i j c h = refusal_continues old new pid system_calls.Execve regs c h.0
 
-exec_comes : (old new : Standing) (pid : ℕ) (regs : Regs) (r : Result Reply Refused) (holds : Option (List NamedFile)) (i j : Option SwapImage) (called : Called)
+exec_comes : (old new : Standing) (pid : ℕ) (regs : Regs) (r : Result Reply Refused) (holds : Option (List NamedFile)) (i j : Option SwapImage)
+    (called : Called)
     → IsCaller old pid
     → StartsOrFails r → ExecComes old new pid regs r holds i j called → Continues old new (called_count called)
 exec_comes old new pid regs (Ok (Does after (Exec image top))) holds i j called c s h =

@@ -97,7 +97,8 @@ EndContinues =
 -- an exit
 abbrev pub ExitContinues : Type 0
 ExitContinues =
-    (old new : Standing) (pid : ℕ) (regs : Regs) (r : Result Reply Refused) (holds : Option (List NamedFile)) (before after : Option SwapImage) (called : Called)
+    (old new : Standing) (pid : ℕ) (regs : Regs) (r : Result Reply Refused) (holds : Option (List NamedFile)) (before after : Option SwapImage)
+    (called : Called)
     → IsCaller old pid → ExitComes old new pid regs r holds before after called → Continues old new (called_count called)
 
 -- A break.

@@ -138,7 +138,8 @@ access_leads Touched A s old new holds image j pid now p x address write before 
     go served.NoFrame g = served_leads A s old new holds image j pid now p x before served.NoFrame all_locked (grown served.NoFrame g)
     go (served.Signal number) g = served_leads A s old new holds image j pid now p x before (served.Signal number) all_locked (grown (served.Signal number) g)
 
-pub serve_made : (A : Inputs) (s : State) (old new : Standing) (holds : Option (List NamedFile)) (image : SwapImage) (j : Option SwapImage) (pid : ℕ) (p : Process)
+pub serve_made : (A : Inputs) (s : State) (old new : Standing) (holds : Option (List NamedFile)) (image : SwapImage) (j : Option SwapImage) (pid : ℕ)
+    (p : Process)
     (x : Space) (address : ℕ)
     (write : Bool) (before : List Page) (answer : Served) → RunsOn A s old holds image pid false p x → WaitsForPage A s old p x address write before
     → AccessComes (λ came q from. TouchedAs came q from new holds (Some image) j) (access_by old.kernel pid address write) answer pid old new (Some image) j
@@ -159,7 +160,8 @@ serve_now_made A s old new holds image j pid p x address write before answer r w
 
 -- Stops.
 
-pub access_stops : (A : Inputs) (s : State) (old new : Standing) (holds : Option (List NamedFile)) (image : SwapImage) (j : Option SwapImage) (pid : ℕ) (now : Bool)
+pub access_stops : (A : Inputs) (s : State) (old new : Standing) (holds : Option (List NamedFile)) (image : SwapImage) (j : Option SwapImage) (pid : ℕ)
+    (now : Bool)
     (p : Process) (x : Space)
     (address : ℕ) (write : Bool) (before kept : List Page) (stop : Stop) → (now ≡ true → kept ≡ before) → RunsOn A s old holds image pid now p x
     → WaitsForPage A s old p x address write before

@@ -114,7 +114,8 @@ hands_made A s old new holds image j n made at c m h =
       unturned = ap last_turned led.asks.mark;
     }
 
-pub hands_stop : (A : Inputs) (s : State) (old new : Standing) (holds : Option (List NamedFile)) (image : SwapImage) (j : Option SwapImage) (n : ℕ) (stop : Stop)
+pub hands_stop : (A : Inputs) (s : State) (old new : Standing) (holds : Option (List NamedFile)) (image : SwapImage) (j : Option SwapImage) (n : ℕ)
+    (stop : Stop)
     → MachineAt A s old holds image
     → IsClear s
     → s.mark ≡ marks.Hands n → StopsMoving n old stop new holds (Some image) j → StopLeads A s old.kernel image stop new j

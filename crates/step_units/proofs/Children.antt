@@ -56,7 +56,8 @@ reply_told k F regs change t =
     ∙ ap (λ (n : ℕ). child_by (is_below_limit k) regs n (change n)) (sym t.next_pid)
 
 -- the process waits for no page, and its call comes to that
-pub child_called : (A : Inputs) (s : State) (old : Standing) (holds : Option (List NamedFile)) (image : SwapImage) (pid : ℕ) (now : Bool) (p : Process) (x : Space)
+pub child_called : (A : Inputs) (s : State) (old : Standing) (holds : Option (List NamedFile)) (image : SwapImage) (pid : ℕ) (now : Bool) (p : Process)
+    (x : Space)
     (effect : Effect) (call : SystemCall)
     (change : ℕ → Change)
     → AsksChild call change → RunsOn A s old holds image pid now p x → MakesCall old p x effect call

@@ -128,7 +128,8 @@ serving_stops A s m new holds image j child parent ds stop at images d h =
     stops_then A s t m.kernel h.at image behind j h.units stop new (led_told A s t m.kernel h.at image h.image h.units led.leads)
     (stop_at A t h.at behind u stop new j next (subst (λ (o : Option SwapImage). StopsAt u h.at o stop new j) led.leads.told h.there.stops))
 
-behind_stops : (A : Inputs) (s : State) (old new : Standing) (holds : Option (List NamedFile)) (image : SwapImage) (told j : Option SwapImage) (child parent : Page)
+behind_stops : (A : Inputs) (s : State) (old new : Standing) (holds : Option (List NamedFile)) (image : SwapImage) (told j : Option SwapImage)
+    (child parent : Page)
     (ds : List Due) (stop : Stop)
     → At A s old.kernel image → AreImages old.images holds A.images → s.place.due ≡ CopyOf child parent ∷ ds
     → StopsOnce (λ m. ServesNow (parent ∷ []) parent old m holds (Some image) told)
@@ -143,7 +144,8 @@ behind_stops A s old new holds image told j child parent ds stop at images d h =
     (filling_stops A t served new holds behind j (entries.Copy child) (parent ∷ []) stop b.at b.images b.first
     (subst (λ (o : Option SwapImage). StopsFilling (entries.Copy child) (parent ∷ []) served new holds o j stop) b.led.leads.told h.stops))
 
-pub page_stops : (A : Inputs) (s : State) (old new : Standing) (holds : Option (List NamedFile)) (image : SwapImage) (j : Option SwapImage) (child parent : Page)
+pub page_stops : (A : Inputs) (s : State) (old new : Standing) (holds : Option (List NamedFile)) (image : SwapImage) (j : Option SwapImage)
+    (child parent : Page)
     (ds : List Due) (stop : Stop)
     → At A s old.kernel image → AreImages old.images holds A.images → s.place.due ≡ CopyOf child parent ∷ ds
     → StopsPage child parent old new holds (Some image) j stop

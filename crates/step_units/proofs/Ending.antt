@@ -63,7 +63,8 @@ returned_place : (b : Bool) (k : Kernel) (pid : ℕ) → (returned b k pid).plac
 returned_place true k pid = refl
 returned_place false k pid = refl
 
-module _ (A : Inputs) (s : State) (old : Standing) (holds : Option (List NamedFile)) (image : SwapImage) (pid : ℕ) (now : Bool) (p : Process) (x : Space) (status : ℕ)
+module _ (A : Inputs) (s : State) (old : Standing) (holds : Option (List NamedFile)) (image : SwapImage) (pid : ℕ) (now : Bool) (p : Process) (x : Space)
+    (status : ℕ)
     (m : MachineAt A s old holds image) (r : IsRunning A s pid now p x) (ends : EndsWith A s pid p status) where
   abbrev step : Step
   step = ended_step A.images s.point.flat p [] status
@@ -131,7 +132,8 @@ exit_asked : (images : List NamedImage) (F : FlatState) (p : Process) (x : Space
 unfolding reply_of
 exit_asked images F p x effect = refl
 
-module _ (A : Inputs) (s : State) (old new : Standing) (holds : Option (List NamedFile)) (image : SwapImage) (behind : Option SwapImage) (pid : ℕ) (now : Bool) (p : Process) (x : Space) (effect : Effect)
+module _ (A : Inputs) (s : State) (old new : Standing) (holds : Option (List NamedFile)) (image : SwapImage) (behind : Option SwapImage) (pid : ℕ)
+    (now : Bool) (p : Process) (x : Space) (effect : Effect)
     (on : RunsOn A s old holds image pid now p x) (makes : MakesCall old p x effect system_calls.Exit) where
   abbrev memory : Answers
   memory = kernel_answers old.kernel x.sid

@@ -95,7 +95,8 @@ some_free [] h = absurd (omega (arith, h))
 some_free (f ∷ rest) h = (f, rest, refl)
 
 -- where a frame is free, the fill is next, and leads to where the others are due
-pub fill_leads : (A : Inputs) (s : State) (k : Kernel) (image : SwapImage) (d : Due) (ds : List Due) (locked : List Page) → At A s k image → s.place.due ≡ d ∷ ds
+pub fill_leads : (A : Inputs) (s : State) (k : Kernel) (image : SwapImage) (d : Due) (ds : List Due) (locked : List Page) → At A s k image
+    → s.place.due ≡ d ∷ ds
     → FillsFirst s.place s.place.due (fill_entry d) locked → 0 < length k.place.free → LeadsTo A s k image ds (fill_step k d) (Some image)
 fill_leads A s k image d ds locked at e first free =
     let u : Entry = fill_entry d in

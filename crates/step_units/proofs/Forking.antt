@@ -158,7 +158,8 @@ fork_made A s old new holds image behind pid now p x effect runs makes h =
 -- Stops.
 
 -- as a page is copied
-pub fork_stops_behind : (A : Inputs) (s : State) (old new : Standing) (holds : Option (List NamedFile)) (image : SwapImage) (behind : Option SwapImage) (pid : ℕ)
+pub fork_stops_behind : (A : Inputs) (s : State) (old new : Standing) (holds : Option (List NamedFile)) (image : SwapImage) (behind : Option SwapImage)
+    (pid : ℕ)
     (now : Bool) (p : Process) (x : Space)
     (effect : Effect) (stop : Stop)
     → RunsOn A s old holds image pid now p x → MakesCall old p x effect system_calls.Fork

@@ -350,7 +350,8 @@ apart_next A t k image stop old new j pid n u next (inr e) c f i = record {
   spoils = i;
 }
 
-pub growth_stops : (A : Inputs) (s : State) (old new : Standing) (holds : Option (List NamedFile)) (image : SwapImage) (j : Option SwapImage) (pid : ℕ) (now : Bool)
+pub growth_stops : (A : Inputs) (s : State) (old new : Standing) (holds : Option (List NamedFile)) (image : SwapImage) (j : Option SwapImage) (pid : ℕ)
+    (now : Bool)
     (p : Process) (x : Space) (address : ℕ)
     (stop : Stop) → RunsOn A s old holds image pid now p x → Falls A s old pid p x address → StopsBefore old new stop → j ≡ Some image
     → StopLeads A s old.kernel image stop new j

@@ -109,7 +109,8 @@ acts_first A s pid e es c r t d =
 
 -- As the space is left.
 
-module _ (A : Inputs) (s : State) (old : Standing) (holds : Option (List NamedFile)) (image : SwapImage) (pid : ℕ) (now : Bool) (p : Process) (x : Space) (m : MachineAt A s old holds image)
+module _ (A : Inputs) (s : State) (old : Standing) (holds : Option (List NamedFile)) (image : SwapImage) (pid : ℕ) (now : Bool) (p : Process) (x : Space)
+    (m : MachineAt A s old holds image)
     (g : GivesUp A s pid now p x) where
   lends : is_borrower s.point.flat.processes pid ≡ has_lender old.kernel.processes pid
   lends = borrows A s old.kernel image pid m.at
@@ -203,7 +204,8 @@ returned_stopped : (b : Bool) (k : Kernel) (pid : ℕ) → (returned b k pid).st
 returned_stopped true k pid = refl
 returned_stopped false k pid = refl
 
-module _ (A : Inputs) (s : State) (old between : Standing) (image : SwapImage) (pid : ℕ) (now : Bool) (p : Process) (x : Space) (j : Option SwapImage) (l : Left A s old between image pid now p x j) where
+module _ (A : Inputs) (s : State) (old between : Standing) (image : SwapImage) (pid : ℕ) (now : Bool) (p : Process) (x : Space) (j : Option SwapImage)
+    (l : Left A s old between image pid now p x j) where
   -- the step is as it was
   pub step_stays : step_at A l.state.point pid ≡ step_at A s.point pid
   step_stays = ap (λ (y : Point). step_at A y pid) l.same.point

@@ -44,7 +44,8 @@ use Rattle.step_units.proofs.Refusing.{IsRefusal, call_refusal, refused_fails, r
 use Rattle.step_units.proofs.Children.{AsksChild, child_told}
 
 -- A call that asks for a child, made by a process of a machine that stands at a state of a run.
-pub record Asking (A : Inputs) (s : State) (old : Standing) (holds : Option (List NamedFile)) (image : SwapImage) (pid : ℕ) (now : Bool) (p : Process) (x : Space)
+pub record Asking (A : Inputs) (s : State) (old : Standing) (holds : Option (List NamedFile)) (image : SwapImage) (pid : ℕ) (now : Bool) (p : Process)
+    (x : Space)
     (effect : Effect) (call : SystemCall) (change : ℕ → Change) : Type 0 where
   pub asks : AsksChild call change
   pub runs : RunsOn A s old holds image pid now p x
@@ -70,7 +71,8 @@ told_by A s old p x effect call change below b c =
     subst (λ (z : Bool). IsCalledFor A s p x call effect (Ok (child_by z effect.regs old.kernel.next_pid (own_change old change)))) b c
 
 -- the step of the process, where there are fewer
-pub making_step : (A : Inputs) (s : State) (old : Standing) (holds : Option (List NamedFile)) (image : SwapImage) (pid : ℕ) (now : Bool) (p : Process) (x : Space)
+pub making_step : (A : Inputs) (s : State) (old : Standing) (holds : Option (List NamedFile)) (image : SwapImage) (pid : ℕ) (now : Bool) (p : Process)
+    (x : Space)
     (effect : Effect) (call : SystemCall)
     (change : ℕ → Change)
     → Asking A s old holds image pid now p x effect call change → is_below_limit old.kernel ≡ true
@@ -132,7 +134,8 @@ pub record Found (A : Inputs) (s : State) (old : Standing) (pid : ℕ) (p : Proc
   pub next : act A s pid ≡ Some (call_entry pid call (told_regs old effect))
   pub pieces : place_all A.swap_blocks old.kernel.holdings (asked (facts_of A.images) old.kernel pid change) ≡ Ok found
 
-pub found_child : (A : Inputs) (s : State) (old : Standing) (holds : Option (List NamedFile)) (image : SwapImage) (pid : ℕ) (now : Bool) (p : Process) (x : Space)
+pub found_child : (A : Inputs) (s : State) (old : Standing) (holds : Option (List NamedFile)) (image : SwapImage) (pid : ℕ) (now : Bool) (p : Process)
+    (x : Space)
     (effect : Effect) (call : SystemCall)
     (change : ℕ → Change)
     (found : Holdings) → Asking A s old holds image pid now p x effect call change → is_below_limit old.kernel ≡ true
@@ -174,7 +177,8 @@ some_found (Ok found) h = (found, refl)
 some_found (Err n) h = absurd cc
 
 -- the run stopped as it was
-stops_first : (A : Inputs) (s : State) (old new : Standing) (holds : Option (List NamedFile)) (image : SwapImage) (pid : ℕ) (now : Bool) (p : Process) (x : Space)
+stops_first : (A : Inputs) (s : State) (old new : Standing) (holds : Option (List NamedFile)) (image : SwapImage) (pid : ℕ) (now : Bool) (p : Process)
+    (x : Space)
     (effect : Effect) (call : SystemCall)
     (change : ℕ → Change)
     (stop : Stop) → Asking A s old holds image pid now p x effect call change → StopsBefore old new stop → StopLeads A s old.kernel image stop new (Some image)

@@ -78,7 +78,8 @@ refusal A s old holds image pid now p x step h w is f =
     }
 
 -- the pieces of a call
-pub call_refusal : (A : Inputs) (s : State) (old : Standing) (holds : Option (List NamedFile)) (image : SwapImage) (pid : ℕ) (now : Bool) (p : Process) (x : Space)
+pub call_refusal : (A : Inputs) (s : State) (old : Standing) (holds : Option (List NamedFile)) (image : SwapImage) (pid : ℕ) (now : Bool) (p : Process)
+    (x : Space)
     (effect : Effect) (call : SystemCall)
     (r : Result Reply Refused) (regs : Regs) (change : Change)
     → RunsOn A s old holds image pid now p x → IsCallOf effect call → IsCalledFor A s p x call effect r → or_fault r ≡ Does regs change
@@ -88,7 +89,8 @@ call_refusal A s old holds image pid now p x effect call r regs change h m c e f
     refusal A s old holds image pid now p x step h c.unwanted (called_step A s pid now p x effect call r h.running h.between m c ∙ ap (replied_step A.images s.point.flat p call effect) e) f
 
 -- after it the step is the failure of the call
-pub failing_step : (A : Inputs) (s : State) (old : Standing) (holds : Option (List NamedFile)) (image : SwapImage) (pid : ℕ) (now : Bool) (p : Process) (x : Space)
+pub failing_step : (A : Inputs) (s : State) (old : Standing) (holds : Option (List NamedFile)) (image : SwapImage) (pid : ℕ) (now : Bool) (p : Process)
+    (x : Space)
     (effect : Effect) (call : SystemCall)
     (r : Result Reply Refused) (regs : Regs) (change : Change)
     → IsCallOf effect call → IsCalledFor A s p x call effect r → or_fault r ≡ Does regs change → wants_space change ≡ true
@@ -101,7 +103,8 @@ failing_step A s old holds image pid now p x effect call r regs change m c e wan
     ∙ ap (λ (y : Reply). replied_step A.images s.point.flat p call effect (refused_reply true y)) e
     ∙ ap (λ (b : Bool). replied_step A.images s.point.flat p call effect (unless_refused b (Does regs change))) wants
 
-module _ (A : Inputs) (s : State) (old : Standing) (holds : Option (List NamedFile)) (image : SwapImage) (pid : ℕ) (now : Bool) (p : Process) (x : Space) (effect : Effect) (call : SystemCall)
+module _ (A : Inputs) (s : State) (old : Standing) (holds : Option (List NamedFile)) (image : SwapImage) (pid : ℕ) (now : Bool) (p : Process) (x : Space)
+    (effect : Effect) (call : SystemCall)
     (r : Result Reply Refused) (regs : Regs) (change : Change) (m : IsCallOf effect call) (c : IsCalledFor A s p x call effect r) (e : or_fault r ≡ Does regs change)
     (wants : wants_space change ≡ true)
     (h : IsRefusal A s old holds image pid now p x) where

@@ -62,7 +62,8 @@ pub record WaitsFor (A : Inputs) (s : State) (m : Standing) (holds : Option (Lis
   pub touched : touched_next A s ≡ before ++ q ∷ rest
   pub valid : AllValid s.place before
 
-waiting : (A : Inputs) (s : State) (m : Standing) (holds : Option (List NamedFile)) (image : SwapImage) (pid : ℕ) (now : Bool) (before kept : List Page) (q : Page)
+waiting : (A : Inputs) (s : State) (m : Standing) (holds : Option (List NamedFile)) (image : SwapImage) (pid : ℕ) (now : Bool) (before kept : List Page)
+    (q : Page)
     → WaitsFor A s m holds image pid now before q → (now ≡ true → kept ≡ before) → IsWaiting A (ground m holds kept) s pid now before q
 waiting A s m holds image pid now before kept q w f = record {
   images = w.machine.images;
@@ -155,7 +156,8 @@ leads_more A g s k l image j pid now before q us at b v h =
       more = let e = ap (λ (qs : List Page). length qs) kept in omega (arith, longer, e);
     }
 
-pub served_to : (A : Inputs) (s : State) (old new : Standing) (holds : Option (List NamedFile)) (image : SwapImage) (j : Option SwapImage) (pid : ℕ) (now : Bool)
+pub served_to : (A : Inputs) (s : State) (old new : Standing) (holds : Option (List NamedFile)) (image : SwapImage) (j : Option SwapImage) (pid : ℕ)
+    (now : Bool)
     (before kept : List Page) (q : Page)
     → WaitsFor A s old holds image pid now before q → (now ≡ true → kept ≡ before) → (t : ServesTo now kept q old new holds (Some image) j)
     → ServingLeads A (ground old holds kept) s old.kernel image pid now before q t.units new.kernel j
@@ -218,7 +220,8 @@ stops_by A t k behind stops.FileFault entry new j n s = record { entry = entry; 
 stops_by A t k behind stops.SwapReadFault entry new j n s = record { entry = entry; next = n; full = s.full.0; cause = s.cause; spoils = s.image }
 stops_by A t k behind stops.SwapWriteFault entry new j n s = record { entry = entry; next = n; full = s.full.0; cause = s.cause; spoils = s.image }
 
-pub page_stops : (A : Inputs) (s : State) (old new : Standing) (holds : Option (List NamedFile)) (image : SwapImage) (j : Option SwapImage) (pid : ℕ) (now : Bool)
+pub page_stops : (A : Inputs) (s : State) (old new : Standing) (holds : Option (List NamedFile)) (image : SwapImage) (j : Option SwapImage) (pid : ℕ)
+    (now : Bool)
     (before kept : List Page) (q : Page)
     (stop : Stop) → WaitsFor A s old holds image pid now before q → (now ≡ true → kept ≡ before) → StopsAtPage now kept q old new holds (Some image) j stop
     → StopLeads A s old.kernel image stop new j

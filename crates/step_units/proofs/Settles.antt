@@ -140,7 +140,8 @@ module _ (A : Inputs) (s : State) (old : Standing) (holds : Option (List NamedFi
       longer : (journal : List Entry) → length journal < length (journal ++ entries.Done ∷ [])
       longer journal = let e = length-append journal (entries.Done ∷ []) in omega (arith, e)
 
-      by_end : (A : Inputs) (t : State) (between new : Standing) (told : SwapImage) (j : Option SwapImage) (stop : Stop) → next_unit A t ≡ Some entries.Done → StopsEnding between new (Some told) j stop
+      by_end : (A : Inputs) (t : State) (between new : Standing) (told : SwapImage) (j : Option SwapImage) (stop : Stop) → next_unit A t ≡ Some entries.Done
+          → StopsEnding between new (Some told) j stop
           → StopsNext A t between.kernel told stop new j
       by_end A t between new told j stop n e = record {
         entry = entries.Done;
@@ -150,7 +151,8 @@ module _ (A : Inputs) (s : State) (old : Standing) (holds : Option (List NamedFi
         spoils = e.image;
       }
 
-      ending : (A : Inputs) (t : State) (between new : Standing) (told : SwapImage) (i j : Option SwapImage) (stop : Stop) → i ≡ Some told → next_unit A t ≡ Some entries.Done
+      ending : (A : Inputs) (t : State) (between new : Standing) (told : SwapImage) (i j : Option SwapImage) (stop : Stop) → i ≡ Some told
+          → next_unit A t ≡ Some entries.Done
           → StopsEnding between new i j stop
           → StopsBy A t between.kernel told stop new j
       ending A t between new told i j stops.NoMemory k n e = e.image ∙ k

@@ -73,7 +73,8 @@ LineBegins =
 -- where the machine stops before a line's entry, next units lead to the stop
 abbrev pub LineStops : Type 0
 LineStops =
-    (A : Inputs) (s : State) (old new : Standing) (holds : Option (List NamedFile)) (image : SwapImage) (e : Event) (stop : Stop) → MachineAt A s old holds image
+    (A : Inputs) (s : State) (old new : Standing) (holds : Option (List NamedFile)) (image : SwapImage) (e : Event) (stop : Stop)
+    → MachineAt A s old holds image
     → IsOver A s → s.count < A.limit
     → slice_get A.lines s.lines ≡ Some e → StopsBefore old new stop → StopLeads A s old.kernel image stop new (Some image)
 

@@ -60,7 +60,8 @@ pub record ServedMore (A : Inputs) (s : State) (k : Kernel) (image : SwapImage) 
   pub more : length (locked A s) < length (locked A led.state)
 
 -- What serving comes to in a dispatch, by its answer: the process goes on, or nothing more is to come of the mark.
-abbrev pub ServeLeads : Inputs → State → Standing → Standing → Option (List NamedFile) → SwapImage → Option SwapImage → ℕ → Bool → Process → Space → Served → Type 0
+abbrev pub ServeLeads : Inputs → State → Standing → Standing → Option (List NamedFile) → SwapImage → Option SwapImage → ℕ → Bool → Process → Space → Served
+    → Type 0
 ServeLeads A s old new holds image j pid now p x served.Valid = ServedMore A s old.kernel image new.kernel j
 ServeLeads A s old new holds image j pid now p x (served.Asleep q) = MarkEnds A s old.kernel image new.kernel j
 ServeLeads A s old new holds image j pid now p x served.NoFrame = MarkEnds A s old.kernel image new.kernel j
@@ -70,7 +71,8 @@ ServeLeads A s old new holds image j pid now p x (served.Signal number) = ⊥
 -- a page is served as far as that needs no waiting
 abbrev pub ServeIsMade : Type 0
 ServeIsMade =
-    (A : Inputs) (s : State) (old new : Standing) (holds : Option (List NamedFile)) (image : SwapImage) (j : Option SwapImage) (pid : ℕ) (p : Process) (x : Space)
+    (A : Inputs) (s : State) (old new : Standing) (holds : Option (List NamedFile)) (image : SwapImage) (j : Option SwapImage) (pid : ℕ) (p : Process)
+    (x : Space)
     (address : ℕ) (write : Bool)
     (before : List Page) (answer : Served)
     → RunsOn A s old holds image pid false p x → WaitsForPage A s old p x address write before
@@ -80,7 +82,8 @@ ServeIsMade =
 -- where the machine stops in that, next units lead to the stop
 abbrev pub ServeStops : Type 0
 ServeStops =
-    (A : Inputs) (s : State) (old new : Standing) (holds : Option (List NamedFile)) (image : SwapImage) (j : Option SwapImage) (pid : ℕ) (p : Process) (x : Space)
+    (A : Inputs) (s : State) (old new : Standing) (holds : Option (List NamedFile)) (image : SwapImage) (j : Option SwapImage) (pid : ℕ) (p : Process)
+    (x : Space)
     (address : ℕ) (write : Bool)
     (before : List Page) (stop : Stop)
     → RunsOn A s old holds image pid false p x → WaitsForPage A s old p x address write before
@@ -89,7 +92,8 @@ ServeStops =
 -- in a turn it is served until it is valid, by hands that pass over the pages before it
 abbrev pub ServeNowIsMade : Type 0
 ServeNowIsMade =
-    (A : Inputs) (s : State) (old new : Standing) (holds : Option (List NamedFile)) (image : SwapImage) (j : Option SwapImage) (pid : ℕ) (p : Process) (x : Space)
+    (A : Inputs) (s : State) (old new : Standing) (holds : Option (List NamedFile)) (image : SwapImage) (j : Option SwapImage) (pid : ℕ) (p : Process)
+    (x : Space)
     (address : ℕ) (write : Bool)
     (before : List Page) (answer : Served)
     → RunsOn A s old holds image pid true p x → WaitsForPage A s old p x address write before
@@ -100,7 +104,8 @@ ServeNowIsMade =
 -- where the machine stops in that, next units lead to the stop
 abbrev pub ServeNowStops : Type 0
 ServeNowStops =
-    (A : Inputs) (s : State) (old new : Standing) (holds : Option (List NamedFile)) (image : SwapImage) (j : Option SwapImage) (pid : ℕ) (p : Process) (x : Space)
+    (A : Inputs) (s : State) (old new : Standing) (holds : Option (List NamedFile)) (image : SwapImage) (j : Option SwapImage) (pid : ℕ) (p : Process)
+    (x : Space)
     (address : ℕ) (write : Bool)
     (before : List Page) (stop : Stop)
     → RunsOn A s old holds image pid true p x → WaitsForPage A s old p x address write before

@@ -60,7 +60,8 @@ told_leads : (A : Inputs) (s : State) (old mid : Underway) (holds : Option (List
     → Leads A s old.machine.kernel image c.units c.state mid.machine.kernel (Some c.behind)
 told_leads A s old mid holds h image taken c = subst (λ (o : Option SwapImage). Leads A s old.machine.kernel image c.units c.state mid.machine.kernel o) c.at.stands.told c.leads
 
-module _ (A : Inputs) (s : State) (old mid : Underway) (lines : List Event) (holds : Option (List NamedFile)) (i h : Option SwapImage) (image : SwapImage) (taken : ℕ) (e : Event)
+module _ (A : Inputs) (s : State) (old mid : Underway) (lines : List Event) (holds : Option (List NamedFile)) (i h : Option SwapImage) (image : SwapImage)
+    (taken : ℕ) (e : Event)
     (b : IsBeforeLines old lines holds i A s image)
     (c : LinesTaken old mid holds h taken A s image) where
   due : slice_get lines taken ≡ Some e → mid.counted < mid.machine.params.limit → LineDue A c.state (taken + 1) e
@@ -91,7 +92,8 @@ line_taken old mid new taken e lines holds i h j f at below t A s image b =
     let c = f A s image b in
     on A s old mid lines holds i h image taken e b c new j (t A c.state c.behind (c.at, due A s old mid lines holds i h image taken e b c at below))
 
-pub line_stops : (old mid new : Underway) (taken : ℕ) (e : Event) (lines : List Event) (holds : Option (List NamedFile)) (i h j : Option SwapImage) (stop : Stop)
+pub line_stops : (old mid new : Underway) (taken : ℕ) (e : Event) (lines : List Event) (holds : Option (List NamedFile)) (i h j : Option SwapImage)
+    (stop : Stop)
     → HasTaken old mid taken lines holds i h
     → slice_get lines taken ≡ Some e → mid.counted < mid.machine.params.limit
     → StopsAccountedFrom (LineDueAt mid (taken + 1) e holds h) mid.machine new.machine j stop

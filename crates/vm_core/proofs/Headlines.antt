@@ -64,7 +64,8 @@ module _ (A : Inputs) (journal : List Entry) (s : State) (m : IsJournalOf A jour
         within = omega (arith, counted, below);
       }
 
-pub headline_over : (A : Inputs) (journal : List Entry) (image : SwapImage) (after : Option SwapImage) → RunFinished A journal image after → HeadlineOver A journal
+pub headline_over : (A : Inputs) (journal : List Entry) (image : SwapImage) (after : Option SwapImage) → RunFinished A journal image after
+    → HeadlineOver A journal
 unfolding carries_headline
 headline_over A journal image after r =
     let m : IsJournalOf A journal r.state = r.made in

@@ -43,7 +43,8 @@ use Rattle.vm_core.specs.Halting.{HaltsFor, SpoilsParts, SpoilsOldest, AsksParts
 use Rattle.vm_core.specs.Lawful.{IsJournalOf, RunFinished, RunHalted, RunStarved}
 use Rattle.vm_core.specs.Full.{StandsThere, StarvedThere, StoppedThere, LessThere, ReturnedThere, LeftThere, RunLeft, RunFull, RunOver}
 
-module _ (A : Inputs) (hs : Holdings) (can : CanRun A hs) (few : length A.first ≤ 64) (image : SwapImage) (room : 512 * A.swap_blocks ≤ length image.bytes) where
+module _ (A : Inputs) (hs : Holdings) (can : CanRun A hs) (few : length A.first ≤ 64) (image : SwapImage)
+    (room : 512 * A.swap_blocks ≤ length image.bytes) where
   at_start : StandsAt A (start A hs) (machine_at_start A hs) image.bytes
   at_start = start_keeps A hs (replicate A.frames zeros) image.bytes can (length-replicate {A = List ℕ} A.frames zeros) room
 
@@ -82,7 +83,8 @@ makes_run A (u ∷ us) s t k l image behind m =
 
 -- Where it ends.
 
-pub finished_run : (A : Inputs) (hs : Holdings) (can : CanRun A hs) (few : length A.first ≤ 64) (image : SwapImage) (room : 512 * A.swap_blocks ≤ length image.bytes)
+pub finished_run : (A : Inputs) (hs : Holdings) (can : CanRun A hs) (few : length A.first ≤ 64) (image : SwapImage)
+    (room : 512 * A.swap_blocks ≤ length image.bytes)
     (new : Underway) (j : Option SwapImage) (us : List Entry) (t : State)
     → Leads A (start A hs) (machine_at_start A hs) image us t new.machine.kernel j → next_unit A t ≡ None → RunFinished A new.machine.kernel.journal image j
 finished_run A hs can few image room new j us t a none =
@@ -96,7 +98,8 @@ finished_run A hs can few image room new j us t a none =
     }
 
 -- where it is over the machine stands there
-pub over_run : (A : Inputs) (hs : Holdings) (can : CanRun A hs) (few : length A.first ≤ 64) (image : SwapImage) (room : 512 * A.swap_blocks ≤ length image.bytes)
+pub over_run : (A : Inputs) (hs : Holdings) (can : CanRun A hs) (few : length A.first ≤ 64) (image : SwapImage)
+    (room : 512 * A.swap_blocks ≤ length image.bytes)
     (new : Underway) (j : Option SwapImage) (us : List Entry) (t : State)
     → Leads A (start A hs) (machine_at_start A hs) image us t new.machine.kernel j → next_unit A t ≡ None → StandsUnderway new → RunOver A new.machine image
 over_run A hs can few image room new j us t a none on = record {
@@ -240,13 +243,15 @@ image_left stops.SwapReadFault u A s k image j at c x = asks_reading A s k image
 
 -- Where it halts.
 
-module _ (A : Inputs) (hs : Holdings) (can : CanRun A hs) (few : length A.first ≤ 64) (image : SwapImage) (room : 512 * A.swap_blocks ≤ length image.bytes) (new : Standing) (j : Option SwapImage) (stop : Stop)
+module _ (A : Inputs) (hs : Holdings) (can : CanRun A hs) (few : length A.first ≤ 64) (image : SwapImage) (room : 512 * A.swap_blocks ≤ length image.bytes)
+    (new : Standing) (j : Option SwapImage) (stop : Stop)
     (x : StopLeads A (start A hs) (machine_at_start A hs) image stop new j) where
   made_so : IsJournalOf A new.kernel.journal x.state
   made_so = subst (λ (es : List Entry). IsJournalOf A es x.state) (sym x.journal) (made A hs can few image room x.units x.state x.kernel (Some x.behind) x.leads)
 
   stands_so : StandsAt A x.state x.kernel x.behind.bytes
-  stands_so = subst (λ (i : SwapImage). StandsAt A x.state x.kernel i.bytes) (sym (same_Some x.behind x.leads.behind x.leads.told)) (stands A hs can few image room x.units x.state x.kernel (Some x.behind) x.leads)
+  stands_so = subst (λ (i : SwapImage). StandsAt A x.state x.kernel i.bytes) (sym (same_Some x.behind x.leads.behind x.leads.told))
+      (stands A hs can few image room x.units x.state x.kernel (Some x.behind) x.leads)
 
   behind_is : x.behind ≡ swap_left A new.kernel.journal image
   behind_is =
@@ -339,7 +344,8 @@ module _ (A : Inputs) (hs : Holdings) (can : CanRun A hs) (few : length A.first 
       starved running (inl h) = inl (starves running h)
       starved running (inr h) = inr (gave running h)
 
-      by : (c : Stop) → LeftBy c x.kernel new → (c ≡ stops.NoMemory → new.kernel.stopped ≡ false) → LeftThere A c x.state new (swap_left A new.kernel.journal image)
+      by : (c : Stop) → LeftBy c x.kernel new → (c ≡ stops.NoMemory → new.kernel.stopped ≡ false)
+          → LeftThere A c x.state new (swap_left A new.kernel.journal image)
       by stops.JournalFull h runs = stays h
       by stops.NoMemory h runs = starved (runs refl) (h (runs refl ∙ sym run))
       by stops.FileFault h runs = less h

@@ -119,7 +119,8 @@ turn_starts A s old mid holds i image counted pid st due stays k =
       state = b.state;
       leads = b.leads;
       at = record {
-        stands = subst (λ (o : Option SwapImage). StandsIn A b.state mid holds o image counted) (sym st.told) (subst (λ (y : SwapImage). StandsIn A b.state mid holds (Some image) y counted) same stands);
+        stands = subst (λ (o : Option SwapImage). StandsIn A b.state mid holds o image counted) (sym st.told)
+            (subst (λ (y : SwapImage). StandsIn A b.state mid holds (Some image) y counted) same stands);
         clear = b.clear;
         mark = b.mark ∙ ap (λ (n : ℕ). marks.Turn pid n) st.count;
         on = subst (λ (n : ℕ). goes_on A b.state pid (n + turn_instructions) ≡ true) st.count b.on;
