@@ -5,3 +5,4 @@ pub mod Acting
 pub mod Followed
 pub mod NextUnits
 pub mod Wanting
+pub mod Noting

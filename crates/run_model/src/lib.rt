@@ -20,13 +20,14 @@
 //! - `wanted_splits`: the locked pages are the touched ones before the wanted one, all valid.
 //! - `idle_does_nothing`: a process that can't step touches, asks, does and wants nothing.
 //! - `follows_once`, `next_is_one_of`: next units lead one way, and each is of one kind.
+//! - `requests_are_noted`: a device that notes each request has noted those of the journal by which it is left.
 #![tactic(auto)]
 
 mod laws;
 pub mod mark;
 pub mod state_laws;
 
-pub use laws::{follows_once, next_is_one_of};
+pub use laws::{follows_once, next_is_one_of, requests_are_noted};
 pub use mark::Mark;
 pub use state_laws::{
     idle_does_nothing, next_is_flat, snapshots_go_on, state_counts, state_goes_on, state_is_flat,
