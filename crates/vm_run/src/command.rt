@@ -152,7 +152,9 @@ fn obey<F: Files, D: SwapDev, E: SwapDev, S: Sink>(
                 trace,
                 images,
             },
-        ) => grade_file(alloc, files, sink, numbers, schedule, trace, images),
+        ) => grade_file(
+            alloc, files, sink, numbers, schedule, trace, images,
+        ),
         Some(
             Command::Policies {
                 comparison,
