@@ -92,11 +92,10 @@ on_by_one journal new entries agrees one next says = go agrees says
 
     go : (b : Bool) → (b ≡ true) ↔ (slice_get new (length new - 1) ≡ slice_get entries (length new - 1)) → SoFar b new entries
     go true s =
-        let same : one.entry ≡ next.next = same_Some one.entry next.next (sym made ∙ s.0 refl ∙ there) in
-        (
+        let same : one.entry ≡ next.next = same_Some one.entry next.next (sym made ∙ s.0 refl ∙ there) in (
           next.more,
           next.is ∙ ap (λ (e : Entry). journal ++ e ∷ next.more) (sym same) ∙ sym (append_assoc journal (one.entry ∷ []) next.more)
-          ∙ ap (λ (xs : List Entry). xs ++ next.more) (sym one.is),
+              ∙ ap (λ (xs : List Entry). xs ++ next.more) (sym one.is),
         )
     go false s = record {
       good = journal;

@@ -79,7 +79,11 @@ fn goes_on(film: &Film, entries: &[Entry]) -> bool
 fn goes_along(film: &Film, entries: &[Entry], agrees: bool) -> bool
     ensures { result ≡ agrees && (not film.now.over && nat_lt (length film.now.machine.kernel.journal) (length entries.now)) }
 {
-    if agrees { goes_on(film, entries) } else { false }
+    if agrees {
+        goes_on(film, entries)
+    } else {
+        false
+    }
 }
 
 // The grade of a trace that begins with the entries of a film, which has as many as the trace, or is over.

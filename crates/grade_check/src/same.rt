@@ -29,17 +29,30 @@ fn is_one_entry(entry: &Entry, other: &Entry) -> bool
             _ => false,
         },
         Entry::Out { pid, bytes } => match other {
-            Entry::Out { pid: p, bytes: others } => *pid == *p && bytes.as_slice() == others.as_slice(),
+            Entry::Out {
+                pid: p,
+                bytes: others,
+            } => *pid == *p && bytes.as_slice() == others.as_slice(),
             _ => false,
         },
         Entry::Grew { pid, pages } => match other {
             Entry::Grew { pid: p, pages: n } => *pid == *p && *pages == *n,
             _ => false,
         },
-        Entry::Call { pid, number, carry, r0, r1 } => match other {
-            Entry::Call { pid: p, number: n, carry: c, r0: s0, r1: s1 } => {
-                *pid == *p && *number == *n && *carry == *c && *r0 == *s0 && *r1 == *s1
-            }
+        Entry::Call {
+            pid,
+            number,
+            carry,
+            r0,
+            r1,
+        } => match other {
+            Entry::Call {
+                pid: p,
+                number: n,
+                carry: c,
+                r0: s0,
+                r1: s1,
+            } => { *pid == *p && *number == *n && *carry == *c && *r0 == *s0 && *r1 == *s1 }
             _ => false,
         },
         Entry::Refused { pid } => match other {
@@ -59,7 +72,11 @@ fn is_one_entry(entry: &Entry, other: &Entry) -> bool
             _ => false,
         },
         Entry::Get { page, lo, n } => match other {
-            Entry::Get { page: q, lo: l, n: m } => is_same_page(*page, *q) && *lo == *l && *n == *m,
+            Entry::Get {
+                page: q,
+                lo: l,
+                n: m,
+            } => is_same_page(*page, *q) && *lo == *l && *n == *m,
             _ => false,
         },
         Entry::Copy { page } => match other {
@@ -87,10 +104,18 @@ fn is_one_entry(entry: &Entry, other: &Entry) -> bool
             Entry::SwapIn { pid: p } => *pid == *p,
             _ => false,
         },
-        Entry::Owners { free, used, moving, held } => match other {
-            Entry::Owners { free: f, used: u, moving: m, held: h } => {
-                *free == *f && *used == *u && *moving == *m && *held == *h
-            }
+        Entry::Owners {
+            free,
+            used,
+            moving,
+            held,
+        } => match other {
+            Entry::Owners {
+                free: f,
+                used: u,
+                moving: m,
+                held: h,
+            } => { *free == *f && *used == *u && *moving == *m && *held == *h }
             _ => false,
         },
     }

@@ -49,8 +49,7 @@ module _ (subject : Subject) (read : TraceRead) (graded : Graded) (has : HasGrad
       go Front e t = subst (λ (x : Option (List ℕ)). IsSoOfTrace (TellsPolicy x) subject read) (sym t) (compared (TellsPolicy None) (inr (is.front.0 e)))
       go (Differs line) e t =
           subst (λ (x : Option (List ℕ)). IsSoOfTrace (TellsPolicy x) subject read) (sym t)
-          (compared (TellsPolicy (Some graded.why.items))
-          (
+          (compared (TellsPolicy (Some graded.why.items)) (
             line,
             (is.differs line).0 e,
             tells.why ∙ ap (λ (g : Grade). parted_text g tells.made) e ∙ ap (policy_line line) (is.there line e),

@@ -152,9 +152,7 @@ fn obey<F: Files, D: SwapDev, E: SwapDev, S: Sink>(
                 trace,
                 images,
             },
-        ) => grade_file(
-            alloc, files, sink, numbers, schedule, trace, images,
-        ),
+        ) => grade_file(alloc, files, sink, numbers, schedule, trace, images),
         Some(
             Command::Policies {
                 comparison,

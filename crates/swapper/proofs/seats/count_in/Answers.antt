@@ -26,7 +26,7 @@ loop-framed-preserved c =
     let high : w < c.args.pages = c.in-Some.ensures.found.1 in
     let few : c.loop-framed.count ≤ c.loop-framed.v = c.loop-framed.invariant.few in
     let passed : (p : Placement) → ShowsSpace p c.args.core.now c.args.space.now → ((v : ℕ) → IsNamedBy c.args.space.now (beside c.args.segment v))
-        → c.loop-framed.count + seated_count p (pages_from c.args.segment w (c.args.pages - w)) ≡ seated_count p (pages_from c.args.segment 0 c.args.pages) =
+    → c.loop-framed.count + seated_count p (pages_from c.args.segment w (c.args.pages - w)) ≡ seated_count p (pages_from c.args.segment 0 c.args.pages) =
     λ p h n. ap (λ (k : ℕ). c.loop-framed.count + k)
     (sym (count_passed p c.args.core.now c.args.space.now c.args.segment h n c.loop-framed.v w c.args.pages low (omega arith) c.in-Some.ensures.none_before))
     ∙ c.loop-framed.invariant.so_far p h n in
