@@ -89,7 +89,7 @@ module _ (A : Inputs) (s : State) (old : Standing) (holds : Option (List NamedFi
       let between : Standing = h.between in
       let l : Left A s old between image pid now p x j = has_left A s old holds image pid now p x m gives between j h.left in
       let u : Entry = entries.Ended pid status in
-      let bytes : List ℕ = l.behind in
+      let bytes : SwapImage = l.behind in
       let e : Entered between new pid (regs_of old.kernel pid) u (End status) = h.ended in
       let at : At A l.state l.kernel bytes = left_at A s old between image pid now p x j l m.at in
       let made : new.kernel ≡ change_step (facts_of A.images) (with_holdings between.kernel between.kernel.holdings) pid p.regs u (End status) =

@@ -121,7 +121,7 @@ module _ (A : Inputs) (s : State) (old : Standing) (holds : Option (List NamedFi
     -- the stack page is filled after it
     filled : (between new : Standing) (told j : Option SwapImage) → Imaged between told → FillsStart page between new holds told j → StepLeads A s old.kernel image 1 new.kernel j
     filled between new told j i h =
-        let bytes : List ℕ = i.leads.behind in
+        let bytes : SwapImage = i.leads.behind in
         let at : At A i.state between.kernel bytes = led_at A s i.state old.kernel between.kernel image told i.units on.machine.at i.leads in
         let f : LeadsTo A i.state between.kernel bytes [] new.kernel j =
         start_fills A i.state between holds bytes page at i.images i.due new j (subst (λ (o : Option SwapImage). FillsStart page between new holds o j) i.leads.told h) in
@@ -139,7 +139,7 @@ module _ (A : Inputs) (s : State) (old : Standing) (holds : Option (List NamedFi
 
     filled_stops : (between new : Standing) (told j : Option SwapImage) (stop : Stop) → Imaged between told → StopsStart page between new holds told j stop → StopLeads A s old.kernel image stop new j
     filled_stops between new told j stop i h =
-        let bytes : List ℕ = i.leads.behind in
+        let bytes : SwapImage = i.leads.behind in
         let at : At A i.state between.kernel bytes = led_at A s i.state old.kernel between.kernel image told i.units on.machine.at i.leads in
         stops_then A s i.state old.kernel between.kernel image bytes j i.units stop new
         (led_told A s i.state old.kernel between.kernel image told i.units i.leads)

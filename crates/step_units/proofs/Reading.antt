@@ -1,6 +1,5 @@
 -- Calls only read: where a byte misses, nothing asked whether it may be written.
 use Rattle.std.proofs.Common.{◌≡◌, ℕ, zero, suc, ◌==◌, ◌||◌, min, Bool, true, false, List, Option, Some, None, Err}
-use Rattle.vm_facts.specs.SwapImages.{SwapImage}
 use Rattle.vm_facts.specs.Answers.{Answers}
 use Rattle.vm_facts.specs.declared.memory.ByteRead.{ByteRead}
 use Rattle.vm_facts.specs.declared.memory.ByteRead.TheVariants as bytes
@@ -73,7 +72,7 @@ last_reads : (n : ℕ) → OnlyReads (last_pointer n)
 last_reads zero = tt
 last_reads (suc n) = tt
 
-before_reads : (more : Program (Option (List (List ℕ)))) (o : Option SwapImage) → OnlyReads more → OnlyReads (string_before more o)
+before_reads : (more : Program (Option (List (List ℕ)))) (o : Option (List ℕ)) → OnlyReads more → OnlyReads (string_before more o)
 before_reads more None h = tt
 before_reads more (Some string) h = both_read more _ h (λ strings. tt)
 

@@ -170,7 +170,7 @@ module _ (A : Inputs) (s : State) (old : Standing) (holds : Option (List NamedFi
       let l : Left A s old between image pid now p x j = has_left A s old holds image pid now p x on.machine (exec_gives ok) between j f.left in
       let t : State = l.state in
       let k : Kernel = l.kernel in
-      let bytes : List ℕ = l.behind in
+      let bytes : SwapImage = l.behind in
       let u : Entry = call_entry pid Execve after_regs in
       let last : State = after A t u in
       let facts : List Image = facts_of A.images in
