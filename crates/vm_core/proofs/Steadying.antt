@@ -11,7 +11,7 @@ use Rattle.machine_state.specs.Calls.{IsNote}
 use Rattle.machine_state.specs.Going.{CanGoOn}
 use Rattle.machine_state.specs.Machine.{Standing}
 use Rattle.machine_state.specs.Settled.{IsSameBeside}
-use Rattle.machine_state.specs.Swapping.{IsIn}
+use Rattle.machine_state.specs.Swapping.{IsIn, AsksU}
 use Rattle.journal_laws.specs.LastMoves.{last_moves}
 use Rattle.run_start.specs.Ready.{Continues, RunsMoved}
 use Rattle.run_start.proofs.Journals.{last_plain}
@@ -85,6 +85,6 @@ noted_steady (Ok x) old new e clear frames n k same on =
 
 -- A process that came in.
 
-pub in_steady : (old new : Standing) (pid : ℕ) (i : Option SwapImage) → IsSteady old → IsIn old.kernel new.kernel pid i
-    → IsSameBeside old new → CanGoOn new → StaysSteady old new 0
-in_steady old new pid i s h b ready = continues_steady old new 0 s (turn_continues (turns.In pid) old new None i i s.clear (h, b, refl)) ready
+pub in_steady : (old new : Standing) (pid : ℕ) (i j : Option SwapImage) → IsSteady old → IsIn old.kernel new.kernel pid i
+    → IsSameBeside old new → AsksU old.kernel pid i j → CanGoOn new → StaysSteady old new 0
+in_steady old new pid i j s h b asked ready = continues_steady old new 0 s (turn_continues (turns.In pid) old new None i j s.clear (h, b, asked)) ready
