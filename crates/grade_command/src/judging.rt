@@ -122,7 +122,7 @@ fn grade_begun<'a, F: Files, D: SwapDev>(
     requires few { length entries.now < 2 ^ 32 }
     requires area { film.old.machine.params.swap_blocks ≤ D.blocks swap.old }
     requires files { AreFiles film.old.machine.images (F.holds files.old) }
-    ensures { (A : Inputs) (image : List ℕ) → 64 ≤ A.frames → A.lines ≡ lines.now
+    ensures { (A : Inputs) (image : SwapImage) → 64 ≤ A.frames → A.lines ≡ lines.now
         → FilmBegun A film.old (F.holds files.old) (D.image swap.old) image → EndsGrading A entries.now result }
 {
     match grade_film(alloc, film, files, swap, lines, entries) {
