@@ -23,8 +23,8 @@ returns-clause-rests g c =
 pub returns-clause-on : goal.returns-clause-on
 returns-clause-on g c =
     steady_stays c.args.m.now c.swap_in.new.m c.args.counted c.requires.counted
-    (in_steady c.args.m.now c.swap_in.new.m c.args.pid (g.D.SwapDev.image c.args.swap.now) c.requires.steady c.in_ok-swap_in.ensures.step c.in_ok-swap_in.ensures.beside
-    c.in_ok-swap_in.ensures.goes_on)
+    (in_steady c.args.m.now c.swap_in.new.m c.args.pid (g.D.SwapDev.image c.args.swap.now) (g.D.SwapDev.image c.swap_in.new.swap) c.requires.steady
+    c.in_ok-swap_in.ensures.step c.in_ok-swap_in.ensures.beside c.in_ok-swap_in.ensures.asked c.in_ok-swap_in.ensures.goes_on)
 
 pub returns-in_err-swap_in-clause-stops : goal.returns-in_err-swap_in-clause-stops
 returns-in_err-swap_in-clause-stops g c =
