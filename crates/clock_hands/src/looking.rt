@@ -1,6 +1,5 @@
 //! What the next move of the hands does.
 ghost use Rattle.std.specs.Prelude.{◌≡◌, ◌<◌, ◌/◌, length, IfSome, IsSome};
-ghost use Rattle.flat_state.specs.PageNames.{same_page, is_among};
 ghost use Rattle.page_model.specs.Pages.{is_valid};
 ghost use Rattle.page_model.specs.Placement.{state_of, IsThere};
 ghost use Rattle.page_model.specs.Hands.{hand_run};
@@ -11,27 +10,11 @@ ghost use Rattle.kluster_io.specs.Front.{Expires};
 ghost use Rattle.clock_hands.specs.Seen.{IsUnlocked, IsToWrite, IsHome};
 
 use core_map::Whose;
+use flat_state::is_among;
 use kluster_io::pick_out;
 use machine_state::Machine;
 use space_map::SpaceMap;
 use vm_facts::{Page, PageState};
-
-fn is_same(page: Page, other: Page) -> bool
-    ensures { result ≡ same_page page other }
-{
-    page == other
-}
-
-fn is_among(page: Page, pages: &[Page]) -> bool
-    ensures { result ≡ is_among page pages.now }
-{
-    for other in pages {
-        if is_same(page, *other) {
-            return true;
-        }
-    }
-    false
-}
 
 // The space of a page, or the lowest one that shares its text.
 fn space_of(m: &Machine, page: Page) -> Option<&SpaceMap>

@@ -8,7 +8,6 @@ ghost use Rattle.user_vax.specs.Effects.{Effect};
 ghost use Rattle.user_vax.specs.declared.refused.Refused.{Refused as Outcome};
 ghost use Rattle.user_vax.specs.Program.{accesses};
 ghost use Rattle.user_vax.specs.Instruction.{instruction, answer_of, registers_after, writes_of};
-ghost use Rattle.flat_state.specs.PageNames.{same_page, is_among};
 ghost use Rattle.flat_model.specs.Instruction.{instruction_in};
 ghost use Rattle.flat_model.specs.Calls.{reply_of};
 ghost use Rattle.flat_model.specs.Touched.{page_of_access, accesses_after, step_accesses};
@@ -19,6 +18,7 @@ use crate::calling::read_by_call;
 use crate::program::Program;
 use crate::space::FlatSpace;
 use flat_model::SystemCall;
+use flat_state::is_among;
 use std::alloc::Global;
 use user_step::step;
 use user_vax::{Refused, Stepped};
@@ -31,31 +31,13 @@ pub struct Paged {
     pages: Vec<Page>,
 }
 
-fn is_same(page: Page, other: Page) -> bool
-    ensures { result ≡ same_page page other }
-{
-    page == other
-}
-
-// Whether it is one of these pages.
-fn is_among(pages: &[Page], page: Page) -> bool
-    ensures { result ≡ is_among page pages.now }
-{
-    for present in pages {
-        if is_same(page, *present) {
-            return true;
-        }
-    }
-    false
-}
-
 // Whether there is no page, or it is one of these.
 fn is_present(pages: &[Page], page: Option<Page>) -> bool
     ensures { result ≡ is_shown pages.now page }
 {
     match page {
         None => true,
-        Some(page) => is_among(pages, page),
+        Some(page) => is_among(page, pages),
     }
 }
 

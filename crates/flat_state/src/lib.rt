@@ -12,7 +12,9 @@
 #![tactic(auto)]
 
 pub mod change;
+pub mod pages;
 pub mod spot;
 
 pub use change::Change;
+pub use pages::{is_among, is_same};
 pub use spot::{PAGE, STACK_REACH, STACK_TOP, Spot, locate};

@@ -1,15 +1,8 @@
 //! Whether two entries are one.
 ghost use Rattle.std.specs.Prelude.{◌≡◌, ◌↔◌, true};
-ghost use Rattle.flat_state.specs.PageNames.{same_page};
 ghost use Rattle.grade_check.specs.Same.{is_one_entry};
 
-use vm_facts::{Entry, Page};
-
-fn is_same_page(page: Page, other: Page) -> bool
-    ensures { result ≡ same_page page other }
-{
-    page == other
-}
+use vm_facts::Entry;
 
 // Whether the second is the same entry as the first, compared by its numbers and bytes.
 fn is_one_entry(entry: &Entry, other: &Entry) -> bool
@@ -68,7 +61,7 @@ fn is_one_entry(entry: &Entry, other: &Entry) -> bool
             _ => false,
         },
         Entry::Zero { page } => match other {
-            Entry::Zero { page: q } => is_same_page(*page, *q),
+            Entry::Zero { page: q } => flat_state::is_same(*page, *q),
             _ => false,
         },
         Entry::Get { page, lo, n } => match other {
@@ -76,15 +69,15 @@ fn is_one_entry(entry: &Entry, other: &Entry) -> bool
                 page: q,
                 lo: l,
                 n: m,
-            } => is_same_page(*page, *q) && *lo == *l && *n == *m,
+            } => flat_state::is_same(*page, *q) && *lo == *l && *n == *m,
             _ => false,
         },
         Entry::Copy { page } => match other {
-            Entry::Copy { page: q } => is_same_page(*page, *q),
+            Entry::Copy { page: q } => flat_state::is_same(*page, *q),
             _ => false,
         },
         Entry::Reclaim { page } => match other {
-            Entry::Reclaim { page: q } => is_same_page(*page, *q),
+            Entry::Reclaim { page: q } => flat_state::is_same(*page, *q),
             _ => false,
         },
         Entry::Hands { count } => match other {
@@ -92,7 +85,7 @@ fn is_one_entry(entry: &Entry, other: &Entry) -> bool
             _ => false,
         },
         Entry::Put { lo, n } => match other {
-            Entry::Put { lo: q, n: m } => is_same_page(*lo, *q) && *n == *m,
+            Entry::Put { lo: q, n: m } => flat_state::is_same(*lo, *q) && *n == *m,
             _ => false,
         },
         Entry::Done => matches!(other, Entry::Done),

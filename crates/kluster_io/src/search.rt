@@ -2,7 +2,7 @@
 
 ghost use Rattle.std.specs.Prelude.{◌≡◌, ℕ, ◌+◌, ◌-◌, ◌<◌, ◌≤◌, ◌&&◌, ◌||◌, not, Bool, IsTrue, IsSome, Some, List};
 ghost use Rattle.core_map.specs.declared.slot.Slot.{Slot};
-ghost use Rattle.flat_state.specs.PageNames.{number_of, beside, same_page, is_among};
+ghost use Rattle.flat_state.specs.PageNames.{number_of, beside, is_among};
 ghost use Rattle.space_map.specs.Space.{place_in};
 ghost use Rattle.page_model.specs.Placement.{Placement};
 ghost use Rattle.page_model.specs.Pages.{is_on_swap, is_unfilled, is_valid};
@@ -12,6 +12,7 @@ ghost use Rattle.kluster_io.specs.Front.{is_front};
 ghost use Rattle.kluster_io.specs.Joining.{joins, IsShownBy, SaysTaken};
 
 use core_map::{CoreMap, Whose};
+use flat_state::{is_among, is_same};
 use space_map::SpaceMap;
 use swap_dmap::{place_of, text_place_of};
 use vax_pte::Place;
@@ -72,23 +73,6 @@ fn chunk_of(page: Page) -> u32
         Page::Stack { v, .. } => place_of(v, true).0,
         Page::Text { v, .. } => text_place_of(v).0,
     }
-}
-
-fn is_same(page: Page, other: Page) -> bool
-    ensures { result ≡ same_page page other }
-{
-    page == other
-}
-
-fn is_among(page: Page, pages: &[Page]) -> bool
-    ensures { result ≡ is_among page pages.now }
-{
-    for other in pages {
-        if is_same(page, *other) {
-            return true;
-        }
-    }
-    false
 }
 
 /// Whether a page in this place is only on swap.

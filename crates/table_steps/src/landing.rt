@@ -18,24 +18,13 @@ ghost use Rattle.kernel_tables.specs.Done.{AreWholePages, IsWholeFlight};
 ghost use Rattle.kernel_tables.specs.Steps.{source_by, arrives_dirty, dirty_shown, saved_texts};
 ghost use Rattle.kernel_tables.specs.Moves.{LandedIn, LandedOut, LandedAll, closing_in, closing_out, ending};
 
+use flat_state::is_same;
 use frame_state::Free;
 use kernel_tables::{Spaces, Tables};
 use text_table::TextTable;
 use transfer_ring::{Inbound, Outbound, Source, Transfer};
 use vax_pte::Place;
 use vm_facts::Page;
-
-/// Whether the two are one page.
-pub fn is_same(page: Page, other: Page) -> bool
-    ensures { result ≡ same_page page other }
-{
-    match (page, other) {
-        (Page::Data { sid, v }, Page::Data { sid: of, v: at }) => sid == of && v == at,
-        (Page::Stack { sid, v }, Page::Stack { sid: of, v: at }) => sid == of && v == at,
-        (Page::Text { image, v }, Page::Text { image: of, v: at }) => image == of && v == at,
-        _ => false,
-    }
-}
 
 // Whether both are so.
 fn both(one: bool, other: bool) -> bool

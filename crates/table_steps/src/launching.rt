@@ -3,7 +3,7 @@ ghost use Rattle.std.specs.Prelude.{◌≡◌, ℕ, ◌+◌, ◌-◌, ◌<◌, �
 ghost use Rattle.std.specs.Vec.{vec_len, vec_capacity};
 ghost use Rattle.core_map.specs.Slots.{slot_at, slot_page as page_held, is_resident};
 ghost use Rattle.transfer_ring.specs.Sound.{outbound_pages};
-ghost use Rattle.flat_state.specs.PageNames.{pages_from, is_among};
+ghost use Rattle.flat_state.specs.PageNames.{pages_from};
 ghost use Rattle.page_model.specs.Frames.{next_frame};
 ghost use Rattle.page_model.specs.Conditions.{EachPage};
 ghost use Rattle.page_model.specs.Moves.{launch_run};
@@ -19,6 +19,7 @@ ghost use Rattle.kernel_tables.specs.View.{placement_of, frames_of};
 
 use crate::landing;
 use core_map::Whose;
+use flat_state::is_among;
 use kernel_tables::{Tables, beside};
 use std::alloc::Global;
 use transfer_ring::{Begun, Outbound, Transfer};
@@ -31,16 +32,6 @@ pub fn room_in(alloc: Global, n: u32) -> Result<Vec<Outbound>, NoMemory>
     ensures room { IfOk result (λ parts. n ≤ vec_capacity parts) }
 {
     Ok(Vec::with_capacity(alloc, n as usize)?)
-}
-
-// Whether it is one of these pages.
-fn is_among(pages: &[Page], page: Page) -> bool
-    ensures { result ≡ is_among page pages.now }
-{
-    match pages {
-        [] => false,
-        [first, rest @ ..] => landing::is_same(page, *first) || is_among(rest, page),
-    }
 }
 
 // The frame after this one, of so many.
@@ -153,7 +144,7 @@ fn page_under(tables: &Tables, frame: u32, locked: &[Page]) -> Option<(Page, boo
     let Whose::Resident(page) = tables.core.owner(frame) else {
         return None;
     };
-    if is_among(locked, page) {
+    if is_among(page, locked) {
         return None;
     }
     Some((page, tables.spaces.is_valid(page)))

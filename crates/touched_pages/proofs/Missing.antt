@@ -30,7 +30,7 @@ use Rattle.flat_model.specs.Shown.{is_shown, read_where}
 use Rattle.run_model.specs.Wanted.{AllValid}
 use Rattle.run_units.proofs.Touching.{IsHit, AllHit, NotMissed, all_hit, granted_hit, Missing, read_missing, test_missing, SameSpots}
 use Rattle.touched_pages.specs.Shown.{shown_in}
-use Rattle.touched_pages.proofs.Firsts.{AllAmong}
+use Rattle.flat_state.proofs.PageLists.{AllAmong}
 
 -- a page of a list all of which are valid
 pub among_valid : (p : Placement) (ps : List Page) (q : Page) → AllValid p ps → is_among q ps ≡ true → is_valid (state_of p q) ≡ true

@@ -43,7 +43,8 @@ use Rattle.touched_pages.specs.Shown.{shown_in}
 use Rattle.touched_pages.specs.Missed.{first_missed, missed_behind, page_missed, valid_by, valid_only}
 use Rattle.touched_pages.specs.Touching.{RunsWith}
 use Rattle.touched_pages.proofs.Covering.{only_covers}
-use Rattle.touched_pages.proofs.Firsts.{AreFirst, left, none_first, next_first, more_first, all_first}
+use Rattle.flat_state.proofs.PageLists.{left}
+use Rattle.touched_pages.proofs.Firsts.{AreFirst, none_first, next_first, more_first, all_first}
 use Rattle.touched_pages.proofs.Nexts.{NextOf, step_next}
 
 -- It holds its space, and over the frames this answers as the flat one does, or misses.

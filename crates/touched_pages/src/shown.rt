@@ -1,9 +1,9 @@
 //! The memory of a process, of which some pages alone are shown.
 ghost use Rattle.std.specs.Prelude.{◌≡◌};
-ghost use Rattle.flat_state.specs.PageNames.{same_page, is_among};
 ghost use Rattle.flat_model.specs.Shown.{is_shown};
 ghost use Rattle.machine_state.specs.UserMemory.{page_in};
 
+use flat_state::is_among;
 use machine_state::SpaceMemory;
 use vm_facts::{ByteRead, MayWrite, Memory, Page};
 
@@ -12,23 +12,6 @@ use vm_facts::{ByteRead, MayWrite, Memory, Page};
 pub struct Shown<'m, 'p> {
     pub memory: SpaceMemory<'m>,
     pub pages: &'p [Page],
-}
-
-fn is_same(page: Page, other: Page) -> bool
-    ensures { result ≡ same_page page other }
-{
-    page == other
-}
-
-fn is_among(page: Page, pages: &[Page]) -> bool
-    ensures { result ≡ is_among page pages.now }
-{
-    for other in pages {
-        if is_same(page, *other) {
-            return true;
-        }
-    }
-    false
 }
 
 impl Shown<'_, '_> {

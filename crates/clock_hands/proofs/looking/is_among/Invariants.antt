@@ -1,6 +1,0 @@
-use Rattle.std.proofs.Common.{◌≡◌, drop}
-use Rattle.flat_state.specs.PageNames.{is_among}
-use Rattle.clock_hands.proofs.looking.is_among.Given as goal
-
-abbrev pub invariant-loop-other : goal.invariant-loop-other
-invariant-loop-other l = is_among l.page (drop l.other-index l.pages) ≡ is_among l.page l.pages
