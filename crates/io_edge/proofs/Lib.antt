@@ -5,5 +5,7 @@ pub mod Stripes
 pub mod StripeWrites
 pub mod PairCalls
 pub mod BeyondPair
+pub mod RunWrites
+pub mod PairRuns
 pub mod ZeroEnds
 pub mod OctetFiles

@@ -4,6 +4,7 @@ pub mod PlanLaws
 pub mod Calls
 pub mod FileHolding
 pub mod SwapImage
+pub mod SwapRuns
 pub mod Written
 pub mod Striping
 pub mod PairFailures

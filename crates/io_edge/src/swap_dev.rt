@@ -1,7 +1,8 @@
 // A swap device: blocks of 512 bytes, moved two at a time, as a page of memory has 1,024.
-ghost use Rattle.std.specs.Prelude.{◌≡◌, ℕ, ◌+◌, ◌*◌, ◌%◌, ◌≤◌, Option, Some, length};
+ghost use Rattle.std.specs.Prelude.{◌≡◌, ℕ, ◌+◌, ◌*◌, ◌%◌, ◌<◌, ◌≤◌, Option, Some, length};
 ghost use Rattle.io_edge.specs.Count.{Counts, OnDone, OnFailed};
 ghost use Rattle.io_edge.specs.SwapImage.{bytes_told, HoldsPage, ReadsPage, WritesPage, SpoilsPage};
+ghost use Rattle.io_edge.specs.SwapRuns.{ArePages, WritesSome, moved_of};
 ghost use Rattle.vm_facts.specs.SwapImages.{SwapImage};
 
 use crate::Moved;
@@ -11,8 +12,8 @@ use crate::Moved;
 /// that never falls. It is kept as a `u64`, which stands still at its last value.
 pub trait SwapDev {
     /// All bytes of the device, block after block, and what it has noted of the calls that were made of it; where they are told.
-    /// Code over any device knows what is noted by the clauses of the calls alone: each call notes its request, also one that fails,
-    /// and nothing else does.
+    /// Code over any device knows what is noted by the clauses of the calls alone: a call notes a request for each page that it moves,
+    /// also for one at which it fails, and nothing else does.
     ghost image: { Self → Option SwapImage };
 
     /// How many blocks the device has.
@@ -55,6 +56,30 @@ pub trait SwapDev {
         ensures failed { OnFailed result (SpoilsPage (image self.old) block (image self.new)) }
         ensures read_faults { read_faults self.new ≡ read_faults self.old }
         ensures write_faults { Counts result (write_faults self.old) (write_faults self.new) };
+
+    /// Writes pages that lie together, the first in the two blocks from `block` on: as many from the first on as the device
+    /// writes by one call, at least one. The answer is how many. None is the answer where a write failed, which comes only
+    /// where `write_faults` rose: then the pages before one of them are written, that one's two blocks alone are unknown, and
+    /// those behind it weren't tried. Each page that is written, and the one that failed, is a request of its own.
+    fn write_some(&mut self, block: u32, pages: &[[u8; 1024]]) -> Option<u32>
+        requires even { block % 2 ≡ 0 }
+        requires some { 0 < length pages.now }
+        requires inside { block + 2 * length pages.now ≤ blocks self.old }
+        requires whole { ArePages pages.now }
+        ensures leads { leads self.old self.new }
+        ensures blocks { blocks self.new ≡ blocks self.old }
+        ensures written { WritesSome result (image self.old) block pages.now (image self.new) }
+        ensures read_faults { read_faults self.new ≡ read_faults self.old }
+        ensures write_faults { Counts (moved_of result) (write_faults self.old) (write_faults self.new) }
+    {
+        let Some((first, _)) = pages.split_first() else {
+            unreachable!()
+        };
+        match self.write(block, first) {
+            Moved::Done => Some(1),
+            Moved::Failed => None,
+        }
+    }
 
     /// A told image has 512 bytes for each block.
     ghost whole: { (d : Self) (told : SwapImage) → image d ≡ Some told → length told.bytes ≡ 512 * blocks d };

@@ -1,8 +1,9 @@
 // Two swap devices as one.
-ghost use Rattle.std.specs.Prelude.{◌≡◌, ◌+◌, ◌%◌, ◌≤◌, ◌<◌, ◌↔◌, IsTrue, IsNone, IfSome, None, refl};
+ghost use Rattle.std.specs.Prelude.{◌≡◌, ◌+◌, ◌*◌, ◌%◌, ◌≤◌, ◌<◌, ◌↔◌, IsTrue, IsNone, IfSome, None, length, take, refl};
 ghost use Rattle.std.proofs.Common.{sym, ◌∙◌, ap};
 ghost use Rattle.io_edge.specs.Count.{Counts, OnDone, OnFailed, next_count};
 ghost use Rattle.io_edge.specs.SwapImage.{bytes_told, HoldsPage, ReadsPage, WritesPage, SpoilsPage, LeavesPage};
+ghost use Rattle.io_edge.specs.SwapRuns.{moved_of};
 ghost use Rattle.io_edge.specs.Striping.{device_of, place_of, pair_blocks, pair_image, zero_needs, one_needs, IsDevice, IsLargestSwap, KeepsBeyond};
 ghost use Rattle.io_edge.specs.Beyond.{zero_through, one_through};
 ghost use Rattle.io_edge.specs.PairFailures.{AddsFailures};
@@ -26,6 +27,29 @@ fn place_on_device(block: u32) -> u32
     ensures { result ≡ place_of block }
 {
     block / 1024 / 2 * 1024 + block % 1024
+}
+
+// How a call ended by which so many pages were written, or none.
+fn moved_of(wrote: Option<u32>) -> Moved
+    ensures { result ≡ moved_of wrote }
+{
+    match wrote {
+        Some(_) => Moved::Done,
+        None => Moved::Failed,
+    }
+}
+
+// The first of some pages: those that lie in the unit of the first one's block.
+fn in_unit(pages: &[[u8; 1024]], block: u32) -> &[[u8; 1024]]
+    requires even { block % 2 ≡ 0 }
+    requires some { 0 < length pages.now }
+    ensures front { result.now ≡ take (length result.now) pages.now }
+    ensures some { 0 < length result.now }
+    ensures most { length result.now ≤ length pages.now }
+    ensures fits { block % 1024 + 2 * length result.now ≤ 1024 }
+{
+    let room = (1024 - block % 1024) as usize / 2;
+    pages.split_at(pages.len().min(room)).0
 }
 
 // How many blocks two devices of these sizes make together.
@@ -213,6 +237,20 @@ impl<'a, D: SwapDev, E: SwapDev> SwapDev for SwapPair<'a, D, E> {
             let moved = self.one.write(place, bytes);
             self.writes.note(moved, 1);
             moved
+        }
+    }
+
+    fn write_some(&mut self, block: u32, pages: &[[u8; 1024]]) -> Option<u32> {
+        let place = place_on_device(block);
+        let here = in_unit(pages, block);
+        if device_number(block) == 0 {
+            let wrote = self.zero.write_some(place, here);
+            self.writes.note(moved_of(wrote), 0);
+            wrote
+        } else {
+            let wrote = self.one.write_some(place, here);
+            self.writes.note(moved_of(wrote), 1);
+            wrote
         }
     }
 

@@ -1,0 +1,77 @@
+-- Pages that lie together on a device.
+use Rattle.std.proofs.Common.{◌≡◌, inl, inr, ℕ, zero, suc, ◌+◌, ◌*◌, ◌<◌, ◌≤◌, List, [], ◌∷◌, length, take, drop, Option, Some, None, refl, sym, ◌∙◌, subst, arith}
+use Rattle.io_edge.specs.SwapImage.{WritesPage, SpoilsPage}
+use Rattle.io_edge.specs.SwapRuns.{ArePages, WritesRun, SpoilsRun, WritesSome}
+use Rattle.vm_facts.specs.SwapImages.{SwapImage}
+
+-- ---- one page
+
+pub first_written : (old new : Option SwapImage) (block : ℕ) (page : List ℕ) (rest pages : List (List ℕ)) → pages ≡ page ∷ rest
+    → WritesPage old block page new → WritesSome (Some 1) old block pages new
+first_written old new block page rest pages is w =
+    subst (λ (ps : List (List ℕ)). WritesSome (Some 1) old block ps new) (sym is) (omega arith, omega arith, (new, w, refl))
+
+pub first_spoiled : (old new : Option SwapImage) (block : ℕ) (page : List ℕ) (rest pages : List (List ℕ)) → pages ≡ page ∷ rest
+    → SpoilsPage old block new → WritesSome None old block pages new
+first_spoiled old new block page rest pages is s = subst (λ (ps : List (List ℕ)). WritesSome None old block ps new) (sym is) (inl s)
+
+-- ---- a part of a run
+
+pub pages_first : (count : ℕ) (pages : List (List ℕ)) → ArePages pages → ArePages (take count pages)
+pages_first zero pages a = tt
+pages_first (suc count) [] a = tt
+pages_first (suc count) (page ∷ pages) a = (a.0, pages_first count pages a.1)
+
+pub pages_behind : (count : ℕ) (pages : List (List ℕ)) → ArePages pages → ArePages (drop count pages)
+pages_behind zero pages a = a
+pages_behind (suc count) [] a = tt
+pages_behind (suc count) (page ∷ pages) a = pages_behind count pages a.1
+
+-- a failed write of a page of the front is one of the whole
+pub spoils_first : (count : ℕ) (old new : Option SwapImage) (block : ℕ) (pages : List (List ℕ)) → SpoilsRun old block (take count pages) new
+    → SpoilsRun old block pages new
+spoils_first zero old new block pages s = absurd s
+spoils_first (suc count) old new block [] s = s
+spoils_first (suc count) old new block (page ∷ pages) s = elim s [
+  | inl here ↦ inl here
+  | inr behind ↦ inr (behind.0, behind.1, spoils_first count behind.0 new (block + 2) pages behind.2)
+]
+
+next_block : (block count : ℕ) → block + 2 * suc count ≡ block + 2 + 2 * count
+next_block block count = omega arith
+
+no_block : (block : ℕ) → block + 2 * zero ≡ block
+no_block block = omega arith
+
+-- pages were written, and then those behind them
+pub writes_on : (count : ℕ) (old mid new : Option SwapImage) (block : ℕ) (pages : List (List ℕ)) → WritesRun old block (take count pages) mid
+    → WritesRun mid (block + 2 * count) (drop count pages) new → WritesRun old block pages new
+writes_on zero old mid new block pages first then =
+    subst (λ (b : ℕ). WritesRun old b pages new) (no_block block) (subst (λ (image : Option SwapImage). WritesRun image (block + 2 * zero) pages new) first then)
+writes_on (suc count) old mid new block [] first then = then ∙ first
+writes_on (suc count) old mid new block (page ∷ pages) first then = (
+  first.0,
+  first.1,
+  writes_on count first.0 mid new (block + 2) pages first.2 (subst (λ (b : ℕ). WritesRun mid b (drop count pages) new) (next_block block count) then),
+)
+
+pub spoils_on : (count : ℕ) (old mid new : Option SwapImage) (block : ℕ) (pages : List (List ℕ)) → WritesRun old block (take count pages) mid
+    → SpoilsRun mid (block + 2 * count) (drop count pages) new → SpoilsRun old block pages new
+spoils_on zero old mid new block pages first then =
+    subst (λ (b : ℕ). SpoilsRun old b pages new) (no_block block) (subst (λ (image : Option SwapImage). SpoilsRun image (block + 2 * zero) pages new) first then)
+spoils_on (suc count) old mid new block [] first then = absurd then
+spoils_on (suc count) old mid new block (page ∷ pages) first then =
+    inr (first.0, first.1, spoils_on count first.0 mid new (block + 2) pages first.2 (subst (λ (b : ℕ). SpoilsRun mid b (drop count pages) new) (next_block block count) then))
+
+-- ---- a device that doesn't tell its image
+
+untold_run : (block : ℕ) (pages : List (List ℕ)) → WritesRun None block pages None
+untold_run block [] = refl
+untold_run block (page ∷ pages) = (None, refl, untold_run (block + 2) pages)
+
+pub untold_written : (block count : ℕ) (pages : List (List ℕ)) → 0 < count → count ≤ length pages → WritesSome (Some count) None block pages None
+untold_written block count pages some few = (some, few, untold_run block (take count pages))
+
+pub untold_spoiled : (block : ℕ) (pages : List (List ℕ)) → 0 < length pages → ArePages pages → WritesSome None None block pages None
+untold_spoiled block [] some whole = absurd (omega (arith, some))
+untold_spoiled block (page ∷ pages) some whole = inl (page, whole.0, refl)

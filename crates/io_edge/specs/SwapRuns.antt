@@ -1,0 +1,33 @@
+-- Pages of a swap device that lie together, each in the two blocks behind those of the one before. Each is asked for by a request of
+-- its own, in their order.
+use Rattle.std.specs.Prelude.{◌≡◌, ◌⊎◌, ℕ, ◌+◌, ◌<◌, ◌≤◌, List, [], ◌∷◌, length, take, Option, Some, None, ⊤}
+use Rattle.io_edge.specs.declared.Moved.{Moved}
+use Rattle.io_edge.specs.declared.Moved.TheVariants.{Done, Failed}
+use Rattle.io_edge.specs.SwapImage.{WritesPage, SpoilsPage}
+use Rattle.vm_facts.specs.SwapImages.{SwapImage}
+
+-- each of these pages has 1,024 bytes
+abbrev pub ArePages : List (List ℕ) → Type 0
+ArePages [] = ⊤
+ArePages (page ∷ pages) = (length page ≡ 1024) × ArePages pages
+
+-- the image after these pages were written, one after another, the first in the two blocks from this one on
+abbrev pub WritesRun : Option SwapImage → ℕ → List (List ℕ) → Option SwapImage → Type 0
+WritesRun old block [] new = new ≡ old
+WritesRun old block (page ∷ pages) new = (next : Option SwapImage) × WritesPage old block page next × WritesRun next (block + 2) pages new
+
+-- the image after the write of one of these pages failed; those before it were written, and those behind it weren't tried
+abbrev pub SpoilsRun : Option SwapImage → ℕ → List (List ℕ) → Option SwapImage → Type 0
+SpoilsRun old block [] new = ⊥
+SpoilsRun old block (page ∷ pages) new =
+    SpoilsPage old block new ⊎ ((next : Option SwapImage) × WritesPage old block page next × SpoilsRun next (block + 2) pages new)
+
+-- so many pages from the first on were written by one call, at least one; or the write of a page failed
+abbrev pub WritesSome : Option ℕ → Option SwapImage → ℕ → List (List ℕ) → Option SwapImage → Type 0
+WritesSome (Some count) old block pages new = (0 < count) × (count ≤ length pages) × WritesRun old block (take count pages) new
+WritesSome None old block pages new = SpoilsRun old block pages new
+
+-- how such a call ended
+abbrev pub moved_of : Option ℕ → Moved
+moved_of (Some count) = Done
+moved_of None = Failed
