@@ -1,4 +1,5 @@
 pub mod KeepLemmas
 pub mod CountLemmas
 pub mod PartLemmas
+pub mod RunLemmas
 pub mod TestLemmas

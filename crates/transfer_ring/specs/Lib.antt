@@ -2,6 +2,7 @@ pub use Rattle.io_edge.specs.Count
 pub use Rattle.io_edge.specs.FileHolding
 pub mod Naming
 pub mod Parts
+pub mod Together
 pub mod Sound
 pub mod Counting
 pub mod Moving

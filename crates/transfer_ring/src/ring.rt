@@ -12,7 +12,7 @@ ghost use Rattle.transfer_ring.specs.Sound.{AreReachable, HasSources, IsRead, Is
 
 use crate::moving::{self, Filled};
 use crate::transfer::Owner;
-use crate::{Begun, Finished, Transfer};
+use crate::{Begun, Finished, Transfer, writing};
 use circular_buffer::HeapCircularBuffer;
 use io_edge::{Files, Moved, SwapDev};
 use std::alloc::Global;
@@ -162,8 +162,9 @@ impl TransferRing {
         Some(transfer)
     }
 
-    /// Completes the oldest transfer: one call of a device for each page, in rising order, up to the
-    /// first that fails. A fault hands the transfer back, with all its tokens; a read's may then have
+    /// Completes the oldest transfer by calls of a device, in rising order, up to the first that fails:
+    /// one for each page that is read, while written pages that lie together are handed to it together
+    /// (`write_some`). A fault hands the transfer back, with all its tokens; a read's may then have
     /// any bytes. Idle comes exactly where no transfer is in flight.
     pub fn complete_oldest<F: Files, D: SwapDev>(&mut self, files: &mut F, swap: &mut D) -> Finished
         requires { AreReachable (F.holds files.old) (D.blocks swap.old) self.old }
@@ -305,7 +306,7 @@ fn complete<F: Files, D: SwapDev>(transfer: Transfer, files: &mut F, swap: &mut 
             }
         }
         Transfer::Write { parts } => {
-            let moved = moving::write_all(&parts, swap);
+            let moved = writing::write_parts(&parts, swap);
             let transfer = Transfer::Write { parts };
             match moved {
                 Moved::Done => Finished::Done(transfer),
