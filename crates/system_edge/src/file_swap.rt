@@ -1,5 +1,5 @@
 // A swap device that is a file.
-ghost use Rattle.std.specs.Prelude.{◌≡◌, ◌*◌, ◌+◌, ◌≤◌, ◌<◌, ◌↔◌, None, IsOk, IsTrue, OnOk, OnErr, max, replicate, refl};
+ghost use Rattle.std.specs.Prelude.{◌≡◌, ◌*◌, ◌+◌, ◌^◌, ◌≤◌, ◌<◌, ◌↔◌, None, IsOk, IsTrue, OnOk, OnErr, length, max, replicate, refl};
 ghost use Rattle.io_edge.specs.Told.{untold_length};
 ghost use Rattle.system_edge.specs.Holding.{HoldsBytes};
 ghost use Rattle.std.proofs.Common.{◌∙◌, le_refl, le_trans};
@@ -46,11 +46,12 @@ fn is_past(block: u32, len: u64) -> bool
     len <= offset_of(block)
 }
 
-// The length of a file of this length once the page from this block on was written.
-fn length_after(len: u64, block: u32) -> u64
-    ensures { result ≡ max len (block * 512 + 1024) }
+// The length of a file of this length once so many bytes from this block on were written.
+fn length_after(len: u64, block: u32, count: usize) -> u64
+    requires { count < 2 ^ 48 }
+    ensures { result ≡ max len (block * 512 + count) }
 {
-    len.max(offset_of(block) + 1024)
+    len.max(offset_of(block) + count as u64)
 }
 
 fn clear(page: &mut [u8; 1024])
@@ -72,14 +73,15 @@ impl<F: OffsetFile + Drop> SwapFile<F> {
         self.file.read_range(offset_of(block), page)
     }
 
-    // Writes a page. Where that fails the file counts as no longer than before.
-    fn write_page(&mut self, block: u32, bytes: &[u8; 1024]) -> io::Result<()>
+    // Writes pages. Where that fails the file counts as no longer than before.
+    fn write_pages(&mut self, block: u32, bytes: &[u8]) -> io::Result<()>
+        requires { length bytes.now < 2 ^ 48 }
         ensures done { OnOk result (HoldsBytes (F.bytes self.new.file) (block * 512) bytes.now) }
-        ensures longer { OnOk result (self.new.len ≡ max self.old.len (block * 512 + 1024)) }
+        ensures longer { OnOk result (self.new.len ≡ max self.old.len (block * 512 + length bytes.now)) }
         ensures failed { OnErr result (self.new.len ≡ self.old.len) }
     {
         self.file.write_range(offset_of(block), bytes)?;
-        self.len = length_after(self.len, block);
+        self.len = length_after(self.len, block, bytes.len());
         Ok(())
     }
 }
@@ -140,13 +142,14 @@ where
         moved
     }
 
-    fn try_write(&mut self, block: u32, bytes: &[u8; 1024]) -> io::Result<()>
+    fn try_write(&mut self, block: u32, bytes: &[u8]) -> io::Result<()>
+        requires { length bytes.now < 2 ^ 48 }
         ensures blocks { self.new.blocks ≡ self.old.blocks }
         ensures read_faults { self.new.read_faults ≡ self.old.read_faults }
         ensures write_faults { self.new.write_faults ≡ self.old.write_faults }
     {
         let mut file = self.take_file()?;
-        let moved = file.write_page(block, bytes);
+        let moved = file.write_pages(block, bytes);
         self.file = Some(file);
         moved
     }
@@ -188,6 +191,19 @@ where
                 self.fault = Some(error);
                 self.write_faults = raised(self.write_faults);
                 Moved::Failed
+            }
+        }
+    }
+
+    #[tactic(auto, using(io_edge::proofs::RunWrites::untold_written, io_edge::proofs::RunWrites::untold_spoiled))]
+    fn write_some(&mut self, block: u32, pages: &[[u8; 1024]]) -> Option<u32> {
+        let _blocks = self.blocks;
+        match self.try_write(block, pages.as_flattened()) {
+            Ok(()) => Some(pages.len() as u32),
+            Err(error) => {
+                self.fault = Some(error);
+                self.write_faults = raised(self.write_faults);
+                None
             }
         }
     }
