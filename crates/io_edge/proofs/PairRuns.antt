@@ -1,6 +1,7 @@
 -- Pages that lie together on a pair of devices, as far as the unit of the first one goes.
-use Rattle.std.proofs.Common.{◌≡◌, ◌≤◌, ◌<◌, ◌+◌, ◌-◌, ◌*◌, ◌%◌, inl, inr, ℕ, suc, List, [], ◌∷◌, length, take, Option, Some, None, refl, sym, ap, ◌∙◌, subst, arith}
-use Rattle.std.proofs.lemmas.List.{length-take-le, take-take}
+use Rattle.std.proofs.Common.{◌≡◌, ◌≤◌, ◌<◌, ◌+◌, ◌-◌, ◌*◌, ◌/◌, ◌%◌, min, inl, inr, ℕ, zero, suc, List, [], ◌∷◌, length, take, get_or, Option, Some, None, refl, sym, ap, ◌∙◌, subst, arith}
+use Rattle.std.specs.Prelude.{⊤}
+use Rattle.std.proofs.lemmas.List.{length-take, length-take-le, take-take, take_min}
 use Rattle.vm_facts.specs.Swap.{put_blocks}
 use Rattle.vm_facts.specs.SwapImages.{SwapImage}
 use Rattle.vm_facts.proofs.Swap.{length-put_blocks}
@@ -8,12 +9,28 @@ use Rattle.io_edge.specs.declared.Moved.{Moved}
 use Rattle.io_edge.specs.declared.Moved.TheVariants.{Done, Failed}
 use Rattle.io_edge.specs.Count.{Counts}
 use Rattle.io_edge.specs.SwapImage.{WritesPage, page_written}
-use Rattle.io_edge.specs.SwapRuns.{ArePages, WritesRun, SpoilsRun, WritesSome}
+use Rattle.io_edge.specs.SwapRuns.{WritesRun, SpoilsRun, WritesSome, pages_of_unit}
 use Rattle.io_edge.specs.Striping.{device_of, place_of, zero_needs, one_needs, pair_blocks, pair_image, bytes_beyond, KeepsBeyond}
 use Rattle.io_edge.proofs.StripeWrites.{inside_even, inside_odd}
 use Rattle.io_edge.proofs.PairCalls.{IsWhole, pair_writes_even, pair_writes_odd, pair_spoils_even, pair_spoils_odd}
 use Rattle.io_edge.proofs.BeyondPair.{within_zero, within_one, leaves_beyond}
-use Rattle.io_edge.proofs.RunWrites.{pages_first, spoils_first}
+use Rattle.io_edge.proofs.RunWrites.{spoils_first}
+
+-- ---- pages
+
+-- each of these pages has 1,024 bytes
+abbrev pub ArePages : List (List ℕ) → Type 0
+ArePages [] = ⊤
+ArePages (page ∷ pages) = (length page ≡ 1024) × ArePages pages
+
+pub are_pages : (pages : List (List ℕ)) → ((i : ℕ) → i < length pages → length (get_or pages i []) ≡ 1024) → ArePages pages
+are_pages [] each = tt
+are_pages (page ∷ pages) each = (each 0 (omega arith), are_pages pages (λ i below. each (suc i) (omega (arith, below))))
+
+pages_first : (count : ℕ) (pages : List (List ℕ)) → ArePages pages → ArePages (take count pages)
+pages_first zero pages a = tt
+pages_first (suc count) [] a = tt
+pages_first (suc count) (page ∷ pages) a = (a.0, pages_first count pages a.1)
 
 -- ---- blocks of one unit
 
@@ -234,12 +251,28 @@ some_beyond None place blocks size old new pages long inside within whole w = sp
 -- the pages that a device is given are the first of those that the pair is given
 pub record AreFirst (block : ℕ) (here pages : List (List ℕ)) : Type 0 where
   pub front : here ≡ take (length here) pages
+  pub some : 0 < length here
   pub most : length here ≤ length pages
   pub unit : InUnit block here
-  pub whole : ArePages pages
+  pub whole : ArePages here
 
-pub whole_first : (block : ℕ) (here pages : List (List ℕ)) → AreFirst block here pages → ArePages here
-whole_first block here pages first = subst ArePages (sym first.front) (pages_first (length here) pages first.whole)
+of_unit : (block room : ℕ) (pages : List (List ℕ)) → block % 2 ≡ 0 → 0 < room → block % 1024 + 2 * room ≤ 1024 → 0 < length pages → ArePages pages
+    → AreFirst block (take room pages) pages
+of_unit block room pages even room_some fits some whole =
+    let long : length (take room pages) ≡ min room (length pages) = length-take room pages in
+    record {
+      front = sym (take_min room pages) ∙ ap (λ (n : ℕ). take n pages) (sym long);
+      some = omega (arith, long, room_some, some);
+      most = omega (arith, long);
+      unit = record { even = even; fits = omega (arith, long, fits) };
+      whole = pages_first room pages whole;
+    }
+
+pub first_of_unit : (block : ℕ) (here pages : List (List ℕ)) → here ≡ pages_of_unit block pages → block % 2 ≡ 0 → 0 < length pages → ArePages pages
+    → AreFirst block here pages
+first_of_unit block here pages is even some whole =
+    subst (λ (front : List (List ℕ)). AreFirst block front pages) (sym is)
+    (of_unit block ((1024 - block % 1024) / 2) pages even (omega (arith, even)) (omega (arith, even)) some whole)
 
 unit_of_front : (block count : ℕ) (here : List (List ℕ)) → InUnit block here → count ≤ length here → InUnit block (take count here)
 unit_of_front block count here unit few =
@@ -260,7 +293,7 @@ pair_some_even (Some count) even_size new_size odd_size place block evens odds n
     let long : length (take count here) ≡ count = length-take-le count here few in
     let run : WritesRun (pair_image (pair_blocks even_size odd_size) evens odds) block (take count here) (pair_image (pair_blocks even_size odd_size) new odds) =
     pair_run_even even_size odd_size place block evens odds new (take count here) even_whole odd_whole there on (unit_of_front block count here first.unit few)
-    (omega (arith, within, long, few, most)) (pages_first count here (whole_first block here pages first)) w.2 in (
+    (omega (arith, within, long, few, most)) (pages_first count here first.whole) w.2 in (
       w.0,
       omega (arith, few, most),
       subst (λ (size : ℕ). WritesRun (pair_image (pair_blocks even_size odd_size) evens odds) block (take count pages) (pair_image (pair_blocks size odd_size) new odds)) (sym same)
@@ -270,7 +303,7 @@ pair_some_even (Some count) even_size new_size odd_size place block evens odds n
 pair_some_even None even_size new_size odd_size place block evens odds new here pages even_whole odd_whole same there on first within s =
     let most : length here ≤ length pages = first.most in
     let run : SpoilsRun (pair_image (pair_blocks even_size odd_size) evens odds) block here (pair_image (pair_blocks even_size odd_size) new odds) =
-    pair_spoil_even even_size odd_size place block evens odds new here even_whole odd_whole there on first.unit (omega (arith, within, most)) (whole_first block here pages first) s in
+    pair_spoil_even even_size odd_size place block evens odds new here even_whole odd_whole there on first.unit (omega (arith, within, most)) first.whole s in
     subst (λ (size : ℕ). SpoilsRun (pair_image (pair_blocks even_size odd_size) evens odds) block pages (pair_image (pair_blocks size odd_size) new odds)) (sym same)
     (spoils_first (length here) (pair_image (pair_blocks even_size odd_size) evens odds) (pair_image (pair_blocks even_size odd_size) new odds) block pages
     (subst (λ (ps : List (List ℕ)). SpoilsRun (pair_image (pair_blocks even_size odd_size) evens odds) block ps (pair_image (pair_blocks even_size odd_size) new odds)) first.front run))
@@ -285,7 +318,7 @@ pair_some_odd (Some count) even_size odd_size new_size place block evens odds ne
     let long : length (take count here) ≡ count = length-take-le count here few in
     let run : WritesRun (pair_image (pair_blocks even_size odd_size) evens odds) block (take count here) (pair_image (pair_blocks even_size odd_size) evens new) =
     pair_run_odd even_size odd_size place block evens odds new (take count here) even_whole odd_whole there on (unit_of_front block count here first.unit few)
-    (omega (arith, within, long, few, most)) (pages_first count here (whole_first block here pages first)) w.2 in (
+    (omega (arith, within, long, few, most)) (pages_first count here first.whole) w.2 in (
       w.0,
       omega (arith, few, most),
       subst (λ (size : ℕ). WritesRun (pair_image (pair_blocks even_size odd_size) evens odds) block (take count pages) (pair_image (pair_blocks even_size size) evens new)) (sym same)
@@ -295,7 +328,7 @@ pair_some_odd (Some count) even_size odd_size new_size place block evens odds ne
 pair_some_odd None even_size odd_size new_size place block evens odds new here pages even_whole odd_whole same there on first within s =
     let most : length here ≤ length pages = first.most in
     let run : SpoilsRun (pair_image (pair_blocks even_size odd_size) evens odds) block here (pair_image (pair_blocks even_size odd_size) evens new) =
-    pair_spoil_odd even_size odd_size place block evens odds new here even_whole odd_whole there on first.unit (omega (arith, within, most)) (whole_first block here pages first) s in
+    pair_spoil_odd even_size odd_size place block evens odds new here even_whole odd_whole there on first.unit (omega (arith, within, most)) first.whole s in
     subst (λ (size : ℕ). SpoilsRun (pair_image (pair_blocks even_size odd_size) evens odds) block pages (pair_image (pair_blocks even_size size) evens new)) (sym same)
     (spoils_first (length here) (pair_image (pair_blocks even_size odd_size) evens odds) (pair_image (pair_blocks even_size odd_size) evens new) block pages
     (subst (λ (ps : List (List ℕ)). SpoilsRun (pair_image (pair_blocks even_size odd_size) evens odds) block ps (pair_image (pair_blocks even_size odd_size) evens new)) first.front run))

@@ -1,7 +1,8 @@
 -- Pages that lie together on a device.
-use Rattle.std.proofs.Common.{◌≡◌, inl, inr, ℕ, zero, suc, ◌+◌, ◌*◌, ◌<◌, ◌≤◌, List, [], ◌∷◌, length, take, drop, Option, Some, None, refl, sym, ◌∙◌, subst, arith}
+use Rattle.std.proofs.Common.{◌≡◌, inl, inr, ℕ, zero, suc, ◌+◌, ◌*◌, ◌<◌, ◌≤◌, List, [], ◌∷◌, length, take, drop, replicate, Option, Some, None, refl, sym, ◌∙◌, subst, arith}
+use Rattle.std.proofs.lemmas.List.{length-replicate}
 use Rattle.io_edge.specs.SwapImage.{WritesPage, SpoilsPage}
-use Rattle.io_edge.specs.SwapRuns.{ArePages, WritesRun, SpoilsRun, WritesSome}
+use Rattle.io_edge.specs.SwapRuns.{WritesRun, SpoilsRun, WritesSome}
 use Rattle.vm_facts.specs.SwapImages.{SwapImage}
 
 -- ---- one page
@@ -16,16 +17,6 @@ pub first_spoiled : (old new : Option SwapImage) (block : ℕ) (page : List ℕ)
 first_spoiled old new block page rest pages is s = subst (λ (ps : List (List ℕ)). WritesSome None old block ps new) (sym is) (inl s)
 
 -- ---- a part of a run
-
-pub pages_first : (count : ℕ) (pages : List (List ℕ)) → ArePages pages → ArePages (take count pages)
-pages_first zero pages a = tt
-pages_first (suc count) [] a = tt
-pages_first (suc count) (page ∷ pages) a = (a.0, pages_first count pages a.1)
-
-pub pages_behind : (count : ℕ) (pages : List (List ℕ)) → ArePages pages → ArePages (drop count pages)
-pages_behind zero pages a = a
-pages_behind (suc count) [] a = tt
-pages_behind (suc count) (page ∷ pages) a = pages_behind count pages a.1
 
 -- a failed write of a page of the front is one of the whole
 pub spoils_first : (count : ℕ) (old new : Option SwapImage) (block : ℕ) (pages : List (List ℕ)) → SpoilsRun old block (take count pages) new
@@ -72,6 +63,6 @@ untold_run block (page ∷ pages) = (None, refl, untold_run (block + 2) pages)
 pub untold_written : (block count : ℕ) (pages : List (List ℕ)) → 0 < count → count ≤ length pages → WritesSome (Some count) None block pages None
 untold_written block count pages some few = (some, few, untold_run block (take count pages))
 
-pub untold_spoiled : (block : ℕ) (pages : List (List ℕ)) → 0 < length pages → ArePages pages → WritesSome None None block pages None
-untold_spoiled block [] some whole = absurd (omega (arith, some))
-untold_spoiled block (page ∷ pages) some whole = inl (page, whole.0, refl)
+pub untold_spoiled : (block : ℕ) (pages : List (List ℕ)) → 0 < length pages → WritesSome None None block pages None
+untold_spoiled block [] some = absurd (omega (arith, some))
+untold_spoiled block (page ∷ pages) some = inl (replicate 1024 0, length-replicate {A = ℕ} 1024 0, refl)

@@ -1,15 +1,10 @@
 -- Pages of a swap device that lie together, each in the two blocks behind those of the one before. Each is asked for by a request of
 -- its own, in their order.
-use Rattle.std.specs.Prelude.{◌≡◌, ◌⊎◌, ℕ, ◌+◌, ◌<◌, ◌≤◌, List, [], ◌∷◌, length, take, Option, Some, None, ⊤}
+use Rattle.std.specs.Prelude.{◌≡◌, ◌⊎◌, ℕ, ◌+◌, ◌-◌, ◌/◌, ◌%◌, ◌<◌, ◌≤◌, List, [], ◌∷◌, length, take, Option, Some, None}
 use Rattle.io_edge.specs.declared.Moved.{Moved}
 use Rattle.io_edge.specs.declared.Moved.TheVariants.{Done, Failed}
 use Rattle.io_edge.specs.SwapImage.{WritesPage, SpoilsPage}
 use Rattle.vm_facts.specs.SwapImages.{SwapImage}
-
--- each of these pages has 1,024 bytes
-abbrev pub ArePages : List (List ℕ) → Type 0
-ArePages [] = ⊤
-ArePages (page ∷ pages) = (length page ≡ 1024) × ArePages pages
 
 -- the image after these pages were written, one after another, the first in the two blocks from this one on
 abbrev pub WritesRun : Option SwapImage → ℕ → List (List ℕ) → Option SwapImage → Type 0
@@ -31,3 +26,7 @@ WritesSome None old block pages new = SpoilsRun old block pages new
 abbrev pub moved_of : Option ℕ → Moved
 moved_of (Some count) = Done
 moved_of None = Failed
+
+-- of pages that lie together, the first from this block on, those that lie in the first one's unit of 1,024 blocks
+abbrev pub pages_of_unit : ℕ → List (List ℕ) → List (List ℕ)
+pages_of_unit block pages = take ((1024 - block % 1024) / 2) pages

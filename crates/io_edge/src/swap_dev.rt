@@ -2,7 +2,7 @@
 ghost use Rattle.std.specs.Prelude.{◌≡◌, ℕ, ◌+◌, ◌*◌, ◌%◌, ◌<◌, ◌≤◌, Option, Some, length};
 ghost use Rattle.io_edge.specs.Count.{Counts, OnDone, OnFailed};
 ghost use Rattle.io_edge.specs.SwapImage.{bytes_told, HoldsPage, ReadsPage, WritesPage, SpoilsPage};
-ghost use Rattle.io_edge.specs.SwapRuns.{ArePages, WritesSome, moved_of};
+ghost use Rattle.io_edge.specs.SwapRuns.{WritesSome, moved_of};
 ghost use Rattle.vm_facts.specs.SwapImages.{SwapImage};
 
 use crate::Moved;
@@ -65,7 +65,6 @@ pub trait SwapDev {
         requires even { block % 2 ≡ 0 }
         requires some { 0 < length pages.now }
         requires inside { block + 2 * length pages.now ≤ blocks self.old }
-        requires whole { ArePages pages.now }
         ensures leads { leads self.old self.new }
         ensures blocks { blocks self.new ≡ blocks self.old }
         ensures written { WritesSome result (image self.old) block pages.now (image self.new) }

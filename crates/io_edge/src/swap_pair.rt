@@ -1,9 +1,9 @@
 // Two swap devices as one.
-ghost use Rattle.std.specs.Prelude.{◌≡◌, ◌+◌, ◌*◌, ◌%◌, ◌≤◌, ◌<◌, ◌↔◌, IsTrue, IsNone, IfSome, None, length, take, refl};
+ghost use Rattle.std.specs.Prelude.{◌≡◌, ◌+◌, ◌*◌, ◌%◌, ◌≤◌, ◌<◌, ◌↔◌, IsTrue, IsNone, IfSome, None, length, refl};
 ghost use Rattle.std.proofs.Common.{sym, ◌∙◌, ap};
 ghost use Rattle.io_edge.specs.Count.{Counts, OnDone, OnFailed, next_count};
 ghost use Rattle.io_edge.specs.SwapImage.{bytes_told, HoldsPage, ReadsPage, WritesPage, SpoilsPage, LeavesPage};
-ghost use Rattle.io_edge.specs.SwapRuns.{moved_of};
+ghost use Rattle.io_edge.specs.SwapRuns.{WritesSome, moved_of, pages_of_unit};
 ghost use Rattle.io_edge.specs.Striping.{device_of, place_of, pair_blocks, pair_image, zero_needs, one_needs, IsDevice, IsLargestSwap, KeepsBeyond};
 ghost use Rattle.io_edge.specs.Beyond.{zero_through, one_through};
 ghost use Rattle.io_edge.specs.PairFailures.{AddsFailures};
@@ -39,17 +39,13 @@ fn moved_of(wrote: Option<u32>) -> Moved
     }
 }
 
-// The first of some pages: those that lie in the unit of the first one's block.
+// Of pages that lie together those in the unit of the first one's block.
+#[tactic(auto, using(std::proofs::lemmas::List::take_min))]
 fn in_unit(pages: &[[u8; 1024]], block: u32) -> &[[u8; 1024]]
-    requires even { block % 2 ≡ 0 }
-    requires some { 0 < length pages.now }
-    ensures front { result.now ≡ take (length result.now) pages.now }
-    ensures some { 0 < length result.now }
-    ensures most { length result.now ≤ length pages.now }
-    ensures fits { block % 1024 + 2 * length result.now ≤ 1024 }
+    ensures { result.now ≡ pages_of_unit block pages.now }
 {
     let room = (1024 - block % 1024) as usize / 2;
-    pages.split_at(pages.len().min(room)).0
+    pages.split_at(room.min(pages.len())).0
 }
 
 // How many blocks two devices of these sizes make together.
@@ -240,7 +236,33 @@ impl<'a, D: SwapDev, E: SwapDev> SwapDev for SwapPair<'a, D, E> {
         }
     }
 
-    fn write_some(&mut self, block: u32, pages: &[[u8; 1024]]) -> Option<u32> {
+    fn write_some(&mut self, block: u32, pages: &[[u8; 1024]]) -> Option<u32>
+        requires even { block % 2 ≡ 0 }
+        requires some { 0 < length pages.now }
+        requires inside { block + 2 * length pages.now ≤ ⟦<SwapPair<'a, D, E> as SwapDev>⟧.blocks self.old }
+        ensures leads { ⟦<SwapPair<'a, D, E> as SwapDev>⟧.leads self.old self.new }
+        ensures blocks { ⟦<SwapPair<'a, D, E> as SwapDev>⟧.blocks self.new
+            ≡ ⟦<SwapPair<'a, D, E> as SwapDev>⟧.blocks self.old }
+        ensures written { WritesSome result (⟦<SwapPair<'a, D, E> as SwapDev>⟧.image self.old) block pages.now
+            (⟦<SwapPair<'a, D, E> as SwapDev>⟧.image self.new) }
+        ensures read_faults { ⟦<SwapPair<'a, D, E> as SwapDev>⟧.read_faults self.new
+            ≡ ⟦<SwapPair<'a, D, E> as SwapDev>⟧.read_faults self.old }
+        ensures write_faults { Counts (moved_of result)
+            (⟦<SwapPair<'a, D, E> as SwapDev>⟧.write_faults self.old)
+            (⟦<SwapPair<'a, D, E> as SwapDev>⟧.write_faults self.new) }
+
+        // Its own failed calls, one by one.
+        ensures failed_calls { OnFailed (moved_of result) (⟦<SwapPair<'a, D, E> as SwapDev>⟧.write_faults self.new
+            ≡ next_count (⟦<SwapPair<'a, D, E> as SwapDev>⟧.write_faults self.old)) }
+
+        // The block's device is handed the pages of the block's unit, and the other device is left alone.
+        ensures on_zero { device_of block ≡ 0 → WritesSome result (D.image self.old.zero.now)
+            (place_of block) (pages_of_unit block pages.now) (D.image self.new.zero.now) }
+        ensures not_on_zero { device_of block ≡ 1 → self.new.zero.now ≡ self.old.zero.now }
+        ensures on_one { device_of block ≡ 1 → WritesSome result (E.image self.old.one.now)
+            (place_of block) (pages_of_unit block pages.now) (E.image self.new.one.now) }
+        ensures not_on_one { device_of block ≡ 0 → self.new.one.now ≡ self.old.one.now }
+    {
         let place = place_on_device(block);
         let here = in_unit(pages, block);
         if device_number(block) == 0 {
