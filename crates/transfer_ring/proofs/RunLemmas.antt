@@ -2,7 +2,7 @@
 use Rattle.std.proofs.Common.{◌≡◌, inl, inr, ℕ, ◌+◌, ◌*◌, ◌%◌, ◌==◌, ◌<◌, ◌≤◌, true, List, [], ◌∷◌, length, take, Option, eqb-true, refl, sym, subst, arith}
 use Rattle.std.proofs.lemmas.Bool.{and_parts}
 use Rattle.io_edge.specs.SwapImage.{WritesPage, SpoilsPage}
-use Rattle.io_edge.specs.SwapRuns.{ArePages, WritesRun, SpoilsRun}
+use Rattle.io_edge.specs.SwapRuns.{WritesRun, SpoilsRun}
 use Rattle.vm_facts.specs.SwapImages.{SwapImage}
 use Rattle.transfer_ring.specs.declared.transfer.Outbound.{Outbound}
 use Rattle.transfer_ring.specs.Sound.{IsBlock, AreBlocks}
@@ -12,11 +12,6 @@ use Rattle.transfer_ring.specs.Together.{are_together, CopiesOut}
 -- no page at all
 pub none_written : (image : Option SwapImage) (block : ℕ) (pages : List (List ℕ)) → pages ≡ [] → WritesRun image block pages image
 none_written image block pages none = subst (λ (ps : List (List ℕ)). WritesRun image block ps image) (sym none) refl
-
-pub copied_pages : (parts : List Outbound) (pages : List (List ℕ)) → CopiesOut parts pages → ArePages (take (length parts) pages)
-copied_pages [] pages copied = tt
-copied_pages (part ∷ parts) [] copied = absurd copied
-copied_pages (part ∷ parts) (page ∷ pages) copied = (copied.1, copied_pages parts pages copied.2)
 
 -- the first of them is in this block, and those behind it go on two blocks further
 first_at : (block : ℕ) (part : Outbound) (parts : List Outbound) → are_together block (part ∷ parts) ≡ true
@@ -52,7 +47,7 @@ parts_written block (part ∷ parts) (page ∷ pages) old new together copied ru
     let at = first_at block part parts together in (
       run.0,
       page_written part block page old run.0 at.0 copied.0 run.1,
-      parts_written (block + 2) parts pages run.0 new at.1 copied.2 run.2,
+      parts_written (block + 2) parts pages run.0 new at.1 copied.1 run.2,
     )
 
 -- the write of one of their pages failed
@@ -67,6 +62,6 @@ parts_spoiled block (part ∷ parts) (page ∷ pages) old new together copied ru
       | inr behind ↦ inr (
         behind.0,
         page_written part block page old behind.0 at.0 copied.0 behind.1,
-        parts_spoiled (block + 2) parts pages behind.0 new at.1 copied.2 behind.2,
+        parts_spoiled (block + 2) parts pages behind.0 new at.1 copied.1 behind.2,
       )
     ]

@@ -17,4 +17,4 @@ pub record AreTogether (parts : List Outbound) (block : ℕ) : Type 0 where
 abbrev pub CopiesOut : List Outbound → List (List ℕ) → Type 0
 CopiesOut [] pages = ⊤
 CopiesOut (part ∷ rest) [] = ⊥
-CopiesOut (part ∷ rest) (page ∷ pages) = (page ≡ part.token.bytes) × (length page ≡ 1024) × CopiesOut rest pages
+CopiesOut (part ∷ rest) (page ∷ pages) = (page ≡ part.token.bytes) × CopiesOut rest pages

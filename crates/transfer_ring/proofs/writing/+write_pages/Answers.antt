@@ -1,8 +1,8 @@
 use Rattle.std.proofs.Common.{◌+◌, ◌*◌, ℕ, List, Option, length, eqb-true, sym, subst, arith}
 use Rattle.std.proofs.lemmas.List.{nil_from_length}
-use Rattle.io_edge.specs.SwapRuns.{ArePages, WritesRun, SpoilsRun}
+use Rattle.io_edge.specs.SwapRuns.{WritesRun, SpoilsRun}
 use Rattle.io_edge.proofs.PairCalls.{on_done, on_failed}
-use Rattle.io_edge.proofs.RunWrites.{pages_behind, writes_on, spoils_on}
+use Rattle.io_edge.proofs.RunWrites.{writes_on, spoils_on}
 use Rattle.vm_facts.specs.SwapImages.{SwapImage}
 use Rattle.transfer_ring.proofs.RunLemmas.{none_written}
 use Rattle.transfer_ring.proofs.writing.+write_pages.Goals as goal
@@ -21,10 +21,7 @@ write_pages-requires g t c κs out =
         out,
         (
           omega (arith, c.requires.even),
-          (
-            omega (arith, c.requires.inside, few, c.split_at.ensures.back_len, c.in-Some.ensures.blocks),
-            subst ArePages (sym c.split_at.ensures.back) (pages_behind c.in-Some.count c.args.pages.now c.requires.whole),
-          ),
+          omega (arith, c.requires.inside, few, c.split_at.ensures.back_len, c.in-Some.ensures.blocks),
         ),
       ),
     )

@@ -1,9 +1,9 @@
 use Rattle.std.proofs.Common.{◌≡◌, ℕ, List, Option, length, take, sym, subst, arith}
-use Rattle.io_edge.specs.SwapRuns.{ArePages, WritesRun, SpoilsRun}
+use Rattle.io_edge.specs.SwapRuns.{WritesRun, SpoilsRun}
 use Rattle.io_edge.proofs.PairCalls.{on_done, on_failed}
 use Rattle.vm_facts.specs.SwapImages.{SwapImage}
 use Rattle.transfer_ring.specs.Parts.{WritesParts, SpoilsParts}
-use Rattle.transfer_ring.proofs.RunLemmas.{copied_pages, blocks_together, parts_written, parts_spoiled}
+use Rattle.transfer_ring.proofs.RunLemmas.{blocks_together, parts_written, parts_spoiled}
 use Rattle.transfer_ring.proofs.writing.write_together.Goals as goal
 
 pub write_pages-requires-clause-even : goal.write_pages-requires-clause-even
@@ -17,11 +17,6 @@ write_pages-requires-clause-inside g c =
     let on =
     blocks_together (g.D.SwapDev.blocks c.args.swap.now) c.args.block c.args.parts.now c.requires.together.some c.requires.together.together c.requires.there in
     omega (arith, on.1, c.split_at.ensures.front_len)
-
-pub write_pages-requires-clause-whole : goal.write_pages-requires-clause-whole
-write_pages-requires-clause-whole g c =
-    let front : c.split_at.result.0.now ≡ take (length c.args.parts.now) c.copy_out.new.pages = c.split_at.ensures.front in
-    subst ArePages (sym front) (copied_pages c.args.parts.now c.copy_out.new.pages c.copy_out.ensures)
 
 pub returns-clause-done : goal.returns-clause-done
 returns-clause-done g c =
