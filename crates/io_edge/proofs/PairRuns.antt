@@ -9,7 +9,7 @@ use Rattle.io_edge.specs.declared.Moved.{Moved}
 use Rattle.io_edge.specs.declared.Moved.TheVariants.{Done, Failed}
 use Rattle.io_edge.specs.Count.{Counts}
 use Rattle.io_edge.specs.SwapImage.{WritesPage, page_written}
-use Rattle.io_edge.specs.SwapRuns.{WritesRun, SpoilsRun, WritesSome, pages_of_unit}
+use Rattle.io_edge.specs.SwapRuns.{WritesPages, SpoilsPages, WritesSomePages, pages_of_unit}
 use Rattle.io_edge.specs.Striping.{device_of, place_of, zero_needs, one_needs, pair_blocks, pair_image, bytes_beyond, KeepsBeyond}
 use Rattle.io_edge.proofs.StripeWrites.{inside_even, inside_odd}
 use Rattle.io_edge.proofs.PairCalls.{IsWhole, pair_writes_even, pair_writes_odd, pair_spoils_even, pair_spoils_odd}
@@ -125,8 +125,8 @@ whole_after (Some image) next size place page long inside whole w after told =
 
 pub pair_run_even : (even_size odd_size place block : ℕ) (evens odds new : Option SwapImage) (pages : List (List ℕ)) → IsWhole evens even_size
     → IsWhole odds odd_size → place ≡ place_of block → device_of block ≡ 0 → InUnit block pages
-    → block + 2 * length pages ≤ pair_blocks even_size odd_size → ArePages pages → WritesRun evens place pages new
-    → WritesRun (pair_image (pair_blocks even_size odd_size) evens odds) block pages (pair_image (pair_blocks even_size odd_size) new odds)
+    → block + 2 * length pages ≤ pair_blocks even_size odd_size → ArePages pages → WritesPages evens place pages new
+    → WritesPages (pair_image (pair_blocks even_size odd_size) evens odds) block pages (pair_image (pair_blocks even_size odd_size) new odds)
 pair_run_even even_size odd_size place block evens odds new [] even_whole odd_whole there on unit within whole w =
     ap (λ (image : Option SwapImage). pair_image (pair_blocks even_size odd_size) image odds) w
 pair_run_even even_size odd_size place block evens odds new (page ∷ []) even_whole odd_whole there on unit within whole w = (
@@ -146,8 +146,8 @@ pair_run_even even_size odd_size place block evens odds new (page ∷ other ∷ 
 
 pub pair_spoil_even : (even_size odd_size place block : ℕ) (evens odds new : Option SwapImage) (pages : List (List ℕ)) → IsWhole evens even_size
     → IsWhole odds odd_size → place ≡ place_of block → device_of block ≡ 0 → InUnit block pages
-    → block + 2 * length pages ≤ pair_blocks even_size odd_size → ArePages pages → SpoilsRun evens place pages new
-    → SpoilsRun (pair_image (pair_blocks even_size odd_size) evens odds) block pages (pair_image (pair_blocks even_size odd_size) new odds)
+    → block + 2 * length pages ≤ pair_blocks even_size odd_size → ArePages pages → SpoilsPages evens place pages new
+    → SpoilsPages (pair_image (pair_blocks even_size odd_size) evens odds) block pages (pair_image (pair_blocks even_size odd_size) new odds)
 pair_spoil_even even_size odd_size place block evens odds new [] even_whole odd_whole there on unit within whole s = absurd s
 pair_spoil_even even_size odd_size place block evens odds new (page ∷ []) even_whole odd_whole there on unit within whole s = elim s [
   | inl here ↦ inl (pair_spoils_even even_size even_size odd_size place block evens odds new even_whole odd_whole refl there on unit.even (omega (arith, within)) here)
@@ -169,8 +169,8 @@ pair_spoil_even even_size odd_size place block evens odds new (page ∷ other �
 
 pub pair_run_odd : (even_size odd_size place block : ℕ) (evens odds new : Option SwapImage) (pages : List (List ℕ)) → IsWhole evens even_size
     → IsWhole odds odd_size → place ≡ place_of block → device_of block ≡ 1 → InUnit block pages
-    → block + 2 * length pages ≤ pair_blocks even_size odd_size → ArePages pages → WritesRun odds place pages new
-    → WritesRun (pair_image (pair_blocks even_size odd_size) evens odds) block pages (pair_image (pair_blocks even_size odd_size) evens new)
+    → block + 2 * length pages ≤ pair_blocks even_size odd_size → ArePages pages → WritesPages odds place pages new
+    → WritesPages (pair_image (pair_blocks even_size odd_size) evens odds) block pages (pair_image (pair_blocks even_size odd_size) evens new)
 pair_run_odd even_size odd_size place block evens odds new [] even_whole odd_whole there on unit within whole w =
     ap (λ (image : Option SwapImage). pair_image (pair_blocks even_size odd_size) evens image) w
 pair_run_odd even_size odd_size place block evens odds new (page ∷ []) even_whole odd_whole there on unit within whole w = (
@@ -190,8 +190,8 @@ pair_run_odd even_size odd_size place block evens odds new (page ∷ other ∷ p
 
 pub pair_spoil_odd : (even_size odd_size place block : ℕ) (evens odds new : Option SwapImage) (pages : List (List ℕ)) → IsWhole evens even_size
     → IsWhole odds odd_size → place ≡ place_of block → device_of block ≡ 1 → InUnit block pages
-    → block + 2 * length pages ≤ pair_blocks even_size odd_size → ArePages pages → SpoilsRun odds place pages new
-    → SpoilsRun (pair_image (pair_blocks even_size odd_size) evens odds) block pages (pair_image (pair_blocks even_size odd_size) evens new)
+    → block + 2 * length pages ≤ pair_blocks even_size odd_size → ArePages pages → SpoilsPages odds place pages new
+    → SpoilsPages (pair_image (pair_blocks even_size odd_size) evens odds) block pages (pair_image (pair_blocks even_size odd_size) evens new)
 pair_spoil_odd even_size odd_size place block evens odds new [] even_whole odd_whole there on unit within whole s = absurd s
 pair_spoil_odd even_size odd_size place block evens odds new (page ∷ []) even_whole odd_whole there on unit within whole s = elim s [
   | inl here ↦ inl (pair_spoils_odd even_size odd_size odd_size place block evens odds new even_whole odd_whole refl there on unit.even (omega (arith, within)) here)
@@ -214,7 +214,7 @@ pair_spoil_odd even_size odd_size place block evens odds new (page ∷ other ∷
 -- ---- what is beyond the pair's blocks
 
 pub run_beyond : (place blocks size : ℕ) (old new : Option SwapImage) (pages : List (List ℕ)) → IsWhole old size → place + 2 * length pages ≤ size
-    → place + 2 * length pages ≤ blocks → ArePages pages → WritesRun old place pages new → KeepsBeyond blocks old new
+    → place + 2 * length pages ≤ blocks → ArePages pages → WritesPages old place pages new → KeepsBeyond blocks old new
 run_beyond place blocks size old new [] long inside within whole w = ap (bytes_beyond blocks) w
 run_beyond place blocks size old new (page ∷ pages) long inside within whole w =
     let here : place + 2 ≤ size = omega (arith, inside) in
@@ -222,7 +222,7 @@ run_beyond place blocks size old new (page ∷ pages) long inside within whole w
     ∙ leaves_beyond Done place blocks size old w.0 page long here (omega (arith, within)) whole.0 (w.1, tt)
 
 pub spoil_beyond : (place blocks size : ℕ) (old new : Option SwapImage) (pages : List (List ℕ)) → IsWhole old size → place + 2 * length pages ≤ size
-    → place + 2 * length pages ≤ blocks → ArePages pages → SpoilsRun old place pages new → KeepsBeyond blocks old new
+    → place + 2 * length pages ≤ blocks → ArePages pages → SpoilsPages old place pages new → KeepsBeyond blocks old new
 spoil_beyond place blocks size old new [] long inside within whole s = absurd s
 spoil_beyond place blocks size old new (page ∷ pages) long inside within whole s =
     let here : place + 2 ≤ size = omega (arith, inside) in
@@ -240,7 +240,7 @@ pub counts_alike : (moved other : Moved) (old new : ℕ) → moved ≡ other →
 counts_alike moved other old new same counted = subst (λ (m : Moved). Counts m old new) (sym same) counted
 
 pub some_beyond : (wrote : Option ℕ) (place blocks size : ℕ) (old new : Option SwapImage) (pages : List (List ℕ)) → IsWhole old size
-    → place + 2 * length pages ≤ size → place + 2 * length pages ≤ blocks → ArePages pages → WritesSome wrote old place pages new
+    → place + 2 * length pages ≤ size → place + 2 * length pages ≤ blocks → ArePages pages → WritesSomePages wrote old place pages new
     → KeepsBeyond blocks old new
 some_beyond (Some count) place blocks size old new pages long inside within whole w =
     let few : length (take count pages) ≡ count = length-take-le count pages w.1 in
@@ -285,50 +285,50 @@ front_of_front count here pages front few = ap (take count) front ∙ take-take 
 
 pub pair_some_even : (wrote : Option ℕ) (even_size new_size odd_size place block : ℕ) (evens odds new : Option SwapImage) (here pages : List (List ℕ))
     → IsWhole evens even_size → IsWhole odds odd_size → new_size ≡ even_size → place ≡ place_of block → device_of block ≡ 0
-    → AreFirst block here pages → block + 2 * length pages ≤ pair_blocks even_size odd_size → WritesSome wrote evens place here new
-    → WritesSome wrote (pair_image (pair_blocks even_size odd_size) evens odds) block pages (pair_image (pair_blocks new_size odd_size) new odds)
+    → AreFirst block here pages → block + 2 * length pages ≤ pair_blocks even_size odd_size → WritesSomePages wrote evens place here new
+    → WritesSomePages wrote (pair_image (pair_blocks even_size odd_size) evens odds) block pages (pair_image (pair_blocks new_size odd_size) new odds)
 pair_some_even (Some count) even_size new_size odd_size place block evens odds new here pages even_whole odd_whole same there on first within w =
     let few : count ≤ length here = w.1 in
     let most : length here ≤ length pages = first.most in
     let long : length (take count here) ≡ count = length-take-le count here few in
-    let run : WritesRun (pair_image (pair_blocks even_size odd_size) evens odds) block (take count here) (pair_image (pair_blocks even_size odd_size) new odds) =
+    let run : WritesPages (pair_image (pair_blocks even_size odd_size) evens odds) block (take count here) (pair_image (pair_blocks even_size odd_size) new odds) =
     pair_run_even even_size odd_size place block evens odds new (take count here) even_whole odd_whole there on (unit_of_front block count here first.unit few)
     (omega (arith, within, long, few, most)) (pages_first count here first.whole) w.2 in (
       w.0,
       omega (arith, few, most),
-      subst (λ (size : ℕ). WritesRun (pair_image (pair_blocks even_size odd_size) evens odds) block (take count pages) (pair_image (pair_blocks size odd_size) new odds)) (sym same)
-          (subst (λ (ps : List (List ℕ)). WritesRun (pair_image (pair_blocks even_size odd_size) evens odds) block ps (pair_image (pair_blocks even_size odd_size) new odds))
+      subst (λ (size : ℕ). WritesPages (pair_image (pair_blocks even_size odd_size) evens odds) block (take count pages) (pair_image (pair_blocks size odd_size) new odds)) (sym same)
+          (subst (λ (ps : List (List ℕ)). WritesPages (pair_image (pair_blocks even_size odd_size) evens odds) block ps (pair_image (pair_blocks even_size odd_size) new odds))
           (front_of_front count here pages first.front few) run),
     )
 pair_some_even None even_size new_size odd_size place block evens odds new here pages even_whole odd_whole same there on first within s =
     let most : length here ≤ length pages = first.most in
-    let run : SpoilsRun (pair_image (pair_blocks even_size odd_size) evens odds) block here (pair_image (pair_blocks even_size odd_size) new odds) =
+    let run : SpoilsPages (pair_image (pair_blocks even_size odd_size) evens odds) block here (pair_image (pair_blocks even_size odd_size) new odds) =
     pair_spoil_even even_size odd_size place block evens odds new here even_whole odd_whole there on first.unit (omega (arith, within, most)) first.whole s in
-    subst (λ (size : ℕ). SpoilsRun (pair_image (pair_blocks even_size odd_size) evens odds) block pages (pair_image (pair_blocks size odd_size) new odds)) (sym same)
+    subst (λ (size : ℕ). SpoilsPages (pair_image (pair_blocks even_size odd_size) evens odds) block pages (pair_image (pair_blocks size odd_size) new odds)) (sym same)
     (spoils_first (length here) (pair_image (pair_blocks even_size odd_size) evens odds) (pair_image (pair_blocks even_size odd_size) new odds) block pages
-    (subst (λ (ps : List (List ℕ)). SpoilsRun (pair_image (pair_blocks even_size odd_size) evens odds) block ps (pair_image (pair_blocks even_size odd_size) new odds)) first.front run))
+    (subst (λ (ps : List (List ℕ)). SpoilsPages (pair_image (pair_blocks even_size odd_size) evens odds) block ps (pair_image (pair_blocks even_size odd_size) new odds)) first.front run))
 
 pub pair_some_odd : (wrote : Option ℕ) (even_size odd_size new_size place block : ℕ) (evens odds new : Option SwapImage) (here pages : List (List ℕ))
     → IsWhole evens even_size → IsWhole odds odd_size → new_size ≡ odd_size → place ≡ place_of block → device_of block ≡ 1
-    → AreFirst block here pages → block + 2 * length pages ≤ pair_blocks even_size odd_size → WritesSome wrote odds place here new
-    → WritesSome wrote (pair_image (pair_blocks even_size odd_size) evens odds) block pages (pair_image (pair_blocks even_size new_size) evens new)
+    → AreFirst block here pages → block + 2 * length pages ≤ pair_blocks even_size odd_size → WritesSomePages wrote odds place here new
+    → WritesSomePages wrote (pair_image (pair_blocks even_size odd_size) evens odds) block pages (pair_image (pair_blocks even_size new_size) evens new)
 pair_some_odd (Some count) even_size odd_size new_size place block evens odds new here pages even_whole odd_whole same there on first within w =
     let few : count ≤ length here = w.1 in
     let most : length here ≤ length pages = first.most in
     let long : length (take count here) ≡ count = length-take-le count here few in
-    let run : WritesRun (pair_image (pair_blocks even_size odd_size) evens odds) block (take count here) (pair_image (pair_blocks even_size odd_size) evens new) =
+    let run : WritesPages (pair_image (pair_blocks even_size odd_size) evens odds) block (take count here) (pair_image (pair_blocks even_size odd_size) evens new) =
     pair_run_odd even_size odd_size place block evens odds new (take count here) even_whole odd_whole there on (unit_of_front block count here first.unit few)
     (omega (arith, within, long, few, most)) (pages_first count here first.whole) w.2 in (
       w.0,
       omega (arith, few, most),
-      subst (λ (size : ℕ). WritesRun (pair_image (pair_blocks even_size odd_size) evens odds) block (take count pages) (pair_image (pair_blocks even_size size) evens new)) (sym same)
-          (subst (λ (ps : List (List ℕ)). WritesRun (pair_image (pair_blocks even_size odd_size) evens odds) block ps (pair_image (pair_blocks even_size odd_size) evens new))
+      subst (λ (size : ℕ). WritesPages (pair_image (pair_blocks even_size odd_size) evens odds) block (take count pages) (pair_image (pair_blocks even_size size) evens new)) (sym same)
+          (subst (λ (ps : List (List ℕ)). WritesPages (pair_image (pair_blocks even_size odd_size) evens odds) block ps (pair_image (pair_blocks even_size odd_size) evens new))
           (front_of_front count here pages first.front few) run),
     )
 pair_some_odd None even_size odd_size new_size place block evens odds new here pages even_whole odd_whole same there on first within s =
     let most : length here ≤ length pages = first.most in
-    let run : SpoilsRun (pair_image (pair_blocks even_size odd_size) evens odds) block here (pair_image (pair_blocks even_size odd_size) evens new) =
+    let run : SpoilsPages (pair_image (pair_blocks even_size odd_size) evens odds) block here (pair_image (pair_blocks even_size odd_size) evens new) =
     pair_spoil_odd even_size odd_size place block evens odds new here even_whole odd_whole there on first.unit (omega (arith, within, most)) first.whole s in
-    subst (λ (size : ℕ). SpoilsRun (pair_image (pair_blocks even_size odd_size) evens odds) block pages (pair_image (pair_blocks even_size size) evens new)) (sym same)
+    subst (λ (size : ℕ). SpoilsPages (pair_image (pair_blocks even_size odd_size) evens odds) block pages (pair_image (pair_blocks even_size size) evens new)) (sym same)
     (spoils_first (length here) (pair_image (pair_blocks even_size odd_size) evens odds) (pair_image (pair_blocks even_size odd_size) evens new) block pages
-    (subst (λ (ps : List (List ℕ)). SpoilsRun (pair_image (pair_blocks even_size odd_size) evens odds) block ps (pair_image (pair_blocks even_size odd_size) evens new)) first.front run))
+    (subst (λ (ps : List (List ℕ)). SpoilsPages (pair_image (pair_blocks even_size odd_size) evens odds) block ps (pair_image (pair_blocks even_size odd_size) evens new)) first.front run))

@@ -7,20 +7,20 @@ use Rattle.io_edge.specs.SwapImage.{WritesPage, SpoilsPage}
 use Rattle.vm_facts.specs.SwapImages.{SwapImage}
 
 -- the image after these pages were written, one after another, the first in the two blocks from this one on
-abbrev pub WritesRun : Option SwapImage → ℕ → List (List ℕ) → Option SwapImage → Type 0
-WritesRun old block [] new = new ≡ old
-WritesRun old block (page ∷ pages) new = (next : Option SwapImage) × WritesPage old block page next × WritesRun next (block + 2) pages new
+abbrev pub WritesPages : Option SwapImage → ℕ → List (List ℕ) → Option SwapImage → Type 0
+WritesPages old block [] new = new ≡ old
+WritesPages old block (page ∷ pages) new = (next : Option SwapImage) × WritesPage old block page next × WritesPages next (block + 2) pages new
 
 -- the image after the write of one of these pages failed; those before it were written, and those behind it weren't tried
-abbrev pub SpoilsRun : Option SwapImage → ℕ → List (List ℕ) → Option SwapImage → Type 0
-SpoilsRun old block [] new = ⊥
-SpoilsRun old block (page ∷ pages) new =
-    SpoilsPage old block new ⊎ ((next : Option SwapImage) × WritesPage old block page next × SpoilsRun next (block + 2) pages new)
+abbrev pub SpoilsPages : Option SwapImage → ℕ → List (List ℕ) → Option SwapImage → Type 0
+SpoilsPages old block [] new = ⊥
+SpoilsPages old block (page ∷ pages) new =
+    SpoilsPage old block new ⊎ ((next : Option SwapImage) × WritesPage old block page next × SpoilsPages next (block + 2) pages new)
 
 -- so many pages from the first on were written by one call, at least one; or the write of a page failed
-abbrev pub WritesSome : Option ℕ → Option SwapImage → ℕ → List (List ℕ) → Option SwapImage → Type 0
-WritesSome (Some count) old block pages new = (0 < count) × (count ≤ length pages) × WritesRun old block (take count pages) new
-WritesSome None old block pages new = SpoilsRun old block pages new
+abbrev pub WritesSomePages : Option ℕ → Option SwapImage → ℕ → List (List ℕ) → Option SwapImage → Type 0
+WritesSomePages (Some count) old block pages new = (0 < count) × (count ≤ length pages) × WritesPages old block (take count pages) new
+WritesSomePages None old block pages new = SpoilsPages old block pages new
 
 -- how such a call ended
 abbrev pub moved_of : Option ℕ → Moved

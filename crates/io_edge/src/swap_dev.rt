@@ -2,7 +2,7 @@
 ghost use Rattle.std.specs.Prelude.{◌≡◌, ℕ, ◌+◌, ◌*◌, ◌%◌, ◌<◌, ◌≤◌, Option, Some, length};
 ghost use Rattle.io_edge.specs.Count.{Counts, OnDone, OnFailed};
 ghost use Rattle.io_edge.specs.SwapImage.{bytes_told, HoldsPage, ReadsPage, WritesPage, SpoilsPage};
-ghost use Rattle.io_edge.specs.SwapRuns.{WritesSome, moved_of};
+ghost use Rattle.io_edge.specs.SwapRuns.{WritesSomePages, moved_of};
 ghost use Rattle.vm_facts.specs.SwapImages.{SwapImage};
 
 use crate::Moved;
@@ -67,7 +67,7 @@ pub trait SwapDev {
         requires inside { block + 2 * length pages.now ≤ blocks self.old }
         ensures leads { leads self.old self.new }
         ensures blocks { blocks self.new ≡ blocks self.old }
-        ensures written { WritesSome result (image self.old) block pages.now (image self.new) }
+        ensures written { WritesSomePages result (image self.old) block pages.now (image self.new) }
         ensures read_faults { read_faults self.new ≡ read_faults self.old }
         ensures write_faults { Counts (moved_of result) (write_faults self.old) (write_faults self.new) }
     {

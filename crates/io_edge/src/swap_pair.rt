@@ -3,7 +3,7 @@ ghost use Rattle.std.specs.Prelude.{◌≡◌, ◌+◌, ◌*◌, ◌%◌, ◌≤
 ghost use Rattle.std.proofs.Common.{sym, ◌∙◌, ap};
 ghost use Rattle.io_edge.specs.Count.{Counts, OnDone, OnFailed, next_count};
 ghost use Rattle.io_edge.specs.SwapImage.{bytes_told, HoldsPage, ReadsPage, WritesPage, SpoilsPage, LeavesPage};
-ghost use Rattle.io_edge.specs.SwapRuns.{WritesSome, moved_of, pages_of_unit};
+ghost use Rattle.io_edge.specs.SwapRuns.{WritesSomePages, moved_of, pages_of_unit};
 ghost use Rattle.io_edge.specs.Striping.{device_of, place_of, pair_blocks, pair_image, zero_needs, one_needs, IsDevice, IsLargestSwap, KeepsBeyond};
 ghost use Rattle.io_edge.specs.Beyond.{zero_through, one_through};
 ghost use Rattle.io_edge.specs.PairFailures.{AddsFailures};
@@ -243,7 +243,7 @@ impl<'a, D: SwapDev, E: SwapDev> SwapDev for SwapPair<'a, D, E> {
         ensures leads { ⟦<SwapPair<'a, D, E> as SwapDev>⟧.leads self.old self.new }
         ensures blocks { ⟦<SwapPair<'a, D, E> as SwapDev>⟧.blocks self.new
             ≡ ⟦<SwapPair<'a, D, E> as SwapDev>⟧.blocks self.old }
-        ensures written { WritesSome result (⟦<SwapPair<'a, D, E> as SwapDev>⟧.image self.old) block pages.now
+        ensures written { WritesSomePages result (⟦<SwapPair<'a, D, E> as SwapDev>⟧.image self.old) block pages.now
             (⟦<SwapPair<'a, D, E> as SwapDev>⟧.image self.new) }
         ensures read_faults { ⟦<SwapPair<'a, D, E> as SwapDev>⟧.read_faults self.new
             ≡ ⟦<SwapPair<'a, D, E> as SwapDev>⟧.read_faults self.old }
@@ -256,10 +256,10 @@ impl<'a, D: SwapDev, E: SwapDev> SwapDev for SwapPair<'a, D, E> {
             ≡ next_count (⟦<SwapPair<'a, D, E> as SwapDev>⟧.write_faults self.old)) }
 
         // The block's device is handed the pages of the block's unit, and the other device is left alone.
-        ensures on_zero { device_of block ≡ 0 → WritesSome result (D.image self.old.zero.now)
+        ensures on_zero { device_of block ≡ 0 → WritesSomePages result (D.image self.old.zero.now)
             (place_of block) (pages_of_unit block pages.now) (D.image self.new.zero.now) }
         ensures not_on_zero { device_of block ≡ 1 → self.new.zero.now ≡ self.old.zero.now }
-        ensures on_one { device_of block ≡ 1 → WritesSome result (E.image self.old.one.now)
+        ensures on_one { device_of block ≡ 1 → WritesSomePages result (E.image self.old.one.now)
             (place_of block) (pages_of_unit block pages.now) (E.image self.new.one.now) }
         ensures not_on_one { device_of block ≡ 0 → self.new.one.now ≡ self.old.one.now }
     {

@@ -2,7 +2,7 @@
 use Rattle.std.proofs.Common.{◌≡◌, inl, inr, ℕ, ◌+◌, ◌*◌, ◌%◌, ◌==◌, ◌<◌, ◌≤◌, true, List, [], ◌∷◌, length, take, Option, eqb-true, refl, sym, subst, arith}
 use Rattle.std.proofs.lemmas.Bool.{and_parts}
 use Rattle.io_edge.specs.SwapImage.{WritesPage, SpoilsPage}
-use Rattle.io_edge.specs.SwapRuns.{WritesRun, SpoilsRun}
+use Rattle.io_edge.specs.SwapRuns.{WritesPages, SpoilsPages}
 use Rattle.vm_facts.specs.SwapImages.{SwapImage}
 use Rattle.transfer_ring.specs.declared.transfer.Outbound.{Outbound}
 use Rattle.transfer_ring.specs.Sound.{IsBlock, AreBlocks}
@@ -10,8 +10,8 @@ use Rattle.transfer_ring.specs.Parts.{WritesParts, SpoilsParts}
 use Rattle.transfer_ring.specs.Together.{are_together, CopiesOut}
 
 -- no page at all
-pub none_written : (image : Option SwapImage) (block : ℕ) (pages : List (List ℕ)) → pages ≡ [] → WritesRun image block pages image
-none_written image block pages none = subst (λ (ps : List (List ℕ)). WritesRun image block ps image) (sym none) refl
+pub none_written : (image : Option SwapImage) (block : ℕ) (pages : List (List ℕ)) → pages ≡ [] → WritesPages image block pages image
+none_written image block pages none = subst (λ (ps : List (List ℕ)). WritesPages image block ps image) (sym none) refl
 
 -- the first of them is in this block, and those behind it go on two blocks further
 first_at : (block : ℕ) (part : Outbound) (parts : List Outbound) → are_together block (part ∷ parts) ≡ true
@@ -40,7 +40,7 @@ page_written part block page old new at is written =
 
 -- their pages were written, one behind another
 pub parts_written : (block : ℕ) (parts : List Outbound) (pages : List (List ℕ)) (old new : Option SwapImage) → are_together block parts ≡ true
-    → CopiesOut parts pages → WritesRun old block (take (length parts) pages) new → WritesParts parts old new
+    → CopiesOut parts pages → WritesPages old block (take (length parts) pages) new → WritesParts parts old new
 parts_written block [] pages old new together copied run = run
 parts_written block (part ∷ parts) [] old new together copied run = absurd copied
 parts_written block (part ∷ parts) (page ∷ pages) old new together copied run =
@@ -52,7 +52,7 @@ parts_written block (part ∷ parts) (page ∷ pages) old new together copied ru
 
 -- the write of one of their pages failed
 pub parts_spoiled : (block : ℕ) (parts : List Outbound) (pages : List (List ℕ)) (old new : Option SwapImage) → are_together block parts ≡ true
-    → CopiesOut parts pages → SpoilsRun old block (take (length parts) pages) new → SpoilsParts parts old new
+    → CopiesOut parts pages → SpoilsPages old block (take (length parts) pages) new → SpoilsParts parts old new
 parts_spoiled block [] pages old new together copied run = run
 parts_spoiled block (part ∷ parts) [] old new together copied run = absurd copied
 parts_spoiled block (part ∷ parts) (page ∷ pages) old new together copied run =

@@ -5,7 +5,7 @@ ghost use Rattle.transfer_ring.specs.Parts.{WritesParts, SpoilsParts};
 ghost use Rattle.transfer_ring.specs.Together.{are_together, AreTogether, CopiesOut};
 ghost use Rattle.io_edge.specs.Calls.{WritesSwap};
 ghost use Rattle.io_edge.specs.Count.{Counts, OnDone, OnFailed};
-ghost use Rattle.io_edge.specs.SwapRuns.{WritesRun, SpoilsRun};
+ghost use Rattle.io_edge.specs.SwapRuns.{WritesPages, SpoilsPages};
 
 use crate::{Outbound, moving};
 use io_edge::{Moved, SwapDev};
@@ -71,8 +71,8 @@ fn copy_out(parts: &[Outbound], pages: &mut [[u8; 1024]])
 fn write_pages<D: SwapDev>(block: u32, pages: &[[u8; 1024]], swap: &mut D) -> Moved
     requires even { block % 2 ≡ 0 }
     requires inside { block + 2 * length pages.now ≤ D.blocks swap.old }
-    ensures done { OnDone result (WritesRun (D.image swap.old) block pages.now (D.image swap.new)) }
-    ensures failed { OnFailed result (SpoilsRun (D.image swap.old) block pages.now (D.image swap.new)) }
+    ensures done { OnDone result (WritesPages (D.image swap.old) block pages.now (D.image swap.new)) }
+    ensures failed { OnFailed result (SpoilsPages (D.image swap.old) block pages.now (D.image swap.new)) }
     ensures swap { WritesSwap D.SwapDev swap.old swap.new }
     ensures write_faults { Counts result (D.write_faults swap.old) (D.write_faults swap.new) }
 {

@@ -1,6 +1,6 @@
 use Rattle.std.proofs.Common.{◌+◌, ◌*◌, ℕ, List, Option, length, eqb-true, sym, subst, arith}
 use Rattle.std.proofs.lemmas.List.{nil_from_length}
-use Rattle.io_edge.specs.SwapRuns.{WritesRun, SpoilsRun}
+use Rattle.io_edge.specs.SwapRuns.{WritesPages, SpoilsPages}
 use Rattle.io_edge.proofs.PairCalls.{on_done, on_failed}
 use Rattle.io_edge.proofs.RunWrites.{writes_on, spoils_on}
 use Rattle.vm_facts.specs.SwapImages.{SwapImage}
@@ -32,9 +32,9 @@ returns-in-Some-clause-done g t c =
     let mid : Option SwapImage = g.D.SwapDev.image c.write_some.new.self in
     let new : Option SwapImage = g.D.SwapDev.image c.write_pages.new.swap in
     let next : ℕ = c.args.block + 2 * c.in-Some.count in
-    on_done c.write_pages.result (WritesRun mid next c.split_at.result.1.now new) (WritesRun old c.args.block c.args.pages.now new)
+    on_done c.write_pages.result (WritesPages mid next c.split_at.result.1.now new) (WritesPages old c.args.block c.args.pages.now new)
     (λ run. writes_on c.in-Some.count old mid new c.args.block c.args.pages.now c.in-Some.ensures.written.2
-    (subst (λ (ps : List (List ℕ)). WritesRun mid next ps new) c.split_at.ensures.back run)) c.write_pages.ensures.done
+    (subst (λ (ps : List (List ℕ)). WritesPages mid next ps new) c.split_at.ensures.back run)) c.write_pages.ensures.done
 
 pub returns-in-Some-clause-failed : goal.returns-in-Some-clause-failed
 returns-in-Some-clause-failed g t c =
@@ -42,6 +42,6 @@ returns-in-Some-clause-failed g t c =
     let mid : Option SwapImage = g.D.SwapDev.image c.write_some.new.self in
     let new : Option SwapImage = g.D.SwapDev.image c.write_pages.new.swap in
     let next : ℕ = c.args.block + 2 * c.in-Some.count in
-    on_failed c.write_pages.result (SpoilsRun mid next c.split_at.result.1.now new) (SpoilsRun old c.args.block c.args.pages.now new)
+    on_failed c.write_pages.result (SpoilsPages mid next c.split_at.result.1.now new) (SpoilsPages old c.args.block c.args.pages.now new)
     (λ run. spoils_on c.in-Some.count old mid new c.args.block c.args.pages.now c.in-Some.ensures.written.2
-    (subst (λ (ps : List (List ℕ)). SpoilsRun mid next ps new) c.split_at.ensures.back run)) c.write_pages.ensures.failed
+    (subst (λ (ps : List (List ℕ)). SpoilsPages mid next ps new) c.split_at.ensures.back run)) c.write_pages.ensures.failed

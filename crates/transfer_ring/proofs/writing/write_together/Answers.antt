@@ -1,5 +1,5 @@
 use Rattle.std.proofs.Common.{◌≡◌, ℕ, List, Option, length, take, sym, subst, arith}
-use Rattle.io_edge.specs.SwapRuns.{WritesRun, SpoilsRun}
+use Rattle.io_edge.specs.SwapRuns.{WritesPages, SpoilsPages}
 use Rattle.io_edge.proofs.PairCalls.{on_done, on_failed}
 use Rattle.vm_facts.specs.SwapImages.{SwapImage}
 use Rattle.transfer_ring.specs.Parts.{WritesParts, SpoilsParts}
@@ -23,15 +23,15 @@ returns-clause-done g c =
     let old : Option SwapImage = g.D.SwapDev.image c.args.swap.now in
     let new : Option SwapImage = g.D.SwapDev.image c.write_pages.new.swap in
     let front : c.split_at.result.0.now ≡ take (length c.args.parts.now) c.copy_out.new.pages = c.split_at.ensures.front in
-    on_done c.write_pages.result (WritesRun old c.args.block c.split_at.result.0.now new) (WritesParts c.args.parts.now old new)
+    on_done c.write_pages.result (WritesPages old c.args.block c.split_at.result.0.now new) (WritesParts c.args.parts.now old new)
     (λ run. parts_written c.args.block c.args.parts.now c.copy_out.new.pages old new c.requires.together.together c.copy_out.ensures
-    (subst (λ (ps : List (List ℕ)). WritesRun old c.args.block ps new) front run)) c.write_pages.ensures.done
+    (subst (λ (ps : List (List ℕ)). WritesPages old c.args.block ps new) front run)) c.write_pages.ensures.done
 
 pub returns-clause-failed : goal.returns-clause-failed
 returns-clause-failed g c =
     let old : Option SwapImage = g.D.SwapDev.image c.args.swap.now in
     let new : Option SwapImage = g.D.SwapDev.image c.write_pages.new.swap in
     let front : c.split_at.result.0.now ≡ take (length c.args.parts.now) c.copy_out.new.pages = c.split_at.ensures.front in
-    on_failed c.write_pages.result (SpoilsRun old c.args.block c.split_at.result.0.now new) (SpoilsParts c.args.parts.now old new)
+    on_failed c.write_pages.result (SpoilsPages old c.args.block c.split_at.result.0.now new) (SpoilsParts c.args.parts.now old new)
     (λ run. parts_spoiled c.args.block c.args.parts.now c.copy_out.new.pages old new c.requires.together.together c.copy_out.ensures
-    (subst (λ (ps : List (List ℕ)). SpoilsRun old c.args.block ps new) front run)) c.write_pages.ensures.failed
+    (subst (λ (ps : List (List ℕ)). SpoilsPages old c.args.block ps new) front run)) c.write_pages.ensures.failed
