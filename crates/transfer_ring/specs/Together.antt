@@ -7,10 +7,10 @@ abbrev pub are_together : ℕ → List Outbound → Bool
 are_together block [] = true
 are_together block (part ∷ rest) = (part.block == block) && are_together (block + 2) rest
 
--- 1 to 16 parts that are so
-pub record AreTogether (parts : List Outbound) (block : ℕ) : Type 0 where
+-- some parts that are so, for which there is room
+pub record AreTogether (parts : List Outbound) (room block : ℕ) : Type 0 where
   pub some : 0 < length parts
-  pub few : length parts ≤ 16
+  pub few : length parts ≤ room
   pub together : are_together block parts ≡ true
 
 -- the pages of the parts were copied to the front of these pages

@@ -20,6 +20,9 @@ use std::marker::Model;
 use std::mem;
 use vm_facts::{MOST_IN_FLIGHT, NoMemory};
 
+// A transfer has so many pages at most.
+const MOST_PAGES: usize = 16;
+
 /// The transfers in flight; contracts see them as a list, oldest first. At most 16 are.
 ///
 /// Only `new` takes memory. Tokens can't be dropped, so a ring must be emptied and closed.
@@ -31,6 +34,9 @@ pub struct TransferRing {
 
     // The slots that aren't used.
     spare: Vec<u32>,
+
+    // Room for the pages of a write that lie together, one behind another.
+    room: Vec<[u8; 1024]>,
 }
 
 impl Model for TransferRing {
@@ -88,6 +94,7 @@ impl TransferRing {
     pub fn new(alloc: Global) -> Result<TransferRing, NoMemory>
         ensures { IfOk result (λ ring. ring ≡ []) }
     {
+        let room = vec![in alloc; [0; 1024]; MOST_PAGES]?;
         let order = HeapCircularBuffer::with_capacity(alloc, MOST_IN_FLIGHT as usize)?;
         let mut spare = Vec::with_capacity(alloc, MOST_IN_FLIGHT as usize)?;
         let mut slots = Vec::with_capacity(alloc, MOST_IN_FLIGHT as usize)?;
@@ -99,6 +106,7 @@ impl TransferRing {
             slots,
             order,
             spare,
+            room,
         })
     }
 
@@ -177,7 +185,7 @@ impl TransferRing {
         ensures write_faults { CountsWrites result (D.write_faults swap.old) (D.write_faults swap.new) }
     {
         match self.abandon() {
-            Some(transfer) => complete(transfer, files, swap),
+            Some(transfer) => complete(transfer, &mut self.room, files, swap),
             None => Finished::Idle,
         }
     }
@@ -220,6 +228,7 @@ impl TransferRing {
             slots,
             order,
             spare: _,
+            room: _,
         } = self;
         order.destroy_empty();
         end_slots(slots);
@@ -282,7 +291,12 @@ fn is_any_of(slots: &[Option<Transfer>], order: &[u32], owner: Owner) -> bool
 }
 
 // Completes a transfer that was taken out.
-fn complete<F: Files, D: SwapDev>(transfer: Transfer, files: &mut F, swap: &mut D) -> Finished
+fn complete<F: Files, D: SwapDev>(
+    transfer: Transfer,
+    room: &mut [[u8; 1024]],
+    files: &mut F,
+    swap: &mut D,
+) -> Finished
     requires sources { HasSources transfer }
     requires there { IsReachable (F.holds files.old) (D.blocks swap.old) transfer }
     ensures ends { Ends transfer (F.holds files.old) (D.image swap.old) (D.image swap.new) result }
@@ -306,7 +320,7 @@ fn complete<F: Files, D: SwapDev>(transfer: Transfer, files: &mut F, swap: &mut 
             }
         }
         Transfer::Write { parts } => {
-            let moved = writing::write_parts(&parts, swap);
+            let moved = writing::write_parts(&parts, room, swap);
             let transfer = Transfer::Write { parts };
             match moved {
                 Moved::Done => Finished::Done(transfer),

@@ -10,9 +10,6 @@ ghost use Rattle.io_edge.specs.SwapRuns.{WritesPages, SpoilsPages};
 use crate::{Outbound, moving};
 use io_edge::{Moved, SwapDev};
 
-/// A transfer has so many pages at most.
-const MOST_PAGES: usize = 16;
-
 // The block behind the two of a page.
 fn block_behind(block: u32) -> u64
     ensures { result ≡ block + 2 }
@@ -32,14 +29,14 @@ fn are_together(parts: &[Outbound], block: u64) -> bool
     }
 }
 
-// The first block of parts that are in blocks that follow one another, where they are more than one.
-fn first_together(parts: &[Outbound]) -> Option<u32>
-    ensures { IfSome result (AreTogether parts.now) }
+// The first block of parts that are in blocks that follow one another, where they are more than one, and no more than there is room for.
+fn first_together(parts: &[Outbound], room: usize) -> Option<u32>
+    ensures { IfSome result (AreTogether parts.now room) }
 {
     if parts.len() < 2 {
         return None;
     }
-    if parts.len() > MOST_PAGES {
+    if parts.len() > room {
         return None;
     }
     let block = parts.first()?.block;
@@ -87,31 +84,39 @@ fn write_pages<D: SwapDev>(block: u32, pages: &[[u8; 1024]], swap: &mut D) -> Mo
 }
 
 // Writes the pages of parts that are in blocks that follow one another, the first from this one on.
-#[inline(never)]
-fn write_together<D: SwapDev>(parts: &[Outbound], block: u32, swap: &mut D) -> Moved
-    requires together { AreTogether parts.now block }
+fn write_together<D: SwapDev>(
+    parts: &[Outbound],
+    block: u32,
+    room: &mut [[u8; 1024]],
+    swap: &mut D,
+) -> Moved
+    requires together { AreTogether parts.now (length room.old) block }
     requires there { AreBlocks (D.blocks swap.old) parts.now }
     ensures done { OnDone result (WritesParts parts.now (D.image swap.old) (D.image swap.new)) }
     ensures failed { OnFailed result (SpoilsParts parts.now (D.image swap.old) (D.image swap.new)) }
     ensures swap { WritesSwap D.SwapDev swap.old swap.new }
     ensures write_faults { Counts result (D.write_faults swap.old) (D.write_faults swap.new) }
 {
-    let mut pages = [[0; 1024]; MOST_PAGES];
-    copy_out(parts, &mut pages);
-    let (copied, _) = pages.split_at(parts.len());
-    write_pages(block, copied, swap)
+    copy_out(parts, room);
+    let (pages, _) = room.split_at(parts.len());
+    write_pages(block, pages, swap)
 }
 
-/// Writes the pages of all parts in turn, up to the first fault. Those that lie together are handed to the device together.
-pub(crate) fn write_parts<D: SwapDev>(parts: &[Outbound], swap: &mut D) -> Moved
+/// Writes the pages of all parts in turn, up to the first fault. Those that lie together are handed to the device together, where
+/// there is room to put them one behind another.
+pub(crate) fn write_parts<D: SwapDev>(
+    parts: &[Outbound],
+    room: &mut [[u8; 1024]],
+    swap: &mut D,
+) -> Moved
     requires { AreBlocks (D.blocks swap.old) parts.now }
     ensures done { OnDone result (WritesParts parts.now (D.image swap.old) (D.image swap.new)) }
     ensures failed { OnFailed result (SpoilsParts parts.now (D.image swap.old) (D.image swap.new)) }
     ensures swap { WritesSwap D.SwapDev swap.old swap.new }
     ensures write_faults { Counts result (D.write_faults swap.old) (D.write_faults swap.new) }
 {
-    match first_together(parts) {
-        Some(block) => write_together(parts, block, swap),
+    match first_together(parts, room.len()) {
+        Some(block) => write_together(parts, block, room, swap),
         None => moving::write_all(parts, swap),
     }
 }
