@@ -7,6 +7,8 @@ use std::process::Abort;
 pub enum Call {
     Write(u32, u8),
     Read(u32),
+    /// Three pages that lie together, the first from the block on, each with its byte.
+    WriteThree(u32, [u8; 3]),
 }
 
 /// What such a call answers.
@@ -14,6 +16,8 @@ pub enum Call {
 pub enum Answer {
     /// The page was written.
     Written,
+    /// So many pages were written, from the first on.
+    Pages(u32),
     /// The page was read, and all its bytes are this one.
     Filled(u8),
     /// The page was read, and its bytes aren't alike.
@@ -33,6 +37,19 @@ fn written<D: SwapDev>(device: &mut D, block: u32, byte: u8) -> Answer {
     match device.write(block, &[byte; 1024]) {
         Moved::Done => Answer::Written,
         Moved::Failed => Answer::Failed,
+    }
+}
+
+// Writes three pages of a device that lie together.
+fn three_written<D: SwapDev>(device: &mut D, block: u32, bytes: [u8; 3]) -> Answer {
+    let blocks = device.blocks();
+    if block % 2 != 0 || blocks < 6 || block > blocks - 6 {
+        return Answer::Outside;
+    }
+    let [first, second, third] = bytes;
+    match device.write_some(block, &[[first; 1024], [second; 1024], [third; 1024]]) {
+        Some(count) => Answer::Pages(count),
+        None => Answer::Failed,
     }
 }
 
@@ -63,6 +80,7 @@ fn make<D: SwapDev>(device: &mut D, call: Call) -> Answer {
     match call {
         Call::Write(block, byte) => written(device, block, byte),
         Call::Read(block) => read(device, block),
+        Call::WriteThree(block, bytes) => three_written(device, block, bytes),
     }
 }
 

@@ -46,9 +46,13 @@ fn files_are_found_and_read(rt: HostRuntime) {
     are_found_and_read(&rt, &mut files);
 }
 
-static OF_A_DEVICE: [(Call, Answer); 3] = [
+static OF_A_DEVICE: [(Call, Answer); 6] = [
     (Call::Write(2, 5), Answer::Written),
     (Call::Read(4), Answer::Filled(0)),
+    (Call::Read(2), Answer::Filled(5)),
+    // A device in memory writes one page by a call.
+    (Call::WriteThree(0, [6, 7, 8]), Answer::Pages(1)),
+    (Call::Read(0), Answer::Filled(6)),
     (Call::Read(2), Answer::Filled(5)),
 ];
 

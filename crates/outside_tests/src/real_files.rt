@@ -102,17 +102,22 @@ fn grows<R: Abort + rt::Files, D: SwapDev>(
     }
 }
 
-static GROWING: [(Call, Answer, u64); 4] = [
+static GROWING: [(Call, Answer, u64); 5] = [
     (Call::Read(65_534), Answer::Filled(0), 0),
     (Call::Write(2, 1), Answer::Written, 2_048),
     (Call::Write(0, 2), Answer::Written, 2_048),
+    (Call::WriteThree(8, [4, 5, 6]), Answer::Pages(3), 7_168),
     (Call::Write(65_534, 3), Answer::Written, 33_554_432),
 ];
 
-static GROWN: [(Call, Answer); 4] = [
+static GROWN: [(Call, Answer); 8] = [
     (Call::Read(0), Answer::Filled(2)),
     (Call::Read(2), Answer::Filled(1)),
     (Call::Read(4), Answer::Filled(0)),
+    (Call::Read(8), Answer::Filled(4)),
+    (Call::Read(10), Answer::Filled(5)),
+    (Call::Read(12), Answer::Filled(6)),
+    (Call::Read(14), Answer::Filled(0)),
     (Call::Read(65_534), Answer::Filled(3)),
 ];
 
