@@ -20,7 +20,7 @@ use Rattle.kernel_model.specs.ChangeStep.{life_of_proc, space_of_life, gave_back
 use Rattle.kernel_model.specs.Numbers.{Numbered}
 use Rattle.kernel_model.specs.Start.{begin_step}
 use Rattle.kernel_laws.proofs.Flat.Numbered.{has_number, absent_none, below_absent}
-use Rattle.kernel_laws.proofs.Machine.Shapes.{touch_shaped}
+use Rattle.kernel_laws.proofs.Machine.Shapes.{Shaped, touch_shaped}
 use Rattle.kernel_laws.proofs.Machine.Swaps.{with_regs_pid}
 use Rattle.table_steps.specs.Applying.{facts_named, MayAct, IsWholeChange, MayPass}
 use Rattle.table_steps.specs.Calls.{life_in}
@@ -66,6 +66,11 @@ pub page_keeps : (k l : Kernel) (locked : List Page) (at : ℕ) (e : Entry) → 
     → HoldersStand k → HoldersStand l
 page_keeps k l locked at e same is = stand_kept k l (λ n sid h. sym (ap (λ (ps : List Proc). life_at ps n) same) ∙ h)
     (λ sid h. subst (λ (p : Placement). HasSpace p sid) (sym is) (entry_has locked at k.place e sid h))
+
+-- pages that move, and leave each space its shape
+pub shaped_keeps : (k l : Kernel) → l.processes ≡ k.processes → Shaped k.place l.place → HoldersStand k → HoldersStand l
+shaped_keeps k l same shaped = stand_kept k l (λ n sid h. sym (ap (λ (ps : List Proc). life_at ps n) same) ∙ h)
+    (λ sid h. shaped_has k.place l.place sid (shaped.spaces sid) h)
 
 -- a write of a byte
 pub write_keeps : (k : Kernel) (q : Page) (f at byte : ℕ) → HoldersStand k → HoldersStand (write_step k q f at byte)

@@ -71,3 +71,4 @@ pub mod Transfers
 pub mod Holding
 pub mod HoldingSteps
 pub mod WritesGoOn
+pub mod PartSteps

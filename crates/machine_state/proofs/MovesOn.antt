@@ -48,7 +48,7 @@ own_flight : (ns : List ImageNamed) (f : ℕ → ℕ) (hs : Holdings) (size : �
 own_flight ns f hs size (flights.Read demanded parts) book h = absurd h
 own_flight ns f hs size (flights.Write parts) book h = own_blocks hs size parts.items book h
 
-added_sources : (ns : List ImageNamed) (f : ℕ → ℕ) (hs : Holdings) (size : ℕ) (old new : List Flight) → IsBook size hs → AddsWrite hs old new
+pub added_sources : (ns : List ImageNamed) (f : ℕ → ℕ) (hs : Holdings) (size : ℕ) (old new : List Flight) → IsBook size hs → AddsWrite hs old new
     → AreSourced ns f hs size old → AreSourced ns f hs size new
 added_sources ns f hs size old new book (inl e) h = subst (AreSourced ns f hs size) (sym e) h
 added_sources ns f hs size old new book (inr a) h = subst (AreSourced ns f hs size) (sym a.1) (sourced_more ns f hs size old a.0 h (own_flight ns f hs size a.0 book a.2))

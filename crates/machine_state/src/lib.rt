@@ -8,6 +8,7 @@ mod ending;
 mod laws;
 mod machine;
 mod paging;
+mod parts;
 mod places;
 mod starting;
 mod swapping;

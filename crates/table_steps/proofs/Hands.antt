@@ -140,7 +140,7 @@ expired_mark : (ss : List Places) (ts : List SharedText) (f : ℕ) (b c : Bool) 
 expired_mark ss ts f b c (Text i v) e = refl
 expired_mark ss ts f b c _ e = ap changed_named e
 
-expiring : (t : Lists) (q : Page) (f : ℕ) → Known t → (r : Resides t q f)
+pub expiring : (t : Lists) (q : Page) (f : ℕ) → Known t → (r : Resides t q f)
     → Turning t (record t { spaces = map (placed q (places.Frame f false r.changed)) t.spaces }) q f (places.Frame f false r.changed) (Invalid f)
     (mark_of (placement_of t) q)
 expiring t q f k r = record {

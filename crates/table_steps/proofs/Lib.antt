@@ -95,3 +95,4 @@ pub mod GivenUp
 pub mod Passed
 pub mod Hands
 pub mod Moved
+pub mod Parting

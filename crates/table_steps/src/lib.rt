@@ -10,6 +10,7 @@ pub mod joining;
 pub mod landing;
 pub mod launching;
 pub mod notes;
+pub mod parts;
 pub mod places;
 pub mod reading;
 pub mod u_pages;

@@ -2,7 +2,7 @@ use Rattle.std.proofs.Common.{◌≡◌, ◌-◌, ◌<◌, ◌≤◌, ℕ, ◌�
 use Rattle.vm_facts.specs.declared.page.Page.{Page}
 use Rattle.page_model.specs.Conditions.{AtRest}
 use Rattle.page_model.specs.Placement.{state_of, IsThere}
-use Rattle.flat_state.specs.PageNames.{beside, pages_from}
+use Rattle.flat_state.specs.PageNames.{pages_from}
 use Rattle.kernel_tables.specs.View.{placement_of}
 use Rattle.kernel_tables.specs.declared.tables.Tables.{Tables}
 use Rattle.kernel_tables.specs.Machine.{lists_of}
