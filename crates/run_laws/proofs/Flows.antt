@@ -244,7 +244,7 @@ pub spared : (p r : Placement) (rs : List Page) → AllValid p rs → Spares p r
 spared p r rs v s [] k = tt
 spared p r rs v s (t ∷ ts) k = (s t (k t (among_first t ts)) (valid_among p rs t v (k t (among_first t ts))), spared p r rs v s ts (λ q e. k q (among_later q t ts e)))
 
-done_awaits : (A : Inputs) (s : State) (pid : ℕ) → OwnsFrames s.place → Awaits A s pid → Awaits A (after A s entries.Done) pid
+pub done_awaits : (A : Inputs) (s : State) (pid : ℕ) → OwnsFrames s.place → Awaits A s pid → Awaits A (after A s entries.Done) pid
 unfolding after
 done_awaits A s pid o a =
     let r : ProcessRuns A s pid a.now = a.runs in

@@ -151,7 +151,7 @@ are_brought b (t ∷ ts) = go t.errand
 
 -- Paging entries, and notes.
 
-page_is : (A : Inputs) (s : State) (k : Kernel) (image : List ℕ) (read : List (List ℕ)) (u : Entry) → process_of_entry u ≡ None → Stays u
+pub page_is : (A : Inputs) (s : State) (k : Kernel) (image : List ℕ) (read : List (List ℕ)) (u : Entry) → process_of_entry u ≡ None → Stays u
     → page_step k (locked A s) read u ≡ unit_step A s k image read u
 page_is A s k image read (entries.Event line) n y = refl
 page_is A s k image read (entries.Turn p) n y = refl
@@ -167,7 +167,7 @@ page_is A s k image read (entries.SwapOut p) n y = absurd y
 page_is A s k image read (entries.SwapIn p) n y = absurd y
 page_is A s k image read _ n y = absurd cc
 
-image_is : (k : Kernel) (image : List ℕ) (u : Entry) → Stays u → page_image k image u ≡ unit_image k image u
+pub image_is : (k : Kernel) (image : List ℕ) (u : Entry) → Stays u → page_image k image u ≡ unit_image k image u
 image_is k image (entries.SwapOut p) y = absurd y
 image_is k image (entries.SwapIn p) y = absurd y
 image_is k image _ y = refl
@@ -229,16 +229,12 @@ page_room A flat k image u kp = go u
     go (entries.Put q n) = kp.room
     go (entries.Owners a b c d) = kp.room
 
-pub paged_behind : (A : Inputs) (s : State) (k : Kernel) (image : List ℕ) (read : List (List ℕ)) (u : Entry) → IsRun A s → StandsAt A s k image
-    → AreRead (beside_kernel k A.images image s.point.flat) k.place.transfers read → Kind A s u → process_of_entry u ≡ None → Stays u
+-- a unit that takes no process out or in, by what it does to the coupling
+pub goes_behind : (A : Inputs) (s : State) (k : Kernel) (image : List ℕ) (read : List (List ℕ)) (u : Entry) → Placed A s.point.flat s.place s.holdings
+    → StandsAt A s k image → Goes k A.images image s.point.flat (locked A s) read u → process_of_entry u ≡ None → Stays u
     → Behind A (after A s u) (page_step k (locked A s) read u) (page_image k image u)
-paged_behind A s k image read u r at are kind n y =
+goes_behind A s k image read u placed at goes n y =
     let kp : Keeps A s.point.flat k image = at.keeps in
-    let goes : Goes k A.images image s.point.flat (locked A s) read u =
-    kind_goes A s k image read u (record {
-      same = at.place;
-      machine = record { sound = kp.sound; stands = kp.stands; room = kp.room; are = are; coupled = kp.coupled };
-    }) r.placed r.numbers r.texts kind n y in
     let lands : Lands k (page_step k (locked A s) read u) (locked A s) (place_at s u) u = page_lands k (locked A s) (place_at s u) read u n y in
     let was : (m : ℕ) → is_out (Kernel.place (page_step k (locked A s) read u)) m ≡ true → is_out k.place m ≡ true = λ m e.
     elim (entry_out (locked A s) (place_at s u) k.place u m (ap (λ (p : Placement). is_out p m) (sym lands.place) ∙ e)) [
@@ -251,11 +247,22 @@ paged_behind A s k image read u r at are kind n y =
       journal = lands.journal ∙ ap (λ (j : List Entry). append j u) at.journal ∙ sym (after_journal A s u);
       coupled = subst (λ (x : Point). Coupled (page_step k (locked A s) read u) A.images (page_image k image u) x.flat) (sym (plain_point A s u n)) goes.coupled;
       stands = subst (λ (x : Point). Stands A.images (page_step k (locked A s) read u) x.flat) (sym (plain_point A s u n)) goes.stands;
-      frames = goes.tokens ∙ frames_at A s k image r.placed at;
+      frames = goes.tokens ∙ frames_at A s k image placed at;
       room = page_room A s.point.flat k image u kp;
       out_regs = subst (λ (x : Point). OutRegs (Kernel.place (page_step k (locked A s) read u)) x.flat) (sym (plain_point A s u n))
           (outs_kept k.place (Kernel.place (page_step k (locked A s) read u)) s.point.flat was kp.out_regs);
     }
+
+pub paged_behind : (A : Inputs) (s : State) (k : Kernel) (image : List ℕ) (read : List (List ℕ)) (u : Entry) → IsRun A s → StandsAt A s k image
+    → AreRead (beside_kernel k A.images image s.point.flat) k.place.transfers read → Kind A s u → process_of_entry u ≡ None → Stays u
+    → Behind A (after A s u) (page_step k (locked A s) read u) (page_image k image u)
+paged_behind A s k image read u r at are kind n y =
+    let kp : Keeps A s.point.flat k image = at.keeps in
+    goes_behind A s k image read u r.placed at
+    (kind_goes A s k image read u (record {
+      same = at.place;
+      machine = record { sound = kp.sound; stands = kp.stands; room = kp.room; are = are; coupled = kp.coupled };
+    }) r.placed r.numbers r.texts kind n y) n y
 
 -- Notes of a process.
 
@@ -282,9 +289,9 @@ said_is A s k image read _ y = absurd y
 
 -- A process comes in.
 
-in_behind : (A : Inputs) (s : State) (k : Kernel) (image : List ℕ) (pid : ℕ) → IsRun A s → StandsAt A s k image → is_out s.place pid ≡ true
+pub in_behind : (A : Inputs) (s : State) (k : Kernel) (image : List ℕ) (pid : ℕ) → Placed A s.point.flat s.place s.holdings → StandsAt A s k image → is_out s.place pid ≡ true
     → Behind A (after A s (entries.SwapIn pid)) (in_step k pid (regs_in (stored_at image (block_in k.holdings (owners.U pid) 0)))) image
-in_behind A s k image pid r at out =
+in_behind A s k image pid placed at out =
     let kp : Keeps A s.point.flat k image = at.keeps in
     let st : Stands A.images k s.point.flat = kp.stands in
     let regs : Regs = regs_in (stored_at image (block_in k.holdings (owners.U pid) 0)) in
@@ -303,7 +310,7 @@ in_behind A s k image pid r at out =
       coupled = subst (λ (x : Point). Coupled l A.images image x.flat) (sym (plain_point A s (entries.SwapIn pid) refl))
           (in_coupled_any k A.images image s.point.flat pid regs x.0 x.2 here (kp.out_regs pid x.0 here x.2) refl kp.coupled);
       stands = subst (λ (x : Point). Stands A.images l x.flat) (sym (plain_point A s (entries.SwapIn pid) refl)) (in_stands A.images k s.point.flat pid regs st);
-      frames = frames_at A s k image r.placed at;
+      frames = frames_at A s k image placed at;
       room = kp.room;
       out_regs = subst (λ (x : Point). OutRegs l.place x.flat) (sym (plain_point A s (entries.SwapIn pid) refl)) (outs_kept k.place l.place s.point.flat was kp.out_regs);
     }
@@ -348,11 +355,11 @@ out_length size k image pid p d t so li are alive =
     let i = w.within in
     ap (λ (y : Option ℕ). length (store_at image y (u_page p.regs d t))) x.1 ∙ length-put_blocks image (u_page p.regs d t) x.0 (omega arith) (u_length p.regs d t are)
 
-off_behind : (A : Inputs) (s : State) (k : Kernel) (image : List ℕ) (pid : ℕ) → IsRun A s → StandsAt A s k image
+pub off_behind : (A : Inputs) (s : State) (k : Kernel) (image : List ℕ) (pid : ℕ) → Placed A s.point.flat s.place s.holdings → StandsAt A s k image
     → ((p : Proc) → proc_of k pid ≡ Some p → AreRegs p.regs) → is_out s.place pid ≡ false
     → holds_some (process_of s.point.flat pid) ≡ true
     → Behind A (after A s (entries.SwapOut pid)) (out_step k pid) (store_at image (block_in k.holdings (owners.U pid) 0) (u_bytes k (proc_of k pid)))
-off_behind A s k image pid r at given out h =
+off_behind A s k image pid placed at given out h =
     let kp : Keeps A s.point.flat k image = at.keeps in
     let n : Numbered k = kp.numbered in
     let c : Coupled k A.images image s.point.flat = kp.coupled in
@@ -376,7 +383,7 @@ off_behind A s k image pid r at given out h =
       coupled = subst (λ (x : Point). Coupled l A.images behind x.flat) (sym (plain_point A s (entries.SwapOut pid) refl))
           (out_coupled A.swap_blocks k A.images image s.point.flat pid x.proc kp.sound kp.room x.kept x.life are (n.residents pid (ap lives_in x.kept ∙ x.life)) here kp.coupled);
       stands = subst (λ (x : Point). Stands A.images l x.flat) (sym (plain_point A s (entries.SwapOut pid) refl)) (out_stands A.images k s.point.flat pid x.process x.space x.here x.holds kp.stands);
-      frames = frames_at A s k image r.placed at;
+      frames = frames_at A s k image placed at;
       room = subst (λ (n : ℕ). 512 * A.swap_blocks ≤ n) (sym (out_length A.swap_blocks k image pid x.proc (length (slots_of k.place (Data (space_of_life x.proc.life) 0)))
           (length (slots_of k.place (Stack (space_of_life x.proc.life) 0))) kp.sound kp.room are (ap lives_in x.kept ∙ x.life))) kp.room;
       out_regs = subst (λ (x : Point). OutRegs l.place x.flat) (sym (plain_point A s (entries.SwapOut pid) refl)) outs;
@@ -419,13 +426,13 @@ reach_behind A s u l image room st outs x =
 
 -- All units.
 
-given_read : (A : Inputs) (s : State) (k : Kernel) (image : List ℕ) (read : List (List ℕ)) (u : Entry) → IsGiven A s k image read u
+pub given_read : (A : Inputs) (s : State) (k : Kernel) (image : List ℕ) (read : List (List ℕ)) (u : Entry) → IsGiven A s k image read u
     → (u ≡ entries.Done → ⊥) ⊎ ((u ≡ entries.Done) × AreRead (beside_kernel k A.images image s.point.flat) k.place.transfers read)
 given_read A s k image read entries.Done g = inr (refl, g)
 given_read A s k image read _ g = inl (λ e. cc)
 
 -- what was read stands nowhere but at `Done`
-read_unused : (A : Inputs) (s : State) (k : Kernel) (read other : List (List ℕ)) (u : Entry) → (u ≡ entries.Done → ⊥)
+pub read_unused : (A : Inputs) (s : State) (k : Kernel) (read other : List (List ℕ)) (u : Entry) → (u ≡ entries.Done → ⊥)
     → page_step k (locked A s) other u ≡ page_step k (locked A s) read u
 read_unused A s k read other entries.Done n = absurd (n refl)
 read_unused A s k read other _ n = refl
@@ -462,10 +469,10 @@ unit_stands A s k image read u images execs r at h g = go (sort_of A s u r.mark 
     go (Pages n y) = subst (λ (l : Kernel). P l (unit_image k image u)) (page_is A s k image read u n y) (subst (P (page_step k (locked A s) read u)) (image_is k image u y) (paged n y))
     go (GoesIn pid i out) =
         subst (λ (x : Entry). Placed A (after A s x).point.flat (after A s x).place (after A s x).holdings → StandsAt A (after A s x) (unit_step A s k image read x) (unit_image k image x)) (sym i)
-        (λ st. stands_behind A (after A s (entries.SwapIn pid)) (unit_step A s k image read (entries.SwapIn pid)) image st (in_behind A s k image pid r at out)) run.placed
+        (λ st. stands_behind A (after A s (entries.SwapIn pid)) (unit_step A s k image read (entries.SwapIn pid)) image st (in_behind A s k image pid r.placed at out)) run.placed
     go (GoesOff pid i out holds) = subst (λ (x : Entry). IsGiven A s k image read x → Placed A (after A s x).point.flat (after A s x).place (after A s x).holdings
         → StandsAt A (after A s x) (unit_step A s k image read x) (unit_image k image x)) (sym i)
-        (λ given st. stands_behind A (after A s (entries.SwapOut pid)) (out_step k pid) (unit_image k image (entries.SwapOut pid)) st (off_behind A s k image pid r at given out holds)) g run.placed
+        (λ given st. stands_behind A (after A s (entries.SwapOut pid)) (out_step k pid) (unit_image k image (entries.SwapOut pid)) st (off_behind A s k image pid r.placed at given out holds)) g run.placed
     go (Says e y) =
         let x = said_is A s k image read u y in
         subst (λ (l : Kernel). P l (unit_image k image u)) x.0 (subst (P (note_step k u)) x.1 (stands_behind A (after A s u) (note_step k u) image run.placed (said_behind A s k image u r at e)))

@@ -1,0 +1,11 @@
+use hand_parts::HandPart;
+use vm_facts::Entry;
+
+/// A line of a trace with paging lines.
+#[derive(Debug, Drop)]
+pub enum Line {
+    /// One of the kinds that `run` writes.
+    Entry(Entry),
+    /// A part of a move of the hands, alone, which `run` never writes.
+    Part(HandPart),
+}
