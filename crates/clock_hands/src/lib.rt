@@ -14,4 +14,5 @@ mod moving;
 pub use forcing::make_room;
 pub use kluster_io;
 pub use laws::moves_are_asked;
+pub use looking::next_write;
 pub use moving::move_hands;

@@ -82,7 +82,7 @@ pub(crate) fn to_write(m: &Machine, locked: &[Page]) -> Option<Page>
 }
 
 /// The run of the write that the next move begins: its lowest page and its count, which is 0 where it begins none.
-pub(crate) fn next_write(m: &Machine, locked: &[Page]) -> (u32, u32)
+pub fn next_write(m: &Machine, locked: &[Page]) -> (u32, u32)
     requires running { IsRunning m.now }
     requires quarter { 0 < length m.now.kernel.place.holds / 4 }
     ensures { IsRunOf (hand_run m.now.kernel.place locked.now) result.0 result.1 }

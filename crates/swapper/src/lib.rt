@@ -9,7 +9,8 @@ mod putting_out;
 mod seats;
 
 pub use choosing::{choose, turn};
-pub use putting_out::{swap_in, swap_out};
+pub use putting_out::{seated_page, swap_in, swap_out};
+pub use seats::{is_dirty, is_seated};
 
 /// What a turn of the swapper did.
 #[derive(Clone, Copy, Debug, PartialEq, Eq, Drop)]

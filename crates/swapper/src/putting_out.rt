@@ -68,8 +68,8 @@ fn step_for(m: &Machine, sid: u32, page: Page) -> Step
     }
 }
 
-// The first page of a space that is in a frame off the free list.
-fn seated_page(m: &Machine, sid: u32) -> Option<Page>
+/// The first page of a space, data first, that is in a frame off the free list.
+pub fn seated_page(m: &Machine, sid: u32) -> Option<Page>
     requires running { IsRunning m.now }
     requires there { HasSpace m.now.kernel.place sid }
     ensures { result ≡ first_seated m.now.kernel.place (pages_of_space m.now.kernel.place sid) }

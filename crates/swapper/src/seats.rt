@@ -52,7 +52,7 @@ fn is_dirty_seat(core: &CoreMap, place: Place) -> bool
 }
 
 /// Whether a page of the space is in a frame off the free list.
-pub(crate) fn is_seated(core: &CoreMap, space: &SpaceMap, page: Page) -> bool
+pub fn is_seated(core: &CoreMap, space: &SpaceMap, page: Page) -> bool
     ensures { (p : Placement) → ShowsSpace p core.now space.now → IsNamedBy space.now page → result ≡ is_seated p page }
 {
     match space.place(page) {
@@ -62,7 +62,7 @@ pub(crate) fn is_seated(core: &CoreMap, space: &SpaceMap, page: Page) -> bool
 }
 
 /// Whether a page of the space is dirty in a frame off the free list.
-pub(crate) fn is_dirty(core: &CoreMap, space: &SpaceMap, page: Page) -> bool
+pub fn is_dirty(core: &CoreMap, space: &SpaceMap, page: Page) -> bool
     ensures { (p : Placement) → ShowsSpace p core.now space.now → IsNamedBy space.now page → is_seated p page ≡ true
         → result ≡ is_dirty p page }
 {

@@ -1,0 +1,103 @@
+-- The space of a page, or one that shares its text.
+use Rattle.std.proofs.Common.{◌≡◌, ◌≢◌, inl, inr, ℕ, zero, suc, ◌+◌, ◌<◌, ◌≤◌, ◌==◌, nat_lt, Bool, true, false, cond, IsSome, List, [], ◌∷◌, map, length, slice_get, Option, Some, None, is_some, refl, sym, ap, ◌∙◌, if◌then◌else◌, arith}
+use Rattle.std.proofs.lemmas.Bool.{cases_eq}
+use Rattle.std.proofs.lemmas.Bool.Decides.{nat_tests}
+use Rattle.std.proofs.lemmas.Option.{same_Some}
+use Rattle.vm_facts.specs.declared.page.Page.{Page}
+use Rattle.vm_facts.specs.declared.page.Page.TheVariants.{Data, Stack, Text}
+use Rattle.vax_pte.specs.declared.Place.{Place}
+use Rattle.core_map.specs.Frames.{Frames}
+use Rattle.space_map.specs.Space.{Places, place_in}
+use Rattle.proc_table.specs.Records.{Lowest}
+use Rattle.flat_state.specs.Numbers.{IsAbsent, AllDistinct}
+use Rattle.flat_state.specs.PageNames.{number_of}
+use Rattle.page_model.specs.Pages.{SpacePages, numbered}
+use Rattle.page_model.specs.Placement.{Placement, space_number, IsThere, sharers, sharers_in}
+use Rattle.page_model.specs.Conditions.{IsShared}
+use Rattle.page_laws.proofs.Lists.Pages.{numbered_hit, numbered_miss}
+use Rattle.machine_state.specs.Views.{IsNamedBy, ShowsPage, ShowsSpace}
+use Rattle.machine_state.specs.Sharing.{IsSharer}
+
+absent_there : (n : ℕ) (ss : List SpacePages) (m : ℕ) (x : SpacePages) → IsAbsent n (map space_number ss) → numbered space_number m ss ≡ Some x → n ≢ m
+absent_there n [] m x a e h = absurd cc
+absent_there n (s ∷ ss) m x a e h = elim (cases_eq s.sid m) [
+  | inl i ↦ a.0 (i ∙ sym h)
+  | inr d ↦ absent_there n ss m x a.1 (sym (numbered_miss space_number m s ss d) ∙ e) h
+]
+
+shares_hit : (image : ℕ) (s : SpacePages) (ss : List SpacePages) → s.image ≢ image → sharers_in image (s ∷ ss) ≡ sharers_in image ss
+shares_hit image s ss n = grind (arith, nat_tests)
+
+record Sharer (image : ℕ) (ss : List SpacePages) : Type 0 where
+  sid : ℕ
+  space : SpacePages
+  there : numbered space_number sid ss ≡ Some space
+  shares : space.image ≡ image
+
+shared_by : (image : ℕ) (ss : List SpacePages) → AllDistinct (map space_number ss) → 0 < sharers_in image ss → Sharer image ss
+shared_by image [] d l = absurd (omega arith)
+shared_by image (s ∷ ss) d l = elim (cases_eq s.image image) [
+  | inl e ↦ record { sid = s.sid; space = s; there = numbered_hit space_number s.sid s ss refl; shares = e }
+  | inr n ↦
+      let h : Sharer image ss = shared_by image ss d.1 (let a = shares_hit image s ss n in omega arith) in
+      record {
+        sid = h.sid;
+        space = h.space;
+        there = numbered_miss space_number h.sid s ss (absent_there s.sid ss h.sid h.space d.0 h.there) ∙ h.there;
+        shares = h.shares;
+      }
+]
+
+-- text that is shared has a sharer
+pub no_sharer : (p : Placement) (image v : ℕ) → AllDistinct (map space_number p.spaces) → IsShared p (Text image v) → ((sid : ℕ) → IsSharer p image sid → ⊥) → ⊥
+no_sharer p image v d l none =
+    let h : Sharer image p.spaces = shared_by image p.spaces d l in
+    none h.sid (record { space = h.space; there = h.there; shares = h.shares })
+
+-- and text with a sharer is shared
+shared_in : (ss : List SpacePages) (sid image : ℕ) (s : SpacePages) → numbered space_number sid ss ≡ Some s → s.image ≡ image → 0 < sharers_in image ss
+shared_in [] sid image s e h = absurd cc
+shared_in (x ∷ ss) sid image s e h = go (space_number x == sid) e (shared_in ss sid image s)
+  where
+    go : (b : Bool) → cond b (Some x) (numbered space_number sid ss) ≡ Some s → (numbered space_number sid ss ≡ Some s → s.image ≡ image → 0 < sharers_in image ss)
+        → 0 < cond (x.image == image) 1 0 + sharers_in image ss
+    go true f more = let i : x.image ≡ image = ap (λ (y : SpacePages). y.image) (same_Some x s f) ∙ h in grind (arith, nat_tests, i)
+    go false f more = let l = more f h in omega arith
+
+-- so whether there is a sharer says whether it is shared
+pub sharer_says : (p : Placement) (image : ℕ) (o : Option ℕ) → AllDistinct (map space_number p.spaces) → Lowest (IsSharer p image) o
+    → is_some o ≡ nat_lt 0 (sharers p image)
+sharer_says p image (Some sid) d l =
+    let s : IsSharer p image sid = l.0 in let k : 0 < sharers p image = shared_in p.spaces sid image s.space s.there s.shares in grind (arith, nat_tests)
+sharer_says p image None d l = elim (cases_eq (sharers p image) 0) [
+  | inl e ↦ grind (arith, nat_tests, e)
+  | inr n ↦ absurd (no_sharer p image 0 d (let k : 0 < sharers p image = omega (arith, n) in k) l)
+]
+
+-- The numbers of pages that are there.
+
+got_below : (ps : List Place) (v : ℕ) → IsSome (slice_get ps v) → v < length ps
+got_below [] v e = absurd cc
+got_below (x ∷ ps) zero e = omega arith
+got_below (x ∷ ps) (suc v) e = let l = got_below ps v e in omega arith
+
+if_some : (b : Bool) (o : Option Place) → IsSome (if b then o else None) → IsSome o
+if_some true o e = e
+if_some false o e = absurd cc
+
+placed_few : (s : Places) (q : Page) → length s.data ≤ 4096 → length s.stack ≤ 512 → length s.text ≤ 2048 → IsSome (place_in s q) → number_of q ≤ 4096
+placed_few s (Data sid v) a b c e = let l = got_below s.data v (if_some (sid == s.sid) (slice_get s.data v) e) in omega arith
+placed_few s (Stack sid v) a b c e = let l = got_below s.stack v (if_some (sid == s.sid) (slice_get s.stack v) e) in omega arith
+placed_few s (Text image v) a b c e = let l = got_below s.text v (if_some (image == s.image) (slice_get s.text v) e) in omega arith
+
+-- a page that is there has an entry in the map by which it is named
+home_place : (p : Placement) (core : Frames) (s : Places) (q : Page) → ShowsSpace p core s → IsNamedBy s q → IsThere p q → IsSome (place_in s q)
+home_place p core s q shows named there = go (place_in s q) (shows.pages q named)
+  where
+    go : (o : Option Place) → ShowsPage p core.slots q o → IsSome o
+    go None h = absurd (h there)
+    go (Some x) h = refl
+
+pub few_pages : (p : Placement) (core : Frames) (s : Places) (q : Page) → ShowsSpace p core s → IsNamedBy s q → IsThere p q
+    → length s.data ≤ 4096 → length s.stack ≤ 512 → length s.text ≤ 2048 → number_of q ≤ 4096
+few_pages p core s q shows named there a b c = placed_few s q a b c (home_place p core s q shows named there)

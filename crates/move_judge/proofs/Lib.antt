@@ -1,0 +1,4 @@
+pub mod Cans
+pub mod Chosen
+pub mod Homes
+pub mod Recorded

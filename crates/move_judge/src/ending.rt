@@ -1,0 +1,36 @@
+//! The line by which a transfer ends.
+ghost use Rattle.std.specs.Prelude.{◌≡◌, ◌≤◌, IfOk, OnOk, OnErr};
+ghost use Rattle.vm_facts.specs.declared.entry.Entry.TheVariants as entries;
+ghost use Rattle.machine_state.specs.Going.{CanGoOn};
+ghost use Rattle.machine_state.specs.Files.{AreFiles};
+ghost use Rattle.machine_state.specs.Conditions.{HasStopped};
+ghost use Rattle.machine_state.specs.Outside.{stop_of, TransfersPages};
+ghost use Rattle.paged_model.specs.Moves.{done_reason};
+ghost use Rattle.move_judge.specs.Judged.{JudgedThrough};
+
+use io_edge::{Files, SwapDev};
+use machine_state::Machine;
+use paged_model::Reason;
+use vm_facts::Stop;
+
+/// `D`: the oldest transfer in flight ends, through its device.
+pub fn judge_done<F: Files, D: SwapDev>(
+    m: &mut Machine,
+    files: &mut F,
+    swap: &mut D,
+) -> Result<Option<Reason>, Stop>
+    requires ready { CanGoOn m.old }
+    requires area { m.old.params.swap_blocks ≤ D.blocks swap.old }
+    requires files { AreFiles m.old.images (F.holds files.old) }
+    ensures judged { IfOk result (λ reason. reason ≡ done_reason m.old.kernel.place.transfers) }
+    ensures made { IfOk result (JudgedThrough entries.Done (F.holds files.old) (D.image swap.old) (D.image swap.new) m.old m.new) }
+    ensures stop { OnErr result (HasStopped m.old m.new) }
+    ensures outside { TransfersPages F.Files D.SwapDev (stop_of result) files.old files.new swap.old swap.new }
+    ensures goes_on { OnOk result (CanGoOn m.new) }
+{
+    if m.done(files, swap)? {
+        Ok(None)
+    } else {
+        Ok(Some(Reason::NoTransfer))
+    }
+}
