@@ -18,7 +18,7 @@ use Rattle.machine_state.specs.Machine.{Standing}
 use Rattle.machine_state.specs.UserMemory.{CanLend, Wrote, writes_in}
 use Rattle.steady_laws.specs.Callers.{regs_of}
 use Rattle.run_model.specs.State.{State}
-use Rattle.touched_pages.proofs.RunUnitsCalling.{calls_write_none}
+use Rattle.touched_pages.proofs.Covering.{writes_none}
 use Rattle.steady_laws.specs.Ready.{Continues}
 use Rattle.steady_laws.proofs.Running.{continues_from}
 use Rattle.steady_laws.proofs.Entries.{room_continues}
@@ -115,15 +115,7 @@ room_runs A s old new holds i image pid now p x o r =
       told = r.told;
     })
 
--- An instruction that isn't carried out, or makes a call, writes nothing.
-pub writes_none : (memory : Answers) (before : Regs) (r : Result Effect Refused) → run memory (instruction before) ≡ r → answer_of r ≢ steps.Done
-    → writes_of r ≡ []
-writes_none memory before (Err refused) e d = refl
-writes_none memory before (Ok effect) e d = go effect.call refl
-  where
-    go : (o : Option ℤ) → effect.call ≡ o → effect.writes ≡ []
-    go None c = absurd (d (ap answer_of_call c))
-    go (Some number) c = calls_write_none memory before effect number e c
+-- Where an instruction isn't carried out, or makes a call, the machine stays.
 
 pub wrote_none : (old new : Standing) (sid : ℕ) (memory : Answers) (before : Regs) → Wrote old sid (writes_of (run memory (instruction before))) new
     → answer_of (run memory (instruction before)) ≢ steps.Done → new ≡ old

@@ -37,9 +37,10 @@ use Rattle.run_model.specs.State.{State}
 use Rattle.run_model.specs.Wanted.{wanted, touched_next}
 use Rattle.run_model.proofs.Wanting.{wanted_none}
 use Rattle.touched_pages.proofs.Flows.{runs_next}
+use Rattle.touched_pages.specs.Leads.{MadeAs}
 use Rattle.touched_pages.specs.RunUnitsTouching.{MakesNone, IsWhole, IsReadyFor}
 use Rattle.touched_pages.proofs.Instructing.{hit_ready, miss_wanted}
-use Rattle.touched_pages.proofs.Stepping.{step_known, none_asked}
+use Rattle.touched_pages.proofs.Stepping.{step_known, ran_made, none_asked}
 use Rattle.touched_pages.proofs.Units.{none_leads}
 use Rattle.step_units.specs.Machines.{MakesCall}
 use Rattle.step_units.specs.Running.{WaitsForPage}
@@ -62,7 +63,7 @@ module _ (A : Inputs) (s : State) (m : Standing) (holds : Option (List NamedFile
   regs = same ∙ regs_is m.kernel pid p x (is_kept A s m.kernel image pid now p x r.on.machine.at r.on.running)
 
   -- the instruction is that of the flat process, over what its space answers
-  own : run (own_answers m pid) (instruction before) ≡ run (kernel_answers m.kernel x.sid) (instruction p.regs)
+  pub own : run (own_answers m pid) (instruction before) ≡ run (kernel_answers m.kernel x.sid) (instruction p.regs)
   own = ap (λ (n : ℕ). run (kernel_answers m.kernel n) (instruction before)) space ∙ ap (λ (g : Regs). run (kernel_answers m.kernel x.sid) (instruction g)) regs
 
   told : (n : ℕ) (l : Kernel) → StepLeads A s m.kernel image n l (Some image) → StepLeads A s m.kernel image n l i
@@ -143,6 +144,22 @@ module _ (A : Inputs) (s : State) (m : Standing) (holds : Option (List NamedFile
         y.unwanted,
         begins A s m.kernel image pid now p x step (entries.Ran pid 1) [] m.kernel.holdings r.on.machine.at r.on.running r.on.between is first (none_asked A.swap_blocks m.kernel).0
             (none_lost A s pid now p x step r.on.running is refl),
+      )
+
+  -- and it is the unit of that entry
+  pub instruction_is : (l : Kernel) (effect : Effect) → run (own_answers m pid) (instruction before) ≡ Ok effect → effect.call ≡ None
+      → l ≡ ran_by (writes_in m.kernel (space_of_pid m.kernel pid) effect.writes) pid effect.regs (entries.Ran pid 1)
+      → (wanted A s ≡ None) × (act A s pid ≡ Some (entries.Ran pid 1)) × MadeAs A s m.kernel image (entries.Ran pid 1) l (Some image)
+  instruction_is l effect e none h =
+      let y : IsReadyFor A s p x (Ok effect) = ready (Ok effect) e (subst (λ (o : Option ℤ). MakesNone o) (sym none) tt) in
+      let step : Step = step_with A.images s.point.flat p (entries.Ran p.pid 1 ∷ []) effect.writes effect.regs changes.Keep in
+      let is : step_at A s.point pid ≡ step =
+      step_known A s pid now p x (Ok effect) r.on.running y ∙ ap (step_behind A.images s.point.flat p x (is_refused s.point.last pid) effect) none in
+      let n = next effect e none in (
+        n.0,
+        n.1,
+        ran_made A s m.kernel l image pid now p x step r.on.machine.at r.on.running is
+            (h ∙ ap (λ (k : ℕ). ran_by (writes_in m.kernel k effect.writes) pid effect.regs (entries.Ran pid 1)) space),
       )
 
   -- where the journal has no room for it the run stops there

@@ -76,7 +76,8 @@ pub fn begun_steps_are_told()
     ensures none { NoneIsBetween }
 {}
 
-fn pid_of(begun: Begun) -> u32
+/// The process whose step is begun.
+pub fn pid_of(begun: Begun) -> u32
     ensures { result ≡ pid_of begun }
 {
     match begun {

@@ -12,7 +12,8 @@ mod serving;
 mod stretch;
 
 pub use advancing::Patience;
+pub use attempting::{attempt_cached, completes};
 pub use choosing::{can_step, next_turned, ready_regs};
-pub use finishing::{Begun, begun_step, begun_steps_are_told, finish_step};
+pub use finishing::{Begun, begun_step, begun_steps_are_told, finish_step, pid_of};
 pub use running::run;
 pub use user_step::DecodeCache;

@@ -101,7 +101,7 @@ process_out : (A : Inputs) (s : State) (pid : ℕ) (u : Entry) (n : ℕ) → is_
 process_out A s pid u n e =
     step_out (facts_of A.images) s.point.flat pid (place_at s u) (pages_written s.point.flat pid (step_at A s.point pid)) (step_at A s.point pid).change s.place n e
 
-out_before : (A : Inputs) (s : State) (u : Entry) (n : ℕ) → (Leaver u n → ⊥) → is_out (after A s u).place n ≡ true → is_out s.place n ≡ true
+pub out_before : (A : Inputs) (s : State) (u : Entry) (n : ℕ) → (Leaver u n → ⊥) → is_out (after A s u).place n ≡ true → is_out s.place n ≡ true
 unfolding after
 out_before A s (entries.Event line) n f e = e
 out_before A s (entries.Turn p) n f e = e

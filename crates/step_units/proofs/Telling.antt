@@ -127,7 +127,7 @@ head_last A point pid u h = go (due_at A point pid) (can_step point.flat pid) h
 last_at : (A : Inputs) (point : Point) (q pid : ℕ) (u : Entry) → Some q ≡ Some pid → next_of_step A point pid ≡ Some u → (point_after A point q).last ≡ Some u
 last_at A point q pid u e h = ap (λ (n : ℕ). (point_after A point n).last) (same_Some q pid e) ∙ head_last A point pid u h
 
-last_is : (A : Inputs) (s : State) (pid : ℕ) (u : Entry) → next_of_step A s.point pid ≡ Some u → process_of_entry u ≡ Some pid
+pub last_is : (A : Inputs) (s : State) (pid : ℕ) (u : Entry) → next_of_step A s.point pid ≡ Some u → process_of_entry u ≡ Some pid
     → (after A s u).point.last ≡ Some u
 unfolding after
 last_is A s pid (entries.Ran q n) h e = last_at A s.point q pid (entries.Ran q n) e h

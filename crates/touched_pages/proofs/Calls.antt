@@ -59,3 +59,17 @@ module _ (known : List NamedImage) (F : FlatState) (p : Process) (s : Space) (me
       → call ≡ call_of number → IfOk r (λ byte. byte ≡ missed_by_call known F p s memory after call) → IfOk r (λ byte. byte ≡ first_missed known F p s memory regs)
   call_missed number call after r e g names h =
       subst (λ (o : Option ℕ). IfOk r (λ byte. byte ≡ o)) (ap (missed_by_call known F p s memory after) names ∙ step_called (run memory (instruction regs)) number after e g) h
+
+  -- none misses where the instruction is carried out
+  pub done_missed : answer_of (run memory (instruction regs)) ≡ steps.Done → None ≡ first_missed known F p s memory regs
+  done_missed e = go (run memory (instruction regs)) e
+    where
+      by_call : (after : Regs) (o : Option ℤ) → answer_of_call o ≡ steps.Done → None ≡ missed_behind_by known F p s memory after o
+      by_call after None d = refl
+      by_call after (Some number) d = absurd cc
+
+      go : (r : Result Effect Refused) → answer_of r ≡ steps.Done → None ≡ missed_behind known F p s memory r
+      go (Ok effect) d = by_call effect.regs effect.call d
+      go (Err (Miss a w)) d = absurd cc
+      go (Err (Below a)) d = absurd cc
+      go (Err (Signal n)) d = absurd cc

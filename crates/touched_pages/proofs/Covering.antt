@@ -1,5 +1,5 @@
 -- A memory of which some pages alone are shown misses, or answers as before.
-use Rattle.std.proofs.Common.{◌≡◌, ◌⊎◌, inl, inr, ℕ, Bool, true, false, List, [], refl, sym, ap, ◌∙◌}
+use Rattle.std.proofs.Common.{◌≡◌, ◌≢◌, ◌⊎◌, ◌↔◌, inl, inr, ℕ, ℤ, Bool, true, false, List, [], Option, Some, None, Result, Ok, Err, refl, sym, ap, ◌∙◌}
 use Rattle.vm_facts.specs.Answers.{Answers, ByteWrite}
 use Rattle.vm_facts.specs.declared.memory.ByteRead.TheVariants as reads
 use Rattle.vm_facts.specs.declared.memory.MayWrite.{MayWrite}
@@ -7,8 +7,11 @@ use Rattle.vm_facts.specs.declared.memory.MayWrite.TheVariants as tests
 use Rattle.vm_facts.specs.declared.page.Page.{Page}
 use Rattle.vm_facts.specs.declared.regs.Regs.{Regs}
 use Rattle.user_vax.specs.Program.{run}
+use Rattle.user_vax.specs.Effects.{Effect}
 use Rattle.user_vax.specs.Laws.{Covers}
-use Rattle.user_vax.specs.Instruction.{instruction, writes_of}
+use Rattle.user_vax.specs.Instruction.{instruction, answer_of, answer_of_call, writes_of}
+use Rattle.user_vax.specs.declared.refused.Refused.{Refused}
+use Rattle.user_vax.specs.declared.stepped.Stepped.TheVariants as steps
 use Rattle.user_vax.proofs.Order.{same_or_misses}
 use Rattle.page_model.specs.Placement.{Placement}
 use Rattle.std.specs.Borrow.{MutBor}
@@ -20,8 +23,9 @@ use Rattle.machine_state.specs.Machine.{Standing}
 use Rattle.machine_state.specs.UserMemory.{page_in, kernel_answers, writes_in}
 use Rattle.dry_run.specs.Slots.{may_where}
 use Rattle.flat_model.specs.Shown.{is_shown, read_where}
+use Rattle.fault_fill.specs.Growth.{space_of_pid}
+use Rattle.run_units.proofs.Calling.{calls_write_none}
 use Rattle.touched_pages.specs.Shown.{only, shown_in, WroteShown}
-use Rattle.touched_pages.specs.Missed.{WritesNothing}
 
 -- it misses, or answers as another one that is answered so
 pub only_covers : (p : Placement) (sid : ℕ) (pages : List Page) (memory flat : Answers) → Covers memory flat → Covers (only p sid pages memory) flat
@@ -55,13 +59,31 @@ still_quiet k sid pages regs h =
       | inr m ↦ ap writes_of m.2
     ]
 
+-- so it is in the space that the process holds
 pub quiet_step : (old n : Standing) (pid sid : ℕ) (pages : List Page) (regs : Regs) → n ≡ old → life_in old.kernel pid ≡ HoldsSpace sid
-    → WritesNothing old.kernel pid regs
+    → writes_of (run (shown_in old.kernel (space_of_pid old.kernel pid) pages) (instruction regs)) ≡ []
     → writes_of (run (shown_in n.kernel sid pages) (instruction regs)) ≡ []
 quiet_step old n pid sid pages regs same holds quiet =
-    still_quiet n.kernel sid pages regs
-    (ap (λ (s : Standing). writes_of (run (kernel_answers s.kernel sid) (instruction regs))) same
-    ∙ ap (λ (i : ℕ). writes_of (run (kernel_answers old.kernel i) (instruction regs))) (sym (ap space_of_life holds)) ∙ quiet)
+    ap (λ (s : Standing). writes_of (run (shown_in s.kernel sid pages) (instruction regs))) same
+    ∙ ap (λ (i : ℕ). writes_of (run (shown_in old.kernel i pages) (instruction regs))) (sym (ap space_of_life holds)) ∙ quiet
+
+-- an instruction that isn't carried out, or makes a call, writes nothing
+pub writes_none : (memory : Answers) (before : Regs) (r : Result Effect Refused) → run memory (instruction before) ≡ r → answer_of r ≢ steps.Done
+    → writes_of r ≡ []
+writes_none memory before (Err refused) e d = refl
+writes_none memory before (Ok effect) e d = go effect.call refl
+  where
+    go : (o : Option ℤ) → effect.call ≡ o → effect.writes ≡ []
+    go None c = absurd (d (ap answer_of_call c))
+    go (Some number) c = calls_write_none memory before effect number e c
+
+pub any_quiet : (old n : Standing) (pid : ℕ) (pages : List Page) (regs : Regs) (done : Bool) → n ≡ old → done ≡ false
+    → ((done ≡ true) ↔ (answer_of (run (shown_in old.kernel (space_of_pid old.kernel pid) pages) (instruction regs)) ≡ steps.Done))
+    → writes_of (run (shown_in n.kernel (space_of_pid n.kernel pid) pages) (instruction regs)) ≡ []
+any_quiet old n pid pages regs done same undone value =
+    let memory : Answers = shown_in old.kernel (space_of_pid old.kernel pid) pages in
+    ap (λ (s : Standing). writes_of (run (shown_in s.kernel (space_of_pid s.kernel pid) pages) (instruction regs))) same
+    ∙ writes_none memory regs (run memory (instruction regs)) refl (λ d. absurd (let z : true ≡ false = sym (value.1 d) ∙ undone in cc))
 
 -- where nothing is written the machine after the reference is as before
 pub kept_through : (old : Standing) (m n : MutBor Standing) (l k : Layout) (ps qs : List Page) (ws : List ByteWrite) → WroteShown m l ps ws n k qs

@@ -26,9 +26,9 @@ use Rattle.flat_model.specs.Step.{written_process}
 use Rattle.flat_model.specs.Touched.{page_of_access, step_accesses, distinct, touched, touched_by, touched_in, touched_if}
 use Rattle.run_units.proofs.FlatLawsAsking.{own_space}
 use Rattle.run_model.specs.State.{State}
-use Rattle.run_model.specs.Wanted.{touched_next, locked_by, locked, AllValid}
+use Rattle.run_model.specs.Wanted.{touched_next, locked_by, locked, wanted, AllValid}
 use Rattle.run_model.specs.Snapshot.{before_absent}
-use Rattle.run_model.proofs.Wanting.{split_before, all_before}
+use Rattle.run_model.proofs.Wanting.{split_before, all_before, splits_wanted, all_unwanted}
 use Rattle.run_units.specs.Machine.{Keeps}
 use Rattle.run_units.specs.Standing.{IsText, HasText}
 use Rattle.run_units.proofs.Flows.{on_running, on_steps}
@@ -59,7 +59,7 @@ held_is A s k image pid now p x at r =
     let outline : outline_kept kept.0 ≡ outline_of p = outline_at k.processes flat.processes tables.processes pid kept.0 p kept.1 found.1 in
     ap space_of_life (ap life_of_proc kept.1 ∙ ap (λ (o : Outline). o.life) outline ∙ ap life_of r.holds)
 
-frames_cover : (A : Inputs) (s : State) (k : Kernel) (image : SwapImage) (pid : ℕ) (now : Bool) (p : Process) (x : Space) → At A s k image
+pub frames_cover : (A : Inputs) (s : State) (k : Kernel) (image : SwapImage) (pid : ℕ) (now : Bool) (p : Process) (x : Space) → At A s k image
     → IsRunning A s pid now p x
     → Covers (kernel_answers k x.sid) (answers_of x)
 frames_cover A s k image pid now p x at r = memory_covers A.images k image.bytes flat x keeps.coupled keeps.stands.texts own (text.same ∙ sym (ap image_text text.image))
@@ -210,6 +210,24 @@ module _ (A : Inputs) (s : State) (now : Bool) (m : Standing) (pid : ℕ) (regs 
       go None w z = sym (ap (before_absent k.place) w ∙ all_before k.place ps h.valid)
       go (Some o) w z = ended o w (is_valid (state_of k.place o)) refl z
 
+  -- and the page beyond them is the one that is wanted
+  pub wanted_so_far : (ps : List Page) → AreSoFar ps → None ≡ valid_only k.place (beyond_so_far ps) → beyond_so_far ps ≡ wanted A s
+  wanted_so_far ps h e = go (beyond_so_far ps) (beyond ps h) e
+    where
+      there : AllValid s.place ps
+      there = subst (λ (y : Placement). AllValid y ps) place h.valid
+
+      ended : (o : Page) → ((rest : List Page) × (distinct all_pages ≡ ps ++ o ∷ rest)) × AreFirst (ps ++ o ∷ []) all_pages → (b : Bool) → is_valid (state_of k.place o) ≡ b → None ≡ valid_by b o
+          → Some o ≡ wanted A s
+      ended o w true v z = absurd cc
+      ended o w false v z =
+          sym (splits_wanted A s ps o r.running.runs.clear
+          (record { behind = w.0.0; whole = touched_pages ∙ w.0.1; valid = there; absent = subst (λ (y : Placement). is_valid (state_of y o) ≡ false) place v }))
+
+      go : (o : Option Page) → Beyond ps o → None ≡ valid_only k.place o → o ≡ wanted A s
+      go None w z = sym (all_unwanted A s r.running.runs.clear (subst (AllValid s.place) (sym (touched_pages ∙ w)) there))
+      go (Some o) w z = ended o w (is_valid (state_of k.place o)) refl z
+
   -- they are never more than an instruction touches
   pub few_so_far : (ps : List Page) → AreSoFar ps → length ps ≤ 28
   few_so_far ps h =
@@ -232,3 +250,22 @@ module _ (A : Inputs) (s : State) (now : Bool) (m : Standing) (pid : ℕ) (regs 
       (subst (λ (pages : List Page). AreNamed A.images n.images
       → o ≡ valid_only n.kernel.place (page_missed n.kernel pid (first_missed A.images F y z (shown_in n.kernel (space_of_pid n.kernel pid) pages) regs)))
       list (h F y z))) r.named
+
+  -- the same, of the page beyond them, whether it is valid or not
+  pub sought_so_far : (n : Standing) (ps qs : List Page) (o : Option Page) → n ≡ m → qs ≡ ps
+      → ((F : FlatState) (y : Process) (z : Space) → AreNamed A.images n.images
+      → o ≡ page_missed n.kernel pid (first_missed A.images F y z (shown_in n.kernel (space_of_pid n.kernel pid) qs) regs))
+      → o ≡ beyond_so_far ps
+  sought_so_far n ps qs o same list h =
+      let F : FlatState = apply_writes flat p.pid (writes ps) in
+      let y : Process = written_process p x (writes ps) in
+      let z : Space = puts x (writes ps) in
+      (subst (λ (i : Standing). AreNamed A.images i.images
+      → o ≡ page_missed i.kernel pid (first_missed A.images F y z (shown_in i.kernel (space_of_pid i.kernel pid) ps) regs)) same
+      (subst (λ (pages : List Page). AreNamed A.images n.images
+      → o ≡ page_missed n.kernel pid (first_missed A.images F y z (shown_in n.kernel (space_of_pid n.kernel pid) pages) regs))
+      list (h F y z))) r.named
+
+  pub kept_so_far : (n : Standing) (ps : List Page) (o v : Option Page) → n ≡ m → o ≡ beyond_so_far ps → v ≡ valid_only n.kernel.place o
+      → v ≡ valid_only k.place (beyond_so_far ps)
+  kept_so_far n ps o v same e is = is ∙ ap (λ (i : Standing). valid_only i.kernel.place o) same ∙ ap (valid_only k.place) e

@@ -3,9 +3,11 @@
 #![tactic(auto)]
 
 mod calling;
+mod seeking;
 mod shown;
 mod touched;
 mod touching;
 
+pub use seeking::{Touches, touched_and_wanted};
 pub use touched::Touched;
 pub use touching::touched_before;

@@ -1,7 +1,7 @@
 //! The pages that an instruction touches, one after another.
-ghost use Rattle.std.specs.Prelude.{◌≡◌, ◌≤◌, Bool, false, List, length, Some, IfOk};
+ghost use Rattle.std.specs.Prelude.{◌≡◌, ◌≤◌, Bool, false, List, [], length, Some, IfOk};
 ghost use Rattle.user_vax.specs.Program.{run};
-ghost use Rattle.user_vax.specs.Instruction.{instruction, answer_of, registers_after};
+ghost use Rattle.user_vax.specs.Instruction.{instruction, answer_of, registers_after, writes_of};
 ghost use Rattle.flat_state.specs.Flat.{NamedImage, FlatState, Process, Inputs};
 ghost use Rattle.flat_state.specs.Space.{Space};
 ghost use Rattle.page_model.specs.Pages.{is_valid};
@@ -26,11 +26,11 @@ use user_step::step;
 use user_vax::{Refused, Stepped};
 use vm_facts::{NoMemory, Page, PageState, Regs};
 
-// What an instruction that writes nothing comes to where these pages alone are shown.
+// What an instruction comes to where these pages alone are shown, and it writes nothing.
 fn try_step(m: &mut Machine, pid: u32, regs: &mut Regs, pages: &[Page]) -> Stepped
     requires ready { CanGoOn m.old }
     requires lends { CanLend m.old.kernel pid }
-    requires quiet { WritesNothing m.old.kernel pid regs.old }
+    requires quiet { writes_of (run (shown_in m.old.kernel (space_of_pid m.old.kernel pid) pages.now) (instruction regs.old)) ≡ [] }
     ensures answer { result ≡ answer_of (run (shown_in m.old.kernel (space_of_pid m.old.kernel pid) pages.now) (instruction regs.old)) }
     ensures registers { regs.new ≡ registers_after regs.old (run (shown_in m.old.kernel (space_of_pid m.old.kernel pid) pages.now) (instruction regs.old)) }
     ensures same { m.new ≡ m.old }
@@ -72,9 +72,9 @@ fn missed_by_call(
     }
 }
 
-// The first byte that misses in what an instruction reads or tests where these pages alone are shown, or else in what
-// its call reads.
-fn first_missed(
+/// The first byte that misses in what an instruction reads or tests where these pages alone are shown, or else in what
+/// its call reads. The instruction writes nothing then.
+pub fn first_missed(
     alloc: Global,
     m: &mut Machine,
     pid: u32,
@@ -83,7 +83,7 @@ fn first_missed(
 ) -> Result<Option<u32>, NoMemory>
     requires ready { CanGoOn m.old }
     requires lends { CanLend m.old.kernel pid }
-    requires quiet { WritesNothing m.old.kernel pid regs.now }
+    requires quiet { writes_of (run (shown_in m.old.kernel (space_of_pid m.old.kernel pid) pages.now) (instruction regs.now)) ≡ [] }
     ensures value { (known : List NamedImage) (F : FlatState) (p : Process) (s : Space) → AreNamed known m.old.images
         → IfOk result (λ byte. byte ≡ first_missed known F p s (shown_in m.old.kernel (space_of_pid m.old.kernel pid) pages.now) regs.now) }
     ensures same { m.new ≡ m.old }
@@ -98,8 +98,8 @@ fn first_missed(
     }
 }
 
-// The page of an address of a process.
-fn page_at(m: &mut Machine, pid: u32, address: u32) -> Option<Page>
+/// The page of an address of a process.
+pub fn page_at(m: &mut Machine, pid: u32, address: u32) -> Option<Page>
     requires ready { CanGoOn m.old }
     requires lends { CanLend m.old.kernel pid }
     ensures page { result ≡ page_in m.old.kernel.place (space_of_pid m.old.kernel pid) address }
@@ -141,8 +141,8 @@ fn is_valid(m: &Machine, page: Page) -> bool
     matches!(m.state_of(page), Some(PageState::Valid(_)))
 }
 
-// A page, where it is valid.
-fn valid_only(m: &Machine, page: Option<Page>) -> Option<Page>
+/// A page, where it is valid.
+pub fn valid_only(m: &Machine, page: Option<Page>) -> Option<Page>
     requires { IsRunning m.now }
     ensures { result ≡ valid_only m.now.kernel.place page }
 {

@@ -7,7 +7,12 @@ use Rattle.fault_fill.specs.Growth.{space_of_pid}
 use Rattle.touched_pages.specs.Shown.{shown_in}
 use Rattle.touched_pages.specs.Missed.{first_missed, page_missed}
 use Rattle.touched_pages.proofs.Beginning.{first_page}
+use Rattle.touched_pages.proofs.Covering.{still_quiet}
 use Rattle.touched_pages.proofs.touching.next_page.Goals as goal
+
+pub first_missed-requires-clause-quiet : goal.first_missed-requires-clause-quiet
+first_missed-requires-clause-quiet c =
+    still_quiet c.args.m.now.kernel (space_of_pid c.args.m.now.kernel c.args.pid) c.args.pages.now c.args.regs.now c.requires.quiet
 
 pub returns-then-is_empty-clause-value : goal.returns-then-is_empty-clause-value
 returns-then-is_empty-clause-value c = λ known F p s named.
