@@ -5,6 +5,7 @@ pub use Rattle.run_laws.proofs.Finishing
 pub use Rattle.proc_run.proofs.Ready
 pub use Rattle.proc_run.proofs.Marks
 pub use Rattle.proc_run.proofs.BegunTold
+pub use Rattle.run_start.proofs.Led
 pub mod Pieces
 pub mod Accounts
 pub mod Steadying

@@ -7,6 +7,9 @@ pub use Rattle.proc_run.specs.Runs
 pub use Rattle.proc_run.specs.Running
 pub use Rattle.proc_run.specs.Rests
 pub use Rattle.proc_run.specs.declared.finishing.Begun
+pub use Rattle.run_start.specs.Leading
+pub use Rattle.run_start.specs.Stepped
+pub use Rattle.run_start.specs.declared.starting.Started
 pub mod Steady
 pub mod Accounts
 pub mod Lines

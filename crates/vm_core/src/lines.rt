@@ -16,7 +16,7 @@ ghost use Rattle.proc_run.specs.Runs.{IsSteady};
 ghost use Rattle.vm_core.specs.Steady.{StaysSteady};
 ghost use Rattle.vm_core.specs.Lines.{LineAt};
 
-use crate::owners::owners;
+use crate::owners::owners_of;
 use io_edge::{Files, SwapDev};
 use journal_laws::clock_hands::move_hands;
 use machine_state::Machine;
@@ -112,6 +112,6 @@ pub fn audit(m: &mut Machine) -> Result<(), Stop>
     ensures cause { OnErr result ((result ≡ Err Stop.JournalFull) ⊎ (result ≡ Err Stop.NoMemory)) }
     ensures kept { IfErr result (KeptAtStop m.old m.new) }
 {
-    let entry = owners(m);
+    let entry = owners_of(m);
     note(m, entry)
 }

@@ -20,7 +20,7 @@ fn blocks_held(holdings: &[Held], _size: u32) -> u32
 }
 
 /// The numbers of frames that are free, in use off the free list, and in transfers, and of blocks that are held.
-pub(crate) fn owners(m: &Machine) -> Entry
+pub fn owners_of(m: &Machine) -> Entry
     requires ready { CanGoOn m.now }
     ensures { result ≡ owners_of m.now.kernel.place m.now.kernel.holdings }
 {

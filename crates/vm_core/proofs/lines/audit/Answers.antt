@@ -14,7 +14,7 @@ pub returns-clause-made : goal.returns-clause-made
 returns-clause-made c holds i =
     let old = c.args.m.now in
     on_ok_weaker c.note.result
-    (λ k. audit_makes old c.note.new.m holds i (k ∙ ap (λ (e : Entry). note_step old.kernel e) c.owners-entry.ensures))
+    (λ k. audit_makes old c.note.new.m holds i (k ∙ ap (λ (e : Entry). note_step old.kernel e) c.owners_of-entry.ensures))
     c.note.ensures.step
 
 pub returns-clause-stops : goal.returns-clause-stops

@@ -1,0 +1,14 @@
+mod Joining
+mod Along
+mod Staying
+mod Moving
+mod Parting
+mod Repeating
+mod Widening
+mod Looping
+mod Telling
+mod Tracing
+mod Counting
+mod Beginning
+mod Verdicting
+mod Opening

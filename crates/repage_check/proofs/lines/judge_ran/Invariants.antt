@@ -1,0 +1,20 @@
+use Rattle.std.proofs.Common.{◌≡◌, ◌-◌, ◌≤◌, []}
+use Rattle.vm_facts.specs.declared.entry.Entry.TheVariants as entries
+use Rattle.flat_state.specs.Journal.{repeated}
+use Rattle.unit_judge.specs.StepUnitsStepped.{AtSome, LeadsFrom}
+use Rattle.unit_judge.specs.Past.{PastAt}
+use Rattle.repage_check.specs.Lines.{GoesBy}
+use Rattle.repage_check.proofs.Along.{AlongUnits}
+use Rattle.repage_check.proofs.lines.judge_ran.Given as goal
+
+abbrev pub invariant-loop-done : goal.invariant-loop-done
+invariant-loop-done g l = record {
+  told : LeadsFrom (PastAt l.fn.past l.fn.m (g.F.Files.holds l.fn.files) (g.D.SwapDev.image l.fn.swap))
+      (AlongUnits (repeated (entries.Ran l.pid 1) l.times []) (repeated (entries.Ran l.pid 1) (l.times - l.done) []) l.past l.m (g.F.Files.holds l.fn.files)
+      (g.D.SwapDev.image l.swap));
+  at : AtSome (PastAt l.past l.m (g.F.Files.holds l.fn.files) (g.D.SwapDev.image l.swap));
+  on : GoesBy (repeated (entries.Ran l.pid 1) l.done []) l.fn.m l.m;
+  lines : l.past.lines ≤ l.fn.past.lines;
+  holds : g.F.Files.holds l.files ≡ g.F.Files.holds l.fn.files;
+  blocks : g.D.SwapDev.blocks l.swap ≡ g.D.SwapDev.blocks l.fn.swap;
+}
