@@ -254,7 +254,7 @@ fn read_text(alloc: Global, text: &[u8]) -> Result<Option<Entry>, NoMemory>
     Ok(read_counted(*letter, rest))
 }
 
-// The entry of a line.
+/// The entry of a line.
 pub fn read_entry_line(alloc: Global, line: &[u8]) -> Result<Option<Entry>, NoMemory>
     ensures { IfOk result (λ o. MatchOption o ((e : Entry) → IsEntryLine e line.now → ⊥) (λ e. IsEntryLine e line.now)) }
 {

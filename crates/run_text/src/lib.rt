@@ -18,7 +18,7 @@ mod waiting;
 mod writer;
 
 pub use answers::{Schedule, Transcript};
-pub use entry_reader::page_from;
+pub use entry_reader::{page_from, read_entry_line};
 pub use limits::{LAST_PROCESS, MOST_MOVES, MOST_TURN, SCHEDULE_LINES, limits_are_documented};
 pub use line::{put_named, put_page};
 pub use numbers::{Numbers, read_numbers};

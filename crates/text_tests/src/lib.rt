@@ -15,6 +15,8 @@ mod flat;
 #[cfg(test)]
 mod loads;
 #[cfg(test)]
+mod parts;
+#[cfg(test)]
 mod references;
 #[cfg(test)]
 mod schedules;

@@ -44,7 +44,7 @@ fn a_load_has_its_number(rt: HostRuntime) {
 }
 
 // Command lines that are good; one space parts two words.
-static GOOD: [&str; 25] = [
+static GOOD: [&str; 29] = [
     // The option stands at any place after the first word, but once.
     "run --trace 64 256 100 s hi",
     "run 64 256 100 s a --trace b",
@@ -59,6 +59,10 @@ static GOOD: [&str; 25] = [
     "film 16777216 0 1 64 256 1000000 s hi",
     "grade 64 256 1000000 s t hi",
     "grade 4096 131072 1 s s =hi hi",
+    "repage 64 256 t hi",
+    "repage 4096 131072 t =hi hi",
+    "repage --owners 0 64 256 t hi",
+    "repage --owners 16777216 64 256 t hi",
     // The three forms of one command.
     "policies 1000000 references",
     "policies 8 hands",
@@ -77,7 +81,7 @@ static GOOD: [&str; 25] = [
     "curve 64 256 100 s hi",
 ];
 
-static BAD: [&str; 56] = [
+static BAD: [&str; 65] = [
     "",
     "--trace run 64 256 100 s hi",
     "run --trace 64 --trace 256 100 s hi",
@@ -121,6 +125,15 @@ static BAD: [&str; 56] = [
     "grade 64 256 100 s t",
     "grade 64 256 100 s",
     "grade 64 256 100 s t =hi",
+    "repage 63 256 t hi",
+    "repage 64 131073 t hi",
+    "repage 64 256 t",
+    "repage 64 256 t =hi",
+    "repage 64 256 -t hi",
+    "repage --owners 16777217 64 256 t hi",
+    "repage --owners 64 256 t hi",
+    "repage 64 --owners 256 t hi",
+    "repage --owners --owners 0 64 256 t hi",
     "load 10000",
     "load",
     "as xxxxxxxxxxxxxxxxxxxxxxxxxxxxxxxxxxxxxxxxxxxxxxxxxxxxxxxxxxxxxxxx",
@@ -163,7 +176,7 @@ fn words_ask_for_a_command_or_for_none(rt: HostRuntime) {
 }
 
 // The words of a line, and what is told of the first that is refused.
-static ROWS: [(&str, &[u8]); 11] = [
+static ROWS: [(&str, &[u8]); 14] = [
     ("run 63 256 100 s hi", b"FRAMES is 63: 64 to 4096"),
     ("policies 0 r", b"N is 0: 1 to 1000000"),
     ("policies x hands 8 r", b"N is x: 1 to 1000000"),
@@ -179,6 +192,12 @@ static ROWS: [(&str, &[u8]); 11] = [
     (
         "grade 64 256 100 s",
         b"TRACE is missing: a name of 1 to 63 bytes",
+    ),
+    ("repage 64 t hi", b"SWAP is t: 256 to 131072"),
+    ("repage --owners x 64 256 t hi", b"N is x: 0 to 16777216"),
+    (
+        "repage 64 256 --owners hi",
+        b"--owners is no option of this command",
     ),
     ("policies 8 16 4 r -s", b"-s is no option of this command"),
 ];

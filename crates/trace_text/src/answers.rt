@@ -1,0 +1,12 @@
+// What the reader answers.
+
+use paged_model::Line;
+
+/// What a trace reads as.
+#[derive(Drop)]
+pub enum Trace {
+    /// Its lines.
+    Is(Vec<Line>),
+    /// The number of its first bad line, counted from 1.
+    BadLine(u32),
+}

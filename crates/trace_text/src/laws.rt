@@ -1,0 +1,11 @@
+ghost use Rattle.std.specs.Prelude.{ℕ, List, map};
+ghost use Rattle.vm_facts.specs.declared.entry.Entry.{Entry};
+ghost use Rattle.paged_model.specs.declared.line.Line.TheVariants as lines;
+ghost use Rattle.run_text.specs.Lines.{lines_in, AreLines};
+ghost use Rattle.run_text.specs.Transcript.{IsEntryLine};
+ghost use Rattle.trace_text.specs.Grammar.{IsTraceLine};
+
+/// A transcript is a trace, of the same entries.
+pub fn transcripts_are_traces()
+    ensures { (bytes : List ℕ) (es : List Entry) → AreLines IsEntryLine es (lines_in bytes) → AreLines IsTraceLine (map lines.Entry es) (lines_in bytes) }
+{}
