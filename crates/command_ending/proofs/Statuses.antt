@@ -1,7 +1,7 @@
 -- The statuses of faults.
 use Rattle.std.proofs.Common.{◌≡◌, arith}
 use Rattle.command_ending.specs.declared.fault.Fault.{Fault}
-use Rattle.command_ending.specs.declared.fault.Fault.TheVariants.{BadWords, Absent, NotImage, BadSchedule, FileFault, SwapReadFault, SwapWriteFault, NoMemory, JournalFull, NoSpace, ShortDevice, NotFlatRun, BadTranscript, TooLong, BadSource, BadReferences, ReferencesTooLong, NotAsWritten, WrittenSoFar}
+use Rattle.command_ending.specs.declared.fault.Fault.TheVariants.{BadWords, Absent, NotImage, BadSchedule, FileFault, SwapReadFault, SwapWriteFault, NoMemory, JournalFull, NoSpace, ShortDevice, NotFlatRun, BadTranscript, TooLong, BadSource, BadReferences, ReferencesTooLong, NotAsWritten, WrittenSoFar, NotPaged}
 use Rattle.command_ending.specs.Ending.{fault_status}
 
 -- no fault has the status 0
@@ -25,3 +25,4 @@ status_is_not_0 (BadReferences line) h = omega (arith, h)
 status_is_not_0 ReferencesTooLong h = omega (arith, h)
 status_is_not_0 (NotAsWritten line) h = omega (arith, h)
 status_is_not_0 (WrittenSoFar entries) h = omega (arith, h)
+status_is_not_0 (NotPaged line) h = omega (arith, h)

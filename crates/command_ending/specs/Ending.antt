@@ -6,7 +6,7 @@ use Rattle.run_files.specs.declared.answers.Unread.TheVariants as unreads
 use Rattle.command_ending.specs.declared.lines.Line.{Line}
 use Rattle.command_ending.specs.declared.lines.Line.TheVariants.{Fixed, Made}
 use Rattle.command_ending.specs.declared.fault.Fault.{Fault}
-use Rattle.command_ending.specs.declared.fault.Fault.TheVariants.{BadWords, Absent, NotImage, BadSchedule, FileFault, SwapReadFault, SwapWriteFault, NoMemory, JournalFull, NoSpace, ShortDevice, NotFlatRun, BadTranscript, TooLong, BadSource, BadReferences, ReferencesTooLong, NotAsWritten, WrittenSoFar}
+use Rattle.command_ending.specs.declared.fault.Fault.TheVariants.{BadWords, Absent, NotImage, BadSchedule, FileFault, SwapReadFault, SwapWriteFault, NoMemory, JournalFull, NoSpace, ShortDevice, NotFlatRun, BadTranscript, TooLong, BadSource, BadReferences, ReferencesTooLong, NotAsWritten, WrittenSoFar, NotPaged}
 
 -- what a command makes, or why it doesn't
 abbrev pub Ending : Type 0
@@ -45,6 +45,7 @@ fault_status (BadReferences line) = 18
 fault_status ReferencesTooLong = 16
 fault_status (NotAsWritten line) = 19
 fault_status (WrittenSoFar entries) = 20
+fault_status (NotPaged line) = 14
 
 -- the bytes of a line about a fault
 abbrev pub bytes_of : Line → List ℕ
@@ -93,6 +94,7 @@ fault_line (BadReferences line) = numbered_line (codes "vmrun: bad references li
 fault_line ReferencesTooLong = codes "vmrun: references too long\n"
 fault_line (NotAsWritten line) = numbered_line (codes "not as written: line ") line
 fault_line (WrittenSoFar entries) = so_far_line entries
+fault_line (NotPaged line) = numbered_line (codes "not a paged run: line ") line
 
 -- a fault whose line has a name or a number in it, so that memory is needed to write it; those of devices 0 and 1 are at hand
 abbrev pub NeedsMemory : Fault → Type 0
@@ -115,6 +117,7 @@ NeedsMemory (BadReferences line) = Unit {0}
 NeedsMemory ReferencesTooLong = ⊥
 NeedsMemory (NotAsWritten line) = Unit {0}
 NeedsMemory (WrittenSoFar entries) = Unit {0}
+NeedsMemory (NotPaged line) = Unit {0}
 
 -- an ending whose text can be lost for want of memory: what was made is at hand
 abbrev pub CanBeLost : Ending → Type 0

@@ -54,6 +54,8 @@ pub enum Fault<'a> {
     NotAsWritten(u32),
     /// The entries of a trace are the first ones that the written policy writes, so many, and it writes more.
     WrittenSoFar(u32),
+    /// The entries of a trace are no run of the paged machine, first at this line.
+    NotPaged(u32),
 }
 
 impl<'a> From<AllocError> for Fault<'a> {
@@ -101,6 +103,7 @@ impl<'a> Fault<'a> {
             Fault::ReferencesTooLong => 16,
             Fault::NotAsWritten(_) => 19,
             Fault::WrittenSoFar(_) => 20,
+            Fault::NotPaged(_) => 14,
         }
     }
 
@@ -140,6 +143,7 @@ impl<'a> Fault<'a> {
             }
             Fault::NotAsWritten(line) => numbered_line(alloc, b"not as written: line ", line),
             Fault::WrittenSoFar(entries) => so_far_line(alloc, entries),
+            Fault::NotPaged(line) => numbered_line(alloc, b"not a paged run: line ", line),
         }?;
         Ok(Line::Made(made))
     }

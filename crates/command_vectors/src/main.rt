@@ -14,13 +14,14 @@ use std::rt::Files;
 use std::{fs, io};
 
 // The files of cases, in their order: the programs of the first are there for all.
-const NAMES: [&'static str; 7] = [
+const NAMES: [&'static str; 8] = [
     "programs",
     "tools",
     "endings",
     "paging",
     "processes",
     "questions",
+    "kernels",
     "devices",
 ];
 

@@ -1,5 +1,5 @@
 -- Words have a reason exactly where they ask for no command.
-use Rattle.std.proofs.Common.{◌≡◌, ℕ, ◌-◌, ◌/◌, ◌∙◌, Bool, true, false, ◌&&◌, not, if◌then◌else◌, is_none, is_some, nat_le, List, [], ◌∷◌, length, refl, sym, ap, Option, Some, None, find, bytes_eq, codes}
+use Rattle.std.proofs.Common.{◌≡◌, ℕ, ◌-◌, ◌/◌, ◌∙◌, Bool, true, false, ◌&&◌, not, if◌then◌else◌, is_none, is_some, nat_le, List, [], ◌∷◌, length, drop, refl, sym, ap, Option, Some, None, find, bytes_eq, codes}
 use Rattle.std.specs.List.{list_all, list_any}
 use Rattle.std.specs.Option.{option_map, option_and_then}
 use Rattle.std.specs.Prelude.{unwrap_or}
@@ -13,8 +13,8 @@ use Rattle.command_words.specs.declared.limits.TheConstants.{LEAST_FRAMES, MOST_
 use Rattle.command_words.specs.declared.reasons.Argument.{Argument}
 use Rattle.command_words.specs.declared.reasons.Argument.TheVariants.{Frames, Swap, Limit, ShortLimit, Number, Size, Compared, Spread, FirstFrames, LastFrames, MoreFrames, Entries, From, To, Every, Schedule, Transcript, Trace, Source, ReferenceFile, Listed, Image}
 use Rattle.command_words.specs.Words.{is_plain, number_in, is_name, is_image_word, are_image_words, without_trace}
-use Rattle.command_words.specs.Asked.{Asked, Load, Replay, Assemble, Show, Optimum, Curve, Owners, Film, Stats, References, Grade, Policies, all_numbers, run_numbers, asked_with_run, asked_load, asked_replay, asked_assemble, asked_show, asked_optimum, asked_owners, all_steps, film_steps, asked_film, grade_for, asked_grade, quarter_ahead, so_far_ahead, each_of_several, compared_on, asked_policies, asked_run, asked_other, asked_of}
-use Rattle.command_words.specs.Reasons.{Why, Refused, NotPlain, takes, bad_image, or_else, why_images, why_rest, why_words, bad_plain, why_form, frames_or_one, why_spread, why_sweep, why_policies, why_other, why_command, why_bad}
+use Rattle.command_words.specs.Asked.{Asked, Load, Replay, Assemble, Show, Optimum, Curve, Owners, Film, Stats, References, Grade, Repage, RepageOwners, Policies, all_numbers, run_numbers, asked_with_run, asked_load, asked_replay, asked_assemble, asked_show, asked_optimum, asked_owners, all_steps, film_steps, asked_film, grade_for, asked_grade, both_numbers, machine_numbers, asked_with_trace, asked_trace_owners, owners_first, where_plain, asked_repage, quarter_ahead, so_far_ahead, each_of_several, compared_on, asked_policies, asked_run, asked_other, asked_of}
+use Rattle.command_words.specs.Reasons.{Why, Refused, NotPlain, takes, bad_image, or_else, why_images, why_rest, why_words, bad_plain, why_form, frames_or_one, why_spread, why_sweep, why_policies, why_other, why_repage, why_command, why_bad}
 
 -- Choices.
 
@@ -307,6 +307,41 @@ grade (f ∷ s ∷ l ∷ n ∷ []) =
     (lacking Limit (Schedule ∷ Trace ∷ []) true l (n ∷ []) (lacking Schedule (Trace ∷ []) true n [] (missing Trace [] true))))
 grade (f ∷ s ∷ l ∷ n ∷ t ∷ ws) = grade_whole f s l n t ws
 
+both_by : (a b : Option ℕ) → is_some (both_numbers a b) ≡ is_some a && is_some b
+unfolding both_numbers
+both_by None b = refl
+both_by (Some x) None = refl
+both_by (Some x) (Some y) = refl
+
+judged_turn : (a b t i : Bool) → a && (b && (t && i)) ≡ (t && i) && (a && b)
+judged_turn true true t i = sym (always (t && i))
+judged_turn false b t i = sym (never (t && i))
+judged_turn true false t i = sym (never (t && i))
+
+traced_whole : (command : Numbers → List ℕ → List (List ℕ) → Asked) (f s t : List ℕ) (ws : List (List ℕ))
+    → is_none (why_words (Frames ∷ Swap ∷ Trace ∷ []) true (f ∷ s ∷ t ∷ ws)) ≡ is_some (asked_with_trace command (f ∷ s ∷ t ∷ ws))
+unfolding asked_with_trace machine_numbers takes
+traced_whole command f s t ws =
+    let a = is_some (number_in LEAST_FRAMES MOST_FRAMES f) in
+    let b = is_some (number_in LEAST_SWAP most_blocks s) in
+    next Frames (Swap ∷ Trace ∷ []) true f (s ∷ t ∷ ws)
+    ∙ ap (λ (x : Bool). a && x)
+    (next Swap (Trace ∷ []) true s (t ∷ ws)
+    ∙ ap (λ (x : Bool). b && x) (next Trace [] true t ws ∙ ap (λ (x : Bool). is_name t && x) (rest_images ws)))
+    ∙ judged_turn a b (is_name t) (are_image_words ws)
+    ∙ sym (where_so (is_name t && are_image_words ws) _
+    ∙ ap (λ (x : Bool). (is_name t && are_image_words ws) && x)
+    (mapped (λ (numbers : Numbers). command numbers t ws) (both_numbers (number_in LEAST_FRAMES MOST_FRAMES f) (number_in LEAST_SWAP most_blocks s))
+    ∙ both_by (number_in LEAST_FRAMES MOST_FRAMES f) (number_in LEAST_SWAP most_blocks s)))
+
+traced : (command : Numbers → List ℕ → List (List ℕ) → Asked) (words : List (List ℕ))
+    → is_none (why_words (Frames ∷ Swap ∷ Trace ∷ []) true words) ≡ is_some (asked_with_trace command words)
+unfolding asked_with_trace
+traced command [] = missing Frames (Swap ∷ Trace ∷ []) true
+traced command (f ∷ []) = lacking Frames (Swap ∷ Trace ∷ []) true f [] (missing Swap (Trace ∷ []) true)
+traced command (f ∷ s ∷ []) = lacking Frames (Swap ∷ Trace ∷ []) true f (s ∷ []) (lacking Swap (Trace ∷ []) true s [] (missing Trace [] true))
+traced command (f ∷ s ∷ t ∷ ws) = traced_whole command f s t ws
+
 either_way : (a b : Bool) → a && b ≡ b && a
 either_way true b = sym (always b)
 either_way false b = sym (never b)
@@ -428,6 +463,25 @@ run_command words =
     ∙ ap (λ (b : Bool). list_all is_plain (without_trace words) && b) (run Limit MOST_LIMIT _ (without_trace words) long_limit)
     ∙ sym (where_so (list_all is_plain (without_trace words)) _)
 
+-- words for these arguments, none of which is an option
+plain_command : (arguments : List Argument) (asked : List (List ℕ) → Option Asked) (words : List (List ℕ)) → is_none (why_words arguments true words) ≡ is_some (asked words)
+    → is_none (why_form arguments true words) ≡ is_some (where_plain asked words)
+plain_command arguments asked words same =
+    form arguments true words ∙ ap (λ (b : Bool). list_all is_plain words && b) same ∙ sym (where_so (list_all is_plain words) (asked words))
+
+trace_owners : (words : List (List ℕ)) → is_none (why_words (Entries ∷ Frames ∷ Swap ∷ Trace ∷ []) true words) ≡ is_some (asked_trace_owners words)
+unfolding asked_trace_owners takes
+trace_owners [] = missing Entries (Frames ∷ Swap ∷ Trace ∷ []) true
+trace_owners (n ∷ words) =
+    next Entries (Frames ∷ Swap ∷ Trace ∷ []) true n words
+    ∙ after_number (number_in 0 JOURNAL_ENTRIES n) (λ k. asked_with_trace (RepageOwners k) words) _ (λ k. traced (RepageOwners k) words)
+
+repage_command : (words : List (List ℕ)) → is_none (why_repage words) ≡ is_some (asked_repage words)
+unfolding why_repage asked_repage
+repage_command words =
+    chosen (owners_first words) _ _ _ _ (plain_command (Entries ∷ Frames ∷ Swap ∷ Trace ∷ []) asked_trace_owners (drop 1 words) (trace_owners (drop 1 words)))
+    (plain_command (Frames ∷ Swap ∷ Trace ∷ []) (asked_with_trace Repage) words (traced Repage words))
+
 -- All commands.
 
 -- the command that words without an option ask for
@@ -491,4 +545,5 @@ other name words = other_by (list_all is_plain words) name words refl ∙ sym (u
 pub refused_have_reasons : (words : List (List ℕ)) → is_none (why_bad words) ≡ is_some (asked_of words)
 unfolding why_bad why_command asked_of
 refused_have_reasons [] = refl
-refused_have_reasons (name ∷ words) = chosen (bytes_eq name (codes "run")) _ _ _ _ (run_command words) (other name words)
+refused_have_reasons (name ∷ words) =
+    chosen (bytes_eq name (codes "run")) _ _ _ _ (run_command words) (chosen (bytes_eq name (codes "repage")) _ _ _ _ (repage_command words) (other name words))

@@ -1,5 +1,5 @@
 -- Words that ask for a run, and those that ask for none.
-use Rattle.std.proofs.Common.{◌≡◌, ℕ, Bool, true, false, ◌&&◌, not, if◌then◌else◌, List, [], ◌∷◌, codes, bytes_eq, Option, Some, None, refl}
+use Rattle.std.proofs.Common.{◌≡◌, ℕ, Bool, true, false, ◌&&◌, not, if◌then◌else◌, List, [], ◌∷◌, drop, codes, bytes_eq, Option, Some, None, refl}
 use Rattle.std.specs.List.{list_all, list_any}
 use Rattle.std.specs.Option.{option_map, option_and_then}
 use Rattle.run_files.specs.ImageWords.{starts}
@@ -8,7 +8,7 @@ use Rattle.command_words.specs.declared.command.FilmSteps.{FilmSteps}
 use Rattle.command_words.specs.declared.command.Comparison.{Comparison}
 use Rattle.command_words.specs.declared.limits.TheConstants.{MOST_FRAMES, MOST_LIMIT, MOST_SHORT_LIMIT, LAST_LOAD, JOURNAL_ENTRIES}
 use Rattle.command_words.specs.Words.{is_plain, number_in, is_name, are_image_words, is_trace, without_trace}
-use Rattle.command_words.specs.Asked.{Asked, Run, Load, Replay, Assemble, Show, Optimum, Curve, Owners, Film, Stats, References, Grade, Policies, Request, run_numbers, asked_with_run, asked_load, asked_replay, asked_assemble, asked_show, asked_optimum, asked_owners, film_steps, asked_film, grade_for, asked_grade, quarter_ahead, so_far_ahead, each_of_several, compared_on, asked_policies, words_of_run, asked_run, request_for, request_of, asked_other, asked_of, request_in}
+use Rattle.command_words.specs.Asked.{Asked, Run, Load, Replay, Assemble, Show, Optimum, Curve, Owners, Film, Stats, References, Grade, Repage, RepageOwners, Policies, Request, run_numbers, asked_with_run, asked_load, asked_replay, asked_assemble, asked_show, asked_optimum, asked_owners, film_steps, asked_film, grade_for, asked_grade, machine_numbers, asked_with_trace, asked_trace_owners, owners_first, where_plain, asked_repage, quarter_ahead, so_far_ahead, each_of_several, compared_on, asked_policies, words_of_run, asked_run, request_for, request_of, asked_other, asked_of, request_in}
 
 -- Words that ask for no run.
 
@@ -90,6 +90,30 @@ grade (frames ∷ swap ∷ limit ∷ schedule ∷ trace ∷ images) =
     either (is_name trace) _ None
     (about_run MOST_LIMIT (grade_for trace) (frames ∷ swap ∷ limit ∷ schedule ∷ images) (λ numbers schedule images. refl)) refl
 
+about_trace : (command : Numbers → List ℕ → List (List ℕ) → Asked) (words : List (List ℕ))
+    → ((numbers : Numbers) (trace : List ℕ) (images : List (List ℕ)) → request_in (Some (command numbers trace images)) ≡ None)
+    → request_in (asked_with_trace command words) ≡ None
+unfolding asked_with_trace
+about_trace command [] none = refl
+about_trace command (_ ∷ []) none = refl
+about_trace command (_ ∷ _ ∷ []) none = refl
+about_trace command (frames ∷ swap ∷ trace ∷ images) none =
+    either (is_name trace && are_image_words images) _ None
+    (mapped (λ (numbers : Numbers). command numbers trace images) (machine_numbers frames swap) (λ numbers. none numbers trace images)) refl
+
+trace_owners : (words : List (List ℕ)) → request_in (asked_trace_owners words) ≡ None
+unfolding asked_trace_owners
+trace_owners [] = refl
+trace_owners (entries ∷ words) =
+    chained (λ (n : ℕ). asked_with_trace (RepageOwners n) words) (number_in 0 JOURNAL_ENTRIES entries) (λ n. about_trace (RepageOwners n) words (λ numbers trace images. refl))
+
+repage : (words : List (List ℕ)) → request_in (asked_repage words) ≡ None
+unfolding asked_repage
+repage words =
+    either (owners_first words) _ _
+    (either (list_all is_plain (drop 1 words)) _ None (trace_owners (drop 1 words)) refl)
+    (either (list_all is_plain words) _ None (about_trace Repage words (λ numbers trace images. refl)) refl)
+
 compared : (references : List ℕ) (comparison : Option Comparison) → request_in (compared_on references comparison) ≡ None
 unfolding compared_on
 compared references comparison =
@@ -154,6 +178,9 @@ unfolding asked_of request_of
 request_is [] = refl
 request_is (name ∷ words) = go (bytes_eq name (codes "run"))
   where
-    go : (b : Bool) → request_in (if b then asked_run words else asked_other name words) ≡ (if b then words_of_run request_for words else None)
+    other : Option Asked
+    other = if bytes_eq name (codes "repage") then asked_repage words else asked_other name words
+
+    go : (b : Bool) → request_in (if b then asked_run words else other) ≡ (if b then words_of_run request_for words else None)
     go true = words_request words
-    go false = no_request name words
+    go false = either (bytes_eq name (codes "repage")) _ _ (repage words) (no_request name words)

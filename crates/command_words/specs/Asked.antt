@@ -1,5 +1,5 @@
 -- What the words of a command line ask for.
-use Rattle.std.specs.Prelude.{ℕ, ◌-◌, ◌/◌, Bool, ◌&&◌, not, List, [], ◌∷◌, Option, Some, None, option_and_then, if◌then◌else◌, bytes_eq, codes}
+use Rattle.std.specs.Prelude.{ℕ, ◌-◌, ◌/◌, Bool, false, ◌&&◌, not, List, [], ◌∷◌, drop, Option, Some, None, option_and_then, if◌then◌else◌, bytes_eq, codes}
 use Rattle.std.specs.List.{list_all, list_any}
 use Rattle.std.specs.Option.{option_map}
 use Rattle.io_edge.specs.Striping.{most_blocks}
@@ -25,6 +25,8 @@ pub data Asked : Type 0 where
   Stats : Numbers → (schedule : List ℕ) → (images : List (List ℕ)) → Asked
   References : Numbers → (schedule : List ℕ) → (images : List (List ℕ)) → Asked
   Grade : Numbers → (schedule trace : List ℕ) → (images : List (List ℕ)) → Asked
+  Repage : Numbers → (trace : List ℕ) → (images : List (List ℕ)) → Asked
+  RepageOwners : (entries : ℕ) → Numbers → (trace : List ℕ) → (images : List (List ℕ)) → Asked
   Policies : Comparison → (references : List ℕ) → Asked
 
 -- what the words of a run ask for: the option `--trace`, the numbers, the name of the schedule, and the words of the images
@@ -104,6 +106,39 @@ asked_grade (frames ∷ swap ∷ limit ∷ schedule ∷ trace ∷ images) =
     if is_name trace then asked_with_run MOST_LIMIT (grade_for trace) (frames ∷ swap ∷ limit ∷ schedule ∷ images) else None
 asked_grade _ = None
 
+-- both numbers, where each is one, and the highest limit
+unfoldable pub both_numbers : Option ℕ → Option ℕ → Option Numbers
+both_numbers (Some frames) (Some swap) = Some (record { frames = frames; swap = swap; limit = MOST_LIMIT })
+both_numbers _ _ = None
+
+-- `FRAMES SWAP`
+unfoldable pub machine_numbers : List ℕ → List ℕ → Option Numbers
+machine_numbers frames swap = both_numbers (number_in LEAST_FRAMES MOST_FRAMES frames) (number_in LEAST_SWAP most_blocks swap)
+
+-- `FRAMES SWAP TRACE IMAGE..`, and what is made of these numbers, this trace and these images
+unfoldable pub asked_with_trace : (Numbers → List ℕ → List (List ℕ) → Asked) → List (List ℕ) → Option Asked
+asked_with_trace command (frames ∷ swap ∷ trace ∷ images) =
+    if is_name trace && are_image_words images then option_map (λ numbers. command numbers trace images) (machine_numbers frames swap) else None
+asked_with_trace command _ = None
+
+-- `N FRAMES SWAP TRACE IMAGE..`
+unfoldable pub asked_trace_owners : List (List ℕ) → Option Asked
+asked_trace_owners (entries ∷ words) = option_and_then (λ n. asked_with_trace (RepageOwners n) words) (number_in 0 JOURNAL_ENTRIES entries)
+asked_trace_owners [] = None
+
+-- the first word is `--owners`
+abbrev pub owners_first : List (List ℕ) → Bool
+owners_first [] = false
+owners_first (word ∷ words) = bytes_eq word (codes "--owners")
+
+-- these words, none of which is empty or begins with a hyphen
+abbrev pub where_plain : (List (List ℕ) → Option Asked) → List (List ℕ) → Option Asked
+where_plain asked words = if list_all is_plain words then asked words else None
+
+-- the words after `repage`: `FRAMES SWAP TRACE IMAGE..`, or `--owners` and `N FRAMES SWAP TRACE IMAGE..`
+unfoldable pub asked_repage : List (List ℕ) → Option Asked
+asked_repage words = if owners_first words then where_plain asked_trace_owners (drop 1 words) else where_plain (asked_with_trace Repage) words
+
 -- `N`: the front hand is a quarter of the frames ahead
 unfoldable pub quarter_ahead : List ℕ → Option Comparison
 quarter_ahead frames = option_map (λ n. At n (n / 4)) (number_in 1 MOST_COMPARED frames)
@@ -170,7 +205,8 @@ asked_other name words =
 -- what the words after the program's name ask for, and `None` where they are no command's
 unfoldable pub asked_of : List (List ℕ) → Option Asked
 asked_of [] = None
-asked_of (name ∷ words) = if bytes_eq name (codes "run") then asked_run words else asked_other name words
+asked_of (name ∷ words) =
+    if bytes_eq name (codes "run") then asked_run words else (if bytes_eq name (codes "repage") then asked_repage words else asked_other name words)
 
 -- the run that a command is, and `None` where it is another
 abbrev pub request_in : Option Asked → Option Request

@@ -1,5 +1,5 @@
 -- A command that was read: what it asks for, and what holds of its parts.
-use Rattle.std.specs.Prelude.{◌≤◌, ◌<◌, ℕ, IsTrue, List, ◌++◌, length, map, All}
+use Rattle.std.specs.Prelude.{◌≡◌, ◌≤◌, ◌<◌, ℕ, IsTrue, List, ◌++◌, length, map, All}
 use Rattle.std.specs.List.{list_any}
 use Rattle.io_edge.specs.Striping.{most_blocks}
 use Rattle.run_files.specs.ImageWords.{IsShortName, starts, name_in}
@@ -11,7 +11,7 @@ use Rattle.command_words.specs.declared.command.Comparison.TheVariants.{At, Swee
 use Rattle.command_words.specs.declared.command.Command.{Command}
 use Rattle.command_words.specs.declared.command.Command.TheVariants as commands
 use Rattle.command_words.specs.declared.image_words.ImageWords.{ImageWords}
-use Rattle.command_words.specs.Asked.{Asked, Run, Load, Replay, Assemble, Show, Optimum, Curve, Owners, Film, Stats, References, Grade, Policies}
+use Rattle.command_words.specs.Asked.{Asked, Run, Load, Replay, Assemble, Show, Optimum, Curve, Owners, Film, Stats, References, Grade, Repage, RepageOwners, Policies}
 use denote.Ref.{Bor}
 
 -- the words, as one list
@@ -32,6 +32,8 @@ asked_by (commands.Film steps numbers schedule images) = Film steps numbers sche
 asked_by (commands.Stats numbers schedule images) = Stats numbers schedule.now (map (λ word. word.now) images.now)
 asked_by (commands.References numbers schedule images) = References numbers schedule.now (map (λ word. word.now) images.now)
 asked_by (commands.Grade numbers schedule trace images) = Grade numbers schedule.now trace.now (map (λ word. word.now) images.now)
+asked_by (commands.Repage numbers trace images) = Repage numbers trace.now (map (λ word. word.now) images.now)
+asked_by (commands.RepageOwners entries numbers trace images) = RepageOwners entries numbers trace.now (map (λ word. word.now) images.now)
 asked_by (commands.Policies comparison references) = Policies comparison references.now
 
 -- each number is in its range
@@ -98,4 +100,7 @@ IsFitting (commands.Film steps numbers schedule images) = AreSteps steps × IsFi
 IsFitting (commands.Stats numbers schedule images) = IsFittingRun MOST_LIMIT numbers schedule images.now
 IsFitting (commands.References numbers schedule images) = IsFittingRun MOST_LIMIT numbers schedule images.now
 IsFitting (commands.Grade numbers schedule trace images) = IsShortName trace.now × IsFittingRun MOST_LIMIT numbers schedule images.now
+IsFitting (commands.Repage numbers trace images) = (numbers.limit ≡ MOST_LIMIT) × IsFittingRun MOST_LIMIT numbers trace images.now
+IsFitting (commands.RepageOwners entries numbers trace images) =
+    (entries ≤ JOURNAL_ENTRIES) × (numbers.limit ≡ MOST_LIMIT) × IsFittingRun MOST_LIMIT numbers trace images.now
 IsFitting (commands.Policies comparison references) = IsFittingComparison comparison × IsShortName references.now

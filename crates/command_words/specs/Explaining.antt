@@ -47,7 +47,7 @@ kind_text argument = range_text argument
 
 -- the commands that there are
 abbrev pub commands_text : List ℕ
-commands_text = codes "run, load, opt, curve, owners, film, stats, refs, grade, policies, replay, as or dis"
+commands_text = codes "run, load, opt, curve, owners, film, stats, refs, grade, repage, policies, replay, as or dis"
 
 -- a reason in words
 abbrev pub why_text : Why → List ℕ

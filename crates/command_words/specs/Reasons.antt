@@ -1,11 +1,11 @@
 -- Why words are no command's: the first word that isn't what it is for.
-use Rattle.std.specs.Prelude.{ℕ, ◌-◌, Bool, true, false, ◌&&◌, not, nat_le, is_none, is_some, ◌≡◌, List, [], ◌∷◌, length, Option, Some, None, unwrap_or, if◌then◌else◌, bytes_eq, codes, find}
+use Rattle.std.specs.Prelude.{ℕ, ◌-◌, Bool, true, false, ◌&&◌, not, nat_le, is_none, is_some, ◌≡◌, List, [], ◌∷◌, length, drop, Option, Some, None, unwrap_or, if◌then◌else◌, bytes_eq, codes, find}
 use Rattle.std.specs.List.{list_any}
 use Rattle.std.specs.Option.{option_map}
 use Rattle.io_edge.specs.Striping.{most_blocks}
 use Rattle.run_files.specs.ImageWords.{starts}
 use Rattle.command_words.specs.Words.{is_plain, number_in, is_name, is_image_word, without_trace}
-use Rattle.command_words.specs.Asked.{asked_of}
+use Rattle.command_words.specs.Asked.{owners_first, asked_of}
 use Rattle.command_words.specs.declared.limits.TheConstants.{LEAST_FRAMES, MOST_FRAMES, MOST_COMPARED, LEAST_SWAP, MOST_LIMIT, MOST_SHORT_LIMIT, LAST_LOAD, JOURNAL_ENTRIES}
 use Rattle.command_words.specs.declared.reasons.Argument.{Argument}
 use Rattle.command_words.specs.declared.reasons.Argument.TheVariants.{Frames, Swap, Limit, ShortLimit, Number, Size, Compared, Spread, FirstFrames, LastFrames, MoreFrames, Entries, From, To, Every, Schedule, Transcript, Trace, Source, ReferenceFile, Listed, Image}
@@ -138,7 +138,7 @@ why_policies (first ∷ second ∷ third ∷ more) =
     if bytes_eq second (codes "hands") then why_spread first (third ∷ more) else why_sweep first (first ∷ second ∷ third ∷ more)
 why_policies words = why_words (Compared ∷ ReferenceFile ∷ []) false words
 
--- the words after the name of a command other than `run`
+-- the words after the name of a command other than `run` and `repage`
 unfoldable pub why_other : List ℕ → List (List ℕ) → Option Why
 why_other name words =
     if bytes_eq name (codes "load") then why_form (Number ∷ []) false words
@@ -155,10 +155,17 @@ why_other name words =
     else (if bytes_eq name (codes "policies") then or_else (bad_plain words) (why_policies words)
     else Some (Unknown name))))))))))))
 
+-- the words after `repage`
+unfoldable pub why_repage : List (List ℕ) → Option Why
+why_repage words =
+    if owners_first words then why_form (Entries ∷ Frames ∷ Swap ∷ Trace ∷ []) true (drop 1 words)
+    else why_form (Frames ∷ Swap ∷ Trace ∷ []) true words
+
 -- the words after the name of a command
 unfoldable pub why_command : List ℕ → List (List ℕ) → Option Why
 why_command name words =
-    if bytes_eq name (codes "run") then why_form (Frames ∷ Swap ∷ Limit ∷ Schedule ∷ []) true (without_trace words) else why_other name words
+    if bytes_eq name (codes "run") then why_form (Frames ∷ Swap ∷ Limit ∷ Schedule ∷ []) true (without_trace words)
+    else (if bytes_eq name (codes "repage") then why_repage words else why_other name words)
 
 -- why the words after the program's name ask for no command; none where they ask for one
 unfoldable pub why_bad : List (List ℕ) → Option Why

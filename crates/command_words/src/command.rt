@@ -2,8 +2,8 @@
 ghost use Rattle.std.specs.Prelude.{◌≡◌, ◌≤◌, ℕ, List, drop, map, IsSome, IfSome};
 ghost use Rattle.std.specs.Option.{option_map};
 ghost use Rattle.run_files.specs.ImageWords.{IsShortName};
-ghost use Rattle.command_words.specs.Asked.{Asked, request_of, request_in, asked_of, asked_run, asked_other, asked_load, asked_replay, asked_assemble, asked_show, asked_optimum, asked_owners, asked_film, asked_grade, film_steps, quarter_ahead, so_far_ahead, each_of_several, compared_on, asked_policies, asked_with_run, run_numbers, Curve, Stats, References};
-ghost use Rattle.command_words.specs.Command.{word_list, asked_by, AreAllowed, AreImageWords, AreSteps, IsFittingComparison, IsFitting};
+ghost use Rattle.command_words.specs.Asked.{Asked, request_of, request_in, asked_of, asked_run, asked_other, asked_load, asked_replay, asked_assemble, asked_show, asked_optimum, asked_owners, asked_film, asked_grade, machine_numbers, asked_with_trace, asked_trace_owners, asked_repage, owners_first, where_plain, Repage, film_steps, quarter_ahead, so_far_ahead, each_of_several, compared_on, asked_policies, asked_with_run, run_numbers, Curve, Stats, References};
+ghost use Rattle.command_words.specs.Command.{word_list, asked_by, AreAllowed, AreImageWords, AreSteps, IsFittingComparison, IsFittingRun, IsFitting};
 ghost use Rattle.command_words.specs.declared.limits.TheConstants.{MOST_LIMIT, MOST_SHORT_LIMIT};
 
 use crate::image_words::{ImageWords, from_place, has_trace};
@@ -124,6 +124,20 @@ pub enum Command<'a> {
         trace: &'a str,
         images: &'a [&'a str],
     },
+    /// `repage FRAMES SWAP TRACE IMAGE..`: a trace is judged as a run of the paged machine, by any policy. The limit is the most that may be.
+    Repage {
+        numbers: Numbers,
+        trace: &'a str,
+        images: &'a [&'a str],
+    },
+    /// `repage --owners N FRAMES SWAP TRACE IMAGE..`: what each frame, page, transfer and piece of swap belongs to after the first 0 to
+    /// 16,777,216 entries of such a trace.
+    RepageOwners {
+        entries: u32,
+        numbers: Numbers,
+        trace: &'a str,
+        images: &'a [&'a str],
+    },
     /// `policies N FILE`, `policies N hands SPREAD FILE` or `policies FROM TO EVERY FILE`: the page faults that policies of
     /// replacement have on the references of a file.
     Policies {
@@ -140,13 +154,14 @@ pub enum Command<'a> {
 /// - `owners N FRAMES SWAP LIMIT SCHED IMAGE..`, `film FROM TO EVERY FRAMES SWAP LIMIT SCHED IMAGE..`
 /// - `stats FRAMES SWAP LIMIT SCHED IMAGE..`, `refs FRAMES SWAP LIMIT SCHED IMAGE..`
 /// - `grade FRAMES SWAP LIMIT SCHED TRACE IMAGE..`
+/// - `repage FRAMES SWAP TRACE IMAGE..`, `repage --owners N FRAMES SWAP TRACE IMAGE..`
 /// - `policies N FILE`, where the front hand is a quarter of the frames ahead, `policies N hands SPREAD FILE`,
 ///   `policies FROM TO EVERY FILE`
 ///
 /// and it is `None` where they are any others. No other word begins with `-` or is empty. A number has 1 to 8 ASCII
 /// digits, leading zeros among them: FRAMES is 64 to 4,096, SWAP 256 to 131,072, LIMIT 1 to 1,000,000 but at most
 /// 100,000 for `opt` and `curve`, NUMBER 0 to 9,999, N 1 to 4,096 for `opt`, 1 to 1,000,000 for `policies` and 0 to
-/// 16,777,216 for `owners`. FROM and TO of `film` are 0 to 16,777,216, and its EVERY 1 to 16,777,216. FROM and EVERY of
+/// 16,777,216 for `owners` and `repage`. FROM and TO of `film` are 0 to 16,777,216, and its EVERY 1 to 16,777,216. FROM and EVERY of
 /// `policies` are 1 to 1,000,000, TO is FROM to 1,000,000, and SPREAD 0 to N - 1. A name has 1 to 63 bytes. There are 1 to 16
 /// words of images: a name starts a process, and one after a `=` only makes the
 /// image known; at least one starts. The image of `dis` has no `=`. It takes no memory. Source: this project's profile.
@@ -169,6 +184,8 @@ fn read_command<'a>(words: &'a [&'a str]) -> Option<Command<'a>>
     };
     if *name == "run" {
         read_run(words)
+    } else if *name == "repage" {
+        read_repage(words)
     } else {
         read_other(name, words)
     }
@@ -397,6 +414,111 @@ fn read_grade<'a>(words: &'a [&'a str]) -> Option<Command<'a>>
         trace,
         images,
     })
+}
+
+// The numbers of a machine that judges a trace: the most instructions may run.
+#[tactic(auto, unfolding(crate::specs::Asked::machine_numbers, crate::specs::Asked::both_numbers))]
+fn read_machine(frames: &str, swap: &str) -> Option<Numbers>
+    ensures exact { result ≡ machine_numbers frames.now swap.now }
+    ensures allowed { IfSome result AreAllowed }
+    ensures limit { IfSome result (λ numbers. numbers.limit ≡ MOST_LIMIT) }
+{
+    Some(Numbers {
+        frames: read_number(frames, LEAST_FRAMES, MOST_FRAMES)?,
+        swap: read_number(swap, LEAST_SWAP, MOST_SWAP)?,
+        limit: MOST_LIMIT,
+    })
+}
+
+// The words of a trace that is judged.
+#[derive(Clone, Copy, Drop)]
+struct TraceHead<'a> {
+    numbers: Numbers,
+    trace: &'a str,
+    images: &'a [&'a str],
+}
+
+// Reads `FRAMES SWAP TRACE IMAGE..`.
+#[tactic(auto, unfolding(crate::specs::Asked::asked_with_trace))]
+fn read_traced<'a>(words: &'a [&'a str]) -> Option<TraceHead<'a>>
+    ensures exact { (command : Numbers → List ℕ → List (List ℕ) → Asked)
+        → option_map (λ head. command head.numbers head.trace.now (map (λ word. word.now) head.images.now)) result
+        ≡ asked_with_trace command (map (λ word. word.now) words.now) }
+    ensures fits { IfSome result (λ head. (head.numbers.limit ≡ MOST_LIMIT) × IsFittingRun MOST_LIMIT head.numbers head.trace head.images.now) }
+{
+    let [frames, swap, trace, images @ ..] = words else {
+        return None;
+    };
+    if is_name(trace) && ImageWords::all(images).are_image_words() {
+        Some(TraceHead {
+            numbers: read_machine(frames, swap)?,
+            trace,
+            images,
+        })
+    } else {
+        None
+    }
+}
+
+// `FRAMES SWAP TRACE IMAGE..`
+fn read_judged<'a>(words: &'a [&'a str]) -> Option<Command<'a>>
+    ensures exact { option_map asked_by result ≡ where_plain (asked_with_trace Repage) (map (λ word. word.now) words.now) }
+    ensures fits { IfSome result IsFitting }
+{
+    if !ImageWords::all(words).are_plain() {
+        return None;
+    }
+    let head = read_traced(words)?;
+    Some(Command::Repage {
+        numbers: head.numbers,
+        trace: head.trace,
+        images: head.images,
+    })
+}
+
+// `N FRAMES SWAP TRACE IMAGE..`
+#[tactic(auto, unfolding(crate::specs::Asked::asked_trace_owners))]
+fn read_trace_owners<'a>(words: &'a [&'a str]) -> Option<Command<'a>>
+    ensures exact { option_map asked_by result ≡ where_plain asked_trace_owners (map (λ word. word.now) words.now) }
+    ensures fits { IfSome result IsFitting }
+{
+    if !ImageWords::all(words).are_plain() {
+        return None;
+    }
+    let [entries, words @ ..] = words else {
+        return None;
+    };
+    let entries = read_number(entries, 0, JOURNAL_ENTRIES)?;
+    let head = read_traced(words)?;
+    Some(Command::RepageOwners {
+        entries,
+        numbers: head.numbers,
+        trace: head.trace,
+        images: head.images,
+    })
+}
+
+// Whether the first word is `--owners`.
+pub(crate) fn owners_first(words: &[&str]) -> bool
+    ensures { result ≡ owners_first (map (λ word. word.now) words.now) }
+{
+    match words {
+        [] => false,
+        [word, ..] => *word == "--owners",
+    }
+}
+
+// The words after `repage`.
+#[tactic(auto, unfolding(crate::specs::Asked::asked_repage))]
+fn read_repage<'a>(words: &'a [&'a str]) -> Option<Command<'a>>
+    ensures exact { option_map asked_by result ≡ asked_repage (map (λ word. word.now) words.now) }
+    ensures fits { IfSome result IsFitting }
+{
+    if owners_first(words) {
+        read_trace_owners(from_place(words, 1))
+    } else {
+        read_judged(words)
+    }
 }
 
 // `N`, where the front hand is a quarter of the frames ahead.

@@ -9,7 +9,7 @@ use std::alloc::{AllocError, Global};
 
 /// The commands that there are.
 const COMMANDS: &[u8] =
-    b"run, load, opt, curve, owners, film, stats, refs, grade, policies, replay, as or dis";
+    b"run, load, opt, curve, owners, film, stats, refs, grade, repage, policies, replay, as or dis";
 
 fn argument_name(argument: Argument) -> &'static [u8]
     ensures { result.now ≡ argument_name argument }

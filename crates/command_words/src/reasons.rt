@@ -4,9 +4,10 @@ ghost use Rattle.std.specs.List.{list_any};
 ghost use Rattle.run_files.specs.ImageWords.{starts};
 ghost use Rattle.command_words.specs.Words.{is_image_word, is_plain, without_trace};
 ghost use Rattle.command_words.specs.declared.reasons.Argument.TheVariants.{Frames, Swap, Limit, Schedule};
-ghost use Rattle.command_words.specs.Reasons.{why_of, least_of, most_of, takes, bad_image, bad_plain, none_starts, why_images, why_rest, why_words, why_form, frames_or_one, why_spread, why_sweep, why_policies, why_other, why_command, why_bad, RefusedHaveReasons};
+ghost use Rattle.command_words.specs.Reasons.{why_of, least_of, most_of, takes, bad_image, bad_plain, none_starts, why_images, why_rest, why_words, why_form, frames_or_one, why_spread, why_sweep, why_policies, why_other, why_repage, why_command, why_bad, RefusedHaveReasons};
 
-use crate::image_words::ImageWords;
+use crate::command::owners_first;
+use crate::image_words::{ImageWords, from_place};
 use crate::limits::{
     JOURNAL_ENTRIES, LAST_LOAD, LEAST_FRAMES, LEAST_SWAP, MOST_COMPARED, MOST_FRAMES, MOST_LIMIT,
     MOST_SHORT_LIMIT, MOST_SWAP,
@@ -284,7 +285,7 @@ fn why_policies<'a>(words: &[&'a str]) -> Option<BadWord<'a>>
     }
 }
 
-// What is wrong with the words after the name of a command other than `run`.
+// What is wrong with the words after the name of a command other than `run` and `repage`.
 #[tactic(auto, unfolding(crate::specs::Reasons::why_other))]
 fn why_other<'a>(name: &'a str, words: &[&'a str]) -> Option<BadWord<'a>>
     ensures { option_map why_of result ≡ why_other name.now (map (λ word. word.now) words.now) }
@@ -375,6 +376,28 @@ fn why_other<'a>(name: &'a str, words: &[&'a str]) -> Option<BadWord<'a>>
     }
 }
 
+// What is wrong with the words after `repage`.
+#[tactic(auto, unfolding(crate::specs::Reasons::why_repage))]
+fn why_repage<'a>(words: &'a [&'a str]) -> Option<BadWord<'a>>
+    ensures { option_map why_of result ≡ why_repage (map (λ word. word.now) words.now) }
+{
+    if owners_first(words) {
+        let arguments = [
+            Argument::Entries,
+            Argument::Frames,
+            Argument::Swap,
+            Argument::Trace,
+        ];
+        why_form(&arguments, true, from_place(words, 1))
+    } else {
+        why_form(
+            &[Argument::Frames, Argument::Swap, Argument::Trace],
+            true,
+            words,
+        )
+    }
+}
+
 // What is wrong with the words after `run`.
 fn why_run<'a>(alloc: Global, words: &'a [&'a str]) -> Result<Option<BadWord<'a>>, AllocError>
     ensures { IfOk result
@@ -401,6 +424,8 @@ fn why_command<'a>(
 {
     if name == "run" {
         why_run(alloc, words)
+    } else if name == "repage" {
+        Ok(why_repage(words))
     } else {
         Ok(why_other(name, words))
     }

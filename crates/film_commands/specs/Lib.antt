@@ -4,6 +4,17 @@ pub use Rattle.reference_commands.specs.Ends
 pub use Rattle.reference_commands.specs.InMemory
 pub use Rattle.reference_commands.specs.declared.question.Question
 pub use Rattle.reference_commands.specs.Answering
+pub use Rattle.reference_commands.specs.Naming
+pub use Rattle.reference_commands.specs.Machines
+pub use Rattle.reference_commands.specs.Outside
+pub use Rattle.reference_commands.specs.Sight
+pub use Rattle.reference_commands.specs.RunCommandAsking
+pub use Rattle.reference_commands.specs.Seen
+pub use Rattle.reference_commands.specs.RunCommandEnds
+pub use Rattle.reference_commands.specs.Loads
+pub use Rattle.reference_commands.specs.Headlines
+pub use Rattle.reference_commands.specs.Paired
+pub use Rattle.reference_commands.specs.RunHeadline
 pub mod Asked
 pub mod Filmed
 pub mod Counted

@@ -27,7 +27,7 @@ use Rattle.table_view.specs.Shown.{is_away}
 use Rattle.machine_state.specs.Showing.{ShowsCore}
 use Rattle.owner_lines.specs.declared.frames.Carried.{Carried}
 use Rattle.owner_lines.specs.Owners.{has_frame, carrier_from, carrier, is_unsaved, kept_text, used_by, used_text, free_text, free_place, owner_text}
-use Rattle.owner_lines.specs.Carried.{page_in, is_write, carried_by, carried_from, carried_text}
+use Rattle.owner_lines.specs.Carried.{page_in, is_write, carried_by, carried_from, carried_number, carried_text}
 
 same_eqb : (x f : ℕ) → x ≡ f → eqb x f ≡ true
 same_eqb x f e = ap (λ (y : ℕ). eqb y f) e ∙ eq_self f
@@ -144,6 +144,20 @@ is_carried p n f (t ∷ ts) m h = go (page_in f t.parts) refl (λ k l. is_carrie
               ∙ ap (λ (k : ℕ). Some (let c : Carried = record { number = k; is_write = is_write t.errand; page = q } in c)) (sym number);
           state = moving_in p f t.errand t.parts (parts_of ts) q m e;
         }
+
+-- the number of what is found is that of the transfer that has the frame
+pub carrier_found : (n f : ℕ) (ts : List Transfer) → carrier_from n f ts ≡ carried_number (carried_from n f ts)
+carrier_found n f [] = refl
+carrier_found n f (t ∷ ts) = go (page_in f t.parts) refl (carrier_found (n + 1) f ts)
+  where
+    go : (o : Option Page) → page_in f t.parts ≡ o → carrier_from (n + 1) f ts ≡ carried_number (carried_from (n + 1) f ts)
+        → carrier_from n f (t ∷ ts) ≡ carried_number (carried_by n t.errand (page_in f t.parts) (carried_from (n + 1) f ts))
+    go None e rest =
+        ap (λ (b : Bool). cond b n (carrier_from (n + 1) f ts)) (has_none f t e) ∙ rest
+        ∙ sym (ap (λ (o : Option Page). carried_number (carried_by n t.errand o (carried_from (n + 1) f ts))) e)
+    go (Some q) e rest =
+        ap (λ (b : Bool). cond b n (carrier_from (n + 1) f ts)) (has_some f t q e)
+        ∙ sym (ap (λ (o : Option Page). carried_number (carried_by n t.errand o (carried_from (n + 1) f ts))) e)
 
 moving_frame : (e : Errand) (f : ℕ) → frame_of (moving_state e f) ≡ Some f
 moving_frame Writes f = refl

@@ -44,6 +44,11 @@ abbrev pub carried_from : ℕ → ℕ → List Transfer → Option Carried
 carried_from n f [] = None
 carried_from n f (t ∷ ts) = carried_by n t.errand (page_in f t.parts) (carried_from (n + 1) f ts)
 
+-- the number of what was found; 0 where nothing was
+abbrev pub carried_number : Option Carried → ℕ
+carried_number None = 0
+carried_number (Some c) = c.number
+
 -- the word that tells whether a page is written or read
 abbrev pub carrying_word : Bool → List ℕ
 carrying_word true = codes " write"

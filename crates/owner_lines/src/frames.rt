@@ -12,9 +12,9 @@ ghost use Rattle.machine_state.specs.Showing.{ShowsCore};
 ghost use Rattle.machine_state.specs.View.{in_part, out_part, transfer_shown};
 ghost use Rattle.run_text.specs.Text.{parts};
 ghost use Rattle.run_text.specs.Writing.{PutsText};
-ghost use Rattle.owner_lines.specs.Owners.{kept_text, moved_text, used_by, free_text, free_place, owner_text, frame_line, frame_lines};
+ghost use Rattle.owner_lines.specs.Owners.{kept_text, moved_text, carrier, used_by, free_text, free_place, owner_text, frame_line, frame_lines};
 ghost use Rattle.owner_lines.specs.FreePlaces.{AreFreePlaces};
-ghost use Rattle.owner_lines.specs.Carried.{page_in, is_write, carried_in, carried_if, carried_from, carried_text};
+ghost use Rattle.owner_lines.specs.Carried.{page_in, is_write, carried_in, carried_if, carried_from, carried_number, carried_text};
 
 use crate::words::{put_if, put_page_if};
 use core_map::{CoreMap, Whose};
@@ -119,6 +119,23 @@ fn find_carrier(machine: &Machine, frame: u32) -> Option<Carried>
         }
     }
     None
+}
+
+// The number of a transfer that was found; 0 where none was.
+fn carried_number(found: Option<Carried>) -> u32
+    ensures { result ≡ carried_number found }
+{
+    match found {
+        Some(carried) => carried.number,
+        None => 0,
+    }
+}
+
+/// The number of the transfer that has a frame, 1 for the oldest in flight; 0 where none has it.
+pub fn carrier(machine: &Machine, frame: u32) -> u32
+    ensures { result ≡ carrier machine.now.kernel.place frame }
+{
+    carried_number(find_carrier(machine, frame))
 }
 
 // Whether a page may be used.

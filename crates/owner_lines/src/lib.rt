@@ -10,4 +10,5 @@ mod transfers;
 mod words;
 mod writing;
 
+pub use frames::carrier;
 pub use writing::write_owners;

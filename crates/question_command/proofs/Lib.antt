@@ -3,6 +3,8 @@ pub use Rattle.film_commands.proofs.Openings
 pub use Rattle.film_commands.proofs.Inputs
 pub use Rattle.film_commands.proofs.Runs
 pub use Rattle.film_commands.proofs.Names
+pub use Rattle.film_commands.proofs.RunCommandRuns
+pub use Rattle.film_commands.proofs.Found
 pub mod Asked
 pub mod Words
 pub mod Limits

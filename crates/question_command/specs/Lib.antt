@@ -3,4 +3,17 @@ pub use Rattle.film_commands.specs.InMemory
 pub use Rattle.film_commands.specs.Reading
 pub use Rattle.film_commands.specs.Asking
 pub use Rattle.film_commands.specs.Answering
+pub use Rattle.film_commands.specs.Naming
+pub use Rattle.film_commands.specs.Machines
+pub use Rattle.film_commands.specs.Outside
+pub use Rattle.film_commands.specs.Sight
+pub use Rattle.film_commands.specs.RunCommandAsking
+pub use Rattle.film_commands.specs.Seen
+pub use Rattle.film_commands.specs.RunCommandEnds
+pub use Rattle.film_commands.specs.Loads
+pub use Rattle.film_commands.specs.Headlines
+pub use Rattle.film_commands.specs.Paired
+pub use Rattle.film_commands.specs.Question
+pub use Rattle.film_commands.specs.Ends
+pub use Rattle.film_commands.specs.RunHeadline
 pub mod Explaining

@@ -11,5 +11,6 @@ mod transcript;
 pub use command::replay_file;
 pub use explaining::explain_transcript;
 pub use images::load_images;
+pub use last_line::without_fault_line;
 pub use naming::{Naming, name_images};
-pub use transcript::{read_entries, transcript_bytes_are_documented};
+pub use transcript::{TRANSCRIPT_BYTES, read_entries, transcript_bytes_are_documented};

@@ -6,8 +6,8 @@ use Rattle.std.proofs.lemmas.Bool.{and_parts}
 use Rattle.command_words.specs.declared.command.Numbers.{Numbers}
 use Rattle.command_words.specs.declared.limits.TheConstants.{MOST_LIMIT}
 use Rattle.command_words.specs.Words.{is_plain, is_name, are_image_words, is_trace, without_trace}
-use Rattle.command_words.specs.Asked.{Run, Replay, run_numbers, asked_with_run, asked_replay, asked_run, request_for, asked_other, asked_of, request_in}
-use Rattle.command_words.proofs.Requests.{no_request}
+use Rattle.command_words.specs.Asked.{Asked, Run, Replay, run_numbers, asked_with_run, asked_replay, asked_repage, words_of_run, asked_run, request_for, request_of, asked_other, asked_of, request_in}
+use Rattle.command_words.proofs.Requests.{request_is}
 
 -- The words of images with which a run is asked for.
 
@@ -52,14 +52,17 @@ module _ (traced : Bool) (numbers : Numbers) (schedule : List ℕ) (images : Lis
       go false all same = absurd cc
 
   pub good_images : (words : List (List ℕ)) → asked_of words ≡ Some (Run traced numbers schedule images) → AreGood images
-  unfolding asked_of
+  unfolding asked_of request_of
   good_images [] is = absurd cc
-  good_images (name ∷ words) is = go (bytes_eq name (codes "run")) is
+  good_images (name ∷ words) is = go (bytes_eq name (codes "run")) is (request_is (name ∷ words))
     where
-      go : (b : Bool) → (if b then asked_run words else asked_other name words) ≡ Some (Run traced numbers schedule images) → AreGood images
-      go true same = after_run words same
-      go false same = absurd (let none : request_in (asked_other name words) ≡ None = no_request name words in
-          let some : request_in (asked_other name words) ≡ Some (request_for traced numbers schedule images) = ap request_in same in cc)
+      other : Option Asked
+      other = if bytes_eq name (codes "repage") then asked_repage words else asked_other name words
+
+      go : (b : Bool) → (if b then asked_run words else other) ≡ Some (Run traced numbers schedule images)
+          → request_in (if b then asked_run words else other) ≡ (if b then words_of_run request_for words else None) → AreGood images
+      go true same asked = after_run words same
+      go false same asked = absurd (let some : request_in other ≡ Some (request_for traced numbers schedule images) = ap request_in same in cc)
 
 -- the words of a replay over such images ask for it
 pub replay_asked : (transcript : List ℕ) (images : List (List ℕ)) → is_plain transcript ≡ true → is_name transcript ≡ true → AreGood images

@@ -2,13 +2,13 @@
 use Rattle.std.proofs.Common.{◌≡◌, ◌⊎◌, inl, inr, ℕ, ◌<◌, ◌≤◌, List, Option, Some, None, Ok, Err, refl, sym, ◌∙◌, arith}
 use Rattle.io_edge.specs.FileHolding.{NamedFile}
 use Rattle.vm_facts.specs.declared.entry.Entry.{Entry}
-use Rattle.command_words.specs.Asked.{Request, Asked, Run, Load, Replay, Assemble, Show, Optimum, Curve, Owners, Film, Stats, References, Grade, Policies}
+use Rattle.command_words.specs.Asked.{Request, Asked, Run, Load, Replay, Assemble, Show, Optimum, Curve, Owners, Film, Stats, References, Grade, Repage, RepageOwners, Policies}
 use Rattle.command_ending.specs.declared.fault.Fault.TheVariants as faults
 use Rattle.command_ending.specs.Ending.{Ending, status_of as status_of_ending}
 use Rattle.command_ending.specs.Command.{Faults, NoFaults, EndCounted, Writes, All, Prefix, Completes}
-use Rattle.reference_commands.specs.Seen.{Seen, NoneFailed}
-use Rattle.reference_commands.specs.RunCommandEnds.{RunEnding, status_of, NothingDone, Unbegun, NoneFaulted, PageFailedAlone, ReadFailedAlone, WriteFailedAlone, IsCaused}
-use Rattle.reference_commands.specs.Loads.{IsLoadCaused}
+use Rattle.repage_command.specs.Seen.{Seen, NoneFailed}
+use Rattle.repage_command.specs.RunCommandEnds.{RunEnding, status_of, NothingDone, Unbegun, NoneFaulted, PageFailedAlone, ReadFailedAlone, WriteFailedAlone, IsCaused}
+use Rattle.repage_command.specs.Loads.{IsLoadCaused}
 use Rattle.vm_run.specs.Obeying.{Obeys, LeavesFiles, LeavesDevice}
 use Rattle.vm_run.specs.Failing.{FileFailedAlone, FailedOnce, NoCall, FileCall, ReadCall, WriteCall, FailsByStatus}
 
@@ -156,6 +156,7 @@ module _ (seen : Seen) where
   end_names (Err faults.ReferencesTooLong) kind counted reads writes = no_call 16 (inr (omega arith)) (record { files = counted; reads = reads; writes = writes })
   end_names (Err (faults.NotAsWritten line)) kind counted reads writes = no_call 19 (inr (omega arith)) (record { files = counted; reads = reads; writes = writes })
   end_names (Err (faults.WrittenSoFar entries)) kind counted reads writes = no_call 20 (inr (omega arith)) (record { files = counted; reads = reads; writes = writes })
+  end_names (Err (faults.NotPaged line)) kind counted reads writes = no_call 14 (inr (omega arith)) (record { files = counted; reads = reads; writes = writes })
 
   no_device : {R : Type 0} (Ends : R → Faults → Ending → Type 0) (read : R) (ending : Ending)
       → ((device : ℕ) → Ends read seen.faults (Err (faults.SwapReadFault device)) → ⊥)
@@ -211,6 +212,10 @@ module _ (seen : Seen) (status : ℕ) (F Z O : Type 0) (files : F → NoFaults s
   obeys_fails (Some (References numbers schedule images)) x f z o =
       completes_fails seen _ _ status x (λ read device ends. ends) (λ read device ends. ends) (no_reads z o) (no_writes z o)
   obeys_fails (Some (Grade numbers schedule trace images)) x f z o =
+      completes_fails seen _ _ status x (λ read device ends. ends) (λ read device ends. ends) (no_reads z o) (no_writes z o)
+  obeys_fails (Some (Repage numbers trace images)) x f z o =
+      completes_fails seen _ _ status x (λ read device ends. ends) (λ read device ends. ends) (no_reads z o) (no_writes z o)
+  obeys_fails (Some (RepageOwners entries numbers trace images)) x f z o =
       completes_fails seen _ _ status x (λ read device ends. ends) (λ read device ends. ends) (no_reads z o) (no_writes z o)
   obeys_fails (Some (Policies comparison references)) x f z o =
       completes_fails seen _ _ status x (λ read device ends. ends) (λ read device ends. ends) (no_reads z o) (no_writes z o)

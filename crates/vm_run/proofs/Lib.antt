@@ -1,4 +1,4 @@
-pub use Rattle.reference_commands.proofs.Found
+pub use Rattle.repage_command.proofs.Found
 pub mod Completing
 pub mod Failed
 pub mod Telling

@@ -2,15 +2,15 @@
 use Rattle.std.proofs.Common.{◌≡◌, ◌∙◌, ℕ, List, [], ◌++◌, Option, Some, None, ap, subst}
 use Rattle.vm_facts.specs.SwapImages.{SwapImage}
 use Rattle.io_edge.specs.FileHolding.{NamedFile}
-use Rattle.command_words.specs.Asked.{Request, Asked, Run, Load, Replay, Assemble, Show, Optimum, Curve, Owners, Film, Stats, References, Grade, Policies}
+use Rattle.command_words.specs.Asked.{Request, Asked, Run, Load, Replay, Assemble, Show, Optimum, Curve, Owners, Film, Stats, References, Grade, Repage, RepageOwners, Policies}
 use Rattle.command_ending.specs.Ending.{Ending as CommandEnding}
 use Rattle.command_ending.specs.Command.{Faults, Writes, Completes}
 use Rattle.run_text.specs.Text.{text_of}
 use Rattle.io_edge.specs.Octets.{AreOctetFiles}
-use Rattle.reference_commands.specs.Headlines.{Says}
-use Rattle.reference_commands.specs.RunCommandEnds.{ending_line, status_of}
-use Rattle.reference_commands.specs.Seen.{Seen}
-use Rattle.reference_commands.specs.Paired.{image_together}
+use Rattle.repage_command.specs.Headlines.{Says}
+use Rattle.repage_command.specs.RunCommandEnds.{ending_line, status_of}
+use Rattle.repage_command.specs.Seen.{Seen}
+use Rattle.repage_command.specs.Paired.{image_together}
 use Rattle.vm_run.specs.Obeying.{Obeys}
 use Rattle.vm_run.specs.Headline.{CarriesFor}
 use Rattle.vm_run.specs.InMemory.{blank_pair, seen_of, CompletesTold, ObeysTold, HeadlineInMemory}
@@ -43,6 +43,8 @@ obeys_told (Some (Film steps numbers schedule images)) seen files image status i
 obeys_told (Some (Stats numbers schedule images)) seen files image status is octets swap x = completes_told _ _ seen files status is x
 obeys_told (Some (References numbers schedule images)) seen files image status is octets swap x = completes_told _ _ seen files status is x
 obeys_told (Some (Grade numbers schedule trace images)) seen files image status is octets swap x = completes_told _ _ seen files status is x
+obeys_told (Some (Repage numbers trace images)) seen files image status is octets swap x = completes_told _ _ seen files status is x
+obeys_told (Some (RepageOwners entries numbers trace images)) seen files image status is octets swap x = completes_told _ _ seen files status is x
 obeys_told (Some (Policies comparison references)) seen files image status is octets swap x = completes_told _ _ seen files status is x
 
 -- What is seen where files and devices are in memory.

@@ -7,14 +7,15 @@ use Rattle.command_ending.specs.declared.fault.Fault.{Fault}
 use Rattle.command_ending.specs.declared.fault.Fault.TheVariants.{NoMemory}
 use Rattle.command_ending.specs.Ending.{fault_of}
 use Rattle.command_ending.specs.Command.{Faults}
-use Rattle.command_words.specs.Asked.{Asked, Run, Assemble, Replay, Optimum, Curve, Owners, Film, Stats, References, Grade, Policies, asked_of}
+use Rattle.command_words.specs.Asked.{Asked, Run, Assemble, Replay, Optimum, Curve, Owners, Film, Stats, References, Grade, Repage, RepageOwners, Policies, asked_of}
 use Rattle.command_words.specs.Explaining.{words_explained}
 use Rattle.source_commands.specs.Explaining.{ExplainsSource, LacksSource}
 use Rattle.replay_command.specs.Explaining.{ExplainsTranscript, LacksTranscript}
 use Rattle.schedule_reasons.specs.Explaining.{ExplainsSchedule, LacksSchedule}
-use Rattle.reference_commands.specs.Asking.{Subject}
-use Rattle.grade_command.specs.QuestionCommandExplaining.{ExplainsLimit, LacksLimit}
-use Rattle.grade_command.specs.Explaining.{ExplainsGrade, LacksPolicy}
+use Rattle.repage_command.specs.Asking.{Subject}
+use Rattle.repage_command.specs.QuestionCommandExplaining.{ExplainsLimit, LacksLimit}
+use Rattle.repage_command.specs.GradeCommandExplaining.{ExplainsGrade, LacksPolicy}
+use Rattle.repage_command.specs.Explaining.{ExplainsRepage, LacksWhy}
 use Rattle.reference_reasons.specs.Explaining.{ExplainsReferences, LacksReferences}
 
 -- where the status is the one that goes with a reason, the reason is told, and else nothing
@@ -41,7 +42,8 @@ abbrev pub ExplainsAnswer : Subject → ℕ → Option (List NamedFile) → Opti
 ExplainsAnswer subject status holds text = WhereSo (status == 0) (ExplainsLimit subject holds text) (ExplainsRun subject.schedule status holds text)
 
 -- of words that ask for a command: why a schedule, a source or a file of references is bad, what the flat machine gives where a
--- transcript is no run of it, what the policy writes where a trace isn't as written, or that its limit cut the run
+-- transcript is no run of it, what the policy writes where a trace isn't as written, why a line of a trace can't come where it is no run of
+-- the paged machine, or that its limit cut the run
 abbrev pub ExplainsAsked : Asked → ℕ → Option (List NamedFile) → Option (List ℕ) → Type 0
 ExplainsAsked (Run traced numbers schedule images) status holds text = ExplainsRun schedule status holds text
 ExplainsAsked (Optimum size numbers schedule images) status holds text =
@@ -56,6 +58,8 @@ ExplainsAsked (Grade numbers schedule trace images) status holds text =
     ExplainsTrace (record { numbers = numbers; schedule = schedule; words = images }) trace status holds text
 ExplainsAsked (Assemble source) status holds text = ToldWhere (status == 17) (ExplainsSource source holds text) text
 ExplainsAsked (Replay transcript images) status holds text = ToldWhere (status == 14) (ExplainsTranscript transcript images holds text) text
+ExplainsAsked (Repage numbers trace images) status holds text = ToldWhere (status == 14) (ExplainsRepage numbers trace images holds text) text
+ExplainsAsked (RepageOwners entries numbers trace images) status holds text = ToldWhere (status == 14) (ExplainsRepage numbers trace images holds text) text
 ExplainsAsked (Policies comparison references) status holds text = ToldWhere (status == 18) (ExplainsReferences references holds text) text
 ExplainsAsked asked status holds text = text ≡ None
 
@@ -105,6 +109,8 @@ LacksAsked (Grade numbers schedule trace images) status holds f fault =
     LacksTrace (record { numbers = numbers; schedule = schedule; words = images }) trace status holds f fault
 LacksAsked (Assemble source) status holds f fault = LacksWhere (status == 17) (LacksFile (LacksSource source holds) source fault)
 LacksAsked (Replay transcript images) status holds f fault = LacksWhere (status == 14) (LacksTranscript transcript images holds f fault)
+LacksAsked (Repage numbers trace images) status holds f fault = LacksWhere (status == 14) (LacksWhy numbers trace images holds f fault)
+LacksAsked (RepageOwners entries numbers trace images) status holds f fault = LacksWhere (status == 14) (LacksWhy numbers trace images holds f fault)
 LacksAsked (Policies comparison references) status holds f fault = LacksWhere (status == 18) (LacksFile (LacksReferences references holds) references fault)
 LacksAsked asked status holds f fault = ⊥
 

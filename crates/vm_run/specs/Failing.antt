@@ -2,8 +2,8 @@
 use Rattle.std.specs.Prelude.{◌≡◌, ◌⊎◌, ◌<◌, ℕ}
 use Rattle.io_edge.specs.Count.{Rose}
 use Rattle.command_ending.specs.Command.{OneFailed}
-use Rattle.reference_commands.specs.Seen.{Seen, NoneFailed}
-use Rattle.reference_commands.specs.RunCommandEnds.{NoneFaulted, ReadFailedAlone, WriteFailedAlone}
+use Rattle.repage_command.specs.Seen.{Seen, NoneFailed}
+use Rattle.repage_command.specs.RunCommandEnds.{NoneFaulted, ReadFailedAlone, WriteFailedAlone}
 
 -- one call of a file failed, and none of a swap device
 pub record FileFailedAlone (seen : Seen) : Type 0 where

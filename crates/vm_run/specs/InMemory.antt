@@ -7,27 +7,28 @@ use Rattle.io_edge.specs.Written.{Appends}
 use Rattle.vm_facts.specs.declared.entry.Entry.{Entry}
 use Rattle.run_text.specs.Text.{text_of}
 use Rattle.run_files.specs.Told.{bytes_told, image_told}
-use Rattle.command_words.specs.Asked.{Asked, Run, Load, Replay, Assemble, Show, Optimum, Curve, Owners, Film, Stats, References, Grade, Policies}
+use Rattle.command_words.specs.Asked.{Asked, Run, Load, Replay, Assemble, Show, Optimum, Curve, Owners, Film, Stats, References, Grade, Repage, RepageOwners, Policies}
 use Rattle.command_ending.specs.Ending.{Ending as CommandEnding}
 use Rattle.command_ending.specs.Command.{Faults, Writes, WritesEnding}
 use Rattle.source_commands.specs.Command.{source_bytes, EndsAssembly, EndsListing}
 use Rattle.replay_command.specs.Reading.{read_of_transcript as replay_told}
 use Rattle.replay_command.specs.Command.{EndsReplay}
 use Rattle.command_words.specs.Asked.{Request}
-use Rattle.reference_commands.specs.Seen.{Seen}
-use Rattle.reference_commands.specs.Machines.{journal_entries}
-use Rattle.reference_commands.specs.Paired.{image_together}
-use Rattle.reference_commands.specs.Headlines.{Says}
-use Rattle.reference_commands.specs.RunCommandEnds.{RunEnding, status_of, ending_line, Writing, IsCaused, IsJudged, EndsTold}
-use Rattle.reference_commands.specs.Loads.{load_written, finished_lines, IsLoadCaused, LoadEnded}
-use Rattle.reference_commands.specs.declared.question.Question.{Question}
-use Rattle.reference_commands.specs.declared.question.Question.TheVariants as questions
-use Rattle.reference_commands.specs.Reading.{read_told}
-use Rattle.reference_commands.specs.Answering.{blank_swap}
-use Rattle.reference_commands.specs.Asking.{Subject}
-use Rattle.reference_commands.specs.Ends.{EndsQuestion}
-use Rattle.grade_command.specs.Reading.{trace_told}
-use Rattle.grade_command.specs.Command.{EndsGrade}
+use Rattle.repage_command.specs.Seen.{Seen}
+use Rattle.repage_command.specs.Machines.{journal_entries}
+use Rattle.repage_command.specs.Paired.{image_together}
+use Rattle.repage_command.specs.Headlines.{Says}
+use Rattle.repage_command.specs.RunCommandEnds.{RunEnding, status_of, ending_line, Writing, IsCaused, IsJudged, EndsTold}
+use Rattle.repage_command.specs.Loads.{load_written, finished_lines, IsLoadCaused, LoadEnded}
+use Rattle.repage_command.specs.Question.{Question}
+use Rattle.repage_command.specs.Question.TheVariants as questions
+use Rattle.repage_command.specs.ReferenceCommandsReading.{read_told}
+use Rattle.repage_command.specs.Answering.{blank_swap}
+use Rattle.repage_command.specs.Asking.{Subject}
+use Rattle.repage_command.specs.Ends.{EndsQuestion}
+use Rattle.repage_command.specs.GradeCommandReading.{trace_told}
+use Rattle.repage_command.specs.GradeCommandCommand.{EndsGrade}
+use Rattle.repage_command.specs.Command.{EndsRepage, EndsOwners}
 use Rattle.policy_command.specs.Command.{EndsPolicies, references_told}
 use Rattle.vm_run.specs.Obeying.{Obeys}
 
@@ -111,6 +112,10 @@ ObeysTold (Some (References numbers schedule images)) seen files image status =
     AnswersTold questions.References (record { numbers = numbers; schedule = schedule; words = images }) seen files status
 ObeysTold (Some (Grade numbers schedule trace images)) seen files image status =
     GradesTold (record { numbers = numbers; schedule = schedule; words = images }) trace seen files status
+ObeysTold (Some (Repage numbers trace images)) seen files image status =
+    CompletesTold (EndsRepage numbers trace images) (replay_told trace images files) seen status
+ObeysTold (Some (RepageOwners entries numbers trace images)) seen files image status =
+    CompletesTold (EndsOwners entries numbers trace images) (replay_told trace images files) seen status
 ObeysTold (Some (Policies comparison references)) seen files image status =
     CompletesTold (EndsPolicies comparison references) (references_told references files) seen status
 

@@ -1,9 +1,9 @@
-pub use Rattle.reference_commands.specs.RunCommandAsking
-pub use Rattle.reference_commands.specs.Seen
-pub use Rattle.reference_commands.specs.Paired
-pub use Rattle.reference_commands.specs.RunCommandEnds
-pub use Rattle.reference_commands.specs.RunHeadline
-pub use Rattle.reference_commands.specs.Headlines
+pub use Rattle.repage_command.specs.RunCommandAsking
+pub use Rattle.repage_command.specs.Seen
+pub use Rattle.repage_command.specs.Paired
+pub use Rattle.repage_command.specs.RunCommandEnds
+pub use Rattle.repage_command.specs.RunHeadline
+pub use Rattle.repage_command.specs.Headlines
 pub mod Obeying
 pub mod Headline
 pub mod Complete

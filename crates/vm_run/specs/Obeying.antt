@@ -1,17 +1,18 @@
 -- What the words of a command line ask for is done.
 use Rattle.std.specs.Prelude.{ℕ, Option, Some, None, Err}
-use Rattle.command_words.specs.Asked.{Asked, Run, Load, Replay, Assemble, Show, Optimum, Curve, Owners, Film, Stats, References, Grade, Policies}
+use Rattle.command_words.specs.Asked.{Asked, Run, Load, Replay, Assemble, Show, Optimum, Curve, Owners, Film, Stats, References, Grade, Repage, RepageOwners, Policies}
 use Rattle.command_ending.specs.declared.fault.Fault.TheVariants.{BadWords}
 use Rattle.command_ending.specs.Command.{WritesEnding}
 use Rattle.source_commands.specs.Command.{Assembles, Lists}
 use Rattle.replay_command.specs.Command.{Replays}
-use Rattle.reference_commands.specs.Outside.{Early}
-use Rattle.reference_commands.specs.Seen.{Seen}
-use Rattle.reference_commands.specs.RunCommandEnds.{Runs}
-use Rattle.reference_commands.specs.Loads.{Loads}
-use Rattle.reference_commands.specs.declared.question.Question.TheVariants as questions
-use Rattle.reference_commands.specs.Ends.{Answers}
-use Rattle.grade_command.specs.Command.{Grades}
+use Rattle.repage_command.specs.Outside.{Early}
+use Rattle.repage_command.specs.Seen.{Seen}
+use Rattle.repage_command.specs.RunCommandEnds.{Runs}
+use Rattle.repage_command.specs.Loads.{Loads}
+use Rattle.repage_command.specs.Question.TheVariants as questions
+use Rattle.repage_command.specs.Ends.{Answers}
+use Rattle.repage_command.specs.GradeCommandCommand.{Grades}
+use Rattle.repage_command.specs.Command.{Repages, TellsWhose}
 use Rattle.policy_command.specs.Command.{Compares}
 
 -- The words are none of a command, and the line that says so was written; or they ask for a command, and it did what it is for.
@@ -47,6 +48,10 @@ Obeys (Some (References numbers schedule images)) seen status =
 Obeys (Some (Grade numbers schedule trace images)) seen status =
     Grades (record { numbers = numbers; schedule = schedule; words = images }) trace
     seen.files seen.faults seen.written_before seen.written_after seen.sink_faults_before seen.sink_faults_after status
+Obeys (Some (Repage numbers trace images)) seen status =
+    Repages numbers trace images seen.files seen.faults seen.written_before seen.written_after seen.sink_faults_before seen.sink_faults_after status
+Obeys (Some (RepageOwners entries numbers trace images)) seen status =
+    TellsWhose entries numbers trace images seen.files seen.faults seen.written_before seen.written_after seen.sink_faults_before seen.sink_faults_after status
 Obeys (Some (Policies comparison references)) seen status =
     Compares comparison references seen.files seen.faults seen.written_before seen.written_after seen.sink_faults_before seen.sink_faults_after status
 

@@ -1,18 +1,21 @@
 ghost use Rattle.std.specs.Prelude.{◌≡◌, map};
 ghost use Rattle.command_words.specs.Asked.{request_of, asked_of};
-ghost use Rattle.reference_commands.specs.Outside.{KeepsOutside};
-ghost use Rattle.reference_commands.specs.Sight.{seen_of_all};
+ghost use Rattle.repage_command.specs.Outside.{KeepsOutside};
+ghost use Rattle.repage_command.specs.Sight.{seen_of_all};
 ghost use Rattle.vm_run.specs.Headline.{CarriesFor};
 ghost use Rattle.vm_run.specs.Failing.{FailsByStatus};
 ghost use Rattle.vm_run.specs.Obeying.{Obeys, LeavesFiles, LeavesDevice};
 
 use command_ending::{Fault, write_ending};
 use command_words::{Command, read_words};
-use grade_command::grade_file;
-use grade_command::question_command::{Question, ask_command};
 use io_edge::{Files, Sink, SwapDev};
 use policy_command::compare_policies;
-use reference_commands::run_command::{load_command, run_command};
+use repage_command::grade_command::grade_file;
+use repage_command::grade_command::question_command::film_commands::reference_commands::run_command::{
+    load_command, run_command,
+};
+use repage_command::grade_command::question_command::{Question, ask_command};
+use repage_command::{repage_file, repage_owners};
 use replay_command::replay_file;
 use source_commands::{assemble_file, list_file};
 use std::alloc::Global;
@@ -154,6 +157,21 @@ fn obey<F: Files, D: SwapDev, E: SwapDev, S: Sink>(
             },
         ) => grade_file(alloc, files, sink, numbers, schedule, trace, images),
         Some(
+            Command::Repage {
+                numbers,
+                trace,
+                images,
+            },
+        ) => repage_file(alloc, files, sink, numbers, trace, images),
+        Some(
+            Command::RepageOwners {
+                entries,
+                numbers,
+                trace,
+                images,
+            },
+        ) => repage_owners(alloc, files, sink, entries, numbers, trace, images),
+        Some(
             Command::Policies {
                 comparison,
                 references,
@@ -166,7 +184,7 @@ fn obey<F: Files, D: SwapDev, E: SwapDev, S: Sink>(
 /// Does what the words of a command line ask for, without the program's name, over files, two swap devices and an
 /// output, and answers the exit status: 0 where it was done; 1 bad words; 2 an absent file; 3 no image; 4 a bad schedule;
 /// 5 a file fault; 6 a fault of a swap device that is read, 7 of one that is written; 8 a fault of the output; 9 want of
-/// memory; 10 a full journal; 11 no swap for a first process; 12 a swap device that is too short; 14 a transcript that is no run;
+/// memory; 10 a full journal; 11 no swap for a first process; 12 a swap device that is too short; 14 a transcript or a trace that is no run;
 /// 15 a bad transcript; 16 one that is too long, or a file of references; 17 a bad source; 18 a bad line of references; 19 a trace that the
 /// policy doesn't write; 20 one of which it writes more. The first thing met decides, but an output that fails gives 8 whatever came before
 /// (this project's profile).
@@ -175,7 +193,7 @@ fn obey<F: Files, D: SwapDev, E: SwapDev, S: Sink>(
 /// output. At 8 one of the others may have failed before, and at any other status none failed.
 ///
 /// A run reads its pages from the files, and a load from files of its own in memory; both write to the swap devices and read from
-/// them. Other commands leave the devices as they are: the runs of `opt`, `curve`, `owners`, `film`, `stats`, `refs` and `grade` have a
+/// them. Other commands leave the devices as they are: the runs of `opt`, `curve`, `owners`, `film`, `stats`, `refs`, `grade` and `repage` have a
 /// swap of their own in memory.
 pub fn vmrun<F: Files, D: SwapDev, E: SwapDev, S: Sink>(
     alloc: Global,

@@ -1,18 +1,22 @@
-ghost use Rattle.std.specs.Prelude.{◌≡◌, IfOk, IfErr, map, option_map};
+ghost use Rattle.std.specs.Prelude.{◌≡◌, ◌==◌, IfOk, IfErr, map, option_map};
 ghost use Rattle.io_edge.specs.Calls.{KeepsFiles};
 ghost use Rattle.command_ending.specs.declared.fault.Fault.TheVariants.{NoMemory};
+ghost use Rattle.command_words.specs.Command.{IsFittingRun};
+ghost use Rattle.command_words.specs.declared.limits.TheConstants.{MOST_LIMIT};
 ghost use Rattle.command_words.specs.Explaining.{words_explained};
 ghost use Rattle.source_commands.specs.Explaining.{ExplainsSource, LacksSource};
 ghost use Rattle.schedule_reasons.specs.Explaining.{ExplainsSchedule, LacksSchedule};
 ghost use Rattle.reference_reasons.specs.Explaining.{ExplainsReferences, LacksReferences};
-ghost use Rattle.vm_run.specs.Explaining.{Explains, LacksFile, LacksReason};
+ghost use Rattle.repage_command.specs.Explaining.{ExplainsRepage, LacksWhy};
+ghost use Rattle.vm_run.specs.Explaining.{Explains, LacksFile, LacksReason, LacksWhere, ToldWhere};
 
 use command_ending::Fault;
-use command_words::{Command, explain_words, read_words};
-use grade_command::explain_grade;
-use grade_command::question_command::explain_limit;
+use command_words::{Command, Numbers, explain_words, read_words};
 use io_edge::Files;
 use reference_reasons::explain_references;
+use repage_command::explain_repage;
+use repage_command::grade_command::explain_grade;
+use repage_command::grade_command::question_command::explain_limit;
 use replay_command::explain_transcript;
 use schedule_reasons::explain_schedule;
 use source_commands::explain_source;
@@ -27,8 +31,8 @@ const BAD_WORDS: u8 = 1;
 /// The status of a bad schedule.
 const BAD_SCHEDULE: u8 = 4;
 
-/// The status of a transcript that is no run of the flat machine.
-const NOT_FLAT_RUN: u8 = 14;
+/// The status of a transcript that is no run of the flat machine, or of a trace that is none of the paged machine.
+const NOT_A_RUN: u8 = 14;
 
 /// The status of a bad source.
 const BAD_SOURCE: u8 = 17;
@@ -87,6 +91,36 @@ fn explain_bad_references<'a, F: Files>(
     }
 }
 
+// Why the first line of a trace that can't come can't, where the status says that there is one.
+fn explain_judged<'a, F: Files>(
+    alloc: Global,
+    files: &mut F,
+    numbers: Numbers,
+    trace: &'a str,
+    images: &[&'a str],
+    status: u8,
+) -> Result<Option<Vec<u8>>, Fault<'a>>
+    requires fits { IsFittingRun MOST_LIMIT numbers trace images.now }
+    requires limit { numbers.limit ≡ 1000000 }
+    ensures explains { IfOk result (λ text. ToldWhere (status == 14)
+        (ExplainsRepage numbers trace.now (map (λ word. word.now) images.now) (F.holds files.old) (option_map (λ line. line.items) text))
+        (option_map (λ line. line.items) text)) }
+    ensures lacks { IfErr result (λ fault. LacksWhere (status == 14)
+        (LacksWhy numbers trace.now (map (λ word. word.now) images.now) (F.holds files.old) (record {
+          open_before = F.open_faults files.old;
+          open_after = F.open_faults files.new;
+          page_before = F.page_faults files.old;
+          page_after = F.page_faults files.new;
+        }) fault)) }
+    ensures kept { KeepsFiles F.Files files.old files.new }
+{
+    if status == NOT_A_RUN {
+        explain_repage(alloc, files, numbers, trace, images)
+    } else {
+        Ok(None)
+    }
+}
+
 // Why words ask for no command.
 fn explain_bad_words<'a>(alloc: Global, words: &'a [&'a str]) -> Result<Option<Vec<u8>>, Fault<'a>>
     ensures explains { IfOk result (λ text. option_map (λ line. line.items) text ≡ words_explained (map (λ word. word.now) words.now)) }
@@ -101,8 +135,9 @@ fn explain_bad_words<'a>(alloc: Global, words: &'a [&'a str]) -> Result<Option<V
 /// What else a user should know of words for which `vmrun` answered this status, for standard error: where they are bad,
 /// which of them isn't what it is for; where a schedule, a source or a file of references is bad, why the line that was named is;
 /// where a transcript is no run of the flat machine, what that gives there; where a trace isn't as the policy writes it, what that writes
-/// there; where `opt` or `curve` answered about a run that LIMIT cut, that it was cut. None for every other command and status. The files
-/// are read again, so a reason may be lost where that fails, and is that of the files as they are then (this project's profile).
+/// there; where a trace is no run of the paged machine, why its first line that can't come can't; where `opt` or `curve` answered about a run
+/// that LIMIT cut, that it was cut. None for every other command and status. The files are read again, so a reason may be lost where that
+/// fails, and is that of the files as they are then (this project's profile).
 pub fn explain<'a, F: Files>(
     alloc: Global,
     words: &'a [&'a str],
@@ -123,7 +158,7 @@ pub fn explain<'a, F: Files>(
         Some(Command::Assemble { source }) if status == BAD_SOURCE => {
             explain_bad_source(alloc, files, source)
         }
-        Some(Command::Replay { transcript, images }) if status == NOT_FLAT_RUN => {
+        Some(Command::Replay { transcript, images }) if status == NOT_A_RUN => {
             explain_transcript(alloc, files, transcript, images)
         }
         Some(
@@ -136,6 +171,19 @@ pub fn explain<'a, F: Files>(
         ) if status == NOT_AS_WRITTEN => {
             explain_grade(alloc, files, numbers, schedule, trace, images)
         }
+        Some(
+            Command::Repage {
+                numbers,
+                trace,
+                images,
+            }
+            | Command::RepageOwners {
+                numbers,
+                trace,
+                images,
+                ..
+            },
+        ) => explain_judged(alloc, files, numbers, trace, images, status),
         Some(Command::Policies { references, .. }) if status == BAD_REFERENCES => {
             explain_bad_references(alloc, files, references)
         }

@@ -1,0 +1,58 @@
+use Rattle.std.proofs.Common.{inl, ℕ, List, Some, None, Ok, Err, Option, Result, Vec, Global, refl, sym, ap, ◌∙◌, subst}
+use Rattle.std.specs.Option.{option_map}
+use Rattle.io_edge.specs.FileHolding.{NamedFile}
+use Rattle.paged_model.specs.declared.line.Line.{Line}
+use Rattle.run_files.specs.Told.{whole_told}
+use Rattle.command_ending.specs.declared.fault.Fault.{Fault}
+use Rattle.command_ending.specs.declared.fault.Fault.TheVariants as faults
+use Rattle.command_ending.specs.Command.{Faults, FaultCounted, Made}
+use Rattle.command_ending.proofs.Counting.{unread_counted}
+use Rattle.command_ending.proofs.Makings.{made_by}
+use Rattle.replay_command.specs.Reading.{items_of}
+use Rattle.repage_command.specs.Reading.{EndsFew, EndsTrace}
+use Rattle.repage_command.proofs.Readings.{few_ends, few_counted, unread_trace}
+use Rattle.repage_command.proofs.reading.read_lines.Goals as goal
+
+pub returns-in-Ok-Some-clause-ends : goal.returns-in-Ok-Some-clause-ends
+returns-in-Ok-Some-clause-ends g c =
+    made_by (EndsTrace c.args.name.now) (λ (list : List NamedFile). whole_told list c.args.name.now 67108864) (g.F.Files.holds c.args.files.now) _ (items_of c.few_lines_of.result)
+    (Ok (Some c.in-Ok-Some.bytes.items))
+    (λ list told. c.in-Ok-Some.ensures.answers list told ∙ ap (λ (o : Option (Vec ℕ Global)). Ok (option_map (λ (bytes : Vec ℕ Global). bytes.items) o)) c.in-Ok-Some.field-0-is)
+    (few_ends c.args.name.now c.in-Ok-Some.bytes.items _ (items_of c.few_lines_of.result) (record { open_same = c.in-Ok-Some.ensures.open_faults; page_same = c.in-Ok-Some.ensures.page_faults })
+    (subst (λ (bytes : List ℕ). EndsFew bytes (items_of c.few_lines_of.result)) c.as_slice.ensures.value c.few_lines_of.ensures.ends))
+
+pub returns-in-Ok-None-clause-ends : goal.returns-in-Ok-None-clause-ends
+returns-in-Ok-None-clause-ends g c =
+    made_by (EndsTrace c.args.name.now) (λ (list : List NamedFile). whole_told list c.args.name.now 67108864) (g.F.Files.holds c.args.files.now) _ (Err faults.TooLong) (Ok None)
+    (λ list told. c.in-Ok-None.ensures.answers list told ∙ ap (λ (o : Option (Vec ℕ Global)). Ok (option_map (λ (bytes : Vec ℕ Global). bytes.items) o)) c.in-Ok-None.field-0-is)
+    (inl refl)
+
+pub returns-in-Err-clause-ends : goal.returns-in-Err-clause-ends
+returns-in-Err-clause-ends g c =
+    let f : Faults = record {
+      open_before = g.F.Files.open_faults c.args.files.now;
+      open_after = g.F.Files.open_faults c.read_whole.new.files;
+      page_before = g.F.Files.page_faults c.args.files.now;
+      page_after = g.F.Files.page_faults c.read_whole.new.files;
+    } in
+    subst (λ (e : Fault). Made {E = Result (List Line) Fault} (EndsTrace c.args.name.now) (λ (list : List NamedFile). whole_told list c.args.name.now 67108864)
+    (g.F.Files.holds c.args.files.now) f (Err e))
+    (sym c.of_unread.ensures)
+    (unread_trace {A = Option (Vec ℕ Global)} (option_map (λ (bytes : Vec ℕ Global). bytes.items)) c.args.name (λ (list : List NamedFile). whole_told list c.args.name.now 67108864)
+    (g.F.Files.holds c.args.files.now) f c.in-Err.unread
+    c.in-Err.ensures.answers c.in-Err.ensures.error c.in-Err.ensures.open_faults c.in-Err.ensures.page_faults)
+
+pub returns-in-Ok-Some-clause-counted : goal.returns-in-Ok-Some-clause-counted
+returns-in-Ok-Some-clause-counted g c =
+    few_counted _ _ (items_of c.few_lines_of.result) (record { open_same = c.in-Ok-Some.ensures.open_faults; page_same = c.in-Ok-Some.ensures.page_faults }) c.few_lines_of.ensures.ends
+
+pub returns-in-Err-clause-counted : goal.returns-in-Err-clause-counted
+returns-in-Err-clause-counted g c =
+    let f : Faults = record {
+      open_before = g.F.Files.open_faults c.args.files.now;
+      open_after = g.F.Files.open_faults c.read_whole.new.files;
+      page_before = g.F.Files.page_faults c.args.files.now;
+      page_after = g.F.Files.page_faults c.read_whole.new.files;
+    } in
+    subst (λ (e : Fault). FaultCounted e f) (sym c.of_unread.ensures)
+    (unread_counted (Option (Vec ℕ Global)) c.args.name c.in-Err.unread f c.in-Err.ensures.open_faults c.in-Err.ensures.page_faults)
