@@ -280,6 +280,20 @@ function tell(before, now) {
       const text = `The hands made ${many(a, "move")}: the front hand is at frame ${now.front} now, the back hand at frame ${now.back}.`;
       return before ? text + handsWords(before, now, a) : text;
     }
+    // the parts of a move of the hands, of a trace by another policy
+    case "E": {
+      const page = pageOf(words, 1);
+      const frame = frameOf(now, page);
+      return `${upper(pageWords(page))} is made invalid${frame ? `, and keeps frame ${frame.frame}` : ""}.`;
+    }
+    case "W": {
+      const text = `${upper(pageWords(pageOf(words, 1)))} is written, invalid and dirty.`;
+      return before ? text + began(before, now) : text;
+    }
+    case "F": {
+      const text = `${upper(pageWords(pageOf(words, 1)))} is given up, invalid and clean.`;
+      return before ? text + freed(before, now) : text;
+    }
     case "P": {
       const page = pageOf(words, 1);
       const process = now.processes.find((it) => it.kind === "in" && it.sid === page.owner);
