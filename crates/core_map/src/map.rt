@@ -222,6 +222,7 @@ impl CoreMap {
     }
 
     /// Changes the bytes of a resident frame from a place on, and leaves its mark as it is.
+    #[inline(always)]
     pub fn put_bytes(&mut self, frame: u32, at: u32, bytes: &[u8])
         requires resident { IsTrue (is_resident (slot_at self.old.slots frame)) }
         requires within { at + length bytes.now ≤ 1024 }

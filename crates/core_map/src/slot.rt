@@ -102,6 +102,7 @@ pub(crate) fn put_byte(slot: &mut Slot, at: u32, byte: u8)
 }
 
 /// Changes the bytes of a resident slot from a place on.
+#[inline(always)]
 pub(crate) fn put_bytes(slot: &mut Slot, at: u32, bytes: &[u8])
     requires resident { IsTrue (is_resident slot.old) }
     requires within { at + length bytes.now ≤ 1024 }

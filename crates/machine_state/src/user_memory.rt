@@ -135,6 +135,7 @@ impl Machine {
 
     // The bytes of a valid page of data or stack from a place on are written, at least one. The page's space stands at `index`.
     // A page that was dirty keeps its entry and its frame's mark, which say so.
+    #[inline(always)]
     fn write_bytes(&mut self, index: usize, page: Page, frame: u32, at: u32, bytes: &[u8])
         requires running { self.old.kernel.stopped ≡ false }
         requires own { IsOwnPage self.old.kernel.place index page }
@@ -431,6 +432,7 @@ impl Memory for SpaceMemory<'_> {
         }
     }
 
+    #[inline(always)]
     fn ahead(&self, address: u32) -> &[u8] {
         match self.spot(address) {
             Spot::Text(at) => self.page_from(self.text_frame(at), at % PAGE),

@@ -130,6 +130,7 @@ impl SpaceMap {
     }
 
     /// Where a page is; `None` exactly where the page isn't of this space.
+    #[inline(always)]
     pub fn place(&self, page: Page) -> Option<Place>
         ensures { result ≡ place_in self.now page }
     {

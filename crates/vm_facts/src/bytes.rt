@@ -32,6 +32,7 @@ impl Bytes {
 }
 
 /// Writes bytes over those that stand from a place on.
+#[inline(always)]
 pub fn overwrite(bytes: &mut [u8], at: usize, with: &[u8])
     requires { at + length with.now ≤ length bytes.old }
     ensures { bytes.new ≡ overwritten bytes.old at with.now }
