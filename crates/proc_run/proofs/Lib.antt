@@ -17,3 +17,4 @@ mod StopsSame
 pub mod Stretched
 mod Finished
 pub mod BegunTold
+mod Appended

@@ -5,6 +5,7 @@ ghost use Rattle.machine_state.specs.Going.{CanGoOn};
 ghost use Rattle.machine_state.specs.UserMemory.{CanLend, Wrote, kernel_answers};
 ghost use Rattle.steady_laws.specs.Callers.{regs_of};
 ghost use Rattle.steady_laws.specs.Growth.{space_of_pid};
+ghost use Rattle.user_step.specs.FixedCode.{AreFixed};
 ghost use Rattle.proc_run.specs.Calls.{own_answers};
 ghost use Rattle.proc_run.specs.Runs.{IsSteady};
 ghost use Rattle.proc_run.specs.Stretch.{GoesOr, StretchOf, MissesByte, RanOn};
@@ -12,9 +13,12 @@ ghost use Rattle.proc_run.specs.Stretch.{GoesOr, StretchOf, MissesByte, RanOn};
 use crate::attempting::last_counts;
 use crate::choosing::ready_regs;
 use machine_state::Machine;
-use user_step::{DecodeCache, step_unless_call};
+use user_step::{DecodeCache, FixedCode, step_fixed, step_unless_call};
 use user_vax::Stepped;
 use vm_facts::{Memory, Regs};
+
+/// A stretch of more instructions than these is a long one.
+const FEW: u32 = 32;
 
 /// A byte to which an instruction has no access yet.
 #[derive(Clone, Copy, Drop)]
@@ -48,8 +52,36 @@ fn go_on<M: Memory>(
     }
 }
 
+// The same, where addresses are remembered at which instructions stand in bytes that stay.
+fn go_on_fixed<M: Memory>(
+    fixed: &mut FixedCode,
+    cache: &mut DecodeCache,
+    memory: &mut M,
+    regs: &mut Regs,
+) -> Result<(), Option<Missed>>
+    requires { AreFixed (M.answers memory.old) fixed.old cache.old }
+    ensures goes { GoesOr (is_ok result) (M.answers memory.old) regs.old regs.new (λ ws. M.wrote memory.old ws memory.new) }
+    ensures missed { IfErr result (λ missed. IfSome missed (MissesByte (M.answers memory.new) regs.new)) }
+    ensures fixed { AreFixed (M.answers memory.new) fixed.new cache.new }
+{
+    match step_fixed(fixed, cache, regs, memory) {
+        Stepped::Done => Ok(()),
+        Stepped::Miss { address, write } => {
+            let byte = Missed { address, write };
+            Err(Some(byte))
+        }
+        Stepped::Call(_number) => Err(None),
+        Stepped::Below { .. } | Stepped::Signal(_) => Err(None),
+    }
+}
+
 // Carries instructions out, one after another, up to one that isn't, and at most so many.
-fn stretch<M: Memory>(cache: &mut DecodeCache, memory: &mut M, regs: &mut Regs, most: u32) -> Reach
+fn short_stretch<M: Memory>(
+    cache: &mut DecodeCache,
+    memory: &mut M,
+    regs: &mut Regs,
+    most: u32,
+) -> Reach
     ensures few { result.count ≤ most }
     ensures carried { StretchOf (M.answers memory.old) regs.old result.count regs.new (λ ws. M.wrote memory.old ws memory.new) }
     ensures missed { IfSome result.missed (MissesByte (M.answers memory.new) regs.new) }
@@ -63,6 +95,47 @@ fn stretch<M: Memory>(cache: &mut DecodeCache, memory: &mut M, regs: &mut Regs, 
     Reach {
         count: most,
         missed: None,
+    }
+}
+
+// The same. Each address at which an instruction stands in bytes that stay is remembered, which takes some time at first.
+fn long_stretch<M: Memory>(
+    cache: &mut DecodeCache,
+    memory: &mut M,
+    regs: &mut Regs,
+    most: u32,
+) -> Reach
+    ensures few { result.count ≤ most }
+    ensures carried { StretchOf (M.answers memory.old) regs.old result.count regs.new (λ ws. M.wrote memory.old ws memory.new) }
+    ensures missed { IfSome result.missed (MissesByte (M.answers memory.new) regs.new) }
+{
+    let mut fixed = FixedCode::none();
+    for count in 0..most {
+        match go_on_fixed(&mut fixed, cache, memory, regs) {
+            Ok(()) => {}
+            Err(missed) => return Reach { count, missed },
+        }
+    }
+    Reach {
+        count: most,
+        missed: None,
+    }
+}
+
+// The same: a few by themselves, and if these were all carried out the others as a long stretch.
+fn stretch<M: Memory>(cache: &mut DecodeCache, memory: &mut M, regs: &mut Regs, most: u32) -> Reach
+    ensures few { result.count ≤ most }
+    ensures carried { StretchOf (M.answers memory.old) regs.old result.count regs.new (λ ws. M.wrote memory.old ws memory.new) }
+    ensures missed { IfSome result.missed (MissesByte (M.answers memory.new) regs.new) }
+{
+    let first = short_stretch(cache, memory, regs, most.min(FEW));
+    if first.count < FEW {
+        return first;
+    }
+    let rest = long_stretch(cache, memory, regs, most - first.count);
+    Reach {
+        count: first.count + rest.count,
+        missed: rest.missed,
     }
 }
 

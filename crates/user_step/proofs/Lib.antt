@@ -3,3 +3,4 @@ pub mod Fetching
 pub mod Ahead
 pub mod Together
 pub mod Downwards
+pub mod StaysFixed

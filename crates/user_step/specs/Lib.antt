@@ -2,3 +2,4 @@ pub mod Fetching
 pub mod Code
 pub mod Tried
 pub mod OneProof
+pub mod FixedCode

@@ -1,68 +1,24 @@
 //! A cache of decoded instructions, each beside the bytes that it was decoded from.
-ghost use Rattle.std.specs.Prelude.{◌≡◌, ◌≤◌, [], true, false, Some, Ok, IfSome, take};
+ghost use Rattle.std.specs.Prelude.{◌≡◌, ◌%◌, [], true, Ok, IfSome, take, slice_get};
+ghost use Rattle.vm_facts.specs.Answers.{Answers};
 ghost use Rattle.vax_code.specs.declared.instr.Decoded.TheVariants.{Is};
 ghost use Rattle.vax_code.specs.Reading.{decoded};
-ghost use Rattle.vax_code.specs.Table.{row_for};
-ghost use Rattle.vax_code.specs.declared.instr.Operand.TheVariants.{Literal};
-ghost use Rattle.vax_code.specs.Valid.{IsOperand};
-ghost use Rattle.vax_execute.specs.Plain.{StaysInRegisters, is_at_hand, is_plain, is_push};
 ghost use Rattle.user_vax.specs.Program.{run};
 ghost use Rattle.user_vax.specs.Instruction.{fetch};
-ghost use Rattle.user_step.specs.OneProof.{IsOperand-prop};
+ghost use Rattle.user_step.specs.FixedCode.{AreFixed, IsSameElsewhere, StandsAt};
 
-use vax_code::{Front, Instr, Row, decode_into, row_of};
-use vax_execute::stays_in_registers;
+use crate::decoding::{Decoding, decode};
+use crate::fixed_code::FixedCode;
 use vm_facts::Memory;
 
 /// It holds so many instructions.
 const PLACES: usize = 512;
-
-/// An instruction with its row of the instruction table, and sixteen bytes that begin with it. It is known whether it stays in registers.
-#[derive(Clone, Copy)]
-pub struct Decoding {
-    bytes: [u8; 16],
-    pub instr: Instr,
-    pub row: Row,
-    pub stays: bool,
-    ghost decodes: { decoded bytes ≡ Is instr },
-    ghost listed: { row_for instr.op ≡ Some row },
-
-    // Together these say `HasOperands` of the instruction.
-    ghost first: { IsOperand instr.a } by { IsOperand-prop instr.a },
-    ghost second: { IsOperand instr.b } by { IsOperand-prop instr.b },
-    ghost third: { IsOperand instr.c } by { IsOperand-prop instr.c },
-    ghost no_first: { instr.count ≤ 0 → instr.a ≡ Literal 0 },
-    ghost no_second: { instr.count ≤ 1 → instr.b ≡ Literal 0 },
-    ghost no_third: { instr.count ≤ 2 → instr.c ≡ Literal 0 },
-
-    // Together these say `StaysInRegisters` of one that stays there.
-    ghost plain: { stays ≡ true → is_plain row.name ≡ true },
-    ghost pushes_none: { stays ≡ true → is_push row.name ≡ false },
-    ghost first_at_hand: { stays ≡ true → is_at_hand instr.a ≡ true },
-    ghost second_at_hand: { stays ≡ true → is_at_hand instr.b ≡ true },
-    ghost third_at_hand: { stays ≡ true → is_at_hand instr.c ≡ true },
-    ghost leaves: { stays ≡ false → StaysInRegisters row.name instr → ⊥ },
-}
 
 /// A cache of decoded instructions, so that those of a loop are decoded once. An instruction has its place in it by the low bits of
 /// its address. Its bytes are compared where it is looked up, so the cache is right for any memory, and whatever was written.
 #[derive(Drop)]
 pub struct DecodeCache {
     places: [Option<Decoding>; PLACES],
-}
-
-/// The instruction that sixteen bytes begin with, if there is one.
-fn decode(bytes: &[u8; 16]) -> Option<Decoding> {
-    let mut instr = Instr::blank();
-    decode_into(&mut Front::of(bytes), &mut instr).ok()?;
-    let row = row_of(instr.op)?;
-    let stays = stays_in_registers(row.name, &instr);
-    Some(Decoding {
-        bytes: *bytes,
-        instr,
-        row,
-        stays,
-    })
 }
 
 impl DecodeCache {
@@ -94,10 +50,38 @@ impl DecodeCache {
         Some(found)
     }
 
+    /// Whether the cache has the instruction at an address of a memory.
+    pub fn stands_at<M: Memory>(&self, memory: &M, address: u32) -> bool
+        ensures { result ≡ true → StandsAt (M.answers memory.now) address (slice_get self.now.places (address % 512)) }
+    {
+        let Some(first) = memory.ahead(address).first_chunk::<16>() else {
+            return false;
+        };
+        match &self.places[address as usize % PLACES] {
+            Some(decoding) => decoding.bytes == *first,
+            None => false,
+        }
+    }
+
+    /// The instruction at an address where it is fixed. No byte is read.
+    #[inline(always)]
+    pub fn fixed_at(&self, fixed: &FixedCode, address: u32) -> Option<&Decoding>
+        ensures { (memory : Answers) → AreFixed memory fixed.now self.now
+            → IfSome result (λ found. run memory (fetch 20 address []) ≡ Ok found.now.instr) }
+    {
+        if fixed.has(address) {
+            self.places[address as usize % PLACES].as_ref()
+        } else {
+            None
+        }
+    }
+
     /// Enters the instruction at an address of a memory, in the place of another one. One whose bytes don't lie together with as
     /// many more as make sixteen isn't entered.
     #[inline(never)]
-    pub fn enter<M: Memory>(&mut self, memory: &M, address: u32) {
+    pub fn enter<M: Memory>(&mut self, memory: &M, address: u32)
+        ensures { IsSameElsewhere address self.old self.new }
+    {
         if let Some(first) = memory.ahead(address).first_chunk::<16>() {
             self.places[address as usize % PLACES] = decode(first);
         }

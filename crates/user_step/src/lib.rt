@@ -6,7 +6,10 @@
 mod code;
 mod commit;
 mod decode_cache;
+mod decoding;
+mod fixed_code;
 mod stepping;
 
 pub use decode_cache::DecodeCache;
-pub use stepping::{step, step_cached, step_unless_call};
+pub use fixed_code::FixedCode;
+pub use stepping::{step, step_cached, step_fixed, step_unless_call};

@@ -3,6 +3,7 @@ ghost use Rattle.vax_code.specs.Table.{row_for};
 ghost use Rattle.vax_code.specs.Valid.{HasOperands};
 ghost use Rattle.user_vax.specs.Program.{run};
 ghost use Rattle.user_step.specs.Code.{reads_from};
+ghost use Rattle.user_step.specs.FixedCode.{AreFixed, IsSameElsewhere};
 ghost use Rattle.user_vax.specs.Instruction.{fetch, instruction, answer_of, registers_after, writes_of};
 ghost use Rattle.user_vax.specs.Effects.{Effect, registers_only};
 ghost use Rattle.user_vax.specs.Operands.{register};
@@ -13,7 +14,9 @@ ghost use Rattle.user_step.specs.Tried.{LeavesInstr, Prepares, CarriesOut, compl
 
 use crate::code::{Code, decode_first};
 use crate::commit::{write_one, write_pushes};
-use crate::decode_cache::{DecodeCache, Decoding};
+use crate::decode_cache::DecodeCache;
+use crate::decoding::Decoding;
+use crate::fixed_code::FixedCode;
 use user_vax::{Refused, SIGILL, Stepped, read_byte};
 use vax_code::{Fault, Instr, Row, decode_into, row_of};
 use vax_execute::{
@@ -355,6 +358,7 @@ fn step_anew_unless_call<M: Memory>(
     ensures answer { result ≡ answer_of (run (M.answers memory.old) (instruction regs.old)) }
     ensures registers { regs.new ≡ registers_tried result regs.old (run (M.answers memory.old) (instruction regs.old)) }
     ensures wrote { M.wrote memory.old (writes_of (run (M.answers memory.old) (instruction regs.old))) memory.new }
+    ensures elsewhere { IsSameElsewhere (register regs.old 15) cache.old cache.new }
 {
     cache.enter(memory, regs.r[15]);
     let before = *regs;
@@ -371,9 +375,55 @@ pub fn step_unless_call<M: Memory>(
     ensures answer { result ≡ answer_of (run (M.answers memory.old) (instruction regs.old)) }
     ensures registers { regs.new ≡ registers_tried result regs.old (run (M.answers memory.old) (instruction regs.old)) }
     ensures wrote { M.wrote memory.old (writes_of (run (M.answers memory.old) (instruction regs.old))) memory.new }
+    ensures elsewhere { IsSameElsewhere (register regs.old 15) cache.old cache.new }
 {
     let Some(decoding) = cache.find(memory, regs.r[15]) else {
         return step_anew_unless_call(cache, regs, memory);
+    };
+    if decoding.stays {
+        step_in_registers(decoding, regs, memory);
+        return Stepped::Done;
+    }
+    step_decoded_unless_call(decoding, regs, memory)
+}
+
+/// Runs one instruction that isn't known to stand in bytes that stay; but for one that makes a call.
+#[inline(never)]
+fn step_unfixed<M: Memory>(
+    fixed: &mut FixedCode,
+    cache: &mut DecodeCache,
+    regs: &mut Regs,
+    memory: &mut M,
+) -> Stepped
+    requires { AreFixed (M.answers memory.old) fixed.old cache.old }
+    ensures answer { result ≡ answer_of (run (M.answers memory.old) (instruction regs.old)) }
+    ensures registers { regs.new ≡ registers_tried result regs.old (run (M.answers memory.old) (instruction regs.old)) }
+    ensures wrote { M.wrote memory.old (writes_of (run (M.answers memory.old) (instruction regs.old))) memory.new }
+    ensures fixed { AreFixed (M.answers memory.new) fixed.new cache.new }
+{
+    let pc = regs.r[15];
+    fixed.forget(pc);
+    let stepped = step_unless_call(cache, regs, memory);
+    fixed.remember(cache, memory, pc);
+    stepped
+}
+
+/// Runs one instruction, as `step_unless_call` does. Where it stands in bytes that stay, these aren't read again, for as long as nothing
+/// else writes to the memory or changes the cache.
+pub fn step_fixed<M: Memory>(
+    fixed: &mut FixedCode,
+    cache: &mut DecodeCache,
+    regs: &mut Regs,
+    memory: &mut M,
+) -> Stepped
+    requires { AreFixed (M.answers memory.old) fixed.old cache.old }
+    ensures answer { result ≡ answer_of (run (M.answers memory.old) (instruction regs.old)) }
+    ensures registers { regs.new ≡ registers_tried result regs.old (run (M.answers memory.old) (instruction regs.old)) }
+    ensures wrote { M.wrote memory.old (writes_of (run (M.answers memory.old) (instruction regs.old))) memory.new }
+    ensures fixed { AreFixed (M.answers memory.new) fixed.new cache.new }
+{
+    let Some(decoding) = cache.fixed_at(fixed, regs.r[15]) else {
+        return step_unfixed(fixed, cache, regs, memory);
     };
     if decoding.stays {
         step_in_registers(decoding, regs, memory);

@@ -1,7 +1,7 @@
 use Rattle.std.proofs.Common.{List}
 use Rattle.vm_facts.specs.Answers.{ByteWrite}
 use Rattle.proc_run.specs.Stretch.{StretchOf}
-use Rattle.proc_run.proofs.stretch.stretch.Given as goal
+use Rattle.proc_run.proofs.stretch.short_stretch.Given as goal
 
 -- so many were carried out, and wrote what was written
 abbrev pub invariant-loop-count : goal.invariant-loop-count

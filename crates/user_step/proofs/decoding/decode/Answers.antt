@@ -1,4 +1,4 @@
-use Rattle.user_step.proofs.decode_cache.decode.Goals as goal
+use Rattle.user_step.proofs.decoding.decode.Goals as goal
 
 pub invariant_of-result-clause-plain : goal.invariant_of-result-clause-plain
 invariant_of-result-clause-plain c stays = (c.stays_in_registers-stays.ensures.stays stays).plain
