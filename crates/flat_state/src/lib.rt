@@ -16,5 +16,5 @@ pub mod pages;
 pub mod spot;
 
 pub use change::Change;
-pub use pages::{is_among, is_same};
+pub use pages::{beside, is_among, is_same, number_of};
 pub use spot::{PAGE, STACK_REACH, STACK_TOP, Spot, locate};

@@ -17,5 +17,5 @@ pub use named::Named;
 pub use proc_table;
 pub use processes::record_of;
 pub use spaces::Spaces;
-pub use tables::{Tables, beside, number_of, owner_of};
+pub use tables::{Tables, owner_of};
 pub use u_pages::{regs_in, u_page};

@@ -1,7 +1,6 @@
 //! The tables of the machine, with what they are moved by. Nothing is promised of them but what each call does.
 ghost use Rattle.std.specs.Prelude.{◌≡◌, ℕ, ◌+◌, ◌<◌, ◌≤◌, ◌^◌, ◌∷◌, map, length, drop, true, Some, IsSome, IsTrue, slice_set};
 ghost use Rattle.page_model.specs.Ownership.{owner_of, block_of};
-ghost use Rattle.flat_state.specs.PageNames.{number_of, beside};
 ghost use Rattle.kernel_tables.specs.Moves.{RevivedPage, WroteByte, WroteBytes};
 ghost use Rattle.vm_facts.specs.declared.page.Page.TheVariants.{Text as TextPage};
 ghost use Rattle.vax_pte.specs.Words.{IsInRange};
@@ -18,6 +17,7 @@ use crate::fill::DueFill;
 use crate::named::Named;
 use crate::spaces::Spaces;
 use core_map::{CoreMap, Whose};
+use flat_state::number_of;
 use frame_state::{Free, Resident};
 use page_model::swap_book::{Owner, SwapBook};
 use proc_table::ProcTable;
@@ -73,26 +73,6 @@ pub fn owner_of(page: Page) -> Owner
         Page::Data { sid, .. } => Owner::Data(sid),
         Page::Stack { sid, .. } => Owner::Stack(sid),
         Page::Text { image, .. } => Owner::Text(image),
-    }
-}
-
-/// The number of a page in its segment.
-pub fn number_of(page: Page) -> u32
-    ensures { result ≡ number_of page }
-{
-    match page {
-        Page::Data { v, .. } | Page::Stack { v, .. } | Page::Text { v, .. } => v,
-    }
-}
-
-/// Another page of the same segment.
-pub fn beside(page: Page, v: u32) -> Page
-    ensures { result ≡ beside page v }
-{
-    match page {
-        Page::Data { sid, .. } => Page::Data { sid, v },
-        Page::Stack { sid, .. } => Page::Stack { sid, v },
-        Page::Text { image, .. } => Page::Text { image, v },
     }
 }
 

@@ -14,6 +14,7 @@ ghost use Rattle.kluster_io.specs.Front.{Expires};
 mod search;
 
 use core_map::CoreMap;
+use flat_state::number_of;
 use search::{Kin, Search};
 use space_map::SpaceMap;
 use vm_facts::Page;
@@ -77,7 +78,7 @@ pub fn pick_in(space: &SpaceMap, core: &CoreMap, page: Page, spare: u32) -> (u32
     match space.place(page) {
         Some(place) if search::is_on_swap(place) => pick_from_swap(space, core, page, spare),
         Some(place) if search::is_unfilled(place) => pick_from_file(space, core, page, spare),
-        _ => (search::number_of(page), 1),
+        _ => (number_of(page), 1),
     }
 }
 

@@ -12,7 +12,7 @@ ghost use Rattle.kluster_io.specs.Front.{is_front};
 ghost use Rattle.kluster_io.specs.Joining.{joins, IsShownBy, SaysTaken};
 
 use core_map::{CoreMap, Whose};
-use flat_state::{is_among, is_same};
+use flat_state::{beside, is_among, is_same, number_of};
 use space_map::SpaceMap;
 use swap_dmap::{place_of, text_place_of};
 use vax_pte::Place;
@@ -42,26 +42,6 @@ pub(crate) struct Search<'s, 'c, 'l> {
     pub(crate) core: &'c CoreMap,
     pub(crate) page: Page,
     pub(crate) kin: Kin<'l>,
-}
-
-/// The number of a page in its segment.
-pub(crate) fn number_of(page: Page) -> u32
-    ensures { result ≡ number_of page }
-{
-    match page {
-        Page::Data { v, .. } | Page::Stack { v, .. } | Page::Text { v, .. } => v,
-    }
-}
-
-// Another page of the same segment.
-fn beside(page: Page, v: u32) -> Page
-    ensures { result ≡ beside page v }
-{
-    match page {
-        Page::Data { sid, .. } => Page::Data { sid, v },
-        Page::Stack { sid, .. } => Page::Stack { sid, v },
-        Page::Text { image, .. } => Page::Text { image, v },
-    }
 }
 
 // The chunk of a data or stack page, or the piece of a text page.

@@ -18,8 +18,9 @@ ghost use Rattle.swapper.specs.Putting.{IsOfSegment};
 ghost use Rattle.move_judge.specs.Judged.{Judged};
 
 use crate::holding::holder_stays;
+use flat_state::{beside, number_of};
 use machine_state::Machine;
-use move_judge::looking::{apart, beside, due_first, no_room, number_of, state, wrong_length};
+use move_judge::looking::{apart, due_first, no_room, state, wrong_length};
 use move_judge::reasons::{or_reason, unless};
 use move_judge::{number_within, space_of};
 use paged_model::Reason;

@@ -14,8 +14,9 @@ ghost use Rattle.table_steps.specs.KernelTablesShown.{entry_in, is_frame, frame_
 ghost use Rattle.table_steps.specs.Steps.{AreTextsHere, dirty_shown};
 
 use crate::machine::Machine;
+use flat_state::number_of;
 use frame_state::Resident;
-use table_steps::kernel_tables::{Tables, number_of};
+use table_steps::kernel_tables::Tables;
 use table_steps::{joining, landing, launching, notes};
 use vm_facts::{Entry, Page, Stop};
 

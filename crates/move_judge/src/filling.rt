@@ -19,10 +19,10 @@ ghost use Rattle.move_judge.specs.Homes.{IsHome};
 ghost use Rattle.move_judge.specs.Judged.{CopiesFrom, Judged};
 
 use crate::looking::{
-    apart, beside, few_frames, has_zeros, is_same, no_frame, no_room, not_among, number_of, state,
-    unshared, zero_due,
+    apart, few_frames, has_zeros, no_frame, no_room, not_among, state, unshared, zero_due,
 };
 use crate::reasons::{or_reason, unless};
+use flat_state::{beside, is_same, number_of};
 use machine_state::Machine;
 use paged_model::Reason;
 use space_map::SpaceMap;

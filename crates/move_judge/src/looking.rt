@@ -1,13 +1,13 @@
 //! What the machine tells of a page, of frames and of what is due, as reasons.
 ghost use Rattle.std.specs.Prelude.{◌≡◌};
 ghost use Rattle.vm_facts.specs.declared.page.PageState.TheVariants.{Unfilled};
-ghost use Rattle.flat_state.specs.PageNames.{number_of, beside, same_page};
 ghost use Rattle.page_model.specs.Placement.{IsThere, state_of, filling_of};
 ghost use Rattle.page_model.specs.Runs.{is_near, chunk_of};
 ghost use Rattle.machine_state.specs.Going.{IsRunning};
 ghost use Rattle.paged_model.specs.Moves.{has_zeros, no_frame, few_frames, no_room, is_shared, unshared, due_first, zero_due, wrong_length, apart, not_among};
 
 use crate::reasons::{or_reason, unless};
+use flat_state::{beside, is_same, number_of};
 use machine_state::Machine;
 use paged_model::Reason;
 use swap_dmap::{place_of, text_place_of};
@@ -15,33 +15,6 @@ use vm_facts::{MOST_IN_FLIGHT, Page, PageState};
 
 /// The pages of one transfer at most.
 const MOST_MOVED: u32 = 16;
-
-/// The number of a page in its segment.
-pub fn number_of(page: Page) -> u32
-    ensures { result ≡ number_of page }
-{
-    match page {
-        Page::Data { v, .. } | Page::Stack { v, .. } | Page::Text { v, .. } => v,
-    }
-}
-
-/// Another page of the same segment.
-pub fn beside(page: Page, v: u32) -> Page
-    ensures { result ≡ beside page v }
-{
-    match page {
-        Page::Data { sid, .. } => Page::Data { sid, v },
-        Page::Stack { sid, .. } => Page::Stack { sid, v },
-        Page::Text { image, .. } => Page::Text { image, v },
-    }
-}
-
-/// Whether the two are one page.
-pub fn is_same(page: Page, other: Page) -> bool
-    ensures { result ≡ same_page page other }
-{
-    page == other
-}
 
 // The chunk of a data or stack page, or the piece of a text page.
 fn chunk_of(page: Page) -> u32

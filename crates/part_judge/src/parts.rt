@@ -11,9 +11,10 @@ ghost use Rattle.paged_model.specs.Parts.{expire_reason, busy, write_along, writ
 ghost use Rattle.part_judge.specs.Judged.{JudgedPart};
 
 use crate::idling::{busy, is_dirty};
+use flat_state::{beside, number_of};
 use hand_parts::HandPart;
 use machine_state::Machine;
-use move_judge::looking::{apart, beside, no_room, number_of, wrong_length};
+use move_judge::looking::{apart, no_room, wrong_length};
 use move_judge::number_within;
 use move_judge::reasons::{or_reason, unless};
 use paged_model::Reason;

@@ -142,13 +142,6 @@ impl SwapBook {
         }
     }
 
-    /// No two pieces share a block, and each owner's are those of some number of blocks, in order.
-    pub fn sound(&self)
-        ensures { IsBook self.now.size self.now.holdings }
-    {
-        let _pieces = self.holdings.len();
-    }
-
     /// Finds places for the pieces that an owner lacks, until one finds none.
     fn find_all(&mut self, owner: Owner, blocks: u32) -> Result<Grown, NoMemory>
         requires { CanGrow self.old.holdings owner blocks }

@@ -9,20 +9,10 @@ ghost use Rattle.table_view.specs.Shown.{state_shown, ShowsMark};
 ghost use Rattle.table_view.specs.Views.{IsNamedBy, ShowsSpace};
 
 use core_map::{CoreMap, Whose};
+use flat_state::beside;
 use space_map::SpaceMap;
 use vax_pte::Place;
 use vm_facts::Page;
-
-// Another page of the same segment.
-fn beside(page: Page, v: u32) -> Page
-    ensures { result ≡ beside page v }
-{
-    match page {
-        Page::Data { sid, .. } => Page::Data { sid, v },
-        Page::Stack { sid, .. } => Page::Stack { sid, v },
-        Page::Text { image, .. } => Page::Text { image, v },
-    }
-}
 
 // Whether a page in this place is in a frame off the free list.
 fn is_seat(core: &CoreMap, place: Place) -> bool

@@ -15,7 +15,8 @@ ghost use Rattle.table_steps.specs.Forgotten.{ForgotPage};
 ghost use Rattle.kernel_tables.specs.Changing.{Dropped, Resized};
 
 use core_map::{CoreMap, Whose};
-use kernel_tables::{Tables, beside};
+use flat_state::beside;
+use kernel_tables::Tables;
 use swap_book::Owner;
 use vax_pte::Place;
 use vm_facts::{NoMemory, Page};

@@ -19,8 +19,8 @@ ghost use Rattle.kernel_tables.specs.View.{placement_of, frames_of};
 
 use crate::landing;
 use core_map::Whose;
-use flat_state::is_among;
-use kernel_tables::{Tables, beside};
+use flat_state::{beside, is_among};
+use kernel_tables::Tables;
 use std::alloc::Global;
 use transfer_ring::{Begun, Outbound, Transfer};
 use vax_pte::Place;

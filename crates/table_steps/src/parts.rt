@@ -7,8 +7,9 @@ ghost use Rattle.kernel_tables.specs.Machine.{lists_of};
 ghost use Rattle.kernel_tables.specs.View.{placement_of};
 
 use crate::launching;
+use flat_state::number_of;
 use hand_parts::HandPart;
-use kernel_tables::{Tables, number_of};
+use kernel_tables::Tables;
 use std::alloc::Global;
 use vax_pte::Place;
 use vm_facts::{NoMemory, Page};

@@ -17,7 +17,8 @@ ghost use Rattle.kernel_tables.specs.Moves.{BroughtPage, BeganRead, HasSource, A
 ghost use Rattle.kernel_tables.specs.Sourced.{IsFilePage, IsSourced, named_at, image_by, is_text};
 ghost use Rattle.kernel_tables.specs.Steps.{AreTextsHere, source_by};
 
-use kernel_tables::{Named, Tables, beside, number_of};
+use flat_state::{beside, number_of};
+use kernel_tables::{Named, Tables};
 use std::alloc::Global;
 use transfer_ring::{Begun, Inbound, Source, Transfer};
 use vax_pte::Place;
