@@ -464,7 +464,8 @@ run_command words =
     ∙ sym (where_so (list_all is_plain (without_trace words)) _)
 
 -- words for these arguments, none of which is an option
-plain_command : (arguments : List Argument) (asked : List (List ℕ) → Option Asked) (words : List (List ℕ)) → is_none (why_words arguments true words) ≡ is_some (asked words)
+plain_command : (arguments : List Argument) (asked : List (List ℕ) → Option Asked) (words : List (List ℕ))
+    → is_none (why_words arguments true words) ≡ is_some (asked words)
     → is_none (why_form arguments true words) ≡ is_some (where_plain asked words)
 plain_command arguments asked words same =
     form arguments true words ∙ ap (λ (b : Bool). list_all is_plain words && b) same ∙ sym (where_so (list_all is_plain words) (asked words))

@@ -123,7 +123,8 @@ owning_ends wanted numbers name words read f case (Err (faults.NoSpace pid)) non
 owning_ends wanted numbers name words read f case (Err (faults.NotPaged line)) none has ends = (none, so_of_case numbers words read case (FrontFailsAt wanted line) has ends)
 owning_ends wanted numbers name words read f case (Err _) none has ends = absurd ends
 
-pub owning_counted : (A : Inputs) (ls : List Line) (wanted : ℕ) (f : Faults) (ending : Ending) → NoFaults f → EndsOwning A ls wanted ending → EndCounted ending f
+pub owning_counted : (A : Inputs) (ls : List Line) (wanted : ℕ) (f : Faults) (ending : Ending) → NoFaults f → EndsOwning A ls wanted ending
+    → EndCounted ending f
 owning_counted A ls wanted f (Ok text) none ends = none
 owning_counted A ls wanted f (Err faults.NoMemory) none ends = none
 owning_counted A ls wanted f (Err (faults.NoSpace pid)) none ends = none

@@ -40,7 +40,8 @@ after_beyond : (e : Entry) (journal : List Entry) (x : Entry) (rest : List Entry
 after_beyond e [] x rest u = refl
 after_beyond e (f ∷ journal) x rest u = ap (λ (js : List Entry). e ∷ js) (after_beyond f journal x rest u)
 
-pub joined_beyond : (journal : List Entry) (x : Entry) (rest : List Entry) (u : Entry) → append_joined (journal ++ x ∷ rest) u ≡ journal ++ append_after x rest u
+pub joined_beyond : (journal : List Entry) (x : Entry) (rest : List Entry) (u : Entry)
+    → append_joined (journal ++ x ∷ rest) u ≡ journal ++ append_after x rest u
 joined_beyond [] x rest u = refl
 joined_beyond (e ∷ journal) x rest u = after_beyond e journal x rest u
 

@@ -289,7 +289,8 @@ said_is A s k image read _ y = absurd y
 
 -- A process comes in.
 
-pub in_behind : (A : Inputs) (s : State) (k : Kernel) (image : List ℕ) (pid : ℕ) → Placed A s.point.flat s.place s.holdings → StandsAt A s k image → is_out s.place pid ≡ true
+pub in_behind : (A : Inputs) (s : State) (k : Kernel) (image : List ℕ) (pid : ℕ) → Placed A s.point.flat s.place s.holdings → StandsAt A s k image
+    → is_out s.place pid ≡ true
     → Behind A (after A s (entries.SwapIn pid)) (in_step k pid (regs_in (stored_at image (block_in k.holdings (owners.U pid) 0)))) image
 in_behind A s k image pid placed at out =
     let kp : Keeps A s.point.flat k image = at.keeps in
@@ -472,7 +473,8 @@ unit_stands A s k image read u images execs r at h g = go (sort_of A s u r.mark 
         (λ st. stands_behind A (after A s (entries.SwapIn pid)) (unit_step A s k image read (entries.SwapIn pid)) image st (in_behind A s k image pid r.placed at out)) run.placed
     go (GoesOff pid i out holds) = subst (λ (x : Entry). IsGiven A s k image read x → Placed A (after A s x).point.flat (after A s x).place (after A s x).holdings
         → StandsAt A (after A s x) (unit_step A s k image read x) (unit_image k image x)) (sym i)
-        (λ given st. stands_behind A (after A s (entries.SwapOut pid)) (out_step k pid) (unit_image k image (entries.SwapOut pid)) st (off_behind A s k image pid r.placed at given out holds)) g run.placed
+        (λ given st. stands_behind A (after A s (entries.SwapOut pid)) (out_step k pid) (unit_image k image (entries.SwapOut pid)) st
+        (off_behind A s k image pid r.placed at given out holds)) g run.placed
     go (Says e y) =
         let x = said_is A s k image read u y in
         subst (λ (l : Kernel). P l (unit_image k image u)) x.0 (subst (P (note_step k u)) x.1 (stands_behind A (after A s u) (note_step k u) image run.placed (said_behind A s k image u r at e)))

@@ -33,7 +33,8 @@ use Rattle.step_judge.specs.Told.{other_by, first_reasons, in_reason}
 
 -- Whether it can step, by its record.
 
-pub none_stuck : (A : Inputs) (s : State) (k : Kernel) (pid : ℕ) → SameTables k s.point.flat → IsRecord k pid None → Some (reasons.NoProcess pid) ≡ stuck A s pid
+pub none_stuck : (A : Inputs) (s : State) (k : Kernel) (pid : ℕ) → SameTables k s.point.flat → IsRecord k pid None
+    → Some (reasons.NoProcess pid) ≡ stuck A s pid
 none_stuck A s k pid t r = sym (ap (stuck_if A s pid) (none_there k s.point.flat t pid r))
 
 pub some_stuck : (A : Inputs) (s : State) (k : Kernel) (pid : ℕ) (p : Record) → SameTables k s.point.flat → IsRecord k pid (Some p)

@@ -167,7 +167,8 @@ ran_through old mid new pid regs after l o w e step =
     ∙ ap (λ (y : Standing). ran_by (writes_in y.kernel (space_of_pid y.kernel pid) (writes_of (run (own_answers y pid) (instruction regs)))) pid
     (registers_after regs (run (own_answers y pid) (instruction regs))) (entries.Ran pid 1)) o.only
 
-pub did_done : (s : Stepped) (old mid : Standing) (pid : ℕ) (regs : Regs) → RoomOnly old mid → s ≡ answer_of (run (own_answers mid pid) (instruction regs)) → s ≡ steps.Done
+pub did_done : (s : Stepped) (old mid : Standing) (pid : ℕ) (regs : Regs) → RoomOnly old mid → s ≡ answer_of (run (own_answers mid pid) (instruction regs))
+    → s ≡ steps.Done
     → answer_of (run (own_answers old pid) (instruction regs)) ≡ steps.Done
 did_done s old mid pid regs o a d = sym (ap answer_of (room_answers old mid pid regs o)) ∙ sym a ∙ d
 

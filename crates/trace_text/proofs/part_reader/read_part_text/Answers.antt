@@ -23,16 +23,20 @@ returns-in_default-split_first c = λ x h is.
 pub returns-in_default-read_numbers : goal.returns-in_default-read_numbers
 returns-in_default-read_numbers c = λ x h is.
     c.in_default-read_numbers.ensures (part_numbers x) (numbers_few x) h.0
-    (behind_numbers c.in-Some.letter.now c.in-Some-split_first.segment.now c.in-Some-split_first.behind.now c.args.text.now x (cut_text c.in-Some.letter.now c.in-Some-split_first.segment.now c.in-Some.rest.now c.in-Some-strip_front.after.now c.in-Some-split_first.behind.now c.args.text.now c.in-Some.ensures.cases.0 c.in-Some-strip_front.ensures c.in-Some-split_first.ensures.cases.0) is)
+    (behind_numbers c.in-Some.letter.now c.in-Some-split_first.segment.now c.in-Some-split_first.behind.now c.args.text.now x
+    (cut_text c.in-Some.letter.now c.in-Some-split_first.segment.now c.in-Some.rest.now c.in-Some-strip_front.after.now c.in-Some-split_first.behind.now
+    c.args.text.now c.in-Some.ensures.cases.0 c.in-Some-strip_front.ensures c.in-Some-split_first.ensures.cases.0) is)
 
 pub returns-in_default-part_from : goal.returns-in_default-part_from
 returns-in_default-part_from c =
     part_none c.in-Some.letter.now c.in-Some-split_first.segment.now c.in-Some-split_first.behind.now c.args.text.now c.in-Some-read_numbers.numbers
-    (cut_text c.in-Some.letter.now c.in-Some-split_first.segment.now c.in-Some.rest.now c.in-Some-strip_front.after.now c.in-Some-split_first.behind.now c.args.text.now c.in-Some.ensures.cases.0 c.in-Some-strip_front.ensures c.in-Some-split_first.ensures.cases.0) c.in-Some-read_numbers.ensures.0 c.in-Some-read_numbers.ensures.1
+    (cut_text c.in-Some.letter.now c.in-Some-split_first.segment.now c.in-Some.rest.now c.in-Some-strip_front.after.now c.in-Some-split_first.behind.now
+    c.args.text.now c.in-Some.ensures.cases.0 c.in-Some-strip_front.ensures c.in-Some-split_first.ensures.cases.0) c.in-Some-read_numbers.ensures.0 c.in-Some-read_numbers.ensures.1
     (c.in_default-part_from.ensures.is ∙ ap (λ (zs : List ℕ). part_from c.in-Some.letter.now c.in-Some-split_first.segment.now zs) c.as_slice.ensures)
 
 pub returns : goal.returns
 returns c =
     part_some c.in-Some.letter.now c.in-Some-split_first.segment.now c.in-Some-split_first.behind.now c.args.text.now c.in-Some-read_numbers.numbers c.in-Some-part_from.part
-    (cut_text c.in-Some.letter.now c.in-Some-split_first.segment.now c.in-Some.rest.now c.in-Some-strip_front.after.now c.in-Some-split_first.behind.now c.args.text.now c.in-Some.ensures.cases.0 c.in-Some-strip_front.ensures c.in-Some-split_first.ensures.cases.0) c.in-Some-read_numbers.ensures.0 c.in-Some-read_numbers.ensures.1
+    (cut_text c.in-Some.letter.now c.in-Some-split_first.segment.now c.in-Some.rest.now c.in-Some-strip_front.after.now c.in-Some-split_first.behind.now
+    c.args.text.now c.in-Some.ensures.cases.0 c.in-Some-strip_front.ensures c.in-Some-split_first.ensures.cases.0) c.in-Some-read_numbers.ensures.0 c.in-Some-read_numbers.ensures.1
     (subst (λ (zs : List ℕ). HasPart c.in-Some.letter.now c.in-Some-split_first.segment.now zs c.in-Some-part_from.part) c.as_slice.ensures c.in-Some-part_from.ensures.parts)
