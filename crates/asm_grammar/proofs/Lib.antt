@@ -4,3 +4,12 @@ pub mod Items
 pub mod Spelled
 pub mod Rows
 pub mod Naming
+pub mod FrontSplits
+pub mod Reading
+pub mod OperandTexts
+pub mod Saying
+pub mod Specifying
+pub mod MnemonicTexts
+pub mod SentenceTexts
+pub mod LineTexts
+pub mod Sources

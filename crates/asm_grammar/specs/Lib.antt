@@ -6,3 +6,4 @@ pub mod Mnemonics
 pub mod Sentences
 pub mod Lines
 pub mod Encoding
+pub mod Grammar

@@ -3,8 +3,11 @@
 //! The source is this project's profile. A line is empty, begins with `#`, or is an optional `LABEL:` and an optional
 //! statement, with one space between them. Statements are `.byte X`, `.word X`, `.long X`, `.space N`, `.bss N` and the
 //! instructions of the table of `vax_code`.
+//!
+//! The grammar is told as a relation too (specs/Grammar), and `sources_are_read_by_the_grammar`, a law, says that reading is this grammar.
 #![tactic(auto)]
 
+mod grammar;
 mod lines;
 mod mnemonics;
 mod numbers;
@@ -15,6 +18,7 @@ mod syntax;
 mod text;
 mod values;
 
+pub use grammar::sources_are_read_by_the_grammar;
 pub use lines::{item_of, next_item, next_line};
 pub use mnemonics::mnemonic;
 pub use ranges::{half_of, whole_of};

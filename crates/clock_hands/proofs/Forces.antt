@@ -16,9 +16,9 @@ use Rattle.page_laws.proofs.Ends.Serving.{force_falls}
 use Rattle.page_laws.proofs.Ends.Wholes.{force_room}
 use Rattle.page_laws.proofs.Moves.Locks.{spares_both, force_spares}
 use Rattle.page_laws.proofs.Ownership.Serve.{force_owner}
-use Rattle.span_laws.specs.Spans.{moves, moves_of}
-use Rattle.span_laws.proofs.Spanning.{units_added_false}
-use Rattle.span_laws.proofs.Forcing.{Short, forced_short, forced_moves}
+use Rattle.page_laws.specs.Spans.{moves, moves_of}
+use Rattle.page_laws.proofs.Spanning.{units_added_false}
+use Rattle.page_laws.proofs.Forcing.{Short, forced_short, forced_moves}
 use Rattle.machine_state.specs.Machine.{Standing}
 use Rattle.machine_state.specs.Done.{KeepsThrough}
 use Rattle.paging_units.specs.Made.{ground, MakesUnit}

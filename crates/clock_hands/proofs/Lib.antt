@@ -2,8 +2,8 @@ pub use Rattle.paging_units.proofs.Keeping
 pub use Rattle.paging_units.proofs.LastMoves
 pub use Rattle.paging_units.proofs.Stopping
 pub use Rattle.paging_units.proofs.Units as PagingUnitsUnits
-pub use Rattle.span_laws.proofs.Serving
-pub use Rattle.span_laws.proofs.Spanning
+pub use Rattle.page_laws.proofs.Serving
+pub use Rattle.page_laws.proofs.Spanning
 pub mod Seats
 pub mod Fronts
 pub mod Backs

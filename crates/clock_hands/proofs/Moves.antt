@@ -16,8 +16,8 @@ use Rattle.page_model.specs.Place.{place_entry}
 use Rattle.page_model.specs.Serve.{is_full}
 use Rattle.page_laws.proofs.Moves.HandRuns.{hand_some}
 use Rattle.page_laws.proofs.Moves.Transfers.{entry_count}
-use Rattle.span_laws.specs.Spans.{moves}
-use Rattle.span_laws.proofs.Serving.{done_less}
+use Rattle.page_laws.specs.Spans.{moves}
+use Rattle.page_laws.proofs.Serving.{done_less}
 use Rattle.kernel_model.specs.Kernel.{hand_step}
 use Rattle.machine_state.specs.Calls.{IsRunOf}
 use Rattle.machine_state.specs.Machine.{Standing}

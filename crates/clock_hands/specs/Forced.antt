@@ -7,7 +7,7 @@ use Rattle.vm_facts.specs.declared.stop.Stop.{Stop}
 use Rattle.io_edge.specs.FileHolding.{NamedFile}
 use Rattle.page_model.specs.Placement.{Placement}
 use Rattle.page_model.specs.Serve.{Forces, force_entry}
-use Rattle.span_laws.specs.Spans.{moves_of}
+use Rattle.page_laws.specs.Spans.{moves_of}
 use Rattle.kernel_model.specs.Kernel.{Kernel}
 use Rattle.machine_state.specs.Machine.{Standing}
 use Rattle.paging_units.specs.Made.{ground, Makes}

@@ -1,7 +1,7 @@
 pub use Rattle.paging_units.specs.LastMoves
 pub use Rattle.paging_units.specs.Made
 pub use Rattle.paging_units.specs.Stops
-pub use Rattle.span_laws.specs.Spans
+pub use Rattle.page_laws.specs.Spans
 pub mod Seen
 pub mod Forced
 pub mod Moved

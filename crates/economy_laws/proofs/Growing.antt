@@ -40,7 +40,8 @@ use Rattle.run_laws.proofs.Flows.{Acted, Settles, Refuses, Steps, acted, on_step
 use Rattle.economy_laws.specs.Stretch.{Extends, TouchesMore, AllGrown, GrowthTouches}
 use Rattle.economy_laws.proofs.Stretching.{open_last}
 use Rattle.economy_laws.proofs.Sleeping.{Does, does}
-use Rattle.economy_laws.proofs.Steps.{step_is, Grows, grows_of}
+use Rattle.economy_laws.proofs.Steps.{Grows, grows_of}
+use Rattle.run_laws.proofs.Forms.{step_is}
 use Rattle.economy_laws.proofs.Idle.{open_due}
 
 -- Sizes.

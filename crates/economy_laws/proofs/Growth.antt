@@ -30,8 +30,10 @@ use Rattle.run_laws.proofs.Flows.{Acted, Settles, Refuses, Steps, acted, on_step
 use Rattle.economy_laws.specs.Stretch.{Extends, GrowthTouches}
 use Rattle.economy_laws.proofs.Stretching.{open_last}
 use Rattle.economy_laws.proofs.Sleeping.{Does, does}
-use Rattle.economy_laws.proofs.Steps.{step_is, Grows, grows_of}
-use Rattle.economy_laws.proofs.Idle.{open_due, found_after, stepped_by}
+use Rattle.economy_laws.proofs.Steps.{Grows, grows_of}
+use Rattle.run_laws.proofs.Forms.{step_is}
+use Rattle.economy_laws.proofs.Idle.{open_due, stepped_by}
+use Rattle.run_laws.proofs.Finding.{found_after}
 use Rattle.economy_laws.proofs.Growing.{below_spot, spot_below}
 use Rattle.economy_laws.proofs.Extending.{Bigger, Reached, reached, pages_extend}
 

@@ -18,7 +18,7 @@ use Rattle.kernel_model.specs.Start.{ImagesFit}
 use Rattle.run_laws.proofs.Lists.{Parts, parts_at, found_is, replaced_at}
 use Rattle.page_laws.proofs.Swapper.PuttingOut.{unit_case}
 use Rattle.page_laws.proofs.Moves.Units.{unit_is, now_unit}
-use Rattle.run_laws.proofs.Finding.{found_by_number, found_passes}
+use Rattle.run_laws.proofs.Finding.{found_by_number, found_passes, found_after}
 use Rattle.run_laws.proofs.Others.{number_of_found}
 use Rattle.run_model.specs.declared.mark.Mark.{Mark}
 use Rattle.run_model.specs.declared.mark.Mark.TheVariants as marks
@@ -47,7 +47,8 @@ use Rattle.economy_laws.proofs.Left.{is_closed}
 use Rattle.economy_laws.proofs.Stretching.{open_last}
 use Rattle.economy_laws.proofs.Sleeping.{Does, does}
 use Rattle.economy_laws.proofs.Crowds.{RoomFor, of_room, many_applied, many_written}
-use Rattle.economy_laws.proofs.Steps.{step_is, act_some, Grows, grows_of}
+use Rattle.economy_laws.proofs.Steps.{act_some, Grows, grows_of}
+use Rattle.run_laws.proofs.Forms.{step_is}
 use Rattle.run_laws.proofs.Turning.{turned_ready}
 
 -- How many can step.
@@ -75,10 +76,6 @@ count_replaced F pid q p e n =
     let a = ap ready_count k.old in let b = ap ready_count k.new in
     let c = count_both k.front (q ∷ k.back) in let d = count_both k.front (p ∷ k.back) in
     omega arith
-
-pub found_after : (F : FlatState) (pid : ℕ) (q p : Process) → process_of F pid ≡ Some q → p.pid ≡ pid → process_of (with_process F p) pid ≡ Some p
-found_after F pid q p e n = subst (λ (x : ℕ). process_of F x ≡ Some q → process_of (with_process F p) x ≡ Some p) n
-    (λ k. found_is (replaced F.processes p) p.pid ∙ replaced_at F.processes q p (sym (found_is F.processes p.pid) ∙ k)) e
 
 -- a change of a process after which it can step as before
 pub record SameReady (F G : FlatState) (pid : ℕ) : Type 0 where

@@ -26,10 +26,10 @@ use Rattle.run_laws.proofs.Paging.{Leaver, entry_out}
 use Rattle.run_laws.proofs.Plain.{serve_flat}
 use Rattle.run_laws.proofs.Touching.{Present, touched_present, each_split}
 use Rattle.run_laws.proofs.Units.{plain_place, owns}
-use Rattle.span_laws.specs.Spans.{is_hands, adds, added, takes, takings}
+use Rattle.page_laws.specs.Spans.{is_hands, adds, added, takes, takings}
 use Rattle.economy_laws.specs.Stretch.{IsClosing, FewTouched}
-use Rattle.span_laws.proofs.Forcing.{Short, forced_short}
-use Rattle.span_laws.proofs.Serving.{Served, served_short}
+use Rattle.page_laws.proofs.Forcing.{Short, forced_short}
+use Rattle.page_laws.proofs.Serving.{Served, served_short}
 
 -- Forcing and serving that go on: how many entries and transfers there will be at most, and how many takings.
 

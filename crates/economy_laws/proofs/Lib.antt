@@ -1,31 +1,39 @@
-pub use Rattle.run_laws.proofs.FlatLawsAsking
-pub use Rattle.run_laws.proofs.Computations
-pub use Rattle.run_laws.proofs.Finding
-pub use Rattle.run_laws.proofs.Others
-pub use Rattle.run_laws.proofs.Shown
+pub use Rattle.run_laws.proofs.Flows
+pub use Rattle.run_laws.proofs.Lawful
+pub use Rattle.run_laws.proofs.Machines
+pub use Rattle.run_laws.proofs.Plain
+pub use Rattle.run_laws.proofs.SwapImages
+pub use Rattle.run_laws.proofs.Turning
+pub use Rattle.run_laws.proofs.Wholes
+pub use Rattle.flat_laws.proofs.Asking as FlatLawsAsking
+pub use Rattle.flat_laws.proofs.Computations
+pub use Rattle.flat_laws.proofs.Finding
+pub use Rattle.flat_laws.proofs.Others
+pub use Rattle.flat_laws.proofs.Shown
 pub use Rattle.run_laws.proofs.Borrowed
 pub use Rattle.run_laws.proofs.Shapes
 pub use Rattle.run_laws.proofs.Swaps
-pub use Rattle.run_laws.proofs.Replying
-pub use Rattle.run_laws.proofs.Runs
+pub use Rattle.flat_laws.proofs.Replying
+pub use Rattle.flat_laws.proofs.Runs
 pub use Rattle.run_laws.proofs.Acts
 pub use Rattle.run_laws.proofs.Allowed
 pub use Rattle.run_laws.proofs.Beginning as RunLawsBeginning
 pub use Rattle.run_laws.proofs.Execs
-pub use Rattle.run_laws.proofs.Flows
 pub use Rattle.run_laws.proofs.LockedRoom
-pub use Rattle.run_laws.proofs.Machines
 pub use Rattle.run_laws.proofs.Marks
 pub use Rattle.run_laws.proofs.Outs
 pub use Rattle.run_laws.proofs.Paging
-pub use Rattle.run_laws.proofs.Plain
 pub use Rattle.run_laws.proofs.Room
 pub use Rattle.run_laws.proofs.Running
 pub use Rattle.run_laws.proofs.Stepping as RunLawsStepping
 pub use Rattle.run_laws.proofs.Touching as RunLawsTouching
 pub use Rattle.run_laws.proofs.Units
 pub use Rattle.run_laws.proofs.Written
-pub use Rattle.run_laws.proofs.Distinct
+pub use Rattle.flat_laws.proofs.Distinct
+pub mod Called
+pub mod SmallReads
+pub mod Lost
+pub mod Cleaned
 pub mod Calm
 pub mod CalmChanges
 pub mod Writes
@@ -41,3 +49,12 @@ pub mod Extending
 pub mod Growth
 pub mod Crowds
 pub mod Finishing
+pub mod Counting
+pub mod Turned
+pub mod Resting
+pub mod Spending
+pub mod Awake
+pub mod SleepsCounted
+pub mod Turns
+pub mod Copying
+pub mod Totals

@@ -35,9 +35,9 @@ use Rattle.run_laws.proofs.Stepping.{touched_due}
 use Rattle.run_laws.proofs.Units.{owns, sixteen}
 use Rattle.run_laws.proofs.Wholes.{unit_run, unit_ready}
 use Rattle.run_laws.proofs.Room.{run_few}
-use Rattle.span_laws.specs.Spans.{is_hands, added, takings}
+use Rattle.page_laws.specs.Spans.{is_hands, added, takings}
 use Rattle.economy_laws.specs.Stretch.{begins_stretch, NoneBegins, copies_of, IsClosing, FewTouched, AllGrown}
-use Rattle.span_laws.proofs.Spanning.{adds_most, units_added_false}
+use Rattle.page_laws.proofs.Spanning.{adds_most, units_added_false}
 use Rattle.economy_laws.proofs.Left.{serve_new, force_new, AllCopies, Left, ready}
 use Rattle.economy_laws.proofs.Stretching.{copying_left, starting_left, source_of, SleepStops, stretch}
 use Rattle.aout_image.specs.declared.Image.{Image}

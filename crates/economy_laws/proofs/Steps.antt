@@ -25,6 +25,7 @@ use Rattle.run_laws.specs.Running.{IsRun}
 use Rattle.run_laws.specs.Flowing.{Awaits, WaitsBy, Flows}
 use Rattle.run_laws.proofs.Acts.{Stepper, stepper}
 use Rattle.run_laws.proofs.Flows.{on_steps}
+use Rattle.run_laws.proofs.Forms.{step_is}
 
 -- Entries.
 
@@ -50,11 +51,6 @@ of_some images F p s refused (Err (Miss a w)) n h = n a w refl
 of_some images F p s true (Err (Below a)) n h = absurd cc
 of_some images F p s false (Err (Below a)) n h = absurd cc
 of_some images F p s refused (Err (Signal k)) n h = absurd cc
-
-pub step_is : (A : Inputs) (F : FlatState) (pid : ℕ) (refused : Bool) (q : Process) (s : Space) → process_of F pid ≡ Some q → q.holding ≡ Holds s
-    → flat_step A F pid refused ≡ step_of A.images F q s refused (instruction_in s q.regs)
-unfolding flat_step
-step_is A F pid refused q s f h = ap (step_if A.images F refused) f ∙ ap (step_holding A.images F q refused) h
 
 entries_some : (A : Inputs) (F : FlatState) (pid : ℕ) (refused : Bool) → can_step F pid ≡ true → (flat_step A F pid refused).entries ≡ [] → ⊥
 entries_some A F pid refused c h =

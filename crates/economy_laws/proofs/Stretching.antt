@@ -46,10 +46,10 @@ use Rattle.run_laws.proofs.Plain.{paging_stays, serve_paging, serve_flat}
 use Rattle.run_laws.proofs.Settling.{settles}
 use Rattle.run_laws.proofs.Units.{plain_place, owns, not_due}
 use Rattle.run_laws.proofs.Wholes.{unit_run}
-use Rattle.span_laws.specs.Spans.{is_hands, adds, added, takes, takings}
+use Rattle.page_laws.specs.Spans.{is_hands, adds, added, takes, takings}
 use Rattle.economy_laws.specs.Stretch.{begins_stretch, NoneBegins, copies, copies_of, IsClosing, FewTouched, TouchesMore, AllGrown}
-use Rattle.span_laws.proofs.Spanning.{adds_most}
-use Rattle.span_laws.proofs.Serving.{done_less}
+use Rattle.page_laws.proofs.Spanning.{adds_most}
+use Rattle.page_laws.proofs.Serving.{done_less}
 use Rattle.economy_laws.proofs.Closing.{Closes, Fill, Bring, CopyIt, Serve, Act, In, closes, stays_closing, no_event}
 use Rattle.economy_laws.proofs.Left.{ServeLeft, ForceLeft, serve_new, force_new, serve_now, force_now, ServeNext, serve_next, ForceNext, force_next, force_takes, after_forced, after_served, stays_in, wanted_is, locked_is, split_there, split_longer, is_closed, AllCopies, StartLeft, BringLeft, CopyLeft, PageLeft, ActLeft, Left, Next, ready}
 

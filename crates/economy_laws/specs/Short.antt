@@ -11,7 +11,7 @@ use Rattle.kernel_model.specs.Start.{ImagesFit}
 use Rattle.run_model.specs.Next.{next_unit}
 use Rattle.run_model.specs.Lawful.{Follows}
 use Rattle.run_laws.specs.Running.{IsRun}
-use Rattle.span_laws.specs.Spans.{takings}
+use Rattle.page_laws.specs.Spans.{takings}
 use Rattle.economy_laws.specs.Worth.{stored_pages, renews, Happens}
 use Rattle.economy_laws.specs.Stretch.{begins_stretch, NoneBegins, copies_of, IsClosing}
 

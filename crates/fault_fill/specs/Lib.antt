@@ -3,7 +3,7 @@ pub use Rattle.clock_hands.specs.Moved
 pub use Rattle.clock_hands.specs.LastMoves
 pub use Rattle.clock_hands.specs.Made
 pub use Rattle.clock_hands.specs.Stops
-pub use Rattle.clock_hands.specs.Spans
+pub use Rattle.page_laws.specs.Spans
 pub mod Homes
 pub mod Serving
 pub mod Units

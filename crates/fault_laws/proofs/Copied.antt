@@ -25,8 +25,8 @@ use Rattle.page_model.specs.PageBytes.{zeros}
 use Rattle.page_opt.specs.Plans.{has}
 use Rattle.page_opt.specs.Cache.{bit, count_in}
 use Rattle.page_opt.proofs.Counts.{bit_le}
-use Rattle.plan_laws.specs.Memory.{NoneFewer}
-use Rattle.plan_laws.proofs.Cold.{pages_fault}
+use Rattle.fault_laws.specs.Memory.{NoneFewer}
+use Rattle.fault_laws.proofs.Cold.{pages_fault}
 use Rattle.fault_laws.specs.Faults.{IsNumbering, CopiesCount}
 use Rattle.run_laws.specs.Running.{CanRun}
 use Rattle.run_laws.proofs.Lawful.{all_units}

@@ -1,3 +1,9 @@
+pub mod Lacking
+pub mod Demand
+pub mod Cold
+pub mod Stepping
+pub mod Demanding
+pub mod Policies
 pub mod Gains
 pub mod Entries
 pub mod Changes

@@ -25,8 +25,8 @@ use Rattle.economy_laws.specs.Stretch.{copies, copies_of}
 use Rattle.replay_check.specs.Verdicts.{touched_by_unit, references_from, references_of}
 use Rattle.page_opt.specs.Plans.{has, plan_faults}
 use Rattle.page_opt.specs.Cache.{IsCache}
-use Rattle.plan_laws.specs.Memory.{Moment, used_in, lacking, brought, IsMemory, HasPlan}
-use Rattle.plan_laws.proofs.Demand.{memory_planned}
+use Rattle.fault_laws.specs.Memory.{Moment, used_in, lacking, brought, IsMemory, HasPlan}
+use Rattle.fault_laws.proofs.Demand.{memory_planned}
 use Rattle.fault_laws.specs.Faults.{own_fault, own_faults, RunsHavePlans, RunsFaultEnough}
 use Rattle.fault_laws.proofs.Gains.{reads_of}
 use Rattle.fault_laws.proofs.Units.{unit_gain}

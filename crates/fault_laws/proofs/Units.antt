@@ -14,7 +14,7 @@ use Rattle.run_model.specs.Snapshot.{pages_written}
 use Rattle.run_model.specs.Wanted.{locked}
 use Rattle.run_laws.specs.Running.{IsRun}
 use Rattle.run_laws.proofs.Units.{plain_place}
-use Rattle.paging_laws.proofs.Lost.{touched_new}
+use Rattle.economy_laws.proofs.Lost.{touched_new}
 use Rattle.economy_laws.specs.Stretch.{copies}
 use Rattle.fault_laws.specs.Faults.{own_fault}
 use Rattle.fault_laws.proofs.Gains.{Gain, keeps_self, keeps_both, keeps_gain, touch_all_keeps}

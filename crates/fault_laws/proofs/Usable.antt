@@ -10,9 +10,9 @@ use Rattle.run_model.specs.Wanted.{AllValid}
 use Rattle.page_laws.proofs.Lists.Local.{none_some}
 use Rattle.page_opt.specs.Plans.{has}
 use Rattle.page_opt.specs.Cache.{IsCache}
-use Rattle.plan_laws.specs.Memory.{lacking}
-use Rattle.plan_laws.proofs.Lacking.{lacking_none, lacking_one}
-use Rattle.plan_laws.proofs.Demand.{enter_cache}
+use Rattle.fault_laws.specs.Memory.{lacking}
+use Rattle.fault_laws.proofs.Lacking.{lacking_none, lacking_one}
+use Rattle.fault_laws.proofs.Demand.{enter_cache}
 use Rattle.fault_laws.proofs.Gains.{Gain, GainsNone, GainsOne, reads_of, valid_framed}
 
 -- a number joins a list, where it is to and isn't there yet

@@ -10,7 +10,7 @@ use Rattle.run_model.specs.Lawful.{Reaches}
 use Rattle.run_laws.specs.Running.{CanRun}
 use Rattle.economy_laws.specs.Stretch.{copies_of}
 use Rattle.replay_check.specs.Verdicts.{references_of}
-use Rattle.plan_laws.specs.Memory.{HasPlan, NoneFewer}
+use Rattle.fault_laws.specs.Memory.{HasPlan, NoneFewer}
 
 -- how many faults an entry is: one where a page that is asked for is filled with zeros, read or reclaimed
 abbrev pub own_fault : Entry → ℕ

@@ -30,11 +30,11 @@ use Rattle.journal_laws.specs.Leads.{Leads}
 use Rattle.journal_laws.specs.Serving.{At}
 use Rattle.journal_laws.proofs.Journals.{few_started, leads_follow}
 use Rattle.journal_laws.proofs.Units.{leads_at}
-use Rattle.run_start.specs.Leading.{IsTold, machine_at_start, StartLeads, StartStops}
-use Rattle.run_start.specs.Lines.{IsOver}
-use Rattle.run_start.specs.Stepped.{StopsNext}
+use Rattle.vm_core.specs.Leading.{IsTold, machine_at_start, StartLeads, StartStops}
+use Rattle.step_units.specs.Lines.{IsOver}
+use Rattle.step_units.specs.Stepped.{StopsNext}
 use Rattle.journal_laws.specs.Stops.{StaysPut}
-use Rattle.run_start.proofs.Led.{stands_at_start}
+use Rattle.vm_core.proofs.Led.{stands_at_start}
 use Rattle.vm_core.specs.Choosing.{turn_after as chosen_next}
 use Rattle.vm_core.proofs.Ready.{turned_same}
 use Rattle.vm_core.specs.Cores.{InputsOf, StandsIn}

@@ -21,7 +21,7 @@ use Rattle.run_laws.proofs.Lawful.{follows_state}
 use Rattle.journal_laws.specs.Leads.{Leads}
 use Rattle.journal_laws.proofs.Journals.{leads_follow, journal_lawful, journal_accounted, journal_economical}
 use Rattle.journal_laws.proofs.Units.{none_leads, both_lead}
-use Rattle.run_start.specs.Stepped.{StopLeads}
+use Rattle.step_units.specs.Stepped.{StopLeads}
 use Rattle.vm_core.specs.Cores.{StandsIn}
 use Rattle.vm_core.specs.Lawful.{IsJournalOf}
 use Rattle.vm_core.proofs.Standing.{stands_on, leads_to_stop}

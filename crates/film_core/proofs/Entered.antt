@@ -20,7 +20,7 @@ use Rattle.run_model.proofs.After.{after_journal, units_journal}
 use Rattle.run_laws.proofs.Lawful.{follows_state}
 use Rattle.journal_laws.proofs.Journals.{leads_follow}
 use Rattle.journal_laws.proofs.Units.{none_leads}
-use Rattle.run_start.specs.Stepped.{LeadsFrom}
+use Rattle.step_units.specs.Stepped.{LeadsFrom}
 use Rattle.vm_core.specs.Cores.{StandsIn}
 use Rattle.vm_core.specs.Schedules.{HaveFewMoves}
 use Rattle.film_core.specs.Films.{Filming, FilmAt, IsFilming, OneMore, FilmGoes, IsInOrder, StopsElse, FilmsAt}

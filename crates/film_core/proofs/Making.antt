@@ -24,8 +24,8 @@ use Rattle.run_laws.proofs.Lawful.{follows_state}
 use Rattle.journal_laws.specs.Leads.{Leads}
 use Rattle.journal_laws.specs.Stops.{SpoilsBy}
 use Rattle.journal_laws.proofs.Journals.{leads_follow}
-use Rattle.run_start.specs.Sizes.{KeptAtStop}
-use Rattle.run_start.specs.Stepped.{StopsNext, StopLeads, AtSome, LeadsFrom, StopsFrom}
+use Rattle.step_units.specs.Sizes.{KeptAtStop}
+use Rattle.step_units.specs.Stepped.{StopsNext, StopLeads, AtSome, LeadsFrom, StopsFrom}
 use Rattle.vm_core.specs.Cores.{StandsIn}
 use Rattle.film_core.specs.Ways.{GoesAt, RunsOut, EndsRunning}
 use Rattle.film_core.proofs.Composing.{stands_then, leads_run}

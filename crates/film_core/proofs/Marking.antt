@@ -31,7 +31,7 @@ use Rattle.run_laws.proofs.Flows.{Acted, Settles, Refuses, Steps, acted, steps_o
 use Rattle.run_laws.proofs.Plain.{IsPaging, serve_paging, zero_paging, copy_paging, move_paging}
 use Rattle.run_laws.proofs.Settling.{IsMark}
 use Rattle.journal_laws.specs.Serving.{At}
-use Rattle.run_start.specs.Runners.{runners_of}
+use Rattle.swapper.specs.Runners.{runners_of}
 use Rattle.step_units.proofs.Choosing.{runners_same}
 use Rattle.vm_core.specs.Schedules.{HaveFewMoves}
 use Rattle.vm_core.specs.Steady.{HasFewMoves}

@@ -20,11 +20,11 @@ use Rattle.run_model.specs.State.{State, start}
 use Rattle.run_model.specs.Next.{or_else, when, due_unit, under, turn_of, line_or_turn, next_mark, next_unit, next_turned, last_turned}
 use Rattle.journal_laws.specs.Leads.{Leads}
 use Rattle.journal_laws.proofs.Journals.{leads_follow}
-use Rattle.run_start.specs.Sizes.{KeptAtStop}
-use Rattle.run_start.specs.Stepped.{StopLeads, AtSome, LeadsFrom, StopsFrom}
-use Rattle.run_start.specs.Lines.{IsOver, LineBegun, TurnBegun, TurnDue}
-use Rattle.run_start.proofs.StepUnitsBeginning.{line_begins, line_stops, turn_stops}
-use Rattle.run_start.proofs.Turning.{turn_begins}
+use Rattle.step_units.specs.Sizes.{KeptAtStop}
+use Rattle.step_units.specs.Stepped.{StopLeads, AtSome, LeadsFrom, StopsFrom}
+use Rattle.step_units.specs.Lines.{IsOver, LineBegun, TurnBegun, TurnDue}
+use Rattle.step_units.proofs.Beginning.{line_begins, line_stops, turn_stops}
+use Rattle.step_units.proofs.Turning.{turn_begins}
 use Rattle.vm_core.specs.Choosing.{turn_after as chosen_next}
 use Rattle.vm_core.proofs.Ready.{turned_same}
 use Rattle.vm_core.specs.Cores.{StandsIn}

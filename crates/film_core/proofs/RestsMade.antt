@@ -21,9 +21,9 @@ use Rattle.journal_laws.specs.Leads.{Leads}
 use Rattle.journal_laws.specs.Moved.{Moved, StopsMoving}
 use Rattle.journal_laws.specs.Stops.{StopsAt}
 use Rattle.run_units.proofs.Swapping.{line_asks}
-use Rattle.run_start.specs.Stepped.{StopLeads, LeadsFrom, StopsFrom}
-use Rattle.run_start.specs.Lines.{LineLeads}
-use Rattle.run_start.proofs.Lines.{moves_continue}
+use Rattle.step_units.specs.Stepped.{StopLeads, LeadsFrom, StopsFrom}
+use Rattle.step_units.specs.Lines.{LineLeads}
+use Rattle.step_units.proofs.LinesContinue.{moves_continue}
 use Rattle.swapper.specs.Putting.{HoldsThere, PutOut, StopsPutting}
 use Rattle.step_units.proofs.Asking.{hands_made, hands_stop}
 use Rattle.step_units.proofs.Finding.{interrupt_waits}

@@ -7,8 +7,8 @@ use Rattle.io_edge.specs.FileHolding.{NamedFile}
 use Rattle.flat_state.specs.Flat.{Inputs}
 use Rattle.machine_state.specs.Machine.{Standing}
 use Rattle.run_model.specs.State.{State}
-use Rattle.run_start.specs.Leading.{FillsLead, ToldAt}
-use Rattle.run_start.specs.Stepped.{StepLeads, AtSome, LeadsFrom, StopsFrom}
+use Rattle.vm_core.specs.Leading.{FillsLead, ToldAt}
+use Rattle.step_units.specs.Stepped.{StepLeads, AtSome, LeadsFrom, StopsFrom}
 use Rattle.step_units.specs.Rests.{before_done}
 use Rattle.vm_core.specs.Rests.{begun_by, BegunAt}
 use Rattle.vm_core.specs.Begun.{Begun}

@@ -16,11 +16,11 @@ use Rattle.run_model.specs.declared.mark.Mark.TheVariants as marks
 use Rattle.run_model.specs.State.{State}
 use Rattle.run_model.specs.Next.{next_unit}
 use Rattle.journal_laws.specs.Leads.{Leads}
-use Rattle.run_start.specs.Starting.{IsNew}
+use Rattle.vm_core.specs.FirstProcesses.{IsNew}
 use Rattle.vm_core.specs.Cores.{StandsIn}
 use Rattle.vm_core.specs.Lawful.{IsJournalOf}
 use Rattle.vm_core.specs.RunEnds.{IsAskedOf}
-use Rattle.run_start.specs.Stepped.{StopsFrom}
+use Rattle.step_units.specs.Stepped.{StopsFrom}
 
 -- What contracts see of a film: its machine, how many lines of the schedule were taken, the last mark, how many instructions were
 -- counted, and whether the run is over.

@@ -1,6 +1,6 @@
 pub use Rattle.vm_core.specs.Schedules
 pub use Rattle.vm_core.specs.RunEnds
-pub use Rattle.run_start.specs.declared.starting.Started
+pub use Rattle.vm_core.specs.declared.first_processes.Started
 pub use Rattle.vm_core.specs.Choosing
 pub mod Films
 pub mod Fields

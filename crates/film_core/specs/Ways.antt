@@ -15,9 +15,9 @@ use Rattle.run_model.specs.Next.{next_unit, last_turned}
 use Rattle.run_model.specs.Lawful.{Follows}
 use Rattle.run_laws.specs.Running.{CanRun}
 use Rattle.journal_laws.specs.Leads.{Leads}
-use Rattle.run_start.specs.Machines.{MachineAt}
-use Rattle.run_start.specs.Stepped.{StepLeads}
-use Rattle.run_start.specs.Lines.{IsOver, IsClear}
+use Rattle.step_units.specs.Machines.{MachineAt}
+use Rattle.step_units.specs.Stepped.{StepLeads}
+use Rattle.step_units.specs.Lines.{IsOver, IsClear}
 use Rattle.vm_core.specs.Cores.{StandsIn}
 use Rattle.film_core.specs.Films.{IsInOrder}
 

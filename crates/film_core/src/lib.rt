@@ -9,4 +9,4 @@ mod settling;
 mod starting;
 
 pub use film::Film;
-pub use run_start::Started;
+pub use vm_core::Started;

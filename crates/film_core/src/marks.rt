@@ -5,13 +5,13 @@ ghost use Rattle.machine_state.specs.Going.{IsRunning};
 ghost use Rattle.journal_laws.specs.LastMoves.{last_moves};
 ghost use Rattle.swapper.specs.Spans.{moves};
 ghost use Rattle.run_model.specs.Next.{last_turned};
-ghost use Rattle.run_start.specs.Runners.{choice_of};
+ghost use Rattle.swapper.specs.Runners.{choice_of};
 ghost use Rattle.run_model.specs.After.{swap_mark, completed, moved_on, brought_in, put_out, audited};
 ghost use Rattle.film_core.specs.Marks.{marked_by, marked_if, mark_behind, lines_behind};
 
 use machine_state::Machine;
 use run_model::Mark;
-use run_start::swapper::{Turned, choose};
+use vm_core::swapper::{Turned, choose};
 use vm_facts::{Entry, Event};
 
 // The mark of a turn of the swapper that chose so.

@@ -5,14 +5,14 @@ ghost use Rattle.machine_state.specs.Going.{CanGoOn};
 ghost use Rattle.machine_state.specs.Files.{AreFiles};
 ghost use Rattle.machine_state.specs.Outside.{stop_of, TransfersPages};
 ghost use Rattle.journal_laws.specs.LastMoves.{last_moves};
-ghost use Rattle.run_start.specs.Sizes.{KeptAtStop};
-ghost use Rattle.run_start.specs.Stepped.{AtSome, LeadsFrom, StopsFrom};
+ghost use Rattle.step_units.specs.Sizes.{KeptAtStop};
+ghost use Rattle.step_units.specs.Stepped.{AtSome, LeadsFrom, StopsFrom};
 ghost use Rattle.vm_core.specs.Running.{CountsTo};
 ghost use Rattle.film_core.specs.Ways.{StepSettled, WayAt};
 
 use io_edge::{Files, SwapDev};
 use machine_state::Machine;
-use run_start::fill_rest;
+use vm_core::fill_rest;
 use vm_core::proc_run::{begun_step, finish_step};
 use vm_facts::Stop;
 

@@ -6,8 +6,8 @@ ghost use Rattle.flat_model.specs.Asked.{start_held};
 ghost use Rattle.machine_state.specs.Going.{IsRunning};
 ghost use Rattle.machine_state.specs.Files.{AreFiles};
 ghost use Rattle.machine_state.specs.Outside.{stop_of, TransfersPages};
-ghost use Rattle.run_start.specs.Starting.{AreAmong, StartsFrom};
-ghost use Rattle.run_start.specs.Leading.{IsTold};
+ghost use Rattle.vm_core.specs.FirstProcesses.{AreAmong, StartsFrom};
+ghost use Rattle.vm_core.specs.Leading.{IsTold};
 ghost use Rattle.vm_core.specs.Choosing.{turn_after};
 ghost use Rattle.vm_core.specs.Starting.{StopsStartingRun};
 ghost use Rattle.film_core.specs.Films.{IsUnbegun, BeginsFilm};
@@ -15,8 +15,8 @@ ghost use Rattle.film_core.specs.Films.{IsUnbegun, BeginsFilm};
 use crate::film::Film;
 use io_edge::{Files, SwapDev};
 use machine_state::Machine;
-use run_start::{Started, start};
 use vm_core::proc_run::next_turned;
+use vm_core::{Started, start};
 use vm_facts::{Event, Stop};
 
 // Whether no line of a schedule comes, and no turn of a process.

@@ -3,9 +3,10 @@ use Rattle.std.proofs.Common.{◌≡◌, ◌≢◌, ℕ, ◌==◌, Bool, true, f
 use Rattle.std.proofs.lemmas.Bool.Decides.{nat_tests}
 use Rattle.std.proofs.lemmas.Bool.{eqb-true}
 use Rattle.flat_state.specs.Space.{Space}
-use Rattle.flat_state.specs.Flat.{Holding, Holds, Process}
-use Rattle.flat_state.specs.Change.{replaced_by, replaced, returned_by, returned, lends_to, is_zombie_child, is_zombie}
+use Rattle.flat_state.specs.Flat.{Holding, Holds, Process, FlatState, process_of}
+use Rattle.flat_state.specs.Change.{replaced_by, replaced, returned_by, returned, lends_to, is_zombie_child, is_zombie, with_process}
 use Rattle.flat_state.specs.Numbers.{IsAbsent, AllDistinct}
+use Rattle.kernel_laws.proofs.Flat.Lists.{found_is, replaced_at}
 
 -- the process of this number in a list holds this space
 pub record FoundHolding (qs : List Process) (pid : ℕ) (s : Space) : Type 0 where
@@ -144,3 +145,7 @@ holder_is_none of q s h = ap (λ (x : Holding). (q.parent == of) && is_zombie x)
     never : (b : Bool) → (b && false) ≡ false
     never true = refl
     never false = refl
+
+pub found_after : (F : FlatState) (pid : ℕ) (q p : Process) → process_of F pid ≡ Some q → p.pid ≡ pid → process_of (with_process F p) pid ≡ Some p
+found_after F pid q p e n = subst (λ (x : ℕ). process_of F x ≡ Some q → process_of (with_process F p) x ≡ Some p) n
+    (λ k. found_is (replaced F.processes p) p.pid ∙ replaced_at F.processes q p (sym (found_is F.processes p.pid) ∙ k)) e

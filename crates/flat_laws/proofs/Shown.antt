@@ -30,7 +30,7 @@ use Rattle.flat_model.specs.Step.{Step, step_of, step_behind, called_step, repli
 use Rattle.flat_model.specs.Touched.{page_read, page_tested, page_of_access, call_accesses, accesses_behind, accesses_after, step_accesses, touched_in, touched_by, touched_if, touched, distinct}
 use Rattle.flat_model.specs.Shown.{is_shown, read_where, test_where, shown}
 use Rattle.flat_laws.specs.Shown.{IsOneOf, AreOf, IsCallOf}
-use Rattle.touch_laws.proofs.Distinct.{among_first, among_later}
+use Rattle.flat_laws.proofs.Distinct.{among_first, among_later}
 use Rattle.flat_laws.proofs.Pages.{among_distinct}
 
 -- Answers that are alike.

@@ -1,6 +1,10 @@
-pub use Rattle.touch_laws.specs.Whole
+pub mod Whole
 pub mod Shown
 pub mod Others
 pub mod Determined
 pub mod Enough
 pub mod Pieces
+pub mod Longwords
+pub mod Visible
+pub mod Agreement
+pub mod Alone

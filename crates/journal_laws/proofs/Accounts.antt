@@ -8,13 +8,13 @@ use Rattle.run_model.specs.State.{State}
 use Rattle.run_model.specs.After.{after}
 use Rattle.run_model.specs.Next.{next_unit}
 use Rattle.run_model.specs.Lawful.{Follows}
-use Rattle.paging_laws.specs.RunLawsRunning.{IsRun}
-use Rattle.paging_laws.proofs.Turning.{comes_in_turn}
-use Rattle.paging_laws.proofs.Wholes.{unit_run, unit_ready}
-use Rattle.paging_laws.proofs.Called.{zero_called, get_called, get_run, reclaim_called, copy_called}
-use Rattle.paging_laws.proofs.SmallReads.{read_small}
-use Rattle.paging_laws.proofs.Lost.{unit_lost, unit_written}
-use Rattle.paging_laws.proofs.Cleaned.{unit_dirty}
+use Rattle.economy_laws.specs.RunLawsRunning.{IsRun}
+use Rattle.economy_laws.proofs.Turning.{comes_in_turn}
+use Rattle.economy_laws.proofs.Wholes.{unit_run, unit_ready}
+use Rattle.economy_laws.proofs.Called.{zero_called, get_called, get_run, reclaim_called, copy_called}
+use Rattle.economy_laws.proofs.SmallReads.{read_small}
+use Rattle.economy_laws.proofs.Lost.{unit_lost, unit_written}
+use Rattle.economy_laws.proofs.Cleaned.{unit_dirty}
 use Rattle.journal_laws.specs.Accounts.{AtEach, IsCalledFor, IsAccounted, Account}
 use Rattle.journal_laws.proofs.Owners.{run_owned}
 use Rattle.journal_laws.proofs.Refusals.{unit_rightly}

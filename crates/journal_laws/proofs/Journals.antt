@@ -10,12 +10,12 @@ use Rattle.run_model.specs.State.{State, start}
 use Rattle.run_model.specs.Lawful.{Follows, IsLawful}
 use Rattle.run_model.specs.Swapped.{left_from, swap_left}
 use Rattle.run_model.proofs.After.{units_journal}
-use Rattle.paging_laws.specs.Machine.{StandsAt}
-use Rattle.paging_laws.specs.RunLawsRunning.{CanRun}
-use Rattle.paging_laws.proofs.Lawful.{follows_state}
-use Rattle.paging_laws.proofs.Machines.{swaps_follow}
-use Rattle.paging_laws.proofs.SwapImages.{images_left, left_same}
-use Rattle.paging_laws.proofs.Wholes.{start_run, reached_lawful}
+use Rattle.economy_laws.specs.Machine.{StandsAt}
+use Rattle.economy_laws.specs.RunLawsRunning.{CanRun}
+use Rattle.economy_laws.proofs.Lawful.{follows_state}
+use Rattle.economy_laws.proofs.Machines.{swaps_follow}
+use Rattle.economy_laws.proofs.SwapImages.{images_left, left_same}
+use Rattle.economy_laws.proofs.Wholes.{start_run, reached_lawful}
 use Rattle.run_units.specs.Leads.{Leads}
 use Rattle.run_units.specs.Serving.{At}
 use Rattle.journal_laws.specs.Accounts.{Account}

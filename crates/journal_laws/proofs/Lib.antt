@@ -1,4 +1,4 @@
-pub use Rattle.run_units.proofs.Idle
+pub use Rattle.economy_laws.proofs.Idle
 pub use Rattle.run_units.proofs.Units
 pub mod Owners
 pub mod Refusals

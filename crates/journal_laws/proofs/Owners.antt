@@ -11,8 +11,8 @@ use Rattle.kernel_model.specs.Start.{kept_of}
 use Rattle.kernel_laws.proofs.Flat.Lists.{found_is}
 use Rattle.run_model.specs.State.{State}
 use Rattle.run_model.specs.After.{snapshot_of}
-use Rattle.paging_laws.specs.Standing.{Placed, machine_of}
-use Rattle.paging_laws.specs.RunLawsRunning.{IsRun}
+use Rattle.economy_laws.specs.Standing.{Placed, machine_of}
+use Rattle.economy_laws.specs.RunLawsRunning.{IsRun}
 use Rattle.journal_laws.specs.Owners.{living_with, living_if, is_living, IsOwned}
 
 living_kept : (ps : List Process) (pid : ℕ) → lives (map kept_of ps) pid ≡ living_if (numbered (λ (q : Process). q.pid) pid ps)

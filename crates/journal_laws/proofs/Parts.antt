@@ -5,7 +5,7 @@ use Rattle.flat_state.specs.Flat.{Inputs}
 use Rattle.run_model.specs.State.{State}
 use Rattle.run_model.specs.After.{after, state_after}
 use Rattle.run_model.specs.Lawful.{Follows}
-use Rattle.paging_laws.proofs.Lawful.{follows_state}
+use Rattle.economy_laws.proofs.Lawful.{follows_state}
 use Rattle.journal_laws.specs.Economy.{IsPart}
 
 -- the first of them, and those after

@@ -10,9 +10,9 @@ use Rattle.run_model.specs.After.{snapshot_of}
 use Rattle.run_model.specs.Act.{must_refuse, must_settle, act_by, act_if, act}
 use Rattle.run_model.specs.Next.{next_unit}
 use Rattle.run_model.proofs.NextUnits.{kind_of}
-use Rattle.paging_laws.specs.Flowing.{Flows}
-use Rattle.paging_laws.specs.RunLawsRunning.{IsRun}
-use Rattle.paging_laws.proofs.Flows.{Ends, next_or, steps_own, steps_shape}
+use Rattle.economy_laws.specs.Flowing.{Flows}
+use Rattle.economy_laws.specs.RunLawsRunning.{IsRun}
+use Rattle.economy_laws.proofs.Flows.{Ends, next_or, steps_own, steps_shape}
 use Rattle.journal_laws.specs.Owners.{finds_places, RefusesRightly}
 
 none_found : (b c : Bool) → (not b && not c) ≡ true → c ≡ false

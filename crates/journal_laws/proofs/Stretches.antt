@@ -16,10 +16,10 @@ use Rattle.run_model.specs.Next.{when, line_or_turn, next_mark}
 use Rattle.run_model.specs.Kinds.{Kind, Fills, Brings, Copies, Serves, Acts, ComesIn, Interrupts, Moves, PutsOut, Notes, Begins}
 use Rattle.run_model.specs.Lawful.{Follows}
 use Rattle.run_model.proofs.NextUnits.{kind_of}
-use Rattle.paging_laws.specs.RunLawsRunning.{IsRun}
-use Rattle.paging_laws.proofs.Flows.{Acted, Settles, Refuses, Steps, acted, steps_own}
-use Rattle.paging_laws.proofs.Plain.{IsPaging, serve_paging, zero_paging, copy_paging, move_paging}
-use Rattle.paging_laws.proofs.Wholes.{unit_run, units_run}
+use Rattle.economy_laws.specs.RunLawsRunning.{IsRun}
+use Rattle.economy_laws.proofs.Flows.{Acted, Settles, Refuses, Steps, acted, steps_own}
+use Rattle.economy_laws.proofs.Plain.{IsPaging, serve_paging, zero_paging, copy_paging, move_paging}
+use Rattle.economy_laws.proofs.Wholes.{unit_run, units_run}
 use Rattle.run_units.specs.Stretch.{turns, turns_of, NoneCounts}
 use Rattle.run_units.specs.Worth.{renews, Happens}
 use Rattle.run_units.proofs.Opening.{few_touched, stretch_entries, whole_stretch}

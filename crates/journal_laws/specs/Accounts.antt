@@ -11,11 +11,11 @@ use Rattle.page_laws.specs.Leaving.{IsDirtyIn, IsUnwritten, StaysOrWritten}
 use Rattle.flat_model.specs.Run.{process_of_entry}
 use Rattle.run_model.specs.State.{State}
 use Rattle.run_model.specs.After.{snapshot_of, after}
-use Rattle.paging_laws.specs.RunLawsRunning.{ReadyToStep}
-use Rattle.paging_laws.specs.Turns.{ComesInTurn}
-use Rattle.paging_laws.specs.Called.{IsWanted, IsStartDue, IsCopyDue, IsParentOfDue, IsSmallRead}
-use Rattle.paging_laws.specs.Lost.{IsLost}
-use Rattle.paging_laws.specs.Cleaned.{IsCleaned}
+use Rattle.economy_laws.specs.RunLawsRunning.{ReadyToStep}
+use Rattle.economy_laws.specs.Turns.{ComesInTurn}
+use Rattle.economy_laws.specs.Called.{IsWanted, IsStartDue, IsCopyDue, IsParentOfDue, IsSmallRead}
+use Rattle.economy_laws.specs.Lost.{IsLost}
+use Rattle.economy_laws.specs.Cleaned.{IsCleaned}
 use Rattle.journal_laws.specs.Owners.{IsOwned, RefusesRightly}
 
 -- so of each of these units, at the state before it

@@ -5,7 +5,7 @@ use Rattle.vm_facts.specs.declared.entry.Entry.{Entry}
 use Rattle.flat_state.specs.Flat.{Inputs}
 use Rattle.flat_state.specs.Journal.{appended}
 use Rattle.flat_state.specs.PageNames.{is_among}
-use Rattle.span_laws.specs.Spans.{takings}
+use Rattle.page_laws.specs.Spans.{takings}
 use Rattle.run_model.specs.State.{State}
 use Rattle.run_model.specs.After.{after, state_after}
 use Rattle.run_units.specs.Stretch.{begins_stretch, NoneBegins, copies_of, IsClosing, turns_of, NoneCounts}

@@ -10,8 +10,8 @@ use Rattle.kernel_model.specs.Start.{ImagesFit}
 use Rattle.run_model.specs.State.{State, start}
 use Rattle.run_model.specs.Lawful.{Follows, IsLawful}
 use Rattle.run_model.specs.Swapped.{left_from, swap_left}
-use Rattle.paging_laws.specs.Machine.{StandsAt}
-use Rattle.paging_laws.specs.RunLawsRunning.{IsRun, CanRun}
+use Rattle.economy_laws.specs.Machine.{StandsAt}
+use Rattle.economy_laws.specs.RunLawsRunning.{IsRun, CanRun}
 use Rattle.run_units.specs.Leads.{Leads}
 use Rattle.run_units.specs.Serving.{At}
 use Rattle.journal_laws.specs.Accounts.{Account}

@@ -1,5 +1,5 @@
 pub use Rattle.run_units.specs.Moved
-pub use Rattle.run_units.specs.Stretch
+pub use Rattle.economy_laws.specs.Stretch
 pub use Rattle.run_units.specs.LastMoves
 pub use Rattle.run_units.specs.Stops
 pub use Rattle.run_units.specs.Leads

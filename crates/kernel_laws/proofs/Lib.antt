@@ -16,3 +16,7 @@ pub mod Sound
 pub mod Pieces
 pub mod Stands
 pub mod Kept
+pub mod PartLeaves
+pub mod PartMachines
+pub mod PartMoves
+pub mod OtherHands

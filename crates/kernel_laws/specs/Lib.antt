@@ -1,4 +1,3 @@
-pub use Rattle.swap_dmap.specs.Chunks
 pub mod Processes
 pub mod Paging
 pub mod Beginning

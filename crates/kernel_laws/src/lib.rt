@@ -14,9 +14,16 @@
 //!
 //! Lemmas, by folder of proofs/: Pieces, Sound, Flat, Machine and Stands, of each step by itself; and Kept, the cases of
 //! `machine_kept`. The longer laws by name, by file of specs/: Paging, Processes, Beginning and Waiting.
+//!
+//! Of a part of a move of the hands that comes alone:
+//!
+//! - `parts_keep_owners`: after a part each frame and each block has one owner, and what is due still waits.
+//! - `parts_keep_memory`: a machine with its bytes stands for the same flat states after a part.
+//! - `moves_are_parts`: a move of the hands is its parts, and then both hands go on.
 #![tactic(auto)]
 
 pub mod laws;
+mod parts;
 pub mod starts;
 pub mod units;
 
@@ -24,5 +31,6 @@ pub use laws::{
     borrowers_have_lenders, changes_ask, paging_may, registers_kept, registers_leave,
     start_is_owned, writes_follow,
 };
+pub use parts::{moves_are_parts, parts_keep_memory, parts_keep_owners};
 pub use starts::{begins_keep, starts_begin};
 pub use units::{machine_kept, pieces_wait};

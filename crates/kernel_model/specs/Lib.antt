@@ -11,3 +11,5 @@ pub mod Start
 pub mod Unit
 pub mod Invariant
 pub mod SwapRequests
+pub mod HandParts
+pub mod HandMoves

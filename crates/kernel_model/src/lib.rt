@@ -18,4 +18,12 @@
 //! - SwapRequests: `unit_asks`, what a unit asks of swap; `image_done`, the device as it is told once the oldest transfer ended.
 //!
 //! The laws on all these are the clauses of `kernel_laws`.
+//!
+//! A part of a move of the clock's hands may come alone too, `HandPart`. Its definitions, by file of specs/:
+//! - HandParts: `PartComes`, the conditions of each part by their names; `part_place`, what it does.
+//! - HandMoves: `move_parts`, the parts of one move of the written hands.
 #![tactic(auto)]
+
+pub mod part;
+
+pub use part::HandPart;

@@ -3,7 +3,7 @@ use Rattle.std.specs.Prelude.{◌≡◌, ℕ, ◌+◌, ◌*◌, ◌==◌, false,
 use Rattle.vm_facts.specs.declared.page.Page.{Page}
 use Rattle.vm_facts.specs.declared.page.Page.TheVariants.{Stack}
 use Rattle.aout_image.specs.declared.Image.{Image}
-use Rattle.kernel_laws.specs.Chunks.{pieces}
+use Rattle.page_model.specs.Chunks.{pieces}
 use Rattle.page_model.specs.Owner.TheVariants as owners
 use Rattle.page_model.specs.Holdings.{kept}
 use Rattle.page_model.specs.Book.{with_holdings}

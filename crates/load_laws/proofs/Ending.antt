@@ -25,7 +25,7 @@ use Rattle.run_laws.specs.Running.{IsRun, CanRun, IsIdle}
 use Rattle.run_laws.proofs.Finishing.{finished_ends}
 use Rattle.run_laws.proofs.Flows.{on_steps}
 use Rattle.run_laws.proofs.Wholes.{start_run, reached_run, reached_lawful}
-use Rattle.length_laws.proofs.Counting.{counted_in, Ignores, appended_counts, appended_instructions, sums}
+use Rattle.economy_laws.proofs.Counting.{counted_in, Ignores, appended_counts, appended_instructions, sums}
 use Rattle.load_maker.specs.Programs.{w_bytes}
 use Rattle.load_maker.specs.Load.{load_pages, one_page_image, w_bss}
 use Rattle.load_maker.specs.declared.counts.Counts.{Counts}

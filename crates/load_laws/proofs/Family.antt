@@ -18,13 +18,12 @@ use Rattle.flat_state.specs.Journal.{counted}
 use Rattle.flat_model.specs.Step.{Step}
 use Rattle.flat_model.specs.Asked.{change_wanted}
 use Rattle.run_laws.proofs.Finding.{found_by_number, zombie_passes}
-use Rattle.outcome_laws.specs.Visible.{is_end}
+use Rattle.flat_laws.specs.Visible.{is_end}
 use Rattle.load_maker.specs.RunCountsCounts.{output_length}
 use Rattle.load_maker.specs.Counts.{is_granted_fork}
 use Rattle.load_maker.specs.Programs.{v_bytes}
 use Rattle.load_maker.specs.Load.{one_page_image, v_bss}
-use Rattle.load_laws.specs.Stages.{LoadProgram, W, V, Stage, text_page, end_at, Bank, AreLongwords, is_gone, IsAt, StandsAt, Lives, Ended, AllStand}
-use Rattle.load_laws.specs.Stages.{BeforeBreak, AtBreak, AtFork, AtParting, AtBegin, AtRound, AtCount, AtChange, AtMove, AtPageEnd, AtRoundEnd, AtWait, BeforeWrite, AtWrite, BeforeExit, AtExit, BeforeExecve, AtExecve, Gone}
+use Rattle.load_laws.specs.Stages.{LoadProgram, W, V, Stage, text_page, end_at, Bank, AreLongwords, is_gone, IsAt, StandsAt, Lives, Ended, AllStand, BeforeBreak, AtBreak, AtFork, AtParting, AtBegin, AtRound, AtCount, AtChange, AtMove, AtPageEnd, AtRoundEnd, AtWait, BeforeWrite, AtWrite, BeforeExit, AtExit, BeforeExecve, AtExecve, Gone}
 use Rattle.load_laws.specs.Left.{images_for, rounds_left, instructions_left, forks_left, ends_left, bytes_left, blocks_left, total}
 use Rattle.load_laws.proofs.Pieces.{AreWithin, asked}
 use Rattle.load_laws.proofs.Spaces.{SameSizes, puts_sizes}

@@ -37,14 +37,13 @@ use Rattle.run_laws.specs.Flowing.{Flows}
 use Rattle.run_laws.specs.Running.{IsRun}
 use Rattle.run_laws.proofs.Finishing.{never_misses}
 use Rattle.run_laws.proofs.Flows.{Acted, Settles, Refuses, Steps as ActsSteps, acted, next_or, steps_own, steps_shape, Ends, out_of, out_after, IsOut, plain_point, on_steps}
-use Rattle.run_laws.proofs.Forms.{Formed}
+use Rattle.run_laws.proofs.Forms.{Formed, step_is}
 use Rattle.run_laws.proofs.Acts.{Stepped, stepped_form, Completes, completes, Arrives, arrives, held_is}
 use Rattle.run_laws.proofs.Wholes.{unit_run}
 use Rattle.run_laws.proofs.Others.{number_of_found}
 use Rattle.economy_laws.proofs.Sleeping.{Does, does}
-use Rattle.economy_laws.proofs.Steps.{step_is}
-use Rattle.length_laws.proofs.Counting.{counted_in}
-use Rattle.outcome_laws.specs.Others.{is_refusal}
+use Rattle.economy_laws.proofs.Counting.{counted_in}
+use Rattle.flat_laws.specs.Others.{is_refusal}
 use Rattle.load_maker.specs.RunCountsCounts.{output_length}
 use Rattle.load_laws.specs.Stages.{Stage, is_gone, IsAt, StandsAt, Lives, Ended}
 use Rattle.load_laws.specs.Left.{images_for, instructions_left, forks_left, ends_left, bytes_left, blocks_left, total}

@@ -11,10 +11,10 @@ use Rattle.run_model.specs.State.{State}
 use Rattle.run_model.specs.Lawful.{Reaches}
 use Rattle.run_laws.specs.Sized.{InputsSized}
 use Rattle.run_laws.specs.Running.{CanRun}
-use Rattle.outcome_laws.specs.Visible.{is_fork}
-use Rattle.length_laws.specs.Few.{moves_asked}
-use Rattle.length_laws.proofs.Counting.{counted_in, sums}
-use Rattle.length_laws.proofs.Totals.{journals_short}
+use Rattle.flat_laws.specs.Visible.{is_fork}
+use Rattle.economy_laws.specs.Few.{moves_asked}
+use Rattle.economy_laws.proofs.Counting.{counted_in, sums}
+use Rattle.economy_laws.proofs.Totals.{journals_short}
 use Rattle.load_maker.specs.Load.{load_pages}
 use Rattle.load_maker.specs.Counts.{is_forking, is_granted_fork}
 use Rattle.load_laws.specs.Left.{images_for, IsLoad, instructions_left, forks_left, total}
@@ -25,7 +25,7 @@ use Rattle.load_laws.proofs.Ending.{under_way}
 same_fork : (e : Entry) → is_fork e ≡ is_granted_fork e
 same_fork (entries.Call pid number carry r0 r1) = go carry (is_forking number)
   where
-    go : (c b : Bool) → Rattle.outcome_laws.specs.Visible.is_fork_reply number c ≡ (is_forking number && not c)
+    go : (c b : Bool) → Rattle.flat_laws.specs.Visible.is_fork_reply number c ≡ (is_forking number && not c)
     go true b = never (is_forking number)
       where
         never : (x : Bool) → false ≡ (x && false)

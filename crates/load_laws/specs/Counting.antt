@@ -10,9 +10,9 @@ use Rattle.run_model.specs.State.{State}
 use Rattle.run_model.specs.Next.{next_unit}
 use Rattle.run_model.specs.Lawful.{Reaches}
 use Rattle.run_laws.specs.Running.{CanRun}
-use Rattle.outcome_laws.specs.Others.{is_refusal}
-use Rattle.outcome_laws.specs.Visible.{is_end}
-use Rattle.length_laws.specs.Few.{moves_asked}
+use Rattle.flat_laws.specs.Others.{is_refusal}
+use Rattle.flat_laws.specs.Visible.{is_end}
+use Rattle.economy_laws.specs.Few.{moves_asked}
 use Rattle.load_maker.specs.Load.{load_pages}
 use Rattle.load_maker.specs.Counts.{is_granted_fork, counts_of}
 use Rattle.load_laws.specs.Stages.{Stage, AllStand}

@@ -1,4 +1,4 @@
-pub use Rattle.length_laws.specs.Few
+pub use Rattle.economy_laws.specs.Few
 pub mod Stages
 pub mod Left
 pub mod Counting

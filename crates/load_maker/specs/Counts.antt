@@ -4,9 +4,9 @@ use Rattle.std.specs.List.{sum_by, count_by}
 use Rattle.vm_facts.specs.declared.entry.Entry.{Entry}
 use Rattle.vm_facts.specs.declared.entry.Entry.TheVariants.{Call}
 use Rattle.flat_state.specs.Journal.{instructions_of}
-use Rattle.outcome_laws.specs.Others.{is_refusal}
-use Rattle.outcome_laws.specs.Visible.{is_end}
-use Rattle.run_counts.specs.Counts.{output_length}
+use Rattle.flat_laws.specs.Others.{is_refusal}
+use Rattle.flat_laws.specs.Visible.{is_end}
+use Rattle.process_counts.specs.Counts.{output_length}
 use Rattle.command_ending.specs.Ending.{numbered_line}
 use Rattle.load_maker.specs.declared.counts.Counts.{Counts}
 

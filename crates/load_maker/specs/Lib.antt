@@ -1,4 +1,4 @@
-pub use Rattle.run_counts.specs.Counts as RunCountsCounts
+pub use Rattle.process_counts.specs.Counts as RunCountsCounts
 pub mod Programs
 pub mod Load
 pub mod Counts

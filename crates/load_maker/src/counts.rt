@@ -1,8 +1,8 @@
 ghost use Rattle.std.specs.Prelude.{◌≡◌, if◌then◌else◌};
 ghost use Rattle.flat_state.specs.Journal.{counted};
-ghost use Rattle.outcome_laws.specs.Others.{is_refusal};
-ghost use Rattle.outcome_laws.specs.Visible.{is_end};
-ghost use Rattle.run_counts.specs.Counts.{output_length};
+ghost use Rattle.flat_laws.specs.Others.{is_refusal};
+ghost use Rattle.flat_laws.specs.Visible.{is_end};
+ghost use Rattle.process_counts.specs.Counts.{output_length};
 ghost use Rattle.load_maker.specs.Counts.{is_granted_fork, counts_of};
 
 use vm_facts::Entry;

@@ -1,17 +1,17 @@
-pub use Rattle.table_steps.proofs.Lists
-pub use Rattle.table_steps.proofs.Numbered
-pub use Rattle.table_steps.proofs.KernelLawsMachineProcesses
-pub use Rattle.table_steps.proofs.Ready
-pub use Rattle.table_steps.proofs.Shapes
-pub use Rattle.table_steps.proofs.Swaps
-pub use Rattle.table_steps.proofs.KernelLawsMachineTables
-pub use Rattle.table_steps.proofs.GivenBack
-pub use Rattle.table_steps.proofs.KernelLawsSoundAllowed
-pub use Rattle.table_steps.proofs.KernelLawsSoundChanges
-pub use Rattle.table_steps.proofs.NumbersApart
-pub use Rattle.table_steps.proofs.KernelLawsSoundSteps
-pub use Rattle.table_steps.proofs.PageLawsListsPages
-pub use Rattle.table_steps.proofs.Units
+pub use Rattle.kernel_laws.proofs.Flat.Lists
+pub use Rattle.kernel_laws.proofs.Flat.Numbered
+pub use Rattle.kernel_laws.proofs.Machine.Processes as KernelLawsMachineProcesses
+pub use Rattle.kernel_laws.proofs.Machine.Ready
+pub use Rattle.kernel_laws.proofs.Machine.Shapes
+pub use Rattle.kernel_laws.proofs.Machine.Swaps
+pub use Rattle.kernel_laws.proofs.Machine.Tables as KernelLawsMachineTables
+pub use Rattle.kernel_laws.proofs.Pieces.GivenBack
+pub use Rattle.kernel_laws.proofs.Sound.Allowed as KernelLawsSoundAllowed
+pub use Rattle.kernel_laws.proofs.Sound.Changes as KernelLawsSoundChanges
+pub use Rattle.kernel_laws.proofs.Sound.NumbersApart
+pub use Rattle.kernel_laws.proofs.Sound.Steps as KernelLawsSoundSteps
+pub use Rattle.page_laws.proofs.Lists.Pages as PageLawsListsPages
+pub use Rattle.page_laws.proofs.Moves.Units
 pub use Rattle.table_steps.proofs.Records
 pub use Rattle.table_steps.proofs.Listed
 pub use Rattle.table_steps.proofs.Lives

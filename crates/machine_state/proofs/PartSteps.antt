@@ -9,10 +9,10 @@ use Rattle.page_laws.proofs.Bytes.Others.{stays_same}
 use Rattle.kernel_model.specs.Kernel.{Kernel}
 use Rattle.kernel_model.specs.Coupled.{beside_kernel}
 use Rattle.kernel_model.specs.Sound.{Sound, lives}
-use Rattle.hand_parts.specs.declared.part.HandPart.{HandPart}
-use Rattle.hand_parts.specs.Parts.{PartComes, part_place, part_step}
-use Rattle.part_laws.proofs.Leaves.{Parted, parted}
-use Rattle.part_laws.proofs.Machines.{part_due, part_sound, part_numbered, part_coupled}
+use Rattle.kernel_model.specs.declared.part.HandPart.{HandPart}
+use Rattle.kernel_model.specs.HandParts.{PartComes, part_place, part_step}
+use Rattle.kernel_laws.proofs.PartLeaves.{Parted, parted}
+use Rattle.kernel_laws.proofs.PartMachines.{part_due, part_sound, part_numbered, part_coupled}
 use Rattle.table_steps.specs.Tables.{Tables}
 use Rattle.table_steps.specs.Alike.{AreRecords}
 use Rattle.table_steps.specs.Conditions.{KeepsFlat, SameEverywhere}

@@ -1,11 +1,11 @@
 //! A part of a move of the hands, alone.
 ghost use Rattle.machine_state.specs.Going.{CanGoOn};
 ghost use Rattle.std.specs.Prelude.{◌≡◌, None, OnOk, OnErr};
-ghost use Rattle.hand_parts.specs.Parts.{PartComes, part_step};
+ghost use Rattle.kernel_model.specs.HandParts.{PartComes, part_step};
 ghost use Rattle.table_steps.specs.Conditions.{KeepsFlat, SameEverywhere};
 
 use crate::machine::Machine;
-use hand_parts::HandPart;
+use kernel_model::HandPart;
 use table_steps::parts;
 use vm_facts::NoMemory;
 

@@ -1,3 +1,5 @@
 pub mod Homes
 pub mod Judged
 pub mod Records
+pub mod PartJudged
+pub mod Over

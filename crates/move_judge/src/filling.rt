@@ -13,8 +13,7 @@ ghost use Rattle.machine_state.specs.Views.{IsNamedBy, ShowsSpace};
 ghost use Rattle.machine_state.specs.Conditions.{HasStopped};
 ghost use Rattle.page_model.specs.Pages.{is_on_swap};
 ghost use Rattle.paged_model.specs.Reasons.{or_reason};
-ghost use Rattle.paged_model.specs.Moves.{zero_by, zero_reason, parent_by, copy_due, copy_reason, reclaim_reason};
-ghost use Rattle.paged_model.specs.Moves.{not_among, comes_along, reads_with, read_reason, each_page, run_reason, get_by, get_reason};
+ghost use Rattle.paged_model.specs.Moves.{zero_by, zero_reason, parent_by, copy_due, copy_reason, reclaim_reason, not_among, comes_along, reads_with, read_reason, each_page, run_reason, get_by, get_reason};
 ghost use Rattle.move_judge.specs.Homes.{IsHome};
 ghost use Rattle.move_judge.specs.Judged.{CopiesFrom, Judged};
 

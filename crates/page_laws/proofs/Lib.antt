@@ -9,3 +9,6 @@ pub mod Starts
 pub mod Swapper
 pub mod Runs
 pub mod Leaving
+pub mod Spanning
+pub mod Forcing
+pub mod Serving

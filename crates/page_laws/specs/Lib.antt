@@ -4,3 +4,5 @@ pub mod Leaving
 pub mod Owners
 pub mod Memory
 pub mod Dues
+pub mod Spans
+pub mod Short

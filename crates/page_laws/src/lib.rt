@@ -1,5 +1,5 @@
 //! The laws of paging: what each step of `page_model` keeps of ownership, of the bytes of pages and of what is due,
-//! and that forcing and serving end. There is no code here: each law is the clause of a function with an empty body.
+//! and that forcing and serving end, and in how few entries. There is no code here: each law is the clause of a function with an empty body.
 //!
 //! - `start_stands`: at the start each frame is free, no page is filled, and the hands are a quarter of the frames
 //!   apart.
@@ -16,6 +16,8 @@
 //!   there are frames; locked pages stay valid.
 //! - `serving_ends`: serving as a whole comes to a valid page; locked pages stay valid.
 //! - `serving_units`: the next unit of serving is its entry, and its step is what the entry does.
+//! - `entries_added`, `forcing_is_short` and `serving_is_short`: how many entries units add to a journal; of forcing and serving few more
+//!   than the number by which the transfers in flight fall.
 //! - `swapper_chooses`: whom the swapper brings in or puts out, said of all that it could choose.
 //! - `due_kept`: what is due stays unfilled, and what it is copied from stays filled, through each paging entry and each
 //!   change of a process.
@@ -27,11 +29,12 @@
 //! - `frames_are_left`: when a page leaves its frame, and that what must be written stays in its till it was.
 //!
 //! Lemmas, by folder of proofs/: Lists, Ownership, Moves, Bytes, Blocks, Due, Ends, Swapper, Runs
-//! and Leaving. What the laws say more than once, by file of specs/: Neighbours, Sweeping and Leaving; and the longer laws by
-//! name: Owners, Memory and Dues.
+//! and Leaving; those of spans are Spanning, Forcing and Serving. What the laws say more than once, by file of specs/: Neighbours,
+//! Sweeping, Leaving and Spans; and the longer laws by name: Owners, Memory, Dues and Short.
 #![tactic(auto)]
 
 pub mod laws;
+mod spans;
 
 pub use laws::{
     blocks_kept, due_kept, few_transfers, forcing_ends, frames_are_left, memory_kept,
@@ -39,3 +42,4 @@ pub use laws::{
     residence_moves, runs_are_widest, serving_ends, serving_units, spaces_kept, start_stands,
     swapper_chooses,
 };
+pub use spans::{entries_added, forcing_is_short, serving_is_short};

@@ -11,11 +11,11 @@ use Rattle.page_model.specs.Hands.{hand_run, wants_moves, advance}
 use Rattle.page_model.specs.Ownership.{OwnsFrames, OneOwner}
 use Rattle.kernel_model.specs.Sound.{Sound, lives}
 use Rattle.kernel_model.specs.Start.{ImagesFit}
-use Rattle.hand_parts.specs.declared.part.HandPart.{HandPart}
-use Rattle.hand_parts.specs.Parts.{PartsCome, part_place, parts_place}
-use Rattle.hand_parts.specs.Moves.{move_parts}
-use Rattle.part_laws.proofs.Moves.{place_append, come_append, move_place, move_come}
-use Rattle.part_laws.proofs.OtherHands.{at_hands, parts_hands, come_hands}
+use Rattle.kernel_model.specs.declared.part.HandPart.{HandPart}
+use Rattle.kernel_model.specs.HandParts.{PartsCome, part_place, parts_place}
+use Rattle.kernel_model.specs.HandMoves.{move_parts}
+use Rattle.kernel_laws.proofs.PartMoves.{place_append, come_append, move_place, move_come}
+use Rattle.kernel_laws.proofs.OtherHands.{at_hands, parts_hands, come_hands}
 use Rattle.run_model.specs.State.{State}
 use Rattle.run_model.specs.Wanted.{locked}
 use Rattle.run_model.specs.After.{after}

@@ -16,10 +16,10 @@ use Rattle.kernel_model.specs.Numbers.{Numbered}
 use Rattle.kernel_model.specs.Coupled.{SameTables}
 use Rattle.kernel_laws.proofs.Machine.Shapes.{fit_shaped}
 use Rattle.kernel_laws.proofs.Stands.Steps.{stands_still}
-use Rattle.hand_parts.specs.declared.part.HandPart.{HandPart}
-use Rattle.hand_parts.specs.Parts.{PartComes, part_place, part_step}
-use Rattle.part_laws.proofs.Leaves.{Parted, parted}
-use Rattle.part_laws.proofs.Machines.{part_keep, part_due, part_sound, part_numbered, part_coupled, part_stands}
+use Rattle.kernel_model.specs.declared.part.HandPart.{HandPart}
+use Rattle.kernel_model.specs.HandParts.{PartComes, part_place, part_step}
+use Rattle.kernel_laws.proofs.PartLeaves.{Parted, parted}
+use Rattle.kernel_laws.proofs.PartMachines.{part_keep, part_due, part_sound, part_numbered, part_coupled, part_stands}
 use Rattle.run_model.specs.State.{State}
 use Rattle.run_laws.specs.Machine.{OutRegs, Keeps, StandsAt}
 use Rattle.run_laws.specs.Standing.{machine_of, EachOnce, Placed}

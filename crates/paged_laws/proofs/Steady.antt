@@ -10,9 +10,8 @@ use Rattle.flat_state.specs.Lenders.{LendsStand}
 use Rattle.flat_state.specs.Journal.{IsUnit, AllUnits}
 use Rattle.page_model.specs.Placement.{Placement}
 use Rattle.kernel_model.specs.Start.{ImagesFit}
-use Rattle.register_laws.specs.Whole.{AllSized}
-use Rattle.flat_model.specs.Run.{Point, due_at, process_of_entry, may_follow}
-use Rattle.flat_model.specs.Run.{ComesAt, first_if, entry_of_step}
+use Rattle.flat_laws.specs.Whole.{AllSized}
+use Rattle.flat_model.specs.Run.{Point, due_at, process_of_entry, may_follow, ComesAt, first_if, entry_of_step}
 use Rattle.flat_model.proofs.Coming.{Came, came}
 use Rattle.run_model.specs.declared.mark.Mark.{Mark}
 use Rattle.run_model.specs.declared.mark.Mark.TheVariants as marks

@@ -11,10 +11,10 @@ use Rattle.page_model.specs.Placement.{Placement, slots_of, state_of, is_dirty, 
 use Rattle.page_model.specs.Conditions.{EachPage}
 use Rattle.page_model.specs.Runs.{is_idle, is_near, most_written}
 use Rattle.page_model.specs.Serve.{is_full}
-use Rattle.hand_parts.specs.declared.part.HandPart.{HandPart}
-use Rattle.hand_parts.specs.declared.part.HandPart.TheVariants as parts
-use Rattle.hand_parts.specs.Parts.{IsIdle, ExpireComes, WriteComes, FreeComes, PartComes}
-use Rattle.hand_parts.proofs.Idle.{idle_is, is_idle_so}
+use Rattle.kernel_model.specs.declared.part.HandPart.{HandPart}
+use Rattle.kernel_model.specs.declared.part.HandPart.TheVariants as parts
+use Rattle.kernel_model.specs.HandParts.{IsIdle, ExpireComes, WriteComes, FreeComes, PartComes}
+use Rattle.kernel_model.proofs.Idle.{idle_is, is_idle_so}
 use Rattle.paged_model.specs.declared.reason.Reason.{Reason}
 use Rattle.paged_model.specs.declared.reason.Reason.TheVariants as reasons
 use Rattle.paged_model.specs.Reasons.{unless, or_reason}

@@ -5,9 +5,9 @@ use Rattle.vm_facts.specs.declared.entry.Entry.TheVariants as entries
 use Rattle.swap_book.specs.Holdings.{Holdings}
 use Rattle.flat_state.specs.Flat.{Inputs}
 use Rattle.page_model.specs.Placement.{Placement}
-use Rattle.hand_parts.specs.declared.part.HandPart.{HandPart}
-use Rattle.hand_parts.specs.Parts.{part_place}
-use Rattle.hand_parts.specs.Moves.{move_parts}
+use Rattle.kernel_model.specs.declared.part.HandPart.{HandPart}
+use Rattle.kernel_model.specs.HandParts.{part_place}
+use Rattle.kernel_model.specs.HandMoves.{move_parts}
 use Rattle.flat_model.specs.Asked.{start_held}
 use Rattle.run_model.specs.State.{State, start}
 use Rattle.run_model.specs.Wanted.{locked}

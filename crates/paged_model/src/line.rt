@@ -1,4 +1,4 @@
-use hand_parts::HandPart;
+use kernel_model::HandPart;
 use vm_facts::Entry;
 
 /// A line of a trace with paging lines.

@@ -3,7 +3,7 @@ use Rattle.std.proofs.Common.{◌≡◌, ℕ, ◌+◌, ◌≤◌, List, [], ◌�
 use Rattle.vm_facts.specs.declared.entry.Entry.{Entry}
 use Rattle.vm_facts.specs.declared.entry.Entry.TheVariants as entries
 use Rattle.flat_state.specs.Journal.{append, append_after, join}
-use Rattle.span_laws.specs.Spans.{moves}
+use Rattle.page_laws.specs.Spans.{moves}
 use Rattle.paging_units.specs.LastMoves.{last_moves}
 
 pub last_of : (before : List Entry) (e : Entry) → last_moves (before ++ e ∷ []) ≡ moves e

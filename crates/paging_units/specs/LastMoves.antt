@@ -1,7 +1,7 @@
 -- The moves of the hands that the last entry of a journal counts.
 use Rattle.std.specs.Prelude.{ℕ, List, [], ◌∷◌}
 use Rattle.vm_facts.specs.declared.entry.Entry.{Entry}
-use Rattle.span_laws.specs.Spans.{moves}
+use Rattle.page_laws.specs.Spans.{moves}
 
 -- 0 where the last entry counts no moves, or there is none
 abbrev pub last_moves : List Entry → ℕ

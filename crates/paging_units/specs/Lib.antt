@@ -1,4 +1,4 @@
-pub use Rattle.span_laws.specs.Spans
+pub use Rattle.page_laws.specs.Spans
 pub mod Made
 pub mod LastMoves
 pub mod Stops

@@ -16,12 +16,12 @@ use Rattle.flat_state.specs.Flat.{Process, Inputs}
 use Rattle.machine_state.specs.Going.{CanGoOn}
 use Rattle.machine_state.specs.Machine.{Standing}
 use Rattle.machine_state.specs.UserMemory.{CanLend, Wrote, writes_in}
-use Rattle.steady_laws.specs.Callers.{regs_of}
+use Rattle.step_units.specs.Callers.{regs_of}
 use Rattle.run_model.specs.State.{State}
 use Rattle.touched_pages.proofs.Covering.{writes_none}
-use Rattle.steady_laws.specs.Ready.{Continues}
-use Rattle.steady_laws.proofs.Running.{continues_from}
-use Rattle.steady_laws.proofs.Entries.{room_continues}
+use Rattle.step_units.specs.Ready.{Continues}
+use Rattle.step_units.proofs.Running.{continues_from}
+use Rattle.step_units.proofs.Entries.{room_continues}
 use Rattle.proc_run.specs.Calls.{own_answers, MadeCall}
 use Rattle.proc_run.specs.Runs.{IsSteady, RunsAt}
 use Rattle.proc_run.specs.Stretch.{Leaves}

@@ -13,14 +13,14 @@ use Rattle.flat_model.specs.declared.calls.SystemCall.{SystemCall}
 use Rattle.flat_model.specs.declared.calls.SystemCall.TheVariants as system_calls
 use Rattle.machine_state.specs.Machine.{Standing}
 use Rattle.machine_state.specs.UserMemory.{kernel_answers}
-use Rattle.steady_laws.specs.Called.{Called}
-use Rattle.steady_laws.specs.Called.TheVariants as calls
-use Rattle.steady_laws.specs.Answered.{Comes}
-use Rattle.steady_laws.specs.Leaving.{ExitComes, StopsExit}
-use Rattle.steady_laws.specs.Reading.{AreNamed}
-use Rattle.steady_laws.specs.Sizing.{BreakComes, StopsBreak}
-use Rattle.steady_laws.specs.Starting.{ExecComes, StopsExec}
-use Rattle.steady_laws.specs.Writing.{StopsOut}
+use Rattle.step_units.specs.Called.{Called}
+use Rattle.step_units.specs.Called.TheVariants as calls
+use Rattle.step_units.specs.Answered.{Comes}
+use Rattle.step_units.specs.ProcCallsLeaving.{ExitComes, StopsExit}
+use Rattle.step_units.specs.Reading.{AreNamed}
+use Rattle.step_units.specs.ProcCallsSizing.{BreakComes, StopsBreak}
+use Rattle.step_units.specs.Starting.{ExecComes, StopsExec}
+use Rattle.step_units.specs.Writing.{StopsOut}
 use Rattle.run_model.specs.State.{State}
 use Rattle.step_units.specs.Machines.{RunsOn, MakesCall}
 use Rattle.step_units.specs.Stepped.{CallLeads, StopLeads}

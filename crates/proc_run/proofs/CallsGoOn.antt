@@ -11,14 +11,14 @@ use Rattle.flat_model.specs.declared.calls.Reply.TheVariants.{Does}
 use Rattle.flat_model.specs.declared.calls.SystemCall.{SystemCall}
 use Rattle.flat_model.specs.declared.calls.SystemCall.TheVariants as system_calls
 use Rattle.machine_state.specs.Machine.{Standing}
-use Rattle.steady_laws.specs.Called.{Called}
-use Rattle.steady_laws.specs.Called.TheVariants as calls
-use Rattle.steady_laws.specs.Callers.{IsCaller, parent_of}
-use Rattle.steady_laws.specs.Reading.{AreNamed}
-use Rattle.steady_laws.specs.Ready.{Continues}
-use Rattle.steady_laws.specs.Calls.{called_count}
-use Rattle.steady_laws.proofs.CallsContinue.{reply_continues, write_continues, wait_continues, vfork_continues, exit_continues, break_continues}
-use Rattle.steady_laws.proofs.SpacesContinue.{fork_continues, exec_continues}
+use Rattle.step_units.specs.Called.{Called}
+use Rattle.step_units.specs.Called.TheVariants as calls
+use Rattle.step_units.specs.Callers.{IsCaller, parent_of}
+use Rattle.step_units.specs.Reading.{AreNamed}
+use Rattle.step_units.specs.Ready.{Continues}
+use Rattle.step_units.specs.Calls.{called_count}
+use Rattle.step_units.proofs.CallsContinue.{reply_continues, write_continues, wait_continues, vfork_continues, exit_continues, break_continues}
+use Rattle.step_units.proofs.SpacesContinue.{fork_continues, exec_continues}
 use Rattle.proc_run.specs.Calls.{own_answers, CallComes}
 
 module _ (old new : Standing) (pid : ℕ) (regs : Regs) (holds : Option (List NamedFile)) (i j : Option SwapImage) (caller : IsCaller old pid) where

@@ -14,16 +14,16 @@ use Rattle.flat_model.specs.declared.calls.Reply.TheVariants.{Fails, Does, Write
 use Rattle.flat_model.specs.declared.calls.SystemCall.{SystemCall}
 use Rattle.flat_model.specs.declared.calls.SystemCall.TheVariants as system_calls
 use Rattle.machine_state.specs.Machine.{Standing}
-use Rattle.steady_laws.specs.Called.TheVariants as calls
-use Rattle.steady_laws.specs.Answered.{Replied, Comes}
-use Rattle.steady_laws.specs.Callers.{parent_of}
-use Rattle.steady_laws.specs.Growth.{with_pieces}
-use Rattle.steady_laws.specs.Leaving.{ExitComes}
-use Rattle.steady_laws.specs.Making.{without_pieces}
-use Rattle.steady_laws.specs.Reading.{AreNamed}
-use Rattle.steady_laws.specs.Sizing.{BreakComes, MovesEnd, break_at, pages_to}
-use Rattle.steady_laws.specs.Starting.{ExecComes}
-use Rattle.steady_laws.specs.Waiting.{wait_answer}
+use Rattle.step_units.specs.Called.TheVariants as calls
+use Rattle.step_units.specs.Answered.{Replied, Comes}
+use Rattle.step_units.specs.Callers.{parent_of}
+use Rattle.step_units.specs.Growth.{with_pieces}
+use Rattle.step_units.specs.ProcCallsLeaving.{ExitComes}
+use Rattle.step_units.specs.ProcCallsMaking.{without_pieces}
+use Rattle.step_units.specs.Reading.{AreNamed}
+use Rattle.step_units.specs.ProcCallsSizing.{BreakComes, MovesEnd, break_at, pages_to}
+use Rattle.step_units.specs.Starting.{ExecComes}
+use Rattle.step_units.specs.Waiting.{wait_answer}
 use Rattle.proc_run.specs.Calls.{own_answers, CallComes}
 
 -- Only a call whose read misses answers so.

@@ -25,13 +25,13 @@ use Rattle.flat_model.specs.declared.calls.SystemCall.{SystemCall}
 use Rattle.machine_state.specs.Going.{CanGoOn}
 use Rattle.machine_state.specs.Machine.{Standing}
 use Rattle.machine_state.specs.UserMemory.{CanLend, kernel_answers}
-use Rattle.steady_laws.specs.Stops.{StopsBefore}
-use Rattle.steady_laws.specs.Answered.{Answered}
-use Rattle.steady_laws.specs.Called.TheVariants as calls
-use Rattle.steady_laws.specs.Callers.{regs_of}
-use Rattle.steady_laws.specs.Leaving.{HasEnded, StopsAlive}
-use Rattle.steady_laws.specs.Ready.{Continues}
-use Rattle.steady_laws.proofs.CallsContinue.{reply_continues, end_continues}
+use Rattle.step_units.specs.Stops.{StopsBefore}
+use Rattle.step_units.specs.Answered.{Answered}
+use Rattle.step_units.specs.Called.TheVariants as calls
+use Rattle.step_units.specs.Callers.{regs_of}
+use Rattle.step_units.specs.ProcCallsLeaving.{HasEnded, StopsAlive}
+use Rattle.step_units.specs.Ready.{Continues}
+use Rattle.step_units.proofs.CallsContinue.{reply_continues, end_continues}
 use Rattle.run_model.specs.State.{State}
 use Rattle.touched_pages.proofs.Flows.{on_steps}
 use Rattle.touched_pages.specs.RunUnitsTouching.{IsRunning}

@@ -2,7 +2,7 @@
 use Rattle.std.proofs.Common.{List, [], ◌∷◌, refl}
 use Rattle.flat_state.specs.Flat.{NamedImage}
 use Rattle.machine_state.specs.Sourced.{ImageNamed}
-use Rattle.steady_laws.specs.Reading.{AreNamed}
+use Rattle.step_units.specs.Reading.{AreNamed}
 
 abbrev pub known : List ImageNamed → List NamedImage
 known [] = []

@@ -12,13 +12,13 @@ use Rattle.flat_model.specs.Calls.{call_of}
 use Rattle.flat_model.specs.declared.calls.SystemCall.{SystemCall}
 use Rattle.machine_state.specs.Machine.{Standing}
 use Rattle.machine_state.specs.UserMemory.{CanLend}
-use Rattle.steady_laws.specs.Called.{Called}
-use Rattle.steady_laws.specs.Called.TheVariants as calls
-use Rattle.steady_laws.specs.Callers.{IsCaller, regs_of}
+use Rattle.step_units.specs.Called.{Called}
+use Rattle.step_units.specs.Called.TheVariants as calls
+use Rattle.step_units.specs.Callers.{IsCaller, regs_of}
 use Rattle.run_model.specs.State.{State}
 use Rattle.step_units.specs.Stepped.{CallLeads, LeadsFrom, StopsFrom}
-use Rattle.steady_laws.specs.Ready.{Continues}
-use Rattle.steady_laws.specs.Calls.{called_count}
+use Rattle.step_units.specs.Ready.{Continues}
+use Rattle.step_units.specs.Calls.{called_count}
 use Rattle.touched_pages.specs.Missed.{WritesNothing}
 use Rattle.touched_pages.proofs.RunUnitsCalling.{calls_write_none}
 use Rattle.proc_run.specs.declared.advancing.Advance.{Advance}

@@ -12,7 +12,7 @@ use Rattle.kernel_model.specs.Coupled.{Outline, outline_of, outline_kept, SameTa
 use Rattle.machine_state.specs.Alike.{AreRecords}
 use Rattle.machine_state.specs.Machine.{proc_shown, proc_of_record, processes_of}
 use Rattle.machine_state.proofs.Records.{found_pid}
-use Rattle.steady_laws.proofs.Waits.{none_over, first_over}
+use Rattle.step_units.proofs.Waits.{none_over, first_over}
 use Rattle.run_model.specs.Next.{or_else, pid_if as flat_pid_if, next_ready as flat_ready, next_turned as flat_turned}
 use Rattle.proc_run.specs.Choosing.{is_space_holder, can_run, pid_of_record, next_runner, turn_after, IsReadyRecord, FoundReady}
 

@@ -11,8 +11,8 @@ use Rattle.machine_state.specs.Alike.{AreRecords}
 use Rattle.machine_state.specs.Machine.{proc_shown, life_shown, proc_of_record as shown_of, processes_of, residents_of}
 use Rattle.machine_state.proofs.Listed.{process_is}
 use Rattle.machine_state.proofs.Records.{found_pid}
-use Rattle.steady_laws.proofs.Numbers.{placed}
-use Rattle.steady_laws.specs.Callers.{regs_by, regs_of}
+use Rattle.step_units.proofs.Numbers.{placed}
+use Rattle.step_units.specs.Callers.{regs_by, regs_of}
 use Rattle.proc_run.specs.Choosing.{is_space_holder, can_run, steps_by, may_run}
 
 module _ (k : Kernel) (ps : List Record) (pid : ℕ) (procs : k.processes ≡ processes_of ps k.next_pid) (residents : k.place.residents ≡ residents_of ps k.next_pid)

@@ -9,7 +9,7 @@ use Rattle.vm_facts.specs.declared.regs.Regs.{Regs}
 use Rattle.flat_state.specs.Space.{Space}
 use Rattle.flat_state.specs.Flat.{Process, Inputs}
 use Rattle.machine_state.specs.Machine.{Standing}
-use Rattle.steady_laws.specs.Callers.{regs_of}
+use Rattle.step_units.specs.Callers.{regs_of}
 use Rattle.run_model.specs.State.{State}
 use Rattle.run_model.specs.Wanted.{locked}
 use Rattle.step_units.proofs.Tables.{regs_is, is_kept}

@@ -14,14 +14,14 @@ use Rattle.machine_state.specs.Going.{CanGoOn}
 use Rattle.machine_state.specs.Machine.{Standing}
 use Rattle.machine_state.specs.Files.{AreImages}
 use Rattle.machine_state.specs.UserMemory.{CanLend}
-use Rattle.steady_laws.specs.Growth.{access_by}
-use Rattle.steady_laws.specs.FaultFillAccessAccess.{Access}
-use Rattle.steady_laws.specs.FaultFillAccessAccess.TheVariants as accesses
-use Rattle.steady_laws.specs.Touches.{TouchedAs, TouchedNow, AccessComes, AccessStops}
-use Rattle.steady_laws.specs.FaultFillTouchServed.{Served}
-use Rattle.steady_laws.specs.FaultFillTouchServed.TheVariants as served
-use Rattle.steady_laws.specs.Callers.{IsCaller}
-use Rattle.steady_laws.specs.Leaving.{HasEnded, StopsAlive}
+use Rattle.step_units.specs.Growth.{access_by}
+use Rattle.step_units.specs.FaultFillAccessAccess.{Access}
+use Rattle.step_units.specs.FaultFillAccessAccess.TheVariants as accesses
+use Rattle.step_units.specs.Touches.{TouchedAs, TouchedNow, AccessComes, AccessStops}
+use Rattle.step_units.specs.FaultFillTouchServed.{Served}
+use Rattle.step_units.specs.FaultFillTouchServed.TheVariants as served
+use Rattle.step_units.specs.Callers.{IsCaller}
+use Rattle.step_units.specs.ProcCallsLeaving.{HasEnded, StopsAlive}
 use Rattle.run_model.specs.State.{State}
 use Rattle.run_model.specs.Wanted.{touched_next, locked_by, locked}
 use Rattle.run_model.specs.Snapshot.{before_absent}
@@ -33,8 +33,8 @@ use Rattle.step_units.specs.Running.{WaitsForPage, EndsUngrown, ServeLeads}
 use Rattle.step_units.proofs.Accessing.{serve_made, serve_now_made, access_stops}
 use Rattle.step_units.proofs.Entering.{leads_then, stopped_short, stops_then}
 use Rattle.step_units.proofs.Ending.{ended, end_stops}
-use Rattle.steady_laws.specs.Ready.{Continues}
-use Rattle.steady_laws.proofs.PagesContinue.{access_continues, access_now_continues}
+use Rattle.step_units.specs.Ready.{Continues}
+use Rattle.step_units.proofs.PagesContinue.{access_continues, access_now_continues}
 use Rattle.proc_run.specs.declared.advancing.Advance.TheVariants as advances
 use Rattle.proc_run.specs.Runs.{RunsAt, AdvancesTo}
 use Rattle.proc_run.specs.Serving.{AreLocked, ServedBy, StopsServed}

@@ -16,9 +16,9 @@ use Rattle.machine_state.specs.Files.{AreImages}
 use Rattle.machine_state.specs.Going.{CanGoOn}
 use Rattle.machine_state.specs.Machine.{Standing}
 use Rattle.machine_state.specs.UserMemory.{CanLend}
-use Rattle.steady_laws.specs.Reading.{AreNamed}
+use Rattle.step_units.specs.Reading.{AreNamed}
 use Rattle.touched_pages.proofs.LockedRoom.{locked_few}
-use Rattle.touch_laws.proofs.Sized.{sized_whole}
+use Rattle.flat_laws.proofs.Sized.{sized_whole}
 use Rattle.run_model.specs.Next.{under}
 use Rattle.run_model.specs.State.{State}
 use Rattle.run_model.specs.Wanted.{locked}
@@ -28,8 +28,8 @@ use Rattle.step_units.specs.Machines.{MachineAt}
 use Rattle.step_units.specs.Stepped.{StepLeads, LeadsFrom, StopsFrom}
 use Rattle.step_units.proofs.Entering.{leads_both, stops_then}
 use Rattle.step_units.specs.Lines.{IsClear}
-use Rattle.steady_laws.specs.Ready.{Continues}
-use Rattle.steady_laws.proofs.Running.{continues_self, continues_both}
+use Rattle.step_units.specs.Ready.{Continues}
+use Rattle.step_units.proofs.Running.{continues_self, continues_both}
 use Rattle.proc_run.specs.declared.advancing.Advance.TheVariants as advances
 use Rattle.proc_run.specs.Choosing.{is_space_holder, steps_by, may_run}
 use Rattle.proc_run.specs.Runs.{IsSteady, HasRunner, AdvancesTo}

@@ -28,10 +28,10 @@ use Rattle.kernel_laws.proofs.Machine.Swaps.{found_at}
 use Rattle.machine_state.specs.Machine.{Standing}
 use Rattle.machine_state.specs.Conditions.{HasStopped}
 use Rattle.machine_state.specs.UserMemory.{kernel_answers, writes_in}
-use Rattle.steady_laws.specs.Stops.{LeftBy}
-use Rattle.steady_laws.specs.Callers.{regs_of}
-use Rattle.steady_laws.specs.Leaving.{HasEnded, StopsAlive}
-use Rattle.steady_laws.specs.Growth.{space_of_pid}
+use Rattle.step_units.specs.Stops.{LeftBy}
+use Rattle.step_units.specs.Callers.{regs_of}
+use Rattle.step_units.specs.ProcCallsLeaving.{HasEnded, StopsAlive}
+use Rattle.step_units.specs.Growth.{space_of_pid}
 use Rattle.run_model.specs.Act.{act}
 use Rattle.run_model.specs.State.{State}
 use Rattle.run_model.specs.Wanted.{wanted, touched_next}

@@ -11,10 +11,10 @@ use Rattle.flat_model.specs.Calls.{argument, exit_reply, write_reply, execve_rep
 use Rattle.flat_model.specs.declared.calls.SystemCall.{SystemCall}
 use Rattle.flat_model.specs.declared.calls.SystemCall.TheVariants as system_calls
 use Rattle.machine_state.specs.Machine.{Standing}
-use Rattle.steady_laws.specs.Growth.{access_by}
-use Rattle.steady_laws.specs.Ready.{Continues}
-use Rattle.steady_laws.specs.Sizes.{SameSizes, KeptAtStop}
-use Rattle.steady_laws.proofs.StopsKeep.{kept_through, starved_here, before_same, access_same, exit_same, making_same, forking_same, exec_same, break_same, written_same}
+use Rattle.step_units.specs.Growth.{access_by}
+use Rattle.step_units.specs.Ready.{Continues}
+use Rattle.step_units.specs.Sizes.{SameSizes, KeptAtStop}
+use Rattle.step_units.proofs.StopsKeep.{kept_through, starved_here, before_same, access_same, exit_same, making_same, forking_same, exec_same, break_same, written_same}
 use Rattle.proc_run.specs.Calls.{own_answers, CallStops}
 use Rattle.proc_run.specs.Serving.{StopsServed}
 use Rattle.proc_run.proofs.Attempts.{RoomOnly}

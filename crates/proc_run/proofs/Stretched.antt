@@ -33,8 +33,8 @@ use Rattle.machine_state.specs.UserMemory.{Wrote, kernel_answers, spot_in, write
 use Rattle.machine_state.specs.UserMemoryLaws.{writes_answer, writes_append}
 use Rattle.machine_state.proofs.Further.{more_at_last, some_last}
 use Rattle.machine_state.proofs.Joins.{last_is, runs_kind}
-use Rattle.steady_laws.specs.Callers.{regs_of, regs_by}
-use Rattle.steady_laws.specs.Growth.{space_of_pid}
+use Rattle.step_units.specs.Callers.{regs_of, regs_by}
+use Rattle.step_units.specs.Growth.{space_of_pid}
 use Rattle.proc_run.specs.Calls.{own_answers}
 use Rattle.proc_run.specs.Choosing.{can_run, steps_by, may_run}
 use Rattle.proc_run.specs.Stretch.{CarriesOn, Stretch, StretchOf, MissesByte, RanOne, RanOn}

@@ -23,16 +23,16 @@ use Rattle.machine_state.specs.Conditions.{HasStopped}
 use Rattle.machine_state.specs.Going.{CanGoOn}
 use Rattle.machine_state.specs.Machine.{Standing}
 use Rattle.machine_state.specs.UserMemory.{CanLend, Wrote, writes_in}
-use Rattle.steady_laws.proofs.Stopping.{held_here}
-use Rattle.steady_laws.specs.Callers.{regs_of}
-use Rattle.steady_laws.specs.Leaving.{HasEnded, StopsAlive}
+use Rattle.step_units.proofs.PagingUnitsStopping.{held_here}
+use Rattle.step_units.specs.Callers.{regs_of}
+use Rattle.step_units.specs.ProcCallsLeaving.{HasEnded, StopsAlive}
 use Rattle.run_model.specs.State.{State}
 use Rattle.step_units.specs.Running.{WaitsForPage}
 use Rattle.step_units.specs.Stepped.{StopLeads, LeadsFrom, StopsFrom}
-use Rattle.steady_laws.specs.Ready.{Continues}
-use Rattle.steady_laws.proofs.Running.{continues_from}
-use Rattle.steady_laws.proofs.Entries.{room_continues, writes_continue, ran_continues}
-use Rattle.steady_laws.specs.Growth.{space_of_pid}
+use Rattle.step_units.specs.Ready.{Continues}
+use Rattle.step_units.proofs.Running.{continues_from}
+use Rattle.step_units.proofs.Entries.{room_continues, writes_continue, ran_continues}
+use Rattle.step_units.specs.Growth.{space_of_pid}
 use Rattle.proc_run.specs.declared.advancing.Advance.{Advance}
 use Rattle.proc_run.specs.declared.advancing.Advance.TheVariants as advances
 use Rattle.proc_run.specs.Calls.{own_answers}

@@ -16,21 +16,21 @@ use Rattle.flat_model.specs.declared.calls.SystemCall.{SystemCall}
 use Rattle.flat_model.specs.declared.calls.SystemCall.TheVariants as system_calls
 use Rattle.machine_state.specs.Machine.{Standing}
 use Rattle.machine_state.specs.UserMemory.{kernel_answers}
-use Rattle.steady_laws.specs.Stops.{StopsBefore}
-use Rattle.steady_laws.specs.Called.{Called}
-use Rattle.steady_laws.specs.Called.TheVariants as calls
-use Rattle.steady_laws.specs.Answered.{Replied, Comes}
-use Rattle.steady_laws.specs.Callers.{parent_of}
-use Rattle.steady_laws.specs.Copying.{HasCopied}
-use Rattle.steady_laws.specs.Forking.{Forked, StopsForking}
-use Rattle.steady_laws.specs.Leaving.{ExitComes, StopsExit}
-use Rattle.steady_laws.specs.Making.{Vforked, StopsMaking}
-use Rattle.steady_laws.specs.Reading.{AreNamed}
-use Rattle.steady_laws.specs.Sizing.{BreakComes, StopsBreak}
-use Rattle.steady_laws.specs.Starting.{ExecComes, StopsExec}
-use Rattle.steady_laws.specs.Waiting.{wait_answer}
-use Rattle.steady_laws.specs.Writing.{StopsOut}
-use Rattle.steady_laws.specs.Growth.{space_of_pid}
+use Rattle.step_units.specs.Stops.{StopsBefore}
+use Rattle.step_units.specs.Called.{Called}
+use Rattle.step_units.specs.Called.TheVariants as calls
+use Rattle.step_units.specs.Answered.{Replied, Comes}
+use Rattle.step_units.specs.Callers.{parent_of}
+use Rattle.step_units.specs.Copying.{HasCopied}
+use Rattle.step_units.specs.Forking.{Forked, StopsForking}
+use Rattle.step_units.specs.ProcCallsLeaving.{ExitComes, StopsExit}
+use Rattle.step_units.specs.ProcCallsMaking.{Vforked, StopsMaking}
+use Rattle.step_units.specs.Reading.{AreNamed}
+use Rattle.step_units.specs.ProcCallsSizing.{BreakComes, StopsBreak}
+use Rattle.step_units.specs.Starting.{ExecComes, StopsExec}
+use Rattle.step_units.specs.Waiting.{wait_answer}
+use Rattle.step_units.specs.Writing.{StopsOut}
+use Rattle.step_units.specs.Growth.{space_of_pid}
 
 -- what a process reads of its space, over the frames
 abbrev pub own_answers : Standing → ℕ → Answers

@@ -8,7 +8,7 @@ use Rattle.flat_state.specs.Journal.{instructions_of}
 use Rattle.kernel_model.specs.Kernel.{Kernel}
 use Rattle.page_model.specs.Swapper.{is_out}
 use Rattle.machine_state.specs.Machine.{Standing}
-use Rattle.steady_laws.specs.Reading.{AreNamed}
+use Rattle.step_units.specs.Reading.{AreNamed}
 use Rattle.run_model.specs.declared.mark.Mark.TheVariants as marks
 use Rattle.run_model.specs.State.{State}
 use Rattle.run_model.specs.Next.{turn_instructions, under}

@@ -8,8 +8,8 @@ use Rattle.flat_state.specs.Flat.{Process, Inputs}
 use Rattle.kernel_model.specs.Kernel.{Kernel}
 use Rattle.machine_state.specs.Going.{CanGoOn}
 use Rattle.machine_state.specs.Machine.{Standing}
-use Rattle.steady_laws.specs.LastMoves.{last_moves}
-use Rattle.steady_laws.specs.Reading.{AreNamed}
+use Rattle.step_units.specs.LastMoves.{last_moves}
+use Rattle.step_units.specs.Reading.{AreNamed}
 use Rattle.run_model.specs.State.{State}
 use Rattle.run_model.specs.Wanted.{locked}
 use Rattle.step_units.specs.Machines.{RunsOn}

@@ -9,7 +9,7 @@ use Rattle.user_vax.specs.Instruction.{instruction, answer_of, registers_after, 
 use Rattle.user_vax.specs.declared.stepped.Stepped.{Stepped}
 use Rattle.user_vax.specs.declared.stepped.Stepped.TheVariants as steps
 use Rattle.machine_state.specs.Machine.{Standing}
-use Rattle.steady_laws.specs.Ready.{Continues}
+use Rattle.step_units.specs.Ready.{Continues}
 use Rattle.step_units.specs.Stepped.{LeadsFrom}
 use Rattle.proc_run.specs.declared.advancing.Advance.TheVariants as advances
 use Rattle.proc_run.specs.declared.stretch.Missed.{Missed}

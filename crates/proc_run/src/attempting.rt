@@ -7,7 +7,7 @@ ghost use Rattle.user_vax.specs.Instruction.{instruction, answer_of, registers_a
 ghost use Rattle.machine_state.specs.Going.{CanGoOn};
 ghost use Rattle.machine_state.specs.Joined.{instructions_in, last_says, IsFullFor};
 ghost use Rattle.machine_state.specs.UserMemory.{CanLend, Wrote, kernel_answers};
-ghost use Rattle.steady_laws.specs.Growth.{space_of_pid};
+ghost use Rattle.step_units.specs.Growth.{space_of_pid};
 ghost use Rattle.proc_run.specs.Stretch.{Leaves};
 
 use machine_state::Machine;
@@ -52,7 +52,7 @@ pub fn completes(alloc: Global, m: &mut Machine, pid: u32, regs: &Regs) -> Resul
         (λ done. (done ≡ true) ↔ (answer_of (run (kernel_answers m.old.kernel (space_of_pid m.old.kernel pid)) (instruction regs.now)) ≡ Stepped.Done)) }
     ensures same { m.new ≡ m.old }
 {
-    dry_run::completes(alloc, &m.memory(pid), regs)
+    user_step::completes(alloc, &m.memory(pid), regs)
 }
 
 /// Carries the next instruction of a process out. Where it isn't carried out, or makes a call, the machine stays as it was.

@@ -4,9 +4,9 @@ ghost use Rattle.machine_state.specs.Going.{CanGoOn};
 ghost use Rattle.machine_state.specs.Files.{AreFiles};
 ghost use Rattle.machine_state.specs.UserMemory.{CanLend};
 ghost use Rattle.machine_state.specs.Outside.{stop_of, TransfersPages};
-ghost use Rattle.steady_laws.specs.Callers.{regs_of};
-ghost use Rattle.steady_laws.specs.Ready.{Continues};
-ghost use Rattle.steady_laws.specs.Sizes.{KeptAtStop};
+ghost use Rattle.step_units.specs.Callers.{regs_of};
+ghost use Rattle.step_units.specs.Ready.{Continues};
+ghost use Rattle.step_units.specs.Sizes.{KeptAtStop};
 ghost use Rattle.step_units.specs.Stepped.{LeadsFrom, StopsFrom};
 ghost use Rattle.proc_run.specs.Calls.{CallComes, CallStops, MadeCall};
 ghost use Rattle.proc_run.specs.Runs.{IsSteady, is_now, counts, HasRunner, AdvancesTo};
@@ -17,7 +17,7 @@ use flat_model::SystemCall;
 use io_edge::{Files, SwapDev};
 use machine_state::Machine;
 use std::alloc::Global;
-use steady_laws::proc_calls::{Called, brk, execve, exit, fork, getpid, kill, vfork, wait, write};
+use step_units::proc_calls::{Called, brk, execve, exit, fork, getpid, kill, vfork, wait, write};
 use vm_facts::{Regs, Stop};
 
 /// The signal of a call that isn't one of the eight, by the number of 4.3BSD.

@@ -2,7 +2,7 @@
 ghost use Rattle.std.specs.Prelude.{◌≡◌, true, false, Some, None, IfSome};
 ghost use Rattle.machine_state.specs.Going.{IsRunning};
 ghost use Rattle.machine_state.specs.Machine.{proc_shown};
-ghost use Rattle.steady_laws.specs.Callers.{regs_of};
+ghost use Rattle.step_units.specs.Callers.{regs_of};
 ghost use Rattle.proc_run.specs.Choosing.{can_run, may_run, turn_after, next_runner, FoundReady};
 
 use machine_state::Machine;

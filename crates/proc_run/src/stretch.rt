@@ -3,8 +3,8 @@ ghost use Rattle.std.specs.Prelude.{◌+◌, ◌<◌, ◌≤◌, ◌^◌, false,
 ghost use Rattle.flat_state.specs.Journal.{instructions_of};
 ghost use Rattle.machine_state.specs.Going.{CanGoOn};
 ghost use Rattle.machine_state.specs.UserMemory.{CanLend, Wrote, kernel_answers};
-ghost use Rattle.steady_laws.specs.Callers.{regs_of};
-ghost use Rattle.steady_laws.specs.Growth.{space_of_pid};
+ghost use Rattle.step_units.specs.Callers.{regs_of};
+ghost use Rattle.step_units.specs.Growth.{space_of_pid};
 ghost use Rattle.user_step.specs.FixedCode.{AreFixed};
 ghost use Rattle.proc_run.specs.Calls.{own_answers};
 ghost use Rattle.proc_run.specs.Runs.{IsSteady};

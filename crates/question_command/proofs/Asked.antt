@@ -17,12 +17,12 @@ use Rattle.command_ending.proofs.Makings.{made_where, made_nothing}
 use Rattle.run_opening.specs.Schedules.{schedule_found, HasEvents, EndsSchedule}
 use Rattle.run_opening.specs.Opening.{CountsAt}
 use Rattle.replay_command.specs.Reading.{FaultsBy, images_told}
-use Rattle.film_commands.specs.Question.{Question}
-use Rattle.film_commands.specs.Question.TheVariants as questions
-use Rattle.film_commands.specs.Reading.{Read, read_told}
-use Rattle.film_commands.specs.Asking.{Subject, AreInputsOf}
-use Rattle.film_commands.specs.Ends.{IsFilled, EndsQuestion}
-use Rattle.film_commands.specs.InMemory.{inputs_with, HaltsAnswer, EndsAnswer}
+use Rattle.reference_commands.specs.declared.question.Question.{Question}
+use Rattle.reference_commands.specs.declared.question.Question.TheVariants as questions
+use Rattle.reference_commands.specs.Reading.{Read, read_told}
+use Rattle.reference_commands.specs.Asking.{Subject, AreInputsOf}
+use Rattle.reference_commands.specs.Ends.{IsFilled, EndsQuestion}
+use Rattle.reference_commands.specs.InMemory.{inputs_with, HaltsAnswer, EndsAnswer}
 
 -- two counts of faults over two calls
 pub record Counts : Type 0 where

@@ -2,10 +2,10 @@
 use Rattle.std.proofs.Common.{◌≡◌, ℕ, List, Option, Ok, sym, subst}
 use Rattle.io_edge.specs.FileHolding.{NamedFile}
 use Rattle.command_ending.specs.Command.{Faults, Made}
-use Rattle.film_commands.specs.Question.TheVariants.{WasCut}
-use Rattle.film_commands.specs.Reading.{read_told}
-use Rattle.film_commands.specs.Asking.{Subject}
-use Rattle.film_commands.specs.Ends.{IsAnswered, EndsQuestion}
+use Rattle.reference_commands.specs.declared.question.Question.TheVariants.{WasCut}
+use Rattle.reference_commands.specs.Reading.{read_told}
+use Rattle.reference_commands.specs.Asking.{Subject}
+use Rattle.reference_commands.specs.Ends.{IsAnswered, EndsQuestion}
 use Rattle.question_command.specs.Explaining.{told_text, ExplainsLimit}
 
 pub explained : (subject : Subject) (holds : Option (List NamedFile)) (f : Faults) (text : List ℕ) (told : Option (List ℕ))

@@ -3,10 +3,10 @@ use Rattle.std.specs.Prelude.{◌≡◌, ℕ, List, [], Option, Some, None, Err}
 use Rattle.io_edge.specs.FileHolding.{NamedFile}
 use Rattle.command_ending.specs.declared.fault.Fault.{Fault}
 use Rattle.command_ending.specs.Command.{Faults, Made}
-use Rattle.film_commands.specs.Question.TheVariants.{WasCut}
-use Rattle.film_commands.specs.Reading.{Read, read_told}
-use Rattle.film_commands.specs.Asking.{Subject}
-use Rattle.film_commands.specs.Ends.{IsAnswered, EndsQuestion}
+use Rattle.reference_commands.specs.declared.question.Question.TheVariants.{WasCut}
+use Rattle.reference_commands.specs.Reading.{Read, read_told}
+use Rattle.reference_commands.specs.Asking.{Subject}
+use Rattle.reference_commands.specs.Ends.{IsAnswered, EndsQuestion}
 
 -- what is told, and no byte where nothing is
 abbrev pub told_text : Option (List ℕ) → List ℕ

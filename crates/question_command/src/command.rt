@@ -7,19 +7,17 @@ ghost use Rattle.command_words.specs.Command.{AreImageWords, IsFittingRun};
 ghost use Rattle.command_words.specs.declared.limits.TheConstants.{MOST_SHORT_LIMIT};
 ghost use Rattle.command_ending.specs.Ending.{ending_of};
 ghost use Rattle.command_ending.specs.Command.{EndCounted, Made};
-ghost use Rattle.film_commands.specs.Reading.{read_told};
-ghost use Rattle.film_commands.specs.Asking.{IsQuestion, limit_of};
-ghost use Rattle.film_commands.specs.Ends.{EndsQuestion, Answers};
+ghost use Rattle.reference_commands.specs.Reading.{read_told};
+ghost use Rattle.reference_commands.specs.Asking.{IsQuestion, limit_of};
+ghost use Rattle.reference_commands.specs.Ends.{EndsQuestion, Answers};
 ghost use Rattle.question_command.specs.Explaining.{told_text, ExplainsLimit, LacksLimit};
-ghost use Rattle.film_commands.specs.InMemory.{inputs_with, IsRunnable, EndsAnswer, AllDiffer};
+ghost use Rattle.reference_commands.specs.InMemory.{inputs_with, IsRunnable, EndsAnswer, AllDiffer};
 
+use crate::asking::{FilmQuestion, film_answer};
 use command_ending::{Fault, write_ending};
 use command_words::Numbers;
-use film_commands::reference_commands::{
-    Question, curve_over, optimum_over, references_over, run_owners,
-};
-use film_commands::{FilmQuestion, film_answer};
 use io_edge::{Files, Sink};
+use reference_commands::{Question, curve_over, optimum_over, references_over, run_owners};
 use replay_check::Flat;
 use replay_command::{load_images, name_images};
 use run_opening::open_schedule;

@@ -9,9 +9,9 @@ use Rattle.kernel_model.specs.Start.{ImagesFit}
 use Rattle.flat_model.specs.Run.{Point, flat_entry, flat_units, flat_run, start_point}
 use Rattle.flat_model.specs.Touched.{touched}
 use Rattle.flat_model.proofs.Folds.{run_more}
-use Rattle.touch_laws.specs.Whole.{ImagesWhole}
-use Rattle.touch_laws.proofs.Few.{touched_few}
-use Rattle.touch_laws.proofs.Sized.{run_sized, sized_whole}
+use Rattle.flat_laws.specs.Whole.{ImagesWhole}
+use Rattle.flat_laws.proofs.Few.{touched_few}
+use Rattle.flat_laws.proofs.Sized.{run_sized, sized_whole}
 use Rattle.replay_check.specs.Verdicts.{touched_by_unit, references_from, references_of}
 use Rattle.replay_check.proofs.Running.{units_one}
 

@@ -13,9 +13,9 @@ use Rattle.paged_model.specs.declared.reason.Reason.{Reason}
 use Rattle.paged_model.specs.Reasons.{or_reason}
 use Rattle.paged_model.specs.Runs.{paged_after, paged_state, unit_reason, units_reason, misstep_or}
 use Rattle.paged_model.specs.Traces.{trace_line_reason, trace_line_after, trace_state, trace_misstep}
-use Rattle.unit_judge.specs.declared.past.Past.{Past}
-use Rattle.unit_judge.specs.Past.{turn_out, past_next, PastAt}
-use Rattle.unit_judge.specs.Units.{StandsPast, UnitTold}
+use Rattle.repage_check.specs.declared.past.Past.{Past}
+use Rattle.repage_check.specs.Past.{turn_out, past_next, PastAt}
+use Rattle.repage_check.specs.Units.{StandsPast, UnitTold}
 use Rattle.repage_check.specs.Lines.{past_behind, UnitsTold, LineTold}
 
 -- One unit.
@@ -33,7 +33,8 @@ unfolding paged_state
 one_state A s u = refl
 
 -- what is told of a unit is told of it as of units
-pub one_told : (reason : Option Reason) (u : Entry) (p : Past) (old new : Standing) (holds : Option (List NamedFile)) (j : Option SwapImage) (A : Inputs) (s : State)
+pub one_told : (reason : Option Reason) (u : Entry) (p : Past) (old new : Standing) (holds : Option (List NamedFile)) (j : Option SwapImage) (A : Inputs)
+    (s : State)
     (image : SwapImage)
     → UnitTold reason u p old new holds j A s image → UnitsTold reason (u ∷ []) (past_behind reason (turn_out old.kernel u) p u) new holds j A s image
 one_told None u p old new holds j A s image t = record {
@@ -72,7 +73,8 @@ pub record AlongUnits (whole left : List Entry) (p : Past) (m : Standing) (holds
   pub stands : StandsPast p m holds j A state
   pub is_left : Left A s whole state left
 
-pub units_begun : (whole : List Entry) (p : Past) (m : Standing) (holds : Option (List NamedFile)) (i : Option SwapImage) (A : Inputs) (s : State) (image : SwapImage)
+pub units_begun : (whole : List Entry) (p : Past) (m : Standing) (holds : Option (List NamedFile)) (i : Option SwapImage) (A : Inputs) (s : State)
+    (image : SwapImage)
     → PastAt p m holds i A s image → AlongUnits whole whole p m holds i A s image
 units_begun whole p m holds i A s image at = record { state = s; stands = record { image = image; at = at }; is_left = all_left A s whole }
 
@@ -117,7 +119,8 @@ module _ (whole left : List Entry) (u : Entry) (p : Past) (m : Standing) (holds 
   units_bad r some = record { exact = left_bad A s whole along.state u left along.is_left reason exact r some; stands = λ none. absurd cc }
 
 -- after all of them
-pub units_over : (whole : List Entry) (p : Past) (m : Standing) (holds : Option (List NamedFile)) (i : Option SwapImage) (A : Inputs) (s : State) (image : SwapImage)
+pub units_over : (whole : List Entry) (p : Past) (m : Standing) (holds : Option (List NamedFile)) (i : Option SwapImage) (A : Inputs) (s : State)
+    (image : SwapImage)
     → AlongUnits whole [] p m holds i A s image → UnitsTold None whole p m holds i A s image
 units_over whole p m holds i A s image along = record {
   exact = sym (along.is_left.reason ∙ (none_left A along.state).0);
@@ -132,7 +135,8 @@ one_more u k n l = ap (λ (m : ℕ). repeated u m []) (let e : n - k ≡ suc (n 
 -- Lines.
 
 -- what is told of the units of an entry is told of its line
-pub entry_told : (reason : Option Reason) (e : Entry) (p : Past) (m : Standing) (holds : Option (List NamedFile)) (j : Option SwapImage) (A : Inputs) (s : State)
+pub entry_told : (reason : Option Reason) (e : Entry) (p : Past) (m : Standing) (holds : Option (List NamedFile)) (j : Option SwapImage) (A : Inputs)
+    (s : State)
     (image : SwapImage)
     → UnitsTold reason (units_with e []) p m holds j A s image → LineTold reason (lines.Entry e) p m holds j A s image
 entry_told reason e p m holds j A s image told = record { exact = told.exact; stands = told.stands }
@@ -145,7 +149,8 @@ pub record AlongLines (whole : List Line) (count : ℕ) (p : Past) (m : Standing
   pub same : trace_misstep A s 1 whole ≡ trace_misstep A state (count + 1) (drop count whole)
   pub leads : trace_state A s whole ≡ trace_state A state (drop count whole)
 
-pub lines_begun : (whole : List Line) (p : Past) (m : Standing) (holds : Option (List NamedFile)) (i : Option SwapImage) (A : Inputs) (s : State) (image : SwapImage)
+pub lines_begun : (whole : List Line) (p : Past) (m : Standing) (holds : Option (List NamedFile)) (i : Option SwapImage) (A : Inputs) (s : State)
+    (image : SwapImage)
     → PastAt p m holds i A s image → AlongLines whole 0 p m holds i A s image
 lines_begun whole p m holds i A s image at = record { state = s; stands = record { image = image; at = at }; same = refl; leads = refl }
 

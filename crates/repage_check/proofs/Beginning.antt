@@ -25,14 +25,13 @@ use Rattle.journal_laws.specs.Leads.{Leads}
 use Rattle.journal_laws.specs.Serving.{At}
 use Rattle.journal_laws.proofs.Journals.{leads_follow}
 use Rattle.journal_laws.proofs.Units.{leads_at}
-use Rattle.unit_judge.specs.Reading.{AreNamed}
-use Rattle.unit_judge.specs.Leading.{IsTold, machine_at_start, StartLeads, StartStops}
-use Rattle.unit_judge.specs.StepUnitsStepped.{StopsNext}
+use Rattle.vm_core.specs.Reading.{AreNamed}
+use Rattle.vm_core.specs.Leading.{IsTold, machine_at_start, StartLeads, StartStops}
+use Rattle.vm_core.specs.Stepped.{StopsNext}
 use Rattle.journal_laws.specs.Stops.{StaysPut}
-use Rattle.unit_judge.proofs.Led.{stands_at_start}
-use Rattle.unit_judge.proofs.Journals.{same_left}
+use Rattle.vm_core.proofs.Led.{stands_at_start}
+use Rattle.vm_core.proofs.Journals.{same_left}
 use Rattle.paged_laws.proofs.Steady.{run_steady}
-use Rattle.unit_judge.specs.Reading.{AreNamed}
 use Rattle.repage_check.specs.Starting.{AtStart}
 
 -- No unit makes no entry.
@@ -52,7 +51,8 @@ empty [] l = refl
 empty (e ∷ es) l = absurd (omega (arith, l))
 
 -- no entry was added where there is room for none
-pub none_added : (old new : Standing) → old.params.journal ≡ 0 → new.params ≡ old.params → length new.kernel.journal ≤ new.params.journal → new.kernel.journal ≡ []
+pub none_added : (old new : Standing) → old.params.journal ≡ 0 → new.params ≡ old.params → length new.kernel.journal ≤ new.params.journal
+    → new.kernel.journal ≡ []
 none_added old new bound params within =
     empty new.kernel.journal (let b : new.params.journal ≡ 0 = ap (λ (p : Params). p.journal) params ∙ bound in omega (arith, within, b))
 

@@ -17,8 +17,8 @@ use Rattle.page_model.specs.Swapper.{is_out}
 use Rattle.run_model.specs.Act.{act}
 use Rattle.paged_model.specs.Runs.{unit_reason}
 use Rattle.paged_model.proofs.Reasoned.{or_none, unless_none}
-use Rattle.unit_judge.specs.declared.past.Past.{Past}
-use Rattle.unit_judge.specs.Past.{PastAt}
+use Rattle.repage_check.specs.declared.past.Past.{Past}
+use Rattle.repage_check.specs.Past.{PastAt}
 
 step_few : (A : Inputs) (s : State) (pid : ℕ) (u : Entry) → step_reason A s pid u ≡ None → s.count + counted u ≤ A.limit
 step_few A s pid u e =

@@ -6,7 +6,7 @@ use Rattle.vm_facts.proofs.Tests.{eq_self}
 use Rattle.vm_facts.specs.declared.entry.Entry.{Entry}
 use Rattle.vm_facts.specs.declared.entry.Entry.TheVariants as entries
 use Rattle.flat_state.specs.Journal.{join_by, join, append_after, append_joined, append, appended, repeated, units_with}
-use Rattle.span_laws.specs.Spans.{moves}
+use Rattle.page_laws.specs.Spans.{moves}
 use Rattle.paging_units.specs.LastMoves.{last_moves}
 use Rattle.paging_units.proofs.LastMoves.{last_of, last_more}
 use Rattle.run_laws.proofs.LongerJournals.{joined_beyond}

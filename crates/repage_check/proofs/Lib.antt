@@ -1,7 +1,13 @@
+pub mod Onward
+mod Passing
+pub mod Judgings
+mod Notings
+mod Told
+mod Goes
 mod Joining
 mod Along
 mod Staying
-mod Moving
+mod MovesJudged
 mod Parting
 mod Repeating
 mod Widening

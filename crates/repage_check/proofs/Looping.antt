@@ -12,18 +12,18 @@ use Rattle.flat_state.specs.Journal.{repeated}
 use Rattle.machine_state.specs.Machine.{Standing}
 use Rattle.run_model.specs.State.{State}
 use Rattle.run_model.specs.Wanted.{locked}
-use Rattle.unit_judge.specs.StepUnitsStepped.{AtSome, LeadsFrom}
+use Rattle.vm_core.specs.Stepped.{AtSome, LeadsFrom}
 use Rattle.paged_model.specs.declared.line.Line.{Line}
 use Rattle.paged_model.specs.declared.reason.Reason.{Reason}
 use Rattle.paged_model.specs.Runs.{paged_state}
 use Rattle.paged_model.specs.Traces.{trace_line_after, trace_misstep}
-use Rattle.unit_judge.specs.declared.past.Past.{Past}
-use Rattle.unit_judge.specs.Past.{PastAt}
-use Rattle.unit_judge.specs.Units.{StandsPast}
+use Rattle.repage_check.specs.declared.past.Past.{Past}
+use Rattle.repage_check.specs.Past.{PastAt}
+use Rattle.repage_check.specs.Units.{StandsPast}
 use Rattle.repage_check.specs.Lines.{UnitsTold, LineTold}
 use Rattle.repage_check.specs.Starting.{StandsBehind}
 use Rattle.repage_check.proofs.Along.{AlongUnits, units_begun, units_on, units_bad, units_over, one_more, AlongLines, lines_on, lines_bad, lines_over, stands_over}
-use Rattle.repage_check.proofs.Moving.{AlongMoves, moves_begun, moves_on, moves_bad, moves_over}
+use Rattle.repage_check.proofs.MovesJudged.{AlongMoves, moves_begun, moves_on, moves_bad, moves_over}
 
 pub none_by_test : (o : Option Reason) → is_some o ≡ false → o ≡ None
 none_by_test None e = refl
@@ -87,7 +87,8 @@ module _ (whole : List Entry) (u : Entry) (k n : ℕ) (p0 : Past) (m0 : Standing
       (subst (λ (left : List Entry). AlongUnits whole left p m holds i A s image) (none_more u k n over) (told A s image at))
 
 -- where they may come the machine stands somewhere
-pub units_some : (p : Past) (m : Standing) (holds : Option (List NamedFile)) (i : Option SwapImage) (us : List Entry) (q : Past) (new : Standing) (j : Option SwapImage)
+pub units_some : (p : Past) (m : Standing) (holds : Option (List NamedFile)) (i : Option SwapImage) (us : List Entry) (q : Past) (new : Standing)
+    (j : Option SwapImage)
     (reason : Option Reason)
     → AtSome (PastAt p m holds i) → LeadsFrom (PastAt p m holds i) (UnitsTold reason us q new holds j) → reason ≡ None → AtSome (PastAt q new holds j)
 units_some p m holds i us q new j reason (A, s, image, at) told none =

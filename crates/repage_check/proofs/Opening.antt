@@ -12,16 +12,16 @@ use Rattle.flat_model.specs.Asked.{start_held}
 use Rattle.machine_state.specs.Going.{IsRunning}
 use Rattle.machine_state.specs.Machine.{Standing}
 use Rattle.run_model.specs.State.{start}
-use Rattle.unit_judge.specs.Sizes.{KeptAtStop}
-use Rattle.unit_judge.specs.Starting.{started_by, HasStarted}
-use Rattle.unit_judge.specs.Leading.{IsTold, StartLeads, StartStops}
-use Rattle.unit_judge.specs.Started.{Started}
-use Rattle.unit_judge.specs.Started.TheVariants as starteds
-use Rattle.unit_judge.specs.StepUnitsStepped.{AtSome, LeadsFrom}
+use Rattle.vm_core.specs.Sizes.{KeptAtStop}
+use Rattle.vm_core.specs.FirstProcesses.{started_by, HasStarted}
+use Rattle.vm_core.specs.Leading.{IsTold, StartLeads, StartStops}
+use Rattle.vm_core.specs.declared.first_processes.Started.{Started}
+use Rattle.vm_core.specs.declared.first_processes.Started.TheVariants as starteds
+use Rattle.vm_core.specs.Stepped.{AtSome, LeadsFrom}
 use Rattle.paged_model.specs.declared.line.Line.{Line}
 use Rattle.paged_model.specs.declared.reason.Misstep.{Misstep}
 use Rattle.paged_model.specs.Traces.{trace_misstep}
-use Rattle.unit_judge.specs.Past.{PastAt}
+use Rattle.repage_check.specs.Past.{PastAt}
 use Rattle.repage_check.specs.declared.checking.Verdict.TheVariants.{Paged, Not}
 use Rattle.repage_check.specs.Starting.{lacks_by, AtStart, HasBegun, StandsBehind, StandsAfter}
 use Rattle.repage_check.specs.Verdicts.{past_at_start, IsJudged}
@@ -86,7 +86,8 @@ pub well_by : (result : Result Started Stop) (started : Started) → result ≡ 
 well_by result starteds.Ok is none = is
 well_by result (starteds.NoSpace pid) is none = absurd cc
 
-pub start_some : (A : Inputs) (m : Standing) (holds : Option (List NamedFile)) (i : Option SwapImage) → AtStart A m holds i → AtSome (PastAt past_at_start m holds i)
+pub start_some : (A : Inputs) (m : Standing) (holds : Option (List NamedFile)) (i : Option SwapImage) → AtStart A m holds i
+    → AtSome (PastAt past_at_start m holds i)
 start_some A m holds i x = (A, start A x.holdings, x.stands.image, x.stands.at)
 
 -- what was found of the lines, from the start

@@ -12,10 +12,10 @@ use Rattle.machine_state.specs.Files.{AreImages}
 use Rattle.machine_state.specs.Going.{CanGoOn}
 use Rattle.machine_state.specs.Machine.{Standing}
 use Rattle.machine_state.specs.Sourced.{ImageNamed}
-use Rattle.hand_parts.specs.declared.part.HandPart.{HandPart}
-use Rattle.hand_parts.specs.Parts.{part_place, part_step}
-use Rattle.part_laws.proofs.Leaves.{Parted, parted}
-use Rattle.unit_judge.specs.Reading.{AreNamed}
+use Rattle.kernel_model.specs.declared.part.HandPart.{HandPart}
+use Rattle.kernel_model.specs.HandParts.{part_place, part_step}
+use Rattle.kernel_laws.proofs.PartLeaves.{Parted, parted}
+use Rattle.vm_core.specs.Reading.{AreNamed}
 use Rattle.run_model.specs.declared.mark.Mark.{Mark}
 use Rattle.run_model.specs.declared.mark.Mark.TheVariants as marks
 use Rattle.run_model.specs.State.{State}
@@ -30,12 +30,12 @@ use Rattle.paged_model.specs.Traces.{trace_line_reason, trace_line_after}
 use Rattle.paged_laws.specs.Paged.{IsPaged}
 use Rattle.paged_laws.proofs.PartSteps.{line_comes, part_stands_at}
 use Rattle.paged_laws.proofs.Traces.{line_paged}
-use Rattle.part_judge.specs.Judged.{JudgedPart}
-use Rattle.unit_judge.specs.At.{JudgedAt}
-use Rattle.unit_judge.specs.declared.past.Past.{Past}
-use Rattle.unit_judge.specs.Past.{MarkIsIn, PastAt}
-use Rattle.unit_judge.specs.Units.{StandsPast, begun_reason}
-use Rattle.unit_judge.proofs.Judgings.{begun_is}
+use Rattle.move_judge.specs.PartJudged.{JudgedPart}
+use Rattle.step_judge.specs.At.{JudgedAt}
+use Rattle.repage_check.specs.declared.past.Past.{Past}
+use Rattle.repage_check.specs.Past.{MarkIsIn, PastAt}
+use Rattle.repage_check.specs.Units.{StandsPast, begun_reason}
+use Rattle.repage_check.proofs.Judgings.{begun_is}
 use Rattle.repage_check.specs.Lines.{LineTold, GoesBy}
 
 -- who has the turn stays in

@@ -10,14 +10,14 @@ use Rattle.flat_state.specs.Journal.{append, repeated}
 use Rattle.page_model.specs.Placement.{Placement}
 use Rattle.machine_state.specs.Going.{CanGoOn}
 use Rattle.machine_state.specs.Machine.{Standing}
-use Rattle.unit_judge.specs.LastMoves.{last_moves}
+use Rattle.paging_units.specs.LastMoves.{last_moves}
 use Rattle.run_model.specs.State.{State}
 use Rattle.run_model.specs.After.{after}
-use Rattle.unit_judge.specs.Told.{GoesOnWith}
+use Rattle.step_judge.specs.Told.{GoesOnWith}
 use Rattle.paged_model.specs.Runs.{paged_after}
-use Rattle.unit_judge.specs.declared.past.Past.{Past}
-use Rattle.unit_judge.specs.Past.{PastAt}
-use Rattle.unit_judge.specs.Units.{StandsPast}
+use Rattle.repage_check.specs.declared.past.Past.{Past}
+use Rattle.repage_check.specs.Past.{PastAt}
+use Rattle.repage_check.specs.Units.{StandsPast}
 use Rattle.repage_check.specs.Lines.{GoesBy}
 use Rattle.run_laws.proofs.LongerJournals.{units_long}
 use Rattle.repage_check.proofs.Joining.{repeated_last, ran_so_far, hands_so_far, hands_moves}
@@ -48,13 +48,15 @@ hands_by n a b x =
 -- Once a unit was made with room for one entry more.
 
 -- after it the journal has the unit more
-pub journal_after : (A : Inputs) (s : State) (u : Entry) (p q : Past) (old new : Standing) (holds : Option (List NamedFile)) (i j : Option SwapImage) (image : SwapImage)
+pub journal_after : (A : Inputs) (s : State) (u : Entry) (p q : Past) (old new : Standing) (holds : Option (List NamedFile)) (i j : Option SwapImage)
+    (image : SwapImage)
     → PastAt p old holds i A s image → StandsPast q new holds j A (paged_after A s u) → new.kernel.journal ≡ append old.kernel.journal u
 unfolding after
 journal_after A s u p q old new holds i j image before behind =
     behind.at.judged.stands.journal ∙ ap (λ (js : List Entry). append js u) (sym before.judged.stands.journal)
 
-pub made_by : (u : Entry) (old wide new : Standing) → wide ≡ record old { params = record old.params { journal = length old.kernel.journal + 1 } } → GoesOnWith wide new
+pub made_by : (u : Entry) (old wide new : Standing) → wide ≡ record old { params = record old.params { journal = length old.kernel.journal + 1 } }
+    → GoesOnWith wide new
     → new.kernel.journal ≡ append old.kernel.journal u → GoesBy (u ∷ []) old new
 made_by u old wide new is on journal = record {
   ready = on.ready;

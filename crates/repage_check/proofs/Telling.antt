@@ -11,12 +11,12 @@ use Rattle.flat_state.specs.Flat.{Inputs}
 use Rattle.flat_state.specs.Journal.{units_with, IsUnit}
 use Rattle.machine_state.specs.Machine.{Standing}
 use Rattle.run_model.specs.State.{State}
-use Rattle.unit_judge.specs.StepUnitsStepped.{AtSome, LeadsFrom}
+use Rattle.vm_core.specs.Stepped.{AtSome, LeadsFrom}
 use Rattle.paged_model.specs.declared.line.Line.TheVariants as lines
 use Rattle.paged_model.specs.declared.reason.Reason.{Reason}
-use Rattle.unit_judge.specs.declared.past.Past.{Past}
-use Rattle.unit_judge.specs.Past.{lines_next, PastAt}
-use Rattle.unit_judge.specs.Units.{IsUnmoved}
+use Rattle.repage_check.specs.declared.past.Past.{Past}
+use Rattle.repage_check.specs.Past.{lines_next, PastAt}
+use Rattle.repage_check.specs.Units.{IsUnmoved}
 use Rattle.repage_check.specs.Lines.{UnitsTold, LineTold}
 use Rattle.repage_check.proofs.Along.{entry_told}
 use Rattle.repage_check.proofs.Repeating.{enough_frames}

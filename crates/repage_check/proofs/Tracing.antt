@@ -5,8 +5,8 @@ use Rattle.vm_facts.specs.declared.entry.Entry.TheVariants as entries
 use Rattle.flat_state.specs.Journal.{appended}
 use Rattle.machine_state.specs.Going.{CanGoOn}
 use Rattle.machine_state.specs.Machine.{Standing}
-use Rattle.unit_judge.specs.LastMoves.{last_moves}
-use Rattle.span_laws.specs.Spans.{moves}
+use Rattle.paging_units.specs.LastMoves.{last_moves}
+use Rattle.page_laws.specs.Spans.{moves}
 use Rattle.paged_model.specs.declared.line.Line.{Line}
 use Rattle.paged_model.specs.declared.line.Line.TheVariants as lines
 use Rattle.repage_check.specs.Lines.{units_in, GoesBy}

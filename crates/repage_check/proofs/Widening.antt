@@ -9,18 +9,18 @@ use Rattle.flat_state.specs.Flat.{Inputs}
 use Rattle.flat_state.specs.Journal.{counted, repeated}
 use Rattle.machine_state.specs.Machine.{Standing}
 use Rattle.run_model.specs.State.{State}
-use Rattle.unit_judge.specs.StepUnitsStepped.{AtSome, LeadsFrom}
-use Rattle.unit_judge.specs.At.{JudgedAt}
-use Rattle.unit_judge.specs.Told.{GoesOnWith}
+use Rattle.vm_core.specs.Stepped.{AtSome, LeadsFrom}
+use Rattle.step_judge.specs.At.{JudgedAt}
+use Rattle.step_judge.specs.Told.{GoesOnWith}
 use Rattle.paged_model.specs.declared.reason.Reason.{Reason}
-use Rattle.unit_judge.specs.Begun.{Begun}
-use Rattle.unit_judge.specs.declared.past.Past.{Past}
-use Rattle.unit_judge.specs.Past.{lines_next, turn_out, past_next, PastAt}
-use Rattle.unit_judge.specs.Units.{UnitTold, begun_reason}
+use Rattle.vm_core.specs.Begun.{Begun}
+use Rattle.repage_check.specs.declared.past.Past.{Past}
+use Rattle.repage_check.specs.Past.{lines_next, turn_out, past_next, PastAt}
+use Rattle.repage_check.specs.Units.{UnitTold, begun_reason}
 use Rattle.repage_check.specs.Lines.{past_behind, UnitsTold, GoesBy}
 use Rattle.repage_check.proofs.Along.{one_told, units_begun, units_over}
 use Rattle.repage_check.proofs.Counting.{still_few}
-use Rattle.repage_check.proofs.Moving.{past_moves}
+use Rattle.repage_check.proofs.MovesJudged.{past_moves}
 use Rattle.repage_check.proofs.Repeating.{journal_after, made_by}
 
 -- no more lines of a schedule are known than the unit adds
@@ -97,7 +97,8 @@ both_ok (Err e) P Q R f a b = tt
 
 -- No unit at all.
 
-pub none_told : (u : Entry) (n : ℕ) (p : Past) (m : Standing) (holds : Option (List NamedFile)) (i : Option SwapImage) (A : Inputs) (s : State) (image : SwapImage)
+pub none_told : (u : Entry) (n : ℕ) (p : Past) (m : Standing) (holds : Option (List NamedFile)) (i : Option SwapImage) (A : Inputs) (s : State)
+    (image : SwapImage)
     → n ≡ 0 → PastAt p m holds i A s image → UnitsTold None (repeated u n []) p m holds i A s image
 none_told u n p m holds i A s image none at =
     subst (λ (k : ℕ). UnitsTold None (repeated u k []) p m holds i A s image) (sym none)

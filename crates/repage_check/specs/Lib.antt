@@ -1,9 +1,10 @@
-pub use Rattle.unit_judge.specs.Starting as RunStartStarting
-pub use Rattle.unit_judge.specs.Leading
-pub use Rattle.unit_judge.specs.Past
-pub use Rattle.unit_judge.specs.Units
-pub use Rattle.unit_judge.specs.At
-pub use Rattle.unit_judge.specs.RunEnds
+pub use Rattle.step_judge.specs.At
+pub use Rattle.vm_core.specs.FirstProcesses as VmCoreStarting
+pub use Rattle.vm_core.specs.Leading
+pub use Rattle.vm_core.specs.RunEnds
+pub mod Past
+pub mod Locking
+pub mod Units
 pub mod Lines
 pub mod Moves
 pub mod Verdicts

@@ -13,9 +13,9 @@ use Rattle.paged_model.specs.declared.line.Line.TheVariants as lines
 use Rattle.paged_model.specs.declared.reason.Reason.{Reason}
 use Rattle.paged_model.specs.Runs.{units_reason, paged_state}
 use Rattle.paged_model.specs.Traces.{trace_line_reason, trace_line_after}
-use Rattle.unit_judge.specs.declared.past.Past.{Past}
-use Rattle.unit_judge.specs.Past.{past_next}
-use Rattle.unit_judge.specs.Units.{StandsPast}
+use Rattle.repage_check.specs.declared.past.Past.{Past}
+use Rattle.repage_check.specs.Past.{past_next}
+use Rattle.repage_check.specs.Units.{StandsPast}
 
 -- what is known once a unit was judged, by whether it was made
 abbrev pub past_behind : Option Reason → Bool → Past → Entry → Past

@@ -9,12 +9,12 @@ use Rattle.machine_state.specs.Going.{CanGoOn}
 use Rattle.machine_state.specs.Machine.{Standing}
 use Rattle.run_model.specs.State.{State, start}
 use Rattle.run_laws.specs.Running.{CanRun}
-use Rattle.unit_judge.specs.Started.{Started}
-use Rattle.unit_judge.specs.Started.TheVariants as starteds
+use Rattle.vm_core.specs.declared.first_processes.Started.{Started}
+use Rattle.vm_core.specs.declared.first_processes.Started.TheVariants as starteds
 use Rattle.paged_model.specs.declared.line.Line.{Line}
 use Rattle.paged_model.specs.Traces.{trace_state}
-use Rattle.unit_judge.specs.declared.past.Past.{Past}
-use Rattle.unit_judge.specs.Units.{StandsPast}
+use Rattle.repage_check.specs.declared.past.Past.{Past}
+use Rattle.repage_check.specs.Units.{StandsPast}
 use Rattle.repage_check.specs.Verdicts.{past_at_start}
 
 -- which first process's pieces find no place, by what the start answers

@@ -7,11 +7,11 @@ use Rattle.flat_state.specs.Flat.{Inputs}
 use Rattle.flat_model.specs.Asked.{start_held}
 use Rattle.machine_state.specs.Machine.{Standing}
 use Rattle.run_model.specs.declared.mark.Mark.TheVariants as marks
-use Rattle.unit_judge.specs.Leading.{IsTold}
+use Rattle.vm_core.specs.Leading.{IsTold}
 use Rattle.paged_model.specs.declared.line.Line.{Line}
 use Rattle.paged_model.specs.declared.reason.Misstep.{Misstep}
 use Rattle.paged_model.specs.Traces.{first_trace_misstep, IsPagedTrace}
-use Rattle.unit_judge.specs.declared.past.Past.{Past}
+use Rattle.repage_check.specs.declared.past.Past.{Past}
 use Rattle.repage_check.specs.declared.checking.Verdict.{Verdict}
 use Rattle.repage_check.specs.declared.checking.Verdict.TheVariants.{NoSpace, Paged, Not}
 

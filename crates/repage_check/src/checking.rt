@@ -4,25 +4,25 @@ ghost use Rattle.vm_facts.specs.SwapImages.{SwapImage};
 ghost use Rattle.flat_state.specs.Flat.{Inputs};
 ghost use Rattle.machine_state.specs.Files.{AreFiles};
 ghost use Rattle.machine_state.specs.Going.{CanGoOn};
-ghost use Rattle.unit_judge.specs.StepUnitsStepped.{AtSome, LeadsFrom};
+ghost use Rattle.vm_core.specs.Stepped.{AtSome, LeadsFrom};
 ghost use Rattle.flat_model.specs.Asked.{start_held};
-ghost use Rattle.unit_judge.specs.Starting.{IsNew, AreAmong, StartsFrom};
-ghost use Rattle.unit_judge.specs.Leading.{IsTold};
+ghost use Rattle.vm_core.specs.FirstProcesses.{IsNew, AreAmong, StartsFrom};
+ghost use Rattle.vm_core.specs.Leading.{IsTold};
 ghost use Rattle.paged_model.specs.Traces.{trace_misstep};
-ghost use Rattle.unit_judge.specs.Past.{PastAt};
+ghost use Rattle.repage_check.specs.Past.{PastAt};
 ghost use Rattle.repage_check.specs.Moves.{HaveFewMoves};
 ghost use Rattle.repage_check.specs.Starting.{lacks_by, AtStart, HasBegun, StandsBehind, StandsAfter};
 ghost use Rattle.repage_check.specs.Verdicts.{past_at_start, IsAsked, IsJudged};
 
+use crate::Past;
 use crate::lines::judge_line;
+use crate::vm_core::{Started, start};
 use io_edge::{Files, SwapDev};
 use machine_state::Machine;
 use paged_model::{Line, Misstep};
 use run_model::Mark;
 use std::alloc::Global;
-use unit_judge::Past;
-use unit_judge::step_judge::proc_run::DecodeCache;
-use unit_judge::vm_core::run_start::{Started, start};
+use step_judge::proc_run::DecodeCache;
 use vm_facts::{NoMemory, Stop};
 
 /// What a trace is.

@@ -7,25 +7,25 @@ ghost use Rattle.flat_state.specs.Flat.{Inputs};
 ghost use Rattle.flat_state.specs.Journal.{counted, repeated, units_with, IsUnit};
 ghost use Rattle.machine_state.specs.Files.{AreFiles};
 ghost use Rattle.machine_state.specs.Going.{CanGoOn};
-ghost use Rattle.unit_judge.specs.LastMoves.{last_moves};
-ghost use Rattle.span_laws.specs.Spans.{moves};
-ghost use Rattle.unit_judge.specs.StepUnitsStepped.{AtSome, LeadsFrom};
+ghost use Rattle.paging_units.specs.LastMoves.{last_moves};
+ghost use Rattle.page_laws.specs.Spans.{moves};
+ghost use Rattle.vm_core.specs.Stepped.{AtSome, LeadsFrom};
 ghost use Rattle.run_model.specs.State.{State};
 ghost use Rattle.run_model.specs.Wanted.{locked};
 ghost use Rattle.paged_model.specs.declared.line.Line.TheVariants as lines;
-ghost use Rattle.unit_judge.specs.Past.{lines_next, PastAt};
-ghost use Rattle.unit_judge.specs.Units.{IsUnmoved};
+ghost use Rattle.repage_check.specs.Past.{lines_next, PastAt};
+ghost use Rattle.repage_check.specs.Units.{IsUnmoved};
 ghost use Rattle.repage_check.specs.Lines.{past_behind, UnitsTold, LineTold, units_in, GoesBy};
 ghost use Rattle.repage_check.specs.Moves.{moves_counted};
 
-use hand_parts::HandPart;
+use crate::{Past, begun_reason, judge_move, judge_unit, locked_pages, past_next, turn_out};
 use io_edge::{Files, SwapDev};
+use kernel_model::HandPart;
 use machine_state::Machine;
+use move_judge::judge_part;
 use paged_model::{Line, Reason};
-use part_judge::judge_part;
 use std::alloc::Global;
-use unit_judge::step_judge::proc_run::DecodeCache;
-use unit_judge::{Past, begun_reason, judge_move, judge_unit, locked_pages, past_next, turn_out};
+use step_judge::proc_run::DecodeCache;
 use vm_facts::{Entry, NoMemory, Page};
 
 // The journal has room for one entry more.

@@ -12,7 +12,7 @@ use Rattle.flat_model.specs.Asked.{start_held}
 use Rattle.machine_state.specs.Machine.{Standing}
 use Rattle.machine_state.specs.Sourced.{ImageNamed}
 use Rattle.run_model.specs.State.{start}
-use Rattle.repage_check.specs.RunStartStarting.{AreAmong}
+use Rattle.repage_check.specs.VmCoreStarting.{AreAmong}
 use Rattle.run_opening.specs.declared.images.OpenedImage.{OpenedImage}
 use Rattle.owner_lines.specs.Owners.{carrier, owners_lines}
 use Rattle.owner_laws.specs.Account.{text_at}

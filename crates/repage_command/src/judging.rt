@@ -9,7 +9,7 @@ ghost use Rattle.machine_state.specs.Files.{AreFiles};
 ghost use Rattle.machine_state.specs.New.{AreSound};
 ghost use Rattle.machine_state.specs.Sourced.{AreNames};
 ghost use Rattle.machine_state.specs.Applying.{facts_named};
-ghost use Rattle.repage_check.specs.RunStartStarting.{IsNew, AreAmong};
+ghost use Rattle.repage_check.specs.VmCoreStarting.{IsNew, AreAmong};
 ghost use Rattle.repage_check.specs.Leading.{IsTold};
 ghost use Rattle.machine_state.specs.Going.{IsRunning};
 ghost use Rattle.owner_lines.specs.Owners.{carrier, owners_lines};
@@ -29,8 +29,8 @@ use crate::reading::Case;
 use crate::telling::misstep_line;
 use command_ending::Fault;
 use command_words::Numbers;
-use grade_command::question_command::film_commands::reference_commands::run_command::name_images;
-use grade_command::question_command::film_commands::reference_commands::{
+use grade_command::question_command::reference_commands::run_command::name_images;
+use grade_command::question_command::reference_commands::{
     OpenedInMemory, lines_of, open_in_memory,
 };
 use io_edge::{Files, SureFiles, SureSwap, SwapDev};

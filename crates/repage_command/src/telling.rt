@@ -5,8 +5,8 @@ ghost use Rattle.trace_text.specs.Grammar.{part_line};
 ghost use Rattle.repage_command.specs.Telling.{around_number, page_words, around_page, state_words, reason_words, line_text, line_words, misstep_line};
 
 use command_ending::put_number;
-use grade_command::question_command::film_commands::entry_line;
-use hand_parts::HandPart;
+use grade_command::question_command::entry_line;
+use kernel_model::HandPart;
 use paged_model::{Line, Reason};
 use std::alloc::{AllocError, Global};
 use vm_facts::{Entry, Page, PageState};

@@ -14,7 +14,7 @@ use Rattle.machine_state.specs.Sourced.{AreNames}
 use Rattle.machine_state.specs.Files.{AreFiles, HaveFiles, AreLoaded}
 use Rattle.vm_core.specs.Reading.{AreNamed}
 use Rattle.vm_core.specs.Longwords.{AllImages}
-use Rattle.vm_core.proofs.Images.{file_fits}
+use Rattle.vm_core.proofs.FlatLawsImages.{file_fits}
 use Rattle.vm_core.specs.Files.{IsFiled, AreNumbers}
 use Rattle.vax_code.specs.Grammar.{AreOctets}
 use Rattle.run_opening.specs.declared.images.OpenedImage.{OpenedImage}

@@ -20,7 +20,7 @@ use Rattle.vm_core.proofs.Octets.{both_octets, zero_octets}
 use Rattle.run_files.specs.ImageWords.{IsShortName}
 use Rattle.vm_core.specs.Files.{AreInputs}
 use Rattle.vm_core.proofs.Filing.{images_fit}
-use Rattle.vm_core.specs.RunStartStarting.{StartsFrom}
+use Rattle.vm_core.specs.FirstProcesses.{StartsFrom}
 use Rattle.vm_core.specs.RunEnds.{IsAskedOf}
 use Rattle.command_ending.specs.Named.{Why, before}
 use Rattle.run_opening.specs.declared.images.OpenedImage.{OpenedImage}

@@ -6,7 +6,7 @@ ghost use Rattle.machine_state.specs.New.{AreSound};
 ghost use Rattle.machine_state.specs.Applying.{facts_named};
 ghost use Rattle.machine_state.specs.Files.{AreFiles};
 ghost use Rattle.machine_state.specs.Sourced.{AreNames};
-ghost use Rattle.vm_core.specs.RunStartStarting.{StartsFrom};
+ghost use Rattle.vm_core.specs.FirstProcesses.{StartsFrom};
 ghost use Rattle.vm_core.specs.Schedules.{HaveFewMoves};
 ghost use Rattle.vm_core.specs.RunEnds.{IsAskedOf};
 ghost use Rattle.run_command.specs.Naming.{shown_as};

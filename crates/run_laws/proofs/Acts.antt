@@ -23,12 +23,12 @@ use Rattle.run_model.specs.After.{place_behind, after}
 use Rattle.run_model.specs.Snapshot.{pages_written}
 use Rattle.run_model.specs.Act.{loses_pages, settled_in, settled_if, settled, loses_in, loses_if, step_loses, must_refuse, must_settle}
 use Rattle.flat_model.proofs.StepEnds.{Shape, Empty, One, Two, step_shape}
-use Rattle.register_laws.specs.Others.{is_writing}
+use Rattle.flat_laws.specs.Others.{is_writing}
 use Rattle.run_model.specs.Kinds.{ProcessRuns}
 use Rattle.run_laws.specs.Standing.{Placed}
 use Rattle.kernel_model.specs.Invariant.{EntersImage}
 use Rattle.run_laws.proofs.Flows.{Ends, steps_own, on_steps}
-use Rattle.run_laws.proofs.Forms.{Suits, Formed, Form, Missed, Came, step_form}
+use Rattle.flat_laws.proofs.Forms.{Suits, Formed, Form, Missed, Came, step_form}
 use Rattle.run_laws.proofs.Stepping.{Making, step_placed}
 
 -- Who can step holds a space.

@@ -38,7 +38,7 @@ use Rattle.kernel_laws.proofs.Machine.Returns.{passes, Borrowing, borrowing, bac
 use Rattle.kernel_laws.proofs.Stands.Changes.{exec_back_stands, end_back_stands}
 use Rattle.kernel_laws.proofs.Machine.Processes.{changing_with, Stepping, by_life, step_is}
 use Rattle.kernel_laws.proofs.Machine.Through.{exec_back_tables, end_back_tables}
-use Rattle.register_laws.proofs.FlatLawsAsking.{own_space, change_same}
+use Rattle.flat_laws.proofs.Asking.{own_space, change_same}
 use Rattle.flat_model.specs.Asked.{given_up}
 use Rattle.kernel_laws.proofs.Kept.Changes.{GivesBack, takes_none, back_ready}
 use Rattle.run_laws.specs.Standing.{machine_of, EachOnce, Placed}

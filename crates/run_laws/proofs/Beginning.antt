@@ -34,12 +34,12 @@ use Rattle.kernel_laws.proofs.Sound.Allowed.{start_numbers}
 use Rattle.page_laws.proofs.Due.Entries.{start_due}
 use Rattle.kernel_laws.proofs.Machine.Starts.{start_coupled_all}
 use Rattle.kernel_laws.proofs.Stands.Starts.{start_lent, start_beside, start_numbered}
-use Rattle.register_laws.proofs.FlatLawsAsking.{text_same}
+use Rattle.flat_laws.proofs.Asking.{text_same}
 use Rattle.flat_model.specs.Asked.{pieces_for, text_wanted, image_wanted, contains, first_then, first_wanted, first_held, start_held}
 use Rattle.run_model.specs.State.{start}
 use Rattle.run_model.specs.Snapshot.{starting_as, starting}
-use Rattle.register_laws.proofs.Sized.{start_sized}
-use Rattle.register_laws.proofs.FlatLawsFew.{images_whole}
+use Rattle.flat_laws.proofs.Sized.{start_sized}
+use Rattle.flat_laws.proofs.FewInRuns.{images_whole}
 use Rattle.run_laws.specs.Standing.{EachOnce}
 use Rattle.run_laws.specs.Running.{IsRun, FirstThere}
 use Rattle.run_laws.proofs.Bridge.{from_machine}

@@ -35,9 +35,9 @@ use Rattle.kernel_laws.proofs.Sound.Steps.{ran_sound}
 use Rattle.kernel_laws.proofs.Sound.NumbersApart.{ran_numbered}
 use Rattle.kernel_laws.proofs.Flat.Numbers.{writes_numbered}
 use Rattle.kernel_laws.proofs.Flat.Lenders.{writes_lent}
-use Rattle.register_laws.specs.Shown.{IsOneOf, AreOf}
-use Rattle.register_laws.proofs.Shown.{writes_shown}
-use Rattle.register_laws.proofs.FlatLawsAsking.{own_space, change_same}
+use Rattle.flat_laws.specs.Shown.{IsOneOf, AreOf}
+use Rattle.flat_laws.proofs.Shown.{writes_shown}
+use Rattle.flat_laws.proofs.Asking.{own_space, change_same}
 use Rattle.flat_model.specs.Touched.{touched, page_tested}
 use Rattle.flat_model.specs.Step.{Step}
 use Rattle.flat_model.specs.Run.{is_refused, step_at, process_of_entry}
@@ -55,7 +55,7 @@ use Rattle.run_laws.proofs.Written.{Mid, Rest, IsValidAt, AllWritable, WroteAll,
 use Rattle.run_laws.proofs.Landing.{Landed, Found, step_landed}
 use Rattle.run_laws.proofs.OwnChanges.{ReadyChange}
 use Rattle.run_laws.proofs.Flows.{steps_own, on_steps, valid_among}
-use Rattle.run_laws.proofs.Forms.{Suits, Formed}
+use Rattle.flat_laws.proofs.Forms.{Suits, Formed}
 use Rattle.run_laws.proofs.Stepping.{Wrote, wrote, wrote_process, borrows_same, touched_out, touched_settled, settles_for, given_written}
 use Rattle.run_laws.proofs.Acts.{Stepper, stepper, Completes, completes, Arrives, arrives, held_is, found_pieces, settled_when, Stepped, ExecsFit, stepped_flat, stepped_form}
 use Rattle.run_laws.proofs.Outs.{change_out, regs_stay}

@@ -22,7 +22,7 @@ use Rattle.run_model.specs.State.{State}
 use Rattle.page_laws.proofs.Bytes.Pages.{keeps_at}
 use Rattle.page_laws.proofs.Moves.Steps.{page_in}
 use Rattle.kernel_laws.proofs.Flat.Lists.{sid_of}
-use Rattle.register_laws.proofs.FlatLawsAsking.{own_space}
+use Rattle.flat_laws.proofs.Asking.{own_space}
 use Rattle.run_laws.specs.Standing.{IsText, HasText}
 use Rattle.run_laws.specs.Running.{IsRun}
 use Rattle.run_laws.specs.Machine.{Keeps, StandsAt, place_in}

@@ -21,7 +21,7 @@ use Rattle.flat_model.specs.declared.calls.SystemCall.TheVariants as calls
 use Rattle.flat_model.specs.Calls.{call_of, argument, three_arguments, bytes_from, before, string_after, string_from, string_before, last_pointer, pointer_after, arguments_from, arguments_at, argument_limit, string_limit, write_limit, data_limit, process_limit, child_by, written_to, break_by, pages_up_to, stack_pages_of, numbered_by, image_named, path_image, starts, execve_of, wait_by, reply_of, exit_reply, write_reply, break_reply, execve_reply, or_fault}
 use Rattle.flat_model.specs.Step.{replied_step, reply_behind, called_step, step_behind, step_of, step_holding, step_if, flat_step, written_process}
 use Rattle.kernel_model.specs.Invariant.{EntersImage}
-use Rattle.register_laws.proofs.Computations.{AllGives, gives_bind, gives_any, reply_gives, refused_gives}
+use Rattle.flat_laws.proofs.Computations.{AllGives, gives_bind, gives_any, reply_gives, refused_gives}
 use Rattle.run_laws.proofs.Acts.{ExecsFit}
 
 -- Strings.

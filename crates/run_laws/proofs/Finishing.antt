@@ -2,7 +2,7 @@
 use Rattle.std.proofs.Common.{◌≡◌, ◌⊎◌, inl, inr, ℕ, ◌<◌, ◌≤◌, ◌==◌, ◌&&◌, Bool, true, false, cond, nat_lt, List, [], ◌∷◌, length, find, Option, Some, None, Result, Ok, Err, ℤ, refl, sym, ap, ◌∙◌, subst, arith}
 use Rattle.std.proofs.lemmas.Bool.Decides.{nat_tests}
 use Rattle.std.proofs.lemmas.Bool.{ltb-false}
-use Rattle.register_laws.proofs.Others.{number_of_found}
+use Rattle.flat_laws.proofs.Others.{number_of_found}
 use Rattle.flat_state.specs.Space.{Space, address_in, answers_of}
 use Rattle.flat_state.specs.Flat.{Holding, Process, FlatState, NamedImage, Inputs, process_of, can_step, is_ready, ready_if}
 use Rattle.vm_facts.specs.declared.entry.Entry.{Entry}

@@ -6,9 +6,9 @@ use Rattle.swap_book.specs.Holdings.{Holdings}
 use Rattle.flat_state.specs.Flat.{Process, Inputs}
 use Rattle.flat_state.specs.Journal.{appended}
 use Rattle.kernel_model.specs.Kernel.{Kernel}
-use Rattle.register_laws.specs.Longwords.{ProcessesFit, AllImages}
-use Rattle.register_laws.proofs.Registers.{found_regs}
-use Rattle.register_laws.proofs.Runs.{run_fits}
+use Rattle.flat_laws.specs.Longwords.{ProcessesFit, AllImages}
+use Rattle.flat_laws.proofs.Registers.{found_regs}
+use Rattle.flat_laws.proofs.Runs.{run_fits}
 use Rattle.run_model.specs.State.{State, start}
 use Rattle.run_model.specs.After.{after}
 use Rattle.run_model.specs.Lawful.{Follows, Reaches, IsLawful}

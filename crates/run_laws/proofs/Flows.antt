@@ -17,8 +17,8 @@ use Rattle.page_laws.proofs.Moves.Locks.{done_spares}
 use Rattle.flat_state.proofs.PageNames.{same_page_is}
 use Rattle.page_laws.proofs.Moves.Stays.{Steady, done_steady}
 use Rattle.kernel_laws.proofs.Machine.Shapes.{done_shaped}
-use Rattle.register_laws.specs.Others.{is_writing}
-use Rattle.register_laws.proofs.Distinct.{among_first, among_later}
+use Rattle.flat_laws.specs.Others.{is_writing}
+use Rattle.flat_laws.proofs.Distinct.{among_first, among_later}
 use Rattle.flat_model.proofs.StepEnds.{IsStepEnd, Shape, Empty, One, Two, step_shape}
 use Rattle.run_model.proofs.FlatRuns.{after_point}
 use Rattle.run_model.proofs.Wanting.{wanted_none, all_unwanted}

@@ -40,7 +40,7 @@ use Rattle.kernel_laws.proofs.Machine.Returns.{Borrowing, borrowing, exec_back, 
 use Rattle.kernel_laws.proofs.Flat.Lenders.{lender_found}
 use Rattle.kernel_laws.proofs.Flat.Numbers.{changes_numbered}
 use Rattle.kernel_laws.proofs.Machine.Processes.{changing_with, Stepping, stepping}
-use Rattle.register_laws.proofs.FlatLawsAsking.{own_space, shared_same, no_sharers, some_sharers, change_same}
+use Rattle.flat_laws.proofs.Asking.{own_space, shared_same, no_sharers, some_sharers, change_same}
 use Rattle.flat_model.specs.Asked.{is_shared, given_up}
 use Rattle.kernel_laws.proofs.Kept.Changes.{takes_next, may_reap, GivesBack, takes_none, back_ready}
 use Rattle.run_laws.specs.Standing.{Own}
@@ -137,7 +137,7 @@ own_landed A k flat image before pid regs e q s b change c w o settles x =
     let fits : Fits (Some s) (numbered space_number s.sid k.place.spaces) =
     subst (λ (y : Option Space). Fits y (numbered space_number s.sid k.place.spaces)) (own_space flat pid q s c.numbers c.found_process c.holds) (t.spaces s.sid) in
     let numbers : IsNumbered after = changes_numbered A.images flat pid regs change q s c.found_process c.holds c.may c.numbers in
-    let shared : is_shared after s.image ≡ Rattle.register_laws.proofs.FlatLawsAsking.is_some_of Rattle.register_laws.proofs.FlatLawsAsking.image_of_pages s.image l.place.spaces =
+    let shared : is_shared after s.image ≡ Rattle.flat_laws.proofs.Asking.is_some_of Rattle.flat_laws.proofs.Asking.image_of_pages s.image l.place.spaces =
     shared_same l after s.image kept.numbered numbers told.tables in
     let same_image : image_of k.place s.sid ≡ s.image = fit_image s (numbered space_number s.sid k.place.spaces) fits in
     let back : given_up flat after pid s change k.holdings ≡ holdings_after (changing_with (facts_of A.images) k pid s.sid false e) k.holdings k.place l.place change =

@@ -1,8 +1,9 @@
-pub use Rattle.register_laws.proofs.FlatLawsAsking
-pub use Rattle.register_laws.proofs.Computations
-pub use Rattle.register_laws.proofs.Finding
-pub use Rattle.register_laws.proofs.Others
-pub use Rattle.register_laws.proofs.Shown
+pub use Rattle.flat_laws.proofs.Forms
+pub use Rattle.flat_laws.proofs.Asking as FlatLawsAsking
+pub use Rattle.flat_laws.proofs.Computations
+pub use Rattle.flat_laws.proofs.Finding
+pub use Rattle.flat_laws.proofs.Others
+pub use Rattle.flat_laws.proofs.Shown
 pub use Rattle.kernel_laws.proofs.Flat.Lists
 pub use Rattle.kernel_laws.proofs.Kept.Borrowed
 pub use Rattle.kernel_laws.proofs.Machine.Shapes
@@ -10,12 +11,12 @@ pub use Rattle.kernel_laws.proofs.Machine.Swaps
 pub use Rattle.kernel_laws.proofs.Pieces.Sizes
 pub use Rattle.kernel_laws.proofs.Sound.Allowed as KernelLawsSoundAllowed
 pub use Rattle.kernel_laws.proofs.Stands.Steps
-pub use Rattle.register_laws.proofs.Images
-pub use Rattle.register_laws.proofs.Octets
-pub use Rattle.register_laws.proofs.Registers
-pub use Rattle.register_laws.proofs.Replying
-pub use Rattle.register_laws.proofs.Runs
-pub use Rattle.register_laws.proofs.Distinct
+pub use Rattle.flat_laws.proofs.Images
+pub use Rattle.flat_laws.proofs.Octets
+pub use Rattle.flat_laws.proofs.Registers
+pub use Rattle.flat_laws.proofs.Replying
+pub use Rattle.flat_laws.proofs.Runs
+pub use Rattle.flat_laws.proofs.Distinct
 pub mod Allowed
 pub mod Paging
 pub mod Refusals
@@ -29,7 +30,6 @@ pub mod Writing
 pub mod Changes
 pub mod OwnChanges
 pub mod BackChanges
-pub mod Forms
 pub mod Stepping
 pub mod Acts
 pub mod Texts

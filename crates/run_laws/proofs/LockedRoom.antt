@@ -8,8 +8,8 @@ use Rattle.page_model.specs.Rank.{HasRoom}
 use Rattle.run_model.specs.State.{State}
 use Rattle.run_model.specs.Wanted.{running, touched_next, locked_by, locked}
 use Rattle.run_model.specs.Snapshot.{touched_of, present_by, before_absent}
-use Rattle.register_laws.specs.Whole.{EachWhole}
-use Rattle.register_laws.proofs.TouchLawsFew.{touched_few, room}
+use Rattle.flat_laws.specs.Whole.{EachWhole}
+use Rattle.flat_laws.proofs.Few.{touched_few, room}
 
 -- no more pages stand before the first absent one than there are
 pub before_few : (p : Placement) (qs : List Page) → length (before_absent p qs) ≤ length qs

@@ -37,7 +37,7 @@ use Rattle.kernel_laws.proofs.Machine.Forks.{fit_image, next_new}
 use Rattle.kernel_laws.proofs.Machine.Processes.{changing_with, Stepping, stepping, by_life, step_is}
 use Rattle.kernel_laws.proofs.Machine.Through.{keep_tables, sleep_tables, reap_tables, resize_tables, fork_tables, lend_tables, exec_tables, end_tables}
 use Rattle.kernel_laws.proofs.Stands.Changes.{keep_stands, sleep_stands, reap_stands, resize_stands, fork_stands, lend_stands, exec_stands, end_stands}
-use Rattle.register_laws.proofs.FlatLawsAsking.{own_space, shared_same, no_sharers, some_sharers, change_same}
+use Rattle.flat_laws.proofs.Asking.{own_space, shared_same, no_sharers, some_sharers, change_same}
 use Rattle.flat_model.specs.Asked.{is_shared, given_up, change_wanted}
 use Rattle.kernel_laws.proofs.Kept.Changes.{takes_next, may_reap, lend_lives}
 use Rattle.run_laws.specs.Standing.{machine_of, EachOnce, Placed, Own}
@@ -205,7 +205,7 @@ own_change A flat p hs found pid regs j e q s b change c w o settles st =
     let frames : length l.place.holds ≡ A.frames = subst (λ (x : Placement). length x.holds ≡ A.frames) (sym lands.place) (hands.frames ∙ st.frames) in
     let numbers : IsNumbered after = Rattle.kernel_laws.proofs.Flat.Numbers.changes_numbered A.images flat pid regs change q s c.found_process c.holds c.may c.numbers in
     let shared : Rattle.flat_model.specs.Asked.is_shared after s.image
-    ≡ Rattle.register_laws.proofs.FlatLawsAsking.is_some_of Rattle.register_laws.proofs.FlatLawsAsking.image_of_pages s.image l.place.spaces =
+    ≡ Rattle.flat_laws.proofs.Asking.is_some_of Rattle.flat_laws.proofs.Asking.image_of_pages s.image l.place.spaces =
     shared_same l after s.image kept.numbered numbers told.tables in
     let back : given_up flat after pid s change found ≡ holdings_after (record who { borrowed = false }) found p l.place change = given_same flat after pid s change who found p l.place b w image
     (λ z. ((λ i. shared ∙ no_sharers s.image l.place.spaces (ap (sharers l.place) (sym image) ∙ i)), (λ m i. shared ∙ some_sharers s.image m l.place.spaces (ap (sharers l.place) (sym image) ∙ i))))

@@ -9,8 +9,8 @@ use Rattle.flat_state.specs.Change.{replaced_by, replaced, returned_by, returned
 use Rattle.flat_state.specs.declared.change.Change.{Change}
 use Rattle.flat_state.specs.declared.change.Change.TheVariants.{Keep, Resize, Fork, Lend, Exec, Reap, Sleep, End}
 use Rattle.vm_facts.specs.Answers.{ByteWrite}
-use Rattle.register_laws.proofs.Finding.{holder_is_none}
-use Rattle.register_laws.proofs.Others.{number_of_found}
+use Rattle.flat_laws.proofs.Finding.{holder_is_none}
+use Rattle.flat_laws.proofs.Others.{number_of_found}
 
 -- the process of this number in a list holds this space
 pub record FoundRegs (qs : List Process) (pid : ℕ) (s : Space) (g : Regs) : Type 0 where

@@ -5,9 +5,9 @@ use Rattle.page_model.specs.Rank.{HasRoom}
 use Rattle.run_model.specs.State.{State}
 use Rattle.flat_model.specs.Touched.{touched}
 use Rattle.run_model.specs.Wanted.{locked}
-use Rattle.register_laws.specs.Whole.{EachWhole}
-use Rattle.register_laws.proofs.TouchLawsFew.{touched_few}
-use Rattle.register_laws.proofs.Sized.{sized_whole}
+use Rattle.flat_laws.specs.Whole.{EachWhole}
+use Rattle.flat_laws.proofs.Few.{touched_few}
+use Rattle.flat_laws.proofs.Sized.{sized_whole}
 use Rattle.run_laws.proofs.LockedRoom.{locked_room}
 use Rattle.run_laws.specs.Standing.{Placed}
 use Rattle.run_laws.specs.Running.{IsRun}

@@ -18,10 +18,10 @@ use Rattle.kernel_laws.proofs.Machine.Swaps.{found_at}
 use Rattle.kernel_laws.proofs.Flat.Numbers.{writes_numbered}
 use Rattle.kernel_laws.proofs.Flat.Lenders.{changes_lent, writes_lent}
 use Rattle.page_laws.proofs.Moves.Units.{unit_is}
-use Rattle.register_laws.specs.Whole.{AllSized}
-use Rattle.register_laws.proofs.Sized.{step_sized}
-use Rattle.register_laws.proofs.FlatLawsFew.{images_whole}
-use Rattle.register_laws.proofs.Numbers.{step_numbered}
+use Rattle.flat_laws.specs.Whole.{AllSized}
+use Rattle.flat_laws.proofs.Sized.{step_sized}
+use Rattle.flat_laws.proofs.FewInRuns.{images_whole}
+use Rattle.flat_laws.proofs.Numbers.{step_numbered}
 use Rattle.flat_model.specs.Step.{Step}
 use Rattle.flat_model.specs.Run.{Point, is_refused, step_at, process_of_entry}
 use Rattle.run_model.specs.State.{State}
@@ -37,7 +37,7 @@ use Rattle.run_laws.proofs.Plain.{IsPaging, serve_paging, zero_paging, copy_pagi
 use Rattle.run_laws.proofs.Flows.{Acted, Settles, Refuses, Steps, acted, steps_shape, steps_own, out_of, out_after, refused_after, noted, plain_point, flows_on, on_steps}
 use Rattle.run_laws.proofs.Settling.{IsMark, begins_is}
 use Rattle.run_laws.proofs.Units.{kind_good, good_stands, owns}
-use Rattle.run_laws.proofs.Forms.{Formed}
+use Rattle.flat_laws.proofs.Forms.{Formed}
 use Rattle.run_laws.proofs.Stepping.{Wrote, wrote, wrote_process}
 use Rattle.run_laws.proofs.Acts.{Stepper, stepper, Stepped, ExecsFit, stepped_flat, stepped_form, stepped_placed}
 use Rattle.run_laws.proofs.Texts.{change_texts, write_texts}

@@ -49,7 +49,7 @@ use Rattle.run_laws.specs.Sized.{SpaceSized, HoldingSized, FlatSized, InputsSize
 use Rattle.run_laws.proofs.Writing.{SameSpace, puts_same}
 use Rattle.run_laws.proofs.Texts.{each_replaced, each_left, each_mapped, each_last}
 use Rattle.run_laws.proofs.Touching.{found_process}
-use Rattle.register_laws.proofs.Computations.{AllGives, gives_any, reply_gives, refused_gives}
+use Rattle.flat_laws.proofs.Computations.{AllGives, gives_any, reply_gives, refused_gives}
 use Rattle.run_laws.proofs.Execs.{execs_fit}
 
 abbrev Sized : Process → Type 0

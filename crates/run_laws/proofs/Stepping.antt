@@ -36,7 +36,7 @@ use Rattle.kernel_laws.proofs.Machine.Swaps.{found_at, found_self}
 use Rattle.kernel_laws.proofs.Flat.Lists.{found_is, replaced_at}
 use Rattle.kernel_laws.proofs.Flat.Numbers.{writes_numbered}
 use Rattle.kernel_laws.proofs.Flat.Lenders.{writes_lent}
-use Rattle.register_laws.proofs.FlatLawsAsking.{own_space, data_counted, stack_counted, change_same}
+use Rattle.flat_laws.proofs.Asking.{own_space, data_counted, stack_counted, change_same}
 use Rattle.flat_model.specs.Calls.{stack_pages_of}
 use Rattle.flat_model.specs.Step.{data_pages_of}
 use Rattle.flat_model.specs.Asked.{given_up, change_wanted, is_shared, with_pages, without_text, without_own, without_owner}

@@ -18,7 +18,7 @@ use Rattle.kernel_model.specs.Coupled.{SameTables, Fits, IsSized, image_text}
 use Rattle.flat_state.proofs.SpaceLaws.{IsPaged, spot_within}
 use Rattle.flat_state.specs.Numbers.{IsNumbered}
 use Rattle.kernel_model.specs.Stands.{Stands}
-use Rattle.register_laws.proofs.FlatLawsAsking.{own_space}
+use Rattle.flat_laws.proofs.Asking.{own_space}
 use Rattle.flat_model.specs.Touched.{page_read, page_tested, page_of_access, distinct, touched_in, touched_by, touched_if, touched}
 use Rattle.run_laws.specs.Standing.{machine_of, Placed, EachProcess, IsText, HasText, TextsHeld}
 

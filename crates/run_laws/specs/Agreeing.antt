@@ -16,7 +16,7 @@ use Rattle.vm_facts.specs.declared.memory.ByteRead.TheVariants as reads
 use Rattle.vm_facts.specs.declared.page.PageState.TheVariants.{Valid}
 use Rattle.page_model.specs.Placement.{state_of}
 use Rattle.flat_model.specs.Touched.{page_read}
-use Rattle.register_laws.specs.Longwords.{AllImages}
+use Rattle.flat_laws.specs.Longwords.{AllImages}
 use Rattle.page_model.specs.Place.{space_of_process}
 use Rattle.page_model.specs.PuttingOut.{put_rank}
 use Rattle.run_model.specs.declared.mark.Mark.TheVariants as marks

@@ -1,6 +1,6 @@
-pub use Rattle.register_laws.specs.Shown
-pub use Rattle.register_laws.specs.Longwords
-pub use Rattle.register_laws.specs.Whole
+pub use Rattle.flat_laws.specs.Shown
+pub use Rattle.flat_laws.specs.Longwords
+pub use Rattle.flat_laws.specs.Whole
 pub mod Standing
 pub mod Flowing
 pub mod Running

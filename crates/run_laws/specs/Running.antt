@@ -10,7 +10,7 @@ use Rattle.flat_model.specs.Asked.{start_held}
 use Rattle.flat_model.specs.Touched.{touched}
 use Rattle.run_model.specs.Wanted.{running, AllValid}
 use Rattle.run_model.specs.State.{State}
-use Rattle.register_laws.specs.Whole.{AllSized}
+use Rattle.flat_laws.specs.Whole.{AllSized}
 use Rattle.run_laws.specs.Standing.{Placed, TextsHeld, MarkStands}
 use Rattle.run_laws.specs.Flowing.{Flows}
 

@@ -10,7 +10,7 @@ ghost use Rattle.run_model.specs.Next.{next_unit};
 ghost use Rattle.run_model.specs.Lawful.{Follows, Reaches, IsLawful, IsFinished};
 ghost use Rattle.run_model.specs.Kinds.{ProcessRuns};
 ghost use Rattle.page_model.specs.Rank.{HasRoom};
-ghost use Rattle.register_laws.specs.Whole.{EachWhole};
+ghost use Rattle.flat_laws.specs.Whole.{EachWhole};
 ghost use Rattle.flat_model.specs.Touched.{touched};
 ghost use Rattle.run_model.specs.Wanted.{wanted, locked};
 ghost use Rattle.run_laws.specs.Standing.{IsAllowed};

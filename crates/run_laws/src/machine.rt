@@ -6,7 +6,7 @@ ghost use Rattle.swap_book.specs.Holdings.{Holdings};
 ghost use Rattle.flat_state.specs.Flat.{Inputs, start_state, FlatState, process_of};
 ghost use Rattle.flat_model.specs.Step.{flat_step};
 ghost use Rattle.flat_model.specs.Run.{Point, flat_run};
-ghost use Rattle.register_laws.specs.Longwords.{ProcessesFit, AllImages};
+ghost use Rattle.flat_laws.specs.Longwords.{ProcessesFit, AllImages};
 ghost use Rattle.run_laws.specs.Files.{AreInputs, MayBegin};
 ghost use Rattle.page_model.specs.Place.{space_of_process};
 ghost use Rattle.page_model.specs.PuttingOut.{IsResident, EndsPuttingOut};

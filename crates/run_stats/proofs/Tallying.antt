@@ -4,9 +4,9 @@ use Rattle.std.proofs.Math.Path.{fun_ext}
 use Rattle.std.proofs.lemmas.List.{length_push, take_more}
 use Rattle.std.proofs.lemmas.List.Sums.{sum_by_push}
 use Rattle.vm_facts.specs.declared.entry.Entry.{Entry}
-use Rattle.run_counts.specs.declared.amounts.Owner.{Owner}
-use Rattle.run_counts.specs.declared.amounts.ProcessHead.{ProcessHead}
-use Rattle.run_counts.specs.Counts.{total}
+use Rattle.process_counts.specs.declared.amounts.Owner.{Owner}
+use Rattle.process_counts.specs.declared.amounts.ProcessHead.{ProcessHead}
+use Rattle.process_counts.specs.Counts.{total}
 use Rattle.run_stats.specs.declared.look.Look.{Look}
 use Rattle.run_stats.specs.declared.noting.Note.{Note}
 use Rattle.run_stats.specs.declared.heads.PagingHead.{PagingHead}

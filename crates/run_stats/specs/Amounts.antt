@@ -1,8 +1,8 @@
 -- What an entry adds under each head, by what is noted of it.
 use Rattle.std.specs.Prelude.{ℕ, ◌-◌, ◌==◌, Bool, false, nat_lt, if◌then◌else◌, List, [], ◌∷◌}
 use Rattle.std.specs.List.{sum_by}
-use Rattle.run_counts.specs.declared.amounts.Owner.{Owner}
-use Rattle.run_counts.specs.declared.amounts.Owner.TheVariants.{Space, Image}
+use Rattle.process_counts.specs.declared.amounts.Owner.{Owner}
+use Rattle.process_counts.specs.declared.amounts.Owner.TheVariants.{Space, Image}
 use Rattle.run_stats.specs.declared.look.Look.{Look}
 use Rattle.run_stats.specs.declared.look.Flight.{Flight}
 use Rattle.run_stats.specs.declared.look.Flight.TheVariants.{OfFile, OfSwap, ToSwap}

@@ -11,7 +11,7 @@ use Rattle.run_model.specs.declared.mark.Mark.{Mark}
 use Rattle.run_model.specs.declared.mark.Mark.TheVariants as marks
 use Rattle.run_model.specs.State.{State}
 use Rattle.run_model.specs.Next.{blocks_held}
-use Rattle.run_counts.specs.Counts.{page_owner}
+use Rattle.process_counts.specs.Counts.{page_owner}
 use Rattle.run_stats.specs.declared.look.Flight.{Flight}
 use Rattle.run_stats.specs.declared.look.Flight.TheVariants as flights
 use Rattle.run_stats.specs.declared.look.Look.{Look}

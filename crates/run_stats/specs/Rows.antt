@@ -2,8 +2,8 @@
 use Rattle.std.specs.Prelude.{ℕ, ◌==◌, if◌then◌else◌, List, [], ◌∷◌, ◌++◌, codes, decimal}
 use Rattle.vm_facts.specs.declared.entry.Entry.{Entry}
 use Rattle.vm_facts.specs.declared.entry.Entry.TheVariants.{Ended}
-use Rattle.run_counts.specs.declared.amounts.ProcessHead.{ProcessHead}
-use Rattle.run_counts.specs.declared.amounts.ProcessHead.TheVariants.{Instructions, BytesOut, Calls, Growths, Refusals, Waits, TimesOut, TimesIn}
+use Rattle.process_counts.specs.declared.amounts.ProcessHead.{ProcessHead}
+use Rattle.process_counts.specs.declared.amounts.ProcessHead.TheVariants.{Instructions, BytesOut, Calls, Growths, Refusals, Waits, TimesOut, TimesIn}
 use Rattle.run_stats.specs.declared.heads.PagingHead.{PagingHead}
 use Rattle.run_stats.specs.declared.heads.PagingHead.TheVariants.{ZeroFills, FileReads, FilePages, SwapReads, SwapPages, Reclaims, Copies}
 use Rattle.run_stats.specs.declared.heads.RunHead.{RunHead}

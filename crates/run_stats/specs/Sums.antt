@@ -1,8 +1,8 @@
 -- The tables of a tally, and of which notes it is the tally.
 use Rattle.std.specs.Prelude.{◌≡◌, ℕ, ◌*◌, ◌^◌, ◌≤◌, List, length}
-use Rattle.run_counts.specs.declared.amounts.Owner.{Owner}
-use Rattle.run_counts.specs.declared.amounts.Owner.TheVariants.{Space, Image}
-use Rattle.run_counts.specs.Tables.{count_at}
+use Rattle.process_counts.specs.declared.amounts.Owner.{Owner}
+use Rattle.process_counts.specs.declared.amounts.Owner.TheVariants.{Space, Image}
+use Rattle.process_counts.specs.Tables.{count_at}
 use Rattle.run_stats.specs.declared.look.Look.{Look}
 use Rattle.run_stats.specs.declared.noting.Note.{Note}
 use Rattle.run_stats.specs.declared.heads.PagingHead.{PagingHead}

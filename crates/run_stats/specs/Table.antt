@@ -2,9 +2,9 @@
 use Rattle.std.specs.Prelude.{ℕ, zero, suc, List, [], ◌++◌, codes}
 use Rattle.std.specs.List.{flat_map}
 use Rattle.vm_facts.specs.declared.entry.Entry.{Entry}
-use Rattle.run_counts.specs.declared.amounts.Owner.TheVariants.{Space, Image}
-use Rattle.run_counts.specs.declared.amounts.ProcessHead.{ProcessHead}
-use Rattle.run_counts.specs.Counts.{total}
+use Rattle.process_counts.specs.declared.amounts.Owner.TheVariants.{Space, Image}
+use Rattle.process_counts.specs.declared.amounts.ProcessHead.{ProcessHead}
+use Rattle.process_counts.specs.Counts.{total}
 use Rattle.run_stats.specs.declared.look.Look.{Look}
 use Rattle.run_stats.specs.declared.noting.Note.{Note}
 use Rattle.run_stats.specs.declared.heads.PagingHead.{PagingHead}

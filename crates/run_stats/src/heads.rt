@@ -4,7 +4,7 @@ ghost use Rattle.run_stats.specs.Amounts.{filled_with_zeros, copied_from_parent,
 
 use crate::look::{Flight, Look};
 use crate::noting::{Note, What};
-use run_counts::Owner;
+use process_counts::Owner;
 
 /// What is counted of the pages that come while a process runs (this project's profile).
 #[derive(Clone, Copy, Debug, PartialEq, Eq, Drop)]

@@ -5,12 +5,12 @@ ghost use Rattle.page_model.specs.Placement.{Reads, Writes};
 ghost use Rattle.machine_state.specs.Going.{IsRunning};
 ghost use Rattle.machine_state.specs.View.{in_part, out_part, source_shown, transfer_shown};
 ghost use Rattle.run_model.specs.Next.{blocks_held};
-ghost use Rattle.run_counts.specs.Counts.{page_owner};
+ghost use Rattle.process_counts.specs.Counts.{page_owner};
 ghost use Rattle.run_stats.specs.Looks.{flight_by, flight_of, newest_of, runner_of, look_of};
 
 use crate::valid::valid_frames;
 use machine_state::Machine;
-use run_counts::{Owner, owner_of};
+use process_counts::{Owner, owner_of};
 use run_model::Mark;
 use swap_book::Held;
 use transfer_ring::{Inbound, Outbound, Source, Transfer};

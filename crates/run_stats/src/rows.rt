@@ -4,7 +4,7 @@ ghost use Rattle.run_stats.specs.Rows.{plain_row, row, ended_row, process_words,
 
 use crate::heads::{PagingHead, RunHead};
 use itoa::Buffer;
-use run_counts::ProcessHead;
+use process_counts::ProcessHead;
 use std::alloc::AllocError;
 use vm_facts::Entry;
 

@@ -1,6 +1,6 @@
 // Sums and extremes over what is noted of a run, kept in tables by number as the notes come.
 ghost use Rattle.std.specs.Prelude.{◌≡◌, ◌+◌, ◌≤◌, ◌<◌, ◌^◌, ℕ, [], if◌then◌else◌, IfOk, OnOk};
-ghost use Rattle.run_counts.specs.declared.amounts.Owner.{Owner as AnyOwner};
+ghost use Rattle.process_counts.specs.declared.amounts.Owner.{Owner as AnyOwner};
 ghost use Rattle.run_stats.specs.declared.heads.PagingHead.{PagingHead as AnyPagingHead};
 ghost use Rattle.run_stats.specs.declared.heads.RunHead.{RunHead as AnyRunHead};
 ghost use Rattle.run_stats.specs.declared.heads.Head.{Head as AnyHead};
@@ -12,7 +12,7 @@ ghost use Rattle.run_stats.specs.Sums.{paging_table, paging_sum, written_sum, ru
 use crate::heads::{PagingHead, RunHead, paging_amount, run_amount};
 use crate::look::{Flight, Look};
 use crate::noting::{Note, What};
-use run_counts::{Owner, add_at, count_at};
+use process_counts::{Owner, add_at, count_at};
 use std::alloc::{AllocError, Global};
 
 /// What is counted of the pages that come, under each head by the number of the process that runs; 0 for while none does.

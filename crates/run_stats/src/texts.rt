@@ -1,7 +1,7 @@
 // The table.
 ghost use Rattle.std.specs.Prelude.{◌≡◌, ℕ, ◌++◌, IfOk, OnOk};
 ghost use Rattle.std.specs.List.{flat_map};
-ghost use Rattle.run_counts.specs.Tables.{deed_of};
+ghost use Rattle.process_counts.specs.Tables.{deed_of};
 ghost use Rattle.run_stats.specs.Ends.{ending_at, IsEnding};
 ghost use Rattle.run_stats.specs.Sums.{sum_in};
 ghost use Rattle.run_stats.specs.Rows.{ended_row, process_heads, paging_heads, run_heads};
@@ -16,7 +16,7 @@ use crate::rows::{
     run_heads, run_words,
 };
 use crate::sums::{Tally, tally_of};
-use run_counts::{Deeds, Owner, deeds_of};
+use process_counts::{Deeds, Owner, deeds_of};
 use std::alloc::{AllocError, Global};
 use vm_facts::Entry;
 

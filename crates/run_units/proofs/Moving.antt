@@ -13,7 +13,7 @@ use Rattle.page_model.specs.Place.{place_entry}
 use Rattle.page_model.specs.Serve.{is_full}
 use Rattle.page_laws.proofs.Moves.Stays.{move_stays, done_steady}
 use Rattle.kernel_model.specs.Kernel.{Kernel}
-use Rattle.economy_laws.specs.Spans.{moves, moves_of}
+use Rattle.page_laws.specs.Spans.{moves, moves_of}
 use Rattle.run_model.specs.declared.mark.Mark.{Mark}
 use Rattle.run_model.specs.declared.mark.Mark.TheVariants as marks
 use Rattle.run_model.specs.State.{State}

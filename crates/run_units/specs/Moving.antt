@@ -5,7 +5,7 @@ use Rattle.vm_facts.specs.declared.entry.Entry.{Entry}
 use Rattle.flat_state.specs.Flat.{Inputs}
 use Rattle.page_model.specs.Hands.{wants_moves}
 use Rattle.kernel_model.specs.Kernel.{Kernel}
-use Rattle.economy_laws.specs.Spans.{moves_of}
+use Rattle.page_laws.specs.Spans.{moves_of}
 use Rattle.run_model.specs.declared.mark.Mark.TheVariants as marks
 use Rattle.run_model.specs.State.{State}
 use Rattle.run_model.specs.Next.{under, move_unit, next_unit}

@@ -13,8 +13,8 @@ use Rattle.kernel_model.specs.Kernel.{Kernel}
 use Rattle.flat_model.specs.Run.{process_of_entry}
 use Rattle.machine_state.specs.Going.{CanGoOn, IsRunning}
 use Rattle.machine_state.specs.Machine.{Standing}
-use Rattle.steady_laws.specs.Sizes.{KeptAtStop}
-use Rattle.steady_laws.specs.Stops.{SpoilsBy}
+use Rattle.step_units.specs.Sizes.{KeptAtStop}
+use Rattle.step_units.specs.Stops.{SpoilsBy}
 use Rattle.run_model.specs.declared.mark.Mark.TheVariants as marks
 use Rattle.run_model.specs.State.{State}
 use Rattle.run_model.specs.Act.{act}

@@ -26,9 +26,9 @@ use Rattle.kernel_model.specs.Unit.{proc_of}
 use Rattle.machine_state.specs.Going.{CanGoOn}
 use Rattle.machine_state.specs.Machine.{Standing}
 use Rattle.machine_state.specs.UserMemory.{CanLend, Wrote, writes_in}
-use Rattle.steady_laws.specs.Callers.{regs_of}
-use Rattle.steady_laws.specs.Growth.{space_of_pid}
-use Rattle.steady_laws.specs.LastMoves.{last_moves}
+use Rattle.step_units.specs.Callers.{regs_of}
+use Rattle.step_units.specs.Growth.{space_of_pid}
+use Rattle.step_units.specs.LastMoves.{last_moves}
 use Rattle.run_model.specs.declared.mark.Mark.TheVariants as marks
 use Rattle.run_model.specs.State.{State}
 use Rattle.run_model.specs.Act.{act}

@@ -35,7 +35,7 @@ use Rattle.kernel_model.specs.Coupled.{Fits}
 use Rattle.page_model.specs.Pages.{SpacePages}
 use Rattle.run_units.proofs.Extending.{NotSeen, distinct_more, Bigger, Reached, reached, grown_page}
 use Rattle.run_units.proofs.Growing.{below_spot}
-use Rattle.run_units.proofs.Idle.{found_after}
+use Rattle.run_laws.proofs.Finding.{found_after}
 
 -- The byte for which the stack grew.
 

@@ -1,6 +1,19 @@
-pub use Rattle.run_units.proofs.FlatLawsAsking
-pub use Rattle.run_units.proofs.RunLawsBeginning
-pub use Rattle.run_units.proofs.Machines
+pub use Rattle.swapper.proofs.Stopping as PagingUnitsStopping
+pub use Rattle.proc_calls.proofs.CopiedPages
+pub use Rattle.proc_calls.proofs.Waits
+pub use Rattle.swapper.proofs.Numbers
+pub mod CallersSeen
+pub mod Placements
+pub mod Journals
+pub mod Running
+pub mod Entries
+pub mod Transfers
+pub mod CallsContinue
+pub mod ExecsContinue
+pub mod SpacesContinue
+pub mod PagesContinue
+pub mod LinesContinue
+pub mod StopsKeep
 pub mod Begun
 pub mod Behind
 pub mod Entering

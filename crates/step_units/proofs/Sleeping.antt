@@ -15,7 +15,7 @@ use Rattle.flat_state.specs.declared.change.Change.TheVariants as changes
 use Rattle.kernel_model.specs.Kernel.{Kernel}
 use Rattle.kernel_model.specs.ChangeStep.{change_step}
 use Rattle.kernel_laws.proofs.Machine.Swaps.{applied, found_at}
-use Rattle.run_units.proofs.Idle.{found_after}
+use Rattle.run_laws.proofs.Finding.{found_after}
 use Rattle.machine_state.specs.Machine.{Standing}
 use Rattle.machine_state.specs.Applying.{facts_named}
 use Rattle.proc_calls.specs.Callers.{regs_of}

@@ -1,7 +1,7 @@
 pub use Rattle.paging_units.specs.LastMoves
 pub use Rattle.paging_units.specs.Made
 pub use Rattle.paging_units.specs.Stops
-pub use Rattle.paging_units.specs.Spans
+pub use Rattle.page_laws.specs.Spans
 pub mod Putting
 pub mod Runners
 pub mod Turns

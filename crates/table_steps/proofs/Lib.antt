@@ -1,24 +1,24 @@
-pub use Rattle.kernel_tables.proofs.Lists
-pub use Rattle.kernel_tables.proofs.Numbered
-pub use Rattle.kernel_tables.proofs.KernelLawsKeptBegins
-pub use Rattle.kernel_tables.proofs.KernelLawsKeptChanges
-pub use Rattle.kernel_tables.proofs.Done
-pub use Rattle.kernel_tables.proofs.Moves
-pub use Rattle.kernel_tables.proofs.KernelLawsMachineProcesses
-pub use Rattle.kernel_tables.proofs.Ready
-pub use Rattle.kernel_tables.proofs.Shapes
-pub use Rattle.kernel_tables.proofs.Swaps
-pub use Rattle.kernel_tables.proofs.KernelLawsMachineTables
-pub use Rattle.kernel_tables.proofs.Takes
-pub use Rattle.kernel_tables.proofs.Found
-pub use Rattle.kernel_tables.proofs.GivenBack
-pub use Rattle.kernel_tables.proofs.KernelLawsPiecesStarts
-pub use Rattle.kernel_tables.proofs.Wanted
-pub use Rattle.kernel_tables.proofs.KernelLawsSoundAllowed
-pub use Rattle.kernel_tables.proofs.KernelLawsSoundBegins
-pub use Rattle.kernel_tables.proofs.KernelLawsSoundChanges
-pub use Rattle.kernel_tables.proofs.NumbersApart
-pub use Rattle.kernel_tables.proofs.KernelLawsSoundSteps
+pub use Rattle.kernel_laws.proofs.Flat.Lists
+pub use Rattle.kernel_laws.proofs.Flat.Numbered
+pub use Rattle.kernel_laws.proofs.Kept.Begins as KernelLawsKeptBegins
+pub use Rattle.kernel_laws.proofs.Kept.Changes as KernelLawsKeptChanges
+pub use Rattle.kernel_laws.proofs.Machine.Done
+pub use Rattle.kernel_laws.proofs.Machine.Moves
+pub use Rattle.kernel_laws.proofs.Machine.Processes as KernelLawsMachineProcesses
+pub use Rattle.kernel_laws.proofs.Machine.Ready
+pub use Rattle.kernel_laws.proofs.Machine.Shapes
+pub use Rattle.kernel_laws.proofs.Machine.Swaps
+pub use Rattle.kernel_laws.proofs.Machine.Tables as KernelLawsMachineTables
+pub use Rattle.kernel_laws.proofs.Machine.Takes
+pub use Rattle.kernel_laws.proofs.Pieces.Found
+pub use Rattle.kernel_laws.proofs.Pieces.GivenBack
+pub use Rattle.kernel_laws.proofs.Pieces.Starts as KernelLawsPiecesStarts
+pub use Rattle.kernel_laws.proofs.Pieces.Wanted
+pub use Rattle.kernel_laws.proofs.Sound.Allowed as KernelLawsSoundAllowed
+pub use Rattle.kernel_laws.proofs.Sound.Begins as KernelLawsSoundBegins
+pub use Rattle.kernel_laws.proofs.Sound.Changes as KernelLawsSoundChanges
+pub use Rattle.kernel_laws.proofs.Sound.NumbersApart
+pub use Rattle.kernel_laws.proofs.Sound.Steps as KernelLawsSoundSteps
 pub use Rattle.kernel_tables.proofs.AddedImage
 pub use Rattle.kernel_tables.proofs.AddedTied
 pub use Rattle.kernel_tables.proofs.Entries as KernelTablesEntries

@@ -10,8 +10,8 @@ use Rattle.page_model.specs.Placement.{Placement, mark_of}
 use Rattle.page_model.specs.Moves.{launch_run}
 use Rattle.page_model.specs.Hands.{expire_to}
 use Rattle.page_laws.proofs.Ownership.Runs.{clean_unmarked}
-use Rattle.hand_parts.specs.Parts.{ExpireComes, WriteComes, FreeComes, expire_page}
-use Rattle.part_laws.proofs.Leaves.{idle_seat, write_seats}
+use Rattle.kernel_model.specs.HandParts.{ExpireComes, WriteComes, FreeComes, expire_page}
+use Rattle.kernel_laws.proofs.PartLeaves.{idle_seat, write_seats}
 use Rattle.kernel_tables.specs.declared.tables.Tables.{Tables}
 use Rattle.kernel_tables.specs.Shown.{placed}
 use Rattle.kernel_tables.specs.View.{Lists, placement_of, frames_of}

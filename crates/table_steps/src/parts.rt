@@ -1,6 +1,6 @@
 //! A part of a move of the hands, alone.
 ghost use Rattle.std.specs.Prelude.{◌≡◌, OnOk, OnErr};
-ghost use Rattle.hand_parts.specs.Parts.{ExpireComes, PartComes, expire_page, part_place};
+ghost use Rattle.kernel_model.specs.HandParts.{ExpireComes, PartComes, expire_page, part_place};
 ghost use Rattle.kernel_tables.specs.Known.{Known};
 ghost use Rattle.kernel_tables.specs.Launches.{HasBlocks, MovedOn};
 ghost use Rattle.kernel_tables.specs.Machine.{lists_of};
@@ -8,7 +8,7 @@ ghost use Rattle.kernel_tables.specs.View.{placement_of};
 
 use crate::launching;
 use flat_state::number_of;
-use hand_parts::HandPart;
+use kernel_model::HandPart;
 use kernel_tables::Tables;
 use std::alloc::Global;
 use vax_pte::Place;

@@ -1,6 +1,6 @@
 // Traces with lines of parts of moves of the hands, which are read.
 use crate::checks::is;
-use hand_parts::HandPart;
+use kernel_model::HandPart;
 use paged_model::Line;
 use std::alloc::Global;
 use std::process::Abort;

@@ -1,6 +1,6 @@
 // Why the first bad lines of a few schedules are bad.
 use crate::fixtures::{interrupts, mem_files, says, says_nothing};
-use schedule_reasons::explain_schedule;
+use line_reasons::explain_schedule;
 use std::alloc::Global;
 use std::process::Abort;
 

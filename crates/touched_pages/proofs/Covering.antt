@@ -21,7 +21,7 @@ use Rattle.machine_state.specs.declared.user_memory.Layout.{Layout}
 use Rattle.machine_state.specs.Calls.{life_in}
 use Rattle.machine_state.specs.Machine.{Standing}
 use Rattle.machine_state.specs.UserMemory.{page_in, kernel_answers, writes_in}
-use Rattle.dry_run.specs.Slots.{may_where}
+use Rattle.user_step.specs.Slots.{may_where}
 use Rattle.flat_model.specs.Shown.{is_shown, read_where}
 use Rattle.fault_fill.specs.Growth.{space_of_pid}
 use Rattle.run_units.proofs.Calling.{calls_write_none}

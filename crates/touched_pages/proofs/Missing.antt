@@ -25,7 +25,7 @@ use Rattle.page_model.specs.Placement.{Placement, image_of, state_of}
 use Rattle.kernel_model.specs.Kernel.{Kernel}
 use Rattle.machine_state.specs.UserMemory.{spot_in, page_at_spot, page_in, read_spot, may_write_by, may_write_spot}
 use Rattle.flat_model.specs.Touched.{page_read, page_tested, page_of_access}
-use Rattle.dry_run.specs.Slots.{may_where}
+use Rattle.user_step.specs.Slots.{may_where}
 use Rattle.flat_model.specs.Shown.{is_shown, read_where}
 use Rattle.run_model.specs.Wanted.{AllValid}
 use Rattle.run_units.proofs.Touching.{IsHit, AllHit, NotMissed, all_hit, granted_hit, Missing, read_missing, test_missing, SameSpots}

@@ -23,7 +23,7 @@ use Rattle.machine_state.specs.Machine.{Standing}
 use Rattle.machine_state.specs.UserMemory.{bytes_of, spot_in, page_at_spot, page_in, kernel_answers, write_page, write_spot, write_in}
 use Rattle.machine_state.specs.UserMemoryLaws.{through_answers}
 use Rattle.machine_state.specs.Lent.{WroteThrough}
-use Rattle.dry_run.specs.Slots.{may_where}
+use Rattle.user_step.specs.Slots.{may_where}
 use Rattle.flat_model.specs.Shown.{is_shown, read_where}
 use Rattle.touched_pages.specs.Shown.{only, shown_in, WroteShown}
 

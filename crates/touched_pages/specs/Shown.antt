@@ -3,7 +3,7 @@ use Rattle.std.specs.Prelude.{◌≡◌, ℕ, List}
 use Rattle.std.specs.Borrow.{MutBor}
 use Rattle.vm_facts.specs.Answers.{Answers, ByteWrite, written}
 use Rattle.vm_facts.specs.declared.page.Page.{Page}
-use Rattle.dry_run.specs.Slots.{may_where}
+use Rattle.user_step.specs.Slots.{may_where}
 use Rattle.page_model.specs.Placement.{Placement}
 use Rattle.kernel_model.specs.Kernel.{Kernel}
 use Rattle.machine_state.specs.declared.user_memory.Layout.{Layout}

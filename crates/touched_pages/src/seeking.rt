@@ -17,9 +17,9 @@ ghost use Rattle.touched_pages.specs.Touching.{RunsWith};
 use crate::shown::Shown;
 use crate::touched::Touched;
 use crate::touching::{first_missed, page_at, valid_only};
-use dry_run::completes;
 use machine_state::Machine;
 use std::alloc::Global;
+use user_step::completes;
 use user_vax::Stepped;
 use vm_facts::{NoMemory, Page, Regs};
 

@@ -3,8 +3,8 @@ use Rattle.std.proofs.Common.{◌≡◌, ℕ, true, false, List, [], ◌∷◌, 
 use Rattle.std.proofs.lemmas.List.{append_cancel_right}
 use Rattle.vm_facts.specs.declared.entry.Entry.{Entry}
 use Rattle.vm_facts.specs.declared.entry.Entry.TheVariants as entries
-use Rattle.hand_parts.specs.declared.part.HandPart.{HandPart}
-use Rattle.hand_parts.specs.declared.part.HandPart.TheVariants.{Expires, Writes, Frees}
+use Rattle.kernel_model.specs.declared.part.HandPart.{HandPart}
+use Rattle.kernel_model.specs.declared.part.HandPart.TheVariants.{Expires, Writes, Frees}
 use Rattle.paged_model.specs.declared.line.Line.{Line}
 use Rattle.paged_model.specs.declared.line.Line.TheVariants as lines
 use Rattle.run_text.specs.Lines.{AreLines}

@@ -5,8 +5,8 @@ use Rattle.std.proofs.lemmas.Option.{none-some}
 use Rattle.std.proofs.lemmas.Bool.Decides.{nat_tests}
 use Rattle.vm_facts.specs.declared.page.Page.{Page}
 use Rattle.vm_facts.specs.declared.page.Page.TheVariants.{Data, Stack, Text}
-use Rattle.hand_parts.specs.declared.part.HandPart.{HandPart}
-use Rattle.hand_parts.specs.declared.part.HandPart.TheVariants.{Expires, Writes, Frees}
+use Rattle.kernel_model.specs.declared.part.HandPart.{HandPart}
+use Rattle.kernel_model.specs.declared.part.HandPart.TheVariants.{Expires, Writes, Frees}
 use Rattle.run_text.specs.Text.{part, parts}
 use Rattle.run_text.specs.Transcript.{page_numbers, AllBelow}
 use Rattle.run_text.specs.EntryParts.{segment_of}

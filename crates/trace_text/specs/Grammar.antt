@@ -1,7 +1,7 @@
 -- The grammar of a trace: each line is that of an entry, as in a transcript, or of a part of a move of the hands.
 use Rattle.std.specs.Prelude.{◌≡◌, ◌≤◌, ℕ, List, [], ◌∷◌, ◌++◌, codes, ⊤}
-use Rattle.hand_parts.specs.declared.part.HandPart.{HandPart}
-use Rattle.hand_parts.specs.declared.part.HandPart.TheVariants.{Expires, Writes, Frees}
+use Rattle.kernel_model.specs.declared.part.HandPart.{HandPart}
+use Rattle.kernel_model.specs.declared.part.HandPart.TheVariants.{Expires, Writes, Frees}
 use Rattle.paged_model.specs.declared.line.Line.{Line}
 use Rattle.paged_model.specs.declared.line.Line.TheVariants.{Entry, Part}
 use Rattle.run_text.specs.Lines.{lines_in, AreLines, IsFirstBad}

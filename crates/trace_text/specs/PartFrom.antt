@@ -2,8 +2,8 @@
 use Prim.Native.Char.{code}
 use Rattle.std.specs.Prelude.{◌≡◌, ℕ, ◌==◌, Bool, false, ◌&&◌, ◌||◌, if◌then◌else◌, nat_lt, List, [], ◌∷◌, ◌++◌, Option, Some, None}
 use Rattle.vm_facts.specs.declared.page.Page.{Page}
-use Rattle.hand_parts.specs.declared.part.HandPart.{HandPart}
-use Rattle.hand_parts.specs.declared.part.HandPart.TheVariants.{Expires, Writes, Frees}
+use Rattle.kernel_model.specs.declared.part.HandPart.{HandPart}
+use Rattle.kernel_model.specs.declared.part.HandPart.TheVariants.{Expires, Writes, Frees}
 use Rattle.run_text.specs.Text.{parts}
 use Rattle.run_text.specs.Transcript.{page_numbers}
 use Rattle.run_text.specs.EntryParts.{segment_of, page_from}

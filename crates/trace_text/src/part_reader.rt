@@ -1,10 +1,10 @@
 // The part of a line.
 ghost use Rattle.std.specs.Prelude.{◌≡◌, ℕ, ◌+◌, ◌==◌, ◌^◌, ◌<◌, ◌≤◌, [], ◌∷◌, MatchOption, IfSome, Some};
-ghost use Rattle.hand_parts.specs.declared.part.HandPart.{HandPart as PartOfMove};
+ghost use Rattle.kernel_model.specs.declared.part.HandPart.{HandPart as PartOfMove};
 ghost use Rattle.trace_text.specs.Grammar.{IsPartWithin};
 ghost use Rattle.trace_text.specs.PartFrom.{part_text, is_part_letter, part_alone, part_and_one, part_from, HasPagePart, HasPart};
 
-use hand_parts::HandPart;
+use kernel_model::HandPart;
 use run_text::{page_from, read_numbers, strip_front};
 use vm_facts::Page;
 

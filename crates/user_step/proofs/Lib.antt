@@ -4,3 +4,5 @@ pub mod Ahead
 pub mod Together
 pub mod Downwards
 pub mod StaysFixed
+pub mod Storing
+pub mod Trying

@@ -3,3 +3,5 @@ pub mod Code
 pub mod Tried
 pub mod OneProof
 pub mod FixedCode
+pub mod Slots
+pub mod SlotLaws

@@ -6,10 +6,10 @@ use Rattle.asm_grammar.specs.Encoding.{sentence_bytes, named_instruction, named_
 use Rattle.asm_grammar.specs.Lines.{items_in}
 use Rattle.asm_grammar.proofs.Spelled.{bind_some, some_if, le_of}
 use Rattle.asm_grammar.proofs.Naming.{code_of}
-use Rattle.source_grammar.specs.Grammar.{SaysLines}
-use Rattle.source_grammar.proofs.Reading.{le_true}
-use Rattle.source_grammar.proofs.Lines.{instruction_law}
-use Rattle.source_grammar.proofs.Sources.{source_law}
+use Rattle.asm_grammar.specs.Grammar.{SaysLines}
+use Rattle.asm_grammar.proofs.Reading.{le_true}
+use Rattle.asm_grammar.proofs.LineTexts.{instruction_law}
+use Rattle.asm_grammar.proofs.Sources.{source_law}
 use Rattle.vax_asm.specs.declared.answers.Encoded.{Encoded}
 use Rattle.vax_asm.specs.declared.answers.Encoded.TheVariants as encodings
 use Rattle.vax_asm.specs.Encodes.{EncodesAs, IsEncodedAs, EncodesByGrammar}

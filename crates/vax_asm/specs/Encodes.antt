@@ -2,7 +2,7 @@
 use Rattle.std.specs.Prelude.{◌≡◌, ◌≤◌, ℕ, List, [], length, take, Some, None}
 use Rattle.asm_grammar.specs.Encoding.{sentence_bytes, named_instruction, IsCodeOf}
 use Rattle.asm_grammar.specs.declared.syntax.Sentence.{Sentence}
-use Rattle.source_grammar.specs.Grammar.{IsInstructionText}
+use Rattle.asm_grammar.specs.Grammar.{IsInstructionText}
 use Rattle.vax_asm.specs.declared.answers.Encoded.{Encoded}
 use Rattle.vax_asm.specs.declared.answers.Encoded.TheVariants as encodings
 

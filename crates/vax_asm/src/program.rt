@@ -1,7 +1,7 @@
 // The program that a source makes.
 ghost use Rattle.std.specs.Prelude.{◌≡◌, ℕ, ◌+◌, ◌*◌, ◌≤◌, ◌<◌, ◌++◌, Bool, true, false, Option, Some, None, List, [], ◌∷◌, IfOk, length, replicate, if◌then◌else◌, not, ◌&&◌};
 ghost use Rattle.asm_grammar.specs.Lines.{items_in};
-ghost use Rattle.source_grammar.specs.Grammar.{SaysLines};
+ghost use Rattle.asm_grammar.specs.Grammar.{SaysLines};
 ghost use Rattle.vax_asm.specs.Program.{Puts, number_size, place_size, operand_size, sentence_size, is_up_to, statement_size, optional_size, item_size, item_definition, labels_of, value_bytes, statement_bytes, optional_bytes, bytes_behind, within, bounded, is_new, HasSmallBss, first_of, bss_in, AssemblesAs};
 
 use crate::answers::{Assembled, Program};

@@ -22,7 +22,7 @@ use Rattle.asm_grammar.specs.declared.syntax.Written.{Written}
 use Rattle.asm_grammar.specs.declared.syntax.Written.TheVariants as writtens
 use Rattle.asm_grammar.specs.declared.syntax.Sentence.{Sentence}
 use Rattle.asm_grammar.proofs.Spelled.{lt_of, ge_of}
-use Rattle.source_grammar.specs.Grammar.{IsMagnitude, Hexadecimal, IsNumber, Unsigned, Minus, IsValue, OfNumber, IsRegister, OneDigit, TwoDigits, IsParenthesised, Parentheses, IsMark, OfByte, OfWord, OfLongword, IsAddressed, Deferred, Decremented, Incremented, IncrementedDeferred, Absolute, Displaced, DisplacedDeferred, Literal, Immediate, Register, Brackets, IsSpecified, Unaddressed, Addressed, Indexed, IsOperand, Target, Specified, IsInPlace, Present, Lacking, IsInstructionText, Mnemonic}
+use Rattle.asm_grammar.specs.Grammar.{IsMagnitude, Hexadecimal, IsNumber, Unsigned, Minus, IsValue, OfNumber, IsRegister, OneDigit, TwoDigits, IsParenthesised, Parentheses, IsMark, OfByte, OfWord, OfLongword, IsAddressed, Deferred, Decremented, Incremented, IncrementedDeferred, Absolute, Displaced, DisplacedDeferred, Literal, Immediate, Register, Brackets, IsSpecified, Unaddressed, Addressed, Indexed, IsOperand, Target, Specified, IsInPlace, Present, Lacking, IsInstructionText, Mnemonic}
 use Rattle.vax_disasm.specs.Showing.{hexadecimal_digit, hexadecimal, sign_text, number_text, value_text, register_text, parenthesised_text, star_text, displacement_text, place_text, written_text, row_place_text, sentence_text}
 use Rattle.vax_disasm.proofs.Respelled.{GoodNumber, GoodValue, GoodPlace, GoodSpecifier, GoodTarget, GoodOperand, GoodPlaceOfRow}
 

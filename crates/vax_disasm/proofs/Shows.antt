@@ -10,8 +10,8 @@ use Rattle.vax_disasm.specs.Showing.{sentence_shown, sentence_text, IsTextOf}
 use Rattle.asm_grammar.specs.declared.syntax.Sentence.{Sentence}
 use Rattle.asm_grammar.proofs.Spelled.{sentence_encodes}
 use Rattle.asm_grammar.proofs.Naming.{code_of}
-use Rattle.source_grammar.specs.Grammar.{IsInstructionText}
-use Rattle.source_grammar.proofs.Lines.{instruction_law}
+use Rattle.asm_grammar.specs.Grammar.{IsInstructionText}
+use Rattle.asm_grammar.proofs.LineTexts.{instruction_law}
 use Rattle.vax_disasm.proofs.Respelled.{SentenceBack, sentence_back}
 use Rattle.vax_disasm.proofs.Grammatical.{sentence_says}
 

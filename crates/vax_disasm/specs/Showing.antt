@@ -12,7 +12,7 @@ use Rattle.asm_grammar.specs.Text.{◌>>=◌, Text}
 use Rattle.asm_grammar.specs.Mnemonics.{mnemonic}
 use Rattle.asm_grammar.specs.Sentences.{separator}
 use Rattle.asm_grammar.specs.Encoding.{whole_of, half_of, IsCodeOf}
-use Rattle.source_grammar.specs.Grammar.{IsInstructionText}
+use Rattle.asm_grammar.specs.Grammar.{IsInstructionText}
 use Rattle.vax_disasm.specs.declared.disassembly.Shown.{Shown}
 use Rattle.vax_disasm.specs.declared.disassembly.Shown.TheVariants as shownings
 use Rattle.asm_grammar.specs.declared.syntax.Number.{Number}

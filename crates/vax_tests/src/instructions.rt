@@ -4,10 +4,9 @@ ghost use Rattle.std.proofs.Common.{refl, ap, sym, ◌∙◌};
 ghost use Rattle.vm_facts.specs.Answers.{written};
 ghost use Rattle.user_vax.specs.ArrayMemory.{array_answers, written-append};
 
-use dry_run::completes;
 use std::alloc::Global;
 use std::process::Abort;
-use user_step::step;
+use user_step::{completes, step};
 use user_vax::Stepped;
 use vax_alu::{Sum, add, compare, div, mul, neg, shift, sub};
 use vax_code::{Decoded, Instr, Operand, decode};

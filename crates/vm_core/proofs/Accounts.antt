@@ -11,7 +11,7 @@ use Rattle.run_model.specs.State.{State}
 use Rattle.run_model.specs.Swapped.{left_from}
 use Rattle.journal_laws.specs.Leads.{Leads}
 use Rattle.journal_laws.specs.Serving.{At}
-use Rattle.run_start.specs.Stepped.{StopLeads}
+use Rattle.step_units.specs.Stepped.{StopLeads}
 use Rattle.journal_laws.specs.Accounts.{Account}
 use Rattle.journal_laws.specs.Economy.{Economy}
 use Rattle.journal_laws.proofs.Accounts.{units_accounted}

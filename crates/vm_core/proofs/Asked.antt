@@ -18,21 +18,21 @@ use Rattle.machine_state.specs.Failing.{LosesFor}
 use Rattle.machine_state.specs.Done.{sources, IsDone, ImageAfter, StopsFor, SwapAfter, StopsEnding}
 use Rattle.journal_laws.specs.Stops.{StopsBefore}
 use Rattle.journal_laws.specs.Moved.{Moved, StopsMoving}
-use Rattle.run_start.specs.Turned.{Turned}
-use Rattle.run_start.specs.Runners.{runners_of, choice_of}
-use Rattle.run_start.specs.Turns.{Turns, StopsTurning}
-use Rattle.run_start.proofs.Transfers.{done_continues}
-use Rattle.run_start.proofs.Lines.{moves_continue, turn_continues}
+use Rattle.step_units.specs.Turned.{Turned}
+use Rattle.step_units.specs.Runners.{runners_of, choice_of}
+use Rattle.step_units.specs.Turns.{Turns, StopsTurning}
+use Rattle.step_units.proofs.Transfers.{done_continues}
+use Rattle.step_units.proofs.LinesContinue.{moves_continue, turn_continues}
 use Rattle.journal_laws.specs.LastMoves.{last_moves}
 use Rattle.run_model.specs.State.{State}
 use Rattle.run_model.specs.After.{interrupt_mark}
 use Rattle.run_model.specs.Next.{owners_of, last_turned}
 use Rattle.journal_laws.specs.Leads.{Leads}
 use Rattle.journal_laws.proofs.Units.{none_leads}
-use Rattle.run_start.specs.Stepped.{StopLeads, LeadsFrom, StopsFrom}
-use Rattle.run_start.specs.Lines.{LineLeads}
-use Rattle.run_start.proofs.Asking.{interrupt_made, idle_ends, interrupt_stops, hands_made, hands_stop, audit_made, audit_stops}
-use Rattle.run_start.proofs.PuttingOut.{swapper_made, swapper_stops}
+use Rattle.step_units.specs.Stepped.{StopLeads, LeadsFrom, StopsFrom}
+use Rattle.step_units.specs.Lines.{LineLeads}
+use Rattle.step_units.proofs.Asking.{interrupt_made, idle_ends, interrupt_stops, hands_made, hands_stop, audit_made, audit_stops}
+use Rattle.step_units.proofs.PuttingOut.{swapper_made, swapper_stops}
 use Rattle.proc_run.specs.Runs.{IsSteady}
 use Rattle.vm_core.specs.Steady.{StaysSteady}
 use Rattle.vm_core.specs.Lines.{LineAt}

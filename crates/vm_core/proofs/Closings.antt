@@ -22,8 +22,8 @@ use Rattle.journal_laws.specs.Stretch.{turns_of, counts, NoneCounts}
 use Rattle.journal_laws.proofs.Idle.{count_most, few_turns}
 use Rattle.journal_laws.specs.Leads.{Leads}
 use Rattle.journal_laws.proofs.Units.{none_leads, both_lead}
-use Rattle.run_start.specs.Lines.{IsOver, TurnDue}
-use Rattle.run_start.specs.Stepped.{LeadsFrom, StopsFrom}
+use Rattle.step_units.specs.Lines.{IsOver, TurnDue}
+use Rattle.step_units.specs.Stepped.{LeadsFrom, StopsFrom}
 use Rattle.proc_run.specs.Choosing.{turn_after as chosen_next}
 use Rattle.proc_run.proofs.Ready.{turned_same}
 use Rattle.vm_core.specs.Cores.{Underway, StandsIn, CoreAt}

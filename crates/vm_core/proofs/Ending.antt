@@ -19,10 +19,10 @@ use Rattle.run_model.specs.State.{start}
 use Rattle.run_laws.specs.Running.{CanRun}
 use Rattle.journal_laws.specs.Leads.{Leads}
 use Rattle.journal_laws.proofs.Units.{both_lead}
-use Rattle.run_start.specs.Stepped.{StopLeads, LeadsFrom, StopsFrom}
-use Rattle.run_start.specs.Sizes.{KeptAtStop}
-use Rattle.run_start.specs.Starting.{AreAmong, StartsFrom}
-use Rattle.run_start.specs.Leading.{IsTold, machine_at_start}
+use Rattle.step_units.specs.Stepped.{StopLeads, LeadsFrom, StopsFrom}
+use Rattle.step_units.specs.Sizes.{KeptAtStop}
+use Rattle.vm_core.specs.FirstProcesses.{AreAmong, StartsFrom}
+use Rattle.vm_core.specs.Leading.{IsTold, machine_at_start}
 use Rattle.vm_core.specs.Cores.{Underway, StandsUnderway, InputsOf}
 use Rattle.vm_core.specs.Starting.{CoreStarted, StartsRun, StopsStartingRun}
 use Rattle.vm_core.specs.Schedules.{IsBeforeLines, LinesFinished}

@@ -35,8 +35,8 @@ use Rattle.run_laws.proofs.Machines.{start_keeps, swaps_keep}
 use Rattle.run_laws.proofs.SwapImages.{writes_flat}
 use Rattle.run_laws.proofs.Wholes.{start_run}
 use Rattle.journal_laws.specs.Leads.{Leads}
-use Rattle.run_start.specs.Leading.{machine_at_start}
-use Rattle.run_start.specs.Stepped.{StopLeads, StopsNext}
+use Rattle.vm_core.specs.Leading.{machine_at_start}
+use Rattle.step_units.specs.Stepped.{StopLeads, StopsNext}
 use Rattle.journal_laws.proofs.Journals.{leads_follow, journal_lawful, journal_accounted, journal_economical, journal_image}
 use Rattle.vm_core.specs.Cores.{Underway, StandsUnderway}
 use Rattle.vm_core.specs.Halting.{HaltsFor, SpoilsParts, SpoilsOldest, AsksParts, AsksOldest, LeavesImage}

@@ -10,11 +10,11 @@ use Rattle.machine_state.specs.Machine.{Standing}
 use Rattle.machine_state.specs.Conditions.{HasStopped}
 use Rattle.journal_laws.specs.Moved.{StopsMoving}
 use Rattle.journal_laws.specs.Stops.{StopsBefore}
-use Rattle.run_start.specs.Sizes.{KeptAtStop}
-use Rattle.run_start.specs.Turned.TheVariants as turns
-use Rattle.run_start.specs.Turned.{Turned}
-use Rattle.run_start.specs.Turns.{StopsTurning}
-use Rattle.run_start.proofs.StopsKeep.{kept_here, kept_at, kept_next}
+use Rattle.step_units.specs.Sizes.{KeptAtStop}
+use Rattle.step_units.specs.Turned.TheVariants as turns
+use Rattle.step_units.specs.Turned.{Turned}
+use Rattle.step_units.specs.Turns.{StopsTurning}
+use Rattle.step_units.proofs.StopsKeep.{kept_here, kept_at, kept_next}
 
 pub kept_noting : (old new : Standing) (stop : Stop) → StopsBefore old new stop → KeptAtStop old new stop
 kept_noting old new stop h = kept_here old new stop h.stopped h.full

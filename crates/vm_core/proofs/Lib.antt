@@ -1,11 +1,16 @@
-pub use Rattle.run_laws.proofs.Images
+pub use Rattle.run_laws.proofs.Images as FlatLawsImages
 pub use Rattle.run_laws.proofs.Octets
 pub use Rattle.run_laws.proofs.Filing
 pub use Rattle.run_laws.proofs.Finishing
 pub use Rattle.proc_run.proofs.Ready
 pub use Rattle.proc_run.proofs.Marks
 pub use Rattle.proc_run.proofs.BegunTold
-pub use Rattle.run_start.proofs.Led
+pub mod Images
+pub mod Placing
+pub mod Filled
+pub mod StartGoesOn
+pub mod Kernels
+pub mod Led
 pub mod Pieces
 pub mod Accounts
 pub mod Steadying

@@ -13,10 +13,10 @@ use Rattle.run_laws.proofs.Registers.{start_regs_are}
 use Rattle.run_model.specs.State.{start}
 use Rattle.run_model.specs.Next.{under, last_turned}
 use Rattle.journal_laws.specs.Serving.{At}
-use Rattle.run_start.specs.Starting.{HasStarted}
-use Rattle.run_start.specs.Leading.{IsTold, machine_at_start, StartLeads, StartStops}
-use Rattle.run_start.proofs.Led.{stands_at_start}
-use Rattle.run_start.specs.declared.starting.Started.{Started}
+use Rattle.vm_core.specs.FirstProcesses.{HasStarted}
+use Rattle.vm_core.specs.Leading.{IsTold, machine_at_start, StartLeads, StartStops}
+use Rattle.vm_core.proofs.Led.{stands_at_start}
+use Rattle.vm_core.specs.declared.first_processes.Started.{Started}
 use Rattle.journal_laws.proofs.Journals.{few_started}
 use Rattle.vm_core.specs.Cores.{Underway, InputsOf, StandsIn}
 use Rattle.vm_core.specs.Starting.{CoreStarted, StartsRun, StopsStartingRun}

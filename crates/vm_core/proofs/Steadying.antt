@@ -13,11 +13,11 @@ use Rattle.machine_state.specs.Machine.{Standing}
 use Rattle.machine_state.specs.Settled.{IsSameBeside}
 use Rattle.machine_state.specs.Swapping.{IsIn, AsksU}
 use Rattle.journal_laws.specs.LastMoves.{last_moves}
-use Rattle.run_start.specs.Ready.{Continues, RunsMoved}
-use Rattle.run_start.proofs.Journals.{last_plain}
-use Rattle.run_start.proofs.Entries.{note_continues}
-use Rattle.run_start.proofs.Lines.{turn_continues}
-use Rattle.run_start.specs.Turned.TheVariants as turns
+use Rattle.step_units.specs.Ready.{Continues, RunsMoved}
+use Rattle.step_units.proofs.Journals.{last_plain}
+use Rattle.step_units.proofs.Entries.{note_continues}
+use Rattle.step_units.proofs.LinesContinue.{turn_continues}
+use Rattle.step_units.specs.Turned.TheVariants as turns
 use Rattle.proc_run.specs.Runs.{IsSteady}
 use Rattle.vm_core.specs.Steady.{StaysSteady}
 

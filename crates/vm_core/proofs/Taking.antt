@@ -22,9 +22,9 @@ use Rattle.run_laws.proofs.Finishing.{units_below}
 use Rattle.run_laws.proofs.Machines.{swaps_follow}
 use Rattle.journal_laws.specs.Leads.{Leads}
 use Rattle.journal_laws.proofs.Units.{both_lead}
-use Rattle.run_start.specs.Stepped.{StopLeads, LeadsFrom, StopsFrom}
-use Rattle.run_start.specs.Lines.{LineBegun, LineLeads}
-use Rattle.run_start.proofs.StepUnitsBeginning.{line_begins, line_stops}
+use Rattle.step_units.specs.Stepped.{StopLeads, LeadsFrom, StopsFrom}
+use Rattle.step_units.specs.Lines.{LineBegun, LineLeads}
+use Rattle.step_units.proofs.Beginning.{line_begins, line_stops}
 use Rattle.proc_run.specs.Running.{CountsTo}
 use Rattle.vm_core.specs.Accounts.{StopsAccounted, StopsAccountedFrom}
 use Rattle.vm_core.specs.Steady.{StaysSteady}

@@ -18,10 +18,10 @@ use Rattle.run_model.specs.State.{State}
 use Rattle.run_model.specs.Next.{goes_on, turn_instructions}
 use Rattle.journal_laws.specs.Leads.{Leads}
 use Rattle.journal_laws.proofs.Units.{none_leads, both_lead}
-use Rattle.run_start.specs.Stepped.{StopLeads, LeadsFrom, StopsFrom}
-use Rattle.run_start.specs.Lines.{TurnDue, TurnBegun, CameIn}
-use Rattle.run_start.proofs.StepUnitsBeginning.{turn_stops}
-use Rattle.run_start.proofs.Turning.{turn_begins, comes_in, coming_in_stops}
+use Rattle.step_units.specs.Stepped.{StopLeads, LeadsFrom, StopsFrom}
+use Rattle.step_units.specs.Lines.{TurnDue, TurnBegun, CameIn}
+use Rattle.step_units.proofs.Beginning.{turn_stops}
+use Rattle.step_units.proofs.Turning.{turn_begins, comes_in, coming_in_stops}
 use Rattle.run_model.specs.declared.mark.Mark.TheVariants as marks
 use Rattle.run_laws.proofs.Finishing.{units_below}
 use Rattle.run_laws.proofs.Machines.{swaps_follow}

@@ -7,7 +7,7 @@ use Rattle.kernel_model.specs.Kernel.{Kernel}
 use Rattle.machine_state.specs.Machine.{Standing}
 use Rattle.run_model.specs.State.{State}
 use Rattle.run_model.specs.Swapped.{left_from}
-use Rattle.run_start.specs.Stepped.{StopLeads, LeadsFrom}
+use Rattle.step_units.specs.Stepped.{StopLeads, LeadsFrom}
 use Rattle.journal_laws.specs.Accounts.{Account}
 use Rattle.journal_laws.specs.Economy.{Economy}
 

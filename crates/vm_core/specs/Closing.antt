@@ -15,7 +15,7 @@ use Rattle.run_model.specs.Swapped.{left_from}
 use Rattle.run_laws.specs.Running.{IsRun}
 use Rattle.journal_laws.specs.Stretch.{turns_of, NoneCounts}
 use Rattle.journal_laws.specs.Leads.{Leads}
-use Rattle.run_start.specs.Lines.{IsOver, IsClear, TurnDue}
+use Rattle.step_units.specs.Lines.{IsOver, IsClear, TurnDue}
 use Rattle.proc_run.specs.Choosing.{turn_after as chosen_next}
 use Rattle.journal_laws.specs.Accounts.{Account}
 use Rattle.journal_laws.specs.Economy.{Economy}

@@ -7,16 +7,16 @@ use Rattle.io_edge.specs.FileHolding.{NamedFile}
 use Rattle.flat_state.specs.Flat.{Inputs}
 use Rattle.flat_state.specs.Journal.{instructions_of}
 use Rattle.machine_state.specs.Machine.{Standing}
-use Rattle.run_start.specs.Reading.{AreNamed}
+use Rattle.step_units.specs.Reading.{AreNamed}
 use Rattle.run_laws.specs.Longwords.{AllImages}
 use Rattle.run_model.specs.State.{State}
 use Rattle.run_model.specs.After.{mark_of_event}
 use Rattle.run_model.specs.Next.{last_turned}
 use Rattle.run_model.specs.Swapped.{left_from}
 use Rattle.journal_laws.specs.Leads.{Leads}
-use Rattle.run_start.specs.Machines.{MachineAt}
-use Rattle.run_start.specs.Lines.{IsOver, IsClear}
-use Rattle.run_start.specs.Registers.{HasLongwords}
+use Rattle.step_units.specs.Machines.{MachineAt}
+use Rattle.step_units.specs.Lines.{IsOver, IsClear}
+use Rattle.step_units.specs.Registers.{HasLongwords}
 use Rattle.proc_run.specs.Runs.{IsSteady}
 use Rattle.journal_laws.specs.Accounts.{Account}
 use Rattle.journal_laws.specs.Economy.{Economy}

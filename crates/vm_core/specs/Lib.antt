@@ -1,15 +1,17 @@
-pub use Rattle.run_start.specs.Reading
+pub use Rattle.step_units.specs.Reading
+pub use Rattle.step_units.specs.Sizes
+pub use Rattle.step_units.specs.Stepped
 pub use Rattle.run_laws.specs.Longwords
 pub use Rattle.run_laws.specs.Files
-pub use Rattle.run_start.specs.Starting as RunStartStarting
 pub use Rattle.proc_run.specs.Choosing
 pub use Rattle.proc_run.specs.Runs
 pub use Rattle.proc_run.specs.Running
 pub use Rattle.proc_run.specs.Rests
 pub use Rattle.proc_run.specs.declared.finishing.Begun
-pub use Rattle.run_start.specs.Leading
-pub use Rattle.run_start.specs.Stepped
-pub use Rattle.run_start.specs.declared.starting.Started
+pub mod FirstProcesses
+pub mod Beginning
+pub mod Filling
+pub mod Leading
 pub mod Steady
 pub mod Accounts
 pub mod Lines

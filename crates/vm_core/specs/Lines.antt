@@ -8,8 +8,8 @@ use Rattle.machine_state.specs.Machine.{Standing}
 use Rattle.run_laws.specs.Longwords.{ProcessesFit}
 use Rattle.run_model.specs.State.{State}
 use Rattle.run_model.specs.After.{mark_of_event}
-use Rattle.run_start.specs.Machines.{MachineAt}
-use Rattle.run_start.specs.Lines.{IsClear}
+use Rattle.step_units.specs.Machines.{MachineAt}
+use Rattle.step_units.specs.Lines.{IsClear}
 
 -- The machine stands at a state under the mark of a line, with a swap image that is told.
 pub record LineAt (m : Standing) (holds : Option (List NamedFile)) (i : Option SwapImage) (e : Event) (A : Inputs) (s : State)

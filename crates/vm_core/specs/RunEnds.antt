@@ -11,7 +11,7 @@ use Rattle.flat_model.specs.Asked.{start_held}
 use Rattle.kernel_model.specs.Start.{ImagesFit}
 use Rattle.machine_state.specs.Machine.{Standing}
 use Rattle.machine_state.specs.Files.{AreImages}
-use Rattle.run_start.specs.Reading.{AreNamed}
+use Rattle.step_units.specs.Reading.{AreNamed}
 use Rattle.run_laws.specs.Longwords.{AllImages}
 use Rattle.vm_core.specs.declared.schedule.Unfinished.{Unfinished}
 use Rattle.vm_core.specs.declared.schedule.Unfinished.TheVariants.{NoSpace, Stopped}

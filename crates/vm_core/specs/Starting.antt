@@ -12,8 +12,8 @@ use Rattle.run_model.specs.Swapped.{left_from}
 use Rattle.run_laws.specs.Running.{CanRun}
 use Rattle.journal_laws.specs.Leads.{Leads}
 use Rattle.journal_laws.specs.Serving.{SameBut}
-use Rattle.run_start.specs.Starting.{IsNew}
-use Rattle.run_start.specs.Leading.{IsTold, machine_at_start, StopsBeginning}
+use Rattle.vm_core.specs.FirstProcesses.{IsNew}
+use Rattle.vm_core.specs.Leading.{IsTold, machine_at_start, StopsBeginning}
 use Rattle.journal_laws.specs.Accounts.{Account}
 use Rattle.journal_laws.specs.Economy.{Economy}
 use Rattle.vm_core.specs.Accounts.{StopsAccounted}

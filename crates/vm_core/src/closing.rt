@@ -7,8 +7,8 @@ ghost use Rattle.machine_state.specs.Going.{IsRunning};
 ghost use Rattle.machine_state.specs.Calls.{life_in};
 ghost use Rattle.machine_state.specs.Files.{AreFiles};
 ghost use Rattle.machine_state.specs.Outside.{stop_of, TransfersPages};
-ghost use Rattle.run_start.specs.Sizes.{KeptAtStop};
-ghost use Rattle.run_start.specs.Stepped.{LeadsFrom, StopsFrom};
+ghost use Rattle.step_units.specs.Sizes.{KeptAtStop};
+ghost use Rattle.step_units.specs.Stepped.{LeadsFrom, StopsFrom};
 ghost use Rattle.proc_run.specs.Choosing.{turn_after};
 ghost use Rattle.proc_run.specs.Runs.{IsSteady};
 ghost use Rattle.proc_run.specs.Running.{CountsTo};
@@ -24,8 +24,8 @@ use io_edge::{Files, SwapDev};
 use machine_state::Machine;
 use proc_run::{DecodeCache, next_turned};
 use proc_table::Life;
-use run_start::swapper::swap_in;
 use std::alloc::Global;
+use step_units::swapper::swap_in;
 use vm_facts::{Entry, Stop};
 
 /// No more turns in a row count no instruction: there are no more processes.

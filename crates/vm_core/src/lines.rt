@@ -9,9 +9,9 @@ ghost use Rattle.machine_state.specs.Files.{AreFiles};
 ghost use Rattle.machine_state.specs.Outside.{stop_of, TransfersPages};
 ghost use Rattle.journal_laws.specs.Stops.{StopsBefore};
 ghost use Rattle.journal_laws.specs.LastMoves.{last_moves};
-ghost use Rattle.run_start.specs.Lines.{LineLeads};
-ghost use Rattle.run_start.specs.Sizes.{KeptAtStop};
-ghost use Rattle.run_start.specs.Stepped.{LeadsFrom, StopsFrom};
+ghost use Rattle.step_units.specs.Lines.{LineLeads};
+ghost use Rattle.step_units.specs.Sizes.{KeptAtStop};
+ghost use Rattle.step_units.specs.Stepped.{LeadsFrom, StopsFrom};
 ghost use Rattle.proc_run.specs.Runs.{IsSteady};
 ghost use Rattle.vm_core.specs.Steady.{StaysSteady};
 ghost use Rattle.vm_core.specs.Lines.{LineAt};
@@ -20,7 +20,7 @@ use crate::owners::owners_of;
 use io_edge::{Files, SwapDev};
 use journal_laws::clock_hands::move_hands;
 use machine_state::Machine;
-use run_start::swapper::turn;
+use step_units::swapper::turn;
 use vm_facts::{Entry, Event, Stop};
 
 /// An entry is noted that changes nothing, by a machine whose last entry may count any moves of the hands.

@@ -3,8 +3,8 @@ ghost use Rattle.std.specs.Prelude.{◌≡◌, ◌+◌, ◌≤◌, min, IfOk, If
 ghost use Rattle.machine_state.specs.Files.{AreFiles};
 ghost use Rattle.machine_state.specs.Outside.{stop_of, TransfersPages};
 ghost use Rattle.flat_state.specs.Journal.{instructions_of};
-ghost use Rattle.run_start.specs.Sizes.{KeptAtStop};
-ghost use Rattle.run_start.specs.Stepped.{LeadsFrom, StopsFrom};
+ghost use Rattle.step_units.specs.Sizes.{KeptAtStop};
+ghost use Rattle.step_units.specs.Stepped.{LeadsFrom, StopsFrom};
 ghost use Rattle.proc_run.specs.Runs.{IsSteady};
 ghost use Rattle.proc_run.specs.Running.{CountsTo};
 ghost use Rattle.vm_core.specs.Closing.{ResidentTurn, TurnDone};

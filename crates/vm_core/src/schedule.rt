@@ -6,9 +6,9 @@ ghost use Rattle.flat_model.specs.Asked.{start_held};
 ghost use Rattle.machine_state.specs.Files.{AreFiles};
 ghost use Rattle.machine_state.specs.Going.{IsRunning};
 ghost use Rattle.machine_state.specs.Outside.{stop_of, TransfersPages};
-ghost use Rattle.run_start.specs.Sizes.{KeptAtStop};
-ghost use Rattle.run_start.specs.Starting.{StartsFrom};
-ghost use Rattle.run_start.specs.Stepped.{LeadsFrom, StopsFrom};
+ghost use Rattle.step_units.specs.Sizes.{KeptAtStop};
+ghost use Rattle.vm_core.specs.FirstProcesses.{StartsFrom};
+ghost use Rattle.step_units.specs.Stepped.{LeadsFrom, StopsFrom};
 ghost use Rattle.vm_core.specs.Cores.{StandsUnderway};
 ghost use Rattle.vm_core.specs.Starting.{IsFresh};
 ghost use Rattle.vm_core.specs.Schedules.{HaveFewMoves, IsBeforeLines, LinesWent, LinesFinished};
@@ -17,10 +17,10 @@ ghost use Rattle.vm_core.specs.Full.{RunFull, RunOver, RunStopsAt};
 ghost use Rattle.vm_core.specs.RunEnds.{stopped_as, IsAskedOf, RunEnds};
 ghost use Rattle.vm_core.specs.declared.schedule.Unfinished.TheVariants.{Stopped};
 
+use crate::Started;
 use crate::events::Went;
 use crate::run::Core;
 use io_edge::{Files, SwapDev};
-use run_start::Started;
 use vm_facts::{Event, Stop};
 
 /// Why a run isn't finished.

@@ -6,15 +6,15 @@ ghost use Rattle.flat_model.specs.Asked.{start_held};
 ghost use Rattle.machine_state.specs.Files.{AreFiles};
 ghost use Rattle.machine_state.specs.Going.{CanGoOn};
 ghost use Rattle.machine_state.specs.Outside.{stop_of, TransfersPages};
-ghost use Rattle.run_start.specs.Sizes.{KeptAtStop};
-ghost use Rattle.run_start.specs.Starting.{AreAmong, StartsFrom, started_by};
-ghost use Rattle.run_start.specs.Leading.{IsTold};
+ghost use Rattle.step_units.specs.Sizes.{KeptAtStop};
+ghost use Rattle.vm_core.specs.FirstProcesses.{AreAmong, StartsFrom, started_by};
+ghost use Rattle.vm_core.specs.Leading.{IsTold};
 ghost use Rattle.vm_core.specs.Cores.{StandsUnderway};
 ghost use Rattle.vm_core.specs.Starting.{IsFresh, StartsRun, StopsStartingRun};
 
 use crate::run::Core;
+use crate::{Started, start};
 use io_edge::{Files, SwapDev};
-use run_start::{Started, start};
 use vm_facts::Stop;
 
 impl Core {

@@ -11,12 +11,12 @@ use Rattle.command_words.specs.Asked.{Asked, Run, Assemble, Replay, Optimum, Cur
 use Rattle.command_words.specs.Explaining.{words_explained}
 use Rattle.source_commands.specs.Explaining.{ExplainsSource, LacksSource}
 use Rattle.replay_command.specs.Explaining.{ExplainsTranscript, LacksTranscript}
-use Rattle.schedule_reasons.specs.Explaining.{ExplainsSchedule, LacksSchedule}
+use Rattle.line_reasons.specs.ScheduleExplaining.{ExplainsSchedule, LacksSchedule}
 use Rattle.repage_command.specs.Asking.{Subject}
 use Rattle.repage_command.specs.QuestionCommandExplaining.{ExplainsLimit, LacksLimit}
 use Rattle.repage_command.specs.GradeCommandExplaining.{ExplainsGrade, LacksPolicy}
 use Rattle.repage_command.specs.Explaining.{ExplainsRepage, LacksWhy}
-use Rattle.reference_reasons.specs.Explaining.{ExplainsReferences, LacksReferences}
+use Rattle.line_reasons.specs.ReferenceExplaining.{ExplainsReferences, LacksReferences}
 
 -- where the status is the one that goes with a reason, the reason is told, and else nothing
 abbrev pub ToldWhere : Bool → Type 0 → Option (List ℕ) → Type 0

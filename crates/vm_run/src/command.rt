@@ -11,7 +11,7 @@ use command_words::{Command, read_words};
 use io_edge::{Files, Sink, SwapDev};
 use policy_command::compare_policies;
 use repage_command::grade_command::grade_file;
-use repage_command::grade_command::question_command::film_commands::reference_commands::run_command::{
+use repage_command::grade_command::question_command::reference_commands::run_command::{
     load_command, run_command,
 };
 use repage_command::grade_command::question_command::{Question, ask_command};

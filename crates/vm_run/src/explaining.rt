@@ -5,20 +5,19 @@ ghost use Rattle.command_words.specs.Command.{IsFittingRun};
 ghost use Rattle.command_words.specs.declared.limits.TheConstants.{MOST_LIMIT};
 ghost use Rattle.command_words.specs.Explaining.{words_explained};
 ghost use Rattle.source_commands.specs.Explaining.{ExplainsSource, LacksSource};
-ghost use Rattle.schedule_reasons.specs.Explaining.{ExplainsSchedule, LacksSchedule};
-ghost use Rattle.reference_reasons.specs.Explaining.{ExplainsReferences, LacksReferences};
+ghost use Rattle.line_reasons.specs.ScheduleExplaining.{ExplainsSchedule, LacksSchedule};
+ghost use Rattle.line_reasons.specs.ReferenceExplaining.{ExplainsReferences, LacksReferences};
 ghost use Rattle.repage_command.specs.Explaining.{ExplainsRepage, LacksWhy};
 ghost use Rattle.vm_run.specs.Explaining.{Explains, LacksFile, LacksReason, LacksWhere, ToldWhere};
 
 use command_ending::Fault;
 use command_words::{Command, Numbers, explain_words, read_words};
 use io_edge::Files;
-use reference_reasons::explain_references;
+use line_reasons::{explain_references, explain_schedule};
 use repage_command::explain_repage;
 use repage_command::grade_command::explain_grade;
 use repage_command::grade_command::question_command::explain_limit;
 use replay_command::explain_transcript;
-use schedule_reasons::explain_schedule;
 use source_commands::explain_source;
 use std::alloc::Global;
 

@@ -26,7 +26,7 @@ use Rattle.run_laws.proofs.Plain.{put_flat}
 use Rattle.run_laws.proofs.Residents.{put_unit, put_falls}
 use Rattle.run_laws.proofs.Units.{plain_place}
 use Rattle.economy_laws.specs.Finishes.{Finishes}
-use Rattle.span_laws.proofs.Serving.{done_less}
+use Rattle.page_laws.proofs.Serving.{done_less}
 use Rattle.economy_laws.proofs.Finishing.Stages.{is_boundary, Stage, finish_on, finish_known, mark_boundary}
 use Rattle.economy_laws.proofs.Finishing.Dues.{due_ends}
 

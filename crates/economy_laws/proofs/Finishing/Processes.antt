@@ -44,7 +44,7 @@ use Rattle.economy_laws.proofs.Growing.{all_grown}
 use Rattle.economy_laws.proofs.Growth.{growth_touches}
 use Rattle.economy_laws.proofs.Left.{after_served, stays_in, wanted_on, locked_on, split_there, split_longer, is_closed}
 use Rattle.run_laws.proofs.LockedRoom.{before_few}
-use Rattle.span_laws.proofs.Serving.{done_less}
+use Rattle.page_laws.proofs.Serving.{done_less}
 use Rattle.economy_laws.proofs.Sleeping.{sleep_stops}
 use Rattle.economy_laws.proofs.Stretching.{Slept, open_last, resident_out}
 use Rattle.economy_laws.proofs.Finishing.Stages.{is_boundary, Stage, finish_on, mark_boundary, quiet_stretch, IsLasting, mark_lasts, stands}

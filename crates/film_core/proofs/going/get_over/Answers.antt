@@ -1,6 +1,6 @@
 use Rattle.std.proofs.Common.{IfOk, IfErr, List, Option, sym, subst}
 use Rattle.io_edge.specs.FileHolding.{NamedFile}
-use Rattle.run_start.specs.Stepped.{AtSome, LeadsFrom, StopsFrom}
+use Rattle.step_units.specs.Stepped.{AtSome, LeadsFrom, StopsFrom}
 use Rattle.vm_core.proofs.Noting.{ok_weaker, stops_weaker}
 use Rattle.film_core.proofs.Getting.{going_fits, going_under, gets_over, rest_stops_going}
 use Rattle.film_core.proofs.going.get_over.Goals as goal

@@ -1,6 +1,6 @@
 use Rattle.std.proofs.Common.{OnOk, IfErr, List, Option, sym, subst}
 use Rattle.io_edge.specs.FileHolding.{NamedFile}
-use Rattle.run_start.specs.Stepped.{AtSome, LeadsFrom, StopsFrom}
+use Rattle.step_units.specs.Stepped.{AtSome, LeadsFrom, StopsFrom}
 use Rattle.vm_core.proofs.Noting.{ok_so, stops_weaker}
 use Rattle.film_core.proofs.Getting.{going_past, going_wide, goes_over, stops_going}
 use Rattle.film_core.proofs.going.go_further.Goals as goal

@@ -1,7 +1,7 @@
 use Rattle.std.proofs.Common.{subst}
 use Rattle.vm_facts.specs.declared.stop.Stop.{Stop}
-use Rattle.run_start.specs.Sizes.{KeptAtStop}
-use Rattle.run_start.specs.Stepped.{StopsFrom}
+use Rattle.step_units.specs.Sizes.{KeptAtStop}
+use Rattle.step_units.specs.Stepped.{StopsFrom}
 use Rattle.film_core.proofs.Making.{widened_by, over_made, full_made, full_ready, other_stops}
 use Rattle.film_core.proofs.going.one_entry.Goals as goal
 use Rattle.film_core.specs.Ways.{GoesAt}

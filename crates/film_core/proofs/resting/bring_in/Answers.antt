@@ -1,9 +1,9 @@
 use Rattle.vm_facts.specs.declared.entry.Entry.TheVariants as entries
 use Rattle.run_model.specs.declared.mark.Mark.TheVariants as marks
 use Rattle.step_units.proofs.Finding.{may_come}
-use Rattle.run_start.specs.Sizes.{KeptAtStop}
-use Rattle.run_start.specs.Stepped.{StopsFrom}
-use Rattle.run_start.proofs.StopsKeep.{kept_at}
+use Rattle.step_units.specs.Sizes.{KeptAtStop}
+use Rattle.step_units.specs.Stepped.{StopsFrom}
+use Rattle.step_units.proofs.StopsKeep.{kept_at}
 use Rattle.vm_core.proofs.Noting.{stops_on}
 use Rattle.vm_core.proofs.Steadying.{in_steady}
 use Rattle.film_core.proofs.RestsMade.{bring_rests, bring_stops, steady_stays}

@@ -1,8 +1,8 @@
 use Rattle.run_model.specs.declared.mark.Mark.TheVariants as marks
 use Rattle.step_units.proofs.Finding.{put_out_in}
-use Rattle.run_start.specs.Sizes.{KeptAtStop}
-use Rattle.run_start.specs.Turned.TheVariants as turns
-use Rattle.run_start.specs.Stepped.{StopsFrom}
+use Rattle.step_units.specs.Sizes.{KeptAtStop}
+use Rattle.swapper.specs.declared.Turned.TheVariants as turns
+use Rattle.step_units.specs.Stepped.{StopsFrom}
 use Rattle.vm_core.proofs.Asked.{swapper_steady}
 use Rattle.vm_core.proofs.Kept.{kept_turning}
 use Rattle.vm_core.proofs.Noting.{stops_on}

@@ -1,7 +1,7 @@
 use Rattle.std.proofs.Common.{sym, ap, ◌∙◌, subst}
 use Rattle.std.proofs.lemmas.Result.{err_from_is_err_and}
 use Rattle.step_units.specs.Rests.{before_done}
-use Rattle.run_start.specs.Stepped.{AtSome, LeadsFrom, StopsFrom, StepLeads}
+use Rattle.step_units.specs.Stepped.{AtSome, LeadsFrom, StopsFrom, StepLeads}
 use Rattle.vm_core.specs.Rests.{begun_by, BegunAt}
 use Rattle.film_core.proofs.Settled.{fills_settle, finish_settles, finish_stops, finish_begun}
 use Rattle.film_core.proofs.settling.settle.Goals as goal

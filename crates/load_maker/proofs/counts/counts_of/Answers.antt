@@ -2,9 +2,9 @@
 use Rattle.std.proofs.Common.{◌≡◌, ◌<◌, ℕ, Bool, length, ap, ◌∙◌, arith}
 use Rattle.std.specs.Prelude.{if◌then◌else◌}
 use Rattle.vm_facts.specs.declared.entry.Entry.{Entry}
-use Rattle.outcome_laws.specs.Others.{is_refusal}
-use Rattle.outcome_laws.specs.Visible.{is_end}
-use Rattle.run_counts.specs.Counts.{output_length}
+use Rattle.flat_laws.specs.Others.{is_refusal}
+use Rattle.flat_laws.specs.Visible.{is_end}
+use Rattle.process_counts.specs.Counts.{output_length}
 use Rattle.load_maker.specs.Counts.{is_granted_fork}
 use Rattle.load_maker.proofs.Counted.{instructions_more, sum_more, sum_more_alone, one_more_fits}
 use Rattle.load_maker.proofs.counts.counts_of.Goals as goal

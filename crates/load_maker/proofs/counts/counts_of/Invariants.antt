@@ -2,9 +2,9 @@
 use Rattle.std.proofs.Common.{◌≡◌, ◌≤◌, ◌+◌, ◌*◌, ◌^◌, take}
 use Rattle.std.specs.List.{count_by, sum_by}
 use Rattle.flat_state.specs.Journal.{instructions_of}
-use Rattle.outcome_laws.specs.Others.{is_refusal}
-use Rattle.outcome_laws.specs.Visible.{is_end}
-use Rattle.run_counts.specs.Counts.{output_length}
+use Rattle.flat_laws.specs.Others.{is_refusal}
+use Rattle.flat_laws.specs.Visible.{is_end}
+use Rattle.process_counts.specs.Counts.{output_length}
 use Rattle.load_maker.specs.Counts.{is_granted_fork}
 use Rattle.load_maker.proofs.counts.counts_of.Given as goal
 

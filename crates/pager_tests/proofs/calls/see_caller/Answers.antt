@@ -1,7 +1,7 @@
 use Rattle.std.proofs.Common.{rules, sym, ap, ◌∙◌}
 use Rattle.std.specs.Option.{option_copied}
 use Rattle.pager_tests.proofs.Readiness.{none_due}
-use Rattle.steady_laws.proofs.CallersSeen.{is_caller}
+use Rattle.step_units.proofs.CallersSeen.{is_caller}
 use Rattle.pager_tests.proofs.calls.see_caller.Goals as goal
 
 pub returns : goal.returns

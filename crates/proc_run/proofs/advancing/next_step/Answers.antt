@@ -9,14 +9,14 @@ use Rattle.user_vax.specs.Instruction.{instruction, answer_of}
 use Rattle.user_vax.specs.declared.stepped.Stepped.{Stepped}
 use Rattle.flat_state.specs.Journal.{instructions_of}
 use Rattle.machine_state.specs.Machine.{Standing}
-use Rattle.steady_laws.proofs.CallsContinue.{end_continues}
-use Rattle.steady_laws.proofs.Journals.{last_counts_few}
+use Rattle.step_units.proofs.CallsContinue.{end_continues}
+use Rattle.step_units.proofs.Journals.{last_counts_few}
 use Rattle.proc_run.specs.Calls.{own_answers, MadeCall}
 use Rattle.proc_run.specs.Runs.{is_now}
 use Rattle.proc_run.proofs.Attempts.{RoomOnly, call_made, room_steady, room_lends, room_goes_on}
 use Rattle.proc_run.proofs.Made.{caller_of}
 use Rattle.proc_run.proofs.Tried.{journal_same, lends_still, later_advances, later_stops, later_goes_on, ran_advances, ran_goes_on, asked_stops, served_advances, served_stops, signal_advances, signal_halts}
-use Rattle.steady_laws.proofs.StopsKeep.{kept_here, alive_same}
+use Rattle.step_units.proofs.StopsKeep.{kept_here, alive_same}
 use Rattle.proc_run.proofs.StopsSame.{later_same, later_kept}
 use Rattle.proc_run.proofs.advancing.next_step.Goals as goal
 

@@ -3,14 +3,14 @@ use Rattle.std.specs.Prelude.{IfOk, IfErr}
 use Rattle.std.proofs.lemmas.Int.{to_z-of_z}
 use Rattle.std.proofs.lemmas.Result.{err_from_is_err_and}
 use Rattle.flat_model.specs.Calls.{call_of}
-use Rattle.steady_laws.proofs.CallsContinue.{end_continues}
-use Rattle.steady_laws.specs.Ready.{Continues}
+use Rattle.step_units.proofs.CallsContinue.{end_continues}
+use Rattle.step_units.specs.Ready.{Continues}
 use Rattle.proc_run.specs.Runs.{IsSteady, is_now, counts}
 use Rattle.proc_run.proofs.Made.{caller_of, ready_advances, ready_goes_on, asleep_advances, asleep_goes_on, stopped, unchanged, made_quiet, missed_advances, missed_stops}
 use Rattle.proc_run.proofs.Steps.{no_call_led, no_call_stops}
 use Rattle.machine_state.specs.Machine.{Standing}
-use Rattle.steady_laws.specs.Sizes.{KeptAtStop}
-use Rattle.steady_laws.proofs.StopsKeep.{alive_same}
+use Rattle.step_units.specs.Sizes.{KeptAtStop}
+use Rattle.step_units.proofs.StopsKeep.{alive_same}
 use Rattle.proc_run.proofs.StopsSame.{call_same}
 use Rattle.proc_run.proofs.calling.call.Goals as goal
 

@@ -2,14 +2,14 @@ use Rattle.std.proofs.Common.{◌+◌, ◌-◌, ◌<◌, ◌≤◌, ◌∙◌, s
 use Rattle.std.specs.Prelude.{IfSome}
 use Rattle.vm_facts.specs.declared.regs.Regs.{Regs}
 use Rattle.std.proofs.lemmas.Result.{err_from_is_err_and}
-use Rattle.steady_laws.specs.Ready.{Continues}
+use Rattle.step_units.specs.Ready.{Continues}
 use Rattle.proc_run.specs.declared.advancing.Advance.TheVariants as advances
 use Rattle.proc_run.specs.Calls.{own_answers}
 use Rattle.proc_run.specs.Runs.{is_now, counts, HasRunner, AdvancesTo}
 use Rattle.proc_run.specs.Stretch.{MissesByte}
 use Rattle.proc_run.proofs.SoFar.{ran_far, ran_all_continue, none_so_far, counted_far, served_far, stuck_runs, stops_far, idle_runs, done_runs, waited_runs, steady_on, lends_there}
 use Rattle.machine_state.proofs.Transfers.{transfers_none, transfers_then}
-use Rattle.steady_laws.proofs.StopsKeep.{kept_through}
+use Rattle.step_units.proofs.StopsKeep.{kept_through}
 use Rattle.step_units.specs.Stepped.{LeadsFrom, StopsFrom}
 use Rattle.proc_run.proofs.running.run.Goals as goal
 

@@ -1,7 +1,7 @@
 use Rattle.std.proofs.Common.{◌-◌, ◌≡◌, ◌≤◌, ◌+◌, ◌*◌, None}
 use Rattle.std.specs.Prelude.{IfSome}
 use Rattle.flat_state.specs.Journal.{instructions_of}
-use Rattle.steady_laws.specs.Callers.{regs_of}
+use Rattle.step_units.specs.Callers.{regs_of}
 use Rattle.proc_run.specs.Calls.{own_answers}
 use Rattle.proc_run.specs.Runs.{IsSteady, is_now}
 use Rattle.proc_run.specs.Stretch.{MissesByte}

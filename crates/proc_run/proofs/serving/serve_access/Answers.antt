@@ -1,13 +1,13 @@
 use Rattle.std.proofs.Common.{inr, inl, sym, subst}
 use Rattle.std.proofs.lemmas.Result.{err_from_is_err_and}
-use Rattle.steady_laws.specs.FaultFillTouchServed.{Served}
-use Rattle.steady_laws.specs.Callers.{IsCaller}
-use Rattle.steady_laws.specs.Leaving.{HasEnded, StopsAlive}
-use Rattle.steady_laws.proofs.Running.{continues_both}
-use Rattle.steady_laws.proofs.CallsContinue.{end_continues}
+use Rattle.step_units.specs.FaultFillTouchServed.{Served}
+use Rattle.step_units.specs.Callers.{IsCaller}
+use Rattle.step_units.specs.ProcCallsLeaving.{HasEnded, StopsAlive}
+use Rattle.step_units.proofs.Running.{continues_both}
+use Rattle.step_units.proofs.CallsContinue.{end_continues}
 use Rattle.proc_run.specs.Runs.{is_now}
 use Rattle.proc_run.proofs.Served.{IsStuck, EndsBy, ends_calls, served_stops, advances_valid, advances_stuck, advances_ended, stops_ended}
-use Rattle.steady_laws.proofs.StopsKeep.{alive_same}
+use Rattle.step_units.proofs.StopsKeep.{alive_same}
 use Rattle.proc_run.proofs.StopsSame.{served_same, continued_same}
 use Rattle.proc_run.proofs.serving.serve_access.Goals as goal
 use Rattle.proc_run.proofs.serving.serve_access.Goals.{in-NoSpace, in-Signal}

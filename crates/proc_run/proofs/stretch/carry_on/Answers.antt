@@ -6,7 +6,7 @@ use Rattle.machine_state.specs.Machine.{Standing}
 use Rattle.machine_state.specs.UserMemory.{kernel_answers}
 use Rattle.machine_state.specs.declared.user_memory.Layout.{Layout}
 use Rattle.machine_state.proofs.WritesGoOn.{writes_go}
-use Rattle.steady_laws.specs.Growth.{space_of_pid}
+use Rattle.step_units.specs.Growth.{space_of_pid}
 use Rattle.proc_run.specs.Stretch.{MissesByte}
 use Rattle.proc_run.proofs.stretch.carry_on.Goals as goal
 

@@ -4,8 +4,8 @@ use Rattle.vm_facts.specs.Answers.{ByteWrite}
 use Rattle.vm_facts.specs.declared.entry.Entry.{Entry}
 use Rattle.machine_state.specs.Joined.{instructions_in, last_says}
 use Rattle.machine_state.specs.UserMemory.{Wrote}
-use Rattle.steady_laws.proofs.Journals.{last_counts_few}
-use Rattle.steady_laws.specs.Growth.{space_of_pid}
+use Rattle.step_units.proofs.Journals.{last_counts_few}
+use Rattle.step_units.specs.Growth.{space_of_pid}
 use Rattle.proc_run.specs.Calls.{own_answers}
 use Rattle.proc_run.specs.Stretch.{RanOn}
 use Rattle.proc_run.proofs.SoFar.{lends_there}

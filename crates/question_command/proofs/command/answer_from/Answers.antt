@@ -9,11 +9,11 @@ use Rattle.command_ending.proofs.Counting.{none_then, counted_then}
 use Rattle.run_opening.proofs.Lists.{few_started}
 use Rattle.replay_command.specs.Reading.{images_told}
 use Rattle.replay_command.proofs.Replays.{images_counted}
-use Rattle.film_commands.specs.Reading.{read_told}
-use Rattle.film_commands.specs.Asking.{Subject}
-use Rattle.film_commands.specs.Ends.{EndsQuestion}
-use Rattle.film_commands.specs.InMemory.{inputs_with, IsRunnable, EndsAnswer, AllDiffer}
-use Rattle.film_commands.proofs.Names.{names_differ}
+use Rattle.reference_commands.specs.Reading.{read_told}
+use Rattle.reference_commands.specs.Asking.{Subject}
+use Rattle.reference_commands.specs.Ends.{EndsQuestion}
+use Rattle.reference_commands.specs.InMemory.{inputs_with, IsRunnable, EndsAnswer, AllDiffer}
+use Rattle.reference_commands.proofs.Names.{names_differ}
 use Rattle.question_command.proofs.Words.{short_names}
 use Rattle.question_command.proofs.Asked.{opened_counted, refused, schedule_ends, images_end, answer_counted, asked_ends}
 use Rattle.question_command.proofs.command.answer_from.Goals as goal

@@ -2,9 +2,9 @@ use Rattle.std.proofs.Common.{ℕ, List, Bor, map}
 use Rattle.command_ending.specs.Ending.{ending_of}
 use Rattle.command_ending.specs.Command.{Faults}
 use Rattle.command_ending.proofs.Makings.{completed}
-use Rattle.film_commands.specs.Reading.{read_told}
-use Rattle.film_commands.specs.Asking.{Subject}
-use Rattle.film_commands.specs.Ends.{EndsQuestion}
+use Rattle.reference_commands.specs.Reading.{read_told}
+use Rattle.reference_commands.specs.Asking.{Subject}
+use Rattle.reference_commands.specs.Ends.{EndsQuestion}
 use Rattle.question_command.proofs.command.ask_command.Goals as goal
 
 pub returns-clause-answers : goal.returns-clause-answers

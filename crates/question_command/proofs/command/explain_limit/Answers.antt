@@ -1,10 +1,10 @@
 use Rattle.std.proofs.Common.{List, ℕ, Bor, map, subst}
 use Rattle.command_ending.specs.Ending.{ending_of}
 use Rattle.command_ending.specs.Command.{Faults, Made}
-use Rattle.film_commands.specs.Question.TheVariants.{WasCut}
-use Rattle.film_commands.specs.Reading.{read_told}
-use Rattle.film_commands.specs.Asking.{Subject}
-use Rattle.film_commands.specs.Ends.{EndsQuestion}
+use Rattle.reference_commands.specs.declared.question.Question.TheVariants.{WasCut}
+use Rattle.reference_commands.specs.Reading.{read_told}
+use Rattle.reference_commands.specs.Asking.{Subject}
+use Rattle.reference_commands.specs.Ends.{EndsQuestion}
 use Rattle.question_command.proofs.Limits.{explained}
 use Rattle.question_command.proofs.command.explain_limit.Goals as goal
 

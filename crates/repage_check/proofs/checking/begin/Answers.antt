@@ -5,9 +5,9 @@ use Rattle.vm_facts.specs.declared.stop.Stop.{Stop}
 use Rattle.vm_facts.specs.declared.stop.Stop.TheVariants as stops
 use Rattle.flat_state.specs.Flat.{Inputs}
 use Rattle.flat_model.specs.Asked.{start_held}
-use Rattle.unit_judge.specs.Started.{Started}
-use Rattle.unit_judge.specs.Starting.{StartsFrom}
-use Rattle.unit_judge.specs.Leading.{IsTold}
+use Rattle.vm_core.specs.declared.first_processes.Started.{Started}
+use Rattle.vm_core.specs.FirstProcesses.{StartsFrom}
+use Rattle.vm_core.specs.Leading.{IsTold}
 use Rattle.repage_check.specs.Starting.{AtStart, HasBegun}
 use Rattle.repage_check.proofs.Opening.{begun_well, begun_full, full_ready, well_ready, well_by, lacks_first}
 use Rattle.repage_check.proofs.checking.begin.Goals as goal

@@ -2,10 +2,10 @@ use Rattle.std.proofs.Common.{◌≡◌, ◌+◌, ◌≤◌, List, drop, Option,
 use Rattle.io_edge.specs.FileHolding.{NamedFile}
 use Rattle.machine_state.specs.Files.{AreFiles}
 use Rattle.machine_state.specs.Sourced.{ImageNamed}
-use Rattle.unit_judge.specs.StepUnitsStepped.{AtSome, LeadsFrom}
+use Rattle.vm_core.specs.Stepped.{AtSome, LeadsFrom}
 use Rattle.paged_model.specs.declared.line.Line.{Line}
-use Rattle.unit_judge.specs.declared.past.Past.{Past}
-use Rattle.unit_judge.specs.Past.{PastAt}
+use Rattle.repage_check.specs.declared.past.Past.{Past}
+use Rattle.repage_check.specs.Past.{PastAt}
 use Rattle.repage_check.specs.Lines.{LineTold}
 use Rattle.repage_check.specs.Verdicts.{past_at_start}
 use Rattle.repage_check.proofs.Along.{AlongLines, lines_begun}

@@ -1,6 +1,6 @@
 use Rattle.std.proofs.Common.{◌≡◌, ◌≤◌, drop}
-use Rattle.unit_judge.specs.StepUnitsStepped.{AtSome, LeadsFrom}
-use Rattle.unit_judge.specs.Past.{PastAt}
+use Rattle.vm_core.specs.Stepped.{AtSome, LeadsFrom}
+use Rattle.repage_check.specs.Past.{PastAt}
 use Rattle.repage_check.specs.Verdicts.{past_at_start}
 use Rattle.repage_check.proofs.Along.{AlongLines}
 use Rattle.repage_check.proofs.Tracing.{GoesOnFew}

@@ -3,9 +3,9 @@ use Rattle.vm_facts.specs.declared.params.Params.{Params}
 use Rattle.io_edge.specs.FileHolding.{NamedFile}
 use Rattle.machine_state.specs.Files.{AreFiles}
 use Rattle.machine_state.specs.Sourced.{ImageNamed}
-use Rattle.unit_judge.specs.StepUnitsStepped.{AtSome, LeadsFrom}
+use Rattle.vm_core.specs.Stepped.{AtSome, LeadsFrom}
 use Rattle.paged_model.specs.Traces.{trace_misstep}
-use Rattle.unit_judge.specs.Past.{PastAt}
+use Rattle.repage_check.specs.Past.{PastAt}
 use Rattle.repage_check.specs.Starting.{StandsBehind}
 use Rattle.repage_check.specs.Verdicts.{past_at_start}
 use Rattle.repage_check.proofs.Verdicting.{lacking}

@@ -4,10 +4,10 @@ use Rattle.std.proofs.lemmas.Result.{IfOk-weaker}
 use Rattle.vm_facts.specs.declared.entry.Entry.{Entry}
 use Rattle.vm_facts.specs.declared.entry.Entry.TheVariants as entries
 use Rattle.flat_state.specs.Journal.{repeated, units_with}
-use Rattle.span_laws.specs.Spans.{moves}
-use Rattle.unit_judge.specs.LastMoves.{last_moves}
-use Rattle.unit_judge.specs.StepUnitsStepped.{LeadsFrom}
-use Rattle.unit_judge.specs.Past.{lines_next, PastAt}
+use Rattle.page_laws.specs.Spans.{moves}
+use Rattle.paging_units.specs.LastMoves.{last_moves}
+use Rattle.vm_core.specs.Stepped.{LeadsFrom}
+use Rattle.repage_check.specs.Past.{lines_next, PastAt}
 use Rattle.repage_check.specs.Lines.{UnitsTold, GoesBy}
 use Rattle.repage_check.proofs.Telling.{other_unit, other_unmoved, other_alone, one_line, some_frames, all_told}
 use Rattle.repage_check.proofs.lines.judge_entry.Goals as goal

@@ -1,8 +1,8 @@
 use Rattle.std.proofs.Common.{◌<◌, sym, ◌∙◌, subst, arith}
 use Rattle.vm_facts.specs.declared.entry.Entry.TheVariants as entries
 use Rattle.machine_state.specs.Machine.{Standing}
-use Rattle.unit_judge.specs.Past.{PastAt}
-use Rattle.repage_check.proofs.Moving.{moves_begun_step}
+use Rattle.repage_check.specs.Past.{PastAt}
+use Rattle.repage_check.proofs.MovesJudged.{moves_begun_step}
 use Rattle.repage_check.proofs.Widening.{not_begun, none_told}
 use Rattle.repage_check.proofs.lines.judge_hands.Goals as goal
 

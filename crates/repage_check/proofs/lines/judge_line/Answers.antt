@@ -1,10 +1,10 @@
 use Rattle.std.proofs.Common.{◌≡◌, ◌+◌, ◌≤◌, None, sym, subst}
 use Rattle.std.specs.Prelude.{IfOk}
-use Rattle.unit_judge.specs.LastMoves.{last_moves}
-use Rattle.unit_judge.specs.StepUnitsStepped.{LeadsFrom}
+use Rattle.paging_units.specs.LastMoves.{last_moves}
+use Rattle.vm_core.specs.Stepped.{LeadsFrom}
 use Rattle.paged_model.specs.declared.line.Line.{Line}
 use Rattle.paged_model.specs.declared.line.Line.TheVariants as lines
-use Rattle.unit_judge.specs.Past.{PastAt}
+use Rattle.repage_check.specs.Past.{PastAt}
 use Rattle.repage_check.specs.Lines.{LineTold, units_in, GoesBy}
 use Rattle.repage_check.specs.Moves.{moves_counted}
 use Rattle.repage_check.proofs.Telling.{all_told, line_told}

@@ -6,9 +6,9 @@ use Rattle.flat_state.specs.Flat.{Inputs}
 use Rattle.flat_state.specs.Journal.{repeated}
 use Rattle.run_model.specs.State.{State}
 use Rattle.run_model.specs.Wanted.{locked}
-use Rattle.unit_judge.specs.Past.{PastAt}
+use Rattle.repage_check.specs.Past.{PastAt}
 use Rattle.repage_check.specs.Lines.{GoesBy}
-use Rattle.repage_check.proofs.Moving.{AlongMoves}
+use Rattle.repage_check.proofs.MovesJudged.{AlongMoves}
 use Rattle.repage_check.proofs.lines.judge_moves.Given as goal
 
 abbrev pub invariant-loop-done : goal.invariant-loop-done

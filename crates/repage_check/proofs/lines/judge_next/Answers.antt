@@ -1,7 +1,7 @@
 use Rattle.std.proofs.Common.{◌≤◌, ◌∷◌, [], Bool, sym, ap, ◌∙◌, subst}
-use Rattle.unit_judge.specs.StepUnitsStepped.{LeadsFrom}
-use Rattle.unit_judge.specs.declared.past.Past.{Past}
-use Rattle.unit_judge.specs.Past.{lines_next, PastAt}
+use Rattle.vm_core.specs.Stepped.{LeadsFrom}
+use Rattle.repage_check.specs.declared.past.Past.{Past}
+use Rattle.repage_check.specs.Past.{lines_next, PastAt}
 use Rattle.repage_check.specs.Lines.{past_behind, UnitsTold}
 use Rattle.repage_check.proofs.Widening.{lines_behind, wide_some, next_told, next_by, next_counted}
 use Rattle.repage_check.proofs.lines.judge_next.Goals as goal

@@ -3,8 +3,8 @@ use Rattle.std.proofs.lemmas.Result.{IfOk-weaker}
 use Rattle.vm_facts.specs.declared.entry.Entry.TheVariants as entries
 use Rattle.flat_state.specs.Journal.{append}
 use Rattle.machine_state.specs.Machine.{Standing}
-use Rattle.unit_judge.specs.Told.{GoesOnWith}
-use Rattle.unit_judge.specs.Units.{UnitTold}
+use Rattle.step_judge.specs.Told.{GoesOnWith}
+use Rattle.repage_check.specs.Units.{UnitTold}
 use Rattle.repage_check.specs.Lines.{UnitsTold, GoesBy}
 use Rattle.repage_check.proofs.Repeating.{made_by}
 use Rattle.repage_check.proofs.Widening.{wide_at, once_told, both_ok}

@@ -5,8 +5,8 @@ use Rattle.io_edge.specs.FileHolding.{NamedFile}
 use Rattle.flat_state.specs.Journal.{repeated}
 use Rattle.machine_state.specs.Files.{AreFiles}
 use Rattle.machine_state.specs.Sourced.{ImageNamed}
-use Rattle.unit_judge.specs.StepUnitsStepped.{LeadsFrom}
-use Rattle.unit_judge.specs.Past.{PastAt}
+use Rattle.vm_core.specs.Stepped.{LeadsFrom}
+use Rattle.repage_check.specs.Past.{PastAt}
 use Rattle.repage_check.specs.Lines.{UnitsTold, GoesBy}
 use Rattle.repage_check.proofs.Repeating.{none_by, more_by, ran_by}
 use Rattle.repage_check.proofs.Looping.{none_by_test, units_first, units_step, units_stop, units_end, units_some}

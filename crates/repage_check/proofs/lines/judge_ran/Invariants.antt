@@ -1,8 +1,8 @@
 use Rattle.std.proofs.Common.{◌≡◌, ◌-◌, ◌≤◌, []}
 use Rattle.vm_facts.specs.declared.entry.Entry.TheVariants as entries
 use Rattle.flat_state.specs.Journal.{repeated}
-use Rattle.unit_judge.specs.StepUnitsStepped.{AtSome, LeadsFrom}
-use Rattle.unit_judge.specs.Past.{PastAt}
+use Rattle.vm_core.specs.Stepped.{AtSome, LeadsFrom}
+use Rattle.repage_check.specs.Past.{PastAt}
 use Rattle.repage_check.specs.Lines.{GoesBy}
 use Rattle.repage_check.proofs.Along.{AlongUnits}
 use Rattle.repage_check.proofs.lines.judge_ran.Given as goal

@@ -1,6 +1,6 @@
 use Rattle.std.proofs.Common.{ℕ, List, [], ap, subst, sym}
 use Rattle.machine_state.specs.Machine.{Standing}
-use Rattle.repage_check.specs.RunStartStarting.{AreAmong}
+use Rattle.repage_check.specs.VmCoreStarting.{AreAmong}
 use Rattle.grade_command.specs.Answering.{blank_swap}
 use Rattle.grade_command.proofs.Openings.{are_sound, are_names}
 use Rattle.grade_command.proofs.Runs.{asked, opened_files}

@@ -2,7 +2,7 @@ use Rattle.std.proofs.Common.{◌≡◌, List, ◌≤◌, length, Err, map, Some
 use Rattle.vm_facts.specs.declared.entry.Entry.{Entry}
 use Rattle.io_edge.specs.FileHolding.{named_file}
 use Rattle.machine_state.specs.Machine.{Standing}
-use Rattle.vm_core.specs.RunStartStarting.{StartsFrom}
+use Rattle.vm_core.specs.FirstProcesses.{StartsFrom}
 use Rattle.vm_core.specs.RunEnds.{IsAskedOf}
 use Rattle.command_ending.specs.declared.fault.Fault.TheVariants.{JournalFull}
 use Rattle.run_command.specs.Loads.{load_first, WritesCounts}

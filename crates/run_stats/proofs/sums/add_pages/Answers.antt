@@ -1,5 +1,5 @@
 -- The owner's table has room.
-use Rattle.run_counts.specs.declared.amounts.Owner.TheVariants.{Space, Image}
+use Rattle.process_counts.specs.declared.amounts.Owner.TheVariants.{Space, Image}
 use Rattle.run_stats.proofs.sums.add_pages.Goals as goal
 
 pub add_at-requires : goal.add_at-requires

@@ -1,7 +1,7 @@
 -- Each table has one more note's amount at the process that runs.
 use Rattle.std.proofs.Common.{refl}
 use Rattle.run_stats.specs.declared.heads.PagingHead.TheVariants.{ZeroFills, FileReads, FilePages, SwapReads, SwapPages, Reclaims, Copies}
-use Rattle.run_counts.proofs.Counting.{more_of}
+use Rattle.process_counts.proofs.Counting.{more_of}
 use Rattle.run_stats.proofs.sums.add_paging.Goals as goal
 
 pub add_at-requires : goal.add_at-requires

@@ -1,8 +1,8 @@
 -- One more row.
 use Rattle.std.proofs.Common.{◌++◌, codes, ap, ◌∙◌, arith}
 use Rattle.std.specs.List.{flat_map}
-use Rattle.run_counts.specs.declared.amounts.ProcessHead.TheVariants.{Instructions}
-use Rattle.run_counts.specs.Tables.{deed_of}
+use Rattle.process_counts.specs.declared.amounts.ProcessHead.TheVariants.{Instructions}
+use Rattle.process_counts.specs.Tables.{deed_of}
 use Rattle.run_stats.specs.Table.{process_row}
 use Rattle.run_stats.proofs.Lines.{text_more, text_all, row_put}
 use Rattle.run_stats.proofs.texts.put_deeds.Goals as goal

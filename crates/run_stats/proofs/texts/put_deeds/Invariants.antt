@@ -1,7 +1,7 @@
 -- What was put so far, and the rest is left.
 use Rattle.std.proofs.Common.{◌≡◌, ◌++◌, drop}
 use Rattle.std.specs.List.{flat_map}
-use Rattle.run_counts.specs.Tables.{deed_of}
+use Rattle.process_counts.specs.Tables.{deed_of}
 use Rattle.run_stats.specs.Table.{process_row}
 use Rattle.run_stats.proofs.texts.put_deeds.Given as goal
 

@@ -1,7 +1,7 @@
 -- Its parts, one after another.
 use Rattle.std.proofs.Common.{◌++◌, subst, sym}
 use Rattle.std.specs.List.{flat_map}
-use Rattle.run_counts.specs.Tables.{deed_of}
+use Rattle.process_counts.specs.Tables.{deed_of}
 use Rattle.run_stats.specs.Sums.{sum_in}
 use Rattle.run_stats.specs.Ends.{IsEnding}
 use Rattle.run_stats.specs.Rows.{process_heads, paging_heads, ended_row}

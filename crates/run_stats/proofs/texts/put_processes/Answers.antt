@@ -1,5 +1,5 @@
 -- One more.
-use Rattle.run_counts.specs.Tables.{deed_of}
+use Rattle.process_counts.specs.Tables.{deed_of}
 use Rattle.run_stats.specs.Sums.{sum_in}
 use Rattle.run_stats.specs.Table.{process_rows}
 use Rattle.run_stats.proofs.Lines.{lines_none, lines_more}

@@ -1,6 +1,6 @@
 -- The rows so far stand after the old text.
 use Rattle.std.proofs.Common.{◌≡◌, ◌++◌}
-use Rattle.run_counts.specs.Tables.{deed_of}
+use Rattle.process_counts.specs.Tables.{deed_of}
 use Rattle.run_stats.specs.Sums.{sum_in}
 use Rattle.run_stats.specs.Table.{lines_to, process_rows}
 use Rattle.run_stats.proofs.texts.put_processes.Given as goal

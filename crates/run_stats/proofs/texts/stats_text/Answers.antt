@@ -1,6 +1,6 @@
 -- What is counted is what is noted.
 use Rattle.std.proofs.Common.{List, sym, subst}
-use Rattle.run_counts.specs.Tables.{deed_of}
+use Rattle.process_counts.specs.Tables.{deed_of}
 use Rattle.run_stats.specs.declared.ends.Ending.{Ending}
 use Rattle.run_stats.specs.Ends.{ending_at, IsEnding}
 use Rattle.run_stats.proofs.Lines.{ok_same}

@@ -1,10 +1,10 @@
 use Rattle.std.proofs.Common.{◌≡◌, ◌+◌, ◌<◌, ◌≤◌, false, true, length, None, Some, sym, ◌∙◌, arith}
 use Rattle.flat_state.specs.Journal.{instructions_of}
 use Rattle.machine_state.specs.Files.{AreFiles}
-use Rattle.steady_laws.specs.Callers.{regs_of}
-use Rattle.steady_laws.specs.LastMoves.{last_moves}
-use Rattle.steady_laws.specs.Ready.{Continues}
-use Rattle.steady_laws.proofs.Journals.{last_counts_few}
+use Rattle.step_units.specs.Callers.{regs_of}
+use Rattle.step_units.specs.LastMoves.{last_moves}
+use Rattle.step_units.specs.Ready.{Continues}
+use Rattle.step_units.proofs.Journals.{last_counts_few}
 use Rattle.proc_run.specs.Runs.{IsSteady}
 use Rattle.proc_run.proofs.Attempts.{RoomOnly, room_kernel, room_lends}
 use Rattle.proc_run.proofs.Tried.{journal_same, lends_still, ran_goes_on}

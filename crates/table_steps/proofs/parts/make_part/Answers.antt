@@ -1,6 +1,6 @@
 use Rattle.std.proofs.Common.{subst}
 use Rattle.page_model.specs.Placement.{Placement}
-use Rattle.hand_parts.specs.Parts.{WriteComes, PartComes}
+use Rattle.kernel_model.specs.HandParts.{WriteComes, PartComes}
 use Rattle.kernel_tables.specs.Machine.{lists_of}
 use Rattle.kernel_tables.specs.View.{placement_of}
 use Rattle.table_steps.proofs.Parting.{write_may}

@@ -2,9 +2,9 @@ use Rattle.std.proofs.Common.{◌∙◌, subst, refl, arith, None}
 use Rattle.vm_core.proofs.Noting.{stops_on}
 use Rattle.vm_core.proofs.Closings.{closing_starts, closing_on, closing_stops, closing_ends}
 use Rattle.machine_state.proofs.Transfers.{transfers_none, transfers_then}
-use Rattle.run_start.specs.Sizes.{KeptAtStop}
-use Rattle.run_start.specs.Stepped.{LeadsFrom, StopsFrom}
-use Rattle.run_start.proofs.StopsKeep.{kept_through}
+use Rattle.step_units.specs.Sizes.{KeptAtStop}
+use Rattle.step_units.specs.Stepped.{LeadsFrom, StopsFrom}
+use Rattle.step_units.proofs.StopsKeep.{kept_through}
 use Rattle.vm_core.proofs.closing.close.Goals as goal
 use Rattle.vm_core.specs.Closing.{DueTurn, TurnHad, LinesAre}
 

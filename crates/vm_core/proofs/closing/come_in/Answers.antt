@@ -4,9 +4,9 @@ use Rattle.vm_core.proofs.Noting.{stops_on}
 use Rattle.vm_core.proofs.Steadying.{in_steady}
 use Rattle.vm_core.proofs.Outs.{held_in}
 use Rattle.vm_core.proofs.Turns.{in_already, in_comes, in_stops}
-use Rattle.run_start.specs.Sizes.{KeptAtStop}
-use Rattle.run_start.specs.Stepped.{StopsFrom}
-use Rattle.run_start.proofs.StopsKeep.{kept_at}
+use Rattle.step_units.specs.Sizes.{KeptAtStop}
+use Rattle.step_units.specs.Stepped.{StopsFrom}
+use Rattle.step_units.proofs.StopsKeep.{kept_at}
 use Rattle.vm_core.proofs.closing.come_in.Goals as goal
 use Rattle.vm_core.specs.Closing.{TurnAt}
 

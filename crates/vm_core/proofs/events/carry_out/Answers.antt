@@ -1,6 +1,6 @@
 use Rattle.vm_facts.specs.declared.event.Event.{Event}
 use Rattle.vm_facts.specs.declared.event.Event.TheVariants as events
-use Rattle.run_start.specs.Stepped.{LeadsFrom}
+use Rattle.step_units.specs.Stepped.{LeadsFrom}
 use Rattle.std.proofs.Common.{sym, subst}
 use Rattle.vm_core.proofs.Taking.{makes_carries}
 use Rattle.vm_core.proofs.events.carry_out.Goals as goal

@@ -1,6 +1,6 @@
 use Rattle.std.proofs.lemmas.Result.{on_ok_weaker}
 use Rattle.journal_laws.specs.Stops.{StopsBefore}
-use Rattle.run_start.specs.Sizes.{KeptAtStop}
+use Rattle.step_units.specs.Sizes.{KeptAtStop}
 use Rattle.vm_core.proofs.Kept.{kept_noting}
 use Rattle.vm_core.proofs.Noting.{stops_noting, stops_weaker}
 use Rattle.vm_core.proofs.Steadying.{noted_first, noted_steady}

@@ -1,5 +1,5 @@
 use Rattle.std.proofs.Common.{true}
-use Rattle.run_start.specs.Stepped.{LeadsFrom, StopsFrom}
+use Rattle.step_units.specs.Stepped.{LeadsFrom, StopsFrom}
 use Rattle.vm_core.proofs.Noting.{ok_weaker, stops_weaker}
 use Rattle.vm_core.proofs.Dispatching.{finish_done, finish_stops}
 use Rattle.vm_core.proofs.running.finish.Goals as goal

@@ -1,9 +1,9 @@
 use Rattle.std.proofs.Common.{length, subst}
 use Rattle.vm_core.proofs.Going.{limit_finishes, closing_finishes, closing_stops}
 use Rattle.vm_core.proofs.Noting.{stops_on, stops_weaker, ok_so}
-use Rattle.run_start.specs.Sizes.{KeptAtStop}
-use Rattle.run_start.specs.Stepped.{LeadsFrom, StopsFrom}
-use Rattle.run_start.proofs.StopsKeep.{kept_through}
+use Rattle.step_units.specs.Sizes.{KeptAtStop}
+use Rattle.step_units.specs.Stepped.{LeadsFrom, StopsFrom}
+use Rattle.step_units.proofs.StopsKeep.{kept_through}
 use Rattle.vm_core.proofs.schedule.finish.Goals as goal
 use Rattle.vm_core.specs.Closing.{AllTaken, Closed}
 use Rattle.vm_core.specs.Schedules.{IsBeforeLines, LinesWent, LinesFinished}

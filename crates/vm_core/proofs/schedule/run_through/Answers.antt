@@ -1,9 +1,9 @@
 use Rattle.std.proofs.Common.{◌≡◌, Result, Ok, Err, ap, ◌∙◌, subst, arith}
-use Rattle.run_start.specs.declared.starting.Started.{Started}
-use Rattle.run_start.specs.Stepped.{LeadsFrom, StopsFrom}
+use Rattle.vm_core.specs.declared.first_processes.Started.{Started}
+use Rattle.step_units.specs.Stepped.{LeadsFrom, StopsFrom}
 use Rattle.vm_facts.specs.declared.stop.Stop.{Stop}
 use Rattle.vm_facts.specs.declared.stop.Stop.TheVariants as stops
-use Rattle.run_start.proofs.StopsKeep.{kept_through}
+use Rattle.step_units.proofs.StopsKeep.{kept_through}
 use Rattle.vm_core.specs.Full.{RunFull, RunStopsAt}
 use Rattle.vm_core.specs.RunEnds.{RunEnds}
 use Rattle.vm_core.specs.declared.schedule.Unfinished.TheVariants.{Stopped}

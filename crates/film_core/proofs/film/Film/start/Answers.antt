@@ -2,11 +2,11 @@ use Rattle.std.proofs.Common.{◌≡◌, Ok, Err, Result, sym, ap, ◌∙◌, su
 use Rattle.std.specs.Prelude.{IfErr}
 use Rattle.vm_facts.specs.declared.stop.Stop.{Stop}
 use Rattle.vm_facts.specs.declared.stop.Stop.TheVariants as stops
-use Rattle.run_start.specs.Leading.{IsTold, StartStops}
-use Rattle.run_start.specs.Sizes.{KeptAtStop}
-use Rattle.run_start.specs.Starting.{HasStarted}
-use Rattle.run_start.specs.declared.starting.Started.{Started}
-use Rattle.run_start.specs.declared.starting.Started.TheVariants as starteds
+use Rattle.vm_core.specs.Leading.{IsTold, StartStops}
+use Rattle.step_units.specs.Sizes.{KeptAtStop}
+use Rattle.vm_core.specs.FirstProcesses.{HasStarted}
+use Rattle.vm_core.specs.declared.first_processes.Started.{Started}
+use Rattle.vm_core.specs.declared.first_processes.Started.TheVariants as starteds
 use Rattle.vm_core.specs.Starting.{StopsStartingRun}
 use Rattle.vm_core.proofs.Starts.{stops_starting}
 use Rattle.film_core.specs.Films.{Filming}

@@ -1,5 +1,5 @@
 use Rattle.std.proofs.Common.{refl, sym, ap, ◌∙◌, subst, None, rules}
-use Rattle.hand_parts.specs.Parts.{PartComes, part_step}
+use Rattle.kernel_model.specs.HandParts.{PartComes, part_step}
 use Rattle.kernel_model.specs.Kernel.{Kernel}
 use Rattle.table_steps.specs.View.{placement_of}
 use Rattle.table_steps.specs.Machine.{Standing, lists_of, kernel_by}

@@ -1,6 +1,0 @@
-use Rattle.std.proofs.Common.{◌≡◌, drop}
-use Rattle.dry_run.specs.Slots.{byte_in}
-use Rattle.dry_run.proofs.slots.byte_in.Given as goal
-
-abbrev pub invariant-loop-slot : goal.invariant-loop-slot
-invariant-loop-slot l = byte_in l.slots l.address ≡ byte_in (drop l.slot-index l.slots) l.address

@@ -1,7 +1,0 @@
-use Rattle.std.proofs.Common.{◌≡◌, ◌++◌, map, take, drop}
-use Rattle.dry_run.specs.Slots.{stored}
-use Rattle.dry_run.proofs.slots.store_each.Given as goal
-
-abbrev pub invariant-loop-slot : goal.invariant-loop-slot
-invariant-loop-slot l =
-    l.slot-items ≡ map (stored (record { address = l.address; byte = l.byte })) (take l.slot-index l.fn.slots.items) ++ drop l.slot-index l.fn.slots.items

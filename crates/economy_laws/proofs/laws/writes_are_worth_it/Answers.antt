@@ -1,5 +1,0 @@
-use Rattle.economy_laws.proofs.Writes.{writes_worth}
-use Rattle.economy_laws.proofs.laws.writes_are_worth_it.Goals as goal
-
-pub returns : goal.returns
-returns c = writes_worth

@@ -1,5 +1,0 @@
-use Rattle.fault_laws.proofs.Copied.{copies_matter}
-use Rattle.fault_laws.proofs.laws.copies_count.Goals as goal
-
-pub returns : goal.returns
-returns c = copies_matter

@@ -1,9 +1,0 @@
-pub mod Counting
-pub mod Turned
-pub mod Resting
-pub mod Spending
-pub mod Awake
-pub mod Sleeping
-pub mod Turns
-pub mod Copying
-pub mod Totals

@@ -1,3 +1,0 @@
-pub use Rattle.flat_laws.specs.Others
-pub mod Visible
-pub mod Agreement

@@ -1,4 +1,0 @@
-pub mod Leaves
-pub mod Machines
-pub mod Moves
-pub mod OtherHands

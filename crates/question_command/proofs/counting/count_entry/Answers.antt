@@ -1,0 +1,49 @@
+use Rattle.std.proofs.Common.{List, Option, sym, ap, subst, arith}
+use Rattle.vm_facts.specs.declared.params.Params.{Params}
+use Rattle.io_edge.specs.FileHolding.{NamedFile}
+use Rattle.machine_state.specs.Files.{AreFiles}
+use Rattle.question_command.proofs.Steps.{filming_on, longer_by_one}
+use Rattle.question_command.proofs.Noting.{counted_more}
+use Rattle.reference_commands.proofs.Runs.{on_ok_always, on_ok_so}
+use Rattle.question_command.proofs.counting.count_entry.Goals as goal
+
+pub look_at_film-before-requires : goal.look_at_film-before-requires
+look_at_film-before-requires g c = record { running = c.requires.filming.at.ready.running }
+
+pub note_last-requires : goal.note_last-requires
+note_last-requires g c =
+    let was = c.requires.filming in
+    record { running = (c.in-Ok.ensures.goes was.inputs was.state was.image was.are was.at).at.ready.running }
+
+pub returns-in-Ok-clause-filming : goal.returns-in-Ok-clause-filming
+returns-in-Ok-clause-filming g c =
+    on_ok_always c.note_last.result _
+    (filming_on c.args.film.now c.go_on.new.self c.args.lines.now (g.F.Files.holds c.args.files.now) (g.F.Files.holds c.go_on.new.files) (g.D.SwapDev.image c.args.swap.now)
+    (g.D.SwapDev.image c.go_on.new.swap)
+    c.go_on.ensures.outside.files.holds c.requires.filming c.in-Ok.ensures.goes)
+
+pub returns-in-Ok-clause-counts : goal.returns-in-Ok-clause-counts
+returns-in-Ok-clause-counts g c =
+    on_ok_so c.note_last.result _ _
+    (λ put A first are counted. counted_more A c.args.film.now c.go_on.new.self c.args.lines.now (g.F.Files.holds c.args.files.now) (g.F.Files.holds c.go_on.new.files)
+    (g.D.SwapDev.image c.args.swap.now)
+    (g.D.SwapDev.image c.go_on.new.swap) first c.look_at_film-before.result c.args.notes.now.items c.note_last.new.notes.items c.go_on.ensures.outside.files.holds are c.in-Ok.ensures.goes
+    c.look_at_film-before.ensures put counted)
+    c.note_last.ensures
+
+pub returns-in-Ok-clause-longer : goal.returns-in-Ok-clause-longer
+returns-in-Ok-clause-longer g c =
+    on_ok_always c.note_last.result _
+    (longer_by_one c.args.film.now c.go_on.new.self c.args.lines.now (g.F.Files.holds c.args.files.now) (g.D.SwapDev.image c.args.swap.now)
+    (g.D.SwapDev.image c.go_on.new.swap) c.requires.filming c.in-Ok.ensures.goes)
+
+pub returns-in-Ok-clause-area : goal.returns-in-Ok-clause-area
+returns-in-Ok-clause-area g c =
+    on_ok_always c.note_last.result _
+    (let blocks = ap (λ (p : Params). p.swap_blocks) c.in-Ok.ensures.params in let same = c.go_on.ensures.outside.swap.blocks in let area = c.requires.area in omega (arith, blocks, same, area))
+
+pub returns-in-Ok-clause-files : goal.returns-in-Ok-clause-files
+returns-in-Ok-clause-files g c =
+    on_ok_always c.note_last.result _
+    (subst (λ (h : Option (List NamedFile)). AreFiles c.go_on.new.self.machine.images h) (sym c.go_on.ensures.outside.files.holds)
+    (subst (λ images. AreFiles images (g.F.Files.holds c.args.files.now)) (sym c.in-Ok.ensures.images) c.requires.files))

@@ -1,0 +1,22 @@
+-- The film stands at a state of the run, and all entries so far are noted.
+use Rattle.std.proofs.Common.{◌≡◌, ◌≤◌, ◌-◌, ℕ, List, length}
+use Rattle.vm_facts.specs.SwapImages.{SwapImage}
+use Rattle.flat_state.specs.Flat.{Inputs}
+use Rattle.machine_state.specs.Files.{AreFiles}
+use Rattle.reference_commands.specs.Machines.{journal_entries}
+use Rattle.film_core.specs.Films.{IsFilming, FilmBegun}
+use Rattle.question_command.specs.Counted.{look_at_film, Counted}
+use Rattle.question_command.proofs.counting.count_on.Given as goal
+
+abbrev pub invariant-loop-film : goal.invariant-loop-film
+invariant-loop-film g l = record {
+  filming : IsFilming l.film l.lines (g.F.Files.holds l.files) (g.D.SwapDev.image l.swap);
+  so_far : (A : Inputs) (image : SwapImage) → A.lines ≡ l.lines → FilmBegun A l.fn.film (g.F.Files.holds l.fn.files) (g.D.SwapDev.image l.fn.swap) image
+      → Counted A l.film (g.F.Files.holds l.files) (g.D.SwapDev.image l.swap) (look_at_film l.fn.film) l.notes.items;
+  within : length l.film.machine.kernel.journal ≤ journal_entries;
+  area : l.film.machine.params.swap_blocks ≤ g.D.SwapDev.blocks l.swap;
+  files : AreFiles l.film.machine.images (g.F.Files.holds l.files);
+}
+
+abbrev pub decreases-loop-film : goal.decreases-loop-film
+decreases-loop-film g l = journal_entries - length l.film.machine.kernel.journal

@@ -1,0 +1,31 @@
+use Rattle.std.proofs.Common.{List, Option, sym, ap, subst, arith}
+use Rattle.vm_facts.specs.declared.params.Params.{Params}
+use Rattle.io_edge.specs.FileHolding.{NamedFile}
+use Rattle.machine_state.specs.Files.{AreFiles}
+use Rattle.question_command.proofs.Steps.{filming_on, state_on, longer_by_one}
+use Rattle.question_command.proofs.ending.go_on_once.Goals as goal
+
+pub returns-in-Ok-clause-filming : goal.returns-in-Ok-clause-filming
+returns-in-Ok-clause-filming g c =
+    filming_on c.args.film.now c.go_on.new.self c.args.lines.now (g.F.Files.holds c.args.files.now) (g.F.Files.holds c.go_on.new.files) (g.D.SwapDev.image c.args.swap.now)
+    (g.D.SwapDev.image c.go_on.new.swap)
+    c.go_on.ensures.outside.files.holds c.requires.filming c.in-Ok.ensures.goes
+
+pub returns-in-Ok-clause-goes : goal.returns-in-Ok-clause-goes
+returns-in-Ok-clause-goes g c = λ A are was.
+    state_on A c.args.film.now c.go_on.new.self c.args.lines.now (g.F.Files.holds c.args.files.now) (g.F.Files.holds c.go_on.new.files)
+    (g.D.SwapDev.image c.args.swap.now) (g.D.SwapDev.image c.go_on.new.swap) c.go_on.ensures.outside.files.holds are c.in-Ok.ensures.goes was
+
+pub returns-in-Ok-clause-longer : goal.returns-in-Ok-clause-longer
+returns-in-Ok-clause-longer g c =
+    longer_by_one c.args.film.now c.go_on.new.self c.args.lines.now (g.F.Files.holds c.args.files.now) (g.D.SwapDev.image c.args.swap.now)
+    (g.D.SwapDev.image c.go_on.new.swap) c.requires.filming c.in-Ok.ensures.goes
+
+pub returns-in-Ok-clause-area : goal.returns-in-Ok-clause-area
+returns-in-Ok-clause-area g c =
+    let blocks = ap (λ (p : Params). p.swap_blocks) c.in-Ok.ensures.params in let same = c.go_on.ensures.outside.swap.blocks in let area = c.requires.area in omega (arith, blocks, same, area)
+
+pub returns-in-Ok-clause-files : goal.returns-in-Ok-clause-files
+returns-in-Ok-clause-files g c =
+    subst (λ (h : Option (List NamedFile)). AreFiles c.go_on.new.self.machine.images h) (sym c.go_on.ensures.outside.files.holds)
+    (subst (λ images. AreFiles images (g.F.Files.holds c.args.files.now)) (sym c.in-Ok.ensures.images) c.requires.files)

@@ -1,4 +1,0 @@
-mod Explained
-mod Joining
-mod Numerals
-mod Refusals

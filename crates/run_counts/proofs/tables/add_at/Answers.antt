@@ -1,4 +1,0 @@
--- Nothing is added, or one count is written anew.
-use Rattle.std.proofs.Common.{◌≡◌, ℕ, ◌+◌, ◌<◌, arith}
-use Rattle.run_counts.proofs.Counting.{none_added, added, grown}
-use Rattle.run_counts.proofs.tables.add_at.Goals as goal

@@ -1,4 +1,0 @@
-pub mod Files
-pub mod Asking
-pub mod Texts
-pub mod Replays

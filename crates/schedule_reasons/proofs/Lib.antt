@@ -1,4 +1,0 @@
-mod Lacking
-mod Joining
-mod Numerals
-mod Refusals

@@ -1,5 +1,0 @@
-use Rattle.std.proofs.Common.{length}
-use Rattle.schedule_reasons.proofs.reasons.+why_numbers.Given as goal
-
-abbrev pub decreases-why_numbers : goal.decreases-why_numbers
-decreases-why_numbers l = length l.arguments.now

@@ -1,3 +1,0 @@
-pub mod Spanning
-pub mod Forcing
-pub mod Serving

@@ -1,8 +1,0 @@
-use Rattle.span_laws.proofs.Spanning.{units_added, added_apart}
-use Rattle.span_laws.proofs.laws.entries_added.Goals as goal
-
-pub returns-clause-journal : goal.returns-clause-journal
-returns-clause-journal c = units_added
-
-pub returns-clause-apart : goal.returns-clause-apart
-returns-clause-apart c = added_apart

@@ -1,2 +1,0 @@
-pub mod Cuts
-mod LineNumbers

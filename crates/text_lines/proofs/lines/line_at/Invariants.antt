@@ -1,7 +1,0 @@
--- So many lines are left behind.
-use Rattle.std.proofs.Common.{◌≡◌, drop}
-use Rattle.run_text.specs.Lines.{lines_in}
-use Rattle.text_lines.proofs.lines.line_at.Given as goal
-
-abbrev pub invariant-loop-past : goal.invariant-loop-past
-invariant-loop-past l = lines_in l.rest ≡ drop l._past (lines_in l.bytes)

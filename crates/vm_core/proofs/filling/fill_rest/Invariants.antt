@@ -1,0 +1,19 @@
+use Rattle.std.proofs.Common.{◌≤◌, length, None}
+use Rattle.machine_state.specs.Files.{AreFiles}
+use Rattle.machine_state.specs.Going.{CanGoOn}
+use Rattle.machine_state.specs.Outside.{TransfersPages}
+use Rattle.vm_core.proofs.Filled.{FilledSoFar}
+use Rattle.vm_core.proofs.filling.fill_rest.Given as goal
+
+-- what was filled so far, and what the next fill asks of the outside
+abbrev pub invariant-loop-page : goal.invariant-loop-page
+invariant-loop-page g l = record {
+  so_far : FilledSoFar l.fn.m l.m (g.F.Files.holds l.fn.files) (g.F.Files.holds l.files) (g.D.SwapDev.image l.fn.swap) (g.D.SwapDev.image l.swap);
+  ready : CanGoOn l.m;
+  area : l.m.params.swap_blocks ≤ g.D.SwapDev.blocks l.swap;
+  files : AreFiles l.m.images (g.F.Files.holds l.files);
+  outside : TransfersPages g.F.Files g.D.SwapDev None l.fn.files l.files l.fn.swap l.swap;
+}
+
+abbrev pub decreases-loop-page : goal.decreases-loop-page
+decreases-loop-page g l = length l.m.kernel.place.due

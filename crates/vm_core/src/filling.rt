@@ -1,0 +1,70 @@
+//! What is due is filled in turn.
+ghost use Rattle.std.specs.Prelude.{◌≤◌, ◌∷◌, [], length, OnOk, IfErr, MatchResult};
+ghost use Rattle.vm_facts.specs.declared.page.Page.{Page as AnyPage};
+ghost use Rattle.page_model.specs.Rank.{HasRoom};
+ghost use Rattle.machine_state.specs.Going.{CanGoOn};
+ghost use Rattle.machine_state.specs.Files.{AreFiles};
+ghost use Rattle.machine_state.specs.Outside.{stop_of, TransfersPages};
+ghost use Rattle.step_units.specs.LastMoves.{last_moves};
+ghost use Rattle.step_units.specs.Ready.{Continues};
+ghost use Rattle.step_units.specs.Sizes.{KeptAtStop};
+ghost use Rattle.step_units.specs.Stepped.{LeadsFrom, StopsFrom};
+ghost use Rattle.vm_core.specs.Filling.{due_of, IsDueFirst, FillsDue, StopsDue};
+ghost use Rattle.vm_core.specs.Leading.{ToldAt, FillsLead};
+
+use io_edge::{Files, SwapDev};
+use machine_state::Machine;
+use step_units::proc_calls::{copy_page, fill_start};
+use vm_facts::{Page, Stop};
+
+// What is due first is filled: a new stack page with its bytes, while nothing is locked, or a child's page by a copy of its
+// parent's, while that is locked.
+fn fill_first<F: Files, D: SwapDev>(
+    m: &mut Machine,
+    files: &mut F,
+    swap: &mut D,
+    page: Page,
+    parent: Option<Page>,
+) -> Result<(), Stop>
+    requires ready { CanGoOn m.old }
+    requires area { m.old.params.swap_blocks ≤ D.blocks swap.old }
+    requires files { AreFiles m.old.images (F.holds files.old) }
+    requires first { IsDueFirst m.old.kernel.place (due_of page parent) }
+    requires room { (q : AnyPage) → HasRoom m.old.kernel.place (q ∷ []) }
+    requires low { last_moves m.old.kernel.journal ≤ 1000000 }
+    ensures filled { MatchResult result (λ u. FillsDue (due_of page parent) m.old m.new (F.holds files.old) (D.image swap.old) (D.image swap.new))
+        (StopsDue (due_of page parent) m.old m.new (F.holds files.old) (D.image swap.old) (D.image swap.new)) }
+    ensures outside { TransfersPages F.Files D.SwapDev (stop_of result) files.old files.new swap.old swap.new }
+    ensures goes_on { OnOk result (CanGoOn m.new) }
+{
+    match parent {
+        Some(parent) => copy_page(m, files, swap, page, parent),
+        None => fill_start(m, files, swap, page),
+    }
+}
+
+/// Whatever is due is filled, one page after another: what is left of a fork's copies, the new stack page of an execve, or those
+/// of the start of a run. Nothing else of the run changes but pages and journal.
+pub fn fill_rest<F: Files, D: SwapDev>(
+    m: &mut Machine,
+    files: &mut F,
+    swap: &mut D,
+) -> Result<(), Stop>
+    requires ready { CanGoOn m.old }
+    requires frames { 64 ≤ length m.old.kernel.place.holds }
+    requires low { last_moves m.old.kernel.journal ≤ 1000000 }
+    requires area { m.old.params.swap_blocks ≤ D.blocks swap.old }
+    requires files { AreFiles m.old.images (F.holds files.old) }
+    ensures leads { OnOk result
+        (LeadsFrom (ToldAt m.old (F.holds files.old) (D.image swap.old)) (FillsLead m.old m.new (F.holds files.old) (D.image swap.new))) }
+    ensures stops { IfErr result (StopsFrom (ToldAt m.old (F.holds files.old) (D.image swap.old)) m.old m.new (D.image swap.new)) }
+    ensures continues { OnOk result (Continues m.old m.new 0) }
+    ensures kept { IfErr result (KeptAtStop m.old m.new) }
+    ensures outside { TransfersPages F.Files D.SwapDev (stop_of result) files.old files.new swap.old swap.new }
+    ensures goes_on { OnOk result (CanGoOn m.new) }
+{
+    while let Some((page, parent)) = m.due_at(0) {
+        fill_first(m, files, swap, page, parent)?;
+    }
+    Ok(())
+}
