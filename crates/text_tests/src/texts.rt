@@ -1,6 +1,5 @@
 // Schedules and transcripts that are read, and journals that are written: that the lines are those of the table of entries.
 use crate::checks::{are, is};
-use crate::fixtures::interrupts;
 use io_edge::{MemSink, Moved};
 use run_text::{Schedule, Transcript, read_schedule, read_transcript, write_entry, write_text};
 use std::alloc::{AllocError, Global};
@@ -177,6 +176,11 @@ fn the_first_bad_line_of_a_schedule_is_told(rt: HostRuntime) {
         &bad,
         &[None, Some(2), Some(2), Some(1), Some(1), Some(2)],
     );
+}
+
+// A schedule of so many interrupts.
+fn interrupts(rt: &impl Abort, alloc: Global, count: usize) -> Vec<u8> {
+    b"i\n".repeat(alloc, count).expect(rt, "memory for lines")
 }
 
 // Of as many lines as a schedule may have, and of one more.

@@ -1,5 +1,5 @@
 // Why the first bad lines of a few schedules are bad.
-use crate::fixtures::{interrupts, mem_files, says, says_nothing};
+use crate::fixtures::{mem_files, says, says_nothing};
 use line_reasons::explain_schedule;
 use std::alloc::Global;
 use std::process::Abort;
@@ -45,6 +45,11 @@ fn a_bad_line_has_its_first_reason(rt: HostRuntime) {
         let told = told_of(&rt, rt.alloc(), bytes);
         says(&rt, told, b"vmrun: s line ", reason);
     }
+}
+
+// A schedule of so many interrupts.
+fn interrupts(rt: &impl Abort, alloc: Global, count: usize) -> Vec<u8> {
+    b"i\n".repeat(alloc, count).expect(rt, "memory for lines")
 }
 
 #[test]

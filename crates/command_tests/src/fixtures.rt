@@ -16,11 +16,6 @@ pub fn mem_files(rt: &impl Abort, alloc: Global, held: &[(&str, &[u8])], fail: &
     MemFiles::new(files, fail)
 }
 
-/// A schedule of so many interrupts.
-pub fn interrupts(rt: &impl Abort, alloc: Global, count: usize) -> Vec<u8> {
-    b"i\n".repeat(alloc, count).expect(rt, "memory for lines")
-}
-
 // What the line that was told says after these words; `None` where none was, where it has others, and where it doesn't end.
 fn said_after<'a>(told: Option<&'a [u8]>, words: &[u8]) -> Option<&'a [u8]> {
     told?.strip_prefix(words)?.strip_suffix(b"\n".as_slice())
