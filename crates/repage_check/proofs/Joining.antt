@@ -124,7 +124,7 @@ all_hands : (n : ℕ) (js : List Entry) (r : EndsHands js) → (m : ℕ) × (app
 all_hands zero js r = (r.count, r.same)
 all_hands (suc n) js r = all_hands n (append js (entries.Hands 1)) (record { front = r.front; count = r.count + 1; same = more_hands js r })
 
-hands_long : (js : List Entry) (n : ℕ) → length (appended js (repeated (entries.Hands 1) n [])) ≤ length js + 1
+pub hands_long : (js : List Entry) (n : ℕ) → length (appended js (repeated (entries.Hands 1) n [])) ≤ length js + 1
 hands_long js zero = omega arith
 hands_long js (suc n) =
     let r : EndsHands (append js (entries.Hands 1)) = ends_hands js in
@@ -154,9 +154,6 @@ pub ran_so_far : (js : List Entry) (pid n : ℕ) → (length (appended js (repea
     × (last_moves (appended js (repeated (entries.Ran pid 1) n [])) ≤ last_moves js)
 ran_so_far js pid zero = (ran_long js pid zero, omega arith)
 ran_so_far js pid (suc n) = (ran_long js pid (suc n), let e = ran_moves js pid n in omega (arith, e))
-
-pub hands_so_far : (js : List Entry) (n : ℕ) → length (appended js (repeated (entries.Hands 1) n [])) ≤ length js + 1
-hands_so_far js n = hands_long js n
 
 -- The units of an entry.
 

@@ -20,7 +20,7 @@ use Rattle.repage_check.specs.Past.{PastAt}
 use Rattle.repage_check.specs.Units.{StandsPast}
 use Rattle.repage_check.specs.Lines.{GoesBy}
 use Rattle.run_laws.proofs.LongerJournals.{units_long}
-use Rattle.repage_check.proofs.Joining.{repeated_last, ran_so_far, hands_so_far, hands_moves}
+use Rattle.repage_check.proofs.Joining.{repeated_last, ran_so_far, hands_long, hands_moves}
 
 pub none_by : (m : Standing) → CanGoOn m → m.params.journal ≤ length m.kernel.journal + 1 → GoesBy [] m m
 none_by m ready wide = record { ready = ready; images = refl; blocks = refl; wide = wide; journal = refl }
@@ -43,7 +43,7 @@ pub hands_by : (n : ℕ) (a b : Standing) → GoesBy (repeated (entries.Hands 1)
     → (length b.kernel.journal ≤ length a.kernel.journal + 1) × (last_moves b.kernel.journal ≤ last_moves a.kernel.journal + n)
 hands_by n a b x =
     subst (λ (js : List Entry). (length js ≤ length a.kernel.journal + 1) × (last_moves js ≤ last_moves a.kernel.journal + n)) (sym x.journal)
-    (hands_so_far a.kernel.journal n, hands_moves n a.kernel.journal)
+    (hands_long a.kernel.journal n, hands_moves n a.kernel.journal)
 
 -- Once a unit was made with room for one entry more.
 

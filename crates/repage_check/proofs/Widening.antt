@@ -1,5 +1,5 @@
 -- One unit, judged by a machine whose journal was given room for one entry more.
-use Rattle.std.proofs.Common.{◌≡◌, ◌⊎◌, ℕ, ◌+◌, ◌≤◌, Bool, List, [], ◌∷◌, length, Option, Some, None, Result, Ok, Err, refl, sym, ◌∙◌, subst, arith}
+use Rattle.std.proofs.Common.{◌≡◌, ◌⊎◌, ℕ, ◌+◌, ◌≤◌, Bool, List, [], ◌∷◌, length, Option, Some, None, Result, Ok, Err, sym, ◌∙◌, subst, arith}
 use Rattle.std.specs.Prelude.{IfOk}
 use Rattle.vm_facts.specs.SwapImages.{SwapImage}
 use Rattle.vm_facts.specs.declared.entry.Entry.{Entry}
@@ -13,10 +13,9 @@ use Rattle.vm_core.specs.Stepped.{AtSome, LeadsFrom}
 use Rattle.step_judge.specs.At.{JudgedAt}
 use Rattle.step_judge.specs.Told.{GoesOnWith}
 use Rattle.paged_model.specs.declared.reason.Reason.{Reason}
-use Rattle.vm_core.specs.Begun.{Begun}
 use Rattle.repage_check.specs.declared.past.Past.{Past}
 use Rattle.repage_check.specs.Past.{lines_next, turn_out, past_next, PastAt}
-use Rattle.repage_check.specs.Units.{UnitTold, begun_reason}
+use Rattle.repage_check.specs.Units.{UnitTold}
 use Rattle.repage_check.specs.Lines.{past_behind, UnitsTold, GoesBy}
 use Rattle.repage_check.proofs.Along.{one_told, units_begun, units_over}
 use Rattle.repage_check.proofs.Counting.{still_few}
@@ -28,10 +27,6 @@ pub lines_behind : (reason : Option Reason) (out : Bool) (p : Past) (u : Entry) 
 lines_behind None out p u = omega arith
 lines_behind (Some r) out p (entries.Event line) = omega arith
 lines_behind (Some r) out p u = omega arith
-
-pub not_begun : (b : Option Begun) → begun_reason b ≡ None → b ≡ None
-not_begun None e = refl
-not_begun (Some b) e = absurd cc
 
 -- the machine with room for one entry more
 abbrev widened : Standing → Standing

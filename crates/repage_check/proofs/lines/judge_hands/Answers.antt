@@ -3,7 +3,8 @@ use Rattle.vm_facts.specs.declared.entry.Entry.TheVariants as entries
 use Rattle.machine_state.specs.Machine.{Standing}
 use Rattle.repage_check.specs.Past.{PastAt}
 use Rattle.repage_check.proofs.MovesJudged.{moves_begun_step}
-use Rattle.repage_check.proofs.Widening.{not_begun, none_told}
+use Rattle.repage_check.proofs.Told.{none_begun}
+use Rattle.repage_check.proofs.Widening.{none_told}
 use Rattle.repage_check.proofs.lines.judge_hands.Goals as goal
 
 pub returns-then-times-eq0-clause-told : goal.returns-then-times-eq0-clause-told
@@ -16,7 +17,7 @@ returns-in-Some-clause-told c = λ holds i A s image at.
     moves_begun_step c.args.times c.in-Some.reason c.args.past c.args.m.now holds i A s image some (sym c.begun_reason.ensures ∙ c.in-Some.is) at
 
 pub locked_pages-requires-clause-none : goal.locked_pages-requires-clause-none
-locked_pages-requires-clause-none c = not_begun c.args.past.begun (sym c.begun_reason.ensures ∙ c.in-None.is)
+locked_pages-requires-clause-none c = none_begun c.args.past.begun (sym c.begun_reason.ensures ∙ c.in-None.is)
 
 pub returns-in_ok-pages-in-None-clause-told : goal.returns-in_ok-pages-in-None-clause-told
 returns-in_ok-pages-in-None-clause-told c = λ holds i A s image at.
