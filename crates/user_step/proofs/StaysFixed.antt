@@ -8,7 +8,7 @@ use Rattle.std.proofs.lemmas.List.{get_or-take, length-take}
 use Rattle.std.proofs.lemmas.Option.{slice_get-get_or}
 use Rattle.vm_facts.specs.Ahead.{AreAhead}
 use Rattle.vm_facts.specs.Answers.{Answers, ByteWrite, put_byte, read_by, written}
-use Rattle.vm_facts.specs.declared.memory.ByteRead.TheVariants.{Is}
+use Rattle.vm_facts.specs.declared.memory.ByteRead.TheVariants as bytes
 use Rattle.vm_facts.specs.declared.memory.MayWrite.{MayWrite}
 use Rattle.vm_facts.specs.declared.memory.MayWrite.TheVariants.{May}
 use Rattle.vm_facts.specs.declared.regs.Regs.{Regs}
@@ -146,7 +146,7 @@ fixed_elsewhere memory fixed old new address gone same h = λ a has.
 ahead_first : (memory : Answers) (address n : ℕ) (held : List ℕ) → AreAhead memory address held → AreAhead memory address (take n held)
 ahead_first memory address n held ahead = λ i below.
     let long = length-take n held in
-    ahead i (omega (arith, below, long)) ∙ ap Is (sym (get_or-take n held i 0 (omega (arith, below, long))))
+    ahead i (omega (arith, below, long)) ∙ ap bytes.Is (sym (get_or-take n held i 0 (omega (arith, below, long))))
 
 -- an entry whose bytes are the first that lie together at an address stands there
 pub stands_here : (memory : Answers) (places : List (Option Decoding)) (other : Option Decoding) (address : ℕ) (decoding : Decoding) (held : List ℕ)
