@@ -1,4 +1,5 @@
 //! The hands move as a line of the schedule asks.
+ghost use Rattle.io_edge.specs.WithFiles.{stores};
 ghost use Rattle.std.specs.Prelude.{◌≡◌, ◌<◌, ◌≤◌, ◌+◌, ◌^◌, true, [], IfOk, OnOk, IfErr};
 ghost use Rattle.page_model.specs.Hands.{wants_moves};
 ghost use Rattle.machine_state.specs.Going.{CanGoOn, IsRunning};
@@ -37,10 +38,13 @@ fn move_once<F: Files, D: SwapDev>(
     requires wants { wants_moves m.old.kernel.place ≡ true }
     requires fits { last_moves m.old.kernel.journal + 1 < 2 ^ 32 }
     ensures made { OnOk result
-        (MakesUnit (ground m.old (F.holds files.old) []) (move_unit m.old.kernel.place []) m.old m.new (D.image swap.old) (D.image swap.new)) }
+        (MakesUnit (ground m.old (F.holds files.old) []) (move_unit m.old.kernel.place []) m.old m.new (stores F.Files D.SwapDev files.old swap.old)
+        (stores F.Files D.SwapDev files.new swap.new)) }
     ensures moved { IfOk result (λ moved. IsMoveOf (move_unit m.old.kernel.place []) moved) }
-    ensures keeps { OnOk result (KeepsThrough m.old m.new (F.holds files.old) (D.image swap.old) (D.image swap.new)) }
-    ensures stopped { IfErr result (λ stop. StopsAt (move_unit m.old.kernel.place []) m.old.kernel (D.image swap.old) stop m.new (D.image swap.new)) }
+    ensures keeps { OnOk result (KeepsThrough m.old m.new (F.holds files.old) (stores F.Files D.SwapDev files.old swap.old)
+        (stores F.Files D.SwapDev files.new swap.new)) }
+    ensures stopped { IfErr result (λ stop. StopsAt (move_unit m.old.kernel.place []) m.old.kernel (stores F.Files D.SwapDev files.old swap.old) stop m.new
+        (stores F.Files D.SwapDev files.new swap.new)) }
     ensures params { m.new.params ≡ m.old.params }
     ensures images { m.new.images ≡ m.old.images }
     ensures outside { TransfersPages F.Files D.SwapDev (stop_of result) files.old files.new swap.old swap.new }
@@ -67,9 +71,12 @@ pub fn move_hands<F: Files, D: SwapDev>(
     requires area { m.old.params.swap_blocks ≤ D.blocks swap.old }
     requires files { AreFiles m.old.images (F.holds files.old) }
     requires fits { last_moves m.old.kernel.journal + n < 2 ^ 32 }
-    ensures moved { IfOk result (λ made. Moved n m.old m.new made (F.holds files.old) (D.image swap.old) (D.image swap.new)) }
-    ensures keeps { OnOk result (KeepsThrough m.old m.new (F.holds files.old) (D.image swap.old) (D.image swap.new)) }
-    ensures stopped { IfErr result (λ stop. StopsMoving n m.old stop m.new (F.holds files.old) (D.image swap.old) (D.image swap.new)) }
+    ensures moved { IfOk result (λ made. Moved n m.old m.new made (F.holds files.old) (stores F.Files D.SwapDev files.old swap.old)
+        (stores F.Files D.SwapDev files.new swap.new)) }
+    ensures keeps { OnOk result (KeepsThrough m.old m.new (F.holds files.old) (stores F.Files D.SwapDev files.old swap.old)
+        (stores F.Files D.SwapDev files.new swap.new)) }
+    ensures stopped { IfErr result (λ stop. StopsMoving n m.old stop m.new (F.holds files.old) (stores F.Files D.SwapDev files.old swap.old)
+        (stores F.Files D.SwapDev files.new swap.new)) }
     ensures outside { TransfersPages F.Files D.SwapDev (stop_of result) files.old files.new swap.old swap.new }
     ensures goes_on { OnOk result (CanGoOn m.new) }
 {

@@ -17,8 +17,9 @@ use Rattle.clock_hands.proofs.LastMoves.{last_done}
 use Rattle.page_model.specs.Serve.{serve_unit, Serves}
 use Rattle.page_model.specs.Ownership.{OwnsFrames}
 use Rattle.kernel_model.specs.Kernel.{Kernel}
+use Rattle.kernel_model.specs.Requests.{ImageFile}
 use Rattle.machine_state.specs.Machine.{Standing}
-use Rattle.machine_state.specs.Sourced.{ImageNamed}
+use Rattle.machine_state.specs.Sourced.{ImageNamed, files_named}
 use Rattle.machine_state.specs.Files.{AreFiles}
 use Rattle.machine_state.specs.Conditions.{HasStopped, KeepsFlat}
 use Rattle.machine_state.specs.Settled.{IsSameBeside}
@@ -51,7 +52,7 @@ beside_of old new e = record {
 }
 
 pub plain_made : (q : Page) (e : Entry) (old new : Standing) → ((now : Bool) → serve_unit old.kernel.place q now ≡ Some e)
-    → ((g : Ground) (i : Option SwapImage) → MadeBy g e old.kernel i new.kernel) → ((i : Option SwapImage) → ImageBy e old.kernel i i)
+    → ((g : Ground) (i : Option SwapImage) → MadeBy g e old.kernel i new.kernel) → ((i : Option SwapImage) → ImageBy (files_named old.images) e old.kernel i i)
     → new ≡ record old { kernel = new.kernel; room = None } → KeepsFlat old.kernel new.kernel → PlainMade q old new
 plain_made q e old new next made told rest keeps = λ holds image now locked. record {
   entry = e;
@@ -85,7 +86,7 @@ cause_same {A} stop h = elim h [
 
 pub plain_stops : {A : Type 0} (q : Page) (e : Entry) (old new : Standing) (stop : Stop) → ((now : Bool) → serve_unit old.kernel.place q now ≡ Some e)
     → ((s : Stop) (ts : List Transfer) → (s ≡ stops.JournalFull) ⊎ (s ≡ stops.NoMemory) → CauseBy e s ts)
-    → ((i : Option SwapImage) → SpoilsBy e stop old.kernel i i) → append old.kernel.journal e ≡ old.kernel.journal ++ e ∷ []
+    → ((i : Option SwapImage) → SpoilsBy (files_named new.images) e stop old.kernel i i) → append old.kernel.journal e ≡ old.kernel.journal ++ e ∷ []
     → HasStopped old new → old.before ≡ old.kernel.holdings
     → ((let r : Result A Stop = Err stop in r) ≡ Err stops.JournalFull) ⊎ ((let r : Result A Stop = Err stop in r) ≡ Err stops.NoMemory)
     → ((let r : Result A Stop = Err stop in r) ≡ Err stops.JournalFull) ↔ (old.params.journal ≤ length old.kernel.journal) → PlainStop q old new stop
@@ -105,19 +106,19 @@ plain_stops {A} q e old new stop next causes spoils plain has whole cause full =
 
 -- an entry of a step that calls no device, and is never joined to the last one
 pub record CallsNone (e : Entry) : Type 0 where
-  pub told : (k : Kernel) (i : Option SwapImage) → ImageBy e k i i
+  pub told : (files : List ImageFile) (k : Kernel) (i : Option SwapImage) → ImageBy files e k i i
   pub causes : (s : Stop) (ts : List Transfer) → (s ≡ stops.JournalFull) ⊎ (s ≡ stops.NoMemory) → CauseBy e s ts
-  pub spoils : (s : Stop) (k : Kernel) (i : Option SwapImage) → SpoilsBy e s k i i
+  pub spoils : (files : List ImageFile) (s : Stop) (k : Kernel) (i : Option SwapImage) → SpoilsBy files e s k i i
   pub longer : (journal : List Entry) → append journal e ≡ journal ++ e ∷ []
 
 pub zero_calls : (q : Page) → CallsNone (entries.Zero q)
-zero_calls q = record { told = λ k i. refl; causes = λ s ts h. h; spoils = λ s k i. refl; longer = λ j. refl }
+zero_calls q = record { told = λ files k i. refl; causes = λ s ts h. h; spoils = λ files s k i. refl; longer = λ j. refl }
 
 pub get_calls : (q : Page) (lo n : ℕ) → CallsNone (entries.Get q lo n)
-get_calls q lo n = record { told = λ k i. refl; causes = λ s ts h. h; spoils = λ s k i. refl; longer = λ j. refl }
+get_calls q lo n = record { told = λ files k i. refl; causes = λ s ts h. h; spoils = λ files s k i. refl; longer = λ j. refl }
 
 pub reclaim_calls : (q : Page) → CallsNone (entries.Reclaim q)
-reclaim_calls q = record { told = λ k i. refl; causes = λ s ts h. h; spoils = λ s k i. refl; longer = λ j. refl }
+reclaim_calls q = record { told = λ files k i. refl; causes = λ s ts h. h; spoils = λ files s k i. refl; longer = λ j. refl }
 
 pub plain_either : {A S : Type 0} (r : Result A Stop) (q : Page) (e : Entry) (old new : Standing) → CallsNone e
     → ((now : Bool) → serve_unit old.kernel.place q now ≡ Some e)
@@ -126,9 +127,9 @@ pub plain_either : {A S : Type 0} (r : Result A Stop) (q : Page) (e : Entry) (ol
     → OnErr r (HasStopped old new) → old.before ≡ old.kernel.holdings → OnErr r ((r ≡ Err stops.JournalFull) ⊎ (r ≡ Err stops.NoMemory))
     → ((r ≡ Err stops.JournalFull) ↔ (old.params.journal ≤ length old.kernel.journal)) → MatchResult r (λ (u : A). PlainMade q old new) (PlainStop q old new)
 plain_either (Ok x) q e old new calls next made step rest keeps stopped whole cause full =
-    plain_made q e old new next (made step) (calls.told old.kernel) rest keeps
+    plain_made q e old new next (made step) (calls.told (files_named old.images) old.kernel) rest keeps
 plain_either {A} (Err s) q e old new calls next made step rest keeps stopped whole cause full =
-    plain_stops {A = A} q e old new s next calls.causes (calls.spoils s old.kernel) (calls.longer old.kernel.journal) stopped whole cause full
+    plain_stops {A = A} q e old new s next calls.causes (calls.spoils (files_named new.images) s old.kernel) (calls.longer old.kernel.journal) stopped whole cause full
 
 -- The end of a transfer, where it is the next unit.
 

@@ -10,6 +10,7 @@ use Rattle.page_model.specs.Conditions.{IsShared}
 use Rattle.page_model.specs.Dues.{NotDue}
 use Rattle.page_model.specs.Serve.{serve_unit, Serves}
 use Rattle.machine_state.specs.Machine.{Standing}
+use Rattle.machine_state.specs.Sourced.{files_named}
 use Rattle.machine_state.specs.PlaceOf.{is_blank}
 use Rattle.machine_state.specs.Done.{KeepsThrough}
 use Rattle.machine_state.specs.Settled.{IsSameBeside}
@@ -30,7 +31,7 @@ pub record UnitMade (now : Bool) (locked : List Page) (q : Page) (old new : Stan
   pub entry : Entry
   pub next : serve_unit old.kernel.place q now ≡ Some entry
   pub made : MadeBy (ground old holds locked) entry old.kernel before new.kernel
-  pub told : ImageBy entry old.kernel before after
+  pub told : ImageBy (files_named old.images) entry old.kernel before after
   pub rest : IsSameBeside old new
   pub keeps : KeepsThrough old new holds before after
 

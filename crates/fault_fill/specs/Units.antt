@@ -10,6 +10,7 @@ use Rattle.io_edge.specs.FileHolding.{NamedFile}
 use Rattle.page_model.specs.Pages.{frame_of, is_valid}
 use Rattle.page_model.specs.Placement.{Placement, state_of}
 use Rattle.machine_state.specs.Machine.{Standing}
+use Rattle.machine_state.specs.Sourced.{files_named}
 use Rattle.machine_state.specs.Done.{sources, IsDone, ImageAfter, KeepsThrough}
 use Rattle.machine_state.specs.Settled.{IsSameBeside}
 use Rattle.clock_hands.specs.Stops.{StopsAt}
@@ -48,7 +49,7 @@ PlainStop q old new stop = (image : Option SwapImage) → AnyStop q old new imag
 -- the end of the oldest transfer
 pub record EndMade (old new : Standing) (holds : Option (List NamedFile)) (before after : Option SwapImage) : Type 0 where
   pub done : IsDone (sources old holds) before old.kernel new.kernel
-  pub told : ImageAfter old.kernel before after
+  pub told : ImageAfter (files_named old.images) old.kernel before after
   pub rest : IsSameBeside old new
   pub keeps : KeepsThrough old new holds before after
 

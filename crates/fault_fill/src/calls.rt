@@ -1,4 +1,5 @@
 //! The calls that serve a page.
+ghost use Rattle.io_edge.specs.WithFiles.{stores};
 ghost use Rattle.std.specs.Prelude.{◌≡◌, ◌+◌, ◌≤◌, true, false, [], length, OnOk, OnErr, MatchResult};
 ghost use Rattle.page_model.specs.Conditions.{Spares};
 ghost use Rattle.page_model.specs.Rank.{HasRoom};
@@ -26,8 +27,10 @@ pub fn serve_page<F: Files, D: SwapDev>(
     requires area { m.old.params.swap_blocks ≤ D.blocks swap.old }
     requires files { AreFiles m.old.images (F.holds files.old) }
     requires can { CanServe m.old.kernel.place page }
-    ensures served { MatchResult result (λ answer. ServedAs answer page m.old m.new (F.holds files.old) (D.image swap.old) (D.image swap.new))
-        (StopsServing false [] page m.old m.new (F.holds files.old) (D.image swap.old) (D.image swap.new)) }
+    ensures served { MatchResult result (λ answer. ServedAs answer page m.old m.new (F.holds files.old) (stores F.Files D.SwapDev files.old swap.old)
+        (stores F.Files D.SwapDev files.new swap.new))
+        (StopsServing false [] page m.old m.new (F.holds files.old) (stores F.Files D.SwapDev files.old swap.old)
+        (stores F.Files D.SwapDev files.new swap.new)) }
     ensures few { OnOk result (IsShort page m.old m.new) }
     ensures few_at_stop { OnErr result (length m.new.kernel.journal ≤ length m.old.kernel.journal + length m.old.kernel.place.transfers + 5) }
     ensures low { OnOk result (last_moves m.new.kernel.journal ≤ last_moves m.old.kernel.journal) }
@@ -53,8 +56,10 @@ pub fn serve_page_now<F: Files, D: SwapDev>(
     requires can { CanServe m.old.kernel.place page }
     requires room { HasRoom m.old.kernel.place locked.now }
     requires low { last_moves m.old.kernel.journal ≤ 1000000 }
-    ensures served { MatchResult result (λ u. ServedNow locked.now page m.old m.new (F.holds files.old) (D.image swap.old) (D.image swap.new))
-        (StopsServing true locked.now page m.old m.new (F.holds files.old) (D.image swap.old) (D.image swap.new)) }
+    ensures served { MatchResult result (λ u. ServedNow locked.now page m.old m.new (F.holds files.old) (stores F.Files D.SwapDev files.old swap.old)
+        (stores F.Files D.SwapDev files.new swap.new))
+        (StopsServing true locked.now page m.old m.new (F.holds files.old) (stores F.Files D.SwapDev files.old swap.old)
+        (stores F.Files D.SwapDev files.new swap.new)) }
     ensures few { OnOk result (IsShort page m.old m.new) }
     ensures few_at_stop { OnErr result (length m.new.kernel.journal ≤ length m.old.kernel.journal + length m.old.kernel.place.transfers + 5) }
     ensures low { OnOk result (last_moves m.new.kernel.journal ≤ last_moves m.old.kernel.journal) }

@@ -1,4 +1,5 @@
 //! Pages are served, unit by unit.
+ghost use Rattle.io_edge.specs.WithFiles.{stores};
 ghost use Rattle.std.specs.Prelude.{◌≡◌, ◌≤◌, true, false, [], OnOk, MatchResult};
 ghost use Rattle.machine_state.specs.Going.{CanGoOn};
 ghost use Rattle.machine_state.specs.Files.{AreFiles};
@@ -37,8 +38,10 @@ pub(crate) fn serve_on<F: Files, D: SwapDev>(
     requires area { m.old.params.swap_blocks ≤ D.blocks swap.old }
     requires files { AreFiles m.old.images (F.holds files.old) }
     requires can { CanServe m.old.kernel.place page }
-    ensures served { MatchResult result (λ answer. ServesAs answer page m.old m.new (F.holds files.old) (D.image swap.old) (D.image swap.new))
-        (StopsServing false [] page m.old m.new (F.holds files.old) (D.image swap.old) (D.image swap.new)) }
+    ensures served { MatchResult result (λ answer. ServesAs answer page m.old m.new (F.holds files.old) (stores F.Files D.SwapDev files.old swap.old)
+        (stores F.Files D.SwapDev files.new swap.new))
+        (StopsServing false [] page m.old m.new (F.holds files.old) (stores F.Files D.SwapDev files.old swap.old)
+        (stores F.Files D.SwapDev files.new swap.new)) }
     ensures outside { TransfersPages F.Files D.SwapDev (stop_of result) files.old files.new swap.old swap.new }
     ensures goes_on { OnOk result (CanGoOn m.new) }
 {
@@ -68,8 +71,10 @@ fn serve_further<F: Files, D: SwapDev>(
     requires can { CanServe m.old.kernel.place page }
     requires room { HasRoom m.old.kernel.place locked.now }
     requires low { m.old.kernel.place.free ≡ [] → last_moves m.old.kernel.journal ≤ 1000000 }
-    ensures made { MatchResult result (λ more. GoesFurther more locked.now page m.old m.new (F.holds files.old) (D.image swap.old) (D.image swap.new))
-        (StopsServing true locked.now page m.old m.new (F.holds files.old) (D.image swap.old) (D.image swap.new)) }
+    ensures made { MatchResult result (λ more. GoesFurther more locked.now page m.old m.new (F.holds files.old) (stores F.Files D.SwapDev files.old swap.old)
+        (stores F.Files D.SwapDev files.new swap.new))
+        (StopsServing true locked.now page m.old m.new (F.holds files.old) (stores F.Files D.SwapDev files.old swap.old)
+        (stores F.Files D.SwapDev files.new swap.new)) }
     ensures outside { TransfersPages F.Files D.SwapDev (stop_of result) files.old files.new swap.old swap.new }
     ensures goes_on { OnOk result (CanGoOn m.new) }
 {
@@ -105,8 +110,10 @@ pub(crate) fn serve_now_on<F: Files, D: SwapDev>(
     requires can { CanServe m.old.kernel.place page }
     requires room { HasRoom m.old.kernel.place locked.now }
     requires low { m.old.kernel.place.free ≡ [] → last_moves m.old.kernel.journal ≤ 1000000 }
-    ensures served { MatchResult result (λ u. ServesNow locked.now page m.old m.new (F.holds files.old) (D.image swap.old) (D.image swap.new))
-        (StopsServing true locked.now page m.old m.new (F.holds files.old) (D.image swap.old) (D.image swap.new)) }
+    ensures served { MatchResult result (λ u. ServesNow locked.now page m.old m.new (F.holds files.old) (stores F.Files D.SwapDev files.old swap.old)
+        (stores F.Files D.SwapDev files.new swap.new))
+        (StopsServing true locked.now page m.old m.new (F.holds files.old) (stores F.Files D.SwapDev files.old swap.old)
+        (stores F.Files D.SwapDev files.new swap.new)) }
     ensures outside { TransfersPages F.Files D.SwapDev (stop_of result) files.old files.new swap.old swap.new }
     ensures goes_on { OnOk result (CanGoOn m.new) }
 {

@@ -1,4 +1,5 @@
 //! Accesses of processes are served.
+ghost use Rattle.io_edge.specs.WithFiles.{stores};
 ghost use Rattle.std.specs.Prelude.{◌≡◌, ◌⊎◌, ◌≤◌, ◌<◌, true, false, [], length, Some, IfOk, OnOk, OnErr, Ok, Err, MatchResult};
 ghost use Rattle.core_map.specs.Frames.{Frames};
 ghost use Rattle.page_model.specs.Placement.{image_of};
@@ -175,9 +176,12 @@ pub fn serve<F: Files, D: SwapDev>(
     requires clear { m.old.kernel.place.due ≡ [] }
     requires lends { CanLend m.old.kernel pid }
     ensures served { MatchResult result
-        (λ answer. AccessComes (λ came q from. TouchedAs came q from m.new (F.holds files.old) (D.image swap.old) (D.image swap.new))
-        (access_by m.old.kernel pid address write) answer pid m.old m.new (D.image swap.old) (D.image swap.new))
-        (AccessStops false [] (access_by m.old.kernel pid address write) pid m.old m.new (F.holds files.old) (D.image swap.old) (D.image swap.new)) }
+        (λ answer. AccessComes (λ came q from. TouchedAs came q from m.new (F.holds files.old) (stores F.Files D.SwapDev files.old swap.old)
+        (stores F.Files D.SwapDev files.new swap.new))
+        (access_by m.old.kernel pid address write) answer pid m.old m.new (stores F.Files D.SwapDev files.old swap.old)
+        (stores F.Files D.SwapDev files.new swap.new))
+        (AccessStops false [] (access_by m.old.kernel pid address write) pid m.old m.new (F.holds files.old) (stores F.Files D.SwapDev files.old swap.old)
+        (stores F.Files D.SwapDev files.new swap.new)) }
     ensures outside { TransfersPages F.Files D.SwapDev (stop_of result) files.old files.new swap.old swap.new }
     ensures goes_on { OnOk result (CanGoOn m.new) }
 {
@@ -212,9 +216,12 @@ pub fn serve_now<F: Files, D: SwapDev>(
     requires room { HasRoom m.old.kernel.place locked.now }
     requires low { last_moves m.old.kernel.journal ≤ 1000000 }
     ensures served { MatchResult result
-        (λ answer. AccessComes (λ came q from. TouchedNow locked.now came q from m.new (F.holds files.old) (D.image swap.old) (D.image swap.new))
-        (access_by m.old.kernel pid address write) answer pid m.old m.new (D.image swap.old) (D.image swap.new))
-        (AccessStops true locked.now (access_by m.old.kernel pid address write) pid m.old m.new (F.holds files.old) (D.image swap.old) (D.image swap.new)) }
+        (λ answer. AccessComes (λ came q from. TouchedNow locked.now came q from m.new (F.holds files.old) (stores F.Files D.SwapDev files.old swap.old)
+        (stores F.Files D.SwapDev files.new swap.new))
+        (access_by m.old.kernel pid address write) answer pid m.old m.new (stores F.Files D.SwapDev files.old swap.old)
+        (stores F.Files D.SwapDev files.new swap.new))
+        (AccessStops true locked.now (access_by m.old.kernel pid address write) pid m.old m.new (F.holds files.old)
+        (stores F.Files D.SwapDev files.old swap.old) (stores F.Files D.SwapDev files.new swap.new)) }
     ensures outside { TransfersPages F.Files D.SwapDev (stop_of result) files.old files.new swap.old swap.new }
     ensures goes_on { OnOk result (CanGoOn m.new) }
 {

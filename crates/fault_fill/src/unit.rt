@@ -1,4 +1,5 @@
 //! One unit of serving a page, by the state of the page.
+ghost use Rattle.io_edge.specs.WithFiles.{stores};
 ghost use Rattle.std.specs.Prelude.{◌≡◌, ◌⊎◌, ◌<◌, ◌≤◌, true, false, length, None, Err, OnOk, OnErr, MatchResult};
 ghost use Rattle.core_map.specs.Frames.{Frames};
 ghost use Rattle.page_model.specs.Pages.{frame_of};
@@ -140,8 +141,9 @@ pub(crate) fn finish<F: Files, D: SwapDev>(
     requires area { m.old.params.swap_blocks ≤ D.blocks swap.old }
     requires files { AreFiles m.old.images (F.holds files.old) }
     requires some { 0 < length m.old.kernel.place.transfers }
-    ensures made { MatchResult result (λ u. EndMade m.old m.new (F.holds files.old) (D.image swap.old) (D.image swap.new))
-        (EndStops m.old m.new (D.image swap.old) (D.image swap.new)) }
+    ensures made { MatchResult result (λ u. EndMade m.old m.new (F.holds files.old) (stores F.Files D.SwapDev files.old swap.old)
+        (stores F.Files D.SwapDev files.new swap.new))
+        (EndStops m.old m.new (stores F.Files D.SwapDev files.old swap.old) (stores F.Files D.SwapDev files.new swap.new)) }
     ensures outside { TransfersPages F.Files D.SwapDev (stop_of result) files.old files.new swap.old swap.new }
     ensures goes_on { OnOk result (CanGoOn m.new) }
 {
@@ -163,8 +165,9 @@ fn fill<F: Files, D: SwapDev>(
     requires can { CanServe m.old.kernel.place page }
     requires frameless { frame_of (state_of m.old.kernel.place page) ≡ None }
     requires free { 0 < length m.old.kernel.place.free }
-    ensures made { MatchResult result (λ u. AnyUnit page m.old m.new (F.holds files.old) (D.image swap.old) (D.image swap.new))
-        (AnyStop page m.old m.new (D.image swap.old) (D.image swap.new)) }
+    ensures made { MatchResult result (λ u. AnyUnit page m.old m.new (F.holds files.old) (stores F.Files D.SwapDev files.old swap.old)
+        (stores F.Files D.SwapDev files.new swap.new))
+        (AnyStop page m.old m.new (stores F.Files D.SwapDev files.old swap.old) (stores F.Files D.SwapDev files.new swap.new)) }
     ensures outside { TransfersPages F.Files D.SwapDev (stop_of result) files.old files.new swap.old swap.new }
     ensures goes_on { OnOk result (CanGoOn m.new) }
 {
@@ -188,8 +191,9 @@ pub(crate) fn serve_unit<F: Files, D: SwapDev>(
     requires area { m.old.params.swap_blocks ≤ D.blocks swap.old }
     requires files { AreFiles m.old.images (F.holds files.old) }
     requires can { CanServe m.old.kernel.place page }
-    ensures made { MatchResult result (λ u. ComesTo u page m.old m.new (F.holds files.old) (D.image swap.old) (D.image swap.new))
-        (AnyStop page m.old m.new (D.image swap.old) (D.image swap.new)) }
+    ensures made { MatchResult result (λ u. ComesTo u page m.old m.new (F.holds files.old) (stores F.Files D.SwapDev files.old swap.old)
+        (stores F.Files D.SwapDev files.new swap.new))
+        (AnyStop page m.old m.new (stores F.Files D.SwapDev files.old swap.old) (stores F.Files D.SwapDev files.new swap.new)) }
     ensures outside { TransfersPages F.Files D.SwapDev (stop_of result) files.old files.new swap.old swap.new }
     ensures goes_on { OnOk result (CanGoOn m.new) }
 {

@@ -88,7 +88,7 @@ copied_image = record {
 }
 
 copied_run : Inputs
-copied_run = record { images = copied_image ∷ []; first = 1 ∷ []; lines = []; frames = 64; swap_blocks = 256; limit = 100 }
+copied_run = record { images = copied_image ∷ []; file_numbers = 0 ∷ []; first = 1 ∷ []; lines = []; frames = 64; swap_blocks = 256; limit = 100 }
 
 copied_held : Holdings
 copied_held = or_before [] (start_held copied_run)

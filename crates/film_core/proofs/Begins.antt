@@ -12,9 +12,9 @@ use Rattle.swap_book.specs.Holdings.{Holdings}
 use Rattle.flat_state.specs.Flat.{Inputs}
 use Rattle.flat_state.specs.Journal.{append, appended}
 use Rattle.kernel_model.specs.Kernel.{Kernel}
-use Rattle.machine_state.specs.Files.{AreImages}
+use Rattle.machine_state.specs.Files.{AreRunImages}
 use Rattle.machine_state.specs.Going.{CanGoOn, IsRunning}
-use Rattle.machine_state.specs.Sourced.{ImageNamed}
+use Rattle.machine_state.specs.Sourced.{ImageNamed, files_named}
 use Rattle.run_model.specs.State.{State, start}
 use Rattle.run_model.specs.Next.{next_unit, next_turned, under, last_turned}
 use Rattle.run_model.specs.Lawful.{Follows}
@@ -121,7 +121,7 @@ module _ (A : Inputs) (old new : Filming) (numbers : List ℕ) (lines : List Eve
     stands = record {
       machine = record {
         at = there;
-        images = subst (λ (ns : List ImageNamed). AreImages ns holds A.images) (sym images) asked.images;
+        images = subst (λ (ns : List ImageNamed). AreRunImages ns holds A) (sym images) asked.images;
         blocks = ap (λ (p : Params). p.swap_blocks) params ∙ sym asked.blocks;
       };
       told = told;
@@ -224,6 +224,6 @@ module _ (A : Inputs) (old new : Filming) (numbers : List ℕ) (lines : List Eve
       let led : Leads A (start A hs) (machine_at_start A hs) image x.units x.state new.machine.kernel (Some x.behind) =
       subst (λ (k : Kernel). Leads A (start A hs) (machine_at_start A hs) image x.units x.state k (Some x.behind)) (sym put.kernel) x.leads in
       let next : StopsNext A x.state x.kernel x.behind stops.JournalFull new.machine j = x.by in
-      begun_at hs can x.units x.state x.behind led (same_left next.entry stops.JournalFull x.kernel (Some x.behind) j tt next.spoils)
+      begun_at hs can x.units x.state x.behind led (same_left (files_named new.machine.images) next.entry stops.JournalFull x.kernel (Some x.behind) j tt next.spoils)
       (record { running = runs (leads_run A (start A hs) x.state (machine_at_start A hs) new.machine.kernel image x.units (Some x.behind) led refl); whole = put.whole })
       (λ e. let z : false ≡ true = sym o ∙ e in absurd cc, λ n. let z : Some next.entry ≡ None = sym next.next ∙ n in absurd cc)

@@ -88,7 +88,7 @@ stands_then A s t old new holds i j image us counted count r st a params images 
 makes_run : (A : Inputs) (us : List Entry) (s t : State) (k l : Kernel) (image behind : SwapImage) → MakesSwap A s k image us t l behind → l.stopped ≡ k.stopped
 makes_run A [] s t k l image behind m = sym (ap (λ (x : Kernel). x.stopped) m.1)
 makes_run A (u ∷ us) s t k l image behind m =
-    makes_run A us (after A s u) t (unit_step A s k image.bytes m.1.0 u) l (unit_swap k image u) behind m.1.2 ∙ unit_goes A s k image.bytes m.1.0 u
+    makes_run A us (after A s u) t (unit_step A s k image.bytes m.1.0 u) l (unit_swap A k image u) behind m.1.2 ∙ unit_goes A s k image.bytes m.1.0 u
 
 pub leads_run : (A : Inputs) (s t : State) (k l : Kernel) (image : SwapImage) (us : List Entry) (j : Option SwapImage) → Leads A s k image us t l j
     → k.stopped ≡ false → l.stopped ≡ false

@@ -12,6 +12,8 @@ use Rattle.io_edge.specs.FileHolding.{NamedFile}
 use Rattle.flat_state.specs.Flat.{Inputs}
 use Rattle.flat_state.specs.Journal.{append, appended}
 use Rattle.kernel_model.specs.Kernel.{Kernel}
+use Rattle.kernel_model.specs.Requests.{ImageFile}
+use Rattle.machine_state.specs.Sourced.{files_named}
 use Rattle.machine_state.specs.Going.{CanGoOn, IsRunning}
 use Rattle.machine_state.specs.Machine.{Standing}
 use Rattle.run_model.specs.declared.mark.Mark.{Mark}
@@ -84,10 +86,10 @@ some_made A [] s t journal f more complete none = absurd (more (ap (next_unit A)
 some_made A (u ∷ us) s t journal f more complete none = goes_behind journal u us (complete u f.0)
 
 -- where a journal is full the swap image is as it was
-full_spoils : (u : Entry) (k : Kernel) (i j : Option SwapImage) → SpoilsBy u stops.JournalFull k i j → j ≡ i
-full_spoils entries.Done k i j h = h
-full_spoils (entries.SwapOut pid) k i j h = h
-full_spoils _ k i j h = h
+full_spoils : (files : List ImageFile) (u : Entry) (k : Kernel) (i j : Option SwapImage) → SpoilsBy files u stops.JournalFull k i j → j ≡ i
+full_spoils files entries.Done k i j h = h
+full_spoils files (entries.SwapOut pid) k i j h = h
+full_spoils files _ k i j h = h
 
 module _ (old mid new : Standing) (mark : Mark) (lines : List Event) (taken counted : ℕ) (holds : Option (List NamedFile)) (i j : Option SwapImage)
     (wide : mid ≡ widened old)
@@ -132,7 +134,7 @@ module _ (old mid new : Standing) (mark : Mark) (lines : List Event) (taken coun
       let n : StopsNext A x.state x.kernel x.behind stops.JournalFull new j = x.by in
       let still : new.kernel ≡ x.kernel = x.held.kernel in
       let there : Leads A s mid.kernel image x.units x.state new.kernel j =
-      subst (λ (o : Option SwapImage). Leads A s mid.kernel image x.units x.state new.kernel o) (sym (full_spoils n.entry x.kernel (Some x.behind) j n.spoils))
+      subst (λ (o : Option SwapImage). Leads A s mid.kernel image x.units x.state new.kernel o) (sym (full_spoils (files_named new.images) n.entry x.kernel (Some x.behind) j n.spoils))
       (subst (λ (k : Kernel). Leads A s mid.kernel image x.units x.state k (Some x.behind)) (sym still) x.leads) in
       let size : length new.kernel.journal ≡ length x.kernel.journal = ap (λ (k : Kernel). length k.journal) still in
       let room : new.params.journal ≡ suc (length old.kernel.journal) = room_is new.params kept.sizes.params (sym full.bound) in

@@ -1,4 +1,5 @@
 //! A film goes on.
+ghost use Rattle.io_edge.specs.WithFiles.{stores};
 ghost use Rattle.std.specs.Prelude.{◌≡◌, ◌⊎◌, ◌+◌, ◌<◌, ◌≤◌, ◌^◌, ℕ, false, length, slice_get, Some, None, OnOk, IfOk, IfErr};
 ghost use Rattle.vm_facts.specs.declared.entry.Entry.{Entry as AnyEntry};
 ghost use Rattle.vm_facts.specs.declared.event.Event.{Event as AnyEvent};
@@ -77,13 +78,15 @@ fn round<F: Files, D: SwapDev>(
     requires steady { IsSteady m.old }
     requires counted { instructions_of m.old.kernel.journal ≡ counted }
     requires full { m.old.params.journal ≤ length m.old.kernel.journal }
-    requires round { AtSome (RoundAt m.old mark lines.now taken counted (F.holds files.old) (D.image swap.old)) }
+    requires round { AtSome (RoundAt m.old mark lines.now taken counted (F.holds files.old) (stores F.Files D.SwapDev files.old swap.old)) }
     requires area { m.old.params.swap_blocks ≤ D.blocks swap.old }
     requires files { AreFiles m.old.images (F.holds files.old) }
     ensures rounds { OnOk result
-        (LeadsFrom (RoundAt m.old mark lines.now taken counted (F.holds files.old) (D.image swap.old)) (RunsOut m.old m.new (D.image swap.new))) }
+        (LeadsFrom (RoundAt m.old mark lines.now taken counted (F.holds files.old) (stores F.Files D.SwapDev files.old swap.old))
+        (RunsOut m.old m.new (stores F.Files D.SwapDev files.new swap.new))) }
     ensures stops { IfErr result
-        (StopsFrom (RoundAt m.old mark lines.now taken counted (F.holds files.old) (D.image swap.old)) m.old m.new (D.image swap.new)) }
+        (StopsFrom (RoundAt m.old mark lines.now taken counted (F.holds files.old) (stores F.Files D.SwapDev files.old swap.old)) m.old m.new
+        (stores F.Files D.SwapDev files.new swap.new)) }
     ensures ends { OnOk result (EndsRunning m.old m.new) }
     ensures kept { IfErr result (KeptAtStop m.old m.new) }
     ensures outside { TransfersPages F.Files D.SwapDev (stop_of result) files.old files.new swap.old swap.new }
@@ -115,13 +118,15 @@ fn take_line<F: Files, D: SwapDev>(
     requires event { slice_get lines.now taken ≡ Some e }
     requires few { HaveFewMoves lines.now }
     requires count { length lines.now < 2 ^ 32 }
-    requires past { AtSome (OverAt m.old lines.now taken counted _last (F.holds files.old) (D.image swap.old)) }
+    requires past { AtSome (OverAt m.old lines.now taken counted _last (F.holds files.old) (stores F.Files D.SwapDev files.old swap.old)) }
     requires area { m.old.params.swap_blocks ≤ D.blocks swap.old }
     requires files { AreFiles m.old.images (F.holds files.old) }
     ensures over { OnOk result
-        (LeadsFrom (OverAt m.old lines.now taken counted _last (F.holds files.old) (D.image swap.old)) (RunsOut m.old m.new (D.image swap.new))) }
+        (LeadsFrom (OverAt m.old lines.now taken counted _last (F.holds files.old) (stores F.Files D.SwapDev files.old swap.old))
+        (RunsOut m.old m.new (stores F.Files D.SwapDev files.new swap.new))) }
     ensures stops { IfErr result
-        (StopsFrom (OverAt m.old lines.now taken counted _last (F.holds files.old) (D.image swap.old)) m.old m.new (D.image swap.new)) }
+        (StopsFrom (OverAt m.old lines.now taken counted _last (F.holds files.old) (stores F.Files D.SwapDev files.old swap.old)) m.old m.new
+        (stores F.Files D.SwapDev files.new swap.new)) }
     ensures ends { OnOk result (EndsRunning m.old m.new) }
     ensures kept { IfErr result (KeptAtStop m.old m.new) }
     ensures outside { TransfersPages F.Files D.SwapDev (stop_of result) files.old files.new swap.old swap.new }
@@ -161,13 +166,15 @@ fn take_turn<F: Files, D: SwapDev>(
     requires behind { slice_get lines.now taken ≡ None }
     requires turned { turn_after m.old.kernel _last ≡ Some pid }
     requires count { length lines.now < 2 ^ 32 }
-    requires past { AtSome (OverAt m.old lines.now taken counted _last (F.holds files.old) (D.image swap.old)) }
+    requires past { AtSome (OverAt m.old lines.now taken counted _last (F.holds files.old) (stores F.Files D.SwapDev files.old swap.old)) }
     requires area { m.old.params.swap_blocks ≤ D.blocks swap.old }
     requires files { AreFiles m.old.images (F.holds files.old) }
     ensures over { OnOk result
-        (LeadsFrom (OverAt m.old lines.now taken counted _last (F.holds files.old) (D.image swap.old)) (RunsOut m.old m.new (D.image swap.new))) }
+        (LeadsFrom (OverAt m.old lines.now taken counted _last (F.holds files.old) (stores F.Files D.SwapDev files.old swap.old))
+        (RunsOut m.old m.new (stores F.Files D.SwapDev files.new swap.new))) }
     ensures stops { IfErr result
-        (StopsFrom (OverAt m.old lines.now taken counted _last (F.holds files.old) (D.image swap.old)) m.old m.new (D.image swap.new)) }
+        (StopsFrom (OverAt m.old lines.now taken counted _last (F.holds files.old) (stores F.Files D.SwapDev files.old swap.old)) m.old m.new
+        (stores F.Files D.SwapDev files.new swap.new)) }
     ensures ends { OnOk result (EndsRunning m.old m.new) }
     ensures kept { IfErr result (KeptAtStop m.old m.new) }
     ensures outside { TransfersPages F.Files D.SwapDev (stop_of result) files.old files.new swap.old swap.new }
@@ -197,12 +204,14 @@ fn pass<F: Files, D: SwapDev>(
     requires wide { m.old.params.journal ≤ length m.old.kernel.journal + 1 }
     requires few { HaveFewMoves lines.now }
     requires count { length lines.now < 2 ^ 32 }
-    requires past { AtSome (OverAt m.old lines.now taken counted last (F.holds files.old) (D.image swap.old)) }
+    requires past { AtSome (OverAt m.old lines.now taken counted last (F.holds files.old) (stores F.Files D.SwapDev files.old swap.old)) }
     requires area { m.old.params.swap_blocks ≤ D.blocks swap.old }
     requires files { AreFiles m.old.images (F.holds files.old) }
     ensures over { OnOk result
-        (LeadsFrom (OverAt m.old lines.now taken counted last (F.holds files.old) (D.image swap.old)) (RunsOut m.old m.new (D.image swap.new))) }
-    ensures stops { IfErr result (StopsFrom (OverAt m.old lines.now taken counted last (F.holds files.old) (D.image swap.old)) m.old m.new (D.image swap.new)) }
+        (LeadsFrom (OverAt m.old lines.now taken counted last (F.holds files.old) (stores F.Files D.SwapDev files.old swap.old))
+        (RunsOut m.old m.new (stores F.Files D.SwapDev files.new swap.new))) }
+    ensures stops { IfErr result (StopsFrom (OverAt m.old lines.now taken counted last (F.holds files.old) (stores F.Files D.SwapDev files.old swap.old))
+        m.old m.new (stores F.Files D.SwapDev files.new swap.new)) }
     ensures ends { OnOk result (EndsRunning m.old m.new) }
     ensures kept { IfErr result (KeptAtStop m.old m.new) }
     ensures outside { TransfersPages F.Files D.SwapDev (stop_of result) files.old files.new swap.old swap.new }
@@ -232,13 +241,15 @@ fn get_over<F: Files, D: SwapDev>(
     requires frames { 64 ≤ length m.old.kernel.place.holds }
     requires low { last_moves m.old.kernel.journal ≤ 1000000 }
     requires counted { instructions_of m.old.kernel.journal ≡ counted }
-    requires going { AtSome (GoesAt m.old mark _lines.now _taken counted (F.holds files.old) (D.image swap.old)) }
+    requires going { AtSome (GoesAt m.old mark _lines.now _taken counted (F.holds files.old) (stores F.Files D.SwapDev files.old swap.old)) }
     requires area { m.old.params.swap_blocks ≤ D.blocks swap.old }
     requires files { AreFiles m.old.images (F.holds files.old) }
-    ensures over { IfOk result (λ count. LeadsFrom (GoesAt m.old mark _lines.now _taken counted (F.holds files.old) (D.image swap.old))
-        (RestDone m.old m.new mark count (D.image swap.new))) }
+    ensures over { IfOk result (λ count. LeadsFrom (GoesAt m.old mark _lines.now _taken counted (F.holds files.old)
+        (stores F.Files D.SwapDev files.old swap.old))
+        (RestDone m.old m.new mark count (stores F.Files D.SwapDev files.new swap.new))) }
     ensures stops { IfErr result
-        (StopsFrom (GoesAt m.old mark _lines.now _taken counted (F.holds files.old) (D.image swap.old)) m.old m.new (D.image swap.new)) }
+        (StopsFrom (GoesAt m.old mark _lines.now _taken counted (F.holds files.old) (stores F.Files D.SwapDev files.old swap.old)) m.old m.new
+        (stores F.Files D.SwapDev files.new swap.new)) }
     ensures on { IfOk result (λ count. StaysOn m.old m.new count) }
     ensures kept { IfErr result (KeptAtStop m.old m.new) }
     ensures outside { TransfersPages F.Files D.SwapDev (stop_of result) files.old files.new swap.old swap.new }
@@ -264,14 +275,16 @@ fn go_further<F: Files, D: SwapDev>(
     requires low { last_moves m.old.kernel.journal ≤ 1000000 }
     requires counted { instructions_of m.old.kernel.journal ≡ counted }
     requires wide { m.old.params.journal ≤ length m.old.kernel.journal + 1 }
-    requires going { AtSome (GoesAt m.old mark lines.now taken counted (F.holds files.old) (D.image swap.old)) }
+    requires going { AtSome (GoesAt m.old mark lines.now taken counted (F.holds files.old) (stores F.Files D.SwapDev files.old swap.old)) }
     requires few { HaveFewMoves lines.now }
     requires count { length lines.now < 2 ^ 32 }
     requires area { m.old.params.swap_blocks ≤ D.blocks swap.old }
     requires files { AreFiles m.old.images (F.holds files.old) }
     ensures over { OnOk result
-        (LeadsFrom (GoesAt m.old mark lines.now taken counted (F.holds files.old) (D.image swap.old)) (RunsOut m.old m.new (D.image swap.new))) }
-    ensures stops { IfErr result (StopsFrom (GoesAt m.old mark lines.now taken counted (F.holds files.old) (D.image swap.old)) m.old m.new (D.image swap.new)) }
+        (LeadsFrom (GoesAt m.old mark lines.now taken counted (F.holds files.old) (stores F.Files D.SwapDev files.old swap.old))
+        (RunsOut m.old m.new (stores F.Files D.SwapDev files.new swap.new))) }
+    ensures stops { IfErr result (StopsFrom (GoesAt m.old mark lines.now taken counted (F.holds files.old) (stores F.Files D.SwapDev files.old swap.old))
+        m.old m.new (stores F.Files D.SwapDev files.new swap.new)) }
     ensures ends { OnOk result (EndsRunning m.old m.new) }
     ensures kept { IfErr result (KeptAtStop m.old m.new) }
     ensures outside { TransfersPages F.Files D.SwapDev (stop_of result) files.old files.new swap.old swap.new }
@@ -307,14 +320,15 @@ fn one_entry<F: Files, D: SwapDev>(
     requires low { last_moves m.old.kernel.journal ≤ 1000000 }
     requires counted { instructions_of m.old.kernel.journal ≡ counted }
     requires room { length m.old.kernel.journal + 1 < 2 ^ 32 }
-    requires full { AtSome (FullAt m.old mark lines.now taken counted (F.holds files.old) (D.image swap.old)) }
+    requires full { AtSome (FullAt m.old mark lines.now taken counted (F.holds files.old) (stores F.Files D.SwapDev files.old swap.old)) }
     requires few { HaveFewMoves lines.now }
     requires count { length lines.now < 2 ^ 32 }
     requires area { m.old.params.swap_blocks ≤ D.blocks swap.old }
     requires files { AreFiles m.old.images (F.holds files.old) }
-    ensures made { IfOk result (λ over. LeadsFrom (FullAt m.old mark lines.now taken counted (F.holds files.old) (D.image swap.old))
-        (EntryMade m.old m.new over (F.holds files.old) (D.image swap.new))) }
-    ensures stops { IfErr result (StopsElse (FullAt m.old mark lines.now taken counted (F.holds files.old) (D.image swap.old)) m.old m.new (D.image swap.new)) }
+    ensures made { IfOk result (λ over. LeadsFrom (FullAt m.old mark lines.now taken counted (F.holds files.old) (stores F.Files D.SwapDev files.old swap.old))
+        (EntryMade m.old m.new over (F.holds files.old) (stores F.Files D.SwapDev files.new swap.new))) }
+    ensures stops { IfErr result (StopsElse (FullAt m.old mark lines.now taken counted (F.holds files.old) (stores F.Files D.SwapDev files.old swap.old))
+        m.old m.new (stores F.Files D.SwapDev files.new swap.new)) }
     ensures params { OnOk result (m.new.params ≡ one_wider m.old.params) }
     ensures images { OnOk result (m.new.images ≡ m.old.images) }
     ensures outside { TransfersPages F.Files D.SwapDev (stop_of result) files.old files.new swap.old swap.new }
@@ -359,16 +373,18 @@ impl Film {
         swap: &mut D,
         lines: &[Event],
     ) -> Result<(), Stop>
-        requires filming { IsFilming self.old lines.now (F.holds files.old) (D.image swap.old) }
+        requires filming { IsFilming self.old lines.now (F.holds files.old) (stores F.Files D.SwapDev files.old swap.old) }
         requires more { self.old.over ≡ false }
         requires room { length self.old.machine.kernel.journal + 1 < 2 ^ 32 }
         requires moves { HaveFewMoves lines.now }
         requires count { length lines.now < 2 ^ 32 }
         requires area { self.old.machine.params.swap_blocks ≤ D.blocks swap.old }
         requires files { AreFiles self.old.machine.images (F.holds files.old) }
-        ensures goes { OnOk result (FilmGoes self.old self.new lines.now (F.holds files.old) (D.image swap.old) (D.image swap.new)) }
+        ensures goes { OnOk result (FilmGoes self.old self.new lines.now (F.holds files.old) (stores F.Files D.SwapDev files.old swap.old)
+            (stores F.Files D.SwapDev files.new swap.new)) }
         ensures stops { IfErr result
-            (StopsElse (FilmsAt self.old lines.now (F.holds files.old) (D.image swap.old)) self.old.machine self.new.machine (D.image swap.new)) }
+            (StopsElse (FilmsAt self.old lines.now (F.holds files.old) (stores F.Files D.SwapDev files.old swap.old)) self.old.machine self.new.machine
+            (stores F.Files D.SwapDev files.new swap.new)) }
         ensures params { OnOk result (self.new.machine.params ≡ one_wider self.old.machine.params) }
         ensures images { OnOk result (self.new.machine.images ≡ self.old.machine.images) }
         ensures outside { TransfersPages F.Files D.SwapDev (stop_of result) files.old files.new swap.old swap.new }

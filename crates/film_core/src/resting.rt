@@ -1,4 +1,5 @@
 //! What is still to come of a mark.
+ghost use Rattle.io_edge.specs.WithFiles.{stores};
 ghost use Rattle.std.specs.Prelude.{◌≡◌, ◌≤◌, false, IfOk, IfErr};
 ghost use Rattle.flat_state.specs.Journal.{instructions_of};
 ghost use Rattle.kernel_model.specs.Unit.{proc_of};
@@ -46,14 +47,15 @@ fn dispatch<F: Files, D: SwapDev>(
 ) -> Result<u32, Stop>
     requires steady { IsSteady m.old }
     requires counted { instructions_of m.old.kernel.journal ≡ counted }
-    requires under { AtSome (RestAt m.old (Mark.Dispatch pid more since) counted (F.holds files.old) (D.image swap.old)) }
+    requires under { AtSome (RestAt m.old (Mark.Dispatch pid more since) counted (F.holds files.old) (stores F.Files D.SwapDev files.old swap.old)) }
     requires area { m.old.params.swap_blocks ≤ D.blocks swap.old }
     requires files { AreFiles m.old.images (F.holds files.old) }
     ensures rests { IfOk result
-        (λ count. LeadsFrom (RestAt m.old (Mark.Dispatch pid more since) counted (F.holds files.old) (D.image swap.old))
-        (RestDone m.old m.new (Mark.Dispatch pid more since) count (D.image swap.new))) }
+        (λ count. LeadsFrom (RestAt m.old (Mark.Dispatch pid more since) counted (F.holds files.old) (stores F.Files D.SwapDev files.old swap.old))
+        (RestDone m.old m.new (Mark.Dispatch pid more since) count (stores F.Files D.SwapDev files.new swap.new))) }
     ensures stops { IfErr result
-        (StopsFrom (RestAt m.old (Mark.Dispatch pid more since) counted (F.holds files.old) (D.image swap.old)) m.old m.new (D.image swap.new)) }
+        (StopsFrom (RestAt m.old (Mark.Dispatch pid more since) counted (F.holds files.old) (stores F.Files D.SwapDev files.old swap.old)) m.old m.new
+        (stores F.Files D.SwapDev files.new swap.new)) }
     ensures on { IfOk result (λ count. StaysOn m.old m.new count) }
     ensures kept { IfErr result (KeptAtStop m.old m.new) }
     ensures outside { TransfersPages F.Files D.SwapDev (stop_of result) files.old files.new swap.old swap.new }
@@ -85,13 +87,15 @@ fn turn<F: Files, D: SwapDev>(
 ) -> Result<u32, Stop>
     requires steady { IsSteady m.old }
     requires counted { instructions_of m.old.kernel.journal ≡ counted }
-    requires under { AtSome (RestAt m.old (Mark.Turn pid since) counted (F.holds files.old) (D.image swap.old)) }
+    requires under { AtSome (RestAt m.old (Mark.Turn pid since) counted (F.holds files.old) (stores F.Files D.SwapDev files.old swap.old)) }
     requires area { m.old.params.swap_blocks ≤ D.blocks swap.old }
     requires files { AreFiles m.old.images (F.holds files.old) }
-    ensures rests { IfOk result (λ count. LeadsFrom (RestAt m.old (Mark.Turn pid since) counted (F.holds files.old) (D.image swap.old))
-        (RestDone m.old m.new (Mark.Turn pid since) count (D.image swap.new))) }
+    ensures rests { IfOk result (λ count. LeadsFrom (RestAt m.old (Mark.Turn pid since) counted (F.holds files.old)
+        (stores F.Files D.SwapDev files.old swap.old))
+        (RestDone m.old m.new (Mark.Turn pid since) count (stores F.Files D.SwapDev files.new swap.new))) }
     ensures stops { IfErr result
-        (StopsFrom (RestAt m.old (Mark.Turn pid since) counted (F.holds files.old) (D.image swap.old)) m.old m.new (D.image swap.new)) }
+        (StopsFrom (RestAt m.old (Mark.Turn pid since) counted (F.holds files.old) (stores F.Files D.SwapDev files.old swap.old)) m.old m.new
+        (stores F.Files D.SwapDev files.new swap.new)) }
     ensures on { IfOk result (λ count. StaysOn m.old m.new count) }
     ensures kept { IfErr result (KeptAtStop m.old m.new) }
     ensures outside { TransfersPages F.Files D.SwapDev (stop_of result) files.old files.new swap.old swap.new }
@@ -112,12 +116,13 @@ fn wait<F: Files, D: SwapDev>(
 ) -> Result<u32, Stop>
     requires steady { IsSteady m.old }
     requires counted { instructions_of m.old.kernel.journal ≡ counted }
-    requires under { AtSome (RestAt m.old Mark.Interrupt counted (F.holds files.old) (D.image swap.old)) }
+    requires under { AtSome (RestAt m.old Mark.Interrupt counted (F.holds files.old) (stores F.Files D.SwapDev files.old swap.old)) }
     requires area { m.old.params.swap_blocks ≤ D.blocks swap.old }
     requires files { AreFiles m.old.images (F.holds files.old) }
-    ensures rests { IfOk result (λ count. LeadsFrom (RestAt m.old Mark.Interrupt counted (F.holds files.old) (D.image swap.old))
-        (RestDone m.old m.new Mark.Interrupt count (D.image swap.new))) }
-    ensures stops { IfErr result (StopsFrom (RestAt m.old Mark.Interrupt counted (F.holds files.old) (D.image swap.old)) m.old m.new (D.image swap.new)) }
+    ensures rests { IfOk result (λ count. LeadsFrom (RestAt m.old Mark.Interrupt counted (F.holds files.old) (stores F.Files D.SwapDev files.old swap.old))
+        (RestDone m.old m.new Mark.Interrupt count (stores F.Files D.SwapDev files.new swap.new))) }
+    ensures stops { IfErr result (StopsFrom (RestAt m.old Mark.Interrupt counted (F.holds files.old) (stores F.Files D.SwapDev files.old swap.old)) m.old
+        m.new (stores F.Files D.SwapDev files.new swap.new)) }
     ensures on { IfOk result (λ count. StaysOn m.old m.new count) }
     ensures kept { IfErr result (KeptAtStop m.old m.new) }
     ensures outside { TransfersPages F.Files D.SwapDev (stop_of result) files.old files.new swap.old swap.new }
@@ -136,12 +141,13 @@ fn hands<F: Files, D: SwapDev>(
 ) -> Result<u32, Stop>
     requires steady { IsSteady m.old }
     requires counted { instructions_of m.old.kernel.journal ≡ counted }
-    requires under { AtSome (RestAt m.old (Mark.Hands left) counted (F.holds files.old) (D.image swap.old)) }
+    requires under { AtSome (RestAt m.old (Mark.Hands left) counted (F.holds files.old) (stores F.Files D.SwapDev files.old swap.old)) }
     requires area { m.old.params.swap_blocks ≤ D.blocks swap.old }
     requires files { AreFiles m.old.images (F.holds files.old) }
-    ensures rests { IfOk result (λ count. LeadsFrom (RestAt m.old (Mark.Hands left) counted (F.holds files.old) (D.image swap.old))
-        (RestDone m.old m.new (Mark.Hands left) count (D.image swap.new))) }
-    ensures stops { IfErr result (StopsFrom (RestAt m.old (Mark.Hands left) counted (F.holds files.old) (D.image swap.old)) m.old m.new (D.image swap.new)) }
+    ensures rests { IfOk result (λ count. LeadsFrom (RestAt m.old (Mark.Hands left) counted (F.holds files.old) (stores F.Files D.SwapDev files.old swap.old))
+        (RestDone m.old m.new (Mark.Hands left) count (stores F.Files D.SwapDev files.new swap.new))) }
+    ensures stops { IfErr result (StopsFrom (RestAt m.old (Mark.Hands left) counted (F.holds files.old) (stores F.Files D.SwapDev files.old swap.old)) m.old
+        m.new (stores F.Files D.SwapDev files.new swap.new)) }
     ensures on { IfOk result (λ count. StaysOn m.old m.new count) }
     ensures kept { IfErr result (KeptAtStop m.old m.new) }
     ensures outside { TransfersPages F.Files D.SwapDev (stop_of result) files.old files.new swap.old swap.new }
@@ -160,12 +166,13 @@ fn bring_in<F: Files, D: SwapDev>(
 ) -> Result<u32, Stop>
     requires steady { IsSteady m.old }
     requires counted { instructions_of m.old.kernel.journal ≡ counted }
-    requires under { AtSome (RestAt m.old (Mark.BringIn pid) counted (F.holds files.old) (D.image swap.old)) }
+    requires under { AtSome (RestAt m.old (Mark.BringIn pid) counted (F.holds files.old) (stores F.Files D.SwapDev files.old swap.old)) }
     requires area { m.old.params.swap_blocks ≤ D.blocks swap.old }
     requires files { AreFiles m.old.images (F.holds files.old) }
-    ensures rests { IfOk result (λ count. LeadsFrom (RestAt m.old (Mark.BringIn pid) counted (F.holds files.old) (D.image swap.old))
-        (RestDone m.old m.new (Mark.BringIn pid) count (D.image swap.new))) }
-    ensures stops { IfErr result (StopsFrom (RestAt m.old (Mark.BringIn pid) counted (F.holds files.old) (D.image swap.old)) m.old m.new (D.image swap.new)) }
+    ensures rests { IfOk result (λ count. LeadsFrom (RestAt m.old (Mark.BringIn pid) counted (F.holds files.old) (stores F.Files D.SwapDev files.old swap.old))
+        (RestDone m.old m.new (Mark.BringIn pid) count (stores F.Files D.SwapDev files.new swap.new))) }
+    ensures stops { IfErr result (StopsFrom (RestAt m.old (Mark.BringIn pid) counted (F.holds files.old) (stores F.Files D.SwapDev files.old swap.old)) m.old
+        m.new (stores F.Files D.SwapDev files.new swap.new)) }
     ensures on { IfOk result (λ count. StaysOn m.old m.new count) }
     ensures kept { IfErr result (KeptAtStop m.old m.new) }
     ensures outside { TransfersPages F.Files D.SwapDev (stop_of result) files.old files.new swap.old swap.new }
@@ -184,12 +191,13 @@ fn put_out<F: Files, D: SwapDev>(
 ) -> Result<u32, Stop>
     requires steady { IsSteady m.old }
     requires counted { instructions_of m.old.kernel.journal ≡ counted }
-    requires under { AtSome (RestAt m.old (Mark.PutOut pid) counted (F.holds files.old) (D.image swap.old)) }
+    requires under { AtSome (RestAt m.old (Mark.PutOut pid) counted (F.holds files.old) (stores F.Files D.SwapDev files.old swap.old)) }
     requires area { m.old.params.swap_blocks ≤ D.blocks swap.old }
     requires files { AreFiles m.old.images (F.holds files.old) }
-    ensures rests { IfOk result (λ count. LeadsFrom (RestAt m.old (Mark.PutOut pid) counted (F.holds files.old) (D.image swap.old))
-        (RestDone m.old m.new (Mark.PutOut pid) count (D.image swap.new))) }
-    ensures stops { IfErr result (StopsFrom (RestAt m.old (Mark.PutOut pid) counted (F.holds files.old) (D.image swap.old)) m.old m.new (D.image swap.new)) }
+    ensures rests { IfOk result (λ count. LeadsFrom (RestAt m.old (Mark.PutOut pid) counted (F.holds files.old) (stores F.Files D.SwapDev files.old swap.old))
+        (RestDone m.old m.new (Mark.PutOut pid) count (stores F.Files D.SwapDev files.new swap.new))) }
+    ensures stops { IfErr result (StopsFrom (RestAt m.old (Mark.PutOut pid) counted (F.holds files.old) (stores F.Files D.SwapDev files.old swap.old)) m.old
+        m.new (stores F.Files D.SwapDev files.new swap.new)) }
     ensures on { IfOk result (λ count. StaysOn m.old m.new count) }
     ensures kept { IfErr result (KeptAtStop m.old m.new) }
     ensures outside { TransfersPages F.Files D.SwapDev (stop_of result) files.old files.new swap.old swap.new }
@@ -207,12 +215,13 @@ fn note_owners<F: Files, D: SwapDev>(
 ) -> Result<u32, Stop>
     requires steady { IsSteady m.old }
     requires counted { instructions_of m.old.kernel.journal ≡ counted }
-    requires under { AtSome (RestAt m.old Mark.Audit counted (F.holds files.old) (D.image swap.old)) }
+    requires under { AtSome (RestAt m.old Mark.Audit counted (F.holds files.old) (stores F.Files D.SwapDev files.old swap.old)) }
     requires area { m.old.params.swap_blocks ≤ D.blocks swap.old }
     requires files { AreFiles m.old.images (F.holds files.old) }
-    ensures rests { IfOk result (λ count. LeadsFrom (RestAt m.old Mark.Audit counted (F.holds files.old) (D.image swap.old))
-        (RestDone m.old m.new Mark.Audit count (D.image swap.new))) }
-    ensures stops { IfErr result (StopsFrom (RestAt m.old Mark.Audit counted (F.holds files.old) (D.image swap.old)) m.old m.new (D.image swap.new)) }
+    ensures rests { IfOk result (λ count. LeadsFrom (RestAt m.old Mark.Audit counted (F.holds files.old) (stores F.Files D.SwapDev files.old swap.old))
+        (RestDone m.old m.new Mark.Audit count (stores F.Files D.SwapDev files.new swap.new))) }
+    ensures stops { IfErr result (StopsFrom (RestAt m.old Mark.Audit counted (F.holds files.old) (stores F.Files D.SwapDev files.old swap.old)) m.old m.new
+        (stores F.Files D.SwapDev files.new swap.new)) }
     ensures on { IfOk result (λ count. StaysOn m.old m.new count) }
     ensures kept { IfErr result (KeptAtStop m.old m.new) }
     ensures outside { TransfersPages F.Files D.SwapDev (stop_of result) files.old files.new swap.old swap.new }
@@ -233,12 +242,14 @@ pub(crate) fn rest<F: Files, D: SwapDev>(
 ) -> Result<u32, Stop>
     requires steady { IsSteady m.old }
     requires counted { instructions_of m.old.kernel.journal ≡ counted }
-    requires under { AtSome (RestAt m.old mark counted (F.holds files.old) (D.image swap.old)) }
+    requires under { AtSome (RestAt m.old mark counted (F.holds files.old) (stores F.Files D.SwapDev files.old swap.old)) }
     requires area { m.old.params.swap_blocks ≤ D.blocks swap.old }
     requires files { AreFiles m.old.images (F.holds files.old) }
     ensures rests { IfOk result
-        (λ count. LeadsFrom (RestAt m.old mark counted (F.holds files.old) (D.image swap.old)) (RestDone m.old m.new mark count (D.image swap.new))) }
-    ensures stops { IfErr result (StopsFrom (RestAt m.old mark counted (F.holds files.old) (D.image swap.old)) m.old m.new (D.image swap.new)) }
+        (λ count. LeadsFrom (RestAt m.old mark counted (F.holds files.old) (stores F.Files D.SwapDev files.old swap.old))
+        (RestDone m.old m.new mark count (stores F.Files D.SwapDev files.new swap.new))) }
+    ensures stops { IfErr result (StopsFrom (RestAt m.old mark counted (F.holds files.old) (stores F.Files D.SwapDev files.old swap.old)) m.old m.new
+        (stores F.Files D.SwapDev files.new swap.new)) }
     ensures on { IfOk result (λ count. StaysOn m.old m.new count) }
     ensures kept { IfErr result (KeptAtStop m.old m.new) }
     ensures outside { TransfersPages F.Files D.SwapDev (stop_of result) files.old files.new swap.old swap.new }

@@ -1,4 +1,5 @@
 //! What is due is filled, and a step that is begun is completed.
+ghost use Rattle.io_edge.specs.WithFiles.{stores};
 ghost use Rattle.std.specs.Prelude.{◌≡◌, ◌+◌, ◌<◌, ◌≤◌, ◌^◌, length, IfOk, IfErr};
 ghost use Rattle.flat_state.specs.Journal.{instructions_of};
 ghost use Rattle.machine_state.specs.Going.{CanGoOn};
@@ -28,12 +29,14 @@ pub(crate) fn settle<F: Files, D: SwapDev>(
     requires low { last_moves m.old.kernel.journal ≤ 1000000 }
     requires counted { instructions_of m.old.kernel.journal ≡ counted }
     requires more { counted + 1 < 2 ^ 32 }
-    requires way { AtSome (WayAt m.old (F.holds files.old) (D.image swap.old)) }
+    requires way { AtSome (WayAt m.old (F.holds files.old) (stores F.Files D.SwapDev files.old swap.old)) }
     requires area { m.old.params.swap_blocks ≤ D.blocks swap.old }
     requires files { AreFiles m.old.images (F.holds files.old) }
     ensures settles { IfOk result
-        (λ count. LeadsFrom (WayAt m.old (F.holds files.old) (D.image swap.old)) (StepSettled m.old m.new counted count (D.image swap.new))) }
-    ensures stops { IfErr result (StopsFrom (WayAt m.old (F.holds files.old) (D.image swap.old)) m.old m.new (D.image swap.new)) }
+        (λ count. LeadsFrom (WayAt m.old (F.holds files.old) (stores F.Files D.SwapDev files.old swap.old))
+        (StepSettled m.old m.new counted count (stores F.Files D.SwapDev files.new swap.new))) }
+    ensures stops { IfErr result (StopsFrom (WayAt m.old (F.holds files.old) (stores F.Files D.SwapDev files.old swap.old)) m.old m.new
+        (stores F.Files D.SwapDev files.new swap.new)) }
     ensures counts { IfOk result (λ count. CountsTo m.old m.new counted count) }
     ensures kept { IfErr result (KeptAtStop m.old m.new) }
     ensures outside { TransfersPages F.Files D.SwapDev (stop_of result) files.old files.new swap.old swap.new }

@@ -1,4 +1,5 @@
 //! The start of a film.
+ghost use Rattle.io_edge.specs.WithFiles.{stores};
 ghost use Rattle.std.specs.Prelude.{◌≡◌, ◌↔◌, ◌<◌, ◌≤◌, ◌^◌, ℕ, true, List, [], length, Some, None, IfErr, Ok, Err};
 ghost use Rattle.vm_facts.specs.SwapImages.{SwapImage};
 ghost use Rattle.flat_state.specs.Flat.{Inputs};
@@ -45,9 +46,11 @@ impl Film {
         requires area { self.old.machine.params.swap_blocks ≤ D.blocks swap.old }
         requires files { AreFiles self.old.machine.images (F.holds files.old) }
         ensures space { (A : Inputs) (pid : ℕ) → StartsFrom A self.old.machine first.now → result ≡ Ok (Started.NoSpace pid) → start_held A ≡ Err pid }
-        ensures begins { result ≡ Ok Started.Ok → BeginsFilm self.old self.new first.now lines.now (F.holds files.old) (D.image swap.old) (D.image swap.new) }
-        ensures stops { (A : Inputs) (image : SwapImage) → IsTold A self.old.machine first.now (F.holds files.old) image → D.image swap.old ≡ Some image
-            → IfErr result (λ stop. StopsStartingRun A self.new.machine image stop (D.image swap.new)) }
+        ensures begins { result ≡ Ok Started.Ok → BeginsFilm self.old self.new first.now lines.now (F.holds files.old)
+            (stores F.Files D.SwapDev files.old swap.old) (stores F.Files D.SwapDev files.new swap.new) }
+        ensures stops { (A : Inputs) (image : SwapImage) → IsTold A self.old.machine first.now (F.holds files.old) image → stores F.Files D.SwapDev files.old
+            swap.old ≡ Some image
+            → IfErr result (λ stop. StopsStartingRun A self.new.machine image stop (stores F.Files D.SwapDev files.new swap.new)) }
         ensures params { result ≡ Ok Started.Ok → self.new.machine.params ≡ self.old.machine.params }
         ensures images { result ≡ Ok Started.Ok → self.new.machine.images ≡ self.old.machine.images }
         ensures outside { TransfersPages F.Files D.SwapDev (stop_of result) files.old files.new swap.old swap.new }

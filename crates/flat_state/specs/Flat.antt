@@ -130,10 +130,11 @@ pub record NamedImage : Type 0 where
   pub name : List ℕ
   pub image : Loaded
 
--- the images by number, from 1 on; the numbers of the first processes' images, by pid; the schedule; the frames and
--- swap blocks; and how many instructions may run in all
+-- the images by number, from 1 on, and the numbers by which their files are read; the numbers of the first processes' images, by
+-- pid; the schedule; the frames and swap blocks; and how many instructions may run in all
 pub record Inputs : Type 0 where
   pub images : List NamedImage
+  pub file_numbers : List ℕ
   pub first : List ℕ
   pub lines : List Event
   pub frames : ℕ

@@ -1,4 +1,5 @@
 //! The comparison of a trace with a run that goes on.
+ghost use Rattle.io_edge.specs.WithFiles.{stores};
 ghost use Rattle.std.specs.Prelude.{◌≡◌, ◌↔◌, ◌+◌, ◌-◌, ◌<◌, ◌≤◌, ◌^◌, ◌&&◌, not, nat_lt, [], ℕ, true, false, List, length, slice_get, Option, IfOk, OnOk};
 ghost use Rattle.vm_facts.specs.SwapImages.{SwapImage};
 ghost use Rattle.io_edge.specs.FileHolding.{NamedFile};
@@ -43,7 +44,7 @@ fn go_on_along<F: Files, D: SwapDev>(
     lines: &[Event],
     entries: &[Entry],
 ) -> Result<bool, NoMemory>
-    requires filming { IsFilming film.old lines.now (F.holds files.old) (D.image swap.old) }
+    requires filming { IsFilming film.old lines.now (F.holds files.old) (stores F.Files D.SwapDev files.old swap.old) }
     requires more { film.old.over ≡ false }
     requires within { length film.old.machine.kernel.journal < length entries.now }
     requires few { length entries.now < 2 ^ 32 }
@@ -51,9 +52,10 @@ fn go_on_along<F: Files, D: SwapDev>(
     requires count { length lines.now < 2 ^ 32 }
     requires area { film.old.machine.params.swap_blocks ≤ D.blocks swap.old }
     requires files { AreFiles film.old.machine.images (F.holds files.old) }
-    ensures filming { OnOk result (IsFilming film.new lines.now (F.holds files.new) (D.image swap.new)) }
-    ensures goes { IfOk result (λ agrees. (A : Inputs) → A.lines ≡ lines.now → Along A film.old (F.holds files.old) (D.image swap.old) true entries.now
-        → Along A film.new (F.holds files.new) (D.image swap.new) agrees entries.now) }
+    ensures filming { OnOk result (IsFilming film.new lines.now (F.holds files.new) (stores F.Files D.SwapDev files.new swap.new)) }
+    ensures goes { IfOk result (λ agrees. (A : Inputs) → A.lines ≡ lines.now → Along A film.old (F.holds files.old)
+        (stores F.Files D.SwapDev files.old swap.old) true entries.now
+        → Along A film.new (F.holds files.new) (stores F.Files D.SwapDev files.new swap.new) agrees entries.now) }
     ensures longer { OnOk result (length film.new.machine.kernel.journal ≡ length film.old.machine.kernel.journal + 1) }
     ensures area { OnOk result (film.new.machine.params.swap_blocks ≤ D.blocks swap.new) }
     ensures files { OnOk result (AreFiles film.new.machine.images (F.holds files.new)) }
@@ -128,7 +130,7 @@ pub fn grade_trace<F: Files, D: SwapDev>(
     lines: &[Event],
     entries: &[Entry],
 ) -> Result<Grade, NoMemory>
-    requires filming { IsFilming film.old lines.now (F.holds files.old) (D.image swap.old) }
+    requires filming { IsFilming film.old lines.now (F.holds files.old) (stores F.Files D.SwapDev files.old swap.old) }
     requires first { film.old.machine.kernel.journal ≡ [] }
     requires moves { HaveFewMoves lines.now }
     requires count { length lines.now < 2 ^ 32 }
@@ -136,7 +138,8 @@ pub fn grade_trace<F: Files, D: SwapDev>(
     requires area { film.old.machine.params.swap_blocks ≤ D.blocks swap.old }
     requires files { AreFiles film.old.machine.images (F.holds files.old) }
     ensures { IfOk result (λ grade. (A : Inputs) (image : SwapImage) → 64 ≤ A.frames → A.lines ≡ lines.now
-        → FilmBegun A film.old (F.holds files.old) (D.image swap.old) image → IsGraded A entries.now film.new.machine.kernel.journal grade) }
+        → FilmBegun A film.old (F.holds files.old) (stores F.Files D.SwapDev files.old swap.old) image → IsGraded A entries.now
+        film.new.machine.kernel.journal grade) }
 {
     let mut agrees = true;
     while goes_along(film, entries, agrees) {

@@ -1,4 +1,5 @@
 // A trace is graded by a run in memory.
+ghost use Rattle.io_edge.specs.WithFiles.{stores};
 ghost use Rattle.std.specs.Prelude.{◌≡◌, ◌++◌, ◌-◌, ◌<◌, ◌≤◌, ◌^◌, [], ℕ, List, length, map, option_map, slice_get, All, Some, IfOk, OnOk};
 ghost use Rattle.vm_facts.specs.SwapImages.{SwapImage};
 ghost use Rattle.flat_state.specs.Flat.{Inputs};
@@ -87,7 +88,7 @@ fn grade_film<F: Files, D: SwapDev>(
     lines: &[Event],
     entries: &[Entry],
 ) -> Result<Graded, NoMemory>
-    requires filming { IsFilming film.old lines.now (F.holds files.old) (D.image swap.old) }
+    requires filming { IsFilming film.old lines.now (F.holds files.old) (stores F.Files D.SwapDev files.old swap.old) }
     requires first { film.old.machine.kernel.journal ≡ [] }
     requires moves { HaveFewMoves lines.now }
     requires count { length lines.now < 2 ^ 32 }
@@ -95,7 +96,7 @@ fn grade_film<F: Files, D: SwapDev>(
     requires area { film.old.machine.params.swap_blocks ≤ D.blocks swap.old }
     requires files { AreFiles film.old.machine.images (F.holds files.old) }
     ensures { IfOk result (λ graded. (A : Inputs) (image : SwapImage) → 64 ≤ A.frames → A.lines ≡ lines.now
-        → FilmBegun A film.old (F.holds files.old) (D.image swap.old) image → TellsGrade A entries.now graded) }
+        → FilmBegun A film.old (F.holds files.old) (stores F.Files D.SwapDev files.old swap.old) image → TellsGrade A entries.now graded) }
 {
     let found = grade_trace(film, files, swap, lines, entries)?;
     let why = parted_text(alloc, found, film.journal())?;
@@ -115,7 +116,7 @@ fn grade_begun<'a, F: Files, D: SwapDev>(
     lines: &[Event],
     entries: &[Entry],
 ) -> Result<Graded, Fault<'a>>
-    requires filming { IsFilming film.old lines.now (F.holds files.old) (D.image swap.old) }
+    requires filming { IsFilming film.old lines.now (F.holds files.old) (stores F.Files D.SwapDev files.old swap.old) }
     requires first { film.old.machine.kernel.journal ≡ [] }
     requires moves { HaveFewMoves lines.now }
     requires count { length lines.now < 2 ^ 32 }
@@ -123,7 +124,7 @@ fn grade_begun<'a, F: Files, D: SwapDev>(
     requires area { film.old.machine.params.swap_blocks ≤ D.blocks swap.old }
     requires files { AreFiles film.old.machine.images (F.holds files.old) }
     ensures { (A : Inputs) (image : SwapImage) → 64 ≤ A.frames → A.lines ≡ lines.now
-        → FilmBegun A film.old (F.holds files.old) (D.image swap.old) image → EndsGrading A entries.now result }
+        → FilmBegun A film.old (F.holds files.old) (stores F.Files D.SwapDev files.old swap.old) image → EndsGrading A entries.now result }
 {
     match grade_film(alloc, film, files, swap, lines, entries) {
         Ok(graded) => Ok(graded),
@@ -151,8 +152,9 @@ fn grade_run<'a, F: Files, D: SwapDev>(
     requires few { length entries.now < 2 ^ 32 }
     requires area { film.old.machine.params.swap_blocks ≤ D.blocks swap.old }
     requires files { AreFiles film.old.machine.images (F.holds files.old) }
-    requires inputs { IsAskable film.old.machine first.now lines.now (F.holds files.old) (D.image swap.old) }
-    ensures { (A : Inputs) (image : SwapImage) → IsAskedOf A film.old.machine first.now lines.now (F.holds files.old) image → D.image swap.old ≡ Some image
+    requires inputs { IsAskable film.old.machine first.now lines.now (F.holds files.old) (stores F.Files D.SwapDev files.old swap.old) }
+    ensures { (A : Inputs) (image : SwapImage) → IsAskedOf A film.old.machine first.now lines.now (F.holds files.old) image → stores F.Files D.SwapDev
+        files.old swap.old ≡ Some image
         → EndsGrading A entries.now result }
 {
     match film.start(files, swap, first, lines) {

@@ -9,3 +9,4 @@ pub mod RunWrites
 pub mod PairRuns
 pub mod ZeroEnds
 pub mod OctetFiles
+pub mod Seen

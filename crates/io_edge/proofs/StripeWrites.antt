@@ -3,7 +3,7 @@ use Rattle.std.proofs.Common.{◌≡◌, ◌≤◌, ◌<◌, ◌+◌, ◌*◌, �
 use Rattle.std.proofs.Math.Nat.{eq-or-lt_of_le}
 use Rattle.io_edge.specs.SwapImage.{bytes_told, HoldsPage, ReadsPage, WritesPage}
 use Rattle.vm_facts.specs.Swap.{blocks_at, put_blocks}
-use Rattle.vm_facts.specs.SwapImages.{SwapRequest, SwapRead, SwapWrite, Noted, Both, SwapImage, with_request}
+use Rattle.vm_facts.specs.SwapImages.{StoreRequest, SwapRead, SwapWrite, Noted, Both, SwapImage, with_request}
 use Rattle.io_edge.specs.Striping.{device_of, place_of, of_device, block_at, first_blocks, pair_blocks, block_asked, placed, asked_of_zero, asked_of_one, images_paired, pair_image}
 use Rattle.vm_facts.proofs.Swap.{blocks_at-put_blocks_same}
 use Rattle.io_edge.proofs.Pages.{put_blocks-append, put_blocks_last, block_at-put_blocks_other}
@@ -131,19 +131,19 @@ holds_odd blocks block unit (Some evens) (Some odds) bytes even within tell on h
 -- What the devices note of a request that is made of their pair.
 
 -- by the device that gets it
-abbrev either_noted : SwapImage → SwapImage → SwapRequest → ℕ → List SwapRequest → Noted
+abbrev either_noted : SwapImage → SwapImage → StoreRequest → ℕ → List StoreRequest → Noted
 either_noted evens odds r device more =
     Both (evens.noted (of_device device (placed r ∷ asked_of_zero more) (asked_of_zero more)))
     (odds.noted (of_device device (asked_of_one more) (placed r ∷ asked_of_one more)))
 
 -- on device 0
-noted_even : (evens odds : SwapImage) (r : SwapRequest) → device_of (block_asked r) ≡ 0
+noted_even : (evens odds : SwapImage) (r : StoreRequest) → device_of (block_asked r) ≡ 0
     → with_request r (images_paired 0 evens odds) ≡ images_paired 0 (with_request (placed r) evens) odds
 noted_even evens odds r on =
     ap (λ (device : ℕ). record (images_paired 0 evens odds) { noted = either_noted evens odds r device }) on
 
 -- on device 1
-noted_odd : (evens odds : SwapImage) (r : SwapRequest) (unit : ℕ) → device_of (block_asked r) ≡ suc unit
+noted_odd : (evens odds : SwapImage) (r : StoreRequest) (unit : ℕ) → device_of (block_asked r) ≡ suc unit
     → with_request r (images_paired 0 evens odds) ≡ images_paired 0 evens (with_request (placed r) odds)
 noted_odd evens odds r unit on =
     ap (λ (device : ℕ). record (images_paired 0 evens odds) { noted = either_noted evens odds r device }) on

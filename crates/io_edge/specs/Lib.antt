@@ -1,3 +1,4 @@
+pub use Rattle.vm_facts.specs.FileRequests
 pub mod Count
 pub mod Plan
 pub mod PlanLaws
@@ -16,3 +17,4 @@ pub mod FailedDevice
 pub mod Transfer
 pub mod Zeros
 pub mod Octets
+pub mod WithFiles

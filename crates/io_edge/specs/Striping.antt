@@ -1,6 +1,6 @@
 -- A pair of swap devices, striped by units of 1,024 blocks: even units on device 0, odd ones on device 1.
 use Rattle.std.specs.Prelude.{◌≡◌, ◌≤◌, ◌<◌, ◌+◌, ◌*◌, ◌/◌, ◌%◌, ◌-◌, min, ℕ, zero, suc, List, [], ◌∷◌, ◌++◌, take, drop, Option, Some, None}
-use Rattle.vm_facts.specs.SwapImages.{SwapRequest, SwapRead, SwapWrite, Noted, Both, SwapImage}
+use Rattle.vm_facts.specs.SwapImages.{StoreRequest, SwapRead, SwapWrite, OfFiles, Noted, Both, SwapImage}
 
 -- the number of a device of a pair
 abbrev pub IsDevice : ℕ → Type 0
@@ -63,28 +63,30 @@ unfoldable pub first_blocks : ℕ → List ℕ → List ℕ → List ℕ
 first_blocks zero evens odds = []
 first_blocks (suc block) evens odds = first_blocks block evens odds ++ block_at (of_device (device_of block) evens odds) (place_of block)
 
--- the first block that a request names
-abbrev pub block_asked : SwapRequest → ℕ
+-- the first block that a request names; one of files names none, and is made of no swap device
+abbrev pub block_asked : StoreRequest → ℕ
 block_asked (SwapRead block) = block
 block_asked (SwapWrite block) = block
+block_asked (OfFiles request) = 0
 
 -- the same request of the device that has the block, at its place there
-abbrev pub placed : SwapRequest → SwapRequest
+abbrev pub placed : StoreRequest → StoreRequest
 placed (SwapRead block) = SwapRead (place_of block)
 placed (SwapWrite block) = SwapWrite (place_of block)
+placed (OfFiles request) = OfFiles request
 
 -- of the requests made of a pair, those that device 0 gets
-abbrev pub asked_of_zero : List SwapRequest → List SwapRequest
+abbrev pub asked_of_zero : List StoreRequest → List StoreRequest
 asked_of_zero [] = []
 asked_of_zero (r ∷ rs) = of_device (device_of (block_asked r)) (placed r ∷ asked_of_zero rs) (asked_of_zero rs)
 
 -- and those that device 1 gets
-abbrev pub asked_of_one : List SwapRequest → List SwapRequest
+abbrev pub asked_of_one : List StoreRequest → List StoreRequest
 asked_of_one [] = []
 asked_of_one (r ∷ rs) = of_device (device_of (block_asked r)) (asked_of_one rs) (placed r ∷ asked_of_one rs)
 
 -- what two devices have noted, once these requests are made of their pair
-abbrev pub both_noted : SwapImage → SwapImage → List SwapRequest → Noted
+abbrev pub both_noted : SwapImage → SwapImage → List StoreRequest → Noted
 both_noted evens odds more = Both (evens.noted (asked_of_zero more)) (odds.noted (asked_of_one more))
 
 -- the image of a pair of so many blocks

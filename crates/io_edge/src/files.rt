@@ -2,6 +2,7 @@
 ghost use Rattle.std.specs.Prelude.{◌≡◌, ℕ, ◌<◌, ◌≤◌, List, Option, length};
 ghost use Rattle.io_edge.specs.Count.{Counts, OnDone};
 ghost use Rattle.io_edge.specs.FileHolding.{NamedFile, AnswersName, CountsFind, HasRange, HoldsRange};
+ghost use Rattle.io_edge.specs.FileRequests.{FileNotes, FileFind, FileRead, after_request};
 
 use crate::{Found, Moved};
 
@@ -13,6 +14,10 @@ use crate::{Found, Moved};
 pub trait Files {
     /// The names and bytes of all files, in order, where they are told.
     ghost holds: { Self → Option (List NamedFile) };
+
+    /// What will have been noted, once further requests are made. Code over any files knows it by the clauses of the calls
+    /// alone: each call notes its request, also one that fails, and nothing else does.
+    ghost notes: { Self → FileNotes };
 
     /// How often a `find`, or a `read_at` of offset 0, has failed.
     ghost open_faults: { Self → ℕ };
@@ -28,6 +33,7 @@ pub trait Files {
     fn find(&mut self, name: &str) -> Found
         ensures leads { leads self.old self.new }
         ensures holds { holds self.new ≡ holds self.old }
+        ensures notes { notes self.new ≡ after_request (FileFind name.now) (notes self.old) }
         ensures answer { AnswersName (holds self.old) name.now result }
         ensures open_faults { CountsFind result (open_faults self.old) (open_faults self.new) }
         ensures page_faults { page_faults self.new ≡ page_faults self.old };
@@ -38,6 +44,7 @@ pub trait Files {
         requires { HasRange (holds self.old) id offset (length buf.old) }
         ensures leads { leads self.old self.new }
         ensures holds { holds self.new ≡ holds self.old }
+        ensures notes { notes self.new ≡ after_request (FileRead id offset (length buf.old)) (notes self.old) }
         ensures done { OnDone result (HoldsRange (holds self.old) id offset buf.new) }
         ensures open_faults { offset ≡ 0 → Counts result (open_faults self.old) (open_faults self.new) }
         ensures open_stays { 0 < offset → open_faults self.new ≡ open_faults self.old }

@@ -7,6 +7,7 @@ ghost use Rattle.io_edge.specs.FileHolding.{AnswersName, CountsFind, HasRange, H
 ghost use Rattle.io_edge.specs.Octets.{AreOctetFiles};
 ghost use Rattle.io_edge.specs.Plan.{FailsNext, IsNewPlan, LaterCalls, NextCall};
 ghost use Rattle.io_edge.specs.PlanLaws.{later_itself, later_through};
+ghost use Rattle.io_edge.specs.FileRequests.{FileFind, FileRead, after_request, no_notes};
 
 use crate::count::{FaultPlan, raised};
 use crate::{Files, Found, Moved, are_octet_files};
@@ -47,6 +48,8 @@ impl SureFiles {
 
 impl Files for SureFiles {
     ghost holds = { λ f. Some (map named_file f.files.items) };
+
+    ghost notes = { λ _. no_notes };
 
     ghost open_faults = { λ _. 0 };
 
@@ -113,6 +116,8 @@ impl MemFiles {
 impl Files for MemFiles {
     ghost holds = { λ f. Some (map named_file f.store.files.items) };
 
+    ghost notes = { λ _. no_notes };
+
     ghost open_faults = { λ f. f.open_faults };
 
     ghost page_faults = { λ f. f.page_faults };
@@ -122,6 +127,7 @@ impl Files for MemFiles {
 
     fn find(&mut self, name: &str) -> Found
         ensures kept { KeepsFiles ⟦<MemFiles as Files>⟧ self.old self.new }
+        ensures notes { ⟦<MemFiles as Files>⟧.notes self.new ≡ after_request (FileFind name.now) (⟦<MemFiles as Files>⟧.notes self.old) }
         ensures answer { AnswersName (⟦<MemFiles as Files>⟧.holds self.old) name.now result }
         ensures open_faults { CountsFind result self.old.open_faults self.new.open_faults }
         ensures page_faults { self.new.page_faults ≡ self.old.page_faults }
@@ -140,6 +146,7 @@ impl Files for MemFiles {
     fn read_at(&mut self, id: u32, offset: u64, buf: &mut [u8]) -> Moved
         requires { HasRange (⟦<MemFiles as Files>⟧.holds self.old) id offset (length buf.old) }
         ensures kept { KeepsFiles ⟦<MemFiles as Files>⟧ self.old self.new }
+        ensures notes { ⟦<MemFiles as Files>⟧.notes self.new ≡ after_request (FileRead id offset (length buf.old)) (⟦<MemFiles as Files>⟧.notes self.old) }
         ensures done { OnDone result (HoldsRange (⟦<MemFiles as Files>⟧.holds self.old) id offset buf.new) }
         ensures open_faults { offset ≡ 0 → Counts result self.old.open_faults self.new.open_faults }
         ensures open_stays { 0 < offset → self.new.open_faults ≡ self.old.open_faults }

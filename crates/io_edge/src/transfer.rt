@@ -1,6 +1,7 @@
 // Transfers that answer a `Result`, for the operator `?`.
 ghost use Rattle.std.specs.Prelude.{◌≡◌, ◌<◌, length, OnOk, OnErr};
-ghost use Rattle.io_edge.specs.Transfer.{CountsErr};
+ghost use Rattle.io_edge.specs.Transfer.{CountsErr, range_asked};
+ghost use Rattle.io_edge.specs.FileRequests.{after_requests};
 ghost use Rattle.io_edge.specs.FileHolding.{HasRange, HoldsRange};
 ghost use Rattle.io_edge.specs.Written.{Appends, AppendsSome};
 
@@ -29,6 +30,7 @@ pub fn read_range<F: Files>(
     requires { HasRange (F.holds files.old) id offset (length buf.old) }
     ensures leads { F.leads files.old files.new }
     ensures holds { F.holds files.new ≡ F.holds files.old }
+    ensures notes { F.notes files.new ≡ after_requests (range_asked id offset (length buf.old)) (F.notes files.old) }
     ensures done { OnOk result (HoldsRange (F.holds files.old) id offset buf.new) }
     ensures open_faults { offset ≡ 0 → CountsErr result (F.open_faults files.old) (F.open_faults files.new) }
     ensures open_stays { 0 < offset → F.open_faults files.new ≡ F.open_faults files.old }

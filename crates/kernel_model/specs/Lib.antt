@@ -11,5 +11,6 @@ pub mod Start
 pub mod Unit
 pub mod Invariant
 pub mod SwapRequests
+pub mod Requests
 pub mod HandParts
 pub mod HandMoves

@@ -15,7 +15,8 @@
 //! - Unit: `KernelUnit`, one case for each step of the kernel, and `kernel_after`: what it does to the machine, to the pieces
 //!   that wait, to the swap image and to the flat state.
 //! - Invariant: `Invariant`, all that is so of the kernel between two units; and `May`, what each unit asks.
-//! - SwapRequests: `unit_asks`, what a unit asks of swap; `image_done`, the device as it is told once the oldest transfer ended.
+//! - SwapRequests: what is asked of swap. Requests: `unit_asks`, what a unit asks of swap and of the files of the images; `image_done`, the
+//!   device as it is told once the oldest transfer ended.
 //!
 //! The laws on all these are the clauses of `kernel_laws`.
 //!

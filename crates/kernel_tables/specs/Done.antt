@@ -1,17 +1,18 @@
 -- The end of a transfer, through its device.
 use Rattle.std.specs.Prelude.{◌≡◌, ◌⊎◌, ◌↔◌, ℕ, ◌<◌, ◌≤◌, Bool, List, [], ◌∷◌, length, Option, Some, None, Result, Ok, Err}
 use Rattle.flat_state.specs.Flat.{FlatState, NamedImage}
-use Rattle.vm_facts.specs.SwapImages.{SwapImage}
+use Rattle.vm_facts.specs.SwapImages.{SwapImage, with_requests}
 use Rattle.vm_facts.specs.declared.stop.Stop.{Stop}
 use Rattle.vm_facts.specs.declared.stop.Stop.TheVariants as stops
 use Rattle.transfer_ring.specs.FileHolding.{NamedFile}
-use Rattle.page_model.specs.Placement.{Transfer, Part, Source, FromSwap, FromFile, Errand, Writes, Reads}
+use Rattle.page_model.specs.Placement.{Transfer, Part, Source, FromSwap, FromFile, Errand, Writes, Reads, image_of}
 use Rattle.page_model.specs.Ownership.{block_of}
 use Rattle.kernel_model.specs.Kernel.{Kernel, done_step, frame_bytes}
-use Rattle.kernel_model.specs.SwapRequests.{read_at, write_at, image_done}
+use Rattle.kernel_model.specs.SwapRequests.{write_at}
+use Rattle.kernel_model.specs.Requests.{ImageFile, read_asks, image_done}
 use Rattle.kernel_model.specs.Sound.{TextFits}
 use Rattle.kernel_model.specs.Coupled.{Coupled, AreRead, beside_kernel}
-use Rattle.kernel_tables.specs.Sourced.{ImageNamed}
+use Rattle.kernel_tables.specs.Sourced.{ImageNamed, files_named}
 use Rattle.kernel_tables.specs.Machine.{Standing}
 use Rattle.kernel_tables.specs.Conditions.{HasStopped}
 use Rattle.kernel_tables.specs.Failing.{LosesFor}
@@ -64,10 +65,11 @@ KeepsThrough old new holds before after =
     (images : List NamedImage) (flat : FlatState) → AreImages old.images holds images → TextFits images old.kernel.place
     → StandsTold old.kernel images before flat → StandsTold new.kernel images after flat
 
--- the swap image, where it is told, after the oldest transfer: each page of swap was asked for once, in their order
-abbrev pub ImageAfter : Kernel → Option SwapImage → Option SwapImage → Type 0
-ImageAfter k None after = after ≡ None
-ImageAfter k (Some image) after = after ≡ Some (image_done k image)
+-- the swap image, where it is told, after the oldest transfer: each of its pages was asked for once, in their order, of swap or of the
+-- file that has it
+abbrev pub ImageAfter : List ImageFile → Kernel → Option SwapImage → Option SwapImage → Type 0
+ImageAfter files k None after = after ≡ None
+ImageAfter files k (Some image) after = after ≡ Some (image_done files k image)
 
 -- some pages of a write are in their blocks, and one page's blocks have any bytes: its write is the last request
 abbrev pub SpoilsAll : Kernel → SwapImage → List Part → SwapImage → Type 0
@@ -87,20 +89,26 @@ SpoilsAfter k None after = after ≡ None
 SpoilsAfter k (Some image) after = (spoiled : SwapImage) × (after ≡ Some spoiled) × SpoilsFirst k image k.place.transfers spoiled
 
 -- some pages of a read were asked for, in their order, and no byte changed: the last of them is the one whose read failed
-abbrev pub AskedAll : Kernel → SwapImage → List Part → SwapImage → Type 0
-AskedAll k image [] after = ⊥
-AskedAll k image (x ∷ xs) after =
-    (after ≡ read_at image (block_of k.holdings x.page)) ⊎ AskedAll k (read_at image (block_of k.holdings x.page)) xs after
+abbrev pub AskedAll : List ImageFile → Kernel → Source → SwapImage → List Part → SwapImage → Type 0
+AskedAll files k source image [] after = ⊥
+AskedAll files k source image (x ∷ xs) after =
+    (after ≡ with_requests (read_asks files (image_of k.place) k.holdings source x) image)
+    ⊎ AskedAll files k source (with_requests (read_asks files (image_of k.place) k.holdings source x) image) xs after
 
--- what a read from swap that failed leaves of the image: the oldest transfer is that read
-abbrev pub AskedFirst : Kernel → SwapImage → List Transfer → SwapImage → Type 0
-AskedFirst k image [] after = ⊥
-AskedFirst k image (t ∷ ts) after = AskedAll k image t.parts after
+-- by what a transfer is for
+abbrev pub AskedFor : List ImageFile → Kernel → Errand → SwapImage → List Part → SwapImage → Type 0
+AskedFor files k Writes image xs after = ⊥
+AskedFor files k (Reads source demanded) image xs after = AskedAll files k source image xs after
 
--- the swap image, where it is told, after the oldest transfer's read from swap failed
-abbrev pub AskedAfter : Kernel → Option SwapImage → Option SwapImage → Type 0
-AskedAfter k None after = after ≡ None
-AskedAfter k (Some image) after = (asked : SwapImage) × (after ≡ Some asked) × AskedFirst k image k.place.transfers asked
+-- what a read that failed leaves of the image: the oldest transfer is that read
+abbrev pub AskedFirst : List ImageFile → Kernel → SwapImage → List Transfer → SwapImage → Type 0
+AskedFirst files k image [] after = ⊥
+AskedFirst files k image (t ∷ ts) after = AskedFor files k t.errand image t.parts after
+
+-- the swap image, where it is told, after the oldest transfer's read failed
+abbrev pub AskedAfter : List ImageFile → Kernel → Option SwapImage → Option SwapImage → Type 0
+AskedAfter files k None after = after ≡ None
+AskedAfter files k (Some image) after = (asked : SwapImage) × (after ≡ Some asked) × AskedFirst files k image k.place.transfers asked
 
 -- what the oldest transfer is for
 abbrev pub IsReadFrom : Source → Errand → Type 0
@@ -128,17 +136,18 @@ StopsFor (Err stops.SwapWriteFault) ts = OldestWrites ts
 
 -- The swap image after a call that stopped: it has the requests up to the one that failed, and only a write that failed changes
 -- a byte.
-abbrev pub SwapAfter : Result Bool Stop → Kernel → Option SwapImage → Option SwapImage → Type 0
-SwapAfter (Err stops.SwapReadFault) k before after = AskedAfter k before after
-SwapAfter (Err stops.SwapWriteFault) k before after = SpoilsAfter k before after
-SwapAfter _ k before after = after ≡ before
+abbrev pub SwapAfter : Result Bool Stop → List ImageFile → Kernel → Option SwapImage → Option SwapImage → Type 0
+SwapAfter (Err stops.FileFault) files k before after = AskedAfter files k before after
+SwapAfter (Err stops.SwapReadFault) files k before after = AskedAfter files k before after
+SwapAfter (Err stops.SwapWriteFault) files k before after = SpoilsAfter k before after
+SwapAfter _ files k before after = after ≡ before
 
 -- The end of the oldest transfer stops the machine, in which no pieces wait: the journal was full exactly where it was at its
--- bound, a fault comes of a transfer of its own kind, which is lost with its frames, and of swap no more was asked than up to the fault.
+-- bound, a fault comes of a transfer of its own kind, which is lost with its frames, and no more was asked than up to the fault.
 pub record StopsEnding (old new : Standing) (before after : Option SwapImage) (stop : Stop) : Type 0 where
   pub stopped : HasStopped old new
   pub whole : old.before ≡ old.kernel.holdings
   pub full : (stop ≡ stops.JournalFull) ↔ ((0 < length old.kernel.place.transfers) × (old.params.journal ≤ length old.kernel.journal))
   pub cause : let r : Result Bool Stop = Err stop in StopsFor r old.kernel.place.transfers
   pub lost : let r : Result Bool Stop = Err stop in LosesFor r old new
-  pub image : let r : Result Bool Stop = Err stop in SwapAfter r old.kernel before after
+  pub image : let r : Result Bool Stop = Err stop in SwapAfter r (files_named old.images) old.kernel before after

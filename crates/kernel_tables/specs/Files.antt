@@ -2,8 +2,9 @@
 use Rattle.std.specs.Prelude.{◌≡◌, ◌<◌, ◌≤◌, List, [], ◌∷◌, length, Option, Some, None}
 use Rattle.aout_image.specs.Image.{file_length_of, loaded}
 use Rattle.transfer_ring.specs.FileHolding.{NamedFile, bytes_at}
-use Rattle.flat_state.specs.Flat.{NamedImage}
-use Rattle.kernel_tables.specs.Sourced.{ImageNamed}
+use Rattle.flat_state.specs.Flat.{NamedImage, Inputs}
+use Rattle.kernel_model.specs.Requests.{image_files}
+use Rattle.kernel_tables.specs.Sourced.{ImageNamed, files_named}
 
 -- an image's file is there, with all that its header says
 pub record HasFile (n : ImageNamed) (files : List NamedFile) : Type 0 where
@@ -30,3 +31,7 @@ AreLoaded ns files xs = ⊥
 abbrev pub AreImages : List ImageNamed → Option (List NamedFile) → List NamedImage → Type 0
 AreImages ns None images = ⊥
 AreImages ns (Some files) images = AreLoaded ns files images
+
+-- these are the images of a run, and their files have the numbers by which it reads them
+abbrev pub AreRunImages : List ImageNamed → Option (List NamedFile) → Inputs → Type 0
+AreRunImages ns holds A = AreImages ns holds A.images × (files_named ns ≡ image_files A)

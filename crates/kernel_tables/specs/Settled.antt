@@ -7,6 +7,7 @@ use Rattle.space_map.specs.Space.{Places}
 use Rattle.page_model.specs.Swapper.{is_settled}
 use Rattle.kernel_model.specs.Kernel.{Kernel}
 use Rattle.kernel_tables.specs.Machine.{Standing}
+use Rattle.kernel_tables.specs.Sourced.{files_named}
 use Rattle.kernel_tables.specs.Done.{Sources, sources, IsDone, ImageAfter, StopsEnding}
 
 -- so many transfers end, one after another, each while the space isn't settled
@@ -14,7 +15,8 @@ abbrev pub EndsWhile : Sources → ℕ → ℕ → Kernel → Option SwapImage �
 EndsWhile from sid zero k i l j = (l ≡ k) × (j ≡ i)
 EndsWhile from sid (suc n) k i l j =
     (is_settled k.place sid ≡ false)
-    × ((next : Kernel) × (between : Option SwapImage) × IsDone from i k next × ImageAfter k i between × EndsWhile from sid n next between l j)
+    × ((next : Kernel) × (between : Option SwapImage) × IsDone from i k next × ImageAfter (files_named from.images) k i between × EndsWhile from sid n next
+    between l j)
 
 -- until it is settled
 pub record SettledBy (from : Sources) (sid : ℕ) (old new : Kernel) (before after : Option SwapImage) : Type 0 where

@@ -1,5 +1,5 @@
 -- Where the parts of the transfers in flight are read from and written to.
-use Rattle.std.specs.Prelude.{◌≡◌, ℕ, zero, suc, ◌+◌, ◌-◌, ◌*◌, ◌<◌, min, Bool, true, false, List, [], ◌∷◌, length, slice_get, Option, Some, None}
+use Rattle.std.specs.Prelude.{◌≡◌, ℕ, zero, suc, ◌+◌, ◌-◌, ◌*◌, ◌<◌, min, Bool, true, false, List, [], ◌∷◌, length, map, slice_get, Option, Some, None}
 use Rattle.vm_facts.specs.declared.page.Page.{Page}
 use Rattle.vm_facts.specs.declared.page.Page.TheVariants.{Data, Stack, Text}
 use Rattle.aout_image.specs.declared.Image.{Image}
@@ -14,6 +14,7 @@ use Rattle.transfer_ring.specs.declared.transfer.Source.TheVariants as froms
 use Rattle.transfer_ring.specs.Sound.{IsBlock}
 use Rattle.page_model.specs.Placement.{Source}
 use Rattle.page_model.specs.Ownership.{block_of}
+use Rattle.kernel_model.specs.Requests.{ImageFile}
 use Rattle.kernel_tables.specs.View.{source_of, source_shown}
 
 -- an image: its name, the number of its file, and what its header says
@@ -26,6 +27,14 @@ pub record ImageNamed : Type 0 where
 abbrev pub AreNames : List ImageNamed → Type 0
 AreNames [] = Unit {0}
 AreNames (n ∷ ns) = (0 < length n.name) × (length n.name < 64) × AreNames ns
+
+-- the file of an image
+abbrev pub image_file : ImageNamed → ImageFile
+image_file n = record { file = n.file; facts = n.facts }
+
+-- those of images, by number
+abbrev pub files_named : List ImageNamed → List ImageFile
+files_named ns = map image_file ns
 
 -- images are numbered from 1
 abbrev pub named_at : List ImageNamed → ℕ → Option ImageNamed

@@ -1,6 +1,6 @@
 -- What a swap device says of its image is what the model says of it.
 use Rattle.std.proofs.Common.{◌≡◌, ℕ, List, ◌++◌, Option, Some, None, refl, sym, ap, ◌∙◌}
-use Rattle.vm_facts.specs.SwapImages.{SwapRequest, SwapWrite, SwapImage, with_requests}
+use Rattle.vm_facts.specs.SwapImages.{StoreRequest, SwapWrite, SwapImage, with_requests}
 use Rattle.vm_facts.specs.declared.page.Page.{Page}
 use Rattle.io_edge.specs.SwapImage as device
 use Rattle.swap_book.specs.Holdings.{Holdings}
@@ -24,7 +24,7 @@ pub written_is : (hs : Holdings) (image : SwapImage) (bytes : List ℕ) (q : Pag
 written_is hs image bytes q b new e h = h ∙ ap (λ (i : SwapImage). Some i) (sym (ap (λ (o : Option ℕ). write_at image o bytes) e))
 
 -- a page that was written first, before these requests
-pub written_first : (image : SwapImage) (o : Option ℕ) (bytes put : List ℕ) (rest : List SwapRequest)
+pub written_first : (image : SwapImage) (o : Option ℕ) (bytes put : List ℕ) (rest : List StoreRequest)
     → with_requests rest (record (write_at image o bytes) { bytes = put }) ≡ with_requests (asked_at SwapWrite o ++ rest) (record image { bytes = put })
 written_first image None bytes put rest = refl
 written_first image (Some b) bytes put rest = refl

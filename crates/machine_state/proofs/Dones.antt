@@ -17,7 +17,6 @@ use Rattle.transfer_ring.specs.Parts.{AsksSome}
 use Rattle.page_model.specs.Placement.{Placement, Transfer, Source, FromSwap, FromFile, Writes, moving, flying, image_of}
 use Rattle.page_model.specs.Moves.{done}
 use Rattle.kernel_model.specs.Kernel.{Kernel, landed, done_step, image_after_of}
-use Rattle.kernel_model.specs.SwapRequests.{oldest_asks}
 use Rattle.kernel_model.specs.Sound.{Sound, TextFits}
 use Rattle.kernel_model.specs.Coupled.{AreRead, beside_kernel}
 use Rattle.table_steps.proofs.Done.{done_coupled_step}
@@ -28,7 +27,8 @@ use Rattle.table_steps.specs.Sourced.{ImageNamed, AreSourcedIn, IsFlightSourced,
 use Rattle.table_steps.specs.Files.{AreFiles, AreImages}
 use Rattle.table_steps.specs.Machine.{Standing, lists_of, kernel_by, image_at, images_of}
 use Rattle.table_steps.specs.Moves.{LandedAll, ending}
-use Rattle.table_steps.specs.Done.{ReadsTold, IsWholeFlight, ImageAfter, SpoilsFirst, SpoilsAfter, AskedAll, AskedFirst, AskedAfter, OldestReadsFrom, StandsTold}
+use Rattle.table_steps.specs.Done.{ReadsTold, IsWholeFlight, SpoilsFirst, SpoilsAfter, OldestReadsFrom, StandsTold}
+use Rattle.machine_state.proofs.SwapAsked.{swap_oldest_asks, SwapDone, SwapAskedAll, SwapAskedFirst, SwapAskedAfter}
 use Rattle.table_steps.proofs.Kernels.{kernel_ext}
 use Rattle.core_map.specs.Frames.{IsSoundMap}
 use Rattle.machine_state.specs.declared.machine.Machine.TheInside.{Inside}
@@ -126,7 +126,7 @@ before m s o rest h e g core ring = record {
       (subst (λ (hs : Holdings). AreSourced (images_of m.tables) (image_at m.tables) hs m.tables.book.size m.tables.ring) (whole_now m s e g.whole) (stands_now m s h e g.running.runs).stands.ring);
 }
 
-oldest_first : (t : Tables) (ns : List ImageNamed) (k : Kernel) (o : Flight) (rest : List Flight) (size : ℕ) → Before t ns k o rest size
+pub oldest_first : (t : Tables) (ns : List ImageNamed) (k : Kernel) (o : Flight) (rest : List Flight) (size : ℕ) → Before t ns k o rest size
     → k.place.transfers ≡ transfer_shown o ∷ map transfer_shown rest
 oldest_first t ns k o rest size b = ap (λ (p : Placement). p.transfers) b.place ∙ ap (map transfer_shown) b.ring
 
@@ -143,11 +143,11 @@ out_numbers (x ∷ xs) = ap (λ (ns : List ℕ). x.token.number ∷ ns) (out_num
 
 -- after the oldest of these transfers completes
 abbrev image_done_of : Kernel → SwapImage → List Transfer → SwapImage
-image_done_of k image ts = with_requests (oldest_asks k.holdings ts) (record image { bytes = image_after_of k image.bytes ts })
+image_done_of k image ts = with_requests (swap_oldest_asks k.holdings ts) (record image { bytes = image_after_of k image.bytes ts })
 
 pub done_image : (t : Tables) (ns : List ImageNamed) (k : Kernel) (o n : Flight) (rest : List Flight) (size : ℕ) (holds : Option (List NamedFile))
     (before after : Option SwapImage)
-    → Before t ns k o rest size → Ends o holds before after (answers.Done n) → ImageAfter k before after
+    → Before t ns k o rest size → Ends o holds before after (answers.Done n) → SwapDone k before after
 done_image t ns k (flights.Read demanded parts) n rest size holds None after b e = none_asked parts.items after e.1
 done_image t ns k (flights.Read demanded parts) n rest size holds (Some image) after b e =
     pages_asked_for ns (image_of k.place) k.holdings size (source_shown parts.items) demanded image parts.items after b.sourced e.1
@@ -169,19 +169,19 @@ spoiled_image t ns k (flights.Write parts) n rest size holds (Some image) after 
 -- a read from swap that failed
 asked_some : (ns : List ImageNamed) (f : ℕ → ℕ) (k : Kernel) (size : ℕ) (image : SwapImage) (parts : List Inbound) (s : Source) (after : Option SwapImage)
     → s ≡ FromSwap → AreSourcedIn ns f k.holdings size s parts → AsksSome parts (Some image) after
-    → (asked : SwapImage) × (after ≡ Some asked) × AskedAll k image (map in_part parts) asked
+    → (asked : SwapImage) × (after ≡ Some asked) × SwapAskedAll k image (map in_part parts) asked
 asked_some ns f k size image parts FromSwap after e r h = swap_asked_some ns f k size image parts after r h
 asked_some ns f k size image parts FromFile after e r h = absurd cc
 
 pub asked_image : (t : Tables) (ns : List ImageNamed) (k : Kernel) (o n : Flight) (rest : List Flight) (size : ℕ) (holds : Option (List NamedFile))
     (before after : Option SwapImage)
-    → Before t ns k o rest size → OldestReadsFrom FromSwap k.place.transfers → Ends o holds before after (answers.SwapReadFault n) → AskedAfter k before after
+    → Before t ns k o rest size → OldestReadsFrom FromSwap k.place.transfers → Ends o holds before after (answers.SwapReadFault n) → SwapAskedAfter k before after
 asked_image t ns k (flights.Write parts) n rest size holds before after b from e = absurd e
 asked_image t ns k (flights.Read demanded parts) n rest size holds None after b from e = none_asked_some parts.items after e.1
 asked_image t ns k (flights.Read demanded parts) n rest size holds (Some image) after b from e =
     let first = oldest_first t ns k (flights.Read demanded parts) rest size b in
     let s = asked_some ns (image_of k.place) k size image parts.items (source_shown parts.items) after (subst (OldestReadsFrom FromSwap) first from) b.sourced e.1 in
-    (s.0, s.1, subst (λ (ts : List Transfer). AskedFirst k image ts s.0) (sym first) s.2)
+    (s.0, s.1, subst (λ (ts : List Transfer). SwapAskedFirst k image ts s.0) (sym first) s.2)
 
 -- a read from a file that failed
 unasked : (ns : List ImageNamed) (f : ℕ → ℕ) (hs : Holdings) (size : ℕ) (parts : List Inbound) (s : Source) (before after : Option SwapImage)

@@ -72,3 +72,6 @@ pub mod Holding
 pub mod HoldingSteps
 pub mod WritesGoOn
 pub mod PartSteps
+pub mod SwapAsked
+pub mod Noting
+pub mod Besides

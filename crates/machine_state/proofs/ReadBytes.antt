@@ -2,7 +2,7 @@
 use Rattle.std.proofs.Common.{◌≡◌, inl, inr, ℕ, zero, suc, ◌+◌, ◌-◌, ◌*◌, ◌/◌, ◌≤◌, min, Bool, true, false, List, [], ◌∷◌, ◌++◌, length, map, take, drop, replicate, Option, Some, None, slice_get, refl, sym, ap, ◌∙◌, subst, arith}
 use Rattle.std.proofs.lemmas.List.{take-append-drop, length-take}
 use Rattle.flat_state.specs.Flat.{FlatState, NamedImage, image_numbered}
-use Rattle.vm_facts.specs.SwapImages.{SwapRequest, SwapRead, SwapWrite, SwapImage, with_requests}
+use Rattle.vm_facts.specs.SwapImages.{StoreRequest, SwapRead, SwapWrite, SwapImage, with_requests}
 use Rattle.vm_facts.proofs.Requests.{with_requests-append}
 use Rattle.vm_facts.specs.declared.page.Page.{Page}
 use Rattle.vm_facts.specs.declared.page.Page.TheVariants.{Data, Stack, Text}
@@ -22,11 +22,12 @@ use Rattle.page_model.specs.PageBytes.{source_bytes}
 use Rattle.kernel_model.specs.Kernel.{Kernel, store_all, frame_bytes}
 use Rattle.kernel_model.specs.Coupled.{beside_kernel, file_of, image_text, data_of}
 use Rattle.page_model.specs.Stored.{store_at}
-use Rattle.kernel_model.specs.SwapRequests.{asked_at, pages_asked, errand_asks, read_at, write_at}
+use Rattle.kernel_model.specs.SwapRequests.{asked_at, pages_asked, read_at, write_at}
 use Rattle.table_steps.specs.View.{source_of, in_part, out_part}
 use Rattle.table_steps.specs.Sourced.{ImageNamed, named_at, IsRange, IsRangeOf, IsPageRange, IsSourced, AreSourcedIn, AreOwnBlocks}
 use Rattle.table_steps.specs.Files.{HasFile, HaveFiles, AreFiles, AreLoaded, AreImages}
-use Rattle.table_steps.specs.Done.{AreWholePages, AskedAll, SpoilsAll}
+use Rattle.table_steps.specs.Done.{AreWholePages, SpoilsAll}
+use Rattle.machine_state.proofs.SwapAsked.{swap_errand_asks, SwapAskedAll}
 use Rattle.machine_state.proofs.Device.{read_is, asked_is, written_is, written_first}
 use Rattle.machine_state.proofs.Reaches.{file_at, given_within}
 use Rattle.machine_state.proofs.Ends.{AreBytes}
@@ -166,7 +167,7 @@ files_asked ns f hs size (x ∷ xs) old new r h = files_asked ns f hs size xs h.
 
 pub pages_asked_for : (ns : List ImageNamed) (f : ℕ → ℕ) (hs : Holdings) (size : ℕ) (s : Source) (demanded : Page) (image : SwapImage) (xs : List Inbound)
     (new : Option SwapImage) → AreSourcedIn ns f hs size s xs → AsksParts xs (Some image) new
-    → new ≡ Some (with_requests (errand_asks hs (Reads s demanded) (map in_part xs)) image)
+    → new ≡ Some (with_requests (swap_errand_asks hs (Reads s demanded) (map in_part xs)) image)
 pages_asked_for ns f hs size FromSwap demanded image xs new r h = swap_asked ns f hs size image xs new r h
 pages_asked_for ns f hs size FromFile demanded image xs new r h = files_asked ns f hs size xs (Some image) new r h
 
@@ -178,7 +179,7 @@ none_asked (x ∷ xs) new h = none_asked xs new (subst (λ (i : Option SwapImage
 
 pub swap_asked_some : (ns : List ImageNamed) (f : ℕ → ℕ) (k : Kernel) (size : ℕ) (image : SwapImage) (xs : List Inbound) (new : Option SwapImage)
     → AreSourcedIn ns f k.holdings size FromSwap xs → AsksSome xs (Some image) new
-    → (after : SwapImage) × (new ≡ Some after) × AskedAll k image (map in_part xs) after
+    → (after : SwapImage) × (new ≡ Some after) × SwapAskedAll k image (map in_part xs) after
 swap_asked_some ns f k size image [] new r h = absurd h
 swap_asked_some ns f k size image (x ∷ xs) new r (inl h) =
     (read_at image (block_of k.holdings x.page), source_asked ns f k.holdings size image x.page x.source new r.0 r.1 h, inl refl)
@@ -209,7 +210,7 @@ pages_written k size image [] new o b h = h
 pages_written k size image (x ∷ xs) new o b h =
     let block : Option ℕ = block_of k.holdings x.page in
     let bytes : List ℕ = frame_bytes k x.token.number in
-    let rest : List SwapRequest = pages_asked k.holdings SwapWrite (map out_part xs) in
+    let rest : List StoreRequest = pages_asked k.holdings SwapWrite (map out_part xs) in
     let one : h.0 ≡ Some (write_at image block bytes) =
     written_is k.holdings image x.token.bytes x.page x.block h.0 o.0.own h.1 ∙ ap (λ (bs : List ℕ). Some (write_at image block bs)) (sym b.0) in
     pages_written k size (write_at image block bytes) xs new o.1 b.1 (subst (λ (i : Option SwapImage). WritesParts xs i new) one h.2)

@@ -13,7 +13,7 @@ use Rattle.kernel_model.specs.Kernel.{Kernel}
 use Rattle.kernel_model.specs.Sound.{TextFits}
 use Rattle.table_steps.proofs.Shapes.{done_shaped, sizes_kept}
 use Rattle.table_steps.proofs.Transfers.{land_all_rest}
-use Rattle.table_steps.specs.Sourced.{ImageNamed}
+use Rattle.table_steps.specs.Sourced.{ImageNamed, files_named}
 use Rattle.table_steps.specs.Machine.{Standing}
 use Rattle.table_steps.specs.Conditions.{HasStopped}
 use Rattle.table_steps.specs.Failing.{LosesFor}
@@ -47,7 +47,7 @@ fits_on from i k l images d f = subst (λ (x : Kernel). TextFits images x.place)
     (λ t. f t ∙ ap (λ (n : ℕ). 1024 * n) (sym (sizes_kept k.place (done k.place) (done_shaped k.place) (Text t 0))))
 
 pub one_more : (from later : Sources) (sid : ℕ) (old next new : Kernel) (i j h : Option SwapImage) → later ≡ from → is_settled old.place sid ≡ false
-    → IsDone from i old next → ImageAfter old i j
+    → IsDone from i old next → ImageAfter (files_named from.images) old i j
     → SettledBy later sid next new j h → SettledBy from sid old new i h
 one_more from later sid old next new i j h e u d a s = record {
   count = suc s.count;
@@ -57,7 +57,7 @@ one_more from later sid old next new i j h e u d a s = record {
 
 pub one_stopped : (sid : ℕ) (old next new : Standing) (holds later : Option (List NamedFile)) (i j h : Option SwapImage) (stop : Stop) → later ≡ holds
     → IsSameBeside old next
-    → is_settled old.kernel.place sid ≡ false → IsDone (sources old holds) i old.kernel next.kernel → ImageAfter old.kernel i j
+    → is_settled old.kernel.place sid ≡ false → IsDone (sources old holds) i old.kernel next.kernel → ImageAfter (files_named old.images) old.kernel i j
     → StopsSettling sid next new later j h stop → StopsSettling sid old new holds i h stop
 one_stopped sid old next new holds later i j h stop e b u d a s =
     let same : sources next later ≡ sources old holds = same_sources old next holds later e b in
@@ -79,7 +79,7 @@ pub stopped_first : (sid : ℕ) (old new : Standing) (holds : Option (List Named
     → HasStopped old new → old.before ≡ old.kernel.holdings → StopsFor (Err stop) old.kernel.place.transfers
     → (((let r : Result Bool Stop = Err stop in r) ≡ Err stops.JournalFull)
     ↔ ((0 < length old.kernel.place.transfers) × (old.params.journal ≤ length old.kernel.journal)))
-    → LosesFor (Err stop) old new → SwapAfter (Err stop) old.kernel i j → StopsSettling sid old new holds i j stop
+    → LosesFor (Err stop) old new → SwapAfter (Err stop) (files_named old.images) old.kernel i j → StopsSettling sid old new holds i j stop
 stopped_first sid old new holds i j stop u s w c full lost a = record {
   count = 0;
   between = old;

@@ -32,4 +32,5 @@ pub mod Down
 pub mod Lent
 pub mod UserMemoryLaws
 pub mod Outside
+pub mod FilesAsked
 pub mod Going

@@ -1,4 +1,5 @@
 //! The machine and its steps.
+ghost use Rattle.io_edge.specs.WithFiles.{stores};
 ghost use Rattle.std.specs.Prelude.{◌≡◌, ◌⊎◌, ◌<◌, ◌≤◌, ◌↔◌, true, false, [], length, map, None, IfOk, OnOk, OnErr, IfErr, Ok, Err};
 ghost use Rattle.table_steps.specs.New.{fresh_kernel, AreSound};
 ghost use Rattle.kernel_model.specs.Kernel.{zero_step, get_step, reclaim_step};
@@ -7,7 +8,7 @@ ghost use Rattle.flat_state.specs.PageNames.{pages_from};
 ghost use Rattle.kernel_model.specs.Numbers.{Numbered};
 ghost use Rattle.kernel_model.specs.Sound.{Sound};
 ghost use Rattle.table_steps.specs.Machine.{image_shown};
-ghost use Rattle.table_steps.specs.Sourced.{AreNames};
+ghost use Rattle.table_steps.specs.Sourced.{AreNames, files_named};
 ghost use Rattle.machine_state.specs.Going.{CanGoOn, IsRunning};
 ghost use Rattle.machine_state.specs.Texts.{TextsStand};
 ghost use Rattle.page_model.specs.Swapper.{is_settled};
@@ -17,6 +18,7 @@ ghost use Rattle.table_steps.specs.Done.{sources, IsDone, KeepsThrough, ImageAft
 ghost use Rattle.table_steps.specs.Failing.{LosesFor};
 ghost use Rattle.table_steps.specs.Conditions.{CanZero, CanBringIn, CanReclaim, HasStopped, KeepsFlat, SameElsewhere, SameEverywhere, SameOutside};
 ghost use Rattle.machine_state.specs.Outside.{stop_of, TransfersPages};
+ghost use Rattle.machine_state.specs.FilesAsked.{NotedAfter};
 
 use core_map::CoreMap;
 use io_edge::{Files, SwapDev};
@@ -220,11 +222,16 @@ impl Machine {
         requires files { AreFiles self.old.images (F.holds files.old) }
         ensures idle { (result ≡ Ok false) ↔ (self.old.kernel.place.transfers ≡ []) }
         ensures still { result ≡ Ok false → self.new ≡ self.old }
-        ensures step { result ≡ Ok true → IsDone (sources self.old (F.holds files.old)) (D.image swap.old) self.old.kernel self.new.kernel }
+        ensures step { result ≡ Ok true → IsDone (sources self.old (F.holds files.old)) (stores F.Files D.SwapDev files.old swap.old) self.old.kernel
+            self.new.kernel }
         ensures rest { result ≡ Ok true → self.new ≡ record self.old { kernel = self.new.kernel; room = None } }
-        ensures keeps { OnOk result (KeepsThrough self.old self.new (F.holds files.old) (D.image swap.old) (D.image swap.new)) }
-        ensures swapped { OnOk result (ImageAfter self.old.kernel (D.image swap.old) (D.image swap.new)) }
-        ensures spoiled { OnErr result (SwapAfter result self.old.kernel (D.image swap.old) (D.image swap.new)) }
+        ensures keeps { OnOk result (KeepsThrough self.old self.new (F.holds files.old) (stores F.Files D.SwapDev files.old swap.old)
+            (stores F.Files D.SwapDev files.new swap.new)) }
+        ensures swapped { OnOk result (ImageAfter (files_named self.old.images) self.old.kernel (stores F.Files D.SwapDev files.old swap.old)
+            (stores F.Files D.SwapDev files.new swap.new)) }
+        ensures spoiled { OnErr result (SwapAfter result (files_named self.old.images) self.old.kernel (stores F.Files D.SwapDev files.old swap.old)
+            (stores F.Files D.SwapDev files.new swap.new)) }
+        ensures noted { NotedAfter result (files_named self.old.images) self.old.kernel.place (F.notes files.old) (F.notes files.new) }
         ensures stop { OnErr result (HasStopped self.old self.new) }
         ensures cause { StopsFor result self.old.kernel.place.transfers }
         ensures lost { LosesFor result self.old self.new }
@@ -284,10 +291,13 @@ impl Machine {
         requires area { self.old.params.swap_blocks ≤ D.blocks swap.old }
         requires files { AreFiles self.old.images (F.holds files.old) }
         ensures settled { OnOk result
-            (SettledBy (sources self.old (F.holds files.old)) sid self.old.kernel self.new.kernel (D.image swap.old) (D.image swap.new)) }
+            (SettledBy (sources self.old (F.holds files.old)) sid self.old.kernel self.new.kernel (stores F.Files D.SwapDev files.old swap.old)
+            (stores F.Files D.SwapDev files.new swap.new)) }
         ensures rest { OnOk result (IsSameBeside self.old self.new) }
-        ensures keeps { OnOk result (KeepsThrough self.old self.new (F.holds files.old) (D.image swap.old) (D.image swap.new)) }
-        ensures stops { IfErr result (StopsSettling sid self.old self.new (F.holds files.old) (D.image swap.old) (D.image swap.new)) }
+        ensures keeps { OnOk result (KeepsThrough self.old self.new (F.holds files.old) (stores F.Files D.SwapDev files.old swap.old)
+            (stores F.Files D.SwapDev files.new swap.new)) }
+        ensures stops { IfErr result (StopsSettling sid self.old self.new (F.holds files.old) (stores F.Files D.SwapDev files.old swap.old)
+            (stores F.Files D.SwapDev files.new swap.new)) }
         ensures outside { TransfersPages F.Files D.SwapDev (stop_of result) files.old files.new swap.old swap.new }
         ensures goes_on { OnOk result (CanGoOn self.new) }
     {

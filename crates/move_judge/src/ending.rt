@@ -1,4 +1,5 @@
 //! The line by which a transfer ends.
+ghost use Rattle.io_edge.specs.WithFiles.{stores};
 ghost use Rattle.std.specs.Prelude.{◌≡◌, ◌≤◌, IfOk, OnOk, OnErr};
 ghost use Rattle.vm_facts.specs.declared.entry.Entry.TheVariants as entries;
 ghost use Rattle.machine_state.specs.Going.{CanGoOn};
@@ -23,7 +24,8 @@ pub fn judge_done<F: Files, D: SwapDev>(
     requires area { m.old.params.swap_blocks ≤ D.blocks swap.old }
     requires files { AreFiles m.old.images (F.holds files.old) }
     ensures judged { IfOk result (λ reason. reason ≡ done_reason m.old.kernel.place.transfers) }
-    ensures made { IfOk result (JudgedThrough entries.Done (F.holds files.old) (D.image swap.old) (D.image swap.new) m.old m.new) }
+    ensures made { IfOk result (JudgedThrough entries.Done (F.holds files.old) (stores F.Files D.SwapDev files.old swap.old)
+        (stores F.Files D.SwapDev files.new swap.new) m.old m.new) }
     ensures stop { OnErr result (HasStopped m.old m.new) }
     ensures outside { TransfersPages F.Files D.SwapDev (stop_of result) files.old files.new swap.old swap.new }
     ensures goes_on { OnOk result (CanGoOn m.new) }

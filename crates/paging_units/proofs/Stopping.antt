@@ -11,12 +11,13 @@ use Rattle.vm_facts.specs.declared.stop.Stop.TheVariants as stops
 use Rattle.io_edge.specs.FileHolding.{NamedFile}
 use Rattle.flat_state.specs.Journal.{append, IsPlain}
 use Rattle.flat_state.proofs.Joins.{append_plain}
-use Rattle.page_model.specs.Placement.{Placement, Transfer, Source, FromSwap, FromFile}
+use Rattle.page_model.specs.Placement.{Placement, Transfer, Source, FromSwap, FromFile, image_of}
 use Rattle.page_model.specs.Holdings.{Holdings}
 use Rattle.kernel_model.specs.Kernel.{Kernel, image_after_of}
-use Rattle.kernel_model.specs.SwapRequests.{oldest_asks}
+use Rattle.kernel_model.specs.Requests.{ImageFile, first_asks}
 use Rattle.kernel_model.specs.Coupled.{outline_kept}
 use Rattle.machine_state.specs.Machine.{Standing}
+use Rattle.machine_state.specs.Sourced.{ImageNamed, files_named}
 use Rattle.machine_state.specs.Conditions.{HasStopped}
 use Rattle.machine_state.specs.Failing.{HasLostOldest, LosesFor, HasFailed, FailsFor}
 use Rattle.machine_state.specs.Done.{ImageAfter, StopsFor, SwapAfter, OldestReadsFrom, OldestWrites}
@@ -109,7 +110,7 @@ err_cause {A} stop c = elim c [
 -- a call of the machine that makes this unit and calls no device
 pub call_stops : {A : Type 0} (r : Result A Stop) (e : Entry) (old new : Standing) (i : Option SwapImage)
     → ((stop : Stop) → (stop ≡ stops.JournalFull) ⊎ (stop ≡ stops.NoMemory) → CauseBy e stop old.kernel.place.transfers)
-    → ((stop : Stop) → SpoilsBy e stop old.kernel i i)
+    → ((stop : Stop) → SpoilsBy (files_named new.images) e stop old.kernel i i)
     → ((r ≡ Err stops.JournalFull) ↔ ((old.params.journal ≤ length old.kernel.journal) × (length old.kernel.journal < length (append old.kernel.journal e))))
     → OnErr r (HasStopped old new) → OnErr r ((r ≡ Err stops.JournalFull) ⊎ (r ≡ Err stops.NoMemory))
     → old.before ≡ old.kernel.holdings → IfErr r (λ stop. StopsAt e old.kernel i stop new i)
@@ -152,7 +153,7 @@ stops_some ts stops.SwapWriteFault h = some_writes ts h
 pub done_stops : (stop : Stop) (old new : Standing) (i j : Option SwapImage) → HasStopped old new → StopsFor (Err stop) old.kernel.place.transfers
     → (((let r : Result Bool Stop = Err stop in r) ≡ Err stops.JournalFull)
     ↔ ((0 < length old.kernel.place.transfers) × (old.params.journal ≤ length old.kernel.journal)))
-    → LosesFor (Err stop) old new → SwapAfter (Err stop) old.kernel i j
+    → LosesFor (Err stop) old new → SwapAfter (Err stop) (files_named old.images) old.kernel i j
     → old.before ≡ old.kernel.holdings → StopsAt entries.Done old.kernel i stop new j
 done_stops stop old new i j s c full lost image w = record {
   journal = s.journal;
@@ -166,7 +167,7 @@ done_stops stop old new i j s c full lost image w = record {
     (λ h. err_same {A = Bool} stop stops.JournalFull (full.1 (stops_some old.kernel.place.transfers stop c, subst (λ (p : Params). p.journal ≤ length old.kernel.journal) s.params h.0))),
   );
   cause = c;
-  image = image;
+  image = subst (λ (ns : List ImageNamed). SwapAfter (Err stop) (files_named ns) old.kernel i j) (sym s.images) image;
 }
 
 -- a stop where some unit comes next, after a part of the call that left its sizes and images
@@ -208,7 +209,8 @@ stops_after_unit Leads Later next_at e old between new holds later locked i h j 
 }
 
 -- where no transfer is in flight the end of none leaves the image
-pub image_idle : (k : Kernel) (i j : Option SwapImage) → k.place.transfers ≡ [] → ImageAfter k i j → j ≡ i
-image_idle k None j e h = h
-image_idle k (Some image) j e h =
-    h ∙ ap (λ (ts : List Transfer). Some (with_requests (oldest_asks k.holdings ts) (record image { bytes = image_after_of k image.bytes ts }))) e
+pub image_idle : (files : List ImageFile) (k : Kernel) (i j : Option SwapImage) → k.place.transfers ≡ [] → ImageAfter files k i j → j ≡ i
+image_idle files k None j e h = h
+image_idle files k (Some image) j e h =
+    h
+    ∙ ap (λ (ts : List Transfer). Some (with_requests (first_asks files (image_of k.place) k.holdings ts) (record image { bytes = image_after_of k image.bytes ts }))) e

@@ -13,7 +13,7 @@ use Rattle.page_model.specs.Serve.{force, force_entry, Forces, serve_unit, serve
 use Rattle.machine_state.proofs.Units.{unit_is, entry_steps, forcing_place}
 use Rattle.kernel_model.specs.Kernel.{Kernel}
 use Rattle.io_edge.specs.FileHolding.{NamedFile}
-use Rattle.machine_state.specs.Sourced.{ImageNamed}
+use Rattle.machine_state.specs.Sourced.{ImageNamed, files_named}
 use Rattle.machine_state.specs.Machine.{Standing}
 use Rattle.machine_state.specs.Going.{CanGoOn}
 use Rattle.machine_state.specs.Files.{AreFiles}
@@ -89,7 +89,8 @@ made_append g [] vs k l m i j h a b =
 made_append g (e ∷ us) vs k l m i j h a b =
     record { next = a.next; image = a.image; made = a.made; told = a.told; rest = made_append g us vs a.next l m a.image j h a.rest b }
 
-pub made_one : (g : Ground) (e : Entry) (k l : Kernel) (i j : Option SwapImage) → MadeBy g e k i l → ImageBy e k i j → Made g (e ∷ []) k i l j
+pub made_one : (g : Ground) (e : Entry) (k l : Kernel) (i j : Option SwapImage) → MadeBy g e k i l → ImageBy (files_named g.from.images) e k i j → Made g
+    (e ∷ []) k i l j
 made_one g e k l i j a b = record { next = l; image = j; made = a; told = b; rest = (refl, refl) }
 
 pub made_journal : (g : Ground) (us : List Entry) (k l : Kernel) (i j : Option SwapImage) → Made g us k i l j → l.journal ≡ appended k.journal us

@@ -6,7 +6,9 @@ use Rattle.vm_facts.specs.declared.entry.Entry.{Entry}
 use Rattle.vm_facts.specs.declared.entry.Entry.TheVariants as entries
 use Rattle.io_edge.specs.FileHolding.{NamedFile}
 use Rattle.kernel_model.specs.Kernel.{Kernel, StartBytes, starts_after, zero_step, copy_step, get_step, reclaim_step, hand_step, push_step}
+use Rattle.kernel_model.specs.Requests.{ImageFile}
 use Rattle.machine_state.specs.Machine.{Standing}
+use Rattle.machine_state.specs.Sourced.{files_named}
 use Rattle.machine_state.specs.Settled.{IsSameBeside}
 use Rattle.machine_state.specs.Done.{Sources, sources, IsDone, ImageAfter}
 
@@ -31,16 +33,16 @@ MadeBy g entries.Done k i l = IsDone g.from i k l
 MadeBy g _ k i l = ⊥
 
 -- the swap image, where it is told, before a unit and after it: the end of a transfer alone may change it, or ask anything
-abbrev pub ImageBy : Entry → Kernel → Option SwapImage → Option SwapImage → Type 0
-ImageBy entries.Done k i j = ImageAfter k i j
-ImageBy _ k i j = j ≡ i
+abbrev pub ImageBy : List ImageFile → Entry → Kernel → Option SwapImage → Option SwapImage → Type 0
+ImageBy files entries.Done k i j = ImageAfter files k i j
+ImageBy files _ k i j = j ≡ i
 
 -- a unit, and then something is so of the kernel and the image after it
 pub record MadeFirst (g : Ground) (e : Entry) (k : Kernel) (i : Option SwapImage) (Rest : Kernel → Option SwapImage → Type 0) : Type 0 where
   pub next : Kernel
   pub image : Option SwapImage
   pub made : MadeBy g e k i next
-  pub told : ImageBy e k i image
+  pub told : ImageBy (files_named g.from.images) e k i image
   pub rest : Rest next image
 
 -- these units, in order, lead from a kernel with a swap image to another
@@ -51,7 +53,7 @@ Made g (e ∷ us) k i l j = MadeFirst g e k i (λ m h. Made g us m h l j)
 -- Of a machine: a call that makes one unit, and leaves its sizes and images.
 pub record MakesUnit (g : Ground) (e : Entry) (old new : Standing) (i j : Option SwapImage) : Type 0 where
   pub made : MadeBy g e old.kernel i new.kernel
-  pub told : ImageBy e old.kernel i j
+  pub told : ImageBy (files_named g.from.images) e old.kernel i j
   pub beside : IsSameBeside old new
 
 -- a call that makes these units in order, and leaves the machine's sizes and images

@@ -10,7 +10,9 @@ use Rattle.page_model.specs.Placement.{Placement, Transfer}
 use Rattle.kernel_model.specs.Kernel.{Kernel}
 use Rattle.kernel_model.specs.Coupled.{outline_kept}
 use Rattle.kernel_model.specs.ChangeStep.{pass_step}
+use Rattle.kernel_model.specs.Requests.{ImageFile}
 use Rattle.machine_state.specs.Machine.{Standing}
+use Rattle.machine_state.specs.Sourced.{files_named}
 use Rattle.machine_state.specs.Conditions.{HasStopped, kernel_before}
 use Rattle.machine_state.specs.Failing.{LosesOldest}
 use Rattle.machine_state.specs.Done.{StopsFor, SwapAfter}
@@ -27,11 +29,11 @@ CauseBy _ stop ts = (stop ≡ stops.JournalFull) ⊎ (stop ≡ stops.NoMemory)
 
 -- the swap image after a unit that stops the run: it has the requests up to the one that failed, and only a write that failed
 -- changes a byte
-abbrev pub SpoilsBy : Entry → Stop → Kernel → Option SwapImage → Option SwapImage → Type 0
-SpoilsBy entries.Done stop k i j = SwapAfter (Err stop) k i j
-SpoilsBy (entries.SwapOut pid) stop k i j = let r : Result Bool Stop = Err stop in SwapBehind r k pid i j
-SpoilsBy (entries.SwapIn pid) stop k i j = let r : Result Bool Stop = Err stop in SwapBehind r k pid i j
-SpoilsBy _ stop k i j = j ≡ i
+abbrev pub SpoilsBy : List ImageFile → Entry → Stop → Kernel → Option SwapImage → Option SwapImage → Type 0
+SpoilsBy files entries.Done stop k i j = SwapAfter (Err stop) files k i j
+SpoilsBy files (entries.SwapOut pid) stop k i j = let r : Result Bool Stop = Err stop in SwapBehind r k pid i j
+SpoilsBy files (entries.SwapIn pid) stop k i j = let r : Result Bool Stop = Err stop in SwapBehind r k pid i j
+SpoilsBy files _ stop k i j = j ≡ i
 
 -- The machine has this kernel, and no pieces wait: it is as it was, its bytes and registers too.
 pub record StaysPut (k : Kernel) (new : Standing) : Type 0 where
@@ -78,7 +80,7 @@ pub record StopsAt (e : Entry) (k : Kernel) (i : Option SwapImage) (stop : Stop)
   pub held : LeftBy stop k new
   pub full : (stop ≡ stops.JournalFull) ↔ ((new.params.journal ≤ length k.journal) × (length k.journal < length (append k.journal e)))
   pub cause : CauseBy e stop k.place.transfers
-  pub image : SpoilsBy e stop k i j
+  pub image : SpoilsBy (files_named new.images) e stop k i j
 
 -- A call stops where some unit comes next, in a kernel with a swap image. The sizes and images of its machine are as before.
 pub record StopsAtNext (coming : Option Entry) (k : Kernel) (old new : Standing) (i j : Option SwapImage) (stop : Stop) : Type 0 where

@@ -18,6 +18,7 @@ use Rattle.run_model.specs.After.{after, state_after}
 idle : Inputs
 idle = record {
   images = [];
+  file_numbers = [];
   first = [];
   lines = events.Interrupt ∷ events.Hands 3 ∷ events.Audit ∷ events.Dispatch 1 5 ∷ [];
   frames = 64;

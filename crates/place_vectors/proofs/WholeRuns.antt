@@ -135,7 +135,7 @@ nest_image = record {
 }
 
 unfoldable pub hi : Inputs
-hi = record { images = hi_image ∷ []; first = 1 ∷ []; lines = []; frames = 64; swap_blocks = 256; limit = 100 }
+hi = record { images = hi_image ∷ []; file_numbers = 1 ∷ []; first = 1 ∷ []; lines = []; frames = 64; swap_blocks = 256; limit = 100 }
 
 unfoldable pub hi_held : Holdings
 hi_held = or_before [] (start_held hi)
@@ -156,7 +156,7 @@ unfolding units_from more hi hi_held hi_image next_unit after state_after act as
 hi_makes = refl
 
 auto_run : Inputs
-auto_run = record { images = auto_image ∷ []; first = 1 ∷ []; lines = []; frames = 64; swap_blocks = 256; limit = 100 }
+auto_run = record { images = auto_image ∷ []; file_numbers = 0 ∷ []; first = 1 ∷ []; lines = []; frames = 64; swap_blocks = 256; limit = 100 }
 
 auto_run_held : Holdings
 auto_run_held = or_before [] (start_held auto_run)
@@ -179,6 +179,7 @@ auto_run_makes = refl
 both : Inputs
 both = record {
   images = hi_image ∷ auto_image ∷ [];
+  file_numbers = 0 ∷ 1 ∷ [];
   first = 1 ∷ 2 ∷ [];
   lines = events.Dispatch 1 2 ∷ events.Interrupt ∷ events.Dispatch 2 3 ∷ events.Hands 3 ∷ events.Swapper ∷ events.Interrupt ∷ events.Audit ∷ events.Dispatch 1 5 ∷ [];
   frames = 64;
@@ -206,7 +207,7 @@ unfolding units_from more both both_held hi_image auto_image next_unit after sta
 both_makes = refl
 
 forks : Inputs
-forks = record { images = forky_image ∷ []; first = 1 ∷ []; lines = []; frames = 64; swap_blocks = 256; limit = 100 }
+forks = record { images = forky_image ∷ []; file_numbers = 0 ∷ []; first = 1 ∷ []; lines = []; frames = 64; swap_blocks = 256; limit = 100 }
 
 forks_held : Holdings
 forks_held = or_before [] (start_held forks)
@@ -228,7 +229,7 @@ unfolding units_from more forks forks_held forky_image next_unit after state_aft
 forks_makes = refl
 
 calling : Inputs
-calling = record { images = calls_image ∷ []; first = 1 ∷ []; lines = []; frames = 64; swap_blocks = 256; limit = 100 }
+calling = record { images = calls_image ∷ []; file_numbers = 0 ∷ []; first = 1 ∷ []; lines = []; frames = 64; swap_blocks = 256; limit = 100 }
 
 calling_held : Holdings
 calling_held = or_before [] (start_held calling)
@@ -249,7 +250,7 @@ unfolding units_from more calling calling_held calls_image next_unit after state
 calling_makes = refl
 
 lends : Inputs
-lends = record { images = lendy_image ∷ []; first = 1 ∷ []; lines = []; frames = 64; swap_blocks = 256; limit = 100 }
+lends = record { images = lendy_image ∷ []; file_numbers = 0 ∷ []; first = 1 ∷ []; lines = []; frames = 64; swap_blocks = 256; limit = 100 }
 
 lends_held : Holdings
 lends_held = or_before [] (start_held lends)
@@ -271,7 +272,7 @@ unfolding units_from more lends lends_held lendy_image next_unit after state_aft
 lends_makes = refl
 
 execs : Inputs
-execs = record { images = hi_image ∷ ex_image ∷ []; first = 1 ∷ 2 ∷ []; lines = []; frames = 64; swap_blocks = 256; limit = 100 }
+execs = record { images = hi_image ∷ ex_image ∷ []; file_numbers = 0 ∷ 1 ∷ []; first = 1 ∷ 2 ∷ []; lines = []; frames = 64; swap_blocks = 256; limit = 100 }
 
 execs_held : Holdings
 execs_held = or_before [] (start_held execs)
@@ -293,7 +294,7 @@ unfolding units_from more execs execs_held hi_image ex_image next_unit after sta
 execs_makes = refl
 
 deeper : Inputs
-deeper = record { images = deep_image ∷ []; first = 1 ∷ []; lines = []; frames = 64; swap_blocks = 256; limit = 100 }
+deeper = record { images = deep_image ∷ []; file_numbers = 0 ∷ []; first = 1 ∷ []; lines = []; frames = 64; swap_blocks = 256; limit = 100 }
 
 deeper_held : Holdings
 deeper_held = or_before [] (start_held deeper)
@@ -314,7 +315,7 @@ unfolding units_from more deeper deeper_held deep_image next_unit after state_af
 deeper_makes = refl
 
 nested : Inputs
-nested = record { images = nest_image ∷ []; first = 1 ∷ []; lines = []; frames = 64; swap_blocks = 256; limit = 100 }
+nested = record { images = nest_image ∷ []; file_numbers = 0 ∷ []; first = 1 ∷ []; lines = []; frames = 64; swap_blocks = 256; limit = 100 }
 
 nested_held : Holdings
 nested_held = or_before [] (start_held nested)
@@ -337,7 +338,7 @@ nested_makes = refl
 
 -- forks until no piece of swap is left: the seventh child's stack finds no place
 bomb : Inputs
-bomb = record { images = bomb_image ∷ []; first = 1 ∷ []; lines = []; frames = 64; swap_blocks = 256; limit = 18 }
+bomb = record { images = bomb_image ∷ []; file_numbers = 0 ∷ []; first = 1 ∷ []; lines = []; frames = 64; swap_blocks = 256; limit = 18 }
 
 bomb_held : Holdings
 bomb_held = or_before [] (start_held bomb)

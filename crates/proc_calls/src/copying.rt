@@ -1,4 +1,5 @@
 //! The pages of a child are copied from its parent's.
+ghost use Rattle.io_edge.specs.WithFiles.{stores};
 ghost use Rattle.std.specs.Prelude.{◌≡◌, ◌≤◌, ◌∷◌, [], OnOk, MatchResult};
 ghost use Rattle.page_model.specs.Rank.{HasRoom};
 ghost use Rattle.machine_state.specs.Going.{CanGoOn};
@@ -38,8 +39,9 @@ pub fn copy_page<F: Files, D: SwapDev>(
     requires first { IsCopyFirst m.old.kernel.place child parent }
     requires room { HasRoom m.old.kernel.place (parent ∷ []) }
     requires low { last_moves m.old.kernel.journal ≤ 1000000 }
-    ensures copied { MatchResult result (λ u. CopiesPage child parent m.old m.new (F.holds files.old) (D.image swap.old) (D.image swap.new))
-        (StopsPage child parent m.old m.new (F.holds files.old) (D.image swap.old) (D.image swap.new)) }
+    ensures copied { MatchResult result (λ u. CopiesPage child parent m.old m.new (F.holds files.old) (stores F.Files D.SwapDev files.old swap.old)
+        (stores F.Files D.SwapDev files.new swap.new))
+        (StopsPage child parent m.old m.new (F.holds files.old) (stores F.Files D.SwapDev files.old swap.old) (stores F.Files D.SwapDev files.new swap.new)) }
     ensures on { OnOk result (OnceCopied child m.old m.new) }
     ensures outside { TransfersPages F.Files D.SwapDev (stop_of result) files.old files.new swap.old swap.new }
     ensures goes_on { OnOk result (CanGoOn m.new) }
@@ -62,8 +64,10 @@ pub fn copy_due<F: Files, D: SwapDev>(
     requires due { AreCopiesFrom parent m.old.kernel.place.due }
     requires room { (page : Page) → HasRoom m.old.kernel.place (page ∷ []) }
     requires low { last_moves m.old.kernel.journal ≤ 1000000 }
-    ensures copied { MatchResult result (λ u. CopiesAll m.old.kernel.place.due m.old m.new (F.holds files.old) (D.image swap.old) (D.image swap.new))
-        (StopsCopying m.old.kernel.place.due m.old m.new (F.holds files.old) (D.image swap.old) (D.image swap.new)) }
+    ensures copied { MatchResult result (λ u. CopiesAll m.old.kernel.place.due m.old m.new (F.holds files.old) (stores F.Files D.SwapDev files.old swap.old)
+        (stores F.Files D.SwapDev files.new swap.new))
+        (StopsCopying m.old.kernel.place.due m.old m.new (F.holds files.old) (stores F.Files D.SwapDev files.old swap.old)
+        (stores F.Files D.SwapDev files.new swap.new)) }
     ensures on { OnOk result (HasCopied m.old m.new) }
     ensures outside { TransfersPages F.Files D.SwapDev (stop_of result) files.old files.new swap.old swap.new }
     ensures goes_on { OnOk result (CanGoOn m.new) }

@@ -1,4 +1,5 @@
 //! Ends of processes.
+ghost use Rattle.io_edge.specs.WithFiles.{stores};
 ghost use Rattle.std.specs.Prelude.{◌≡◌, ◌≤◌, true, IsSome, IfOk, OnOk, IfErr, Ok, Some};
 ghost use Rattle.user_vax.specs.Program.{run};
 ghost use Rattle.flat_model.specs.Calls.{exit_reply};
@@ -57,10 +58,12 @@ pub fn leave_space<F: Files, D: SwapDev>(
     requires calls { IsCaller m.old pid }
     requires area { m.old.params.swap_blocks ≤ D.blocks swap.old }
     requires files { AreFiles m.old.images (F.holds files.old) }
-    ensures left { OnOk result (HasLeft m.old m.new pid (F.holds files.old) (D.image swap.old) (D.image swap.new)) }
+    ensures left { OnOk result (HasLeft m.old m.new pid (F.holds files.old) (stores F.Files D.SwapDev files.old swap.old)
+        (stores F.Files D.SwapDev files.new swap.new)) }
     ensures given { OnOk result
         (has_lender m.old.kernel.processes pid ≡ true → HasGivenBack m.old.kernel m.new.kernel pid (lender_among m.old.kernel.processes pid)) }
-    ensures stops { IfErr result (StopsLeaving m.old m.new pid (F.holds files.old) (D.image swap.old) (D.image swap.new)) }
+    ensures stops { IfErr result (StopsLeaving m.old m.new pid (F.holds files.old) (stores F.Files D.SwapDev files.old swap.old)
+        (stores F.Files D.SwapDev files.new swap.new)) }
     ensures outside { TransfersPages F.Files D.SwapDev (stop_of result) files.old files.new swap.old swap.new }
     ensures goes_on { OnOk result (CanGoOn m.new) }
 {
@@ -84,8 +87,10 @@ pub fn end<F: Files, D: SwapDev>(
     requires calls { IsCaller m.old pid }
     requires area { m.old.params.swap_blocks ≤ D.blocks swap.old }
     requires files { AreFiles m.old.images (F.holds files.old) }
-    ensures ended { OnOk result (HasEnded m.old m.new pid status (F.holds files.old) (D.image swap.old) (D.image swap.new)) }
-    ensures stops { IfErr result (StopsAlive m.old m.new pid (F.holds files.old) (D.image swap.old) (D.image swap.new)) }
+    ensures ended { OnOk result (HasEnded m.old m.new pid status (F.holds files.old) (stores F.Files D.SwapDev files.old swap.old)
+        (stores F.Files D.SwapDev files.new swap.new)) }
+    ensures stops { IfErr result (StopsAlive m.old m.new pid (F.holds files.old) (stores F.Files D.SwapDev files.old swap.old)
+        (stores F.Files D.SwapDev files.new swap.new)) }
     ensures outside { TransfersPages F.Files D.SwapDev (stop_of result) files.old files.new swap.old swap.new }
     ensures goes_on { OnOk result (CanGoOn m.new) }
 {
@@ -110,8 +115,10 @@ pub fn kill<F: Files, D: SwapDev>(
     requires calls { IsCaller m.old pid }
     requires area { m.old.params.swap_blocks ≤ D.blocks swap.old }
     requires files { AreFiles m.old.images (F.holds files.old) }
-    ensures ended { OnOk result (HasEnded m.old m.new pid signal (F.holds files.old) (D.image swap.old) (D.image swap.new)) }
-    ensures stops { IfErr result (StopsAlive m.old m.new pid (F.holds files.old) (D.image swap.old) (D.image swap.new)) }
+    ensures ended { OnOk result (HasEnded m.old m.new pid signal (F.holds files.old) (stores F.Files D.SwapDev files.old swap.old)
+        (stores F.Files D.SwapDev files.new swap.new)) }
+    ensures stops { IfErr result (StopsAlive m.old m.new pid (F.holds files.old) (stores F.Files D.SwapDev files.old swap.old)
+        (stores F.Files D.SwapDev files.new swap.new)) }
     ensures outside { TransfersPages F.Files D.SwapDev (stop_of result) files.old files.new swap.old swap.new }
     ensures goes_on { OnOk result (CanGoOn m.new) }
 {
@@ -151,9 +158,9 @@ pub fn exit<F: Files, D: SwapDev>(
     requires area { m.old.params.swap_blocks ≤ D.blocks swap.old }
     requires files { AreFiles m.old.images (F.holds files.old) }
     ensures comes { IfOk result (λ called. ExitComes m.old m.new pid regs.now (run (kernel_answers m.old.kernel (space_of_pid m.old.kernel pid))
-        (exit_reply regs.now)) (F.holds files.old) (D.image swap.old) (D.image swap.new) called) }
+        (exit_reply regs.now)) (F.holds files.old) (stores F.Files D.SwapDev files.old swap.old) (stores F.Files D.SwapDev files.new swap.new) called) }
     ensures stops { IfErr result (StopsExit m.old m.new pid (run (kernel_answers m.old.kernel (space_of_pid m.old.kernel pid)) (exit_reply regs.now))
-        (F.holds files.old) (D.image swap.old) (D.image swap.new)) }
+        (F.holds files.old) (stores F.Files D.SwapDev files.old swap.old) (stores F.Files D.SwapDev files.new swap.new)) }
     ensures outside { TransfersPages F.Files D.SwapDev (stop_of result) files.old files.new swap.old swap.new }
     ensures goes_on { OnOk result (CanGoOn m.new) }
 {

@@ -1,4 +1,5 @@
 //! The call that starts another image.
+ghost use Rattle.io_edge.specs.WithFiles.{stores};
 ghost use Rattle.std.specs.Prelude.{◌≡◌, ◌≤◌, List, [], length, IfOk, OnOk, IfErr};
 ghost use Rattle.user_vax.specs.Program.{run};
 ghost use Rattle.flat_state.specs.Flat.{NamedImage};
@@ -58,9 +59,11 @@ pub fn execve<F: Files, D: SwapDev>(
     requires files { AreFiles m.old.images (F.holds files.old) }
     requires room { HasRoom m.old.kernel.place [] }
     ensures comes { (known : List NamedImage) → AreNamed known m.old.images
-        → IfOk result (ExecComes m.old m.new pid regs.now (execve_read known m.old pid regs.now) (F.holds files.old) (D.image swap.old) (D.image swap.new)) }
+        → IfOk result (ExecComes m.old m.new pid regs.now (execve_read known m.old pid regs.now) (F.holds files.old)
+        (stores F.Files D.SwapDev files.old swap.old) (stores F.Files D.SwapDev files.new swap.new)) }
     ensures stops { (known : List NamedImage) → AreNamed known m.old.images
-        → IfErr result (StopsExec m.old m.new pid (execve_read known m.old pid regs.now) (F.holds files.old) (D.image swap.old) (D.image swap.new)) }
+        → IfErr result (StopsExec m.old m.new pid (execve_read known m.old pid regs.now) (F.holds files.old) (stores F.Files D.SwapDev files.old swap.old)
+        (stores F.Files D.SwapDev files.new swap.new)) }
     ensures outside { TransfersPages F.Files D.SwapDev (stop_of result) files.old files.new swap.old swap.new }
     ensures goes_on { OnOk result (CanGoOn m.new) }
 {

@@ -1,4 +1,5 @@
 //! The fill of a new stack page.
+ghost use Rattle.io_edge.specs.WithFiles.{stores};
 ghost use Rattle.std.specs.Prelude.{◌≤◌, [], OnOk, MatchResult};
 ghost use Rattle.page_model.specs.Rank.{HasRoom};
 ghost use Rattle.machine_state.specs.Going.{CanGoOn};
@@ -26,8 +27,9 @@ pub fn fill_start<F: Files, D: SwapDev>(
     requires first { IsStartFirst m.old.kernel.place page }
     requires room { HasRoom m.old.kernel.place [] }
     requires low { last_moves m.old.kernel.journal ≤ 1000000 }
-    ensures filled { MatchResult result (λ u. FillsStart page m.old m.new (F.holds files.old) (D.image swap.old) (D.image swap.new))
-        (StopsStart page m.old m.new (F.holds files.old) (D.image swap.old) (D.image swap.new)) }
+    ensures filled { MatchResult result (λ u. FillsStart page m.old m.new (F.holds files.old) (stores F.Files D.SwapDev files.old swap.old)
+        (stores F.Files D.SwapDev files.new swap.new))
+        (StopsStart page m.old m.new (F.holds files.old) (stores F.Files D.SwapDev files.old swap.old) (stores F.Files D.SwapDev files.new swap.new)) }
     ensures outside { TransfersPages F.Files D.SwapDev (stop_of result) files.old files.new swap.old swap.new }
     ensures goes_on { OnOk result (CanGoOn m.new) }
 {

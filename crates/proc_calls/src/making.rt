@@ -1,4 +1,5 @@
 //! Calls that make processes.
+ghost use Rattle.io_edge.specs.WithFiles.{stores};
 ghost use Rattle.std.specs.Prelude.{◌≡◌, ◌≤◌, ◌∷◌, [], IfOk, IfErr, OnOk};
 ghost use Rattle.vm_facts.specs.declared.page.Page.{Page};
 ghost use Rattle.swap_book.specs.declared.Owner.TheVariants.{U as UOf};
@@ -122,9 +123,11 @@ pub fn fork<F: Files, D: SwapDev>(
     requires files { AreFiles m.old.images (F.holds files.old) }
     requires room { (page : Page) → HasRoom m.old.kernel.place (page ∷ []) }
     ensures ready { IfOk result (λ called. called ≡ Called.Ready) }
-    ensures forked { OnOk result (Forked m.old m.new pid regs.now (F.holds files.old) (D.image swap.old) (D.image swap.new)) }
+    ensures forked { OnOk result (Forked m.old m.new pid regs.now (F.holds files.old) (stores F.Files D.SwapDev files.old swap.old)
+        (stores F.Files D.SwapDev files.new swap.new)) }
     ensures on { OnOk result (HasCopied m.old m.new) }
-    ensures stop { IfErr result (StopsForking m.old m.new pid regs.now (F.holds files.old) (D.image swap.old) (D.image swap.new)) }
+    ensures stop { IfErr result (StopsForking m.old m.new pid regs.now (F.holds files.old) (stores F.Files D.SwapDev files.old swap.old)
+        (stores F.Files D.SwapDev files.new swap.new)) }
     ensures outside { TransfersPages F.Files D.SwapDev (stop_of result) files.old files.new swap.old swap.new }
     ensures goes_on { OnOk result (CanGoOn m.new) }
 {

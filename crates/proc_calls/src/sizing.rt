@@ -1,4 +1,5 @@
 //! The call that moves the end of the data.
+ghost use Rattle.io_edge.specs.WithFiles.{stores};
 ghost use Rattle.std.specs.Prelude.{◌≡◌, ◌⊎◌, ◌<◌, ◌≤◌, false, length, IfOk, OnOk, IfErr, OnErr, Err};
 ghost use Rattle.core_map.specs.Frames.{Frames};
 ghost use Rattle.user_vax.specs.Program.{run};
@@ -135,8 +136,10 @@ fn cut<F: Files, D: SwapDev>(
     requires few { sizes.stack_pages ≤ 512 }
     requires most { sizes.wanted ≤ data_limit }
     requires fewer { sizes.wanted < process_data_pages m.old.kernel pid }
-    ensures cut { IfOk result (CutData m.old m.new pid regs.now sizes.wanted (F.holds files.old) (D.image swap.old) (D.image swap.new)) }
-    ensures stops { IfErr result (StopsBreaking m.old m.new pid sizes.wanted (F.holds files.old) (D.image swap.old) (D.image swap.new)) }
+    ensures cut { IfOk result (CutData m.old m.new pid regs.now sizes.wanted (F.holds files.old) (stores F.Files D.SwapDev files.old swap.old)
+        (stores F.Files D.SwapDev files.new swap.new)) }
+    ensures stops { IfErr result (StopsBreaking m.old m.new pid sizes.wanted (F.holds files.old) (stores F.Files D.SwapDev files.old swap.old)
+        (stores F.Files D.SwapDev files.new swap.new)) }
     ensures outside { TransfersPages F.Files D.SwapDev (stop_of result) files.old files.new swap.old swap.new }
     ensures goes_on { OnOk result (CanGoOn m.new) }
 {
@@ -167,8 +170,10 @@ fn move_end<F: Files, D: SwapDev>(
     requires area { m.old.params.swap_blocks ≤ D.blocks swap.old }
     requires files { AreFiles m.old.images (F.holds files.old) }
     ensures moves { IfOk result
-        (MovesEnd m.old m.new pid regs.now (pages_to m.old.kernel pid address) (F.holds files.old) (D.image swap.old) (D.image swap.new)) }
-    ensures stops { IfErr result (StopsBreaking m.old m.new pid (pages_to m.old.kernel pid address) (F.holds files.old) (D.image swap.old) (D.image swap.new)) }
+        (MovesEnd m.old m.new pid regs.now (pages_to m.old.kernel pid address) (F.holds files.old) (stores F.Files D.SwapDev files.old swap.old)
+        (stores F.Files D.SwapDev files.new swap.new)) }
+    ensures stops { IfErr result (StopsBreaking m.old m.new pid (pages_to m.old.kernel pid address) (F.holds files.old)
+        (stores F.Files D.SwapDev files.old swap.old) (stores F.Files D.SwapDev files.new swap.new)) }
     ensures outside { TransfersPages F.Files D.SwapDev (stop_of result) files.old files.new swap.old swap.new }
     ensures goes_on { OnOk result (CanGoOn m.new) }
 {
@@ -197,9 +202,9 @@ pub fn brk<F: Files, D: SwapDev>(
     requires area { m.old.params.swap_blocks ≤ D.blocks swap.old }
     requires files { AreFiles m.old.images (F.holds files.old) }
     ensures comes { IfOk result (BreakComes m.old m.new pid regs.now (run (kernel_answers m.old.kernel (space_of_pid m.old.kernel pid)) (argument regs.now 1))
-        (F.holds files.old) (D.image swap.old) (D.image swap.new)) }
+        (F.holds files.old) (stores F.Files D.SwapDev files.old swap.old) (stores F.Files D.SwapDev files.new swap.new)) }
     ensures stops { IfErr result (StopsBreak m.old m.new pid (run (kernel_answers m.old.kernel (space_of_pid m.old.kernel pid)) (argument regs.now 1))
-        (F.holds files.old) (D.image swap.old) (D.image swap.new)) }
+        (F.holds files.old) (stores F.Files D.SwapDev files.old swap.old) (stores F.Files D.SwapDev files.new swap.new)) }
     ensures outside { TransfersPages F.Files D.SwapDev (stop_of result) files.old files.new swap.old swap.new }
     ensures goes_on { OnOk result (CanGoOn m.new) }
 {

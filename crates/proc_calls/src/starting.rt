@@ -1,4 +1,5 @@
 //! Starts of images.
+ghost use Rattle.io_edge.specs.WithFiles.{stores};
 ghost use Rattle.std.specs.Prelude.{◌≡◌, ◌<◌, ◌≤◌, [], true, false, length, IfOk, OnOk, IfErr, Ok};
 ghost use Rattle.page_model.specs.Rank.{HasRoom};
 ghost use Rattle.kernel_model.specs.Unit.{has_lender, lender_among};
@@ -32,11 +33,13 @@ fn find_pieces<F: Files, D: SwapDev>(
     requires area { m.old.params.swap_blocks ≤ D.blocks swap.old }
     requires files { AreFiles m.old.images (F.holds files.old) }
     requires can { CanAsk m.old.kernel.holdings wants.now }
-    ensures finds { IfOk result (λ fits. Finds (wants_found wants.now) fits m.old m.new pid (F.holds files.old) (D.image swap.old) (D.image swap.new)) }
+    ensures finds { IfOk result (λ fits. Finds (wants_found wants.now) fits m.old m.new pid (F.holds files.old) (stores F.Files D.SwapDev files.old swap.old)
+        (stores F.Files D.SwapDev files.new swap.new)) }
     ensures given { result ≡ Ok true → has_lender m.old.kernel.processes pid ≡ true
         → HasGivenBack m.old.kernel m.new.kernel pid (lender_among m.old.kernel.processes pid) }
     ensures has_room { result ≡ Ok true → length m.new.kernel.journal < m.new.params.journal }
-    ensures stops { IfErr result (StopsFinding (wants_found wants.now) m.old m.new pid (F.holds files.old) (D.image swap.old) (D.image swap.new)) }
+    ensures stops { IfErr result (StopsFinding (wants_found wants.now) m.old m.new pid (F.holds files.old) (stores F.Files D.SwapDev files.old swap.old)
+        (stores F.Files D.SwapDev files.new swap.new)) }
     ensures outside { TransfersPages F.Files D.SwapDev (stop_of result) files.old files.new swap.old swap.new }
     ensures running { result ≡ Ok true → IsRunning m.new }
     ensures goes_on { result ≡ Ok false → CanGoOn m.new }
@@ -80,11 +83,13 @@ fn find_space<F: Files, D: SwapDev>(
     requires files { AreFiles m.old.images (F.holds files.old) }
     requires above { 0 < image }
     requires within { image ≤ length m.old.images }
-    ensures finds { IfOk result (λ fits. Finds (image_found image) fits m.old m.new pid (F.holds files.old) (D.image swap.old) (D.image swap.new)) }
+    ensures finds { IfOk result (λ fits. Finds (image_found image) fits m.old m.new pid (F.holds files.old) (stores F.Files D.SwapDev files.old swap.old)
+        (stores F.Files D.SwapDev files.new swap.new)) }
     ensures given { result ≡ Ok true → has_lender m.old.kernel.processes pid ≡ true
         → HasGivenBack m.old.kernel m.new.kernel pid (lender_among m.old.kernel.processes pid) }
     ensures has_room { result ≡ Ok true → length m.new.kernel.journal < m.new.params.journal }
-    ensures stops { IfErr result (StopsFinding (image_found image) m.old m.new pid (F.holds files.old) (D.image swap.old) (D.image swap.new)) }
+    ensures stops { IfErr result (StopsFinding (image_found image) m.old m.new pid (F.holds files.old) (stores F.Files D.SwapDev files.old swap.old)
+        (stores F.Files D.SwapDev files.new swap.new)) }
     ensures outside { TransfersPages F.Files D.SwapDev (stop_of result) files.old files.new swap.old swap.new }
     ensures running { result ≡ Ok true → IsRunning m.new }
     ensures goes_on { result ≡ Ok false → CanGoOn m.new }
@@ -117,8 +122,10 @@ pub fn start_image<F: Files, D: SwapDev>(
     requires page { length top ≡ 1024 }
     requires room { HasRoom m.old.kernel.place [] }
     ensures ready { IfOk result (λ called. called ≡ Called.Ready) }
-    ensures starts { OnOk result (Starts m.old m.new pid regs.now after.now image top (F.holds files.old) (D.image swap.old) (D.image swap.new)) }
-    ensures stops { IfErr result (StopsImage m.old m.new pid after.now image top (F.holds files.old) (D.image swap.old) (D.image swap.new)) }
+    ensures starts { OnOk result (Starts m.old m.new pid regs.now after.now image top (F.holds files.old) (stores F.Files D.SwapDev files.old swap.old)
+        (stores F.Files D.SwapDev files.new swap.new)) }
+    ensures stops { IfErr result (StopsImage m.old m.new pid after.now image top (F.holds files.old) (stores F.Files D.SwapDev files.old swap.old)
+        (stores F.Files D.SwapDev files.new swap.new)) }
     ensures outside { TransfersPages F.Files D.SwapDev (stop_of result) files.old files.new swap.old swap.new }
     ensures goes_on { OnOk result (CanGoOn m.new) }
 {

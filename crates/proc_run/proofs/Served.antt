@@ -12,7 +12,7 @@ use Rattle.flat_state.specs.Space.{Space}
 use Rattle.flat_state.specs.Flat.{Process, Inputs}
 use Rattle.machine_state.specs.Going.{CanGoOn}
 use Rattle.machine_state.specs.Machine.{Standing}
-use Rattle.machine_state.specs.Files.{AreImages}
+use Rattle.machine_state.specs.Files.{AreRunImages}
 use Rattle.machine_state.specs.UserMemory.{CanLend}
 use Rattle.step_units.specs.Growth.{access_by}
 use Rattle.step_units.specs.FaultFillAccessAccess.{Access}
@@ -105,7 +105,7 @@ module _ (A : Inputs) (s : State) (old mid : Standing) (holds : Option (List Nam
   at_refusal : MachineAt A e.state mid holds image
   at_refusal = record {
     at = leads_at A s e.state old.kernel mid.kernel image image (entries.Refused pid ∷ []) on.machine.at e.leads;
-    images = subst (λ ns. AreImages ns holds A.images) (sym images) on.machine.images;
+    images = subst (λ ns. AreRunImages ns holds A) (sym images) on.machine.images;
     blocks = ap (λ (y : Params). y.swap_blocks) params ∙ on.machine.blocks;
   }
 

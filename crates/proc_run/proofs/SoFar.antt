@@ -12,7 +12,7 @@ use Rattle.kernel_model.specs.ChangeStep.{life_of_proc}
 use Rattle.kernel_model.specs.Unit.{proc_of}
 use Rattle.page_model.specs.Swapper.{is_out}
 use Rattle.machine_state.specs.Calls.{life_in}
-use Rattle.machine_state.specs.Files.{AreImages}
+use Rattle.machine_state.specs.Files.{AreRunImages}
 use Rattle.machine_state.specs.Going.{CanGoOn}
 use Rattle.machine_state.specs.Machine.{Standing}
 use Rattle.machine_state.specs.UserMemory.{CanLend}
@@ -107,7 +107,7 @@ module _ (old m new : Standing) (pid : ℕ) (now : Bool) (counted until : ℕ) (
           told = led.leads.told;
           machine = record {
             at = leads_at A f.state led.state m.kernel new.kernel f.behind led.leads.behind led.units f.machine.at there;
-            images = subst (λ ns. AreImages ns holds A.images) (sym images) f.machine.images;
+            images = subst (λ ns. AreRunImages ns holds A) (sym images) f.machine.images;
             blocks = ap (λ (y : Params). y.swap_blocks) params ∙ f.machine.blocks;
           };
           named = subst (AreNamed A.images) (sym images) f.named;

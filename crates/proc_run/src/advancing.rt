@@ -1,4 +1,5 @@
 //! The next instruction of a process, or a page that it waits for.
+ghost use Rattle.io_edge.specs.WithFiles.{stores};
 ghost use Rattle.std.specs.Prelude.{◌≡◌, ◌⊎◌, ◌+◌, ◌^◌, ◌<◌, ◌≤◌, false, Some, IfOk, OnOk, IfErr, OnErr, IfSome, Err};
 ghost use Rattle.vm_facts.specs.declared.entry.Entry.TheVariants.{Ran};
 ghost use Rattle.user_vax.specs.Program.{run};
@@ -92,9 +93,11 @@ pub fn next_step<F: Files, D: SwapDev>(
     requires files { AreFiles m.old.images (F.holds files.old) }
     requires registers { before.now ≡ regs_of m.old.kernel pid }
     requires fits { instructions_of m.old.kernel.journal + 1 < 2 ^ 32 }
-    ensures advances { IfOk result (λ advance. LeadsFrom (HasRunner m.old (F.holds files.old) (D.image swap.old) pid (is_now patience))
-        (AdvancesTo m.old.kernel m.new.kernel (D.image swap.new) advance)) }
-    ensures stops { IfErr result (StopsFrom (HasRunner m.old (F.holds files.old) (D.image swap.old) pid (is_now patience)) m.old m.new (D.image swap.new)) }
+    ensures advances { IfOk result (λ advance. LeadsFrom
+        (HasRunner m.old (F.holds files.old) (stores F.Files D.SwapDev files.old swap.old) pid (is_now patience))
+        (AdvancesTo m.old.kernel m.new.kernel (stores F.Files D.SwapDev files.new swap.new) advance)) }
+    ensures stops { IfErr result (StopsFrom (HasRunner m.old (F.holds files.old) (stores F.Files D.SwapDev files.old swap.old) pid (is_now patience)) m.old
+        m.new (stores F.Files D.SwapDev files.new swap.new)) }
     ensures continues { IfOk result (λ advance. Continues m.old m.new (counts advance)) }
     ensures goes_on { OnOk result (CanGoOn m.new) }
     ensures kept { IfErr result (KeptAtStop m.old m.new) }
@@ -140,9 +143,11 @@ pub fn advance_from<F: Files, D: SwapDev>(
     requires registers { before.now ≡ regs_of m.old.kernel pid }
     requires fits { instructions_of m.old.kernel.journal + 1 < 2 ^ 32 }
     requires known { IfSome missed (MissesByte (own_answers m.old pid) before.now) }
-    ensures advances { IfOk result (λ advance. LeadsFrom (HasRunner m.old (F.holds files.old) (D.image swap.old) pid (is_now patience))
-        (AdvancesTo m.old.kernel m.new.kernel (D.image swap.new) advance)) }
-    ensures stops { IfErr result (StopsFrom (HasRunner m.old (F.holds files.old) (D.image swap.old) pid (is_now patience)) m.old m.new (D.image swap.new)) }
+    ensures advances { IfOk result (λ advance. LeadsFrom
+        (HasRunner m.old (F.holds files.old) (stores F.Files D.SwapDev files.old swap.old) pid (is_now patience))
+        (AdvancesTo m.old.kernel m.new.kernel (stores F.Files D.SwapDev files.new swap.new) advance)) }
+    ensures stops { IfErr result (StopsFrom (HasRunner m.old (F.holds files.old) (stores F.Files D.SwapDev files.old swap.old) pid (is_now patience)) m.old
+        m.new (stores F.Files D.SwapDev files.new swap.new)) }
     ensures continues { IfOk result (λ advance. Continues m.old m.new (counts advance)) }
     ensures goes_on { OnOk result (CanGoOn m.new) }
     ensures kept { IfErr result (KeptAtStop m.old m.new) }

@@ -1,4 +1,5 @@
 //! A call that an instruction makes.
+ghost use Rattle.io_edge.specs.WithFiles.{stores};
 ghost use Rattle.std.specs.Prelude.{◌≡◌, ◌≤◌, Some, Ok, IfOk, OnOk, IfErr};
 ghost use Rattle.machine_state.specs.Going.{CanGoOn};
 ghost use Rattle.machine_state.specs.Files.{AreFiles};
@@ -37,8 +38,10 @@ fn make<F: Files, D: SwapDev>(
     requires lends { CanLend m.old.kernel pid }
     requires area { m.old.params.swap_blocks ≤ D.blocks swap.old }
     requires files { AreFiles m.old.images (F.holds files.old) }
-    ensures comes { IfOk result (CallComes call m.old m.new pid regs.now (F.holds files.old) (D.image swap.old) (D.image swap.new)) }
-    ensures stops { IfErr result (CallStops call m.old m.new pid regs.now (F.holds files.old) (D.image swap.old) (D.image swap.new)) }
+    ensures comes { IfOk result (CallComes call m.old m.new pid regs.now (F.holds files.old) (stores F.Files D.SwapDev files.old swap.old)
+        (stores F.Files D.SwapDev files.new swap.new)) }
+    ensures stops { IfErr result (CallStops call m.old m.new pid regs.now (F.holds files.old) (stores F.Files D.SwapDev files.old swap.old)
+        (stores F.Files D.SwapDev files.new swap.new)) }
     ensures goes_on { OnOk result (CanGoOn m.new) }
     ensures outside { TransfersPages F.Files D.SwapDev (stop_of result) files.old files.new swap.old swap.new }
 {
@@ -73,9 +76,11 @@ pub fn call<F: Files, D: SwapDev>(
     requires files { AreFiles m.old.images (F.holds files.old) }
     requires registers { before.now ≡ regs_of m.old.kernel pid }
     requires made { MadeCall m.old pid before.now number regs.now }
-    ensures advances { IfOk result (λ advance. LeadsFrom (HasRunner m.old (F.holds files.old) (D.image swap.old) pid (is_now patience))
-        (AdvancesTo m.old.kernel m.new.kernel (D.image swap.new) advance)) }
-    ensures stops { IfErr result (StopsFrom (HasRunner m.old (F.holds files.old) (D.image swap.old) pid (is_now patience)) m.old m.new (D.image swap.new)) }
+    ensures advances { IfOk result (λ advance. LeadsFrom
+        (HasRunner m.old (F.holds files.old) (stores F.Files D.SwapDev files.old swap.old) pid (is_now patience))
+        (AdvancesTo m.old.kernel m.new.kernel (stores F.Files D.SwapDev files.new swap.new) advance)) }
+    ensures stops { IfErr result (StopsFrom (HasRunner m.old (F.holds files.old) (stores F.Files D.SwapDev files.old swap.old) pid (is_now patience)) m.old
+        m.new (stores F.Files D.SwapDev files.new swap.new)) }
     ensures continues { IfOk result (λ advance. Continues m.old m.new (counts advance)) }
     ensures goes_on { OnOk result (CanGoOn m.new) }
     ensures kept { IfErr result (KeptAtStop m.old m.new) }

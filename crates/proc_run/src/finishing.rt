@@ -1,4 +1,5 @@
 //! The rest of a step that its first entry began.
+ghost use Rattle.io_edge.specs.WithFiles.{stores};
 ghost use Rattle.std.specs.Prelude.{◌≡◌, ◌+◌, ◌≤◌, Some, OnOk, IfErr};
 ghost use Rattle.flat_state.specs.Journal.{instructions_of};
 ghost use Rattle.flat_state.specs.declared.change.Change.TheVariants.{Keep};
@@ -114,12 +115,13 @@ pub fn finish_step<F: Files, D: SwapDev>(
     begun: Begun,
 ) -> Result<(), Stop>
     requires steady { IsSteady m.old }
-    requires begun { AtSome (BegunAt m.old begun (F.holds files.old) (D.image swap.old)) }
+    requires begun { AtSome (BegunAt m.old begun (F.holds files.old) (stores F.Files D.SwapDev files.old swap.old)) }
     requires area { m.old.params.swap_blocks ≤ D.blocks swap.old }
     requires files { AreFiles m.old.images (F.holds files.old) }
-    ensures finishes { OnOk result (LeadsFrom (BegunAt m.old begun (F.holds files.old) (D.image swap.old))
-        (λ A s image. StepLeads A s m.old.kernel image 1 m.new.kernel (D.image swap.new))) }
-    ensures stops { IfErr result (StopsFrom (BegunAt m.old begun (F.holds files.old) (D.image swap.old)) m.old m.new (D.image swap.new)) }
+    ensures finishes { OnOk result (LeadsFrom (BegunAt m.old begun (F.holds files.old) (stores F.Files D.SwapDev files.old swap.old))
+        (λ A s image. StepLeads A s m.old.kernel image 1 m.new.kernel (stores F.Files D.SwapDev files.new swap.new))) }
+    ensures stops { IfErr result (StopsFrom (BegunAt m.old begun (F.holds files.old) (stores F.Files D.SwapDev files.old swap.old)) m.old m.new
+        (stores F.Files D.SwapDev files.new swap.new)) }
     ensures counts { OnOk result (CountsTo m.old m.new (instructions_of m.old.kernel.journal) (instructions_of m.old.kernel.journal + 1)) }
     ensures kept { IfErr result (KeptAtStop m.old m.new) }
     ensures outside { TransfersPages F.Files D.SwapDev (stop_of result) files.old files.new swap.old swap.new }

@@ -1,4 +1,5 @@
 //! A process runs, in a dispatch or in a turn.
+ghost use Rattle.io_edge.specs.WithFiles.{stores};
 ghost use Rattle.std.specs.Prelude.{◌≡◌, ◌≤◌, IfOk, IfErr};
 ghost use Rattle.flat_state.specs.Journal.{instructions_of};
 ghost use Rattle.machine_state.specs.Files.{AreFiles};
@@ -37,10 +38,12 @@ pub fn run<F: Files, D: SwapDev>(
     requires area { m.old.params.swap_blocks ≤ D.blocks swap.old }
     requires files { AreFiles m.old.images (F.holds files.old) }
     requires counted { instructions_of m.old.kernel.journal ≡ counted }
-    ensures runs { IfOk result (λ count. LeadsFrom (UnderMark m.old (F.holds files.old) (D.image swap.old) pid (is_now patience) counted until)
-        (RunLeads m.old.kernel pid (is_now patience) m.new.kernel (D.image swap.new) count)) }
+    ensures runs { IfOk result (λ count. LeadsFrom (UnderMark m.old (F.holds files.old) (stores F.Files D.SwapDev files.old swap.old) pid (is_now patience)
+        counted until)
+        (RunLeads m.old.kernel pid (is_now patience) m.new.kernel (stores F.Files D.SwapDev files.new swap.new) count)) }
     ensures stops { IfErr result
-        (StopsFrom (UnderMark m.old (F.holds files.old) (D.image swap.old) pid (is_now patience) counted until) m.old m.new (D.image swap.new)) }
+        (StopsFrom (UnderMark m.old (F.holds files.old) (stores F.Files D.SwapDev files.old swap.old) pid (is_now patience) counted until) m.old m.new
+        (stores F.Files D.SwapDev files.new swap.new)) }
     ensures counts { IfOk result (λ count. CountsTo m.old m.new counted count) }
     ensures kept { IfErr result (KeptAtStop m.old m.new) }
     ensures outside { TransfersPages F.Files D.SwapDev (stop_of result) files.old files.new swap.old swap.new }

@@ -1,4 +1,5 @@
 //! A page that an instruction or its call waits for.
+ghost use Rattle.io_edge.specs.WithFiles.{stores};
 ghost use Rattle.std.specs.Prelude.{◌≡◌, ◌≤◌, true, IfOk, OnOk, IfErr};
 ghost use Rattle.machine_state.specs.Going.{CanGoOn};
 ghost use Rattle.machine_state.specs.Files.{AreFiles};
@@ -39,8 +40,10 @@ fn bring_in<F: Files, D: SwapDev>(
     requires files { AreFiles m.old.images (F.holds files.old) }
     requires quiet { WritesNothing m.old.kernel pid regs.now }
     requires registers { regs.now ≡ regs_of m.old.kernel pid }
-    ensures served { IfOk result (ServedBy true m.old m.new pid address write (F.holds files.old) (D.image swap.old) (D.image swap.new)) }
-    ensures stops { IfErr result (StopsServed true m.old m.new pid address write (F.holds files.old) (D.image swap.old) (D.image swap.new)) }
+    ensures served { IfOk result (ServedBy true m.old m.new pid address write (F.holds files.old) (stores F.Files D.SwapDev files.old swap.old)
+        (stores F.Files D.SwapDev files.new swap.new)) }
+    ensures stops { IfErr result (StopsServed true m.old m.new pid address write (F.holds files.old) (stores F.Files D.SwapDev files.old swap.old)
+        (stores F.Files D.SwapDev files.new swap.new)) }
     ensures goes_on { OnOk result (CanGoOn m.new) }
     ensures outside { TransfersPages F.Files D.SwapDev (stop_of result) files.old files.new swap.old swap.new }
 {
@@ -67,8 +70,10 @@ fn serve_by<F: Files, D: SwapDev>(
     requires files { AreFiles m.old.images (F.holds files.old) }
     requires quiet { WritesNothing m.old.kernel pid regs.now }
     requires registers { regs.now ≡ regs_of m.old.kernel pid }
-    ensures served { IfOk result (ServedBy (is_now patience) m.old m.new pid address write (F.holds files.old) (D.image swap.old) (D.image swap.new)) }
-    ensures stops { IfErr result (StopsServed (is_now patience) m.old m.new pid address write (F.holds files.old) (D.image swap.old) (D.image swap.new)) }
+    ensures served { IfOk result (ServedBy (is_now patience) m.old m.new pid address write (F.holds files.old) (stores F.Files D.SwapDev files.old swap.old)
+        (stores F.Files D.SwapDev files.new swap.new)) }
+    ensures stops { IfErr result (StopsServed (is_now patience) m.old m.new pid address write (F.holds files.old)
+        (stores F.Files D.SwapDev files.old swap.old) (stores F.Files D.SwapDev files.new swap.new)) }
     ensures continues { OnOk result (Continues m.old m.new 0) }
     ensures goes_on { OnOk result (CanGoOn m.new) }
     ensures outside { TransfersPages F.Files D.SwapDev (stop_of result) files.old files.new swap.old swap.new }
@@ -98,10 +103,12 @@ pub fn serve_access<F: Files, D: SwapDev>(
     requires files { AreFiles m.old.images (F.holds files.old) }
     requires quiet { WritesNothing m.old.kernel pid regs.now }
     requires registers { regs.now ≡ regs_of m.old.kernel pid }
-    ensures advances { IfOk result (λ advance. LeadsFrom (WaitsAt m.old (F.holds files.old) (D.image swap.old) pid (is_now patience) address write)
-        (AdvancesTo m.old.kernel m.new.kernel (D.image swap.new) advance)) }
+    ensures advances { IfOk result (λ advance. LeadsFrom
+        (WaitsAt m.old (F.holds files.old) (stores F.Files D.SwapDev files.old swap.old) pid (is_now patience) address write)
+        (AdvancesTo m.old.kernel m.new.kernel (stores F.Files D.SwapDev files.new swap.new) advance)) }
     ensures stops { IfErr result
-        (StopsFrom (WaitsAt m.old (F.holds files.old) (D.image swap.old) pid (is_now patience) address write) m.old m.new (D.image swap.new)) }
+        (StopsFrom (WaitsAt m.old (F.holds files.old) (stores F.Files D.SwapDev files.old swap.old) pid (is_now patience) address write) m.old m.new
+        (stores F.Files D.SwapDev files.new swap.new)) }
     ensures continues { IfOk result (λ advance. Continues m.old m.new (counts advance)) }
     ensures goes_on { OnOk result (CanGoOn m.new) }
     ensures kept { IfErr result (KeptAtStop m.old m.new) }

@@ -23,7 +23,7 @@ use Rattle.film_core.specs.Films.{Filming, FilmAt}
 use Rattle.reference_commands.specs.Machines.{journal_entries}
 use Rattle.run_stats.specs.declared.finish.Finish.{Finish}
 use Rattle.run_stats.specs.declared.finish.Finish.TheVariants.{Over, Cut}
-use Rattle.reference_commands.specs.Answering.{blank_swap, EndsSo, cut_line, SaysCut}
+use Rattle.reference_commands.specs.Answering.{blank_stores, EndsSo, cut_line, SaysCut}
 use Rattle.reference_commands.specs.InMemory.{HasHalted}
 use Rattle.question_command.specs.Filmed.{IsAtState}
 
@@ -147,14 +147,14 @@ at_full A f h i was ends going = go (next_unit A was.state) refl
     go None e = absurd (let over : f.over ≡ true = at.over.1 e in let no : false ≡ true = sym going ∙ over in cc)
     go (Some u) e = record {
       journal = f.machine.kernel.journal;
-      left = Some (swap_left A f.machine.kernel.journal (blank_swap A.swap_blocks));
+      left = Some (swap_left A f.machine.kernel.journal (blank_stores A.swap_blocks));
       halted = record {
         state = was.state;
         made = at.made;
         unit = u;
         next = e;
         why = subst (λ (es : List Entry). length es < length (append es u)) at.stands.machine.at.stands.journal (at.complete u e);
-        left = swap_left A f.machine.kernel.journal (blank_swap A.swap_blocks);
+        left = swap_left A f.machine.kernel.journal (blank_stores A.swap_blocks);
         told = refl;
         image_left = refl;
       };

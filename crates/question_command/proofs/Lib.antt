@@ -6,6 +6,7 @@ pub use Rattle.reference_commands.proofs.RunCommandRuns
 pub use Rattle.reference_commands.proofs.Found
 pub mod Steps
 pub mod Finishes
+mod Requests
 pub mod Noting
 pub mod Asked
 pub mod Words

@@ -37,6 +37,7 @@ use Rattle.run_stats.specs.Finishing.{finish_row}
 use Rattle.run_stats.specs.declared.finish.Finish.{Finish}
 use Rattle.reference_commands.specs.Answering.{EndsSo, SaysStats}
 use Rattle.question_command.specs.Counted.{look_at_film, Counted}
+use Rattle.question_command.proofs.Requests.{requests_counted}
 
 -- What is looked at of a film is what is looked at of the state at which it stands.
 
@@ -166,6 +167,7 @@ counted_said A f h i first notes pids sids images journal finish count table tex
       can = was.can;
       notes = notes;
       noted = was.noted;
+      requests = requests_counted A was.holdings was.state notes f.machine.kernel.journal was.can was.noted (sym at.stands.machine.at.stands.journal);
       finish = finish;
       ends = ends;
       told = told ∙ ap (λ (n : ℕ). table ++ finish_row finish n) (many_run ∙ sym at.stands.count) ∙ ap (λ (t : List ℕ). t ++ finish_row finish was.state.count) (made

@@ -1,4 +1,5 @@
 // What is asked of a run that goes on from entry to entry, and its answer.
+ghost use Rattle.io_edge.specs.WithFiles.{stores};
 ghost use Rattle.std.specs.Prelude.{◌≡◌, ◌<◌, ◌≤◌, ◌^◌, [], ℕ, List, length, map, All, Some, IfOk};
 ghost use Rattle.vm_facts.specs.SwapImages.{SwapImage};
 ghost use Rattle.flat_state.specs.Flat.{Inputs};
@@ -56,7 +57,7 @@ fn answer_begun<'a, F: Files, D: SwapDev>(
     images: u32,
     asked: FilmQuestion,
 ) -> Result<Vec<u8>, Fault<'a>>
-    requires filming { IsFilming film.old lines.now (F.holds files.old) (D.image swap.old) }
+    requires filming { IsFilming film.old lines.now (F.holds files.old) (stores F.Files D.SwapDev files.old swap.old) }
     requires first { film.old.machine.kernel.journal ≡ [] }
     requires moves { HaveFewMoves lines.now }
     requires count { length lines.now < 2 ^ 32 }
@@ -64,7 +65,7 @@ fn answer_begun<'a, F: Files, D: SwapDev>(
     requires files { AreFiles film.old.machine.images (F.holds files.old) }
     requires question { IsQuestion (question_of asked) }
     ensures { (A : Inputs) (image : SwapImage) → A.lines ≡ lines.now → length A.images ≡ images
-        → FilmBegun A film.old (F.holds files.old) (D.image swap.old) image
+        → FilmBegun A film.old (F.holds files.old) (stores F.Files D.SwapDev files.old swap.old) image
         → EndsAnswer (question_of asked) A (ending_of result) }
 {
     match asked {
@@ -95,8 +96,9 @@ fn answer_run<'a, F: Files, D: SwapDev>(
     requires area { film.old.machine.params.swap_blocks ≤ D.blocks swap.old }
     requires files { AreFiles film.old.machine.images (F.holds files.old) }
     requires question { IsQuestion (question_of asked) }
-    requires inputs { IsAskable film.old.machine first.now lines.now (F.holds files.old) (D.image swap.old) }
-    ensures { (A : Inputs) (image : SwapImage) → IsAskedOf A film.old.machine first.now lines.now (F.holds files.old) image → D.image swap.old ≡ Some image
+    requires inputs { IsAskable film.old.machine first.now lines.now (F.holds files.old) (stores F.Files D.SwapDev files.old swap.old) }
+    ensures { (A : Inputs) (image : SwapImage) → IsAskedOf A film.old.machine first.now lines.now (F.holds files.old) image → stores F.Files D.SwapDev
+        files.old swap.old ≡ Some image
         → length A.images ≡ images → EndsAnswer (question_of asked) A (ending_of result) }
 {
     match film.start(files, swap, first, lines) {

@@ -1,4 +1,5 @@
 // What a run did, counted: the run goes on from entry to entry, each is noted, and the table is made of the notes.
+ghost use Rattle.io_edge.specs.WithFiles.{stores};
 ghost use Rattle.std.specs.Prelude.{◌≡◌, ◌+◌, ◌<◌, ◌≤◌, ◌^◌, ◌++◌, ◌&&◌, not, nat_lt, [], ◌∷◌, ℕ, false, true, List, length, map, All, Option, Some, IfOk, OnOk};
 ghost use Rattle.vm_facts.specs.SwapImages.{SwapImage};
 ghost use Rattle.vm_facts.specs.declared.entry.Entry.{Entry};
@@ -51,17 +52,18 @@ fn count_entry<F: Files, D: SwapDev>(
     lines: &[Event],
     notes: &mut Vec<Note>,
 ) -> Result<(), NoMemory>
-    requires filming { IsFilming film.old lines.now (F.holds files.old) (D.image swap.old) }
+    requires filming { IsFilming film.old lines.now (F.holds files.old) (stores F.Files D.SwapDev files.old swap.old) }
     requires more { film.old.over ≡ false }
     requires room { length film.old.machine.kernel.journal + 1 < 2 ^ 32 }
     requires moves { HaveFewMoves lines.now }
     requires count { length lines.now < 2 ^ 32 }
     requires area { film.old.machine.params.swap_blocks ≤ D.blocks swap.old }
     requires files { AreFiles film.old.machine.images (F.holds files.old) }
-    ensures filming { OnOk result (IsFilming film.new lines.now (F.holds files.new) (D.image swap.new)) }
+    ensures filming { OnOk result (IsFilming film.new lines.now (F.holds files.new) (stores F.Files D.SwapDev files.new swap.new)) }
     ensures counts { OnOk result
-        ((A : Inputs) (first : Looked) → A.lines ≡ lines.now → Counted A film.old (F.holds files.old) (D.image swap.old) first notes.old.items
-        → Counted A film.new (F.holds files.new) (D.image swap.new) first notes.new.items) }
+        ((A : Inputs) (first : Looked) → A.lines ≡ lines.now → Counted A film.old (F.holds files.old) (stores F.Files D.SwapDev files.old swap.old) first
+        notes.old.items
+        → Counted A film.new (F.holds files.new) (stores F.Files D.SwapDev files.new swap.new) first notes.new.items) }
     ensures longer { OnOk result (length film.new.machine.kernel.journal ≡ length film.old.machine.kernel.journal + 1) }
     ensures area { OnOk result (film.new.machine.params.swap_blocks ≤ D.blocks swap.new) }
     ensures files { OnOk result (AreFiles film.new.machine.images (F.holds files.new)) }
@@ -96,15 +98,16 @@ fn count_on<F: Files, D: SwapDev>(
     swap: &mut D,
     lines: &[Event],
 ) -> Result<Vec<Note>, NoMemory>
-    requires filming { IsFilming film.old lines.now (F.holds files.old) (D.image swap.old) }
+    requires filming { IsFilming film.old lines.now (F.holds files.old) (stores F.Files D.SwapDev files.old swap.old) }
     requires first { film.old.machine.kernel.journal ≡ [] }
     requires moves { HaveFewMoves lines.now }
     requires count { length lines.now < 2 ^ 32 }
     requires area { film.old.machine.params.swap_blocks ≤ D.blocks swap.old }
     requires files { AreFiles film.old.machine.images (F.holds files.old) }
     ensures counted { IfOk result
-        (λ notes. (A : Inputs) (image : SwapImage) → A.lines ≡ lines.now → FilmBegun A film.old (F.holds files.old) (D.image swap.old) image
-        → Counted A film.new (F.holds files.new) (D.image swap.new) (look_at_film film.old) notes.items) }
+        (λ notes. (A : Inputs) (image : SwapImage) → A.lines ≡ lines.now → FilmBegun A film.old (F.holds files.old)
+        (stores F.Files D.SwapDev files.old swap.old) image
+        → Counted A film.new (F.holds files.new) (stores F.Files D.SwapDev files.new swap.new) (look_at_film film.old) notes.items) }
     ensures running { OnOk result (IsRunning film.new.machine) }
     ensures ends { OnOk result (not film.new.over && nat_lt (length film.new.machine.kernel.journal) journal_entries ≡ false) }
 {
@@ -193,14 +196,14 @@ pub(crate) fn count_begun<'a, F: Files, D: SwapDev>(
     lines: &[Event],
     images: u32,
 ) -> Result<Vec<u8>, Fault<'a>>
-    requires filming { IsFilming film.old lines.now (F.holds files.old) (D.image swap.old) }
+    requires filming { IsFilming film.old lines.now (F.holds files.old) (stores F.Files D.SwapDev files.old swap.old) }
     requires first { film.old.machine.kernel.journal ≡ [] }
     requires moves { HaveFewMoves lines.now }
     requires count { length lines.now < 2 ^ 32 }
     requires area { film.old.machine.params.swap_blocks ≤ D.blocks swap.old }
     requires files { AreFiles film.old.machine.images (F.holds files.old) }
     ensures { (A : Inputs) (image : SwapImage) → A.lines ≡ lines.now → length A.images ≡ images
-        → FilmBegun A film.old (F.holds files.old) (D.image swap.old) image
+        → FilmBegun A film.old (F.holds files.old) (stores F.Files D.SwapDev files.old swap.old) image
         → EndsAnswer questions.Stats A (ending_of result) }
 {
     let first = look_at_film(film);

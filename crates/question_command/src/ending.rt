@@ -1,4 +1,5 @@
 // How a run came to its end: it goes on from entry to entry until it is over.
+ghost use Rattle.io_edge.specs.WithFiles.{stores};
 ghost use Rattle.std.specs.Prelude.{◌≡◌, ◌+◌, ◌<◌, ◌≤◌, ◌^◌, ◌&&◌, not, nat_lt, [], ℕ, false, true, List, length, Option, IfOk, OnOk};
 ghost use Rattle.vm_facts.specs.SwapImages.{SwapImage};
 ghost use Rattle.io_edge.specs.FileHolding.{NamedFile};
@@ -67,16 +68,16 @@ fn go_on_once<F: Files, D: SwapDev>(
     swap: &mut D,
     lines: &[Event],
 ) -> Result<(), NoMemory>
-    requires filming { IsFilming film.old lines.now (F.holds files.old) (D.image swap.old) }
+    requires filming { IsFilming film.old lines.now (F.holds files.old) (stores F.Files D.SwapDev files.old swap.old) }
     requires more { film.old.over ≡ false }
     requires room { length film.old.machine.kernel.journal + 1 < 2 ^ 32 }
     requires moves { HaveFewMoves lines.now }
     requires count { length lines.now < 2 ^ 32 }
     requires area { film.old.machine.params.swap_blocks ≤ D.blocks swap.old }
     requires files { AreFiles film.old.machine.images (F.holds files.old) }
-    ensures filming { OnOk result (IsFilming film.new lines.now (F.holds files.new) (D.image swap.new)) }
-    ensures goes { OnOk result ((A : Inputs) → A.lines ≡ lines.now → IsAtState A film.old (F.holds files.old) (D.image swap.old)
-        → IsAtState A film.new (F.holds files.new) (D.image swap.new)) }
+    ensures filming { OnOk result (IsFilming film.new lines.now (F.holds files.new) (stores F.Files D.SwapDev files.new swap.new)) }
+    ensures goes { OnOk result ((A : Inputs) → A.lines ≡ lines.now → IsAtState A film.old (F.holds files.old) (stores F.Files D.SwapDev files.old swap.old)
+        → IsAtState A film.new (F.holds files.new) (stores F.Files D.SwapDev files.new swap.new)) }
     ensures longer { OnOk result (length film.new.machine.kernel.journal ≡ length film.old.machine.kernel.journal + 1) }
     ensures area { OnOk result (film.new.machine.params.swap_blocks ≤ D.blocks swap.new) }
     ensures files { OnOk result (AreFiles film.new.machine.images (F.holds files.new)) }
@@ -94,14 +95,15 @@ fn go_to_end<F: Files, D: SwapDev>(
     swap: &mut D,
     lines: &[Event],
 ) -> Result<(), NoMemory>
-    requires filming { IsFilming film.old lines.now (F.holds files.old) (D.image swap.old) }
+    requires filming { IsFilming film.old lines.now (F.holds files.old) (stores F.Files D.SwapDev files.old swap.old) }
     requires first { film.old.machine.kernel.journal ≡ [] }
     requires moves { HaveFewMoves lines.now }
     requires count { length lines.now < 2 ^ 32 }
     requires area { film.old.machine.params.swap_blocks ≤ D.blocks swap.old }
     requires files { AreFiles film.old.machine.images (F.holds files.old) }
-    ensures there { OnOk result ((A : Inputs) (image : SwapImage) → A.lines ≡ lines.now → FilmBegun A film.old (F.holds files.old) (D.image swap.old) image
-        → IsAtState A film.new (F.holds files.new) (D.image swap.new)) }
+    ensures there { OnOk result ((A : Inputs) (image : SwapImage) → A.lines ≡ lines.now → FilmBegun A film.old (F.holds files.old)
+        (stores F.Files D.SwapDev files.old swap.old) image
+        → IsAtState A film.new (F.holds files.new) (stores F.Files D.SwapDev files.new swap.new)) }
     ensures running { OnOk result (IsRunning film.new.machine) }
     ensures ends { OnOk result (not film.new.over && nat_lt (length film.new.machine.kernel.journal) journal_entries ≡ false) }
 {
@@ -147,13 +149,14 @@ pub(crate) fn end_begun<'a, F: Files, D: SwapDev>(
     swap: &mut D,
     lines: &[Event],
 ) -> Result<Vec<u8>, Fault<'a>>
-    requires filming { IsFilming film.old lines.now (F.holds files.old) (D.image swap.old) }
+    requires filming { IsFilming film.old lines.now (F.holds files.old) (stores F.Files D.SwapDev files.old swap.old) }
     requires first { film.old.machine.kernel.journal ≡ [] }
     requires moves { HaveFewMoves lines.now }
     requires count { length lines.now < 2 ^ 32 }
     requires area { film.old.machine.params.swap_blocks ≤ D.blocks swap.old }
     requires files { AreFiles film.old.machine.images (F.holds files.old) }
-    ensures { (A : Inputs) (image : SwapImage) → A.lines ≡ lines.now → FilmBegun A film.old (F.holds files.old) (D.image swap.old) image
+    ensures { (A : Inputs) (image : SwapImage) → A.lines ≡ lines.now → FilmBegun A film.old (F.holds files.old) (stores F.Files D.SwapDev files.old swap.old)
+        image
         → EndsAnswer questions.WasCut A (ending_of result) }
 {
     match go_to_end(film, files, swap, lines) {

@@ -1,4 +1,5 @@
 // A film of a run: who owns what after each of several numbers of its entries.
+ghost use Rattle.io_edge.specs.WithFiles.{stores};
 ghost use Rattle.std.specs.Prelude.{◌≡◌, ◌+◌, ◌-◌, ◌<◌, ◌≤◌, ◌^◌, ◌&&◌, not, nat_lt, ℕ, false, [], ◌++◌, List, length, slice_get, map, All, Some, IfOk, OnOk};
 ghost use Rattle.vm_facts.specs.SwapImages.{SwapImage};
 ghost use Rattle.flat_state.specs.Flat.{Inputs};
@@ -157,7 +158,7 @@ fn go_on_and_put<F: Files, D: SwapDev>(
     steps: FilmSteps,
     text: &mut Vec<u8>,
 ) -> Result<(), NoMemory>
-    requires filming { IsFilming film.old lines.now (F.holds files.old) (D.image swap.old) }
+    requires filming { IsFilming film.old lines.now (F.holds files.old) (stores F.Files D.SwapDev files.old swap.old) }
     requires more { film.old.over ≡ false }
     requires room { length film.old.machine.kernel.journal + 1 < 2 ^ 32 }
     requires moves { HaveFewMoves lines.now }
@@ -165,9 +166,10 @@ fn go_on_and_put<F: Files, D: SwapDev>(
     requires area { film.old.machine.params.swap_blocks ≤ D.blocks swap.old }
     requires files { AreFiles film.old.machine.images (F.holds files.old) }
     requires every { 1 ≤ steps.every }
-    ensures filming { OnOk result (IsFilming film.new lines.now (F.holds files.new) (D.image swap.new)) }
-    ensures goes { OnOk result ((A : Inputs) → A.lines ≡ lines.now → Filmed A steps film.old (F.holds files.old) (D.image swap.old) text.old.items
-        → Filmed A steps film.new (F.holds files.new) (D.image swap.new) text.new.items) }
+    ensures filming { OnOk result (IsFilming film.new lines.now (F.holds files.new) (stores F.Files D.SwapDev files.new swap.new)) }
+    ensures goes { OnOk result ((A : Inputs) → A.lines ≡ lines.now → Filmed A steps film.old (F.holds files.old) (stores F.Files D.SwapDev files.old swap.old)
+        text.old.items
+        → Filmed A steps film.new (F.holds files.new) (stores F.Files D.SwapDev files.new swap.new) text.new.items) }
     ensures longer { OnOk result (length film.new.machine.kernel.journal ≡ length film.old.machine.kernel.journal + 1) }
     ensures area { OnOk result (film.new.machine.params.swap_blocks ≤ D.blocks swap.new) }
     ensures files { OnOk result (AreFiles film.new.machine.images (F.holds files.new)) }
@@ -187,14 +189,15 @@ fn film_on<F: Files, D: SwapDev>(
     lines: &[Event],
     steps: FilmSteps,
 ) -> Result<Vec<u8>, NoMemory>
-    requires filming { IsFilming film.old lines.now (F.holds files.old) (D.image swap.old) }
+    requires filming { IsFilming film.old lines.now (F.holds files.old) (stores F.Files D.SwapDev files.old swap.old) }
     requires first { film.old.machine.kernel.journal ≡ [] }
     requires moves { HaveFewMoves lines.now }
     requires count { length lines.now < 2 ^ 32 }
     requires area { film.old.machine.params.swap_blocks ≤ D.blocks swap.old }
     requires files { AreFiles film.old.machine.images (F.holds files.old) }
     requires every { 1 ≤ steps.every }
-    ensures { IfOk result (λ text. (A : Inputs) (image : SwapImage) → A.lines ≡ lines.now → FilmBegun A film.old (F.holds files.old) (D.image swap.old) image
+    ensures { IfOk result (λ text. (A : Inputs) (image : SwapImage) → A.lines ≡ lines.now → FilmBegun A film.old (F.holds files.old)
+        (stores F.Files D.SwapDev files.old swap.old) image
         → SaysFilm steps A text.items) }
 {
     let mut text = Vec::new(alloc);
@@ -214,14 +217,15 @@ pub(crate) fn film_begun<'a, F: Files, D: SwapDev>(
     lines: &[Event],
     steps: FilmSteps,
 ) -> Result<Vec<u8>, Fault<'a>>
-    requires filming { IsFilming film.old lines.now (F.holds files.old) (D.image swap.old) }
+    requires filming { IsFilming film.old lines.now (F.holds files.old) (stores F.Files D.SwapDev files.old swap.old) }
     requires first { film.old.machine.kernel.journal ≡ [] }
     requires moves { HaveFewMoves lines.now }
     requires count { length lines.now < 2 ^ 32 }
     requires area { film.old.machine.params.swap_blocks ≤ D.blocks swap.old }
     requires files { AreFiles film.old.machine.images (F.holds files.old) }
     requires every { 1 ≤ steps.every }
-    ensures { (A : Inputs) (image : SwapImage) → A.lines ≡ lines.now → FilmBegun A film.old (F.holds files.old) (D.image swap.old) image
+    ensures { (A : Inputs) (image : SwapImage) → A.lines ≡ lines.now → FilmBegun A film.old (F.holds files.old) (stores F.Files D.SwapDev files.old swap.old)
+        image
         → EndsAnswer (questions.Film steps) A (ending_of result) }
 {
     match film_on(alloc, film, files, swap, lines, steps) {

@@ -8,7 +8,7 @@ use Rattle.run_laws.specs.Machine.{StandsAt}
 use Rattle.run_command.specs.Full.{RunFull, RunOver}
 use Rattle.owner_lines.specs.Owners.{owners_text, owners_lines}
 use Rattle.owner_laws.proofs.Registers.{machine_told}
-use Rattle.reference_commands.specs.Answering.{blank_swap, SaysOwners}
+use Rattle.reference_commands.specs.Answering.{blank_stores, SaysOwners}
 
 -- the lines of a machine that stands at a state, for which no pieces wait
 pub lines_there : (A : Inputs) (s : State) (m : Standing) (over : Bool) (image : List ℕ) → StandsAt A s m.kernel image → m.before ≡ m.kernel.holdings
@@ -17,7 +17,7 @@ pub lines_there : (A : Inputs) (s : State) (m : Standing) (over : Bool) (image :
 lines_there A s m over image at whole size = machine_told A s m over (record { image = image; at = at; whole = whole; size = size })
 
 pub owned_over : (A : Inputs) (entries : ℕ) (m : Standing) (text : List ℕ) → m.params.journal ≡ entries → m.params.swap_blocks ≡ A.swap_blocks
-    → length m.kernel.journal ≤ m.params.journal → RunOver A m (blank_swap A.swap_blocks) → text ≡ owners_lines m true → SaysOwners entries A text
+    → length m.kernel.journal ≤ m.params.journal → RunOver A m (blank_stores A.swap_blocks) → text ≡ owners_lines m true → SaysOwners entries A text
 owned_over A entries m text bound size within over told = record {
   journal = m.kernel.journal;
   state = over.state;
@@ -28,7 +28,7 @@ owned_over A entries m text bound size within over told = record {
 }
 
 pub owned_full : (A : Inputs) (entries : ℕ) (m : Standing) (text : List ℕ) → m.params.journal ≡ entries → m.params.swap_blocks ≡ A.swap_blocks
-    → length m.kernel.journal ≤ m.params.journal → RunFull A m (blank_swap A.swap_blocks) → text ≡ owners_lines m false → SaysOwners entries A text
+    → length m.kernel.journal ≤ m.params.journal → RunFull A m (blank_stores A.swap_blocks) → text ≡ owners_lines m false → SaysOwners entries A text
 owned_full A entries m text bound size within full told = record {
   journal = m.kernel.journal;
   state = full.state;

@@ -28,12 +28,12 @@ use Rattle.command_ending.specs.Named.{Why}
 use Rattle.command_words.specs.declared.command.Numbers.{Numbers}
 use Rattle.command_words.specs.declared.limits.TheConstants.{MOST_LIMIT, MOST_SHORT_LIMIT}
 use Rattle.run_opening.specs.declared.images.OpenedImage.{OpenedImage}
-use Rattle.run_opening.specs.Images.{images_found, images_in, IsIn}
+use Rattle.run_opening.specs.Images.{images_found, images_in, file_numbers, IsIn}
 use Rattle.io_edge.specs.Octets.{AreOctetFiles}
 use Rattle.run_command.specs.Naming.{shown_as}
 use Rattle.run_command.specs.Machines.{machine_up_to}
-use Rattle.run_command.proofs.Openings.{are_files, named_images, loaded_images, filed_at, are_numbers, images_length, all_images}
-use Rattle.reference_commands.specs.Answering.{blank_swap}
+use Rattle.run_command.proofs.Openings.{are_files, named_images, loaded_images, numbered_images, filed_at, are_numbers, images_length, all_images}
+use Rattle.reference_commands.specs.Answering.{blank_stores}
 use Rattle.reference_commands.specs.InMemory.{file_of, inputs_with, AreOpened, IsRunnable, HasReferences, AllDiffer}
 use Rattle.reference_commands.proofs.Counts.{references_few}
 use Rattle.reference_commands.proofs.Names.{all_found}
@@ -41,7 +41,7 @@ use Rattle.reference_commands.proofs.Names.{all_found}
 -- The run is finished.
 
 pub finished : (A : Inputs) (journal : List Entry) (left : Option SwapImage) (pages : List Page) → A.limit ≤ MOST_LIMIT
-    → RunFinished A journal (blank_swap A.swap_blocks) left
+    → RunFinished A journal (blank_stores A.swap_blocks) left
     → (first_bad A journal ≡ None → pages ≡ references_of A journal) → HasReferences A pages
 finished A journal left pages limit run answer =
     let below : run.state.count ≤ A.limit = units_below A run.made.units (start A run.made.holdings) run.state run.made.follows (omega arith) in
@@ -52,7 +52,7 @@ finished A journal left pages limit run answer =
 -- a run of at most 100,000 instructions has so few that `opt` and `curve` can be asked about them
 pub few_references : (A : Inputs) (pages : List Page) → A.limit ≤ MOST_SHORT_LIMIT → HasReferences A pages → length pages ≤ most_references
 few_references A pages limit has =
-    let run : RunFinished A has.journal (blank_swap A.swap_blocks) has.left = has.finished in
+    let run : RunFinished A has.journal (blank_stores A.swap_blocks) has.left = has.finished in
     let below : run.state.count ≤ A.limit = units_below A run.made.units (start A run.made.holdings) run.state run.made.follows (omega arith) in
     let count : instructions_of has.journal ≡ run.state.count = run.made.lawful.count in
     let few : length (references_of A has.journal) ≤ 28 * instructions_of has.journal = references_few A has.journal run.made.can.images in
@@ -115,7 +115,7 @@ module _ (entries : ℕ) (numbers : Numbers) (images : List FlatFile) (opened : 
   files = map file_of images
 
   abbrev over : List NamedImage → Inputs
-  over xs = record { images = xs; first = first; lines = lines; frames = numbers.frames; swap_blocks = numbers.swap; limit = numbers.limit }
+  over xs = record { images = xs; file_numbers = file_numbers files xs; first = first; lines = lines; frames = numbers.frames; swap_blocks = numbers.swap; limit = numbers.limit }
 
   fit : AreInputs (over (images_in files opened))
   fit = record {
@@ -136,7 +136,7 @@ module _ (entries : ℕ) (numbers : Numbers) (images : List FlatFile) (opened : 
     frames = refl;
     blocks = refl;
     limit = refl;
-    images = loaded_images files opened;
+    images = (loaded_images files opened, numbered_images files opened o.are_in);
     fit = images_fit (over (images_in files opened)) fit;
     octets = all_images files opened o.are_in octets;
     few = let few = r.few_first in let most = r.allowed.most_limit in omega arith;
@@ -145,12 +145,12 @@ module _ (entries : ℕ) (numbers : Numbers) (images : List FlatFile) (opened : 
 
   -- of a machine that was made so
   module _ (m : Standing) (made : m ≡ machine_up_to entries numbers (map shown_as opened)) (holds : Option (List NamedFile)) (held : holds ≡ Some (map file_of images)) where
-    pub asked : IsAskedOf (inputs_with numbers images first lines) m first lines holds (blank_swap numbers.swap)
+    pub asked : IsAskedOf (inputs_with numbers images first lines) m first lines holds (blank_stores numbers.swap)
     asked =
-        subst (λ (n : Standing). IsAskedOf (over (images_of images)) n first lines holds (blank_swap numbers.swap)) (sym made)
-        (subst (λ (h : Option (List NamedFile)). IsAskedOf (over (images_of images)) (machine_up_to entries numbers (map shown_as opened)) first lines h (blank_swap numbers.swap)) (sym held)
-        (subst (λ (xs : List NamedImage). IsAskedOf (over xs) (machine_up_to entries numbers (map shown_as opened)) first lines (Some files) (blank_swap numbers.swap)) o.are
-        (asked_in (blank_swap numbers.swap) (let e : length (blank_swap numbers.swap).bytes ≡ 512 * numbers.swap = length-replicate {A = ℕ} (512 * numbers.swap) 0 in omega arith))))
+        subst (λ (n : Standing). IsAskedOf (over (images_of images)) n first lines holds (blank_stores numbers.swap)) (sym made)
+        (subst (λ (h : Option (List NamedFile)). IsAskedOf (over (images_of images)) (machine_up_to entries numbers (map shown_as opened)) first lines h (blank_stores numbers.swap)) (sym held)
+        (subst (λ (xs : List NamedImage). IsAskedOf (over xs) (machine_up_to entries numbers (map shown_as opened)) first lines (Some files) (blank_stores numbers.swap)) o.are
+        (asked_in (blank_stores numbers.swap) (let e : length (blank_stores numbers.swap).bytes ≡ 512 * numbers.swap = length-replicate {A = ℕ} (512 * numbers.swap) 0 in omega arith))))
 
     pub opened_files : AreFiles m.images holds
     opened_files =

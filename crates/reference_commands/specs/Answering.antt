@@ -2,6 +2,8 @@
 use Rattle.std.specs.Prelude.{◌≡◌, ◌+◌, ◌-◌, ◌*◌, ◌%◌, ◌==◌, ◌<◌, ◌≤◌, ◌&&◌, nat_le, ℕ, Bool, true, false, List, [], ◌∷◌, ◌++◌, length, map, replicate, slice_get, codes, decimal, Option, Some, None}
 use Rattle.std.specs.List.{filter, concat, range_with_len}
 use Rattle.vm_facts.specs.SwapImages.{SwapImage, unnoted}
+use Rattle.io_edge.specs.FileRequests.{no_notes}
+use Rattle.io_edge.specs.WithFiles.{of_swap, image_with_files}
 use Rattle.vm_facts.specs.declared.entry.Entry.{Entry}
 use Rattle.vm_facts.specs.declared.page.Page.{Page}
 use Rattle.flat_state.specs.Flat.{Inputs}
@@ -9,11 +11,15 @@ use Rattle.flat_state.specs.Journal.{append}
 use Rattle.kernel_model.specs.Start.{kept_of}
 use Rattle.run_model.specs.State.{State, start}
 use Rattle.run_model.specs.Next.{next_unit}
+use Rattle.run_model.specs.Swapped.{requests_of}
 use Rattle.page_model.specs.Holdings.{Holdings}
 use Rattle.run_laws.specs.Running.{CanRun, IsIdle}
 use Rattle.run_stats.specs.declared.finish.Finish.{Finish}
 use Rattle.run_stats.specs.declared.finish.Finish.TheVariants.{Over, Cut}
+use Rattle.run_stats.specs.declared.heads.Head.TheVariants.{OfRun}
+use Rattle.run_stats.specs.declared.heads.RunHead.TheVariants.{SwapRequests}
 use Rattle.run_stats.specs.declared.noting.Note.{Note}
+use Rattle.run_stats.specs.Amounts.{sum_of}
 use Rattle.run_stats.specs.Looks.{look_at}
 use Rattle.run_stats.specs.Story.{AreNoted}
 use Rattle.run_stats.specs.Table.{stats_text}
@@ -32,12 +38,16 @@ use Rattle.reference_commands.specs.declared.question.Question.TheVariants.{Opti
 abbrev pub blank_swap : ℕ → SwapImage
 blank_swap blocks = unnoted (replicate (512 * blocks) 0)
 
+-- such a swap with files beside it that note nothing
+abbrev pub blank_stores : ℕ → SwapImage
+blank_stores blocks = image_with_files no_notes (blank_swap blocks)
+
 -- The run is finished: its journal is lawful, there is no next unit, and it was made over a swap of its own that was blank. This is so of
 -- its references.
 pub record SaysOfReferences (answer : List Page → Type 0) (A : Inputs) : Type 0 where
   pub journal : List Entry
   pub left : Option SwapImage
-  pub finished : RunFinished A journal (blank_swap A.swap_blocks) left
+  pub finished : RunFinished A journal (blank_stores A.swap_blocks) left
   pub answers : answer (references_of A journal)
 
 -- Where the first entries of a run end: the run is over and has no more than so many; or it has just so many, and a unit comes next that
@@ -124,7 +134,8 @@ pub record SaysCut (A : Inputs) (text : List ℕ) : Type 0 where
 -- Counts.
 
 -- The run is finished, and the text is the table of its counts: by its journal, by what is looked at at its start, and by what is noted of
--- each of its entries, at the states to which they lead. The last row says how it came to its end.
+-- each of its entries, at the states to which they lead. The last row says how it came to its end. The requests of swap that the table
+-- counts are as many as a device notes which is asked what the journal's units ask.
 pub record SaysStats (A : Inputs) (text : List ℕ) : Type 0 where
   pub journal : List Entry
   pub state : State
@@ -134,6 +145,7 @@ pub record SaysStats (A : Inputs) (text : List ℕ) : Type 0 where
   pub can : CanRun A holdings
   pub notes : List Note
   pub noted : AreNoted A (start A holdings) notes state
+  pub requests : sum_of (OfRun SwapRequests) notes ≡ length (of_swap (requests_of A journal))
   pub finish : Finish
   pub ends : EndsSo finish A state
   pub told : text ≡ stats_text journal (look_at (start A holdings)) notes (state.point.flat.next_pid - 1) (state.point.flat.next_sid - 1) (length A.images)

@@ -17,7 +17,7 @@ use Rattle.reference_commands.specs.declared.question.Question.{Question}
 use Rattle.reference_commands.specs.declared.question.Question.TheVariants.{Optimum, Curve, Owners, Film, Stats, WasCut, References}
 use Rattle.reference_commands.specs.Reading.{Read, read_told, HasSchedule, LacksImage}
 use Rattle.reference_commands.specs.Asking.{Subject, AreInputsOf}
-use Rattle.reference_commands.specs.Answering.{blank_swap, IsAnswer}
+use Rattle.reference_commands.specs.Answering.{blank_stores, IsAnswer}
 
 -- the text is the answer about the run
 pub record IsAnswered (question : Question) (subject : Subject) (read : Read) (text : List ℕ) : Type 0 where
@@ -31,7 +31,7 @@ pub record HasFilled (subject : Subject) (read : Read) : Type 0 where
   pub are : AreInputsOf inputs subject read
   pub journal : List Entry
   pub left : Option SwapImage
-  pub halted : RunHalted inputs journal stops.JournalFull (blank_swap inputs.swap_blocks) left
+  pub halted : RunHalted inputs journal stops.JournalFull (blank_stores inputs.swap_blocks) left
   pub full : journal_entries ≤ length journal
 
 -- so a run ends that is to be finished for the question; one that is asked about so many entries isn't, and one that is filmed

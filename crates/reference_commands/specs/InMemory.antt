@@ -25,13 +25,13 @@ use Rattle.command_ending.specs.declared.fault.Fault.TheVariants.{NoMemory, Jour
 use Rattle.command_words.specs.declared.command.Numbers.{Numbers}
 use Rattle.command_words.specs.Command.{AreAllowed}
 use Rattle.run_opening.specs.declared.images.OpenedImage.{OpenedImage}
-use Rattle.run_opening.specs.Images.{images_in, IsIn}
+use Rattle.run_opening.specs.Images.{images_in, file_numbers, IsIn}
 use Rattle.run_opening.specs.Schedules.{schedule_lines}
 use Rattle.run_command.specs.Machines.{journal_entries}
 use Rattle.command_ending.specs.Ending.{Ending}
 use Rattle.reference_commands.specs.declared.question.Question.{Question}
 use Rattle.reference_commands.specs.declared.question.Question.TheVariants.{Optimum, Curve, Owners, Film, Stats, WasCut, References}
-use Rattle.reference_commands.specs.Answering.{blank_swap, IsAnswer}
+use Rattle.reference_commands.specs.Answering.{blank_stores, IsAnswer}
 
 -- the files of images
 abbrev pub file_of : FlatFile → NamedFile
@@ -41,6 +41,7 @@ file_of image = record { name = image.name; bytes = image.bytes }
 abbrev pub inputs_with : Numbers → List FlatFile → List ℕ → List Event → Inputs
 inputs_with numbers images first lines = record {
   images = images_of images;
+  file_numbers = file_numbers (map file_of images) (images_of images);
   first = first;
   lines = lines;
   frames = numbers.frames;
@@ -72,9 +73,9 @@ pub record HasRun (A : Inputs) (entries : ℕ) (m : Standing) (ran : Result (Uni
   pub journal : m.params.journal ≡ entries
   pub blocks : m.params.swap_blocks ≡ A.swap_blocks
   pub left : Option SwapImage
-  pub ends : RunEnds A m.kernel.journal (blank_swap A.swap_blocks) ran left
-  pub full : ran ≡ Err (Stopped stops.JournalFull) → RunFull A m (blank_swap A.swap_blocks)
-  pub over : OnOk ran (RunOver A m (blank_swap A.swap_blocks))
+  pub ends : RunEnds A m.kernel.journal (blank_stores A.swap_blocks) ran left
+  pub full : ran ≡ Err (Stopped stops.JournalFull) → RunFull A m (blank_stores A.swap_blocks)
+  pub over : OnOk ran (RunOver A m (blank_stores A.swap_blocks))
   pub runs : m.kernel.stopped ≡ false → IsRunning m
 
 -- there the machine runs on
@@ -87,14 +88,14 @@ StaysRunning m (Err _) = Unit {0}
 pub record HasReferences (A : Inputs) (pages : List Page) : Type 0 where
   pub journal : List Entry
   pub left : Option SwapImage
-  pub finished : RunFinished A journal (blank_swap A.swap_blocks) left
+  pub finished : RunFinished A journal (blank_stores A.swap_blocks) left
   pub are : pages ≡ references_of A journal
 
 -- the run halted where its journal has all entries that it may have
 pub record HasHalted (A : Inputs) : Type 0 where
   pub journal : List Entry
   pub left : Option SwapImage
-  pub halted : RunHalted A journal stops.JournalFull (blank_swap A.swap_blocks) left
+  pub halted : RunHalted A journal stops.JournalFull (blank_stores A.swap_blocks) left
   pub full : journal_entries ≤ length journal
 
 -- how the run of these inputs ends, with its references where it is finished

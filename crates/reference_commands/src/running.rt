@@ -13,7 +13,7 @@ ghost use Rattle.command_ending.specs.Ending.{ending_of};
 ghost use Rattle.io_edge.specs.Octets.{AreOctetFiles};
 ghost use Rattle.owner_lines.specs.Owners.{owners_lines};
 ghost use Rattle.run_command.specs.Machines.{journal_entries};
-ghost use Rattle.reference_commands.specs.Answering.{blank_swap};
+ghost use Rattle.reference_commands.specs.Answering.{blank_stores};
 ghost use Rattle.reference_commands.specs.InMemory.{file_of, inputs_with, AreOpened, IsRunnable, HasRun, StaysRunning, EndsRun, EndsAnswer, AllDiffer};
 ghost use Rattle.reference_commands.specs.declared.question.Question.TheVariants as questions;
 
@@ -42,7 +42,8 @@ fn references_at_end<'a>(
     requires images { AreImageFiles images.now }
     requires first { AreNumbers (length images.now) first.now }
     ensures ends { (A : Inputs) (after : Option SwapImage) → A.images ≡ images_of images.now → A.first ≡ first.now → A.limit ≤ MOST_LIMIT
-        → RunEnds A journal.now (blank_swap A.swap_blocks) ran after → (ran ≡ Err (Unfinished.Stopped Stop.JournalFull) → journal_entries ≤ length journal.now)
+        → RunEnds A journal.now (blank_stores A.swap_blocks) ran after →
+        (ran ≡ Err (Unfinished.Stopped Stop.JournalFull) → journal_entries ≤ length journal.now)
         → EndsRun A (items_of result) }
 {
     match ran {
@@ -72,7 +73,7 @@ pub fn lines_of(alloc: Global, machine: &Machine, over: bool) -> Result<Vec<u8>,
 fn lines_over<'a>(alloc: Global, machine: &Machine) -> Result<Vec<u8>, Fault<'a>>
     requires running { IsRunning machine.now }
     ensures { (A : Inputs) (entries : ℕ) → machine.now.params.journal ≡ entries → machine.now.params.swap_blocks ≡ A.swap_blocks
-        → RunOver A machine.now (blank_swap A.swap_blocks) → EndsAnswer (questions.Owners entries) A (ending_of result) }
+        → RunOver A machine.now (blank_stores A.swap_blocks) → EndsAnswer (questions.Owners entries) A (ending_of result) }
 {
     match lines_of(alloc, machine, true) {
         Ok(text) => Ok(text),
@@ -84,7 +85,7 @@ fn lines_over<'a>(alloc: Global, machine: &Machine) -> Result<Vec<u8>, Fault<'a>
 fn lines_full<'a>(alloc: Global, machine: &Machine) -> Result<Vec<u8>, Fault<'a>>
     requires running { IsRunning machine.now }
     ensures { (A : Inputs) (entries : ℕ) → machine.now.params.journal ≡ entries → machine.now.params.swap_blocks ≡ A.swap_blocks
-        → RunFull A machine.now (blank_swap A.swap_blocks) → EndsAnswer (questions.Owners entries) A (ending_of result) }
+        → RunFull A machine.now (blank_stores A.swap_blocks) → EndsAnswer (questions.Owners entries) A (ending_of result) }
 {
     match lines_of(alloc, machine, false) {
         Ok(text) => Ok(text),

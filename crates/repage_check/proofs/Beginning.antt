@@ -10,9 +10,9 @@ use Rattle.swap_book.specs.Holdings.{Holdings}
 use Rattle.flat_state.specs.Flat.{Inputs}
 use Rattle.flat_state.specs.Journal.{append, appended}
 use Rattle.kernel_model.specs.Kernel.{Kernel}
-use Rattle.machine_state.specs.Files.{AreImages}
+use Rattle.machine_state.specs.Files.{AreRunImages}
 use Rattle.machine_state.specs.Machine.{Standing}
-use Rattle.machine_state.specs.Sourced.{ImageNamed}
+use Rattle.machine_state.specs.Sourced.{ImageNamed, files_named}
 use Rattle.run_model.specs.State.{State, start}
 use Rattle.run_model.specs.Lawful.{Follows}
 use Rattle.run_model.proofs.After.{units_journal}
@@ -98,7 +98,7 @@ module _ (A : Inputs) (old new : Standing) (numbers : List ℕ) (holds : Option 
             fit = told.fit;
             paged = record { steady = run_steady A (start A hs) (start_run A hs can); awaits = tt };
             stands = subst (λ (x : State). StandsAt A x new.kernel behind.bytes) (sym is_start) there.stands;
-            images = subst (λ (ns : List ImageNamed). AreImages ns holds A.images) (sym images) told.images;
+            images = subst (λ (ns : List ImageNamed). AreRunImages ns holds A) (sym images) told.images;
             named = subst (AreNamed A.images) (sym images) told.starts.named;
             blocks = ap (λ (p : Params). p.swap_blocks) params ∙ sym told.starts.blocks;
             told = shown;
@@ -130,5 +130,5 @@ module _ (A : Inputs) (old new : Standing) (numbers : List ℕ) (holds : Option 
       let led : Leads A (start A hs) (machine_at_start A hs) image x.units x.state new.kernel (Some x.behind) =
       subst (λ (k : Kernel). Leads A (start A hs) (machine_at_start A hs) image x.units x.state k (Some x.behind)) (sym put.kernel) x.leads in
       let next : StopsNext A x.state x.kernel x.behind stops.JournalFull new j = x.by in
-      let shown : j ≡ Some x.behind = same_left next.entry stops.JournalFull x.kernel (Some x.behind) j tt next.spoils in
+      let shown : j ≡ Some x.behind = same_left (files_named new.images) next.entry stops.JournalFull x.kernel (Some x.behind) j tt next.spoils in
       (stands_so hs can x.units x.state x.behind led shown, runs hs can x.units x.state x.behind led shown, put.whole)

@@ -2,6 +2,7 @@ pub mod Onward
 mod Passing
 pub mod Judgings
 mod Notings
+mod Besides
 mod Told
 mod Goes
 mod Joining

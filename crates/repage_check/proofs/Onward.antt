@@ -16,7 +16,7 @@ use Rattle.page_model.specs.Pages.{changed}
 use Rattle.page_model.specs.Swapper.{residence_of, is_out}
 use Rattle.kernel_model.specs.Coupled.{SameTables}
 use Rattle.kernel_model.specs.Kernel.{Kernel}
-use Rattle.machine_state.specs.Files.{AreImages}
+use Rattle.machine_state.specs.Files.{AreRunImages}
 use Rattle.machine_state.specs.Machine.{Standing}
 use Rattle.machine_state.specs.Sourced.{ImageNamed}
 use Rattle.step_judge.specs.Reading.{AreNamed}
@@ -232,17 +232,17 @@ module _ (p : Past) (old new : Standing) (holds : Option (List NamedFile)) (i j 
   here : JudgedAt old p.counted p.begun holds i A s image
   here = at.judged
 
-  there : StandsAt A (paged_after A s u) new.kernel (unit_swap old.kernel image u).bytes
+  there : StandsAt A (paged_after A s u) new.kernel (unit_swap A old.kernel image u).bytes
   there =
       subst (λ (k : Kernel). StandsAt A (paged_after A s u) k (unit_image old.kernel image.bytes u)) (sym made.made)
       (unit_stands A s old.kernel image.bytes made.read u here.fit unit here.paged here.stands may made.given)
 
-  judged : JudgedAt new (p.counted + counted u) (begun_next p.begun u) holds j A (paged_after A s u) (unit_swap old.kernel image u)
+  judged : JudgedAt new (p.counted + counted u) (begun_next p.begun u) holds j A (paged_after A s u) (unit_swap A old.kernel image u)
   judged = record {
     fit = here.fit;
     paged = unit_paged A s u here.fit unit here.paged may;
     stands = there;
-    images = subst (λ (ns : List ImageNamed). AreImages ns holds A.images) (sym on.images) here.images;
+    images = subst (λ (ns : List ImageNamed). AreRunImages ns holds A) (sym on.images) here.images;
     named = subst (AreNamed A.images) (sym on.images) here.named;
     blocks = ap (λ (q : Params). q.swap_blocks) on.params ∙ here.blocks;
     told = made.told;
@@ -260,7 +260,7 @@ module _ (p : Past) (old new : Standing) (holds : Option (List NamedFile)) (i j 
 
   pub stands_next : StandsPast (past_next (turn_out old.kernel u) p u) new holds j A (paged_after A s u)
   stands_next = record {
-    image = unit_swap old.kernel image u;
+    image = unit_swap A old.kernel image u;
     at = record {
       judged = judged;
       counts =

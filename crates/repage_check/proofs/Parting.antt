@@ -8,7 +8,7 @@ use Rattle.page_model.specs.Ownership.{OneOwner}
 use Rattle.page_laws.proofs.Swapper.PuttingOut.{same_out}
 use Rattle.kernel_model.specs.Kernel.{Kernel}
 use Rattle.kernel_model.specs.Sound.{Sound, lives}
-use Rattle.machine_state.specs.Files.{AreImages}
+use Rattle.machine_state.specs.Files.{AreRunImages}
 use Rattle.machine_state.specs.Going.{CanGoOn}
 use Rattle.machine_state.specs.Machine.{Standing}
 use Rattle.machine_state.specs.Sourced.{ImageNamed}
@@ -76,7 +76,7 @@ module _ (p : Past) (old new : Standing) (holds : Option (List NamedFile)) (i : 
       stands =
           subst (λ (k : Kernel). StandsAt A (trace_line_after A s (lines.Part x)) k image.bytes) (sym (ap (λ (m : Standing). m.kernel) made))
           (part_stands_at A s old.kernel image.bytes x here.stands may);
-      images = subst (λ (ns : List ImageNamed). AreImages ns holds A.images) (sym (ap (λ (m : Standing). m.images) made)) here.images;
+      images = subst (λ (ns : List ImageNamed). AreRunImages ns holds A) (sym (ap (λ (m : Standing). m.images) made)) here.images;
       named = subst (AreNamed A.images) (sym (ap (λ (m : Standing). m.images) made)) here.named;
       blocks = ap (λ (m : Standing). m.params.swap_blocks) made ∙ here.blocks;
       told = here.told;

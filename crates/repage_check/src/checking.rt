@@ -1,4 +1,5 @@
 //! A whole trace, judged line by line.
+ghost use Rattle.io_edge.specs.WithFiles.{stores};
 ghost use Rattle.std.specs.Prelude.{◌≡◌, ◌+◌, ◌≤◌, ◌<◌, ◌^◌, ℕ, [], length, Some, None, Err, IfOk};
 ghost use Rattle.vm_facts.specs.SwapImages.{SwapImage};
 ghost use Rattle.flat_state.specs.Flat.{Inputs};
@@ -61,13 +62,14 @@ fn first_misstep<F: Files, D: SwapDev>(
     requires wide { m.old.params.journal ≡ 0 }
     requires few { length lines.now + 2 < 2 ^ 32 }
     requires moves { HaveFewMoves lines.now }
-    requires at { AtSome (PastAt past_at_start m.old (F.holds files.old) (D.image swap.old)) }
+    requires at { AtSome (PastAt past_at_start m.old (F.holds files.old) (stores F.Files D.SwapDev files.old swap.old)) }
     requires area { m.old.params.swap_blocks ≤ D.blocks swap.old }
     requires files { AreFiles m.old.images (F.holds files.old) }
-    ensures told { IfOk result (λ found. LeadsFrom (PastAt past_at_start m.old (F.holds files.old) (D.image swap.old))
+    ensures told { IfOk result (λ found. LeadsFrom (PastAt past_at_start m.old (F.holds files.old) (stores F.Files D.SwapDev files.old swap.old))
         (λ A s image. found ≡ trace_misstep A s 1 lines.now)) }
-    ensures stands { IfOk result (λ found. found ≡ None → LeadsFrom (PastAt past_at_start m.old (F.holds files.old) (D.image swap.old))
-        (StandsBehind lines.now m.new (F.holds files.old) (D.image swap.new))) }
+    ensures stands { IfOk result (λ found. found ≡ None → LeadsFrom
+        (PastAt past_at_start m.old (F.holds files.old) (stores F.Files D.SwapDev files.old swap.old))
+        (StandsBehind lines.now m.new (F.holds files.old) (stores F.Files D.SwapDev files.new swap.new))) }
     ensures ready { IfOk result (λ found. found ≡ None → CanGoOn m.new) }
 {
     let mut cache = DecodeCache::empty();
@@ -119,10 +121,11 @@ fn begin<F: Files, D: SwapDev>(
     requires numbers { AreAmong m.old.images first.now }
     requires area { m.old.params.swap_blocks ≤ D.blocks swap.old }
     requires files { AreFiles m.old.images (F.holds files.old) }
-    requires told { IsAsked m.old first.now (F.holds files.old) (D.image swap.old) }
+    requires told { IsAsked m.old first.now (F.holds files.old) (stores F.Files D.SwapDev files.old swap.old) }
     ensures space { IfOk result (λ lacks. (A : Inputs) (pid : ℕ) → StartsFrom A m.old first.now → lacks ≡ Some pid → start_held A ≡ Err pid) }
     ensures stands { IfOk result (λ lacks. lacks ≡ None → (A : Inputs) (image : SwapImage) → IsTold A m.old first.now (F.holds files.old) image
-        → D.image swap.old ≡ Some image → A.limit ≡ 1000000 → AtStart A m.new (F.holds files.old) (D.image swap.new)) }
+        → stores F.Files D.SwapDev files.old swap.old ≡ Some image → A.limit ≡ 1000000 → AtStart A m.new (F.holds files.old)
+        (stores F.Files D.SwapDev files.new swap.new)) }
     ensures ready { IfOk result (λ lacks. lacks ≡ None → HasBegun m.old m.new) }
     ensures holds { F.holds files.new ≡ F.holds files.old }
     ensures blocks { D.blocks swap.new ≡ D.blocks swap.old }
@@ -155,11 +158,12 @@ pub fn repage<F: Files, D: SwapDev>(
     requires moves { HaveFewMoves lines.now }
     requires area { m.old.params.swap_blocks ≤ D.blocks swap.old }
     requires files { AreFiles m.old.images (F.holds files.old) }
-    requires told { IsAsked m.old first.now (F.holds files.old) (D.image swap.old) }
+    requires told { IsAsked m.old first.now (F.holds files.old) (stores F.Files D.SwapDev files.old swap.old) }
     ensures judged { IfOk result (λ verdict. (A : Inputs) (image : SwapImage) → IsTold A m.old first.now (F.holds files.old) image
-        → D.image swap.old ≡ Some image → A.limit ≡ 1000000 → IsJudged A lines.now verdict) }
+        → stores F.Files D.SwapDev files.old swap.old ≡ Some image → A.limit ≡ 1000000 → IsJudged A lines.now verdict) }
     ensures stands { IfOk result (λ verdict. verdict ≡ Verdict.Paged → (A : Inputs) (image : SwapImage) → IsTold A m.old first.now (F.holds files.old) image
-        → D.image swap.old ≡ Some image → A.limit ≡ 1000000 → StandsAfter A lines.now m.new (F.holds files.old) (D.image swap.new)) }
+        → stores F.Files D.SwapDev files.old swap.old ≡ Some image → A.limit ≡ 1000000 → StandsAfter A lines.now m.new (F.holds files.old)
+        (stores F.Files D.SwapDev files.new swap.new)) }
     ensures ready { IfOk result (λ verdict. verdict ≡ Verdict.Paged → CanGoOn m.new) }
 {
     match begin(m, files, swap, first)? {

@@ -1,4 +1,5 @@
 //! Any unit.
+ghost use Rattle.io_edge.specs.WithFiles.{stores};
 ghost use Rattle.std.specs.Prelude.{◌≡◌, ◌+◌, ◌≤◌, ◌<◌, ◌^◌, List, Option, None, length, IfOk};
 ghost use Rattle.vm_facts.specs.SwapImages.{SwapImage};
 ghost use Rattle.vm_facts.specs.declared.entry.Entry.TheVariants as entries;
@@ -66,8 +67,8 @@ fn judge_free<F: Files, D: SwapDev>(
     requires others { IsOthers u.now }
     requires area { m.old.params.swap_blocks ≤ D.blocks swap.old }
     requires files { AreFiles m.old.images (F.holds files.old) }
-    ensures told { IfOk result (λ reason. LeadsFrom (PastAt past m.old (F.holds files.old) (D.image swap.old))
-        (UnitTold reason u.now past m.old m.new (F.holds files.old) (D.image swap.new))) }
+    ensures told { IfOk result (λ reason. LeadsFrom (PastAt past m.old (F.holds files.old) (stores F.Files D.SwapDev files.old swap.old))
+        (UnitTold reason u.now past m.old m.new (F.holds files.old) (stores F.Files D.SwapDev files.new swap.new))) }
     ensures on { IfOk result (λ reason. reason ≡ None → GoesOnWith m.old m.new) }
     ensures holds { F.holds files.new ≡ F.holds files.old }
     ensures blocks { D.blocks swap.new ≡ D.blocks swap.old }
@@ -96,8 +97,8 @@ fn judge_other<F: Files, D: SwapDev>(
     requires others { IsOthers u.now }
     requires area { m.old.params.swap_blocks ≤ D.blocks swap.old }
     requires files { AreFiles m.old.images (F.holds files.old) }
-    ensures told { IfOk result (λ reason. LeadsFrom (PastAt past m.old (F.holds files.old) (D.image swap.old))
-        (UnitTold reason u.now past m.old m.new (F.holds files.old) (D.image swap.new))) }
+    ensures told { IfOk result (λ reason. LeadsFrom (PastAt past m.old (F.holds files.old) (stores F.Files D.SwapDev files.old swap.old))
+        (UnitTold reason u.now past m.old m.new (F.holds files.old) (stores F.Files D.SwapDev files.new swap.new))) }
     ensures on { IfOk result (λ reason. reason ≡ None → GoesOnWith m.old m.new) }
     ensures holds { F.holds files.new ≡ F.holds files.old }
     ensures blocks { D.blocks swap.new ≡ D.blocks swap.old }
@@ -126,13 +127,13 @@ pub fn judge_unit<F: Files, D: SwapDev>(
     requires low { last_moves m.old.kernel.journal ≤ 1000000 }
     requires bound { m.old.params.journal ≡ length m.old.kernel.journal + 1 }
     requires lines { past.lines + 1 < 2 ^ 32 }
-    requires at { AtSome (PastAt past m.old (F.holds files.old) (D.image swap.old)) }
+    requires at { AtSome (PastAt past m.old (F.holds files.old) (stores F.Files D.SwapDev files.old swap.old)) }
     requires unit { IsUnit u.now }
     requires unmoved { IsUnmoved u.now }
     requires area { m.old.params.swap_blocks ≤ D.blocks swap.old }
     requires files { AreFiles m.old.images (F.holds files.old) }
-    ensures told { IfOk result (λ reason. LeadsFrom (PastAt past m.old (F.holds files.old) (D.image swap.old))
-        (UnitTold reason u.now past m.old m.new (F.holds files.old) (D.image swap.new))) }
+    ensures told { IfOk result (λ reason. LeadsFrom (PastAt past m.old (F.holds files.old) (stores F.Files D.SwapDev files.old swap.old))
+        (UnitTold reason u.now past m.old m.new (F.holds files.old) (stores F.Files D.SwapDev files.new swap.new))) }
     ensures on { IfOk result (λ reason. reason ≡ None → GoesOnWith m.old m.new) }
     ensures holds { F.holds files.new ≡ F.holds files.old }
     ensures blocks { D.blocks swap.new ≡ D.blocks swap.old }

@@ -2,6 +2,7 @@
 ghost use Rattle.std.specs.Prelude.{◌≡◌, ◌⊎◌, ℕ, ◌+◌, ◌≤◌, ◌<◌, ◌^◌, ◌∷◌, [], List, length, Option, None, IfOk};
 ghost use Rattle.vm_facts.specs.SwapImages.{SwapImage};
 ghost use Rattle.vm_facts.specs.declared.entry.Entry.TheVariants as entries;
+ghost use Rattle.io_edge.specs.WithFiles.{stores};
 ghost use Rattle.io_edge.specs.FileHolding.{NamedFile};
 ghost use Rattle.flat_state.specs.Flat.{Inputs};
 ghost use Rattle.flat_state.specs.Journal.{counted, repeated, units_with, IsUnit};
@@ -67,13 +68,13 @@ fn judge_next<F: Files, D: SwapDev>(
     requires wide { m.old.params.journal ≤ length m.old.kernel.journal + 1 }
     requires fits { length m.old.kernel.journal + 1 < 2 ^ 32 }
     requires lines { past.old.lines + 1 < 2 ^ 32 }
-    requires at { AtSome (PastAt past.old m.old (F.holds files.old) (D.image swap.old)) }
+    requires at { AtSome (PastAt past.old m.old (F.holds files.old) (stores F.Files D.SwapDev files.old swap.old)) }
     requires unit { IsUnit u.now }
     requires unmoved { IsUnmoved u.now }
     requires area { m.old.params.swap_blocks ≤ D.blocks swap.old }
     requires files { AreFiles m.old.images (F.holds files.old) }
-    ensures told { IfOk result (λ reason. LeadsFrom (PastAt past.old m.old (F.holds files.old) (D.image swap.old))
-        (UnitsTold reason (u.now ∷ []) past.new m.new (F.holds files.old) (D.image swap.new))) }
+    ensures told { IfOk result (λ reason. LeadsFrom (PastAt past.old m.old (F.holds files.old) (stores F.Files D.SwapDev files.old swap.old))
+        (UnitsTold reason (u.now ∷ []) past.new m.new (F.holds files.old) (stores F.Files D.SwapDev files.new swap.new))) }
     ensures on { IfOk result (λ reason. reason ≡ None → GoesBy (u.now ∷ []) m.old m.new) }
     ensures lines { IfOk result (λ reason. past.new.lines ≤ lines_next past.old.lines u.now) }
     ensures holds { F.holds files.new ≡ F.holds files.old }
@@ -102,11 +103,11 @@ fn judge_ran<F: Files, D: SwapDev>(
     requires wide { m.old.params.journal ≤ length m.old.kernel.journal + 1 }
     requires fits { length m.old.kernel.journal + 2 < 2 ^ 32 }
     requires lines { past.old.lines + 1 < 2 ^ 32 }
-    requires at { AtSome (PastAt past.old m.old (F.holds files.old) (D.image swap.old)) }
+    requires at { AtSome (PastAt past.old m.old (F.holds files.old) (stores F.Files D.SwapDev files.old swap.old)) }
     requires area { m.old.params.swap_blocks ≤ D.blocks swap.old }
     requires files { AreFiles m.old.images (F.holds files.old) }
-    ensures told { IfOk result (λ reason. LeadsFrom (PastAt past.old m.old (F.holds files.old) (D.image swap.old))
-        (UnitsTold reason (repeated (entries.Ran pid 1) times []) past.new m.new (F.holds files.old) (D.image swap.new))) }
+    ensures told { IfOk result (λ reason. LeadsFrom (PastAt past.old m.old (F.holds files.old) (stores F.Files D.SwapDev files.old swap.old))
+        (UnitsTold reason (repeated (entries.Ran pid 1) times []) past.new m.new (F.holds files.old) (stores F.Files D.SwapDev files.new swap.new))) }
     ensures on { IfOk result (λ reason. reason ≡ None → GoesBy (repeated (entries.Ran pid 1) times []) m.old m.new) }
     ensures lines { IfOk result (λ reason. past.new.lines ≤ past.old.lines) }
     ensures holds { F.holds files.new ≡ F.holds files.old }
@@ -209,11 +210,11 @@ fn judge_entry<F: Files, D: SwapDev>(
     requires wide { m.old.params.journal ≤ length m.old.kernel.journal + 1 }
     requires fits { length m.old.kernel.journal + 2 < 2 ^ 32 }
     requires lines { past.old.lines + 1 < 2 ^ 32 }
-    requires at { AtSome (PastAt past.old m.old (F.holds files.old) (D.image swap.old)) }
+    requires at { AtSome (PastAt past.old m.old (F.holds files.old) (stores F.Files D.SwapDev files.old swap.old)) }
     requires area { m.old.params.swap_blocks ≤ D.blocks swap.old }
     requires files { AreFiles m.old.images (F.holds files.old) }
-    ensures told { IfOk result (λ reason. LeadsFrom (PastAt past.old m.old (F.holds files.old) (D.image swap.old))
-        (UnitsTold reason (units_with e.now []) past.new m.new (F.holds files.old) (D.image swap.new))) }
+    ensures told { IfOk result (λ reason. LeadsFrom (PastAt past.old m.old (F.holds files.old) (stores F.Files D.SwapDev files.old swap.old))
+        (UnitsTold reason (units_with e.now []) past.new m.new (F.holds files.old) (stores F.Files D.SwapDev files.new swap.new))) }
     ensures on { IfOk result (λ reason. reason ≡ None → GoesBy (units_with e.now []) m.old m.new) }
     ensures lines { IfOk result (λ reason. past.new.lines ≤ past.old.lines + 1) }
     ensures holds { F.holds files.new ≡ F.holds files.old }
@@ -257,11 +258,11 @@ pub fn judge_line<F: Files, D: SwapDev>(
     requires wide { m.old.params.journal ≤ length m.old.kernel.journal + 1 }
     requires fits { length m.old.kernel.journal + 2 < 2 ^ 32 }
     requires lines { past.old.lines + 1 < 2 ^ 32 }
-    requires at { AtSome (PastAt past.old m.old (F.holds files.old) (D.image swap.old)) }
+    requires at { AtSome (PastAt past.old m.old (F.holds files.old) (stores F.Files D.SwapDev files.old swap.old)) }
     requires area { m.old.params.swap_blocks ≤ D.blocks swap.old }
     requires files { AreFiles m.old.images (F.holds files.old) }
-    ensures told { IfOk result (λ reason. LeadsFrom (PastAt past.old m.old (F.holds files.old) (D.image swap.old))
-        (LineTold reason line.now past.new m.new (F.holds files.old) (D.image swap.new))) }
+    ensures told { IfOk result (λ reason. LeadsFrom (PastAt past.old m.old (F.holds files.old) (stores F.Files D.SwapDev files.old swap.old))
+        (LineTold reason line.now past.new m.new (F.holds files.old) (stores F.Files D.SwapDev files.new swap.new))) }
     ensures on { IfOk result (λ reason. reason ≡ None → GoesBy (units_in line.now) m.old m.new) }
     ensures lines { IfOk result (λ reason. past.new.lines ≤ past.old.lines + 1) }
     ensures holds { F.holds files.new ≡ F.holds files.old }

@@ -1,4 +1,5 @@
 //! Units that move pages.
+ghost use Rattle.io_edge.specs.WithFiles.{stores};
 ghost use Rattle.std.specs.Prelude.{◌≡◌, ◌≤◌, ◌<◌, None, IfOk, OnOk};
 ghost use Rattle.vm_facts.specs.declared.entry.Entry.TheVariants as entries;
 ghost use Rattle.flat_state.specs.Flat.{FlatState};
@@ -67,7 +68,8 @@ pub(crate) fn judge_end<F: Files, D: SwapDev>(
     requires area { m.old.params.swap_blocks ≤ D.blocks swap.old }
     requires files { AreFiles m.old.images (F.holds files.old) }
     ensures judged { IfOk result (λ reason. reason ≡ done_reason m.old.kernel.place.transfers) }
-    ensures made { IfOk result (JudgedThrough entries.Done (F.holds files.old) (D.image swap.old) (D.image swap.new) m.old m.new) }
+    ensures made { IfOk result (JudgedThrough entries.Done (F.holds files.old) (stores F.Files D.SwapDev files.old swap.old)
+        (stores F.Files D.SwapDev files.new swap.new) m.old m.new) }
     ensures on { IfOk result (λ reason. reason ≡ None → GoesOnWith m.old m.new) }
     ensures holds { F.holds files.new ≡ F.holds files.old }
     ensures blocks { D.blocks swap.new ≡ D.blocks swap.old }

@@ -1,4 +1,5 @@
 //! A trace is judged by a machine in memory.
+ghost use Rattle.io_edge.specs.WithFiles.{stores};
 ghost use Rattle.std.specs.Prelude.{◌≡◌, ◌+◌, ◌-◌, ◌<◌, ◌≤◌, ◌^◌, Bool, ℕ, List, length, map, option_map, slice_get, take, Some, Ok, IfOk, IfErr};
 ghost use Rattle.vm_facts.specs.SwapImages.{SwapImage};
 ghost use Rattle.flat_state.specs.Flat.{Inputs};
@@ -140,8 +141,9 @@ fn judge_machine<F: Files, D: SwapDev>(
     requires moves { HaveFewMoves lines.now }
     requires area { m.old.params.swap_blocks ≤ D.blocks swap.old }
     requires files { AreFiles m.old.images (F.holds files.old) }
-    requires told { IsAsked m.old first.now (F.holds files.old) (D.image swap.old) }
-    ensures { IfOk result (λ judged. (A : Inputs) (image : SwapImage) → IsTold A m.old first.now (F.holds files.old) image → D.image swap.old ≡ Some image
+    requires told { IsAsked m.old first.now (F.holds files.old) (stores F.Files D.SwapDev files.old swap.old) }
+    ensures { IfOk result (λ judged. (A : Inputs) (image : SwapImage) → IsTold A m.old first.now (F.holds files.old) image → stores F.Files D.SwapDev
+        files.old swap.old ≡ Some image
         → A.limit ≡ 1000000 → TellsJudged A lines.now frame over judged) }
 {
     let verdict = repage(alloc, m, files, swap, first, lines)?;
@@ -174,8 +176,9 @@ fn judge_begun<'a, F: Files, D: SwapDev>(
     requires moves { HaveFewMoves lines.now }
     requires area { m.old.params.swap_blocks ≤ D.blocks swap.old }
     requires files { AreFiles m.old.images (F.holds files.old) }
-    requires told { IsAsked m.old first.now (F.holds files.old) (D.image swap.old) }
-    ensures { (A : Inputs) (image : SwapImage) → IsTold A m.old first.now (F.holds files.old) image → D.image swap.old ≡ Some image → A.limit ≡ 1000000
+    requires told { IsAsked m.old first.now (F.holds files.old) (stores F.Files D.SwapDev files.old swap.old) }
+    ensures { (A : Inputs) (image : SwapImage) → IsTold A m.old first.now (F.holds files.old) image → stores F.Files D.SwapDev files.old swap.old ≡ Some image
+        → A.limit ≡ 1000000
         → EndsJudging A lines.now frame over result }
 {
     match judge_machine(alloc, m, files, swap, first, lines, frame, over) {

@@ -36,8 +36,8 @@ module _ (seen : Seen) (es : List Entry) where
   lost_caused (Err NoMemory) kind lost c = absurd lost
   lost_caused (Err _) kind lost c = absurd kind
 
-module _ (seen : Seen) (A : Inputs) (es : List Entry) (image : SwapImage) where
-  pub run_ended : (r : RunEnding) → IfErr r IsRunFault → RunCaused seen es r → RunEnds A es image (unfinished_of r) seen.swap_after → RunEnded seen A es image r
+module _ (seen : Seen) (A : Inputs) (es : List Entry) (image : SwapImage) (after : Option SwapImage) where
+  pub run_ended : (r : RunEnding) → IfErr r IsRunFault → RunCaused seen es r → RunEnds A es image (unfinished_of r) after → RunEnded seen A es image after r
   run_ended (Ok done) kind c e = e
   run_ended (Err FileFault) kind c e = e
   run_ended (Err (SwapReadFault device)) kind c e = e
@@ -47,10 +47,10 @@ module _ (seen : Seen) (A : Inputs) (es : List Entry) (image : SwapImage) where
   run_ended (Err NoMemory) kind c e = (c, e)
   run_ended (Err _) kind c e = absurd kind
 
-  pub lost_ended : (r : RunEnding) → IfErr r IsRunFault → CanBeLost r → RunCaused seen es r → RunEnded seen A es image r → RunEnded seen A es image (Err NoMemory)
+  pub lost_ended : (r : RunEnding) → IfErr r IsRunFault → CanBeLost r → RunCaused seen es r → RunEnded seen A es image after r → RunEnded seen A es image after (Err NoMemory)
   lost_ended (Ok done) kind lost c e = absurd lost
-  lost_ended (Err (SwapReadFault device)) kind lost c e = at_hand (RunEnded seen A es image (Err NoMemory)) device lost c.read.0
-  lost_ended (Err (SwapWriteFault device)) kind lost c e = at_hand (RunEnded seen A es image (Err NoMemory)) device lost c.write.0
+  lost_ended (Err (SwapReadFault device)) kind lost c e = at_hand (RunEnded seen A es image after (Err NoMemory)) device lost c.read.0
+  lost_ended (Err (SwapWriteFault device)) kind lost c e = at_hand (RunEnded seen A es image after (Err NoMemory)) device lost c.write.0
   lost_ended (Err (NoSpace pid)) kind lost c e = (none_faulted seen es c, inl e.0)
   lost_ended (Err FileFault) kind lost c e = absurd lost
   lost_ended (Err JournalFull) kind lost c e = absurd lost
@@ -73,14 +73,15 @@ module _ (A : Inputs) (es : List Entry) (image : SwapImage) (after : Option Swap
   fault_flat (NoSpace pid) e = none_flat e.0.0
   fault_flat _ e = absurd e
 
-pub ended_flat : (seen : Seen) (A : Inputs) (es : List Entry) (image : SwapImage) (r : RunEnding) → A.limit ≤ MOST_LIMIT → HaveNumbers es
-    → RunEnded seen A es image r → (traced : Bool) → IsFlatText A traced es
-ended_flat seen A es image (Ok done) limit numbers e traced = made_flat A es image seen.swap_after limit numbers traced e.state e.made
-ended_flat seen A es image (Err NoMemory) limit numbers (calm, inl none) traced = none_flat A es image seen.swap_after limit numbers traced none.0
-ended_flat seen A es image (Err NoMemory) limit numbers (calm, inr starved) traced = made_flat A es image seen.swap_after limit numbers traced starved.state starved.made
-ended_flat seen A es image (Err FileFault) limit numbers e traced = fault_flat A es image seen.swap_after limit numbers traced FileFault e
-ended_flat seen A es image (Err (SwapReadFault device)) limit numbers e traced = fault_flat A es image seen.swap_after limit numbers traced (SwapReadFault device) e
-ended_flat seen A es image (Err (SwapWriteFault device)) limit numbers e traced = fault_flat A es image seen.swap_after limit numbers traced (SwapWriteFault device) e
-ended_flat seen A es image (Err JournalFull) limit numbers e traced = fault_flat A es image seen.swap_after limit numbers traced JournalFull e
-ended_flat seen A es image (Err (NoSpace pid)) limit numbers e traced = fault_flat A es image seen.swap_after limit numbers traced (NoSpace pid) e
-ended_flat seen A es image (Err _) limit numbers e traced = absurd e
+pub ended_flat : (seen : Seen) (A : Inputs) (es : List Entry) (image : SwapImage) (after : Option SwapImage) (r : RunEnding) → A.limit ≤ MOST_LIMIT →
+    HaveNumbers es
+    → RunEnded seen A es image after r → (traced : Bool) → IsFlatText A traced es
+ended_flat seen A es image after (Ok done) limit numbers e traced = made_flat A es image after limit numbers traced e.state e.made
+ended_flat seen A es image after (Err NoMemory) limit numbers (calm, inl none) traced = none_flat A es image after limit numbers traced none.0
+ended_flat seen A es image after (Err NoMemory) limit numbers (calm, inr starved) traced = made_flat A es image after limit numbers traced starved.state starved.made
+ended_flat seen A es image after (Err FileFault) limit numbers e traced = fault_flat A es image after limit numbers traced FileFault e
+ended_flat seen A es image after (Err (SwapReadFault device)) limit numbers e traced = fault_flat A es image after limit numbers traced (SwapReadFault device) e
+ended_flat seen A es image after (Err (SwapWriteFault device)) limit numbers e traced = fault_flat A es image after limit numbers traced (SwapWriteFault device) e
+ended_flat seen A es image after (Err JournalFull) limit numbers e traced = fault_flat A es image after limit numbers traced JournalFull e
+ended_flat seen A es image after (Err (NoSpace pid)) limit numbers e traced = fault_flat A es image after limit numbers traced (NoSpace pid) e
+ended_flat seen A es image after (Err _) limit numbers e traced = absurd e

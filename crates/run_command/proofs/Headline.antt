@@ -17,8 +17,9 @@ use Rattle.run_opening.specs.Schedules.{schedule_found, HasBadEvent}
 use Rattle.run_opening.specs.Images.{images_found}
 use Rattle.run_command.specs.Asking.{AsksFor}
 use Rattle.run_command.specs.Paired.{image_together}
-use Rattle.run_command.specs.Seen.{Seen}
-use Rattle.run_command.specs.Ends.{RunEnding, IsCaused, IsJudged, RunEnded, RunOfWords, EndsTold, Runs}
+use Rattle.io_edge.specs.WithFiles.{image_with_files}
+use Rattle.run_command.specs.Seen.{Seen, stores_after}
+use Rattle.run_command.specs.Ends.{RunEnding, IsCaused, IsJudged, RunEnded, RunOfWords, EndsOpened, EndsLacking, EndsTold, Runs}
 use Rattle.run_command.proofs.Found.{no_absent, no_bad_event}
 use Rattle.run_command.specs.Headlines.{OfWords, AskForNothing, HeadlineOfWords, Says, CarriesHeadline}
 
@@ -37,30 +38,35 @@ module _ (request : Request) (files : List NamedFile) where
 -- How a run ended.
 
 -- where memory lacked, nothing ran, or the headline holds
-lacked : (seen : Seen) (A : Inputs) (es : List Entry) (image : SwapImage) → RunEnded seen A es image (Err NoMemory) → (es ≡ []) ⊎ Headline A es
-lacked seen A es image (calm, inl none) = inl none.0
-lacked seen A es image (calm, inr starved) = inr (carries_headline A es starved.state starved.made)
+lacked : (seen : Seen) (A : Inputs) (es : List Entry) (image : SwapImage) (after : Option SwapImage) → RunEnded seen A es image after (Err NoMemory)
+    → (es ≡ []) ⊎ Headline A es
+lacked seen A es image after (calm, inl none) = inl none.0
+lacked seen A es image after (calm, inr starved) = inr (carries_headline A es starved.state starved.made)
 
 module _ (request : Request) (seen : Seen) (files : List NamedFile) (es : List Entry) (image : SwapImage) where
   starved_words : RunOfWords request seen files es image (Err NoMemory) → (es ≡ []) ⊎ HeadlineOfWords request files es
-  starved_words w = elim (lacked seen w.inputs es image w.ended) [
+  starved_words w = elim (lacked seen w.inputs es (image_with_files w.opened image) (stores_after seen) w.ended) [
     | inl none ↦ inl none
     | inr headline ↦ inr (record { inputs = w.inputs; asks = w.asks; so = headline })
   ]
 
+  lacking_made : EndsLacking request seen files es image → es ≡ []
+  lacking_made (inl x) = x.0.0
+  lacking_made (inr x) = let e : EndsOpened request seen files es image x.0 = x.1 in e.none.0
+
   says : (ending : RunEnding) → IsCaused request seen es ending → IsJudged request seen files ending → EndsTold request seen files es image ending
       → Says request files seen.zero_blocks seen.one_blocks es ending
-  says (Ok done) c j w = record { inputs = w.inputs; asks = w.asks; so = headline_over w.inputs es image seen.swap_after w.ended }
-  says (Err (Absent name)) c (inl (is, absent)) e = (e.0, unread_schedule request files _ absent)
-  says (Err (Absent name)) c (inr fails) e = (e.0, no_image request files _ fails.1)
-  says (Err (NotImage name reason)) c fails e = (e.0, no_image request files _ fails.1)
-  says (Err (BadSchedule line)) c bad e = (e.0, bad_schedule request files line bad)
-  says (Err (ShortDevice device blocks needed)) c short e = (e.0, c.1)
-  says (Err FileFault) c j (inl before) = inl before.1.0
+  says (Ok done) c j w = record { inputs = w.inputs; asks = w.asks; so = headline_over w.inputs es (image_with_files w.opened image) (stores_after seen) w.ended }
+  says (Err (Absent name)) c (inl (is, absent)) e = (e.none.0, unread_schedule request files _ absent)
+  says (Err (Absent name)) c (inr fails) e = (e.none.0, no_image request files _ fails.1)
+  says (Err (NotImage name reason)) c fails e = (e.none.0, no_image request files _ fails.1)
+  says (Err (BadSchedule line)) c bad e = (e.none.0, bad_schedule request files line bad)
+  says (Err (ShortDevice device blocks needed)) c short e = (e.none.0, c.1)
+  says (Err FileFault) c j (inl before) = inl before.1.none.0
   says (Err FileFault) c j (inr within) =
       let w = within.2 in
       inr (record { inputs = w.inputs; asks = w.asks; so = carries_headline w.inputs es w.ended.state w.ended.made })
-  says (Err NoMemory) c j (inl none) = inl none.1.0
+  says (Err NoMemory) c j (inl none) = inl (lacking_made none.1)
   says (Err NoMemory) c j (inr words) = starved_words words
   says (Err (SwapReadFault device)) c j w = record { inputs = w.inputs; asks = w.asks; so = carries_headline w.inputs es w.ended.state w.ended.made }
   says (Err (SwapWriteFault device)) c j w = record { inputs = w.inputs; asks = w.asks; so = carries_headline w.inputs es w.ended.state w.ended.made }

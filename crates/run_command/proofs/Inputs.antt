@@ -17,14 +17,14 @@ use Rattle.command_words.specs.Command.{AreAllowed}
 use Rattle.run_opening.specs.declared.images.OpenedImage.{OpenedImage}
 use Rattle.run_opening.specs.declared.opening.Opening.{Opening}
 use Rattle.run_opening.specs.Schedules.{schedule_found, HasEvents}
-use Rattle.run_opening.specs.Images.{images_found, images_in, IsIn}
+use Rattle.run_opening.specs.Images.{images_found, images_in, file_numbers, IsIn}
 use Rattle.vm_core.specs.Schedules.{HaveFewMoves}
 use Rattle.io_edge.specs.Octets.{AreOctetFiles}
 use Rattle.command_words.specs.Asked.{Request}
 use Rattle.run_command.specs.Asking.{AsksFor}
 use Rattle.run_command.specs.Naming.{shown_as}
 use Rattle.run_command.specs.Machines.{IsOfOpening}
-use Rattle.run_command.proofs.Openings.{named_images, loaded_images, all_images, filed_at, are_numbers, images_length}
+use Rattle.run_command.proofs.Openings.{named_images, loaded_images, numbered_images, all_images, filed_at, are_numbers, images_length}
 
 few_moves : (e : Event) → IsEventInRanges e → HasFewMoves e
 few_moves (events.Dispatch pid count) h = tt
@@ -54,6 +54,7 @@ pub record KnownOpening (request : Request) (files : List NamedFile) (opening : 
 abbrev pub inputs_of : Request → List NamedFile → Opening → Inputs
 inputs_of request files opening = record {
   images = images_in files opening.images.items;
+  file_numbers = file_numbers files (images_in files opening.images.items);
   first = opening.first.items;
   lines = opening.lines.items;
   frames = request.numbers.frames;
@@ -63,7 +64,7 @@ inputs_of request files opening = record {
 
 pub asks_for : (request : Request) (files : List NamedFile) (opening : Opening) → KnownOpening request files opening
     → AsksFor (inputs_of request files opening) request files
-asks_for request files opening k = record { images = k.found; first = k.first; lines = k.lines; frames = refl; blocks = refl; limit = refl }
+asks_for request files opening k = record { images = k.found; file_numbers = refl; first = k.first; lines = k.lines; frames = refl; blocks = refl; limit = refl }
 
 module _ (request : Request) (files : List NamedFile) (opening : Opening) (k : KnownOpening request files opening) (ranges : AreAllowed request.numbers) where
   A : Inputs
@@ -88,7 +89,11 @@ module _ (request : Request) (files : List NamedFile) (opening : Opening) (k : K
     frames = refl;
     blocks = refl;
     limit = refl;
-    images = subst (λ (h : Option (List NamedFile)). AreImages (map shown_as opening.images.items) h (images_in files opening.images.items)) (sym told) (loaded_images files opening.images.items);
+    images = (
+      subst (λ (h : Option (List NamedFile)). AreImages (map shown_as opening.images.items) h (images_in files opening.images.items)) (sym told)
+          (loaded_images files opening.images.items),
+      numbered_images files opening.images.items k.are_in,
+    );
     fit = images_fit (inputs_of request files opening) fit;
     octets = all_images files opening.images.items k.are_in octets;
     few = let few = k.few in let most = ranges.most_limit in omega arith;

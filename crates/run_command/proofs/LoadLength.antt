@@ -1,5 +1,5 @@
 -- The journal of a load is far from its bound: its schedule has 200 lines, each of which asks for 16 moves of the hands at most.
-use Rattle.std.proofs.Common.{◌≡◌, ℕ, ◌+◌, ◌*◌, ◌≤◌, ◌==◌, Bool, true, false, nat_lt, if◌then◌else◌, List, [], ◌∷◌, length, map, Some, Ok, Err, sym, ◌∙◌, arith}
+use Rattle.std.proofs.Common.{◌≡◌, ℕ, ◌+◌, ◌*◌, ◌≤◌, ◌==◌, Bool, true, false, nat_lt, if◌then◌else◌, List, [], ◌∷◌, length, map, Option, Some, Ok, Err, sym, ◌∙◌, arith}
 use Rattle.std.specs.List.{range_with_len}
 use Rattle.std.proofs.lemmas.List.{length-map}
 use Rattle.std.proofs.lemmas.List.FromFn.{length-map-range_with_len}
@@ -15,9 +15,11 @@ use Rattle.load_maker.specs.Load.{line_of_case, line_drawn, drawn, load_lines}
 use Rattle.load_laws.specs.Few.{moves_asked}
 use Rattle.load_laws.proofs.Short.{loads_short}
 use Rattle.run_command.specs.Machines.{journal_entries}
+use Rattle.io_edge.specs.FileRequests.{no_notes}
+use Rattle.io_edge.specs.WithFiles.{image_with_files, with_files}
 use Rattle.run_command.specs.Seen.{Seen}
 use Rattle.run_command.specs.Ends.{RunEnding, status_of}
-use Rattle.run_command.specs.Loads.{load_inputs, load_written, IsLoadCaused, LoadEnded}
+use Rattle.run_command.specs.Loads.{load_inputs, load_written, IsLoadCaused, LoadEnded, LoadTold}
 use Rattle.run_command.proofs.Counted.{is_load}
 
 -- the lines of its schedule
@@ -52,10 +54,11 @@ few_moves number =
     omega (arith, a, b, c)
 
 -- a run of a load never fills its journal
-never_full : (number : ℕ) (seen : Seen) (journal : List Entry) (image : SwapImage) → IsLoadCaused seen journal (Err faults.JournalFull)
-    → LoadEnded number seen journal image (Err faults.JournalFull) → ⊥
-never_full number seen journal image caused ended =
-    let h : RunHalted (load_inputs number) journal stops.JournalFull image seen.swap_after = ended in
+never_full : (number : ℕ) (seen : Seen) (journal : List Entry) (image : SwapImage) (after : Option SwapImage) → IsLoadCaused seen journal
+    (Err faults.JournalFull)
+    → LoadEnded number seen journal image after (Err faults.JournalFull) → ⊥
+never_full number seen journal image after caused ended =
+    let h : RunHalted (load_inputs number) journal stops.JournalFull image after = ended in
     let m : IsJournalOf (load_inputs number) journal h.state = h.made in
     let k = loads_short number (load_inputs number) m.holdings journal h.state (is_load number) m.can
     (record { holdings = m.holdings; found = (let can = m.can in can.pieces); units = m.units; follows = m.follows; joined = m.joined }) in
@@ -64,18 +67,20 @@ never_full number seen journal image caused ended =
     let moves = few_moves number in
     absurd (omega (arith, k, full, lines, moves))
 
-ending_fits : (number : ℕ) (seen : Seen) (journal : List Entry) (image : SwapImage) (ending : RunEnding) → IsLoadCaused seen journal ending
-    → LoadEnded number seen journal image ending → 10 ≡ status_of ending → ⊥
-ending_fits number seen journal image (Ok done) caused ended e = absurd cc
-ending_fits number seen journal image (Err faults.JournalFull) caused ended e = never_full number seen journal image caused ended
-ending_fits number seen journal image (Err _) caused ended e = absurd cc
+ending_fits : (number : ℕ) (seen : Seen) (journal : List Entry) (image : SwapImage) (after : Option SwapImage) (ending : RunEnding) → IsLoadCaused seen
+    journal ending
+    → LoadEnded number seen journal image after ending → 10 ≡ status_of ending → ⊥
+ending_fits number seen journal image after (Ok done) caused ended e = absurd cc
+ending_fits number seen journal image after (Err faults.JournalFull) caused ended e = never_full number seen journal image after caused ended
+ending_fits number seen journal image after (Err _) caused ended e = absurd cc
 
 -- so its status is never 10
 pub load_fits : (number : ℕ) (seen : Seen) (status : ℕ) (journal : List Entry) (ending : RunEnding)
     → Writes seen.written_before seen.written_after seen.sink_faults_before seen.sink_faults_after (load_written number journal ending)
     (status_of ending) status
     → IsLoadCaused seen journal ending
-    → ((image : SwapImage) → seen.swap_before ≡ Some image → LoadEnded number seen journal image ending)
+    → LoadTold number seen journal ending
     → (image : SwapImage) → seen.swap_before ≡ Some image → status ≡ 10 → ⊥
-load_fits number seen status journal ending (All e w same) caused told image is ten = ending_fits number seen journal image ending caused (told image is) (sym ten ∙ e)
+load_fits number seen status journal ending (All e w same) caused told image is ten = ending_fits number seen journal (image_with_files no_notes image)
+    (with_files no_notes seen.swap_after) ending caused (told image is) (sym ten ∙ e)
 load_fits number seen status journal ending (Prefix e w rose) caused told image is ten = absurd (let z = sym ten ∙ e in cc)

@@ -1,5 +1,5 @@
 -- How a load ends, by how its run does.
-use Rattle.std.proofs.Common.{◌≡◌, inl, inr, ℕ, ◌≤◌, Bool, true, false, if◌then◌else◌, nat_lt, List, [], length, Option, Some, None, Result, Ok, Err, refl, ◌∙◌, subst, arith}
+use Rattle.std.proofs.Common.{◌≡◌, inl, inr, ℕ, ◌≤◌, Bool, true, false, if◌then◌else◌, nat_lt, List, [], length, Option, Some, None, Result, Ok, Err, refl, ap, ◌∙◌, subst, arith}
 use Rattle.std.specs.Prelude.{IfErr}
 use Rattle.std.proofs.lemmas.Bool.{ltb-false}
 use Rattle.vm_facts.specs.SwapImages.{SwapImage}
@@ -17,11 +17,13 @@ use Rattle.command_ending.specs.Named.{Why, AnswersNamed}
 use Rattle.run_opening.specs.Images.{IsImageFault}
 use Rattle.run_opening.specs.Devices.{device_fault}
 use Rattle.run_opening.specs.Opening.{CountsAt}
+use Rattle.io_edge.specs.FileRequests.{no_notes}
+use Rattle.io_edge.specs.WithFiles.{image_with_files, with_files}
 use Rattle.run_command.specs.Seen.{Seen}
 use Rattle.run_command.specs.Paired.{unfinished_of, IsRunFault, ReadsFail, WritesFail}
 use Rattle.run_command.specs.Machines.{journal_entries}
 use Rattle.run_command.specs.Ends.{RunEnding, NothingDone, Unbegun, NoneFaulted, RunCaused, DevicesSuffice, RunEnded}
-use Rattle.run_command.specs.Loads.{load_inputs, load_numbers, load_written, CountsBeLost, WritesCounts, IsLoadCaused, LoadEnded, IsRunEnding, Loads, LoadRuns}
+use Rattle.run_command.specs.Loads.{load_inputs, load_numbers, load_written, CountsBeLost, WritesCounts, IsLoadCaused, LoadEnded, LoadTold, IsRunEnding, Loads, LoadRuns}
 use Rattle.run_command.proofs.LoadSpace.{all_start}
 use Rattle.run_command.proofs.Counted.{counted_by}
 use Rattle.run_command.proofs.LoadLength.{load_fits}
@@ -96,11 +98,12 @@ counts_lost_caused : (seen : Seen) (journal : List Entry) (r : RunEnding) → Is
 counts_lost_caused seen journal (Ok done) began lost c = c
 counts_lost_caused seen journal (Err fault) began lost c = lost_caused seen journal (Err fault) (as_run (Err fault) began) lost c
 
-counts_starve : (seen : Seen) (A : Inputs) (journal : List Entry) (image : SwapImage) (r : RunEnding) → IsRunEnding r → CountsBeLost r
+counts_starve : (seen : Seen) (A : Inputs) (journal : List Entry) (image : SwapImage) (after : Option SwapImage) (r : RunEnding) → IsRunEnding r →
+    CountsBeLost r
     → RunCaused seen journal r
-    → RunEnded seen A journal image r → RunEnded seen A journal image (Err faults.NoMemory)
-counts_starve seen A journal image (Ok done) began lost c e = (c, inr (record { state = e.state; made = e.made; left = e.left }))
-counts_starve seen A journal image (Err fault) began lost c e = lost_ended seen A journal image (Err fault) (as_run (Err fault) began) lost c e
+    → RunEnded seen A journal image after r → RunEnded seen A journal image after (Err faults.NoMemory)
+counts_starve seen A journal image after (Ok done) began lost c e = (c, inr (record { state = e.state; made = e.made; left = e.left }))
+counts_starve seen A journal image after (Err fault) began lost c e = lost_ended seen A journal image after (Err fault) (as_run (Err fault) began) lost c e
 
 other_fault : (pid : ℕ) → (let r : RunEnding = Err faults.NoMemory in r) ≡ Err (faults.NoSpace pid) → ⊥
 other_fault pid e = cc
@@ -109,7 +112,8 @@ other_fault pid e = cc
 load_runs : (IsOf : Inputs → SwapImage → Type 0) (Starts : Inputs → Type 0) (number : ℕ) (seen : Seen) (status : ℕ) (journal : List Entry) (r : RunEnding)
     → IsRunEnding r → length journal ≤ journal_entries → RunCaused seen journal r
     → ((A : Inputs) → Starts A → (pid : ℕ) → r ≡ Err (faults.NoSpace pid) → start_held A ≡ Err pid)
-    → ((A : Inputs) (image : SwapImage) → IsOf A image → seen.swap_before ≡ Some image → RunEnded seen A journal image r)
+    → ((A : Inputs) (image : SwapImage) → IsOf A image → with_files no_notes seen.swap_before ≡ Some image
+    → RunEnded seen A journal image (with_files no_notes seen.swap_after) r)
     → WritesCounts number journal r seen.written_before seen.written_after seen.sink_faults_before seen.sink_faults_after status
     → LoadRuns IsOf Starts number seen status
 load_runs IsOf Starts number seen status journal r began within caused space ended (inl w) =
@@ -122,7 +126,7 @@ load_runs IsOf Starts number seen status journal r began within caused space end
   caused = counts_lost_caused seen journal r began lost caused;
   began = tt;
   space = λ A starts pid e. absurd (other_fault pid e);
-  ended = λ A image is told. counts_starve seen A journal image r began lost caused (ended A image is told);
+  ended = λ A image is told. counts_starve seen A journal image (with_files no_notes seen.swap_after) r began lost caused (ended A image is told);
 }
 
 pub load_ran : (IsOf : Inputs → SwapImage → Type 0) (Starts : Inputs → Type 0) (number : ℕ) (seen : Seen) (status : ℕ) (journal : List Entry) (r : RunEnding)
@@ -132,13 +136,15 @@ pub load_ran : (IsOf : Inputs → SwapImage → Type 0) (Starts : Inputs → Typ
     → ((pid : ℕ) → r ≡ Err (faults.NoSpace pid) → seen.swap_after ≡ seen.swap_before)
     → (r ≡ Err faults.JournalFull → length journal ≡ journal_entries) → length journal ≤ journal_entries
     → ((A : Inputs) → Starts A → (pid : ℕ) → r ≡ Err (faults.NoSpace pid) → start_held A ≡ Err pid)
-    → ((A : Inputs) (image : SwapImage) → IsOf A image → seen.swap_before ≡ Some image → RunEnds A journal image (unfinished_of r) seen.swap_after)
+    → ((A : Inputs) (image : SwapImage) → IsOf A image → with_files no_notes seen.swap_before ≡ Some image
+    → RunEnds A journal image (unfinished_of r) (with_files no_notes seen.swap_after))
     → WritesCounts number journal r seen.written_before seen.written_after seen.sink_faults_before seen.sink_faults_after status
     → LoadRuns IsOf Starts number seen status
 load_ran IsOf Starts number seen status journal r kind pages files reads writes none same full within space ends w =
     let began = files_hold r kind pages in
     let caused = load_stops seen journal r began files reads writes none same full in
-    load_runs IsOf Starts number seen status journal r began within caused space (λ A image is told. run_ended seen A journal image r kind caused (ends A image is told)) w
+    load_runs IsOf Starts number seen status journal r began within caused space
+    (λ A image is told. run_ended seen A journal image (with_files no_notes seen.swap_after) r kind caused (ends A image is told)) w
 
 -- a machine that wasn't made
 pub load_unmade : (IsOf : Inputs → SwapImage → Type 0) (Starts : Inputs → Type 0) (number : ℕ) (seen : Seen) (status : ℕ)
@@ -146,7 +152,8 @@ pub load_unmade : (IsOf : Inputs → SwapImage → Type 0) (Starts : Inputs → 
     → WritesCounts number [] (Err faults.NoMemory) seen.written_before seen.written_after seen.sink_faults_before seen.sink_faults_after status
     → LoadRuns IsOf Starts number seen status
 load_unmade IsOf Starts number seen status same none w =
-    load_runs IsOf Starts number seen status [] (Err faults.NoMemory) tt (omega arith) none (λ A starts pid e. absurd (other_fault pid e)) (λ A image is told. (none, inl (refl, same ∙ told))) w
+    load_runs IsOf Starts number seen status [] (Err faults.NoMemory) tt (omega arith) none (λ A starts pid e. absurd (other_fault pid e))
+    (λ A image is told. (none, inl (refl, ap (with_files no_notes) same ∙ told))) w
 
 -- Loads.
 
@@ -163,24 +170,26 @@ load_caused seen journal (Err (faults.NoSpace pid)) began never c d = absurd (ne
 load_caused seen journal (Err faults.NoMemory) began never c d = inr (c, d)
 load_caused seen journal (Err _) began never c d = absurd began
 
-load_ended : (number : ℕ) (seen : Seen) (journal : List Entry) (image : SwapImage) (r : RunEnding) → IsRunEnding r
-    → RunEnded seen (load_inputs number) journal image r → LoadEnded number seen journal image r
-load_ended number seen journal image (Ok done) began e = e
-load_ended number seen journal image (Err faults.FileFault) began e = e
-load_ended number seen journal image (Err (faults.SwapReadFault device)) began e = e
-load_ended number seen journal image (Err (faults.SwapWriteFault device)) began e = e
-load_ended number seen journal image (Err faults.JournalFull) began e = e
-load_ended number seen journal image (Err (faults.NoSpace pid)) began e = e
-load_ended number seen journal image (Err faults.NoMemory) began e = e
-load_ended number seen journal image (Err _) began e = absurd began
+load_ended : (number : ℕ) (seen : Seen) (journal : List Entry) (image : SwapImage) (after : Option SwapImage) (r : RunEnding) → IsRunEnding r
+    → RunEnded seen (load_inputs number) journal image after r → LoadEnded number seen journal image after r
+load_ended number seen journal image after (Ok done) began e = e
+load_ended number seen journal image after (Err faults.FileFault) began e = e
+load_ended number seen journal image after (Err (faults.SwapReadFault device)) began e = e
+load_ended number seen journal image after (Err (faults.SwapWriteFault device)) began e = e
+load_ended number seen journal image after (Err faults.JournalFull) began e = e
+load_ended number seen journal image after (Err (faults.NoSpace pid)) began e = e
+load_ended number seen journal image after (Err faults.NoMemory) began e = e
+load_ended number seen journal image after (Err _) began e = absurd began
 
 pub loads_run : (IsOf : Inputs → SwapImage → Type 0) (Starts : Inputs → Type 0) (number : ℕ) (seen : Seen) (status : ℕ)
     → DevicesSuffice load_numbers.swap seen → NoFaults seen.faults
-    → Starts (load_inputs number) → ((image : SwapImage) → seen.swap_before ≡ Some image → IsOf (load_inputs number) image)
+    → Starts (load_inputs number) → seen.notes_after ≡ seen.notes_before
+    → ((image : SwapImage) → seen.swap_before ≡ Some image → IsOf (load_inputs number) (image_with_files no_notes image))
     → LoadRuns IsOf Starts number seen status → Loads number seen status
-loads_run IsOf Starts number seen status long files starts is_of x =
-    let ends : (image : SwapImage) → seen.swap_before ≡ Some image → LoadEnded number seen x.journal image x.ending
-    = λ image told. load_ended number seen x.journal image x.ending x.began (x.ended (load_inputs number) image (is_of image told) told) in
+loads_run IsOf Starts number seen status long files starts unasked is_of x =
+    let ends : LoadTold number seen x.journal x.ending
+    = λ image told. load_ended number seen x.journal (image_with_files no_notes image) (with_files no_notes seen.swap_after) x.ending x.began
+    (x.ended (load_inputs number) (image_with_files no_notes image) (is_of image told) (ap (with_files no_notes) told)) in
     record {
       ending = x.ending;
       journal = x.journal;
@@ -188,6 +197,7 @@ loads_run IsOf Starts number seen status long files starts is_of x =
       within = x.within;
       caused = load_caused seen x.journal x.ending x.began (λ pid e. all_start number pid (x.space (load_inputs number) starts pid e)) x.caused long;
       files = files;
+      asked = unasked;
       told = ends;
       counted = counted_by number seen status x.journal x.ending x.writes ends;
       fits = load_fits number seen status x.journal x.ending x.writes
@@ -195,12 +205,12 @@ loads_run IsOf Starts number seen status long files starts is_of x =
     }
 
 -- no memory before the run
-pub loads_unmade : (number : ℕ) (seen : Seen) (status : ℕ) → seen.swap_after ≡ seen.swap_before → NoneFaulted seen
+pub loads_unmade : (number : ℕ) (seen : Seen) (status : ℕ) → seen.swap_after ≡ seen.swap_before → seen.notes_after ≡ seen.notes_before → NoneFaulted seen
     → WritesCounts number [] (Err faults.NoMemory) seen.written_before seen.written_after seen.sink_faults_before seen.sink_faults_after status
     → Loads number seen status
-loads_unmade number seen status same none (inl w) =
-    let ends : (image : SwapImage) → seen.swap_before ≡ Some image → LoadEnded number seen [] image (Err faults.NoMemory)
-    = λ image told. (none, inl (refl, same ∙ told)) in
+loads_unmade number seen status same unasked none (inl w) =
+    let ends : LoadTold number seen [] (Err faults.NoMemory)
+    = λ image told. (none, inl (refl, ap (with_files no_notes) (same ∙ told))) in
     let unbegun : Unbegun seen [] = record { nothing = record { journal_is = refl; swap = same; reads = none.reads; writes = none.writes }; files = none.files } in
     record {
       ending = Err faults.NoMemory;
@@ -209,11 +219,12 @@ loads_unmade number seen status same none (inl w) =
       within = omega arith;
       caused = inl unbegun;
       files = none.files;
+      asked = unasked;
       told = ends;
       counted = counted_by number seen status [] (Err faults.NoMemory) w ends;
       fits = load_fits number seen status [] (Err faults.NoMemory) w (inl unbegun) ends;
     }
-loads_unmade number seen status same none (inr never) = absurd never.0
+loads_unmade number seen status same unasked none (inr never) = absurd never.0
 
 -- a device that is too short
 abbrev IsShort : Fault → Type 0
@@ -227,11 +238,11 @@ is_short false true z zn o on fault e = let same : faults.ShortDevice 1 o on ≡
 is_short false false z zn o on fault e = absurd cc
 
 loads_short : (number : ℕ) (seen : Seen) (status : ℕ) (fault : Fault) → IsShort fault
-    → device_fault load_numbers.swap seen.zero_blocks seen.one_blocks ≡ Some fault → Unbegun seen []
+    → device_fault load_numbers.swap seen.zero_blocks seen.one_blocks ≡ Some fault → Unbegun seen [] → seen.notes_after ≡ seen.notes_before
     → WritesCounts number [] (Err fault) seen.written_before seen.written_after seen.sink_faults_before seen.sink_faults_after status → Loads number seen status
-loads_short number seen status (faults.ShortDevice device blocks needed) short is done (inl w) =
-    let ends : (image : SwapImage) → seen.swap_before ≡ Some image → LoadEnded number seen [] image (Err (faults.ShortDevice device blocks needed))
-    = λ image told. (refl, (let n : NothingDone seen [] = done.nothing in n.swap) ∙ told) in
+loads_short number seen status (faults.ShortDevice device blocks needed) short is done unasked (inl w) =
+    let ends : LoadTold number seen [] (Err (faults.ShortDevice device blocks needed))
+    = λ image told. (refl, ap (with_files no_notes) ((let n : NothingDone seen [] = done.nothing in n.swap) ∙ told)) in
     record {
       ending = Err (faults.ShortDevice device blocks needed);
       journal = [];
@@ -239,22 +250,23 @@ loads_short number seen status (faults.ShortDevice device blocks needed) short i
       within = omega arith;
       caused = (done, is);
       files = done.files;
+      asked = unasked;
       told = ends;
       counted = counted_by number seen status [] (Err (faults.ShortDevice device blocks needed)) w ends;
       fits = load_fits number seen status [] (Err (faults.ShortDevice device blocks needed)) w (done, is) ends;
     }
-loads_short number seen status (faults.ShortDevice device blocks needed) short is done (inr (lost, w)) =
-    loads_unmade number seen status (let n : NothingDone seen [] = done.nothing in n.swap) (none_faulted seen [] done) (inl w)
-loads_short number seen status _ short is done w = absurd short
+loads_short number seen status (faults.ShortDevice device blocks needed) short is done unasked (inr (lost, w)) =
+    loads_unmade number seen status (let n : NothingDone seen [] = done.nothing in n.swap) unasked (none_faulted seen [] done) (inl w)
+loads_short number seen status _ short is done unasked w = absurd short
 
 pub loads_judged : (number : ℕ) (seen : Seen) (status : ℕ) (fault : Fault)
-    → device_fault load_numbers.swap seen.zero_blocks seen.one_blocks ≡ Some fault → Unbegun seen []
+    → device_fault load_numbers.swap seen.zero_blocks seen.one_blocks ≡ Some fault → Unbegun seen [] → seen.notes_after ≡ seen.notes_before
     → WritesCounts number [] (Err fault) seen.written_before seen.written_after seen.sink_faults_before seen.sink_faults_after status → Loads number seen status
-loads_judged number seen status fault is done w =
+loads_judged number seen status fault is done unasked w =
     loads_short number seen status fault
     (is_short (nat_lt seen.zero_blocks (zero_needs load_numbers.swap)) (nat_lt seen.one_blocks (one_needs load_numbers.swap)) seen.zero_blocks (zero_needs load_numbers.swap) seen.one_blocks
     (one_needs load_numbers.swap) fault is)
-    is done w
+    is done unasked w
 
 -- devices that are long enough
 long_enough : (zero_short one_short : Bool) (z zn o on : ℕ) → nat_lt z zn ≡ zero_short → nat_lt o on ≡ one_short

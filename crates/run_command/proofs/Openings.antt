@@ -1,6 +1,6 @@
 -- What was opened, as a machine asks and as inputs of a run.
-use Rattle.std.proofs.Common.{◌≡◌, ℕ, zero, suc, ◌-◌, ◌≤◌, List, [], ◌∷◌, length, map, get_or, Option, Some, None, refl, ap, subst, arith}
-use Rattle.std.specs.Prelude.{All, slice_get, slice_index_or, bytes_eq}
+use Rattle.std.proofs.Common.{◌≡◌, ℕ, zero, suc, ◌-◌, ◌≤◌, List, [], ◌∷◌, length, map, get_or, Option, Some, None, refl, sym, ap, ◌∙◌, subst, arith}
+use Rattle.std.specs.Prelude.{All, unwrap_or, slice_get, slice_index_or, bytes_eq}
 use Rattle.std.proofs.lemmas.List.Quantifiers.{position-Some}
 use Rattle.std.proofs.lemmas.Slice.Eq.{bytes_eq-Decides}
 use Rattle.std.proofs.lemmas.List.Elements.{All-head, All-tail}
@@ -10,7 +10,9 @@ use Rattle.io_edge.specs.FileHolding.{NamedFile, no_file, place_of, bytes_at, Ha
 use Rattle.flat_state.specs.Flat.{NamedImage, image_numbered}
 use Rattle.machine_state.specs.New.{AreSound}
 use Rattle.machine_state.specs.Applying.{facts_named}
-use Rattle.machine_state.specs.Sourced.{AreNames}
+use Rattle.page_model.specs.Place.{facts_of}
+use Rattle.kernel_model.specs.Requests.{ImageFile, numbered_files}
+use Rattle.machine_state.specs.Sourced.{AreNames, files_named}
 use Rattle.machine_state.specs.Files.{AreFiles, HaveFiles, AreLoaded}
 use Rattle.vm_core.specs.Reading.{AreNamed}
 use Rattle.vm_core.specs.Longwords.{AllImages}
@@ -19,7 +21,7 @@ use Rattle.vm_core.specs.Files.{IsFiled, AreNumbers}
 use Rattle.vax_code.specs.Grammar.{AreOctets}
 use Rattle.run_opening.specs.declared.images.OpenedImage.{OpenedImage}
 use Rattle.run_files.specs.ImageWords.{IsShortName}
-use Rattle.run_opening.specs.Images.{image_in, images_in, IsIn}
+use Rattle.run_opening.specs.Images.{image_in, images_in, file_number, file_numbers, IsIn}
 use Rattle.io_edge.specs.Octets.{AreOctetFiles}
 use Rattle.run_command.specs.Naming.{shown_as}
 
@@ -66,6 +68,17 @@ named_images files (o ∷ os) = (refl, refl, named_images files os)
 pub loaded_images : (files : List NamedFile) (os : List OpenedImage) → AreLoaded (map shown_as os) files (images_in files os)
 loaded_images files [] = tt
 loaded_images files (o ∷ os) = (refl, loaded_images files os)
+
+-- the files are those that the run reads
+pub numbered_images : (files : List NamedFile) (os : List OpenedImage) → All (IsIn files) os
+    → files_named (map shown_as os) ≡ numbered_files (file_numbers files (images_in files os)) (facts_of (images_in files os))
+unfolding loaded
+numbered_images files [] are = refl
+numbered_images files (o ∷ os) are =
+    let h : IsIn files o = All-head (IsIn files) o os are in
+    let number : file_number files o.name.now ≡ o.file = ap (λ (place : Option ℕ). unwrap_or place 0) h.place in
+    ap (λ (more : List ImageFile). let f : ImageFile = record { file = o.file; facts = o.facts } in f ∷ more) (numbered_images files os (All-tail (IsIn files) o os are))
+    ∙ ap (λ (n : ℕ). let f : ImageFile = record { file = n; facts = o.facts } in f ∷ numbered_files (file_numbers files (images_in files os)) (facts_of (images_in files os))) (sym number)
 
 -- each image is that of a file
 pub filed_at : (files : List NamedFile) (os : List OpenedImage) (number : ℕ) (named : NamedImage) → All (IsIn files) os

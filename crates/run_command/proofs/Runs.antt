@@ -5,6 +5,8 @@ use Rattle.std.proofs.lemmas.Bool.Decides.{nat_tests}
 use Rattle.vm_facts.specs.SwapImages.{SwapImage}
 use Rattle.vm_facts.specs.declared.entry.Entry.{Entry}
 use Rattle.io_edge.specs.FileHolding.{NamedFile}
+use Rattle.io_edge.specs.FileRequests.{FileNotes}
+use Rattle.io_edge.specs.WithFiles.{image_with_files, with_files}
 use Rattle.io_edge.specs.Striping.{zero_needs, one_needs, most_blocks, MeetsNeeds, pair_blocks}
 use Rattle.io_edge.specs.StripeSizes.{tell_blocks, pair_whole}
 use Rattle.io_edge.proofs.Stripes.{largest_swap}
@@ -25,14 +27,16 @@ use Rattle.command_words.specs.declared.command.Numbers.{Numbers}
 use Rattle.command_words.specs.Command.{AreAllowed}
 use Rattle.run_opening.specs.declared.images.OpenedImage.{OpenedImage}
 use Rattle.run_opening.specs.declared.opening.Opening.{Opening}
+use Rattle.run_files.specs.ImageWords.{image_names}
+use Rattle.run_opening.specs.Asked.{AsksOpening}
 use Rattle.run_opening.specs.Devices.{device_fault}
 use Rattle.run_opening.specs.Opening.{FoundFiles, found_told, EndsOpening, CountsAt}
 use Rattle.command_words.specs.Asked.{Request}
 use Rattle.run_command.specs.Naming.{shown_as}
 use Rattle.run_command.specs.Machines.{journal_entries, params_up_to, machine_up_to, IsOfOpening}
-use Rattle.run_command.specs.Seen.{Seen, NoneFailed}
+use Rattle.run_command.specs.Seen.{Seen, NoneFailed, stores_after}
 use Rattle.run_command.specs.Paired.{image_together, unfinished_of, IsRunFault, ReadsFail, WritesFail}
-use Rattle.run_command.specs.Ends.{RunEnding, NothingDone, Unbegun, NoneFaulted, RunCaused, DevicesSuffice, IsCaused, AllGood, IsJudged, RunEnded, RunOfWords, EndsTold, WritesRun, Writing, RunsOpened, Runs}
+use Rattle.run_command.specs.Ends.{RunEnding, NothingDone, Unbegun, NoneFaulted, RunCaused, DevicesSuffice, IsCaused, AllGood, IsJudged, RunEnded, RunOfWords, EndsOpened, EndsLacking, EndsTold, WritesRun, Writing, RunsOpened, Runs}
 use Rattle.run_command.proofs.Openings.{shown_facts}
 use Rattle.run_command.proofs.Inputs.{KnownOpening, inputs_of, asks_for, is_asked_of}
 use Rattle.run_command.proofs.Endings.{lost_caused, lost_ended, ended_flat}
@@ -107,28 +111,29 @@ run_caused seen es (Err _) kind opens pages reads writes none same full = absurd
 
 -- A run over a machine, as it was written.
 
-pub opened_runs : (IsOf : Inputs → SwapImage → Type 0) (traced : Bool) (seen : Seen) (es : List Entry) (r : RunEnding) (status : ℕ)
+pub opened_runs : (IsOf : Inputs → SwapImage → Type 0) (opened : FileNotes) (traced : Bool) (seen : Seen) (es : List Entry) (r : RunEnding) (status : ℕ)
     → WritesRun traced es r seen.written_before seen.written_after seen.sink_faults_before seen.sink_faults_after status → HaveNumbers es
     → length es ≤ journal_entries → RunCaused seen es r → IfErr r IsRunFault
-    → ((A : Inputs) (image : SwapImage) → IsOf A image → seen.swap_before ≡ Some image → RunEnded seen A es image r) → RunsOpened IsOf traced seen status
-opened_runs IsOf traced seen es r status (inl writes) numbers within caused kind ended =
+    → ((A : Inputs) (image : SwapImage) → IsOf A image → with_files opened seen.swap_before ≡ Some image → RunEnded seen A es image (stores_after seen) r)
+    → RunsOpened IsOf opened traced seen status
+opened_runs IsOf opened traced seen es r status (inl writes) numbers within caused kind ended =
     record { ending = r; journal = es; writes = writes; within = within; caused = caused; numbers = numbers; ended = ended }
-opened_runs IsOf traced seen es r status (inr (lost, writes)) numbers within caused kind ended = record {
+opened_runs IsOf opened traced seen es r status (inr (lost, writes)) numbers within caused kind ended = record {
   ending = Err NoMemory;
   journal = es;
   writes = writes;
   within = within;
   caused = lost_caused seen es r kind lost caused;
   numbers = numbers;
-  ended = λ A image is told. lost_ended seen A es image r kind lost caused (ended A image is told);
+  ended = λ A image is told. lost_ended seen A es image (stores_after seen) r kind lost caused (ended A image is told);
 }
 
-pub opened_lacking : (IsOf : Inputs → SwapImage → Type 0) (traced : Bool) (seen : Seen) (status : ℕ)
+pub opened_lacking : (IsOf : Inputs → SwapImage → Type 0) (opened : FileNotes) (traced : Bool) (seen : Seen) (status : ℕ)
     → WritesRun traced [] (Err NoMemory) seen.written_before seen.written_after seen.sink_faults_before seen.sink_faults_after status
-    → seen.swap_after ≡ seen.swap_before → NoneFaulted seen → RunsOpened IsOf traced seen status
-opened_lacking IsOf traced seen status (inl writes) same none =
+    → stores_after seen ≡ with_files opened seen.swap_before → NoneFaulted seen → RunsOpened IsOf opened traced seen status
+opened_lacking IsOf opened traced seen status (inl writes) same none =
     record { ending = Err NoMemory; journal = []; writes = writes; within = omega arith; caused = none; numbers = tt; ended = λ A image is told. (none, inl (refl, same ∙ told)) }
-opened_lacking IsOf traced seen status (inr (lost, writes)) same none = absurd lost
+opened_lacking IsOf opened traced seen status (inr (lost, writes)) same none = absurd lost
 
 -- The same for the words.
 
@@ -166,22 +171,29 @@ told_so request seen files es image (Err NoMemory) c good x = inr x
 told_so request seen files es image (Err (NoSpace pid)) c good x = x
 told_so request seen files es image (Err _) c good x = absurd c
 
-of_words : (request : Request) (seen : Seen) (files : List NamedFile) (opening : Opening) (es : List Entry) (image : SwapImage) (r : RunEnding)
+of_words : (request : Request) (seen : Seen) (files : List NamedFile) (opening : Opening) (opened : FileNotes) (es : List Entry) (image : SwapImage)
+    (r : RunEnding)
     → KnownOpening request files opening → AreAllowed request.numbers → HaveNumbers es
-    → RunEnded seen (inputs_of request files opening) es image r → RunOfWords request seen files es image r
-of_words request seen files opening es image r known allowed numbers ended = record {
+    → AsksOpening request.schedule (image_names request.words) (Some files) (Ok opening) seen.notes_before opened
+    → RunEnded seen (inputs_of request files opening) es (image_with_files opened image) (stores_after seen) r → RunOfWords request seen files es image r
+of_words request seen files opening opened es image r known allowed numbers opens ended = record {
   inputs = inputs_of request files opening;
   asks = asks_for request files opening known;
+  opening = opening;
+  opened = opened;
+  opens = opens;
   ended = ended;
-  replayed = ended_flat seen (inputs_of request files opening) es image r allowed.most_limit numbers ended;
+  replayed = ended_flat seen (inputs_of request files opening) es (image_with_files opened image) (stores_after seen) r allowed.most_limit numbers ended;
 }
 
-pub opened_words : (request : Request) (seen : Seen) (opening : Opening) (status : ℕ) → RunsOpened (IsOfOpening request.numbers opening seen.files)
-    request.traced seen status → AreAllowed request.numbers → DevicesSuffice request.numbers.swap seen
+pub opened_words : (request : Request) (seen : Seen) (opening : Opening) (opened : FileNotes) (status : ℕ)
+    → RunsOpened (IsOfOpening request.numbers opening seen.files) opened request.traced seen status → AreAllowed request.numbers
+    → DevicesSuffice request.numbers.swap seen
     → ((files : List NamedFile) → seen.files ≡ Some files → AllGood request seen files)
     → ((files : List NamedFile) → seen.files ≡ Some files → KnownOpening request files opening)
+    → AsksOpening request.schedule (image_names request.words) seen.files (Ok opening) seen.notes_before opened
     → ((image : SwapImage) → seen.swap_before ≡ Some image → 512 * request.numbers.swap ≤ length image.bytes) → Runs request seen status
-opened_words request seen opening status x allowed devices good known room = record {
+opened_words request seen opening opened status x allowed devices good known opens room = record {
   ending = x.ending;
   journal = x.journal;
   writes = x.writes;
@@ -190,8 +202,10 @@ opened_words request seen opening status x allowed devices good known room = rec
   judged = λ files told. judged_good request seen files x.journal x.ending x.caused (good files told);
   told = λ files image told octets swap.
       told_so request seen files x.journal image x.ending x.caused (good files told)
-      (of_words request seen files opening x.journal image x.ending (known files told) allowed x.numbers
-      (x.ended (inputs_of request files opening) image (is_asked_of request files opening (known files told) allowed image seen.files told octets (room image swap)) swap));
+      (of_words request seen files opening opened x.journal image x.ending (known files told) allowed x.numbers
+      (subst (λ (holds : Option (List NamedFile)). AsksOpening request.schedule (image_names request.words) holds (Ok opening) seen.notes_before opened) told opens)
+      (x.ended (inputs_of request files opening) (image_with_files opened image)
+      (is_asked_of request files opening (known files told) allowed (image_with_files opened image) seen.files told octets (room image swap)) (ap (with_files opened) swap)));
 }
 
 -- What was not opened.
@@ -218,21 +232,33 @@ module _ (request : Request) (seen : Seen) (same : seen.swap_after ≡ seen.swap
 
   -- no memory, before a file failed
   starved_runs : (status : ℕ) → seen.faults.open_after ≡ seen.faults.open_before
+      → ((files : List NamedFile) (image : SwapImage) → seen.files ≡ Some files → seen.swap_before ≡ Some image → EndsLacking request seen files [] image)
       → Writing request.traced seen [] (Err NoMemory) status → Runs request seen status
-  starved_runs status opens w = record {
+  starved_runs status opens lacking w = record {
     ending = Err NoMemory;
     journal = [];
     writes = w;
     within = omega arith;
     caused = inl (unbegun opens);
     judged = λ files told. inl (none_faulted opens);
-    told = λ files image told octets swap. inl (unbegun opens, (refl, same ∙ swap));
+    told = λ files image told octets swap. inl (unbegun opens, lacking files image told swap);
   }
 
   pub lacking_runs : (status : ℕ) → WritesRun request.traced [] (Err NoMemory) seen.written_before seen.written_after seen.sink_faults_before seen.sink_faults_after status
-      → seen.faults.open_after ≡ seen.faults.open_before → Runs request seen status
-  lacking_runs status (inl w) opens = starved_runs status opens w
-  lacking_runs status (inr (lost, w)) opens = absurd lost
+      → seen.faults.open_after ≡ seen.faults.open_before → seen.notes_after ≡ seen.notes_before → Runs request seen status
+  lacking_runs status (inl w) opens unasked = starved_runs status opens (λ files image told swap. inl ((refl, same ∙ swap), unasked)) w
+  lacking_runs status (inr (lost, w)) opens unasked = absurd lost
+
+  -- they were asked for up to the fault
+  ends_opened : (fault : Fault) (files : List NamedFile) (image : SwapImage)
+      → AsksOpening request.schedule (image_names request.words) seen.files (let r : Result Opening Fault = Err fault in r) seen.notes_before seen.notes_after
+      → seen.files ≡ Some files → seen.swap_before ≡ Some image → EndsOpened request seen files [] image fault
+  ends_opened fault files image asks told swap = record {
+    none = (refl, same ∙ swap);
+    opens = subst (λ (holds : Option (List NamedFile)). AsksOpening request.schedule (image_names request.words) holds (let r : Result Opening Fault = Err fault in r)
+        seen.notes_before seen.notes_after)
+        told asks;
+  }
 
   unopened_caused : (fault : Fault) (found : FoundFiles) → OpeningOf request seen found fault → CountsAt fault seen.faults.open_before seen.faults.open_after → IsCaused request seen [] (Err fault)
   unopened_caused (Absent name) found ends opens = unbegun opens
@@ -254,26 +280,30 @@ module _ (request : Request) (seen : Seen) (same : seen.swap_after ≡ seen.swap
   unopened_judged _ found files ends opens is = absurd ends
 
   unopened_told : (fault : Fault) (found : FoundFiles) (files : List NamedFile) (image : SwapImage) → OpeningOf request seen found fault → CountsAt fault seen.faults.open_before seen.faults.open_after
-      → seen.swap_before ≡ Some image → EndsTold request seen files [] image (Err fault)
-  unopened_told (Absent name) found files image ends opens swap = (refl, same ∙ swap)
-  unopened_told (NotImage name reason) found files image ends opens swap = (refl, same ∙ swap)
-  unopened_told (BadSchedule line) found files image ends opens swap = (refl, same ∙ swap)
-  unopened_told (ShortDevice device blocks needed) found files image ends opens swap = (refl, same ∙ swap)
-  unopened_told FileFault found files image ends opens swap = inl ((ends, nothing), (refl, same ∙ swap))
-  unopened_told NoMemory found files image ends opens swap = inl (unbegun opens, (refl, same ∙ swap))
-  unopened_told _ found files image ends opens swap = absurd ends
+      → EndsOpened request seen files [] image fault → EndsTold request seen files [] image (Err fault)
+  unopened_told (Absent name) found files image ends opens e = e
+  unopened_told (NotImage name reason) found files image ends opens e = e
+  unopened_told (BadSchedule line) found files image ends opens e = e
+  unopened_told (ShortDevice device blocks needed) found files image ends opens e = e
+  unopened_told FileFault found files image ends opens e = inl ((ends, nothing), e)
+  unopened_told NoMemory found files image ends opens e = inl (unbegun opens, inr (NoMemory, e))
+  unopened_told _ found files image ends opens e = absurd ends
 
   pub unopened_runs : (fault : Fault) (status : ℕ) → WritesRun request.traced [] (Err fault) seen.written_before seen.written_after seen.sink_faults_before seen.sink_faults_after status
       → (made : Made (EndsOpening request.schedule request.words request.numbers.swap seen.zero_blocks seen.one_blocks) (found_told request.schedule request.words) seen.files seen.faults
       (let r : Result Opening Fault = Err fault in r))
-      → CountsAt fault seen.faults.open_before seen.faults.open_after → Runs request seen status
-  unopened_runs fault status (inl w) made opens = record {
+      → CountsAt fault seen.faults.open_before seen.faults.open_after
+      → AsksOpening request.schedule (image_names request.words) seen.files (let r : Result Opening Fault = Err fault in r) seen.notes_before seen.notes_after
+      → Runs request seen status
+  unopened_runs fault status (inl w) made opens asks = record {
     ending = Err fault;
     journal = [];
     writes = w;
     within = omega arith;
     caused = unopened_caused fault made.read made.ends opens;
     judged = λ files told. unopened_judged fault made.read files made.ends opens (made.is_told files told);
-    told = λ files image told octets swap. unopened_told fault made.read files image made.ends opens swap;
+    told = λ files image told octets swap. unopened_told fault made.read files image made.ends opens (ends_opened fault files image asks told swap);
   }
-  unopened_runs fault status (inr (lost, w)) made opens = starved_runs status (lost_opens fault seen.faults.open_before seen.faults.open_after lost opens) w
+  unopened_runs fault status (inr (lost, w)) made opens asks =
+      starved_runs status (lost_opens fault seen.faults.open_before seen.faults.open_after lost opens)
+      (λ files image told swap. inr (fault, ends_opened fault files image asks told swap)) w

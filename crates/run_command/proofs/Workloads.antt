@@ -13,6 +13,9 @@ use Rattle.io_edge.specs.StripeSizes.{tell_blocks, pair_whole}
 use Rattle.aout_image.specs.Image.{Loaded, judged_image, word_bytes, in_pages, pages_for, file_length_of}
 use Rattle.vax_code.specs.Grammar.{AreOctets}
 use Rattle.flat_state.specs.Flat.{NamedImage, image_numbered}
+use Rattle.page_model.specs.Place.{facts_of}
+use Rattle.kernel_model.specs.Requests.{numbered_files}
+use Rattle.machine_state.specs.Sourced.{files_named}
 use Rattle.machine_state.specs.Files.{AreFiles, AreImages}
 use Rattle.vm_core.specs.Reading.{AreNamed}
 use Rattle.vm_core.specs.Longwords.{AllImages}
@@ -24,14 +27,14 @@ use Rattle.vm_core.specs.FirstProcesses.{StartsFrom}
 use Rattle.vm_core.specs.RunEnds.{IsAskedOf}
 use Rattle.command_ending.specs.Named.{Why, before}
 use Rattle.run_opening.specs.declared.images.OpenedImage.{OpenedImage}
-use Rattle.run_opening.specs.Images.{named_image, image_in, images_found, images_in, IsIn}
+use Rattle.run_opening.specs.Images.{named_image, image_in, images_found, images_in, file_numbers, IsIn}
 use Rattle.load_maker.specs.Programs.{w_bytes, v_bytes}
 use Rattle.load_maker.specs.Load.{load_pages, load_files, load_images, load_lines, line_drawn, drawn, w_bss, v_bss}
 use Rattle.run_command.specs.Naming.{shown_as}
 use Rattle.run_command.specs.Machines.{machine_of}
 use Rattle.run_command.specs.Paired.{image_together}
 use Rattle.run_command.specs.Loads.{load_names, load_first, load_numbers, load_inputs}
-use Rattle.run_command.proofs.Openings.{named_images, loaded_images, filed_at, are_numbers, images_length, are_files}
+use Rattle.run_command.proofs.Openings.{named_images, loaded_images, numbered_images, filed_at, are_numbers, images_length, are_files}
 use Rattle.run_command.proofs.LoadLength.{line_count}
 
 -- The bytes of the programs.
@@ -210,8 +213,12 @@ module _ (number : ℕ) (os : List OpenedImage) (same : images_in (load_files nu
     frames = refl;
     blocks = refl;
     limit = refl;
-    images = subst (λ (h : Option (List NamedFile)). AreImages (map shown_as os) h (load_inputs number).images) (sym told)
-        (subst (λ (images : List NamedImage). AreImages (map shown_as os) (Some (load_files number)) images) same (loaded_images (load_files number) os));
+    images = (
+      subst (λ (h : Option (List NamedFile)). AreImages (map shown_as os) h (load_inputs number).images) (sym told)
+          (subst (λ (images : List NamedImage). AreImages (map shown_as os) (Some (load_files number)) images) same (loaded_images (load_files number) os)),
+      subst (λ (images : List NamedImage). files_named (map shown_as os) ≡ numbered_files (file_numbers (load_files number) images) (facts_of images)) same
+          (numbered_images (load_files number) os are_in),
+    );
     fit = images_fit (load_inputs number) (fit are_in);
     octets = load_octets number;
     few = omega arith;

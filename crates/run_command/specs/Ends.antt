@@ -4,6 +4,8 @@ use Rattle.vm_facts.specs.SwapImages.{SwapImage}
 use Rattle.vm_facts.specs.declared.entry.Entry.{Entry}
 use Rattle.vm_facts.specs.declared.stop.Stop.TheVariants as stops
 use Rattle.io_edge.specs.FileHolding.{NamedFile}
+use Rattle.io_edge.specs.FileRequests.{FileNotes}
+use Rattle.io_edge.specs.WithFiles.{image_with_files, with_files}
 use Rattle.flat_state.specs.Flat.{Inputs}
 use Rattle.flat_model.specs.Asked.{start_held}
 use Rattle.run_text.specs.Text.{text_of}
@@ -17,11 +19,13 @@ use Rattle.command_ending.specs.Ending.{fault_status, fault_line, NeedsMemory}
 use Rattle.command_ending.specs.Command.{NoFaults, OpenFailed, PageFailed, Writes}
 use Rattle.run_opening.specs.Devices.{device_fault}
 use Rattle.run_opening.specs.Opening.{found_told, HasAll, EndsOpening}
+use Rattle.run_opening.specs.Asked.{AsksOpening}
+use Rattle.run_files.specs.ImageWords.{image_names}
 use Rattle.run_opening.specs.declared.opening.Opening.{Opening}
 use Rattle.io_edge.specs.Octets.{AreOctetFiles}
 use Rattle.command_words.specs.Asked.{Request}
 use Rattle.run_command.specs.Asking.{AsksFor}
-use Rattle.run_command.specs.Seen.{Seen, NoneFailed, DeviceFailed}
+use Rattle.run_command.specs.Seen.{Seen, NoneFailed, DeviceFailed, stores_after}
 use Rattle.run_command.specs.Machines.{journal_entries}
 
 -- a run is finished, or this is why it isn't
@@ -146,36 +150,52 @@ FaultEnded A journal image after (NoSpace pid) = NoneMade journal image after ×
 FaultEnded A journal image after _ = ⊥
 
 -- Want of memory may come at any place, before anything was done too, but in place of no failed call.
-abbrev pub RunEnded : Seen → Inputs → List Entry → SwapImage → RunEnding → Type 0
-RunEnded seen A journal image (Ok done) = RunFinished A journal image seen.swap_after
-RunEnded seen A journal image (Err NoMemory) =
-    NoneFaulted seen × (NoneMade journal image seen.swap_after ⊎ RunStarved A journal image seen.swap_after)
-RunEnded seen A journal image (Err fault) = FaultEnded A journal image seen.swap_after fault
+abbrev pub RunEnded : Seen → Inputs → List Entry → SwapImage → Option SwapImage → RunEnding → Type 0
+RunEnded seen A journal image after (Ok done) = RunFinished A journal image after
+RunEnded seen A journal image after (Err NoMemory) = NoneFaulted seen × (NoneMade journal image after ⊎ RunStarved A journal image after)
+RunEnded seen A journal image after (Err fault) = FaultEnded A journal image after fault
 
--- It ended so for inputs that the words ask for. A judge of transcripts accepts the text of its journal over the images of these inputs,
--- with the trace of the paging and without.
+-- Its schedule and its images were opened, each header by one read. From there on it ended so, for inputs that the words ask for, and of
+-- files and swap just that was asked which its journal says. A judge of transcripts accepts the text of its journal over the images of
+-- these inputs, with the trace of the paging and without.
 pub record RunOfWords (request : Request) (seen : Seen) (files : List NamedFile) (journal : List Entry) (image : SwapImage) (ending : RunEnding) : Type 0 where
   pub inputs : Inputs
   pub asks : AsksFor inputs request files
-  pub ended : RunEnded seen inputs journal image ending
+  pub opening : Opening
+  pub opened : FileNotes
+  pub opens : AsksOpening request.schedule (image_names request.words) (Some files) (Ok opening) seen.notes_before opened
+  pub ended : RunEnded seen inputs journal (image_with_files opened image) (stores_after seen) ending
   pub replayed : (traced : Bool) → IsFlatText inputs traced journal
+
+-- Nothing was done but that a schedule and images were to be opened, which ended by this fault: they were asked for up to there.
+pub record EndsOpened (request : Request) (seen : Seen) (files : List NamedFile) (journal : List Entry) (image : SwapImage) (fault : Fault) : Type 0 where
+  pub none : NoneMade journal image seen.swap_after
+  pub opens : AsksOpening request.schedule (image_names request.words) (Some files) (let r : Result Opening Fault = Err fault in r) seen.notes_before
+      seen.notes_after
+
+-- For want of memory nothing was done: no file was asked, or they were to be opened, whatever fault ended that.
+abbrev pub EndsLacking : Request → Seen → List NamedFile → List Entry → SwapImage → Type 0
+EndsLacking request seen files journal image =
+    (NoneMade journal image seen.swap_after × (seen.notes_after ≡ seen.notes_before))
+    ⊎ ((fault : Fault) × EndsOpened request seen files journal image fault)
 
 -- A file failed: before the run, and nothing was done; or in the run, and then all that is judged before it was good, and the run halted
 -- there.
 abbrev pub FileFaultTold : Request → Seen → List NamedFile → List Entry → SwapImage → Type 0
 FileFaultTold request seen files journal image =
-    (FailsBefore seen journal × NoneMade journal image seen.swap_after)
+    (FailsBefore seen journal × EndsOpened request seen files journal image FileFault)
     ⊎ (PageFailed seen.faults × AllGood request seen files × RunOfWords request seen files journal image (Err FileFault))
 
 -- where files and devices are told: nothing was done, or the ending is that of a run which the words ask for
 abbrev pub EndsTold : Request → Seen → List NamedFile → List Entry → SwapImage → RunEnding → Type 0
-EndsTold request seen files journal image (Err (Absent name)) = NoneMade journal image seen.swap_after
-EndsTold request seen files journal image (Err (NotImage name reason)) = NoneMade journal image seen.swap_after
-EndsTold request seen files journal image (Err (BadSchedule line)) = NoneMade journal image seen.swap_after
-EndsTold request seen files journal image (Err (ShortDevice device blocks needed)) = NoneMade journal image seen.swap_after
+EndsTold request seen files journal image (Err (Absent name)) = EndsOpened request seen files journal image (Absent name)
+EndsTold request seen files journal image (Err (NotImage name reason)) = EndsOpened request seen files journal image (NotImage name reason)
+EndsTold request seen files journal image (Err (BadSchedule line)) = EndsOpened request seen files journal image (BadSchedule line)
+EndsTold request seen files journal image (Err (ShortDevice device blocks needed)) = EndsOpened request seen files journal image
+    (ShortDevice device blocks needed)
 EndsTold request seen files journal image (Err FileFault) = FileFaultTold request seen files journal image
 EndsTold request seen files journal image (Err NoMemory) =
-    (Unbegun seen journal × NoneMade journal image seen.swap_after) ⊎ RunOfWords request seen files journal image (Err NoMemory)
+    (Unbegun seen journal × EndsLacking request seen files journal image) ⊎ RunOfWords request seen files journal image (Err NoMemory)
 EndsTold request seen files journal image ending = RunOfWords request seen files journal image ending
 
 -- Whole runs.
@@ -212,12 +232,14 @@ pub record Runs (request : Request) (seen : Seen) (status : ℕ) : Type 0 where
   pub told : (files : List NamedFile) (image : SwapImage) → seen.files ≡ Some files → AreOctetFiles files → seen.swap_before ≡ Some image
       → EndsTold request seen files journal image ending
 
--- A run that was opened, over a machine: the same, for the inputs that are the machine's. Its entries are at hand.
-pub record RunsOpened (IsOf : Inputs → SwapImage → Type 0) (traced : Bool) (seen : Seen) (status : ℕ) : Type 0 where
+-- A run that was opened, over a machine: the same, for the inputs that are the machine's, with what the files had noted by then. Its entries
+-- are at hand.
+pub record RunsOpened (IsOf : Inputs → SwapImage → Type 0) (opened : FileNotes) (traced : Bool) (seen : Seen) (status : ℕ) : Type 0 where
   pub ending : RunEnding
   pub journal : List Entry
   pub writes : Writing traced seen journal ending status
   pub within : length journal ≤ journal_entries
   pub caused : RunCaused seen journal ending
   pub numbers : HaveNumbers journal
-  pub ended : (A : Inputs) (image : SwapImage) → IsOf A image → seen.swap_before ≡ Some image → RunEnded seen A journal image ending
+  pub ended : (A : Inputs) (image : SwapImage) → IsOf A image → with_files opened seen.swap_before ≡ Some image → RunEnded seen A journal image
+      (stores_after seen) ending

@@ -12,9 +12,12 @@ use Rattle.command_ending.specs.Ending.{fault_status, fault_line, NeedsMemory}
 use Rattle.command_ending.specs.Command.{NoFaults, Writes}
 use Rattle.command_words.specs.declared.command.Numbers.{Numbers}
 use Rattle.run_opening.specs.Devices.{device_fault}
-use Rattle.load_maker.specs.Load.{load_images, load_lines}
+use Rattle.load_maker.specs.Load.{load_files, load_images, load_lines}
 use Rattle.load_maker.specs.Counts.{counts_of, load_text}
 use Rattle.load_laws.specs.Left.{load_counts}
+use Rattle.io_edge.specs.FileRequests.{no_notes}
+use Rattle.io_edge.specs.WithFiles.{image_with_files, with_files}
+use Rattle.run_opening.specs.Images.{file_numbers}
 use Rattle.run_command.specs.Seen.{Seen}
 use Rattle.run_command.specs.Machines.{journal_entries}
 use Rattle.run_command.specs.Paired.{IsRunFault}
@@ -44,6 +47,7 @@ load_numbers = record { frames = 128; swap = 8192; limit = 200000 }
 abbrev pub load_inputs : ℕ → Inputs
 load_inputs number = record {
   images = under_names load_names (load_images number);
+  file_numbers = file_numbers (load_files number) (under_names load_names (load_images number));
   first = load_first;
   lines = load_lines number;
   frames = load_numbers.frames;
@@ -86,14 +90,20 @@ IsLoadCaused seen journal (Err (NoSpace pid)) = ⊥
 IsLoadCaused seen journal (Err NoMemory) = Unbegun seen journal ⊎ (NoneFaulted seen × DevicesSuffice load_numbers.swap seen)
 IsLoadCaused seen journal ending = RunCaused seen journal ending × DevicesSuffice load_numbers.swap seen
 
--- How the run ended, where the devices are told. Where a device is short, nothing was done.
-abbrev pub LoadEnded : ℕ → Seen → List Entry → SwapImage → RunEnding → Type 0
-LoadEnded number seen journal image (Err (ShortDevice device blocks needed)) = NoneMade journal image seen.swap_after
-LoadEnded number seen journal image ending = RunEnded seen (load_inputs number) journal image ending
+-- How the run ended, where the devices are told. Where a device is short, nothing was done. The files are in memory, and note nothing.
+abbrev pub LoadEnded : ℕ → Seen → List Entry → SwapImage → Option SwapImage → RunEnding → Type 0
+LoadEnded number seen journal image after (Err (ShortDevice device blocks needed)) = NoneMade journal image after
+LoadEnded number seen journal image after ending = RunEnded seen (load_inputs number) journal image after ending
+
+-- so it ended where the devices are told
+abbrev pub LoadTold : ℕ → Seen → List Entry → RunEnding → Type 0
+LoadTold number seen journal ending =
+    (image : SwapImage) → seen.swap_before ≡ Some image
+    → LoadEnded number seen journal (image_with_files no_notes image) (with_files no_notes seen.swap_after) ending
 
 -- What a load is: it has one ending and one journal. What was written are the lines of that ending, and the status is the ending's;
 -- or the output failed, and a prefix of them was written. However it ended, the journal has no more entries than it may have. The ending
--- has its cause, and no file was touched. Where the devices are told the journal is that of a run of the workload of the number, and
+-- has its cause, and no file outside was asked for anything. Where the devices are told the journal is that of a run of the workload of the number, and
 -- the devices are left as it says; with status 0 the six lines are those of the counts that the number has; and the status is never 10.
 pub record Loads (number : ℕ) (seen : Seen) (status : ℕ) : Type 0 where
   pub ending : RunEnding
@@ -103,7 +113,8 @@ pub record Loads (number : ℕ) (seen : Seen) (status : ℕ) : Type 0 where
   pub within : length journal ≤ journal_entries
   pub caused : IsLoadCaused seen journal ending
   pub files : NoFaults seen.faults
-  pub told : (image : SwapImage) → seen.swap_before ≡ Some image → LoadEnded number seen journal image ending
+  pub asked : seen.notes_after ≡ seen.notes_before
+  pub told : LoadTold number seen journal ending
   pub counted : (image : SwapImage) → seen.swap_before ≡ Some image → status ≡ 0 → Appends seen.written_before (finished_lines number) seen.written_after
   pub fits : (image : SwapImage) → seen.swap_before ≡ Some image → status ≡ 10 → ⊥
 
@@ -122,4 +133,5 @@ pub record LoadRuns (IsOf : Inputs → SwapImage → Type 0) (Starts : Inputs �
   pub caused : RunCaused seen journal ending
   pub began : IsRunEnding ending
   pub space : (A : Inputs) → Starts A → (pid : ℕ) → ending ≡ Err (NoSpace pid) → start_held A ≡ Err pid
-  pub ended : (A : Inputs) (image : SwapImage) → IsOf A image → seen.swap_before ≡ Some image → RunEnded seen A journal image ending
+  pub ended : (A : Inputs) (image : SwapImage) → IsOf A image → with_files no_notes seen.swap_before ≡ Some image
+      → RunEnded seen A journal image (with_files no_notes seen.swap_after) ending

@@ -2,6 +2,8 @@
 use Rattle.std.specs.Prelude.{◌≡◌, ◌<◌, ℕ, List, Option}
 use Rattle.vm_facts.specs.SwapImages.{SwapImage}
 use Rattle.io_edge.specs.FileHolding.{NamedFile}
+use Rattle.io_edge.specs.FileRequests.{FileNotes}
+use Rattle.io_edge.specs.WithFiles.{with_files}
 use Rattle.io_edge.specs.PairFailures.{RoseAlone}
 use Rattle.command_ending.specs.Command.{Faults}
 
@@ -23,9 +25,11 @@ DeviceFailed device f = (device < 2) × RoseAlone device f.zero_before f.zero_af
 
 -- what a run sees of its files, its two swap devices and its output, before and after
 pub record Seen : Type 0 where
-  -- the files, where they are told, and the counts of their faults
+  -- the files, where they are told, the counts of their faults, and what they will have noted of what is asked of them
   pub files : Option (List NamedFile)
   pub faults : Faults
+  pub notes_before : FileNotes
+  pub notes_after : FileNotes
   -- the blocks of the devices, the swap image that they make together, where both tell theirs, and their faults
   pub zero_blocks : ℕ
   pub one_blocks : ℕ
@@ -38,3 +42,7 @@ pub record Seen : Type 0 where
   pub written_after : Option (List ℕ)
   pub sink_faults_before : ℕ
   pub sink_faults_after : ℕ
+
+-- the swap image with the files beside it, after the run
+abbrev pub stores_after : Seen → Option SwapImage
+stores_after seen = with_files seen.notes_after seen.swap_after

@@ -1,6 +1,7 @@
 -- What a run sees, by its files, devices and output as they are before and after.
 use Rattle.std.specs.Prelude.{List, Option}
 use Rattle.io_edge.specs.FileHolding.{NamedFile}
+use Rattle.io_edge.specs.FileRequests.{FileNotes}
 use Rattle.io_edge.specs.declared.files.Files.{Ghosts as FilesGhosts}
 use Rattle.io_edge.specs.declared.swap_dev.SwapDev.{Ghosts as SwapGhosts}
 use Rattle.io_edge.specs.declared.sink.Sink.{Ghosts as SinkGhosts}
@@ -8,12 +9,15 @@ use Rattle.command_ending.specs.Command.{Faults}
 use Rattle.run_command.specs.Seen.{Seen}
 use Rattle.run_command.specs.Paired.{image_together}
 
--- what is seen of two devices and an output, beside what is told of files and of their faults
-abbrev pub seen_beside : {D E S : Type 0} (told : Option (List NamedFile)) (faults : Faults) (d : SwapGhosts D) (e : SwapGhosts E) (s : SinkGhosts S)
+-- what is seen of two devices and an output, beside what is told of files, of their faults and of what they note
+abbrev pub seen_beside : {D E S : Type 0} (told : Option (List NamedFile)) (faults : Faults) (notes_old notes_new : FileNotes) (d : SwapGhosts D)
+    (e : SwapGhosts E) (s : SinkGhosts S)
     (zero_old zero_new : D) (one_old one_new : E) (sink_old sink_new : S) → Seen
-seen_beside told faults d e s zero_old zero_new one_old one_new sink_old sink_new = record {
+seen_beside told faults notes_old notes_new d e s zero_old zero_new one_old one_new sink_old sink_new = record {
   files = told;
   faults = faults;
+  notes_before = notes_old;
+  notes_after = notes_new;
   zero_blocks = d.blocks zero_old;
   one_blocks = e.blocks one_old;
   swap_before = image_together (d.blocks zero_old) (e.blocks one_old) (d.image zero_old) (e.image one_old);
@@ -49,4 +53,5 @@ faults_seen f old new = record {
 abbrev pub seen_of_all : {F D E S : Type 0} (f : FilesGhosts F) (d : SwapGhosts D) (e : SwapGhosts E) (s : SinkGhosts S)
     (files_old files_new : F) (zero_old zero_new : D) (one_old one_new : E) (sink_old sink_new : S) → Seen
 seen_of_all f d e s files_old files_new zero_old zero_new one_old one_new sink_old sink_new =
-    seen_beside (f.holds files_old) (faults_seen f files_old files_new) d e s zero_old zero_new one_old one_new sink_old sink_new
+    seen_beside (f.holds files_old) (faults_seen f files_old files_new) (f.notes files_old) (f.notes files_new) d e s zero_old zero_new one_old one_new
+    sink_old sink_new

@@ -1,5 +1,6 @@
 // The command: its files are opened, its run is made, and the text of that is written.
 ghost use Rattle.std.specs.Prelude.{◌≡◌, ◌<◌, ◌≤◌, length, map, IfOk};
+ghost use Rattle.io_edge.specs.FileRequests.{FileNotes};
 ghost use Rattle.io_edge.specs.Striping.{MeetsNeeds};
 ghost use Rattle.machine_state.specs.New.{AreSound};
 ghost use Rattle.machine_state.specs.Sourced.{AreNames};
@@ -10,7 +11,7 @@ ghost use Rattle.vm_core.specs.Starting.{IsFresh};
 ghost use Rattle.run_command.specs.Naming.{shown_as};
 ghost use Rattle.run_command.specs.Machines.{machine_up_to, machine_of, SuitsMachine, IsOfOpening};
 ghost use Rattle.run_command.specs.Outside.{KeepsOutside, Early};
-ghost use Rattle.run_command.specs.Sight.{seen_of_all};
+ghost use Rattle.run_command.specs.Sight.{faults_seen, seen_beside, seen_of_all};
 ghost use Rattle.run_command.specs.Ends.{Runs, RunsOpened};
 ghost use Rattle.run_command.specs.Headlines.{CarriesHeadline};
 
@@ -83,8 +84,9 @@ fn run_opened<F: Files, D: SwapDev, E: SwapDev, S: Sink>(
     requires allowed { AreAllowed numbers }
     requires ready { SuitsMachine opening.now (F.holds files.old) }
     requires devices { MeetsNeeds (D.blocks zero.old) (E.blocks one.old) numbers.swap }
-    ensures runs { RunsOpened (IsOfOpening numbers opening.now (F.holds files.old)) traced
-        (seen_of_all F.Files D.SwapDev E.SwapDev S.Sink files.old files.new zero.old zero.new one.old one.new sink.old sink.new) result }
+    ensures runs { (notes : FileNotes) → RunsOpened (IsOfOpening numbers opening.now (F.holds files.old)) (F.notes files.old) traced
+        (seen_beside (F.holds files.old) (faults_seen F.Files files.old files.new) notes (F.notes files.new) D.SwapDev E.SwapDev S.Sink zero.old zero.new
+        one.old one.new sink.old sink.new) result }
     ensures kept { KeepsOutside F.Files D.SwapDev E.SwapDev S.Sink files.old files.new zero.old zero.new one.old one.new sink.old sink.new }
     ensures zero_left { Early result (zero.new ≡ zero.old) }
     ensures one_left { Early result (one.new ≡ one.old) }

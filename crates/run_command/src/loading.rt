@@ -1,4 +1,5 @@
 // The command `load`: the workload of a number is made and run, and what the run did is counted.
+ghost use Rattle.io_edge.specs.FileRequests.{FileNotes};
 ghost use Rattle.std.specs.Prelude.{◌≡◌, ◌<◌, ◌≤◌, ◌^◌, ℕ, List, length, map, Option};
 ghost use Rattle.io_edge.specs.FileHolding.{NamedFile};
 ghost use Rattle.io_edge.specs.Striping.{MeetsNeeds};
@@ -73,7 +74,7 @@ fn run_load<D: SwapDev, E: SwapDev, S: Sink>(
     requires moves { HaveFewMoves lines.now }
     requires count { length lines.now < 2 ^ 32 }
     requires devices { MeetsNeeds (D.blocks zero.old) (E.blocks one.old) load_numbers.swap }
-    ensures runs { (told : Option (List NamedFile)) (opens pages : ℕ)
+    ensures runs { (told : Option (List NamedFile)) (opens pages : ℕ) (notes : FileNotes)
         → LoadRuns (λ A image. IsAskedOf A (machine_of load_numbers (map shown_as images.now)) load_first lines.now
         (⟦<SureFiles as Files>⟧.holds files.old) image)
         (λ A. StartsFrom A (machine_of load_numbers (map shown_as images.now)) load_first) number (seen_beside told (record {
@@ -81,7 +82,7 @@ fn run_load<D: SwapDev, E: SwapDev, S: Sink>(
           open_after = opens;
           page_before = pages;
           page_after = pages;
-        }) D.SwapDev E.SwapDev S.Sink zero.old zero.new one.old one.new sink.old sink.new) result }
+        }) notes notes D.SwapDev E.SwapDev S.Sink zero.old zero.new one.old one.new sink.old sink.new) result }
     ensures devices { KeepsDevices D.SwapDev E.SwapDev zero.old zero.new one.old one.new }
     ensures output { KeepsOutput S.Sink sink.old sink.new }
     ensures zero_left { Early result (zero.new ≡ zero.old) }
@@ -110,12 +111,12 @@ pub fn load_command<D: SwapDev, E: SwapDev, S: Sink>(
     sink: &mut S,
     number: u32,
 ) -> u8
-    ensures loads { (told : Option (List NamedFile)) (opens pages : ℕ) → Loads number (seen_beside told (record {
+    ensures loads { (told : Option (List NamedFile)) (opens pages : ℕ) (notes : FileNotes) → Loads number (seen_beside told (record {
       open_before = opens;
       open_after = opens;
       page_before = pages;
       page_after = pages;
-    }) D.SwapDev E.SwapDev S.Sink zero.old zero.new one.old one.new sink.old sink.new) result }
+    }) notes notes D.SwapDev E.SwapDev S.Sink zero.old zero.new one.old one.new sink.old sink.new) result }
     ensures devices { KeepsDevices D.SwapDev E.SwapDev zero.old zero.new one.old one.new }
     ensures output { KeepsOutput S.Sink sink.old sink.new }
     ensures zero_left { Early result (zero.new ≡ zero.old) }

@@ -1,6 +1,7 @@
 // A run over two swap devices.
 ghost use Rattle.std.specs.Prelude.{◌≡◌, ◌<◌, ◌≤◌, ◌^◌, ℕ, List, [], length, Some, None, Err, All, IfErr, IsSome};
 ghost use Rattle.vm_facts.specs.SwapImages.{SwapImage};
+ghost use Rattle.io_edge.specs.WithFiles.{with_files};
 ghost use Rattle.io_edge.specs.FailedDevice.{failed_read_of, failed_write_of};
 ghost use Rattle.io_edge.specs.Striping.{most_blocks, pair_blocks, MeetsNeeds};
 ghost use Rattle.flat_state.specs.Flat.{Inputs};
@@ -65,9 +66,11 @@ fn run_over<'a, 'd, F: Files, D: SwapDev, E: SwapDev>(
     requires no_read { failed_read_of pair.old ≡ None }
     requires no_write { failed_write_of pair.old ≡ None }
     ensures ends { (A : Inputs) (image : SwapImage) → IsAskedOf A core.old.machine first.now lines.now (F.holds files.old) image
-        → image_together (D.blocks pair.old.zero.now) (E.blocks pair.old.one.now) (D.image pair.old.zero.now) (E.image pair.old.one.now) ≡ Some image
+        → with_files (F.notes files.old) (image_together (D.blocks pair.old.zero.now) (E.blocks pair.old.one.now) (D.image pair.old.zero.now)
+        (E.image pair.old.one.now)) ≡ Some image
         → RunEnds A core.new.machine.kernel.journal image (unfinished_of result)
-        (image_together (D.blocks pair.new.zero.now) (E.blocks pair.new.one.now) (D.image pair.new.zero.now) (E.image pair.new.one.now)) }
+        (with_files (F.notes files.new) (image_together (D.blocks pair.new.zero.now) (E.blocks pair.new.one.now) (D.image pair.new.zero.now)
+        (E.image pair.new.one.now))) }
     ensures no_space { (A : Inputs) → StartsFrom A core.old.machine first.now → (pid : ℕ) → result ≡ Err (Fault.NoSpace pid) → start_held A ≡ Err pid }
     ensures none_made { (pid : ℕ) → result ≡ Err (Fault.NoSpace pid) → core.new.machine.kernel.journal ≡ [] }
     ensures untouched { (pid : ℕ) → result ≡ Err (Fault.NoSpace pid) → pair.new ≡ pair.old }
@@ -121,9 +124,9 @@ pub fn run_paired<'a, F: Files, D: SwapDev, E: SwapDev>(
     requires devices { MeetsNeeds (D.blocks zero.old) (E.blocks one.old) core.old.machine.params.swap_blocks }
     requires files { AreFiles core.old.machine.images (F.holds files.old) }
     ensures ends { (A : Inputs) (image : SwapImage) → IsAskedOf A core.old.machine first.now lines.now (F.holds files.old) image
-        → image_together (D.blocks zero.old) (E.blocks one.old) (D.image zero.old) (E.image one.old) ≡ Some image
+        → with_files (F.notes files.old) (image_together (D.blocks zero.old) (E.blocks one.old) (D.image zero.old) (E.image one.old)) ≡ Some image
         → RunEnds A core.new.machine.kernel.journal image (unfinished_of result)
-        (image_together (D.blocks zero.new) (E.blocks one.new) (D.image zero.new) (E.image one.new)) }
+        (with_files (F.notes files.new) (image_together (D.blocks zero.new) (E.blocks one.new) (D.image zero.new) (E.image one.new))) }
     ensures no_space { (A : Inputs) → StartsFrom A core.old.machine first.now → (pid : ℕ) → result ≡ Err (Fault.NoSpace pid) → start_held A ≡ Err pid }
     ensures none_made { (pid : ℕ) → result ≡ Err (Fault.NoSpace pid) → core.new.machine.kernel.journal ≡ [] }
     ensures zero_left { (pid : ℕ) → result ≡ Err (Fault.NoSpace pid) → zero.new ≡ zero.old }

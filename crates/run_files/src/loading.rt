@@ -1,9 +1,10 @@
-ghost use Rattle.std.specs.Prelude.{◌≡◌, ◌≤◌, ℕ, List, Some, IfOk, IfErr, OnOk, length, take, drop};
+ghost use Rattle.std.specs.Prelude.{◌≡◌, ◌≤◌, ℕ, List, Some, Err, true, is_err, IfOk, IfErr, OnOk, min, length, take, drop};
 ghost use Rattle.io_edge.specs.Calls.{KeepsFiles};
 ghost use Rattle.io_edge.specs.FileHolding.{NamedFile, place_of, bytes_at, HasRange, HoldsRange};
 ghost use Rattle.io_edge.specs.Transfer.{CountsErr};
 ghost use Rattle.aout_image.specs.Image.{IsSound, file_length_of, judged_image, judged_of};
 ghost use Rattle.run_files.specs.Answering.{Answers, CountsFault, CountsFaults, FailsInOrder, IsFailure, IsOfFoundFile};
+ghost use Rattle.run_files.specs.Asked.{AsksFront, FrontMade};
 ghost use Rattle.run_files.specs.Told.{facts_in, facts_told, image_told, image_in, IsImageOf};
 
 use crate::answers::{Headed, Loaded, Opened, Unread};
@@ -56,6 +57,7 @@ fn read_header<F: Files>(alloc: Global, files: &mut F, id: u32, len: u64) -> Res
     ensures sound { IfOk result (λ headed. IsSound headed.image) }
     ensures whole { IfOk result (λ headed. file_length_of headed.image ≤ len) }
     ensures error { IfErr result IsOfFoundFile }
+    ensures noted { FrontMade result id (min len 32) (F.notes files.old) (F.notes files.new) }
     ensures kept { KeepsFiles F.Files files.old files.new }
     ensures open_faults { CountsFault result (F.open_faults files.old) (F.open_faults files.new) }
     ensures page_faults { F.page_faults files.new ≡ F.page_faults files.old }
@@ -94,6 +96,7 @@ pub fn open_image<F: Files>(alloc: Global, files: &mut F, name: &str) -> Result<
     ensures place { IfOk result (λ opened. (list : List NamedFile) → F.holds files.old ≡ Some list → place_of list name.now ≡ Some opened.file) }
     ensures range { IfOk result (λ opened. HasRange (F.holds files.old) opened.file 0 (file_length_of opened.image)) }
     ensures sound { IfOk result (λ opened. IsSound opened.image) }
+    ensures asked { AsksFront name.now (F.holds files.old) 32 (is_err result ≡ true) (result ≡ Err Unread.NoMemory) (F.notes files.old) (F.notes files.new) }
     ensures kept { KeepsFiles F.Files files.old files.new }
     ensures open_faults { CountsFault result (F.open_faults files.old) (F.open_faults files.new) }
     ensures page_faults { F.page_faults files.new ≡ F.page_faults files.old }

@@ -1,7 +1,8 @@
-ghost use Rattle.std.specs.Prelude.{◌≡◌, ◌≤◌, ◌^◌, ◌<◌, ℕ, List, Some, IfOk, IfErr, IfSome, length, option_map};
+ghost use Rattle.std.specs.Prelude.{◌≡◌, ◌≤◌, ◌^◌, ◌<◌, ℕ, List, Some, Err, true, is_err, IfOk, IfErr, IfSome, length, option_map};
 ghost use Rattle.io_edge.specs.Calls.{KeepsFiles};
 ghost use Rattle.io_edge.specs.FileHolding.{NamedFile, HasRange, HoldsRange};
 ghost use Rattle.run_files.specs.Answering.{Answers, CountsFault, IsFailure, IsOfAnyFile};
+ghost use Rattle.run_files.specs.Asked.{AsksFront, AsksWhole, FrontMade};
 ghost use Rattle.run_files.specs.Told.{bytes_told, whole_told};
 
 use crate::answers::Unread;
@@ -19,6 +20,7 @@ pub(crate) fn read_front<F: Files>(
     ensures bytes { IfOk result (λ bytes. HoldsRange (F.holds files.old) id 0 bytes.items) }
     ensures size { IfOk result (λ bytes. length bytes.items ≡ len) }
     ensures error { IfErr result IsFailure }
+    ensures noted { FrontMade result id len (F.notes files.old) (F.notes files.new) }
     ensures kept { KeepsFiles F.Files files.old files.new }
     ensures open_faults { CountsFault result (F.open_faults files.old) (F.open_faults files.new) }
     ensures page_faults { F.page_faults files.new ≡ F.page_faults files.old }
@@ -39,6 +41,7 @@ pub fn read_file<F: Files>(
     ensures answers { (list : List NamedFile) → F.holds files.old ≡ Some list → Answers (λ bytes. bytes.items) (bytes_told list name.now most) result }
     ensures size { IfOk result (λ bytes. length bytes.items ≤ most) }
     ensures error { IfErr result IsOfAnyFile }
+    ensures asked { AsksFront name.now (F.holds files.old) most (is_err result ≡ true) (result ≡ Err Unread.NoMemory) (F.notes files.old) (F.notes files.new) }
     ensures kept { KeepsFiles F.Files files.old files.new }
     ensures open_faults { CountsFault result (F.open_faults files.old) (F.open_faults files.new) }
     ensures page_faults { F.page_faults files.new ≡ F.page_faults files.old }
@@ -62,6 +65,7 @@ pub fn read_whole<F: Files>(
         → Answers (option_map (λ bytes. bytes.items)) (whole_told list name.now most) result }
     ensures size { IfOk result (λ read. IfSome read (λ bytes. length bytes.items ≤ most)) }
     ensures error { IfErr result IsOfAnyFile }
+    ensures asked { AsksWhole name.now (F.holds files.old) most (is_err result ≡ true) (result ≡ Err Unread.NoMemory) (F.notes files.old) (F.notes files.new) }
     ensures kept { KeepsFiles F.Files files.old files.new }
     ensures open_faults { CountsFault result (F.open_faults files.old) (F.open_faults files.new) }
     ensures page_faults { F.page_faults files.new ≡ F.page_faults files.old }

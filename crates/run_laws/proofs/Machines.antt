@@ -54,7 +54,7 @@ pub bytes_made : (A : Inputs) (us : List Entry) (s t : State) (k l : Kernel) (im
     → Makes A s k image.bytes us t l behind.bytes
 bytes_made A [] s t k l image behind m = (m.0, m.1, ap (λ (i : SwapImage). i.bytes) m.2)
 bytes_made A (u ∷ us) s t k l image behind m =
-    (m.0, (m.1.0, m.1.1, bytes_made A us (after A s u) t (unit_step A s k image.bytes m.1.0 u) l (unit_swap k image u) behind m.1.2))
+    (m.0, (m.1.0, m.1.1, bytes_made A us (after A s u) t (unit_step A s k image.bytes m.1.0 u) l (unit_swap A k image u) behind m.1.2))
 
 pub swaps_keep : (A : Inputs) (us : List Entry) (s t : State) (k l : Kernel) (image behind : SwapImage) → ImagesFit A.images → IsRun A s
     → StandsAt A s k image.bytes → MakesSwap A s k image us t l behind → StandsAt A t l behind.bytes

@@ -2,7 +2,7 @@
 use Rattle.std.proofs.Common.{◌≡◌, ◌⊎◌, inl, inr, ℕ, ◌*◌, ◌≤◌, Bool, true, false, List, [], ◌∷◌, ◌++◌, length, map, replicate, Option, Some, None, refl, sym, ap, ◌∙◌, subst}
 use Rattle.std.proofs.lemmas.List.{length-replicate}
 use Rattle.flat_state.specs.Flat.{Process, Inputs, process_of}
-use Rattle.vm_facts.specs.SwapImages.{SwapRequest, SwapImage, with_requests}
+use Rattle.vm_facts.specs.SwapImages.{StoreRequest, SwapImage, with_requests}
 use Rattle.vm_facts.proofs.Requests.{with_requests-append}
 use Rattle.vm_facts.specs.declared.page.Page.{Page}
 use Rattle.vm_facts.specs.declared.page.Page.TheVariants.{Data, Stack}
@@ -20,7 +20,7 @@ use Rattle.page_model.specs.Swapper.{is_out}
 use Rattle.page_model.specs.Ownership.{Each, IsMoving, OwnsFrames, OneOwner, block_of}
 use Rattle.page_model.specs.PageBytes.{bytes_in, IfSaved}
 use Rattle.kernel_model.specs.Kernel.{Kernel, Proc, store_all, image_after_by, image_after_of}
-use Rattle.kernel_model.specs.SwapRequests.{unit_asks}
+use Rattle.kernel_model.specs.Requests.{image_files, unit_asks}
 use Rattle.kernel_model.specs.Coupled.{Outline, KeepsRegs, Coupled, SameTables, memory_of, beside_kernel}
 use Rattle.kernel_model.specs.Sound.{lives, Sound}
 use Rattle.kernel_model.specs.UPage.{AreRegs, u_page}
@@ -213,14 +213,14 @@ images_left A [] s t k l image behind images r at m = sym m.2
 images_left A (u ∷ us) s t k l image behind images r at m =
     let x : Next A s k image.bytes u = record { images = images; run = r; at = at; next = m.0 } in
     let next : State = after A s u in
-    let rest : List SwapRequest = requests_from A next us in
+    let rest : List StoreRequest = requests_from A next us in
     let bytes : List ℕ = swapped_from A next us (image_behind A s u image.bytes) in
-    images_left A us next t (unit_step A s k image.bytes m.1.0 u) l (unit_swap k image u) behind images (unit_run A s u images r m.0)
+    images_left A us next t (unit_step A s k image.bytes m.1.0 u) l (unit_swap A k image u) behind images (unit_run A s u images r m.0)
     (unit_keeps A s k image.bytes m.1.0 u x m.1.1) m.1.2
-    ∙ ap (λ (put : List ℕ). with_requests rest (record (unit_swap k image u) { bytes = swapped_from A next us put })) (image_same A s k image.bytes u x)
-    ∙ ap (λ (p : Placement). with_requests rest (with_requests (unit_asks p k.holdings u) (record image { bytes = bytes }))) at.place
-    ∙ ap (λ (hs : Holdings). with_requests rest (with_requests (unit_asks s.place hs u) (record image { bytes = bytes }))) at.holdings
-    ∙ sym (with_requests-append (unit_asks s.place s.holdings u) rest (record image { bytes = bytes }))
+    ∙ ap (λ (put : List ℕ). with_requests rest (record (unit_swap A k image u) { bytes = swapped_from A next us put })) (image_same A s k image.bytes u x)
+    ∙ ap (λ (p : Placement). with_requests rest (with_requests (unit_asks (image_files A) p k.holdings u) (record image { bytes = bytes }))) at.place
+    ∙ ap (λ (hs : Holdings). with_requests rest (with_requests (unit_asks (image_files A) s.place hs u) (record image { bytes = bytes }))) at.holdings
+    ∙ sym (with_requests-append (unit_asks (image_files A) s.place s.holdings u) rest (record image { bytes = bytes }))
 
 -- Each run has a machine, where who goes out has registers of longwords.
 

@@ -22,7 +22,7 @@ use Rattle.kernel_model.specs.Coupled.{Coupled, AreRead, beside_kernel}
 use Rattle.kernel_model.specs.UPage.{AreRegs, regs_in}
 use Rattle.page_model.specs.Stored.{stored_at, store_at}
 use Rattle.kernel_model.specs.ChangeStep.{ran_by}
-use Rattle.kernel_model.specs.SwapRequests.{unit_asks}
+use Rattle.kernel_model.specs.Requests.{image_files, unit_asks}
 use Rattle.kernel_model.specs.Unit.{passing_change, u_bytes, proc_of}
 use Rattle.kernel_model.specs.Numbers.{Numbered}
 use Rattle.kernel_model.specs.Stands.{Stands}
@@ -121,9 +121,9 @@ unit_image k image entries.Done = image_after k image
 unit_image k image (entries.SwapOut pid) = store_at image (block_in k.holdings (owners.U pid) 0) (u_bytes k (proc_of k pid))
 unit_image k image e = image
 
--- the same of the swap device as it is told: the unit's requests were made of it
-abbrev pub unit_swap : Kernel → SwapImage → Entry → SwapImage
-unit_swap k image u = with_requests (unit_asks k.place k.holdings u) (record image { bytes = unit_image k image.bytes u })
+-- the same of the swap device as it is told, with the files beside it: the unit's requests were made
+abbrev pub unit_swap : Inputs → Kernel → SwapImage → Entry → SwapImage
+unit_swap A k image u = with_requests (unit_asks (image_files A) k.place k.holdings u) (record image { bytes = unit_image k image.bytes u })
 
 -- what a unit is given: at `Done` what was read is what stands where the transfer reads; and who goes out has sixteen
 -- registers of longwords
@@ -170,7 +170,7 @@ MakesSwap A s k image [] t l behind = (s ≡ t) × (k ≡ l) × (image ≡ behin
 MakesSwap A s k image (u ∷ us) t l behind =
     (next_unit A s ≡ Some u)
     × ((read : List (List ℕ)) × IsGiven A s k image.bytes read u
-    × MakesSwap A (after A s u) (unit_step A s k image.bytes read u) (unit_swap k image u) us t l behind)
+    × MakesSwap A (after A s u) (unit_step A s k image.bytes read u) (unit_swap A k image u) us t l behind)
 
 -- Kinds of units.
 

@@ -1,6 +1,6 @@
--- The swap image after a journal, and what was asked of swap by then.
+-- The swap image after a journal, and what was asked of swap and of files by then.
 use Rattle.std.specs.Prelude.{ℕ, List, [], ◌∷◌, ◌++◌, length, Option, Some, None}
-use Rattle.vm_facts.specs.SwapImages.{SwapRequest, SwapImage, with_requests}
+use Rattle.vm_facts.specs.SwapImages.{StoreRequest, SwapImage, with_requests}
 use Rattle.flat_state.specs.Flat.{Process, Inputs, process_of}
 use Rattle.vm_facts.specs.declared.page.Page.TheVariants.{Data, Stack}
 use Rattle.vm_facts.specs.declared.entry.Entry.{Entry}
@@ -14,7 +14,7 @@ use Rattle.page_model.specs.Ownership.{block_of}
 use Rattle.page_model.specs.Stored.{store_at}
 use Rattle.kernel_model.specs.UPage.{u_page}
 use Rattle.kernel_model.specs.Coupled.{memory_of}
-use Rattle.kernel_model.specs.SwapRequests.{unit_asks}
+use Rattle.kernel_model.specs.Requests.{image_files, unit_asks}
 use Rattle.flat_model.specs.Asked.{start_held, or_before}
 use Rattle.run_model.specs.State.{State, start}
 use Rattle.run_model.specs.After.{after}
@@ -56,20 +56,20 @@ swapped_from A s (u ∷ us) image = swapped_from A (after A s u) us (image_behin
 abbrev pub swapped : Inputs → List Entry → List ℕ → List ℕ
 swapped A journal image = swapped_from A (start A (or_before [] (start_held A))) (units_of journal) image
 
--- What is asked of swap.
+-- What is asked of swap, and of the files of the images.
 
--- what these units ask of it, in their order, from this state on
-unfoldable pub requests_from : Inputs → State → List Entry → List SwapRequest
+-- what these units ask of them, in their order, from this state on
+unfoldable pub requests_from : Inputs → State → List Entry → List StoreRequest
 requests_from A s [] = []
-requests_from A s (u ∷ us) = unit_asks s.place s.holdings u ++ requests_from A (after A s u) us
+requests_from A s (u ∷ us) = unit_asks (image_files A) s.place s.holdings u ++ requests_from A (after A s u) us
 
--- what the units of a journal ask of it
-abbrev pub requests_of : Inputs → List Entry → List SwapRequest
+-- what the units of a journal ask of them
+abbrev pub requests_of : Inputs → List Entry → List StoreRequest
 requests_of A journal = requests_from A (start A (or_before [] (start_held A))) (units_of journal)
 
--- The swap device as it is told.
+-- The swap device as it is told, with the files beside it.
 
--- after these units: their writes are its bytes, and their requests were made of it, each once and no others
+-- after these units: their writes are its bytes, and their requests were made, each once and no others
 abbrev pub left_from : Inputs → State → List Entry → SwapImage → SwapImage
 left_from A s us image = with_requests (requests_from A s us) (record image { bytes = swapped_from A s us image.bytes })
 

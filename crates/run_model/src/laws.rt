@@ -1,5 +1,5 @@
 ghost use Rattle.std.specs.Prelude.{◌≡◌, ℕ, List, [], ◌∷◌, ◌++◌, length, Some};
-ghost use Rattle.vm_facts.specs.SwapImages.{SwapRequest, These};
+ghost use Rattle.vm_facts.specs.SwapImages.{StoreRequest, These};
 ghost use Rattle.vm_facts.specs.declared.entry.Entry.{Entry};
 ghost use Rattle.flat_state.specs.Flat.{Inputs};
 ghost use Rattle.run_model.specs.State.{State};
@@ -22,6 +22,6 @@ pub fn next_is_one_of()
 
 /// A device that notes each request, and had noted these, has noted those of a journal after them once it is left so.
 pub fn requests_are_noted()
-    ensures { (A : Inputs) (journal : List Entry) (bytes : List ℕ) (before : List SwapRequest)
+    ensures { (A : Inputs) (journal : List Entry) (bytes : List ℕ) (before : List StoreRequest)
         → (swap_left A journal (record { bytes = bytes; noted = λ more. These (before ++ more) })).noted [] ≡ These (before ++ requests_of A journal) }
 {}

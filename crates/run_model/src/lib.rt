@@ -9,7 +9,7 @@
 //! - Next: `next_unit`, the next unit of a state, or none.
 //! - Kinds: `Kind`, what the next unit may be.
 //! - Lawful: `Follows`, `Reaches`, `IsLawful` and `IsFinished`.
-//! - Swapped: `swapped`, the swap image after a journal; `requests_of`, what its units ask of swap; `swap_left`, both.
+//! - Swapped: `swapped`, the swap image after a journal; `requests_of`, what its units ask of swap and files; `swap_left`, both.
 //!
 //! Laws, each a function with no body:
 //! - `state_counts`: a state's count and journal are those of its units.

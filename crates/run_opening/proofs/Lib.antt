@@ -2,3 +2,4 @@ pub mod Finding
 pub mod Lists
 pub mod Schedules
 pub mod Openings
+pub mod Asking

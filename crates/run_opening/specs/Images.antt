@@ -1,5 +1,5 @@
 -- The images of a run: those of their names, found and judged one after another.
-use Rattle.std.specs.Prelude.{◌≡◌, ℕ, List, [], ◌∷◌, map, Option, Some, None, Result, Ok, Err}
+use Rattle.std.specs.Prelude.{◌≡◌, ℕ, List, [], ◌∷◌, map, Option, Some, None, unwrap_or, Result, Ok, Err}
 use Rattle.io_edge.specs.FileHolding.{NamedFile, place_of, bytes_at}
 use Rattle.aout_image.specs.declared.Image.{Image}
 use Rattle.aout_image.specs.Image.{Loaded, loaded, judged_image}
@@ -36,6 +36,14 @@ image_in files image = record { name = image.name.now; image = loaded image.fact
 -- the images, as their files have them
 abbrev pub images_in : List NamedFile → List OpenedImage → List NamedImage
 images_in files images = map (image_in files) images
+
+-- the number of the file of this name; 0 where there is none
+abbrev pub file_number : List NamedFile → List ℕ → ℕ
+file_number files name = unwrap_or (place_of files name) 0
+
+-- those of the files of these images
+abbrev pub file_numbers : List NamedFile → List NamedImage → List ℕ
+file_numbers files images = map (λ image. file_number files image.name) images
 
 -- the image is the one of its name, and its file is judged to be just it
 pub record IsIn (files : List NamedFile) (image : OpenedImage) : Type 0 where

@@ -2,3 +2,4 @@ pub mod Schedules
 pub mod Images
 pub mod Devices
 pub mod Opening
+pub mod Asked

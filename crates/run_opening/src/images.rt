@@ -1,9 +1,11 @@
 // The images of a run: found, and judged by their headers, one after another.
-ghost use Rattle.std.specs.Prelude.{◌≡◌, List, Some, All, IfOk, IfErr, map};
+ghost use Rattle.std.specs.Prelude.{◌≡◌, List, Some, Err, true, is_err, All, IfOk, IfErr, map};
 ghost use Rattle.io_edge.specs.Calls.{KeepsFiles};
 ghost use Rattle.io_edge.specs.FileHolding.{NamedFile, HasRange};
 ghost use Rattle.aout_image.specs.Image.{IsSound, file_length_of};
 ghost use Rattle.command_ending.specs.Named.{AnswersNamed};
+ghost use Rattle.run_files.specs.Asked.{AsksFront};
+ghost use Rattle.run_opening.specs.Asked.{header_bytes, IsAbout, AsksImages};
 ghost use Rattle.run_opening.specs.Images.{image_found, images_found, image_in, images_in, IsIn, IsImageFault};
 ghost use Rattle.run_opening.specs.Opening.{CountsOpen};
 
@@ -37,6 +39,9 @@ fn open_named<'a, F: Files>(
     ensures range { IfOk result (λ image. HasRange (F.holds files.old) image.file 0 (file_length_of image.facts)) }
     ensures sound { IfOk result (λ image. IsSound image.facts) }
     ensures error { IfErr result IsImageFault }
+    ensures about { IfErr result (λ fault. IsAbout fault name.now) }
+    ensures asked { AsksFront name.now (F.holds files.old) header_bytes (is_err result ≡ true) (result ≡ Err Fault.NoMemory) (F.notes files.old)
+        (F.notes files.new) }
     ensures kept { KeepsFiles F.Files files.old files.new }
     ensures open_faults { CountsOpen result (F.open_faults files.old) (F.open_faults files.new) }
     ensures page_faults { F.page_faults files.new ≡ F.page_faults files.old }
@@ -64,6 +69,7 @@ pub fn open_images<'a, F: Files>(
     ensures ranges { IfOk result (λ images. All (λ image. HasRange (F.holds files.old) image.file 0 (file_length_of image.facts)) images.items) }
     ensures sound { IfOk result (λ images. All (λ image. IsSound image.facts) images.items) }
     ensures error { IfErr result IsImageFault }
+    ensures asked { AsksImages result (map (λ name. name.now) names.now) (F.holds files.old) (F.notes files.old) (F.notes files.new) }
     ensures kept { KeepsFiles F.Files files.old files.new }
     ensures open_faults { CountsOpen result (F.open_faults files.old) (F.open_faults files.new) }
     ensures page_faults { F.page_faults files.new ≡ F.page_faults files.old }

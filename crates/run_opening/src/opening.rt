@@ -8,6 +8,7 @@ ghost use Rattle.run_text.specs.Schedule.{IsInRanges};
 ghost use Rattle.command_ending.specs.Command.{Made};
 ghost use Rattle.run_opening.specs.Images.{images_found, images_in, IsIn};
 ghost use Rattle.run_opening.specs.Schedules.{schedule_lines};
+ghost use Rattle.run_opening.specs.Asked.{AsksOpening};
 ghost use Rattle.run_opening.specs.Opening.{found_told, EndsOpening, CountsOpen};
 
 use crate::devices::device_fault;
@@ -73,7 +74,9 @@ pub fn open_run<'a, F: Files>(
     ensures lines { IfOk result (λ opening. All IsInRanges opening.lines.items) }
     ensures few_lines { IfOk result (λ opening. length opening.lines.items ≤ schedule_lines) }
 
-    // The files, and their counts of faults.
+    // The files, what was asked of them, and their counts of faults.
+    ensures asked { AsksOpening schedule.now (image_names (map (λ word. word.now) words.now)) (F.holds files.old) result (F.notes files.old)
+        (F.notes files.new) }
     ensures kept { KeepsFiles F.Files files.old files.new }
     ensures open_faults { CountsOpen result (F.open_faults files.old) (F.open_faults files.new) }
     ensures page_faults { F.page_faults files.new ≡ F.page_faults files.old }

@@ -1,11 +1,12 @@
 // The schedule of a run: found, read and judged by its grammar.
-ghost use Rattle.std.specs.Prelude.{◌≡◌, ◌≤◌, ℕ, List, All, IfOk, length};
+ghost use Rattle.std.specs.Prelude.{◌≡◌, ◌≤◌, ℕ, List, Err, true, is_err, All, IfOk, length};
 ghost use Rattle.io_edge.specs.Calls.{KeepsFiles};
 ghost use Rattle.io_edge.specs.FileHolding.{NamedFile};
 ghost use Rattle.run_text.specs.Schedule.{IsInRanges};
 ghost use Rattle.command_ending.specs.Command.{Made};
 ghost use Rattle.run_opening.specs.Schedules.{schedule_lines, schedule_bytes, schedule_found, EndsEvents, EndsSchedule};
 ghost use Rattle.run_opening.specs.Opening.{CountsOpen};
+ghost use Rattle.run_files.specs.Asked.{AsksFront};
 
 use command_ending::Fault;
 use io_edge::Files;
@@ -49,6 +50,8 @@ pub fn open_schedule<'a, F: Files>(
         }) result }
     ensures ranges { IfOk result (λ lines. All IsInRanges lines.items) }
     ensures few { IfOk result (λ lines. length lines.items ≤ schedule_lines) }
+    ensures asked { AsksFront name.now (F.holds files.old) schedule_bytes (is_err result ≡ true) (result ≡ Err Fault.NoMemory) (F.notes files.old)
+        (F.notes files.new) }
     ensures kept { KeepsFiles F.Files files.old files.new }
     ensures open_faults { CountsOpen result (F.open_faults files.old) (F.open_faults files.new) }
     ensures page_faults { F.page_faults files.new ≡ F.page_faults files.old }

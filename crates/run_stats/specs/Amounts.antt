@@ -7,12 +7,12 @@ use Rattle.run_stats.specs.declared.look.Look.{Look}
 use Rattle.run_stats.specs.declared.look.Flight.{Flight}
 use Rattle.run_stats.specs.declared.look.Flight.TheVariants.{OfFile, OfSwap, ToSwap}
 use Rattle.run_stats.specs.declared.noting.What.{What}
-use Rattle.run_stats.specs.declared.noting.What.TheVariants.{Filled, Begun, Copied, Reclaimed, Moved, Ended}
+use Rattle.run_stats.specs.declared.noting.What.TheVariants.{Filled, Begun, Copied, Reclaimed, Moved, Ended, Swapped}
 use Rattle.run_stats.specs.declared.noting.Note.{Note}
 use Rattle.run_stats.specs.declared.heads.PagingHead.{PagingHead}
 use Rattle.run_stats.specs.declared.heads.PagingHead.TheVariants.{ZeroFills, FileReads, FilePages, SwapReads, SwapPages, Reclaims, Copies}
 use Rattle.run_stats.specs.declared.heads.RunHead.{RunHead}
-use Rattle.run_stats.specs.declared.heads.RunHead.TheVariants.{HandMoves, MadeInvalid, FreedClean, HandWrites, ReclaimedBetween, FileTransfers, SwapTransfersIn, SwapTransfersOut}
+use Rattle.run_stats.specs.declared.heads.RunHead.TheVariants.{HandMoves, MadeInvalid, FreedClean, HandWrites, ReclaimedBetween, FileTransfers, SwapTransfersIn, SwapTransfersOut, SwapRequests}
 use Rattle.run_stats.specs.declared.heads.Head.{Head}
 use Rattle.run_stats.specs.declared.heads.Head.TheVariants.{OfRunner, WrittenOf, OfRun}
 
@@ -97,6 +97,13 @@ abbrev pub swap_transfer_out : What → Flight → ℕ
 swap_transfer_out Ended (ToSwap owner pages) = 1
 swap_transfer_out _ _ = 0
 
+-- the pages that are read from swap, or written to it: those of the transfer that ends, or the u page of a process that goes out or comes in
+abbrev pub swap_requests : What → Flight → ℕ
+swap_requests Ended (OfSwap pages) = pages
+swap_requests Ended (ToSwap owner pages) = pages
+swap_requests Swapped oldest = 1
+swap_requests _ _ = 0
+
 -- both are one space, or one image
 abbrev pub is_same_owner : Owner → Owner → Bool
 is_same_owner (Space a) (Space b) = a == b
@@ -130,6 +137,7 @@ run_amount ReclaimedBetween x = reclaimed_between x.what x.before x.after
 run_amount FileTransfers x = file_transfer x.what x.before.oldest
 run_amount SwapTransfersIn x = swap_transfer_in x.what x.before.oldest
 run_amount SwapTransfersOut x = swap_transfer_out x.what x.before.oldest
+run_amount SwapRequests x = swap_requests x.what x.before.oldest
 
 -- what an entry adds under a head: of the process that runs, of an owner's pages, or of the run
 abbrev pub head_amount : Head → Note → ℕ

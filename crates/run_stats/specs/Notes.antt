@@ -4,7 +4,7 @@ use Rattle.vm_facts.specs.declared.entry.Entry.TheVariants as entries
 use Rattle.run_model.specs.State.{State}
 use Rattle.run_stats.specs.declared.look.Look.{Look}
 use Rattle.run_stats.specs.declared.noting.What.{What}
-use Rattle.run_stats.specs.declared.noting.What.TheVariants.{Filled, Begun, Copied, Reclaimed, Moved, Ended, Other}
+use Rattle.run_stats.specs.declared.noting.What.TheVariants.{Filled, Begun, Copied, Reclaimed, Moved, Ended, Swapped, Other}
 use Rattle.run_stats.specs.declared.noting.Note.{Note}
 use Rattle.run_stats.specs.Looks.{look_at}
 
@@ -16,6 +16,8 @@ what_of (entries.Copy page) = Copied
 what_of (entries.Reclaim page) = Reclaimed
 what_of (entries.Hands count) = Moved count
 what_of entries.Done = Ended
+what_of (entries.SwapOut pid) = Swapped
+what_of (entries.SwapIn pid) = Swapped
 what_of _ = Other
 
 -- what is noted, by what is looked at before and after

@@ -7,7 +7,7 @@ use Rattle.process_counts.specs.declared.amounts.ProcessHead.TheVariants.{Instru
 use Rattle.run_stats.specs.declared.heads.PagingHead.{PagingHead}
 use Rattle.run_stats.specs.declared.heads.PagingHead.TheVariants.{ZeroFills, FileReads, FilePages, SwapReads, SwapPages, Reclaims, Copies}
 use Rattle.run_stats.specs.declared.heads.RunHead.{RunHead}
-use Rattle.run_stats.specs.declared.heads.RunHead.TheVariants.{HandMoves, MadeInvalid, FreedClean, HandWrites, ReclaimedBetween, FileTransfers, SwapTransfersIn, SwapTransfersOut}
+use Rattle.run_stats.specs.declared.heads.RunHead.TheVariants.{HandMoves, MadeInvalid, FreedClean, HandWrites, ReclaimedBetween, FileTransfers, SwapTransfersIn, SwapTransfersOut, SwapRequests}
 
 -- words and a count
 abbrev pub plain_row : List ℕ → ℕ → List ℕ
@@ -63,8 +63,10 @@ run_words ReclaimedBetween = codes "hands reclaimed-between "
 run_words FileTransfers = codes "devices file-reads "
 run_words SwapTransfersIn = codes "devices swap-reads "
 run_words SwapTransfersOut = codes "devices swap-writes "
+run_words SwapRequests = codes "devices swap-requests "
 
 -- the heads of the whole run, in the order of their rows
 unfoldable pub run_heads : List RunHead
 run_heads =
-    HandMoves ∷ MadeInvalid ∷ FreedClean ∷ HandWrites ∷ ReclaimedBetween ∷ FileTransfers ∷ SwapTransfersIn ∷ SwapTransfersOut ∷ []
+    HandMoves ∷ MadeInvalid ∷ FreedClean ∷ HandWrites ∷ ReclaimedBetween ∷ FileTransfers ∷ SwapTransfersIn ∷ SwapTransfersOut
+    ∷ SwapRequests ∷ []

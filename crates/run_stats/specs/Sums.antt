@@ -8,7 +8,7 @@ use Rattle.run_stats.specs.declared.noting.Note.{Note}
 use Rattle.run_stats.specs.declared.heads.PagingHead.{PagingHead}
 use Rattle.run_stats.specs.declared.heads.PagingHead.TheVariants.{ZeroFills, FileReads, FilePages, SwapReads, SwapPages, Reclaims, Copies}
 use Rattle.run_stats.specs.declared.heads.RunHead.{RunHead}
-use Rattle.run_stats.specs.declared.heads.RunHead.TheVariants.{HandMoves, MadeInvalid, FreedClean, HandWrites, ReclaimedBetween, FileTransfers, SwapTransfersIn, SwapTransfersOut}
+use Rattle.run_stats.specs.declared.heads.RunHead.TheVariants.{HandMoves, MadeInvalid, FreedClean, HandWrites, ReclaimedBetween, FileTransfers, SwapTransfersIn, SwapTransfersOut, SwapRequests}
 use Rattle.run_stats.specs.declared.heads.Head.{Head}
 use Rattle.run_stats.specs.declared.heads.Head.TheVariants.{OfRunner, WrittenOf, OfRun}
 use Rattle.run_stats.specs.declared.sums.PagingSums.{PagingSums}
@@ -46,6 +46,7 @@ run_sum sums ReclaimedBetween = sums.reclaimed_between
 run_sum sums FileTransfers = sums.file_transfers
 run_sum sums SwapTransfersIn = sums.swap_transfers_in
 run_sum sums SwapTransfersOut = sums.swap_transfers_out
+run_sum sums SwapRequests = sums.swap_requests
 
 -- the sum under any head
 abbrev pub sum_in : Tally → Head → ℕ

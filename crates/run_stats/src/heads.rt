@@ -1,6 +1,6 @@
 // The heads of the table, and what an entry adds under each.
 ghost use Rattle.std.specs.Prelude.{◌≡◌};
-ghost use Rattle.run_stats.specs.Amounts.{filled_with_zeros, copied_from_parent, reclaimed, file_read, file_pages, swap_read, swap_pages, hand_moves, made_invalid, freed_clean, hand_writes, reclaimed_between, file_transfer, swap_transfer_in, swap_transfer_out, paging_amount, run_amount};
+ghost use Rattle.run_stats.specs.Amounts.{filled_with_zeros, copied_from_parent, reclaimed, file_read, file_pages, swap_read, swap_pages, hand_moves, made_invalid, freed_clean, hand_writes, reclaimed_between, file_transfer, swap_transfer_in, swap_transfer_out, swap_requests, paging_amount, run_amount};
 
 use crate::look::{Flight, Look};
 use crate::noting::{Note, What};
@@ -44,6 +44,8 @@ pub enum RunHead {
     SwapTransfersIn,
     /// Writes to swap that ended.
     SwapTransfersOut,
+    /// Pages that were read from swap or written to it, u pages too.
+    SwapRequests,
 }
 
 /// A head of the table (this project's profile).
@@ -192,6 +194,17 @@ fn swap_transfer_out(what: What, oldest: Flight) -> u64
     }
 }
 
+fn swap_requests(what: What, oldest: Flight) -> u64
+    ensures { result ≡ swap_requests what oldest }
+{
+    match (what, oldest) {
+        (What::Ended, Flight::OfSwap(pages)) => pages,
+        (What::Ended, Flight::ToSwap(_, pages)) => pages,
+        (What::Swapped, _) => 1,
+        _ => 0,
+    }
+}
+
 pub(crate) fn paging_amount(head: PagingHead, note: &Note) -> u64
     ensures { result ≡ paging_amount head note.now }
 {
@@ -218,5 +231,6 @@ pub(crate) fn run_amount(head: RunHead, note: &Note) -> u64
         RunHead::FileTransfers => file_transfer(note.what, note.before.oldest),
         RunHead::SwapTransfersIn => swap_transfer_in(note.what, note.before.oldest),
         RunHead::SwapTransfersOut => swap_transfer_out(note.what, note.before.oldest),
+        RunHead::SwapRequests => swap_requests(note.what, note.before.oldest),
     }
 }

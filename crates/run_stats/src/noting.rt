@@ -20,6 +20,8 @@ pub enum What {
     Moved(u32),
     /// The oldest transfer ended.
     Ended,
+    /// A process went out or came in.
+    Swapped,
     /// Another one.
     Other,
 }
@@ -42,6 +44,7 @@ fn kind_of(entry: &Entry) -> What
         Entry::Reclaim { .. } => What::Reclaimed,
         Entry::Hands { count } => What::Moved(*count),
         Entry::Done => What::Ended,
+        Entry::SwapOut { .. } | Entry::SwapIn { .. } => What::Swapped,
         _ => What::Other,
     }
 }

@@ -29,7 +29,7 @@ static PAGING_HEADS: [PagingHead; 7] = [
     PagingHead::Copies,
 ];
 
-static RUN_HEADS: [RunHead; 8] = [
+static RUN_HEADS: [RunHead; 9] = [
     RunHead::HandMoves,
     RunHead::MadeInvalid,
     RunHead::FreedClean,
@@ -38,6 +38,7 @@ static RUN_HEADS: [RunHead; 8] = [
     RunHead::FileTransfers,
     RunHead::SwapTransfersIn,
     RunHead::SwapTransfersOut,
+    RunHead::SwapRequests,
 ];
 
 #[tactic(auto, unfolding(crate::specs::Rows::process_heads))]
@@ -102,6 +103,7 @@ pub(crate) fn run_words(head: RunHead) -> &'static [u8]
         RunHead::FileTransfers => b"devices file-reads ",
         RunHead::SwapTransfersIn => b"devices swap-reads ",
         RunHead::SwapTransfersOut => b"devices swap-writes ",
+        RunHead::SwapRequests => b"devices swap-requests ",
     }
 }
 

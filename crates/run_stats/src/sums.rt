@@ -45,6 +45,7 @@ pub struct RunSums {
     pub file_transfers: u128,
     pub swap_transfers_in: u128,
     pub swap_transfers_out: u128,
+    pub swap_requests: u128,
 }
 
 /// What the entries so far add under each head, the most blocks of swap that were held, and the fewest frames that were free.
@@ -146,6 +147,7 @@ fn add_run(sums: RunSums, note: &Note) -> RunSums
             + u128::from(run_amount(RunHead::SwapTransfersIn, note)),
         swap_transfers_out: sums.swap_transfers_out
             + u128::from(run_amount(RunHead::SwapTransfersOut, note)),
+        swap_requests: sums.swap_requests + u128::from(run_amount(RunHead::SwapRequests, note)),
     }
 }
 
@@ -233,6 +235,7 @@ impl RunSums {
             file_transfers: 0,
             swap_transfers_in: 0,
             swap_transfers_out: 0,
+            swap_requests: 0,
         }
     }
 
@@ -249,6 +252,7 @@ impl RunSums {
             RunHead::FileTransfers => self.file_transfers,
             RunHead::SwapTransfersIn => self.swap_transfers_in,
             RunHead::SwapTransfersOut => self.swap_transfers_out,
+            RunHead::SwapRequests => self.swap_requests,
         }
     }
 }

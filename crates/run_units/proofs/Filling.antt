@@ -114,7 +114,7 @@ forced (u ∷ us) A g s k l image j e at f h x m =
     p.place ∙ ap (λ (qs : List Page). place_entry qs (place_at s u) s.place u) (sym kept) ∙ ap (λ (y : Entry). place_entry g.locked (place_at s u) s.place y) is
     ∙ forcing_place g.locked (place_at s u) s.place in
     let due : (after A s u).place.due ≡ s.place.due = ap (λ (y : Placement). y.due) place ∙ (force_stays s.place g.locked own).due in
-    let image1 : SwapImage = unit_swap k image u in
+    let image1 : SwapImage = unit_swap A k image u in
     let first : Leads A s k image (u ∷ []) (after A s u) m.next (Some image1) =
     first_leads A s (after A s u) k m.next m.next image m.image (Some image1) u [] next one (none_leads A (after A s u) m.next image1) in
     let fills : FillsFirst (after A s u).place (after A s u).place.due e g.locked =
@@ -172,7 +172,7 @@ bringing (u ∷ us) A g s k l image j child parent ds at f e d x m =
     let idle : NotDue s.place.due parent = not_due s.place parent at.run.placed.dues (source_of A s child parent ds at.run d).source.1 in
     let place : (after A s u).place ≡ serve_step s.place g.locked parent = after_served A s u g.locked parent (sym kept) asked in
     let due : (after A s u).place.due ≡ s.place.due = ap (λ (y : Placement). y.due) place ∙ serve_dues s.place g.locked parent own idle in
-    let image1 : SwapImage = unit_swap k image u in
+    let image1 : SwapImage = unit_swap A k image u in
     let first : Leads A s k image (u ∷ []) (after A s u) m.next (Some image1) =
     first_leads A s (after A s u) k m.next m.next image m.image (Some image1) u [] next one (none_leads A (after A s u) m.next image1) in
     let rest : Serves us m.next.place g.locked parent true l.place =

@@ -222,7 +222,7 @@ served (u ∷ us) A g s k l image j pid now before q at w h m =
     let one : MadeAs A s k image u m.next m.image =
     one_made A g s k m.next image m.image u w.images (keeps_locked A g s before q u now (splits_locked A s before q w.runs.clear d) w.locked asked) m.made m.told in
     let p : Paged A s u = paged A s u (subst IsPaging (sym n.1) (serve_paging s.place q)) (on_free A s s.mark pid now w.runs.on) in
-    let x : SwapImage = unit_swap k image u in
+    let x : SwapImage = unit_swap A k image u in
     let first : Leads A s k image (u ∷ []) (after A s u) m.next (Some x) =
     first_leads A s (after A s u) k m.next m.next image m.image (Some x) u [] next one (none_leads A (after A s u) m.next x) in
     let rest : Serves us m.next.place g.locked q now l.place =

@@ -295,11 +295,11 @@ loaded_facts (n ∷ ns) files (y ∷ ys) h =
     ap (λ (fs : List Image). n.facts ∷ fs) (loaded_facts ns files ys h.1) ∙ ap (λ (z : Loaded). z.facts ∷ facts_of ys) (sym h.0)
 
 pub headers_agree : (A : Inputs) (g : Ground) → HasImages g A → facts_named g.from.images ≡ facts_of A.images
-headers_agree A g h = go g.from.files h
+headers_agree A g h = go g.from.files A.images h.0
   where
-    go : (o : Option (List NamedFile)) → AreImages g.from.images o A.images → facts_named g.from.images ≡ facts_of A.images
-    go None x = absurd x
-    go (Some files) x = loaded_facts g.from.images files A.images x
+    go : (o : Option (List NamedFile)) (images : List NamedImage) → AreImages g.from.images o images → facts_named g.from.images ≡ facts_of images
+    go None images x = absurd x
+    go (Some files) images x = loaded_facts g.from.images files images x
 
 pub growth_counts : (A : Inputs) (s : State) (k : Kernel) (image : SwapImage) (pid : ℕ) (now : Bool) (p : Process) (x : Space) → At A s k image
     → IsRunning A s pid now p x

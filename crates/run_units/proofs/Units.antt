@@ -7,6 +7,8 @@ use Rattle.vm_facts.specs.declared.entry.Entry.TheVariants as entries
 use Rattle.vm_facts.specs.declared.page.Page.{Page}
 use Rattle.flat_state.specs.Flat.{Inputs}
 use Rattle.kernel_model.specs.Kernel.{Kernel, hand_step, plain_step}
+use Rattle.kernel_model.specs.Requests.{ImageFile, image_done}
+use Rattle.machine_state.specs.Sourced.{files_named}
 use Rattle.run_model.specs.State.{State}
 use Rattle.run_model.specs.Wanted.{locked}
 use Rattle.run_model.specs.After.{after}
@@ -22,7 +24,7 @@ use Rattle.run_units.specs.Serving.{At}
 -- One unit.
 
 pub one_made : (A : Inputs) (g : Ground) (s : State) (k l : Kernel) (image : SwapImage) (j : Option SwapImage) (u : Entry) → HasImages g A → KeepsLocked g A s u
-    → MadeBy g u k (Some image) l → ImageBy u k (Some image) j → MadeAs A s k image u l j
+    → MadeBy g u k (Some image) l → ImageBy (files_named g.from.images) u k (Some image) j → MadeAs A s k image u l j
 one_made A g s k l image j (entries.Zero q) f p m i = record { read = []; given = tt; made = m; told = i }
 one_made A g s k l image j (entries.Copy q) f p m i = record { read = []; given = tt; made = m; told = i }
 one_made A g s k l image j (entries.Get q lo n) f p m i = record { read = []; given = tt; made = m; told = i }
@@ -34,7 +36,12 @@ one_made A g s k l image j (entries.Hands n) f p m i = record {
   made = m.1 ∙ ap (λ (qs : List Page). hand_step k qs) p ∙ sym (ap (λ (x : ℕ). plain_step k (locked A s) (entries.Hands x)) m.0);
   told = i;
 }
-one_made A g s k l image j entries.Done f p m i = record { read = m.read; given = m.told A.images s.point.flat f; made = m.step; told = i }
+one_made A g s k l image j entries.Done f p m i = record {
+  read = m.read;
+  given = m.told A.images s.point.flat f.0;
+  made = m.step;
+  told = i ∙ ap (λ (files : List ImageFile). Some (image_done files k image)) f.1;
+}
 one_made A g s k l image j _ f p m i = absurd m
 
 -- Units in order.
@@ -44,11 +51,11 @@ none_leads A s k image = record { behind = image; told = refl; makes = (refl, re
 
 pub first_leads : (A : Inputs) (s t : State) (k next l : Kernel) (image : SwapImage) (i j : Option SwapImage) (u : Entry) (us : List Entry)
     → next_unit A s ≡ Some u → (m : MadeAs A s k image u next i)
-    → Leads A (after A s u) next (unit_swap k image u) us t l j → Leads A s k image (u ∷ us) t l j
+    → Leads A (after A s u) next (unit_swap A k image u) us t l j → Leads A s k image (u ∷ us) t l j
 first_leads A s t k next l image i j u us n m r = record {
   behind = r.behind;
   told = r.told;
-  makes = (n, (m.read, m.given, subst (λ (x : Kernel). MakesSwap A (after A s u) x (unit_swap k image u) us t l r.behind) m.made r.makes));
+  makes = (n, (m.read, m.given, subst (λ (x : Kernel). MakesSwap A (after A s u) x (unit_swap A k image u) us t l r.behind) m.made r.makes));
 }
 
 makes_append : (A : Inputs) (s t r : State) (k l m : Kernel) (a b c : SwapImage) (us vs : List Entry) → MakesSwap A s k a us t l b → MakesSwap A t l b vs r m c
@@ -57,7 +64,7 @@ makes_append A s t r k l m a b c [] vs x y =
     subst (λ (z : State). MakesSwap A z k a vs r m c) (sym x.0)
     (subst (λ (z : Kernel). MakesSwap A t z a vs r m c) (sym x.1) (subst (λ (z : SwapImage). MakesSwap A t l z vs r m c) (sym x.2) y))
 makes_append A s t r k l m a b c (u ∷ us) vs x y =
-    (x.0, (x.1.0, x.1.1, makes_append A (after A s u) t r (unit_step A s k a.bytes x.1.0 u) l m (unit_swap k a u) b c us vs x.1.2 y))
+    (x.0, (x.1.0, x.1.1, makes_append A (after A s u) t r (unit_step A s k a.bytes x.1.0 u) l m (unit_swap A k a u) b c us vs x.1.2 y))
 
 pub both_lead : (A : Inputs) (s t r : State) (k l m : Kernel) (image : SwapImage) (i j : Option SwapImage) (us vs : List Entry) → Leads A s k image us t l i
     → ((between : SwapImage) → i ≡ Some between → Leads A t l between vs r m j) → Leads A s k image (us ++ vs) r m j

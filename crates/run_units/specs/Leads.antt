@@ -5,7 +5,7 @@ use Rattle.vm_facts.specs.declared.entry.Entry.{Entry}
 use Rattle.vm_facts.specs.declared.entry.Entry.TheVariants as entries
 use Rattle.flat_state.specs.Flat.{Inputs}
 use Rattle.kernel_model.specs.Kernel.{Kernel}
-use Rattle.machine_state.specs.Files.{AreImages}
+use Rattle.machine_state.specs.Files.{AreRunImages}
 use Rattle.run_model.specs.State.{State}
 use Rattle.run_model.specs.Wanted.{locked}
 use Rattle.economy_laws.specs.Machine.{unit_step, unit_swap, IsGiven, MakesSwap}
@@ -13,7 +13,7 @@ use Rattle.fault_fill.specs.Made.{Ground}
 
 -- the files, where they are told, hold the images of the run
 abbrev pub HasImages : Ground → Inputs → Type 0
-HasImages g A = AreImages g.from.images g.from.files A.images
+HasImages g A = AreRunImages g.from.images g.from.files A
 
 -- a move of the hands passes over the pages that the run keeps; other units pass over none
 abbrev pub KeepsLocked : Ground → Inputs → State → Entry → Type 0
@@ -25,7 +25,7 @@ pub record MadeAs (A : Inputs) (s : State) (k : Kernel) (image : SwapImage) (u :
   pub read : List (List ℕ)
   pub given : IsGiven A s k image.bytes read u
   pub made : l ≡ unit_step A s k image.bytes read u
-  pub told : j ≡ Some (unit_swap k image u)
+  pub told : j ≡ Some (unit_swap A k image u)
 
 -- Next units of the run lead from a state, with a kernel and a swap image, to another; the swap image is told then too.
 pub record Leads (A : Inputs) (s : State) (k : Kernel) (image : SwapImage) (us : List Entry) (t : State) (l : Kernel) (j : Option SwapImage) : Type 0 where

@@ -3,6 +3,7 @@ ghost use Rattle.vm_facts.specs.SwapImages.{SwapImage};
 ghost use Rattle.vm_facts.specs.declared.entry.Entry.{Entry};
 ghost use Rattle.flat_state.specs.Flat.{Inputs};
 ghost use Rattle.kernel_model.specs.Kernel.{Kernel};
+ghost use Rattle.machine_state.specs.Sourced.{files_named};
 ghost use Rattle.run_model.specs.State.{State};
 ghost use Rattle.fault_fill.specs.Made.{Ground, MadeBy, ImageBy};
 ghost use Rattle.run_units.specs.Leads.{HasImages, KeepsLocked, MadeAs, Leads};
@@ -20,7 +21,8 @@ ghost use Rattle.run_units.specs.Serving.{At, ServingIsNext, ServedNext};
 /// and a machine that stood at a state of the run stands at the one to which its units lead.
 pub fn units_are_next()
     ensures one { (A : Inputs) (g : Ground) (s : State) (k l : Kernel) (image : SwapImage) (j : Option SwapImage) (u : Entry)
-        → HasImages g A → KeepsLocked g A s u → MadeBy g u k (Some image) l → ImageBy u k (Some image) j → MadeAs A s k image u l j }
+        → HasImages g A → KeepsLocked g A s u → MadeBy g u k (Some image) l → ImageBy (files_named g.from.images) u k (Some image) j → MadeAs A s k image u l
+        j }
     ensures parts { (A : Inputs) (s t r : State) (k l m : Kernel) (image : SwapImage) (i j : Option SwapImage) (us vs : List Entry)
         → Leads A s k image us t l i → ((between : SwapImage) → i ≡ Some between → Leads A t l between vs r m j)
         → Leads A s k image (us ++ vs) r m j }

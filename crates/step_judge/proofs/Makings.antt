@@ -11,6 +11,8 @@ use Rattle.flat_state.specs.Flat.{Inputs}
 use Rattle.flat_state.specs.Journal.{join, append, appended, IsPlain}
 use Rattle.kernel_model.specs.Kernel.{Kernel}
 use Rattle.flat_model.specs.Run.{process_of_entry}
+use Rattle.kernel_model.specs.Requests.{ImageFile}
+use Rattle.machine_state.specs.Sourced.{files_named}
 use Rattle.machine_state.specs.Going.{CanGoOn, IsRunning}
 use Rattle.machine_state.specs.Machine.{Standing}
 use Rattle.step_units.specs.Sizes.{KeptAtStop}
@@ -110,10 +112,10 @@ module _ (A : Inputs) (s : State) (pid : ℕ) (k l : Kernel) (image : SwapImage)
       go (Steps f g z) = own_here u (steps_own A s.point pid u z) x
 
 -- where a journal is full the swap image is as it was
-full_spoils : (u : Entry) (k : Kernel) (i j : Option SwapImage) → SpoilsBy u stops.JournalFull k i j → j ≡ i
-full_spoils entries.Done k i j h = h
-full_spoils (entries.SwapOut pid) k i j h = h
-full_spoils _ k i j h = h
+full_spoils : (files : List ImageFile) (u : Entry) (k : Kernel) (i j : Option SwapImage) → SpoilsBy files u stops.JournalFull k i j → j ≡ i
+full_spoils files entries.Done k i j h = h
+full_spoils files (entries.SwapOut pid) k i j h = h
+full_spoils files _ k i j h = h
 
 -- One unit.
 
@@ -219,7 +221,7 @@ module _ (m : Standing) (n : ℕ) (b : Option Begun) (holds : Option (List Named
 
     led : Leads A v m.kernel image y.units y.state new.kernel j
     led =
-        subst (λ (o : Option SwapImage). Leads A v m.kernel image y.units y.state new.kernel o) (sym (full_spoils next.entry y.kernel (Some y.behind) j next.spoils))
+        subst (λ (o : Option SwapImage). Leads A v m.kernel image y.units y.state new.kernel o) (sym (full_spoils (files_named new.images) next.entry y.kernel (Some y.behind) j next.spoils))
         (subst (λ (k : Kernel). Leads A v m.kernel image y.units y.state k (Some y.behind)) (sym y.held.kernel) y.leads)
 
     -- not before the first unit

@@ -5,7 +5,7 @@ use Rattle.vm_facts.specs.declared.entry.Entry.TheVariants as entries
 use Rattle.io_edge.specs.FileHolding.{NamedFile}
 use Rattle.flat_state.specs.Flat.{Inputs, can_step}
 use Rattle.kernel_model.specs.Start.{ImagesFit}
-use Rattle.machine_state.specs.Files.{AreImages}
+use Rattle.machine_state.specs.Files.{AreRunImages}
 use Rattle.machine_state.specs.Machine.{Standing}
 use Rattle.step_units.specs.Reading.{AreNamed}
 use Rattle.run_model.specs.State.{State}
@@ -25,7 +25,7 @@ pub record JudgedAt (m : Standing) (counted : ℕ) (b : Option Begun) (holds : O
   pub fit : ImagesFit A.images
   pub paged : IsPaged A s
   pub stands : StandsAt A s m.kernel image.bytes
-  pub images : AreImages m.images holds A.images
+  pub images : AreRunImages m.images holds A
   pub named : AreNamed A.images m.images
   pub blocks : m.params.swap_blocks ≡ A.swap_blocks
   pub told : i ≡ Some image

@@ -1,4 +1,5 @@
 //! The machine makes what a process does next, with room for one entry.
+ghost use Rattle.io_edge.specs.WithFiles.{stores};
 ghost use Rattle.std.specs.Prelude.{◌≡◌, ◌+◌, ◌<◌, ◌≤◌, length, Some, None, OnOk};
 ghost use Rattle.flat_state.specs.Journal.{instructions_of};
 ghost use Rattle.machine_state.specs.Files.{AreFiles};
@@ -27,11 +28,11 @@ pub fn make_act<F: Files, D: SwapDev>(
     requires bound { m.old.params.journal ≡ length m.old.kernel.journal + 1 }
     requires counted { instructions_of m.old.kernel.journal ≡ counted }
     requires few { counted < 1000000 }
-    requires acts { AtSome (ActsAt m.old counted None (F.holds files.old) (D.image swap.old) pid) }
+    requires acts { AtSome (ActsAt m.old counted None (F.holds files.old) (stores F.Files D.SwapDev files.old swap.old) pid) }
     requires area { m.old.params.swap_blocks ≤ D.blocks swap.old }
     requires files { AreFiles m.old.images (F.holds files.old) }
-    ensures made { OnOk result (LeadsFrom (ActsAt m.old counted None (F.holds files.old) (D.image swap.old) pid)
-        (ActMade m.old.kernel m.new.kernel (D.image swap.new) pid)) }
+    ensures made { OnOk result (LeadsFrom (ActsAt m.old counted None (F.holds files.old) (stores F.Files D.SwapDev files.old swap.old) pid)
+        (ActMade m.old.kernel m.new.kernel (stores F.Files D.SwapDev files.new swap.new) pid)) }
     ensures on { OnOk result (GoesOnWith m.old m.new) }
     ensures holds { F.holds files.new ≡ F.holds files.old }
     ensures blocks { D.blocks swap.new ≡ D.blocks swap.old }
@@ -68,11 +69,11 @@ pub fn make_rest<F: Files, D: SwapDev>(
 ) -> Result<(), NoMemory>
     requires steady { IsSteady m.old }
     requires bound { m.old.params.journal ≡ length m.old.kernel.journal + 1 }
-    requires acts { AtSome (ActsAt m.old _counted (Some begun) (F.holds files.old) (D.image swap.old) _pid) }
+    requires acts { AtSome (ActsAt m.old _counted (Some begun) (F.holds files.old) (stores F.Files D.SwapDev files.old swap.old) _pid) }
     requires area { m.old.params.swap_blocks ≤ D.blocks swap.old }
     requires files { AreFiles m.old.images (F.holds files.old) }
-    ensures made { OnOk result (LeadsFrom (ActsAt m.old _counted (Some begun) (F.holds files.old) (D.image swap.old) _pid)
-        (ActMade m.old.kernel m.new.kernel (D.image swap.new) _pid)) }
+    ensures made { OnOk result (LeadsFrom (ActsAt m.old _counted (Some begun) (F.holds files.old) (stores F.Files D.SwapDev files.old swap.old) _pid)
+        (ActMade m.old.kernel m.new.kernel (stores F.Files D.SwapDev files.new swap.new) _pid)) }
     ensures on { OnOk result (GoesOnWith m.old m.new) }
     ensures holds { F.holds files.new ≡ F.holds files.old }
     ensures blocks { D.blocks swap.new ≡ D.blocks swap.old }

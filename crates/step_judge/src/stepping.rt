@@ -1,4 +1,5 @@
 //! What a process does next, in the place of a line.
+ghost use Rattle.io_edge.specs.WithFiles.{stores};
 ghost use Rattle.std.specs.Prelude.{◌≡◌, ◌≢◌, ◌↔◌, ◌+◌, ◌≤◌, true, false, length, Some, None, IfOk, OnOk};
 ghost use Rattle.vm_facts.specs.declared.entry.Entry.TheVariants as entries;
 ghost use Rattle.user_vax.specs.Program.{run};
@@ -75,11 +76,11 @@ fn act_told<F: Files, D: SwapDev>(
     requires low { last_moves m.old.kernel.journal ≤ 1000000 }
     requires bound { m.old.params.journal ≡ length m.old.kernel.journal + 1 }
     requires counted { instructions_of m.old.kernel.journal ≡ counted }
-    requires acts { AtSome (ActsAt m.old counted None (F.holds files.old) (D.image swap.old) pid) }
+    requires acts { AtSome (ActsAt m.old counted None (F.holds files.old) (stores F.Files D.SwapDev files.old swap.old) pid) }
     requires area { m.old.params.swap_blocks ≤ D.blocks swap.old }
     requires files { AreFiles m.old.images (F.holds files.old) }
-    ensures told { IfOk result (λ reason. LeadsFrom (ActsAt m.old counted None (F.holds files.old) (D.image swap.old) pid)
-        (ActTold reason e.now pid m.old.kernel m.new.kernel (D.image swap.new))) }
+    ensures told { IfOk result (λ reason. LeadsFrom (ActsAt m.old counted None (F.holds files.old) (stores F.Files D.SwapDev files.old swap.old) pid)
+        (ActTold reason e.now pid m.old.kernel m.new.kernel (stores F.Files D.SwapDev files.new swap.new))) }
     ensures on { IfOk result (λ reason. reason ≡ None → GoesOnWith m.old m.new) }
     ensures holds { F.holds files.new ≡ F.holds files.old }
     ensures blocks { D.blocks swap.new ≡ D.blocks swap.old }
@@ -102,11 +103,11 @@ fn rest_told<F: Files, D: SwapDev>(
     requires ready { CanGoOn m.old }
     requires low { last_moves m.old.kernel.journal ≤ 1000000 }
     requires bound { m.old.params.journal ≡ length m.old.kernel.journal + 1 }
-    requires acts { AtSome (ActsAt m.old counted (Some begun) (F.holds files.old) (D.image swap.old) pid) }
+    requires acts { AtSome (ActsAt m.old counted (Some begun) (F.holds files.old) (stores F.Files D.SwapDev files.old swap.old) pid) }
     requires area { m.old.params.swap_blocks ≤ D.blocks swap.old }
     requires files { AreFiles m.old.images (F.holds files.old) }
-    ensures told { IfOk result (λ reason. LeadsFrom (ActsAt m.old counted (Some begun) (F.holds files.old) (D.image swap.old) pid)
-        (ActTold reason e.now pid m.old.kernel m.new.kernel (D.image swap.new))) }
+    ensures told { IfOk result (λ reason. LeadsFrom (ActsAt m.old counted (Some begun) (F.holds files.old) (stores F.Files D.SwapDev files.old swap.old) pid)
+        (ActTold reason e.now pid m.old.kernel m.new.kernel (stores F.Files D.SwapDev files.new swap.new))) }
     ensures on { IfOk result (λ reason. reason ≡ None → GoesOnWith m.old m.new) }
     ensures holds { F.holds files.new ≡ F.holds files.old }
     ensures blocks { D.blocks swap.new ≡ D.blocks swap.old }
@@ -131,13 +132,13 @@ fn step_else<F: Files, D: SwapDev>(
     requires low { last_moves m.old.kernel.journal ≤ 1000000 }
     requires bound { m.old.params.journal ≡ length m.old.kernel.journal + 1 }
     requires counted { instructions_of m.old.kernel.journal ≡ counted }
-    requires may { AtSome (ReadyAt m.old counted None (F.holds files.old) (D.image swap.old) pid) }
+    requires may { AtSome (ReadyAt m.old counted None (F.holds files.old) (stores F.Files D.SwapDev files.old swap.old) pid) }
     requires registers { regs.now ≡ regs_of m.old.kernel pid }
     requires other { answer_of (run (own_answers m.old pid) (instruction regs.now)) ≢ Stepped.Done }
     requires area { m.old.params.swap_blocks ≤ D.blocks swap.old }
     requires files { AreFiles m.old.images (F.holds files.old) }
-    ensures told { IfOk result (λ reason. LeadsFrom (ReadyAt m.old counted None (F.holds files.old) (D.image swap.old) pid)
-        (LeftTold reason e.now pid m.old.kernel m.new.kernel (D.image swap.new))) }
+    ensures told { IfOk result (λ reason. LeadsFrom (ReadyAt m.old counted None (F.holds files.old) (stores F.Files D.SwapDev files.old swap.old) pid)
+        (LeftTold reason e.now pid m.old.kernel m.new.kernel (stores F.Files D.SwapDev files.new swap.new))) }
     ensures on { IfOk result (λ reason. reason ≡ None → GoesOnWith m.old m.new) }
     ensures holds { F.holds files.new ≡ F.holds files.old }
     ensures blocks { D.blocks swap.new ≡ D.blocks swap.old }
@@ -165,13 +166,13 @@ fn step_ran<F: Files, D: SwapDev>(
     requires low { last_moves m.old.kernel.journal ≤ 1000000 }
     requires bound { m.old.params.journal ≡ length m.old.kernel.journal + 1 }
     requires counted { instructions_of m.old.kernel.journal ≡ counted }
-    requires may { AtSome (ReadyAt m.old counted None (F.holds files.old) (D.image swap.old) pid) }
+    requires may { AtSome (ReadyAt m.old counted None (F.holds files.old) (stores F.Files D.SwapDev files.old swap.old) pid) }
     requires registers { regs.now ≡ regs_of m.old.kernel pid }
     requires ran { e.now ≡ entries.Ran pid 1 }
     requires area { m.old.params.swap_blocks ≤ D.blocks swap.old }
     requires files { AreFiles m.old.images (F.holds files.old) }
-    ensures told { IfOk result (λ reason. LeadsFrom (ReadyAt m.old counted None (F.holds files.old) (D.image swap.old) pid)
-        (LeftTold reason e.now pid m.old.kernel m.new.kernel (D.image swap.new))) }
+    ensures told { IfOk result (λ reason. LeadsFrom (ReadyAt m.old counted None (F.holds files.old) (stores F.Files D.SwapDev files.old swap.old) pid)
+        (LeftTold reason e.now pid m.old.kernel m.new.kernel (stores F.Files D.SwapDev files.new swap.new))) }
     ensures on { IfOk result (λ reason. reason ≡ None → GoesOnWith m.old m.new) }
     ensures holds { F.holds files.new ≡ F.holds files.old }
     ensures blocks { D.blocks swap.new ≡ D.blocks swap.old }
@@ -203,13 +204,13 @@ fn step_other<F: Files, D: SwapDev>(
     requires low { last_moves m.old.kernel.journal ≤ 1000000 }
     requires bound { m.old.params.journal ≡ length m.old.kernel.journal + 1 }
     requires counted { instructions_of m.old.kernel.journal ≡ counted }
-    requires may { AtSome (ReadyAt m.old counted None (F.holds files.old) (D.image swap.old) pid) }
+    requires may { AtSome (ReadyAt m.old counted None (F.holds files.old) (stores F.Files D.SwapDev files.old swap.old) pid) }
     requires registers { regs.now ≡ regs_of m.old.kernel pid }
     requires other { is_ran e.now ≡ false }
     requires area { m.old.params.swap_blocks ≤ D.blocks swap.old }
     requires files { AreFiles m.old.images (F.holds files.old) }
-    ensures told { IfOk result (λ reason. LeadsFrom (ReadyAt m.old counted None (F.holds files.old) (D.image swap.old) pid)
-        (LeftTold reason e.now pid m.old.kernel m.new.kernel (D.image swap.new))) }
+    ensures told { IfOk result (λ reason. LeadsFrom (ReadyAt m.old counted None (F.holds files.old) (stores F.Files D.SwapDev files.old swap.old) pid)
+        (LeftTold reason e.now pid m.old.kernel m.new.kernel (stores F.Files D.SwapDev files.new swap.new))) }
     ensures on { IfOk result (λ reason. reason ≡ None → GoesOnWith m.old m.new) }
     ensures holds { F.holds files.new ≡ F.holds files.old }
     ensures blocks { D.blocks swap.new ≡ D.blocks swap.old }
@@ -237,14 +238,14 @@ fn step_anew<F: Files, D: SwapDev>(
     requires low { last_moves m.old.kernel.journal ≤ 1000000 }
     requires bound { m.old.params.journal ≡ length m.old.kernel.journal + 1 }
     requires counted { instructions_of m.old.kernel.journal ≡ counted }
-    requires may { AtSome (ReadyAt m.old counted None (F.holds files.old) (D.image swap.old) pid) }
+    requires may { AtSome (ReadyAt m.old counted None (F.holds files.old) (stores F.Files D.SwapDev files.old swap.old) pid) }
     requires registers { regs.now ≡ regs_of m.old.kernel pid }
     requires own { process_of_entry e.now ≡ Some pid }
     requires unit { IsUnit e.now }
     requires area { m.old.params.swap_blocks ≤ D.blocks swap.old }
     requires files { AreFiles m.old.images (F.holds files.old) }
-    ensures told { IfOk result (λ reason. LeadsFrom (ReadyAt m.old counted None (F.holds files.old) (D.image swap.old) pid)
-        (LeftTold reason e.now pid m.old.kernel m.new.kernel (D.image swap.new))) }
+    ensures told { IfOk result (λ reason. LeadsFrom (ReadyAt m.old counted None (F.holds files.old) (stores F.Files D.SwapDev files.old swap.old) pid)
+        (LeftTold reason e.now pid m.old.kernel m.new.kernel (stores F.Files D.SwapDev files.new swap.new))) }
     ensures on { IfOk result (λ reason. reason ≡ None → GoesOnWith m.old m.new) }
     ensures holds { F.holds files.new ≡ F.holds files.old }
     ensures blocks { D.blocks swap.new ≡ D.blocks swap.old }
@@ -270,11 +271,11 @@ fn step_on<F: Files, D: SwapDev>(
     requires ready { CanGoOn m.old }
     requires low { last_moves m.old.kernel.journal ≤ 1000000 }
     requires bound { m.old.params.journal ≡ length m.old.kernel.journal + 1 }
-    requires may { AtSome (ReadyAt m.old counted (Some begun) (F.holds files.old) (D.image swap.old) pid) }
+    requires may { AtSome (ReadyAt m.old counted (Some begun) (F.holds files.old) (stores F.Files D.SwapDev files.old swap.old) pid) }
     requires area { m.old.params.swap_blocks ≤ D.blocks swap.old }
     requires files { AreFiles m.old.images (F.holds files.old) }
-    ensures told { IfOk result (λ reason. LeadsFrom (ReadyAt m.old counted (Some begun) (F.holds files.old) (D.image swap.old) pid)
-        (LeftTold reason e.now pid m.old.kernel m.new.kernel (D.image swap.new))) }
+    ensures told { IfOk result (λ reason. LeadsFrom (ReadyAt m.old counted (Some begun) (F.holds files.old) (stores F.Files D.SwapDev files.old swap.old) pid)
+        (LeftTold reason e.now pid m.old.kernel m.new.kernel (stores F.Files D.SwapDev files.new swap.new))) }
     ensures on { IfOk result (λ reason. reason ≡ None → GoesOnWith m.old m.new) }
     ensures holds { F.holds files.new ≡ F.holds files.old }
     ensures blocks { D.blocks swap.new ≡ D.blocks swap.old }
@@ -299,14 +300,14 @@ fn step_in<F: Files, D: SwapDev>(
     requires low { last_moves m.old.kernel.journal ≤ 1000000 }
     requires bound { m.old.params.journal ≡ length m.old.kernel.journal + 1 }
     requires counted { instructions_of m.old.kernel.journal ≡ counted }
-    requires may { AtSome (ReadyAt m.old counted begun (F.holds files.old) (D.image swap.old) pid) }
+    requires may { AtSome (ReadyAt m.old counted begun (F.holds files.old) (stores F.Files D.SwapDev files.old swap.old) pid) }
     requires registers { regs.now ≡ regs_of m.old.kernel pid }
     requires own { process_of_entry e.now ≡ Some pid }
     requires unit { IsUnit e.now }
     requires area { m.old.params.swap_blocks ≤ D.blocks swap.old }
     requires files { AreFiles m.old.images (F.holds files.old) }
-    ensures told { IfOk result (λ reason. LeadsFrom (ReadyAt m.old counted begun (F.holds files.old) (D.image swap.old) pid)
-        (LeftTold reason e.now pid m.old.kernel m.new.kernel (D.image swap.new))) }
+    ensures told { IfOk result (λ reason. LeadsFrom (ReadyAt m.old counted begun (F.holds files.old) (stores F.Files D.SwapDev files.old swap.old) pid)
+        (LeftTold reason e.now pid m.old.kernel m.new.kernel (stores F.Files D.SwapDev files.new swap.new))) }
     ensures on { IfOk result (λ reason. reason ≡ None → GoesOnWith m.old m.new) }
     ensures holds { F.holds files.new ≡ F.holds files.old }
     ensures blocks { D.blocks swap.new ≡ D.blocks swap.old }
@@ -333,13 +334,13 @@ fn step_ready<F: Files, D: SwapDev>(
     requires low { last_moves m.old.kernel.journal ≤ 1000000 }
     requires bound { m.old.params.journal ≡ length m.old.kernel.journal + 1 }
     requires counted { instructions_of m.old.kernel.journal ≡ counted }
-    requires soon { AtSome (SoonAt m.old counted begun (F.holds files.old) (D.image swap.old) pid) }
+    requires soon { AtSome (SoonAt m.old counted begun (F.holds files.old) (stores F.Files D.SwapDev files.old swap.old) pid) }
     requires own { process_of_entry e.now ≡ Some pid }
     requires unit { IsUnit e.now }
     requires area { m.old.params.swap_blocks ≤ D.blocks swap.old }
     requires files { AreFiles m.old.images (F.holds files.old) }
-    ensures told { IfOk result (λ reason. LeadsFrom (SoonAt m.old counted begun (F.holds files.old) (D.image swap.old) pid)
-        (InTold reason e.now pid m.old.kernel m.new.kernel (D.image swap.new))) }
+    ensures told { IfOk result (λ reason. LeadsFrom (SoonAt m.old counted begun (F.holds files.old) (stores F.Files D.SwapDev files.old swap.old) pid)
+        (InTold reason e.now pid m.old.kernel m.new.kernel (stores F.Files D.SwapDev files.new swap.new))) }
     ensures on { IfOk result (λ reason. reason ≡ None → GoesOnWith m.old m.new) }
     ensures holds { F.holds files.new ≡ F.holds files.old }
     ensures blocks { D.blocks swap.new ≡ D.blocks swap.old }
@@ -367,13 +368,13 @@ pub fn judge_step<F: Files, D: SwapDev>(
     requires low { last_moves m.old.kernel.journal ≤ 1000000 }
     requires bound { m.old.params.journal ≡ length m.old.kernel.journal + 1 }
     requires counted { instructions_of m.old.kernel.journal ≡ counted }
-    requires at { AtSome (JudgedAt m.old counted begun (F.holds files.old) (D.image swap.old)) }
+    requires at { AtSome (JudgedAt m.old counted begun (F.holds files.old) (stores F.Files D.SwapDev files.old swap.old)) }
     requires own { process_of_entry e.now ≡ Some pid }
     requires unit { IsUnit e.now }
     requires area { m.old.params.swap_blocks ≤ D.blocks swap.old }
     requires files { AreFiles m.old.images (F.holds files.old) }
-    ensures told { IfOk result (λ reason. LeadsFrom (JudgedAt m.old counted begun (F.holds files.old) (D.image swap.old))
-        (StepTold reason e.now pid m.old.kernel m.new.kernel (D.image swap.new))) }
+    ensures told { IfOk result (λ reason. LeadsFrom (JudgedAt m.old counted begun (F.holds files.old) (stores F.Files D.SwapDev files.old swap.old))
+        (StepTold reason e.now pid m.old.kernel m.new.kernel (stores F.Files D.SwapDev files.new swap.new))) }
     ensures on { IfOk result (λ reason. reason ≡ None → GoesOnWith m.old m.new) }
     ensures holds { F.holds files.new ≡ F.holds files.old }
     ensures blocks { D.blocks swap.new ≡ D.blocks swap.old }

@@ -1,5 +1,5 @@
 -- What a line asks for but a turn of the swapper: the end of a transfer, moves of the hands, numbers.
-use Rattle.std.proofs.Common.{◌≡◌, ℕ, ◌-◌, ◌<◌, ◌≤◌, List, [], ◌∷◌, length, Option, Some, refl, sym, ap, ◌∙◌, subst, arith}
+use Rattle.std.proofs.Common.{◌≡◌, ℕ, ◌-◌, ◌<◌, ◌≤◌, List, [], ◌∷◌, length, Option, Some, refl, sym, ap, ◌∙◌, subst, Result, Err, arith}
 use Rattle.vm_facts.specs.SwapImages.{SwapImage}
 use Rattle.vm_facts.specs.declared.entry.Entry.{Entry}
 use Rattle.vm_facts.specs.declared.entry.Entry.TheVariants as entries
@@ -10,8 +10,10 @@ use Rattle.page_model.specs.Placement.{Placement, Transfer}
 use Rattle.page_model.specs.Hands.{wants_moves}
 use Rattle.page_laws.proofs.Moves.Stays.{done_steady}
 use Rattle.kernel_model.specs.Kernel.{Kernel, note_step}
+use Rattle.kernel_model.specs.Requests.{ImageFile, image_done}
 use Rattle.machine_state.specs.Machine.{Standing}
-use Rattle.machine_state.specs.Done.{sources, IsDone, ImageAfter, StopsEnding}
+use Rattle.machine_state.specs.Sourced.{ImageNamed, files_named}
+use Rattle.machine_state.specs.Done.{sources, IsDone, ImageAfter, SwapAfter, StopsEnding}
 use Rattle.swapper.proofs.Stopping.{ending_left}
 use Rattle.swapper.specs.Made.{ground}
 use Rattle.swapper.specs.Stops.{StopsAt, StopsBefore}
@@ -48,7 +50,7 @@ idle_ends A s c m e = record { clear = c.clear; between = c.between; over = ap (
 pub interrupt_made : (A : Inputs) (s : State) (old : Standing) (l : Kernel) (holds : Option (List NamedFile)) (image : SwapImage) (j : Option SwapImage)
     → MachineAt A s old holds image → IsClear s
     → s.mark ≡ interrupt_mark s.place.transfers → 0 < length s.place.transfers → IsDone (sources old holds) (Some image) old.kernel l
-    → ImageAfter old.kernel (Some image) j
+    → ImageAfter (files_named old.images) old.kernel (Some image) j
     → LineLeads A s old.kernel image l j
 unfolding after
 interrupt_made A s old l holds image j at c m n d i =
@@ -58,7 +60,8 @@ interrupt_made A s old l holds image j at c m n d i =
     record {
       units = u ∷ [];
       state = after A s u;
-      leads = subst (λ (o : Option SwapImage). Leads A s old.kernel image (u ∷ []) (after A s u) l o) (sym i)
+      leads = subst (λ (o : Option SwapImage). Leads A s old.kernel image (u ∷ []) (after A s u) l o)
+          (sym (i ∙ ap (λ (files : List ImageFile). Some (image_done files old.kernel image)) at.images.1))
           (one_leads A s old.kernel l image j u next (one_made A (ground old holds []) s old.kernel l image j u at.images tt d i));
       over = record { clear = (done_steady s.place at.at.run.placed.sound.owner.frames).due ∙ c.clear; between = c.between; over = ap (under A (after A s u)) (ap completed is) };
       point = refl;
@@ -84,7 +87,7 @@ interrupt_stops A s old new holds image j stop at c m n x = record {
     next = (line_asks A s c.clear).1 (interrupts s m n);
     full = λ is. (subst (λ (k : ℕ). k ≤ length old.kernel.journal) (sym (ap (λ p. p.journal) x.stopped.params)) (x.full.0 is).1, one_longer old.kernel.journal entries.Done);
     cause = x.cause;
-    spoils = x.image;
+    spoils = subst (λ (ns : List ImageNamed). SwapAfter (Err stop) (files_named ns) old.kernel (Some image) j) (sym x.stopped.images) x.image;
   });
 }
 

@@ -27,8 +27,8 @@ use Rattle.step_units.proofs.Stopping.{note_stops}
 -- one unit leads to the state after it
 pub one_leads : (A : Inputs) (s : State) (k l : Kernel) (image : SwapImage) (j : Option SwapImage) (u : Entry) → next_unit A s ≡ Some u
     → MadeAs A s k image u l j
-    → Leads A s k image (u ∷ []) (after A s u) l (Some (unit_swap k image u))
-one_leads A s k l image j u n m = first_leads A s (after A s u) k l l image j (Some (unit_swap k image u)) u [] n m (none_leads A (after A s u) l (unit_swap k image u))
+    → Leads A s k image (u ∷ []) (after A s u) l (Some (unit_swap A k image u))
+one_leads A s k l image j u n m = first_leads A s (after A s u) k l l image j (Some (unit_swap A k image u)) u [] n m (none_leads A (after A s u) l (unit_swap A k image u))
 
 next_line : (A : Inputs) (s : State) (e : Event) → IsOver A s → s.count < A.limit → slice_get A.lines s.lines ≡ Some e
     → next_unit A s ≡ Some (entries.Event (s.lines + 1))

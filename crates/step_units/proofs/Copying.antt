@@ -13,7 +13,7 @@ use Rattle.page_model.specs.Serve.{serve_unit}
 use Rattle.kernel_model.specs.Kernel.{copy_step}
 use Rattle.machine_state.specs.Machine.{Standing}
 use Rattle.machine_state.specs.Sourced.{ImageNamed}
-use Rattle.machine_state.specs.Files.{AreImages}
+use Rattle.machine_state.specs.Files.{AreRunImages}
 use Rattle.swapper.specs.Made.{ground}
 use Rattle.swapper.specs.Stops.{StopsAt}
 use Rattle.proc_calls.specs.Forced.{Forced}
@@ -40,14 +40,14 @@ record Brought (A : Inputs) (s : State) (m served : Standing) (holds : Option (L
   pub units : List Entry
   pub led : LeadsDue A s m.kernel image units served.kernel i
   pub at : At A led.state served.kernel led.leads.behind
-  pub images : AreImages served.images holds A.images
+  pub images : AreRunImages served.images holds A
   pub due : led.state.place.due ≡ CopyOf child parent ∷ ds
   pub first : FillsFirst led.state.place led.state.place.due (entries.Copy child) (parent ∷ [])
 
 brought : (A : Inputs) (s : State) (m served : Standing) (holds : Option (List NamedFile)) (image : SwapImage) (i : Option SwapImage)
     (child parent : Page) (ds : List Due)
     → At A s m.kernel image
-    → AreImages m.images holds A.images → s.place.due ≡ CopyOf child parent ∷ ds → ServesNow (parent ∷ []) parent m served holds (Some image) i
+    → AreRunImages m.images holds A → s.place.due ≡ CopyOf child parent ∷ ds → ServesNow (parent ∷ []) parent m served holds (Some image) i
     → Brought A s m served holds image i child parent ds
 brought A s m served holds image i child parent ds at images d serves =
     let us : List Entry = serves.0.units in
@@ -59,7 +59,7 @@ brought A s m served holds image i child parent ds at images d serves =
       units = us;
       led = led;
       at = there;
-      images = subst (λ (ns : List ImageNamed). AreImages ns holds A.images) (sym serves.0.makes.beside.images) images;
+      images = subst (λ (ns : List ImageNamed). AreRunImages ns holds A) (sym serves.0.makes.beside.images) images;
       due = led.due ∙ d;
       first = subst (λ (l : List Due). FillsFirst led.state.place l (entries.Copy child) (parent ∷ [])) (sym (led.due ∙ d)) (refl, refl, valid);
     }
@@ -67,16 +67,16 @@ brought A s m served holds image i child parent ds at images d serves =
 -- One page.
 
 copied_images : (A : Inputs) (old new : Standing) (holds : Option (List NamedFile)) (i j : Option SwapImage) (child parent : Page)
-    → AreImages old.images holds A.images
-    → CopiesPage child parent old new holds i j → AreImages new.images holds A.images
+    → AreRunImages old.images holds A
+    → CopiesPage child parent old new holds i j → AreRunImages new.images holds A
 copied_images A old new holds i j child parent images c =
-    subst (λ (ns : List ImageNamed). AreImages ns holds A.images)
+    subst (λ (ns : List ImageNamed). AreRunImages ns holds A)
     (sym (ap (λ (m : Standing). m.images) c.copies ∙ c.forces.makes.beside.images ∙ c.serves.0.makes.beside.images)) images
 
 pub page_copied : (A : Inputs) (s : State) (old new : Standing) (holds : Option (List NamedFile)) (image : SwapImage) (j : Option SwapImage)
     (child parent : Page) (ds : List Due)
     → At A s old.kernel image
-    → AreImages old.images holds A.images → s.place.due ≡ CopyOf child parent ∷ ds → CopiesPage child parent old new holds (Some image) j
+    → AreRunImages old.images holds A → s.place.due ≡ CopyOf child parent ∷ ds → CopiesPage child parent old new holds (Some image) j
     → LeadsTo A s old.kernel image ds new.kernel j
 page_copied A s old new holds image j child parent ds at images d c =
     let b : Brought A s old c.served holds image c.behind child parent ds = brought A s old c.served holds image c.behind child parent ds at images d c.serves in
@@ -93,7 +93,7 @@ page_copied A s old new holds image j child parent ds at images d c =
 
 pub all_copied : (ds : List Due) (A : Inputs) (s : State) (old new : Standing) (holds : Option (List NamedFile)) (image : SwapImage) (j : Option SwapImage)
     → At A s old.kernel image
-    → AreImages old.images holds A.images → s.place.due ≡ ds → CopiesAll ds old new holds (Some image) j → LeadsTo A s old.kernel image [] new.kernel j
+    → AreRunImages old.images holds A → s.place.due ≡ ds → CopiesAll ds old new holds (Some image) j → LeadsTo A s old.kernel image [] new.kernel j
 all_copied [] A s old new holds image j at images d c =
     subst (λ (m : Standing). LeadsTo A s old.kernel image [] m.kernel j) (sym c.0)
     (subst (λ (o : Option SwapImage). LeadsTo A s old.kernel image [] old.kernel o) (sym c.1) (stays A s old.kernel image [] d))
@@ -113,7 +113,7 @@ all_copied (CopyOf child parent ∷ ds) A s old new holds image j at images d c 
 
 serving_stops : (A : Inputs) (s : State) (m new : Standing) (holds : Option (List NamedFile)) (image : SwapImage) (j : Option SwapImage) (child parent : Page)
     (ds : List Due) (stop : Stop)
-    → At A s m.kernel image → AreImages m.images holds A.images → s.place.due ≡ CopyOf child parent ∷ ds
+    → At A s m.kernel image → AreRunImages m.images holds A → s.place.due ≡ CopyOf child parent ∷ ds
     → StopsServing true (parent ∷ []) parent m new holds (Some image) j stop
     → StopLeads A s m.kernel image stop new j
 serving_stops A s m new holds image j child parent ds stop at images d h =
@@ -131,7 +131,7 @@ serving_stops A s m new holds image j child parent ds stop at images d h =
 behind_stops : (A : Inputs) (s : State) (old new : Standing) (holds : Option (List NamedFile)) (image : SwapImage) (told j : Option SwapImage)
     (child parent : Page)
     (ds : List Due) (stop : Stop)
-    → At A s old.kernel image → AreImages old.images holds A.images → s.place.due ≡ CopyOf child parent ∷ ds
+    → At A s old.kernel image → AreRunImages old.images holds A → s.place.due ≡ CopyOf child parent ∷ ds
     → StopsOnce (λ m. ServesNow (parent ∷ []) parent old m holds (Some image) told)
     (λ m. StopsFilling (entries.Copy child) (parent ∷ []) m new holds told j stop)
     → StopLeads A s old.kernel image stop new j
@@ -147,7 +147,7 @@ behind_stops A s old new holds image told j child parent ds stop at images d h =
 pub page_stops : (A : Inputs) (s : State) (old new : Standing) (holds : Option (List NamedFile)) (image : SwapImage) (j : Option SwapImage)
     (child parent : Page)
     (ds : List Due) (stop : Stop)
-    → At A s old.kernel image → AreImages old.images holds A.images → s.place.due ≡ CopyOf child parent ∷ ds
+    → At A s old.kernel image → AreRunImages old.images holds A → s.place.due ≡ CopyOf child parent ∷ ds
     → StopsPage child parent old new holds (Some image) j stop
     → StopLeads A s old.kernel image stop new j
 page_stops A s old new holds image j child parent ds stop at images d h = elim h [
@@ -158,7 +158,7 @@ page_stops A s old new holds image j child parent ds stop at images d h = elim h
 pub copying_stops : (ds : List Due) (A : Inputs) (s : State) (old new : Standing) (holds : Option (List NamedFile)) (image : SwapImage)
     (j : Option SwapImage) (stop : Stop)
     → At A s old.kernel image
-    → AreImages old.images holds A.images → s.place.due ≡ ds → StopsCopying ds old new holds (Some image) j stop → StopLeads A s old.kernel image stop new j
+    → AreRunImages old.images holds A → s.place.due ≡ ds → StopsCopying ds old new holds (Some image) j stop → StopLeads A s old.kernel image stop new j
 copying_stops [] A s old new holds image j stop at images d h = absurd h
 copying_stops (Start q ∷ ds) A s old new holds image j stop at images d h = absurd h
 copying_stops (CopyOf child parent ∷ ds) A s old new holds image j stop at images d h = elim h [

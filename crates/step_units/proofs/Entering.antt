@@ -60,7 +60,7 @@ pub entry_leads : (A : Inputs) (s : State) (k l : Kernel) (image : SwapImage) (p
 entry_leads A s k l image pid now e r w a m =
     let t : State = after A s e in
     subst (λ (o : Option SwapImage). Leads A s k image (e ∷ []) t l o) (sym m.told)
-    (first_leads A s t k l l image (Some image) (Some (unit_swap k image e)) e [] (runs_next A s pid now e r w a) m (none_leads A t l (unit_swap k image e)))
+    (first_leads A s t k l l image (Some image) (Some (unit_swap A k image e)) e [] (runs_next A s pid now e r w a) m (none_leads A t l (unit_swap A k image e)))
 
 between_ends : (pid : ℕ) (e : Entry) → EndsStep pid e → IsBetween (Some e)
 between_ends pid (entries.Refused q) c = absurd c

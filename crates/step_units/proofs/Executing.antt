@@ -7,7 +7,7 @@ use Rattle.vm_facts.specs.declared.stop.Stop.{Stop}
 use Rattle.flat_state.specs.Flat.{Inputs, Process, NamedImage}
 use Rattle.page_model.specs.Placement.{Due, Start}
 use Rattle.kernel_model.specs.Kernel.{Kernel}
-use Rattle.machine_state.specs.Files.{AreImages}
+use Rattle.machine_state.specs.Files.{AreRunImages}
 use Rattle.machine_state.specs.Machine.{Standing}
 use Rattle.proc_calls.specs.Filling.{FillsStart, StopsStart}
 use Rattle.run_model.specs.State.{State}
@@ -58,7 +58,7 @@ use Rattle.step_units.proofs.Leaving.{Left, has_left, stops_leaving, left_stops}
 start_first : (s : State) (page : Page) → s.place.due ≡ Start page ∷ [] → FillsFirst s.place s.place.due (entries.Zero page) []
 start_first s page e = subst (λ (ds : List Due). FillsFirst s.place ds (entries.Zero page) []) (sym e) (refl, refl)
 
-module _ (A : Inputs) (s : State) (m : Standing) (holds : Option (List NamedFile)) (image : SwapImage) (page : Page) (at : At A s m.kernel image) (images : AreImages m.images holds A.images)
+module _ (A : Inputs) (s : State) (m : Standing) (holds : Option (List NamedFile)) (image : SwapImage) (page : Page) (at : At A s m.kernel image) (images : AreRunImages m.images holds A)
     (first : s.place.due ≡ Start page ∷ []) where
   pub start_fills : (new : Standing) (j : Option SwapImage) → FillsStart page m new holds (Some image) j → LeadsTo A s m.kernel image [] new.kernel j
   start_fills new j h =

@@ -12,7 +12,7 @@ use Rattle.page_model.specs.Place.{due_after, place_entry}
 use Rattle.page_model.specs.Serve.{force_entry, Forces}
 use Rattle.kernel_model.specs.Kernel.{Kernel, zero_step, copy_step}
 use Rattle.machine_state.specs.Machine.{Standing}
-use Rattle.machine_state.specs.Files.{AreImages}
+use Rattle.machine_state.specs.Files.{AreRunImages}
 use Rattle.swapper.specs.Made.{ground, Made}
 use Rattle.swapper.specs.Stops.{StopsAt}
 use Rattle.proc_calls.specs.Forced.{Forced, StopsForcing}
@@ -78,9 +78,9 @@ fill_made : (A : Inputs) (s : State) (k : Kernel) (image : SwapImage) (d : Due) 
 fill_made A s k image (Start q) = record { read = []; given = tt; made = refl; told = refl }
 fill_made A s k image (CopyOf q parent) = record { read = []; given = tt; made = refl; told = refl }
 
-fill_image : (k : Kernel) (image : SwapImage) (d : Due) → unit_swap k image (fill_entry d) ≡ image
-fill_image k image (Start q) = refl
-fill_image k image (CopyOf q parent) = refl
+fill_image : (A : Inputs) (k : Kernel) (image : SwapImage) (d : Due) → unit_swap A k image (fill_entry d) ≡ image
+fill_image A k image (Start q) = refl
+fill_image A k image (CopyOf q parent) = refl
 
 fill_paged : (A : Inputs) (s : State) (d : Due) → IsFree s.mark → Paged A s (fill_entry d)
 fill_paged A s (Start q) f = paged A s (entries.Zero q) tt f
@@ -107,7 +107,7 @@ fill_leads A s k image d ds locked at e first free =
       units = u ∷ [];
       state = after A s u;
       leads = first_leads A s (after A s u) k (fill_step k d) (fill_step k d) image (Some image) (Some image) u [] next (fill_made A s k image d)
-          (subst (λ (x : SwapImage). Leads A (after A s u) (fill_step k d) x [] (after A s u) (fill_step k d) (Some image)) (sym (fill_image k image d))
+          (subst (λ (x : SwapImage). Leads A (after A s u) (fill_step k d) x [] (after A s u) (fill_step k d) (Some image)) (sym (fill_image A k image d))
           (none_leads A (after A s u) (fill_step k d) image));
       same = same.same;
       due = ap (λ (p : Placement). p.due) same.place ∙ fill_due (locked_now A s) (place_at s u) s.place d ∙ ap (λ (l : List Due). due_after l (due_page d)) e ∙ first_after d ds;
@@ -118,14 +118,14 @@ fill_leads A s k image d ds locked at e first free =
 -- what forcing led to
 forced_to : (A : Inputs) (s : State) (m : Standing) (l : Kernel) (holds : Option (List NamedFile)) (image : SwapImage) (j : Option SwapImage) (e : Entry)
     (locked : List Page) (us : List Entry)
-    → At A s m.kernel image → AreImages m.images holds A.images → FillsFirst s.place s.place.due e locked → Forces us m.kernel.place locked l.place
+    → At A s m.kernel image → AreRunImages m.images holds A → FillsFirst s.place s.place.due e locked → Forces us m.kernel.place locked l.place
     → Made (ground m holds locked) us m.kernel (Some image) l j
     → (led : LeadsDue A s m.kernel image us l j) × FillsFirst led.state.place led.state.place.due e locked
 forced_to A s m l holds image j e locked us at images first forces made = forcing A (ground m holds locked) s m.kernel l image j e us at images first forces made
 
 pub forced_fill : (A : Inputs) (s : State) (m roomy : Standing) (holds : Option (List NamedFile)) (image : SwapImage) (j : Option SwapImage) (d : Due)
     (ds : List Due) (locked : List Page)
-    → At A s m.kernel image → AreImages m.images holds A.images → s.place.due ≡ d ∷ ds → FillsFirst s.place s.place.due (fill_entry d) locked
+    → At A s m.kernel image → AreRunImages m.images holds A → s.place.due ≡ d ∷ ds → FillsFirst s.place s.place.due (fill_entry d) locked
     → Forced locked m roomy holds (Some image) j → LeadsTo A s m.kernel image ds (fill_step roomy.kernel d) j
 forced_fill A s m roomy holds image j d ds locked at images e first f =
     let to = forced_to A s m roomy.kernel holds image j (fill_entry d) locked f.units at images first f.forces f.makes.made in
@@ -140,7 +140,7 @@ forced_fill A s m roomy holds image j d ds locked at images e first f =
 
 forcing_stops : (A : Inputs) (s : State) (m new : Standing) (holds : Option (List NamedFile)) (image : SwapImage) (j : Option SwapImage) (e : Entry)
     (locked : List Page) (stop : Stop)
-    → At A s m.kernel image → AreImages m.images holds A.images → FillsFirst s.place s.place.due e locked → StopsForcing locked m stop new holds (Some image) j
+    → At A s m.kernel image → AreRunImages m.images holds A → FillsFirst s.place s.place.due e locked → StopsForcing locked m stop new holds (Some image) j
     → StopLeads A s m.kernel image stop new j
 forcing_stops A s m new holds image j e locked stop at images first h =
     let to = forced_to A s m h.at holds image h.image e locked h.units at images first h.leads.forces h.made in
@@ -156,7 +156,7 @@ forcing_stops A s m new holds image j e locked stop at images first h =
 
 fill_stops : (A : Inputs) (s : State) (m roomy new : Standing) (holds : Option (List NamedFile)) (image : SwapImage) (i j : Option SwapImage) (e : Entry)
     (locked : List Page) (stop : Stop)
-    → At A s m.kernel image → AreImages m.images holds A.images → FillsFirst s.place s.place.due e locked → Forced locked m roomy holds (Some image) i
+    → At A s m.kernel image → AreRunImages m.images holds A → FillsFirst s.place s.place.due e locked → Forced locked m roomy holds (Some image) i
     → StopsAt e roomy.kernel i stop new j → StopLeads A s m.kernel image stop new j
 fill_stops A s m roomy new holds image i j e locked stop at images first f h =
     let to = forced_to A s m roomy.kernel holds image i e locked f.units at images first f.forces f.makes.made in
@@ -170,7 +170,7 @@ fill_stops A s m roomy new holds image i j e locked stop at images first f h =
 
 pub filling_stops : (A : Inputs) (s : State) (m new : Standing) (holds : Option (List NamedFile)) (image : SwapImage) (j : Option SwapImage) (e : Entry)
     (locked : List Page) (stop : Stop)
-    → At A s m.kernel image → AreImages m.images holds A.images → FillsFirst s.place s.place.due e locked
+    → At A s m.kernel image → AreRunImages m.images holds A → FillsFirst s.place s.place.due e locked
     → StopsFilling e locked m new holds (Some image) j stop → StopLeads A s m.kernel image stop new j
 filling_stops A s m new holds image j e locked stop at images first h = elim h [
   | inl x ↦ forcing_stops A s m new holds image j e locked stop at images first x

@@ -17,7 +17,7 @@ use Rattle.kernel_model.specs.Kernel.{Kernel}
 use Rattle.kernel_model.specs.ChangeStep.{change_step}
 use Rattle.machine_state.specs.Machine.{Standing}
 use Rattle.machine_state.specs.Sourced.{ImageNamed}
-use Rattle.machine_state.specs.Files.{AreImages}
+use Rattle.machine_state.specs.Files.{AreRunImages}
 use Rattle.flat_model.specs.declared.calls.Reply.TheVariants.{Does}
 use Rattle.flat_model.specs.declared.calls.SystemCall.TheVariants as system_calls
 use Rattle.flat_model.specs.Step.{Step, call_entry, replied_step}
@@ -45,7 +45,7 @@ use Rattle.step_units.proofs.Copying.{all_copied, copying_stops}
 -- the entry of the step was made, and the pages that are due then are copied
 copied_behind : (A : Inputs) (s t : State) (old between new : Standing) (holds : Option (List NamedFile)) (image : SwapImage)
     (j : Option SwapImage) (us : List Entry)
-    → AreImages between.images holds A.images
+    → AreRunImages between.images holds A
     → Leads A s old.kernel image us t between.kernel (Some image) → At A t between.kernel image → IsBetween t.point.last
     → t.count ≡ s.count + 1 → t.lines ≡ s.lines → t.mark ≡ s.mark → CopiesAll between.kernel.place.due between new holds (Some image) j
     → StepLeads A s old.kernel image 1 new.kernel j
@@ -69,7 +69,7 @@ record HasForked (A : Inputs) (s : State) (old between : Standing) (holds : Opti
   pub state : State
   pub leads : Leads A s old.kernel image units state between.kernel (Some image)
   pub at : At A state between.kernel image
-  pub images : AreImages between.images holds A.images
+  pub images : AreRunImages between.images holds A
   pub last : IsBetween state.point.last
   pub count : state.count ≡ s.count + 1
   pub lines : state.lines ≡ s.lines
@@ -97,7 +97,7 @@ new_space A s old between holds image pid now p x effect a b h =
       state = after A s e;
       leads = led;
       at = leads_at A s (after A s e) k between.kernel image image (e ∷ []) a.runs.machine.at led;
-      images = subst (λ (ns : List ImageNamed). AreImages ns holds A.images) (sym (ap (λ (m : Standing). m.images) h.made.answer.rest)) a.runs.machine.images;
+      images = subst (λ (ns : List ImageNamed). AreRunImages ns holds A) (sym (ap (λ (m : Standing). m.images) h.made.answer.rest)) a.runs.machine.images;
       last = subst IsBetween (sym ends.last) tt;
       count = ends.count;
       lines = ends.lines;
@@ -131,7 +131,7 @@ forked_to A s old between holds image pid now p x effect runs makes h = go (is_b
       state = led.state;
       leads = led.leads;
       at = leads_at A s led.state old.kernel between.kernel image image led.units runs.machine.at led.leads;
-      images = subst (λ (ns : List ImageNamed). AreImages ns holds A.images) (sym same) runs.machine.images;
+      images = subst (λ (ns : List ImageNamed). AreRunImages ns holds A) (sym same) runs.machine.images;
       last = led.between;
       count = led.count;
       lines = led.lines;

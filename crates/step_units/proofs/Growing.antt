@@ -159,7 +159,7 @@ pub record GrownBefore (A : Inputs) (s : State) (old between : Standing) (holds 
   pub entry : Entry
   pub next : next_unit A s ≡ Some entry
   pub made : MadeAs A s old.kernel image entry between.kernel (Some image)
-  pub plain : Rattle.run_units.specs.Machine.unit_swap old.kernel image entry ≡ image
+  pub plain : Rattle.run_units.specs.Machine.unit_swap A old.kernel image entry ≡ image
   pub waits : WaitsFor A (after A s entry) between holds image pid now before q
   pub count : (after A s entry).count ≡ s.count
   pub lines : (after A s entry).lines ≡ s.lines
@@ -178,7 +178,7 @@ growth_before A s old between holds image pid now p x address before r f same va
     machine = record {
       at = leads_at A s t old.kernel between.kernel image image (u ∷ []) at
           (first_leads A s t old.kernel between.kernel between.kernel image (Some image) (Some image) u [] next made (none_leads A t between.kernel image));
-      images = subst (λ (z : Standing). Rattle.machine_state.specs.Files.AreImages z.images holds A.images) (sym g.rest) r.machine.images;
+      images = subst (λ (z : Standing). Rattle.machine_state.specs.Files.AreRunImages z.images holds A) (sym g.rest) r.machine.images;
       blocks = ap (λ (z : Standing). z.params.swap_blocks) g.rest ∙ r.machine.blocks;
     };
     runs = record { clear = h.clear; on = on; resident = h.resident i.runs.resident };

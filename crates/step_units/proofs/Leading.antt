@@ -7,6 +7,8 @@ use Rattle.vm_facts.specs.declared.stop.Stop.{Stop}
 use Rattle.vm_facts.specs.declared.stop.Stop.TheVariants as stops
 use Rattle.flat_state.specs.Flat.{Inputs}
 use Rattle.kernel_model.specs.Kernel.{Kernel}
+use Rattle.kernel_model.specs.Requests.{ImageFile}
+use Rattle.machine_state.specs.Sourced.{files_named}
 use Rattle.machine_state.specs.Machine.{Standing}
 use Rattle.swapper.specs.Stops.{StopsAt, SpoilsBy}
 use Rattle.run_model.specs.State.{State}
@@ -28,16 +30,16 @@ led_at A s t k l image j us at led = leads_at A s t k l image led.behind us at (
 -- Stops.
 
 -- for want of memory no write spoils the swap image
-none_spoiled : (e : Entry) (k : Kernel) (i j : Option SwapImage) → SpoilsBy e stops.NoMemory k i j → j ≡ i
-none_spoiled entries.Done k i j h = h
-none_spoiled (entries.SwapOut pid) k i j h = h
-none_spoiled _ k i j h = h
+none_spoiled : (files : List ImageFile) (e : Entry) (k : Kernel) (i j : Option SwapImage) → SpoilsBy files e stops.NoMemory k i j → j ≡ i
+none_spoiled files entries.Done k i j h = h
+none_spoiled files (entries.SwapOut pid) k i j h = h
+none_spoiled files _ k i j h = h
 
 -- a machine that stopped where a unit comes that is the run's next one
 pub stop_by : (A : Inputs) (t : State) (k : Kernel) (image : SwapImage) (e : Entry) (stop : Stop) (new : Standing) (j : Option SwapImage)
     → next_unit A t ≡ Some e → StopsAt e k (Some image) stop new j
     → StopsBy A t k image stop new j
-stop_by A t k image e stops.NoMemory new j n h = none_spoiled e k (Some image) j h.image
+stop_by A t k image e stops.NoMemory new j n h = none_spoiled (files_named new.images) e k (Some image) j h.image
 stop_by A t k image e stops.JournalFull new j n h = record { entry = e; next = n; full = h.full.0; cause = h.cause; spoils = h.image }
 stop_by A t k image e stops.FileFault new j n h = record { entry = e; next = n; full = h.full.0; cause = h.cause; spoils = h.image }
 stop_by A t k image e stops.SwapReadFault new j n h = record { entry = e; next = n; full = h.full.0; cause = h.cause; spoils = h.image }

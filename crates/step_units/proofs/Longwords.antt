@@ -52,7 +52,7 @@ one_stays A s u w r n l h =
 counts_on : (A : Inputs) (us : List Entry) (s t : State) (k l : Kernel) (image behind : SwapImage) → MakesSwap A s k image us t l behind → s.count ≤ t.count
 counts_on A [] s t k l image behind m = let e = ap (λ (x : State). x.count) m.0 in omega (arith, e)
 counts_on A (u ∷ us) s t k l image behind m =
-    let c = after_count A s u in let d = counts_on A us (after A s u) t (unit_step A s k image.bytes m.1.0 u) l (unit_swap k image u) behind m.1.2 in omega (arith, c, d)
+    let c = after_count A s u in let d = counts_on A us (after A s u) t (unit_step A s k image.bytes m.1.0 u) l (unit_swap A k image u) behind m.1.2 in omega (arith, c, d)
 
 all_stay : (A : Inputs) (us : List Entry) (s t : State) (k l : Kernel) (image behind : SwapImage) → AllImages A.images → ImagesFit A.images → IsRun A s
     → MakesSwap A s k image us t l behind
@@ -60,7 +60,7 @@ all_stay : (A : Inputs) (us : List Entry) (s t : State) (k l : Kernel) (image be
 all_stay A [] s t k l image behind w f r m c h = subst (HasLongwords A) m.0 h
 all_stay A (u ∷ us) s t k l image behind w f r m c h =
     let low : s.count ≤ t.count = counts_on A (u ∷ us) s t k l image behind m in
-    all_stay A us (after A s u) t (unit_step A s k image.bytes m.1.0 u) l (unit_swap k image u) behind w f (run_on A s u f (execs_fit A) r m.0) m.1.2 c
+    all_stay A us (after A s u) t (unit_step A s k image.bytes m.1.0 u) l (unit_swap A k image u) behind w f (run_on A s u f (execs_fit A) r m.0) m.1.2 c
     (one_stays A s u w r m.0 (omega (arith, low, c)) h)
 
 pub longwords_stay : (A : Inputs) (s t : State) (k l : Kernel) (image : SwapImage) (j : Option SwapImage) (us : List Entry) → AllImages A.images

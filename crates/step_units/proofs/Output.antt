@@ -21,7 +21,7 @@ use Rattle.kernel_model.specs.ChangeStep.{with_proc, change_if, change_step}
 use Rattle.kernel_model.specs.Coupled.{Outline}
 use Rattle.kernel_laws.proofs.Machine.Swaps.{found_at}
 use Rattle.machine_state.specs.Machine.{Standing}
-use Rattle.machine_state.specs.Files.{AreImages}
+use Rattle.machine_state.specs.Files.{AreRunImages}
 use Rattle.machine_state.specs.Sourced.{ImageNamed}
 use Rattle.machine_state.specs.Applying.{facts_named}
 use Rattle.proc_calls.specs.Callers.{regs_of, regs_by}
@@ -132,7 +132,7 @@ outputs A s old between holds image pid now p x effect call r byte bytes h m c e
       waits = w;
       machine = record {
         at = there;
-        images = subst (λ (ns : List ImageNamed). AreImages ns holds A.images) (sym (ap (λ (n : Standing). n.images) out.rest)) h.machine.images;
+        images = subst (λ (ns : List ImageNamed). AreRunImages ns holds A) (sym (ap (λ (n : Standing). n.images) out.rest)) h.machine.images;
         blocks = ap (λ (n : Standing). n.params.swap_blocks) out.rest ∙ h.machine.blocks;
       };
       running = running;

@@ -138,7 +138,7 @@ all_stay_in : (A : Inputs) (us : List Entry) (s t : State) (k l : Kernel) (image
 all_stay_in A [] s t k l image behind pid n c m h = subst (λ (x : State). is_out x.place n ≡ false) m.0 h
 all_stay_in A (u ∷ us) s t k l image behind pid n c m h =
     let d = still_closing A s u pid c m.0 in
-    all_stay_in A us (after A s u) t (unit_step A s k image.bytes m.1.0 u) l (unit_swap k image u) behind d.0 n d.1 m.1.2
+    all_stay_in A us (after A s u) t (unit_step A s k image.bytes m.1.0 u) l (unit_swap A k image u) behind d.0 n d.1 m.1.2
     (not_out s.place (after A s u).place n (out_before A s u n (none_leaves A s u pid n c m.0)) h)
 
 pub closing_stays_in : (A : Inputs) (s t : State) (k l : Kernel) (image : SwapImage) (j : Option SwapImage) (us : List Entry) (pid n : ℕ)

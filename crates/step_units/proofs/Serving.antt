@@ -17,6 +17,8 @@ use Rattle.page_model.specs.Serve.{serve_unit, is_full, Serving, serving_by, uni
 use Rattle.kernel_model.specs.Kernel.{Kernel}
 use Rattle.kernel_model.specs.ChangeStep.{space_of_life, life_of_proc}
 use Rattle.kernel_laws.proofs.Machine.Processes.{Stepping, stepping}
+use Rattle.kernel_model.specs.Requests.{ImageFile}
+use Rattle.machine_state.specs.Sourced.{files_named}
 use Rattle.machine_state.specs.Machine.{Standing}
 use Rattle.swapper.specs.Made.{Ground, ground}
 use Rattle.swapper.specs.Stops.{StopsAt, SpoilsBy}
@@ -205,16 +207,16 @@ page_leads_now A s old new holds image j pid before q answer w h = go answer h
 -- Stops.
 
 -- for want of memory no unit changes the swap image
-unspoiled : (e : Entry) (k : Kernel) (i j : Option SwapImage) → SpoilsBy e stops.NoMemory k i j → j ≡ i
-unspoiled (entries.SwapOut pid) k i j h = h
-unspoiled entries.Done k i j h = h
-unspoiled _ k i j h = h
+unspoiled : (files : List ImageFile) (e : Entry) (k : Kernel) (i j : Option SwapImage) → SpoilsBy files e stops.NoMemory k i j → j ≡ i
+unspoiled files (entries.SwapOut pid) k i j h = h
+unspoiled files entries.Done k i j h = h
+unspoiled files _ k i j h = h
 
 -- a stop where a unit of the run comes next
 pub stops_by : (A : Inputs) (t : State) (k : Kernel) (behind : SwapImage) (stop : Stop) (entry : Entry) (new : Standing) (j : Option SwapImage)
     → next_unit A t ≡ Some entry
     → StopsAt entry k (Some behind) stop new j → StopsBy A t k behind stop new j
-stops_by A t k behind stops.NoMemory entry new j n s = unspoiled entry k (Some behind) j s.image
+stops_by A t k behind stops.NoMemory entry new j n s = unspoiled (files_named new.images) entry k (Some behind) j s.image
 stops_by A t k behind stops.JournalFull entry new j n s = record { entry = entry; next = n; full = s.full.0; cause = s.cause; spoils = s.image }
 stops_by A t k behind stops.FileFault entry new j n s = record { entry = entry; next = n; full = s.full.0; cause = s.cause; spoils = s.image }
 stops_by A t k behind stops.SwapReadFault entry new j n s = record { entry = entry; next = n; full = s.full.0; cause = s.cause; spoils = s.image }

@@ -1,5 +1,5 @@
 -- A space settles before the step of its process, or the run stops as it does.
-use Rattle.std.proofs.Common.{◌≡◌, ℕ, ◌<◌, ◌≤◌, not, ◌&&◌, Bool, true, false, List, [], ◌∷◌, ◌++◌, length, replicate, Option, Some, None, sym, ap, ◌∙◌, subst, arith}
+use Rattle.std.proofs.Common.{◌≡◌, ℕ, ◌<◌, ◌≤◌, not, ◌&&◌, Bool, true, false, List, [], ◌∷◌, ◌++◌, length, replicate, Option, Some, None, Err, sym, ap, ◌∙◌, subst, arith}
 use Rattle.std.specs.Prelude.{is_ok}
 use Rattle.std.proofs.lemmas.List.{length-append}
 use Rattle.vm_facts.specs.SwapImages.{SwapImage}
@@ -18,11 +18,11 @@ use Rattle.page_model.specs.Place.{facts_of}
 use Rattle.page_model.specs.Swapper.{is_settled}
 use Rattle.kernel_model.specs.Kernel.{Kernel}
 use Rattle.kernel_model.specs.Asks.{asked}
-use Rattle.machine_state.specs.Done.{StopsEnding}
-use Rattle.machine_state.specs.Files.{AreImages}
+use Rattle.machine_state.specs.Done.{SwapAfter, StopsEnding}
+use Rattle.machine_state.specs.Files.{AreRunImages}
 use Rattle.machine_state.specs.Machine.{Standing}
 use Rattle.machine_state.specs.Settled.{StopsSettling}
-use Rattle.machine_state.specs.Sourced.{ImageNamed}
+use Rattle.machine_state.specs.Sourced.{ImageNamed, files_named}
 use Rattle.swapper.proofs.Stopping.{ending_left}
 use Rattle.swapper.specs.Made.{ground}
 use Rattle.proc_calls.specs.Leaving.{HasSettled}
@@ -104,7 +104,7 @@ module _ (A : Inputs) (s : State) (old : Standing) (holds : Option (List NamedFi
         same = led.same;
         machine = record {
           at = there;
-          images = subst (λ (ns : List ImageNamed). AreImages ns holds A.images) (sym g.rest.images) h.images;
+          images = subst (λ (ns : List ImageNamed). AreRunImages ns holds A) (sym g.rest.images) h.images;
           blocks = ap (λ (y : Params). y.swap_blocks) g.rest.params ∙ h.blocks;
         };
         running = record { runs = led.leaving.runs; here = ap (λ (y : Point). process_of y.flat pid) led.same.point ∙ r.here; holds = r.holds };
@@ -148,7 +148,7 @@ module _ (A : Inputs) (s : State) (old : Standing) (holds : Option (List NamedFi
         next = n;
         full = λ c. (subst (λ (y : Params). y.journal ≤ length between.kernel.journal) (sym e.stopped.params) (e.full.0 c).1, longer between.kernel.journal);
         cause = e.cause;
-        spoils = e.image;
+        spoils = subst (λ (ns : List ImageNamed). SwapAfter (Err stop) (files_named ns) between.kernel (Some told) j) (sym e.stopped.images) e.image;
       }
 
       ending : (A : Inputs) (t : State) (between new : Standing) (told : SwapImage) (i j : Option SwapImage) (stop : Stop) → i ≡ Some told

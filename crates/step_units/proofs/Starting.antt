@@ -43,7 +43,7 @@ use Rattle.kernel_model.specs.ChangeStep.{change_step}
 use Rattle.kernel_model.specs.Invariant.{EntersImage}
 use Rattle.kernel_model.specs.Unit.{has_lender}
 use Rattle.kernel_laws.proofs.Machine.Images.{facts_found}
-use Rattle.machine_state.specs.Files.{AreImages}
+use Rattle.machine_state.specs.Files.{AreRunImages}
 use Rattle.machine_state.specs.UserMemory.{kernel_answers}
 use Rattle.run_model.specs.State.{State}
 use Rattle.run_model.specs.After.{after, place_at, place_behind}
@@ -156,7 +156,7 @@ module _ (A : Inputs) (s : State) (old : Standing) (holds : Option (List NamedFi
     pub state : State
     pub leads : Leads A s old.kernel image units state new.kernel j
     pub due : state.place.due ≡ Start (Stack old.kernel.next_sid 0) ∷ []
-    pub images : AreImages new.images holds A.images
+    pub images : AreRunImages new.images holds A
     pub between : IsBetween state.point.last
     pub count : state.count ≡ s.count + 1
     pub lines : state.lines ≡ s.lines
@@ -201,7 +201,7 @@ module _ (A : Inputs) (s : State) (old : Standing) (holds : Option (List NamedFi
             ∙ exec_due facts t.point.flat pid (place_at t u) (pages_written t.point.flat pid step) number top t.place header.0 header.1
             ∙ ap (λ (n : ℕ). let ds : List Due = Start (Stack n 0) ∷ [] in ds) (ap (λ (y : Point). y.flat.next_sid) l.same.point ∙ sym on.machine.at.stands.keeps.coupled.tables.next_sid);
         images =
-            subst (λ (ns : List ImageNamed). AreImages ns holds A.images) (sym (ap (λ (m : Standing). m.images) h.answer.rest ∙ ap (λ (m : Standing). m.images) f.step ∙ l.images)) on.machine.images;
+            subst (λ (ns : List ImageNamed). AreRunImages ns holds A) (sym (ap (λ (m : Standing). m.images) h.answer.rest ∙ ap (λ (m : Standing). m.images) f.step ∙ l.images)) on.machine.images;
         between = subst IsBetween (sym ends.last) tt;
         count = ends.count ∙ ap (λ (n : ℕ). n + 1) l.same.count;
         lines = ends.lines ∙ l.same.lines;

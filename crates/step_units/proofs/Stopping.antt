@@ -9,6 +9,8 @@ use Rattle.flat_state.specs.Flat.{Inputs}
 use Rattle.flat_state.specs.Journal.{append}
 use Rattle.page_model.specs.Placement.{Transfer}
 use Rattle.kernel_model.specs.Kernel.{Kernel}
+use Rattle.kernel_model.specs.Requests.{ImageFile}
+use Rattle.machine_state.specs.Sourced.{files_named}
 use Rattle.machine_state.specs.Machine.{Standing}
 use Rattle.swapper.proofs.Stopping.{held_here}
 use Rattle.swapper.specs.Stops.{CauseBy, SpoilsBy, StopsAt, StopsBefore}
@@ -21,14 +23,14 @@ use Rattle.step_units.specs.Stepped.{StopsNext, StopsBy, StopLeads}
 
 -- At a unit that a call names.
 
-same_image : (e : Entry) (k : Kernel) (i j : Option SwapImage) → SpoilsBy e stops.NoMemory k i j → j ≡ i
-same_image entries.Done k i j h = h
-same_image (entries.SwapOut pid) k i j h = h
-same_image _ k i j h = h
+same_image : (files : List ImageFile) (e : Entry) (k : Kernel) (i j : Option SwapImage) → SpoilsBy files e stops.NoMemory k i j → j ≡ i
+same_image files entries.Done k i j h = h
+same_image files (entries.SwapOut pid) k i j h = h
+same_image files _ k i j h = h
 
 pub stops_by : (A : Inputs) (t : State) (k : Kernel) (image : SwapImage) (stop : Stop) (new : Standing) (j : Option SwapImage)
     → StopsNext A t k image stop new j → StopsBy A t k image stop new j
-stops_by A t k image stops.NoMemory new j n = same_image n.entry k (Some image) j n.spoils
+stops_by A t k image stops.NoMemory new j n = same_image (files_named new.images) n.entry k (Some image) j n.spoils
 stops_by A t k image _ new j n = n
 
 -- units lead to where this one is next, and there the run stopped
@@ -71,13 +73,13 @@ note_cause (entries.Refused pid) stop ts h c = c
 note_cause (entries.Owners free used moving held) stop ts h c = c
 note_cause _ stop ts h c = absurd h
 
-note_spoils : (e : Entry) (stop : Stop) (k : Kernel) (i : Option SwapImage) → IsNote e → SpoilsBy e stop k i i
-note_spoils (entries.Event line) stop k i h = refl
-note_spoils (entries.Turn pid) stop k i h = refl
-note_spoils (entries.Out pid bytes) stop k i h = refl
-note_spoils (entries.Refused pid) stop k i h = refl
-note_spoils (entries.Owners free used moving held) stop k i h = refl
-note_spoils _ stop k i h = absurd h
+note_spoils : (files : List ImageFile) (e : Entry) (stop : Stop) (k : Kernel) (i : Option SwapImage) → IsNote e → SpoilsBy files e stop k i i
+note_spoils files (entries.Event line) stop k i h = refl
+note_spoils files (entries.Turn pid) stop k i h = refl
+note_spoils files (entries.Out pid bytes) stop k i h = refl
+note_spoils files (entries.Refused pid) stop k i h = refl
+note_spoils files (entries.Owners free used moving held) stop k i h = refl
+note_spoils files _ stop k i h = absurd h
 
 pub note_stops : (A : Inputs) (s : State) (old new : Standing) (image : SwapImage) (stop : Stop) (e : Entry) → next_unit A s ≡ Some e → IsNote e
     → StopsBefore old new stop
@@ -95,6 +97,6 @@ note_stops A s old new image stop e n h x = record {
     next = n;
     full = λ is. (subst (λ (n : ℕ). n ≤ length old.kernel.journal) (sym (ap (λ p. p.journal) x.stopped.params)) (x.full is), note_longer e old.kernel.journal h);
     cause = note_cause e stop old.kernel.place.transfers h x.cause;
-    spoils = note_spoils e stop old.kernel (Some image) h;
+    spoils = note_spoils (files_named new.images) e stop old.kernel (Some image) h;
   });
 }

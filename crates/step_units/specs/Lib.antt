@@ -17,9 +17,6 @@ pub use Rattle.proc_calls.specs.Starting
 pub use Rattle.proc_calls.specs.Waiting
 pub use Rattle.proc_calls.specs.Writing
 pub use Rattle.proc_calls.specs.declared.replying.Called
-pub use Rattle.swapper.specs.Runners
-pub use Rattle.swapper.specs.Turns
-pub use Rattle.swapper.specs.declared.Turned
 pub use Rattle.run_laws.specs.Running as RunLawsRunning
 pub use Rattle.run_units.specs.Filling as RunUnitsFilling
 pub use Rattle.run_units.specs.Leads

@@ -10,6 +10,7 @@ use Rattle.flat_state.specs.Flat.{Inputs}
 use Rattle.page_model.specs.Swapper.{is_out, swap_choice}
 use Rattle.kernel_model.specs.Kernel.{Kernel, note_step}
 use Rattle.machine_state.specs.Machine.{Standing}
+use Rattle.machine_state.specs.Sourced.{files_named}
 use Rattle.machine_state.specs.Done.{sources, IsDone, ImageAfter, StopsEnding}
 use Rattle.machine_state.specs.Swapping.{AsksU, IsIn}
 use Rattle.swapper.specs.Stops.{StopsAt, StopsBefore}
@@ -86,7 +87,7 @@ InterruptIsMade =
     (A : Inputs) (s : State) (old : Standing) (l : Kernel) (holds : Option (List NamedFile)) (image : SwapImage) (j : Option SwapImage)
     → MachineAt A s old holds image → IsClear s
     → s.mark ≡ interrupt_mark s.place.transfers → 0 < length s.place.transfers → IsDone (sources old holds) (Some image) old.kernel l
-    → ImageAfter old.kernel (Some image) j
+    → ImageAfter (files_named old.images) old.kernel (Some image) j
     → LineLeads A s old.kernel image l j
 
 -- else the line is over at once

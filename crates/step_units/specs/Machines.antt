@@ -10,7 +10,7 @@ use Rattle.flat_state.specs.Flat.{Process, Inputs}
 use Rattle.flat_model.specs.declared.calls.SystemCall.{SystemCall}
 use Rattle.run_units.specs.Shown.{IsCallOf}
 use Rattle.machine_state.specs.Machine.{Standing}
-use Rattle.machine_state.specs.Files.{AreImages}
+use Rattle.machine_state.specs.Files.{AreRunImages}
 use Rattle.machine_state.specs.UserMemory.{kernel_answers}
 use Rattle.run_model.specs.State.{State}
 use Rattle.flat_model.specs.Run.{IsBetween}
@@ -20,7 +20,7 @@ use Rattle.run_units.specs.Touching.{IsRunning}
 -- A machine whose files hold the images of a run stands at a state of the run.
 pub record MachineAt (A : Inputs) (s : State) (m : Standing) (holds : Option (List NamedFile)) (image : SwapImage) : Type 0 where
   pub at : At A s m.kernel image
-  pub images : AreImages m.images holds A.images
+  pub images : AreRunImages m.images holds A
   pub blocks : m.params.swap_blocks ≡ A.swap_blocks
 
 -- Between two steps a process runs.

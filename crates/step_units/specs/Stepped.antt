@@ -9,6 +9,7 @@ use Rattle.flat_state.specs.Journal.{append}
 use Rattle.flat_state.specs.Space.{Space}
 use Rattle.kernel_model.specs.Kernel.{Kernel}
 use Rattle.machine_state.specs.Machine.{Standing}
+use Rattle.machine_state.specs.Sourced.{files_named}
 use Rattle.swapper.specs.Stops.{CauseBy, SpoilsBy, LeftBy}
 use Rattle.proc_calls.specs.declared.replying.Called.{Called}
 use Rattle.proc_calls.specs.declared.replying.Called.TheVariants as calls
@@ -51,7 +52,7 @@ pub record StopsNext (A : Inputs) (t : State) (k : Kernel) (image : SwapImage) (
   pub next : next_unit A t ≡ Some entry
   pub full : stop ≡ stops.JournalFull → (new.params.journal ≤ length k.journal) × (length k.journal < length (append k.journal entry))
   pub cause : CauseBy entry stop k.place.transfers
-  pub spoils : SpoilsBy entry stop k (Some image) j
+  pub spoils : SpoilsBy (files_named new.images) entry stop k (Some image) j
 
 -- for want of memory it may stop anywhere
 abbrev pub StopsBy : Inputs → State → Kernel → SwapImage → Stop → Standing → Option SwapImage → Type 0

@@ -12,6 +12,8 @@ use Rattle.vm_facts.specs.declared.params.Params.{Params}
 use Rattle.vm_facts.specs.declared.stop.Stop.{Stop}
 use Rattle.vm_facts.specs.declared.stop.Stop.TheVariants as stops
 use Rattle.io_edge.specs.FileHolding.{NamedFile}
+use Rattle.io_edge.specs.FileRequests.{FileNotes}
+use Rattle.io_edge.specs.WithFiles.{with_files}
 use Rattle.flat_state.specs.Journal.{append, IsPlain}
 use Rattle.flat_state.specs.PageNames.{number_of, beside, pages_from}
 use Rattle.flat_state.proofs.Joins.{append_plain}
@@ -45,15 +47,19 @@ use Rattle.machine_state.specs.Settled.{IsSameBeside}
 use Rattle.machine_state.specs.Calls.{life_in, AreAlike, CanPush}
 use Rattle.machine_state.specs.Conditions.{HasStopped}
 use Rattle.machine_state.specs.Failing.{FailsFor}
-use Rattle.machine_state.specs.Swapping.{WritesU, SwapBehind}
+use Rattle.machine_state.specs.Swapping.{IsIn, WritesU, AsksU, SwapBehind, KeepsIn}
+use Rattle.machine_state.specs.Sourced.{files_named}
+use Rattle.machine_state.proofs.Besides.{behind_beside, in_beside, asks_beside, in_kept_beside}
 use Rattle.paging_units.specs.Made.{Made, MakesUnit, Ground, ground}
 use Rattle.paging_units.specs.Stops.{StopsAt, SpoilsBy}
 use Rattle.paging_units.proofs.Units.{unit_place, unit_journal, unit_same, same_ground, Asks, asks_on}
 use Rattle.paging_units.proofs.Keeping.{unit_shaped, keeps_both}
 use Rattle.paging_units.proofs.Stopping.{plain_longer, moved_left, stops_at_first, stops_after_unit}
+use Rattle.swapper.specs.declared.Turned.TheVariants as turns
 use Rattle.swapper.specs.declared.putting_out.Step.{Step}
 use Rattle.swapper.specs.declared.putting_out.Step.TheVariants as steps
 use Rattle.swapper.specs.Putting.{IsOfSegment, IsStep, IsNext, HoldsThere, PutOut, StillPutting, StopsPutting}
+use Rattle.swapper.specs.Turns.{Turns, KeepsTurn, StopsTurning}
 
 -- The first page in a frame off the free list.
 
@@ -317,7 +323,7 @@ out_stops pid sid old new holds i j (Err stop) n l s c f failed b w =
       image = spoils stop b;
     }))
   where
-    spoils : (stop : Stop) → (let z : Result (Unit {0}) Stop = Err stop in SwapBehind z old.kernel pid i j) → SpoilsBy (entries.SwapOut pid) stop old.kernel i j
+    spoils : (stop : Stop) → (let z : Result (Unit {0}) Stop = Err stop in SwapBehind z old.kernel pid i j) → SpoilsBy (files_named new.images) (entries.SwapOut pid) stop old.kernel i j
     spoils stops.NoMemory b = b
     spoils stops.JournalFull b = b
     spoils stops.FileFault b = b
@@ -349,12 +355,23 @@ in_stops pid old new i j (Err stop) s c f failed b w = record {
   image = spoils stop b;
 }
   where
-    spoils : (stop : Stop) → (let z : Result (Unit {0}) Stop = Err stop in SwapBehind z old.kernel pid i j) → SpoilsBy (entries.SwapIn pid) stop old.kernel i j
+    spoils : (stop : Stop) → (let z : Result (Unit {0}) Stop = Err stop in SwapBehind z old.kernel pid i j) → SpoilsBy (files_named new.images) (entries.SwapIn pid) stop old.kernel i j
     spoils stops.NoMemory b = b
     spoils stops.JournalFull b = b
     spoils stops.FileFault b = b
     spoils stops.SwapReadFault b = b
     spoils stops.SwapWriteFault b = b
+
+-- What is so of it and of the device alone is so with the files beside that.
+pub in_stops_beside : (pid : ℕ) (k : Kernel) (i j : Option SwapImage) (stop : Stop) (new : Standing) (notes : FileNotes)
+    → StopsAt (entries.SwapIn pid) k i stop new j → StopsAt (entries.SwapIn pid) k (with_files notes i) stop new (with_files notes j)
+in_stops_beside pid k i j stop new notes s = record {
+  journal = s.journal;
+  held = s.held;
+  full = s.full;
+  cause = s.cause;
+  image = behind_beside {A = Bool} (Err stop) k pid i j notes s.image;
+}
 
 -- What is known of an answer, weakened.
 
@@ -386,3 +403,22 @@ puts_one pid sid old now next step holds later latest i h k e s n m t so = recor
   keeps = λ new j f. so.keeps new j
       (keeps_both now next new later latest h k j m.beside.images (unit_shaped (ground now later []) (put_out_unit now.kernel.place pid sid) now.kernel next.kernel h m.made) e t f);
 }
+
+-- A process that came in, with the files beside the device.
+
+pub in_turns : (r : Result (Unit {0}) Stop) (pid : ℕ) (old new : Standing) (holds : Option (List NamedFile)) (i j : Option SwapImage) (notes : FileNotes)
+    → OnOk r (IsIn old.kernel new.kernel pid i) → OnOk r (IsSameBeside old new) → OnOk r (AsksU old.kernel pid i j)
+    → OnOk r (Turns (turns.In pid) old new holds (with_files notes i) (with_files notes j))
+in_turns r pid old new holds i j notes a b c =
+    on_ok_with r (λ x y z. (in_beside old.kernel new.kernel pid i notes x, y, asks_beside old.kernel pid i j notes z)) a b c
+
+pub in_keeps_turn : (r : Result (Unit {0}) Stop) (pid : ℕ) (old new : Standing) (holds : Option (List NamedFile)) (i j : Option SwapImage) (notes : FileNotes)
+    → OnOk r (KeepsIn old.kernel new.kernel pid i j) → OnOk r (KeepsTurn (turns.In pid) old new holds (with_files notes i) (with_files notes j))
+in_keeps_turn (Ok x) pid old new holds i j notes h = in_kept_beside old.kernel new.kernel pid i j notes h
+in_keeps_turn (Err stop) pid old new holds i j notes h = h
+
+pub in_stops_turn : (r : Result (Unit {0}) Stop) (pid : ℕ) (old new : Standing) (holds : Option (List NamedFile)) (i j : Option SwapImage) (notes : FileNotes)
+    → IfErr r (λ stop. StopsAt (entries.SwapIn pid) old.kernel i stop new j)
+    → IfErr r (λ stop. StopsTurning (turns.In pid) old stop new holds (with_files notes i) (with_files notes j))
+in_stops_turn (Ok x) pid old new holds i j notes h = h
+in_stops_turn (Err stop) pid old new holds i j notes h = in_stops_beside pid old.kernel i j stop new notes h

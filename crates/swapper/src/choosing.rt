@@ -1,4 +1,5 @@
 //! One turn of the swapper.
+ghost use Rattle.io_edge.specs.WithFiles.{stores};
 ghost use Rattle.std.specs.Prelude.{◌≡◌, ◌≤◌, [], OnOk, OnErr, IfOk, IfErr};
 ghost use Rattle.std.specs.List.{filter};
 ghost use Rattle.page_model.specs.Placement.{Placement};
@@ -82,9 +83,12 @@ fn carry_out<F: Files, D: SwapDev>(
     requires files { AreFiles m.old.images (F.holds files.old) }
     requires clear { m.old.kernel.place.due ≡ [] }
     requires may { MayTurn m.old.kernel chosen }
-    ensures did { OnOk result (Turns chosen m.old m.new (F.holds files.old) (D.image swap.old) (D.image swap.new)) }
-    ensures keeps { OnOk result (KeepsTurn chosen m.old m.new (F.holds files.old) (D.image swap.old) (D.image swap.new)) }
-    ensures stopped { IfErr result (λ stop. StopsTurning chosen m.old stop m.new (F.holds files.old) (D.image swap.old) (D.image swap.new)) }
+    ensures did { OnOk result (Turns chosen m.old m.new (F.holds files.old) (stores F.Files D.SwapDev files.old swap.old)
+        (stores F.Files D.SwapDev files.new swap.new)) }
+    ensures keeps { OnOk result (KeepsTurn chosen m.old m.new (F.holds files.old) (stores F.Files D.SwapDev files.old swap.old)
+        (stores F.Files D.SwapDev files.new swap.new)) }
+    ensures stopped { IfErr result (λ stop. StopsTurning chosen m.old stop m.new (F.holds files.old) (stores F.Files D.SwapDev files.old swap.old)
+        (stores F.Files D.SwapDev files.new swap.new)) }
     ensures params_at_stop { OnErr result (m.new.params ≡ m.old.params) }
     ensures images_at_stop { OnErr result (m.new.images ≡ m.old.images) }
     ensures outside { TransfersPages F.Files D.SwapDev (stop_of result) files.old files.new swap.old swap.new }
@@ -110,10 +114,12 @@ pub fn turn<F: Files, D: SwapDev>(
     requires files { AreFiles m.old.images (F.holds files.old) }
     requires clear { m.old.kernel.place.due ≡ [] }
     ensures chosen { IfOk result (λ t. choice_of t ≡ swap_choice m.old.kernel.place (runners_of m.old.kernel)) }
-    ensures did { IfOk result (λ t. Turns t m.old m.new (F.holds files.old) (D.image swap.old) (D.image swap.new)) }
-    ensures keeps { IfOk result (λ t. KeepsTurn t m.old m.new (F.holds files.old) (D.image swap.old) (D.image swap.new)) }
+    ensures did { IfOk result (λ t. Turns t m.old m.new (F.holds files.old) (stores F.Files D.SwapDev files.old swap.old)
+        (stores F.Files D.SwapDev files.new swap.new)) }
+    ensures keeps { IfOk result (λ t. KeepsTurn t m.old m.new (F.holds files.old) (stores F.Files D.SwapDev files.old swap.old)
+        (stores F.Files D.SwapDev files.new swap.new)) }
     ensures stopped { IfErr result (λ stop. (t : Chosen) × (choice_of t ≡ swap_choice m.old.kernel.place (runners_of m.old.kernel))
-        × StopsTurning t m.old stop m.new (F.holds files.old) (D.image swap.old) (D.image swap.new)) }
+        × StopsTurning t m.old stop m.new (F.holds files.old) (stores F.Files D.SwapDev files.old swap.old) (stores F.Files D.SwapDev files.new swap.new)) }
     ensures params_at_stop { OnErr result (m.new.params ≡ m.old.params) }
     ensures images_at_stop { OnErr result (m.new.images ≡ m.old.images) }
     ensures outside { TransfersPages F.Files D.SwapDev (stop_of result) files.old files.new swap.old swap.new }

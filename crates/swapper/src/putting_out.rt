@@ -1,4 +1,6 @@
 //! How a process goes out and comes in.
+ghost use Rattle.io_edge.specs.FileRequests.{FileNotes};
+ghost use Rattle.io_edge.specs.WithFiles.{with_files, stores};
 ghost use Rattle.std.specs.Prelude.{◌≡◌, ◌⊎◌, ℕ, ◌<◌, ◌≤◌, ◌&&◌, true, false, List, [], length, Option, OnOk, OnErr, IfErr};
 ghost use Rattle.vm_facts.specs.SwapImages.{SwapImage};
 ghost use Rattle.vm_facts.specs.declared.entry.Entry.TheVariants as entries;
@@ -107,9 +109,12 @@ fn complete<F: Files, D: SwapDev>(m: &mut Machine, files: &mut F, swap: &mut D) 
     requires area { m.old.params.swap_blocks ≤ D.blocks swap.old }
     requires files { AreFiles m.old.images (F.holds files.old) }
     requires some { 0 < length m.old.kernel.place.transfers }
-    ensures made { OnOk result (MakesUnit (ground m.old (F.holds files.old) []) entries.Done m.old m.new (D.image swap.old) (D.image swap.new)) }
-    ensures keeps { OnOk result (KeepsThrough m.old m.new (F.holds files.old) (D.image swap.old) (D.image swap.new)) }
-    ensures stopped { IfErr result (λ stop. StopsAt entries.Done m.old.kernel (D.image swap.old) stop m.new (D.image swap.new)) }
+    ensures made { OnOk result (MakesUnit (ground m.old (F.holds files.old) []) entries.Done m.old m.new (stores F.Files D.SwapDev files.old swap.old)
+        (stores F.Files D.SwapDev files.new swap.new)) }
+    ensures keeps { OnOk result (KeepsThrough m.old m.new (F.holds files.old) (stores F.Files D.SwapDev files.old swap.old)
+        (stores F.Files D.SwapDev files.new swap.new)) }
+    ensures stopped { IfErr result (λ stop. StopsAt entries.Done m.old.kernel (stores F.Files D.SwapDev files.old swap.old) stop m.new
+        (stores F.Files D.SwapDev files.new swap.new)) }
     ensures params { m.new.params ≡ m.old.params }
     ensures images { m.new.images ≡ m.old.images }
     ensures outside { TransfersPages F.Files D.SwapDev (stop_of result) files.old files.new swap.old swap.new }
@@ -157,9 +162,11 @@ fn put_once<F: Files, D: SwapDev>(
     requires there { HasSpace m.old.kernel.place sid }
     requires step { IsStep m.old.kernel.place sid step }
     ensures made { OnOk result (MakesUnit (ground m.old (F.holds files.old) []) (put_out_unit m.old.kernel.place _pid sid) m.old m.new
-        (D.image swap.old) (D.image swap.new)) }
-    ensures keeps { OnOk result (KeepsThrough m.old m.new (F.holds files.old) (D.image swap.old) (D.image swap.new)) }
-    ensures stopped { IfErr result (λ stop. StopsAt (put_out_unit m.old.kernel.place _pid sid) m.old.kernel (D.image swap.old) stop m.new (D.image swap.new)) }
+        (stores F.Files D.SwapDev files.old swap.old) (stores F.Files D.SwapDev files.new swap.new)) }
+    ensures keeps { OnOk result (KeepsThrough m.old m.new (F.holds files.old) (stores F.Files D.SwapDev files.old swap.old)
+        (stores F.Files D.SwapDev files.new swap.new)) }
+    ensures stopped { IfErr result (λ stop. StopsAt (put_out_unit m.old.kernel.place _pid sid) m.old.kernel (stores F.Files D.SwapDev files.old swap.old) stop
+        m.new (stores F.Files D.SwapDev files.new swap.new)) }
     ensures params { m.new.params ≡ m.old.params }
     ensures images { m.new.images ≡ m.old.images }
     ensures outside { TransfersPages F.Files D.SwapDev (stop_of result) files.old files.new swap.old swap.new }
@@ -179,10 +186,11 @@ fn leave<D: SwapDev>(m: &mut Machine, swap: &mut D, pid: u32, sid: u32) -> Resul
     requires holds { HoldsThere m.old.kernel pid sid }
     requires resident { is_out m.old.kernel.place pid ≡ false }
     requires last { IsNext m.old.kernel.place sid None }
-    ensures put { (holds : Option (List NamedFile)) → OnOk result (PutOut pid sid m.old m.new holds (D.image swap.old) (D.image swap.new)) }
+    ensures put { (notes : FileNotes) (holds : Option (List NamedFile)) → OnOk result
+        (PutOut pid sid m.old m.new holds (with_files notes (D.image swap.old)) (with_files notes (D.image swap.new))) }
     ensures keeps { OnOk result (KeepsOut m.old.kernel m.new.kernel (D.image swap.old) (D.image swap.new)) }
-    ensures stopped { (holds : Option (List NamedFile))
-        → IfErr result (λ stop. StopsPutting pid sid m.old stop m.new holds (D.image swap.old) (D.image swap.new)) }
+    ensures stopped { (notes : FileNotes) (holds : Option (List NamedFile))
+        → IfErr result (λ stop. StopsPutting pid sid m.old stop m.new holds (with_files notes (D.image swap.old)) (with_files notes (D.image swap.new))) }
     ensures cause { OnErr result ((result ≡ Err Stop.JournalFull) ⊎ ((result ≡ Err Stop.NoMemory) ⊎ (result ≡ Err Stop.SwapWriteFault))) }
     ensures outside { MovesSwapPages D.SwapDev (stop_of result) swap.old swap.new }
     ensures goes_on { OnOk result (CanGoOn m.new) }
@@ -204,9 +212,12 @@ fn put_all<F: Files, D: SwapDev>(
     requires clear { m.old.kernel.place.due ≡ [] }
     requires holds { HoldsThere m.old.kernel pid sid }
     requires resident { is_out m.old.kernel.place pid ≡ false }
-    ensures put { OnOk result (PutOut pid sid m.old m.new (F.holds files.old) (D.image swap.old) (D.image swap.new)) }
-    ensures keeps { OnOk result (KeepsThrough m.old m.new (F.holds files.old) (D.image swap.old) (D.image swap.new)) }
-    ensures stopped { IfErr result (λ stop. StopsPutting pid sid m.old stop m.new (F.holds files.old) (D.image swap.old) (D.image swap.new)) }
+    ensures put { OnOk result (PutOut pid sid m.old m.new (F.holds files.old) (stores F.Files D.SwapDev files.old swap.old)
+        (stores F.Files D.SwapDev files.new swap.new)) }
+    ensures keeps { OnOk result (KeepsThrough m.old m.new (F.holds files.old) (stores F.Files D.SwapDev files.old swap.old)
+        (stores F.Files D.SwapDev files.new swap.new)) }
+    ensures stopped { IfErr result (λ stop. StopsPutting pid sid m.old stop m.new (F.holds files.old) (stores F.Files D.SwapDev files.old swap.old)
+        (stores F.Files D.SwapDev files.new swap.new)) }
     ensures outside { TransfersPages F.Files D.SwapDev (stop_of result) files.old files.new swap.old swap.new }
     ensures goes_on { OnOk result (CanGoOn m.new) }
 {
@@ -245,10 +256,12 @@ pub fn swap_out<F: Files, D: SwapDev>(
     requires holds { (sid : ℕ) × HoldsThere m.old.kernel pid sid }
     requires resident { is_out m.old.kernel.place pid ≡ false }
     ensures put { OnOk result ((sid : ℕ) × HoldsThere m.old.kernel pid sid
-        × PutOut pid sid m.old m.new (F.holds files.old) (D.image swap.old) (D.image swap.new)) }
-    ensures keeps { OnOk result (KeepsThrough m.old m.new (F.holds files.old) (D.image swap.old) (D.image swap.new)) }
+        × PutOut pid sid m.old m.new (F.holds files.old) (stores F.Files D.SwapDev files.old swap.old) (stores F.Files D.SwapDev files.new swap.new)) }
+    ensures keeps { OnOk result (KeepsThrough m.old m.new (F.holds files.old) (stores F.Files D.SwapDev files.old swap.old)
+        (stores F.Files D.SwapDev files.new swap.new)) }
     ensures stopped { IfErr result (λ stop. (sid : ℕ) × HoldsThere m.old.kernel pid sid
-        × StopsPutting pid sid m.old stop m.new (F.holds files.old) (D.image swap.old) (D.image swap.new)) }
+        × StopsPutting pid sid m.old stop m.new (F.holds files.old) (stores F.Files D.SwapDev files.old swap.old)
+        (stores F.Files D.SwapDev files.new swap.new)) }
     ensures outside { TransfersPages F.Files D.SwapDev (stop_of result) files.old files.new swap.old swap.new }
     ensures goes_on { OnOk result (CanGoOn m.new) }
 {

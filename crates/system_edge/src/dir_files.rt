@@ -1,6 +1,7 @@
 // The files of the current folder.
 ghost use Rattle.std.specs.Prelude.{◌≡◌, ◌≤◌, None, refl};
 ghost use Rattle.std.proofs.Common.{le_refl, le_trans};
+ghost use Rattle.io_edge.specs.FileRequests.{no_notes};
 
 use crate::source::{Source, take_source};
 use crate::{LockFile, OffsetFile, Refusal};
@@ -143,6 +144,8 @@ where
     R::File: LockFile + OffsetFile,
 {
     ghost holds = { λ _. None };
+
+    ghost notes = { λ _. no_notes };
 
     ghost open_faults = { λ f. f.open_faults };
 

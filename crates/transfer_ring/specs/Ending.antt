@@ -4,13 +4,14 @@ use Rattle.vm_facts.specs.declared.page.Page.{Page}
 use Rattle.io_edge.specs.Count.{Rose}
 use Rattle.vm_facts.specs.SwapImages.{SwapImage}
 use Rattle.io_edge.specs.FileHolding.{NamedFile}
+use Rattle.io_edge.specs.FileRequests.{FileNotes}
 use Rattle.io_edge.specs.SwapImage.{bytes_told}
 use Rattle.transfer_ring.specs.declared.transfer.Transfer.{Transfer}
 use Rattle.transfer_ring.specs.declared.transfer.Transfer.TheVariants.{Read, Write}
 use Rattle.transfer_ring.specs.declared.transfer.Inbound.{Inbound}
 use Rattle.transfer_ring.specs.declared.transfer.Finished.{Finished}
 use Rattle.transfer_ring.specs.declared.transfer.Finished.TheVariants.{Done, FileFault, SwapReadFault, SwapWriteFault, Idle}
-use Rattle.transfer_ring.specs.Parts.{AreSameParts, PartsAreRead, AsksParts, AsksSome, WritesParts, SpoilsParts, IsSwap, IsFile, SomeFrom}
+use Rattle.transfer_ring.specs.Parts.{AreSameParts, PartsAreRead, AsksParts, AsksSome, AsksFiles, AsksSomeFiles, WritesParts, SpoilsParts, IsSwap, IsFile, SomeFrom}
 
 -- the same read: its pages, frames and sources
 abbrev pub IsSameRead : Page → List Inbound → Transfer → Type 0
@@ -51,6 +52,24 @@ Ends (Write parts) holds old new Idle = ⊥
 abbrev pub EndsOldest : List Transfer → Option (List NamedFile) → Option SwapImage → Option SwapImage → Finished → Type 0
 EndsOldest [] holds old new finished = (finished ≡ Idle) × (new ≡ old)
 EndsOldest (oldest ∷ rest) holds old new finished = Ends oldest holds old new finished
+
+-- what the files will have noted after a read of these parts that ended so: each range was asked for once, up to the first fault
+abbrev pub NotesUntil : List Inbound → FileNotes → FileNotes → Finished → Type 0
+NotesUntil parts old new (Done transfer) = AsksFiles parts old new
+NotesUntil parts old new (FileFault transfer) = AsksSomeFiles parts old new
+NotesUntil parts old new (SwapReadFault transfer) = AsksSomeFiles parts old new
+NotesUntil parts old new (SwapWriteFault transfer) = ⊥
+NotesUntil parts old new Idle = ⊥
+
+-- the same after a transfer ended so: a write asks nothing of them
+abbrev pub NotesAfter : Transfer → FileNotes → FileNotes → Finished → Type 0
+NotesAfter (Read demanded parts) old new finished = NotesUntil parts.items old new finished
+NotesAfter (Write parts) old new finished = new ≡ old
+
+-- after the oldest transfer did; where there is none, nothing is asked
+abbrev pub NotesOldest : List Transfer → FileNotes → FileNotes → Finished → Type 0
+NotesOldest [] old new finished = new ≡ old
+NotesOldest (oldest ∷ rest) old new finished = NotesAfter oldest old new finished
 
 -- a count of faults that rises with a fault of the files, and stays in every other case
 abbrev pub CountsPages : Finished → ℕ → ℕ → Type 0

@@ -2,11 +2,12 @@
 use Rattle.std.specs.Prelude.{◌≡◌, ℕ, List, Option, ⊤}
 use Rattle.vm_facts.specs.SwapImages.{SwapImage}
 use Rattle.io_edge.specs.Count.{Rose}
+use Rattle.io_edge.specs.FileRequests.{FileNotes}
 use Rattle.transfer_ring.specs.declared.moving.Filled.{Filled}
 use Rattle.transfer_ring.specs.declared.moving.Filled.TheVariants.{Done, FileFault, SwapFault}
 use Rattle.transfer_ring.specs.declared.transfer.Inbound.{Inbound}
 use Rattle.transfer_ring.specs.declared.transfer.Source.{Source}
-use Rattle.transfer_ring.specs.Parts.{IsSwap, IsFile, SomeFrom, AsksParts, AsksSome}
+use Rattle.transfer_ring.specs.Parts.{IsSwap, IsFile, SomeFrom, AsksParts, AsksSome, AsksFiles, AsksSomeFiles}
 
 -- the fact holds where all was read
 abbrev pub OnFilled : Filled → Type 0 → Type 0
@@ -31,6 +32,12 @@ abbrev pub AsksFor : Filled → List Inbound → Option SwapImage → Option Swa
 AsksFor Done parts old new = AsksParts parts old new
 AsksFor FileFault parts old new = AsksSome parts old new
 AsksFor SwapFault parts old new = AsksSome parts old new
+
+-- what the files will have noted after a read of these parts
+abbrev pub NotesFor : Filled → List Inbound → FileNotes → FileNotes → Type 0
+NotesFor Done parts old new = AsksFiles parts old new
+NotesFor FileFault parts old new = AsksSomeFiles parts old new
+NotesFor SwapFault parts old new = AsksSomeFiles parts old new
 
 -- the files' count of faults rises where a file's read failed, and nowhere else
 abbrev pub CountsFile : Filled → ℕ → ℕ → Type 0

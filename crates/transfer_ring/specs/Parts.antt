@@ -1,6 +1,7 @@
 -- The parts of a transfer before and after its completion.
 use Rattle.std.specs.Prelude.{◌≡◌, ◌⊎◌, ◌-◌, ℕ, List, [], ◌∷◌, Option, take, drop, replicate, ⊤}
 use Rattle.io_edge.specs.FileHolding.{NamedFile, HoldsRange}
+use Rattle.io_edge.specs.FileRequests.{FileNotes, FileRead, after_request}
 use Rattle.io_edge.specs.SwapImage.{HoldsPage, ReadsPage, WritesPage, SpoilsPage}
 use Rattle.vm_facts.specs.SwapImages.{SwapImage}
 use Rattle.transfer_ring.specs.declared.transfer.Inbound.{Inbound}
@@ -61,6 +62,22 @@ abbrev pub AsksSome : List Inbound → Option SwapImage → Option SwapImage →
 AsksSome [] old new = ⊥
 AsksSome (part ∷ rest) old new =
     AsksSource part.source old new ⊎ ((next : Option SwapImage) × AsksSource part.source old next × AsksSome rest next new)
+
+-- what a read from this source asks of the files: its range, or nothing where the swap device has the page
+abbrev pub AsksFile : Source → FileNotes → FileNotes → Type 0
+AsksFile (Swap block) old new = new ≡ old
+AsksFile (File id offset count) old new = new ≡ after_request (FileRead id offset count) old
+
+-- what the files will have noted after all parts were read, one after another
+abbrev pub AsksFiles : List Inbound → FileNotes → FileNotes → Type 0
+AsksFiles [] old new = new ≡ old
+AsksFiles (part ∷ rest) old new = (next : FileNotes) × AsksFile part.source old next × AsksFiles rest next new
+
+-- the same after the read of one part failed; those before it were read, and those after it weren't tried
+abbrev pub AsksSomeFiles : List Inbound → FileNotes → FileNotes → Type 0
+AsksSomeFiles [] old new = ⊥
+AsksSomeFiles (part ∷ rest) old new =
+    AsksFile part.source old new ⊎ ((next : FileNotes) × AsksFile part.source old next × AsksSomeFiles rest next new)
 
 -- the swap image after all parts were written, one after another
 abbrev pub WritesParts : List Outbound → Option SwapImage → Option SwapImage → Type 0

@@ -1,11 +1,12 @@
 // The calls of the devices that complete a transfer, one for each page.
 ghost use Rattle.std.specs.Prelude.{◌≡◌, length, take, drop, replicate, ◌-◌, ◌<◌, ◌≤◌};
-ghost use Rattle.transfer_ring.specs.Moving.{AsksFor, OnFilled, FailsFrom, FailsFromSome, CountsFile, CountsSwap};
+ghost use Rattle.transfer_ring.specs.Moving.{AsksFor, NotesFor, OnFilled, FailsFrom, FailsFromSome, CountsFile, CountsSwap};
 ghost use Rattle.transfer_ring.specs.Sound.{IsSource, IsSourceThere, AreSources, AreThere, AreBlocks};
-ghost use Rattle.transfer_ring.specs.Parts.{AsksSource, HasRead, IsSamePart, AreSameParts, PartsAreRead, WritesParts, SpoilsParts};
+ghost use Rattle.transfer_ring.specs.Parts.{AsksSource, AsksFile, HasRead, IsSamePart, AreSameParts, PartsAreRead, WritesParts, SpoilsParts};
 ghost use Rattle.io_edge.specs.Calls.{ReadsPages, ReadsSwap, WritesSwap};
 ghost use Rattle.io_edge.specs.Count.{Counts, OnDone, OnFailed};
 ghost use Rattle.io_edge.specs.FileHolding.{HasRange, HoldsRange};
+ghost use Rattle.io_edge.specs.FileRequests.{FileRead, after_request};
 ghost use Rattle.io_edge.specs.SwapImage.{bytes_told};
 
 use crate::{Inbound, Outbound, Source};
@@ -31,6 +32,7 @@ fn fill_from_file<F: Files>(
     requires fits { count ≤ 1024 }
     requires there { HasRange (F.holds files.old) id offset count }
     ensures files { ReadsPages F.Files files.old files.new }
+    ensures notes { F.notes files.new ≡ after_request (FileRead id offset count) (F.notes files.old) }
     ensures done { OnDone result (HoldsRange (F.holds files.old) id offset (take count page.new)) }
     ensures zeros { OnDone result (drop count page.new ≡ replicate (1024 - count) 0) }
     ensures page_faults { Counts result (F.page_faults files.old) (F.page_faults files.new) }
@@ -50,6 +52,7 @@ fn fill<F: Files, D: SwapDev>(part: &mut Inbound, files: &mut F, swap: &mut D) -
     ensures files { ReadsPages F.Files files.old files.new }
     ensures swap { ReadsSwap D.SwapDev swap.old swap.new }
     ensures asked { AsksSource part.old.source (D.image swap.old) (D.image swap.new) }
+    ensures notes { AsksFile part.old.source (F.notes files.old) (F.notes files.new) }
     ensures page_faults { CountsFile result (F.page_faults files.old) (F.page_faults files.new) }
     ensures read_faults { CountsSwap result (D.read_faults swap.old) (D.read_faults swap.new) }
 {
@@ -82,6 +85,7 @@ pub(crate) fn fill_all<F: Files, D: SwapDev>(
     ensures files { ReadsPages F.Files files.old files.new }
     ensures swap { ReadsSwap D.SwapDev swap.old swap.new }
     ensures asked { AsksFor result parts.old (D.image swap.old) (D.image swap.new) }
+    ensures notes { NotesFor result parts.old (F.notes files.old) (F.notes files.new) }
     ensures page_faults { CountsFile result (F.page_faults files.old) (F.page_faults files.new) }
     ensures read_faults { CountsSwap result (D.read_faults swap.old) (D.read_faults swap.new) }
 {

@@ -4,7 +4,7 @@ ghost use Rattle.std.specs.List.{list_any};
 ghost use Rattle.io_edge.specs.Calls.{KeepsSwap, ReadsPages};
 ghost use Rattle.vm_facts.specs.Swap.{most_in_flight};
 ghost use Rattle.transfer_ring.specs.Beginning.{Begins, IsRefused};
-ghost use Rattle.transfer_ring.specs.Ending.{EndsOldest, CountsPages, CountsReads, CountsWrites, Ends};
+ghost use Rattle.transfer_ring.specs.Ending.{EndsOldest, NotesAfter, NotesOldest, CountsPages, CountsReads, CountsWrites, Ends};
 ghost use Rattle.transfer_ring.specs.Counting.{IsFlight, pages_of_all};
 ghost use Rattle.transfer_ring.specs.Naming.{names_page_of, names_space, names_text};
 ghost use Rattle.transfer_ring.specs.Slots.{in_flight, put_first, slot_at, IsSoundSlot};
@@ -178,6 +178,7 @@ impl TransferRing {
         requires { AreReachable (F.holds files.old) (D.blocks swap.old) self.old }
         ensures rest { self.new ≡ drop 1 self.old }
         ensures ends { EndsOldest self.old (F.holds files.old) (D.image swap.old) (D.image swap.new) result }
+        ensures notes { NotesOldest self.old (F.notes files.old) (F.notes files.new) result }
         ensures files { ReadsPages F.Files files.old files.new }
         ensures swap { KeepsSwap D.SwapDev swap.old swap.new }
         ensures page_faults { CountsPages result (F.page_faults files.old) (F.page_faults files.new) }
@@ -300,6 +301,7 @@ fn complete<F: Files, D: SwapDev>(
     requires sources { HasSources transfer }
     requires there { IsReachable (F.holds files.old) (D.blocks swap.old) transfer }
     ensures ends { Ends transfer (F.holds files.old) (D.image swap.old) (D.image swap.new) result }
+    ensures notes { NotesAfter transfer (F.notes files.old) (F.notes files.new) result }
     ensures files { ReadsPages F.Files files.old files.new }
     ensures swap { KeepsSwap D.SwapDev swap.old swap.new }
     ensures page_faults { CountsPages result (F.page_faults files.old) (F.page_faults files.new) }

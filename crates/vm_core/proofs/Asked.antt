@@ -7,20 +7,21 @@ use Rattle.vm_facts.specs.declared.stop.Stop.{Stop}
 use Rattle.vm_facts.specs.declared.stop.Stop.TheVariants as stops
 use Rattle.io_edge.specs.FileHolding.{NamedFile}
 use Rattle.flat_state.specs.Flat.{Inputs}
-use Rattle.page_model.specs.Placement.{Placement, Transfer}
+use Rattle.page_model.specs.Placement.{Placement, Transfer, image_of}
 use Rattle.page_model.specs.Swapper.{swap_choice}
 use Rattle.kernel_model.specs.Kernel.{note_step, image_after_of}
-use Rattle.kernel_model.specs.SwapRequests.{oldest_asks}
+use Rattle.kernel_model.specs.Requests.{first_asks}
 use Rattle.machine_state.specs.Going.{CanGoOn}
 use Rattle.machine_state.specs.Machine.{Standing}
+use Rattle.machine_state.specs.Sourced.{files_named}
 use Rattle.machine_state.specs.Conditions.{HasStopped}
 use Rattle.machine_state.specs.Failing.{LosesFor}
 use Rattle.machine_state.specs.Done.{sources, IsDone, ImageAfter, StopsFor, SwapAfter, StopsEnding}
 use Rattle.journal_laws.specs.Stops.{StopsBefore}
 use Rattle.journal_laws.specs.Moved.{Moved, StopsMoving}
-use Rattle.step_units.specs.Turned.{Turned}
-use Rattle.step_units.specs.Runners.{runners_of, choice_of}
-use Rattle.step_units.specs.Turns.{Turns, StopsTurning}
+use Rattle.swapper.specs.declared.Turned.{Turned}
+use Rattle.swapper.specs.Runners.{runners_of, choice_of}
+use Rattle.swapper.specs.Turns.{Turns, StopsTurning}
 use Rattle.step_units.proofs.Transfers.{done_continues}
 use Rattle.step_units.proofs.LinesContinue.{moves_continue, turn_continues}
 use Rattle.journal_laws.specs.LastMoves.{last_moves}
@@ -45,13 +46,15 @@ some_still : (A : Inputs) (s : State) (m : Standing) (holds : Option (List Named
     → LineAt m holds i events.Interrupt A s image → m.kernel.place.transfers ≡ s.place.transfers
 some_still A s m holds i image at = ap (λ (p : Placement). p.transfers) at.machine.at.stands.place
 
-idle_makes : (old : Standing) (holds : Option (List NamedFile)) (i j : Option SwapImage) → old.kernel.place.transfers ≡ [] → ImageAfter old.kernel i j
+idle_makes : (old : Standing) (holds : Option (List NamedFile)) (i j : Option SwapImage) → old.kernel.place.transfers ≡ [] → ImageAfter
+    (files_named old.images) old.kernel i j
     → LeadsFrom (LineAt old holds i events.Interrupt) (λ A s image. LineLeads A s old.kernel image old.kernel j)
 idle_makes old holds i j none after A s image at =
     let told : j ≡ Some image =
-    subst (λ (o : Option SwapImage). ImageAfter old.kernel o j) at.told after
+    subst (λ (o : Option SwapImage). ImageAfter (files_named old.images) old.kernel o j) at.told after
     ∙ ap (λ (ts : List Transfer).
-    let o : Option SwapImage = Some (with_requests (oldest_asks old.kernel.holdings ts) (record image { bytes = image_after_of old.kernel image.bytes ts })) in o) none in
+    let o : Option SwapImage = Some (with_requests (first_asks (files_named old.images) (image_of old.kernel.place) old.kernel.holdings ts)
+    (record image { bytes = image_after_of old.kernel image.bytes ts })) in o) none in
     record {
       units = [];
       state = s;
@@ -64,14 +67,15 @@ idle_makes old holds i j none after A s image at =
     }
 
 done_makes : (old new : Standing) (holds : Option (List NamedFile)) (i j : Option SwapImage) → IsDone (sources old holds) i old.kernel new.kernel
-    → ImageAfter old.kernel i j → LeadsFrom (LineAt old holds i events.Interrupt) (λ A s image. LineLeads A s old.kernel image new.kernel j)
+    → ImageAfter (files_named old.images) old.kernel i j → LeadsFrom (LineAt old holds i events.Interrupt) (λ A s image. LineLeads A s old.kernel image new.kernel j)
 done_makes old new holds i j d after A s image at =
     interrupt_made A s old new.kernel holds image j at.machine at.clear at.mark (subst (λ (ts : List Transfer). 0 < length ts) (some_still A s old holds i image at) d.some)
-    (subst (λ (o : Option SwapImage). IsDone (sources old holds) o old.kernel new.kernel) at.told d) (subst (λ (o : Option SwapImage). ImageAfter old.kernel o j) at.told after)
+    (subst (λ (o : Option SwapImage). IsDone (sources old holds) o old.kernel new.kernel) at.told d)
+    (subst (λ (o : Option SwapImage). ImageAfter (files_named old.images) old.kernel o j) at.told after)
 
 pub interrupt_makes : (old new : Standing) (holds : Option (List NamedFile)) (i j : Option SwapImage) (r : Result Bool Stop) (b : Bool) → r ≡ Ok b
     → ((r ≡ Ok false) ↔ (old.kernel.place.transfers ≡ []))
-    → (r ≡ Ok false → new ≡ old) → (r ≡ Ok true → IsDone (sources old holds) i old.kernel new.kernel) → ImageAfter old.kernel i j
+    → (r ≡ Ok false → new ≡ old) → (r ≡ Ok true → IsDone (sources old holds) i old.kernel new.kernel) → ImageAfter (files_named old.images) old.kernel i j
     → LeadsFrom (LineAt old holds i events.Interrupt) (λ A s image. LineLeads A s old.kernel image new.kernel j)
 interrupt_makes old new holds i j r false e idle still step after =
     subst (λ (m : Standing). LeadsFrom (LineAt old holds i events.Interrupt) (λ A s image. LineLeads A s old.kernel image m.kernel j)) (sym (still e)) (idle_makes old holds i j (idle.0 e) after)
@@ -104,7 +108,7 @@ pub interrupt_halts : (old new : Standing) (holds : Option (List NamedFile)) (i 
     → HasStopped old new → (let r : Result Bool Stop = Err stop in StopsFor r old.kernel.place.transfers)
     → (let r : Result Bool Stop = Err stop in
     (r ≡ Err stops.JournalFull) ↔ ((0 < length old.kernel.place.transfers) × (old.params.journal ≤ length old.kernel.journal)))
-    → (let r : Result Bool Stop = Err stop in LosesFor r old new) → (let r : Result Bool Stop = Err stop in SwapAfter r old.kernel i j)
+    → (let r : Result Bool Stop = Err stop in LosesFor r old new) → (let r : Result Bool Stop = Err stop in SwapAfter r (files_named old.images) old.kernel i j)
     → StopsFrom (LineAt old holds i events.Interrupt) old new j stop
 interrupt_halts old new holds i j stop w h c f lost x =
     interrupt_ends old new holds i j stop (some_flight stop old.kernel.place.transfers c)

@@ -13,8 +13,9 @@ use Rattle.vm_facts.specs.declared.stop.Stop.TheVariants as stops
 use Rattle.io_edge.specs.FileHolding.{NamedFile}
 use Rattle.swap_book.specs.Holdings.{Holdings}
 use Rattle.flat_state.specs.Flat.{Inputs}
+use Rattle.kernel_model.specs.Requests.{image_files}
 use Rattle.machine_state.specs.Machine.{Standing}
-use Rattle.machine_state.specs.Sourced.{ImageNamed}
+use Rattle.machine_state.specs.Sourced.{ImageNamed, files_named}
 use Rattle.run_model.specs.State.{start}
 use Rattle.run_laws.specs.Running.{CanRun}
 use Rattle.journal_laws.specs.Leads.{Leads}
@@ -74,25 +75,30 @@ module _ (A : Inputs) (old : Underway) (numbers : List ℕ) (lines : List Event)
 
   -- The run stopped.
 
-  stops_at : (new : Standing) (stop : Stop) (j : Option SwapImage) (hs : Holdings) (can : CanRun A hs) → (x : StopLeads A (start A hs) (machine_at_start A hs) image stop new j)
-      → RunStops A new.kernel.journal image stop j
-  stops_at new stops.NoMemory j hs can x = inr (starved_run A hs can first_few image is.room new j stops.NoMemory x x.by)
-  stops_at new stops.JournalFull j hs can x = halted_run A hs can first_few image is.room new j stops.JournalFull x x.by
-  stops_at new stops.FileFault j hs can x = halted_run A hs can first_few image is.room new j stops.FileFault x x.by
-  stops_at new stops.SwapReadFault j hs can x = halted_run A hs can first_few image is.room new j stops.SwapReadFault x x.by
-  stops_at new stops.SwapWriteFault j hs can x = halted_run A hs can first_few image is.room new j stops.SwapWriteFault x x.by
+  -- the files are those that the run reads
+  read_so : (new : Standing) → new.images ≡ old.machine.images → files_named new.images ≡ image_files A
+  read_so new same = ap files_named same ∙ is.images.1
 
-  pub start_stops : (new : Underway) (stop : Stop) (j : Option SwapImage)
+  stops_at : (new : Standing) (stop : Stop) (j : Option SwapImage) (hs : Holdings) (can : CanRun A hs) → new.images ≡ old.machine.images
+      → (x : StopLeads A (start A hs) (machine_at_start A hs) image stop new j)
+      → RunStops A new.kernel.journal image stop j
+  stops_at new stops.NoMemory j hs can same x = inr (starved_run A hs can first_few image is.room new j stops.NoMemory x x.by)
+  stops_at new stops.JournalFull j hs can same x = halted_run A hs can first_few image is.room new j stops.JournalFull x (read_so new same) x.by
+  stops_at new stops.FileFault j hs can same x = halted_run A hs can first_few image is.room new j stops.FileFault x (read_so new same) x.by
+  stops_at new stops.SwapReadFault j hs can same x = halted_run A hs can first_few image is.room new j stops.SwapReadFault x (read_so new same) x.by
+  stops_at new stops.SwapWriteFault j hs can same x = halted_run A hs can first_few image is.room new j stops.SwapWriteFault x (read_so new same) x.by
+
+  pub start_stops : (new : Underway) (stop : Stop) (j : Option SwapImage) → new.machine.images ≡ old.machine.images
       → ((B : Inputs) (b : SwapImage) → IsTold B old.machine numbers holds b → Some image ≡ Some b → StopsStartingRun B new.machine b stop j)
       → RunEnds A new.machine.kernel.journal image (Err (Stopped stop)) j
-  start_stops new stop j f = go (f A image is_told refl)
+  start_stops new stop j same f = go (f A image is_told refl)
     where
       begun : stop ≡ stops.NoMemory → NoneMade new.machine.kernel.journal image j → RunStops A new.machine.kernel.journal image stop j
       begun e none = subst (λ (s : Stop). RunStops A new.machine.kernel.journal image s j) (sym e) (inl none)
 
       go : StopsStartingRun A new.machine image stop j → RunStops A new.machine.kernel.journal image stop j
       go (inl b) = begun b.cause (b.journal, b.told)
-      go (inr (hs, can, x)) = stops_at new.machine stop j hs can x.led
+      go (inr (hs, can, x)) = stops_at new.machine stop j hs can same x.led
 
   -- since its journal is full
   full_at : (new : Standing) (stop : Stop) (j : Option SwapImage) (hs : Holdings) (can : CanRun A hs) → stop ≡ stops.JournalFull
@@ -143,10 +149,10 @@ module _ (A : Inputs) (old : Underway) (numbers : List ℕ) (lines : List Event)
     start_told = subst (λ (o : Option SwapImage). Leads A (start A started.holdings) (machine_at_start A started.holdings) image started.units started.state mid.machine.kernel o)
         started.at.stands.told started.leads
 
-    pub lines_stop : (new : Underway) (stop : Stop) (j : Option SwapImage) → StopsFrom (IsBeforeLines mid lines holds h) mid.machine new.machine j stop
+    pub lines_stop : (new : Underway) (stop : Stop) (j : Option SwapImage) → new.machine.images ≡ old.machine.images → StopsFrom (IsBeforeLines mid lines holds h) mid.machine new.machine j stop
         → RunEnds A new.machine.kernel.journal image (Err (Stopped stop)) j
-    lines_stop new stop j f =
-        stops_at new.machine stop j started.holdings started.can
+    lines_stop new stop j same f =
+        stops_at new.machine stop j started.holdings started.can same
         (leads_to_stop A (start A started.holdings) started.state (machine_at_start A started.holdings) mid.machine.kernel image started.behind started.units stop new.machine j start_told
         (f A started.state started.behind before_lines))
 

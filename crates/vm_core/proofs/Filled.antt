@@ -16,12 +16,12 @@ use Rattle.page_model.specs.Place.{due_after}
 use Rattle.page_model.specs.Rank.{HasRoom}
 use Rattle.kernel_model.specs.Kernel.{Kernel}
 use Rattle.machine_state.specs.Calls.{due_and_parent}
-use Rattle.machine_state.specs.Files.{AreImages}
+use Rattle.machine_state.specs.Files.{AreRunImages}
 use Rattle.machine_state.specs.Machine.{Standing}
 use Rattle.machine_state.specs.Sourced.{ImageNamed}
 use Rattle.step_units.specs.Copying.{IsCopyFirst, CopiesPage, StopsPage, OnceCopied}
 use Rattle.step_units.specs.Filling.{IsStartFirst, FillsStart, StopsStart}
-use Rattle.step_units.specs.LastMoves.{last_moves}
+use Rattle.swapper.specs.LastMoves.{last_moves}
 use Rattle.step_units.specs.Ready.{CountsOn, RunsDue, Continues}
 use Rattle.step_units.specs.Sizes.{KeptAtStop}
 use Rattle.step_units.proofs.LinesContinue.{fill_continues}
@@ -174,7 +174,7 @@ there : (A : Inputs) (s : State) (old now : Standing) (holds : Option (List Name
     → (led : LeadsTo A s old.kernel image ds now.kernel h) → MachineAt A led.state now holds led.leads.behind
 there A s old now holds image h ds at on led = record {
   at = led_at A s led.state old.kernel now.kernel image h led.units at.at led.leads;
-  images = subst (λ (ns : List ImageNamed). AreImages ns holds A.images) (sym on.images) at.images;
+  images = subst (λ (ns : List ImageNamed). AreRunImages ns holds A) (sym on.images) at.images;
   blocks = ap (λ (p : Params). p.swap_blocks) on.params ∙ at.blocks;
 }
 

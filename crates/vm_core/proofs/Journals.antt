@@ -2,7 +2,7 @@
 use Rattle.std.proofs.Common.{◌≡◌, ◌⊎◌, inl, inr, ℕ, ◌*◌, ◌<◌, ◌≤◌, false, List, [], ◌∷◌, length, replicate, Option, Some, None, refl, sym, ap, ◌∙◌, subst}
 use Rattle.std.proofs.lemmas.List.{length-replicate}
 use Rattle.std.proofs.lemmas.Option.{same_Some}
-use Rattle.vm_facts.specs.SwapImages.{SwapImage}
+use Rattle.vm_facts.specs.SwapImages.{SwapImage, with_requests}
 use Rattle.vm_facts.specs.declared.entry.Entry.{Entry}
 use Rattle.vm_facts.specs.declared.entry.Entry.TheVariants as entries
 use Rattle.vm_facts.specs.declared.stop.Stop.{Stop}
@@ -12,12 +12,14 @@ use Rattle.swap_book.specs.Holdings.{Holdings, block_in}
 use Rattle.flat_state.specs.Flat.{Inputs}
 use Rattle.flat_state.specs.Journal.{append, appended}
 use Rattle.page_model.specs.PageBytes.{zeros}
-use Rattle.page_model.specs.Placement.{Placement, Transfer, Part, Errand}
+use Rattle.page_model.specs.Placement.{Placement, Transfer, Part, Source, Errand, Writes, Reads, image_of}
 use Rattle.page_model.specs.Ownership.{block_of}
 use Rattle.kernel_model.specs.Kernel.{Kernel}
 use Rattle.kernel_model.specs.SwapRequests.{read_at, write_at}
+use Rattle.kernel_model.specs.Requests.{ImageFile, image_files, read_asks}
 use Rattle.kernel_model.specs.Coupled.{memory_of}
-use Rattle.machine_state.specs.Done.{SpoilsAll, SpoilsFirst as SpoilsTransfers, AskedAll, AskedFirst}
+use Rattle.machine_state.specs.Done.{SpoilsAll, SpoilsFirst as SpoilsTransfers, AskedAll, AskedFor, AskedFirst}
+use Rattle.machine_state.specs.Sourced.{files_named}
 use Rattle.machine_state.specs.Machine.{Standing}
 use Rattle.machine_state.specs.Failing.{LosesOldest}
 use Rattle.journal_laws.specs.Stops.{CauseBy, SpoilsBy, StaysPut, StaysStarved, StaysReturned, StopsLess, StopsPut, LeftBy}
@@ -39,7 +41,7 @@ use Rattle.vm_core.specs.Leading.{machine_at_start}
 use Rattle.step_units.specs.Stepped.{StopLeads, StopsNext}
 use Rattle.journal_laws.proofs.Journals.{leads_follow, journal_lawful, journal_accounted, journal_economical, journal_image}
 use Rattle.vm_core.specs.Cores.{Underway, StandsUnderway}
-use Rattle.vm_core.specs.Halting.{HaltsFor, SpoilsParts, SpoilsOldest, AsksParts, AsksOldest, LeavesImage}
+use Rattle.vm_core.specs.Halting.{HaltsFor, SpoilsParts, SpoilsOldest, AsksParts, AsksErrand, AsksOldest, LeavesImage}
 use Rattle.vm_core.specs.Lawful.{IsJournalOf, RunFinished, RunHalted, RunStarved}
 use Rattle.vm_core.specs.Full.{StandsThere, StarvedThere, StoppedThere, LessThere, ReturnedThere, LeftThere, RunLeft, RunFull, RunOver}
 
@@ -79,7 +81,7 @@ module _ (A : Inputs) (hs : Holdings) (can : CanRun A hs) (few : length A.first 
 makes_run : (A : Inputs) (us : List Entry) (s t : State) (k l : Kernel) (image behind : SwapImage) → MakesSwap A s k image us t l behind → l.stopped ≡ k.stopped
 makes_run A [] s t k l image behind m = sym (ap (λ (x : Kernel). x.stopped) m.1)
 makes_run A (u ∷ us) s t k l image behind m =
-    makes_run A us (after A s u) t (unit_step A s k image.bytes m.1.0 u) l (unit_swap k image u) behind m.1.2 ∙ unit_goes A s k image.bytes m.1.0 u
+    makes_run A us (after A s u) t (unit_step A s k image.bytes m.1.0 u) l (unit_swap A k image u) behind m.1.2 ∙ unit_goes A s k image.bytes m.1.0 u
 
 -- Where it ends.
 
@@ -162,21 +164,31 @@ oldest_spoiled : (A : Inputs) (s : State) (k : Kernel) (ts : List Transfer) (ima
 oldest_spoiled A s k [] image after same flat x = x
 oldest_spoiled A s k (t ∷ ts) image after same flat x = (x.0, parts_spoiled A s k t.parts image after same (subst (λ (e : Errand). WritesFlat A s k e t.parts) x.0 flat.0) x.1)
 
-parts_asked : (s : State) (k : Kernel) (xs : List Part) (image after : SwapImage) → k.holdings ≡ s.holdings → AskedAll k image xs after
-    → AsksParts s xs image after
-parts_asked s k [] image after same x = x
-parts_asked s k (p ∷ ps) image after same x =
-    let moved : read_at image (block_of k.holdings p.page) ≡ read_at image (block_of s.holdings p.page) =
-    ap (λ (hs : Holdings). read_at image (block_of hs p.page)) same in
+parts_asked : (A : Inputs) (s : State) (k : Kernel) (files : List ImageFile) (source : Source) (xs : List Part) (image after : SwapImage) → k.holdings ≡
+    s.holdings
+    → k.place ≡ s.place → files ≡ image_files A → AskedAll files k source image xs after → AsksParts A s source xs image after
+parts_asked A s k files source [] image after same place read x = x
+parts_asked A s k files source (p ∷ ps) image after same place read x =
+    let moved : with_requests (read_asks files (image_of k.place) k.holdings source p) image
+    ≡ with_requests (read_asks (image_files A) (image_of s.place) s.holdings source p) image =
+    ap (λ (hs : Holdings). with_requests (read_asks files (image_of k.place) hs source p) image) same
+    ∙ ap (λ (q : Placement). with_requests (read_asks files (image_of q) s.holdings source p) image) place
+    ∙ ap (λ (fs : List ImageFile). with_requests (read_asks fs (image_of s.place) s.holdings source p) image) read in
     elim x [
       | inl y ↦ inl (y ∙ moved)
-      | inr y ↦ inr (parts_asked s k ps (read_at image (block_of s.holdings p.page)) after same (subst (λ (i : SwapImage). AskedAll k i ps after) moved y))
+      | inr y ↦ inr (parts_asked A s k files source ps (with_requests (read_asks (image_files A) (image_of s.place) s.holdings source p) image) after same place read
+          (subst (λ (i : SwapImage). AskedAll files k source i ps after) moved y))
     ]
 
-oldest_asked : (s : State) (k : Kernel) (ts : List Transfer) (image after : SwapImage) → k.holdings ≡ s.holdings → AskedFirst k image ts after
-    → AsksOldest s ts image after
-oldest_asked s k [] image after same x = x
-oldest_asked s k (t ∷ ts) image after same x = parts_asked s k t.parts image after same x
+errand_asked : (A : Inputs) (s : State) (k : Kernel) (files : List ImageFile) (e : Errand) (xs : List Part) (image after : SwapImage) → k.holdings ≡ s.holdings
+    → k.place ≡ s.place → files ≡ image_files A → AskedFor files k e image xs after → AsksErrand A s e xs image after
+errand_asked A s k files Writes xs image after same place read x = x
+errand_asked A s k files (Reads source demanded) xs image after same place read x = parts_asked A s k files source xs image after same place read x
+
+oldest_asked : (A : Inputs) (s : State) (k : Kernel) (files : List ImageFile) (ts : List Transfer) (image after : SwapImage) → k.holdings ≡ s.holdings
+    → k.place ≡ s.place → files ≡ image_files A → AskedFirst files k image ts after → AsksOldest A s ts image after
+oldest_asked A s k files [] image after same place read x = x
+oldest_asked A s k files (t ∷ ts) image after same place read x = errand_asked A s k files t.errand t.parts image after same place read x
 
 -- a swap image that is left
 record ImageLeft (stop : Stop) (A : Inputs) (s : State) (u : Entry) (image : SwapImage) (j : Option SwapImage) : Type 0 where
@@ -184,8 +196,8 @@ record ImageLeft (stop : Stop) (A : Inputs) (s : State) (u : Entry) (image : Swa
   told : j ≡ Some left
   is : LeavesImage stop A s u image left
 
-module _ (A : Inputs) (s : State) (k : Kernel) (image : SwapImage) (at : StandsAt A s k image.bytes) where
-  spoils_writing : (u : Entry) (j : Option SwapImage) → CauseBy u stops.SwapWriteFault k.place.transfers → SpoilsBy u stops.SwapWriteFault k (Some image) j
+module _ (A : Inputs) (s : State) (k : Kernel) (files : List ImageFile) (image : SwapImage) (at : StandsAt A s k image.bytes) (read : files ≡ image_files A) where
+  spoils_writing : (u : Entry) (j : Option SwapImage) → CauseBy u stops.SwapWriteFault k.place.transfers → SpoilsBy files u stops.SwapWriteFault k (Some image) j
       → ImageLeft stops.SwapWriteFault A s u image j
   spoils_writing entries.Done j c x = record {
     left = x.0;
@@ -200,12 +212,13 @@ module _ (A : Inputs) (s : State) (k : Kernel) (image : SwapImage) (at : StandsA
   spoils_writing (entries.SwapIn pid) j c x = elim c [ inl e ↦ absurd cc | inr r ↦ elim r [ inl e ↦ absurd cc | inr e ↦ absurd cc ] ]
   spoils_writing _ j c x = elim c [ inl e ↦ absurd cc | inr e ↦ absurd cc ]
 
-  asks_reading : (u : Entry) (j : Option SwapImage) → CauseBy u stops.SwapReadFault k.place.transfers → SpoilsBy u stops.SwapReadFault k (Some image) j
+  asks_reading : (u : Entry) (j : Option SwapImage) → CauseBy u stops.SwapReadFault k.place.transfers → SpoilsBy files u stops.SwapReadFault k (Some image) j
       → ImageLeft stops.SwapReadFault A s u image j
   asks_reading entries.Done j c x = record {
     left = x.0;
     told = x.1;
-    is = oldest_asked s k s.place.transfers image x.0 at.holdings (subst (λ (p : Placement). AskedFirst k image p.transfers x.0) at.place x.2);
+    is = oldest_asked A s k files s.place.transfers image x.0 at.holdings at.place read
+        (subst (λ (ts : List Transfer). AskedFirst files k image ts x.0) (ap (λ (p : Placement). p.transfers) at.place) x.2);
   }
   asks_reading (entries.SwapIn pid) j c x = record {
     left = read_at image (block_in k.holdings (owners.U pid) 0);
@@ -215,31 +228,47 @@ module _ (A : Inputs) (s : State) (k : Kernel) (image : SwapImage) (at : StandsA
   asks_reading (entries.SwapOut pid) j c x = elim c [ inl e ↦ absurd cc | inr r ↦ elim r [ inl e ↦ absurd cc | inr e ↦ absurd cc ] ]
   asks_reading _ j c x = elim c [ inl e ↦ absurd cc | inr e ↦ absurd cc ]
 
+  asks_file : (u : Entry) (j : Option SwapImage) → CauseBy u stops.FileFault k.place.transfers → SpoilsBy files u stops.FileFault k (Some image) j
+      → ImageLeft stops.FileFault A s u image j
+  asks_file entries.Done j c x = record {
+    left = x.0;
+    told = x.1;
+    is = oldest_asked A s k files s.place.transfers image x.0 at.holdings at.place read
+        (subst (λ (ts : List Transfer). AskedFirst files k image ts x.0) (ap (λ (p : Placement). p.transfers) at.place) x.2);
+  }
+  asks_file (entries.SwapIn pid) j c x = elim c [ inl e ↦ absurd cc | inr r ↦ elim r [ inl e ↦ absurd cc | inr e ↦ absurd cc ] ]
+  asks_file (entries.SwapOut pid) j c x = elim c [ inl e ↦ absurd cc | inr r ↦ elim r [ inl e ↦ absurd cc | inr e ↦ absurd cc ] ]
+  asks_file _ j c x = elim c [ inl e ↦ absurd cc | inr e ↦ absurd cc ]
+
 -- any other halt leaves it
 abbrev pub AsksNothing : Stop → Type 0
+AsksNothing stops.FileFault = ⊥
 AsksNothing stops.SwapReadFault = ⊥
 AsksNothing stops.SwapWriteFault = ⊥
 AsksNothing _ = Unit {0}
 
-pub same_left : (u : Entry) (stop : Stop) (k : Kernel) (i j : Option SwapImage) → AsksNothing stop → SpoilsBy u stop k i j → j ≡ i
-same_left entries.Done stops.SwapReadFault k i j n x = absurd n
-same_left entries.Done stops.SwapWriteFault k i j n x = absurd n
-same_left entries.Done _ k i j n x = x
-same_left (entries.SwapOut pid) stops.SwapReadFault k i j n x = absurd n
-same_left (entries.SwapOut pid) stops.SwapWriteFault k i j n x = absurd n
-same_left (entries.SwapOut pid) _ k i j n x = x
-same_left (entries.SwapIn pid) stops.SwapReadFault k i j n x = absurd n
-same_left (entries.SwapIn pid) stops.SwapWriteFault k i j n x = absurd n
-same_left (entries.SwapIn pid) _ k i j n x = x
-same_left _ stop k i j n x = x
+pub same_left : (files : List ImageFile) (u : Entry) (stop : Stop) (k : Kernel) (i j : Option SwapImage) → AsksNothing stop → SpoilsBy files u stop k i j →
+    j ≡ i
+same_left files entries.Done stops.FileFault k i j n x = absurd n
+same_left files entries.Done stops.SwapReadFault k i j n x = absurd n
+same_left files entries.Done stops.SwapWriteFault k i j n x = absurd n
+same_left files entries.Done _ k i j n x = x
+same_left files (entries.SwapOut pid) stops.SwapReadFault k i j n x = absurd n
+same_left files (entries.SwapOut pid) stops.SwapWriteFault k i j n x = absurd n
+same_left files (entries.SwapOut pid) _ k i j n x = x
+same_left files (entries.SwapIn pid) stops.SwapReadFault k i j n x = absurd n
+same_left files (entries.SwapIn pid) stops.SwapWriteFault k i j n x = absurd n
+same_left files (entries.SwapIn pid) _ k i j n x = x
+same_left files _ stop k i j n x = x
 
-image_left : (stop : Stop) (u : Entry) (A : Inputs) (s : State) (k : Kernel) (image : SwapImage) (j : Option SwapImage) → StandsAt A s k image.bytes
-    → CauseBy u stop k.place.transfers → SpoilsBy u stop k (Some image) j → ImageLeft stop A s u image j
-image_left stops.SwapWriteFault u A s k image j at c x = spoils_writing A s k image at u j c x
-image_left stops.NoMemory u A s k image j at c x = record { left = image; told = same_left u stops.NoMemory k (Some image) j tt x; is = refl }
-image_left stops.JournalFull u A s k image j at c x = record { left = image; told = same_left u stops.JournalFull k (Some image) j tt x; is = refl }
-image_left stops.FileFault u A s k image j at c x = record { left = image; told = same_left u stops.FileFault k (Some image) j tt x; is = refl }
-image_left stops.SwapReadFault u A s k image j at c x = asks_reading A s k image at u j c x
+image_left : (stop : Stop) (u : Entry) (A : Inputs) (s : State) (k : Kernel) (files : List ImageFile) (image : SwapImage) (j : Option SwapImage)
+    → StandsAt A s k image.bytes → files ≡ image_files A
+    → CauseBy u stop k.place.transfers → SpoilsBy files u stop k (Some image) j → ImageLeft stop A s u image j
+image_left stops.SwapWriteFault u A s k files image j at read c x = spoils_writing A s k files image at read u j c x
+image_left stops.NoMemory u A s k files image j at read c x = record { left = image; told = same_left files u stops.NoMemory k (Some image) j tt x; is = refl }
+image_left stops.JournalFull u A s k files image j at read c x = record { left = image; told = same_left files u stops.JournalFull k (Some image) j tt x; is = refl }
+image_left stops.FileFault u A s k files image j at read c x = asks_file A s k files image at read u j c x
+image_left stops.SwapReadFault u A s k files image j at read c x = asks_reading A s k files image at read u j c x
 
 -- Where it halts.
 
@@ -258,9 +287,9 @@ module _ (A : Inputs) (hs : Holdings) (can : CanRun A hs) (few : length A.first 
       same_Some x.behind (swap_left A x.kernel.journal image) (image_told A hs can few image room x.units x.state x.kernel (Some x.behind) x.leads)
       ∙ ap (λ (es : List Entry). swap_left A es image) (sym x.journal)
 
-  pub halted_run : StopsNext A x.state x.kernel x.behind stop new j → RunHalted A new.kernel.journal stop image j
-  halted_run y =
-      let i : ImageLeft stop A x.state y.entry x.behind j = image_left stop y.entry A x.state x.kernel x.behind j stands_so y.cause y.spoils in
+  pub halted_run : files_named new.images ≡ image_files A → StopsNext A x.state x.kernel x.behind stop new j → RunHalted A new.kernel.journal stop image j
+  halted_run read y =
+      let i : ImageLeft stop A x.state y.entry x.behind j = image_left stop y.entry A x.state x.kernel (files_named new.images) x.behind j stands_so read y.cause y.spoils in
       record {
         state = x.state;
         made = made_so;

@@ -11,9 +11,9 @@ use Rattle.machine_state.specs.Conditions.{HasStopped}
 use Rattle.journal_laws.specs.Moved.{StopsMoving}
 use Rattle.journal_laws.specs.Stops.{StopsBefore}
 use Rattle.step_units.specs.Sizes.{KeptAtStop}
-use Rattle.step_units.specs.Turned.TheVariants as turns
-use Rattle.step_units.specs.Turned.{Turned}
-use Rattle.step_units.specs.Turns.{StopsTurning}
+use Rattle.swapper.specs.declared.Turned.TheVariants as turns
+use Rattle.swapper.specs.declared.Turned.{Turned}
+use Rattle.swapper.specs.Turns.{StopsTurning}
 use Rattle.step_units.proofs.StopsKeep.{kept_here, kept_at, kept_next}
 
 pub kept_noting : (old new : Standing) (stop : Stop) → StopsBefore old new stop → KeptAtStop old new stop

@@ -10,7 +10,7 @@ use Rattle.swap_book.specs.Holdings.{Holdings}
 use Rattle.flat_state.specs.Flat.{Inputs}
 use Rattle.page_model.specs.PageBytes.{zeros}
 use Rattle.kernel_model.specs.Kernel.{Kernel}
-use Rattle.machine_state.specs.Files.{AreImages}
+use Rattle.machine_state.specs.Files.{AreRunImages}
 use Rattle.machine_state.specs.Machine.{Standing}
 use Rattle.machine_state.specs.Sourced.{ImageNamed}
 use Rattle.step_units.specs.Sizes.{SameSizes}
@@ -66,8 +66,8 @@ module _ (A : Inputs) (numbers : List ℕ) (old begun : Standing) (holds : Optio
   begun_at_start : At A (start A begun.kernel.holdings) begun.kernel image
   begun_at_start = subst (λ (k : Kernel). At A (start A hs) k image) (sym is_begun.kernel) at_start
 
-  begun_images : AreImages begun.images holds A.images
-  begun_images = subst (λ (ns : List ImageNamed). AreImages ns holds A.images) (sym on.images) told.images
+  begun_images : AreRunImages begun.images holds A
+  begun_images = subst (λ (ns : List ImageNamed). AreRunImages ns holds A) (sym on.images) told.images
 
   begun_there : MachineAt A (start A begun.kernel.holdings) begun holds image
   begun_there = record { at = begun_at_start; images = begun_images; blocks = ap (λ (p : Params). p.swap_blocks) on.params ∙ sym told.starts.blocks }

@@ -24,7 +24,7 @@ use Rattle.machine_state.proofs.Records.{found_pid}
 use Rattle.run_laws.proofs.Acts.{Stepper, stepper}
 use Rattle.run_model.specs.State.{State}
 use Rattle.run_model.specs.Next.{turn_instructions}
-use Rattle.step_units.proofs.Numbers.{placed}
+use Rattle.swapper.proofs.Numbers.{placed}
 use Rattle.vm_core.specs.Closing.{TurnAt}
 
 module _ (k : Kernel) (ps : List Record) (pid : ℕ) (procs : k.processes ≡ processes_of ps k.next_pid) (residents : k.place.residents ≡ residents_of ps k.next_pid)

@@ -9,7 +9,7 @@ use Rattle.io_edge.specs.FileHolding.{NamedFile}
 use Rattle.flat_state.specs.Flat.{Inputs}
 use Rattle.kernel_model.specs.Kernel.{Kernel}
 use Rattle.machine_state.specs.Sourced.{ImageNamed}
-use Rattle.machine_state.specs.Files.{AreImages}
+use Rattle.machine_state.specs.Files.{AreRunImages}
 use Rattle.machine_state.specs.Machine.{Standing}
 use Rattle.step_units.specs.Reading.{AreNamed}
 use Rattle.run_model.specs.State.{State}
@@ -37,7 +37,7 @@ pub stands_on : (A : Inputs) (s t : State) (old new : Standing) (holds : Option 
 stands_on A s t old new holds i j image us counted count st l params images same most = record {
   machine = record {
     at = leads_at A s t old.kernel new.kernel image l.behind us st.machine.at (subst (λ (o : Option SwapImage). Leads A s old.kernel image us t new.kernel o) l.told l);
-    images = subst (λ (ns : List ImageNamed). AreImages ns holds A.images) (sym images) st.machine.images;
+    images = subst (λ (ns : List ImageNamed). AreRunImages ns holds A) (sym images) st.machine.images;
     blocks = ap (λ (p : Params). p.swap_blocks) params ∙ st.machine.blocks;
   };
   told = l.told;

@@ -6,7 +6,7 @@ use Rattle.flat_state.specs.Journal.{instructions_of}
 use Rattle.kernel_model.specs.Kernel.{Kernel}
 use Rattle.machine_state.specs.Going.{CanGoOn}
 use Rattle.machine_state.specs.Machine.{Standing}
-use Rattle.step_units.specs.LastMoves.{last_moves}
+use Rattle.swapper.specs.LastMoves.{last_moves}
 use Rattle.step_units.specs.Ready.{Continues}
 use Rattle.step_units.specs.Sizes.{SameSizes}
 use Rattle.vm_core.specs.FirstProcesses.{IsNew, HasStarted}

@@ -17,7 +17,7 @@ use Rattle.step_units.specs.Ready.{Continues, RunsMoved}
 use Rattle.step_units.proofs.Journals.{last_plain}
 use Rattle.step_units.proofs.Entries.{note_continues}
 use Rattle.step_units.proofs.LinesContinue.{turn_continues}
-use Rattle.step_units.specs.Turned.TheVariants as turns
+use Rattle.swapper.specs.declared.Turned.TheVariants as turns
 use Rattle.proc_run.specs.Runs.{IsSteady}
 use Rattle.vm_core.specs.Steady.{StaysSteady}
 

@@ -10,7 +10,7 @@ use Rattle.flat_state.specs.Flat.{Inputs}
 use Rattle.page_model.specs.PageBytes.{zeros}
 use Rattle.kernel_model.specs.Kernel.{Kernel}
 use Rattle.kernel_model.specs.Start.{ImagesFit, start_kernel}
-use Rattle.machine_state.specs.Files.{AreImages}
+use Rattle.machine_state.specs.Files.{AreRunImages}
 use Rattle.machine_state.specs.Machine.{Standing}
 use Rattle.run_model.specs.State.{State, start}
 use Rattle.run_model.specs.Snapshot.{starting}
@@ -24,7 +24,7 @@ use Rattle.vm_core.specs.FirstProcesses.{StartsFrom}
 -- The files hold the images of the inputs, which are as long as their pages, and this swap image has all blocks.
 pub record IsTold (A : Inputs) (m : Standing) (numbers : List ℕ) (holds : Option (List NamedFile)) (image : SwapImage) : Type 0 where
   pub starts : StartsFrom A m numbers
-  pub images : AreImages m.images holds A.images
+  pub images : AreRunImages m.images holds A
   pub fit : ImagesFit A.images
   pub room : 512 * A.swap_blocks ≤ length image.bytes
 

@@ -10,7 +10,7 @@ use Rattle.flat_state.specs.Flat.{Inputs}
 use Rattle.flat_model.specs.Asked.{start_held}
 use Rattle.kernel_model.specs.Start.{ImagesFit}
 use Rattle.machine_state.specs.Machine.{Standing}
-use Rattle.machine_state.specs.Files.{AreImages}
+use Rattle.machine_state.specs.Files.{AreRunImages}
 use Rattle.step_units.specs.Reading.{AreNamed}
 use Rattle.run_laws.specs.Longwords.{AllImages}
 use Rattle.vm_core.specs.declared.schedule.Unfinished.{Unfinished}
@@ -33,7 +33,7 @@ pub record IsAskedOf (A : Inputs) (m : Standing) (numbers : List ℕ) (lines : L
   pub frames : A.frames ≡ m.params.frames
   pub blocks : A.swap_blocks ≡ m.params.swap_blocks
   pub limit : A.limit ≡ m.params.limit
-  pub images : AreImages m.images holds A.images
+  pub images : AreRunImages m.images holds A
   pub fit : ImagesFit A.images
   pub octets : AllImages A.images
   pub few : length A.first + 1 + A.limit < 2 ^ 32

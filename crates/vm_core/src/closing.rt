@@ -1,4 +1,5 @@
 //! The closing phase, after the last line of the schedule.
+ghost use Rattle.io_edge.specs.WithFiles.{stores};
 ghost use Rattle.std.specs.Prelude.{◌≡◌, ◌+◌, ◌<◌, ◌≤◌, ℕ, true, false, Some, None, OnOk, IfOk, IfErr, IfSome};
 ghost use Rattle.flat_state.specs.Journal.{instructions_of};
 ghost use Rattle.page_model.specs.Swapper.{is_out};
@@ -56,10 +57,12 @@ pub fn come_in<F: Files, D: SwapDev>(
     requires steady { IsSteady m.old }
     requires area { m.old.params.swap_blocks ≤ D.blocks swap.old }
     requires files { AreFiles m.old.images (F.holds files.old) }
-    ensures comes { OnOk result ((counted since : ℕ) → LeadsFrom (TurnAt m.old (F.holds files.old) (D.image swap.old) counted since pid)
-        (InTurn m.old m.new (F.holds files.old) (D.image swap.new) counted since pid)) }
+    ensures comes { OnOk result ((counted since : ℕ) → LeadsFrom
+        (TurnAt m.old (F.holds files.old) (stores F.Files D.SwapDev files.old swap.old) counted since pid)
+        (InTurn m.old m.new (F.holds files.old) (stores F.Files D.SwapDev files.new swap.new) counted since pid)) }
     ensures stops { IfErr result
-        (λ stop. (counted since : ℕ) → StopsFrom (TurnAt m.old (F.holds files.old) (D.image swap.old) counted since pid) m.old m.new (D.image swap.new) stop) }
+        (λ stop. (counted since : ℕ) → StopsFrom (TurnAt m.old (F.holds files.old) (stores F.Files D.SwapDev files.old swap.old) counted since pid) m.old
+        m.new (stores F.Files D.SwapDev files.new swap.new) stop) }
     ensures steady { OnOk result (StaysSteady m.old m.new 0) }
     ensures kept { IfErr result (KeptAtStop m.old m.new) }
     ensures outside { TransfersPages F.Files D.SwapDev (stop_of result) files.old files.new swap.old swap.new }
@@ -85,9 +88,10 @@ fn turn<F: Files, D: SwapDev>(
     requires area { m.old.params.swap_blocks ≤ D.blocks swap.old }
     requires files { AreFiles m.old.images (F.holds files.old) }
     requires counted { instructions_of m.old.kernel.journal ≡ counted }
-    ensures had { IfOk result (λ count. LeadsFrom (DueTurn m.old (F.holds files.old) (D.image swap.old) counted pid)
-        (TurnHad m.old m.new (F.holds files.old) (D.image swap.new) pid count)) }
-    ensures stops { IfErr result (StopsFrom (DueTurn m.old (F.holds files.old) (D.image swap.old) counted pid) m.old m.new (D.image swap.new)) }
+    ensures had { IfOk result (λ count. LeadsFrom (DueTurn m.old (F.holds files.old) (stores F.Files D.SwapDev files.old swap.old) counted pid)
+        (TurnHad m.old m.new (F.holds files.old) (stores F.Files D.SwapDev files.new swap.new) pid count)) }
+    ensures stops { IfErr result (StopsFrom (DueTurn m.old (F.holds files.old) (stores F.Files D.SwapDev files.old swap.old) counted pid) m.old m.new
+        (stores F.Files D.SwapDev files.new swap.new)) }
     ensures counts { IfOk result (λ count. CountsTo m.old m.new counted count) }
     ensures kept { IfErr result (KeptAtStop m.old m.new) }
     ensures outside { TransfersPages F.Files D.SwapDev (stop_of result) files.old files.new swap.old swap.new }
@@ -138,8 +142,10 @@ fn close<F: Files, D: SwapDev>(
     requires files { AreFiles m.old.images (F.holds files.old) }
     requires counted { instructions_of m.old.kernel.journal ≡ counted }
     ensures closes { IfOk result
-        (λ count. LeadsFrom (LinesAre m.old (F.holds files.old) (D.image swap.old) counted) (Closed m.old m.new (F.holds files.old) (D.image swap.new) count)) }
-    ensures stops { IfErr result (StopsFrom (LinesAre m.old (F.holds files.old) (D.image swap.old) counted) m.old m.new (D.image swap.new)) }
+        (λ count. LeadsFrom (LinesAre m.old (F.holds files.old) (stores F.Files D.SwapDev files.old swap.old) counted)
+        (Closed m.old m.new (F.holds files.old) (stores F.Files D.SwapDev files.new swap.new) count)) }
+    ensures stops { IfErr result (StopsFrom (LinesAre m.old (F.holds files.old) (stores F.Files D.SwapDev files.old swap.old) counted) m.old m.new
+        (stores F.Files D.SwapDev files.new swap.new)) }
     ensures counts { IfOk result (λ count. CountsTo m.old m.new counted count) }
     ensures kept { IfErr result (KeptAtStop m.old m.new) }
     ensures outside { TransfersPages F.Files D.SwapDev (stop_of result) files.old files.new swap.old swap.new }
@@ -166,10 +172,11 @@ impl Core {
         requires goes_on { StandsUnderway self.old }
         requires area { self.old.machine.params.swap_blocks ≤ D.blocks swap.old }
         requires files { AreFiles self.old.machine.images (F.holds files.old) }
-        ensures closes { OnOk result (LeadsFrom (AllTaken self.old (F.holds files.old) (D.image swap.old))
-            (Closed self.old.machine self.new.machine (F.holds files.old) (D.image swap.new) self.new.counted)) }
+        ensures closes { OnOk result (LeadsFrom (AllTaken self.old (F.holds files.old) (stores F.Files D.SwapDev files.old swap.old))
+            (Closed self.old.machine self.new.machine (F.holds files.old) (stores F.Files D.SwapDev files.new swap.new) self.new.counted)) }
         ensures stops { IfErr result
-            (StopsAccountedFrom (AllTaken self.old (F.holds files.old) (D.image swap.old)) self.old.machine self.new.machine (D.image swap.new)) }
+            (StopsAccountedFrom (AllTaken self.old (F.holds files.old) (stores F.Files D.SwapDev files.old swap.old)) self.old.machine self.new.machine
+            (stores F.Files D.SwapDev files.new swap.new)) }
         ensures goes_on { OnOk result (StandsUnderway self.new) }
         ensures params { OnOk result (self.new.machine.params ≡ self.old.machine.params) }
         ensures images { OnOk result (self.new.machine.images ≡ self.old.machine.images) }

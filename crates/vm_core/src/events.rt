@@ -1,4 +1,5 @@
 //! The lines of a schedule.
+ghost use Rattle.io_edge.specs.WithFiles.{stores};
 ghost use Rattle.std.specs.Prelude.{◌≡◌, ◌<◌, ◌≤◌, ◌↔◌, OnOk, IfOk, IfErr};
 ghost use Rattle.machine_state.specs.Files.{AreFiles};
 ghost use Rattle.machine_state.specs.Outside.{stop_of, TransfersPages};
@@ -47,8 +48,10 @@ fn carry_out<F: Files, D: SwapDev>(
     requires first { last_moves m.old.kernel.journal ≡ 0 }
     requires counted { instructions_of m.old.kernel.journal ≡ counted }
     ensures done { IfOk result
-        (λ count. LeadsFrom (AskedAt m.old (F.holds files.old) (D.image swap.old) counted e) (LineDone m.old m.new (D.image swap.new) count)) }
-    ensures stops { IfErr result (StopsFrom (AskedAt m.old (F.holds files.old) (D.image swap.old) counted e) m.old m.new (D.image swap.new)) }
+        (λ count. LeadsFrom (AskedAt m.old (F.holds files.old) (stores F.Files D.SwapDev files.old swap.old) counted e)
+        (LineDone m.old m.new (stores F.Files D.SwapDev files.new swap.new) count)) }
+    ensures stops { IfErr result (StopsFrom (AskedAt m.old (F.holds files.old) (stores F.Files D.SwapDev files.old swap.old) counted e) m.old m.new
+        (stores F.Files D.SwapDev files.new swap.new)) }
     ensures counts { IfOk result (λ count. CountsTo m.old m.new counted count) }
     ensures kept { IfErr result (KeptAtStop m.old m.new) }
     ensures outside { TransfersPages F.Files D.SwapDev (stop_of result) files.old files.new swap.old swap.new }
@@ -89,10 +92,11 @@ impl Core {
         requires area { self.old.machine.params.swap_blocks ≤ D.blocks swap.old }
         requires files { AreFiles self.old.machine.images (F.holds files.old) }
         requires few { HasFewMoves e }
-        ensures takes { OnOk result (LeadsFrom (LineDueAt self.old line e (F.holds files.old) (D.image swap.old))
-            (LineTaken self.old self.new (F.holds files.old) (D.image swap.new))) }
+        ensures takes { OnOk result (LeadsFrom (LineDueAt self.old line e (F.holds files.old) (stores F.Files D.SwapDev files.old swap.old))
+            (LineTaken self.old self.new (F.holds files.old) (stores F.Files D.SwapDev files.new swap.new))) }
         ensures stops { IfErr result
-            (StopsAccountedFrom (LineDueAt self.old line e (F.holds files.old) (D.image swap.old)) self.old.machine self.new.machine (D.image swap.new)) }
+            (StopsAccountedFrom (LineDueAt self.old line e (F.holds files.old) (stores F.Files D.SwapDev files.old swap.old)) self.old.machine
+            self.new.machine (stores F.Files D.SwapDev files.new swap.new)) }
         ensures goes_on { OnOk result (StandsUnderway self.new) }
         ensures limit { IfOk result (λ went. (went ≡ Went.LimitReached) ↔ (self.new.machine.params.limit ≤ self.new.counted)) }
         ensures params { OnOk result (self.new.machine.params ≡ self.old.machine.params) }

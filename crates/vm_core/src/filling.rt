@@ -1,11 +1,12 @@
 //! What is due is filled in turn.
+ghost use Rattle.io_edge.specs.WithFiles.{stores};
 ghost use Rattle.std.specs.Prelude.{◌≤◌, ◌∷◌, [], length, OnOk, IfErr, MatchResult};
 ghost use Rattle.vm_facts.specs.declared.page.Page.{Page as AnyPage};
 ghost use Rattle.page_model.specs.Rank.{HasRoom};
 ghost use Rattle.machine_state.specs.Going.{CanGoOn};
 ghost use Rattle.machine_state.specs.Files.{AreFiles};
 ghost use Rattle.machine_state.specs.Outside.{stop_of, TransfersPages};
-ghost use Rattle.step_units.specs.LastMoves.{last_moves};
+ghost use Rattle.swapper.specs.LastMoves.{last_moves};
 ghost use Rattle.step_units.specs.Ready.{Continues};
 ghost use Rattle.step_units.specs.Sizes.{KeptAtStop};
 ghost use Rattle.step_units.specs.Stepped.{LeadsFrom, StopsFrom};
@@ -32,8 +33,10 @@ fn fill_first<F: Files, D: SwapDev>(
     requires first { IsDueFirst m.old.kernel.place (due_of page parent) }
     requires room { (q : AnyPage) → HasRoom m.old.kernel.place (q ∷ []) }
     requires low { last_moves m.old.kernel.journal ≤ 1000000 }
-    ensures filled { MatchResult result (λ u. FillsDue (due_of page parent) m.old m.new (F.holds files.old) (D.image swap.old) (D.image swap.new))
-        (StopsDue (due_of page parent) m.old m.new (F.holds files.old) (D.image swap.old) (D.image swap.new)) }
+    ensures filled { MatchResult result (λ u. FillsDue (due_of page parent) m.old m.new (F.holds files.old) (stores F.Files D.SwapDev files.old swap.old)
+        (stores F.Files D.SwapDev files.new swap.new))
+        (StopsDue (due_of page parent) m.old m.new (F.holds files.old) (stores F.Files D.SwapDev files.old swap.old)
+        (stores F.Files D.SwapDev files.new swap.new)) }
     ensures outside { TransfersPages F.Files D.SwapDev (stop_of result) files.old files.new swap.old swap.new }
     ensures goes_on { OnOk result (CanGoOn m.new) }
 {
@@ -56,8 +59,10 @@ pub fn fill_rest<F: Files, D: SwapDev>(
     requires area { m.old.params.swap_blocks ≤ D.blocks swap.old }
     requires files { AreFiles m.old.images (F.holds files.old) }
     ensures leads { OnOk result
-        (LeadsFrom (ToldAt m.old (F.holds files.old) (D.image swap.old)) (FillsLead m.old m.new (F.holds files.old) (D.image swap.new))) }
-    ensures stops { IfErr result (StopsFrom (ToldAt m.old (F.holds files.old) (D.image swap.old)) m.old m.new (D.image swap.new)) }
+        (LeadsFrom (ToldAt m.old (F.holds files.old) (stores F.Files D.SwapDev files.old swap.old))
+        (FillsLead m.old m.new (F.holds files.old) (stores F.Files D.SwapDev files.new swap.new))) }
+    ensures stops { IfErr result (StopsFrom (ToldAt m.old (F.holds files.old) (stores F.Files D.SwapDev files.old swap.old)) m.old m.new
+        (stores F.Files D.SwapDev files.new swap.new)) }
     ensures continues { OnOk result (Continues m.old m.new 0) }
     ensures kept { IfErr result (KeptAtStop m.old m.new) }
     ensures outside { TransfersPages F.Files D.SwapDev (stop_of result) files.old files.new swap.old swap.new }

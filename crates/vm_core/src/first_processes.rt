@@ -1,4 +1,5 @@
 //! The first processes of a run start.
+ghost use Rattle.io_edge.specs.WithFiles.{stores};
 ghost use Rattle.std.specs.Prelude.{◌≡◌, ◌≤◌, ℕ, List, [], length, Some, IfOk, IfErr, Ok};
 ghost use Rattle.vm_facts.specs.SwapImages.{SwapImage};
 ghost use Rattle.flat_state.specs.Flat.{Inputs};
@@ -41,15 +42,18 @@ pub fn start<F: Files, D: SwapDev>(
     ensures space { (A : Inputs) → StartsFrom A m.old first.now → IfOk result (λ started. started ≡ started_by (start_held A)) }
     ensures none_made { (pid : ℕ) → result ≡ Ok (Started.NoSpace pid) → m.new.kernel.journal ≡ [] }
     ensures untouched { (pid : ℕ) → result ≡ Ok (Started.NoSpace pid) → swap.new ≡ swap.old }
+    ensures unasked { (pid : ℕ) → result ≡ Ok (Started.NoSpace pid) → files.new ≡ files.old }
     ensures kept_ready { (pid : ℕ) → result ≡ Ok (Started.NoSpace pid) → CanGoOn m.new }
     ensures kept_params { (pid : ℕ) → result ≡ Ok (Started.NoSpace pid) → m.new.params ≡ m.old.params }
     ensures kept_images { (pid : ℕ) → result ≡ Ok (Started.NoSpace pid) → m.new.images ≡ m.old.images }
     ensures kept { IfErr result (KeptAtStop m.old m.new) }
     ensures goes_on { result ≡ Ok Started.Ok → HasStarted m.old m.new }
-    ensures leads { (A : Inputs) (image : SwapImage) → IsTold A m.old first.now (F.holds files.old) image → D.image swap.old ≡ Some image
-        → result ≡ Ok Started.Ok → StartLeads A m.new (F.holds files.old) image (D.image swap.new) }
-    ensures stops { (A : Inputs) (image : SwapImage) → IsTold A m.old first.now (F.holds files.old) image → D.image swap.old ≡ Some image
-        → IfErr result (λ stop. StartStops A m.new image stop (D.image swap.new)) }
+    ensures leads { (A : Inputs) (image : SwapImage) → IsTold A m.old first.now (F.holds files.old) image → stores F.Files D.SwapDev files.old swap.old ≡ Some
+        image
+        → result ≡ Ok Started.Ok → StartLeads A m.new (F.holds files.old) image (stores F.Files D.SwapDev files.new swap.new) }
+    ensures stops { (A : Inputs) (image : SwapImage) → IsTold A m.old first.now (F.holds files.old) image → stores F.Files D.SwapDev files.old swap.old ≡ Some
+        image
+        → IfErr result (λ stop. StartStops A m.new image stop (stores F.Files D.SwapDev files.new swap.new)) }
     ensures outside { TransfersPages F.Files D.SwapDev (stop_of result) files.old files.new swap.old swap.new }
 {
     let started = begin_all(m, first)?;

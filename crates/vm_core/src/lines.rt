@@ -1,4 +1,5 @@
 //! What a line of the schedule asks for, but to run a process.
+ghost use Rattle.io_edge.specs.WithFiles.{stores};
 ghost use Rattle.std.specs.Prelude.{◌≡◌, ◌⊎◌, ◌≤◌, ℕ, List, [], length, Option, Err, OnOk, OnErr, IfErr};
 ghost use Rattle.vm_facts.specs.SwapImages.{SwapImage};
 ghost use Rattle.io_edge.specs.FileHolding.{NamedFile};
@@ -48,9 +49,10 @@ pub fn interrupt<F: Files, D: SwapDev>(
     requires steady { IsSteady m.old }
     requires area { m.old.params.swap_blocks ≤ D.blocks swap.old }
     requires files { AreFiles m.old.images (F.holds files.old) }
-    ensures made { OnOk result (LeadsFrom (LineAt m.old (F.holds files.old) (D.image swap.old) Event.Interrupt)
-        (λ A s image. LineLeads A s m.old.kernel image m.new.kernel (D.image swap.new))) }
-    ensures stops { IfErr result (StopsFrom (LineAt m.old (F.holds files.old) (D.image swap.old) Event.Interrupt) m.old m.new (D.image swap.new)) }
+    ensures made { OnOk result (LeadsFrom (LineAt m.old (F.holds files.old) (stores F.Files D.SwapDev files.old swap.old) Event.Interrupt)
+        (λ A s image. LineLeads A s m.old.kernel image m.new.kernel (stores F.Files D.SwapDev files.new swap.new))) }
+    ensures stops { IfErr result (StopsFrom (LineAt m.old (F.holds files.old) (stores F.Files D.SwapDev files.old swap.old) Event.Interrupt) m.old m.new
+        (stores F.Files D.SwapDev files.new swap.new)) }
     ensures steady { OnOk result (StaysSteady m.old m.new 0) }
     ensures kept { IfErr result (KeptAtStop m.old m.new) }
     ensures outside { TransfersPages F.Files D.SwapDev (stop_of result) files.old files.new swap.old swap.new }
@@ -71,9 +73,10 @@ pub(crate) fn hands<F: Files, D: SwapDev>(
     requires files { AreFiles m.old.images (F.holds files.old) }
     requires few { count ≤ 1000000 }
     requires first { last_moves m.old.kernel.journal ≡ 0 }
-    ensures made { OnOk result (LeadsFrom (LineAt m.old (F.holds files.old) (D.image swap.old) (Event.Hands count))
-        (λ A s image. LineLeads A s m.old.kernel image m.new.kernel (D.image swap.new))) }
-    ensures stops { IfErr result (StopsFrom (LineAt m.old (F.holds files.old) (D.image swap.old) (Event.Hands count)) m.old m.new (D.image swap.new)) }
+    ensures made { OnOk result (LeadsFrom (LineAt m.old (F.holds files.old) (stores F.Files D.SwapDev files.old swap.old) (Event.Hands count))
+        (λ A s image. LineLeads A s m.old.kernel image m.new.kernel (stores F.Files D.SwapDev files.new swap.new))) }
+    ensures stops { IfErr result (StopsFrom (LineAt m.old (F.holds files.old) (stores F.Files D.SwapDev files.old swap.old) (Event.Hands count)) m.old m.new
+        (stores F.Files D.SwapDev files.new swap.new)) }
     ensures steady { OnOk result (StaysSteady m.old m.new 0) }
     ensures kept { IfErr result (KeptAtStop m.old m.new) }
     ensures outside { TransfersPages F.Files D.SwapDev (stop_of result) files.old files.new swap.old swap.new }
@@ -91,9 +94,10 @@ pub(crate) fn swapper<F: Files, D: SwapDev>(
     requires steady { IsSteady m.old }
     requires area { m.old.params.swap_blocks ≤ D.blocks swap.old }
     requires files { AreFiles m.old.images (F.holds files.old) }
-    ensures made { OnOk result (LeadsFrom (LineAt m.old (F.holds files.old) (D.image swap.old) Event.Swapper)
-        (λ A s image. LineLeads A s m.old.kernel image m.new.kernel (D.image swap.new))) }
-    ensures stops { IfErr result (StopsFrom (LineAt m.old (F.holds files.old) (D.image swap.old) Event.Swapper) m.old m.new (D.image swap.new)) }
+    ensures made { OnOk result (LeadsFrom (LineAt m.old (F.holds files.old) (stores F.Files D.SwapDev files.old swap.old) Event.Swapper)
+        (λ A s image. LineLeads A s m.old.kernel image m.new.kernel (stores F.Files D.SwapDev files.new swap.new))) }
+    ensures stops { IfErr result (StopsFrom (LineAt m.old (F.holds files.old) (stores F.Files D.SwapDev files.old swap.old) Event.Swapper) m.old m.new
+        (stores F.Files D.SwapDev files.new swap.new)) }
     ensures steady { OnOk result (StaysSteady m.old m.new 0) }
     ensures kept { IfErr result (KeptAtStop m.old m.new) }
     ensures outside { TransfersPages F.Files D.SwapDev (stop_of result) files.old files.new swap.old swap.new }

@@ -1,4 +1,5 @@
 //! A process runs, for a dispatch or a turn.
+ghost use Rattle.io_edge.specs.WithFiles.{stores};
 ghost use Rattle.std.specs.Prelude.{◌≡◌, ◌+◌, ◌≤◌, min, IfOk, IfErr};
 ghost use Rattle.machine_state.specs.Files.{AreFiles};
 ghost use Rattle.machine_state.specs.Outside.{stop_of, TransfersPages};
@@ -42,10 +43,11 @@ pub(crate) fn dispatch<F: Files, D: SwapDev>(
     requires files { AreFiles m.old.images (F.holds files.old) }
     requires counted { instructions_of m.old.kernel.journal ≡ counted }
     ensures done { IfOk result
-        (λ more. LeadsFrom (AskedAt m.old (F.holds files.old) (D.image swap.old) counted (Event.Dispatch pid count))
-        (LineDone m.old m.new (D.image swap.new) more)) }
+        (λ more. LeadsFrom (AskedAt m.old (F.holds files.old) (stores F.Files D.SwapDev files.old swap.old) counted (Event.Dispatch pid count))
+        (LineDone m.old m.new (stores F.Files D.SwapDev files.new swap.new) more)) }
     ensures stops { IfErr result
-        (StopsFrom (AskedAt m.old (F.holds files.old) (D.image swap.old) counted (Event.Dispatch pid count)) m.old m.new (D.image swap.new)) }
+        (StopsFrom (AskedAt m.old (F.holds files.old) (stores F.Files D.SwapDev files.old swap.old) counted (Event.Dispatch pid count)) m.old m.new
+        (stores F.Files D.SwapDev files.new swap.new)) }
     ensures counts { IfOk result (λ more. CountsTo m.old m.new counted more) }
     ensures kept { IfErr result (KeptAtStop m.old m.new) }
     ensures outside { TransfersPages F.Files D.SwapDev (stop_of result) files.old files.new swap.old swap.new }
@@ -80,8 +82,10 @@ pub fn finish<F: Files, D: SwapDev>(
     requires files { AreFiles m.old.images (F.holds files.old) }
     requires counted { instructions_of m.old.kernel.journal ≡ counted }
     ensures done { IfOk result
-        (λ more. LeadsFrom (ResidentTurn m.old (F.holds files.old) (D.image swap.old) counted since pid) (TurnDone m.old m.new (D.image swap.new) pid more)) }
-    ensures stops { IfErr result (StopsFrom (ResidentTurn m.old (F.holds files.old) (D.image swap.old) counted since pid) m.old m.new (D.image swap.new)) }
+        (λ more. LeadsFrom (ResidentTurn m.old (F.holds files.old) (stores F.Files D.SwapDev files.old swap.old) counted since pid)
+        (TurnDone m.old m.new (stores F.Files D.SwapDev files.new swap.new) pid more)) }
+    ensures stops { IfErr result (StopsFrom (ResidentTurn m.old (F.holds files.old) (stores F.Files D.SwapDev files.old swap.old) counted since pid) m.old
+        m.new (stores F.Files D.SwapDev files.new swap.new)) }
     ensures counts { IfOk result (λ more. CountsTo m.old m.new counted more) }
     ensures kept { IfErr result (KeptAtStop m.old m.new) }
     ensures outside { TransfersPages F.Files D.SwapDev (stop_of result) files.old files.new swap.old swap.new }

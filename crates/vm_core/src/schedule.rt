@@ -1,4 +1,5 @@
 // A run from its start to its end.
+ghost use Rattle.io_edge.specs.WithFiles.{stores};
 ghost use Rattle.std.specs.Prelude.{◌≡◌, ◌<◌, ◌≤◌, ◌^◌, ℕ, false, List, [], length, Some, Err, All, IfOk, IfErr, OnOk};
 ghost use Rattle.vm_facts.specs.SwapImages.{SwapImage};
 ghost use Rattle.flat_state.specs.Flat.{Inputs};
@@ -53,10 +54,11 @@ fn take_lines<F: Files, D: SwapDev>(
     requires files { AreFiles core.old.machine.images (F.holds files.old) }
     requires few { HaveFewMoves lines.now }
     requires count { length lines.now < 2 ^ 32 }
-    ensures takes { IfOk result (λ went. LeadsFrom (IsBeforeLines core.old lines.now (F.holds files.old) (D.image swap.old))
-        (LinesWent core.old core.new went (length lines.now) (F.holds files.old) (D.image swap.new))) }
+    ensures takes { IfOk result (λ went. LeadsFrom (IsBeforeLines core.old lines.now (F.holds files.old) (stores F.Files D.SwapDev files.old swap.old))
+        (LinesWent core.old core.new went (length lines.now) (F.holds files.old) (stores F.Files D.SwapDev files.new swap.new))) }
     ensures stops { IfErr result
-        (StopsFrom (IsBeforeLines core.old lines.now (F.holds files.old) (D.image swap.old)) core.old.machine core.new.machine (D.image swap.new)) }
+        (StopsFrom (IsBeforeLines core.old lines.now (F.holds files.old) (stores F.Files D.SwapDev files.old swap.old)) core.old.machine core.new.machine
+        (stores F.Files D.SwapDev files.new swap.new)) }
     ensures goes_on { OnOk result (StandsUnderway core.new) }
     ensures params { OnOk result (core.new.machine.params ≡ core.old.machine.params) }
     ensures images { OnOk result (core.new.machine.images ≡ core.old.machine.images) }
@@ -92,9 +94,11 @@ fn finish<F: Files, D: SwapDev>(
     ensures images { OnOk result (core.new.machine.images ≡ core.old.machine.images) }
     ensures kept { IfErr result (KeptAtStop core.old.machine core.new.machine) }
     ensures finishes { OnOk result
-        (LeadsFrom (IsBeforeLines core.old lines.now (F.holds files.old) (D.image swap.old)) (LinesFinished core.old core.new (D.image swap.new))) }
+        (LeadsFrom (IsBeforeLines core.old lines.now (F.holds files.old) (stores F.Files D.SwapDev files.old swap.old))
+        (LinesFinished core.old core.new (stores F.Files D.SwapDev files.new swap.new))) }
     ensures stops { IfErr result
-        (StopsFrom (IsBeforeLines core.old lines.now (F.holds files.old) (D.image swap.old)) core.old.machine core.new.machine (D.image swap.new)) }
+        (StopsFrom (IsBeforeLines core.old lines.now (F.holds files.old) (stores F.Files D.SwapDev files.old swap.old)) core.old.machine core.new.machine
+        (stores F.Files D.SwapDev files.new swap.new)) }
     ensures outside { TransfersPages F.Files D.SwapDev (stop_of result) files.old files.new swap.old swap.new }
 {
     match take_lines(core, files, swap, lines)? {
@@ -120,14 +124,18 @@ fn run_through<F: Files, D: SwapDev>(
     requires count { length lines.now < 2 ^ 32 }
     requires area { core.old.machine.params.swap_blocks ≤ D.blocks swap.old }
     requires files { AreFiles core.old.machine.images (F.holds files.old) }
-    ensures ends { (A : Inputs) (image : SwapImage) → IsAskedOf A core.old.machine first.now lines.now (F.holds files.old) image → D.image swap.old ≡ Some image
-        → RunEnds A core.new.machine.kernel.journal image result (D.image swap.new) }
-    ensures full { (A : Inputs) (image : SwapImage) → IsAskedOf A core.old.machine first.now lines.now (F.holds files.old) image → D.image swap.old ≡ Some image
+    ensures ends { (A : Inputs) (image : SwapImage) → IsAskedOf A core.old.machine first.now lines.now (F.holds files.old) image → stores F.Files D.SwapDev
+        files.old swap.old ≡ Some image
+        → RunEnds A core.new.machine.kernel.journal image result (stores F.Files D.SwapDev files.new swap.new) }
+    ensures full { (A : Inputs) (image : SwapImage) → IsAskedOf A core.old.machine first.now lines.now (F.holds files.old) image → stores F.Files D.SwapDev
+        files.old swap.old ≡ Some image
         → result ≡ Err (Unfinished.Stopped Stop.JournalFull) → RunFull A core.new.machine image }
-    ensures left { (A : Inputs) (image : SwapImage) → IsAskedOf A core.old.machine first.now lines.now (F.holds files.old) image → D.image swap.old ≡ Some image
+    ensures left { (A : Inputs) (image : SwapImage) → IsAskedOf A core.old.machine first.now lines.now (F.holds files.old) image → stores F.Files D.SwapDev
+        files.old swap.old ≡ Some image
         → (stop : Halt) → result ≡ Err (Unfinished.Stopped stop) → RunStopsAt A stop core.new.machine image }
     ensures over { OnOk result
-        ((A : Inputs) (image : SwapImage) → IsAskedOf A core.old.machine first.now lines.now (F.holds files.old) image → D.image swap.old ≡ Some image
+        ((A : Inputs) (image : SwapImage) → IsAskedOf A core.old.machine first.now lines.now (F.holds files.old) image → stores F.Files D.SwapDev files.old
+        swap.old ≡ Some image
         → RunOver A core.new.machine image) }
     ensures goes_on { OnOk result (StandsUnderway core.new) }
     ensures running { OnOk result (IsRunning core.new.machine) }
@@ -168,14 +176,18 @@ pub fn run_schedule<F: Files, D: SwapDev>(
     requires count { length lines.now < 2 ^ 32 }
     requires area { core.old.machine.params.swap_blocks ≤ D.blocks swap.old }
     requires files { AreFiles core.old.machine.images (F.holds files.old) }
-    ensures ends { (A : Inputs) (image : SwapImage) → IsAskedOf A core.old.machine first.now lines.now (F.holds files.old) image → D.image swap.old ≡ Some image
-        → RunEnds A core.new.machine.kernel.journal image result (D.image swap.new) }
-    ensures full { (A : Inputs) (image : SwapImage) → IsAskedOf A core.old.machine first.now lines.now (F.holds files.old) image → D.image swap.old ≡ Some image
+    ensures ends { (A : Inputs) (image : SwapImage) → IsAskedOf A core.old.machine first.now lines.now (F.holds files.old) image → stores F.Files D.SwapDev
+        files.old swap.old ≡ Some image
+        → RunEnds A core.new.machine.kernel.journal image result (stores F.Files D.SwapDev files.new swap.new) }
+    ensures full { (A : Inputs) (image : SwapImage) → IsAskedOf A core.old.machine first.now lines.now (F.holds files.old) image → stores F.Files D.SwapDev
+        files.old swap.old ≡ Some image
         → result ≡ Err (Unfinished.Stopped Stop.JournalFull) → RunFull A core.new.machine image }
-    ensures left { (A : Inputs) (image : SwapImage) → IsAskedOf A core.old.machine first.now lines.now (F.holds files.old) image → D.image swap.old ≡ Some image
+    ensures left { (A : Inputs) (image : SwapImage) → IsAskedOf A core.old.machine first.now lines.now (F.holds files.old) image → stores F.Files D.SwapDev
+        files.old swap.old ≡ Some image
         → (stop : Halt) → result ≡ Err (Unfinished.Stopped stop) → RunStopsAt A stop core.new.machine image }
     ensures over { OnOk result
-        ((A : Inputs) (image : SwapImage) → IsAskedOf A core.old.machine first.now lines.now (F.holds files.old) image → D.image swap.old ≡ Some image
+        ((A : Inputs) (image : SwapImage) → IsAskedOf A core.old.machine first.now lines.now (F.holds files.old) image → stores F.Files D.SwapDev files.old
+        swap.old ≡ Some image
         → RunOver A core.new.machine image) }
     ensures goes_on { OnOk result (StandsUnderway core.new) }
     ensures running { OnOk result (IsRunning core.new.machine) }

@@ -1,4 +1,5 @@
 //! The start of a run.
+ghost use Rattle.io_edge.specs.WithFiles.{stores};
 ghost use Rattle.std.specs.Prelude.{◌≡◌, ◌≤◌, ℕ, List, [], length, Some, IfOk, IfErr, Ok};
 ghost use Rattle.vm_facts.specs.SwapImages.{SwapImage};
 ghost use Rattle.flat_state.specs.Flat.{Inputs};
@@ -34,12 +35,15 @@ impl Core {
         ensures space { (A : Inputs) → StartsFrom A self.old.machine first.now → IfOk result (λ started. started ≡ started_by (start_held A)) }
         ensures none_made { (pid : ℕ) → result ≡ Ok (Started.NoSpace pid) → self.new.machine.kernel.journal ≡ [] }
         ensures untouched { (pid : ℕ) → result ≡ Ok (Started.NoSpace pid) → swap.new ≡ swap.old }
+        ensures unasked { (pid : ℕ) → result ≡ Ok (Started.NoSpace pid) → files.new ≡ files.old }
         ensures kept_ready { (pid : ℕ) → result ≡ Ok (Started.NoSpace pid) → CanGoOn self.new.machine }
         ensures kept_params { (pid : ℕ) → result ≡ Ok (Started.NoSpace pid) → self.new.machine.params ≡ self.old.machine.params }
         ensures kept_images { (pid : ℕ) → result ≡ Ok (Started.NoSpace pid) → self.new.machine.images ≡ self.old.machine.images }
-        ensures starts { result ≡ Ok Started.Ok → StartsRun self.old self.new first.now (F.holds files.old) (D.image swap.old) (D.image swap.new) }
-        ensures stops { (A : Inputs) (image : SwapImage) → IsTold A self.old.machine first.now (F.holds files.old) image → D.image swap.old ≡ Some image
-            → IfErr result (λ stop. StopsStartingRun A self.new.machine image stop (D.image swap.new)) }
+        ensures starts { result ≡ Ok Started.Ok → StartsRun self.old self.new first.now (F.holds files.old) (stores F.Files D.SwapDev files.old swap.old)
+            (stores F.Files D.SwapDev files.new swap.new) }
+        ensures stops { (A : Inputs) (image : SwapImage) → IsTold A self.old.machine first.now (F.holds files.old) image → stores F.Files D.SwapDev files.old
+            swap.old ≡ Some image
+            → IfErr result (λ stop. StopsStartingRun A self.new.machine image stop (stores F.Files D.SwapDev files.new swap.new)) }
         ensures goes_on { result ≡ Ok Started.Ok → StandsUnderway self.new }
         ensures params { result ≡ Ok Started.Ok → self.new.machine.params ≡ self.old.machine.params }
         ensures images { result ≡ Ok Started.Ok → self.new.machine.images ≡ self.old.machine.images }

@@ -1,6 +1,7 @@
 -- What words do where files and a swap image are told.
 use Rattle.std.proofs.Common.{◌≡◌, ◌∙◌, ℕ, List, [], ◌++◌, Option, Some, None, ap, subst}
 use Rattle.vm_facts.specs.SwapImages.{SwapImage}
+use Rattle.io_edge.specs.FileRequests.{no_notes}
 use Rattle.io_edge.specs.FileHolding.{NamedFile}
 use Rattle.command_words.specs.Asked.{Request, Asked, Run, Load, Replay, Assemble, Show, Optimum, Curve, Owners, Film, Stats, References, Grade, Repage, RepageOwners, Policies}
 use Rattle.command_ending.specs.Ending.{Ending as CommandEnding}
@@ -55,6 +56,8 @@ pub same_seen : (files : Option (List NamedFile)) (list : List NamedFile) (zb ob
     let seen : Seen = record {
       files = files;
       faults = record { open_before = 0; open_after = 0; page_before = 0; page_after = 0 };
+      notes_before = no_notes;
+      notes_after = no_notes;
       zero_blocks = zb;
       one_blocks = ob;
       swap_before = before;

@@ -1,6 +1,8 @@
 -- What words do where files, swap devices and output are in memory, and tell what they hold: what is told, without a premise.
 use Rattle.std.specs.Prelude.{◌≡◌, ◌≤◌, ℕ, List, [], ◌++◌, length, Option, Some, None}
 use Rattle.vm_facts.specs.SwapImages.{SwapImage}
+use Rattle.io_edge.specs.FileRequests.{no_notes}
+use Rattle.io_edge.specs.WithFiles.{image_with_files, with_files}
 use Rattle.io_edge.specs.FileHolding.{NamedFile}
 use Rattle.io_edge.specs.Striping.{pair_blocks, images_paired}
 use Rattle.io_edge.specs.Written.{Appends}
@@ -36,11 +38,13 @@ use Rattle.vm_run.specs.Obeying.{Obeys}
 abbrev pub blank_pair : ℕ → ℕ → SwapImage
 blank_pair zero_blocks one_blocks = images_paired (pair_blocks zero_blocks one_blocks) (blank_swap zero_blocks) (blank_swap one_blocks)
 
--- What is seen of these files and two blank devices, which never fail, and of an output that was empty.
+-- What is seen of these files, which note nothing, and two blank devices, which never fail, and of an output that was empty.
 abbrev pub seen_of : List NamedFile → ℕ → ℕ → Option SwapImage → Option (List ℕ) → ℕ → Seen
 seen_of files zero_blocks one_blocks swap written faults = record {
   files = Some files;
   faults = record { open_before = 0; open_after = 0; page_before = 0; page_after = 0 };
+  notes_before = no_notes;
+  notes_after = no_notes;
   zero_blocks = zero_blocks;
   one_blocks = one_blocks;
   swap_before = Some (blank_pair zero_blocks one_blocks);
@@ -71,7 +75,7 @@ pub record LoadsTold (number : ℕ) (seen : Seen) (image : SwapImage) (status : 
       (status_of ending) status
   pub within : length journal ≤ journal_entries
   pub caused : IsLoadCaused seen journal ending
-  pub told : LoadEnded number seen journal image ending
+  pub told : LoadEnded number seen journal (image_with_files no_notes image) (with_files no_notes seen.swap_after) ending
   pub counted : status ≡ 0 → Appends seen.written_before (finished_lines number) seen.written_after
 
 -- another command, by what it reads in the files

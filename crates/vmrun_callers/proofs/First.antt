@@ -32,7 +32,7 @@ use Rattle.command_words.specs.declared.command.Numbers.{Numbers}
 use Rattle.command_words.specs.Words.{has_up_to, is_plain, decimal_of, in_range, number_in, is_name, is_image_word, are_image_words, is_trace, without_trace}
 use Rattle.command_words.specs.Asked.{Asked, Run, Request, run_numbers, all_numbers, asked_with_run, asked_run, asked_of}
 use Rattle.run_opening.specs.Devices.{device_fault}
-use Rattle.run_opening.specs.Images.{images_found}
+use Rattle.run_opening.specs.Images.{images_found, file_numbers}
 use Rattle.run_opening.specs.Opening.{FoundFiles, HasAll, found_told}
 use Rattle.page_laws.specs.Spans.{is_hands, ends_moving, adds, added}
 use Rattle.page_laws.proofs.Spanning.{adds_one, units_added}
@@ -135,30 +135,37 @@ same_ok a b e = cc
 
 -- inputs are what their parts are
 
-abbrev of_parts : List NamedImage → List ℕ → List Event → ℕ → ℕ → ℕ → Inputs
-of_parts images first lines frames blocks limit =
-    record { images = images; first = first; lines = lines; frames = frames; swap_blocks = blocks; limit = limit }
+abbrev of_parts : List NamedImage → List ℕ → List ℕ → List Event → ℕ → ℕ → ℕ → Inputs
+of_parts images numbers first lines frames blocks limit =
+    record { images = images; file_numbers = numbers; first = first; lines = lines; frames = frames; swap_blocks = blocks; limit = limit }
 
-made_of : (A : Inputs) (images : List NamedImage) (first : List ℕ) (lines : List Event) (frames blocks limit : ℕ)
-    → A.images ≡ images → A.first ≡ first → A.lines ≡ lines → A.frames ≡ frames → A.swap_blocks ≡ blocks → A.limit ≡ limit
-    → A ≡ of_parts images first lines frames blocks limit
-made_of A images first lines frames blocks limit i f l n s m =
-    ap (λ (x : List NamedImage). of_parts x A.first A.lines A.frames A.swap_blocks A.limit) i
-    ∙ ap (λ (x : List ℕ). of_parts images x A.lines A.frames A.swap_blocks A.limit) f
-    ∙ ap (λ (x : List Event). of_parts images first x A.frames A.swap_blocks A.limit) l
-    ∙ ap (λ (x : ℕ). of_parts images first lines x A.swap_blocks A.limit) n
-    ∙ ap (λ (x : ℕ). of_parts images first lines frames x A.limit) s
-    ∙ ap (λ (x : ℕ). of_parts images first lines frames blocks x) m
+made_of : (A : Inputs) (images : List NamedImage) (numbers first : List ℕ) (lines : List Event) (frames blocks limit : ℕ)
+    → A.images ≡ images → A.file_numbers ≡ numbers → A.first ≡ first → A.lines ≡ lines → A.frames ≡ frames → A.swap_blocks ≡ blocks → A.limit ≡ limit
+    → A ≡ of_parts images numbers first lines frames blocks limit
+made_of A images numbers first lines frames blocks limit i k f l n s m =
+    ap (λ (x : List NamedImage). of_parts x A.file_numbers A.first A.lines A.frames A.swap_blocks A.limit) i
+    ∙ ap (λ (x : List ℕ). of_parts images x A.first A.lines A.frames A.swap_blocks A.limit) k
+    ∙ ap (λ (x : List ℕ). of_parts images numbers x A.lines A.frames A.swap_blocks A.limit) f
+    ∙ ap (λ (x : List Event). of_parts images numbers first x A.frames A.swap_blocks A.limit) l
+    ∙ ap (λ (x : ℕ). of_parts images numbers first lines x A.swap_blocks A.limit) n
+    ∙ ap (λ (x : ℕ). of_parts images numbers first lines frames x A.limit) s
+    ∙ ap (λ (x : ℕ). of_parts images numbers first lines frames blocks x) m
 
-inputs_are : (A : Inputs) → A.images ≡ hi_image ∷ [] → A.first ≡ 1 ∷ [] → A.lines ≡ [] → A.frames ≡ 64 → A.swap_blocks ≡ 256
+inputs_are : (A : Inputs) → A.images ≡ hi_image ∷ [] → A.file_numbers ≡ 1 ∷ [] → A.first ≡ 1 ∷ [] → A.lines ≡ [] → A.frames ≡ 64 → A.swap_blocks ≡ 256
     → A.limit ≡ 100 → A ≡ hi
 unfolding hi
-inputs_are A i f l n s m = made_of A (hi_image ∷ []) (1 ∷ []) [] 64 256 100 i f l n s m
+inputs_are A i k f l n s m = made_of A (hi_image ∷ []) (1 ∷ []) (1 ∷ []) [] 64 256 100 i k f l n s m
+
+-- the image is the second file
+second_file : file_numbers first_files (hi_image ∷ []) ≡ 1 ∷ []
+unfolding hi_image
+second_file = refl
 
 -- the words ask for the run that was computed, and for no other
 asks_hi : (A : Inputs) → AsksFor A request first_files → A ≡ hi
 asks_hi A asks =
-    inputs_are A (same_ok A.images (hi_image ∷ []) (sym asks.images ∙ found_hi)) (asks.first ∙ begins_hi)
+    let same : A.images ≡ hi_image ∷ [] = same_ok A.images (hi_image ∷ []) (sym asks.images ∙ found_hi) in
+    inputs_are A same (asks.file_numbers ∙ ap (file_numbers first_files) same ∙ second_file) (asks.first ∙ begins_hi)
     (no_events A.lines asks.lines.0) asks.frames asks.blocks asks.limit
 
 found_held : start_held hi ≡ Ok hi_held

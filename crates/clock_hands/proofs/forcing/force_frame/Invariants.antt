@@ -1,3 +1,4 @@
+use Rattle.io_edge.specs.WithFiles.{stores}
 use Rattle.std.proofs.Common.{◌+◌, ◌<◌, ◌^◌, None}
 use Rattle.page_model.specs.Rank.{HasRoom, far}
 use Rattle.paging_units.specs.LastMoves.{last_moves}
@@ -12,7 +13,7 @@ invariant-loop-m g l = record {
   asks : Asks l.m (g.F.Files.holds l.files) (g.D.SwapDev.blocks l.swap);
   room : HasRoom l.m.kernel.place l.locked;
   fits : last_moves l.m.kernel.journal + far l.m.kernel.place l.locked < 2 ^ 32;
-  so_far : ForcesSoFar l.locked l.fn.m l.m (g.F.Files.holds l.fn.files) (g.F.Files.holds l.files) (g.D.SwapDev.image l.fn.swap) (g.D.SwapDev.image l.swap);
+  so_far : ForcesSoFar l.locked l.fn.m l.m (g.F.Files.holds l.fn.files) (g.F.Files.holds l.files) (stores g.F.Files g.D.SwapDev l.fn.files l.fn.swap) (stores g.F.Files g.D.SwapDev l.files l.swap);
   outside : TransfersPages g.F.Files g.D.SwapDev None l.fn.files l.files l.fn.swap l.swap;
 }
 

@@ -1,3 +1,4 @@
+use Rattle.io_edge.specs.WithFiles.{stores}
 use Rattle.std.proofs.Common.{◌≡◌, ℕ, List, [], Bool, Option, Result, Ok, OnOk, IfErr, refl, sym, ap, ◌∙◌, subst, arith}
 use Rattle.std.proofs.lemmas.Result.{on_ok_weaker}
 use Rattle.vm_facts.specs.SwapImages.{SwapImage}
@@ -6,6 +7,7 @@ use Rattle.vm_facts.specs.declared.entry.Entry.TheVariants as entries
 use Rattle.vm_facts.specs.declared.stop.Stop.{Stop}
 use Rattle.page_model.specs.Serve.{force_entry}
 use Rattle.machine_state.specs.Machine.{Standing}
+use Rattle.machine_state.specs.Sourced.{files_named}
 use Rattle.machine_state.specs.Conditions.{KeepsFlat}
 use Rattle.machine_state.specs.Done.{KeepsThrough}
 use Rattle.paging_units.specs.Made.{ground, MakesUnit}
@@ -29,9 +31,9 @@ returns-clause-keeps g c =
     let same : c.done.new.self ≡ c.args.m.now = c.in_ok-done.ensures.still no in
     let old = c.args.m.now in
     let holds = g.F.Files.holds c.args.files.now in
-    let i = g.D.SwapDev.image c.args.swap.now in
-    let j = g.D.SwapDev.image c.done.new.swap in
-    let image : j ≡ i = image_idle old.kernel i j (c.in_ok-done.ensures.idle.0 no) c.in_ok-done.ensures.swapped in
+    let i = stores g.F.Files g.D.SwapDev c.args.files.now c.args.swap.now in
+    let j = stores g.F.Files g.D.SwapDev c.done.new.files c.done.new.swap in
+    let image : j ≡ i = image_idle (files_named old.images) old.kernel i j (c.in_ok-done.ensures.idle.0 no) c.in_ok-done.ensures.swapped in
     on_ok_weaker c.hand.result (λ (h : KeepsFlat c.done.new.self.kernel c.hand.new.self.kernel).
     subst (λ (x : Option SwapImage). KeepsThrough old c.hand.new.self holds i x) (sym image)
     (keeps_flat old c.hand.new.self holds i (subst (λ (s : Standing). KeepsFlat s.kernel c.hand.new.self.kernel) same h)))
@@ -45,10 +47,10 @@ returns-clause-made g c =
     let same : here ≡ old = c.in_ok-done.ensures.still no in
     let holds = g.F.Files.holds c.args.files.now in
     let locked = c.args.locked.now in
-    let i = g.D.SwapDev.image c.args.swap.now in
-    let j = g.D.SwapDev.image c.done.new.swap in
+    let i = stores g.F.Files g.D.SwapDev c.args.files.now c.args.swap.now in
+    let j = stores g.F.Files g.D.SwapDev c.done.new.files c.done.new.swap in
     let idle : old.kernel.place.transfers ≡ [] = c.in_ok-done.ensures.idle.0 no in
-    let image : j ≡ i = image_idle old.kernel i j idle c.in_ok-done.ensures.swapped in
+    let image : j ≡ i = image_idle (files_named old.images) old.kernel i j idle c.in_ok-done.ensures.swapped in
     let moved : force_entry here.kernel.place.transfers ≡ entries.Hands 1 = ap force_entry (ap (λ (s : Standing). s.kernel.place.transfers) same ∙ idle) in
     subst (λ (x : Option SwapImage). OnOk c.hand.result (MakesUnit (ground old holds locked) (force_entry old.kernel.place.transfers) old c.hand.new.self i x)) (sym image)
     (subst (λ (s : Standing). OnOk c.hand.result (MakesUnit (ground s holds locked) (force_entry s.kernel.place.transfers) s c.hand.new.self i i)) same
@@ -61,10 +63,10 @@ returns-clause-stopped g c =
     let here = c.done.new.self in
     let new = c.hand.new.self in
     let same : here ≡ old = c.in_ok-done.ensures.still no in
-    let i = g.D.SwapDev.image c.args.swap.now in
-    let j = g.D.SwapDev.image c.done.new.swap in
+    let i = stores g.F.Files g.D.SwapDev c.args.files.now c.args.swap.now in
+    let j = stores g.F.Files g.D.SwapDev c.done.new.files c.done.new.swap in
     let idle : old.kernel.place.transfers ≡ [] = c.in_ok-done.ensures.idle.0 no in
-    let image : j ≡ i = image_idle old.kernel i j idle c.in_ok-done.ensures.swapped in
+    let image : j ≡ i = image_idle (files_named old.images) old.kernel i j idle c.in_ok-done.ensures.swapped in
     let whole : here.before ≡ here.kernel.holdings = subst (λ (s : Standing). s.before ≡ s.kernel.holdings) (sym same) c.requires.ready.whole in
     subst (λ (x : Option SwapImage). IfErr c.hand.result (λ stop. StopsAt (force_entry old.kernel.place.transfers) old.kernel i stop new x)) (sym image)
     (subst (λ (u : Entry). IfErr c.hand.result (λ stop. StopsAt u old.kernel i stop new i)) (sym (ap force_entry idle))

@@ -1,3 +1,4 @@
+use Rattle.io_edge.specs.WithFiles.{stores}
 use Rattle.std.proofs.Common.{arith}
 use Rattle.std.proofs.lemmas.Result.{on_ok_weaker}
 use Rattle.vm_facts.specs.declared.stop.Stop.{Stop}
@@ -17,35 +18,35 @@ force_frame-requires-clause-fits g c =
 pub returns-clause-few : goal.returns-clause-few
 returns-clause-few g c =
     let holds = g.F.Files.holds c.args.files.now in
-    let i = g.D.SwapDev.image c.args.swap.now in
-    let j = g.D.SwapDev.image c.force_frame.new.swap in
+    let i = stores g.F.Files g.D.SwapDev c.args.files.now c.args.swap.now in
+    let j = stores g.F.Files g.D.SwapDev c.force_frame.new.files c.force_frame.new.swap in
     on_ok_weaker c.force_frame.result (forced_few c.args.locked.now c.args.m.now c.force_frame.new.m holds i j c.requires.ready.running.sound.owner.frames) c.force_frame.ensures.forced
 
 pub returns-clause-few_at_stop : goal.returns-clause-few_at_stop
 returns-clause-few_at_stop g c =
     let holds = g.F.Files.holds c.args.files.now in
-    let i = g.D.SwapDev.image c.args.swap.now in
-    let j = g.D.SwapDev.image c.force_frame.new.swap in
+    let i = stores g.F.Files g.D.SwapDev c.args.files.now c.args.swap.now in
+    let j = stores g.F.Files g.D.SwapDev c.force_frame.new.files c.force_frame.new.swap in
     err_on {P = λ (stop : Stop). StopsForcing c.args.locked.now c.args.m.now stop c.force_frame.new.m holds i j} c.force_frame.result
     (λ stop. stopped_few c.args.locked.now c.args.m.now stop c.force_frame.new.m holds i j c.requires.ready.running.sound.owner.frames) c.force_frame.ensures.stopped
 
 pub returns-clause-flights : goal.returns-clause-flights
 returns-clause-flights g c =
     let holds = g.F.Files.holds c.args.files.now in
-    let i = g.D.SwapDev.image c.args.swap.now in
-    let j = g.D.SwapDev.image c.force_frame.new.swap in
+    let i = stores g.F.Files g.D.SwapDev c.args.files.now c.args.swap.now in
+    let j = stores g.F.Files g.D.SwapDev c.force_frame.new.files c.force_frame.new.swap in
     on_ok_weaker c.force_frame.result (forced_flights c.args.locked.now c.args.m.now c.force_frame.new.m holds i j c.requires.ready.running.sound.owner.frames) c.force_frame.ensures.forced
 
 pub returns-clause-counted : goal.returns-clause-counted
 returns-clause-counted g c =
     let holds = g.F.Files.holds c.args.files.now in
-    let i = g.D.SwapDev.image c.args.swap.now in
-    let j = g.D.SwapDev.image c.force_frame.new.swap in
+    let i = stores g.F.Files g.D.SwapDev c.args.files.now c.args.swap.now in
+    let j = stores g.F.Files g.D.SwapDev c.force_frame.new.files c.force_frame.new.swap in
     on_ok_weaker c.force_frame.result (forced_last c.args.locked.now c.args.m.now c.force_frame.new.m holds i j) c.force_frame.ensures.forced
 
 pub returns-clause-spares : goal.returns-clause-spares
 returns-clause-spares g c =
     let holds = g.F.Files.holds c.args.files.now in
-    let i = g.D.SwapDev.image c.args.swap.now in
-    let j = g.D.SwapDev.image c.force_frame.new.swap in
+    let i = stores g.F.Files g.D.SwapDev c.args.files.now c.args.swap.now in
+    let j = stores g.F.Files g.D.SwapDev c.force_frame.new.files c.force_frame.new.swap in
     on_ok_weaker c.force_frame.result (forced_spares c.args.locked.now c.args.m.now c.force_frame.new.m holds i j c.requires.ready.running.sound.owner.frames) c.force_frame.ensures.forced

@@ -1,3 +1,4 @@
+use Rattle.io_edge.specs.WithFiles.{stores}
 use Rattle.std.proofs.Common.{◌+◌, ◌*◌, ◌<◌, ◌≤◌, ◌^◌, length, None}
 use Rattle.paging_units.specs.LastMoves.{last_moves}
 use Rattle.paging_units.proofs.Units.{Asks}
@@ -11,7 +12,7 @@ invariant-loop-left g l = record {
   asks : Asks l.m (g.F.Files.holds l.files) (g.D.SwapDev.blocks l.swap);
   few : l.left ≤ l.n;
   fits : last_moves l.m.kernel.journal + l.left < 2 ^ 32;
-  so_far : MovesSoFar l.n l.left l.fn.m l.m (g.F.Files.holds l.fn.files) (g.F.Files.holds l.files) (g.D.SwapDev.image l.fn.swap) (g.D.SwapDev.image l.swap);
+  so_far : MovesSoFar l.n l.left l.fn.m l.m (g.F.Files.holds l.fn.files) (g.F.Files.holds l.files) (stores g.F.Files g.D.SwapDev l.fn.files l.fn.swap) (stores g.F.Files g.D.SwapDev l.files l.swap);
   outside : TransfersPages g.F.Files g.D.SwapDev None l.fn.files l.files l.fn.swap l.swap;
 }
 

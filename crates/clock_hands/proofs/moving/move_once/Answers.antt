@@ -1,3 +1,4 @@
+use Rattle.io_edge.specs.WithFiles.{stores}
 use Rattle.std.proofs.Common.{◌≡◌, ◌⊎◌, inl, inr, ◌<◌, [], length, refl, sym, subst, arith}
 use Rattle.vm_facts.specs.declared.entry.Entry.{Entry}
 use Rattle.vm_facts.specs.declared.entry.Entry.TheVariants as entries
@@ -26,7 +27,7 @@ returns-in_err-hand-clause-stopped g c =
       | else-n-gt0-via-else-n-gt0 w ↦ inl (omega arith)
     ] in
     let unit : move_unit old.kernel.place [] ≡ entries.Hands 1 = moves_now old.kernel.place c.next_write-lo.result.0 c.next_write-lo.result.1 c.next_write-lo.ensures either in
-    let i = g.D.SwapDev.image c.args.swap.now in
+    let i = stores g.F.Files g.D.SwapDev c.args.files.now c.args.swap.now in
     let stops = call_stops c.hand.result (entries.Hands 1) old c.hand.new.self i (λ s h. h) (λ s. refl) c.hand.ensures.full c.hand.ensures.stop c.hand.ensures.cause c.requires.ready.whole in
     let p = err_from_is_err_and c.from_residual-in_err-hand.result c.from_residual-in_err-hand.ensures.1 in
     rw (p.1, p.2) (subst (λ (u : Entry). StopsAt u old.kernel i c.in_err-hand.field-0.0 c.hand.new.self i) (sym unit)
@@ -44,9 +45,9 @@ returns-clause-moved g c =
 
 pub returns-clause-made : goal.returns-clause-made
 returns-clause-made g c =
-    hand_makes [] (move_unit c.args.m.now.kernel.place []) c.args.m.now c.hand.new.self (g.F.Files.holds c.args.files.now) (g.D.SwapDev.image c.args.swap.now)
+    hand_makes [] (move_unit c.args.m.now.kernel.place []) c.args.m.now c.hand.new.self (g.F.Files.holds c.args.files.now) (stores g.F.Files g.D.SwapDev c.args.files.now c.args.swap.now)
     (returns-clause-moved g c) c.in_ok-hand.ensures.step c.in_ok-hand.ensures.rest
 
 pub returns-clause-keeps : goal.returns-clause-keeps
 returns-clause-keeps g c =
-    keeps_flat c.args.m.now c.hand.new.self (g.F.Files.holds c.args.files.now) (g.D.SwapDev.image c.args.swap.now) c.in_ok-hand.ensures.keeps
+    keeps_flat c.args.m.now c.hand.new.self (g.F.Files.holds c.args.files.now) (stores g.F.Files g.D.SwapDev c.args.files.now c.args.swap.now) c.in_ok-hand.ensures.keeps

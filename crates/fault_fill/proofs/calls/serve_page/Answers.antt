@@ -1,3 +1,4 @@
+use Rattle.io_edge.specs.WithFiles.{stores}
 use Rattle.std.proofs.Common.{[], false}
 use Rattle.vm_facts.specs.declared.stop.Stop.{Stop}
 use Rattle.fault_fill.specs.Serving.{StopsServing}
@@ -13,8 +14,8 @@ returns g c =
     let old = c.args.m.now in
     let new = c.serve_on.new.m in
     let holds = g.F.Files.holds c.args.files.now in
-    let i = g.D.SwapDev.image c.args.swap.now in
-    let j = g.D.SwapDev.image c.serve_on.new.swap in
+    let i = stores g.F.Files g.D.SwapDev c.args.files.now c.args.swap.now in
+    let j = stores g.F.Files g.D.SwapDev c.serve_on.new.files c.serve_on.new.swap in
     let owner = c.requires.ready.running.sound.owner.frames in
     let can = c.requires.can in
     let serves = λ (a : PageServed). ServesAs a q old new holds i j in

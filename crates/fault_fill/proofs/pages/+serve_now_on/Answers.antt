@@ -1,3 +1,4 @@
+use Rattle.io_edge.specs.WithFiles.{stores}
 use Rattle.std.proofs.Common.{◌+◌, ◌≤◌, Bool, true, length, subst, arith}
 use Rattle.page_model.specs.Rank.{rank}
 use Rattle.fault_fill.specs.Serving.{StopsServing}
@@ -14,8 +15,8 @@ serve_now_on-requires g t c κs out =
     let new = c.serve_further.new.m in
     let locked = c.args.locked.now in
     let holds = g.F.Files.holds c.args.files.now in
-    let i = g.D.SwapDev.image c.args.swap.now in
-    let j = g.D.SwapDev.image c.serve_further.new.swap in
+    let i = stores g.F.Files g.D.SwapDev c.args.files.now c.args.swap.now in
+    let j = stores g.F.Files g.D.SwapDev c.serve_further.new.files c.serve_further.new.swap in
     let f : Further locked q old new holds i j = subst (λ (b : Bool). GoesFurther b locked q old new holds i j) c.if-more.true c.in-Ok.ensures.made in
     let s = c.requires.ready.running.sound in
     let b : Behind old.kernel.place new.kernel.place locked q = served_behind f.serves.units old.kernel.place new.kernel.place locked q true s.owner.frames c.requires.can f.serves.leads in
@@ -50,9 +51,9 @@ returns-then-more-clause-served g t c =
     let locked = c.args.locked.now in
     let holds = g.F.Files.holds c.args.files.now in
     let later = g.F.Files.holds c.serve_further.new.files in
-    let i = g.D.SwapDev.image c.args.swap.now in
-    let h = g.D.SwapDev.image c.serve_further.new.swap in
-    let j = g.D.SwapDev.image c.serve_now_on.new.swap in
+    let i = stores g.F.Files g.D.SwapDev c.args.files.now c.args.swap.now in
+    let h = stores g.F.Files g.D.SwapDev c.serve_further.new.files c.serve_further.new.swap in
+    let j = stores g.F.Files g.D.SwapDev c.serve_now_on.new.files c.serve_now_on.new.swap in
     let f : Further locked q old next holds i h = subst (λ (b : Bool). GoesFurther b locked q old next holds i h) c.if-more.true c.in-Ok.ensures.made in
     match_map (λ u. ServesNow locked q next new later h j) (λ u. ServesNow locked q old new holds i j)
     (StopsServing true locked q next new later h j) (StopsServing true locked q old new holds i j) c.serve_now_on.result

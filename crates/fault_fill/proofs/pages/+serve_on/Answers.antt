@@ -1,3 +1,4 @@
+use Rattle.io_edge.specs.WithFiles.{stores}
 use Rattle.std.proofs.Common.{◌<◌, [], false, subst, arith}
 use Rattle.page_model.specs.Ownership.{OwnsFrames}
 use Rattle.fault_fill.specs.Serving.{UnitMade, ServesTo, StopsServing}
@@ -11,7 +12,8 @@ use Rattle.fault_fill.proofs.pages.+serve_on.Goals as goal
 
 pub returns-in-Err-clause-served : goal.returns-in-Err-clause-served
 returns-in-Err-clause-served g t c =
-    stops_here false [] c.args.page c.args.m.now c.serve_unit.new.m (g.F.Files.holds c.args.files.now) (g.D.SwapDev.image c.args.swap.now) (g.D.SwapDev.image c.serve_unit.new.swap) c.in-Err.stop
+    stops_here false [] c.args.page c.args.m.now c.serve_unit.new.m (g.F.Files.holds c.args.files.now) (stores g.F.Files g.D.SwapDev c.args.files.now c.args.swap.now)
+    (stores g.F.Files g.D.SwapDev c.serve_unit.new.files c.serve_unit.new.swap) c.in-Err.stop
     (c.in-Err.ensures.made false)
 
 pub serve_on-requires : goal.serve_on-requires
@@ -20,8 +22,8 @@ serve_on-requires g t c κs out =
     let old = c.args.m.now in
     let new = c.serve_unit.new.m in
     let holds = g.F.Files.holds c.args.files.now in
-    let i = g.D.SwapDev.image c.args.swap.now in
-    let j = g.D.SwapDev.image c.serve_unit.new.swap in
+    let i = stores g.F.Files g.D.SwapDev c.args.files.now c.args.swap.now in
+    let j = stores g.F.Files g.D.SwapDev c.serve_unit.new.files c.serve_unit.new.swap in
     let any : AnyUnit q old new holds i j = subst (λ (u : Came). ComesTo u q old new holds i j) c.in-Nearer.is c.in-Ok.ensures.made in
     let u : UnitMade false [] q old new holds i j = any false [] in
     let owner : OwnsFrames old.kernel.place = c.requires.ready.running.sound.owner.frames in
@@ -51,9 +53,9 @@ returns-in-Nearer-clause-served g t c =
     let new = c.serve_on.new.m in
     let holds = g.F.Files.holds c.args.files.now in
     let later = g.F.Files.holds c.serve_unit.new.files in
-    let i = g.D.SwapDev.image c.args.swap.now in
-    let h = g.D.SwapDev.image c.serve_unit.new.swap in
-    let j = g.D.SwapDev.image c.serve_on.new.swap in
+    let i = stores g.F.Files g.D.SwapDev c.args.files.now c.args.swap.now in
+    let h = stores g.F.Files g.D.SwapDev c.serve_unit.new.files c.serve_unit.new.swap in
+    let j = stores g.F.Files g.D.SwapDev c.serve_on.new.files c.serve_on.new.swap in
     let any : AnyUnit q old next holds i h = subst (λ (u : Came). ComesTo u q old next holds i h) c.in-Nearer.is c.in-Ok.ensures.made in
     let s : ServesTo false [] q old next holds i h = one_serves false [] q old next holds i h c.requires.can (any false []) in
     match_map (λ (a : PageServed). ServesAs a q next new later h j) (λ (a : PageServed). ServesAs a q old new holds i j)

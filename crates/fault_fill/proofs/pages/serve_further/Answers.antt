@@ -1,3 +1,4 @@
+use Rattle.io_edge.specs.WithFiles.{stores}
 use Rattle.std.proofs.Common.{◌≡◌, ◌<◌, length, true, subst, sym}
 use Rattle.machine_state.specs.Machine.{Standing}
 use Rattle.page_model.specs.Placement.{state_of}
@@ -10,8 +11,8 @@ use Rattle.fault_fill.proofs.pages.serve_further.Goals as goal
 
 pub returns-in-Err-clause-made : goal.returns-in-Err-clause-made
 returns-in-Err-clause-made g c =
-    stops_here true c.args.locked.now c.args.page c.args.m.now c.serve_unit.new.m (g.F.Files.holds c.args.files.now) (g.D.SwapDev.image c.args.swap.now)
-    (g.D.SwapDev.image c.serve_unit.new.swap) c.in-Err.stop
+    stops_here true c.args.locked.now c.args.page c.args.m.now c.serve_unit.new.m (g.F.Files.holds c.args.files.now) (stores g.F.Files g.D.SwapDev c.args.files.now c.args.swap.now)
+    (stores g.F.Files g.D.SwapDev c.serve_unit.new.files c.serve_unit.new.swap) c.in-Err.stop
     (c.in-Err.ensures.made true)
 
 pub finish-requires-clause-some : goal.finish-requires-clause-some
@@ -20,36 +21,40 @@ finish-requires-clause-some g c =
     let old = c.args.m.now in
     let next = c.serve_unit.new.m in
     let holds = g.F.Files.holds c.args.files.now in
-    let i = g.D.SwapDev.image c.args.swap.now in
-    let h = g.D.SwapDev.image c.serve_unit.new.swap in
+    let i = stores g.F.Files g.D.SwapDev c.args.files.now c.args.swap.now in
+    let h = stores g.F.Files g.D.SwapDev c.serve_unit.new.files c.serve_unit.new.swap in
     let waits : NoneMade old next i h × (is_flying (state_of old.kernel.place q) ≡ true) =
     subst (λ (u : Came). ComesTo u q old next holds i h) c.in-Waits.is c.in-Ok.ensures.made in
     subst (λ (s : Standing). 0 < length s.kernel.place.transfers) (sym waits.0.machine) (flying_some old.kernel.place q c.requires.ready.running.sound.owner.frames waits.1)
 
 pub returns-in-Nearer-clause-made : goal.returns-in-Nearer-clause-made
 returns-in-Nearer-clause-made g c =
-    any_further c.args.locked.now c.args.page c.args.m.now c.serve_unit.new.m (g.F.Files.holds c.args.files.now) (g.D.SwapDev.image c.args.swap.now)
-    (g.D.SwapDev.image c.serve_unit.new.swap) _ c.in-Nearer.is c.in-Ok.ensures.made c.requires.can
+    any_further c.args.locked.now c.args.page c.args.m.now c.serve_unit.new.m (g.F.Files.holds c.args.files.now) (stores g.F.Files g.D.SwapDev c.args.files.now c.args.swap.now)
+    (stores g.F.Files g.D.SwapDev c.serve_unit.new.files c.serve_unit.new.swap) _ c.in-Nearer.is c.in-Ok.ensures.made c.requires.can
 
 pub returns-in-Ok-finish-clause-made : goal.returns-in-Ok-finish-clause-made
 returns-in-Ok-finish-clause-made g c =
     end_further c.args.locked.now c.args.page c.args.m.now c.serve_unit.new.m c.finish.new.m (g.F.Files.holds c.args.files.now) (g.F.Files.holds c.serve_unit.new.files)
-    (g.D.SwapDev.image c.args.swap.now) (g.D.SwapDev.image c.serve_unit.new.swap) (g.D.SwapDev.image c.finish.new.swap) _ c.in-Waits.is c.in-Ok.ensures.made
+    (stores g.F.Files g.D.SwapDev c.args.files.now c.args.swap.now) (stores g.F.Files g.D.SwapDev c.serve_unit.new.files c.serve_unit.new.swap)
+    (stores g.F.Files g.D.SwapDev c.finish.new.files c.finish.new.swap) _ c.in-Waits.is c.in-Ok.ensures.made
     c.in-Ok.ensures.outside.files.holds c.requires.can c.in-Ok-finish.ensures.made
 
 pub returns-in-Err-finish-clause-made : goal.returns-in-Err-finish-clause-made
 returns-in-Err-finish-clause-made g c =
-    end_stops_now c.args.locked.now c.args.page c.args.m.now c.serve_unit.new.m c.finish.new.m (g.F.Files.holds c.args.files.now) (g.D.SwapDev.image c.args.swap.now)
-    (g.D.SwapDev.image c.serve_unit.new.swap) (g.D.SwapDev.image c.finish.new.swap) c.in-Err-finish.stop _ c.in-Waits.is c.in-Ok.ensures.made c.in-Err-finish.ensures.made
+    end_stops_now c.args.locked.now c.args.page c.args.m.now c.serve_unit.new.m c.finish.new.m (g.F.Files.holds c.args.files.now) (stores g.F.Files g.D.SwapDev c.args.files.now c.args.swap.now)
+    (stores g.F.Files g.D.SwapDev c.serve_unit.new.files c.serve_unit.new.swap) (stores g.F.Files g.D.SwapDev c.finish.new.files c.finish.new.swap) c.in-Err-finish.stop _
+    c.in-Waits.is c.in-Ok.ensures.made c.in-Err-finish.ensures.made
 
 pub returns-in-Ok-make_room-clause-made : goal.returns-in-Ok-make_room-clause-made
 returns-in-Ok-make_room-clause-made g c =
     room_further c.args.locked.now c.args.page c.args.m.now c.serve_unit.new.m c.make_room.new.m (g.F.Files.holds c.args.files.now) (g.F.Files.holds c.serve_unit.new.files)
-    (g.D.SwapDev.image c.args.swap.now) (g.D.SwapDev.image c.serve_unit.new.swap) (g.D.SwapDev.image c.make_room.new.swap) _ c.in-Starves.is c.in-Ok.ensures.made
+    (stores g.F.Files g.D.SwapDev c.args.files.now c.args.swap.now) (stores g.F.Files g.D.SwapDev c.serve_unit.new.files c.serve_unit.new.swap)
+    (stores g.F.Files g.D.SwapDev c.make_room.new.files c.make_room.new.swap) _ c.in-Starves.is c.in-Ok.ensures.made
     c.in-Ok.ensures.outside.files.holds c.requires.ready.running.sound.owner.frames c.in-Ok-make_room.ensures.forced c.in-Ok-make_room.ensures.keeps
 
 pub returns-in-Err-make_room-clause-made : goal.returns-in-Err-make_room-clause-made
 returns-in-Err-make_room-clause-made g c =
     room_stops c.args.locked.now c.args.page c.args.m.now c.serve_unit.new.m c.make_room.new.m (g.F.Files.holds c.args.files.now) (g.F.Files.holds c.serve_unit.new.files)
-    (g.D.SwapDev.image c.args.swap.now) (g.D.SwapDev.image c.serve_unit.new.swap) (g.D.SwapDev.image c.make_room.new.swap) c.in-Err-make_room.stop _ c.in-Starves.is
+    (stores g.F.Files g.D.SwapDev c.args.files.now c.args.swap.now) (stores g.F.Files g.D.SwapDev c.serve_unit.new.files c.serve_unit.new.swap)
+    (stores g.F.Files g.D.SwapDev c.make_room.new.files c.make_room.new.swap) c.in-Err-make_room.stop _ c.in-Starves.is
     c.in-Ok.ensures.made c.in-Ok.ensures.outside.files.holds c.requires.ready.running.sound.owner.frames c.in-Err-make_room.ensures.stopped

@@ -1,3 +1,4 @@
+use Rattle.io_edge.specs.WithFiles.{stores}
 use Rattle.std.proofs.Common.{true}
 use Rattle.fault_fill.specs.Growth.{access_by}
 use Rattle.fault_fill.proofs.PageStops.{page_stops}
@@ -7,5 +8,6 @@ pub returns-in-Err-serve_page_now-clause-served : goal.returns-in-Err-serve_page
 returns-in-Err-serve_page_now-clause-served g c =
     page_stops true c.args.locked.now (access_by c.args.m.now.kernel c.args.pid c.args.address c.args.write) c.in_ok-page.field-0 c.in-Ok.page c.args.pid c.args.m.now
     c.page_for.new.m c.serve_page_now.new.m
-    (g.F.Files.holds c.args.files.now) (g.D.SwapDev.image c.args.swap.now) (g.D.SwapDev.image c.serve_page_now.new.swap) c.in-Err-serve_page_now.stop c.in-Ok.is c.in_ok-page.ensures.reaches
+    (g.F.Files.holds c.args.files.now) (stores g.F.Files g.D.SwapDev c.args.files.now c.args.swap.now)
+    (stores g.F.Files g.D.SwapDev c.serve_page_now.new.files c.serve_page_now.new.swap) c.in-Err-serve_page_now.stop c.in-Ok.is c.in_ok-page.ensures.reaches
     c.in-Err-serve_page_now.ensures.served c.in-Err-serve_page_now.ensures.few_at_stop

@@ -1,3 +1,4 @@
+use Rattle.io_edge.specs.WithFiles.{stores}
 use Rattle.std.proofs.Common.{IfOk, IfErr, List, Option, sym, subst}
 use Rattle.io_edge.specs.FileHolding.{NamedFile}
 use Rattle.step_units.specs.Stepped.{AtSome, LeadsFrom, StopsFrom}
@@ -8,13 +9,14 @@ use Rattle.film_core.specs.Ways.{RestAt, RestDone, GoesAt}
 
 pub settle-requires-clause-more : goal.settle-requires-clause-more
 settle-requires-clause-more g c =
-    going_fits c.args.m.now c.args.mark c.args._lines.now c.args._taken c.args.counted (g.F.Files.holds c.args.files.now) (g.D.SwapDev.image c.args.swap.now) c.requires.going
+    going_fits c.args.m.now c.args.mark c.args._lines.now c.args._taken c.args.counted (g.F.Files.holds c.args.files.now)
+    (stores g.F.Files g.D.SwapDev c.args.files.now c.args.swap.now) c.requires.going
 
 pub rest-requires-clause-under : goal.rest-requires-clause-under
 rest-requires-clause-under g c =
     let holds = g.F.Files.holds c.args.files.now in
-    let i = g.D.SwapDev.image c.args.swap.now in
-    let h = g.D.SwapDev.image c.settle.new.swap in
+    let i = stores g.F.Files g.D.SwapDev c.args.files.now c.args.swap.now in
+    let h = stores g.F.Files g.D.SwapDev c.settle.new.files c.settle.new.swap in
     subst (λ (hs : Option (List NamedFile)). AtSome (RestAt c.settle.new.m c.args.mark c.in_ok-count.count hs h)) (sym c.in_ok-count.ensures.outside.files.holds)
     (going_under c.args.m.now c.settle.new.m c.args.mark c.args._lines.now c.args._taken c.args.counted c.in_ok-count.count holds i h c.in_ok-count.ensures.counts
     c.in_ok-count.ensures.settles c.requires.going)
@@ -25,9 +27,9 @@ returns-clause-over g c =
     let mid = c.settle.new.m in
     let new = c.rest.new.m in
     let holds = g.F.Files.holds c.args.files.now in
-    let i = g.D.SwapDev.image c.args.swap.now in
-    let h = g.D.SwapDev.image c.settle.new.swap in
-    let j = g.D.SwapDev.image c.rest.new.swap in
+    let i = stores g.F.Files g.D.SwapDev c.args.files.now c.args.swap.now in
+    let h = stores g.F.Files g.D.SwapDev c.settle.new.files c.settle.new.swap in
+    let j = stores g.F.Files g.D.SwapDev c.rest.new.files c.rest.new.swap in
     ok_weaker c.rest.result (λ count. LeadsFrom (RestAt mid c.args.mark c.in_ok-count.count holds h) (RestDone mid new c.args.mark count j))
     (λ count. LeadsFrom (GoesAt old c.args.mark c.args._lines.now c.args._taken c.args.counted holds i) (RestDone old new c.args.mark count j))
     (λ count f. gets_over old mid new c.args.mark c.args._lines.now c.args._taken c.args.counted c.in_ok-count.count count holds i h j c.in_ok-count.ensures.counts c.in_ok-count.ensures.settles f)
@@ -40,9 +42,9 @@ returns-clause-stops g c =
     let mid = c.settle.new.m in
     let new = c.rest.new.m in
     let holds = g.F.Files.holds c.args.files.now in
-    let i = g.D.SwapDev.image c.args.swap.now in
-    let h = g.D.SwapDev.image c.settle.new.swap in
-    let j = g.D.SwapDev.image c.rest.new.swap in
+    let i = stores g.F.Files g.D.SwapDev c.args.files.now c.args.swap.now in
+    let h = stores g.F.Files g.D.SwapDev c.settle.new.files c.settle.new.swap in
+    let j = stores g.F.Files g.D.SwapDev c.rest.new.files c.rest.new.swap in
     stops_weaker c.rest.result (λ stop. StopsFrom (RestAt mid c.args.mark c.in_ok-count.count holds h) mid new j stop)
     (λ stop. StopsFrom (GoesAt old c.args.mark c.args._lines.now c.args._taken c.args.counted holds i) old new j stop)
     (λ stop f. rest_stops_going old mid new c.args.mark c.args._lines.now c.args._taken c.args.counted c.in_ok-count.count holds i h j stop c.in_ok-count.ensures.counts

@@ -1,3 +1,4 @@
+use Rattle.io_edge.specs.WithFiles.{stores}
 use Rattle.std.proofs.Common.{OnOk, IfErr, List, Option, sym, subst}
 use Rattle.io_edge.specs.FileHolding.{NamedFile}
 use Rattle.step_units.specs.Stepped.{AtSome, LeadsFrom, StopsFrom}
@@ -9,16 +10,16 @@ use Rattle.film_core.specs.Ways.{OverAt, RunsOut, GoesAt}
 pub pass-requires-clause-wide : goal.pass-requires-clause-wide
 pass-requires-clause-wide g c =
     going_wide c.args.m.now c.get_over.new.m c.args.mark c.args.lines.now c.args.taken c.args.counted c.in_ok-count.count c.last_turned.result (g.F.Files.holds c.args.files.now)
-    (g.D.SwapDev.image c.args.swap.now)
-    (g.D.SwapDev.image c.get_over.new.swap) c.in_ok-count.ensures.on c.in_ok-count.ensures.over c.last_turned.ensures c.requires.going c.requires.wide
+    (stores g.F.Files g.D.SwapDev c.args.files.now c.args.swap.now)
+    (stores g.F.Files g.D.SwapDev c.get_over.new.files c.get_over.new.swap) c.in_ok-count.ensures.on c.in_ok-count.ensures.over c.last_turned.ensures c.requires.going c.requires.wide
 
 pub pass-requires-clause-past : goal.pass-requires-clause-past
 pass-requires-clause-past g c =
-    let h = g.D.SwapDev.image c.get_over.new.swap in
+    let h = stores g.F.Files g.D.SwapDev c.get_over.new.files c.get_over.new.swap in
     subst (λ (hs : Option (List NamedFile)). AtSome (OverAt c.get_over.new.m c.args.lines.now c.args.taken c.in_ok-count.count c.last_turned.result hs h))
     (sym c.in_ok-count.ensures.outside.files.holds)
     (going_past c.args.m.now c.get_over.new.m c.args.mark c.args.lines.now c.args.taken c.args.counted c.in_ok-count.count c.last_turned.result (g.F.Files.holds c.args.files.now)
-    (g.D.SwapDev.image c.args.swap.now)
+    (stores g.F.Files g.D.SwapDev c.args.files.now c.args.swap.now)
     h c.in_ok-count.ensures.on c.in_ok-count.ensures.over c.last_turned.ensures c.requires.going)
 
 pub returns-clause-over : goal.returns-clause-over
@@ -27,9 +28,9 @@ returns-clause-over g c =
     let mid = c.get_over.new.m in
     let new = c.pass.new.m in
     let holds = g.F.Files.holds c.args.files.now in
-    let i = g.D.SwapDev.image c.args.swap.now in
-    let h = g.D.SwapDev.image c.get_over.new.swap in
-    let j = g.D.SwapDev.image c.pass.new.swap in
+    let i = stores g.F.Files g.D.SwapDev c.args.files.now c.args.swap.now in
+    let h = stores g.F.Files g.D.SwapDev c.get_over.new.files c.get_over.new.swap in
+    let j = stores g.F.Files g.D.SwapDev c.pass.new.files c.pass.new.swap in
     ok_so c.pass.result (LeadsFrom (OverAt mid c.args.lines.now c.args.taken c.in_ok-count.count c.last_turned.result holds h) (RunsOut mid new j))
     (LeadsFrom (GoesAt old c.args.mark c.args.lines.now c.args.taken c.args.counted holds i) (RunsOut old new j))
     (goes_over old mid c.args.mark c.args.lines.now c.args.taken c.args.counted c.in_ok-count.count c.last_turned.result holds i h c.in_ok-count.ensures.on c.in_ok-count.ensures.over
@@ -43,9 +44,9 @@ returns-clause-stops g c =
     let mid = c.get_over.new.m in
     let new = c.pass.new.m in
     let holds = g.F.Files.holds c.args.files.now in
-    let i = g.D.SwapDev.image c.args.swap.now in
-    let h = g.D.SwapDev.image c.get_over.new.swap in
-    let j = g.D.SwapDev.image c.pass.new.swap in
+    let i = stores g.F.Files g.D.SwapDev c.args.files.now c.args.swap.now in
+    let h = stores g.F.Files g.D.SwapDev c.get_over.new.files c.get_over.new.swap in
+    let j = stores g.F.Files g.D.SwapDev c.pass.new.files c.pass.new.swap in
     stops_weaker c.pass.result (λ stop. StopsFrom (OverAt mid c.args.lines.now c.args.taken c.in_ok-count.count c.last_turned.result holds h) mid new j stop)
     (λ stop. StopsFrom (GoesAt old c.args.mark c.args.lines.now c.args.taken c.args.counted holds i) old new j stop)
     (stops_going old mid c.args.mark c.args.lines.now c.args.taken c.args.counted c.in_ok-count.count c.last_turned.result holds i h c.in_ok-count.ensures.on c.in_ok-count.ensures.over

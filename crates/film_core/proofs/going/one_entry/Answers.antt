@@ -1,3 +1,4 @@
+use Rattle.io_edge.specs.WithFiles.{stores}
 use Rattle.std.proofs.Common.{subst}
 use Rattle.vm_facts.specs.declared.stop.Stop.{Stop}
 use Rattle.step_units.specs.Sizes.{KeptAtStop}
@@ -8,8 +9,10 @@ use Rattle.film_core.specs.Ways.{GoesAt}
 
 pub returns-in-Ok-clause-made : goal.returns-in-Ok-clause-made
 returns-in-Ok-clause-made g c =
-    over_made c.args.m.now c.widen.new.self c.go_further-went.new.m c.args.mark c.args.lines.now c.args.taken c.args.counted (g.F.Files.holds c.args.files.now) (g.D.SwapDev.image c.args.swap.now)
-    (g.D.SwapDev.image c.go_further-went.new.swap) (widened_by c.args.m.now c.widen.new.self c.params.result.now c.params.ensures c.widen.ensures.step) c.always.ensures.within
+    over_made c.args.m.now c.widen.new.self c.go_further-went.new.m c.args.mark c.args.lines.now c.args.taken c.args.counted (g.F.Files.holds c.args.files.now)
+    (stores g.F.Files g.D.SwapDev c.args.files.now c.args.swap.now)
+    (stores g.F.Files g.D.SwapDev c.go_further-went.new.files c.go_further-went.new.swap)
+    (widened_by c.args.m.now c.widen.new.self c.params.result.now c.params.ensures c.widen.ensures.step) c.always.ensures.within
     c.in-Ok.ensures.over c.in-Ok.ensures.ends
 
 pub returns-in-JournalFull-clause-made : goal.returns-in-JournalFull-clause-made
@@ -17,8 +20,8 @@ returns-in-JournalFull-clause-made g c =
     let mid = c.widen.new.self in
     let new = c.go_further-went.new.m in
     let holds = g.F.Files.holds c.args.files.now in
-    let i = g.D.SwapDev.image c.args.swap.now in
-    let j = g.D.SwapDev.image c.go_further-went.new.swap in
+    let i = stores g.F.Files g.D.SwapDev c.args.files.now c.args.swap.now in
+    let j = stores g.F.Files g.D.SwapDev c.go_further-went.new.files c.go_further-went.new.swap in
     full_made c.args.m.now mid new c.args.mark c.args.lines.now c.args.taken c.args.counted holds i j
     (widened_by c.args.m.now mid c.params.result.now c.params.ensures c.widen.ensures.step) c.always.ensures.within
     (subst (λ (x : Stop). StopsFrom (GoesAt mid c.args.mark c.args.lines.now c.args.taken c.args.counted holds i) mid new j x) c.in-JournalFull.is c.in-Err.ensures.stops)
@@ -29,8 +32,8 @@ returns-in-JournalFull-clause-goes_on g c =
     let mid = c.widen.new.self in
     let new = c.go_further-went.new.m in
     let holds = g.F.Files.holds c.args.files.now in
-    let i = g.D.SwapDev.image c.args.swap.now in
-    let j = g.D.SwapDev.image c.go_further-went.new.swap in
+    let i = stores g.F.Files g.D.SwapDev c.args.files.now c.args.swap.now in
+    let j = stores g.F.Files g.D.SwapDev c.go_further-went.new.files c.go_further-went.new.swap in
     full_ready c.args.m.now mid new c.args.mark c.args.lines.now c.args.taken c.args.counted holds i j
     (widened_by c.args.m.now mid c.params.result.now c.params.ensures c.widen.ensures.step) c.always.ensures.within
     (subst (λ (x : Stop). StopsFrom (GoesAt mid c.args.mark c.args.lines.now c.args.taken c.args.counted holds i) mid new j x) c.in-JournalFull.is c.in-Err.ensures.stops)
@@ -41,8 +44,8 @@ returns-in_default g c =
     let mid = c.widen.new.self in
     let new = c.go_further-went.new.m in
     let holds = g.F.Files.holds c.args.files.now in
-    let i = g.D.SwapDev.image c.args.swap.now in
-    let j = g.D.SwapDev.image c.go_further-went.new.swap in
+    let i = stores g.F.Files g.D.SwapDev c.args.files.now c.args.swap.now in
+    let j = stores g.F.Files g.D.SwapDev c.go_further-went.new.files c.go_further-went.new.swap in
     record {
       made = tt;
       stops =

@@ -1,3 +1,4 @@
+use Rattle.io_edge.specs.WithFiles.{stores}
 use Rattle.vm_core.proofs.Noting.{stops_on, ok_so, stops_weaker}
 use Rattle.run_model.specs.declared.mark.Mark.TheVariants as marks
 use Rattle.step_units.specs.Stepped.{LeadsFrom, StopsFrom}
@@ -10,15 +11,16 @@ returns-in_err-note-clause-stops g c =
     let old = c.args.m.now in
     let new = c.note.new.m in
     let holds = g.F.Files.holds c.args.files.now in
-    let i = g.D.SwapDev.image c.args.swap.now in
+    let i = stores g.F.Files g.D.SwapDev c.args.files.now c.args.swap.now in
     let stop = c.in_err-note.field-0.0 in
     stops_on c.from_residual.result stop (StopsFrom (OverAt old c.args.lines.now c.args.taken c.args.counted c.args._last holds i) old new i) c.from_residual.ensures.1
     (turn_noting old new c.args.lines.now c.args.taken c.args.counted c.args._last holds i c.args.pid stop c.requires.below c.requires.behind c.requires.turned c.in_err-note.ensures.stops)
 
 pub round-requires-clause-round : goal.round-requires-clause-round
 round-requires-clause-round g c =
-    turn_round c.args.m.now c.note.new.m c.note.new.m c.args.lines.now c.args.taken c.args.counted c.args._last (g.F.Files.holds c.args.files.now) (g.D.SwapDev.image c.args.swap.now)
-    (g.D.SwapDev.image c.args.swap.now)
+    turn_round c.args.m.now c.note.new.m c.note.new.m c.args.lines.now c.args.taken c.args.counted c.args._last (g.F.Files.holds c.args.files.now)
+    (stores g.F.Files g.D.SwapDev c.args.files.now c.args.swap.now)
+    (stores g.F.Files g.D.SwapDev c.args.files.now c.args.swap.now)
     c.args.pid c.requires.below c.requires.behind c.requires.turned c.in_ok-note.ensures.steady c.in_ok-note.ensures.step c.requires.past
 
 pub returns-clause-over : goal.returns-clause-over
@@ -27,8 +29,8 @@ returns-clause-over g c =
     let mid = c.note.new.m in
     let new = c.round.new.m in
     let holds = g.F.Files.holds c.args.files.now in
-    let i = g.D.SwapDev.image c.args.swap.now in
-    let j = g.D.SwapDev.image c.round.new.swap in
+    let i = stores g.F.Files g.D.SwapDev c.args.files.now c.args.swap.now in
+    let j = stores g.F.Files g.D.SwapDev c.round.new.files c.round.new.swap in
     ok_so c.round.result (LeadsFrom (RoundAt mid (marks.Turn c.args.pid c.args.counted) c.args.lines.now c.args.taken c.args.counted holds i) (RunsOut mid new j))
     (LeadsFrom (OverAt old c.args.lines.now c.args.taken c.args.counted c.args._last holds i) (RunsOut old new j))
     (turn_passes old mid new c.args.lines.now c.args.taken c.args.counted c.args._last holds i j c.args.pid c.requires.below c.requires.behind c.requires.turned c.in_ok-note.ensures.steady
@@ -40,8 +42,8 @@ returns-clause-stops g c =
     let mid = c.note.new.m in
     let new = c.round.new.m in
     let holds = g.F.Files.holds c.args.files.now in
-    let i = g.D.SwapDev.image c.args.swap.now in
-    let j = g.D.SwapDev.image c.round.new.swap in
+    let i = stores g.F.Files g.D.SwapDev c.args.files.now c.args.swap.now in
+    let j = stores g.F.Files g.D.SwapDev c.round.new.files c.round.new.swap in
     stops_weaker c.round.result (λ stop. StopsFrom (RoundAt mid (marks.Turn c.args.pid c.args.counted) c.args.lines.now c.args.taken c.args.counted holds i) mid new j stop)
     (λ stop. StopsFrom (OverAt old c.args.lines.now c.args.taken c.args.counted c.args._last holds i) old new j stop)
     (turn_stops_passing old mid new c.args.lines.now c.args.taken c.args.counted c.args._last holds i j c.args.pid c.requires.below c.requires.behind c.requires.turned

@@ -1,5 +1,8 @@
+use Rattle.io_edge.specs.WithFiles.{stores}
 use Rattle.vm_facts.specs.declared.entry.Entry.TheVariants as entries
 use Rattle.run_model.specs.declared.mark.Mark.TheVariants as marks
+use Rattle.machine_state.proofs.Besides.{in_beside, asks_beside}
+use Rattle.swapper.proofs.PutUnits.{in_stops_beside}
 use Rattle.step_units.proofs.Finding.{may_come}
 use Rattle.step_units.specs.Sizes.{KeptAtStop}
 use Rattle.step_units.specs.Stepped.{StopsFrom}
@@ -17,8 +20,10 @@ swap_in-requires-clause-can g c =
 
 pub returns-clause-rests : goal.returns-clause-rests
 returns-clause-rests g c =
-    bring_rests c.args.m.now c.swap_in.new.m c.args.pid c.args.counted (g.F.Files.holds c.args.files.now) (g.D.SwapDev.image c.args.swap.now) (g.D.SwapDev.image c.swap_in.new.swap)
-    c.in_ok-swap_in.ensures.step c.in_ok-swap_in.ensures.asked
+    bring_rests c.args.m.now c.swap_in.new.m c.args.pid c.args.counted (g.F.Files.holds c.args.files.now) (stores g.F.Files g.D.SwapDev c.args.files.now c.args.swap.now)
+    (stores g.F.Files g.D.SwapDev c.args.files.now c.swap_in.new.swap)
+    (in_beside c.args.m.now.kernel c.swap_in.new.m.kernel c.args.pid (g.D.SwapDev.image c.args.swap.now) (g.F.Files.notes c.args.files.now) c.in_ok-swap_in.ensures.step)
+    (asks_beside c.args.m.now.kernel c.args.pid (g.D.SwapDev.image c.args.swap.now) (g.D.SwapDev.image c.swap_in.new.swap) (g.F.Files.notes c.args.files.now) c.in_ok-swap_in.ensures.asked)
 
 pub returns-clause-on : goal.returns-clause-on
 returns-clause-on g c =
@@ -31,11 +36,12 @@ returns-in_err-swap_in-clause-stops g c =
     let old = c.args.m.now in
     let new = c.swap_in.new.m in
     let holds = g.F.Files.holds c.args.files.now in
-    let i = g.D.SwapDev.image c.args.swap.now in
-    let j = g.D.SwapDev.image c.swap_in.new.swap in
+    let i = stores g.F.Files g.D.SwapDev c.args.files.now c.args.swap.now in
+    let j = stores g.F.Files g.D.SwapDev c.args.files.now c.swap_in.new.swap in
     let stop = c.in_err-swap_in.field-0.0 in
     stops_on c.from_residual.result stop (StopsFrom (RestAt old (marks.BringIn c.args.pid) c.args.counted holds i) old new j) c.from_residual.ensures.1
-    (bring_stops old new c.args.pid c.args.counted holds i j stop c.in_err-swap_in.ensures.stopped)
+    (bring_stops old new c.args.pid c.args.counted holds i j stop
+    (in_stops_beside c.args.pid old.kernel (g.D.SwapDev.image c.args.swap.now) (g.D.SwapDev.image c.swap_in.new.swap) stop new (g.F.Files.notes c.args.files.now) c.in_err-swap_in.ensures.stopped))
 
 pub returns-in_err-swap_in-clause-kept : goal.returns-in_err-swap_in-clause-kept
 returns-in_err-swap_in-clause-kept g c =

@@ -1,3 +1,4 @@
+use Rattle.io_edge.specs.WithFiles.{stores}
 use Rattle.std.proofs.Common.{false}
 use Rattle.run_model.specs.declared.mark.Mark.TheVariants as marks
 use Rattle.step_units.specs.Stepped.{LeadsFrom, StopsFrom}
@@ -12,8 +13,8 @@ returns-clause-rests g c =
     let old = c.args.m.now in
     let new = c.run.new.m in
     let holds = g.F.Files.holds c.args.files.now in
-    let i = g.D.SwapDev.image c.args.swap.now in
-    let j = g.D.SwapDev.image c.run.new.swap in
+    let i = stores g.F.Files g.D.SwapDev c.args.files.now c.args.swap.now in
+    let j = stores g.F.Files g.D.SwapDev c.run.new.files c.run.new.swap in
     let until = c.count_behind-until.result in
     ok_weaker c.run.result (λ count. LeadsFrom (UnderMark old holds i c.args.pid false c.args.counted until) (RunLeads old.kernel c.args.pid false new.kernel j count))
     (λ count. LeadsFrom (RestAt old (marks.Dispatch c.args.pid c.args.more c.args.since) c.args.counted holds i) (RestDone old new (marks.Dispatch c.args.pid c.args.more c.args.since) count j))
@@ -24,8 +25,8 @@ returns-clause-stops g c =
     let old = c.args.m.now in
     let new = c.run.new.m in
     let holds = g.F.Files.holds c.args.files.now in
-    let i = g.D.SwapDev.image c.args.swap.now in
-    let j = g.D.SwapDev.image c.run.new.swap in
+    let i = stores g.F.Files g.D.SwapDev c.args.files.now c.args.swap.now in
+    let j = stores g.F.Files g.D.SwapDev c.run.new.files c.run.new.swap in
     let until = c.count_behind-until.result in
     stops_weaker c.run.result (λ stop. StopsFrom (UnderMark old holds i c.args.pid false c.args.counted until) old new j stop)
     (λ stop. StopsFrom (RestAt old (marks.Dispatch c.args.pid c.args.more c.args.since) c.args.counted holds i) old new j stop)

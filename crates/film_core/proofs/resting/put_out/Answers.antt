@@ -1,3 +1,4 @@
+use Rattle.io_edge.specs.WithFiles.{stores}
 use Rattle.run_model.specs.declared.mark.Mark.TheVariants as marks
 use Rattle.step_units.proofs.Finding.{put_out_in}
 use Rattle.step_units.specs.Sizes.{KeptAtStop}
@@ -23,12 +24,14 @@ swap_out-requires-clause-resident g c =
 pub returns-clause-rests : goal.returns-clause-rests
 returns-clause-rests g c =
     let p = c.in_ok-swap_out.ensures.put in
-    put_rests c.args.m.now c.swap_out.new.m c.args.pid p.0 c.args.counted (g.F.Files.holds c.args.files.now) (g.D.SwapDev.image c.args.swap.now) (g.D.SwapDev.image c.swap_out.new.swap) p.1 p.2
+    put_rests c.args.m.now c.swap_out.new.m c.args.pid p.0 c.args.counted (g.F.Files.holds c.args.files.now)
+    (stores g.F.Files g.D.SwapDev c.args.files.now c.args.swap.now) (stores g.F.Files g.D.SwapDev c.swap_out.new.files c.swap_out.new.swap) p.1 p.2
 
 pub returns-clause-on : goal.returns-clause-on
 returns-clause-on g c =
     steady_stays c.args.m.now c.swap_out.new.m c.args.counted c.requires.counted
-    (swapper_steady c.args.m.now c.swap_out.new.m (g.F.Files.holds c.args.files.now) (g.D.SwapDev.image c.args.swap.now) (g.D.SwapDev.image c.swap_out.new.swap)
+    (swapper_steady c.args.m.now c.swap_out.new.m (g.F.Files.holds c.args.files.now) (stores g.F.Files g.D.SwapDev c.args.files.now c.args.swap.now)
+    (stores g.F.Files g.D.SwapDev c.swap_out.new.files c.swap_out.new.swap)
     (turns.Out c.args.pid) c.requires.steady c.in_ok-swap_out.ensures.put c.in_ok-swap_out.ensures.goes_on)
 
 pub returns-in_err-swap_out-clause-stops : goal.returns-in_err-swap_out-clause-stops
@@ -36,8 +39,8 @@ returns-in_err-swap_out-clause-stops g c =
     let old = c.args.m.now in
     let new = c.swap_out.new.m in
     let holds = g.F.Files.holds c.args.files.now in
-    let i = g.D.SwapDev.image c.args.swap.now in
-    let j = g.D.SwapDev.image c.swap_out.new.swap in
+    let i = stores g.F.Files g.D.SwapDev c.args.files.now c.args.swap.now in
+    let j = stores g.F.Files g.D.SwapDev c.swap_out.new.files c.swap_out.new.swap in
     let stop = c.in_err-swap_out.field-0.0 in
     let x = c.in_err-swap_out.ensures.stopped in
     stops_on c.from_residual.result stop (StopsFrom (RestAt old (marks.PutOut c.args.pid) c.args.counted holds i) old new j) c.from_residual.ensures.1
@@ -50,5 +53,5 @@ returns-in_err-swap_out-clause-kept g c =
     let stop = c.in_err-swap_out.field-0.0 in
     let x = c.in_err-swap_out.ensures.stopped in
     stops_on c.from_residual.result stop (KeptAtStop old new) c.from_residual.ensures.1
-    (kept_turning old new (g.F.Files.holds c.args.files.now) (g.D.SwapDev.image c.args.swap.now) (g.D.SwapDev.image c.swap_out.new.swap)
+    (kept_turning old new (g.F.Files.holds c.args.files.now) (stores g.F.Files g.D.SwapDev c.args.files.now c.args.swap.now) (stores g.F.Files g.D.SwapDev c.swap_out.new.files c.swap_out.new.swap)
     (turns.Out c.args.pid) stop x.2.there.params x.2.there.images x)

@@ -1,3 +1,4 @@
+use Rattle.io_edge.specs.WithFiles.{stores}
 use Rattle.std.proofs.Common.{◌<◌, IfOk, IfErr, inl, inr, sym, ◌∙◌, subst, arith}
 use Rattle.run_model.specs.declared.mark.Mark.TheVariants as marks
 use Rattle.step_units.specs.Stepped.{LeadsFrom, StopsFrom}
@@ -11,7 +12,7 @@ use Rattle.film_core.specs.Ways.{RestAt, RestDone}
 pub returns-then-counted-count_behind-clause-rests : goal.returns-then-counted-count_behind-clause-rests
 returns-then-counted-count_behind-clause-rests g c =
     let holds = g.F.Files.holds c.args.files.now in
-    let i = g.D.SwapDev.image c.args.swap.now in
+    let i = stores g.F.Files g.D.SwapDev c.args.files.now c.args.swap.now in
     turn_spent c.args.m.now c.args.pid c.args.since c.args.counted c.count_behind.result holds i c.count_behind.ensures (elim c.then-counted-count_behind.branch [
       | then-counted-count_behind-via-then-counted-count_behind w ↦ inl (let l = w.if-counted-count_behind.true in omega (arith, l))
       | then-counted-count_behind-via-else-counted-count_behind+then-not-may_step w ↦ inr (sym w.may_step.ensures ∙ w.if-not-may_step.true)
@@ -22,8 +23,8 @@ returns-in_err-come_in-clause-stops g c =
     let old = c.args.m.now in
     let new = c.come_in.new.m in
     let holds = g.F.Files.holds c.args.files.now in
-    let i = g.D.SwapDev.image c.args.swap.now in
-    let j = g.D.SwapDev.image c.come_in.new.swap in
+    let i = stores g.F.Files g.D.SwapDev c.args.files.now c.args.swap.now in
+    let j = stores g.F.Files g.D.SwapDev c.come_in.new.files c.come_in.new.swap in
     let until = c.count_behind.result in
     let stop = c.in_err-come_in.field-0.0 in
     let below : c.args.counted < c.count_behind.result = let l = c.if-counted-count_behind.false in omega (arith, l) in
@@ -37,9 +38,9 @@ returns-clause-rests g c =
     let mid = c.come_in.new.m in
     let new = c.finish.new.m in
     let holds = g.F.Files.holds c.args.files.now in
-    let i = g.D.SwapDev.image c.args.swap.now in
-    let h = g.D.SwapDev.image c.come_in.new.swap in
-    let j = g.D.SwapDev.image c.finish.new.swap in
+    let i = stores g.F.Files g.D.SwapDev c.args.files.now c.args.swap.now in
+    let h = stores g.F.Files g.D.SwapDev c.come_in.new.files c.come_in.new.swap in
+    let j = stores g.F.Files g.D.SwapDev c.finish.new.files c.finish.new.swap in
     let below : c.args.counted < c.count_behind.result = let l = c.if-counted-count_behind.false in omega (arith, l) in
     ok_weaker c.finish.result (λ count. LeadsFrom (ResidentTurn mid holds h c.args.counted c.args.since c.args.pid) (TurnDone mid new j c.args.pid count))
     (λ count. LeadsFrom (RestAt old (marks.Turn c.args.pid c.args.since) c.args.counted holds i) (RestDone old new (marks.Turn c.args.pid c.args.since) count j))
@@ -54,9 +55,9 @@ returns-clause-stops g c =
     let mid = c.come_in.new.m in
     let new = c.finish.new.m in
     let holds = g.F.Files.holds c.args.files.now in
-    let i = g.D.SwapDev.image c.args.swap.now in
-    let h = g.D.SwapDev.image c.come_in.new.swap in
-    let j = g.D.SwapDev.image c.finish.new.swap in
+    let i = stores g.F.Files g.D.SwapDev c.args.files.now c.args.swap.now in
+    let h = stores g.F.Files g.D.SwapDev c.come_in.new.files c.come_in.new.swap in
+    let j = stores g.F.Files g.D.SwapDev c.finish.new.files c.finish.new.swap in
     let below : c.args.counted < c.count_behind.result = let l = c.if-counted-count_behind.false in omega (arith, l) in
     stops_weaker c.finish.result (λ stop. StopsFrom (ResidentTurn mid holds h c.args.counted c.args.since c.args.pid) mid new j stop)
     (λ stop. StopsFrom (RestAt old (marks.Turn c.args.pid c.args.since) c.args.counted holds i) old new j stop)

@@ -1,3 +1,4 @@
+use Rattle.io_edge.specs.WithFiles.{stores}
 use Rattle.std.proofs.Common.{length, sym, ap, ◌∙◌, subst, arith}
 use Rattle.grade_check.specs.Along.{Along}
 use Rattle.grade_check.proofs.Going.{along_first, goes_further}
@@ -7,7 +8,7 @@ pub loop-film-init : goal.loop-film-init
 loop-film-init g c = record {
   filming = c.requires.filming;
   so_far = λ A image are begun.
-      along_first A c.args.film.now (g.F.Files.holds c.args.files.now) (g.D.SwapDev.image c.args.swap.now) image c.args.entries.now begun;
+      along_first A c.args.film.now (g.F.Files.holds c.args.files.now) (stores g.F.Files g.D.SwapDev c.args.files.now c.args.swap.now) image c.args.entries.now begun;
   within = let empty = ap length c.requires.first in omega (arith, empty);
   area = c.requires.area;
   files = c.requires.files;
@@ -33,7 +34,8 @@ loop-film-preserved g c =
     record {
       filming = ends.filming;
       so_far = λ A image are begun. ends.goes A are
-          (subst (λ b. Along A c.loop-film.film (g.F.Files.holds c.loop-film.files) (g.D.SwapDev.image c.loop-film.swap) b c.args.entries.now) on.0 (so.so_far A image are begun));
+          (subst (λ b. Along A c.loop-film.film (g.F.Files.holds c.loop-film.files) (stores g.F.Files g.D.SwapDev c.loop-film.files c.loop-film.swap) b
+          c.args.entries.now) on.0 (so.so_far A image are begun));
       within = let longer = ends.longer in omega (arith, below, longer);
       area = ends.area;
       files = ends.files;
@@ -54,4 +56,4 @@ grade_of-requires-clause-ended g c = sym c.goes_along.ensures ∙ c.loop-film-te
 
 pub returns : goal.returns
 returns g c = λ A image frames are begun.
-    c.grade_of.ensures A (g.F.Files.holds c.loop-film.files) (g.D.SwapDev.image c.loop-film.swap) frames (c.loop-film.invariant.so_far A image are begun)
+    c.grade_of.ensures A (g.F.Files.holds c.loop-film.files) (stores g.F.Files g.D.SwapDev c.loop-film.files c.loop-film.swap) frames (c.loop-film.invariant.so_far A image are begun)

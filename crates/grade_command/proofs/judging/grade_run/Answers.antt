@@ -1,3 +1,4 @@
+use Rattle.io_edge.specs.WithFiles.{stores}
 use Rattle.std.proofs.Common.{rules, ◌≡◌, List, Option, Ok, sym, ap, subst, arith}
 use Rattle.vm_facts.specs.declared.params.Params.{Params}
 use Rattle.io_edge.specs.FileHolding.{NamedFile}
@@ -13,14 +14,16 @@ start-requires-clause-numbers g c = are_among c.args.film.now.machine.images c.a
 pub grade_begun-requires-clause-filming : goal.grade_begun-requires-clause-filming
 grade_begun-requires-clause-filming g c =
     let begun : c.start.result ≡ Ok starteds.Ok = search rules in
-    filming_begun c.args.film.now c.start.new.self c.args.first.now c.args.lines.now (g.F.Files.holds c.args.files.now) (g.F.Files.holds c.start.new.files) (g.D.SwapDev.image c.args.swap.now)
-    (g.D.SwapDev.image c.start.new.swap)
+    filming_begun c.args.film.now c.start.new.self c.args.first.now c.args.lines.now (g.F.Files.holds c.args.files.now) (g.F.Files.holds c.start.new.files)
+    (stores g.F.Files g.D.SwapDev c.args.files.now c.args.swap.now)
+    (stores g.F.Files g.D.SwapDev c.start.new.files c.start.new.swap)
     c.start.ensures.outside.files.holds c.requires.frames c.requires.inputs (c.start.ensures.begins begun)
 
 pub grade_begun-requires-clause-first : goal.grade_begun-requires-clause-first
 grade_begun-requires-clause-first g c =
     let begun : c.start.result ≡ Ok starteds.Ok = search rules in
-    none_so_far c.args.film.now c.start.new.self c.args.first.now c.args.lines.now (g.F.Files.holds c.args.files.now) (g.D.SwapDev.image c.args.swap.now) (g.D.SwapDev.image c.start.new.swap)
+    none_so_far c.args.film.now c.start.new.self c.args.first.now c.args.lines.now (g.F.Files.holds c.args.files.now)
+    (stores g.F.Files g.D.SwapDev c.args.files.now c.args.swap.now) (stores g.F.Files g.D.SwapDev c.start.new.files c.start.new.swap)
     c.requires.inputs (c.start.ensures.begins begun)
 
 pub grade_begun-requires-clause-area : goal.grade_begun-requires-clause-area
@@ -38,7 +41,8 @@ pub returns-in-Ok-Ok : goal.returns-in-Ok-Ok
 returns-in-Ok-Ok g c = λ A image asked told.
     let begun : c.start.result ≡ Ok starteds.Ok = search rules in
     c.grade_begun.ensures A image (let many = asked.frames in let least = c.requires.frames in omega (arith, many, least)) asked.lines_are
-    (begun_over A c.start.new.self (g.F.Files.holds c.args.files.now) (g.F.Files.holds c.start.new.files) (g.D.SwapDev.image c.start.new.swap) image c.start.ensures.outside.files.holds
+    (begun_over A c.start.new.self (g.F.Files.holds c.args.files.now) (g.F.Files.holds c.start.new.files)
+    (stores g.F.Files g.D.SwapDev c.start.new.files c.start.new.swap) image c.start.ensures.outside.files.holds
     (c.start.ensures.begins begun A image asked told))
 
 pub returns-in-Ok-NoSpace : goal.returns-in-Ok-NoSpace

@@ -1,3 +1,4 @@
+use Rattle.io_edge.specs.WithFiles.{stores}
 use Rattle.std.proofs.Common.{◌≤◌, ◌∷◌, [], length, None}
 use Rattle.vm_facts.specs.declared.page.Page.{Page}
 use Rattle.page_model.specs.Rank.{HasRoom}
@@ -18,7 +19,7 @@ invariant-loop-child g l = record {
   due : AreCopiesFrom l.parent l.m.kernel.place.due;
   room : (page : Page) → HasRoom l.m.kernel.place (page ∷ []);
   low : last_moves l.m.kernel.journal ≤ 1000000;
-  so_far : CopiesSoFar l.fn.m l.m (g.F.Files.holds l.fn.files) (g.F.Files.holds l.files) (g.D.SwapDev.image l.fn.swap) (g.D.SwapDev.image l.swap);
+  so_far : CopiesSoFar l.fn.m l.m (g.F.Files.holds l.fn.files) (g.F.Files.holds l.files) (stores g.F.Files g.D.SwapDev l.fn.files l.fn.swap) (stores g.F.Files g.D.SwapDev l.files l.swap);
   outside : TransfersPages g.F.Files g.D.SwapDev None l.fn.files l.files l.fn.swap l.swap;
 }
 

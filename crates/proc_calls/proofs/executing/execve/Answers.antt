@@ -1,3 +1,4 @@
+use Rattle.io_edge.specs.WithFiles.{stores}
 use Rattle.std.proofs.Common.{◌≡◌, Result, Ok, sym, ◌∙◌, subst}
 use Rattle.std.specs.Prelude.{IfOk}
 use Rattle.user_vax.specs.Program.{run}
@@ -20,7 +21,7 @@ returns-in-Ok-Does-default-Exec-clause-comes g c = λ known named.
     let e : c.in_ok-refused.field-0 ≡ Ok (Does c.in-Ok-Does-default-Exec.after (Exec c.in-Ok-Does-default-Exec.image c.in-Ok-Does-default-Exec.top)) = cc in
     let v = subst (λ (r : Result (Result Reply Refused) NoMemory). IfOk r (λ a. a ≡ asked)) c.in_ok-refused.ensures.made (c.read_call-asked.ensures.value known named) in
     exec_ok c.start_image.result m c.read_call-asked.new.m c.start_image.new.m c.args.pid x.image c.args.regs.now x.after x.top asked
-    (g.F.Files.holds c.args.files.now) (g.D.SwapDev.image c.args.swap.now) (g.D.SwapDev.image c.start_image.new.swap)
+    (g.F.Files.holds c.args.files.now) (stores g.F.Files g.D.SwapDev c.args.files.now c.args.swap.now) (stores g.F.Files g.D.SwapDev c.start_image.new.files c.start_image.new.swap)
     c.read_call-asked.ensures.same (sym v ∙ e) c.start_image.ensures.ready c.start_image.ensures.starts
 
 pub returns-in-Ok-Does-default-Exec-clause-stops : goal.returns-in-Ok-Does-default-Exec-clause-stops
@@ -31,5 +32,5 @@ returns-in-Ok-Does-default-Exec-clause-stops g c = λ known named.
     let e : c.in_ok-refused.field-0 ≡ Ok (Does c.in-Ok-Does-default-Exec.after (Exec c.in-Ok-Does-default-Exec.image c.in-Ok-Does-default-Exec.top)) = cc in
     let v = subst (λ (r : Result (Result Reply Refused) NoMemory). IfOk r (λ a. a ≡ asked)) c.in_ok-refused.ensures.made (c.read_call-asked.ensures.value known named) in
     exec_stops c.start_image.result m c.read_call-asked.new.m c.start_image.new.m c.args.pid x.image x.after x.top asked
-    (g.F.Files.holds c.args.files.now) (g.D.SwapDev.image c.args.swap.now) (g.D.SwapDev.image c.start_image.new.swap)
+    (g.F.Files.holds c.args.files.now) (stores g.F.Files g.D.SwapDev c.args.files.now c.args.swap.now) (stores g.F.Files g.D.SwapDev c.start_image.new.files c.start_image.new.swap)
     c.read_call-asked.ensures.same (sym v ∙ e) c.start_image.ensures.stops

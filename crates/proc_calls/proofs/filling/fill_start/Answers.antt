@@ -1,3 +1,4 @@
+use Rattle.io_edge.specs.WithFiles.{stores}
 use Rattle.std.proofs.Common.{inl, refl}
 use Rattle.std.proofs.lemmas.Result.{err_from_is_err_and}
 use Rattle.vm_facts.specs.declared.entry.Entry.TheVariants as entries
@@ -12,15 +13,16 @@ returns-in_err-make_room-clause-filled g c =
 
 pub fill_zero-requires-clause-can : goal.fill_zero-requires-clause-can
 fill_zero-requires-clause-can g c =
-    can_fill c.args.page c.args.m.now c.make_room.new.m (g.F.Files.holds c.args.files.now) (g.D.SwapDev.image c.args.swap.now) (g.D.SwapDev.image c.make_room.new.swap)
+    can_fill c.args.page c.args.m.now c.make_room.new.m (g.F.Files.holds c.args.files.now) (stores g.F.Files g.D.SwapDev c.args.files.now c.args.swap.now)
+    (stores g.F.Files g.D.SwapDev c.make_room.new.files c.make_room.new.swap)
     c.requires.ready c.in_ok-make_room.ensures.goes_on c.requires.first c.in_ok-make_room.ensures.forced
 
 pub returns-clause-filled : goal.returns-clause-filled
 returns-clause-filled g c =
     let roomy = c.make_room.new.m in
-    let j = g.D.SwapDev.image c.make_room.new.swap in
+    let j = stores g.F.Files g.D.SwapDev c.make_room.new.files c.make_room.new.swap in
     filled_by c.fill_zero.result c.args.page c.args.m.now roomy c.fill_zero.new.self (g.F.Files.holds c.args.files.now)
-    (g.F.Files.holds c.make_room.new.files) (g.D.SwapDev.image c.args.swap.now) j c.in_ok-make_room.ensures.outside.files.holds
+    (g.F.Files.holds c.make_room.new.files) (stores g.F.Files g.D.SwapDev c.args.files.now c.args.swap.now) j c.in_ok-make_room.ensures.outside.files.holds
     c.in_ok-make_room.ensures.forced c.in_ok-make_room.ensures.keeps c.fill_zero.ensures.step c.fill_zero.ensures.rest c.fill_zero.ensures.keeps
     (call_stops c.fill_zero.result (entries.Zero c.args.page) roomy c.fill_zero.new.self j (λ s h. h) (λ s. refl)
     (plain_full (entries.Zero c.args.page) roomy.kernel.journal roomy.params.journal _ tt c.fill_zero.ensures.full) c.fill_zero.ensures.stop c.fill_zero.ensures.cause

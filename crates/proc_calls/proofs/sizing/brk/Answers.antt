@@ -1,3 +1,4 @@
+use Rattle.io_edge.specs.WithFiles.{stores}
 use Rattle.std.proofs.Common.{ℕ, sym, ◌∙◌, subst}
 use Rattle.std.specs.Prelude.{Result, IfOk, IfErr}
 use Rattle.user_vax.specs.declared.refused.Refused.{Refused}
@@ -10,8 +11,8 @@ returns-in-Ok-clause-comes g c =
     let m = c.args.m.now in
     let n = c.move_end.new.m in
     let holds = g.F.Files.holds c.args.files.now in
-    let i = g.D.SwapDev.image c.args.swap.now in
-    let j = g.D.SwapDev.image c.move_end.new.swap in
+    let i = stores g.F.Files g.D.SwapDev c.args.files.now c.args.swap.now in
+    let j = stores g.F.Files g.D.SwapDev c.move_end.new.files c.move_end.new.swap in
     let moves =
     subst (λ (x : Standing). IfOk c.move_end.result (MovesEnd x n c.args.pid c.args.regs.now (pages_to x.kernel c.args.pid c.in-Ok.address) holds i j))
     c.read_address.ensures.same c.move_end.ensures.moves in
@@ -23,8 +24,8 @@ returns-in-Ok-clause-stops g c =
     let m = c.args.m.now in
     let n = c.move_end.new.m in
     let holds = g.F.Files.holds c.args.files.now in
-    let i = g.D.SwapDev.image c.args.swap.now in
-    let j = g.D.SwapDev.image c.move_end.new.swap in
+    let i = stores g.F.Files g.D.SwapDev c.args.files.now c.args.swap.now in
+    let j = stores g.F.Files g.D.SwapDev c.move_end.new.files c.move_end.new.swap in
     let moving =
     subst (λ (x : Standing). IfErr c.move_end.result (StopsBreaking x n c.args.pid (pages_to x.kernel c.args.pid c.in-Ok.address) holds i j))
     c.read_address.ensures.same c.move_end.ensures.stops in

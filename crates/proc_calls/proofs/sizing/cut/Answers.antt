@@ -1,3 +1,4 @@
+use Rattle.io_edge.specs.WithFiles.{stores}
 use Rattle.std.proofs.Common.{ℕ, false, subst}
 use Rattle.flat_model.specs.Calls.{replied}
 use Rattle.proc_calls.specs.Leaving.{HasSettled}
@@ -10,8 +11,8 @@ resize-requires-clause-can g c =
     let m = c.args.m.now in
     let n = c.settle.new.self in
     let holds = g.F.Files.holds c.args.files.now in
-    let i = g.D.SwapDev.image c.args.swap.now in
-    let j = g.D.SwapDev.image c.settle.new.swap in
+    let i = stores g.F.Files g.D.SwapDev c.args.files.now c.args.swap.now in
+    let j = stores g.F.Files g.D.SwapDev c.settle.new.files c.settle.new.swap in
     can_cut m n c.args.pid (replied c.args.regs.now false 0) c.requires.calls holds i j
     (subst (λ (x : ℕ). HasSettled m n x holds i j) c.requires.named
     (record { settled = c.in_ok-settle.ensures.settled; rest = c.in_ok-settle.ensures.rest; keeps = c.in_ok-settle.ensures.keeps }))
@@ -23,8 +24,8 @@ returns-clause-stops g c =
     let m = c.args.m.now in
     let n = c.settle.new.self in
     let holds = g.F.Files.holds c.args.files.now in
-    let i = g.D.SwapDev.image c.args.swap.now in
-    let j = g.D.SwapDev.image c.settle.new.swap in
+    let i = stores g.F.Files g.D.SwapDev c.args.files.now c.args.swap.now in
+    let j = stores g.F.Files g.D.SwapDev c.settle.new.files c.settle.new.swap in
     cut_stops c.resize.result m n c.resize.new.m c.args.pid c.args.sizes.wanted holds i j c.requires.fewer
     (subst (λ (x : ℕ). HasSettled m n x holds i j) c.requires.named
     (record { settled = c.in_ok-settle.ensures.settled; rest = c.in_ok-settle.ensures.rest; keeps = c.in_ok-settle.ensures.keeps }))

@@ -1,3 +1,4 @@
+use Rattle.io_edge.specs.WithFiles.{stores}
 use Rattle.std.proofs.Common.{ℕ, true, sym, ap, subst, arith}
 use Rattle.std.specs.Prelude.{Ok}
 use Rattle.std.proofs.lemmas.Result.{err_from_is_err_and}
@@ -10,8 +11,8 @@ use Rattle.proc_calls.proofs.starting.start_image.Goals as goal
 pub reply-requires-clause-can : goal.reply-requires-clause-can
 reply-requires-clause-can g c =
     let holds = g.F.Files.holds c.args.files.now in
-    let i = g.D.SwapDev.image c.args.swap.now in
-    let j = g.D.SwapDev.image c.find_space.new.swap in
+    let i = stores g.F.Files g.D.SwapDev c.args.files.now c.args.swap.now in
+    let j = stores g.F.Files g.D.SwapDev c.find_space.new.files c.find_space.new.swap in
     can_start c.args.m.now c.find_space.new.m c.args.pid c.args.image holds i j c.requires.calls c.args.after.now c.args.top
     (found_of c.in_ok-find_space.field-0 true c.args.m.now c.find_space.new.m c.args.pid c.args.image holds i j c.if-not-branch.false c.in_ok-find_space.ensures.finds)
     (c.in_ok-find_space.ensures.given (ap (λ b. Ok b) c.if-not-branch.false)) c.requires.above c.requires.within c.requires.page
@@ -19,8 +20,8 @@ reply-requires-clause-can g c =
 pub fill_start-requires-clause-first : goal.fill_start-requires-clause-first
 fill_start-requires-clause-first g c =
     let holds = g.F.Files.holds c.args.files.now in
-    let i = g.D.SwapDev.image c.args.swap.now in
-    let j = g.D.SwapDev.image c.find_space.new.swap in
+    let i = stores g.F.Files g.D.SwapDev c.args.files.now c.args.swap.now in
+    let j = stores g.F.Files g.D.SwapDev c.find_space.new.files c.find_space.new.swap in
     let f = found_of c.in_ok-find_space.field-0 true c.args.m.now c.find_space.new.m c.args.pid c.args.image holds i j c.if-not-branch.false c.in_ok-find_space.ensures.finds in
     let can = can_start c.args.m.now c.find_space.new.m c.args.pid c.args.image holds i j c.requires.calls c.args.after.now c.args.top f
     (c.in_ok-find_space.ensures.given (ap (λ b. Ok b) c.if-not-branch.false)) c.requires.above c.requires.within c.requires.page in
@@ -31,8 +32,8 @@ fill_start-requires-clause-first g c =
 pub fill_start-requires-clause-room : goal.fill_start-requires-clause-room
 fill_start-requires-clause-room g c =
     let holds = g.F.Files.holds c.args.files.now in
-    let i = g.D.SwapDev.image c.args.swap.now in
-    let j = g.D.SwapDev.image c.find_space.new.swap in
+    let i = stores g.F.Files g.D.SwapDev c.args.files.now c.args.swap.now in
+    let j = stores g.F.Files g.D.SwapDev c.find_space.new.files c.find_space.new.swap in
     let f = found_of c.in_ok-find_space.field-0 true c.args.m.now c.find_space.new.m c.args.pid c.args.image holds i j c.if-not-branch.false c.in_ok-find_space.ensures.finds in
     let can = can_start c.args.m.now c.find_space.new.m c.args.pid c.args.image holds i j c.requires.calls c.args.after.now c.args.top f
     (c.in_ok-find_space.ensures.given (ap (λ b. Ok b) c.if-not-branch.false)) c.requires.above c.requires.within c.requires.page in
@@ -43,8 +44,8 @@ fill_start-requires-clause-room g c =
 pub fill_start-requires-clause-low : goal.fill_start-requires-clause-low
 fill_start-requires-clause-low g c =
     let holds = g.F.Files.holds c.args.files.now in
-    let i = g.D.SwapDev.image c.args.swap.now in
-    let j = g.D.SwapDev.image c.find_space.new.swap in
+    let i = stores g.F.Files g.D.SwapDev c.args.files.now c.args.swap.now in
+    let j = stores g.F.Files g.D.SwapDev c.find_space.new.files c.find_space.new.swap in
     let f = found_of c.in_ok-find_space.field-0 true c.args.m.now c.find_space.new.m c.args.pid c.args.image holds i j c.if-not-branch.false c.in_ok-find_space.ensures.finds in
     let can = can_start c.args.m.now c.find_space.new.m c.args.pid c.args.image holds i j c.requires.calls c.args.after.now c.args.top f
     (c.in_ok-find_space.ensures.given (ap (λ b. Ok b) c.if-not-branch.false)) c.requires.above c.requires.within c.requires.page in
@@ -58,7 +59,8 @@ returns-in_err-called-clause-stops g c =
     let p = err_from_is_err_and c.from_residual-in_err-called.result c.from_residual-in_err-called.ensures.1 in
     rw (p.1, p.2)
     (reply_stops _ c.in_ok-find_space.field-0 c.args.m.now c.find_space.new.m c.reply.new.m c.args.pid c.args.image c.args.after.now c.args.top
-    (g.F.Files.holds c.args.files.now) (g.D.SwapDev.image c.args.swap.now) (g.D.SwapDev.image c.find_space.new.swap) c.if-not-branch.false c.in_ok-find_space.ensures.finds
+    (g.F.Files.holds c.args.files.now) (stores g.F.Files g.D.SwapDev c.args.files.now c.args.swap.now)
+    (stores g.F.Files g.D.SwapDev c.find_space.new.files c.find_space.new.swap) c.if-not-branch.false c.in_ok-find_space.ensures.finds
     c.requires.calls.ready.whole (c.in_ok-find_space.ensures.has_room (ap (λ b. Ok b) c.if-not-branch.false)) c.in_err-called.ensures.stop c.in_err-called.ensures.cause c.in_err-called.ensures.full.0)
 
 pub returns-in_err-fill_start-clause-stops : goal.returns-in_err-fill_start-clause-stops
@@ -66,6 +68,7 @@ returns-in_err-fill_start-clause-stops g c =
     let p = err_from_is_err_and c.from_residual-in_err-fill_start.result c.from_residual-in_err-fill_start.ensures.1 in
     rw (p.1, p.2)
     (fill_stops _ c.in_ok-find_space.field-0 c.args.m.now c.find_space.new.m c.reply.new.m c.fill_start.new.m c.args.pid c.args.image c.args.after.now c.args.top
-    (Stack c.next_numbers.result.1 0) (g.F.Files.holds c.args.files.now) (g.F.Files.holds c.find_space.new.files) (g.D.SwapDev.image c.args.swap.now)
-    (g.D.SwapDev.image c.find_space.new.swap) (g.D.SwapDev.image c.fill_start.new.swap) c.in_ok-find_space.ensures.outside.files.holds c.if-not-branch.false
+    (Stack c.next_numbers.result.1 0) (g.F.Files.holds c.args.files.now) (g.F.Files.holds c.find_space.new.files) (stores g.F.Files g.D.SwapDev c.args.files.now c.args.swap.now)
+    (stores g.F.Files g.D.SwapDev c.find_space.new.files c.find_space.new.swap) (stores g.F.Files g.D.SwapDev c.fill_start.new.files c.fill_start.new.swap)
+    c.in_ok-find_space.ensures.outside.files.holds c.if-not-branch.false
     (ap (λ (n : ℕ). Stack n 0) c.next_numbers.ensures.space) c.in_ok-find_space.ensures.finds c.in_ok-called.ensures.answered c.in_err-fill_start.ensures.filled)

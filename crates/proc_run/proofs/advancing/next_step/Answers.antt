@@ -1,3 +1,4 @@
+use Rattle.io_edge.specs.WithFiles.{stores}
 use Rattle.std.proofs.Common.{◌≡◌, ◌⊎◌, ◌+◌, ◌<◌, ℕ, false, w32, to_z, of_z, FitsSigned, rules, inl, inr, ℤ, Result, Err, refl, sym, ap, ◌∙◌, subst, arith}
 use Rattle.std.proofs.lemmas.Int.{to_z-of_z}
 use Rattle.std.proofs.lemmas.Result.{err_from_is_err_and}
@@ -43,7 +44,7 @@ returns-in_err-make_room-clause-stops g c =
     ] in
     rw (e.1, e.2)
     (asked_stops c.args.m.now c.make_room.new.m c.args.pid c.args.before.now c.in_err-make_room.field-0.0 (is_now c.args.patience) (g.F.Files.holds c.args.files.now)
-    (g.D.SwapDev.image c.args.swap.now)
+    (stores g.F.Files g.D.SwapDev c.args.files.now c.args.swap.now)
     c.requires.registers c.in_err-make_room.ensures.stop c.requires.steady.ready.whole cause
     (λ z. c.in_err-make_room.ensures.full (ap (λ (t : Stop). let r : Result (Unit {0}) Stop = Err t in r) z))
     (λ z. c.in_err-make_room.ensures.done (ap (λ (t : Stop). let r : Result (Unit {0}) Stop = Err t in r) z)))
@@ -69,7 +70,7 @@ returns-in-Done-clause-advances g c =
     let o = asked c.args.m.now c.make_room.new.m c.in_ok-make_room.ensures.only in
     ran_advances c.args.m.now c.make_room.new.m c.attempt_cached.new.m c.args.pid c.args.before.now o c.in-Done.ensures.wrote c.requires.steady.clear (sym c.in-Done.ensures.answer)
     c.ran.new.self c.attempt_cached.new.regs c.in-Done.ensures.registers c.ran.ensures.step
-    (is_now c.args.patience) (g.F.Files.holds c.args.files.now) (g.D.SwapDev.image c.args.swap.now) c.requires.registers
+    (is_now c.args.patience) (g.F.Files.holds c.args.files.now) (stores g.F.Files g.D.SwapDev c.args.files.now c.args.swap.now) c.requires.registers
 
 pub returns-in-Done-clause-continues : goal.returns-in-Done-clause-continues
 returns-in-Done-clause-continues g c =
@@ -90,52 +91,58 @@ call-requires-clause-made g c =
 pub returns-in-Call-clause-advances : goal.returns-in-Call-clause-advances
 returns-in-Call-clause-advances g c =
     let at = tried c.args.m.now c.make_room.new.m c.attempt_cached.new.m c.in_ok-make_room.ensures.only c.in-Call.ensures.only in
-    later_advances c.args.m.now c.attempt_cached.new.m c.call.new.m c.args.pid (is_now c.args.patience) (g.F.Files.holds c.args.files.now) (g.D.SwapDev.image c.args.swap.now)
-    (g.D.SwapDev.image c.call.new.swap) at c.call.result c.call.ensures.advances
+    later_advances c.args.m.now c.attempt_cached.new.m c.call.new.m c.args.pid (is_now c.args.patience) (g.F.Files.holds c.args.files.now)
+    (stores g.F.Files g.D.SwapDev c.args.files.now c.args.swap.now)
+    (stores g.F.Files g.D.SwapDev c.call.new.files c.call.new.swap) at c.call.result c.call.ensures.advances
 
 pub returns-in-Call-clause-stops : goal.returns-in-Call-clause-stops
 returns-in-Call-clause-stops g c =
     let at = tried c.args.m.now c.make_room.new.m c.attempt_cached.new.m c.in_ok-make_room.ensures.only c.in-Call.ensures.only in
-    later_stops c.args.m.now c.attempt_cached.new.m c.call.new.m c.args.pid (is_now c.args.patience) (g.F.Files.holds c.args.files.now) (g.D.SwapDev.image c.args.swap.now)
-    (g.D.SwapDev.image c.call.new.swap) at c.call.result c.call.ensures.stops
+    later_stops c.args.m.now c.attempt_cached.new.m c.call.new.m c.args.pid (is_now c.args.patience) (g.F.Files.holds c.args.files.now) (stores g.F.Files g.D.SwapDev c.args.files.now c.args.swap.now)
+    (stores g.F.Files g.D.SwapDev c.call.new.files c.call.new.swap) at c.call.result c.call.ensures.stops
 
 pub returns-in-Call-clause-continues : goal.returns-in-Call-clause-continues
 returns-in-Call-clause-continues g c =
     let at = tried c.args.m.now c.make_room.new.m c.attempt_cached.new.m c.in_ok-make_room.ensures.only c.in-Call.ensures.only in
-    later_goes_on c.args.m.now c.attempt_cached.new.m c.call.new.m c.args.pid (is_now c.args.patience) (g.F.Files.holds c.args.files.now) (g.D.SwapDev.image c.args.swap.now)
-    (g.D.SwapDev.image c.call.new.swap) at c.call.result c.requires.steady.clear c.call.ensures.continues
+    later_goes_on c.args.m.now c.attempt_cached.new.m c.call.new.m c.args.pid (is_now c.args.patience) (g.F.Files.holds c.args.files.now)
+    (stores g.F.Files g.D.SwapDev c.args.files.now c.args.swap.now)
+    (stores g.F.Files g.D.SwapDev c.call.new.files c.call.new.swap) at c.call.result c.requires.steady.clear c.call.ensures.continues
 
 -- Where it waits for a page.
 
 pub returns-in-Miss-clause-advances : goal.returns-in-Miss-clause-advances
 returns-in-Miss-clause-advances g c =
     let at = tried c.args.m.now c.make_room.new.m c.attempt_cached.new.m c.in_ok-make_room.ensures.only c.in-Miss.ensures.only in
-    served_advances c.args.m.now c.attempt_cached.new.m c.serve_access.new.m c.args.pid (is_now c.args.patience) (g.F.Files.holds c.args.files.now) (g.D.SwapDev.image c.args.swap.now)
-    (g.D.SwapDev.image c.serve_access.new.swap) at c.args.before.now c.requires.registers c.in-Miss.address c.in-Miss.write
+    served_advances c.args.m.now c.attempt_cached.new.m c.serve_access.new.m c.args.pid (is_now c.args.patience) (g.F.Files.holds c.args.files.now)
+    (stores g.F.Files g.D.SwapDev c.args.files.now c.args.swap.now)
+    (stores g.F.Files g.D.SwapDev c.serve_access.new.files c.serve_access.new.swap) at c.args.before.now c.requires.registers c.in-Miss.address c.in-Miss.write
     (inl (again c.make_room.new.m c.attempt_cached.new.m c.args.pid c.args.before.now _ c.in-Miss.ensures.only c.in-Miss.ensures.answer))
     c.serve_access.result c.serve_access.ensures.advances
 
 pub returns-in-Miss-clause-stops : goal.returns-in-Miss-clause-stops
 returns-in-Miss-clause-stops g c =
     let at = tried c.args.m.now c.make_room.new.m c.attempt_cached.new.m c.in_ok-make_room.ensures.only c.in-Miss.ensures.only in
-    served_stops c.args.m.now c.attempt_cached.new.m c.serve_access.new.m c.args.pid (is_now c.args.patience) (g.F.Files.holds c.args.files.now) (g.D.SwapDev.image c.args.swap.now)
-    (g.D.SwapDev.image c.serve_access.new.swap) at c.args.before.now c.requires.registers c.in-Miss.address c.in-Miss.write
+    served_stops c.args.m.now c.attempt_cached.new.m c.serve_access.new.m c.args.pid (is_now c.args.patience) (g.F.Files.holds c.args.files.now)
+    (stores g.F.Files g.D.SwapDev c.args.files.now c.args.swap.now)
+    (stores g.F.Files g.D.SwapDev c.serve_access.new.files c.serve_access.new.swap) at c.args.before.now c.requires.registers c.in-Miss.address c.in-Miss.write
     (inl (again c.make_room.new.m c.attempt_cached.new.m c.args.pid c.args.before.now _ c.in-Miss.ensures.only c.in-Miss.ensures.answer))
     c.serve_access.result c.serve_access.ensures.stops
 
 pub returns-in-Below-clause-advances : goal.returns-in-Below-clause-advances
 returns-in-Below-clause-advances g c =
     let at = tried c.args.m.now c.make_room.new.m c.attempt_cached.new.m c.in_ok-make_room.ensures.only c.in-Below.ensures.only in
-    served_advances c.args.m.now c.attempt_cached.new.m c.serve_access-in-Below.new.m c.args.pid (is_now c.args.patience) (g.F.Files.holds c.args.files.now) (g.D.SwapDev.image c.args.swap.now)
-    (g.D.SwapDev.image c.serve_access-in-Below.new.swap) at c.args.before.now c.requires.registers c.in-Below.address false
+    served_advances c.args.m.now c.attempt_cached.new.m c.serve_access-in-Below.new.m c.args.pid (is_now c.args.patience) (g.F.Files.holds c.args.files.now)
+    (stores g.F.Files g.D.SwapDev c.args.files.now c.args.swap.now)
+    (stores g.F.Files g.D.SwapDev c.serve_access-in-Below.new.files c.serve_access-in-Below.new.swap) at c.args.before.now c.requires.registers c.in-Below.address false
     (inr (again c.make_room.new.m c.attempt_cached.new.m c.args.pid c.args.before.now _ c.in-Below.ensures.only c.in-Below.ensures.answer, refl))
     c.serve_access-in-Below.result c.serve_access-in-Below.ensures.advances
 
 pub returns-in-Below-clause-stops : goal.returns-in-Below-clause-stops
 returns-in-Below-clause-stops g c =
     let at = tried c.args.m.now c.make_room.new.m c.attempt_cached.new.m c.in_ok-make_room.ensures.only c.in-Below.ensures.only in
-    served_stops c.args.m.now c.attempt_cached.new.m c.serve_access-in-Below.new.m c.args.pid (is_now c.args.patience) (g.F.Files.holds c.args.files.now) (g.D.SwapDev.image c.args.swap.now)
-    (g.D.SwapDev.image c.serve_access-in-Below.new.swap) at c.args.before.now c.requires.registers c.in-Below.address false
+    served_stops c.args.m.now c.attempt_cached.new.m c.serve_access-in-Below.new.m c.args.pid (is_now c.args.patience) (g.F.Files.holds c.args.files.now)
+    (stores g.F.Files g.D.SwapDev c.args.files.now c.args.swap.now)
+    (stores g.F.Files g.D.SwapDev c.serve_access-in-Below.new.files c.serve_access-in-Below.new.swap) at c.args.before.now c.requires.registers c.in-Below.address false
     (inr (again c.make_room.new.m c.attempt_cached.new.m c.args.pid c.args.before.now _ c.in-Below.ensures.only c.in-Below.ensures.answer, refl))
     c.serve_access-in-Below.result c.serve_access-in-Below.ensures.stops
 
@@ -146,16 +153,17 @@ returns-in_err-kill-in-Signal-clause-stops g c =
     let at = tried c.args.m.now c.make_room.new.m c.attempt_cached.new.m c.in_ok-make_room.ensures.only c.in-Signal.ensures.only in
     let r = err_from_is_err_and c.from_residual-in_err-kill-in-Signal.result c.from_residual-in_err-kill-in-Signal.ensures.1 in
     rw (r.1, r.2) (
-    signal_halts c.args.m.now c.attempt_cached.new.m c.kill.new.m c.args.pid (is_now c.args.patience) (g.F.Files.holds c.args.files.now) (g.D.SwapDev.image c.args.swap.now)
-    (g.D.SwapDev.image c.kill.new.swap) at c.args.before.now c.requires.registers c.in-Signal.signal
+    signal_halts c.args.m.now c.attempt_cached.new.m c.kill.new.m c.args.pid (is_now c.args.patience) (g.F.Files.holds c.args.files.now) (stores g.F.Files g.D.SwapDev c.args.files.now c.args.swap.now)
+    (stores g.F.Files g.D.SwapDev c.kill.new.files c.kill.new.swap) at c.args.before.now c.requires.registers c.in-Signal.signal
     (again c.make_room.new.m c.attempt_cached.new.m c.args.pid c.args.before.now _ c.in-Signal.ensures.only c.in-Signal.ensures.answer)
     c.in_err-kill-in-Signal.field-0.0 c.in_err-kill-in-Signal.ensures.stops)
 
 pub returns-in_ok-kill-in-Signal-clause-advances : goal.returns-in_ok-kill-in-Signal-clause-advances
 returns-in_ok-kill-in-Signal-clause-advances g c =
     let at = tried c.args.m.now c.make_room.new.m c.attempt_cached.new.m c.in_ok-make_room.ensures.only c.in-Signal.ensures.only in
-    signal_advances c.args.m.now c.attempt_cached.new.m c.kill.new.m c.args.pid (is_now c.args.patience) (g.F.Files.holds c.args.files.now) (g.D.SwapDev.image c.args.swap.now)
-    (g.D.SwapDev.image c.kill.new.swap) at c.args.before.now c.requires.registers c.in-Signal.signal
+    signal_advances c.args.m.now c.attempt_cached.new.m c.kill.new.m c.args.pid (is_now c.args.patience) (g.F.Files.holds c.args.files.now)
+    (stores g.F.Files g.D.SwapDev c.args.files.now c.args.swap.now)
+    (stores g.F.Files g.D.SwapDev c.kill.new.files c.kill.new.swap) at c.args.before.now c.requires.registers c.in-Signal.signal
     (again c.make_room.new.m c.attempt_cached.new.m c.args.pid c.args.before.now _ c.in-Signal.ensures.only c.in-Signal.ensures.answer)
     c.in_ok-kill-in-Signal.ensures.ended
 
@@ -163,7 +171,8 @@ pub returns-in_ok-kill-in-Signal-clause-continues : goal.returns-in_ok-kill-in-S
 returns-in_ok-kill-in-Signal-clause-continues g c =
     let at = tried c.args.m.now c.make_room.new.m c.attempt_cached.new.m c.in_ok-make_room.ensures.only c.in-Signal.ensures.only in
     room_goes_on c.args.m.now c.attempt_cached.new.m c.kill.new.m 1 at c.requires.steady.clear
-    (end_continues c.attempt_cached.new.m c.kill.new.m c.args.pid c.in-Signal.signal (g.F.Files.holds c.args.files.now) (g.D.SwapDev.image c.args.swap.now) (g.D.SwapDev.image c.kill.new.swap)
+    (end_continues c.attempt_cached.new.m c.kill.new.m c.args.pid c.in-Signal.signal (g.F.Files.holds c.args.files.now)
+    (stores g.F.Files g.D.SwapDev c.args.files.now c.args.swap.now) (stores g.F.Files g.D.SwapDev c.kill.new.files c.kill.new.swap)
     (caller_of c.attempt_cached.new.m c.args.pid (room_steady c.args.m.now c.attempt_cached.new.m at c.requires.steady c.attempt_cached.ensures.goes_on)
     (room_lends c.args.m.now c.attempt_cached.new.m c.args.pid at c.requires.lends))
     c.in_ok-kill-in-Signal.ensures.ended)
@@ -197,5 +206,5 @@ returns-in_err-kill-in-Signal-clause-kept g c =
     let at = tried c.args.m.now c.make_room.new.m c.attempt_cached.new.m c.in_ok-make_room.ensures.only c.in-Signal.ensures.only in
     let r = err_from_is_err_and c.from_residual-in_err-kill-in-Signal.result c.from_residual-in_err-kill-in-Signal.ensures.1 in
     rw (r.1, r.2) (later_same c.args.m.now c.attempt_cached.new.m c.kill.new.m c.in_err-kill-in-Signal.field-0.0 at
-    (alive_same c.attempt_cached.new.m c.kill.new.m c.args.pid (g.F.Files.holds c.args.files.now) (g.D.SwapDev.image c.args.swap.now)
-    (g.D.SwapDev.image c.kill.new.swap) c.in_err-kill-in-Signal.field-0.0 c.in_err-kill-in-Signal.ensures.stops))
+    (alive_same c.attempt_cached.new.m c.kill.new.m c.args.pid (g.F.Files.holds c.args.files.now) (stores g.F.Files g.D.SwapDev c.args.files.now c.args.swap.now)
+    (stores g.F.Files g.D.SwapDev c.kill.new.files c.kill.new.swap) c.in_err-kill-in-Signal.field-0.0 c.in_err-kill-in-Signal.ensures.stops))

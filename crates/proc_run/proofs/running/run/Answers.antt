@@ -1,3 +1,4 @@
+use Rattle.io_edge.specs.WithFiles.{stores}
 use Rattle.std.proofs.Common.{◌+◌, ◌-◌, ◌<◌, ◌≤◌, ◌∙◌, sym, subst, refl, arith, None}
 use Rattle.std.specs.Prelude.{IfSome}
 use Rattle.vm_facts.specs.declared.regs.Regs.{Regs}
@@ -21,7 +22,7 @@ loop-count-init g c = record {
   counts = c.requires.counted;
   more = omega arith;
   few = omega arith;
-  so_far = none_so_far c.args.m.now c.args.pid (is_now c.args.patience) c.args.counted c.args.until (g.F.Files.holds c.args.files.now) (g.D.SwapDev.image c.args.swap.now);
+  so_far = none_so_far c.args.m.now c.args.pid (is_now c.args.patience) c.args.counted c.args.until (g.F.Files.holds c.args.files.now) (stores g.F.Files g.D.SwapDev c.args.files.now c.args.swap.now);
   known = tt;
   outside = transfers_none g.met.F.Files.leads_nowhere g.met.D.SwapDev.leads_nowhere c.args.files.now c.args.swap.now;
 }
@@ -29,8 +30,9 @@ loop-count-init g c = record {
 pub returns-in_default-clause-runs : goal.returns-in_default-clause-runs
 returns-in_default-clause-runs g c =
     let so = c.loop-count.invariant in
-    idle_runs c.args.m.now c.loop-count.m c.args.pid (is_now c.args.patience) c.args.counted c.args.until (g.F.Files.holds c.args.files.now) (g.D.SwapDev.image c.args.swap.now)
-    (g.D.SwapDev.image c.loop-count.swap) c.loop-count.count c.loop-count.waits so.so_far (c.ready_regs.ensures.none c.in_default.is)
+    idle_runs c.args.m.now c.loop-count.m c.args.pid (is_now c.args.patience) c.args.counted c.args.until (g.F.Files.holds c.args.files.now)
+    (stores g.F.Files g.D.SwapDev c.args.files.now c.args.swap.now)
+    (stores g.F.Files g.D.SwapDev c.loop-count.files c.loop-count.swap) c.loop-count.count c.loop-count.waits so.so_far (c.ready_regs.ensures.none c.in_default.is)
 
 pub advance_from-requires-clause-lends : goal.advance_from-requires-clause-lends
 advance_from-requires-clause-lends g c = lends_there c.loop-count.m c.args.pid c.loop-count.invariant.steady c.in-Some.ensures.ready
@@ -44,11 +46,13 @@ returns-in_err-advance_from-clause-stops g c =
     let so = c.loop-count.invariant in
     let e = err_from_is_err_and c.from_residual.result c.from_residual.ensures.1 in
     rw (e.1, e.2) (
-    stops_far c.args.m.now c.loop-count.m c.advance_from.new.m c.args.pid (is_now c.args.patience) c.args.counted c.args.until (g.F.Files.holds c.args.files.now) (g.D.SwapDev.image c.args.swap.now)
-    (g.D.SwapDev.image c.loop-count.swap) (g.D.SwapDev.image c.advance_from.new.swap) c.loop-count.count c.loop-count.waits so.so_far c.loop-count-test.true c.in-Some.ensures.ready
+    stops_far c.args.m.now c.loop-count.m c.advance_from.new.m c.args.pid (is_now c.args.patience) c.args.counted c.args.until (g.F.Files.holds c.args.files.now)
+    (stores g.F.Files g.D.SwapDev c.args.files.now c.args.swap.now)
+    (stores g.F.Files g.D.SwapDev c.loop-count.files c.loop-count.swap) (stores g.F.Files g.D.SwapDev c.advance_from.new.files c.advance_from.new.swap) c.loop-count.count
+    c.loop-count.waits so.so_far c.loop-count-test.true c.in-Some.ensures.ready
     c.in_err-advance_from.field-0.0
-    (subst (λ hs. StopsFrom (HasRunner c.loop-count.m hs (g.D.SwapDev.image c.loop-count.swap) c.args.pid (is_now c.args.patience)) c.loop-count.m c.advance_from.new.m
-    (g.D.SwapDev.image c.advance_from.new.swap) c.in_err-advance_from.field-0.0) so.outside.files.holds c.in_err-advance_from.ensures.stops))
+    (subst (λ hs. StopsFrom (HasRunner c.loop-count.m hs (stores g.F.Files g.D.SwapDev c.loop-count.files c.loop-count.swap) c.args.pid (is_now c.args.patience)) c.loop-count.m c.advance_from.new.m
+    (stores g.F.Files g.D.SwapDev c.advance_from.new.files c.advance_from.new.swap) c.in_err-advance_from.field-0.0) so.outside.files.holds c.in_err-advance_from.ensures.stops))
 
 pub run_on-reach-requires-clause-steady : goal.run_on-reach-requires-clause-steady
 run_on-reach-requires-clause-steady g c =
@@ -71,15 +75,17 @@ loop-count-preserved-in-Counted g c =
     let so = c.loop-count.invariant in
     let on : Continues c.loop-count.m c.advance_from.new.m (counts advances.Counted) =
     subst (λ a. Continues c.loop-count.m c.advance_from.new.m (counts a)) c.in-Counted.is c.in_ok-advance_from.ensures.continues in
-    let led : LeadsFrom (HasRunner c.loop-count.m (g.F.Files.holds c.args.files.now) (g.D.SwapDev.image c.loop-count.swap) c.args.pid (is_now c.args.patience))
-    (AdvancesTo c.loop-count.m.kernel c.advance_from.new.m.kernel (g.D.SwapDev.image c.advance_from.new.swap) advances.Counted) =
-    subst (λ hs. LeadsFrom (HasRunner c.loop-count.m hs (g.D.SwapDev.image c.loop-count.swap) c.args.pid (is_now c.args.patience))
-    (AdvancesTo c.loop-count.m.kernel c.advance_from.new.m.kernel (g.D.SwapDev.image c.advance_from.new.swap) advances.Counted))
+    let led : LeadsFrom (HasRunner c.loop-count.m (g.F.Files.holds c.args.files.now) (stores g.F.Files g.D.SwapDev c.loop-count.files c.loop-count.swap) c.args.pid (is_now c.args.patience))
+    (AdvancesTo c.loop-count.m.kernel c.advance_from.new.m.kernel (stores g.F.Files g.D.SwapDev c.advance_from.new.files c.advance_from.new.swap) advances.Counted) =
+    subst (λ hs. LeadsFrom (HasRunner c.loop-count.m hs (stores g.F.Files g.D.SwapDev c.loop-count.files c.loop-count.swap) c.args.pid (is_now c.args.patience))
+    (AdvancesTo c.loop-count.m.kernel c.advance_from.new.m.kernel (stores g.F.Files g.D.SwapDev c.advance_from.new.files c.advance_from.new.swap) advances.Counted))
     so.outside.files.holds
-    (subst (λ a. LeadsFrom (HasRunner c.loop-count.m (g.F.Files.holds c.loop-count.files) (g.D.SwapDev.image c.loop-count.swap) c.args.pid (is_now c.args.patience))
-    (AdvancesTo c.loop-count.m.kernel c.advance_from.new.m.kernel (g.D.SwapDev.image c.advance_from.new.swap) a)) c.in-Counted.is c.in_ok-advance_from.ensures.advances) in
+    (subst (λ a. LeadsFrom (HasRunner c.loop-count.m (g.F.Files.holds c.loop-count.files) (stores g.F.Files g.D.SwapDev c.loop-count.files c.loop-count.swap) c.args.pid (is_now c.args.patience))
+    (AdvancesTo c.loop-count.m.kernel c.advance_from.new.m.kernel (stores g.F.Files g.D.SwapDev c.advance_from.new.files c.advance_from.new.swap) a)) c.in-Counted.is
+    c.in_ok-advance_from.ensures.advances) in
     let one = counted_far c.args.m.now c.loop-count.m c.advance_from.new.m c.args.pid (is_now c.args.patience) c.args.counted c.args.until (g.F.Files.holds c.args.files.now)
-    (g.D.SwapDev.image c.args.swap.now) (g.D.SwapDev.image c.loop-count.swap) (g.D.SwapDev.image c.advance_from.new.swap) c.loop-count.count c.loop-count.waits so.so_far c.loop-count-test.true
+    (stores g.F.Files g.D.SwapDev c.args.files.now c.args.swap.now) (stores g.F.Files g.D.SwapDev c.loop-count.files c.loop-count.swap)
+    (stores g.F.Files g.D.SwapDev c.advance_from.new.files c.advance_from.new.swap) c.loop-count.count c.loop-count.waits so.so_far c.loop-count-test.true
     c.in-Some.ensures.ready on.params on.images led in
     let steady = steady_on c.loop-count.m c.advance_from.new.m 1 so.steady on c.in_ok-advance_from.ensures.goes_on in
     let further = ran_all_continue c.run_on-reach.result.count c.args.pid c.advance_from.new.m c.run_on-reach.new.m on.clear c.run_on-reach.ensures.ran in
@@ -94,7 +100,8 @@ loop-count-preserved-in-Counted g c =
       more = let a = so.more in omega arith;
       few = omega arith;
       so_far = ran_far c.run_on-reach.result.count c.args.pid c.args.m.now c.advance_from.new.m c.run_on-reach.new.m (is_now c.args.patience) c.args.counted c.args.until
-          (g.F.Files.holds c.args.files.now) (g.D.SwapDev.image c.args.swap.now) (g.D.SwapDev.image c.advance_from.new.swap) (c.loop-count.count + 1) one c.run_on-reach.ensures.ran few;
+          (g.F.Files.holds c.args.files.now) (stores g.F.Files g.D.SwapDev c.args.files.now c.args.swap.now)
+          (stores g.F.Files g.D.SwapDev c.advance_from.new.files c.advance_from.new.swap) (c.loop-count.count + 1) one c.run_on-reach.ensures.ran few;
       known = c.run_on-reach.ensures.missed;
       outside = transfers_then {stop = None} g.met.F.Files.leads_through g.met.D.SwapDev.leads_through so.outside c.in_ok-advance_from.ensures.outside;
     }
@@ -104,13 +111,14 @@ loop-count-preserved g c =
     let so = c.loop-count.invariant in
     let on : Continues c.loop-count.m c.advance_from.new.m (counts advances.Served) =
     subst (λ a. Continues c.loop-count.m c.advance_from.new.m (counts a)) c.in-Served.is c.in_ok-advance_from.ensures.continues in
-    let led : LeadsFrom (HasRunner c.loop-count.m (g.F.Files.holds c.args.files.now) (g.D.SwapDev.image c.loop-count.swap) c.args.pid (is_now c.args.patience))
-    (AdvancesTo c.loop-count.m.kernel c.advance_from.new.m.kernel (g.D.SwapDev.image c.advance_from.new.swap) advances.Served) =
-    subst (λ hs. LeadsFrom (HasRunner c.loop-count.m hs (g.D.SwapDev.image c.loop-count.swap) c.args.pid (is_now c.args.patience))
-    (AdvancesTo c.loop-count.m.kernel c.advance_from.new.m.kernel (g.D.SwapDev.image c.advance_from.new.swap) advances.Served))
+    let led : LeadsFrom (HasRunner c.loop-count.m (g.F.Files.holds c.args.files.now) (stores g.F.Files g.D.SwapDev c.loop-count.files c.loop-count.swap) c.args.pid (is_now c.args.patience))
+    (AdvancesTo c.loop-count.m.kernel c.advance_from.new.m.kernel (stores g.F.Files g.D.SwapDev c.advance_from.new.files c.advance_from.new.swap) advances.Served) =
+    subst (λ hs. LeadsFrom (HasRunner c.loop-count.m hs (stores g.F.Files g.D.SwapDev c.loop-count.files c.loop-count.swap) c.args.pid (is_now c.args.patience))
+    (AdvancesTo c.loop-count.m.kernel c.advance_from.new.m.kernel (stores g.F.Files g.D.SwapDev c.advance_from.new.files c.advance_from.new.swap) advances.Served))
     so.outside.files.holds
-    (subst (λ a. LeadsFrom (HasRunner c.loop-count.m (g.F.Files.holds c.loop-count.files) (g.D.SwapDev.image c.loop-count.swap) c.args.pid (is_now c.args.patience))
-    (AdvancesTo c.loop-count.m.kernel c.advance_from.new.m.kernel (g.D.SwapDev.image c.advance_from.new.swap) a)) c.in-Served.is c.in_ok-advance_from.ensures.advances) in
+    (subst (λ a. LeadsFrom (HasRunner c.loop-count.m (g.F.Files.holds c.loop-count.files) (stores g.F.Files g.D.SwapDev c.loop-count.files c.loop-count.swap) c.args.pid (is_now c.args.patience))
+    (AdvancesTo c.loop-count.m.kernel c.advance_from.new.m.kernel (stores g.F.Files g.D.SwapDev c.advance_from.new.files c.advance_from.new.swap) a)) c.in-Served.is
+    c.in_ok-advance_from.ensures.advances) in
     record {
       steady = steady_on c.loop-count.m c.advance_from.new.m 0 so.steady on c.in_ok-advance_from.ensures.goes_on;
       params = on.params ∙ so.params;
@@ -119,7 +127,8 @@ loop-count-preserved g c =
       more = so.more;
       few = let w = c.if-waits-lt-MOST_WAITS.true in omega arith;
       so_far = served_far c.args.m.now c.loop-count.m c.advance_from.new.m c.args.pid (is_now c.args.patience) c.args.counted c.args.until (g.F.Files.holds c.args.files.now)
-          (g.D.SwapDev.image c.args.swap.now) (g.D.SwapDev.image c.loop-count.swap) (g.D.SwapDev.image c.advance_from.new.swap) c.loop-count.count c.loop-count.waits so.so_far c.loop-count-test.true
+          (stores g.F.Files g.D.SwapDev c.args.files.now c.args.swap.now) (stores g.F.Files g.D.SwapDev c.loop-count.files c.loop-count.swap)
+          (stores g.F.Files g.D.SwapDev c.advance_from.new.files c.advance_from.new.swap) c.loop-count.count c.loop-count.waits so.so_far c.loop-count-test.true
           c.in-Some.ensures.ready on.params on.images led;
       known = tt;
       outside = transfers_then {stop = None} g.met.F.Files.leads_through g.met.D.SwapDev.leads_through so.outside c.in_ok-advance_from.ensures.outside;
@@ -130,28 +139,32 @@ returns-in-Stuck-clause-runs g c =
     let so = c.loop-count.invariant in
     let on : Continues c.loop-count.m c.advance_from.new.m (counts advances.Stuck) =
     subst (λ a. Continues c.loop-count.m c.advance_from.new.m (counts a)) c.in-Stuck.is c.in_ok-advance_from.ensures.continues in
-    let led : LeadsFrom (HasRunner c.loop-count.m (g.F.Files.holds c.args.files.now) (g.D.SwapDev.image c.loop-count.swap) c.args.pid (is_now c.args.patience))
-    (AdvancesTo c.loop-count.m.kernel c.advance_from.new.m.kernel (g.D.SwapDev.image c.advance_from.new.swap) advances.Stuck) =
-    subst (λ hs. LeadsFrom (HasRunner c.loop-count.m hs (g.D.SwapDev.image c.loop-count.swap) c.args.pid (is_now c.args.patience))
-    (AdvancesTo c.loop-count.m.kernel c.advance_from.new.m.kernel (g.D.SwapDev.image c.advance_from.new.swap) advances.Stuck))
+    let led : LeadsFrom (HasRunner c.loop-count.m (g.F.Files.holds c.args.files.now) (stores g.F.Files g.D.SwapDev c.loop-count.files c.loop-count.swap) c.args.pid (is_now c.args.patience))
+    (AdvancesTo c.loop-count.m.kernel c.advance_from.new.m.kernel (stores g.F.Files g.D.SwapDev c.advance_from.new.files c.advance_from.new.swap) advances.Stuck) =
+    subst (λ hs. LeadsFrom (HasRunner c.loop-count.m hs (stores g.F.Files g.D.SwapDev c.loop-count.files c.loop-count.swap) c.args.pid (is_now c.args.patience))
+    (AdvancesTo c.loop-count.m.kernel c.advance_from.new.m.kernel (stores g.F.Files g.D.SwapDev c.advance_from.new.files c.advance_from.new.swap) advances.Stuck))
     so.outside.files.holds
-    (subst (λ a. LeadsFrom (HasRunner c.loop-count.m (g.F.Files.holds c.loop-count.files) (g.D.SwapDev.image c.loop-count.swap) c.args.pid (is_now c.args.patience))
-    (AdvancesTo c.loop-count.m.kernel c.advance_from.new.m.kernel (g.D.SwapDev.image c.advance_from.new.swap) a)) c.in-Stuck.is c.in_ok-advance_from.ensures.advances) in
+    (subst (λ a. LeadsFrom (HasRunner c.loop-count.m (g.F.Files.holds c.loop-count.files) (stores g.F.Files g.D.SwapDev c.loop-count.files c.loop-count.swap) c.args.pid (is_now c.args.patience))
+    (AdvancesTo c.loop-count.m.kernel c.advance_from.new.m.kernel (stores g.F.Files g.D.SwapDev c.advance_from.new.files c.advance_from.new.swap) a)) c.in-Stuck.is
+    c.in_ok-advance_from.ensures.advances) in
     stuck_runs c.args.m.now c.loop-count.m c.advance_from.new.m c.args.pid (is_now c.args.patience) c.args.counted c.args.until (g.F.Files.holds c.args.files.now)
-    (g.D.SwapDev.image c.args.swap.now) (g.D.SwapDev.image c.loop-count.swap) (g.D.SwapDev.image c.advance_from.new.swap) c.loop-count.count c.loop-count.waits so.so_far c.loop-count-test.true
+    (stores g.F.Files g.D.SwapDev c.args.files.now c.args.swap.now) (stores g.F.Files g.D.SwapDev c.loop-count.files c.loop-count.swap)
+    (stores g.F.Files g.D.SwapDev c.advance_from.new.files c.advance_from.new.swap) c.loop-count.count c.loop-count.waits so.so_far c.loop-count-test.true
     c.in-Some.ensures.ready on.params on.images led
 
 pub returns-else-waits-lt-MOST_WAITS-clause-runs : goal.returns-else-waits-lt-MOST_WAITS-clause-runs
 returns-else-waits-lt-MOST_WAITS-clause-runs g c =
     let so = c.loop-count.invariant in
-    waited_runs c.args.m.now c.loop-count.m c.args.pid (is_now c.args.patience) c.args.counted c.args.until (g.F.Files.holds c.args.files.now) (g.D.SwapDev.image c.args.swap.now)
-    (g.D.SwapDev.image c.loop-count.swap) c.loop-count.count c.loop-count.waits so.so_far c.if-waits-lt-MOST_WAITS.false
+    waited_runs c.args.m.now c.loop-count.m c.args.pid (is_now c.args.patience) c.args.counted c.args.until (g.F.Files.holds c.args.files.now)
+    (stores g.F.Files g.D.SwapDev c.args.files.now c.args.swap.now)
+    (stores g.F.Files g.D.SwapDev c.loop-count.files c.loop-count.swap) c.loop-count.count c.loop-count.waits so.so_far c.if-waits-lt-MOST_WAITS.false
 
 pub returns-after-loop-count-clause-runs : goal.returns-after-loop-count-clause-runs
 returns-after-loop-count-clause-runs g c =
     let so = c.loop-count.invariant in
-    done_runs c.args.m.now c.loop-count.m c.args.pid (is_now c.args.patience) c.args.counted c.args.until (g.F.Files.holds c.args.files.now) (g.D.SwapDev.image c.args.swap.now)
-    (g.D.SwapDev.image c.loop-count.swap) c.loop-count.count c.loop-count.waits so.so_far c.loop-count-test.false
+    done_runs c.args.m.now c.loop-count.m c.args.pid (is_now c.args.patience) c.args.counted c.args.until (g.F.Files.holds c.args.files.now)
+    (stores g.F.Files g.D.SwapDev c.args.files.now c.args.swap.now)
+    (stores g.F.Files g.D.SwapDev c.loop-count.files c.loop-count.swap) c.loop-count.count c.loop-count.waits so.so_far c.loop-count-test.false
 
 pub returns-in_err-advance_from-clause-kept : goal.returns-in_err-advance_from-clause-kept
 returns-in_err-advance_from-clause-kept g c =

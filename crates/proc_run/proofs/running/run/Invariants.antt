@@ -1,3 +1,4 @@
+use Rattle.io_edge.specs.WithFiles.{stores}
 use Rattle.std.proofs.Common.{◌-◌, ◌≡◌, ◌≤◌, ◌+◌, ◌*◌, None}
 use Rattle.std.specs.Prelude.{IfSome}
 use Rattle.flat_state.specs.Journal.{instructions_of}
@@ -18,7 +19,8 @@ invariant-loop-count g l = record {
   counts : instructions_of l.m.kernel.journal ≡ l.count;
   more : l.counted ≤ l.count;
   few : l.waits ≤ 32;
-  so_far : LedSoFar l.fn.m l.m l.pid (is_now l.patience) l.counted l.until (g.F.Files.holds l.fn.files) (g.D.SwapDev.image l.fn.swap) (g.D.SwapDev.image l.swap) l.count l.waits;
+  so_far : LedSoFar l.fn.m l.m l.pid (is_now l.patience) l.counted l.until (g.F.Files.holds l.fn.files) (stores g.F.Files g.D.SwapDev l.fn.files l.fn.swap)
+      (stores g.F.Files g.D.SwapDev l.files l.swap) l.count l.waits;
   known : IfSome l.missed (MissesByte (own_answers l.m l.pid) (regs_of l.m.kernel l.pid));
   outside : TransfersPages g.F.Files g.D.SwapDev None l.fn.files l.files l.fn.swap l.swap;
 }

@@ -1,3 +1,4 @@
+use Rattle.io_edge.specs.WithFiles.{stores}
 use Rattle.std.proofs.Common.{List, length, sym, ap, ◌∙◌, subst, arith}
 use Rattle.run_stats.specs.declared.noting.Note.{Note}
 use Rattle.question_command.specs.Counted.{look_at_film, Counted}
@@ -10,8 +11,9 @@ pub loop-film-init : goal.loop-film-init
 loop-film-init g c = record {
   filming = c.requires.filming;
   so_far = λ A image are begun.
-      subst (λ (xs : List Note). Counted A c.args.film.now (g.F.Files.holds c.args.files.now) (g.D.SwapDev.image c.args.swap.now) (look_at_film c.args.film.now) xs) (sym c.new-notes.ensures.items)
-      (counted_first A c.args.film.now (g.F.Files.holds c.args.files.now) (g.D.SwapDev.image c.args.swap.now) image begun);
+      subst (λ (xs : List Note). Counted A c.args.film.now (g.F.Files.holds c.args.files.now) (stores g.F.Files g.D.SwapDev c.args.files.now c.args.swap.now)
+      (look_at_film c.args.film.now) xs) (sym c.new-notes.ensures.items)
+      (counted_first A c.args.film.now (g.F.Files.holds c.args.files.now) (stores g.F.Files g.D.SwapDev c.args.files.now c.args.swap.now) image begun);
   within = let empty = ap length c.requires.first in omega (arith, empty);
   area = c.requires.area;
   files = c.requires.files;

@@ -1,4 +1,5 @@
 -- The film stands at a state of the run, and all entries so far are noted.
+use Rattle.io_edge.specs.WithFiles.{stores}
 use Rattle.std.proofs.Common.{◌≡◌, ◌≤◌, ◌-◌, ℕ, List, length}
 use Rattle.vm_facts.specs.SwapImages.{SwapImage}
 use Rattle.flat_state.specs.Flat.{Inputs}
@@ -10,9 +11,9 @@ use Rattle.question_command.proofs.counting.count_on.Given as goal
 
 abbrev pub invariant-loop-film : goal.invariant-loop-film
 invariant-loop-film g l = record {
-  filming : IsFilming l.film l.lines (g.F.Files.holds l.files) (g.D.SwapDev.image l.swap);
-  so_far : (A : Inputs) (image : SwapImage) → A.lines ≡ l.lines → FilmBegun A l.fn.film (g.F.Files.holds l.fn.files) (g.D.SwapDev.image l.fn.swap) image
-      → Counted A l.film (g.F.Files.holds l.files) (g.D.SwapDev.image l.swap) (look_at_film l.fn.film) l.notes.items;
+  filming : IsFilming l.film l.lines (g.F.Files.holds l.files) (stores g.F.Files g.D.SwapDev l.files l.swap);
+  so_far : (A : Inputs) (image : SwapImage) → A.lines ≡ l.lines → FilmBegun A l.fn.film (g.F.Files.holds l.fn.files) (stores g.F.Files g.D.SwapDev l.fn.files l.fn.swap) image
+      → Counted A l.film (g.F.Files.holds l.files) (stores g.F.Files g.D.SwapDev l.files l.swap) (look_at_film l.fn.film) l.notes.items;
   within : length l.film.machine.kernel.journal ≤ journal_entries;
   area : l.film.machine.params.swap_blocks ≤ g.D.SwapDev.blocks l.swap;
   files : AreFiles l.film.machine.images (g.F.Files.holds l.files);

@@ -1,3 +1,4 @@
+use Rattle.io_edge.specs.WithFiles.{stores}
 use Rattle.std.proofs.Common.{List, Option, sym, ap, subst, arith}
 use Rattle.vm_facts.specs.declared.params.Params.{Params}
 use Rattle.io_edge.specs.FileHolding.{NamedFile}
@@ -7,19 +8,19 @@ use Rattle.question_command.proofs.ending.go_on_once.Goals as goal
 
 pub returns-in-Ok-clause-filming : goal.returns-in-Ok-clause-filming
 returns-in-Ok-clause-filming g c =
-    filming_on c.args.film.now c.go_on.new.self c.args.lines.now (g.F.Files.holds c.args.files.now) (g.F.Files.holds c.go_on.new.files) (g.D.SwapDev.image c.args.swap.now)
-    (g.D.SwapDev.image c.go_on.new.swap)
+    filming_on c.args.film.now c.go_on.new.self c.args.lines.now (g.F.Files.holds c.args.files.now) (g.F.Files.holds c.go_on.new.files) (stores g.F.Files g.D.SwapDev c.args.files.now c.args.swap.now)
+    (stores g.F.Files g.D.SwapDev c.go_on.new.files c.go_on.new.swap)
     c.go_on.ensures.outside.files.holds c.requires.filming c.in-Ok.ensures.goes
 
 pub returns-in-Ok-clause-goes : goal.returns-in-Ok-clause-goes
 returns-in-Ok-clause-goes g c = λ A are was.
     state_on A c.args.film.now c.go_on.new.self c.args.lines.now (g.F.Files.holds c.args.files.now) (g.F.Files.holds c.go_on.new.files)
-    (g.D.SwapDev.image c.args.swap.now) (g.D.SwapDev.image c.go_on.new.swap) c.go_on.ensures.outside.files.holds are c.in-Ok.ensures.goes was
+    (stores g.F.Files g.D.SwapDev c.args.files.now c.args.swap.now) (stores g.F.Files g.D.SwapDev c.go_on.new.files c.go_on.new.swap) c.go_on.ensures.outside.files.holds are c.in-Ok.ensures.goes was
 
 pub returns-in-Ok-clause-longer : goal.returns-in-Ok-clause-longer
 returns-in-Ok-clause-longer g c =
-    longer_by_one c.args.film.now c.go_on.new.self c.args.lines.now (g.F.Files.holds c.args.files.now) (g.D.SwapDev.image c.args.swap.now)
-    (g.D.SwapDev.image c.go_on.new.swap) c.requires.filming c.in-Ok.ensures.goes
+    longer_by_one c.args.film.now c.go_on.new.self c.args.lines.now (g.F.Files.holds c.args.files.now) (stores g.F.Files g.D.SwapDev c.args.files.now c.args.swap.now)
+    (stores g.F.Files g.D.SwapDev c.go_on.new.files c.go_on.new.swap) c.requires.filming c.in-Ok.ensures.goes
 
 pub returns-in-Ok-clause-area : goal.returns-in-Ok-clause-area
 returns-in-Ok-clause-area g c =

@@ -1,3 +1,4 @@
+use Rattle.io_edge.specs.WithFiles.{stores}
 use Rattle.std.proofs.Common.{rules, length, sym, ap, ◌∙◌, arith}
 use Rattle.question_command.proofs.Steps.{filmed_first, film_said, goes_further, goes_no_further}
 use Rattle.question_command.proofs.filming.film_on.Goals as goal
@@ -10,7 +11,7 @@ loop-alloc-init g c = record {
   filming = c.requires.filming;
   so_far = λ A image are begun.
       filmed_first A c.args.steps begun.state c.args.film.now (g.F.Files.holds c.args.files.now)
-      (g.D.SwapDev.image c.args.swap.now) image c.new-text.result.items c.put_step_if.new.text.items begun.at begun.first
+      (stores g.F.Files g.D.SwapDev c.args.files.now c.args.swap.now) image c.new-text.result.items c.put_step_if.new.text.items begun.at begun.first
       (search rules) c.in_ok-put_step_if.ensures;
   within = let empty = ap length c.requires.first in omega (arith, empty);
   area = c.requires.area;
@@ -52,5 +53,6 @@ loop-alloc-smaller g c =
 pub returns : goal.returns
 returns g c = λ A image are begun.
     let so = c.loop-alloc.invariant in
-    film_said A c.args.steps c.loop-alloc.film (g.F.Files.holds c.loop-alloc.files) (g.D.SwapDev.image c.loop-alloc.swap) c.loop-alloc.text.items (so.so_far A image are begun) so.within
+    film_said A c.args.steps c.loop-alloc.film (g.F.Files.holds c.loop-alloc.files) (stores g.F.Files g.D.SwapDev c.loop-alloc.files c.loop-alloc.swap)
+    c.loop-alloc.text.items (so.so_far A image are begun) so.within
     (goes_no_further c.loop-alloc.film.over (length c.loop-alloc.film.machine.kernel.journal) c.args.steps.to (sym c.goes_on.ensures ∙ c.loop-alloc-test.false) so.within)

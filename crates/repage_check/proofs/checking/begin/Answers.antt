@@ -1,3 +1,4 @@
+use Rattle.io_edge.specs.WithFiles.{stores}
 use Rattle.std.proofs.Common.{◌≡◌, ℕ, Some, None, Result, Err, sym, ap, ◌∙◌}
 use Rattle.std.proofs.lemmas.Result.{IfOk-weaker}
 use Rattle.vm_facts.specs.SwapImages.{SwapImage}
@@ -18,7 +19,7 @@ returns-in-Ok-clause-space g c = λ A pid starts same.
 
 pub returns-in-Ok-clause-stands : goal.returns-in-Ok-clause-stands
 returns-in-Ok-clause-stands g c = λ none A image told shown limit.
-    begun_well A c.args.m.now c.start-started.new.m c.args.first.now (g.F.Files.holds c.args.files.now) image (g.D.SwapDev.image c.start-started.new.swap)
+    begun_well A c.args.m.now c.start-started.new.m c.args.first.now (g.F.Files.holds c.args.files.now) image (stores g.F.Files g.D.SwapDev c.start-started.new.files c.start-started.new.swap)
     c.start-started.result told limit c.requires.bound c.requires.frames c.always.ensures.within
     (well_by c.start-started.result c.in-Ok.started c.in-Ok.is (sym c.lacks_by.ensures ∙ none)) c.start-started.ensures.goes_on
     (c.start-started.ensures.leads A image told shown)
@@ -40,8 +41,8 @@ returns-in-Err-clause-stands g c =
     let new = c.start-started.new.m in
     let first = c.args.first.now in
     let holds = g.F.Files.holds c.args.files.now in
-    let i = g.D.SwapDev.image c.args.swap.now in
-    let j = g.D.SwapDev.image c.start-started.new.swap in
+    let i = stores g.F.Files g.D.SwapDev c.args.files.now c.args.swap.now in
+    let j = stores g.F.Files g.D.SwapDev c.start-started.new.files c.start-started.new.swap in
     IfOk-weaker c.full_or_memory.result (λ lacks. c.in-Err.stop ≡ stops.JournalFull)
     (λ lacks. lacks ≡ None → (A : Inputs) (image : SwapImage) → IsTold A old first holds image → i ≡ Some image → A.limit ≡ 1000000 → AtStart A new holds j)
     (λ lacks full none A image told shown limit. (begun_full A old new first holds image j c.start-started.result told limit c.requires.bound c.requires.frames
@@ -55,6 +56,6 @@ returns-in-Err-clause-ready g c =
     let new = c.start-started.new.m in
     IfOk-weaker c.full_or_memory.result (λ lacks. c.in-Err.stop ≡ stops.JournalFull) (λ lacks. lacks ≡ None → HasBegun old new)
     (λ lacks full none. full_ready asked.inputs old new c.args.first.now (g.F.Files.holds c.args.files.now) asked.image
-    (g.D.SwapDev.image c.start-started.new.swap) c.start-started.result asked.told asked.limit c.requires.bound c.requires.frames c.always.ensures.within
+    (stores g.F.Files g.D.SwapDev c.start-started.new.files c.start-started.new.swap) c.start-started.result asked.told asked.limit c.requires.bound c.requires.frames c.always.ensures.within
     c.always.ensures.running (c.in-Err.is ∙ ap (λ (s : Stop). let r : Result Started Stop = Err s in r) full) c.start-started.ensures.kept
     (c.start-started.ensures.stops asked.inputs asked.image asked.told asked.shown)) c.full_or_memory.ensures.full

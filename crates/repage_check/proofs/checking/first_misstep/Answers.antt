@@ -1,4 +1,5 @@
 use Rattle.std.proofs.Common.{◌≡◌, ◌+◌, ◌≤◌, List, drop, Option, None, refl, sym, ◌∙◌, subst, arith}
+use Rattle.io_edge.specs.WithFiles.{stores}
 use Rattle.io_edge.specs.FileHolding.{NamedFile}
 use Rattle.machine_state.specs.Files.{AreFiles}
 use Rattle.machine_state.specs.Sourced.{ImageNamed}
@@ -17,7 +18,7 @@ pub loop-index-init : goal.loop-index-init
 loop-index-init g c =
     let m = c.args.m.now in
     let holds = g.F.Files.holds c.args.files.now in
-    let i = g.D.SwapDev.image c.args.swap.now in
+    let i = stores g.F.Files g.D.SwapDev c.args.files.now c.args.swap.now in
     record {
       told = subst (λ (p : Past). LeadsFrom (PastAt past_at_start m holds i) (AlongLines c.args.lines.now 0 p m holds i)) (sym c.past_at_start-past.ensures)
           (λ A s image at. lines_begun c.args.lines.now past_at_start m holds i A s image at);
@@ -69,11 +70,11 @@ returns-in-Some-clause-told g c =
     let ls = c.args.lines.now in
     let m = c.loop-index.m in
     let holds = g.F.Files.holds c.args.files.now in
-    let i = g.D.SwapDev.image c.loop-index.swap in
-    let j = g.D.SwapDev.image c.judge_line.new.swap in
+    let i = stores g.F.Files g.D.SwapDev c.loop-index.files c.loop-index.swap in
+    let j = stores g.F.Files g.D.SwapDev c.judge_line.new.files c.judge_line.new.swap in
     let so = c.loop-index.invariant in
     let judged = c.in_ok-judged.judged in
-    lines_stop ls k past_at_start c.args.m.now holds (g.D.SwapDev.image c.args.swap.now) c.loop-index.past m i so.told l
+    lines_stop ls k past_at_start c.args.m.now holds (stores g.F.Files g.D.SwapDev c.args.files.now c.args.swap.now) c.loop-index.past m i so.told l
     (line_here ls k l c.loop-index-test.true c.index-lines-index.is) c.judge_line.new.past c.judge_line.new.m j judged
     (subst (λ (hs : Option (List NamedFile)). LeadsFrom (PastAt c.loop-index.past m hs i) (LineTold judged l c.judge_line.new.past c.judge_line.new.m hs j)) so.holds
     c.in_ok-judged.ensures.told) c.in-Some.reason c.in-Some.is
@@ -85,8 +86,8 @@ loop-index-preserved g c =
     let ls = c.args.lines.now in
     let m = c.loop-index.m in
     let holds = g.F.Files.holds c.args.files.now in
-    let i = g.D.SwapDev.image c.loop-index.swap in
-    let j = g.D.SwapDev.image c.judge_line.new.swap in
+    let i = stores g.F.Files g.D.SwapDev c.loop-index.files c.loop-index.swap in
+    let j = stores g.F.Files g.D.SwapDev c.judge_line.new.files c.judge_line.new.swap in
     let so = c.loop-index.invariant in
     let judged = c.in_ok-judged.judged in
     let none : judged ≡ None = c.in_default.is in
@@ -95,7 +96,7 @@ loop-index-preserved g c =
     subst (λ (hs : Option (List NamedFile)). LeadsFrom (PastAt c.loop-index.past m hs i) (LineTold judged l c.judge_line.new.past c.judge_line.new.m hs j)) so.holds
     c.in_ok-judged.ensures.told in
     record {
-      told = lines_step ls k past_at_start c.args.m.now holds (g.D.SwapDev.image c.args.swap.now) c.loop-index.past m i so.told l here
+      told = lines_step ls k past_at_start c.args.m.now holds (stores g.F.Files g.D.SwapDev c.args.files.now c.args.swap.now) c.loop-index.past m i so.told l here
           c.judge_line.new.past c.judge_line.new.m j judged told none;
       at = line_some c.loop-index.past m holds i l c.judge_line.new.past c.judge_line.new.m j judged so.at told none;
       few = few_on l (drop (k + 1) ls) k c.args.m.now m (subst (λ (left : List Line). GoesOnFew left k c.args.m.now m) here so.few) c.judge_line.new.m
@@ -107,13 +108,13 @@ loop-index-preserved g c =
 
 pub returns-clause-told : goal.returns-clause-told
 returns-clause-told g c =
-    lines_end c.args.lines.now c.loop-index.index past_at_start c.args.m.now (g.F.Files.holds c.args.files.now) (g.D.SwapDev.image c.args.swap.now)
-    c.loop-index.past c.loop-index.m (g.D.SwapDev.image c.loop-index.swap) c.loop-index.invariant.told (omega arith)
+    lines_end c.args.lines.now c.loop-index.index past_at_start c.args.m.now (g.F.Files.holds c.args.files.now) (stores g.F.Files g.D.SwapDev c.args.files.now c.args.swap.now)
+    c.loop-index.past c.loop-index.m (stores g.F.Files g.D.SwapDev c.loop-index.files c.loop-index.swap) c.loop-index.invariant.told (omega arith)
 
 pub returns-clause-stands : goal.returns-clause-stands
 returns-clause-stands g c = λ none.
-    lines_stand c.args.lines.now c.loop-index.index past_at_start c.args.m.now (g.F.Files.holds c.args.files.now) (g.D.SwapDev.image c.args.swap.now)
-    c.loop-index.past c.loop-index.m (g.D.SwapDev.image c.loop-index.swap) c.loop-index.invariant.told (omega arith)
+    lines_stand c.args.lines.now c.loop-index.index past_at_start c.args.m.now (g.F.Files.holds c.args.files.now) (stores g.F.Files g.D.SwapDev c.args.files.now c.args.swap.now)
+    c.loop-index.past c.loop-index.m (stores g.F.Files g.D.SwapDev c.loop-index.files c.loop-index.swap) c.loop-index.invariant.told (omega arith)
 
 pub returns-clause-ready : goal.returns-clause-ready
 returns-clause-ready g c = λ none. c.loop-index.invariant.few.ready

@@ -1,3 +1,4 @@
+use Rattle.io_edge.specs.WithFiles.{stores}
 use Rattle.std.proofs.Common.{◌≡◌, List, Option, sym, ap, ◌∙◌, subst, arith}
 use Rattle.vm_facts.specs.declared.params.Params.{Params}
 use Rattle.io_edge.specs.FileHolding.{NamedFile}
@@ -19,7 +20,7 @@ returns-in-Some-clause-judged g c = λ A image told shown limit.
 pub first_misstep-requires-clause-at : goal.first_misstep-requires-clause-at
 first_misstep-requires-clause-at g c =
     let asked = c.requires.told in
-    let i = g.D.SwapDev.image c.begin.new.swap in
+    let i = stores g.F.Files g.D.SwapDev c.begin.new.files c.begin.new.swap in
     subst (λ (hs : Option (List NamedFile)). AtSome (PastAt past_at_start c.begin.new.m hs i)) (sym c.begin.ensures.holds)
     (start_some asked.inputs c.begin.new.m (g.F.Files.holds c.args.files.now) i
     (c.in_ok-pid.ensures.stands c.in-None.is asked.inputs asked.image asked.told asked.shown asked.limit))
@@ -49,7 +50,7 @@ pub returns-in-None-2-clause-judged : goal.returns-in-None-2-clause-judged
 returns-in-None-2-clause-judged g c = λ A image told shown limit.
     let m = c.begin.new.m in
     let holds = g.F.Files.holds c.args.files.now in
-    let i = g.D.SwapDev.image c.begin.new.swap in
+    let i = stores g.F.Files g.D.SwapDev c.begin.new.files c.begin.new.swap in
     let found = c.in_ok-first_misstep-in-None.field-0 in
     judged_paged A c.args.lines.now m holds i (c.in_ok-pid.ensures.stands c.in-None.is A image told shown limit) found
     (subst (λ (hs : Option (List NamedFile)). LeadsFrom (PastAt past_at_start m hs i) (λ B s j. found ≡ trace_misstep B s 1 c.args.lines.now)) c.begin.ensures.holds
@@ -60,8 +61,8 @@ returns-in-None-2-clause-stands g c = λ paged A image told shown limit.
     let m = c.begin.new.m in
     let new = c.first_misstep.new.m in
     let holds = g.F.Files.holds c.args.files.now in
-    let i = g.D.SwapDev.image c.begin.new.swap in
-    let j = g.D.SwapDev.image c.first_misstep.new.swap in
+    let i = stores g.F.Files g.D.SwapDev c.begin.new.files c.begin.new.swap in
+    let j = stores g.F.Files g.D.SwapDev c.first_misstep.new.files c.first_misstep.new.swap in
     stands_after A c.args.lines.now m new holds i j (c.in_ok-pid.ensures.stands c.in-None.is A image told shown limit)
     (subst (λ (hs : Option (List NamedFile)). LeadsFrom (PastAt past_at_start m hs i) (StandsBehind c.args.lines.now new hs j)) c.begin.ensures.holds
     (c.in_ok-first_misstep-in-None.ensures.stands c.in-None-2.is))
@@ -70,7 +71,7 @@ pub returns-in-Some-2-clause-judged : goal.returns-in-Some-2-clause-judged
 returns-in-Some-2-clause-judged g c = λ A image told shown limit.
     let m = c.begin.new.m in
     let holds = g.F.Files.holds c.args.files.now in
-    let i = g.D.SwapDev.image c.begin.new.swap in
+    let i = stores g.F.Files g.D.SwapDev c.begin.new.files c.begin.new.swap in
     let found = c.in_ok-first_misstep-in-None.field-0 in
     judged_not A c.args.lines.now m holds i (c.in_ok-pid.ensures.stands c.in-None.is A image told shown limit) found
     (subst (λ (hs : Option (List NamedFile)). LeadsFrom (PastAt past_at_start m hs i) (λ B s j. found ≡ trace_misstep B s 1 c.args.lines.now)) c.begin.ensures.holds

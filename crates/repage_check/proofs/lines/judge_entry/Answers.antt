@@ -1,6 +1,7 @@
 use Rattle.std.proofs.Common.{◌≡◌, ◌+◌, ◌≤◌, [], List, None, sym, subst, arith}
 use Rattle.std.specs.Prelude.{IfOk}
 use Rattle.std.proofs.lemmas.Result.{IfOk-weaker}
+use Rattle.io_edge.specs.WithFiles.{stores}
 use Rattle.vm_facts.specs.declared.entry.Entry.{Entry}
 use Rattle.vm_facts.specs.declared.entry.Entry.TheVariants as entries
 use Rattle.flat_state.specs.Journal.{repeated, units_with}
@@ -14,7 +15,7 @@ use Rattle.repage_check.proofs.lines.judge_entry.Goals as goal
 
 pub judge_hands-requires-clause-frames : goal.judge_hands-requires-clause-frames
 judge_hands-requires-clause-frames g c =
-    some_frames c.args.past.now c.args.m.now (g.F.Files.holds c.args.files.now) (g.D.SwapDev.image c.args.swap.now) c.requires.at
+    some_frames c.args.past.now c.args.m.now (g.F.Files.holds c.args.files.now) (stores g.F.Files g.D.SwapDev c.args.files.now c.args.swap.now) c.requires.at
 
 pub judge_hands-requires-clause-low : goal.judge_hands-requires-clause-low
 judge_hands-requires-clause-low g c =
@@ -26,7 +27,7 @@ returns-in-Hands-clause-told g c =
     let old = c.args.m.now in
     let new = c.judge_hands.new.m in
     let holds = g.F.Files.holds c.args.files.now in
-    let i = g.D.SwapDev.image c.args.swap.now in
+    let i = stores g.F.Files g.D.SwapDev c.args.files.now c.args.swap.now in
     subst (λ (e : Entry). IfOk c.judge_hands.result (λ reason. LeadsFrom (PastAt p old holds i) (UnitsTold reason (units_with e []) p new holds i))) (sym c.in-Hands.is)
     (all_told c.judge_hands.result (PastAt p old holds i) (λ reason. UnitsTold reason (repeated (entries.Hands 1) c.in-Hands.count []) p new holds i)
     (λ A s image at. c.judge_hands.ensures.told holds i A s image at))
@@ -46,8 +47,8 @@ returns-in-Ran-clause-told g c =
     let new = c.judge_ran.new.m in
     let q = c.judge_ran.new.past in
     let holds = g.F.Files.holds c.args.files.now in
-    let i = g.D.SwapDev.image c.args.swap.now in
-    let j = g.D.SwapDev.image c.judge_ran.new.swap in
+    let i = stores g.F.Files g.D.SwapDev c.args.files.now c.args.swap.now in
+    let j = stores g.F.Files g.D.SwapDev c.judge_ran.new.files c.judge_ran.new.swap in
     subst (λ (e : Entry). IfOk c.judge_ran.result (λ reason. LeadsFrom (PastAt p old holds i) (UnitsTold reason (units_with e []) q new holds j))) (sym c.in-Ran.is)
     c.judge_ran.ensures.told
 
@@ -78,8 +79,8 @@ returns-in_default-clause-told g c =
     let new = c.judge_next.new.m in
     let q = c.judge_next.new.past in
     let holds = g.F.Files.holds c.args.files.now in
-    let i = g.D.SwapDev.image c.args.swap.now in
-    let j = g.D.SwapDev.image c.judge_next.new.swap in
+    let i = stores g.F.Files g.D.SwapDev c.args.files.now c.args.swap.now in
+    let j = stores g.F.Files g.D.SwapDev c.judge_next.new.files c.judge_next.new.swap in
     subst (λ (us : List Entry). IfOk c.judge_next.result (λ reason. LeadsFrom (PastAt p old holds i) (UnitsTold reason us q new holds j)))
     (other_alone c.args.e.now c.in_default.not-Hands c.in_default.not-Ran) c.judge_next.ensures.told
 

@@ -1,5 +1,6 @@
 use Rattle.std.proofs.Common.{◌≡◌, ◌+◌, ◌≤◌, None, sym, subst}
 use Rattle.std.specs.Prelude.{IfOk}
+use Rattle.io_edge.specs.WithFiles.{stores}
 use Rattle.paging_units.specs.LastMoves.{last_moves}
 use Rattle.vm_core.specs.Stepped.{LeadsFrom}
 use Rattle.paged_model.specs.declared.line.Line.{Line}
@@ -21,8 +22,8 @@ returns-in-Entry-clause-told g c =
     let new = c.judge_entry.new.m in
     let q = c.judge_entry.new.past in
     let holds = g.F.Files.holds c.args.files.now in
-    let i = g.D.SwapDev.image c.args.swap.now in
-    let j = g.D.SwapDev.image c.judge_entry.new.swap in
+    let i = stores g.F.Files g.D.SwapDev c.args.files.now c.args.swap.now in
+    let j = stores g.F.Files g.D.SwapDev c.judge_entry.new.files c.judge_entry.new.swap in
     subst (λ (l : Line). IfOk c.judge_entry.result (λ reason. LeadsFrom (PastAt p old holds i) (LineTold reason l q new holds j))) (sym c.in-Entry.is)
     (line_told c.judge_entry.result c.in-Entry.e p q old new holds i j c.judge_entry.ensures.told)
 
@@ -37,7 +38,7 @@ returns-in-Part-clause-told g c =
     let old = c.args.m.now in
     let new = c.judge_alone.new.m in
     let holds = g.F.Files.holds c.args.files.now in
-    let i = g.D.SwapDev.image c.args.swap.now in
+    let i = stores g.F.Files g.D.SwapDev c.args.files.now c.args.swap.now in
     subst (λ (l : Line). IfOk c.judge_alone.result (λ reason. LeadsFrom (PastAt p old holds i) (LineTold reason l p new holds i))) (sym c.in-Part.is)
     (all_told c.judge_alone.result (PastAt p old holds i) (λ reason. LineTold reason (lines.Part c.in-Part.part) p new holds i)
     (λ A s image at. c.judge_alone.ensures.told holds i A s image at))

@@ -1,3 +1,4 @@
+use Rattle.io_edge.specs.WithFiles.{stores}
 use Rattle.std.proofs.Common.{◌≤◌, ◌∷◌, [], Bool, sym, ap, ◌∙◌, subst}
 use Rattle.vm_core.specs.Stepped.{LeadsFrom}
 use Rattle.repage_check.specs.declared.past.Past.{Past}
@@ -8,12 +9,12 @@ use Rattle.repage_check.proofs.lines.judge_next.Goals as goal
 
 pub judge_unit-requires-clause-at : goal.judge_unit-requires-clause-at
 judge_unit-requires-clause-at g c =
-    wide_some c.args.past.now c.args.m.now c.widen.new.m (g.F.Files.holds c.args.files.now) (g.D.SwapDev.image c.args.swap.now) c.widen.ensures.only c.requires.at
+    wide_some c.args.past.now c.args.m.now c.widen.new.m (g.F.Files.holds c.args.files.now) (stores g.F.Files g.D.SwapDev c.args.files.now c.args.swap.now) c.widen.ensures.only c.requires.at
 
 pub past_behind-requires-clause-counts : goal.past_behind-requires-clause-counts
 past_behind-requires-clause-counts g c =
-    next_counted c.args.past.now c.args.m.now c.widen.new.m (g.F.Files.holds c.args.files.now) (g.D.SwapDev.image c.args.swap.now) c.widen.ensures.only c.args.u.now
-    c.judge_unit.new.m (g.D.SwapDev.image c.judge_unit.new.swap) c.in_ok-judged.judged c.in_ok-judged.ensures.told c.requires.at
+    next_counted c.args.past.now c.args.m.now c.widen.new.m (g.F.Files.holds c.args.files.now) (stores g.F.Files g.D.SwapDev c.args.files.now c.args.swap.now) c.widen.ensures.only c.args.u.now
+    c.judge_unit.new.m (stores g.F.Files g.D.SwapDev c.judge_unit.new.files c.judge_unit.new.swap) c.in_ok-judged.judged c.in_ok-judged.ensures.told c.requires.at
 
 pub returns-clause-told : goal.returns-clause-told
 returns-clause-told g c =
@@ -21,8 +22,8 @@ returns-clause-told g c =
     let old = c.args.m.now in
     let new = c.judge_unit.new.m in
     let holds = g.F.Files.holds c.args.files.now in
-    let i = g.D.SwapDev.image c.args.swap.now in
-    let j = g.D.SwapDev.image c.judge_unit.new.swap in
+    let i = stores g.F.Files g.D.SwapDev c.args.files.now c.args.swap.now in
+    let j = stores g.F.Files g.D.SwapDev c.judge_unit.new.files c.judge_unit.new.swap in
     let judged = c.in_ok-judged.judged in
     let u = c.args.u.now in
     subst (λ (q : Past). LeadsFrom (PastAt p old holds i) (UnitsTold judged (u ∷ []) q new holds j))
@@ -31,8 +32,8 @@ returns-clause-told g c =
 
 pub returns-clause-on : goal.returns-clause-on
 returns-clause-on g c = λ none.
-    next_by c.args.past.now c.args.m.now c.widen.new.m (g.F.Files.holds c.args.files.now) (g.D.SwapDev.image c.args.swap.now) c.widen.ensures.only c.args.u.now
-    c.judge_unit.new.m (g.D.SwapDev.image c.judge_unit.new.swap) c.in_ok-judged.judged c.in_ok-judged.ensures.told c.requires.at none (c.in_ok-judged.ensures.on none)
+    next_by c.args.past.now c.args.m.now c.widen.new.m (g.F.Files.holds c.args.files.now) (stores g.F.Files g.D.SwapDev c.args.files.now c.args.swap.now) c.widen.ensures.only c.args.u.now
+    c.judge_unit.new.m (stores g.F.Files g.D.SwapDev c.judge_unit.new.files c.judge_unit.new.swap) c.in_ok-judged.judged c.in_ok-judged.ensures.told c.requires.at none (c.in_ok-judged.ensures.on none)
 
 pub returns-clause-lines : goal.returns-clause-lines
 returns-clause-lines g c =

@@ -1,6 +1,7 @@
 use Rattle.std.proofs.Common.{◌≡◌, ℕ, ◌∷◌, [], List, Option, None, refl, sym, ◌∙◌, subst, arith}
 use Rattle.vm_facts.specs.declared.entry.Entry.{Entry}
 use Rattle.vm_facts.specs.declared.entry.Entry.TheVariants as entries
+use Rattle.io_edge.specs.WithFiles.{stores}
 use Rattle.io_edge.specs.FileHolding.{NamedFile}
 use Rattle.flat_state.specs.Journal.{repeated}
 use Rattle.machine_state.specs.Files.{AreFiles}
@@ -15,7 +16,7 @@ use Rattle.repage_check.proofs.lines.judge_ran.Goals as goal
 pub loop-done-init : goal.loop-done-init
 loop-done-init g c = record {
   told = units_first (entries.Ran c.args.pid 1) c.args.times c.args.past.now c.args.m.now (g.F.Files.holds c.args.files.now)
-      (g.D.SwapDev.image c.args.swap.now);
+      (stores g.F.Files g.D.SwapDev c.args.files.now c.args.swap.now);
   at = c.requires.at;
   on = none_by c.args.m.now c.requires.ready c.requires.wide;
   lines = omega arith;
@@ -59,8 +60,8 @@ pub loop-done-preserved : goal.loop-done-preserved
 loop-done-preserved g c =
     let u : Entry = entries.Ran c.args.pid 1 in
     let holds = g.F.Files.holds c.args.files.now in
-    let i = g.D.SwapDev.image c.loop-done.swap in
-    let j = g.D.SwapDev.image c.judge_next.new.swap in
+    let i = stores g.F.Files g.D.SwapDev c.loop-done.files c.loop-done.swap in
+    let j = stores g.F.Files g.D.SwapDev c.judge_next.new.files c.judge_next.new.swap in
     let so = c.loop-done.invariant in
     let judged = c.in_ok-judged.judged in
     let none : judged ≡ None = none_by_test judged (sym c.is_some.ensures ∙ c.if-is_some.false) in
@@ -68,7 +69,7 @@ loop-done-preserved g c =
     subst (λ (hs : Option (List NamedFile)). LeadsFrom (PastAt c.loop-done.past c.loop-done.m hs i) (UnitsTold judged (u ∷ []) c.judge_next.new.past c.judge_next.new.m hs j))
     so.holds c.in_ok-judged.ensures.told in
     record {
-      told = units_step (repeated u c.args.times []) u c.loop-done.done c.args.times c.args.past.now c.args.m.now holds (g.D.SwapDev.image c.args.swap.now)
+      told = units_step (repeated u c.args.times []) u c.loop-done.done c.args.times c.args.past.now c.args.m.now holds (stores g.F.Files g.D.SwapDev c.args.files.now c.args.swap.now)
           c.loop-done.past c.loop-done.m i so.told (omega arith) c.judge_next.new.past c.judge_next.new.m j judged told none;
       at = units_some c.loop-done.past c.loop-done.m holds i (u ∷ []) c.judge_next.new.past c.judge_next.new.m j judged so.at told none;
       on = more_by u c.loop-done.done c.args.m.now c.loop-done.m c.judge_next.new.m so.on (c.in_ok-judged.ensures.on none);
@@ -81,11 +82,11 @@ pub returns-then-is_some-clause-told : goal.returns-then-is_some-clause-told
 returns-then-is_some-clause-told g c =
     let u : Entry = entries.Ran c.args.pid 1 in
     let holds = g.F.Files.holds c.args.files.now in
-    let i = g.D.SwapDev.image c.loop-done.swap in
-    let j = g.D.SwapDev.image c.judge_next.new.swap in
+    let i = stores g.F.Files g.D.SwapDev c.loop-done.files c.loop-done.swap in
+    let j = stores g.F.Files g.D.SwapDev c.judge_next.new.files c.judge_next.new.swap in
     let so = c.loop-done.invariant in
     let judged = c.in_ok-judged.judged in
-    units_stop (repeated u c.args.times []) u c.loop-done.done c.args.times c.args.past.now c.args.m.now holds (g.D.SwapDev.image c.args.swap.now)
+    units_stop (repeated u c.args.times []) u c.loop-done.done c.args.times c.args.past.now c.args.m.now holds (stores g.F.Files g.D.SwapDev c.args.files.now c.args.swap.now)
     c.loop-done.past c.loop-done.m i so.told (omega arith) c.judge_next.new.past c.judge_next.new.m j judged
     (subst (λ (hs : Option (List NamedFile)). LeadsFrom (PastAt c.loop-done.past c.loop-done.m hs i) (UnitsTold judged (u ∷ []) c.judge_next.new.past c.judge_next.new.m hs j))
     so.holds c.in_ok-judged.ensures.told) (sym c.is_some.ensures ∙ c.if-is_some.true)
@@ -99,7 +100,7 @@ returns-then-is_some-clause-lines g c =
 pub returns-clause-told : goal.returns-clause-told
 returns-clause-told g c =
     units_end (repeated (entries.Ran c.args.pid 1) c.args.times []) (entries.Ran c.args.pid 1) c.loop-done.done c.args.times c.args.past.now c.args.m.now
-    (g.F.Files.holds c.args.files.now) (g.D.SwapDev.image c.args.swap.now) c.loop-done.past c.loop-done.m (g.D.SwapDev.image c.loop-done.swap)
+    (g.F.Files.holds c.args.files.now) (stores g.F.Files g.D.SwapDev c.args.files.now c.args.swap.now) c.loop-done.past c.loop-done.m (stores g.F.Files g.D.SwapDev c.loop-done.files c.loop-done.swap)
     c.loop-done.invariant.told (omega arith)
 
 pub returns-clause-on : goal.returns-clause-on

@@ -1,3 +1,4 @@
+use Rattle.io_edge.specs.WithFiles.{stores}
 use Rattle.std.proofs.Common.{◌≡◌, None}
 use Rattle.vm_facts.specs.declared.entry.Entry.TheVariants as entries
 use Rattle.paged_model.specs.Moves.{done_reason}
@@ -15,7 +16,8 @@ returns-clause-judged g c =
 pub returns-clause-made : goal.returns-clause-made
 returns-clause-made g c =
     or_told
-    (JudgedThrough entries.Done (g.F.Files.holds c.args.files.now) (g.D.SwapDev.image c.args.swap.now) (g.D.SwapDev.image c.judge_done-judged.new.swap) c.args.m.now
+    (JudgedThrough entries.Done (g.F.Files.holds c.args.files.now) (stores g.F.Files g.D.SwapDev c.args.files.now c.args.swap.now)
+    (stores g.F.Files g.D.SwapDev c.judge_done-judged.new.files c.judge_done-judged.new.swap) c.args.m.now
     c.judge_done-judged.new.m)
     c.or_memory.result c.judge_done-judged.result c.or_memory.ensures c.judge_done-judged.ensures.made
 
@@ -24,7 +26,8 @@ returns-clause-on g c =
     let old = c.args.m.now in
     let new = c.judge_done-judged.new.m in
     or_told (λ reason. reason ≡ None → GoesOnWith old new) c.or_memory.result c.judge_done-judged.result c.or_memory.ensures
-    (end_on old new entries.Done (g.F.Files.holds c.args.files.now) (g.D.SwapDev.image c.args.swap.now) (g.D.SwapDev.image c.judge_done-judged.new.swap)
+    (end_on old new entries.Done (g.F.Files.holds c.args.files.now) (stores g.F.Files g.D.SwapDev c.args.files.now c.args.swap.now)
+    (stores g.F.Files g.D.SwapDev c.judge_done-judged.new.files c.judge_done-judged.new.swap)
     c.judge_done-judged.result c.judge_done-judged.ensures.made c.judge_done-judged.ensures.goes_on)
 
 pub returns-clause-holds : goal.returns-clause-holds

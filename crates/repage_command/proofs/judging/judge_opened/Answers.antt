@@ -1,7 +1,9 @@
 use Rattle.std.proofs.Common.{ℕ, List, [], ap, subst, sym}
+use Rattle.io_edge.specs.FileRequests.{no_notes}
+use Rattle.io_edge.specs.WithFiles.{with_files}
 use Rattle.machine_state.specs.Machine.{Standing}
 use Rattle.repage_check.specs.VmCoreStarting.{AreAmong}
-use Rattle.grade_command.specs.Answering.{blank_swap}
+use Rattle.grade_command.specs.Answering.{blank_stores}
 use Rattle.grade_command.proofs.Openings.{are_sound, are_names}
 use Rattle.grade_command.proofs.Runs.{asked, opened_files}
 use Rattle.repage_command.specs.Reading.{inputs_of}
@@ -32,18 +34,18 @@ judge_begun-judged-requires-clause-files c =
 pub judge_begun-judged-requires-clause-told : goal.judge_begun-judged-requires-clause-told
 judge_begun-judged-requires-clause-told c = record {
   inputs = inputs_of c.args.numbers c.args.case.now;
-  image = blank_swap c.args.numbers.swap;
-  told = told_of (inputs_of c.args.numbers c.args.case.now) _ c.args.case.now.naming.first.items c.as_slice-first.result.now [] _ (blank_swap c.args.numbers.swap) c.as_slice-first.ensures.value
+  image = blank_stores c.args.numbers.swap;
+  told = told_of (inputs_of c.args.numbers c.args.case.now) _ c.args.case.now.naming.first.items c.as_slice-first.result.now [] _ (blank_stores c.args.numbers.swap) c.as_slice-first.ensures.value
       (asked 0 c.args.numbers c.args.case.now.images.items c.args.opened.now c.args.case.now.naming.first.items [] c.requires.opened c.requires.ready.runnable c.requires.octets _
       c.in-Ok-machine_of.ensures.machine _ c.requires.held);
-  shown = c.in-Ok.ensures.zeros;
+  shown = ap (with_files no_notes) c.in-Ok.ensures.zeros;
   limit = c.requires.ready.limit;
 }
 
 pub returns : goal.returns
 returns c =
-    c.judge_begun-judged.ensures (inputs_of c.args.numbers c.args.case.now) (blank_swap c.args.numbers.swap)
-    (told_of (inputs_of c.args.numbers c.args.case.now) _ c.args.case.now.naming.first.items c.as_slice-first.result.now [] _ (blank_swap c.args.numbers.swap) c.as_slice-first.ensures.value
+    c.judge_begun-judged.ensures (inputs_of c.args.numbers c.args.case.now) (blank_stores c.args.numbers.swap)
+    (told_of (inputs_of c.args.numbers c.args.case.now) _ c.args.case.now.naming.first.items c.as_slice-first.result.now [] _ (blank_stores c.args.numbers.swap) c.as_slice-first.ensures.value
     (asked 0 c.args.numbers c.args.case.now.images.items c.args.opened.now c.args.case.now.naming.first.items [] c.requires.opened c.requires.ready.runnable c.requires.octets _
     c.in-Ok-machine_of.ensures.machine _ c.requires.held))
-    c.in-Ok.ensures.zeros c.requires.ready.limit
+    (ap (with_files no_notes) c.in-Ok.ensures.zeros) c.requires.ready.limit

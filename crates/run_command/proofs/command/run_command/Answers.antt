@@ -17,6 +17,8 @@ returns-in-Err-clause-runs g c =
     let seen : Seen = record {
       files = g.F.Files.holds files;
       faults = record { open_before = g.F.Files.open_faults files; open_after = g.F.Files.open_faults files; page_before = g.F.Files.page_faults files; page_after = g.F.Files.page_faults files };
+      notes_before = g.F.Files.notes files;
+      notes_after = g.F.Files.notes files;
       zero_blocks = g.D.SwapDev.blocks zero;
       one_blocks = g.E.SwapDev.blocks one;
       swap_before = image;
@@ -30,7 +32,7 @@ returns-in-Err-clause-runs g c =
     } in
     let reads : NoneFailed seen.reads = record { zero = refl; one = refl } in
     let writes : NoneFailed seen.writes = record { zero = refl; one = refl } in
-    lacking_runs request seen refl reads writes refl c.write_run.result c.write_run.ensures.writes refl
+    lacking_runs request seen refl reads writes refl c.write_run.result c.write_run.ensures.writes refl refl
 
 -- the headline is a part of what a run is
 pub returns-in-Err-clause-headline : goal.returns-in-Err-clause-headline

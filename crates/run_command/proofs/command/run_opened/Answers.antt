@@ -1,6 +1,7 @@
 use Rattle.std.proofs.Common.{◌≡◌, List, ℕ, ◌≤◌, length, Err, map, refl, sym, ap, ◌∙◌, subst}
 use Rattle.vm_facts.specs.declared.entry.Entry.{Entry}
 use Rattle.vm_facts.specs.declared.event.Event.{Event}
+use Rattle.io_edge.specs.WithFiles.{with_files}
 use Rattle.machine_state.specs.Machine.{Standing}
 use Rattle.vm_core.specs.RunEnds.{IsAskedOf}
 use Rattle.run_opening.specs.declared.images.OpenedImage.{OpenedImage}
@@ -17,7 +18,7 @@ use Rattle.run_command.proofs.Runs.{run_caused, opened_runs, opened_lacking}
 use Rattle.run_command.proofs.command.run_opened.Goals as goal
 
 pub returns-in_default-clause-runs : goal.returns-in_default-clause-runs
-returns-in_default-clause-runs g c =
+returns-in_default-clause-runs g c = λ notes.
     let files = c.args.files.now in
     let zero = c.args.zero.now in
     let one = c.args.one.now in
@@ -25,6 +26,8 @@ returns-in_default-clause-runs g c =
     let seen : Seen = record {
       files = g.F.Files.holds files;
       faults = record { open_before = g.F.Files.open_faults files; open_after = g.F.Files.open_faults files; page_before = g.F.Files.page_faults files; page_after = g.F.Files.page_faults files };
+      notes_before = notes;
+      notes_after = g.F.Files.notes files;
       zero_blocks = g.D.SwapDev.blocks zero;
       one_blocks = g.E.SwapDev.blocks one;
       swap_before = image;
@@ -38,10 +41,10 @@ returns-in_default-clause-runs g c =
     } in
     let none : NoneFaulted seen
     = record { files = record { open_same = refl; page_same = refl }; reads = record { zero = refl; one = refl }; writes = record { zero = refl; one = refl } } in
-    opened_lacking (IsOfOpening c.args.numbers c.args.opening.now (g.F.Files.holds files)) c.args.traced seen c.write_run.result c.write_run.ensures.writes refl none
+    opened_lacking (IsOfOpening c.args.numbers c.args.opening.now (g.F.Files.holds files)) (g.F.Files.notes files) c.args.traced seen c.write_run.result c.write_run.ensures.writes refl none
 
 pub returns-clause-runs : goal.returns-clause-runs
-returns-clause-runs g c =
+returns-clause-runs g c = λ notes.
     let files = c.args.files.now in
     let after = c.run_paired-ending.new.files in
     let zero = c.args.zero.now in
@@ -54,6 +57,8 @@ returns-clause-runs g c =
     let seen : Seen = record {
       files = g.F.Files.holds files;
       faults = record { open_before = g.F.Files.open_faults files; open_after = g.F.Files.open_faults after; page_before = g.F.Files.page_faults files; page_after = g.F.Files.page_faults after };
+      notes_before = notes;
+      notes_after = g.F.Files.notes after;
       zero_blocks = g.D.SwapDev.blocks zero;
       one_blocks = g.E.SwapDev.blocks one;
       swap_before = image_together (g.D.SwapDev.blocks zero) (g.E.SwapDev.blocks one) (g.D.SwapDev.image zero) (g.E.SwapDev.image one);
@@ -83,10 +88,10 @@ returns-clause-runs g c =
     (λ pid is. left_together g.D.SwapDev g.E.SwapDev zero zero_after one one_after (ran.zero_left pid is) (ran.one_left pid is))
     (subst (λ (m : Standing). r ≡ Err JournalFull → length es ≡ m.params.journal) machine ran.full) in
     let within : length es ≤ journal_entries = subst (λ (m : Standing). length es ≤ m.params.journal) machine ran.within in
-    opened_runs (IsOfOpening c.args.numbers c.args.opening.now (g.F.Files.holds files)) c.args.traced seen es r c.write_run-status.result written
+    opened_runs (IsOfOpening c.args.numbers c.args.opening.now (g.F.Files.holds files)) (g.F.Files.notes files) c.args.traced seen es r c.write_run-status.result written
     (subst HaveNumbers c.journal.ensures c.write_run-status.ensures.numbers) within caused ran.kind
     (λ A image is told.
-    run_ended seen A es image r ran.kind caused
+    run_ended seen A es image (with_files seen.notes_after seen.swap_after) r ran.kind caused
     (ran.ends A image
     (subst (λ (lines : List Event). IsAskedOf A c.in-Ok.core.machine c.as_slice-2.result.now lines (g.F.Files.holds files) image) (sym c.as_slice-3.ensures.value)
     (subst (λ (first : List ℕ). IsAskedOf A c.in-Ok.core.machine first c.args.opening.now.lines.items (g.F.Files.holds files) image) (sym c.as_slice-2.ensures.value)

@@ -52,6 +52,8 @@ returns-in-Ok-clause-runs g c =
     let seen_by : Option (List NamedFile) → ℕ → ℕ → Seen = λ holds opens pages. record {
       files = holds;
       faults = record { open_before = opens; open_after = g.F.Files.open_faults after; page_before = pages; page_after = g.F.Files.page_faults after };
+      notes_before = g.F.Files.notes files;
+      notes_after = g.F.Files.notes after;
       zero_blocks = g.D.SwapDev.blocks zero;
       one_blocks = g.E.SwapDev.blocks one;
       swap_before = image_together (g.D.SwapDev.blocks zero) (g.E.SwapDev.blocks one) (g.D.SwapDev.image zero) (g.E.SwapDev.image one);
@@ -77,12 +79,13 @@ returns-in-Ok-clause-runs g c =
     let opens = g.F.Files.open_faults files in
     let pages = g.F.Files.page_faults files in
     let seen = seen_by holds opens pages in
-    let runs : RunsOpened (IsOfOpening c.args.numbers opening holds) c.args.traced seen status
-    = subst (λ (p : ℕ). RunsOpened (IsOfOpening c.args.numbers opening holds) c.args.traced (seen_by holds opens p) status) c.open_run-opened.ensures.page_faults
-    (subst (λ (o : ℕ). RunsOpened (IsOfOpening c.args.numbers opening holds) c.args.traced (seen_by holds o (g.F.Files.page_faults opened)) status) said.open_faults
-    (subst (λ (h : Option (List NamedFile)). RunsOpened (IsOfOpening c.args.numbers opening h) c.args.traced (seen_by h (g.F.Files.open_faults opened) (g.F.Files.page_faults opened)) status)
+    let runs : RunsOpened (IsOfOpening c.args.numbers opening holds) (g.F.Files.notes opened) c.args.traced seen status
+    = subst (λ (p : ℕ). RunsOpened (IsOfOpening c.args.numbers opening holds) (g.F.Files.notes opened) c.args.traced (seen_by holds opens p) status) c.open_run-opened.ensures.page_faults
+    (subst (λ (o : ℕ). RunsOpened (IsOfOpening c.args.numbers opening holds) (g.F.Files.notes opened) c.args.traced (seen_by holds o (g.F.Files.page_faults opened)) status) said.open_faults
+    (subst (λ (h : Option (List NamedFile)). RunsOpened (IsOfOpening c.args.numbers opening h) (g.F.Files.notes opened) c.args.traced
+    (seen_by h (g.F.Files.open_faults opened) (g.F.Files.page_faults opened)) status)
     c.open_run-opened.ensures.kept.holds
-    c.run_opened.ensures.runs)) in
+    (c.run_opened.ensures.runs (g.F.Files.notes files)))) in
     let opening_of : ℕ → ℕ → Type 0
     = λ z o.
     Made (EndsOpening request.schedule request.words request.numbers.swap z o) (found_told request.schedule request.words) holds
@@ -102,7 +105,7 @@ returns-in-Ok-clause-runs g c =
       few = (let few = said.few_first in let most = c.requires.words.few in omega arith);
       lines = subst (λ (found : FoundFiles). HasEvents found.schedule opening.lines.items) (made.is_told list told) with.lines;
     } in
-    opened_words request seen opening status runs c.requires.allowed with.devices good known
+    opened_words request seen opening (g.F.Files.notes opened) status runs c.requires.allowed with.devices good known said.asked
     (λ image told.
     room_told (g.D.SwapDev.blocks zero) (g.E.SwapDev.blocks one) c.args.numbers.swap (g.D.SwapDev.image zero) (g.E.SwapDev.image one) image (g.met.D.SwapDev.whole zero) (g.met.E.SwapDev.whole one)
     (needs_met c.args.numbers.swap (g.D.SwapDev.blocks zero) (g.E.SwapDev.blocks one) with.devices) c.requires.allowed.most_swap told)
@@ -118,6 +121,8 @@ returns-in-Err-clause-runs g c =
     let seen : Seen = record {
       files = g.F.Files.holds files;
       faults = record { open_before = g.F.Files.open_faults files; open_after = g.F.Files.open_faults opened; page_before = g.F.Files.page_faults files; page_after = g.F.Files.page_faults opened };
+      notes_before = g.F.Files.notes files;
+      notes_after = g.F.Files.notes opened;
       zero_blocks = g.D.SwapDev.blocks zero;
       one_blocks = g.E.SwapDev.blocks one;
       swap_before = image;
@@ -136,7 +141,8 @@ returns-in-Err-clause-runs g c =
     (let r : Result Opening Fault = Err c.in-Err.fault in r) in
     let made : opening_of (g.D.SwapDev.blocks zero) (g.E.SwapDev.blocks one)
     = subst (opening_of (g.D.SwapDev.blocks zero)) c.blocks-3.ensures (subst (λ (z : ℕ). opening_of z c.blocks-3.result) c.blocks-2.ensures c.in-Err.ensures.ends) in
-    unopened_runs request seen refl reads writes c.open_run-opened.ensures.page_faults c.in-Err.fault c.write_run.result c.write_run.ensures.writes made c.in-Err.ensures.open_faults
+    unopened_runs request seen refl reads writes c.open_run-opened.ensures.page_faults c.in-Err.fault c.write_run.result c.write_run.ensures.writes made
+    c.in-Err.ensures.open_faults c.in-Err.ensures.asked
 
 -- the headline is a part of what a run is
 pub returns-in-Ok-clause-headline : goal.returns-in-Ok-clause-headline

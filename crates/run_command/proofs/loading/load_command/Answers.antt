@@ -1,6 +1,8 @@
 use Rattle.std.proofs.Common.{rules, ◌≡◌, List, [], map, Some, None, Err, Vec, Global, refl, sym, ap, ◌∙◌, subst}
 use Rattle.std.specs.Prelude.{All}
 use Rattle.io_edge.specs.FileHolding.{NamedFile}
+use Rattle.io_edge.specs.FileRequests.{no_notes}
+use Rattle.io_edge.specs.WithFiles.{image_with_files}
 use Rattle.machine_state.specs.New.{AreSound}
 use Rattle.machine_state.specs.Applying.{facts_named}
 use Rattle.machine_state.specs.Sourced.{AreNames}
@@ -20,19 +22,19 @@ use Rattle.run_command.proofs.Workloads.{found_in, same_images, files_opened, sh
 use Rattle.run_command.proofs.loading.load_command.Goals as goal
 
 pub returns-in_default-clause-loads : goal.returns-in_default-clause-loads
-returns-in_default-clause-loads g c = λ told opens pages.
-    loads_unmade c.args.number _ c.write_counts.result refl
+returns-in_default-clause-loads g c = λ told opens pages notes.
+    loads_unmade c.args.number _ c.write_counts.result refl refl
     (record { files = record { open_same = refl; page_same = refl }; reads = record { zero = refl; one = refl }; writes = record { zero = refl; one = refl } }) c.write_counts.ensures.writes
 
 pub returns-in-Some-clause-loads : goal.returns-in-Some-clause-loads
 returns-in-Some-clause-loads g c =
     let short : device_fault load_numbers.swap (g.D.SwapDev.blocks c.args.zero.now) (g.E.SwapDev.blocks c.args.one.now) ≡ Some c.in-Some.fault = search rules in
-    λ told opens pages.
+    λ told opens pages notes.
     loads_judged c.args.number _ c.write_counts-in-Some.result c.in-Some.fault short
     (record {
       nothing = record { journal_is = refl; swap = refl; reads = record { zero = refl; one = refl }; writes = record { zero = refl; one = refl } };
       files = record { open_same = refl; page_same = refl };
-    })
+    }) refl
     c.write_counts-in-Some.ensures.writes
 
 pub run_load-requires-clause-sound : goal.run_load-requires-clause-sound
@@ -64,15 +66,15 @@ returns-in-Ok-open_images-clause-loads g c =
     let holds = c.new-files.ensures ∙ ap (λ (fs : List NamedFile). Some fs) c.in-Ok.ensures.files in
     let are_in = c.in-Ok-open_images.ensures.are_in (load_files number) holds in
     let long : device_fault load_numbers.swap (g.D.SwapDev.blocks c.args.zero.now) (g.E.SwapDev.blocks c.args.one.now) ≡ None = search rules in
-    λ told opens pages.
-    loads_run _ _ number _ c.run_load.result long (record { open_same = refl; page_same = refl }) (starts_from number xs is_opened)
+    λ told opens pages notes.
+    loads_run _ _ number _ c.run_load.result long (record { open_same = refl; page_same = refl }) (starts_from number xs is_opened) refl
     (λ image before.
-    is_asked_of number xs is_opened _ c.as_slice-in-Ok-open_images.result.now image
+    is_asked_of number xs is_opened _ c.as_slice-in-Ok-open_images.result.now (image_with_files no_notes image)
     (c.open_images.ensures.kept.holds ∙ holds) (c.as_slice-in-Ok-open_images.ensures.value ∙ c.in-Ok.ensures.lines)
     (subst (All (IsIn (load_files number))) (sym c.as_slice.ensures.value) are_in)
     (has_room (g.D.SwapDev.blocks c.args.zero.now) (g.E.SwapDev.blocks c.args.one.now) (g.D.SwapDev.image c.args.zero.now) (g.E.SwapDev.image c.args.one.now) image
     (g.met.D.SwapDev.whole c.args.zero.now) (g.met.E.SwapDev.whole c.args.one.now) (meets_needs _ _ long) before))
-    (c.run_load.ensures.runs told opens pages)
+    (c.run_load.ensures.runs told opens pages notes)
 
 pub returns-clause-loads : goal.returns-clause-loads
 returns-clause-loads g c =
@@ -82,8 +84,8 @@ returns-clause-loads g c =
     let lacks : fault ≡ faults.NoMemory
     = only_memory (λ (images : Vec OpenedImage Global). images_in (load_files number) images.items) (images_found (load_files number) load_names) (load_inputs number).images fault
     (found_in number _ c.in-Ok.ensures.files c.in-Ok.ensures.images) (c.in-Err.ensures.answers (load_files number) holds) c.in-Err.ensures.open_faults c.in-Err.ensures.error in
-    λ told opens pages.
-    loads_unmade number _ c.write_counts-in-Err.result refl
+    λ told opens pages notes.
+    loads_unmade number _ c.write_counts-in-Err.result refl refl
     (record { files = record { open_same = refl; page_same = refl }; reads = record { zero = refl; one = refl }; writes = record { zero = refl; one = refl } })
     (subst
     (λ (f : Fault). WritesCounts number [] (Err f) (g.S.Sink.written c.args.sink.now) (g.S.Sink.written c.write_counts-in-Err.new.sink) (g.S.Sink.faults c.args.sink.now)

@@ -11,12 +11,12 @@ use Rattle.run_command.proofs.Loadings.{load_ran, load_unmade}
 use Rattle.run_command.proofs.loading.run_load.Goals as goal
 
 pub returns-in_default-clause-runs : goal.returns-in_default-clause-runs
-returns-in_default-clause-runs g c = λ told opens pages.
+returns-in_default-clause-runs g c = λ told opens pages notes.
     load_unmade _ _ c.args.number _ c.write_counts.result refl
     (record { files = record { open_same = refl; page_same = refl }; reads = record { zero = refl; one = refl }; writes = record { zero = refl; one = refl } }) c.write_counts.ensures.writes
 
 pub returns-clause-runs : goal.returns-clause-runs
-returns-clause-runs g c = λ told opens pages.
+returns-clause-runs g c = λ told opens pages notes.
     let ran = c.run_paired-ending in
     let journal = ran.new.core.machine.kernel.journal in
     load_ran _ _ c.args.number _ c.write_counts-status.result journal ran.result ran.ensures.kind ran.ensures.files_read.page_faults

@@ -1,5 +1,6 @@
 use Rattle.std.proofs.Common.{Result, Err, length, sym, ap, ◌∙◌, subst}
 use Rattle.vm_facts.specs.declared.stop.Stop.{Stop}
+use Rattle.io_edge.specs.WithFiles.{with_files}
 use Rattle.machine_state.specs.Outside.{stop_of, CountsReadFaults, CountsWriteFaults}
 use Rattle.vm_core.specs.declared.schedule.Unfinished.{Unfinished}
 use Rattle.vm_core.specs.declared.schedule.Unfinished.TheVariants as ends
@@ -36,13 +37,15 @@ returns-in-Ok-clause-writes g c =
 pub returns-in-Err-NoSpace-clause-ends : goal.returns-in-Err-NoSpace-clause-ends
 returns-in-Err-NoSpace-clause-ends g c A image is told =
     let new = c.run_schedule.new.swap in
-    let after = image_together (g.D.SwapDev.blocks new.zero.now) (g.E.SwapDev.blocks new.one.now) (g.D.SwapDev.image new.zero.now) (g.E.SwapDev.image new.one.now) in
+    let after = with_files (g.F.Files.notes c.run_schedule.new.files)
+    (image_together (g.D.SwapDev.blocks new.zero.now) (g.E.SwapDev.blocks new.one.now) (g.D.SwapDev.image new.zero.now) (g.E.SwapDev.image new.one.now)) in
     subst (λ (u : Unfinished). RunEnds A c.run_schedule.new.core.machine.kernel.journal image (Err u) after) c.in-Err-NoSpace.field-0-is (c.in-Err-NoSpace.ensures.ends A image is told)
 
 pub returns-in-Err-Stopped-clause-ends : goal.returns-in-Err-Stopped-clause-ends
 returns-in-Err-Stopped-clause-ends g c A image is told =
     let new = c.run_schedule.new.swap in
-    let after = image_together (g.D.SwapDev.blocks new.zero.now) (g.E.SwapDev.blocks new.one.now) (g.D.SwapDev.image new.zero.now) (g.E.SwapDev.image new.one.now) in
+    let after = with_files (g.F.Files.notes c.run_schedule.new.files)
+    (image_together (g.D.SwapDev.blocks new.zero.now) (g.E.SwapDev.blocks new.one.now) (g.D.SwapDev.image new.zero.now) (g.E.SwapDev.image new.one.now)) in
     stopped_ends A c.run_schedule.new.core.machine.kernel.journal image after c.in-Err-Stopped.stop c.fault_of.result c.fault_of.ensures.unfinished
     (subst (λ (u : Unfinished). RunEnds A c.run_schedule.new.core.machine.kernel.journal image (Err u) after) c.in-Err-Stopped.field-0-is (c.in-Err-Stopped.ensures.ends A image is told))
 

@@ -11,6 +11,8 @@ use Rattle.run_opening.specs.Images.{images_found, images_in}
 use Rattle.run_opening.specs.Devices.{device_fault}
 use Rattle.run_opening.proofs.Lists.{now_of, opened_names, short_names, some_opened, few_started}
 use Rattle.run_opening.proofs.Openings.{Asked, Opens, schedule_ends, refused, images_end, device_ends, opening_begins}
+use Rattle.run_opening.specs.Asked.{AsksHeaders, AsksSomeHeaders, AsksOpening}
+use Rattle.run_opening.proofs.Asking.{none_starved, some_images, all_headers, opening_ends, opening_goes_on}
 use Rattle.run_opening.proofs.opening.open_run.Goals as goal
 
 abbrev asked : Bor (List ℕ) → List (Bor (List ℕ)) → ℕ → ℕ → ℕ → Asked
@@ -119,3 +121,65 @@ returns-clause-some_image g c = λ some.
 
 pub returns-clause-few_first : goal.returns-clause-few_first
 returns-clause-few_first g c = few_started c.in_ok-first.first.items (now_of c.as_slice.result.now) c.args.words.now c.in_ok-first.ensures.exact
+
+-- What was asked.
+
+pub returns-in_err-lines-clause-asked : goal.returns-in_err-lines-clause-asked
+returns-in_err-lines-clause-asked g c =
+    let is : c.from_residual.result ≡ Err c.in_err-lines.field-0.0 = search rules in
+    subst (λ (r : Result Opening Fault). AsksOpening c.args.schedule.now (image_names (now_of c.args.words.now)) (g.F.Files.holds c.args.files.now) r
+    (g.F.Files.notes c.args.files.now) (g.F.Files.notes c.open_schedule.new.files)) (sym is)
+    (opening_ends c.args.schedule.now (image_names (now_of c.args.words.now)) (g.F.Files.holds c.args.files.now) c.in_err-lines.ensures.ends.read _
+    c.in_err-lines.field-0.0 (g.F.Files.notes c.args.files.now) (g.F.Files.notes c.open_schedule.new.files)
+    c.in_err-lines.ensures.ends.ends c.in_err-lines.ensures.asked)
+
+pub returns-in_err-names-clause-asked : goal.returns-in_err-names-clause-asked
+returns-in_err-names-clause-asked g c =
+    let is : c.from_residual-in_err-names.result ≡ Err faults.NoMemory = search rules in
+    subst (λ (r : Result Opening Fault). AsksOpening c.args.schedule.now (image_names (now_of c.args.words.now)) (g.F.Files.holds c.args.files.now) r
+    (g.F.Files.notes c.args.files.now) (g.F.Files.notes c.open_schedule.new.files)) (sym is)
+    (opening_goes_on c.args.schedule.now (image_names (now_of c.args.words.now)) (g.F.Files.holds c.args.files.now) (g.F.Files.holds c.args.files.now) c.in_ok-lines.lines
+    (Err faults.NoMemory) (g.F.Files.notes c.args.files.now) (g.F.Files.notes c.open_schedule.new.files) (g.F.Files.notes c.open_schedule.new.files) refl c.in_ok-lines.ensures.asked
+    (none_starved c.args.schedule.now (image_names (now_of c.args.words.now)) (g.F.Files.holds c.args.files.now) (g.F.Files.notes c.open_schedule.new.files)))
+
+pub returns-in_err-first-clause-asked : goal.returns-in_err-first-clause-asked
+returns-in_err-first-clause-asked g c =
+    let is : c.from_residual-in_err-first.result ≡ Err faults.NoMemory = search rules in
+    subst (λ (r : Result Opening Fault). AsksOpening c.args.schedule.now (image_names (now_of c.args.words.now)) (g.F.Files.holds c.args.files.now) r
+    (g.F.Files.notes c.args.files.now) (g.F.Files.notes c.open_schedule.new.files)) (sym is)
+    (opening_goes_on c.args.schedule.now (image_names (now_of c.args.words.now)) (g.F.Files.holds c.args.files.now) (g.F.Files.holds c.args.files.now) c.in_ok-lines.lines
+    (Err faults.NoMemory) (g.F.Files.notes c.args.files.now) (g.F.Files.notes c.open_schedule.new.files) (g.F.Files.notes c.open_schedule.new.files) refl c.in_ok-lines.ensures.asked
+    (none_starved c.args.schedule.now (image_names (now_of c.args.words.now)) (g.F.Files.holds c.args.files.now) (g.F.Files.notes c.open_schedule.new.files)))
+
+pub returns-in_err-images-clause-asked : goal.returns-in_err-images-clause-asked
+returns-in_err-images-clause-asked g c =
+    let names : now_of c.as_slice-2.result.now ≡ image_names (now_of c.args.words.now) = ap now_of c.as_slice-2.ensures.value ∙ c.in_ok-names.ensures.exact in
+    let held = g.F.Files.holds c.open_schedule.new.files in
+    let fault = c.in_err-images.field-0.0 in
+    let is : c.from_residual-in_err-images.result ≡ Err fault = search rules in
+    subst (λ (r : Result Opening Fault). AsksOpening c.args.schedule.now (image_names (now_of c.args.words.now)) (g.F.Files.holds c.args.files.now) r
+    (g.F.Files.notes c.args.files.now) (g.F.Files.notes c.open_images.new.files)) (sym is)
+    (opening_goes_on c.args.schedule.now (image_names (now_of c.args.words.now)) held (g.F.Files.holds c.args.files.now) c.in_ok-lines.lines (Err fault)
+    (g.F.Files.notes c.args.files.now) (g.F.Files.notes c.open_schedule.new.files) (g.F.Files.notes c.open_images.new.files) c.open_schedule.ensures.kept.holds c.in_ok-lines.ensures.asked
+    (some_images c.args.schedule.now fault (image_names (now_of c.args.words.now)) held (g.F.Files.notes c.open_schedule.new.files)
+    (g.F.Files.notes c.open_images.new.files) c.in_err-images.ensures.error
+    (subst (λ (xs : List (List ℕ)). AsksSomeHeaders fault xs held (g.F.Files.notes c.open_schedule.new.files) (g.F.Files.notes c.open_images.new.files)) names c.in_err-images.ensures.asked)))
+
+pub returns-in-Some-clause-asked : goal.returns-in-Some-clause-asked
+returns-in-Some-clause-asked g c =
+    let names : now_of c.as_slice-2.result.now ≡ image_names (now_of c.args.words.now) = ap now_of c.as_slice-2.ensures.value ∙ c.in_ok-names.ensures.exact in
+    let held = g.F.Files.holds c.open_schedule.new.files in
+    opening_goes_on c.args.schedule.now (image_names (now_of c.args.words.now)) held (g.F.Files.holds c.args.files.now) c.in_ok-lines.lines (Err c.in-Some.fault)
+    (g.F.Files.notes c.args.files.now) (g.F.Files.notes c.open_schedule.new.files) (g.F.Files.notes c.open_images.new.files) c.open_schedule.ensures.kept.holds c.in_ok-lines.ensures.asked
+    (all_headers c.args.schedule.now c.args.swap c.args.zero_blocks c.args.one_blocks c.in-Some.fault (image_names (now_of c.args.words.now)) held
+    (g.F.Files.notes c.open_schedule.new.files) (g.F.Files.notes c.open_images.new.files) (sym c.device_fault.ensures ∙ c.in-Some.is)
+    (subst (λ (xs : List (List ℕ)). AsksHeaders xs held (g.F.Files.notes c.open_schedule.new.files) (g.F.Files.notes c.open_images.new.files)) names c.in_ok-images.ensures.asked))
+
+pub returns-clause-asked : goal.returns-clause-asked
+returns-clause-asked g c =
+    let names : now_of c.as_slice-2.result.now ≡ image_names (now_of c.args.words.now) = ap now_of c.as_slice-2.ensures.value ∙ c.in_ok-names.ensures.exact in
+    let held = g.F.Files.holds c.open_schedule.new.files in
+    let opening : Opening = record { images = c.in_ok-images.images; first = c.in_ok-first.first; lines = c.in_ok-lines.lines } in
+    opening_goes_on c.args.schedule.now (image_names (now_of c.args.words.now)) held (g.F.Files.holds c.args.files.now) c.in_ok-lines.lines (Ok opening)
+    (g.F.Files.notes c.args.files.now) (g.F.Files.notes c.open_schedule.new.files) (g.F.Files.notes c.open_images.new.files) c.open_schedule.ensures.kept.holds c.in_ok-lines.ensures.asked
+    (subst (λ (xs : List (List ℕ)). AsksHeaders xs held (g.F.Files.notes c.open_schedule.new.files) (g.F.Files.notes c.open_images.new.files)) names c.in_ok-images.ensures.asked)

@@ -1,11 +1,14 @@
 -- The bytes that were read decide, or why there are none.
-use Rattle.std.proofs.Common.{List, ℕ, Result, Err, Vec, Global, sym, subst}
+use Rattle.std.proofs.Common.{List, ℕ, Result, Err, Vec, Global, refl, sym, ap, ◌∙◌, ◌≡◌, subst}
 use Rattle.io_edge.specs.FileHolding.{NamedFile}
 use Rattle.vm_facts.specs.declared.event.Event.{Event}
 use Rattle.command_ending.specs.declared.fault.Fault.{Fault}
 use Rattle.command_ending.specs.Command.{Faults, Made}
-use Rattle.run_opening.specs.Schedules.{schedule_found, EndsEvents, EndsSchedule}
+use Rattle.run_opening.specs.Schedules.{schedule_bytes, schedule_found, EndsEvents, EndsSchedule}
 use Rattle.run_opening.proofs.Schedules.{schedule_read, schedule_unread}
+use Rattle.run_files.specs.declared.answers.Unread.TheVariants as unreads
+use Rattle.command_ending.specs.Ending.{fault_of}
+use Rattle.run_opening.proofs.Asking.{front_for}
 use Rattle.run_opening.proofs.schedule.open_schedule.Goals as goal
 
 pub returns-in-Ok-clause-ends : goal.returns-in-Ok-clause-ends
@@ -27,3 +30,13 @@ returns-in-Err-clause-ends g c =
     (sym c.of_unread.ensures)
     (schedule_unread {A = Vec ℕ Global} (λ (bytes : Vec ℕ Global). bytes.items) c.args.name (g.F.Files.holds c.args.files.now) f c.in-Err.unread
     c.in-Err.ensures.answers c.in-Err.ensures.error c.in-Err.ensures.open_faults c.in-Err.ensures.page_faults)
+
+pub returns-in-Ok-clause-asked : goal.returns-in-Ok-clause-asked
+returns-in-Ok-clause-asked g c =
+    front_for c.args.name.now (g.F.Files.holds c.args.files.now) schedule_bytes _ _ _ _ _ _ (λ e. absurd cc) (λ e. absurd cc) c.in-Ok.ensures.asked
+
+pub returns-in-Err-clause-asked : goal.returns-in-Err-clause-asked
+returns-in-Err-clause-asked g c =
+    front_for c.args.name.now (g.F.Files.holds c.args.files.now) schedule_bytes _ _ _ _ _ _ (λ e. refl)
+    (λ e. let same : c.in-Err.unread ≡ unreads.NoMemory = cc in
+    ap (λ (x : Fault). let r : Result (Vec Event Global) Fault = Err x in r) (c.of_unread.ensures ∙ ap (fault_of c.args.name) same)) c.in-Err.ensures.asked

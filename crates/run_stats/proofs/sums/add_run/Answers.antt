@@ -1,6 +1,6 @@
 -- Field by field.
 use Rattle.std.proofs.Common.{ap, ◌∙◌, ◌+◌, ℕ, arith}
-use Rattle.run_stats.specs.declared.heads.RunHead.TheVariants.{HandMoves, MadeInvalid, FreedClean, HandWrites, ReclaimedBetween, FileTransfers, SwapTransfersIn, SwapTransfersOut}
+use Rattle.run_stats.specs.declared.heads.RunHead.TheVariants.{HandMoves, MadeInvalid, FreedClean, HandWrites, ReclaimedBetween, FileTransfers, SwapTransfersIn, SwapTransfersOut, SwapRequests}
 use Rattle.run_stats.specs.Sums.{run_sum}
 use Rattle.run_stats.proofs.sums.add_run.Goals as goal
 
@@ -28,6 +28,9 @@ overflow_add-result-7 c = omega (arith, c.requires SwapTransfersIn, c.from-7.ens
 pub overflow_add-result-8 : goal.overflow_add-result-8
 overflow_add-result-8 c = omega (arith, c.requires SwapTransfersOut, c.from-8.ensures, c.run_amount-8.type_inv)
 
+pub overflow_add-result-9 : goal.overflow_add-result-9
+overflow_add-result-9 c = omega (arith, c.requires SwapRequests, c.from-9.ensures, c.run_amount-9.type_inv)
+
 pub returns-clause-value : goal.returns-clause-value
 returns-clause-value c HandMoves = ap (λ (n : ℕ). run_sum c.args.sums HandMoves + n) (c.from.ensures ∙ c.run_amount.ensures)
 returns-clause-value c MadeInvalid = ap (λ (n : ℕ). run_sum c.args.sums MadeInvalid + n) (c.from-2.ensures ∙ c.run_amount-2.ensures)
@@ -37,6 +40,7 @@ returns-clause-value c ReclaimedBetween = ap (λ (n : ℕ). run_sum c.args.sums 
 returns-clause-value c FileTransfers = ap (λ (n : ℕ). run_sum c.args.sums FileTransfers + n) (c.from-6.ensures ∙ c.run_amount-6.ensures)
 returns-clause-value c SwapTransfersIn = ap (λ (n : ℕ). run_sum c.args.sums SwapTransfersIn + n) (c.from-7.ensures ∙ c.run_amount-7.ensures)
 returns-clause-value c SwapTransfersOut = ap (λ (n : ℕ). run_sum c.args.sums SwapTransfersOut + n) (c.from-8.ensures ∙ c.run_amount-8.ensures)
+returns-clause-value c SwapRequests = ap (λ (n : ℕ). run_sum c.args.sums SwapRequests + n) (c.from-9.ensures ∙ c.run_amount-9.ensures)
 
 pub returns-clause-grows : goal.returns-clause-grows
 returns-clause-grows c HandMoves = omega (arith, c.from.ensures, c.run_amount.type_inv)
@@ -47,3 +51,4 @@ returns-clause-grows c ReclaimedBetween = omega (arith, c.from-5.ensures, c.run_
 returns-clause-grows c FileTransfers = omega (arith, c.from-6.ensures, c.run_amount-6.type_inv)
 returns-clause-grows c SwapTransfersIn = omega (arith, c.from-7.ensures, c.run_amount-7.type_inv)
 returns-clause-grows c SwapTransfersOut = omega (arith, c.from-8.ensures, c.run_amount-8.type_inv)
+returns-clause-grows c SwapRequests = omega (arith, c.from-9.ensures, c.run_amount-9.type_inv)

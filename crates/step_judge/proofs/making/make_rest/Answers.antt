@@ -1,3 +1,4 @@
+use Rattle.io_edge.specs.WithFiles.{stores}
 use Rattle.std.proofs.Common.{subst}
 use Rattle.vm_facts.specs.declared.stop.Stop.{Stop}
 use Rattle.flat_state.specs.Journal.{instructions_of}
@@ -9,12 +10,13 @@ use Rattle.step_judge.proofs.making.make_rest.Goals as goal
 
 pub finish_step-went-requires-clause-begun : goal.finish_step-went-requires-clause-begun
 finish_step-went-requires-clause-begun g c =
-    some_begun_there c.args.m.now c.args._counted c.args.begun (g.F.Files.holds c.args.files.now) (g.D.SwapDev.image c.args.swap.now) c.args._pid c.requires.acts
+    some_begun_there c.args.m.now c.args._counted c.args.begun (g.F.Files.holds c.args.files.now) (stores g.F.Files g.D.SwapDev c.args.files.now c.args.swap.now) c.args._pid c.requires.acts
 
 pub returns-in-Ok-clause-made : goal.returns-in-Ok-clause-made
 returns-in-Ok-clause-made g c =
-    rest_made c.args.m.now c.finish_step-went.new.m c.args._counted (g.F.Files.holds c.args.files.now) (g.D.SwapDev.image c.args.swap.now)
-    (g.D.SwapDev.image c.finish_step-went.new.swap) c.args._pid c.requires.bound c.always.ensures.within c.args.begun (instructions_of c.args.m.now.kernel.journal)
+    rest_made c.args.m.now c.finish_step-went.new.m c.args._counted (g.F.Files.holds c.args.files.now) (stores g.F.Files g.D.SwapDev c.args.files.now c.args.swap.now)
+    (stores g.F.Files g.D.SwapDev c.finish_step-went.new.files c.finish_step-went.new.swap) c.args._pid c.requires.bound c.always.ensures.within c.args.begun
+    (instructions_of c.args.m.now.kernel.journal)
     c.in-Ok.ensures.finishes c.in-Ok.ensures.counts
 
 pub returns-in-Ok-clause-on : goal.returns-in-Ok-clause-on
@@ -25,8 +27,8 @@ returns-in-JournalFull-clause-made g c =
     let old = c.args.m.now in
     let new = c.finish_step-went.new.m in
     let holds = g.F.Files.holds c.args.files.now in
-    let i = g.D.SwapDev.image c.args.swap.now in
-    let j = g.D.SwapDev.image c.finish_step-went.new.swap in
+    let i = stores g.F.Files g.D.SwapDev c.args.files.now c.args.swap.now in
+    let j = stores g.F.Files g.D.SwapDev c.finish_step-went.new.files c.finish_step-went.new.swap in
     full_rest_made old new c.args._counted holds i j c.args._pid c.requires.bound c.always.ensures.within
     (subst (λ (x : Stop). KeptAtStop old new x) c.in-JournalFull.is c.in-Err.ensures.kept) c.args.begun
     (subst (λ (x : Stop). StopsFrom (BegunAt old c.args.begun holds i) old new j x) c.in-JournalFull.is c.in-Err.ensures.stops)
@@ -36,8 +38,8 @@ returns-in-JournalFull-clause-on g c =
     let old = c.args.m.now in
     let new = c.finish_step-went.new.m in
     let holds = g.F.Files.holds c.args.files.now in
-    let i = g.D.SwapDev.image c.args.swap.now in
-    let j = g.D.SwapDev.image c.finish_step-went.new.swap in
+    let i = stores g.F.Files g.D.SwapDev c.args.files.now c.args.swap.now in
+    let j = stores g.F.Files g.D.SwapDev c.finish_step-went.new.files c.finish_step-went.new.swap in
     full_rest_on old new c.args._counted holds i j c.args._pid c.requires.bound c.always.ensures.within
     (subst (λ (x : Stop). KeptAtStop old new x) c.in-JournalFull.is c.in-Err.ensures.kept) c.args.begun c.requires.steady.ready c.requires.acts
     (subst (λ (x : Stop). StopsFrom (BegunAt old c.args.begun holds i) old new j x) c.in-JournalFull.is c.in-Err.ensures.stops)

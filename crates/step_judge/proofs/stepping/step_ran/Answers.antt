@@ -1,3 +1,4 @@
+use Rattle.io_edge.specs.WithFiles.{stores}
 use Rattle.std.proofs.Common.{◌≡◌, ◌+◌, ◌<◌, ◌≤◌, false, true, length, None, Some, sym, ◌∙◌, arith}
 use Rattle.flat_state.specs.Journal.{instructions_of}
 use Rattle.machine_state.specs.Files.{AreFiles}
@@ -16,7 +17,7 @@ pub attempt_cached-stepped-requires-clause-lends : goal.attempt_cached-stepped-r
 attempt_cached-stepped-requires-clause-lends g c =
     let m = c.args.m.now in
     let holds = g.F.Files.holds c.args.files.now in
-    let i = g.D.SwapDev.image c.args.swap.now in
+    let i = stores g.F.Files g.D.SwapDev c.args.files.now c.args.swap.now in
     let o : RoomOnly m c.ask_room.new.m = record { made = Some c.args.pid; only = c.in_ok-ask_room.ensures.only } in
     room_lends m c.ask_room.new.m c.args.pid o (lends_of m c.args.counted None holds i c.args.pid c.requires.may c.requires.ready c.requires.low)
 
@@ -26,7 +27,7 @@ pub ran-requires-clause-can : goal.ran-requires-clause-can
 ran-requires-clause-can g c =
     let m = c.args.m.now in
     let holds = g.F.Files.holds c.args.files.now in
-    let i = g.D.SwapDev.image c.args.swap.now in
+    let i = stores g.F.Files g.D.SwapDev c.args.files.now c.args.swap.now in
     let o : RoomOnly m c.ask_room.new.m = record { made = Some c.args.pid; only = c.in_ok-ask_room.ensures.only } in
     lends_still m c.ask_room.new.m c.attempt_cached-stepped.new.m c.args.pid c.args.regs.now o c.attempt_cached-stepped.ensures.wrote
     c.attempt_cached-stepped.ensures.goes_on
@@ -36,7 +37,7 @@ pub ran-requires-clause-fits : goal.ran-requires-clause-fits
 ran-requires-clause-fits g c = λ count before h.
     let m = c.args.m.now in
     let holds = g.F.Files.holds c.args.files.now in
-    let i = g.D.SwapDev.image c.args.swap.now in
+    let i = stores g.F.Files g.D.SwapDev c.args.files.now c.args.swap.now in
     let o : RoomOnly m c.ask_room.new.m = record { made = Some c.args.pid; only = c.in_ok-ask_room.ensures.only } in
     let same = journal_same m c.ask_room.new.m c.attempt_cached-stepped.new.m c.args.pid c.args.regs.now o c.attempt_cached-stepped.ensures.wrote in
     let few = last_counts_few m.kernel.journal before c.args.pid count (sym same ∙ h) in
@@ -48,7 +49,7 @@ pub returns-then-is_done-clause-told : goal.returns-then-is_done-clause-told
 returns-then-is_done-clause-told g c =
     let m = c.args.m.now in
     let holds = g.F.Files.holds c.args.files.now in
-    let i = g.D.SwapDev.image c.args.swap.now in
+    let i = stores g.F.Files g.D.SwapDev c.args.files.now c.args.swap.now in
     let o : RoomOnly m c.ask_room.new.m = record { made = Some c.args.pid; only = c.in_ok-ask_room.ensures.only } in
     ran_told m c.args.counted holds i c.args.pid c.args.regs.now c.requires.registers c.args.e.now c.ran.new.self.kernel c.requires.ran
     (did_done c.attempt_cached-stepped.result m c.ask_room.new.m c.args.pid c.args.regs.now o c.attempt_cached-stepped.ensures.answer
@@ -60,7 +61,7 @@ pub returns-then-is_done-clause-on : goal.returns-then-is_done-clause-on
 returns-then-is_done-clause-on g c =
     let m = c.args.m.now in
     let holds = g.F.Files.holds c.args.files.now in
-    let i = g.D.SwapDev.image c.args.swap.now in
+    let i = stores g.F.Files g.D.SwapDev c.args.files.now c.args.swap.now in
     let o : RoomOnly m c.ask_room.new.m = record { made = Some c.args.pid; only = c.in_ok-ask_room.ensures.only } in
     let steady : IsSteady m = steady_of m c.args.counted None holds i c.args.pid c.requires.may c.requires.ready c.requires.low in
     let k : Continues m c.ran.new.self 1 =
@@ -100,7 +101,7 @@ pub step_else-requires-clause-may : goal.step_else-requires-clause-may
 step_else-requires-clause-may g c =
     let m = c.args.m.now in
     let holds = g.F.Files.holds c.args.files.now in
-    let i = g.D.SwapDev.image c.args.swap.now in
+    let i = stores g.F.Files g.D.SwapDev c.args.files.now c.args.swap.now in
     let same = left_same c.attempt_cached-stepped.result c.ask_room.new.m c.attempt_cached-stepped.new.m
     (λ d. let z : false ≡ true = sym c.if-is_done.false ∙ c.is_done.ensures.1 d in cc) c.attempt_cached-stepped.ensures.only in
     let o : RoomOnly m c.attempt_cached-stepped.new.m = record { made = Some c.args.pid; only = same ∙ c.in_ok-ask_room.ensures.only } in
@@ -141,18 +142,18 @@ pub returns-else-is_done-clause-told : goal.returns-else-is_done-clause-told
 returns-else-is_done-clause-told g c =
     let m = c.args.m.now in
     let holds = g.F.Files.holds c.args.files.now in
-    let i = g.D.SwapDev.image c.args.swap.now in
+    let i = stores g.F.Files g.D.SwapDev c.args.files.now c.args.swap.now in
     let same = left_same c.attempt_cached-stepped.result c.ask_room.new.m c.attempt_cached-stepped.new.m
     (λ d. let z : false ≡ true = sym c.if-is_done.false ∙ c.is_done.ensures.1 d in cc) c.attempt_cached-stepped.ensures.only in
     let o : RoomOnly m c.attempt_cached-stepped.new.m = record { made = Some c.args.pid; only = same ∙ c.in_ok-ask_room.ensures.only } in
-    told_room m c.attempt_cached-stepped.new.m o c.args.counted None holds i c.args.pid c.args.e.now c.step_else.new.m.kernel (g.D.SwapDev.image c.step_else.new.swap)
+    told_room m c.attempt_cached-stepped.new.m o c.args.counted None holds i c.args.pid c.args.e.now c.step_else.new.m.kernel (stores g.F.Files g.D.SwapDev c.step_else.new.files c.step_else.new.swap)
     c.step_else.result c.step_else.ensures.told
 
 pub returns-else-is_done-clause-on : goal.returns-else-is_done-clause-on
 returns-else-is_done-clause-on g c =
     let m = c.args.m.now in
     let holds = g.F.Files.holds c.args.files.now in
-    let i = g.D.SwapDev.image c.args.swap.now in
+    let i = stores g.F.Files g.D.SwapDev c.args.files.now c.args.swap.now in
     let same = left_same c.attempt_cached-stepped.result c.ask_room.new.m c.attempt_cached-stepped.new.m
     (λ d. let z : false ≡ true = sym c.if-is_done.false ∙ c.is_done.ensures.1 d in cc) c.attempt_cached-stepped.ensures.only in
     let o : RoomOnly m c.attempt_cached-stepped.new.m = record { made = Some c.args.pid; only = same ∙ c.in_ok-ask_room.ensures.only } in

@@ -1,3 +1,4 @@
+use Rattle.io_edge.specs.WithFiles.{stores}
 use Rattle.std.proofs.Common.{IfErr, OnOk, [], sym, subst}
 use Rattle.std.proofs.lemmas.Result.{on_ok_weaker}
 use Rattle.vm_facts.specs.declared.entry.Entry.{Entry}
@@ -24,15 +25,18 @@ pub returns-in-Wait-clause-made : goal.returns-in-Wait-clause-made
 returns-in-Wait-clause-made g c =
     let s : IsStep c.args.m.now.kernel.place c.args.sid steps.Wait = subst (IsStep c.args.m.now.kernel.place c.args.sid) c.in-Wait.is c.requires.step in
     subst (λ (e : Entry). OnOk c.complete.result
-    (MakesUnit (ground c.args.m.now (g.F.Files.holds c.args.files.now) []) e c.args.m.now c.complete.new.m (g.D.SwapDev.image c.args.swap.now) (g.D.SwapDev.image c.complete.new.swap)))
+    (MakesUnit (ground c.args.m.now (g.F.Files.holds c.args.files.now) []) e c.args.m.now c.complete.new.m (stores g.F.Files g.D.SwapDev c.args.files.now c.args.swap.now)
+    (stores g.F.Files g.D.SwapDev c.complete.new.files c.complete.new.swap)))
     (sym (s.1 c.args._pid)) c.complete.ensures.made
 
 pub returns-in-Wait-clause-stopped : goal.returns-in-Wait-clause-stopped
 returns-in-Wait-clause-stopped g c =
     let s : IsStep c.args.m.now.kernel.place c.args.sid steps.Wait = subst (IsStep c.args.m.now.kernel.place c.args.sid) c.in-Wait.is c.requires.step in
-    subst (λ (e : Entry). IfErr c.complete.result (λ (stop : Stop). StopsAt e c.args.m.now.kernel (g.D.SwapDev.image c.args.swap.now) stop c.complete.new.m (g.D.SwapDev.image c.complete.new.swap)))
+    subst (λ (e : Entry). IfErr c.complete.result (λ (stop : Stop). StopsAt e c.args.m.now.kernel (stores g.F.Files g.D.SwapDev c.args.files.now c.args.swap.now) stop
+    c.complete.new.m (stores g.F.Files g.D.SwapDev c.complete.new.files c.complete.new.swap)))
     (sym (s.1 c.args._pid)) c.complete.ensures.stopped
 
 pub returns-in-Put-clause-keeps : goal.returns-in-Put-clause-keeps
 returns-in-Put-clause-keeps g c =
-    on_ok_weaker c.put_page.result (keeps_flat c.args.m.now c.put_page.new.m (g.F.Files.holds c.args.files.now) (g.D.SwapDev.image c.args.swap.now)) c.put_page.ensures.keeps
+    on_ok_weaker c.put_page.result (keeps_flat c.args.m.now c.put_page.new.m (g.F.Files.holds c.args.files.now)
+    (stores g.F.Files g.D.SwapDev c.args.files.now c.args.swap.now)) c.put_page.ensures.keeps

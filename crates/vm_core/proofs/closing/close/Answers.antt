@@ -1,3 +1,4 @@
+use Rattle.io_edge.specs.WithFiles.{stores}
 use Rattle.std.proofs.Common.{◌∙◌, subst, refl, arith, None}
 use Rattle.vm_core.proofs.Noting.{stops_on}
 use Rattle.vm_core.proofs.Closings.{closing_starts, closing_on, closing_stops, closing_ends}
@@ -10,7 +11,7 @@ use Rattle.vm_core.specs.Closing.{DueTurn, TurnHad, LinesAre}
 
 pub loop-pid-init : goal.loop-pid-init
 loop-pid-init g c = record {
-  closes = closing_starts c.args.m.now c.args.counted (g.F.Files.holds c.args.files.now) (g.D.SwapDev.image c.args.swap.now);
+  closes = closing_starts c.args.m.now c.args.counted (g.F.Files.holds c.args.files.now) (stores g.F.Files g.D.SwapDev c.args.files.now c.args.swap.now);
   steady = c.requires.steady;
   params = refl;
   images = refl;
@@ -24,9 +25,9 @@ pub returns-in_err-more-clause-stops : goal.returns-in_err-more-clause-stops
 returns-in_err-more-clause-stops g c =
     let old = c.args.m.now in
     let holds = g.F.Files.holds c.args.files.now in
-    let i = g.D.SwapDev.image c.args.swap.now in
-    let h = g.D.SwapDev.image c.loop-pid.swap in
-    let j = g.D.SwapDev.image c.turn.new.swap in
+    let i = stores g.F.Files g.D.SwapDev c.args.files.now c.args.swap.now in
+    let h = stores g.F.Files g.D.SwapDev c.loop-pid.files c.loop-pid.swap in
+    let j = stores g.F.Files g.D.SwapDev c.turn.new.files c.turn.new.swap in
     let stop = c.in_err-more.field-0.0 in
     stops_on c.from_residual.result stop (StopsFrom (LinesAre old holds i c.args.counted) old c.turn.new.m j) c.from_residual.ensures.1
     (closing_stops old c.loop-pid.m c.turn.new.m holds i h j c.args.counted c.loop-pid.count c.loop-pid.last c.loop-pid.idle c.in-Some.pid stop c.loop-pid.invariant.closes
@@ -37,9 +38,9 @@ pub loop-pid-preserved : goal.loop-pid-preserved
 loop-pid-preserved g c =
     let old = c.args.m.now in
     let holds = g.F.Files.holds c.args.files.now in
-    let i = g.D.SwapDev.image c.args.swap.now in
-    let h = g.D.SwapDev.image c.loop-pid.swap in
-    let j = g.D.SwapDev.image c.turn.new.swap in
+    let i = stores g.F.Files g.D.SwapDev c.args.files.now c.args.swap.now in
+    let h = stores g.F.Files g.D.SwapDev c.loop-pid.files c.loop-pid.swap in
+    let j = stores g.F.Files g.D.SwapDev c.turn.new.files c.turn.new.swap in
     let so = c.loop-pid.invariant in
     record {
       closes = closing_on old c.loop-pid.m c.turn.new.m holds i h j c.args.counted c.loop-pid.count c.loop-pid.last c.loop-pid.idle c.in-Some.pid c.in_ok-more.more c.idle_behind-idle.result
@@ -57,7 +58,8 @@ loop-pid-preserved g c =
 
 pub returns-clause-closes : goal.returns-clause-closes
 returns-clause-closes g c =
-    closing_ends c.args.m.now c.loop-pid.m (g.F.Files.holds c.args.files.now) (g.D.SwapDev.image c.args.swap.now) (g.D.SwapDev.image c.loop-pid.swap) c.args.counted c.loop-pid.count c.loop-pid.last
+    closing_ends c.args.m.now c.loop-pid.m (g.F.Files.holds c.args.files.now) (stores g.F.Files g.D.SwapDev c.args.files.now c.args.swap.now)
+    (stores g.F.Files g.D.SwapDev c.loop-pid.files c.loop-pid.swap) c.args.counted c.loop-pid.count c.loop-pid.last
     c.loop-pid.idle c.loop-pid.invariant.closes (c.next_turn.ensures.none c.in_default.is)
 
 pub returns-in_err-more-clause-kept : goal.returns-in_err-more-clause-kept

@@ -1,3 +1,4 @@
+use Rattle.io_edge.specs.WithFiles.{stores}
 use Rattle.std.proofs.Common.{◌≡◌, ◌≤◌, ◌+◌, ◌-◌, ◌*◌, None}
 use Rattle.flat_state.specs.Journal.{instructions_of}
 use Rattle.proc_run.specs.Runs.{IsSteady}
@@ -8,8 +9,8 @@ use Rattle.vm_core.specs.Closing.{Closing, LinesAre}
 
 abbrev pub invariant-loop-pid : goal.invariant-loop-pid
 invariant-loop-pid g l = record {
-  closes : LeadsFrom (LinesAre l.fn.m (g.F.Files.holds l.fn.files) (g.D.SwapDev.image l.fn.swap) l.fn.counted)
-      (Closing l.fn.m l.m (g.F.Files.holds l.fn.files) (g.D.SwapDev.image l.swap) l.count l.last l.idle);
+  closes : LeadsFrom (LinesAre l.fn.m (g.F.Files.holds l.fn.files) (stores g.F.Files g.D.SwapDev l.fn.files l.fn.swap) l.fn.counted)
+      (Closing l.fn.m l.m (g.F.Files.holds l.fn.files) (stores g.F.Files g.D.SwapDev l.files l.swap) l.count l.last l.idle);
   steady : IsSteady l.m;
   params : l.m.params ≡ l.fn.m.params;
   images : l.m.images ≡ l.fn.m.images;

@@ -1,3 +1,4 @@
+use Rattle.io_edge.specs.WithFiles.{stores}
 use Rattle.std.proofs.Common.{IfOk, IfErr, ◌∙◌, subst, arith}
 use Rattle.proc_run.specs.Running.{CountsTo}
 use Rattle.vm_core.proofs.Noting.{stops_on, stops_weaker, ok_two}
@@ -12,7 +13,7 @@ pub returns-in_err-note-clause-stops : goal.returns-in_err-note-clause-stops
 returns-in_err-note-clause-stops g c =
     let old = c.args.m.now in
     let holds = g.F.Files.holds c.args.files.now in
-    let i = g.D.SwapDev.image c.args.swap.now in
+    let i = stores g.F.Files g.D.SwapDev c.args.files.now c.args.swap.now in
     stops_on c.from_residual.result c.in_err-note.field-0.0 (StopsFrom (DueTurn old holds i c.args.counted c.args.pid) old c.note.new.m i) c.from_residual.ensures.1
     (turn_noting_stops old c.note.new.m c.args.pid c.args.counted holds i c.in_err-note.field-0.0 c.in_err-note.ensures.stops)
 
@@ -20,8 +21,8 @@ pub returns-in_err-come_in-clause-stops : goal.returns-in_err-come_in-clause-sto
 returns-in_err-come_in-clause-stops g c =
     let old = c.args.m.now in
     let holds = g.F.Files.holds c.args.files.now in
-    let i = g.D.SwapDev.image c.args.swap.now in
-    let j = g.D.SwapDev.image c.come_in.new.swap in
+    let i = stores g.F.Files g.D.SwapDev c.args.files.now c.args.swap.now in
+    let j = stores g.F.Files g.D.SwapDev c.come_in.new.files c.come_in.new.swap in
     stops_on c.from_residual-in_err-come_in.result c.in_err-come_in.field-0.0 (StopsFrom (DueTurn old holds i c.args.counted c.args.pid) old c.come_in.new.m j) c.from_residual-in_err-come_in.ensures.1
     (turn_coming_stops old c.note.new.m c.come_in.new.m c.args.pid c.args.counted holds i j c.in_err-come_in.field-0.0 c.in_ok-note.ensures.steady c.in_ok-note.ensures.step
     (c.in_err-come_in.ensures.stops c.args.counted c.args.counted))
@@ -37,11 +38,11 @@ pub returns-clause-had : goal.returns-clause-had
 returns-clause-had g c =
     let old = c.args.m.now in
     let holds = g.F.Files.holds c.args.files.now in
-    let i = g.D.SwapDev.image c.args.swap.now in
+    let i = stores g.F.Files g.D.SwapDev c.args.files.now c.args.swap.now in
     let in_ = c.come_in.new.m in
     let new = c.finish.new.m in
-    let h = g.D.SwapDev.image c.come_in.new.swap in
-    let j = g.D.SwapDev.image c.finish.new.swap in
+    let h = stores g.F.Files g.D.SwapDev c.come_in.new.files c.come_in.new.swap in
+    let j = stores g.F.Files g.D.SwapDev c.finish.new.files c.finish.new.swap in
     ok_two c.finish.result (λ count. LeadsFrom (ResidentTurn in_ holds h c.args.counted c.args.counted c.args.pid) (TurnDone in_ new j c.args.pid count))
     (λ count. CountsTo in_ new c.args.counted count)
     (λ count. LeadsFrom (DueTurn old holds i c.args.counted c.args.pid) (TurnHad old new holds j c.args.pid count))
@@ -54,11 +55,11 @@ pub returns-clause-stops : goal.returns-clause-stops
 returns-clause-stops g c =
     let old = c.args.m.now in
     let holds = g.F.Files.holds c.args.files.now in
-    let i = g.D.SwapDev.image c.args.swap.now in
+    let i = stores g.F.Files g.D.SwapDev c.args.files.now c.args.swap.now in
     let in_ = c.come_in.new.m in
     let new = c.finish.new.m in
-    let h = g.D.SwapDev.image c.come_in.new.swap in
-    let j = g.D.SwapDev.image c.finish.new.swap in
+    let h = stores g.F.Files g.D.SwapDev c.come_in.new.files c.come_in.new.swap in
+    let j = stores g.F.Files g.D.SwapDev c.finish.new.files c.finish.new.swap in
     stops_weaker c.finish.result (λ stop. StopsFrom (ResidentTurn in_ holds h c.args.counted c.args.counted c.args.pid) in_ new j stop)
     (λ stop. StopsFrom (DueTurn old holds i c.args.counted c.args.pid) old new j stop)
     (λ stop f. turn_finish_stops old c.note.new.m in_ new c.args.pid c.args.counted holds i h j stop c.in_ok-note.ensures.steady c.in_ok-note.ensures.step

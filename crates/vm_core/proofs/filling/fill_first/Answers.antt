@@ -1,3 +1,4 @@
+use Rattle.io_edge.specs.WithFiles.{stores}
 use Rattle.std.proofs.Common.{subst}
 use Rattle.std.specs.Prelude.{Option}
 use Rattle.vm_facts.specs.declared.page.Page.{Page}
@@ -21,10 +22,11 @@ fill_start-requires-clause-room g c = room_none c.args.m.now.kernel.place c.args
 
 pub returns-in-Some-clause-filled : goal.returns-in-Some-clause-filled
 returns-in-Some-clause-filled g c =
-    copy_fills c.copy_page.result c.args.page c.in-Some.parent c.args.parent c.args.m.now c.copy_page.new.m (g.F.Files.holds c.args.files.now) (g.D.SwapDev.image c.args.swap.now)
-    (g.D.SwapDev.image c.copy_page.new.swap) c.in-Some.is c.copy_page.ensures.copied c.copy_page.ensures.on
+    copy_fills c.copy_page.result c.args.page c.in-Some.parent c.args.parent c.args.m.now c.copy_page.new.m (g.F.Files.holds c.args.files.now)
+    (stores g.F.Files g.D.SwapDev c.args.files.now c.args.swap.now)
+    (stores g.F.Files g.D.SwapDev c.copy_page.new.files c.copy_page.new.swap) c.in-Some.is c.copy_page.ensures.copied c.copy_page.ensures.on
 
 pub returns-in-None-clause-filled : goal.returns-in-None-clause-filled
 returns-in-None-clause-filled g c =
-    start_fills c.fill_start.result c.args.page c.args.parent c.args.m.now c.fill_start.new.m (g.F.Files.holds c.args.files.now) (g.D.SwapDev.image c.args.swap.now)
-    (g.D.SwapDev.image c.fill_start.new.swap) c.in-None.is c.fill_start.ensures.filled
+    start_fills c.fill_start.result c.args.page c.args.parent c.args.m.now c.fill_start.new.m (g.F.Files.holds c.args.files.now) (stores g.F.Files g.D.SwapDev c.args.files.now c.args.swap.now)
+    (stores g.F.Files g.D.SwapDev c.fill_start.new.files c.fill_start.new.swap) c.in-None.is c.fill_start.ensures.filled

@@ -1,3 +1,4 @@
+use Rattle.io_edge.specs.WithFiles.{stores}
 use Rattle.std.proofs.Common.{◌∙◌, sym, arith, None}
 use Rattle.std.proofs.lemmas.Result.{err_from_is_err_and}
 use Rattle.machine_state.proofs.Transfers.{transfers_none, transfers_then}
@@ -9,7 +10,7 @@ use Rattle.vm_core.proofs.filling.fill_rest.Goals as goal
 
 pub loop-page-init : goal.loop-page-init
 loop-page-init g c = record {
-  so_far = filled_none c.args.m.now (g.F.Files.holds c.args.files.now) (g.D.SwapDev.image c.args.swap.now);
+  so_far = filled_none c.args.m.now (g.F.Files.holds c.args.files.now) (stores g.F.Files g.D.SwapDev c.args.files.now c.args.swap.now);
   ready = c.requires.ready;
   area = c.requires.area;
   files = c.requires.files;
@@ -28,16 +29,20 @@ returns-in_err-fill_first-clause-stops g c =
     let now = c.loop-page.m in
     let first : IsDueFirst now.kernel.place (due_of c.in-Some.page c.in-Some.parent) = first_of now.kernel.place c.in-Some.page c.in-Some.parent (sym c.due_at.ensures ∙ c.in-Some.is) in
     let p = err_from_is_err_and c.from_residual.result c.from_residual.ensures.1 in
-    rw (p.1, p.2) (filled_stops c.args.m.now now (g.F.Files.holds c.args.files.now) (g.F.Files.holds c.loop-page.files) (g.D.SwapDev.image c.args.swap.now) (g.D.SwapDev.image c.loop-page.swap)
-    c.loop-page.invariant.so_far c.fill_first.new.m (g.D.SwapDev.image c.fill_first.new.swap) (due_of c.in-Some.page c.in-Some.parent) c.in_err-fill_first.field-0.0 first
+    rw (p.1, p.2) (filled_stops c.args.m.now now (g.F.Files.holds c.args.files.now) (g.F.Files.holds c.loop-page.files)
+    (stores g.F.Files g.D.SwapDev c.args.files.now c.args.swap.now) (stores g.F.Files g.D.SwapDev c.loop-page.files c.loop-page.swap)
+    c.loop-page.invariant.so_far c.fill_first.new.m (stores g.F.Files g.D.SwapDev c.fill_first.new.files c.fill_first.new.swap) (due_of c.in-Some.page c.in-Some.parent)
+    c.in_err-fill_first.field-0.0 first
     c.in_err-fill_first.ensures.filled)
 
 pub returns-in_err-fill_first-clause-kept : goal.returns-in_err-fill_first-clause-kept
 returns-in_err-fill_first-clause-kept g c =
     let p = err_from_is_err_and c.from_residual.result c.from_residual.ensures.1 in
     rw (p.1, p.2)
-    (filled_kept c.args.m.now c.loop-page.m (g.F.Files.holds c.args.files.now) (g.F.Files.holds c.loop-page.files) (g.D.SwapDev.image c.args.swap.now) (g.D.SwapDev.image c.loop-page.swap)
-    c.loop-page.invariant.so_far c.fill_first.new.m (g.D.SwapDev.image c.fill_first.new.swap) (due_of c.in-Some.page c.in-Some.parent) c.in_err-fill_first.field-0.0 c.in_err-fill_first.ensures.filled)
+    (filled_kept c.args.m.now c.loop-page.m (g.F.Files.holds c.args.files.now) (g.F.Files.holds c.loop-page.files)
+    (stores g.F.Files g.D.SwapDev c.args.files.now c.args.swap.now) (stores g.F.Files g.D.SwapDev c.loop-page.files c.loop-page.swap)
+    c.loop-page.invariant.so_far c.fill_first.new.m (stores g.F.Files g.D.SwapDev c.fill_first.new.files c.fill_first.new.swap) (due_of c.in-Some.page c.in-Some.parent)
+    c.in_err-fill_first.field-0.0 c.in_err-fill_first.ensures.filled)
 
 pub loop-page-smaller : goal.loop-page-smaller
 loop-page-smaller g c =
@@ -46,8 +51,8 @@ loop-page-smaller g c =
     let d = due_of c.in-Some.page c.in-Some.parent in
     let first : IsDueFirst now.kernel.place d = first_of now.kernel.place c.in-Some.page c.in-Some.parent (sym c.due_at.ensures ∙ c.in-Some.is) in
     fewer now next d first
-    (due_filled d first.others now next (g.F.Files.holds c.loop-page.files) (g.D.SwapDev.image c.loop-page.swap)
-    (g.D.SwapDev.image c.fill_first.new.swap) first.first c.in_ok-fill_first.ensures.filled)
+    (due_filled d first.others now next (g.F.Files.holds c.loop-page.files) (stores g.F.Files g.D.SwapDev c.loop-page.files c.loop-page.swap)
+    (stores g.F.Files g.D.SwapDev c.fill_first.new.files c.fill_first.new.swap) first.first c.in_ok-fill_first.ensures.filled)
 
 pub loop-page-preserved : goal.loop-page-preserved
 loop-page-preserved g c =
@@ -56,11 +61,13 @@ loop-page-preserved g c =
     let d = due_of c.in-Some.page c.in-Some.parent in
     let first : IsDueFirst now.kernel.place d = first_of now.kernel.place c.in-Some.page c.in-Some.parent (sym c.due_at.ensures ∙ c.in-Some.is) in
     let one : RunsDue now next 0 first.others =
-    due_filled d first.others now next (g.F.Files.holds c.loop-page.files) (g.D.SwapDev.image c.loop-page.swap)
-    (g.D.SwapDev.image c.fill_first.new.swap) first.first c.in_ok-fill_first.ensures.filled in
+    due_filled d first.others now next (g.F.Files.holds c.loop-page.files) (stores g.F.Files g.D.SwapDev c.loop-page.files c.loop-page.swap)
+    (stores g.F.Files g.D.SwapDev c.fill_first.new.files c.fill_first.new.swap) first.first c.in_ok-fill_first.ensures.filled in
     record {
-      so_far = filled_one c.args.m.now now (g.F.Files.holds c.args.files.now) (g.F.Files.holds c.loop-page.files) (g.D.SwapDev.image c.args.swap.now) (g.D.SwapDev.image c.loop-page.swap)
-          c.loop-page.invariant.so_far next (g.F.Files.holds c.fill_first.new.files) (g.D.SwapDev.image c.fill_first.new.swap) d first c.in_ok-fill_first.ensures.outside.files.holds
+      so_far = filled_one c.args.m.now now (g.F.Files.holds c.args.files.now) (g.F.Files.holds c.loop-page.files)
+          (stores g.F.Files g.D.SwapDev c.args.files.now c.args.swap.now) (stores g.F.Files g.D.SwapDev c.loop-page.files c.loop-page.swap)
+          c.loop-page.invariant.so_far next (g.F.Files.holds c.fill_first.new.files) (stores g.F.Files g.D.SwapDev c.fill_first.new.files c.fill_first.new.swap) d first
+          c.in_ok-fill_first.ensures.outside.files.holds
           c.in_ok-fill_first.ensures.filled;
       ready = c.in_ok-fill_first.ensures.goes_on;
       area = area_next now next _ _ one.on.params c.in_ok-fill_first.ensures.outside.swap.blocks c.loop-page.invariant.area;
@@ -70,10 +77,12 @@ loop-page-preserved g c =
 
 pub returns-clause-leads : goal.returns-clause-leads
 returns-clause-leads g c =
-    filled_all c.args.m.now c.loop-page.m (g.F.Files.holds c.args.files.now) (g.F.Files.holds c.loop-page.files) (g.D.SwapDev.image c.args.swap.now) (g.D.SwapDev.image c.loop-page.swap)
+    filled_all c.args.m.now c.loop-page.m (g.F.Files.holds c.args.files.now) (g.F.Files.holds c.loop-page.files)
+    (stores g.F.Files g.D.SwapDev c.args.files.now c.args.swap.now) (stores g.F.Files g.D.SwapDev c.loop-page.files c.loop-page.swap)
     c.loop-page.invariant.so_far (none_due c.loop-page.m.kernel.place.due (sym c.due_at.ensures ∙ c.in_default.is))
 
 pub returns-clause-continues : goal.returns-clause-continues
 returns-clause-continues g c =
-    filled_goes_on c.args.m.now c.loop-page.m (g.F.Files.holds c.args.files.now) (g.F.Files.holds c.loop-page.files) (g.D.SwapDev.image c.args.swap.now) (g.D.SwapDev.image c.loop-page.swap)
+    filled_goes_on c.args.m.now c.loop-page.m (g.F.Files.holds c.args.files.now) (g.F.Files.holds c.loop-page.files)
+    (stores g.F.Files g.D.SwapDev c.args.files.now c.args.swap.now) (stores g.F.Files g.D.SwapDev c.loop-page.files c.loop-page.swap)
     c.loop-page.invariant.so_far (none_due c.loop-page.m.kernel.place.due (sym c.due_at.ensures ∙ c.in_default.is))

@@ -1,3 +1,4 @@
+use Rattle.io_edge.specs.WithFiles.{stores}
 use Rattle.std.proofs.Common.{◌≤◌, length, None}
 use Rattle.machine_state.specs.Files.{AreFiles}
 use Rattle.machine_state.specs.Going.{CanGoOn}
@@ -8,7 +9,7 @@ use Rattle.vm_core.proofs.filling.fill_rest.Given as goal
 -- what was filled so far, and what the next fill asks of the outside
 abbrev pub invariant-loop-page : goal.invariant-loop-page
 invariant-loop-page g l = record {
-  so_far : FilledSoFar l.fn.m l.m (g.F.Files.holds l.fn.files) (g.F.Files.holds l.files) (g.D.SwapDev.image l.fn.swap) (g.D.SwapDev.image l.swap);
+  so_far : FilledSoFar l.fn.m l.m (g.F.Files.holds l.fn.files) (g.F.Files.holds l.files) (stores g.F.Files g.D.SwapDev l.fn.files l.fn.swap) (stores g.F.Files g.D.SwapDev l.files l.swap);
   ready : CanGoOn l.m;
   area : l.m.params.swap_blocks ≤ g.D.SwapDev.blocks l.swap;
   files : AreFiles l.m.images (g.F.Files.holds l.files);

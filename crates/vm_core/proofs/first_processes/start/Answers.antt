@@ -1,3 +1,4 @@
+use Rattle.io_edge.specs.WithFiles.{stores}
 use Rattle.std.proofs.Common.{◌≡◌, ◌≤◌, ◌∙◌, length, sym, arith}
 use Rattle.std.proofs.lemmas.Result.{err_from_is_err_and}
 use Rattle.vm_core.proofs.StartGoesOn.{new_frames, goes_on}
@@ -28,7 +29,7 @@ pub returns-in_ok-fill_rest-in-Ok-clause-leads : goal.returns-in_ok-fill_rest-in
 returns-in_ok-fill_rest-in-Ok-clause-leads g c A image told e _ =
     let b = all_began c.in_ok-started.started c.args.first.now c.args.m.now c.begin_all.new.m c.in-Ok.is c.in_ok-started.ensures.began in
     start_leads A c.args.first.now c.args.m.now c.begin_all.new.m (g.F.Files.holds c.args.files.now) image c.requires.new c.requires.frames told b c.begin_all.ensures.sizes c.fill_rest.new.m
-    (g.D.SwapDev.image c.args.swap.now) (g.D.SwapDev.image c.fill_rest.new.swap) e c.in_ok-fill_rest-in-Ok.ensures.leads
+    (stores g.F.Files g.D.SwapDev c.args.files.now c.args.swap.now) (stores g.F.Files g.D.SwapDev c.fill_rest.new.files c.fill_rest.new.swap) e c.in_ok-fill_rest-in-Ok.ensures.leads
 
 pub returns-in_err-fill_rest-in-Ok-clause-stops : goal.returns-in_err-fill_rest-in-Ok-clause-stops
 returns-in_err-fill_rest-in-Ok-clause-stops g c A image told e =
@@ -36,13 +37,15 @@ returns-in_err-fill_rest-in-Ok-clause-stops g c A image told e =
     let p = err_from_is_err_and c.from_residual-in_err-fill_rest-in-Ok.result c.from_residual-in_err-fill_rest-in-Ok.ensures.1 in
     rw (p.1, p.2)
     (start_stops A c.args.first.now c.args.m.now c.begin_all.new.m (g.F.Files.holds c.args.files.now) image c.requires.new c.requires.frames told b c.begin_all.ensures.sizes c.fill_rest.new.m
-    (g.D.SwapDev.image c.args.swap.now) (g.D.SwapDev.image c.fill_rest.new.swap) c.in_err-fill_rest-in-Ok.field-0.0 e c.in_err-fill_rest-in-Ok.ensures.stops)
+    (stores g.F.Files g.D.SwapDev c.args.files.now c.args.swap.now) (stores g.F.Files g.D.SwapDev c.fill_rest.new.files c.fill_rest.new.swap)
+    c.in_err-fill_rest-in-Ok.field-0.0 e c.in_err-fill_rest-in-Ok.ensures.stops)
 
 pub returns-in_err-started-clause-stops : goal.returns-in_err-started-clause-stops
 returns-in_err-started-clause-stops g c A image told e =
     let p = err_from_is_err_and c.from_residual.result c.from_residual.ensures.1 in
     rw (p.1, p.2)
-    (begin_stops A c.begin_all.new.m image c.in_err-started.field-0.0 (g.D.SwapDev.image c.args.swap.now) c.in_err-started.ensures.cause c.in_err-started.ensures.stopped c.begin_all.ensures.journal e)
+    (begin_stops A c.begin_all.new.m image c.in_err-started.field-0.0 (stores g.F.Files g.D.SwapDev c.args.files.now c.args.swap.now) c.in_err-started.ensures.cause
+    c.in_err-started.ensures.stopped c.begin_all.ensures.journal e)
 
 pub returns-in_err-started-clause-kept : goal.returns-in_err-started-clause-kept
 returns-in_err-started-clause-kept g c =

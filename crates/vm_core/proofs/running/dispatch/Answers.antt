@@ -1,3 +1,4 @@
+use Rattle.io_edge.specs.WithFiles.{stores}
 use Rattle.std.proofs.Common.{false}
 use Rattle.vm_facts.specs.declared.event.Event.TheVariants as events
 use Rattle.step_units.specs.Stepped.{LeadsFrom, StopsFrom}
@@ -12,8 +13,8 @@ returns-clause-done g c =
     let old = c.args.m.now in
     let new = c.run.new.m in
     let holds = g.F.Files.holds c.args.files.now in
-    let i = g.D.SwapDev.image c.args.swap.now in
-    let j = g.D.SwapDev.image c.run.new.swap in
+    let i = stores g.F.Files g.D.SwapDev c.args.files.now c.args.swap.now in
+    let j = stores g.F.Files g.D.SwapDev c.run.new.files c.run.new.swap in
     let pid = c.args.pid in
     let counted = c.args.counted in
     let until = c.count_behind-until.result in
@@ -26,8 +27,8 @@ returns-clause-stops g c =
     let old = c.args.m.now in
     let new = c.run.new.m in
     let holds = g.F.Files.holds c.args.files.now in
-    let i = g.D.SwapDev.image c.args.swap.now in
-    let j = g.D.SwapDev.image c.run.new.swap in
+    let i = stores g.F.Files g.D.SwapDev c.args.files.now c.args.swap.now in
+    let j = stores g.F.Files g.D.SwapDev c.run.new.files c.run.new.swap in
     let pid = c.args.pid in
     let counted = c.args.counted in
     let until = c.count_behind-until.result in

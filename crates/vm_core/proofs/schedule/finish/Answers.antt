@@ -1,3 +1,4 @@
+use Rattle.io_edge.specs.WithFiles.{stores}
 use Rattle.std.proofs.Common.{length, subst}
 use Rattle.vm_core.proofs.Going.{limit_finishes, closing_finishes, closing_stops}
 use Rattle.vm_core.proofs.Noting.{stops_on, stops_weaker, ok_so}
@@ -12,8 +13,8 @@ use Rattle.vm_core.specs.Accounts.{StopsAccountedFrom}
 pub returns-in-LimitReached-clause-finishes : goal.returns-in-LimitReached-clause-finishes
 returns-in-LimitReached-clause-finishes g c =
     let holds = g.F.Files.holds c.args.files.now in
-    let i = g.D.SwapDev.image c.args.swap.now in
-    let h = g.D.SwapDev.image c.take_lines.new.swap in
+    let i = stores g.F.Files g.D.SwapDev c.args.files.now c.args.swap.now in
+    let h = stores g.F.Files g.D.SwapDev c.take_lines.new.files c.take_lines.new.swap in
     limit_finishes c.args.core.now c.take_lines.new.core c.args.lines.now holds i h
     (subst (λ went. LeadsFrom (IsBeforeLines c.args.core.now c.args.lines.now holds i) (LinesWent c.args.core.now c.take_lines.new.core went (length c.args.lines.now) holds h)) c.in-LimitReached.is
     c.in_ok-take_lines.ensures.takes)
@@ -21,9 +22,9 @@ returns-in-LimitReached-clause-finishes g c =
 pub returns-in-Next-clause-finishes : goal.returns-in-Next-clause-finishes
 returns-in-Next-clause-finishes g c =
     let holds = g.F.Files.holds c.args.files.now in
-    let i = g.D.SwapDev.image c.args.swap.now in
-    let h = g.D.SwapDev.image c.take_lines.new.swap in
-    let j = g.D.SwapDev.image c.close_run.new.swap in
+    let i = stores g.F.Files g.D.SwapDev c.args.files.now c.args.swap.now in
+    let h = stores g.F.Files g.D.SwapDev c.take_lines.new.files c.take_lines.new.swap in
+    let j = stores g.F.Files g.D.SwapDev c.close_run.new.files c.close_run.new.swap in
     ok_so c.close_run.result (LeadsFrom (AllTaken c.take_lines.new.core (g.F.Files.holds c.take_lines.new.files) h)
     (Closed c.take_lines.new.core.machine c.close_run.new.self.machine (g.F.Files.holds c.take_lines.new.files) j c.close_run.new.self.counted))
     (LeadsFrom (IsBeforeLines c.args.core.now c.args.lines.now holds i) (LinesFinished c.args.core.now c.close_run.new.self j))
@@ -37,9 +38,9 @@ returns-in-Next-clause-finishes g c =
 pub returns-in-Next-clause-stops : goal.returns-in-Next-clause-stops
 returns-in-Next-clause-stops g c =
     let holds = g.F.Files.holds c.args.files.now in
-    let i = g.D.SwapDev.image c.args.swap.now in
-    let h = g.D.SwapDev.image c.take_lines.new.swap in
-    let j = g.D.SwapDev.image c.close_run.new.swap in
+    let i = stores g.F.Files g.D.SwapDev c.args.files.now c.args.swap.now in
+    let h = stores g.F.Files g.D.SwapDev c.take_lines.new.files c.take_lines.new.swap in
+    let j = stores g.F.Files g.D.SwapDev c.close_run.new.files c.close_run.new.swap in
     stops_weaker c.close_run.result (StopsAccountedFrom (AllTaken c.take_lines.new.core (g.F.Files.holds c.take_lines.new.files) h) c.take_lines.new.core.machine c.close_run.new.self.machine j)
     (StopsFrom (IsBeforeLines c.args.core.now c.args.lines.now holds i) c.args.core.now.machine c.close_run.new.self.machine j)
     (λ stop x. closing_stops c.args.core.now c.take_lines.new.core c.close_run.new.self c.args.lines.now holds i h j stop

@@ -1,3 +1,4 @@
+use Rattle.io_edge.specs.WithFiles.{stores}
 use Rattle.std.proofs.Common.{◌≡◌, Result, Ok, Err, ap, ◌∙◌, subst, arith}
 use Rattle.vm_core.specs.declared.first_processes.Started.{Started}
 use Rattle.step_units.specs.Stepped.{LeadsFrom, StopsFrom}
@@ -18,16 +19,18 @@ pub returns-in_err-pid-clause-ends : goal.returns-in_err-pid-clause-ends
 returns-in_err-pid-clause-ends g c A image is told =
     let stop = c.in_err-pid.field-0.0 in
     let new = c.start.new.self in
-    let j = g.D.SwapDev.image c.start.new.swap in
+    let j = stores g.F.Files g.D.SwapDev c.start.new.files c.start.new.swap in
     stopped_so c.from_residual.result stop (λ r. RunEnds A new.machine.kernel.journal image r j) c.from_residual.ensures.1
-    (start_stops A c.args.core.now c.args.first.now c.args.lines.now (g.F.Files.holds c.args.files.now) image c.requires.few is new stop j (λ B b t e. c.in_err-pid.ensures.stops B b t (told ∙ e)))
+    (start_stops A c.args.core.now c.args.first.now c.args.lines.now (g.F.Files.holds c.args.files.now) image c.requires.few is new stop j c.in_err-pid.ensures.kept.sizes.images
+    (λ B b t e. c.in_err-pid.ensures.stops B b t (told ∙ e)))
 
 pub returns-in_err-pid-clause-full : goal.returns-in_err-pid-clause-full
 returns-in_err-pid-clause-full g c A image is told =
     let stop = c.in_err-pid.field-0.0 in
     let new = c.start.new.self in
     stopped_so c.from_residual.result stop (λ r. r ≡ Err (Stopped stops.JournalFull) → RunFull A new.machine image) c.from_residual.ensures.1
-    (λ full. start_full A c.args.core.now c.args.first.now c.args.lines.now (g.F.Files.holds c.args.files.now) image c.requires.few is new stop (g.D.SwapDev.image c.start.new.swap)
+    (λ full. start_full A c.args.core.now c.args.first.now c.args.lines.now (g.F.Files.holds c.args.files.now) image c.requires.few is new stop
+    (stores g.F.Files g.D.SwapDev c.start.new.files c.start.new.swap)
     (same_stop stop stops.JournalFull full) (λ B b t e. c.in_err-pid.ensures.stops B b t (told ∙ e)))
 
 pub finish-requires-clause-below : goal.finish-requires-clause-below
@@ -45,11 +48,12 @@ returns-in_err-finish-in-Ok-clause-ends g c A image is told =
     let mid = c.start.new.self in
     let new = c.finish.new.core in
     let holds = g.F.Files.holds c.args.files.now in
-    let i = g.D.SwapDev.image c.args.swap.now in
-    let h = g.D.SwapDev.image c.start.new.swap in
-    let j = g.D.SwapDev.image c.finish.new.swap in
+    let i = stores g.F.Files g.D.SwapDev c.args.files.now c.args.swap.now in
+    let h = stores g.F.Files g.D.SwapDev c.start.new.files c.start.new.swap in
+    let j = stores g.F.Files g.D.SwapDev c.finish.new.files c.finish.new.swap in
     stopped_so c.from_residual-in_err-finish-in-Ok.result stop (λ r. RunEnds A new.machine.kernel.journal image r j) c.from_residual-in_err-finish-in-Ok.ensures.1
     (lines_stop A c.args.core.now c.args.first.now c.args.lines.now holds image c.requires.few is mid i h told (c.start.ensures.starts ok) new stop j
+    (c.in_err-finish-in-Ok.ensures.kept.sizes.images ∙ c.start.ensures.images ok)
     (subst (λ hs. StopsFrom (IsBeforeLines mid c.args.lines.now hs h) mid.machine new.machine j stop) c.start.ensures.outside.files.holds c.in_err-finish-in-Ok.ensures.stops))
 
 pub returns-in_err-finish-in-Ok-clause-full : goal.returns-in_err-finish-in-Ok-clause-full
@@ -59,9 +63,9 @@ returns-in_err-finish-in-Ok-clause-full g c A image is told =
     let mid = c.start.new.self in
     let new = c.finish.new.core in
     let holds = g.F.Files.holds c.args.files.now in
-    let i = g.D.SwapDev.image c.args.swap.now in
-    let h = g.D.SwapDev.image c.start.new.swap in
-    let j = g.D.SwapDev.image c.finish.new.swap in
+    let i = stores g.F.Files g.D.SwapDev c.args.files.now c.args.swap.now in
+    let h = stores g.F.Files g.D.SwapDev c.start.new.files c.start.new.swap in
+    let j = stores g.F.Files g.D.SwapDev c.finish.new.files c.finish.new.swap in
     stopped_so c.from_residual-in_err-finish-in-Ok.result stop (λ r. r ≡ Err (Stopped stops.JournalFull) → RunFull A new.machine image) c.from_residual-in_err-finish-in-Ok.ensures.1
     (λ full. lines_full A c.args.core.now c.args.first.now c.args.lines.now holds image c.requires.few is mid i h told (c.start.ensures.starts ok) new stop j (same_stop stop stops.JournalFull full)
     (subst (λ hs. StopsFrom (IsBeforeLines mid c.args.lines.now hs h) mid.machine new.machine j stop) c.start.ensures.outside.files.holds c.in_err-finish-in-Ok.ensures.stops))
@@ -72,9 +76,9 @@ returns-in_ok-finish-in-Ok-clause-ends g c A image is told =
     let mid = c.start.new.self in
     let new = c.finish.new.core in
     let holds = g.F.Files.holds c.args.files.now in
-    let i = g.D.SwapDev.image c.args.swap.now in
-    let h = g.D.SwapDev.image c.start.new.swap in
-    let j = g.D.SwapDev.image c.finish.new.swap in
+    let i = stores g.F.Files g.D.SwapDev c.args.files.now c.args.swap.now in
+    let h = stores g.F.Files g.D.SwapDev c.start.new.files c.start.new.swap in
+    let j = stores g.F.Files g.D.SwapDev c.finish.new.files c.finish.new.swap in
     lines_finish A c.args.core.now c.args.first.now c.args.lines.now holds image c.requires.few is mid i h told (c.start.ensures.starts ok) new j
     (subst (λ hs. LeadsFrom (IsBeforeLines mid c.args.lines.now hs h) (LinesFinished mid new j)) c.start.ensures.outside.files.holds c.in_ok-finish-in-Ok.ensures.finishes)
 
@@ -84,9 +88,9 @@ returns-in_ok-finish-in-Ok-clause-over g c A image is told =
     let mid = c.start.new.self in
     let new = c.finish.new.core in
     let holds = g.F.Files.holds c.args.files.now in
-    let i = g.D.SwapDev.image c.args.swap.now in
-    let h = g.D.SwapDev.image c.start.new.swap in
-    let j = g.D.SwapDev.image c.finish.new.swap in
+    let i = stores g.F.Files g.D.SwapDev c.args.files.now c.args.swap.now in
+    let h = stores g.F.Files g.D.SwapDev c.start.new.files c.start.new.swap in
+    let j = stores g.F.Files g.D.SwapDev c.finish.new.files c.finish.new.swap in
     lines_over A c.args.core.now c.args.first.now c.args.lines.now holds image c.requires.few is mid i h told (c.start.ensures.starts ok) new j
     (subst (λ hs. LeadsFrom (IsBeforeLines mid c.args.lines.now hs h) (LinesFinished mid new j)) c.start.ensures.outside.files.holds c.in_ok-finish-in-Ok.ensures.finishes)
     c.in_ok-finish-in-Ok.ensures.goes_on
@@ -99,7 +103,8 @@ returns-in_err-pid-clause-left g c A image is told halt =
     let new = c.start.new.self in
     stopped_so c.from_residual.result stop (λ r. r ≡ Err (Stopped halt) → RunStopsAt A halt new.machine image) c.from_residual.ensures.1
     (λ same. subst (λ (s : Stop). RunStopsAt A s new.machine image) (same_stop stop halt same)
-    (start_left A c.args.core.now c.args.first.now c.args.lines.now (g.F.Files.holds c.args.files.now) image c.requires.few is new stop (g.D.SwapDev.image c.start.new.swap)
+    (start_left A c.args.core.now c.args.first.now c.args.lines.now (g.F.Files.holds c.args.files.now) image c.requires.few is new stop
+    (stores g.F.Files g.D.SwapDev c.start.new.files c.start.new.swap)
     (λ B b t e. c.in_err-pid.ensures.stops B b t (told ∙ e))))
 
 pub returns-in_err-finish-in-Ok-clause-left : goal.returns-in_err-finish-in-Ok-clause-left
@@ -109,9 +114,9 @@ returns-in_err-finish-in-Ok-clause-left g c A image is told halt =
     let mid = c.start.new.self in
     let new = c.finish.new.core in
     let holds = g.F.Files.holds c.args.files.now in
-    let i = g.D.SwapDev.image c.args.swap.now in
-    let h = g.D.SwapDev.image c.start.new.swap in
-    let j = g.D.SwapDev.image c.finish.new.swap in
+    let i = stores g.F.Files g.D.SwapDev c.args.files.now c.args.swap.now in
+    let h = stores g.F.Files g.D.SwapDev c.start.new.files c.start.new.swap in
+    let j = stores g.F.Files g.D.SwapDev c.finish.new.files c.finish.new.swap in
     stopped_so c.from_residual-in_err-finish-in-Ok.result stop (λ r. r ≡ Err (Stopped halt) → RunStopsAt A halt new.machine image) c.from_residual-in_err-finish-in-Ok.ensures.1
     (λ same. subst (λ (s : Stop). RunStopsAt A s new.machine image) (same_stop stop halt same)
     (lines_left A c.args.core.now c.args.first.now c.args.lines.now holds image c.requires.few is mid i h told (c.start.ensures.starts ok) new stop j

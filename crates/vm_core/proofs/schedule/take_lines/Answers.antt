@@ -1,3 +1,4 @@
+use Rattle.io_edge.specs.WithFiles.{stores}
 use Rattle.std.proofs.Common.{◌≡◌, ◌+◌, ℕ, slice_index_or, slice_get, Some, sym, ap, ◌∙◌, subst, refl, arith, None}
 use Rattle.std.proofs.lemmas.Option.{slice_get-get_or}
 use Rattle.vm_facts.specs.declared.event.Event.TheVariants.{Dispatch}
@@ -14,7 +15,7 @@ use Rattle.vm_core.specs.Accounts.{StopsAccountedFrom}
 
 pub loop-e-init : goal.loop-e-init
 loop-e-init g c = record {
-  takes = none_taken c.args.core.now c.args.lines.now (g.F.Files.holds c.args.files.now) (g.D.SwapDev.image c.args.swap.now);
+  takes = none_taken c.args.core.now c.args.lines.now (g.F.Files.holds c.args.files.now) (stores g.F.Files g.D.SwapDev c.args.files.now c.args.swap.now);
   goes_on = c.requires.goes_on;
   below = c.requires.below;
   number = refl;
@@ -32,9 +33,9 @@ pub returns-in_err-event-clause-stops : goal.returns-in_err-event-clause-stops
 returns-in_err-event-clause-stops g c =
     let lines = c.args.lines.now in
     let holds = g.F.Files.holds c.args.files.now in
-    let i = g.D.SwapDev.image c.args.swap.now in
-    let h = g.D.SwapDev.image c.loop-e.swap in
-    let j = g.D.SwapDev.image c.event.new.swap in
+    let i = stores g.F.Files g.D.SwapDev c.args.files.now c.args.swap.now in
+    let h = stores g.F.Files g.D.SwapDev c.loop-e.files c.loop-e.swap in
+    let j = stores g.F.Files g.D.SwapDev c.event.new.files c.event.new.swap in
     let e = slice_index_or lines c.loop-e.e-index (Dispatch 0 0) in
     let stop = c.in_err-event.field-0.0 in
     let so = c.loop-e.invariant in
@@ -47,9 +48,9 @@ pub returns-in-LimitReached-clause-takes : goal.returns-in-LimitReached-clause-t
 returns-in-LimitReached-clause-takes g c =
     let lines = c.args.lines.now in
     let holds = g.F.Files.holds c.args.files.now in
-    let i = g.D.SwapDev.image c.args.swap.now in
-    let h = g.D.SwapDev.image c.loop-e.swap in
-    let j = g.D.SwapDev.image c.event.new.swap in
+    let i = stores g.F.Files g.D.SwapDev c.args.files.now c.args.swap.now in
+    let h = stores g.F.Files g.D.SwapDev c.loop-e.files c.loop-e.swap in
+    let j = stores g.F.Files g.D.SwapDev c.event.new.files c.event.new.swap in
     let e = slice_index_or lines c.loop-e.e-index (Dispatch 0 0) in
     let so = c.loop-e.invariant in
     limit_taken c.args.core.now c.event.new.self (c.loop-e.line + 1) lines holds i j
@@ -62,9 +63,9 @@ pub loop-e-preserved : goal.loop-e-preserved
 loop-e-preserved g c =
     let lines = c.args.lines.now in
     let holds = g.F.Files.holds c.args.files.now in
-    let i = g.D.SwapDev.image c.args.swap.now in
-    let h = g.D.SwapDev.image c.loop-e.swap in
-    let j = g.D.SwapDev.image c.event.new.swap in
+    let i = stores g.F.Files g.D.SwapDev c.args.files.now c.args.swap.now in
+    let h = stores g.F.Files g.D.SwapDev c.loop-e.files c.loop-e.swap in
+    let j = stores g.F.Files g.D.SwapDev c.event.new.files c.event.new.swap in
     let e = slice_index_or lines c.loop-e.e-index (Dispatch 0 0) in
     let so = c.loop-e.invariant in
     record {
@@ -82,7 +83,8 @@ loop-e-preserved g c =
 pub returns-clause-takes : goal.returns-clause-takes
 returns-clause-takes g c =
     let so = c.loop-e.invariant in
-    subst (λ (n : ℕ). HasTaken c.args.core.now c.loop-e.core n c.args.lines.now (g.F.Files.holds c.args.files.now) (g.D.SwapDev.image c.args.swap.now) (g.D.SwapDev.image c.loop-e.swap))
+    subst (λ (n : ℕ). HasTaken c.args.core.now c.loop-e.core n c.args.lines.now (g.F.Files.holds c.args.files.now)
+    (stores g.F.Files g.D.SwapDev c.args.files.now c.args.swap.now) (stores g.F.Files g.D.SwapDev c.loop-e.files c.loop-e.swap))
     (let number = so.number in let low = c.loop-e-test.false in let high = c.loop-e.auto.e-index-end in omega arith) so.takes
 
 pub returns-in_err-event-clause-kept : goal.returns-in_err-event-clause-kept

@@ -1,3 +1,4 @@
+use Rattle.io_edge.specs.WithFiles.{stores}
 use Rattle.std.proofs.Common.{◌≡◌, Ok, Err, Result, sym, ap, ◌∙◌, subst}
 use Rattle.std.specs.Prelude.{IfErr}
 use Rattle.vm_facts.specs.declared.stop.Stop.{Stop}
@@ -26,7 +27,7 @@ returns-in-Ok-begun-clause-begins g c = λ done A image asked told.
     let on : HasStarted c.self.inside.machine c.start-started.new.m = c.start-started.ensures.goes_on ok in
     let files : IsTold A c.self.inside.machine c.args.first.now holds image =
     subst (λ (f : Filming). IsTold A f.machine c.args.first.now holds image) (sym c.self.view_is) (told_of A now c.args.first.now c.args.lines.now holds image asked) in
-    started A now new c.args.first.now c.args.lines.now holds image (g.D.SwapDev.image c.start-started.new.swap) asked c.requires.few c.requires.unbegun
+    started A now new c.args.first.now c.args.lines.now holds image (stores g.F.Files g.D.SwapDev c.start-started.new.files c.start-started.new.swap) asked c.requires.few c.requires.unbegun
     (on.params ∙ ap (λ (f : Filming). f.machine.params) c.self.view_is) (on.images ∙ ap (λ (f : Filming). f.machine.images) c.self.view_is) c.always.ensures.within
     (ap (λ (f : Filming). f.lines) c.self.view_is) (ap (λ (f : Filming). f.mark) c.self.view_is) (ap (λ (f : Filming). f.counted) c.self.view_is)
     on.ready (c.start-started.ensures.leads A image files told ok) c.requires.some c.none_comes-self-inside.ensures
@@ -38,7 +39,7 @@ returns-after-stop-clause-begins g c = λ done A image asked told. elim c.match-
       let new : Filming =
       record { machine = c.start-started.new.m; lines = c.self.inside.lines; mark = c.self.inside.mark; counted = c.self.inside.counted; over = c.self.inside.over } in
       let holds = g.F.Files.holds c.args.files.now in
-      let j = g.D.SwapDev.image c.start-started.new.swap in
+      let j = stores g.F.Files g.D.SwapDev c.start-started.new.files c.start-started.new.swap in
       let full : c.in-Err.stop ≡ stops.JournalFull = w.in-JournalFull.is in
       let kept : KeptAtStop c.self.inside.machine c.start-started.new.m c.in-Err.stop = c.in-Err.ensures.kept in
       let files : IsTold A c.self.inside.machine c.args.first.now holds image =
@@ -56,8 +57,8 @@ returns-after-stop-clause-begins g c = λ done A image asked told. elim c.match-
 pub returns-after-stop-clause-stops : goal.returns-after-stop-clause-stops
 returns-after-stop-clause-stops g c = λ A image files told.
     let holds = g.F.Files.holds c.args.files.now in
-    let i = g.D.SwapDev.image c.args.swap.now in
-    let j = g.D.SwapDev.image c.start-started.new.swap in
+    let i = stores g.F.Files g.D.SwapDev c.args.files.now c.args.swap.now in
+    let j = stores g.F.Files g.D.SwapDev c.start-started.new.files c.start-started.new.swap in
     let inside : IsTold A c.self.inside.machine c.args.first.now holds image = subst (λ (f : Filming). IsTold A f.machine c.args.first.now holds image) (sym c.self.view_is) files in
     let why : StopsStartingRun A c.start-started.new.m image c.in-Err.stop j =
     stops_starting (Err c.in-Err.stop) c.self.inside.machine c.start-started.new.m c.args.first.now holds i j c.requires.few c.in-Err.ensures.stops A image inside told in

@@ -1,17 +1,18 @@
-use Rattle.std.proofs.Common.{◌≡◌, ℕ, ◌*◌, ◌<◌, ◌≤◌, List, [], ◌∷◌, ◌++◌, length, map, drop, Some, refl, sym, ap, ◌∙◌, subst, arith, rules}
+use Rattle.std.proofs.Common.{◌≡◌, ℕ, ◌*◌, ◌<◌, ◌≤◌, List, [], ◌∷◌, ◌++◌, Bool, true, length, map, drop, Some, Result, Ok, refl, sym, ap, ◌∙◌, subst, arith, rules}
 use Rattle.vm_facts.specs.SwapImages.{SwapImage}
 use Rattle.vm_facts.specs.declared.entry.Entry.{Entry}
+use Rattle.vm_facts.specs.declared.stop.Stop.{Stop}
 use Rattle.vm_facts.specs.declared.entry.Entry.TheVariants as entries
 use Rattle.transfer_ring.specs.declared.transfer.Finished.TheVariants as answers
-use Rattle.page_model.specs.Placement.{FromSwap, FromFile}
+use Rattle.page_model.specs.Placement.{FromSwap, FromFile, image_of}
 use Rattle.kernel_model.specs.Kernel.{Kernel, done_step}
 use Rattle.kernel_model.specs.Sound.{TextFits}
 use Rattle.table_steps.specs.View.{transfer_shown}
-use Rattle.table_steps.specs.Done.{sources, ReadsTold, StandsTold, ImageAfter, AskedAfter, SpoilsAfter, OldestReadsFrom}
+use Rattle.table_steps.specs.Done.{sources, ReadsTold, StandsTold, SpoilsAfter, OldestReadsFrom}
 use Rattle.machine_state.proofs.Ends.{brought}
 use Rattle.transfer_ring.specs.declared.transfer.Transfer.{Transfer as Flight}
 use Rattle.table_steps.specs.Tables.{Tables}
-use Rattle.table_steps.specs.Sourced.{AreSourced}
+use Rattle.table_steps.specs.Sourced.{AreSourced, files_named}
 use Rattle.table_steps.specs.Files.{AreFiles, AreImages}
 use Rattle.table_steps.specs.Machine.{Standing, lists_of, kernel_by, image_at, images_of, before_of}
 use Rattle.machine_state.proofs.Knowing.{known_of, known_now}
@@ -23,6 +24,11 @@ use Rattle.table_steps.proofs.Stills.{pushed}
 use Rattle.machine_state.proofs.Reaches.{reachable}
 use Rattle.machine_state.proofs.Dones.{Came, came, done_back, was_lists, back_known, Doing, done_kernel, before, rest_sourced, done_image, done_told, spoiled_image, asked_image, unasked_image, done_keeps}
 use Rattle.machine_state.proofs.FailedReads.{file_failed, swap_read_failed}
+use Rattle.io_edge.specs.FileRequests.{after_requests}
+use Rattle.machine_state.specs.FilesAsked.{oldest_asked, NotedAfter, OldestAskedUpTo}
+use Rattle.machine_state.proofs.SwapAsked.{SwapDone, SwapAskedAfter}
+use Rattle.machine_state.proofs.Besides.{done_beside, spoiled_beside, asked_beside, filled_beside, told_beside, stands_beside, stands_alone}
+use Rattle.machine_state.proofs.Noting.{oldest_notes, done_notes, file_notes, swap_notes, write_notes}
 use Rattle.machine_state.proofs.Losing.{lost}
 use Rattle.machine_state.proofs.machine.Machine.done.Given.{Over}
 use Rattle.machine_state.proofs.machine.Machine.done.Goals as goal
@@ -99,6 +105,13 @@ returns-in-Done g c =
     let f = before c.self.inside c.args.self.now e.oldest e.rest c.self.invariant c.self.view_is c.requires.ready c.frames-frames.ensures.sound e.ring_is in
     let z = step g c in
     let files = subst (λ (s : Standing). AreFiles s.images (g.F.Files.holds c.args.files.now)) (sym c.self.view_is) c.requires.files in
+    let noted : g.F.Files.notes c.complete_oldest.new.files ≡ after_requests
+    (oldest_asked (files_named c.args.self.now.images) (image_of c.args.self.now.kernel.place) c.args.self.now.kernel.place.transfers)
+    (g.F.Files.notes c.args.files.now) =
+    subst (λ (s : Standing). let r : Result Bool Stop = Ok true in NotedAfter r (files_named s.images) s.kernel.place (g.F.Files.notes c.args.files.now)
+    (g.F.Files.notes c.complete_oldest.new.files)) c.self.view_is
+    (done_notes t (images_of t) b e.oldest n e.rest t.book.size (g.F.Files.notes c.args.files.now) (g.F.Files.notes c.complete_oldest.new.files) f
+    (oldest_notes t.ring e.oldest e.rest _ _ _ e.ring_is c.in-Done.ensures.notes)) in
     record {
       idle = search rules;
       still = search rules;
@@ -107,24 +120,31 @@ returns-in-Done g c =
             some = subst (λ (s : Standing). 0 < length s.kernel.place.transfers) c.self.view_is (subst (λ (ts : List Flight). 0 < length (map transfer_shown ts)) (sym e.ring_is) (omega arith));
             read = brought n;
             step = z.is ∙ ap (λ (s : Standing). done_step s.kernel (brought n)) c.self.view_is;
-            told = subst (λ (s : Standing). ReadsTold (sources s (g.F.Files.holds c.args.files.now)) (g.D.SwapDev.image c.args.swap.now) s.kernel (brought n)) c.self.view_is
+            told = told_beside (sources c.args.self.now (g.F.Files.holds c.args.files.now)) (g.D.SwapDev.image c.args.swap.now) c.args.self.now.kernel (brought n) (g.F.Files.notes c.args.files.now)
+                (subst (λ (s : Standing). ReadsTold (sources s (g.F.Files.holds c.args.files.now)) (g.D.SwapDev.image c.args.swap.now) s.kernel (brought n)) c.self.view_is
                 (done_told t (images_of t) b e.oldest n e.rest t.book.size (g.F.Files.holds c.args.files.now) (g.D.SwapDev.image c.args.swap.now)
-                (g.D.SwapDev.image c.complete_oldest.new.swap) f e.ends files c.look.ensures);
+                (g.D.SwapDev.image c.complete_oldest.new.swap) f e.ends files c.look.ensures));
           };
       rest = λ _. z.rest;
-      keeps = λ images flat loads.
+      keeps = λ images flat loads fits stood.
           let area = c.requires.area in
           let size = (stands_now c.self.inside c.args.self.now c.self.invariant c.self.view_is c.requires.ready.running.runs).stands.book in
           let p = ap (λ (s : Standing). s.params.swap_blocks) c.self.view_is in
           let long : (image : SwapImage) → (g.D.SwapDev.image c.args.swap.now) ≡ Some image → 512 * t.book.size ≤ length image.bytes =
           λ image i. let m = g.met.D.SwapDev.whole c.args.swap.now image i in omega arith in
-          z.says (λ (k l : Kernel). TextFits images k.place → StandsTold k images (g.D.SwapDev.image c.args.swap.now) flat → StandsTold l images (g.D.SwapDev.image c.complete_oldest.new.swap) flat)
-          (λ fits. done_keeps t (images_of t) b e.oldest n e.rest t.book.size (g.F.Files.holds c.args.files.now) (g.D.SwapDev.image c.args.swap.now)
+          stands_beside _ images (g.D.SwapDev.image c.complete_oldest.new.swap) flat (g.F.Files.notes c.complete_oldest.new.files)
+          (z.says (λ (k l : Kernel). TextFits images k.place → StandsTold k images (g.D.SwapDev.image c.args.swap.now) flat → StandsTold l images (g.D.SwapDev.image c.complete_oldest.new.swap) flat)
+          (λ now_fits. done_keeps t (images_of t) b e.oldest n e.rest t.book.size (g.F.Files.holds c.args.files.now) (g.D.SwapDev.image c.args.swap.now)
           (g.D.SwapDev.image c.complete_oldest.new.swap) images flat f e.ends r.sound files
-          (subst (λ (s : Standing). AreImages s.images (g.F.Files.holds c.args.files.now) images) (sym c.self.view_is) loads) c.look.ensures fits long);
-      swapped = subst (λ (s : Standing). ImageAfter s.kernel (g.D.SwapDev.image c.args.swap.now) (g.D.SwapDev.image c.complete_oldest.new.swap)) c.self.view_is (done_image t (images_of t) b e.oldest
-          c.in-Done.transfer e.rest t.book.size (g.F.Files.holds c.args.files.now) (g.D.SwapDev.image c.args.swap.now) (g.D.SwapDev.image c.complete_oldest.new.swap) f e.ends);
+          (subst (λ (s : Standing). AreImages s.images (g.F.Files.holds c.args.files.now) images) (sym c.self.view_is) loads) c.look.ensures now_fits long)
+          fits (stands_alone c.args.self.now.kernel images (g.D.SwapDev.image c.args.swap.now) flat (g.F.Files.notes c.args.files.now) stood));
+      swapped = done_beside (files_named c.args.self.now.images) c.args.self.now.kernel (g.D.SwapDev.image c.args.swap.now) (g.D.SwapDev.image c.complete_oldest.new.swap)
+          (g.F.Files.notes c.args.files.now) (g.F.Files.notes c.complete_oldest.new.files)
+          (subst (λ (s : Standing). SwapDone s.kernel (g.D.SwapDev.image c.args.swap.now) (g.D.SwapDev.image c.complete_oldest.new.swap)) c.self.view_is (done_image t (images_of t) b e.oldest
+          c.in-Done.transfer e.rest t.book.size (g.F.Files.holds c.args.files.now) (g.D.SwapDev.image c.args.swap.now) (g.D.SwapDev.image c.complete_oldest.new.swap) f e.ends))
+          noted;
       spoiled = search rules;
+      noted = noted;
       stop = search rules;
       cause = search rules;
       lost = search rules;
@@ -144,8 +164,12 @@ returns-in-SwapWriteFault-clause-spoiled g c =
     (answers.SwapWriteFault c.in-SwapWriteFault.transfer) c.in-SwapWriteFault.ensures.ends (λ i. let x = i in cc) in
     let b : Kernel = kernel_by t c.self.inside.journal.items c.self.inside.stopped in
     let f = before c.self.inside c.args.self.now e.oldest e.rest c.self.invariant c.self.view_is c.requires.ready c.frames-frames.ensures.sound e.ring_is in
-    subst (λ (s : Standing). SpoilsAfter s.kernel (g.D.SwapDev.image c.args.swap.now) (g.D.SwapDev.image c.complete_oldest.new.swap)) c.self.view_is (spoiled_image t (images_of t) b e.oldest
-    c.in-SwapWriteFault.transfer e.rest t.book.size (g.F.Files.holds c.args.files.now) (g.D.SwapDev.image c.args.swap.now) (g.D.SwapDev.image c.complete_oldest.new.swap) f e.ends)
+    spoiled_beside c.args.self.now.kernel (g.D.SwapDev.image c.args.swap.now) (g.D.SwapDev.image c.complete_oldest.new.swap) (g.F.Files.notes c.args.files.now)
+    (g.F.Files.notes c.complete_oldest.new.files)
+    (subst (λ (s : Standing). SpoilsAfter s.kernel (g.D.SwapDev.image c.args.swap.now) (g.D.SwapDev.image c.complete_oldest.new.swap)) c.self.view_is (spoiled_image t (images_of t) b e.oldest
+    c.in-SwapWriteFault.transfer e.rest t.book.size (g.F.Files.holds c.args.files.now) (g.D.SwapDev.image c.args.swap.now) (g.D.SwapDev.image c.complete_oldest.new.swap) f e.ends))
+    (write_notes t (images_of t) b e.oldest c.in-SwapWriteFault.transfer e.rest t.book.size (g.F.Files.notes c.args.files.now) (g.F.Files.notes c.complete_oldest.new.files)
+    (oldest_notes t.ring e.oldest e.rest _ _ _ e.ring_is c.in-SwapWriteFault.ensures.notes))
 
 pub returns-in-FileFault-clause-spoiled : goal.returns-in-FileFault-clause-spoiled
 returns-in-FileFault-clause-spoiled g c =
@@ -156,10 +180,21 @@ returns-in-FileFault-clause-spoiled g c =
     (answers.FileFault c.in-FileFault.transfer) c.in-FileFault.ensures.ends (λ i. let x = i in cc) in
     let b : Kernel = kernel_by t c.self.inside.journal.items c.self.inside.stopped in
     let f = before c.self.inside c.args.self.now e.oldest e.rest c.self.invariant c.self.view_is c.requires.ready c.frames-frames.ensures.sound e.ring_is in
-    unasked_image t (images_of t) b e.oldest c.in-FileFault.transfer e.rest t.book.size (g.F.Files.holds c.args.files.now) (g.D.SwapDev.image c.args.swap.now)
+    filled_beside (files_named c.args.self.now.images) c.args.self.now.kernel (g.D.SwapDev.image c.args.swap.now) (g.D.SwapDev.image c.complete_oldest.new.swap)
+    (g.F.Files.notes c.args.files.now) (g.F.Files.notes c.complete_oldest.new.files)
+    (subst (λ (s : Standing). OldestReadsFrom FromFile s.kernel.place.transfers) c.self.view_is
+    (file_failed (images_of t) (image_at t) (before_of t) t.book.size t.ring c.in-FileFault.transfer (g.F.Files.holds c.args.files.now) (g.D.SwapDev.image c.args.swap.now)
+    (g.D.SwapDev.image c.complete_oldest.new.swap) now.stands.ring c.in-FileFault.ensures.ends))
+    (unasked_image t (images_of t) b e.oldest c.in-FileFault.transfer e.rest t.book.size (g.F.Files.holds c.args.files.now) (g.D.SwapDev.image c.args.swap.now)
     (g.D.SwapDev.image c.complete_oldest.new.swap) f
     (file_failed (images_of t) (image_at t) (before_of t) t.book.size t.ring c.in-FileFault.transfer (g.F.Files.holds c.args.files.now) (g.D.SwapDev.image c.args.swap.now)
-    (g.D.SwapDev.image c.complete_oldest.new.swap) now.stands.ring c.in-FileFault.ensures.ends) e.ends
+    (g.D.SwapDev.image c.complete_oldest.new.swap) now.stands.ring c.in-FileFault.ensures.ends) e.ends)
+    (subst (λ (s : Standing). OldestAskedUpTo (files_named s.images) (image_of s.kernel.place) s.kernel.place.transfers (g.F.Files.notes c.args.files.now)
+    (g.F.Files.notes c.complete_oldest.new.files)) c.self.view_is
+    (file_notes t (images_of t) b e.oldest c.in-FileFault.transfer e.rest t.book.size (g.F.Files.notes c.args.files.now) (g.F.Files.notes c.complete_oldest.new.files) f
+    (file_failed (images_of t) (image_at t) (before_of t) t.book.size t.ring c.in-FileFault.transfer (g.F.Files.holds c.args.files.now)
+    (g.D.SwapDev.image c.args.swap.now) (g.D.SwapDev.image c.complete_oldest.new.swap) now.stands.ring c.in-FileFault.ensures.ends)
+    (oldest_notes t.ring e.oldest e.rest _ _ _ e.ring_is c.in-FileFault.ensures.notes)))
 
 pub returns-in-SwapReadFault-clause-spoiled : goal.returns-in-SwapReadFault-clause-spoiled
 returns-in-SwapReadFault-clause-spoiled g c =
@@ -170,11 +205,20 @@ returns-in-SwapReadFault-clause-spoiled g c =
     (answers.SwapReadFault c.in-SwapReadFault.transfer) c.in-SwapReadFault.ensures.ends (λ i. let x = i in cc) in
     let b : Kernel = kernel_by t c.self.inside.journal.items c.self.inside.stopped in
     let f = before c.self.inside c.args.self.now e.oldest e.rest c.self.invariant c.self.view_is c.requires.ready c.frames-frames.ensures.sound e.ring_is in
-    subst (λ (s : Standing). AskedAfter s.kernel (g.D.SwapDev.image c.args.swap.now) (g.D.SwapDev.image c.complete_oldest.new.swap)) c.self.view_is
+    asked_beside (files_named c.args.self.now.images) c.args.self.now.kernel (g.D.SwapDev.image c.args.swap.now) (g.D.SwapDev.image c.complete_oldest.new.swap)
+    (g.F.Files.notes c.args.files.now) (g.F.Files.notes c.complete_oldest.new.files)
+    (subst (λ (s : Standing). OldestReadsFrom FromSwap s.kernel.place.transfers) c.self.view_is
+    (swap_read_failed (images_of t) (image_at t) (before_of t) t.book.size t.ring c.in-SwapReadFault.transfer (g.F.Files.holds c.args.files.now) (g.D.SwapDev.image c.args.swap.now)
+    (g.D.SwapDev.image c.complete_oldest.new.swap) now.stands.ring c.in-SwapReadFault.ensures.ends))
+    (subst (λ (s : Standing). SwapAskedAfter s.kernel (g.D.SwapDev.image c.args.swap.now) (g.D.SwapDev.image c.complete_oldest.new.swap)) c.self.view_is
     (asked_image t (images_of t) b e.oldest c.in-SwapReadFault.transfer e.rest t.book.size (g.F.Files.holds c.args.files.now) (g.D.SwapDev.image c.args.swap.now)
     (g.D.SwapDev.image c.complete_oldest.new.swap) f
     (swap_read_failed (images_of t) (image_at t) (before_of t) t.book.size t.ring c.in-SwapReadFault.transfer (g.F.Files.holds c.args.files.now) (g.D.SwapDev.image c.args.swap.now)
-    (g.D.SwapDev.image c.complete_oldest.new.swap) now.stands.ring c.in-SwapReadFault.ensures.ends) e.ends)
+    (g.D.SwapDev.image c.complete_oldest.new.swap) now.stands.ring c.in-SwapReadFault.ensures.ends) e.ends))
+    (swap_notes t (images_of t) b e.oldest c.in-SwapReadFault.transfer e.rest t.book.size (g.F.Files.notes c.args.files.now) (g.F.Files.notes c.complete_oldest.new.files) f
+    (swap_read_failed (images_of t) (image_at t) (before_of t) t.book.size t.ring c.in-SwapReadFault.transfer (g.F.Files.holds c.args.files.now)
+    (g.D.SwapDev.image c.args.swap.now) (g.D.SwapDev.image c.complete_oldest.new.swap) now.stands.ring c.in-SwapReadFault.ensures.ends)
+    (oldest_notes t.ring e.oldest e.rest _ _ _ e.ring_is c.in-SwapReadFault.ensures.notes))
 
 pub returns-in-FileFault-clause-cause : goal.returns-in-FileFault-clause-cause
 returns-in-FileFault-clause-cause g c =
@@ -221,3 +265,43 @@ returns-in-SwapWriteFault-clause-lost g c =
     lost c.self.inside c.complete_oldest.new.self e.rest e.oldest c.args.self.now c.make_room.new.journal.items c.lose-in-SwapWriteFault.new.stopped _ e.ring_is c.in-SwapWriteFault.ensures.rest
     (known_now c.self.inside c.args.self.now c.self.invariant c.self.view_is c.requires.ready c.frames-frames.ensures.sound) c.self.view_is
     c.make_room.ensures.same c.lose-in-SwapWriteFault.ensures
+
+pub returns-in-FileFault-clause-noted : goal.returns-in-FileFault-clause-noted
+returns-in-FileFault-clause-noted g c =
+    let t : Tables = c.self.inside.tables in
+    let now = stands_now c.self.inside c.args.self.now c.self.invariant c.self.view_is c.requires.ready.running.runs in
+    let e : Came t.ring (g.F.Files.holds c.args.files.now) (g.D.SwapDev.image c.args.swap.now) (g.D.SwapDev.image c.complete_oldest.new.swap) (answers.FileFault c.in-FileFault.transfer) =
+    came t.ring (g.F.Files.holds c.args.files.now) (g.D.SwapDev.image c.args.swap.now) (g.D.SwapDev.image c.complete_oldest.new.swap)
+    (answers.FileFault c.in-FileFault.transfer) c.in-FileFault.ensures.ends (λ i. let x = i in cc) in
+    let b : Kernel = kernel_by t c.self.inside.journal.items c.self.inside.stopped in
+    let f = before c.self.inside c.args.self.now e.oldest e.rest c.self.invariant c.self.view_is c.requires.ready c.frames-frames.ensures.sound e.ring_is in
+    subst (λ (s : Standing). OldestAskedUpTo (files_named s.images) (image_of s.kernel.place) s.kernel.place.transfers (g.F.Files.notes c.args.files.now)
+    (g.F.Files.notes c.complete_oldest.new.files)) c.self.view_is
+    (file_notes t (images_of t) b e.oldest c.in-FileFault.transfer e.rest t.book.size (g.F.Files.notes c.args.files.now) (g.F.Files.notes c.complete_oldest.new.files) f
+    (file_failed (images_of t) (image_at t) (before_of t) t.book.size t.ring c.in-FileFault.transfer (g.F.Files.holds c.args.files.now)
+    (g.D.SwapDev.image c.args.swap.now) (g.D.SwapDev.image c.complete_oldest.new.swap) now.stands.ring c.in-FileFault.ensures.ends)
+    (oldest_notes t.ring e.oldest e.rest _ _ _ e.ring_is c.in-FileFault.ensures.notes))
+
+pub returns-in-SwapReadFault-clause-noted : goal.returns-in-SwapReadFault-clause-noted
+returns-in-SwapReadFault-clause-noted g c =
+    let t : Tables = c.self.inside.tables in
+    let now = stands_now c.self.inside c.args.self.now c.self.invariant c.self.view_is c.requires.ready.running.runs in
+    let e : Came t.ring (g.F.Files.holds c.args.files.now) (g.D.SwapDev.image c.args.swap.now) (g.D.SwapDev.image c.complete_oldest.new.swap) (answers.SwapReadFault c.in-SwapReadFault.transfer) =
+    came t.ring (g.F.Files.holds c.args.files.now) (g.D.SwapDev.image c.args.swap.now) (g.D.SwapDev.image c.complete_oldest.new.swap)
+    (answers.SwapReadFault c.in-SwapReadFault.transfer) c.in-SwapReadFault.ensures.ends (λ i. let x = i in cc) in
+    let b : Kernel = kernel_by t c.self.inside.journal.items c.self.inside.stopped in
+    let f = before c.self.inside c.args.self.now e.oldest e.rest c.self.invariant c.self.view_is c.requires.ready c.frames-frames.ensures.sound e.ring_is in
+    swap_notes t (images_of t) b e.oldest c.in-SwapReadFault.transfer e.rest t.book.size (g.F.Files.notes c.args.files.now) (g.F.Files.notes c.complete_oldest.new.files) f
+    (swap_read_failed (images_of t) (image_at t) (before_of t) t.book.size t.ring c.in-SwapReadFault.transfer (g.F.Files.holds c.args.files.now)
+    (g.D.SwapDev.image c.args.swap.now) (g.D.SwapDev.image c.complete_oldest.new.swap) now.stands.ring c.in-SwapReadFault.ensures.ends)
+    (oldest_notes t.ring e.oldest e.rest _ _ _ e.ring_is c.in-SwapReadFault.ensures.notes)
+
+pub returns-in-SwapWriteFault-clause-noted : goal.returns-in-SwapWriteFault-clause-noted
+returns-in-SwapWriteFault-clause-noted g c =
+    let t : Tables = c.self.inside.tables in
+    let e : Came t.ring (g.F.Files.holds c.args.files.now) (g.D.SwapDev.image c.args.swap.now) (g.D.SwapDev.image c.complete_oldest.new.swap) (answers.SwapWriteFault c.in-SwapWriteFault.transfer) =
+    came t.ring (g.F.Files.holds c.args.files.now) (g.D.SwapDev.image c.args.swap.now) (g.D.SwapDev.image c.complete_oldest.new.swap)
+    (answers.SwapWriteFault c.in-SwapWriteFault.transfer) c.in-SwapWriteFault.ensures.ends (λ i. let x = i in cc) in
+    let b : Kernel = kernel_by t c.self.inside.journal.items c.self.inside.stopped in
+    write_notes t (images_of t) b e.oldest c.in-SwapWriteFault.transfer e.rest t.book.size (g.F.Files.notes c.args.files.now) (g.F.Files.notes c.complete_oldest.new.files)
+    (oldest_notes t.ring e.oldest e.rest _ _ _ e.ring_is c.in-SwapWriteFault.ensures.notes)

@@ -1,3 +1,4 @@
+use Rattle.io_edge.specs.WithFiles.{stores}
 use Rattle.std.proofs.Common.{sym, subst, arith}
 use Rattle.vm_core.specs.Cores.{Underway, StandsUnderway, LineDueAt, LineTaken}
 use Rattle.vm_core.specs.Accounts.{StopsAccountedFrom}
@@ -13,7 +14,7 @@ returns-in_err-note-clause-stops g c =
     let old : Underway = record { machine = c.self.inside.machine; counted = c.self.inside.counted } in
     let after : Underway = record { machine = c.note.new.m; counted = c.self.inside.counted } in
     let holds = g.F.Files.holds c.args.files.now in
-    let i = g.D.SwapDev.image c.args.swap.now in
+    let i = stores g.F.Files g.D.SwapDev c.args.files.now c.args.swap.now in
     stops_on c.from_residual.result c.in_err-note.field-0.0 (StopsAccountedFrom (LineDueAt c.args.self.now c.args.line c.args.e holds i) c.args.self.now.machine after.machine i)
     c.from_residual.ensures.1
     (subst (λ (u : Underway). StopsAccountedFrom (LineDueAt u c.args.line c.args.e holds i) u.machine after.machine i c.in_err-note.field-0.0) c.self.view_is
@@ -29,8 +30,8 @@ returns-in_err-self-inside-clause-stops g c =
     let old : Underway = record { machine = c.self.inside.machine; counted = c.self.inside.counted } in
     let after : Underway = record { machine = c.carry_out.new.m; counted = c.self.inside.counted } in
     let holds = g.F.Files.holds c.args.files.now in
-    let i = g.D.SwapDev.image c.args.swap.now in
-    let j = g.D.SwapDev.image c.carry_out.new.swap in
+    let i = stores g.F.Files g.D.SwapDev c.args.files.now c.args.swap.now in
+    let j = stores g.F.Files g.D.SwapDev c.carry_out.new.files c.carry_out.new.swap in
     stops_on c.from_residual-in_err-self-inside.result c.in_err-self-inside.field-0.0
     (StopsAccountedFrom (LineDueAt c.args.self.now c.args.line c.args.e holds i) c.args.self.now.machine after.machine j) c.from_residual-in_err-self-inside.ensures.1
     (subst (λ (u : Underway). StopsAccountedFrom (LineDueAt u c.args.line c.args.e holds i) u.machine after.machine j c.in_err-self-inside.field-0.0) c.self.view_is
@@ -42,8 +43,8 @@ returns-then-is_over-clause-takes g c =
     let old : Underway = record { machine = c.self.inside.machine; counted = c.self.inside.counted } in
     let after : Underway = record { machine = c.carry_out.new.m; counted = c.in_ok-self-inside.field-0 } in
     let holds = g.F.Files.holds c.args.files.now in
-    let i = g.D.SwapDev.image c.args.swap.now in
-    let j = g.D.SwapDev.image c.carry_out.new.swap in
+    let i = stores g.F.Files g.D.SwapDev c.args.files.now c.args.swap.now in
+    let j = stores g.F.Files g.D.SwapDev c.carry_out.new.files c.carry_out.new.swap in
     subst (λ (u : Underway). LeadsFrom (LineDueAt u c.args.line c.args.e holds i) (LineTaken u after holds j)) c.self.view_is
     (takes_line old c.note.new.m c.carry_out.new.m holds i j c.args.line c.in_ok-self-inside.field-0 c.args.e c.in_ok-note.ensures.steady c.in_ok-note.ensures.step
     c.in_ok-self-inside.ensures.done c.in_ok-self-inside.ensures.counts)
@@ -53,8 +54,8 @@ returns-else-is_over-clause-takes g c =
     let old : Underway = record { machine = c.self.inside.machine; counted = c.self.inside.counted } in
     let after : Underway = record { machine = c.carry_out.new.m; counted = c.in_ok-self-inside.field-0 } in
     let holds = g.F.Files.holds c.args.files.now in
-    let i = g.D.SwapDev.image c.args.swap.now in
-    let j = g.D.SwapDev.image c.carry_out.new.swap in
+    let i = stores g.F.Files g.D.SwapDev c.args.files.now c.args.swap.now in
+    let j = stores g.F.Files g.D.SwapDev c.carry_out.new.files c.carry_out.new.swap in
     subst (λ (u : Underway). LeadsFrom (LineDueAt u c.args.line c.args.e holds i) (LineTaken u after holds j)) c.self.view_is
     (takes_line old c.note.new.m c.carry_out.new.m holds i j c.args.line c.in_ok-self-inside.field-0 c.args.e c.in_ok-note.ensures.steady c.in_ok-note.ensures.step
     c.in_ok-self-inside.ensures.done c.in_ok-self-inside.ensures.counts)
