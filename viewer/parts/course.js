@@ -11,6 +11,7 @@ const FAULT_KINDS = [
 // The rows of events below: a name, and the letters that `eventOf` gives.
 const TRACKS = [
   ["hands", "H"],
+  ["replacement", "EWF"],
   ["out and in", "POI"],
   ["calls", "c"],
   ["output", "o"],

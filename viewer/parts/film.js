@@ -62,6 +62,7 @@ function readFilm(given) {
   stateOf(film, film.steps.length - 1);
   film.widest = 7;
   for (const [, page] of text.matchAll(/^frame \d+ .*?([dsx] \d+ \d+)/gm)) film.widest = Math.max(film.widest, page.length);
+  // a trace that was judged has no limit, and there stands a `-`
   film.limit = Number(film.words.split(" ")[2]) || 0;
   film.writes = film.steps.flatMap((step, index) => (/^o \d{1,10} [0-9a-f]+$/.test(step.line) ? [{ index, ...writeOf(step.line) }] : []));
   film.earlier = [];
@@ -115,7 +116,7 @@ const FAULTS = "ZGCR";
 
 // Whether a write to swap began with a step.
 function beganWrite(film, index) {
-  if (index === 0 || !"HP".includes(film.steps[index].line[0])) return false;
+  if (index === 0 || !"HPW".includes(film.steps[index].line[0])) return false;
   const writes = (step) => (film.text.slice(step.from, step.to).match(/^transfer \d+ write$/gm) || []).length;
   return writes(film.steps[index]) > writes(film.steps[index - 1]);
 }

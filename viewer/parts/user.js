@@ -52,7 +52,8 @@ function choose(frame) {
 // The kinds of steps that can be sought, with their names.
 const SOUGHT = {
   fault: ["fault", (index) => film.read.steps[index].line !== "" && FAULTS.includes(film.read.steps[index].line[0])],
-  hands: ["move of the hands", (index) => film.read.steps[index].line.startsWith("H ")],
+  // a kernel without hands tells the parts of their moves
+  hands: ["move of the hands", (index) => /^[HEWF] /.test(film.read.steps[index].line)],
   write: ["write", (index) => beganWrite(film.read, index)],
   process: ["entry of this process", (index) => processOf(film.read, index) === Number(at("process").value)],
 };

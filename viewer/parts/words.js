@@ -138,12 +138,13 @@ function endedWords(pid, status) {
   return `Process ${pid} ${how}.`;
 }
 
-// Why a run is over: each process has ended, or as many instructions ran as may run.
+// Why a run is over: each process has ended, or as many instructions ran as may run; a trace ends where its kernel stopped telling.
 function overWords(processes, limit) {
   const left = processes.filter(({ kind }) => kind !== "ended").map(({ pid }) => pid);
   if (left.length === 0) return "The run is over: each process has ended.";
   const names = `${left.length === 1 ? "process" : "processes"} ${listed(left)}`;
-  return `The run was cut by its limit of ${number(limit)} instructions: ${names} ${left.length === 1 ? "hasn't" : "haven't"} ended.`;
+  const cut = limit > 0 ? `The run was cut by its limit of ${number(limit)} instructions` : "The trace ends here";
+  return `${cut}: ${names} ${left.length === 1 ? "hasn't" : "haven't"} ended.`;
 }
 
 // The characters that bytes stand for, of pairs of hexadecimal digits. A byte that is no character of ASCII is told by its number, and a
