@@ -11,7 +11,7 @@ const FAULT_KINDS = [
 // The rows of events below: a name, and the letters that `eventOf` gives.
 const TRACKS = [
   ["hands", "H"],
-  ["replacement", "EWF"],
+  ["evictions", "EWF"],
   ["out and in", "POI"],
   ["calls", "c"],
   ["output", "o"],
