@@ -1,5 +1,5 @@
 -- Units of serving, and calls of them, one after another.
-use Rattle.std.proofs.Common.{◌≡◌, ◌↔◌, ◌⊎◌, ℕ, ◌+◌, ◌<◌, ◌≤◌, Bool, true, false, List, [], ◌∷◌, ◌++◌, length, Option, Some, None, Result, Ok, Err, MatchResult, OnOk, OnErr, refl, sym, ap, ◌∙◌, subst, arith}
+use Rattle.std.proofs.Common.{◌≡◌, ◌↔◌, ◌⊎◌, ℕ, ◌+◌, ◌<◌, ◌≤◌, Bool, true, false, List, [], ◌∷◌, ◌++◌, length, Option, Some, None, Result, Ok, Err, MatchResult, refl, sym, ap, ◌∙◌, subst, arith}
 use Rattle.std.proofs.lemmas.List.{length_push}
 use Rattle.vm_facts.specs.SwapImages.{SwapImage}
 use Rattle.vm_facts.specs.declared.page.Page.{Page}
@@ -23,6 +23,7 @@ use Rattle.machine_state.specs.Sourced.{ImageNamed, files_named}
 use Rattle.machine_state.specs.Files.{AreFiles}
 use Rattle.machine_state.specs.Conditions.{HasStopped, KeepsFlat}
 use Rattle.machine_state.specs.Settled.{IsSameBeside}
+use Rattle.machine_state.specs.Performing.{IsAtBound, Performs, StopsForRoom}
 use Rattle.clock_hands.specs.Made.{Ground, ground, MadeBy, ImageBy}
 use Rattle.clock_hands.specs.Stops.{CauseBy, SpoilsBy}
 use Rattle.clock_hands.proofs.Stopping.{held_here, next_later, stops_at_first}
@@ -120,16 +121,16 @@ get_calls q lo n = record { told = λ files k i. refl; causes = λ s ts h. h; sp
 pub reclaim_calls : (q : Page) → CallsNone (entries.Reclaim q)
 reclaim_calls q = record { told = λ files k i. refl; causes = λ s ts h. h; spoils = λ files s k i. refl; longer = λ j. refl }
 
-pub plain_either : {A S : Type 0} (r : Result A Stop) (q : Page) (e : Entry) (old new : Standing) → CallsNone e
+pub plain_either : {Alike : Kernel → Kernel → Type 0} (r : Result (Unit {0}) Stop) (q : Page) (e : Entry) (old new : Standing) (stepped : Kernel)
+    → Performs stepped Alike r old new → StopsForRoom (IsAtBound old) r old new → old.before ≡ old.kernel.holdings → CallsNone e
     → ((now : Bool) → serve_unit old.kernel.place q now ≡ Some e)
-    → (S → (g : Ground) (i : Option SwapImage) → MadeBy g e old.kernel i new.kernel)
-    → OnOk r S → OnOk r (new ≡ record old { kernel = new.kernel; room = None }) → OnOk r (KeepsFlat old.kernel new.kernel)
-    → OnErr r (HasStopped old new) → old.before ≡ old.kernel.holdings → OnErr r ((r ≡ Err stops.JournalFull) ⊎ (r ≡ Err stops.NoMemory))
-    → ((r ≡ Err stops.JournalFull) ↔ (old.params.journal ≤ length old.kernel.journal)) → MatchResult r (λ (u : A). PlainMade q old new) (PlainStop q old new)
-plain_either (Ok x) q e old new calls next made step rest keeps stopped whole cause full =
-    plain_made q e old new next (made step) (calls.told (files_named old.images) old.kernel) rest keeps
-plain_either {A} (Err s) q e old new calls next made step rest keeps stopped whole cause full =
-    plain_stops {A = A} q e old new s next calls.causes (calls.spoils (files_named new.images) s old.kernel) (calls.longer old.kernel.journal) stopped whole cause full
+    → (new.kernel ≡ stepped → (g : Ground) (i : Option SwapImage) → MadeBy g e old.kernel i new.kernel)
+    → MatchResult r (λ (u : Unit {0}). PlainMade q old new) (PlainStop q old new)
+plain_either (Ok x) q e old new stepped p s whole calls next made =
+    plain_made q e old new next (made p.step) (calls.told (files_named old.images) old.kernel) p.rest p.keeps
+plain_either (Err stop) q e old new stepped p s whole calls next made =
+    plain_stops {A = Unit {0}} q e old new stop next calls.causes (calls.spoils (files_named new.images) stop old.kernel) (calls.longer old.kernel.journal)
+    s.stop whole s.cause s.full
 
 -- The end of a transfer, where it is the next unit.
 

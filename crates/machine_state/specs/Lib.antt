@@ -34,3 +34,4 @@ pub mod UserMemoryLaws
 pub mod Outside
 pub mod FilesAsked
 pub mod Going
+pub mod Performing

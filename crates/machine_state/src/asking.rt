@@ -1,6 +1,7 @@
 //! Requests for pieces of swap space.
 ghost use Rattle.machine_state.specs.Going.{CanGoOn, IsRunning};
-ghost use Rattle.std.specs.Prelude.{◌≡◌, ◌⊎◌, ◌<◌, ◌≤◌, ◌↔◌, true, false, length, None, IfOk, OnOk, OnErr, Ok, Err};
+ghost use Rattle.machine_state.specs.Performing.{IsAtBound, StopsForRoom};
+ghost use Rattle.std.specs.Prelude.{◌≡◌, ◌<◌, true, false, length, None, IfOk, OnOk, OnErr, Ok, Err};
 ghost use Rattle.vm_facts.specs.declared.entry.Entry.TheVariants.{Refused};
 ghost use Rattle.swap_book.specs.Holdings.{Holdings};
 ghost use Rattle.kernel_model.specs.Kernel.{note_step};
@@ -38,9 +39,7 @@ impl Machine {
         ensures refused { result ≡ Ok false → self.new ≡ record self.old { kernel = note_step self.old.kernel (Refused pid); room = None } }
         ensures keeps { result ≡ Ok false → KeepsFlat self.old.kernel self.new.kernel }
         ensures same { result ≡ Ok false → SameEverywhere self.old.kernel self.new.kernel }
-        ensures stop { OnErr result (HasStopped self.old self.new) }
-        ensures cause { OnErr result ((result ≡ Err Stop.JournalFull) ⊎ (result ≡ Err Stop.NoMemory)) }
-        ensures full { (result ≡ Err Stop.JournalFull) ↔ (self.old.params.journal ≤ length self.old.kernel.journal) }
+        ensures stops { StopsForRoom (IsAtBound self.old) result self.old self.new }
         ensures has_room { OnOk result (length self.old.kernel.journal < self.old.params.journal) }
         ensures running { result ≡ Ok true → IsRunning self.new }
         ensures goes_on { result ≡ Ok false → CanGoOn self.new }

@@ -1,6 +1,7 @@
 //! Entries of processes, and those that change nothing.
 ghost use Rattle.machine_state.specs.Going.{CanGoOn, IsRunning};
-ghost use Rattle.std.specs.Prelude.{◌≡◌, ◌⊎◌, ℕ, ◌+◌, ◌<◌, ◌≤◌, ◌↔◌, ◌^◌, ◌∷◌, ◌++◌, [], List, true, false, length, Some, None, IsSome, IfOk, OnOk, OnErr, Ok, Err};
+ghost use Rattle.machine_state.specs.Performing.{IsAtBound, Performs, StopsForRoom};
+ghost use Rattle.std.specs.Prelude.{◌≡◌, ℕ, ◌+◌, ◌<◌, ◌≤◌, ◌^◌, ◌∷◌, ◌++◌, [], List, true, false, length, Some, None, IsSome, IfOk, OnOk, Ok};
 ghost use Rattle.vm_facts.specs.declared.entry.Entry.{Entry as Line};
 ghost use Rattle.vm_facts.specs.declared.entry.Entry.TheVariants.{Ran};
 ghost use Rattle.flat_state.specs.declared.change.Change.TheVariants.{Keep};
@@ -9,7 +10,7 @@ ghost use Rattle.kernel_model.specs.ChangeStep.{change_step, pass_step, ran_by};
 ghost use Rattle.kernel_model.specs.Sound.{lives};
 ghost use Rattle.table_steps.specs.Applying.{CanApply, ChangesWhole, MayPass, facts_named};
 ghost use Rattle.table_steps.specs.Calls.{IsNote, life_in};
-ghost use Rattle.table_steps.specs.Conditions.{HasStopped, KeepsFlat, ChangesFlat, SameEverywhere};
+ghost use Rattle.table_steps.specs.Conditions.{ChangesFlat, SameEverywhere};
 ghost use Rattle.table_steps.specs.Joined.{instructions_in, last_says, IsFullFor};
 ghost use Rattle.table_steps.specs.UserMemory.{CanLend};
 
@@ -23,14 +24,8 @@ impl Machine {
     pub fn note(&mut self, e: Entry) -> Result<(), Stop>
         requires ready { CanGoOn self.old }
         requires note { IsNote e }
-        ensures step { OnOk result (self.new.kernel ≡ note_step self.old.kernel e) }
-        ensures rest { OnOk result (self.new ≡ record self.old { kernel = self.new.kernel; room = None }) }
-        ensures keeps { OnOk result (KeepsFlat self.old.kernel self.new.kernel) }
-        ensures same { OnOk result (SameEverywhere self.old.kernel self.new.kernel) }
-        ensures stop { OnErr result (HasStopped self.old self.new) }
-        ensures cause { OnErr result ((result ≡ Err Stop.JournalFull) ⊎ (result ≡ Err Stop.NoMemory)) }
-        ensures full { (result ≡ Err Stop.JournalFull) ↔ (self.old.params.journal ≤ length self.old.kernel.journal) }
-        ensures goes_on { OnOk result (CanGoOn self.new) }
+        ensures performs { Performs (note_step self.old.kernel e) SameEverywhere result self.old self.new }
+        ensures stops { StopsForRoom (IsAtBound self.old) result self.old self.new }
     {
         notes::make_room(
             &mut self.journal,
@@ -56,9 +51,7 @@ impl Machine {
         requires ready { CanGoOn self.old }
         ensures ok { OnOk result (self.new ≡ self.old) }
         ensures has_room { OnOk result (length self.old.kernel.journal < self.old.params.journal) }
-        ensures stop { OnErr result (HasStopped self.old self.new) }
-        ensures cause { OnErr result ((result ≡ Err Stop.JournalFull) ⊎ (result ≡ Err Stop.NoMemory)) }
-        ensures full { (result ≡ Err Stop.JournalFull) ↔ (self.old.params.journal ≤ length self.old.kernel.journal) }
+        ensures stops { StopsForRoom (IsAtBound self.old) result self.old self.new }
         ensures goes_on { OnOk result (CanGoOn self.new) }
     {
         let room = self.room;
@@ -75,9 +68,7 @@ impl Machine {
     pub fn room(&mut self, pid: u32) -> Result<(), Stop>
         requires ready { CanGoOn self.old }
         ensures ok { OnOk result (self.new ≡ record self.old { room = Some pid }) }
-        ensures stop { OnErr result (HasStopped self.old self.new) }
-        ensures cause { OnErr result ((result ≡ Err Stop.JournalFull) ⊎ (result ≡ Err Stop.NoMemory)) }
-        ensures full { (result ≡ Err Stop.JournalFull) ↔ IsFullFor self.old.kernel.journal self.old.params.journal (Ran pid 1) }
+        ensures stops { StopsForRoom (IsFullFor self.old.kernel.journal self.old.params.journal (Ran pid 1)) result self.old self.new }
         ensures goes_on { OnOk result (CanGoOn self.new) }
     {
         joining::make_room_to_run(
@@ -131,9 +122,7 @@ impl Machine {
         ensures step { OnOk result (self.new.kernel ≡ change_step (facts_named self.old.images) self.old.kernel pid regs.now e change) }
         ensures rest { OnOk result (self.new ≡ record self.old { kernel = self.new.kernel; before = self.new.kernel.holdings; room = None }) }
         ensures keeps { OnOk result (ChangesWhole self.old self.new pid regs.now change) }
-        ensures stop { OnErr result (HasStopped self.old self.new) }
-        ensures cause { OnErr result ((result ≡ Err Stop.JournalFull) ⊎ (result ≡ Err Stop.NoMemory)) }
-        ensures full { (result ≡ Err Stop.JournalFull) ↔ (self.old.params.journal ≤ length self.old.kernel.journal) }
+        ensures stops { StopsForRoom (IsAtBound self.old) result self.old self.new }
         ensures goes_on { OnOk result (CanGoOn self.new) }
     {
         notes::make_room(

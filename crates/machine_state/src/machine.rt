@@ -1,6 +1,7 @@
 //! The machine and its steps.
 ghost use Rattle.io_edge.specs.WithFiles.{stores};
-ghost use Rattle.std.specs.Prelude.{◌≡◌, ◌⊎◌, ◌<◌, ◌≤◌, ◌↔◌, true, false, [], length, map, None, IfOk, OnOk, OnErr, IfErr, Ok, Err};
+ghost use Rattle.machine_state.specs.Performing.{IsAtBound, Performs, StopsForRoom};
+ghost use Rattle.std.specs.Prelude.{◌≡◌, ◌<◌, ◌≤◌, ◌↔◌, true, false, [], length, map, None, IfOk, OnOk, OnErr, IfErr, Ok, Err};
 ghost use Rattle.table_steps.specs.New.{fresh_kernel, AreSound};
 ghost use Rattle.kernel_model.specs.Kernel.{zero_step, get_step, reclaim_step};
 ghost use Rattle.page_model.specs.Dues.{DueStand};
@@ -16,7 +17,7 @@ ghost use Rattle.table_steps.specs.Settled.{SettledBy, IsSameBeside, StopsSettli
 ghost use Rattle.table_steps.specs.Files.{AreFiles};
 ghost use Rattle.table_steps.specs.Done.{sources, IsDone, KeepsThrough, ImageAfter, SwapAfter, StopsFor};
 ghost use Rattle.table_steps.specs.Failing.{LosesFor};
-ghost use Rattle.table_steps.specs.Conditions.{CanZero, CanBringIn, CanReclaim, HasStopped, KeepsFlat, SameElsewhere, SameEverywhere, SameOutside};
+ghost use Rattle.table_steps.specs.Conditions.{CanZero, CanBringIn, CanReclaim, HasStopped, SameElsewhere, SameEverywhere, SameOutside};
 ghost use Rattle.machine_state.specs.Outside.{stop_of, TransfersPages};
 ghost use Rattle.machine_state.specs.FilesAsked.{NotedAfter};
 
@@ -138,14 +139,8 @@ impl Machine {
     pub fn fill_zero(&mut self, page: Page) -> Result<(), Stop>
         requires ready { CanGoOn self.old }
         requires can { CanZero self.old.kernel.place page }
-        ensures step { OnOk result (self.new.kernel ≡ zero_step self.old.kernel page) }
-        ensures rest { OnOk result (self.new ≡ record self.old { kernel = self.new.kernel; room = None }) }
-        ensures keeps { OnOk result (KeepsFlat self.old.kernel self.new.kernel) }
-        ensures same { OnOk result (SameElsewhere self.old.kernel self.new.kernel page) }
-        ensures stop { OnErr result (HasStopped self.old self.new) }
-        ensures cause { OnErr result ((result ≡ Err Stop.JournalFull) ⊎ (result ≡ Err Stop.NoMemory)) }
-        ensures full { (result ≡ Err Stop.JournalFull) ↔ (self.old.params.journal ≤ length self.old.kernel.journal) }
-        ensures goes_on { OnOk result (CanGoOn self.new) }
+        ensures performs { Performs (zero_step self.old.kernel page) (λ k l. SameElsewhere k l page) result self.old self.new }
+        ensures stops { StopsForRoom (IsAtBound self.old) result self.old self.new }
     {
         notes::make_room(
             &mut self.journal,
@@ -165,14 +160,8 @@ impl Machine {
     pub fn reclaim(&mut self, page: Page) -> Result<(), Stop>
         requires ready { CanGoOn self.old }
         requires can { CanReclaim self.old.kernel.place page }
-        ensures step { OnOk result (self.new.kernel ≡ reclaim_step self.old.kernel page) }
-        ensures rest { OnOk result (self.new ≡ record self.old { kernel = self.new.kernel; room = None }) }
-        ensures keeps { OnOk result (KeepsFlat self.old.kernel self.new.kernel) }
-        ensures same { OnOk result (SameEverywhere self.old.kernel self.new.kernel) }
-        ensures stop { OnErr result (HasStopped self.old self.new) }
-        ensures cause { OnErr result ((result ≡ Err Stop.JournalFull) ⊎ (result ≡ Err Stop.NoMemory)) }
-        ensures full { (result ≡ Err Stop.JournalFull) ↔ (self.old.params.journal ≤ length self.old.kernel.journal) }
-        ensures goes_on { OnOk result (CanGoOn self.new) }
+        ensures performs { Performs (reclaim_step self.old.kernel page) SameEverywhere result self.old self.new }
+        ensures stops { StopsForRoom (IsAtBound self.old) result self.old self.new }
     {
         notes::make_room(
             &mut self.journal,
@@ -192,14 +181,8 @@ impl Machine {
     pub fn begin_get(&mut self, page: Page, lo: u32, n: u32) -> Result<(), Stop>
         requires ready { CanGoOn self.old }
         requires can { CanBringIn self.old.kernel.place page lo n }
-        ensures step { OnOk result (self.new.kernel ≡ get_step self.old.kernel page lo n) }
-        ensures rest { OnOk result (self.new ≡ record self.old { kernel = self.new.kernel; room = None }) }
-        ensures keeps { OnOk result (KeepsFlat self.old.kernel self.new.kernel) }
-        ensures same { OnOk result (SameOutside self.old.kernel self.new.kernel (pages_from page lo n)) }
-        ensures stop { OnErr result (HasStopped self.old self.new) }
-        ensures cause { OnErr result ((result ≡ Err Stop.JournalFull) ⊎ (result ≡ Err Stop.NoMemory)) }
-        ensures full { (result ≡ Err Stop.JournalFull) ↔ (self.old.params.journal ≤ length self.old.kernel.journal) }
-        ensures goes_on { OnOk result (CanGoOn self.new) }
+        ensures performs { Performs (get_step self.old.kernel page lo n) (λ k l. SameOutside k l (pages_from page lo n)) result self.old self.new }
+        ensures stops { StopsForRoom (IsAtBound self.old) result self.old self.new }
     {
         notes::make_room(
             &mut self.journal,

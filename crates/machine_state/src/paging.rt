@@ -1,13 +1,14 @@
 //! Copies of pages, writes that begin, and moves of the hands.
 ghost use Rattle.machine_state.specs.Going.{CanGoOn};
-ghost use Rattle.std.specs.Prelude.{◌≡◌, ◌⊎◌, ◌<◌, ◌≤◌, ◌↔◌, ◌+◌, ◌^◌, ◌∷◌, ◌++◌, [], ℕ, List, false, length, None, OnOk, OnErr, Err, IsTrue, cond};
+ghost use Rattle.machine_state.specs.Performing.{IsAtBound, Performs, StopsForRoom};
+ghost use Rattle.std.specs.Prelude.{◌≡◌, ◌<◌, ◌≤◌, ◌+◌, ◌^◌, ◌∷◌, ◌++◌, [], ℕ, List, false, length, IsTrue, cond};
 ghost use Rattle.vm_facts.specs.declared.entry.Entry.{Entry as Line};
 ghost use Rattle.vm_facts.specs.declared.page.Page.TheVariants.{Text as TextPage};
 ghost use Rattle.vm_facts.specs.declared.entry.Entry.TheVariants.{Hands};
 ghost use Rattle.kernel_model.specs.Kernel.{copy_step, push_step, hand_step};
 ghost use Rattle.core_map.specs.Slots.{slot_at, is_resident};
 ghost use Rattle.table_steps.specs.Calls.{CanCopy, CanPush, CanMove};
-ghost use Rattle.table_steps.specs.Conditions.{HasStopped, KeepsFlat, SameElsewhere, SameEverywhere};
+ghost use Rattle.table_steps.specs.Conditions.{SameElsewhere, SameEverywhere};
 ghost use Rattle.table_steps.specs.Joined.{IsFullFor};
 ghost use Rattle.table_steps.specs.Launches.{CopiedFrame};
 ghost use Rattle.table_steps.specs.KernelTablesShown.{entry_in, is_frame, frame_named};
@@ -51,14 +52,8 @@ impl Machine {
     pub fn copy(&mut self, child: Page, parent: Page) -> Result<(), Stop>
         requires ready { CanGoOn self.old }
         requires can { CanCopy self.old.kernel.place child parent }
-        ensures step { OnOk result (self.new.kernel ≡ copy_step self.old.kernel child) }
-        ensures rest { OnOk result (self.new ≡ record self.old { kernel = self.new.kernel; room = None }) }
-        ensures keeps { OnOk result (KeepsFlat self.old.kernel self.new.kernel) }
-        ensures same { OnOk result (SameElsewhere self.old.kernel self.new.kernel child) }
-        ensures stop { OnErr result (HasStopped self.old self.new) }
-        ensures cause { OnErr result ((result ≡ Err Stop.JournalFull) ⊎ (result ≡ Err Stop.NoMemory)) }
-        ensures full { (result ≡ Err Stop.JournalFull) ↔ (self.old.params.journal ≤ length self.old.kernel.journal) }
-        ensures goes_on { OnOk result (CanGoOn self.new) }
+        ensures performs { Performs (copy_step self.old.kernel child) (λ k l. SameElsewhere k l child) result self.old self.new }
+        ensures stops { StopsForRoom (IsAtBound self.old) result self.old self.new }
     {
         notes::make_room(
             &mut self.journal,
@@ -78,14 +73,8 @@ impl Machine {
     pub fn push(&mut self, lo: Page, n: u32) -> Result<(), Stop>
         requires ready { CanGoOn self.old }
         requires can { CanPush self.old.kernel.place lo n }
-        ensures step { OnOk result (self.new.kernel ≡ push_step self.old.kernel lo n) }
-        ensures rest { OnOk result (self.new ≡ record self.old { kernel = self.new.kernel; room = None }) }
-        ensures keeps { OnOk result (KeepsFlat self.old.kernel self.new.kernel) }
-        ensures same { OnOk result (SameEverywhere self.old.kernel self.new.kernel) }
-        ensures stop { OnErr result (HasStopped self.old self.new) }
-        ensures cause { OnErr result ((result ≡ Err Stop.JournalFull) ⊎ (result ≡ Err Stop.NoMemory)) }
-        ensures full { (result ≡ Err Stop.JournalFull) ↔ (self.old.params.journal ≤ length self.old.kernel.journal) }
-        ensures goes_on { OnOk result (CanGoOn self.new) }
+        ensures performs { Performs (push_step self.old.kernel lo n) SameEverywhere result self.old self.new }
+        ensures stops { StopsForRoom (IsAtBound self.old) result self.old self.new }
     {
         notes::make_room(
             &mut self.journal,
@@ -106,14 +95,8 @@ impl Machine {
         requires ready { CanGoOn self.old }
         requires can { CanMove self.old.kernel.place locked.now lo n }
         requires fits { (count : ℕ) (before : List Line) → self.old.kernel.journal ≡ before ++ Hands count ∷ [] → count + 1 < 2 ^ 32 }
-        ensures step { OnOk result (self.new.kernel ≡ hand_step self.old.kernel locked.now) }
-        ensures rest { OnOk result (self.new ≡ record self.old { kernel = self.new.kernel; room = None }) }
-        ensures keeps { OnOk result (KeepsFlat self.old.kernel self.new.kernel) }
-        ensures same { OnOk result (SameEverywhere self.old.kernel self.new.kernel) }
-        ensures stop { OnErr result (HasStopped self.old self.new) }
-        ensures cause { OnErr result ((result ≡ Err Stop.JournalFull) ⊎ (result ≡ Err Stop.NoMemory)) }
-        ensures full { (result ≡ Err Stop.JournalFull) ↔ IsFullFor self.old.kernel.journal self.old.params.journal (Hands 1) }
-        ensures goes_on { OnOk result (CanGoOn self.new) }
+        ensures performs { Performs (hand_step self.old.kernel locked.now) SameEverywhere result self.old self.new }
+        ensures stops { StopsForRoom (IsFullFor self.old.kernel.journal self.old.params.journal (Hands 1)) result self.old self.new }
     {
         joining::make_room_to_move(
             &mut self.journal,

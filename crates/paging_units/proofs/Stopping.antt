@@ -1,5 +1,5 @@
 -- A call that stops at a unit.
-use Rattle.std.proofs.Common.{◌≡◌, ◌⊎◌, ◌↔◌, inl, inr, ℕ, ◌<◌, ◌≤◌, Bool, List, [], ◌∷◌, length, map, Option, Some, None, Result, Ok, Err, OnErr, IfErr, refl, sym, ap, ◌∙◌, subst, arith}
+use Rattle.std.proofs.Common.{◌≡◌, ◌⊎◌, ◌↔◌, inl, inr, ◌<◌, ◌≤◌, Bool, List, [], ◌∷◌, length, map, Option, Some, None, Result, Ok, Err, IfErr, refl, sym, ap, ◌∙◌, subst, arith}
 use Rattle.std.proofs.lemmas.List.{length-append}
 use Rattle.vm_facts.specs.SwapImages.{SwapImage, with_requests}
 use Rattle.vm_facts.specs.declared.page.Page.{Page}
@@ -22,6 +22,8 @@ use Rattle.machine_state.specs.Conditions.{HasStopped}
 use Rattle.machine_state.specs.Failing.{HasLostOldest, LosesFor, HasFailed, FailsFor}
 use Rattle.machine_state.specs.Done.{ImageAfter, StopsFor, SwapAfter, OldestReadsFrom, OldestWrites}
 use Rattle.machine_state.specs.Settled.{IsSameBeside}
+use Rattle.machine_state.specs.Joined.{IsFullFor}
+use Rattle.machine_state.specs.Performing.{IsAtBound, StopsForRoom}
 use Rattle.paging_units.specs.Made.{Ground, ground, Made, MakesUnit}
 use Rattle.paging_units.specs.Stops.{CauseBy, SpoilsBy, StopsAt, StopsAtNext, StopsAmong, StaysPut, StaysStarved, StopsPut, StopsLess, LeftBy}
 use Rattle.paging_units.proofs.Units.{same_ground}
@@ -111,27 +113,32 @@ err_cause {A} stop c = elim c [
 pub call_stops : {A : Type 0} (r : Result A Stop) (e : Entry) (old new : Standing) (i : Option SwapImage)
     → ((stop : Stop) → (stop ≡ stops.JournalFull) ⊎ (stop ≡ stops.NoMemory) → CauseBy e stop old.kernel.place.transfers)
     → ((stop : Stop) → SpoilsBy (files_named new.images) e stop old.kernel i i)
-    → ((r ≡ Err stops.JournalFull) ↔ ((old.params.journal ≤ length old.kernel.journal) × (length old.kernel.journal < length (append old.kernel.journal e))))
-    → OnErr r (HasStopped old new) → OnErr r ((r ≡ Err stops.JournalFull) ⊎ (r ≡ Err stops.NoMemory))
-    → old.before ≡ old.kernel.holdings → IfErr r (λ stop. StopsAt e old.kernel i stop new i)
-call_stops (Ok x) e old new i cause image full s c w = tt
-call_stops {A} (Err stop) e old new i cause image full s c w = record {
-  journal = s.journal;
-  held = held_here stop old new s w (err_cause {A = A} stop c) (λ h. (full.0 (ap (λ (t : Stop). let r : Result A Stop = Err t in r) h)).0);
-  full = (
-    (λ h. subst (λ (p : Params). (p.journal ≤ length old.kernel.journal) × (length old.kernel.journal < length (append old.kernel.journal e))) (sym s.params)
-        (full.0 (ap (λ (t : Stop). let r : Result A Stop = Err t in r) h))),
-    (λ h. err_same {A = A} stop stops.JournalFull
-        (full.1 (subst (λ (p : Params). (p.journal ≤ length old.kernel.journal) × (length old.kernel.journal < length (append old.kernel.journal e))) s.params h))),
-  );
-  cause = cause stop (err_cause {A = A} stop c);
-  image = image stop;
-}
+    → StopsForRoom (IsFullFor old.kernel.journal old.params.journal e) r old new → old.before ≡ old.kernel.holdings
+    → IfErr r (λ stop. StopsAt e old.kernel i stop new i)
+call_stops (Ok x) e old new i cause image s w = tt
+call_stops {A} (Err stop) e old new i cause image s w =
+    let same : new.params ≡ old.params = s.stop.params in
+    record {
+      journal = s.stop.journal;
+      held = held_here stop old new s.stop w (err_cause {A = A} stop s.cause) (λ h. (s.full.0 (ap (λ (t : Stop). let r : Result A Stop = Err t in r) h)).0);
+      full = (
+        (λ h. subst (λ (p : Params). (p.journal ≤ length old.kernel.journal) × (length old.kernel.journal < length (append old.kernel.journal e))) (sym same)
+            (s.full.0 (ap (λ (t : Stop). let r : Result A Stop = Err t in r) h))),
+        (λ h. err_same {A = A} stop stops.JournalFull
+            (s.full.1 (subst (λ (p : Params). (p.journal ≤ length old.kernel.journal) × (length old.kernel.journal < length (append old.kernel.journal e))) same h))),
+      );
+      cause = cause stop (err_cause {A = A} stop s.cause);
+      image = image stop;
+    }
 
 -- for an entry that is never joined, it is enough that the journal is at its bound
-pub plain_full : (e : Entry) (journal : List Entry) (limit : ℕ) (P : Type 0) → IsPlain e → (P ↔ (limit ≤ length journal))
-    → P ↔ ((limit ≤ length journal) × (length journal < length (append journal e)))
-plain_full e journal limit P p f = ((λ h. (f.0 h, plain_longer journal e p)), (λ h. f.1 h.0))
+pub plain_room : {A : Type 0} (r : Result A Stop) (e : Entry) (old new : Standing) → IsPlain e → StopsForRoom (IsAtBound old) r old new
+    → StopsForRoom (IsFullFor old.kernel.journal old.params.journal e) r old new
+plain_room r e old new p s = record {
+  stop = s.stop;
+  cause = s.cause;
+  full = ((λ h. (s.full.0 h, plain_longer old.kernel.journal e p)), (λ h. s.full.1 h.0));
+}
 
 -- some transfer was in flight
 some_reads : (source : Source) (ts : List Transfer) → OldestReadsFrom source ts → 0 < length ts

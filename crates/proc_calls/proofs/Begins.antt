@@ -1,5 +1,5 @@
 -- A process that has left its space may start an image, once its pieces are found.
-use Rattle.std.proofs.Common.{◌≡◌, ◌⊎◌, ◌<◌, ◌≤◌, ℕ, Bool, true, false, List, length, Option, refl, sym, ap, ◌∙◌, subst, inl, inr}
+use Rattle.std.proofs.Common.{◌≡◌, ◌<◌, ◌≤◌, ℕ, Bool, true, false, List, length, Option, refl, sym, ap, ◌∙◌, subst, inl, inr}
 use Rattle.std.specs.Prelude.{Result, Ok, Err, IfOk, OnOk, IfErr}
 use Rattle.vm_facts.specs.SwapImages.{SwapImage}
 use Rattle.io_edge.specs.FileHolding.{NamedFile}
@@ -28,7 +28,7 @@ use Rattle.machine_state.proofs.KernelLawsSoundSteps.{pass_lives}
 use Rattle.machine_state.specs.Calls.{life_in}
 use Rattle.machine_state.specs.Machine.{Standing}
 use Rattle.machine_state.specs.Sourced.{ImageNamed}
-use Rattle.machine_state.specs.Conditions.{HasStopped}
+use Rattle.machine_state.specs.Performing.{IsAtBound, StopsForRoom}
 use Rattle.machine_state.specs.Applying.{CanApply, MayAct}
 use Rattle.machine_state.specs.Done.{sources}
 use Rattle.vfork_pass.specs.Passed.{HasGivenBack}
@@ -163,11 +163,9 @@ exec_ok (Ok called) old m new pid image regs after top asked holds i j same e re
 pub reply_stops : (stop : Stop) (fits : Bool) (m asked new : Standing) (pid image : ℕ) (after : Regs) (top : List ℕ)
     (holds : Option (List NamedFile)) (i j : Option SwapImage)
     → fits ≡ true → Finds (image_found image) fits m asked pid holds i j → m.before ≡ m.kernel.holdings
-    → length asked.kernel.journal < asked.params.journal → HasStopped asked new
-    → ((let r : Result Called Stop = Err stop in r) ≡ Err stops.JournalFull) ⊎ ((let r : Result Called Stop = Err stop in r) ≡ Err stops.NoMemory)
-    → ((let r : Result Called Stop = Err stop in r) ≡ Err stops.JournalFull → asked.params.journal ≤ length asked.kernel.journal)
+    → length asked.kernel.journal < asked.params.journal → (let r : Result Called Stop = Err stop in StopsForRoom (IsAtBound asked) r asked new)
     → StopsImage m new pid after image top holds i j stop
-reply_stops stop fits m asked new pid image after top holds i j e f w room s cause full =
+reply_stops stop fits m asked new pid image after top holds i j e f w room s =
     let l : LeavesFor (image_found image) m asked pid holds i j = found_of fits true m asked pid image holds i j e f in
     let r = is_ready m l.between pid holds i j l.left in
     inl (inl (inr (
@@ -176,8 +174,9 @@ reply_stops stop fits m asked new pid image after top holds i j e f w room s cau
         reached = l.between;
         far = l.left;
         stops = stops_before {A = Called} l.between new stop (r.before ∙ w ∙ sym r.kernel.holdings)
-            (stopped_found l.between asked new l.found l.step (subst (λ (x : Standing). length x.kernel.journal < x.params.journal) l.step room) s) cause
-            (λ h. subst (λ (x : Standing). x.params.journal ≤ length x.kernel.journal) l.step (full h));
+            (stopped_found l.between asked new l.found l.step (subst (λ (x : Standing). length x.kernel.journal < x.params.journal) l.step room) s.stop)
+            s.cause
+            (λ h. subst (λ (x : Standing). x.params.journal ≤ length x.kernel.journal) l.step (s.full.0 h));
       }),
     )))
 

@@ -1,6 +1,6 @@
 -- A copy of a page as a whole, and copies one after another.
 use Rattle.std.proofs.Common.{◌≡◌, inl, inr, ℕ, suc, ◌<◌, ◌≤◌, List, [], ◌∷◌, length, Option, Some, None, refl, sym, ap, ◌∙◌, subst, arith}
-use Rattle.std.specs.Prelude.{Result, Ok, Err, OnOk, OnErr, IfErr, MatchResult}
+use Rattle.std.specs.Prelude.{Result, Ok, Err, OnOk, MatchResult}
 use Rattle.std.proofs.lemmas.Option.{same_Some}
 use Rattle.vm_facts.specs.SwapImages.{SwapImage}
 use Rattle.vm_facts.specs.declared.page.Page.{Page}
@@ -16,12 +16,13 @@ use Rattle.machine_state.specs.Sourced.{ImageNamed}
 use Rattle.machine_state.specs.Files.{AreFiles}
 use Rattle.machine_state.specs.Going.{CanGoOn}
 use Rattle.machine_state.specs.Calls.{first_due}
-use Rattle.machine_state.specs.Conditions.{HasStopped, KeepsFlat}
+use Rattle.machine_state.specs.Performing.{IsAtBound, Performs, StopsForRoom}
 use Rattle.machine_state.specs.Done.{KeepsThrough}
 use Rattle.fault_fill.specs.LastMoves.{last_moves}
 use Rattle.fault_fill.specs.Made.{ground}
 use Rattle.fault_fill.specs.Stops.{StopsAt}
 use Rattle.fault_fill.proofs.Keeping.{made_shaped, keeps_flat, keeps_both}
+use Rattle.fault_fill.proofs.Stopping.{call_stops, plain_room}
 use Rattle.fault_fill.specs.Forced.{Forced, StopsForcing}
 use Rattle.fault_fill.specs.Answers.{ServesNow}
 use Rattle.proc_calls.specs.Copying.{in_space, AreCopiesFrom, IsCopyFirst, CopiesPage, StopsPage, OnceCopied, CopiesAll, HasCopied, StopsCopying}
@@ -60,41 +61,42 @@ pub forcing_stops : (parent : Page) (served new : Standing) (stop : Stop) (holds
     → StopsForcing (parent ∷ []) served stop new later h j → StopsForcing (parent ∷ []) served stop new holds h j
 forcing_stops parent served new stop holds later h j e f = subst (λ (x : Option (List NamedFile)). StopsForcing (parent ∷ []) served stop new x h j) e f
 
-pub copied_by : {A : Type 0} (r : Result A Stop) (child parent : Page) (old served roomy new : Standing) (holds later : Option (List NamedFile))
-    (i h j : Option SwapImage) → later ≡ holds → ServesNow (parent ∷ []) parent old served holds i h → Forced (parent ∷ []) served roomy later h j
-    → KeepsThrough served roomy later h j → OnOk r (new.kernel ≡ copy_step roomy.kernel child)
-    → OnOk r (new ≡ record roomy { kernel = new.kernel; room = None })
-    → OnOk r (KeepsFlat roomy.kernel new.kernel) → IfErr r (λ stop. StopsAt (entries.Copy child) roomy.kernel j stop new j)
-    → OnErr r (HasStopped roomy new)
+pub copied_by : {Alike : Kernel → Kernel → Type 0} (r : Result (Unit {0}) Stop) (child parent : Page) (old served roomy new : Standing)
+    (holds later : Option (List NamedFile)) (i h j : Option SwapImage) → later ≡ holds → ServesNow (parent ∷ []) parent old served holds i h
+    → Forced (parent ∷ []) served roomy later h j → KeepsThrough served roomy later h j → Performs (copy_step roomy.kernel child) Alike r roomy new
+    → StopsForRoom (IsAtBound roomy) r roomy new → roomy.before ≡ roomy.kernel.holdings
     → MatchResult r (λ x. CopiesPage child parent old new holds i j) (StopsPage child parent old new holds i j)
-copied_by (Ok x) child parent old served roomy new holds later i h j e s f keeps step rest flat stops stopped = record {
+copied_by (Ok x) child parent old served roomy new holds later i h j e s f keeps p room whole = record {
   served = served;
   behind = h;
   serves = s;
   roomy = roomy;
   forces = same_files parent served roomy holds later h j e f;
-  copies = copied_as roomy new child step rest;
+  copies = copied_as roomy new child p.step p.rest;
   keeps = keeps_both old served new holds later i h j s.0.makes.beside.images (made_shaped (ground old holds (parent ∷ [])) s.0.units old.kernel served.kernel i h s.0.makes.made) e s.0.keeps
       (keeps_both served roomy new later later h j j f.makes.beside.images (made_shaped (ground served later (parent ∷ [])) f.units served.kernel roomy.kernel h j f.makes.made) refl keeps
-      (keeps_flat roomy new later j flat));
+      (keeps_flat roomy new later j p.keeps));
 }
-copied_by (Err stop) child parent old served roomy new holds later i h j e s f keeps step rest flat stops stopped =
+copied_by (Err stop) child parent old served roomy new holds later i h j e s f keeps p room whole =
+    let at : StopsAt (entries.Copy child) roomy.kernel j stop new j =
+    call_stops {A = Unit {0}} (Err stop) (entries.Copy child) roomy new j (λ x h. h) (λ x. refl)
+    (plain_room {A = Unit {0}} (Err stop) (entries.Copy child) roomy new tt room) whole in
     inr (
       h,
       record {
         reached = served;
         far = s;
-        stops = inr (record { reached = roomy; far = same_files parent served roomy holds later h j e f; stops = (stops, stopped.params, stopped.images) });
+        stops = inr (record { reached = roomy; far = same_files parent served roomy holds later h j e f; stops = (at, room.stop.params, room.stop.images) });
       },
     )
 
-pub goes_on : {A : Type 0} (r : Result A Stop) (child parent : Page) (old served roomy new : Standing) (holds later : Option (List NamedFile))
-    (i h j : Option SwapImage)
+pub goes_on : {Alike : Kernel → Kernel → Type 0} (r : Result (Unit {0}) Stop) (child parent : Page) (old served roomy new : Standing)
+    (holds later : Option (List NamedFile)) (i h j : Option SwapImage)
     → Stay old.kernel.place roomy.kernel.place → ServesNow (parent ∷ []) parent old served holds i h → Forced (parent ∷ []) served roomy later h j
-    → OnOk r (new.kernel ≡ copy_step roomy.kernel child) → OnOk r (new ≡ record roomy { kernel = new.kernel; room = None }) → OnOk r (OnceCopied child old new)
-goes_on (Err stop) child parent old served roomy new holds later i h j stay s f step rest = tt
-goes_on (Ok x) child parent old served roomy new holds later i h j stay s f step rest =
-    let is : new ≡ copied_from roomy child = copied_as roomy new child step rest in
+    → Performs (copy_step roomy.kernel child) Alike r roomy new → OnOk r (OnceCopied child old new)
+goes_on (Err stop) child parent old served roomy new holds later i h j stay s f p = tt
+goes_on (Ok x) child parent old served roomy new holds later i h j stay s f p =
+    let is : new ≡ copied_from roomy child = copied_as roomy new child p.step p.rest in
     record {
       params = ap (λ (n : Standing). n.params) is ∙ f.makes.beside.params ∙ s.0.makes.beside.params;
       images = ap (λ (n : Standing). n.images) is ∙ f.makes.beside.images ∙ s.0.makes.beside.images;

@@ -1,6 +1,6 @@
 -- A new stack page is filled: what the fill asks, and what is so after it.
 use Rattle.std.proofs.Common.{◌≡◌, ℕ, inr, Bool, cond, List, [], ◌∷◌, Option, Some, refl, sym, ap, ◌∙◌, subst}
-use Rattle.std.specs.Prelude.{Result, Ok, Err, OnOk, OnErr, IfErr, MatchResult, None}
+use Rattle.std.specs.Prelude.{Result, Err, Ok, MatchResult, None}
 use Rattle.vm_facts.specs.SwapImages.{SwapImage}
 use Rattle.vm_facts.specs.declared.page.Page.{Page}
 use Rattle.vm_facts.specs.declared.entry.Entry.{Entry}
@@ -18,11 +18,13 @@ use Rattle.kernel_model.specs.Kernel.{Kernel, zero_step}
 use Rattle.machine_state.specs.Machine.{Standing}
 use Rattle.machine_state.specs.Due.{IsFirstStart}
 use Rattle.machine_state.specs.Going.{CanGoOn}
-use Rattle.machine_state.specs.Conditions.{CanZero, HasStopped, KeepsFlat}
+use Rattle.machine_state.specs.Conditions.{CanZero}
 use Rattle.machine_state.specs.Done.{KeepsThrough}
+use Rattle.machine_state.specs.Performing.{IsAtBound, Performs, StopsForRoom}
 use Rattle.fault_fill.specs.Made.{ground}
 use Rattle.fault_fill.specs.Stops.{StopsAt}
 use Rattle.fault_fill.proofs.Keeping.{made_shaped, keeps_flat, keeps_both}
+use Rattle.fault_fill.proofs.Stopping.{call_stops, plain_room}
 use Rattle.fault_fill.specs.Forced.{Forced}
 use Rattle.proc_calls.specs.Filling.{IsStartFirst, FillsStart, StopsStart}
 
@@ -49,17 +51,19 @@ can_fill page old roomy holds i j on later s f =
       frame = f.free;
     }
 
-pub filled_by : {A : Type 0} (r : Result A Stop) (page : Page) (old roomy new : Standing) (holds later : Option (List NamedFile)) (i j : Option SwapImage)
-    → later ≡ holds
-    → Forced [] old roomy holds i j → KeepsThrough old roomy holds i j → OnOk r (new.kernel ≡ zero_step roomy.kernel page)
-    → OnOk r (new ≡ record roomy { kernel = new.kernel; room = None }) → OnOk r (KeepsFlat roomy.kernel new.kernel)
-    → IfErr r (λ stop. StopsAt (entries.Zero page) roomy.kernel j stop new j) → OnErr r (HasStopped roomy new)
+pub filled_by : {Alike : Kernel → Kernel → Type 0} (r : Result (Unit {0}) Stop) (page : Page) (old roomy new : Standing) (holds later : Option (List NamedFile))
+    (i j : Option SwapImage) → later ≡ holds → Forced [] old roomy holds i j → KeepsThrough old roomy holds i j
+    → Performs (zero_step roomy.kernel page) Alike r roomy new → StopsForRoom (IsAtBound roomy) r roomy new → roomy.before ≡ roomy.kernel.holdings
     → MatchResult r (λ x. FillsStart page old new holds i j) (StopsStart page old new holds i j)
-filled_by (Ok x) page old roomy new holds later i j e f keeps step rest flat stops stopped = record {
+filled_by (Ok x) page old roomy new holds later i j e f keeps p s whole = record {
   roomy = roomy;
   forces = f;
-  fills = rest ∙ ap (λ (k : Kernel). let s : Standing = record roomy { kernel = k; room = None } in s) step;
+  fills = p.rest ∙ ap (λ (k : Kernel). let s : Standing = record roomy { kernel = k; room = None } in s) p.step;
   keeps = keeps_both old roomy new holds later i j j f.makes.beside.images (made_shaped (ground old holds []) f.units old.kernel roomy.kernel i j f.makes.made) e keeps
-      (keeps_flat roomy new later j flat);
+      (keeps_flat roomy new later j p.keeps);
 }
-filled_by (Err stop) page old roomy new holds later i j e f keeps step rest flat stops stopped = inr (record { reached = roomy; far = f; stops = (stops, stopped.params, stopped.images) })
+filled_by (Err stop) page old roomy new holds later i j e f keeps p s whole =
+    let at : StopsAt (entries.Zero page) roomy.kernel j stop new j =
+    call_stops {A = Unit {0}} (Err stop) (entries.Zero page) roomy new j (λ x h. h) (λ x. refl)
+    (plain_room {A = Unit {0}} (Err stop) (entries.Zero page) roomy new tt s) whole in
+    inr (record { reached = roomy; far = f; stops = (at, s.stop.params, s.stop.images) })

@@ -1,12 +1,11 @@
 -- What a call that makes a process asks of the machine, and what is so after its entry.
-use Rattle.std.proofs.Common.{◌≡◌, ◌≢◌, ◌⊎◌, ◌↔◌, inr, ℕ, ◌<◌, ◌≤◌, nat_lt, Bool, true, false, List, [], ◌∷◌, ◌++◌, length, drop, map, Option, Some, None, refl, sym, ap, ◌∙◌, subst}
-use Rattle.std.specs.Prelude.{Result, Ok, Err, IfOk, OnOk, OnErr, IfErr, is_ok}
+use Rattle.std.proofs.Common.{◌≡◌, ◌≢◌, inr, ℕ, ◌<◌, nat_lt, Bool, true, false, List, [], ◌∷◌, ◌++◌, length, drop, map, Option, Some, None, refl, sym, ap, ◌∙◌, subst}
+use Rattle.std.specs.Prelude.{Result, Ok, Err, IfOk, OnOk, IfErr, is_ok}
 use Rattle.std.proofs.lemmas.Bool.{ltb-true}
 use Rattle.std.proofs.lemmas.List.{append-nil, length-map}
 use Rattle.vm_facts.specs.declared.regs.Regs.{Regs}
 use Rattle.vm_facts.specs.declared.entry.Entry.{Entry}
 use Rattle.vm_facts.specs.declared.stop.Stop.{Stop}
-use Rattle.vm_facts.specs.declared.stop.Stop.TheVariants as stops
 use Rattle.aout_image.specs.declared.Image.{Image}
 use Rattle.swap_book.specs.declared.Owner.{Owner}
 use Rattle.swap_book.specs.declared.Owner.TheVariants as owners
@@ -38,7 +37,8 @@ use Rattle.machine_state.specs.Machine.{Standing, processes_of}
 use Rattle.machine_state.specs.Alike.{AreRecords}
 use Rattle.machine_state.specs.Going.{CanGoOn}
 use Rattle.machine_state.specs.Applying.{CanApply, MayAct, facts_named}
-use Rattle.machine_state.specs.Conditions.{HasStopped, KeepsFlat}
+use Rattle.machine_state.specs.Conditions.{KeepsFlat}
+use Rattle.machine_state.specs.Performing.{IsAtBound, StopsForRoom}
 use Rattle.machine_state.specs.UserMemory.{CanLend}
 use Rattle.machine_state.proofs.Lives.{pid_of}
 use Rattle.proc_table.specs.declared.process.Proc.{Proc as Record}
@@ -239,16 +239,13 @@ refused_ok (Err stop) old between new pid child regs is keeps named few none h =
 pub stops_refused : (r : Result Called Stop) (old between new : Standing) (pid child : ℕ) (change : ℕ → Change) → between ≡ without_pieces old pid
     → child ≡ old.kernel.next_pid
     → is_below_limit old.kernel ≡ true → finds_pieces old pid (change child) ≡ false → between.before ≡ between.kernel.holdings
-    → OnErr r (HasStopped between new)
-    → OnErr r ((r ≡ Err stops.JournalFull) ⊎ (r ≡ Err stops.NoMemory))
-    → ((r ≡ Err stops.JournalFull) ↔ (between.params.journal ≤ length between.kernel.journal))
-    → IfErr r (StopsMaking old new pid (change old.kernel.next_pid))
-stops_refused (Ok called) old between new pid child change is named few none whole stopped cause full = tt
-stops_refused (Err stop) old between new pid child change is named few none whole stopped cause full =
+    → StopsForRoom (IsAtBound between) r between new → IfErr r (StopsMaking old new pid (change old.kernel.next_pid))
+stops_refused (Ok called) old between new pid child change is named few none whole s = tt
+stops_refused (Err stop) old between new pid child change is named few none whole s =
     record {
       reached = between;
       far = inr (record { below = few; none = subst (λ (n : ℕ). finds_pieces old pid (change n) ≡ false) named none; refused = is });
-      stops = stops_before {A = Called} between new stop whole stopped cause full.0;
+      stops = stops_before {A = Called} between new stop whole s.stop s.cause s.full.0;
     }
 
 pub lent_ok : (old between new : Standing) (pid child : ℕ) (regs : Regs) → child ≡ old.kernel.next_pid → is_below_limit old.kernel ≡ true

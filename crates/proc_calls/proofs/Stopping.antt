@@ -13,6 +13,7 @@ use Rattle.kernel_model.specs.Unit.{has_lender, lender_among}
 use Rattle.machine_state.specs.Machine.{Standing}
 use Rattle.machine_state.specs.Conditions.{HasStopped}
 use Rattle.machine_state.specs.Settled.{StopsSettling}
+use Rattle.machine_state.specs.Performing.{IsAtBound, StopsForRoom}
 use Rattle.machine_state.proofs.Asked.{stopped_found}
 use Rattle.fault_fill.specs.Stops.{StopsBefore}
 use Rattle.fault_fill.specs.Growth.{space_of_pid, with_pieces}
@@ -61,12 +62,10 @@ cut_stops {A} (Err stop) m b new pid pages holds i j l h w s c f =
 
 -- a call that stops once the process has left its space
 pub once_left : {A : Type 0} (r : Result A Stop) (m b new : Standing) (pid : ℕ) (holds : Option (List NamedFile)) (i j : Option SwapImage)
-    → b.before ≡ b.kernel.holdings → HasLeft m b pid holds i j → OnErr r (HasStopped b new)
-    → OnErr r ((r ≡ Err stops.JournalFull) ⊎ (r ≡ Err stops.NoMemory))
-    → (r ≡ Err stops.JournalFull → b.params.journal ≤ length b.kernel.journal)
-    → IfErr r (StopsAlive m new pid holds i j)
-once_left (Ok x) m b new pid holds i j w left s c f = tt
-once_left {A} (Err stop) m b new pid holds i j w left s c f = inr (record { reached = b; far = left; stops = stops_before {A = A} b new stop w s c f })
+    → b.before ≡ b.kernel.holdings → HasLeft m b pid holds i j → StopsForRoom (IsAtBound b) r b new → IfErr r (StopsAlive m new pid holds i j)
+once_left (Ok x) m b new pid holds i j w left s = tt
+once_left {A} (Err stop) m b new pid holds i j w left s =
+    inr (record { reached = b; far = left; stops = stops_before {A = A} b new stop w s.stop s.cause s.full.0 })
 
 -- Where a process leaves its space.
 
@@ -90,11 +89,8 @@ lent_left m b new pid holds i e same room step =
 
 -- before a space that it borrowed goes back
 pub lent_stops : (stop : Stop) (m new : Standing) (pid : ℕ) (holds : Option (List NamedFile)) (i : Option SwapImage) → has_lender m.kernel.processes pid ≡ true
-    → m.before ≡ m.kernel.holdings → HasStopped m new
-    → (let r : Result (Unit {0}) Stop = Err stop in (r ≡ Err stops.JournalFull) ⊎ (r ≡ Err stops.NoMemory))
-    → (let r : Result (Unit {0}) Stop = Err stop in r ≡ Err stops.JournalFull → m.params.journal ≤ length m.kernel.journal)
-    → StopsLeaving m new pid holds i i stop
-lent_stops stop m new pid holds i e w s c f = inr (e, stops_before {A = Unit {0}} m new stop w s c f, refl)
+    → m.before ≡ m.kernel.holdings → (let r : Result (Unit {0}) Stop = Err stop in StopsForRoom (IsAtBound m) r m new) → StopsLeaving m new pid holds i i stop
+lent_stops stop m new pid holds i e w s = inr (e, stops_before {A = Unit {0}} m new stop w s.stop s.cause s.full.0, refl)
 
 -- Where memory is wanted before anything is done.
 
@@ -120,13 +116,10 @@ out_starved m new pid (Err (Signal number)) stop e w c = starved_before m new st
 
 -- before the process has left its space
 pub asked_before : {A : Type 0} (r : Result A Stop) (pieces : Standing → Result Holdings ℕ) (m b new : Standing) (pid : ℕ) (holds : Option (List NamedFile))
-    (i : Option SwapImage) → b ≡ m → b.before ≡ b.kernel.holdings → OnErr r (HasStopped b new)
-    → OnErr r ((r ≡ Err stops.JournalFull) ⊎ (r ≡ Err stops.NoMemory))
-    → (r ≡ Err stops.JournalFull → b.params.journal ≤ length b.kernel.journal)
-    → IfErr r (StopsFinding pieces m new pid holds i i)
-asked_before (Ok x) pieces m b new pid holds i e w s c f = tt
-asked_before {A} (Err stop) pieces m b new pid holds i e w s c f =
-    inl (subst (λ (x : Standing). StopsBefore x new stop) e (stops_before {A = A} b new stop w s c f), refl)
+    (i : Option SwapImage) → b ≡ m → b.before ≡ b.kernel.holdings → StopsForRoom (IsAtBound b) r b new → IfErr r (StopsFinding pieces m new pid holds i i)
+asked_before (Ok x) pieces m b new pid holds i e w s = tt
+asked_before {A} (Err stop) pieces m b new pid holds i e w s =
+    inl (subst (λ (x : Standing). StopsBefore x new stop) e (stops_before {A = A} b new stop w s.stop s.cause s.full.0), refl)
 
 -- once it has, since they find their places
 pub asked_alive : {A : Type 0} (r : Result A Stop) (pieces : Standing → Result Holdings ℕ) (m new : Standing) (pid : ℕ) (holds : Option (List NamedFile))

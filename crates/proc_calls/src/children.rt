@@ -1,11 +1,11 @@
 // Calls that ask for processes.
-ghost use Rattle.std.specs.Prelude.{◌≡◌, ◌⊎◌, ◌<◌, ◌≤◌, ◌↔◌, length, IfOk, OnOk, OnErr, Err};
+ghost use Rattle.std.specs.Prelude.{◌<◌, IfOk, OnOk};
+ghost use Rattle.machine_state.specs.Performing.{IsAtBound, StopsForRoom};
 ghost use Rattle.flat_state.specs.declared.change.Change.TheVariants.{Keep};
 ghost use Rattle.flat_model.specs.Calls.{replied_both};
 ghost use Rattle.flat_model.specs.declared.calls.Reply.TheVariants.{Does};
 ghost use Rattle.flat_model.specs.declared.calls.SystemCall.TheVariants.{Getpid, Wait};
 ghost use Rattle.machine_state.specs.Going.{CanGoOn};
-ghost use Rattle.machine_state.specs.Conditions.{HasStopped};
 ghost use Rattle.proc_calls.specs.Answered.{Replied};
 ghost use Rattle.proc_calls.specs.Callers.{parent_of, IsCaller};
 ghost use Rattle.proc_calls.specs.Waiting.{wait_answer, FoundAmong};
@@ -52,9 +52,7 @@ fn children_of(processes: &ProcTable, parent: u32) -> Children
 pub fn wait(m: &mut Machine, pid: u32, regs: &Regs) -> Result<Called, Stop>
     requires calls { IsCaller m.old pid }
     ensures replied { IfOk result (Replied m.old m.new pid Wait regs.now (wait_answer m.old.kernel pid regs.now)) }
-    ensures stop { OnErr result (HasStopped m.old m.new) }
-    ensures cause { OnErr result ((result ≡ Err Stop.JournalFull) ⊎ (result ≡ Err Stop.NoMemory)) }
-    ensures full { (result ≡ Err Stop.JournalFull) ↔ (m.old.params.journal ≤ length m.old.kernel.journal) }
+    ensures stops { StopsForRoom (IsAtBound m.old) result m.old m.new }
     ensures goes_on { OnOk result (CanGoOn m.new) }
 {
     match children_of(m.processes(), pid) {
@@ -75,9 +73,7 @@ pub fn wait(m: &mut Machine, pid: u32, regs: &Regs) -> Result<Called, Stop>
 pub fn getpid(m: &mut Machine, pid: u32, regs: &Regs) -> Result<Called, Stop>
     requires calls { IsCaller m.old pid }
     ensures replied { IfOk result (Replied m.old m.new pid Getpid regs.now (Does (replied_both regs.now pid (parent_of m.old.kernel pid)) Keep)) }
-    ensures stop { OnErr result (HasStopped m.old m.new) }
-    ensures cause { OnErr result ((result ≡ Err Stop.JournalFull) ⊎ (result ≡ Err Stop.NoMemory)) }
-    ensures full { (result ≡ Err Stop.JournalFull) ↔ (m.old.params.journal ≤ length m.old.kernel.journal) }
+    ensures stops { StopsForRoom (IsAtBound m.old) result m.old m.new }
     ensures goes_on { OnOk result (CanGoOn m.new) }
 {
     let parent = process(m, pid).parent;

@@ -1,5 +1,6 @@
 // Replies of calls.
-ghost use Rattle.std.specs.Prelude.{◌≡◌, ◌⊎◌, ◌≤◌, ◌↔◌, true, false, length, Some, IsSome, IfOk, OnOk, IfErr, OnErr, Ok, Err};
+ghost use Rattle.std.specs.Prelude.{◌≡◌, true, false, Some, IsSome, IfOk, OnOk, IfErr, Ok, Err};
+ghost use Rattle.machine_state.specs.Performing.{IsAtBound, StopsForRoom};
 ghost use Rattle.flat_state.specs.declared.change.Change.TheVariants.{Keep};
 ghost use Rattle.flat_model.specs.Calls.{no_memory, replied, replied_both};
 ghost use Rattle.flat_model.specs.declared.calls.Reply.TheVariants.{Fails};
@@ -7,7 +8,6 @@ ghost use Rattle.flat_model.specs.Step.{call_entry};
 ghost use Rattle.machine_state.specs.Going.{CanGoOn, IsRunning};
 ghost use Rattle.machine_state.specs.Machine.{proc_shown};
 ghost use Rattle.machine_state.specs.Applying.{CanApply};
-ghost use Rattle.machine_state.specs.Conditions.{HasStopped};
 ghost use Rattle.fault_fill.specs.Stops.{StopsBefore};
 ghost use Rattle.kernel_model.specs.Unit.{proc_of};
 ghost use Rattle.proc_calls.specs.Answered.{Answered, Replied, Comes, StopsReading};
@@ -84,9 +84,7 @@ pub fn reply(
     requires can { CanApply m.old pid (call_entry pid call regs.now) change }
     ensures ready { IfOk result (λ called. called ≡ Called.Ready) }
     ensures answered { OnOk result (Answered m.old m.new pid call regs.now change) }
-    ensures stop { OnErr result (HasStopped m.old m.new) }
-    ensures cause { OnErr result ((result ≡ Err Stop.JournalFull) ⊎ (result ≡ Err Stop.NoMemory)) }
-    ensures full { (result ≡ Err Stop.JournalFull) ↔ (m.old.params.journal ≤ length m.old.kernel.journal) }
+    ensures stops { StopsForRoom (IsAtBound m.old) result m.old m.new }
     ensures goes_on { OnOk result (CanGoOn m.new) }
 {
     let entry = Entry::Call {
@@ -110,9 +108,7 @@ pub fn fail(
 ) -> Result<Called, Stop>
     requires calls { IsCaller m.old pid }
     ensures replied { IfOk result (Replied m.old m.new pid call regs.now (Fails error)) }
-    ensures stop { OnErr result (HasStopped m.old m.new) }
-    ensures cause { OnErr result ((result ≡ Err Stop.JournalFull) ⊎ (result ≡ Err Stop.NoMemory)) }
-    ensures full { (result ≡ Err Stop.JournalFull) ↔ (m.old.params.journal ≤ length m.old.kernel.journal) }
+    ensures stops { StopsForRoom (IsAtBound m.old) result m.old m.new }
     ensures goes_on { OnOk result (CanGoOn m.new) }
 {
     reply(m, pid, call, &replied(regs, true, error), Change::Keep)

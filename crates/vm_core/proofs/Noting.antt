@@ -1,12 +1,12 @@
 -- Calls that stop before an entry of the journal, and calls that end with the stop of another.
-use Rattle.std.proofs.Common.{◌≡◌, ◌⊎◌, inl, inr, ◌≤◌, length, Result, Ok, Err, sym, ap, subst}
-use Rattle.std.specs.Prelude.{◌↔◌, IfErr, IfOk, OnErr, OnOk}
+use Rattle.std.proofs.Common.{◌≡◌, inl, inr, Result, Ok, Err, sym, ap, subst}
+use Rattle.std.specs.Prelude.{IfErr, IfOk, OnOk}
 use Rattle.std.specs.Result.{IsErrAnd}
 use Rattle.std.proofs.lemmas.Result.{err_from_is_err_and}
 use Rattle.vm_facts.specs.declared.stop.Stop.{Stop}
 use Rattle.vm_facts.specs.declared.stop.Stop.TheVariants as stops
 use Rattle.machine_state.specs.Machine.{Standing}
-use Rattle.machine_state.specs.Conditions.{HasStopped}
+use Rattle.machine_state.specs.Performing.{IsAtBound, StopsForRoom}
 use Rattle.journal_laws.specs.Stops.{StopsBefore}
 
 -- what is so of the stop of a call is so of one that ends with it
@@ -16,18 +16,17 @@ stops_on r stop Q h q = let p = err_from_is_err_and r h in rw p.1 (subst Q (sym 
 pub same_error : {T : Type 0} (a b : Stop) → (let r : Result T Stop = Err a in r) ≡ Err b → a ≡ b
 same_error a b e = cc
 
-pub stops_noting : {T : Type 0} (r : Result T Stop) (old new : Standing) → old.before ≡ old.kernel.holdings → OnErr r (HasStopped old new)
-    → OnErr r ((r ≡ Err stops.JournalFull) ⊎ (r ≡ Err stops.NoMemory))
-    → ((r ≡ Err stops.JournalFull) ↔ (old.params.journal ≤ length old.kernel.journal)) → IfErr r (λ stop. StopsBefore old new stop)
-stops_noting (Ok x) old new w h c f = tt
-stops_noting {T = T} (Err stop) old new w h c f = record {
-  stopped = h;
+pub stops_noting : {T : Type 0} (r : Result T Stop) (old new : Standing) → old.before ≡ old.kernel.holdings → StopsForRoom (IsAtBound old) r old new
+    → IfErr r (λ stop. StopsBefore old new stop)
+stops_noting (Ok x) old new w s = tt
+stops_noting {T = T} (Err stop) old new w s = record {
+  stopped = s.stop;
   whole = w;
-  cause = elim c [
+  cause = elim s.cause [
     | inl e ↦ inl (same_error {T = T} stop stops.JournalFull e)
     | inr e ↦ inr (same_error {T = T} stop stops.NoMemory e)
   ];
-  full = λ e. f.0 (ap (λ (s : Stop). let r : Result T Stop = Err s in r) e);
+  full = λ e. s.full.0 (ap (λ (t : Stop). let r : Result T Stop = Err t in r) e);
 }
 
 -- what follows from what is so of the stop

@@ -37,7 +37,7 @@ returns-clause-keeps g c =
     on_ok_weaker c.hand.result (λ (h : KeepsFlat c.done.new.self.kernel c.hand.new.self.kernel).
     subst (λ (x : Option SwapImage). KeepsThrough old c.hand.new.self holds i x) (sym image)
     (keeps_flat old c.hand.new.self holds i (subst (λ (s : Standing). KeepsFlat s.kernel c.hand.new.self.kernel) same h)))
-    c.hand.ensures.keeps
+    c.hand.ensures.performs.keeps
 
 pub returns-clause-made : goal.returns-clause-made
 returns-clause-made g c =
@@ -54,7 +54,7 @@ returns-clause-made g c =
     let moved : force_entry here.kernel.place.transfers ≡ entries.Hands 1 = ap force_entry (ap (λ (s : Standing). s.kernel.place.transfers) same ∙ idle) in
     subst (λ (x : Option SwapImage). OnOk c.hand.result (MakesUnit (ground old holds locked) (force_entry old.kernel.place.transfers) old c.hand.new.self i x)) (sym image)
     (subst (λ (s : Standing). OnOk c.hand.result (MakesUnit (ground s holds locked) (force_entry s.kernel.place.transfers) s c.hand.new.self i i)) same
-    (on_ok_two c.hand.result (hand_makes locked (force_entry here.kernel.place.transfers) here c.hand.new.self holds i moved) c.hand.ensures.step c.hand.ensures.rest))
+    (on_ok_two c.hand.result (hand_makes locked (force_entry here.kernel.place.transfers) here c.hand.new.self holds i moved) c.hand.ensures.performs.step c.hand.ensures.performs.rest))
 
 pub returns-clause-stopped : goal.returns-clause-stopped
 returns-clause-stopped g c =
@@ -71,4 +71,4 @@ returns-clause-stopped g c =
     subst (λ (x : Option SwapImage). IfErr c.hand.result (λ stop. StopsAt (force_entry old.kernel.place.transfers) old.kernel i stop new x)) (sym image)
     (subst (λ (u : Entry). IfErr c.hand.result (λ stop. StopsAt u old.kernel i stop new i)) (sym (ap force_entry idle))
     (subst (λ (s : Standing). IfErr c.hand.result (λ stop. StopsAt (entries.Hands 1) s.kernel i stop new i)) same
-    (call_stops c.hand.result (entries.Hands 1) here new i (λ s h. h) (λ s. refl) c.hand.ensures.full c.hand.ensures.stop c.hand.ensures.cause whole)))
+    (call_stops c.hand.result (entries.Hands 1) here new i (λ s h. h) (λ s. refl) c.hand.ensures.stops whole)))

@@ -28,7 +28,7 @@ returns-in_err-hand-clause-stopped g c =
     ] in
     let unit : move_unit old.kernel.place [] ≡ entries.Hands 1 = moves_now old.kernel.place c.next_write-lo.result.0 c.next_write-lo.result.1 c.next_write-lo.ensures either in
     let i = stores g.F.Files g.D.SwapDev c.args.files.now c.args.swap.now in
-    let stops = call_stops c.hand.result (entries.Hands 1) old c.hand.new.self i (λ s h. h) (λ s. refl) c.hand.ensures.full c.hand.ensures.stop c.hand.ensures.cause c.requires.ready.whole in
+    let stops = call_stops c.hand.result (entries.Hands 1) old c.hand.new.self i (λ s h. h) (λ s. refl) c.hand.ensures.stops c.requires.ready.whole in
     let p = err_from_is_err_and c.from_residual-in_err-hand.result c.from_residual-in_err-hand.ensures.1 in
     rw (p.1, p.2) (subst (λ (u : Entry). StopsAt u old.kernel i c.in_err-hand.field-0.0 c.hand.new.self i) (sym unit)
     (IfErr-at_err (λ s. StopsAt (entries.Hands 1) old.kernel i s c.hand.new.self i) c.in_err-hand.was stops))
@@ -46,8 +46,8 @@ returns-clause-moved g c =
 pub returns-clause-made : goal.returns-clause-made
 returns-clause-made g c =
     hand_makes [] (move_unit c.args.m.now.kernel.place []) c.args.m.now c.hand.new.self (g.F.Files.holds c.args.files.now) (stores g.F.Files g.D.SwapDev c.args.files.now c.args.swap.now)
-    (returns-clause-moved g c) c.in_ok-hand.ensures.step c.in_ok-hand.ensures.rest
+    (returns-clause-moved g c) c.in_ok-hand.ensures.performs.step c.in_ok-hand.ensures.performs.rest
 
 pub returns-clause-keeps : goal.returns-clause-keeps
 returns-clause-keeps g c =
-    keeps_flat c.args.m.now c.hand.new.self (g.F.Files.holds c.args.files.now) (stores g.F.Files g.D.SwapDev c.args.files.now c.args.swap.now) c.in_ok-hand.ensures.keeps
+    keeps_flat c.args.m.now c.hand.new.self (g.F.Files.holds c.args.files.now) (stores g.F.Files g.D.SwapDev c.args.files.now c.args.swap.now) c.in_ok-hand.ensures.performs.keeps

@@ -1,5 +1,6 @@
 use Rattle.std.proofs.Common.{ap, ◌∙◌, subst, false}
 use Rattle.vm_facts.specs.declared.entry.Entry.TheVariants as entries
+use Rattle.kernel_model.specs.Kernel.{get_step}
 use Rattle.page_model.specs.Runs.{Run}
 use Rattle.page_model.specs.Placement.{state_of, filling_of}
 use Rattle.std.proofs.Common.{Some}
@@ -23,7 +24,7 @@ returns-clause-made c =
     let p = c.args.m.now.kernel.place in
     let lo = c.run_of-lo.result.0 in
     let n = c.run_of-lo.result.1 in
-    plain_either c.begin_get.result q (entries.Get q lo n) c.args.m.now c.begin_get.new.self (get_calls q lo n)
+    plain_either c.begin_get.result q (entries.Get q lo n) c.args.m.now c.begin_get.new.self (get_step c.args.m.now.kernel q lo n)
+    c.begin_get.ensures.performs c.begin_get.ensures.stops c.requires.ready.whole (get_calls q lo n)
     (λ now. unit_reads p q now false (not_full p c.requires.few) c.requires.frameless c.requires.filled c.requires.free ∙ ap (λ (r : Run). Some (entries.Get q r.lo r.n)) c.run_of-lo.ensures.run)
     (λ h g i. h)
-    c.begin_get.ensures.step c.begin_get.ensures.rest c.begin_get.ensures.keeps c.begin_get.ensures.stop c.requires.ready.whole c.begin_get.ensures.cause c.begin_get.ensures.full

@@ -1,9 +1,7 @@
 use Rattle.io_edge.specs.WithFiles.{stores}
-use Rattle.std.proofs.Common.{inl, inr, [], ◌∷◌, refl}
+use Rattle.std.proofs.Common.{inl, inr, [], ◌∷◌}
 use Rattle.std.proofs.lemmas.Result.{err_from_is_err_and}
-use Rattle.vm_facts.specs.declared.entry.Entry.TheVariants as entries
 use Rattle.page_laws.proofs.Ends.Hands.{room_still}
-use Rattle.fault_fill.proofs.Stopping.{call_stops, plain_full}
 use Rattle.fault_fill.specs.Answers.{ServesNow}
 use Rattle.proc_calls.proofs.Copies.{can_serve, can_copy, first_stays}
 use Rattle.proc_calls.proofs.CopiedPages.{served_stay, forced_stay, forcing_stops, copied_by, goes_on}
@@ -61,11 +59,7 @@ returns-clause-copied g c =
     copied_by c.copy.result c.args.child c.args.parent c.args.m.now c.serve_page_now.new.m roomy c.copy.new.self (g.F.Files.holds c.args.files.now)
     (g.F.Files.holds c.serve_page_now.new.files) (stores g.F.Files g.D.SwapDev c.args.files.now c.args.swap.now) (stores g.F.Files g.D.SwapDev c.serve_page_now.new.files c.serve_page_now.new.swap) j
     c.in_ok-serve_page_now.ensures.outside.files.holds (c.in_ok-serve_page_now.ensures.served.0.serves, c.in_ok-serve_page_now.ensures.served.1)
-    c.in_ok-make_room.ensures.forced c.in_ok-make_room.ensures.keeps c.copy.ensures.step c.copy.ensures.rest c.copy.ensures.keeps
-    (call_stops c.copy.result (entries.Copy c.args.child) roomy c.copy.new.self j (λ s h. h) (λ s. refl)
-    (plain_full (entries.Copy c.args.child) roomy.kernel.journal roomy.params.journal _ tt c.copy.ensures.full) c.copy.ensures.stop c.copy.ensures.cause
-    c.in_ok-make_room.ensures.goes_on.whole)
-    c.copy.ensures.stop
+    c.in_ok-make_room.ensures.forced c.in_ok-make_room.ensures.keeps c.copy.ensures.performs c.copy.ensures.stops c.in_ok-make_room.ensures.goes_on.whole
 
 pub returns-clause-on : goal.returns-clause-on
 returns-clause-on g c =
@@ -80,4 +74,4 @@ returns-clause-on g c =
     let stay = served_stay c.args.child c.args.parent c.args.m.now served holds i h c.requires.ready c.requires.first serves in
     let both = forced_stay c.args.parent c.args.m.now served roomy (g.F.Files.holds c.serve_page_now.new.files) h j stay c.in_ok-make_room.ensures.forced in
     goes_on c.copy.result c.args.child c.args.parent c.args.m.now served roomy c.copy.new.self holds (g.F.Files.holds c.serve_page_now.new.files) i h j both serves c.in_ok-make_room.ensures.forced
-    c.copy.ensures.step c.copy.ensures.rest
+    c.copy.ensures.performs

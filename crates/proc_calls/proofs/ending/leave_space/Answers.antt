@@ -10,7 +10,7 @@ returns-in_err-make_room-clause-stops g c =
     rw (p.1, p.2)
     (lent_stops _ c.args.m.now c.make_room.new.self c.args.pid (g.F.Files.holds c.args.files.now) (stores g.F.Files g.D.SwapDev c.args.files.now c.args.swap.now)
     (sym c.is_borrower.ensures ∙ c.if-is_borrower.true)
-    c.requires.calls.ready.whole c.in_err-make_room.ensures.stop c.in_err-make_room.ensures.cause c.in_err-make_room.ensures.full.0)
+    c.requires.calls.ready.whole c.in_err-make_room.ensures.stops)
 
 pub returns-then-is_borrower-clause-left : goal.returns-then-is_borrower-clause-left
 returns-then-is_borrower-clause-left g c =

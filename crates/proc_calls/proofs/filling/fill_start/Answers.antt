@@ -1,8 +1,6 @@
 use Rattle.io_edge.specs.WithFiles.{stores}
-use Rattle.std.proofs.Common.{inl, refl}
+use Rattle.std.proofs.Common.{inl}
 use Rattle.std.proofs.lemmas.Result.{err_from_is_err_and}
-use Rattle.vm_facts.specs.declared.entry.Entry.TheVariants as entries
-use Rattle.fault_fill.proofs.Stopping.{call_stops, plain_full}
 use Rattle.proc_calls.proofs.Fills.{can_fill, filled_by}
 use Rattle.proc_calls.proofs.filling.fill_start.Goals as goal
 
@@ -23,7 +21,4 @@ returns-clause-filled g c =
     let j = stores g.F.Files g.D.SwapDev c.make_room.new.files c.make_room.new.swap in
     filled_by c.fill_zero.result c.args.page c.args.m.now roomy c.fill_zero.new.self (g.F.Files.holds c.args.files.now)
     (g.F.Files.holds c.make_room.new.files) (stores g.F.Files g.D.SwapDev c.args.files.now c.args.swap.now) j c.in_ok-make_room.ensures.outside.files.holds
-    c.in_ok-make_room.ensures.forced c.in_ok-make_room.ensures.keeps c.fill_zero.ensures.step c.fill_zero.ensures.rest c.fill_zero.ensures.keeps
-    (call_stops c.fill_zero.result (entries.Zero c.args.page) roomy c.fill_zero.new.self j (λ s h. h) (λ s. refl)
-    (plain_full (entries.Zero c.args.page) roomy.kernel.journal roomy.params.journal _ tt c.fill_zero.ensures.full) c.fill_zero.ensures.stop c.fill_zero.ensures.cause
-    c.in_ok-make_room.ensures.goes_on.whole) c.fill_zero.ensures.stop
+    c.in_ok-make_room.ensures.forced c.in_ok-make_room.ensures.keeps c.fill_zero.ensures.performs c.fill_zero.ensures.stops c.in_ok-make_room.ensures.goes_on.whole

@@ -27,7 +27,7 @@ returns-then-not-branch-clause-stop c =
     stops_refused c.fail-then-not-branch.result c.args.m.now c.ask.new.self c.fail-then-not-branch.new.m c.args.pid child (λ n. Lend n)
     (c.in_ok-ask.ensures.refused no) c.next_numbers-child.ensures.process (sym c.is_below_limit.ensures ∙ c.if-not-is_below_limit.false)
     (asked_fits c.args.m.now c.args.pid (Lend child) (c.u_want.result ∷ []) c.in_ok-ask.field-0 asks c.in_ok-ask.ensures.answer ∙ c.if-not-branch.true)
-    (c.in_ok-ask.ensures.goes_on no).whole c.fail-then-not-branch.ensures.stop c.fail-then-not-branch.ensures.cause c.fail-then-not-branch.ensures.full
+    (c.in_ok-ask.ensures.goes_on no).whole c.fail-then-not-branch.ensures.stops
 
 pub reply-requires-clause-can : goal.reply-requires-clause-can
 reply-requires-clause-can c =

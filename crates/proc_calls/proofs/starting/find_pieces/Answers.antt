@@ -38,7 +38,7 @@ pub returns-then-not-branch-clause-stops : goal.returns-then-not-branch-clause-s
 returns-then-not-branch-clause-stops g c =
     asked_before c.ask.result (wants_found c.args.wants.now) c.args.m.now c.fits.new.self c.ask.new.self c.args.pid (g.F.Files.holds c.args.files.now)
     (stores g.F.Files g.D.SwapDev c.args.files.now c.args.swap.now)
-    c.in_ok-fits.ensures.same c.fits.ensures.goes_on.whole c.ask.ensures.stop c.ask.ensures.cause c.ask.ensures.full.0
+    c.in_ok-fits.ensures.same c.fits.ensures.goes_on.whole c.ask.ensures.stops
 
 pub returns-clause-stops : goal.returns-clause-stops
 returns-clause-stops g c =
@@ -48,4 +48,4 @@ returns-clause-stops g c =
     let n = c.leave_space.new.m in
     let left = subst (λ (x : Standing). HasLeft x n c.args.pid holds i j) c.in_ok-fits.ensures.same c.in_ok-leave_space.ensures.left in
     asked_alive c.ask-2.result (wants_found c.args.wants.now) c.args.m.now c.ask-2.new.self c.args.pid holds i j (sym c.in_ok-fits.ensures.answer ∙ c.if-not-branch.false)
-    (once_left c.ask-2.result c.args.m.now n c.ask-2.new.self c.args.pid holds i j c.in_ok-leave_space.ensures.goes_on.whole left c.ask-2.ensures.stop c.ask-2.ensures.cause c.ask-2.ensures.full.0)
+    (once_left c.ask-2.result c.args.m.now n c.ask-2.new.self c.args.pid holds i j c.in_ok-leave_space.ensures.goes_on.whole left c.ask-2.ensures.stops)

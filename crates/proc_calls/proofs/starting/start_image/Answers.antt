@@ -61,7 +61,8 @@ returns-in_err-called-clause-stops g c =
     (reply_stops _ c.in_ok-find_space.field-0 c.args.m.now c.find_space.new.m c.reply.new.m c.args.pid c.args.image c.args.after.now c.args.top
     (g.F.Files.holds c.args.files.now) (stores g.F.Files g.D.SwapDev c.args.files.now c.args.swap.now)
     (stores g.F.Files g.D.SwapDev c.find_space.new.files c.find_space.new.swap) c.if-not-branch.false c.in_ok-find_space.ensures.finds
-    c.requires.calls.ready.whole (c.in_ok-find_space.ensures.has_room (ap (λ b. Ok b) c.if-not-branch.false)) c.in_err-called.ensures.stop c.in_err-called.ensures.cause c.in_err-called.ensures.full.0)
+    c.requires.calls.ready.whole (c.in_ok-find_space.ensures.has_room (ap (λ b. Ok b) c.if-not-branch.false))
+    c.in_err-called.ensures.stops)
 
 pub returns-in_err-fill_start-clause-stops : goal.returns-in_err-fill_start-clause-stops
 returns-in_err-fill_start-clause-stops g c =

@@ -86,4 +86,4 @@ returns-clause-keeps c _ images image flat coupled =
     let no : c.find_all-found.result ≡ Ok false = c.in_ok-or_stop.ensures.made ∙ ap (λ (x : Bool). let r : Result Bool NoMemory = Ok x in r) c.if-branch.false in
     let book = found_none c.find_all-found.result c.self.inside.tables.book c.find_all-found.new.book c.args.wants.now no c.find_all-found.ensures.answer c.find_all-found.ensures.book in
     subst (λ (x : Standing). KeepsFlat x.kernel c.note.new.self.kernel) (standing_none c.self.inside c.args.self.now c.find_all-found.new.book view book)
-    c.in_ok-note.ensures.keeps images image flat coupled
+    c.in_ok-note.ensures.performs.keeps images image flat coupled

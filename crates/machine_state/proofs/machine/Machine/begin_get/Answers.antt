@@ -81,12 +81,12 @@ returns c =
     let can : CanBringIn k.place c.args.page c.args.lo c.args.n = subst (λ (s : Standing). CanBringIn s.kernel.place c.args.page c.args.lo c.args.n) (sym c.self.view_is) c.requires.can in
     let z = step c in
     record {
-      step = z.is ∙ ap (λ (s : Standing). get_step s.kernel c.args.page c.args.lo c.args.n) c.self.view_is;
-      rest = z.rest;
-      keeps = z.says KeepsFlat (get_keeps size k c.args.page c.args.lo c.args.n r.sound can);
-      same = z.says (λ (k l : Kernel). SameOutside k l (pages_from c.args.page c.args.lo c.args.n)) (get_same size k c.args.page c.args.lo c.args.n r.sound can);
-      stop = search rules;
-      cause = search rules;
-      full = search rules;
-      goes_on = z.goes_on;
+      performs = record {
+        step = z.is ∙ ap (λ (s : Standing). get_step s.kernel c.args.page c.args.lo c.args.n) c.self.view_is;
+        rest = z.rest;
+        keeps = z.says KeepsFlat (get_keeps size k c.args.page c.args.lo c.args.n r.sound can);
+        same = z.says (λ (k l : Kernel). SameOutside k l (pages_from c.args.page c.args.lo c.args.n)) (get_same size k c.args.page c.args.lo c.args.n r.sound can);
+        goes_on = z.goes_on;
+      };
+      stops = record { stop = search rules; cause = search rules; full = search rules };
     }

@@ -105,12 +105,12 @@ returns c =
     let can : CanCopy k.place c.args.child c.args.parent = subst (λ (s : Standing). CanCopy s.kernel.place c.args.child c.args.parent) (sym c.self.view_is) c.requires.can in
     let z = step c in
     record {
-      step = z.is ∙ ap (λ (s : Standing). copy_step s.kernel c.args.child) c.self.view_is;
-      rest = z.rest;
-      keeps = z.says KeepsFlat (copy_keeps size k c.args.child c.args.parent r.sound can);
-      same = z.says (λ (k l : Kernel). SameElsewhere k l c.args.child) (copy_same size k c.args.child c.args.parent r.sound can);
-      stop = search rules;
-      cause = search rules;
-      full = search rules;
-      goes_on = z.goes_on;
+      performs = record {
+        step = z.is ∙ ap (λ (s : Standing). copy_step s.kernel c.args.child) c.self.view_is;
+        rest = z.rest;
+        keeps = z.says KeepsFlat (copy_keeps size k c.args.child c.args.parent r.sound can);
+        same = z.says (λ (k l : Kernel). SameElsewhere k l c.args.child) (copy_same size k c.args.child c.args.parent r.sound can);
+        goes_on = z.goes_on;
+      };
+      stops = record { stop = search rules; cause = search rules; full = search rules };
     }

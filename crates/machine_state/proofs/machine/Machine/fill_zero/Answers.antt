@@ -90,12 +90,12 @@ returns c =
     let can : CanZero k.place c.args.page = subst (λ (s : Standing). CanZero s.kernel.place c.args.page) (sym c.self.view_is) c.requires.can in
     let z = step c in
     record {
-      step = z.is ∙ ap (λ (s : Standing). zero_step s.kernel c.args.page) c.self.view_is;
-      rest = z.rest;
-      keeps = z.says KeepsFlat (zero_keeps size k c.args.page c.self.inside.tables.fills.items r.sound can refl refl);
-      same = z.says (λ (k l : Kernel). SameElsewhere k l c.args.page) (zero_same size k c.args.page r.sound can);
-      stop = search rules;
-      cause = search rules;
-      full = search rules;
-      goes_on = z.goes_on;
+      performs = record {
+        step = z.is ∙ ap (λ (s : Standing). zero_step s.kernel c.args.page) c.self.view_is;
+        rest = z.rest;
+        keeps = z.says KeepsFlat (zero_keeps size k c.args.page c.self.inside.tables.fills.items r.sound can refl refl);
+        same = z.says (λ (k l : Kernel). SameElsewhere k l c.args.page) (zero_same size k c.args.page r.sound can);
+        goes_on = z.goes_on;
+      };
+      stops = record { stop = search rules; cause = search rules; full = search rules };
     }

@@ -73,12 +73,12 @@ returns c =
     let r = running c.self.inside c.args.self.now c.self.invariant c.self.view_is c.requires.ready in
     let z = step c in
     record {
-      step = z.is ∙ ap (λ (s : Standing). hand_step s.kernel c.args.locked.now) c.self.view_is;
-      rest = z.rest;
-      keeps = z.says KeepsFlat (hand_keeps c.self.inside.tables.book.size k c.args.locked.now r.sound);
-      same = z.says SameEverywhere (hand_alike k c.args.locked.now);
-      stop = search rules;
-      cause = search rules;
-      full = search rules;
-      goes_on = z.goes_on;
+      performs = record {
+        step = z.is ∙ ap (λ (s : Standing). hand_step s.kernel c.args.locked.now) c.self.view_is;
+        rest = z.rest;
+        keeps = z.says KeepsFlat (hand_keeps c.self.inside.tables.book.size k c.args.locked.now r.sound);
+        same = z.says SameEverywhere (hand_alike k c.args.locked.now);
+        goes_on = z.goes_on;
+      };
+      stops = record { stop = search rules; cause = search rules; full = search rules };
     }

@@ -80,12 +80,12 @@ returns c =
     let can : CanPush k.place c.args.lo c.args.n = subst (λ (s : Standing). CanPush s.kernel.place c.args.lo c.args.n) (sym c.self.view_is) c.requires.can in
     let z = step c in
     record {
-      step = z.is ∙ ap (λ (s : Standing). push_step s.kernel c.args.lo c.args.n) c.self.view_is;
-      rest = z.rest;
-      keeps = z.says KeepsFlat (push_keeps c.self.inside.tables.book.size k c.args.lo c.args.n r.sound can);
-      same = z.says SameEverywhere (push_alike k c.args.lo c.args.n);
-      stop = search rules;
-      cause = search rules;
-      full = search rules;
-      goes_on = z.goes_on;
+      performs = record {
+        step = z.is ∙ ap (λ (s : Standing). push_step s.kernel c.args.lo c.args.n) c.self.view_is;
+        rest = z.rest;
+        keeps = z.says KeepsFlat (push_keeps c.self.inside.tables.book.size k c.args.lo c.args.n r.sound can);
+        same = z.says SameEverywhere (push_alike k c.args.lo c.args.n);
+        goes_on = z.goes_on;
+      };
+      stops = record { stop = search rules; cause = search rules; full = search rules };
     }

@@ -105,12 +105,12 @@ returns c =
     let r = running c.self.inside c.args.self.now c.self.invariant c.self.view_is c.requires.ready in
     let z = step c in
     record {
-      step = z.is ∙ ap (λ (s : Standing). reclaim_step s.kernel c.args.page) c.self.view_is;
-      rest = z.rest;
-      keeps = z.says KeepsFlat (reclaim_keeps c.self.inside.tables.book.size k c.args.page r.sound);
-      same = z.says SameEverywhere (reclaim_alike k c.args.page);
-      stop = search rules;
-      cause = search rules;
-      full = search rules;
-      goes_on = z.goes_on;
+      performs = record {
+        step = z.is ∙ ap (λ (s : Standing). reclaim_step s.kernel c.args.page) c.self.view_is;
+        rest = z.rest;
+        keeps = z.says KeepsFlat (reclaim_keeps c.self.inside.tables.book.size k c.args.page r.sound);
+        same = z.says SameEverywhere (reclaim_alike k c.args.page);
+        goes_on = z.goes_on;
+      };
+      stops = record { stop = search rules; cause = search rules; full = search rules };
     }
