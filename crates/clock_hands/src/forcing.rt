@@ -5,9 +5,8 @@ ghost use Rattle.page_model.specs.Serve.{force_entry};
 ghost use Rattle.page_model.specs.Rank.{HasRoom, far};
 ghost use Rattle.page_model.specs.Conditions.{Spares};
 ghost use Rattle.machine_state.specs.Going.{CanGoOn};
-ghost use Rattle.machine_state.specs.Files.{AreFiles};
 ghost use Rattle.machine_state.specs.Done.{KeepsThrough};
-ghost use Rattle.machine_state.specs.Outside.{stop_of, TransfersPages};
+ghost use Rattle.machine_state.specs.Outside.{Asks, stop_of, TransfersPages};
 ghost use Rattle.paging_units.specs.Made.{ground, MakesUnit};
 ghost use Rattle.paging_units.specs.LastMoves.{last_moves};
 ghost use Rattle.paging_units.specs.Stops.{StopsAt};
@@ -26,9 +25,7 @@ fn force_once<F: Files, D: SwapDev>(
     swap: &mut D,
     locked: &[Page],
 ) -> Result<(), Stop>
-    requires ready { CanGoOn m.old }
-    requires area { m.old.params.swap_blocks ≤ D.blocks swap.old }
-    requires files { AreFiles m.old.images (F.holds files.old) }
+    requires asks { Asks m.old (F.holds files.old) (D.blocks swap.old) }
     requires none { m.old.kernel.place.free ≡ [] }
     requires room { HasRoom m.old.kernel.place locked.now }
     requires fits { last_moves m.old.kernel.journal + 1 < 2 ^ 32 }
@@ -58,9 +55,7 @@ fn force_frame<F: Files, D: SwapDev>(
     swap: &mut D,
     locked: &[Page],
 ) -> Result<(), Stop>
-    requires ready { CanGoOn m.old }
-    requires area { m.old.params.swap_blocks ≤ D.blocks swap.old }
-    requires files { AreFiles m.old.images (F.holds files.old) }
+    requires asks { Asks m.old (F.holds files.old) (D.blocks swap.old) }
     requires room { HasRoom m.old.kernel.place locked.now }
     requires fits { last_moves m.old.kernel.journal + far m.old.kernel.place locked.now < 2 ^ 32 }
     ensures forced { OnOk result (Forced locked.now m.old m.new (F.holds files.old) (stores F.Files D.SwapDev files.old swap.old)
@@ -86,9 +81,7 @@ pub fn make_room<F: Files, D: SwapDev>(
     swap: &mut D,
     locked: &[Page],
 ) -> Result<(), Stop>
-    requires ready { CanGoOn m.old }
-    requires area { m.old.params.swap_blocks ≤ D.blocks swap.old }
-    requires files { AreFiles m.old.images (F.holds files.old) }
+    requires asks { Asks m.old (F.holds files.old) (D.blocks swap.old) }
     requires room { HasRoom m.old.kernel.place locked.now }
     requires low { last_moves m.old.kernel.journal ≤ 1000000 }
     ensures forced { OnOk result (Forced locked.now m.old m.new (F.holds files.old) (stores F.Files D.SwapDev files.old swap.old)

@@ -1,11 +1,10 @@
 //! The hands move as a line of the schedule asks.
 ghost use Rattle.io_edge.specs.WithFiles.{stores};
-ghost use Rattle.std.specs.Prelude.{◌≡◌, ◌<◌, ◌≤◌, ◌+◌, ◌^◌, true, [], IfOk, OnOk, IfErr};
+ghost use Rattle.std.specs.Prelude.{◌≡◌, ◌<◌, ◌+◌, ◌^◌, true, [], IfOk, OnOk, IfErr};
 ghost use Rattle.page_model.specs.Hands.{wants_moves};
 ghost use Rattle.machine_state.specs.Going.{CanGoOn, IsRunning};
-ghost use Rattle.machine_state.specs.Files.{AreFiles};
 ghost use Rattle.machine_state.specs.Done.{KeepsThrough};
-ghost use Rattle.machine_state.specs.Outside.{stop_of, TransfersPages};
+ghost use Rattle.machine_state.specs.Outside.{Asks, stop_of, TransfersPages};
 ghost use Rattle.run_model.specs.Next.{move_unit};
 ghost use Rattle.paging_units.specs.Made.{ground, MakesUnit};
 ghost use Rattle.paging_units.specs.LastMoves.{last_moves};
@@ -32,9 +31,7 @@ fn move_once<F: Files, D: SwapDev>(
     files: &mut F,
     swap: &mut D,
 ) -> Result<bool, Stop>
-    requires ready { CanGoOn m.old }
-    requires area { m.old.params.swap_blocks ≤ D.blocks swap.old }
-    requires files { AreFiles m.old.images (F.holds files.old) }
+    requires asks { Asks m.old (F.holds files.old) (D.blocks swap.old) }
     requires wants { wants_moves m.old.kernel.place ≡ true }
     requires fits { last_moves m.old.kernel.journal + 1 < 2 ^ 32 }
     ensures made { OnOk result
@@ -67,9 +64,7 @@ pub fn move_hands<F: Files, D: SwapDev>(
     swap: &mut D,
     n: u32,
 ) -> Result<u32, Stop>
-    requires ready { CanGoOn m.old }
-    requires area { m.old.params.swap_blocks ≤ D.blocks swap.old }
-    requires files { AreFiles m.old.images (F.holds files.old) }
+    requires asks { Asks m.old (F.holds files.old) (D.blocks swap.old) }
     requires fits { last_moves m.old.kernel.journal + n < 2 ^ 32 }
     ensures moved { IfOk result (λ made. Moved n m.old m.new made (F.holds files.old) (stores F.Files D.SwapDev files.old swap.old)
         (stores F.Files D.SwapDev files.new swap.new)) }

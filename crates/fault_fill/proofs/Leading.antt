@@ -19,8 +19,7 @@ use Rattle.page_model.specs.Ownership.{OwnsFrames}
 use Rattle.kernel_model.specs.Kernel.{Kernel}
 use Rattle.kernel_model.specs.Requests.{ImageFile}
 use Rattle.machine_state.specs.Machine.{Standing}
-use Rattle.machine_state.specs.Sourced.{ImageNamed, files_named}
-use Rattle.machine_state.specs.Files.{AreFiles}
+use Rattle.machine_state.specs.Sourced.{files_named}
 use Rattle.machine_state.specs.Conditions.{HasStopped, KeepsFlat}
 use Rattle.machine_state.specs.Settled.{IsSameBeside}
 use Rattle.machine_state.specs.Performing.{IsAtBound, Performs, StopsForRoom}
@@ -141,15 +140,6 @@ end_unit now locked q old new holds before after next m = record { entry = entri
 pub end_stops : (now : Bool) (q : Page) (old new : Standing) (before after : Option SwapImage) (stop : Stop)
     → serve_unit old.kernel.place q now ≡ Some entries.Done → EndStops old new before after stop → UnitStops now q old new before after stop
 end_stops now q old new before after stop next m = record { entry = entries.Done; next = next; stops = m.at; params = m.params; images = m.images }
-
--- What goes on.
-
-pub area_on : (old new : Standing) (n m : ℕ) → IsSameBeside old new → m ≡ n → old.params.swap_blocks ≤ n → new.params.swap_blocks ≤ m
-area_on old new n m r e l = let a = ap (λ (x : Params). x.swap_blocks) r.params in omega arith
-
-pub files_on : (old new : Standing) (a b : Option (List NamedFile)) → IsSameBeside old new → b ≡ a → AreFiles old.images a → AreFiles new.images b
-files_on old new a b r e f =
-    subst (λ (ns : List ImageNamed). AreFiles ns b) (sym r.images) (subst (λ (h : Option (List NamedFile)). AreFiles old.images h) (sym e) f)
 
 -- Units in order.
 

@@ -1,11 +1,10 @@
 //! The calls that serve a page.
 ghost use Rattle.io_edge.specs.WithFiles.{stores};
-ghost use Rattle.std.specs.Prelude.{◌≡◌, ◌+◌, ◌≤◌, true, false, [], length, OnOk, OnErr, MatchResult};
+ghost use Rattle.std.specs.Prelude.{◌+◌, ◌≤◌, true, false, [], length, OnOk, OnErr, MatchResult};
 ghost use Rattle.page_model.specs.Conditions.{Spares};
 ghost use Rattle.page_model.specs.Rank.{HasRoom};
 ghost use Rattle.machine_state.specs.Going.{CanGoOn};
-ghost use Rattle.machine_state.specs.Files.{AreFiles};
-ghost use Rattle.machine_state.specs.Outside.{stop_of, TransfersPages};
+ghost use Rattle.machine_state.specs.Outside.{Asks, stop_of, TransfersPages};
 ghost use Rattle.clock_hands.specs.LastMoves.{last_moves};
 ghost use Rattle.fault_fill.specs.Serving.{CanServe, StopsServing};
 ghost use Rattle.fault_fill.specs.Answers.{ServedAs, ServedNow, IsShort, AllStayValid};
@@ -23,9 +22,7 @@ pub fn serve_page<F: Files, D: SwapDev>(
     swap: &mut D,
     page: Page,
 ) -> Result<PageServed, Stop>
-    requires ready { CanGoOn m.old }
-    requires area { m.old.params.swap_blocks ≤ D.blocks swap.old }
-    requires files { AreFiles m.old.images (F.holds files.old) }
+    requires asks { Asks m.old (F.holds files.old) (D.blocks swap.old) }
     requires can { CanServe m.old.kernel.place page }
     ensures served { MatchResult result (λ answer. ServedAs answer page m.old m.new (F.holds files.old) (stores F.Files D.SwapDev files.old swap.old)
         (stores F.Files D.SwapDev files.new swap.new))
@@ -50,9 +47,7 @@ pub fn serve_page_now<F: Files, D: SwapDev>(
     page: Page,
     locked: &[Page],
 ) -> Result<(), Stop>
-    requires ready { CanGoOn m.old }
-    requires area { m.old.params.swap_blocks ≤ D.blocks swap.old }
-    requires files { AreFiles m.old.images (F.holds files.old) }
+    requires asks { Asks m.old (F.holds files.old) (D.blocks swap.old) }
     requires can { CanServe m.old.kernel.place page }
     requires room { HasRoom m.old.kernel.place locked.now }
     requires low { last_moves m.old.kernel.journal ≤ 1000000 }

@@ -9,10 +9,9 @@ ghost use Rattle.machine_state.specs.Going.{CanGoOn, IsRunning};
 ghost use Rattle.machine_state.specs.Views.{ShowsSpace};
 ghost use Rattle.machine_state.specs.Machine.{proc_shown};
 ghost use Rattle.machine_state.specs.Showing.{ShowsCore};
-ghost use Rattle.machine_state.specs.Files.{AreFiles};
 ghost use Rattle.machine_state.specs.Conditions.{HasStopped};
 ghost use Rattle.machine_state.specs.UserMemory.{CanLend};
-ghost use Rattle.machine_state.specs.Outside.{stop_of, TransfersPages};
+ghost use Rattle.machine_state.specs.Outside.{Asks, stop_of, TransfersPages};
 ghost use Rattle.clock_hands.specs.LastMoves.{last_moves};
 ghost use Rattle.kernel_model.specs.Unit.{proc_of};
 ghost use Rattle.fault_fill.specs.Growth.{space_of_pid, access_by, IsAsked, AsksGrowth, IsGrowth, GrowsBy};
@@ -170,9 +169,7 @@ pub fn serve<F: Files, D: SwapDev>(
     address: u32,
     write: bool,
 ) -> Result<Served, Stop>
-    requires ready { CanGoOn m.old }
-    requires area { m.old.params.swap_blocks ≤ D.blocks swap.old }
-    requires files { AreFiles m.old.images (F.holds files.old) }
+    requires asks { Asks m.old (F.holds files.old) (D.blocks swap.old) }
     requires clear { m.old.kernel.place.due ≡ [] }
     requires lends { CanLend m.old.kernel pid }
     ensures served { MatchResult result
@@ -208,9 +205,7 @@ pub fn serve_now<F: Files, D: SwapDev>(
     write: bool,
     locked: &[Page],
 ) -> Result<Served, Stop>
-    requires ready { CanGoOn m.old }
-    requires area { m.old.params.swap_blocks ≤ D.blocks swap.old }
-    requires files { AreFiles m.old.images (F.holds files.old) }
+    requires asks { Asks m.old (F.holds files.old) (D.blocks swap.old) }
     requires clear { m.old.kernel.place.due ≡ [] }
     requires lends { CanLend m.old.kernel pid }
     requires room { HasRoom m.old.kernel.place locked.now }

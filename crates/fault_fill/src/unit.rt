@@ -13,8 +13,7 @@ ghost use Rattle.machine_state.specs.Going.{CanGoOn, IsRunning};
 ghost use Rattle.machine_state.specs.Views.{IsNamedBy, ShowsSpace};
 ghost use Rattle.machine_state.specs.Showing.{ShowsCore};
 ghost use Rattle.machine_state.specs.PlaceOf.{is_blank};
-ghost use Rattle.machine_state.specs.Files.{AreFiles};
-ghost use Rattle.machine_state.specs.Outside.{stop_of, TransfersPages};
+ghost use Rattle.machine_state.specs.Outside.{Asks, stop_of, TransfersPages};
 ghost use Rattle.fault_fill.specs.Homes.{IsHome};
 ghost use Rattle.fault_fill.specs.Serving.{CanServe};
 ghost use Rattle.fault_fill.specs.Units.{PlainMade, PlainStop, AnyUnit, AnyStop, EndMade, EndStops, ComesTo};
@@ -137,9 +136,7 @@ pub(crate) fn finish<F: Files, D: SwapDev>(
     files: &mut F,
     swap: &mut D,
 ) -> Result<(), Stop>
-    requires ready { CanGoOn m.old }
-    requires area { m.old.params.swap_blocks ≤ D.blocks swap.old }
-    requires files { AreFiles m.old.images (F.holds files.old) }
+    requires asks { Asks m.old (F.holds files.old) (D.blocks swap.old) }
     requires some { 0 < length m.old.kernel.place.transfers }
     ensures made { MatchResult result (λ u. EndMade m.old m.new (F.holds files.old) (stores F.Files D.SwapDev files.old swap.old)
         (stores F.Files D.SwapDev files.new swap.new))
@@ -159,9 +156,7 @@ fn fill<F: Files, D: SwapDev>(
     swap: &mut D,
     page: Page,
 ) -> Result<(), Stop>
-    requires ready { CanGoOn m.old }
-    requires area { m.old.params.swap_blocks ≤ D.blocks swap.old }
-    requires files { AreFiles m.old.images (F.holds files.old) }
+    requires asks { Asks m.old (F.holds files.old) (D.blocks swap.old) }
     requires can { CanServe m.old.kernel.place page }
     requires frameless { frame_of (state_of m.old.kernel.place page) ≡ None }
     requires free { 0 < length m.old.kernel.place.free }
@@ -187,9 +182,7 @@ pub(crate) fn serve_unit<F: Files, D: SwapDev>(
     swap: &mut D,
     page: Page,
 ) -> Result<Unit, Stop>
-    requires ready { CanGoOn m.old }
-    requires area { m.old.params.swap_blocks ≤ D.blocks swap.old }
-    requires files { AreFiles m.old.images (F.holds files.old) }
+    requires asks { Asks m.old (F.holds files.old) (D.blocks swap.old) }
     requires can { CanServe m.old.kernel.place page }
     ensures made { MatchResult result (λ u. ComesTo u page m.old m.new (F.holds files.old) (stores F.Files D.SwapDev files.old swap.old)
         (stores F.Files D.SwapDev files.new swap.new))

@@ -5,8 +5,7 @@ ghost use Rattle.vm_facts.specs.declared.entry.Entry.{Entry as AnyEntry};
 ghost use Rattle.vm_facts.specs.declared.event.Event.{Event as AnyEvent};
 ghost use Rattle.flat_state.specs.Journal.{instructions_of, counted as entry_counts};
 ghost use Rattle.machine_state.specs.Going.{CanGoOn, IsRunning};
-ghost use Rattle.machine_state.specs.Files.{AreFiles};
-ghost use Rattle.machine_state.specs.Outside.{stop_of, TransfersPages};
+ghost use Rattle.machine_state.specs.Outside.{Asks, IsBacked, stop_of, TransfersPages};
 ghost use Rattle.journal_laws.specs.LastMoves.{last_moves};
 ghost use Rattle.step_units.specs.Sizes.{KeptAtStop};
 ghost use Rattle.step_units.specs.Stepped.{AtSome, LeadsFrom, StopsFrom};
@@ -79,8 +78,7 @@ fn round<F: Files, D: SwapDev>(
     requires counted { instructions_of m.old.kernel.journal ≡ counted }
     requires full { m.old.params.journal ≤ length m.old.kernel.journal }
     requires round { AtSome (RoundAt m.old mark lines.now taken counted (F.holds files.old) (stores F.Files D.SwapDev files.old swap.old)) }
-    requires area { m.old.params.swap_blocks ≤ D.blocks swap.old }
-    requires files { AreFiles m.old.images (F.holds files.old) }
+    requires backed { IsBacked m.old (F.holds files.old) (D.blocks swap.old) }
     ensures rounds { OnOk result
         (LeadsFrom (RoundAt m.old mark lines.now taken counted (F.holds files.old) (stores F.Files D.SwapDev files.old swap.old))
         (RunsOut m.old m.new (stores F.Files D.SwapDev files.new swap.new))) }
@@ -119,8 +117,7 @@ fn take_line<F: Files, D: SwapDev>(
     requires few { HaveFewMoves lines.now }
     requires count { length lines.now < 2 ^ 32 }
     requires past { AtSome (OverAt m.old lines.now taken counted _last (F.holds files.old) (stores F.Files D.SwapDev files.old swap.old)) }
-    requires area { m.old.params.swap_blocks ≤ D.blocks swap.old }
-    requires files { AreFiles m.old.images (F.holds files.old) }
+    requires backed { IsBacked m.old (F.holds files.old) (D.blocks swap.old) }
     ensures over { OnOk result
         (LeadsFrom (OverAt m.old lines.now taken counted _last (F.holds files.old) (stores F.Files D.SwapDev files.old swap.old))
         (RunsOut m.old m.new (stores F.Files D.SwapDev files.new swap.new))) }
@@ -167,8 +164,7 @@ fn take_turn<F: Files, D: SwapDev>(
     requires turned { turn_after m.old.kernel _last ≡ Some pid }
     requires count { length lines.now < 2 ^ 32 }
     requires past { AtSome (OverAt m.old lines.now taken counted _last (F.holds files.old) (stores F.Files D.SwapDev files.old swap.old)) }
-    requires area { m.old.params.swap_blocks ≤ D.blocks swap.old }
-    requires files { AreFiles m.old.images (F.holds files.old) }
+    requires backed { IsBacked m.old (F.holds files.old) (D.blocks swap.old) }
     ensures over { OnOk result
         (LeadsFrom (OverAt m.old lines.now taken counted _last (F.holds files.old) (stores F.Files D.SwapDev files.old swap.old))
         (RunsOut m.old m.new (stores F.Files D.SwapDev files.new swap.new))) }
@@ -205,8 +201,7 @@ fn pass<F: Files, D: SwapDev>(
     requires few { HaveFewMoves lines.now }
     requires count { length lines.now < 2 ^ 32 }
     requires past { AtSome (OverAt m.old lines.now taken counted last (F.holds files.old) (stores F.Files D.SwapDev files.old swap.old)) }
-    requires area { m.old.params.swap_blocks ≤ D.blocks swap.old }
-    requires files { AreFiles m.old.images (F.holds files.old) }
+    requires backed { IsBacked m.old (F.holds files.old) (D.blocks swap.old) }
     ensures over { OnOk result
         (LeadsFrom (OverAt m.old lines.now taken counted last (F.holds files.old) (stores F.Files D.SwapDev files.old swap.old))
         (RunsOut m.old m.new (stores F.Files D.SwapDev files.new swap.new))) }
@@ -237,13 +232,11 @@ fn get_over<F: Files, D: SwapDev>(
     _taken: u32,
     counted: u32,
 ) -> Result<u32, Stop>
-    requires ready { CanGoOn m.old }
+    requires asks { Asks m.old (F.holds files.old) (D.blocks swap.old) }
     requires frames { 64 ≤ length m.old.kernel.place.holds }
     requires low { last_moves m.old.kernel.journal ≤ 1000000 }
     requires counted { instructions_of m.old.kernel.journal ≡ counted }
     requires going { AtSome (GoesAt m.old mark _lines.now _taken counted (F.holds files.old) (stores F.Files D.SwapDev files.old swap.old)) }
-    requires area { m.old.params.swap_blocks ≤ D.blocks swap.old }
-    requires files { AreFiles m.old.images (F.holds files.old) }
     ensures over { IfOk result (λ count. LeadsFrom (GoesAt m.old mark _lines.now _taken counted (F.holds files.old)
         (stores F.Files D.SwapDev files.old swap.old))
         (RestDone m.old m.new mark count (stores F.Files D.SwapDev files.new swap.new))) }
@@ -270,7 +263,7 @@ fn go_further<F: Files, D: SwapDev>(
     taken: u32,
     counted: u32,
 ) -> Result<(), Stop>
-    requires ready { CanGoOn m.old }
+    requires asks { Asks m.old (F.holds files.old) (D.blocks swap.old) }
     requires frames { 64 ≤ length m.old.kernel.place.holds }
     requires low { last_moves m.old.kernel.journal ≤ 1000000 }
     requires counted { instructions_of m.old.kernel.journal ≡ counted }
@@ -278,8 +271,6 @@ fn go_further<F: Files, D: SwapDev>(
     requires going { AtSome (GoesAt m.old mark lines.now taken counted (F.holds files.old) (stores F.Files D.SwapDev files.old swap.old)) }
     requires few { HaveFewMoves lines.now }
     requires count { length lines.now < 2 ^ 32 }
-    requires area { m.old.params.swap_blocks ≤ D.blocks swap.old }
-    requires files { AreFiles m.old.images (F.holds files.old) }
     ensures over { OnOk result
         (LeadsFrom (GoesAt m.old mark lines.now taken counted (F.holds files.old) (stores F.Files D.SwapDev files.old swap.old))
         (RunsOut m.old m.new (stores F.Files D.SwapDev files.new swap.new))) }
@@ -315,7 +306,7 @@ fn one_entry<F: Files, D: SwapDev>(
     taken: u32,
     counted: u32,
 ) -> Result<bool, Stop>
-    requires ready { CanGoOn m.old }
+    requires asks { Asks m.old (F.holds files.old) (D.blocks swap.old) }
     requires frames { 64 ≤ length m.old.kernel.place.holds }
     requires low { last_moves m.old.kernel.journal ≤ 1000000 }
     requires counted { instructions_of m.old.kernel.journal ≡ counted }
@@ -323,8 +314,6 @@ fn one_entry<F: Files, D: SwapDev>(
     requires full { AtSome (FullAt m.old mark lines.now taken counted (F.holds files.old) (stores F.Files D.SwapDev files.old swap.old)) }
     requires few { HaveFewMoves lines.now }
     requires count { length lines.now < 2 ^ 32 }
-    requires area { m.old.params.swap_blocks ≤ D.blocks swap.old }
-    requires files { AreFiles m.old.images (F.holds files.old) }
     ensures made { IfOk result (λ over. LeadsFrom (FullAt m.old mark lines.now taken counted (F.holds files.old) (stores F.Files D.SwapDev files.old swap.old))
         (EntryMade m.old m.new over (F.holds files.old) (stores F.Files D.SwapDev files.new swap.new))) }
     ensures stops { IfErr result (StopsElse (FullAt m.old mark lines.now taken counted (F.holds files.old) (stores F.Files D.SwapDev files.old swap.old))
@@ -378,8 +367,7 @@ impl Film {
         requires room { length self.old.machine.kernel.journal + 1 < 2 ^ 32 }
         requires moves { HaveFewMoves lines.now }
         requires count { length lines.now < 2 ^ 32 }
-        requires area { self.old.machine.params.swap_blocks ≤ D.blocks swap.old }
-        requires files { AreFiles self.old.machine.images (F.holds files.old) }
+        requires backed { IsBacked self.old.machine (F.holds files.old) (D.blocks swap.old) }
         ensures goes { OnOk result (FilmGoes self.old self.new lines.now (F.holds files.old) (stores F.Files D.SwapDev files.old swap.old)
             (stores F.Files D.SwapDev files.new swap.new)) }
         ensures stops { IfErr result

@@ -1,11 +1,10 @@
 //! What is still to come of a mark.
 ghost use Rattle.io_edge.specs.WithFiles.{stores};
-ghost use Rattle.std.specs.Prelude.{◌≡◌, ◌≤◌, false, IfOk, IfErr};
+ghost use Rattle.std.specs.Prelude.{◌≡◌, false, IfOk, IfErr};
 ghost use Rattle.flat_state.specs.Journal.{instructions_of};
 ghost use Rattle.kernel_model.specs.Unit.{proc_of};
 ghost use Rattle.machine_state.specs.Going.{IsRunning};
-ghost use Rattle.machine_state.specs.Files.{AreFiles};
-ghost use Rattle.machine_state.specs.Outside.{stop_of, TransfersPages};
+ghost use Rattle.machine_state.specs.Outside.{IsBacked, stop_of, TransfersPages};
 ghost use Rattle.step_units.specs.Sizes.{KeptAtStop};
 ghost use Rattle.step_units.specs.Stepped.{AtSome, LeadsFrom, StopsFrom};
 ghost use Rattle.vm_core.specs.Choosing.{steps_by};
@@ -48,8 +47,7 @@ fn dispatch<F: Files, D: SwapDev>(
     requires steady { IsSteady m.old }
     requires counted { instructions_of m.old.kernel.journal ≡ counted }
     requires under { AtSome (RestAt m.old (Mark.Dispatch pid more since) counted (F.holds files.old) (stores F.Files D.SwapDev files.old swap.old)) }
-    requires area { m.old.params.swap_blocks ≤ D.blocks swap.old }
-    requires files { AreFiles m.old.images (F.holds files.old) }
+    requires backed { IsBacked m.old (F.holds files.old) (D.blocks swap.old) }
     ensures rests { IfOk result
         (λ count. LeadsFrom (RestAt m.old (Mark.Dispatch pid more since) counted (F.holds files.old) (stores F.Files D.SwapDev files.old swap.old))
         (RestDone m.old m.new (Mark.Dispatch pid more since) count (stores F.Files D.SwapDev files.new swap.new))) }
@@ -88,8 +86,7 @@ fn turn<F: Files, D: SwapDev>(
     requires steady { IsSteady m.old }
     requires counted { instructions_of m.old.kernel.journal ≡ counted }
     requires under { AtSome (RestAt m.old (Mark.Turn pid since) counted (F.holds files.old) (stores F.Files D.SwapDev files.old swap.old)) }
-    requires area { m.old.params.swap_blocks ≤ D.blocks swap.old }
-    requires files { AreFiles m.old.images (F.holds files.old) }
+    requires backed { IsBacked m.old (F.holds files.old) (D.blocks swap.old) }
     ensures rests { IfOk result (λ count. LeadsFrom (RestAt m.old (Mark.Turn pid since) counted (F.holds files.old)
         (stores F.Files D.SwapDev files.old swap.old))
         (RestDone m.old m.new (Mark.Turn pid since) count (stores F.Files D.SwapDev files.new swap.new))) }
@@ -117,8 +114,7 @@ fn wait<F: Files, D: SwapDev>(
     requires steady { IsSteady m.old }
     requires counted { instructions_of m.old.kernel.journal ≡ counted }
     requires under { AtSome (RestAt m.old Mark.Interrupt counted (F.holds files.old) (stores F.Files D.SwapDev files.old swap.old)) }
-    requires area { m.old.params.swap_blocks ≤ D.blocks swap.old }
-    requires files { AreFiles m.old.images (F.holds files.old) }
+    requires backed { IsBacked m.old (F.holds files.old) (D.blocks swap.old) }
     ensures rests { IfOk result (λ count. LeadsFrom (RestAt m.old Mark.Interrupt counted (F.holds files.old) (stores F.Files D.SwapDev files.old swap.old))
         (RestDone m.old m.new Mark.Interrupt count (stores F.Files D.SwapDev files.new swap.new))) }
     ensures stops { IfErr result (StopsFrom (RestAt m.old Mark.Interrupt counted (F.holds files.old) (stores F.Files D.SwapDev files.old swap.old)) m.old
@@ -142,8 +138,7 @@ fn hands<F: Files, D: SwapDev>(
     requires steady { IsSteady m.old }
     requires counted { instructions_of m.old.kernel.journal ≡ counted }
     requires under { AtSome (RestAt m.old (Mark.Hands left) counted (F.holds files.old) (stores F.Files D.SwapDev files.old swap.old)) }
-    requires area { m.old.params.swap_blocks ≤ D.blocks swap.old }
-    requires files { AreFiles m.old.images (F.holds files.old) }
+    requires backed { IsBacked m.old (F.holds files.old) (D.blocks swap.old) }
     ensures rests { IfOk result (λ count. LeadsFrom (RestAt m.old (Mark.Hands left) counted (F.holds files.old) (stores F.Files D.SwapDev files.old swap.old))
         (RestDone m.old m.new (Mark.Hands left) count (stores F.Files D.SwapDev files.new swap.new))) }
     ensures stops { IfErr result (StopsFrom (RestAt m.old (Mark.Hands left) counted (F.holds files.old) (stores F.Files D.SwapDev files.old swap.old)) m.old
@@ -167,8 +162,7 @@ fn bring_in<F: Files, D: SwapDev>(
     requires steady { IsSteady m.old }
     requires counted { instructions_of m.old.kernel.journal ≡ counted }
     requires under { AtSome (RestAt m.old (Mark.BringIn pid) counted (F.holds files.old) (stores F.Files D.SwapDev files.old swap.old)) }
-    requires area { m.old.params.swap_blocks ≤ D.blocks swap.old }
-    requires files { AreFiles m.old.images (F.holds files.old) }
+    requires backed { IsBacked m.old (F.holds files.old) (D.blocks swap.old) }
     ensures rests { IfOk result (λ count. LeadsFrom (RestAt m.old (Mark.BringIn pid) counted (F.holds files.old) (stores F.Files D.SwapDev files.old swap.old))
         (RestDone m.old m.new (Mark.BringIn pid) count (stores F.Files D.SwapDev files.new swap.new))) }
     ensures stops { IfErr result (StopsFrom (RestAt m.old (Mark.BringIn pid) counted (F.holds files.old) (stores F.Files D.SwapDev files.old swap.old)) m.old
@@ -192,8 +186,7 @@ fn put_out<F: Files, D: SwapDev>(
     requires steady { IsSteady m.old }
     requires counted { instructions_of m.old.kernel.journal ≡ counted }
     requires under { AtSome (RestAt m.old (Mark.PutOut pid) counted (F.holds files.old) (stores F.Files D.SwapDev files.old swap.old)) }
-    requires area { m.old.params.swap_blocks ≤ D.blocks swap.old }
-    requires files { AreFiles m.old.images (F.holds files.old) }
+    requires backed { IsBacked m.old (F.holds files.old) (D.blocks swap.old) }
     ensures rests { IfOk result (λ count. LeadsFrom (RestAt m.old (Mark.PutOut pid) counted (F.holds files.old) (stores F.Files D.SwapDev files.old swap.old))
         (RestDone m.old m.new (Mark.PutOut pid) count (stores F.Files D.SwapDev files.new swap.new))) }
     ensures stops { IfErr result (StopsFrom (RestAt m.old (Mark.PutOut pid) counted (F.holds files.old) (stores F.Files D.SwapDev files.old swap.old)) m.old
@@ -216,8 +209,7 @@ fn note_owners<F: Files, D: SwapDev>(
     requires steady { IsSteady m.old }
     requires counted { instructions_of m.old.kernel.journal ≡ counted }
     requires under { AtSome (RestAt m.old Mark.Audit counted (F.holds files.old) (stores F.Files D.SwapDev files.old swap.old)) }
-    requires area { m.old.params.swap_blocks ≤ D.blocks swap.old }
-    requires files { AreFiles m.old.images (F.holds files.old) }
+    requires backed { IsBacked m.old (F.holds files.old) (D.blocks swap.old) }
     ensures rests { IfOk result (λ count. LeadsFrom (RestAt m.old Mark.Audit counted (F.holds files.old) (stores F.Files D.SwapDev files.old swap.old))
         (RestDone m.old m.new Mark.Audit count (stores F.Files D.SwapDev files.new swap.new))) }
     ensures stops { IfErr result (StopsFrom (RestAt m.old Mark.Audit counted (F.holds files.old) (stores F.Files D.SwapDev files.old swap.old)) m.old m.new
@@ -243,8 +235,7 @@ pub(crate) fn rest<F: Files, D: SwapDev>(
     requires steady { IsSteady m.old }
     requires counted { instructions_of m.old.kernel.journal ≡ counted }
     requires under { AtSome (RestAt m.old mark counted (F.holds files.old) (stores F.Files D.SwapDev files.old swap.old)) }
-    requires area { m.old.params.swap_blocks ≤ D.blocks swap.old }
-    requires files { AreFiles m.old.images (F.holds files.old) }
+    requires backed { IsBacked m.old (F.holds files.old) (D.blocks swap.old) }
     ensures rests { IfOk result
         (λ count. LeadsFrom (RestAt m.old mark counted (F.holds files.old) (stores F.Files D.SwapDev files.old swap.old))
         (RestDone m.old m.new mark count (stores F.Files D.SwapDev files.new swap.new))) }

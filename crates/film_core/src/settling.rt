@@ -2,9 +2,7 @@
 ghost use Rattle.io_edge.specs.WithFiles.{stores};
 ghost use Rattle.std.specs.Prelude.{◌≡◌, ◌+◌, ◌<◌, ◌≤◌, ◌^◌, length, IfOk, IfErr};
 ghost use Rattle.flat_state.specs.Journal.{instructions_of};
-ghost use Rattle.machine_state.specs.Going.{CanGoOn};
-ghost use Rattle.machine_state.specs.Files.{AreFiles};
-ghost use Rattle.machine_state.specs.Outside.{stop_of, TransfersPages};
+ghost use Rattle.machine_state.specs.Outside.{Asks, stop_of, TransfersPages};
 ghost use Rattle.journal_laws.specs.LastMoves.{last_moves};
 ghost use Rattle.step_units.specs.Sizes.{KeptAtStop};
 ghost use Rattle.step_units.specs.Stepped.{AtSome, LeadsFrom, StopsFrom};
@@ -24,14 +22,12 @@ pub(crate) fn settle<F: Files, D: SwapDev>(
     swap: &mut D,
     counted: u32,
 ) -> Result<u32, Stop>
-    requires ready { CanGoOn m.old }
+    requires asks { Asks m.old (F.holds files.old) (D.blocks swap.old) }
     requires frames { 64 ≤ length m.old.kernel.place.holds }
     requires low { last_moves m.old.kernel.journal ≤ 1000000 }
     requires counted { instructions_of m.old.kernel.journal ≡ counted }
     requires more { counted + 1 < 2 ^ 32 }
     requires way { AtSome (WayAt m.old (F.holds files.old) (stores F.Files D.SwapDev files.old swap.old)) }
-    requires area { m.old.params.swap_blocks ≤ D.blocks swap.old }
-    requires files { AreFiles m.old.images (F.holds files.old) }
     ensures settles { IfOk result
         (λ count. LeadsFrom (WayAt m.old (F.holds files.old) (stores F.Files D.SwapDev files.old swap.old))
         (StepSettled m.old m.new counted count (stores F.Files D.SwapDev files.new swap.new))) }

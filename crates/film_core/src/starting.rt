@@ -5,8 +5,7 @@ ghost use Rattle.vm_facts.specs.SwapImages.{SwapImage};
 ghost use Rattle.flat_state.specs.Flat.{Inputs};
 ghost use Rattle.flat_model.specs.Asked.{start_held};
 ghost use Rattle.machine_state.specs.Going.{IsRunning};
-ghost use Rattle.machine_state.specs.Files.{AreFiles};
-ghost use Rattle.machine_state.specs.Outside.{stop_of, TransfersPages};
+ghost use Rattle.machine_state.specs.Outside.{IsBacked, stop_of, TransfersPages};
 ghost use Rattle.vm_core.specs.FirstProcesses.{AreAmong, StartsFrom};
 ghost use Rattle.vm_core.specs.Leading.{IsTold};
 ghost use Rattle.vm_core.specs.Choosing.{turn_after};
@@ -43,8 +42,7 @@ impl Film {
         requires few { length first.now ≤ 16 }
         requires numbers { AreAmong self.old.machine.images first.now }
         requires count { length lines.now < 2 ^ 32 }
-        requires area { self.old.machine.params.swap_blocks ≤ D.blocks swap.old }
-        requires files { AreFiles self.old.machine.images (F.holds files.old) }
+        requires backed { IsBacked self.old.machine (F.holds files.old) (D.blocks swap.old) }
         ensures space { (A : Inputs) (pid : ℕ) → StartsFrom A self.old.machine first.now → result ≡ Ok (Started.NoSpace pid) → start_held A ≡ Err pid }
         ensures begins { result ≡ Ok Started.Ok → BeginsFilm self.old self.new first.now lines.now (F.holds files.old)
             (stores F.Files D.SwapDev files.old swap.old) (stores F.Files D.SwapDev files.new swap.new) }

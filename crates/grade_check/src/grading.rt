@@ -4,7 +4,7 @@ ghost use Rattle.std.specs.Prelude.{◌≡◌, ◌↔◌, ◌+◌, ◌-◌, ◌<
 ghost use Rattle.vm_facts.specs.SwapImages.{SwapImage};
 ghost use Rattle.io_edge.specs.FileHolding.{NamedFile};
 ghost use Rattle.flat_state.specs.Flat.{Inputs};
-ghost use Rattle.machine_state.specs.Files.{AreFiles};
+ghost use Rattle.machine_state.specs.Outside.{IsBacked};
 ghost use Rattle.film_core.specs.Schedules.{HaveFewMoves};
 ghost use Rattle.film_core.specs.Films.{IsFilming, FilmBegun};
 ghost use Rattle.grade_check.specs.Grading.{IsGraded};
@@ -50,15 +50,13 @@ fn go_on_along<F: Files, D: SwapDev>(
     requires few { length entries.now < 2 ^ 32 }
     requires moves { HaveFewMoves lines.now }
     requires count { length lines.now < 2 ^ 32 }
-    requires area { film.old.machine.params.swap_blocks ≤ D.blocks swap.old }
-    requires files { AreFiles film.old.machine.images (F.holds files.old) }
+    requires backed { IsBacked film.old.machine (F.holds files.old) (D.blocks swap.old) }
     ensures filming { OnOk result (IsFilming film.new lines.now (F.holds files.new) (stores F.Files D.SwapDev files.new swap.new)) }
     ensures goes { IfOk result (λ agrees. (A : Inputs) → A.lines ≡ lines.now → Along A film.old (F.holds files.old)
         (stores F.Files D.SwapDev files.old swap.old) true entries.now
         → Along A film.new (F.holds files.new) (stores F.Files D.SwapDev files.new swap.new) agrees entries.now) }
     ensures longer { OnOk result (length film.new.machine.kernel.journal ≡ length film.old.machine.kernel.journal + 1) }
-    ensures area { OnOk result (film.new.machine.params.swap_blocks ≤ D.blocks swap.new) }
-    ensures files { OnOk result (AreFiles film.new.machine.images (F.holds files.new)) }
+    ensures backed { OnOk result (IsBacked film.new.machine (F.holds files.new) (D.blocks swap.new)) }
 {
     match film.go_on(files, swap, lines) {
         Ok(()) => Ok(is_last_same(film.journal(), entries)),
@@ -135,8 +133,7 @@ pub fn grade_trace<F: Files, D: SwapDev>(
     requires moves { HaveFewMoves lines.now }
     requires count { length lines.now < 2 ^ 32 }
     requires few { length entries.now < 2 ^ 32 }
-    requires area { film.old.machine.params.swap_blocks ≤ D.blocks swap.old }
-    requires files { AreFiles film.old.machine.images (F.holds files.old) }
+    requires backed { IsBacked film.old.machine (F.holds files.old) (D.blocks swap.old) }
     ensures { IfOk result (λ grade. (A : Inputs) (image : SwapImage) → 64 ≤ A.frames → A.lines ≡ lines.now
         → FilmBegun A film.old (F.holds files.old) (stores F.Files D.SwapDev files.old swap.old) image → IsGraded A entries.now
         film.new.machine.kernel.journal grade) }

@@ -5,6 +5,7 @@ ghost use Rattle.vm_facts.specs.SwapImages.{SwapImage};
 ghost use Rattle.flat_state.specs.Flat.{Inputs};
 ghost use Rattle.io_edge.specs.Octets.{AreOctetFiles};
 ghost use Rattle.machine_state.specs.Files.{AreFiles};
+ghost use Rattle.machine_state.specs.Outside.{IsBacked};
 ghost use Rattle.run_files.specs.ImageWords.{IsShortName};
 ghost use Rattle.replay_check.specs.Images.{AreImageFiles};
 ghost use Rattle.grade_check.specs.Schedules.{HaveFewMoves};
@@ -93,8 +94,7 @@ fn grade_film<F: Files, D: SwapDev>(
     requires moves { HaveFewMoves lines.now }
     requires count { length lines.now < 2 ^ 32 }
     requires few { length entries.now < 2 ^ 32 }
-    requires area { film.old.machine.params.swap_blocks ≤ D.blocks swap.old }
-    requires files { AreFiles film.old.machine.images (F.holds files.old) }
+    requires backed { IsBacked film.old.machine (F.holds files.old) (D.blocks swap.old) }
     ensures { IfOk result (λ graded. (A : Inputs) (image : SwapImage) → 64 ≤ A.frames → A.lines ≡ lines.now
         → FilmBegun A film.old (F.holds files.old) (stores F.Files D.SwapDev files.old swap.old) image → TellsGrade A entries.now graded) }
 {
@@ -121,8 +121,7 @@ fn grade_begun<'a, F: Files, D: SwapDev>(
     requires moves { HaveFewMoves lines.now }
     requires count { length lines.now < 2 ^ 32 }
     requires few { length entries.now < 2 ^ 32 }
-    requires area { film.old.machine.params.swap_blocks ≤ D.blocks swap.old }
-    requires files { AreFiles film.old.machine.images (F.holds files.old) }
+    requires backed { IsBacked film.old.machine (F.holds files.old) (D.blocks swap.old) }
     ensures { (A : Inputs) (image : SwapImage) → 64 ≤ A.frames → A.lines ≡ lines.now
         → FilmBegun A film.old (F.holds files.old) (stores F.Files D.SwapDev files.old swap.old) image → EndsGrading A entries.now result }
 {

@@ -68,6 +68,7 @@ pub mod WriteStanding
 pub mod KeptEntry
 pub mod PageWrites
 pub mod Transfers
+pub mod Backing
 pub mod Holding
 pub mod HoldingSteps
 pub mod WritesGoOn

@@ -31,7 +31,7 @@ pub mod Ahead
 pub mod Down
 pub mod Lent
 pub mod UserMemoryLaws
-pub mod Outside
 pub mod FilesAsked
 pub mod Going
+pub mod Outside
 pub mod Performing

@@ -1,10 +1,14 @@
 -- What a call that moves pages does to the files and the swap device, by why it stopped, over bounds `F: Files` and `D: SwapDev`.
-use Rattle.std.specs.Prelude.{◌≡◌, ℕ, Option, Some, None, Result, Ok, Err}
+use Rattle.std.specs.Prelude.{◌≡◌, ◌≤◌, ℕ, List, Option, Some, None, Result, Ok, Err}
 use Rattle.vm_facts.specs.declared.stop.Stop.{Stop}
 use Rattle.vm_facts.specs.declared.stop.Stop.TheVariants as stops
 use Rattle.io_edge.specs.Count.{Rose}
+use Rattle.io_edge.specs.FileHolding.{NamedFile}
 use Rattle.io_edge.specs.declared.files.Files.{Ghosts as FilesGhosts}
 use Rattle.io_edge.specs.declared.swap_dev.SwapDev.{Ghosts as SwapGhosts}
+use Rattle.table_steps.specs.Machine.{Standing}
+use Rattle.table_steps.specs.Files.{AreFiles}
+use Rattle.machine_state.specs.Going.{CanGoOn}
 
 -- why a call stopped; none where it went on
 abbrev pub stop_of : {A : Type 0} → Result A Stop → Option Stop
@@ -44,3 +48,13 @@ pub record MovesSwapPages {D : Type 0} (d : SwapGhosts D) (stop : Option Stop) (
 pub record TransfersPages {F D : Type 0} (f : FilesGhosts F) (d : SwapGhosts D) (stop : Option Stop) (before after : F) (old new : D) : Type 0 where
   pub files : ReadsFilePages f stop before after
   pub swap : MovesSwapPages d stop old new
+
+-- the device has as many blocks as the machine's swap area, and the files of its images are there, where they are told
+pub record IsBacked (m : Standing) (holds : Option (List NamedFile)) (blocks : ℕ) : Type 0 where
+  pub area : m.params.swap_blocks ≤ blocks
+  pub files : AreFiles m.images holds
+
+-- what a call that moves pages asks: the machine can go on, and is backed
+pub record Asks (m : Standing) (holds : Option (List NamedFile)) (blocks : ℕ) : Type 0 where
+  pub ready : CanGoOn m
+  pub backed : IsBacked m holds blocks

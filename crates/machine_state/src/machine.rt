@@ -14,11 +14,10 @@ ghost use Rattle.machine_state.specs.Going.{CanGoOn, IsRunning};
 ghost use Rattle.machine_state.specs.Texts.{TextsStand};
 ghost use Rattle.page_model.specs.Swapper.{is_settled};
 ghost use Rattle.table_steps.specs.Settled.{SettledBy, IsSameBeside, StopsSettling};
-ghost use Rattle.table_steps.specs.Files.{AreFiles};
 ghost use Rattle.table_steps.specs.Done.{sources, IsDone, KeepsThrough, ImageAfter, SwapAfter, StopsFor};
 ghost use Rattle.table_steps.specs.Failing.{LosesFor};
 ghost use Rattle.table_steps.specs.Conditions.{CanZero, CanBringIn, CanReclaim, HasStopped, SameElsewhere, SameEverywhere, SameOutside};
-ghost use Rattle.machine_state.specs.Outside.{stop_of, TransfersPages};
+ghost use Rattle.machine_state.specs.Outside.{Asks, stop_of, TransfersPages};
 ghost use Rattle.machine_state.specs.FilesAsked.{NotedAfter};
 
 use core_map::CoreMap;
@@ -200,9 +199,7 @@ impl Machine {
     ///
     /// A transfer that fails is kept until the machine ends.
     pub fn done<F: Files, D: SwapDev>(&mut self, files: &mut F, swap: &mut D) -> Result<bool, Stop>
-        requires ready { CanGoOn self.old }
-        requires area { self.old.params.swap_blocks ≤ D.blocks swap.old }
-        requires files { AreFiles self.old.images (F.holds files.old) }
+        requires asks { Asks self.old (F.holds files.old) (D.blocks swap.old) }
         ensures idle { (result ≡ Ok false) ↔ (self.old.kernel.place.transfers ≡ []) }
         ensures still { result ≡ Ok false → self.new ≡ self.old }
         ensures step { result ≡ Ok true → IsDone (sources self.old (F.holds files.old)) (stores F.Files D.SwapDev files.old swap.old) self.old.kernel
@@ -270,9 +267,7 @@ impl Machine {
         swap: &mut D,
         sid: u32,
     ) -> Result<(), Stop>
-        requires ready { CanGoOn self.old }
-        requires area { self.old.params.swap_blocks ≤ D.blocks swap.old }
-        requires files { AreFiles self.old.images (F.holds files.old) }
+        requires asks { Asks self.old (F.holds files.old) (D.blocks swap.old) }
         ensures settled { OnOk result
             (SettledBy (sources self.old (F.holds files.old)) sid self.old.kernel self.new.kernel (stores F.Files D.SwapDev files.old swap.old)
             (stores F.Files D.SwapDev files.new swap.new)) }

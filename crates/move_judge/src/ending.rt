@@ -1,11 +1,10 @@
 //! The line by which a transfer ends.
 ghost use Rattle.io_edge.specs.WithFiles.{stores};
-ghost use Rattle.std.specs.Prelude.{◌≡◌, ◌≤◌, IfOk, OnOk, OnErr};
+ghost use Rattle.std.specs.Prelude.{◌≡◌, IfOk, OnOk, OnErr};
 ghost use Rattle.vm_facts.specs.declared.entry.Entry.TheVariants as entries;
 ghost use Rattle.machine_state.specs.Going.{CanGoOn};
-ghost use Rattle.machine_state.specs.Files.{AreFiles};
 ghost use Rattle.machine_state.specs.Conditions.{HasStopped};
-ghost use Rattle.machine_state.specs.Outside.{stop_of, TransfersPages};
+ghost use Rattle.machine_state.specs.Outside.{Asks, stop_of, TransfersPages};
 ghost use Rattle.paged_model.specs.Moves.{done_reason};
 ghost use Rattle.move_judge.specs.Judged.{JudgedThrough};
 
@@ -20,9 +19,7 @@ pub fn judge_done<F: Files, D: SwapDev>(
     files: &mut F,
     swap: &mut D,
 ) -> Result<Option<Reason>, Stop>
-    requires ready { CanGoOn m.old }
-    requires area { m.old.params.swap_blocks ≤ D.blocks swap.old }
-    requires files { AreFiles m.old.images (F.holds files.old) }
+    requires asks { Asks m.old (F.holds files.old) (D.blocks swap.old) }
     ensures judged { IfOk result (λ reason. reason ≡ done_reason m.old.kernel.place.transfers) }
     ensures made { IfOk result (JudgedThrough entries.Done (F.holds files.old) (stores F.Files D.SwapDev files.old swap.old)
         (stores F.Files D.SwapDev files.new swap.new) m.old m.new) }

@@ -1,10 +1,9 @@
 -- Units of paging, one by one and in order.
-use Rattle.std.proofs.Common.{◌≡◌, ℕ, ◌≤◌, List, [], ◌∷◌, ◌++◌, length, Bool, Option, Some, refl, sym, ap, ◌∙◌, subst, arith}
+use Rattle.std.proofs.Common.{◌≡◌, ℕ, List, [], ◌∷◌, ◌++◌, length, Bool, Option, Some, refl, sym, ap, ◌∙◌, subst}
 use Rattle.vm_facts.specs.SwapImages.{SwapImage}
 use Rattle.vm_facts.specs.declared.page.Page.{Page}
 use Rattle.vm_facts.specs.declared.entry.Entry.{Entry}
 use Rattle.vm_facts.specs.declared.entry.Entry.TheVariants as entries
-use Rattle.vm_facts.specs.declared.params.Params.{Params}
 use Rattle.flat_state.specs.Journal.{append, appended}
 use Rattle.page_model.specs.Placement.{Placement}
 use Rattle.page_model.specs.Hands.{hand_moves}
@@ -15,8 +14,6 @@ use Rattle.kernel_model.specs.Kernel.{Kernel}
 use Rattle.io_edge.specs.FileHolding.{NamedFile}
 use Rattle.machine_state.specs.Sourced.{ImageNamed, files_named}
 use Rattle.machine_state.specs.Machine.{Standing}
-use Rattle.machine_state.specs.Going.{CanGoOn}
-use Rattle.machine_state.specs.Files.{AreFiles}
 use Rattle.machine_state.specs.Settled.{IsSameBeside}
 use Rattle.paging_units.specs.Made.{Ground, ground, MadeBy, ImageBy, Made, MakesUnit, Makes, SameBeside, starts_by, starts_behind}
 
@@ -159,18 +156,4 @@ pub makes_both : (g : Ground) (us vs : List Entry) (old next new : Standing) (i 
 makes_both g us vs old next new i h j a b = record {
   made = made_append g us vs old.kernel next.kernel new.kernel i h j a.made b.made;
   beside = beside_both old next new a.beside b.beside;
-}
-
--- what each call asks of the machine, the files and the swap device
-pub record Asks (s : Standing) (holds : Option (List NamedFile)) (blocks : ℕ) : Type 0 where
-  pub ready : CanGoOn s
-  pub area : s.params.swap_blocks ≤ blocks
-  pub files : AreFiles s.images holds
-
-pub asks_on : (old next : Standing) (holds later : Option (List NamedFile)) (blocks more : ℕ) → IsSameBeside old next → later ≡ holds → more ≡ blocks
-    → CanGoOn next → Asks old holds blocks → Asks next later more
-asks_on old next holds later blocks more b e f r a = record {
-  ready = r;
-  area = let x = a.area in let size = ap (λ (x : Params). x.swap_blocks) b.params in omega arith;
-  files = subst (λ (ns : List ImageNamed). AreFiles ns later) (sym b.images) (subst (λ (x : Option (List NamedFile)). AreFiles old.images x) (sym e) a.files);
 }

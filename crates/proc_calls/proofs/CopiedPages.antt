@@ -1,5 +1,5 @@
 -- A copy of a page as a whole, and copies one after another.
-use Rattle.std.proofs.Common.{◌≡◌, inl, inr, ℕ, suc, ◌<◌, ◌≤◌, List, [], ◌∷◌, length, Option, Some, None, refl, sym, ap, ◌∙◌, subst, arith}
+use Rattle.std.proofs.Common.{◌≡◌, inl, inr, ℕ, suc, ◌<◌, List, [], ◌∷◌, length, Option, Some, None, refl, sym, ap, ◌∙◌, subst, arith}
 use Rattle.std.specs.Prelude.{Result, Ok, Err, OnOk, MatchResult}
 use Rattle.std.proofs.lemmas.Option.{same_Some}
 use Rattle.vm_facts.specs.SwapImages.{SwapImage}
@@ -10,10 +10,7 @@ use Rattle.io_edge.specs.FileHolding.{NamedFile}
 use Rattle.page_model.specs.Placement.{Placement, Due, Start, CopyOf}
 use Rattle.page_model.specs.Place.{due_after}
 use Rattle.kernel_model.specs.Kernel.{Kernel, copy_step}
-use Rattle.vm_facts.specs.declared.params.Params.{Params}
 use Rattle.machine_state.specs.Machine.{Standing}
-use Rattle.machine_state.specs.Sourced.{ImageNamed}
-use Rattle.machine_state.specs.Files.{AreFiles}
 use Rattle.machine_state.specs.Going.{CanGoOn}
 use Rattle.machine_state.specs.Calls.{first_due}
 use Rattle.machine_state.specs.Performing.{IsAtBound, Performs, StopsForRoom}
@@ -179,13 +176,6 @@ fewer_due p r sid child f e =
     omega (arith, less, more)
 
 -- what the files and the swap device must have for the next page
-pub area_next : (old next : Standing) (n m : ℕ) → next.params ≡ old.params → m ≡ n → old.params.swap_blocks ≤ n → next.params.swap_blocks ≤ m
-area_next old next n m r e l = let a = ap (λ (x : Params). x.swap_blocks) r in omega arith
-
-pub files_next : (old next : Standing) (a b : Option (List NamedFile)) → next.images ≡ old.images → b ≡ a → AreFiles old.images a → AreFiles next.images b
-files_next old next a b r e f =
-    subst (λ (ns : List ImageNamed). AreFiles ns b) (sym r) (subst (λ (h : Option (List NamedFile)). AreFiles old.images h) (sym e) f)
-
 -- What is copied so far and what is left make the whole.
 
 pub record CopiesSoFar (old now : Standing) (holds later : Option (List NamedFile)) (i h : Option SwapImage) : Type 0 where

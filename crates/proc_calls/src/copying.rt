@@ -3,8 +3,7 @@ ghost use Rattle.io_edge.specs.WithFiles.{stores};
 ghost use Rattle.std.specs.Prelude.{◌≡◌, ◌≤◌, ◌∷◌, [], OnOk, MatchResult};
 ghost use Rattle.page_model.specs.Rank.{HasRoom};
 ghost use Rattle.machine_state.specs.Going.{CanGoOn};
-ghost use Rattle.machine_state.specs.Files.{AreFiles};
-ghost use Rattle.machine_state.specs.Outside.{stop_of, TransfersPages};
+ghost use Rattle.machine_state.specs.Outside.{Asks, stop_of, TransfersPages};
 ghost use Rattle.fault_fill.specs.LastMoves.{last_moves};
 ghost use Rattle.proc_calls.specs.Copying.{in_space, AreCopiesFrom, IsCopyFirst, CopiesPage, StopsPage, OnceCopied, CopiesAll, HasCopied, StopsCopying};
 
@@ -33,9 +32,7 @@ pub fn copy_page<F: Files, D: SwapDev>(
     child: Page,
     parent: Page,
 ) -> Result<(), Stop>
-    requires ready { CanGoOn m.old }
-    requires area { m.old.params.swap_blocks ≤ D.blocks swap.old }
-    requires files { AreFiles m.old.images (F.holds files.old) }
+    requires asks { Asks m.old (F.holds files.old) (D.blocks swap.old) }
     requires first { IsCopyFirst m.old.kernel.place child parent }
     requires room { HasRoom m.old.kernel.place (parent ∷ []) }
     requires low { last_moves m.old.kernel.journal ≤ 1000000 }
@@ -58,9 +55,7 @@ pub fn copy_due<F: Files, D: SwapDev>(
     swap: &mut D,
     parent: u32,
 ) -> Result<(), Stop>
-    requires ready { CanGoOn m.old }
-    requires area { m.old.params.swap_blocks ≤ D.blocks swap.old }
-    requires files { AreFiles m.old.images (F.holds files.old) }
+    requires asks { Asks m.old (F.holds files.old) (D.blocks swap.old) }
     requires due { AreCopiesFrom parent m.old.kernel.place.due }
     requires room { (page : Page) → HasRoom m.old.kernel.place (page ∷ []) }
     requires low { last_moves m.old.kernel.journal ≤ 1000000 }

@@ -1,14 +1,13 @@
 //! Ends of processes.
 ghost use Rattle.io_edge.specs.WithFiles.{stores};
-ghost use Rattle.std.specs.Prelude.{◌≡◌, ◌≤◌, true, IsSome, IfOk, OnOk, IfErr, Ok, Some};
+ghost use Rattle.std.specs.Prelude.{◌≡◌, true, IsSome, IfOk, OnOk, IfErr, Ok, Some};
 ghost use Rattle.user_vax.specs.Program.{run};
 ghost use Rattle.flat_model.specs.Calls.{exit_reply};
 ghost use Rattle.flat_model.specs.declared.calls.Reply.TheVariants.{Exits};
 ghost use Rattle.kernel_model.specs.Unit.{has_lender, lender_among, proc_of};
 ghost use Rattle.machine_state.specs.Going.{CanGoOn, IsRunning};
-ghost use Rattle.machine_state.specs.Files.{AreFiles};
 ghost use Rattle.machine_state.specs.UserMemory.{CanLend, kernel_answers};
-ghost use Rattle.machine_state.specs.Outside.{stop_of, TransfersPages};
+ghost use Rattle.machine_state.specs.Outside.{IsBacked, stop_of, TransfersPages};
 ghost use Rattle.vfork_pass.specs.Passed.{HasGivenBack};
 ghost use Rattle.fault_fill.specs.Growth.{space_of_pid};
 ghost use Rattle.proc_calls.specs.Callers.{IsCaller};
@@ -56,8 +55,7 @@ pub fn leave_space<F: Files, D: SwapDev>(
     pid: u32,
 ) -> Result<(), Stop>
     requires calls { IsCaller m.old pid }
-    requires area { m.old.params.swap_blocks ≤ D.blocks swap.old }
-    requires files { AreFiles m.old.images (F.holds files.old) }
+    requires backed { IsBacked m.old (F.holds files.old) (D.blocks swap.old) }
     ensures left { OnOk result (HasLeft m.old m.new pid (F.holds files.old) (stores F.Files D.SwapDev files.old swap.old)
         (stores F.Files D.SwapDev files.new swap.new)) }
     ensures given { OnOk result
@@ -85,8 +83,7 @@ pub fn end<F: Files, D: SwapDev>(
     status: u32,
 ) -> Result<(), Stop>
     requires calls { IsCaller m.old pid }
-    requires area { m.old.params.swap_blocks ≤ D.blocks swap.old }
-    requires files { AreFiles m.old.images (F.holds files.old) }
+    requires backed { IsBacked m.old (F.holds files.old) (D.blocks swap.old) }
     ensures ended { OnOk result (HasEnded m.old m.new pid status (F.holds files.old) (stores F.Files D.SwapDev files.old swap.old)
         (stores F.Files D.SwapDev files.new swap.new)) }
     ensures stops { IfErr result (StopsAlive m.old m.new pid (F.holds files.old) (stores F.Files D.SwapDev files.old swap.old)
@@ -113,8 +110,7 @@ pub fn kill<F: Files, D: SwapDev>(
     signal: u8,
 ) -> Result<(), Stop>
     requires calls { IsCaller m.old pid }
-    requires area { m.old.params.swap_blocks ≤ D.blocks swap.old }
-    requires files { AreFiles m.old.images (F.holds files.old) }
+    requires backed { IsBacked m.old (F.holds files.old) (D.blocks swap.old) }
     ensures ended { OnOk result (HasEnded m.old m.new pid signal (F.holds files.old) (stores F.Files D.SwapDev files.old swap.old)
         (stores F.Files D.SwapDev files.new swap.new)) }
     ensures stops { IfErr result (StopsAlive m.old m.new pid (F.holds files.old) (stores F.Files D.SwapDev files.old swap.old)
@@ -155,8 +151,7 @@ pub fn exit<F: Files, D: SwapDev>(
     regs: &Regs,
 ) -> Result<Called, Stop>
     requires calls { IsCaller m.old pid }
-    requires area { m.old.params.swap_blocks ≤ D.blocks swap.old }
-    requires files { AreFiles m.old.images (F.holds files.old) }
+    requires backed { IsBacked m.old (F.holds files.old) (D.blocks swap.old) }
     ensures comes { IfOk result (λ called. ExitComes m.old m.new pid regs.now (run (kernel_answers m.old.kernel (space_of_pid m.old.kernel pid))
         (exit_reply regs.now)) (F.holds files.old) (stores F.Files D.SwapDev files.old swap.old) (stores F.Files D.SwapDev files.new swap.new) called) }
     ensures stops { IfErr result (StopsExit m.old m.new pid (run (kernel_answers m.old.kernel (space_of_pid m.old.kernel pid)) (exit_reply regs.now))

@@ -1,14 +1,13 @@
 //! The call that starts another image.
 ghost use Rattle.io_edge.specs.WithFiles.{stores};
-ghost use Rattle.std.specs.Prelude.{◌≡◌, ◌≤◌, List, [], length, IfOk, OnOk, IfErr};
+ghost use Rattle.std.specs.Prelude.{◌≡◌, List, [], length, IfOk, OnOk, IfErr};
 ghost use Rattle.user_vax.specs.Program.{run};
 ghost use Rattle.flat_state.specs.Flat.{NamedImage};
 ghost use Rattle.flat_model.specs.Calls.{execve_reply};
 ghost use Rattle.page_model.specs.Rank.{HasRoom};
 ghost use Rattle.machine_state.specs.Going.{CanGoOn};
-ghost use Rattle.machine_state.specs.Files.{AreFiles};
 ghost use Rattle.machine_state.specs.UserMemory.{CanLend, kernel_answers};
-ghost use Rattle.machine_state.specs.Outside.{stop_of, TransfersPages};
+ghost use Rattle.machine_state.specs.Outside.{IsBacked, stop_of, TransfersPages};
 ghost use Rattle.fault_fill.specs.Growth.{space_of_pid};
 ghost use Rattle.call_reads.specs.Reading.{AreNamed, StartsAs};
 ghost use Rattle.proc_calls.specs.Callers.{IsCaller};
@@ -55,8 +54,7 @@ pub fn execve<F: Files, D: SwapDev>(
     regs: &Regs,
 ) -> Result<Called, Stop>
     requires calls { IsCaller m.old pid }
-    requires area { m.old.params.swap_blocks ≤ D.blocks swap.old }
-    requires files { AreFiles m.old.images (F.holds files.old) }
+    requires backed { IsBacked m.old (F.holds files.old) (D.blocks swap.old) }
     requires room { HasRoom m.old.kernel.place [] }
     ensures comes { (known : List NamedImage) → AreNamed known m.old.images
         → IfOk result (ExecComes m.old m.new pid regs.now (execve_read known m.old pid regs.now) (F.holds files.old)

@@ -3,8 +3,7 @@ ghost use Rattle.io_edge.specs.WithFiles.{stores};
 ghost use Rattle.std.specs.Prelude.{◌≤◌, [], OnOk, MatchResult};
 ghost use Rattle.page_model.specs.Rank.{HasRoom};
 ghost use Rattle.machine_state.specs.Going.{CanGoOn};
-ghost use Rattle.machine_state.specs.Files.{AreFiles};
-ghost use Rattle.machine_state.specs.Outside.{stop_of, TransfersPages};
+ghost use Rattle.machine_state.specs.Outside.{Asks, stop_of, TransfersPages};
 ghost use Rattle.fault_fill.specs.LastMoves.{last_moves};
 ghost use Rattle.proc_calls.specs.Filling.{IsStartFirst, FillsStart, StopsStart};
 
@@ -21,9 +20,7 @@ pub fn fill_start<F: Files, D: SwapDev>(
     swap: &mut D,
     page: Page,
 ) -> Result<(), Stop>
-    requires ready { CanGoOn m.old }
-    requires area { m.old.params.swap_blocks ≤ D.blocks swap.old }
-    requires files { AreFiles m.old.images (F.holds files.old) }
+    requires asks { Asks m.old (F.holds files.old) (D.blocks swap.old) }
     requires first { IsStartFirst m.old.kernel.place page }
     requires room { HasRoom m.old.kernel.place [] }
     requires low { last_moves m.old.kernel.journal ≤ 1000000 }

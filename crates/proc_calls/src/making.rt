@@ -1,14 +1,13 @@
 //! Calls that make processes.
 ghost use Rattle.io_edge.specs.WithFiles.{stores};
-ghost use Rattle.std.specs.Prelude.{◌≡◌, ◌≤◌, ◌∷◌, [], IfOk, IfErr, OnOk};
+ghost use Rattle.std.specs.Prelude.{◌≡◌, ◌∷◌, [], IfOk, IfErr, OnOk};
 ghost use Rattle.vm_facts.specs.declared.page.Page.{Page};
 ghost use Rattle.swap_book.specs.declared.Owner.TheVariants.{U as UOf};
 ghost use Rattle.page_model.specs.Rank.{HasRoom};
 ghost use Rattle.flat_state.specs.declared.change.Change.TheVariants.{Fork as ForkOf, Lend as LendOf};
 ghost use Rattle.kernel_model.specs.Asks.{HasSpace};
 ghost use Rattle.machine_state.specs.Going.{CanGoOn, IsRunning};
-ghost use Rattle.machine_state.specs.Files.{AreFiles};
-ghost use Rattle.machine_state.specs.Outside.{stop_of, TransfersPages};
+ghost use Rattle.machine_state.specs.Outside.{IsBacked, stop_of, TransfersPages};
 ghost use Rattle.fault_fill.specs.Growth.{space_of_pid};
 ghost use Rattle.proc_calls.specs.Callers.{IsCaller};
 ghost use Rattle.proc_calls.specs.Copying.{HasCopied};
@@ -119,8 +118,7 @@ pub fn fork<F: Files, D: SwapDev>(
     regs: &Regs,
 ) -> Result<Called, Stop>
     requires calls { IsCaller m.old pid }
-    requires area { m.old.params.swap_blocks ≤ D.blocks swap.old }
-    requires files { AreFiles m.old.images (F.holds files.old) }
+    requires backed { IsBacked m.old (F.holds files.old) (D.blocks swap.old) }
     requires room { (page : Page) → HasRoom m.old.kernel.place (page ∷ []) }
     ensures ready { IfOk result (λ called. called ≡ Called.Ready) }
     ensures forked { OnOk result (Forked m.old m.new pid regs.now (F.holds files.old) (stores F.Files D.SwapDev files.old swap.old)

@@ -14,9 +14,8 @@ ghost use Rattle.machine_state.specs.Conditions.{HasStopped};
 ghost use Rattle.machine_state.specs.Views.{ShowsSpace};
 ghost use Rattle.machine_state.specs.Showing.{ShowsCore};
 ghost use Rattle.machine_state.specs.Applying.{CanApply};
-ghost use Rattle.machine_state.specs.Files.{AreFiles};
 ghost use Rattle.machine_state.specs.UserMemory.{CanLend, kernel_answers};
-ghost use Rattle.machine_state.specs.Outside.{stop_of, TransfersPages};
+ghost use Rattle.machine_state.specs.Outside.{IsBacked, stop_of, TransfersPages};
 ghost use Rattle.fault_fill.specs.Growth.{space_of_pid};
 ghost use Rattle.proc_calls.specs.Answered.{Replied};
 ghost use Rattle.proc_calls.specs.Callers.{IsCaller};
@@ -129,8 +128,7 @@ fn cut<F: Files, D: SwapDev>(
     sizes: Sizes,
 ) -> Result<Called, Stop>
     requires calls { IsCaller m.old pid }
-    requires area { m.old.params.swap_blocks ≤ D.blocks swap.old }
-    requires files { AreFiles m.old.images (F.holds files.old) }
+    requires backed { IsBacked m.old (F.holds files.old) (D.blocks swap.old) }
     requires named { sizes.sid ≡ space_of_pid m.old.kernel pid }
     requires stack { sizes.stack_pages ≡ process_stack_pages m.old.kernel pid }
     requires few { sizes.stack_pages ≤ 512 }
@@ -167,8 +165,7 @@ fn move_end<F: Files, D: SwapDev>(
     address: u32,
 ) -> Result<Called, Stop>
     requires calls { IsCaller m.old pid }
-    requires area { m.old.params.swap_blocks ≤ D.blocks swap.old }
-    requires files { AreFiles m.old.images (F.holds files.old) }
+    requires backed { IsBacked m.old (F.holds files.old) (D.blocks swap.old) }
     ensures moves { IfOk result
         (MovesEnd m.old m.new pid regs.now (pages_to m.old.kernel pid address) (F.holds files.old) (stores F.Files D.SwapDev files.old swap.old)
         (stores F.Files D.SwapDev files.new swap.new)) }
@@ -199,8 +196,7 @@ pub fn brk<F: Files, D: SwapDev>(
     regs: &Regs,
 ) -> Result<Called, Stop>
     requires calls { IsCaller m.old pid }
-    requires area { m.old.params.swap_blocks ≤ D.blocks swap.old }
-    requires files { AreFiles m.old.images (F.holds files.old) }
+    requires backed { IsBacked m.old (F.holds files.old) (D.blocks swap.old) }
     ensures comes { IfOk result (BreakComes m.old m.new pid regs.now (run (kernel_answers m.old.kernel (space_of_pid m.old.kernel pid)) (argument regs.now 1))
         (F.holds files.old) (stores F.Files D.SwapDev files.old swap.old) (stores F.Files D.SwapDev files.new swap.new)) }
     ensures stops { IfErr result (StopsBreak m.old m.new pid (run (kernel_answers m.old.kernel (space_of_pid m.old.kernel pid)) (argument regs.now 1))

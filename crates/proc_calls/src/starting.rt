@@ -4,9 +4,8 @@ ghost use Rattle.std.specs.Prelude.{◌≡◌, ◌<◌, ◌≤◌, [], true, fal
 ghost use Rattle.page_model.specs.Rank.{HasRoom};
 ghost use Rattle.kernel_model.specs.Unit.{has_lender, lender_among};
 ghost use Rattle.machine_state.specs.Going.{CanGoOn, IsRunning};
-ghost use Rattle.machine_state.specs.Files.{AreFiles};
 ghost use Rattle.machine_state.specs.Wants.{CanAsk};
-ghost use Rattle.machine_state.specs.Outside.{stop_of, TransfersPages};
+ghost use Rattle.machine_state.specs.Outside.{IsBacked, stop_of, TransfersPages};
 ghost use Rattle.vfork_pass.specs.Passed.{HasGivenBack};
 ghost use Rattle.proc_calls.specs.Callers.{IsCaller};
 ghost use Rattle.proc_calls.specs.Starting.{image_found, wants_found, is_shared, AreNextWants, Finds, Starts, StopsFinding, StopsImage};
@@ -30,8 +29,7 @@ fn find_pieces<F: Files, D: SwapDev>(
     wants: &[Want],
 ) -> Result<bool, Stop>
     requires calls { IsCaller m.old pid }
-    requires area { m.old.params.swap_blocks ≤ D.blocks swap.old }
-    requires files { AreFiles m.old.images (F.holds files.old) }
+    requires backed { IsBacked m.old (F.holds files.old) (D.blocks swap.old) }
     requires can { CanAsk m.old.kernel.holdings wants.now }
     ensures finds { IfOk result (λ fits. Finds (wants_found wants.now) fits m.old m.new pid (F.holds files.old) (stores F.Files D.SwapDev files.old swap.old)
         (stores F.Files D.SwapDev files.new swap.new)) }
@@ -79,8 +77,7 @@ fn find_space<F: Files, D: SwapDev>(
     image: u32,
 ) -> Result<bool, Stop>
     requires calls { IsCaller m.old pid }
-    requires area { m.old.params.swap_blocks ≤ D.blocks swap.old }
-    requires files { AreFiles m.old.images (F.holds files.old) }
+    requires backed { IsBacked m.old (F.holds files.old) (D.blocks swap.old) }
     requires above { 0 < image }
     requires within { image ≤ length m.old.images }
     ensures finds { IfOk result (λ fits. Finds (image_found image) fits m.old m.new pid (F.holds files.old) (stores F.Files D.SwapDev files.old swap.old)
@@ -115,8 +112,7 @@ pub fn start_image<F: Files, D: SwapDev>(
     top: Bytes,
 ) -> Result<Called, Stop>
     requires calls { IsCaller m.old pid }
-    requires area { m.old.params.swap_blocks ≤ D.blocks swap.old }
-    requires files { AreFiles m.old.images (F.holds files.old) }
+    requires backed { IsBacked m.old (F.holds files.old) (D.blocks swap.old) }
     requires above { 0 < image }
     requires within { image ≤ length m.old.images }
     requires page { length top ≡ 1024 }

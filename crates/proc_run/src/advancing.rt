@@ -1,16 +1,15 @@
 //! The next instruction of a process, or a page that it waits for.
 ghost use Rattle.io_edge.specs.WithFiles.{stores};
-ghost use Rattle.std.specs.Prelude.{◌≡◌, ◌⊎◌, ◌+◌, ◌^◌, ◌<◌, ◌≤◌, false, Some, IfOk, OnOk, IfErr, OnErr, IfSome, Err};
+ghost use Rattle.std.specs.Prelude.{◌≡◌, ◌⊎◌, ◌+◌, ◌^◌, ◌<◌, false, Some, IfOk, OnOk, IfErr, OnErr, IfSome, Err};
 ghost use Rattle.vm_facts.specs.declared.entry.Entry.TheVariants.{Ran};
 ghost use Rattle.user_vax.specs.Program.{run};
 ghost use Rattle.user_vax.specs.Instruction.{instruction, answer_of};
 ghost use Rattle.flat_state.specs.Journal.{instructions_of};
 ghost use Rattle.machine_state.specs.Going.{CanGoOn};
 ghost use Rattle.machine_state.specs.Conditions.{HasStopped};
-ghost use Rattle.machine_state.specs.Files.{AreFiles};
 ghost use Rattle.machine_state.specs.Joined.{IsFullFor};
 ghost use Rattle.machine_state.specs.UserMemory.{CanLend};
-ghost use Rattle.machine_state.specs.Outside.{stop_of, TransfersPages};
+ghost use Rattle.machine_state.specs.Outside.{IsBacked, stop_of, TransfersPages};
 ghost use Rattle.step_units.specs.Callers.{regs_of};
 ghost use Rattle.step_units.specs.Ready.{Continues};
 ghost use Rattle.step_units.specs.Sizes.{KeptAtStop};
@@ -89,8 +88,7 @@ pub fn next_step<F: Files, D: SwapDev>(
 ) -> Result<Advance, Stop>
     requires steady { IsSteady m.old }
     requires lends { CanLend m.old.kernel pid }
-    requires area { m.old.params.swap_blocks ≤ D.blocks swap.old }
-    requires files { AreFiles m.old.images (F.holds files.old) }
+    requires backed { IsBacked m.old (F.holds files.old) (D.blocks swap.old) }
     requires registers { before.now ≡ regs_of m.old.kernel pid }
     requires fits { instructions_of m.old.kernel.journal + 1 < 2 ^ 32 }
     ensures advances { IfOk result (λ advance. LeadsFrom
@@ -138,8 +136,7 @@ pub fn advance_from<F: Files, D: SwapDev>(
 ) -> Result<Advance, Stop>
     requires steady { IsSteady m.old }
     requires lends { CanLend m.old.kernel pid }
-    requires area { m.old.params.swap_blocks ≤ D.blocks swap.old }
-    requires files { AreFiles m.old.images (F.holds files.old) }
+    requires backed { IsBacked m.old (F.holds files.old) (D.blocks swap.old) }
     requires registers { before.now ≡ regs_of m.old.kernel pid }
     requires fits { instructions_of m.old.kernel.journal + 1 < 2 ^ 32 }
     requires known { IfSome missed (MissesByte (own_answers m.old pid) before.now) }

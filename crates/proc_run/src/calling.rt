@@ -1,10 +1,9 @@
 //! A call that an instruction makes.
 ghost use Rattle.io_edge.specs.WithFiles.{stores};
-ghost use Rattle.std.specs.Prelude.{◌≡◌, ◌≤◌, Some, Ok, IfOk, OnOk, IfErr};
+ghost use Rattle.std.specs.Prelude.{◌≡◌, Some, Ok, IfOk, OnOk, IfErr};
 ghost use Rattle.machine_state.specs.Going.{CanGoOn};
-ghost use Rattle.machine_state.specs.Files.{AreFiles};
 ghost use Rattle.machine_state.specs.UserMemory.{CanLend};
-ghost use Rattle.machine_state.specs.Outside.{stop_of, TransfersPages};
+ghost use Rattle.machine_state.specs.Outside.{IsBacked, stop_of, TransfersPages};
 ghost use Rattle.step_units.specs.Callers.{regs_of};
 ghost use Rattle.step_units.specs.Ready.{Continues};
 ghost use Rattle.step_units.specs.Sizes.{KeptAtStop};
@@ -36,8 +35,7 @@ fn make<F: Files, D: SwapDev>(
 ) -> Result<Called, Stop>
     requires steady { IsSteady m.old }
     requires lends { CanLend m.old.kernel pid }
-    requires area { m.old.params.swap_blocks ≤ D.blocks swap.old }
-    requires files { AreFiles m.old.images (F.holds files.old) }
+    requires backed { IsBacked m.old (F.holds files.old) (D.blocks swap.old) }
     ensures comes { IfOk result (CallComes call m.old m.new pid regs.now (F.holds files.old) (stores F.Files D.SwapDev files.old swap.old)
         (stores F.Files D.SwapDev files.new swap.new)) }
     ensures stops { IfErr result (CallStops call m.old m.new pid regs.now (F.holds files.old) (stores F.Files D.SwapDev files.old swap.old)
@@ -72,8 +70,7 @@ pub fn call<F: Files, D: SwapDev>(
 ) -> Result<Advance, Stop>
     requires steady { IsSteady m.old }
     requires lends { CanLend m.old.kernel pid }
-    requires area { m.old.params.swap_blocks ≤ D.blocks swap.old }
-    requires files { AreFiles m.old.images (F.holds files.old) }
+    requires backed { IsBacked m.old (F.holds files.old) (D.blocks swap.old) }
     requires registers { before.now ≡ regs_of m.old.kernel pid }
     requires made { MadeCall m.old pid before.now number regs.now }
     ensures advances { IfOk result (λ advance. LeadsFrom

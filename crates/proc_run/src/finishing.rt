@@ -1,12 +1,11 @@
 //! The rest of a step that its first entry began.
 ghost use Rattle.io_edge.specs.WithFiles.{stores};
-ghost use Rattle.std.specs.Prelude.{◌≡◌, ◌+◌, ◌≤◌, Some, OnOk, IfErr};
+ghost use Rattle.std.specs.Prelude.{◌≡◌, ◌+◌, Some, OnOk, IfErr};
 ghost use Rattle.flat_state.specs.Journal.{instructions_of};
 ghost use Rattle.flat_state.specs.declared.change.Change.TheVariants.{Keep};
 ghost use Rattle.flat_model.specs.Calls.{replied};
 ghost use Rattle.machine_state.specs.Going.{CanGoOn};
-ghost use Rattle.machine_state.specs.Files.{AreFiles};
-ghost use Rattle.machine_state.specs.Outside.{stop_of, TransfersPages};
+ghost use Rattle.machine_state.specs.Outside.{IsBacked, stop_of, TransfersPages};
 ghost use Rattle.machine_state.specs.UserMemory.{CanLend};
 ghost use Rattle.step_units.specs.Stops.{StopsBefore};
 ghost use Rattle.step_units.specs.Answered.{Answered};
@@ -116,8 +115,7 @@ pub fn finish_step<F: Files, D: SwapDev>(
 ) -> Result<(), Stop>
     requires steady { IsSteady m.old }
     requires begun { AtSome (BegunAt m.old begun (F.holds files.old) (stores F.Files D.SwapDev files.old swap.old)) }
-    requires area { m.old.params.swap_blocks ≤ D.blocks swap.old }
-    requires files { AreFiles m.old.images (F.holds files.old) }
+    requires backed { IsBacked m.old (F.holds files.old) (D.blocks swap.old) }
     ensures finishes { OnOk result (LeadsFrom (BegunAt m.old begun (F.holds files.old) (stores F.Files D.SwapDev files.old swap.old))
         (λ A s image. StepLeads A s m.old.kernel image 1 m.new.kernel (stores F.Files D.SwapDev files.new swap.new))) }
     ensures stops { IfErr result (StopsFrom (BegunAt m.old begun (F.holds files.old) (stores F.Files D.SwapDev files.old swap.old)) m.old m.new

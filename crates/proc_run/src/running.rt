@@ -1,9 +1,8 @@
 //! A process runs, in a dispatch or in a turn.
 ghost use Rattle.io_edge.specs.WithFiles.{stores};
-ghost use Rattle.std.specs.Prelude.{◌≡◌, ◌≤◌, IfOk, IfErr};
+ghost use Rattle.std.specs.Prelude.{◌≡◌, IfOk, IfErr};
 ghost use Rattle.flat_state.specs.Journal.{instructions_of};
-ghost use Rattle.machine_state.specs.Files.{AreFiles};
-ghost use Rattle.machine_state.specs.Outside.{stop_of, TransfersPages};
+ghost use Rattle.machine_state.specs.Outside.{IsBacked, stop_of, TransfersPages};
 ghost use Rattle.step_units.specs.Sizes.{KeptAtStop};
 ghost use Rattle.step_units.specs.Stepped.{LeadsFrom, StopsFrom};
 ghost use Rattle.proc_run.specs.Runs.{IsSteady, is_now};
@@ -35,8 +34,7 @@ pub fn run<F: Files, D: SwapDev>(
     patience: Patience,
 ) -> Result<u32, Stop>
     requires steady { IsSteady m.old }
-    requires area { m.old.params.swap_blocks ≤ D.blocks swap.old }
-    requires files { AreFiles m.old.images (F.holds files.old) }
+    requires backed { IsBacked m.old (F.holds files.old) (D.blocks swap.old) }
     requires counted { instructions_of m.old.kernel.journal ≡ counted }
     ensures runs { IfOk result (λ count. LeadsFrom (UnderMark m.old (F.holds files.old) (stores F.Files D.SwapDev files.old swap.old) pid (is_now patience)
         counted until)

@@ -1,10 +1,9 @@
 //! A page that an instruction or its call waits for.
 ghost use Rattle.io_edge.specs.WithFiles.{stores};
-ghost use Rattle.std.specs.Prelude.{◌≡◌, ◌≤◌, true, IfOk, OnOk, IfErr};
+ghost use Rattle.std.specs.Prelude.{◌≡◌, true, IfOk, OnOk, IfErr};
 ghost use Rattle.machine_state.specs.Going.{CanGoOn};
-ghost use Rattle.machine_state.specs.Files.{AreFiles};
 ghost use Rattle.machine_state.specs.UserMemory.{CanLend};
-ghost use Rattle.machine_state.specs.Outside.{stop_of, TransfersPages};
+ghost use Rattle.machine_state.specs.Outside.{IsBacked, stop_of, TransfersPages};
 ghost use Rattle.step_units.specs.Callers.{regs_of};
 ghost use Rattle.touched_pages.specs.Missed.{WritesNothing};
 ghost use Rattle.step_units.specs.Stepped.{LeadsFrom, StopsFrom};
@@ -36,8 +35,7 @@ fn bring_in<F: Files, D: SwapDev>(
 ) -> Result<Served, Stop>
     requires steady { IsSteady m.old }
     requires lends { CanLend m.old.kernel pid }
-    requires area { m.old.params.swap_blocks ≤ D.blocks swap.old }
-    requires files { AreFiles m.old.images (F.holds files.old) }
+    requires backed { IsBacked m.old (F.holds files.old) (D.blocks swap.old) }
     requires quiet { WritesNothing m.old.kernel pid regs.now }
     requires registers { regs.now ≡ regs_of m.old.kernel pid }
     ensures served { IfOk result (ServedBy true m.old m.new pid address write (F.holds files.old) (stores F.Files D.SwapDev files.old swap.old)
@@ -66,8 +64,7 @@ fn serve_by<F: Files, D: SwapDev>(
 ) -> Result<Served, Stop>
     requires steady { IsSteady m.old }
     requires lends { CanLend m.old.kernel pid }
-    requires area { m.old.params.swap_blocks ≤ D.blocks swap.old }
-    requires files { AreFiles m.old.images (F.holds files.old) }
+    requires backed { IsBacked m.old (F.holds files.old) (D.blocks swap.old) }
     requires quiet { WritesNothing m.old.kernel pid regs.now }
     requires registers { regs.now ≡ regs_of m.old.kernel pid }
     ensures served { IfOk result (ServedBy (is_now patience) m.old m.new pid address write (F.holds files.old) (stores F.Files D.SwapDev files.old swap.old)
@@ -99,8 +96,7 @@ pub fn serve_access<F: Files, D: SwapDev>(
 ) -> Result<Advance, Stop>
     requires steady { IsSteady m.old }
     requires lends { CanLend m.old.kernel pid }
-    requires area { m.old.params.swap_blocks ≤ D.blocks swap.old }
-    requires files { AreFiles m.old.images (F.holds files.old) }
+    requires backed { IsBacked m.old (F.holds files.old) (D.blocks swap.old) }
     requires quiet { WritesNothing m.old.kernel pid regs.now }
     requires registers { regs.now ≡ regs_of m.old.kernel pid }
     ensures advances { IfOk result (λ advance. LeadsFrom

@@ -5,6 +5,7 @@ ghost use Rattle.vm_facts.specs.SwapImages.{SwapImage};
 ghost use Rattle.flat_state.specs.Flat.{Inputs};
 ghost use Rattle.io_edge.specs.Octets.{AreOctetFiles};
 ghost use Rattle.machine_state.specs.New.{AreSound};
+ghost use Rattle.machine_state.specs.Outside.{IsBacked};
 ghost use Rattle.machine_state.specs.Sourced.{AreNames};
 ghost use Rattle.machine_state.specs.Applying.{facts_named};
 ghost use Rattle.machine_state.specs.Files.{AreFiles};
@@ -61,8 +62,7 @@ fn answer_begun<'a, F: Files, D: SwapDev>(
     requires first { film.old.machine.kernel.journal ≡ [] }
     requires moves { HaveFewMoves lines.now }
     requires count { length lines.now < 2 ^ 32 }
-    requires area { film.old.machine.params.swap_blocks ≤ D.blocks swap.old }
-    requires files { AreFiles film.old.machine.images (F.holds files.old) }
+    requires backed { IsBacked film.old.machine (F.holds files.old) (D.blocks swap.old) }
     requires question { IsQuestion (question_of asked) }
     ensures { (A : Inputs) (image : SwapImage) → A.lines ≡ lines.now → length A.images ≡ images
         → FilmBegun A film.old (F.holds files.old) (stores F.Files D.SwapDev files.old swap.old) image

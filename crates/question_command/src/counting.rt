@@ -1,6 +1,6 @@
 // What a run did, counted: the run goes on from entry to entry, each is noted, and the table is made of the notes.
 ghost use Rattle.io_edge.specs.WithFiles.{stores};
-ghost use Rattle.std.specs.Prelude.{◌≡◌, ◌+◌, ◌<◌, ◌≤◌, ◌^◌, ◌++◌, ◌&&◌, not, nat_lt, [], ◌∷◌, ℕ, false, true, List, length, map, All, Option, Some, IfOk, OnOk};
+ghost use Rattle.std.specs.Prelude.{◌≡◌, ◌+◌, ◌<◌, ◌^◌, ◌++◌, ◌&&◌, not, nat_lt, [], ◌∷◌, ℕ, false, true, List, length, map, All, Option, Some, IfOk, OnOk};
 ghost use Rattle.vm_facts.specs.SwapImages.{SwapImage};
 ghost use Rattle.vm_facts.specs.declared.entry.Entry.{Entry};
 ghost use Rattle.io_edge.specs.FileHolding.{NamedFile};
@@ -10,7 +10,7 @@ ghost use Rattle.run_stats.specs.Notes.{note_by};
 ghost use Rattle.flat_state.specs.Flat.{Inputs};
 ghost use Rattle.io_edge.specs.Octets.{AreOctetFiles};
 ghost use Rattle.machine_state.specs.Going.{IsRunning};
-ghost use Rattle.machine_state.specs.Files.{AreFiles};
+ghost use Rattle.machine_state.specs.Outside.{IsBacked};
 ghost use Rattle.run_files.specs.ImageWords.{IsShortName};
 ghost use Rattle.replay_check.specs.Images.{AreImageFiles};
 ghost use Rattle.command_ending.specs.Ending.{ending_of};
@@ -57,16 +57,14 @@ fn count_entry<F: Files, D: SwapDev>(
     requires room { length film.old.machine.kernel.journal + 1 < 2 ^ 32 }
     requires moves { HaveFewMoves lines.now }
     requires count { length lines.now < 2 ^ 32 }
-    requires area { film.old.machine.params.swap_blocks ≤ D.blocks swap.old }
-    requires files { AreFiles film.old.machine.images (F.holds files.old) }
+    requires backed { IsBacked film.old.machine (F.holds files.old) (D.blocks swap.old) }
     ensures filming { OnOk result (IsFilming film.new lines.now (F.holds files.new) (stores F.Files D.SwapDev files.new swap.new)) }
     ensures counts { OnOk result
         ((A : Inputs) (first : Looked) → A.lines ≡ lines.now → Counted A film.old (F.holds files.old) (stores F.Files D.SwapDev files.old swap.old) first
         notes.old.items
         → Counted A film.new (F.holds files.new) (stores F.Files D.SwapDev files.new swap.new) first notes.new.items) }
     ensures longer { OnOk result (length film.new.machine.kernel.journal ≡ length film.old.machine.kernel.journal + 1) }
-    ensures area { OnOk result (film.new.machine.params.swap_blocks ≤ D.blocks swap.new) }
-    ensures files { OnOk result (AreFiles film.new.machine.images (F.holds files.new)) }
+    ensures backed { OnOk result (IsBacked film.new.machine (F.holds files.new) (D.blocks swap.new)) }
 {
     let before = look_at_film(film);
     match film.go_on(files, swap, lines) {
@@ -102,8 +100,7 @@ fn count_on<F: Files, D: SwapDev>(
     requires first { film.old.machine.kernel.journal ≡ [] }
     requires moves { HaveFewMoves lines.now }
     requires count { length lines.now < 2 ^ 32 }
-    requires area { film.old.machine.params.swap_blocks ≤ D.blocks swap.old }
-    requires files { AreFiles film.old.machine.images (F.holds files.old) }
+    requires backed { IsBacked film.old.machine (F.holds files.old) (D.blocks swap.old) }
     ensures counted { IfOk result
         (λ notes. (A : Inputs) (image : SwapImage) → A.lines ≡ lines.now → FilmBegun A film.old (F.holds files.old)
         (stores F.Files D.SwapDev files.old swap.old) image
@@ -200,8 +197,7 @@ pub(crate) fn count_begun<'a, F: Files, D: SwapDev>(
     requires first { film.old.machine.kernel.journal ≡ [] }
     requires moves { HaveFewMoves lines.now }
     requires count { length lines.now < 2 ^ 32 }
-    requires area { film.old.machine.params.swap_blocks ≤ D.blocks swap.old }
-    requires files { AreFiles film.old.machine.images (F.holds files.old) }
+    requires backed { IsBacked film.old.machine (F.holds files.old) (D.blocks swap.old) }
     ensures { (A : Inputs) (image : SwapImage) → A.lines ≡ lines.now → length A.images ≡ images
         → FilmBegun A film.old (F.holds files.old) (stores F.Files D.SwapDev files.old swap.old) image
         → EndsAnswer questions.Stats A (ending_of result) }

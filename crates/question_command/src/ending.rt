@@ -1,12 +1,12 @@
 // How a run came to its end: it goes on from entry to entry until it is over.
 ghost use Rattle.io_edge.specs.WithFiles.{stores};
-ghost use Rattle.std.specs.Prelude.{◌≡◌, ◌+◌, ◌<◌, ◌≤◌, ◌^◌, ◌&&◌, not, nat_lt, [], ℕ, false, true, List, length, Option, IfOk, OnOk};
+ghost use Rattle.std.specs.Prelude.{◌≡◌, ◌+◌, ◌<◌, ◌^◌, ◌&&◌, not, nat_lt, [], ℕ, false, true, List, length, Option, IfOk, OnOk};
 ghost use Rattle.vm_facts.specs.SwapImages.{SwapImage};
 ghost use Rattle.io_edge.specs.FileHolding.{NamedFile};
 ghost use Rattle.flat_state.specs.Flat.{Inputs};
 ghost use Rattle.run_model.specs.State.{State};
 ghost use Rattle.machine_state.specs.Going.{IsRunning};
-ghost use Rattle.machine_state.specs.Files.{AreFiles};
+ghost use Rattle.machine_state.specs.Outside.{IsBacked};
 ghost use Rattle.command_ending.specs.Ending.{ending_of};
 ghost use Rattle.film_core.specs.Schedules.{HaveFewMoves};
 ghost use Rattle.reference_commands.specs.Machines.{journal_entries};
@@ -73,14 +73,12 @@ fn go_on_once<F: Files, D: SwapDev>(
     requires room { length film.old.machine.kernel.journal + 1 < 2 ^ 32 }
     requires moves { HaveFewMoves lines.now }
     requires count { length lines.now < 2 ^ 32 }
-    requires area { film.old.machine.params.swap_blocks ≤ D.blocks swap.old }
-    requires files { AreFiles film.old.machine.images (F.holds files.old) }
+    requires backed { IsBacked film.old.machine (F.holds files.old) (D.blocks swap.old) }
     ensures filming { OnOk result (IsFilming film.new lines.now (F.holds files.new) (stores F.Files D.SwapDev files.new swap.new)) }
     ensures goes { OnOk result ((A : Inputs) → A.lines ≡ lines.now → IsAtState A film.old (F.holds files.old) (stores F.Files D.SwapDev files.old swap.old)
         → IsAtState A film.new (F.holds files.new) (stores F.Files D.SwapDev files.new swap.new)) }
     ensures longer { OnOk result (length film.new.machine.kernel.journal ≡ length film.old.machine.kernel.journal + 1) }
-    ensures area { OnOk result (film.new.machine.params.swap_blocks ≤ D.blocks swap.new) }
-    ensures files { OnOk result (AreFiles film.new.machine.images (F.holds files.new)) }
+    ensures backed { OnOk result (IsBacked film.new.machine (F.holds files.new) (D.blocks swap.new)) }
 {
     match film.go_on(files, swap, lines) {
         Ok(()) => Ok(()),
@@ -99,8 +97,7 @@ fn go_to_end<F: Files, D: SwapDev>(
     requires first { film.old.machine.kernel.journal ≡ [] }
     requires moves { HaveFewMoves lines.now }
     requires count { length lines.now < 2 ^ 32 }
-    requires area { film.old.machine.params.swap_blocks ≤ D.blocks swap.old }
-    requires files { AreFiles film.old.machine.images (F.holds files.old) }
+    requires backed { IsBacked film.old.machine (F.holds files.old) (D.blocks swap.old) }
     ensures there { OnOk result ((A : Inputs) (image : SwapImage) → A.lines ≡ lines.now → FilmBegun A film.old (F.holds files.old)
         (stores F.Files D.SwapDev files.old swap.old) image
         → IsAtState A film.new (F.holds files.new) (stores F.Files D.SwapDev files.new swap.new)) }
@@ -153,8 +150,7 @@ pub(crate) fn end_begun<'a, F: Files, D: SwapDev>(
     requires first { film.old.machine.kernel.journal ≡ [] }
     requires moves { HaveFewMoves lines.now }
     requires count { length lines.now < 2 ^ 32 }
-    requires area { film.old.machine.params.swap_blocks ≤ D.blocks swap.old }
-    requires files { AreFiles film.old.machine.images (F.holds files.old) }
+    requires backed { IsBacked film.old.machine (F.holds files.old) (D.blocks swap.old) }
     ensures { (A : Inputs) (image : SwapImage) → A.lines ≡ lines.now → FilmBegun A film.old (F.holds files.old) (stores F.Files D.SwapDev files.old swap.old)
         image
         → EndsAnswer questions.WasCut A (ending_of result) }

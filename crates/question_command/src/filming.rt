@@ -5,10 +5,10 @@ ghost use Rattle.vm_facts.specs.SwapImages.{SwapImage};
 ghost use Rattle.flat_state.specs.Flat.{Inputs};
 ghost use Rattle.io_edge.specs.Octets.{AreOctetFiles};
 ghost use Rattle.machine_state.specs.Going.{IsRunning};
+ghost use Rattle.machine_state.specs.Outside.{IsBacked};
 ghost use Rattle.machine_state.specs.New.{AreSound};
 ghost use Rattle.machine_state.specs.Sourced.{AreNames};
 ghost use Rattle.machine_state.specs.Applying.{facts_named};
-ghost use Rattle.machine_state.specs.Files.{AreFiles};
 ghost use Rattle.run_files.specs.ImageWords.{IsShortName};
 ghost use Rattle.run_text.specs.Text.{line_of};
 ghost use Rattle.owner_lines.specs.Owners.{word_if};
@@ -163,16 +163,14 @@ fn go_on_and_put<F: Files, D: SwapDev>(
     requires room { length film.old.machine.kernel.journal + 1 < 2 ^ 32 }
     requires moves { HaveFewMoves lines.now }
     requires count { length lines.now < 2 ^ 32 }
-    requires area { film.old.machine.params.swap_blocks ≤ D.blocks swap.old }
-    requires files { AreFiles film.old.machine.images (F.holds files.old) }
+    requires backed { IsBacked film.old.machine (F.holds files.old) (D.blocks swap.old) }
     requires every { 1 ≤ steps.every }
     ensures filming { OnOk result (IsFilming film.new lines.now (F.holds files.new) (stores F.Files D.SwapDev files.new swap.new)) }
     ensures goes { OnOk result ((A : Inputs) → A.lines ≡ lines.now → Filmed A steps film.old (F.holds files.old) (stores F.Files D.SwapDev files.old swap.old)
         text.old.items
         → Filmed A steps film.new (F.holds files.new) (stores F.Files D.SwapDev files.new swap.new) text.new.items) }
     ensures longer { OnOk result (length film.new.machine.kernel.journal ≡ length film.old.machine.kernel.journal + 1) }
-    ensures area { OnOk result (film.new.machine.params.swap_blocks ≤ D.blocks swap.new) }
-    ensures files { OnOk result (AreFiles film.new.machine.images (F.holds files.new)) }
+    ensures backed { OnOk result (IsBacked film.new.machine (F.holds files.new) (D.blocks swap.new)) }
 {
     match film.go_on(files, swap, lines) {
         Ok(()) => put_step_if(alloc, text, film, steps),
@@ -193,8 +191,7 @@ fn film_on<F: Files, D: SwapDev>(
     requires first { film.old.machine.kernel.journal ≡ [] }
     requires moves { HaveFewMoves lines.now }
     requires count { length lines.now < 2 ^ 32 }
-    requires area { film.old.machine.params.swap_blocks ≤ D.blocks swap.old }
-    requires files { AreFiles film.old.machine.images (F.holds files.old) }
+    requires backed { IsBacked film.old.machine (F.holds files.old) (D.blocks swap.old) }
     requires every { 1 ≤ steps.every }
     ensures { IfOk result (λ text. (A : Inputs) (image : SwapImage) → A.lines ≡ lines.now → FilmBegun A film.old (F.holds files.old)
         (stores F.Files D.SwapDev files.old swap.old) image
@@ -221,8 +218,7 @@ pub(crate) fn film_begun<'a, F: Files, D: SwapDev>(
     requires first { film.old.machine.kernel.journal ≡ [] }
     requires moves { HaveFewMoves lines.now }
     requires count { length lines.now < 2 ^ 32 }
-    requires area { film.old.machine.params.swap_blocks ≤ D.blocks swap.old }
-    requires files { AreFiles film.old.machine.images (F.holds files.old) }
+    requires backed { IsBacked film.old.machine (F.holds files.old) (D.blocks swap.old) }
     requires every { 1 ≤ steps.every }
     ensures { (A : Inputs) (image : SwapImage) → A.lines ≡ lines.now → FilmBegun A film.old (F.holds files.old) (stores F.Files D.SwapDev files.old swap.old)
         image

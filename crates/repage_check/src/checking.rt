@@ -3,7 +3,7 @@ ghost use Rattle.io_edge.specs.WithFiles.{stores};
 ghost use Rattle.std.specs.Prelude.{◌≡◌, ◌+◌, ◌≤◌, ◌<◌, ◌^◌, ℕ, [], length, Some, None, Err, IfOk};
 ghost use Rattle.vm_facts.specs.SwapImages.{SwapImage};
 ghost use Rattle.flat_state.specs.Flat.{Inputs};
-ghost use Rattle.machine_state.specs.Files.{AreFiles};
+ghost use Rattle.machine_state.specs.Outside.{Asks, IsBacked};
 ghost use Rattle.machine_state.specs.Going.{CanGoOn};
 ghost use Rattle.vm_core.specs.Stepped.{AtSome, LeadsFrom};
 ghost use Rattle.flat_model.specs.Asked.{start_held};
@@ -57,14 +57,12 @@ fn first_misstep<F: Files, D: SwapDev>(
     swap: &mut D,
     lines: &[Line],
 ) -> Result<Option<Misstep>, NoMemory>
-    requires ready { CanGoOn m.old }
+    requires asks { Asks m.old (F.holds files.old) (D.blocks swap.old) }
     requires first { m.old.kernel.journal ≡ [] }
     requires wide { m.old.params.journal ≡ 0 }
     requires few { length lines.now + 2 < 2 ^ 32 }
     requires moves { HaveFewMoves lines.now }
     requires at { AtSome (PastAt past_at_start m.old (F.holds files.old) (stores F.Files D.SwapDev files.old swap.old)) }
-    requires area { m.old.params.swap_blocks ≤ D.blocks swap.old }
-    requires files { AreFiles m.old.images (F.holds files.old) }
     ensures told { IfOk result (λ found. LeadsFrom (PastAt past_at_start m.old (F.holds files.old) (stores F.Files D.SwapDev files.old swap.old))
         (λ A s image. found ≡ trace_misstep A s 1 lines.now)) }
     ensures stands { IfOk result (λ found. found ≡ None → LeadsFrom
@@ -119,8 +117,7 @@ fn begin<F: Files, D: SwapDev>(
     requires frames { 64 ≤ m.old.params.frames }
     requires processes { length first.now ≤ 16 }
     requires numbers { AreAmong m.old.images first.now }
-    requires area { m.old.params.swap_blocks ≤ D.blocks swap.old }
-    requires files { AreFiles m.old.images (F.holds files.old) }
+    requires backed { IsBacked m.old (F.holds files.old) (D.blocks swap.old) }
     requires told { IsAsked m.old first.now (F.holds files.old) (stores F.Files D.SwapDev files.old swap.old) }
     ensures space { IfOk result (λ lacks. (A : Inputs) (pid : ℕ) → StartsFrom A m.old first.now → lacks ≡ Some pid → start_held A ≡ Err pid) }
     ensures stands { IfOk result (λ lacks. lacks ≡ None → (A : Inputs) (image : SwapImage) → IsTold A m.old first.now (F.holds files.old) image
@@ -156,8 +153,7 @@ pub fn repage<F: Files, D: SwapDev>(
     requires numbers { AreAmong m.old.images first.now }
     requires few { length lines.now + 2 < 2 ^ 32 }
     requires moves { HaveFewMoves lines.now }
-    requires area { m.old.params.swap_blocks ≤ D.blocks swap.old }
-    requires files { AreFiles m.old.images (F.holds files.old) }
+    requires backed { IsBacked m.old (F.holds files.old) (D.blocks swap.old) }
     requires told { IsAsked m.old first.now (F.holds files.old) (stores F.Files D.SwapDev files.old swap.old) }
     ensures judged { IfOk result (λ verdict. (A : Inputs) (image : SwapImage) → IsTold A m.old first.now (F.holds files.old) image
         → stores F.Files D.SwapDev files.old swap.old ≡ Some image → A.limit ≡ 1000000 → IsJudged A lines.now verdict) }

@@ -7,7 +7,7 @@ ghost use Rattle.io_edge.specs.FileHolding.{NamedFile};
 ghost use Rattle.flat_state.specs.Flat.{Inputs};
 ghost use Rattle.flat_state.specs.Journal.{append, IsUnit};
 ghost use Rattle.flat_model.specs.Run.{process_of_entry};
-ghost use Rattle.machine_state.specs.Files.{AreFiles};
+ghost use Rattle.machine_state.specs.Outside.{Asks};
 ghost use Rattle.machine_state.specs.Going.{CanGoOn};
 ghost use Rattle.run_model.specs.State.{State};
 ghost use Rattle.run_model.specs.Wanted.{locked};
@@ -61,12 +61,10 @@ fn judge_free<F: Files, D: SwapDev>(
     past: Past,
     u: &Entry,
 ) -> Result<Option<Reason>, NoMemory>
-    requires ready { CanGoOn m.old }
+    requires asks { Asks m.old (F.holds files.old) (D.blocks swap.old) }
     requires lines { past.lines + 1 < 2 ^ 32 }
     requires none { past.begun ≡ None }
     requires others { IsOthers u.now }
-    requires area { m.old.params.swap_blocks ≤ D.blocks swap.old }
-    requires files { AreFiles m.old.images (F.holds files.old) }
     ensures told { IfOk result (λ reason. LeadsFrom (PastAt past m.old (F.holds files.old) (stores F.Files D.SwapDev files.old swap.old))
         (UnitTold reason u.now past m.old m.new (F.holds files.old) (stores F.Files D.SwapDev files.new swap.new))) }
     ensures on { IfOk result (λ reason. reason ≡ None → GoesOnWith m.old m.new) }
@@ -92,11 +90,9 @@ fn judge_other<F: Files, D: SwapDev>(
     past: Past,
     u: &Entry,
 ) -> Result<Option<Reason>, NoMemory>
-    requires ready { CanGoOn m.old }
+    requires asks { Asks m.old (F.holds files.old) (D.blocks swap.old) }
     requires lines { past.lines + 1 < 2 ^ 32 }
     requires others { IsOthers u.now }
-    requires area { m.old.params.swap_blocks ≤ D.blocks swap.old }
-    requires files { AreFiles m.old.images (F.holds files.old) }
     ensures told { IfOk result (λ reason. LeadsFrom (PastAt past m.old (F.holds files.old) (stores F.Files D.SwapDev files.old swap.old))
         (UnitTold reason u.now past m.old m.new (F.holds files.old) (stores F.Files D.SwapDev files.new swap.new))) }
     ensures on { IfOk result (λ reason. reason ≡ None → GoesOnWith m.old m.new) }
@@ -123,15 +119,13 @@ pub fn judge_unit<F: Files, D: SwapDev>(
     past: Past,
     u: &Entry,
 ) -> Result<Option<Reason>, NoMemory>
-    requires ready { CanGoOn m.old }
+    requires asks { Asks m.old (F.holds files.old) (D.blocks swap.old) }
     requires low { last_moves m.old.kernel.journal ≤ 1000000 }
     requires bound { m.old.params.journal ≡ length m.old.kernel.journal + 1 }
     requires lines { past.lines + 1 < 2 ^ 32 }
     requires at { AtSome (PastAt past m.old (F.holds files.old) (stores F.Files D.SwapDev files.old swap.old)) }
     requires unit { IsUnit u.now }
     requires unmoved { IsUnmoved u.now }
-    requires area { m.old.params.swap_blocks ≤ D.blocks swap.old }
-    requires files { AreFiles m.old.images (F.holds files.old) }
     ensures told { IfOk result (λ reason. LeadsFrom (PastAt past m.old (F.holds files.old) (stores F.Files D.SwapDev files.old swap.old))
         (UnitTold reason u.now past m.old m.new (F.holds files.old) (stores F.Files D.SwapDev files.new swap.new))) }
     ensures on { IfOk result (λ reason. reason ≡ None → GoesOnWith m.old m.new) }

@@ -6,7 +6,7 @@ ghost use Rattle.io_edge.specs.WithFiles.{stores};
 ghost use Rattle.io_edge.specs.FileHolding.{NamedFile};
 ghost use Rattle.flat_state.specs.Flat.{Inputs};
 ghost use Rattle.flat_state.specs.Journal.{counted, repeated, units_with, IsUnit};
-ghost use Rattle.machine_state.specs.Files.{AreFiles};
+ghost use Rattle.machine_state.specs.Outside.{Asks};
 ghost use Rattle.machine_state.specs.Going.{CanGoOn};
 ghost use Rattle.paging_units.specs.LastMoves.{last_moves};
 ghost use Rattle.page_laws.specs.Spans.{moves};
@@ -63,7 +63,7 @@ fn judge_next<F: Files, D: SwapDev>(
     past: &mut Past,
     u: &Entry,
 ) -> Result<Option<Reason>, NoMemory>
-    requires ready { CanGoOn m.old }
+    requires asks { Asks m.old (F.holds files.old) (D.blocks swap.old) }
     requires low { last_moves m.old.kernel.journal ≤ 1000000 }
     requires wide { m.old.params.journal ≤ length m.old.kernel.journal + 1 }
     requires fits { length m.old.kernel.journal + 1 < 2 ^ 32 }
@@ -71,8 +71,6 @@ fn judge_next<F: Files, D: SwapDev>(
     requires at { AtSome (PastAt past.old m.old (F.holds files.old) (stores F.Files D.SwapDev files.old swap.old)) }
     requires unit { IsUnit u.now }
     requires unmoved { IsUnmoved u.now }
-    requires area { m.old.params.swap_blocks ≤ D.blocks swap.old }
-    requires files { AreFiles m.old.images (F.holds files.old) }
     ensures told { IfOk result (λ reason. LeadsFrom (PastAt past.old m.old (F.holds files.old) (stores F.Files D.SwapDev files.old swap.old))
         (UnitsTold reason (u.now ∷ []) past.new m.new (F.holds files.old) (stores F.Files D.SwapDev files.new swap.new))) }
     ensures on { IfOk result (λ reason. reason ≡ None → GoesBy (u.now ∷ []) m.old m.new) }
@@ -98,14 +96,12 @@ fn judge_ran<F: Files, D: SwapDev>(
     pid: u32,
     times: u32,
 ) -> Result<Option<Reason>, NoMemory>
-    requires ready { CanGoOn m.old }
+    requires asks { Asks m.old (F.holds files.old) (D.blocks swap.old) }
     requires low { last_moves m.old.kernel.journal ≤ 1000000 }
     requires wide { m.old.params.journal ≤ length m.old.kernel.journal + 1 }
     requires fits { length m.old.kernel.journal + 2 < 2 ^ 32 }
     requires lines { past.old.lines + 1 < 2 ^ 32 }
     requires at { AtSome (PastAt past.old m.old (F.holds files.old) (stores F.Files D.SwapDev files.old swap.old)) }
-    requires area { m.old.params.swap_blocks ≤ D.blocks swap.old }
-    requires files { AreFiles m.old.images (F.holds files.old) }
     ensures told { IfOk result (λ reason. LeadsFrom (PastAt past.old m.old (F.holds files.old) (stores F.Files D.SwapDev files.old swap.old))
         (UnitsTold reason (repeated (entries.Ran pid 1) times []) past.new m.new (F.holds files.old) (stores F.Files D.SwapDev files.new swap.new))) }
     ensures on { IfOk result (λ reason. reason ≡ None → GoesBy (repeated (entries.Ran pid 1) times []) m.old m.new) }
@@ -205,14 +201,12 @@ fn judge_entry<F: Files, D: SwapDev>(
     past: &mut Past,
     e: &Entry,
 ) -> Result<Option<Reason>, NoMemory>
-    requires ready { CanGoOn m.old }
+    requires asks { Asks m.old (F.holds files.old) (D.blocks swap.old) }
     requires low { last_moves m.old.kernel.journal + moves e.now ≤ 1000000 }
     requires wide { m.old.params.journal ≤ length m.old.kernel.journal + 1 }
     requires fits { length m.old.kernel.journal + 2 < 2 ^ 32 }
     requires lines { past.old.lines + 1 < 2 ^ 32 }
     requires at { AtSome (PastAt past.old m.old (F.holds files.old) (stores F.Files D.SwapDev files.old swap.old)) }
-    requires area { m.old.params.swap_blocks ≤ D.blocks swap.old }
-    requires files { AreFiles m.old.images (F.holds files.old) }
     ensures told { IfOk result (λ reason. LeadsFrom (PastAt past.old m.old (F.holds files.old) (stores F.Files D.SwapDev files.old swap.old))
         (UnitsTold reason (units_with e.now []) past.new m.new (F.holds files.old) (stores F.Files D.SwapDev files.new swap.new))) }
     ensures on { IfOk result (λ reason. reason ≡ None → GoesBy (units_with e.now []) m.old m.new) }
@@ -253,14 +247,12 @@ pub fn judge_line<F: Files, D: SwapDev>(
     past: &mut Past,
     line: &Line,
 ) -> Result<Option<Reason>, NoMemory>
-    requires ready { CanGoOn m.old }
+    requires asks { Asks m.old (F.holds files.old) (D.blocks swap.old) }
     requires low { last_moves m.old.kernel.journal + moves_counted line.now ≤ 1000000 }
     requires wide { m.old.params.journal ≤ length m.old.kernel.journal + 1 }
     requires fits { length m.old.kernel.journal + 2 < 2 ^ 32 }
     requires lines { past.old.lines + 1 < 2 ^ 32 }
     requires at { AtSome (PastAt past.old m.old (F.holds files.old) (stores F.Files D.SwapDev files.old swap.old)) }
-    requires area { m.old.params.swap_blocks ≤ D.blocks swap.old }
-    requires files { AreFiles m.old.images (F.holds files.old) }
     ensures told { IfOk result (λ reason. LeadsFrom (PastAt past.old m.old (F.holds files.old) (stores F.Files D.SwapDev files.old swap.old))
         (LineTold reason line.now past.new m.new (F.holds files.old) (stores F.Files D.SwapDev files.new swap.new))) }
     ensures on { IfOk result (λ reason. reason ≡ None → GoesBy (units_in line.now) m.old m.new) }

@@ -1,10 +1,10 @@
 //! Units that move pages.
 ghost use Rattle.io_edge.specs.WithFiles.{stores};
-ghost use Rattle.std.specs.Prelude.{◌≡◌, ◌≤◌, ◌<◌, None, IfOk, OnOk};
+ghost use Rattle.std.specs.Prelude.{◌≡◌, ◌<◌, None, IfOk, OnOk};
 ghost use Rattle.vm_facts.specs.declared.entry.Entry.TheVariants as entries;
 ghost use Rattle.flat_state.specs.Flat.{FlatState};
 ghost use Rattle.kernel_model.specs.Coupled.{SameTables};
-ghost use Rattle.machine_state.specs.Files.{AreFiles};
+ghost use Rattle.machine_state.specs.Outside.{Asks};
 ghost use Rattle.machine_state.specs.Going.{CanGoOn};
 ghost use Rattle.paged_model.specs.Moves.{done_reason};
 ghost use Rattle.move_judge.specs.Judged.{Judged, JudgedThrough};
@@ -64,9 +64,7 @@ pub(crate) fn judge_end<F: Files, D: SwapDev>(
     files: &mut F,
     swap: &mut D,
 ) -> Result<Option<Reason>, NoMemory>
-    requires ready { CanGoOn m.old }
-    requires area { m.old.params.swap_blocks ≤ D.blocks swap.old }
-    requires files { AreFiles m.old.images (F.holds files.old) }
+    requires asks { Asks m.old (F.holds files.old) (D.blocks swap.old) }
     ensures judged { IfOk result (λ reason. reason ≡ done_reason m.old.kernel.place.transfers) }
     ensures made { IfOk result (JudgedThrough entries.Done (F.holds files.old) (stores F.Files D.SwapDev files.old swap.old)
         (stores F.Files D.SwapDev files.new swap.new) m.old m.new) }

@@ -7,6 +7,7 @@ ghost use Rattle.flat_model.specs.Asked.{start_held};
 ghost use Rattle.swap_book.specs.Holdings.{Holdings};
 ghost use Rattle.io_edge.specs.Octets.{AreOctetFiles};
 ghost use Rattle.machine_state.specs.Files.{AreFiles};
+ghost use Rattle.machine_state.specs.Outside.{IsBacked};
 ghost use Rattle.machine_state.specs.New.{AreSound};
 ghost use Rattle.machine_state.specs.Sourced.{AreNames};
 ghost use Rattle.machine_state.specs.Applying.{facts_named};
@@ -139,8 +140,7 @@ fn judge_machine<F: Files, D: SwapDev>(
     requires numbers { AreAmong m.old.images first.now }
     requires few { length lines.now + 2 < 2 ^ 32 }
     requires moves { HaveFewMoves lines.now }
-    requires area { m.old.params.swap_blocks ≤ D.blocks swap.old }
-    requires files { AreFiles m.old.images (F.holds files.old) }
+    requires backed { IsBacked m.old (F.holds files.old) (D.blocks swap.old) }
     requires told { IsAsked m.old first.now (F.holds files.old) (stores F.Files D.SwapDev files.old swap.old) }
     ensures { IfOk result (λ judged. (A : Inputs) (image : SwapImage) → IsTold A m.old first.now (F.holds files.old) image → stores F.Files D.SwapDev
         files.old swap.old ≡ Some image

@@ -1,8 +1,8 @@
 //! The machine makes what a process does next, with room for one entry.
 ghost use Rattle.io_edge.specs.WithFiles.{stores};
-ghost use Rattle.std.specs.Prelude.{◌≡◌, ◌+◌, ◌<◌, ◌≤◌, length, Some, None, OnOk};
+ghost use Rattle.std.specs.Prelude.{◌≡◌, ◌+◌, ◌<◌, length, Some, None, OnOk};
 ghost use Rattle.flat_state.specs.Journal.{instructions_of};
-ghost use Rattle.machine_state.specs.Files.{AreFiles};
+ghost use Rattle.machine_state.specs.Outside.{IsBacked};
 ghost use Rattle.step_units.specs.Stepped.{AtSome, LeadsFrom};
 ghost use Rattle.proc_run.specs.Runs.{IsSteady};
 ghost use Rattle.step_judge.specs.At.{ActsAt};
@@ -29,8 +29,7 @@ pub fn make_act<F: Files, D: SwapDev>(
     requires counted { instructions_of m.old.kernel.journal ≡ counted }
     requires few { counted < 1000000 }
     requires acts { AtSome (ActsAt m.old counted None (F.holds files.old) (stores F.Files D.SwapDev files.old swap.old) pid) }
-    requires area { m.old.params.swap_blocks ≤ D.blocks swap.old }
-    requires files { AreFiles m.old.images (F.holds files.old) }
+    requires backed { IsBacked m.old (F.holds files.old) (D.blocks swap.old) }
     ensures made { OnOk result (LeadsFrom (ActsAt m.old counted None (F.holds files.old) (stores F.Files D.SwapDev files.old swap.old) pid)
         (ActMade m.old.kernel m.new.kernel (stores F.Files D.SwapDev files.new swap.new) pid)) }
     ensures on { OnOk result (GoesOnWith m.old m.new) }
@@ -70,8 +69,7 @@ pub fn make_rest<F: Files, D: SwapDev>(
     requires steady { IsSteady m.old }
     requires bound { m.old.params.journal ≡ length m.old.kernel.journal + 1 }
     requires acts { AtSome (ActsAt m.old _counted (Some begun) (F.holds files.old) (stores F.Files D.SwapDev files.old swap.old) _pid) }
-    requires area { m.old.params.swap_blocks ≤ D.blocks swap.old }
-    requires files { AreFiles m.old.images (F.holds files.old) }
+    requires backed { IsBacked m.old (F.holds files.old) (D.blocks swap.old) }
     ensures made { OnOk result (LeadsFrom (ActsAt m.old _counted (Some begun) (F.holds files.old) (stores F.Files D.SwapDev files.old swap.old) _pid)
         (ActMade m.old.kernel m.new.kernel (stores F.Files D.SwapDev files.new swap.new) _pid)) }
     ensures on { OnOk result (GoesOnWith m.old m.new) }

@@ -8,7 +8,7 @@ ghost use Rattle.flat_state.specs.Journal.{instructions_of, IsUnit};
 ghost use Rattle.flat_model.specs.Run.{process_of_entry};
 ghost use Rattle.page_model.specs.Placement.{state_of};
 ghost use Rattle.machine_state.specs.Going.{CanGoOn, IsRunning};
-ghost use Rattle.machine_state.specs.Files.{AreFiles};
+ghost use Rattle.machine_state.specs.Outside.{Asks};
 ghost use Rattle.step_units.specs.Callers.{regs_of};
 ghost use Rattle.step_units.specs.LastMoves.{last_moves};
 ghost use Rattle.step_units.specs.Stepped.{AtSome, LeadsFrom};
@@ -72,13 +72,11 @@ fn act_told<F: Files, D: SwapDev>(
     pid: u32,
     e: &Entry,
 ) -> Result<Option<Reason>, NoMemory>
-    requires ready { CanGoOn m.old }
+    requires asks { Asks m.old (F.holds files.old) (D.blocks swap.old) }
     requires low { last_moves m.old.kernel.journal ≤ 1000000 }
     requires bound { m.old.params.journal ≡ length m.old.kernel.journal + 1 }
     requires counted { instructions_of m.old.kernel.journal ≡ counted }
     requires acts { AtSome (ActsAt m.old counted None (F.holds files.old) (stores F.Files D.SwapDev files.old swap.old) pid) }
-    requires area { m.old.params.swap_blocks ≤ D.blocks swap.old }
-    requires files { AreFiles m.old.images (F.holds files.old) }
     ensures told { IfOk result (λ reason. LeadsFrom (ActsAt m.old counted None (F.holds files.old) (stores F.Files D.SwapDev files.old swap.old) pid)
         (ActTold reason e.now pid m.old.kernel m.new.kernel (stores F.Files D.SwapDev files.new swap.new))) }
     ensures on { IfOk result (λ reason. reason ≡ None → GoesOnWith m.old m.new) }
@@ -100,12 +98,10 @@ fn rest_told<F: Files, D: SwapDev>(
     pid: u32,
     e: &Entry,
 ) -> Result<Option<Reason>, NoMemory>
-    requires ready { CanGoOn m.old }
+    requires asks { Asks m.old (F.holds files.old) (D.blocks swap.old) }
     requires low { last_moves m.old.kernel.journal ≤ 1000000 }
     requires bound { m.old.params.journal ≡ length m.old.kernel.journal + 1 }
     requires acts { AtSome (ActsAt m.old counted (Some begun) (F.holds files.old) (stores F.Files D.SwapDev files.old swap.old) pid) }
-    requires area { m.old.params.swap_blocks ≤ D.blocks swap.old }
-    requires files { AreFiles m.old.images (F.holds files.old) }
     ensures told { IfOk result (λ reason. LeadsFrom (ActsAt m.old counted (Some begun) (F.holds files.old) (stores F.Files D.SwapDev files.old swap.old) pid)
         (ActTold reason e.now pid m.old.kernel m.new.kernel (stores F.Files D.SwapDev files.new swap.new))) }
     ensures on { IfOk result (λ reason. reason ≡ None → GoesOnWith m.old m.new) }
@@ -128,15 +124,13 @@ fn step_else<F: Files, D: SwapDev>(
     regs: &Regs,
     e: &Entry,
 ) -> Result<Option<Reason>, NoMemory>
-    requires ready { CanGoOn m.old }
+    requires asks { Asks m.old (F.holds files.old) (D.blocks swap.old) }
     requires low { last_moves m.old.kernel.journal ≤ 1000000 }
     requires bound { m.old.params.journal ≡ length m.old.kernel.journal + 1 }
     requires counted { instructions_of m.old.kernel.journal ≡ counted }
     requires may { AtSome (ReadyAt m.old counted None (F.holds files.old) (stores F.Files D.SwapDev files.old swap.old) pid) }
     requires registers { regs.now ≡ regs_of m.old.kernel pid }
     requires other { answer_of (run (own_answers m.old pid) (instruction regs.now)) ≢ Stepped.Done }
-    requires area { m.old.params.swap_blocks ≤ D.blocks swap.old }
-    requires files { AreFiles m.old.images (F.holds files.old) }
     ensures told { IfOk result (λ reason. LeadsFrom (ReadyAt m.old counted None (F.holds files.old) (stores F.Files D.SwapDev files.old swap.old) pid)
         (LeftTold reason e.now pid m.old.kernel m.new.kernel (stores F.Files D.SwapDev files.new swap.new))) }
     ensures on { IfOk result (λ reason. reason ≡ None → GoesOnWith m.old m.new) }
@@ -162,15 +156,13 @@ fn step_ran<F: Files, D: SwapDev>(
     regs: &Regs,
     e: &Entry,
 ) -> Result<Option<Reason>, NoMemory>
-    requires ready { CanGoOn m.old }
+    requires asks { Asks m.old (F.holds files.old) (D.blocks swap.old) }
     requires low { last_moves m.old.kernel.journal ≤ 1000000 }
     requires bound { m.old.params.journal ≡ length m.old.kernel.journal + 1 }
     requires counted { instructions_of m.old.kernel.journal ≡ counted }
     requires may { AtSome (ReadyAt m.old counted None (F.holds files.old) (stores F.Files D.SwapDev files.old swap.old) pid) }
     requires registers { regs.now ≡ regs_of m.old.kernel pid }
     requires ran { e.now ≡ entries.Ran pid 1 }
-    requires area { m.old.params.swap_blocks ≤ D.blocks swap.old }
-    requires files { AreFiles m.old.images (F.holds files.old) }
     ensures told { IfOk result (λ reason. LeadsFrom (ReadyAt m.old counted None (F.holds files.old) (stores F.Files D.SwapDev files.old swap.old) pid)
         (LeftTold reason e.now pid m.old.kernel m.new.kernel (stores F.Files D.SwapDev files.new swap.new))) }
     ensures on { IfOk result (λ reason. reason ≡ None → GoesOnWith m.old m.new) }
@@ -200,15 +192,13 @@ fn step_other<F: Files, D: SwapDev>(
     regs: &Regs,
     e: &Entry,
 ) -> Result<Option<Reason>, NoMemory>
-    requires ready { CanGoOn m.old }
+    requires asks { Asks m.old (F.holds files.old) (D.blocks swap.old) }
     requires low { last_moves m.old.kernel.journal ≤ 1000000 }
     requires bound { m.old.params.journal ≡ length m.old.kernel.journal + 1 }
     requires counted { instructions_of m.old.kernel.journal ≡ counted }
     requires may { AtSome (ReadyAt m.old counted None (F.holds files.old) (stores F.Files D.SwapDev files.old swap.old) pid) }
     requires registers { regs.now ≡ regs_of m.old.kernel pid }
     requires other { is_ran e.now ≡ false }
-    requires area { m.old.params.swap_blocks ≤ D.blocks swap.old }
-    requires files { AreFiles m.old.images (F.holds files.old) }
     ensures told { IfOk result (λ reason. LeadsFrom (ReadyAt m.old counted None (F.holds files.old) (stores F.Files D.SwapDev files.old swap.old) pid)
         (LeftTold reason e.now pid m.old.kernel m.new.kernel (stores F.Files D.SwapDev files.new swap.new))) }
     ensures on { IfOk result (λ reason. reason ≡ None → GoesOnWith m.old m.new) }
@@ -234,7 +224,7 @@ fn step_anew<F: Files, D: SwapDev>(
     regs: &Regs,
     e: &Entry,
 ) -> Result<Option<Reason>, NoMemory>
-    requires ready { CanGoOn m.old }
+    requires asks { Asks m.old (F.holds files.old) (D.blocks swap.old) }
     requires low { last_moves m.old.kernel.journal ≤ 1000000 }
     requires bound { m.old.params.journal ≡ length m.old.kernel.journal + 1 }
     requires counted { instructions_of m.old.kernel.journal ≡ counted }
@@ -242,8 +232,6 @@ fn step_anew<F: Files, D: SwapDev>(
     requires registers { regs.now ≡ regs_of m.old.kernel pid }
     requires own { process_of_entry e.now ≡ Some pid }
     requires unit { IsUnit e.now }
-    requires area { m.old.params.swap_blocks ≤ D.blocks swap.old }
-    requires files { AreFiles m.old.images (F.holds files.old) }
     ensures told { IfOk result (λ reason. LeadsFrom (ReadyAt m.old counted None (F.holds files.old) (stores F.Files D.SwapDev files.old swap.old) pid)
         (LeftTold reason e.now pid m.old.kernel m.new.kernel (stores F.Files D.SwapDev files.new swap.new))) }
     ensures on { IfOk result (λ reason. reason ≡ None → GoesOnWith m.old m.new) }
@@ -268,12 +256,10 @@ fn step_on<F: Files, D: SwapDev>(
     pid: u32,
     e: &Entry,
 ) -> Result<Option<Reason>, NoMemory>
-    requires ready { CanGoOn m.old }
+    requires asks { Asks m.old (F.holds files.old) (D.blocks swap.old) }
     requires low { last_moves m.old.kernel.journal ≤ 1000000 }
     requires bound { m.old.params.journal ≡ length m.old.kernel.journal + 1 }
     requires may { AtSome (ReadyAt m.old counted (Some begun) (F.holds files.old) (stores F.Files D.SwapDev files.old swap.old) pid) }
-    requires area { m.old.params.swap_blocks ≤ D.blocks swap.old }
-    requires files { AreFiles m.old.images (F.holds files.old) }
     ensures told { IfOk result (λ reason. LeadsFrom (ReadyAt m.old counted (Some begun) (F.holds files.old) (stores F.Files D.SwapDev files.old swap.old) pid)
         (LeftTold reason e.now pid m.old.kernel m.new.kernel (stores F.Files D.SwapDev files.new swap.new))) }
     ensures on { IfOk result (λ reason. reason ≡ None → GoesOnWith m.old m.new) }
@@ -296,7 +282,7 @@ fn step_in<F: Files, D: SwapDev>(
     regs: &Regs,
     e: &Entry,
 ) -> Result<Option<Reason>, NoMemory>
-    requires ready { CanGoOn m.old }
+    requires asks { Asks m.old (F.holds files.old) (D.blocks swap.old) }
     requires low { last_moves m.old.kernel.journal ≤ 1000000 }
     requires bound { m.old.params.journal ≡ length m.old.kernel.journal + 1 }
     requires counted { instructions_of m.old.kernel.journal ≡ counted }
@@ -304,8 +290,6 @@ fn step_in<F: Files, D: SwapDev>(
     requires registers { regs.now ≡ regs_of m.old.kernel pid }
     requires own { process_of_entry e.now ≡ Some pid }
     requires unit { IsUnit e.now }
-    requires area { m.old.params.swap_blocks ≤ D.blocks swap.old }
-    requires files { AreFiles m.old.images (F.holds files.old) }
     ensures told { IfOk result (λ reason. LeadsFrom (ReadyAt m.old counted begun (F.holds files.old) (stores F.Files D.SwapDev files.old swap.old) pid)
         (LeftTold reason e.now pid m.old.kernel m.new.kernel (stores F.Files D.SwapDev files.new swap.new))) }
     ensures on { IfOk result (λ reason. reason ≡ None → GoesOnWith m.old m.new) }
@@ -330,15 +314,13 @@ fn step_ready<F: Files, D: SwapDev>(
     pid: u32,
     e: &Entry,
 ) -> Result<Option<Reason>, NoMemory>
-    requires ready { CanGoOn m.old }
+    requires asks { Asks m.old (F.holds files.old) (D.blocks swap.old) }
     requires low { last_moves m.old.kernel.journal ≤ 1000000 }
     requires bound { m.old.params.journal ≡ length m.old.kernel.journal + 1 }
     requires counted { instructions_of m.old.kernel.journal ≡ counted }
     requires soon { AtSome (SoonAt m.old counted begun (F.holds files.old) (stores F.Files D.SwapDev files.old swap.old) pid) }
     requires own { process_of_entry e.now ≡ Some pid }
     requires unit { IsUnit e.now }
-    requires area { m.old.params.swap_blocks ≤ D.blocks swap.old }
-    requires files { AreFiles m.old.images (F.holds files.old) }
     ensures told { IfOk result (λ reason. LeadsFrom (SoonAt m.old counted begun (F.holds files.old) (stores F.Files D.SwapDev files.old swap.old) pid)
         (InTold reason e.now pid m.old.kernel m.new.kernel (stores F.Files D.SwapDev files.new swap.new))) }
     ensures on { IfOk result (λ reason. reason ≡ None → GoesOnWith m.old m.new) }
@@ -364,15 +346,13 @@ pub fn judge_step<F: Files, D: SwapDev>(
     pid: u32,
     e: &Entry,
 ) -> Result<Option<Reason>, NoMemory>
-    requires ready { CanGoOn m.old }
+    requires asks { Asks m.old (F.holds files.old) (D.blocks swap.old) }
     requires low { last_moves m.old.kernel.journal ≤ 1000000 }
     requires bound { m.old.params.journal ≡ length m.old.kernel.journal + 1 }
     requires counted { instructions_of m.old.kernel.journal ≡ counted }
     requires at { AtSome (JudgedAt m.old counted begun (F.holds files.old) (stores F.Files D.SwapDev files.old swap.old)) }
     requires own { process_of_entry e.now ≡ Some pid }
     requires unit { IsUnit e.now }
-    requires area { m.old.params.swap_blocks ≤ D.blocks swap.old }
-    requires files { AreFiles m.old.images (F.holds files.old) }
     ensures told { IfOk result (λ reason. LeadsFrom (JudgedAt m.old counted begun (F.holds files.old) (stores F.Files D.SwapDev files.old swap.old))
         (StepTold reason e.now pid m.old.kernel m.new.kernel (stores F.Files D.SwapDev files.new swap.new))) }
     ensures on { IfOk result (λ reason. reason ≡ None → GoesOnWith m.old m.new) }

@@ -50,9 +50,11 @@ use Rattle.machine_state.specs.Failing.{FailsFor}
 use Rattle.machine_state.specs.Swapping.{IsIn, WritesU, AsksU, SwapBehind, KeepsIn}
 use Rattle.machine_state.specs.Sourced.{files_named}
 use Rattle.machine_state.proofs.Besides.{behind_beside, in_beside, asks_beside, in_kept_beside}
+use Rattle.machine_state.specs.Outside.{Asks}
+use Rattle.machine_state.proofs.Backing.{asks_on}
 use Rattle.paging_units.specs.Made.{Made, MakesUnit, Ground, ground}
 use Rattle.paging_units.specs.Stops.{StopsAt, SpoilsBy}
-use Rattle.paging_units.proofs.Units.{unit_place, unit_journal, unit_same, same_ground, Asks, asks_on}
+use Rattle.paging_units.proofs.Units.{unit_place, unit_journal, unit_same, same_ground}
 use Rattle.paging_units.proofs.Keeping.{unit_shaped, keeps_both}
 use Rattle.paging_units.proofs.Stopping.{plain_longer, moved_left, stops_at_first, stops_after_unit}
 use Rattle.swapper.specs.declared.Turned.TheVariants as turns

@@ -1,14 +1,13 @@
 //! One turn of the swapper.
 ghost use Rattle.io_edge.specs.WithFiles.{stores};
-ghost use Rattle.std.specs.Prelude.{◌≡◌, ◌≤◌, [], OnOk, OnErr, IfOk, IfErr};
+ghost use Rattle.std.specs.Prelude.{◌≡◌, [], OnOk, OnErr, IfOk, IfErr};
 ghost use Rattle.std.specs.List.{filter};
 ghost use Rattle.page_model.specs.Placement.{Placement};
 ghost use Rattle.page_model.specs.Swapper.{swap_choice, choice_of_out, brings, longest, may_come_in, may_go_out};
 ghost use Rattle.machine_state.specs.Going.{CanGoOn, IsRunning};
 ghost use Rattle.machine_state.specs.Alike.{AreRecords};
 ghost use Rattle.machine_state.specs.Machine.{processes_of, residents_of};
-ghost use Rattle.machine_state.specs.Files.{AreFiles};
-ghost use Rattle.machine_state.specs.Outside.{stop_of, TransfersPages};
+ghost use Rattle.machine_state.specs.Outside.{Asks, stop_of, TransfersPages};
 ghost use Rattle.swapper.specs.Runners.{runners_in, runners_of, HasResidents, choice_of, in_choice, out_choice};
 ghost use Rattle.swapper.specs.declared.Turned.{Turned as Chosen};
 ghost use Rattle.swapper.specs.Turns.{MayTurn, Turns, KeepsTurn, StopsTurning};
@@ -78,9 +77,7 @@ fn carry_out<F: Files, D: SwapDev>(
     swap: &mut D,
     chosen: Turned,
 ) -> Result<(), Stop>
-    requires ready { CanGoOn m.old }
-    requires area { m.old.params.swap_blocks ≤ D.blocks swap.old }
-    requires files { AreFiles m.old.images (F.holds files.old) }
+    requires asks { Asks m.old (F.holds files.old) (D.blocks swap.old) }
     requires clear { m.old.kernel.place.due ≡ [] }
     requires may { MayTurn m.old.kernel chosen }
     ensures did { OnOk result (Turns chosen m.old m.new (F.holds files.old) (stores F.Files D.SwapDev files.old swap.old)
@@ -109,9 +106,7 @@ pub fn turn<F: Files, D: SwapDev>(
     files: &mut F,
     swap: &mut D,
 ) -> Result<Turned, Stop>
-    requires ready { CanGoOn m.old }
-    requires area { m.old.params.swap_blocks ≤ D.blocks swap.old }
-    requires files { AreFiles m.old.images (F.holds files.old) }
+    requires asks { Asks m.old (F.holds files.old) (D.blocks swap.old) }
     requires clear { m.old.kernel.place.due ≡ [] }
     ensures chosen { IfOk result (λ t. choice_of t ≡ swap_choice m.old.kernel.place (runners_of m.old.kernel)) }
     ensures did { IfOk result (λ t. Turns t m.old m.new (F.holds files.old) (stores F.Files D.SwapDev files.old swap.old)

@@ -12,13 +12,12 @@ ghost use Rattle.page_model.specs.Place.{pages_of_space};
 ghost use Rattle.page_model.specs.Swapper.{is_out, put_out_unit, first_seated};
 ghost use Rattle.kernel_model.specs.Asks.{HasSpace};
 ghost use Rattle.machine_state.specs.Going.{CanGoOn, IsRunning};
-ghost use Rattle.machine_state.specs.Files.{AreFiles};
 ghost use Rattle.machine_state.specs.Calls.{CanComeIn};
 ghost use Rattle.machine_state.specs.Conditions.{KeepsFlat};
 ghost use Rattle.machine_state.specs.Done.{KeepsThrough};
 ghost use Rattle.machine_state.specs.Settled.{IsSameBeside};
 ghost use Rattle.machine_state.specs.Swapping.{AsksU, IsIn, KeepsIn, KeepsOut};
-ghost use Rattle.machine_state.specs.Outside.{stop_of, MovesSwapPages, TransfersPages};
+ghost use Rattle.machine_state.specs.Outside.{Asks, stop_of, MovesSwapPages, TransfersPages};
 ghost use Rattle.paging_units.specs.Made.{ground, MakesUnit};
 ghost use Rattle.paging_units.specs.Stops.{StopsAt};
 ghost use Rattle.swapper.specs.Putting.{HasView, IsOfSegment, IsStepFor, IsStep, IsNext, HoldsThere, PutOut, StopsPutting};
@@ -105,9 +104,7 @@ fn run_of(m: &Machine, sid: u32, page: Page) -> u32
 
 // The oldest transfer ends.
 fn complete<F: Files, D: SwapDev>(m: &mut Machine, files: &mut F, swap: &mut D) -> Result<(), Stop>
-    requires ready { CanGoOn m.old }
-    requires area { m.old.params.swap_blocks ≤ D.blocks swap.old }
-    requires files { AreFiles m.old.images (F.holds files.old) }
+    requires asks { Asks m.old (F.holds files.old) (D.blocks swap.old) }
     requires some { 0 < length m.old.kernel.place.transfers }
     ensures made { OnOk result (MakesUnit (ground m.old (F.holds files.old) []) entries.Done m.old m.new (stores F.Files D.SwapDev files.old swap.old)
         (stores F.Files D.SwapDev files.new swap.new)) }
@@ -155,9 +152,7 @@ fn put_once<F: Files, D: SwapDev>(
     sid: u32,
     step: Step,
 ) -> Result<(), Stop>
-    requires ready { CanGoOn m.old }
-    requires area { m.old.params.swap_blocks ≤ D.blocks swap.old }
-    requires files { AreFiles m.old.images (F.holds files.old) }
+    requires asks { Asks m.old (F.holds files.old) (D.blocks swap.old) }
     requires clear { m.old.kernel.place.due ≡ [] }
     requires there { HasSpace m.old.kernel.place sid }
     requires step { IsStep m.old.kernel.place sid step }
@@ -206,9 +201,7 @@ fn put_all<F: Files, D: SwapDev>(
     pid: u32,
     sid: u32,
 ) -> Result<(), Stop>
-    requires ready { CanGoOn m.old }
-    requires area { m.old.params.swap_blocks ≤ D.blocks swap.old }
-    requires files { AreFiles m.old.images (F.holds files.old) }
+    requires asks { Asks m.old (F.holds files.old) (D.blocks swap.old) }
     requires clear { m.old.kernel.place.due ≡ [] }
     requires holds { HoldsThere m.old.kernel pid sid }
     requires resident { is_out m.old.kernel.place pid ≡ false }
@@ -249,9 +242,7 @@ pub fn swap_out<F: Files, D: SwapDev>(
     swap: &mut D,
     pid: u32,
 ) -> Result<(), Stop>
-    requires ready { CanGoOn m.old }
-    requires area { m.old.params.swap_blocks ≤ D.blocks swap.old }
-    requires files { AreFiles m.old.images (F.holds files.old) }
+    requires asks { Asks m.old (F.holds files.old) (D.blocks swap.old) }
     requires clear { m.old.kernel.place.due ≡ [] }
     requires holds { (sid : ℕ) × HoldsThere m.old.kernel pid sid }
     requires resident { is_out m.old.kernel.place pid ≡ false }

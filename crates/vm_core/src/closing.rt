@@ -6,8 +6,7 @@ ghost use Rattle.page_model.specs.Swapper.{is_out};
 ghost use Rattle.kernel_model.specs.Kernel.{HoldsSpace};
 ghost use Rattle.machine_state.specs.Going.{IsRunning};
 ghost use Rattle.machine_state.specs.Calls.{life_in};
-ghost use Rattle.machine_state.specs.Files.{AreFiles};
-ghost use Rattle.machine_state.specs.Outside.{stop_of, TransfersPages};
+ghost use Rattle.machine_state.specs.Outside.{IsBacked, stop_of, TransfersPages};
 ghost use Rattle.step_units.specs.Sizes.{KeptAtStop};
 ghost use Rattle.step_units.specs.Stepped.{LeadsFrom, StopsFrom};
 ghost use Rattle.proc_run.specs.Choosing.{turn_after};
@@ -55,8 +54,7 @@ pub fn come_in<F: Files, D: SwapDev>(
     pid: u32,
 ) -> Result<(), Stop>
     requires steady { IsSteady m.old }
-    requires area { m.old.params.swap_blocks ≤ D.blocks swap.old }
-    requires files { AreFiles m.old.images (F.holds files.old) }
+    requires backed { IsBacked m.old (F.holds files.old) (D.blocks swap.old) }
     ensures comes { OnOk result ((counted since : ℕ) → LeadsFrom
         (TurnAt m.old (F.holds files.old) (stores F.Files D.SwapDev files.old swap.old) counted since pid)
         (InTurn m.old m.new (F.holds files.old) (stores F.Files D.SwapDev files.new swap.new) counted since pid)) }
@@ -85,8 +83,7 @@ fn turn<F: Files, D: SwapDev>(
     counted: u32,
 ) -> Result<u32, Stop>
     requires steady { IsSteady m.old }
-    requires area { m.old.params.swap_blocks ≤ D.blocks swap.old }
-    requires files { AreFiles m.old.images (F.holds files.old) }
+    requires backed { IsBacked m.old (F.holds files.old) (D.blocks swap.old) }
     requires counted { instructions_of m.old.kernel.journal ≡ counted }
     ensures had { IfOk result (λ count. LeadsFrom (DueTurn m.old (F.holds files.old) (stores F.Files D.SwapDev files.old swap.old) counted pid)
         (TurnHad m.old m.new (F.holds files.old) (stores F.Files D.SwapDev files.new swap.new) pid count)) }
@@ -138,8 +135,7 @@ fn close<F: Files, D: SwapDev>(
     counted: u32,
 ) -> Result<u32, Stop>
     requires steady { IsSteady m.old }
-    requires area { m.old.params.swap_blocks ≤ D.blocks swap.old }
-    requires files { AreFiles m.old.images (F.holds files.old) }
+    requires backed { IsBacked m.old (F.holds files.old) (D.blocks swap.old) }
     requires counted { instructions_of m.old.kernel.journal ≡ counted }
     ensures closes { IfOk result
         (λ count. LeadsFrom (LinesAre m.old (F.holds files.old) (stores F.Files D.SwapDev files.old swap.old) counted)
@@ -170,8 +166,7 @@ impl Core {
         swap: &mut D,
     ) -> Result<(), Stop>
         requires goes_on { StandsUnderway self.old }
-        requires area { self.old.machine.params.swap_blocks ≤ D.blocks swap.old }
-        requires files { AreFiles self.old.machine.images (F.holds files.old) }
+        requires backed { IsBacked self.old.machine (F.holds files.old) (D.blocks swap.old) }
         ensures closes { OnOk result (LeadsFrom (AllTaken self.old (F.holds files.old) (stores F.Files D.SwapDev files.old swap.old))
             (Closed self.old.machine self.new.machine (F.holds files.old) (stores F.Files D.SwapDev files.new swap.new) self.new.counted)) }
         ensures stops { IfErr result

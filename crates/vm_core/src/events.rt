@@ -1,8 +1,7 @@
 //! The lines of a schedule.
 ghost use Rattle.io_edge.specs.WithFiles.{stores};
 ghost use Rattle.std.specs.Prelude.{◌≡◌, ◌<◌, ◌≤◌, ◌↔◌, OnOk, IfOk, IfErr};
-ghost use Rattle.machine_state.specs.Files.{AreFiles};
-ghost use Rattle.machine_state.specs.Outside.{stop_of, TransfersPages};
+ghost use Rattle.machine_state.specs.Outside.{IsBacked, stop_of, TransfersPages};
 ghost use Rattle.journal_laws.specs.LastMoves.{last_moves};
 ghost use Rattle.flat_state.specs.Journal.{instructions_of};
 ghost use Rattle.step_units.specs.Sizes.{KeptAtStop};
@@ -42,8 +41,7 @@ fn carry_out<F: Files, D: SwapDev>(
     e: Event,
 ) -> Result<u32, Stop>
     requires steady { IsSteady m.old }
-    requires area { m.old.params.swap_blocks ≤ D.blocks swap.old }
-    requires files { AreFiles m.old.images (F.holds files.old) }
+    requires backed { IsBacked m.old (F.holds files.old) (D.blocks swap.old) }
     requires few { HasFewMoves e }
     requires first { last_moves m.old.kernel.journal ≡ 0 }
     requires counted { instructions_of m.old.kernel.journal ≡ counted }
@@ -89,8 +87,7 @@ impl Core {
         e: Event,
     ) -> Result<Went, Stop>
         requires goes_on { StandsUnderway self.old }
-        requires area { self.old.machine.params.swap_blocks ≤ D.blocks swap.old }
-        requires files { AreFiles self.old.machine.images (F.holds files.old) }
+        requires backed { IsBacked self.old.machine (F.holds files.old) (D.blocks swap.old) }
         requires few { HasFewMoves e }
         ensures takes { OnOk result (LeadsFrom (LineDueAt self.old line e (F.holds files.old) (stores F.Files D.SwapDev files.old swap.old))
             (LineTaken self.old self.new (F.holds files.old) (stores F.Files D.SwapDev files.new swap.new))) }

@@ -4,8 +4,7 @@ ghost use Rattle.std.specs.Prelude.{◌≤◌, ◌∷◌, [], length, OnOk, IfEr
 ghost use Rattle.vm_facts.specs.declared.page.Page.{Page as AnyPage};
 ghost use Rattle.page_model.specs.Rank.{HasRoom};
 ghost use Rattle.machine_state.specs.Going.{CanGoOn};
-ghost use Rattle.machine_state.specs.Files.{AreFiles};
-ghost use Rattle.machine_state.specs.Outside.{stop_of, TransfersPages};
+ghost use Rattle.machine_state.specs.Outside.{Asks, stop_of, TransfersPages};
 ghost use Rattle.swapper.specs.LastMoves.{last_moves};
 ghost use Rattle.step_units.specs.Ready.{Continues};
 ghost use Rattle.step_units.specs.Sizes.{KeptAtStop};
@@ -27,9 +26,7 @@ fn fill_first<F: Files, D: SwapDev>(
     page: Page,
     parent: Option<Page>,
 ) -> Result<(), Stop>
-    requires ready { CanGoOn m.old }
-    requires area { m.old.params.swap_blocks ≤ D.blocks swap.old }
-    requires files { AreFiles m.old.images (F.holds files.old) }
+    requires asks { Asks m.old (F.holds files.old) (D.blocks swap.old) }
     requires first { IsDueFirst m.old.kernel.place (due_of page parent) }
     requires room { (q : AnyPage) → HasRoom m.old.kernel.place (q ∷ []) }
     requires low { last_moves m.old.kernel.journal ≤ 1000000 }
@@ -53,11 +50,9 @@ pub fn fill_rest<F: Files, D: SwapDev>(
     files: &mut F,
     swap: &mut D,
 ) -> Result<(), Stop>
-    requires ready { CanGoOn m.old }
+    requires asks { Asks m.old (F.holds files.old) (D.blocks swap.old) }
     requires frames { 64 ≤ length m.old.kernel.place.holds }
     requires low { last_moves m.old.kernel.journal ≤ 1000000 }
-    requires area { m.old.params.swap_blocks ≤ D.blocks swap.old }
-    requires files { AreFiles m.old.images (F.holds files.old) }
     ensures leads { OnOk result
         (LeadsFrom (ToldAt m.old (F.holds files.old) (stores F.Files D.SwapDev files.old swap.old))
         (FillsLead m.old m.new (F.holds files.old) (stores F.Files D.SwapDev files.new swap.new))) }

@@ -6,8 +6,7 @@ ghost use Rattle.io_edge.specs.FileHolding.{NamedFile};
 ghost use Rattle.kernel_model.specs.Kernel.{note_step};
 ghost use Rattle.machine_state.specs.Going.{CanGoOn};
 ghost use Rattle.machine_state.specs.Calls.{IsNote};
-ghost use Rattle.machine_state.specs.Files.{AreFiles};
-ghost use Rattle.machine_state.specs.Outside.{stop_of, TransfersPages};
+ghost use Rattle.machine_state.specs.Outside.{IsBacked, stop_of, TransfersPages};
 ghost use Rattle.journal_laws.specs.Stops.{StopsBefore};
 ghost use Rattle.journal_laws.specs.LastMoves.{last_moves};
 ghost use Rattle.step_units.specs.Lines.{LineLeads};
@@ -47,8 +46,7 @@ pub fn interrupt<F: Files, D: SwapDev>(
     swap: &mut D,
 ) -> Result<(), Stop>
     requires steady { IsSteady m.old }
-    requires area { m.old.params.swap_blocks ≤ D.blocks swap.old }
-    requires files { AreFiles m.old.images (F.holds files.old) }
+    requires backed { IsBacked m.old (F.holds files.old) (D.blocks swap.old) }
     ensures made { OnOk result (LeadsFrom (LineAt m.old (F.holds files.old) (stores F.Files D.SwapDev files.old swap.old) Event.Interrupt)
         (λ A s image. LineLeads A s m.old.kernel image m.new.kernel (stores F.Files D.SwapDev files.new swap.new))) }
     ensures stops { IfErr result (StopsFrom (LineAt m.old (F.holds files.old) (stores F.Files D.SwapDev files.old swap.old) Event.Interrupt) m.old m.new
@@ -69,8 +67,7 @@ pub(crate) fn hands<F: Files, D: SwapDev>(
     count: u32,
 ) -> Result<(), Stop>
     requires steady { IsSteady m.old }
-    requires area { m.old.params.swap_blocks ≤ D.blocks swap.old }
-    requires files { AreFiles m.old.images (F.holds files.old) }
+    requires backed { IsBacked m.old (F.holds files.old) (D.blocks swap.old) }
     requires few { count ≤ 1000000 }
     requires first { last_moves m.old.kernel.journal ≡ 0 }
     ensures made { OnOk result (LeadsFrom (LineAt m.old (F.holds files.old) (stores F.Files D.SwapDev files.old swap.old) (Event.Hands count))
@@ -92,8 +89,7 @@ pub(crate) fn swapper<F: Files, D: SwapDev>(
     swap: &mut D,
 ) -> Result<(), Stop>
     requires steady { IsSteady m.old }
-    requires area { m.old.params.swap_blocks ≤ D.blocks swap.old }
-    requires files { AreFiles m.old.images (F.holds files.old) }
+    requires backed { IsBacked m.old (F.holds files.old) (D.blocks swap.old) }
     ensures made { OnOk result (LeadsFrom (LineAt m.old (F.holds files.old) (stores F.Files D.SwapDev files.old swap.old) Event.Swapper)
         (λ A s image. LineLeads A s m.old.kernel image m.new.kernel (stores F.Files D.SwapDev files.new swap.new))) }
     ensures stops { IfErr result (StopsFrom (LineAt m.old (F.holds files.old) (stores F.Files D.SwapDev files.old swap.old) Event.Swapper) m.old m.new

@@ -1,8 +1,7 @@
 //! A process runs, for a dispatch or a turn.
 ghost use Rattle.io_edge.specs.WithFiles.{stores};
-ghost use Rattle.std.specs.Prelude.{◌≡◌, ◌+◌, ◌≤◌, min, IfOk, IfErr};
-ghost use Rattle.machine_state.specs.Files.{AreFiles};
-ghost use Rattle.machine_state.specs.Outside.{stop_of, TransfersPages};
+ghost use Rattle.std.specs.Prelude.{◌≡◌, ◌+◌, min, IfOk, IfErr};
+ghost use Rattle.machine_state.specs.Outside.{IsBacked, stop_of, TransfersPages};
 ghost use Rattle.flat_state.specs.Journal.{instructions_of};
 ghost use Rattle.step_units.specs.Sizes.{KeptAtStop};
 ghost use Rattle.step_units.specs.Stepped.{LeadsFrom, StopsFrom};
@@ -39,8 +38,7 @@ pub(crate) fn dispatch<F: Files, D: SwapDev>(
     count: u32,
 ) -> Result<u32, Stop>
     requires steady { IsSteady m.old }
-    requires area { m.old.params.swap_blocks ≤ D.blocks swap.old }
-    requires files { AreFiles m.old.images (F.holds files.old) }
+    requires backed { IsBacked m.old (F.holds files.old) (D.blocks swap.old) }
     requires counted { instructions_of m.old.kernel.journal ≡ counted }
     ensures done { IfOk result
         (λ more. LeadsFrom (AskedAt m.old (F.holds files.old) (stores F.Files D.SwapDev files.old swap.old) counted (Event.Dispatch pid count))
@@ -78,8 +76,7 @@ pub fn finish<F: Files, D: SwapDev>(
     since: u32,
 ) -> Result<u32, Stop>
     requires steady { IsSteady m.old }
-    requires area { m.old.params.swap_blocks ≤ D.blocks swap.old }
-    requires files { AreFiles m.old.images (F.holds files.old) }
+    requires backed { IsBacked m.old (F.holds files.old) (D.blocks swap.old) }
     requires counted { instructions_of m.old.kernel.journal ≡ counted }
     ensures done { IfOk result
         (λ more. LeadsFrom (ResidentTurn m.old (F.holds files.old) (stores F.Files D.SwapDev files.old swap.old) counted since pid)

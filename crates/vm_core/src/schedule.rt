@@ -6,7 +6,7 @@ ghost use Rattle.flat_state.specs.Flat.{Inputs};
 ghost use Rattle.flat_model.specs.Asked.{start_held};
 ghost use Rattle.machine_state.specs.Files.{AreFiles};
 ghost use Rattle.machine_state.specs.Going.{IsRunning};
-ghost use Rattle.machine_state.specs.Outside.{stop_of, TransfersPages};
+ghost use Rattle.machine_state.specs.Outside.{IsBacked, stop_of, TransfersPages};
 ghost use Rattle.step_units.specs.Sizes.{KeptAtStop};
 ghost use Rattle.vm_core.specs.FirstProcesses.{StartsFrom};
 ghost use Rattle.step_units.specs.Stepped.{LeadsFrom, StopsFrom};
@@ -50,8 +50,7 @@ fn take_lines<F: Files, D: SwapDev>(
 ) -> Result<Went, Stop>
     requires goes_on { StandsUnderway core.old }
     requires below { core.old.counted < core.old.machine.params.limit }
-    requires area { core.old.machine.params.swap_blocks ≤ D.blocks swap.old }
-    requires files { AreFiles core.old.machine.images (F.holds files.old) }
+    requires backed { IsBacked core.old.machine (F.holds files.old) (D.blocks swap.old) }
     requires few { HaveFewMoves lines.now }
     requires count { length lines.now < 2 ^ 32 }
     ensures takes { IfOk result (λ went. LeadsFrom (IsBeforeLines core.old lines.now (F.holds files.old) (stores F.Files D.SwapDev files.old swap.old))
@@ -85,8 +84,7 @@ fn finish<F: Files, D: SwapDev>(
 ) -> Result<(), Stop>
     requires goes_on { StandsUnderway core.old }
     requires below { core.old.counted < core.old.machine.params.limit }
-    requires area { core.old.machine.params.swap_blocks ≤ D.blocks swap.old }
-    requires files { AreFiles core.old.machine.images (F.holds files.old) }
+    requires backed { IsBacked core.old.machine (F.holds files.old) (D.blocks swap.old) }
     requires few { HaveFewMoves lines.now }
     requires count { length lines.now < 2 ^ 32 }
     ensures goes_on { OnOk result (StandsUnderway core.new) }
@@ -122,8 +120,7 @@ fn run_through<F: Files, D: SwapDev>(
     requires numbers { All (λ n. (1 ≤ n) × (n ≤ length core.old.machine.images)) first.now }
     requires moves { HaveFewMoves lines.now }
     requires count { length lines.now < 2 ^ 32 }
-    requires area { core.old.machine.params.swap_blocks ≤ D.blocks swap.old }
-    requires files { AreFiles core.old.machine.images (F.holds files.old) }
+    requires backed { IsBacked core.old.machine (F.holds files.old) (D.blocks swap.old) }
     ensures ends { (A : Inputs) (image : SwapImage) → IsAskedOf A core.old.machine first.now lines.now (F.holds files.old) image → stores F.Files D.SwapDev
         files.old swap.old ≡ Some image
         → RunEnds A core.new.machine.kernel.journal image result (stores F.Files D.SwapDev files.new swap.new) }

@@ -4,9 +4,8 @@ ghost use Rattle.std.specs.Prelude.{◌≡◌, ◌≤◌, ℕ, List, [], length,
 ghost use Rattle.vm_facts.specs.SwapImages.{SwapImage};
 ghost use Rattle.flat_state.specs.Flat.{Inputs};
 ghost use Rattle.flat_model.specs.Asked.{start_held};
-ghost use Rattle.machine_state.specs.Files.{AreFiles};
 ghost use Rattle.machine_state.specs.Going.{CanGoOn};
-ghost use Rattle.machine_state.specs.Outside.{stop_of, TransfersPages};
+ghost use Rattle.machine_state.specs.Outside.{IsBacked, stop_of, TransfersPages};
 ghost use Rattle.step_units.specs.Sizes.{KeptAtStop};
 ghost use Rattle.vm_core.specs.FirstProcesses.{AreAmong, StartsFrom, started_by};
 ghost use Rattle.vm_core.specs.Leading.{IsTold};
@@ -30,8 +29,7 @@ impl Core {
         requires frames { 64 ≤ self.old.machine.params.frames }
         requires few { length first.now ≤ 16 }
         requires numbers { AreAmong self.old.machine.images first.now }
-        requires area { self.old.machine.params.swap_blocks ≤ D.blocks swap.old }
-        requires files { AreFiles self.old.machine.images (F.holds files.old) }
+        requires backed { IsBacked self.old.machine (F.holds files.old) (D.blocks swap.old) }
         ensures space { (A : Inputs) → StartsFrom A self.old.machine first.now → IfOk result (λ started. started ≡ started_by (start_held A)) }
         ensures none_made { (pid : ℕ) → result ≡ Ok (Started.NoSpace pid) → self.new.machine.kernel.journal ≡ [] }
         ensures untouched { (pid : ℕ) → result ≡ Ok (Started.NoSpace pid) → swap.new ≡ swap.old }

@@ -2,14 +2,14 @@ use Rattle.io_edge.specs.WithFiles.{stores}
 use Rattle.std.proofs.Common.{◌≡◌, ◌<◌, [], arith, None}
 use Rattle.std.proofs.lemmas.Result.{err_from_is_err_and}
 use Rattle.page_model.specs.Rank.{far}
-use Rattle.paging_units.proofs.Units.{asks_on}
 use Rattle.clock_hands.proofs.Forces.{none_free, falls_on, room_on, fits_on, forced_none, stops_here, forces_none, forces_one}
 use Rattle.machine_state.proofs.Transfers.{transfers_none, transfers_then}
+use Rattle.machine_state.proofs.Backing.{asks_on}
 use Rattle.clock_hands.proofs.forcing.force_frame.Goals as goal
 
 pub loop-m-init : goal.loop-m-init
 loop-m-init g c = record {
-  asks = record { ready = c.requires.ready; area = c.requires.area; files = c.requires.files };
+  asks = c.requires.asks;
   room = c.requires.room;
   fits = c.requires.fits;
   so_far = forces_none c.args.locked.now c.args.m.now (g.F.Files.holds c.args.files.now) (stores g.F.Files g.D.SwapDev c.args.files.now c.args.swap.now);

@@ -4,15 +4,15 @@ use Rattle.std.proofs.lemmas.Result.{err_from_is_err_and}
 use Rattle.page_model.specs.Hands.{wants_moves}
 use Rattle.run_model.specs.Next.{move_unit}
 use Rattle.clock_hands.specs.Moved.{IsMoveOf}
-use Rattle.paging_units.proofs.Units.{asks_on}
 use Rattle.clock_hands.proofs.Moves.{stops_moving, move_flies, done_flies, move_last, done_last, moves_none, moves_one, moves_done, moves_all}
 use Rattle.clock_hands.proofs.moving.move_hands.Goals.{then-loop-left-test+else-wants_moves, else-loop-left-test}
 use Rattle.machine_state.proofs.Transfers.{transfers_none, transfers_then}
+use Rattle.machine_state.proofs.Backing.{asks_on}
 use Rattle.clock_hands.proofs.moving.move_hands.Goals as goal
 
 pub loop-left-init : goal.loop-left-init
 loop-left-init g c = record {
-  asks = record { ready = c.requires.ready; area = c.requires.area; files = c.requires.files };
+  asks = c.requires.asks;
   few = omega arith;
   fits = c.requires.fits;
   so_far = moves_none c.args.n c.args.m.now (g.F.Files.holds c.args.files.now) (stores g.F.Files g.D.SwapDev c.args.files.now c.args.swap.now);

@@ -21,14 +21,14 @@ hand-requires-clause-fits g c = λ count before e.
 pub returns-in_err-hand-clause-stopped : goal.returns-in_err-hand-clause-stopped
 returns-in_err-hand-clause-stopped g c =
     let old = c.args.m.now in
-    let few = c.requires.ready.running.sound.few_transfers in
+    let few = c.requires.asks.ready.running.sound.few_transfers in
     let either : (c.next_write-lo.result.1 ≡ 0) ⊎ (length old.kernel.place.transfers < 16) = elim c.else-n-gt0.branch [
       | else-n-gt0-via-then-n-gt0+else-in_flight-eq-MOST_IN_FLIGHT w ↦ inr (omega arith)
       | else-n-gt0-via-else-n-gt0 w ↦ inl (omega arith)
     ] in
     let unit : move_unit old.kernel.place [] ≡ entries.Hands 1 = moves_now old.kernel.place c.next_write-lo.result.0 c.next_write-lo.result.1 c.next_write-lo.ensures either in
     let i = stores g.F.Files g.D.SwapDev c.args.files.now c.args.swap.now in
-    let stops = call_stops c.hand.result (entries.Hands 1) old c.hand.new.self i (λ s h. h) (λ s. refl) c.hand.ensures.stops c.requires.ready.whole in
+    let stops = call_stops c.hand.result (entries.Hands 1) old c.hand.new.self i (λ s h. h) (λ s. refl) c.hand.ensures.stops c.requires.asks.ready.whole in
     let p = err_from_is_err_and c.from_residual-in_err-hand.result c.from_residual-in_err-hand.ensures.1 in
     rw (p.1, p.2) (subst (λ (u : Entry). StopsAt u old.kernel i c.in_err-hand.field-0.0 c.hand.new.self i) (sym unit)
     (IfErr-at_err (λ s. StopsAt (entries.Hands 1) old.kernel i s c.hand.new.self i) c.in_err-hand.was stops))
@@ -36,7 +36,7 @@ returns-in_err-hand-clause-stopped g c =
 pub returns-clause-moved : goal.returns-clause-moved
 returns-clause-moved g c =
     let p = c.args.m.now.kernel.place in
-    let few = c.requires.ready.running.sound.few_transfers in
+    let few = c.requires.asks.ready.running.sound.few_transfers in
     let either : (c.next_write-lo.result.1 ≡ 0) ⊎ (length p.transfers < 16) = elim c.else-n-gt0.branch [
       | else-n-gt0-via-then-n-gt0+else-in_flight-eq-MOST_IN_FLIGHT w ↦ inr (omega arith)
       | else-n-gt0-via-else-n-gt0 w ↦ inl (omega arith)

@@ -5,7 +5,8 @@ use Rattle.fault_fill.specs.Serving.{StopsServing}
 use Rattle.fault_fill.specs.Units.{GoesFurther, Further}
 use Rattle.fault_fill.specs.Answers.{ServesNow}
 use Rattle.fault_fill.proofs.Serving.{Behind, served_behind, rank_falls}
-use Rattle.fault_fill.proofs.Leading.{match_map, area_on, files_on, stops_later, served_now_later}
+use Rattle.fault_fill.proofs.Leading.{match_map, stops_later, served_now_later}
+use Rattle.machine_state.proofs.Backing.{asks_on}
 use Rattle.fault_fill.proofs.pages.+serve_now_on.Goals as goal
 
 pub serve_now_on-requires : goal.serve_now_on-requires
@@ -18,7 +19,7 @@ serve_now_on-requires g t c κs out =
     let i = stores g.F.Files g.D.SwapDev c.args.files.now c.args.swap.now in
     let j = stores g.F.Files g.D.SwapDev c.serve_further.new.files c.serve_further.new.swap in
     let f : Further locked q old new holds i j = subst (λ (b : Bool). GoesFurther b locked q old new holds i j) c.if-more.true c.in-Ok.ensures.made in
-    let s = c.requires.ready.running.sound in
+    let s = c.requires.asks.ready.running.sound in
     let b : Behind old.kernel.place new.kernel.place locked q = served_behind f.serves.units old.kernel.place new.kernel.place locked q true s.owner.frames c.requires.can f.serves.leads in
     let less : length f.serves.units + rank new.kernel.place locked q ≤ rank old.kernel.place locked q =
     rank_falls f.serves.units old.kernel.place new.kernel.place locked q true s.owner.frames c.requires.can s.hands c.requires.room f.serves.leads in
@@ -29,14 +30,9 @@ serve_now_on-requires g t c κs out =
         (
           out.1,
           (
-            c.in-Ok.ensures.goes_on,
-            (
-              area_on old new _ _ f.serves.makes.beside c.in-Ok.ensures.outside.swap.blocks c.requires.area,
-              (
-                files_on old new holds _ f.serves.makes.beside c.in-Ok.ensures.outside.files.holds c.requires.files,
-                (b.can, (b.room c.requires.room, f.low)),
-              ),
-            ),
+            asks_on old new holds _ _ _ f.serves.makes.beside c.in-Ok.ensures.outside.files.holds c.in-Ok.ensures.outside.swap.blocks c.in-Ok.ensures.goes_on
+                c.requires.asks,
+            (b.can, (b.room c.requires.room, f.low)),
           ),
         ),
       ),

@@ -7,7 +7,8 @@ use Rattle.fault_fill.specs.Answers.{ServesAs}
 use Rattle.fault_fill.specs.declared.pages.PageServed.{PageServed}
 use Rattle.fault_fill.specs.declared.unit.Unit.{Unit as Came}
 use Rattle.fault_fill.proofs.Serving.{near, Behind}
-use Rattle.fault_fill.proofs.Leading.{match_map, area_on, files_on, one_serves, stops_here, stops_later, unit_behind, unit_nearer, served_later}
+use Rattle.fault_fill.proofs.Leading.{match_map, one_serves, stops_here, stops_later, unit_behind, unit_nearer, served_later}
+use Rattle.machine_state.proofs.Backing.{asks_on}
 use Rattle.fault_fill.proofs.pages.+serve_on.Goals as goal
 
 pub returns-in-Err-clause-served : goal.returns-in-Err-clause-served
@@ -26,7 +27,7 @@ serve_on-requires g t c κs out =
     let j = stores g.F.Files g.D.SwapDev c.serve_unit.new.files c.serve_unit.new.swap in
     let any : AnyUnit q old new holds i j = subst (λ (u : Came). ComesTo u q old new holds i j) c.in-Nearer.is c.in-Ok.ensures.made in
     let u : UnitMade false [] q old new holds i j = any false [] in
-    let owner : OwnsFrames old.kernel.place = c.requires.ready.running.sound.owner.frames in
+    let owner : OwnsFrames old.kernel.place = c.requires.asks.ready.running.sound.owner.frames in
     let b : Behind old.kernel.place new.kernel.place [] q = unit_behind false [] q old new holds i j owner c.requires.can u in
     let less : near new.kernel.place q < near old.kernel.place q = unit_nearer q old new holds i j owner c.requires.can u in (
       omega (arith, c.decreases, less),
@@ -35,11 +36,8 @@ serve_on-requires g t c κs out =
         (
           out.1,
           (
-            c.in-Ok.ensures.goes_on,
-            (
-              area_on old new _ _ u.rest c.in-Ok.ensures.outside.swap.blocks c.requires.area,
-              (files_on old new holds _ u.rest c.in-Ok.ensures.outside.files.holds c.requires.files, b.can),
-            ),
+            asks_on old new holds _ _ _ u.rest c.in-Ok.ensures.outside.files.holds c.in-Ok.ensures.outside.swap.blocks c.in-Ok.ensures.goes_on c.requires.asks,
+            b.can,
           ),
         ),
       ),

@@ -10,8 +10,7 @@ loop-film-init g c = record {
   so_far = λ A image are begun.
       along_first A c.args.film.now (g.F.Files.holds c.args.files.now) (stores g.F.Files g.D.SwapDev c.args.files.now c.args.swap.now) image c.args.entries.now begun;
   within = let empty = ap length c.requires.first in omega (arith, empty);
-  area = c.requires.area;
-  files = c.requires.files;
+  backed = c.requires.backed;
 }
 
 pub go_on_along-requires-clause-more : goal.go_on_along-requires-clause-more
@@ -37,8 +36,7 @@ loop-film-preserved g c =
           (subst (λ b. Along A c.loop-film.film (g.F.Files.holds c.loop-film.files) (stores g.F.Files g.D.SwapDev c.loop-film.files c.loop-film.swap) b
           c.args.entries.now) on.0 (so.so_far A image are begun));
       within = let longer = ends.longer in omega (arith, below, longer);
-      area = ends.area;
-      files = ends.files;
+      backed = ends.backed;
     }
 
 pub loop-film-smaller : goal.loop-film-smaller

@@ -1,8 +1,6 @@
 use Rattle.io_edge.specs.WithFiles.{stores}
-use Rattle.std.proofs.Common.{rules, ◌≡◌, List, Option, Ok, sym, ap, subst, arith}
-use Rattle.vm_facts.specs.declared.params.Params.{Params}
-use Rattle.io_edge.specs.FileHolding.{NamedFile}
-use Rattle.machine_state.specs.Files.{AreFiles}
+use Rattle.std.proofs.Common.{rules, ◌≡◌, Ok, arith}
+use Rattle.machine_state.proofs.Backing.{backed_on}
 use Rattle.grade_check.specs.Started.TheVariants as starteds
 use Rattle.grade_check.proofs.Ending.{are_among}
 use Rattle.question_command.proofs.Steps.{begun_over, filming_begun, none_so_far}
@@ -26,16 +24,11 @@ grade_begun-requires-clause-first g c =
     (stores g.F.Files g.D.SwapDev c.args.files.now c.args.swap.now) (stores g.F.Files g.D.SwapDev c.start.new.files c.start.new.swap)
     c.requires.inputs (c.start.ensures.begins begun)
 
-pub grade_begun-requires-clause-area : goal.grade_begun-requires-clause-area
-grade_begun-requires-clause-area g c =
+pub grade_begun-requires-clause-backed : goal.grade_begun-requires-clause-backed
+grade_begun-requires-clause-backed g c =
     let begun : c.start.result ≡ Ok starteds.Ok = search rules in
-    let blocks = ap (λ (p : Params). p.swap_blocks) (c.start.ensures.params begun) in let same = c.start.ensures.outside.swap.blocks in let area = c.requires.area in omega (arith, blocks, same, area)
-
-pub grade_begun-requires-clause-files : goal.grade_begun-requires-clause-files
-grade_begun-requires-clause-files g c =
-    let begun : c.start.result ≡ Ok starteds.Ok = search rules in
-    subst (λ (h : Option (List NamedFile)). AreFiles c.start.new.self.machine.images h) (sym c.start.ensures.outside.files.holds)
-    (subst (λ images. AreFiles images (g.F.Files.holds c.args.files.now)) (sym (c.start.ensures.images begun)) c.requires.files)
+    backed_on c.args.film.now.machine c.start.new.self.machine (g.F.Files.holds c.args.files.now) _ _ _ (c.start.ensures.params begun) (c.start.ensures.images begun)
+    c.start.ensures.outside.files.holds c.start.ensures.outside.swap.blocks (record { area = c.requires.area; files = c.requires.files })
 
 pub returns-in-Ok-Ok : goal.returns-in-Ok-Ok
 returns-in-Ok-Ok g c = λ A image asked told.

@@ -3,15 +3,14 @@ use Rattle.std.proofs.Common.{sym, ◌∙◌, subst, arith, None}
 use Rattle.std.proofs.lemmas.Result.{err_from_is_err_and}
 use Rattle.proc_calls.specs.Copying.{AreCopiesFrom, IsCopyFirst, OnceCopied}
 use Rattle.proc_calls.proofs.Copies.{room_for}
-use Rattle.proc_calls.proofs.CopiedPages.{FirstOf, first_of, copy_first, list_first, others_due, stops_first, fewer_due, area_next, files_next, copies_none, copies_one, copies_all, copied_all}
+use Rattle.proc_calls.proofs.CopiedPages.{FirstOf, first_of, copy_first, list_first, others_due, stops_first, fewer_due, copies_none, copies_one, copies_all, copied_all}
 use Rattle.machine_state.proofs.Transfers.{transfers_none, transfers_then}
+use Rattle.machine_state.proofs.Backing.{backed_on}
 use Rattle.proc_calls.proofs.copying.copy_due.Goals as goal
 
 pub loop-child-init : goal.loop-child-init
 loop-child-init g c = record {
-  ready = c.requires.ready;
-  area = c.requires.area;
-  files = c.requires.files;
+  asks = c.requires.asks;
   due = c.requires.due;
   room = c.requires.room;
   low = c.requires.low;
@@ -66,9 +65,11 @@ loop-child-preserved g c =
     let f : FirstOf c.args.parent now.kernel.place.due child = first_of c.args.parent now.kernel.place.due child so.due (sym c.due.ensures ∙ c.in-Some.is) in
     let zero = on.last in
     record {
-      ready = c.in_ok-copy_page.ensures.goes_on;
-      area = area_next now next _ _ on.params c.in_ok-copy_page.ensures.outside.swap.blocks so.area;
-      files = files_next now next (g.F.Files.holds c.loop-child.files) _ on.images c.in_ok-copy_page.ensures.outside.files.holds so.files;
+      asks = record {
+        ready = c.in_ok-copy_page.ensures.goes_on;
+        backed = backed_on now next (g.F.Files.holds c.loop-child.files) _ _ _ on.params on.images c.in_ok-copy_page.ensures.outside.files.holds
+            c.in_ok-copy_page.ensures.outside.swap.blocks so.asks.backed;
+      };
       due = subst (AreCopiesFrom c.args.parent) (sym (others_due now.kernel.place next.kernel.place c.args.parent child f on.due)) f.rest;
       room = λ page. room_for now.kernel.place next.kernel.place page page on.frames (so.room page);
       low = omega (arith, zero);

@@ -2,20 +2,16 @@ use Rattle.io_edge.specs.WithFiles.{stores}
 use Rattle.std.proofs.Common.{◌≤◌, ◌∷◌, [], length, None}
 use Rattle.vm_facts.specs.declared.page.Page.{Page}
 use Rattle.page_model.specs.Rank.{HasRoom}
-use Rattle.machine_state.specs.Files.{AreFiles}
-use Rattle.machine_state.specs.Going.{CanGoOn}
 use Rattle.fault_fill.specs.LastMoves.{last_moves}
 use Rattle.proc_calls.specs.Copying.{AreCopiesFrom}
 use Rattle.proc_calls.proofs.CopiedPages.{CopiesSoFar}
-use Rattle.machine_state.specs.Outside.{TransfersPages}
+use Rattle.machine_state.specs.Outside.{Asks, TransfersPages}
 use Rattle.proc_calls.proofs.copying.copy_due.Given as goal
 
 -- the next page may be copied, and the copies so far and those that are left are the whole
 abbrev pub invariant-loop-child : goal.invariant-loop-child
 invariant-loop-child g l = record {
-  ready : CanGoOn l.m;
-  area : l.m.params.swap_blocks ≤ g.D.SwapDev.blocks l.swap;
-  files : AreFiles l.m.images (g.F.Files.holds l.files);
+  asks : Asks l.m (g.F.Files.holds l.files) (g.D.SwapDev.blocks l.swap);
   due : AreCopiesFrom l.parent l.m.kernel.place.due;
   room : (page : Page) → HasRoom l.m.kernel.place (page ∷ []);
   low : last_moves l.m.kernel.journal ≤ 1000000;

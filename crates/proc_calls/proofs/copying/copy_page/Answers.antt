@@ -8,7 +8,7 @@ use Rattle.proc_calls.proofs.CopiedPages.{served_stay, forced_stay, forcing_stop
 use Rattle.proc_calls.proofs.copying.copy_page.Goals as goal
 
 pub serve_page_now-requires-clause-can : goal.serve_page_now-requires-clause-can
-serve_page_now-requires-clause-can g c = can_serve c.args.m.now.kernel.place c.args.child c.args.parent c.requires.ready.running.due c.requires.first
+serve_page_now-requires-clause-can g c = can_serve c.args.m.now.kernel.place c.args.child c.args.parent c.requires.asks.ready.running.due c.requires.first
 
 pub returns-in_err-serve_page_now-clause-copied : goal.returns-in_err-serve_page_now-clause-copied
 returns-in_err-serve_page_now-clause-copied g c =
@@ -18,7 +18,7 @@ returns-in_err-serve_page_now-clause-copied g c =
 pub make_room-requires-clause-room : goal.make_room-requires-clause-room
 make_room-requires-clause-room g c =
     let stay = served_stay c.args.child c.args.parent c.args.m.now c.serve_page_now.new.m (g.F.Files.holds c.args.files.now)
-    (stores g.F.Files g.D.SwapDev c.args.files.now c.args.swap.now) (stores g.F.Files g.D.SwapDev c.serve_page_now.new.files c.serve_page_now.new.swap) c.requires.ready c.requires.first
+    (stores g.F.Files g.D.SwapDev c.args.files.now c.args.swap.now) (stores g.F.Files g.D.SwapDev c.serve_page_now.new.files c.serve_page_now.new.swap) c.requires.asks.ready c.requires.first
     (c.in_ok-serve_page_now.ensures.served.0.serves, c.in_ok-serve_page_now.ensures.served.1) in
     room_still c.args.m.now.kernel.place c.serve_page_now.new.m.kernel.place (c.args.parent ∷ []) stay.frames c.requires.room
 
@@ -45,7 +45,7 @@ copy-requires-clause-can g c =
     let serves : ServesNow (c.args.parent ∷ []) c.args.parent c.args.m.now served (g.F.Files.holds c.args.files.now) (stores g.F.Files g.D.SwapDev c.args.files.now c.args.swap.now) h =
     (c.in_ok-serve_page_now.ensures.served.0.serves, c.in_ok-serve_page_now.ensures.served.1) in
     let stay = served_stay c.args.child c.args.parent c.args.m.now served (g.F.Files.holds c.args.files.now)
-    (stores g.F.Files g.D.SwapDev c.args.files.now c.args.swap.now) h c.requires.ready c.requires.first serves in
+    (stores g.F.Files g.D.SwapDev c.args.files.now c.args.swap.now) h c.requires.asks.ready c.requires.first serves in
     let both = forced_stay c.args.parent c.args.m.now served roomy (g.F.Files.holds c.serve_page_now.new.files) h
     (stores g.F.Files g.D.SwapDev c.make_room.new.files c.make_room.new.swap) stay c.in_ok-make_room.ensures.forced in
     can_copy served.kernel.place roomy.kernel.place c.args.child c.args.parent c.in_ok-make_room.ensures.goes_on.running.due
@@ -71,7 +71,7 @@ returns-clause-on g c =
     let j = stores g.F.Files g.D.SwapDev c.make_room.new.files c.make_room.new.swap in
     let serves : ServesNow (c.args.parent ∷ []) c.args.parent c.args.m.now served holds i h =
     (c.in_ok-serve_page_now.ensures.served.0.serves, c.in_ok-serve_page_now.ensures.served.1) in
-    let stay = served_stay c.args.child c.args.parent c.args.m.now served holds i h c.requires.ready c.requires.first serves in
+    let stay = served_stay c.args.child c.args.parent c.args.m.now served holds i h c.requires.asks.ready c.requires.first serves in
     let both = forced_stay c.args.parent c.args.m.now served roomy (g.F.Files.holds c.serve_page_now.new.files) h j stay c.in_ok-make_room.ensures.forced in
     goes_on c.copy.result c.args.child c.args.parent c.args.m.now served roomy c.copy.new.self holds (g.F.Files.holds c.serve_page_now.new.files) i h j both serves c.in_ok-make_room.ensures.forced
     c.copy.ensures.performs

@@ -13,7 +13,7 @@ pub fill_zero-requires-clause-can : goal.fill_zero-requires-clause-can
 fill_zero-requires-clause-can g c =
     can_fill c.args.page c.args.m.now c.make_room.new.m (g.F.Files.holds c.args.files.now) (stores g.F.Files g.D.SwapDev c.args.files.now c.args.swap.now)
     (stores g.F.Files g.D.SwapDev c.make_room.new.files c.make_room.new.swap)
-    c.requires.ready c.in_ok-make_room.ensures.goes_on c.requires.first c.in_ok-make_room.ensures.forced
+    c.requires.asks.ready c.in_ok-make_room.ensures.goes_on c.requires.first c.in_ok-make_room.ensures.forced
 
 pub returns-clause-filled : goal.returns-clause-filled
 returns-clause-filled g c =

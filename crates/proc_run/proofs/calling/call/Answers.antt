@@ -67,21 +67,13 @@ serve_access-requires-clause-lends g c =
     c.in_ok-make.field-0 c.in-Miss.address c.in-Miss.is c.in_ok-make.ensures.comes in
     rw same c.requires.lends
 
-pub serve_access-requires-clause-area : goal.serve_access-requires-clause-area
-serve_access-requires-clause-area g c =
+pub serve_access-requires-clause-backed : goal.serve_access-requires-clause-backed
+serve_access-requires-clause-backed g c =
     let same =
     unchanged c.in-Some.call c.args.m.now c.make.new.m c.args.pid c.args.regs.now (g.F.Files.holds c.args.files.now)
     (stores g.F.Files g.D.SwapDev c.args.files.now c.args.swap.now) (stores g.F.Files g.D.SwapDev c.make.new.files c.make.new.swap)
     c.in_ok-make.field-0 c.in-Miss.address c.in-Miss.is c.in_ok-make.ensures.comes in
-    rw (same, c.make.ensures.outside.swap.blocks) c.requires.area
-
-pub serve_access-requires-clause-files : goal.serve_access-requires-clause-files
-serve_access-requires-clause-files g c =
-    let same =
-    unchanged c.in-Some.call c.args.m.now c.make.new.m c.args.pid c.args.regs.now (g.F.Files.holds c.args.files.now)
-    (stores g.F.Files g.D.SwapDev c.args.files.now c.args.swap.now) (stores g.F.Files g.D.SwapDev c.make.new.files c.make.new.swap)
-    c.in_ok-make.field-0 c.in-Miss.address c.in-Miss.is c.in_ok-make.ensures.comes in
-    rw (same, c.make.ensures.outside.files.holds) c.requires.files
+    rw (same, c.make.ensures.outside.files.holds, c.make.ensures.outside.swap.blocks) c.requires.backed
 
 pub serve_access-requires-clause-quiet : goal.serve_access-requires-clause-quiet
 serve_access-requires-clause-quiet g c =

@@ -1,8 +1,5 @@
 use Rattle.io_edge.specs.WithFiles.{stores}
-use Rattle.std.proofs.Common.{List, Option, sym, ap, subst, arith}
-use Rattle.vm_facts.specs.declared.params.Params.{Params}
-use Rattle.io_edge.specs.FileHolding.{NamedFile}
-use Rattle.machine_state.specs.Files.{AreFiles}
+use Rattle.machine_state.proofs.Backing.{backed_on}
 use Rattle.question_command.proofs.Steps.{filming_on, longer_by_one}
 use Rattle.question_command.proofs.Noting.{counted_more}
 use Rattle.reference_commands.proofs.Runs.{on_ok_always, on_ok_so}
@@ -39,13 +36,8 @@ returns-in-Ok-clause-longer g c =
     (longer_by_one c.args.film.now c.go_on.new.self c.args.lines.now (g.F.Files.holds c.args.files.now) (stores g.F.Files g.D.SwapDev c.args.files.now c.args.swap.now)
     (stores g.F.Files g.D.SwapDev c.go_on.new.files c.go_on.new.swap) c.requires.filming c.in-Ok.ensures.goes)
 
-pub returns-in-Ok-clause-area : goal.returns-in-Ok-clause-area
-returns-in-Ok-clause-area g c =
+pub returns-in-Ok-clause-backed : goal.returns-in-Ok-clause-backed
+returns-in-Ok-clause-backed g c =
     on_ok_always c.note_last.result _
-    (let blocks = ap (λ (p : Params). p.swap_blocks) c.in-Ok.ensures.params in let same = c.go_on.ensures.outside.swap.blocks in let area = c.requires.area in omega (arith, blocks, same, area))
-
-pub returns-in-Ok-clause-files : goal.returns-in-Ok-clause-files
-returns-in-Ok-clause-files g c =
-    on_ok_always c.note_last.result _
-    (subst (λ (h : Option (List NamedFile)). AreFiles c.go_on.new.self.machine.images h) (sym c.go_on.ensures.outside.files.holds)
-    (subst (λ images. AreFiles images (g.F.Files.holds c.args.files.now)) (sym c.in-Ok.ensures.images) c.requires.files))
+    (backed_on c.args.film.now.machine c.go_on.new.self.machine (g.F.Files.holds c.args.files.now) _ _ _ c.in-Ok.ensures.params c.in-Ok.ensures.images
+    c.go_on.ensures.outside.files.holds c.go_on.ensures.outside.swap.blocks c.requires.backed)

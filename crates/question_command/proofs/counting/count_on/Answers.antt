@@ -15,8 +15,7 @@ loop-film-init g c = record {
       (look_at_film c.args.film.now) xs) (sym c.new-notes.ensures.items)
       (counted_first A c.args.film.now (g.F.Files.holds c.args.files.now) (stores g.F.Files g.D.SwapDev c.args.files.now c.args.swap.now) image begun);
   within = let empty = ap length c.requires.first in omega (arith, empty);
-  area = c.requires.area;
-  files = c.requires.files;
+  backed = c.requires.backed;
 }
 
 pub goes_on-requires : goal.goes_on-requires
@@ -40,8 +39,7 @@ loop-film-preserved g c =
       filming = ends.filming;
       so_far = λ A image are begun. ends.counts A _ are (so.so_far A image are begun);
       within = let longer = ends.longer in omega (arith, below, longer);
-      area = ends.area;
-      files = ends.files;
+      backed = ends.backed;
     }
 
 pub loop-film-smaller : goal.loop-film-smaller

@@ -8,8 +8,7 @@ loop-film-init g c = record {
   filming = c.requires.filming;
   so_far = λ A image are begun. record { state = begun.state; image = image; at = begun.at };
   within = let empty = ap length c.requires.first in omega (arith, empty);
-  area = c.requires.area;
-  files = c.requires.files;
+  backed = c.requires.backed;
 }
 
 pub goes_on-requires : goal.goes_on-requires
@@ -33,8 +32,7 @@ loop-film-preserved g c =
       filming = ends.filming;
       so_far = λ A image are begun. ends.goes A are (so.so_far A image are begun);
       within = let longer = ends.longer in omega (arith, below, longer);
-      area = ends.area;
-      files = ends.files;
+      backed = ends.backed;
     }
 
 pub loop-film-smaller : goal.loop-film-smaller

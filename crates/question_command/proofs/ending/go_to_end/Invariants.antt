@@ -1,9 +1,9 @@
 -- The film stands at a state of the run.
 use Rattle.io_edge.specs.WithFiles.{stores}
-use Rattle.std.proofs.Common.{◌≡◌, ◌≤◌, ◌-◌, ℕ, List, length}
+use Rattle.std.proofs.Common.{◌≡◌, ◌≤◌, ◌-◌, length}
 use Rattle.vm_facts.specs.SwapImages.{SwapImage}
 use Rattle.flat_state.specs.Flat.{Inputs}
-use Rattle.machine_state.specs.Files.{AreFiles}
+use Rattle.machine_state.specs.Outside.{IsBacked}
 use Rattle.reference_commands.specs.Machines.{journal_entries}
 use Rattle.film_core.specs.Films.{IsFilming, FilmBegun}
 use Rattle.question_command.specs.Filmed.{IsAtState}
@@ -15,8 +15,7 @@ invariant-loop-film g l = record {
   so_far : (A : Inputs) (image : SwapImage) → A.lines ≡ l.lines → FilmBegun A l.fn.film (g.F.Files.holds l.fn.files) (stores g.F.Files g.D.SwapDev l.fn.files l.fn.swap) image
       → IsAtState A l.film (g.F.Files.holds l.files) (stores g.F.Files g.D.SwapDev l.files l.swap);
   within : length l.film.machine.kernel.journal ≤ journal_entries;
-  area : l.film.machine.params.swap_blocks ≤ g.D.SwapDev.blocks l.swap;
-  files : AreFiles l.film.machine.images (g.F.Files.holds l.files);
+  backed : IsBacked l.film.machine (g.F.Files.holds l.files) (g.D.SwapDev.blocks l.swap);
 }
 
 abbrev pub decreases-loop-film : goal.decreases-loop-film

@@ -14,8 +14,7 @@ loop-alloc-init g c = record {
       (stores g.F.Files g.D.SwapDev c.args.files.now c.args.swap.now) image c.new-text.result.items c.put_step_if.new.text.items begun.at begun.first
       (search rules) c.in_ok-put_step_if.ensures;
   within = let empty = ap length c.requires.first in omega (arith, empty);
-  area = c.requires.area;
-  files = c.requires.files;
+  backed = c.requires.backed;
 }
 
 pub goes_on-requires : goal.goes_on-requires
@@ -40,8 +39,7 @@ loop-alloc-preserved g c =
       filming = ends.filming;
       so_far = λ A image are begun. ends.goes A are (so.so_far A image are begun);
       within = let longer = ends.longer in omega (arith, below, longer);
-      area = ends.area;
-      files = ends.files;
+      backed = ends.backed;
     }
 
 pub loop-alloc-smaller : goal.loop-alloc-smaller

@@ -1,8 +1,7 @@
 use Rattle.std.proofs.Common.{◌≡◌, ◌+◌, ◌≤◌, List, drop, Option, None, refl, sym, ◌∙◌, subst, arith}
 use Rattle.io_edge.specs.WithFiles.{stores}
 use Rattle.io_edge.specs.FileHolding.{NamedFile}
-use Rattle.machine_state.specs.Files.{AreFiles}
-use Rattle.machine_state.specs.Sourced.{ImageNamed}
+use Rattle.machine_state.proofs.Backing.{backed_by}
 use Rattle.vm_core.specs.Stepped.{AtSome, LeadsFrom}
 use Rattle.paged_model.specs.declared.line.Line.{Line}
 use Rattle.repage_check.specs.declared.past.Past.{Past}
@@ -23,7 +22,7 @@ loop-index-init g c =
       told = subst (λ (p : Past). LeadsFrom (PastAt past_at_start m holds i) (AlongLines c.args.lines.now 0 p m holds i)) (sym c.past_at_start-past.ensures)
           (λ A s image at. lines_begun c.args.lines.now past_at_start m holds i A s image at);
       at = subst (λ (p : Past). AtSome (PastAt p m holds i)) (sym c.past_at_start-past.ensures) c.requires.at;
-      few = few_begun c.args.lines.now m c.requires.ready c.requires.first c.requires.wide c.requires.moves;
+      few = few_begun c.args.lines.now m c.requires.asks.ready c.requires.first c.requires.wide c.requires.moves;
       lines = subst (λ (p : Past). p.lines ≤ 0) (sym c.past_at_start-past.ensures) (omega arith);
       holds = refl;
       blocks = refl;
@@ -51,17 +50,13 @@ judge_line-requires-clause-lines g c =
     let below = c.loop-index-test.true in
     omega (arith, most, few, below)
 
-pub judge_line-requires-clause-area : goal.judge_line-requires-clause-area
-judge_line-requires-clause-area g c =
-    let same = c.loop-index.invariant.few.blocks in
-    let blocks = c.loop-index.invariant.blocks in
-    let most = c.requires.area in
-    omega (arith, same, blocks, most)
-
-pub judge_line-requires-clause-files : goal.judge_line-requires-clause-files
-judge_line-requires-clause-files g c =
-    subst (λ (ns : List ImageNamed). AreFiles ns (g.F.Files.holds c.loop-index.files)) (sym c.loop-index.invariant.few.images)
-    (subst (AreFiles c.args.m.now.images) (sym c.loop-index.invariant.holds) c.requires.files)
+pub judge_line-requires-clause-asks : goal.judge_line-requires-clause-asks
+judge_line-requires-clause-asks g c =
+    let so = c.loop-index.invariant in
+    record {
+      ready = so.few.ready;
+      backed = backed_by c.args.m.now c.loop-index.m (g.F.Files.holds c.args.files.now) _ _ _ so.few.blocks so.few.images so.holds so.blocks c.requires.asks.backed;
+    }
 
 pub returns-in-Some-clause-told : goal.returns-in-Some-clause-told
 returns-in-Some-clause-told g c =

@@ -1,9 +1,8 @@
 use Rattle.io_edge.specs.WithFiles.{stores}
-use Rattle.std.proofs.Common.{◌≡◌, List, Option, sym, ap, ◌∙◌, subst, arith}
+use Rattle.std.proofs.Common.{◌≡◌, List, Option, sym, ap, ◌∙◌, subst}
 use Rattle.vm_facts.specs.declared.params.Params.{Params}
 use Rattle.io_edge.specs.FileHolding.{NamedFile}
-use Rattle.machine_state.specs.Files.{AreFiles}
-use Rattle.machine_state.specs.Sourced.{ImageNamed}
+use Rattle.machine_state.proofs.Backing.{backed_on}
 use Rattle.vm_core.specs.Stepped.{AtSome, LeadsFrom}
 use Rattle.paged_model.specs.Traces.{trace_misstep}
 use Rattle.repage_check.specs.Past.{PastAt}
@@ -25,26 +24,20 @@ first_misstep-requires-clause-at g c =
     (start_some asked.inputs c.begin.new.m (g.F.Files.holds c.args.files.now) i
     (c.in_ok-pid.ensures.stands c.in-None.is asked.inputs asked.image asked.told asked.shown asked.limit))
 
-pub first_misstep-requires-clause-ready : goal.first_misstep-requires-clause-ready
-first_misstep-requires-clause-ready g c = (c.in_ok-pid.ensures.ready c.in-None.is).ready
-
 pub first_misstep-requires-clause-first : goal.first_misstep-requires-clause-first
 first_misstep-requires-clause-first g c = (c.in_ok-pid.ensures.ready c.in-None.is).none
 
 pub first_misstep-requires-clause-wide : goal.first_misstep-requires-clause-wide
 first_misstep-requires-clause-wide g c = ap (λ (p : Params). p.journal) (c.in_ok-pid.ensures.ready c.in-None.is).params ∙ c.requires.bound
 
-pub first_misstep-requires-clause-area : goal.first_misstep-requires-clause-area
-first_misstep-requires-clause-area g c =
-    let same = ap (λ (p : Params). p.swap_blocks) (c.in_ok-pid.ensures.ready c.in-None.is).params in
-    let blocks = c.begin.ensures.blocks in
-    let most = c.requires.area in
-    omega (arith, same, blocks, most)
-
-pub first_misstep-requires-clause-files : goal.first_misstep-requires-clause-files
-first_misstep-requires-clause-files g c =
-    subst (λ (ns : List ImageNamed). AreFiles ns (g.F.Files.holds c.begin.new.files)) (sym (c.in_ok-pid.ensures.ready c.in-None.is).images)
-    (subst (AreFiles c.args.m.now.images) (sym c.begin.ensures.holds) c.requires.files)
+pub first_misstep-requires-clause-asks : goal.first_misstep-requires-clause-asks
+first_misstep-requires-clause-asks g c =
+    let begun = c.in_ok-pid.ensures.ready c.in-None.is in
+    record {
+      ready = begun.ready;
+      backed = backed_on c.args.m.now c.begin.new.m (g.F.Files.holds c.args.files.now) _ _ _ begun.params begun.images c.begin.ensures.holds c.begin.ensures.blocks
+          c.requires.backed;
+    }
 
 pub returns-in-None-2-clause-judged : goal.returns-in-None-2-clause-judged
 returns-in-None-2-clause-judged g c = λ A image told shown limit.

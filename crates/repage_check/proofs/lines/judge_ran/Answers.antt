@@ -4,8 +4,7 @@ use Rattle.vm_facts.specs.declared.entry.Entry.TheVariants as entries
 use Rattle.io_edge.specs.WithFiles.{stores}
 use Rattle.io_edge.specs.FileHolding.{NamedFile}
 use Rattle.flat_state.specs.Journal.{repeated}
-use Rattle.machine_state.specs.Files.{AreFiles}
-use Rattle.machine_state.specs.Sourced.{ImageNamed}
+use Rattle.machine_state.proofs.Backing.{backed_by}
 use Rattle.vm_core.specs.Stepped.{LeadsFrom}
 use Rattle.repage_check.specs.Past.{PastAt}
 use Rattle.repage_check.specs.Lines.{UnitsTold, GoesBy}
@@ -18,7 +17,7 @@ loop-done-init g c = record {
   told = units_first (entries.Ran c.args.pid 1) c.args.times c.args.past.now c.args.m.now (g.F.Files.holds c.args.files.now)
       (stores g.F.Files g.D.SwapDev c.args.files.now c.args.swap.now);
   at = c.requires.at;
-  on = none_by c.args.m.now c.requires.ready c.requires.wide;
+  on = none_by c.args.m.now c.requires.asks.ready c.requires.wide;
   lines = omega arith;
   holds = refl;
   blocks = refl;
@@ -44,17 +43,13 @@ judge_next-requires-clause-lines g c =
     let most = c.requires.lines in
     omega (arith, e, most)
 
-pub judge_next-requires-clause-area : goal.judge_next-requires-clause-area
-judge_next-requires-clause-area g c =
-    let same = c.loop-done.invariant.on.blocks in
-    let blocks = c.loop-done.invariant.blocks in
-    let most = c.requires.area in
-    omega (arith, same, blocks, most)
-
-pub judge_next-requires-clause-files : goal.judge_next-requires-clause-files
-judge_next-requires-clause-files g c =
-    subst (λ (ns : List ImageNamed). AreFiles ns (g.F.Files.holds c.loop-done.files)) (sym c.loop-done.invariant.on.images)
-    (subst (AreFiles c.args.m.now.images) (sym c.loop-done.invariant.holds) c.requires.files)
+pub judge_next-requires-clause-asks : goal.judge_next-requires-clause-asks
+judge_next-requires-clause-asks g c =
+    let so = c.loop-done.invariant in
+    record {
+      ready = so.on.ready;
+      backed = backed_by c.args.m.now c.loop-done.m (g.F.Files.holds c.args.files.now) _ _ _ so.on.blocks so.on.images so.holds so.blocks c.requires.asks.backed;
+    }
 
 pub loop-done-preserved : goal.loop-done-preserved
 loop-done-preserved g c =

@@ -11,7 +11,7 @@ make_act-requires-clause-steady g c =
     let m = c.args.m.now in
     let holds = g.F.Files.holds c.args.files.now in
     let i = stores g.F.Files g.D.SwapDev c.args.files.now c.args.swap.now in
-    steady_of m c.args.counted None holds i c.args.pid (ready_of m c.args.counted None holds i c.args.pid c.requires.acts) c.requires.ready c.requires.low
+    steady_of m c.args.counted None holds i c.args.pid (ready_of m c.args.counted None holds i c.args.pid c.requires.acts) c.requires.asks.ready c.requires.low
 
 pub make_act-requires-clause-few : goal.make_act-requires-clause-few
 make_act-requires-clause-few g c =

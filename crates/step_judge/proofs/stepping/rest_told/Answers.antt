@@ -12,7 +12,7 @@ make_rest-requires-clause-steady g c =
     let holds = g.F.Files.holds c.args.files.now in
     let i = stores g.F.Files g.D.SwapDev c.args.files.now c.args.swap.now in
     let b = Some c.args.begun in
-    steady_of m c.args.counted b holds i c.args.pid (ready_of m c.args.counted b holds i c.args.pid c.requires.acts) c.requires.ready c.requires.low
+    steady_of m c.args.counted b holds i c.args.pid (ready_of m c.args.counted b holds i c.args.pid c.requires.acts) c.requires.asks.ready c.requires.low
 
 pub returns-clause-told : goal.returns-clause-told
 returns-clause-told g c =

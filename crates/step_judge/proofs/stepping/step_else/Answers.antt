@@ -11,7 +11,7 @@ touched_and_wanted-requires-clause-lends g c =
     let m = c.args.m.now in
     let holds = g.F.Files.holds c.args.files.now in
     let i = stores g.F.Files g.D.SwapDev c.args.files.now c.args.swap.now in
-    lends_of m c.args.counted None holds i c.args.pid c.requires.may c.requires.ready c.requires.low
+    lends_of m c.args.counted None holds i c.args.pid c.requires.may c.requires.asks.ready c.requires.low
 
 pub returns-in-Some-clause-told : goal.returns-in-Some-clause-told
 returns-in-Some-clause-told g c =

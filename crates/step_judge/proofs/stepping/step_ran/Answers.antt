@@ -1,7 +1,6 @@
 use Rattle.io_edge.specs.WithFiles.{stores}
 use Rattle.std.proofs.Common.{◌≡◌, ◌+◌, ◌<◌, ◌≤◌, false, true, length, None, Some, sym, ◌∙◌, arith}
 use Rattle.flat_state.specs.Journal.{instructions_of}
-use Rattle.machine_state.specs.Files.{AreFiles}
 use Rattle.step_units.specs.Callers.{regs_of}
 use Rattle.step_units.specs.LastMoves.{last_moves}
 use Rattle.step_units.specs.Ready.{Continues}
@@ -11,6 +10,7 @@ use Rattle.proc_run.proofs.Attempts.{RoomOnly, room_kernel, room_lends}
 use Rattle.proc_run.proofs.Tried.{journal_same, lends_still, ran_goes_on}
 use Rattle.step_judge.specs.Told.{GoesOnWith}
 use Rattle.step_judge.proofs.Stepped.{steady_of, lends_of, few_of, some_room, told_room, on_room, left_same, other_still, ran_through, did_done, ran_told}
+use Rattle.machine_state.specs.Outside.{IsBacked}
 use Rattle.step_judge.proofs.stepping.step_ran.Goals as goal
 
 pub attempt_cached-stepped-requires-clause-lends : goal.attempt_cached-stepped-requires-clause-lends
@@ -19,7 +19,7 @@ attempt_cached-stepped-requires-clause-lends g c =
     let holds = g.F.Files.holds c.args.files.now in
     let i = stores g.F.Files g.D.SwapDev c.args.files.now c.args.swap.now in
     let o : RoomOnly m c.ask_room.new.m = record { made = Some c.args.pid; only = c.in_ok-ask_room.ensures.only } in
-    room_lends m c.ask_room.new.m c.args.pid o (lends_of m c.args.counted None holds i c.args.pid c.requires.may c.requires.ready c.requires.low)
+    room_lends m c.ask_room.new.m c.args.pid o (lends_of m c.args.counted None holds i c.args.pid c.requires.may c.requires.asks.ready c.requires.low)
 
 -- Where the instruction is carried out.
 
@@ -31,7 +31,7 @@ ran-requires-clause-can g c =
     let o : RoomOnly m c.ask_room.new.m = record { made = Some c.args.pid; only = c.in_ok-ask_room.ensures.only } in
     lends_still m c.ask_room.new.m c.attempt_cached-stepped.new.m c.args.pid c.args.regs.now o c.attempt_cached-stepped.ensures.wrote
     c.attempt_cached-stepped.ensures.goes_on
-    (room_lends m c.ask_room.new.m c.args.pid o (lends_of m c.args.counted None holds i c.args.pid c.requires.may c.requires.ready c.requires.low))
+    (room_lends m c.ask_room.new.m c.args.pid o (lends_of m c.args.counted None holds i c.args.pid c.requires.may c.requires.asks.ready c.requires.low))
 
 pub ran-requires-clause-fits : goal.ran-requires-clause-fits
 ran-requires-clause-fits g c = λ count before h.
@@ -63,7 +63,7 @@ returns-then-is_done-clause-on g c =
     let holds = g.F.Files.holds c.args.files.now in
     let i = stores g.F.Files g.D.SwapDev c.args.files.now c.args.swap.now in
     let o : RoomOnly m c.ask_room.new.m = record { made = Some c.args.pid; only = c.in_ok-ask_room.ensures.only } in
-    let steady : IsSteady m = steady_of m c.args.counted None holds i c.args.pid c.requires.may c.requires.ready c.requires.low in
+    let steady : IsSteady m = steady_of m c.args.counted None holds i c.args.pid c.requires.may c.requires.asks.ready c.requires.low in
     let k : Continues m c.ran.new.self 1 =
     ran_goes_on m c.ask_room.new.m c.attempt_cached-stepped.new.m c.args.pid c.args.regs.now o c.attempt_cached-stepped.ensures.wrote steady.clear
     (sym c.attempt_cached-stepped.ensures.answer ∙ c.is_done.ensures.0 c.if-is_done.true) c.ran.new.self c.attempt_cached-stepped.new.regs
@@ -122,21 +122,16 @@ step_else-requires-clause-other g c =
     other_still c.attempt_cached-stepped.result c.ask_room.new.m c.attempt_cached-stepped.new.m c.args.pid c.args.regs.now c.attempt_cached-stepped.ensures.answer
     (λ d. let z : false ≡ true = sym c.if-is_done.false ∙ c.is_done.ensures.1 d in cc) same
 
-pub step_else-requires-clause-area : goal.step_else-requires-clause-area
-step_else-requires-clause-area g c =
+pub step_else-requires-clause-asks : goal.step_else-requires-clause-asks
+step_else-requires-clause-asks g c =
     let m = c.args.m.now in
     let same = left_same c.attempt_cached-stepped.result c.ask_room.new.m c.attempt_cached-stepped.new.m
     (λ d. let z : false ≡ true = sym c.if-is_done.false ∙ c.is_done.ensures.1 d in cc) c.attempt_cached-stepped.ensures.only in
     let o : RoomOnly m c.attempt_cached-stepped.new.m = record { made = Some c.args.pid; only = same ∙ c.in_ok-ask_room.ensures.only } in
-    room_kernel (λ n. n.params.swap_blocks ≤ g.D.SwapDev.blocks c.args.swap.now) m c.attempt_cached-stepped.new.m o c.requires.area
-
-pub step_else-requires-clause-files : goal.step_else-requires-clause-files
-step_else-requires-clause-files g c =
-    let m = c.args.m.now in
-    let same = left_same c.attempt_cached-stepped.result c.ask_room.new.m c.attempt_cached-stepped.new.m
-    (λ d. let z : false ≡ true = sym c.if-is_done.false ∙ c.is_done.ensures.1 d in cc) c.attempt_cached-stepped.ensures.only in
-    let o : RoomOnly m c.attempt_cached-stepped.new.m = record { made = Some c.args.pid; only = same ∙ c.in_ok-ask_room.ensures.only } in
-    room_kernel (λ n. AreFiles n.images (g.F.Files.holds c.args.files.now)) m c.attempt_cached-stepped.new.m o c.requires.files
+    record {
+      ready = c.attempt_cached-stepped.ensures.goes_on;
+      backed = room_kernel (λ n. IsBacked n (g.F.Files.holds c.args.files.now) (g.D.SwapDev.blocks c.args.swap.now)) m c.attempt_cached-stepped.new.m o c.requires.asks.backed;
+    }
 
 pub returns-else-is_done-clause-told : goal.returns-else-is_done-clause-told
 returns-else-is_done-clause-told g c =

@@ -12,7 +12,7 @@ pub loop-step-init : goal.loop-step-init
 loop-step-init g c =
     let r = c.requires in
     record {
-      puts = record { asks = record { ready = r.ready; area = r.area; files = r.files }; clear = r.clear; holds_there = r.holds; resident = r.resident };
+      puts = record { asks = r.asks; clear = r.clear; holds_there = r.holds; resident = r.resident };
       so_far = puts_none c.args.pid c.args.sid c.args.m.now (g.F.Files.holds c.args.files.now) (stores g.F.Files g.D.SwapDev c.args.files.now c.args.swap.now);
       outside = transfers_none g.met.F.Files.leads_nowhere g.met.D.SwapDev.leads_nowhere c.args.files.now c.args.swap.now;
     }

@@ -2,7 +2,7 @@ use Rattle.io_edge.specs.WithFiles.{stores}
 use Rattle.std.proofs.Common.{◌∙◌, sym, arith, None}
 use Rattle.std.proofs.lemmas.Result.{err_from_is_err_and}
 use Rattle.machine_state.proofs.Transfers.{transfers_none, transfers_then}
-use Rattle.step_units.proofs.CopiedPages.{area_next, files_next}
+use Rattle.machine_state.proofs.Backing.{backed_on}
 use Rattle.step_units.specs.Ready.{RunsDue}
 use Rattle.vm_core.specs.Filling.{due_of, IsDueFirst}
 use Rattle.vm_core.proofs.Filled.{first_of, none_due, fewer, room_one, due_filled, filled_none, filled_one, filled_all, filled_goes_on, filled_stops, filled_kept}
@@ -11,9 +11,7 @@ use Rattle.vm_core.proofs.filling.fill_rest.Goals as goal
 pub loop-page-init : goal.loop-page-init
 loop-page-init g c = record {
   so_far = filled_none c.args.m.now (g.F.Files.holds c.args.files.now) (stores g.F.Files g.D.SwapDev c.args.files.now c.args.swap.now);
-  ready = c.requires.ready;
-  area = c.requires.area;
-  files = c.requires.files;
+  asks = c.requires.asks;
   outside = transfers_none g.met.F.Files.leads_nowhere g.met.D.SwapDev.leads_nowhere c.args.files.now c.args.swap.now;
 }
 
@@ -69,9 +67,11 @@ loop-page-preserved g c =
           c.loop-page.invariant.so_far next (g.F.Files.holds c.fill_first.new.files) (stores g.F.Files g.D.SwapDev c.fill_first.new.files c.fill_first.new.swap) d first
           c.in_ok-fill_first.ensures.outside.files.holds
           c.in_ok-fill_first.ensures.filled;
-      ready = c.in_ok-fill_first.ensures.goes_on;
-      area = area_next now next _ _ one.on.params c.in_ok-fill_first.ensures.outside.swap.blocks c.loop-page.invariant.area;
-      files = files_next now next (g.F.Files.holds c.loop-page.files) _ one.on.images c.in_ok-fill_first.ensures.outside.files.holds c.loop-page.invariant.files;
+      asks = record {
+        ready = c.in_ok-fill_first.ensures.goes_on;
+        backed = backed_on now next (g.F.Files.holds c.loop-page.files) _ _ _ one.on.params one.on.images c.in_ok-fill_first.ensures.outside.files.holds
+            c.in_ok-fill_first.ensures.outside.swap.blocks c.loop-page.invariant.asks.backed;
+      };
       outside = transfers_then {stop = None} g.met.F.Files.leads_through g.met.D.SwapDev.leads_through c.loop-page.invariant.outside c.in_ok-fill_first.ensures.outside;
     }
 

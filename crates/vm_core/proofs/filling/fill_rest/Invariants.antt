@@ -1,8 +1,6 @@
 use Rattle.io_edge.specs.WithFiles.{stores}
-use Rattle.std.proofs.Common.{◌≤◌, length, None}
-use Rattle.machine_state.specs.Files.{AreFiles}
-use Rattle.machine_state.specs.Going.{CanGoOn}
-use Rattle.machine_state.specs.Outside.{TransfersPages}
+use Rattle.std.proofs.Common.{length, None}
+use Rattle.machine_state.specs.Outside.{Asks, TransfersPages}
 use Rattle.vm_core.proofs.Filled.{FilledSoFar}
 use Rattle.vm_core.proofs.filling.fill_rest.Given as goal
 
@@ -10,9 +8,7 @@ use Rattle.vm_core.proofs.filling.fill_rest.Given as goal
 abbrev pub invariant-loop-page : goal.invariant-loop-page
 invariant-loop-page g l = record {
   so_far : FilledSoFar l.fn.m l.m (g.F.Files.holds l.fn.files) (g.F.Files.holds l.files) (stores g.F.Files g.D.SwapDev l.fn.files l.fn.swap) (stores g.F.Files g.D.SwapDev l.files l.swap);
-  ready : CanGoOn l.m;
-  area : l.m.params.swap_blocks ≤ g.D.SwapDev.blocks l.swap;
-  files : AreFiles l.m.images (g.F.Files.holds l.files);
+  asks : Asks l.m (g.F.Files.holds l.files) (g.D.SwapDev.blocks l.swap);
   outside : TransfersPages g.F.Files g.D.SwapDev None l.fn.files l.files l.fn.swap l.swap;
 }
 

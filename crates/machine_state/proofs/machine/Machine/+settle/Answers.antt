@@ -1,13 +1,10 @@
-use Rattle.std.proofs.Common.{Bool, List, Option, Result, Ok, sym, ap, ◌∙◌, subst, arith}
+use Rattle.std.proofs.Common.{Bool, Result, Ok, sym, ap, ◌∙◌, arith}
 use Rattle.std.proofs.lemmas.Result.{err_from_is_err_and}
-use Rattle.io_edge.specs.FileHolding.{NamedFile}
 use Rattle.io_edge.specs.WithFiles.{stores}
-use Rattle.vm_facts.specs.declared.params.Params.{Params}
 use Rattle.vm_facts.specs.declared.stop.Stop.{Stop}
-use Rattle.table_steps.specs.Sourced.{ImageNamed}
-use Rattle.table_steps.specs.Files.{AreFiles}
 use Rattle.table_steps.specs.Done.{Sources, sources, IsDone}
 use Rattle.machine_state.proofs.Settling.{fewer, beside_done, same_sources, one_more, one_stopped, stopped_first, through}
+use Rattle.machine_state.proofs.Backing.{asks_on}
 use Rattle.table_steps.proofs.Outcomes.{on_ok, if_err}
 use Rattle.machine_state.proofs.machine.Machine.+settle.Goals as goal
 
@@ -17,21 +14,18 @@ returns-in_err-done-clause-stops g t c =
     rw (p.1, p.2)
     (stopped_first c.args.sid c.args.self.now c.done.new.self (g.F.Files.holds c.args.files.now) (stores g.F.Files g.D.SwapDev c.args.files.now c.args.swap.now)
     (stores g.F.Files g.D.SwapDev c.done.new.files c.done.new.swap) c.in_err-done.field-0.0
-    (sym c.settled.ensures ∙ c.if-settled.false) c.in_err-done.ensures.stop c.requires.ready.whole c.in_err-done.ensures.cause c.in_err-done.ensures.full c.in_err-done.ensures.lost
+    (sym c.settled.ensures ∙ c.if-settled.false) c.in_err-done.ensures.stop c.requires.asks.ready.whole c.in_err-done.ensures.cause c.in_err-done.ensures.full c.in_err-done.ensures.lost
     c.in_err-done.ensures.spoiled)
 
 pub settle-requires : goal.settle-requires
 settle-requires g t c κs out =
     let yes = ap (λ (b : Bool). let r : Result Bool Stop = Ok b in r) c.if-branch.true in
     let b = beside_done c.args.self.now c.done.new.self (c.in_ok-done.ensures.rest yes) in
-    let area = c.requires.area in
-    let size = ap (λ (x : Params). x.swap_blocks) b.params in
-    let blocks = c.in_ok-done.ensures.outside.swap.blocks in
-    let files : AreFiles c.done.new.self.images (g.F.Files.holds c.done.new.files) =
-    subst (λ (ns : List ImageNamed). AreFiles ns (g.F.Files.holds c.done.new.files)) (sym b.images)
-    (subst (λ (h : Option (List NamedFile)). AreFiles c.args.self.now.images h) (sym c.in_ok-done.ensures.outside.files.holds) c.requires.files) in
+    let outside = c.in_ok-done.ensures.outside in
+    let asks = asks_on c.args.self.now c.done.new.self (g.F.Files.holds c.args.files.now) (g.F.Files.holds c.done.new.files) _ _ b outside.files.holds outside.swap.blocks
+    c.in_ok-done.ensures.goes_on c.requires.asks in
     let less = fewer _ _ _ _ (c.in_ok-done.ensures.step yes) in
-    (omega (arith, c.decreases, less), (out.0, (out.1, (c.in_ok-done.ensures.goes_on, (omega (arith, area, size, blocks), files)))))
+    (omega (arith, c.decreases, less), (out.0, (out.1, asks)))
 
 pub returns-then-branch-clause-settled : goal.returns-then-branch-clause-settled
 returns-then-branch-clause-settled g t c =

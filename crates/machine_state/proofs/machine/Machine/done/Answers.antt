@@ -35,18 +35,18 @@ use Rattle.machine_state.proofs.machine.Machine.done.Goals as goal
 
 pub complete_oldest-requires : goal.complete_oldest-requires
 complete_oldest-requires g c =
-    let now = stands_now c.self.inside c.args.self.now c.self.invariant c.self.view_is c.requires.ready.running.runs in
+    let now = stands_now c.self.inside c.args.self.now c.self.invariant c.self.view_is c.requires.asks.ready.running.runs in
     let t : Tables = c.self.inside.tables in
-    let area = c.requires.area in
+    let area = c.requires.asks.backed.area in
     let size = now.stands.book in
     let p = ap (λ (s : Standing). s.params.swap_blocks) c.self.view_is in
     reachable (images_of t) (image_at t) (before_of t) t.book.size (g.D.SwapDev.blocks c.args.swap.now) (g.F.Files.holds c.args.files.now) t.ring (omega arith)
-    (subst (λ (s : Standing). AreFiles s.images (g.F.Files.holds c.args.files.now)) (sym c.self.view_is) c.requires.files) now.stands.ring
+    (subst (λ (s : Standing). AreFiles s.images (g.F.Files.holds c.args.files.now)) (sym c.self.view_is) c.requires.asks.backed.files) now.stands.ring
 
 pub land-requires : goal.land-requires
 land-requires g c =
     let t : Tables = c.self.inside.tables in
-    let k = known_now c.self.inside c.args.self.now c.self.invariant c.self.view_is c.requires.ready c.frames-frames.ensures.sound in
+    let k = known_now c.self.inside c.args.self.now c.self.invariant c.self.view_is c.requires.asks.ready c.frames-frames.ensures.sound in
     let e = came t.ring (g.F.Files.holds c.args.files.now) (g.D.SwapDev.image c.args.swap.now) (g.D.SwapDev.image c.complete_oldest.new.swap) _ c.in-Done.ensures.ends (λ i. let x = i in cc) in
     back_known t c.complete_oldest.new.self e.oldest c.in-Done.transfer (was_lists t c.complete_oldest.new.self e.rest e.oldest e.ring_is c.in-Done.ensures.rest)
     (done_back e.oldest c.in-Done.transfer _ _ _ e.ends) k
@@ -65,7 +65,7 @@ step g c =
     let w : Tables = c.land.new.tables in
     let k : Kernel = kernel_by t c.self.inside.journal.items c.self.inside.stopped in
     let n : Flight = c.in-Done.transfer in
-    let r = running c.self.inside c.args.self.now c.self.invariant c.self.view_is c.requires.ready in
+    let r = running c.self.inside c.args.self.now c.self.invariant c.self.view_is c.requires.asks.ready in
     let e = back g c in
     let d : Doing t w c.complete_oldest.new.self e.oldest n = record {
       known = known_of c.self.inside c.frames-frames.ensures.sound r;
@@ -77,8 +77,8 @@ step g c =
     let journal : c.push_reserved.new.self.items ≡ c.self.inside.journal.items ++ entries.Done ∷ [] =
     c.push_reserved.ensures.items ∙ ap (λ (j : List Entry). j ++ entries.Done ∷ []) c.make_room.ensures.same in
     let left : w.ring ≡ e.rest = ap (λ (x : Tables). x.ring) d.all.rest ∙ c.in-Done.ensures.rest ∙ ap (drop 1) e.ring_is in
-    let now = stands_now c.self.inside c.args.self.now c.self.invariant c.self.view_is c.requires.ready.running.runs in
-    stepped c.self.inside _ c.args.self.now _ c.self.invariant c.self.view_is c.requires.ready (record {
+    let now = stands_now c.self.inside c.args.self.now c.self.invariant c.self.view_is c.requires.asks.ready.running.runs in
+    stepped c.self.inside _ c.args.self.now _ c.self.invariant c.self.view_is c.requires.asks.ready (record {
       kept = subst (Kept t) (sym d.all.rest) (record { params = refl; images = refl; book = refl; found = refl; next_pid = refl; next_sid = refl; records = now.stands.records });
       is = ap (λ (j : List Entry). kernel_by w j c.self.inside.stopped) journal ∙ done_kernel t w c.complete_oldest.new.self e.oldest n c.self.inside.journal.items c.self.inside.stopped d;
       runs = done_runs t.book.size k (lists_of t) _ r d.all.tied (brought n);
@@ -98,13 +98,13 @@ invariant_of-self-in-Done g c = (step g c).inside
 pub returns-in-Done : goal.returns-in-Done
 returns-in-Done g c =
     let t : Tables = c.self.inside.tables in
-    let r = running c.self.inside c.args.self.now c.self.invariant c.self.view_is c.requires.ready in
+    let r = running c.self.inside c.args.self.now c.self.invariant c.self.view_is c.requires.asks.ready in
     let e = back g c in
     let n : Flight = c.in-Done.transfer in
     let b : Kernel = kernel_by t c.self.inside.journal.items c.self.inside.stopped in
-    let f = before c.self.inside c.args.self.now e.oldest e.rest c.self.invariant c.self.view_is c.requires.ready c.frames-frames.ensures.sound e.ring_is in
+    let f = before c.self.inside c.args.self.now e.oldest e.rest c.self.invariant c.self.view_is c.requires.asks.ready c.frames-frames.ensures.sound e.ring_is in
     let z = step g c in
-    let files = subst (λ (s : Standing). AreFiles s.images (g.F.Files.holds c.args.files.now)) (sym c.self.view_is) c.requires.files in
+    let files = subst (λ (s : Standing). AreFiles s.images (g.F.Files.holds c.args.files.now)) (sym c.self.view_is) c.requires.asks.backed.files in
     let noted : g.F.Files.notes c.complete_oldest.new.files ≡ after_requests
     (oldest_asked (files_named c.args.self.now.images) (image_of c.args.self.now.kernel.place) c.args.self.now.kernel.place.transfers)
     (g.F.Files.notes c.args.files.now) =
@@ -127,8 +127,8 @@ returns-in-Done g c =
           };
       rest = λ _. z.rest;
       keeps = λ images flat loads fits stood.
-          let area = c.requires.area in
-          let size = (stands_now c.self.inside c.args.self.now c.self.invariant c.self.view_is c.requires.ready.running.runs).stands.book in
+          let area = c.requires.asks.backed.area in
+          let size = (stands_now c.self.inside c.args.self.now c.self.invariant c.self.view_is c.requires.asks.ready.running.runs).stands.book in
           let p = ap (λ (s : Standing). s.params.swap_blocks) c.self.view_is in
           let long : (image : SwapImage) → (g.D.SwapDev.image c.args.swap.now) ≡ Some image → 512 * t.book.size ≤ length image.bytes =
           λ image i. let m = g.met.D.SwapDev.whole c.args.swap.now image i in omega arith in
@@ -163,7 +163,7 @@ returns-in-SwapWriteFault-clause-spoiled g c =
     came t.ring (g.F.Files.holds c.args.files.now) (g.D.SwapDev.image c.args.swap.now) (g.D.SwapDev.image c.complete_oldest.new.swap)
     (answers.SwapWriteFault c.in-SwapWriteFault.transfer) c.in-SwapWriteFault.ensures.ends (λ i. let x = i in cc) in
     let b : Kernel = kernel_by t c.self.inside.journal.items c.self.inside.stopped in
-    let f = before c.self.inside c.args.self.now e.oldest e.rest c.self.invariant c.self.view_is c.requires.ready c.frames-frames.ensures.sound e.ring_is in
+    let f = before c.self.inside c.args.self.now e.oldest e.rest c.self.invariant c.self.view_is c.requires.asks.ready c.frames-frames.ensures.sound e.ring_is in
     spoiled_beside c.args.self.now.kernel (g.D.SwapDev.image c.args.swap.now) (g.D.SwapDev.image c.complete_oldest.new.swap) (g.F.Files.notes c.args.files.now)
     (g.F.Files.notes c.complete_oldest.new.files)
     (subst (λ (s : Standing). SpoilsAfter s.kernel (g.D.SwapDev.image c.args.swap.now) (g.D.SwapDev.image c.complete_oldest.new.swap)) c.self.view_is (spoiled_image t (images_of t) b e.oldest
@@ -174,12 +174,12 @@ returns-in-SwapWriteFault-clause-spoiled g c =
 pub returns-in-FileFault-clause-spoiled : goal.returns-in-FileFault-clause-spoiled
 returns-in-FileFault-clause-spoiled g c =
     let t : Tables = c.self.inside.tables in
-    let now = stands_now c.self.inside c.args.self.now c.self.invariant c.self.view_is c.requires.ready.running.runs in
+    let now = stands_now c.self.inside c.args.self.now c.self.invariant c.self.view_is c.requires.asks.ready.running.runs in
     let e : Came t.ring (g.F.Files.holds c.args.files.now) (g.D.SwapDev.image c.args.swap.now) (g.D.SwapDev.image c.complete_oldest.new.swap) (answers.FileFault c.in-FileFault.transfer) =
     came t.ring (g.F.Files.holds c.args.files.now) (g.D.SwapDev.image c.args.swap.now) (g.D.SwapDev.image c.complete_oldest.new.swap)
     (answers.FileFault c.in-FileFault.transfer) c.in-FileFault.ensures.ends (λ i. let x = i in cc) in
     let b : Kernel = kernel_by t c.self.inside.journal.items c.self.inside.stopped in
-    let f = before c.self.inside c.args.self.now e.oldest e.rest c.self.invariant c.self.view_is c.requires.ready c.frames-frames.ensures.sound e.ring_is in
+    let f = before c.self.inside c.args.self.now e.oldest e.rest c.self.invariant c.self.view_is c.requires.asks.ready c.frames-frames.ensures.sound e.ring_is in
     filled_beside (files_named c.args.self.now.images) c.args.self.now.kernel (g.D.SwapDev.image c.args.swap.now) (g.D.SwapDev.image c.complete_oldest.new.swap)
     (g.F.Files.notes c.args.files.now) (g.F.Files.notes c.complete_oldest.new.files)
     (subst (λ (s : Standing). OldestReadsFrom FromFile s.kernel.place.transfers) c.self.view_is
@@ -199,12 +199,12 @@ returns-in-FileFault-clause-spoiled g c =
 pub returns-in-SwapReadFault-clause-spoiled : goal.returns-in-SwapReadFault-clause-spoiled
 returns-in-SwapReadFault-clause-spoiled g c =
     let t : Tables = c.self.inside.tables in
-    let now = stands_now c.self.inside c.args.self.now c.self.invariant c.self.view_is c.requires.ready.running.runs in
+    let now = stands_now c.self.inside c.args.self.now c.self.invariant c.self.view_is c.requires.asks.ready.running.runs in
     let e : Came t.ring (g.F.Files.holds c.args.files.now) (g.D.SwapDev.image c.args.swap.now) (g.D.SwapDev.image c.complete_oldest.new.swap) (answers.SwapReadFault c.in-SwapReadFault.transfer) =
     came t.ring (g.F.Files.holds c.args.files.now) (g.D.SwapDev.image c.args.swap.now) (g.D.SwapDev.image c.complete_oldest.new.swap)
     (answers.SwapReadFault c.in-SwapReadFault.transfer) c.in-SwapReadFault.ensures.ends (λ i. let x = i in cc) in
     let b : Kernel = kernel_by t c.self.inside.journal.items c.self.inside.stopped in
-    let f = before c.self.inside c.args.self.now e.oldest e.rest c.self.invariant c.self.view_is c.requires.ready c.frames-frames.ensures.sound e.ring_is in
+    let f = before c.self.inside c.args.self.now e.oldest e.rest c.self.invariant c.self.view_is c.requires.asks.ready c.frames-frames.ensures.sound e.ring_is in
     asked_beside (files_named c.args.self.now.images) c.args.self.now.kernel (g.D.SwapDev.image c.args.swap.now) (g.D.SwapDev.image c.complete_oldest.new.swap)
     (g.F.Files.notes c.args.files.now) (g.F.Files.notes c.complete_oldest.new.files)
     (subst (λ (s : Standing). OldestReadsFrom FromSwap s.kernel.place.transfers) c.self.view_is
@@ -223,7 +223,7 @@ returns-in-SwapReadFault-clause-spoiled g c =
 pub returns-in-FileFault-clause-cause : goal.returns-in-FileFault-clause-cause
 returns-in-FileFault-clause-cause g c =
     let t : Tables = c.self.inside.tables in
-    let now = stands_now c.self.inside c.args.self.now c.self.invariant c.self.view_is c.requires.ready.running.runs in
+    let now = stands_now c.self.inside c.args.self.now c.self.invariant c.self.view_is c.requires.asks.ready.running.runs in
     subst (λ (s : Standing). OldestReadsFrom FromFile s.kernel.place.transfers) c.self.view_is
     (file_failed (images_of t) (image_at t) (before_of t) t.book.size t.ring c.in-FileFault.transfer (g.F.Files.holds c.args.files.now) (g.D.SwapDev.image c.args.swap.now)
     (g.D.SwapDev.image c.complete_oldest.new.swap) now.stands.ring c.in-FileFault.ensures.ends)
@@ -231,7 +231,7 @@ returns-in-FileFault-clause-cause g c =
 pub returns-in-SwapReadFault-clause-cause : goal.returns-in-SwapReadFault-clause-cause
 returns-in-SwapReadFault-clause-cause g c =
     let t : Tables = c.self.inside.tables in
-    let now = stands_now c.self.inside c.args.self.now c.self.invariant c.self.view_is c.requires.ready.running.runs in
+    let now = stands_now c.self.inside c.args.self.now c.self.invariant c.self.view_is c.requires.asks.ready.running.runs in
     subst (λ (s : Standing). OldestReadsFrom FromSwap s.kernel.place.transfers) c.self.view_is
     (swap_read_failed (images_of t) (image_at t) (before_of t) t.book.size t.ring c.in-SwapReadFault.transfer (g.F.Files.holds c.args.files.now) (g.D.SwapDev.image c.args.swap.now)
     (g.D.SwapDev.image c.complete_oldest.new.swap) now.stands.ring c.in-SwapReadFault.ensures.ends)
@@ -243,7 +243,7 @@ returns-in-FileFault-clause-lost g c =
     came t.ring (g.F.Files.holds c.args.files.now) (g.D.SwapDev.image c.args.swap.now) (g.D.SwapDev.image c.complete_oldest.new.swap)
     (answers.FileFault c.in-FileFault.transfer) c.in-FileFault.ensures.ends (λ i. let x = i in cc) in
     lost c.self.inside c.complete_oldest.new.self e.rest e.oldest c.args.self.now c.make_room.new.journal.items c.lose.new.stopped _ e.ring_is c.in-FileFault.ensures.rest
-    (known_now c.self.inside c.args.self.now c.self.invariant c.self.view_is c.requires.ready c.frames-frames.ensures.sound) c.self.view_is
+    (known_now c.self.inside c.args.self.now c.self.invariant c.self.view_is c.requires.asks.ready c.frames-frames.ensures.sound) c.self.view_is
     c.make_room.ensures.same c.lose.ensures
 
 pub returns-in-SwapReadFault-clause-lost : goal.returns-in-SwapReadFault-clause-lost
@@ -253,7 +253,7 @@ returns-in-SwapReadFault-clause-lost g c =
     came t.ring (g.F.Files.holds c.args.files.now) (g.D.SwapDev.image c.args.swap.now) (g.D.SwapDev.image c.complete_oldest.new.swap)
     (answers.SwapReadFault c.in-SwapReadFault.transfer) c.in-SwapReadFault.ensures.ends (λ i. let x = i in cc) in
     lost c.self.inside c.complete_oldest.new.self e.rest e.oldest c.args.self.now c.make_room.new.journal.items c.lose-in-SwapReadFault.new.stopped _ e.ring_is c.in-SwapReadFault.ensures.rest
-    (known_now c.self.inside c.args.self.now c.self.invariant c.self.view_is c.requires.ready c.frames-frames.ensures.sound) c.self.view_is
+    (known_now c.self.inside c.args.self.now c.self.invariant c.self.view_is c.requires.asks.ready c.frames-frames.ensures.sound) c.self.view_is
     c.make_room.ensures.same c.lose-in-SwapReadFault.ensures
 
 pub returns-in-SwapWriteFault-clause-lost : goal.returns-in-SwapWriteFault-clause-lost
@@ -263,18 +263,18 @@ returns-in-SwapWriteFault-clause-lost g c =
     came t.ring (g.F.Files.holds c.args.files.now) (g.D.SwapDev.image c.args.swap.now) (g.D.SwapDev.image c.complete_oldest.new.swap)
     (answers.SwapWriteFault c.in-SwapWriteFault.transfer) c.in-SwapWriteFault.ensures.ends (λ i. let x = i in cc) in
     lost c.self.inside c.complete_oldest.new.self e.rest e.oldest c.args.self.now c.make_room.new.journal.items c.lose-in-SwapWriteFault.new.stopped _ e.ring_is c.in-SwapWriteFault.ensures.rest
-    (known_now c.self.inside c.args.self.now c.self.invariant c.self.view_is c.requires.ready c.frames-frames.ensures.sound) c.self.view_is
+    (known_now c.self.inside c.args.self.now c.self.invariant c.self.view_is c.requires.asks.ready c.frames-frames.ensures.sound) c.self.view_is
     c.make_room.ensures.same c.lose-in-SwapWriteFault.ensures
 
 pub returns-in-FileFault-clause-noted : goal.returns-in-FileFault-clause-noted
 returns-in-FileFault-clause-noted g c =
     let t : Tables = c.self.inside.tables in
-    let now = stands_now c.self.inside c.args.self.now c.self.invariant c.self.view_is c.requires.ready.running.runs in
+    let now = stands_now c.self.inside c.args.self.now c.self.invariant c.self.view_is c.requires.asks.ready.running.runs in
     let e : Came t.ring (g.F.Files.holds c.args.files.now) (g.D.SwapDev.image c.args.swap.now) (g.D.SwapDev.image c.complete_oldest.new.swap) (answers.FileFault c.in-FileFault.transfer) =
     came t.ring (g.F.Files.holds c.args.files.now) (g.D.SwapDev.image c.args.swap.now) (g.D.SwapDev.image c.complete_oldest.new.swap)
     (answers.FileFault c.in-FileFault.transfer) c.in-FileFault.ensures.ends (λ i. let x = i in cc) in
     let b : Kernel = kernel_by t c.self.inside.journal.items c.self.inside.stopped in
-    let f = before c.self.inside c.args.self.now e.oldest e.rest c.self.invariant c.self.view_is c.requires.ready c.frames-frames.ensures.sound e.ring_is in
+    let f = before c.self.inside c.args.self.now e.oldest e.rest c.self.invariant c.self.view_is c.requires.asks.ready c.frames-frames.ensures.sound e.ring_is in
     subst (λ (s : Standing). OldestAskedUpTo (files_named s.images) (image_of s.kernel.place) s.kernel.place.transfers (g.F.Files.notes c.args.files.now)
     (g.F.Files.notes c.complete_oldest.new.files)) c.self.view_is
     (file_notes t (images_of t) b e.oldest c.in-FileFault.transfer e.rest t.book.size (g.F.Files.notes c.args.files.now) (g.F.Files.notes c.complete_oldest.new.files) f
@@ -285,12 +285,12 @@ returns-in-FileFault-clause-noted g c =
 pub returns-in-SwapReadFault-clause-noted : goal.returns-in-SwapReadFault-clause-noted
 returns-in-SwapReadFault-clause-noted g c =
     let t : Tables = c.self.inside.tables in
-    let now = stands_now c.self.inside c.args.self.now c.self.invariant c.self.view_is c.requires.ready.running.runs in
+    let now = stands_now c.self.inside c.args.self.now c.self.invariant c.self.view_is c.requires.asks.ready.running.runs in
     let e : Came t.ring (g.F.Files.holds c.args.files.now) (g.D.SwapDev.image c.args.swap.now) (g.D.SwapDev.image c.complete_oldest.new.swap) (answers.SwapReadFault c.in-SwapReadFault.transfer) =
     came t.ring (g.F.Files.holds c.args.files.now) (g.D.SwapDev.image c.args.swap.now) (g.D.SwapDev.image c.complete_oldest.new.swap)
     (answers.SwapReadFault c.in-SwapReadFault.transfer) c.in-SwapReadFault.ensures.ends (λ i. let x = i in cc) in
     let b : Kernel = kernel_by t c.self.inside.journal.items c.self.inside.stopped in
-    let f = before c.self.inside c.args.self.now e.oldest e.rest c.self.invariant c.self.view_is c.requires.ready c.frames-frames.ensures.sound e.ring_is in
+    let f = before c.self.inside c.args.self.now e.oldest e.rest c.self.invariant c.self.view_is c.requires.asks.ready c.frames-frames.ensures.sound e.ring_is in
     swap_notes t (images_of t) b e.oldest c.in-SwapReadFault.transfer e.rest t.book.size (g.F.Files.notes c.args.files.now) (g.F.Files.notes c.complete_oldest.new.files) f
     (swap_read_failed (images_of t) (image_at t) (before_of t) t.book.size t.ring c.in-SwapReadFault.transfer (g.F.Files.holds c.args.files.now)
     (g.D.SwapDev.image c.args.swap.now) (g.D.SwapDev.image c.complete_oldest.new.swap) now.stands.ring c.in-SwapReadFault.ensures.ends)
