@@ -12,6 +12,7 @@ use Rattle.machine_state.specs.Going.{CanGoOn}
 use Rattle.machine_state.specs.Machine.{Standing}
 use Rattle.fault_fill.specs.Serving.{CanServe, StopsServing}
 use Rattle.fault_fill.specs.Answers.{ServedAs, ServedNow, IsShort, AllStayValid}
+use Rattle.fault_fill.specs.Units.{NoneMade}
 use Rattle.fault_fill.specs.Growth.{Grown, GrowthRefused}
 use Rattle.fault_fill.specs.declared.access.Access.{Access}
 use Rattle.fault_fill.specs.declared.access.Access.TheVariants as accesses
@@ -80,11 +81,6 @@ pub record GrownFirst (old : Standing) (pid pages : ℕ) (Then : Standing → Ty
   pub grown : Grown old between pid pages
   pub behind : Then between
 
--- nothing was done
-pub record NothingDone (old new : Standing) (before after : Option SwapImage) : Type 0 where
-  pub machine : new ≡ old
-  pub image : after ≡ before
-
 -- growth was refused, and nothing else done
 pub record OnlyRefused (old new : Standing) (pid pages : ℕ) (before after : Option SwapImage) : Type 0 where
   pub refused : GrowthRefused old new pid pages
@@ -94,7 +90,7 @@ pub record OnlyRefused (old new : Standing) (pid pages : ℕ) (before after : Op
 -- where the answer is a signal, and finds no space exactly where growth finds no place for its pieces.
 abbrev pub AccessComes : (Served → Page → Standing → Type 0) → Access → Served → ℕ → Standing → Standing → Option SwapImage → Option SwapImage → Type 0
 AccessComes Touched (accesses.Page q) answer pid old new before after = Touched answer q old
-AccessComes Touched (accesses.Refused signal) answer pid old new before after = (answer ≡ served.Signal signal) × NothingDone old new before after
+AccessComes Touched (accesses.Refused signal) answer pid old new before after = (answer ≡ served.Signal signal) × NoneMade old new before after
 AccessComes Touched (accesses.Growth sid pages) served.NoSpace pid old new before after = OnlyRefused old new pid pages before after
 AccessComes Touched (accesses.Growth sid pages) answer pid old new before after = GrownFirst old pid pages (Touched answer (page_names.Stack sid (pages - 1)))
 
