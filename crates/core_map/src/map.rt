@@ -60,6 +60,13 @@ impl CoreMap {
         (self.slots.len() - 1) as u32
     }
 
+    /// What is so of each map: its free list and its slots are sound.
+    pub fn stands(&self)
+        ensures { IsSoundMap self.now.free self.now.slots }
+    {
+        let _ = &self.slots;
+    }
+
     /// How many frames are free.
     pub fn free_frames(&self) -> u32
         ensures { result ≡ length self.now.free }
@@ -142,6 +149,7 @@ impl CoreMap {
     pub fn find_text(&self, image: u32, v: u32) -> Option<u32>
         ensures found { IfSome result (λ frame. slot_page (slot_at self.now.slots frame) ≡ Some (TextPage image v)) }
         ensures none { IfNone result (HoldsNot self.now (TextPage image v)) }
+        ensures sound { IsSoundMap self.now.free self.now.slots }
     {
         self.text.find(TextKey { image, v })
     }
@@ -237,6 +245,7 @@ impl CoreMap {
     pub fn owner(&self, frame: u32) -> Whose
         ensures owner { result ≡ slot_owner (slot_at self.now.slots frame) }
         ensures slot { ShowsOwner result (slot_at self.now.slots frame) }
+        ensures sound { IsSoundMap self.now.free self.now.slots }
     {
         match self.slots.get(frame as usize) {
             Some(Slot::Free { page, .. }) => Whose::Free(*page),

@@ -1,14 +1,12 @@
 //! Accesses of processes are served.
 ghost use Rattle.io_edge.specs.WithFiles.{stores};
 ghost use Rattle.std.specs.Prelude.{◌≡◌, ◌⊎◌, ◌≤◌, ◌<◌, true, false, [], length, Some, IfOk, OnOk, OnErr, Ok, Err, MatchResult};
-ghost use Rattle.core_map.specs.Frames.{Frames};
 ghost use Rattle.page_model.specs.Placement.{image_of};
 ghost use Rattle.page_model.specs.Place.{data_count};
 ghost use Rattle.page_model.specs.Rank.{HasRoom};
 ghost use Rattle.machine_state.specs.Going.{CanGoOn, IsRunning};
-ghost use Rattle.machine_state.specs.Views.{ShowsSpace};
 ghost use Rattle.machine_state.specs.Machine.{proc_shown};
-ghost use Rattle.machine_state.specs.Showing.{ShowsCore};
+ghost use Rattle.machine_state.specs.Showing.{IsShown};
 ghost use Rattle.machine_state.specs.Conditions.{HasStopped};
 ghost use Rattle.machine_state.specs.UserMemory.{CanLend};
 ghost use Rattle.machine_state.specs.Outside.{Asks, stop_of, TransfersPages};
@@ -61,7 +59,7 @@ fn map_of(m: &Machine, pid: u32) -> &SpaceMap
     requires lends { CanLend m.now.kernel pid }
     ensures named { result.now.sid ≡ space_of_pid m.now.kernel pid }
     ensures of_image { result.now.image ≡ image_of m.now.kernel.place (space_of_pid m.now.kernel pid) }
-    ensures shows { (core : Frames) → ShowsCore m.now.kernel.place core → ShowsSpace m.now.kernel.place core result.now }
+    ensures shown { IsShown m.now.kernel.place result.now }
 {
     let Life::Holds(sid) = process(m, pid).state else {
         unreachable!()
@@ -79,7 +77,6 @@ fn data_pages_of(m: &Machine, pid: u32) -> u32
     ensures count { result ≡ data_count m.now.kernel.place (space_of_pid m.now.kernel pid) }
     ensures few { result ≤ 4096 }
 {
-    let _core = m.core();
     map_of(m, pid).data_pages()
 }
 
@@ -90,7 +87,6 @@ fn access_of(m: &Machine, pid: u32, address: u32, write: bool) -> Access
     ensures is { result ≡ access_by m.now.kernel pid address write }
     ensures can { IsAsked m.now.kernel.place (space_of_pid m.now.kernel pid) result }
 {
-    let _core = m.core();
     access_in(map_of(m, pid), address, write)
 }
 

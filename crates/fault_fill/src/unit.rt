@@ -85,7 +85,7 @@ fn run_of(m: &Machine, page: Page) -> (u32, u32)
 {
     let space = space_of(m, page);
     let core = m.core();
-    let _sizes = (space.data_pages(), space.stack_pages(), space.text_pages());
+    space.fits();
     pick_in(space, core, page, spare_of(m))
 }
 

@@ -98,7 +98,7 @@ impl Free {
         ensures value { result ≡ self.now.number }
         ensures whole { length self.now.bytes ≡ 1024 }
     {
-        let _bytes = bytes_of(&self.page);
+        bytes_of(&self.page);
         self.number
     }
 
@@ -139,7 +139,7 @@ impl Filling {
         ensures value { result ≡ self.now.number }
         ensures whole { length self.now.bytes ≡ 1024 }
     {
-        let _bytes = bytes_of(&self.page);
+        bytes_of(&self.page);
         self.number
     }
 
@@ -153,9 +153,11 @@ impl Filling {
 
     /// The read is done.
     pub fn filled(self) -> Resident
-        ensures { result ≡ self }
+        ensures same { result ≡ self }
+        ensures whole { length self.bytes ≡ 1024 }
     {
         let Filling { number, page } = self;
+        bytes_of(&page);
         Resident { number, page }
     }
 
@@ -174,7 +176,7 @@ impl Resident {
         ensures value { result ≡ self.now.number }
         ensures whole { length self.now.bytes ≡ 1024 }
     {
-        let _bytes = bytes_of(&self.page);
+        bytes_of(&self.page);
         self.number
     }
 
@@ -217,7 +219,7 @@ impl Cleaning {
         ensures value { result ≡ self.now.number }
         ensures whole { length self.now.bytes ≡ 1024 }
     {
-        let _bytes = bytes_of(&self.page);
+        bytes_of(&self.page);
         self.number
     }
 

@@ -66,3 +66,4 @@ pub mod Stills
 pub mod ResizedMaps
 pub mod HomePages
 pub mod Outcomes
+pub mod FewNumbers

@@ -36,7 +36,7 @@ impl Tables {
         requires facts { facts_in 1 space.old.image (lists_of self.now).facts ≡ Some space.old.facts }
         ensures { space.new ≡ with_text_places (lists_of self.now) space.old }
     {
-        let _frames = self.core.frames();
+        self.core.stands();
         let image = space.image();
         for v in 0..space.text_pages() {
             space.set_place(Page::Text { image, v }, self.text_place(image, v));
@@ -56,7 +56,6 @@ impl Tables {
     {
         self.place_text(&mut space);
         let image = space.image();
-        let _sharers = self.texts.sharers(image);
         let number = next(self.next_sid)?;
         self.spaces.push(space)?;
         self.texts.enter(image);

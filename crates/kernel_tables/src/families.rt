@@ -28,7 +28,6 @@ fn put_in(processes: &mut ProcTable, process: Proc)
     let Added::Ok = processes.add(process) else {
         unreachable!()
     };
-    let _known = processes.get(process.pid);
 }
 
 // The record of a process goes, if it is there.
@@ -37,7 +36,6 @@ fn take_out(processes: &mut ProcTable, pid: u32)
     ensures sound { IsProcTable processes.new }
 {
     let _gone = processes.remove(pid);
-    let _known = processes.get(pid);
 }
 
 impl Tables {

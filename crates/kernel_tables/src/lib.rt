@@ -18,4 +18,4 @@ pub use proc_table;
 pub use processes::record_of;
 pub use spaces::Spaces;
 pub use tables::{Tables, owner_of};
-pub use u_pages::{regs_in, u_page};
+pub use u_pages::{are_regs, regs_in, u_page};

@@ -41,7 +41,6 @@ impl Tables {
         if let Some(place) = self.spaces.entry(Page::Text { image, v }) {
             return place;
         }
-        let _frames = self.core.frames();
         match self.core.find_text(image, v) {
             Some(f) => Place::Frame {
                 f,

@@ -82,7 +82,6 @@ fn revive_frame(core: &mut CoreMap, page: Page, frame: u32, changed: bool)
     ensures free { core.new.free ≡ without frame core.old.free }
     ensures slots { core.new.slots ≡ slice_set core.old.slots frame (revived (slot_at core.old.slots frame) page changed) }
 {
-    let _frames = core.frames();
     if let Whose::Free(_) = core.owner(frame) {
         let token = core.reclaim(frame);
         core.seat(token, page);

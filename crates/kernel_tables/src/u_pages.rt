@@ -40,9 +40,7 @@ fn put_words(page: &mut [u8], at: usize, words: &[u32])
 // Each is a longword.
 fn are_longwords(words: &[u32])
     ensures { AllLongwords words.now }
-{
-    let _count = words.len();
-}
+{}
 
 // Sixteen registers, each a longword.
 fn are_registers(r: &[u32; 16])
@@ -50,6 +48,13 @@ fn are_registers(r: &[u32; 16])
     ensures each { AllLongwords r.now }
 {
     are_longwords(r);
+}
+
+/// What is so of all registers: they are sixteen longwords.
+pub fn are_regs(regs: &Regs)
+    ensures { AreRegs regs.now }
+{
+    are_registers(&regs.r);
 }
 
 /// The u page of a process with these registers, whose space has so many pages of data and of stack.

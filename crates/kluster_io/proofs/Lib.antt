@@ -4,3 +4,4 @@ pub mod Absent
 pub mod Idle
 pub mod Counts
 pub mod Picks
+pub mod FewPages

@@ -15,6 +15,7 @@ mod search;
 
 use core_map::CoreMap;
 use flat_state::number_of;
+pub use search::is_dirty_seat;
 use search::{Kin, Search};
 use space_map::SpaceMap;
 use vm_facts::Page;

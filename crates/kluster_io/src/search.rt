@@ -76,11 +76,10 @@ fn is_valid(place: Place) -> bool
 }
 
 /// Whether a page is dirty in a frame off the free list.
-pub(crate) fn is_dirty_seat(core: &CoreMap, place: Place) -> bool
+pub fn is_dirty_seat(core: &CoreMap, place: Place) -> bool
     ensures { (p : Placement) (dirty : Bool) → p.free ≡ core.now.free → ShowsMark core.now.slots place dirty
         → result ≡ (is_seated_by p (state_shown core.now.slots place) && dirty) }
 {
-    let _frames = core.frames();
     let Place::Frame { f, .. } = place else {
         return false;
     };
@@ -113,7 +112,7 @@ fn may_take(page: Page, place: Place, locked: &[Page], front: Option<Page>) -> b
 fn is_taken(core: &CoreMap, page: Page, place: Place, locked: &[Page], front: Option<Page>) -> bool
     ensures { SaysTaken core.now.free core.now.slots page place locked.now front result }
 {
-    let _frames = core.frames();
+    core.stands();
     is_dirty_seat(core, place) && may_take(page, place, locked, front)
 }
 
@@ -145,15 +144,11 @@ impl Search<'_, '_, '_> {
         }
     }
 
-    // How many pages the segment has.
-    fn pages(&self) -> u32
-        ensures { (v : ℕ) → IsSome (place_in self.now.space.now (beside self.now.page v)) → v < result }
+    // The pages of the segment are few.
+    fn are_few(&self)
+        ensures { (v : ℕ) → IsSome (place_in self.now.space.now (beside self.now.page v)) → v < 4096 }
     {
-        match self.page {
-            Page::Data { .. } => self.space.data_pages(),
-            Page::Stack { .. } => self.space.stack_pages(),
-            Page::Text { .. } => self.space.text_pages(),
-        }
+        self.space.fits();
     }
 
     // How many pages above page `v` go along in turn, at most so many.
@@ -163,7 +158,7 @@ impl Search<'_, '_, '_> {
             → result ≡ passing_above (joins p self.now.kin self.now.page) v room }
         ensures few { result ≤ room }
     {
-        let _pages = self.pages();
+        self.are_few();
         if room == 0 || !self.passes(v + 1) {
             return 0;
         }

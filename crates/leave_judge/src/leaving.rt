@@ -20,7 +20,7 @@ ghost use Rattle.leave_judge.specs.Leaving.{space_left, JudgedOut, JudgedIn};
 
 use crate::holding::{held_space, record_stays};
 use io_edge::SwapDev;
-use kernel_tables::u_page;
+use kernel_tables::are_regs;
 use machine_state::Machine;
 use move_judge::looking::{due_first, state};
 use move_judge::reasons::{or_reason, unless};
@@ -109,9 +109,7 @@ fn has_longwords(m: &Machine, pid: u32)
     ensures { (p : Process) → proc_of m.now.kernel pid ≡ Some p → AreRegs p.regs }
 {
     match record_of(m, pid) {
-        Some(process) => {
-            let _page = u_page(&process.regs, 0, 0);
-        }
+        Some(process) => are_regs(&process.regs),
         None => {}
     }
 }

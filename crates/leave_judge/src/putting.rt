@@ -22,7 +22,7 @@ use flat_state::{beside, number_of};
 use machine_state::Machine;
 use move_judge::looking::{apart, due_first, no_room, state, wrong_length};
 use move_judge::reasons::{or_reason, unless};
-use move_judge::{number_within, space_of};
+use move_judge::space_of;
 use paged_model::Reason;
 use swapper::{is_dirty, is_seated};
 use vm_facts::{Page, PageState, Stop};
@@ -141,10 +141,10 @@ fn put_few(m: &Machine, page: Page, n: u32) -> Option<Reason>
     requires there { IsThere m.now.kernel.place page }
     requires own { IsShared m.now.kernel.place page }
     requires shared { (v : ℕ) → IsShared m.now.kernel.place (beside page v) }
+    requires low { number_of page ≤ 4096 }
     requires few { n ≤ 16 }
     ensures { result ≡ or_reason (unseated m.now.kernel.place page) (put_by m.now.kernel.place page n (is_dirty m.now.kernel.place page)) }
 {
-    let _number = number_within(m, page);
     match unseated(m, page) {
         Some(reason) => Some(reason),
         None => put_by(m, page, n, is_dirty_seat(m, page)),
@@ -156,6 +156,7 @@ fn put_there(m: &Machine, sid: u32, page: Page, n: u32) -> Option<Reason>
     requires running { IsRunning m.now }
     requires there { IsThere m.now.kernel.place page }
     requires own { IsOfSegment sid page }
+    requires low { number_of page ≤ 4096 }
     ensures { result ≡ or_reason (wrong_length n)
         (or_reason (unseated m.now.kernel.place page) (put_by m.now.kernel.place page n (is_dirty m.now.kernel.place page))) }
 {

@@ -11,7 +11,7 @@ ghost use Rattle.table_steps.specs.Sharing.{IsSharer};
 ghost use Rattle.table_steps.specs.Sourced.{IsFlightSourced};
 ghost use Rattle.table_steps.specs.View.{transfer_shown};
 ghost use Rattle.machine_state.specs.Going.{IsRunning};
-ghost use Rattle.machine_state.specs.Showing.{ShowsCore};
+ghost use Rattle.machine_state.specs.Showing.{ShowsCore, IsShown};
 
 use crate::machine::Machine;
 use core_map::CoreMap;
@@ -51,7 +51,7 @@ impl Machine {
         requires { IsRunning self.now }
         ensures { ShowsCore self.now.kernel.place result.now }
     {
-        let _frames = self.tables.core.frames();
+        self.tables.core.stands();
         &self.tables.core
     }
 
@@ -64,11 +64,12 @@ impl Machine {
         ensures named { IfSome result (λ s. s.now.sid ≡ sid) }
         ensures of_image { IfSome result (λ s. s.now.image ≡ image_of self.now.kernel.place sid) }
         ensures shows { IfSome result (λ s. (core : Frames) → ShowsCore self.now.kernel.place core → ShowsSpace self.now.kernel.place core s.now) }
+        ensures shown { IfSome result (λ s. IsShown self.now.kernel.place s.now) }
     {
-        let _frames = self.tables.core.frames();
+        self.tables.core.stands();
         let index = self.tables.spaces.index_of(sid)?;
         let space = self.tables.spaces.at(index);
-        let _pages = space.text_pages();
+        space.fits();
         Some(space)
     }
 

@@ -130,7 +130,7 @@ impl Machine {
             &mut self.room,
             self.tables.params.journal,
         )?;
-        let _frames = self.tables.core.frames();
+        self.tables.core.stands();
         self.tables.set_regs(pid, regs);
         let since = self.journal.len() as u32 + 1;
         let applied = applying::apply(&mut self.tables, self.alloc, pid, change, since);

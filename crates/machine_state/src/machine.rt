@@ -146,7 +146,7 @@ impl Machine {
             &mut self.room,
             self.tables.params.journal,
         )?;
-        let _frames = self.tables.core.frames();
+        self.tables.core.stands();
         let token = self.tables.take_frame();
         let filled = fill_frame(token, &self.tables.fills);
         self.tables.seat(filled, page, true);
@@ -167,7 +167,7 @@ impl Machine {
             &mut self.room,
             self.tables.params.journal,
         )?;
-        let _frames = self.tables.core.frames();
+        self.tables.core.stands();
         let (frame, _changed) = self.tables.spaces.frame_of(page);
         let dirty = landing::is_dirty(&self.tables.spaces, &self.tables.texts, page);
         self.tables.revive(page, frame, dirty);
@@ -189,7 +189,7 @@ impl Machine {
             self.tables.params.journal,
         )?;
         let parts = notes::or_stop(reading::room_in(self.alloc, n))?;
-        let _frames = self.tables.core.frames();
+        self.tables.core.stands();
         reading::read_run(&mut self.tables, parts, page, lo, n);
         self.journal.push_reserved(Entry::Get { page, lo, n });
         Ok(())
@@ -228,10 +228,9 @@ impl Machine {
             &mut self.room,
             self.tables.params.journal,
         )?;
-        let _frames = self.tables.core.frames();
+        self.tables.core.stands();
         match self.tables.ring.complete_oldest(files, swap) {
             Finished::Done(transfer) => {
-                landing::look(&transfer);
                 landing::land(&mut self.tables, transfer);
                 self.journal.push_reserved(Entry::Done);
                 Ok(true)

@@ -60,7 +60,7 @@ impl Machine {
             &mut self.room,
             self.tables.params.journal,
         )?;
-        let _frames = self.tables.core.frames();
+        self.tables.core.stands();
         let copy = copy_frame(&mut self.tables, parent);
         self.tables.seat(copy, child, true);
         self.tables.finish_fill();
@@ -82,7 +82,7 @@ impl Machine {
             self.tables.params.journal,
         )?;
         let parts = notes::or_stop(launching::room_in(self.alloc, n))?;
-        let _frames = self.tables.core.frames();
+        self.tables.core.stands();
         let written = written_of(&self.tables, lo, n);
         launching::put_out(&mut self.tables, parts, lo, number_of(lo), written);
         self.journal.push_reserved(Entry::Put { lo, n });
@@ -104,7 +104,7 @@ impl Machine {
             self.tables.params.journal,
         )?;
         let parts = notes::or_stop(launching::room_in(self.alloc, n))?;
-        let _frames = self.tables.core.frames();
+        self.tables.core.stands();
         launching::move_hands(&mut self.tables, locked, parts, lo, n);
         joining::add_move(&mut self.journal);
         Ok(())

@@ -21,7 +21,7 @@ impl Machine {
         ensures stop { OnErr result (self.new ≡ self.old) }
         ensures goes_on { CanGoOn self.new }
     {
-        let _frames = self.tables.core.frames();
+        self.tables.core.stands();
         parts::make_part(&mut self.tables, self.alloc, part)?;
         self.room = None;
         Ok(())

@@ -1,6 +1,7 @@
 //! What the machine tells of the places of pages.
 ghost use Rattle.machine_state.specs.Going.{IsRunning};
-ghost use Rattle.std.specs.Prelude.{◌≡◌, ◌↔◌, false, IsSome, IfSome};
+ghost use Rattle.std.specs.Prelude.{◌≡◌, ◌≤◌, ◌↔◌, false, IsSome, IfSome};
+ghost use Rattle.flat_state.specs.PageNames.{number_of};
 ghost use Rattle.page_model.specs.Placement.{IsThere, state_of, filling_of};
 ghost use Rattle.table_steps.specs.Alike.{AreRecords};
 ghost use Rattle.table_steps.specs.Lives.{AreMarked};
@@ -18,8 +19,9 @@ impl Machine {
         requires { IsRunning self.now }
         ensures there { IsSome result ↔ IsThere self.now.kernel.place page }
         ensures state { IfSome result (λ s. s ≡ state_of self.now.kernel.place page) }
+        ensures few { IsSome result → number_of page ≤ 4096 }
     {
-        let _frames = self.tables.core.frames();
+        self.tables.core.stands();
         self.tables.spaces.rise();
         let place = self.tables.place_of(page)?;
         Some(state_shown(&self.tables.core, place))
@@ -31,7 +33,7 @@ impl Machine {
         requires there { IsThere self.now.kernel.place page }
         ensures { result ≡ is_blank (state_of self.now.kernel.place page) (filling_of self.now.kernel.place page) }
     {
-        let _frames = self.tables.core.frames();
+        self.tables.core.stands();
         self.tables.is_zero(page)
     }
 

@@ -74,7 +74,7 @@ impl Machine {
         ensures cause { OnErr result (result ≡ Err Stop.NoMemory) }
         ensures goes_on { OnOk result (CanGoOn self.new) }
     {
-        let _frames = self.tables.core.frames();
+        self.tables.core.stands();
         let found = find_first(&mut self.tables, pid, image);
         if !notes::or_break_off(&mut self.stopped, found)? {
             return Ok(false);

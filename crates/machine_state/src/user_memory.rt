@@ -89,9 +89,9 @@ impl Machine {
         requires within { index < length self.now.kernel.place.spaces }
         ensures { (sid : ℕ) → slice_get (map space_number self.now.kernel.place.spaces) index ≡ Some sid → NamesFrames self.now.kernel.place sid result.now }
     {
-        let _frames = self.tables.core.frames();
+        self.tables.core.stands();
         let space = self.tables.spaces.at(index);
-        let _pages = space.text_pages();
+        space.fits();
         space
     }
 
@@ -102,7 +102,7 @@ impl Machine {
         requires within { at < 1024 }
         ensures { result ≡ slice_index (frame_bytes self.now.kernel frame) at }
     {
-        let _frames = self.tables.core.frames();
+        self.tables.core.stands();
         self.tables.core.bytes(frame)[at as usize]
     }
 
@@ -114,7 +114,7 @@ impl Machine {
         ensures bytes { result.now ≡ drop at (frame_bytes self.now.kernel frame) }
         ensures whole { length (frame_bytes self.now.kernel frame) ≡ 1024 }
     {
-        let _frames = self.tables.core.frames();
+        self.tables.core.stands();
         &self.tables.core.bytes(frame)[at as usize..]
     }
 
@@ -129,7 +129,7 @@ impl Machine {
         ensures owner { OwnsFrames self.old.kernel.place }
         ensures whole { AreWhole self.old.kernel }
     {
-        let _frames = self.tables.core.frames();
+        self.tables.core.stands();
         self.tables.write_byte(index, page, frame, at, byte);
     }
 
@@ -145,7 +145,7 @@ impl Machine {
         requires within { at + length bytes.now ≤ 1024 }
         ensures { WroteRun self.old self.new page at bytes.now }
     {
-        let _frames = self.tables.core.frames();
+        self.tables.core.stands();
         if self.tables.core.is_dirty(frame) {
             return self.tables.core.put_bytes(frame, at, bytes);
         }
@@ -181,7 +181,7 @@ impl Machine {
         ensures laid_out { IsLaidOut self.now.kernel result.index result.sid result.image result.text_len result.data_len result.stack_len }
         ensures space { life_in self.now.kernel pid ≡ HoldsSpace result.sid }
     {
-        let _frames = self.tables.core.frames();
+        self.tables.core.stands();
         let Some(sid) = self.tables.space_of(pid) else {
             unreachable!()
         };

@@ -1,21 +1,15 @@
 -- The space of a page, or one that shares its text.
-use Rattle.std.proofs.Common.{◌≡◌, ◌≢◌, inl, inr, ℕ, zero, suc, ◌+◌, ◌<◌, ◌≤◌, ◌==◌, nat_lt, Bool, true, false, cond, IsSome, List, [], ◌∷◌, map, length, slice_get, Option, Some, None, is_some, refl, sym, ap, ◌∙◌, if◌then◌else◌, arith}
+use Rattle.std.proofs.Common.{◌≡◌, ◌≢◌, inl, inr, ℕ, ◌+◌, ◌<◌, ◌==◌, nat_lt, Bool, true, false, cond, List, [], ◌∷◌, map, Option, Some, None, is_some, refl, sym, ap, ◌∙◌, arith}
 use Rattle.std.proofs.lemmas.Bool.{cases_eq}
 use Rattle.std.proofs.lemmas.Bool.Decides.{nat_tests}
 use Rattle.std.proofs.lemmas.Option.{same_Some}
-use Rattle.vm_facts.specs.declared.page.Page.{Page}
-use Rattle.vm_facts.specs.declared.page.Page.TheVariants.{Data, Stack, Text}
-use Rattle.vax_pte.specs.declared.Place.{Place}
-use Rattle.core_map.specs.Frames.{Frames}
-use Rattle.space_map.specs.Space.{Places, place_in}
+use Rattle.vm_facts.specs.declared.page.Page.TheVariants.{Text}
 use Rattle.proc_table.specs.Records.{Lowest}
 use Rattle.flat_state.specs.Numbers.{IsAbsent, AllDistinct}
-use Rattle.flat_state.specs.PageNames.{number_of}
 use Rattle.page_model.specs.Pages.{SpacePages, numbered}
-use Rattle.page_model.specs.Placement.{Placement, space_number, IsThere, sharers, sharers_in}
+use Rattle.page_model.specs.Placement.{Placement, space_number, sharers, sharers_in}
 use Rattle.page_model.specs.Conditions.{IsShared}
 use Rattle.page_laws.proofs.Lists.Pages.{numbered_hit, numbered_miss}
-use Rattle.machine_state.specs.Views.{IsNamedBy, ShowsPage, ShowsSpace}
 use Rattle.machine_state.specs.Sharing.{IsSharer}
 
 absent_there : (n : ℕ) (ss : List SpacePages) (m : ℕ) (x : SpacePages) → IsAbsent n (map space_number ss) → numbered space_number m ss ≡ Some x → n ≢ m
@@ -73,31 +67,3 @@ sharer_says p image None d l = elim (cases_eq (sharers p image) 0) [
   | inl e ↦ grind (arith, nat_tests, e)
   | inr n ↦ absurd (no_sharer p image 0 d (let k : 0 < sharers p image = omega (arith, n) in k) l)
 ]
-
--- The numbers of pages that are there.
-
-got_below : (ps : List Place) (v : ℕ) → IsSome (slice_get ps v) → v < length ps
-got_below [] v e = absurd cc
-got_below (x ∷ ps) zero e = omega arith
-got_below (x ∷ ps) (suc v) e = let l = got_below ps v e in omega arith
-
-if_some : (b : Bool) (o : Option Place) → IsSome (if b then o else None) → IsSome o
-if_some true o e = e
-if_some false o e = absurd cc
-
-placed_few : (s : Places) (q : Page) → length s.data ≤ 4096 → length s.stack ≤ 512 → length s.text ≤ 2048 → IsSome (place_in s q) → number_of q ≤ 4096
-placed_few s (Data sid v) a b c e = let l = got_below s.data v (if_some (sid == s.sid) (slice_get s.data v) e) in omega arith
-placed_few s (Stack sid v) a b c e = let l = got_below s.stack v (if_some (sid == s.sid) (slice_get s.stack v) e) in omega arith
-placed_few s (Text image v) a b c e = let l = got_below s.text v (if_some (image == s.image) (slice_get s.text v) e) in omega arith
-
--- a page that is there has an entry in the map by which it is named
-home_place : (p : Placement) (core : Frames) (s : Places) (q : Page) → ShowsSpace p core s → IsNamedBy s q → IsThere p q → IsSome (place_in s q)
-home_place p core s q shows named there = go (place_in s q) (shows.pages q named)
-  where
-    go : (o : Option Place) → ShowsPage p core.slots q o → IsSome o
-    go None h = absurd (h there)
-    go (Some x) h = refl
-
-pub few_pages : (p : Placement) (core : Frames) (s : Places) (q : Page) → ShowsSpace p core s → IsNamedBy s q → IsThere p q
-    → length s.data ≤ 4096 → length s.stack ≤ 512 → length s.text ≤ 2048 → number_of q ≤ 4096
-few_pages p core s q shows named there a b c = placed_few s q a b c (home_place p core s q shows named there)

@@ -238,28 +238,14 @@ pub fn space_of(m: &Machine, page: Page) -> &SpaceMap
     }
 }
 
-/// The number of a page that is there, of the few that its segment can have.
-pub fn number_within(m: &Machine, page: Page) -> u32
-    requires running { IsRunning m.now }
-    requires there { IsThere m.now.kernel.place page }
-    requires shared { IsShared m.now.kernel.place page }
-    ensures number { result ≡ number_of page }
-    ensures few { result ≤ 4096 }
-{
-    let space = space_of(m, page);
-    let _core = m.core();
-    let _sizes = (space.data_pages(), space.stack_pages(), space.text_pages());
-    number_of(page)
-}
-
 // Why the run of a page in this state, which is there and shared, isn't read.
 fn read_from(m: &Machine, page: Page, from: PageState, lo: u32, n: u32) -> Option<Reason>
     requires running { IsRunning m.now }
     requires there { IsThere m.now.kernel.place page }
     requires shared { IsShared m.now.kernel.place page }
+    requires few { number_of page ≤ 4096 }
     ensures { result ≡ or_reason (not_among page lo n) (run_reason m.now.kernel.place page from lo n) }
 {
-    let _number = number_within(m, page);
     match not_among(page, lo, n) {
         Some(reason) => Some(reason),
         None => run_reason(m, page, from, lo, n),
@@ -271,6 +257,7 @@ fn get_shared(m: &Machine, page: Page, lo: u32, n: u32) -> Option<Reason>
     requires running { IsRunning m.now }
     requires there { IsThere m.now.kernel.place page }
     requires shared { IsShared m.now.kernel.place page }
+    requires few { number_of page ≤ 4096 }
     ensures { result ≡ get_by m.now.kernel.place page (state_of m.now.kernel.place page) lo n }
 {
     match state(m, page) {
@@ -285,7 +272,8 @@ fn get_shared(m: &Machine, page: Page, lo: u32, n: u32) -> Option<Reason>
 
 fn get_reason(m: &Machine, page: Page, lo: u32, n: u32) -> Option<Reason>
     requires { IsRunning m.now }
-    ensures { result ≡ get_reason m.now.kernel.place page lo n }
+    ensures reason { result ≡ get_reason m.now.kernel.place page lo n }
+    ensures few { result ≡ None → number_of page ≤ 4096 }
 {
     if m.state_of(page).is_none() {
         return Some(Reason::NoPage(page));
@@ -307,7 +295,6 @@ pub fn judge_get(m: &mut Machine, page: Page, lo: u32, n: u32) -> Result<Option<
     match get_reason(m, page, lo, n) {
         Some(reason) => Ok(Some(reason)),
         None => {
-            let _number = number_within(m, page);
             m.begin_get(page, lo, n)?;
             Ok(None)
         }

@@ -17,7 +17,6 @@ use vm_facts::{Page, PageState};
 fn is_off_list(core: &CoreMap, frame: u32) -> bool
     ensures { result ≡ (times frame core.now.free == 0) }
 {
-    let _frames = core.frames();
     !matches!(core.owner(frame), Whose::Free(_))
 }
 

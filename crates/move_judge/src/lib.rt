@@ -20,7 +20,7 @@ pub mod reasons;
 mod records;
 
 pub use ending::judge_done;
-pub use filling::{judge_copy, judge_get, judge_reclaim, judge_zero, number_within, space_of};
+pub use filling::{judge_copy, judge_get, judge_reclaim, judge_zero, space_of};
 pub use hands::judge_hand;
 pub use parts::judge_part;
 pub use records::record_of;

@@ -1,5 +1,5 @@
 //! The lines of parts of a move.
-ghost use Rattle.std.specs.Prelude.{◌≡◌, ◌+◌, not, None, IfOk, OnErr};
+ghost use Rattle.std.specs.Prelude.{◌≡◌, ◌≤◌, not, None, IfOk, OnErr};
 ghost use Rattle.flat_state.specs.PageNames.{number_of, beside, pages_from};
 ghost use Rattle.page_model.specs.Placement.{is_dirty};
 ghost use Rattle.kernel_model.specs.HandParts.{PartComes};
@@ -12,7 +12,6 @@ ghost use Rattle.move_judge.specs.PartJudged.{JudgedPart};
 
 use crate::idling::{busy, is_dirty};
 use crate::looking::{apart, no_room, wrong_length};
-use crate::number_within;
 use crate::reasons::{or_reason, unless};
 use flat_state::{beside, number_of};
 use kernel_model::HandPart;
@@ -52,21 +51,13 @@ fn write_with(m: &Machine, page: Page, other: Page) -> Option<Reason>
 
 fn write_along(m: &Machine, page: Page, other: Page) -> Option<Reason>
     requires { IsRunning m.now }
-    ensures { result ≡ write_along m.now.kernel.place page other }
+    ensures reason { result ≡ write_along m.now.kernel.place page other }
+    ensures low { result ≡ None → number_of other ≤ 4096 }
 {
     match m.state_of(other) {
         None => Some(Reason::NoPage(other)),
         Some(_) => write_with(m, page, other),
     }
-}
-
-// The number after that of a page against whose write there is no reason.
-fn next_number(m: &Machine, _page: Page, other: Page) -> u32
-    requires running { IsRunning m.now }
-    requires along { write_along m.now.kernel.place _page other ≡ None }
-    ensures { result ≡ number_of other + 1 }
-{
-    number_within(m, other) + 1
 }
 
 // The first reason that one of so many pages gives, from this one on. There are few, one after another.
@@ -80,7 +71,10 @@ fn each_along(m: &Machine, page: Page, lo: u32, n: u32) -> Option<Reason>
     let other = beside(page, lo);
     match write_along(m, page, other) {
         Some(reason) => Some(reason),
-        None => each_along(m, page, next_number(m, page, other), n - 1),
+        None => {
+            let next = lo + 1;
+            each_along(m, page, next, n - 1)
+        }
     }
 }
 

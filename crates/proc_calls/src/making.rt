@@ -71,7 +71,6 @@ fn fork_wants(m: &Machine, parent: u32) -> [Want; 3]
     ensures { result ≡ fork_wants m.now.kernel parent }
 {
     let (child, sid) = m.next_numbers();
-    let _core = m.core();
     let Some(space) = m.space(parent) else {
         unreachable!()
     };

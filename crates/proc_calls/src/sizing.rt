@@ -1,7 +1,6 @@
 //! The call that moves the end of the data.
 ghost use Rattle.io_edge.specs.WithFiles.{stores};
 ghost use Rattle.std.specs.Prelude.{◌≡◌, ◌⊎◌, ◌<◌, ◌≤◌, false, length, IfOk, OnOk, IfErr, OnErr, Err};
-ghost use Rattle.core_map.specs.Frames.{Frames};
 ghost use Rattle.user_vax.specs.Program.{run};
 ghost use Rattle.flat_state.specs.declared.change.Change.TheVariants.{Resize};
 ghost use Rattle.flat_model.specs.Calls.{argument, data_limit, replied};
@@ -11,8 +10,7 @@ ghost use Rattle.flat_model.specs.Step.{call_entry};
 ghost use Rattle.page_model.specs.Placement.{image_of};
 ghost use Rattle.machine_state.specs.Going.{CanGoOn, IsRunning};
 ghost use Rattle.machine_state.specs.Conditions.{HasStopped};
-ghost use Rattle.machine_state.specs.Views.{ShowsSpace};
-ghost use Rattle.machine_state.specs.Showing.{ShowsCore};
+ghost use Rattle.machine_state.specs.Showing.{IsShown};
 ghost use Rattle.machine_state.specs.Applying.{CanApply};
 ghost use Rattle.machine_state.specs.UserMemory.{CanLend, kernel_answers};
 ghost use Rattle.machine_state.specs.Outside.{IsBacked, stop_of, TransfersPages};
@@ -46,7 +44,7 @@ fn space_of(m: &Machine, pid: u32) -> &SpaceMap
     requires lends { CanLend m.now.kernel pid }
     ensures named { result.now.sid ≡ space_of_pid m.now.kernel pid }
     ensures of_image { result.now.image ≡ image_of m.now.kernel.place (space_of_pid m.now.kernel pid) }
-    ensures shows { (core : Frames) → ShowsCore m.now.kernel.place core → ShowsSpace m.now.kernel.place core result.now }
+    ensures shown { IsShown m.now.kernel.place result.now }
 {
     let Life::Holds(sid) = process(m, pid).state else {
         unreachable!()
@@ -67,7 +65,6 @@ fn sizes_to(m: &Machine, pid: u32, address: u32) -> Sizes
     ensures wanted { result.wanted ≡ pages_to m.now.kernel pid address }
     ensures few { result.stack_pages ≤ 512 }
 {
-    let _core = m.core();
     let space = space_of(m, pid);
     let start = PAGE * space.text_pages();
     Sizes {

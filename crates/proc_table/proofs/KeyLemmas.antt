@@ -1,5 +1,5 @@
 -- A slab of records in which one key changes.
-use Rattle.std.proofs.Common.{◌≡◌, ◌≢◌, inl, inr, ℕ, cond, is_some, Option, Some, None, sym, ap, ◌∙◌, arith}
+use Rattle.std.proofs.Common.{◌≡◌, ◌≢◌, ◌+◌, inl, inr, ℕ, cond, is_some, Option, Some, None, sym, ap, ◌∙◌, arith}
 use Rattle.std.proofs.lemmas.Bool.{cases_eq}
 use Rattle.std.proofs.lemmas.List.Sums.{sum_by-set}
 use Rattle.slab.specs.Slab.{Slab, get, slab_len, ContainsKey, with_value, Updates}
@@ -93,6 +93,24 @@ IsKeyed-held old key pid slot apart held now = record {
   was = λ q there. let same : held.record_there ≡ q = some_same _ _ (sym held.there ∙ there) in sym (ap (λ (x : Proc). x.pid) same) ∙ held.its;
   alone = λ k q there its. apart k key q held.record_there there held.there (its ∙ sym held.its);
   now = now;
+}
+
+-- a slab that isn't full stays sound with a record more, whose pid had none
+pub sound_taken : (s t : Slab Proc) (key count : ℕ) (p : Proc) → IsSound s → count ≡ slab_len s → count ≢ 64 → find p.pid (records_of s.slots) ≡ None
+    → get s key ≡ None → Updates s t key (Some p) → slab_len t ≡ slab_len s + 1 → t.capacity ≡ s.capacity → IsSound t
+sound_taken s t key count p sound counts not_full absent vacant updates more capacity = record {
+  few = let few = sound.few in omega (arith, few, counts, not_full, more);
+  room = let room = sound.room in omega (arith, capacity, room);
+  apart = AreKeysApart-after s t key p.pid (Some p) updates (IsKeyed-vacant s key p vacant absent) sound.apart;
+}
+
+-- and with a record less
+pub sound_left : (s t : Slab Proc) (key pid : ℕ) → IsSound s → HasPid s key pid → Updates s t key None → slab_len t + 1 ≡ slab_len s
+    → t.capacity ≡ s.capacity → IsSound t
+sound_left s t key pid sound held updates less capacity = record {
+  few = let few = sound.few in omega (arith, few, less);
+  room = let room = sound.room in omega (arith, room, capacity);
+  apart = AreKeysApart-after s t key pid None updates (IsKeyed-held s key pid None sound.apart held (λ p some. absurd (none_some p some))) sound.apart;
 }
 
 -- what is found of a pid that stands under a key

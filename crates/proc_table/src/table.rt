@@ -69,6 +69,7 @@ impl ProcTable {
         requires { find p.pid self.old ≡ None }
         ensures answer { result ≡ answer_of self.old p }
         ensures records { Adds result self.old p self.new }
+        ensures sound { IsProcTable self.new }
     {
         if self.records.len() == ROOM {
             return Added::Full(p);
@@ -92,6 +93,7 @@ impl ProcTable {
         ensures records { Changes self.old self.new pid None }
         ensures count { OnSome result (length self.new + 1 ≡ length self.old) }
         ensures none { IfNone result (self.new ≡ self.old) }
+        ensures sound { IsProcTable self.new }
     {
         let key = key_near(&self.records, self.near, pid)?;
         Some(self.records.remove(key))

@@ -118,6 +118,16 @@ impl SpaceMap {
         self.stack.len()
     }
 
+    /// What is so of each map: its text has as many pages as its image, and no segment has more than it may.
+    pub fn fits(&self)
+        ensures text { length self.now.text ≡ text_pages_of self.now.facts }
+        ensures text_few { length self.now.text ≤ 2048 }
+        ensures data_few { length self.now.«data» ≤ 4096 }
+        ensures stack_few { length self.now.stack ≤ 512 }
+    {
+        let _ = &self.sid;
+    }
+
     /// Whether a page is of this space.
     pub fn has(&self, page: Page) -> bool
         ensures { result ≡ is_some (place_in self.now page) }

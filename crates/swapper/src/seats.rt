@@ -1,5 +1,5 @@
 //! Which pages of a space are in frames off the free list.
-ghost use Rattle.std.specs.Prelude.{◌≡◌, ℕ, ◌≤◌, ◌&&◌, Bool, true};
+ghost use Rattle.std.specs.Prelude.{◌≡◌, ℕ, ◌≤◌, Bool, true};
 ghost use Rattle.flat_state.specs.PageNames.{beside, pages_from};
 ghost use Rattle.page_model.specs.Placement.{Placement, is_dirty};
 ghost use Rattle.page_model.specs.Runs.{is_seated, is_seated_by};
@@ -10,6 +10,7 @@ ghost use Rattle.table_view.specs.Views.{IsNamedBy, ShowsSpace};
 
 use core_map::{CoreMap, Whose};
 use flat_state::beside;
+use kluster_io::is_dirty_seat;
 use space_map::SpaceMap;
 use vax_pte::Place;
 use vm_facts::Page;
@@ -19,26 +20,10 @@ fn is_seat(core: &CoreMap, place: Place) -> bool
     ensures { (p : Placement) (dirty : Bool) → p.free ≡ core.now.free → ShowsMark core.now.slots place dirty
         → result ≡ is_seated_by p (state_shown core.now.slots place) }
 {
-    let _frames = core.frames();
     let Place::Frame { f, .. } = place else {
         return false;
     };
     matches!(core.owner(f), Whose::Resident(_))
-}
-
-// Whether a page in this place is dirty in a frame off the free list.
-fn is_dirty_seat(core: &CoreMap, place: Place) -> bool
-    ensures { (p : Placement) (dirty : Bool) → p.free ≡ core.now.free → ShowsMark core.now.slots place dirty
-        → result ≡ (is_seated_by p (state_shown core.now.slots place) && dirty) }
-{
-    let _frames = core.frames();
-    let Place::Frame { f, .. } = place else {
-        return false;
-    };
-    match core.owner(f) {
-        Whose::Resident(_) => core.is_dirty(f),
-        Whose::Free(_) | Whose::Away => false,
-    }
 }
 
 /// Whether a page of the space is in a frame off the free list.

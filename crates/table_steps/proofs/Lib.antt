@@ -96,3 +96,4 @@ pub mod Passed
 pub mod Hands
 pub mod Moved
 pub mod Parting
+pub use Rattle.kernel_tables.proofs.FewNumbers

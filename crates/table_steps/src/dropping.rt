@@ -27,7 +27,6 @@ fn drop_frame(core: &mut CoreMap, frame: u32)
     ensures free { core.new.free ≡ frame ∷ without frame core.old.free }
     ensures slots { core.new.slots ≡ slice_set core.old.slots frame (FreeSlot (token_of (slot_at core.old.slots frame)) None) }
 {
-    let _frames = core.frames();
     match core.owner(frame) {
         Whose::Free(_) => core.forget(frame),
         Whose::Resident(_) => {
@@ -44,7 +43,7 @@ fn forget(tables: &mut Tables, page: Page, frame: u32)
     ensures { ForgotPage tables.old tables.new page frame }
 {
     drop_frame(&mut tables.core, frame);
-    let _frames = tables.core.frames();
+    tables.core.stands();
     tables.spaces.set_places(page, Place::Zero);
 }
 

@@ -22,7 +22,6 @@ use vm_facts::Page;
 fn leave_page(core: &mut CoreMap, image: u32, v: u32)
     ensures { core.new ≡ left_page core.old (TextPage image v) }
 {
-    let _frames = core.frames();
     let Some(frame) = core.find_text(image, v) else {
         return;
     };
@@ -86,5 +85,5 @@ pub fn give_up(tables: &mut Tables, sid: u32)
     tables.book.drop_owner(Owner::Data(sid));
     tables.book.drop_owner(Owner::Stack(sid));
     leave_text(tables, image, pages);
-    let _frames = tables.core.frames();
+    tables.core.stands();
 }

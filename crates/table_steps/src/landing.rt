@@ -1,5 +1,5 @@
 //! The pages of a transfer that was completed land.
-ghost use Rattle.std.specs.Prelude.{◌≡◌, ◌&&◌, ℕ, ◌<◌, ◌≤◌, ◌^◌, ◌∷◌, ◌++◌, [], map, false, Some, slice_set};
+ghost use Rattle.std.specs.Prelude.{◌≡◌, ◌&&◌, ℕ, ◌<◌, ◌≤◌, ◌^◌, ◌∷◌, ◌++◌, [], length, map, false, Some, slice_set};
 ghost use Rattle.vm_facts.specs.declared.page.Page.TheVariants.{Text as TextPage};
 ghost use Rattle.text_table.specs.Texts.{IsTextTable};
 ghost use Rattle.core_map.specs.Frames.{IsAway, HoldsNot};
@@ -75,33 +75,8 @@ fn save_text(texts: &mut TextTable, page: Page)
     ensures table { (image v : ℕ) → page ≡ TextPage image v → IsTextTable texts.old }
 {
     match page {
-        Page::Text { image, v } => {
-            let _sharers = texts.sharers(image);
-            texts.set_saved(image, v, true);
-        }
+        Page::Text { image, v } => texts.set_saved(image, v, true),
         _ => {}
-    }
-}
-
-// The bytes of all pages of a read are whole.
-fn look_at(parts: &[Inbound])
-    ensures { AreWholePages parts.now }
-{
-    match parts {
-        [] => {}
-        [first, rest @ ..] => {
-            let _number = first.token.number();
-            look_at(rest);
-        }
-    }
-}
-
-/// What is read has a whole page for each.
-pub fn look(transfer: &Transfer)
-    ensures { IsWholeFlight transfer.now }
-{
-    if let Transfer::Read { parts, .. } = transfer {
-        look_at(parts);
     }
 }
 
@@ -147,7 +122,8 @@ fn land_in(tables: &mut Tables, part: Inbound, demanded: Page, from_file: bool)
     requires not_held { HoldsNot tables.old.core part.page }
     requires small { part.token.number < 2 ^ 21 }
     requires texts { (image v : ℕ) → part.page ≡ TextPage image v → (1 ≤ image) × (image ≤ 16) × (v < 2048) }
-    ensures { LandedIn (same_page part.page demanded) tables.old tables.new part.token part.page (arrives_dirty tables.old.texts part.page from_file) }
+    ensures landed { LandedIn (same_page part.page demanded) tables.old tables.new part.token part.page (arrives_dirty tables.old.texts part.page from_file) }
+    ensures whole { length part.token.bytes ≡ 1024 }
 {
     let Inbound {
         page,
@@ -186,6 +162,7 @@ fn land_reads(tables: &mut Tables, parts: &mut Vec<Inbound>, demanded: Page, fro
         ≡ land_all (record (placement_of (closing_in tables.old from_file demanded parts.old.items)) { transfers = map transfer_shown tables.old.ring })
         (Reads (source_by from_file) demanded) (map in_part parts.old.items) }
     ensures all { LandedAll tables.old tables.new (closing_in tables.old from_file demanded parts.old.items) }
+    ensures whole { AreWholePages parts.old.items }
     ensures none { parts.new.items ≡ [] }
 {
     if parts.is_empty() {
@@ -193,7 +170,7 @@ fn land_reads(tables: &mut Tables, parts: &mut Vec<Inbound>, demanded: Page, fro
     }
     let part = parts.remove(0);
     land_in(tables, part, demanded, from_file);
-    let _frames = tables.core.frames();
+    tables.core.stands();
     land_reads(tables, parts, demanded, from_file);
 }
 
@@ -211,15 +188,16 @@ fn land_writes(tables: &mut Tables, parts: &mut Vec<Outbound>)
     }
     let part = parts.remove(0);
     land_out(tables, part);
-    let _frames = tables.core.frames();
+    tables.core.stands();
     land_writes(tables, parts);
 }
 
-/// The pages of a transfer that was completed land, in turn.
+/// The pages of a transfer that was completed land, in turn. What was read has a whole page for each.
 pub fn land(tables: &mut Tables, transfer: Transfer)
     requires { Known (ending tables.old transfer) }
     ensures place { placement_of (lists_of tables.new) ≡ done (placement_of (ending tables.old transfer)) }
     ensures all { LandedAll tables.old tables.new (ending tables.old transfer) }
+    ensures whole { IsWholeFlight transfer }
 {
     match transfer {
         Transfer::Read {

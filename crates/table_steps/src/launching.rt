@@ -82,7 +82,7 @@ fn launch_all(tables: &mut Tables, parts: &mut Vec<Outbound>, page: Page, lo: u3
         return;
     }
     let part = launch(tables, beside(page, lo));
-    let _frames = tables.core.frames();
+    tables.core.stands();
     parts.push_reserved(part);
     launch_all(tables, parts, page, lo + 1, n - 1);
 }

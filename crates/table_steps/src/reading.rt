@@ -173,7 +173,7 @@ fn bring_all(
         return;
     }
     let part = bring(tables, beside(page, lo), from_file);
-    let _frames = tables.core.frames();
+    tables.core.stands();
     parts.push_reserved(part);
     bring_all(tables, parts, page, lo + 1, n - 1, from_file);
 }

@@ -38,7 +38,8 @@ impl TextTable {
         requires from_one { 1 ≤ image }
         requires to_last { image ≤ 16 }
         requires room { (text_numbered self.old image).sharers < 2 ^ 32 - 1 }
-        ensures { self.new ≡ table_with_text self.old image (entered (text_numbered self.old image)) }
+        ensures entered { self.new ≡ table_with_text self.old image (entered (text_numbered self.old image)) }
+        ensures table { IsTextTable self.old }
     {
         self.entries[place(image)].enter();
     }
@@ -80,7 +81,8 @@ impl TextTable {
         requires from_one { 1 ≤ image }
         requires to_last { image ≤ 16 }
         requires page { v < 2048 }
-        ensures { self.new ≡ table_with_text self.old image (marked (text_numbered self.old image) v saved) }
+        ensures marked { self.new ≡ table_with_text self.old image (marked (text_numbered self.old image) v saved) }
+        ensures table { IsTextTable self.old }
     {
         self.entries[place(image)].set_saved(v, saved);
     }

@@ -11,6 +11,6 @@ returns-in-Free-clause-slots c =
 pub returns-in_default : goal.returns-in_default
 returns-in_default c =
     let s : Stays c.args.core.now.free c.args.core.now.slots c.args.frame c.args.page c.args.changed =
-    revive_stays c.args.core.now.free c.args.core.now.slots c.args.frame c.args.page c.args.changed c.frames-frames.ensures.sound c.requires
+    revive_stays c.args.core.now.free c.args.core.now.slots c.args.frame c.args.page c.args.changed c.owner.ensures.sound c.requires
     (λ p e. c.in_default.not-Free p (c.owner.ensures.owner ∙ e)) in
     record { free = s.free_stays; slots = s.slots_stay }

@@ -13,7 +13,7 @@ returns-then-is_dirty_seat c = λ p e s m x.
     let slots = c.args.core.now.slots in
     sym (ap (λ (b : Bool). b && c.may_take.result) c.if-is_dirty_seat.true)
     ∙ taken p c.args.locked.now c.args.front c.args.page (state_shown slots c.args.place) c.is_dirty_seat.result c.may_take.result x
-    (valid_off p c.args.core.now.free slots c.args.place c.args.page (is_dirty p c.args.page) c.frames-frames.ensures.sound e m s)
+    (valid_off p c.args.core.now.free slots c.args.place c.args.page (is_dirty p c.args.page) c.stands.ensures e m s)
     s (c.is_dirty_seat.ensures p (is_dirty p c.args.page) e m) (c.may_take.ensures slots)
 
 pub returns-else-is_dirty_seat : goal.returns-else-is_dirty_seat
@@ -23,5 +23,5 @@ returns-else-is_dirty_seat c = λ p e s m x.
     c.if-is_dirty_seat.false
     ∙ sym (ap (λ (b : Bool). b && may) c.if-is_dirty_seat.false)
     ∙ taken p c.args.locked.now c.args.front c.args.page (state_shown slots c.args.place) c.is_dirty_seat.result may x
-    (valid_off p c.args.core.now.free slots c.args.place c.args.page (is_dirty p c.args.page) c.frames-frames.ensures.sound e m s)
+    (valid_off p c.args.core.now.free slots c.args.place c.args.page (is_dirty p c.args.page) c.stands.ensures e m s)
     s (c.is_dirty_seat.ensures p (is_dirty p c.args.page) e m) refl

@@ -7,7 +7,7 @@ use Rattle.leave_judge.proofs.leaving.has_longwords.Goals as goal
 pub returns-in-Some : goal.returns-in-Some
 returns-in-Some c = λ p e.
     let known = subst (IsRecord c.args.m.now.kernel c.args.pid) c.in-Some.is c.record_of.ensures in
-    subst AreRegs (shown_regs c.args.m.now.kernel c.args.pid c.in-Some.process p known e) c.u_page-page.ensures.regs
+    subst AreRegs (shown_regs c.args.m.now.kernel c.args.pid c.in-Some.process p known e) c.are_regs.ensures
 
 pub returns-in-None : goal.returns-in-None
 returns-in-None c = λ p e.

@@ -1,5 +1,4 @@
-use Rattle.std.proofs.Common.{◌≡◌, ◌+◌, ◌-◌, ℕ, sym, ap, ◌∙◌}
-use Rattle.vm_facts.specs.declared.page.Page.{Page}
+use Rattle.std.proofs.Common.{◌≡◌, ◌+◌, ◌-◌, sym, ap, ◌∙◌}
 use Rattle.flat_state.specs.PageNames.{number_of, beside, pages_from}
 use Rattle.page_laws.proofs.Lists.Runs.{number_beside}
 use Rattle.paged_model.specs.Moves.{each_page}
@@ -14,17 +13,21 @@ returns-in-Some t c =
     let page = c.args.page in
     let lo = c.args.lo in
     first_told (reason (beside page lo)) (each_page reason (pages_from page (lo + 1) (c.args.n - 1))) c.in-Some.reason
-    (ap reason (sym c.beside-other.ensures) ∙ sym c.write_along.ensures ∙ c.in-Some.is)
+    (ap reason (sym c.beside-other.ensures) ∙ sym c.write_along.ensures.reason ∙ c.in-Some.is)
     ∙ sym (each_first page reason lo c.args.n c.if-n-eq0.false)
+
+pub overflow_add-next : goal.overflow_add-next
+overflow_add-next t c =
+    let number : number_of c.beside-other.result ≡ c.args.lo = ap number_of c.beside-other.ensures ∙ number_beside c.args.page c.args.lo in
+    let low : number_of c.beside-other.result ≤ 4096 = c.write_along.ensures.low c.in-None.is in
+    omega arith
 
 pub returns-in-None : goal.returns-in-None
 returns-in-None t c =
     let reason = write_along c.args.m.now.kernel.place c.args.page in
     let page = c.args.page in
     let lo = c.args.lo in
-    let next : c.next_number.result ≡ lo + 1 =
-    c.next_number.ensures ∙ ap (λ (q : Page). number_of q + 1) c.beside-other.ensures ∙ ap (λ (n : ℕ). n + 1) (number_beside page lo) in
     then_told (reason (beside page lo)) (each_page reason (pages_from page (lo + 1) (c.args.n - 1))) c.each_along.result
-    (ap reason (sym c.beside-other.ensures) ∙ sym c.write_along.ensures ∙ c.in-None.is)
-    (c.each_along.ensures ∙ ap (λ (n : ℕ). each_page reason (pages_from page n (c.args.n - 1))) next)
+    (ap reason (sym c.beside-other.ensures) ∙ sym c.write_along.ensures.reason ∙ c.in-None.is)
+    c.each_along.ensures
     ∙ sym (each_first page reason lo c.args.n c.if-n-eq0.false)

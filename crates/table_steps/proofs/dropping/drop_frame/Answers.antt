@@ -17,7 +17,7 @@ returns-in-Resident-clause-free c =
     c.give_head.ensures.free
     ∙ ap (λ (n : ℕ). n ∷ c.lift.new.self.free) number
     ∙ ap (λ (fs : List ℕ). f ∷ fs)
-    (c.lift.ensures.free ∙ sym (without_absent f c.args.core.now.free (c.frames-frames.ensures.sound.listed f ∙ unlisted (slot_at c.args.core.now.slots f) c.in-Resident.ensures.slot.0)))
+    (c.lift.ensures.free ∙ sym (without_absent f c.args.core.now.free (c.owner.ensures.sound.listed f ∙ unlisted (slot_at c.args.core.now.slots f) c.in-Resident.ensures.slot.0)))
 
 pub returns-in-Resident-clause-slots : goal.returns-in-Resident-clause-slots
 returns-in-Resident-clause-slots c =

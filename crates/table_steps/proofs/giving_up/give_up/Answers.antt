@@ -44,4 +44,4 @@ returns c =
       book = c.drop_owner-2.ensures ∙ ap (λ (b : Book). with_holdings b (kept (Stack c.args.sid) 0 b.holdings)) c.drop_owner.ensures;
       rest = refl;
     } in
-    given_up c.args.tables.now u a c.leave_text.new.tables c.args.sid c.in-Some.index c.remove_at-image.result.0 c.remove_at-image.result.1 parts c.leave_text.ensures c.frames-frames.ensures.sound
+    given_up c.args.tables.now u a c.leave_text.new.tables c.args.sid c.in-Some.index c.remove_at-image.result.0 c.remove_at-image.result.1 parts c.leave_text.ensures c.stands.ensures

@@ -28,7 +28,7 @@ land_writes-requires t c =
     let e : c.args.parts.now.items ≡ c.remove-part.result ∷ c.remove-part.new.self.items =
     first_taken c.args.parts.now.items c.remove-part.new.self.items c.remove-part.result some c.remove-part.ensures.value c.remove-part.ensures.by_index.2 in
     let l =
-    writes_step c.args.tables.now c.land_out.new.tables c.args.parts.now.items c.remove-part.new.self.items c.remove-part.result e c.requires c.land_out.ensures c.frames-frames.ensures.sound in
+    writes_step c.args.tables.now c.land_out.new.tables c.args.parts.now.items c.remove-part.new.self.items c.remove-part.result e c.requires c.land_out.ensures c.stands.ensures in
     (omega (arith, ap length e), l.known)
 
 pub returns-clause-place : goal.returns-clause-place
@@ -37,7 +37,7 @@ returns-clause-place t c =
     let e : c.args.parts.now.items ≡ c.remove-part.result ∷ c.remove-part.new.self.items =
     first_taken c.args.parts.now.items c.remove-part.new.self.items c.remove-part.result some c.remove-part.ensures.value c.remove-part.ensures.by_index.2 in
     let l =
-    writes_step c.args.tables.now c.land_out.new.tables c.args.parts.now.items c.remove-part.new.self.items c.remove-part.result e c.requires c.land_out.ensures c.frames-frames.ensures.sound in
+    writes_step c.args.tables.now c.land_out.new.tables c.args.parts.now.items c.remove-part.new.self.items c.remove-part.result e c.requires c.land_out.ensures c.stands.ensures in
     subst (λ (ys : List Outbound). placement_of (lists_of c.land_writes.new.tables)
     ≡ land_all (record (placement_of (closing_out c.args.tables.now ys)) { transfers = map transfer_shown c.args.tables.now.ring }) Writes (map out_part ys)) (sym e)
     (lands_place c.args.tables.now c.land_out.new.tables c.land_writes.new.tables Writes (out_part c.remove-part.result) (map out_part c.remove-part.new.self.items)
@@ -49,7 +49,7 @@ returns-clause-all t c =
     let e : c.args.parts.now.items ≡ c.remove-part.result ∷ c.remove-part.new.self.items =
     first_taken c.args.parts.now.items c.remove-part.new.self.items c.remove-part.result some c.remove-part.ensures.value c.remove-part.ensures.by_index.2 in
     let l =
-    writes_step c.args.tables.now c.land_out.new.tables c.args.parts.now.items c.remove-part.new.self.items c.remove-part.result e c.requires c.land_out.ensures c.frames-frames.ensures.sound in
+    writes_step c.args.tables.now c.land_out.new.tables c.args.parts.now.items c.remove-part.new.self.items c.remove-part.result e c.requires c.land_out.ensures c.stands.ensures in
     subst (λ (ys : List Outbound). LandedAll c.args.tables.now c.land_writes.new.tables (closing_out c.args.tables.now ys)) (sym e)
     (lands_all c.args.tables.now c.land_out.new.tables c.land_writes.new.tables Writes (out_part c.remove-part.result) (map out_part c.remove-part.new.self.items) (outbound_flown c.remove-part.result)
     (map outbound_flown c.remove-part.new.self.items) l c.land_writes.ensures.all)

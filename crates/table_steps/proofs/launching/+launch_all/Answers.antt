@@ -47,7 +47,7 @@ launch_all-requires t c =
     let e : c.args.n ≡ suc m = omega arith in
     let b : Launched c.args.tables.now c.launch-part.new.tables c.args.parts.now.items c.args.page c.launch-part.result c.args.lo m =
     launched_first c.args.tables.now c.launch-part.new.tables c.args.parts.now.items c.args.page c.beside.result c.launch-part.result c.args.lo c.args.n m e c.beside.ensures c.requires.may
-    c.launch-part.ensures c.frames-frames.ensures.sound in (
+    c.launch-part.ensures c.stands.ensures in (
       omega (arith, c.decreases),
       (
         subst (λ (ys : List Outbound). MayLaunch (launching c.launch-part.new.tables ys) c.args.page (c.args.lo + 1) m) (sym c.push_reserved.ensures.items) b.may,
@@ -65,7 +65,7 @@ returns t c =
     let e : c.args.n ≡ suc m = omega arith in
     let b : Launched c.args.tables.now c.launch-part.new.tables c.args.parts.now.items c.args.page c.launch-part.result c.args.lo m =
     launched_first c.args.tables.now c.launch-part.new.tables c.args.parts.now.items c.args.page c.beside.result c.launch-part.result c.args.lo c.args.n m e c.beside.ensures c.requires.may
-    c.launch-part.ensures c.frames-frames.ensures.sound in
+    c.launch-part.ensures c.stands.ensures in
     record {
       place =
           c.launch_all.ensures.place

@@ -51,7 +51,7 @@ bring_all-requires t c =
     let from : Source = source_by c.args.from_file in
     let b : Brings c.args.tables.now c.bring-part.new.tables c.args.parts.now.items from c.args.page c.bring-part.result c.args.lo m =
     step c.args.tables.now c.bring-part.new.tables c.args.parts.now.items c.args.from_file c.args.page c.beside.result c.bring-part.result c.args.lo c.args.n m e c.beside.ensures c.bring-part.ensures
-    c.frames-frames.ensures.sound c.requires.may in
+    c.stands.ensures c.requires.may in
     let s : SameSources c.args.tables.now c.bring-part.new.tables = same c.args.tables.now c.bring-part.new.tables c.beside.result c.args.from_file c.bring-part.result c.bring-part.ensures in
     let all = subst (λ (k : ℕ). EachPage (HasSource c.args.tables.now c.args.from_file) (pages_from c.args.page c.args.lo k)) e c.requires.has in (
       omega (arith, c.decreases),
@@ -82,7 +82,7 @@ returns t c =
     let from : Source = source_by c.args.from_file in
     let b : Brings c.args.tables.now c.bring-part.new.tables c.args.parts.now.items from c.args.page c.bring-part.result c.args.lo m =
     step c.args.tables.now c.bring-part.new.tables c.args.parts.now.items c.args.from_file c.args.page c.beside.result c.bring-part.result c.args.lo c.args.n m e c.beside.ensures c.bring-part.ensures
-    c.frames-frames.ensures.sound c.requires.may in
+    c.stands.ensures c.requires.may in
     record {
       place =
           c.bring_all.ensures.place

@@ -5,15 +5,6 @@ use Rattle.kernel_tables.proofs.AddedTied.{image_range}
 use Rattle.kernel_tables.proofs.AddedNumbers.{few_share}
 use Rattle.kernel_tables.proofs.tables.Tables.add_space.Goals as goal
 
-pub sharers-sharers-requires : goal.sharers-sharers-requires
-sharers-sharers-requires c =
-    let r = image_range (lists_of c.args.self.now) c.args.space.image c.args.space.facts c.requires.known.tied c.requires.facts in
-    let e : c.image-image.result ≡ c.args.space.image = c.image-image.ensures ∙ ap (λ (s : Places). s.image) c.place_text.ensures in
-    record {
-      from_one = omega (arith, r.0, e);
-      to_last = omega (arith, r.1, e);
-    }
-
 pub enter-requires : goal.enter-requires
 enter-requires c =
     let r = image_range (lists_of c.args.self.now) c.args.space.image c.args.space.facts c.requires.known.tied c.requires.facts in

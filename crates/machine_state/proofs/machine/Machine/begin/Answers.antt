@@ -35,7 +35,7 @@ returns-then-not-branch-clause-goes_on c = subst CanGoOn (sym (still_none c.self
 pub start_first-started-requires : goal.start_first-started-requires
 start_first-started-requires c =
     may_enter c.self.inside c.find_first-found.new.tables c.args.pid c.args.image
-    (before_first c.self.inside c.args.self.now c.args.pid c.args.image c.self.invariant c.self.view_is c.requires.ready c.requires.may) c.frames-frames.ensures.sound
+    (before_first c.self.inside c.args.self.now c.args.pid c.args.image c.self.invariant c.self.view_is c.requires.ready c.requires.may) c.stands.ensures
     (looked_found _ _ _ _ (looked_by _ _ _ _ true c.find_first-found.result _ c.in_ok-or_break_off.ensures.made c.if-not-branch.false c.find_first-found.ensures.looked))
 
 found : (c : goal.After-self-1) → FoundFirst c.self.inside.tables c.find_first-found.new.tables c.args.pid c.args.image

@@ -24,7 +24,7 @@ use Rattle.machine_state.proofs.machine.Machine.begin_get.Goals as goal
 
 pub read_run-requires-clause-known : goal.read_run-requires-clause-known
 read_run-requires-clause-known c =
-    known_now c.self.inside c.args.self.now c.self.invariant c.self.view_is c.requires.ready c.frames-frames.ensures.sound
+    known_now c.self.inside c.args.self.now c.self.invariant c.self.view_is c.requires.ready c.stands.ensures
 
 pub read_run-requires-clause-can : goal.read_run-requires-clause-can
 read_run-requires-clause-can c = subst (λ (s : Standing). CanBringIn s.kernel.place c.args.page c.args.lo c.args.n) (sym c.self.view_is) c.requires.can
@@ -36,7 +36,7 @@ read_run-requires-clause-has c b e =
     let can : CanBringIn (placement_of (lists_of t)) c.args.page c.args.lo c.args.n =
     subst (λ (s : Standing). CanBringIn s.kernel.place c.args.page c.args.lo c.args.n) (sym c.self.view_is) c.requires.can in
     run_sources t (kernel_by t c.self.inside.journal.items c.self.inside.stopped) b c.args.page (pages_from c.args.page c.args.lo c.args.n)
-    (known_of c.self.inside c.frames-frames.ensures.sound r) r.sound refl refl can.enter
+    (known_of c.self.inside c.stands.ensures r) r.sound refl refl can.enter
     (subst (λ (s : Source). EachPage (ReadsFrom (placement_of (lists_of t)) s c.args.page) (pages_from c.args.page c.args.lo c.args.n)) (sym e) can.reads)
 
 step : (c : goal.After-push_reserved)

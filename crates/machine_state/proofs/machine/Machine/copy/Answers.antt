@@ -30,7 +30,7 @@ use Rattle.machine_state.proofs.machine.Machine.copy.Goals as goal
 pub copy_frame-copy-requires : goal.copy_frame-copy-requires
 copy_frame-copy-requires c =
     let t : Tables = c.self.inside.tables in
-    let k : Known (lists_of t) = known_now c.self.inside c.args.self.now c.self.invariant c.self.view_is c.requires.ready c.frames-frames.ensures.sound in
+    let k : Known (lists_of t) = known_now c.self.inside c.args.self.now c.self.invariant c.self.view_is c.requires.ready c.stands.ensures in
     let can : CanCopy (placement_of (lists_of t)) c.args.child c.args.parent = subst (λ (s : Standing). CanCopy s.kernel.place c.args.child c.args.parent) (sym c.self.view_is) c.requires.can in
     let e : Resides (lists_of t) c.args.parent can.frame = seat_resides (lists_of t) c.args.parent can.frame k (record { state = inl can.valid }) in
     record {
@@ -43,7 +43,7 @@ copy_frame-copy-requires c =
 pub seat-requires-clause-not_held : goal.seat-requires-clause-not_held
 seat-requires-clause-not_held c =
     let t : Tables = c.self.inside.tables in
-    let k : Known (lists_of t) = known_now c.self.inside c.args.self.now c.self.invariant c.self.view_is c.requires.ready c.frames-frames.ensures.sound in
+    let k : Known (lists_of t) = known_now c.self.inside c.args.self.now c.self.invariant c.self.view_is c.requires.ready c.stands.ensures in
     let can : CanCopy (placement_of (lists_of t)) c.args.child c.args.parent = subst (λ (s : Standing). CanCopy s.kernel.place c.args.child c.args.parent) (sym c.self.view_is) c.requires.can in
     let e : Resides (lists_of t) c.args.parent can.frame = seat_resides (lists_of t) c.args.parent can.frame k (record { state = inl can.valid }) in
     let m = c.copy_frame-copy.ensures in
@@ -59,7 +59,7 @@ step c =
     let w : Tables = c.finish_fill.new.self in
     let k : Kernel = kernel_by t c.self.inside.journal.items c.self.inside.stopped in
     let r = running c.self.inside c.args.self.now c.self.invariant c.self.view_is c.requires.ready in
-    let known : Known (lists_of t) = known_of c.self.inside c.frames-frames.ensures.sound r in
+    let known : Known (lists_of t) = known_of c.self.inside c.stands.ensures r in
     let can : CanCopy (placement_of (lists_of t)) c.args.child c.args.parent = subst (λ (s : Standing). CanCopy s.kernel.place c.args.child c.args.parent) (sym c.self.view_is) c.requires.can in
     let e : Resides (lists_of t) c.args.parent can.frame = seat_resides (lists_of t) c.args.parent can.frame known (record { state = inl can.valid }) in
     let m : CopiedFrame t c.copy_frame-copy.new.tables can.frame c.copy_frame-copy.result =

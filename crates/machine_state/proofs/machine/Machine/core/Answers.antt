@@ -11,5 +11,5 @@ pub returns : goal.returns
 returns c =
     let t : Tables = c.self.inside.tables in
     let now = stands_now c.self.inside c.args.self.now c.self.invariant c.self.view_is c.requires.runs in
-    let k = known_by t c.self.inside.journal.items c.self.inside.stopped c.frames-frames.ensures.sound now.stands in
+    let k = known_by t c.self.inside.journal.items c.self.inside.stopped c.stands.ensures now.stands in
     subst (λ (s : Standing). ShowsCore s.kernel.place t.core) c.self.view_is (core_shows (lists_of t) k)

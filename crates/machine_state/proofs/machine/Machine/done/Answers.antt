@@ -46,7 +46,7 @@ complete_oldest-requires g c =
 pub land-requires : goal.land-requires
 land-requires g c =
     let t : Tables = c.self.inside.tables in
-    let k = known_now c.self.inside c.args.self.now c.self.invariant c.self.view_is c.requires.asks.ready c.frames-frames.ensures.sound in
+    let k = known_now c.self.inside c.args.self.now c.self.invariant c.self.view_is c.requires.asks.ready c.stands.ensures in
     let e = came t.ring (g.F.Files.holds c.args.files.now) (g.D.SwapDev.image c.args.swap.now) (g.D.SwapDev.image c.complete_oldest.new.swap) _ c.in-Done.ensures.ends (λ i. let x = i in cc) in
     back_known t c.complete_oldest.new.self e.oldest c.in-Done.transfer (was_lists t c.complete_oldest.new.self e.rest e.oldest e.ring_is c.in-Done.ensures.rest)
     (done_back e.oldest c.in-Done.transfer _ _ _ e.ends) k
@@ -68,7 +68,7 @@ step g c =
     let r = running c.self.inside c.args.self.now c.self.invariant c.self.view_is c.requires.asks.ready in
     let e = back g c in
     let d : Doing t w c.complete_oldest.new.self e.oldest n = record {
-      known = known_of c.self.inside c.frames-frames.ensures.sound r;
+      known = known_of c.self.inside c.stands.ensures r;
       was = was_lists t c.complete_oldest.new.self e.rest e.oldest e.ring_is c.in-Done.ensures.rest;
       back = done_back e.oldest n _ _ _ e.ends;
       place = c.land.ensures.place;
@@ -102,7 +102,7 @@ returns-in-Done g c =
     let e = back g c in
     let n : Flight = c.in-Done.transfer in
     let b : Kernel = kernel_by t c.self.inside.journal.items c.self.inside.stopped in
-    let f = before c.self.inside c.args.self.now e.oldest e.rest c.self.invariant c.self.view_is c.requires.asks.ready c.frames-frames.ensures.sound e.ring_is in
+    let f = before c.self.inside c.args.self.now e.oldest e.rest c.self.invariant c.self.view_is c.requires.asks.ready c.stands.ensures e.ring_is in
     let z = step g c in
     let files = subst (λ (s : Standing). AreFiles s.images (g.F.Files.holds c.args.files.now)) (sym c.self.view_is) c.requires.asks.backed.files in
     let noted : g.F.Files.notes c.complete_oldest.new.files ≡ after_requests
@@ -123,7 +123,7 @@ returns-in-Done g c =
             told = told_beside (sources c.args.self.now (g.F.Files.holds c.args.files.now)) (g.D.SwapDev.image c.args.swap.now) c.args.self.now.kernel (brought n) (g.F.Files.notes c.args.files.now)
                 (subst (λ (s : Standing). ReadsTold (sources s (g.F.Files.holds c.args.files.now)) (g.D.SwapDev.image c.args.swap.now) s.kernel (brought n)) c.self.view_is
                 (done_told t (images_of t) b e.oldest n e.rest t.book.size (g.F.Files.holds c.args.files.now) (g.D.SwapDev.image c.args.swap.now)
-                (g.D.SwapDev.image c.complete_oldest.new.swap) f e.ends files c.look.ensures));
+                (g.D.SwapDev.image c.complete_oldest.new.swap) f e.ends files c.land.ensures.whole));
           };
       rest = λ _. z.rest;
       keeps = λ images flat loads fits stood.
@@ -136,7 +136,7 @@ returns-in-Done g c =
           (z.says (λ (k l : Kernel). TextFits images k.place → StandsTold k images (g.D.SwapDev.image c.args.swap.now) flat → StandsTold l images (g.D.SwapDev.image c.complete_oldest.new.swap) flat)
           (λ now_fits. done_keeps t (images_of t) b e.oldest n e.rest t.book.size (g.F.Files.holds c.args.files.now) (g.D.SwapDev.image c.args.swap.now)
           (g.D.SwapDev.image c.complete_oldest.new.swap) images flat f e.ends r.sound files
-          (subst (λ (s : Standing). AreImages s.images (g.F.Files.holds c.args.files.now) images) (sym c.self.view_is) loads) c.look.ensures now_fits long)
+          (subst (λ (s : Standing). AreImages s.images (g.F.Files.holds c.args.files.now) images) (sym c.self.view_is) loads) c.land.ensures.whole now_fits long)
           fits (stands_alone c.args.self.now.kernel images (g.D.SwapDev.image c.args.swap.now) flat (g.F.Files.notes c.args.files.now) stood));
       swapped = done_beside (files_named c.args.self.now.images) c.args.self.now.kernel (g.D.SwapDev.image c.args.swap.now) (g.D.SwapDev.image c.complete_oldest.new.swap)
           (g.F.Files.notes c.args.files.now) (g.F.Files.notes c.complete_oldest.new.files)
@@ -163,7 +163,7 @@ returns-in-SwapWriteFault-clause-spoiled g c =
     came t.ring (g.F.Files.holds c.args.files.now) (g.D.SwapDev.image c.args.swap.now) (g.D.SwapDev.image c.complete_oldest.new.swap)
     (answers.SwapWriteFault c.in-SwapWriteFault.transfer) c.in-SwapWriteFault.ensures.ends (λ i. let x = i in cc) in
     let b : Kernel = kernel_by t c.self.inside.journal.items c.self.inside.stopped in
-    let f = before c.self.inside c.args.self.now e.oldest e.rest c.self.invariant c.self.view_is c.requires.asks.ready c.frames-frames.ensures.sound e.ring_is in
+    let f = before c.self.inside c.args.self.now e.oldest e.rest c.self.invariant c.self.view_is c.requires.asks.ready c.stands.ensures e.ring_is in
     spoiled_beside c.args.self.now.kernel (g.D.SwapDev.image c.args.swap.now) (g.D.SwapDev.image c.complete_oldest.new.swap) (g.F.Files.notes c.args.files.now)
     (g.F.Files.notes c.complete_oldest.new.files)
     (subst (λ (s : Standing). SpoilsAfter s.kernel (g.D.SwapDev.image c.args.swap.now) (g.D.SwapDev.image c.complete_oldest.new.swap)) c.self.view_is (spoiled_image t (images_of t) b e.oldest
@@ -179,7 +179,7 @@ returns-in-FileFault-clause-spoiled g c =
     came t.ring (g.F.Files.holds c.args.files.now) (g.D.SwapDev.image c.args.swap.now) (g.D.SwapDev.image c.complete_oldest.new.swap)
     (answers.FileFault c.in-FileFault.transfer) c.in-FileFault.ensures.ends (λ i. let x = i in cc) in
     let b : Kernel = kernel_by t c.self.inside.journal.items c.self.inside.stopped in
-    let f = before c.self.inside c.args.self.now e.oldest e.rest c.self.invariant c.self.view_is c.requires.asks.ready c.frames-frames.ensures.sound e.ring_is in
+    let f = before c.self.inside c.args.self.now e.oldest e.rest c.self.invariant c.self.view_is c.requires.asks.ready c.stands.ensures e.ring_is in
     filled_beside (files_named c.args.self.now.images) c.args.self.now.kernel (g.D.SwapDev.image c.args.swap.now) (g.D.SwapDev.image c.complete_oldest.new.swap)
     (g.F.Files.notes c.args.files.now) (g.F.Files.notes c.complete_oldest.new.files)
     (subst (λ (s : Standing). OldestReadsFrom FromFile s.kernel.place.transfers) c.self.view_is
@@ -204,7 +204,7 @@ returns-in-SwapReadFault-clause-spoiled g c =
     came t.ring (g.F.Files.holds c.args.files.now) (g.D.SwapDev.image c.args.swap.now) (g.D.SwapDev.image c.complete_oldest.new.swap)
     (answers.SwapReadFault c.in-SwapReadFault.transfer) c.in-SwapReadFault.ensures.ends (λ i. let x = i in cc) in
     let b : Kernel = kernel_by t c.self.inside.journal.items c.self.inside.stopped in
-    let f = before c.self.inside c.args.self.now e.oldest e.rest c.self.invariant c.self.view_is c.requires.asks.ready c.frames-frames.ensures.sound e.ring_is in
+    let f = before c.self.inside c.args.self.now e.oldest e.rest c.self.invariant c.self.view_is c.requires.asks.ready c.stands.ensures e.ring_is in
     asked_beside (files_named c.args.self.now.images) c.args.self.now.kernel (g.D.SwapDev.image c.args.swap.now) (g.D.SwapDev.image c.complete_oldest.new.swap)
     (g.F.Files.notes c.args.files.now) (g.F.Files.notes c.complete_oldest.new.files)
     (subst (λ (s : Standing). OldestReadsFrom FromSwap s.kernel.place.transfers) c.self.view_is
@@ -243,7 +243,7 @@ returns-in-FileFault-clause-lost g c =
     came t.ring (g.F.Files.holds c.args.files.now) (g.D.SwapDev.image c.args.swap.now) (g.D.SwapDev.image c.complete_oldest.new.swap)
     (answers.FileFault c.in-FileFault.transfer) c.in-FileFault.ensures.ends (λ i. let x = i in cc) in
     lost c.self.inside c.complete_oldest.new.self e.rest e.oldest c.args.self.now c.make_room.new.journal.items c.lose.new.stopped _ e.ring_is c.in-FileFault.ensures.rest
-    (known_now c.self.inside c.args.self.now c.self.invariant c.self.view_is c.requires.asks.ready c.frames-frames.ensures.sound) c.self.view_is
+    (known_now c.self.inside c.args.self.now c.self.invariant c.self.view_is c.requires.asks.ready c.stands.ensures) c.self.view_is
     c.make_room.ensures.same c.lose.ensures
 
 pub returns-in-SwapReadFault-clause-lost : goal.returns-in-SwapReadFault-clause-lost
@@ -253,7 +253,7 @@ returns-in-SwapReadFault-clause-lost g c =
     came t.ring (g.F.Files.holds c.args.files.now) (g.D.SwapDev.image c.args.swap.now) (g.D.SwapDev.image c.complete_oldest.new.swap)
     (answers.SwapReadFault c.in-SwapReadFault.transfer) c.in-SwapReadFault.ensures.ends (λ i. let x = i in cc) in
     lost c.self.inside c.complete_oldest.new.self e.rest e.oldest c.args.self.now c.make_room.new.journal.items c.lose-in-SwapReadFault.new.stopped _ e.ring_is c.in-SwapReadFault.ensures.rest
-    (known_now c.self.inside c.args.self.now c.self.invariant c.self.view_is c.requires.asks.ready c.frames-frames.ensures.sound) c.self.view_is
+    (known_now c.self.inside c.args.self.now c.self.invariant c.self.view_is c.requires.asks.ready c.stands.ensures) c.self.view_is
     c.make_room.ensures.same c.lose-in-SwapReadFault.ensures
 
 pub returns-in-SwapWriteFault-clause-lost : goal.returns-in-SwapWriteFault-clause-lost
@@ -263,7 +263,7 @@ returns-in-SwapWriteFault-clause-lost g c =
     came t.ring (g.F.Files.holds c.args.files.now) (g.D.SwapDev.image c.args.swap.now) (g.D.SwapDev.image c.complete_oldest.new.swap)
     (answers.SwapWriteFault c.in-SwapWriteFault.transfer) c.in-SwapWriteFault.ensures.ends (λ i. let x = i in cc) in
     lost c.self.inside c.complete_oldest.new.self e.rest e.oldest c.args.self.now c.make_room.new.journal.items c.lose-in-SwapWriteFault.new.stopped _ e.ring_is c.in-SwapWriteFault.ensures.rest
-    (known_now c.self.inside c.args.self.now c.self.invariant c.self.view_is c.requires.asks.ready c.frames-frames.ensures.sound) c.self.view_is
+    (known_now c.self.inside c.args.self.now c.self.invariant c.self.view_is c.requires.asks.ready c.stands.ensures) c.self.view_is
     c.make_room.ensures.same c.lose-in-SwapWriteFault.ensures
 
 pub returns-in-FileFault-clause-noted : goal.returns-in-FileFault-clause-noted
@@ -274,7 +274,7 @@ returns-in-FileFault-clause-noted g c =
     came t.ring (g.F.Files.holds c.args.files.now) (g.D.SwapDev.image c.args.swap.now) (g.D.SwapDev.image c.complete_oldest.new.swap)
     (answers.FileFault c.in-FileFault.transfer) c.in-FileFault.ensures.ends (λ i. let x = i in cc) in
     let b : Kernel = kernel_by t c.self.inside.journal.items c.self.inside.stopped in
-    let f = before c.self.inside c.args.self.now e.oldest e.rest c.self.invariant c.self.view_is c.requires.asks.ready c.frames-frames.ensures.sound e.ring_is in
+    let f = before c.self.inside c.args.self.now e.oldest e.rest c.self.invariant c.self.view_is c.requires.asks.ready c.stands.ensures e.ring_is in
     subst (λ (s : Standing). OldestAskedUpTo (files_named s.images) (image_of s.kernel.place) s.kernel.place.transfers (g.F.Files.notes c.args.files.now)
     (g.F.Files.notes c.complete_oldest.new.files)) c.self.view_is
     (file_notes t (images_of t) b e.oldest c.in-FileFault.transfer e.rest t.book.size (g.F.Files.notes c.args.files.now) (g.F.Files.notes c.complete_oldest.new.files) f
@@ -290,7 +290,7 @@ returns-in-SwapReadFault-clause-noted g c =
     came t.ring (g.F.Files.holds c.args.files.now) (g.D.SwapDev.image c.args.swap.now) (g.D.SwapDev.image c.complete_oldest.new.swap)
     (answers.SwapReadFault c.in-SwapReadFault.transfer) c.in-SwapReadFault.ensures.ends (λ i. let x = i in cc) in
     let b : Kernel = kernel_by t c.self.inside.journal.items c.self.inside.stopped in
-    let f = before c.self.inside c.args.self.now e.oldest e.rest c.self.invariant c.self.view_is c.requires.asks.ready c.frames-frames.ensures.sound e.ring_is in
+    let f = before c.self.inside c.args.self.now e.oldest e.rest c.self.invariant c.self.view_is c.requires.asks.ready c.stands.ensures e.ring_is in
     swap_notes t (images_of t) b e.oldest c.in-SwapReadFault.transfer e.rest t.book.size (g.F.Files.notes c.args.files.now) (g.F.Files.notes c.complete_oldest.new.files) f
     (swap_read_failed (images_of t) (image_at t) (before_of t) t.book.size t.ring c.in-SwapReadFault.transfer (g.F.Files.holds c.args.files.now)
     (g.D.SwapDev.image c.args.swap.now) (g.D.SwapDev.image c.complete_oldest.new.swap) now.stands.ring c.in-SwapReadFault.ensures.ends)

@@ -24,12 +24,12 @@ use Rattle.machine_state.proofs.machine.Machine.fill_zero.Goals as goal
 
 pub take_frame-token-requires-clause-texts : goal.take_frame-token-requires-clause-texts
 take_frame-token-requires-clause-texts c =
-    texts_here (lists_of c.self.inside.tables) (known_now c.self.inside c.args.self.now c.self.invariant c.self.view_is c.requires.ready c.frames-frames.ensures.sound)
+    texts_here (lists_of c.self.inside.tables) (known_now c.self.inside c.args.self.now c.self.invariant c.self.view_is c.requires.ready c.stands.ensures)
 
 pub seat-requires-clause-not_held : goal.seat-requires-clause-not_held
 seat-requires-clause-not_held c =
     let l = lists_of c.self.inside.tables in
-    let k : Known l = known_now c.self.inside c.args.self.now c.self.invariant c.self.view_is c.requires.ready c.frames-frames.ensures.sound in
+    let k : Known l = known_now c.self.inside c.args.self.now c.self.invariant c.self.view_is c.requires.ready c.stands.ensures in
     let can : CanZero (placement_of l) c.args.page = subst (λ (s : Standing). CanZero s.kernel.place c.args.page) (sym c.self.view_is) c.requires.can in
     not_held l c.take_frame-token.result.number c.take_frame-token.new.self.core.slots c.take_frame-token.new.self.core.free c.args.page k (ap frame_of can.unfilled)
     c.take_frame-token.ensures.slots (head_below l c.take_frame-token.result.number c.take_frame-token.result _ c.take_frame-token.ensures.was)
@@ -45,7 +45,7 @@ step c =
     let r = running c.self.inside c.args.self.now c.self.invariant c.self.view_is c.requires.ready in
     let can : CanZero (placement_of (lists_of t)) c.args.page = subst (λ (s : Standing). CanZero s.kernel.place c.args.page) (sym c.self.view_is) c.requires.can in
     let z : Zeroing t c.take_frame-token.new.self c.seat.new.self w c.take_frame-token.result c.fill_frame-filled.result c.args.page = record {
-      known = known_of c.self.inside c.frames-frames.ensures.sound r;
+      known = known_of c.self.inside c.stands.ensures r;
       took = record {
         free = c.take_frame-token.ensures.free;
         was = c.take_frame-token.ensures.was;

@@ -13,12 +13,12 @@ use Rattle.machine_state.proofs.machine.Machine.flat.Goals as goal
 
 pub set_regs-requires : goal.set_regs-requires
 set_regs-requires c =
-    let r = ready_of c.self.inside c.args.self.now c.args.pid c.args.e c.args.change c.self.invariant c.self.view_is c.requires.running.runs c.requires.can c.frames-frames.ensures.sound in
+    let r = ready_of c.self.inside c.args.self.now c.args.pid c.args.e c.args.change c.self.invariant c.self.view_is c.requires.running.runs c.requires.can c.stands.ensures in
     flat_record c.self.inside.tables c.self.inside.journal.items c.self.inside.stopped c.args.pid c.args.change r.can.ready
 
 pub apply-applied-requires : goal.apply-applied-requires
 apply-applied-requires c =
-    let r = ready_of c.self.inside c.args.self.now c.args.pid c.args.e c.args.change c.self.invariant c.self.view_is c.requires.running.runs c.requires.can c.frames-frames.ensures.sound in
+    let r = ready_of c.self.inside c.args.self.now c.args.pid c.args.e c.args.change c.self.invariant c.self.view_is c.requires.running.runs c.requires.can c.stands.ensures in
     flat_may c.self.inside.tables c.set_regs.new.self c.self.inside.journal.items c.self.inside.stopped c.args.pid c.args.regs.now c.args.e c.args.change r c.set_regs.ensures
 
 made : (c : goal.After-push_reserved)
@@ -30,7 +30,7 @@ made c =
     let journal : c.push_reserved.new.self.items ≡ c.self.inside.journal.items ++ c.args.e ∷ [] =
     c.push_reserved.ensures.items ∙ ap (λ (j : List Entry). j ++ c.args.e ∷ []) c.make_room.ensures.same in
     made_by c.self.inside.tables c.set_regs.new.self c.apply-applied.new.tables c.self.inside.journal.items _ c.self.inside.stopped _ c.args.pid c.args.regs.now c.args.e c.args.change _
-    (ready_of c.self.inside c.args.self.now c.args.pid c.args.e c.args.change c.self.invariant c.self.view_is c.requires.running.runs c.requires.can c.frames-frames.ensures.sound)
+    (ready_of c.self.inside c.args.self.now c.args.pid c.args.e c.args.change c.self.invariant c.self.view_is c.requires.running.runs c.requires.can c.stands.ensures)
     c.set_regs.ensures (made_of c.apply-applied.result _ c.in_ok-or_break_off.ensures.made c.apply-applied.ensures.applied) (omega (arith, same, c.len.ensures)) journal
     c.in_ok-or_break_off.ensures.same (pushed _ _ _ _ _ refl journal c.in_ok-make_room.ensures.ok.0).within
 

@@ -13,14 +13,14 @@ pub bytes-requires : goal.bytes-requires
 bytes-requires c =
     let t : Tables = c.self.inside.tables in
     let now = stands_now c.self.inside c.args.self.now c.self.invariant c.self.view_is c.requires.running in
-    let k : Known (lists_of t) = known_by t c.self.inside.journal.items c.self.inside.stopped c.frames-frames.ensures.sound now.stands in
+    let k : Known (lists_of t) = known_by t c.self.inside.journal.items c.self.inside.stopped c.stands.ensures now.stands in
     held_resident (lists_of t) c.args.frame k (subst (λ (s : Standing). IsHeld s.kernel.place c.args.frame) (sym c.self.view_is) c.requires.held)
 
 pub returns-clause-bytes : goal.returns-clause-bytes
 returns-clause-bytes c =
     let t : Tables = c.self.inside.tables in
     let now = stands_now c.self.inside c.args.self.now c.self.invariant c.self.view_is c.requires.running in
-    let k : Known (lists_of t) = known_by t c.self.inside.journal.items c.self.inside.stopped c.frames-frames.ensures.sound now.stands in
+    let k : Known (lists_of t) = known_by t c.self.inside.journal.items c.self.inside.stopped c.stands.ensures now.stands in
     let held : List ℕ = c.bytes.result.now in
     let is : held ≡ frame_bytes c.args.self.now.kernel c.args.frame =
     c.bytes.ensures.value ∙ held_bytes (lists_of t) c.args.frame k (subst (λ (s : Standing). IsHeld s.kernel.place c.args.frame) (sym c.self.view_is) c.requires.held)
@@ -31,7 +31,7 @@ pub returns-clause-whole : goal.returns-clause-whole
 returns-clause-whole c =
     let t : Tables = c.self.inside.tables in
     let now = stands_now c.self.inside c.args.self.now c.self.invariant c.self.view_is c.requires.running in
-    let k : Known (lists_of t) = known_by t c.self.inside.journal.items c.self.inside.stopped c.frames-frames.ensures.sound now.stands in
+    let k : Known (lists_of t) = known_by t c.self.inside.journal.items c.self.inside.stopped c.stands.ensures now.stands in
     let held : List ℕ = c.bytes.result.now in
     let is : held ≡ frame_bytes c.args.self.now.kernel c.args.frame =
     c.bytes.ensures.value ∙ held_bytes (lists_of t) c.args.frame k (subst (λ (s : Standing). IsHeld s.kernel.place c.args.frame) (sym c.self.view_is) c.requires.held)

@@ -25,7 +25,7 @@ pub move_hands-requires : goal.move_hands-requires
 move_hands-requires c =
     let r = running c.self.inside c.args.self.now c.self.invariant c.self.view_is c.requires.ready in
     let t : Tables = c.self.inside.tables in
-    let k : Known (lists_of t) = known_of c.self.inside c.frames-frames.ensures.sound r in
+    let k : Known (lists_of t) = known_of c.self.inside c.stands.ensures r in
     let can : CanMove (placement_of (lists_of t)) c.args.locked.now c.args.lo c.args.n =
     subst (λ (s : Standing). CanMove s.kernel.place c.args.locked.now c.args.lo c.args.n) (sym c.self.view_is) c.requires.can in
     record {

@@ -13,6 +13,6 @@ returns c =
     let t : Tables = c.self.inside.tables in
     let now = stands_now c.self.inside c.args.self.now c.self.invariant c.self.view_is c.requires.running.runs in
     c.is_zero.ensures
-    ∙ sym (blank_is (lists_of t) c.args.page (known_by t c.self.inside.journal.items c.self.inside.stopped c.frames-frames.ensures.sound now.stands)
+    ∙ sym (blank_is (lists_of t) c.args.page (known_by t c.self.inside.journal.items c.self.inside.stopped c.stands.ensures now.stands)
     (subst (λ (s : Standing). IsThere s.kernel.place c.args.page) (sym c.self.view_is) c.requires.there))
     ∙ ap (λ (s : Standing). is_blank (state_of s.kernel.place c.args.page) (filling_of s.kernel.place c.args.page)) c.self.view_is

@@ -36,7 +36,7 @@ pub returns-clause-laid_out : goal.returns-clause-laid_out
 returns-clause-laid_out c =
     let t : Tables = c.self.inside.tables in
     let now = stands_now c.self.inside c.args.self.now c.self.invariant c.self.view_is c.requires.running in
-    let k : Known (lists_of t) = known_by t c.self.inside.journal.items c.self.inside.stopped c.frames-frames.ensures.sound now.stands in
+    let k : Known (lists_of t) = known_by t c.self.inside.journal.items c.self.inside.stopped c.stands.ensures now.stands in
     let r = c.layout_at.result in
     let running : c.self.inside.stopped ≡ false = ap (λ (s : Standing). s.kernel.stopped) c.self.view_is ∙ c.requires.running in
     let lengths : HasLengths t.spaces r.index r.image r.text_len r.data_len r.stack_len =

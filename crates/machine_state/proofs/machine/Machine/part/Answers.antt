@@ -15,7 +15,7 @@ pub make_part-requires : goal.make_part-requires
 make_part-requires c =
     let r = running c.self.inside c.args.self.now c.self.invariant c.self.view_is c.requires.ready in
     record {
-      known = known_now c.self.inside c.args.self.now c.self.invariant c.self.view_is c.requires.ready c.frames-frames.ensures.sound;
+      known = known_now c.self.inside c.args.self.now c.self.invariant c.self.view_is c.requires.ready c.stands.ensures;
       can = subst (λ (s : Standing). PartComes s.kernel.place c.args.part) (sym c.self.view_is) c.requires.can;
       blocks = all_blocks c.self.inside.tables.book.size (kernel_by c.self.inside.tables c.self.inside.journal.items c.self.inside.stopped) r.sound;
     }

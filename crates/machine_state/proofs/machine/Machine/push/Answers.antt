@@ -23,12 +23,12 @@ use Rattle.machine_state.proofs.machine.Machine.push.Goals as goal
 
 pub put_out-requires-clause-known : goal.put_out-requires-clause-known
 put_out-requires-clause-known c =
-    known_now c.self.inside c.args.self.now c.self.invariant c.self.view_is c.requires.ready c.frames-frames.ensures.sound
+    known_now c.self.inside c.args.self.now c.self.invariant c.self.view_is c.requires.ready c.stands.ensures
 
 pub put_out-requires-clause-may : goal.put_out-requires-clause-may
 put_out-requires-clause-may c =
     let t : Tables = c.self.inside.tables in
-    let k : Known (lists_of t) = known_now c.self.inside c.args.self.now c.self.invariant c.self.view_is c.requires.ready c.frames-frames.ensures.sound in
+    let k : Known (lists_of t) = known_now c.self.inside c.args.self.now c.self.invariant c.self.view_is c.requires.ready c.stands.ensures in
     let can : CanPush (placement_of (lists_of t)) c.args.lo c.args.n = subst (λ (s : Standing). CanPush s.kernel.place c.args.lo c.args.n) (sym c.self.view_is) c.requires.can in
     let d : dirty_shown t.spaces t.texts c.args.lo ≡ is_dirty (placement_of (lists_of t)) c.args.lo = dirty_is (lists_of t) c.args.lo k.differ (push_there (lists_of t) c.args.lo c.args.n k can) in
     subst (λ (n : ℕ). MayPutOut (placement_of (lists_of t)) c.args.lo n c.written_of-written.result) (sym c.number_of.ensures)
@@ -48,7 +48,7 @@ step c =
     let t : Tables = c.self.inside.tables in
     let p : Placement = placement_of (lists_of t) in
     let r = running c.self.inside c.args.self.now c.self.invariant c.self.view_is c.requires.ready in
-    let k : Known (lists_of t) = known_of c.self.inside c.frames-frames.ensures.sound r in
+    let k : Known (lists_of t) = known_of c.self.inside c.stands.ensures r in
     let can : CanPush p c.args.lo c.args.n = subst (λ (s : Standing). CanPush s.kernel.place c.args.lo c.args.n) (sym c.self.view_is) c.requires.can in
     let dirty : Bool = dirty_shown t.spaces t.texts c.args.lo in
     let d : dirty ≡ is_dirty p c.args.lo = dirty_is (lists_of t) c.args.lo k.differ (push_there (lists_of t) c.args.lo c.args.n k can) in

@@ -32,7 +32,7 @@ use Rattle.machine_state.proofs.machine.Machine.reclaim.Goals as goal
 pub frame_of-frame-requires : goal.frame_of-frame-requires
 frame_of-frame-requires c =
     let t : Tables = c.self.inside.tables in
-    let k : Known (lists_of t) = known_now c.self.inside c.args.self.now c.self.invariant c.self.view_is c.requires.ready c.frames-frames.ensures.sound in
+    let k : Known (lists_of t) = known_now c.self.inside c.args.self.now c.self.invariant c.self.view_is c.requires.ready c.stands.ensures in
     let can : CanReclaim (placement_of (lists_of t)) c.args.page = subst (λ (s : Standing). CanReclaim s.kernel.place c.args.page) (sym c.self.view_is) c.requires.can in
     let i : InvalidEntry (lists_of t) c.args.page can.frame = invalid_entry (lists_of t) c.args.page can.frame k can.shared can.invalid in
     subst (λ (o : Option Place). IsTrue (is_frame o)) (sym i.entry) refl
@@ -40,14 +40,14 @@ frame_of-frame-requires c =
 pub is_dirty-dirty-requires : goal.is_dirty-dirty-requires
 is_dirty-dirty-requires c i v e =
     let t : Tables = c.self.inside.tables in
-    let k : Known (lists_of t) = known_now c.self.inside c.args.self.now c.self.invariant c.self.view_is c.requires.ready c.frames-frames.ensures.sound in
+    let k : Known (lists_of t) = known_now c.self.inside c.args.self.now c.self.invariant c.self.view_is c.requires.ready c.stands.ensures in
     let can : CanReclaim (placement_of (lists_of t)) c.args.page = subst (λ (s : Standing). CanReclaim s.kernel.place c.args.page) (sym c.self.view_is) c.requires.can in
     text_low (lists_of t) i v k (subst (IsThere (placement_of (lists_of t))) e (page_in (placement_of (lists_of t)) c.args.page can.frame (ap frame_of can.invalid)))
 
 pub revive-requires : goal.revive-requires
 revive-requires c =
     let t : Tables = c.self.inside.tables in
-    let k : Known (lists_of t) = known_now c.self.inside c.args.self.now c.self.invariant c.self.view_is c.requires.ready c.frames-frames.ensures.sound in
+    let k : Known (lists_of t) = known_now c.self.inside c.args.self.now c.self.invariant c.self.view_is c.requires.ready c.stands.ensures in
     let can : CanReclaim (placement_of (lists_of t)) c.args.page = subst (λ (s : Standing). CanReclaim s.kernel.place c.args.page) (sym c.self.view_is) c.requires.can in
     let i : InvalidEntry (lists_of t) c.args.page can.frame = invalid_entry (lists_of t) c.args.page can.frame k can.shared can.invalid in
     let frame : c.frame_of-frame.result.0 ≡ can.frame = c.frame_of-frame.ensures.frame ∙ ap frame_named i.entry in
@@ -71,7 +71,7 @@ step c =
     let w : Tables = c.revive.new.self in
     let k : Kernel = kernel_by t c.self.inside.journal.items c.self.inside.stopped in
     let r = running c.self.inside c.args.self.now c.self.invariant c.self.view_is c.requires.ready in
-    let known : Known (lists_of t) = known_of c.self.inside c.frames-frames.ensures.sound r in
+    let known : Known (lists_of t) = known_of c.self.inside c.stands.ensures r in
     let can : CanReclaim (placement_of (lists_of t)) c.args.page = subst (λ (s : Standing). CanReclaim s.kernel.place c.args.page) (sym c.self.view_is) c.requires.can in
     let i : InvalidEntry (lists_of t) c.args.page can.frame = invalid_entry (lists_of t) c.args.page can.frame known can.shared can.invalid in
     let frame : c.frame_of-frame.result.0 ≡ can.frame = c.frame_of-frame.ensures.frame ∙ ap frame_named i.entry in

@@ -6,10 +6,10 @@ use Rattle.table_steps.specs.Views.{ShowsSpace}
 use Rattle.table_steps.specs.Tables.{Tables}
 use Rattle.table_steps.specs.Machine.{Standing, lists_of}
 use Rattle.table_steps.specs.View.{placement_of}
-use Rattle.machine_state.specs.Showing.{ShowsCore}
+use Rattle.machine_state.specs.Showing.{ShowsCore, IsShown}
 use Rattle.machine_state.proofs.Standings.{stands_now}
 use Rattle.table_steps.proofs.UserFrames.{known_by, stands_there}
-use Rattle.machine_state.proofs.Showings.{space_shows, space_number_is, space_there, space_image}
+use Rattle.machine_state.proofs.Showings.{core_shows, space_shows, space_number_is, space_there, space_image}
 use Rattle.machine_state.proofs.machine.Machine.space.Goals as goal
 
 pub returns-in_err-index-clause-there : goal.returns-in_err-index-clause-there
@@ -46,7 +46,18 @@ pub returns-clause-shows : goal.returns-clause-shows
 returns-clause-shows c =
     let t : Tables = c.self.inside.tables in
     let now = stands_now c.self.inside c.args.self.now c.self.invariant c.self.view_is c.requires.runs in
-    let k = known_by t c.self.inside.journal.items c.self.inside.stopped c.frames-frames.ensures.sound now.stands in
+    let k = known_by t c.self.inside.journal.items c.self.inside.stopped c.stands.ensures now.stands in
     subst (λ (s : Standing). (core : Frames) → ShowsCore s.kernel.place core → ShowsSpace s.kernel.place core c.at-space.result.now) c.self.view_is
-    (space_shows (lists_of t) c.in_ok-index.index c.at-space.result.now k c.at-space.ensures.rising c.at-space.ensures.space
-    (sym c.text_pages-pages.ensures.count ∙ c.text_pages-pages.ensures.of_image))
+    (space_shows (lists_of t) c.in_ok-index.index c.at-space.result.now k c.at-space.ensures.rising c.at-space.ensures.space c.fits.ensures.text)
+
+pub returns-clause-shown : goal.returns-clause-shown
+returns-clause-shown c =
+    let t : Tables = c.self.inside.tables in
+    let now = stands_now c.self.inside c.args.self.now c.self.invariant c.self.view_is c.requires.runs in
+    let k = known_by t c.self.inside.journal.items c.self.inside.stopped c.stands.ensures now.stands in
+    subst (λ (s : Standing). IsShown s.kernel.place c.at-space.result.now) c.self.view_is (record {
+      core = t.core;
+      frames = core_shows (lists_of t) k;
+      space = space_shows (lists_of t) c.in_ok-index.index c.at-space.result.now k c.at-space.ensures.rising c.at-space.ensures.space c.fits.ensures.text t.core
+          (core_shows (lists_of t) k);
+    })

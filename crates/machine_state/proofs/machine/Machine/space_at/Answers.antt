@@ -1,4 +1,4 @@
-use Rattle.std.proofs.Common.{◌≡◌, ◌<◌, Some, map, length, slice_get, sym, ◌∙◌, subst}
+use Rattle.std.proofs.Common.{◌≡◌, ◌<◌, Some, map, length, slice_get, sym, subst}
 use Rattle.page_model.specs.Placement.{space_number}
 use Rattle.table_steps.specs.Tables.{Tables}
 use Rattle.table_steps.specs.Known.{Known}
@@ -17,8 +17,7 @@ pub returns : goal.returns
 returns c sid number =
     let t : Tables = c.self.inside.tables in
     let now = stands_now c.self.inside c.args.self.now c.self.invariant c.self.view_is c.requires.running in
-    let k : Known (lists_of t) = known_by t c.self.inside.journal.items c.self.inside.stopped c.frames-frames.ensures.sound now.stands in
-    let whole = sym c.text_pages-pages.ensures.count ∙ c.text_pages-pages.ensures.of_image in
+    let k : Known (lists_of t) = known_by t c.self.inside.journal.items c.self.inside.stopped c.stands.ensures now.stands in
     let known = subst (λ (s : Standing). slice_get (map space_number s.kernel.place.spaces) c.args.index ≡ Some sid) (sym c.self.view_is) number in
     subst (λ (s : Standing). NamesFrames s.kernel.place sid c.at-space.result.now) c.self.view_is
-    (names_frames (lists_of t) c.args.index c.at-space.result.now k c.at-space.ensures.rising c.at-space.ensures.space sid whole known)
+    (names_frames (lists_of t) c.args.index c.at-space.result.now k c.at-space.ensures.rising c.at-space.ensures.space sid c.fits.ensures.text known)

@@ -18,7 +18,7 @@ is_dirty-requires c =
     let q = c.args.page in
     let f = c.args.frame in
     let can : CanWrite m.tables q f m.journal.items m.stopped =
-    can_write m c.args.self.now q f c.self.invariant c.self.view_is c.requires.running c.frames-frames.ensures.sound c.requires.valid c.requires.writable in
+    can_write m c.args.self.now q f c.self.invariant c.self.view_is c.requires.running c.stands.ensures c.requires.valid c.requires.writable in
     resident_then m.tables q f m.journal.items m.stopped can
 
 pub put_bytes-requires : goal.put_bytes-requires
@@ -27,7 +27,7 @@ put_bytes-requires c =
     let q = c.args.page in
     let f = c.args.frame in
     let can : CanWrite m.tables q f m.journal.items m.stopped =
-    can_write m c.args.self.now q f c.self.invariant c.self.view_is c.requires.running c.frames-frames.ensures.sound c.requires.valid c.requires.writable in
+    can_write m c.args.self.now q f c.self.invariant c.self.view_is c.requires.running c.stands.ensures c.requires.valid c.requires.writable in
     record { resident = resident_then m.tables q f m.journal.items m.stopped can; within = c.requires.within }
 
 pub invariant_of-self : goal.invariant_of-self
@@ -38,7 +38,7 @@ invariant_of-self c =
     let bytes = c.args.bytes.now in
     let u : Tables = record m.tables { core = c.put_bytes.new.self } in
     let can : CanWrite m.tables q f m.journal.items m.stopped =
-    can_write m c.args.self.now q f c.self.invariant c.self.view_is c.requires.running c.frames-frames.ensures.sound c.requires.valid c.requires.writable in
+    can_write m c.args.self.now q f c.self.invariant c.self.view_is c.requires.running c.stands.ensures c.requires.valid c.requires.writable in
     let dirty : is_slot_dirty (slot_at m.tables.core.slots f) ≡ true = sym c.is_dirty.ensures ∙ c.if-is_dirty.true in
     let wrote : WroteBytes m.tables u q f c.args.at bytes =
     wrote_again m.tables c.put_bytes.new.self q f c.args.at bytes m.journal.items m.stopped can dirty c.put_bytes.ensures.free c.put_bytes.ensures.slots in
@@ -52,7 +52,7 @@ returns-then-is_dirty c =
     let bytes = c.args.bytes.now in
     let u : Tables = record m.tables { core = c.put_bytes.new.self } in
     let can : CanWrite m.tables q f m.journal.items m.stopped =
-    can_write m c.args.self.now q f c.self.invariant c.self.view_is c.requires.running c.frames-frames.ensures.sound c.requires.valid c.requires.writable in
+    can_write m c.args.self.now q f c.self.invariant c.self.view_is c.requires.running c.stands.ensures c.requires.valid c.requires.writable in
     let dirty : is_slot_dirty (slot_at m.tables.core.slots f) ≡ true = sym c.is_dirty.ensures ∙ c.if-is_dirty.true in
     let wrote : WroteBytes m.tables u q f c.args.at bytes =
     wrote_again m.tables c.put_bytes.new.self q f c.args.at bytes m.journal.items m.stopped can dirty c.put_bytes.ensures.free c.put_bytes.ensures.slots in
@@ -64,7 +64,7 @@ write_bytes-requires c =
     let q = c.args.page in
     let f = c.args.frame in
     let can : CanWrite m.tables q f m.journal.items m.stopped =
-    can_write m c.args.self.now q f c.self.invariant c.self.view_is c.requires.running c.frames-frames.ensures.sound c.requires.valid c.requires.writable in
+    can_write m c.args.self.now q f c.self.invariant c.self.view_is c.requires.running c.stands.ensures c.requires.valid c.requires.writable in
     let k : Known (lists_of m.tables) = known_then m.tables q f m.journal.items m.stopped can in
     let i : InFrame (lists_of m.tables) q f = frame_then m.tables q f m.journal.items m.stopped can in
     record {
@@ -85,7 +85,7 @@ invariant_of-self-2 c =
     let q = c.args.page in
     let f = c.args.frame in
     let can : CanWrite m.tables q f m.journal.items m.stopped =
-    can_write m c.args.self.now q f c.self.invariant c.self.view_is c.requires.running c.frames-frames.ensures.sound c.requires.valid c.requires.writable in
+    can_write m c.args.self.now q f c.self.invariant c.self.view_is c.requires.running c.stands.ensures c.requires.valid c.requires.writable in
     bytes_run m c.args.self.now c.write_bytes.new.self q f c.args.at c.args.bytes.now c.self.invariant c.self.view_is c.requires.running can c.requires.some c.write_bytes.ensures
 
 pub returns : goal.returns
@@ -94,5 +94,5 @@ returns c =
     let q = c.args.page in
     let f = c.args.frame in
     let can : CanWrite m.tables q f m.journal.items m.stopped =
-    can_write m c.args.self.now q f c.self.invariant c.self.view_is c.requires.running c.frames-frames.ensures.sound c.requires.valid c.requires.writable in
+    can_write m c.args.self.now q f c.self.invariant c.self.view_is c.requires.running c.stands.ensures c.requires.valid c.requires.writable in
     bytes_ran m c.args.self.now c.write_bytes.new.self q f c.args.at c.args.bytes.now c.self.view_is can c.requires.valid c.requires.some c.requires.within c.write_bytes.ensures

@@ -1,6 +1,6 @@
 use Rattle.std.proofs.Common.{◌+◌, Some, sym, ap, ◌∙◌, arith}
 use Rattle.proc_table.proofs.SlotLemmas.{length-records_of}
-use Rattle.proc_table.proofs.KeyLemmas.{AreKeysApart-after, Changes-after, IsKeyed-vacant}
+use Rattle.proc_table.proofs.KeyLemmas.{Changes-after, IsKeyed-vacant, IsTable-from_sound, sound_taken}
 use Rattle.proc_table.proofs.table.ProcTable.add.Goals as goal
 
 pub returns-then-len-eq-ROOM-clause-answer : goal.returns-then-len-eq-ROOM-clause-answer
@@ -11,13 +11,18 @@ returns-then-len-eq-ROOM-clause-answer c =
 pub invariant_of-self : goal.invariant_of-self
 invariant_of-self c =
     let absent = rw (← c.self.view_is) at c.requires in
-    record {
-      few = let few = c.self.invariant.few in omega (arith, c.insert_reserved.ensures.len, few, c.if-len-eq-ROOM.false, c.len.ensures);
-      room = let room = c.self.invariant.room in omega (arith, c.insert_reserved.ensures.capacity, room);
-      apart =
-          AreKeysApart-after c.self.inside.records c.insert_reserved.new.self c.insert_reserved.result c.args.p.pid (Some c.args.p)
-          c.insert_reserved.ensures.updates (IsKeyed-vacant _ _ _ c.insert_reserved.ensures.was_vacant absent) c.self.invariant.apart;
-    }
+    sound_taken c.self.inside.records c.insert_reserved.new.self c.insert_reserved.result c.len.result c.args.p c.self.invariant c.len.ensures c.if-len-eq-ROOM.false absent
+    c.insert_reserved.ensures.was_vacant c.insert_reserved.ensures.updates c.insert_reserved.ensures.len c.insert_reserved.ensures.capacity
+
+pub returns-then-len-eq-ROOM-clause-sound : goal.returns-then-len-eq-ROOM-clause-sound
+returns-then-len-eq-ROOM-clause-sound c = rw (← c.self.view_is) (IsTable-from_sound c.self.inside.records c.self.invariant)
+
+pub returns-clause-sound : goal.returns-clause-sound
+returns-clause-sound c =
+    let absent = rw (← c.self.view_is) at c.requires in
+    IsTable-from_sound c.insert_reserved.new.self
+    (sound_taken c.self.inside.records c.insert_reserved.new.self c.insert_reserved.result c.len.result c.args.p c.self.invariant c.len.ensures c.if-len-eq-ROOM.false absent
+    c.insert_reserved.ensures.was_vacant c.insert_reserved.ensures.updates c.insert_reserved.ensures.len c.insert_reserved.ensures.capacity)
 
 pub returns-clause-answer : goal.returns-clause-answer
 returns-clause-answer c =

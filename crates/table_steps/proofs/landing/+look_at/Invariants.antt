@@ -1,5 +1,0 @@
-use Rattle.std.proofs.Common.{length}
-use Rattle.table_steps.proofs.landing.+look_at.Given as goal
-
-abbrev pub decreases-look_at : goal.decreases-look_at
-decreases-look_at l = length l.parts.now
