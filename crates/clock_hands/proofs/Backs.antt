@@ -1,5 +1,5 @@
 -- The write that the back hand begins.
-use Rattle.std.proofs.Common.{◌≡◌, ◌≢◌, inl, inr, ℕ, ◌/◌, ◌<◌, true, false, List, length, Option, Some, None, sym, ap, ◌∙◌, arith}
+use Rattle.std.proofs.Common.{◌≡◌, ◌≢◌, inl, inr, ℕ, ◌/◌, ◌<◌, Bool, true, false, List, length, Option, Some, None, refl, sym, ap, ◌∙◌, arith}
 use Rattle.std.proofs.lemmas.Option.{same_Some}
 use Rattle.vm_facts.specs.declared.page.Page.{Page}
 use Rattle.vm_facts.specs.Lists.{times}
@@ -79,6 +79,14 @@ module _ (p : Placement) (locked : List Page) (o : OwnsFrames p) (h : HandsStand
 
   pub back_clean : (q : Page) → IsUnlocked p locked p.back (Some q) → is_valid (state_of p q) ≡ false → is_dirty p q ≡ false → IsToWrite p locked None
   back_clean q u v d = run_seated q u v ∙ ap (write_by (expire p locked) locked q) d
+
+  -- a page that isn't dirty, valid or not
+  pub back_unmarked : (q : Page) → IsUnlocked p locked p.back (Some q) → is_dirty p q ≡ false → IsToWrite p locked None
+  back_unmarked q u d = go (is_valid (state_of p q)) refl
+    where
+      go : (b : Bool) → is_valid (state_of p q) ≡ b → IsToWrite p locked None
+      go true v = back_valid q u v
+      go false v = back_clean q u v d
 
   pub back_writes : (q : Page) → IsUnlocked p locked p.back (Some q) → is_valid (state_of p q) ≡ false → is_dirty p q ≡ true → IsToWrite p locked (Some q)
   back_writes q u v d = (run_seated q u v ∙ ap (write_by (expire p locked) locked q) d, u.0)

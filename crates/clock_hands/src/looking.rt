@@ -63,7 +63,8 @@ pub(crate) fn expiring(m: &Machine, locked: &[Page]) -> Option<Page>
     if is_valid(m, page) { Some(page) } else { None }
 }
 
-/// The page whose write the back hand's next move begins; None where it begins none.
+/// The page whose write the back hand's next move begins; None where it begins none. The entry of a page is looked at only where the
+/// frame's mark says that it is dirty.
 pub(crate) fn to_write(m: &Machine, locked: &[Page]) -> Option<Page>
     requires running { IsRunning m.now }
     requires quarter { 0 < length m.now.kernel.place.holds / 4 }
@@ -71,14 +72,10 @@ pub(crate) fn to_write(m: &Machine, locked: &[Page]) -> Option<Page>
 {
     let back = m.hands().1;
     let page = unlocked_page(m, back, locked)?;
-    if is_valid(m, page) {
+    if !m.core().is_dirty(back) {
         return None;
     }
-    if m.core().is_dirty(back) {
-        Some(page)
-    } else {
-        None
-    }
+    if is_valid(m, page) { None } else { Some(page) }
 }
 
 /// The run of the write that the next move begins: its lowest page and its count, which is 0 where it begins none.

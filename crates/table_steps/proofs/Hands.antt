@@ -63,7 +63,7 @@ use Rattle.kernel_tables.proofs.Marks.{placed_mark, resident_page, resident_mark
 use Rattle.text_table.specs.Texts.{Text as SharedText}
 use Rattle.space_map.specs.Space.{Places}
 use Rattle.kernel_tables.specs.Steps.{dirty_shown}
-use Rattle.page_laws.proofs.Moves.Taken.{IsTaken, taken_is, taken_none, taken_state, taken_seat}
+use Rattle.page_laws.proofs.Moves.Taken.{IsTaken, is_taken, taken_is, taken_none, taken_state, taken_seat}
 
 -- What the definitions say, by cases.
 
@@ -269,17 +269,33 @@ idle_back t locked q k e = go (slot_at t.slots t.back) refl
     go (tokens.Resident token w dirty) h =
         at token w dirty (is_among w locked) h refl (sym (ap (under_by t.spaces locked) h) ∙ e)
 
+-- the page of the run of a write that the back hand begins
+pub record WritesBack (t : Lists) (locked : List Page) : Type 0 where
+  pub page : Page
+  pub idle : IdleBack t locked page
+
+back_invalid : (t : Lists) (q : Page) (r : Resides t q t.back) (v : Bool) → r.valid ≡ v → state_of (placement_of t) q ≡ Invalid t.back → r.valid ≡ false
+back_invalid t q r true e i = absurd (let x : Valid t.back ≡ Invalid t.back = sym (resides_state t q t.back r ∙ ap (λ (y : Bool). cond y (Valid t.back) (Invalid t.back)) e) ∙ i in cc)
+back_invalid t q r false e i = e
+
+pub writes_back : (t : Lists) (locked : List Page) (lo n : ℕ) → Known t → IsRunOf (back_run (placement_of t) locked) lo n → n ≢ 0 → WritesBack t locked
+writes_back t locked lo n k run some = go (taken (placement_of t) locked) refl run
+  where
+    go : (o : Option Page) → taken (placement_of t) locked ≡ o → IsRunOf (write_taken (placement_of t) locked o) lo n → WritesBack t locked
+    go None e none = absurd (some none)
+    go (Some q) e has =
+        let g : IsTaken (placement_of t) locked q = is_taken (placement_of t) locked q e in
+        let i : state_of (placement_of t) q ≡ Invalid t.back = taken_state (placement_of t) locked q k.owns g in
+        let r : Resides t q t.back = seat_resides t q t.back k (record { state = inr (i, g.off) }) in
+        record { page = q; idle = record { resides = r; invalid = back_invalid t q r r.valid refl i; free = g.unlocked } }
+
 pub sweep_rests : (t : Lists) (locked : List Page) → Known t → ((q : Page) → under t locked t.back ≡ Some (q, false) → ⊥)
     → sweep (placement_of t) locked ≡ placement_of t
 sweep_rests t locked k never = ap (sweep_taken (placement_of t) locked) (taken_none (placement_of t) locked (λ q g.
     let i : state_of (placement_of t) q ≡ Invalid t.back = taken_state (placement_of t) locked q k.owns g in
     let r : Resides t q t.back = seat_resides t q t.back k (record { state = inr (i, g.off) }) in
     never q (ap (under_by t.spaces locked) r.slot ∙ ap (λ (x : Bool). under_if x q (valid_named (entry_in t.spaces q))) g.unlocked ∙ ap (λ (o : Option Place). Some (q, valid_named o)) r.entry
-    ∙ ap (λ (b : Bool). Some (q, b)) (invalid r r.valid refl i))))
-  where
-    invalid : {q : Page} (r : Resides t q t.back) (v : Bool) → r.valid ≡ v → state_of (placement_of t) q ≡ Invalid t.back → r.valid ≡ false
-    invalid {q} r true e i = absurd (let x : Valid t.back ≡ Invalid t.back = sym (resides_state t q t.back r ∙ ap (λ (y : Bool). cond y (Valid t.back) (Invalid t.back)) e) ∙ i in cc)
-    invalid {q} r false e i = e
+    ∙ ap (λ (b : Bool). Some (q, b)) (back_invalid t q r r.valid refl i))))
 
 pub record Puts (p : Placement) (q : Page) (lo n : ℕ) (next : Placement) : Type 0 where
   pub may : MayPutOut p q lo n

@@ -167,9 +167,9 @@ fn expire(tables: &mut Tables, locked: &[Page])
     }
 }
 
-// The back hand begins the write of a run of its page's segment, or frees the frame of a page that is invalid
-// there and clean. `parts` is empty and has room for the run.
-fn sweep(tables: &mut Tables, locked: &[Page], parts: Vec<Outbound>, lo: u32, n: u32)
+// The back hand frees the frame of a page that is invalid there and clean, or begins the write of a run of its page's segment, by a
+// look at the page's entry. `parts` is empty and has room for the run.
+fn sweep_by_look(tables: &mut Tables, locked: &[Page], parts: Vec<Outbound>, lo: u32, n: u32)
     requires known { Known (lists_of tables.old) }
     requires run { IsRunOf (back_run (placement_of (lists_of tables.old)) locked.now) lo n }
     requires room { 0 < n → length (lists_of tables.old).transfers < 16 }
@@ -183,6 +183,26 @@ fn sweep(tables: &mut Tables, locked: &[Page], parts: Vec<Outbound>, lo: u32, n:
         Some((_page, true)) => parts.destroy_empty(),
         None => parts.destroy_empty(),
     }
+}
+
+// The back hand's part of a move. A run of a write is that of the page under the hand, whose entry was looked at for it: it is invalid
+// and not locked, and isn't looked at again.
+fn sweep(tables: &mut Tables, locked: &[Page], parts: Vec<Outbound>, lo: u32, n: u32)
+    requires known { Known (lists_of tables.old) }
+    requires run { IsRunOf (back_run (placement_of (lists_of tables.old)) locked.now) lo n }
+    requires room { 0 < n → length (lists_of tables.old).transfers < 16 }
+    requires blocks { HasBlocks (placement_of (lists_of tables.old)) tables.old.book.holdings }
+    requires empty { parts.items ≡ [] }
+    requires capacity { n ≤ vec_capacity parts }
+    ensures { MovedOn tables.old tables.new (sweep (placement_of (lists_of tables.old)) locked.now) }
+{
+    if n == 0 {
+        return sweep_by_look(tables, locked, parts, lo, n);
+    }
+    let Whose::Resident(page) = tables.core.owner(tables.back) else {
+        unreachable!()
+    };
+    put_out(tables, parts, page, lo, n);
 }
 
 // Both hands go on by one frame.
