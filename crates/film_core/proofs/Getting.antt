@@ -13,25 +13,57 @@ use Rattle.run_model.specs.Next.{last_turned}
 use Rattle.step_units.specs.Stepped.{StepLeads, AtSome, LeadsFrom, StopsFrom}
 use Rattle.vm_core.specs.Running.{CountsTo}
 use Rattle.film_core.specs.Films.{IsInOrder}
-use Rattle.film_core.specs.Ways.{WayAt, RestAt, StaysOn, OverAt, GoesAt, StepSettled, RestDone, RunsOut}
+use Rattle.film_core.specs.Ways.{WayAt, RestAt, UnderAt, StaysOn, OverAt, GoesAt, StepSettled, RestDone, RunsOut}
 use Rattle.film_core.proofs.Composing.{then_lead, then_stop, then_out, leads_reached, reached_below, stands_then, leads_longer}
 
-pub going_fits : (m : Standing) (last : Mark) (schedule : List Event) (taken counted : ℕ) (holds : Option (List NamedFile)) (i : Option SwapImage)
-    → AtSome (GoesAt m last schedule taken counted holds i) → counted + 1 < 2 ^ 32
-going_fits m last schedule taken counted holds i (A, s, image, at) =
+-- what is so under a mark, whatever the lines are
+under_at : (A : Inputs) (s : State) (m : Standing) (last : Mark) (schedule : List Event) (taken counted : ℕ) (holds : Option (List NamedFile))
+    (i : Option SwapImage) (image : SwapImage) → GoesAt m last schedule taken counted holds i A s image
+    → UnderAt m last counted holds i A s image
+under_at A s m last schedule taken counted holds i image at = record {
+  stands = at.stands;
+  reached = at.reached;
+  mark = at.mark;
+  order = subst (λ (es : List Event). IsInOrder es s.lines last) (sym at.are) (subst (λ (n : ℕ). IsInOrder schedule n last) (sym at.lines) at.order);
+}
+
+pub going_under : (m : Standing) (last : Mark) (schedule : List Event) (taken counted : ℕ) (holds : Option (List NamedFile)) (i : Option SwapImage)
+    → AtSome (GoesAt m last schedule taken counted holds i) → AtSome (UnderAt m last counted holds i)
+going_under m last schedule taken counted holds i (A, s, image, at) = (A, s, image, under_at A s m last schedule taken counted holds i image at)
+
+pub leads_going : (m : Standing) (last : Mark) (schedule : List Event) (taken counted : ℕ) (holds : Option (List NamedFile)) (i : Option SwapImage)
+    (Leads : Inputs → State → SwapImage → Type 0)
+    → LeadsFrom (UnderAt m last counted holds i) Leads → LeadsFrom (GoesAt m last schedule taken counted holds i) Leads
+leads_going m last schedule taken counted holds i Leads f A s image at = f A s image (under_at A s m last schedule taken counted holds i image at)
+
+pub stops_going_on : (old new : Standing) (last : Mark) (schedule : List Event) (taken counted : ℕ) (holds : Option (List NamedFile))
+    (i h : Option SwapImage) (stop : Stop)
+    → StopsFrom (UnderAt old last counted holds i) old new h stop → StopsFrom (GoesAt old last schedule taken counted holds i) old new h stop
+stops_going_on old new last schedule taken counted holds i h stop f A s image at = f A s image (under_at A s old last schedule taken counted holds i image at)
+
+pub under_fits : (m : Standing) (last : Mark) (counted : ℕ) (holds : Option (List NamedFile)) (i : Option SwapImage)
+    → AtSome (UnderAt m last counted holds i) → counted + 1 < 2 ^ 32
+under_fits m last counted holds i (A, s, image, at) =
     let few = at.stands.inputs.few in let below = reached_below A s at.reached in let same = at.stands.count in omega (arith, few, below, same)
 
-way_at : (A : Inputs) (s : State) (m : Standing) (last : Mark) (schedule : List Event) (taken counted : ℕ) (holds : Option (List NamedFile))
-    (i : Option SwapImage) (image : SwapImage) → GoesAt m last schedule taken counted holds i A s image
-    → WayAt m holds i A s image
-way_at A s m last schedule taken counted holds i image at = record { machine = at.stands.machine; told = at.stands.told; reached = at.reached }
+way_at : (A : Inputs) (s : State) (m : Standing) (last : Mark) (counted : ℕ) (holds : Option (List NamedFile)) (i : Option SwapImage) (image : SwapImage)
+    → UnderAt m last counted holds i A s image → WayAt m holds i A s image
+way_at A s m last counted holds i image at = record { machine = at.stands.machine; told = at.stands.told; reached = at.reached }
 
-module _ (old mid : Standing) (last : Mark) (schedule : List Event) (taken counted count : ℕ) (holds : Option (List NamedFile)) (i h : Option SwapImage)
+pub under_way : (m : Standing) (last : Mark) (counted : ℕ) (holds : Option (List NamedFile)) (i : Option SwapImage)
+    → AtSome (UnderAt m last counted holds i) → AtSome (WayAt m holds i)
+under_way m last counted holds i (A, s, image, at) = (A, s, image, way_at A s m last counted holds i image at)
+
+pub way_stops : (old new : Standing) (last : Mark) (counted : ℕ) (holds : Option (List NamedFile)) (i h : Option SwapImage) (stop : Stop)
+    → StopsFrom (WayAt old holds i) old new h stop → StopsFrom (UnderAt old last counted holds i) old new h stop
+way_stops old new last counted holds i h stop f A s image at = f A s image (way_at A s old last counted holds i image at)
+
+module _ (old mid : Standing) (last : Mark) (counted count : ℕ) (holds : Option (List NamedFile)) (i h : Option SwapImage)
     (to : CountsTo old mid counted count)
     (f : LeadsFrom (WayAt old holds i) (StepSettled old mid counted count h))
-    (A : Inputs) (s : State) (image : SwapImage) (at : GoesAt old last schedule taken counted holds i A s image) where
+    (A : Inputs) (s : State) (image : SwapImage) (at : UnderAt old last counted holds i A s image) where
   settled : (n : ℕ) × (count ≡ counted + n) × StepLeads A s old.kernel image n mid.kernel h
-  settled = f A s image (way_at A s old last schedule taken counted holds i image at)
+  settled = f A s image (way_at A s old last counted holds i image at)
 
   led : StepLeads A s old.kernel image settled.0 mid.kernel h
   led = settled.2
@@ -43,25 +75,24 @@ module _ (old mid : Standing) (last : Mark) (schedule : List Event) (taken count
     reached = leads_reached A s led.state old.kernel mid.kernel image led.units h at.reached led.leads;
     clear = record { clear = led.clear; between = led.between };
     mark = led.mark ∙ at.mark;
-    order = subst (λ (es : List Event). IsInOrder es led.state.lines last) (sym at.are) (subst (λ (n : ℕ). IsInOrder schedule n last) (sym (led.lines ∙ at.lines)) at.order);
+    order = subst (λ (n : ℕ). IsInOrder A.lines n last) (sym led.lines) at.order;
   }
 
-pub going_under : (old mid : Standing) (last : Mark) (schedule : List Event) (taken counted count : ℕ) (holds : Option (List NamedFile))
-    (i h : Option SwapImage)
+pub settled_rest : (old mid : Standing) (last : Mark) (counted count : ℕ) (holds : Option (List NamedFile)) (i h : Option SwapImage)
     → CountsTo old mid counted count
-    → LeadsFrom (WayAt old holds i) (StepSettled old mid counted count h) → AtSome (GoesAt old last schedule taken counted holds i)
+    → LeadsFrom (WayAt old holds i) (StepSettled old mid counted count h) → AtSome (UnderAt old last counted holds i)
     → AtSome (RestAt mid last count holds h)
-going_under old mid last schedule taken counted count holds i h to f (A, s, image, at) =
-    let l = led old mid last schedule taken counted count holds i h to f A s image at in
-    (A, l.state, l.leads.behind, rest_at old mid last schedule taken counted count holds i h to f A s image at)
+settled_rest old mid last counted count holds i h to f (A, s, image, at) =
+    let l = led old mid last counted count holds i h to f A s image at in
+    (A, l.state, l.leads.behind, rest_at old mid last counted count holds i h to f A s image at)
 
-pub gets_over : (old mid new : Standing) (last : Mark) (schedule : List Event) (taken counted count more : ℕ) (holds : Option (List NamedFile))
-    (i h j : Option SwapImage) → CountsTo old mid counted count
+pub gets_over : (old mid new : Standing) (last : Mark) (counted count more : ℕ) (holds : Option (List NamedFile)) (i h j : Option SwapImage)
+    → CountsTo old mid counted count
     → LeadsFrom (WayAt old holds i) (StepSettled old mid counted count h) → LeadsFrom (RestAt mid last count holds h) (RestDone mid new last more j)
-    → LeadsFrom (GoesAt old last schedule taken counted holds i) (RestDone old new last more j)
-gets_over old mid new last schedule taken counted count more holds i h j to f r A s image at =
-    let l = led old mid last schedule taken counted count holds i h to f A s image at in
-    let d = r A l.state l.leads.behind (rest_at old mid last schedule taken counted count holds i h to f A s image at) in
+    → LeadsFrom (UnderAt old last counted holds i) (RestDone old new last more j)
+gets_over old mid new last counted count more holds i h j to f r A s image at =
+    let l = led old mid last counted count holds i h to f A s image at in
+    let d = r A l.state l.leads.behind (rest_at old mid last counted count holds i h to f A s image at) in
     record {
       units = l.units ++ d.units;
       state = d.state;
@@ -72,13 +103,13 @@ gets_over old mid new last schedule taken counted count more holds i h j to f r 
       turned = d.turned;
     }
 
-pub rest_stops_going : (old mid new : Standing) (last : Mark) (schedule : List Event) (taken counted count : ℕ) (holds : Option (List NamedFile))
-    (i h j : Option SwapImage) (stop : Stop) → CountsTo old mid counted count
+pub rest_stops_under : (old mid new : Standing) (last : Mark) (counted count : ℕ) (holds : Option (List NamedFile)) (i h j : Option SwapImage) (stop : Stop)
+    → CountsTo old mid counted count
     → LeadsFrom (WayAt old holds i) (StepSettled old mid counted count h) → StopsFrom (RestAt mid last count holds h) mid new j stop
-    → StopsFrom (GoesAt old last schedule taken counted holds i) old new j stop
-rest_stops_going old mid new last schedule taken counted count holds i h j stop to f r A s image at =
-    let l = led old mid last schedule taken counted count holds i h to f A s image at in
-    then_stop A s l.state old.kernel mid.kernel image h j l.units stop new l.leads (r A l.state l.leads.behind (rest_at old mid last schedule taken counted count holds i h to f A s image at))
+    → StopsFrom (UnderAt old last counted holds i) old new j stop
+rest_stops_under old mid new last counted count holds i h j stop to f r A s image at =
+    let l = led old mid last counted count holds i h to f A s image at in
+    then_stop A s l.state old.kernel mid.kernel image h j l.units stop new l.leads (r A l.state l.leads.behind (rest_at old mid last counted count holds i h to f A s image at))
 
 -- The whole way.
 

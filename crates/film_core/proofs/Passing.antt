@@ -33,7 +33,7 @@ use Rattle.vm_core.specs.Steady.{StaysSteady}
 use Rattle.vm_core.proofs.Going.{few_at}
 use Rattle.film_core.specs.Films.{IsInOrder}
 use Rattle.film_core.specs.Marks.{marked_by, marked_if}
-use Rattle.film_core.specs.Ways.{RestDone, MayNote, StaysOn, OverAt, RunsOut, RoundAt, RestAt}
+use Rattle.film_core.specs.Ways.{RestDone, MayNote, StaysOn, OverAt, PastAt, TurnAt, RunsOut, RoundAt, RestAt}
 use Rattle.film_core.proofs.Composing.{then_stop, then_out, here_leads, leads_reached, stands_then, leads_longer}
 use Rattle.film_core.proofs.Marking.{asked_order, few_lines, mark_follows}
 
@@ -72,17 +72,17 @@ idle_ends A t l e = go (nat_lt t.count A.limit) (nat_lt t.lines (length A.lines)
     go true true x = absurd (never x)
     go true false x = ap turn_of e
 
-module _ (A : Inputs) (s : State) (m : Standing) (schedule : List Event) (taken count last : ℕ) (holds : Option (List NamedFile)) (i : Option SwapImage)
+module _ (A : Inputs) (s : State) (m : Standing) (schedule : List Event) (taken count : ℕ) (holds : Option (List NamedFile)) (i : Option SwapImage)
     (image : SwapImage)
-    (at : OverAt m schedule taken count last holds i A s image) where
-  turned : next_turned s.point.flat (last_turned s.mark) ≡ chosen_next m.kernel last
-  turned = ap (next_turned s.point.flat) at.turned ∙ sym (turned_same m.kernel s.point.flat last at.stands.machine.at.stands.keeps.coupled.tables)
+    (at : PastAt m schedule taken count holds i A s image) where
+  turned : next_turned s.point.flat (last_turned s.mark) ≡ chosen_next m.kernel (last_turned s.mark)
+  turned = sym (turned_same m.kernel s.point.flat (last_turned s.mark) at.stands.machine.at.stands.keeps.coupled.tables)
 
   all_taken : slice_get schedule taken ≡ None → length A.lines ≤ s.lines
   all_taken e = let less = none_there schedule taken e in let a = ap (λ (es : List Event). length es) at.are in let b = at.lines in omega (arith, less, a, b)
 
-  pub over_none : (m.params.limit ≤ count) ⊎ ((slice_get schedule taken ≡ None) × (chosen_next m.kernel last ≡ None)) → next_unit A s ≡ None
-  over_none why = none_after A s at.over (elim why [
+  past_none : (m.params.limit ≤ count) ⊎ ((slice_get schedule taken ≡ None) × (chosen_next m.kernel (last_turned s.mark) ≡ None)) → next_unit A s ≡ None
+  past_none why = none_after A s at.over (elim why [
     | inl l ↦ limit_ends A s (let a = at.stands.inputs.limit in let b = at.stands.count in omega (arith, l, a, b))
     | inr e ↦ idle_ends A s (all_taken e.0) (turned ∙ e.1)
   ])
@@ -96,13 +96,35 @@ module _ (A : Inputs) (s : State) (m : Standing) (schedule : List Event) (taken 
   most_taken : s.lines ≤ length A.lines
   most_taken = few_lines A at.reached.units (start A at.reached.holdings) s at.reached.follows (omega arith)
 
-  pub due_turn : (pid : ℕ) → count < m.params.limit → slice_get schedule taken ≡ None → chosen_next m.kernel last ≡ Some pid → TurnDue A s pid
+  pub due_turn : (pid : ℕ) → count < m.params.limit → slice_get schedule taken ≡ None → chosen_next m.kernel (last_turned s.mark) ≡ Some pid → TurnDue A s pid
   due_turn pid l e x = record {
     over = at.over;
     below = below l;
     lines = let all = all_taken e in let most = most_taken in omega (arith, all, most);
     turned = turned ∙ x;
   }
+
+-- whoever had the last turn
+past_of : (A : Inputs) (s : State) (m : Standing) (schedule : List Event) (taken count last : ℕ) (holds : Option (List NamedFile)) (i : Option SwapImage)
+    (image : SwapImage) → OverAt m schedule taken count last holds i A s image → PastAt m schedule taken count holds i A s image
+past_of A s m schedule taken count last holds i image at = record { stands = at.stands; reached = at.reached; over = at.over; are = at.are; lines = at.lines }
+
+turn_of_last : (A : Inputs) (s : State) (m : Standing) (schedule : List Event) (taken count last pid : ℕ) (holds : Option (List NamedFile))
+    (i : Option SwapImage) (image : SwapImage) → chosen_next m.kernel last ≡ Some pid → OverAt m schedule taken count last holds i A s image
+    → TurnAt m schedule taken count pid holds i A s image
+turn_of_last A s m schedule taken count last pid holds i image y at = record {
+  past = past_of A s m schedule taken count last holds i image at;
+  next = ap (chosen_next m.kernel) at.turned ∙ y;
+}
+
+pub over_none : (A : Inputs) (s : State) (m : Standing) (schedule : List Event) (taken count last : ℕ) (holds : Option (List NamedFile)) (i : Option SwapImage)
+    (image : SwapImage) → OverAt m schedule taken count last holds i A s image
+    → (m.params.limit ≤ count) ⊎ ((slice_get schedule taken ≡ None) × (chosen_next m.kernel last ≡ None)) → next_unit A s ≡ None
+over_none A s m schedule taken count last holds i image at why =
+    past_none A s m schedule taken count holds i image (past_of A s m schedule taken count last holds i image at) (elim why [
+      | inl l ↦ inl l
+      | inr e ↦ inr (e.0, ap (chosen_next m.kernel) at.turned ∙ e.1)
+    ])
 
 -- A mark is over.
 
@@ -149,23 +171,29 @@ ComesNext m schedule taken count turn =
     ((e : Event) × (count < m.params.limit) × (slice_get schedule taken ≡ Some e))
     ⊎ ((pid : ℕ) × (count < m.params.limit) × (slice_get schedule taken ≡ None) × (chosen_next m.kernel turn ≡ Some pid))
 
-module _ (A : Inputs) (s : State) (m : Standing) (schedule : List Event) (taken count last : ℕ) (holds : Option (List NamedFile)) (i : Option SwapImage)
+module _ (A : Inputs) (s : State) (m : Standing) (schedule : List Event) (taken count : ℕ) (holds : Option (List NamedFile)) (i : Option SwapImage)
     (image : SwapImage)
-    (at : OverAt m schedule taken count last holds i A s image) where
+    (at : PastAt m schedule taken count holds i A s image) where
   pub stop_line : (new : Standing) (e : Event) (stop : Stop) → count < m.params.limit → slice_get schedule taken ≡ Some e → StopsBefore m new stop → StopLeads A s m.kernel image stop new i
   stop_line new e stop l x n =
       subst (λ (o : Option SwapImage). StopLeads A s m.kernel image stop new o) (sym at.stands.told)
-      (line_stops A s m new holds image e stop at.stands.machine at.over (below A s m schedule taken count last holds i image at l) (due_line A s m schedule taken count last holds i image at e x) n)
+      (line_stops A s m new holds image e stop at.stands.machine at.over (below A s m schedule taken count holds i image at l) (due_line A s m schedule taken count holds i image at e x) n)
 
-  pub stop_turn : (new : Standing) (pid : ℕ) (stop : Stop) → count < m.params.limit → slice_get schedule taken ≡ None → chosen_next m.kernel last ≡ Some pid → StopsBefore m new stop
+  pub stop_turn : (new : Standing) (pid : ℕ) (stop : Stop) → count < m.params.limit → slice_get schedule taken ≡ None
+      → chosen_next m.kernel (last_turned s.mark) ≡ Some pid → StopsBefore m new stop
       → StopLeads A s m.kernel image stop new i
   stop_turn new pid stop l x y n =
       subst (λ (o : Option SwapImage). StopLeads A s m.kernel image stop new o) (sym at.stands.told)
-      (turn_stops A s m new holds image pid stop at.stands.machine (due_turn A s m schedule taken count last holds i image at pid l x y) n)
+      (turn_stops A s m new holds image pid stop at.stands.machine (due_turn A s m schedule taken count holds i image at pid l x y) n)
 
-  stop_full : MayNote m → m.params.journal ≤ length m.kernel.journal → ComesNext m schedule taken count last → StopLeads A s m.kernel image stops.JournalFull m i
-  stop_full may full (inl (e, l, x)) = stop_line m e stops.JournalFull l x (stops_full m may full)
-  stop_full may full (inr (pid, l, x, y)) = stop_turn m pid stops.JournalFull l x y (stops_full m may full)
+stop_full : (A : Inputs) (s : State) (m : Standing) (schedule : List Event) (taken count last : ℕ) (holds : Option (List NamedFile)) (i : Option SwapImage)
+    (image : SwapImage) → OverAt m schedule taken count last holds i A s image
+    → MayNote m → m.params.journal ≤ length m.kernel.journal → ComesNext m schedule taken count last → StopLeads A s m.kernel image stops.JournalFull m i
+stop_full A s m schedule taken count last holds i image at may full (inl (e, l, x)) =
+    stop_line A s m schedule taken count holds i image (past_of A s m schedule taken count last holds i image at) m e stops.JournalFull l x (stops_full m may full)
+stop_full A s m schedule taken count last holds i image at may full (inr (pid, l, x, y)) =
+    stop_turn A s m schedule taken count holds i image (past_of A s m schedule taken count last holds i image at) m pid stops.JournalFull l x
+    (ap (chosen_next m.kernel) at.turned ∙ y) (stops_full m may full)
 
 grown_full : (A : Inputs) (s t : State) (old new : Standing) (holds : Option (List NamedFile)) (i j : Option SwapImage) (image behind : SwapImage)
     (us : List Entry)
@@ -208,21 +236,21 @@ pub record NextBegun (A : Inputs) (s : State) (old new : Standing) (mark : Mark)
   pub leads : Leads A s old.kernel image units state new.kernel i
   pub at : RoundAt new mark schedule taken counted holds i A state leads.behind
 
-pub line_begun : (A : Inputs) (s : State) (old new : Standing) (mark : Mark) (schedule : List Event) (taken counted turn : ℕ) (holds : Option (List NamedFile))
+pub line_begun : (A : Inputs) (s : State) (old new : Standing) (mark : Mark) (schedule : List Event) (taken counted : ℕ) (holds : Option (List NamedFile))
     (i : Option SwapImage) (image : SwapImage) (e : Event)
-    → OverAt old schedule taken counted turn holds i A s image → counted < old.params.limit → slice_get schedule taken ≡ Some e → HaveFewMoves schedule
+    → PastAt old schedule taken counted holds i A s image → counted < old.params.limit → slice_get schedule taken ≡ Some e → HaveFewMoves schedule
     → StaysSteady old new 0 → new.kernel ≡ note_step old.kernel (entries.Event (taken + 1))
     → mark ≡ marked_by new.kernel counted e → NextBegun A s old new mark schedule (taken + 1) counted holds i image
-line_begun A s old new mark schedule taken counted turn holds i image e at l x few n k m =
+line_begun A s old new mark schedule taken counted holds i image e at l x few n k m =
     let number : taken + 1 ≡ s.lines + 1 = ap (λ (n : ℕ). n + 1) (sym at.lines) in
-    let b : LineBegun A s old.kernel image e new.kernel = line_begins A s old new.kernel holds image e at.stands.machine at.over (below A s old schedule taken counted turn holds i image at l)
-    (due_line A s old schedule taken counted turn holds i image at e x) (k ∙ ap (λ (n : ℕ). note_step old.kernel (entries.Event n)) number) in
+    let b : LineBegun A s old.kernel image e new.kernel = line_begins A s old new.kernel holds image e at.stands.machine at.over (below A s old schedule taken counted holds i image at l)
+    (due_line A s old schedule taken counted holds i image at e x) (k ∙ ap (λ (n : ℕ). note_step old.kernel (entries.Event n)) number) in
     let a : Leads A s old.kernel image (entries.Event (s.lines + 1) ∷ []) b.state new.kernel i =
     subst (λ (o : Option SwapImage). Leads A s old.kernel image (entries.Event (s.lines + 1) ∷ []) b.state new.kernel o) (sym at.stands.told) b.leads in
     let st = stands_then A s b.state old new holds i i image (entries.Event (s.lines + 1) ∷ []) counted counted at.reached at.stands a n.params n.images (b.count ∙ at.stands.count) in
     let marked : b.state.mark ≡ mark =
     mark_follows A s b.state new.kernel a.behind st.machine.at (entries.Event (s.lines + 1)) (leads_follow A s b.state old.kernel new.kernel image (entries.Event (s.lines + 1) ∷ []) i a)
-    ∙ ap (λ (o : Option Event). marked_if new.kernel b.state.count o) (due_line A s old schedule taken counted turn holds i image at e x)
+    ∙ ap (λ (o : Option Event). marked_if new.kernel b.state.count o) (due_line A s old schedule taken counted holds i image at e x)
     ∙ ap (λ (n : ℕ). marked_by new.kernel n e) (b.count ∙ at.stands.count) ∙ sym m in
     record {
       units = entries.Event (s.lines + 1) ∷ [];
@@ -241,14 +269,14 @@ line_begun A s old new mark schedule taken counted turn holds i image e at l x f
       };
     }
 
-pub turn_begun : (A : Inputs) (s : State) (old new : Standing) (schedule : List Event) (taken counted turn : ℕ) (holds : Option (List NamedFile))
+pub turn_begun : (A : Inputs) (s : State) (old new : Standing) (schedule : List Event) (taken counted : ℕ) (holds : Option (List NamedFile))
     (i : Option SwapImage) (image : SwapImage) (pid : ℕ)
-    → OverAt old schedule taken counted turn holds i A s image → counted < old.params.limit → slice_get schedule taken ≡ None
-    → chosen_next old.kernel turn ≡ Some pid
+    → TurnAt old schedule taken counted pid holds i A s image → counted < old.params.limit → slice_get schedule taken ≡ None
     → StaysSteady old new 0 → new.kernel ≡ note_step old.kernel (entries.Turn pid)
     → NextBegun A s old new (marks.Turn pid counted) schedule taken counted holds i image
-turn_begun A s old new schedule taken counted turn holds i image pid at l x y n k =
-    let due = due_turn A s old schedule taken counted turn holds i image at pid l x y in
+turn_begun A s old new schedule taken counted holds i image pid turns l x n k =
+    let at : PastAt old schedule taken counted holds i A s image = turns.past in
+    let due = due_turn A s old schedule taken counted holds i image at pid l x turns.next in
     let b : TurnBegun A s old.kernel image pid new.kernel = turn_begins A s old new.kernel holds image pid at.stands.machine due k in
     let a : Leads A s old.kernel image (entries.Turn pid ∷ []) b.state new.kernel i =
     subst (λ (o : Option SwapImage). Leads A s old.kernel image (entries.Turn pid ∷ []) b.state new.kernel o) (sym at.stands.told) b.leads in
@@ -287,52 +315,84 @@ begun_stops A s old mid new mark schedule taken counted holds i j image stop b f
 
 -- A line.
 
-module _ (old mid new : Standing) (mark : Mark) (schedule : List Event) (taken counted turn : ℕ) (holds : Option (List NamedFile)) (i j : Option SwapImage)
+module _ (old mid new : Standing) (mark : Mark) (schedule : List Event) (taken counted : ℕ) (holds : Option (List NamedFile)) (i j : Option SwapImage)
     (e : Event)
     (l : counted < old.params.limit) (x : slice_get schedule taken ≡ Some e) (few : HaveFewMoves schedule) (n : StaysSteady old mid 0)
     (k : mid.kernel ≡ note_step old.kernel (entries.Event (taken + 1))) (m : mark ≡ marked_by mid.kernel counted e) where
-  line_there : (A : Inputs) (s : State) (image : SwapImage) → OverAt old schedule taken counted turn holds i A s image
+  line_there : (A : Inputs) (s : State) (image : SwapImage) → PastAt old schedule taken counted holds i A s image
       → NextBegun A s old mid mark schedule (taken + 1) counted holds i image
-  line_there A s image at = line_begun A s old mid mark schedule taken counted turn holds i image e at l x few n k m
+  line_there A s image at = line_begun A s old mid mark schedule taken counted holds i image e at l x few n k m
 
-  pub line_round : AtSome (OverAt old schedule taken counted turn holds i) → AtSome (RoundAt mid mark schedule (taken + 1) counted holds i)
+  pub line_round : AtSome (PastAt old schedule taken counted holds i) → AtSome (RoundAt mid mark schedule (taken + 1) counted holds i)
   line_round (A, s, image, at) = let b = line_there A s image at in (A, b.state, b.leads.behind, b.at)
 
-  pub line_passes : LeadsFrom (RoundAt mid mark schedule (taken + 1) counted holds i) (RunsOut mid new j) → LeadsFrom (OverAt old schedule taken counted turn holds i) (RunsOut old new j)
+  pub line_passes : LeadsFrom (RoundAt mid mark schedule (taken + 1) counted holds i) (RunsOut mid new j) → LeadsFrom (PastAt old schedule taken counted holds i) (RunsOut old new j)
   line_passes f A s image at = begun_over A s old mid new mark schedule (taken + 1) counted holds i j image (line_there A s image at) f
 
-  pub line_stops_passing : (stop : Stop) → StopsFrom (RoundAt mid mark schedule (taken + 1) counted holds i) mid new j stop → StopsFrom (OverAt old schedule taken counted turn holds i) old new j stop
+  pub line_stops_passing : (stop : Stop) → StopsFrom (RoundAt mid mark schedule (taken + 1) counted holds i) mid new j stop → StopsFrom (PastAt old schedule taken counted holds i) old new j stop
   line_stops_passing stop f A s image at = begun_stops A s old mid new mark schedule (taken + 1) counted holds i j image stop (line_there A s image at) f
 
 -- A turn.
 
-module _ (old mid new : Standing) (schedule : List Event) (taken counted turn : ℕ) (holds : Option (List NamedFile)) (i j : Option SwapImage) (pid : ℕ)
-    (l : counted < old.params.limit) (x : slice_get schedule taken ≡ None) (y : chosen_next old.kernel turn ≡ Some pid) (n : StaysSteady old mid 0)
+module _ (old mid new : Standing) (schedule : List Event) (taken counted : ℕ) (holds : Option (List NamedFile)) (i j : Option SwapImage) (pid : ℕ)
+    (l : counted < old.params.limit) (x : slice_get schedule taken ≡ None) (n : StaysSteady old mid 0)
     (k : mid.kernel ≡ note_step old.kernel (entries.Turn pid)) where
-  turn_there : (A : Inputs) (s : State) (image : SwapImage) → OverAt old schedule taken counted turn holds i A s image
+  turn_there : (A : Inputs) (s : State) (image : SwapImage) → TurnAt old schedule taken counted pid holds i A s image
       → NextBegun A s old mid (marks.Turn pid counted) schedule taken counted holds i image
-  turn_there A s image at = turn_begun A s old mid schedule taken counted turn holds i image pid at l x y n k
+  turn_there A s image at = turn_begun A s old mid schedule taken counted holds i image pid at l x n k
 
-  pub turn_round : AtSome (OverAt old schedule taken counted turn holds i) → AtSome (RoundAt mid (marks.Turn pid counted) schedule taken counted holds i)
+  pub turn_round : AtSome (TurnAt old schedule taken counted pid holds i) → AtSome (RoundAt mid (marks.Turn pid counted) schedule taken counted holds i)
   turn_round (A, s, image, at) = let b = turn_there A s image at in (A, b.state, b.leads.behind, b.at)
 
-  pub turn_passes : LeadsFrom (RoundAt mid (marks.Turn pid counted) schedule taken counted holds i) (RunsOut mid new j) → LeadsFrom (OverAt old schedule taken counted turn holds i) (RunsOut old new j)
+  pub turn_passes : LeadsFrom (RoundAt mid (marks.Turn pid counted) schedule taken counted holds i) (RunsOut mid new j)
+      → LeadsFrom (TurnAt old schedule taken counted pid holds i) (RunsOut old new j)
   turn_passes f A s image at = begun_over A s old mid new (marks.Turn pid counted) schedule taken counted holds i j image (turn_there A s image at) f
 
   pub turn_stops_passing : (stop : Stop) → StopsFrom (RoundAt mid (marks.Turn pid counted) schedule taken counted holds i) mid new j stop
-      → StopsFrom (OverAt old schedule taken counted turn holds i) old new j stop
+      → StopsFrom (TurnAt old schedule taken counted pid holds i) old new j stop
   turn_stops_passing stop f A s image at = begun_stops A s old mid new (marks.Turn pid counted) schedule taken counted holds i j image stop (turn_there A s image at) f
 
-pub line_noting : (old new : Standing) (schedule : List Event) (taken counted turn : ℕ) (holds : Option (List NamedFile)) (i : Option SwapImage) (e : Event)
+pub line_noting : (old new : Standing) (schedule : List Event) (taken counted : ℕ) (holds : Option (List NamedFile)) (i : Option SwapImage) (e : Event)
     (stop : Stop) → counted < old.params.limit
-    → slice_get schedule taken ≡ Some e → StopsBefore old new stop → StopsFrom (OverAt old schedule taken counted turn holds i) old new i stop
-line_noting old new schedule taken counted turn holds i e stop l x n A s image at = stop_line A s old schedule taken counted turn holds i image at new e stop l x n
+    → slice_get schedule taken ≡ Some e → StopsBefore old new stop → StopsFrom (PastAt old schedule taken counted holds i) old new i stop
+line_noting old new schedule taken counted holds i e stop l x n A s image at = stop_line A s old schedule taken counted holds i image at new e stop l x n
 
-pub turn_noting : (old new : Standing) (schedule : List Event) (taken counted turn : ℕ) (holds : Option (List NamedFile)) (i : Option SwapImage) (pid : ℕ)
+pub turn_noting : (old new : Standing) (schedule : List Event) (taken counted : ℕ) (holds : Option (List NamedFile)) (i : Option SwapImage) (pid : ℕ)
     (stop : Stop) → counted < old.params.limit
-    → slice_get schedule taken ≡ None → chosen_next old.kernel turn ≡ Some pid → StopsBefore old new stop
-    → StopsFrom (OverAt old schedule taken counted turn holds i) old new i stop
-turn_noting old new schedule taken counted turn holds i pid stop l x y n A s image at = stop_turn A s old schedule taken counted turn holds i image at new pid stop l x y n
+    → slice_get schedule taken ≡ None → StopsBefore old new stop
+    → StopsFrom (TurnAt old schedule taken counted pid holds i) old new i stop
+turn_noting old new schedule taken counted holds i pid stop l x n A s image at = stop_turn A s old schedule taken counted holds i image at.past new pid stop l x at.next n
+
+-- What follows where a process had the last turn.
+
+pub over_past : (m : Standing) (schedule : List Event) (taken counted last : ℕ) (holds : Option (List NamedFile)) (i : Option SwapImage)
+    → AtSome (OverAt m schedule taken counted last holds i) → AtSome (PastAt m schedule taken counted holds i)
+over_past m schedule taken counted last holds i (A, s, image, at) = (A, s, image, past_of A s m schedule taken counted last holds i image at)
+
+pub over_turn : (m : Standing) (schedule : List Event) (taken counted last pid : ℕ) (holds : Option (List NamedFile)) (i : Option SwapImage)
+    → chosen_next m.kernel last ≡ Some pid → AtSome (OverAt m schedule taken counted last holds i) → AtSome (TurnAt m schedule taken counted pid holds i)
+over_turn m schedule taken counted last pid holds i y (A, s, image, at) = (A, s, image, turn_of_last A s m schedule taken counted last pid holds i image y at)
+
+pub leads_past : (m : Standing) (schedule : List Event) (taken counted last : ℕ) (holds : Option (List NamedFile)) (i : Option SwapImage)
+    (Leads : Inputs → State → SwapImage → Type 0)
+    → LeadsFrom (PastAt m schedule taken counted holds i) Leads → LeadsFrom (OverAt m schedule taken counted last holds i) Leads
+leads_past m schedule taken counted last holds i Leads f A s image at = f A s image (past_of A s m schedule taken counted last holds i image at)
+
+pub leads_turn : (m : Standing) (schedule : List Event) (taken counted last pid : ℕ) (holds : Option (List NamedFile)) (i : Option SwapImage)
+    (Leads : Inputs → State → SwapImage → Type 0) → chosen_next m.kernel last ≡ Some pid
+    → LeadsFrom (TurnAt m schedule taken counted pid holds i) Leads → LeadsFrom (OverAt m schedule taken counted last holds i) Leads
+leads_turn m schedule taken counted last pid holds i Leads y f A s image at =
+    f A s image (turn_of_last A s m schedule taken counted last pid holds i image y at)
+
+pub stops_past : (old new : Standing) (schedule : List Event) (taken counted last : ℕ) (holds : Option (List NamedFile)) (i j : Option SwapImage) (stop : Stop)
+    → StopsFrom (PastAt old schedule taken counted holds i) old new j stop → StopsFrom (OverAt old schedule taken counted last holds i) old new j stop
+stops_past old new schedule taken counted last holds i j stop f A s image at = f A s image (past_of A s old schedule taken counted last holds i image at)
+
+pub stops_turn : (old new : Standing) (schedule : List Event) (taken counted last pid : ℕ) (holds : Option (List NamedFile)) (i j : Option SwapImage)
+    → chosen_next old.kernel last ≡ Some pid → (stop : Stop)
+    → StopsFrom (TurnAt old schedule taken counted pid holds i) old new j stop → StopsFrom (OverAt old schedule taken counted last holds i) old new j stop
+stops_turn old new schedule taken counted last pid holds i j y stop f A s image at =
+    f A s image (turn_of_last A s old schedule taken counted last pid holds i image y at)
 
 pub none_passes : (m : Standing) (schedule : List Event) (taken counted turn : ℕ) (holds : Option (List NamedFile)) (i : Option SwapImage)
     → (m.params.limit ≤ counted) ⊎ ((slice_get schedule taken ≡ None) × (chosen_next m.kernel turn ≡ None))

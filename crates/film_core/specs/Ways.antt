@@ -18,6 +18,7 @@ use Rattle.journal_laws.specs.Leads.{Leads}
 use Rattle.step_units.specs.Machines.{MachineAt}
 use Rattle.step_units.specs.Stepped.{StepLeads}
 use Rattle.step_units.specs.Lines.{IsOver, IsClear}
+use Rattle.vm_core.specs.Choosing.{turn_after}
 use Rattle.vm_core.specs.Cores.{StandsIn}
 use Rattle.film_core.specs.Films.{IsInOrder}
 
@@ -88,6 +89,21 @@ pub record OverAt (m : Standing) (schedule : List Event) (taken counted last : �
   pub lines : s.lines ≡ taken
   pub turned : last_turned s.mark ≡ last
 
+-- The same, whoever had the last turn.
+pub record PastAt (m : Standing) (schedule : List Event) (taken counted : ℕ) (holds : Option (List NamedFile)) (i : Option SwapImage) (A : Inputs)
+    (s : State) (image : SwapImage) : Type 0 where
+  pub stands : StandsIn A s m holds i image counted
+  pub reached : IsReached A s
+  pub over : IsOver A s
+  pub are : A.lines ≡ schedule
+  pub lines : s.lines ≡ taken
+
+-- The same, where this process has the next turn.
+pub record TurnAt (m : Standing) (schedule : List Event) (taken counted pid : ℕ) (holds : Option (List NamedFile)) (i : Option SwapImage) (A : Inputs)
+    (s : State) (image : SwapImage) : Type 0 where
+  pub past : PastAt m schedule taken counted holds i A s image
+  pub next : turn_after m.kernel (last_turned s.mark) ≡ Some pid
+
 -- next units lead to a state that has none
 pub record RunsOut (old new : Standing) (j : Option SwapImage) (A : Inputs) (s : State) (image : SwapImage) : Type 0 where
   pub units : List Entry
@@ -111,6 +127,14 @@ pub record RoundAt (m : Standing) (last : Mark) (schedule : List Event) (taken c
   pub lines : s.lines ≡ taken
 
 -- The whole way.
+
+-- The machine stands at a state of a run under this mark, whatever the run's lines are and however many of them were taken.
+pub record UnderAt (m : Standing) (last : Mark) (counted : ℕ) (holds : Option (List NamedFile)) (i : Option SwapImage) (A : Inputs) (s : State)
+    (image : SwapImage) : Type 0 where
+  pub stands : StandsIn A s m holds i image counted
+  pub reached : IsReached A s
+  pub mark : s.mark ≡ last
+  pub order : IsInOrder A.lines s.lines last
 
 -- The machine stands at a state of a run with these lines, of which so many were taken, under a mark.
 pub record GoesAt (m : Standing) (last : Mark) (schedule : List Event) (taken counted : ℕ) (holds : Option (List NamedFile)) (i : Option SwapImage)

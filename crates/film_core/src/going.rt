@@ -14,7 +14,7 @@ ghost use Rattle.vm_core.specs.Runs.{IsSteady};
 ghost use Rattle.vm_core.specs.Schedules.{HaveFewMoves};
 ghost use Rattle.film_core.specs.Films.{IsFilming, FilmGoes, one_wider, StopsElse, FilmsAt};
 ghost use Rattle.film_core.specs.Marks.{last_entry};
-ghost use Rattle.film_core.specs.Ways.{MayNote, StaysOn, EndsRunning, RestDone, OverAt, RunsOut, RoundAt, GoesAt};
+ghost use Rattle.film_core.specs.Ways.{MayNote, StaysOn, EndsRunning, RestDone, OverAt, PastAt, OverBeforeTurn, RunsOut, RoundAt, UnderAt, GoesAt};
 ghost use Rattle.film_core.specs.Entries.{caught_up, FullAt, EntryMade};
 
 use crate::film::Film;
@@ -106,7 +106,6 @@ fn take_line<F: Files, D: SwapDev>(
     lines: &[Event],
     taken: u32,
     counted: u32,
-    _last: u32,
     e: Event,
 ) -> Result<(), Stop>
     requires may { MayNote m.old }
@@ -116,13 +115,13 @@ fn take_line<F: Files, D: SwapDev>(
     requires event { slice_get lines.now taken ≡ Some e }
     requires few { HaveFewMoves lines.now }
     requires count { length lines.now < 2 ^ 32 }
-    requires past { AtSome (OverAt m.old lines.now taken counted _last (F.holds files.old) (stores F.Files D.SwapDev files.old swap.old)) }
+    requires past { AtSome (PastAt m.old lines.now taken counted (F.holds files.old) (stores F.Files D.SwapDev files.old swap.old)) }
     requires backed { IsBacked m.old (F.holds files.old) (D.blocks swap.old) }
     ensures over { OnOk result
-        (LeadsFrom (OverAt m.old lines.now taken counted _last (F.holds files.old) (stores F.Files D.SwapDev files.old swap.old))
+        (LeadsFrom (PastAt m.old lines.now taken counted (F.holds files.old) (stores F.Files D.SwapDev files.old swap.old))
         (RunsOut m.old m.new (stores F.Files D.SwapDev files.new swap.new))) }
     ensures stops { IfErr result
-        (StopsFrom (OverAt m.old lines.now taken counted _last (F.holds files.old) (stores F.Files D.SwapDev files.old swap.old)) m.old m.new
+        (StopsFrom (PastAt m.old lines.now taken counted (F.holds files.old) (stores F.Files D.SwapDev files.old swap.old)) m.old m.new
         (stores F.Files D.SwapDev files.new swap.new)) }
     ensures ends { OnOk result (EndsRunning m.old m.new) }
     ensures kept { IfErr result (KeptAtStop m.old m.new) }
@@ -153,7 +152,6 @@ fn take_turn<F: Files, D: SwapDev>(
     lines: &[Event],
     taken: u32,
     counted: u32,
-    _last: u32,
     pid: u32,
 ) -> Result<(), Stop>
     requires may { MayNote m.old }
@@ -161,15 +159,14 @@ fn take_turn<F: Files, D: SwapDev>(
     requires wide { m.old.params.journal ≤ length m.old.kernel.journal + 1 }
     requires below { counted < m.old.params.limit }
     requires behind { slice_get lines.now taken ≡ None }
-    requires turned { turn_after m.old.kernel _last ≡ Some pid }
     requires count { length lines.now < 2 ^ 32 }
-    requires past { AtSome (OverAt m.old lines.now taken counted _last (F.holds files.old) (stores F.Files D.SwapDev files.old swap.old)) }
+    requires past { AtSome (OverBeforeTurn m.old lines.now taken counted pid (F.holds files.old) (stores F.Files D.SwapDev files.old swap.old)) }
     requires backed { IsBacked m.old (F.holds files.old) (D.blocks swap.old) }
     ensures over { OnOk result
-        (LeadsFrom (OverAt m.old lines.now taken counted _last (F.holds files.old) (stores F.Files D.SwapDev files.old swap.old))
+        (LeadsFrom (OverBeforeTurn m.old lines.now taken counted pid (F.holds files.old) (stores F.Files D.SwapDev files.old swap.old))
         (RunsOut m.old m.new (stores F.Files D.SwapDev files.new swap.new))) }
     ensures stops { IfErr result
-        (StopsFrom (OverAt m.old lines.now taken counted _last (F.holds files.old) (stores F.Files D.SwapDev files.old swap.old)) m.old m.new
+        (StopsFrom (OverBeforeTurn m.old lines.now taken counted pid (F.holds files.old) (stores F.Files D.SwapDev files.old swap.old)) m.old m.new
         (stores F.Files D.SwapDev files.new swap.new)) }
     ensures ends { OnOk result (EndsRunning m.old m.new) }
     ensures kept { IfErr result (KeptAtStop m.old m.new) }
@@ -213,10 +210,8 @@ fn pass<F: Files, D: SwapDev>(
 {
     match next_of(m, lines, taken, counted, last) {
         Next::Over => Ok(()),
-        Next::Line(e) => take_line(alloc, cache, m, files, swap, lines, taken, counted, last, e),
-        Next::Turn(pid) => take_turn(
-            alloc, cache, m, files, swap, lines, taken, counted, last, pid,
-        ),
+        Next::Line(e) => take_line(alloc, cache, m, files, swap, lines, taken, counted, e),
+        Next::Turn(pid) => take_turn(alloc, cache, m, files, swap, lines, taken, counted, pid),
     }
 }
 
@@ -228,20 +223,17 @@ fn get_over<F: Files, D: SwapDev>(
     files: &mut F,
     swap: &mut D,
     mark: Mark,
-    _lines: &[Event],
-    _taken: u32,
     counted: u32,
 ) -> Result<u32, Stop>
     requires asks { Asks m.old (F.holds files.old) (D.blocks swap.old) }
     requires frames { 64 ≤ length m.old.kernel.place.holds }
     requires low { last_moves m.old.kernel.journal ≤ 1000000 }
     requires counted { instructions_of m.old.kernel.journal ≡ counted }
-    requires going { AtSome (GoesAt m.old mark _lines.now _taken counted (F.holds files.old) (stores F.Files D.SwapDev files.old swap.old)) }
-    ensures over { IfOk result (λ count. LeadsFrom (GoesAt m.old mark _lines.now _taken counted (F.holds files.old)
-        (stores F.Files D.SwapDev files.old swap.old))
+    requires under { AtSome (UnderAt m.old mark counted (F.holds files.old) (stores F.Files D.SwapDev files.old swap.old)) }
+    ensures over { IfOk result (λ count. LeadsFrom (UnderAt m.old mark counted (F.holds files.old) (stores F.Files D.SwapDev files.old swap.old))
         (RestDone m.old m.new mark count (stores F.Files D.SwapDev files.new swap.new))) }
     ensures stops { IfErr result
-        (StopsFrom (GoesAt m.old mark _lines.now _taken counted (F.holds files.old) (stores F.Files D.SwapDev files.old swap.old)) m.old m.new
+        (StopsFrom (UnderAt m.old mark counted (F.holds files.old) (stores F.Files D.SwapDev files.old swap.old)) m.old m.new
         (stores F.Files D.SwapDev files.new swap.new)) }
     ensures on { IfOk result (λ count. StaysOn m.old m.new count) }
     ensures kept { IfErr result (KeptAtStop m.old m.new) }
@@ -280,7 +272,7 @@ fn go_further<F: Files, D: SwapDev>(
     ensures kept { IfErr result (KeptAtStop m.old m.new) }
     ensures outside { TransfersPages F.Files D.SwapDev (stop_of result) files.old files.new swap.old swap.new }
 {
-    let count = get_over(alloc, cache, m, files, swap, mark, lines, taken, counted)?;
+    let count = get_over(alloc, cache, m, files, swap, mark, counted)?;
     pass(
         alloc,
         cache,

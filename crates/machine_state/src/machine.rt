@@ -168,8 +168,8 @@ impl Machine {
             self.tables.params.journal,
         )?;
         self.tables.core.stands();
-        let (frame, _changed) = self.tables.spaces.frame_of(page);
-        let dirty = landing::is_dirty(&self.tables.spaces, &self.tables.texts, page);
+        let (frame, changed) = self.tables.spaces.frame_of(page);
+        let dirty = landing::is_dirty_as(&self.tables.texts, page, changed);
         self.tables.revive(page, frame, dirty);
         self.journal.push_reserved(Entry::Reclaim { page });
         Ok(())

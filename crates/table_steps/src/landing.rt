@@ -1,5 +1,5 @@
 //! The pages of a transfer that was completed land.
-ghost use Rattle.std.specs.Prelude.{◌≡◌, ◌&&◌, ℕ, ◌<◌, ◌≤◌, ◌^◌, ◌∷◌, ◌++◌, [], length, map, false, Some, slice_set};
+ghost use Rattle.std.specs.Prelude.{◌≡◌, ◌&&◌, ℕ, ◌<◌, ◌≤◌, ◌^◌, ◌∷◌, ◌++◌, [], List, length, map, false, Some, slice_set};
 ghost use Rattle.vm_facts.specs.declared.page.Page.TheVariants.{Text as TextPage};
 ghost use Rattle.text_table.specs.Texts.{IsTextTable};
 ghost use Rattle.core_map.specs.Frames.{IsAway, HoldsNot};
@@ -8,7 +8,8 @@ ghost use Rattle.vax_pte.specs.declared.Place.TheVariants.{Frame as FramePlace};
 ghost use Rattle.flat_state.specs.PageNames.{same_page};
 ghost use Rattle.page_model.specs.Placement.{Reads, Writes};
 ghost use Rattle.page_model.specs.Moves.{land_all, done};
-ghost use Rattle.kernel_tables.specs.Shown.{placed};
+ghost use Rattle.space_map.specs.Space.{Places};
+ghost use Rattle.kernel_tables.specs.Shown.{entry_in, changed_named, placed};
 ghost use Rattle.kernel_tables.specs.View.{source_shown, in_part, out_part, transfer_shown, placement_of};
 ghost use Rattle.kernel_tables.specs.Known.{Known};
 ghost use Rattle.kernel_tables.specs.Tied.{Tied};
@@ -54,6 +55,17 @@ fn arrives_dirty(texts: &TextTable, page: Page, from_file: bool) -> bool
     match page {
         Page::Text { image, v } => !texts.is_saved(image, v),
         _ => from_file,
+    }
+}
+
+/// Whether a page must be written before its frame is given away, where its entry says whether it was changed.
+pub fn is_dirty_as(texts: &TextTable, page: Page, changed: bool) -> bool
+    requires { (image v : ℕ) → page ≡ TextPage image v → (1 ≤ image) × (image ≤ 16) × (v < 2048) }
+    ensures { (spaces : List Places) → changed ≡ changed_named (entry_in spaces page) → result ≡ dirty_shown spaces texts.now page }
+{
+    match page {
+        Page::Text { image, v } => !texts.is_saved(image, v),
+        Page::Data { .. } | Page::Stack { .. } => changed,
     }
 }
 

@@ -37,8 +37,8 @@ frame_of-frame-requires c =
     let i : InvalidEntry (lists_of t) c.args.page can.frame = invalid_entry (lists_of t) c.args.page can.frame k can.shared can.invalid in
     subst (λ (o : Option Place). IsTrue (is_frame o)) (sym i.entry) refl
 
-pub is_dirty-dirty-requires : goal.is_dirty-dirty-requires
-is_dirty-dirty-requires c i v e =
+pub is_dirty_as-dirty-requires : goal.is_dirty_as-dirty-requires
+is_dirty_as-dirty-requires c i v e =
     let t : Tables = c.self.inside.tables in
     let k : Known (lists_of t) = known_now c.self.inside c.args.self.now c.self.invariant c.self.view_is c.requires.ready c.stands.ensures in
     let can : CanReclaim (placement_of (lists_of t)) c.args.page = subst (λ (s : Standing). CanReclaim s.kernel.place c.args.page) (sym c.self.view_is) c.requires.can in
@@ -76,8 +76,8 @@ step c =
     let i : InvalidEntry (lists_of t) c.args.page can.frame = invalid_entry (lists_of t) c.args.page can.frame known can.shared can.invalid in
     let frame : c.frame_of-frame.result.0 ≡ can.frame = c.frame_of-frame.ensures.frame ∙ ap frame_named i.entry in
     let v : RevivedPage t w c.args.page can.frame (dirty_shown t.spaces t.texts c.args.page) =
-    subst (λ (b : Bool). RevivedPage t w c.args.page can.frame b) c.is_dirty-dirty.ensures
-    (subst (λ (f : ℕ). RevivedPage t w c.args.page f c.is_dirty-dirty.result) frame c.revive.ensures) in
+    subst (λ (b : Bool). RevivedPage t w c.args.page can.frame b) (c.is_dirty_as-dirty.ensures t.spaces c.frame_of-frame.ensures.changed)
+    (subst (λ (f : ℕ). RevivedPage t w c.args.page f c.is_dirty_as-dirty.result) frame c.revive.ensures) in
     let g : Reclaiming t w c.args.page can.frame = record { known = known; invalid = can.invalid; entry = i; revived_it = v } in
     let ties = reclaim_ties t w c.args.page can.frame g in
     let now = stands_now c.self.inside c.args.self.now c.self.invariant c.self.view_is c.requires.ready.running.runs in
