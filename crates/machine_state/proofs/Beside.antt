@@ -21,8 +21,8 @@ use Rattle.page_model.specs.Ownership.{OwnsFrames}
 use Rattle.page_laws.proofs.Ownership.Pages.{touch_owner}
 use Rattle.kernel_model.specs.Kernel.{Kernel, frame_bytes, write_step, write_by_state}
 use Rattle.table_steps.specs.Machine.{Standing}
-use Rattle.table_steps.specs.UserMemory.{spot_in, text_len, data_len, stack_len, read_by_state, read_page, read_spot, valid_frame, may_write_by, may_write_spot, kernel_answers, write_page, write_spot, writes_in, write_run, AreWhole, AreWritten, Wrote, WroteRun, IsLaidOut}
-use Rattle.machine_state.specs.Ahead.{LendsFrom, MayFrom}
+use Rattle.table_steps.specs.UserMemory.{spot_in, page_at_spot, page_in, text_len, data_len, stack_len, read_by_state, read_page, read_spot, valid_frame, may_write_by, may_write_spot, kernel_answers, write_page, write_spot, writes_in, write_run, AreWhole, AreWritten, Wrote, WroteRun, IsLaidOut}
+use Rattle.machine_state.specs.Ahead.{LendsFrom, MayFrom, LieAhead}
 use Rattle.machine_state.specs.UserMemoryLaws.{IsTouched, touch_state, spot_same, whole_after}
 
 same_page : (i j : ℕ) → i % 1024 + j < 1024 → (i + j) / 1024 ≡ i / 1024
@@ -52,6 +52,18 @@ reads_ahead k sid a i make q by beside low bytes from j below =
     ∙ ap (λ (v : ℕ). read_page k (q v) ((i + j) % 1024)) (same_page i j near)
     ∙ ap (λ (x : ℕ). read_page k (q (i / 1024)) x) (same_column i j near)
     ∙ (from j below).1
+
+one_page : (k : Kernel) (sid a i : ℕ) (make : ℕ → Spot) (q : ℕ → Page) → ((x : ℕ) → page_at_spot k.place sid (make x) ≡ Some (q (x / 1024)))
+    → spot_in k.place sid a ≡ make i → AreBeside k sid a i make → a + 1024 < 2 ^ 32 → (bytes : List ℕ) → LendsFrom k (q (i / 1024)) (i % 1024) bytes
+    → (j : ℕ) → j < length bytes → page_in k.place sid ((a + j) % 2 ^ 32) ≡ page_in k.place sid a
+one_page k sid a i make q of e beside low bytes from j below =
+    let near : i % 1024 + j < 1024 = (from j below).0 in
+    ap (λ (x : ℕ). page_in k.place sid x) (no_wrap a i j low near)
+    ∙ ap (page_at_spot k.place sid) (beside j near)
+    ∙ of (i + j)
+    ∙ ap (λ (v : ℕ). Some (q v)) (same_page i j near)
+    ∙ sym (of i)
+    ∙ sym (ap (page_at_spot k.place sid) e)
 
 may_ahead : (k : Kernel) (sid a i : ℕ) (make : ℕ → Spot) (q : ℕ → Page)
     → ((x : ℕ) → may_write_spot k.place sid (make x) ≡ may_write_by (state_of k.place (q (x / 1024))))
@@ -141,14 +153,23 @@ wrote_together old new sid a i make q bytes by may writable low beside w =
     record { machine = w.machine ∙ ap (λ (x : Kernel). record old { kernel = x }) (sym at.kernel); each = at.each }
 
 module _ (k : Kernel) (index sid image t d s : ℕ) (laid : IsLaidOut k index sid image t d s) where
-  pub text_ahead : (a i : ℕ) (bytes : List ℕ) → spot_in k.place sid a ≡ Text i
-      → LendsFrom k (pages.Text (image_of k.place sid) (i / 1024)) (i % 1024) bytes → AreAhead (kernel_answers k sid) a bytes
-  text_ahead a i bytes e from =
+  below_text : (a i : ℕ) → spot_in k.place sid a ≡ Text i → a + 1024 < 2 ^ 32
+  below_text a i e =
       let at : (a ≡ i) × (i < text_len k.place sid) = text_spot (text_len k.place sid) (data_len k.place sid) (stack_len k.place sid) a i e in
-      reads_ahead k sid a i (λ x. Text x) (λ v. pages.Text (image_of k.place sid) v) (λ x. refl)
-      (λ j near. text_beside (text_len k.place sid) (data_len k.place sid) (stack_len k.place sid) a i j e
-      (whole_within (length (slots_of k.place (pages.Text (image_of k.place sid) 0))) i j at.1 near))
-      (omega (arith, at.0, at.1, laid.low, laid.text_is)) bytes from
+      omega (arith, at.0, at.1, laid.low, laid.text_is)
+
+  beside_text : (a i : ℕ) → spot_in k.place sid a ≡ Text i → AreBeside k sid a i (λ x. Text x)
+  beside_text a i e j near =
+      let at : (a ≡ i) × (i < text_len k.place sid) = text_spot (text_len k.place sid) (data_len k.place sid) (stack_len k.place sid) a i e in
+      text_beside (text_len k.place sid) (data_len k.place sid) (stack_len k.place sid) a i j e
+      (whole_within (length (slots_of k.place (pages.Text (image_of k.place sid) 0))) i j at.1 near)
+
+  pub text_ahead : (a i : ℕ) (bytes : List ℕ) → spot_in k.place sid a ≡ Text i
+      → LendsFrom k (pages.Text (image_of k.place sid) (i / 1024)) (i % 1024) bytes → LieAhead k sid a bytes
+  text_ahead a i bytes e from = record {
+    ahead = reads_ahead k sid a i (λ x. Text x) (λ v. pages.Text (image_of k.place sid) v) (λ x. refl) (beside_text a i e) (below_text a i e) bytes from;
+    page = one_page k sid a i (λ x. Text x) (λ v. pages.Text (image_of k.place sid) v) (λ x. refl) e (beside_text a i e) (below_text a i e) bytes from;
+  }
 
   pub below_data : (a i : ℕ) → spot_in k.place sid a ≡ Data i → a + 1024 < 2 ^ 32
   below_data a i e =
@@ -161,8 +182,11 @@ module _ (k : Kernel) (index sid image t d s : ℕ) (laid : IsLaidOut k index si
       data_beside (text_len k.place sid) (data_len k.place sid) (stack_len k.place sid) a i j e (whole_within (length (slots_of k.place (pages.Data sid 0))) i j at.1 near)
 
   pub data_ahead : (a i : ℕ) (bytes : List ℕ) → spot_in k.place sid a ≡ Data i
-      → LendsFrom k (pages.Data sid (i / 1024)) (i % 1024) bytes → AreAhead (kernel_answers k sid) a bytes
-  data_ahead a i bytes e from = reads_ahead k sid a i (λ x. Data x) (λ v. pages.Data sid v) (λ x. refl) (beside_data a i e) (below_data a i e) bytes from
+      → LendsFrom k (pages.Data sid (i / 1024)) (i % 1024) bytes → LieAhead k sid a bytes
+  data_ahead a i bytes e from = record {
+    ahead = reads_ahead k sid a i (λ x. Data x) (λ v. pages.Data sid v) (λ x. refl) (beside_data a i e) (below_data a i e) bytes from;
+    page = one_page k sid a i (λ x. Data x) (λ v. pages.Data sid v) (λ x. refl) e (beside_data a i e) (below_data a i e) bytes from;
+  }
 
   pub data_writable : (a i count : ℕ) → spot_in k.place sid a ≡ Data i
       → MayFrom (state_of k.place (pages.Data sid (i / 1024))) (i % 1024) count → MayAhead (kernel_answers k sid) a count
@@ -177,8 +201,11 @@ module _ (k : Kernel) (index sid image t d s : ℕ) (laid : IsLaidOut k index si
   beside_stack a i e j near = stack_beside (text_len k.place sid) (data_len k.place sid) (stack_len k.place sid) a i j e near
 
   pub stack_ahead : (a i : ℕ) (bytes : List ℕ) → spot_in k.place sid a ≡ Stack i
-      → LendsFrom k (pages.Stack sid (i / 1024)) (i % 1024) bytes → AreAhead (kernel_answers k sid) a bytes
-  stack_ahead a i bytes e from = reads_ahead k sid a i (λ x. Stack x) (λ v. pages.Stack sid v) (λ x. refl) (beside_stack a i e) (below_stack a i e) bytes from
+      → LendsFrom k (pages.Stack sid (i / 1024)) (i % 1024) bytes → LieAhead k sid a bytes
+  stack_ahead a i bytes e from = record {
+    ahead = reads_ahead k sid a i (λ x. Stack x) (λ v. pages.Stack sid v) (λ x. refl) (beside_stack a i e) (below_stack a i e) bytes from;
+    page = one_page k sid a i (λ x. Stack x) (λ v. pages.Stack sid v) (λ x. refl) e (beside_stack a i e) (below_stack a i e) bytes from;
+  }
 
   pub stack_writable : (a i count : ℕ) → spot_in k.place sid a ≡ Stack i
       → MayFrom (state_of k.place (pages.Stack sid (i / 1024))) (i % 1024) count → MayAhead (kernel_answers k sid) a count

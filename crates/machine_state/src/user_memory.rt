@@ -11,7 +11,7 @@ ghost use Rattle.kernel_model.specs.Kernel.{frame_bytes, write_step, HoldsSpace}
 ghost use Rattle.table_steps.specs.Calls.{life_in};
 ghost use Rattle.table_steps.specs.Machine.{image_shown};
 ghost use Rattle.machine_state.specs.Going.{CanGoOn};
-ghost use Rattle.machine_state.specs.Ahead.{MayFrom, LendsFrom};
+ghost use Rattle.machine_state.specs.Ahead.{MayFrom, LendsFrom, LieAhead};
 ghost use Rattle.machine_state.specs.Down.{WroteDown};
 ghost use Rattle.table_steps.specs.UserMemory.{spot_in, page_in, read_page, valid_frame, may_write_by, NamesFrames, IsOwnPage, IsLaidOut, HasLengths, CanLend, IsHeld, AreWhole, WrotePage, WroteRun};
 
@@ -324,6 +324,19 @@ impl SpaceMemory<'_> {
         }
     }
 
+    /// The bytes of an address's page from the address on, where that is valid; none where it isn't.
+    #[inline(always)]
+    pub fn bytes_from(&self, address: u32) -> &[u8]
+        ensures { LieAhead self.now.machine.now.kernel self.now.layout.sid address result.now }
+    {
+        match self.spot(address) {
+            Spot::Text(at) => self.page_from(self.text_frame(at), at % PAGE),
+            Spot::Data(at) => self.page_from(self.data_frame(at), at % PAGE),
+            Spot::Stack(at) => self.page_from(self.stack_frame(at), at % PAGE),
+            Spot::Below | Spot::Outside => &[],
+        }
+    }
+
     // A byte of a page is written, by its frame.
     fn write_page(&mut self, page: Page, frame: Option<u32>, at: u32, byte: u8)
         requires own { IsOwnPage self.old.machine.now.kernel.place self.old.layout.index page }
@@ -434,12 +447,7 @@ impl Memory for SpaceMemory<'_> {
 
     #[inline(always)]
     fn ahead(&self, address: u32) -> &[u8] {
-        match self.spot(address) {
-            Spot::Text(at) => self.page_from(self.text_frame(at), at % PAGE),
-            Spot::Data(at) => self.page_from(self.data_frame(at), at % PAGE),
-            Spot::Stack(at) => self.page_from(self.stack_frame(at), at % PAGE),
-            Spot::Below | Spot::Outside => &[],
-        }
+        self.bytes_from(address)
     }
 
     fn writable_ahead(&self, address: u32) -> u32 {

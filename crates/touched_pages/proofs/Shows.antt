@@ -1,5 +1,6 @@
 -- A byte that is written into a page that is shown.
-use Rattle.std.proofs.Common.{◌≡◌, ℕ, ◌*◌, ◌/◌, ◌%◌, ◌==◌, ◌⊎◌, inl, inr, Bool, true, false, List, [], ◌∷◌, refl, sym, ap, ◌∙◌, arith}
+use Rattle.std.proofs.Common.{◌≡◌, ℕ, ◌+◌, ◌*◌, ◌/◌, ◌%◌, ◌^◌, ◌==◌, ◌⊎◌, inl, inr, Bool, true, false, List, [], ◌∷◌, Option, refl, sym, ap, ◌∙◌, arith}
+use Rattle.vm_facts.specs.Ahead.{AreAhead}
 use Rattle.std.specs.Borrow.{MutBor}
 use Rattle.std.proofs.lemmas.Bool.{cases_eq}
 use Rattle.std.proofs.lemmas.Bool.Decides.{nat_tests}
@@ -19,6 +20,7 @@ use Rattle.page_model.specs.Moves.{touch}
 use Rattle.kernel_model.specs.Kernel.{Kernel, write_by_state}
 use Rattle.kernel_laws.proofs.Machine.Shapes.{touch_shaped, image_kept, sizes_kept}
 use Rattle.machine_state.specs.declared.user_memory.Layout.{Layout}
+use Rattle.machine_state.specs.Ahead.{LieAhead}
 use Rattle.machine_state.specs.Machine.{Standing}
 use Rattle.machine_state.specs.UserMemory.{bytes_of, spot_in, page_at_spot, page_in, kernel_answers, write_page, write_spot, write_in}
 use Rattle.machine_state.specs.UserMemoryLaws.{through_answers}
@@ -128,3 +130,11 @@ wrote_shown m n l k ps w h may = record {
       (sym (ap (λ (x : Kernel). kernel_answers x l.sid) behind) ∙ sym (ap (λ (sid : ℕ). kernel_answers n.now.kernel sid) same) ∙ through_answers m n l k (w ∷ []) h)
       (may_shown (is_shown ps (page_in m.now.kernel.place l.sid w.address)) ((kernel_answers m.now.kernel l.sid).may_write w.address) may);
 }
+
+-- Bytes that lie together in a page that is shown are read as they are.
+pub ahead_shown : (k : Kernel) (sid : ℕ) (ps : List Page) (address : ℕ) (bytes : List ℕ) → LieAhead k sid address bytes
+    → is_shown ps (page_in k.place sid address) ≡ true → AreAhead (shown_in k sid ps) address bytes
+ahead_shown k sid ps address bytes lie there i below =
+    ap (λ (o : Option Page). read_where (is_shown ps o) ((kernel_answers k sid).read ((address + i) % 2 ^ 32))) (lie.page i below)
+    ∙ ap (λ (s : Bool). read_where s ((kernel_answers k sid).read ((address + i) % 2 ^ 32))) there
+    ∙ lie.ahead i below

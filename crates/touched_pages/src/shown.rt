@@ -52,6 +52,14 @@ impl Memory for Shown<'_, '_> {
         self.memory.write(address, byte);
     }
 
+    fn ahead(&self, address: u32) -> &[u8] {
+        if self.shows(address) {
+            self.memory.bytes_from(address)
+        } else {
+            &[]
+        }
+    }
+
     ghost use Rattle.touched_pages.specs.ShownLaws.{shown_none, shown_more, shown_after};
 
     ghost wrote_none = { λ s. shown_none s.memory.machine s.memory.layout s.pages.now };
