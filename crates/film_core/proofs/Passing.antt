@@ -33,7 +33,7 @@ use Rattle.vm_core.specs.Steady.{StaysSteady}
 use Rattle.vm_core.proofs.Going.{few_at}
 use Rattle.film_core.specs.Films.{IsInOrder}
 use Rattle.film_core.specs.Marks.{marked_by, marked_if}
-use Rattle.film_core.specs.Ways.{RestDone, MayNote, StaysOn, OverAt, PastAt, TurnAt, RunsOut, RoundAt, RestAt}
+use Rattle.film_core.specs.Ways.{RestDone, MayNote, StaysOn, OverAt, PastAt, OverBeforeTurn, RunsOut, RoundAt, RestAt}
 use Rattle.film_core.proofs.Composing.{then_stop, then_out, here_leads, leads_reached, stands_then, leads_longer}
 use Rattle.film_core.proofs.Marking.{asked_order, few_lines, mark_follows}
 
@@ -111,7 +111,7 @@ past_of A s m schedule taken count last holds i image at = record { stands = at.
 
 turn_of_last : (A : Inputs) (s : State) (m : Standing) (schedule : List Event) (taken count last pid : ℕ) (holds : Option (List NamedFile))
     (i : Option SwapImage) (image : SwapImage) → chosen_next m.kernel last ≡ Some pid → OverAt m schedule taken count last holds i A s image
-    → TurnAt m schedule taken count pid holds i A s image
+    → OverBeforeTurn m schedule taken count pid holds i A s image
 turn_of_last A s m schedule taken count last pid holds i image y at = record {
   past = past_of A s m schedule taken count last holds i image at;
   next = ap (chosen_next m.kernel) at.turned ∙ y;
@@ -271,7 +271,7 @@ line_begun A s old new mark schedule taken counted holds i image e at l x few n 
 
 pub turn_begun : (A : Inputs) (s : State) (old new : Standing) (schedule : List Event) (taken counted : ℕ) (holds : Option (List NamedFile))
     (i : Option SwapImage) (image : SwapImage) (pid : ℕ)
-    → TurnAt old schedule taken counted pid holds i A s image → counted < old.params.limit → slice_get schedule taken ≡ None
+    → OverBeforeTurn old schedule taken counted pid holds i A s image → counted < old.params.limit → slice_get schedule taken ≡ None
     → StaysSteady old new 0 → new.kernel ≡ note_step old.kernel (entries.Turn pid)
     → NextBegun A s old new (marks.Turn pid counted) schedule taken counted holds i image
 turn_begun A s old new schedule taken counted holds i image pid turns l x n k =
@@ -337,19 +337,19 @@ module _ (old mid new : Standing) (mark : Mark) (schedule : List Event) (taken c
 module _ (old mid new : Standing) (schedule : List Event) (taken counted : ℕ) (holds : Option (List NamedFile)) (i j : Option SwapImage) (pid : ℕ)
     (l : counted < old.params.limit) (x : slice_get schedule taken ≡ None) (n : StaysSteady old mid 0)
     (k : mid.kernel ≡ note_step old.kernel (entries.Turn pid)) where
-  turn_there : (A : Inputs) (s : State) (image : SwapImage) → TurnAt old schedule taken counted pid holds i A s image
+  turn_there : (A : Inputs) (s : State) (image : SwapImage) → OverBeforeTurn old schedule taken counted pid holds i A s image
       → NextBegun A s old mid (marks.Turn pid counted) schedule taken counted holds i image
   turn_there A s image at = turn_begun A s old mid schedule taken counted holds i image pid at l x n k
 
-  pub turn_round : AtSome (TurnAt old schedule taken counted pid holds i) → AtSome (RoundAt mid (marks.Turn pid counted) schedule taken counted holds i)
+  pub turn_round : AtSome (OverBeforeTurn old schedule taken counted pid holds i) → AtSome (RoundAt mid (marks.Turn pid counted) schedule taken counted holds i)
   turn_round (A, s, image, at) = let b = turn_there A s image at in (A, b.state, b.leads.behind, b.at)
 
   pub turn_passes : LeadsFrom (RoundAt mid (marks.Turn pid counted) schedule taken counted holds i) (RunsOut mid new j)
-      → LeadsFrom (TurnAt old schedule taken counted pid holds i) (RunsOut old new j)
+      → LeadsFrom (OverBeforeTurn old schedule taken counted pid holds i) (RunsOut old new j)
   turn_passes f A s image at = begun_over A s old mid new (marks.Turn pid counted) schedule taken counted holds i j image (turn_there A s image at) f
 
   pub turn_stops_passing : (stop : Stop) → StopsFrom (RoundAt mid (marks.Turn pid counted) schedule taken counted holds i) mid new j stop
-      → StopsFrom (TurnAt old schedule taken counted pid holds i) old new j stop
+      → StopsFrom (OverBeforeTurn old schedule taken counted pid holds i) old new j stop
   turn_stops_passing stop f A s image at = begun_stops A s old mid new (marks.Turn pid counted) schedule taken counted holds i j image stop (turn_there A s image at) f
 
 pub line_noting : (old new : Standing) (schedule : List Event) (taken counted : ℕ) (holds : Option (List NamedFile)) (i : Option SwapImage) (e : Event)
@@ -360,7 +360,7 @@ line_noting old new schedule taken counted holds i e stop l x n A s image at = s
 pub turn_noting : (old new : Standing) (schedule : List Event) (taken counted : ℕ) (holds : Option (List NamedFile)) (i : Option SwapImage) (pid : ℕ)
     (stop : Stop) → counted < old.params.limit
     → slice_get schedule taken ≡ None → StopsBefore old new stop
-    → StopsFrom (TurnAt old schedule taken counted pid holds i) old new i stop
+    → StopsFrom (OverBeforeTurn old schedule taken counted pid holds i) old new i stop
 turn_noting old new schedule taken counted holds i pid stop l x n A s image at = stop_turn A s old schedule taken counted holds i image at.past new pid stop l x at.next n
 
 -- What follows where a process had the last turn.
@@ -370,7 +370,7 @@ pub over_past : (m : Standing) (schedule : List Event) (taken counted last : ℕ
 over_past m schedule taken counted last holds i (A, s, image, at) = (A, s, image, past_of A s m schedule taken counted last holds i image at)
 
 pub over_turn : (m : Standing) (schedule : List Event) (taken counted last pid : ℕ) (holds : Option (List NamedFile)) (i : Option SwapImage)
-    → chosen_next m.kernel last ≡ Some pid → AtSome (OverAt m schedule taken counted last holds i) → AtSome (TurnAt m schedule taken counted pid holds i)
+    → chosen_next m.kernel last ≡ Some pid → AtSome (OverAt m schedule taken counted last holds i) → AtSome (OverBeforeTurn m schedule taken counted pid holds i)
 over_turn m schedule taken counted last pid holds i y (A, s, image, at) = (A, s, image, turn_of_last A s m schedule taken counted last pid holds i image y at)
 
 pub leads_past : (m : Standing) (schedule : List Event) (taken counted last : ℕ) (holds : Option (List NamedFile)) (i : Option SwapImage)
@@ -380,7 +380,7 @@ leads_past m schedule taken counted last holds i Leads f A s image at = f A s im
 
 pub leads_turn : (m : Standing) (schedule : List Event) (taken counted last pid : ℕ) (holds : Option (List NamedFile)) (i : Option SwapImage)
     (Leads : Inputs → State → SwapImage → Type 0) → chosen_next m.kernel last ≡ Some pid
-    → LeadsFrom (TurnAt m schedule taken counted pid holds i) Leads → LeadsFrom (OverAt m schedule taken counted last holds i) Leads
+    → LeadsFrom (OverBeforeTurn m schedule taken counted pid holds i) Leads → LeadsFrom (OverAt m schedule taken counted last holds i) Leads
 leads_turn m schedule taken counted last pid holds i Leads y f A s image at =
     f A s image (turn_of_last A s m schedule taken counted last pid holds i image y at)
 
@@ -390,7 +390,7 @@ stops_past old new schedule taken counted last holds i j stop f A s image at = f
 
 pub stops_turn : (old new : Standing) (schedule : List Event) (taken counted last pid : ℕ) (holds : Option (List NamedFile)) (i j : Option SwapImage)
     → chosen_next old.kernel last ≡ Some pid → (stop : Stop)
-    → StopsFrom (TurnAt old schedule taken counted pid holds i) old new j stop → StopsFrom (OverAt old schedule taken counted last holds i) old new j stop
+    → StopsFrom (OverBeforeTurn old schedule taken counted pid holds i) old new j stop → StopsFrom (OverAt old schedule taken counted last holds i) old new j stop
 stops_turn old new schedule taken counted last pid holds i j y stop f A s image at =
     f A s image (turn_of_last A s old schedule taken counted last pid holds i image y at)
 

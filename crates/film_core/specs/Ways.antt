@@ -99,7 +99,7 @@ pub record PastAt (m : Standing) (schedule : List Event) (taken counted : ℕ) (
   pub lines : s.lines ≡ taken
 
 -- The same, where this process has the next turn.
-pub record TurnAt (m : Standing) (schedule : List Event) (taken counted pid : ℕ) (holds : Option (List NamedFile)) (i : Option SwapImage) (A : Inputs)
+pub record OverBeforeTurn (m : Standing) (schedule : List Event) (taken counted pid : ℕ) (holds : Option (List NamedFile)) (i : Option SwapImage) (A : Inputs)
     (s : State) (image : SwapImage) : Type 0 where
   pub past : PastAt m schedule taken counted holds i A s image
   pub next : turn_after m.kernel (last_turned s.mark) ≡ Some pid

@@ -3,7 +3,7 @@ use Rattle.step_units.specs.Stepped.{LeadsFrom, StopsFrom}
 use Rattle.vm_core.proofs.Noting.{ok_so, stops_weaker}
 use Rattle.film_core.proofs.Passing.{none_passes, over_past, over_turn, leads_past, leads_turn, stops_past, stops_turn}
 use Rattle.film_core.proofs.going.pass.Goals as goal
-use Rattle.film_core.specs.Ways.{OverAt, PastAt, TurnAt, RunsOut}
+use Rattle.film_core.specs.Ways.{OverAt, PastAt, OverBeforeTurn, RunsOut}
 
 pub returns-in-Over-clause-over : goal.returns-in-Over-clause-over
 returns-in-Over-clause-over g c =
@@ -49,7 +49,7 @@ returns-in-Turn-clause-over g c =
     let holds = g.F.Files.holds c.args.files.now in
     let i = stores g.F.Files g.D.SwapDev c.args.files.now c.args.swap.now in
     let j = stores g.F.Files g.D.SwapDev c.take_turn.new.files c.take_turn.new.swap in
-    ok_so c.take_turn.result (LeadsFrom (TurnAt old c.args.lines.now c.args.taken c.args.counted c.in-Turn.pid holds i) (RunsOut old new j))
+    ok_so c.take_turn.result (LeadsFrom (OverBeforeTurn old c.args.lines.now c.args.taken c.args.counted c.in-Turn.pid holds i) (RunsOut old new j))
     (LeadsFrom (OverAt old c.args.lines.now c.args.taken c.args.counted c.args.last holds i) (RunsOut old new j))
     (leads_turn old c.args.lines.now c.args.taken c.args.counted c.args.last c.in-Turn.pid holds i (RunsOut old new j) (c.next_of.ensures.turn c.in-Turn.pid c.in-Turn.is).2)
     c.take_turn.ensures.over
@@ -61,7 +61,7 @@ returns-in-Turn-clause-stops g c =
     let holds = g.F.Files.holds c.args.files.now in
     let i = stores g.F.Files g.D.SwapDev c.args.files.now c.args.swap.now in
     let j = stores g.F.Files g.D.SwapDev c.take_turn.new.files c.take_turn.new.swap in
-    stops_weaker c.take_turn.result (λ stop. StopsFrom (TurnAt old c.args.lines.now c.args.taken c.args.counted c.in-Turn.pid holds i) old new j stop)
+    stops_weaker c.take_turn.result (λ stop. StopsFrom (OverBeforeTurn old c.args.lines.now c.args.taken c.args.counted c.in-Turn.pid holds i) old new j stop)
     (λ stop. StopsFrom (OverAt old c.args.lines.now c.args.taken c.args.counted c.args.last holds i) old new j stop)
     (stops_turn old new c.args.lines.now c.args.taken c.args.counted c.args.last c.in-Turn.pid holds i j (c.next_of.ensures.turn c.in-Turn.pid c.in-Turn.is).2)
     c.take_turn.ensures.stops

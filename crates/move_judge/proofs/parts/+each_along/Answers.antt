@@ -1,4 +1,4 @@
-use Rattle.std.proofs.Common.{◌≡◌, ◌+◌, ◌-◌, sym, ap, ◌∙◌}
+use Rattle.std.proofs.Common.{◌≡◌, ◌+◌, ◌-◌, ◌≤◌, sym, ap, ◌∙◌, arith}
 use Rattle.flat_state.specs.PageNames.{number_of, beside, pages_from}
 use Rattle.page_laws.proofs.Lists.Runs.{number_beside}
 use Rattle.paged_model.specs.Moves.{each_page}
