@@ -1,7 +1,8 @@
+use Rattle.vm_facts.specs.declared.params.Params.{Params}
 use Rattle.io_edge.specs.WithFiles.{stores}
 use Rattle.std.proofs.Common.{◌≡◌, ◌↔◌, ◌-◌, true, List, length, slice_get, ap, subst, arith}
 use Rattle.vm_facts.specs.declared.entry.Entry.{Entry}
-use Rattle.machine_state.proofs.Backing.{backed_on}
+use Rattle.machine_state.proofs.Backing.{backed_by}
 use Rattle.grade_check.proofs.Going.{filming_on, longer_by_one, along_on}
 use Rattle.grade_check.proofs.grading.go_on_along.Goals as goal
 
@@ -43,5 +44,6 @@ returns-in-Ok-clause-longer g c =
 
 pub returns-in-Ok-clause-backed : goal.returns-in-Ok-clause-backed
 returns-in-Ok-clause-backed g c =
-    backed_on c.args.film.now.machine c.go_on.new.self.machine (g.F.Files.holds c.args.files.now) _ _ _ c.in-Ok.ensures.params c.in-Ok.ensures.images
+    backed_by c.args.film.now.machine c.go_on.new.self.machine (g.F.Files.holds c.args.files.now) _ _ _
+    (ap (λ (p : Params). p.swap_blocks) c.in-Ok.ensures.params) c.in-Ok.ensures.images
     c.go_on.ensures.outside.files.holds c.go_on.ensures.outside.swap.blocks c.requires.backed

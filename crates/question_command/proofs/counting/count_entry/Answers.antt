@@ -1,5 +1,7 @@
+use Rattle.std.proofs.Common.{ap}
+use Rattle.vm_facts.specs.declared.params.Params.{Params}
 use Rattle.io_edge.specs.WithFiles.{stores}
-use Rattle.machine_state.proofs.Backing.{backed_on}
+use Rattle.machine_state.proofs.Backing.{backed_by}
 use Rattle.question_command.proofs.Steps.{filming_on, longer_by_one}
 use Rattle.question_command.proofs.Noting.{counted_more}
 use Rattle.reference_commands.proofs.Runs.{on_ok_always, on_ok_so}
@@ -39,5 +41,6 @@ returns-in-Ok-clause-longer g c =
 pub returns-in-Ok-clause-backed : goal.returns-in-Ok-clause-backed
 returns-in-Ok-clause-backed g c =
     on_ok_always c.note_last.result _
-    (backed_on c.args.film.now.machine c.go_on.new.self.machine (g.F.Files.holds c.args.files.now) _ _ _ c.in-Ok.ensures.params c.in-Ok.ensures.images
+    (backed_by c.args.film.now.machine c.go_on.new.self.machine (g.F.Files.holds c.args.files.now) _ _ _
+    (ap (λ (p : Params). p.swap_blocks) c.in-Ok.ensures.params) c.in-Ok.ensures.images
     c.go_on.ensures.outside.files.holds c.go_on.ensures.outside.swap.blocks c.requires.backed)

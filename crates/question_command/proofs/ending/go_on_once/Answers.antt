@@ -1,5 +1,7 @@
+use Rattle.std.proofs.Common.{ap}
+use Rattle.vm_facts.specs.declared.params.Params.{Params}
 use Rattle.io_edge.specs.WithFiles.{stores}
-use Rattle.machine_state.proofs.Backing.{backed_on}
+use Rattle.machine_state.proofs.Backing.{backed_by}
 use Rattle.question_command.proofs.Steps.{filming_on, state_on, longer_by_one}
 use Rattle.question_command.proofs.ending.go_on_once.Goals as goal
 
@@ -21,5 +23,6 @@ returns-in-Ok-clause-longer g c =
 
 pub returns-in-Ok-clause-backed : goal.returns-in-Ok-clause-backed
 returns-in-Ok-clause-backed g c =
-    backed_on c.args.film.now.machine c.go_on.new.self.machine (g.F.Files.holds c.args.files.now) _ _ _ c.in-Ok.ensures.params c.in-Ok.ensures.images
+    backed_by c.args.film.now.machine c.go_on.new.self.machine (g.F.Files.holds c.args.files.now) _ _ _
+    (ap (λ (p : Params). p.swap_blocks) c.in-Ok.ensures.params) c.in-Ok.ensures.images
     c.go_on.ensures.outside.files.holds c.go_on.ensures.outside.swap.blocks c.requires.backed

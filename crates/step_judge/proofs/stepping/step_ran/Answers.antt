@@ -130,7 +130,8 @@ step_else-requires-clause-asks g c =
     let o : RoomOnly m c.attempt_cached-stepped.new.m = record { made = Some c.args.pid; only = same ∙ c.in_ok-ask_room.ensures.only } in
     record {
       ready = c.attempt_cached-stepped.ensures.goes_on;
-      backed = room_kernel (λ n. IsBacked n (g.F.Files.holds c.args.files.now) (g.D.SwapDev.blocks c.args.swap.now)) m c.attempt_cached-stepped.new.m o c.requires.asks.backed;
+      backed = room_kernel (λ n. IsBacked n (g.F.Files.holds c.args.files.now) (g.D.SwapDev.blocks c.args.swap.now)) m c.attempt_cached-stepped.new.m o
+          (record { area = c.requires.asks.backed.area; files = c.requires.asks.backed.files });
     }
 
 pub returns-else-is_done-clause-told : goal.returns-else-is_done-clause-told
