@@ -1,4 +1,5 @@
-//! Pages of a process that goes out.
+//! Judges the line `P`: pages of a process begin to be written, or a clean one is freed. No page may move before
+//! every reason was tried.
 ghost use Rattle.std.specs.Prelude.{◌≡◌, ◌≤◌, ◌<◌, ◌+◌, ◌^◌, ℕ, None, [], true, IfOk, OnOk, OnErr};
 ghost use Rattle.vm_facts.specs.declared.entry.Entry.TheVariants as entries;
 ghost use Rattle.flat_state.specs.Flat.{FlatState};

@@ -1,3 +1,4 @@
+//! Laws of fronts of paged runs, and of traces without parts. There is no code here.
 ghost use Rattle.std.specs.Prelude.{◌≡◌, ◌↔◌, ℕ, ◌+◌, List, ◌++◌, length, map, None};
 ghost use Rattle.vm_facts.specs.declared.entry.Entry.{Entry};
 ghost use Rattle.flat_state.specs.Flat.{Inputs};

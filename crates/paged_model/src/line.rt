@@ -1,3 +1,4 @@
+//! A line of a trace with paging lines: an entry, or a part of a move.
 use kernel_model::HandPart;
 use vm_facts::Entry;
 

@@ -1,4 +1,5 @@
-//! How many moves of the hands neighbouring lines count.
+//! Whether neighbouring lines count more moves of the hands than one entry can. The trace alone is looked at, before
+//! a machine is begun.
 ghost use Rattle.std.specs.Prelude.{◌≡◌, ◌↔◌, ◌≤◌, ◌<◌, ◌+◌, ◌^◌, true};
 ghost use Rattle.repage_check.specs.Moves.{moves_with, moves_by, HaveFewMoves};
 

@@ -1,4 +1,4 @@
-//! The words in which it is told why a line of a trace can't come.
+//! The words for each reason why a line of a trace can't come.
 ghost use Rattle.std.specs.Prelude.{◌≡◌, [], ◌∷◌, ◌++◌, codes, decimal, IfOk, OnOk, option_map};
 ghost use Rattle.run_text.specs.Text.{line_of, page_text, rest_of_line};
 ghost use Rattle.trace_text.specs.Grammar.{part_line};

@@ -1,3 +1,4 @@
+//! The law that a transcript is a trace of the same entries. There is no code here.
 ghost use Rattle.std.specs.Prelude.{ℕ, List, map};
 ghost use Rattle.vm_facts.specs.declared.entry.Entry.{Entry};
 ghost use Rattle.paged_model.specs.declared.line.Line.TheVariants as lines;

@@ -1,4 +1,4 @@
-// The reader of traces.
+//! Reads a whole trace, exactly by its grammar.
 ghost use Rattle.std.specs.Prelude.{◌≡◌, ◌^◌, ◌<◌, true, false, length, IfOk, MatchOption};
 ghost use Rattle.paged_model.specs.declared.line.Line.{Line as TraceLine};
 ghost use Rattle.trace_text.specs.Grammar.{IsTraceLine, IsReadTrace};
