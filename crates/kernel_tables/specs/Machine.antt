@@ -1,4 +1,4 @@
--- What a machine stands for.
+-- The kernel for which tables stand: processes, residents, frames and journal, each read from its table.
 use Rattle.std.specs.Prelude.{◌≡◌, ℕ, ◌-◌, ◌≤◌, Bool, List, [], length, map, take, filter_map, string_bytes, Option, Some, None, Ok}
 use Rattle.std.specs.List.{range_with_len}
 use Rattle.vm_facts.specs.declared.entry.Entry.{Entry}

@@ -1,4 +1,4 @@
--- Moves of the hands that neighbouring lines count.
+-- How many moves of the hands neighbouring lines count, and when these are too many.
 use Rattle.std.specs.Prelude.{ℕ, zero, ◌+◌, ◌≤◌, List, [], ◌∷◌}
 use Rattle.vm_facts.specs.declared.entry.Entry.{Entry}
 use Rattle.vm_facts.specs.declared.entry.Entry.TheVariants as entries

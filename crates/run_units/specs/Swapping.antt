@@ -1,4 +1,4 @@
--- Processes that are put out or come in, and entries that move no page.
+-- The statements on processes that go out and come in, and on notes.
 use Rattle.std.specs.Prelude.{◌≡◌, ℕ, ◌+◌, ◌<◌, true, List, [], length, Option, Some, None}
 use Rattle.vm_facts.specs.SwapImages.{SwapImage}
 use Rattle.vm_facts.specs.declared.entry.Entry.{Entry}

@@ -1,4 +1,4 @@
--- What an instruction over the frames of a machine says of the pages that it touches.
+-- The statements on touched pages: what an instruction over the frames says of the page waited for.
 use Rattle.std.specs.Prelude.{◌≡◌, ℕ, Bool, true, false, List, [], ◌∷◌, ◌++◌, Option, Some, None, Result, Ok, Err, ℤ}
 use Rattle.vm_facts.specs.SwapImages.{SwapImage}
 use Rattle.vm_facts.specs.Answers.{Answers}

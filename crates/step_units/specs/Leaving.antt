@@ -1,4 +1,4 @@
--- Ends of processes, and new images.
+-- The statements on ends of processes and new images: they are the process's step.
 use Rattle.std.specs.Prelude.{◌≡◌, ◌⊎◌, ℕ, Bool, List, [], ℤ, Option, Some, None, Ok, Err}
 use Rattle.vm_facts.specs.SwapImages.{SwapImage}
 use Rattle.vm_facts.specs.declared.entry.Entry.TheVariants as entries

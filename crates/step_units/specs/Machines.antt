@@ -1,4 +1,4 @@
--- A machine with its files, at a state of a run.
+-- A machine with its files, at a state of a run: the premise of this crate's statements.
 use Rattle.std.specs.Prelude.{◌≡◌, ℕ, Bool, List, Option, Ok}
 use Rattle.vm_facts.specs.SwapImages.{SwapImage}
 use Rattle.io_edge.specs.FileHolding.{NamedFile}

@@ -1,4 +1,4 @@
--- The fields of a swap book.
+-- A swap book by its map of free blocks and its holdings, and when these agree.
 use Rattle.std.specs.Prelude.{◌≡◌, ℕ, ◌^◌, ◌<◌, not, List, length}
 use Rattle.resource_map.specs.Blocks.{Blocks, is_free}
 use Rattle.swap_book.specs.declared.Held.{Held}

@@ -1,4 +1,4 @@
--- A process that runs, at a state of a run.
+-- When a process runs at a state of a run, so that its touched pages may be sought.
 use Rattle.std.specs.Prelude.{◌≡◌, ℕ, Bool}
 use Rattle.vm_facts.specs.SwapImages.{SwapImage}
 use Rattle.vm_facts.specs.declared.regs.Regs.{Regs}
