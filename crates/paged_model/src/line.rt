@@ -6,7 +6,7 @@ use vm_facts::Entry;
 #[derive(Debug, Drop)]
 pub enum Line {
     /// One of the kinds that `run` writes.
-    Entry(Entry),
+    RunLine(Entry),
     /// A part of a move of the hands, alone, which `run` never writes.
     Part(HandPart),
 }

@@ -261,7 +261,7 @@ pub fn judge_line<F: Files, D: SwapDev>(
     ensures blocks { D.blocks swap.new ≡ D.blocks swap.old }
 {
     match line {
-        Line::Entry(e) => judge_entry(alloc, cache, m, files, swap, past, e),
+        Line::RunLine(e) => judge_entry(alloc, cache, m, files, swap, past, e),
         Line::Part(part) => judge_alone(m, *past, *part),
     }
 }

@@ -24,7 +24,7 @@ fn moves_by(n: u64, line: &Line) -> u64
     ensures value { result ≡ moves_by n line.now }
 {
     match line {
-        Line::Entry(e) => moves_with(n, e),
+        Line::RunLine(e) => moves_with(n, e),
         Line::Part(_) => n,
     }
 }

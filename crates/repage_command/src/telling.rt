@@ -237,7 +237,7 @@ fn line_text(alloc: Global, line: &Line) -> Result<Vec<u8>, AllocError>
     ensures { IfOk result (λ text. text.items ≡ line_text line.now) }
 {
     match line {
-        Line::Entry(entry) => match entry_line(alloc, entry) {
+        Line::RunLine(entry) => match entry_line(alloc, entry) {
             Ok(text) => Ok(text),
             Err(_) => Err(AllocError),
         },
