@@ -36,4 +36,4 @@ pub added_residents : (old new : List Record) (next : ℕ) (p : Record) (r : Res
 added_residents old new next p r l c is =
     ap (λ (n : ℕ). filter_map (λ pid. residence_shown (find pid new)) (range_with_len 1 n)) (one_more next l)
     ∙ added_from (λ pid. residence_shown (find pid new)) (λ pid. residence_shown (find pid old)) next r
-        (ap residence_shown c.changed ∙ is) (λ m d. ap residence_shown (c.others m d)) 1 (next - 1) (omega arith)
+    (ap residence_shown c.changed ∙ is) (λ m d. ap residence_shown (c.others m d)) 1 (next - 1) (omega arith)

@@ -217,7 +217,7 @@ evict_is t f token page rest k h = by page h ∙ sym (ap (λ (o : Option Page). 
         ] in
         placement_ext (placement_of (taken_frame t f None rest)) (record (placement_of t) { free = rest }) s.spaces s.texts
         (ap (λ (n : ℕ). map (page_held (taken_frame t f None rest)) (range_with_len 1 n)) count
-            ∙ frames_same (page_held t) (page_held (taken_frame t f None rest)) (range_with_len 1 (length t.slots - 1)) held)
+        ∙ frames_same (page_held t) (page_held (taken_frame t f None rest)) (range_with_len 1 (length t.slots - 1)) held)
         refl refl refl refl refl refl
     by (Some e) h0 =
         let u : Lists = taken_frame t f (Some e) rest in

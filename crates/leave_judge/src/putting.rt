@@ -173,7 +173,7 @@ fn put_if(m: &Machine, sid: u32, page: Page, n: u32) -> Option<Reason>
     requires own { IsOfSegment sid page }
     ensures { result ≡ if_there (is_there m.now.kernel.place page) page
         (or_reason (wrong_length n) (or_reason (unseated m.now.kernel.place page)
-            (put_reason_by m.now.kernel.place page n (is_dirty m.now.kernel.place page)))) }
+        (put_reason_by m.now.kernel.place page n (is_dirty m.now.kernel.place page)))) }
 {
     match m.state_of(page) {
         None => Some(Reason::NoPage(page)),
@@ -189,7 +189,7 @@ fn put_of(m: &Machine, sid: u32, page: Page, n: u32) -> Option<Reason>
     ensures judged { (F : FlatState) → SameTables m.now.kernel F → result ≡ or_reason (holder_stays F m.now.kernel.place sid)
         (if_there (is_there m.now.kernel.place page) page
         (or_reason (wrong_length n) (or_reason (unseated m.now.kernel.place page)
-            (put_reason_by m.now.kernel.place page n (is_dirty m.now.kernel.place page))))) }
+        (put_reason_by m.now.kernel.place page n (is_dirty m.now.kernel.place page))))) }
     ensures can { result ≡ None → CanPush m.now.kernel.place page n }
 {
     match holder_stays(m, sid) {
@@ -205,7 +205,7 @@ fn put_clear(m: &Machine, page: Page, n: u32) -> Option<Reason>
     ensures judged { (F : FlatState) → SameTables m.now.kernel F → result ≡ or_reason (owner_stays F m.now.kernel.place page)
         (if_there (is_there m.now.kernel.place page) page
         (or_reason (wrong_length n) (or_reason (unseated m.now.kernel.place page)
-            (put_reason_by m.now.kernel.place page n (is_dirty m.now.kernel.place page))))) }
+        (put_reason_by m.now.kernel.place page n (is_dirty m.now.kernel.place page))))) }
     ensures can { result ≡ None → CanPush m.now.kernel.place page n }
 {
     match page {
