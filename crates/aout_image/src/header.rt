@@ -1,5 +1,5 @@
-// Reading and writing the header.
-
+//! Judges a file by its first bytes, and writes the header of a new image. Of several reasons against a file the
+//! first is told.
 ghost use Rattle.std.specs.Prelude.{◌≡◌, ◌≤◌, ◌+◌, ℕ, List, length, min, take};
 ghost use Rattle.aout_image.specs.Image.{IfImage, IsSound, file_length_of, header_of, judged_image, judged_of, judged_facts, judgement, kind_of, magic_of, word_at, facts_of};
 

@@ -1,5 +1,5 @@
-// The segments of an image in pages, and the bytes of the file that fill them.
-
+//! How an image's segments are cut into pages, and which bytes of the file fill each. It is arithmetic on the header;
+//! no file is read here.
 ghost use Rattle.std.specs.Prelude.{◌≡◌, ◌+◌, ◌-◌, ◌*◌, ◌^◌, ◌<◌, ◌≤◌, ℕ, List, IsTrue, length, min, true, false};
 ghost use Rattle.aout_image.specs.Image.{FillsPage, HasPages, IsSound, NeedsNoMore, data_given, image_data_pages, data_start_of, end_of, file_length_of, given_of, has_text_segment, judged_image, is_paged, is_ragged, is_too_large, offset_of, page_at, page_from, pages_for, pages_of, segment_of, starts_outside, text_given, text_offset, text_pages_of};
 

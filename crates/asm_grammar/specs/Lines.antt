@@ -1,4 +1,4 @@
--- The lines of a source.
+-- Reading a line of a source, as a function: a label, and a directive or an instruction. Grammar tells the same as a relation.
 use Prim.Native.Char.{code}
 use Rattle.std.specs.Prelude.{ℕ, ◌==◌, if◌then◌else◌, List, [], ◌∷◌, codes, map, Option, Some, None}
 use Rattle.asm_grammar.specs.Text.{◌>>=◌, Text, after, front_of, behind}

@@ -1,4 +1,4 @@
--- The numbers of a line.
+-- Reading a number of a line, as a function: its digits, and its value as far as a range can hold it.
 use Prim.Native.Char.{code}
 use Rattle.std.specs.Prelude.{⊤, IsTrue, ℕ, ◌==◌, ◌&&◌, ◌||◌, Bool, true, false, not, if◌then◌else◌, min, List, [], ◌∷◌, drop, Some, None}
 use Rattle.std.specs.Int.{is_in_range}

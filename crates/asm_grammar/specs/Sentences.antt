@@ -1,4 +1,4 @@
--- The text of an instruction: its mnemonic and its operands.
+-- Reading an instruction: its mnemonic, and then an operand for each place of its row.
 use Prim.Native.Char.{code}
 use Rattle.std.specs.Prelude.{ℕ, ◌==◌, Bool, if◌then◌else◌, nat_lt, nat_le, List, [], ◌∷◌, length, Option, Some, None}
 use Rattle.vax_code.specs.declared.table.Row.{Row}

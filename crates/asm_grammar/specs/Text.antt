@@ -1,4 +1,4 @@
--- Reading a text from its front.
+-- What reading a text from its front gives: something, and the text after it. All readers of the grammar are put together of this.
 use Rattle.std.specs.Prelude.{◌≡◌, ℕ, ◌==◌, Bool, if◌then◌else◌, List, [], ◌∷◌, Option, Some, None}
 
 infixl 10 ◌>>=◌

@@ -1,4 +1,4 @@
--- Labels, and values, which are numbers or labels.
+-- Reading labels, and values, which are numbers or labels. A label stands in sixteen bytes.
 use Prim.Native.Char.{code}
 use Rattle.std.specs.Prelude.{ℕ, ◌==◌, ◌&&◌, ◌||◌, Bool, if◌then◌else◌, nat_le, List, [], ◌∷◌, ◌++◌, length, drop, replicate, Some, None}
 use Rattle.std.specs.Int.{is_in_range}

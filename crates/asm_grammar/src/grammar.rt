@@ -1,4 +1,4 @@
-// The law of the assembler's grammar.
+//! The law that what is read here of a source is its grammar, told as a relation. There is no code here.
 ghost use Rattle.std.specs.Prelude.{◌≡◌, ◌↔◌, List, ℕ, Option, Some};
 ghost use Rattle.asm_grammar.specs.Sentences.{sentence_of};
 ghost use Rattle.asm_grammar.specs.Lines.{line_of, items_in};

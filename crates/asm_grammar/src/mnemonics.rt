@@ -1,4 +1,4 @@
-// The mnemonics of the instruction table, in lower case.
+//! The mnemonics of the instruction table, in lower case, and the row that each names.
 ghost use Rattle.std.specs.Prelude.{◌≡◌, ◌≤◌, find, length};
 ghost use Rattle.asm_grammar.specs.Mnemonics.{mnemonic, same_text, row_named};
 

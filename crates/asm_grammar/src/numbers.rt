@@ -1,4 +1,5 @@
-// The numbers of a line.
+//! Reads a number, decimal or hexadecimal, at the front of a text. Magnitudes past every range are read as one, so no
+//! digit is too many.
 ghost use Rattle.std.specs.Prelude.{◌≡◌, ◌⊎◌, ◌≤◌, ◌^◌, ◌<◌, length};
 ghost use Rattle.std.specs.Str.Parse.{digits_value};
 ghost use Rattle.asm_grammar.specs.Text.{Gives, front_of, behind};

@@ -1,4 +1,4 @@
-// The texts of operands.
+//! Reads one operand of an instruction, in each form that the assembler knows. What follows it is handed back unread.
 ghost use Rattle.std.specs.Prelude.{◌≡◌, ◌⊎◌, ◌<◌, IfSome};
 ghost use Rattle.asm_grammar.specs.Text.{Gives};
 ghost use Rattle.asm_grammar.specs.Operands.{second_digit, register_number_at, register_at, in_parentheses_at, incremented, deferred_at, decremented_at, increment_deferred_at, absolute_at, marked_size, displacement_at, displaced_at, pointer_at, place_at, index_at, indexed, addressed_at, misindexed_at, unaddressed, literal_at, immediate_at, plain_register_at, specifier_at, target_at, operand_at};

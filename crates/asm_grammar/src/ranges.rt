@@ -1,4 +1,4 @@
-// How many numbers the bytes of an operand hold.
+//! How many numbers 1, 2 or 4 bytes hold. The assembler and the listing judge values by the same bounds.
 ghost use Rattle.std.specs.Prelude.{◌≡◌};
 ghost use Rattle.asm_grammar.specs.Encoding.{whole_of, half_of};
 

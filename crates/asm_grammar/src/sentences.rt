@@ -1,4 +1,4 @@
-// The text of an instruction: its mnemonic and its operands.
+//! Reads an instruction: a mnemonic, and as many operands as its row has. How long a line may be is said here too.
 ghost use Rattle.std.specs.Prelude.{◌≡◌};
 ghost use Rattle.asm_grammar.specs.Text.{Gives};
 ghost use Rattle.asm_grammar.specs.Sentences.{separator, place_of_row_at, ended, operands_at, sentence_of, is_short};

@@ -1,4 +1,5 @@
-// What a line says.
+//! What a source says, as types: numbers, labels, operands, instructions, lines. Nothing is known yet of addresses or
+//! bytes.
 ghost use Rattle.std.specs.Prelude.{◌≡◌};
 ghost use Rattle.asm_grammar.specs.Values.{label_name};
 

@@ -1,4 +1,4 @@
-// Reading a text from its front.
+//! A text without its first byte, where that is a given one. All readers of the grammar go on by it.
 ghost use Rattle.asm_grammar.specs.Text.{Gives, after};
 
 // The text after this byte.

@@ -1,4 +1,4 @@
-// Labels, and values, which are numbers or labels.
+//! Reads labels, and values, which are numbers or labels. Whether a label is defined isn't asked here.
 ghost use Rattle.std.specs.Prelude.{◌≡◌, ◌≤◌, ◌<◌, length};
 ghost use Rattle.asm_grammar.specs.Text.{Gives, front_of, behind};
 ghost use Rattle.asm_grammar.specs.Values.{is_label_start, is_word_byte, padded, label_of_word, label_at, value_label_at, value_number_at, value_at};

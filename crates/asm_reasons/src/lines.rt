@@ -1,4 +1,4 @@
-// Why a line is outside the grammar.
+//! What is wrong with a whole line of a source, from its label on. Only the first mistake is told.
 ghost use Rattle.std.specs.Prelude.{◌≡◌, ◌++◌, is_some, codes, IfOk};
 ghost use Rattle.std.specs.Option.{option_copied};
 ghost use Rattle.asm_grammar.specs.Lines.{lines_in};

@@ -1,4 +1,4 @@
-// What may not stand where it does.
+//! The mistakes that put a line outside the grammar, as a type. Their words are in `source_commands`.
 
 /// What stands in a line, or isn't there, so that it is outside the grammar.
 #[derive(Clone, Copy, Debug, Drop)]

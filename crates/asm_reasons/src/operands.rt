@@ -1,4 +1,4 @@
-// Why an operand isn't one.
+//! Why a text is no operand, and which literals of a good line are too wide.
 ghost use Rattle.std.specs.Prelude.{◌≡◌, ◌++◌, [], is_some, option_map, IfOk, Some};
 ghost use Rattle.asm_grammar.specs.Sentences.{sentence_of};
 ghost use Rattle.asm_grammar.specs.Encoding.{named_instruction};

@@ -1,4 +1,4 @@
-// Why a statement isn't one.
+//! Why a text is no directive and no instruction. Of several bad operands the leftmost is told.
 ghost use Rattle.std.specs.Prelude.{◌≡◌, ◌≤◌, find, length, option_map, IfOk};
 ghost use Rattle.asm_grammar.specs.Mnemonics.{mnemonic, same_text, row_named};
 ghost use Rattle.asm_reasons.specs.Mistakes.{why_of, why_place, why_row, operand_count, why_operands, has, past, is_directive, why_directive, why_instruction, why_statement};

@@ -1,4 +1,5 @@
-// Looking for bytes in a text.
+//! Small questions about a text: whether a byte is in it, what stands before one, how many commas it has. Nothing
+//! here knows the grammar.
 ghost use Rattle.std.specs.Prelude.{◌≡◌, ◌==◌, ◌≤◌, ◌<◌, IfSome, position, count_by, length, not};
 ghost use Rattle.std.specs.List.{list_any};
 ghost use Rattle.asm_reasons.specs.Mistakes.{up_to, past, has, begins, last_byte, is_capital, is_printable};

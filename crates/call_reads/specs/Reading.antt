@@ -1,4 +1,4 @@
--- What the calls read.
+-- What the calls read, told by the images of a machine: which one a path names, and what a reply starts.
 use Rattle.std.specs.Prelude.{◌≡◌, ℕ, suc, ◌+◌, ◌-◌, ◌^◌, ◌<◌, ◌≤◌, Bool, true, false, List, [], ◌∷◌, length, Option, Some, None, Result, Ok, Err, string_bytes, bytes_eq, slice_get}
 use Rattle.user_vax.specs.declared.refused.Refused.{Refused}
 use Rattle.flat_state.specs.Flat.{NamedImage}

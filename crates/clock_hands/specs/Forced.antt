@@ -1,4 +1,4 @@
--- A frame that is forced.
+-- How a frame is forced: the units that are made, until one is free or the machine stops.
 use Rattle.std.specs.Prelude.{◌≡◌, ℕ, ◌<◌, ◌≤◌, List, [], length, Option, Some}
 use Rattle.vm_facts.specs.SwapImages.{SwapImage}
 use Rattle.vm_facts.specs.declared.page.Page.{Page}

@@ -1,4 +1,4 @@
--- Moves of the hands, as a line of the schedule asks for them.
+-- The units by which a line of the schedule moves the hands, and how many moves they are.
 use Rattle.std.specs.Prelude.{◌≡◌, ℕ, ◌-◌, ◌<◌, ◌≤◌, Bool, true, false, List, [], ◌∷◌, Option, Some}
 use Rattle.vm_facts.specs.SwapImages.{SwapImage}
 use Rattle.vm_facts.specs.declared.entry.Entry.{Entry}

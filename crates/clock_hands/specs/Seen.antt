@@ -1,4 +1,4 @@
--- What is seen of the frames at which the hands stand.
+-- What the code sees of the frames at which the hands stand, against what the placement has there.
 use Rattle.std.specs.Prelude.{◌≡◌, ℕ, true, false, List, Option, Some, None}
 use Rattle.vm_facts.specs.declared.page.Page.{Page}
 use Rattle.flat_state.specs.PageNames.{is_among}

@@ -1,4 +1,5 @@
-//! A frame is forced.
+//! Forces a frame for a page that can't wait for one. Transfers in flight end first, and only then do the hands move.
+//! Pages that the caller locks may not lose their frames.
 ghost use Rattle.io_edge.specs.WithFiles.{stores};
 ghost use Rattle.std.specs.Prelude.{◌≡◌, ◌<◌, ◌≤◌, ◌+◌, ◌^◌, [], length, OnOk, OnErr, IfErr};
 ghost use Rattle.page_model.specs.Serve.{force_entry};

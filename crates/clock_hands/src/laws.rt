@@ -1,4 +1,4 @@
-//! The law of moves.
+//! The law that moves which a line of the schedule asks for are next units of a run. There is no code here.
 ghost use Rattle.std.specs.Prelude.{◌≡◌, ℕ, List, [], ◌∷◌, Some};
 ghost use Rattle.vm_facts.specs.declared.entry.Entry.{Entry};
 ghost use Rattle.flat_state.specs.Flat.{Inputs};

@@ -1,4 +1,5 @@
-//! The clock with two hands: pages that weren't used between the hands lose their frames (the 4.3BSD book).
+//! The clock with two hands: pages that weren't used between the hands lose their frames (the 4.3BSD book). It may
+//! not touch the tables: a page loses its frame by the machine's calls alone.
 //!
 //! - looking.rt: the pages at which the hands stand, and the write that the next move begins.
 //! - forcing.rt: a frame is forced.

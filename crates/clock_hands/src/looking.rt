@@ -1,4 +1,5 @@
-//! What the next move of the hands does.
+//! What the next move of the hands will do, told without moving them. Who moves the hands looks first, because a
+//! write needs room among the transfers. The machine may not change here.
 ghost use Rattle.std.specs.Prelude.{◌≡◌, ◌<◌, ◌/◌, length, IfSome, IsSome};
 ghost use Rattle.page_model.specs.Pages.{is_valid};
 ghost use Rattle.page_model.specs.Placement.{state_of, IsThere};

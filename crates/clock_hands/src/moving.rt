@@ -1,4 +1,5 @@
-//! The hands move as a line of the schedule asks.
+//! The hands move as a line of the schedule asks, until a quarter of the frames are free. Where a write has no room,
+//! the oldest transfer ends first. A page fault may not move them so: it forces a frame.
 ghost use Rattle.io_edge.specs.WithFiles.{stores};
 ghost use Rattle.std.specs.Prelude.{◌≡◌, ◌<◌, ◌+◌, ◌^◌, true, [], IfOk, OnOk, IfErr};
 ghost use Rattle.page_model.specs.Hands.{wants_moves};

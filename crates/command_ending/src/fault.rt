@@ -1,3 +1,4 @@
+//! Why a command doesn't make what it is for, with the exit status of each fault. FORMATS lists the same statuses.
 ghost use Rattle.std.specs.Prelude.{◌≡◌, IfOk, IfErr};
 ghost use Rattle.command_ending.specs.declared.fault.Fault.TheVariants.{NoMemory};
 ghost use Rattle.command_ending.specs.Ending.{fault_of, fault_status, fault_line, bytes_of, NeedsMemory};

@@ -1,4 +1,4 @@
-// The lines about faults, which the commands share.
+//! The line that tells a fault, built with no memory taken. So want of memory can be told too.
 ghost use Rattle.std.specs.Prelude.{◌≡◌, ◌≤◌, ◌++◌, IfOk, IfErr, OnOk, codes, decimal};
 ghost use Rattle.command_ending.specs.Ending.{bytes_of, absent_line, not_image_line, numbered_line, short_device_line, so_far_line};
 

@@ -1,3 +1,5 @@
+//! Writes what a command made, or the line of its fault, and answers the status. An output that fails has a status of
+//! its own.
 ghost use Rattle.command_ending.specs.Ending.{ending_of, ending_text, status_of};
 ghost use Rattle.command_ending.specs.Command.{Writes, WritesSome};
 

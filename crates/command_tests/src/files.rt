@@ -1,4 +1,5 @@
-// The files that the words name: that they are read where memory is found, and by which calls; and a run that is opened.
+//! The files that the words name: that they are read where memory is found, and by which calls; and a run that is
+//! opened.
 use crate::fixtures::mem_files;
 use io_edge::MemFiles;
 use run_files::{Unread, load_image, read_file};

@@ -1,4 +1,4 @@
-// What the tests read, and what is told of it: files in memory, and a line that says what is wrong.
+//! What tests of commands share: files in memory, and checks of the line that is told.
 use io_edge::MemFiles;
 use std::alloc::Global;
 use std::process::Abort;

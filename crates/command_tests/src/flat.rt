@@ -1,4 +1,4 @@
-// The flat machine: the stack page of an execve, what it gives in place of a bad entry, and the pages of a loop.
+//! The flat machine: the stack page of an execve, what it gives in place of a bad entry, and the pages of a loop.
 ghost use Rattle.replay_check.specs.Images.{AreImageFiles};
 
 use crate::checks::{are, is};

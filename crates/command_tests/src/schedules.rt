@@ -1,4 +1,4 @@
-// Why the first bad lines of a few schedules are bad.
+//! Tests of the line that is told of a bad schedule.
 use crate::fixtures::{mem_files, says, says_nothing};
 use line_reasons::explain_schedule;
 use std::alloc::Global;

@@ -1,4 +1,4 @@
-// Why a source is bad, as it is told: a line with each mistake.
+//! Why a source is bad, as it is told: a line with each mistake.
 use crate::fixtures::{mem_files, says};
 use source_commands::explain_source;
 use std::alloc::Global;

@@ -1,4 +1,4 @@
-// Files of references: what they read as, why the first bad lines of a few are bad, and the text about policies.
+//! Files of references: what they read as, why the first bad lines of a few are bad, and the text about policies.
 ghost use Rattle.command_words.specs.Command.{IsFittingComparison};
 
 use crate::checks::are;

@@ -1,4 +1,4 @@
-// The words of worked command lines.
+//! Tests of command lines: which words ask for which command, and which word is refused first.
 use crate::fixtures::{says, says_nothing};
 use command_words::{Command, Numbers, explain_words, read_words};
 use std::alloc::Global;

@@ -1,4 +1,4 @@
-// Why a line of a case can't be taken.
+//! Why a line of a recorded case can't be taken. Such a line is a fault of the file, not of the program.
 use io_edge::NoMemory;
 use std::alloc::{AllocError, AllocFailed};
 use std::num::ParseIntError;

@@ -1,4 +1,4 @@
-// The lines of the cases.
+//! A recorded case, read line by line: its files, and the runs that are made over them.
 use crate::bad::Bad;
 use crate::pieces::{push_each, push_filling, push_longs, push_repeated, put_words};
 use crate::running::{Asked, difference};

@@ -1,5 +1,5 @@
-// A swap device that returns other bytes than were written: the bytes of users and the registers of a process that is out are
-// on swap alone.
+//! A swap device that returns other bytes than were written. The bytes of users and the registers of a process that
+//! is out are on swap alone, so a run may be changed by it and not stopped.
 ghost use Rattle.std.specs.Prelude.{◌≡◌, ◌*◌, None, refl};
 ghost use Rattle.std.proofs.Common.{◌∙◌, le_refl};
 ghost use Rattle.io_edge.specs.Told.{untold_length};

@@ -1,4 +1,4 @@
-// Pieces of which files and expected texts are made.
+//! The short forms in which cases write files: longwords, repeated lines, filled bytes.
 use crate::bad::Bad;
 use std::alloc::{AllocError, Global};
 

@@ -1,4 +1,4 @@
-// One run: what is asked, what is wanted, and what came.
+//! Makes one run of a case and compares it with what was recorded: text, status, the line beside, and the devices.
 ghost use Rattle.std.specs.Prelude.{◌<◌, ◌^◌, vec_len, IfOk};
 
 use crate::bad::Bad;

@@ -1,4 +1,4 @@
--- What the words of a command line ask for.
+-- What the words of a command line ask for, command by command. This is the command line's grammar.
 use Rattle.std.specs.Prelude.{ℕ, ◌-◌, ◌/◌, Bool, false, ◌&&◌, not, List, [], ◌∷◌, drop, Option, Some, None, option_and_then, if◌then◌else◌, bytes_eq, codes}
 use Rattle.std.specs.List.{list_all, list_any}
 use Rattle.std.specs.Option.{option_map}

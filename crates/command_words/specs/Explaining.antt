@@ -1,4 +1,4 @@
--- Why words are no command's, as a line of text.
+-- Why words are no command's, as a line of text. The words of --help and of reasons are put together here.
 use Rattle.std.specs.Prelude.{ℕ, List, [], ◌∷◌, ◌++◌, codes, decimal, Option}
 use Rattle.std.specs.Option.{option_map}
 use Rattle.command_words.specs.declared.reasons.Argument.{Argument}

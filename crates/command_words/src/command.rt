@@ -1,4 +1,5 @@
-// The commands, and the words that ask for them.
+//! The commands, and how the words after the program's name are read as one. Words that ask for no command are told
+//! of in reasons.rt.
 ghost use Rattle.std.specs.Prelude.{◌≡◌, ◌≤◌, ℕ, List, drop, map, IsSome, IfSome};
 ghost use Rattle.std.specs.Option.{option_map};
 ghost use Rattle.run_files.specs.ImageWords.{IsShortName};

@@ -1,4 +1,4 @@
-// Why words are no command's, as a line of text.
+//! The line that tells which word is wrong, what it is for, and what it may be.
 ghost use Rattle.std.specs.Prelude.{◌≡◌, ◌++◌, map, option_map, IfOk, OnOk};
 ghost use Rattle.command_words.specs.Reasons.{why_of, NoCommand, Unknown, NotPlain, Missing, Refused, TooManyImages, NoneStarts};
 ghost use Rattle.command_words.specs.Explaining.{argument_name, range_text, kind_text, why_text, why_line, words_explained};

@@ -1,4 +1,4 @@
-// Lists of words, and those around an option.
+//! The words that name images, with `--trace` among them or not. No list is made of them: they stay where they stand.
 ghost use Rattle.std.specs.Prelude.{◌≡◌, ◌<◌, ◌≤◌, ◌++◌, length, map, take, drop, position, IsTrue, IfSome, IfOk};
 ghost use Rattle.std.specs.List.{list_all, list_any};
 ghost use Rattle.run_files.specs.ImageWords.{starts};

@@ -1,4 +1,4 @@
-// The ranges of a command's numbers (this project's profile).
+//! The least and the most of each number of a command line. A law holds them to the documents.
 ghost use Rattle.command_words.specs.Documented.{DocumentedRanges};
 
 /// The fewest page frames of a machine.

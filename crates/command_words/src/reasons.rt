@@ -1,4 +1,5 @@
-// Why words are no command's.
+//! The first word that isn't what it is for, where words ask for no command. Reading (command.rt) and this must
+//! refuse the same words; a law says so.
 ghost use Rattle.std.specs.Prelude.{◌≡◌, map, option_map, find, not, IfOk, [], ◌∷◌, true, Some, None, if◌then◌else◌};
 ghost use Rattle.std.specs.List.{list_any};
 ghost use Rattle.run_files.specs.ImageWords.{starts};

@@ -1,4 +1,4 @@
-// Single words of a command line.
+//! What a single word is: a number, a name, or an image's word.
 ghost use Rattle.std.specs.Prelude.{◌≡◌, ◌≤◌, IsTrue, IfSome};
 ghost use Rattle.std.specs.Char.{is_ascii_digit};
 ghost use Rattle.std.specs.List.{list_all};

@@ -1,4 +1,4 @@
--- Hash chains of frames by the text page that they hold.
+-- When hash chains have each frame under the text page that it holds, and what walks along one find.
 use Rattle.std.specs.Prelude.{◌≡◌, ℕ, ◌+◌, ◌*◌, ◌%◌, ◌<◌, ◌≤◌, ◌^◌, List, [], ◌∷◌, length, slice_index, slice_index_or, Option, Some, None, if◌then◌else◌, ◌==◌}
 use Rattle.vm_facts.specs.Lists.{times}
 use Rattle.core_map.specs.declared.text_index.TextKey.{TextKey}

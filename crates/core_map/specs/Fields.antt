@@ -1,4 +1,4 @@
--- The core map by its fields.
+-- The core map by its private fields: what callers see of them, and when they fit together.
 use Rattle.std.specs.Prelude.{◌≡◌, length, map}
 use Rattle.core_map.specs.Frames.{Frames, IsSoundMap}
 use Rattle.core_map.specs.Slots.{text_of}

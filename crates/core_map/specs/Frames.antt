@@ -1,4 +1,4 @@
--- The core map as its callers see it.
+-- The core map as its callers see it: the free list, and a slot for each frame. Clauses of all crates above cite this.
 use Rattle.std.specs.Prelude.{◌≡◌, ◌≢◌, ℕ, ◌<◌, ◌≤◌, ◌^◌, List, ◌∷◌, length, Option, Some, slice_set}
 use Rattle.vm_facts.specs.declared.page.Page.{Page}
 use Rattle.frame_state.specs.Frame.{Frame}

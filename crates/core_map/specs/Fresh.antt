@@ -1,4 +1,4 @@
--- A core map as it begins.
+-- A core map as it begins: all frames free, in rising order, with zeros.
 use Rattle.std.specs.Prelude.{ℕ, zero, suc, List, [], ◌∷◌, ◌++◌, None}
 use Rattle.frame_state.specs.Frame.{zero_frame}
 use Rattle.core_map.specs.declared.slot.Slot.{Slot}

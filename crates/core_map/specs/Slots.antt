@@ -1,4 +1,4 @@
--- What the core map has for one frame.
+-- What the core map has for one frame: free, resident or away, with its page and its mark.
 use Rattle.std.specs.Prelude.{◌≡◌, ℕ, List, Bool, true, false, Option, Some, None, IsTrue, length, slice_set, slice_index_or, []}
 use Rattle.vm_facts.specs.Lists.{overwritten}
 use Rattle.vm_facts.specs.declared.page.Page.{Page}

@@ -1,5 +1,6 @@
-//! A list of frame numbers as links by frame number in both directions. The links run in a circle
-//! round the number 0, which is no frame: `next[0]` is the first frame and `prev[0]` the last.
+//! A list of frame numbers as links by frame number in both directions. The links run in a circle round the number 0,
+//! which is no frame: `next[0]` is the first frame and `prev[0]` the last. It knows no tokens and no pages; a frame
+//! may not be put in twice.
 ghost use Rattle.std.specs.Prelude.{◌≡◌, ℕ, ◌+◌, ◌<◌, ◌≤◌, List, [], ◌∷◌, ◌++◌, length, IfOk, IsNone, IfNone, IfSome, ◌↔◌, ◌-◌, ◌^◌, slice_index};
 ghost use Rattle.core_map.specs.Fresh.{first_frames as first_numbers};
 ghost use Rattle.core_map.specs.Order.{place_from};

@@ -1,4 +1,5 @@
-//! The core map: what each page frame holds, and the list of the free ones (the 4.3BSD book).
+//! The core map: what each page frame holds, and the list of the free ones (the 4.3BSD book). To which end of the
+//! list a frame is given is policy, and decided by the callers.
 //!
 //! Frames are numbers from 1. The map owns the token of each frame but of those that are away: taken
 //! out for a transfer, or in the hands of a caller. The free list is kept as links by frame number in

@@ -1,5 +1,5 @@
-// The map itself, over the slots, the free list and the index of text pages.
-
+//! The map: slots, free list and text index, which move together. None of the three may be changed without the
+//! others, so callers have only these calls.
 ghost use Rattle.std.specs.Prelude.{◌≡◌, ℕ, ◌+◌, ◌<◌, ◌≤◌, List, [], ◌∷◌, ◌++◌, length, slice_index, slice_set, IsTrue, IfSome, IfNone, IsNone, ◌↔◌, None, Some, is_some, false, IfOk, ◌-◌, ◌^◌};
 ghost use Rattle.core_map.specs.Fresh.{first_frames, fresh_slots};
 ghost use Rattle.core_map.specs.Order.{place_from};

@@ -1,4 +1,5 @@
-//! What the map holds for each frame.
+//! What the map holds for one frame: its token, its page, and whether that is dirty. Other crates look at slots; only
+//! map.rt changes one. A token that is taken out must come back or be handed on.
 ghost use Rattle.std.specs.Prelude.{◌≡◌, ℕ, ◌+◌, ◌<◌, ◌≤◌, length, slice_set, IsTrue, Some, None, IfOk, ◌-◌, ◌^◌};
 ghost use Rattle.core_map.specs.Fresh.{fresh_slots};
 ghost use Rattle.core_map.specs.Slots.{slot_at, is_free, is_resident, with_byte, with_bytes, with_dirty};

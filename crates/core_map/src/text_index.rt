@@ -1,4 +1,5 @@
-//! The text pages that frames hold, found by hash chains. Links are frame numbers and 0 is none.
+//! The text pages that frames hold, found by hash chains. Links are frame numbers and 0 is none. It must follow each
+//! change of a slot, and map.rt alone sees to that.
 ghost use Rattle.std.specs.Prelude.{◌≡◌, ◌≢◌, ℕ, ◌+◌, ◌<◌, ◌≤◌, ◌^◌, List, [], ◌∷◌, length, slice_index, slice_set, IfSome, IfNone, IfOk, Some, None, replicate, IsTrue, ◌↔◌};
 ghost use Rattle.core_map.specs.Chains.{key_at, bucket_of, IsIndexed, IsOnWay, IsBefore};
 ghost use Rattle.core_map.specs.Slots.{key_of as page_key};

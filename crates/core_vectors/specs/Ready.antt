@@ -1,4 +1,4 @@
--- What the calls of the core ask for.
+-- What must be so before each call of the core, as one premise: before its start, and before a line.
 use Rattle.std.specs.Prelude.{ℕ, ◌≤◌, List, map, length, Option, All}
 use Rattle.io_edge.specs.FileHolding.{NamedFile}
 use Rattle.machine_state.specs.Named.{Named}

@@ -1,4 +1,4 @@
-// The lines of the recorded cases.
+//! Reads the file of cases: images, which stay for later cases, and the lines of each case.
 use std::alloc::{AllocError, Global};
 
 // An image of the file: its name and its bytes.

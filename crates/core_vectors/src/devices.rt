@@ -1,4 +1,4 @@
-// One case on its devices, and the text of what it gave.
+//! Makes a case's run on one swap device or on two, and gives the text that is compared.
 ghost use Rattle.std.specs.Prelude.{◌≡◌, ◌^◌, ◌<◌, vec_len};
 ghost use Rattle.core_vectors.specs.Ready.{AreFit};
 

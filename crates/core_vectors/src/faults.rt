@@ -1,4 +1,4 @@
-// The calls of a case that fail.
+//! Which calls of files and devices a case makes fail, by their numbers.
 use std::alloc::{AllocError, Global};
 
 /// The numbers of the calls of a device that fail, from 1.

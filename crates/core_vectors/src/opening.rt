@@ -1,4 +1,4 @@
-// The files and the images of a case.
+//! The images of a case, found among its files and judged as a run judges them.
 ghost use Rattle.std.specs.Prelude.{◌≡◌, ◌+◌, ◌<◌, ◌≤◌, length, map, IfOk, [], ◌∷◌};
 ghost use Rattle.core_vectors.specs.Ready.{AreFit};
 

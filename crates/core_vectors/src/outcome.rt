@@ -1,4 +1,4 @@
-// How a run ends, as a line.
+//! How a recorded run ended, and the line that tells it.
 use std::alloc::{AllocError, Global};
 use vm_facts::Stop;
 

@@ -1,4 +1,4 @@
-// One case, run.
+//! Runs the core over a case, line by line, as `run` does by one call.
 ghost use Rattle.std.specs.Prelude.{◌≡◌, ◌≤◌, true, length, OnOk, Ok, All};
 ghost use Rattle.vm_core.specs.Steady.{HasFewMoves};
 ghost use Rattle.core_vectors.specs.Ready.{AreFit, MayStart, MayGoOn};

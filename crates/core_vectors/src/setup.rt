@@ -1,4 +1,4 @@
-// What the lines of a case ask for.
+//! Reads what a case asks for: sizes, images of first processes, and the schedule.
 ghost use Rattle.std.specs.Prelude.{◌≤◌, length};
 
 use crate::running::{Setup, Unfit};

@@ -1,4 +1,4 @@
-// Checksums of the pages that are left on a swap device.
+//! Checksums of the pages that a run leaves on swap. Pages of zeros are left out.
 use io_edge::{Moved, SwapDev};
 use std::alloc::{AllocError, Global};
 

@@ -1,4 +1,4 @@
-// What is said of a case.
+//! Compares a case's text with the recorded one, and tells the first line that differs.
 use crate::cases::Reader;
 use crate::devices::run_case;
 use crate::running::Unfit;

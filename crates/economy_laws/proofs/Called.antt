@@ -18,7 +18,7 @@ use Rattle.flat_model.specs.Run.{process_of_entry}
 use Rattle.run_model.specs.State.{State}
 use Rattle.run_model.specs.Wanted.{locked}
 use Rattle.run_model.specs.Next.{fill_by, fill_unit, begins_write, move_by, move_unit, next_unit}
-use Rattle.run_model.specs.Kinds.{Kind, Fills, Brings, Copies, Serves, Acts, ComesIn, Interrupts, Moves, PutsOut, Notes, Begins}
+use Rattle.run_model.specs.Kinds.{Kind, Fills, Brings, Copies, ServesWanted, Acts, ProcessComes, Interrupts, Moves, PutsOut, Notes, Begins}
 use Rattle.run_model.proofs.NextUnits.{kind_of}
 use Rattle.run_laws.specs.Running.{IsRun}
 use Rattle.run_laws.specs.Standing.{Placed}
@@ -110,7 +110,7 @@ kind_names A s u (Fills q due e i) = subst (Names A s) (sym i) (fill_names A s (
 kind_names A s u (Brings q parent due e i) =
     subst (Names A s) (sym (unit_is s.place parent true u i).1) (parent_names A s parent (serve_entry s.place parent) (record { child = q; rest = due; first = e }) (serve_served s.place parent))
 kind_names A s u (Copies q parent due e j i) = subst (Names A s) (sym i) (fill_names A s (entries.Copy q) (record { parent = parent; rest = due; first = e; source = served_valid s.place parent j }))
-kind_names A s u (Serves pid now q r w i) =
+kind_names A s u (ServesWanted pid now q r w i) =
     subst (Names A s) (sym (unit_is s.place q now u i).1) (wanted_names A s q (serve_entry s.place q) (record { pid = pid; now = now; runs = r; wanted = w }) (serve_served s.place q))
 kind_names A s u (Acts pid now r w a) = by (acted A s pid u a)
   where
@@ -118,7 +118,7 @@ kind_names A s u (Acts pid now r w a) = by (acted A s pid u a)
     by (Settles i) = subst (Names A s) (sym i) tt
     by (Refuses i) = subst (Names A s) (sym i) tt
     by (Steps f g i) = flat_names A s u pid (steps_own A s.point pid u i)
-kind_names A s u (ComesIn pid e c i) = subst (Names A s) (sym i) tt
+kind_names A s u (ProcessComes pid e c i) = subst (Names A s) (sym i) tt
 kind_names A s u (Interrupts e j i) = subst (Names A s) (sym i) tt
 kind_names A s u (Moves count e j l w i) = subst (Names A s) (sym i) (move_names A s (locked A s))
 kind_names A s u (PutsOut pid e j i) = subst (Names A s) (sym i)

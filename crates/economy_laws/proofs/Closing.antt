@@ -19,7 +19,7 @@ use Rattle.page_laws.proofs.Moves.Units.{unit_is}
 use Rattle.run_laws.proofs.Flows.{Acted, Settles, Refuses, Steps, acted, steps_own}
 use Rattle.run_laws.proofs.Plain.{IsPaging, serve_paging, zero_paging, copy_paging}
 use Rattle.run_model.specs.Next.{fill_unit, when, turn_of, next_turned, last_turned, line_or_turn, next_mark, next_unit, goes_on, turn_instructions}
-use Rattle.run_model.specs.Kinds.{GoesOn, ProcessRuns, Comes, Kind, Fills, Brings, Copies, Serves, Acts, ComesIn, Interrupts, Moves, PutsOut, Notes, Begins}
+use Rattle.run_model.specs.Kinds.{GoesOn, ProcessRuns, Comes, Kind, Fills, Brings, Copies, ServesWanted, Acts, ProcessComes, Interrupts, Moves, PutsOut, Notes, Begins}
 use Rattle.run_model.proofs.NextUnits.{kind_of}
 use Rattle.economy_laws.specs.Stretch.{begins_stretch, IsClosing}
 
@@ -67,13 +67,13 @@ closes A s u pid c h n = go (kind_of A s u h)
     go (Fills q ds e i) = Fill q ds e i
     go (Brings q parent ds e i) = Bring q parent ds e i
     go (Copies q parent ds e k i) = CopyIt q parent ds e k i
-    go (Serves p now q r w i) =
+    go (ServesWanted p now q r w i) =
         let k = runs p now r in
         Serve q (subst (λ (x : ℕ). ProcessRuns A s x true) (sym k.1) (subst (ProcessRuns A s p) k.0 r)) w (subst (λ (b : Bool). serve_unit s.place q b ≡ Some u) k.0 i)
     go (Acts p now r w a) =
         let k = runs p now r in
         Act (subst (λ (x : ℕ). ProcessRuns A s x true) (sym k.1) (subst (ProcessRuns A s p) k.0 r)) w (subst (λ (x : ℕ). act A s x ≡ Some u) (sym k.1) a)
-    go (ComesIn p e k i) =
+    go (ProcessComes p e k i) =
         let z : (pid ≡ p) × (goes_on A s p (c.since + turn_instructions) ≡ true) × (is_out s.place p ≡ true) = subst (λ (m : Mark). Comes A s m p) c.mark k in
         In e (subst (λ (x : ℕ). is_out s.place x ≡ true) (sym z.0) z.2) (i ∙ ap (λ (x : ℕ). entries.SwapIn x) (sym z.0))
     go (Interrupts e k i) = absurd (let z : marks.Turn pid c.since ≡ marks.Interrupt = sym c.mark ∙ k in cc)

@@ -35,7 +35,7 @@ use Rattle.run_model.specs.Wanted.{locked_by, locked}
 use Rattle.run_model.specs.After.{moved_on, place_at, after}
 use Rattle.run_model.specs.Snapshot.{pages_written}
 use Rattle.run_model.specs.Next.{fill_by, begins_write, move_by, owners_entry, next_unit}
-use Rattle.run_model.specs.Kinds.{Kind, Fills, Brings, Copies, Serves, Acts, ComesIn, Interrupts, Moves, PutsOut, Notes, Begins}
+use Rattle.run_model.specs.Kinds.{Kind, Fills, Brings, Copies, ServesWanted, Acts, ProcessComes, Interrupts, Moves, PutsOut, Notes, Begins}
 use Rattle.run_model.proofs.NextUnits.{kind_of}
 use Rattle.run_laws.specs.Sized.{PlaceSized}
 use Rattle.run_laws.specs.Standing.{MarkStands}
@@ -238,9 +238,9 @@ unit_copies A s u images r z h = go (kind_of A s u h)
         let st = r.placed in
         served parent (not_due s.place parent st.dues (du.source).1) i
     go (Copies q parent ds d k i) = copied q parent ds s.place.free d refl i
-    go (Serves pid now q run w i) = served q (ap (λ (x : List Due). due_of_page x q) run.clear) (served_now s.place q now u i)
+    go (ServesWanted pid now q run w i) = served q (ap (λ (x : List Due). due_of_page x q) run.clear) (served_now s.place q now u i)
     go (Acts pid now run w a) = acts pid run.clear (acted A s pid u a)
-    go (ComesIn pid d c i) = kept_as A s u (entries.SwapIn pid) (sym i) refl (ap (λ (p : Placement). p.due) (plain_place A s (entries.SwapIn pid) refl))
+    go (ProcessComes pid d c i) = kept_as A s u (entries.SwapIn pid) (sym i) refl (ap (λ (p : Placement). p.due) (plain_place A s (entries.SwapIn pid) refl))
     go (Interrupts d k i) = kept_as A s u entries.Done (sym i) refl (done_due A s r)
     go (Moves count d k l w i) = hands count (begins_write s.place (locked A s) && is_full s.place) k (sym i)
     go (PutsOut pid d k i) = puts pid d k u i refl

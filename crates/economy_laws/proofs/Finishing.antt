@@ -1,3 +1,4 @@
+-- That a run finishes: numbers fall from stage to stage, and from mark to mark.
 pub mod Stages
 pub mod Dues
 pub mod Marks

@@ -30,7 +30,7 @@ use Rattle.run_model.specs.After.{after}
 use Rattle.run_model.proofs.After.{after_count}
 use Rattle.run_model.proofs.Wanting.{wanted_splits}
 use Rattle.run_model.specs.Next.{when, work_by, turn_by, turn_unit, goes_on, turn_instructions, under, pid_if, next_ready, or_else, next_turned, last_turned, turn_of, line_or_turn, next_mark, next_unit}
-use Rattle.run_model.specs.Kinds.{GoesOn, ProcessRuns, Kind, Fills, Brings, Copies, Serves, Acts, ComesIn, Interrupts, Moves, PutsOut, Notes, Begins}
+use Rattle.run_model.specs.Kinds.{GoesOn, ProcessRuns, Kind, Fills, Brings, Copies, ServesWanted, Acts, ProcessComes, Interrupts, Moves, PutsOut, Notes, Begins}
 use Rattle.run_model.specs.Lawful.{Follows}
 use Rattle.run_model.proofs.NextUnits.{kind_of}
 use Rattle.std.proofs.lemmas.Bool.{and_parts}
@@ -244,14 +244,14 @@ turn_begins : (A : Inputs) (s : State) (p : ℕ) → Kind A s (entries.Turn p) �
 turn_begins A s p (Fills q ds e i) = absurd (subst IsPaging (sym i) (zero_paging s.place q))
 turn_begins A s p (Brings q parent ds e i) = absurd (subst IsPaging (sym (unit_is s.place parent true (entries.Turn p) i).1) (serve_paging s.place parent))
 turn_begins A s p (Copies q parent ds e k i) = absurd (subst IsPaging (sym i) (copy_paging s.place q))
-turn_begins A s p (Serves pid now q r w i) = absurd (subst IsPaging (sym (unit_is s.place q now (entries.Turn p) i).1) (serve_paging s.place q))
+turn_begins A s p (ServesWanted pid now q r w i) = absurd (subst IsPaging (sym (unit_is s.place q now (entries.Turn p) i).1) (serve_paging s.place q))
 turn_begins A s p (Acts pid now r w a) = by (acted A s pid (entries.Turn p) a)
   where
     by : Acted A s pid (entries.Turn p) → Turns A s p
     by (Settles i) = absurd cc
     by (Refuses i) = absurd cc
     by (Steps f g i) = absurd (let z : None ≡ Some pid = steps_own A s.point pid (entries.Turn p) i in cc)
-turn_begins A s p (ComesIn pid e c i) = absurd cc
+turn_begins A s p (ProcessComes pid e c i) = absurd cc
 turn_begins A s p (Interrupts e k i) = absurd cc
 turn_begins A s p (Moves count e k l w i) = absurd (subst IsPaging (sym i) (move_paging s.place (locked A s)))
 turn_begins A s p (PutsOut pid e k i) =

@@ -26,7 +26,7 @@ use Rattle.run_model.specs.State.{State}
 use Rattle.run_model.specs.After.{place_at, after}
 use Rattle.run_model.specs.Snapshot.{pages_written}
 use Rattle.run_model.specs.Next.{next_unit}
-use Rattle.run_model.specs.Kinds.{Kind, Fills, Brings, Copies, Serves, Acts, ComesIn, Interrupts, Moves, PutsOut, Notes, Begins}
+use Rattle.run_model.specs.Kinds.{Kind, Fills, Brings, Copies, ServesWanted, Acts, ProcessComes, Interrupts, Moves, PutsOut, Notes, Begins}
 use Rattle.run_model.specs.Lawful.{Follows}
 use Rattle.run_model.proofs.NextUnits.{kind_of}
 use Rattle.run_laws.specs.Running.{IsRun, ReadyToStep}
@@ -87,9 +87,9 @@ turn_clear : (A : Inputs) (s : State) (p : ℕ) → Kind A s (entries.Turn p) �
 turn_clear A s p (Fills q ds e i) = absurd (subst IsPaging (sym i) (zero_paging s.place q))
 turn_clear A s p (Brings q parent ds e i) = absurd (subst IsPaging (sym (unit_is s.place parent true (entries.Turn p) i).1) (serve_paging s.place parent))
 turn_clear A s p (Copies q parent ds e k i) = absurd (subst IsPaging (sym i) (copy_paging s.place q))
-turn_clear A s p (Serves pid now q r w i) = r.clear
+turn_clear A s p (ServesWanted pid now q r w i) = r.clear
 turn_clear A s p (Acts pid now r w a) = r.clear
-turn_clear A s p (ComesIn pid e c i) = e
+turn_clear A s p (ProcessComes pid e c i) = e
 turn_clear A s p (Interrupts e k i) = e
 turn_clear A s p (Moves count e k l w i) = e
 turn_clear A s p (PutsOut pid e k i) = e

@@ -19,7 +19,7 @@ use Rattle.run_model.specs.Snapshot.{touched_of, before_absent}
 use Rattle.run_model.specs.After.{place_at, after}
 use Rattle.run_model.specs.Act.{must_refuse, must_settle, act_by, act_if, act}
 use Rattle.run_model.specs.Next.{when, or_else, fill_unit, copy_unit_by, due_unit, goes_on, work_by, work, turn_by, turn_instructions, under, next_mark, next_unit}
-use Rattle.run_model.specs.Kinds.{GoesOn, ProcessRuns, Comes, Kind, Fills, Brings, Copies, Serves, Acts, ComesIn, Interrupts, Moves, PutsOut, Notes, Begins}
+use Rattle.run_model.specs.Kinds.{GoesOn, ProcessRuns, Comes, Kind, Fills, Brings, Copies, ServesWanted, Acts, ProcessComes, Interrupts, Moves, PutsOut, Notes, Begins}
 use Rattle.run_model.specs.Lawful.{Follows}
 use Rattle.run_model.proofs.NextUnits.{kind_of}
 use Rattle.run_model.proofs.After.{after_count}
@@ -163,13 +163,13 @@ next_turn A s pid k u f h n = go (kind_of A s u h)
     go (Brings q parent ds e i) = due_turn A (turned A s pid k) (CopyOf q parent) ds e ∙ ap (λ (o : Option Entry). Some (copy_unit_by s.place q o)) i
     go (Copies q parent ds e j i) =
         due_turn A (turned A s pid k) (CopyOf q parent) ds e ∙ ap (λ (o : Option Entry). Some (copy_unit_by s.place q o)) j ∙ some u (fill_unit s.place (entries.Copy q)) i
-    go (Serves p now q r w i) =
+    go (ServesWanted p now q r w i) =
         let x = runs_turn A s pid k p now f r in
         works_turn A (turned A s pid k) pid u x.1 (ap (work_by A (turned A s pid k) pid true) (wanted_turn A s pid k on r.clear ∙ w) ∙ served_now s.place q now u i)
     go (Acts p now r w a) =
         let x = runs_turn A s pid k p now f r in
         works_turn A (turned A s pid k) pid u x.1 (ap (work_by A (turned A s pid k) pid true) (wanted_turn A s pid k on r.clear ∙ w) ∙ act_turn A s pid k ∙ ap (act A s) (sym x.0) ∙ a)
-    go (ComesIn p e c i) =
+    go (ProcessComes p e c i) =
         let x = comes_turn A s s.mark pid k p f c in
         under_turn A (turned A s pid k) u e (in_turn (goes_on A s pid (k + turn_instructions)) x.1 (is_out s.place pid) x.2 ∙ some u (entries.SwapIn pid) (i ∙ ap (λ (y : ℕ). entries.SwapIn y) x.0))
     go (Interrupts e j i) = other marks.Interrupt j (λ z. z)

@@ -23,7 +23,7 @@ use Rattle.run_model.specs.Wanted.{wanted}
 use Rattle.run_model.specs.After.{after}
 use Rattle.run_model.specs.Act.{must_refuse, must_settle}
 use Rattle.run_model.specs.Next.{when, or_else, work_by, turn_by, turn_unit, goes_on, turn_instructions, under, pid_if, next_ready, next_turned, last_turned, turn_of, line_or_turn, next_mark, next_unit}
-use Rattle.run_model.specs.Kinds.{GoesOn, ProcessRuns, Kind, Fills, Brings, Copies, Serves, Acts, ComesIn, Interrupts, Moves, PutsOut, Notes, Begins}
+use Rattle.run_model.specs.Kinds.{GoesOn, ProcessRuns, Kind, Fills, Brings, Copies, ServesWanted, Acts, ProcessComes, Interrupts, Moves, PutsOut, Notes, Begins}
 use Rattle.run_model.specs.Lawful.{Follows}
 use Rattle.run_model.proofs.After.{after_count}
 use Rattle.run_model.proofs.NextUnits.{kind_of}
@@ -104,9 +104,9 @@ begun A s u h m = go (kind_of A s u h)
     go (Fills q ds e i) = paging _ i (Rattle.run_laws.proofs.Plain.zero_paging s.place q)
     go (Brings q parent ds e i) = paging _ (Rattle.page_laws.proofs.Moves.Units.unit_is s.place parent true u i).1 (Rattle.run_laws.proofs.Plain.serve_paging s.place parent)
     go (Copies q parent ds e k i) = paging _ i (Rattle.run_laws.proofs.Plain.copy_paging s.place q)
-    go (Serves pid now q r w i) = paging _ (Rattle.page_laws.proofs.Moves.Units.unit_is s.place q now u i).1 (Rattle.run_laws.proofs.Plain.serve_paging s.place q)
+    go (ServesWanted pid now q r w i) = paging _ (Rattle.page_laws.proofs.Moves.Units.unit_is s.place q now u i).1 (Rattle.run_laws.proofs.Plain.serve_paging s.place q)
     go (Acts pid now r w a) = acts pid (acted A s pid u a)
-    go (ComesIn pid e c i) = other (entries.SwapIn pid) i (λ z. z)
+    go (ProcessComes pid e c i) = other (entries.SwapIn pid) i (λ z. z)
     go (Interrupts e k i) = other entries.Done i (λ z. z)
     go (Moves count e k l w i) = paging _ i (Rattle.run_laws.proofs.Plain.move_paging s.place (Rattle.run_model.specs.Wanted.locked A s))
     go (PutsOut pid e k i) = Rattle.page_laws.proofs.Swapper.PuttingOut.unit_case (λ (x : Entry). u ≡ x → Begun A s u) s.place pid

@@ -27,7 +27,7 @@ use Rattle.run_model.specs.State.{State}
 use Rattle.run_model.specs.After.{place_at, after}
 use Rattle.run_model.specs.Wanted.{locked}
 use Rattle.run_model.specs.Next.{fill_by, fill_unit, begins_write, move_by, move_unit, next_unit}
-use Rattle.run_model.specs.Kinds.{Kind, Fills, Brings, Copies, Serves, Acts, ComesIn, Interrupts, Moves, PutsOut, Notes, Begins}
+use Rattle.run_model.specs.Kinds.{Kind, Fills, Brings, Copies, ServesWanted, Acts, ProcessComes, Interrupts, Moves, PutsOut, Notes, Begins}
 use Rattle.run_model.specs.Lawful.{Follows}
 use Rattle.run_model.proofs.NextUnits.{kind_of}
 use Rattle.run_laws.specs.Standing.{machine_of, Placed}
@@ -86,14 +86,14 @@ kind_puts : (A : Inputs) (s : State) (u : Entry) → Kind A s u → PutsDirty s.
 kind_puts A s u (Fills q due e i) = subst (PutsDirty s.place) (sym i) (fill_puts s.place (entries.Zero q) tt)
 kind_puts A s u (Brings q parent due e i) = subst (PutsDirty s.place) (sym (unit_is s.place parent true u i).1) (serve_puts s.place parent)
 kind_puts A s u (Copies q parent due e j i) = subst (PutsDirty s.place) (sym i) (fill_puts s.place (entries.Copy q) tt)
-kind_puts A s u (Serves pid now q r w i) = subst (PutsDirty s.place) (sym (unit_is s.place q now u i).1) (serve_puts s.place q)
+kind_puts A s u (ServesWanted pid now q r w i) = subst (PutsDirty s.place) (sym (unit_is s.place q now u i).1) (serve_puts s.place q)
 kind_puts A s u (Acts pid now r w a) = by (acted A s pid u a)
   where
     by : Acted A s pid u → PutsDirty s.place u
     by (Settles i) = subst (PutsDirty s.place) (sym i) tt
     by (Refuses i) = subst (PutsDirty s.place) (sym i) tt
     by (Steps f g i) = flat_puts s.place u pid (steps_own A s.point pid u i)
-kind_puts A s u (ComesIn pid e c i) = subst (PutsDirty s.place) (sym i) tt
+kind_puts A s u (ProcessComes pid e c i) = subst (PutsDirty s.place) (sym i) tt
 kind_puts A s u (Interrupts e j i) = subst (PutsDirty s.place) (sym i) tt
 kind_puts A s u (Moves count e j l w i) = subst (PutsDirty s.place) (sym i) (move_puts s.place (locked A s))
 kind_puts A s u (PutsOut pid e j i) = subst (PutsDirty s.place) (sym i)

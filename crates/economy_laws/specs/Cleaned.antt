@@ -1,4 +1,4 @@
--- How a dirty page comes to be clean.
+-- How a dirty page comes to be clean: its write ended, or its process gave it up.
 use Rattle.std.specs.Prelude.{◌≡◌, ◌⊎◌, ℕ, List, [], ◌∷◌, Some}
 use Rattle.vm_facts.specs.declared.page.Page.{Page}
 use Rattle.vm_facts.specs.declared.entry.Entry.{Entry}

@@ -1,4 +1,4 @@
--- How many entries a journal has at most, by what it counts and by the inputs.
+-- How many entries a journal has at most, by the instructions and children that it counts.
 use Rattle.std.specs.Prelude.{ℕ, ◌+◌, ◌*◌, ◌≤◌, Bool, true, false, List, [], ◌∷◌, length}
 use Rattle.std.specs.List.{count_by}
 use Rattle.vm_facts.specs.declared.event.Event.{Event}

@@ -1,4 +1,4 @@
--- Where a run comes to its end.
+-- That a run comes to its end: next units lead to a state that has none.
 use Rattle.std.specs.Prelude.{◌≡◌, List, None}
 use Rattle.vm_facts.specs.declared.entry.Entry.{Entry}
 use Rattle.flat_state.specs.Flat.{Inputs}

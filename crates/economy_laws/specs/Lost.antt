@@ -1,4 +1,4 @@
--- Why a page lost its frame.
+-- The few reasons for which a page may lose its frame.
 use Rattle.std.specs.Prelude.{◌≡◌, ℕ, true, false, List, Some}
 use Rattle.vm_facts.specs.declared.page.Page.{Page}
 use Rattle.vm_facts.specs.declared.entry.Entry.{Entry}

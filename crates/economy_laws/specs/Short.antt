@@ -1,4 +1,4 @@
--- A stretch of the closing phase is short, and writes are worth it.
+-- The bounds on a stretch of the closing phase, and that no page is written again for nothing.
 use Rattle.std.specs.Prelude.{◌≡◌, ℕ, ◌+◌, ◌*◌, ◌≤◌, true, List, ◌∷◌, length, Some}
 use Rattle.vm_facts.specs.declared.page.Page.{Page}
 use Rattle.vm_facts.specs.declared.entry.Entry.{Entry}

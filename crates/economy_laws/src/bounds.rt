@@ -1,4 +1,5 @@
-// How few entries a stretch of the closing phase takes, which pages are written again, and that a run ends.
+//! How few entries a stretch of the closing phase takes, which pages are written again, and that a run ends. There is
+//! no code here.
 ghost use Rattle.std.specs.Prelude.{◌≡◌, ℕ, ◌≤◌, List, length};
 ghost use Rattle.swap_book.specs.Holdings.{Holdings};
 ghost use Rattle.vm_facts.specs.declared.entry.Entry.{Entry};

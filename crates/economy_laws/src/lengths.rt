@@ -1,4 +1,4 @@
-// A journal that counts few instructions and children is short.
+//! The law that a journal is short, by the instructions and children that it counts. There is no code here.
 ghost use Rattle.economy_laws.specs.Few.{SleepsAreFew, TurnsAreFew, CopiesAreFew, JournalsAreShort};
 
 /// A lawful journal has no more entries than some number for each instruction, each child, each first process and each line of the

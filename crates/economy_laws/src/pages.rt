@@ -1,4 +1,5 @@
-// Who is ready when an instruction is counted, which pages come, and how a page leaves its frame.
+//! Who is ready when an instruction is counted, which pages come, and how a page leaves its frame. There is no code
+//! here.
 ghost use Rattle.std.specs.Prelude.{◌≡◌, ◌≢◌, ◌⊎◌, ℕ, Bool, List, Some, None};
 ghost use Rattle.vm_facts.specs.declared.page.Page.{Page};
 ghost use Rattle.vm_facts.specs.declared.entry.Entry.{Entry};

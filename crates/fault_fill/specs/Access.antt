@@ -1,4 +1,4 @@
--- What an access of a byte of a space asks for.
+-- What an access of a byte asks for, by the space's segments: its page, growth of the stack, or a signal.
 use Rattle.std.specs.Prelude.{ℕ, ◌+◌, ◌-◌, ◌*◌, ◌/◌, Bool, true, false, length}
 use Rattle.vm_facts.specs.declared.page.Page.TheVariants as pages
 use Rattle.flat_state.specs.Space.{spot_at, stack_top}

@@ -1,4 +1,4 @@
--- What an access of a process asks for, and what growth of its stack comes to.
+-- How the stack grows to a byte below it: what is asked for, what is refused, and what becomes of the machine.
 use Rattle.std.specs.Prelude.{◌≡◌, ℕ, ◌<◌, ◌≤◌, Bool, true, false, Some, None, Result, Ok, is_ok}
 use Rattle.vm_facts.specs.declared.entry.Entry.TheVariants.{Grew, Refused}
 use Rattle.swap_book.specs.Holdings.{Holdings}

@@ -1,4 +1,4 @@
--- What serving a page asks, and what it does.
+-- What serving a page asks of the machine, and to which units it comes.
 use Rattle.std.specs.Prelude.{◌≡◌, ℕ, Bool, true, List, [], Option, Some}
 use Rattle.vm_facts.specs.SwapImages.{SwapImage}
 use Rattle.vm_facts.specs.declared.page.Page.{Page}

@@ -1,4 +1,4 @@
--- What serving an access of a process comes to.
+-- What serving an access of a process comes to, from the stack's growth to a valid page.
 use Rattle.std.specs.Prelude.{◌≡◌, ◌⊎◌, ℕ, ◌+◌, ◌-◌, ◌≤◌, Bool, List, length, Option, Result, Ok, Err}
 use Rattle.vm_facts.specs.SwapImages.{SwapImage}
 use Rattle.vm_facts.specs.declared.page.Page.{Page}

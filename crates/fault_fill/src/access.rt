@@ -1,4 +1,5 @@
-//! What an access of a byte asks for.
+//! What an access of a byte asks for: a page, growth of the stack, or a signal. The space's sizes alone decide it; no
+//! page is looked at.
 ghost use Rattle.std.specs.Prelude.{◌≡◌};
 ghost use Rattle.fault_fill.specs.Access.{access_of};
 

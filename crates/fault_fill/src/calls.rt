@@ -1,4 +1,5 @@
-//! The calls that serve a page.
+//! The two calls by which crates above have a page served. One goes as far as needs no waiting, the other until the
+//! page is valid. Callers may not serve a page by single units.
 ghost use Rattle.io_edge.specs.WithFiles.{stores};
 ghost use Rattle.std.specs.Prelude.{◌+◌, ◌≤◌, true, false, [], length, OnOk, OnErr, MatchResult};
 ghost use Rattle.page_model.specs.Conditions.{Spares};

@@ -1,4 +1,5 @@
-//! Pages that are touched come in: each by its state, until it is usable (the 4.3BSD book).
+//! Pages that are touched come in: each by its state, until it is usable (the 4.3BSD book). Above the machine, frames
+//! are forced here alone. Pages that a caller locks must keep theirs.
 #![tactic(auto)]
 
 mod access;

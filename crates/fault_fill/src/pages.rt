@@ -1,4 +1,5 @@
-//! Pages are served, unit by unit.
+//! Serves a page unit by unit, with waiting or without. Each unit is the next one of the policy, so none may be added
+//! or left out.
 ghost use Rattle.io_edge.specs.WithFiles.{stores};
 ghost use Rattle.std.specs.Prelude.{◌≡◌, ◌≤◌, true, false, [], OnOk, MatchResult};
 ghost use Rattle.machine_state.specs.Going.{CanGoOn};

@@ -1,4 +1,5 @@
-//! Accesses of processes are served.
+//! Serves an access of a process; its stack grows first where it has to. Swap for the growth is found before anything
+//! else. A process that must end isn't ended here: its caller is told.
 ghost use Rattle.io_edge.specs.WithFiles.{stores};
 ghost use Rattle.std.specs.Prelude.{◌≡◌, ◌⊎◌, ◌≤◌, ◌<◌, true, false, [], length, Some, IfOk, OnOk, OnErr, Ok, Err, MatchResult};
 ghost use Rattle.page_model.specs.Placement.{image_of};

@@ -1,4 +1,5 @@
-//! One unit of serving a page, by the state of the page.
+//! One unit of serving a page, chosen by the page's state. It may not go on to a second one, nor wait; pages.rt does
+//! both.
 ghost use Rattle.io_edge.specs.WithFiles.{stores};
 ghost use Rattle.std.specs.Prelude.{◌≡◌, ◌⊎◌, ◌<◌, ◌≤◌, true, false, length, None, Err, OnOk, OnErr, MatchResult};
 ghost use Rattle.core_map.specs.Frames.{Frames};

@@ -1,4 +1,4 @@
--- What is said of policies: how their faults are held to the least, and to one another.
+-- Premises of the laws on policies: a policy's faults against the least, and Belady's twelve references.
 use Rattle.std.specs.Prelude.{◌≤◌, ℕ, List, [], ◌∷◌}
 use Rattle.fault_laws.specs.Memory.{NoneFewer}
 

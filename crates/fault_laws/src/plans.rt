@@ -1,4 +1,4 @@
-// Plans of replacement, and memories that bring pages in as they like.
+//! Laws of plans of replacement: demand paging is enough, and each page faults once. There is no code here.
 ghost use Rattle.std.specs.Prelude.{◌≡◌, ℕ, ◌≤◌, true, List, [], length};
 ghost use Rattle.page_opt.specs.Plans.{has};
 ghost use Rattle.page_opt.specs.Cache.{count_in};

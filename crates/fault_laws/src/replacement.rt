@@ -1,4 +1,4 @@
-// Policies of replacement.
+//! Laws of FIFO and the clocks: none beats the best plan, and more frames may cost faults. There is no code here.
 ghost use Rattle.std.specs.Prelude.{◌≡◌, ℕ};
 ghost use Rattle.stack_dist.specs.Lru.{lru_faults};
 ghost use Rattle.policy_faults.specs.Policies.{fifo_faults, clock_faults, hands_faults};

@@ -1,4 +1,4 @@
-// The faults of a run.
+//! Laws that compare a run's faults with the least of any plan. There is no code here.
 ghost use Rattle.fault_laws.specs.Faults.{RunsHavePlans, RunsFaultEnough, CopiesCount};
 
 /// A run faults at least as often as it must. The pages that its instructions touch, in order, have a plan for as many

@@ -1,4 +1,4 @@
--- The fields of a film.
+-- The private fields of a film, as its callers see them.
 use Rattle.film_core.specs.Films.{Filming}
 use Rattle.film_core.specs.declared.film.Film.TheInside.{Inside}
 

@@ -1,4 +1,4 @@
--- What is known of a run beside its machine, behind each entry.
+-- The mark, the lines and the count behind an entry, told by that entry alone.
 use Rattle.std.specs.Prelude.{ℕ, List, [], ◌∷◌, Option, Some, None}
 use Rattle.vm_facts.specs.declared.entry.Entry.{Entry}
 use Rattle.vm_facts.specs.declared.entry.Entry.TheVariants as entries

@@ -1,4 +1,4 @@
--- On the way from an entry to the next one.
+-- Where a film stands on its way to the next entry: something due, a step begun, or a mark to go on with.
 use Rattle.std.specs.Prelude.{◌≡◌, ℕ, ◌+◌, ◌≤◌, List, [], length, Option, Some, None}
 use Rattle.vm_facts.specs.SwapImages.{SwapImage}
 use Rattle.vm_facts.specs.declared.entry.Entry.{Entry}

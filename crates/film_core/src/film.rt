@@ -1,4 +1,5 @@
-//! A film and its machine.
+//! `Film`: a machine, and what is known of its run. Between two calls the journal is full, so no further entry can
+//! come. A film must be ended, since frames can't be dropped.
 ghost use Rattle.std.specs.Prelude.{◌≡◌, ◌↔◌, ◌+◌, ◌<◌, ◌≤◌, true, false, [], length, map, None, IfOk};
 ghost use Rattle.machine_state.specs.Going.{CanGoOn, IsRunning};
 ghost use Rattle.machine_state.specs.Machine.{image_shown};

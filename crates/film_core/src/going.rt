@@ -1,4 +1,5 @@
-//! A film goes on.
+//! A film goes on by one entry. The journal gets room for just that, and the first unit without room ends the call.
+//! What is due comes first, then a begun step, the last mark, and a new line or turn.
 ghost use Rattle.io_edge.specs.WithFiles.{stores};
 ghost use Rattle.std.specs.Prelude.{◌≡◌, ◌⊎◌, ◌+◌, ◌<◌, ◌≤◌, ◌^◌, ℕ, false, length, slice_get, Some, None, OnOk, IfOk, IfErr};
 ghost use Rattle.vm_facts.specs.declared.entry.Entry.{Entry as AnyEntry};

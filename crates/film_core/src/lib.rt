@@ -1,4 +1,5 @@
-//! A run that goes on from entry to entry: after each it stands at a state of the run, and can be looked at.
+//! A run that goes on from entry to entry: after each it stands at a state of the run, and can be looked at. Between
+//! two entries it may be looked at, and nothing of it changed.
 #![tactic(auto)]
 
 mod film;

@@ -1,4 +1,5 @@
-//! What is known of a run beside its machine.
+//! What is known of a run beside its machine, told anew behind each entry: mark, lines, count. It is told by entries,
+//! and must say what `run_model` says.
 ghost use Rattle.std.specs.Prelude.{◌≡◌, ◌≤◌, ◌↔◌, true};
 ghost use Rattle.flat_state.specs.Journal.{counted};
 ghost use Rattle.machine_state.specs.Going.{IsRunning};

@@ -1,4 +1,5 @@
-//! What is still to come of a mark.
+//! Does what is left of the last mark, some of whose units may be made. The machine is asked how far it came, because
+//! no unit may be made twice.
 ghost use Rattle.io_edge.specs.WithFiles.{stores};
 ghost use Rattle.std.specs.Prelude.{◌≡◌, false, IfOk, IfErr};
 ghost use Rattle.flat_state.specs.Journal.{instructions_of};

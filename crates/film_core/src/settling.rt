@@ -1,4 +1,4 @@
-//! What is due is filled, and a step that is begun is completed.
+//! Fills what is due, and completes a step that is begun. Both must be over before a mark goes on or a line begins.
 ghost use Rattle.io_edge.specs.WithFiles.{stores};
 ghost use Rattle.std.specs.Prelude.{◌≡◌, ◌+◌, ◌<◌, ◌≤◌, ◌^◌, length, IfOk, IfErr};
 ghost use Rattle.flat_state.specs.Journal.{instructions_of};

@@ -1,4 +1,4 @@
-//! The start of a film.
+//! The start of a film: first processes begin, with room for no entry. So even the first entry comes by going on.
 ghost use Rattle.io_edge.specs.WithFiles.{stores};
 ghost use Rattle.std.specs.Prelude.{◌≡◌, ◌↔◌, ◌<◌, ◌≤◌, ◌^◌, ℕ, true, List, [], length, Some, None, IfErr, Ok, Err};
 ghost use Rattle.vm_facts.specs.SwapImages.{SwapImage};

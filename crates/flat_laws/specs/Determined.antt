@@ -1,4 +1,4 @@
--- The next entry of a process is determined.
+-- That the next entry of a process is determined by the flat state and by what was refused.
 use Rattle.std.specs.Prelude.{◌≡◌, ℕ, false, Some}
 use Rattle.flat_state.specs.Flat.{Inputs}
 use Rattle.vm_facts.specs.declared.entry.Entry.{Entry}

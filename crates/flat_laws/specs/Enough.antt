@@ -1,4 +1,4 @@
--- The touched pages are enough for a step.
+-- That a step needs no more than the touched pages: it comes to the same where those alone are there.
 use Rattle.std.specs.Prelude.{◌≡◌, ℕ, Bool, true, Some, Ok}
 use Rattle.flat_state.specs.Space.{Space, answers_of, puts}
 use Rattle.flat_state.specs.Flat.{Holds, Process, FlatState, Inputs, process_of, is_ready}

@@ -1,4 +1,4 @@
--- What a process holds, after a step of another one.
+-- What stays of a process after a step of another one: its space, byte for byte.
 use Rattle.std.specs.Prelude.{◌≡◌, ℕ, ◌==◌, Bool, true, false, Option, Some}
 use Rattle.flat_state.specs.Space.{Space}
 use Rattle.flat_state.specs.Flat.{Holds, Process, FlatState, process_of}

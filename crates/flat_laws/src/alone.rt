@@ -1,4 +1,4 @@
-// One process among others.
+//! The frame rule of the flat machine: a process does beside others what it does alone. There is no code here.
 ghost use Rattle.flat_laws.specs.Alone.{RunsAsAlone};
 
 /// The frame rule of the flat machine, for any program. Where a process holds a space and is awake, and makes no call in these units of a

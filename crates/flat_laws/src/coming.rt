@@ -1,4 +1,4 @@
-// Which entry comes next, what touched pages are enough for, and what a step keeps of others.
+//! Which entry comes next, what touched pages are enough for, and what a step keeps of others. There is no code here.
 ghost use Rattle.std.specs.Prelude.{◌≡◌, ◌≢◌, ℕ, Bool, List, Some, None};
 ghost use Rattle.flat_state.specs.Space.{Space};
 ghost use Rattle.flat_state.specs.Flat.{FlatState, Inputs, start_state};

@@ -1,4 +1,4 @@
-// Registers of processes are longwords, and the bytes of their spaces are bytes.
+//! The law that registers are longwords, and memory bytes, all along a run. There is no code here.
 ghost use Rattle.std.specs.Prelude.{◌≡◌, ℕ, ◌+◌, ◌<◌, ◌^◌, Bool, List, length, Some, Ok};
 ghost use Rattle.vm_facts.specs.Answers.{Answers};
 ghost use Rattle.vm_facts.specs.declared.memory.ByteRead.TheVariants as bytes;

@@ -1,4 +1,4 @@
-// What is seen of one process's run.
+//! The law that one process alone is determined by its image, whatever the frames. There is no code here.
 ghost use Rattle.flat_laws.specs.Agreement.{OneGoesOn, VisibleAgrees, OverIsAll, BothOverAreSame, EndIsLast};
 
 /// Of two runs of one image, whose process has no child and is refused no swap space, what is done in one is the beginning of what

@@ -1,4 +1,5 @@
-// How few pages the next instruction of a process touches, and that spaces are of whole pages.
+//! How few pages the next instruction of a process touches, and that spaces are of whole pages. There is no code
+//! here.
 ghost use Rattle.std.specs.Prelude.{◌≡◌, ℕ, ◌≤◌, Bool, List, length, Some, Ok};
 ghost use Rattle.flat_state.specs.Flat.{FlatState, NamedImage, Inputs, start_state};
 ghost use Rattle.vm_facts.specs.declared.entry.Entry.{Entry};

@@ -1,4 +1,4 @@
--- What the code of the flat machine keeps and answers.
+-- How the code of the flat machine keeps a flat state, and what its steps make of one.
 use Rattle.std.specs.Prelude.{◌≡◌, ℕ, zero, suc, ◌<◌, ◌==◌, true, false, List, [], ◌∷◌, ◌++◌, length, position, slice_index_or, IsTrue, Some, Result, Err, Bool}
 use Rattle.vm_facts.specs.Answers.{ByteWrite}
 use Rattle.flat_state.specs.Space.{Space}

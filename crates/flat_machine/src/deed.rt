@@ -1,3 +1,4 @@
+//! What a step of a process did, after its writes and before the rest of the machine changes.
 use flat_model::SystemCall;
 use flat_state::Change;
 use vm_facts::{Bytes, Regs};

@@ -1,3 +1,5 @@
+//! The flat machine: its processes, and steps of one of them. It has no frame, no swap and no schedule; who steps is
+//! the caller's choice.
 ghost use Rattle.std.specs.Prelude.{◌≡◌, ℕ, ◌+◌, ◌-◌, ◌*◌, ◌/◌, ◌^◌, ◌<◌, ◌≤◌, ◌==◌, ◌++◌, ◌∷◌, [], List, Bool, true, false, not, length, map, filter, find, position, slice_set, slice_get, slice_index_or, Option, Some, None, IsSome, IfOk, IfSome, OnOk, OnErr, IsTrue, All, Result, is_some};
 ghost use Rattle.flat_state.specs.Space.{Space, answers_of, stack_top};
 ghost use Rattle.flat_state.specs.Flat.{Holds, Lends, Zombie, Process as Record, FlatState, NamedImage, Inputs, can_step, image_numbered, process_of, holds_space, space_with, start_if, start_state};

@@ -1,4 +1,4 @@
--- The arguments that an image may start with.
+-- The arguments that an image may start with: few, and short.
 use Rattle.std.specs.Prelude.{ℕ, ◌<◌, ◌≤◌, List, length, All, Option, Some, None, Result, Ok, Err}
 use Rattle.user_vax.specs.declared.refused.Refused.{Refused}
 

@@ -1,4 +1,4 @@
--- One instruction over the bytes of a space.
+-- The next instruction of a process, over its whole space: no byte is missing here.
 use Rattle.std.specs.Prelude.{Result}
 use Rattle.flat_state.specs.Space.{Space, answers_of}
 use Rattle.vm_facts.specs.declared.regs.Regs.{Regs}

@@ -1,4 +1,4 @@
--- One step of one process of the flat machine.
+-- One step of one process: an instruction, growth, or an end, with its entries, writes and change. This is what a process can do.
 use Rattle.std.specs.Prelude.{ℕ, ◌+◌, ◌-◌, ◌/◌, Bool, true, false, List, [], ◌∷◌, ◌++◌, length, Option, Some, None, Result, Ok, Err, ℤ}
 use Rattle.vm_facts.specs.Answers.{ByteWrite}
 use Rattle.flat_state.specs.Space.{Space, stack_top, answers_of, puts}

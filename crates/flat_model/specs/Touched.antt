@@ -1,4 +1,4 @@
--- The pages that the next instruction of a process touches.
+-- Which pages the next instruction of a process touches, with its call, in the order of the accesses.
 use Rattle.std.specs.Prelude.{ℕ, ◌/◌, Bool, true, false, not, List, [], ◌∷◌, ◌++◌, filter, filter_map, Option, Some, None, Result, Ok, Err, ℤ}
 use Rattle.flat_state.specs.Space.{Space, answers_of, puts, address_in}
 use Rattle.flat_state.specs.Flat.{Holding, Holds, Lends, Zombie, Process, FlatState, NamedImage, Inputs, process_of, is_ready}

@@ -1,3 +1,4 @@
+//! The arguments with which an image starts, few and short, and lent as a list.
 ghost use Rattle.std.specs.Prelude.{◌≡◌, ℕ, ◌<◌, ◌≤◌, ◌++◌, ◌∷◌, [], length, List, OnOk, IfOk};
 ghost use Rattle.flat_model.specs.Arguments.{AreArguments};
 

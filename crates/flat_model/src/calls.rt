@@ -1,3 +1,5 @@
+//! The system calls with their numbers, errors, limits and replies. The pager and the judge of transcripts share
+//! them.
 ghost use Rattle.std.specs.Prelude.{◌≡◌, ℕ};
 ghost use Rattle.flat_model.specs.Calls.{call_of, number_of};
 

@@ -1,3 +1,4 @@
+//! Laws of the flat run: it goes on entry by entry, and its calls are as documented. There is no code here.
 ghost use Rattle.std.specs.Prelude.{◌≡◌, List, [], ◌∷◌, ◌++◌};
 ghost use Rattle.vm_facts.specs.declared.entry.Entry.{Entry};
 ghost use Rattle.flat_state.specs.Flat.{Inputs};

@@ -1,5 +1,5 @@
-// What the calls read, over any memory.
-
+//! What calls read of a memory: arguments, paths, bytes to write. It works over any memory, so the pager and the flat
+//! machine read alike.
 ghost use Rattle.std.specs.Prelude.{◌≡◌, ℕ, ◌+◌, ◌*◌, ◌^◌, ◌<◌, ◌≤◌, ◌==◌, ◌||◌, Bool, true, IfOk, Ok, min, length, All};
 ghost use Rattle.user_vax.specs.Program.{run};
 ghost use Rattle.flat_model.specs.Arguments.{IsShort};

@@ -1,5 +1,4 @@
-// The stack page and the registers with which an image starts.
-
+//! The first stack page and the registers of an image that starts with arguments.
 ghost use Rattle.std.specs.Prelude.{◌≡◌, ℕ, ◌+◌, ◌-◌, ◌*◌, ◌/◌, ◌%◌, ◌^◌, ◌<◌, ◌≤◌, [], ◌∷◌, ◌++◌, length, replicate, IfOk, OnOk};
 ghost use Rattle.flat_state.specs.AoutImageImageSpecs.{word_bytes};
 ghost use Rattle.flat_model.specs.Arguments.{AreArguments};

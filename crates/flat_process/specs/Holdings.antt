@@ -1,4 +1,4 @@
--- What a process has, and where its instructions fall.
+-- What a process has, as code and as definitions, and how far below its stack an instruction may fall.
 use Rattle.std.specs.Prelude.{ℕ, ◌-◌, ◌<◌, ◌≤◌, false, []}
 use Rattle.flat_state.specs.Space.{Space, stack_top, stack_reach}
 use Rattle.flat_state.specs.Flat.{Holding, Holds, Lends, Zombie, Process, cleared}

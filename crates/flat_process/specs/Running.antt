@@ -1,4 +1,4 @@
--- Instructions of a process one after another, each carried out and none a call.
+-- Instructions of a process in a row, each carried out and none a call, as the code runs them.
 use Rattle.std.specs.Prelude.{◌≡◌, ℕ, zero, suc, Result}
 use Rattle.flat_state.specs.Space.{puts}
 use Rattle.flat_state.specs.Flat.{Holds, Process}

@@ -1,4 +1,4 @@
--- How large a space may be.
+-- How large a space may be for the code that keeps it as lists of bytes.
 use Rattle.std.specs.Prelude.{◌≡◌, ◌*◌, ◌%◌, ◌≤◌, length}
 use Rattle.flat_state.specs.Space.{Space}
 

@@ -1,5 +1,5 @@
-// What each of the eight calls comes to.
-
+//! What a process's call comes to among the other processes. Nothing is changed: `flat_machine` does what the reply
+//! says.
 ghost use Rattle.std.specs.Prelude.{◌≡◌, ℕ, ◌+◌, ◌^◌, ◌<◌, ◌≤◌, ◌==◌, nat_lt, find, length, Option, Some, None, Bool, true, false, IfOk, IsSome, List, option_copied};
 ghost use Rattle.user_vax.specs.Program.{run};
 ghost use Rattle.flat_state.specs.Flat.{NamedImage, image_numbered, Process as Record, FlatState};

@@ -1,5 +1,5 @@
-// A space of which only some pages are present.
-
+//! A space of which only some pages are present. An instruction is tried in it, and the page that it misses is told,
+//! so its pages become known.
 ghost use Rattle.std.specs.Prelude.{◌≡◌, ◌^◌, ◌<◌, ◌++◌, ◌∷◌, [], length, Some, Result, IfOk, OnOk};
 ghost use Rattle.vm_facts.specs.declared.page.Page.{Page as PageName};
 ghost use Rattle.flat_state.specs.Space.{Space, answers_of, puts};

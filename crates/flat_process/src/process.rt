@@ -1,3 +1,4 @@
+//! One process: its number, its registers, and what it holds. It knows others by their numbers alone.
 ghost use Rattle.std.specs.Prelude.{◌≡◌, ◌↔◌, ℕ, Bool, true, false, ◌==◌, ◌≤◌, ◌<◌, ◌^◌, length, IsTrue, IfOk, OnOk};
 ghost use Rattle.flat_state.specs.Flat.{Holding, Holds, Lends, Zombie, Process as Record, FlatState, is_ready, holds_space};
 ghost use Rattle.flat_model.specs.Touched.{touched_in};

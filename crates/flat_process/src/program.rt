@@ -1,3 +1,4 @@
+//! The images of a run, found in bytes at hand, and cut into the segments of a new space.
 ghost use Rattle.std.specs.Prelude.{◌≡◌, ◌↔◌, ℕ, ◌+◌, ◌-◌, ◌*◌, ◌^◌, ◌<◌, ◌≤◌, ◌++◌, ◌∷◌, [], List, length, take, drop, slice_get, string_bytes, bytes_eq, min, All, IfOk, OnOk, Ok, true, false, IsTrue, is_ok, IsSome, Some};
 ghost use Rattle.aout_image.specs.Image.{Loaded, IsSound, judged_image, loaded, in_pages, text_offset, text_given, data_given, text_pages_of, image_data_pages, file_length_of};
 ghost use Rattle.flat_state.specs.Flat.{NamedImage, image_numbered};

@@ -1,3 +1,4 @@
+//! A space as plain bytes: its segments, which page an address is of, and how it grows.
 ghost use Rattle.std.specs.Prelude.{◌≡◌, ℕ, ◌+◌, ◌*◌, ◌/◌, ◌%◌, ◌-◌, ◌^◌, ◌<◌, ◌≤◌, true, false, drop, length, take, refl, IfOk, OnOk, OnErr};
 ghost use Rattle.vm_facts.specs.Lists.{overwritten};
 ghost use Rattle.flat_state.specs.Space.{Space, address_in, answers_of};

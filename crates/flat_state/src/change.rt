@@ -1,3 +1,4 @@
+//! What an entry does to processes and spaces, as a type. Pager, flat machine and definitions have it in common.
 use vm_facts::Bytes;
 
 /// What an entry does to the processes and their spaces, beside the registers that it leaves (this

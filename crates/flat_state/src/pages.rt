@@ -1,4 +1,4 @@
-//! Pages by their names: their numbers, their neighbours, and whether two are one.
+//! Pages by their names: their numbers, their neighbours, and whether two are one. Where a page is isn't known here.
 ghost use Rattle.std.specs.Prelude.{◌≡◌};
 ghost use Rattle.flat_state.specs.PageNames.{number_of, beside, same_page, is_among};
 

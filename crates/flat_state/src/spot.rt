@@ -1,3 +1,4 @@
+//! What an address names: a byte of a segment, or nothing. The sizes of the segments are the caller's to give.
 ghost use Rattle.std.specs.Prelude.{◌≡◌, ℕ, ◌+◌, ◌^◌, ◌<◌, ◌≤◌};
 ghost use Rattle.flat_state.specs.Space.{spot_at, stack_top, stack_reach, stack_index};
 

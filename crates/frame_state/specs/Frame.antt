@@ -1,4 +1,4 @@
--- What a token shows, whatever its state.
+-- A frame as contracts see it: its number and its bytes, whatever the state of its token.
 use Rattle.std.specs.Prelude.{ℕ, List, replicate}
 
 -- a page frame: its number, and the 1,024 bytes that it holds

@@ -1,4 +1,4 @@
--- What a token is once its bytes were lent.
+-- What a token comes to once its bytes were lent: the last bytes that were written.
 use Rattle.std.specs.Prelude.{ℕ, List}
 use Rattle.std.specs.Borrow.{Lends, MutBor, Fml, Array, u8}
 use Rattle.frame_state.specs.Frame.{Frame}

@@ -1,4 +1,4 @@
--- Whether two entries are one.
+-- Whether two entries are one, with their numbers and bytes.
 use Rattle.std.specs.Prelude.{◌==◌, ◌&&◌, Bool, false, true, bytes_eq}
 use Rattle.vm_facts.specs.declared.entry.Entry.{Entry}
 use Rattle.vm_facts.specs.declared.entry.Entry.TheVariants as entries

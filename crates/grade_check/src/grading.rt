@@ -1,4 +1,4 @@
-//! The comparison of a trace with a run that goes on.
+//! Compares a trace with the run by the written policy, while that goes on. It ends at the first entry that differs.
 ghost use Rattle.io_edge.specs.WithFiles.{stores};
 ghost use Rattle.std.specs.Prelude.{◌≡◌, ◌↔◌, ◌+◌, ◌-◌, ◌<◌, ◌≤◌, ◌^◌, ◌&&◌, not, nat_lt, [], ℕ, true, false, List, length, slice_get, Option, IfOk, OnOk};
 ghost use Rattle.vm_facts.specs.SwapImages.{SwapImage};

@@ -1,3 +1,4 @@
+//! The law that a trace has one grade. There is no code here.
 ghost use Rattle.std.specs.Prelude.{◌≡◌, List};
 ghost use Rattle.vm_facts.specs.declared.entry.Entry.{Entry};
 ghost use Rattle.grade_check.specs.declared.grading.Grade.{Grade};

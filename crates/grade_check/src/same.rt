@@ -1,4 +1,4 @@
-//! Whether two entries are one.
+//! Whether two entries are one, compared by their numbers and bytes.
 ghost use Rattle.std.specs.Prelude.{◌≡◌, ◌↔◌, true};
 ghost use Rattle.grade_check.specs.Same.{is_one_entry};
 

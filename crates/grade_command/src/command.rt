@@ -1,3 +1,4 @@
+//! `grade`, and its verdict in a line: as written, so far as written, or the first line that differs.
 ghost use Rattle.std.specs.Prelude.{◌≡◌, map, IfOk};
 ghost use Rattle.io_edge.specs.Calls.{KeepsFiles};
 ghost use Rattle.command_words.specs.Command.{IsFittingRun};

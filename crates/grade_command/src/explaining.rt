@@ -1,4 +1,4 @@
-// What the policy writes where a trace differs.
+//! The line beside the verdict: what the policy writes in place of the trace's line.
 ghost use Rattle.std.specs.Prelude.{◌≡◌, map, option_map, IfOk, IfErr};
 ghost use Rattle.io_edge.specs.Calls.{KeepsFiles};
 ghost use Rattle.command_words.specs.Command.{IsFittingRun};

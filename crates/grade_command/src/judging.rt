@@ -1,4 +1,4 @@
-// A trace is graded by a run in memory.
+//! Grades entries over files in memory and a blank swap, and keeps what is told of them.
 ghost use Rattle.io_edge.specs.WithFiles.{stores};
 ghost use Rattle.std.specs.Prelude.{◌≡◌, ◌++◌, ◌-◌, ◌<◌, ◌≤◌, ◌^◌, [], ℕ, List, length, map, option_map, slice_get, All, Some, IfOk, OnOk};
 ghost use Rattle.vm_facts.specs.SwapImages.{SwapImage};

@@ -1,4 +1,4 @@
-// Counts of faults, and the calls of a form in memory that are to fail.
+//! Counts of faults, and plans by which numbered calls fail. Forms in memory fail by such plans.
 ghost use Rattle.std.specs.Prelude.{◌≡◌, ◌≤◌, ◌↔◌, IsTrue};
 ghost use Rattle.io_edge.specs.Count.{Rose, next_count};
 ghost use Rattle.io_edge.specs.Plan.{FailsNext, IsNewPlan, LaterCalls, NextCall};

@@ -1,4 +1,4 @@
-// The failed calls of one kind through a pair of devices.
+//! The failed calls of one kind through a pair of devices, and which device failed last.
 ghost use Rattle.std.specs.Prelude.{◌≡◌, ◌≤◌, ◌<◌, None, Some};
 ghost use Rattle.std.specs.Option.{ForNone, ForSome};
 ghost use Rattle.io_edge.specs.Count.{Counts, OnDone, OnFailed, next_count};

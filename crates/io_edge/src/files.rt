@@ -1,4 +1,4 @@
-// The files that a run reads: found by name, read by ranges.
+//! The files that a run reads: found by name, read by ranges. No call changes a file.
 ghost use Rattle.std.specs.Prelude.{◌≡◌, ℕ, ◌<◌, ◌≤◌, List, Option, length};
 ghost use Rattle.io_edge.specs.Count.{Counts, OnDone};
 ghost use Rattle.io_edge.specs.FileHolding.{NamedFile, AnswersName, CountsFind, HasRange, HoldsRange};

@@ -1,4 +1,4 @@
-// Files in memory: some that never fail, and some with calls that are to fail.
+//! Files in memory: some never fail, and some fail at numbered calls.
 ghost use Rattle.std.specs.Prelude.{◌≡◌, ◌+◌, ◌^◌, ◌<◌, ◌≤◌, ◌↔◌, Some, map, refl, length, position, bytes_eq, string_bytes, vec_len};
 ghost use Rattle.std.proofs.Common.{◌∙◌, ap, le_refl, le_trans, lit≤};
 ghost use Rattle.io_edge.specs.Calls.{KeepsFiles};

@@ -1,4 +1,4 @@
-// Output in memory.
+//! Outputs in memory: one keeps what it is given up to a length, one drops all.
 ghost use Rattle.std.specs.Prelude.{◌≡◌, ◌≤◌, ◌<◌, ◌+◌, ◌⊎◌, ◌↔◌, Some, None, [], take, length, vec_len, IfOk, refl};
 ghost use Rattle.std.proofs.Common.{◌∙◌, le_refl, le_trans, lit≤};
 ghost use Rattle.io_edge.specs.Calls.{PutsBytes};

@@ -1,4 +1,4 @@
-// Swap devices in memory.
+//! Swap devices in memory. One never fails; the other fails at numbered calls, and notes what was asked.
 ghost use Rattle.std.specs.Prelude.{◌≡◌, ◌+◌, ◌-◌, ◌*◌, ◌%◌, ◌≤◌, ◌↔◌, ◌++◌, ℕ, Some, List, length, IfOk, replicate, refl, vec_capacity};
 ghost use Rattle.std.proofs.Common.{◌∙◌, le_refl, le_trans, lit≤};
 ghost use Rattle.io_edge.specs.Calls.{ReadsSwap, WritesSwap};

@@ -1,4 +1,4 @@
-// What contracts see of names and bytes are lists of numbers, and each of them is below 256.
+//! That names and bytes of files are below 256, as code that contracts can use.
 ghost use Rattle.std.specs.Prelude.{map};
 ghost use Rattle.vm_facts.specs.Octets.{AreOctets};
 ghost use Rattle.io_edge.specs.FileHolding.{named_file};

@@ -1,4 +1,4 @@
-// Where a run's output goes.
+//! The trait of an output, written piece after piece. What a failed piece left is told by its contract.
 ghost use Rattle.std.specs.Prelude.{◌≡◌, ℕ, ◌≤◌, List, Option};
 ghost use Rattle.io_edge.specs.Count.{Counts, OnDone, OnFailed};
 ghost use Rattle.io_edge.specs.Written.{Appends, AppendsSome, Extends};

@@ -1,4 +1,4 @@
-// A swap device: blocks of 512 bytes, moved two at a time, as a page of memory has 1,024.
+//! The trait of a swap device: blocks of 512 bytes, two to a page. What a failed call leaves is told by its contract.
 ghost use Rattle.std.specs.Prelude.{◌≡◌, ℕ, ◌+◌, ◌*◌, ◌%◌, ◌<◌, ◌≤◌, Option, Some, length};
 ghost use Rattle.io_edge.specs.Count.{Counts, OnDone, OnFailed};
 ghost use Rattle.io_edge.specs.SwapImage.{bytes_told, HoldsPage, ReadsPage, WritesPage, SpoilsPage};

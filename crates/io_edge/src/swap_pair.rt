@@ -1,4 +1,4 @@
-// Two swap devices as one.
+//! Two swap devices as one, striped by units of 1,024 blocks. Pages handed over together are cut where a unit ends.
 ghost use Rattle.std.specs.Prelude.{◌≡◌, ◌+◌, ◌*◌, ◌%◌, ◌≤◌, ◌<◌, ◌↔◌, IsTrue, IsNone, IfSome, None, length, refl};
 ghost use Rattle.std.proofs.Common.{sym, ◌∙◌, ap};
 ghost use Rattle.io_edge.specs.Count.{Counts, OnDone, OnFailed, next_count};

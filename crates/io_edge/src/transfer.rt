@@ -1,4 +1,4 @@
-// Transfers that answer a `Result`, for the operator `?`.
+//! Reads and writes of whole ranges with a `Result`, for code that uses `?`.
 ghost use Rattle.std.specs.Prelude.{◌≡◌, ◌<◌, length, OnOk, OnErr};
 ghost use Rattle.io_edge.specs.Transfer.{CountsErr, range_asked};
 ghost use Rattle.io_edge.specs.FileRequests.{after_requests};

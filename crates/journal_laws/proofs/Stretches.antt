@@ -13,7 +13,7 @@ use Rattle.run_model.specs.State.{State}
 use Rattle.run_model.specs.Wanted.{locked}
 use Rattle.run_model.specs.After.{after, state_after}
 use Rattle.run_model.specs.Next.{when, line_or_turn, next_mark}
-use Rattle.run_model.specs.Kinds.{Kind, Fills, Brings, Copies, Serves, Acts, ComesIn, Interrupts, Moves, PutsOut, Notes, Begins}
+use Rattle.run_model.specs.Kinds.{Kind, Fills, Brings, Copies, ServesWanted, Acts, ProcessComes, Interrupts, Moves, PutsOut, Notes, Begins}
 use Rattle.run_model.specs.Lawful.{Follows}
 use Rattle.run_model.proofs.NextUnits.{kind_of}
 use Rattle.economy_laws.specs.RunLawsRunning.{IsRun}
@@ -46,14 +46,14 @@ turn_lines : (A : Inputs) (s : State) (p : ℕ) → Kind A s (entries.Turn p) �
 turn_lines A s p (Fills q ds e i) = absurd (subst IsPaging (sym i) (zero_paging s.place q))
 turn_lines A s p (Brings q parent ds e i) = absurd (subst IsPaging (sym (unit_is s.place parent true (entries.Turn p) i).1) (serve_paging s.place parent))
 turn_lines A s p (Copies q parent ds e k i) = absurd (subst IsPaging (sym i) (copy_paging s.place q))
-turn_lines A s p (Serves pid now q r w i) = absurd (subst IsPaging (sym (unit_is s.place q now (entries.Turn p) i).1) (serve_paging s.place q))
+turn_lines A s p (ServesWanted pid now q r w i) = absurd (subst IsPaging (sym (unit_is s.place q now (entries.Turn p) i).1) (serve_paging s.place q))
 turn_lines A s p (Acts pid now r w a) = by (acted A s pid (entries.Turn p) a)
   where
     by : Acted A s pid (entries.Turn p) → length A.lines ≤ s.lines
     by (Settles i) = absurd cc
     by (Refuses i) = absurd cc
     by (Steps f g i) = absurd (let z = steps_own A s.point pid (entries.Turn p) i in cc)
-turn_lines A s p (ComesIn pid e c i) = absurd cc
+turn_lines A s p (ProcessComes pid e c i) = absurd cc
 turn_lines A s p (Interrupts e k i) = absurd cc
 turn_lines A s p (Moves count e k l w i) = absurd (subst IsPaging (sym i) (move_paging s.place (locked A s)))
 turn_lines A s p (PutsOut pid e k i) = absurd (unit_case (λ (x : Entry). entries.Turn p ≡ x → ⊥) s.place pid (space_of_process (process_of s.point.flat pid))

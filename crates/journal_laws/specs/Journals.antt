@@ -1,4 +1,4 @@
--- What stands of the units of a run, and of the journal that they make.
+-- The statements of this crate: units are accounted for and few, and so is the journal that they make.
 use Rattle.std.specs.Prelude.{◌≡◌, ℕ, ◌≤◌, List, [], length, Option, Some}
 use Rattle.vm_facts.specs.SwapImages.{SwapImage}
 use Rattle.vm_facts.specs.declared.entry.Entry.{Entry}

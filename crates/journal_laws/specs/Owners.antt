@@ -1,4 +1,4 @@
--- Who owns the frames and blocks, and where space is refused.
+-- Who owns frames and blocks at a state, and when space may be refused.
 use Rattle.std.specs.Prelude.{◌≡◌, ℕ, Bool, true, false, Option, Some, None}
 use Rattle.vm_facts.specs.declared.entry.Entry.{Entry}
 use Rattle.vm_facts.specs.declared.entry.Entry.TheVariants as entries

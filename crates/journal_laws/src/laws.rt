@@ -1,3 +1,4 @@
+//! Laws that join what is so at each unit over a whole list of units, up to a journal. There is no code here.
 ghost use Rattle.journal_laws.specs.Journals.{UnitsAreAccounted, UnitsAreEconomical, LeadsSayImage, JournalsAreLawful, JournalsAreAccounted, JournalsAreEconomical, JournalsLeaveImage};
 
 /// Next units from a state at which a run stands are accounted for, one by one. After each, also while transfers are in

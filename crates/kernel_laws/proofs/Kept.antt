@@ -1,3 +1,4 @@
+-- That the invariant of the kernel is kept, by units that move pages and by changes of processes.
 pub mod Pages
 pub mod Borrowed
 pub mod Changes

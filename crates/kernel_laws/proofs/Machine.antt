@@ -1,3 +1,4 @@
+-- That the machine with its bytes stays coupled with a flat state, one file for each kind of step.
 pub mod Images
 pub mod Shapes
 pub mod Moves

@@ -1,3 +1,4 @@
+-- That a machine which has not stopped stays sound, with no flat state in sight.
 pub mod Steps
 pub mod Changes
 pub mod Residing

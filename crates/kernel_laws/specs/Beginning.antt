@@ -1,4 +1,4 @@
--- First processes begin one by one.
+-- Statements of what first processes keep as they begin one by one: places, pieces, and owners.
 use Rattle.std.specs.Prelude.{◌≡◌, ℕ, ◌+◌, List, [], ◌∷◌, ◌++◌, length, Some, Ok}
 use Rattle.aout_image.specs.declared.Image.{Image}
 use Rattle.swap_book.specs.Holdings.{Holdings}

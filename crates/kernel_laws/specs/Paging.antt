@@ -1,4 +1,4 @@
--- What paging makes may be made.
+-- Statements that units which serve a page, or force a frame, may be made whenever they are asked for.
 use Rattle.std.specs.Prelude.{◌≡◌, ℕ, Bool, ◌<◌, List, length, Some}
 use Rattle.vm_facts.specs.declared.page.Page.{Page}
 use Rattle.vm_facts.specs.declared.entry.Entry.{Entry}

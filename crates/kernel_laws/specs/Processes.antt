@@ -1,4 +1,4 @@
--- What is so of processes, of their registers, and of their changes.
+-- Statements on processes and their changes: registers of who is out, pieces that are asked for, lenders.
 use Rattle.std.specs.Prelude.{◌≡◌, ℕ, true, List, [], ◌∷◌, Some, map}
 use Rattle.vm_facts.specs.Answers.{ByteWrite}
 use Rattle.vm_facts.specs.declared.entry.Entry.{Entry}

@@ -1,4 +1,4 @@
--- Pieces of swap space that were found and wait for a change.
+-- Statements that pieces of swap which were found wait for their change, and take nothing from others.
 use Rattle.std.specs.Prelude.{◌≡◌, ℕ, List, map, Ok}
 use Rattle.swap_book.specs.Holdings.{Holdings}
 use Rattle.swap_book.specs.Placing.{place_all}

@@ -1,3 +1,5 @@
+//! Laws of processes and their registers: who owns what at the start, u pages, lenders, what changes ask. There is no
+//! code here.
 ghost use Rattle.std.specs.Prelude.{◌≡◌, ℕ, false, ◌^◌, ◌<◌, List, Some, Ok};
 ghost use Rattle.vm_facts.specs.declared.page.Page.{Page};
 ghost use Rattle.vm_facts.specs.declared.entry.Entry.TheVariants as entries;

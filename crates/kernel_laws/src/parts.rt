@@ -1,4 +1,4 @@
-// What stands after a part of a move of the hands that comes alone, and that a move is its parts.
+//! Laws of a part of a move of the hands that comes alone. There is no code here.
 ghost use Rattle.std.specs.Prelude.{◌≡◌, ◌<◌, ◌≤◌, ℕ, Bool, List, length, Some};
 ghost use Rattle.vm_facts.specs.declared.page.Page.{Page};
 ghost use Rattle.swap_book.specs.Holdings.{Holdings};

@@ -1,3 +1,4 @@
+//! Laws of first processes that begin one by one. There is no code here.
 ghost use Rattle.std.specs.Prelude.{◌≡◌, ℕ, List, []};
 ghost use Rattle.aout_image.specs.declared.Image.{Image};
 ghost use Rattle.swap_book.specs.Holdings.{Holdings};

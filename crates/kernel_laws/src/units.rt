@@ -1,3 +1,4 @@
+//! Laws of the whole machine between two units, and of pieces of swap that wait. There is no code here.
 ghost use Rattle.std.specs.Prelude.{◌≡◌, ℕ, List};
 ghost use Rattle.swap_book.specs.Holdings.{Holdings};
 ghost use Rattle.flat_state.specs.Flat.{NamedImage, Inputs};

@@ -1,4 +1,4 @@
--- A part of a move of the hands, alone: when it may come, and what it does to a placement.
+-- A part of a move of the hands, alone: when it may come, whatever the policy, and what it does.
 use Rattle.std.specs.Prelude.{◌≡◌, ℕ, ◌<◌, ◌≤◌, true, false, List, [], ◌∷◌, length}
 use Rattle.vm_facts.specs.Lists.{times}
 use Rattle.vm_facts.specs.declared.page.Page.{Page}

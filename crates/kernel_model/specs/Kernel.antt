@@ -1,4 +1,4 @@
--- The whole machine as lists, and what each of its steps does to them.
+-- The whole machine as lists, and what each of its steps does to them. The machine of the pager is told by this.
 use Rattle.std.specs.Prelude.{ℕ, ◌==◌, Bool, cond, not, List, [], ◌∷◌, length, map, filter, set, Option, Some, None}
 use Rattle.flat_state.specs.Flat.{Holding, Holds, Lends, Zombie, cleared}
 use Rattle.vm_facts.specs.declared.page.Page.{Page}

@@ -1,4 +1,4 @@
--- What is so of each machine that has not stopped.
+-- What stays so of a machine that has not stopped, with no flat state in sight.
 use Rattle.std.specs.Prelude.{◌≡◌, ℕ, ◌*◌, ◌≤◌, Bool, true, false, ◌||◌, List, [], ◌∷◌, length, Option, Some, None, ◌<◌}
 use Rattle.vm_facts.specs.declared.page.Page.{Page}
 use Rattle.vm_facts.specs.declared.page.Page.TheVariants.{Text}

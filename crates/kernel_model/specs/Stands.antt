@@ -1,4 +1,4 @@
--- What the coupling of a machine asks beside it.
+-- What must be so of processes beside the bytes, for a machine to stand for a flat state.
 use Rattle.std.specs.Prelude.{◌≡◌, ℕ, Bool, true, false, List, Option, Some, None}
 use Rattle.flat_state.specs.Flat.{Process, FlatState, NamedImage, process_of, holds_space}
 use Rattle.page_model.specs.Placement.{Placement}

@@ -1,4 +1,4 @@
--- The whole machine at the start of a run.
+-- The whole machine at the start of a run, and how first processes come into it one by one.
 use Rattle.std.specs.Prelude.{◌≡◌, ℕ, ◌+◌, ◌*◌, ◌≤◌, false, List, [], ◌∷◌, ◌++◌, length, map, Some}
 use Rattle.flat_state.specs.Space.{Space}
 use Rattle.flat_state.specs.Flat.{Process, NamedImage, Inputs, image_numbered, argument_area, start_page, start_regs, start_state, spaces_of}

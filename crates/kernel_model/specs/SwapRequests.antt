@@ -1,4 +1,4 @@
--- What is asked of the swap device, and what becomes of it as it is told.
+-- The requests that a unit makes of the swap device, and the image after them.
 use Rattle.std.specs.Prelude.{ℕ, List, [], ◌∷◌, ◌++◌, Option, Some, None}
 use Rattle.vm_facts.specs.SwapImages.{StoreRequest, SwapRead, SwapWrite, SwapImage, with_requests}
 use Rattle.page_model.specs.Holdings.{Holdings}

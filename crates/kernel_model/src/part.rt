@@ -1,3 +1,4 @@
+//! A part of a move of the clock's hands, as a type: traces name it, and machines make it.
 use vm_facts::Page;
 
 /// A part of a move of the clock's hands, alone.

@@ -5,7 +5,7 @@ use Rattle.std.specs.List.{range_with_len}
 use Rattle.proc_table.specs.declared.process.Proc.{Proc as Record}
 use Rattle.proc_table.specs.Records.{find, Changes}
 use Rattle.page_model.specs.Placement.{Residence}
-use Rattle.kernel_tables.specs.Machine.{proc_shown, proc_of_record, processes_of, residence_by, residence_of, residents_of}
+use Rattle.kernel_tables.specs.Machine.{proc_shown, proc_of_record, processes_of, residence_by, residence_shown, residents_of}
 use Rattle.kernel_tables.proofs.Records.{keeps_none, keeps_some}
 
 -- over the numbers up to the last, of which that one alone has something else
@@ -34,5 +34,6 @@ added_processes old new next p l c =
 pub added_residents : (old new : List Record) (next : ℕ) (p : Record) (r : Residence) → 1 ≤ next → Changes old new next (Some p)
     → residence_by p p.state ≡ Some r → residents_of new (next + 1) ≡ residents_of old next ++ r ∷ []
 added_residents old new next p r l c is =
-    ap (λ (n : ℕ). filter_map (λ pid. residence_of (find pid new)) (range_with_len 1 n)) (one_more next l)
-    ∙ added_from (λ pid. residence_of (find pid new)) (λ pid. residence_of (find pid old)) next r (ap residence_of c.changed ∙ is) (λ m d. ap residence_of (c.others m d)) 1 (next - 1) (omega arith)
+    ap (λ (n : ℕ). filter_map (λ pid. residence_shown (find pid new)) (range_with_len 1 n)) (one_more next l)
+    ∙ added_from (λ pid. residence_shown (find pid new)) (λ pid. residence_shown (find pid old)) next r
+    (ap residence_shown c.changed ∙ is) (λ m d. ap residence_shown (c.others m d)) 1 (next - 1) (omega arith)

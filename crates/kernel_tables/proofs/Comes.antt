@@ -30,7 +30,7 @@ use Rattle.table_view.specs.Shown.{is_away, idle_state}
 use Rattle.kernel_tables.specs.View.{Lists, Flown, flown_number, flown_at, page_by, page_held, placement_of, frames_of, bytes_held, bytes_by}
 use Rattle.kernel_tables.specs.Tied.{Tied}
 use Rattle.kernel_tables.specs.Known.{Known}
-use Rattle.kernel_tables.specs.Steps.{evicted, taken, coming}
+use Rattle.kernel_tables.specs.Steps.{evicted, taken_frame, coming}
 use Rattle.kernel_tables.proofs.Entries.{placed_heads}
 use Rattle.kernel_tables.proofs.Shows.{SameLists, segments_are, frames_set, text_at, text_within, head_sids}
 use Rattle.kernel_tables.proofs.Held.{placement_ext, flown_more, flown_last}
@@ -49,17 +49,17 @@ shared_entry t (Stack n v) k s there = stack_there t.slots t.spaces n v there
 shared_entry t (Text i v) k s there = k.shared i v s (text_within t i v there)
 
 come_arrives : (t : Lists) (page : Option Page) (rest : List ℕ) (token : Frame) (q : Page) (ts : List Transfer) → Known t
-    → Took t (taken t token.number page rest) token.number → IsShared (placement_of t) q → IsThere (placement_of t) q
-    → Arrives (taken t token.number page rest) (coming (taken t token.number page rest) token q ts) q token.number (places.Frame token.number false false)
+    → Took t (taken_frame t token.number page rest) token.number → IsShared (placement_of t) q → IsThere (placement_of t) q
+    → Arrives (taken_frame t token.number page rest) (coming (taken_frame t token.number page rest) token q ts) q token.number (places.Frame token.number false false)
 come_arrives t page rest token q ts known k sh there = record {
   differ = k.differ;
-  apart = λ r n. took_apart t (taken t token.number page rest) token.number k r;
+  apart = λ r n. took_apart t (taken_frame t token.number page rest) token.number k r;
   slots = λ g n. refl;
   cached = λ i v n. refl;
   spaces = refl;
   saved = λ i v n l. refl;
   facts = refl;
-  there = took_there t (taken t token.number page rest) token.number q k there;
+  there = took_there t (taken_frame t token.number page rest) token.number q k there;
   entry = evicted_there t.texts page t.spaces q (shared_entry t q known.tied sh there);
 }
 
@@ -77,12 +77,12 @@ come_shown t n x f k e a there fr =
 
 pub come_is : (t : Lists) (page : Option Page) (rest : List ℕ) (token was : Frame) (q : Page) (e : Errand) → Known t
     → Head t token.number was page rest → IsShared (placement_of t) q → CanEnter (placement_of t) q
-    → placement_of (coming (taken t token.number page rest) token q (join_last t.transfers e (record { page = q; frame = token.number })))
+    → placement_of (coming (taken_frame t token.number page rest) token q (join_last t.transfers e (record { page = q; frame = token.number })))
     ≡ get_one (placement_of t) e q
 come_is t page rest token was q e known h sh can =
     let f : ℕ = token.number in
     let p : Placement = placement_of t in
-    let u : Lists = taken t f page rest in
+    let u : Lists = taken_frame t f page rest in
     let ts : List Transfer = join_last t.transfers e (record { page = q; frame = f }) in
     let n : Lists = coming u token q ts in
     let k : Took t u f = took_is t f was page rest known h in
@@ -116,10 +116,10 @@ come_is t page rest token was q e known h sh can =
 -- The bytes of the frames stay: those of the frame go with its token.
 pub come_frames : (t : Lists) (page : Option Page) (rest : List ℕ) (token : Frame) (q : Page) (ts : List Transfer) → Known t
     → Head t token.number token page rest
-    → frames_of (coming (taken t token.number page rest) token q ts) ≡ frames_of t
+    → frames_of (coming (taken_frame t token.number page rest) token q ts) ≡ frames_of t
 come_frames t page rest token q ts known h =
     let f : ℕ = token.number in
-    let u : Lists = taken t f page rest in
+    let u : Lists = taken_frame t f page rest in
     let n : Lists = coming u token q ts in
     let k : Took t u f = took_is t f token page rest known h in
     let absent : times f (map flown_number t.flown) ≡ 0 =
@@ -139,7 +139,7 @@ come_frames t page rest token q ts known h =
 
 come_ties : (t : Lists) (page : Option Page) (rest : List ℕ) (token : Frame) (q : Page) (ts : List Transfer) → Known t
     → token_page (slot_at t.slots token.number) ≡ page → frame_of (state_of (placement_of t) q) ≡ None
-    → Ties t (coming (taken t token.number page rest) token q ts)
+    → Ties t (coming (taken_frame t token.number page rest) token q ts)
 come_ties t page rest token q ts k e none = record {
   slots = length-set t.slots token.number tokens.Away;
   facts = refl;
@@ -149,7 +149,7 @@ come_ties t page rest token q ts k e none = record {
   filled =
       λ h. placed_filled t.facts (evicted t.texts page t.spaces) q (places.Frame token.number false false) (frame_fits q token.number false false) (evicted_filled t.facts t.texts page t.spaces h);
   counts = λ i. refl;
-  marked = marks_entered t token.number token.number page rest q (places.Frame token.number false false) (coming (taken t token.number page rest) token q ts) k e none (λ h d. refl) refl refl
+  marked = marks_entered t token.number token.number page rest q (places.Frame token.number false false) (coming (taken_frame t token.number page rest) token q ts) k e none (λ h d. refl) refl refl
       (λ a r mark h. absurd (let x = set_resident t.slots token.number tokens.Away a r mark h in cc));
   whole = λ x. x;
   once = λ x. x;
@@ -158,11 +158,11 @@ come_ties t page rest token q ts k e none = record {
 pub come_known : (t : Lists) (page : Option Page) (rest : List ℕ) (token was : Frame) (q demanded : Page) (source : Source) → Known t
     → Head t token.number was page rest → IsShared (placement_of t) q → CanEnter (placement_of t) q
     → IsOpen t.transfers (Reads source demanded) → IsSoundMap rest (set t.slots token.number tokens.Away)
-    → Known (coming (taken t token.number page rest) token q (join_last t.transfers (Reads source demanded) (record { page = q; frame = token.number })))
+    → Known (coming (taken_frame t token.number page rest) token q (join_last t.transfers (Reads source demanded) (record { page = q; frame = token.number })))
 come_known t page rest token was q demanded source known h sh can latest core =
     let e : Errand = Reads source demanded in
     let x : Part = record { page = q; frame = token.number } in
-    let n : Lists = coming (taken t token.number page rest) token q (join_last t.transfers e x) in
+    let n : Lists = coming (taken_frame t token.number page rest) token q (join_last t.transfers e x) in
     let is : placement_of n ≡ get_one (placement_of t) e q = come_is t page rest token was q e known h sh can in
     record {
       core = core;

@@ -29,7 +29,7 @@ use Rattle.kernel_tables.specs.Found.{cached_by, frame_holding}
 use Rattle.kernel_tables.specs.View.{Lists, Flown, flown_number, pages_in, text_place_by, text_place, text_slot, flown_at, page_by, page_held, placement_of}
 use Rattle.kernel_tables.specs.Known.{Known}
 use Rattle.kernel_tables.specs.Rising.{sids_of}
-use Rattle.kernel_tables.specs.Steps.{left_text, left_place, taken}
+use Rattle.kernel_tables.specs.Steps.{left_text, left_place, taken_frame}
 use Rattle.kernel_tables.proofs.Entries.{entry_same, entry_other, entry_none, placed_heads}
 use Rattle.kernel_tables.proofs.Shows.{slot_or, data_shown, stack_shown, Moved, Here, SameLists, segments_are, segments_stay, frames_set, text_at, text_within, head_sids}
 use Rattle.kernel_tables.proofs.Finds.{holding_set, holding_none}
@@ -74,7 +74,7 @@ entry_of slots (Some x) f e = (x, refl)
 
 -- The frame's page, where it has one.
 moved_some : (t : Lists) (f : ℕ) (token : Frame) (e : Page) (rest : List ℕ) → Known t → Head t f token (Some e) rest
-    → Moved t (taken t f (Some e) rest) (λ w. w ≢ e) f
+    → Moved t (taken_frame t f (Some e) rest) (λ w. w ≢ e) f
 moved_some t f token e rest k h = record {
   differ = k.differ;
   slots = λ g n. get_or-set_other t.slots f g tokens.Away tokens.Away n;
@@ -86,7 +86,7 @@ moved_some t f token e rest k h = record {
   facts = refl;
 }
 
-moved_none : (t : Lists) (f : ℕ) (token : Frame) (rest : List ℕ) → Known t → Head t f token None rest → Moved t (taken t f None rest) (λ w. Unit {0}) f
+moved_none : (t : Lists) (f : ℕ) (token : Frame) (rest : List ℕ) → Known t → Head t f token None rest → Moved t (taken_frame t f None rest) (λ w. Unit {0}) f
 moved_none t f token rest k h = record {
   differ = k.differ;
   slots = λ g n. get_or-set_other t.slots f g tokens.Away tokens.Away n;
@@ -100,7 +100,7 @@ moved_none t f token rest k h = record {
 
 -- what is left of it
 here_some : (t : Lists) (f : ℕ) (token : Frame) (e : Page) (rest : List ℕ) → Known t → Head t f token (Some e) rest
-    → Here t (taken t f (Some e) rest) e (left_state e (mark_of (placement_of t) e)) (mark_of (placement_of t) e)
+    → Here t (taken_frame t f (Some e) rest) e (left_state e (mark_of (placement_of t) e)) (mark_of (placement_of t) e)
 here_some t f token e rest k h =
     let page : page_of (placement_of t) f ≡ Some e = head_page t f token (Some e) k h.was in
     let named : IsListed (placement_of t) f e = k.owns.listed f e (head_listed t f token (Some e) rest h) page in
@@ -148,13 +148,13 @@ here_some t f token e rest k h =
 
     left : (q : Page) → state_of (placement_of t) q ≡ Invalid f → Rattle.page_model.specs.Ownership.is_marked_dirty q (mark_of (placement_of t) q) ≡ false → IsThere (placement_of t) q
         → token_page (slot_at t.slots f) ≡ Some q
-        → slot_of (placement_of (taken t f (Some q) rest)) q ≡ record {
+        → slot_of (placement_of (taken_frame t f (Some q) rest)) q ≡ record {
           state = left_state q (mark_of (placement_of t) q);
           mark = mark_of (placement_of t) q;
           filling = filling_behind (left_state q (mark_of (placement_of t) q)) (slot_of (placement_of t) q).filling;
         }
     left (Data n v) s c th pg =
-        let u : Lists = taken t f (Some (Data n v)) rest in
+        let u : Lists = taken_frame t f (Some (Data n v)) rest in
         let was = data_shown t.slots t.spaces n v k.differ in
         let x = entry_of t.slots (entry_in t.spaces (Data n v)) f (sym (ap (λ (y : Slot). y.state) was) ∙ s) in
         let differ : AllDistinct (sids_of u.spaces) = subst AllDistinct (sym (head_sids u.spaces t.spaces (placed_heads t.spaces (Data n v) places.Swap))) k.differ in
@@ -162,7 +162,7 @@ here_some t f token e rest k h =
         ∙ ap (slot_or (slot_shown u.slots)) (entry_same t.spaces (Data n v) places.Swap x.0 x.1)
         ∙ ap (λ (b : Bool). let z : Slot = record { state = OnSwap; mark = b; filling = Zeros } in z) (sym c)
     left (Stack n v) s c th pg =
-        let u : Lists = taken t f (Some (Stack n v)) rest in
+        let u : Lists = taken_frame t f (Some (Stack n v)) rest in
         let was = stack_shown t.slots t.spaces n v k.differ in
         let x = entry_of t.slots (entry_in t.spaces (Stack n v)) f (sym (ap (λ (y : Slot). y.state) was) ∙ s) in
         let differ : AllDistinct (sids_of u.spaces) = subst AllDistinct (sym (head_sids u.spaces t.spaces (placed_heads t.spaces (Stack n v) places.Swap))) k.differ in
@@ -170,7 +170,7 @@ here_some t f token e rest k h =
         ∙ ap (slot_or (slot_shown u.slots)) (entry_same t.spaces (Stack n v) places.Swap x.0 x.1)
         ∙ ap (λ (b : Bool). let z : Slot = record { state = OnSwap; mark = b; filling = Zeros } in z) (sym c)
     left (Text i v) s c th pg =
-        let u : Lists = taken t f (Some (Text i v)) rest in
+        let u : Lists = taken_frame t f (Some (Text i v)) rest in
         let l : v < pages_in 1 i t.facts = text_within t i v th in
         let was : slot_of (placement_of t) (Text i v) ≡ text_slot t i v = text_at t i v l in
         let mark : is_saved (text_numbered t.texts i) v ≡ mark_of (placement_of t) (Text i v) = sym (ap (λ (y : Slot). y.mark) was) in
@@ -198,7 +198,7 @@ other_held t f x slots e g n =
 
 -- Taking the head of the free list evicts its page.
 pub evict_is : (t : Lists) (f : ℕ) (token : Frame) (page : Option Page) (rest : List ℕ) → Known t → Head t f token page rest
-    → placement_of (taken t f page rest) ≡ record (evict (placement_of t) f) { free = rest }
+    → placement_of (taken_frame t f page rest) ≡ record (evict (placement_of t) f) { free = rest }
 evict_is t f token page rest k h = by page h ∙ sym (ap (λ (o : Option Page). record (evict_at (placement_of t) f o) { free = rest }) (head_page t f token page k h.was))
   where
     count : length (set t.slots f tokens.Away) - 1 ≡ length t.slots - 1
@@ -208,18 +208,19 @@ evict_is t f token page rest k h = by page h ∙ sym (ap (λ (o : Option Page). 
     away = ap (λ (y : Token). page_by y (flown_at t.flown f)) (get_or-set_same t.slots f tokens.Away tokens.Away (head_below t f token page h.was))
         ∙ ap Rattle.kernel_tables.specs.View.page_flown (head_grounded t f token page rest k h)
 
-    by : (o : Option Page) → Head t f token o rest → placement_of (taken t f o rest) ≡ record (evict_at (placement_of t) f o) { free = rest }
+    by : (o : Option Page) → Head t f token o rest → placement_of (taken_frame t f o rest) ≡ record (evict_at (placement_of t) f o) { free = rest }
     by None h0 =
-        let s : SameLists (taken t f None rest) (placement_of t) = segments_stay t (taken t f None rest) f (moved_none t f token rest k h0) in
-        let held : (g : ℕ) → page_held (taken t f None rest) g ≡ page_held t g = λ g. elim (cases_eq g f) [
-          | inl e ↦ subst (λ (n : ℕ). page_held (taken t f None rest) n ≡ page_held t n) (sym e) (away ∙ sym (ap (λ (y : Token). page_by y (flown_at t.flown f)) h0.was))
+        let s : SameLists (taken_frame t f None rest) (placement_of t) = segments_stay t (taken_frame t f None rest) f (moved_none t f token rest k h0) in
+        let held : (g : ℕ) → page_held (taken_frame t f None rest) g ≡ page_held t g = λ g. elim (cases_eq g f) [
+          | inl e ↦ subst (λ (n : ℕ). page_held (taken_frame t f None rest) n ≡ page_held t n) (sym e) (away ∙ sym (ap (λ (y : Token). page_by y (flown_at t.flown f)) h0.was))
           | inr n ↦ other_held t f tokens.Away (set t.slots f tokens.Away) refl g n
         ] in
-        placement_ext (placement_of (taken t f None rest)) (record (placement_of t) { free = rest }) s.spaces s.texts
-        (ap (λ (n : ℕ). map (page_held (taken t f None rest)) (range_with_len 1 n)) count ∙ frames_same (page_held t) (page_held (taken t f None rest)) (range_with_len 1 (length t.slots - 1)) held)
+        placement_ext (placement_of (taken_frame t f None rest)) (record (placement_of t) { free = rest }) s.spaces s.texts
+        (ap (λ (n : ℕ). map (page_held (taken_frame t f None rest)) (range_with_len 1 n)) count
+        ∙ frames_same (page_held t) (page_held (taken_frame t f None rest)) (range_with_len 1 (length t.slots - 1)) held)
         refl refl refl refl refl refl
     by (Some e) h0 =
-        let u : Lists = taken t f (Some e) rest in
+        let u : Lists = taken_frame t f (Some e) rest in
         let s : SameLists u (put (placement_of t) e (left_state e (mark_of (placement_of t) e)) (mark_of (placement_of t) e)) =
         segments_are t u e f (left_state e (mark_of (placement_of t) e)) (mark_of (placement_of t) e) (moved_some t f token e rest k h0) (here_some t f token e rest k h0) in
         placement_ext (placement_of u) (record (evict_at (placement_of t) f (Some e)) { free = rest }) s.spaces s.texts

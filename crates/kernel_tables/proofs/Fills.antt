@@ -24,7 +24,7 @@ use Rattle.std.proofs.lemmas.Option.{same_Some}
 use Rattle.kernel_laws.proofs.PageLawsMovesSteps.{EvictRest, evict_rest, evict_owner, evict_page}
 use Rattle.kernel_tables.specs.Shown.{entry_in}
 use Rattle.kernel_tables.specs.View.{Lists, flown_at, page_by, bytes_by, page_held, bytes_held, placement_of, frames_of}
-use Rattle.kernel_tables.specs.Steps.{evicted, taken, seated_in}
+use Rattle.kernel_tables.specs.Steps.{evicted, taken_frame, seated_in}
 use Rattle.kernel_tables.proofs.Entries.{placed_heads}
 use Rattle.kernel_tables.proofs.Shows.{SameLists, segments_are, frames_set, head_sids}
 use Rattle.kernel_tables.proofs.Finds.{holding_set}
@@ -48,7 +48,8 @@ evicted_sids : (t : Lists) (page : Option Page) → sids_of (evicted t.texts pag
 evicted_sids t None = refl
 evicted_sids t (Some e) = head_sids (evicted t.texts (Some e) t.spaces) t.spaces (placed_heads t.spaces e (Rattle.kernel_tables.specs.Steps.left_place t.texts e))
 
-pub took_is : (t : Lists) (f : ℕ) (token : Frame) (page : Option Page) (rest : List ℕ) → Known t → Head t f token page rest → Took t (taken t f page rest) f
+pub took_is : (t : Lists) (f : ℕ) (token : Frame) (page : Option Page) (rest : List ℕ) → Known t → Head t f token page rest
+    → Took t (taken_frame t f page rest) f
 took_is t f token page rest k h = record {
   place = evict_is t f token page rest k h;
   free = h.free;

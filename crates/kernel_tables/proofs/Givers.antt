@@ -13,7 +13,7 @@ use Rattle.kernel_model.specs.ChangeStep.{pass_from, passed_life, life_of_proc, 
 use Rattle.kernel_model.specs.Sound.{lives_in, lives as are_alive}
 use Rattle.kernel_tables.specs.declared.tables.Tables.{Tables}
 use Rattle.kernel_tables.specs.Alike.{lends_to_by, lends_to, is_borrower_in, HoldsBorrowed, AreRecords}
-use Rattle.kernel_tables.specs.Machine.{life_shown, proc_shown, proc_of_record, processes_of, residence_by, residence_of, residents_of}
+use Rattle.kernel_tables.specs.Machine.{life_shown, proc_shown, proc_of_record, processes_of, residence_by, residence_shown, residents_of}
 use Rattle.kernel_tables.specs.Applying.{MayPass}
 use Rattle.kernel_tables.specs.Changing.{HasProcesses, processes_in, residents_in, life_at, passed_procs}
 use Rattle.kernel_tables.specs.Families.{HasPassed}
@@ -62,11 +62,11 @@ module _ (t u : Tables) (from to sid : ℕ) (receiver : Life) (g b giver taker :
 
   pub passed_residents : residence_by giver giver.state ≡ residence_by g g.state → residence_by taker taker.state ≡ residence_by b b.state
       → residents_of u.processes t.next_pid ≡ residents_in t
-  passed_residents x y = over_same (λ n. residence_of (find n u.processes)) (λ n. residence_of (find n t.processes)) (range_with_len 1 (t.next_pid - 1)) (λ n. elim (cases_eq n from) [
-    | inl i ↦ ap (λ (m : ℕ). residence_of (find m u.processes)) i ∙ ap residence_of passed.gives ∙ x ∙ sym (ap (λ (m : ℕ). residence_of (find m t.processes)) i ∙ ap residence_of gave)
+  passed_residents x y = over_same (λ n. residence_shown (find n u.processes)) (λ n. residence_shown (find n t.processes)) (range_with_len 1 (t.next_pid - 1)) (λ n. elim (cases_eq n from) [
+    | inl i ↦ ap (λ (m : ℕ). residence_shown (find m u.processes)) i ∙ ap residence_shown passed.gives ∙ x ∙ sym (ap (λ (m : ℕ). residence_shown (find m t.processes)) i ∙ ap residence_shown gave)
     | inr d ↦ elim (cases_eq n to) [
-      | inl i ↦ ap (λ (m : ℕ). residence_of (find m u.processes)) i ∙ ap residence_of passed.takes ∙ y ∙ sym (ap (λ (m : ℕ). residence_of (find m t.processes)) i ∙ ap residence_of took)
-      | inr c ↦ ap residence_of (passed.others n d c)
+      | inl i ↦ ap (λ (m : ℕ). residence_shown (find m u.processes)) i ∙ ap residence_shown passed.takes ∙ y ∙ sym (ap (λ (m : ℕ). residence_shown (find m t.processes)) i ∙ ap residence_shown took)
+      | inr c ↦ ap residence_shown (passed.others n d c)
     ]
   ])
 

@@ -17,7 +17,7 @@ use Rattle.kernel_model.specs.Sound.{has_life, lives_in, lives as are_alive}
 use Rattle.kernel_model.specs.Unit.{has_lender}
 use Rattle.kernel_tables.specs.declared.tables.Tables.{Tables}
 use Rattle.kernel_tables.specs.Alike.{lends_to_by, AreRecords}
-use Rattle.kernel_tables.specs.Machine.{life_shown, proc_shown, proc_of_record, processes_of, residence_by, residence_of, residents_of}
+use Rattle.kernel_tables.specs.Machine.{life_shown, proc_shown, proc_of_record, processes_of, residence_by, residence_shown, residents_of}
 use Rattle.kernel_tables.specs.Changing.{HasProcesses, HasOneMore, HasChanged, HasEnded, HoldsOrNew, processes_in, residents_in, process_in, life_at}
 use Rattle.kernel_tables.specs.Families.{left_life, left_by, left_in, LeftChildren, IsAlone, IsBuried}
 use Rattle.kernel_tables.proofs.Records.{found_pid, set_is}
@@ -109,7 +109,7 @@ pub has_changed : (t u : Tables) (was now : Record) → AreRecords t.processes t
     → u ≡ record t { processes = u.processes } → StandsFor now was → residence_by now now.state ≡ residence_by was was.state → HasChanged t u (proc_shown now)
 has_changed t u was now h f c s e x r = has_processes t u _ _ e
     (set_is t.processes u.processes now was t.next_pid c f)
-    (still_residents t.processes u.processes t.next_pid now.pid (Some now) c (r ∙ sym (ap residence_of f)))
+    (still_residents t.processes u.processes t.next_pid now.pid (Some now) c (r ∙ sym (ap residence_shown f)))
     (changed_records t.processes u.processes t.next_pid now.pid was (Some now) s f c x h)
 
 -- Gone.
@@ -142,7 +142,7 @@ has_reaped t u pid h d c s e = has_processes t u _ _ e
     none_at : (p : Record) (l : RecordLife) → has_life (life_shown l) ≡ false → residence_by p l ≡ None
     none_at p l k = let z = ended_state l k in ap (residence_by p) z.1
 
-    none : (o : Option Record) → lives_in (proc_of_record o) ≡ false → residence_of o ≡ None
+    none : (o : Option Record) → lives_in (proc_of_record o) ≡ false → residence_shown o ≡ None
     none None k = refl
     none (Some p) k = none_at p p.state k
 
@@ -195,7 +195,7 @@ has_woken t u was h f c s e =
     ∙ sym (ap (λ (o : Option Record). step_in (wakes was.pid) (proc_of_record o)) f) in
     has_processes t u _ _ e
     (woken_over t.processes u.processes t.next_pid was.pid c.others here)
-    (still_residents t.processes u.processes t.next_pid was.pid (Some (record was { asleep = false })) c (residence_asleep was false was.state ∙ sym (ap residence_of f)))
+    (still_residents t.processes u.processes t.next_pid was.pid (Some (record was { asleep = false })) c (residence_asleep was false was.state ∙ sym (ap residence_shown f)))
     (changed_records t.processes u.processes t.next_pid was.pid was (Some (record was { asleep = false })) s f c (record { lends = λ n. refl; borrowed = refl; holds = h.holds was.pid was f }) h)
 
 pub none_woken : (t : Tables) (pid : ℕ) → AreRecords t.processes t.next_pid → find pid t.processes ≡ None
@@ -226,15 +226,15 @@ orphan_in : (pid : ℕ) (o : Option Record) → proc_of_record (left_in pid o) �
 orphan_in pid None = refl
 orphan_in pid (Some q) = orphan_by q (q.parent == pid)
 
-orphan_stays : (q : Record) (l : RecordLife) → q.state ≡ l → residence_of (left_life q l) ≡ residence_by q q.state
+orphan_stays : (q : Record) (l : RecordLife) → q.state ≡ l → residence_shown (left_life q l) ≡ residence_by q q.state
 orphan_stays q (lives.Zombie status) e = sym (ap (residence_by q) e)
 orphan_stays q _ e = residence_orphan q q.state
 
-orphan_resides : (q : Record) (b : Bool) → residence_of (left_by b q) ≡ residence_by q q.state
+orphan_resides : (q : Record) (b : Bool) → residence_shown (left_by b q) ≡ residence_by q q.state
 orphan_resides q true = orphan_stays q q.state refl
 orphan_resides q false = refl
 
-orphan_residence : (pid : ℕ) (o : Option Record) → residence_of (left_in pid o) ≡ residence_of o
+orphan_residence : (pid : ℕ) (o : Option Record) → residence_shown (left_in pid o) ≡ residence_shown o
 orphan_residence pid None = refl
 orphan_residence pid (Some q) = orphan_resides q (q.parent == pid)
 
@@ -243,8 +243,8 @@ pub has_left : (t u : Tables) (pid : ℕ) → AreRecords t.processes t.next_pid 
 has_left t u pid h l = has_processes t u _ _ l.rest
     (over_left (λ n. proc_of_record (find n u.processes)) (λ n. proc_of_record (find n t.processes)) (stays pid) (orphan pid) (range_with_len 1 (t.next_pid - 1))
     (λ n. ap proc_of_record (l.left n) ∙ orphan_in pid (find n t.processes)))
-    (over_same (λ n. residence_of (find n u.processes)) (λ n. residence_of (find n t.processes)) (range_with_len 1 (t.next_pid - 1))
-    (λ n. ap residence_of (l.left n) ∙ orphan_residence pid (find n t.processes)))
+    (over_same (λ n. residence_shown (find n u.processes)) (λ n. residence_shown (find n t.processes)) (range_with_len 1 (t.next_pid - 1))
+    (λ n. ap residence_shown (l.left n) ∙ orphan_residence pid (find n t.processes)))
     (left_records t.processes u.processes t.next_pid pid h l.sound l.left)
 
 -- Zombies.

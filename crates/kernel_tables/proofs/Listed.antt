@@ -17,7 +17,7 @@ use Rattle.kernel_model.specs.ChangeStep.{without_proc}
 use Rattle.kernel_model.specs.Unit.{lends_life, has_lender}
 use Rattle.kernel_tables.specs.Alike.{lends_to_by, lends_to, is_borrower_in, AreRecords}
 use Rattle.kernel_tables.specs.Lives.{AreMarked}
-use Rattle.kernel_tables.specs.Machine.{life_shown, proc_shown, proc_of_record, processes_of, residence_of, residents_of}
+use Rattle.kernel_tables.specs.Machine.{life_shown, proc_shown, proc_of_record, processes_of, residence_shown, residents_of}
 use Rattle.kernel_tables.proofs.Records.{keeps_none, keeps_some, found_pid, shown_pid, find_hit, find_miss, any_found, found_any, map_same}
 use Rattle.kernel_tables.proofs.MovedRecords.{same_first, found_residence}
 use Rattle.kernel_tables.proofs.Lives.{pid_of, hit, miss, HasRecord, record_of}
@@ -98,20 +98,20 @@ module _ {A : Type 0} (show : Option Record → Option A) (key : A → ℕ) (pid
 pub gone_processes : (old new : List Record) (next pid : ℕ) → Changes old new pid None → processes_of new next ≡ without_proc (processes_of old next) pid
 gone_processes old new next pid c = gone_over proc_of_record (λ (p : Proc). p.pid) pid old new (ap proc_of_record c.changed) c.others (λ n x k. shown_pid n old x k) (range_with_len 1 (next - 1))
 
-pub gone_residents : (old new : List Record) (next pid : ℕ) (found : Option Record) → Changes old new pid found → residence_of found ≡ None
+pub gone_residents : (old new : List Record) (next pid : ℕ) (found : Option Record) → Changes old new pid found → residence_shown found ≡ None
     → residents_of new next ≡ filter (λ (r : Residence). not (r.pid == pid)) (residents_of old next)
 gone_residents old new next pid found c e =
-    gone_over residence_of (λ (r : Residence). r.pid) pid old new (ap residence_of c.changed ∙ e) c.others (λ n x k. found_residence n old x k) (range_with_len 1 (next - 1))
+    gone_over residence_shown (λ (r : Residence). r.pid) pid old new (ap residence_shown c.changed ∙ e) c.others (λ n x k. found_residence n old x k) (range_with_len 1 (next - 1))
 
 -- the residents stay where the residence of the one that changed does
 pub still_residents : (old new : List Record) (next pid : ℕ) (found : Option Record) → Changes old new pid found
-    → residence_of found ≡ residence_of (find pid old) → residents_of new next ≡ residents_of old next
+    → residence_shown found ≡ residence_shown (find pid old) → residents_of new next ≡ residents_of old next
 still_residents old new next pid found c e =
-    let each : (n : ℕ) → residence_of (find n new) ≡ residence_of (find n old) = λ n. elim (cases_eq n pid) [
-      | inl i ↦ ap (λ (m : ℕ). residence_of (find m new)) i ∙ ap residence_of c.changed ∙ e ∙ sym (ap (λ (m : ℕ). residence_of (find m old)) i)
-      | inr d ↦ ap residence_of (c.others n d)
+    let each : (n : ℕ) → residence_shown (find n new) ≡ residence_shown (find n old) = λ n. elim (cases_eq n pid) [
+      | inl i ↦ ap (λ (m : ℕ). residence_shown (find m new)) i ∙ ap residence_shown c.changed ∙ e ∙ sym (ap (λ (m : ℕ). residence_shown (find m old)) i)
+      | inr d ↦ ap residence_shown (c.others n d)
     ] in
-    over_same (λ n. residence_of (find n new)) (λ n. residence_of (find n old)) (range_with_len 1 (next - 1)) each
+    over_same (λ n. residence_shown (find n new)) (λ n. residence_shown (find n old)) (range_with_len 1 (next - 1)) each
 
 -- A process by its number is its record's.
 

@@ -18,7 +18,7 @@ use Rattle.page_model.specs.Placement.{state_of}
 use Rattle.page_model.specs.PageBytes.{IsWritable}
 use Rattle.kernel_laws.proofs.Local.{none_some}
 use Rattle.kernel_tables.specs.Shown.{entry_in, placed, changed_named}
-use Rattle.kernel_tables.specs.Steps.{left_place, evicted, taken, revived, dirty_shown, AreTextsHere}
+use Rattle.kernel_tables.specs.Steps.{left_place, evicted, taken_frame, revived, dirty_shown, AreTextsHere}
 use Rattle.kernel_tables.specs.Marked.{AreMarked}
 use Rattle.kernel_tables.specs.View.{Lists, placement_of}
 use Rattle.kernel_tables.specs.Known.{Known}
@@ -104,7 +104,7 @@ alone_in t q f k e g h = same_Some g f (sym (held_named t g q k h) ∙ e)
 pub marks_taken : (t : Lists) (f : ℕ) (page : Option Page) (rest : List ℕ) → Known t → token_page (slot_at t.slots f) ≡ page
     → AreMarked t.slots t.spaces t.texts
     → AreMarked (set t.slots f tokens.Away) (evicted t.texts page t.spaces) t.texts
-marks_taken t f page rest k e = marks_kept t (taken t f page rest) f (λ g n. get_or-set_other t.slots f g tokens.Away tokens.Away n) (others page e)
+marks_taken t f page rest k e = marks_kept t (taken_frame t f page rest) f (λ g n. get_or-set_other t.slots f g tokens.Away tokens.Away n) (others page e)
     (λ token r mark h. absurd (let a = set_resident t.slots f tokens.Away token r mark h in cc))
   where
     others : (o : Option Page) → token_page (slot_at t.slots f) ≡ o → (g : ℕ) (w : Page) → g ≢ f → token_page (slot_at t.slots g) ≡ Some w
@@ -135,7 +135,7 @@ pub marks_entered : (t : Lists) (f g : ℕ) (page : Option Page) (rest : List �
     → ((token : Frame) (r : Page) (mark : Bool) → slot_at u.slots g ≡ tokens.Resident token r mark → mark ≡ dirty_shown u.spaces u.texts r)
     → AreMarked t.slots t.spaces t.texts → AreMarked u.slots u.spaces u.texts
 marks_entered t f g page rest q place u k e n slots spaces texts here m =
-    marks_placed (taken t f page rest) u q g place (texts_left t f k) slots spaces (λ i v d l. ap (λ (ts : List SharedText). is_saved (text_numbered ts i) v) texts)
+    marks_placed (taken_frame t f page rest) u q g place (texts_left t f k) slots spaces (λ i v d l. ap (λ (ts : List SharedText). is_saved (text_numbered ts i) v) texts)
     (λ h x. none_some h (sym n ∙ held_named t h q k (stayed t f h q x))) here (marks_taken t f page rest k e m)
 
 -- A frame that holds a page is off the free list.

@@ -16,7 +16,7 @@ use Rattle.page_model.specs.Placement.{Residence}
 use Rattle.page_model.specs.Swapper as swapper
 use Rattle.kernel_laws.proofs.Local.{none_some}
 use Rattle.kernel_model.specs.Kernel.{Proc, with_regs}
-use Rattle.kernel_tables.specs.Machine.{proc_shown, proc_of_record, processes_of, residence_by, residence_of, residents_of}
+use Rattle.kernel_tables.specs.Machine.{proc_shown, proc_of_record, processes_of, residence_by, residence_shown, residents_of}
 use Rattle.kernel_tables.specs.Alike.{AreRecords}
 use Rattle.kernel_tables.specs.Swapping.{Lasts, MovedRecord}
 use Rattle.kernel_tables.proofs.Records.{keeps_none, keeps_some, found_pid, shown_pid, changed_over}
@@ -77,52 +77,52 @@ residence_pid p (lives.Zombie status) r e = none_some r e
 residence_pid p _ r e = ap pid_in (sym (same_Some (let x : Residence = record { pid = p.pid; out = p.out; since = p.since } in x) r e))
 
 -- a residence is that of the pid under which it was found
-pub found_residence : (n : ℕ) (ps : List Record) (r : Residence) → residence_of (find n ps) ≡ Some r → r.pid ≡ n
+pub found_residence : (n : ℕ) (ps : List Record) (r : Residence) → residence_shown (find n ps) ≡ Some r → r.pid ≡ n
 found_residence n ps r e = go (find n ps) refl e
   where
-    go : (o : Option Record) → find n ps ≡ o → residence_of o ≡ Some r → r.pid ≡ n
+    go : (o : Option Record) → find n ps ≡ o → residence_shown o ≡ Some r → r.pid ≡ n
     go None f k = none_some r k
     go (Some x) f k = residence_pid x x.state r k ∙ found_pid n ps x f
 
 same_above : (k a : ℕ) (old new : List Record) (pid : ℕ) (found : Option Record) → Changes old new pid found → pid < a
-    → filter_map (λ n. residence_of (find n new)) (range_with_len a k) ≡ filter_map (λ n. residence_of (find n old)) (range_with_len a k)
+    → filter_map (λ n. residence_shown (find n new)) (range_with_len a k) ≡ filter_map (λ n. residence_shown (find n old)) (range_with_len a k)
 same_above zero a old new pid found c l = refl
 same_above (suc k) a old new pid found c l =
-    same_first (λ n. residence_of (find n new)) (λ n. residence_of (find n old)) a (range_with_len (a + 1) k) (ap residence_of (c.others a (λ e. absurd (omega arith))))
+    same_first (λ n. residence_shown (find n new)) (λ n. residence_shown (find n old)) a (range_with_len (a + 1) k) (ap residence_shown (c.others a (λ e. absurd (omega arith))))
     (same_above k (a + 1) old new pid found c (omega arith))
 
 residents_over : (k a : ℕ) (old new : List Record) (pid : ℕ) (regs : Regs) (out : Bool) (since : ℕ) (m : MovedRecord old new pid regs out since)
     → Lasts m.was.state
-    → filter_map (λ n. residence_of (find n new)) (range_with_len a k)
-    ≡ changed pid_in pid (moves_to out since) (filter_map (λ n. residence_of (find n old)) (range_with_len a k))
+    → filter_map (λ n. residence_shown (find n new)) (range_with_len a k)
+    ≡ changed pid_in pid (moves_to out since) (filter_map (λ n. residence_shown (find n old)) (range_with_len a k))
 residents_over zero a old new pid regs out since m l = refl
 residents_over (suc k) a old new pid regs out since m l = elim (cases_eq a pid) [
   | inl h ↦
       let was : Record = m.was in
       let r : Residence = record { pid = was.pid; out = was.out; since = was.since } in
-      let now : residence_of (find a new) ≡ Some (moves_to out since r) =
-      ap (λ (n : ℕ). residence_of (find n new)) h ∙ ap residence_of m.changes.changed ∙ residence_is (now_of was regs out since) was.state l in
-      let before : residence_of (find a old) ≡ Some r = ap (λ (n : ℕ). residence_of (find n old)) h ∙ ap residence_of m.found ∙ residence_is was was.state l in
-      keeps_some (λ n. residence_of (find n new)) a (range_with_len (a + 1) k) (moves_to out since r) now
+      let now : residence_shown (find a new) ≡ Some (moves_to out since r) =
+      ap (λ (n : ℕ). residence_shown (find n new)) h ∙ ap residence_shown m.changes.changed ∙ residence_is (now_of was regs out since) was.state l in
+      let before : residence_shown (find a old) ≡ Some r = ap (λ (n : ℕ). residence_shown (find n old)) h ∙ ap residence_shown m.found ∙ residence_is was was.state l in
+      keeps_some (λ n. residence_shown (find n new)) a (range_with_len (a + 1) k) (moves_to out since r) now
       ∙ ap (λ (rs : List Residence). moves_to out since r ∷ rs) (same_above k (a + 1) old new pid _ m.changes (omega arith))
-      ∙ sym (changed_hit pid (moves_to out since) r (filter_map (λ n. residence_of (find n old)) (range_with_len (a + 1) k)) (found_pid pid old was m.found))
-      ∙ sym (ap (changed pid_in pid (moves_to out since)) (keeps_some (λ n. residence_of (find n old)) a (range_with_len (a + 1) k) r before))
-  | inr d ↦ other (residence_of (find a old)) refl (ap residence_of (m.changes.others a d)) d (residents_over k (a + 1) old new pid regs out since m l)
+      ∙ sym (changed_hit pid (moves_to out since) r (filter_map (λ n. residence_shown (find n old)) (range_with_len (a + 1) k)) (found_pid pid old was m.found))
+      ∙ sym (ap (changed pid_in pid (moves_to out since)) (keeps_some (λ n. residence_shown (find n old)) a (range_with_len (a + 1) k) r before))
+  | inr d ↦ other (residence_shown (find a old)) refl (ap residence_shown (m.changes.others a d)) d (residents_over k (a + 1) old new pid regs out since m l)
 ]
   where
     ns : List ℕ
     ns = range_with_len (a + 1) k
 
-    other : (o : Option Residence) → residence_of (find a old) ≡ o → residence_of (find a new) ≡ residence_of (find a old) → a ≢ pid
-        → filter_map (λ n. residence_of (find n new)) ns ≡ changed pid_in pid (moves_to out since) (filter_map (λ n. residence_of (find n old)) ns)
-        → filter_map (λ n. residence_of (find n new)) (a ∷ ns) ≡ changed pid_in pid (moves_to out since) (filter_map (λ n. residence_of (find n old)) (a ∷ ns))
+    other : (o : Option Residence) → residence_shown (find a old) ≡ o → residence_shown (find a new) ≡ residence_shown (find a old) → a ≢ pid
+        → filter_map (λ n. residence_shown (find n new)) ns ≡ changed pid_in pid (moves_to out since) (filter_map (λ n. residence_shown (find n old)) ns)
+        → filter_map (λ n. residence_shown (find n new)) (a ∷ ns) ≡ changed pid_in pid (moves_to out since) (filter_map (λ n. residence_shown (find n old)) (a ∷ ns))
     other None f s d rest =
-        keeps_none (λ n. residence_of (find n new)) a ns (s ∙ f) ∙ rest
-        ∙ sym (ap (changed pid_in pid (moves_to out since)) (keeps_none (λ n. residence_of (find n old)) a ns f))
+        keeps_none (λ n. residence_shown (find n new)) a ns (s ∙ f) ∙ rest
+        ∙ sym (ap (changed pid_in pid (moves_to out since)) (keeps_none (λ n. residence_shown (find n old)) a ns f))
     other (Some r) f s d rest =
-        keeps_some (λ n. residence_of (find n new)) a ns r (s ∙ f) ∙ ap (λ (rs : List Residence). r ∷ rs) rest
-        ∙ sym (changed_miss pid (moves_to out since) r (filter_map (λ n. residence_of (find n old)) ns) (λ h. d (sym (found_residence a old r f) ∙ h)))
-        ∙ sym (ap (changed pid_in pid (moves_to out since)) (keeps_some (λ n. residence_of (find n old)) a ns r f))
+        keeps_some (λ n. residence_shown (find n new)) a ns r (s ∙ f) ∙ ap (λ (rs : List Residence). r ∷ rs) rest
+        ∙ sym (changed_miss pid (moves_to out since) r (filter_map (λ n. residence_shown (find n old)) ns) (λ h. d (sym (found_residence a old r f) ∙ h)))
+        ∙ sym (ap (changed pid_in pid (moves_to out since)) (keeps_some (λ n. residence_shown (find n old)) a ns r f))
 
 pub moved_residents : (old new : List Record) (next pid : ℕ) (regs : Regs) (out : Bool) (since : ℕ) (m : MovedRecord old new pid regs out since)
     → Lasts m.was.state
@@ -151,7 +151,7 @@ lasting : (p : Record) (life : RecordLife) (r : Residence) → residence_by p li
 lasting p (lives.Zombie status) r e = none_some r e
 lasting p _ r e = tt
 
-out_over : (ns : List ℕ) (ps : List Record) (pid : ℕ) → (swapper.residence_of (filter_map (λ n. residence_of (find n ps)) ns) pid).out ≡ true
+out_over : (ns : List ℕ) (ps : List Record) (pid : ℕ) → (swapper.residence_of (filter_map (λ n. residence_shown (find n ps)) ns) pid).out ≡ true
     → IsOutThere ps pid (filter_map (λ n. proc_of_record (find n ps)) ns)
 out_over [] ps pid e = absurd cc
 out_over (n ∷ ns) ps pid e = go (find n ps) refl (λ k. out_over ns ps pid k)
@@ -160,7 +160,7 @@ out_over (n ∷ ns) ps pid e = go (find n ps) refl (λ k. out_over ns ps pid k)
     procs = filter_map (λ k. proc_of_record (find k ps)) ns
 
     rs : List Residence
-    rs = filter_map (λ k. residence_of (find k ps)) ns
+    rs = filter_map (λ k. residence_shown (find k ps)) ns
 
     -- the next of another pid
     later : (x : Record) → find n ps ≡ Some x → x.pid ≢ pid → IsOutThere ps pid procs → IsOutThere ps pid (filter_map (λ k. proc_of_record (find k ps)) (n ∷ ns))
@@ -192,16 +192,16 @@ out_over (n ∷ ns) ps pid e = go (find n ps) refl (λ k. out_over ns ps pid k)
 
     by : (x : Record) → find n ps ≡ Some x → (o : Option Residence) → residence_by x x.state ≡ o → ((swapper.residence_of rs pid).out ≡ true → IsOutThere ps pid procs)
         → IsOutThere ps pid (filter_map (λ k. proc_of_record (find k ps)) (n ∷ ns))
-    by x f None z more = behind x f (sym (ap (λ (l : List Residence). (swapper.residence_of l pid).out) (keeps_none (λ k. residence_of (find k ps)) n ns (ap residence_of f ∙ z))) ∙ e) more
+    by x f None z more = behind x f (sym (ap (λ (l : List Residence). (swapper.residence_of l pid).out) (keeps_none (λ k. residence_shown (find k ps)) n ns (ap residence_shown f ∙ z))) ∙ e) more
     by x f (Some r) z more = elim (cases_eq r.pid pid) [
       | inl h ↦ found x f (sym (residence_pid x x.state r z) ∙ h) (lasting x x.state r z)
       | inr d ↦ behind x f (sym (ap (λ (y : Residence). y.out) (out_miss pid r rs d))
-          ∙ sym (ap (λ (l : List Residence). (swapper.residence_of l pid).out) (keeps_some (λ k. residence_of (find k ps)) n ns r (ap residence_of f ∙ z))) ∙ e) more
+          ∙ sym (ap (λ (l : List Residence). (swapper.residence_of l pid).out) (keeps_some (λ k. residence_shown (find k ps)) n ns r (ap residence_shown f ∙ z))) ∙ e) more
     ]
 
     go : (o : Option Record) → find n ps ≡ o → ((swapper.residence_of rs pid).out ≡ true → IsOutThere ps pid procs) → IsOutThere ps pid (filter_map (λ k. proc_of_record (find k ps)) (n ∷ ns))
     go None f more =
-        let o : IsOutThere ps pid procs = more (sym (ap (λ (l : List Residence). (swapper.residence_of l pid).out) (keeps_none (λ k. residence_of (find k ps)) n ns (ap residence_of f))) ∙ e) in
+        let o : IsOutThere ps pid procs = more (sym (ap (λ (l : List Residence). (swapper.residence_of l pid).out) (keeps_none (λ k. residence_shown (find k ps)) n ns (ap residence_shown f))) ∙ e) in
         record { was = o.was; found = o.found; lasts = o.lasts; kept = ap (numbered pid_of pid) (keeps_none (λ k. proc_of_record (find k ps)) n ns (ap proc_of_record f)) ∙ o.kept }
     go (Some x) f more = by x f (residence_by x x.state) refl more
 

@@ -13,7 +13,7 @@ use Rattle.proc_table.specs.Records.{find, Changes, ArePidsApart}
 use Rattle.kernel_model.specs.Kernel.{Proc}
 use Rattle.kernel_model.specs.ChangeStep.{with_proc}
 use Rattle.vm_facts.proofs.Tests.{eq_self}
-use Rattle.kernel_tables.specs.Machine.{proc_shown, proc_of_record, processes_of, residence_by, residence_of, residents_of}
+use Rattle.kernel_tables.specs.Machine.{proc_shown, proc_of_record, processes_of, residence_by, residence_shown, residents_of}
 
 pub keeps_none : {A B : Type 0} (h : A → Option B) (x : A) (xs : List A) → h x ≡ None → filter_map h (x ∷ xs) ≡ filter_map h xs
 keeps_none h x xs e = rw e refl
@@ -110,8 +110,8 @@ residence_regs p regs _ = refl
 pub residents_are : (old new : List Record) (pid : ℕ) (regs : Regs) (was : Record) (next : ℕ) → find pid old ≡ Some was
     → Changes old new pid (Some (record was { regs = regs })) → residents_of new next ≡ residents_of old next
 residents_are old new pid regs was next e c =
-    let same : residence_of (find pid new) ≡ residence_of (find pid old) = ap residence_of c.changed ∙ residence_regs was regs was.state ∙ sym (ap residence_of e) in
-    changed_over residence_of refl (λ r. r) pid old new c.others (λ r h. same ∙ h) (λ h. same ∙ h) (λ n r d h. refl) (range_with_len 1 (next - 1)) ∙ map_same (residents_of old next)
+    let same : residence_shown (find pid new) ≡ residence_shown (find pid old) = ap residence_shown c.changed ∙ residence_regs was regs was.state ∙ sym (ap residence_shown e) in
+    changed_over residence_shown refl (λ r. r) pid old new c.others (λ r h. same ∙ h) (λ h. same ∙ h) (λ n r d h. refl) (range_with_len 1 (next - 1)) ∙ map_same (residents_of old next)
 
 -- Who lends.
 

@@ -21,7 +21,7 @@ use Rattle.kernel_tables.specs.declared.fill.DueFill.{DueFill}
 use Rattle.kernel_tables.specs.declared.fill.DueFill.TheVariants as fills
 use Rattle.kernel_tables.specs.View.{Lists, flown_at, bytes_by, due_shown, starts_of, placement_of, frames_of}
 use Rattle.kernel_tables.specs.Due.{first_bytes, IsFirstStart, DueOnce}
-use Rattle.kernel_tables.specs.Steps.{taken, seated_in}
+use Rattle.kernel_tables.specs.Steps.{taken_frame, seated_in}
 use Rattle.kernel_tables.specs.Moves.{TookFrame, SeatedPage, FinishedFill}
 use Rattle.kernel_tables.specs.Machine.{lists_of}
 use Rattle.kernel_tables.specs.Known.{Known}
@@ -64,7 +64,7 @@ starts_first (fills.Start r bytes ∷ ds) q o h =
 -- The lists.
 
 pub took_lists : (t u : Tables) (token : Frame) → TookFrame t u token
-    → lists_of u ≡ taken (lists_of t) token.number (slot_page (slot_at t.core.slots token.number)) u.core.free
+    → lists_of u ≡ taken_frame (lists_of t) token.number (slot_page (slot_at t.core.slots token.number)) u.core.free
 took_lists t u token k =
     ap lists_of k.rest
     ∙ ap (λ (ss : List Token). record (lists_of t) { slots = ss; free = u.core.free; spaces = u.spaces }) k.slots
@@ -95,7 +95,7 @@ pub record Zeroing (t u v w : Tables) (token filling : Frame) (q : Page) : Type 
 
 -- the lists after the step
 abbrev pub zeroed : Lists → ℕ → Option Page → List ℕ → Frame → Page → Lists
-zeroed t f page rest filling q = record (seated_in (taken t f page rest) filling q true) { fills = drop 1 t.fills }
+zeroed t f page rest filling q = record (seated_in (taken_frame t f page rest) filling q true) { fills = drop 1 t.fills }
 
 pub zeroing_lists : (t u v w : Tables) (token filling : Frame) (q : Page) → Zeroing t u v w token filling q
     → lists_of w ≡ zeroed (lists_of t) token.number (slot_page (slot_at t.core.slots token.number)) u.core.free filling q
@@ -109,7 +109,7 @@ pub zero_place : (t : Lists) (f : ℕ) (token filling : Frame) (page : Option Pa
     → IsThere (placement_of t) q → IsFirstStart (map due_shown t.fills) q
     → placement_of (zeroed t f page rest filling q) ≡ filled (placement_of t) q
 zero_place t f token filling page rest q k h n w there first =
-    let u : Lists = taken t f page rest in
+    let u : Lists = taken_frame t f page rest in
     let took : Took t u filling.number = subst (Took t u) (sym n) (took_is t f token page rest k h) in
     ap (λ (p : Placement). record p { due = map due_shown (drop 1 t.fills) }) (fill_is t u filling q took w there refl)
     ∙ ap (λ (ds : List Due). record (fill (placement_of t) q) { due = ds }) (due_first t.fills q first)
@@ -119,7 +119,7 @@ pub zero_frames : (t : Lists) (f : ℕ) (token filling : Frame) (page : Option P
     → filling.bytes ≡ first_bytes t.fills → IsFirstStart (map due_shown t.fills) q
     → frames_of (zeroed t f page rest filling q) ≡ put_first t.free (frames_of t) (start_bytes (starts_of t.fills) q)
 zero_frames t f token filling page rest q k h n b first =
-    let u : Lists = taken t f page rest in
+    let u : Lists = taken_frame t f page rest in
     let took : Took t u filling.number = subst (Took t u) (sym n) (took_is t f token page rest k h) in
     seat_frames t u filling q true took
     (λ g d. ap (λ (y : Token). bytes_by y (flown_at t.flown g)) (get_or-set_other t.slots f g tokens.Away tokens.Away (λ e. d (e ∙ sym n))))

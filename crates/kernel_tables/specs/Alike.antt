@@ -1,4 +1,4 @@
--- What holds of the entries of all spaces.
+-- What holds of the entries of all spaces at once: text is alike where it is shared, and filled as its image says.
 use Rattle.std.specs.Prelude.{◌≡◌, ℕ, ◌+◌, ◌<◌, ◌≤◌, ◌==◌, Bool, true, false, cond, List, [], ◌∷◌, length, Option, Some, None}
 use Rattle.std.specs.List.{list_any}
 use Rattle.vm_facts.specs.declared.page.Page.{Page}

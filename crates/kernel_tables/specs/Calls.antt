@@ -1,4 +1,4 @@
--- What the further calls ask of a machine.
+-- What copies, writes and moves of the hands ask of a machine before they are called.
 use Rattle.std.specs.Prelude.{◌≡◌, ℕ, ◌<◌, ◌≤◌, Bool, true, false, List, [], ◌∷◌, length, Option, Some, None}
 use Rattle.vm_facts.specs.declared.page.Page.{Page}
 use Rattle.vm_facts.specs.declared.page.PageState.TheVariants.{Unfilled, Valid}

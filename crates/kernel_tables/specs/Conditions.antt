@@ -1,4 +1,4 @@
--- What the calls ask, and what they leave where the machine stops.
+-- What each call asks before, and how a machine stands that stopped in one.
 use Rattle.std.specs.Prelude.{◌≡◌, ◌≢◌, ℕ, ◌+◌, ◌<◌, ◌≤◌, ◌^◌, true, List, length}
 use Rattle.flat_state.specs.Flat.{FlatState, NamedImage}
 use Rattle.vm_facts.specs.declared.regs.Regs.{Regs}

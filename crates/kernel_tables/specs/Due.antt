@@ -1,4 +1,4 @@
--- Fills that are due, as the tables keep them.
+-- How the tables keep what is due, and what the first of it brings.
 use Rattle.std.specs.Prelude.{◌≡◌, ℕ, List, [], ◌∷◌, length, map}
 use Rattle.vm_facts.specs.declared.page.Page.{Page}
 use Rattle.page_model.specs.Placement.{Due, Start, CopyOf, due_page}

@@ -1,4 +1,4 @@
--- The files of the images.
+-- The files of the images, and when a run's files hold them.
 use Rattle.std.specs.Prelude.{◌≡◌, ◌<◌, ◌≤◌, List, [], ◌∷◌, length, Option, Some, None}
 use Rattle.aout_image.specs.Image.{file_length_of, loaded}
 use Rattle.transfer_ring.specs.FileHolding.{NamedFile, bytes_at}

@@ -1,4 +1,4 @@
--- The frame that holds a page, as far as the core map knows.
+-- The frame that holds a page, found by the core map: also of text that no space shares.
 use Rattle.std.specs.Prelude.{ℕ, ◌+◌, Bool, false, cond, List, [], ◌∷◌, Option, Some, None}
 use Rattle.vm_facts.specs.declared.page.Page.{Page}
 use Rattle.vax_pte.specs.declared.Place.{Place}

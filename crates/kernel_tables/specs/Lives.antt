@@ -1,4 +1,4 @@
--- What the records of the processes hold.
+-- What the records of processes say of who has a space and who lends one.
 use Rattle.std.specs.Prelude.{◌≡◌, ℕ, List, Option, Some, None}
 use Rattle.proc_table.specs.declared.process.Proc.{Proc as Record}
 use Rattle.proc_table.specs.declared.process.Life.{Life as RecordLife}

@@ -1,4 +1,4 @@
--- What a machine stands for.
+-- The kernel for which tables stand: processes, residents, frames and journal, each read from its table.
 use Rattle.std.specs.Prelude.{◌≡◌, ℕ, ◌-◌, ◌≤◌, Bool, List, [], length, map, take, filter_map, string_bytes, Option, Some, None, Ok}
 use Rattle.std.specs.List.{range_with_len}
 use Rattle.vm_facts.specs.declared.entry.Entry.{Entry}
@@ -45,9 +45,9 @@ proc_of_record None = None
 proc_of_record (Some p) = Some (proc_shown p)
 
 -- whether the process of a record is in or out, if there is a record
-abbrev pub residence_of : Option Record → Option Residence
-residence_of None = None
-residence_of (Some p) = residence_by p p.state
+abbrev pub residence_shown : Option Record → Option Residence
+residence_shown None = None
+residence_shown (Some p) = residence_by p p.state
 
 -- the processes that have records, of all numbers below the next one
 abbrev pub processes_of : List Record → ℕ → List Proc
@@ -55,7 +55,7 @@ processes_of ps next = filter_map (λ pid. proc_of_record (find pid ps)) (range_
 
 -- who of these is in or out, and since when
 abbrev pub residents_of : List Record → ℕ → List Residence
-residents_of ps next = filter_map (λ pid. residence_of (find pid ps)) (range_with_len 1 (next - 1))
+residents_of ps next = filter_map (λ pid. residence_shown (find pid ps)) (range_with_len 1 (next - 1))
 
 -- The tables.
 

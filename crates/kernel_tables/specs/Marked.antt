@@ -1,4 +1,4 @@
--- The marks of the frames off the free list.
+-- That the core map's mark of a frame says whether its page is dirty.
 use Rattle.std.specs.Prelude.{◌≡◌, ℕ, Bool, List}
 use Rattle.vm_facts.specs.declared.page.Page.{Page}
 use Rattle.frame_state.specs.Frame.{Frame}

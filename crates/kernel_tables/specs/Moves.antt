@@ -1,4 +1,4 @@
--- What the calls of the tables leave.
+-- What single moves of the tables leave: a frame taken, a page seated, a read begun.
 use Rattle.std.specs.Prelude.{◌≡◌, ℕ, Bool, true, false, List, [], ◌∷◌, ◌++◌, map, drop, slice_set, Some, IsSome}
 use Rattle.flat_state.specs.PageNames.{pages_from}
 use Rattle.page_model.specs.Moves.{get_run}

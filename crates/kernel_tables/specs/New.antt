@@ -1,4 +1,4 @@
--- A machine that begins, with no process.
+-- The tables of a machine that begins, with no process.
 use Rattle.std.specs.Prelude.{ℕ, List, [], ◌∷◌, replicate}
 use Rattle.aout_image.specs.declared.Image.{Image}
 use Rattle.aout_image.specs.Image.{IsSound}

@@ -1,4 +1,4 @@
--- Where each page is, by the tables.
+-- Where each page is, by the tables: in a space's entry, or, for text that nobody shares, in a frame or its file.
 use Rattle.std.specs.Prelude.{nat_lt, Bool, true, false, Option, Some, None}
 use Rattle.vm_facts.specs.declared.page.Page.{Page}
 use Rattle.vm_facts.specs.declared.page.Page.TheVariants.{Data, Stack, Text}

@@ -1,4 +1,4 @@
--- Transfers that end one after another until a space is settled.
+-- Transfers that end one after another, until none names a page of a space.
 use Rattle.std.specs.Prelude.{◌≡◌, ℕ, zero, suc, ◌==◌, true, false, cond, List, [], ◌∷◌, Option, Some, None}
 use Rattle.vm_facts.specs.SwapImages.{SwapImage}
 use Rattle.vm_facts.specs.declared.stop.Stop.{Stop}

@@ -1,4 +1,4 @@
--- The spaces that share an image's text.
+-- Which spaces share an image's text, and the first of them.
 use Rattle.std.specs.Prelude.{◌≡◌, ℕ, ◌==◌, cond, List, [], ◌∷◌, Option, Some, None}
 use Rattle.space_map.specs.Space.{Places}
 use Rattle.page_model.specs.Pages.{SpacePages, numbered}

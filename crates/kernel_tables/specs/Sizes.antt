@@ -1,4 +1,4 @@
--- Other sizes for the data and the stack of a space.
+-- A space with other sizes of data and stack.
 use Rattle.std.specs.Prelude.{ℕ, zero, suc, List, [], ◌∷◌}
 use Rattle.space_map.specs.Space.{Places, resized}
 

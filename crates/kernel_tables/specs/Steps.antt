@@ -1,4 +1,4 @@
--- What the moves of the tables do to their lists.
+-- What single moves of the tables do to the lists of entries, frames and pages.
 use Rattle.std.specs.Prelude.{◌≡◌, ℕ, ◌<◌, ◌≤◌, Bool, true, false, not, List, [], ◌∷◌, ◌++◌, map, Option, Some, None, slice_set}
 use Rattle.vm_facts.specs.declared.page.Page.{Page}
 use Rattle.vm_facts.specs.declared.page.Page.TheVariants.{Data, Stack, Text}
@@ -32,8 +32,8 @@ evicted texts None spaces = spaces
 evicted texts (Some q) spaces = map (placed q (left_place texts q)) spaces
 
 -- the first free frame is taken from its page
-abbrev pub taken : Lists → ℕ → Option Page → List ℕ → Lists
-taken t f page rest = record t { slots = slice_set t.slots f tokens.Away; free = rest; spaces = evicted t.texts page t.spaces }
+abbrev pub taken_frame : Lists → ℕ → Option Page → List ℕ → Lists
+taken_frame t f page rest = record t { slots = slice_set t.slots f tokens.Away; free = rest; spaces = evicted t.texts page t.spaces }
 
 -- a page is in a frame, and usable
 abbrev pub seated_in : Lists → Frame → Page → Bool → Lists

@@ -1,4 +1,4 @@
--- What holds of the tables beside the ownership of frames and blocks.
+-- What ties the tables together beside ownership: sizes, images, and alike entries.
 use Rattle.std.specs.Prelude.{◌≡◌, ℕ, ◌<◌, ◌≤◌, length, IsSome}
 use Rattle.vm_facts.specs.declared.page.Page.TheVariants.{Text}
 use Rattle.page_model.specs.Placement.{sharers}

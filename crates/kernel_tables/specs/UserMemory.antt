@@ -1,4 +1,4 @@
--- The memory of a space, as the frames of its valid pages have it.
+-- The memory of a space, read through its valid pages' frames. A byte of another page is missing.
 use Rattle.std.specs.Prelude.{◌≡◌, ℕ, ◌+◌, ◌*◌, ◌/◌, ◌%◌, ◌^◌, ◌<◌, ◌≤◌, false, List, [], ◌∷◌, length, map, Option, Some, None, slice_get, slice_index}
 use Rattle.vm_facts.specs.Answers.{Answers, ByteWrite}
 use Rattle.vm_facts.specs.declared.memory.ByteRead.{ByteRead}

@@ -1,4 +1,4 @@
--- The placement and the bytes that the tables stand for.
+-- The placement and the bytes for which the tables stand, read entry by entry. All contracts of the machine go by this.
 use Rattle.std.specs.Prelude.{ℕ, ◌+◌, ◌-◌, ◌==◌, cond, List, [], ◌∷◌, ◌++◌, length, map, Option, Some, None}
 use Rattle.std.specs.List.{range_with_len}
 use Rattle.vm_facts.specs.declared.page.Page.{Page}

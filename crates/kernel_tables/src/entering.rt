@@ -1,4 +1,5 @@
-//! Spaces that come: in which an image starts.
+//! A new space comes, in which an image starts. Its text is where a sharer or a frame has it already. Its number is
+//! the next one, and it must stand last.
 ghost use Rattle.std.specs.Prelude.{◌≡◌, ◌+◌, ◌^◌, ℕ, ◌≤◌, length, Some, IfOk, OnOk, OnErr};
 ghost use Rattle.aout_image.specs.declared.Image.{Image as Facts};
 ghost use Rattle.flat_state.specs.Numbers.{AllBelow};

@@ -1,4 +1,5 @@
-//! The records of processes that come, change what they hold, sleep and go.
+//! Records of processes come, hold spaces, sleep, end, and hand a space on. Parents and orphans are settled here;
+//! pages aren't touched.
 ghost use Rattle.std.specs.Prelude.{◌≡◌, ◌≢◌, ◌<◌, ◌+◌, ◌^◌, true, false, length, Some, None, IsSome, OnOk, OnErr};
 ghost use Rattle.proc_table.specs.Records.{find, Changes, IsProcTable};
 ghost use Rattle.proc_table.specs.declared.process.Proc.{Proc as Record};

@@ -1,4 +1,5 @@
-//! Pages that are due for a fill before anything else.
+//! Pages that are due for a fill before anything else: a new stack page, or a copy. They must be filled in the order
+//! in which they became due.
 ghost use Rattle.std.specs.Prelude.{◌≡◌, length};
 ghost use Rattle.page_model.specs.Placement.{due_page};
 ghost use Rattle.kernel_tables.specs.Calls.{due_parent};

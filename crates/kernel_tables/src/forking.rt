@@ -1,4 +1,5 @@
-//! Spaces that come: a child's, with a copy of its parent's pages.
+//! A child's space comes, with its parent's pages to be copied. Pages that were filled become due; no byte may be
+//! copied yet.
 ghost use Rattle.std.specs.Prelude.{◌≡◌, ◌+◌, ◌<◌, ◌≤◌, [], ◌++◌, length, map, IsSome, IfOk, OnOk};
 ghost use Rattle.std.specs.VecDeque.{deque_len, deque_capacity};
 ghost use Rattle.vm_facts.specs.declared.page.Page.TheVariants.{Data, Stack};

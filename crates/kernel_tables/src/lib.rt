@@ -1,4 +1,6 @@
-//! The tables of the kernel, and what moves them alone: records of processes, spaces that come, frames that are taken.
+//! The tables of the kernel, and what moves them alone: records of processes, spaces that come, frames that are
+//! taken. No journal is known here, and no device is called. The fields stand open, but only `table_steps` and
+//! `machine_state` may move them.
 #![tactic(auto)]
 
 mod entering;

@@ -1,4 +1,5 @@
-//! The images of a run.
+//! An image of a run: its name, its file's number, and what its header says. A machine asks for a file by the number,
+//! never by the name.
 use aout_image::Image;
 
 /// An image: its name, the number of its file, and what its header says.

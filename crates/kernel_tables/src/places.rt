@@ -1,4 +1,4 @@
-//! Where pages are, by the tables.
+//! Where a page is, by all tables together: text that no space shares may still be in a frame. Nothing is moved here.
 ghost use Rattle.std.specs.Prelude.{◌≡◌, ◌<◌, false, map};
 ghost use Rattle.vm_facts.specs.declared.page.Page.TheVariants.{Text as TextPage};
 ghost use Rattle.kernel_tables.specs.New.{AreSound};

@@ -1,4 +1,5 @@
-//! The records of the processes.
+//! The record of a process that is there, read or replaced. Its number may not change, and its family is
+//! families.rt's matter.
 ghost use Rattle.std.specs.Prelude.{◌≡◌, Some, IsSome};
 ghost use Rattle.proc_table.specs.Records.{find, Changes, IsProcTable};
 ghost use Rattle.kernel_tables.specs.Lives.{space_of_record};

@@ -1,4 +1,5 @@
-//! The page places of all spaces.
+//! The page places of all spaces, which stand by rising numbers. A page of text must be put in its place in every
+//! space that shares it.
 ghost use Rattle.std.specs.Prelude.{◌≡◌, ℕ, ◌<◌, ◌≤◌, map, length, Some, [], ◌∷◌, ◌++◌, OnOk, OnErr, IfSome, IfNone, IsTrue, slice_get, option_copied, option_map};
 ghost use Rattle.aout_image.specs.Image.{text_pages_of};
 ghost use Rattle.vax_pte.specs.Words.{IsInRange, was_filled};

@@ -1,4 +1,5 @@
-//! The tables of the machine, with what they are moved by. Nothing is promised of them but what each call does.
+//! The tables of the machine, and the moves of single frames and bytes. Nothing is promised of them but what each
+//! call does. So `table_steps` must call in the right order.
 ghost use Rattle.std.specs.Prelude.{◌≡◌, ℕ, ◌+◌, ◌<◌, ◌≤◌, ◌^◌, ◌∷◌, map, length, drop, true, Some, IsSome, IsTrue, slice_set};
 ghost use Rattle.page_model.specs.Ownership.{owner_of, block_of};
 ghost use Rattle.kernel_tables.specs.Moves.{RevivedPage, WroteByte, WroteBytes};

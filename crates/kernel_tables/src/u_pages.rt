@@ -1,4 +1,5 @@
-//! U pages: the registers of a process that is out, and the sizes of its space, as the bytes of one page.
+//! U pages: the registers of a process that is out, and the sizes of its space, as the bytes of one page. What is
+//! packed must be read back the same; no table is touched.
 ghost use Rattle.std.specs.Prelude.{◌≡◌, ◌^◌, ◌<◌, ◌≤◌, ◌+◌, ◌*◌, ◌++◌, ℕ, length, take, drop, get_or, flat_map};
 ghost use Rattle.byteorder.specs.Endian.{little_number, IsRead};
 ghost use Rattle.aout_image.specs.Image.{word_bytes};

@@ -1,4 +1,4 @@
--- The page that the front hand makes invalid.
+-- The page that the front hand makes invalid in the move whose write is sought.
 use Rattle.std.specs.Prelude.{◌≡◌, ◌↔◌, Bool, true, false, List, Option, Some, None}
 use Rattle.vm_facts.specs.declared.page.Page.{Page}
 use Rattle.flat_state.specs.PageNames.{same_page}

@@ -1,5 +1,5 @@
 //! Runs: which neighbours of a page are read or written with it (the 4.3BSD book has klustering; the rules are this
-//! project's profile).
+//! project's profile). The tables are looked at alone; to move the pages is the caller's matter.
 #![tactic(auto)]
 
 ghost use Rattle.std.specs.Prelude.{◌≡◌, ℕ, ◌+◌, ◌≤◌, true, IsSome};

@@ -1,5 +1,5 @@
-// The neighbours of a page that go along with it, one by one.
-
+//! Walks from a page to its neighbours, as far as they go along. What goes along is for the kind of search to say. A
+//! run may not leave its chunk of swap, nor the bounds of its segment.
 ghost use Rattle.std.specs.Prelude.{◌≡◌, ℕ, ◌+◌, ◌-◌, ◌<◌, ◌≤◌, ◌&&◌, ◌||◌, not, Bool, IsTrue, IsSome, Some, List};
 ghost use Rattle.core_map.specs.declared.slot.Slot.{Slot};
 ghost use Rattle.flat_state.specs.PageNames.{number_of, beside, is_among};

@@ -17,7 +17,7 @@ use Rattle.paged_model.specs.declared.reason.Reason.{Reason}
 use Rattle.paged_model.specs.declared.reason.Reason.TheVariants as reasons
 use Rattle.paged_model.specs.Reasons.{unless, or_reason}
 use Rattle.paged_model.specs.Moves.{is_there, if_there, no_room, wrong_length, each_page, apart}
-use Rattle.paged_model.specs.Leaving.{unseated_by, unseated_if, unseated, put_along, put_by}
+use Rattle.paged_model.specs.Leaving.{unseated_by, unseated_if, unseated, put_along, put_reason_by}
 use Rattle.paged_model.proofs.Reasoned.{or_none, unless_none}
 use Rattle.paged_model.proofs.There.{if_there_none}
 use Rattle.paged_model.proofs.Brought.{each_run, room_left}
@@ -95,15 +95,15 @@ one_from p (Stack sid v) h = (h, tt)
 one_from p (Text image v) h = (h, tt)
 
 pub put_can : (p : Placement) (sid : ℕ) (q : Page) (n : ℕ) → IsOfSegment sid q → p.due ≡ []
-    → if_there (is_there p q) q (or_reason (wrong_length n) (or_reason (unseated p q) (put_by p q n (is_dirty p q)))) ≡ None → CanPush p q n
+    → if_there (is_there p q) q (or_reason (wrong_length n) (or_reason (unseated p q) (put_reason_by p q n (is_dirty p q)))) ≡ None → CanPush p q n
 put_can p sid q n own clear e =
-    let a = if_there_none (is_there p q) q (or_reason (wrong_length n) (or_reason (unseated p q) (put_by p q n (is_dirty p q)))) e in
-    let b = or_none (wrong_length n) (or_reason (unseated p q) (put_by p q n (is_dirty p q))) a.1 in
-    let c = or_none (unseated p q) (put_by p q n (is_dirty p q)) b.1 in
+    let a = if_there_none (is_there p q) q (or_reason (wrong_length n) (or_reason (unseated p q) (put_reason_by p q n (is_dirty p q)))) e in
+    let b = or_none (wrong_length n) (or_reason (unseated p q) (put_reason_by p q n (is_dirty p q))) a.1 in
+    let c = or_none (unseated p q) (put_reason_by p q n (is_dirty p q)) b.1 in
     let few = few_pages n b.0 in
     go few.0 few.1 (seat_of p q c.0) (is_dirty p q) refl c.1
   where
-    go : 0 < n → n ≤ 16 → HasSeat p q → (b : Bool) → is_dirty p q ≡ b → put_by p q n b ≡ None → CanPush p q n
+    go : 0 < n → n ≤ 16 → HasSeat p q → (b : Bool) → is_dirty p q ≡ b → put_reason_by p q n b ≡ None → CanPush p q n
     go some most seat true i x =
         let o = or_none (each_page (put_along p q) (pages_from q (number_of q) n)) (no_room p) x in
         record {

@@ -1,4 +1,4 @@
--- The process that holds a space, by the records, and whether it may go out.
+-- Which process holds a space by the records, and whether it may go out.
 use Rattle.std.specs.Prelude.{◌≡◌, ℕ, ◌<◌, ◌==◌, Bool, true, false, not, List, Option, Some, None}
 use Rattle.proc_table.specs.declared.process.Proc.{Proc as Record}
 use Rattle.proc_table.specs.declared.process.Life.{Life as RecordLife}

@@ -1,4 +1,4 @@
--- What a line comes to by which a process goes out or comes in.
+-- What a judged `O` or `I` comes to: the process went out or came in, or nothing was done.
 use Rattle.std.specs.Prelude.{◌≡◌, ℕ, Option, Some, None}
 use Rattle.vm_facts.specs.SwapImages.{SwapImage}
 use Rattle.page_model.specs.Placement.{Placement}

@@ -1,4 +1,4 @@
-//! The process that holds a space, and whether it may go out.
+//! Finds the process that holds a space, and whether it may go out. The machine may not change here.
 ghost use Rattle.std.specs.Prelude.{◌≡◌};
 ghost use Rattle.flat_state.specs.Flat.{FlatState};
 ghost use Rattle.kernel_model.specs.Coupled.{SameTables};

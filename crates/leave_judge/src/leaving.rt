@@ -1,4 +1,4 @@
-//! Processes that go out and come in.
+//! Judges the lines `O` and `I`: a process goes out or comes in. All reasons come before the device is called.
 ghost use Rattle.std.specs.Prelude.{◌≡◌, ◌≤◌, None, Some, [], IfOk, OnOk, OnErr};
 ghost use Rattle.flat_state.specs.Flat.{FlatState, process_of};
 ghost use Rattle.kernel_model.specs.Kernel.{Proc as Process};

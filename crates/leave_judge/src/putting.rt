@@ -1,4 +1,5 @@
-//! Pages of a process that goes out.
+//! Judges the line `P`: pages of a process begin to be written, or a clean one is freed. No page may move before
+//! every reason was tried.
 ghost use Rattle.std.specs.Prelude.{◌≡◌, ◌≤◌, ◌<◌, ◌+◌, ◌^◌, ℕ, None, [], true, IfOk, OnOk, OnErr};
 ghost use Rattle.vm_facts.specs.declared.entry.Entry.TheVariants as entries;
 ghost use Rattle.flat_state.specs.Flat.{FlatState};
@@ -13,7 +14,7 @@ ghost use Rattle.machine_state.specs.Conditions.{HasStopped};
 ghost use Rattle.paged_model.specs.Reasons.{unless, or_reason};
 ghost use Rattle.paged_model.specs.declared.reason.Reason.TheVariants as reasons;
 ghost use Rattle.paged_model.specs.Moves.{is_there, if_there, wrong_length, each_page, apart};
-ghost use Rattle.paged_model.specs.Leaving.{holder_stays, owner_stays, unseated_by, unseated_if, unseated, put_along, put_by, put_reason};
+ghost use Rattle.paged_model.specs.Leaving.{holder_stays, owner_stays, unseated_by, unseated_if, unseated, put_along, put_reason_by, put_reason};
 ghost use Rattle.swapper.specs.Putting.{IsOfSegment};
 ghost use Rattle.move_judge.specs.Judged.{Judged};
 
@@ -122,11 +123,11 @@ fn each_along(m: &Machine, page: Page, lo: u32, n: u32) -> Option<Reason>
 }
 
 // By whether a page is dirty: those after it are written with it, or it is freed alone.
-fn put_by(m: &Machine, page: Page, n: u32, dirty: bool) -> Option<Reason>
+fn put_reason_by(m: &Machine, page: Page, n: u32, dirty: bool) -> Option<Reason>
     requires running { IsRunning m.now }
     requires fits { number_of page + n < 2 ^ 32 }
     requires shared { (v : ℕ) → IsShared m.now.kernel.place (beside page v) }
-    ensures { result ≡ put_by m.now.kernel.place page n dirty }
+    ensures { result ≡ put_reason_by m.now.kernel.place page n dirty }
 {
     if dirty {
         or_reason(each_along(m, page, number_of(page), n), no_room(m))
@@ -143,11 +144,11 @@ fn put_few(m: &Machine, page: Page, n: u32) -> Option<Reason>
     requires shared { (v : ℕ) → IsShared m.now.kernel.place (beside page v) }
     requires low { number_of page ≤ 4096 }
     requires few { n ≤ 16 }
-    ensures { result ≡ or_reason (unseated m.now.kernel.place page) (put_by m.now.kernel.place page n (is_dirty m.now.kernel.place page)) }
+    ensures { result ≡ or_reason (unseated m.now.kernel.place page) (put_reason_by m.now.kernel.place page n (is_dirty m.now.kernel.place page)) }
 {
     match unseated(m, page) {
         Some(reason) => Some(reason),
-        None => put_by(m, page, n, is_dirty_seat(m, page)),
+        None => put_reason_by(m, page, n, is_dirty_seat(m, page)),
     }
 }
 
@@ -158,7 +159,7 @@ fn put_there(m: &Machine, sid: u32, page: Page, n: u32) -> Option<Reason>
     requires own { IsOfSegment sid page }
     requires low { number_of page ≤ 4096 }
     ensures { result ≡ or_reason (wrong_length n)
-        (or_reason (unseated m.now.kernel.place page) (put_by m.now.kernel.place page n (is_dirty m.now.kernel.place page))) }
+        (or_reason (unseated m.now.kernel.place page) (put_reason_by m.now.kernel.place page n (is_dirty m.now.kernel.place page))) }
 {
     match wrong_length(n) {
         Some(reason) => Some(reason),
@@ -171,7 +172,8 @@ fn put_if(m: &Machine, sid: u32, page: Page, n: u32) -> Option<Reason>
     requires running { IsRunning m.now }
     requires own { IsOfSegment sid page }
     ensures { result ≡ if_there (is_there m.now.kernel.place page) page
-        (or_reason (wrong_length n) (or_reason (unseated m.now.kernel.place page) (put_by m.now.kernel.place page n (is_dirty m.now.kernel.place page)))) }
+        (or_reason (wrong_length n) (or_reason (unseated m.now.kernel.place page)
+        (put_reason_by m.now.kernel.place page n (is_dirty m.now.kernel.place page)))) }
 {
     match m.state_of(page) {
         None => Some(Reason::NoPage(page)),
@@ -186,7 +188,8 @@ fn put_of(m: &Machine, sid: u32, page: Page, n: u32) -> Option<Reason>
     requires clear { m.now.kernel.place.due ≡ [] }
     ensures judged { (F : FlatState) → SameTables m.now.kernel F → result ≡ or_reason (holder_stays F m.now.kernel.place sid)
         (if_there (is_there m.now.kernel.place page) page
-        (or_reason (wrong_length n) (or_reason (unseated m.now.kernel.place page) (put_by m.now.kernel.place page n (is_dirty m.now.kernel.place page))))) }
+        (or_reason (wrong_length n) (or_reason (unseated m.now.kernel.place page)
+        (put_reason_by m.now.kernel.place page n (is_dirty m.now.kernel.place page))))) }
     ensures can { result ≡ None → CanPush m.now.kernel.place page n }
 {
     match holder_stays(m, sid) {
@@ -201,7 +204,8 @@ fn put_clear(m: &Machine, page: Page, n: u32) -> Option<Reason>
     requires clear { m.now.kernel.place.due ≡ [] }
     ensures judged { (F : FlatState) → SameTables m.now.kernel F → result ≡ or_reason (owner_stays F m.now.kernel.place page)
         (if_there (is_there m.now.kernel.place page) page
-        (or_reason (wrong_length n) (or_reason (unseated m.now.kernel.place page) (put_by m.now.kernel.place page n (is_dirty m.now.kernel.place page))))) }
+        (or_reason (wrong_length n) (or_reason (unseated m.now.kernel.place page)
+        (put_reason_by m.now.kernel.place page n (is_dirty m.now.kernel.place page))))) }
     ensures can { result ≡ None → CanPush m.now.kernel.place page n }
 {
     match page {

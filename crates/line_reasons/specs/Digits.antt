@@ -1,4 +1,4 @@
--- The number that a word of a schedule writes.
+-- The number that a word of a schedule writes, where zeros may lead.
 use Rattle.std.specs.Prelude.{ℕ, ◌&&◌, nat_le, List, length, Option, Some, None, if◌then◌else◌}
 use Rattle.std.specs.List.{list_all}
 use Rattle.std.specs.Char.{is_ascii_digit}

@@ -1,4 +1,4 @@
--- The first of two reasons why a line is bad.
+-- Of two reasons why a line is bad the first.
 use Rattle.std.specs.Prelude.{Option, Some, None}
 
 -- no reason where there is one already

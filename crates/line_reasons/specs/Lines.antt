@@ -1,4 +1,4 @@
--- A line of a text, and the words in it.
+-- A line of a text by its number, and how it is cut into words.
 use Rattle.std.specs.Prelude.{ℕ, Bool, ◌&&◌, ◌-◌, ◌+◌, ◌==◌, nat_le, List, [], length, slice_index, slice_index_or, take, drop, position, Option, Some, None, if◌then◌else◌}
 use Rattle.std.specs.Option.{option_map}
 use Rattle.run_text.specs.Lines.{lines_in}

@@ -1,4 +1,4 @@
--- A word as it is told.
+-- How a word of a file is told: itself where it is short and printable, else three dots.
 use Rattle.std.specs.Prelude.{ℕ, Bool, ◌&&◌, nat_le, List, length, codes, if◌then◌else◌}
 use Rattle.std.specs.List.{list_all}
 

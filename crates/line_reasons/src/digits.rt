@@ -1,4 +1,4 @@
-// The number that a word of a schedule writes.
+//! The number that a word of a schedule writes in a few digits.
 ghost use Rattle.std.specs.Prelude.{◌≡◌};
 ghost use Rattle.std.specs.Char.{is_ascii_digit};
 ghost use Rattle.std.specs.List.{list_all};

@@ -1,4 +1,4 @@
-// Why a schedule is bad, as a line of text.
+//! The line that tells why a schedule is bad: its name, the line's number, and the reason.
 ghost use Rattle.std.specs.Prelude.{◌≡◌, ◌++◌, IfOk, IfErr, OnOk, option_map};
 ghost use Rattle.io_edge.specs.Calls.{KeepsFiles};
 ghost use Rattle.run_files.specs.Answering.{CountsFault};

@@ -1,4 +1,4 @@
-// A line of a text, and the words in it.
+//! One line of a text, found by its number, and cut at blanks into words.
 ghost use Rattle.std.specs.Prelude.{◌≡◌, ◌≤◌, ◌==◌, length, take, drop, option_map};
 ghost use Rattle.run_text.specs.Pieces.{line_len};
 ghost use Rattle.line_reasons.specs.Lines.{line_at, ends_in, text_in, blank_in, word_in, rest_in};

@@ -1,4 +1,4 @@
-// Why a line is none of a file of references.
+//! What is wrong in a line of references, from left to right. A law holds these reasons to the grammar.
 ghost use Rattle.std.specs.Prelude.{◌≡◌, ◌==◌, List, [], ◌∷◌, option_map, codes};
 ghost use Rattle.std.specs.List.{list_any};
 ghost use Rattle.line_reasons.specs.ReferenceReasons.{why_of, is_number, why_number, why_more, why_numbers, is_segment, why_reference, why_text, why_line, why_at, RefusedHaveReasons};

@@ -1,4 +1,4 @@
-// Why a line of a schedule is none of an event.
+//! What is wrong in a line of a schedule, from left to right. A law holds these reasons to the grammar.
 ghost use Rattle.std.specs.Prelude.{◌≡◌, ◌==◌, List, [], ◌∷◌, option_map, codes};
 ghost use Rattle.std.specs.List.{list_any};
 ghost use Rattle.line_reasons.specs.ScheduleReasons.{why_of, most_of, why_value, why_number, why_more, why_numbers, no_event, is_plain, why_event, why_text, why_line, why_at, RefusedHaveReasons};

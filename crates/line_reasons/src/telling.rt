@@ -1,4 +1,4 @@
-// A word as it is told.
+//! A word of a file as it is told: itself where it is short and printable, else three dots.
 ghost use Rattle.std.specs.Prelude.{◌≡◌};
 ghost use Rattle.std.specs.List.{list_all};
 ghost use Rattle.line_reasons.specs.Shown.{is_graphic, shown};

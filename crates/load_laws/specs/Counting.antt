@@ -1,4 +1,4 @@
--- What is so of each run of a load, whatever its schedule and its frames are.
+-- The statements on loads: what is so at each place of a run, and what a finished one counts.
 use Rattle.std.specs.Prelude.{◌≡◌, ℕ, ◌+◌, ◌*◌, ◌≤◌, List, length, None}
 use Rattle.std.specs.List.{count_by}
 use Rattle.vm_facts.specs.declared.entry.Entry.{Entry}

@@ -1,4 +1,4 @@
--- The workload of a number: its files and its schedule.
+-- The workload of a number: which files and which schedule it stands for.
 use Rattle.std.specs.Prelude.{ℕ, suc, zero, ◌+◌, ◌*◌, ◌/◌, ◌%◌, ◌^◌, ◌==◌, if◌then◌else◌, nat_lt, List, [], ◌∷◌, codes, map, replicate, ⊤}
 use Rattle.std.specs.List.{range_with_len}
 use Rattle.io_edge.specs.FileHolding.{NamedFile}

@@ -1,3 +1,4 @@
+//! What a run did, counted over its journal: the numbers that a load tells.
 ghost use Rattle.std.specs.Prelude.{◌≡◌, if◌then◌else◌};
 ghost use Rattle.flat_state.specs.Journal.{counted};
 ghost use Rattle.flat_laws.specs.Others.{is_refusal};

@@ -1,3 +1,4 @@
+//! The workload of a number: two images and a schedule. The same number always gives the same bytes.
 ghost use Rattle.std.specs.Prelude.{◌≡◌, [], ◌∷◌, Ok, All, IfOk, length, map};
 ghost use Rattle.io_edge.specs.FileHolding.{named_file};
 ghost use Rattle.aout_image.specs.Image.{judged_image};

@@ -1,5 +1,4 @@
-// The two programs, which are assembled from their sources.
-
+//! The sources of a load's two programs, made from its number, and their assembled files.
 ghost use Rattle.std.specs.Prelude.{◌≡◌, ◌≤◌, ◌<◌, ◌*◌, ℕ, List, IfOk, string_bytes};
 ghost use Rattle.vax_asm.specs.Program.{IsProgramOf};
 ghost use Rattle.source_commands.specs.ProgramFile.{program_file};

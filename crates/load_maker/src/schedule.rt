@@ -1,5 +1,4 @@
-// The schedule, which a linear congruential generator makes.
-
+//! The schedule of a load, drawn line by line by a linear congruential generator that the number seeds.
 ghost use Rattle.std.specs.Prelude.{◌≡◌, ◌<◌, ◌^◌, IfOk};
 ghost use Rattle.load_maker.specs.Load.{drawn_after, line_of_case, load_lines};
 

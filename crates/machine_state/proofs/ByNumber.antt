@@ -9,7 +9,7 @@ use Rattle.proc_table.specs.Records.{find, Lowest}
 use Rattle.page_model.specs.Placement.{Residence}
 use Rattle.page_model.specs.Swapper as swapper
 use Rattle.table_steps.specs.Alike.{AreRecords}
-use Rattle.table_steps.specs.Machine.{residence_of}
+use Rattle.table_steps.specs.Machine.{residence_shown}
 use Rattle.table_steps.proofs.Records.{keeps_none, keeps_some}
 use Rattle.table_steps.proofs.MovedRecords.{found_residence}
 
@@ -80,21 +80,21 @@ residence_hit pid r rs e = grind (arith, nat_tests)
 residence_miss : (pid : ℕ) (r : Residence) (rs : List Residence) → r.pid ≢ pid → swapper.residence_of (r ∷ rs) pid ≡ swapper.residence_of rs pid
 residence_miss pid r rs e = grind (arith, nat_tests)
 
-pub residence_over : (ps : List Record) (pid : ℕ) (r : Residence) (a k : ℕ) → a ≤ pid → pid < a + k → residence_of (find pid ps) ≡ Some r
-    → swapper.residence_of (filter_map (λ n. residence_of (find n ps)) (range_with_len a k)) pid ≡ r
+pub residence_over : (ps : List Record) (pid : ℕ) (r : Residence) (a k : ℕ) → a ≤ pid → pid < a + k → residence_shown (find pid ps) ≡ Some r
+    → swapper.residence_of (filter_map (λ n. residence_shown (find n ps)) (range_with_len a k)) pid ≡ r
 residence_over ps pid r a zero l m e = absurd (omega arith)
 residence_over ps pid r a (suc k) l m e = elim (cases_eq a pid) [
   | inl i ↦
-      let here : residence_of (find a ps) ≡ Some r = ap (λ (n : ℕ). residence_of (find n ps)) i ∙ e in
-      ap (λ (rs : List Residence). swapper.residence_of rs pid) (keeps_some (λ n. residence_of (find n ps)) a (range_with_len (a + 1) k) r here)
-      ∙ residence_hit pid r (filter_map (λ n. residence_of (find n ps)) (range_with_len (a + 1) k)) (found_residence a ps r here ∙ i)
-  | inr d ↦ go (residence_of (find a ps)) refl d (residence_over ps pid r (a + 1) k (let x : (a ≡ pid → ⊥) = d in omega (arith, x)) (omega arith) e)
+      let here : residence_shown (find a ps) ≡ Some r = ap (λ (n : ℕ). residence_shown (find n ps)) i ∙ e in
+      ap (λ (rs : List Residence). swapper.residence_of rs pid) (keeps_some (λ n. residence_shown (find n ps)) a (range_with_len (a + 1) k) r here)
+      ∙ residence_hit pid r (filter_map (λ n. residence_shown (find n ps)) (range_with_len (a + 1) k)) (found_residence a ps r here ∙ i)
+  | inr d ↦ go (residence_shown (find a ps)) refl d (residence_over ps pid r (a + 1) k (let x : (a ≡ pid → ⊥) = d in omega (arith, x)) (omega arith) e)
 ]
   where
-    go : (o : Option Residence) → residence_of (find a ps) ≡ o → a ≢ pid → swapper.residence_of (filter_map (λ n. residence_of (find n ps)) (range_with_len (a + 1) k)) pid ≡ r
-        → swapper.residence_of (filter_map (λ n. residence_of (find n ps)) (range_with_len a (suc k))) pid ≡ r
-    go None f d more = ap (λ (rs : List Residence). swapper.residence_of rs pid) (keeps_none (λ n. residence_of (find n ps)) a (range_with_len (a + 1) k) f) ∙ more
+    go : (o : Option Residence) → residence_shown (find a ps) ≡ o → a ≢ pid → swapper.residence_of (filter_map (λ n. residence_shown (find n ps)) (range_with_len (a + 1) k)) pid ≡ r
+        → swapper.residence_of (filter_map (λ n. residence_shown (find n ps)) (range_with_len a (suc k))) pid ≡ r
+    go None f d more = ap (λ (rs : List Residence). swapper.residence_of rs pid) (keeps_none (λ n. residence_shown (find n ps)) a (range_with_len (a + 1) k) f) ∙ more
     go (Some y) f d more =
-        ap (λ (rs : List Residence). swapper.residence_of rs pid) (keeps_some (λ n. residence_of (find n ps)) a (range_with_len (a + 1) k) y f)
-        ∙ residence_miss pid y (filter_map (λ n. residence_of (find n ps)) (range_with_len (a + 1) k)) (λ h. d (sym (found_residence a ps y f) ∙ h))
+        ap (λ (rs : List Residence). swapper.residence_of rs pid) (keeps_some (λ n. residence_shown (find n ps)) a (range_with_len (a + 1) k) y f)
+        ∙ residence_miss pid y (filter_map (λ n. residence_shown (find n ps)) (range_with_len (a + 1) k)) (λ h. d (sym (found_residence a ps y f) ∙ h))
         ∙ more

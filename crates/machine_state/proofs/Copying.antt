@@ -30,7 +30,7 @@ use Rattle.table_steps.specs.DueFill.{DueFill}
 use Rattle.table_steps.specs.DueFill.TheVariants as fills
 use Rattle.table_steps.specs.View.{Lists, flown_at, bytes_by, due_shown, starts_of, placement_of, frames_of}
 use Rattle.table_steps.specs.Due.{DueOnce}
-use Rattle.table_steps.specs.Steps.{taken, seated_in}
+use Rattle.table_steps.specs.Steps.{taken_frame, seated_in}
 use Rattle.table_steps.specs.Moves.{TookFrame, SeatedPage, FinishedFill}
 use Rattle.table_steps.specs.Machine.{KernelRuns, lists_of, kernel_by}
 use Rattle.table_steps.specs.Known.{Known}
@@ -107,16 +107,16 @@ copy_ties t u v w token copy q parent f others z none =
 
 -- the first free frame was taken
 copying_took : (t u v w : Tables) (token copy : Frame) (q parent : Page) (f : ℕ) (others : List Due) → Copying t u v w token copy q parent f others
-    → Took (lists_of t) (taken (lists_of t) token.number (slot_page (slot_at t.core.slots token.number)) u.core.free) copy.number
+    → Took (lists_of t) (taken_frame (lists_of t) token.number (slot_page (slot_at t.core.slots token.number)) u.core.free) copy.number
 copying_took t u v w token copy q parent f others z =
     let page = slot_page (slot_at t.core.slots token.number) in
     let head : Head (lists_of t) token.number token page u.core.free = record { free = z.took.free; was = z.took.was } in
-    subst (Took (lists_of t) (taken (lists_of t) token.number page u.core.free)) (sym (ap (λ (x : Frame). x.number) z.is)) (took_is (lists_of t) token.number token page u.core.free z.known head)
+    subst (Took (lists_of t) (taken_frame (lists_of t) token.number page u.core.free)) (sym (ap (λ (x : Frame). x.number) z.is)) (took_is (lists_of t) token.number token page u.core.free z.known head)
 
 copy_place : (t u v w : Tables) (token copy : Frame) (q parent : Page) (f : ℕ) (others : List Due) → Copying t u v w token copy q parent f others
     → placement_of (lists_of w) ≡ filled (placement_of (lists_of t)) q
 copy_place t u v w token copy q parent f others z =
-    let l : Lists = taken (lists_of t) token.number (slot_page (slot_at t.core.slots token.number)) u.core.free in
+    let l : Lists = taken_frame (lists_of t) token.number (slot_page (slot_at t.core.slots token.number)) u.core.free in
     ap placement_of (copying_lists t u v w token copy q parent f others z)
     ∙ ap (λ (p : Placement). record p { due = map due_shown (drop 1 t.fills.items) }) (fill_is (lists_of t) l copy q (copying_took t u v w token copy q parent f others z) z.writable z.there refl)
     ∙ ap (λ (ds : List Due). record (fill (placement_of (lists_of t)) q) { due = ds }) (due_next t.fills.items q parent others z.due)
@@ -140,7 +140,7 @@ pub copy_kernel : (t u v w : Tables) (token copy : Frame) (q parent : Page) (f :
     → kernel_by w (journal ++ entries.Copy q ∷ []) stopped ≡ copy_step (kernel_by t journal stopped) q
 copy_kernel t u v w token copy q parent f others journal stopped z =
     let g : ℕ = token.number in
-    let l : Lists = taken (lists_of t) g (slot_page (slot_at t.core.slots g)) u.core.free in
+    let l : Lists = taken_frame (lists_of t) g (slot_page (slot_at t.core.slots g)) u.core.free in
     let rest = copying_rest t u v w token copy q parent f others z in
     let n : copy.number ≡ g = ap (λ (x : Frame). x.number) z.is in
     kernel_ext (kernel_by w (journal ++ entries.Copy q ∷ []) stopped) (copy_step (kernel_by t journal stopped) q)

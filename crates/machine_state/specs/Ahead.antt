@@ -1,4 +1,4 @@
--- Bytes of one page that lie together.
+-- Bytes of one page that lie together, as a memory may lend them at once.
 use Rattle.std.specs.Prelude.{◌≡◌, ℕ, ◌+◌, ◌%◌, ◌^◌, ◌<◌, List, length, slice_index}
 use Rattle.vm_facts.specs.Ahead.{AreAhead}
 use Rattle.vm_facts.specs.declared.memory.ByteRead.TheVariants as reads

@@ -1,4 +1,4 @@
--- What the beginning of a first process asks of a machine, and what it leaves.
+-- What beginning a first process asks of a machine, and what it leaves: its space, its pieces, a page due.
 use Rattle.std.specs.Prelude.{◌≡◌, ℕ, ◌≤◌, Bool, false, [], ◌∷◌, length, Some, Result, Ok, is_ok}
 use Rattle.aout_image.specs.declared.Image.{Image}
 use Rattle.swap_book.specs.declared.Owner.TheVariants as owners

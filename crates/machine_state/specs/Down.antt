@@ -1,4 +1,4 @@
--- Longwords of one page that are written downwards.
+-- Longwords of one page that are written downwards by one call, as a stack is pushed.
 use Rattle.std.specs.Prelude.{◌≡◌, ℕ, ◌+◌, ◌*◌, ◌≤◌, List, [], ◌∷◌, length}
 use Rattle.std.specs.Int.{w32, to_le_bytes}
 use Rattle.vm_facts.specs.declared.page.Page.{Page}

@@ -1,4 +1,4 @@
--- A machine by its fields.
+-- A machine by its private fields: what callers see of them, and what holds of each machine.
 use Rattle.std.specs.Prelude.{◌≡◌, ℕ, ◌<◌, ◌≤◌, false, [], length, Option, Some, None, Vec}
 use Rattle.std.specs.Vec.{vec_capacity, vec_len}
 use Rattle.vm_facts.specs.declared.entry.Entry.{Entry}

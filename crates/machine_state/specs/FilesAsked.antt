@@ -1,4 +1,4 @@
--- What the end of a transfer asks of the files of the images.
+-- What the end of a transfer asks of the files: a read for each page that comes from one.
 use Rattle.std.specs.Prelude.{◌≡◌, ◌⊎◌, ℕ, Bool, List, [], ◌∷◌, Result, Ok, Err}
 use Rattle.vm_facts.specs.FileRequests.{FileRequest, FileNotes, after_requests}
 use Rattle.vm_facts.specs.declared.stop.Stop.{Stop}

@@ -1,4 +1,4 @@
--- The machine that can go on.
+-- When a machine can go on: it runs, and no pieces of swap wait. Most calls of the crates above ask for this.
 use Rattle.std.specs.Prelude.{◌≡◌, ◌≤◌, false, length, map}
 use Rattle.page_model.specs.Dues.{DueStand}
 use Rattle.kernel_model.specs.Numbers.{Numbered}

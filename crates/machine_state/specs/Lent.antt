@@ -1,4 +1,4 @@
--- A machine after a reference that a memory holds.
+-- The machine once a memory that it lent is given back: some bytes were written.
 use Rattle.std.specs.Prelude.{◌≡◌, List}
 use Rattle.std.specs.Borrow.{MutBor}
 use Rattle.vm_facts.specs.Answers.{ByteWrite}

@@ -1,4 +1,4 @@
--- What a call of the machine comes to that asks for room for an entry, and calls no device.
+-- What each call comes to that makes one entry and calls no device: the step was made, or there was no room.
 use Rattle.std.specs.Prelude.{◌≡◌, ◌⊎◌, ◌↔◌, ◌≤◌, length, None, Result, Err, OnOk, OnErr}
 use Rattle.vm_facts.specs.declared.stop.Stop.{Stop}
 use Rattle.vm_facts.specs.declared.stop.Stop.TheVariants as stops

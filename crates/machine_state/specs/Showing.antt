@@ -1,4 +1,4 @@
--- What the core map shows of a placement.
+-- What the core map of a machine shows of its placement.
 use Rattle.std.specs.Prelude.{◌≡◌, ℕ, ◌+◌, nat_lt, Bool, length, Option, Some}
 use Rattle.vm_facts.specs.declared.page.Page.{Page}
 use Rattle.vm_facts.specs.Lists.{times}

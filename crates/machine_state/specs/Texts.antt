@@ -1,4 +1,4 @@
--- The texts of the images that a machine has.
+-- That each image's text has as many pages as its header tells.
 use Rattle.std.specs.Prelude.{◌≡◌, ℕ, length, Some}
 use Rattle.vm_facts.specs.declared.page.Page.TheVariants.{Text}
 use Rattle.aout_image.specs.Image.{text_pages_of}

@@ -121,8 +121,8 @@ read_beside k q r f at byte other t apart =
 
 -- The spots of a space.
 
-image_after : (k : Kernel) (q : Page) (sid : ℕ) → image_of (touch k.place q) sid ≡ image_of k.place sid
-image_after k q sid = image_kept k.place (touch k.place q) (touch_shaped k.place q) sid
+touch_keeps_image : (k : Kernel) (q : Page) (sid : ℕ) → image_of (touch k.place q) sid ≡ image_of k.place sid
+touch_keeps_image k q sid = image_kept k.place (touch k.place q) (touch_shaped k.place q) sid
 
 one_place : (i j : ℕ) → i / 1024 ≡ j / 1024 → i % 1024 ≡ j % 1024 → i ≡ j
 one_place i j d m = omega arith
@@ -142,7 +142,7 @@ pub record Names (k : Kernel) (sid : ℕ) (spot : Spot) (q : Page) (at : ℕ) : 
 text_read : (k : Kernel) (sid : ℕ) (q : Page) (f at byte i : ℕ) → IsTouched k q f at → (pages.Text (image_of k.place sid) (i / 1024) ≡ q → ⊥)
     → read_spot (write_step k q f at byte) sid (Text i) ≡ read_spot k sid (Text i)
 text_read k sid q f at byte i t d =
-    ap (λ (n : ℕ). read_page (write_step k q f at byte) (pages.Text n (i / 1024)) (i % 1024)) (image_after k q sid)
+    ap (λ (n : ℕ). read_page (write_step k q f at byte) (pages.Text n (i / 1024)) (i % 1024)) (touch_keeps_image k q sid)
     ∙ read_beside k q (pages.Text (image_of k.place sid) (i / 1024)) f at byte (i % 1024) t (λ e m. d e)
 
 data_names : (k : Kernel) (sid j : ℕ) → Names k sid (Data j) (pages.Data sid (j / 1024)) (j % 1024)

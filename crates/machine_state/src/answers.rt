@@ -1,4 +1,4 @@
-//! What the machine tells of its tables.
+//! What the machine tells of its tables to the crates above. Nothing may change here.
 ghost use Rattle.std.specs.Prelude.{◌≡◌, ◌↔◌, false, length, map, IsSome, IfSome, slice_get, option_copied, option_map};
 ghost use Rattle.core_map.specs.Frames.{Frames};
 ghost use Rattle.table_steps.specs.Views.{ShowsSpace};

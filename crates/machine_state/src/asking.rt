@@ -1,4 +1,5 @@
-//! Requests for pieces of swap space.
+//! Pieces of swap are found for the next entry of a process. No entry is appended: what was found waits until that
+//! entry takes it.
 ghost use Rattle.machine_state.specs.Going.{CanGoOn, IsRunning};
 ghost use Rattle.machine_state.specs.Performing.{IsAtBound, StopsForRoom};
 ghost use Rattle.std.specs.Prelude.{◌≡◌, ◌<◌, true, false, length, None, IfOk, OnOk, OnErr, Ok, Err};

@@ -1,4 +1,5 @@
-//! Entries of processes, and those that change nothing.
+//! Entries of processes, and entries that change nothing. What a change wants of swap must have been asked for, and a
+//! space that loses pages must have settled.
 ghost use Rattle.machine_state.specs.Going.{CanGoOn, IsRunning};
 ghost use Rattle.machine_state.specs.Performing.{IsAtBound, Performs, StopsForRoom};
 ghost use Rattle.std.specs.Prelude.{◌≡◌, ℕ, ◌+◌, ◌<◌, ◌≤◌, ◌^◌, ◌∷◌, ◌++◌, [], List, true, false, length, Some, None, IsSome, IfOk, OnOk, Ok};

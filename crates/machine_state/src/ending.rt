@@ -1,4 +1,4 @@
-//! The end of a machine, which spends all tokens.
+//! The end of a machine, which spends all tokens. No device may be called, and nothing can come after it.
 use crate::machine::Machine;
 use table_steps::ending::{end_ring, end_transfer};
 use table_steps::kernel_tables::Tables;

@@ -1,3 +1,4 @@
+//! Laws of a machine's memories: they answer what the flat spaces do, and take writes. There is no code here.
 ghost use Rattle.std.specs.Prelude.{◌≡◌, ℕ, List, Some};
 ghost use Rattle.flat_model.specs.Laws.{Covers};
 ghost use Rattle.flat_state.specs.Space.{Space, answers_of};

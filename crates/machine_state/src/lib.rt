@@ -1,4 +1,6 @@
-//! The machine: all tables of the kernel and the journal, and one call for each step that an entry stands for.
+//! The machine: all tables of the kernel and the journal, and one call for each step that an entry stands for. No
+//! other crate moves the tables or appends to the journal. A call makes room first, then moves the tables, and
+//! appends the entry last.
 #![tactic(auto)]
 
 mod answers;

@@ -1,4 +1,5 @@
-//! The machine and its steps.
+//! `Machine`, and the steps by which pages get frames and transfers end. Room comes first, the tables move next, the
+//! entry comes last. Here the end of a transfer alone calls a device.
 ghost use Rattle.io_edge.specs.WithFiles.{stores};
 ghost use Rattle.machine_state.specs.Performing.{IsAtBound, Performs, StopsForRoom};
 ghost use Rattle.std.specs.Prelude.{◌≡◌, ◌<◌, ◌≤◌, ◌↔◌, true, false, [], length, map, None, IfOk, OnOk, OnErr, IfErr, Ok, Err};

@@ -1,4 +1,5 @@
-//! Copies of pages, writes that begin, and moves of the hands.
+//! Copies of pages, writes that begin, and moves of the hands. No device may be called yet, and locked pages must
+//! keep their frames.
 ghost use Rattle.machine_state.specs.Going.{CanGoOn};
 ghost use Rattle.machine_state.specs.Performing.{IsAtBound, Performs, StopsForRoom};
 ghost use Rattle.std.specs.Prelude.{◌≡◌, ◌<◌, ◌≤◌, ◌+◌, ◌^◌, ◌∷◌, ◌++◌, [], ℕ, List, false, length, IsTrue, cond};

@@ -1,4 +1,5 @@
-//! A part of a move of the hands, alone.
+//! A part of a move of the hands, alone, as a trace by another policy tells it. It may append no entry and move no
+//! hand; `move_judge` alone asks for it.
 ghost use Rattle.machine_state.specs.Going.{CanGoOn};
 ghost use Rattle.std.specs.Prelude.{◌≡◌, None, OnOk, OnErr};
 ghost use Rattle.kernel_model.specs.HandParts.{PartComes, part_step};

@@ -1,4 +1,4 @@
-//! What the machine tells of the places of pages.
+//! What the machine tells of the places of pages, and of its processes. Nothing may change here.
 ghost use Rattle.machine_state.specs.Going.{IsRunning};
 ghost use Rattle.std.specs.Prelude.{◌≡◌, ◌≤◌, ◌↔◌, false, IsSome, IfSome};
 ghost use Rattle.flat_state.specs.PageNames.{number_of};

@@ -1,4 +1,5 @@
-//! The first processes.
+//! A first process begins: its swap, its space, and a stack page that is due. Only the start of a run may make
+//! processes so.
 ghost use Rattle.std.specs.Prelude.{◌≡◌, ◌<◌, true, false, [], ◌∷◌, length, string_bytes, IfOk, OnOk, OnErr, Ok, Err};
 ghost use Rattle.aout_image.specs.Image.{IsSound};
 ghost use Rattle.flat_state.specs.Flat.{start_page, start_regs};

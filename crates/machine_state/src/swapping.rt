@@ -1,4 +1,5 @@
-//! Processes that go out and come in: their u pages.
+//! Processes go out and come in, by u pages that the device is called for here. A process that goes out must have no
+//! page in a frame any more.
 ghost use Rattle.std.specs.Prelude.{◌≡◌, ◌⊎◌, ◌≤◌, ◌↔◌, false, length, None, OnOk, OnErr, Err};
 ghost use Rattle.kernel_model.specs.Kernel.{out_step};
 ghost use Rattle.table_steps.specs.Calls.{CanGoOut, CanComeIn};

@@ -1,4 +1,5 @@
-//! The memory of one process, as an instruction meets it: the bytes of the frames of its valid pages.
+//! The memory of one process, as an instruction meets it: the bytes of its valid pages' frames. No page may be
+//! brought in here; a byte without one is missing. A write must mark its page dirty.
 ghost use Rattle.std.specs.Prelude.{◌≡◌, ℕ, ◌+◌, ◌*◌, ◌<◌, ◌≤◌, ◌/◌, true, false, drop, length, map, Some, IfSome, slice_get, slice_index};
 ghost use Rattle.vm_facts.specs.declared.page.Page.{Page};
 ghost use Rattle.vm_facts.specs.declared.page.PageState.{PageState};

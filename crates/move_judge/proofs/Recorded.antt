@@ -15,7 +15,7 @@ use Rattle.kernel_laws.proofs.Flat.Lists.{found_is}
 use Rattle.kernel_laws.proofs.Flat.Numbered.{image_by}
 use Rattle.kernel_laws.proofs.Kept.Borrowed.{borrows_is}
 use Rattle.kernel_laws.proofs.Machine.Tables.{kept_pid, outlines_at}
-use Rattle.machine_state.specs.Machine.{life_shown, proc_shown, proc_of_record, residence_by, residence_of as shown_residence}
+use Rattle.machine_state.specs.Machine.{life_shown, proc_shown, proc_of_record, residence_by, residence_shown as shown_residence}
 use Rattle.machine_state.proofs.ByNumber.{residence_over}
 use Rattle.machine_state.proofs.Listed.{process_is}
 use Rattle.move_judge.specs.Records.{IsRecord}

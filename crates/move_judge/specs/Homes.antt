@@ -1,4 +1,4 @@
--- The space in whose map a page has its entry.
+-- In which spaces a page has its entry: its own, or all that share its text.
 use Rattle.std.specs.Prelude.{◌≡◌, ℕ}
 use Rattle.vm_facts.specs.declared.page.Page.{Page}
 use Rattle.vm_facts.specs.declared.page.Page.TheVariants.{Data, Stack, Text}

@@ -1,4 +1,4 @@
--- The record of a process in the tables of a machine.
+-- Which record of a machine's processes is that of a process.
 use Rattle.std.specs.Prelude.{◌≡◌, ℕ, List, Option}
 use Rattle.proc_table.specs.declared.process.Proc.{Proc as Record}
 use Rattle.proc_table.specs.Records.{find}

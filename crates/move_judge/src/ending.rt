@@ -1,4 +1,4 @@
-//! The line by which a transfer ends.
+//! Judges the line `D`: the oldest transfer ends. No other line of this crate may call a device.
 ghost use Rattle.io_edge.specs.WithFiles.{stores};
 ghost use Rattle.std.specs.Prelude.{◌≡◌, IfOk, OnOk, OnErr};
 ghost use Rattle.vm_facts.specs.declared.entry.Entry.TheVariants as entries;

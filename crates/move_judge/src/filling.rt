@@ -1,4 +1,5 @@
-//! Lines by which pages take frames, or are taken back.
+//! Judges the lines by which pages take frames, or are taken back: `Z`, `C`, `G`, `R`. No page may move before every
+//! reason was tried.
 ghost use Rattle.std.specs.Prelude.{◌≡◌, ◌≤◌, ◌+◌, ◌^◌, ◌<◌, None, IfOk, OnOk, OnErr};
 ghost use Rattle.vm_facts.specs.declared.page.PageState.TheVariants.{Unfilled};
 ghost use Rattle.vm_facts.specs.declared.entry.Entry.TheVariants as entries;

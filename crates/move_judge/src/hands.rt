@@ -1,4 +1,4 @@
-//! One move of the hands.
+//! Judges one move of `H`. Which pages it passes over is for the caller to say, and a write in it must find room.
 ghost use Rattle.std.specs.Prelude.{◌≡◌, ◌<◌, ◌+◌, ◌^◌, ◌/◌, length, IfOk, OnOk, OnErr};
 ghost use Rattle.vm_facts.specs.declared.entry.Entry.TheVariants as entries;
 ghost use Rattle.page_model.specs.Hands.{wants_moves, hand_run};

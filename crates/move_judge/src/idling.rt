@@ -1,4 +1,4 @@
-//! Pages that are invalid in frames off the free list.
+//! Whether a page is invalid in a frame off the free list, and why not. Nothing may change here.
 ghost use Rattle.std.specs.Prelude.{◌≡◌, ◌==◌, true};
 ghost use Rattle.vm_facts.specs.Lists.{times};
 ghost use Rattle.page_model.specs.Placement.{is_dirty};

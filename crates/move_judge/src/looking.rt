@@ -1,4 +1,4 @@
-//! What the machine tells of a page, of frames and of what is due, as reasons.
+//! What the machine tells of a page, of frames and of what is due, as reasons. Nothing may change here.
 ghost use Rattle.std.specs.Prelude.{◌≡◌};
 ghost use Rattle.vm_facts.specs.declared.page.PageState.TheVariants.{Unfilled};
 ghost use Rattle.page_model.specs.Placement.{IsThere, state_of, filling_of};

@@ -1,4 +1,4 @@
-//! The lines of parts of a move.
+//! Judges the lines `E`, `W` and `F`: a part of a move alone. Neither the hands nor the journal may move by it.
 ghost use Rattle.std.specs.Prelude.{◌≡◌, ◌≤◌, not, None, IfOk, OnErr};
 ghost use Rattle.flat_state.specs.PageNames.{number_of, beside, pages_from};
 ghost use Rattle.page_model.specs.Placement.{is_dirty};

@@ -1,4 +1,4 @@
-//! Of several reasons the first that holds.
+//! Of several reasons the first that holds. So the order in which callers ask may not change.
 ghost use Rattle.std.specs.Prelude.{◌≡◌};
 ghost use Rattle.paged_model.specs.Reasons.{unless, or_reason};
 

@@ -1,4 +1,4 @@
-//! The records of processes.
+//! The record of a process in a machine's tables. It may be looked at alone.
 ghost use Rattle.machine_state.specs.Going.{IsRunning};
 ghost use Rattle.move_judge.specs.Records.{IsRecord};
 

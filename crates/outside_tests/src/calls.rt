@@ -1,4 +1,4 @@
-// Tables of calls: what is asked of a device or an output that is known by its contract alone, and what it answers.
+//! Tables of calls: what is asked of a device or an output that is known by its contract alone, and what it answers.
 use io_edge::{Moved, Sink, SwapDev};
 use std::process::Abort;
 

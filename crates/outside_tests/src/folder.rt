@@ -1,4 +1,4 @@
-// What the tests ask of a real folder.
+//! What tests of a real folder share: they make, read and remove files there.
 use io_edge::{Files, Moved};
 use std::alloc::Global;
 use std::process::Abort;

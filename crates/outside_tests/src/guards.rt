@@ -1,5 +1,5 @@
-// What keeps a run from a wrong answer: a file that is read is nobody's swap file, a file that changes is a fault, and so
-// is an output that fails. The files are made and removed in the folder that the tests run in.
+//! What keeps a run from a wrong answer: a file that is read is nobody's swap file, a file that changes is a fault,
+//! and so is an output that fails. The files are made and removed in the folder that the tests run in.
 use crate::checks::is;
 use crate::folder::{make, remove};
 use io_edge::{Files, Found, Moved, Sink, SwapDev};

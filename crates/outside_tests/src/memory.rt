@@ -1,5 +1,5 @@
-// Files, devices and outputs in memory: that the calls that take memory succeed, and what code that knows a device by its
-// contract alone does over two of them.
+//! Files, devices and outputs in memory: that the calls that take memory succeed, and what code that knows a device
+//! by its contract alone does over two of them.
 ghost use Rattle.std.specs.Prelude.{◌≡◌, ◌+◌, ◌%◌, ◌≤◌, Some};
 ghost use Rattle.io_edge.specs.Count.{Rose};
 

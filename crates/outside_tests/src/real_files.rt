@@ -1,5 +1,5 @@
-// Real files that aren't plain ones of a run's own: pipes, files of /proc, folders, links, and files that another run has. They are
-// made and removed in the folder that the tests run in.
+//! Real files that aren't plain ones of a run's own: pipes, files of /proc, folders, links, and files that another
+//! run has. They are made and removed in the folder that the tests run in.
 use crate::calls::{Answer, Call, answers};
 use crate::checks::{are, is};
 use crate::folder::{bytes_at, length_of, make, make_folder, remove, remove_folder, told};

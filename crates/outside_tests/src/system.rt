@@ -1,5 +1,5 @@
-// The adapters over the system: a real folder, an output that takes little at a time, and a disk that is full. No clause can
-// say what a disk gives.
+//! The adapters over the system: a real folder, an output that takes little at a time, and a disk that is full. No
+//! clause can say what a disk gives.
 ghost use Rattle.std.specs.Prelude.{None};
 
 use crate::calls::{Answer, Call, answers};

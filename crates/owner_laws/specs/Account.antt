@@ -1,4 +1,4 @@
--- What is printed of who owns what, part by part.
+-- The whole statement on `owners`: its text is these parts in order, and each tells what is so.
 use Rattle.std.specs.Prelude.{◌≡◌, ℕ, Bool, List, ◌++◌, length, map}
 use Rattle.std.specs.List.{flat_map}
 use Rattle.vm_facts.specs.declared.entry.Entry.TheVariants as noted

@@ -1,4 +1,4 @@
--- The first entries of a run.
+-- When a state is one after the first entries of a run, with the last of them complete.
 use Rattle.std.specs.Prelude.{◌≡◌, ◌<◌, List, ◌++◌, length, Some}
 use Rattle.vm_facts.specs.declared.entry.Entry.{Entry}
 use Rattle.flat_state.specs.Flat.{Inputs}

@@ -1,3 +1,4 @@
+//! Laws that the lines of `owners` tell each frame and each block once, as it is. There is no code here.
 ghost use Rattle.std.specs.Prelude.{◌≡◌, ◌<◌, ℕ, Bool, List, length, Some, None};
 ghost use Rattle.std.specs.List.{flat_map};
 ghost use Rattle.vm_facts.specs.declared.entry.Entry.{Entry};

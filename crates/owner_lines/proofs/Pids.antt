@@ -11,7 +11,7 @@ use Rattle.page_model.specs.Swapper.{is_out}
 use Rattle.page_model.specs.Swapper as swapper
 use Rattle.kernel_model.specs.Kernel.{Proc}
 use Rattle.machine_state.specs.Alike.{AreRecords}
-use Rattle.machine_state.specs.Machine.{life_shown, proc_shown, proc_of_record, processes_of, residence_by, residence_of, residents_of}
+use Rattle.machine_state.specs.Machine.{life_shown, proc_shown, proc_of_record, processes_of, residence_by, residence_shown, residents_of}
 use Rattle.machine_state.proofs.Records.{keeps_none, keeps_some, found_pid}
 use Rattle.machine_state.proofs.ByNumber.{over, over_some, next_follows, none_follows, residence_over}
 use Rattle.owner_lines.specs.Owners.{life_text, registers_in, registers_text, process_lines}
@@ -28,7 +28,7 @@ module _ (p : Placement) (ps : List Record) (next : ℕ) (residents : p.resident
       let r : Residence = record { pid = x.pid; out = x.out; since = x.since } in
       ap (λ (k : ℕ). is_out p k) (found_pid n ps x e)
       ∙ ap (λ (rs : List Residence). (swapper.residence_of rs n).out) residents
-      ∙ ap (λ (y : Residence). y.out) (residence_over ps n r 1 (next - 1) b.0 (let l = b.1 in omega arith) (ap residence_of e ∙ ap (residence_by x) s ∙ has))
+      ∙ ap (λ (y : Residence). y.out) (residence_over ps n r 1 (next - 1) b.0 (let l = b.1 in omega arith) (ap residence_shown e ∙ ap (residence_by x) s ∙ has))
 
   abbrev said_by : (out : Bool) → Record → RecordLife → List ℕ
   said_by out x l = codes "process" ++ parts (x.pid ∷ []) ++ life_text out x.asleep (life_shown l) ++ codes "\n"

@@ -1,4 +1,4 @@
--- The places of the free frames, each at its frame's number.
+-- The place of each free frame on the free list, kept by frame number.
 use Rattle.std.specs.Prelude.{◌≡◌, ℕ, ◌<◌, List, length, slice_index}
 use Rattle.vm_facts.specs.Lists.{times}
 use Rattle.page_model.specs.Placement.{Placement}

@@ -1,4 +1,4 @@
--- The piece that begins next.
+-- Which piece of swap begins next from a block on.
 use Rattle.std.specs.Prelude.{ℕ, nat_lt, if◌then◌else◌, [], ◌∷◌, Option, Some, None}
 use Rattle.swap_book.specs.declared.Held.{Held}
 use Rattle.swap_book.specs.Holdings.{Holdings}

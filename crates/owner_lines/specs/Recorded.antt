@@ -1,4 +1,4 @@
--- The lines of a process by its record.
+-- The lines of a process, from its record.
 use Rattle.std.specs.Prelude.{ℕ, List, [], ◌∷◌, ◌++◌, Option, Some, None, codes}
 use Rattle.proc_table.specs.declared.process.Proc.{Proc as Record}
 use Rattle.machine_state.specs.Machine.{life_shown}

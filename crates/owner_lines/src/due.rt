@@ -1,4 +1,4 @@
-// The lines of the pages that are due.
+//! The lines of the pages that are due for a fill, the next one first.
 #![tactic(auto, using(run_text::proofs::Putting::text_none))]
 
 ghost use Rattle.std.specs.Prelude.{◌++◌, slice_get};

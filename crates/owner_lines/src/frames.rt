@@ -1,4 +1,4 @@
-// The lines of the frames.
+//! The lines of the frames: whether each is free, holds a page, or is in a transfer.
 #![tactic(auto, using(run_text::proofs::Putting::text_none))]
 
 ghost use Rattle.std.specs.Prelude.{◌≡◌, ◌+◌, ◌<◌, ◌^◌, length, map, slice_get, slice_index};

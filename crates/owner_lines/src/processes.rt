@@ -1,4 +1,4 @@
-// The lines of the processes.
+//! The lines of the processes, each with its registers below it.
 #![tactic(auto, using(run_text::proofs::Putting::text_none))]
 
 ghost use Rattle.std.specs.Prelude.{[], ◌∷◌, ◌++◌};

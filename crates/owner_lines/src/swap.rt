@@ -1,4 +1,4 @@
-// The lines of the swap area.
+//! The lines of the swap area: pieces that are held, and the free rows between them.
 #![tactic(auto, using(run_text::proofs::Putting::text_none))]
 
 ghost use Rattle.std.specs.Prelude.{◌≡◌, ◌++◌, codes};

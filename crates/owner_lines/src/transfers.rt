@@ -1,4 +1,4 @@
-// The lines of the transfers in flight.
+//! The lines of the transfers in flight, page by page, the oldest first.
 #![tactic(auto, using(run_text::proofs::Putting::text_none))]
 
 ghost use Rattle.std.specs.Prelude.{◌≡◌, ◌+◌, ◌<◌, ◌^◌, [], ◌∷◌, ◌++◌, slice_get, codes};

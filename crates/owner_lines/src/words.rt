@@ -1,4 +1,4 @@
-// Words of a line.
+//! Words and pages that a line has only where something is so.
 #![tactic(auto, using(run_text::proofs::Putting::text_none))]
 
 ghost use Rattle.run_text.specs.Writing.{PutsText};

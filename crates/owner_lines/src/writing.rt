@@ -1,5 +1,4 @@
-// The lines of a machine.
-
+//! All lines of who owns what, part after part, from the journal's length to the swap area.
 ghost use Rattle.std.specs.Prelude.{length};
 ghost use Rattle.io_edge.specs.Calls.{PutsBytes};
 ghost use Rattle.machine_state.specs.Going.{IsRunning};

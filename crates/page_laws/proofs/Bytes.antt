@@ -1,3 +1,4 @@
+-- That the flat bytes of each page stay where its state says.
 pub mod Couples
 pub mod Changes
 pub mod Others

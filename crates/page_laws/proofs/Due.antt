@@ -1,3 +1,4 @@
+-- That what is due stands, from entry to entry and from change to change.
 pub mod Entries
 pub mod Spaces
 pub mod Changes

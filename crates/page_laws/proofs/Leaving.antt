@@ -1,3 +1,4 @@
+-- How pages lose their frames, and that dirty ones keep theirs until they are written.
 pub mod Changes
 pub mod Entries
 pub mod Held

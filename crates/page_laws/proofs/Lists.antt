@@ -1,3 +1,4 @@
+-- Lemmas on lists of frames, pages and parts, with no step in sight.
 pub mod Frames
 pub mod Pages
 pub mod Local

@@ -1,3 +1,4 @@
+-- What single moves of pages, hands and transfers keep, for the proofs of whole steps.
 pub mod InSteps
 pub mod Hands
 pub mod Cases

@@ -1,3 +1,4 @@
+-- That each frame keeps one owner, one file for each kind of step.
 pub mod Pages
 pub mod Spaces
 pub mod Changes

@@ -1,4 +1,4 @@
--- What is due through a change of a process.
+-- Statement that what is due still stands after a change of a process.
 use Rattle.std.specs.Prelude.{◌≡◌, []}
 use Rattle.flat_state.specs.declared.change.Change.{Change as AnyChange}
 use Rattle.page_model.specs.Placement.{Placement}

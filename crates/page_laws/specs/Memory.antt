@@ -1,4 +1,4 @@
--- The flat bytes of each page stay where its state says, through each of these steps.
+-- Statements that each page's flat bytes stay where its state says, step by step.
 use Rattle.std.specs.Prelude.{◌≡◌, ◌≢◌, ℕ, ◌<◌, ◌≤◌, List, [], ◌∷◌, length}
 use Rattle.vm_facts.specs.declared.page.Page.{Page}
 use Rattle.vm_facts.specs.declared.page.Page.TheVariants.{Data, Stack, Text}

@@ -1,4 +1,4 @@
--- Each frame and each block keeps one owner.
+-- Statements that each frame and each block keeps one owner, step by step.
 use Rattle.std.specs.Prelude.{◌≡◌, ℕ, ◌*◌, ◌≤◌, Bool, List, length, Some}
 use Rattle.flat_state.specs.Flat.{FlatState, process_of}
 use Rattle.vm_facts.specs.declared.page.Page.{Page}

@@ -1,4 +1,4 @@
--- What one move of the hands takes.
+-- Which page one move of the hands may take.
 use Rattle.std.specs.Prelude.{◌≡◌, ◌⊎◌, ℕ, false, List}
 use Rattle.vm_facts.specs.declared.page.Page.{Page}
 use Rattle.vm_facts.specs.declared.page.PageState.TheVariants.{Valid, Invalid}

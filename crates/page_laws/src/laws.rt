@@ -1,3 +1,4 @@
+//! Laws of the steps of paging: owners, bytes, what is due, and that serving ends. There is no code here.
 ghost use Rattle.std.specs.Prelude.{◌≡◌, ◌≢◌, ◌⊎◌, ℕ, ◌+◌, ◌*◌, ◌<◌, ◌≤◌, Bool, true, false, List, [], ◌∷◌, length, Some, None};
 ghost use Rattle.vm_facts.specs.declared.page.Page.{Page};
 ghost use Rattle.vm_facts.specs.declared.page.Page.TheVariants.{Text};

@@ -1,4 +1,4 @@
-// How few entries and moves of the hands forcing a frame and serving a page take.
+//! How few entries and moves of the hands forcing a frame and serving a page take. There is no code here.
 ghost use Rattle.std.specs.Prelude.{◌≡◌, ℕ, ◌+◌, ◌<◌, ◌≤◌, Bool, true, List, ◌++◌, length};
 ghost use Rattle.vm_facts.specs.declared.page.Page.{Page};
 ghost use Rattle.vm_facts.specs.declared.entry.Entry.{Entry};

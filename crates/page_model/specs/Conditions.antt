@@ -1,4 +1,4 @@
--- What the steps of a placement ask of the pages that they move, and what they keep.
+-- What each step of a placement asks of the pages that it moves. A step is lawful only where these hold.
 use Rattle.std.specs.Prelude.{◌≡◌, ◌⊎◌, ℕ, Bool, true, false, List, [], ◌∷◌, length, None, ◌<◌, ◌≢◌}
 use Rattle.vm_facts.specs.declared.page.Page.{Page}
 use Rattle.vm_facts.specs.declared.page.Page.TheVariants.{Data, Stack, Text}

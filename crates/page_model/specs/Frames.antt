@@ -1,4 +1,4 @@
--- Frames, which are numbered from 1: lists of what is said of each.
+-- Lists of what is said of each frame; frames are numbered from 1.
 use Rattle.std.specs.Prelude.{ℕ, zero, suc, ◌+◌, ◌==◌, cond, List, [], ◌∷◌, get_or, set}
 
 -- what a list says of a frame; the default where there is no such frame

@@ -1,4 +1,4 @@
--- The clock with two hands: one move (the 4.3BSD book).
+-- The clock with two hands: one move of both, over pages that are locked (the 4.3BSD book).
 use Rattle.std.specs.Prelude.{ℕ, zero, suc, ◌/◌, nat_lt, Bool, true, false, List, length, Option, Some, None}
 use Rattle.vm_facts.specs.declared.page.Page.{Page}
 use Rattle.vm_facts.specs.declared.page.PageState.{PageState}

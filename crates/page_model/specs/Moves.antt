@@ -1,4 +1,4 @@
--- The moves of one page and one frame of which every step is made.
+-- The smallest moves of paging: one page gets, leaves or loses one frame. Every step is made of these.
 use Rattle.std.specs.Prelude.{ℕ, zero, suc, Bool, true, false, List, [], ◌∷◌, ◌++◌, Option, Some, None}
 use Rattle.vm_facts.specs.declared.page.Page.{Page}
 use Rattle.vm_facts.specs.declared.page.Page.TheVariants.{Data, Stack, Text}

@@ -1,4 +1,4 @@
--- Pages of spaces and of images: their names, and the lists that hold what is said of each.
+-- Names of pages, and the lists that hold each page's state, mark and filling.
 use Rattle.std.specs.Prelude.{ℕ, zero, suc, ◌==◌, Bool, true, false, cond, not, List, [], ◌∷◌, Option, Some, None}
 use Rattle.vm_facts.specs.declared.page.Page.{Page}
 use Rattle.vm_facts.specs.declared.page.Page.TheVariants.{Data, Stack, Text}

@@ -1,4 +1,4 @@
--- Where all pages are, what each frame holds, what is in flight, and what waits to be filled.
+-- The state of paging: where all pages are, what each frame holds, what is in flight, what is due. Most clauses of the pager cite this.
 use Rattle.std.specs.Prelude.{ℕ, zero, suc, ◌+◌, ◌*◌, ◌/◌, ◌==◌, ◌<◌, ◌≤◌, nat_lt, Bool, false, cond, List, [], ◌∷◌, ◌++◌, length, map, replicate, get_or, Option, Some, None}
 use Rattle.vm_facts.specs.declared.page.Page.{Page}
 use Rattle.vm_facts.specs.declared.page.Page.TheVariants.{Data, Stack, Text}

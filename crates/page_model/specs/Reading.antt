@@ -1,4 +1,4 @@
--- The read of a page with its run.
+-- The read of a page together with its run, as one step.
 use Rattle.vm_facts.specs.declared.page.Page.{Page}
 use Rattle.vm_facts.specs.declared.page.PageState.{PageState}
 use Rattle.vm_facts.specs.declared.page.PageState.TheVariants.{OnSwap}

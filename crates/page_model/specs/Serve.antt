@@ -1,4 +1,4 @@
--- Forcing a frame and serving a page: what there is to do, by the state of the page.
+-- What there is to do for a page, by its state: a table, whose rows the pager follows unit by unit.
 use Rattle.std.specs.Prelude.{◌≡◌, ℕ, Bool, true, false, nat_le, List, [], ◌∷◌, length, Option, Some, None}
 use Rattle.vm_facts.specs.Swap.{most_in_flight}
 use Rattle.vm_facts.specs.declared.page.Page.{Page}

@@ -1,4 +1,4 @@
--- The swap image: pages in their two blocks.
+-- What the swap image has of a page: its two blocks.
 use Rattle.std.specs.Prelude.{ℕ, List, [], Option, Some, None}
 use Rattle.vm_facts.specs.declared.page.Page.{Page}
 use Rattle.vm_facts.specs.Swap.{blocks_at, put_blocks}

@@ -1,4 +1,4 @@
--- Whom the swapper chooses, said of all that it could choose.
+-- Whom the swapper chooses, told over all whom it could choose: so the choice can be believed without its steps.
 use Rattle.std.specs.Prelude.{◌≡◌, ◌⊎◌, ℕ, ◌+◌, ◌<◌, ◌≤◌, Bool, true, false, cond, ◌&&◌, List, [], ◌∷◌, length}
 use Rattle.page_model.specs.Placement.{Placement}
 use Rattle.page_model.specs.Runs.{desired_free}

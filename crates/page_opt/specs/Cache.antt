@@ -1,4 +1,4 @@
--- What a cache is, and when its pages are used next.
+-- A cache of pages, and when each of its pages is used next.
 use Rattle.std.specs.Prelude.{◌≡◌, ℕ, ◌+◌, ◌<◌, ◌≤◌, Bool, true, false, ◌==◌, cond, nat_lt, List, [], ◌∷◌, length, drop, slice_index, slice_index_or, Option, Some, None}
 use Rattle.page_opt.specs.Furthest.{next_use}
 

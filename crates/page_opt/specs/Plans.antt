@@ -1,4 +1,4 @@
--- Plans of replacement: which page leaves the cache at which reference, and how many faults that costs.
+-- What a plan of replacement is: who leaves at which reference, and the faults that this costs.
 use Rattle.std.specs.Prelude.{ℕ, ◌+◌, ◌<◌, ◌≤◌, Bool, true, false, ◌||◌, ◌==◌, cond, nat_lt, List, [], ◌∷◌, length, drop, Option, Some, None, IsSome}
 use Rattle.vm_facts.specs.Lists.{without_first}
 use Rattle.page_opt.specs.declared.Victim.{Victim}

@@ -1,4 +1,4 @@
-//! When each page is used again.
+//! For each reference, when its page is used again. Belady's rule needs nothing else.
 ghost use Rattle.std.specs.Prelude.{◌≡◌, ℕ, ◌+◌, ◌<◌, ◌≤◌, length, drop, slice_index, slice_index_or, vec_len, Option, IfOk, None};
 ghost use Rattle.page_opt.specs.Cache.{next_at, AreNextUses};
 

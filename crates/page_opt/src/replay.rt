@@ -1,4 +1,4 @@
-//! A plan, played on the references.
+//! Plays a plan on the references and counts its faults. A plan that can't be played has none.
 ghost use Rattle.std.specs.Prelude.{◌≡◌, ℕ, ◌+◌, ◌<◌, ◌^◌, List, [], length, false, IfOk, IsSome};
 ghost use Rattle.std.specs.BTreeSet.{btree_set_len};
 ghost use Rattle.page_opt.specs.Plans.{due as due_of, all_left};

@@ -1,4 +1,4 @@
-//! The pages in the cache, in the order in which they are to leave.
+//! The pages in the cache, in the order in which they are to leave. The one used again last, or never, goes first.
 ghost use Rattle.std.specs.Prelude.{◌≡◌, ℕ, ◌+◌, ◌<◌, ◌≤◌, ◌^◌, false, true, IfOk, OnOk};
 ghost use Rattle.std.specs.Option.{ForSome};
 ghost use Rattle.page_opt.specs.PlaceSet.{capacity, has_place};

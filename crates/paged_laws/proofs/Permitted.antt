@@ -34,7 +34,7 @@ use Rattle.paged_model.specs.declared.reason.Reason.TheVariants as reasons
 use Rattle.paged_model.specs.Reasons.{unless, or_reason}
 use Rattle.paged_model.specs.Coming.{FirstStart, ZeroComes, CopyComes, GetComes, ReclaimComes}
 use Rattle.paged_model.specs.Moves.{is_there, if_there, no_room, due_first, wrong_length, each_page, apart, zero_reason, copy_reason, get_reason, reclaim_reason, write_room, hand_reason, done_reason}
-use Rattle.paged_model.specs.Leaving.{owner_stays, unseated_by, unseated_if, unseated, put_along, put_by as put_by_reason, put_reason, out_by, out_if, out_reason}
+use Rattle.paged_model.specs.Leaving.{owner_stays, unseated_by, unseated_if, unseated, put_along, put_reason_by as put_by_reason, put_reason, out_by, out_if, out_reason}
 use Rattle.paged_model.proofs.Reasoned.{or_none, unless_none}
 use Rattle.paged_model.proofs.There.{if_there_none}
 use Rattle.paged_model.proofs.Comes.{zero_comes, reclaim_comes}

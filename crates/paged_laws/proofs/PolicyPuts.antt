@@ -26,7 +26,7 @@ use Rattle.paged_model.specs.declared.reason.Reason.{Reason}
 use Rattle.paged_model.specs.declared.reason.Reason.TheVariants as reasons
 use Rattle.paged_model.specs.Reasons.{unless, or_reason}
 use Rattle.paged_model.specs.Moves.{is_there, if_there, due_first, wrong_length, each_page, apart, no_room}
-use Rattle.paged_model.specs.Leaving.{may_not_go, holds_it, holder_by, holder_stays, owner_stays, unseated_if, unseated, put_along, put_by, put_reason, still_seated, out_by, out_if, out_reason}
+use Rattle.paged_model.specs.Leaving.{may_not_go, holds_it, holder_by, holder_stays, owner_stays, unseated_if, unseated, put_along, put_reason_by, put_reason, still_seated, out_by, out_if, out_reason}
 use Rattle.paged_model.proofs.Reasoned.{none_or, none_unless}
 use Rattle.paged_laws.proofs.Virtual.{both}
 use Rattle.paged_laws.proofs.ReadRuns.{there_none, room_none, each_none, near_self, apart_none}
@@ -194,7 +194,7 @@ up_some passes v = omega arith
 
 -- what is asked of a page that is there, and of how many are put
 abbrev after_there : Placement → Page → ℕ → Option Reason
-after_there p v n = or_reason (wrong_length n) (or_reason (unseated p v) (put_by p v n (is_dirty p v)))
+after_there p v n = or_reason (wrong_length n) (or_reason (unseated p v) (put_reason_by p v n (is_dirty p v)))
 
 put_none : (F : FlatState) (p : Placement) (v : Page) → p.due ≡ [] → owner_stays F p v ≡ None → is_seated p v ≡ true → (is_dirty p v && is_full p) ≡ false
     → put_reason F p v (run_put p v).n ≡ None
@@ -214,15 +214,15 @@ put_none F p v clear owner s f =
 
     go : (d : Bool) → is_dirty p v ≡ d → (d && is_full p) ≡ false → after_there p v (run_put p v).n ≡ None
     go true i e =
-        subst (λ (b : Bool). or_reason (wrong_length (run_put_by p v b).n) (or_reason (unseated p v) (put_by p v (run_put_by p v b).n b)) ≡ None) (sym i)
-        (none_or (wrong_length (run_put_by p v true).n) (or_reason (unseated p v) (put_by p v (run_put_by p v true).n true))
+        subst (λ (b : Bool). or_reason (wrong_length (run_put_by p v b).n) (or_reason (unseated p v) (put_reason_by p v (run_put_by p v b).n b)) ≡ None) (sym i)
+        (none_or (wrong_length (run_put_by p v true).n) (or_reason (unseated p v) (put_reason_by p v (run_put_by p v true).n true))
         (short (run_put_by p v true).n (up_some passes (number_of v)) (up_short passes (number_of v)))
-        (none_or (unseated p v) (put_by p v (run_put_by p v true).n true) (ap (unseated_if p v) s)
+        (none_or (unseated p v) (put_reason_by p v (run_put_by p v true).n true) (ap (unseated_if p v) s)
         (none_or (each_page (put_along p v) (pages_from v (number_of v) (run_put_by p v true).n)) (no_room p)
         (each_none (put_along p v) (pages_from v (number_of v) (run_put_by p v true).n) (each i)) (room_none p e))))
     go false i e =
-        subst (λ (b : Bool). or_reason (wrong_length (run_put_by p v b).n) (or_reason (unseated p v) (put_by p v (run_put_by p v b).n b)) ≡ None) (sym i)
-        (none_or (wrong_length 1) (or_reason (unseated p v) (put_by p v 1 false)) refl (none_or (unseated p v) (put_by p v 1 false) (ap (unseated_if p v) s) refl))
+        subst (λ (b : Bool). or_reason (wrong_length (run_put_by p v b).n) (or_reason (unseated p v) (put_reason_by p v (run_put_by p v b).n b)) ≡ None) (sym i)
+        (none_or (wrong_length 1) (or_reason (unseated p v) (put_reason_by p v 1 false)) refl (none_or (unseated p v) (put_reason_by p v 1 false) (ap (unseated_if p v) s) refl))
 
 -- who goes out by the policy gives no reason, page by page
 module _ (F : FlatState) (p : Placement) (pid : ℕ) (nums : IsNumbered F) (clear : p.due ≡ []) (h : holds_some (process_of F pid) ≡ true)

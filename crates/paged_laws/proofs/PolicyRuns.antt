@@ -20,7 +20,7 @@ use Rattle.run_model.specs.declared.mark.Mark.TheVariants as marks
 use Rattle.run_model.specs.State.{State, start}
 use Rattle.run_model.specs.After.{after}
 use Rattle.run_model.specs.Next.{turn_instructions, owners_entry, last_turned, next_mark, next_unit}
-use Rattle.run_model.specs.Kinds.{Comes, Kind, Fills, Brings, Copies, Serves, Acts, ComesIn, Interrupts, Moves, PutsOut, Notes, Begins}
+use Rattle.run_model.specs.Kinds.{Comes, Kind, Fills, Brings, Copies, ServesWanted, Acts, ProcessComes, Interrupts, Moves, PutsOut, Notes, Begins}
 use Rattle.run_model.specs.Lawful.{Follows, Reaches}
 use Rattle.run_model.proofs.NextUnits.{kind_of}
 use Rattle.run_laws.specs.Standing.{MarkStands}
@@ -180,9 +180,9 @@ module _ (A : Inputs) (s : State) (m : Mark) (u : Entry) (h : next_unit A s ≡ 
       go (Fills q due e i) = fill_fine A s m u h r a enough q due e i
       go (Brings q parent due e i) = bring_fine A s m u h r a enough q parent due e i
       go (Copies q parent due e k i) = copy_fine A s m u h r a enough q parent due e k i
-      go (Serves pid now q x w i) = serve_fine A s m u h r a enough pid now q x w i
+      go (ServesWanted pid now q x w i) = serve_fine A s m u h r a enough pid now q x w i
       go (Acts pid now x w i) = act_fine A s m u h r a enough pid now x i
-      go (ComesIn pid e c i) = in_fine pid e c i
+      go (ProcessComes pid e c i) = in_fine pid e c i
       go (Interrupts e k i) = done_fine A s m u h r a enough i (let x : (s.place.due ≡ []) × (0 < length s.place.transfers) = subst (MarkStands s) k r.mark in x.1)
       go (Moves count e k l w i) = move_fine A s m u h r a enough count k w i
       go (PutsOut pid e k i) = put_fine pid e k i

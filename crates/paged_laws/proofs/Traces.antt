@@ -41,7 +41,7 @@ units_paged A s (u ∷ us) images k x h =
 
 pub line_paged : (A : Inputs) (s : State) (l : Line) → ImagesFit A.images → IsPaged A s → trace_line_reason A s l ≡ None
     → IsPaged A (trace_line_after A s l)
-line_paged A s (lines.Entry e) images x h = units_paged A s (units_with e []) images (units_are (e ∷ [])) x h
+line_paged A s (lines.RunLine e) images x h = units_paged A s (units_with e []) images (units_are (e ∷ [])) x h
 line_paged A s (lines.Part y) images x h = part_paged A s y x h
 
 trace_paged : (A : Inputs) (s : State) (n : ℕ) (ls : List Line) → ImagesFit A.images → IsPaged A s → trace_misstep A s n ls ≡ None
@@ -86,7 +86,7 @@ lines_flat : (A : Inputs) (s : State) (n : ℕ) (ls : List Line) → LastSays A 
     → flat_units A (Some s.point) (units_of (entries_in ls)) ≡ Some (trace_state A s ls).point
 unfolding trace_misstep trace_state flat_units
 lines_flat A s n [] says h = refl
-lines_flat A s n (lines.Entry e ∷ ls) says h =
+lines_flat A s n (lines.RunLine e ∷ ls) says h =
     let us : List Entry = units_with e [] in
     let next : State = line_after A s e in
     let g = good_line n (line_reason A s e) (trace_misstep A next (n + 1) ls) h in
@@ -108,7 +108,7 @@ lines_few : (A : Inputs) (s : State) (n : ℕ) (ls : List Line) → trace_misste
     → (trace_state A s ls).count ≤ A.limit
 unfolding trace_misstep trace_state
 lines_few A s n [] h l = l
-lines_few A s n (lines.Entry e ∷ ls) h l =
+lines_few A s n (lines.RunLine e ∷ ls) h l =
     let next : State = line_after A s e in
     let g = good_line n (line_reason A s e) (trace_misstep A next (n + 1) ls) h in
     lines_few A next (n + 1) ls g.1 (few_units A s (units_with e []) g.0 l)
@@ -120,7 +120,7 @@ lines_few A s n (lines.Part y ∷ ls) h l =
 lines_count : (A : Inputs) (s : State) (ls : List Line) → (trace_state A s ls).count ≡ s.count + instructions_of (entries_in ls)
 unfolding trace_state
 lines_count A s [] = omega arith
-lines_count A s (lines.Entry e ∷ ls) =
+lines_count A s (lines.RunLine e ∷ ls) =
     let a = units_count A s (units_with e []) in
     let b = lines_count A (line_after A s e) ls in
     let c = count_of_units (e ∷ []) in

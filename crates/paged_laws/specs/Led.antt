@@ -1,4 +1,4 @@
--- The state to which a trace leads, and what is said of it.
+-- The state to which a trace leads, and the statements on it: placed, and owned.
 use Rattle.std.specs.Prelude.{ℕ, List, map}
 use Rattle.vm_facts.specs.declared.event.Event.{Event}
 use Rattle.vm_facts.specs.declared.entry.Entry.{Entry}

@@ -1,4 +1,4 @@
--- What stands at each state of a paged run.
+-- The invariant of paged runs: what stands at each state, whatever the policy.
 use Rattle.std.specs.Prelude.{ℕ, Option, Some}
 use Rattle.vm_facts.specs.declared.entry.Entry.{Entry}
 use Rattle.vm_facts.specs.declared.entry.Entry.TheVariants as entries

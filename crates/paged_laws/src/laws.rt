@@ -1,3 +1,4 @@
+//! Laws of paged runs by any policy: flat, owned, and standing with their bytes. There is no code here.
 ghost use Rattle.std.specs.Prelude.{◌≡◌, ◌≤◌, ℕ, List, Some, None};
 ghost use Rattle.vm_facts.specs.declared.event.Event.{Event};
 ghost use Rattle.vm_facts.specs.declared.entry.Entry.{Entry};

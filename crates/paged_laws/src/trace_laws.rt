@@ -1,3 +1,4 @@
+//! The same laws of traces with lines of parts of moves. There is no code here.
 ghost use Rattle.std.specs.Prelude.{◌≡◌, ◌≤◌, ℕ, List, map, Some, None};
 ghost use Rattle.vm_facts.specs.declared.entry.Entry.TheVariants as entries;
 ghost use Rattle.swap_book.specs.Holdings.{Holdings};

@@ -13,17 +13,17 @@ use Rattle.paged_model.proofs.Fronts.{line_units}
 
 -- Entries alone.
 
-pub entries_state : (A : Inputs) (s : State) (es : List Entry) → trace_state A s (map lines.Entry es) ≡ paged_state A s (units_of es)
+pub entries_state : (A : Inputs) (s : State) (es : List Entry) → trace_state A s (map lines.RunLine es) ≡ paged_state A s (units_of es)
 unfolding trace_state paged_state
 entries_state A s [] = refl
 entries_state A s (e ∷ es) = entries_state A (line_after A s e) es ∙ sym (line_units A s e es)
 
-pub entries_misstep : (A : Inputs) (s : State) (n : ℕ) (es : List Entry) → trace_misstep A s n (map lines.Entry es) ≡ misstep_from A s n es
+pub entries_misstep : (A : Inputs) (s : State) (n : ℕ) (es : List Entry) → trace_misstep A s n (map lines.RunLine es) ≡ misstep_from A s n es
 unfolding trace_misstep misstep_from
 entries_misstep A s n [] = refl
 entries_misstep A s n (e ∷ es) = ap (misstep_or n (line_reason A s e)) (entries_misstep A (line_after A s e) (n + 1) es)
 
-pub entries_run : (A : Inputs) (es : List Entry) → IsPagedTrace A (map lines.Entry es) ↔ IsPagedRun A es
+pub entries_run : (A : Inputs) (es : List Entry) → IsPagedTrace A (map lines.RunLine es) ↔ IsPagedRun A es
 entries_run A es = (
   λ t. record { holdings = t.holdings; found = t.found; good = sym (entries_misstep A (start A t.holdings) 1 es) ∙ t.good },
   λ r. record { holdings = r.holdings; found = r.found; good = entries_misstep A (start A r.holdings) 1 es ∙ r.good },

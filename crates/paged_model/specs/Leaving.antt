@@ -64,16 +64,16 @@ abbrev pub put_along : Placement → Page → Page → Option Reason
 put_along p q w = if_there (is_there p w) w (or_reason (unseated p w) (or_reason (unless (is_dirty p w) (reasons.IsClean w)) (apart q w)))
 
 -- by whether the page is dirty: then the write of the run begins, with room for it; a clean page is freed alone
-abbrev pub put_by : Placement → Page → ℕ → Bool → Option Reason
-put_by p q n true = or_reason (each_page (put_along p q) (pages_from q (number_of q) n)) (no_room p)
-put_by p q n false = unless (n == 1) (reasons.IsClean q)
+abbrev pub put_reason_by : Placement → Page → ℕ → Bool → Option Reason
+put_reason_by p q n true = or_reason (each_page (put_along p q) (pages_from q (number_of q) n)) (no_room p)
+put_reason_by p q n false = unless (n == 1) (reasons.IsClean q)
 
 -- Pages of a process that goes out: nothing is due, the process may go out, and the pages are in frames off the free list, all dirty, or one
 -- that is clean.
 abbrev pub put_reason : FlatState → Placement → Page → ℕ → Option Reason
 put_reason F p q n =
     or_reason (due_first p.due)
-    (or_reason (owner_stays F p q) (if_there (is_there p q) q (or_reason (wrong_length n) (or_reason (unseated p q) (put_by p q n (is_dirty p q))))))
+    (or_reason (owner_stays F p q) (if_there (is_there p q) q (or_reason (wrong_length n) (or_reason (unseated p q) (put_reason_by p q n (is_dirty p q))))))
 
 -- `O`.
 

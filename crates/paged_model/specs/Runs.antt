@@ -1,4 +1,4 @@
--- Runs of the paged machine by any policy.
+-- Runs of the paged machine by any policy: which units may come, and when a whole trace is a run.
 use Rattle.std.specs.Prelude.{◌≡◌, ℕ, ◌+◌, ◌==◌, Bool, true, false, cond, List, [], ◌∷◌, Option, Some, None, Ok}
 use Rattle.vm_facts.specs.declared.entry.Entry.{Entry}
 use Rattle.vm_facts.specs.declared.entry.Entry.TheVariants as entries

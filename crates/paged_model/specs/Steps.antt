@@ -1,4 +1,4 @@
--- The lines of processes, and those that move no page.
+-- The lines of processes and of the journal: what each asks of the state, by the first reason against it.
 use Rattle.std.specs.Prelude.{ℕ, ◌+◌, ◌==◌, max, nat_le, Bool, false, not, ◌&&◌, Option, Some, None}
 use Rattle.vm_facts.specs.declared.page.Page.{Page}
 use Rattle.vm_facts.specs.declared.entry.Entry.{Entry}

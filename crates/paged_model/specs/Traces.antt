@@ -24,18 +24,18 @@ use Rattle.paged_model.specs.Runs.{paged_after, line_reason, line_after, misstep
 
 -- why a line can't come at a state; none where it may
 abbrev pub trace_line_reason : Inputs → State → Line → Option Reason
-trace_line_reason A s (lines.Entry e) = line_reason A s e
+trace_line_reason A s (lines.RunLine e) = line_reason A s e
 trace_line_reason A s (lines.Part x) = or_reason (begun s.point.last) (part_reason s.place x)
 
 -- the state after a line; a part of a move changes where pages are, and no entry is made for it
 abbrev pub trace_line_after : Inputs → State → Line → State
-trace_line_after A s (lines.Entry e) = line_after A s e
+trace_line_after A s (lines.RunLine e) = line_after A s e
 trace_line_after A s (lines.Part x) = record s { place = part_place s.place x }
 
 -- the entries among these lines
 abbrev pub entries_in : List Line → List Entry
 entries_in [] = []
-entries_in (lines.Entry e ∷ ls) = e ∷ entries_in ls
+entries_in (lines.RunLine e ∷ ls) = e ∷ entries_in ls
 entries_in (lines.Part x ∷ ls) = entries_in ls
 
 -- Traces.

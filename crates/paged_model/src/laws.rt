@@ -1,3 +1,4 @@
+//! Laws of fronts of paged runs, and of traces without parts. There is no code here.
 ghost use Rattle.std.specs.Prelude.{◌≡◌, ◌↔◌, ℕ, ◌+◌, List, ◌++◌, length, map, None};
 ghost use Rattle.vm_facts.specs.declared.entry.Entry.{Entry};
 ghost use Rattle.flat_state.specs.Flat.{Inputs};
@@ -27,9 +28,9 @@ pub fn parts_come()
 
 /// A trace of entries alone is judged as these entries are.
 pub fn entries_are_lines()
-    ensures state { (A : Inputs) (s : State) (es : List Entry) → trace_state A s (map lines.Entry es) ≡ paged_state A s (units_of es) }
-    ensures misstep { (A : Inputs) (s : State) (n : ℕ) (es : List Entry) → trace_misstep A s n (map lines.Entry es) ≡ misstep_from A s n es }
-    ensures run { (A : Inputs) (es : List Entry) → IsPagedTrace A (map lines.Entry es) ↔ IsPagedRun A es }
+    ensures state { (A : Inputs) (s : State) (es : List Entry) → trace_state A s (map lines.RunLine es) ≡ paged_state A s (units_of es) }
+    ensures misstep { (A : Inputs) (s : State) (n : ℕ) (es : List Entry) → trace_misstep A s n (map lines.RunLine es) ≡ misstep_from A s n es }
+    ensures run { (A : Inputs) (es : List Entry) → IsPagedTrace A (map lines.RunLine es) ↔ IsPagedRun A es }
 {}
 
 /// The first lines of a trace that is a run are one, and it goes on from the state to which they lead.

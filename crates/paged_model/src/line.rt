@@ -1,3 +1,4 @@
+//! A line of a trace with paging lines: an entry, or a part of a move.
 use kernel_model::HandPart;
 use vm_facts::Entry;
 
@@ -5,7 +6,7 @@ use vm_facts::Entry;
 #[derive(Debug, Drop)]
 pub enum Line {
     /// One of the kinds that `run` writes.
-    Entry(Entry),
+    RunLine(Entry),
     /// A part of a move of the hands, alone, which `run` never writes.
     Part(HandPart),
 }

@@ -1,3 +1,4 @@
+//! Why a line can't come, as types. Each reason has its words in `repage_command`.
 use vm_facts::{Entry, Page, PageState};
 
 /// Why a line can't come at a state of the paged machine.

@@ -1,4 +1,4 @@
--- What each call above the machine asks of it, and a machine in which the first process began.
+-- What tests ask of a machine before each call, as one premise.
 use Rattle.std.specs.Prelude.{◌≡◌, ℕ, ◌<◌, ◌≤◌, List, [], ◌∷◌, length, Option}
 use Rattle.vm_facts.specs.declared.page.Page.TheVariants.{Stack}
 use Rattle.aout_image.specs.declared.Image.{Image}

@@ -1,4 +1,4 @@
-// System calls over the pager: whole journals, each after one call, by devices in memory.
+//! System calls over the pager: whole journals, each after one call, by devices in memory.
 ghost use Rattle.std.specs.Prelude.{◌∷◌, [], ◌≤◌};
 ghost use Rattle.aout_image.specs.Image.{IsSound, file_length_of};
 ghost use Rattle.vm_facts.specs.declared.page.Page.{Page};

@@ -1,4 +1,4 @@
-// That the calls that take memory succeed, what a machine with no process answers, and what devices that fail leave.
+//! That the calls that take memory succeed, what a machine with no process answers, and what devices that fail leave.
 ghost use Rattle.std.specs.Prelude.{◌≡◌, ◌<◌, ◌≤◌, ◌∷◌, [], List, map, length, IfOk};
 ghost use Rattle.io_edge.specs.FileHolding.{NamedFile, bytes_at};
 ghost use Rattle.page_model.specs.Place.{filled};

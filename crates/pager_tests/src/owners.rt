@@ -1,4 +1,4 @@
-// The text of a machine in which one process began: its lines against what the sizes of the pieces say.
+//! The text of a machine in which one process began: its lines against what the sizes of the pieces say.
 ghost use Rattle.std.specs.Prelude.{◌≡◌, map, length, IfOk};
 ghost use Rattle.machine_state.specs.Going.{IsRunning};
 ghost use Rattle.machine_state.specs.Machine.{image_shown};

@@ -1,4 +1,5 @@
-// Pages that come in and leave their frames: whole journals of calls one after another, by devices in memory.
+//! Pages that come in and leave their frames: whole journals of calls one after another, by devices in memory.
+//! Machines that the tests of calls share are made here too.
 ghost use Rattle.std.specs.Prelude.{◌≡◌, ◌<◌, ◌≤◌, ◌∷◌, [], ℕ, List, Option, map, length, IfOk, OnOk};
 ghost use Rattle.aout_image.specs.Image.{IsSound, file_length_of};
 ghost use Rattle.io_edge.specs.FileHolding.{NamedFile, bytes_at};

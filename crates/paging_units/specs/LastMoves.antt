@@ -1,4 +1,4 @@
--- The moves of the hands that the last entry of a journal counts.
+-- How many moves of the hands a journal's last entry counts.
 use Rattle.std.specs.Prelude.{ℕ, List, [], ◌∷◌}
 use Rattle.vm_facts.specs.declared.entry.Entry.{Entry}
 use Rattle.page_laws.specs.Spans.{moves}

@@ -1,4 +1,4 @@
--- Which kernels units of paging lead to, and what they make of the swap image.
+-- Units of paging, one after another, from one kernel and swap image to another. Calls above the machine say by this what they did.
 use Rattle.std.specs.Prelude.{◌≡◌, ℕ, List, [], ◌∷◌, Option}
 use Rattle.vm_facts.specs.SwapImages.{SwapImage}
 use Rattle.vm_facts.specs.declared.page.Page.{Page}

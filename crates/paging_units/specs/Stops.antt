@@ -1,4 +1,4 @@
--- What is known of a call that stops where a unit comes next.
+-- What is known of a call that stopped where a unit comes next: why, and what it left.
 use Rattle.std.specs.Prelude.{◌≡◌, ◌⊎◌, ◌↔◌, ℕ, ◌<◌, ◌≤◌, List, length, map, Bool, true, Option, Some, Result, Err}
 use Rattle.vm_facts.specs.SwapImages.{SwapImage}
 use Rattle.vm_facts.specs.declared.entry.Entry.{Entry}

@@ -1,4 +1,4 @@
--- Comparing policies on a file of references: how that ends, by what is read, and what is written.
+-- How comparing policies on a file ends, by what the file reads as.
 use Rattle.std.specs.Prelude.{◌≡◌, ℕ, List, Option, Some, None, Vec, Result, Ok, Err}
 use Rattle.io_edge.specs.FileHolding.{NamedFile}
 use Rattle.vm_facts.specs.declared.page.Page.{Page}

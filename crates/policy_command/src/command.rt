@@ -1,3 +1,4 @@
+//! `policies`: the references of a file are read, compared, and answered as a text.
 ghost use Rattle.std.specs.Prelude.{◌≡◌, ◌≤◌, ◌<◌, ◌^◌, length, IfOk};
 ghost use Rattle.io_edge.specs.Calls.{KeepsFiles};
 ghost use Rattle.reference_text.specs.Grammar.{most_references};

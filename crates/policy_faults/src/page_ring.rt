@@ -1,4 +1,4 @@
-//! Pages in memory, in a ring that the hand of a clock goes round.
+//! Pages in memory, in a ring that the hand of a clock goes round. Who leaves is the policy's to say.
 ghost use Rattle.std.specs.Prelude.{◌≡◌, ◌<◌, ◌≤◌, ℕ, length, drop, true, false, vec_len, slice_index_or, slice_set, None, OnOk, []};
 ghost use Rattle.policy_faults.specs.Ring.{is_in_memory, marked_page, unmarked_at, is_hand_marked, hand_passed, paged_in};
 

@@ -1,4 +1,4 @@
--- What becomes of the machine by a call.
+-- What becomes of the machine by any call: a reply, a sleep, an end, or a byte that misses.
 use Rattle.std.specs.Prelude.{◌≡◌, ℕ, true, false, List, [], ◌∷◌, length, None, Result, Ok, Err}
 use Rattle.vm_facts.specs.declared.regs.Regs.{Regs}
 use Rattle.vm_facts.specs.declared.entry.Entry.{Entry}

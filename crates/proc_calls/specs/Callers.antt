@@ -1,4 +1,4 @@
--- The process that makes a call.
+-- The process that makes a call: when it may, and what its record says.
 use Rattle.std.specs.Prelude.{◌≡◌, ℕ, [], Option, Some, None}
 use Rattle.vm_facts.specs.declared.regs.Regs.{Regs}
 use Rattle.flat_state.specs.Flat.{cleared}

@@ -1,4 +1,4 @@
--- The pages of a child are copied, each from its parent's page.
+-- How a child's due pages are copied, each once its parent's page is valid; and where that stops.
 use Rattle.std.specs.Prelude.{◌≡◌, ◌⊎◌, ℕ, ◌≤◌, true, List, [], ◌∷◌, length, Option, None}
 use Rattle.vm_facts.specs.SwapImages.{SwapImage}
 use Rattle.vm_facts.specs.declared.page.Page.{Page}

@@ -1,4 +1,4 @@
--- What becomes of the machine by a fork, and where it stops.
+-- What a fork comes to: an entry, and then its copies; and where it stops.
 use Rattle.std.specs.Prelude.{◌≡◌, ◌⊎◌, ℕ, ◌*◌, List, [], ◌∷◌, Option}
 use Rattle.vm_facts.specs.SwapImages.{SwapImage}
 use Rattle.vm_facts.specs.declared.regs.Regs.{Regs}

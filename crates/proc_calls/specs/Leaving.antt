@@ -1,4 +1,4 @@
--- What becomes of the machine where a process leaves its space, and where it ends.
+-- How a process leaves its space and ends: the space settles or goes back, then comes the entry.
 use Rattle.std.specs.Prelude.{◌≡◌, ◌⊎◌, ℕ, ◌<◌, Bool, true, false, List, length, Option, Result, Ok, Err}
 use Rattle.vm_facts.specs.SwapImages.{SwapImage}
 use Rattle.io_edge.specs.FileHolding.{NamedFile}

@@ -1,4 +1,4 @@
--- What becomes of the machine by a call that makes a process, and where it stops.
+-- What fork and vfork have in common: limits, pieces of swap, and the child.
 use Rattle.std.specs.Prelude.{◌≡◌, ◌⊎◌, ℕ, ◌≤◌, nat_lt, Bool, true, false, length, None, Result, Ok, Err, is_ok}
 use Rattle.vm_facts.specs.declared.regs.Regs.{Regs}
 use Rattle.vm_facts.specs.declared.entry.Entry.TheVariants.{Refused}

@@ -1,4 +1,4 @@
--- What a break comes to.
+-- What a break comes to: more pages, fewer, or an error; and where it stops.
 use Rattle.std.specs.Prelude.{◌≡◌, ◌⊎◌, ℕ, ◌-◌, ◌<◌, ◌≤◌, nat_le, false, List, Option, Result, Ok, Err, is_ok}
 use Rattle.vm_facts.specs.SwapImages.{SwapImage}
 use Rattle.vm_facts.specs.declared.regs.Regs.{Regs}

@@ -1,4 +1,4 @@
--- What becomes of the machine where a process starts another image, and where it stops.
+-- What becomes of the machine where a process starts another image: new pieces, the old space left, a stack page due.
 use Rattle.std.specs.Prelude.{◌≡◌, ◌⊎◌, ℕ, ◌*◌, ◌<◌, ◌≤◌, nat_lt, Bool, true, false, List, [], ◌∷◌, length, Option, Some, Result, Ok, Err, is_ok}
 use Rattle.vm_facts.specs.SwapImages.{SwapImage}
 use Rattle.io_edge.specs.FileHolding.{NamedFile}

@@ -1,4 +1,4 @@
--- What a write comes to, and where it stops.
+-- What a write comes to: bytes in the journal, and then the reply.
 use Rattle.std.specs.Prelude.{◌≡◌, ◌⊎◌, ℕ, ◌≤◌, List, [], length, Result, Ok, Err}
 use Rattle.vm_facts.specs.declared.stop.Stop.{Stop}
 use Rattle.user_vax.specs.declared.refused.Refused.{Refused}

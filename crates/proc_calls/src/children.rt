@@ -1,4 +1,4 @@
-// Calls that ask for processes.
+//! The calls `wait` and `getpid`. They may move no page and call no device.
 ghost use Rattle.std.specs.Prelude.{◌<◌, IfOk, OnOk};
 ghost use Rattle.machine_state.specs.Performing.{IsAtBound, StopsForRoom};
 ghost use Rattle.flat_state.specs.declared.change.Change.TheVariants.{Keep};

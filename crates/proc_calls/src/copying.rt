@@ -1,4 +1,5 @@
-//! The pages of a child are copied from its parent's.
+//! A child's pages are copied from its parent's, in the order in which they are due. The parent's page comes in
+//! first, and must stay until it is copied.
 ghost use Rattle.io_edge.specs.WithFiles.{stores};
 ghost use Rattle.std.specs.Prelude.{◌≡◌, ◌≤◌, ◌∷◌, [], OnOk, MatchResult};
 ghost use Rattle.page_model.specs.Rank.{HasRoom};

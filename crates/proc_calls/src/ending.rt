@@ -1,4 +1,5 @@
-//! Ends of processes.
+//! A process leaves its space, and ends. Transfers that name the space must end first. A borrowed space goes back
+//! right before the entry.
 ghost use Rattle.io_edge.specs.WithFiles.{stores};
 ghost use Rattle.std.specs.Prelude.{◌≡◌, true, IsSome, IfOk, OnOk, IfErr, Ok, Some};
 ghost use Rattle.user_vax.specs.Program.{run};

@@ -1,4 +1,4 @@
-//! The call that starts another image.
+//! The call `execve`: the process starts another image. Path and arguments are read whole before anything is done.
 ghost use Rattle.io_edge.specs.WithFiles.{stores};
 ghost use Rattle.std.specs.Prelude.{◌≡◌, List, [], length, IfOk, OnOk, IfErr};
 ghost use Rattle.user_vax.specs.Program.{run};

@@ -1,4 +1,5 @@
-//! The fill of a new stack page.
+//! The new stack page that is due first is filled; a frame is forced where none is free. It must be first among what
+//! is due.
 ghost use Rattle.io_edge.specs.WithFiles.{stores};
 ghost use Rattle.std.specs.Prelude.{◌≤◌, [], OnOk, MatchResult};
 ghost use Rattle.page_model.specs.Rank.{HasRoom};

@@ -1,3 +1,4 @@
+//! The law that a break over a machine replies as the flat machine does. There is no code here.
 ghost use Rattle.std.specs.Prelude.{◌≡◌, ℕ, List, Some};
 ghost use Rattle.vm_facts.specs.Answers.{Answers};
 ghost use Rattle.vm_facts.specs.declared.regs.Regs.{Regs};

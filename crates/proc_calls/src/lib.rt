@@ -1,5 +1,6 @@
-//! System calls over the paged machine (the 4.3BSD book has their meaning; numbers, limits and the order of errors are
-//! this project's profile).
+//! System calls over the paged machine (the 4.3BSD book has their meaning; numbers, limits and the order of errors
+//! are this project's profile). A call may not touch the tables: it makes its entry, and others, by the machine's
+//! calls.
 //!
 //! Each call is made by a process whose instruction was carried out, but for its registers: the record still has those
 //! from before it, and `regs` are those that it left.

@@ -1,4 +1,5 @@
-//! Calls that make processes.
+//! The calls `fork` and `vfork`. A fork's copies come right after its entry; a vfork's space passes there too, with
+//! nothing between.
 ghost use Rattle.io_edge.specs.WithFiles.{stores};
 ghost use Rattle.std.specs.Prelude.{◌≡◌, ◌∷◌, [], IfOk, IfErr, OnOk};
 ghost use Rattle.vm_facts.specs.declared.page.Page.{Page};

@@ -1,4 +1,4 @@
-// Replies of calls.
+//! What a call comes to, and the registers by which it replies. Where a byte misses, nothing may have been done.
 ghost use Rattle.std.specs.Prelude.{◌≡◌, true, false, Some, IsSome, IfOk, OnOk, IfErr, Ok, Err};
 ghost use Rattle.machine_state.specs.Performing.{IsAtBound, StopsForRoom};
 ghost use Rattle.flat_state.specs.declared.change.Change.TheVariants.{Keep};

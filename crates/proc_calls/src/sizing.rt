@@ -1,4 +1,5 @@
-//! The call that moves the end of the data.
+//! The call `brk`: the end of the data moves. Swap for more pages is asked for before; pages that go must have
+//! settled.
 ghost use Rattle.io_edge.specs.WithFiles.{stores};
 ghost use Rattle.std.specs.Prelude.{◌≡◌, ◌⊎◌, ◌<◌, ◌≤◌, false, length, IfOk, OnOk, IfErr, OnErr, Err};
 ghost use Rattle.user_vax.specs.Program.{run};

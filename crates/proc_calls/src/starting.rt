@@ -1,4 +1,4 @@
-//! Starts of images.
+//! A process starts an image in a new space. Its pieces of swap are found before the old space is left.
 ghost use Rattle.io_edge.specs.WithFiles.{stores};
 ghost use Rattle.std.specs.Prelude.{◌≡◌, ◌<◌, ◌≤◌, [], true, false, length, IfOk, OnOk, IfErr, Ok};
 ghost use Rattle.page_model.specs.Rank.{HasRoom};

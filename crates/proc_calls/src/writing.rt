@@ -1,4 +1,5 @@
-// The call that writes to the output.
+//! The call `write`: bytes go into the journal. No output may be written here; that is done from the journal, once
+//! the run has ended.
 ghost use Rattle.std.specs.Prelude.{◌≡◌, ◌⊎◌, ◌≤◌, length, IfOk, OnOk, IfErr, OnErr, Ok, Err};
 ghost use Rattle.user_vax.specs.Program.{run};
 ghost use Rattle.flat_model.specs.Calls.{write_limit, write_reply};

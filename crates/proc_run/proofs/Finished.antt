@@ -34,7 +34,7 @@ use Rattle.step_units.specs.Ready.{Continues}
 use Rattle.step_units.proofs.CallsContinue.{reply_continues, end_continues}
 use Rattle.run_model.specs.State.{State}
 use Rattle.touched_pages.proofs.Flows.{on_steps}
-use Rattle.touched_pages.specs.RunUnitsTouching.{IsRunning}
+use Rattle.touched_pages.specs.RunUnitsTouching.{RunsInSpace}
 use Rattle.touched_pages.specs.Serving.{At}
 use Rattle.step_units.specs.Rests.{ReplyRests, EndRests}
 use Rattle.step_units.specs.Stepped.{StepLeads, StopLeads, AtSome, LeadsFrom, StopsFrom}
@@ -73,7 +73,7 @@ module _ (A : Inputs) (s : State) (m : Standing) (b : Begun) (holds : Option (Li
       go None l e = absurd cc
       go (Some _) l e = absurd cc
 
-  runs_so : (now : Bool) (p : Process) (x : Space) → IsRunning A s pid now p x → may_run m.kernel pid ≡ true
+  runs_so : (now : Bool) (p : Process) (x : Space) → RunsInSpace A s pid now p x → may_run m.kernel pid ≡ true
   runs_so now p x r =
       ap₂ (λ (a c : Bool). a && not c) (sym (can_steps A s m.kernel image pid 0 h.machine.at) ∙ on_steps A s s.mark pid now r.runs.on)
       (out_same A s m.kernel image pid 0 h.machine.at ∙ r.runs.resident)
@@ -97,7 +97,7 @@ module _ (m : Standing) (b : Begun) (holds : Option (List NamedFile)) (i : Optio
   abbrev tried : Result Effect Refused
   tried = run (own_answers m pid) (instruction before)
 
-  own : (A : Inputs) (s : State) (image : SwapImage) (now : Bool) (p : Process) (x : Space) → At A s m.kernel image → IsRunning A s pid now p x
+  own : (A : Inputs) (s : State) (image : SwapImage) (now : Bool) (p : Process) (x : Space) → At A s m.kernel image → RunsInSpace A s pid now p x
       → tried ≡ run (kernel_answers m.kernel x.sid) (instruction p.regs)
   own A s image now p x at r =
       ap (λ (n : ℕ). run (kernel_answers m.kernel n) (instruction before)) (same_space A s m.kernel image pid now p x at r)

@@ -18,7 +18,7 @@ use Rattle.run_model.specs.Kinds.{ProcessRuns as Goes, GoesOn}
 use Rattle.run_model.specs.Next.{goes_on, turn_instructions, turn_unit, under, work, when}
 use Rattle.run_model.specs.State.{State}
 use Rattle.touched_pages.specs.Serving.{At}
-use Rattle.touched_pages.specs.RunUnitsTouching.{IsRunning}
+use Rattle.touched_pages.specs.RunUnitsTouching.{RunsInSpace}
 use Rattle.proc_run.specs.Choosing.{is_space_holder, steps_by, may_run}
 use Rattle.proc_run.specs.Running.{AsksRun}
 use Rattle.proc_run.proofs.Ready.{ready_one}
@@ -108,7 +108,7 @@ module _ (A : Inputs) (s : State) (k : Kernel) (image : SwapImage) (pid until : 
   out_same = ap (λ (p : Placement). is_out p pid) at.stands.place
 
   pub runs : (now : Bool) → AsksRun A s pid now until → s.place.due ≡ [] → s.count < until → may_run k pid ≡ true
-      → (p : Process) × (x : Space) × IsRunning A s pid now p x
+      → (p : Process) × (x : Space) × RunsInSpace A s pid now p x
   runs now asks clear l m =
       let parts = and_parts (steps_by (proc_of k pid)) (not (is_out k.place pid)) m in
       let can : flat_steps s.point.flat pid ≡ true = can_steps ∙ parts.0 in

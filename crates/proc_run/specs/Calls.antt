@@ -1,4 +1,4 @@
--- What the call that an instruction makes comes to, whichever it is, and where the run stops in it.
+-- What an instruction's call comes to, whichever of the eight it is; and where the run stops in it.
 use Rattle.std.specs.Prelude.{◌≡◌, ℕ, ℤ, List, Option, Some, Ok}
 use Rattle.vm_facts.specs.SwapImages.{SwapImage}
 use Rattle.io_edge.specs.FileHolding.{NamedFile}

@@ -1,4 +1,4 @@
--- A step that its first entry began, and what is left of it.
+-- What is left of a step after the entry that began it, told by the journal's end.
 use Rattle.std.specs.Prelude.{◌≡◌, ℕ, ◌≤◌, Bool, true, false, List, length, Option, Some, None}
 use Rattle.vm_facts.specs.SwapImages.{SwapImage}
 use Rattle.vm_facts.specs.declared.entry.Entry.{Entry}

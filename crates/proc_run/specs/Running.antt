@@ -1,4 +1,4 @@
--- What a process that runs leads to, in a dispatch and in a turn.
+-- What a dispatch and a turn lead to: an instruction count, or a page to wait for.
 use Rattle.std.specs.Prelude.{◌≡◌, ℕ, ◌+◌, ◌≤◌, min, Bool, true, false, List, Option, Some, None}
 use Rattle.vm_facts.specs.SwapImages.{SwapImage}
 use Rattle.vm_facts.specs.declared.entry.Entry.{Entry}

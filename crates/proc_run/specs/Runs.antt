@@ -1,4 +1,4 @@
--- What a process that runs leads to in a run.
+-- A machine at a state of a run at which a process runs, and what one attempt leads to.
 use Rattle.std.specs.Prelude.{◌≡◌, ℕ, ◌<◌, ◌≤◌, Bool, true, false, List, [], length, Option, Some}
 use Rattle.vm_facts.specs.SwapImages.{SwapImage}
 use Rattle.vm_facts.specs.declared.page.Page.{Page}

@@ -1,4 +1,4 @@
--- What serving an access of a process comes to, and where the run stops in it.
+-- What serving the page of an access leads to in a run, with waiting or without.
 use Rattle.std.specs.Prelude.{◌≡◌, ◌⊎◌, ℕ, Bool, true, false, List, [], Option}
 use Rattle.vm_facts.specs.SwapImages.{SwapImage}
 use Rattle.io_edge.specs.FileHolding.{NamedFile}

@@ -1,4 +1,4 @@
--- Instructions of a process one after another, each carried out and none a call.
+-- Instructions in a row within one loan of the memory, and what they left together.
 use Rattle.std.specs.Prelude.{◌≡◌, ℕ, zero, suc, Bool, true, false, List, [], ◌++◌, Option}
 use Rattle.vm_facts.specs.SwapImages.{SwapImage}
 use Rattle.vm_facts.specs.Answers.{Answers, ByteWrite, written}

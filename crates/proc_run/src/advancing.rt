@@ -1,4 +1,5 @@
-//! The next instruction of a process, or a page that it waits for.
+//! One attempt at a process's next instruction, with its call or the page that it misses. The journal must have room
+//! before anything is written.
 ghost use Rattle.io_edge.specs.WithFiles.{stores};
 ghost use Rattle.std.specs.Prelude.{◌≡◌, ◌⊎◌, ◌+◌, ◌^◌, ◌<◌, false, Some, IfOk, OnOk, IfErr, OnErr, IfSome, Err};
 ghost use Rattle.vm_facts.specs.declared.entry.Entry.TheVariants.{Ran};

@@ -1,4 +1,5 @@
-//! One instruction of a process, over the frames of the machine.
+//! Carries one instruction out over the frames of the machine, and counts it. Where the journal is full it may only
+//! be tried, with no write.
 ghost use Rattle.std.specs.Prelude.{◌≡◌, ◌↔◌, false, true, IfOk};
 ghost use Rattle.std.specs.Option.{is_some};
 ghost use Rattle.vm_facts.specs.declared.entry.Entry.TheVariants.{Ran};

@@ -1,4 +1,4 @@
-//! A call that an instruction makes.
+//! Makes the call of an instruction, by its number. A number that is none of the eight must end the process.
 ghost use Rattle.io_edge.specs.WithFiles.{stores};
 ghost use Rattle.std.specs.Prelude.{◌≡◌, Some, Ok, IfOk, OnOk, IfErr};
 ghost use Rattle.machine_state.specs.Going.{CanGoOn};

@@ -1,4 +1,4 @@
-//! The process that has the next turn.
+//! Whose turn is next, by the records of the processes. The machine may not change here.
 ghost use Rattle.std.specs.Prelude.{◌≡◌, true, false, Some, None, IfSome};
 ghost use Rattle.machine_state.specs.Going.{IsRunning};
 ghost use Rattle.machine_state.specs.Machine.{proc_shown};

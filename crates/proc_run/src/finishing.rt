@@ -1,4 +1,5 @@
-//! The rest of a step that its first entry began.
+//! The rest of a step that its first entry began. The journal's end alone tells what is left; nothing but ends of
+//! transfers may lie between.
 ghost use Rattle.io_edge.specs.WithFiles.{stores};
 ghost use Rattle.std.specs.Prelude.{◌≡◌, ◌+◌, Some, OnOk, IfErr};
 ghost use Rattle.flat_state.specs.Journal.{instructions_of};

@@ -1,5 +1,6 @@
-//! A process runs: one instruction after another, with the calls that it makes and the pages that it waits for, as this project's
-//! profile of the run of 4.3BSD has it.
+//! A process runs: one instruction after another, with the calls that it makes and the pages that it waits for, as
+//! this project's profile of the run of 4.3BSD has it. Pages are served by `fault_fill` and calls made by
+//! `proc_calls`: no table may be touched here.
 #![tactic(auto)]
 
 mod advancing;

@@ -1,4 +1,4 @@
-//! A process runs, in a dispatch or in a turn.
+//! Runs a process in a dispatch or a turn, as far as it may go. In a dispatch it may not wait for a page.
 ghost use Rattle.io_edge.specs.WithFiles.{stores};
 ghost use Rattle.std.specs.Prelude.{◌≡◌, IfOk, IfErr};
 ghost use Rattle.flat_state.specs.Journal.{instructions_of};

@@ -1,4 +1,5 @@
-//! A page that an instruction or its call waits for.
+//! Serves the page that an instruction or its call misses. In a turn the pages that it touched before are locked, and
+//! must keep their frames.
 ghost use Rattle.io_edge.specs.WithFiles.{stores};
 ghost use Rattle.std.specs.Prelude.{◌≡◌, true, IfOk, OnOk, IfErr};
 ghost use Rattle.machine_state.specs.Going.{CanGoOn};

@@ -1,4 +1,5 @@
-//! Further instructions of a process, within one loan of its memory.
+//! Carries further instructions out within one loan of the memory, for speed. It must leave what single attempts
+//! leave, and end at the first byte that misses.
 ghost use Rattle.std.specs.Prelude.{◌+◌, ◌<◌, ◌≤◌, ◌^◌, false, is_ok, IfErr, IfSome};
 ghost use Rattle.flat_state.specs.Journal.{instructions_of};
 ghost use Rattle.machine_state.specs.Going.{CanGoOn};

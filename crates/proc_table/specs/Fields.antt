@@ -1,4 +1,4 @@
--- The process table by its slab.
+-- The process table by its slab: what callers see of it, and when keys and pids fit.
 use Rattle.std.specs.Prelude.{◌≡◌, ℕ, ◌≤◌, min, List, filter_map, Option, Some, None}
 use Rattle.slab.specs.Slab.{Slab, get, slab_len}
 use Rattle.proc_table.specs.declared.process.Proc.{Proc}

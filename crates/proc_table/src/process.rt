@@ -1,3 +1,5 @@
+//! The record of one process, and where it stands between its making and its end. While the process is out its
+//! registers may be in its u page alone.
 use vm_facts::Regs;
 
 /// Where a process stands between its making and its end.

@@ -1,5 +1,5 @@
-// The table itself, over a slab of records.
-
+//! The records by pid, in a slab whose keys nobody else sees. No pid may stand twice, and a full table hands the
+//! record back. Nothing is known here of parents and children.
 ghost use Rattle.std.specs.Prelude.{◌≡◌, ◌≢◌, ℕ, ◌+◌, ◌<◌, [], length, Some, None, is_some, IsSome, IsTrue, false, IfOk, IfSome, IfNone, OnSome, option_copied};
 ghost use Rattle.slab.specs.Slab.{get as slot_at};
 ghost use Rattle.proc_table.specs.Records.{find, answer_of, Adds, Changes, Lowest, IsProcTable};

@@ -1,4 +1,4 @@
--- What a run did, counted over its journal.
+-- What each entry counts of its process, and the sums over a journal.
 use Rattle.std.specs.Prelude.{ℕ, ◌==◌, if◌then◌else◌, List, length}
 use Rattle.std.specs.List.{sum_by}
 use Rattle.vm_facts.specs.declared.page.Page.{Page}

@@ -1,4 +1,4 @@
-// What an entry adds to a count.
+//! What one entry adds to each count of a process.
 ghost use Rattle.std.specs.Prelude.{◌≡◌};
 ghost use Rattle.process_counts.specs.Counts.{instructions, output_length, calls, growths, refusals, waits, times_out, times_in, process_of, page_owner};
 

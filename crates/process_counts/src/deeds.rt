@@ -1,4 +1,4 @@
-// What processes did, in one walk of a journal.
+//! What the processes of a run did, in one walk of its journal.
 ghost use Rattle.std.specs.Prelude.{◌≡◌, ◌+◌, ◌<◌, ◌≤◌, ◌^◌, ℕ, IfOk, OnOk};
 ghost use Rattle.process_counts.specs.declared.amounts.ProcessHead.{ProcessHead as AnyHead};
 ghost use Rattle.process_counts.specs.Counts.{amount, total};

@@ -1,4 +1,4 @@
-// Tables of counts by number.
+//! Counts by number, in a list that grows as numbers come.
 ghost use Rattle.std.specs.Prelude.{◌≡◌, ◌+◌, ◌<◌, ◌≤◌, ◌^◌, ℕ, length, slice_index, slice_set, OnOk};
 ghost use Rattle.process_counts.specs.Tables.{count_at, added_at};
 

@@ -1,4 +1,4 @@
--- What is asked of a run that goes on from entry to entry.
+-- Which question about a run the two of `film` and `stats` are.
 use Rattle.reference_commands.specs.declared.question.Question.{Question}
 use Rattle.reference_commands.specs.declared.question.Question.TheVariants as questions
 use Rattle.question_command.specs.declared.asking.FilmQuestion.{FilmQuestion}

@@ -1,4 +1,4 @@
--- A run in memory, whose entries are noted one after another.
+-- A film whose entries are noted so far: how far the notes have come.
 use Rattle.std.specs.Prelude.{◌≡◌, ℕ, List, Option}
 use Rattle.vm_facts.specs.SwapImages.{SwapImage}
 use Rattle.io_edge.specs.FileHolding.{NamedFile}

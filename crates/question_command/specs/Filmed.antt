@@ -1,4 +1,4 @@
--- A film in memory, whose steps are put one after another.
+-- A film of which the first steps are in the text: how far the text has come.
 use Rattle.std.specs.Prelude.{◌≡◌, ℕ, List, ◌++◌, length, Option, Some}
 use Rattle.std.specs.List.{concat}
 use Rattle.vm_facts.specs.SwapImages.{SwapImage}

@@ -1,4 +1,4 @@
-// What is asked of a run that goes on from entry to entry, and its answer.
+//! What is asked of a film, and the run in memory that answers it.
 ghost use Rattle.io_edge.specs.WithFiles.{stores};
 ghost use Rattle.std.specs.Prelude.{◌≡◌, ◌<◌, ◌≤◌, ◌^◌, [], ℕ, List, length, map, All, Some, IfOk};
 ghost use Rattle.vm_facts.specs.SwapImages.{SwapImage};

@@ -1,4 +1,4 @@
-// A question about a run: its schedule and its images are read, the run is made, and the answer is written.
+//! The commands that ask about a run: words are read, the question is put, the answer written.
 ghost use Rattle.std.specs.Prelude.{◌≡◌, ◌≤◌, map, option_map, length, All, IfOk, IfErr};
 ghost use Rattle.io_edge.specs.Calls.{KeepsFiles};
 ghost use Rattle.run_files.specs.ImageWords.{IsShortName, image_names, first_images};

@@ -1,4 +1,4 @@
-// What a run did, counted: the run goes on from entry to entry, each is noted, and the table is made of the notes.
+//! The run of `stats`: the film goes on to its end, and each entry is noted.
 ghost use Rattle.io_edge.specs.WithFiles.{stores};
 ghost use Rattle.std.specs.Prelude.{◌≡◌, ◌+◌, ◌<◌, ◌^◌, ◌++◌, ◌&&◌, not, nat_lt, [], ◌∷◌, ℕ, false, true, List, length, map, All, Option, Some, IfOk, OnOk};
 ghost use Rattle.vm_facts.specs.SwapImages.{SwapImage};

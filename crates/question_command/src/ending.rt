@@ -1,4 +1,4 @@
-// How a run came to its end: it goes on from entry to entry until it is over.
+//! How the run of a film came to its end, and whether its limit cut it.
 ghost use Rattle.io_edge.specs.WithFiles.{stores};
 ghost use Rattle.std.specs.Prelude.{◌≡◌, ◌+◌, ◌<◌, ◌^◌, ◌&&◌, not, nat_lt, [], ℕ, false, true, List, length, Option, IfOk, OnOk};
 ghost use Rattle.vm_facts.specs.SwapImages.{SwapImage};

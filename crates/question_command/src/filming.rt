@@ -1,4 +1,4 @@
-// A film of a run: who owns what after each of several numbers of its entries.
+//! The steps of `film`: the text of who owns what after each entry that is asked for.
 ghost use Rattle.io_edge.specs.WithFiles.{stores};
 ghost use Rattle.std.specs.Prelude.{◌≡◌, ◌+◌, ◌-◌, ◌<◌, ◌≤◌, ◌^◌, ◌&&◌, not, nat_lt, ℕ, false, [], ◌++◌, List, length, slice_get, map, All, Some, IfOk, OnOk};
 ghost use Rattle.vm_facts.specs.SwapImages.{SwapImage};

@@ -1,4 +1,4 @@
-//! The lines of the texts.
+//! The single lines of the answers: counts, victims, sizes, policies, references.
 ghost use Rattle.std.specs.Prelude.{◌≡◌, ◌<◌, ◌^◌, ◌++◌, length, OnOk, codes, decimal};
 ghost use Rattle.std.specs.List.{flat_map};
 ghost use Rattle.std.specs.Option.{option_copied};

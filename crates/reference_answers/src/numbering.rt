@@ -1,4 +1,4 @@
-//! Pages as numbers, by the order of their first references.
+//! Pages become numbers, in the order of their first references. The crates below know numbers alone.
 ghost use Rattle.std.specs.Prelude.{◌≡◌, ◌<◌, ◌≤◌, length, map, vec_len, IfOk, OnOk};
 ghost use Rattle.flat_model.specs.Touched.{distinct};
 ghost use Rattle.reference_text.specs.Grammar.{most_references};

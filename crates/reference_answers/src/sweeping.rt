@@ -1,4 +1,4 @@
-//! The page faults of the policies with each of several numbers of frames.
+//! The faults of all policies at several numbers of frames. What doesn't depend on the frames is found once.
 ghost use Rattle.std.specs.Prelude.{◌≡◌, ◌-◌, ◌≤◌, min, length, slice_index_or, IfOk, OnOk};
 ghost use Rattle.reference_answers.specs.Texts.{frame_numbers};
 ghost use Rattle.reference_answers.specs.Answers.{AreSweepLines};

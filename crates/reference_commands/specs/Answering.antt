@@ -1,4 +1,4 @@
--- The answer to a question about a run.
+-- What the answer to each question about a run is, by the run's journal.
 use Rattle.std.specs.Prelude.{◌≡◌, ◌+◌, ◌-◌, ◌*◌, ◌%◌, ◌==◌, ◌<◌, ◌≤◌, ◌&&◌, nat_le, ℕ, Bool, true, false, List, [], ◌∷◌, ◌++◌, length, map, replicate, slice_get, codes, decimal, Option, Some, None}
 use Rattle.std.specs.List.{filter, concat, range_with_len}
 use Rattle.vm_facts.specs.SwapImages.{SwapImage, unnoted}

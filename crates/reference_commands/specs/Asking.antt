@@ -1,4 +1,4 @@
--- What is asked, and of which run.
+-- What is asked, and about which run: the words' numbers, names and frames.
 use Rattle.std.specs.Prelude.{◌≡◌, ◌≤◌, ℕ, List, Ok}
 use Rattle.flat_state.specs.Flat.{Inputs}
 use Rattle.run_files.specs.ImageWords.{image_names, first_images}

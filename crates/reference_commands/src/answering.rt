@@ -1,4 +1,4 @@
-// The answers to questions about the references of a run.
+//! Answers of `opt`, `curve` and `refs` on the references of a run in memory.
 ghost use Rattle.std.specs.Prelude.{◌≡◌, ◌≤◌, map, length, All};
 ghost use Rattle.run_files.specs.ImageWords.{IsShortName};
 ghost use Rattle.replay_check.specs.Images.{AreImageFiles};

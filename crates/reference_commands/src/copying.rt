@@ -1,4 +1,4 @@
-// The files of images, as a run reads them.
+//! Copies of the images, as files for a run in memory.
 ghost use Rattle.std.specs.Prelude.{◌≡◌, length, map, IfOk};
 ghost use Rattle.io_edge.specs.FileHolding.{named_file};
 ghost use Rattle.io_edge.specs.Octets.{IsOctetFile, AreOctetFiles};

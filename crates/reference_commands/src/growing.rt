@@ -1,4 +1,4 @@
-// A text in memory that grows.
+//! An output in memory that grows, and fails for want of memory alone.
 ghost use Rattle.std.specs.Prelude.{◌≡◌, ◌≤◌, Some, []};
 ghost use Rattle.std.proofs.Common.{le_refl, le_trans};
 ghost use Rattle.io_edge.specs.Told.{extends_itself, extends_through};

@@ -1,3 +1,4 @@
+//! What may be asked about the references of a run or its owners.
 use command_words::FilmSteps;
 
 /// What is asked about a run (this project's profile).

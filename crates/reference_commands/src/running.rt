@@ -1,4 +1,4 @@
-// A run in memory, its references, and who owns what where it ends.
+//! Makes a run in memory, and gives its references or its owners.
 ghost use Rattle.std.specs.Prelude.{◌≡◌, ◌≤◌, ℕ, List, Option, Some, Err, map, length, All, IfOk};
 ghost use Rattle.vm_facts.specs.SwapImages.{SwapImage};
 ghost use Rattle.flat_state.specs.Flat.{Inputs};

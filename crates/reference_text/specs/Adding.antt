@@ -1,4 +1,4 @@
--- One line more of a file is read.
+-- What reading one line more of a file of references comes to.
 use Rattle.std.specs.Prelude.{◌≡◌, ◌≤◌, ℕ, Bool, true, false, List, ◌++◌, length, Option, Some, None, IsSome, option_to_list}
 use Rattle.vm_facts.specs.declared.page.Page.{Page}
 use Rattle.reference_text.specs.Grammar.{IsRemark, IsLineText, IsReferenceLine, most_references}

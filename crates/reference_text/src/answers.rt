@@ -1,3 +1,4 @@
+//! What a file of references reads as: its references, or its first bad line.
 use vm_facts::Page;
 
 /// What the text of a file of references reads as.

@@ -1,4 +1,4 @@
-// The reader of references.
+//! Reads a file of references, exactly by its grammar.
 ghost use Rattle.std.specs.Prelude.{◌≡◌, ◌≢◌, ℕ, ◌^◌, ◌<◌, ◌≤◌, List, [], ◌∷◌, ◌++◌, length, vec_len, MatchOption, MatchBool, IfOk, Option, codes};
 ghost use Rattle.vm_facts.specs.declared.page.Page.{Page as PageOf};
 ghost use Rattle.run_text.specs.Text.{parts};

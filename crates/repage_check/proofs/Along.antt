@@ -138,7 +138,7 @@ one_more u k n l = ap (λ (m : ℕ). repeated u m []) (let e : n - k ≡ suc (n 
 pub entry_told : (reason : Option Reason) (e : Entry) (p : Past) (m : Standing) (holds : Option (List NamedFile)) (j : Option SwapImage) (A : Inputs)
     (s : State)
     (image : SwapImage)
-    → UnitsTold reason (units_with e []) p m holds j A s image → LineTold reason (lines.Entry e) p m holds j A s image
+    → UnitsTold reason (units_with e []) p m holds j A s image → LineTold reason (lines.RunLine e) p m holds j A s image
 entry_told reason e p m holds j A s image told = record { exact = told.exact; stands = told.stands }
 
 -- The machine stands at a state from which what is left of a trace has the same first misstep, and leads to the same state.

@@ -18,7 +18,7 @@ use Rattle.kernel_model.specs.Unit.{proc_of}
 use Rattle.machine_state.specs.Machine.{Standing}
 use Rattle.run_model.specs.State.{State}
 use Rattle.run_model.specs.Wanted.{locked}
-use Rattle.run_laws.specs.Machine.{IsNote}
+use Rattle.run_laws.specs.Machine.{IsJournalEntry}
 use Rattle.fault_fill.specs.Made.{ground}
 use Rattle.step_judge.specs.Leads.{KeepsLocked, MadeAs}
 use Rattle.step_judge.proofs.Swapping.{out_made, in_made, note_made}
@@ -149,7 +149,7 @@ note_others (entries.Turn pid) k = refl
 note_others (entries.Owners f u m h) k = refl
 note_others _ k = absurd k
 
-note_noted : (u : Entry) → IsMarkNote u → IsNote u
+note_noted : (u : Entry) → IsMarkNote u → IsJournalEntry u
 note_noted (entries.Event line) k = tt
 note_noted (entries.Turn pid) k = tt
 note_noted (entries.Owners f u m h) k = tt

@@ -26,7 +26,7 @@ use Rattle.run_laws.specs.Running.{IsRun}
 use Rattle.run_laws.specs.Standing.{Placed}
 use Rattle.run_laws.specs.Flowing.{WaitsBy}
 use Rattle.step_judge.specs.Serving.{At}
-use Rattle.step_judge.specs.RunUnitsTouching.{IsRunning}
+use Rattle.step_judge.specs.RunUnitsTouching.{RunsInSpace}
 use Rattle.step_judge.specs.Touching.{RunsWith}
 use Rattle.step_judge.proofs.Tables.{regs_is, is_kept}
 use Rattle.paged_laws.specs.Led.{with_others}
@@ -208,7 +208,7 @@ module _ (p : Past) (m : Standing) (holds : Option (List NamedFile)) (i : Option
   asks_then : AsksRun B v pid false (s.count + 1)
   asks_then = (1, s.count, refl, omega arith)
 
-  runner : (q : Process) × (x : Space) × IsRunning B v pid false q x
+  runner : (q : Process) × (x : Space) × RunsInSpace B v pid false q x
   runner = runs B v m.kernel image pid (s.count + 1) at_then false asks_then (due_there p m holds i A s image at clear) (omega arith) may
 
   -- it touches the same pages

@@ -64,8 +64,8 @@ all_told (Err e) IsAt Told f = tt
 
 pub line_told : (r : Result (Option Reason) NoMemory) (e : Entry) (p q : Past) (m n : Standing) (holds : Option (List NamedFile)) (i j : Option SwapImage)
     → IfOk r (λ reason. LeadsFrom (PastAt p m holds i) (UnitsTold reason (units_with e []) q n holds j))
-    → IfOk r (λ reason. LeadsFrom (PastAt p m holds i) (LineTold reason (lines.Entry e) q n holds j))
+    → IfOk r (λ reason. LeadsFrom (PastAt p m holds i) (LineTold reason (lines.RunLine e) q n holds j))
 line_told r e p q m n holds i j told =
     IfOk-weaker r (λ reason. LeadsFrom (PastAt p m holds i) (UnitsTold reason (units_with e []) q n holds j))
-    (λ reason. LeadsFrom (PastAt p m holds i) (LineTold reason (lines.Entry e) q n holds j))
+    (λ reason. LeadsFrom (PastAt p m holds i) (LineTold reason (lines.RunLine e) q n holds j))
     (λ reason f A s image at. entry_told reason e q n holds j A s image (f A s image at)) told

@@ -44,16 +44,16 @@ entry_few n k (entries.Hands m) l w o = omega (arith, w, o)
 entry_few n k e l w o = omega (arith, l, w)
 
 line_few : (n k : ℕ) (l : Line) → n ≤ 1000000 → k ≤ n → moves_by n l ≤ 1000000 → k + moves_counted l ≤ 1000000
-line_few n k (lines.Entry e) most w o = entry_few n k e most w o
+line_few n k (lines.RunLine e) most w o = entry_few n k e most w o
 line_few n k (lines.Part x) most w o = omega (arith, most, w)
 
 -- its units make one entry at most
 line_long : (js : List Entry) (l : Line) → length (appended js (units_in l)) ≤ length js + 1
-line_long js (lines.Entry e) = entry_long js e
+line_long js (lines.RunLine e) = entry_long js e
 line_long js (lines.Part x) = omega arith
 
 line_moves : (js : List Entry) (n : ℕ) (l : Line) → last_moves js ≤ n → last_moves (appended js (units_in l)) ≤ moves_by n l
-line_moves js n (lines.Entry e) w = entry_moves js n e w
+line_moves js n (lines.RunLine e) w = entry_moves js n e w
 line_moves js n (lines.Part x) w = w
 
 module _ (l : Line) (left : List Line) (count : ℕ) (old m : Standing) (few : GoesOnFew (l ∷ left) count old m) where

@@ -1,4 +1,4 @@
--- What is told of some units, and of a line.
+-- What is told of a line of a trace, unit by unit.
 use Rattle.std.specs.Prelude.{◌≡◌, ◌+◌, ◌≤◌, Bool, List, [], length, Option, Some, None}
 use Rattle.vm_facts.specs.SwapImages.{SwapImage}
 use Rattle.vm_facts.specs.declared.entry.Entry.{Entry}
@@ -36,7 +36,7 @@ pub record LineTold (reason : Option Reason) (l : Line) (p : Past) (new : Standi
 
 -- the units that a line makes; that of a part makes none
 abbrev pub units_in : Line → List Entry
-units_in (lines.Entry e) = units_with e []
+units_in (lines.RunLine e) = units_with e []
 units_in (lines.Part x) = []
 
 -- The machine made these units: it can go on, with its images and its area, and its journal has these units more, and room for one entry at

@@ -1,4 +1,4 @@
--- The pages that the hands pass over.
+-- Which pages the hands pass over where a judged run stands.
 use Rattle.std.specs.Prelude.{◌≡◌, List, Option}
 use Rattle.vm_facts.specs.SwapImages.{SwapImage}
 use Rattle.vm_facts.specs.declared.page.Page.{Page}

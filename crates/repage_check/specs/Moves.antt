@@ -1,4 +1,4 @@
--- Moves of the hands that neighbouring lines count.
+-- How many moves of the hands neighbouring lines count, and when these are too many.
 use Rattle.std.specs.Prelude.{ℕ, zero, ◌+◌, ◌≤◌, List, [], ◌∷◌}
 use Rattle.vm_facts.specs.declared.entry.Entry.{Entry}
 use Rattle.vm_facts.specs.declared.entry.Entry.TheVariants as entries
@@ -8,7 +8,7 @@ use Rattle.paged_model.specs.declared.line.Line.TheVariants as lines
 
 -- how many moves a line counts; that of a part counts none
 abbrev pub moves_counted : Line → ℕ
-moves_counted (lines.Entry e) = moves e
+moves_counted (lines.RunLine e) = moves e
 moves_counted (lines.Part x) = 0
 
 -- how many moves neighbouring entries count once this one came too, after so many: an entry that makes no unit is between no neighbours
@@ -19,7 +19,7 @@ moves_with n e = 0
 
 -- the same of lines: that of a part makes no entry, and is between no neighbours
 abbrev pub moves_by : ℕ → Line → ℕ
-moves_by n (lines.Entry e) = moves_with n e
+moves_by n (lines.RunLine e) = moves_with n e
 moves_by n (lines.Part x) = n
 
 -- after so many moves none of these lines and its neighbours count more than a million

@@ -1,4 +1,4 @@
--- What is known of a paged run beside its machine.
+-- What is known of a paged run beside its machine, and how each unit changes it.
 use Rattle.std.specs.Prelude.{◌≡◌, ℕ, ◌+◌, not, Bool, false, List, length, Option, Some, None}
 use Rattle.vm_facts.specs.SwapImages.{SwapImage}
 use Rattle.vm_facts.specs.declared.entry.Entry.{Entry}

@@ -1,4 +1,4 @@
--- The start of a judged trace, and its end.
+-- Where the judge stands at the start of a trace, and behind its last line.
 use Rattle.std.specs.Prelude.{◌≡◌, ℕ, List, [], Option, Some, None, Ok}
 use Rattle.vm_facts.specs.SwapImages.{SwapImage}
 use Rattle.io_edge.specs.FileHolding.{NamedFile}

@@ -1,4 +1,4 @@
--- Units by what is asked of them, and what is told of one.
+-- Kinds of units by what judges them, and the reason that each has against it.
 use Rattle.std.specs.Prelude.{◌≡◌, List, Option, Some, None}
 use Rattle.vm_facts.specs.SwapImages.{SwapImage}
 use Rattle.vm_facts.specs.declared.entry.Entry.{Entry}

@@ -1,4 +1,4 @@
--- What a verdict says of a trace.
+-- What a verdict claims: a run of the paged machine, or the first line that can't come.
 use Rattle.std.specs.Prelude.{◌≡◌, ◌↔◌, ℕ, List, Option, Some, None, Ok, Err}
 use Rattle.vm_facts.specs.SwapImages.{SwapImage}
 use Rattle.io_edge.specs.FileHolding.{NamedFile}

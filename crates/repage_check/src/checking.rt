@@ -1,4 +1,4 @@
-//! A whole trace, judged line by line.
+//! Judges a whole trace from the start of a run, line by line. It must end at the first line that can't come.
 ghost use Rattle.io_edge.specs.WithFiles.{stores};
 ghost use Rattle.std.specs.Prelude.{◌≡◌, ◌+◌, ◌≤◌, ◌<◌, ◌^◌, ℕ, [], length, Some, None, Err, IfOk};
 ghost use Rattle.vm_facts.specs.SwapImages.{SwapImage};

@@ -1,4 +1,5 @@
-//! Any unit.
+//! Judges one unit of any kind, by the crate that knows it. While a step is begun, only its process and ends of
+//! transfers may come.
 ghost use Rattle.io_edge.specs.WithFiles.{stores};
 ghost use Rattle.std.specs.Prelude.{◌≡◌, ◌+◌, ◌≤◌, ◌<◌, ◌^◌, List, Option, None, length, IfOk};
 ghost use Rattle.vm_facts.specs.SwapImages.{SwapImage};

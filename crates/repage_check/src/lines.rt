@@ -1,4 +1,4 @@
-//! A line of a trace, judged unit by unit.
+//! Judges one line of a trace, unit by unit. The journal gets room for one entry before each unit, and no more.
 ghost use Rattle.std.specs.Prelude.{◌≡◌, ◌⊎◌, ℕ, ◌+◌, ◌≤◌, ◌<◌, ◌^◌, ◌∷◌, [], List, length, Option, None, IfOk};
 ghost use Rattle.vm_facts.specs.SwapImages.{SwapImage};
 ghost use Rattle.vm_facts.specs.declared.entry.Entry.TheVariants as entries;
@@ -261,7 +261,7 @@ pub fn judge_line<F: Files, D: SwapDev>(
     ensures blocks { D.blocks swap.new ≡ D.blocks swap.old }
 {
     match line {
-        Line::Entry(e) => judge_entry(alloc, cache, m, files, swap, past, e),
+        Line::RunLine(e) => judge_entry(alloc, cache, m, files, swap, past, e),
         Line::Part(part) => judge_alone(m, *past, *part),
     }
 }

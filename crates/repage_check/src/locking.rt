@@ -1,4 +1,5 @@
-//! The pages that the hands pass over.
+//! The pages that the hands pass over where a run stands. They are found once for all moves of a line; the machine
+//! may not change here.
 ghost use Rattle.std.specs.Prelude.{◌≡◌, ◌≤◌, [], ◌∷◌, length, Some, None, IfOk};
 ghost use Rattle.machine_state.specs.Going.{CanGoOn};
 ghost use Rattle.step_judge.specs.LastMoves.{last_moves};

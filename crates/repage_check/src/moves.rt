@@ -1,4 +1,5 @@
-//! How many moves of the hands neighbouring lines count.
+//! Whether neighbouring lines count more moves of the hands than one entry can. The trace alone is looked at, before
+//! a machine is begun.
 ghost use Rattle.std.specs.Prelude.{◌≡◌, ◌↔◌, ◌≤◌, ◌<◌, ◌+◌, ◌^◌, true};
 ghost use Rattle.repage_check.specs.Moves.{moves_with, moves_by, HaveFewMoves};
 
@@ -23,7 +24,7 @@ fn moves_by(n: u64, line: &Line) -> u64
     ensures value { result ≡ moves_by n line.now }
 {
     match line {
-        Line::Entry(e) => moves_with(n, e),
+        Line::RunLine(e) => moves_with(n, e),
         Line::Part(_) => n,
     }
 }

@@ -1,4 +1,4 @@
-//! Units that move pages.
+//! Judges units by which pages take or leave frames, and ends of transfers. Only an end may call the device.
 ghost use Rattle.io_edge.specs.WithFiles.{stores};
 ghost use Rattle.std.specs.Prelude.{◌≡◌, ◌<◌, None, IfOk, OnOk};
 ghost use Rattle.vm_facts.specs.declared.entry.Entry.TheVariants as entries;

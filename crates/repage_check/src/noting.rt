@@ -1,4 +1,4 @@
-//! Units that go into the journal alone.
+//! Judges units that go into the journal alone: lines, turns, numbers of owners. The tables may not move.
 ghost use Rattle.std.specs.Prelude.{◌≡◌, ◌+◌, ◌<◌, ◌^◌, None, IfOk};
 ghost use Rattle.flat_state.specs.Flat.{Inputs};
 ghost use Rattle.kernel_model.specs.Kernel.{note_step};

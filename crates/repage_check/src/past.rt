@@ -1,4 +1,5 @@
-//! What is known of a paged run beside its machine.
+//! What is known of a paged run beside its machine: lines, last mark, count, begun step. It must be told anew after
+//! each unit.
 ghost use Rattle.std.specs.Prelude.{◌≡◌, ◌+◌, ◌<◌, ◌^◌, not};
 ghost use Rattle.flat_state.specs.Journal.{counted};
 ghost use Rattle.machine_state.specs.Going.{IsRunning};

@@ -1,4 +1,4 @@
-//! Units by which processes go out and come in.
+//! Judges units by which processes go out and come in. Their u pages alone may be moved here.
 ghost use Rattle.std.specs.Prelude.{◌≡◌, ◌≤◌, Some, None, IfOk};
 ghost use Rattle.flat_state.specs.Flat.{FlatState};
 ghost use Rattle.kernel_model.specs.Coupled.{SameTables};

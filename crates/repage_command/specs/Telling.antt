@@ -74,7 +74,7 @@ reason_words transfer reasons.TooMany = codes "more than 1000000 instructions\n"
 
 -- a line of a trace, with its end
 abbrev pub line_text : Line → List ℕ
-line_text (lines.Entry e) = line_of e
+line_text (lines.RunLine e) = line_of e
 line_text (lines.Part x) = part_line x
 
 -- a line, without its end; nothing without one

@@ -1,3 +1,4 @@
+//! `repage`: the trace and its images are read, judged and answered in one line.
 ghost use Rattle.std.specs.Prelude.{◌≡◌, length, map, IfOk};
 ghost use Rattle.io_edge.specs.Calls.{KeepsFiles};
 ghost use Rattle.command_words.specs.Command.{IsFittingRun};

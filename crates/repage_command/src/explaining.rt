@@ -1,4 +1,4 @@
-// Why a trace isn't a run of the paged machine.
+//! The line beside the verdict: why the first bad line of a trace can't come.
 ghost use Rattle.std.specs.Prelude.{◌≡◌, map, option_map, IfOk, IfErr};
 ghost use Rattle.io_edge.specs.Calls.{KeepsFiles};
 ghost use Rattle.command_words.specs.Command.{IsFittingRun};

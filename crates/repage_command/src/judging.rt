@@ -1,4 +1,4 @@
-//! A trace is judged by a machine in memory.
+//! A trace is judged by a machine in memory, over a blank swap. What was found is kept until it is told.
 ghost use Rattle.io_edge.specs.WithFiles.{stores};
 ghost use Rattle.std.specs.Prelude.{◌≡◌, ◌+◌, ◌-◌, ◌<◌, ◌≤◌, ◌^◌, Bool, ℕ, List, length, map, option_map, slice_get, take, Some, Ok, IfOk, IfErr};
 ghost use Rattle.vm_facts.specs.SwapImages.{SwapImage};

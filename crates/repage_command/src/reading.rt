@@ -1,4 +1,5 @@
-//! What is judged: the trace is found, read and judged by its grammar, and the images are read.
+//! What is judged: the trace is found and read by its grammar, then the images are. A bad trace is told before an
+//! absent image.
 ghost use Rattle.std.specs.Prelude.{◌≡◌, ◌+◌, ◌≤◌, ◌<◌, ◌^◌, length, map, IfOk};
 ghost use Rattle.io_edge.specs.Calls.{KeepsFiles};
 ghost use Rattle.run_files.specs.Told.{whole_told};

@@ -1,4 +1,4 @@
-//! The words in which it is told why a line of a trace can't come.
+//! The words for each reason why a line of a trace can't come.
 ghost use Rattle.std.specs.Prelude.{◌≡◌, [], ◌∷◌, ◌++◌, codes, decimal, IfOk, OnOk, option_map};
 ghost use Rattle.run_text.specs.Text.{line_of, page_text, rest_of_line};
 ghost use Rattle.trace_text.specs.Grammar.{part_line};
@@ -237,7 +237,7 @@ fn line_text(alloc: Global, line: &Line) -> Result<Vec<u8>, AllocError>
     ensures { IfOk result (λ text. text.items ≡ line_text line.now) }
 {
     match line {
-        Line::Entry(entry) => match entry_line(alloc, entry) {
+        Line::RunLine(entry) => match entry_line(alloc, entry) {
             Ok(text) => Ok(text),
             Err(_) => Err(AllocError),
         },

@@ -1,4 +1,4 @@
--- How a run is followed, whose pages are listed.
+-- A run that is followed to list its pages: how far that has come.
 use Rattle.std.specs.Prelude.{◌≡◌, ℕ, ◌==◌, Bool, false, List, ◌++◌, Option, Some, None, IsSome}
 use Rattle.flat_state.specs.Flat.{FlatState, Inputs}
 use Rattle.vm_facts.specs.declared.page.Page.{Page}

@@ -1,4 +1,5 @@
-// What the flat machine gives where an entry is none of its run.
+//! What the flat machine gives in place of a transcript's first bad entry. It is asked only once the transcript was
+//! refused.
 ghost use Rattle.std.specs.Prelude.{◌≡◌, ℕ, ◌+◌, ◌-◌, ◌^◌, ◌<◌, ◌++◌, ◌∷◌, [], List, nat_le, length, is_some, Bool, true, Some, None, IfOk, OnOk};
 ghost use Rattle.flat_state.specs.Flat.{Inputs, process_of};
 ghost use Rattle.flat_state.specs.Journal.{counted, instructions_of};

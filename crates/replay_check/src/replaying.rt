@@ -1,3 +1,4 @@
+//! Judges the entries of a transcript by the flat machine, one step after another. Paging entries are passed over.
 ghost use Rattle.std.specs.Prelude.{◌≡◌, ℕ, ◌+◌, ◌^◌, ◌<◌, ◌≤◌, ◌==◌, ◌&&◌, ◌++◌, ◌∷◌, [], List, length, true, Some, IfOk, IfSome, OnOk, MatchOption};
 ghost use Rattle.flat_process.specs.Images.{AreImageFiles, AreNumbers, images_of};
 ghost use Rattle.flat_state.specs.Flat.{Inputs, can_step};

@@ -1,3 +1,4 @@
+//! Follows a run of the flat machine, and lists the pages of each instruction.
 ghost use Rattle.std.specs.Prelude.{◌≡◌, ℕ, ◌^◌, ◌<◌, ◌++◌, List, length, None, IfOk, OnOk};
 ghost use Rattle.vm_facts.specs.declared.page.Page.{Page as PageName};
 ghost use Rattle.vm_facts.specs.declared.entry.Entry.{Entry as Unit};

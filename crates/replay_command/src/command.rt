@@ -1,3 +1,4 @@
+//! `replay`: a transcript and its images are read, judged and answered in one line.
 ghost use Rattle.std.specs.Prelude.{◌≡◌, ◌<◌, ◌^◌, map, length, All, IfOk};
 ghost use Rattle.io_edge.specs.Calls.{KeepsFiles};
 ghost use Rattle.run_files.specs.ImageWords.{name_in};

@@ -1,4 +1,4 @@
-// Why a transcript is none of a run.
+//! The line beside the verdict: the first entry that is none of the run, and what comes instead.
 ghost use Rattle.std.specs.Prelude.{◌≡◌, ◌<◌, ◌^◌, ◌++◌, map, length, All, IfOk, IfErr, OnOk, option_map};
 ghost use Rattle.io_edge.specs.Calls.{KeepsFiles};
 ghost use Rattle.flat_state.specs.Flat.{Inputs};

@@ -1,4 +1,4 @@
-// The images of a replay: found, judged and read, one after another.
+//! Reads the images that words name, whole; the first that can't be read is the fault.
 ghost use Rattle.std.specs.Prelude.{◌≡◌, ◌<◌, ℕ, List, Some, map, length, All, IfOk};
 ghost use Rattle.io_edge.specs.Calls.{KeepsFiles};
 ghost use Rattle.io_edge.specs.FileHolding.{NamedFile};

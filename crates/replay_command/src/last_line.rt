@@ -1,4 +1,4 @@
-// The last line of a transcript, where it is the line of a fault.
+//! Leaves out a transcript's last line where that is the line of a fault.
 ghost use Rattle.std.specs.Prelude.{◌≡◌, ◌≤◌, ℕ, length};
 ghost use Rattle.run_text.specs.Lines.{lines_in};
 ghost use Rattle.replay_command.specs.LastLine.{is_fault_line, without_fault_line, IsLastStart};

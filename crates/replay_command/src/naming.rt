@@ -1,4 +1,4 @@
-// The images that the words of a replay name.
+//! Which images words name, and with which of them the first processes start.
 ghost use Rattle.std.specs.Prelude.{◌≡◌, ◌<◌, ◌≤◌, ◌^◌, map, length, All, IfOk, IfErr};
 ghost use Rattle.run_files.specs.ImageWords.{name_in, image_names, first_images};
 ghost use Rattle.replay_check.specs.Images.{AreNumbers};

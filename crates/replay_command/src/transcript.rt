@@ -1,4 +1,4 @@
-// The transcript of a replay: found, read and judged by its grammar.
+//! Reads a transcript's file, and its entries by the grammar.
 ghost use Rattle.std.specs.Prelude.{◌≡◌, ◌≤◌, ◌<◌, ◌^◌, ℕ, List, length, IfOk};
 ghost use Rattle.io_edge.specs.Calls.{KeepsFiles};
 ghost use Rattle.io_edge.specs.FileHolding.{NamedFile};

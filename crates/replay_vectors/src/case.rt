@@ -1,3 +1,4 @@
+//! One recorded transcript and the verdict on it, or the pages that its instructions touch.
 ghost use Rattle.std.specs.Prelude.{length};
 ghost use Rattle.replay_check.specs.Images.{AreImageFiles, AreNumbers};
 

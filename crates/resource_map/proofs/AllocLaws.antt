@@ -6,7 +6,7 @@ use Rattle.std.proofs.lemmas.Bool.{cases_Bool, leb-true, ltb-false, eqb-true, eq
 use Rattle.std.proofs.lemmas.List.Quantifiers.{position-Some}
 use Rattle.std.proofs.lemmas.List.Sums.{fails_before_first}
 use Rattle.resource_map.specs.declared.Extent.{Extent}
-use Rattle.resource_map.specs.Blocks.{is_free, marked}
+use Rattle.resource_map.specs.Blocks.{is_free_block, marked}
 use Rattle.resource_map.specs.Room.{lowest_room}
 use Rattle.resource_map.specs.Extents.{is_in, covers, free_blocks, InOrder, cut_front}
 use Rattle.resource_map.proofs.RoomLaws.{HasRoom, lowest_room_is, lowest_room_none}
@@ -20,14 +20,14 @@ position-None p xs k d none lt = elim (cases_Bool (nat_lt (position_or_len p xs)
 ]
 
 -- where n blocks have room, they lie in one extent
-pub room_in_one : (size : ℕ) (es : List Extent) (n t : ℕ) → InOrder 0 es size → 0 < n → HasRoom (is_free (free_blocks size es)) size n t → InOne es t n
+pub room_in_one : (size : ℕ) (es : List Extent) (n t : ℕ) → InOrder 0 es size → 0 < n → HasRoom (is_free_block (free_blocks size es)) size n t → InOne es t n
 room_in_one size es n t h some room =
     run_in_one 0 es size t n h some room.one_unit
     (λ b low high. sym (is_free-free_blocks size es b (let w = room.within in omega arith)) ∙ room.free b low high)
 
 -- the extent at a place has room at its start
 pub room_at : (size : ℕ) (es : List Extent) (n at : ℕ) (d : Extent) → InOrder 0 es size → 0 < n → at < length es → n ≤ (get_or es at d).length
-    → HasRoom (is_free (free_blocks size es)) size n (get_or es at d).start
+    → HasRoom (is_free_block (free_blocks size es)) size n (get_or es at d).start
 room_at size es n at d h some lt fits =
     let l = lies_at 0 es size at d h lt in
     let w = l.within in let u = l.one_unit in
@@ -40,19 +40,19 @@ room_at size es n at d h some lt fits =
     }
 
 pub first_fit_is : (size : ℕ) (es : List Extent) (n at : ℕ) (d : Extent) → InOrder 0 es size → 0 < n → position (λ e. nat_le n e.length) es ≡ Some at
-    → lowest_room (is_free (free_blocks size es)) (length (free_blocks size es)) n ≡ Some (get_or es at d).start
+    → lowest_room (is_free_block (free_blocks size es)) (length (free_blocks size es)) n ≡ Some (get_or es at d).start
 first_fit_is size es n at d h some found =
     let p = position-Some (λ e. nat_le n e.length) es at d found in
     let fits = leb-true n (get_or es at d).length p.1 in
-    ap (λ (m : ℕ). lowest_room (is_free (free_blocks size es)) m n) (length-free_blocks size es) ∙
-    lowest_room_is (is_free (free_blocks size es)) size n (get_or es at d).start some (room_at size es n at d h some p.0 fits)
+    ap (λ (m : ℕ). lowest_room (is_free_block (free_blocks size es)) m n) (length-free_blocks size es) ∙
+    lowest_room_is (is_free_block (free_blocks size es)) size n (get_or es at d).start some (room_at size es n at d h some p.0 fits)
     (λ t room. lowest_at 0 es size at n t d h p.0 p.2 (room_in_one size es n t h some room))
 
 pub no_fit : (size : ℕ) (es : List Extent) (n : ℕ) (d : Extent) → InOrder 0 es size → 0 < n → position (λ e. nat_le n e.length) es ≡ None
-    → lowest_room (is_free (free_blocks size es)) (length (free_blocks size es)) n ≡ None
+    → lowest_room (is_free_block (free_blocks size es)) (length (free_blocks size es)) n ≡ None
 no_fit size es n d h some none =
-    ap (λ (m : ℕ). lowest_room (is_free (free_blocks size es)) m n) (length-free_blocks size es) ∙
-    lowest_room_none (is_free (free_blocks size es)) size n
+    ap (λ (m : ℕ). lowest_room (is_free_block (free_blocks size es)) m n) (length-free_blocks size es) ∙
+    lowest_room_none (is_free_block (free_blocks size es)) size n
     (λ t room. all_short es n t d (λ k lt. position-None (λ e. nat_le n e.length) es k d none lt) (room_in_one size es n t h some room))
 
 -- what holds of the extents without one, and of those with a shorter one, holds of the extents with a front cut off

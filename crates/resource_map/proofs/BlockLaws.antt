@@ -4,7 +4,7 @@ use Rattle.std.proofs.lemmas.Bool.{cases_lt}
 use Rattle.std.proofs.lemmas.List.{length-append, length-take-le, length-drop, length-replicate, get_or_append_left, get_or-append_right, get_or-take, get_or-drop, get_or-replicate, ext_get_or}
 use Rattle.std.proofs.lemmas.List.FromFn.{length-map-range_with_len, get_or-map-range_with_len}
 use Rattle.resource_map.specs.declared.Extent.{Extent}
-use Rattle.resource_map.specs.Blocks.{is_free, marked}
+use Rattle.resource_map.specs.Blocks.{is_free_block, marked}
 use Rattle.resource_map.specs.Extents.{covers, free_blocks}
 
 pub length-marked : (free : List Bool) (start n : ℕ) (to : Bool) → start + n ≤ length free → length (marked free start n to) ≡ length free
@@ -14,7 +14,7 @@ length-marked free start n to h =
     omega (arith, length-append (take start free) (replicate n to), length-take-le start free (omega arith), length-replicate n to, length-drop (start + n) free)
 
 pub is_free-marked_in : (free : List Bool) (start n : ℕ) (to : Bool) (b : ℕ) → start + n ≤ length free → start ≤ b → b < start + n
-    → is_free (marked free start n to) b ≡ to
+    → is_free_block (marked free start n to) b ≡ to
 unfolding marked
 is_free-marked_in free start n to b h low high =
     let front = length-take-le start free (omega arith) in
@@ -25,7 +25,7 @@ is_free-marked_in free start n to b h low high =
     get_or-replicate n (b - start) to false (omega arith)
 
 pub is_free-marked_out : (free : List Bool) (start n : ℕ) (to : Bool) (b : ℕ) → start + n ≤ length free → (b < start) ⊎ (start + n ≤ b)
-    → is_free (marked free start n to) b ≡ is_free free b
+    → is_free_block (marked free start n to) b ≡ is_free_block free b
 unfolding marked
 is_free-marked_out free start n to b h (inl below) =
     let front = length-take-le start free (omega arith) in
@@ -46,7 +46,7 @@ pub length-free_blocks : (size : ℕ) (es : List Extent) → length (free_blocks
 unfolding free_blocks
 length-free_blocks size es = length-map-range_with_len (covers es) 0 size
 
-pub is_free-free_blocks : (size : ℕ) (es : List Extent) (b : ℕ) → b < size → is_free (free_blocks size es) b ≡ covers es b
+pub is_free-free_blocks : (size : ℕ) (es : List Extent) (b : ℕ) → b < size → is_free_block (free_blocks size es) b ≡ covers es b
 unfolding free_blocks
 is_free-free_blocks size es b h = get_or-map-range_with_len (covers es) 0 size b b false h (omega arith)
 
@@ -62,12 +62,12 @@ free_blocks_marked size es fs start n to h inside outside =
     ext_get_or false (free_blocks size fs) (marked (free_blocks size es) start n to) (omega arith)
     (λ b lt. is_free-free_blocks size fs b (omega arith) ∙ at b (omega arith) (omega arith))
   where
-    out : (b : ℕ) → b < size → start + n ≤ length (free_blocks size es) → (b < start) ⊎ (start + n ≤ b) → covers fs b ≡ is_free (marked (free_blocks size es) start n to) b
+    out : (b : ℕ) → b < size → start + n ≤ length (free_blocks size es) → (b < start) ⊎ (start + n ≤ b) → covers fs b ≡ is_free_block (marked (free_blocks size es) start n to) b
     out b lt fits side =
         outside b side ∙ sym (is_free-free_blocks size es b lt) ∙
         sym (is_free-marked_out (free_blocks size es) start n to b fits side)
 
-    at : (b : ℕ) → b < size → start + n ≤ length (free_blocks size es) → covers fs b ≡ is_free (marked (free_blocks size es) start n to) b
+    at : (b : ℕ) → b < size → start + n ≤ length (free_blocks size es) → covers fs b ≡ is_free_block (marked (free_blocks size es) start n to) b
     at b lt fits = elim (cases_lt b start) [
       | inl below ↦ out b lt fits (inl below)
       | inr from ↦ elim (cases_lt b (start + n)) [

@@ -8,12 +8,12 @@ pub record Blocks : Type 0 where
   pub spare : ℕ
 
 -- block b is there and free
-abbrev pub is_free : List Bool → ℕ → Bool
-is_free free b = slice_index_or free b false
+abbrev pub is_free_block : List Bool → ℕ → Bool
+is_free_block free b = slice_index_or free b false
 
 -- the lowest start from which n blocks of one unit are free, where there is one
 abbrev pub lowest_start : Blocks → ℕ → Option ℕ
-lowest_start blocks n = lowest_room (is_free blocks.free) (length blocks.free) n
+lowest_start blocks n = lowest_room (is_free_block blocks.free) (length blocks.free) n
 
 -- the n blocks from start on are made free, or taken
 unfoldable pub marked : List Bool → ℕ → ℕ → Bool → List Bool

@@ -1,4 +1,4 @@
--- The fields of a resource map.
+-- The private fields of a resource map: what callers see of them, and when they are sound.
 use Rattle.std.specs.Prelude.{◌+◌, ◌≤◌, vec_len, vec_capacity}
 use Rattle.resource_map.specs.Blocks.{Blocks}
 use Rattle.resource_map.specs.Extents.{InOrder, free_blocks}

@@ -1,4 +1,4 @@
--- The lowest place for a number of blocks.
+-- The lowest place at which so many blocks of one unit are free.
 use Rattle.std.specs.Prelude.{ℕ, zero, suc, ◌+◌, ◌-◌, ◌/◌, Bool, true, false, ◌&&◌, ◌==◌, nat_le, Option, Some, None}
 
 -- the n blocks from start on all pass

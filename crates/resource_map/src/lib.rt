@@ -11,7 +11,7 @@
 
 ghost use Rattle.std.specs.Prelude.{◌≡◌, ℕ, ◌+◌, ◌-◌, ◌/◌, ◌<◌, ◌≤◌, ◌^◌, ◌==◌, nat_le, true, false, length, IfOk, OnErr, position, slice_index_or, vec_len, vec_capacity, All, HoldsAt};
 ghost use Rattle.resource_map.specs.declared.Extent.{Extent as ExtentOf};
-ghost use Rattle.resource_map.specs.Blocks.{is_free, all_free, lowest_start, taken, freed as after_free};
+ghost use Rattle.resource_map.specs.Blocks.{is_free_block, all_free, lowest_start, taken, freed as after_free};
 ghost use Rattle.resource_map.specs.Extents.{InOrder, free_blocks, covers, joins as is_join, given_back, joins_left, joins_right, cut_front, IsSmall};
 
 use std::alloc::Global;
@@ -87,7 +87,7 @@ impl ResourceMap {
         requires at_least_one { 0 < n }
         requires within { start + n ≤ length self.old.free }
         requires one_unit { start / 1024 ≡ (start + n - 1) / 1024 }
-        requires not_free { (b : ℕ) → start ≤ b → b < start + n → is_free self.old.free b ≡ false }
+        requires not_free { (b : ℕ) → start ≤ b → b < start + n → is_free_block self.old.free b ≡ false }
         requires spare { 0 < self.old.spare }
         ensures { self.new ≡ after_free self.old start n }
     {

@@ -15,7 +15,7 @@ use Rattle.load_laws.proofs.Ending.{finished_counts}
 use Rattle.io_edge.specs.FileRequests.{no_notes}
 use Rattle.io_edge.specs.WithFiles.{image_with_files, with_files}
 use Rattle.run_command.specs.Seen.{Seen}
-use Rattle.run_command.specs.Ends.{RunEnding, status_of}
+use Rattle.run_command.specs.Ends.{RunEnding, run_status}
 use Rattle.run_command.specs.Loads.{load_inputs, load_written, LoadEnded, LoadTold}
 
 pub is_load : (number : ℕ) → IsLoad number (load_inputs number)
@@ -29,7 +29,7 @@ finished number journal image after f =
     finished_counts number (load_inputs number) m.holdings journal f.state (is_load number) m.can
     (record { holdings = m.holdings; found = (let can = m.can in can.pieces); units = m.units; follows = m.follows; joined = m.joined }) f.none
 
-ended : (number : ℕ) (seen : Seen) (image : SwapImage) (after : Option SwapImage) (journal : List Entry) (ending : RunEnding) → 0 ≡ status_of ending
+ended : (number : ℕ) (seen : Seen) (image : SwapImage) (after : Option SwapImage) (journal : List Entry) (ending : RunEnding) → 0 ≡ run_status ending
     → LoadEnded number seen journal image after ending
     → Appends seen.written_before (load_written number journal ending) seen.written_after
     → Appends seen.written_before (load_text number (load_counts number)) seen.written_after
@@ -39,7 +39,7 @@ ended number seen image after journal (Err fault) e f w = absurd (status_is_not_
 -- with status 0 the six lines are those of the number's counts
 pub counted_by : (number : ℕ) (seen : Seen) (status : ℕ) (journal : List Entry) (ending : RunEnding)
     → Writes seen.written_before seen.written_after seen.sink_faults_before seen.sink_faults_after (load_written number journal ending)
-    (status_of ending) status
+    (run_status ending) status
     → LoadTold number seen journal ending
     → (image : SwapImage) → seen.swap_before ≡ Some image → status ≡ 0
     → Appends seen.written_before (load_text number (load_counts number)) seen.written_after
@@ -47,7 +47,7 @@ counted_by number seen status journal ending writes told image is zero = go (sub
   where
     writes_with : ℕ → Type 0
     writes_with s =
-        Writes seen.written_before seen.written_after seen.sink_faults_before seen.sink_faults_after (load_written number journal ending) (status_of ending) s
+        Writes seen.written_before seen.written_after seen.sink_faults_before seen.sink_faults_after (load_written number journal ending) (run_status ending) s
 
     go : writes_with 0 → Appends seen.written_before (load_text number (load_counts number)) seen.written_after
     go (All e w same) = ended number seen (image_with_files no_notes image) (with_files no_notes seen.swap_after) journal ending e (told image is) w

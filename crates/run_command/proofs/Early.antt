@@ -7,7 +7,7 @@ use Rattle.command_ending.specs.declared.fault.Fault.TheVariants.{FileFault, Swa
 use Rattle.command_ending.specs.Command.{Writes, All, Prefix}
 use Rattle.run_command.specs.Outside.{is_early, Early}
 use Rattle.run_command.specs.Paired.{image_together, IsRunFault}
-use Rattle.run_command.specs.Ends.{RunEnding, status_of, WritesRun}
+use Rattle.run_command.specs.Ends.{RunEnding, run_status, WritesRun}
 use Rattle.run_command.specs.Loads.{WritesCounts}
 
 -- two devices that are left make the image that they made
@@ -26,7 +26,7 @@ whole_early before after old new text whole status (All same appends faults) ear
 whole_early before after old new text whole status (Prefix eight some rose) early = absurd (let no : is_early 8 ≡ true = ap is_early (sym eight) ∙ early in cc)
 
 -- of the faults by which a run stops, only want of swap at its start has one
-early_no_space : (r : RunEnding) → IfErr r IsRunFault → is_early (status_of r) ≡ true → (pid : ℕ) × (r ≡ Err (NoSpace pid))
+early_no_space : (r : RunEnding) → IfErr r IsRunFault → is_early (run_status r) ≡ true → (pid : ℕ) × (r ≡ Err (NoSpace pid))
 early_no_space (Ok done) kind early = absurd cc
 early_no_space (Err FileFault) kind early = absurd cc
 early_no_space (Err (SwapReadFault device)) kind early = absurd cc
@@ -41,7 +41,7 @@ module _ (before after : Option (List ℕ)) (old new status : ℕ) (r : RunEndin
   pub run_early : (traced : Bool) (es : List Entry) (same : Type 0) → WritesRun traced es r before after old new status
       → ((pid : ℕ) → r ≡ Err (NoSpace pid) → same) → Early status same
   run_early traced es same (inl writes) untouched early =
-      let none = early_no_space r kind (whole_early before after old new _ (status_of r) status writes early) in
+      let none = early_no_space r kind (whole_early before after old new _ (run_status r) status writes early) in
       untouched none.0 none.1
   run_early traced es same (inr (lost, writes)) untouched early = absurd (let no : is_early 9 ≡ true = whole_early before after old new _ 9 status writes early in cc)
 
@@ -49,6 +49,6 @@ module _ (before after : Option (List ℕ)) (old new status : ℕ) (r : RunEndin
   pub load_early : (number : ℕ) (es : List Entry) (same : Type 0) → WritesCounts number es r before after old new status
       → ((pid : ℕ) → r ≡ Err (NoSpace pid) → same) → Early status same
   load_early number es same (inl writes) untouched early =
-      let none = early_no_space r kind (whole_early before after old new _ (status_of r) status writes early) in
+      let none = early_no_space r kind (whole_early before after old new _ (run_status r) status writes early) in
       untouched none.0 none.1
   load_early number es same (inr (lost, writes)) untouched early = absurd (let no : is_early 9 ≡ true = whole_early before after old new _ 9 status writes early in cc)

@@ -18,7 +18,7 @@ use Rattle.run_command.specs.Machines.{journal_entries}
 use Rattle.io_edge.specs.FileRequests.{no_notes}
 use Rattle.io_edge.specs.WithFiles.{image_with_files, with_files}
 use Rattle.run_command.specs.Seen.{Seen}
-use Rattle.run_command.specs.Ends.{RunEnding, status_of}
+use Rattle.run_command.specs.Ends.{RunEnding, run_status}
 use Rattle.run_command.specs.Loads.{load_inputs, load_written, IsLoadCaused, LoadEnded, LoadTold}
 use Rattle.run_command.proofs.Counted.{is_load}
 
@@ -69,7 +69,7 @@ never_full number seen journal image after caused ended =
 
 ending_fits : (number : ℕ) (seen : Seen) (journal : List Entry) (image : SwapImage) (after : Option SwapImage) (ending : RunEnding) → IsLoadCaused seen
     journal ending
-    → LoadEnded number seen journal image after ending → 10 ≡ status_of ending → ⊥
+    → LoadEnded number seen journal image after ending → 10 ≡ run_status ending → ⊥
 ending_fits number seen journal image after (Ok done) caused ended e = absurd cc
 ending_fits number seen journal image after (Err faults.JournalFull) caused ended e = never_full number seen journal image after caused ended
 ending_fits number seen journal image after (Err _) caused ended e = absurd cc
@@ -77,7 +77,7 @@ ending_fits number seen journal image after (Err _) caused ended e = absurd cc
 -- so its status is never 10
 pub load_fits : (number : ℕ) (seen : Seen) (status : ℕ) (journal : List Entry) (ending : RunEnding)
     → Writes seen.written_before seen.written_after seen.sink_faults_before seen.sink_faults_after (load_written number journal ending)
-    (status_of ending) status
+    (run_status ending) status
     → IsLoadCaused seen journal ending
     → LoadTold number seen journal ending
     → (image : SwapImage) → seen.swap_before ≡ Some image → status ≡ 10 → ⊥

@@ -1,4 +1,4 @@
--- The inputs that a run has where the files are told.
+-- Which inputs of a run the words ask for, where the files are told.
 use Rattle.std.specs.Prelude.{◌≡◌, List, Ok}
 use Rattle.io_edge.specs.FileHolding.{NamedFile}
 use Rattle.flat_state.specs.Flat.{Inputs}

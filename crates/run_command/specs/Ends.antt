@@ -1,4 +1,4 @@
--- How a run ends, and what it writes.
+-- How a run ends, status by status, and what it writes at each.
 use Rattle.std.specs.Prelude.{◌≡◌, ◌⊎◌, ◌≤◌, ℕ, Bool, List, [], ◌++◌, length, Option, Some, None, Result, Ok, Err}
 use Rattle.vm_facts.specs.SwapImages.{SwapImage}
 use Rattle.vm_facts.specs.declared.entry.Entry.{Entry}
@@ -33,9 +33,9 @@ abbrev pub RunEnding : Type 0
 RunEnding = Result (Unit {0}) Fault
 
 -- the status of an ending: 0 where the run is finished, or else the fault's
-abbrev pub status_of : RunEnding → ℕ
-status_of (Ok done) = 0
-status_of (Err fault) = fault_status fault
+abbrev pub run_status : RunEnding → ℕ
+run_status (Ok done) = 0
+run_status (Err fault) = fault_status fault
 
 -- the line after the transcript; none where the run is finished
 abbrev pub ending_line : RunEnding → List ℕ
@@ -208,14 +208,14 @@ CanBeLost (Err fault) = NeedsMemory fault
 -- a run is written as it ended; or, where its line could be lost, as one that found no memory
 abbrev pub WritesRun : Bool → List Entry → RunEnding → Option (List ℕ) → Option (List ℕ) → ℕ → ℕ → ℕ → Type 0
 WritesRun traced journal ending before after old_faults new_faults status =
-    Writes before after old_faults new_faults (text_of traced journal ++ ending_line ending) (status_of ending) status
+    Writes before after old_faults new_faults (text_of traced journal ++ ending_line ending) (run_status ending) status
     ⊎ (CanBeLost ending × Writes before after old_faults new_faults (text_of traced journal ++ fault_line NoMemory) (fault_status NoMemory) status)
 
 -- the text of the journal and the line of the ending were written, with its status; or the output failed, and a prefix was
 abbrev pub Writing : Bool → Seen → List Entry → RunEnding → ℕ → Type 0
 Writing traced seen journal ending status =
     Writes seen.written_before seen.written_after seen.sink_faults_before seen.sink_faults_after (text_of traced journal ++ ending_line ending)
-    (status_of ending) status
+    (run_status ending) status
 
 -- What a run is: it has one ending and one journal. What was written is the text of the journal and the line of the ending, and the
 -- status is the ending's; or the output failed, and a prefix of that was written. However it ended, the journal has no more entries than

@@ -1,4 +1,4 @@
--- The headline, of the command `run`.
+-- The headline, for the words of the command `run`.
 use Rattle.std.specs.Prelude.{◌≡◌, ◌⊎◌, ℕ, List, [], ◌++◌, length, Option, Some, Ok, Err}
 use Rattle.vm_facts.specs.SwapImages.{SwapImage}
 use Rattle.vm_facts.specs.declared.entry.Entry.{Entry}
@@ -15,7 +15,7 @@ use Rattle.command_words.specs.Asked.{Request}
 use Rattle.run_opening.specs.Devices.{device_fault}
 use Rattle.run_command.specs.Asking.{AsksFor}
 use Rattle.run_command.specs.Machines.{journal_entries}
-use Rattle.run_command.specs.Ends.{RunEnding, status_of, ending_line}
+use Rattle.run_command.specs.Ends.{RunEnding, run_status, ending_line}
 
 -- the words ask for inputs of which this is so
 pub record OfWords (IsSo : Inputs → Type 0) (request : Request) (files : List NamedFile) : Type 0 where
@@ -56,6 +56,6 @@ pub record CarriesHeadline (request : Request) (files : Option (List NamedFile))
     (written_before written_after : Option (List ℕ)) (faults_before faults_after status : ℕ) : Type 0 where
   pub journal : List Entry
   pub ending : RunEnding
-  pub writes : Writes written_before written_after faults_before faults_after (text_of request.traced journal ++ ending_line ending) (status_of ending) status
+  pub writes : Writes written_before written_after faults_before faults_after (text_of request.traced journal ++ ending_line ending) (run_status ending) status
   pub told : (holds : List NamedFile) (zero_image one_image : SwapImage) → files ≡ Some holds → AreOctetFiles holds → zero ≡ Some zero_image
       → one ≡ Some one_image → Says request holds zero_blocks one_blocks journal ending

@@ -21,7 +21,7 @@ use Rattle.run_opening.specs.Images.{file_numbers}
 use Rattle.run_command.specs.Seen.{Seen}
 use Rattle.run_command.specs.Machines.{journal_entries}
 use Rattle.run_command.specs.Paired.{IsRunFault}
-use Rattle.run_command.specs.Ends.{RunEnding, status_of, Unbegun, NoneFaulted, RunCaused, DevicesSuffice, RunEnded}
+use Rattle.run_command.specs.Ends.{RunEnding, run_status, Unbegun, NoneFaulted, RunCaused, DevicesSuffice, RunEnded}
 
 -- ---- the inputs
 
@@ -74,7 +74,7 @@ CountsBeLost (Err fault) = NeedsMemory fault
 -- the lines of an ending are written; or, where they could be lost, that of one that found no memory
 abbrev pub WritesCounts : ℕ → List Entry → RunEnding → Option (List ℕ) → Option (List ℕ) → ℕ → ℕ → ℕ → Type 0
 WritesCounts number journal ending before after old_faults new_faults status =
-    Writes before after old_faults new_faults (load_written number journal ending) (status_of ending) status
+    Writes before after old_faults new_faults (load_written number journal ending) (run_status ending) status
     ⊎ (CountsBeLost ending × Writes before after old_faults new_faults (fault_line NoMemory) (fault_status NoMemory) status)
 
 -- ---- the ending
@@ -109,7 +109,7 @@ pub record Loads (number : ℕ) (seen : Seen) (status : ℕ) : Type 0 where
   pub ending : RunEnding
   pub journal : List Entry
   pub writes : Writes seen.written_before seen.written_after seen.sink_faults_before seen.sink_faults_after (load_written number journal ending)
-      (status_of ending) status
+      (run_status ending) status
   pub within : length journal ≤ journal_entries
   pub caused : IsLoadCaused seen journal ending
   pub files : NoFaults seen.faults
@@ -128,7 +128,7 @@ pub record LoadRuns (IsOf : Inputs → SwapImage → Type 0) (Starts : Inputs �
   pub ending : RunEnding
   pub journal : List Entry
   pub writes : Writes seen.written_before seen.written_after seen.sink_faults_before seen.sink_faults_after (load_written number journal ending)
-      (status_of ending) status
+      (run_status ending) status
   pub within : length journal ≤ journal_entries
   pub caused : RunCaused seen journal ending
   pub began : IsRunEnding ending

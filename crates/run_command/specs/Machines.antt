@@ -1,4 +1,4 @@
--- The machine of a run that was opened.
+-- The machine that a run begins with, by what was opened.
 use Rattle.std.specs.Prelude.{◌≤◌, ◌<◌, ◌^◌, ℕ, List, [], length, map, Option, None, All}
 use Rattle.vm_facts.specs.SwapImages.{SwapImage}
 use Rattle.vm_facts.specs.declared.params.Params.{Params}

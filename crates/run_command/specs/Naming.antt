@@ -1,4 +1,4 @@
--- Images that were opened, as a machine has them.
+-- An opened image, as a machine has it.
 use Rattle.machine_state.specs.Sourced.{ImageNamed}
 use Rattle.run_opening.specs.declared.images.OpenedImage.{OpenedImage}
 

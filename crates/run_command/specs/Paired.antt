@@ -1,4 +1,4 @@
--- A run over two swap devices.
+-- A run over two swap devices: which of them failed, and the image that both make.
 use Rattle.std.specs.Prelude.{◌≡◌, ℕ, Option, Result, Ok, Err}
 use Rattle.vm_facts.specs.SwapImages.{SwapImage}
 use Rattle.vm_facts.specs.declared.stop.Stop.{Stop}

@@ -1,4 +1,5 @@
-// The command: its files are opened, its run is made, and the text of that is written.
+//! `run`: what the words name is opened, run over two swap devices, and written. `load` and the questions make their
+//! cores here too.
 ghost use Rattle.std.specs.Prelude.{◌≡◌, ◌<◌, ◌≤◌, length, map, IfOk};
 ghost use Rattle.io_edge.specs.FileRequests.{FileNotes};
 ghost use Rattle.io_edge.specs.Striping.{MeetsNeeds};

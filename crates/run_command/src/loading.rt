@@ -1,4 +1,4 @@
-// The command `load`: the workload of a number is made and run, and what the run did is counted.
+//! `load`: the workload of a number is made, run, and its counts written.
 ghost use Rattle.io_edge.specs.FileRequests.{FileNotes};
 ghost use Rattle.std.specs.Prelude.{◌≡◌, ◌<◌, ◌≤◌, ◌^◌, ℕ, List, length, map, Option};
 ghost use Rattle.io_edge.specs.FileHolding.{NamedFile};

@@ -1,4 +1,4 @@
-// The images of a run as its machine has them.
+//! Images that were opened, as a machine has them: with names of their own and numbers for their files.
 ghost use Rattle.std.specs.Prelude.{◌≡◌, length, map, IfOk};
 ghost use Rattle.machine_state.specs.Machine.{image_shown};
 ghost use Rattle.run_command.specs.Naming.{shown_as};

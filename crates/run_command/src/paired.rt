@@ -1,4 +1,4 @@
-// A run over two swap devices.
+//! Runs a schedule over two swap devices as one. A failed transfer is told with the device that failed.
 ghost use Rattle.std.specs.Prelude.{◌≡◌, ◌<◌, ◌≤◌, ◌^◌, ℕ, List, [], length, Some, None, Err, All, IfErr, IsSome};
 ghost use Rattle.vm_facts.specs.SwapImages.{SwapImage};
 ghost use Rattle.io_edge.specs.WithFiles.{with_files};

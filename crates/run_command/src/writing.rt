@@ -1,4 +1,4 @@
-// The text of a run: its transcript, and the line after it.
+//! Writes a run that ended, and its status. Nothing of a run is written before it has ended.
 ghost use Rattle.std.specs.Prelude.{◌++◌};
 ghost use Rattle.run_text.specs.Text.{text_of};
 ghost use Rattle.run_text.specs.Transcript.{HaveNumbers};

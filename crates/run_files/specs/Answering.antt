@@ -1,4 +1,4 @@
--- What an answer says of the files and of their counts of faults.
+-- What an answer about a file says of the files' counts of faults.
 use Rattle.std.specs.Prelude.{◌≡◌, ◌⊎◌, ℕ, Result, Ok, Err, IsTrue, is_ok}
 use Rattle.io_edge.specs.Count.{Rose}
 use Rattle.run_files.specs.declared.answers.Unread.{Unread}

@@ -1,4 +1,4 @@
--- What is asked of files on the way to an answer.
+-- Which requests of files reading a file makes.
 use Rattle.std.specs.Prelude.{◌≡◌, ◌⊎◌, ℕ, Bool, true, false, min, nat_le, List, [], ◌∷◌, ◌++◌, Option, Result, Ok, Err}
 use Rattle.io_edge.specs.FileHolding.{NamedFile, AnswersName}
 use Rattle.io_edge.specs.FileRequests.{FileRequest, FileFind, FileNotes, after_requests}

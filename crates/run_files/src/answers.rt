@@ -1,4 +1,4 @@
-// What the calls answer.
+//! What reading a file or an image comes to, and why it wasn't read.
 ghost use Rattle.std.specs.Prelude.{◌≡◌};
 ghost use Rattle.run_files.specs.declared.answers.Unread.TheVariants.{FileFault, NoMemory};
 

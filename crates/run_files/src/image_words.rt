@@ -1,4 +1,4 @@
-// The images that words name.
+//! The images that words name, each once, and those with which processes start.
 ghost use Rattle.std.specs.Prelude.{◌≡◌, ◌≤◌, ◌^◌, ◌<◌, ℕ, map, length, All, IfOk, IfSome, bytes_eq, position};
 ghost use Rattle.std.specs.List.{list_any};
 ghost use Rattle.run_files.specs.ImageWords.{starts, name_in, image_names, number_of, number_started, first_images};

@@ -1,3 +1,4 @@
+//! Finds images and judges them by their headers; reads the rest where that is wanted.
 ghost use Rattle.std.specs.Prelude.{◌≡◌, ◌≤◌, ℕ, List, Some, Err, true, is_err, IfOk, IfErr, OnOk, min, length, take, drop};
 ghost use Rattle.io_edge.specs.Calls.{KeepsFiles};
 ghost use Rattle.io_edge.specs.FileHolding.{NamedFile, place_of, bytes_at, HasRange, HoldsRange};

@@ -1,3 +1,4 @@
+//! Finds a file and reads it, by one call where it has a byte.
 ghost use Rattle.std.specs.Prelude.{◌≡◌, ◌≤◌, ◌^◌, ◌<◌, ℕ, List, Some, Err, true, is_err, IfOk, IfErr, IfSome, length, option_map};
 ghost use Rattle.io_edge.specs.Calls.{KeepsFiles};
 ghost use Rattle.io_edge.specs.FileHolding.{NamedFile, HasRange, HoldsRange};

@@ -27,7 +27,7 @@ use Rattle.run_model.specs.Wanted.{touched_next, locked, Splits}
 use Rattle.run_model.specs.Snapshot.{touched_of}
 use Rattle.run_model.proofs.Wanting.{wanted_splits}
 use Rattle.run_model.specs.Next.{fill_by, fill_unit, begins_write, move_by, owners_entry}
-use Rattle.run_model.specs.Kinds.{Kind, Fills, Brings, Copies, Serves, Acts, ComesIn, Interrupts, Moves, PutsOut, Notes, Begins}
+use Rattle.run_model.specs.Kinds.{Kind, Fills, Brings, Copies, ServesWanted, Acts, ProcessComes, Interrupts, Moves, PutsOut, Notes, Begins}
 use Rattle.run_laws.specs.Standing.{TextsHeld}
 use Rattle.run_laws.proofs.Allowed.{first_due}
 use Rattle.run_laws.proofs.Units.{Stood, not_due}
@@ -107,14 +107,14 @@ kind_goes A s k image read u x st nums texts (Copies q parent due e none i) n y 
     goes_copy A.swap_blocks k A.images image s.point.flat (locked A s) read q q parent v.0 x.machine (record { there = d.there; frameless = ap frame_of d.unfilled }) d.writable some d.unfilled h
     (ap (λ (p : Placement). state_of p parent) x.same ∙ v.1) in
     subst (Couples A s k image read) (sym i) (filled A s k image read (entries.Copy q) x make)
-kind_goes A s k image read u x st nums texts (Serves pid now q r w i) n y =
+kind_goes A s k image read u x st nums texts (ServesWanted pid now q r w i) n y =
     let j : Splits s.place (touched_next A s) (locked A s) q = wanted_splits A s q r.clear w in
     let all = subst (Rattle.page_model.specs.Conditions.EachPage (Present s.place)) (ap (touched_of A s.point.flat) (sym (on_running A s s.mark pid now r.on)))
     (touched_present A s.point.flat s.place s.holdings pid nums texts st) in
     let here : Present s.place q = each_split (Present s.place) (locked A s) q j.behind (subst (Rattle.page_model.specs.Conditions.EachPage (Present s.place)) j.whole all) in
     served A s k image read u q now x here.there (ap (λ (l : List Due). due_of_page l q) r.clear) i
 kind_goes A s k image read u x st nums texts (Acts pid now r w a) n y = subst (Couples A s k image read) (sym (act_plain A s pid u a n)) (finish A s k image read x)
-kind_goes A s k image read u x st nums texts (ComesIn pid e c i) n y = absurd (subst Stays i y)
+kind_goes A s k image read u x st nums texts (ProcessComes pid e c i) n y = absurd (subst Stays i y)
 kind_goes A s k image read u x st nums texts (Interrupts e m i) n y = subst (Couples A s k image read) (sym i) (finish A s k image read x)
 kind_goes A s k image read u x st nums texts (Moves count e m l w i) n y = subst (Couples A s k image read) (sym i) (move (begins_write s.place (locked A s) && is_full s.place))
   where

@@ -33,7 +33,7 @@ use Rattle.run_model.specs.After.{after, completed}
 use Rattle.run_model.specs.Act.{must_refuse, must_settle, act_by, act_if, act, awaits, IsNext, LastSays}
 use Rattle.run_model.proofs.Acting.{next_says}
 use Rattle.run_model.specs.Next.{when, or_else, goes_on, turn_instructions, work, work_by, turn_by, turn_unit, under, next_mark, next_unit}
-use Rattle.run_model.specs.Kinds.{GoesOn, ProcessRuns, Kind, Fills, Brings, Copies, Serves, Acts, ComesIn, Interrupts, Moves, PutsOut, Notes, Begins}
+use Rattle.run_model.specs.Kinds.{GoesOn, ProcessRuns, Kind, Fills, Brings, Copies, ServesWanted, Acts, ProcessComes, Interrupts, Moves, PutsOut, Notes, Begins}
 use Rattle.run_model.proofs.NextUnits.{kind_of}
 use Rattle.std.proofs.lemmas.Bool.{and_parts}
 use Rattle.std.proofs.lemmas.Option.{same_Some}
@@ -126,9 +126,9 @@ pub next_or : (A : Inputs) (s : State) (u : Entry) → WaitsBy A s s.point.last 
 next_or A s u w (Fills q due e i) = inl (ap process_of_entry i ∙ Rattle.run_laws.proofs.Plain.zero_flat s.place q)
 next_or A s u w (Brings q parent due e i) = inl (serve_plain s.place parent true u i)
 next_or A s u w (Copies q parent due e n i) = inl (ap process_of_entry i ∙ Rattle.run_laws.proofs.Plain.copy_flat s.place q)
-next_or A s u w (Serves pid now q r e i) = inl (serve_plain s.place q now u i)
+next_or A s u w (ServesWanted pid now q r e i) = inl (serve_plain s.place q now u i)
 next_or A s u w (Acts pid now r e i) = inr (record { pid = pid; next = i; awaited = awaited_by A s u pid now r s.point.last w })
-next_or A s u w (ComesIn pid e c i) = inl (ap process_of_entry i)
+next_or A s u w (ProcessComes pid e c i) = inl (ap process_of_entry i)
 next_or A s u w (Interrupts e m i) = inl (ap process_of_entry i)
 next_or A s u w (Moves count e m l k i) = inl (ap process_of_entry i ∙ Rattle.run_laws.proofs.Plain.move_flat s.place (locked A s))
 next_or A s u w (PutsOut pid e m i) =
@@ -553,8 +553,8 @@ flows_on A s u o f h = go (kind_of A s u h)
     go (Fills q due e i) = plain (ap process_of_entry i ∙ Rattle.run_laws.proofs.Plain.zero_flat s.place q)
     go (Brings q parent due e i) = plain (serve_plain s.place parent true u i)
     go (Copies q parent due e m i) = plain (ap process_of_entry i ∙ Rattle.run_laws.proofs.Plain.copy_flat s.place q)
-    go (Serves pid now q r e i) = plain (serve_plain s.place q now u i)
-    go (ComesIn pid e c i) = plain (ap process_of_entry i)
+    go (ServesWanted pid now q r e i) = plain (serve_plain s.place q now u i)
+    go (ProcessComes pid e c i) = plain (ap process_of_entry i)
     go (Interrupts e m i) = plain (ap process_of_entry i)
     go (Moves count e m l k i) = plain (ap process_of_entry i ∙ Rattle.run_laws.proofs.Plain.move_flat s.place (locked A s))
     go (PutsOut pid e m i) =

@@ -33,7 +33,7 @@ use Rattle.run_model.proofs.After.{state_appended}
 use Rattle.run_model.proofs.FlatRuns.{run_held, run_flat}
 use Rattle.run_model.proofs.Acting.{next_run}
 use Rattle.run_model.specs.Next.{fill_by, fill_unit, begins_write, move_by, next_unit}
-use Rattle.run_model.specs.Kinds.{Kind, Fills, Brings, Copies, Serves, Acts, ComesIn, Interrupts, Moves, PutsOut, Notes, Begins}
+use Rattle.run_model.specs.Kinds.{Kind, Fills, Brings, Copies, ServesWanted, Acts, ProcessComes, Interrupts, Moves, PutsOut, Notes, Begins}
 use Rattle.run_model.specs.Lawful.{Follows, Reaches, IsLawful}
 use Rattle.run_model.proofs.NextUnits.{kind_of}
 use Rattle.run_laws.specs.Flowing.{Flows}
@@ -136,8 +136,8 @@ next_is_unit A s u h = go (kind_of A s u h)
     go (Fills q due e i) = subst IsUnit (sym i) (fill_is s.place (entries.Zero q) tt)
     go (Brings q parent due e i) = subst IsUnit (sym (unit_is s.place parent true u i).1) (serve_is s.place parent)
     go (Copies q parent due e j i) = subst IsUnit (sym i) (fill_is s.place (entries.Copy q) tt)
-    go (Serves pid now q x w i) = subst IsUnit (sym (unit_is s.place q now u i).1) (serve_is s.place q)
-    go (ComesIn pid e c i) = subst IsUnit (sym i) tt
+    go (ServesWanted pid now q x w i) = subst IsUnit (sym (unit_is s.place q now u i).1) (serve_is s.place q)
+    go (ProcessComes pid e c i) = subst IsUnit (sym i) tt
     go (Interrupts e j i) = subst IsUnit (sym i) tt
     go (Moves count e j l w i) = subst IsUnit (sym i) (move_is (begins_write s.place (locked A s) && is_full s.place))
     go (PutsOut pid e j i) = subst IsUnit (sym i) (unit_case IsUnit s.place pid (space_of_process (process_of s.point.flat pid)) (λ t ts h. tt) (λ v e h k. tt) (λ e h. tt))

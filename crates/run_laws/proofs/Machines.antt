@@ -27,7 +27,7 @@ use Rattle.flat_state.specs.Change.{apply_writes}
 use Rattle.run_laws.proofs.Written.{Mid}
 use Rattle.run_laws.proofs.MachineUnits.{mid_stands, stands_behind, unit_stands}
 use Rattle.kernel_model.specs.Unit.{proc_of, u_bytes}
-use Rattle.run_laws.specs.Machine.{written_step, taken_step, EndsStep, process_step, ran_step, unit_step, unit_image, unit_swap, IsGiven, StandsAt, Makes, MakesSwap, IsNote, Completes, Next}
+use Rattle.run_laws.specs.Machine.{written_step, taken_step, EndsStep, process_step, ran_step, unit_step, unit_image, unit_swap, IsGiven, StandsAt, Makes, MakesSwap, IsJournalEntry, Completes, Next}
 use Rattle.run_laws.proofs.Execs.{execs_fit}
 use Rattle.run_laws.proofs.Beginning.{are_starting, run_start}
 use Rattle.run_laws.proofs.Wholes.{unit_run}
@@ -124,7 +124,7 @@ pub in_keeps : (A : Inputs) (s : State) (k : Kernel) (image : List ℕ) (pid : �
     → StandsAt A (after A s (entries.SwapIn pid)) (in_step k pid (regs_in (stored_at image (block_in k.holdings (owners.U pid) 0)))) image
 in_keeps A s k image pid x = unit_keeps A s k image [] (entries.SwapIn pid) x tt
 
-pub note_keeps : (A : Inputs) (s : State) (k : Kernel) (image : List ℕ) (u : Entry) → Next A s k image u → IsNote u
+pub note_keeps : (A : Inputs) (s : State) (k : Kernel) (image : List ℕ) (u : Entry) → Next A s k image u → IsJournalEntry u
     → StandsAt A (after A s u) (note_step k u) image
 note_keeps A s k image (entries.Event line) x n = unit_keeps A s k image [] (entries.Event line) x tt
 note_keeps A s k image (entries.Turn pid) x n = unit_keeps A s k image [] (entries.Turn pid) x tt

@@ -13,7 +13,7 @@ use Rattle.page_laws.proofs.Moves.Cases.{forcing_entry, serving_entries}
 use Rattle.run_model.specs.State.{State}
 use Rattle.run_model.specs.Wanted.{locked}
 use Rattle.run_model.specs.Next.{fill_by, fill_unit, begins_write, move_by, move_unit, owners_of, next_unit}
-use Rattle.run_model.specs.Kinds.{Kind, Fills, Brings, Copies, Serves, Acts, ComesIn, Interrupts, Moves, PutsOut, Notes, Begins}
+use Rattle.run_model.specs.Kinds.{Kind, Fills, Brings, Copies, ServesWanted, Acts, ProcessComes, Interrupts, Moves, PutsOut, Notes, Begins}
 use Rattle.run_model.proofs.NextUnits.{kind_of}
 use Rattle.run_laws.proofs.Settling.{IsMark, begins_is}
 use Rattle.run_laws.proofs.Flows.{Acted, Settles, Refuses, Steps, acted, steps_own}
@@ -58,9 +58,9 @@ other_or_noted : (A : Inputs) (s : State) (u : Entry) → Kind A s u → (u ≡ 
 other_or_noted A s u (Fills q due e i) = inr (subst IsOther (sym i) (filled_other s.place (entries.Zero q) tt))
 other_or_noted A s u (Brings q parent due e i) = inr (subst IsOther (sym (unit_is s.place parent true u i).1) (served_other s.place parent))
 other_or_noted A s u (Copies q parent due e j i) = inr (subst IsOther (sym i) (filled_other s.place (entries.Copy q) tt))
-other_or_noted A s u (Serves pid now q r w i) = inr (subst IsOther (sym (unit_is s.place q now u i).1) (served_other s.place q))
+other_or_noted A s u (ServesWanted pid now q r w i) = inr (subst IsOther (sym (unit_is s.place q now u i).1) (served_other s.place q))
 other_or_noted A s u (Acts pid now r w a) = inr (acted_other A s pid u (acted A s pid u a))
-other_or_noted A s u (ComesIn pid e c i) = inr (subst IsOther (sym i) tt)
+other_or_noted A s u (ProcessComes pid e c i) = inr (subst IsOther (sym i) tt)
 other_or_noted A s u (Interrupts e j i) = inr (subst IsOther (sym i) tt)
 other_or_noted A s u (Moves count e j l w i) = inr (subst IsOther (sym i) (moved_other s.place (locked A s)))
 other_or_noted A s u (PutsOut pid e j i) = inr (subst IsOther (sym i) (unit_case IsOther s.place pid (space_of_process (process_of s.point.flat pid)) (λ t ts h. tt) (λ v h y z. tt) (λ h y. tt)))

@@ -28,7 +28,7 @@ use Rattle.run_model.specs.State.{State}
 use Rattle.run_model.specs.Wanted.{locked}
 use Rattle.run_model.specs.After.{after}
 use Rattle.run_model.specs.Next.{fill_unit, move_unit, begins_write, next_mark, next_unit}
-use Rattle.run_model.specs.Kinds.{ProcessRuns, Kind, Fills, Brings, Copies, Serves, Acts, ComesIn, Interrupts, Moves, PutsOut, Notes, Begins}
+use Rattle.run_model.specs.Kinds.{ProcessRuns, Kind, Fills, Brings, Copies, ServesWanted, Acts, ProcessComes, Interrupts, Moves, PutsOut, Notes, Begins}
 use Rattle.run_model.specs.Lawful.{Follows}
 use Rattle.run_model.proofs.NextUnits.{kind_of}
 use Rattle.run_laws.specs.Standing.{Placed, TextsHeld, MarkStands}
@@ -118,9 +118,9 @@ mark_on A s u o n m k = go k
     go (Fills q due e i) = free (subst NoMark (sym i) (paging_no_mark (fill_unit s.place (entries.Zero q)) (zero_paging s.place q))) (due_free s (Start q) due e s.mark m)
     go (Brings q parent due e i) = free (served s.place parent true i) (due_free s (CopyOf q parent) due e s.mark m)
     go (Copies q parent due e j i) = free (subst NoMark (sym i) (paging_no_mark (fill_unit s.place (entries.Copy q)) (copy_paging s.place q))) (due_free s (CopyOf q parent) due e s.mark m)
-    go (Serves pid now q r w i) = free (served s.place q now i) (on_free A s s.mark pid now r.on)
+    go (ServesWanted pid now q r w i) = free (served s.place q now i) (on_free A s s.mark pid now r.on)
     go (Acts pid now r w a) = free (acts pid (acted A s pid u a)) (on_free A s s.mark pid now r.on)
-    go (ComesIn pid e c i) = is (entries.SwapIn pid) i (come_free A s pid s.mark refl c)
+    go (ProcessComes pid e c i) = is (entries.SwapIn pid) i (come_free A s pid s.mark refl c)
     go (Interrupts e j i) = is entries.Done i (done_free A s j)
     go (Moves count e j l w i) =
         subst (λ (x : Entry). MarkStands (after A s x) (after A s x).mark) (sym i) (hands_stand A s count (begins_write s.place (locked A s) && Rattle.page_model.specs.Serve.is_full s.place) o e j)
@@ -168,8 +168,8 @@ core_on A s u images execs r k = go k
     go (Fills q due e i) = plain (ap process_of_entry i ∙ Rattle.run_laws.proofs.Plain.zero_flat s.place q)
     go (Brings q parent due e i) = plain (ap process_of_entry (unit_is s.place parent true u i).1 ∙ Rattle.run_laws.proofs.Plain.serve_flat s.place parent)
     go (Copies q parent due e j i) = plain (ap process_of_entry i ∙ Rattle.run_laws.proofs.Plain.copy_flat s.place q)
-    go (Serves pid now q x w i) = plain (ap process_of_entry (unit_is s.place q now u i).1 ∙ Rattle.run_laws.proofs.Plain.serve_flat s.place q)
-    go (ComesIn pid e c i) = plain (ap process_of_entry i)
+    go (ServesWanted pid now q x w i) = plain (ap process_of_entry (unit_is s.place q now u i).1 ∙ Rattle.run_laws.proofs.Plain.serve_flat s.place q)
+    go (ProcessComes pid e c i) = plain (ap process_of_entry i)
     go (Interrupts e j i) = plain (ap process_of_entry i)
     go (Moves count e j l w i) = plain (ap process_of_entry i ∙ Rattle.run_laws.proofs.Plain.move_flat s.place (locked A s))
     go (PutsOut pid e j i) = plain (ap process_of_entry i ∙ Rattle.run_laws.proofs.Plain.put_flat s.place pid (space_of_process (process_of s.point.flat pid)))

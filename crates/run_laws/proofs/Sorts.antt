@@ -17,7 +17,7 @@ use Rattle.run_model.specs.State.{State}
 use Rattle.run_model.specs.Wanted.{wanted, locked}
 use Rattle.run_model.specs.After.{after}
 use Rattle.run_model.specs.Next.{fill_unit, move_unit, owners_entry}
-use Rattle.run_model.specs.Kinds.{Comes, Kind, Fills, Brings, Copies, Serves, Acts, ComesIn, Interrupts, Moves, PutsOut, Notes, Begins}
+use Rattle.run_model.specs.Kinds.{Comes, Kind, Fills, Brings, Copies, ServesWanted, Acts, ProcessComes, Interrupts, Moves, PutsOut, Notes, Begins}
 use Rattle.run_laws.specs.Standing.{MarkStands}
 use Rattle.run_laws.proofs.Plain.{IsPaging, paging_plain, serve_paging, zero_paging, copy_paging, move_paging}
 use Rattle.run_laws.proofs.Settling.{IsMark, begins_is}
@@ -58,7 +58,7 @@ pub sort_of : (A : Inputs) (s : State) (u : Entry) → MarkStands s s.mark → K
 sort_of A s u m (Fills q due e i) = pages A s u (fill_unit s.place (entries.Zero q)) i (zero_paging s.place q)
 sort_of A s u m (Brings q parent due e i) = pages A s u (serve_entry s.place parent) (unit_is s.place parent true u i).1 (serve_paging s.place parent)
 sort_of A s u m (Copies q parent due e j i) = pages A s u (fill_unit s.place (entries.Copy q)) i (copy_paging s.place q)
-sort_of A s u m (Serves pid now q r w i) = pages A s u (serve_entry s.place q) (unit_is s.place q now u i).1 (serve_paging s.place q)
+sort_of A s u m (ServesWanted pid now q r w i) = pages A s u (serve_entry s.place q) (unit_is s.place q now u i).1 (serve_paging s.place q)
 sort_of A s u m (Acts pid now r w a) = go (acted A s pid u a)
   where
     go : Acted A s pid u → Sort A s u
@@ -68,7 +68,7 @@ sort_of A s u m (Acts pid now r w a) = go (acted A s pid u a)
       | inl ends ↦ Makes (record { pid = pid; now = now; runs = r; ends = ends; unrefused = f; unsettling = g; next = e }) w
       | inr out ↦ subst (Sort A s) (sym out.1) (Says (out_after A s pid pid out.0 (out_of A s.point pid pid out.0 (e ∙ ap (λ (y : Entry). Some y) out.1))) tt)
     ]
-sort_of A s u m (ComesIn pid e c i) = GoesIn pid i (comes_out A s pid m c)
+sort_of A s u m (ProcessComes pid e c i) = GoesIn pid i (comes_out A s pid m c)
 sort_of A s u m (Interrupts e j i) = pages A s u entries.Done i tt
 sort_of A s u m (Moves count e j l w i) = pages A s u (move_unit s.place (locked A s)) i (move_paging s.place (locked A s))
 sort_of A s u m (PutsOut pid e j i) =

@@ -26,7 +26,7 @@ use Rattle.run_model.specs.State.{State}
 use Rattle.run_model.specs.Wanted.{AllValid, locked}
 use Rattle.run_model.specs.After.{snapshot_of}
 use Rattle.run_model.specs.Next.{when, or_else, line_or_turn, turn_of, pid_if, next_ready, next_turned, last_turned, next_mark, next_unit}
-use Rattle.run_model.specs.Kinds.{Kind, Fills, Brings, Copies, Serves, Acts, ComesIn, Interrupts, Moves, PutsOut, Notes, Begins}
+use Rattle.run_model.specs.Kinds.{Kind, Fills, Brings, Copies, ServesWanted, Acts, ProcessComes, Interrupts, Moves, PutsOut, Notes, Begins}
 use Rattle.run_model.proofs.NextUnits.{kind_of}
 use Rattle.run_laws.specs.Standing.{Placed, machine_of}
 use Rattle.run_laws.specs.Running.{IsRun, ReadyToStep}
@@ -54,14 +54,14 @@ mark_begins : (A : Inputs) (s : State) (u : Entry) → IsMark u → Kind A s u �
 mark_begins A s u k (Fills q ds e i) = absurd (mark_pages u k (subst IsPaging (sym i) (zero_paging s.place q)))
 mark_begins A s u k (Brings q parent ds e i) = absurd (mark_pages u k (subst IsPaging (sym (unit_is s.place parent true u i).1) (serve_paging s.place parent)))
 mark_begins A s u k (Copies q parent ds e v i) = absurd (mark_pages u k (subst IsPaging (sym i) (copy_paging s.place q)))
-mark_begins A s u k (Serves pid now q r w i) = absurd (mark_pages u k (subst IsPaging (sym (unit_is s.place q now u i).1) (serve_paging s.place q)))
+mark_begins A s u k (ServesWanted pid now q r w i) = absurd (mark_pages u k (subst IsPaging (sym (unit_is s.place q now u i).1) (serve_paging s.place q)))
 mark_begins A s u k (Acts pid now r w a) = by (acted A s pid u a)
   where
     by : Acted A s pid u → next_mark A s ≡ Some u
     by (Settles i) = absurd (subst IsMark i k)
     by (Refuses i) = absurd (subst IsMark i k)
     by (Steps f g i) = absurd (let z : None ≡ Some pid = sym (mark_own u k) ∙ steps_own A s.point pid u i in cc)
-mark_begins A s u k (ComesIn pid e c i) = absurd (subst IsMark i k)
+mark_begins A s u k (ProcessComes pid e c i) = absurd (subst IsMark i k)
 mark_begins A s u k (Interrupts e m i) = absurd (subst IsMark i k)
 mark_begins A s u k (Moves count e m l w i) = absurd (mark_pages u k (subst IsPaging (sym i) (move_paging s.place (locked A s))))
 mark_begins A s u k (PutsOut pid e m i) = absurd (unit_case (λ (x : Entry). IsMark x → ⊥) s.place pid (space_of_process (process_of s.point.flat pid))

@@ -29,7 +29,7 @@ use Rattle.run_model.specs.After.{place_at, after}
 use Rattle.run_model.specs.Act.{act}
 use Rattle.run_model.proofs.Wanting.{wanted_splits}
 use Rattle.run_model.specs.Next.{fill_unit, move_unit, owners_entry}
-use Rattle.run_model.specs.Kinds.{Kind, Fills, Brings, Copies, Serves, Acts, ComesIn, Interrupts, Moves, PutsOut, Notes, Begins}
+use Rattle.run_model.specs.Kinds.{Kind, Fills, Brings, Copies, ServesWanted, Acts, ProcessComes, Interrupts, Moves, PutsOut, Notes, Begins}
 use Rattle.run_laws.specs.Standing.{IsAllowed, machine_of, Placed, MarkStands, TextsHeld}
 use Rattle.run_laws.proofs.Allowed.{first_due, served_allowed, served_few, start_allowed, copy_allowed, fill_few, put_out_allowed, move_allowed, move_few, done_allowed}
 use Rattle.run_laws.proofs.Paging.{LeaverHolds, entry_placed}
@@ -131,7 +131,7 @@ kind_good A s u st nums texts m (Copies q parent due e k i) n =
     paged A s u (fill_unit s.place (entries.Copy q)) i (copy_paging s.place q) (copy_allowed s.place q parent due e st.dues st.once)
     (fill_few (locked A s) (place_at s (fill_unit s.place (entries.Copy q))) s.place (entries.Copy q) (sixteen A s st)
     (let l = sixteen A s st in let k = entry_count (locked A s) (place_at s (fill_unit s.place (entries.Copy q))) s.place (entries.Copy q) in omega arith))
-kind_good A s u st nums texts m (Serves pid now q r w i) n =
+kind_good A s u st nums texts m (ServesWanted pid now q r w i) n =
     let k : Splits s.place (touched_next A s) (locked A s) q = wanted_splits A s q r.clear w in
     let all = subst (Rattle.page_model.specs.Conditions.EachPage (Present s.place)) (ap (touched_of A s.point.flat) (sym (on_running A s s.mark pid now r.on)))
     (touched_present A s.point.flat s.place s.holdings pid nums texts st) in
@@ -146,7 +146,7 @@ kind_good A s u st nums texts m (Acts pid now r w a) n =
       where
         settling : act A s pid ≡ Some u → 0 < length s.place.transfers
         settling a = Rattle.run_laws.proofs.Settling.settles A s pid (a ∙ ap (λ (x : Entry). Some x) (act_plain A s pid u a n))
-kind_good A s u st nums texts m (ComesIn pid e c i) n =
+kind_good A s u st nums texts m (ProcessComes pid e c i) n =
     subst (Good A s) (sym i) (record { plain = refl; allowed = record { can = tt; shared = tt; begins = tt; leaves = tt; finds = tt }; few = sixteen A s st; leaves = λ n x. absurd x })
 kind_good A s u st nums texts m (Interrupts e k i) n =
     paged A s u entries.Done i tt (done_allowed s.place (let x : (s.place.due ≡ []) × (0 < length s.place.transfers) = subst (MarkStands s) k m in x.1))

@@ -1,4 +1,4 @@
--- Inputs of a run that stand in files.
+-- When inputs of a run are those of files, so that a run may begin.
 use Rattle.std.specs.Prelude.{◌≡◌, ◌⊎◌, ℕ, ◌<◌, ◌≤◌, List, [], ◌∷◌, length, Some, Ok, Err}
 use Rattle.aout_image.specs.Image.{judged_image}
 use Rattle.swap_book.specs.Holdings.{Holdings}

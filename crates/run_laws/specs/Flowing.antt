@@ -1,4 +1,4 @@
--- What is so after `Refused` and `Out`: their process is next.
+-- That after `Refused` and `Out` their own process comes next.
 use Rattle.std.specs.Prelude.{◌≡◌, ℕ, Bool, [], Option, Some, None}
 use Rattle.vm_facts.specs.declared.entry.Entry.{Entry}
 use Rattle.vm_facts.specs.declared.entry.Entry.TheVariants as entries

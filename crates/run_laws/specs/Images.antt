@@ -1,4 +1,4 @@
--- The swap image along a run.
+-- What the swap image has of each page along a run.
 use Rattle.std.specs.Prelude.{◌≡◌, ℕ, List, [], ◌∷◌}
 use Rattle.flat_state.specs.Flat.{Inputs}
 use Rattle.vm_facts.specs.declared.page.Page.{Page}

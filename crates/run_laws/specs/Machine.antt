@@ -175,13 +175,13 @@ MakesSwap A s k image (u ∷ us) t l behind =
 -- Kinds of units.
 
 -- an entry that changes nothing but the journal
-abbrev pub IsNote : Entry → Type 0
-IsNote (entries.Event line) = Unit {0}
-IsNote (entries.Turn pid) = Unit {0}
-IsNote (entries.Out pid bytes) = Unit {0}
-IsNote (entries.Refused pid) = Unit {0}
-IsNote (entries.Owners free used moving held) = Unit {0}
-IsNote _ = ⊥
+abbrev pub IsJournalEntry : Entry → Type 0
+IsJournalEntry (entries.Event line) = Unit {0}
+IsJournalEntry (entries.Turn pid) = Unit {0}
+IsJournalEntry (entries.Out pid bytes) = Unit {0}
+IsJournalEntry (entries.Refused pid) = Unit {0}
+IsJournalEntry (entries.Owners free used moving held) = Unit {0}
+IsJournalEntry _ = ⊥
 
 -- an entry that completes a process's step with a change
 abbrev pub Completes : ℕ → Entry → Type 0

@@ -1,4 +1,4 @@
--- What stands after each unit of a run.
+-- The invariant of a run's states, as laws and contracts cite it.
 use Rattle.std.specs.Prelude.{◌≡◌, ℕ, ◌<◌, ◌≤◌, true, false, List, [], ◌∷◌, length, Option, Some, Ok}
 use Rattle.swap_book.specs.Holdings.{Holdings}
 use Rattle.flat_state.specs.Flat.{NamedImage, Inputs, image_numbered, can_step}

@@ -1,4 +1,4 @@
--- How large spaces are, and how many processes there are.
+-- Bounds that stay so along a run: pages of spaces, and processes.
 use Rattle.std.specs.Prelude.{◌≡◌, ℕ, ◌*◌, ◌<◌, ◌≤◌, length, Some}
 use Rattle.flat_state.specs.Space.{Space}
 use Rattle.flat_state.specs.Flat.{Holding, Holds, Lends, Zombie, FlatState, NamedImage, Inputs, image_numbered}

@@ -1,3 +1,4 @@
+//! The law that a run's units are the kernel's units. There is no code here.
 ghost use Rattle.run_laws.specs.Agreeing.{KernelUnitsMakeMachine, KernelUnitsMakeImage};
 
 /// What a next unit of a run makes of a machine that stands at the state is what the kernel's units of it make of that

@@ -1,3 +1,4 @@
+//! Laws of a run's states: what stands after each unit, and how a run ends. There is no code here.
 ghost use Rattle.std.specs.Prelude.{◌≡◌, ◌⊎◌, ℕ, ◌≤◌, Bool, List, length, Some, None};
 ghost use Rattle.vm_facts.specs.declared.entry.Entry.{Entry};
 ghost use Rattle.swap_book.specs.Holdings.{Holdings};

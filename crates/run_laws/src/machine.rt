@@ -1,3 +1,4 @@
+//! Laws of a machine with its bytes along a run, from its start. There is no code here.
 ghost use Rattle.std.specs.Prelude.{◌≡◌, ℕ, ◌+◌, ◌^◌, ◌<◌, Bool, true, List, length, map, Some};
 ghost use Rattle.vm_facts.specs.declared.page.Page.{Page};
 ghost use Rattle.vm_facts.specs.declared.entry.Entry.{Entry};
@@ -20,7 +21,7 @@ ghost use Rattle.run_model.specs.State.{State, start};
 ghost use Rattle.run_model.specs.Wanted.{locked};
 ghost use Rattle.run_model.specs.After.{after};
 ghost use Rattle.run_laws.specs.Running.{IsRun, CanRun};
-ghost use Rattle.run_laws.specs.Machine.{process_step, ran_step, unit_step, unit_image, IsGiven, StandsAt, Makes, IsNote, Completes, Next};
+ghost use Rattle.run_laws.specs.Machine.{process_step, ran_step, unit_step, unit_image, IsGiven, StandsAt, Makes, IsJournalEntry, Completes, Next};
 ghost use Rattle.run_laws.specs.Images.{AllFlat, HasSwapped};
 ghost use Rattle.run_model.specs.Swapped.{image_behind, swapped_from};
 ghost use Rattle.run_laws.specs.Bytes.{StartStands, UnitStands, DoneStands, LeavingFillsUPage, ComingReadsUPage, WrittenIsCoupled, TakenIsCoupled};
@@ -62,7 +63,7 @@ pub fn machine_units()
     ensures done { DoneStands }
     ensures out { LeavingFillsUPage }
     ensures comes { ComingReadsUPage }
-    ensures note { (A : Inputs) (s : State) (k : Kernel) (image : List ℕ) (u : Entry) → Next A s k image u → IsNote u
+    ensures note { (A : Inputs) (s : State) (k : Kernel) (image : List ℕ) (u : Entry) → Next A s k image u → IsJournalEntry u
         → StandsAt A (after A s u) (note_step k u) image }
     ensures ran { (A : Inputs) (s : State) (k : Kernel) (image : List ℕ) (pid n : ℕ) → Next A s k image (entries.Ran pid n)
         → StandsAt A (after A s (entries.Ran pid n)) (ran_step A s k pid n) image }

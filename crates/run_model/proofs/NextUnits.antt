@@ -15,7 +15,7 @@ use Rattle.run_model.specs.declared.mark.Mark.TheVariants as marks
 use Rattle.run_model.specs.State.{State}
 use Rattle.run_model.specs.Wanted.{wanted, locked}
 use Rattle.run_model.specs.Next.{when, or_else, fill_unit, copy_unit_by, due_unit, goes_on, work_by, work, turn_by, turn_unit, turn_instructions, move_unit, owners_entry, under, next_mark, next_unit}
-use Rattle.run_model.specs.Kinds.{GoesOn, ProcessRuns, Comes, Kind, Fills, Brings, Copies, Serves, Acts, ComesIn, Interrupts, Moves, PutsOut, Notes, Begins}
+use Rattle.run_model.specs.Kinds.{GoesOn, ProcessRuns, Comes, Kind, Fills, Brings, Copies, ServesWanted, Acts, ProcessComes, Interrupts, Moves, PutsOut, Notes, Begins}
 
 some_entry : (x y : Entry) → Some x ≡ Some y → y ≡ x
 some_entry x y e = cc
@@ -23,7 +23,7 @@ some_entry x y e = cc
 works : (A : Inputs) (s : State) (u : Entry) (pid : ℕ) (now : Bool) → ProcessRuns A s pid now → (o : Option Page) → wanted A s ≡ o
     → work_by A s pid now o ≡ Some u → Kind A s u
 works A s u pid now r None e h = Acts pid now r e h
-works A s u pid now r (Some q) e h = Serves pid now q r e h
+works A s u pid now r (Some q) e h = ServesWanted pid now q r e h
 
 -- what is still to come of a mark
 of_mark : (A : Inputs) (s : State) (u : Entry) → s.place.due ≡ [] → (m : Mark) → s.mark ≡ m → under A s m ≡ Some u → Kind A s u
@@ -44,13 +44,13 @@ of_mark A s u clear (marks.Hands count) e h = go (nat_lt 0 count && wants_moves 
         let b = and_parts (nat_lt 0 count) (wants_moves s.place) k in
         Moves count clear e (ltb-true 0 count b.0) b.1 (some_entry (move_unit s.place (locked A s)) u h)
     go false k h = absurd cc
-of_mark A s u clear (marks.BringIn pid) e h = ComesIn pid clear (subst (λ (x : Mark). Comes A s x pid) (sym e) refl) (some_entry (entries.SwapIn pid) u h)
+of_mark A s u clear (marks.BringIn pid) e h = ProcessComes pid clear (subst (λ (x : Mark). Comes A s x pid) (sym e) refl) (some_entry (entries.SwapIn pid) u h)
 of_mark A s u clear (marks.PutOut pid) e h = PutsOut pid clear e (some_entry (put_out_unit s.place pid (space_of_process (process_of s.point.flat pid))) u h)
 of_mark A s u clear marks.Audit e h = Notes clear e (some_entry (owners_entry s) u h)
 of_mark A s u clear (marks.Turn pid since) e h = go (goes_on A s pid (since + turn_instructions)) refl h
   where
     out : (b : Bool) → goes_on A s pid (since + turn_instructions) ≡ true → is_out s.place pid ≡ b → turn_by A s pid b ≡ Some u → Kind A s u
-    out true k o h = ComesIn pid clear (subst (λ (x : Mark). Comes A s x pid) (sym e) (refl, k, o)) (some_entry (entries.SwapIn pid) u h)
+    out true k o h = ProcessComes pid clear (subst (λ (x : Mark). Comes A s x pid) (sym e) (refl, k, o)) (some_entry (entries.SwapIn pid) u h)
     out false k o h =
         let r : ProcessRuns A s pid true = record { clear = clear; on = subst (λ (x : Mark). GoesOn A s x pid true) (sym e) (refl, k); resident = o } in
         works A s u pid true r (wanted A s) refl h

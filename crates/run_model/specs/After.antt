@@ -1,4 +1,4 @@
--- What each unit does to the state of a run.
+-- What each unit does to the state of a run, with its mark.
 use Rattle.std.specs.Prelude.{◌≡◌, ℕ, ◌+◌, ◌-◌, List, [], ◌∷◌, slice_get, length, Option, Some, None}
 use Rattle.flat_state.specs.Flat.{Inputs}
 use Rattle.vm_facts.specs.declared.event.Event.{Event}

@@ -1,4 +1,4 @@
--- What the next unit may be.
+-- The few kinds of which the next unit may be, so that proofs can go by cases.
 use Rattle.std.specs.Prelude.{◌≡◌, ℕ, ◌+◌, ◌<◌, Bool, true, false, List, [], ◌∷◌, Some, None}
 use Rattle.vm_facts.specs.declared.page.Page.{Page}
 use Rattle.vm_facts.specs.declared.entry.Entry.{Entry}
@@ -44,10 +44,10 @@ pub data Kind (A : Inputs) (s : State) (u : Entry) : Type 0 where
   Copies : (q parent : Page) (due : List Due) → s.place.due ≡ CopyOf q parent ∷ due → serve_unit s.place parent true ≡ None
       → u ≡ fill_unit s.place (entries.Copy q) → Kind A s u
   -- the page that a process wants is served
-  Serves : (pid : ℕ) (now : Bool) (q : Page) → ProcessRuns A s pid now → wanted A s ≡ Some q → serve_unit s.place q now ≡ Some u → Kind A s u
+  ServesWanted : (pid : ℕ) (now : Bool) (q : Page) → ProcessRuns A s pid now → wanted A s ≡ Some q → serve_unit s.place q now ≡ Some u → Kind A s u
   -- a process all of whose touched pages are valid acts
   Acts : (pid : ℕ) (now : Bool) → ProcessRuns A s pid now → wanted A s ≡ None → act A s pid ≡ Some u → Kind A s u
-  ComesIn : (pid : ℕ) → s.place.due ≡ [] → Comes A s s.mark pid → u ≡ entries.SwapIn pid → Kind A s u
+  ProcessComes : (pid : ℕ) → s.place.due ≡ [] → Comes A s s.mark pid → u ≡ entries.SwapIn pid → Kind A s u
   Interrupts : s.place.due ≡ [] → s.mark ≡ marks.Interrupt → u ≡ entries.Done → Kind A s u
   Moves : (count : ℕ) → s.place.due ≡ [] → s.mark ≡ marks.Hands count → 0 < count → wants_moves s.place ≡ true → u ≡ move_unit s.place (locked A s) → Kind A s u
   PutsOut : (pid : ℕ) → s.place.due ≡ [] → s.mark ≡ marks.PutOut pid

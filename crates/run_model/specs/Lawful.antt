@@ -1,4 +1,4 @@
--- Lawful and finished journals.
+-- When a journal is lawful, and when it is finished: next units make it, to a state or to the end.
 use Rattle.std.specs.Prelude.{◌≡◌, List, [], ◌∷◌, Some, None, Ok}
 use Rattle.vm_facts.specs.declared.entry.Entry.{Entry}
 use Rattle.swap_book.specs.Holdings.{Holdings}

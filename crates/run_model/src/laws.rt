@@ -1,3 +1,4 @@
+//! Laws of the written policy: it has one next unit, of few kinds. There is no code here.
 ghost use Rattle.std.specs.Prelude.{◌≡◌, ℕ, List, [], ◌∷◌, ◌++◌, length, Some};
 ghost use Rattle.vm_facts.specs.SwapImages.{StoreRequest, These};
 ghost use Rattle.vm_facts.specs.declared.entry.Entry.{Entry};

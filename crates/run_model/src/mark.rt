@@ -1,3 +1,4 @@
+//! The last mark of a run, by what is still to come of it. The policy's next unit depends on it.
 /// The last mark of a run, the beginning of a schedule's line or of a turn of the closing phase, by what is still
 /// to come of it (this project's profile).
 #[derive(Clone, Copy, Debug, PartialEq, Eq, Drop)]

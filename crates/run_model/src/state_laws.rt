@@ -1,3 +1,4 @@
+//! Laws of the state of a run by itself: its counts, its journal, its flat point. There is no code here.
 ghost use Rattle.std.specs.Prelude.{◌≡◌, ◌⊎◌, ℕ, ◌+◌, false, List, [], ◌∷◌, Some, None, Ok};
 ghost use Rattle.flat_state.specs.Flat.{FlatState, Inputs, can_step};
 ghost use Rattle.vm_facts.specs.declared.page.Page.{Page};

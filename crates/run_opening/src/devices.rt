@@ -1,4 +1,4 @@
-// The sizes of the two swap devices.
+//! Whether two devices are long enough for a swap of so many blocks. Device 0 is judged first.
 ghost use Rattle.std.specs.Prelude.{◌≡◌, ◌≤◌};
 ghost use Rattle.io_edge.specs.Striping.{most_blocks, zero_needs, one_needs};
 ghost use Rattle.run_opening.specs.Devices.{device_fault};

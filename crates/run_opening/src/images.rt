@@ -1,4 +1,4 @@
-// The images of a run: found, and judged by their headers, one after another.
+//! Opens the images of a run in their order, up to the first fault.
 ghost use Rattle.std.specs.Prelude.{◌≡◌, List, Some, Err, true, is_err, All, IfOk, IfErr, map};
 ghost use Rattle.io_edge.specs.Calls.{KeepsFiles};
 ghost use Rattle.io_edge.specs.FileHolding.{NamedFile, HasRange};

@@ -1,3 +1,4 @@
+//! Opens what a run's words name: schedule, images, devices. The first fault in this order decides.
 ghost use Rattle.std.specs.Prelude.{◌≡◌, ◌≤◌, ◌<◌, ℕ, List, Some, Ok, All, IfOk, length, map};
 ghost use Rattle.io_edge.specs.Calls.{KeepsFiles};
 ghost use Rattle.io_edge.specs.FileHolding.{NamedFile, HasRange};

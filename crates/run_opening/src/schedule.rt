@@ -1,4 +1,4 @@
-// The schedule of a run: found, read and judged by its grammar.
+//! Opens the schedule, and reads its events. Of a file that is too long only a front is read.
 ghost use Rattle.std.specs.Prelude.{◌≡◌, ◌≤◌, ℕ, List, Err, true, is_err, All, IfOk, length};
 ghost use Rattle.io_edge.specs.Calls.{KeepsFiles};
 ghost use Rattle.io_edge.specs.FileHolding.{NamedFile};

@@ -1,4 +1,4 @@
--- Whether a frame's page is valid, by what the core map has for the frame.
+-- Whether a frame's page is valid, as the core map shows it.
 use Rattle.std.specs.Prelude.{ℕ}
 use Rattle.core_map.specs.declared.slot.Whose.{Whose}
 use Rattle.core_map.specs.declared.slot.Whose.TheVariants as whose

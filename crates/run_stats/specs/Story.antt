@@ -1,4 +1,4 @@
--- A run told entry by entry.
+-- A run told entry by entry, each with what was noted of it.
 use Rattle.std.specs.Prelude.{◌≡◌, List, [], ◌∷◌, ◌++◌}
 use Rattle.vm_facts.specs.declared.entry.Entry.{Entry}
 use Rattle.flat_state.specs.Flat.{Inputs}

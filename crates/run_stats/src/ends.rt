@@ -1,4 +1,4 @@
-// How often each process ended, in one walk of a journal.
+//! How often each process ended, and with which status, in one walk of a journal.
 ghost use Rattle.std.specs.Prelude.{◌≡◌, ◌<◌, ◌^◌, ℕ, ◌==◌, if◌then◌else◌, length, IfOk, OnOk};
 ghost use Rattle.run_stats.specs.Ends.{once_more, ending_after, ending_at, IsEnding};
 

@@ -1,4 +1,4 @@
-// How a finished run came to its end.
+//! How a finished run came to its end, as the last row of the table.
 ghost use Rattle.std.specs.Prelude.{◌≡◌, ◌++◌, OnOk};
 ghost use Rattle.run_stats.specs.Finishing.{finish_words, finish_row};
 

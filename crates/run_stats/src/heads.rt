@@ -1,4 +1,4 @@
-// The heads of the table, and what an entry adds under each.
+//! What is counted of paging and of the whole run, and what one noted entry adds to each.
 ghost use Rattle.std.specs.Prelude.{◌≡◌};
 ghost use Rattle.run_stats.specs.Amounts.{filled_with_zeros, copied_from_parent, reclaimed, file_read, file_pages, swap_read, swap_pages, hand_moves, made_invalid, freed_clean, hand_writes, reclaimed_between, file_transfer, swap_transfer_in, swap_transfer_out, swap_requests, paging_amount, run_amount};
 

@@ -1,4 +1,4 @@
-// Laws of what is noted of a run.
+//! Laws that the counts agree with the journal and with the owners at its end. There is no code here.
 ghost use Rattle.std.specs.Prelude.{List};
 ghost use Rattle.flat_state.specs.Flat.{Inputs};
 ghost use Rattle.run_model.specs.State.{State};

@@ -1,4 +1,4 @@
-// What is looked at of a run.
+//! What is looked at between two entries. The machine may not be changed by it.
 ghost use Rattle.vm_facts.specs.declared.page.Page.{Page};
 ghost use Rattle.std.specs.Prelude.{◌≡◌, ◌-◌, Some, length, map, slice_get};
 ghost use Rattle.page_model.specs.Placement.{Reads, Writes};

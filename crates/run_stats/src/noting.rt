@@ -1,4 +1,4 @@
-// What is noted of an entry.
+//! What is noted of an entry: its kind, and the looks before and after it.
 ghost use Rattle.std.specs.Prelude.{◌≡◌};
 ghost use Rattle.run_stats.specs.Notes.{what_of, note_by};
 

@@ -1,4 +1,4 @@
-// The rows of the table.
+//! The rows of the table, and the words at each count.
 ghost use Rattle.std.specs.Prelude.{◌≡◌, ◌++◌, OnOk};
 ghost use Rattle.run_stats.specs.Rows.{plain_row, row, ended_row, process_words, process_heads, paging_words, paging_heads, run_words, run_heads};
 

@@ -1,4 +1,4 @@
-// Sums and extremes over what is noted of a run, kept in tables by number as the notes come.
+//! Sums and extremes over what is noted of a run, kept in tables by number as the notes come.
 ghost use Rattle.std.specs.Prelude.{◌≡◌, ◌+◌, ◌≤◌, ◌<◌, ◌^◌, ℕ, [], if◌then◌else◌, IfOk, OnOk};
 ghost use Rattle.process_counts.specs.declared.amounts.Owner.{Owner as AnyOwner};
 ghost use Rattle.run_stats.specs.declared.heads.PagingHead.{PagingHead as AnyPagingHead};

@@ -1,4 +1,4 @@
-// The table.
+//! The whole table as text: processes, spaces, images, the run.
 ghost use Rattle.std.specs.Prelude.{◌≡◌, ℕ, ◌++◌, IfOk, OnOk};
 ghost use Rattle.std.specs.List.{flat_map};
 ghost use Rattle.process_counts.specs.Tables.{deed_of};

@@ -1,4 +1,4 @@
-// The frames whose page is valid.
+//! How many frames hold a valid page, counted over the core map.
 ghost use Rattle.std.specs.Prelude.{◌≡◌, ◌≤◌};
 ghost use Rattle.page_model.specs.Placement.{IsFrame, state_of};
 ghost use Rattle.machine_state.specs.Going.{IsRunning};

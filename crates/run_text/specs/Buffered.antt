@@ -1,4 +1,4 @@
--- What a sink was given through a buffer.
+-- What a sink was given where bytes wait in a buffer before it.
 use Rattle.std.specs.Prelude.{◌≡◌, ℕ, List, [], ◌++◌, Option, Result, Ok, Err}
 use Rattle.io_edge.specs.Written.{Appends, AppendsSome}
 

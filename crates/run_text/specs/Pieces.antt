@@ -1,4 +1,4 @@
--- Parts of a line.
+-- Cutting a text: where a line ends, and what stands at a space.
 use Rattle.std.specs.Prelude.{◌≡◌, ◌≢◌, ℕ, ◌==◌, suc, if◌then◌else◌, List, [], ◌∷◌, ⊤}
 
 -- how long the first line is, with its end

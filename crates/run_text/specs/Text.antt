@@ -1,4 +1,4 @@
--- The text of a journal: a line for each entry.
+-- The text of a journal: a line for each entry, with the paging entries or without.
 use Rattle.std.specs.Prelude.{ℕ, ◌+◌, ◌/◌, ◌%◌, ◌==◌, Bool, true, false, if◌then◌else◌, nat_lt, List, [], ◌∷◌, ◌++◌, codes, decimal}
 use Rattle.std.specs.List.{flat_map}
 use Rattle.vm_facts.specs.declared.page.Page.{Page}

@@ -1,4 +1,4 @@
--- What is written through a writer: a sink with a buffer above it.
+-- What putting a text through a buffered writer comes to: it passed, or the sink failed.
 use Rattle.std.specs.Prelude.{◌≡◌, ℕ, List, [], Result, OnOk, OnErr}
 use Rattle.std.specs.Borrow.{MutBor}
 use Rattle.io_edge.specs.Transfer.{CountsErr}

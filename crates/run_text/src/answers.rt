@@ -1,5 +1,4 @@
-// What the readers answer.
-
+//! What a schedule and a transcript read as: their lines, or the first bad one.
 use vm_facts::{Entry, Event};
 
 /// What a schedule reads as.

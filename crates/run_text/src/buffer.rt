@@ -1,4 +1,4 @@
-// A buffer above a sink.
+//! Bytes that wait to be written, kept with no memory taken. After a failed write nothing waits any more.
 ghost use Rattle.std.specs.Prelude.{◌≡◌, ℕ, ◌+◌, ◌≤◌, List, [], ◌++◌, length, take, OnOk, OnErr};
 ghost use Rattle.io_edge.specs.Transfer.{CountsErr};
 ghost use Rattle.io_edge.specs.Written.{Appends, AppendsSome};

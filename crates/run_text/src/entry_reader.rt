@@ -1,4 +1,4 @@
-// The entry of a line.
+//! Reads the line of one entry: a letter, numbers, pages, bytes.
 ghost use Rattle.std.specs.Prelude.{◌≡◌, ℕ, ◌+◌, ◌==◌, ◌^◌, ◌<◌, ◌≤◌, List, [], ◌∷◌, ◌++◌, length, MatchOption, IfOk, IfSome, Some, None, codes};
 ghost use Rattle.vm_facts.specs.declared.entry.Entry.{Entry};
 ghost use Rattle.run_text.specs.Text.{hex_text, part, parts};

@@ -1,4 +1,4 @@
-// Bytes as pairs of hexadecimal digits, read.
+//! Reads bytes that are written as pairs of hexadecimal digits.
 ghost use Rattle.std.specs.Prelude.{◌≡◌, ◌≢◌, ℕ, ◌+◌, ◌*◌, ◌^◌, ◌<◌, ◌≤◌, List, [], ◌∷◌, ◌++◌, length, MatchOption, IfOk};
 ghost use Rattle.run_text.specs.Text.{hex_digit, hex_pair, hex_text};
 ghost use Rattle.run_text.specs.Transcript.{AllBelow};

@@ -1,4 +1,4 @@
-// The limits of a schedule (this project's profile).
+//! The most lines, processes, instructions and moves that a schedule may name. A law holds them to the documents.
 ghost use Rattle.run_text.specs.Documented.{DocumentedLimits};
 
 /// The most lines of a schedule.

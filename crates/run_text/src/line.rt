@@ -1,5 +1,4 @@
-// The lines of entries.
-
+//! Writes the line of one entry. entry_reader.rt must read what is written here.
 ghost use Rattle.std.specs.Prelude.{◌≡◌, ℕ, ◌/◌, ◌%◌, ◌<◌, List, [], ◌∷◌, ◌++◌, codes, decimal};
 ghost use Rattle.run_text.specs.Text.{part, parts, rest_of_line, page_text, hex_digit, hex_pair, hex_text, bit_of, line_of};
 ghost use Rattle.run_text.specs.Writing.{PutsText};

@@ -1,4 +1,4 @@
-// The numbers of an entry's line.
+//! A few numbers of a line, read each after a space.
 ghost use Rattle.std.specs.Prelude.{◌≡◌, ℕ, ◌+◌, ◌^◌, ◌==◌, ◌<◌, ◌≤◌, List, [], ◌∷◌, ◌++◌, length, take, MatchOption};
 ghost use Rattle.run_text.specs.Text.{part, parts};
 ghost use Rattle.run_text.specs.Pieces.{AtSpace};

@@ -1,4 +1,4 @@
-// Parts of a line.
+//! Cuts texts: at a line's end, at a space, behind digits. It knows no kind of line.
 ghost use Rattle.std.specs.Prelude.{◌≡◌, ◌≢◌, ℕ, ◌^◌, ◌<◌, ◌≤◌, ◌==◌, List, [], ◌∷◌, ◌++◌, length, take, drop, MatchOption, MatchBool, slice_index, codes, decimal};
 ghost use Rattle.std.specs.Str.Parse.{IsNumeral, digits_value};
 ghost use Rattle.run_text.specs.Pieces.{line_len, HasNo, AtSpace};

@@ -1,4 +1,4 @@
-// What contracts see of a journal's numbers: each has 32 bits, and what a process wrote are bytes.
+//! Whether a journal's numbers fit their ranges, so that its text can be read back.
 ghost use Rattle.std.specs.Prelude.{◌++◌};
 ghost use Rattle.vm_facts.specs.declared.entry.Entry.TheVariants.{Out};
 ghost use Rattle.run_text.specs.Transcript.{page_numbers, AllBelow, HasNumbers, HaveNumbers};

@@ -1,4 +1,4 @@
-// The reader of schedules.
+//! Reads a schedule, exactly by its grammar.
 ghost use Rattle.std.specs.Prelude.{◌≡◌, ℕ, ◌^◌, ◌≤◌, ◌<◌, List, ◌++◌, MatchOption, IfOk, codes, length};
 ghost use Rattle.vm_facts.specs.declared.event.Event.{Event};
 ghost use Rattle.run_text.specs.Schedule.{Writes, IsEvent, IsEventLine, IsReadSchedule, AreInRanges};

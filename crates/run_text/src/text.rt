@@ -1,4 +1,5 @@
-// The text of a journal.
+//! Writes the text of a journal, with its paging entries or without. Without them neighbouring counts of one process
+//! become one line.
 #![tactic(auto, using(crate::proofs::Putting::text_none))]
 
 ghost use Rattle.std.specs.Prelude.{◌≡◌, ℕ, ◌+◌, ◌^◌, ◌<◌, ◌≤◌, Bool, true, false, Option, Some, None, List, [], ◌∷◌, ◌++◌, codes, OnOk};

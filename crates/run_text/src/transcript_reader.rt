@@ -1,4 +1,4 @@
-// The reader of transcripts.
+//! Reads a transcript, exactly by its grammar. Whether it is a run isn't asked here.
 ghost use Rattle.std.specs.Prelude.{◌≡◌, ◌^◌, ◌<◌, List, length, IfOk};
 ghost use Rattle.vm_facts.specs.declared.entry.Entry.{Entry};
 ghost use Rattle.run_text.specs.Text.{lines_of};

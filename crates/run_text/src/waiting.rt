@@ -1,4 +1,4 @@
-// A count of instructions that may still grow.
+//! Instructions of one process that wait for more of them, since they are one line.
 
 /// Instructions of one process that are counted together until an entry of another kind, or of
 /// another process, comes. The sum of the counts of any number of entries fits.

@@ -1,4 +1,4 @@
-// A writer: a sink, and a buffer above it.
+//! A sink with a buffer before it. What waits must be flushed at the end.
 ghost use Rattle.run_text.specs.Writing.{IsNewWriter, PutsText, Flushes};
 
 use crate::buffer::OutputBuffer;

@@ -47,7 +47,7 @@ use Rattle.economy_laws.proofs.Flows.{on_running, on_steps}
 use Rattle.economy_laws.proofs.RunLawsTouching.{found_process}
 use Rattle.economy_laws.proofs.Left.{next_on}
 use Rattle.run_units.specs.Serving.{At}
-use Rattle.run_units.specs.Touching.{IsRunning, WantsPage, MakesNone, IsWhole, IsReadyFor, IsAnswered, IsCalledFor}
+use Rattle.run_units.specs.Touching.{RunsInSpace, WantsPage, MakesNone, IsWhole, IsReadyFor, IsAnswered, IsCalledFor}
 use Rattle.run_units.proofs.Calling.{calls_write_none}
 use Rattle.run_units.proofs.Touching.{IsHit, AllHit, NotMissed, all_hit, granted_hit, Missing, read_missing, test_missing, SameSpots, pages_valid, each_distinct, Parts, parts}
 
@@ -121,7 +121,7 @@ touched_ready A flat pid p x here ready holds =
 ready_of : (A : Inputs) (s : State) (pid : ℕ) (now : Bool) (p : Process) → ProcessRuns A s pid now → process_of s.point.flat pid ≡ Some p → is_ready p ≡ true
 ready_of A s pid now p r here = ap ready_if (sym here) ∙ on_steps A s s.mark pid now r.on
 
-runs_touch : (A : Inputs) (s : State) (pid : ℕ) (now : Bool) (p : Process) (x : Space) → IsRunning A s pid now p x
+runs_touch : (A : Inputs) (s : State) (pid : ℕ) (now : Bool) (p : Process) (x : Space) → RunsInSpace A s pid now p x
     → touched_next A s ≡ distinct (filter_map (page_of_access x) (step_accesses A.images s.point.flat p x))
 runs_touch A s pid now p x r =
     next_on A s pid (on_running A s s.mark pid now r.runs.on) ∙ touched_ready A s.point.flat pid p x r.here (ready_of A s pid now p r.runs r.here) r.holds
@@ -216,7 +216,7 @@ found_first x a q list e = ap (λ (o : Option Page). cons_option o (filter_map (
 wanted_at : (A : Inputs) (s : State) (k : Kernel) (image : SwapImage) (pid : ℕ) (now : Bool) (p : Process) (x : Space)
     (front rest : List ByteAccess) (last : ByteAccess)
     (address : ℕ) (write : Bool)
-    → At A s k image → IsRunning A s pid now p x → step_accesses A.images s.point.flat p x ≡ front ++ last ∷ rest → AllHit (kernel_answers k x.sid) front
+    → At A s k image → RunsInSpace A s pid now p x → step_accesses A.images s.point.flat p x ≡ front ++ last ∷ rest → AllHit (kernel_answers k x.sid) front
     → refusal (kernel_answers k x.sid) last ≡ Some (Miss address write) → WantsPage A s k x address write
 wanted_at A s k image pid now p x front rest last address write at r e hits miss =
     let l : Lent A k x = lent A s k image pid p x at r.here r.holds in
@@ -244,7 +244,7 @@ wanted_at A s k image pid now p x front rest last address write at r e hits miss
 
 -- where no access misses the process waits for none
 ready_at : (A : Inputs) (s : State) (k : Kernel) (image : SwapImage) (pid : ℕ) (now : Bool) (p : Process) (x : Space) (list : List ByteAccess)
-    → At A s k image → IsRunning A s pid now p x
+    → At A s k image → RunsInSpace A s pid now p x
     → step_accesses A.images s.point.flat p x ≡ list → AllHit (kernel_answers k x.sid) list → wanted A s ≡ None
 ready_at A s k image pid now p x list at r e hits =
     let l : Lent A k x = lent A s k image pid p x at r.here r.holds in
@@ -310,7 +310,7 @@ stepped A s p x = refl
 
 pub miss_wanted : (A : Inputs) (s : State) (k : Kernel) (image : SwapImage) (pid : ℕ) (now : Bool) (p : Process) (x : Space) (address : ℕ) (write : Bool)
     → At A s k image
-    → IsRunning A s pid now p x → run (kernel_answers k x.sid) (instruction p.regs) ≡ Err (Miss address write) → WantsPage A s k x address write
+    → RunsInSpace A s pid now p x → run (kernel_answers k x.sid) (instruction p.regs) ≡ Err (Miss address write) → WantsPage A s k x address write
 miss_wanted A s k image pid now p x address write at r m =
     let after : List ByteAccess = accesses_after A.images s.point.flat p x (instruction_in x p.regs) in
     let l : Lent A k x = lent A s k image pid p x at r.here r.holds in
@@ -333,7 +333,7 @@ none_after images F p x (Ok effect) h = go effect.call h
 none_after images F p x (Err refused) h = refl
 
 pub hit_ready : (A : Inputs) (s : State) (k : Kernel) (image : SwapImage) (pid : ℕ) (now : Bool) (p : Process) (x : Space) → At A s k image
-    → IsRunning A s pid now p x
+    → RunsInSpace A s pid now p x
     → IsWhole (run (kernel_answers k x.sid) (instruction p.regs)) → IsReadyFor A s p x (run (kernel_answers k x.sid) (instruction p.regs))
 hit_ready A s k image pid now p x at r w =
     let memory : Answers = kernel_answers k x.sid in
@@ -362,7 +362,7 @@ call_after images F p x effect call c w =
 pub call_wanted : (A : Inputs) (s : State) (k : Kernel) (image : SwapImage) (pid : ℕ) (now : Bool) (p : Process) (x : Space) (effect : Effect)
     (call : SystemCall)
     (address : ℕ) (write : Bool)
-    → At A s k image → IsRunning A s pid now p x → run (kernel_answers k x.sid) (instruction p.regs) ≡ Ok effect → IsCallOf effect call
+    → At A s k image → RunsInSpace A s pid now p x → run (kernel_answers k x.sid) (instruction p.regs) ≡ Ok effect → IsCallOf effect call
     → run (kernel_answers k x.sid) (reply_asked A.images s.point.flat p x call effect) ≡ Err (Miss address write) → WantsPage A s k x address write
 call_wanted A s k image pid now p x effect call address write at r i c m =
     let memory : Answers = kernel_answers k x.sid in
@@ -381,7 +381,7 @@ call_wanted A s k image pid now p x effect call address write at r i c m =
 
 pub call_ready : (A : Inputs) (s : State) (k : Kernel) (image : SwapImage) (pid : ℕ) (now : Bool) (p : Process) (x : Space) (effect : Effect)
     (call : SystemCall)
-    → At A s k image → IsRunning A s pid now p x → run (kernel_answers k x.sid) (instruction p.regs) ≡ Ok effect → IsCallOf effect call
+    → At A s k image → RunsInSpace A s pid now p x → run (kernel_answers k x.sid) (instruction p.regs) ≡ Ok effect → IsCallOf effect call
     → IsAnswered (run (kernel_answers k x.sid) (reply_asked A.images s.point.flat p x call effect))
     → IsCalledFor A s p x call effect (run (kernel_answers k x.sid) (reply_asked A.images s.point.flat p x call effect))
 call_ready A s k image pid now p x effect call at r i c answered =

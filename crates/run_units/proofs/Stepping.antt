@@ -57,7 +57,7 @@ use Rattle.machine_state.specs.Applying.{facts_named}
 use Rattle.fault_fill.specs.Made.{Ground}
 use Rattle.run_units.specs.Leads.{HasImages, MadeAs}
 use Rattle.run_units.specs.Serving.{At}
-use Rattle.run_units.specs.Touching.{IsRunning, IsReadyFor, IsCalledFor}
+use Rattle.run_units.specs.Touching.{RunsInSpace, IsReadyFor, IsCalledFor}
 use Rattle.run_units.specs.Stepping.{with_holdings, PassesNone, GivesBack, returned, growth_to}
 use Rattle.run_units.proofs.Touching.{SameSpots}
 use Rattle.run_units.proofs.Instructing.{same_spots}
@@ -78,7 +78,7 @@ unwritten A s k pid step e w =
     ap (λ (x : Step). process_written k (process_of s.point.flat pid) x.writes) e ∙ ap (process_written k (process_of s.point.flat pid)) w ∙ none_written k (process_of s.point.flat pid)
 
 wanted_is : (A : Inputs) (s : State) (k : Kernel) (image : SwapImage) (pid : ℕ) (now : Bool) (p : Process) (x : Space) (change : Change) → At A s k image
-    → IsRunning A s pid now p x
+    → RunsInSpace A s pid now p x
     → wanted_if A.images s.point.flat change (process_of s.point.flat pid) ≡ asked (facts_of A.images) k pid change
 wanted_is A s k image pid now p x change at r =
     let keeps = at.stands.keeps in
@@ -86,7 +86,7 @@ wanted_is A s k image pid now p x change at r =
     ∙ sym (change_same A.images k s.point.flat pid p x change at.fit keeps.stands.texts keeps.numbered at.run.numbers keeps.coupled.tables r.here r.holds)
 
 taken : (A : Inputs) (s : State) (k : Kernel) (image : SwapImage) (pid : ℕ) (now : Bool) (p : Process) (x : Space) (step : Step) (found : Holdings)
-    → At A s k image → IsRunning A s pid now p x
+    → At A s k image → RunsInSpace A s pid now p x
     → step_at A s.point pid ≡ step → step.writes ≡ [] → place_all A.swap_blocks k.holdings (asked (facts_of A.images) k pid step.change) ≡ Ok found
     → taken_step A s k pid ≡ with_holdings k found
 taken A s k image pid now p x step found at r e w f =
@@ -113,7 +113,7 @@ by_unit A s k l image pid _ c e = absurd c
 
 pub step_made : (A : Inputs) (s : State) (k l : Kernel) (image : SwapImage) (pid : ℕ) (now : Bool) (p : Process) (x : Space) (u : Entry)
     (step : Step) (found : Holdings)
-    → At A s k image → IsRunning A s pid now p x → Completes pid u → step_at A s.point pid ≡ step → step.writes ≡ []
+    → At A s k image → RunsInSpace A s pid now p x → Completes pid u → step_at A s.point pid ≡ step → step.writes ≡ []
     → place_all A.swap_blocks k.holdings (asked (facts_of A.images) k pid step.change) ≡ Ok found
     → l ≡ passing_change (has_lender k.processes pid) (facts_of A.images) (with_holdings k found) pid step.regs u step.change
     → MadeAs A s k image u l (Some image)
@@ -174,7 +174,7 @@ same_writes (w ∷ ws) k x e =
     same_writes ws (write_in k x.sid w) x (written_spots k x (spot_in k.place x.sid w.address) w.byte e) ∙ ap (λ (y : Kernel). write_bytes y x ws) (same_write k x w e)
 
 pub ran_made : (A : Inputs) (s : State) (k l : Kernel) (image : SwapImage) (pid : ℕ) (now : Bool) (p : Process) (x : Space) (step : Step)
-    → At A s k image → IsRunning A s pid now p x
+    → At A s k image → RunsInSpace A s pid now p x
     → step_at A s.point pid ≡ step → l ≡ ran_by (writes_in k x.sid step.writes) pid step.regs (entries.Ran pid 1)
     → MadeAs A s k image (entries.Ran pid 1) l (Some image)
 ran_made A s k l image pid now p x step at r e m =
@@ -195,13 +195,13 @@ held A s pid p x r here holds same =
     let refused : Bool = is_refused s.point.last pid in
     ap (step_if A.images s.point.flat refused) here ∙ ap (step_holding A.images s.point.flat p refused) holds ∙ ap (step_of A.images s.point.flat p x refused) same
 
-pub step_known : (A : Inputs) (s : State) (pid : ℕ) (now : Bool) (p : Process) (x : Space) (r : Result Effect Refused) → IsRunning A s pid now p x
+pub step_known : (A : Inputs) (s : State) (pid : ℕ) (now : Bool) (p : Process) (x : Space) (r : Result Effect Refused) → RunsInSpace A s pid now p x
     → IsReadyFor A s p x r
     → step_at A s.point pid ≡ step_of A.images s.point.flat p x (is_refused s.point.last pid) r
 step_known A s pid now p x r i h = held A s pid p x r i.here i.holds h.same
 
 pub call_known : (A : Inputs) (s : State) (pid : ℕ) (now : Bool) (p : Process) (x : Space) (effect : Effect) (call : SystemCall) (r : Result Reply Refused)
-    → IsRunning A s pid now p x
+    → RunsInSpace A s pid now p x
     → IsCallOf effect call → IsCalledFor A s p x call effect r
     → step_at A s.point pid ≡ replied_step A.images s.point.flat p call effect (refused_reply (is_refused s.point.last pid) (or_fault r))
 call_known A s pid now p x effect call r i c h =
@@ -212,7 +212,7 @@ call_known A s pid now p x effect call r i c h =
     ∙ ap (λ (z : Result Reply Refused). replied_step A.images F p call effect (refused_reply refused (or_fault z))) h.replies
 
 pub record_registers : (A : Inputs) (s : State) (k : Kernel) (image : SwapImage) (pid : ℕ) (now : Bool) (p : Process) (x : Space) (kept : Proc) → At A s k image
-    → IsRunning A s pid now p x → proc_of k pid ≡ Some kept → kept.regs ≡ p.regs
+    → RunsInSpace A s pid now p x → proc_of k pid ≡ Some kept → kept.regs ≡ p.regs
 record_registers A s k image pid now p x kept at i e =
     let number : p.pid ≡ pid = (found_at s.point.flat pid p i.here).0 in
     let resident : is_out k.place p.pid ≡ false = ap (is_out k.place) number ∙ ap (λ (y : Placement). is_out y pid) at.stands.place ∙ i.runs.resident in
@@ -237,7 +237,7 @@ plain_change b images k pid regs e _ h = absurd h
 
 pub plain_made : (A : Inputs) (s : State) (k l : Kernel) (image : SwapImage) (pid : ℕ) (now : Bool) (p : Process) (x : Space) (u : Entry)
     (step : Step) (found : Holdings)
-    → At A s k image → IsRunning A s pid now p x → Completes pid u → step_at A s.point pid ≡ step → step.writes ≡ [] → PassesNone step.change
+    → At A s k image → RunsInSpace A s pid now p x → Completes pid u → step_at A s.point pid ≡ step → step.writes ≡ [] → PassesNone step.change
     → place_all A.swap_blocks k.holdings (asked (facts_of A.images) k pid step.change) ≡ Ok found
     → l ≡ change_step (facts_of A.images) (with_holdings k found) pid step.regs u step.change → MadeAs A s k image u l (Some image)
 plain_made A s k l image pid now p x u step found at r c e w n f m =
@@ -256,7 +256,7 @@ back_change b images k found pid regs e _ h = absurd h
 
 pub returning_made : (A : Inputs) (s : State) (k l : Kernel) (image : SwapImage) (pid : ℕ) (now : Bool) (p : Process) (x : Space) (u : Entry)
     (step : Step) (found : Holdings)
-    → At A s k image → IsRunning A s pid now p x → Completes pid u → step_at A s.point pid ≡ step → step.writes ≡ [] → GivesBack step.change
+    → At A s k image → RunsInSpace A s pid now p x → Completes pid u → step_at A s.point pid ≡ step → step.writes ≡ [] → GivesBack step.change
     → place_all A.swap_blocks k.holdings (asked (facts_of A.images) k pid step.change) ≡ Ok found
     → l ≡ change_step (facts_of A.images) (with_holdings (returned (has_lender k.processes pid) k pid) found) pid step.regs u step.change
     → MadeAs A s k image u l (Some image)
@@ -273,7 +273,7 @@ lent_change false images k pid regs e child = refl
 
 pub lending_made : (A : Inputs) (s : State) (k l : Kernel) (image : SwapImage) (pid : ℕ) (now : Bool) (p : Process) (x : Space) (u : Entry) (step : Step)
     (found : Holdings) (child : ℕ)
-    → At A s k image → IsRunning A s pid now p x → Completes pid u → step_at A s.point pid ≡ step → step.writes ≡ [] → step.change ≡ changes.Lend child
+    → At A s k image → RunsInSpace A s pid now p x → Completes pid u → step_at A s.point pid ≡ step → step.writes ≡ [] → step.change ≡ changes.Lend child
     → place_all A.swap_blocks k.holdings (asked (facts_of A.images) k pid step.change) ≡ Ok found
     → l ≡ pass_step (change_step (facts_of A.images) (with_holdings k found) pid step.regs u (changes.Lend child)) pid child
     → MadeAs A s k image u l (Some image)
@@ -302,7 +302,7 @@ headers_agree A g h = go g.from.files A.images h.0
     go (Some files) images x = loaded_facts g.from.images files images x
 
 pub growth_counts : (A : Inputs) (s : State) (k : Kernel) (image : SwapImage) (pid : ℕ) (now : Bool) (p : Process) (x : Space) → At A s k image
-    → IsRunning A s pid now p x
+    → RunsInSpace A s pid now p x
     → (data_count k.place x.sid ≡ data_pages_of x) × (stack_count k.place x.sid ≡ stack_pages_of x)
 growth_counts A s k image pid now p x at r =
     let own = own_space s.point.flat pid p x at.run.numbers r.here r.holds in
@@ -312,7 +312,7 @@ growth_counts A s k image pid now p x at r =
 
 pub growth_made : (A : Inputs) (s : State) (k l : Kernel) (image : SwapImage) (pid : ℕ) (now : Bool) (p : Process) (x : Space) (address : ℕ)
     (kept : Proc) (found : Holdings)
-    → At A s k image → IsRunning A s pid now p x → IsReadyFor A s p x (Err (Below address)) → is_refused s.point.last pid ≡ false → proc_of k pid ≡ Some kept
+    → At A s k image → RunsInSpace A s pid now p x → IsReadyFor A s p x (Err (Below address)) → is_refused s.point.last pid ≡ false → proc_of k pid ≡ Some kept
     → place_all A.swap_blocks k.holdings (asked (facts_of A.images) k pid (growth_to k x address)) ≡ Ok found
     → l ≡ change_step (facts_of A.images) (with_holdings k found) pid kept.regs (entries.Grew pid (pages_down_to address)) (growth_to k x address)
     → MadeAs A s k image (entries.Grew pid (pages_down_to address)) l (Some image)

@@ -26,7 +26,7 @@ use Rattle.run_model.specs.State.{State}
 use Rattle.run_model.specs.Wanted.{locked}
 use Rattle.run_model.specs.After.{after, completed, place_at}
 use Rattle.run_model.specs.Next.{when, or_else, due_unit, line_or_turn, turn_of, under, next_mark, next_unit, owners_entry, next_turned, last_turned}
-use Rattle.economy_laws.specs.Machine.{unit_swap, IsNote}
+use Rattle.economy_laws.specs.Machine.{unit_swap, IsJournalEntry}
 use Rattle.fault_fill.specs.Made.{Ground, MadeBy, Made}
 use Rattle.fault_fill.proofs.PagingUnitsUnits.{unit_place}
 use Rattle.run_units.specs.Leads.{HasImages, KeepsLocked, MadeAs, Leads}
@@ -89,7 +89,8 @@ pub in_made : (A : Inputs) (s : State) (k l : Kernel) (image : SwapImage) (j : O
     → AsksU k pid (Some image) j → MadeAs A s k image (entries.SwapIn pid) l j
 in_made A s k l image j pid h a = record { read = []; given = tt; made = h.step ∙ ap (in_step k pid) h.stored; told = a }
 
-pub note_made : (A : Inputs) (s : State) (k l : Kernel) (image : SwapImage) (u : Entry) → IsNote u → l ≡ note_step k u → MadeAs A s k image u l (Some image)
+pub note_made : (A : Inputs) (s : State) (k l : Kernel) (image : SwapImage) (u : Entry) → IsJournalEntry u → l ≡ note_step k u
+    → MadeAs A s k image u l (Some image)
 note_made A s k l image (entries.Event line) n m = record { read = []; given = tt; made = m; told = refl }
 note_made A s k l image (entries.Turn pid) n m = record { read = []; given = tt; made = m; told = refl }
 note_made A s k l image (entries.Out pid bytes) n m = record { read = []; given = tt; made = m; told = refl }

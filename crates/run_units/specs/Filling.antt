@@ -1,4 +1,4 @@
--- Pages that are due are filled.
+-- The statements on pages that are due: each unit that fills one is the next unit.
 use Rattle.std.specs.Prelude.{◌≡◌, ℕ, true, List, [], ◌∷◌, Option, Some}
 use Rattle.vm_facts.specs.SwapImages.{SwapImage}
 use Rattle.vm_facts.specs.declared.page.Page.{Page}

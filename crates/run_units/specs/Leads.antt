@@ -1,4 +1,4 @@
--- Units that a machine makes, as next units of a run.
+-- What it means that a machine's units are next units of a run. All laws of this crate end in it.
 use Rattle.std.specs.Prelude.{◌≡◌, ℕ, ◌↔◌, List, Option, Some}
 use Rattle.vm_facts.specs.SwapImages.{SwapImage}
 use Rattle.vm_facts.specs.declared.entry.Entry.{Entry}

@@ -1,4 +1,4 @@
--- Moves of the hands that a line of the schedule asks for.
+-- The statements on moves of the hands under a line that asks for them.
 use Rattle.std.specs.Prelude.{◌≡◌, ℕ, ◌-◌, ◌<◌, true, false, List, [], Option, Some, None}
 use Rattle.vm_facts.specs.SwapImages.{SwapImage}
 use Rattle.vm_facts.specs.declared.entry.Entry.{Entry}

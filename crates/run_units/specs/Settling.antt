@@ -1,4 +1,4 @@
--- A space settles before its process's step gives it up or drops pages of it.
+-- The statements on transfers that end before a space is given up or cut.
 use Rattle.std.specs.Prelude.{◌≡◌, ℕ, Bool, true, false, List, replicate, Option, Some, None}
 use Rattle.vm_facts.specs.SwapImages.{SwapImage}
 use Rattle.vm_facts.specs.declared.entry.Entry.{Entry}

@@ -1,4 +1,4 @@
--- The steps of processes, as a machine makes them.
+-- The statements on entries of a process's step, as a machine makes them.
 use Rattle.std.specs.Prelude.{◌≡◌, ℕ, Bool, true, false, List, [], ◌∷◌, Option, Some, None, Result, Ok, Err}
 use Rattle.vm_facts.specs.SwapImages.{SwapImage}
 use Rattle.vm_facts.specs.declared.entry.Entry.{Entry}
@@ -35,7 +35,7 @@ use Rattle.run_model.specs.Kinds.{ProcessRuns}
 use Rattle.economy_laws.specs.Machine.{Completes}
 use Rattle.run_units.specs.Leads.{HasImages, MadeAs}
 use Rattle.run_units.specs.Serving.{At}
-use Rattle.run_units.specs.Touching.{IsRunning, IsReadyFor, IsCalledFor}
+use Rattle.run_units.specs.Touching.{RunsInSpace, IsReadyFor, IsCalledFor}
 
 -- what a process does next is the next unit of the run, once it waits for no page
 abbrev pub ActIsNext : Type 0
@@ -51,7 +51,7 @@ with_holdings k found = record k { holdings = found }
 abbrev pub StepIsMade : Type 0
 StepIsMade =
     (A : Inputs) (s : State) (k l : Kernel) (image : SwapImage) (pid : ℕ) (now : Bool) (p : Process) (x : Space) (u : Entry) (step : Step) (found : Holdings)
-    → At A s k image → IsRunning A s pid now p x → Completes pid u → step_at A s.point pid ≡ step → step.writes ≡ []
+    → At A s k image → RunsInSpace A s pid now p x → Completes pid u → step_at A s.point pid ≡ step → step.writes ≡ []
     → place_all A.swap_blocks k.holdings (asked (facts_of A.images) k pid step.change) ≡ Ok found
     → l ≡ passing_change (has_lender k.processes pid) (facts_of A.images) (with_holdings k found) pid step.regs u step.change
     → MadeAs A s k image u l (Some image)
@@ -60,7 +60,7 @@ StepIsMade =
 abbrev pub RanIsMade : Type 0
 RanIsMade =
     (A : Inputs) (s : State) (k l : Kernel) (image : SwapImage) (pid : ℕ) (now : Bool) (p : Process) (x : Space) (step : Step)
-    → At A s k image → IsRunning A s pid now p x → step_at A s.point pid ≡ step
+    → At A s k image → RunsInSpace A s pid now p x → step_at A s.point pid ≡ step
     → l ≡ ran_by (writes_in k x.sid step.writes) pid step.regs (entries.Ran pid 1)
     → MadeAs A s k image (entries.Ran pid 1) l (Some image)
 
@@ -68,21 +68,21 @@ RanIsMade =
 abbrev pub StepIsKnown : Type 0
 StepIsKnown =
     (A : Inputs) (s : State) (pid : ℕ) (now : Bool) (p : Process) (x : Space) (r : Result Effect Refused)
-    → IsRunning A s pid now p x → IsReadyFor A s p x r
+    → RunsInSpace A s pid now p x → IsReadyFor A s p x r
     → step_at A s.point pid ≡ step_of A.images s.point.flat p x (is_refused s.point.last pid) r
 
 -- The step of a process by what its call comes to over the frames of the machine.
 abbrev pub CallIsKnown : Type 0
 CallIsKnown =
     (A : Inputs) (s : State) (pid : ℕ) (now : Bool) (p : Process) (x : Space) (effect : Effect) (call : SystemCall) (r : Result Reply Refused)
-    → IsRunning A s pid now p x → IsCallOf effect call → IsCalledFor A s p x call effect r
+    → RunsInSpace A s pid now p x → IsCallOf effect call → IsCalledFor A s p x call effect r
     → step_at A s.point pid ≡ replied_step A.images s.point.flat p call effect (refused_reply (is_refused s.point.last pid) (or_fault r))
 
 -- The registers with which a process runs are those of its record.
 abbrev pub RecordHasRegisters : Type 0
 RecordHasRegisters =
     (A : Inputs) (s : State) (k : Kernel) (image : SwapImage) (pid : ℕ) (now : Bool) (p : Process) (x : Space) (kept : Proc)
-    → At A s k image → IsRunning A s pid now p x → proc_of k pid ≡ Some kept → kept.regs ≡ p.regs
+    → At A s k image → RunsInSpace A s pid now p x → proc_of k pid ≡ Some kept → kept.regs ≡ p.regs
 
 -- no space passes with the change
 abbrev pub PassesNone : Change → Type 0
@@ -97,7 +97,7 @@ PassesNone _ = ⊥
 abbrev pub PlainStepIsMade : Type 0
 PlainStepIsMade =
     (A : Inputs) (s : State) (k l : Kernel) (image : SwapImage) (pid : ℕ) (now : Bool) (p : Process) (x : Space) (u : Entry) (step : Step) (found : Holdings)
-    → At A s k image → IsRunning A s pid now p x → Completes pid u → step_at A s.point pid ≡ step → step.writes ≡ [] → PassesNone step.change
+    → At A s k image → RunsInSpace A s pid now p x → Completes pid u → step_at A s.point pid ≡ step → step.writes ≡ [] → PassesNone step.change
     → place_all A.swap_blocks k.holdings (asked (facts_of A.images) k pid step.change) ≡ Ok found
     → l ≡ change_step (facts_of A.images) (with_holdings k found) pid step.regs u step.change
     → MadeAs A s k image u l (Some image)
@@ -117,7 +117,7 @@ returned false k pid = k
 abbrev pub ReturningStepIsMade : Type 0
 ReturningStepIsMade =
     (A : Inputs) (s : State) (k l : Kernel) (image : SwapImage) (pid : ℕ) (now : Bool) (p : Process) (x : Space) (u : Entry) (step : Step) (found : Holdings)
-    → At A s k image → IsRunning A s pid now p x → Completes pid u → step_at A s.point pid ≡ step → step.writes ≡ [] → GivesBack step.change
+    → At A s k image → RunsInSpace A s pid now p x → Completes pid u → step_at A s.point pid ≡ step → step.writes ≡ [] → GivesBack step.change
     → place_all A.swap_blocks k.holdings (asked (facts_of A.images) k pid step.change) ≡ Ok found
     → l ≡ change_step (facts_of A.images) (with_holdings (returned (has_lender k.processes pid) k pid) found) pid step.regs u step.change
     → MadeAs A s k image u l (Some image)
@@ -127,7 +127,7 @@ abbrev pub LendingStepIsMade : Type 0
 LendingStepIsMade =
     (A : Inputs) (s : State) (k l : Kernel) (image : SwapImage) (pid : ℕ) (now : Bool) (p : Process) (x : Space) (u : Entry) (step : Step)
     (found : Holdings) (child : ℕ)
-    → At A s k image → IsRunning A s pid now p x → Completes pid u → step_at A s.point pid ≡ step → step.writes ≡ [] → step.change ≡ changes.Lend child
+    → At A s k image → RunsInSpace A s pid now p x → Completes pid u → step_at A s.point pid ≡ step → step.writes ≡ [] → step.change ≡ changes.Lend child
     → place_all A.swap_blocks k.holdings (asked (facts_of A.images) k pid step.change) ≡ Ok found
     → l ≡ pass_step (change_step (facts_of A.images) (with_holdings k found) pid step.regs u (changes.Lend child)) pid child
     → MadeAs A s k image u l (Some image)
@@ -148,13 +148,13 @@ growth_to k x address = changes.Resize (data_count k.place x.sid) (pages_down_to
 abbrev pub GrowthCounts : Type 0
 GrowthCounts =
     (A : Inputs) (s : State) (k : Kernel) (image : SwapImage) (pid : ℕ) (now : Bool) (p : Process) (x : Space)
-    → At A s k image → IsRunning A s pid now p x → (data_count k.place x.sid ≡ data_pages_of x) × (stack_count k.place x.sid ≡ stack_pages_of x)
+    → At A s k image → RunsInSpace A s pid now p x → (data_count k.place x.sid ≡ data_pages_of x) × (stack_count k.place x.sid ≡ stack_pages_of x)
 
 -- The growth of a stack, for a byte below it, is the unit of the run, once its pieces were found; its registers are the record's.
 abbrev pub GrowthIsMade : Type 0
 GrowthIsMade =
     (A : Inputs) (s : State) (k l : Kernel) (image : SwapImage) (pid : ℕ) (now : Bool) (p : Process) (x : Space) (address : ℕ) (kept : Proc) (found : Holdings)
-    → At A s k image → IsRunning A s pid now p x → IsReadyFor A s p x (Err (Below address)) → is_refused s.point.last pid ≡ false → proc_of k pid ≡ Some kept
+    → At A s k image → RunsInSpace A s pid now p x → IsReadyFor A s p x (Err (Below address)) → is_refused s.point.last pid ≡ false → proc_of k pid ≡ Some kept
     → place_all A.swap_blocks k.holdings (asked (facts_of A.images) k pid (growth_to k x address)) ≡ Ok found
     → l ≡ change_step (facts_of A.images) (with_holdings k found) pid kept.regs (entries.Grew pid (pages_down_to address)) (growth_to k x address)
     → MadeAs A s k image (entries.Grew pid (pages_down_to address)) l (Some image)

@@ -1,4 +1,4 @@
--- Processes that are put out or come in, and entries that move no page.
+-- The statements on processes that go out and come in, and on notes.
 use Rattle.std.specs.Prelude.{◌≡◌, ℕ, ◌+◌, ◌<◌, true, List, [], length, Option, Some, None}
 use Rattle.vm_facts.specs.SwapImages.{SwapImage}
 use Rattle.vm_facts.specs.declared.entry.Entry.{Entry}
@@ -14,7 +14,7 @@ use Rattle.machine_state.specs.Swapping.{WritesU, AsksU, IsIn}
 use Rattle.run_model.specs.declared.mark.Mark.TheVariants as marks
 use Rattle.run_model.specs.State.{State}
 use Rattle.run_model.specs.Next.{under, next_mark, next_unit, owners_entry, next_turned, last_turned}
-use Rattle.economy_laws.specs.Machine.{IsNote}
+use Rattle.economy_laws.specs.Machine.{IsJournalEntry}
 use Rattle.fault_fill.specs.Made.{Ground, Made}
 use Rattle.run_units.specs.Leads.{HasImages, MadeAs, Leads}
 use Rattle.run_units.specs.Serving.{SameBut, At}
@@ -59,7 +59,7 @@ InIsMade =
 -- So is an entry that goes into the journal alone.
 abbrev pub NoteIsMade : Type 0
 NoteIsMade =
-    (A : Inputs) (s : State) (k l : Kernel) (image : SwapImage) (u : Entry) → IsNote u → l ≡ note_step k u → MadeAs A s k image u l (Some image)
+    (A : Inputs) (s : State) (k l : Kernel) (image : SwapImage) (u : Entry) → IsJournalEntry u → l ≡ note_step k u → MadeAs A s k image u l (Some image)
 
 -- What comes first under a line that brings a process in, one that waits for a transfer, and one that asks for the numbers.
 abbrev pub LineAsks : Type 0

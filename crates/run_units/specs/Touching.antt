@@ -1,4 +1,4 @@
--- What an instruction over the frames of a machine says of the pages that it touches.
+-- The statements on touched pages: what an instruction over the frames says of the page waited for.
 use Rattle.std.specs.Prelude.{◌≡◌, ℕ, Bool, true, false, List, [], ◌∷◌, ◌++◌, Option, Some, None, Result, Ok, Err, ℤ}
 use Rattle.vm_facts.specs.SwapImages.{SwapImage}
 use Rattle.vm_facts.specs.Answers.{Answers}
@@ -29,7 +29,7 @@ use Rattle.fault_fill.specs.Growth.{access_to}
 use Rattle.run_units.specs.Serving.{At}
 
 -- a process that runs, and its space
-pub record IsRunning (A : Inputs) (s : State) (pid : ℕ) (now : Bool) (p : Process) (x : Space) : Type 0 where
+pub record RunsInSpace (A : Inputs) (s : State) (pid : ℕ) (now : Bool) (p : Process) (x : Space) : Type 0 where
   pub runs : ProcessRuns A s pid now
   pub here : process_of s.point.flat pid ≡ Some p
   pub holds : p.holding ≡ Holds x
@@ -49,7 +49,7 @@ pub record WantsPage (A : Inputs) (s : State) (k : Kernel) (x : Space) (address 
 abbrev pub MissIsWanted : Type 0
 MissIsWanted =
     (A : Inputs) (s : State) (k : Kernel) (image : SwapImage) (pid : ℕ) (now : Bool) (p : Process) (x : Space) (address : ℕ) (write : Bool)
-    → At A s k image → IsRunning A s pid now p x → run (kernel_answers k x.sid) (instruction p.regs) ≡ Err (Miss address write)
+    → At A s k image → RunsInSpace A s pid now p x → run (kernel_answers k x.sid) (instruction p.regs) ≡ Err (Miss address write)
     → WantsPage A s k x address write
 
 -- none of the eight calls
@@ -73,7 +73,7 @@ pub record IsReadyFor (A : Inputs) (s : State) (p : Process) (x : Space) (r : Re
 abbrev pub NoMissIsReady : Type 0
 NoMissIsReady =
     (A : Inputs) (s : State) (k : Kernel) (image : SwapImage) (pid : ℕ) (now : Bool) (p : Process) (x : Space)
-    → At A s k image → IsRunning A s pid now p x → IsWhole (run (kernel_answers k x.sid) (instruction p.regs))
+    → At A s k image → RunsInSpace A s pid now p x → IsWhole (run (kernel_answers k x.sid) (instruction p.regs))
     → IsReadyFor A s p x (run (kernel_answers k x.sid) (instruction p.regs))
 
 -- an instruction that makes a call writes nothing itself
@@ -100,13 +100,13 @@ abbrev pub CallMissIsWanted : Type 0
 CallMissIsWanted =
     (A : Inputs) (s : State) (k : Kernel) (image : SwapImage) (pid : ℕ) (now : Bool) (p : Process) (x : Space) (effect : Effect) (call : SystemCall)
     (address : ℕ) (write : Bool)
-    → At A s k image → IsRunning A s pid now p x → run (kernel_answers k x.sid) (instruction p.regs) ≡ Ok effect → IsCallOf effect call
+    → At A s k image → RunsInSpace A s pid now p x → run (kernel_answers k x.sid) (instruction p.regs) ≡ Ok effect → IsCallOf effect call
     → run (kernel_answers k x.sid) (reply_asked A.images s.point.flat p x call effect) ≡ Err (Miss address write) → WantsPage A s k x address write
 
 -- where they don't it waits for none
 abbrev pub CallIsReady : Type 0
 CallIsReady =
     (A : Inputs) (s : State) (k : Kernel) (image : SwapImage) (pid : ℕ) (now : Bool) (p : Process) (x : Space) (effect : Effect) (call : SystemCall)
-    → At A s k image → IsRunning A s pid now p x → run (kernel_answers k x.sid) (instruction p.regs) ≡ Ok effect → IsCallOf effect call
+    → At A s k image → RunsInSpace A s pid now p x → run (kernel_answers k x.sid) (instruction p.regs) ≡ Ok effect → IsCallOf effect call
     → IsAnswered (run (kernel_answers k x.sid) (reply_asked A.images s.point.flat p x call effect))
     → IsCalledFor A s p x call effect (run (kernel_answers k x.sid) (reply_asked A.images s.point.flat p x call effect))

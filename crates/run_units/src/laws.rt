@@ -1,3 +1,4 @@
+//! Laws, one for each kind of unit, that what a machine made comes next in a run. There is no code here.
 ghost use Rattle.std.specs.Prelude.{◌≡◌, ℕ, List, ◌++◌, Option, Some};
 ghost use Rattle.vm_facts.specs.SwapImages.{SwapImage};
 ghost use Rattle.vm_facts.specs.declared.entry.Entry.{Entry};

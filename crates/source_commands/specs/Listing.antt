@@ -1,4 +1,4 @@
--- The listing of an image's instructions.
+-- The listing of an image: a line for each instruction, to the first place without one.
 use Rattle.std.specs.Prelude.{◌≡◌, ◌≢◌, ◌≤◌, ◌<◌, ℕ, ◌+◌, ◌-◌, ◌/◌, ◌%◌, Bool, true, false, if◌then◌else◌, nat_lt, List, [], ◌∷◌, ◌++◌, codes, length, take, drop}
 use Rattle.vax_code.specs.declared.instr.Instr.{Instr}
 use Rattle.vax_code.specs.declared.instr.Decoded.TheVariants as decodings

@@ -1,4 +1,4 @@
-// Why a source is bad.
+//! The line that tells why a source is bad: the line's number, the mistake, and where it stands.
 ghost use Rattle.std.specs.Prelude.{◌≡◌, ◌++◌, IfOk, IfErr, OnOk, option_map};
 ghost use Rattle.io_edge.specs.Calls.{KeepsFiles};
 ghost use Rattle.run_files.specs.Answering.{CountsFault};

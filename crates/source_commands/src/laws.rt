@@ -1,3 +1,4 @@
+//! The law that an assembled program is a good image. There is no code here.
 ghost use Rattle.std.specs.Prelude.{◌≡◌, ◌≤◌, ℕ, List, length, Ok};
 ghost use Rattle.aout_image.specs.Image.{judged_image, file_length_of};
 ghost use Rattle.vax_asm.specs.Program.{IsProgramOf};

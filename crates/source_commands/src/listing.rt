@@ -1,3 +1,4 @@
+//! `dis`: an image is read, and its instructions listed up to the first place without one.
 ghost use Rattle.std.specs.Prelude.{◌≡◌, ◌≤◌, ◌<◌, ◌+◌, ◌^◌, ◌/◌, Bool, length, min};
 ghost use Rattle.io_edge.specs.Calls.{KeepsFiles};
 ghost use Rattle.aout_image.specs.Image.{IsSound, file_length_of, pages_of, offset_of, given_of};

@@ -1,3 +1,4 @@
+//! The file of a program: its header, and its bytes after it.
 ghost use Rattle.std.specs.Prelude.{◌≡◌, ◌≤◌, IfOk, length};
 ghost use Rattle.source_commands.specs.ProgramFile.{program_file};
 

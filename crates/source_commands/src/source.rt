@@ -1,3 +1,4 @@
+//! `as`: a source is read and assembled, and the file of its program written.
 ghost use Rattle.std.specs.Prelude.{◌≡◌};
 ghost use Rattle.io_edge.specs.Calls.{KeepsFiles};
 ghost use Rattle.io_edge.specs.FileHolding.{NamedFile};

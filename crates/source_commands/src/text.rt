@@ -1,4 +1,4 @@
-// The text of a listing.
+//! The text of a listing: an address and an instruction to a line.
 ghost use Rattle.std.specs.Prelude.{◌≡◌, ◌≤◌, ◌<◌, ◌+◌, ◌/◌, ◌%◌, ◌^◌, ◌++◌, IfOk, OnOk, length};
 ghost use Rattle.vax_disasm.specs.Showing.{ShowsAs, hexadecimal_digit};
 ghost use Rattle.source_commands.specs.Listing.{address_text, line_text, end_text, Moves, IsListing};

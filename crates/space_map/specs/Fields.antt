@@ -1,4 +1,4 @@
--- The table of a segment by its fields.
+-- A segment's packed table: the places that its words have, and when each word is sound.
 use Rattle.std.specs.Prelude.{List, map}
 use Rattle.std.specs.List.{All}
 use Rattle.vax_pte.specs.Words.{place_named}

@@ -1,4 +1,4 @@
--- A space's map by its fields.
+-- A space's map by its three tables.
 use Rattle.std.specs.Prelude.{◌≡◌, ◌≤◌, length}
 use Rattle.aout_image.specs.Image.{text_pages_of}
 use Rattle.space_map.specs.Space.{Places}

@@ -1,4 +1,5 @@
-//! The page table of one segment, an entry a page.
+//! The page table of one segment, an entry a page. A word may be stored only if `vax_pte` packs it so for this
+//! segment.
 ghost use Rattle.std.specs.Prelude.{◌≡◌, ◌<◌, ◌≤◌, ◌^◌, ◌-◌, ◌++◌, [], length, map, take, replicate, slice_get, slice_set, IfOk, IsOk, OnOk, OnErr};
 ghost use Rattle.aout_image.specs.Image.{IsSound};
 ghost use Rattle.vax_pte.specs.Words.{IsInRange, place_named};

@@ -1,4 +1,5 @@
-// The map itself, over the tables of its three segments.
+//! The map of one space: three segments, its number and its image. Data and stack grow and are cut; the text may not
+//! change its length.
 ghost use Rattle.std.specs.Prelude.{◌≡◌, ◌≤◌, true, false, length, replicate, IfOk, IsOk, OnOk, OnErr, IsSome, is_some, slice_get};
 ghost use Rattle.aout_image.specs.Image.{IsSound, text_pages_of};
 ghost use Rattle.vax_pte.specs.Words.{IsInRange, was_filled, is_in_frame};

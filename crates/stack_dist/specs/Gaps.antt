@@ -1,4 +1,4 @@
--- Places as bits of words.
+-- How gaps among places are kept as bits of words.
 use Rattle.std.specs.Prelude.{◌≡◌, ℕ, zero, suc, ◌/◌, ◌%◌, ◌^◌, ◌<◌, List, [], ◌∷◌, ◌++◌, length}
 use Rattle.stack_dist.specs.Tree.{total}
 use Rattle.stack_dist.specs.declared.gaps.Gaps.TheInside.{Inside}

@@ -15,7 +15,7 @@ use Rattle.run_model.specs.Kinds.{ProcessRuns}
 use Rattle.run_laws.specs.Flowing.{Awaits, WaitsBy}
 use Rattle.run_laws.specs.Running.{IsRun}
 use Rattle.run_units.specs.Serving.{At}
-use Rattle.run_units.specs.Touching.{IsRunning}
+use Rattle.run_units.specs.Touching.{RunsInSpace}
 use Rattle.step_units.specs.Machines.{MachineAt}
 use Rattle.paged_model.specs.declared.reason.Reason.TheVariants as reasons
 use Rattle.paged_model.specs.Steps.{other_begun, away_by, page_away}
@@ -75,11 +75,11 @@ module _ (m : Standing) (n : ℕ) (b : Option Begun) (holds : Option (List Named
   pub asks_one : AsksRun A (under_dispatch s pid) pid false (s.count + 1)
   asks_one = (1, s.count, refl, (let f = soon.few in omega (arith, f)))
 
-  pub runner : (p : Process) × (x : Space) × IsRunning A (under_dispatch s pid) pid false p x
+  pub runner : (p : Process) × (x : Space) × RunsInSpace A (under_dispatch s pid) pid false p x
   runner = runs A (under_dispatch s pid) m.kernel image pid (s.count + 1) at_then false asks_one soon.clear (omega arith) r.runs
 
   pub runs_then : ProcessRuns A (under_dispatch s pid) pid false
-  runs_then = let x : IsRunning A (under_dispatch s pid) pid false runner.0 runner.1 = runner.2 in x.runs
+  runs_then = let x : RunsInSpace A (under_dispatch s pid) pid false runner.0 runner.1 = runner.2 in x.runs
 
   pub resident : is_out s.place pid ≡ false
   resident = let x : ProcessRuns A (under_dispatch s pid) pid false = runs_then in x.resident

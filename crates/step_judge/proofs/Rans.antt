@@ -31,7 +31,7 @@ use Rattle.run_model.proofs.Acting.{next_flat}
 use Rattle.run_model.proofs.Wanting.{splits_wanted}
 use Rattle.run_laws.proofs.Flows.{Acted, Settles, Refuses, Steps, acted, steps_own}
 use Rattle.run_units.specs.Serving.{At}
-use Rattle.run_units.specs.Touching.{IsRunning, WantsPage}
+use Rattle.run_units.specs.Touching.{RunsInSpace, WantsPage}
 use Rattle.run_units.proofs.Instructing.{miss_wanted}
 use Rattle.run_units.proofs.Stepping.{step_known}
 use Rattle.touched_pages.proofs.Running.{frames_cover}
@@ -78,7 +78,7 @@ first_of false (f ∷ es) u e = absurd cc
 
 -- Between two steps.
 
-module _ (A : Inputs) (s : State) (k : Kernel) (image : SwapImage) (pid : ℕ) (now : Bool) (p : Process) (x : Space) (at : At A s k image) (run_now : IsRunning A s pid now p x)
+module _ (A : Inputs) (s : State) (k : Kernel) (image : SwapImage) (pid : ℕ) (now : Bool) (p : Process) (x : Space) (at : At A s k image) (run_now : RunsInSpace A s pid now p x)
     (unwanted : wanted A s ≡ None) where
   -- over the frames the instruction comes to the same as over the flat memory
   frames_same : run (kernel_answers k x.sid) (instruction p.regs) ≡ instruction_in x p.regs

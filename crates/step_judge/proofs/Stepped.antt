@@ -35,7 +35,7 @@ use Rattle.run_model.specs.Act.{act}
 use Rattle.run_model.specs.Wanted.{wanted}
 use Rattle.run_laws.specs.Standing.{Placed}
 use Rattle.run_units.specs.Leads.{MadeAs}
-use Rattle.run_units.specs.Touching.{IsRunning}
+use Rattle.run_units.specs.Touching.{RunsInSpace}
 use Rattle.touched_pages.specs.Touching.{RunsWith}
 use Rattle.step_units.specs.Stepped.{AtSome, LeadsFrom}
 use Rattle.step_units.proofs.Tables.{regs_is, is_kept}
@@ -185,7 +185,7 @@ module _ (m : Standing) (n : ℕ) (b : Option Begun) (holds : Option (List Named
   abbrev x : Space
   x = (runner m n b holds i pid A s image r).1
 
-  running : IsRunning A v pid false p x
+  running : RunsInSpace A v pid false p x
   running = (runner m n b holds i pid A s image r).2
 
   here : JudgedAt m n b holds i A s image

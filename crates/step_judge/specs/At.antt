@@ -1,4 +1,4 @@
--- A machine at a state of a paged run.
+-- A machine at a state of a paged run, when a process's line is judged.
 use Rattle.std.specs.Prelude.{◌≡◌, ℕ, ◌<◌, ◌≤◌, true, List, [], Option, Some, None}
 use Rattle.vm_facts.specs.SwapImages.{SwapImage}
 use Rattle.vm_facts.specs.declared.entry.Entry.TheVariants as entries

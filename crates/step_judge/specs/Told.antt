@@ -1,4 +1,4 @@
--- What is told of a line of a process.
+-- What is told of a line of a process: the first reason, or that it was made.
 use Rattle.std.specs.Prelude.{◌≡◌, ℕ, ◌==◌, ◌-◌, nat_lt, not, Bool, true, false, List, length, slice_get, Option, Some, None}
 use Rattle.vm_facts.specs.SwapImages.{SwapImage}
 use Rattle.vm_facts.specs.declared.entry.Entry.{Entry}

@@ -1,4 +1,4 @@
-//! The machine makes what a process does next, with room for one entry.
+//! The machine makes what a process does next, with room for one entry. More room may not be given, or it makes more.
 ghost use Rattle.io_edge.specs.WithFiles.{stores};
 ghost use Rattle.std.specs.Prelude.{◌≡◌, ◌+◌, ◌<◌, length, Some, None, OnOk};
 ghost use Rattle.flat_state.specs.Journal.{instructions_of};

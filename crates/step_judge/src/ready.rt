@@ -1,4 +1,5 @@
-//! What keeps a process from a step, before its pages.
+//! What keeps a process from a step, before its pages are looked at. The order of the reasons may not change, and
+//! nothing is moved.
 ghost use Rattle.std.specs.Prelude.{◌≡◌, nat_lt};
 ghost use Rattle.flat_state.specs.Flat.{Inputs};
 ghost use Rattle.kernel_model.specs.Coupled.{SameTables};

@@ -1,4 +1,5 @@
-//! What a process does next, in the place of a line.
+//! Judges a line of a process: what comes next is made, then compared with it. After a reason the machine may have
+//! gone another way, and may not be used again.
 ghost use Rattle.io_edge.specs.WithFiles.{stores};
 ghost use Rattle.std.specs.Prelude.{◌≡◌, ◌≢◌, ◌↔◌, ◌+◌, ◌≤◌, true, false, length, Some, None, IfOk, OnOk};
 ghost use Rattle.vm_facts.specs.declared.entry.Entry.TheVariants as entries;

@@ -1,4 +1,4 @@
-//! What a machine made in the place of a line of a process.
+//! Compares what a machine made with the line that was to come. Only the journal's last entry is looked at.
 ghost use Rattle.std.specs.Prelude.{◌≡◌, ◌-◌, length, slice_get, Some, IfOk};
 ghost use Rattle.vm_facts.specs.declared.entry.Entry.{Entry as AnyEntry};
 ghost use Rattle.vm_facts.specs.declared.entry.Entry.TheVariants as entries;

@@ -21,7 +21,7 @@ use Rattle.run_model.specs.State.{State}
 use Rattle.run_model.specs.Wanted.{touched_next, AllValid, locked_by, locked}
 use Rattle.run_model.specs.Snapshot.{before_absent}
 use Rattle.run_model.proofs.Wanting.{split_before, all_before}
-use Rattle.run_units.specs.Touching.{IsRunning, WantsPage}
+use Rattle.run_units.specs.Touching.{RunsInSpace, WantsPage}
 use Rattle.step_units.specs.Machines.{RunsOn}
 use Rattle.step_units.specs.Running.{WaitsForPage, ServeLeads}
 use Rattle.step_units.specs.Stepped.{StopLeads}
@@ -51,7 +51,7 @@ same_access A s m holds image pid now p x address write r =
 
 -- the pages that are touched before it are those that are kept
 pub wants_locked : (A : Inputs) (s : State) (k : Kernel) (pid : ℕ) (now : Bool) (p : Process) (x : Space) (address : ℕ) (write : Bool) (before : List Page)
-    → IsRunning A s pid now p x
+    → RunsInSpace A s pid now p x
     → ((w : WantsPage A s k x address write) × (w.before ≡ before)) → locked A s ≡ before
 wants_locked A s k pid now p x address write before r w =
     ap (locked_by A s) r.runs.clear

@@ -24,14 +24,14 @@ use Rattle.run_model.specs.State.{State}
 use Rattle.run_model.specs.Act.{act, loses_pages, loses_in, loses_if, settled, step_loses, must_settle}
 use Rattle.run_units.proofs.Flows.{on_steps}
 use Rattle.run_units.specs.Serving.{At}
-use Rattle.run_units.specs.Touching.{IsRunning}
+use Rattle.run_units.specs.Touching.{RunsInSpace}
 use Rattle.run_units.proofs.Acting.{step_begins, step_refused, refused_comes, reply_comes}
 
 -- Pieces.
 
 -- what a change of the process takes, as the flat machine and the kernel say it
 pub wanted_is : (A : Inputs) (s : State) (k : Kernel) (image : SwapImage) (pid : ℕ) (now : Bool) (p : Process) (x : Space) (change : Change)
-    → At A s k image → IsRunning A s pid now p x
+    → At A s k image → RunsInSpace A s pid now p x
     → wanted_if A.images s.point.flat change (process_of s.point.flat pid) ≡ asked (facts_of A.images) k pid change
 wanted_is A s k image pid now p x change at r =
     let keeps = at.stands.keeps in
@@ -39,7 +39,7 @@ wanted_is A s k image pid now p x change at r =
     ∙ sym (change_same A.images k s.point.flat pid p x change at.fit keeps.stands.texts keeps.numbered at.run.numbers keeps.coupled.tables r.here r.holds)
 
 pub asks_is : (A : Inputs) (s : State) (k : Kernel) (image : SwapImage) (pid : ℕ) (now : Bool) (p : Process) (x : Space) → At A s k image
-    → IsRunning A s pid now p x
+    → RunsInSpace A s pid now p x
     → is_refused s.point.last pid ≡ false → asks A s.point.flat pid ≡ asked (facts_of A.images) k pid (step_at A s.point pid).change
 unfolding asks
 asks_is A s k image pid now p x at r u =
@@ -48,7 +48,7 @@ asks_is A s k image pid now p x at r u =
     ∙ wanted_is A s k image pid now p x (step_at A s.point pid).change at r
 
 pub fits_is : (A : Inputs) (s : State) (k : Kernel) (image : SwapImage) (pid : ℕ) (now : Bool) (p : Process) (x : Space) (step : Step) → At A s k image
-    → IsRunning A s pid now p x
+    → RunsInSpace A s pid now p x
     → is_refused s.point.last pid ≡ false → step_at A s.point pid ≡ step
     → fits A.swap_blocks s.holdings (asks A s.point.flat pid) ≡ is_ok (place_all A.swap_blocks k.holdings (asked (facts_of A.images) k pid step.change))
 fits_is A s k image pid now p x step at r u i =
@@ -68,7 +68,7 @@ whole_due _ pid es h = refl
 -- the step's first entry comes, once its pieces are found and no space has to settle
 pub begins : (A : Inputs) (s : State) (k : Kernel) (image : SwapImage) (pid : ℕ) (now : Bool) (p : Process) (x : Space) (step : Step) (e : Entry)
     (es : List Entry) (found : Holdings)
-    → At A s k image → IsRunning A s pid now p x → IsBetween s.point.last → step_at A s.point pid ≡ step → step.entries ≡ e ∷ es
+    → At A s k image → RunsInSpace A s pid now p x → IsBetween s.point.last → step_at A s.point pid ≡ step → step.entries ≡ e ∷ es
     → place_all A.swap_blocks k.holdings (asked (facts_of A.images) k pid step.change) ≡ Ok found → must_settle A s pid ≡ false → act A s pid ≡ Some e
 begins A s k image pid now p x step e es found at r b i first f t =
     step_begins A s pid e es (on_steps A s s.mark pid now r.runs.on) b (ap (λ (z : Step). z.entries) i ∙ first)
@@ -76,7 +76,7 @@ begins A s k image pid now p x step e es found at r b i first f t =
 
 -- where they find none comes the entry that says so
 pub refuses : (A : Inputs) (s : State) (k : Kernel) (image : SwapImage) (pid : ℕ) (now : Bool) (p : Process) (x : Space) (step : Step)
-    → At A s k image → IsRunning A s pid now p x → IsBetween s.point.last → step_at A s.point pid ≡ step
+    → At A s k image → RunsInSpace A s pid now p x → IsBetween s.point.last → step_at A s.point pid ≡ step
     → is_ok (place_all A.swap_blocks k.holdings (asked (facts_of A.images) k pid step.change)) ≡ false → act A s pid ≡ Some (entries.Refused pid)
 refuses A s k image pid now p x step at r b i f =
     step_refused A s pid (on_steps A s s.mark pid now r.runs.on) b (fits_is A s k image pid now p x step at r (unrefused s.point.last pid b) i ∙ f)
@@ -97,7 +97,7 @@ out_unrefused o pid bytes l = ap (λ (z : Option Entry). is_refused z pid) l
 
 -- the step of who was refused
 pub begins_refused : (A : Inputs) (s : State) (pid : ℕ) (now : Bool) (p : Process) (x : Space) (step : Step) (e : Entry) (es : List Entry)
-    → IsRunning A s pid now p x → s.point.last ≡ Some (entries.Refused pid) → step_at A s.point pid ≡ step → step.entries ≡ e ∷ es
+    → RunsInSpace A s pid now p x → s.point.last ≡ Some (entries.Refused pid) → step_at A s.point pid ≡ step → step.entries ≡ e ∷ es
     → must_settle A s pid ≡ false → act A s pid ≡ Some e
 begins_refused A s pid now p x step e es r l i first t =
     refused_comes A s pid e es (on_steps A s s.mark pid now r.runs.on) l (ap (λ (z : Step). z.entries) i ∙ first) t
@@ -106,7 +106,7 @@ begins_refused A s pid now p x step e es r l i first t =
 pub goes_on_behind : (A : Inputs) (s : State) (k : Kernel) (image : SwapImage) (pid : ℕ) (now : Bool) (p : Process) (x : Space) (step : Step) (bytes : List ℕ)
     (o e : Entry) (es : List Entry)
     (found : Holdings)
-    → At A s k image → IsRunning A s pid now p x → s.point.last ≡ Some (entries.Out pid bytes) → step_at A s.point pid ≡ step → step.entries ≡ o ∷ e ∷ es
+    → At A s k image → RunsInSpace A s pid now p x → s.point.last ≡ Some (entries.Out pid bytes) → step_at A s.point pid ≡ step → step.entries ≡ o ∷ e ∷ es
     → place_all A.swap_blocks k.holdings (asked (facts_of A.images) k pid step.change) ≡ Ok found → must_settle A s pid ≡ false → act A s pid ≡ Some e
 goes_on_behind A s k image pid now p x step bytes o e es found at r l i first f t =
     reply_comes A s pid bytes o e es (on_steps A s s.mark pid now r.runs.on) l (ap (λ (z : Step). z.entries) i ∙ first)
@@ -114,7 +114,7 @@ goes_on_behind A s k image pid now p x step bytes o e es found at r l i first f 
 
 -- Spaces that settle.
 
-pub loses_is : (A : Inputs) (s : State) (pid : ℕ) (now : Bool) (p : Process) (x : Space) (step : Step) → IsRunning A s pid now p x
+pub loses_is : (A : Inputs) (s : State) (pid : ℕ) (now : Bool) (p : Process) (x : Space) (step : Step) → RunsInSpace A s pid now p x
     → step_at A s.point pid ≡ step
     → step_loses A s pid ≡ loses_pages x (is_borrower s.point.flat.processes pid) step.change
 loses_is A s pid now p x step r i =
@@ -122,7 +122,7 @@ loses_is A s pid now p x step r i =
     ap (λ (z : Step). loses_if b z.change (process_of s.point.flat pid)) i ∙ ap (loses_if b step.change) r.here ∙ ap (loses_in b step.change) r.holds
 
 -- a step that gives up no space and drops no page has nothing to wait for
-pub none_lost : (A : Inputs) (s : State) (pid : ℕ) (now : Bool) (p : Process) (x : Space) (step : Step) → IsRunning A s pid now p x
+pub none_lost : (A : Inputs) (s : State) (pid : ℕ) (now : Bool) (p : Process) (x : Space) (step : Step) → RunsInSpace A s pid now p x
     → step_at A s.point pid ≡ step
     → loses_pages x (is_borrower s.point.flat.processes pid) step.change ≡ false → must_settle A s pid ≡ false
 none_lost A s pid now p x step r i n =

@@ -28,7 +28,7 @@ use Rattle.run_model.specs.Next.{goes_on, turn_instructions}
 use Rattle.run_model.specs.Kinds.{GoesOn, ProcessRuns}
 use Rattle.run_model.proofs.After.{after_count}
 use Rattle.run_units.specs.Machine.{EndsStep}
-use Rattle.run_units.specs.Touching.{IsRunning}
+use Rattle.run_units.specs.Touching.{RunsInSpace}
 
 -- The end of a step.
 
@@ -116,7 +116,7 @@ runs_same A s t e pid now w r = record {
 }
 
 pub running_same : (A : Inputs) (s t : State) (e : Entry) (pid : ℕ) (now : Bool) (p : Process) (x : Space) → StepWaits A s e t
-    → IsRunning A s pid now p x → IsRunning A t pid now p x
+    → RunsInSpace A s pid now p x → RunsInSpace A t pid now p x
 running_same A s t e pid now p x w r =
     record { runs = runs_same A s t e pid now w r.runs; here = ap (λ (F : FlatState). process_of F pid) w.flat ∙ r.here; holds = r.holds }
 

@@ -14,7 +14,7 @@ use Rattle.page_model.specs.Swapper as swapper
 use Rattle.page_laws.proofs.Lists.Local.{none_some}
 use Rattle.kernel_model.specs.ChangeStep.{life_of_proc}
 use Rattle.machine_state.specs.Going.{CanGoOn}
-use Rattle.machine_state.specs.Machine.{Standing, life_shown, processes_of, proc_of_record, residence_by, residence_of, residents_of}
+use Rattle.machine_state.specs.Machine.{Standing, life_shown, processes_of, proc_of_record, residence_by, residence_shown, residents_of}
 use Rattle.machine_state.specs.Alike.{AreRecords}
 use Rattle.machine_state.proofs.Records.{keeps_none, keeps_some}
 use Rattle.machine_state.proofs.MovedRecords.{found_residence}
@@ -38,20 +38,20 @@ first_miss : (n : ℕ) (r : Residence) (rs : List Residence) → r.pid ≢ n →
 first_miss n r rs e = grind (arith, nat_tests)
 
 is_in : (ns : List ℕ) (ps : List Record) (pid : ℕ) (p : Record) → find pid ps ≡ Some p → p.out ≡ false
-    → (swapper.residence_of (filter_map (λ n. residence_of (find n ps)) ns) pid).out ≡ false
+    → (swapper.residence_of (filter_map (λ n. residence_shown (find n ps)) ns) pid).out ≡ false
 is_in [] ps pid p f o = refl
-is_in (n ∷ ns) ps pid p f o = go (residence_of (find n ps)) refl (is_in ns ps pid p f o)
+is_in (n ∷ ns) ps pid p f o = go (residence_shown (find n ps)) refl (is_in ns ps pid p f o)
   where
     rs : List Residence
-    rs = filter_map (λ k. residence_of (find k ps)) ns
+    rs = filter_map (λ k. residence_shown (find k ps)) ns
 
-    own : (r : Residence) → residence_of (find n ps) ≡ Some r → r.pid ≡ pid → r.out ≡ false
-    own r e h = residence_out p p.state r (sym (ap residence_of (ap (λ (k : ℕ). find k ps) (sym (found_residence n ps r e) ∙ h) ∙ f)) ∙ e) ∙ o
+    own : (r : Residence) → residence_shown (find n ps) ≡ Some r → r.pid ≡ pid → r.out ≡ false
+    own r e h = residence_out p p.state r (sym (ap residence_shown (ap (λ (k : ℕ). find k ps) (sym (found_residence n ps r e) ∙ h) ∙ f)) ∙ e) ∙ o
 
-    go : (x : Option Residence) → residence_of (find n ps) ≡ x → (swapper.residence_of rs pid).out ≡ false
-        → (swapper.residence_of (filter_map (λ k. residence_of (find k ps)) (n ∷ ns)) pid).out ≡ false
-    go None e more = ap (λ (l : List Residence). (swapper.residence_of l pid).out) (keeps_none (λ k. residence_of (find k ps)) n ns e) ∙ more
-    go (Some r) e more = ap (λ (l : List Residence). (swapper.residence_of l pid).out) (keeps_some (λ k. residence_of (find k ps)) n ns r e) ∙ elim (cases_eq r.pid pid) [
+    go : (x : Option Residence) → residence_shown (find n ps) ≡ x → (swapper.residence_of rs pid).out ≡ false
+        → (swapper.residence_of (filter_map (λ k. residence_shown (find k ps)) (n ∷ ns)) pid).out ≡ false
+    go None e more = ap (λ (l : List Residence). (swapper.residence_of l pid).out) (keeps_none (λ k. residence_shown (find k ps)) n ns e) ∙ more
+    go (Some r) e more = ap (λ (l : List Residence). (swapper.residence_of l pid).out) (keeps_some (λ k. residence_shown (find k ps)) n ns r e) ∙ elim (cases_eq r.pid pid) [
       | inl h ↦ ap (λ (y : Residence). y.out) (first_hit pid r rs h) ∙ own r e h
       | inr d ↦ ap (λ (y : Residence). y.out) (first_miss pid r rs d) ∙ more
     ]

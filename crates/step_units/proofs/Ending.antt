@@ -29,7 +29,7 @@ use Rattle.run_model.specs.Act.{must_refuse}
 use Rattle.run_units.specs.Leads.{MadeAs}
 use Rattle.run_units.specs.Serving.{At}
 use Rattle.run_units.specs.Stepping.{GivesBack, returned, with_holdings}
-use Rattle.run_units.specs.Touching.{IsRunning, IsCalledFor}
+use Rattle.run_units.specs.Touching.{RunsInSpace, IsCalledFor}
 use Rattle.run_units.proofs.Stepping.{none_asked}
 use Rattle.vm_facts.specs.Answers.{Answers, ByteWrite}
 use Rattle.user_vax.specs.Program.{Gives, run}
@@ -65,7 +65,7 @@ returned_place false k pid = refl
 
 module _ (A : Inputs) (s : State) (old : Standing) (holds : Option (List NamedFile)) (image : SwapImage) (pid : ℕ) (now : Bool) (p : Process) (x : Space)
     (status : ℕ)
-    (m : MachineAt A s old holds image) (r : IsRunning A s pid now p x) (ends : EndsWith A s pid p status) where
+    (m : MachineAt A s old holds image) (r : RunsInSpace A s pid now p x) (ends : EndsWith A s pid p status) where
   abbrev step : Step
   step = ended_step A.images s.point.flat p [] status
 

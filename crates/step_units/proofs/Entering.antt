@@ -39,7 +39,7 @@ use Rattle.run_units.proofs.Flows.{runs_next}
 use Rattle.run_units.specs.Leads.{MadeAs, Leads}
 use Rattle.run_units.specs.Serving.{At}
 use Rattle.run_units.specs.Stepping.{with_holdings, PassesNone}
-use Rattle.run_units.specs.Touching.{IsRunning}
+use Rattle.run_units.specs.Touching.{RunsInSpace}
 use Rattle.run_units.proofs.Units.{none_leads, first_leads, both_lead, leads_at}
 use Rattle.run_units.proofs.Stepping.{plain_made, headers_agree}
 use Rattle.step_units.specs.Machines.{MachineAt, RunsOn}
@@ -137,7 +137,7 @@ ends_step pid _ c = c
 pub entered : (A : Inputs) (s : State) (old : Standing) (l : Kernel) (holds : Option (List NamedFile)) (image : SwapImage) (pid : ℕ) (now : Bool) (p : Process)
     (x : Space) (step : Step) (e : Entry)
     (found : Holdings)
-    → MachineAt A s old holds image → IsRunning A s pid now p x → wanted A s ≡ None → act A s pid ≡ Some e → Completes pid e → due_at A s.point pid ≡ e ∷ []
+    → MachineAt A s old holds image → RunsInSpace A s pid now p x → wanted A s ≡ None → act A s pid ≡ Some e → Completes pid e → due_at A s.point pid ≡ e ∷ []
     → step_at A s.point pid ≡ step → step.writes ≡ [] → PassesNone step.change → KeepsDue step.change
     → place_all A.swap_blocks old.kernel.holdings (asked (facts_of A.images) old.kernel pid step.change) ≡ Ok found
     → l ≡ change_step (facts_named old.images) (with_holdings old.kernel found) pid step.regs e step.change

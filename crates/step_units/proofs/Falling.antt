@@ -44,7 +44,7 @@ use Rattle.run_model.specs.State.{State}
 use Rattle.run_units.proofs.Flows.{on_steps, runs_next}
 use Rattle.run_units.proofs.Growing.{below_spot, spot_below}
 use Rattle.run_units.specs.Serving.{At}
-use Rattle.run_units.specs.Touching.{IsRunning, IsReadyFor, IsWhole}
+use Rattle.run_units.specs.Touching.{RunsInSpace, IsReadyFor, IsWhole}
 use Rattle.run_units.proofs.Acting.{step_begins, step_refused}
 use Rattle.run_units.proofs.Instructing.{hit_ready, same_spots}
 use Rattle.run_units.proofs.Stepping.{step_known, headers_agree, growth_counts}
@@ -72,7 +72,7 @@ pub record Falls (A : Inputs) (s : State) (m : Standing) (pid : ℕ) (p : Proces
   pub finds : fits A.swap_blocks s.holdings (asks A s.point.flat pid) ≡ is_ok (growth_found m pid (pages_down_to address))
 
 ready_for : (A : Inputs) (s : State) (k : Kernel) (image : SwapImage) (pid : ℕ) (now : Bool) (p : Process) (x : Space) (r : Result Effect Refused)
-    → At A s k image → IsRunning A s pid now p x
+    → At A s k image → RunsInSpace A s pid now p x
     → run (kernel_answers k x.sid) (instruction p.regs) ≡ r → IsWhole r → IsReadyFor A s p x r
 ready_for A s k image pid now p x r at i e w = subst (IsReadyFor A s p x) e (hit_ready A s k image pid now p x at i (subst IsWhole (sym e) w))
 
@@ -100,7 +100,7 @@ falls A s m holds image pid now p x address r e = record {
     at : At A s m.kernel image
     at = r.machine.at
 
-    i : IsRunning A s pid now p x
+    i : RunsInSpace A s pid now p x
     i = r.running
 
     ready : IsReadyFor A s p x (Err (Below address))
@@ -160,7 +160,7 @@ keeps_pages x b address l =
     more : nat_lt (pages_down_to address) (stack_pages_of x) ≡ false
     more = above (stack_pages_of x) (pages_down_to address) most
 
-unsettled : (A : Inputs) (s : State) (m : Standing) (pid : ℕ) (now : Bool) (p : Process) (x : Space) (address : ℕ) → IsRunning A s pid now p x
+unsettled : (A : Inputs) (s : State) (m : Standing) (pid : ℕ) (now : Bool) (p : Process) (x : Space) (address : ℕ) → RunsInSpace A s pid now p x
     → Falls A s m pid p x address
     → must_settle A s pid ≡ false
 unsettled A s m pid now p x address r f =
@@ -182,7 +182,7 @@ pub growth_next : (A : Inputs) (s : State) (m : Standing) (holds : Option (List 
     → RunsOn A s m holds image pid now p x → Falls A s m pid p x address → is_ok (growth_found m pid (pages_down_to address)) ≡ true
     → next_unit A s ≡ Some (entries.Grew pid (pages_down_to address))
 growth_next A s m holds image pid now p x address r f h =
-    let i : IsRunning A s pid now p x = r.running in
+    let i : RunsInSpace A s pid now p x = r.running in
     runs_next A s pid now (entries.Grew pid (pages_down_to address)) i.runs f.ready.unwanted
     (step_begins A s pid (entries.Grew pid (pages_down_to address)) [] (on_steps A s s.mark pid now i.runs.on) r.between (grown_first A s m pid p x address f) (f.finds ∙ h)
     (unsettled A s m pid now p x address i f))
@@ -192,5 +192,5 @@ pub refusal_next : (A : Inputs) (s : State) (m : Standing) (holds : Option (List
     → RunsOn A s m holds image pid now p x → Falls A s m pid p x address → is_ok (growth_found m pid (pages_down_to address)) ≡ false
     → next_unit A s ≡ Some (entries.Refused pid)
 refusal_next A s m holds image pid now p x address r f h =
-    let i : IsRunning A s pid now p x = r.running in
+    let i : RunsInSpace A s pid now p x = r.running in
     runs_next A s pid now (entries.Refused pid) i.runs f.ready.unwanted (step_refused A s pid (on_steps A s s.mark pid now i.runs.on) r.between (f.finds ∙ h))

@@ -51,7 +51,7 @@ use Rattle.run_units.specs.Stretch.{TouchesMore as Touches}
 use Rattle.run_units.specs.Leads.{MadeAs, Leads}
 use Rattle.run_units.specs.Serving.{At}
 use Rattle.run_units.specs.Stepping.{with_holdings, growth_to}
-use Rattle.run_units.specs.Touching.{IsRunning}
+use Rattle.run_units.specs.Touching.{RunsInSpace}
 use Rattle.run_units.proofs.Stepping.{step_known, growth_made, headers_agree}
 use Rattle.run_units.proofs.Units.{none_leads, first_leads, leads_at}
 use Rattle.step_units.specs.Machines.{RunsOn}
@@ -119,7 +119,7 @@ growth_refused A s old new holds image pid now p x address r f g = record {
     on : GoesOn A t t.mark pid now
     on = subst (λ (m : Mark). GoesOn A t m pid now) (sym n.mark) (goes_same A s t pid now s.mark (ap (λ (F : FlatState). can_step F pid) flat) n.count r.running.runs.on)
 
-    running : IsRunning A t pid now p x
+    running : RunsInSpace A t pid now p x
     running = record {
       runs = record {
         clear = ap (λ (z : Placement). z.due) n.place ∙ r.running.runs.clear;
@@ -205,7 +205,7 @@ growth_before A s old between holds image pid now p x address before r f same va
     at : At A s old.kernel image
     at = r.machine.at
 
-    i : IsRunning A s pid now p x
+    i : RunsInSpace A s pid now p x
     i = r.running
 
     found : is_ok (growth_found old pid (pages_down_to address)) ≡ true

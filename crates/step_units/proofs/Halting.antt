@@ -23,7 +23,7 @@ use Rattle.run_model.specs.Act.{act, act_if, act_by, settled, settled_in, settle
 use Rattle.run_model.specs.Next.{next_unit}
 use Rattle.run_units.proofs.Flows.{on_steps, runs_next}
 use Rattle.run_units.specs.Serving.{At}
-use Rattle.run_units.specs.Touching.{IsRunning}
+use Rattle.run_units.specs.Touching.{RunsInSpace}
 use Rattle.run_units.proofs.Units.{none_leads}
 use Rattle.step_units.specs.Stepped.{StopsNext, StopsBy, StopLeads}
 use Rattle.step_units.proofs.Entering.{IsOwn, stopped_before}
@@ -58,7 +58,7 @@ some_transfer p sid [] e h =
     absurd cc
 some_transfer p sid (t ∷ ts) e h = omega arith
 
-waits_for : (A : Inputs) (s : State) (pid : ℕ) (now : Bool) (p : Process) (x : Space) → IsRunning A s pid now p x → must_settle A s pid ≡ true
+waits_for : (A : Inputs) (s : State) (pid : ℕ) (now : Bool) (p : Process) (x : Space) → RunsInSpace A s pid now p x → must_settle A s pid ≡ true
     → is_settled s.place x.sid ≡ false
 waits_for A s pid now p x r t =
     let is : settled s.point.flat s.place pid ≡ is_settled s.place x.sid = ap (settled_if s.place) r.here ∙ ap (settled_in s.place) r.holds in
@@ -90,7 +90,7 @@ stops_done A s old new image stop n some h = go h.cause
 -- Where the entries of the step that aren't there yet begin with one that never joins another, it stops so before any of these.
 pub stopped_here : (A : Inputs) (s : State) (old new : Standing) (image : SwapImage) (pid : ℕ) (now : Bool) (p : Process) (x : Space) (e : Entry)
     (es : List Entry) (stop : Stop)
-    → At A s old.kernel image → IsRunning A s pid now p x → wanted A s ≡ None → due_at A s.point pid ≡ e ∷ es → IsOwn e
+    → At A s old.kernel image → RunsInSpace A s pid now p x → wanted A s ≡ None → due_at A s.point pid ≡ e ∷ es → IsOwn e
     → StopsBefore old new stop → StopLeads A s old.kernel image stop new (Some image)
 stopped_here A s old new image pid now p x e es stop at r w d own g = go (must_refuse A s pid) (must_settle A s pid) refl refl
   where

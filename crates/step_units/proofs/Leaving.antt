@@ -31,7 +31,7 @@ use Rattle.run_units.specs.Leads.{Leads, MadeAs}
 use Rattle.run_units.specs.Serving.{SameBut, At}
 use Rattle.run_units.specs.Settling.{IsLeaving}
 use Rattle.run_units.specs.Stepping.{GivesBack, returned, with_holdings}
-use Rattle.run_units.specs.Touching.{IsRunning}
+use Rattle.run_units.specs.Touching.{RunsInSpace}
 use Rattle.run_units.proofs.Units.{none_leads, leads_at}
 use Rattle.std.specs.Prelude.{length, ◌<◌, ◌≤◌}
 use Rattle.vm_facts.specs.SwapImages.{SwapImage}
@@ -53,7 +53,7 @@ use Rattle.step_units.proofs.Entering.{IsOwn, stopped_before, stopped_in, stops_
 -- A process that runs waits for no page, finds the pieces that its step asks for, or the journal says that it doesn't, and its step
 -- gives up its space.
 pub record GivesUp (A : Inputs) (s : State) (pid : ℕ) (now : Bool) (p : Process) (x : Space) : Type 0 where
-  pub running : IsRunning A s pid now p x
+  pub running : RunsInSpace A s pid now p x
   pub unwanted : wanted A s ≡ None
   pub fits : must_refuse A s pid ≡ false
   pub gives : GivesBack (step_at A s.point pid).change

@@ -39,7 +39,7 @@ use Rattle.run_model.specs.After.{after}
 use Rattle.run_model.specs.Act.{act}
 use Rattle.run_units.specs.Leads.{Leads}
 use Rattle.run_units.specs.Serving.{At}
-use Rattle.run_units.specs.Touching.{IsRunning, IsCalledFor}
+use Rattle.run_units.specs.Touching.{RunsInSpace, IsCalledFor}
 use Rattle.run_units.proofs.Units.{leads_at}
 use Rattle.run_units.proofs.Stepping.{none_asked}
 use Rattle.run_units.proofs.Swapping.{note_made}
@@ -88,7 +88,7 @@ pub record IsOutput (A : Inputs) (s : State) (old between : Standing) (holds : O
   pub leads : Leads A s old.kernel image (u ∷ []) (after A s u) between.kernel (Some image)
   pub waits : StepWaits A s u (after A s u)
   pub machine : MachineAt A (after A s u) between holds image
-  pub running : IsRunning A (after A s u) pid now p x
+  pub running : RunsInSpace A (after A s u) pid now p x
   pub unwanted : wanted A (after A s u) ≡ None
   pub step_is : step_at A (after A s u).point pid ≡ step
   pub acts : act A (after A s u) pid ≡ Some c
@@ -123,7 +123,7 @@ outputs A s old between holds image pid now p x effect call r byte bytes h m c e
     let d : due_at A s.point pid ≡ u ∷ v ∷ [] = whole_due s.point.last pid (step_at A s.point pid).entries h.between ∙ ap (λ (z : Step). z.entries) is ∙ first in
     let w : StepWaits A s u t = output_waits A s pid out_bytes u v [] d refl in
     let there : At A t l image = leads_at A s t k l image image (u ∷ []) h.machine.at led in
-    let running : IsRunning A t pid now p x = running_same A s t u pid now p x w h.running in
+    let running : RunsInSpace A t pid now p x = running_same A s t u pid now p x w h.running in
     let step_is : step_at A t.point pid ≡ step =
     ap (λ (G : FlatState). flat_step A G pid (is_refused t.point.last pid)) w.flat
     ∙ ap (flat_step A F pid) (out_unrefused t.point.last pid out_bytes w.last ∙ sym (unrefused s.point.last pid h.between)) ∙ is in

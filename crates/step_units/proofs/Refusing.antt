@@ -35,7 +35,7 @@ use Rattle.run_model.specs.After.{after}
 use Rattle.run_model.specs.Act.{act}
 use Rattle.run_model.specs.Wanted.{wanted}
 use Rattle.run_units.specs.Leads.{Leads}
-use Rattle.run_units.specs.Touching.{IsRunning, IsCalledFor}
+use Rattle.run_units.specs.Touching.{RunsInSpace, IsCalledFor}
 use Rattle.run_units.proofs.Units.{leads_at}
 use Rattle.run_units.proofs.Stepping.{none_asked}
 use Rattle.run_units.proofs.Swapping.{note_made}
@@ -52,7 +52,7 @@ pub record IsRefusal (A : Inputs) (s : State) (old : Standing) (holds : Option (
   pub leads : Leads A s old.kernel image (entries.Refused pid ∷ []) (after A s (entries.Refused pid)) (note_step old.kernel (entries.Refused pid)) (Some image)
   pub waits : StepWaits A s (entries.Refused pid) (after A s (entries.Refused pid))
   pub machine : MachineAt A (after A s (entries.Refused pid)) (without_pieces old pid) holds image
-  pub running : IsRunning A (after A s (entries.Refused pid)) pid now p x
+  pub running : RunsInSpace A (after A s (entries.Refused pid)) pid now p x
   pub unwanted : wanted A (after A s (entries.Refused pid)) ≡ None
 
 -- any step whose pieces find no place

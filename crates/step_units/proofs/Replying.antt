@@ -36,7 +36,7 @@ use Rattle.run_model.specs.Act.{loses_pages, must_settle}
 use Rattle.run_model.specs.Wanted.{wanted}
 use Rattle.run_units.proofs.Written.{no_writes}
 use Rattle.run_units.specs.Stepping.{with_holdings, PassesNone}
-use Rattle.run_units.specs.Touching.{IsRunning, IsAnswered, IsCalledFor}
+use Rattle.run_units.specs.Touching.{RunsInSpace, IsAnswered, IsCalledFor}
 use Rattle.run_units.proofs.Instructing.{call_ready}
 use Rattle.run_units.proofs.Stepping.{call_known, none_asked}
 use Rattle.step_units.specs.Machines.{RunsOn, MakesCall}
@@ -84,7 +84,7 @@ called_on A s t p x effect call r f w h = record {
 
 -- the step of the process between two steps, by what its call comes to
 pub called_step : (A : Inputs) (s : State) (pid : ℕ) (now : Bool) (p : Process) (x : Space) (effect : Effect) (call : SystemCall) (r : Result Reply Refused)
-    → IsRunning A s pid now p x → IsBetween s.point.last → IsCallOf effect call → IsCalledFor A s p x call effect r
+    → RunsInSpace A s pid now p x → IsBetween s.point.last → IsCallOf effect call → IsCalledFor A s p x call effect r
     → step_at A s.point pid ≡ replied_step A.images s.point.flat p call effect (or_fault r)
 called_step A s pid now p x effect call r i b m h =
     call_known A s pid now p x effect call r i m h
@@ -92,7 +92,7 @@ called_step A s pid now p x effect call r i b m h =
 
 -- after the entry that says that its pieces found no place
 pub refused_step : (A : Inputs) (s : State) (pid : ℕ) (now : Bool) (p : Process) (x : Space) (effect : Effect) (call : SystemCall) (r : Result Reply Refused)
-    → IsRunning A s pid now p x → s.point.last ≡ Some (entries.Refused pid) → IsCallOf effect call → IsCalledFor A s p x call effect r
+    → RunsInSpace A s pid now p x → s.point.last ≡ Some (entries.Refused pid) → IsCallOf effect call → IsCalledFor A s p x call effect r
     → step_at A s.point pid ≡ replied_step A.images s.point.flat p call effect (refused_reply true (or_fault r))
 refused_step A s pid now p x effect call r i l m h =
     call_known A s pid now p x effect call r i m h

@@ -45,7 +45,7 @@ use Rattle.run_laws.specs.Flowing.{Awaits, WaitsBy}
 use Rattle.run_units.specs.Shown.{IsCallOf}
 use Rattle.run_units.specs.Serving.{At}
 use Rattle.run_units.specs.Stepping.{PassesNone}
-use Rattle.run_units.specs.Touching.{IsRunning, WantsPage, MakesNone, IsWhole, IsReadyFor, IsAnswered, IsCalledFor}
+use Rattle.run_units.specs.Touching.{RunsInSpace, WantsPage, MakesNone, IsWhole, IsReadyFor, IsAnswered, IsCalledFor}
 use Rattle.run_units.proofs.Computations.{AllGives, gives_any, run_gives}
 use Rattle.run_units.proofs.Flows.{on_steps}
 use Rattle.run_units.proofs.Instructing.{hit_ready, miss_wanted, call_ready, call_wanted}
@@ -72,7 +72,7 @@ never_wanted A s k x address write clear none w =
     let some : wanted A s ≡ Some w.page = splits_wanted A s w.before w.page clear (record { behind = w.rest; whole = w.touched; valid = w.valid; absent = w.absent }) in
     let no : None ≡ Some w.page = sym none ∙ some in cc
 
-module _ (A : Inputs) (s : State) (m : Standing) (image : SwapImage) (pid : ℕ) (now : Bool) (p : Process) (x : Space) (at : At A s m.kernel image) (i : IsRunning A s pid now p x)
+module _ (A : Inputs) (s : State) (m : Standing) (image : SwapImage) (pid : ℕ) (now : Bool) (p : Process) (x : Space) (at : At A s m.kernel image) (i : RunsInSpace A s pid now p x)
     (none : wanted A s ≡ None) where
   abbrev memory : Answers
   memory = kernel_answers m.kernel x.sid
@@ -119,23 +119,23 @@ module _ (A : Inputs) (s : State) (m : Standing) (image : SwapImage) (pid : ℕ)
 
 -- The process that runs.
 
-runs_there : (A : Inputs) (s : State) (pid : ℕ) (now : Bool) → ProcessRuns A s pid now → (p : Process) × (x : Space) × IsRunning A s pid now p x
+runs_there : (A : Inputs) (s : State) (pid : ℕ) (now : Bool) → ProcessRuns A s pid now → (p : Process) × (x : Space) × RunsInSpace A s pid now p x
 runs_there A s pid now r = go (process_of s.point.flat pid) refl (on_steps A s s.mark pid now r.on)
   where
     held : (p : Process) → process_of s.point.flat pid ≡ Some p → (a : Bool) (h : Holding) → p.holding ≡ h → (if a then false else holds_space h) ≡ true
-        → (q : Process) × (x : Space) × IsRunning A s pid now q x
+        → (q : Process) × (x : Space) × RunsInSpace A s pid now q x
     held p e true h k c = absurd cc
     held p e false (Holds x) k c = (p, x, record { runs = r; here = e; holds = k })
     held p e false (Lends sid child) k c = absurd cc
     held p e false (Zombie status) k c = absurd cc
 
-    go : (o : Option Process) → process_of s.point.flat pid ≡ o → ready_if o ≡ true → (q : Process) × (x : Space) × IsRunning A s pid now q x
+    go : (o : Option Process) → process_of s.point.flat pid ≡ o → ready_if o ≡ true → (q : Process) × (x : Space) × RunsInSpace A s pid now q x
     go None e c = absurd cc
     go (Some p) e c = held p e p.asleep p.holding refl c
 
 -- Its step, as it was before it was begun.
 
-module _ (A : Inputs) (s : State) (pid : ℕ) (now : Bool) (p : Process) (x : Space) (i : IsRunning A s pid now p x) where
+module _ (A : Inputs) (s : State) (pid : ℕ) (now : Bool) (p : Process) (x : Space) (i : RunsInSpace A s pid now p x) where
   -- the same state between two steps
   abbrev afresh : State
   afresh = record s { point = record s.point { last = Some (entries.Sleeps pid) } }
@@ -143,7 +143,7 @@ module _ (A : Inputs) (s : State) (pid : ℕ) (now : Bool) (p : Process) (x : Sp
   waits : StepWaits A s (entries.Sleeps pid) afresh
   waits = record { count = refl; lines = refl; mark = refl; place = refl; holdings = refl; flat = refl; last = refl }
 
-  running_afresh : IsRunning A afresh pid now p x
+  running_afresh : RunsInSpace A afresh pid now p x
   running_afresh = running_same A s afresh (entries.Sleeps pid) pid now p x waits i
 
   unwanted_afresh : wanted A s ≡ None → wanted A afresh ≡ None
@@ -189,7 +189,7 @@ reply_fails images F p x call effect (Writes bytes) w = absurd (w refl)
 reply_fails images F p x call effect Waits w = absurd (w refl)
 reply_fails images F p x call effect (Exits status) w = absurd (w refl)
 
-module _ (A : Inputs) (s : State) (m : Standing) (image : SwapImage) (pid : ℕ) (now : Bool) (p : Process) (x : Space) (at : At A s m.kernel image) (i : IsRunning A s pid now p x)
+module _ (A : Inputs) (s : State) (m : Standing) (image : SwapImage) (pid : ℕ) (now : Bool) (p : Process) (x : Space) (at : At A s m.kernel image) (i : RunsInSpace A s pid now p x)
     (l : s.point.last ≡ Some (entries.Refused pid)) (says : asks A s.point.flat pid ≡ [] → ⊥) where
   abbrev flat : FlatState
   flat = s.point.flat
@@ -345,7 +345,7 @@ written_read : (r : Result Reply Refused) (bytes : List ℕ) → or_fault r ≡ 
 written_read (Ok reply) bytes e = ap (λ (y : Reply). let z : Result Reply Refused = Ok y in z) e
 written_read (Err refused) bytes e = absurd cc
 
-module _ (A : Inputs) (s : State) (m : Standing) (image : SwapImage) (pid : ℕ) (now : Bool) (p : Process) (x : Space) (at : At A s m.kernel image) (i : IsRunning A s pid now p x)
+module _ (A : Inputs) (s : State) (m : Standing) (image : SwapImage) (pid : ℕ) (now : Bool) (p : Process) (x : Space) (at : At A s m.kernel image) (i : RunsInSpace A s pid now p x)
     (bytes : List ℕ) (l : s.point.last ≡ Some (entries.Out pid bytes)) (behind : List Entry) (says : (flat_step A s.point.flat pid false).entries ≡ entries.Out pid bytes ∷ behind) where
   -- the reply says how many bytes went out
   replies_sent : (effect : Effect) (call : SystemCall) (r : Result Reply Refused) (byte : ℕ) (more : List ℕ) → MakesCall m p x effect call → IsCalledFor A s p x call effect r

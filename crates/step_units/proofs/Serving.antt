@@ -39,7 +39,7 @@ use Rattle.run_units.proofs.Flows.{runs_work}
 use Rattle.flat_model.specs.Run.{IsBetween}
 use Rattle.run_units.specs.Leads.{Leads}
 use Rattle.run_units.specs.Serving.{At, IsWaiting, ServingLeads}
-use Rattle.run_units.specs.Touching.{IsRunning}
+use Rattle.run_units.specs.Touching.{RunsInSpace}
 use Rattle.run_units.proofs.Serving.{served, served_next}
 use Rattle.run_units.proofs.Units.{leads_at}
 use Rattle.step_units.specs.Machines.{MachineAt}
@@ -48,7 +48,7 @@ use Rattle.page_laws.proofs.Moves.Cases.{frameless_not, serving_starved}
 
 -- The space that the machine has for a process is the one that the process holds.
 pub same_space : (A : Inputs) (s : State) (k : Kernel) (image : SwapImage) (pid : ℕ) (now : Bool) (p : Process) (x : Space) → At A s k image
-    → IsRunning A s pid now p x → space_of_pid k pid ≡ x.sid
+    → RunsInSpace A s pid now p x → space_of_pid k pid ≡ x.sid
 same_space A s k image pid now p x at r =
     let i : Stepping k s.point.flat pid p x = stepping k s.point.flat pid p x at.stands.keeps.coupled.tables r.here r.holds in
     ap space_of_life (ap life_of_proc i.kept ∙ i.life)

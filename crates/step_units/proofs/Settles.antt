@@ -36,7 +36,7 @@ use Rattle.run_model.specs.Next.{next_unit}
 use Rattle.run_units.specs.Leads.{Leads}
 use Rattle.run_units.specs.Serving.{SameBut, At}
 use Rattle.run_units.specs.Settling.{IsLeaving, LeadsLeaving}
-use Rattle.run_units.specs.Touching.{IsRunning}
+use Rattle.run_units.specs.Touching.{RunsInSpace}
 use Rattle.run_units.proofs.Units.{leads_at}
 use Rattle.run_units.proofs.Settling.{settles, settled_next}
 use Rattle.step_units.specs.Machines.{MachineAt}
@@ -46,7 +46,7 @@ use Rattle.step_units.proofs.Begun.{fits_is, loses_is, none_unsettled}
 -- Before it does.
 
 -- a step whose pieces are found, or are refused already, and which gives up its space, or drops pages of it
-pub is_leaving : (A : Inputs) (s : State) (pid : ℕ) (now : Bool) (p : Process) (x : Space) (step : Step) → IsRunning A s pid now p x
+pub is_leaving : (A : Inputs) (s : State) (pid : ℕ) (now : Bool) (p : Process) (x : Space) (step : Step) → RunsInSpace A s pid now p x
     → wanted A s ≡ None → must_refuse A s pid ≡ false
     → step_at A s.point pid ≡ step → loses_pages x (is_borrower s.point.flat.processes pid) step.change ≡ true → IsLeaving A s pid now x.sid
 is_leaving A s pid now p x step r w f is loses = record {
@@ -58,7 +58,7 @@ is_leaving A s pid now p x step r w f is loses = record {
 }
 
 pub none_refused : (A : Inputs) (s : State) (k : Kernel) (image : SwapImage) (pid : ℕ) (now : Bool) (p : Process) (x : Space) (step : Step)
-    → At A s k image → IsRunning A s pid now p x
+    → At A s k image → RunsInSpace A s pid now p x
     → is_refused s.point.last pid ≡ false → step_at A s.point pid ≡ step
     → is_ok (place_all A.swap_blocks k.holdings (asked (facts_of A.images) k pid step.change)) ≡ true → must_refuse A s pid ≡ false
 none_refused A s k image pid now p x step at r u is f =
@@ -78,14 +78,14 @@ pub record IsSettled (A : Inputs) (s : State) (old between : Standing) (holds : 
   pub leads : Leads A s old.kernel image units state between.kernel (Some behind)
   pub same : SameBut s state
   pub machine : MachineAt A state between holds behind
-  pub running : IsRunning A state pid now p x
+  pub running : RunsInSpace A state pid now p x
   pub unwanted : wanted A state ≡ None
   pub allowed : must_refuse A state pid ≡ false
   pub settles : must_settle A state pid ≡ false
   pub step_is : step_at A state.point pid ≡ step_at A s.point pid
 
 module _ (A : Inputs) (s : State) (old : Standing) (holds : Option (List NamedFile)) (image : SwapImage) (pid : ℕ) (now : Bool) (p : Process) (x : Space)
-    (h : MachineAt A s old holds image) (r : IsRunning A s pid now p x) (l : IsLeaving A s pid now x.sid) where
+    (h : MachineAt A s old holds image) (r : RunsInSpace A s pid now p x) (l : IsLeaving A s pid now x.sid) where
   pub has_settled : (between : Standing) (j : Option SwapImage) → HasSettled old between x.sid holds (Some image) j
       → IsSettled A s old between holds image j pid now p x
   has_settled between j g =

@@ -16,7 +16,7 @@ use Rattle.swapper.proofs.Stopping.{held_here}
 use Rattle.swapper.specs.Stops.{CauseBy, SpoilsBy, StopsAt, StopsBefore}
 use Rattle.run_model.specs.State.{State}
 use Rattle.run_model.specs.Next.{next_unit}
-use Rattle.run_units.specs.Machine.{IsNote}
+use Rattle.run_units.specs.Machine.{IsJournalEntry}
 use Rattle.run_units.specs.Leads.{Leads}
 use Rattle.run_units.proofs.Units.{none_leads}
 use Rattle.step_units.specs.Stepped.{StopsNext, StopsBy, StopLeads}
@@ -57,7 +57,7 @@ stops_here A s k image stop new j e n at = stops_behind A s s k k image image []
 pub one_longer : (journal : List Entry) (e : Entry) → length journal < length (journal ++ e ∷ [])
 one_longer journal e = let n = length-append journal (e ∷ []) in omega arith
 
-note_longer : (e : Entry) (journal : List Entry) → IsNote e → length journal < length (append journal e)
+note_longer : (e : Entry) (journal : List Entry) → IsJournalEntry e → length journal < length (append journal e)
 note_longer (entries.Event line) journal h = one_longer journal (entries.Event line)
 note_longer (entries.Turn pid) journal h = one_longer journal (entries.Turn pid)
 note_longer (entries.Out pid bytes) journal h = one_longer journal (entries.Out pid bytes)
@@ -65,7 +65,7 @@ note_longer (entries.Refused pid) journal h = one_longer journal (entries.Refuse
 note_longer (entries.Owners free used moving held) journal h = one_longer journal (entries.Owners free used moving held)
 note_longer _ journal h = absurd h
 
-note_cause : (e : Entry) (stop : Stop) (ts : List Transfer) → IsNote e → (stop ≡ stops.JournalFull) ⊎ (stop ≡ stops.NoMemory) → CauseBy e stop ts
+note_cause : (e : Entry) (stop : Stop) (ts : List Transfer) → IsJournalEntry e → (stop ≡ stops.JournalFull) ⊎ (stop ≡ stops.NoMemory) → CauseBy e stop ts
 note_cause (entries.Event line) stop ts h c = c
 note_cause (entries.Turn pid) stop ts h c = c
 note_cause (entries.Out pid bytes) stop ts h c = c
@@ -73,7 +73,7 @@ note_cause (entries.Refused pid) stop ts h c = c
 note_cause (entries.Owners free used moving held) stop ts h c = c
 note_cause _ stop ts h c = absurd h
 
-note_spoils : (files : List ImageFile) (e : Entry) (stop : Stop) (k : Kernel) (i : Option SwapImage) → IsNote e → SpoilsBy files e stop k i i
+note_spoils : (files : List ImageFile) (e : Entry) (stop : Stop) (k : Kernel) (i : Option SwapImage) → IsJournalEntry e → SpoilsBy files e stop k i i
 note_spoils files (entries.Event line) stop k i h = refl
 note_spoils files (entries.Turn pid) stop k i h = refl
 note_spoils files (entries.Out pid bytes) stop k i h = refl
@@ -81,7 +81,7 @@ note_spoils files (entries.Refused pid) stop k i h = refl
 note_spoils files (entries.Owners free used moving held) stop k i h = refl
 note_spoils files _ stop k i h = absurd h
 
-pub note_stops : (A : Inputs) (s : State) (old new : Standing) (image : SwapImage) (stop : Stop) (e : Entry) → next_unit A s ≡ Some e → IsNote e
+pub note_stops : (A : Inputs) (s : State) (old new : Standing) (image : SwapImage) (stop : Stop) (e : Entry) → next_unit A s ≡ Some e → IsJournalEntry e
     → StopsBefore old new stop
     → StopLeads A s old.kernel image stop new (Some image)
 note_stops A s old new image stop e n h x = record {

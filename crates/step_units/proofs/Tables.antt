@@ -23,7 +23,7 @@ use Rattle.proc_calls.specs.Waiting.{is_child, is_ended_child, exit_status as ke
 use Rattle.proc_calls.specs.Growth.{space_of_pid}
 use Rattle.run_model.specs.State.{State}
 use Rattle.run_units.specs.Serving.{At}
-use Rattle.run_units.specs.Touching.{IsRunning}
+use Rattle.run_units.specs.Touching.{RunsInSpace}
 use Rattle.run_units.proofs.Stepping.{record_registers}
 
 -- The record of a process that runs.
@@ -37,7 +37,7 @@ pub record IsKept (k : Kernel) (pid : ℕ) (p : Process) (x : Space) : Type 0 wh
   pub regs : proc.regs ≡ p.regs
 
 pub is_kept : (A : Inputs) (s : State) (k : Kernel) (image : SwapImage) (pid : ℕ) (now : Bool) (p : Process) (x : Space) → At A s k image
-    → IsRunning A s pid now p x → IsKept k pid p x
+    → RunsInSpace A s pid now p x → IsKept k pid p x
 is_kept A s k image pid now p x at r =
     let flat : FlatState = s.point.flat in
     let tables : SameTables k flat = at.stands.keeps.coupled.tables in

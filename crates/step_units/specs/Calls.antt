@@ -1,4 +1,4 @@
--- A machine goes on after each call of a process.
+-- The statements that a machine goes on after each call of a process.
 use Rattle.std.specs.Prelude.{ℕ, List, Option, Result, Ok, Err}
 use Rattle.vm_facts.specs.SwapImages.{SwapImage}
 use Rattle.vm_facts.specs.Answers.{Answers}

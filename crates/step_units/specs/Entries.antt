@@ -1,4 +1,4 @@
--- A machine goes on after an entry.
+-- The statements that a machine goes on after each kind of entry.
 use Rattle.std.specs.Prelude.{◌≡◌, ℕ, List, [], Option, None}
 use Rattle.vm_facts.specs.Answers.{ByteWrite}
 use Rattle.vm_facts.specs.declared.regs.Regs.{Regs}

@@ -1,4 +1,4 @@
--- Ends of processes, and new images.
+-- The statements on ends of processes and new images: they are the process's step.
 use Rattle.std.specs.Prelude.{◌≡◌, ◌⊎◌, ℕ, Bool, List, [], ℤ, Option, Some, None, Ok, Err}
 use Rattle.vm_facts.specs.SwapImages.{SwapImage}
 use Rattle.vm_facts.specs.declared.entry.Entry.TheVariants as entries
@@ -21,7 +21,7 @@ use Rattle.proc_calls.specs.Leaving.{HasEnded, ExitComes, StopsAlive, StopsExit}
 use Rattle.proc_calls.specs.Starting.{ExecComes, StopsExec}
 use Rattle.run_model.specs.State.{State}
 use Rattle.run_model.specs.Wanted.{wanted}
-use Rattle.run_units.specs.Touching.{IsRunning}
+use Rattle.run_units.specs.Touching.{RunsInSpace}
 use Rattle.step_units.specs.Machines.{MachineAt, RunsOn, MakesCall}
 use Rattle.step_units.specs.Stepped.{StepLeads, CallLeads, StopLeads}
 
@@ -53,7 +53,7 @@ abbrev pub EndIsMade : Type 0
 EndIsMade =
     (A : Inputs) (s : State) (old new : Standing) (holds : Option (List NamedFile)) (image : SwapImage) (behind : Option SwapImage) (pid : ℕ) (now : Bool)
     (p : Process) (x : Space) (status : ℕ)
-    → MachineAt A s old holds image → IsRunning A s pid now p x → EndsWith A s pid p status → HasEnded old new pid status holds (Some image) behind
+    → MachineAt A s old holds image → RunsInSpace A s pid now p x → EndsWith A s pid p status → HasEnded old new pid status holds (Some image) behind
     → StepLeads A s old.kernel image 1 new.kernel behind
 
 -- where the machine stops before that, next units lead to the stop
@@ -62,7 +62,7 @@ EndStops =
     (A : Inputs) (s : State) (old new : Standing) (holds : Option (List NamedFile)) (image : SwapImage) (behind : Option SwapImage) (pid : ℕ) (now : Bool)
     (p : Process) (x : Space) (status : ℕ)
     (stop : Stop)
-    → MachineAt A s old holds image → IsRunning A s pid now p x → EndsWith A s pid p status → StopsAlive old new pid holds (Some image) behind stop
+    → MachineAt A s old holds image → RunsInSpace A s pid now p x → EndsWith A s pid p status → StopsAlive old new pid holds (Some image) behind stop
     → StopLeads A s old.kernel image stop new behind
 
 -- an exit is the process's step

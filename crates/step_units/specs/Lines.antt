@@ -1,4 +1,4 @@
--- What a machine makes of the lines of a schedule, and of turns.
+-- The statements on lines of a schedule and on turns: what a machine makes of them is next units.
 use Rattle.std.specs.Prelude.{◌≡◌, ℕ, ◌+◌, ◌<◌, true, false, List, [], ◌∷◌, length, slice_get, Option, Some, None}
 use Rattle.vm_facts.specs.SwapImages.{SwapImage}
 use Rattle.vm_facts.specs.declared.entry.Entry.{Entry}

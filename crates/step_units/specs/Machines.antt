@@ -1,4 +1,4 @@
--- A machine with its files, at a state of a run.
+-- A machine with its files, at a state of a run: the premise of this crate's statements.
 use Rattle.std.specs.Prelude.{◌≡◌, ℕ, Bool, List, Option, Ok}
 use Rattle.vm_facts.specs.SwapImages.{SwapImage}
 use Rattle.io_edge.specs.FileHolding.{NamedFile}
@@ -15,7 +15,7 @@ use Rattle.machine_state.specs.UserMemory.{kernel_answers}
 use Rattle.run_model.specs.State.{State}
 use Rattle.flat_model.specs.Run.{IsBetween}
 use Rattle.run_units.specs.Serving.{At}
-use Rattle.run_units.specs.Touching.{IsRunning}
+use Rattle.run_units.specs.Touching.{RunsInSpace}
 
 -- A machine whose files hold the images of a run stands at a state of the run.
 pub record MachineAt (A : Inputs) (s : State) (m : Standing) (holds : Option (List NamedFile)) (image : SwapImage) : Type 0 where
@@ -27,7 +27,7 @@ pub record MachineAt (A : Inputs) (s : State) (m : Standing) (holds : Option (Li
 pub record RunsOn (A : Inputs) (s : State) (m : Standing) (holds : Option (List NamedFile)) (image : SwapImage) (pid : ℕ) (now : Bool) (p : Process)
     (x : Space) : Type 0 where
   pub machine : MachineAt A s m holds image
-  pub running : IsRunning A s pid now p x
+  pub running : RunsInSpace A s pid now p x
   pub between : IsBetween s.point.last
 
 -- Its instruction, over the frames of the machine, comes to this call.

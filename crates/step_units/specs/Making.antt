@@ -1,4 +1,4 @@
--- Calls that make processes.
+-- The statements on fork and vfork: each is the process's step.
 use Rattle.std.specs.Prelude.{ℕ, Bool, List, Option, Some}
 use Rattle.vm_facts.specs.SwapImages.{SwapImage}
 use Rattle.io_edge.specs.FileHolding.{NamedFile}

@@ -1,4 +1,4 @@
--- A machine goes on after an access that was served.
+-- The statements that a machine goes on after an access was served.
 use Rattle.std.specs.Prelude.{ℕ, List, Option}
 use Rattle.vm_facts.specs.SwapImages.{SwapImage}
 use Rattle.vm_facts.specs.declared.page.Page.{Page}

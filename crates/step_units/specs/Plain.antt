@@ -1,4 +1,4 @@
--- Calls that call no device.
+-- The statements on calls that call no device: each is the process's step.
 use Rattle.std.specs.Prelude.{◌≡◌, ℕ, Bool, List, Option, Some, Err}
 use Rattle.vm_facts.specs.SwapImages.{SwapImage}
 use Rattle.io_edge.specs.FileHolding.{NamedFile}

@@ -1,4 +1,4 @@
--- What a call leaves of a machine, beside that it can go on.
+-- What each call leaves of a machine for the next one, whatever the devices gave.
 use Rattle.std.specs.Prelude.{◌≡◌, ℕ, ◌+◌, ◌≤◌, List, [], ◌∷◌, ◌++◌, length}
 use Rattle.vm_facts.specs.declared.entry.Entry.{Entry}
 use Rattle.vm_facts.specs.declared.entry.Entry.TheVariants as entries

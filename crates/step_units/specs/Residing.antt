@@ -1,4 +1,4 @@
--- Who is in, in the closing phase.
+-- That in the closing phase nobody goes out.
 use Rattle.std.specs.Prelude.{◌≡◌, ℕ, false, List, Option}
 use Rattle.vm_facts.specs.SwapImages.{SwapImage}
 use Rattle.vm_facts.specs.declared.entry.Entry.{Entry}

@@ -27,7 +27,7 @@ use Rattle.run_model.specs.Act.{act}
 use Rattle.run_model.specs.Next.{when, or_else}
 use Rattle.run_model.specs.Lawful.{Follows}
 use Rattle.run_units.specs.RunLawsRunning.{CanRun}
-use Rattle.run_units.specs.Touching.{IsRunning}
+use Rattle.run_units.specs.Touching.{RunsInSpace}
 use Rattle.step_units.specs.Machines.{MachineAt, MakesCall}
 use Rattle.step_units.specs.Stepped.{StepLeads, StopLeads}
 use Rattle.step_units.specs.Leaving.{EndsWith}
@@ -70,7 +70,7 @@ pub record ReplyRests (A : Inputs) (s : State) (m : Standing) (pid : ℕ) (carry
   pub space : Space
   pub effect : Effect
   pub call : SystemCall
-  pub running : IsRunning A s pid now process space
+  pub running : RunsInSpace A s pid now process space
   pub makes : MakesCall m process space effect call
   pub unwanted : wanted A s ≡ None
   pub next : act A s pid ≡ Some (call_entry pid call (replied effect.regs carry r0))
@@ -85,7 +85,7 @@ pub record EndRests (A : Inputs) (s : State) (m : Standing) (pid : ℕ) : Type 0
   pub process : Process
   pub space : Space
   pub address : ℕ
-  pub running : IsRunning A s pid now process space
+  pub running : RunsInSpace A s pid now process space
   pub below : run (kernel_answers m.kernel space.sid) (instruction process.regs) ≡ Err (Below address)
   pub ends : EndsWith A s pid process 11
 

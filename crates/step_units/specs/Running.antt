@@ -1,4 +1,4 @@
--- Instructions that make no call, and pages that they wait for.
+-- The statements on instructions without a call, and on pages that they wait for.
 use Rattle.std.specs.Prelude.{◌≡◌, ◌⊎◌, ℕ, ◌<◌, Bool, true, false, List, [], ◌∷◌, length, Option, Some, None, Ok, Err}
 use Rattle.vm_facts.specs.SwapImages.{SwapImage}
 use Rattle.vm_facts.specs.declared.page.Page.{Page}
@@ -22,7 +22,7 @@ use Rattle.proc_calls.specs.Touches.{TouchedAs, TouchedNow, AccessComes, AccessS
 use Rattle.run_model.specs.State.{State}
 use Rattle.run_model.specs.Wanted.{touched_next, AllValid, locked}
 use Rattle.run_units.specs.Leads.{Leads}
-use Rattle.run_units.specs.Touching.{IsRunning, WantsPage}
+use Rattle.run_units.specs.Touching.{RunsInSpace, WantsPage}
 use Rattle.step_units.specs.Machines.{RunsOn}
 use Rattle.step_units.specs.Stepped.{StepLeads, MarkEnds, StopLeads}
 use Rattle.step_units.specs.Leaving.{EndsWith}
@@ -48,7 +48,7 @@ pub record EndsUngrown (A : Inputs) (s : State) (m new : Standing) (holds : Opti
     (x : Space) : Type 0 where
   pub state : State
   pub leads : Leads A s m.kernel image (entries.Refused pid ∷ []) state new.kernel (Some image)
-  pub running : IsRunning A state pid now p x
+  pub running : RunsInSpace A state pid now p x
   pub ends : EndsWith A state pid p 11
   pub count : state.count ≡ s.count
   pub lines : state.lines ≡ s.lines

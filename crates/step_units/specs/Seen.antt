@@ -1,4 +1,4 @@
--- Who may make a call.
+-- That who is seen to hold a space and to be in may make a call.
 use Rattle.std.specs.Prelude.{◌≡◌, ℕ, false, List, [], Some}
 use Rattle.proc_table.specs.declared.process.Proc.{Proc as Record}
 use Rattle.proc_table.specs.declared.process.Life.TheVariants.{Holds}

@@ -1,4 +1,4 @@
--- What each call leaves of a machine, where it stops too.
+-- What stays of a machine at every call, where it stops too: sizes, images, bound.
 use Rattle.std.specs.Prelude.{◌≡◌, ◌≤◌, length}
 use Rattle.vm_facts.specs.declared.stop.Stop.{Stop}
 use Rattle.vm_facts.specs.declared.stop.Stop.TheVariants as stops

@@ -1,4 +1,4 @@
--- The call that moves the end of the data.
+-- The statements on the call that moves the end of the data.
 use Rattle.std.specs.Prelude.{ℕ, Bool, List, Option, Some}
 use Rattle.vm_facts.specs.SwapImages.{SwapImage}
 use Rattle.io_edge.specs.FileHolding.{NamedFile}

@@ -1,4 +1,4 @@
--- What a call of a machine leads to in a run.
+-- To which state a call leads in a run, or where the run stops in it. The other statements end in these.
 use Rattle.std.specs.Prelude.{◌≡◌, ℕ, ◌+◌, ◌<◌, ◌≤◌, false, List, [], length, Option, Some, None}
 use Rattle.vm_facts.specs.SwapImages.{SwapImage}
 use Rattle.vm_facts.specs.declared.entry.Entry.{Entry}

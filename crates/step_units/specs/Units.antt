@@ -1,4 +1,4 @@
--- A machine goes on after units of paging.
+-- The statements that a machine goes on after units of paging.
 use Rattle.std.specs.Prelude.{◌≡◌, ℕ, ◌≤◌, List, [], Option}
 use Rattle.vm_facts.specs.SwapImages.{SwapImage}
 use Rattle.vm_facts.specs.declared.entry.Entry.{Entry}

@@ -1,3 +1,4 @@
+//! Laws of a machine under a mark of which some units are made already. There is no code here.
 ghost use Rattle.step_units.specs.Halfway.{InterruptWaits, BroughtInMayCome, PutOutIsIn, PuttingIsMade, PuttingStops, BringingIsMade, BringingStops};
 
 /// Under a mark of which some units may be made already a machine finds what its calls ask for: a transfer that is in flight, a

@@ -1,3 +1,4 @@
+//! Laws that the next call may be made after each call, whatever the devices gave. There is no code here.
 ghost use Rattle.step_units.specs.Seen.{CallerIsSeen};
 ghost use Rattle.step_units.specs.Ready.{SelfContinues, BothContinue, LastCountsFew};
 ghost use Rattle.step_units.specs.Entries.{EntryContinues, FoundContinues, NoteContinues, RanContinues, RoomContinues, WritesContinue, PassContinues};

@@ -1,3 +1,4 @@
+//! Laws that what a machine makes of instructions and calls is next units of a run. There is no code here.
 ghost use Rattle.step_units.specs.Plain.{WaitIsMade, GetpidIsMade, WriteIsMade, RefusedIsMade, PlainCallStops, RefusedCallStops, WriteStops};
 ghost use Rattle.step_units.specs.Making.{VforkIsMade, VforkStops, ForkIsMade, ForkStops};
 ghost use Rattle.step_units.specs.Leaving.{SignalEnds, NoCallEnds, EndIsMade, EndStops, ExitIsMade, ExitStops, ExecIsMade, ExecStops};

@@ -1,3 +1,4 @@
+//! Laws that what a machine makes of lines and turns is next units of a run. There is no code here.
 ghost use Rattle.step_units.specs.Lines.{LineBegins, LineStops, InterruptIsMade, IdleInterruptEnds, InterruptStops, HandsAreMade, HandsStop};
 ghost use Rattle.step_units.specs.Lines.{SwapperIsMade, SwapperStops, AuditIsMade, AuditStops, TurnBegins, TurnStops, ComingInIsMade, ComingInStops};
 ghost use Rattle.step_units.specs.Registers.{LongwordsStay};

@@ -7,7 +7,7 @@ use Rattle.std.proofs.lemmas.Option.{slice_get_within, get_or_from_slice_get}
 use Rattle.swap_dmap.specs.Chunks.{pieces, text_pieces}
 use Rattle.swap_dmap.proofs.PieceLaws.{pieces_front}
 use Rattle.std.proofs.lemmas.List.Edits.{length-remove}
-use Rattle.resource_map.specs.Blocks.{Blocks, is_free, marked, taken, freed}
+use Rattle.resource_map.specs.Blocks.{Blocks, is_free_block, marked, taken, freed}
 use Rattle.resource_map.specs.Room.{lowest_room}
 use Rattle.resource_map.proofs.RoomLaws.{IsLowestRoom, lowest_room_gives, lowest_room_same}
 use Rattle.resource_map.proofs.BlockLaws.{length-marked, is_free-marked_in, is_free-marked_out}
@@ -26,17 +26,18 @@ use Rattle.swap_book.proofs.BookLaws.{placed_is_book, removed_is_book, lengths-p
 -- ---- the map beside the holdings
 
 -- the lowest place among the free blocks is that among the blocks that nobody holds
-pub fit_is : (map : Blocks) (hs : List Held) (n : ℕ) → Agrees map hs → 0 < n → fit (length map.free) hs n ≡ lowest_room (is_free map.free) (length map.free) n
+pub fit_is : (map : Blocks) (hs : List Held) (n : ℕ) → Agrees map hs → 0 < n
+    → fit (length map.free) hs n ≡ lowest_room (is_free_block map.free) (length map.free) n
 unfolding fit
-fit_is map hs n a some = lowest_room_same (λ b. not (is_held hs b)) (is_free map.free) (length map.free) n (λ b lt. sym (a.blocks b lt)) some
+fit_is map hs n a some = lowest_room_same (λ b. not (is_held hs b)) (is_free_block map.free) (length map.free) n (λ b lt. sym (a.blocks b lt)) some
 
-pub room_within : (map : Blocks) (n s : ℕ) → lowest_room (is_free map.free) (length map.free) n ≡ Some s → s + n ≤ length map.free
+pub room_within : (map : Blocks) (n s : ℕ) → lowest_room (is_free_block map.free) (length map.free) n ≡ Some s → s + n ≤ length map.free
 room_within map n s found =
-    let r = (subst (IsLowestRoom (is_free map.free) (length map.free) n) found (lowest_room_gives (is_free map.free) (length map.free) n)).0 in
+    let r = (subst (IsLowestRoom (is_free_block map.free) (length map.free) n) found (lowest_room_gives (is_free_block map.free) (length map.free) n)).0 in
     r.within
 
 pub agrees_added : (map : Blocks) (hs : List Held) (owner : Owner) (n s : ℕ) → Agrees map hs → 0 < n → n % 2 ≡ 0
-    → lowest_room (is_free map.free) (length map.free) n ≡ Some s
+    → lowest_room (is_free_block map.free) (length map.free) n ≡ Some s
     → (blocks : ℕ) × (lengths owner hs ++ n ∷ [] ≡ pieces_of owner blocks)
     → Agrees (taken map n (Some s)) (hs ++ record { owner = owner; start = s; length = n } ∷ [])
 agrees_added map hs owner n s a some even found next =
@@ -61,12 +62,12 @@ agrees_added map hs owner n s a some even found next =
     or_some true y e = refl
     or_some false y e = e
 
-    out : (b : ℕ) → b < length map.free → s + n ≤ length map.free → (b < s) ⊎ (s + n ≤ b) → is_free (marked map.free s n false) b ≡ not (is_held (hs ++ p ∷ []) b)
+    out : (b : ℕ) → b < length map.free → s + n ≤ length map.free → (b < s) ⊎ (s + n ≤ b) → is_free_block (marked map.free s n false) b ≡ not (is_held (hs ++ p ∷ []) b)
     out b lt within side =
         is_free-marked_out map.free s n false b within side ∙ a.blocks b lt ∙
         ap not (sym (is_held-push hs p b ∙ or_none (is_held hs b) (is_in p b) (in_outside p b side)))
 
-    at : (b : ℕ) → b < length map.free → s + n ≤ length map.free → is_free (marked map.free s n false) b ≡ not (is_held (hs ++ p ∷ []) b)
+    at : (b : ℕ) → b < length map.free → s + n ≤ length map.free → is_free_block (marked map.free s n false) b ≡ not (is_held (hs ++ p ∷ []) b)
     at b lt within = elim (cases_lt b s) [
       | inl below ↦ out b lt within (inl below)
       | inr from ↦ elim (cases_lt b (s + n)) [
@@ -78,7 +79,7 @@ agrees_added map hs owner n s a some even found next =
     ]
 
 pub piece_not_free : (map : Blocks) (hs : List Held) (at b : ℕ) (d : Held) → Agrees map hs → at < length hs
-    → (get_or hs at d).start ≤ b → b < (get_or hs at d).start + (get_or hs at d).length → is_free map.free b ≡ false
+    → (get_or hs at d).start ≤ b → b < (get_or hs at d).start + (get_or hs at d).length → is_free_block map.free b ≡ false
 piece_not_free map hs at b d a lt low high =
     let w = (a.book.pieces at d lt).within in
     a.blocks b (omega arith) ∙ ap not (held_from hs at b d lt (in_from (get_or hs at d) b low high))
@@ -97,13 +98,13 @@ agrees_removed map hs at d a lt last =
     }
   where
     out : (h : Held) → h ≡ get_or hs at d → (b : ℕ) → b < length map.free → h.start + h.length ≤ length map.free → (b < h.start) ⊎ (h.start + h.length ≤ b)
-        → is_free (marked map.free h.start h.length true) b ≡ not (is_held (remove hs at) b)
+        → is_free_block (marked map.free h.start h.length true) b ≡ not (is_held (remove hs at) b)
     out h is b b_lt within side =
         is_free-marked_out map.free h.start h.length true b within side ∙ a.blocks b b_lt ∙
         ap not (sym (is_held-remove_out hs at b d lt (ap (λ (g : Held). is_in g b) (sym is) ∙ in_outside h b side)))
 
     here : (h : Held) → h ≡ get_or hs at d → (b : ℕ) → b < length map.free → h.start + h.length ≤ length map.free
-        → is_free (marked map.free h.start h.length true) b ≡ not (is_held (remove hs at) b)
+        → is_free_block (marked map.free h.start h.length true) b ≡ not (is_held (remove hs at) b)
     here h is b b_lt within = elim (cases_lt b h.start) [
       | inl below ↦ out h is b b_lt within (inl below)
       | inr from ↦ elim (cases_lt b (h.start + h.length)) [

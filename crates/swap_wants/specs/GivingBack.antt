@@ -1,4 +1,4 @@
--- Pieces that an owner may give back after its first so many.
+-- Which pieces an owner may give back, beyond its first so many.
 use Rattle.std.specs.Prelude.{◌≡◌, ℕ, ◌<◌, ◌≤◌, ◌⊎◌, length}
 use Rattle.swap_dmap.specs.Chunks.{pieces}
 use Rattle.swap_book.specs.declared.Owner.{Owner}

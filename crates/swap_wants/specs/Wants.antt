@@ -1,4 +1,4 @@
--- Requests for pieces of swap space.
+-- What may be wanted of swap at once, and where the pieces are found: for all owners, or none.
 use Rattle.std.specs.Prelude.{◌≢◌, ℕ, Bool, true, false, List, [], ◌∷◌, ◌++◌, Result, Ok, is_ok}
 use Rattle.swap_book.specs.declared.Owner.{Owner}
 use Rattle.swap_book.specs.Holdings.{Holdings}

@@ -12,7 +12,7 @@ use Rattle.page_model.specs.Swapper as swapper
 use Rattle.kernel_model.specs.Kernel.{Proc}
 use Rattle.kernel_model.specs.Unit.{has_lender}
 use Rattle.machine_state.specs.Alike.{AreRecords}
-use Rattle.machine_state.specs.Machine.{life_shown, proc_shown, proc_of_record, processes_of, residence_by, residence_of}
+use Rattle.machine_state.specs.Machine.{life_shown, proc_shown, proc_of_record, processes_of, residence_by, residence_shown}
 use Rattle.machine_state.proofs.Records.{keeps_none, keeps_some, found_pid}
 use Rattle.machine_state.proofs.ByNumber.{over, over_none, over_some, next_follows, none_follows, residence_over}
 use Rattle.machine_state.proofs.Listed.{are_marked}
@@ -155,4 +155,4 @@ placed p ps next pid x sid h l m e s = (ap (λ (y : Residence). y.out) same, ap 
     same = sym (
         ap (λ (n : ℕ). swapper.residence_of p.residents n) (found_pid pid ps x e)
         ∙ ap (λ (rs : List Residence). swapper.residence_of rs pid) h
-        ∙ residence_over ps pid (record { pid = x.pid; out = x.out; since = x.since }) 1 (next - 1) l (omega arith) (ap residence_of e ∙ ap (residence_by x) s))
+        ∙ residence_over ps pid (record { pid = x.pid; out = x.out; since = x.since }) 1 (next - 1) l (omega arith) (ap residence_shown e ∙ ap (residence_by x) s))

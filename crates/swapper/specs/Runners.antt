@@ -1,4 +1,4 @@
--- The processes among which the swapper chooses.
+-- The processes among which the swapper chooses, from the machine's records to those of `page_model`.
 use Rattle.std.specs.Prelude.{◌≡◌, ℕ, ◌+◌, ◌-◌, ◌&&◌, Bool, false, cond, List, [], ◌∷◌, filter_map, Option, Some, None}
 use Rattle.std.specs.List.{range_with_len}
 use Rattle.proc_table.specs.declared.process.Proc.{Proc as Record}

@@ -1,4 +1,4 @@
--- What a turn of the swapper does.
+-- What one turn of the swapper does: one process comes in, one goes out, or none.
 use Rattle.std.specs.Prelude.{◌≡◌, ℕ, true, false, List, Option}
 use Rattle.vm_facts.specs.SwapImages.{SwapImage}
 use Rattle.vm_facts.specs.declared.entry.Entry.TheVariants as entries

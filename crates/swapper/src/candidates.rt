@@ -1,4 +1,5 @@
-//! Whom the swapper chooses.
+//! Which processes may go out or come in, and which of two has been so longer. Of equals the lower pid is meant.
+//! Nothing may be moved here.
 ghost use Rattle.std.specs.Prelude.{◌≡◌, ◌<◌, ◌≤◌, Some};
 ghost use Rattle.proc_table.specs.Records.{find};
 ghost use Rattle.page_model.specs.Placement.{Placement};

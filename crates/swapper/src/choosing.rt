@@ -1,4 +1,4 @@
-//! One turn of the swapper.
+//! One turn of the swapper: it chooses, and then does what it chose. One process moves at most.
 ghost use Rattle.io_edge.specs.WithFiles.{stores};
 ghost use Rattle.std.specs.Prelude.{◌≡◌, [], OnOk, OnErr, IfOk, IfErr};
 ghost use Rattle.std.specs.List.{filter};

@@ -1,4 +1,5 @@
-//! The processes with the most pages in frames.
+//! Of the four processes with the most pages in frames, the one that is in longest. Pages are counted, and may not be
+//! moved.
 ghost use Rattle.std.specs.Prelude.{◌≡◌, ◌<◌, ◌≤◌, Some, take};
 ghost use Rattle.std.specs.List.{filter};
 ghost use Rattle.proc_table.specs.Records.{find};

@@ -1,5 +1,5 @@
 //! The swapper: whole processes go out where frames are short, and come in again (the 4.3BSD book; whom it chooses is
-//! this project's profile).
+//! this project's profile). It takes no frame by itself: pages leave, and u pages are moved, by the machine's calls.
 #![tactic(auto)]
 
 mod candidates;

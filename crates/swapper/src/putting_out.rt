@@ -1,4 +1,5 @@
-//! How a process goes out and comes in.
+//! Puts a process out, unit by unit, and brings one in. Transfers that name the space end first, then pages leave,
+//! and the u page goes last; this order may not change.
 ghost use Rattle.io_edge.specs.FileRequests.{FileNotes};
 ghost use Rattle.io_edge.specs.WithFiles.{with_files, stores};
 ghost use Rattle.std.specs.Prelude.{◌≡◌, ◌⊎◌, ℕ, ◌<◌, ◌≤◌, ◌&&◌, true, false, List, [], length, Option, OnOk, OnErr, IfErr};

@@ -1,4 +1,4 @@
-//! Which pages of a space are in frames off the free list.
+//! Which pages of a space are in frames off the free list, data before stack. Nothing may be moved here.
 ghost use Rattle.std.specs.Prelude.{◌≡◌, ℕ, ◌≤◌, Bool, true};
 ghost use Rattle.flat_state.specs.PageNames.{beside, pages_from};
 ghost use Rattle.page_model.specs.Placement.{Placement, is_dirty};

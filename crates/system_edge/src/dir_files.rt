@@ -1,4 +1,4 @@
-// The files of the current folder.
+//! The files of the current folder, as a run asks for them by name. One that changes after it was found is a fault.
 ghost use Rattle.std.specs.Prelude.{◌≡◌, ◌≤◌, None, refl};
 ghost use Rattle.std.proofs.Common.{le_refl, le_trans};
 ghost use Rattle.io_edge.specs.FileRequests.{no_notes};

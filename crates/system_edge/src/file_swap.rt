@@ -1,4 +1,5 @@
-// A swap device that is a file.
+//! A swap device that is a file: made at the first call, and growing as it is written. What was never written reads
+//! as zeros.
 ghost use Rattle.std.specs.Prelude.{◌≡◌, ◌*◌, ◌+◌, ◌^◌, ◌≤◌, ◌<◌, ◌↔◌, None, IsOk, IsTrue, OnOk, OnErr, length, max, replicate, refl};
 ghost use Rattle.io_edge.specs.Told.{untold_length};
 ghost use Rattle.system_edge.specs.Holding.{HoldsBytes};

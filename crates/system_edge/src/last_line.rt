@@ -1,4 +1,4 @@
-// The last line of an output.
+//! The last line that was written, for what is told on standard error.
 ghost use Rattle.std.specs.Prelude.{◌≤◌};
 
 // How many bytes of a line are kept; the line of a fault has fewer.

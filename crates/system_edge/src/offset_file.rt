@@ -1,4 +1,4 @@
-// Files that are read and written at offsets.
+//! A file read and written at offsets, whole ranges at a time.
 ghost use Rattle.std.specs.Prelude.{ℕ, List, Option, None, OnOk};
 ghost use Rattle.system_edge.specs.Holding.{HoldsBytes};
 

@@ -1,4 +1,4 @@
-// Standard output.
+//! Standard output as an output of a run.
 ghost use Rattle.std.specs.Prelude.{◌≡◌, ◌≤◌, None, [], refl};
 ghost use Rattle.std.proofs.Common.{le_refl, le_trans};
 

@@ -1,4 +1,4 @@
-// Files that one run alone writes.
+//! Swap files belong to one run: they are locked, and for their owner alone.
 ghost use Rattle.std.specs.Prelude.{◌≡◌, ◌≤◌, ◌↔◌, IsOk};
 
 use std::fs::{File, Metadata, OpenFile, OpenOptions, Permissions, TryLockError};

@@ -1,4 +1,4 @@
-// Why the system refused a call.
+//! What the system refused, as it is told on standard error.
 use std::fmt::{Display, Formatter};
 use std::{fmt, io};
 

@@ -1,4 +1,5 @@
-// Where the bytes of a file that was found are.
+//! Where the bytes of a found file are: in place, or held where it can be read only once. Whether the file is still
+//! the same is asked here.
 ghost use Rattle.std.specs.Prelude.{◌≡◌, ◌+◌, ◌≤◌, ◌<◌, ◌↔◌, IsOk, IsTrue, OnOk, length};
 ghost use Rattle.io_edge.specs.FileHolding.{file_range};
 ghost use Rattle.system_edge.specs.Holding.{HoldsBytes};

@@ -19,7 +19,7 @@ use Rattle.page_laws.proofs.Blocks.Steps.{get_sharers, shared_as}
 use Rattle.kernel_tables.specs.declared.tables.Tables.{Tables}
 use Rattle.kernel_tables.specs.View.{Lists, Flown, flown_number, in_part, inbound_flown, transfer_shown, flown, placement_of, frames_of}
 use Rattle.kernel_tables.specs.Known.{Known, MayBring}
-use Rattle.kernel_tables.specs.Steps.{taken, coming}
+use Rattle.kernel_tables.specs.Steps.{taken_frame, coming}
 use Rattle.kernel_tables.specs.Machine.{lists_of}
 use Rattle.transfer_ring.specs.Sound.{inbound_pages}
 use Rattle.kernel_tables.specs.Moves.{BroughtPage, opened}
@@ -39,7 +39,7 @@ open_last (t ∷ u ∷ us) e ps = open_last (u ∷ us) e ps
 
 -- one page more
 abbrev pub next_lists : Tables → Tables → List Inbound → Source → Page → Inbound → Lists
-next_lists t u xs s q x = coming (taken (opened t xs s q) x.token.number (token_page (slot_at t.core.slots x.token.number)) u.core.free) x.token x.page
+next_lists t u xs s q x = coming (taken_frame (opened t xs s q) x.token.number (token_page (slot_at t.core.slots x.token.number)) u.core.free) x.token x.page
     (join_last (opened t xs s q).transfers (Reads s q) (record { page = x.page; frame = x.token.number }))
 
 pub opened_step : (t u : Tables) (xs : List Inbound) (s : Source) (q : Page) (b : Bool) (x : Inbound) → BroughtPage t u x.page b x

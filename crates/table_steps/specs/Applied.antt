@@ -1,4 +1,4 @@
--- What a change of a process asks of the tables, and what it leaves.
+-- What a change of a process asks of the tables, and the tables after it.
 use Rattle.std.specs.Prelude.{◌≡◌, ℕ, ◌<◌, true, false, [], length, map, Option, Some, None}
 use Rattle.kernel_tables.specs.Records.{find}
 use Rattle.flat_state.specs.Numbers.{AllDistinct, AllBelow}

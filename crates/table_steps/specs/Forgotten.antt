@@ -1,4 +1,4 @@
--- What the tables are left with where a page that is in a frame is forgotten.
+-- The tables once a page in a frame is forgotten: its frame is at the free list's head.
 use Rattle.std.specs.Prelude.{◌≡◌, ℕ, ◌∷◌, map, None, slice_set}
 use Rattle.vm_facts.specs.declared.page.Page.{Page}
 use Rattle.vm_facts.specs.Lists.{without}

@@ -1,4 +1,5 @@
-//! What an entry of a process does to it and to its space.
+//! What an entry of a process does to it and to its space. No swap may be sought here: it was found before. A space
+//! that loses pages must have settled.
 ghost use Rattle.std.specs.Prelude.{◌≡◌, ℕ, OnOk};
 ghost use Rattle.flat_state.specs.declared.change.Change.TheVariants.{Resize, Fork, Exec, End};
 ghost use Rattle.kernel_tables.specs.View.{placement_of};

@@ -1,4 +1,5 @@
-//! Pages that go: those of data and stack that a space loses.
+//! Pages of data and stack that a space loses; their frames go to the head of the free list. A page in a transfer may
+//! not be dropped.
 ghost use Rattle.std.specs.Prelude.{◌≡◌, ◌≢◌, ◌-◌, ◌≤◌, [], ◌∷◌, None, OnOk, slice_set};
 ghost use Rattle.vm_facts.specs.Lists.{without};
 ghost use Rattle.core_map.specs.Slots.{slot_at, token_of};

@@ -1,4 +1,5 @@
-//! Transfers that are given up at the end of a machine: the tokens of their frames are spent.
+//! Transfers that are given up at the end of a machine: the tokens of their frames are spent. No device may be called
+//! here.
 use transfer_ring::{Inbound, Outbound, Transfer, TransferRing};
 
 // The frames of pages that were being read end.

@@ -1,4 +1,5 @@
-//! Spaces that go, and text that nobody shares any more.
+//! A space goes, and with the last sharer its text. The space must have settled. Text that nobody shares rests in
+//! free frames, where it may be found again.
 ghost use Rattle.std.specs.Prelude.{◌≡◌, ◌<◌, ◌≤◌};
 ghost use Rattle.vm_facts.specs.declared.page.Page.TheVariants.{Text as TextPage};
 ghost use Rattle.text_table.specs.Texts.{text_numbered};

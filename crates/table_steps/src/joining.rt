@@ -1,4 +1,5 @@
-//! Units of one kind, one after another, which the journal counts in one entry.
+//! Moves of the hands, or instructions of a process, that the journal's last entry counts. Room must be there before
+//! one is counted. No other kind may be joined.
 ghost use Rattle.std.specs.Prelude.{◌≡◌, ◌⊎◌, ℕ, ◌+◌, ◌<◌, ◌≤◌, ◌↔◌, ◌^◌, true, length, Some, None, IsSome, OnOk, OnErr, Err};
 ghost use Rattle.std.specs.Vec.{vec_capacity, vec_len};
 ghost use Rattle.vm_facts.specs.declared.entry.Entry.TheVariants.{Hands, Ran};

@@ -1,4 +1,5 @@
-//! The pages of a transfer that was completed land.
+//! The pages of a completed transfer land, one after another. Each frame comes back from its transfer here, and must
+//! go to one place. The device was called before.
 ghost use Rattle.std.specs.Prelude.{◌≡◌, ◌&&◌, ℕ, ◌<◌, ◌≤◌, ◌^◌, ◌∷◌, ◌++◌, [], List, length, map, false, Some, slice_set};
 ghost use Rattle.vm_facts.specs.declared.page.Page.TheVariants.{Text as TextPage};
 ghost use Rattle.text_table.specs.Texts.{IsTextTable};

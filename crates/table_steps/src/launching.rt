@@ -1,4 +1,5 @@
-//! Moves of the clock's hands, and writes that begin.
+//! Moves of the clock's hands, and writes that begin. Pages leave their frames here, but the device may not be called
+//! yet. Pages that the hands pass over must stay.
 ghost use Rattle.std.specs.Prelude.{◌≡◌, ℕ, ◌+◌, ◌-◌, ◌<◌, ◌≤◌, ◌^◌, ◌++◌, [], length, true, Some, IsSome, IsTrue, IfOk};
 ghost use Rattle.std.specs.Vec.{vec_len, vec_capacity};
 ghost use Rattle.core_map.specs.Slots.{slot_at, slot_page as page_held, is_resident};

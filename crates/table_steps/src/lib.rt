@@ -1,5 +1,6 @@
 //! What the entries of a journal make of the tables of the kernel: pages that are read, land, are written and go, the
-//! moves of the hands, a process that goes out or comes in, and the change of a process; and the journal's room for them.
+//! moves of the hands, a process that goes out or comes in, and the change of a process; and the journal's room for
+//! them. Only `machine_state` may call these steps, once its journal has room.
 #![tactic(auto)]
 
 pub mod applying;

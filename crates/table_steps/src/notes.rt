@@ -1,4 +1,5 @@
-//! The journal: room is made for an entry before the step that it stands for.
+//! The journal: room is made for an entry before the step that it stands for. Where there is none, nothing may have
+//! moved.
 ghost use Rattle.std.specs.Prelude.{◌≡◌, ◌⊎◌, ◌+◌, ◌<◌, ◌≤◌, ◌↔◌, true, length, None, IfOk, OnOk, OnErr, Ok, Err, is_err};
 ghost use Rattle.std.specs.Vec.{vec_capacity, vec_len};
 

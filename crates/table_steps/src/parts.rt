@@ -1,4 +1,5 @@
-//! A part of a move of the hands, alone.
+//! A part of a move of the hands, alone: a page is made invalid, a write begins, or a clean frame is freed. The hands
+//! must stay where they are.
 ghost use Rattle.std.specs.Prelude.{◌≡◌, OnOk, OnErr};
 ghost use Rattle.kernel_model.specs.HandParts.{ExpireComes, PartComes, expire_page, part_place};
 ghost use Rattle.kernel_tables.specs.Known.{Known};

@@ -1,4 +1,4 @@
-//! The state of a page, by its entry and the core map.
+//! The state of a page, by its entry and the core map. It may be stored nowhere: it is told anew each time.
 ghost use Rattle.std.specs.Prelude.{◌≡◌};
 ghost use Rattle.core_map.specs.Slots.{slot_at};
 ghost use Rattle.kernel_tables.specs.TableViewShown.{is_away, idle_state, state_shown};

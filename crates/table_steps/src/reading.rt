@@ -1,4 +1,5 @@
-//! Reads that begin: from swap, or from the files of images.
+//! Reads that begin: from swap, or from the files of images. Each page takes a free frame, in order; the device may
+//! not be called yet.
 ghost use Rattle.std.specs.Prelude.{◌≡◌, ℕ, ◌+◌, ◌-◌, ◌<◌, ◌≤◌, ◌^◌, ◌++◌, [], length, true, Some, IfOk};
 ghost use Rattle.std.specs.Vec.{vec_len, vec_capacity};
 ghost use Rattle.transfer_ring.specs.Sound.{inbound_pages, IsSource};

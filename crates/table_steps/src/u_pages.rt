@@ -1,4 +1,5 @@
-//! The records of processes that go out and come in, and their u pages.
+//! The records of processes that go out and come in, and their u pages. Only bytes and records are made here:
+//! `machine_state` calls the device.
 ghost use Rattle.std.specs.Prelude.{◌≡◌, ℕ, Some, IsSome};
 ghost use Rattle.flat_state.specs.Flat.{cleared};
 ghost use Rattle.proc_table.specs.Records.{find};

@@ -1,4 +1,4 @@
-// Page frames, and the map of them: that the calls that take memory succeed, and what becomes of a page's bytes.
+//! Page frames, and the map of them: that the calls that take memory succeed, and what becomes of a page's bytes.
 ghost use Rattle.std.specs.Prelude.{◌≡◌, Some, IsTrue};
 ghost use Rattle.core_map.specs.Frames.{HoldsNot};
 ghost use Rattle.core_map.specs.Slots.{is_free, is_resident, slot_at, slot_page};

@@ -1,4 +1,4 @@
-// Images: headers made word by word, as the book has them, and what the files give to the pages.
+//! Images: headers made word by word, as the book has them, and what the files give to the pages.
 ghost use Rattle.aout_image.specs.Image.{IsSound};
 
 use crate::checks::is;

@@ -1,4 +1,4 @@
-// Texts and their sharers, and the records of processes.
+//! Tests of the text table and the process table.
 use crate::checks::{equals, is};
 use proc_table::{Added, Life, Proc, ProcTable};
 use text_table::TextTable;

@@ -1,4 +1,4 @@
-// Page table entries, where each page of a space is, and which neighbours move with it.
+//! Page table entries, where each page of a space is, and which neighbours move with it.
 ghost use Rattle.aout_image.specs.Image.{IsSound};
 ghost use Rattle.vax_pte.specs.Words.{IsInRange};
 

@@ -1,4 +1,4 @@
-// Swap space: the free blocks, where the pages of a segment lie, and the book of the holders.
+//! Swap space: the free blocks, where the pages of a segment lie, and the book of the holders.
 ghost use Rattle.std.specs.Prelude.{◌≡◌, ◌<◌, Some, None};
 ghost use Rattle.resource_map.specs.Blocks.{taken};
 

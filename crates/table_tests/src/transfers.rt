@@ -1,5 +1,5 @@
-// Transfers in flight: that the calls that take memory succeed, what a caller does with the transfers, and that a device is
-// called once for each page, in rising order, up to the first call that fails.
+//! Transfers in flight: that the calls that take memory succeed, what a caller does with the transfers, and that a
+//! device is called once for each page, in rising order, up to the first call that fails.
 ghost use Rattle.std.specs.Prelude.{◌≡◌, ℕ, ◌<◌, ◌∷◌, ◌++◌, [], length, drop};
 ghost use Rattle.transfer_ring.specs.Sound.{AreReachable, IsBlock, IsReachable, IsRead, IsSource, IsSourceThere, IsWrite};
 

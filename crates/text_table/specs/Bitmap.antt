@@ -1,4 +1,4 @@
--- A set of pages as a bitmap.
+-- How a set of a text's pages is kept as bits.
 use Rattle.std.specs.Prelude.{ℕ, ◌/◌, ◌%◌, ◌==◌, Bool, List, map, slice_index}
 use Rattle.std.specs.List.{range_with_len}
 use Rattle.std.specs.Int.{bit_at}

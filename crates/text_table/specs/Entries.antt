@@ -1,4 +1,4 @@
--- An entry of the text table by its fields.
+-- One entry of the text table, as callers see it.
 use Rattle.text_table.specs.Bitmap.{pages_of}
 use Rattle.text_table.specs.Texts.{Text}
 use Rattle.text_table.specs.declared.entry.Entry.{Entry}

@@ -1,4 +1,4 @@
--- The text table by its fields.
+-- The text table by its entries.
 use Rattle.std.specs.Prelude.{List, map}
 use Rattle.text_table.specs.Texts.{Text}
 use Rattle.text_table.specs.Entries.{text_in}

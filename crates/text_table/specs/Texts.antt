@@ -1,4 +1,4 @@
--- The text table as its callers see it.
+-- The text table as its callers see it: of each image, its sharers and its saved pages.
 use Rattle.std.specs.Prelude.{◌≡◌, ℕ, ◌+◌, ◌-◌, ◌==◌, Bool, false, List, length, replicate, slice_set, slice_index_or, if◌then◌else◌}
 
 -- what the table has for an image: how many spaces share its text, and for each of the text's pages

@@ -1,4 +1,4 @@
-//! What the table has for one image.
+//! What the table has for one image: sharers, and saved pages. Once the last sharer leaves nothing may stay saved.
 ghost use Rattle.std.specs.Prelude.{◌≡◌, ◌+◌, ◌-◌, ◌<◌, ◌^◌};
 ghost use Rattle.text_table.specs.Entries.{text_in};
 ghost use Rattle.text_table.specs.Texts.{unused_text, is_saved, entered, left, marked};

@@ -1,4 +1,4 @@
-//! A set of the pages of one text, as a bitmap.
+//! A set of the pages of one text, as a bitmap. It knows neither image nor sharer.
 ghost use Rattle.std.specs.Prelude.{◌≡◌, ◌≢◌, ℕ, ◌<◌, ◌==◌, if◌then◌else◌, slice_set, slice_index_or, false};
 ghost use Rattle.std.specs.Int.{bit_at};
 ghost use Rattle.text_table.specs.Bitmap.{pages_of};

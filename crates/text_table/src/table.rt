@@ -1,4 +1,5 @@
-// The table itself, over its entries.
+//! The entries of 16 images, by number. It holds no swap: who lets the last sharer leave must give the text's blocks
+//! back.
 ghost use Rattle.std.specs.Prelude.{◌≡◌, ◌+◌, ◌-◌, ◌<◌, ◌≤◌, ◌^◌};
 ghost use Rattle.text_table.specs.Texts.{IsTextTable, unused_texts, text_numbered, table_with_text, is_saved, entered, left, marked};
 

@@ -1,5 +1,5 @@
-// What a test compares, in calls. An assertion within a test is a way out of it, at which its proof lets go of all that the test
-// has; a call is one step.
+//! What a test compares, in calls. An assertion within a test is a way out of it, at which its proof lets go of all
+//! that the test has; a call is one step.
 use std::fmt::Debug;
 use std::process::Abort;
 

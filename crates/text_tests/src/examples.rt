@@ -1,4 +1,4 @@
-// What was written down of load 7 before there was a crate that makes loads.
+//! What was written down of load 7 before there was a crate that makes loads.
 
 /// Bytes that stand at an address.
 pub struct Part {

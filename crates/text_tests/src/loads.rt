@@ -1,4 +1,5 @@
-// The workload of a load: the bytes, the lines and the text that were written down before there was a crate that makes it.
+//! The workload of a load: the bytes, the lines and the text that were written down before there was a crate that
+//! makes it.
 use crate::checks::{are, is};
 use crate::examples::{LINES, Part, V, W};
 use load_maker::{Counts, Load, counts_of, load_text, make_load};

@@ -1,4 +1,4 @@
-// Traces with lines of parts of moves of the hands, which are read.
+//! Tests of traces with lines of parts of moves.
 use crate::checks::is;
 use kernel_model::HandPart;
 use paged_model::Line;

@@ -1,4 +1,4 @@
-// The fewest faults of any replacement, the faults of the least recently used, and the texts that tell both.
+//! The fewest faults of any replacement, the faults of the least recently used, and the texts that tell both.
 use crate::checks::{are, is};
 use page_opt::{Plan, Victim, check_plan, least_faults};
 use reference_answers::{curve_text, optimum_text};

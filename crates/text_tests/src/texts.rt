@@ -1,4 +1,5 @@
-// Schedules and transcripts that are read, and journals that are written: that the lines are those of the table of entries.
+//! Schedules and transcripts that are read, and journals that are written: that the lines are those of the table of
+//! entries.
 use crate::checks::{are, is};
 use io_edge::{MemSink, Moved};
 use run_text::{Schedule, Transcript, read_schedule, read_transcript, write_entry, write_text};

@@ -36,7 +36,7 @@ use Rattle.run_units.proofs.Room.{run_few}
 use Rattle.run_units.proofs.RunLawsTouching.{found_process}
 use Rattle.run_units.proofs.Left.{next_on}
 use Rattle.run_units.specs.Serving.{At}
-use Rattle.run_units.specs.Touching.{IsRunning}
+use Rattle.run_units.specs.Touching.{RunsInSpace}
 use Rattle.run_units.proofs.Touching.{SameSpots}
 use Rattle.run_units.proofs.Instructing.{same_spots}
 use Rattle.touched_pages.specs.Shown.{shown_in}
@@ -50,7 +50,7 @@ use Rattle.touched_pages.proofs.Nexts.{NextOf, step_next}
 -- It holds its space, and over the frames this answers as the flat one does, or misses.
 
 held_is : (A : Inputs) (s : State) (k : Kernel) (image : SwapImage) (pid : ℕ) (now : Bool) (p : Process) (x : Space) → At A s k image
-    → IsRunning A s pid now p x → space_of_pid k pid ≡ x.sid
+    → RunsInSpace A s pid now p x → space_of_pid k pid ≡ x.sid
 held_is A s k image pid now p x at r =
     let flat : FlatState = s.point.flat in
     let tables : SameTables k flat = at.stands.keeps.coupled.tables in
@@ -60,7 +60,7 @@ held_is A s k image pid now p x at r =
     ap space_of_life (ap life_of_proc kept.1 ∙ ap (λ (o : Outline). o.life) outline ∙ ap life_of r.holds)
 
 pub frames_cover : (A : Inputs) (s : State) (k : Kernel) (image : SwapImage) (pid : ℕ) (now : Bool) (p : Process) (x : Space) → At A s k image
-    → IsRunning A s pid now p x
+    → RunsInSpace A s pid now p x
     → Covers (kernel_answers k x.sid) (answers_of x)
 frames_cover A s k image pid now p x at r = memory_covers A.images k image.bytes flat x keeps.coupled keeps.stands.texts own (text.same ∙ sym (ap image_text text.image))
   where
@@ -84,7 +84,7 @@ unfolding touched
 touched_ready A flat pid p x here ready holds =
     ap (touched_if A.images flat) here ∙ ap (λ (b : Bool). touched_by b A.images flat p) ready ∙ ap (touched_in A.images flat p) holds
 
-runs_touch : (A : Inputs) (s : State) (pid : ℕ) (now : Bool) (p : Process) (x : Space) → IsRunning A s pid now p x
+runs_touch : (A : Inputs) (s : State) (pid : ℕ) (now : Bool) (p : Process) (x : Space) → RunsInSpace A s pid now p x
     → touched A s.point.flat pid ≡ distinct (filter_map (page_of_access x) (step_accesses A.images s.point.flat p x))
 runs_touch A s pid now p x r =
     touched_ready A s.point.flat pid p x r.here (ap ready_if (sym r.here) ∙ on_steps A s s.mark pid now r.runs.on) r.holds

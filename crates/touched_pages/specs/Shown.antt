@@ -1,4 +1,4 @@
--- A memory of which some pages alone are there.
+-- A memory of which some pages alone are there, over the frames of a machine.
 use Rattle.std.specs.Prelude.{◌≡◌, ℕ, List}
 use Rattle.std.specs.Borrow.{MutBor}
 use Rattle.vm_facts.specs.Answers.{Answers, ByteWrite, written}

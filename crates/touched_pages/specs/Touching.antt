@@ -1,4 +1,4 @@
--- A process that runs, at a state of a run.
+-- When a process runs at a state of a run, so that its touched pages may be sought.
 use Rattle.std.specs.Prelude.{◌≡◌, ℕ, Bool}
 use Rattle.vm_facts.specs.SwapImages.{SwapImage}
 use Rattle.vm_facts.specs.declared.regs.Regs.{Regs}
@@ -8,7 +8,7 @@ use Rattle.machine_state.specs.Machine.{Standing}
 use Rattle.call_reads.specs.Reading.{AreNamed}
 use Rattle.run_model.specs.State.{State}
 use Rattle.run_units.specs.Serving.{At}
-use Rattle.run_units.specs.Touching.{IsRunning}
+use Rattle.run_units.specs.Touching.{RunsInSpace}
 
 -- A machine with the images of a run stands at a state of it, at which a process runs, with these registers.
 pub record RunsWith (A : Inputs) (s : State) (now : Bool) (m : Standing) (pid : ℕ) (regs : Regs) : Type 0 where
@@ -17,5 +17,5 @@ pub record RunsWith (A : Inputs) (s : State) (now : Bool) (m : Standing) (pid : 
   pub space : Space
   pub named : AreNamed A.images m.images
   pub at : At A s m.kernel image
-  pub running : IsRunning A s pid now process space
+  pub running : RunsInSpace A s pid now process space
   pub has : process.regs ≡ regs

@@ -1,4 +1,5 @@
-//! What a call reads, over the memory of its process of which some pages alone are shown.
+//! What a call reads, over a memory of which some pages alone are shown. So the first page that it misses is found;
+//! the call may not be made.
 ghost use Rattle.std.specs.Prelude.{◌≡◌, List, IfOk};
 ghost use Rattle.user_vax.specs.Program.{run};
 ghost use Rattle.flat_state.specs.Flat.{NamedImage, FlatState, Process};

@@ -1,4 +1,5 @@
-//! The pages that an instruction touches before the first that isn't valid, and that one, whether the instruction is carried out or not.
+//! The pages that an instruction touches before the first that isn't valid, and that one, whether the instruction is
+//! carried out or not. What a trial writes may reach no frame.
 ghost use Rattle.std.specs.Prelude.{◌≡◌, ◌↔◌, Bool, true, List, IfOk};
 ghost use Rattle.user_vax.specs.Program.{run};
 ghost use Rattle.user_vax.specs.Instruction.{instruction, answer_of};

@@ -1,4 +1,5 @@
-//! The memory of a process, of which some pages alone are shown.
+//! The memory of a process, of which some pages alone are shown. An access to another page misses. Writes reach the
+//! frames, so a trial here must be of an instruction that writes nothing.
 ghost use Rattle.std.specs.Prelude.{◌≡◌};
 ghost use Rattle.flat_model.specs.Shown.{is_shown};
 ghost use Rattle.machine_state.specs.UserMemory.{page_in};

@@ -1,4 +1,4 @@
-//! A few pages, in order.
+//! A few pages in order, kept with no memory taken. An instruction touches fewer than there is room for.
 ghost use Rattle.std.specs.Prelude.{◌≡◌, ◌<◌, ◌≤◌, ◌==◌, List, [], ◌∷◌, ◌++◌, length, take};
 ghost use Rattle.vm_facts.specs.declared.page.Page.{Page as PageName};
 

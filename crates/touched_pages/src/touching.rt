@@ -1,4 +1,5 @@
-//! The pages that an instruction touches, one after another.
+//! Finds the pages that an instruction touches, one more by each trial. The instruction must be one that is refused
+//! or makes a call, so that a trial writes nothing.
 ghost use Rattle.std.specs.Prelude.{◌≡◌, ◌≤◌, Bool, false, List, [], length, Some, IfOk};
 ghost use Rattle.user_vax.specs.Program.{run};
 ghost use Rattle.user_vax.specs.Instruction.{instruction, answer_of, registers_after, writes_of};

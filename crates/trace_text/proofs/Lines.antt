@@ -45,12 +45,12 @@ entry_begins (entries.Owners free used moving held) = refl
 
 -- a line that begins as a part's, and is no part's, is none
 pub no_part : (line : List ℕ) → begins_part line ≡ true → ((x : HandPart) → IsPartWithin x → line ≡ part_line x → ⊥) → (l : Line) → IsTraceLine l line → ⊥
-no_part line b none (lines.Entry e) (h, is) = absurd (let x : true ≡ false = sym b ∙ ap begins_part is ∙ entry_begins e in cc)
+no_part line b none (lines.RunLine e) (h, is) = absurd (let x : true ≡ false = sym b ∙ ap begins_part is ∙ entry_begins e in cc)
 no_part line b none (lines.Part x) (h, is) = none x h is
 
 -- and one that begins otherwise, and is no entry's
 pub no_entry : (line : List ℕ) → begins_part line ≡ false → ((e : Entry) → IsEntryLine e line → ⊥) → (l : Line) → IsTraceLine l line → ⊥
-no_entry line b none (lines.Entry e) is = none e is
+no_entry line b none (lines.RunLine e) is = none e is
 no_entry line b none (lines.Part x) (h, is) = absurd (let y : true ≡ false = sym (part_begins x) ∙ sym (ap begins_part is) ∙ b in cc)
 
 -- A line and its text.
@@ -68,7 +68,7 @@ no_end line none x is = none (part_text x) (is ∙ part_line_is x)
 
 -- Transcripts.
 
-pub entry_lines : (es : List Entry) (ls : List (List ℕ)) → AreLines IsEntryLine es ls → AreLines IsTraceLine (map lines.Entry es) ls
+pub entry_lines : (es : List Entry) (ls : List (List ℕ)) → AreLines IsEntryLine es ls → AreLines IsTraceLine (map lines.RunLine es) ls
 entry_lines [] [] h = tt
 entry_lines [] (l ∷ ls) h = h
 entry_lines (e ∷ es) [] h = h

@@ -3,7 +3,7 @@ use Rattle.std.specs.Prelude.{◌≡◌, ◌≤◌, ℕ, List, [], ◌∷◌, �
 use Rattle.kernel_model.specs.declared.part.HandPart.{HandPart}
 use Rattle.kernel_model.specs.declared.part.HandPart.TheVariants.{Expires, Writes, Frees}
 use Rattle.paged_model.specs.declared.line.Line.{Line}
-use Rattle.paged_model.specs.declared.line.Line.TheVariants.{Entry, Part}
+use Rattle.paged_model.specs.declared.line.Line.TheVariants.{RunLine, Part}
 use Rattle.run_text.specs.Lines.{lines_in, AreLines, IsFirstBad}
 use Rattle.run_text.specs.Text.{page_text, rest_of_line}
 use Rattle.run_text.specs.Transcript.{page_numbers, AllBelow, IsEntryLine}
@@ -33,7 +33,7 @@ IsPartWithin x = AllBelow 4294967296 (part_numbers x) × WritesSome x
 
 -- the line of an entry or of a part, within its ranges
 abbrev pub IsTraceLine : Line → List ℕ → Type 0
-IsTraceLine (Entry e) line = IsEntryLine e line
+IsTraceLine (RunLine e) line = IsEntryLine e line
 IsTraceLine (Part x) line = IsPartWithin x × (line ≡ part_line x)
 
 -- what a trace reads as: its lines, or its first bad line

@@ -1,5 +1,4 @@
-// What the reader answers.
-
+//! What a trace reads as: its lines, or the first bad one.
 use paged_model::Line;
 
 /// What a trace reads as.

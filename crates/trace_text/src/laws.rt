@@ -1,3 +1,4 @@
+//! The law that a transcript is a trace of the same entries. There is no code here.
 ghost use Rattle.std.specs.Prelude.{ℕ, List, map};
 ghost use Rattle.vm_facts.specs.declared.entry.Entry.{Entry};
 ghost use Rattle.paged_model.specs.declared.line.Line.TheVariants as lines;
@@ -7,5 +8,5 @@ ghost use Rattle.trace_text.specs.Grammar.{IsTraceLine};
 
 /// A transcript is a trace, of the same entries.
 pub fn transcripts_are_traces()
-    ensures { (bytes : List ℕ) (es : List Entry) → AreLines IsEntryLine es (lines_in bytes) → AreLines IsTraceLine (map lines.Entry es) (lines_in bytes) }
+    ensures { (bytes : List ℕ) (es : List Entry) → AreLines IsEntryLine es (lines_in bytes) → AreLines IsTraceLine (map lines.RunLine es) (lines_in bytes) }
 {}

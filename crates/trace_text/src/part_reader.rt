@@ -1,4 +1,4 @@
-// The part of a line.
+//! Reads the line of a part of a move.
 ghost use Rattle.std.specs.Prelude.{◌≡◌, ℕ, ◌+◌, ◌==◌, ◌^◌, ◌<◌, ◌≤◌, [], ◌∷◌, MatchOption, IfSome, Some};
 ghost use Rattle.kernel_model.specs.declared.part.HandPart.{HandPart as PartOfMove};
 ghost use Rattle.trace_text.specs.Grammar.{IsPartWithin};

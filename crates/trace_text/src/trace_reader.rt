@@ -1,4 +1,4 @@
-// The reader of traces.
+//! Reads a whole trace, exactly by its grammar.
 ghost use Rattle.std.specs.Prelude.{◌≡◌, ◌^◌, ◌<◌, true, false, length, IfOk, MatchOption};
 ghost use Rattle.paged_model.specs.declared.line.Line.{Line as TraceLine};
 ghost use Rattle.trace_text.specs.Grammar.{IsTraceLine, IsReadTrace};
@@ -41,7 +41,7 @@ fn read_entry(alloc: Global, line: &[u8]) -> Result<Option<Line>, NoMemory>
     ensures { IfOk result (λ o. MatchOption o ((l : TraceLine) → IsTraceLine l line.now → ⊥) (λ l. IsTraceLine l line.now)) }
 {
     match read_entry_line(alloc, line)? {
-        Some(entry) => Ok(Some(Line::Entry(entry))),
+        Some(entry) => Ok(Some(Line::RunLine(entry))),
         None => Ok(None),
     }
 }

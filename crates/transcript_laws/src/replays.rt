@@ -1,4 +1,4 @@
-// `replay` over what `run` wrote.
+//! What `replay` says of what `run` wrote, over images of the same names. There is no code here.
 ghost use Rattle.command_ending.specs.declared.fault.Fault.{Fault};
 ghost use Rattle.command_ending.specs.Ending.{fault_line};
 ghost use Rattle.transcript_laws.specs.Accepting.{IsLastLine, HasPlainLine, AreAccepted, AreSameImages};

@@ -1,4 +1,4 @@
-// What is written of a run reads back, and is judged to be one.
+//! What is written of a run reads back, and is judged to be one. There is no code here.
 ghost use Rattle.std.specs.Prelude.{◌≡◌, ℕ, ◌≤◌, Bool, List};
 ghost use Rattle.vm_facts.specs.declared.entry.Entry.{Entry};
 ghost use Rattle.swap_book.specs.Holdings.{Holdings};

@@ -1,4 +1,4 @@
--- What beginning a transfer answers.
+-- What beginning a transfer comes to: it is in flight, or handed back.
 use Rattle.std.specs.Prelude.{◌≡◌, List, [], ◌∷◌, ◌++◌, ⊤}
 use Rattle.transfer_ring.specs.declared.transfer.Transfer.{Transfer}
 use Rattle.transfer_ring.specs.declared.transfer.Begun.{Begun}

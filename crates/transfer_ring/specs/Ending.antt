@@ -1,4 +1,4 @@
--- What the completion of the oldest transfer answers.
+-- What the end of the oldest transfer comes to, by the swap image before and after.
 use Rattle.std.specs.Prelude.{◌≡◌, ℕ, List, [], ◌∷◌, Option}
 use Rattle.vm_facts.specs.declared.page.Page.{Page}
 use Rattle.io_edge.specs.Count.{Rose}

@@ -1,4 +1,4 @@
--- The ring by its fields.
+-- The ring by its private fields.
 use Rattle.std.specs.Prelude.{◌≡◌, List}
 use Rattle.std.specs.Vec.{vec_capacity}
 use Rattle.transfer_ring.specs.declared.transfer.Transfer.{Transfer}

@@ -1,4 +1,4 @@
--- What a read's end says of its sources and of the counts of faults.
+-- What a read's end says of its sources, and which count of faults rose.
 use Rattle.std.specs.Prelude.{◌≡◌, ℕ, List, Option, ⊤}
 use Rattle.vm_facts.specs.SwapImages.{SwapImage}
 use Rattle.io_edge.specs.Count.{Rose}

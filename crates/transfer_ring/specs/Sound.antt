@@ -1,4 +1,4 @@
--- What holds of every transfer in flight, and what its completion needs.
+-- What holds of every transfer in flight: rising pages, sources that fit, whole frames.
 use Rattle.std.specs.Prelude.{◌≡◌, ◌<◌, ◌≤◌, ◌+◌, ◌%◌, ℕ, List, [], ◌∷◌, Option, length, ⊤}
 use Rattle.vm_facts.specs.declared.page.Page.{Page}
 use Rattle.vm_facts.specs.declared.page.Page.TheVariants.{Data, Stack, Text}

@@ -1,4 +1,5 @@
-// The calls of the devices that complete a transfer, one for each page.
+//! The calls of the devices that complete a transfer, page by page, up to the first fault. Their order may not
+//! change, and only ring.rt may ask for them.
 ghost use Rattle.std.specs.Prelude.{◌≡◌, length, take, drop, replicate, ◌-◌, ◌<◌, ◌≤◌};
 ghost use Rattle.transfer_ring.specs.Moving.{AsksFor, NotesFor, OnFilled, FailsFrom, FailsFromSome, CountsFile, CountsSwap};
 ghost use Rattle.transfer_ring.specs.Sound.{IsSource, IsSourceThere, AreSources, AreThere, AreBlocks};

@@ -1,4 +1,5 @@
-//! The ring of transfers in flight.
+//! The ring of transfers in flight. Only the oldest may complete or be abandoned. A device is called when a transfer
+//! completes, never when it begins.
 ghost use Rattle.std.specs.Prelude.{◌≡◌, ℕ, ◌+◌, ◌*◌, ◌<◌, ◌≤◌, ◌∷◌, ◌++◌, [], List, length, drop, slice_get, slice_set, IfOk, IfSome, IsNone, IsSome, Some, None, option_copied, ◌↔◌};
 ghost use Rattle.std.specs.List.{list_any};
 ghost use Rattle.io_edge.specs.Calls.{KeepsSwap, ReadsPages};

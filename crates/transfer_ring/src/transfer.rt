@@ -1,4 +1,5 @@
-//! A transfer, its parts, and what the ring answers.
+//! A transfer, its parts, and what the ring answers. Its pages are of one segment and rise; their frames may leave it
+//! only at its end.
 ghost use Rattle.std.specs.Prelude.{◌≡◌, ◌<◌, ◌^◌};
 ghost use Rattle.vm_facts.specs.Pages.{is_of_space, is_of_text};
 ghost use Rattle.transfer_ring.specs.Counting.{transfer_pages};

@@ -1,4 +1,5 @@
-// Writes whose pages lie together: they are handed to the device together.
+//! Hands pages that lie together on swap to the device by one call, others one by one. Where a call took fewer, the
+//! next goes on behind them. Only ring.rt may call.
 ghost use Rattle.std.specs.Prelude.{◌≡◌, ◌+◌, ◌*◌, ◌%◌, ◌≤◌, IfSome, length};
 ghost use Rattle.transfer_ring.specs.Sound.{AreBlocks};
 ghost use Rattle.transfer_ring.specs.Parts.{WritesParts, SpoilsParts};

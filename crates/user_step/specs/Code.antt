@@ -1,4 +1,4 @@
--- The bytes of an instruction, where they lie.
+-- The bytes of an instruction that lie together in a memory.
 use Rattle.std.specs.Prelude.{ℕ, zero, suc, List, [], ◌∷◌}
 use Rattle.vm_facts.specs.Answers.{Answers}
 use Rattle.vm_facts.specs.declared.memory.ByteRead.{ByteRead}

@@ -1,4 +1,4 @@
--- Fetching an instruction by the bytes that are there.
+-- That fetching by bytes that lie together is fetching byte by byte.
 use Rattle.std.specs.Prelude.{Result, Ok, Err}
 use Rattle.vax_code.specs.declared.instr.Decoded.{Decoded}
 use Rattle.vax_code.specs.declared.instr.Decoded.TheVariants as decodings

@@ -1,4 +1,4 @@
--- What a try of an instruction came to.
+-- What one try of an instruction comes to, and what is left of it to do.
 use Rattle.std.specs.Prelude.{◌≡◌, ℕ, ℤ, List, ◌++◌, drop, slice_index, Option, Some, None, Result, Ok, Err}
 use Rattle.vm_facts.specs.Answers.{Answers, ByteWrite, writes_down}
 use Rattle.vm_facts.specs.declared.regs.Regs.{Regs}

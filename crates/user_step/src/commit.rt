@@ -1,3 +1,4 @@
+//! Writes what an instruction computed, once all of it may be written. Where a byte may not be, none is written.
 ghost use Rattle.std.specs.Prelude.{OnOk, OnErr, Ok, ◌≡◌, ◌<◌, ◌≤◌, ℕ, ◌∷◌, [], ◌%◌, length, true, false};
 ghost use Rattle.vm_facts.specs.Ahead.{MayAhead};
 ghost use Rattle.vm_facts.specs.Answers.{Answers, ByteWrite, longword_below, writes_down};

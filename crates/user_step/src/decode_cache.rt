@@ -1,4 +1,5 @@
-//! A cache of decoded instructions, each beside the bytes that it was decoded from.
+//! A cache of decoded instructions, each beside the bytes that it was decoded from. It may only save time: what
+//! stands in memory decides.
 ghost use Rattle.std.specs.Prelude.{◌≡◌, ◌%◌, [], true, Ok, IfSome, take, slice_get};
 ghost use Rattle.vm_facts.specs.Answers.{Answers};
 ghost use Rattle.vax_code.specs.declared.instr.Decoded.TheVariants.{Is};

@@ -1,3 +1,5 @@
+//! One instruction: fetched, evaluated, computed, and written, in this order. One that is refused leaves memory and
+//! registers as they were.
 ghost use Rattle.std.specs.Prelude.{◌≡◌, [], true, false, IfOk, OnOk, Some, Result, Ok, Err};
 ghost use Rattle.vax_code.specs.Table.{row_for};
 ghost use Rattle.vax_code.specs.Valid.{HasOperands};

@@ -1,4 +1,4 @@
--- What an instruction leaves.
+-- What an instruction leaves: registers, bytes in order, and the call that it makes.
 use Rattle.std.specs.Prelude.{ℕ, zero, suc, ◌+◌, ◌*◌, ◌/◌, ◌%◌, ◌^◌, ◌-◌, Bool, List, [], ◌∷◌, ◌++◌, if◌then◌else◌, ℤ, ◌==◌, nat_le, Option, None, false}
 use Rattle.vm_facts.specs.declared.regs.Regs.{Regs}
 use Rattle.vm_facts.specs.Answers.{ByteWrite}

@@ -1,4 +1,4 @@
--- One instruction of a process, over what its memory answers.
+-- One instruction of a process, from its fetch to its effect, over what its memory answers.
 use Rattle.std.specs.Prelude.{◌≡◌, ℕ, zero, suc, List, [], ◌∷◌, ◌++◌, length, ℤ, Option, Some, None, Result, Ok, Err}
 use Rattle.vm_facts.specs.declared.regs.Regs.{Regs}
 use Rattle.vm_facts.specs.Answers.{Answers, ByteWrite}

@@ -1,4 +1,4 @@
--- What every computation over a memory keeps to.
+-- Statements on every computation over a memory: which access refused it, and what it kept to.
 use Rattle.std.specs.Prelude.{◌≡◌, ℕ, Bool, true, false, List, [], ◌∷◌, ◌++◌, Option, Some, None, Ok, Err, ◌⊎◌}
 use Rattle.vm_facts.specs.Answers.{Answers}
 use Rattle.vm_facts.specs.declared.memory.ByteRead.{ByteRead}

@@ -1,4 +1,4 @@
--- Evaluating one operand.
+-- How one operand is evaluated: registers, addresses, and the bytes that are read.
 use Rattle.std.specs.Prelude.{ℕ, zero, suc, ◌+◌, ◌-◌, ◌*◌, ◌%◌, ◌^◌, ◌<◌, true, false, slice_index, slice_set}
 use Rattle.std.specs.Int.{w32, cast_unsigned}
 use Rattle.vm_facts.specs.declared.regs.Regs.{Regs}

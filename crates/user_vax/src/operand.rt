@@ -1,3 +1,4 @@
+//! Where an operand lies, and an operand that was evaluated, as types.
 /// Where an operand lies.
 #[derive(Clone, Copy, Debug, PartialEq, Eq)]
 pub enum Place {

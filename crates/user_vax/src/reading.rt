@@ -1,3 +1,4 @@
+//! Reads bytes, words and longwords at an address of any memory. The first refused byte is told.
 ghost use Rattle.std.specs.Prelude.{◌≡◌, ◌<◌, ◌≤◌, ◌⊎◌, ℕ, IfOk, ◌^◌};
 ghost use Rattle.user_vax.specs.Program.{run, Reads, Gives};
 ghost use Rattle.user_vax.specs.Operands.{number_at};

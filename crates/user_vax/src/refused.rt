@@ -1,3 +1,4 @@
+//! Why an instruction changed nothing: a byte that misses, or a signal.
 ghost use Rattle.std.specs.Prelude.{◌≡◌};
 ghost use Rattle.user_vax.specs.Signals.{sigill, sigfpe, sigbus, sigsegv};
 

@@ -1,3 +1,4 @@
+//! What one instruction came to, as its caller is told.
 /// What one instruction came to.
 #[derive(Clone, Copy, Debug, PartialEq, Eq)]
 pub enum Stepped {

@@ -1,4 +1,4 @@
--- What encoding one line answers.
+-- What encoding one line answers, by the functions and by the grammar.
 use Rattle.std.specs.Prelude.{◌≡◌, ◌≤◌, ℕ, List, [], length, take, Some, None}
 use Rattle.asm_grammar.specs.Encoding.{sentence_bytes, named_instruction, IsCodeOf}
 use Rattle.asm_grammar.specs.declared.syntax.Sentence.{Sentence}

@@ -1,4 +1,4 @@
--- The program that a source makes.
+-- What program a source makes: sizes, labels, bytes; or which line of it is bad.
 use Rattle.std.specs.Prelude.{◌≡◌, ◌≤◌, ℕ, ◌+◌, ◌==◌, ◌&&◌, Bool, true, false, not, if◌then◌else◌, nat_le, is_none, is_some, List, [], ◌∷◌, ◌++◌, length, take, drop, replicate, Option, Some, None}
 use Rattle.std.specs.Int.{to_le_bytes}
 use Rattle.vax_code.specs.declared.table.Row.{Row}

@@ -1,4 +1,4 @@
--- Why a line of a source is bad.
+-- Why a line of a source is bad: the first reason, in the order in which they are tried.
 use Rattle.std.specs.Prelude.{◌≡◌, ℕ, ◌+◌, ◌-◌, ◌&&◌, Bool, true, false, not, if◌then◌else◌, nat_lt, nat_le, is_none, is_some, List, take, slice_get, Option, Some, None}
 use Rattle.std.specs.Option.{option_or}
 use Rattle.vax_code.specs.declared.table.Slot.{Slot}

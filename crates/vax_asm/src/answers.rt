@@ -1,5 +1,4 @@
-// What the calls answer.
-
+//! What a source is assembled to: a program, or its lowest bad line.
 use asm_grammar::Label;
 
 /// What a line is encoded as.

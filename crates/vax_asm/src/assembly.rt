@@ -1,3 +1,4 @@
+//! Encodes a single instruction at an address, without labels.
 ghost use Rattle.std.specs.Prelude.{◌≡◌, ◌≤◌, [], length, IfSome};
 ghost use Rattle.asm_grammar.specs.Encoding.{sentence_bytes};
 ghost use Rattle.vax_asm.specs.Encodes.{EncodesAs, EncodesByGrammar};

@@ -1,4 +1,4 @@
-// The bytes of an instruction.
+//! The bytes of one line, at most 24, kept with no memory taken.
 ghost use Rattle.std.specs.Prelude.{◌≡◌, ℕ, ◌+◌, ◌≤◌, ◌<◌, List, [], ◌∷◌, ◌++◌, length, take};
 ghost use Rattle.std.specs.Int.{to_le_bytes};
 ghost use Rattle.vax_code.specs.Operands.{width_of};

@@ -1,4 +1,4 @@
-// The bytes that operands and instructions have.
+//! The bytes of operands and instructions at an address. A value out of its range has none; reasons.rt tells why.
 ghost use Rattle.std.specs.Prelude.{◌≡◌, ℕ, ◌+◌, ◌≤◌, ◌<◌, ◌⊎◌, ◌^◌, length, IfSome, Option, Some, None, List, []};
 ghost use Rattle.asm_grammar.specs.Encoding.{whole_of, half_of, value_bits, displacement_bits, number_of_value, bits_of_value, plain_specifier, with_number, displacement_mode, place_bytes, leaves_index, indexed_bytes, literal_bytes, immediate_bytes, distance, branch_bits, target_bytes, displaced_bytes, branch_bytes, specifier_bytes, absent_bytes, operand_bytes, sentence_bytes};
 

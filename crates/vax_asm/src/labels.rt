@@ -1,4 +1,4 @@
-// The labels that lines define.
+//! The labels of a source with their addresses. Of two definitions of one label the first counts.
 ghost use Rattle.std.specs.Prelude.{◌≡◌, [], ◌∷◌, ◌++◌, IfOk, slice_get};
 ghost use Rattle.asm_grammar.specs.Encoding.{found};
 

@@ -1,4 +1,4 @@
-// The program that a source makes.
+//! Assembles a whole source in two passes: sizes and labels first, then bytes.
 ghost use Rattle.std.specs.Prelude.{◌≡◌, ℕ, ◌+◌, ◌*◌, ◌≤◌, ◌<◌, ◌++◌, Bool, true, false, Option, Some, None, List, [], ◌∷◌, IfOk, length, replicate, if◌then◌else◌, not, ◌&&◌};
 ghost use Rattle.asm_grammar.specs.Lines.{items_in};
 ghost use Rattle.asm_grammar.specs.Grammar.{SaysLines};

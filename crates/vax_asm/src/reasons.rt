@@ -1,4 +1,4 @@
-// Why a line is bad.
+//! Why a source is no program: the first reason against its lowest bad line.
 ghost use Rattle.std.specs.Prelude.{◌≡◌, ◌⊎◌, ◌+◌, ◌≤◌, ◌<◌, ◌^◌, true, IfOk, IfNone, Some};
 ghost use Rattle.std.specs.Option.{option_copied};
 ghost use Rattle.asm_grammar.specs.Encoding.{found};

@@ -1,4 +1,4 @@
--- Bytes that come one after another.
+-- Bytes that come one after another from a source, and how many may still come.
 use Rattle.std.specs.Prelude.{◌≡◌, ℕ, suc, ◌+◌, ◌≤◌, length, List, [], ◌∷◌, Option, Some, None}
 
 -- the next byte is the first of those that are left, and is there where one is left

@@ -1,3 +1,4 @@
+//! Bytes that come one after another, so that an instruction is read from memory or from a list alike.
 ghost use Rattle.std.specs.Prelude.{◌≡◌, ℕ, List, length};
 ghost use Rattle.vax_code.specs.Sources.{Next};
 

@@ -1,4 +1,4 @@
-// What the bytes of an instruction say.
+//! Reads bytes as an instruction that the assembler's grammar can write.
 ghost use Rattle.std.specs.Prelude.{◌≡◌, ◌⊎◌, ◌<◌, ◌≤◌, ◌+◌, ◌^◌, length, IfSome};
 ghost use Rattle.vax_code.specs.Reading.{Took};
 ghost use Rattle.asm_grammar.specs.Text.{Gives};

@@ -1,4 +1,4 @@
-// Bytes as text.
+//! Shows the instruction that bytes begin with, with how many bytes it has.
 ghost use Rattle.vax_disasm.specs.Showing.{ShowsAs};
 
 use crate::bytes::sentence_at;

@@ -1,4 +1,4 @@
-// A line that is written.
+//! The text of one line, at most 120 bytes, kept with no memory taken.
 ghost use Rattle.std.specs.Prelude.{◌≡◌, ℕ, ◌+◌, ◌≤◌, ◌<◌, List, [], ◌∷◌, ◌++◌, length, take};
 ghost use Rattle.vax_disasm.specs.Showing.{hexadecimal_digit, hexadecimal};
 

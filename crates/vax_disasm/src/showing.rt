@@ -1,4 +1,4 @@
-// The text of an instruction.
+//! The text of an instruction, which the assembler reads back.
 ghost use Rattle.std.specs.Prelude.{◌≡◌, ◌<◌, ◌≤◌, ◌+◌, ◌++◌, length};
 ghost use Rattle.vax_disasm.specs.Showing.{sign_text, number_text, value_text, register_number_text, register_text, parenthesised_text, star_text, mark_of_size, displacement_text, place_text, written_text, row_place_text, sentence_text};
 

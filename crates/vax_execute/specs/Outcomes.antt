@@ -1,4 +1,4 @@
--- What operands and a computation come to, and the effect that it stands for.
+-- What operands and a computation come to in the code, and the effect that this stands for.
 use Rattle.std.specs.Prelude.{◌≡◌, ℕ, ◌≤◌, ◌⊎◌, Bool, true, false, List, [], ◌∷◌, ◌++◌, take, drop, slice_index, Option, Some, None, Result, Ok, Err}
 use Rattle.vm_facts.specs.Answers.{ByteWrite, longword_below, writes_down}
 use Rattle.vm_facts.specs.declared.regs.Regs.{Regs}

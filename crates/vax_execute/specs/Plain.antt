@@ -1,4 +1,4 @@
--- Which instructions stay in registers.
+-- Which instructions stay in registers, so that no memory is asked.
 use Rattle.std.specs.Prelude.{◌≡◌, Bool, true, false}
 use Rattle.vax_code.specs.declared.instr.Instr.{Instr}
 use Rattle.vax_code.specs.declared.instr.Operand.{Operand}

@@ -1,3 +1,4 @@
+//! Arithmetic on the low byte of a longword, with its condition codes.
 ghost use Rattle.std.specs.Prelude.{◌≡◌};
 ghost use Rattle.user_vax.specs.Bytes.{byte_of, signed_byte, coded_byte, byte_after, byte_before, widened, narrowed};
 

@@ -1,3 +1,4 @@
+//! Procedure calls: what CALLS and CALLG push, and the registers after them.
 ghost use Rattle.std.specs.Prelude.{◌≡◌, ◌<◌, ◌≤◌, ◌+◌, ◌++◌, ◌∷◌, ◌*◌, ◌^◌, ℕ, List, true, OnOk, if◌then◌else◌};
 ghost use Rattle.user_vax.specs.Program.{run};
 ghost use Rattle.user_vax.specs.Computation.{computation};

@@ -1,3 +1,4 @@
+//! What each instruction computes from its operands. Its table of cases is the one of `user_vax`.
 ghost use Rattle.std.specs.Prelude.{◌≡◌, false, ◌^◌, ◌%◌, ◌-◌, ℕ, true, Some, Ok, OnOk};
 ghost use Rattle.std.specs.Int.{w16, cast_signed};
 ghost use Rattle.vm_facts.specs.Answers.{Answers};

@@ -1,3 +1,4 @@
+//! The few kinds of effect of which all instructions are made: a store, a jump, a push, a count.
 ghost use Rattle.std.specs.Prelude.{◌≡◌, false};
 ghost use Rattle.user_vax.specs.Effects.{registers_only, with_move_codes, with_test_codes, store_effect, move_effect, result_effect, jump_effect, count_effect, entry_effect, push_effect};
 ghost use Rattle.user_vax.specs.Operands.{IsPlace};

@@ -1,4 +1,4 @@
-//! Operands are evaluated.
+//! Evaluates operands from left to right. Registers move with each, as the next ones see.
 ghost use Rattle.std.specs.Prelude.{◌%◌, ◌≡◌, ◌<◌, ◌≤◌, ◌⊎◌, ℕ, true, false, IfOk, Ok, ◌^◌};
 ghost use Rattle.vm_facts.specs.Answers.{Answers};
 ghost use Rattle.user_vax.specs.Program.{run};

@@ -1,3 +1,4 @@
+//! What an instruction will write, told before anything is written.
 ghost use Rattle.std.specs.Prelude.{◌≡◌, Some};
 ghost use Rattle.user_vax.specs.Effects.{push_onto};
 ghost use Rattle.vax_execute.specs.Outcomes.{IsFresh, IsSize, IsOutcome, effect_of};

@@ -1,3 +1,4 @@
+//! What a procedure call pushes, kept with no memory taken.
 ghost use Rattle.std.specs.Prelude.{◌≡◌, ◌<◌, ◌+◌, slice_index, take};
 ghost use Rattle.user_vax.specs.Effects.{push_onto};
 ghost use Rattle.user_vax.specs.Frames.{with_aligned_stack};

@@ -1,3 +1,4 @@
+//! An instruction whose operands are evaluated.
 ghost use Rattle.std.specs.Prelude.{◌≡◌};
 ghost use Rattle.vax_execute.specs.Outcomes.{calls_procedure};
 

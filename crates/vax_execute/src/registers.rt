@@ -1,3 +1,4 @@
+//! Sets a register, or the condition codes by their three rules.
 ghost use Rattle.std.specs.Prelude.{◌≡◌, ◌<◌, ◌⊎◌};
 ghost use Rattle.user_vax.specs.Effects.{with_codes, with_move_codes, with_test_codes};
 ghost use Rattle.user_vax.specs.Operands.{with_register};

@@ -1,3 +1,4 @@
+//! The return from a procedure: it pops what its call pushed.
 ghost use Rattle.std.specs.Prelude.{◌≡◌, ◌<◌, ◌*◌, ◌%◌, if◌then◌else◌};
 ghost use Rattle.vm_facts.specs.Ahead.{AreAhead};
 ghost use Rattle.user_vax.specs.Program.{run, Gives};

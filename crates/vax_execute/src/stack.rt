@@ -1,3 +1,4 @@
+//! Pops longwords, and returns from a subroutine.
 ghost use Rattle.std.specs.Prelude.{◌≡◌, ◌<◌};
 ghost use Rattle.vm_facts.specs.Ahead.{AreAhead};
 ghost use Rattle.user_vax.specs.Program.{run};

@@ -1,4 +1,5 @@
-// What no clause says: the bytes of sources that were written down before the assembler was, and the texts of instructions.
+//! What no clause says: the bytes of sources that were written down before the assembler was, and the texts of
+//! instructions.
 use crate::examples::EXAMPLES;
 use crate::forms::gives;
 use std::alloc::Global;

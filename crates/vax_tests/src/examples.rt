@@ -1,4 +1,4 @@
-// The sources of examples/, and the bytes and the `.bss` that each must give, written down before the assembler was.
+//! The sources of examples/, and the bytes and the `.bss` that each must give, written down before the assembler was.
 
 pub struct Example {
     pub source: &'static [u8],

@@ -1,4 +1,5 @@
-// What the tests of the forms of a source ask: what a line says, and what `vmrun as` tells of one that it doesn't take.
+//! What the tests of the forms of a source ask: what a line says, and what `vmrun as` tells of one that it doesn't
+//! take.
 use asm_grammar::{Label, Number, Place, SourceLine, Statement, Value, Written, item_of};
 use io_edge::MemFiles;
 use source_commands::explain_source;

@@ -1,4 +1,4 @@
-// Results and condition codes, how bytes spell an instruction, and one instruction over a memory of 64 bytes.
+//! Results and condition codes, how bytes spell an instruction, and one instruction over a memory of 64 bytes.
 ghost use Rattle.std.specs.Prelude.{◌≡◌};
 ghost use Rattle.std.proofs.Common.{refl, ap, sym, ◌∙◌};
 ghost use Rattle.vm_facts.specs.Answers.{written};

@@ -1,4 +1,5 @@
-// The forms of numbers, labels, statements and lines: for each a table of texts of that form with what they say, and near misses.
+//! The forms of numbers, labels, statements and lines: for each a table of texts of that form with what they say, and
+//! near misses.
 use crate::forms::{
     LOOP, are_lines, are_no_labels, are_no_values, are_numbers, are_outside, are_refused,
     are_statements, are_values, gives, label, minus, plus, said_by, tells, told,

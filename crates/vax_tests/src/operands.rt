@@ -1,4 +1,5 @@
-// The forms of operands and instructions: for each a table of texts of that form with what they say, and near misses.
+//! The forms of operands and instructions: for each a table of texts of that form with what they say, and near
+//! misses.
 use crate::forms::{
     LOOP, are_no_operands, are_no_targets, are_only_targets, are_operands, are_outside, are_places,
     are_refused, label, minus, operand_of, plus,

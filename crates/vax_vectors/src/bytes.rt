@@ -1,3 +1,4 @@
+//! A memory of plain bytes, in which recorded instructions run.
 ghost use Rattle.std.specs.Prelude.{◌≡◌, ◌^◌};
 ghost use Rattle.std.proofs.Common.{refl, ap, sym, ◌∙◌};
 ghost use Rattle.vm_facts.specs.Answers.{written};

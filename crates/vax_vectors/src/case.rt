@@ -1,3 +1,4 @@
+//! One recorded instruction: memory and registers before, and what must stand after.
 use crate::bytes::{Bytes, zeros};
 use crate::text::{byte, number};
 use std::alloc::{AllocError, Global};

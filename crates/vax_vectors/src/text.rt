@@ -1,3 +1,4 @@
+//! Reads hexadecimal numbers of the recorded lines.
 /// The value of a hexadecimal digit.
 fn digit(byte: u8) -> Option<u32> {
     match byte {

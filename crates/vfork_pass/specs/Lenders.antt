@@ -1,4 +1,4 @@
--- Who lends a space to a process, by the records.
+-- Who lends a space to a process, by the records of the process table.
 use Rattle.std.specs.Prelude.{◌≡◌, ℕ, ◌<◌, Bool, true, false, List, Option, Some, None}
 use Rattle.proc_table.specs.declared.process.Proc.{Proc as Record}
 use Rattle.proc_table.specs.Records.{find}

@@ -1,4 +1,4 @@
--- What becomes of the lives of processes where a space passes.
+-- What becomes of two processes where a space passes between them.
 use Rattle.std.specs.Prelude.{◌≡◌, ◌≢◌, ℕ, false}
 use Rattle.kernel_model.specs.Kernel.{Life, New, HoldsSpace, LendsSpace, Kernel}
 use Rattle.kernel_model.specs.Unit.{has_lender}

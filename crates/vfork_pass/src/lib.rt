@@ -1,4 +1,5 @@
 //! Spaces that are lent: a child of vfork runs in its parent's space, until it execs or ends (the 4.3BSD book).
+//! Neither call appends an entry, so nothing may come between it and the entry that it belongs to.
 #![tactic(auto)]
 
 ghost use Rattle.std.specs.Prelude.{◌≡◌, true};

@@ -1,4 +1,4 @@
--- What is known of the units that were made where the run stops.
+-- What is known of the units that were made where a run stops.
 use Rattle.std.specs.Prelude.{◌≡◌, ℕ, List, Option}
 use Rattle.vm_facts.specs.SwapImages.{SwapImage}
 use Rattle.vm_facts.specs.declared.stop.Stop.{Stop}

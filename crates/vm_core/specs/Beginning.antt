@@ -1,4 +1,4 @@
--- First processes begin one by one.
+-- How first processes begin, until all do or one finds no pieces.
 use Rattle.std.specs.Prelude.{◌≡◌, ◌⊎◌, ℕ, List, [], ◌∷◌}
 use Rattle.machine_state.specs.Machine.{Standing}
 use Rattle.machine_state.specs.Beginning.{StartedFirst, FindsNoPlace}

@@ -1,4 +1,4 @@
--- A whole run over the paged machine, between two of its calls.
+-- The state of a `Core` between two of its calls: the premise and the end of each.
 use Rattle.std.specs.Prelude.{◌≡◌, ℕ, ◌+◌, ◌<◌, ◌≤◌, ◌^◌, List, length, slice_get, Option, Some}
 use Rattle.vm_facts.specs.SwapImages.{SwapImage}
 use Rattle.vm_facts.specs.declared.entry.Entry.{Entry}

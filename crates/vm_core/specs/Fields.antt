@@ -1,4 +1,4 @@
--- The fields of a run.
+-- The private fields of a `Core`, as callers see them.
 use Rattle.vm_core.specs.Cores.{Underway}
 use Rattle.vm_core.specs.declared.run.Core.TheInside.{Inside}
 

@@ -1,4 +1,4 @@
--- The start of a run.
+-- What the start of first processes asks of a machine, and what it leaves.
 use Rattle.std.specs.Prelude.{◌≡◌, ℕ, ◌≤◌, List, [], ◌∷◌, length, None, Result, Ok, Err}
 use Rattle.swap_book.specs.Holdings.{Holdings}
 use Rattle.flat_state.specs.Flat.{Inputs}

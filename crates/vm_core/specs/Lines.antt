@@ -1,4 +1,4 @@
--- What the machine makes of a line of the schedule.
+-- A machine under the mark of a line of the schedule.
 use Rattle.std.specs.Prelude.{◌≡◌, ℕ, List, Option, Some}
 use Rattle.vm_facts.specs.SwapImages.{SwapImage}
 use Rattle.vm_facts.specs.declared.event.Event.{Event}

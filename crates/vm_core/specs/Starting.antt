@@ -1,4 +1,4 @@
--- The start of a run.
+-- What the start of a core asks, and where it leads or stops.
 use Rattle.std.specs.Prelude.{◌≡◌, ◌⊎◌, ℕ, List, Option, Some}
 use Rattle.vm_facts.specs.SwapImages.{SwapImage}
 use Rattle.vm_facts.specs.declared.entry.Entry.{Entry}

@@ -1,4 +1,4 @@
--- Steady machines stay so, and what lines ask for.
+-- That a machine stays fit for the next call through each line.
 use Rattle.std.specs.Prelude.{◌≡◌, ℕ, ◌+◌, ◌≤◌}
 use Rattle.vm_facts.specs.declared.event.Event.{Event}
 use Rattle.vm_facts.specs.declared.event.Event.TheVariants as events

@@ -1,4 +1,4 @@
-//! The first processes begin one by one.
+//! First processes begin one by one, until the pieces of one find no place. No entry may stand in the journal yet.
 ghost use Rattle.std.specs.Prelude.{◌≡◌, ◌≤◌, ◌+◌, true, [], length, IfOk, IfErr, OnOk, OnErr};
 ghost use Rattle.machine_state.specs.Going.{CanGoOn};
 ghost use Rattle.step_units.specs.Sizes.{SameSizes};

@@ -1,4 +1,5 @@
-//! The closing phase, after the last line of the schedule.
+//! The closing phase: processes have turns until none can step, or the count is full. It may begin only once every
+//! line was taken.
 ghost use Rattle.io_edge.specs.WithFiles.{stores};
 ghost use Rattle.std.specs.Prelude.{◌≡◌, ◌+◌, ◌<◌, ◌≤◌, ℕ, true, false, Some, None, OnOk, IfOk, IfErr, IfSome};
 ghost use Rattle.flat_state.specs.Journal.{instructions_of};

@@ -1,4 +1,4 @@
-//! The lines of a schedule.
+//! Takes one line of the schedule. Its entry must come first, and then what it asks for.
 ghost use Rattle.io_edge.specs.WithFiles.{stores};
 ghost use Rattle.std.specs.Prelude.{◌≡◌, ◌<◌, ◌≤◌, ◌↔◌, OnOk, IfOk, IfErr};
 ghost use Rattle.machine_state.specs.Outside.{IsBacked, stop_of, TransfersPages};

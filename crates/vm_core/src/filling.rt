@@ -1,4 +1,4 @@
-//! What is due is filled in turn.
+//! Fills what is due, in the order in which it became due. It must be over before a line or a turn begins.
 ghost use Rattle.io_edge.specs.WithFiles.{stores};
 ghost use Rattle.std.specs.Prelude.{◌≤◌, ◌∷◌, [], length, OnOk, IfErr, MatchResult};
 ghost use Rattle.vm_facts.specs.declared.page.Page.{Page as AnyPage};

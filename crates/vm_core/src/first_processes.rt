@@ -1,4 +1,5 @@
-//! The first processes of a run start.
+//! The first processes of a run start, and their stack pages are filled. `Core` and `Film` start alike by it, once
+//! and before all else.
 ghost use Rattle.io_edge.specs.WithFiles.{stores};
 ghost use Rattle.std.specs.Prelude.{◌≡◌, ◌≤◌, ℕ, List, [], length, Some, IfOk, IfErr, Ok};
 ghost use Rattle.vm_facts.specs.SwapImages.{SwapImage};

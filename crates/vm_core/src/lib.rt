@@ -1,4 +1,5 @@
-//! A whole run over the paged machine: its start, the lines of its schedule, and its closing phase (this project's profile).
+//! A whole run over the paged machine: its start, the lines of its schedule, and its closing phase (this project's
+//! profile). No table and no device may be reached but by the machine's calls.
 //!
 //! The start has a part over a machine (`start`), which begins the first processes and fills their stack pages; `fill_rest` fills whatever is due.
 #![tactic(auto)]

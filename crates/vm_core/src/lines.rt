@@ -1,4 +1,5 @@
-//! What a line of the schedule asks for, but to run a process.
+//! What a line of the schedule asks for, but to run a process. The line's own entry must stand in the journal
+//! already.
 ghost use Rattle.io_edge.specs.WithFiles.{stores};
 ghost use Rattle.std.specs.Prelude.{◌≡◌, ◌⊎◌, ◌≤◌, ℕ, List, [], length, Option, Err, OnOk, OnErr, IfErr};
 ghost use Rattle.vm_facts.specs.SwapImages.{SwapImage};

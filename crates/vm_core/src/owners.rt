@@ -1,4 +1,5 @@
-//! The numbers of frames and blocks by who has them.
+//! How many frames and blocks are free, in use or in transfers, for an entry that tells it. Nothing may be moved
+//! here.
 ghost use Rattle.std.specs.Prelude.{◌≡◌, ◌≤◌};
 ghost use Rattle.machine_state.specs.Going.{CanGoOn};
 ghost use Rattle.run_model.specs.Next.{blocks_held, owners_of};

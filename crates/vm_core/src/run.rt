@@ -1,4 +1,5 @@
-//! A run and its machine.
+//! `Core`: a machine, and how many instructions its run counted. The count may not pass the limit. It must be ended,
+//! since frames can't be dropped.
 ghost use Rattle.std.specs.Prelude.{◌≡◌, ◌+◌, ◌<◌, ◌≤◌, true, false, [], length, map, None, IfOk};
 ghost use Rattle.machine_state.specs.Machine.{image_shown};
 ghost use Rattle.machine_state.specs.New.{fresh_kernel, AreSound};

@@ -1,4 +1,4 @@
-//! A process runs, for a dispatch or a turn.
+//! A process runs for a dispatch or a turn, up to a count of instructions. The count may not pass the run's limit.
 ghost use Rattle.io_edge.specs.WithFiles.{stores};
 ghost use Rattle.std.specs.Prelude.{◌≡◌, ◌+◌, min, IfOk, IfErr};
 ghost use Rattle.machine_state.specs.Outside.{IsBacked, stop_of, TransfersPages};

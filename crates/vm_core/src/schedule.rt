@@ -1,4 +1,4 @@
-// A run from its start to its end.
+//! A whole run by one call: start, lines, closing phase, in this order. After a stop nothing more may be done.
 ghost use Rattle.io_edge.specs.WithFiles.{stores};
 ghost use Rattle.std.specs.Prelude.{◌≡◌, ◌<◌, ◌≤◌, ◌^◌, ℕ, false, List, [], length, Some, Err, All, IfOk, IfErr, OnOk};
 ghost use Rattle.vm_facts.specs.SwapImages.{SwapImage};

@@ -1,4 +1,4 @@
-//! The start of a run.
+//! The start of a run, by its `Core`. It comes once, before every line.
 ghost use Rattle.io_edge.specs.WithFiles.{stores};
 ghost use Rattle.std.specs.Prelude.{◌≡◌, ◌≤◌, ℕ, List, [], length, Some, IfOk, IfErr, Ok};
 ghost use Rattle.vm_facts.specs.SwapImages.{SwapImage};

@@ -1,4 +1,4 @@
--- Bytes that lie together in a memory.
+-- Bytes that lie together in a memory, and may be read or written at once.
 use Rattle.std.specs.Prelude.{◌≡◌, ℕ, ◌+◌, ◌-◌, ◌%◌, ◌^◌, ◌<◌, List, length, slice_index}
 use Rattle.vm_facts.specs.Answers.{Answers}
 use Rattle.vm_facts.specs.declared.memory.ByteRead.TheVariants.{Is}

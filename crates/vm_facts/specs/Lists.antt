@@ -1,4 +1,4 @@
--- Lists of numbers.
+-- Words on lists of numbers: how often one stands there, and the list without it.
 use Rattle.std.specs.Prelude.{ℕ, ◌+◌, ◌==◌, cond, List, [], ◌∷◌, slice_set}
 
 -- how often a number stands in a list

@@ -1,4 +1,4 @@
--- Bytes.
+-- When numbers are bytes.
 use Rattle.std.specs.Prelude.{ℕ, ◌<◌, List, [], ◌∷◌}
 
 -- each number is a byte

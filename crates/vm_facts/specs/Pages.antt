@@ -1,4 +1,4 @@
--- Whose a page is.
+-- Whose a page is: a space's, or an image's text.
 use Rattle.std.specs.Prelude.{ℕ, ◌==◌, Bool, false}
 use Rattle.vm_facts.specs.declared.page.Page.{Page}
 use Rattle.vm_facts.specs.declared.page.Page.TheVariants.{Data, Stack, Text}

@@ -1,3 +1,4 @@
+//! Bytes that an entry of the journal owns.
 ghost use Rattle.std.specs.Prelude.{◌≡◌, ◌+◌, ◌≤◌, ℕ, List, length};
 ghost use Rattle.vm_facts.specs.Lists.{overwritten};
 

@@ -1,3 +1,4 @@
+//! An entry of the journal, as a type: a line of a transcript, with paging lines or without.
 use crate::bytes::Bytes;
 use crate::page::Page;
 

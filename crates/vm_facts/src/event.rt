@@ -1,3 +1,4 @@
+//! A line of a schedule, as a type.
 /// One line of a schedule (this project's profile).
 #[derive(Clone, Copy, Debug, PartialEq, Eq, Drop)]
 pub enum Event {

@@ -1,3 +1,4 @@
+//! The memory of one process, as an instruction meets it, as a trait. A byte may be there, missing or refused.
 ghost use Rattle.std.specs.Prelude.{◌≡◌, ℕ, ◌*◌, true, false, List, [], ◌∷◌, ◌++◌, length};
 ghost use Rattle.vm_facts.specs.Ahead.{AreAhead, MayAhead, MayBelow};
 ghost use Rattle.vm_facts.specs.Answers.{Answers, ByteWrite, written, writes_from, writes_down};

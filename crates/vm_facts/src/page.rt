@@ -1,3 +1,4 @@
+//! The names of pages, and the states that a page can be in.
 /// The name of a page of 1,024 bytes, a cluster of two VAX pages (the 4.3BSD book).
 #[derive(Clone, Copy, Debug, PartialEq, Eq, Drop)]
 pub enum Page {

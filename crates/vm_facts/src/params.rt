@@ -1,3 +1,4 @@
+//! The sizes of a run: frames, blocks, instructions, entries.
 /// The sizes of one run (this project's profile gives their ranges).
 #[derive(Clone, Copy, Debug, PartialEq, Eq, Drop)]
 pub struct Params {

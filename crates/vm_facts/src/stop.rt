@@ -1,3 +1,4 @@
+//! Why a run stops before its end, and want of memory.
 ghost use Rattle.std.specs.Prelude.{◌≡◌};
 
 use std::alloc::{AllocError, AllocFailed};

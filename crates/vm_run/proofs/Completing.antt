@@ -9,7 +9,7 @@ use Rattle.command_ending.specs.Command.{Writes, All, Prefix}
 use Rattle.command_words.specs.Asked.{Request}
 use Rattle.repage_command.specs.Seen.{Seen}
 use Rattle.repage_command.specs.Machines.{journal_entries}
-use Rattle.repage_command.specs.RunCommandEnds.{RunEnding, status_of, DevicesSuffice, IsCaused, IsJudged, EndsTold}
+use Rattle.repage_command.specs.RunCommandEnds.{RunEnding, run_status, DevicesSuffice, IsCaused, IsJudged, EndsTold}
 use Rattle.repage_command.specs.Loads.{load_numbers, IsLoadCaused}
 use Rattle.repage_command.proofs.Found.{no_absent, no_bad_event, no_failed_image}
 use Rattle.vm_run.specs.Complete.{IsWellTold, NoneRose, RunsComplete, LoadsComplete, ToldLoadsComplete}
@@ -22,7 +22,7 @@ whole_status before after old new text whole status (Prefix is appends rose) nev
 
 -- what is left for an ending
 abbrev Left : RunEnding → List Entry → Type 0
-Left ending journal = (status_of ending ≡ 0) ⊎ ((status_of ending ≡ 9) ⊎ ((status_of ending ≡ 10) × (length journal ≡ journal_entries)))
+Left ending journal = (run_status ending ≡ 0) ⊎ ((run_status ending ≡ 9) ⊎ ((run_status ending ≡ 10) × (length journal ≡ journal_entries)))
 
 module _ (request : Request) (seen : Seen) (files : List NamedFile) (image : SwapImage) (journal : List Entry) (is : IsWellTold request seen files image) (none : NoneRose seen) where
   left : (ending : RunEnding) → IsCaused request seen journal ending → IsJudged request seen files ending → EndsTold request seen files journal image ending → Left ending journal
@@ -42,7 +42,7 @@ module _ (request : Request) (seen : Seen) (files : List NamedFile) (image : Swa
 
 pub runs_complete : RunsComplete
 runs_complete request seen status files image runs is none =
-    let whole = whole_status seen.written_before seen.written_after seen.sink_faults_before seen.sink_faults_after _ (status_of runs.ending) status runs.writes none.sink in
+    let whole = whole_status seen.written_before seen.written_after seen.sink_faults_before seen.sink_faults_after _ (run_status runs.ending) status runs.writes none.sink in
     let ended = left request seen files image runs.journal is none runs.ending runs.caused (runs.judged files is.files_told) (runs.told files image is.files_told is.octets is.swap_told) in
     elim ended [
       | inl zero ↦ inl (whole ∙ zero)
@@ -65,7 +65,7 @@ module _ (seen : Seen) (journal : List Entry) (devices : DevicesSuffice load_num
 
 pub loads_complete : LoadsComplete
 loads_complete number seen status loads devices none =
-    let whole = whole_status seen.written_before seen.written_after seen.sink_faults_before seen.sink_faults_after _ (status_of loads.ending) status loads.writes none.sink in
+    let whole = whole_status seen.written_before seen.written_after seen.sink_faults_before seen.sink_faults_after _ (run_status loads.ending) status loads.writes none.sink in
     let ended = left_of_load seen loads.journal devices none loads.ending loads.caused in
     elim ended [
       | inl zero ↦ inl (whole ∙ zero)

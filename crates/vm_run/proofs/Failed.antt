@@ -7,7 +7,7 @@ use Rattle.command_ending.specs.declared.fault.Fault.TheVariants as faults
 use Rattle.command_ending.specs.Ending.{Ending, status_of as status_of_ending}
 use Rattle.command_ending.specs.Command.{Faults, NoFaults, EndCounted, Writes, All, Prefix, Completes}
 use Rattle.repage_command.specs.Seen.{Seen, NoneFailed}
-use Rattle.repage_command.specs.RunCommandEnds.{RunEnding, status_of, NothingDone, Unbegun, NoneFaulted, PageFailedAlone, ReadFailedAlone, WriteFailedAlone, IsCaused}
+use Rattle.repage_command.specs.RunCommandEnds.{RunEnding, run_status, NothingDone, Unbegun, NoneFaulted, PageFailedAlone, ReadFailedAlone, WriteFailedAlone, IsCaused}
 use Rattle.repage_command.specs.Loads.{IsLoadCaused}
 use Rattle.vm_run.specs.Obeying.{Obeys, LeavesFiles, LeavesDevice}
 use Rattle.vm_run.specs.Failing.{FileFailedAlone, FailedOnce, NoCall, FileCall, ReadCall, WriteCall, FailsByStatus}
@@ -98,7 +98,7 @@ module _ (seen : Seen) where
   page_call failed = record { file = inr failed.page; reads = failed.reads; writes = failed.writes }
 
   -- a run
-  run_names : (request : Request) (journal : List Entry) (ending : RunEnding) → IsCaused request seen journal ending → Names (status_of ending)
+  run_names : (request : Request) (journal : List Entry) (ending : RunEnding) → IsCaused request seen journal ending → Names (run_status ending)
   run_names request journal (Ok done) c = no_call 0 (inl (omega arith)) c.0
   run_names request journal (Err (faults.Absent name)) c = no_call 2 (inl (omega arith)) (unbegun journal c)
   run_names request journal (Err (faults.NotImage name reason)) c = no_call 3 (inl (omega arith)) (unbegun journal c)
@@ -116,7 +116,7 @@ module _ (seen : Seen) where
   run_names request journal (Err _) c = absurd c.0
 
   -- a load
-  load_names : (journal : List Entry) (ending : RunEnding) → IsLoadCaused seen journal ending → Names (status_of ending)
+  load_names : (journal : List Entry) (ending : RunEnding) → IsLoadCaused seen journal ending → Names (run_status ending)
   load_names journal (Ok done) c = no_call 0 (inl (omega arith)) c.0
   load_names journal (Err (faults.ShortDevice device blocks needed)) c = no_call 12 (inr (omega arith)) (unbegun journal c.0)
   load_names journal (Err faults.FileFault) c = absurd c
@@ -190,9 +190,9 @@ module _ (seen : Seen) (status : ℕ) (F Z O : Type 0) (files : F → NoFaults s
   obeys_fails None x f z o =
       written seen _ 1 status x (no_call seen 1 (inl (omega arith)) (record { files = files f; reads = no_reads z o; writes = no_writes z o }))
   obeys_fails (Some (Run traced numbers schedule images)) x f z o =
-      written seen _ (status_of x.ending) status x.writes
+      written seen _ (run_status x.ending) status x.writes
       (run_names seen (record { traced = traced; numbers = numbers; schedule = schedule; words = images }) x.journal x.ending x.caused)
-  obeys_fails (Some (Load number)) x f z o = written seen _ (status_of x.ending) status x.writes (load_names seen x.journal x.ending x.caused)
+  obeys_fails (Some (Load number)) x f z o = written seen _ (run_status x.ending) status x.writes (load_names seen x.journal x.ending x.caused)
   obeys_fails (Some (Replay transcript images)) x f z o =
       completes_fails seen _ _ status x (λ read device ends. ends) (λ read device ends. ends) (no_reads z o) (no_writes z o)
   obeys_fails (Some (Assemble source)) x f z o =

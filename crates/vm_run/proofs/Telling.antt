@@ -9,7 +9,7 @@ use Rattle.command_ending.specs.Command.{Faults, Writes, Completes}
 use Rattle.run_text.specs.Text.{text_of}
 use Rattle.io_edge.specs.Octets.{AreOctetFiles}
 use Rattle.repage_command.specs.Headlines.{Says}
-use Rattle.repage_command.specs.RunCommandEnds.{ending_line, status_of}
+use Rattle.repage_command.specs.RunCommandEnds.{ending_line, run_status}
 use Rattle.repage_command.specs.Seen.{Seen}
 use Rattle.repage_command.specs.Paired.{image_together}
 use Rattle.vm_run.specs.Obeying.{Obeys}
@@ -91,8 +91,8 @@ headline_told None files list zero one zero_image one_image zb ob zero_blocks on
 headline_told (Some request) files list zero one zero_image one_image zb ob zero_blocks one_blocks empty written none faults status f octets z o zs os e n c = record {
   journal = c.journal;
   ending = c.ending;
-  writes = subst (λ (k : ℕ). Writes (Some []) written k faults (text_of request.traced c.journal ++ ending_line c.ending) (status_of c.ending) status) n
-      (subst (λ (b : Option (List ℕ)). Writes b written none faults (text_of request.traced c.journal ++ ending_line c.ending) (status_of c.ending) status) e c.writes);
+  writes = subst (λ (k : ℕ). Writes (Some []) written k faults (text_of request.traced c.journal ++ ending_line c.ending) (run_status c.ending) status) n
+      (subst (λ (b : Option (List ℕ)). Writes b written none faults (text_of request.traced c.journal ++ ending_line c.ending) (run_status c.ending) status) e c.writes);
   says = subst (λ (k : ℕ). Says request list k one_blocks c.journal c.ending) zs
       (subst (λ (k : ℕ). Says request list zb k c.journal c.ending) os (c.told list zero_image one_image f octets z o));
 }

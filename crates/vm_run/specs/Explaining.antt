@@ -1,4 +1,4 @@
--- What is told beside the line of a fault.
+-- What is told beside the line of a fault, by the words and the status.
 use Rattle.std.specs.Prelude.{◌≡◌, ◌==◌, ℕ, Bool, true, false, List, Option, Some, None}
 use Rattle.std.specs.Borrow.{Bor}
 use Rattle.io_edge.specs.FileHolding.{NamedFile}

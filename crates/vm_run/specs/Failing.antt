@@ -1,4 +1,4 @@
--- Which calls failed, by the status.
+-- Which calls failed, by the status with which a run ended.
 use Rattle.std.specs.Prelude.{◌≡◌, ◌⊎◌, ◌<◌, ℕ}
 use Rattle.io_edge.specs.Count.{Rose}
 use Rattle.command_ending.specs.Command.{OneFailed}

@@ -1,4 +1,4 @@
--- The headline, of the words of a command line.
+-- The headline, for any words of a command line: it speaks where they ask for a run.
 use Rattle.std.specs.Prelude.{ℕ, List, Option, Some, None}
 use Rattle.vm_facts.specs.SwapImages.{SwapImage}
 use Rattle.io_edge.specs.FileHolding.{NamedFile}

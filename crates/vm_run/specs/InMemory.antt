@@ -20,7 +20,7 @@ use Rattle.repage_command.specs.Seen.{Seen}
 use Rattle.repage_command.specs.Machines.{journal_entries}
 use Rattle.repage_command.specs.Paired.{image_together}
 use Rattle.repage_command.specs.Headlines.{Says}
-use Rattle.repage_command.specs.RunCommandEnds.{RunEnding, status_of, ending_line, Writing, IsCaused, IsJudged, EndsTold}
+use Rattle.repage_command.specs.RunCommandEnds.{RunEnding, run_status, ending_line, Writing, IsCaused, IsJudged, EndsTold}
 use Rattle.repage_command.specs.Loads.{load_written, finished_lines, IsLoadCaused, LoadEnded}
 use Rattle.repage_command.specs.Question.{Question}
 use Rattle.repage_command.specs.Question.TheVariants as questions
@@ -72,7 +72,7 @@ pub record LoadsTold (number : ℕ) (seen : Seen) (image : SwapImage) (status : 
   pub ending : RunEnding
   pub journal : List Entry
   pub writes : Writes seen.written_before seen.written_after seen.sink_faults_before seen.sink_faults_after (load_written number journal ending)
-      (status_of ending) status
+      (run_status ending) status
   pub within : length journal ≤ journal_entries
   pub caused : IsLoadCaused seen journal ending
   pub told : LoadEnded number seen journal (image_with_files no_notes image) (with_files no_notes seen.swap_after) ending
@@ -134,7 +134,7 @@ DoesInMemory asked files zero_blocks one_blocks zero one written faults status =
 pub record HeadlineTold (request : Request) (files : List NamedFile) (zero_blocks one_blocks : ℕ) (written : Option (List ℕ)) (faults status : ℕ) : Type 0 where
   pub journal : List Entry
   pub ending : RunEnding
-  pub writes : Writes (Some []) written 0 faults (text_of request.traced journal ++ ending_line ending) (status_of ending) status
+  pub writes : Writes (Some []) written 0 faults (text_of request.traced journal ++ ending_line ending) (run_status ending) status
   pub says : Says request files zero_blocks one_blocks journal ending
 
 -- the same of words, where they ask for a run

@@ -1,4 +1,4 @@
--- What the words of a command line ask for is done.
+-- That what the words ask for is done, command by command: the contract of the program's call.
 use Rattle.std.specs.Prelude.{ℕ, Option, Some, None, Err}
 use Rattle.command_words.specs.Asked.{Asked, Run, Load, Replay, Assemble, Show, Optimum, Curve, Owners, Film, Stats, References, Grade, Repage, RepageOwners, Policies}
 use Rattle.command_ending.specs.declared.fault.Fault.TheVariants.{BadWords}

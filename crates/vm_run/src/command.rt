@@ -1,3 +1,5 @@
+//! `vmrun`, the call that the program makes: the words are read, and their command is done. Its contract is the
+//! headline.
 ghost use Rattle.std.specs.Prelude.{◌≡◌, map};
 ghost use Rattle.command_words.specs.Asked.{request_of, asked_of};
 ghost use Rattle.repage_command.specs.Outside.{KeepsOutside};

@@ -1,3 +1,4 @@
+//! What is told beside the line of a fault, by the command and the status.
 ghost use Rattle.std.specs.Prelude.{◌≡◌, ◌==◌, IfOk, IfErr, map, option_map};
 ghost use Rattle.io_edge.specs.Calls.{KeepsFiles};
 ghost use Rattle.command_ending.specs.declared.fault.Fault.TheVariants.{NoMemory};

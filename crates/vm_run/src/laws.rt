@@ -1,3 +1,4 @@
+//! Laws that sound inputs with no failed call come to a finished run or a told limit. There is no code here.
 ghost use Rattle.vm_run.specs.Complete.{RunsComplete, LoadsComplete, ToldLoadsComplete};
 
 /// Where files and swap devices are told, the schedule, the images and the devices are good, the first processes' pieces find their

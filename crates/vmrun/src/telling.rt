@@ -1,4 +1,4 @@
-// What is told of how a run ended, beside its output.
+//! What is told of how a run ended, beside its output: whose refusal, after which status.
 ghost use Rattle.std.specs.Prelude.{◌≡◌, ◌≢◌, ◌⊎◌, ◌↔◌, IsSome, IsTrue};
 ghost use Rattle.std.specs.Process.{exit_status};
 

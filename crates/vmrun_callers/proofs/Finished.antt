@@ -14,7 +14,7 @@ use Rattle.run_opening.specs.Images.{images_found}
 use Rattle.command_words.specs.Asked.{Request}
 use Rattle.vm_run.specs.RunHeadline.{last_snapshot}
 use Rattle.vm_run.specs.Headlines.{Says}
-use Rattle.vm_run.specs.RunCommandEnds.{RunEnding, ending_line, status_of}
+use Rattle.vm_run.specs.RunCommandEnds.{RunEnding, ending_line, run_status}
 use Rattle.vm_run.specs.InMemory.{HeadlineTold, HeadlineInMemory}
 use Rattle.flat_laws.specs.Visible.{visible_of, has_end, IsSingle, Begins}
 use Rattle.flat_laws.specs.Agreement.{IsPair}
@@ -36,7 +36,7 @@ run_written : (request : Request) (files : List NamedFile) (zero_blocks one_bloc
     → HeadlineTold request files zero_blocks one_blocks written faults status → status ≡ 0 → IsWritten request.words files request.traced written
 run_written request files zero_blocks one_blocks written faults status headline zero = go headline.ending headline.writes headline.says
   where
-    go : (ending : RunEnding) → Writes (Some []) written 0 faults (text_of request.traced headline.journal ++ ending_line ending) (status_of ending) status
+    go : (ending : RunEnding) → Writes (Some []) written 0 faults (text_of request.traced headline.journal ++ ending_line ending) (run_status ending) status
         → Says request files zero_blocks one_blocks headline.journal ending → IsWritten request.words files request.traced written
     go (Ok done) (All whole appends none) says = record {
       inputs = says.inputs;

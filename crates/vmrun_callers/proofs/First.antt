@@ -38,7 +38,7 @@ use Rattle.page_laws.specs.Spans.{is_hands, ends_moving, adds, added}
 use Rattle.page_laws.proofs.Spanning.{adds_one, units_added}
 use Rattle.vm_run.specs.RunCommandAsking.{AsksFor}
 use Rattle.vm_run.specs.Seen.{DeviceFailed}
-use Rattle.vm_run.specs.RunCommandEnds.{RunEnding, status_of, ending_line, Writing, IsCaused, IsJudged, EndsTold}
+use Rattle.vm_run.specs.RunCommandEnds.{RunEnding, run_status, ending_line, Writing, IsCaused, IsJudged, EndsTold}
 use Rattle.vm_run.specs.Paired.{image_together}
 use Rattle.vm_run.specs.InMemory.{seen_of, blank_pair, RunsTold, DoesInMemory}
 use Rattle.vm_run.proofs.Found.{no_absent, no_bad_event, no_failed_image}
@@ -218,7 +218,7 @@ module _ (swap : Option SwapImage) (written : Option (List ℕ)) (faults : ℕ) 
   ended_so : (ending : RunEnding) → IsCaused request (seen_of first_files 256 0 swap written faults) told.journal ending
       → IsJudged request (seen_of first_files 256 0 swap written faults) first_files ending
       → EndsTold request (seen_of first_files 256 0 swap written faults) first_files told.journal image ending
-      → status ≡ status_of ending → written ≡ Some (text_of false told.journal ++ ending_line ending) → IsFirstRun status written
+      → status ≡ run_status ending → written ≡ Some (text_of false told.journal ++ ending_line ending) → IsFirstRun status written
   ended_so (Ok done) caused judged run same wrote =
       let made = run.ended.made in
       let units = finished_units run.inputs (asks_hi run.inputs run.asks) made.holdings made.can.pieces made.units run.ended.state made.follows run.ended.none in

@@ -1,4 +1,4 @@
--- How the replay ends of what a run wrote.
+-- How the replay of a run's own text ends.
 use Rattle.std.specs.Prelude.{◌≡◌, ◌<◌, ℕ, Bool, List, [], ◌∷◌, length, codes, Option, Some}
 use Rattle.run_text.specs.Lines.{lines_in}
 use Rattle.command_ending.specs.Ending.{fault_line}

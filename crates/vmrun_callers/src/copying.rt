@@ -1,4 +1,4 @@
-// Files in memory, once more and with one beside them.
+//! Copies of files in memory, for callers that make two calls.
 ghost use Rattle.std.specs.Prelude.{◌≡◌, ◌+◌, ◌∷◌, ◌++◌, [], map, vec_len, IfOk};
 ghost use Rattle.io_edge.specs.FileHolding.{named_file};
 

@@ -1,5 +1,5 @@
-// The run that README shows, made in memory, writes just the six lines that README shows, and ends with status 0; or its output fails, or
-// memory is wanted.
+//! The run that README shows, made in memory, writes just the six lines that README shows, and ends with status 0; or
+//! its output fails, or memory is wanted.
 ghost use Rattle.std.specs.Prelude.{◌≡◌, map, IfOk};
 ghost use Rattle.io_edge.specs.FileHolding.{named_file};
 ghost use Rattle.vmrun_callers.specs.FirstRun.{first_files, IsFirstRun};

@@ -1,3 +1,4 @@
+//! A caller that runs and then replays: what was written is accepted.
 ghost use Rattle.std.specs.Prelude.{◌≡◌, ◌<◌, ◌+◌, ◌^◌, IsTrue, None, map, vec_len, IfOk};
 ghost use Rattle.io_edge.specs.FileHolding.{named_file, place_of};
 ghost use Rattle.command_words.specs.Words.{is_plain, is_name};

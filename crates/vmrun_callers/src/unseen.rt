@@ -1,5 +1,5 @@
-// Paging is not seen: two runs of one image, in memory, write the same outputs, replies and end, whatever the frames, the swap
-// space and the schedule are.
+//! Paging is not seen: two runs of one image, in memory, write the same outputs, replies and end, whatever the
+//! frames, the swap space and the schedule are.
 ghost use Rattle.std.specs.Prelude.{◌<◌, ◌^◌, map, vec_len, IfOk};
 ghost use Rattle.io_edge.specs.FileHolding.{named_file};
 ghost use Rattle.command_words.specs.Asked.{request_of, asked_of};

@@ -1,4 +1,4 @@
-// The words that ask for the replay of a run.
+//! The words of a replay of what a run's words wrote.
 ghost use Rattle.std.specs.Prelude.{◌≡◌, map, IfOk};
 ghost use Rattle.command_words.specs.Asked.{asked_of};
 ghost use Rattle.vmrun_callers.specs.Replayed.{replay_words};

@@ -28,7 +28,7 @@ use Rattle.run_model.specs.Snapshot.{before_absent}
 use Rattle.run_model.specs.After.{place_at, after}
 use Rattle.run_model.specs.Act.{act}
 use Rattle.run_model.specs.Next.{next_unit}
-use Rattle.run_model.specs.Kinds.{ProcessRuns, Comes, Kind, Fills, Brings, Copies, Serves, Acts, ComesIn, Interrupts, Moves, PutsOut, Notes, Begins}
+use Rattle.run_model.specs.Kinds.{ProcessRuns, Comes, Kind, Fills, Brings, Copies, ServesWanted, Acts, ProcessComes, Interrupts, Moves, PutsOut, Notes, Begins}
 use Rattle.run_model.proofs.NextUnits.{kind_of}
 use Rattle.run_model.proofs.Wanting.{split_absent, none_absent, split_first, split_before, all_present}
 use Rattle.run_laws.specs.Running.{IsRun}
@@ -90,9 +90,9 @@ works A s pid u m d h n = go (kind_of A s u h)
     go (Fills q ds e i) = absurd (let z : [] ≡ _ ∷ ds = sym d ∙ e in cc)
     go (Brings q parent ds e i) = absurd (let z : [] ≡ _ ∷ ds = sym d ∙ e in cc)
     go (Copies q parent ds e k i) = absurd (let z : [] ≡ _ ∷ ds = sym d ∙ e in cc)
-    go (Serves p now q r w i) = let k = unit_is s.place q now u i in Serving now q (subst (λ (x : ℕ). ProcessRuns A s x now) (same p now r) r) w k.0 k.1
+    go (ServesWanted p now q r w i) = let k = unit_is s.place q now u i in Serving now q (subst (λ (x : ℕ). ProcessRuns A s x now) (same p now r) r) w k.0 k.1
     go (Acts p now r w a) = Acting now (subst (λ (x : ℕ). ProcessRuns A s x now) (same p now r) r) w (subst (λ (x : ℕ). act A s x ≡ Some u) (same p now r) a)
-    go (ComesIn p e c i) =
+    go (ProcessComes p e c i) =
         let k = comes_out A s s.mark p pid m c in
         Entering (subst (λ (x : ℕ). is_out s.place x ≡ true) k.0 k.1) (i ∙ ap (λ (x : ℕ). entries.SwapIn x) k.0)
     go (Interrupts e k i) = absurd (other marks.Interrupt k refl)

@@ -13,10 +13,10 @@ use Rattle.repage_check.proofs.lines.judge_line.Goals as goal
 
 pub judge_entry-requires-clause-low : goal.judge_entry-requires-clause-low
 judge_entry-requires-clause-low g c =
-    subst (λ (l : Line). last_moves c.args.m.now.kernel.journal + moves_counted l ≤ 1000000) c.in-Entry.is c.requires.low
+    subst (λ (l : Line). last_moves c.args.m.now.kernel.journal + moves_counted l ≤ 1000000) c.in-RunLine.is c.requires.low
 
-pub returns-in-Entry-clause-told : goal.returns-in-Entry-clause-told
-returns-in-Entry-clause-told g c =
+pub returns-in-RunLine-clause-told : goal.returns-in-RunLine-clause-told
+returns-in-RunLine-clause-told g c =
     let p = c.args.past.now in
     let old = c.args.m.now in
     let new = c.judge_entry.new.m in
@@ -24,12 +24,12 @@ returns-in-Entry-clause-told g c =
     let holds = g.F.Files.holds c.args.files.now in
     let i = stores g.F.Files g.D.SwapDev c.args.files.now c.args.swap.now in
     let j = stores g.F.Files g.D.SwapDev c.judge_entry.new.files c.judge_entry.new.swap in
-    subst (λ (l : Line). IfOk c.judge_entry.result (λ reason. LeadsFrom (PastAt p old holds i) (LineTold reason l q new holds j))) (sym c.in-Entry.is)
-    (line_told c.judge_entry.result c.in-Entry.e p q old new holds i j c.judge_entry.ensures.told)
+    subst (λ (l : Line). IfOk c.judge_entry.result (λ reason. LeadsFrom (PastAt p old holds i) (LineTold reason l q new holds j))) (sym c.in-RunLine.is)
+    (line_told c.judge_entry.result c.in-RunLine.e p q old new holds i j c.judge_entry.ensures.told)
 
-pub returns-in-Entry-clause-on : goal.returns-in-Entry-clause-on
-returns-in-Entry-clause-on g c =
-    subst (λ (l : Line). IfOk c.judge_entry.result (λ reason. reason ≡ None → GoesBy (units_in l) c.args.m.now c.judge_entry.new.m)) (sym c.in-Entry.is)
+pub returns-in-RunLine-clause-on : goal.returns-in-RunLine-clause-on
+returns-in-RunLine-clause-on g c =
+    subst (λ (l : Line). IfOk c.judge_entry.result (λ reason. reason ≡ None → GoesBy (units_in l) c.args.m.now c.judge_entry.new.m)) (sym c.in-RunLine.is)
     c.judge_entry.ensures.on
 
 pub returns-in-Part-clause-told : goal.returns-in-Part-clause-told

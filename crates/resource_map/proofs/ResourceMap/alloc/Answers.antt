@@ -3,7 +3,7 @@ use Rattle.std.specs.Prelude.{position, ◌==◌}
 use Rattle.std.proofs.lemmas.Bool.{leb-true}
 use Rattle.std.proofs.lemmas.List.Quantifiers.{position-Some}
 use Rattle.resource_map.specs.declared.Extent.{Extent}
-use Rattle.resource_map.specs.Blocks.{Blocks, is_free, marked}
+use Rattle.resource_map.specs.Blocks.{Blocks, is_free_block, marked}
 use Rattle.resource_map.specs.Room.{lowest_room}
 use Rattle.resource_map.specs.Extents.{InOrder, free_blocks, cut_front}
 use Rattle.resource_map.proofs.ExtentLaws.{lies_at}
@@ -21,7 +21,7 @@ returns-in_default-clause-lowest c =
     let es = c.self.inside.extents.items in
     let p : Extent → Bool = λ e. nat_le c.args.n e.length in
     let none : position p es ≡ None = ap (position p) (sym c.deref.ensures.value) ∙ sym c.first_fit.ensures ∙ c.in_default.is in
-    subst (λ (m : Blocks). None ≡ lowest_room (is_free m.free) (length m.free) c.args.n) c.self.view_is
+    subst (λ (m : Blocks). None ≡ lowest_room (is_free_block m.free) (length m.free) c.args.n) c.self.view_is
     (sym (no_fit c.self.inside.size es c.args.n none_here c.self.invariant.order c.requires none))
 
 pub take_front-start-requires-clause-fits : goal.take_front-start-requires-clause-fits
@@ -79,7 +79,7 @@ pub returns-clause-lowest : goal.returns-clause-lowest
 returns-clause-lowest c =
     let es = c.self.inside.extents.items in
     ap (λ (s : ℕ). Some s) (start c) ∙
-    subst (λ (m : Blocks). Some (get_or es c.in-Some.at none_here).start ≡ lowest_room (is_free m.free) (length m.free) c.args.n) c.self.view_is
+    subst (λ (m : Blocks). Some (get_or es c.in-Some.at none_here).start ≡ lowest_room (is_free_block m.free) (length m.free) c.args.n) c.self.view_is
     (sym (first_fit_is c.self.inside.size es c.args.n c.in-Some.at none_here c.self.invariant.order c.requires (found c)))
 
 pub returns-clause-taken : goal.returns-clause-taken

@@ -1,6 +1,6 @@
 use Rattle.std.proofs.Common.{ℕ, ◌-◌, ◌<◌, ◌≤◌, Bool, true, List, length, get_or, sym, ap, ap₂, ◌∙◌, subst, arith}
 use Rattle.resource_map.specs.declared.Extent.{Extent}
-use Rattle.resource_map.specs.Blocks.{Blocks, is_free, marked}
+use Rattle.resource_map.specs.Blocks.{Blocks, is_free_block, marked}
 use Rattle.resource_map.specs.Extents.{InOrder, free_blocks}
 use Rattle.resource_map.proofs.BlockLaws.{length-free_blocks, is_free-free_blocks}
 use Rattle.resource_map.proofs.ExtentLaws.{lies_at}
@@ -43,7 +43,7 @@ gap c =
       one_unit = c.requires.one_unit;
       out = λ b low high.
           sym (is_free-free_blocks c.self.inside.size es b (omega arith)) ∙
-          ap (λ (m : Blocks). is_free m.free b) c.self.view_is ∙
+          ap (λ (m : Blocks). is_free_block m.free b) c.self.view_is ∙
           c.requires.not_free b low high;
     }
 

@@ -1,6 +1,6 @@
 use Rattle.std.proofs.Common.{◌≡◌, ℕ, ◌+◌, ◌<◌, ◌≤◌, true, false, List, length, sym, ap, ap₂, ◌∙◌, subst}
 use Rattle.std.specs.Prelude.{remove}
-use Rattle.resource_map.specs.Blocks.{Blocks, is_free, freed}
+use Rattle.resource_map.specs.Blocks.{Blocks, is_free_block, freed}
 use Rattle.resource_map.proofs.BlockLaws.{length-marked}
 use Rattle.swap_book.specs.declared.Held.{Held}
 use Rattle.swap_book.specs.Holdings.{IsItsOwnersLast}
@@ -17,7 +17,7 @@ free-requires-clause-not_free c = λ b low high.
     let hs = c.self.inside.holdings.items in
     let h = c.remove-start.result in
     let lt = subst (λ (s : Book). c.args.at < length s.holdings) (sym c.self.view_is) c.requires.within in
-    subst (λ (g : Held). g.start ≤ b → b < g.start + g.length → is_free c.self.inside.map.free b ≡ false) (sym c.remove-start.ensures.value)
+    subst (λ (g : Held). g.start ≤ b → b < g.start + g.length → is_free_block c.self.inside.map.free b ≡ false) (sym c.remove-start.ensures.value)
     (piece_not_free c.self.inside.map hs c.args.at b h c.self.invariant lt) low high
 
 pub invariant_of-self : goal.invariant_of-self

@@ -1,6 +1,6 @@
 use Rattle.std.proofs.Common.{◌≡◌, Bool, true, false, not, List, length, sym, ap, ◌∙◌, subst, arith}
 use Rattle.std.proofs.lemmas.List.{length-replicate, get_or-replicate}
-use Rattle.resource_map.specs.Blocks.{Blocks, is_free}
+use Rattle.resource_map.specs.Blocks.{Blocks, is_free_block}
 use Rattle.swap_book.specs.declared.Held.{Held}
 use Rattle.swap_book.specs.Holdings.{is_held}
 use Rattle.swap_book.specs.Book.{IsBook}
@@ -17,7 +17,7 @@ invariant_of-result c =
     record {
       book = subst (IsBook (length m.free)) (sym none) (empty_is_book (length m.free));
       blocks = λ b lt.
-          ap (λ (free : List Bool). is_free free b) map_is ∙
+          ap (λ (free : List Bool). is_free_block free b) map_is ∙
           get_or-replicate c.args.size b true false (omega arith) ∙
           sym (ap (λ (hs : List Held). not (is_held hs b)) none);
       spare = ap (λ (b : Blocks). b.spare) c.in_ok-new.ensures ∙ sym (ap (λ (hs : List Held). length hs) none);

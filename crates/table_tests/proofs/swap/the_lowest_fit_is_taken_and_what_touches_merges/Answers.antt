@@ -1,6 +1,6 @@
 use Rattle.std.proofs.Common.{rules, arith, ◌≡◌, ℕ, ◌+◌, ◌-◌, ◌<◌, ◌≤◌, Bool, true, false, List, ◌++◌, length, replicate, Some, None, Option, refl, ap, ◌∙◌}
 use Rattle.std.proofs.lemmas.Bool.{agree_below, agree_below_at}
-use Rattle.resource_map.specs.Blocks.{Blocks, is_free, marked, taken, freed, all_free}
+use Rattle.resource_map.specs.Blocks.{Blocks, is_free_block, marked, taken, freed, all_free}
 use Rattle.table_tests.proofs.swap.the_lowest_fit_is_taken_and_what_touches_merges.Goals as goal
 
 -- four blocks at 0 and four at 4 are taken, of ten
@@ -20,12 +20,12 @@ six_taken m0 m1 m2 m3 e0 e1 e2 e3 =
     ap (λ (free : List Bool). marked (marked free 0 4 true) 0 2 false) e0
 
 -- what a test at each of n places says of the places from a start on
-all_false : (free fs : List Bool) (start n : ℕ) → free ≡ fs → agree_below (λ k. is_free fs (start + k)) (λ k. false) n ≡ true
-    → (b : ℕ) → start ≤ b → b < start + n → is_free free b ≡ false
+all_false : (free fs : List Bool) (start n : ℕ) → free ≡ fs → agree_below (λ k. is_free_block fs (start + k)) (λ k. false) n ≡ true
+    → (b : ℕ) → start ≤ b → b < start + n → is_free_block free b ≡ false
 all_false free fs start n e all b low high =
-    ap (λ (xs : List Bool). is_free xs b) e ∙
-    ap (is_free fs) (omega arith) ∙
-    agree_below_at (λ k. is_free fs (start + k)) (λ k. false) n (b - start) all (omega arith)
+    ap (λ (xs : List Bool). is_free_block xs b) e ∙
+    ap (is_free_block fs) (omega arith) ∙
+    agree_below_at (λ k. is_free_block fs (start + k)) (λ k. false) n (b - start) all (omega arith)
 
 pub free-requires-clause-within : goal.free-requires-clause-within
 free-requires-clause-within g c =
