@@ -8,14 +8,14 @@ use Rattle.vax_code.specs.declared.table.Slot.{Slot}
 use Rattle.vax_code.specs.declared.table.Row.{Row}
 use Rattle.vax_code.specs.declared.table.Kind.{Kind}
 use Rattle.vax_code.specs.declared.table.Kind.TheVariants as kinds
-use Rattle.vax_code.specs.declared.instr.Base.{Base}
 use Rattle.vax_code.specs.declared.instr.Base.TheVariants as bases
 use Rattle.vax_code.specs.declared.instr.Operand.{Operand}
 use Rattle.vax_code.specs.declared.instr.Operand.TheVariants as operands
 use Rattle.vax_code.specs.declared.instr.Instr.{Instr}
 use Rattle.vax_code.specs.Table.{slot_of, slot_in, row_for}
-use Rattle.vax_code.specs.Operands.{width_of, is_read, is_address, is_branch, operand_of, assembled}
+use Rattle.vax_code.specs.Operands.{width_of, is_read, is_address, is_branch, assembled}
 use Rattle.vax_code.specs.Grammar.{SpellsNumber, SpellsSigned, SpellsPlain, SpellsOnPc, SpellsDisplaced, SpellsBase, LeavesIndex, SpellsIndexed, SpellsSpecifier, SpellsBranch, SpellsOperand, SpellsPlace, IsInstruction, specifier, spelled}
+use Rattle.vax_code.proofs.Spelling.{of_base, not_true}
 use Rattle.asm_grammar.specs.Text.{◌>>=◌}
 use Rattle.asm_grammar.specs.Encoding.{whole_of, half_of, value_bits, displacement_bits, as_signed, number_of_value, bits_of_value, plain_specifier, with_number, displacement_mode, displaced_bytes, place_bytes, leaves_index, indexed_bytes, literal_bytes, immediate_bytes, distance, branch_bits, target_bytes, branch_bytes, specifier_bytes, absent_bytes, operand_bytes, sentence_bytes, or_zero, named_base, named_operand, sentence_instruction}
 use Rattle.asm_grammar.specs.declared.syntax.Number.{Number}
@@ -26,6 +26,7 @@ use Rattle.asm_grammar.specs.declared.syntax.Written.{Written}
 use Rattle.asm_grammar.specs.declared.syntax.Written.TheVariants as writtens
 use Rattle.asm_grammar.specs.declared.syntax.Sentence.{Sentence}
 use Rattle.asm_grammar.specs.declared.syntax.Definition.{Definition}
+use Rattle.asm_grammar.proofs.Digits.{is_true}
 
 -- ---- options
 
@@ -45,9 +46,6 @@ some_unless true o y e = absurd (cc)
 some_unless false o y e = (refl, e)
 
 -- ---- numbers
-
-is_true : (t : Bool) → t ≡ true → IsTrue t
-is_true t e = grind (arith, nat_tests)
 
 pub lt_of : (a b : ℕ) → nat_lt a b ≡ true → a < b
 lt_of a b e = grind (arith, nat_tests)
@@ -290,14 +288,6 @@ spells_indexed labels index place bytes e =
 
 -- ---- operands
 
-spells_of_base : (slot : Slot) (base : Base) (bytes : List ℕ) → SpellsBase base bytes → SpellsSpecifier slot (operand_of base) bytes
-spells_of_base slot (bases.Deferred reg) bytes h = h
-spells_of_base slot (bases.AutoDec reg) bytes h = h
-spells_of_base slot (bases.AutoInc reg) bytes h = h
-spells_of_base slot (bases.AutoIncDef reg) bytes h = h
-spells_of_base slot (bases.Absolute address) bytes h = h
-spells_of_base slot (bases.Disp reg by deferred) bytes h = h
-
 spells_literal : (slot : Slot) (number : Number) (bytes : List ℕ) → (if is_read slot.access then literal_bytes number else None) ≡ Some bytes
     → IsTrue (is_read slot.access) × (number.magnitude < 64) × (bytes ≡ number.magnitude ∷ [])
 spells_literal slot number bytes e =
@@ -306,14 +296,11 @@ spells_literal slot number bytes e =
     let tests = both (not number.negative) (nat_lt number.magnitude 64) q.0 in
     (is_true (is_read slot.access) p.0, lt_of number.magnitude 64 tests.1, sym (some_same _ _ q.1))
 
-not_of : (t : Bool) → t ≡ false → IsTrue (not t)
-not_of t e = is_true (not t) (ap not e)
-
 spells_register : (slot : Slot) (reg : ℕ) (bytes : List ℕ) → (if is_address slot.access then None else plain_specifier 5 reg) ≡ Some bytes
     → IsTrue (not (is_address slot.access)) × SpellsPlain 5 reg bytes
 spells_register slot reg bytes e =
     let p = some_unless (is_address slot.access) (plain_specifier 5 reg) bytes e in
-    (not_of (is_address slot.access) p.0, spells_plain 5 reg bytes p.1)
+    (not_true (is_address slot.access) p.0, spells_plain 5 reg bytes p.1)
 
 spells_immediate : (labels : List Definition) (slot : Slot) (value : Value) (bytes : List ℕ) → (slot.size ≡ 1) ⊎ (slot.size ≡ 2) ⊎ (slot.size ≡ 4)
     → (if is_read slot.access then immediate_bytes labels slot value else None) ≡ Some bytes
@@ -331,7 +318,7 @@ spells_specifier labels from slot writtens.Absent bytes sized e = absurd (cc)
 spells_specifier labels from slot (writtens.Literal number) bytes sized e = spells_literal slot number bytes e
 spells_specifier labels from slot (writtens.Register reg) bytes sized e = spells_register slot reg bytes e
 spells_specifier labels from slot (writtens.Immediate value) bytes sized e = spells_immediate labels slot value bytes sized e
-spells_specifier labels from slot (writtens.Plain place) bytes sized e = spells_of_base slot (named_base labels place) bytes (spells_place labels place bytes e)
+spells_specifier labels from slot (writtens.Plain place) bytes sized e = of_base slot (named_base labels place) bytes (spells_place labels place bytes e)
 spells_specifier labels from slot (writtens.Indexed index base) bytes sized e = spells_indexed labels index base bytes e
 spells_specifier labels from slot (writtens.Misindexed immediate) bytes sized e = absurd (cc)
 spells_specifier labels from slot (writtens.Target target) bytes sized e = absurd (cc)

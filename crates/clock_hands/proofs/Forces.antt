@@ -6,13 +6,13 @@ use Rattle.vm_facts.specs.declared.entry.Entry.{Entry}
 use Rattle.vm_facts.specs.declared.stop.Stop.{Stop}
 use Rattle.flat_state.specs.Journal.{append, appended}
 use Rattle.io_edge.specs.FileHolding.{NamedFile}
-use Rattle.page_model.specs.Placement.{Placement, Transfer, Part, Errand, Writes, Reads}
+use Rattle.page_model.specs.Placement.{Placement, Transfer}
 use Rattle.page_model.specs.Serve.{force, force_entry, Forces}
 use Rattle.page_model.specs.Rank.{HandsStand, HasRoom, far, far_by, far_parts, far_transfers}
 use Rattle.page_model.specs.Conditions.{Spares}
 use Rattle.page_model.specs.Ownership.{OwnsFrames}
 use Rattle.page_laws.proofs.Ends.Forcing.{far_bound}
-use Rattle.page_laws.proofs.Ends.Serving.{force_falls}
+use Rattle.page_laws.proofs.Ends.Serving.{force_falls, far_parts_le}
 use Rattle.page_laws.proofs.Ends.Wholes.{force_room}
 use Rattle.page_laws.proofs.Moves.Locks.{spares_both, force_spares}
 use Rattle.page_laws.proofs.Ownership.Serve.{force_owner}
@@ -36,16 +36,11 @@ none_free (f ∷ free) l = absurd (omega arith)
 
 -- How far a free frame is.
 
-most_parts : (p : Placement) (e : Errand) (xs : List Part) (more : ℕ) → far_parts p e xs more ≤ length p.holds + 4 + more
-most_parts p Writes [] more = omega arith
-most_parts p Writes (x ∷ xs) more = omega arith
-most_parts p (Reads source demanded) xs more = omega arith
-
 most_flying : (p : Placement) (locked : List Page) (free : List ℕ) (t : Transfer) (ts : List Transfer) → p.free ≡ free → p.transfers ≡ t ∷ ts
     → far p locked ≤ length p.holds + 4 + length ts
 most_flying p locked [] t ts e f =
     let same : far p locked ≡ far_parts p t.errand t.parts (length ts) = ap (far_by p locked) e ∙ ap (far_transfers p locked) f in
-    let most = most_parts p t.errand t.parts (length ts) in
+    let most = far_parts_le p t.errand t.parts (length ts) in
     omega arith
 most_flying p locked (x ∷ xs) t ts e f = let same : far p locked ≡ 0 = ap (far_by p locked) e in omega arith
 

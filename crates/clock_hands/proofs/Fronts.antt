@@ -13,9 +13,9 @@ use Rattle.page_model.specs.Ownership.{OwnsFrames}
 use Rattle.page_laws.proofs.Lists.Local.{none_some}
 use Rattle.page_laws.proofs.Lists.Pages.{page_cases, put_state, put_other}
 use Rattle.page_laws.proofs.Moves.Steps.{page_in}
+use Rattle.page_laws.proofs.Ownership.Pages.{seated_frame}
 use Rattle.kluster_io.specs.Front.{Expires}
 use Rattle.clock_hands.specs.Seen.{IsUnlocked}
-use Rattle.clock_hands.proofs.Seats.{seat_frame}
 
 -- a page that isn't at the front hand stays as it is
 
@@ -107,7 +107,7 @@ front_still p locked w o h v q = (
   (λ e. none_some q e),
   (λ x.
       let e = expired_here p locked q x.0 x.1 in
-      let same : w ≡ q = same_Some w q (sym (o.names w p.front (seat_frame p w p.front h.0)) ∙ e.0) in
+      let same : w ≡ q = same_Some w q (sym (o.names w p.front (seated_frame p w p.front h.0)) ∙ e.0) in
       absurd (let y = not_both (is_valid (state_of p q)) x.0 (ap (λ (r : Page). is_valid (state_of p r)) (sym same) ∙ v) in cc)),
 )
 
@@ -115,11 +115,11 @@ pub front_expires : (p : Placement) (locked : List Page) (w : Page) → OwnsFram
     → Expires p locked (Some w)
 front_expires p locked w o h v q = (
   (λ e.
-      let held : page_of p p.front ≡ Some w = o.names w p.front (seat_frame p w p.front h.0) in
+      let held : page_of p p.front ≡ Some w = o.names w p.front (seated_frame p w p.front h.0) in
       let x = valid_in p w v in
       subst (λ (r : Page). (is_valid (state_of p r) ≡ true) × (is_valid (state_of (expire p locked) r) ≡ false)) (same_Some w q e)
       (v, ap is_valid (expire_turns p locked w x.frame held h.1 x.state))),
   (λ x.
       let e = expired_here p locked q x.0 x.1 in
-      sym (o.names w p.front (seat_frame p w p.front h.0)) ∙ e.0),
+      sym (o.names w p.front (seated_frame p w p.front h.0)) ∙ e.0),
 )

@@ -29,7 +29,8 @@ use Rattle.flat_model.specs.Step.{step_of, step_behind, called_step, replied_ste
 use Rattle.flat_model.specs.Run.{Point, flat_run}
 use Rattle.flat_model.proofs.Coming.{run_keeps}
 use Rattle.flat_laws.specs.Whole.{EachWhole, ImageWhole, ImagesWhole, IsSized, HasSize, AllSized}
-use Rattle.flat_laws.proofs.Cover.{Yields, yields_bind, yields_any, yields_ok}
+use Rattle.flat_laws.proofs.Cover.{yields_bind, yields_any, yields_ok}
+use Rattle.flat_laws.proofs.Computations.{AllGives}
 
 -- Lists of processes.
 
@@ -184,11 +185,11 @@ starts_resizes : (found : ℕ × NamedImage) (arguments : Option (List (List ℕ
 starts_resizes found None = tt
 starts_resizes found (Some arguments) = tt
 
-execve_resizes : (argv : ℕ) (found : Option (ℕ × NamedImage)) → Yields ReplyResizes (execve_of argv found)
+execve_resizes : (argv : ℕ) (found : Option (ℕ × NamedImage)) → AllGives ReplyResizes (execve_of argv found)
 execve_resizes argv None = tt
 execve_resizes argv (Some found) = yields_bind (λ _. Unit {0}) ReplyResizes (arguments_at argv) _ (yields_any (arguments_at argv)) (λ arguments _. starts_resizes found arguments)
 
-written_resizes : (b : Bool) (buffer count : ℕ) → Yields ReplyResizes (written_to b buffer count)
+written_resizes : (b : Bool) (buffer count : ℕ) → AllGives ReplyResizes (written_to b buffer count)
 unfolding written_to
 written_resizes true buffer count = yields_bind (λ _. Unit {0}) ReplyResizes (bytes_from (min count write_limit) buffer) _ (yields_any (bytes_from (min count write_limit) buffer)) (λ bytes _. tt)
 written_resizes false buffer count = tt
@@ -199,7 +200,7 @@ wait_resizes (Some child) None regs = tt
 wait_resizes (Some child) (Some z) regs = tt
 
 all_resize : (images : List NamedImage) (F : FlatState) (p : Process) (s : Space) (call : SystemCall) (regs : Regs)
-    → Yields ReplyResizes (reply_of images F p s call regs)
+    → AllGives ReplyResizes (reply_of images F p s call regs)
 unfolding reply_of exit_reply write_reply break_reply execve_reply
 all_resize images F p s calls.Exit regs = yields_bind (λ _. Unit {0}) ReplyResizes (argument regs 1) _ (yields_any (argument regs 1)) (λ code _. tt)
 all_resize images F p s calls.Fork regs = (child_resizes (nat_lt (length F.processes) process_limit) regs F.next_pid).0
@@ -215,7 +216,7 @@ all_resize images F p s calls.Execve regs =
 all_resize images F p s calls.Vfork regs = (child_resizes (nat_lt (length F.processes) process_limit) regs F.next_pid).1
 all_resize images F p s calls.Wait regs = wait_resizes (find (λ q. q.parent == p.pid) F.processes) (find (is_zombie_child p.pid) F.processes) regs
 
-fault_resizes : (memory : Answers) (p : Program Reply) → Yields ReplyResizes p → ReplyResizes (or_fault (run memory p))
+fault_resizes : (memory : Answers) (p : Program Reply) → AllGives ReplyResizes p → ReplyResizes (or_fault (run memory p))
 fault_resizes memory p h = go (run memory p) refl
   where
     go : (result : Result Reply Refusal) → run memory p ≡ result → ReplyResizes (or_fault result)

@@ -28,7 +28,7 @@ use Rattle.flat_laws.proofs.Children.{Spares, reply_spares}
 use Rattle.flat_laws.proofs.Entries.{carry_is}
 
 -- the last of these entries is a fork's
-abbrev ends_in_fork : List Entry → Bool
+abbrev pub ends_in_fork : List Entry → Bool
 ends_in_fork [] = false
 ends_in_fork (e ∷ []) = is_fork e
 ends_in_fork (e ∷ f ∷ es) = ends_in_fork (f ∷ es)
@@ -97,7 +97,7 @@ fork_same (entries.Call a n c r0 r1) _ h k = absurd cc
 fork_same _ f h k = refl
 
 -- where one entry is due, it is the last one of the step
-last_due : (last : Option Entry) (pid : ℕ) (es : List Entry) (e : Entry) → due last pid es ≡ e ∷ [] → ends_in_fork es ≡ is_fork e
+pub last_due : (last : Option Entry) (pid : ℕ) (es : List Entry) (e : Entry) → due last pid es ≡ e ∷ [] → ends_in_fork es ≡ is_fork e
 last_due (Some (entries.Out p bytes)) pid es e h = go (p == pid) h
   where
     less : (xs : List Entry) → behind_first xs ≡ e ∷ [] → ends_in_fork xs ≡ is_fork e

@@ -30,6 +30,7 @@ use Rattle.flat_model.specs.Instruction.{instruction_in}
 use Rattle.flat_model.specs.Calls.{call_of, reply_of, argument, exit_reply, break_reply, break_by, pages_up_to, stack_pages_of, data_limit, refusal_of}
 use Rattle.flat_model.specs.declared.calls.Reply.TheVariants.{Exits}
 use Rattle.std.proofs.lemmas.List.Elements.{filter_map-append}
+use Rattle.user_step.proofs.Trying.{missed as answer_missed}
 use Rattle.flat_state.proofs.PageLists.{left, AllAmong, among_kept, among_last, left_other, left_more, filter_both, filter_all}
 use Rattle.flat_state.specs.Change.{apply_writes}
 use Rattle.flat_model.specs.declared.calls.SystemCall.{SystemCall}
@@ -206,19 +207,6 @@ hit {A = A} s present p none = go (run (shown s present) p) none (paging s prese
     go some none (Missing a w page front back e is new all l) = absurd (none a w e)
 
 -- An instruction over present pages.
-
-answer_missed : (r : Result Effect Refused) (address : ℕ) (write : Bool) → answer_of r ≡ steps.Miss address write → r ≡ Err (Miss address write)
-answer_missed (Ok effect) address write h = go effect.call h
-  where
-    go : (o : Option ℤ) → answer_of_call o ≡ steps.Miss address write → Ok effect ≡ Err (Miss address write)
-    go None k = absurd cc
-    go (Some number) k = absurd cc
-answer_missed (Err (Miss a w)) address write h =
-    let first : a ≡ address = cc in
-    let second : w ≡ write = cc in
-    ap₂ (λ (x : ℕ) (y : Bool). Err (Miss x y)) first second
-answer_missed (Err (Falls a)) address write h = absurd cc
-answer_missed (Err (Signal number)) address write h = absurd cc
 
 -- what an instruction that missed left: all as it was, and a page to be brought in
 pub record Misses (s t : Space) (present left : List Page) (regs after : Regs) (address : ℕ) (write : Bool) : Type 0 where

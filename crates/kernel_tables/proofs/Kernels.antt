@@ -2,7 +2,6 @@
 use Rattle.std.proofs.Common.{◌≡◌, ℕ, Bool, true, List, [], ◌∷◌, ◌++◌, set, refl, sym, ap, ◌∙◌, subst, Option, None}
 use Rattle.std.proofs.lemmas.List.{length-set, get_or-set_other}
 use Rattle.vm_facts.specs.declared.page.Page.{Page}
-use Rattle.vm_facts.specs.declared.page.Page.TheVariants.{Text}
 use Rattle.vm_facts.specs.declared.entry.Entry.{Entry}
 use Rattle.vm_facts.specs.declared.entry.Entry.TheVariants as entries
 use Rattle.frame_state.specs.Frame.{Frame}
@@ -11,7 +10,6 @@ use Rattle.core_map.specs.declared.slot.Slot.TheVariants as tokens
 use Rattle.page_model.specs.Holdings.{Holdings}
 use Rattle.page_model.specs.Pages.{frame_of}
 use Rattle.page_model.specs.Placement.{Placement, IsThere, state_of}
-use Rattle.page_model.specs.Conditions.{IsShared}
 use Rattle.page_model.specs.PageBytes.{IsWritable}
 use Rattle.kernel_model.specs.Kernel.{Kernel, Proc, StartBytes, zero_step}
 use Rattle.kernel_tables.specs.declared.tables.Tables.{Tables}
@@ -73,10 +71,6 @@ zero_kernel t u v w token filling q journal stopped z =
     (ap frames_of l ∙ zero_frames (lists_of t) token.number token filling page u.core.free q z.known h (ap (λ (x : Frame). x.number) z.bytes) bytes z.first)
     refl
     refl
-
-pub writable_shared : (p : Placement) (q : Page) → IsWritable q → IsShared p q
-writable_shared p (Text i v) w = absurd w
-writable_shared p _ w = tt
 
 pub zeroed_ties : (t : Lists) (f : ℕ) (page : Option Page) (rest : List ℕ) (filling : Frame) (q : Page) → Known t
     → token_page (slot_at t.slots f) ≡ page → IsWritable q → IsThere (placement_of t) q

@@ -5,21 +5,21 @@ use Rattle.std.specs.List.{list_all}
 use Rattle.std.specs.Char.{is_ascii_digit}
 use Rattle.std.specs.Str.Parse.{digits_value}
 use Rattle.std.proofs.lemmas.Bool.{and_parts, and_from, leb-true, le-leb}
-use Rattle.std.proofs.lemmas.Slice.Eq.{bytes_eq-Decides}
 use Rattle.vm_facts.specs.declared.event.Event.{Event}
 use Rattle.vm_facts.specs.declared.event.Event.TheVariants.{Dispatch, Interrupt, Hands, Swapper, Audit}
 use Rattle.run_text.specs.Pieces.{HasNo}
 use Rattle.run_text.specs.Schedule.{Writes, IsEvent, IsEventLine}
 use Rattle.run_text.specs.declared.limits.TheConstants.{LAST_PROCESS, MOST_TURN, MOST_MOVES}
 use Rattle.run_text.proofs.Events.{digits_no}
+use Rattle.command_words.proofs.Numerals.{digits_alone}
 use Rattle.line_reasons.specs.declared.schedule.Argument.{Argument}
 use Rattle.line_reasons.specs.declared.schedule.Argument.TheVariants.{Process, Turn, Moves}
 use Rattle.line_reasons.specs.Lines.{ends_in, text_in, word_in, rest_in}
 use Rattle.line_reasons.specs.FirstReason.{or_else}
 use Rattle.line_reasons.specs.Digits.{decimal_of}
 use Rattle.line_reasons.specs.ScheduleReasons.{Why, OutOfRange, NoLineFeed, CarriageReturn, Tab, most_of, why_value, why_number, why_numbers, no_event, is_plain, why_event, why_text, why_line, RefusedHaveReasons}
-use Rattle.line_reasons.proofs.Cuts.{ends_so, text_of, line_of, ends_not, any_not, has_no_more, text_cut, text_whole, word_before, rest_after, word_alone, rest_none}
-use Rattle.line_reasons.proofs.ScheduleNumerals.{digits_alone}
+use Rattle.line_reasons.proofs.Cuts.{ends_so, text_of, line_of, ends_not, any_not, text_cut, text_whole, word_before, rest_after, word_alone, rest_none}
+use Rattle.line_reasons.proofs.ReferenceRefusals.{Cuts, cuts_of, same_word, IsClean, clean_more, clean_both}
 
 none_is : (x : Option Why) → is_none x ≡ true → x ≡ None
 none_is None e = refl
@@ -136,17 +136,6 @@ two_follow first second word other value n w v =
 
 -- The event of a text.
 
--- the first word and what follows make the text
-record Cuts (word : List ℕ) (rest : Option (List ℕ)) (text : List ℕ) : Type 0 where
-  whole : rest ≡ None → text ≡ word
-  cut : (more : List ℕ) → rest ≡ Some more → text ≡ word ++ 32 ∷ more
-
-cuts_of : (text : List ℕ) → Cuts (word_in text) (rest_in text) text
-cuts_of text = record { whole = text_whole text; cut = λ more is. text_cut text more is }
-
-same_word : (word letter : List ℕ) → bytes_eq word letter ≡ true → word ≡ letter
-same_word word letter e = (bytes_eq-Decides word letter).0 e
-
 alone : (word text : List ℕ) (rest : Option (List ℕ)) (letter : List ℕ) → Cuts word rest text → bytes_eq word letter ≡ true
     → why_numbers [] rest ≡ None → text ≡ letter
 alone word text rest letter cuts is none = cuts.whole (nothing_follows rest none) ∙ same_word word letter is
@@ -219,19 +208,8 @@ line_told line none =
 
 -- The text of an event.
 
--- a text of a letter and what follows has neither a tab nor a carriage return
-record IsClean (text : List ℕ) : Type 0 where
-  tab : HasNo 9 text
-  return : HasNo 13 text
-
 clean_number : (most : ℕ) (word : List ℕ) (value : ℕ) → Writes most word value → IsClean word
 clean_number most word value w = record { tab = digits_no_blank most word value 9 (lit< tt) w; return = digits_no_blank most word value 13 (lit< tt) w }
-
-clean_more : (b : ℕ) (text : List ℕ) → 13 < b → IsClean text → IsClean (b ∷ text)
-clean_more b text high clean = record { tab = (λ e. omega arith, clean.tab); return = (λ e. omega arith, clean.return) }
-
-clean_both : (xs ys : List ℕ) → IsClean xs → IsClean ys → IsClean (xs ++ ys)
-clean_both xs ys a b = record { tab = has_no_more 9 xs ys a.tab b.tab; return = has_no_more 13 xs ys a.return b.return }
 
 clean_none : IsClean []
 clean_none = record { tab = tt; return = tt }

@@ -1,11 +1,12 @@
 -- The processes of the flat machine after a step of one of them.
-use Rattle.std.proofs.Common.{◌≡◌, ◌≢◌, ℕ, ◌==◌, Bool, true, false, cond, not, List, [], ◌∷◌, ◌++◌, map, filter, find, Option, Some, refl, sym, ap, ◌∙◌, subst, eq-eqb}
+use Rattle.std.proofs.Common.{◌≡◌, ◌≢◌, ℕ, ◌==◌, Bool, true, false, cond, not, List, [], ◌∷◌, ◌++◌, map, filter, find, Option, Some, refl, sym, ap, ◌∙◌}
 use Rattle.std.proofs.lemmas.Bool.{eqb-true}
 use Rattle.flat_state.specs.Space.{Space, puts}
 use Rattle.flat_state.specs.Flat.{Holding, Holds, Zombie, Process, FlatState, NamedImage, process_of, image_numbered, space_with}
 use Rattle.flat_state.specs.declared.change.Change.{Change}
 use Rattle.flat_state.specs.declared.change.Change.TheVariants.{Keep, Resize, Fork, Exec, Reap, Sleep, End}
 use Rattle.flat_state.specs.Change.{replaced_by, replaced, with_process, child_of, resized, entered, returned, given_back, is_zombie_child, without_parent, orphaned, awake, left, changed, apply_writes, apply_change}
+use Rattle.flat_state.proofs.Processes.{replaced_twice}
 use Rattle.flat_model.specs.Step.{Step}
 use Rattle.run_laws.proofs.Swaps.{applied}
 use Rattle.run_laws.proofs.Stepping.{wrote, wrote_process}
@@ -13,18 +14,6 @@ use Rattle.load_laws.proofs.Going.{gone_on}
 use Rattle.load_laws.proofs.Sleepers.{left_by}
 
 -- ---- replacing
-
-pub replaced_twice : (ps : List Process) (a b : Process) → a.pid ≡ b.pid → replaced (replaced ps a) b ≡ replaced ps b
-unfolding replaced
-replaced_twice [] a b e = refl
-replaced_twice (x ∷ xs) a b e =
-    subst (λ (n : ℕ). replaced (replaced_by (x.pid == n) a x xs (replaced xs a)) b ≡ replaced_by (x.pid == b.pid) b x xs (replaced xs b)) (sym e)
-    (go (x.pid == b.pid) refl (replaced_twice xs a b e))
-  where
-    go : (c : Bool) → (x.pid == b.pid) ≡ c → replaced (replaced xs a) b ≡ replaced xs b
-        → replaced (replaced_by c a x xs (replaced xs a)) b ≡ replaced_by c b x xs (replaced xs b)
-    go true k later = ap (λ (c : Bool). replaced_by c b a xs (replaced xs b)) (eq-eqb a.pid b.pid e)
-    go false k later = ap (λ (c : Bool). replaced_by c b x (replaced xs a) (replaced (replaced xs a) b)) k ∙ ap (λ (qs : List Process). x ∷ qs) later
 
 -- who takes his own place changes nothing
 pub replaced_self : (ps : List Process) (p : Process) → find (λ r. r.pid == p.pid) ps ≡ Some p → replaced ps p ≡ ps

@@ -44,6 +44,7 @@ use Rattle.run_laws.proofs.Others.{number_of_found}
 use Rattle.economy_laws.proofs.Sleeping.{Does, does}
 use Rattle.economy_laws.proofs.Counting.{counted_in}
 use Rattle.flat_laws.specs.Others.{is_refusal}
+use Rattle.run_laws.proofs.Units.{plain_holdings}
 use Rattle.load_maker.specs.RunCountsCounts.{output_length}
 use Rattle.load_laws.specs.Stages.{Stage, is_gone, IsAt, StandsAt, Lives, Ended}
 use Rattle.load_laws.specs.Left.{images_for, instructions_left, forks_left, ends_left, bytes_left, blocks_left, total}
@@ -129,17 +130,6 @@ pub record Goes (pages : ℕ) (stages : List Stage) (s t : State) (u : Entry) : 
   pub spends : Spends pages stages now u (pending (let q : Point = s.point in q.last)) (pending (let q : Point = t.point in q.last))
 
 -- ---- a unit that is no flat entry
-
-plain_holdings : (A : Inputs) (s : State) (u : Entry) → process_of_entry u ≡ None → (after A s u).holdings ≡ s.holdings
-unfolding after
-plain_holdings A s (entries.Ran p n) e = absurd cc
-plain_holdings A s (entries.Out p bytes) e = absurd cc
-plain_holdings A s (entries.Grew p n) e = absurd cc
-plain_holdings A s (entries.Call p n c r0 r1) e = absurd cc
-plain_holdings A s (entries.Refused p) e = absurd cc
-plain_holdings A s (entries.Sleeps p) e = absurd cc
-plain_holdings A s (entries.Ended p n) e = absurd cc
-plain_holdings A s _ e = refl
 
 plain_spends : (pages : ℕ) (stages : List Stage) (u : Entry) (n : ℕ) → process_of_entry u ≡ None → Spends pages stages stages u n n
 plain_spends pages stages (entries.Ran p m) n e = absurd cc

@@ -165,7 +165,7 @@ copy_keeps size k q parent so can images image flat c =
     copy_coupled size k images image flat q q parent can.frame so (record { there = can.there; frameless = ap frame_of can.unfilled }) can.writable can.free can.unfilled
     (due_copied k.place.due q parent can.others can.first) can.valid c
 
-head_is : (fs : List ℕ) → 0 < length fs → (f : ℕ) × (rest : List ℕ) × (fs ≡ f ∷ rest)
+pub head_is : (fs : List ℕ) → 0 < length fs → (f : ℕ) × (rest : List ℕ) × (fs ≡ f ∷ rest)
 head_is [] l = absurd (omega arith)
 head_is (f ∷ rest) l = (f, rest, refl)
 

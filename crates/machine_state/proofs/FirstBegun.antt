@@ -22,33 +22,17 @@ use Rattle.table_steps.specs.Tables.{Tables}
 use Rattle.machine_state.specs.declared.machine.Machine.TheInside.{Inside}
 use Rattle.table_steps.specs.Tied.{Tied}
 use Rattle.table_steps.specs.Sourced.{ImageNamed, AreNames, named_at, AreSourced}
-use Rattle.table_steps.specs.View.{Lists, placement_of, frames_of, starts_of}
+use Rattle.table_steps.specs.View.{placement_of, frames_of, starts_of}
 use Rattle.table_steps.specs.Machine.{Standing, KernelRuns, WereFound, lists_of, kernel_by, images_of, image_at, image_shown, before_of, processes_of, residents_of}
 use Rattle.machine_state.specs.Fields.{standing_of, HasRoom, RunsNow}
 use Rattle.table_steps.specs.Changing.{EnteredImage, started_place, processes_in, residents_in}
 use Rattle.machine_state.specs.Beginning.{StartedFirst, found_first, BeganFirst}
 use Rattle.table_steps.proofs.Kernels.{kernel_ext}
+use Rattle.table_steps.proofs.Moved.{tied_moved}
 use Rattle.machine_state.proofs.FirstBegins.{Before, same_number, new_first, same_named}
 use Rattle.machine_state.proofs.HoldingSteps.{begin_keeps}
 use Rattle.machine_state.proofs.Standings.{holders_by, all_before, found_none}
 use Rattle.machine_state.proofs.AddedRing.{ring_added, beside_ring}
-
--- who resides says nothing of the tie
-tied_still : (l : Lists) (rs : List Residence) → Tied l → Tied (record l { residents = rs })
-tied_still l rs k = record {
-  few_frames = k.few_frames;
-  few_images = k.few_images;
-  sound = k.sound;
-  small_texts = k.small_texts;
-  few_pages = k.few_pages;
-  shared = k.shared;
-  alike = k.alike;
-  filled = k.filled;
-  counted = k.counted;
-  marked = k.marked;
-  whole = k.whole;
-  once = k.once;
-}
 
 -- It began, with the pieces that were found.
 pub record Began (m : Inside) (pid image : ℕ) (facts : Image) (hs : Holdings) (u : Tables) : Type 0 where
@@ -144,7 +128,7 @@ began_runs m pid image facts hs u b s same =
     let number : t.next_sid ≡ t.next_pid = same_number m pid image b.before in
     let r : KernelRuns k (lists_of t) size = b.before.runs in
     let tied : Tied (lists_of u) =
-    subst Tied (sym (ap lists_of b.began.one_more.rest)) (tied_still (lists_of b.began.entered_in) (residents_of u.processes u.next_pid) b.began.entered.shows.known.tied) in
+    subst Tied (sym (ap lists_of b.began.one_more.rest)) (tied_moved (lists_of b.began.entered_in) (residents_of u.processes u.next_pid) b.began.entered.shows.known.tied) in
     let runs : KernelRuns (begin_step k hs image named.name named.facts) (lists_of u) size = record {
       sound = begin_sound size k hs image named.name named.facts r.sound r.numbered number (began_pieces m pid image facts hs u b);
       numbered = begin_numbered k hs image named.name named.facts number r.numbered;

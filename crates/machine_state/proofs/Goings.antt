@@ -34,7 +34,7 @@ use Rattle.kernel_model.specs.Numbers.{Numbered}
 use Rattle.kernel_model.specs.Coupled.{Coupled}
 use Rattle.kernel_model.specs.UPage.{u_page, regs_in}
 use Rattle.kernel_model.specs.Unit.{u_bytes, proc_of}
-use Rattle.table_steps.proofs.Swaps.{u_found, out_coupled, in_coupled_any}
+use Rattle.table_steps.proofs.Swaps.{out_coupled, in_coupled_any}
 use Rattle.table_steps.specs.Tables.{Tables}
 use Rattle.machine_state.specs.declared.machine.Machine.TheInside.{Inside}
 use Rattle.table_steps.specs.KernelTablesShown.{space_shown}
@@ -204,9 +204,6 @@ bytes_are t j b pid bytes l u =
     ∙ ap (u_bytes k) (sym l.kept)
 
 -- Blocks.
-
-pub block_there : (size : ℕ) (k : Kernel) (pid : ℕ) → Sound size k → lives_at k.processes pid ≡ true → IsSome (block_in k.holdings (owners.U pid) 0)
-block_there size k pid s a = u_found size k pid s a
 
 pub block_place : (size : ℕ) (k : Kernel) (pid block : ℕ) → Sound size k → block_in k.holdings (owners.U pid) 0 ≡ Some block
     → IsPlace size k.holdings (owners.U pid) block

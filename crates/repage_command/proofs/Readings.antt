@@ -4,7 +4,6 @@ use Rattle.io_edge.specs.FileHolding.{NamedFile}
 use Rattle.run_files.specs.declared.answers.Unread.{Unread}
 use Rattle.run_files.specs.declared.answers.Unread.TheVariants as unreads
 use Rattle.run_files.specs.Answering.{Answers, CountsFault, IsOfAnyFile}
-use Rattle.run_files.specs.Told.{whole_told}
 use Rattle.run_files.specs.ImageWords.{image_names, first_images}
 use Rattle.run_text.specs.Lines.{lines_in, AreLines}
 use Rattle.trace_text.specs.Grammar.{IsTraceLine}
@@ -19,11 +18,9 @@ use Rattle.command_ending.proofs.Counting.{none_then, one_then}
 use Rattle.command_ending.proofs.Makings.{made_where, made_nothing, made_by}
 use Rattle.replay_command.specs.Reading.{Read, FaultsBy, images_told, read_of_transcript}
 use Rattle.replay_command.proofs.LastLines.{few_lines}
+use Rattle.replay_command.proofs.Replays.{whole}
 use Rattle.repage_command.specs.declared.reading.Case.{Case}
 use Rattle.repage_command.specs.Reading.{HasFew, EndsTrace, EndsBytes, EndsFew, LacksCase, EndsCase}
-
-abbrev whole : List ℕ → List NamedFile → Result (Option (List ℕ)) Unread
-whole name list = whole_told list name 67108864
 
 -- The bytes of a trace.
 

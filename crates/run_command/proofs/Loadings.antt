@@ -19,6 +19,7 @@ use Rattle.run_opening.specs.Devices.{device_fault}
 use Rattle.run_opening.specs.Opening.{CountsAt}
 use Rattle.io_edge.specs.FileRequests.{no_notes}
 use Rattle.io_edge.specs.WithFiles.{image_with_files, with_files}
+use Rattle.run_opening.proofs.Openings.{IsShort}
 use Rattle.run_command.specs.Seen.{Seen}
 use Rattle.run_command.specs.Paired.{unfinished_of, IsRunFault, ReadsFail, WritesFail}
 use Rattle.run_command.specs.Machines.{journal_entries}
@@ -225,11 +226,6 @@ loads_unmade number seen status same unasked none (inl w) =
       fits = load_fits number seen status [] (Err faults.NoMemory) w (inl unbegun) ends;
     }
 loads_unmade number seen status same unasked none (inr never) = absurd never.0
-
--- a device that is too short
-abbrev IsShort : Fault → Type 0
-IsShort (faults.ShortDevice device blocks needed) = Unit {0}
-IsShort _ = ⊥
 
 is_short : (zero_short one_short : Bool) (z zn o on : ℕ) (fault : Fault)
     → (if zero_short then Some (faults.ShortDevice 0 z zn) else (if one_short then Some (faults.ShortDevice 1 o on) else None)) ≡ Some fault → IsShort fault

@@ -42,7 +42,8 @@ use Rattle.run_laws.proofs.Wholes.{unit_ready, flat_or}
 -- No next unit.
 
 -- none of these passes
-none_passes : (test : Process → Bool) (ps : List Process) (pid : ℕ) (q : Process) → find test ps ≡ None → find (λ x. x.pid == pid) ps ≡ Some q → test q ≡ false
+pub none_passes : (test : Process → Bool) (ps : List Process) (pid : ℕ) (q : Process) → find test ps ≡ None → find (λ x. x.pid == pid) ps ≡ Some q
+    → test q ≡ false
 none_passes test [] pid q n f = absurd cc
 none_passes test (x ∷ ps) pid q n f = go (none_passes test ps pid q) (test x) refl n (x.pid == pid) f
   where
@@ -52,7 +53,7 @@ none_passes test (x ∷ ps) pid q n f = go (none_passes test ps pid q) (test x) 
     go ih false e n true f = ap test (let same : q ≡ x = cc in same) ∙ e
     go ih false e n false f = ih n f
 
-none_ready : (F : FlatState) (pid : ℕ) → next_ready F 0 ≡ None → 0 < pid → can_step F pid ≡ false
+pub none_ready : (F : FlatState) (pid : ℕ) → next_ready F 0 ≡ None → 0 < pid → can_step F pid ≡ false
 none_ready F pid n l = go (process_of F pid) refl
   where
     nobody : find (λ q. is_ready q && nat_lt 0 q.pid) F.processes ≡ None

@@ -77,7 +77,7 @@ unwritten : (A : Inputs) (s : State) (k : Kernel) (pid : ℕ) (step : Step) → 
 unwritten A s k pid step e w =
     ap (λ (x : Step). process_written k (process_of s.point.flat pid) x.writes) e ∙ ap (process_written k (process_of s.point.flat pid)) w ∙ none_written k (process_of s.point.flat pid)
 
-wanted_is : (A : Inputs) (s : State) (k : Kernel) (image : SwapImage) (pid : ℕ) (now : Bool) (p : Process) (x : Space) (change : Change) → At A s k image
+pub wanted_is : (A : Inputs) (s : State) (k : Kernel) (image : SwapImage) (pid : ℕ) (now : Bool) (p : Process) (x : Space) (change : Change) → At A s k image
     → IsRunning A s pid now p x
     → wanted_if A.images s.point.flat change (process_of s.point.flat pid) ≡ asked (facts_of A.images) k pid change
 wanted_is A s k image pid now p x change at r =

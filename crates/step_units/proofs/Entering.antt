@@ -176,7 +176,7 @@ IsOwn (entries.Sleeps pid) = Unit {0}
 IsOwn (entries.Ended pid status) = Unit {0}
 IsOwn _ = ⊥
 
-longer : (journal : List Entry) (e : Entry) → length journal < length (journal ++ e ∷ [])
+pub longer : (journal : List Entry) (e : Entry) → length journal < length (journal ++ e ∷ [])
 longer journal e = let h = length-append journal (e ∷ []) in omega (arith, h)
 
 -- where the journal is at its bound

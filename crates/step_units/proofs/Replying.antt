@@ -39,9 +39,10 @@ use Rattle.run_units.specs.Stepping.{with_holdings, PassesNone}
 use Rattle.run_units.specs.Touching.{IsRunning, IsAnswered, IsCalledFor}
 use Rattle.run_units.proofs.Instructing.{call_ready}
 use Rattle.run_units.proofs.Stepping.{call_known, none_asked}
+use Rattle.run_units.proofs.Acting.{between_refused}
 use Rattle.step_units.specs.Machines.{RunsOn, MakesCall}
 use Rattle.step_units.specs.Stepped.{StepLeads}
-use Rattle.step_units.proofs.Begun.{unrefused, is_refused_by, none_lost}
+use Rattle.step_units.proofs.Begun.{is_refused_by, none_lost}
 use Rattle.step_units.proofs.Behind.{KeepsDue}
 use Rattle.step_units.proofs.Entering.{complete_leads, enters}
 
@@ -88,7 +89,7 @@ pub called_step : (A : Inputs) (s : State) (pid : ℕ) (now : Bool) (p : Process
     → step_at A s.point pid ≡ replied_step A.images s.point.flat p call effect (or_fault r)
 called_step A s pid now p x effect call r i b m h =
     call_known A s pid now p x effect call r i m h
-    ∙ ap (λ (z : Bool). replied_step A.images s.point.flat p call effect (refused_reply z (or_fault r))) (unrefused s.point.last pid b)
+    ∙ ap (λ (z : Bool). replied_step A.images s.point.flat p call effect (refused_reply z (or_fault r))) (between_refused s.point.last pid b)
 
 -- after the entry that says that its pieces found no place
 pub refused_step : (A : Inputs) (s : State) (pid : ℕ) (now : Bool) (p : Process) (x : Space) (effect : Effect) (call : SystemCall) (r : Result Reply Refused)

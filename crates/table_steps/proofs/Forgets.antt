@@ -29,6 +29,7 @@ use Rattle.page_laws.proofs.Lists.Local.{none_some}
 use Rattle.page_laws.proofs.Ownership.Spaces.{drop_other, drop_page_owner, drop_all_length, drop_rest}
 use Rattle.page_laws.proofs.Ownership.Changes.{each_at}
 use Rattle.page_laws.proofs.Blocks.Changes.{text_still, drop_all_frees, drop_all_sharers}
+use Rattle.kernel_laws.proofs.Kept.Pages.{writable_shared}
 use Rattle.kernel_tables.specs.declared.tables.Tables.{Tables}
 use Rattle.kernel_tables.specs.Shown.{filling_shown, entry_in, placed}
 use Rattle.kernel_tables.specs.TableViewShown.{is_away, idle_state, state_shown}
@@ -40,7 +41,7 @@ use Rattle.table_steps.specs.Forgotten.{ForgotPage}
 use Rattle.kernel_tables.specs.Changing.{Dropped}
 use Rattle.kernel_tables.proofs.Entries.{head_of, placed_heads}
 use Rattle.kernel_tables.proofs.Likes.{FitsPage, placed_alike, placed_filled}
-use Rattle.kernel_tables.proofs.Shows.{Moved, SameLists, segments_are, frames_set, head_sids, idle_frame}
+use Rattle.kernel_tables.proofs.Shows.{Moved, SameLists, segments_are, frames_set, head_sids}
 use Rattle.kernel_tables.proofs.Finds.{holding_set}
 use Rattle.kernel_tables.proofs.Held.{below_length, placement_ext}
 use Rattle.kernel_tables.proofs.Arrives.{page_shown, Arrives, arrives_moved, arrived}
@@ -52,8 +53,8 @@ use Rattle.kernel_tables.proofs.Knows.{held_named, texts_here, holds_not_away}
 use Rattle.table_steps.proofs.Residing.{entry_shown, seat_resides}
 use Rattle.table_steps.proofs.Reclaims.{held_is}
 use Rattle.kernel_tables.proofs.Stills.{images_heads}
+use Rattle.kernel_tables.proofs.AddedTexts.{frame_shown}
 use Rattle.table_steps.proofs.LeftPages.{pages_more}
-use Rattle.kernel_tables.proofs.Kernels.{writable_shared}
 
 abbrev forgotten : Lists → Page → ℕ → Frame → Lists
 forgotten t q f token = record t { slots = set t.slots f (tokens.Free token None); free = f ∷ without f t.free; spaces = map (placed q places.Zero) t.spaces }
@@ -77,10 +78,6 @@ shown_state t _ x w = refl
 shown_filling : (t : Lists) (q : Page) (x : Place) → IsWritable q → (page_shown t q x).filling ≡ filling_shown x
 shown_filling t (Text i v) x w = absurd w
 shown_filling t _ x w = refl
-
-frame_shown : (slots : List Token) (f : ℕ) (valid changed : Bool) → frame_of (state_shown slots (places.Frame f valid changed)) ≡ Some f
-frame_shown slots f true changed = refl
-frame_shown slots f false changed = idle_frame f (is_away (slot_at slots f)) changed
 
 -- what is asked of a page that is forgotten
 pub record MayForgetPage (t : Lists) (q : Page) : Type 0 where

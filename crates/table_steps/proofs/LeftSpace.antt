@@ -33,11 +33,10 @@ use Rattle.kernel_tables.proofs.Same.{slots_ext, texts_ext}
 use Rattle.kernel_tables.proofs.Shows.{text_at, text_past, text_numbers, texts_differ, texts_shown, text_length, put_images}
 use Rattle.kernel_tables.proofs.Held.{placement_ext}
 use Rattle.kernel_tables.proofs.Evicts.{frames_same}
-use Rattle.table_steps.proofs.Settles.{facts_low}
 use Rattle.table_steps.proofs.LeftFrames.{SameFrames, same_away_at, same_held_at, same_bytes_at, same_found, holding_page}
 use Rattle.table_steps.proofs.LeftPages.{Rests, rest_slot, rest_state}
 use Rattle.kernel_tables.proofs.Removed.{each_rest, rest_shown, rest_entry, rest_like, first_entry, only_space, found_each, sharing_each}
-use Rattle.kernel_tables.proofs.AddedTied.{facts_pages}
+use Rattle.kernel_tables.proofs.AddedTied.{facts_pages, facts_number}
 
 -- Each frame has its token and its page as before, on the free list or off it: then an entry shows what it showed.
 
@@ -174,7 +173,7 @@ pub image_low : (l : Lists) (sid : ℕ) (s : Places) → Known l → numbered (�
     → (1 ≤ s.image) × (s.image ≤ 16)
 image_low l sid s k e =
     let h = found_each (IsFilled l.facts) l.spaces sid s e k.tied.filled in
-    let b = facts_low 1 s.image l.facts s.facts h.0.facts_are in
+    let b = facts_number 1 s.image l.facts s.facts h.0.facts_are in
     let few = k.tied.few_images in
     let x = b.0 in
     let y = b.1 in

@@ -1,8 +1,7 @@
 -- Texts that are, or are none, of a part.
-use Rattle.std.proofs.Common.{◌≡◌, ℕ, ◌≤◌, nat_lt, Bool, true, List, [], ◌∷◌, ◌++◌, length, refl, sym, ◌∙◌, ap, subst, arith, codes, append_assoc}
+use Rattle.std.proofs.Common.{◌≡◌, ℕ, ◌≤◌, Bool, List, [], ◌∷◌, ◌++◌, length, refl, sym, ◌∙◌, ap, subst, arith, codes, append_assoc}
 use Rattle.std.specs.Prelude.{if◌then◌else◌, Option, Some, None}
 use Rattle.std.proofs.lemmas.Option.{none-some}
-use Rattle.std.proofs.lemmas.Bool.Decides.{nat_tests}
 use Rattle.vm_facts.specs.declared.page.Page.{Page}
 use Rattle.vm_facts.specs.declared.page.Page.TheVariants.{Data, Stack, Text}
 use Rattle.kernel_model.specs.declared.part.HandPart.{HandPart}
@@ -11,6 +10,7 @@ use Rattle.run_text.specs.Text.{part, parts}
 use Rattle.run_text.specs.Transcript.{page_numbers, AllBelow}
 use Rattle.run_text.specs.EntryParts.{segment_of}
 use Rattle.run_text.proofs.Words.{parts_once}
+use Rattle.run_text.proofs.Parts.{some_count}
 use Rattle.trace_text.specs.Grammar.{part_line, part_numbers, IsPartWithin}
 use Rattle.trace_text.specs.PartFrom.{part_letter, part_page, part_text, part_from, HasPagePart, HasPart}
 
@@ -37,9 +37,6 @@ part_line_is (Frees (Stack sid v)) = refl
 part_line_is (Frees (Text image v)) = refl
 
 -- The part of its letter, its page's letter and its numbers.
-
-some_count : (n : ℕ) → 1 ≤ n → nat_lt 0 n ≡ true
-some_count n h = grind (arith, nat_tests)
 
 abbrev when_some : Page → ℕ → Bool → Option HandPart
 when_some q n t = if t then Some (Writes q n) else None

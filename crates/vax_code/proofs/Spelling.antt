@@ -242,7 +242,7 @@ index_leaf slot mode reg tail operand base e f spells =
     subst (λ (o : Operand). SpellsSpecifier slot o (specifier mode reg ∷ tail)) (sym f)
     (subst (λ (m : ℕ). SpellsIndexed reg base (specifier m reg ∷ tail)) (sym e) spells)
 
-not_true : (a : Bool) → a ≡ false → IsTrue (not a)
+pub not_true : (a : Bool) → a ≡ false → IsTrue (not a)
 not_true true h = absurd (cc)
 not_true false h = refl
 
@@ -255,7 +255,7 @@ immediate_spelled slot mode reg tail operand test reads h =
     subst (λ (o : Operand). SpellsSpecifier slot o (specifier mode reg ∷ tail)) (sym number.2)
     (reads, number_leaf mode number.0 tail reg 8 slot.size (eqb-true mode 8 both.0) (eqb-true reg 15 both.1) (number_spelled slot.size number.0 tail number.1))
 
-of_base : (slot : Slot) (base : Base) (bytes : List ℕ) → SpellsBase base bytes → SpellsSpecifier slot (operand_of base) bytes
+pub of_base : (slot : Slot) (base : Base) (bytes : List ℕ) → SpellsBase base bytes → SpellsSpecifier slot (operand_of base) bytes
 of_base slot (bases.Deferred reg) bytes h = h
 of_base slot (bases.AutoDec reg) bytes h = h
 of_base slot (bases.AutoInc reg) bytes h = h
@@ -371,7 +371,7 @@ pub octets_front : (xs ys : List ℕ) → AreOctets (xs ++ ys) → AreOctets xs
 octets_front [] ys h = tt
 octets_front (x ∷ xs) ys h = (h.0, octets_front xs ys h.1)
 
-octets_rest : (xs ys : List ℕ) → AreOctets (xs ++ ys) → AreOctets ys
+pub octets_rest : (xs ys : List ℕ) → AreOctets (xs ++ ys) → AreOctets ys
 octets_rest [] ys h = h
 octets_rest (x ∷ xs) ys h = octets_rest xs ys h.1
 

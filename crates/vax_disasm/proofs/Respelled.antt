@@ -11,7 +11,7 @@ use Rattle.vax_code.specs.declared.table.Row.{Row}
 use Rattle.vax_code.specs.Table.{row_for, slot_in}
 use Rattle.vax_code.specs.Operands.{width_of, is_read, is_address, is_branch}
 use Rattle.vax_code.specs.Grammar.{AreOctets, specifier}
-use Rattle.vax_code.proofs.Spelling.{octets_front, halves as byte_halves}
+use Rattle.vax_code.proofs.Spelling.{octets_front, halves as byte_halves, octets_rest}
 use Rattle.vax_code.proofs.Rule.{row_of_op}
 use Rattle.asm_grammar.specs.Text.{◌>>=◌}
 use Rattle.asm_grammar.specs.Numbers.{signed}
@@ -73,10 +73,6 @@ octet : (xs : List ℕ) → AreOctets xs → (i : ℕ) → get_or xs i 0 < 256
 octet [] h i = omega arith
 octet (x ∷ xs) h zero = h.0
 octet (x ∷ xs) h (suc i) = octet xs h.1 i
-
-octets_back : (xs ys : List ℕ) → AreOctets (xs ++ ys) → AreOctets ys
-octets_back [] ys h = h
-octets_back (x ∷ xs) ys h = octets_back xs ys h.1
 
 length_zero : (x : ℕ) (xs : List ℕ) → length (x ∷ xs) ≡ 0 → ⊥
 length_zero x xs e = omega (arith, e)
@@ -703,7 +699,7 @@ written_from : (row : Row) (place from from' : ℕ) (written : Written) (bytes :
 written_from row place from from' written bytes e h = subst (λ (f : ℕ). operand_bytes [] f row place written ≡ Some bytes) e h
 
 behind_front : (xs ys zs : List ℕ) → xs ≡ ys ++ zs → AreOctets xs → AreOctets zs
-behind_front xs ys zs e h = octets_back ys zs (subst (λ (l : List ℕ). AreOctets l) e h)
+behind_front xs ys zs e h = octets_rest ys zs (subst (λ (l : List ℕ). AreOctets l) e h)
 
 joined : (bytes one after_one two after_two three rest : List ℕ) → bytes ≡ one ++ after_one → after_one ≡ two ++ after_two → after_two ≡ three ++ rest
     → bytes ≡ (one ++ (two ++ three)) ++ rest

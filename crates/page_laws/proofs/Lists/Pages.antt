@@ -11,7 +11,7 @@ use Rattle.page_model.specs.Placement.{Placement, slots_of, slot_of, state_of, m
 
 -- Two pages are one, or not.
 
-abbrev key_of : Page → ℕ
+abbrev pub key_of : Page → ℕ
 key_of (Data sid v) = sid
 key_of (Stack sid v) = sid
 key_of (Text image v) = image
