@@ -346,61 +346,59 @@ branch_value size by bits (inr (inl e)) small h =
 branch_value size by bits (inr (inr e)) small h =
     subst (λ (s : ℕ). (bits < whole_of s) × (cast_signed w32 by ≡ cast_signed (width_of s) bits)) (sym e) (branch_4 by bits small (subst (λ (s : ℕ). branch_bits s by ≡ Some bits) e h))
 
-spells_target : (labels : List Definition) (from : ℕ) (slot : Slot) (target : Value) (bytes : List ℕ)
-    → (slot.size ≡ 1) ⊎ (slot.size ≡ 2) ⊎ (slot.size ≡ 4) → target_bytes labels from slot target ≡ Some bytes
-    → SpellsSigned slot.size (cast_signed w32 (distance (or_zero (bits_of_value labels 4 target)) (from + slot.size))) bytes
-unfolding target_bytes
-spells_target labels from slot target bytes sized e =
-    let after_address = λ (address : ℕ). branch_bits slot.size (distance address (from + slot.size)) >>= λ bits. Some (to_le_bytes (width_of slot.size) bits) in
-    let a = bind_some (bits_of_value labels 4 target) after_address bytes e in
-    let b = bind_some (branch_bits slot.size (distance a.0 (from + slot.size))) (λ bits. Some (to_le_bytes (width_of slot.size) bits)) bytes a.2 in
-    let is : a.0 ≡ or_zero (bits_of_value labels 4 target) = ap or_zero (sym a.1) in
-    let value = branch_value slot.size (distance a.0 (from + slot.size)) b.0 sized (distance_small a.0 (from + slot.size)) b.1 in
-    let split : to_le_bytes (width_of slot.size) b.0 ≡ bytes = some_same _ _ b.2 in
-    subst (λ (l : List ℕ). SpellsSigned slot.size (cast_signed w32 (distance (or_zero (bits_of_value labels 4 target)) (from + slot.size))) l) split
-    (subst (λ (n : ℕ). SpellsSigned slot.size (cast_signed w32 (distance n (from + slot.size))) (to_le_bytes (width_of slot.size) b.0)) is
-    (spells_signed slot.size b.0 (cast_signed w32 (distance a.0 (from + slot.size))) (spells_number slot.size b.0 sized value.0) value.1))
+module _ (labels : List Definition) (from : ℕ) (slot : Slot) where
+  spells_target : (target : Value) (bytes : List ℕ) → (slot.size ≡ 1) ⊎ (slot.size ≡ 2) ⊎ (slot.size ≡ 4) → target_bytes labels from slot target ≡ Some bytes
+      → SpellsSigned slot.size (cast_signed w32 (distance (or_zero (bits_of_value labels 4 target)) (from + slot.size))) bytes
+  unfolding target_bytes
+  spells_target target bytes sized e =
+      let after_address = λ (address : ℕ). branch_bits slot.size (distance address (from + slot.size)) >>= λ bits. Some (to_le_bytes (width_of slot.size) bits) in
+      let a = bind_some (bits_of_value labels 4 target) after_address bytes e in
+      let b = bind_some (branch_bits slot.size (distance a.0 (from + slot.size))) (λ bits. Some (to_le_bytes (width_of slot.size) bits)) bytes a.2 in
+      let is : a.0 ≡ or_zero (bits_of_value labels 4 target) = ap or_zero (sym a.1) in
+      let value = branch_value slot.size (distance a.0 (from + slot.size)) b.0 sized (distance_small a.0 (from + slot.size)) b.1 in
+      let split : to_le_bytes (width_of slot.size) b.0 ≡ bytes = some_same _ _ b.2 in
+      subst (λ (l : List ℕ). SpellsSigned slot.size (cast_signed w32 (distance (or_zero (bits_of_value labels 4 target)) (from + slot.size))) l) split
+      (subst (λ (n : ℕ). SpellsSigned slot.size (cast_signed w32 (distance n (from + slot.size))) (to_le_bytes (width_of slot.size) b.0)) is
+      (spells_signed slot.size b.0 (cast_signed w32 (distance a.0 (from + slot.size))) (spells_number slot.size b.0 sized value.0) value.1))
 
-spells_branch : (labels : List Definition) (from : ℕ) (slot : Slot) (written : Written) (bytes : List ℕ)
-    → (slot.size ≡ 1) ⊎ (slot.size ≡ 2) ⊎ (slot.size ≡ 4) → branch_bytes labels from slot written ≡ Some bytes
-    → SpellsBranch slot (named_operand labels from slot written) bytes
-unfolding branch_bytes
-spells_branch labels from slot writtens.Absent bytes sized e = absurd (cc)
-spells_branch labels from slot (writtens.Literal number) bytes sized e = absurd (cc)
-spells_branch labels from slot (writtens.Register reg) bytes sized e = absurd (cc)
-spells_branch labels from slot (writtens.Immediate value) bytes sized e = absurd (cc)
-spells_branch labels from slot (writtens.Plain place) bytes sized e = absurd (cc)
-spells_branch labels from slot (writtens.Indexed index base) bytes sized e = absurd (cc)
-spells_branch labels from slot (writtens.Misindexed immediate) bytes sized e = absurd (cc)
-spells_branch labels from slot (writtens.Target target) bytes sized e = spells_target labels from slot target bytes sized e
+  spells_branch : (written : Written) (bytes : List ℕ) → (slot.size ≡ 1) ⊎ (slot.size ≡ 2) ⊎ (slot.size ≡ 4)
+      → branch_bytes labels from slot written ≡ Some bytes → SpellsBranch slot (named_operand labels from slot written) bytes
+  unfolding branch_bytes
+  spells_branch writtens.Absent bytes sized e = absurd (cc)
+  spells_branch (writtens.Literal number) bytes sized e = absurd (cc)
+  spells_branch (writtens.Register reg) bytes sized e = absurd (cc)
+  spells_branch (writtens.Immediate value) bytes sized e = absurd (cc)
+  spells_branch (writtens.Plain place) bytes sized e = absurd (cc)
+  spells_branch (writtens.Indexed index base) bytes sized e = absurd (cc)
+  spells_branch (writtens.Misindexed immediate) bytes sized e = absurd (cc)
+  spells_branch (writtens.Target target) bytes sized e = spells_target target bytes sized e
 
--- ---- places of the row
+  -- ---- places of the row
 
-spells_absent : (labels : List Definition) (from : ℕ) (slot : Slot) (written : Written) (bytes : List ℕ) → absent_bytes written ≡ Some bytes
-    → (named_operand labels from slot written ≡ operands.Literal 0) × (bytes ≡ [])
-spells_absent labels from slot writtens.Absent bytes e = (refl, sym (some_same _ _ e))
-spells_absent labels from slot (writtens.Literal number) bytes e = absurd (cc)
-spells_absent labels from slot (writtens.Register reg) bytes e = absurd (cc)
-spells_absent labels from slot (writtens.Immediate value) bytes e = absurd (cc)
-spells_absent labels from slot (writtens.Plain place) bytes e = absurd (cc)
-spells_absent labels from slot (writtens.Indexed index base) bytes e = absurd (cc)
-spells_absent labels from slot (writtens.Misindexed immediate) bytes e = absurd (cc)
-spells_absent labels from slot (writtens.Target target) bytes e = absurd (cc)
+  spells_absent : (written : Written) (bytes : List ℕ) → absent_bytes written ≡ Some bytes
+      → (named_operand labels from slot written ≡ operands.Literal 0) × (bytes ≡ [])
+  spells_absent writtens.Absent bytes e = (refl, sym (some_same _ _ e))
+  spells_absent (writtens.Literal number) bytes e = absurd (cc)
+  spells_absent (writtens.Register reg) bytes e = absurd (cc)
+  spells_absent (writtens.Immediate value) bytes e = absurd (cc)
+  spells_absent (writtens.Plain place) bytes e = absurd (cc)
+  spells_absent (writtens.Indexed index base) bytes e = absurd (cc)
+  spells_absent (writtens.Misindexed immediate) bytes e = absurd (cc)
+  spells_absent (writtens.Target target) bytes e = absurd (cc)
 
-spells_operand : (labels : List Definition) (from : ℕ) (slot : Slot) (branch : Bool) (written : Written) (bytes : List ℕ)
-    → (slot.size ≡ 1) ⊎ (slot.size ≡ 2) ⊎ (slot.size ≡ 4)
-    → (if branch then branch_bytes labels from slot written else specifier_bytes labels slot written) ≡ Some bytes
-    → SpellsOperand branch slot (named_operand labels from slot written) bytes
-spells_operand labels from slot true written bytes sized e = spells_branch labels from slot written bytes sized e
-spells_operand labels from slot false written bytes sized e = spells_specifier labels from slot written bytes sized e
+  spells_operand : (branch : Bool) (written : Written) (bytes : List ℕ) → (slot.size ≡ 1) ⊎ (slot.size ≡ 2) ⊎ (slot.size ≡ 4)
+      → (if branch then branch_bytes labels from slot written else specifier_bytes labels slot written) ≡ Some bytes
+      → SpellsOperand branch slot (named_operand labels from slot written) bytes
+  spells_operand true written bytes sized e = spells_branch written bytes sized e
+  spells_operand false written bytes sized e = spells_specifier labels from slot written bytes sized e
 
-spells_by : (labels : List Definition) (from : ℕ) (slot : Slot) (here : Bool) (written : Written) (bytes : List ℕ)
-    → (slot.size ≡ 1) ⊎ (slot.size ≡ 2) ⊎ (slot.size ≡ 4)
-    → (if here then (if is_branch slot.access then branch_bytes labels from slot written else specifier_bytes labels slot written) else absent_bytes written)
-    ≡ Some bytes
-    → SpellsPlace here slot (named_operand labels from slot written) bytes
-spells_by labels from slot true written bytes sized e = spells_operand labels from slot (is_branch slot.access) written bytes sized e
-spells_by labels from slot false written bytes sized e = spells_absent labels from slot written bytes e
+  spells_by : (here : Bool) (written : Written) (bytes : List ℕ)
+      → (slot.size ≡ 1) ⊎ (slot.size ≡ 2) ⊎ (slot.size ≡ 4)
+      → (if here then (if is_branch slot.access then branch_bytes labels from slot written else specifier_bytes labels slot written) else absent_bytes written)
+      ≡ Some bytes
+      → SpellsPlace here slot (named_operand labels from slot written) bytes
+  spells_by true written bytes sized e = spells_operand (is_branch slot.access) written bytes sized e
+  spells_by false written bytes sized e = spells_absent written bytes e
 
 pub spells_row_place : (labels : List Definition) (from : ℕ) (row : Row) (place : ℕ) (written : Written) (bytes : List ℕ)
     → operand_bytes labels from row place written ≡ Some bytes

@@ -31,23 +31,23 @@ other_if : (p : Placement) (v q : Page) (b : Bool) → q ≢ v → slot_of (expi
 other_if p v q true n = refl
 other_if p v q false n = other_to p v q (state_of p v) n
 
-other_of : (p : Placement) (locked : List Page) (q : Page) (o : Option Page) → o ≢ Some q → slot_of (expire_of p locked o) q ≡ slot_of p q
-other_of p locked q None n = refl
-other_of p locked q (Some v) n = other_if p v q (is_among v locked) (λ e. n (ap (λ (x : Page). Some x) (sym e)))
+module _ (p : Placement) (locked : List Page) (q : Page) where
+  other_of : (o : Option Page) → o ≢ Some q → slot_of (expire_of p locked o) q ≡ slot_of p q
+  other_of None n = refl
+  other_of (Some v) n = other_if p v q (is_among v locked) (λ e. n (ap (λ (x : Page). Some x) (sym e)))
 
-pub expire_other : (p : Placement) (locked : List Page) (q : Page) → page_of p p.front ≢ Some q → slot_of (expire p locked) q ≡ slot_of p q
-expire_other p locked q n = other_of p locked q (page_of p p.front) n
+  pub expire_other : page_of p p.front ≢ Some q → slot_of (expire p locked) q ≡ slot_of p q
+  expire_other n = other_of (page_of p p.front) n
 
--- the page at the front hand stays as it is, where it is locked
-pub expire_locked : (p : Placement) (locked : List Page) (q : Page) → page_of p p.front ≡ Some q → is_among q locked ≡ true → expire p locked ≡ p
-expire_locked p locked q e l = ap (expire_of p locked) e ∙ ap (expire_if p q) l
+  -- the page at the front hand stays as it is, where it is locked
+  pub expire_locked : page_of p p.front ≡ Some q → is_among q locked ≡ true → expire p locked ≡ p
+  expire_locked e l = ap (expire_of p locked) e ∙ ap (expire_if p q) l
 
--- and where it isn't locked and is valid, it is invalid
-pub expire_turns : (p : Placement) (locked : List Page) (q : Page) (f : ℕ) → page_of p p.front ≡ Some q → is_among q locked ≡ false → state_of p q ≡ Valid f
-    → state_of (expire p locked) q ≡ Invalid f
-expire_turns p locked q f e l s =
-    ap (λ (r : Placement). state_of r q) (ap (expire_of p locked) e ∙ ap (expire_if p q) l ∙ ap (expire_to p q) s)
-    ∙ put_state p q (Invalid f) (mark_of p q) (page_in p q f (ap frame_of s))
+  -- and where it isn't locked and is valid, it is invalid
+  pub expire_turns : (f : ℕ) → page_of p p.front ≡ Some q → is_among q locked ≡ false → state_of p q ≡ Valid f → state_of (expire p locked) q ≡ Invalid f
+  expire_turns f e l s =
+      ap (λ (r : Placement). state_of r q) (ap (expire_of p locked) e ∙ ap (expire_if p q) l ∙ ap (expire_to p q) s)
+      ∙ put_state p q (Invalid f) (mark_of p q) (page_in p q f (ap frame_of s))
 
 not_both : (b : Bool) → b ≡ true → b ≡ false → true ≡ false
 not_both b x y = sym x ∙ y

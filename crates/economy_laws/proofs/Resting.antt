@@ -52,17 +52,17 @@ use Rattle.economy_laws.proofs.Finishing.Marks.{done_mark, moves_mark, in_mark, 
 abbrev pub Rest : Inputs → State → Bool → ℕ → Type 0
 Rest A s b n = (us : List Entry) (t : State) → Follows A s us t → Quiet us → added b us ≤ n + 8 * copies_of us
 
-pub rest_none : (A : Inputs) (s : State) (b : Bool) → ((u : Entry) → next_unit A s ≡ Some u → is_boundary u ≡ false → ⊥) → Rest A s b 0
-rest_none A s b never [] t f q = omega arith
-rest_none A s b never (u ∷ us) t f q = absurd (never u f.0 q.0)
+module _ (A : Inputs) (s : State) (b : Bool) where
+  pub rest_none : ((u : Entry) → next_unit A s ≡ Some u → is_boundary u ≡ false → ⊥) → Rest A s b 0
+  rest_none never [] t f q = omega arith
+  rest_none never (u ∷ us) t f q = absurd (never u f.0 q.0)
 
-pub rest_more : (A : Inputs) (s : State) (b : Bool) (n m : ℕ) → n ≤ m → Rest A s b n → Rest A s b m
-rest_more A s b n m l r us t f q = let k = r us t f q in omega (arith, l, k)
+  pub rest_more : (n m : ℕ) → n ≤ m → Rest A s b n → Rest A s b m
+  rest_more n m l r us t f q = let k = r us t f q in omega (arith, l, k)
 
-rest_step : (A : Inputs) (s : State) (b : Bool) (n : ℕ) → ((u : Entry) → next_unit A s ≡ Some u → is_boundary u ≡ false → Rest A (after A s u) (is_hands u) n)
-    → Rest A s b (suc n)
-rest_step A s b n on [] t f q = omega arith
-rest_step A s b n on (u ∷ us) t f q = let k = on u f.0 q.0 us t f.1 q.1 in let m = adds_most b u in omega (arith, k, m)
+  rest_step : (n : ℕ) → ((u : Entry) → next_unit A s ≡ Some u → is_boundary u ≡ false → Rest A (after A s u) (is_hands u) n) → Rest A s b (suc n)
+  rest_step n on [] t f q = omega arith
+  rest_step n on (u ∷ us) t f q = let k = on u f.0 q.0 us t f.1 q.1 in let m = adds_most b u in omega (arith, k, m)
 
 -- ---- a process runs
 

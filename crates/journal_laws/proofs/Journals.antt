@@ -26,17 +26,15 @@ use Rattle.journal_laws.proofs.Stretches.{units_economical}
 
 -- Machines.
 
-pub leads_follow : (A : Inputs) (s t : State) (k l : Kernel) (image : SwapImage) (us : List Entry) (j : Option SwapImage) → Leads A s k image us t l j
-    → Follows A s us t
-leads_follow A s t k l image us j a = swaps_follow A us s t k l image a.behind a.makes
+module _ (A : Inputs) (s t : State) (k l : Kernel) (image : SwapImage) (us : List Entry) (j : Option SwapImage) where
+  pub leads_follow : Leads A s k image us t l j → Follows A s us t
+  leads_follow a = swaps_follow A us s t k l image a.behind a.makes
 
-pub leads_image : (A : Inputs) (s t : State) (k l : Kernel) (image : SwapImage) (us : List Entry) (j : Option SwapImage) → At A s k image
-    → (a : Leads A s k image us t l j) → a.behind ≡ left_from A s us image
-leads_image A s t k l image us j at a = images_left A us s t k l image a.behind at.fit at.run at.stands a.makes
+  pub leads_image : At A s k image → (a : Leads A s k image us t l j) → a.behind ≡ left_from A s us image
+  leads_image at a = images_left A us s t k l image a.behind at.fit at.run at.stands a.makes
 
-pub leads_told : (A : Inputs) (s t : State) (k l : Kernel) (image : SwapImage) (us : List Entry) (j : Option SwapImage) → At A s k image
-    → Leads A s k image us t l j → j ≡ Some (left_from A s us image)
-leads_told A s t k l image us j at a = a.told ∙ ap (λ (x : SwapImage). Some x) (leads_image A s t k l image us j at a)
+  pub leads_told : At A s k image → Leads A s k image us t l j → j ≡ Some (left_from A s us image)
+  leads_told at a = a.told ∙ ap (λ (x : SwapImage). Some x) (leads_image at a)
 
 -- The start.
 

@@ -143,33 +143,31 @@ lettered letter word text rest two cuts is =
     ∙ ap (λ (w : List ℕ). w ++ 32 ∷ (decimal two.owner ++ 32 ∷ decimal two.place)) is
     ∙ page_text letter two.owner two.place
 
-page_by : (word text : List ℕ) (rest : Option (List ℕ)) (d s x : Bool) → bytes_eq word (codes "d") ≡ d → bytes_eq word (codes "s") ≡ s
-    → bytes_eq word (codes "x") ≡ x
-    → (d || (s || x)) ≡ true → Cuts word rest text → TwoFollow rest → (page : Page) × IsReference page text
-page_by word text rest true s x a b c one cuts two =
-    (Data two.owner two.place, ((two.small_owner, (two.small_place, tt)), inl (lettered 100 word text rest two cuts (same_word word (codes "d") a))))
-page_by word text rest false true x a b c one cuts two =
-    (Stack two.owner two.place, ((two.small_owner, (two.small_place, tt)), inl (lettered 115 word text rest two cuts (same_word word (codes "s") b))))
-page_by word text rest false false true a b c one cuts two =
-    (Text two.owner two.place, ((two.small_owner, (two.small_place, tt)), inl (lettered 120 word text rest two cuts (same_word word (codes "x") c))))
-page_by word text rest false false false a b c one cuts two = absurd cc
+module _ (word text : List ℕ) (rest : Option (List ℕ)) where
+  page_by : (d s x : Bool) → bytes_eq word (codes "d") ≡ d → bytes_eq word (codes "s") ≡ s → bytes_eq word (codes "x") ≡ x → (d || (s || x)) ≡ true
+      → Cuts word rest text → TwoFollow rest → (page : Page) × IsReference page text
+  page_by true s x a b c one cuts two =
+      (Data two.owner two.place, ((two.small_owner, (two.small_place, tt)), inl (lettered 100 word text rest two cuts (same_word word (codes "d") a))))
+  page_by false true x a b c one cuts two =
+      (Stack two.owner two.place, ((two.small_owner, (two.small_place, tt)), inl (lettered 115 word text rest two cuts (same_word word (codes "s") b))))
+  page_by false false true a b c one cuts two =
+      (Text two.owner two.place, ((two.small_owner, (two.small_place, tt)), inl (lettered 120 word text rest two cuts (same_word word (codes "x") c))))
+  page_by false false false a b c one cuts two = absurd cc
 
-page_found : (word text : List ℕ) (rest : Option (List ℕ)) → is_segment word ≡ true → Cuts word rest text → TwoFollow rest
-    → (page : Page) × IsReference page text
-unfolding is_segment
-page_found word text rest one cuts two = page_by word text rest _ _ _ refl refl refl one cuts two
+  page_found : is_segment word ≡ true → Cuts word rest text → TwoFollow rest → (page : Page) × IsReference page text
+  unfolding is_segment
+  page_found one cuts two = page_by _ _ _ refl refl refl one cuts two
 
-plain_found : (word text : List ℕ) (rest : Option (List ℕ)) → IsDecimal word → Cuts word rest text → why_numbers [] rest ≡ None
-    → (page : Page) × IsReference page text
-plain_found word text rest number cuts none =
-    (Data 0 number.value, ((lit< tt, (number.small, tt)), inr (number.value, refl, cuts.whole (nothing_follows rest none) ∙ number.is)))
+  plain_found : IsDecimal word → Cuts word rest text → why_numbers [] rest ≡ None → (page : Page) × IsReference page text
+  plain_found number cuts none =
+      (Data 0 number.value, ((lit< tt, (number.small, tt)), inr (number.value, refl, cuts.whole (nothing_follows rest none) ∙ number.is)))
 
-reference_by : (word text : List ℕ) (rest : Option (List ℕ)) (s n : Bool) → is_segment word ≡ s → is_number word ≡ n → Cuts word rest text
-    → (if s then why_numbers (Owner ∷ Place ∷ []) rest else (if n then why_numbers [] rest else Some (NoReference word))) ≡ None
-    → (page : Page) × IsReference page text
-reference_by word text rest true n a b cuts none = page_found word text rest a cuts (two_found rest none)
-reference_by word text rest false true a b cuts none = plain_found word text rest (number_read word b) cuts none
-reference_by word text rest false false a b cuts none = absurd cc
+  reference_by : (s n : Bool) → is_segment word ≡ s → is_number word ≡ n → Cuts word rest text
+      → (if s then why_numbers (Owner ∷ Place ∷ []) rest else (if n then why_numbers [] rest else Some (NoReference word))) ≡ None
+      → (page : Page) × IsReference page text
+  reference_by true n a b cuts none = page_found a cuts (two_found rest none)
+  reference_by false true a b cuts none = plain_found (number_read word b) cuts none
+  reference_by false false a b cuts none = absurd cc
 
 reference_found : (word text : List ℕ) (rest : Option (List ℕ)) → Cuts word rest text → why_reference word rest ≡ None → (page : Page) × IsReference page text
 unfolding why_reference

@@ -136,57 +136,53 @@ two_follow first second word other value n w v =
 
 -- The event of a text.
 
-alone : (word text : List ℕ) (rest : Option (List ℕ)) (letter : List ℕ) → Cuts word rest text → bytes_eq word letter ≡ true
-    → why_numbers [] rest ≡ None → text ≡ letter
-alone word text rest letter cuts is none = cuts.whole (nothing_follows rest none) ∙ same_word word letter is
+module _ (word text : List ℕ) (rest : Option (List ℕ)) where
+  alone : (letter : List ℕ) → Cuts word rest text → bytes_eq word letter ≡ true → why_numbers [] rest ≡ None → text ≡ letter
+  alone letter cuts is none = cuts.whole (nothing_follows rest none) ∙ same_word word letter is
 
-dispatched : (word text : List ℕ) (rest : Option (List ℕ)) → Cuts word rest text → bytes_eq word (codes "d") ≡ true
-    → why_numbers (Process ∷ Turn ∷ []) rest ≡ None → (e : Event) × IsEvent e text
-dispatched word text rest cuts is none =
-    let one = number_follows Process (Turn ∷ []) rest none in
-    let two = number_follows Turn [] (rest_in one.text) one.more in
-    let p = word_in one.text in
-    let n = word_in two.text in
-    let whole : two.text ≡ n = text_whole two.text (nothing_follows (rest_in two.text) two.more) in
-    let text_is : text ≡ codes "d " ++ (p ++ (codes " " ++ n)) =
-    cuts.cut one.text one.is
-    ∙ ap (λ (w : List ℕ). w ++ 32 ∷ one.text) (same_word word (codes "d") is)
-    ∙ ap (λ (t : List ℕ). 100 ∷ 32 ∷ t) (text_cut one.text two.text two.is ∙ ap (λ (t : List ℕ). p ++ 32 ∷ t) whole) in
-    (Dispatch one.value two.value, (p, n, one.writes, two.writes, text_is))
+  dispatched : Cuts word rest text → bytes_eq word (codes "d") ≡ true → why_numbers (Process ∷ Turn ∷ []) rest ≡ None → (e : Event) × IsEvent e text
+  dispatched cuts is none =
+      let one = number_follows Process (Turn ∷ []) rest none in
+      let two = number_follows Turn [] (rest_in one.text) one.more in
+      let p = word_in one.text in
+      let n = word_in two.text in
+      let whole : two.text ≡ n = text_whole two.text (nothing_follows (rest_in two.text) two.more) in
+      let text_is : text ≡ codes "d " ++ (p ++ (codes " " ++ n)) =
+      cuts.cut one.text one.is
+      ∙ ap (λ (w : List ℕ). w ++ 32 ∷ one.text) (same_word word (codes "d") is)
+      ∙ ap (λ (t : List ℕ). 100 ∷ 32 ∷ t) (text_cut one.text two.text two.is ∙ ap (λ (t : List ℕ). p ++ 32 ∷ t) whole) in
+      (Dispatch one.value two.value, (p, n, one.writes, two.writes, text_is))
 
-moved : (word text : List ℕ) (rest : Option (List ℕ)) → Cuts word rest text → bytes_eq word (codes "h") ≡ true → why_numbers (Moves ∷ []) rest ≡ None
-    → (e : Event) × IsEvent e text
-moved word text rest cuts is none =
-    let one = number_follows Moves [] rest none in
-    let n = word_in one.text in
-    let text_is : text ≡ codes "h " ++ n =
-    cuts.cut one.text one.is
-    ∙ ap (λ (w : List ℕ). w ++ 32 ∷ one.text) (same_word word (codes "h") is)
-    ∙ ap (λ (t : List ℕ). 104 ∷ 32 ∷ t) (text_whole one.text (nothing_follows (rest_in one.text) one.more)) in
-    (Hands one.value, (n, one.writes, text_is))
+  moved : Cuts word rest text → bytes_eq word (codes "h") ≡ true → why_numbers (Moves ∷ []) rest ≡ None → (e : Event) × IsEvent e text
+  moved cuts is none =
+      let one = number_follows Moves [] rest none in
+      let n = word_in one.text in
+      let text_is : text ≡ codes "h " ++ n =
+      cuts.cut one.text one.is
+      ∙ ap (λ (w : List ℕ). w ++ 32 ∷ one.text) (same_word word (codes "h") is)
+      ∙ ap (λ (t : List ℕ). 104 ∷ 32 ∷ t) (text_whole one.text (nothing_follows (rest_in one.text) one.more)) in
+      (Hands one.value, (n, one.writes, text_is))
 
-plain_by : (word text : List ℕ) (rest : Option (List ℕ)) (i w m : Bool) → bytes_eq word (codes "i") ≡ i → bytes_eq word (codes "w") ≡ w
-    → bytes_eq word (codes "m") ≡ m
-    → (i || (w || m)) ≡ true → Cuts word rest text → why_numbers [] rest ≡ None → (e : Event) × IsEvent e text
-plain_by word text rest true w m a b d one cuts none = (Interrupt, alone word text rest (codes "i") cuts a none)
-plain_by word text rest false true m a b d one cuts none = (Swapper, alone word text rest (codes "w") cuts b none)
-plain_by word text rest false false true a b d one cuts none = (Audit, alone word text rest (codes "m") cuts d none)
-plain_by word text rest false false false a b d one cuts none = absurd cc
+  plain_by : (i w m : Bool) → bytes_eq word (codes "i") ≡ i → bytes_eq word (codes "w") ≡ w → bytes_eq word (codes "m") ≡ m → (i || (w || m)) ≡ true
+      → Cuts word rest text → why_numbers [] rest ≡ None → (e : Event) × IsEvent e text
+  plain_by true w m a b d one cuts none = (Interrupt, alone (codes "i") cuts a none)
+  plain_by false true m a b d one cuts none = (Swapper, alone (codes "w") cuts b none)
+  plain_by false false true a b d one cuts none = (Audit, alone (codes "m") cuts d none)
+  plain_by false false false a b d one cuts none = absurd cc
 
-plain_told : (word text : List ℕ) (rest : Option (List ℕ)) → is_plain word ≡ true → Cuts word rest text → why_numbers [] rest ≡ None
-    → (e : Event) × IsEvent e text
-unfolding is_plain
-plain_told word text rest one cuts none = plain_by word text rest _ _ _ refl refl refl one cuts none
+  plain_told : is_plain word ≡ true → Cuts word rest text → why_numbers [] rest ≡ None → (e : Event) × IsEvent e text
+  unfolding is_plain
+  plain_told one cuts none = plain_by _ _ _ refl refl refl one cuts none
 
-event_by : (word text : List ℕ) (rest : Option (List ℕ)) (d h p : Bool) → bytes_eq word (codes "d") ≡ d → bytes_eq word (codes "h") ≡ h
-    → is_plain word ≡ p → Cuts word rest text
-    → (if d then why_numbers (Process ∷ Turn ∷ []) rest
-    else (if h then why_numbers (Moves ∷ []) rest else (if p then why_numbers [] rest else Some (no_event word)))) ≡ None
-    → (e : Event) × IsEvent e text
-event_by word text rest true h p a b q cuts none = dispatched word text rest cuts a none
-event_by word text rest false true p a b q cuts none = moved word text rest cuts b none
-event_by word text rest false false true a b q cuts none = plain_told word text rest q cuts none
-event_by word text rest false false false a b q cuts none = absurd cc
+  event_by : (d h p : Bool) → bytes_eq word (codes "d") ≡ d → bytes_eq word (codes "h") ≡ h
+      → is_plain word ≡ p → Cuts word rest text
+      → (if d then why_numbers (Process ∷ Turn ∷ []) rest
+      else (if h then why_numbers (Moves ∷ []) rest else (if p then why_numbers [] rest else Some (no_event word)))) ≡ None
+      → (e : Event) × IsEvent e text
+  event_by true h p a b q cuts none = dispatched cuts a none
+  event_by false true p a b q cuts none = moved cuts b none
+  event_by false false true a b q cuts none = plain_told q cuts none
+  event_by false false false a b q cuts none = absurd cc
 
 event_told : (word text : List ℕ) (rest : Option (List ℕ)) → Cuts word rest text → why_event word rest ≡ None → (e : Event) × IsEvent e text
 unfolding why_event

@@ -90,50 +90,48 @@ with_is F p s S q e = replaced_twice F.processes (writer p s S) q (sym e)
 list_of : FlatState → List Process
 list_of F = F.processes
 
-pub kept_list : (images : List NamedImage) (F : FlatState) (pid : ℕ) (p : Process) (s : Space) (S : Step) → Steps images F pid p s S → S.change ≡ Keep
-    → (let G : FlatState = S.after in G.processes) ≡ replaced F.processes (gone_on p s S)
-unfolding list_of
-kept_list images F pid p s S h e = ap list_of (after_is images F pid p s S Keep h e) ∙ with_is F p s S (gone_on p s S) refl
+module _ (images : List NamedImage) (F : FlatState) (pid : ℕ) (p : Process) (s : Space) (S : Step) where
+  pub kept_list : Steps images F pid p s S → S.change ≡ Keep → (let G : FlatState = S.after in G.processes) ≡ replaced F.processes (gone_on p s S)
+  unfolding list_of
+  kept_list h e = ap list_of (after_is images F pid p s S Keep h e) ∙ with_is F p s S (gone_on p s S) refl
 
-pub slept_list : (images : List NamedImage) (F : FlatState) (pid : ℕ) (p : Process) (s : Space) (S : Step) → Steps images F pid p s S → S.change ≡ Sleep
-    → (let G : FlatState = S.after in G.processes) ≡ replaced F.processes (record (gone_on p s S) { asleep = true })
-unfolding list_of
-slept_list images F pid p s S h e = ap list_of (after_is images F pid p s S Sleep h e) ∙ with_is F p s S (record (gone_on p s S) { asleep = true }) refl
+  pub slept_list : Steps images F pid p s S → S.change ≡ Sleep
+      → (let G : FlatState = S.after in G.processes) ≡ replaced F.processes (record (gone_on p s S) { asleep = true })
+  unfolding list_of
+  slept_list h e = ap list_of (after_is images F pid p s S Sleep h e) ∙ with_is F p s S (record (gone_on p s S) { asleep = true }) refl
 
-pub resized_list : (images : List NamedImage) (F : FlatState) (pid : ℕ) (p : Process) (s : Space) (S : Step) (d t : ℕ) → Steps images F pid p s S
-    → S.change ≡ Resize d t
-    → (let G : FlatState = S.after in G.processes) ≡ replaced F.processes (record (gone_on p s S) { holding = Holds (resized (puts s S.writes) d t) })
-unfolding list_of
-resized_list images F pid p s S d t h e =
-    ap list_of (after_is images F pid p s S (Resize d t) h e) ∙ with_is F p s S (record (gone_on p s S) { holding = Holds (resized (puts s S.writes) d t) }) refl
+  pub resized_list : (d t : ℕ) → Steps images F pid p s S → S.change ≡ Resize d t
+      → (let G : FlatState = S.after in G.processes) ≡ replaced F.processes (record (gone_on p s S) { holding = Holds (resized (puts s S.writes) d t) })
+  unfolding list_of
+  resized_list d t h e =
+      ap list_of (after_is images F pid p s S (Resize d t) h e) ∙ with_is F p s S (record (gone_on p s S) { holding = Holds (resized (puts s S.writes) d t) }) refl
 
-pub forked_list : (images : List NamedImage) (F : FlatState) (pid : ℕ) (p : Process) (s : Space) (S : Step) (child : ℕ) → Steps images F pid p s S
-    → S.change ≡ Fork child
-    → (let G : FlatState = S.after in G.processes) ≡ replaced F.processes (gone_on p s S) ++ child_of (gone_on p s S) child
-    (record (puts s S.writes) { sid = F.next_sid }) ∷ []
-unfolding list_of
-forked_list images F pid p s S child h e =
-    ap list_of (after_is images F pid p s S (Fork child) h e)
-    ∙ ap (λ (qs : List Process). qs ++ child_of (gone_on p s S) child (record (puts s S.writes) { sid = F.next_sid }) ∷ []) (with_is F p s S (gone_on p s S) refl)
+  pub forked_list : (child : ℕ) → Steps images F pid p s S
+      → S.change ≡ Fork child
+      → (let G : FlatState = S.after in G.processes) ≡ replaced F.processes (gone_on p s S) ++ child_of (gone_on p s S) child
+      (record (puts s S.writes) { sid = F.next_sid }) ∷ []
+  unfolding list_of
+  forked_list child h e =
+      ap list_of (after_is images F pid p s S (Fork child) h e)
+      ∙ ap (λ (qs : List Process). qs ++ child_of (gone_on p s S) child (record (puts s S.writes) { sid = F.next_sid }) ∷ []) (with_is F p s S (gone_on p s S) refl)
 
-pub entered_list : (images : List NamedImage) (F : FlatState) (pid : ℕ) (p : Process) (s : Space) (S : Step) (image : ℕ) (named : NamedImage)
-    (top : List ℕ) → Steps images F pid p s S
-    → S.change ≡ Exec image top → image_numbered images image ≡ Some named
-    → (let G : FlatState = S.after in G.processes)
-    ≡ returned p.pid (puts s S.writes) (replaced F.processes (record (gone_on p s S) { holding = Holds (space_with F.next_sid image named.image top) }))
-unfolding list_of
-entered_list images F pid p s S image named top h e i =
-    ap list_of (after_is images F pid p s S (Exec image top) h e ∙ ap (λ (o : Option NamedImage). entered (written F p s S) (gone_on p s S) (puts s S.writes) image o top) i)
-    ∙ ap (returned p.pid (puts s S.writes)) (with_is F p s S (record (gone_on p s S) { holding = Holds (space_with F.next_sid image named.image top) }) refl)
+  pub entered_list : (image : ℕ) (named : NamedImage)
+      (top : List ℕ) → Steps images F pid p s S
+      → S.change ≡ Exec image top → image_numbered images image ≡ Some named
+      → (let G : FlatState = S.after in G.processes)
+      ≡ returned p.pid (puts s S.writes) (replaced F.processes (record (gone_on p s S) { holding = Holds (space_with F.next_sid image named.image top) }))
+  unfolding list_of
+  entered_list image named top h e i =
+      ap list_of (after_is images F pid p s S (Exec image top) h e ∙ ap (λ (o : Option NamedImage). entered (written F p s S) (gone_on p s S) (puts s S.writes) image o top) i)
+      ∙ ap (returned p.pid (puts s S.writes)) (with_is F p s S (record (gone_on p s S) { holding = Holds (space_with F.next_sid image named.image top) }) refl)
 
-pub reaped_list : (images : List NamedImage) (F : FlatState) (pid : ℕ) (p : Process) (s : Space) (S : Step) (child : ℕ) → Steps images F pid p s S
-    → S.change ≡ Reap child → p.pid ≢ child
-    → (let G : FlatState = S.after in G.processes) ≡ filter (λ r. not (r.pid == child)) (replaced F.processes (gone_on p s S))
-unfolding list_of
-reaped_list images F pid p s S child h e apart =
-    ap list_of (after_is images F pid p s S (Reap child) h e)
-    ∙ (replaced_sifted (replaced F.processes (writer p s S)) (gone_on p s S) child apart
-    ∙ ap (filter (λ r. not (r.pid == child))) (with_is F p s S (gone_on p s S) refl))
+  pub reaped_list : (child : ℕ) → Steps images F pid p s S → S.change ≡ Reap child → p.pid ≢ child
+      → (let G : FlatState = S.after in G.processes) ≡ filter (λ r. not (r.pid == child)) (replaced F.processes (gone_on p s S))
+  unfolding list_of
+  reaped_list child h e apart =
+      ap list_of (after_is images F pid p s S (Reap child) h e)
+      ∙ (replaced_sifted (replaced F.processes (writer p s S)) (gone_on p s S) child apart
+      ∙ ap (filter (λ r. not (r.pid == child))) (with_is F p s S (gone_on p s S) refl))
 
 -- the process as a zombie
 abbrev pub ghost_of : Process → Space → Step → ℕ → Process

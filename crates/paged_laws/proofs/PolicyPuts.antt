@@ -88,40 +88,40 @@ found_pid (x ∷ xs) pid q e = go (x.pid == pid) refl e (found_pid xs pid q)
     go true i k ih = ap (λ (y : Process). y.pid) (sym (same_Some x q k)) ∙ eqb-true x.pid pid i
     go false i k ih = ih k
 
--- who may go out: it is in, and didn't borrow
-record Leaves (F : FlatState) (p : Placement) (pid : ℕ) : Type 0 where
-  process : Process
-  space : Space
-  there : process_of F pid ≡ Some process
-  holds : process.holding ≡ Holds space
-  owns : is_borrower F.processes pid ≡ false
-  resident : is_out p pid ≡ false
+module _ (F : FlatState) (p : Placement) (pid : ℕ) where
+  -- who may go out: it is in, and didn't borrow
+  record Leaves : Type 0 where
+    process : Process
+    space : Space
+    there : process_of F pid ≡ Some process
+    holds : process.holding ≡ Holds space
+    owns : is_borrower F.processes pid ≡ false
+    resident : is_out p pid ≡ false
 
-leaves_of : (F : FlatState) (p : Placement) (pid : ℕ) → holds_some (process_of F pid) ≡ true → is_borrower F.processes pid ≡ false → is_out p pid ≡ false
-    → Leaves F p pid
-leaves_of F p pid h b o = go (process_of F pid) refl h
-  where
-    by : (q : Process) (k : Holding) → process_of F pid ≡ Some q → q.holding ≡ k → holds_space k ≡ true → Leaves F p pid
-    by q (Holds s) i j e = record { process = q; space = s; there = i; holds = j; owns = b; resident = o }
-    by q (Lends sid child) i j e = absurd cc
-    by q (Zombie status) i j e = absurd cc
+  leaves_of : holds_some (process_of F pid) ≡ true → is_borrower F.processes pid ≡ false → is_out p pid ≡ false → Leaves
+  leaves_of h b o = go (process_of F pid) refl h
+    where
+      by : (q : Process) (k : Holding) → process_of F pid ≡ Some q → q.holding ≡ k → holds_space k ≡ true → Leaves
+      by q (Holds s) i j e = record { process = q; space = s; there = i; holds = j; owns = b; resident = o }
+      by q (Lends sid child) i j e = absurd cc
+      by q (Zombie status) i j e = absurd cc
 
-    go : (x : Option Process) → process_of F pid ≡ x → holds_some x ≡ true → Leaves F p pid
-    go None i e = absurd cc
-    go (Some q) i e = by q q.holding i refl e
+      go : (x : Option Process) → process_of F pid ≡ x → holds_some x ≡ true → Leaves
+      go None i e = absurd cc
+      go (Some q) i e = by q q.holding i refl e
 
-may_none : (F : FlatState) (p : Placement) (pid : ℕ) → is_borrower F.processes pid ≡ false → is_out p pid ≡ false → may_not_go F p pid ≡ None
-may_none F p pid b o =
-    none_or (unless (not (is_borrower F.processes pid)) (reasons.Borrowed pid)) (unless (not (is_out p pid)) (reasons.IsOut pid))
-    (none_unless (not (is_borrower F.processes pid)) (reasons.Borrowed pid) (ap not b)) (none_unless (not (is_out p pid)) (reasons.IsOut pid) (ap not o))
+  may_none : is_borrower F.processes pid ≡ false → is_out p pid ≡ false → may_not_go F p pid ≡ None
+  may_none b o =
+      none_or (unless (not (is_borrower F.processes pid)) (reasons.Borrowed pid)) (unless (not (is_out p pid)) (reasons.IsOut pid))
+      (none_unless (not (is_borrower F.processes pid)) (reasons.Borrowed pid) (ap not b)) (none_unless (not (is_out p pid)) (reasons.IsOut pid) (ap not o))
 
-holder_none : (F : FlatState) (p : Placement) (pid : ℕ) (l : Leaves F p pid) → IsNumbered F → holder_stays F p l.space.sid ≡ None
-holder_none F p pid l nums =
-    ap (holder_by F p l.space.sid) (held_found F.processes pid l.process l.space nums.sids l.there l.holds)
-    ∙ ap (may_not_go F p) (found_pid F.processes pid l.process l.there) ∙ may_none F p pid l.owns l.resident
+  holder_none : (l : Leaves) → IsNumbered F → holder_stays F p l.space.sid ≡ None
+  holder_none l nums =
+      ap (holder_by F p l.space.sid) (held_found F.processes pid l.process l.space nums.sids l.there l.holds)
+      ∙ ap (may_not_go F p) (found_pid F.processes pid l.process l.there) ∙ may_none l.owns l.resident
 
-space_is : (F : FlatState) (p : Placement) (pid : ℕ) (l : Leaves F p pid) → space_of_process (process_of F pid) ≡ l.space.sid
-space_is F p pid l = ap space_of_process l.there ∙ ap space_of_holding l.holds
+  space_is : (l : Leaves) → space_of_process (process_of F pid) ≡ l.space.sid
+  space_is l = ap space_of_process l.there ∙ ap space_of_holding l.holds
 
 -- Pages of a space.
 

@@ -150,29 +150,28 @@ abbrev pieces_by : Placement → ℕ → ℕ → ℕ → Image → List Wanted
 pieces_by p n sid image facts =
     text_asked n image (2 * length (slots_of p (Text image 0))) ++ (wanted (owners.Data sid) (pieces (2 * image_data_pages facts)) ++ wanted (owners.Stack sid) (pieces 2))
 
-asks_shared : (p : Placement) (hs : Holdings) (sid image : ℕ) (facts : Image) → HoldsNone p hs sid image → 0 < sharers p image
-    → wanted_of hs (own_wants sid facts) ≡ image_pieces p sid image facts
-asks_shared p hs sid image facts h l = own_asks p hs sid image facts h ∙ go (sharers p image) refl l
-  where
-    go : (n : ℕ) → sharers p image ≡ n → 0 < n → pieces_by p 1 sid image facts ≡ pieces_by p (sharers p image) sid image facts
-    go zero e m = absurd (omega arith)
-    go (suc n) e m = ap (λ (k : ℕ). pieces_by p k sid image facts) (sym e)
+module _ (p : Placement) (hs : Holdings) (sid image : ℕ) (facts : Image) where
+  asks_shared : HoldsNone p hs sid image → 0 < sharers p image → wanted_of hs (own_wants sid facts) ≡ image_pieces p sid image facts
+  asks_shared h l = own_asks p hs sid image facts h ∙ go (sharers p image) refl l
+    where
+      go : (n : ℕ) → sharers p image ≡ n → 0 < n → pieces_by p 1 sid image facts ≡ pieces_by p (sharers p image) sid image facts
+      go zero e m = absurd (omega arith)
+      go (suc n) e m = ap (λ (k : ℕ). pieces_by p k sid image facts) (sym e)
 
-asks_first : (p : Placement) (hs : Holdings) (sid image : ℕ) (facts : Image) → HoldsNone p hs sid image → sharers p image ≡ 0
-    → text_pages_of facts ≡ length (slots_of p (Text image 0)) → wanted_of hs (three_wants sid image facts) ≡ image_pieces p sid image facts
-asks_first p hs sid image facts h none size =
-    let t : List Wanted = wanted (owners.Text image) (text_pieces (2 * length (slots_of p (Text image 0)))) in
-    ap (λ (l : List Wanted). l ++ wanted_of hs (own_wants sid facts))
-    (all_more hs (owners.Text image) (2 * text_pages_of facts) (h.of_text none) ∙ ap (λ (n : ℕ). wanted (owners.Text image) (text_pieces (2 * n))) size)
-    ∙ ap (λ (l : List Wanted). t ++ l) (own_asks p hs sid image facts h)
-    ∙ ap (λ (k : ℕ). pieces_by p k sid image facts) (sym none)
+  asks_first : HoldsNone p hs sid image → sharers p image ≡ 0
+      → text_pages_of facts ≡ length (slots_of p (Text image 0)) → wanted_of hs (three_wants sid image facts) ≡ image_pieces p sid image facts
+  asks_first h none size =
+      let t : List Wanted = wanted (owners.Text image) (text_pieces (2 * length (slots_of p (Text image 0)))) in
+      ap (λ (l : List Wanted). l ++ wanted_of hs (own_wants sid facts))
+      (all_more hs (owners.Text image) (2 * text_pages_of facts) (h.of_text none) ∙ ap (λ (n : ℕ). wanted (owners.Text image) (text_pieces (2 * n))) size)
+      ∙ ap (λ (l : List Wanted). t ++ l) (own_asks p hs sid image facts h)
+      ∙ ap (λ (k : ℕ). pieces_by p k sid image facts) (sym none)
 
-can_three : (p : Placement) (hs : Holdings) (sid image : ℕ) (facts : Image) → HoldsNone p hs sid image → sharers p image ≡ 0
-    → CanAsk hs (three_wants sid image facts)
-can_three p hs sid image facts h none = record {
-  differ = (((λ e. cc), ((λ e. cc), tt)), (((λ e. cc), tt), (tt, tt)));
-  each = ((mul-mod_right 2 (text_pages_of facts), nil_of (of_owner (owners.Text image) hs) (none_held hs (owners.Text image) (h.of_text none))), (tt, (tt, tt)));
-}
+  can_three : HoldsNone p hs sid image → sharers p image ≡ 0 → CanAsk hs (three_wants sid image facts)
+  can_three h none = record {
+    differ = (((λ e. cc), ((λ e. cc), tt)), (((λ e. cc), tt), (tt, tt)));
+    each = ((mul-mod_right 2 (text_pages_of facts), nil_of (of_owner (owners.Text image) hs) (none_held hs (owners.Text image) (h.of_text none))), (tt, (tt, tt)));
+  }
 
 module _ (m : Standing) (image : ℕ) (ws : List Want) (on : CanGoOn m) (next : AreNextWants m image ws) where
   none : HoldsNone m.kernel.place m.kernel.holdings m.kernel.next_sid image

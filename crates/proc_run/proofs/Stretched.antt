@@ -48,26 +48,24 @@ use Rattle.proc_run.proofs.Written.{writes_same}
 
 -- What an instruction writes may be written before or after it is counted.
 
-byte_apart : (k : Kernel) (pid : ℕ) (regs : Regs) (e : Entry) (q : Page) (s : PageState) (at byte : ℕ)
-    → write_by_state (ran_by k pid regs e) q s at byte ≡ ran_by (write_by_state k q s at byte) pid regs e
-byte_apart k pid regs e q (Valid f) at byte = refl
-byte_apart k pid regs e q Unfilled at byte = refl
-byte_apart k pid regs e q (Invalid f) at byte = refl
-byte_apart k pid regs e q (Coming f) at byte = refl
-byte_apart k pid regs e q (Going f) at byte = refl
-byte_apart k pid regs e q OnSwap at byte = refl
+module _ (k : Kernel) (pid : ℕ) (regs : Regs) (e : Entry) where
+  byte_apart : (q : Page) (s : PageState) (at byte : ℕ) → write_by_state (ran_by k pid regs e) q s at byte ≡ ran_by (write_by_state k q s at byte) pid regs e
+  byte_apart q (Valid f) at byte = refl
+  byte_apart q Unfilled at byte = refl
+  byte_apart q (Invalid f) at byte = refl
+  byte_apart q (Coming f) at byte = refl
+  byte_apart q (Going f) at byte = refl
+  byte_apart q OnSwap at byte = refl
 
-spot_apart : (k : Kernel) (pid : ℕ) (regs : Regs) (e : Entry) (sid : ℕ) (spot : Spot) (byte : ℕ)
-    → write_spot (ran_by k pid regs e) sid spot byte ≡ ran_by (write_spot k sid spot byte) pid regs e
-spot_apart k pid regs e sid (Text i) byte = refl
-spot_apart k pid regs e sid (Data i) byte = byte_apart k pid regs e (pages.Data sid (i / 1024)) (state_of k.place (pages.Data sid (i / 1024))) (i % 1024) byte
-spot_apart k pid regs e sid (Stack i) byte = byte_apart k pid regs e (pages.Stack sid (i / 1024)) (state_of k.place (pages.Stack sid (i / 1024))) (i % 1024) byte
-spot_apart k pid regs e sid Below byte = refl
-spot_apart k pid regs e sid Outside byte = refl
+  spot_apart : (sid : ℕ) (spot : Spot) (byte : ℕ) → write_spot (ran_by k pid regs e) sid spot byte ≡ ran_by (write_spot k sid spot byte) pid regs e
+  spot_apart sid (Text i) byte = refl
+  spot_apart sid (Data i) byte = byte_apart (pages.Data sid (i / 1024)) (state_of k.place (pages.Data sid (i / 1024))) (i % 1024) byte
+  spot_apart sid (Stack i) byte = byte_apart (pages.Stack sid (i / 1024)) (state_of k.place (pages.Stack sid (i / 1024))) (i % 1024) byte
+  spot_apart sid Below byte = refl
+  spot_apart sid Outside byte = refl
 
-one_apart : (k : Kernel) (pid : ℕ) (regs : Regs) (e : Entry) (sid : ℕ) (w : ByteWrite)
-    → write_in (ran_by k pid regs e) sid w ≡ ran_by (write_in k sid w) pid regs e
-one_apart k pid regs e sid w = spot_apart k pid regs e sid (spot_in k.place sid w.address) w.byte
+  one_apart : (sid : ℕ) (w : ByteWrite) → write_in (ran_by k pid regs e) sid w ≡ ran_by (write_in k sid w) pid regs e
+  one_apart sid w = spot_apart sid (spot_in k.place sid w.address) w.byte
 
 writes_apart : (k : Kernel) (pid : ℕ) (regs : Regs) (e : Entry) (sid : ℕ) (ws : List ByteWrite)
     → writes_in (ran_by k pid regs e) sid ws ≡ ran_by (writes_in k sid ws) pid regs e

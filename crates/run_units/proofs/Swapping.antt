@@ -74,22 +74,21 @@ turn_comes A s pid d o c l t =
 
 -- One unit.
 
-pub out_made : (A : Inputs) (s : State) (k l : Kernel) (image : SwapImage) (j : Option SwapImage) (pid : ℕ)
-    → ((p : Proc) → proc_of k pid ≡ Some p → AreRegs p.regs)
-    → l ≡ out_step k pid → WritesU k pid (Some image) j → MadeAs A s k image (entries.SwapOut pid) l j
-out_made A s k l image j pid r m w = record { read = []; given = r; made = m; told = w }
+module _ (A : Inputs) (s : State) (k l : Kernel) (image : SwapImage) where
+  pub out_made : (j : Option SwapImage) (pid : ℕ) → ((p : Proc) → proc_of k pid ≡ Some p → AreRegs p.regs) → l ≡ out_step k pid → WritesU k pid (Some image) j
+      → MadeAs A s k image (entries.SwapOut pid) l j
+  out_made j pid r m w = record { read = []; given = r; made = m; told = w }
 
-pub in_made : (A : Inputs) (s : State) (k l : Kernel) (image : SwapImage) (j : Option SwapImage) (pid : ℕ) → IsIn k l pid (Some image)
-    → AsksU k pid (Some image) j → MadeAs A s k image (entries.SwapIn pid) l j
-in_made A s k l image j pid h a = record { read = []; given = tt; made = h.step ∙ ap (in_step k pid) h.stored; told = a }
+  pub in_made : (j : Option SwapImage) (pid : ℕ) → IsIn k l pid (Some image) → AsksU k pid (Some image) j → MadeAs A s k image (entries.SwapIn pid) l j
+  in_made j pid h a = record { read = []; given = tt; made = h.step ∙ ap (in_step k pid) h.stored; told = a }
 
-pub note_made : (A : Inputs) (s : State) (k l : Kernel) (image : SwapImage) (u : Entry) → IsNote u → l ≡ note_step k u → MadeAs A s k image u l (Some image)
-note_made A s k l image (entries.Event line) n m = record { read = []; given = tt; made = m; told = refl }
-note_made A s k l image (entries.Turn pid) n m = record { read = []; given = tt; made = m; told = refl }
-note_made A s k l image (entries.Out pid bytes) n m = record { read = []; given = tt; made = m; told = refl }
-note_made A s k l image (entries.Refused pid) n m = record { read = []; given = tt; made = m; told = refl }
-note_made A s k l image (entries.Owners free used moving held) n m = record { read = []; given = tt; made = m; told = refl }
-note_made A s k l image _ n m = absurd n
+  pub note_made : (u : Entry) → IsNote u → l ≡ note_step k u → MadeAs A s k image u l (Some image)
+  note_made (entries.Event line) n m = record { read = []; given = tt; made = m; told = refl }
+  note_made (entries.Turn pid) n m = record { read = []; given = tt; made = m; told = refl }
+  note_made (entries.Out pid bytes) n m = record { read = []; given = tt; made = m; told = refl }
+  note_made (entries.Refused pid) n m = record { read = []; given = tt; made = m; told = refl }
+  note_made (entries.Owners free used moving held) n m = record { read = []; given = tt; made = m; told = refl }
+  note_made _ n m = absurd n
 
 -- Putting out.
 

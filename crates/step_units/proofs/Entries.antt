@@ -58,37 +58,34 @@ clear_by : (images : List Image) (k : Kernel) (regs : Regs) (e : Entry) (change 
 clear_by images k regs e change None n = refl
 clear_by images k regs e change (Some p) n = place_due (changing_of images k p e) k.place change n
 
-entered_behind : (old new : Standing) (pid : ℕ) (regs : Regs) (e : Entry) (change : Change) → IsSome (proc_of old.kernel pid)
-    → Entered old new pid regs e change → IsBehind old.kernel new.kernel e
-entered_behind old new pid regs e change s h =
-    subst (λ (l : Kernel). IsBehind old.kernel l e) (sym h.step) (behind_by (facts_named old.images) old.kernel regs e change (proc_of old.kernel pid) s)
+module _ (old new : Standing) (pid : ℕ) (regs : Regs) (e : Entry) (change : Change) where
+  entered_behind : IsSome (proc_of old.kernel pid) → Entered old new pid regs e change → IsBehind old.kernel new.kernel e
+  entered_behind s h =
+      subst (λ (l : Kernel). IsBehind old.kernel l e) (sym h.step) (behind_by (facts_named old.images) old.kernel regs e change (proc_of old.kernel pid) s)
 
--- The machine.
+  -- The machine.
 
--- where a process is there that made an entry, the machine runs on
-pub entered_runs : (old new : Standing) (pid : ℕ) (regs : Regs) (e : Entry) (change : Change) → IsSome (proc_of old.kernel pid)
-    → Entered old new pid regs e change → CountsOn old new (counted e)
-entered_runs old new pid regs e change s h =
-    let b = entered_behind old new pid regs e change s h in
-    record {
-      params = ap (λ (m : Standing). m.params) h.rest;
-      images = ap (λ (m : Standing). m.images) h.rest;
-      frames = b.frames;
-      counted = counts_one old.kernel.journal new.kernel.journal e b.journal;
-    }
+  -- where a process is there that made an entry, the machine runs on
+  pub entered_runs : IsSome (proc_of old.kernel pid) → Entered old new pid regs e change → CountsOn old new (counted e)
+  entered_runs s h =
+      let b = entered_behind s h in
+      record {
+        params = ap (λ (m : Standing). m.params) h.rest;
+        images = ap (λ (m : Standing). m.images) h.rest;
+        frames = b.frames;
+        counted = counts_one old.kernel.journal new.kernel.journal e b.journal;
+      }
 
--- it goes on
-pub entered_on : (old new : Standing) (pid : ℕ) (regs : Regs) (e : Entry) (change : Change) → MayEnter old pid → IsPlain e → LeavesNone change
-    → Entered old new pid regs e change → Continues old new (counted e)
-entered_on old new pid regs e change s plain n h =
-    let b = entered_behind old new pid regs e change s.there h in
-    entry_on old new e (record { params = ap (λ (m : Standing). m.params) h.rest; images = ap (λ (m : Standing). m.images) h.rest })
-    (ap (λ (l : Kernel). l.place.due) h.step ∙ clear_by (facts_named old.images) old.kernel regs e change (proc_of old.kernel pid) n ∙ s.clear)
-    b.frames b.journal (last_plain old.kernel.journal e plain)
+  -- it goes on
+  pub entered_on : MayEnter old pid → IsPlain e → LeavesNone change → Entered old new pid regs e change → Continues old new (counted e)
+  entered_on s plain n h =
+      let b = entered_behind s.there h in
+      entry_on old new e (record { params = ap (λ (m : Standing). m.params) h.rest; images = ap (λ (m : Standing). m.images) h.rest })
+      (ap (λ (l : Kernel). l.place.due) h.step ∙ clear_by (facts_named old.images) old.kernel regs e change (proc_of old.kernel pid) n ∙ s.clear)
+      b.frames b.journal (last_plain old.kernel.journal e plain)
 
-pub entry_continues : (old new : Standing) (pid : ℕ) (regs : Regs) (e : Entry) (change : Change) → IsCaller old pid → IsPlain e → LeavesNone change
-    → Entered old new pid regs e change → Continues old new (counted e)
-entry_continues old new pid regs e change c plain n h = entered_on old new pid regs e change (may_enter old pid c) plain n h
+  pub entry_continues : IsCaller old pid → IsPlain e → LeavesNone change → Entered old new pid regs e change → Continues old new (counted e)
+  entry_continues c plain n h = entered_on (may_enter old pid c) plain n h
 
 -- what goes on from a machine with the same but for its holdings goes on from it
 pub from_found : (old new : Standing) (found : Holdings) (n : ℕ) → Continues (with_pieces old found) new n → Continues old new n

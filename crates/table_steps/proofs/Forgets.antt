@@ -98,30 +98,28 @@ no_frame_zero p w o e = none_some w (o.names w 0 e)
 
 -- A page in a frame.
 
-in_frame : (t : Lists) (q : Page) (f : ℕ) (valid changed : Bool) → MayForgetPage t q → entry_in t.spaces q ≡ Some (places.Frame f valid changed)
-    → frame_of (state_of (placement_of t) q) ≡ Some f
-in_frame t q f valid changed m e =
-    let x : Place = places.Frame f valid changed in
-    ap (λ (s : Slot). frame_of s.state) (page_is t q x m e) ∙ ap frame_of (shown_state t q x m.writable) ∙ frame_shown t.slots f valid changed
+module _ (t : Lists) (q : Page) (f : ℕ) (valid changed : Bool) where
+  in_frame : MayForgetPage t q → entry_in t.spaces q ≡ Some (places.Frame f valid changed) → frame_of (state_of (placement_of t) q) ≡ Some f
+  in_frame m e =
+      let x : Place = places.Frame f valid changed in
+      ap (λ (s : Slot). frame_of s.state) (page_is t q x m e) ∙ ap frame_of (shown_state t q x m.writable) ∙ frame_shown t.slots f valid changed
 
--- the frame has it
-held_here : (t : Lists) (q : Page) (f : ℕ) (valid changed : Bool) → MayForgetPage t q → entry_in t.spaces q ≡ Some (places.Frame f valid changed)
-    → token_page (slot_at t.slots f) ≡ Some q
-held_here t q f valid changed m e =
-    go valid (ap (λ (s : Slot). s.state) (page_is t q (places.Frame f valid changed) m e) ∙ shown_state t q (places.Frame f valid changed) m.writable)
-  where
-    idle : (a c : Bool) → is_away (slot_at t.slots f) ≡ a → state_of (placement_of t) q ≡ idle_state f a c → token_page (slot_at t.slots f) ≡ Some q
-    idle false c a h = held_is t q f m.known h a
-    idle true true a h = absurd (subst AtRest h m.rests)
-    idle true false a h = absurd (subst AtRest h m.rests)
+  -- the frame has it
+  held_here : MayForgetPage t q → entry_in t.spaces q ≡ Some (places.Frame f valid changed) → token_page (slot_at t.slots f) ≡ Some q
+  held_here m e =
+      go valid (ap (λ (s : Slot). s.state) (page_is t q (places.Frame f valid changed) m e) ∙ shown_state t q (places.Frame f valid changed) m.writable)
+    where
+      idle : (a c : Bool) → is_away (slot_at t.slots f) ≡ a → state_of (placement_of t) q ≡ idle_state f a c → token_page (slot_at t.slots f) ≡ Some q
+      idle false c a h = held_is t q f m.known h a
+      idle true true a h = absurd (subst AtRest h m.rests)
+      idle true false a h = absurd (subst AtRest h m.rests)
 
-    go : (v : Bool) → state_of (placement_of t) q ≡ state_shown t.slots (places.Frame f v changed) → token_page (slot_at t.slots f) ≡ Some q
-    go true h = let r = seat_resides t q f m.known (record { state = inl h }) in ap token_page r.slot
-    go false h = idle (is_away (slot_at t.slots f)) changed refl h
+      go : (v : Bool) → state_of (placement_of t) q ≡ state_shown t.slots (places.Frame f v changed) → token_page (slot_at t.slots f) ≡ Some q
+      go true h = let r = seat_resides t q f m.known (record { state = inl h }) in ap token_page r.slot
+      go false h = idle (is_away (slot_at t.slots f)) changed refl h
 
-pub entry_held : (t : Lists) (q : Page) (f : ℕ) (valid changed : Bool) → MayForgetPage t q → entry_in t.spaces q ≡ Some (places.Frame f valid changed)
-    → slot_at t.slots f ≢ tokens.Away
-entry_held t q f valid changed m e = holds_not_away (slot_at t.slots f) q (held_here t q f valid changed m e)
+  pub entry_held : MayForgetPage t q → entry_in t.spaces q ≡ Some (places.Frame f valid changed) → slot_at t.slots f ≢ tokens.Away
+  entry_held m e = holds_not_away (slot_at t.slots f) q (held_here m e)
 
 token_bytes : (s : Token) (q : Page) (o : Option Flown) → token_page s ≡ Some q → (token_of s).bytes ≡ bytes_by s o
 token_bytes tokens.Away q o e = none_some q e

@@ -360,21 +360,19 @@ beside_stack : (sid v w lo n : ℕ) → pages_from (Stack sid v) lo n ≡ pages_
 beside_stack sid v w lo zero = refl
 beside_stack sid v w lo (suc n) = ap (λ (qs : List Page). Stack sid lo ∷ qs) (beside_stack sid v w (lo + 1) n)
 
-pub data_go : (t : Tables) (index sid d s a b : ℕ) → Sizing t index sid d s a b
-    → EachPage (IsThere (placement_of (lists_of t))) (pages_from (Data sid 0) d (a - d))
-data_go t index sid d s a b z = let e = (sizing_counts t index sid d s a b z).0 in pages_from_each (IsThere (placement_of (lists_of t))) (Data sid 0) d (a - d) (λ w l m. omega arith)
+module _ (t : Tables) (index sid d s a b : ℕ) where
+  pub data_go : Sizing t index sid d s a b → EachPage (IsThere (placement_of (lists_of t))) (pages_from (Data sid 0) d (a - d))
+  data_go z = let e = (sizing_counts t index sid d s a b z).0 in pages_from_each (IsThere (placement_of (lists_of t))) (Data sid 0) d (a - d) (λ w l m. omega arith)
 
-pub data_rest : (t : Tables) (index sid d s a b : ℕ) → Sizing t index sid d s a b
-    → EachPage (λ q. AtRest (state_of (placement_of (lists_of t)) q)) (pages_from (Data sid 0) d (a - d))
-data_rest t index sid d s a b z =
-    let e = (sizing_counts t index sid d s a b z).0 in
-    pages_from_each (λ q. AtRest (state_of (placement_of (lists_of t)) q)) (Data sid 0) d (a - d) (λ w l m. (z.settled (inl (omega arith))).data_rests w)
+  pub data_rest : Sizing t index sid d s a b → EachPage (λ q. AtRest (state_of (placement_of (lists_of t)) q)) (pages_from (Data sid 0) d (a - d))
+  data_rest z =
+      let e = (sizing_counts t index sid d s a b z).0 in
+      pages_from_each (λ q. AtRest (state_of (placement_of (lists_of t)) q)) (Data sid 0) d (a - d) (λ w l m. (z.settled (inl (omega arith))).data_rests w)
 
-stack_rest : (t : Tables) (index sid d s a b : ℕ) → Sizing t index sid d s a b
-    → EachPage (λ q. AtRest (state_of (placement_of (lists_of t)) q)) (pages_from (Stack sid 0) s (b - s))
-stack_rest t index sid d s a b z =
-    let e = (sizing_counts t index sid d s a b z).1 in
-    pages_from_each (λ q. AtRest (state_of (placement_of (lists_of t)) q)) (Stack sid 0) s (b - s) (λ w l m. (z.settled (inr (omega arith))).stack_rests w)
+  stack_rest : Sizing t index sid d s a b → EachPage (λ q. AtRest (state_of (placement_of (lists_of t)) q)) (pages_from (Stack sid 0) s (b - s))
+  stack_rest z =
+      let e = (sizing_counts t index sid d s a b z).1 in
+      pages_from_each (λ q. AtRest (state_of (placement_of (lists_of t)) q)) (Stack sid 0) s (b - s) (λ w l m. (z.settled (inr (omega arith))).stack_rests w)
 
 -- the pages of the stack, where others were dropped
 pub stack_go : (t u : Tables) (index sid d s a b : ℕ) (qs : List Page) → Sizing t index sid d s a b → Dropped t u qs

@@ -328,37 +328,36 @@ record Placed (row : Row) (place : ℕ) (found : Spelled) (bytes : List ℕ) : T
   pub sized : found ≡ spelled operand bytes
   pub spells : SpellsPlace (nat_lt place row.count) (slot_in row place) operand bytes
 
-counted_place : (row : Row) (place : ℕ) (bytes : List ℕ) (found : Spelled) → AreOctets bytes → nat_lt place row.count ≡ true
-    → with_count (next_operand (slot_in row place)) bytes ≡ Ok (found, []) → Placed row place found bytes
-counted_place row place bytes found octets is h =
-    let slot = slot_in row place in
-    let read = counted_parts (next_operand slot) bytes found [] h in
-    let none : List ℕ = [] in
-    let size : length bytes - length none ≡ length bytes = omega arith in
-    record {
-      operand = read.0;
-      sized = read.2 ∙ ap (λ (n : ℕ). with_size read.0 n) size;
-      spells = subst (λ (b : Bool). SpellsPlace b slot read.0 bytes) (sym is) (operand_spelled slot bytes read.0 octets read.1);
-    }
+module _ (row : Row) (place : ℕ) (bytes : List ℕ) (found : Spelled) where
+  counted_place : AreOctets bytes → nat_lt place row.count ≡ true
+      → with_count (next_operand (slot_in row place)) bytes ≡ Ok (found, []) → Placed row place found bytes
+  counted_place octets is h =
+      let slot = slot_in row place in
+      let read = counted_parts (next_operand slot) bytes found [] h in
+      let none : List ℕ = [] in
+      let size : length bytes - length none ≡ length bytes = omega arith in
+      record {
+        operand = read.0;
+        sized = read.2 ∙ ap (λ (n : ℕ). with_size read.0 n) size;
+        spells = subst (λ (b : Bool). SpellsPlace b slot read.0 bytes) (sym is) (operand_spelled slot bytes read.0 octets read.1);
+      }
 
-empty_place : (row : Row) (place : ℕ) (bytes : List ℕ) (found : Spelled) → nat_lt place row.count ≡ false
-    → (let read : Read Spelled = Ok (record { operand = operands.Literal 0; size = 0 }, bytes) in read) ≡ Ok (found, [])
-    → Placed row place found bytes
-empty_place row place bytes found is h =
-    let both = parts (record { operand = operands.Literal 0; size = 0 }) found bytes [] h in
-    record {
-      operand = operands.Literal 0;
-      sized = sym both.0 ∙ ap (λ (l : List ℕ). spelled (operands.Literal 0) l) (sym both.1);
-      spells = subst (λ (b : Bool). SpellsPlace b (slot_in row place) (operands.Literal 0) bytes) (sym is) (refl, both.1);
-    }
+  empty_place : nat_lt place row.count ≡ false
+      → (let read : Read Spelled = Ok (record { operand = operands.Literal 0; size = 0 }, bytes) in read) ≡ Ok (found, []) → Placed row place found bytes
+  empty_place is h =
+      let both = parts (record { operand = operands.Literal 0; size = 0 }) found bytes [] h in
+      record {
+        operand = operands.Literal 0;
+        sized = sym both.0 ∙ ap (λ (l : List ℕ). spelled (operands.Literal 0) l) (sym both.1);
+        spells = subst (λ (b : Bool). SpellsPlace b (slot_in row place) (operands.Literal 0) bytes) (sym is) (refl, both.1);
+      }
 
-place_spelled : (row : Row) (place : ℕ) (bytes : List ℕ) (found : Spelled) → AreOctets bytes → operand_in_place row place bytes ≡ Ok (found, [])
-    → Placed row place found bytes
-unfolding operand_in_place
-place_spelled row place bytes found octets h =
-    by_test (nat_lt place row.count) h
-    (λ is k. counted_place row place bytes found octets is k)
-    (λ is k. empty_place row place bytes found is k)
+  place_spelled : AreOctets bytes → operand_in_place row place bytes ≡ Ok (found, []) → Placed row place found bytes
+  unfolding operand_in_place
+  place_spelled octets h =
+      by_test (nat_lt place row.count) h
+      (λ is k. counted_place octets is k)
+      (λ is k. empty_place is k)
 
 -- the same of a front
 record Fronted (row : Row) (place : ℕ) (found : Spelled) (bytes rest : List ℕ) : Type 0 where
