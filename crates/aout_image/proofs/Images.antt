@@ -52,7 +52,7 @@ both_of true true true h t = (refl, refl)
 both_of true false y h t = cc
 both_of true true false h t = cc
 
-neither_of : (x y : Bool) → (x || y) ≡ false → (x ≡ false) × (y ≡ false)
+pub neither_of : (x y : Bool) → (x || y) ≡ false → (x ≡ false) × (y ≡ false)
 neither_of false false h = (refl, refl)
 neither_of true y h = cc
 neither_of false true h = cc
@@ -170,7 +170,7 @@ judgement-front bytes head len front size =
     ∙ judgement-take bytes (length bytes) ∙ sym (judged_of-loaded_if (judgement bytes (length bytes)) bytes)
 
 -- segments have whole pages
-length-in_pages : (pages : ℕ) (xs : List ℕ) → length xs ≤ 1024 * pages → length (in_pages pages xs) ≡ 1024 * pages
+pub length-in_pages : (pages : ℕ) (xs : List ℕ) → length xs ≤ 1024 * pages → length (in_pages pages xs) ≡ 1024 * pages
 length-in_pages pages xs h = simp (length-append, length-replicate) (omega arith)
 
 length-take-at-most : (n : ℕ) (xs : List ℕ) → length (take n xs) ≤ n
@@ -311,7 +311,7 @@ judged_facts-sound image len sound whole =
     (le-ltb _ _ whole)
     (grind (arith, nat_tests, sound.starts_inside))
 
-text_offset_at_least : (paged : Bool) → 32 ≤ (if paged then 1024 else 32)
+pub text_offset_at_least : (paged : Bool) → 32 ≤ (if paged then 1024 else 32)
 text_offset_at_least true = omega arith
 text_offset_at_least false = omega arith
 

@@ -11,7 +11,7 @@ use Rattle.std.proofs.lemmas.Bool.Decides.{nat_tests}
 use Rattle.asm_grammar.specs.Text.{front_of}
 use Rattle.asm_grammar.specs.Numbers.{is_digit, AreDigits}
 
-is_true : (t : Bool) → t ≡ true → IsTrue t
+pub is_true : (t : Bool) → t ≡ true → IsTrue t
 is_true t e = grind (arith, nat_tests)
 
 are_by : (base : ℕ) (t : Bool) (x : ℕ) (xs : List ℕ) → is_digit base x ≡ t → AreDigits base (front_of (is_digit base) xs)

@@ -12,7 +12,7 @@ abbrev HasNoFeed : List ℕ → Type 0
 HasNoFeed [] = Unit {0}
 HasNoFeed (byte ∷ bytes) = ((byte == 10) ≡ false) × HasNoFeed bytes
 
-goes_on : (byte : ℕ) → not (byte == 10) ≡ true → (byte == 10) ≡ false
+pub goes_on : (byte : ℕ) → not (byte == 10) ≡ true → (byte == 10) ≡ false
 goes_on byte e = grind (arith, nat_tests)
 
 ends : (byte : ℕ) → not (byte == 10) ≡ false → byte ≡ 10

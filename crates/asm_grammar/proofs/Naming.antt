@@ -42,30 +42,30 @@ pub whole_decodes : (bytes : List ℕ) (instr : Instr) → IsInstruction bytes i
 whole_decodes bytes instr h =
     (is_decoded bytes instr (record { front = bytes; rest = []; split = sym (append-nil bytes); whole = h }), (whole_length bytes instr h).2)
 
-pub code_of : (line : List ℕ) (labels : List Definition) (at : ℕ) (s : Sentence) (bytes : List ℕ) → is_short line ≡ true → sentence_of line ≡ Some s
-    → sentence_bytes labels at s ≡ Some bytes → IsCodeOf line labels at bytes
-unfolding named_instruction named_bytes
-code_of line labels at s bytes short is e =
-    let n = sentence_encodes labels at s bytes (sentence_listed line s is) e in
-    let d = whole_decodes bytes n.0 n.2 in
-    record {
-      instr = n.0;
-      named = rw short (rw is n.1);
-      bytes_named = rw short (rw is e);
-      decodes = d.0;
-      sized = d.1;
-    }
+module _ (line : List ℕ) (labels : List Definition) (at : ℕ) where
+  pub code_of : (s : Sentence) (bytes : List ℕ) → is_short line ≡ true → sentence_of line ≡ Some s
+      → sentence_bytes labels at s ≡ Some bytes → IsCodeOf line labels at bytes
+  unfolding named_instruction named_bytes
+  code_of s bytes short is e =
+      let n = sentence_encodes labels at s bytes (sentence_listed line s is) e in
+      let d = whole_decodes bytes n.0 n.2 in
+      record {
+        instr = n.0;
+        named = rw short (rw is n.1);
+        bytes_named = rw short (rw is e);
+        decodes = d.0;
+        sized = d.1;
+      }
 
-pub long_is_none : (line : List ℕ) (labels : List Definition) (at : ℕ) → is_short line ≡ false → named_instruction line labels at ≡ None
-unfolding named_instruction
-long_is_none line labels at e = rw e refl
+  pub long_is_none : is_short line ≡ false → named_instruction line labels at ≡ None
+  unfolding named_instruction
+  long_is_none e = rw e refl
 
-pub no_sentence_is_none : (line : List ℕ) (labels : List Definition) (at : ℕ) → is_short line ≡ true → sentence_of line ≡ None
-    → named_instruction line labels at ≡ None
-unfolding named_instruction
-no_sentence_is_none line labels at short e = rw short (rw e refl)
+  pub no_sentence_is_none : is_short line ≡ true → sentence_of line ≡ None → named_instruction line labels at ≡ None
+  unfolding named_instruction
+  no_sentence_is_none short e = rw short (rw e refl)
 
-pub no_bytes_is_none : (line : List ℕ) (labels : List Definition) (at : ℕ) (s : Sentence) → is_short line ≡ true → sentence_of line ≡ Some s
-    → sentence_bytes labels at s ≡ None → named_instruction line labels at ≡ None
-unfolding named_instruction
-no_bytes_is_none line labels at s short is e = rw short (rw is (sentence_none labels at s e))
+  pub no_bytes_is_none : (s : Sentence) → is_short line ≡ true → sentence_of line ≡ Some s
+      → sentence_bytes labels at s ≡ None → named_instruction line labels at ≡ None
+  unfolding named_instruction
+  no_bytes_is_none s short is e = rw short (rw is (sentence_none labels at s e))

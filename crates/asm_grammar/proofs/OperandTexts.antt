@@ -3,6 +3,7 @@ use Rattle.std.proofs.Common.{◌≡◌, ℕ, ◌+◌, ◌-◌, ◌<◌, Bool, t
 use Rattle.std.specs.Prelude.{◌==◌, if◌then◌else◌, codes, ⊤}
 use Rattle.std.specs.Int.{is_in_range}
 use Rattle.std.proofs.lemmas.Bool.Decides.{nat_tests}
+use Rattle.vax_code.proofs.Parsing.{not_pc}
 use Rattle.asm_grammar.specs.Text.{◌>>=◌, Text, after}
 use Rattle.asm_grammar.specs.Numbers.{number_at}
 use Rattle.asm_grammar.specs.Values.{is_word_byte}
@@ -68,9 +69,6 @@ word_ends (byte ∷ rest) h = h.0
 not_incremented : (k : ℕ) (rest : List ℕ) → PlaceEnds rest → incremented k rest ≡ Some (places.Deferred k, rest)
 not_incremented k [] h = refl
 not_incremented k (byte ∷ rest) h = rw h.1 refl
-
-not_pc : (k : ℕ) → k < 15 → (k == 15) ≡ false
-not_pc k h = grind (arith, nat_tests)
 
 displacement_read : (n p : List ℕ) (size k : ℕ) (number : Number) (deferred : Bool) (rest : List ℕ) → IsNumber n number → IsParenthesised p k
     → displacement_at size deferred (94 ∷ ((n ++ p) ++ rest)) ≡ Some (places.Disp size k number deferred, rest)

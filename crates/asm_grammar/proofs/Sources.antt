@@ -1,13 +1,13 @@
 -- The lines of a source say what is read of them.
-use Rattle.std.proofs.Common.{◌≡◌, ◌≢◌, ◌↔◌, ℕ, Bool, true, false, not, List, [], ◌∷◌, ◌++◌, map, Option, Some, None, refl, sym, ◌∙◌, ap, subst, arith, append_assoc}
+use Rattle.std.proofs.Common.{◌≡◌, ◌≢◌, ◌↔◌, ℕ, Bool, true, false, not, List, [], ◌∷◌, ◌++◌, map, Option, Some, None, refl, sym, ◌∙◌, ap, subst, append_assoc}
 use Rattle.std.specs.Prelude.{◌==◌, if◌then◌else◌, codes}
-use Rattle.std.proofs.lemmas.Bool.Decides.{nat_tests}
 use Rattle.asm_grammar.specs.Lines.{line_of, put_before, lines_in, item_of, items_in}
 use Rattle.asm_grammar.specs.declared.syntax.SourceLine.{SourceLine}
 use Rattle.asm_grammar.proofs.Spelled.{both}
 use Rattle.asm_grammar.specs.Grammar.{IsLine, SaysLine, InGrammar, Outside, is_unbroken, SaysLines, NoLine, Line, Unended}
 use Rattle.asm_grammar.proofs.FrontSplits.{eq_of}
 use Rattle.asm_grammar.proofs.LineTexts.{line_read, line_says}
+use Rattle.asm_grammar.proofs.Items.{goes_on}
 
 -- ---- a line
 
@@ -25,22 +25,19 @@ says_read text item (Outside outside) = none_by text (line_of text) refl outside
 
 -- ---- the lines of a source
 
-no_feed_byte : (byte : ℕ) → not (byte == 10) ≡ true → (byte == 10) ≡ false
-no_feed_byte byte h = grind (arith, nat_tests)
-
 lines_ended : (text more : List ℕ) → is_unbroken text ≡ true → lines_in (text ++ 10 ∷ more) ≡ Some text ∷ lines_in more
 unfolding lines_in
 lines_ended [] more h = refl
 lines_ended (byte ∷ text) more h =
     let tests = both (not (byte == 10)) (is_unbroken text) h in
-    rw (no_feed_byte byte tests.0) (ap (put_before byte) (lines_ended text more tests.1))
+    rw (goes_on byte tests.0) (ap (put_before byte) (lines_ended text more tests.1))
 
 lines_open : (byte : ℕ) (text : List ℕ) → is_unbroken (byte ∷ text) ≡ true → lines_in (byte ∷ text) ≡ None ∷ []
 unfolding lines_in
-lines_open byte [] h = rw (no_feed_byte byte (both (not (byte == 10)) true h).0) refl
+lines_open byte [] h = rw (goes_on byte (both (not (byte == 10)) true h).0) refl
 lines_open byte (next ∷ text) h =
     let tests = both (not (byte == 10)) (is_unbroken (next ∷ text)) h in
-    rw (no_feed_byte byte tests.0) (ap (put_before byte) (lines_open next text tests.1))
+    rw (goes_on byte tests.0) (ap (put_before byte) (lines_open next text tests.1))
 
 -- the texts of the lines
 data Splits : List ℕ → List (Option (List ℕ)) → Type 0 where

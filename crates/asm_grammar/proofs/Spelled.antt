@@ -8,14 +8,14 @@ use Rattle.vax_code.specs.declared.table.Slot.{Slot}
 use Rattle.vax_code.specs.declared.table.Row.{Row}
 use Rattle.vax_code.specs.declared.table.Kind.{Kind}
 use Rattle.vax_code.specs.declared.table.Kind.TheVariants as kinds
-use Rattle.vax_code.specs.declared.instr.Base.{Base}
 use Rattle.vax_code.specs.declared.instr.Base.TheVariants as bases
 use Rattle.vax_code.specs.declared.instr.Operand.{Operand}
 use Rattle.vax_code.specs.declared.instr.Operand.TheVariants as operands
 use Rattle.vax_code.specs.declared.instr.Instr.{Instr}
 use Rattle.vax_code.specs.Table.{slot_of, slot_in, row_for}
-use Rattle.vax_code.specs.Operands.{width_of, is_read, is_address, is_branch, operand_of, assembled}
+use Rattle.vax_code.specs.Operands.{width_of, is_read, is_address, is_branch, assembled}
 use Rattle.vax_code.specs.Grammar.{SpellsNumber, SpellsSigned, SpellsPlain, SpellsOnPc, SpellsDisplaced, SpellsBase, LeavesIndex, SpellsIndexed, SpellsSpecifier, SpellsBranch, SpellsOperand, SpellsPlace, IsInstruction, specifier, spelled}
+use Rattle.vax_code.proofs.Spelling.{of_base, not_true}
 use Rattle.asm_grammar.specs.Text.{◌>>=◌}
 use Rattle.asm_grammar.specs.Encoding.{whole_of, half_of, value_bits, displacement_bits, as_signed, number_of_value, bits_of_value, plain_specifier, with_number, displacement_mode, displaced_bytes, place_bytes, leaves_index, indexed_bytes, literal_bytes, immediate_bytes, distance, branch_bits, target_bytes, branch_bytes, specifier_bytes, absent_bytes, operand_bytes, sentence_bytes, or_zero, named_base, named_operand, sentence_instruction}
 use Rattle.asm_grammar.specs.declared.syntax.Number.{Number}
@@ -26,6 +26,7 @@ use Rattle.asm_grammar.specs.declared.syntax.Written.{Written}
 use Rattle.asm_grammar.specs.declared.syntax.Written.TheVariants as writtens
 use Rattle.asm_grammar.specs.declared.syntax.Sentence.{Sentence}
 use Rattle.asm_grammar.specs.declared.syntax.Definition.{Definition}
+use Rattle.asm_grammar.proofs.Digits.{is_true}
 
 -- ---- options
 
@@ -45,9 +46,6 @@ some_unless true o y e = absurd (cc)
 some_unless false o y e = (refl, e)
 
 -- ---- numbers
-
-is_true : (t : Bool) → t ≡ true → IsTrue t
-is_true t e = grind (arith, nat_tests)
 
 pub lt_of : (a b : ℕ) → nat_lt a b ≡ true → a < b
 lt_of a b e = grind (arith, nat_tests)
@@ -290,14 +288,6 @@ spells_indexed labels index place bytes e =
 
 -- ---- operands
 
-spells_of_base : (slot : Slot) (base : Base) (bytes : List ℕ) → SpellsBase base bytes → SpellsSpecifier slot (operand_of base) bytes
-spells_of_base slot (bases.Deferred reg) bytes h = h
-spells_of_base slot (bases.AutoDec reg) bytes h = h
-spells_of_base slot (bases.AutoInc reg) bytes h = h
-spells_of_base slot (bases.AutoIncDef reg) bytes h = h
-spells_of_base slot (bases.Absolute address) bytes h = h
-spells_of_base slot (bases.Disp reg by deferred) bytes h = h
-
 spells_literal : (slot : Slot) (number : Number) (bytes : List ℕ) → (if is_read slot.access then literal_bytes number else None) ≡ Some bytes
     → IsTrue (is_read slot.access) × (number.magnitude < 64) × (bytes ≡ number.magnitude ∷ [])
 spells_literal slot number bytes e =
@@ -306,14 +296,11 @@ spells_literal slot number bytes e =
     let tests = both (not number.negative) (nat_lt number.magnitude 64) q.0 in
     (is_true (is_read slot.access) p.0, lt_of number.magnitude 64 tests.1, sym (some_same _ _ q.1))
 
-not_of : (t : Bool) → t ≡ false → IsTrue (not t)
-not_of t e = is_true (not t) (ap not e)
-
 spells_register : (slot : Slot) (reg : ℕ) (bytes : List ℕ) → (if is_address slot.access then None else plain_specifier 5 reg) ≡ Some bytes
     → IsTrue (not (is_address slot.access)) × SpellsPlain 5 reg bytes
 spells_register slot reg bytes e =
     let p = some_unless (is_address slot.access) (plain_specifier 5 reg) bytes e in
-    (not_of (is_address slot.access) p.0, spells_plain 5 reg bytes p.1)
+    (not_true (is_address slot.access) p.0, spells_plain 5 reg bytes p.1)
 
 spells_immediate : (labels : List Definition) (slot : Slot) (value : Value) (bytes : List ℕ) → (slot.size ≡ 1) ⊎ (slot.size ≡ 2) ⊎ (slot.size ≡ 4)
     → (if is_read slot.access then immediate_bytes labels slot value else None) ≡ Some bytes
@@ -331,7 +318,7 @@ spells_specifier labels from slot writtens.Absent bytes sized e = absurd (cc)
 spells_specifier labels from slot (writtens.Literal number) bytes sized e = spells_literal slot number bytes e
 spells_specifier labels from slot (writtens.Register reg) bytes sized e = spells_register slot reg bytes e
 spells_specifier labels from slot (writtens.Immediate value) bytes sized e = spells_immediate labels slot value bytes sized e
-spells_specifier labels from slot (writtens.Plain place) bytes sized e = spells_of_base slot (named_base labels place) bytes (spells_place labels place bytes e)
+spells_specifier labels from slot (writtens.Plain place) bytes sized e = of_base slot (named_base labels place) bytes (spells_place labels place bytes e)
 spells_specifier labels from slot (writtens.Indexed index base) bytes sized e = spells_indexed labels index base bytes e
 spells_specifier labels from slot (writtens.Misindexed immediate) bytes sized e = absurd (cc)
 spells_specifier labels from slot (writtens.Target target) bytes sized e = absurd (cc)
@@ -359,61 +346,59 @@ branch_value size by bits (inr (inl e)) small h =
 branch_value size by bits (inr (inr e)) small h =
     subst (λ (s : ℕ). (bits < whole_of s) × (cast_signed w32 by ≡ cast_signed (width_of s) bits)) (sym e) (branch_4 by bits small (subst (λ (s : ℕ). branch_bits s by ≡ Some bits) e h))
 
-spells_target : (labels : List Definition) (from : ℕ) (slot : Slot) (target : Value) (bytes : List ℕ)
-    → (slot.size ≡ 1) ⊎ (slot.size ≡ 2) ⊎ (slot.size ≡ 4) → target_bytes labels from slot target ≡ Some bytes
-    → SpellsSigned slot.size (cast_signed w32 (distance (or_zero (bits_of_value labels 4 target)) (from + slot.size))) bytes
-unfolding target_bytes
-spells_target labels from slot target bytes sized e =
-    let after_address = λ (address : ℕ). branch_bits slot.size (distance address (from + slot.size)) >>= λ bits. Some (to_le_bytes (width_of slot.size) bits) in
-    let a = bind_some (bits_of_value labels 4 target) after_address bytes e in
-    let b = bind_some (branch_bits slot.size (distance a.0 (from + slot.size))) (λ bits. Some (to_le_bytes (width_of slot.size) bits)) bytes a.2 in
-    let is : a.0 ≡ or_zero (bits_of_value labels 4 target) = ap or_zero (sym a.1) in
-    let value = branch_value slot.size (distance a.0 (from + slot.size)) b.0 sized (distance_small a.0 (from + slot.size)) b.1 in
-    let split : to_le_bytes (width_of slot.size) b.0 ≡ bytes = some_same _ _ b.2 in
-    subst (λ (l : List ℕ). SpellsSigned slot.size (cast_signed w32 (distance (or_zero (bits_of_value labels 4 target)) (from + slot.size))) l) split
-    (subst (λ (n : ℕ). SpellsSigned slot.size (cast_signed w32 (distance n (from + slot.size))) (to_le_bytes (width_of slot.size) b.0)) is
-    (spells_signed slot.size b.0 (cast_signed w32 (distance a.0 (from + slot.size))) (spells_number slot.size b.0 sized value.0) value.1))
+module _ (labels : List Definition) (from : ℕ) (slot : Slot) where
+  spells_target : (target : Value) (bytes : List ℕ) → (slot.size ≡ 1) ⊎ (slot.size ≡ 2) ⊎ (slot.size ≡ 4) → target_bytes labels from slot target ≡ Some bytes
+      → SpellsSigned slot.size (cast_signed w32 (distance (or_zero (bits_of_value labels 4 target)) (from + slot.size))) bytes
+  unfolding target_bytes
+  spells_target target bytes sized e =
+      let after_address = λ (address : ℕ). branch_bits slot.size (distance address (from + slot.size)) >>= λ bits. Some (to_le_bytes (width_of slot.size) bits) in
+      let a = bind_some (bits_of_value labels 4 target) after_address bytes e in
+      let b = bind_some (branch_bits slot.size (distance a.0 (from + slot.size))) (λ bits. Some (to_le_bytes (width_of slot.size) bits)) bytes a.2 in
+      let is : a.0 ≡ or_zero (bits_of_value labels 4 target) = ap or_zero (sym a.1) in
+      let value = branch_value slot.size (distance a.0 (from + slot.size)) b.0 sized (distance_small a.0 (from + slot.size)) b.1 in
+      let split : to_le_bytes (width_of slot.size) b.0 ≡ bytes = some_same _ _ b.2 in
+      subst (λ (l : List ℕ). SpellsSigned slot.size (cast_signed w32 (distance (or_zero (bits_of_value labels 4 target)) (from + slot.size))) l) split
+      (subst (λ (n : ℕ). SpellsSigned slot.size (cast_signed w32 (distance n (from + slot.size))) (to_le_bytes (width_of slot.size) b.0)) is
+      (spells_signed slot.size b.0 (cast_signed w32 (distance a.0 (from + slot.size))) (spells_number slot.size b.0 sized value.0) value.1))
 
-spells_branch : (labels : List Definition) (from : ℕ) (slot : Slot) (written : Written) (bytes : List ℕ)
-    → (slot.size ≡ 1) ⊎ (slot.size ≡ 2) ⊎ (slot.size ≡ 4) → branch_bytes labels from slot written ≡ Some bytes
-    → SpellsBranch slot (named_operand labels from slot written) bytes
-unfolding branch_bytes
-spells_branch labels from slot writtens.Absent bytes sized e = absurd (cc)
-spells_branch labels from slot (writtens.Literal number) bytes sized e = absurd (cc)
-spells_branch labels from slot (writtens.Register reg) bytes sized e = absurd (cc)
-spells_branch labels from slot (writtens.Immediate value) bytes sized e = absurd (cc)
-spells_branch labels from slot (writtens.Plain place) bytes sized e = absurd (cc)
-spells_branch labels from slot (writtens.Indexed index base) bytes sized e = absurd (cc)
-spells_branch labels from slot (writtens.Misindexed immediate) bytes sized e = absurd (cc)
-spells_branch labels from slot (writtens.Target target) bytes sized e = spells_target labels from slot target bytes sized e
+  spells_branch : (written : Written) (bytes : List ℕ) → (slot.size ≡ 1) ⊎ (slot.size ≡ 2) ⊎ (slot.size ≡ 4)
+      → branch_bytes labels from slot written ≡ Some bytes → SpellsBranch slot (named_operand labels from slot written) bytes
+  unfolding branch_bytes
+  spells_branch writtens.Absent bytes sized e = absurd (cc)
+  spells_branch (writtens.Literal number) bytes sized e = absurd (cc)
+  spells_branch (writtens.Register reg) bytes sized e = absurd (cc)
+  spells_branch (writtens.Immediate value) bytes sized e = absurd (cc)
+  spells_branch (writtens.Plain place) bytes sized e = absurd (cc)
+  spells_branch (writtens.Indexed index base) bytes sized e = absurd (cc)
+  spells_branch (writtens.Misindexed immediate) bytes sized e = absurd (cc)
+  spells_branch (writtens.Target target) bytes sized e = spells_target target bytes sized e
 
--- ---- places of the row
+  -- ---- places of the row
 
-spells_absent : (labels : List Definition) (from : ℕ) (slot : Slot) (written : Written) (bytes : List ℕ) → absent_bytes written ≡ Some bytes
-    → (named_operand labels from slot written ≡ operands.Literal 0) × (bytes ≡ [])
-spells_absent labels from slot writtens.Absent bytes e = (refl, sym (some_same _ _ e))
-spells_absent labels from slot (writtens.Literal number) bytes e = absurd (cc)
-spells_absent labels from slot (writtens.Register reg) bytes e = absurd (cc)
-spells_absent labels from slot (writtens.Immediate value) bytes e = absurd (cc)
-spells_absent labels from slot (writtens.Plain place) bytes e = absurd (cc)
-spells_absent labels from slot (writtens.Indexed index base) bytes e = absurd (cc)
-spells_absent labels from slot (writtens.Misindexed immediate) bytes e = absurd (cc)
-spells_absent labels from slot (writtens.Target target) bytes e = absurd (cc)
+  spells_absent : (written : Written) (bytes : List ℕ) → absent_bytes written ≡ Some bytes
+      → (named_operand labels from slot written ≡ operands.Literal 0) × (bytes ≡ [])
+  spells_absent writtens.Absent bytes e = (refl, sym (some_same _ _ e))
+  spells_absent (writtens.Literal number) bytes e = absurd (cc)
+  spells_absent (writtens.Register reg) bytes e = absurd (cc)
+  spells_absent (writtens.Immediate value) bytes e = absurd (cc)
+  spells_absent (writtens.Plain place) bytes e = absurd (cc)
+  spells_absent (writtens.Indexed index base) bytes e = absurd (cc)
+  spells_absent (writtens.Misindexed immediate) bytes e = absurd (cc)
+  spells_absent (writtens.Target target) bytes e = absurd (cc)
 
-spells_operand : (labels : List Definition) (from : ℕ) (slot : Slot) (branch : Bool) (written : Written) (bytes : List ℕ)
-    → (slot.size ≡ 1) ⊎ (slot.size ≡ 2) ⊎ (slot.size ≡ 4)
-    → (if branch then branch_bytes labels from slot written else specifier_bytes labels slot written) ≡ Some bytes
-    → SpellsOperand branch slot (named_operand labels from slot written) bytes
-spells_operand labels from slot true written bytes sized e = spells_branch labels from slot written bytes sized e
-spells_operand labels from slot false written bytes sized e = spells_specifier labels from slot written bytes sized e
+  spells_operand : (branch : Bool) (written : Written) (bytes : List ℕ) → (slot.size ≡ 1) ⊎ (slot.size ≡ 2) ⊎ (slot.size ≡ 4)
+      → (if branch then branch_bytes labels from slot written else specifier_bytes labels slot written) ≡ Some bytes
+      → SpellsOperand branch slot (named_operand labels from slot written) bytes
+  spells_operand true written bytes sized e = spells_branch written bytes sized e
+  spells_operand false written bytes sized e = spells_specifier labels from slot written bytes sized e
 
-spells_by : (labels : List Definition) (from : ℕ) (slot : Slot) (here : Bool) (written : Written) (bytes : List ℕ)
-    → (slot.size ≡ 1) ⊎ (slot.size ≡ 2) ⊎ (slot.size ≡ 4)
-    → (if here then (if is_branch slot.access then branch_bytes labels from slot written else specifier_bytes labels slot written) else absent_bytes written)
-    ≡ Some bytes
-    → SpellsPlace here slot (named_operand labels from slot written) bytes
-spells_by labels from slot true written bytes sized e = spells_operand labels from slot (is_branch slot.access) written bytes sized e
-spells_by labels from slot false written bytes sized e = spells_absent labels from slot written bytes e
+  spells_by : (here : Bool) (written : Written) (bytes : List ℕ)
+      → (slot.size ≡ 1) ⊎ (slot.size ≡ 2) ⊎ (slot.size ≡ 4)
+      → (if here then (if is_branch slot.access then branch_bytes labels from slot written else specifier_bytes labels slot written) else absent_bytes written)
+      ≡ Some bytes
+      → SpellsPlace here slot (named_operand labels from slot written) bytes
+  spells_by true written bytes sized e = spells_operand (is_branch slot.access) written bytes sized e
+  spells_by false written bytes sized e = spells_absent written bytes e
 
 pub spells_row_place : (labels : List Definition) (from : ℕ) (row : Row) (place : ℕ) (written : Written) (bytes : List ℕ)
     → operand_bytes labels from row place written ≡ Some bytes

@@ -13,8 +13,8 @@ use Rattle.page_model.specs.Ownership.{OwnsFrames}
 use Rattle.page_laws.proofs.Moves.Hands.{walk_apart}
 use Rattle.page_laws.proofs.Moves.Stays.{expire_steady, expire_free}
 use Rattle.page_laws.proofs.Moves.Taken.{IsTaken, taken_is, taken_none, taken_state}
+use Rattle.page_laws.proofs.Ownership.Pages.{seated_frame}
 use Rattle.clock_hands.specs.Seen.{IsUnlocked, IsToWrite}
-use Rattle.clock_hands.proofs.Seats.{seat_frame}
 use Rattle.clock_hands.proofs.Fronts.{expire_other}
 
 -- the hands stand at two frames
@@ -61,14 +61,14 @@ module _ (p : Placement) (locked : List Page) (o : OwnsFrames p) (h : HandsStand
 
   pub back_valid : (q : Page) → IsUnlocked p locked p.back (Some q) → is_valid (state_of p q) ≡ true → IsToWrite p locked None
   back_valid q u v = run_none (λ w t.
-      let same : w ≡ q = same_Some w q (sym t.held ∙ o.names q p.back (seat_frame p q p.back u.0)) in
+      let same : w ≡ q = same_Some w q (sym t.held ∙ o.names q p.back (seated_frame p q p.back u.0)) in
       let x : true ≡ false = sym v ∙ ap (λ (y : Page). is_valid (state_of p y)) (sym same) ∙ ap is_valid t.state in
       absurd cc)
 
   -- not valid, and so invalid off the free list
   run_seated : (q : Page) → IsUnlocked p locked p.back (Some q) → is_valid (state_of p q) ≡ false → hand_run p locked ≡ write_by (expire p locked) locked q (is_dirty p q)
   run_seated q u v =
-      let e : page_of p p.back ≡ Some q = o.names q p.back (seat_frame p q p.back u.0) in
+      let e : page_of p p.back ≡ Some q = o.names q p.back (seated_frame p q p.back u.0) in
       elim u.0.state [
         | inl s ↦ absurd (let x : true ≡ false = sym (ap is_valid s) ∙ v in cc)
         | inr s ↦

@@ -6,13 +6,13 @@ use Rattle.vm_facts.specs.declared.entry.Entry.{Entry}
 use Rattle.vm_facts.specs.declared.stop.Stop.{Stop}
 use Rattle.flat_state.specs.Journal.{append, appended}
 use Rattle.io_edge.specs.FileHolding.{NamedFile}
-use Rattle.page_model.specs.Placement.{Placement, Transfer, Part, Errand, Writes, Reads}
+use Rattle.page_model.specs.Placement.{Placement, Transfer}
 use Rattle.page_model.specs.Serve.{force, force_entry, Forces}
 use Rattle.page_model.specs.Rank.{HandsStand, HasRoom, far, far_by, far_parts, far_transfers}
 use Rattle.page_model.specs.Conditions.{Spares}
 use Rattle.page_model.specs.Ownership.{OwnsFrames}
 use Rattle.page_laws.proofs.Ends.Forcing.{far_bound}
-use Rattle.page_laws.proofs.Ends.Serving.{force_falls}
+use Rattle.page_laws.proofs.Ends.Serving.{force_falls, far_parts_le}
 use Rattle.page_laws.proofs.Ends.Wholes.{force_room}
 use Rattle.page_laws.proofs.Moves.Locks.{spares_both, force_spares}
 use Rattle.page_laws.proofs.Ownership.Serve.{force_owner}
@@ -36,16 +36,11 @@ none_free (f ∷ free) l = absurd (omega arith)
 
 -- How far a free frame is.
 
-most_parts : (p : Placement) (e : Errand) (xs : List Part) (more : ℕ) → far_parts p e xs more ≤ length p.holds + 4 + more
-most_parts p Writes [] more = omega arith
-most_parts p Writes (x ∷ xs) more = omega arith
-most_parts p (Reads source demanded) xs more = omega arith
-
 most_flying : (p : Placement) (locked : List Page) (free : List ℕ) (t : Transfer) (ts : List Transfer) → p.free ≡ free → p.transfers ≡ t ∷ ts
     → far p locked ≤ length p.holds + 4 + length ts
 most_flying p locked [] t ts e f =
     let same : far p locked ≡ far_parts p t.errand t.parts (length ts) = ap (far_by p locked) e ∙ ap (far_transfers p locked) f in
-    let most = most_parts p t.errand t.parts (length ts) in
+    let most = far_parts_le p t.errand t.parts (length ts) in
     omega arith
 most_flying p locked (x ∷ xs) t ts e f = let same : far p locked ≡ 0 = ap (far_by p locked) e in omega arith
 
@@ -81,28 +76,26 @@ units_last locked (e ∷ us) p r journal f =
 
 -- One unit, and then the others.
 
-pub falls_on : (locked : List Page) (old next : Standing) (holds : Option (List NamedFile)) (i h : Option SwapImage) → OwnsFrames old.kernel.place
-    → HandsStand old.kernel.place → HasRoom old.kernel.place locked → old.kernel.place.free ≡ []
-    → MakesUnit (ground old holds locked) (force_entry old.kernel.place.transfers) old next i h → far next.kernel.place locked < far old.kernel.place locked
-falls_on locked old next holds i h o s r n m =
-    subst (λ (p : Placement). far p locked < far old.kernel.place locked) (sym (forced_place (ground old holds locked) old.kernel next.kernel i m.made)) (force_falls old.kernel.place locked o s r n)
+module _ (locked : List Page) (old next : Standing) (holds : Option (List NamedFile)) (i h : Option SwapImage) where
+  pub falls_on : OwnsFrames old.kernel.place → HandsStand old.kernel.place → HasRoom old.kernel.place locked → old.kernel.place.free ≡ []
+      → MakesUnit (ground old holds locked) (force_entry old.kernel.place.transfers) old next i h → far next.kernel.place locked < far old.kernel.place locked
+  falls_on o s r n m =
+      subst (λ (p : Placement). far p locked < far old.kernel.place locked) (sym (forced_place (ground old holds locked) old.kernel next.kernel i m.made)) (force_falls old.kernel.place locked o s r n)
 
-pub room_on : (locked : List Page) (old next : Standing) (holds : Option (List NamedFile)) (i h : Option SwapImage) → OwnsFrames old.kernel.place
-    → HasRoom old.kernel.place locked
-    → MakesUnit (ground old holds locked) (force_entry old.kernel.place.transfers) old next i h → HasRoom next.kernel.place locked
-room_on locked old next holds i h o r m =
-    subst (λ (p : Placement). HasRoom p locked) (sym (forced_place (ground old holds locked) old.kernel next.kernel i m.made)) (force_room old.kernel.place locked o r)
+  pub room_on : OwnsFrames old.kernel.place → HasRoom old.kernel.place locked
+      → MakesUnit (ground old holds locked) (force_entry old.kernel.place.transfers) old next i h → HasRoom next.kernel.place locked
+  room_on o r m =
+      subst (λ (p : Placement). HasRoom p locked) (sym (forced_place (ground old holds locked) old.kernel next.kernel i m.made)) (force_room old.kernel.place locked o r)
 
-pub fits_on : (locked : List Page) (old next : Standing) (holds : Option (List NamedFile)) (i h : Option SwapImage)
-    → far next.kernel.place locked < far old.kernel.place locked
-    → MakesUnit (ground old holds locked) (force_entry old.kernel.place.transfers) old next i h
-    → last_moves old.kernel.journal + far old.kernel.place locked < 2 ^ 32 → last_moves next.kernel.journal + far next.kernel.place locked < 2 ^ 32
-fits_on locked old next holds i h f m l =
-    let more : last_moves next.kernel.journal ≤ last_moves old.kernel.journal + moves (force_entry old.kernel.place.transfers) =
-    subst (λ (j : List Entry). last_moves j ≤ last_moves old.kernel.journal + moves (force_entry old.kernel.place.transfers))
-    (sym (unit_journal (ground old holds locked) (force_entry old.kernel.place.transfers) old.kernel next.kernel i m.made)) (append_last old.kernel.journal old.kernel.place.transfers) in
-    let one = one_move old.kernel.place.transfers in
-    omega arith
+  pub fits_on : far next.kernel.place locked < far old.kernel.place locked
+      → MakesUnit (ground old holds locked) (force_entry old.kernel.place.transfers) old next i h
+      → last_moves old.kernel.journal + far old.kernel.place locked < 2 ^ 32 → last_moves next.kernel.journal + far next.kernel.place locked < 2 ^ 32
+  fits_on f m l =
+      let more : last_moves next.kernel.journal ≤ last_moves old.kernel.journal + moves (force_entry old.kernel.place.transfers) =
+      subst (λ (j : List Entry). last_moves j ≤ last_moves old.kernel.journal + moves (force_entry old.kernel.place.transfers))
+      (sym (unit_journal (ground old holds locked) (force_entry old.kernel.place.transfers) old.kernel next.kernel i m.made)) (append_last old.kernel.journal old.kernel.place.transfers) in
+      let one = one_move old.kernel.place.transfers in
+      omega arith
 
 pub forced_none : (locked : List Page) (s : Standing) (holds : Option (List NamedFile)) (i : Option SwapImage) → 0 < length s.kernel.place.free
     → Forced locked s s holds i i

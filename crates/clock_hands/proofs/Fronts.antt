@@ -13,9 +13,9 @@ use Rattle.page_model.specs.Ownership.{OwnsFrames}
 use Rattle.page_laws.proofs.Lists.Local.{none_some}
 use Rattle.page_laws.proofs.Lists.Pages.{page_cases, put_state, put_other}
 use Rattle.page_laws.proofs.Moves.Steps.{page_in}
+use Rattle.page_laws.proofs.Ownership.Pages.{seated_frame}
 use Rattle.kluster_io.specs.Front.{Expires}
 use Rattle.clock_hands.specs.Seen.{IsUnlocked}
-use Rattle.clock_hands.proofs.Seats.{seat_frame}
 
 -- a page that isn't at the front hand stays as it is
 
@@ -31,23 +31,23 @@ other_if : (p : Placement) (v q : Page) (b : Bool) → q ≢ v → slot_of (expi
 other_if p v q true n = refl
 other_if p v q false n = other_to p v q (state_of p v) n
 
-other_of : (p : Placement) (locked : List Page) (q : Page) (o : Option Page) → o ≢ Some q → slot_of (expire_of p locked o) q ≡ slot_of p q
-other_of p locked q None n = refl
-other_of p locked q (Some v) n = other_if p v q (is_among v locked) (λ e. n (ap (λ (x : Page). Some x) (sym e)))
+module _ (p : Placement) (locked : List Page) (q : Page) where
+  other_of : (o : Option Page) → o ≢ Some q → slot_of (expire_of p locked o) q ≡ slot_of p q
+  other_of None n = refl
+  other_of (Some v) n = other_if p v q (is_among v locked) (λ e. n (ap (λ (x : Page). Some x) (sym e)))
 
-pub expire_other : (p : Placement) (locked : List Page) (q : Page) → page_of p p.front ≢ Some q → slot_of (expire p locked) q ≡ slot_of p q
-expire_other p locked q n = other_of p locked q (page_of p p.front) n
+  pub expire_other : page_of p p.front ≢ Some q → slot_of (expire p locked) q ≡ slot_of p q
+  expire_other n = other_of (page_of p p.front) n
 
--- the page at the front hand stays as it is, where it is locked
-pub expire_locked : (p : Placement) (locked : List Page) (q : Page) → page_of p p.front ≡ Some q → is_among q locked ≡ true → expire p locked ≡ p
-expire_locked p locked q e l = ap (expire_of p locked) e ∙ ap (expire_if p q) l
+  -- the page at the front hand stays as it is, where it is locked
+  pub expire_locked : page_of p p.front ≡ Some q → is_among q locked ≡ true → expire p locked ≡ p
+  expire_locked e l = ap (expire_of p locked) e ∙ ap (expire_if p q) l
 
--- and where it isn't locked and is valid, it is invalid
-pub expire_turns : (p : Placement) (locked : List Page) (q : Page) (f : ℕ) → page_of p p.front ≡ Some q → is_among q locked ≡ false → state_of p q ≡ Valid f
-    → state_of (expire p locked) q ≡ Invalid f
-expire_turns p locked q f e l s =
-    ap (λ (r : Placement). state_of r q) (ap (expire_of p locked) e ∙ ap (expire_if p q) l ∙ ap (expire_to p q) s)
-    ∙ put_state p q (Invalid f) (mark_of p q) (page_in p q f (ap frame_of s))
+  -- and where it isn't locked and is valid, it is invalid
+  pub expire_turns : (f : ℕ) → page_of p p.front ≡ Some q → is_among q locked ≡ false → state_of p q ≡ Valid f → state_of (expire p locked) q ≡ Invalid f
+  expire_turns f e l s =
+      ap (λ (r : Placement). state_of r q) (ap (expire_of p locked) e ∙ ap (expire_if p q) l ∙ ap (expire_to p q) s)
+      ∙ put_state p q (Invalid f) (mark_of p q) (page_in p q f (ap frame_of s))
 
 not_both : (b : Bool) → b ≡ true → b ≡ false → true ≡ false
 not_both b x y = sym x ∙ y
@@ -107,7 +107,7 @@ front_still p locked w o h v q = (
   (λ e. none_some q e),
   (λ x.
       let e = expired_here p locked q x.0 x.1 in
-      let same : w ≡ q = same_Some w q (sym (o.names w p.front (seat_frame p w p.front h.0)) ∙ e.0) in
+      let same : w ≡ q = same_Some w q (sym (o.names w p.front (seated_frame p w p.front h.0)) ∙ e.0) in
       absurd (let y = not_both (is_valid (state_of p q)) x.0 (ap (λ (r : Page). is_valid (state_of p r)) (sym same) ∙ v) in cc)),
 )
 
@@ -115,11 +115,11 @@ pub front_expires : (p : Placement) (locked : List Page) (w : Page) → OwnsFram
     → Expires p locked (Some w)
 front_expires p locked w o h v q = (
   (λ e.
-      let held : page_of p p.front ≡ Some w = o.names w p.front (seat_frame p w p.front h.0) in
+      let held : page_of p p.front ≡ Some w = o.names w p.front (seated_frame p w p.front h.0) in
       let x = valid_in p w v in
       subst (λ (r : Page). (is_valid (state_of p r) ≡ true) × (is_valid (state_of (expire p locked) r) ≡ false)) (same_Some w q e)
       (v, ap is_valid (expire_turns p locked w x.frame held h.1 x.state))),
   (λ x.
       let e = expired_here p locked q x.0 x.1 in
-      sym (o.names w p.front (seat_frame p w p.front h.0)) ∙ e.0),
+      sym (o.names w p.front (seated_frame p w p.front h.0)) ∙ e.0),
 )

@@ -17,12 +17,11 @@ use Rattle.page_model.specs.Ownership.{OwnsFrames, TextAside, IsAside}
 use Rattle.page_laws.proofs.Lists.Local.{none_some}
 use Rattle.page_laws.proofs.Lists.Pages.{numbered_hit, numbered_miss}
 use Rattle.page_laws.proofs.Moves.Steps.{page_in}
-use Rattle.page_laws.proofs.Ownership.Pages.{seated_alone}
+use Rattle.page_laws.proofs.Ownership.Pages.{seated_alone, seated_frame}
 use Rattle.kluster_io.specs.Views.{ShowsPage}
 use Rattle.machine_state.specs.Showing.{ShowsCore}
 use Rattle.machine_state.specs.Sharing.{IsSharer}
 use Rattle.clock_hands.specs.Seen.{IsHome}
-use Rattle.clock_hands.proofs.Seats.{seat_frame}
 
 absent_none : (n : ℕ) (ss : List SpacePages) → IsAbsent n (map space_number ss) → numbered space_number n ss ≡ None
 absent_none n [] a = refl
@@ -34,7 +33,7 @@ record Shares (ss : List SpacePages) (image : ℕ) : Type 0 where
   there : numbered space_number sid ss ≡ Some space
   shares : space.image ≡ image
 
-skips : (image : ℕ) (s : SpacePages) (ss : List SpacePages) → s.image ≢ image → sharers_in image (s ∷ ss) ≡ sharers_in image ss
+pub skips : (image : ℕ) (s : SpacePages) (ss : List SpacePages) → s.image ≢ image → sharers_in image (s ∷ ss) ≡ sharers_in image ss
 skips image s ss n = grind (arith, nat_tests)
 
 shared_in : (image : ℕ) (ss : List SpacePages) → AllDistinct (map space_number ss) → 0 < sharers_in image ss → Shares ss image
@@ -56,7 +55,7 @@ shared_by p image d l none =
 
 -- a page in a frame off the free list is there, and its text is shared
 pub seat_there : (p : Placement) (q : Page) (f : ℕ) → IsSeated p q f → IsThere p q
-seat_there p q f s = page_in p q f (seat_frame p q f s)
+seat_there p q f s = page_in p q f (seated_frame p q f s)
 
 pub seat_shared : (p : Placement) (q : Page) (f : ℕ) → OwnsFrames p → TextAside p → IsSeated p q f → IsShared p q
 seat_shared p (Data sid v) f o a s = tt
@@ -64,7 +63,7 @@ seat_shared p (Stack sid v) f o a s = tt
 seat_shared p (Text image v) f o a s = elim (cases_eq (sharers p image) 0) [
   | inl h ↦
       let x : IsAside p (Text image v) = a image v h in
-      let e = seat_frame p (Text image v) f s in
+      let e = seated_frame p (Text image v) f s in
       let z = (seated_alone p (Text image v) f o s).0 in
       elim x.rests [
         | inl u ↦ none_some f (sym (ap frame_of u) ∙ e)

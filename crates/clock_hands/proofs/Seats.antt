@@ -17,15 +17,9 @@ use Rattle.page_model.specs.Conditions.{IsSeated}
 use Rattle.page_model.specs.Ownership.{OwnsFrames, seats}
 use Rattle.page_laws.proofs.Lists.Local.{none_some}
 use Rattle.page_laws.proofs.Moves.Steps.{frame_in, once_at}
-use Rattle.page_laws.proofs.Ownership.Pages.{seated_alone}
+use Rattle.page_laws.proofs.Ownership.Pages.{seated_alone, seated_frame}
 use Rattle.kluster_io.specs.TableViewShown.{is_away}
 use Rattle.machine_state.specs.Showing.{ShowsCore}
-
-pub seat_frame : (p : Placement) (q : Page) (f : ℕ) → IsSeated p q f → frame_of (state_of p q) ≡ Some f
-seat_frame p q f s = elim s.state [
-  | inl e ↦ ap frame_of e
-  | inr e ↦ ap frame_of e.0
-]
 
 -- the page's token is in its slot
 pub record HasToken (core : Frames) (f : ℕ) (q : Page) : Type 0 where
@@ -57,7 +51,7 @@ seat_token p core q f o shows s = go (slot_at core.slots f) refl
     alone = seated_alone p q f o s
 
     held : page_of p f ≡ Some q
-    held = o.names q f (seat_frame p q f s)
+    held = o.names q f (seated_frame p q f s)
 
     within : IsFrame p f
     within = frame_in p q f held

@@ -1,7 +1,7 @@
 mod WordLists
-mod Numerals
+pub mod Numerals
 mod RunWords
 mod Refusals
 mod Finding
-mod Joining
+pub mod Joining
 pub mod Requests

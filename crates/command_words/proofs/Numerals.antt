@@ -9,7 +9,7 @@ use Rattle.std.proofs.lemmas.Str.Parse.{IsNumeralModel, numerals_by_value, parse
 use Rattle.command_words.specs.Words.{has_up_to, decimal_of}
 
 -- digits alone are a numeral in decimal
-digits_alone : IsNumeralModel (λ word. list_all is_ascii_digit word ≡ true) (digits_value 10)
+pub digits_alone : IsNumeralModel (λ word. list_all is_ascii_digit word ≡ true) (digits_value 10)
 digits_alone = numerals_by_value _ (search rules)
 
 -- up to eight digits are parsed as their number, unless there are none

@@ -443,18 +443,17 @@ policies (a ∷ b ∷ c ∷ f ∷ w ∷ ws) =
 without_options : (words : List (List ℕ)) (why : Option Why) → is_none (or_else (bad_plain words) why) ≡ list_all is_plain words && is_none why
 without_options words why = first_of (bad_plain words) why ∙ ap (λ (b : Bool). b && is_none why) (plain words)
 
-form : (arguments : List Argument) (more : Bool) (words : List (List ℕ))
-    → is_none (why_form arguments more words) ≡ list_all is_plain words && is_none (why_words arguments more words)
-unfolding why_form
-form arguments more words = first_of (bad_plain words) _ ∙ ap (λ (b : Bool). b && is_none (why_words arguments more words)) (plain words)
+module _ (arguments : List Argument) (more : Bool) (words : List (List ℕ)) where
+  form : is_none (why_form arguments more words) ≡ list_all is_plain words && is_none (why_words arguments more words)
+  unfolding why_form
+  form = first_of (bad_plain words) _ ∙ ap (λ (b : Bool). b && is_none (why_words arguments more words)) (plain words)
 
-with_plain : (arguments : List Argument) (more : Bool) (words : List (List ℕ)) (asked : Option Asked) → list_all is_plain words ≡ true
-    → is_none (why_words arguments more words) ≡ is_some asked → is_none (why_form arguments more words) ≡ is_some asked
-with_plain arguments more words asked are same = form arguments more words ∙ ap (λ (b : Bool). b && is_none (why_words arguments more words)) are ∙ same
+  with_plain : (asked : Option Asked) → list_all is_plain words ≡ true
+      → is_none (why_words arguments more words) ≡ is_some asked → is_none (why_form arguments more words) ≡ is_some asked
+  with_plain asked are same = form ∙ ap (λ (b : Bool). b && is_none (why_words arguments more words)) are ∙ same
 
-with_option : (arguments : List Argument) (more : Bool) (words : List (List ℕ)) → list_all is_plain words ≡ false
-    → is_none (why_form arguments more words) ≡ false
-with_option arguments more words are = form arguments more words ∙ ap (λ (b : Bool). b && is_none (why_words arguments more words)) are
+  with_option : list_all is_plain words ≡ false → is_none (why_form arguments more words) ≡ false
+  with_option are = form ∙ ap (λ (b : Bool). b && is_none (why_words arguments more words)) are
 
 run_command : (words : List (List ℕ)) → is_none (why_form (Frames ∷ Swap ∷ Limit ∷ Schedule ∷ []) true (without_trace words)) ≡ is_some (asked_run words)
 unfolding asked_run

@@ -21,25 +21,24 @@ pub some_word : (test : List ℕ → Bool) (words : List (Bor (List ℕ))) → l
 some_word test [] = refl
 some_word test (word ∷ words) = ap (λ (b : Bool). test word.now || b) (some_word test words)
 
--- where each word of a first part passes a test, those of a second decide whether all do
-pub all_then : (test : List ℕ → Bool) (before after : List (Bor (List ℕ))) → list_all (λ (word : Bor (List ℕ)). test word.now) before ≡ true
-    → list_all (λ (word : Bor (List ℕ)). test word.now) after ≡ list_all test (bytes_of (before ++ after))
-all_then test before after all = rw (list_all-map, list_all-append, all) refl
+module _ (test : List ℕ → Bool) (before after : List (Bor (List ℕ))) where
+  -- where each word of a first part passes a test, those of a second decide whether all do
+  pub all_then : list_all (λ (word : Bor (List ℕ)). test word.now) before ≡ true
+      → list_all (λ (word : Bor (List ℕ)). test word.now) after ≡ list_all test (bytes_of (before ++ after))
+  all_then all = rw (list_all-map, list_all-append, all) refl
 
--- and else not all do
-pub all_else : (test : List ℕ → Bool) (before after : List (Bor (List ℕ))) → list_all (λ (word : Bor (List ℕ)). test word.now) before ≡ false
-    → false ≡ list_all test (bytes_of (before ++ after))
-all_else test before after not_all = rw (list_all-map, list_all-append, not_all) refl
+  -- and else not all do
+  pub all_else : list_all (λ (word : Bor (List ℕ)). test word.now) before ≡ false → false ≡ list_all test (bytes_of (before ++ after))
+  all_else not_all = rw (list_all-map, list_all-append, not_all) refl
 
--- where a word of a first part passes a test, one of all does
-pub some_then : (test : List ℕ → Bool) (before after : List (Bor (List ℕ))) → list_any (λ (word : Bor (List ℕ)). test word.now) before ≡ true
-    → true ≡ list_any test (bytes_of (before ++ after))
-some_then test before after some = rw (some_word test (before ++ after), list_any-append, some) refl
+  -- where a word of a first part passes a test, one of all does
+  pub some_then : list_any (λ (word : Bor (List ℕ)). test word.now) before ≡ true → true ≡ list_any test (bytes_of (before ++ after))
+  some_then some = rw (some_word test (before ++ after), list_any-append, some) refl
 
--- and else those of a second part decide
-pub some_else : (test : List ℕ → Bool) (before after : List (Bor (List ℕ))) → list_any (λ (word : Bor (List ℕ)). test word.now) before ≡ false
-    → list_any (λ (word : Bor (List ℕ)). test word.now) after ≡ list_any test (bytes_of (before ++ after))
-some_else test before after none = rw (some_word test (before ++ after), list_any-append, none) refl
+  -- and else those of a second part decide
+  pub some_else : list_any (λ (word : Bor (List ℕ)). test word.now) before ≡ false
+      → list_any (λ (word : Bor (List ℕ)). test word.now) after ≡ list_any test (bytes_of (before ++ after))
+  some_else none = rw (some_word test (before ++ after), list_any-append, none) refl
 
 -- what follows a place of two lists is what follows it in each
 pub drop_both : {X : Type 0} (xs ys : List X) (n : ℕ) → drop n xs ++ drop (n - length xs) ys ≡ drop n (xs ++ ys)

@@ -8,6 +8,7 @@ use Rattle.flat_state.specs.Numbers.{IsAbsent, AllDistinct, pids_of}
 use Rattle.flat_state.specs.declared.change.Change.{Change}
 use Rattle.flat_state.specs.declared.change.Change.TheVariants.{Keep, Resize, Fork, Lend, Exec, Reap, Sleep, End}
 use Rattle.flat_state.specs.Change.{replaced_by, replaced, with_process, without_process, resized, child_of, lends_to, returned_by, returned, given_back, entered, is_zombie, is_zombie_child, without_parent, orphaned, awake, left, changed, NamesChild}
+use Rattle.flat_laws.proofs.Runs.{made}
 use Rattle.run_laws.proofs.Lists.{Parts, parts_at, found_is}
 
 -- it isn't asleep, and has not ended
@@ -156,12 +157,6 @@ count_replaced F q p e =
 
 -- ---- changes
 
--- 1 where a child comes
-abbrev pub born : Change → ℕ
-born (Fork child) = 1
-born (Lend child) = 1
-born _ = 0
-
 -- 1 where the process falls asleep
 abbrev pub slept : Change → ℕ
 slept Sleep = 1
@@ -183,7 +178,7 @@ zombie_apart F child q s may here holds = λ same.
 pub changed_count : (images : List NamedImage) (F : FlatState) (q p : Process) (s : Space) (change : Change) → process_of F p.pid ≡ Some q → p.pid ≡ q.pid
     → q.holding ≡ Holds s → q.asleep ≡ false
     → p.asleep ≡ false → p.holding ≡ Holds s → AllDistinct (pids_of F) → NamesChild F change
-    → awake_count (changed images F p s change).processes + slept change ≤ awake_count F.processes + born change
+    → awake_count (changed images F p s change).processes + slept change ≤ awake_count F.processes + made change
 changed_count images F q p s change here n holds a b held distinct may = go change may
   where
     one : awake_one q ≡ 1
@@ -203,7 +198,7 @@ changed_count images F q p s change here n holds a b held distinct may = go chan
         let r = count_returned p.pid s (with_process F (record p { holding = Holds (space_with F.next_sid image named.image top) })).processes in
         omega (arith, k, m, r, one)
 
-    go : (c : Change) → NamesChild F c → awake_count (changed images F p s c).processes + slept c ≤ awake_count F.processes + born c
+    go : (c : Change) → NamesChild F c → awake_count (changed images F p s c).processes + slept c ≤ awake_count F.processes + made c
     go Keep m = let k = count_replaced F q p here in omega (arith, k, one, self)
     go (Resize d t) m = let k = count_replaced F q (record p { holding = Holds (resized s d t) }) here in let h = holding (resized s d t) in omega (arith, k, one, h)
     go (Fork child) m =

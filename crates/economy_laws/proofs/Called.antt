@@ -139,21 +139,21 @@ parent_filled p q d w e =
     let source : HasSource p (CopyOf w.child q) = due.source in
     source.1 e
 
-pub zero_called : (A : Inputs) (s : State) (q : Page) → IsRun A s → next_unit A s ≡ Some (entries.Zero q) → IsWanted A s q ⊎ IsStartDue s.place q
-zero_called A s q r h = elim (unit_names A s (entries.Zero q) h) [
-  | inl k ↦ k
-  | inr k ↦ absurd (parent_filled s.place q (let st : Placed A s.point.flat s.place s.holdings = r.placed in st.dues) k.0 k.1)
-]
+module _ (A : Inputs) (s : State) (q : Page) where
+  pub zero_called : IsRun A s → next_unit A s ≡ Some (entries.Zero q) → IsWanted A s q ⊎ IsStartDue s.place q
+  zero_called r h = elim (unit_names A s (entries.Zero q) h) [
+    | inl k ↦ k
+    | inr k ↦ absurd (parent_filled s.place q (let st : Placed A s.point.flat s.place s.holdings = r.placed in st.dues) k.0 k.1)
+  ]
 
-pub get_called : (A : Inputs) (s : State) (q : Page) (lo n : ℕ) → next_unit A s ≡ Some (entries.Get q lo n) → IsWanted A s q ⊎ IsParentOfDue s.place q
-get_called A s q lo n h = (unit_names A s (entries.Get q lo n) h).0
+  pub get_called : (lo n : ℕ) → next_unit A s ≡ Some (entries.Get q lo n) → IsWanted A s q ⊎ IsParentOfDue s.place q
+  get_called lo n h = (unit_names A s (entries.Get q lo n) h).0
 
-pub get_run : (A : Inputs) (s : State) (q : Page) (lo n : ℕ) → next_unit A s ≡ Some (entries.Get q lo n)
-    → (lo ≡ (run_in s.place q).lo) × (n ≡ (run_in s.place q).n)
-get_run A s q lo n h = let k = unit_names A s (entries.Get q lo n) h in (k.1, k.2)
+  pub get_run : (lo n : ℕ) → next_unit A s ≡ Some (entries.Get q lo n) → (lo ≡ (run_in s.place q).lo) × (n ≡ (run_in s.place q).n)
+  get_run lo n h = let k = unit_names A s (entries.Get q lo n) h in (k.1, k.2)
 
-pub reclaim_called : (A : Inputs) (s : State) (q : Page) → next_unit A s ≡ Some (entries.Reclaim q) → IsWanted A s q ⊎ IsParentOfDue s.place q
-reclaim_called A s q h = unit_names A s (entries.Reclaim q) h
+  pub reclaim_called : next_unit A s ≡ Some (entries.Reclaim q) → IsWanted A s q ⊎ IsParentOfDue s.place q
+  reclaim_called h = unit_names A s (entries.Reclaim q) h
 
-pub copy_called : (A : Inputs) (s : State) (q : Page) → next_unit A s ≡ Some (entries.Copy q) → IsCopyDue s.place q
-copy_called A s q h = unit_names A s (entries.Copy q) h
+  pub copy_called : next_unit A s ≡ Some (entries.Copy q) → IsCopyDue s.place q
+  copy_called h = unit_names A s (entries.Copy q) h

@@ -37,6 +37,7 @@ use Rattle.run_model.specs.Snapshot.{pages_written}
 use Rattle.run_model.specs.Next.{fill_by, begins_write, move_by, owners_entry, next_unit}
 use Rattle.run_model.specs.Kinds.{Kind, Fills, Brings, Copies, ServesWanted, Acts, ProcessComes, Interrupts, Moves, PutsOut, Notes, Begins}
 use Rattle.run_model.proofs.NextUnits.{kind_of}
+use Rattle.flat_laws.proofs.Runs.{made}
 use Rattle.run_laws.specs.Sized.{PlaceSized}
 use Rattle.run_laws.specs.Standing.{MarkStands}
 use Rattle.run_laws.specs.Running.{IsRun}
@@ -52,9 +53,9 @@ use Rattle.economy_laws.proofs.Left.{after_forced, after_served, AllCopies}
 use Rattle.economy_laws.proofs.Stretching.{source_of}
 use Rattle.economy_laws.proofs.Opening.{Opens, Nothing, NewStack, Children}
 use Rattle.economy_laws.proofs.Turned.{served_now}
-use Rattle.economy_laws.proofs.Resting.{done_due, moves_mark, put_mark}
-use Rattle.economy_laws.proofs.Awake.{born}
+use Rattle.economy_laws.proofs.Resting.{done_due, put_mark, notes_place}
 use Rattle.economy_laws.proofs.SleepsCounted.{forks_one, born_by}
+use Rattle.economy_laws.proofs.Finishing.Marks.{moves_mark}
 
 -- how many of these are copies
 abbrev pub copy_dues : List Due → ℕ
@@ -83,7 +84,7 @@ dues_from child parent v (x ∷ xs) =
 
 change_copies : (who : Changing) (p : Placement) (change : Change) → p.due ≡ []
     → (length (slots_of p (Data who.sid 0)) ≤ 4096) × (length (slots_of p (Stack who.sid 0)) ≤ 512)
-    → copy_dues (place_change who p change).due ≤ 4608 * born change
+    → copy_dues (place_change who p change).due ≤ 4608 * made change
 change_copies who p change e z = go change
   where
     none : (ds : List Due) → ds ≡ [] → copy_dues ds ≤ 0
@@ -93,7 +94,7 @@ change_copies who p change e z = go change
     enters image None = none (give_up_unless who.borrowed p who.sid).due (unless_due who.borrowed p who.sid ∙ e)
     enters image (Some facts) = let k = ap copy_dues (unless_due who.borrowed (enter_image p who.next_sid image (Some facts)) who.sid) in omega (arith, k)
 
-    go : (c : Change) → copy_dues (place_change who p c).due ≤ 4608 * born c
+    go : (c : Change) → copy_dues (place_change who p c).due ≤ 4608 * made c
     go (Resize d t) = none _ ((drop_all_rest (dropped_pages p who.sid d t) p).1 ∙ e)
     go (Fork child) =
         let k = dues_both (copies_from (Data who.next_sid) (Data who.sid) 0 (slots_of p (Data who.sid 0))) (copies_from (Stack who.next_sid) (Stack who.sid) 0 (slots_of p (Stack who.sid 0))) in
@@ -129,15 +130,11 @@ cleared A s u x i c e = subst (FewCopies A s) i (let k = ap copy_dues e in omega
 due_same : (A : Inputs) (s : State) (x : Entry) → (after A s x).place ≡ s.place → (after A s x).place.due ≡ s.place.due
 due_same A s x e = ap (λ (p : Placement). p.due) e
 
-marked_place : (A : Inputs) (s : State) (x : Entry) → IsMark x → (after A s x).place ≡ s.place
+pub marked_place : (A : Inputs) (s : State) (x : Entry) → IsMark x → (after A s x).place ≡ s.place
 unfolding after
 marked_place A s (entries.Event line) m = refl
 marked_place A s (entries.Turn p) m = refl
 marked_place A s _ m = absurd m
-
-notes_place : (A : Inputs) (s : State) → (after A s (owners_entry s)).place ≡ s.place
-unfolding after
-notes_place A s = refl
 
 marked_copies : (u : Entry) → IsMark u → copies u ≡ 0
 marked_copies (entries.Event line) m = refl

@@ -257,12 +257,12 @@ map_both : (f : ByteAccess → Option Page) (xs ys : List ByteAccess) → filter
 map_both f [] ys = refl
 map_both f (x ∷ xs) ys = ap (cons_option (f x)) (map_both f xs ys) ∙ cons_both (f x) (filter_map f xs) (filter_map f ys)
 
-kept_pages : (s : Space) (d t a : ℕ) (ys : List ByteAccess) → AllKept s d t a ys
+pub kept_pages : (s : Space) (d t a : ℕ) (ys : List ByteAccess) → AllKept s d t a ys
     → filter_map (page_of_access (resized s d t)) ys ≡ filter_map (page_of_access s) ys
 kept_pages s d t a [] k = refl
 kept_pages s d t a (y ∷ ys) k = ap (λ (o : Option Page). cons_option o (filter_map (page_of_access (resized s d t)) ys)) k.0.0 ∙ ap (cons_option (page_of_access s y)) (kept_pages s d t a ys k.1)
 
-kept_unseen : (s : Space) (d t a : ℕ) (ys : List ByteAccess) → AllKept s d t a ys → NotSeen (filter_map (page_of_access s) ys) (grown_page s a)
+pub kept_unseen : (s : Space) (d t a : ℕ) (ys : List ByteAccess) → AllKept s d t a ys → NotSeen (filter_map (page_of_access s) ys) (grown_page s a)
 kept_unseen s d t a [] k = tt
 kept_unseen s d t a (y ∷ ys) k = go (page_of_access s y) refl (kept_unseen s d t a ys k.1)
   where

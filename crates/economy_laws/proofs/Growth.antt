@@ -38,7 +38,7 @@ use Rattle.economy_laws.proofs.Growing.{below_spot, spot_below}
 use Rattle.economy_laws.proofs.Extending.{Bigger, Reached, reached, pages_extend}
 
 -- the process once its stack has grown
-grown_process : (images : List NamedImage) (F : FlatState) (pid : ℕ) (q : Process) (s : Space) (regs : Regs) (d t : ℕ) → process_of F pid ≡ Some q
+pub grown_process : (images : List NamedImage) (F : FlatState) (pid : ℕ) (q : Process) (s : Space) (regs : Regs) (d t : ℕ) → process_of F pid ≡ Some q
     → q.holding ≡ Holds s
     → process_of (apply_change images (apply_writes F pid []) pid regs (Resize d t)) pid ≡ Some (record q { regs = regs; holding = Holds (resized s d t) })
 unfolding apply_change apply_writes
@@ -55,13 +55,13 @@ still_ready true h e = absurd cc
 still_ready false h e = refl
 
 -- the accesses of an instruction that found no stack, and those of any
-refused_accesses : (images : List NamedImage) (F : FlatState) (p : Process) (s : Space) (a : ℕ) → instruction_in s p.regs ≡ Err (Below a)
+pub refused_accesses : (images : List NamedImage) (F : FlatState) (p : Process) (s : Space) (a : ℕ) → instruction_in s p.regs ≡ Err (Below a)
     → step_accesses images F p s ≡ accesses (answers_of s) (instruction p.regs)
 unfolding step_accesses
 refused_accesses images F p s a e = ap (λ (r : Result Effect Refused). accesses (answers_of s) (instruction p.regs) ++ accesses_after images F p s r) e
     ∙ Rattle.std.proofs.lemmas.List.append-nil (accesses (answers_of s) (instruction p.regs))
 
-all_accesses : (images : List NamedImage) (F : FlatState) (p : Process) (s : Space)
+pub all_accesses : (images : List NamedImage) (F : FlatState) (p : Process) (s : Space)
     → step_accesses images F p s ≡ accesses (answers_of s) (instruction p.regs) ++ accesses_after images F p s (instruction_in s p.regs)
 unfolding step_accesses
 all_accesses images F p s = refl

@@ -346,7 +346,7 @@ mark_stays A s (entries.SwapIn p) pid since m n e = ap Rattle.run_model.specs.Af
 mark_stays A s (entries.Owners a b c d) pid since m n e = ap Rattle.run_model.specs.After.audited m
 mark_stays A s _ pid since m n e = m
 
-turn_mark : (A : Inputs) (s : State) (p : ℕ) → (after A s (entries.Turn p)).mark ≡ marks.Turn p s.count
+pub turn_mark : (A : Inputs) (s : State) (p : ℕ) → (after A s (entries.Turn p)).mark ≡ marks.Turn p s.count
 unfolding after
 turn_mark A s p = refl
 

@@ -39,51 +39,50 @@ ServeLeft b p locked q n m = (us : List Entry) (r : Placement) → Serves us p l
 abbrev pub ForceLeft : Bool → Placement → List Page → ℕ → Type 0
 ForceLeft b p locked n = (us : List Entry) (r : Placement) → Forces us p locked r → added b us + length r.transfers ≤ n
 
-pub serve_new : (b : Bool) (p : Placement) (locked : List Page) (q : Page) → OwnsFrames p → IsThere p q → ServeLeft b p locked q (length p.transfers + 5) 1
-serve_new b p locked q o t = λ us r h. let k : Served b us r q (length p.transfers + 5) 0 (length p.transfers) 1 (length us) = served_short b us p r locked q true o t h in (k.few, k.taken)
+module _ (b : Bool) (p : Placement) (locked : List Page) where
+  pub serve_new : (q : Page) → OwnsFrames p → IsThere p q → ServeLeft b p locked q (length p.transfers + 5) 1
+  serve_new q o t = λ us r h. let k : Served b us r q (length p.transfers + 5) 0 (length p.transfers) 1 (length us) = served_short b us p r locked q true o t h in (k.few, k.taken)
 
-pub force_new : (b : Bool) (p : Placement) (locked : List Page) → OwnsFrames p → ForceLeft b p locked (length p.transfers + 2)
-force_new b p locked o = λ us r h. let k : Short b us r (length p.transfers + 2) (length p.transfers) (length us) = forced_short b us p r locked o h in k.few
+  pub force_new : OwnsFrames p → ForceLeft b p locked (length p.transfers + 2)
+  force_new o = λ us r h. let k : Short b us r (length p.transfers + 2) (length p.transfers) (length us) = forced_short b us p r locked o h in k.few
 
-pub serve_now : (b : Bool) (p : Placement) (locked : List Page) (q : Page) (n m : ℕ) → ServeLeft b p locked q n m → length p.transfers ≤ n
-serve_now b p locked q n m l = let k = l [] p refl in omega (arith, k.0)
+  pub serve_now : (q : Page) (n m : ℕ) → ServeLeft b p locked q n m → length p.transfers ≤ n
+  serve_now q n m l = let k = l [] p refl in omega (arith, k.0)
 
-pub force_now : (b : Bool) (p : Placement) (locked : List Page) (n : ℕ) → ForceLeft b p locked n → length p.transfers ≤ n
-force_now b p locked n l = let k = l [] p refl in omega arith
+  pub force_now : (n : ℕ) → ForceLeft b p locked n → length p.transfers ≤ n
+  force_now n l = let k = l [] p refl in omega arith
 
-pub record ServeNext (b : Bool) (p : Placement) (locked : List Page) (q : Page) (e : Entry) (n m : ℕ) : Type 0 where
-  pub x : ℕ
-  pub y : ℕ
-  pub left : ServeLeft (is_hands e) (serve_step p locked q) locked q x y
-  pub entries_left : adds b e + x ≤ n
-  pub takings_left : takes e + y ≤ m
+  pub record ServeNext (q : Page) (e : Entry) (n m : ℕ) : Type 0 where
+    pub x : ℕ
+    pub y : ℕ
+    pub left : ServeLeft (is_hands e) (serve_step p locked q) locked q x y
+    pub entries_left : adds b e + x ≤ n
+    pub takings_left : takes e + y ≤ m
 
-pub serve_next : (b : Bool) (p : Placement) (locked : List Page) (q : Page) (e : Entry) (n m : ℕ) → ServeLeft b p locked q n m
-    → serve_unit p q true ≡ Some e → ServeNext b p locked q e n m
-serve_next b p locked q e n m l h =
-    let one = l (e ∷ []) (serve_step p locked q) (h, refl) in
-    record {
-      x = n - adds b e;
-      y = m - takes e;
-      left = λ us r k. let z = l (e ∷ us) r (h, k) in (omega (arith, z.0), omega (arith, z.1));
-      entries_left = omega (arith, one.0);
-      takings_left = omega (arith, one.1);
-    }
+  pub serve_next : (q : Page) (e : Entry) (n m : ℕ) → ServeLeft b p locked q n m → serve_unit p q true ≡ Some e → ServeNext q e n m
+  serve_next q e n m l h =
+      let one = l (e ∷ []) (serve_step p locked q) (h, refl) in
+      record {
+        x = n - adds b e;
+        y = m - takes e;
+        left = λ us r k. let z = l (e ∷ us) r (h, k) in (omega (arith, z.0), omega (arith, z.1));
+        entries_left = omega (arith, one.0);
+        takings_left = omega (arith, one.1);
+      }
 
-pub record ForceNext (b : Bool) (p : Placement) (locked : List Page) (e : Entry) (n : ℕ) : Type 0 where
-  pub x : ℕ
-  pub left : ForceLeft (is_hands e) (force p locked) locked x
-  pub entries_left : adds b e + x ≤ n
+  pub record ForceNext (e : Entry) (n : ℕ) : Type 0 where
+    pub x : ℕ
+    pub left : ForceLeft (is_hands e) (force p locked) locked x
+    pub entries_left : adds b e + x ≤ n
 
-pub force_next : (b : Bool) (p : Placement) (locked : List Page) (e : Entry) (n : ℕ) → ForceLeft b p locked n → p.free ≡ []
-    → e ≡ force_entry p.transfers → ForceNext b p locked e n
-force_next b p locked e n l f i =
-    let one = l (e ∷ []) (force p locked) (f, i, refl) in
-    record {
-      x = n - adds b e;
-      left = λ us r k. let z = l (e ∷ us) r (f, i, k) in omega arith;
-      entries_left = omega arith;
-    }
+  pub force_next : (e : Entry) (n : ℕ) → ForceLeft b p locked n → p.free ≡ [] → e ≡ force_entry p.transfers → ForceNext e n
+  force_next e n l f i =
+      let one = l (e ∷ []) (force p locked) (f, i, refl) in
+      record {
+        x = n - adds b e;
+        left = λ us r k. let z = l (e ∷ us) r (f, i, k) in omega arith;
+        entries_left = omega arith;
+      }
 
 pub force_takes : (ts : List Transfer) → takes (force_entry ts) ≡ 0
 force_takes [] = refl
@@ -118,31 +117,29 @@ stays_in A s u pid n l o h = elim (entry_out (locked A s) (place_at s u) s.place
 
 -- What is wanted and locked while a process runs.
 
-pub next_on : (A : Inputs) (s : State) (pid : ℕ) → running s.mark ≡ Some pid → touched_next A s ≡ touched A s.point.flat pid
-next_on A s pid m = ap (touched_of A s.point.flat) m
+module _ (A : Inputs) (s : State) (pid : ℕ) where
+  pub next_on : running s.mark ≡ Some pid → touched_next A s ≡ touched A s.point.flat pid
+  next_on m = ap (touched_of A s.point.flat) m
 
-pub wanted_on : (A : Inputs) (s : State) (pid : ℕ) → running s.mark ≡ Some pid → s.place.due ≡ []
-    → wanted A s ≡ first_absent s.place (touched A s.point.flat pid)
-wanted_on A s pid m d = ap (wanted_by A s) d ∙ ap (first_absent s.place) (next_on A s pid m)
+  pub wanted_on : running s.mark ≡ Some pid → s.place.due ≡ [] → wanted A s ≡ first_absent s.place (touched A s.point.flat pid)
+  wanted_on m d = ap (wanted_by A s) d ∙ ap (first_absent s.place) (next_on m)
 
-pub locked_on : (A : Inputs) (s : State) (pid : ℕ) → running s.mark ≡ Some pid → s.place.due ≡ []
-    → locked A s ≡ before_absent s.place (touched A s.point.flat pid)
-locked_on A s pid m d = ap (locked_by A s) d ∙ ap (before_absent s.place) (next_on A s pid m)
+  pub locked_on : running s.mark ≡ Some pid → s.place.due ≡ [] → locked A s ≡ before_absent s.place (touched A s.point.flat pid)
+  locked_on m d = ap (locked_by A s) d ∙ ap (before_absent s.place) (next_on m)
 
--- and in a turn
+  -- and in a turn
 
-pub wanted_is : (A : Inputs) (s : State) (pid : ℕ) → IsClosing A s pid → s.place.due ≡ [] → wanted A s ≡ first_absent s.place (touched A s.point.flat pid)
-wanted_is A s pid c d = wanted_on A s pid (ap running c.mark) d
+  pub wanted_is : IsClosing A s pid → s.place.due ≡ [] → wanted A s ≡ first_absent s.place (touched A s.point.flat pid)
+  wanted_is c d = wanted_on (ap running c.mark) d
 
-pub locked_is : (A : Inputs) (s : State) (pid : ℕ) → IsClosing A s pid → s.place.due ≡ [] → locked A s ≡ before_absent s.place (touched A s.point.flat pid)
-locked_is A s pid c d = locked_on A s pid (ap running c.mark) d
+  pub locked_is : IsClosing A s pid → s.place.due ≡ [] → locked A s ≡ before_absent s.place (touched A s.point.flat pid)
+  locked_is c d = locked_on (ap running c.mark) d
 
-pub split_there : (A : Inputs) (s : State) (pid : ℕ) (before : List Page) (q : Page) → IsRun A s
-    → Splits s.place (touched A s.point.flat pid) before q → IsThere s.place q
-split_there A s pid before q r k =
-    let here : Present s.place q =
-    each_split (Present s.place) before q k.behind (subst (EachPage (Present s.place)) k.whole (touched_present A s.point.flat s.place s.holdings pid r.numbers r.texts r.placed)) in
-    here.there
+  pub split_there : (before : List Page) (q : Page) → IsRun A s → Splits s.place (touched A s.point.flat pid) before q → IsThere s.place q
+  split_there before q r k =
+      let here : Present s.place q =
+      each_split (Present s.place) before q k.behind (subst (EachPage (Present s.place)) k.whole (touched_present A s.point.flat s.place s.holdings pid r.numbers r.texts r.placed)) in
+      here.there
 
 pub split_short : (p : Placement) (pages before : List Page) (q : Page) → Splits p pages before q → length before + 1 ≤ length pages
 split_short p pages before q k = let a = ap length k.whole in let b = length-append before (q ∷ k.behind) in omega arith

@@ -112,7 +112,7 @@ opens A s (entries.Ended p n) h b = let k : ReadyToStep A s p = unit_ready A s (
 opens A s _ h b = absurd cc
 
 -- what is left of a stretch at its beginning
-first_left : (A : Inputs) (t : State) (pid : ℕ) (b : Bool) → FewTouched A → IsRun A t → IsClosing A t pid → Opens t.place.due → Left A t pid b 218 33
+pub first_left : (A : Inputs) (t : State) (pid : ℕ) (b : Bool) → FewTouched A → IsRun A t → IsClosing A t pid → Opens t.place.due → Left A t pid b 218 33
 first_left A t pid b few r c (Nothing e) = let l = sixteen A t r.placed in ready A t pid b 218 33 few r c e (λ o. (omega arith, omega arith)) (λ o. (omega arith, omega arith))
 first_left A t pid b few r c (NewStack q e) = let l = sixteen A t r.placed in
     starting_left A t pid b 218 33 q e (record { x = length t.place.transfers + 2; left = force_new b t.place [] (owns A t r.placed); some = omega arith; takers = omega arith })

@@ -7,7 +7,7 @@ use Rattle.vm_facts.specs.declared.page.Page.TheVariants.{Data, Stack}
 use Rattle.vm_facts.specs.declared.entry.Entry.{Entry}
 use Rattle.vm_facts.specs.declared.entry.Entry.TheVariants as entries
 use Rattle.flat_state.specs.Flat.{Inputs, process_of}
-use Rattle.page_model.specs.Placement.{Placement, Due, CopyOf, slots_of}
+use Rattle.page_model.specs.Placement.{Placement, Due, slots_of}
 use Rattle.page_model.specs.Moves.{done}
 use Rattle.page_model.specs.Place.{pages_of_space, data_from, stack_from, space_of_process}
 use Rattle.page_model.specs.PuttingOut.{active_count, is_active, put_rank, put_rank_by}
@@ -18,7 +18,6 @@ use Rattle.kernel_model.specs.Start.{ImagesFit}
 use Rattle.page_laws.proofs.Ends.Serving.{full_some, pages_length}
 use Rattle.page_laws.proofs.Moves.Stays.{Steady, done_steady}
 use Rattle.page_laws.proofs.Moves.Transfers.{entry_count}
-use Rattle.page_laws.proofs.Ownership.Serve.{state_there}
 use Rattle.page_laws.proofs.Swapper.PuttingOut.{unit_case}
 use Rattle.flat_model.specs.Run.{Point, process_of_entry}
 use Rattle.run_model.specs.declared.mark.Mark.{Mark}
@@ -39,32 +38,31 @@ use Rattle.run_laws.proofs.Wholes.{unit_run}
 use Rattle.page_laws.specs.Spans.{is_hands, added}
 use Rattle.page_laws.proofs.Serving.{done_less}
 use Rattle.page_laws.proofs.Spanning.{adds_most}
-use Rattle.economy_laws.specs.Stretch.{NoneBegins, copies_of, IsClosing, FewTouched}
-use Rattle.economy_laws.proofs.Left.{serve_new, force_new, Left, ready}
-use Rattle.economy_laws.proofs.Stretching.{copying_left, starting_left, source_of, stretch}
-use Rattle.economy_laws.proofs.Opening.{Opens, Nothing, NewStack, Children, few_touched}
+use Rattle.economy_laws.specs.Stretch.{NoneBegins, copies_of, IsClosing}
+use Rattle.economy_laws.proofs.Stretching.{stretch}
+use Rattle.economy_laws.proofs.Opening.{Opens, Nothing, few_touched, first_left}
 use Rattle.economy_laws.proofs.Sleeping.{sleep_stops}
 use Rattle.economy_laws.proofs.Growing.{all_grown}
 use Rattle.economy_laws.proofs.Growth.{growth_touches}
 use Rattle.economy_laws.proofs.Finishing.Stages.{is_boundary, mark_boundary, quiet_stretch}
 use Rattle.economy_laws.proofs.Turned.{Quiet, turned, TurnsFor, InTurn, in_turn, run_turn}
-use Rattle.page_model.specs.Dues.{IsDue}
+use Rattle.economy_laws.proofs.Finishing.Marks.{done_mark, moves_mark, in_mark, notes_mark}
 
 -- So many entries suffice till the next boundary, and 8 for each copy.
 abbrev pub Rest : Inputs → State → Bool → ℕ → Type 0
 Rest A s b n = (us : List Entry) (t : State) → Follows A s us t → Quiet us → added b us ≤ n + 8 * copies_of us
 
-pub rest_none : (A : Inputs) (s : State) (b : Bool) → ((u : Entry) → next_unit A s ≡ Some u → is_boundary u ≡ false → ⊥) → Rest A s b 0
-rest_none A s b never [] t f q = omega arith
-rest_none A s b never (u ∷ us) t f q = absurd (never u f.0 q.0)
+module _ (A : Inputs) (s : State) (b : Bool) where
+  pub rest_none : ((u : Entry) → next_unit A s ≡ Some u → is_boundary u ≡ false → ⊥) → Rest A s b 0
+  rest_none never [] t f q = omega arith
+  rest_none never (u ∷ us) t f q = absurd (never u f.0 q.0)
 
-pub rest_more : (A : Inputs) (s : State) (b : Bool) (n m : ℕ) → n ≤ m → Rest A s b n → Rest A s b m
-rest_more A s b n m l r us t f q = let k = r us t f q in omega (arith, l, k)
+  pub rest_more : (n m : ℕ) → n ≤ m → Rest A s b n → Rest A s b m
+  rest_more n m l r us t f q = let k = r us t f q in omega (arith, l, k)
 
-rest_step : (A : Inputs) (s : State) (b : Bool) (n : ℕ) → ((u : Entry) → next_unit A s ≡ Some u → is_boundary u ≡ false → Rest A (after A s u) (is_hands u) n)
-    → Rest A s b (suc n)
-rest_step A s b n on [] t f q = omega arith
-rest_step A s b n on (u ∷ us) t f q = let k = on u f.0 q.0 us t f.1 q.1 in let m = adds_most b u in omega (arith, k, m)
+  rest_step : (n : ℕ) → ((u : Entry) → next_unit A s ≡ Some u → is_boundary u ≡ false → Rest A (after A s u) (is_hands u) n) → Rest A s b (suc n)
+  rest_step n on [] t f q = omega arith
+  rest_step n on (u ∷ us) t f q = let k = on u f.0 q.0 us t f.1 q.1 in let m = adds_most b u in omega (arith, k, m)
 
 -- ---- a process runs
 
@@ -77,25 +75,6 @@ some_turn : (m : Mark) (pid n : ℕ) → running m ≡ Some pid → (k : ℕ) ×
 some_turn (marks.Dispatch p count since) pid n e = (n, ((let same : p ≡ pid = cc in same), omega arith))
 some_turn (marks.Turn p since) pid n e = (since, ((let same : p ≡ pid = cc in same), refl))
 some_turn _ pid n e = absurd cc
-
--- what is left where a stretch begins
-first_left : (A : Inputs) (t : State) (pid : ℕ) (b : Bool) → FewTouched A → IsRun A t → IsClosing A t pid → Opens t.place.due → Left A t pid b 218 33
-first_left A t pid b few r c (Nothing e) = let l = sixteen A t r.placed in ready A t pid b 218 33 few r c e (λ o. (omega arith, omega arith)) (λ o. (omega arith, omega arith))
-first_left A t pid b few r c (NewStack q e) = let l = sixteen A t r.placed in starting_left A t pid b 218 33 q e
-    (record { x = length t.place.transfers + 2; left = force_new b t.place [] (owns A t r.placed); some = omega arith; takers = omega arith })
-first_left A t pid b few r c (Children q parent es e a) =
-    let l = sixteen A t r.placed in
-    let du : IsDue t.place q (CopyOf q parent) = source_of A t q parent es r e in
-    copying_left A t pid b 218 33 q parent es e a
-    (λ z. record {
-      x = length t.place.transfers + 5;
-      y = 1;
-      left = serve_new b t.place (parent ∷ []) parent (owns A t r.placed)
-          (state_there t.place parent (du.source).1);
-      some = omega arith;
-      takers = omega arith;
-    })
-    (λ z. record { x = length t.place.transfers + 2; left = force_new b t.place (parent ∷ []) (owns A t r.placed); some = omega arith; takers = omega arith })
 
 pub rest_running : (A : Inputs) (s : State) (pid : ℕ) (b : Bool) → ImagesFit A.images → IsRun A s → running s.mark ≡ Some pid → Opens s.place.due
     → Rest A s b 218
@@ -130,18 +109,6 @@ rest_once A s b m x d e n o w = rest_step A s b 0 (λ u h q.
     let is : x ≡ u = some_same x u (sym (by_mark A s m d e ∙ ap (λ (y : Option Entry). or_else y (next_mark A s)) n) ∙ h) in
     subst (λ (y : Entry). Rest A (after A s y) (is_hands y) 0) is (rest_spent A (after A s x) (is_hands x) marks.Over w o refl))
 
-pub done_mark : (A : Inputs) (s : State) → (after A s entries.Done).mark ≡ completed s.mark
-unfolding after
-done_mark A s = refl
-
-pub moves_mark : (A : Inputs) (s : State) (n : ℕ) → (after A s (entries.Hands n)).mark ≡ moved_on n s.mark
-unfolding after
-moves_mark A s n = refl
-
-in_mark : (A : Inputs) (s : State) (pid : ℕ) → (after A s (entries.SwapIn pid)).mark ≡ brought_in s.mark
-unfolding after
-in_mark A s pid = refl
-
 out_mark : (A : Inputs) (s : State) (pid : ℕ) → (after A s (entries.SwapOut pid)).mark ≡ put_out s.mark
 unfolding after
 out_mark A s pid = refl
@@ -150,11 +117,7 @@ pub put_mark : (A : Inputs) (s : State) (q : Page) (n : ℕ) → (after A s (ent
 unfolding after
 put_mark A s q n = refl
 
-notes_mark : (A : Inputs) (s : State) → (after A s (owners_entry s)).mark ≡ audited s.mark
-unfolding after
-notes_mark A s = refl
-
-notes_place : (A : Inputs) (s : State) → (after A s (owners_entry s)).place ≡ s.place
+pub notes_place : (A : Inputs) (s : State) → (after A s (owners_entry s)).place ≡ s.place
 unfolding after
 notes_place A s = refl
 

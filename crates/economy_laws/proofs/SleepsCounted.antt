@@ -1,5 +1,5 @@
 -- With each unit no more processes are awake than children come, and one fewer where one falls asleep.
-use Rattle.std.proofs.Common.{◌≡◌, inl, inr, ℕ, ◌+◌, ◌≤◌, Bool, true, false, cond, not, if◌then◌else◌, ◌==◌, List, [], ◌∷◌, Option, Some, None, Result, Ok, Err, ℤ, refl, sym, ap, ◌∙◌, subst, arith}
+use Rattle.std.proofs.Common.{◌≡◌, inl, inr, ℕ, ◌+◌, ◌≤◌, Bool, true, false, cond, not, if◌then◌else◌, List, [], ◌∷◌, Option, Some, None, Result, Ok, Err, ℤ, refl, sym, ap, ◌∙◌, subst, arith}
 use Rattle.vm_facts.specs.Answers.{ByteWrite}
 use Rattle.vm_facts.specs.declared.regs.Regs.{Regs}
 use Rattle.vm_facts.specs.declared.entry.Entry.{Entry}
@@ -19,7 +19,7 @@ use Rattle.flat_model.specs.declared.calls.SystemCall.{SystemCall}
 use Rattle.flat_model.specs.Calls.{call_of}
 use Rattle.flat_model.specs.Instruction.{instruction_in}
 use Rattle.flat_model.specs.Step.{Step, written_process, replied_step, reply_behind, called_step, step_behind, step_of, step_holding, step_if, flat_step}
-use Rattle.flat_model.specs.Run.{Point, is_refused, step_at, behind_first, due, process_of_entry}
+use Rattle.flat_model.specs.Run.{Point, is_refused, step_at, due, process_of_entry}
 use Rattle.run_model.specs.State.{State}
 use Rattle.run_model.specs.After.{after}
 use Rattle.run_model.specs.Next.{next_unit}
@@ -34,16 +34,12 @@ use Rattle.economy_laws.proofs.Sleeping.{Does, does}
 use Rattle.flat_laws.specs.Visible.{is_fork}
 use Rattle.flat_laws.proofs.Sole.{BringsNone}
 use Rattle.flat_laws.proofs.Children.{Spares, reply_spares}
+use Rattle.flat_laws.proofs.Runs.{made, made_one}
+use Rattle.flat_laws.proofs.Steps.{ends_in_fork, last_due}
 use Rattle.economy_laws.specs.Few.{is_sleep}
-use Rattle.economy_laws.proofs.Awake.{awake_one, awake_count, count_replaced, born, slept, changed_count}
+use Rattle.economy_laws.proofs.Awake.{awake_one, awake_count, count_replaced, slept, changed_count}
 
 -- ---- a child comes by the reply of a fork or a vfork
-
--- the last of these entries is such a reply
-abbrev ends_in_fork : List Entry → Bool
-ends_in_fork [] = false
-ends_in_fork (e ∷ []) = is_fork e
-ends_in_fork (e ∷ f ∷ es) = ends_in_fork (f ∷ es)
 
 none_replied : (images : List NamedImage) (F : FlatState) (p : Process) (call : SystemCall) (effect : Effect) (reply : Reply) → Spares call reply
     → ends_in_fork (replied_step images F p call effect reply).entries ≡ false → BringsNone (replied_step images F p call effect reply).change
@@ -86,36 +82,18 @@ none_stepped A F pid refused none = go (process_of F pid) none
     go None l = tt
     go (Some p) l = by p p.holding l
 
--- where one entry is due, it is the last one of the step
-last_due : (last : Option Entry) (pid : ℕ) (es : List Entry) (e : Entry) → due last pid es ≡ e ∷ [] → ends_in_fork es ≡ is_fork e
-last_due (Some (entries.Out p bytes)) pid es e h = go (p == pid) h
-  where
-    less : (xs : List Entry) → behind_first xs ≡ e ∷ [] → ends_in_fork xs ≡ is_fork e
-    less [] l = absurd cc
-    less (x ∷ xs) l = ap (λ (m : List Entry). ends_in_fork (x ∷ m)) l
-
-    go : (b : Bool) → (if b then behind_first es else es) ≡ e ∷ [] → ends_in_fork es ≡ is_fork e
-    go true l = less es l
-    go false l = ap ends_in_fork l
-last_due _ pid es e h = ap ends_in_fork h
-
-none_born : (change : Change) → BringsNone change → born change ≡ 0
+none_born : (change : Change) → BringsNone change → made change ≡ 0
 none_born (Fork child) n = absurd n
 none_born (Lend child) n = absurd n
 none_born _ n = refl
 
-pub born_most : (change : Change) → born change ≤ 1
-born_most (Fork child) = omega arith
-born_most (Lend child) = omega arith
-born_most _ = omega arith
-
 -- a step brings a child only where its last entry is such a reply
-pub born_by : (A : Inputs) (point : Point) (pid : ℕ) (u : Entry) → due point.last pid (step_at A point pid).entries ≡ u ∷ [] → born
+pub born_by : (A : Inputs) (point : Point) (pid : ℕ) (u : Entry) → due point.last pid (step_at A point pid).entries ≡ u ∷ [] → made
     (step_at A point pid).change ≤ cond (is_fork u) 1 0
 born_by A point pid u d = go (is_fork u) refl
   where
-    go : (b : Bool) → is_fork u ≡ b → born (step_at A point pid).change ≤ cond b 1 0
-    go true e = born_most (step_at A point pid).change
+    go : (b : Bool) → is_fork u ≡ b → made (step_at A point pid).change ≤ cond b 1 0
+    go true e = made_one (step_at A point pid).change
     go false e =
         let k = none_born (step_at A point pid).change (none_stepped A point.flat pid (is_refused point.last pid) (last_due point.last pid (step_at A point pid).entries u d ∙ e)) in omega (arith, k)
 
@@ -159,7 +137,7 @@ wrote F pid s ws a =
 
 applied_count : (images : List NamedImage) (F : FlatState) (pid : ℕ) (s : Space) (regs : Regs) (change : Change) → Awake F pid s → AllDistinct (pids_of F)
     → NamesChild F change
-    → awake_count (apply_change images F pid regs change).processes + slept change ≤ awake_count F.processes + born change
+    → awake_count (apply_change images F pid regs change).processes + slept change ≤ awake_count F.processes + made change
 unfolding apply_change
 applied_count images F pid s regs change a distinct may =
     let q : Process = a.process in

@@ -24,7 +24,7 @@ use Rattle.run_model.specs.declared.mark.Mark.TheVariants as marks
 use Rattle.run_model.specs.State.{State}
 use Rattle.run_model.specs.Wanted.{locked_by, locked}
 use Rattle.run_model.specs.After.{place_at, after}
-use Rattle.run_model.specs.Next.{when, or_else, goes_on, turn_instructions, work, turn_unit, fill_by, fill_unit, copy_unit_by, due_unit, under, next_mark, next_unit}
+use Rattle.run_model.specs.Next.{when, goes_on, turn_instructions, work, turn_unit, fill_by, fill_unit, copy_unit_by, under, next_unit}
 use Rattle.run_model.specs.Lawful.{Follows}
 use Rattle.run_model.proofs.After.{after_count}
 use Rattle.run_laws.specs.Running.{IsRun}
@@ -42,6 +42,7 @@ use Rattle.economy_laws.proofs.Stretching.{source_of}
 use Rattle.economy_laws.proofs.Finishing.Stages.{is_boundary, IsLasting, mark_lasts}
 use Rattle.economy_laws.proofs.Turned.{Quiet, quiet_counts}
 use Rattle.economy_laws.proofs.Resting.{Rest, rest_more, rest_spent, some_same}
+use Rattle.economy_laws.proofs.Finishing.Dues.{due_next}
 
 -- ---- marks that ask for nothing more
 
@@ -105,11 +106,6 @@ first_new A s b (CopyOf q parent) ds r e =
       λ v. (length s.place.transfers + 5, (1, (serve_new b s.place (parent ∷ []) parent (owns A s r.placed) (state_there s.place parent (du.source).1), omega arith))),
       λ v. (length s.place.transfers + 2, (force_new b s.place (parent ∷ []) (owns A s r.placed), omega arith)),
     )
-
-due_next : (A : Inputs) (s : State) (d : Due) (ds : List Due) → s.place.due ≡ d ∷ ds
-    → next_unit A s ≡ or_else (due_unit s.place (d ∷ ds)) (or_else (under A s s.mark) (next_mark A s))
-unfolding next_unit
-due_next A s d ds e = ap (λ (x : List Due). or_else (due_unit s.place x) (or_else (under A s s.mark) (next_mark A s))) e
 
 -- one unit of the first, and what is left behind it: the first still, or the others
 data Filled (A : Inputs) (s : State) (u : Entry) (b : Bool) (d : Due) (ds : List Due) (n : ℕ) : Type 0 where

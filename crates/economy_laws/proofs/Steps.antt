@@ -29,28 +29,27 @@ use Rattle.run_laws.proofs.Forms.{step_is}
 
 -- Entries.
 
-replied_some : (images : List NamedImage) (F : FlatState) (p : Process) (call : SystemCall) (effect : Effect) (reply : Reply)
-    → (replied_step images F p call effect reply).entries ≡ [] → ⊥
-replied_some images F p call effect (Writes []) h = absurd cc
-replied_some images F p call effect (Writes (byte ∷ bytes)) h = absurd cc
-replied_some images F p call effect _ h = absurd cc
+module _ (images : List NamedImage) (F : FlatState) (p : Process) where
+  replied_some : (call : SystemCall) (effect : Effect) (reply : Reply) → (replied_step images F p call effect reply).entries ≡ [] → ⊥
+  replied_some call effect (Writes []) h = absurd cc
+  replied_some call effect (Writes (byte ∷ bytes)) h = absurd cc
+  replied_some call effect _ h = absurd cc
 
-behind_some : (images : List NamedImage) (F : FlatState) (p : Process) (s : Space) (refused : Bool) (effect : Effect) (o : Option ℤ)
-    → (step_behind images F p s refused effect o).entries ≡ [] → ⊥
-behind_some images F p s refused effect None h = absurd cc
-behind_some images F p s refused effect (Some number) h = go (call_of number) h
-  where
-    go : (o : Option SystemCall) → (called_step images F p s refused effect o).entries ≡ [] → ⊥
-    go None h = absurd cc
-    go (Some call) h = replied_some images F p call effect (reply_behind images F p s refused call effect) h
+  behind_some : (s : Space) (refused : Bool) (effect : Effect) (o : Option ℤ) → (step_behind images F p s refused effect o).entries ≡ [] → ⊥
+  behind_some s refused effect None h = absurd cc
+  behind_some s refused effect (Some number) h = go (call_of number) h
+    where
+      go : (o : Option SystemCall) → (called_step images F p s refused effect o).entries ≡ [] → ⊥
+      go None h = absurd cc
+      go (Some call) h = replied_some call effect (reply_behind images F p s refused call effect) h
 
-of_some : (images : List NamedImage) (F : FlatState) (p : Process) (s : Space) (refused : Bool) (r : Result Effect Refused)
-    → ((a : ℕ) (w : Bool) → r ≡ Err (Miss a w) → ⊥) → (step_of images F p s refused r).entries ≡ [] → ⊥
-of_some images F p s refused (Ok effect) n h = behind_some images F p s refused effect effect.call h
-of_some images F p s refused (Err (Miss a w)) n h = n a w refl
-of_some images F p s true (Err (Below a)) n h = absurd cc
-of_some images F p s false (Err (Below a)) n h = absurd cc
-of_some images F p s refused (Err (Signal k)) n h = absurd cc
+  of_some : (s : Space) (refused : Bool) (r : Result Effect Refused)
+      → ((a : ℕ) (w : Bool) → r ≡ Err (Miss a w) → ⊥) → (step_of images F p s refused r).entries ≡ [] → ⊥
+  of_some s refused (Ok effect) n h = behind_some s refused effect effect.call h
+  of_some s refused (Err (Miss a w)) n h = n a w refl
+  of_some s true (Err (Below a)) n h = absurd cc
+  of_some s false (Err (Below a)) n h = absurd cc
+  of_some s refused (Err (Signal k)) n h = absurd cc
 
 entries_some : (A : Inputs) (F : FlatState) (pid : ℕ) (refused : Bool) → can_step F pid ≡ true → (flat_step A F pid refused).entries ≡ [] → ⊥
 entries_some A F pid refused c h =

@@ -10,8 +10,8 @@ use Rattle.vm_facts.specs.declared.event.Event.TheVariants as events
 use Rattle.vm_facts.specs.declared.entry.Entry.{Entry}
 use Rattle.vm_facts.specs.declared.entry.Entry.TheVariants as entries
 use Rattle.swap_book.specs.Holdings.{Holdings}
-use Rattle.flat_state.specs.Flat.{Process, NamedImage, Inputs, image_numbered, start_if, start_processes}
-use Rattle.flat_state.specs.Journal.{IsUnit, appended, counted, instructions_of}
+use Rattle.flat_state.specs.Flat.{Process, NamedImage, Inputs, image_numbered, start_processes}
+use Rattle.flat_state.specs.Journal.{appended, counted, instructions_of}
 use Rattle.page_model.specs.Placement.{Placement, Starting, due_from}
 use Rattle.page_model.specs.Swapper.{Choice, In, Out, Nothing, swap_choice}
 use Rattle.kernel_model.specs.Start.{ImagesFit}
@@ -27,7 +27,7 @@ use Rattle.run_laws.specs.Running.{IsRun, CanRun, ReadyToStep}
 use Rattle.run_laws.proofs.Flows.{on_running}
 use Rattle.run_laws.proofs.Lawful.{next_is_unit}
 use Rattle.run_laws.proofs.Settling.{IsMark}
-use Rattle.run_laws.proofs.Sizing.{reached_sized}
+use Rattle.run_laws.proofs.Sizing.{reached_sized, started_few}
 use Rattle.run_laws.proofs.Units.{sixteen}
 use Rattle.run_laws.proofs.Wholes.{start_run, unit_run, unit_ready}
 use Rattle.page_laws.specs.Spans.{is_hands, adds, added}
@@ -43,8 +43,10 @@ use Rattle.economy_laws.proofs.Resting.{Rest, rest_running, hands_of, rest_clear
 use Rattle.economy_laws.proofs.Spending.{rest_due}
 use Rattle.economy_laws.proofs.Awake.{awake_count}
 use Rattle.economy_laws.proofs.SleepsCounted.{sleeps_one, forks_one, unit_count}
-use Rattle.economy_laws.proofs.Turns.{summed, stops_after, stop_one, go_one, Begun, begun, Sort, Turned, Lined, Counted, Slept, Other, sort_of, counted_mark, turn_mark, turns_few}
-use Rattle.economy_laws.proofs.Copying.{copy_dues, unit_copies, opens_few}
+use Rattle.economy_laws.proofs.Turns.{summed, stops_after, stop_one, go_one, Begun, begun, Sort, Turned, Lined, Counted, Slept, Other, sort_of, counted_mark, turns_few}
+use Rattle.economy_laws.proofs.Copying.{copy_dues, unit_copies, opens_few, marked_place}
+use Rattle.economy_laws.proofs.Idle.{turn_mark}
+use Rattle.economy_laws.proofs.Finishing.Wholes.{counts_one}
 
 -- ---- what boundaries cost
 
@@ -66,12 +68,6 @@ StaySized A s = (us : List Entry) (t : State) → Follows A s us t → PlaceSize
 
 sized_on : (A : Inputs) (s : State) (u : Entry) → next_unit A s ≡ Some u → StaySized A s → StaySized A (after A s u)
 sized_on A s u h z us t f = z (u ∷ us) t (h, f)
-
-marked_place : (A : Inputs) (s : State) (x : Entry) → IsMark x → (after A s x).place ≡ s.place
-unfolding after
-marked_place A s (entries.Event line) m = refl
-marked_place A s (entries.Turn p) m = refl
-marked_place A s _ m = absurd m
 
 total : (us : List Entry) (A : Inputs) (s t : State) (b : Bool) (n : ℕ) → ImagesFit A.images → IsRun A s → StaySized A s → Follows A s us t → Rest A s b n
     → added b us ≤ n + 8 * copies_of us + 219 * (summed go_one A s us + turns_of us) + summed stop_cost A s us + summed line_cost A s us
@@ -138,21 +134,14 @@ total (u ∷ us) A s t b n images r z f rest =
 
 -- ---- what they come to
 
--- instructions
-counted_one : (u : Entry) → IsUnit u → counts u ≡ true → counted u ≡ 1
-counted_one (entries.Ran p n) k e = k
-counted_one (entries.Call p n c r0 r1) k e = refl
-counted_one (entries.Ended p n) k e = refl
-counted_one _ k e = absurd cc
-
 all_counted : (us : List Entry) (A : Inputs) (s t : State) → Follows A s us t → summed go_one A s us + summed stop_one A s us ≤ counted_in counted us
 all_counted [] A s t f = omega arith
 all_counted (u ∷ us) A s t f = go (counts u) (stops_after A s u) refl (all_counted us A (after A s u) t f.1)
   where
     go : (c x : Bool) → counts u ≡ c → summed go_one A (after A s u) us + summed stop_one A (after A s u) us ≤ counted_in counted us
         → cond (c && not x) 1 0 + summed go_one A (after A s u) us + (cond (c && x) 1 0 + summed stop_one A (after A s u) us) ≤ counted u + counted_in counted us
-    go true true e k = let one = counted_one u (next_is_unit A s u f.0) e in omega (arith, k, one)
-    go true false e k = let one = counted_one u (next_is_unit A s u f.0) e in omega (arith, k, one)
+    go true true e k = let one = counts_one u (next_is_unit A s u f.0) e in omega (arith, k, one)
+    go true false e k = let one = counts_one u (next_is_unit A s u f.0) e in omega (arith, k, one)
     go false x e k = omega (arith, k)
 
 -- what is due behind instructions
@@ -323,18 +312,6 @@ awake_most (q ∷ qs) = go (Rattle.economy_laws.proofs.Awake.is_awake q) (awake_
     go : (b : Bool) → awake_count qs ≤ length qs → cond b 1 0 + awake_count qs ≤ length (q ∷ qs)
     go true l = omega (arith, l)
     go false l = omega (arith, l)
-
-started_few : (images : List NamedImage) (pid : ℕ) (first : List ℕ) → length (start_processes images pid first) ≤ length first
-started_few images pid [] = omega arith
-started_few images pid (number ∷ more) =
-    let k = length-append (start_if pid number (image_numbered images number)) (start_processes images (pid + 1) more) in
-    let l = started_few images (pid + 1) more in
-    let m = one (image_numbered images number) in
-    omega (arith, k, l, m)
-  where
-    one : (o : Option NamedImage) → length (start_if pid number o) ≤ 1
-    one None = omega arith
-    one (Some named) = omega arith
 
 -- ---- journals
 

@@ -28,6 +28,7 @@ use Rattle.run_laws.specs.Running.{IsRun}
 use Rattle.run_laws.proofs.Flows.{runs_work}
 use Rattle.economy_laws.proofs.Left.{wanted_on}
 use Rattle.economy_laws.proofs.Finishing.Stages.{is_boundary, IsLasting, mark_boundary, mark_lasts}
+use Rattle.economy_laws.proofs.Finishing.Dues.{due_next as due_turn}
 
 -- none of these units is a boundary
 abbrev pub Quiet : List Entry → Type 0
@@ -97,12 +98,7 @@ locked_turn A s pid k m = go s.place.due
 
 -- The next unit.
 
-due_turn : (A : Inputs) (s : State) (d : Due) (ds : List Due) → s.place.due ≡ d ∷ ds
-    → next_unit A s ≡ or_else (due_unit s.place (d ∷ ds)) (or_else (under A s s.mark) (next_mark A s))
-unfolding next_unit
-due_turn A s d ds e = ap (λ (x : List Due). or_else (due_unit s.place x) (or_else (under A s s.mark) (next_mark A s))) e
-
-under_turn : (A : Inputs) (s : State) (u : Entry) → s.place.due ≡ [] → under A s s.mark ≡ Some u → next_unit A s ≡ Some u
+pub under_turn : (A : Inputs) (s : State) (u : Entry) → s.place.due ≡ [] → under A s s.mark ≡ Some u → next_unit A s ≡ Some u
 unfolding next_unit
 under_turn A s u d h = ap (λ (x : List Due). or_else (due_unit s.place x) (or_else (under A s s.mark) (next_mark A s))) d ∙ ap (λ (o : Option Entry). or_else o (next_mark A s)) h
 

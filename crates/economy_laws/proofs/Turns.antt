@@ -36,7 +36,7 @@ use Rattle.run_laws.proofs.Settling.{IsMark}
 use Rattle.run_laws.proofs.Wholes.{unit_run}
 use Rattle.economy_laws.specs.Stretch.{begins_stretch, turns, turns_of, counts}
 use Rattle.economy_laws.proofs.Finishing.Stages.{is_boundary, IsLasting, mark_lasts}
-use Rattle.economy_laws.proofs.Idle.{open_due, stepped_by}
+use Rattle.economy_laws.proofs.Idle.{open_due, stepped_by, turn_mark}
 use Rattle.economy_laws.proofs.Left.{is_closed}
 use Rattle.economy_laws.proofs.Sleeping.{Does, does}
 use Rattle.economy_laws.proofs.Steps.{act_some, Grows, grows_of}
@@ -118,7 +118,7 @@ begun A s u h m = go (kind_of A s u h)
 less : (a b : ℕ) → nat_lt a b ≡ true → a < b
 less a b e = grind (arith, nat_tests)
 
-below : (a b : ℕ) → a < b → nat_lt a b ≡ true
+pub below : (a b : ℕ) → a < b → nat_lt a b ≡ true
 below a b e = grind (arith, nat_tests)
 
 turn_next : (A : Inputs) (s : State) (p : ℕ) → next_mark A s ≡ Some (entries.Turn p) → (s.count < A.limit) ×
@@ -134,15 +134,11 @@ turn_next A s p h = go (nat_lt s.count A.limit) (nat_lt s.lines (length A.lines)
     go true true x e = absurd cc
     go true false x e = (less s.count A.limit x, turn (next_turned s.point.flat (last_turned s.mark)) e)
 
-all_three : (x y z : Bool) → x ≡ true → y ≡ true → z ≡ true → (x && (y && z)) ≡ true
+pub all_three : (x y z : Bool) → x ≡ true → y ≡ true → z ≡ true → (x && (y && z)) ≡ true
 all_three true true true a b c = refl
 all_three false y z a b c = absurd cc
 all_three true false z a b c = absurd cc
 all_three true true false a b c = absurd cc
-
-pub turn_mark : (A : Inputs) (s : State) (p : ℕ) → (after A s (entries.Turn p)).mark ≡ marks.Turn p s.count
-unfolding after
-turn_mark A s p = refl
 
 -- it goes on in its turn
 begins_on : (A : Inputs) (s : State) (p : ℕ) → IsRun A s → next_mark A s ≡ Some (entries.Turn p) → goes_on A (after A s (entries.Turn p)) p

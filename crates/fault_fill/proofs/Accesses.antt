@@ -40,7 +40,7 @@ pub record IsOf (p : Placement) (s : Places) (q : Page) : Type 0 where
 pub of_space : (p : Placement) (core : Frames) (s : Places) (q : Page) (x : Place) → ShowsSpace p core s → IsNamedBy s q → place_in s q ≡ Some x → IsOf p s q
 of_space p core s q x shows named e = record { named = named; there = (subst (ShowsPage p core.slots q) e (shows.pages q named)).0 }
 
-same_page : (q r : Page) → accesses.Page q ≡ accesses.Page r → q ≡ r
+pub same_page : (q r : Page) → accesses.Page q ≡ accesses.Page r → q ≡ r
 same_page q r e = cc
 
 module _ (p : Placement) (core : Frames) (s : Places) (shows : ShowsSpace p core s) (address : ℕ) (q : Page) where

@@ -45,40 +45,35 @@ pub match_err : {A E : Type 0} {X : Type 0} (P : A → Type 0) (Q : E → Type 0
 match_err P Q (Ok x) f m = tt
 match_err P Q (Err e) f m = f e m
 
--- how far serving came, however far it came
-pub serves_short : (now : Bool) (locked : List Page) (q : Page) (old new : Standing) (holds : Option (List NamedFile)) (i j : Option SwapImage)
-    → OwnsFrames old.kernel.place → IsThere old.kernel.place q
-    → ServesTo now locked q old new holds i j → IsShort q old new
-serves_short now locked q old new holds i j o there s =
-    let k : short.Served false s.units new.kernel.place q (length old.kernel.place.transfers + 5) 0 (length old.kernel.place.transfers) 1 (length s.units) =
-    served_short false s.units old.kernel.place new.kernel.place locked q now o there s.leads in
-    let a = units_added_false old.kernel.journal s.units in
-    let b = ap (λ (es : List Entry). length es) (made_journal (ground old holds locked) s.units old.kernel new.kernel i j s.makes.made) in
-    record {
-      few = (let f = k.few in omega arith);
-      flights = λ v. (let r = k.rest v in omega arith);
-    }
+module _ (now : Bool) (locked : List Page) (q : Page) (old new : Standing) (holds : Option (List NamedFile)) (i j : Option SwapImage) where
+  -- how far serving came, however far it came
+  pub serves_short : OwnsFrames old.kernel.place → IsThere old.kernel.place q → ServesTo now locked q old new holds i j → IsShort q old new
+  serves_short o there s =
+      let k : short.Served false s.units new.kernel.place q (length old.kernel.place.transfers + 5) 0 (length old.kernel.place.transfers) 1 (length s.units) =
+      served_short false s.units old.kernel.place new.kernel.place locked q now o there s.leads in
+      let a = units_added_false old.kernel.journal s.units in
+      let b = ap (λ (es : List Entry). length es) (made_journal (ground old holds locked) s.units old.kernel new.kernel i j s.makes.made) in
+      record {
+        few = (let f = k.few in omega arith);
+        flights = λ v. (let r = k.rest v in omega arith);
+      }
 
-pub serves_takings : (now : Bool) (locked : List Page) (q : Page) (old new : Standing) (holds : Option (List NamedFile)) (i j : Option SwapImage)
-    → OwnsFrames old.kernel.place → IsThere old.kernel.place q
-    → (s : ServesTo now locked q old new holds i j) → takings s.units ≤ 1
-serves_takings now locked q old new holds i j o there s =
-    let k : short.Served false s.units new.kernel.place q (length old.kernel.place.transfers + 5) 0 (length old.kernel.place.transfers) 1 (length s.units) =
-    served_short false s.units old.kernel.place new.kernel.place locked q now o there s.leads in
-    k.taken
+  pub serves_takings : OwnsFrames old.kernel.place → IsThere old.kernel.place q → (s : ServesTo now locked q old new holds i j) → takings s.units ≤ 1
+  serves_takings o there s =
+      let k : short.Served false s.units new.kernel.place q (length old.kernel.place.transfers + 5) 0 (length old.kernel.place.transfers) 1 (length s.units) =
+      served_short false s.units old.kernel.place new.kernel.place locked q now o there s.leads in
+      k.taken
 
-pub stops_short : (now : Bool) (locked : List Page) (q : Page) (old new : Standing) (holds : Option (List NamedFile)) (i j : Option SwapImage) (stop : Stop)
-    → OwnsFrames old.kernel.place
-    → IsThere old.kernel.place q → StopsServing now locked q old new holds i j stop
-    → length new.kernel.journal ≤ length old.kernel.journal + length old.kernel.place.transfers + 5
-stops_short now locked q old new holds i j stop o there s =
-    let k : short.Served false s.units s.at.place q (length old.kernel.place.transfers + 5) 0 (length old.kernel.place.transfers) 1 (length s.units) =
-    served_short false s.units old.kernel.place s.at.place locked q now o there s.leads in
-    let a = units_added_false old.kernel.journal s.units in
-    let b = ap (λ (es : List Entry). length es) (made_journal (ground old holds locked) s.units old.kernel s.at i s.image s.made) in
-    let c = ap (λ (es : List Entry). length es) s.there.stops.journal in
-    let f = k.few in
-    omega arith
+  pub stops_short : (stop : Stop) → OwnsFrames old.kernel.place → IsThere old.kernel.place q → StopsServing now locked q old new holds i j stop
+      → length new.kernel.journal ≤ length old.kernel.journal + length old.kernel.place.transfers + 5
+  stops_short stop o there s =
+      let k : short.Served false s.units s.at.place q (length old.kernel.place.transfers + 5) 0 (length old.kernel.place.transfers) 1 (length s.units) =
+      served_short false s.units old.kernel.place s.at.place locked q now o there s.leads in
+      let a = units_added_false old.kernel.journal s.units in
+      let b = ap (λ (es : List Entry). length es) (made_journal (ground old holds locked) s.units old.kernel s.at i s.image s.made) in
+      let c = ap (λ (es : List Entry). length es) s.there.stops.journal in
+      let f = k.few in
+      omega arith
 
 -- locked pages that are valid stay so
 pub spared : (us : List Entry) (p r : Placement) (locked : List Page) (q : Page) (now : Bool) → OwnsFrames p → CanServe p q

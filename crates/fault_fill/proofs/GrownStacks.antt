@@ -12,7 +12,7 @@ use Rattle.page_model.specs.Pages.{SpacePages, numbered, stack_in}
 use Rattle.page_model.specs.Placement.{Placement, Due, space_number, slots_of, due_of_page}
 use Rattle.page_model.specs.Conditions.{LosesPages}
 use Rattle.page_model.specs.Moves.{drop_all}
-use Rattle.page_model.specs.Place.{data_count, stack_count, data_from, stack_from, sized, cut_space, resize}
+use Rattle.page_model.specs.Place.{data_count, stack_count, data_from, stack_from, cut_space, resize}
 use Rattle.page_laws.proofs.Lists.Pages.{mapped, changed_same}
 use Rattle.page_laws.proofs.Bytes.Changes.{length_sized}
 use Rattle.kernel_model.specs.Kernel.{Life, HoldsSpace, Kernel, Proc, note_step}
@@ -20,6 +20,7 @@ use Rattle.kernel_model.specs.Asks.{HasSpace, asked}
 use Rattle.kernel_model.specs.Sound.{has_life, lives_in}
 use Rattle.kernel_model.specs.ChangeStep.{space_of_life, life_of_proc, change_if, change_by}
 use Rattle.kernel_model.specs.Unit.{proc_of}
+use Rattle.page_laws.proofs.Ownership.Changes.{cut}
 use Rattle.clock_hands.specs.LastMoves.{last_moves}
 use Rattle.clock_hands.proofs.LastMoves.{last_of}
 use Rattle.machine_state.specs.Going.{CanGoOn}
@@ -67,7 +68,7 @@ refused_growth m n pid sid pages ready g none machine keeps same = record {
 
 -- What the entry asks.
 
-lives_by : (o : Option Proc) (sid : ℕ) → life_of_proc o ≡ HoldsSpace sid → lives_in o ≡ true
+pub lives_by : (o : Option Proc) (sid : ℕ) → life_of_proc o ≡ HoldsSpace sid → lives_in o ≡ true
 lives_by None sid e = absurd cc
 lives_by (Some p) sid e = ap has_life e
 
@@ -111,9 +112,6 @@ only_cut : (p : Placement) (sid d pages : ℕ) → data_count p sid ≤ d → st
 only_cut p sid d pages l k =
     ap (λ (n : ℕ). cut_space (drop_all p (data_from sid d n ++ stack_from sid pages (stack_count p sid - pages))) sid d pages) (none_less (data_count p sid) d l)
     ∙ ap (λ (n : ℕ). cut_space (drop_all p (stack_from sid pages n)) sid d pages) (none_less (stack_count p sid) pages k)
-
-abbrev cut : ℕ → ℕ → SpacePages → SpacePages
-cut d pages s = record s { data_pages = sized d s.data_pages; stack_pages = sized pages s.stack_pages }
 
 cut_stack : (o : Option SpacePages) (d pages : ℕ) → o ≢ None → length (stack_in (mapped (cut d pages) o)) ≡ pages
 cut_stack None d pages there = absurd (there refl)

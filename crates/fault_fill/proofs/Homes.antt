@@ -1,7 +1,6 @@
 -- The space of a page, or one that shares its text.
 use Rattle.std.proofs.Common.{◌≡◌, ◌≢◌, inl, inr, ℕ, ◌<◌, IsSome, List, [], ◌∷◌, map, Option, Some, None, refl, sym, ◌∙◌, arith}
 use Rattle.std.proofs.lemmas.Bool.{cases_eq}
-use Rattle.std.proofs.lemmas.Bool.Decides.{nat_tests}
 use Rattle.vm_facts.specs.declared.page.Page.{Page}
 use Rattle.vm_facts.specs.declared.page.Page.TheVariants.{Text}
 use Rattle.vax_pte.specs.declared.Place.{Place}
@@ -14,6 +13,7 @@ use Rattle.page_model.specs.Conditions.{IsShared}
 use Rattle.page_laws.proofs.Lists.Pages.{numbered_hit, numbered_miss}
 use Rattle.machine_state.specs.Views.{IsNamedBy, ShowsPage, ShowsSpace}
 use Rattle.machine_state.specs.Sharing.{IsSharer}
+use Rattle.clock_hands.proofs.Homes.{skips}
 
 absent_there : (n : ℕ) (ss : List SpacePages) (m : ℕ) (x : SpacePages) → IsAbsent n (map space_number ss) → numbered space_number m ss ≡ Some x → n ≢ m
 absent_there n [] m x a e h = absurd cc
@@ -21,9 +21,6 @@ absent_there n (s ∷ ss) m x a e h = elim (cases_eq s.sid m) [
   | inl i ↦ a.0 (i ∙ sym h)
   | inr d ↦ absent_there n ss m x a.1 (sym (numbered_miss space_number m s ss d) ∙ e) h
 ]
-
-shares_hit : (image : ℕ) (s : SpacePages) (ss : List SpacePages) → s.image ≢ image → sharers_in image (s ∷ ss) ≡ sharers_in image ss
-shares_hit image s ss n = grind (arith, nat_tests)
 
 record Sharer (image : ℕ) (ss : List SpacePages) : Type 0 where
   sid : ℕ
@@ -36,7 +33,7 @@ shared_by image [] d l = absurd (omega arith)
 shared_by image (s ∷ ss) d l = elim (cases_eq s.image image) [
   | inl e ↦ record { sid = s.sid; space = s; there = numbered_hit space_number s.sid s ss refl; shares = e }
   | inr n ↦
-      let h : Sharer image ss = shared_by image ss d.1 (let a = shares_hit image s ss n in omega arith) in
+      let h : Sharer image ss = shared_by image ss d.1 (let a = skips image s ss n in omega arith) in
       record {
         sid = h.sid;
         space = h.space;

@@ -21,8 +21,8 @@ use Rattle.kernel_model.specs.Requests.{ImageFile}
 use Rattle.machine_state.specs.Machine.{Standing}
 use Rattle.machine_state.specs.Sourced.{files_named}
 use Rattle.machine_state.specs.Conditions.{HasStopped, KeepsFlat}
-use Rattle.machine_state.specs.Settled.{IsSameBeside}
 use Rattle.machine_state.specs.Performing.{IsAtBound, Performs, StopsForRoom}
+use Rattle.machine_state.proofs.Settling.{beside_done}
 use Rattle.clock_hands.specs.Made.{Ground, ground, MadeBy, ImageBy}
 use Rattle.clock_hands.specs.Stops.{CauseBy, SpoilsBy}
 use Rattle.clock_hands.proofs.Stopping.{held_here, next_later, stops_at_first}
@@ -44,13 +44,6 @@ match_map P Q R S (Err e) f g m = g e m
 
 -- What a step answers that calls no device.
 
-pub beside_of : (old new : Standing) → new ≡ record old { kernel = new.kernel; room = None } → IsSameBeside old new
-beside_of old new e = record {
-  params = ap (λ (s : Standing). s.params) e;
-  images = ap (λ (s : Standing). s.images) e;
-  before = ap (λ (s : Standing). s.before) e;
-}
-
 pub plain_made : (q : Page) (e : Entry) (old new : Standing) → ((now : Bool) → serve_unit old.kernel.place q now ≡ Some e)
     → ((g : Ground) (i : Option SwapImage) → MadeBy g e old.kernel i new.kernel) → ((i : Option SwapImage) → ImageBy (files_named old.images) e old.kernel i i)
     → new ≡ record old { kernel = new.kernel; room = None } → KeepsFlat old.kernel new.kernel → PlainMade q old new
@@ -59,7 +52,7 @@ plain_made q e old new next made told rest keeps = λ holds image now locked. re
   next = next now;
   made = made (ground old holds locked) image;
   told = told image;
-  rest = beside_of old new rest;
+  rest = beside_done old new rest;
   keeps = keeps_flat old new holds image keeps;
 }
 

@@ -1,5 +1,5 @@
 -- What a unit of serving leaves as it was, and the numbers that fall with it.
-use Rattle.std.proofs.Common.{◌≡◌, ◌⊎◌, inl, inr, ℕ, ◌+◌, ◌<◌, ◌≤◌, Bool, true, false, cond, List, [], ◌∷◌, ◌++◌, length, Some, None, refl, sym, ap, ◌∙◌, subst, arith}
+use Rattle.std.proofs.Common.{◌≡◌, inl, inr, ℕ, ◌+◌, ◌<◌, ◌≤◌, Bool, true, false, cond, List, [], ◌∷◌, ◌++◌, length, Some, None, refl, sym, ap, ◌∙◌, subst, arith}
 use Rattle.std.proofs.lemmas.Bool.Decides.{nat_tests}
 use Rattle.std.proofs.lemmas.Option.{same_Some}
 use Rattle.flat_state.specs.Journal.{append}
@@ -21,18 +21,18 @@ use Rattle.page_model.specs.Rank.{rank, HandsStand, HasRoom}
 use Rattle.page_model.specs.Conditions.{IsShared}
 use Rattle.page_model.specs.Dues.{NotDue}
 use Rattle.page_model.specs.Ownership.{OwnsFrames}
-use Rattle.page_laws.proofs.Moves.InSteps.{done_cases}
 use Rattle.page_laws.proofs.Lists.Pages.{put_state}
 use Rattle.page_laws.proofs.Blocks.Steps.{SameShape}
 use Rattle.page_laws.proofs.Moves.Stays.{Steady, Stays, done_steady, force_stays}
 use Rattle.page_laws.proofs.Moves.Steps.{EvictRest, evict_rest}
 use Rattle.page_laws.proofs.Moves.Units.{unit_is}
 use Rattle.page_laws.proofs.Ownership.Serve.{force_owner, serve_owner}
-use Rattle.page_laws.proofs.Ends.Serving.{Landed, land_all_lands, is_coming, flying_in, read_comes, serve_falls, full_some}
+use Rattle.page_laws.proofs.Ends.Serving.{Landed, is_coming, flying_in, read_comes, serve_falls, full_some}
 use Rattle.page_laws.proofs.Ends.Hands.{serve_stands}
 use Rattle.page_laws.proofs.Ends.Wholes.{serve_sizes, serve_room, serve_shape}
 use Rattle.page_laws.proofs.Moves.Cases.{serving_cases, read_frameless, serving_invalid, serving_starved, some_of}
 use Rattle.page_laws.proofs.Due.Entries.{serve_dues}
+use Rattle.page_laws.proofs.Serving.{done_lands}
 use Rattle.clock_hands.proofs.Serving.{done_less}
 use Rattle.machine_state.specs.PlaceOf.{is_blank}
 use Rattle.fault_fill.specs.Serving.{CanServe}
@@ -69,10 +69,6 @@ coming_filled Unfilled c e = absurd cc
 coming_filled (Coming f) c e = absurd cc
 coming_filled (Going f) c e = absurd cc
 coming_filled OnSwap c e = absurd cc
-
-done_lands : (p : Placement) (q : Page) → IsThere p q → (state_of (done p) q ≡ state_of p q) ⊎ Landed (state_of (done p) q)
-done_lands p q there = done_cases (λ (r : Placement). (state_of r q ≡ state_of p q) ⊎ Landed (state_of r q)) p (inl refl)
-    (λ t ts e. land_all_lands t.parts p t.errand ts q (state_of p q) there (inl refl))
 
 reclaimed : (p : Placement) (q : Page) (f : ℕ) → IsThere p q → state_of p q ≡ Invalid f → state_of (reclaim p q) q ≡ Valid f
 reclaimed p q f there e = ap (λ (s : PageState). state_of (reclaim_to p q s) q) e ∙ put_state p q (Valid f) (mark_of p q) there

@@ -52,7 +52,7 @@ held_there k pid c = subst (λ (l : Life). HasSpace k.place (space_of_life l)) (
 
 -- The sizes of segments.
 
-same_size : (n m : ℕ) → ((v : ℕ) → v < n → v < m) → ((v : ℕ) → v < m → v < n) → n ≡ m
+pub same_size : (n m : ℕ) → ((v : ℕ) → v < n → v < m) → ((v : ℕ) → v < m → v < n) → n ≡ m
 same_size n m f g = elim (cases_lt n m) [
   | inl l ↦ absurd (let a = g n l in omega arith)
   | inr h ↦ elim (cases_lt m n) [
@@ -146,9 +146,6 @@ below_pages t d pages a h =
     let out : leb (stack_top - 1024 * pages) a ≡ false = not_both (leb (stack_top - 1024 * pages) a) (ltb a stack_top) found.0 near.1 in
     let under : a < stack_top - 1024 * pages = grind (arith, nat_tests) in
     record { more = omega arith; few = omega arith }
-
-asks_page : (q r : Page) → accesses.Page q ≡ accesses.Page r → q ≡ r
-asks_page q r e = cc
 
 asks_growth : (sid pages n m : ℕ) → accesses.Growth sid pages ≡ accesses.Growth n m → (n ≡ sid) × (m ≡ pages)
 asks_growth sid pages n m e = (cc, cc)

@@ -8,6 +8,7 @@ use Rattle.page_opt.specs.Plans.{Run, has, due, entered, left, then, served, ser
 use Rattle.page_opt.specs.Cache.{IsCache}
 use Rattle.page_opt.proofs.Counts.{hasnt_times, tally-without, length-without}
 use Rattle.page_opt.proofs.Members.{times_enter}
+use Rattle.page_opt.proofs.Least.{empty_cache}
 use Rattle.fault_laws.specs.Memory.{Moment, used_in, lacking, brought, IsMoment, IsMemory, HasPlan, NoneFewer}
 use Rattle.fault_laws.proofs.Lacking.{lacking_through, enter_fewer, without_other, leave_same, IsIdle, some_idle}
 
@@ -183,9 +184,6 @@ moments_plan (m ∷ ms) n at before budget most is top = λ held faults c l.
     (λ k. moments_plan ms n k m.pages (budget + lacking before m.pages) most is.1 (omega arith)) held faults c (omega arith)
 
 -- The laws.
-
-empty_cache : (n : ℕ) → IsCache n []
-empty_cache n = record { once = λ q. omega arith; small = omega arith }
 
 pub memory_planned : (n : ℕ) (moments : List Moment) → IsMemory n moments → HasPlan (used_in moments) n (brought [] moments)
 unfolding plan_faults faults_of all_left

@@ -55,6 +55,3 @@ module _ {M : Type 0} (n : ℕ) (pages : M → List ℕ) (resident : ℕ → M �
       let most = few memory refs (subst (λ (ps : List ℕ). IsCache n ps) (sym none) cache) in
       let same = ap (λ (ps : List ℕ). brought ps (moments memory refs)) none in
       omega arith
-
-pub empty_cache : (n : ℕ) → IsCache n []
-empty_cache n = record { once = λ q. omega arith; small = omega arith }

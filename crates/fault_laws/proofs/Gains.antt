@@ -77,33 +77,31 @@ valid_there p w h = let k = valid_framed (state_of p w) h in page_in p w k.0 k.1
 
 -- The put of a page.
 
-put_gains : (p : Placement) (v : Page) (s : PageState) (m : Bool) → Gains v p (put p v s m)
-put_gains p v s m w h = elim (page_cases w v) [
-  | inl e ↦ inr e
-  | inr n ↦ inl (ap is_valid (sym (put_other_state p v s m w n)) ∙ h)
-]
+module _ (p : Placement) (v : Page) (s : PageState) (m : Bool) where
+  put_gains : Gains v p (put p v s m)
+  put_gains w h = elim (page_cases w v) [
+    | inl e ↦ inr e
+    | inr n ↦ inl (ap is_valid (sym (put_other_state p v s m w n)) ∙ h)
+  ]
 
-put_valid : (p : Placement) (v : Page) (s : PageState) (m : Bool) → (is_valid s ≡ true → is_valid (state_of p v) ≡ true)
-    → (w : Page) → is_valid (state_of (put p v s m) w) ≡ true → is_valid (state_of p w) ≡ true
-put_valid p v s m k w h = elim (put_gains p v s m w h) [
-  | inl was ↦ was
-  | inr e ↦ subst (λ (x : Page). is_valid (state_of p x) ≡ true) (sym e) (here (subst (λ (x : Page). is_valid (state_of (put p v s m) x) ≡ true) e h))
-]
-  where
-    here : is_valid (state_of (put p v s m) v) ≡ true → is_valid (state_of p v) ≡ true
-    here g =
-        let there : IsThere p v = subst (λ (n : ℕ). number_of v < n) (put_length p v s m v) (valid_there (put p v s m) v g) in
-        k (sym (ap is_valid (put_state p v s m there)) ∙ g)
+  put_valid : (is_valid s ≡ true → is_valid (state_of p v) ≡ true) → (w : Page) → is_valid (state_of (put p v s m) w) ≡ true → is_valid (state_of p w) ≡ true
+  put_valid k w h = elim (put_gains w h) [
+    | inl was ↦ was
+    | inr e ↦ subst (λ (x : Page). is_valid (state_of p x) ≡ true) (sym e) (here (subst (λ (x : Page). is_valid (state_of (put p v s m) x) ≡ true) e h))
+  ]
+    where
+      here : is_valid (state_of (put p v s m) v) ≡ true → is_valid (state_of p v) ≡ true
+      here g =
+          let there : IsThere p v = subst (λ (n : ℕ). number_of v < n) (put_length p v s m v) (valid_there (put p v s m) v g) in
+          k (sym (ap is_valid (put_state p v s m there)) ∙ g)
 
--- with other frames, another free list and other transfers
-put_keeps : (p : Placement) (v : Page) (s : PageState) (m : Bool) (holds : List (Option Page)) (free : List ℕ) (ts : List Transfer)
-    → (is_valid s ≡ true → is_valid (state_of p v) ≡ true) → reads_of ts ≤ reads_of p.transfers
-    → Keeps p (record (put p v s m) { holds = holds; free = free; transfers = ts })
-put_keeps p v s m holds free ts k l = record { valid = put_valid p v s m k; reads = l }
+  -- with other frames, another free list and other transfers
+  put_keeps : (holds : List (Option Page)) (free : List ℕ) (ts : List Transfer) → (is_valid s ≡ true → is_valid (state_of p v) ≡ true)
+      → reads_of ts ≤ reads_of p.transfers → Keeps p (record (put p v s m) { holds = holds; free = free; transfers = ts })
+  put_keeps holds free ts k l = record { valid = put_valid k; reads = l }
 
-turn_keeps : (p : Placement) (v : Page) (s : PageState) (m : Bool) (free : List ℕ) (ts : List Transfer)
-    → is_valid s ≡ false → reads_of ts ≤ reads_of p.transfers → Keeps p (turn p v s m free ts)
-turn_keeps p v s m free ts n l = put_keeps p v s m p.holds free ts (λ h. absurd (let e : true ≡ false = sym h ∙ n in cc)) l
+  turn_keeps : (free : List ℕ) (ts : List Transfer) → is_valid s ≡ false → reads_of ts ≤ reads_of p.transfers → Keeps p (turn p v s m free ts)
+  turn_keeps free ts n l = put_keeps p.holds free ts (λ h. absurd (let e : true ≡ false = sym h ∙ n in cc)) l
 
 -- Fills and reads.
 

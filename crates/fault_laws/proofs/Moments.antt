@@ -40,55 +40,55 @@ abbrev moments_of : Inputs → (Page → ℕ) → State → List Entry → List 
 moments_of A number s [] = []
 moments_of A number s (u ∷ us) = moment_of A number s u ∷ moments_of A number (after A s u) us
 
--- What is used are the references.
-used_are : (A : Inputs) (number : Page → ℕ) (us : List Entry) (s : State) → AllFlat A s us
-    → used_in (moments_of A number s us) ≡ map number (references_from A (Some s.point) us)
-unfolding references_from
-used_are A number [] s f = refl
-used_are A number (u ∷ us) s f =
-    ap (λ (ns : List ℕ). map number (touched_by_unit A s.point u) ++ ns)
-    (used_are A number us (after A s u) f.1 ∙ ap (λ (o : Option Point). map number (references_from A o us)) (sym f.0))
-    ∙ sym (map-append number (touched_by_unit A s.point u) (references_from A (flat_entry A s.point u) us))
+module _ (A : Inputs) (number : Page → ℕ) where
+  -- What is used are the references.
+  used_are : (us : List Entry) (s : State) → AllFlat A s us → used_in (moments_of A number s us) ≡ map number (references_from A (Some s.point) us)
+  unfolding references_from
+  used_are [] s f = refl
+  used_are (u ∷ us) s f =
+      ap (λ (ns : List ℕ). map number (touched_by_unit A s.point u) ++ ns)
+      (used_are us (after A s u) f.1 ∙ ap (λ (o : Option Point). map number (references_from A o us)) (sym f.0))
+      ∙ sym (map-append number (touched_by_unit A s.point u) (references_from A (flat_entry A s.point u) us))
 
--- Each is usable.
+  -- Each is usable.
 
-touched_usable : (A : Inputs) (number : Page → ℕ) (s : State) (u : Entry) (pid x : ℕ) → IsRun A s → next_unit A s ≡ Some u → process_of_entry u ≡ Some pid
-    → has x (map number (touched A s.point.flat pid)) ≡ true → has x (usable number s.place) ≡ true
-touched_usable A number s u pid x r n e h =
-    let y : ReadyToStep A s pid = unit_ready A s u pid n e in
-    pages_usable number s.place (touched A s.point.flat pid) x (owns A s r.placed) y.pages h
+  touched_usable : (s : State) (u : Entry) (pid x : ℕ) → IsRun A s → next_unit A s ≡ Some u → process_of_entry u ≡ Some pid
+      → has x (map number (touched A s.point.flat pid)) ≡ true → has x (usable number s.place) ≡ true
+  touched_usable s u pid x r n e h =
+      let y : ReadyToStep A s pid = unit_ready A s u pid n e in
+      pages_usable number s.place (touched A s.point.flat pid) x (owns A s r.placed) y.pages h
 
-used_usable : (A : Inputs) (number : Page → ℕ) (s : State) (u : Entry) (x : ℕ) → IsRun A s → next_unit A s ≡ Some u
-    → has x (map number (touched_by_unit A s.point u)) ≡ true → has x (usable number s.place) ≡ true
-unfolding has
-used_usable A number s (entries.Ran pid n) x r h = touched_usable A number s (entries.Ran pid n) pid x r h refl
-used_usable A number s (entries.Call pid n c r0 r1) x r h = touched_usable A number s (entries.Call pid n c r0 r1) pid x r h refl
-used_usable A number s (entries.Ended pid n) x r h = touched_usable A number s (entries.Ended pid n) pid x r h refl
-used_usable A number s _ x r h = λ k. absurd (false≢true k)
+  used_usable : (s : State) (u : Entry) (x : ℕ) → IsRun A s → next_unit A s ≡ Some u
+      → has x (map number (touched_by_unit A s.point u)) ≡ true → has x (usable number s.place) ≡ true
+  unfolding has
+  used_usable s (entries.Ran pid n) x r h = touched_usable s (entries.Ran pid n) pid x r h refl
+  used_usable s (entries.Call pid n c r0 r1) x r h = touched_usable s (entries.Call pid n c r0 r1) pid x r h refl
+  used_usable s (entries.Ended pid n) x r h = touched_usable s (entries.Ended pid n) pid x r h refl
+  used_usable s _ x r h = λ k. absurd (false≢true k)
 
-usable_few : (A : Inputs) (number : Page → ℕ) (n : ℕ) (s : State) → A.frames ≤ n → IsRun A s → IsCache n (usable number s.place)
-usable_few A number n s l r =
-    let st : Placed A s.point.flat s.place s.holdings = r.placed in
-    let frames = st.frames in
-    let c : IsCache (length s.place.holds) (usable number s.place) = usable_cache number s.place in
-    record { once = c.once; small = let m = c.small in omega arith }
+  usable_few : (n : ℕ) (s : State) → A.frames ≤ n → IsRun A s → IsCache n (usable number s.place)
+  usable_few n s l r =
+      let st : Placed A s.point.flat s.place s.holdings = r.placed in
+      let frames = st.frames in
+      let c : IsCache (length s.place.holds) (usable number s.place) = usable_cache number s.place in
+      record { once = c.once; small = let m = c.small in omega arith }
 
-moments_memory : (A : Inputs) (number : Page → ℕ) (n : ℕ) (us : List Entry) (s t : State) → ImagesFit A.images → A.frames ≤ n → IsRun A s → Follows A s us t
-    → IsMemory n (moments_of A number s us)
-moments_memory A number n [] s t images l r f = tt
-moments_memory A number n (u ∷ us) s t images l r f = (
-  record { held = usable_few A number n s l r; there = λ x. used_usable A number s u x r f.0 },
-  moments_memory A number n us (after A s u) t images l (unit_run A s u images r f.0) f.1,
-)
+  moments_memory : (n : ℕ) (us : List Entry) (s t : State) → ImagesFit A.images → A.frames ≤ n → IsRun A s → Follows A s us t
+      → IsMemory n (moments_of A number s us)
+  moments_memory n [] s t images l r f = tt
+  moments_memory n (u ∷ us) s t images l r f = (
+    record { held = usable_few n s l r; there = λ x. used_usable s u x r f.0 },
+    moments_memory n us (after A s u) t images l (unit_run A s u images r f.0) f.1,
+  )
 
--- What is brought is faults and copies.
-brought_few : (A : Inputs) (number : Page → ℕ) (us : List Entry) (s t : State) (before : List ℕ) → ImagesFit A.images → IsRun A s → Follows A s us t
-    → brought before (moments_of A number s us) ≤ lacking before (usable number s.place) + (own_faults us + copies_of us) + reads_of s.place.transfers
-brought_few A number [] s t before images r f = omega arith
-brought_few A number (u ∷ us) s t before images r f =
-    let rest = brought_few A number us (after A s u) t (usable number s.place) images (unit_run A s u images r f.0) f.1 in
-    let one = gain_lacks number s.place (after A s u).place (own_fault u + copies u) (owns A s r.placed) (unit_gain A s u r) in
-    omega arith
+  -- What is brought is faults and copies.
+  brought_few : (us : List Entry) (s t : State) (before : List ℕ) → ImagesFit A.images → IsRun A s → Follows A s us t
+      → brought before (moments_of A number s us) ≤ lacking before (usable number s.place) + (own_faults us + copies_of us) + reads_of s.place.transfers
+  brought_few [] s t before images r f = omega arith
+  brought_few (u ∷ us) s t before images r f =
+      let rest = brought_few us (after A s u) t (usable number s.place) images (unit_run A s u images r f.0) f.1 in
+      let one = gain_lacks number s.place (after A s u).place (own_fault u + copies u) (owns A s r.placed) (unit_gain A s u r) in
+      omega arith
 
 -- Units and journals have the same faults and copies.
 

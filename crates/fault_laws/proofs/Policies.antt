@@ -7,13 +7,14 @@ use Rattle.vm_facts.specs.Lists.{without_first}
 use Rattle.page_opt.specs.Plans.{has}
 use Rattle.page_opt.specs.Cache.{bit, tally, count_in, IsCache}
 use Rattle.page_opt.proofs.Counts.{hasnt_times, tally-without}
+use Rattle.page_opt.proofs.Least.{empty_cache}
 use Rattle.stack_dist.specs.Lru.{holds, referenced, faults_from, lru_faults}
 use Rattle.policy_faults.specs.Ring.{MarkedPage, ring_pages, is_in_memory, marked_page, paged_in}
 use Rattle.policy_faults.specs.Policies.{faults_over, fifo_room, fifo_after, fifo_faults, ring_after, swept, clock_room, clock_faults, hands_moved, hands_room, hands_faults}
 use Rattle.policy_faults.proofs.Rings.{tally-append}
 use Rattle.policy_faults.proofs.Turning.{length-pages, pages-paged_in, pages-marked, tally-swept, tally-hands, tally-fifo_room, tally-clock_room, tally-hands_room}
 use Rattle.fault_laws.proofs.Stepping.{Stepped, stays, comes}
-use Rattle.fault_laws.proofs.Demanding.{IsDemand, at_least, empty_cache}
+use Rattle.fault_laws.proofs.Demanding.{IsDemand, at_least}
 use Rattle.fault_laws.specs.Policies.{IsAboveLeast}
 
 -- ---- a page that comes last

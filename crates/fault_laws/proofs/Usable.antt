@@ -73,57 +73,56 @@ joined_cache true m n ns c = go (has n ns) refl
 
 -- The usable pages.
 
-usable_few : (number : Page → ℕ) (p : Placement) (hs : List (Option Page)) → IsCache (length hs) (usable_in number p hs)
-usable_few number p [] = record { once = λ q. omega arith; small = omega arith }
-usable_few number p (None ∷ hs) = more_frames (length hs) (usable_in number p hs) (usable_few number p hs)
-usable_few number p (Some q ∷ hs) = joined_cache (is_valid (state_of p q)) (length hs) (number q) (usable_in number p hs) (usable_few number p hs)
+module _ (number : Page → ℕ) (p : Placement) where
+  usable_few : (hs : List (Option Page)) → IsCache (length hs) (usable_in number p hs)
+  usable_few [] = record { once = λ q. omega arith; small = omega arith }
+  usable_few (None ∷ hs) = more_frames (length hs) (usable_in number p hs) (usable_few hs)
+  usable_few (Some q ∷ hs) = joined_cache (is_valid (state_of p q)) (length hs) (number q) (usable_in number p hs) (usable_few hs)
 
-pub usable_cache : (number : Page → ℕ) (p : Placement) → IsCache (length p.holds) (usable number p)
-usable_cache number p = usable_few number p p.holds
+  pub usable_cache : IsCache (length p.holds) (usable number p)
+  usable_cache = usable_few p.holds
 
-usable_valid : (number : Page → ℕ) (p : Placement) (hs : List (Option Page)) (x : ℕ) → has x (usable_in number p hs) ≡ true
-    → (q : Page) × (is_valid (state_of p q) ≡ true) × (number q ≡ x)
-unfolding has
-usable_valid number p [] x h = absurd (false≢true h)
-usable_valid number p (None ∷ hs) x h = usable_valid number p hs x h
-usable_valid number p (Some q ∷ hs) x h = elim (joined_has (is_valid (state_of p q)) (number q) x (usable_in number p hs) h) [
-  | inl e ↦ (q, e.0, e.1)
-  | inr k ↦ usable_valid number p hs x k
-]
+  usable_valid : (hs : List (Option Page)) (x : ℕ) → has x (usable_in number p hs) ≡ true → (q : Page) × (is_valid (state_of p q) ≡ true) × (number q ≡ x)
+  unfolding has
+  usable_valid [] x h = absurd (false≢true h)
+  usable_valid (None ∷ hs) x h = usable_valid hs x h
+  usable_valid (Some q ∷ hs) x h = elim (joined_has (is_valid (state_of p q)) (number q) x (usable_in number p hs) h) [
+    | inl e ↦ (q, e.0, e.1)
+    | inr k ↦ usable_valid hs x k
+  ]
 
-held_usable : (number : Page → ℕ) (p : Placement) (hs : List (Option Page)) (n : ℕ) (q : Page) → get_or hs n None ≡ Some q → is_valid (state_of p q) ≡ true
-    → has (number q) (usable_in number p hs) ≡ true
-held_usable number p [] n q e v = none_some q e
-held_usable number p (None ∷ hs) zero q e v = none_some q e
-held_usable number p (Some r ∷ hs) zero q e v =
-    let same : r ≡ q = cc in
-    subst (λ (x : Page). has (number q) (joined (is_valid (state_of p x)) (number x) (usable_in number p hs)) ≡ true) (sym same)
-    (subst (λ (b : Bool). has (number q) (joined b (number q) (usable_in number p hs)) ≡ true) (sym v) (joined_new (number q) (usable_in number p hs)))
-held_usable number p (None ∷ hs) (suc n) q e v = held_usable number p hs n q e v
-held_usable number p (Some r ∷ hs) (suc n) q e v =
-    joined_keeps (is_valid (state_of p r)) (number r) (number q) (usable_in number p hs) (held_usable number p hs n q e v)
+  held_usable : (hs : List (Option Page)) (n : ℕ) (q : Page) → get_or hs n None ≡ Some q → is_valid (state_of p q) ≡ true
+      → has (number q) (usable_in number p hs) ≡ true
+  held_usable [] n q e v = none_some q e
+  held_usable (None ∷ hs) zero q e v = none_some q e
+  held_usable (Some r ∷ hs) zero q e v =
+      let same : r ≡ q = cc in
+      subst (λ (x : Page). has (number q) (joined (is_valid (state_of p x)) (number x) (usable_in number p hs)) ≡ true) (sym same)
+      (subst (λ (b : Bool). has (number q) (joined b (number q) (usable_in number p hs)) ≡ true) (sym v) (joined_new (number q) (usable_in number p hs)))
+  held_usable (None ∷ hs) (suc n) q e v = held_usable hs n q e v
+  held_usable (Some r ∷ hs) (suc n) q e v =
+      joined_keeps (is_valid (state_of p r)) (number r) (number q) (usable_in number p hs) (held_usable hs n q e v)
 
--- each valid page has a frame
-valid_usable : (number : Page → ℕ) (p : Placement) (q : Page) → OwnsFrames p → is_valid (state_of p q) ≡ true → has (number q) (usable number p) ≡ true
-valid_usable number p q o v = let k = valid_framed (state_of p q) v in go k.0 (o.names q k.0 k.1)
-  where
-    go : (f : ℕ) → page_of p f ≡ Some q → has (number q) (usable number p) ≡ true
-    go zero e = none_some q e
-    go (suc n) e = held_usable number p p.holds n q e v
+  -- each valid page has a frame
+  valid_usable : (q : Page) → OwnsFrames p → is_valid (state_of p q) ≡ true → has (number q) (usable number p) ≡ true
+  valid_usable q o v = let k = valid_framed (state_of p q) v in go k.0 (o.names q k.0 k.1)
+    where
+      go : (f : ℕ) → page_of p f ≡ Some q → has (number q) (usable number p) ≡ true
+      go zero e = none_some q e
+      go (suc n) e = held_usable p.holds n q e v
 
-pub pages_usable : (number : Page → ℕ) (p : Placement) (qs : List Page) (x : ℕ) → OwnsFrames p → AllValid p qs → has x (map number qs) ≡ true
-    → has x (usable number p) ≡ true
-unfolding has
-pages_usable number p [] x o v h = absurd (false≢true h)
-pages_usable number p (q ∷ qs) x o v h = elim (or_cases (number q == x) (has x (map number qs)) h) [
-  | inl e ↦ subst (λ (y : ℕ). has y (usable number p) ≡ true) (eqb-true (number q) x e) (valid_usable number p q o v.0)
-  | inr e ↦ pages_usable number p qs x o v.1 e
-]
+  pub pages_usable : (qs : List Page) (x : ℕ) → OwnsFrames p → AllValid p qs → has x (map number qs) ≡ true → has x (usable number p) ≡ true
+  unfolding has
+  pages_usable [] x o v h = absurd (false≢true h)
+  pages_usable (q ∷ qs) x o v h = elim (or_cases (number q == x) (has x (map number qs)) h) [
+    | inl e ↦ subst (λ (y : ℕ). has y (usable number p) ≡ true) (eqb-true (number q) x e) (valid_usable q o v.0)
+    | inr e ↦ pages_usable qs x o v.1 e
+  ]
 
--- no frame holds a page
-pub usable_none : (number : Page → ℕ) (p : Placement) (n : ℕ) → usable_in number p (replicate n None) ≡ []
-usable_none number p zero = refl
-usable_none number p (suc n) = usable_none number p n
+  -- no frame holds a page
+  pub usable_none : (n : ℕ) → usable_in number p (replicate n None) ≡ []
+  usable_none zero = refl
+  usable_none (suc n) = usable_none n
 
 -- the pages that come to be usable, and the reads in flight
 pub gain_lacks : (number : Page → ℕ) (p q : Placement) (n : ℕ) → OwnsFrames p → Gain p q n

@@ -28,7 +28,7 @@ use Rattle.run_units.proofs.Swapping.{line_comes, turn_comes}
 use Rattle.flat_model.specs.Run.{IsBetween}
 use Rattle.journal_laws.specs.Leads.{Leads}
 use Rattle.journal_laws.specs.Serving.{At}
-use Rattle.journal_laws.proofs.Journals.{few_started, leads_follow}
+use Rattle.journal_laws.proofs.Journals.{leads_follow}
 use Rattle.journal_laws.proofs.Units.{leads_at}
 use Rattle.vm_core.specs.Leading.{IsTold, machine_at_start, StartLeads, StartStops}
 use Rattle.step_units.specs.Lines.{IsOver}
@@ -45,6 +45,7 @@ use Rattle.film_core.specs.Films.{Filming, IsInOrder, IsUnbegun, FilmBegun}
 use Rattle.film_core.specs.Ways.{IsReached, OverAt}
 use Rattle.film_core.proofs.Composing.{journal_of_reached, leads_run}
 use Rattle.run_laws.proofs.LongerJournals.{goes_behind, behind_longer}
+use Rattle.run_laws.proofs.Sizing.{started_few}
 use Rattle.film_core.proofs.Passing.{over_none}
 
 -- A process whose pieces find no place.
@@ -56,7 +57,7 @@ some_appended (entries.Ran q n) = omega arith
 some_appended (entries.Hands n) = omega arith
 some_appended _ = omega arith
 
-none_made : (us : List Entry) → appended [] us ≡ [] → us ≡ []
+pub none_made : (us : List Entry) → appended [] us ≡ [] → us ≡ []
 none_made [] e = refl
 none_made (u ∷ us) e =
     absurd (let more = behind_longer [] (appended (append [] u) us) (goes_behind [] u us (some_appended u)) in let same = ap (λ (es : List Entry). length es) e in omega (arith, more, same))
@@ -130,7 +131,7 @@ module _ (A : Inputs) (old new : Filming) (numbers : List ℕ) (lines : List Eve
         fit = subst (λ (x : State). ProcessesFit x.point.flat.processes) is_start (start_regs_are A asked.octets);
         next = let e = ap (λ (x : State). x.point.flat.next_pid) is_start in omega (arith, e);
       };
-      crowd = subst (λ (x : State). length x.point.flat.processes ≤ 64) is_start (let most = few_started A.images 1 A.first in let f = few_first in omega (arith, most, f));
+      crowd = subst (λ (x : State). length x.point.flat.processes ≤ 64) is_start (let most = started_few A.images 1 A.first in let f = few_first in omega (arith, most, f));
       count = ap (λ (x : State). x.count) (sym is_start) ∙ sym unbegun.counted ∙ sym none_counted;
     }
 

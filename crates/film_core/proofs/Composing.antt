@@ -1,5 +1,5 @@
 -- What stands after next units, and two leads as one.
-use Rattle.std.proofs.Common.{◌≡◌, ℕ, ◌≤◌, false, List, [], ◌∷◌, ◌++◌, length, Option, Some, sym, ap, ◌∙◌, subst, arith}
+use Rattle.std.proofs.Common.{◌≡◌, ℕ, ◌≤◌, false, List, [], ◌++◌, length, Option, Some, sym, ap, ◌∙◌, subst, arith}
 use Rattle.std.proofs.lemmas.Option.{same_Some}
 use Rattle.vm_facts.specs.SwapImages.{SwapImage}
 use Rattle.vm_facts.specs.declared.entry.Entry.{Entry}
@@ -10,13 +10,11 @@ use Rattle.flat_state.specs.Journal.{appended}
 use Rattle.kernel_model.specs.Kernel.{Kernel}
 use Rattle.machine_state.specs.Machine.{Standing}
 use Rattle.run_model.specs.State.{State, start}
-use Rattle.run_model.specs.After.{after}
 use Rattle.run_model.specs.Lawful.{Follows}
 use Rattle.run_model.proofs.After.{units_journal}
 use Rattle.run_model.proofs.Followed.{followed_on}
-use Rattle.run_laws.specs.Machine.{StandsAt, MakesSwap, unit_step, unit_swap}
+use Rattle.run_laws.specs.Machine.{StandsAt}
 use Rattle.run_laws.proofs.Finishing.{units_below}
-use Rattle.run_laws.proofs.Going.{unit_goes}
 use Rattle.run_laws.proofs.Lawful.{follows_state}
 use Rattle.journal_laws.specs.Leads.{Leads}
 use Rattle.journal_laws.proofs.Journals.{leads_follow, journal_lawful, journal_accounted, journal_economical}
@@ -27,6 +25,7 @@ use Rattle.vm_core.specs.Lawful.{IsJournalOf}
 use Rattle.vm_core.proofs.Standing.{stands_on, leads_to_stop}
 use Rattle.film_core.specs.Ways.{IsReached, RunsOut}
 use Rattle.run_laws.proofs.LongerJournals.{units_long}
+use Rattle.vm_core.proofs.Journals.{makes_run}
 
 -- Two leads.
 
@@ -83,12 +82,6 @@ pub stands_then : (A : Inputs) (s t : State) (old new : Standing) (holds : Optio
 stands_then A s t old new holds i j image us counted count r st a params images same =
     stands_on A s t old new holds i j image us counted count st a params images same
     (let most = reached_below A t (leads_reached A s t old.kernel new.kernel image us j r a) in omega (arith, most, same))
-
--- no unit stops the machine
-makes_run : (A : Inputs) (us : List Entry) (s t : State) (k l : Kernel) (image behind : SwapImage) → MakesSwap A s k image us t l behind → l.stopped ≡ k.stopped
-makes_run A [] s t k l image behind m = sym (ap (λ (x : Kernel). x.stopped) m.1)
-makes_run A (u ∷ us) s t k l image behind m =
-    makes_run A us (after A s u) t (unit_step A s k image.bytes m.1.0 u) l (unit_swap A k image u) behind m.1.2 ∙ unit_goes A s k image.bytes m.1.0 u
 
 pub leads_run : (A : Inputs) (s t : State) (k l : Kernel) (image : SwapImage) (us : List Entry) (j : Option SwapImage) → Leads A s k image us t l j
     → k.stopped ≡ false → l.stopped ≡ false

@@ -104,27 +104,26 @@ module _ (A : Inputs) (s : State) (m : Standing) (schedule : List Event) (taken 
     turned = turned ∙ x;
   }
 
--- whoever had the last turn
-past_of : (A : Inputs) (s : State) (m : Standing) (schedule : List Event) (taken count last : ℕ) (holds : Option (List NamedFile)) (i : Option SwapImage)
-    (image : SwapImage) → OverAt m schedule taken count last holds i A s image → PastAt m schedule taken count holds i A s image
-past_of A s m schedule taken count last holds i image at = record { stands = at.stands; reached = at.reached; over = at.over; are = at.are; lines = at.lines }
+module _ (A : Inputs) (s : State) (m : Standing) (schedule : List Event) (taken count last : ℕ) where
+  -- whoever had the last turn
+  past_of : (holds : Option (List NamedFile)) (i : Option SwapImage)
+      (image : SwapImage) → OverAt m schedule taken count last holds i A s image → PastAt m schedule taken count holds i A s image
+  past_of holds i image at = record { stands = at.stands; reached = at.reached; over = at.over; are = at.are; lines = at.lines }
 
-turn_of_last : (A : Inputs) (s : State) (m : Standing) (schedule : List Event) (taken count last pid : ℕ) (holds : Option (List NamedFile))
-    (i : Option SwapImage) (image : SwapImage) → chosen_next m.kernel last ≡ Some pid → OverAt m schedule taken count last holds i A s image
-    → OverBeforeTurn m schedule taken count pid holds i A s image
-turn_of_last A s m schedule taken count last pid holds i image y at = record {
-  past = past_of A s m schedule taken count last holds i image at;
-  next = ap (chosen_next m.kernel) at.turned ∙ y;
-}
+  turn_of_last : (pid : ℕ) (holds : Option (List NamedFile)) (i : Option SwapImage) (image : SwapImage) → chosen_next m.kernel last ≡ Some pid
+      → OverAt m schedule taken count last holds i A s image → OverBeforeTurn m schedule taken count pid holds i A s image
+  turn_of_last pid holds i image y at = record {
+    past = past_of holds i image at;
+    next = ap (chosen_next m.kernel) at.turned ∙ y;
+  }
 
-pub over_none : (A : Inputs) (s : State) (m : Standing) (schedule : List Event) (taken count last : ℕ) (holds : Option (List NamedFile)) (i : Option SwapImage)
-    (image : SwapImage) → OverAt m schedule taken count last holds i A s image
-    → (m.params.limit ≤ count) ⊎ ((slice_get schedule taken ≡ None) × (chosen_next m.kernel last ≡ None)) → next_unit A s ≡ None
-over_none A s m schedule taken count last holds i image at why =
-    past_none A s m schedule taken count holds i image (past_of A s m schedule taken count last holds i image at) (elim why [
-      | inl l ↦ inl l
-      | inr e ↦ inr (e.0, ap (chosen_next m.kernel) at.turned ∙ e.1)
-    ])
+  pub over_none : (holds : Option (List NamedFile)) (i : Option SwapImage) (image : SwapImage) → OverAt m schedule taken count last holds i A s image
+      → (m.params.limit ≤ count) ⊎ ((slice_get schedule taken ≡ None) × (chosen_next m.kernel last ≡ None)) → next_unit A s ≡ None
+  over_none holds i image at why =
+      past_none A s m schedule taken count holds i image (past_of holds i image at) (elim why [
+        | inl l ↦ inl l
+        | inr e ↦ inr (e.0, ap (chosen_next m.kernel) at.turned ∙ e.1)
+      ])
 
 -- A mark is over.
 
@@ -365,24 +364,24 @@ turn_noting old new schedule taken counted holds i pid stop l x n A s image at =
 
 -- What follows where a process had the last turn.
 
-pub over_past : (m : Standing) (schedule : List Event) (taken counted last : ℕ) (holds : Option (List NamedFile)) (i : Option SwapImage)
-    → AtSome (OverAt m schedule taken counted last holds i) → AtSome (PastAt m schedule taken counted holds i)
-over_past m schedule taken counted last holds i (A, s, image, at) = (A, s, image, past_of A s m schedule taken counted last holds i image at)
+module _ (m : Standing) (schedule : List Event) (taken counted last : ℕ) where
+  pub over_past : (holds : Option (List NamedFile)) (i : Option SwapImage)
+      → AtSome (OverAt m schedule taken counted last holds i) → AtSome (PastAt m schedule taken counted holds i)
+  over_past holds i (A, s, image, at) = (A, s, image, past_of A s m schedule taken counted last holds i image at)
 
-pub over_turn : (m : Standing) (schedule : List Event) (taken counted last pid : ℕ) (holds : Option (List NamedFile)) (i : Option SwapImage)
-    → chosen_next m.kernel last ≡ Some pid → AtSome (OverAt m schedule taken counted last holds i) → AtSome (OverBeforeTurn m schedule taken counted pid holds i)
-over_turn m schedule taken counted last pid holds i y (A, s, image, at) = (A, s, image, turn_of_last A s m schedule taken counted last pid holds i image y at)
+  pub over_turn : (pid : ℕ) (holds : Option (List NamedFile)) (i : Option SwapImage) → chosen_next m.kernel last ≡ Some pid
+      → AtSome (OverAt m schedule taken counted last holds i) → AtSome (OverBeforeTurn m schedule taken counted pid holds i)
+  over_turn pid holds i y (A, s, image, at) = (A, s, image, turn_of_last A s m schedule taken counted last pid holds i image y at)
 
-pub leads_past : (m : Standing) (schedule : List Event) (taken counted last : ℕ) (holds : Option (List NamedFile)) (i : Option SwapImage)
-    (Leads : Inputs → State → SwapImage → Type 0)
-    → LeadsFrom (PastAt m schedule taken counted holds i) Leads → LeadsFrom (OverAt m schedule taken counted last holds i) Leads
-leads_past m schedule taken counted last holds i Leads f A s image at = f A s image (past_of A s m schedule taken counted last holds i image at)
+  pub leads_past : (holds : Option (List NamedFile)) (i : Option SwapImage) (Leads : Inputs → State → SwapImage → Type 0)
+      → LeadsFrom (PastAt m schedule taken counted holds i) Leads → LeadsFrom (OverAt m schedule taken counted last holds i) Leads
+  leads_past holds i Leads f A s image at = f A s image (past_of A s m schedule taken counted last holds i image at)
 
-pub leads_turn : (m : Standing) (schedule : List Event) (taken counted last pid : ℕ) (holds : Option (List NamedFile)) (i : Option SwapImage)
-    (Leads : Inputs → State → SwapImage → Type 0) → chosen_next m.kernel last ≡ Some pid
-    → LeadsFrom (OverBeforeTurn m schedule taken counted pid holds i) Leads → LeadsFrom (OverAt m schedule taken counted last holds i) Leads
-leads_turn m schedule taken counted last pid holds i Leads y f A s image at =
-    f A s image (turn_of_last A s m schedule taken counted last pid holds i image y at)
+  pub leads_turn : (pid : ℕ) (holds : Option (List NamedFile)) (i : Option SwapImage)
+      (Leads : Inputs → State → SwapImage → Type 0) → chosen_next m.kernel last ≡ Some pid
+      → LeadsFrom (OverBeforeTurn m schedule taken counted pid holds i) Leads → LeadsFrom (OverAt m schedule taken counted last holds i) Leads
+  leads_turn pid holds i Leads y f A s image at =
+      f A s image (turn_of_last A s m schedule taken counted last pid holds i image y at)
 
 pub stops_past : (old new : Standing) (schedule : List Event) (taken counted last : ℕ) (holds : Option (List NamedFile)) (i j : Option SwapImage) (stop : Stop)
     → StopsFrom (PastAt old schedule taken counted holds i) old new j stop → StopsFrom (OverAt old schedule taken counted last holds i) old new j stop

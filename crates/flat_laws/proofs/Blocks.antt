@@ -3,7 +3,7 @@ use Rattle.std.proofs.Common.{◌≡◌, ℕ, ◌+◌, ◌-◌, ◌*◌, ◌/◌
 use Rattle.std.specs.List.{cons_option}
 use Rattle.std.proofs.lemmas.Bool.{cases_eq, lt-ltb}
 use Rattle.std.proofs.lemmas.Bool.Decides.{nat_tests}
-use Rattle.flat_state.specs.Space.{Space, spot_by, spot_at, stack_top, address_in}
+use Rattle.flat_state.specs.Space.{Space, spot_at, stack_top, address_in}
 use Rattle.vm_facts.specs.declared.page.Page.{Page}
 use Rattle.vm_facts.specs.declared.page.Page.TheVariants as pages
 use Rattle.user_vax.specs.Program.{ByteAccess, ReadOf, TestOf}
@@ -17,6 +17,7 @@ use Rattle.flat_laws.proofs.Near.{IsAt, IsNear}
 use Rattle.flat_laws.proofs.Cover.{address_of_access, AreNear}
 use Rattle.flat_laws.proofs.Distinct.{among_is, among_later, few_distinct}
 use Rattle.flat_state.proofs.PageNames.{same_page_is}
+use Rattle.flat_state.proofs.SpotsBeside.{by_stack_alone}
 
 -- the page of a block of 1,024 addresses, where it is of any
 abbrev page_by : Bool → Bool → Space → ℕ → Page
@@ -69,19 +70,11 @@ data_block s x i w e =
           ∙ ap (λ (b : Bool). page_by false b s (x / 1024)) of_data);
     }
 
--- a byte of the stack is of no other segment
-by_stack : (b c d e : Bool) (t a i : ℕ) → spot_by b c d e t a ≡ Stack i → (b ≡ false) × (c ≡ false)
-by_stack true c d e t a i h = cc
-by_stack false true d e t a i h = cc
-by_stack false false true e t a i h = (refl, refl)
-by_stack false false false true t a i h = (refl, refl)
-by_stack false false false false t a i h = (refl, refl)
-
 above_both : (t d s a i : ℕ) → spot_at t d s a ≡ Stack i → (t ≤ a) × (t + d ≤ a)
 unfolding spot_at
 above_both t d s a i h =
     let at_least : (a b : ℕ) → ltb a b ≡ false → b ≤ a = λ a b e. grind (arith, nat_tests) in
-    let found = by_stack (ltb a t) (ltb a (t + d)) _ _ t a i h in
+    let found = by_stack_alone (ltb a t) (ltb a (t + d)) _ _ t a i h in
     (at_least a t found.0, at_least a (t + d) found.1)
 
 stack_block : (s : Space) (x i : ℕ) → IsWhole s → address_in s x ≡ Stack i → IsBlock s x (pages.Stack s.sid (i / 1024))

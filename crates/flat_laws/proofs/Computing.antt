@@ -14,13 +14,14 @@ use Rattle.user_vax.specs.Operands.{register, back}
 use Rattle.user_vax.specs.Effects.{Effect, registers_only, result_effect, push_effect, count_effect, entry_effect, division, pop_into, subroutine_return}
 use Rattle.user_vax.specs.Frames.{procedure_call, procedure_return, registers_returned}
 use Rattle.user_vax.specs.Computation.{computation}
-use Rattle.flat_laws.proofs.Cover.{Yields, yields_bind, yields_any, Covered, covered_more, covered_gives, covered_refuses}
+use Rattle.flat_laws.proofs.Cover.{yields_bind, yields_any, Covered, covered_more, covered_gives, covered_refuses}
 use Rattle.flat_laws.proofs.Stack.{sp, MayPush, may_push, may_push_again, IsLight, plain_light, store_light, push_light, return_covered, subroutine_covered, call_covered, call_light}
+use Rattle.flat_laws.proofs.Computations.{AllGives}
 
 -- it reads near two starts at most, and leaves bytes near one
 pub record IsModest (p : Program Effect) : Type 0 where
   pub covered : (memory : Answers) (base : ℕ) → Covered memory base 2 p
-  pub light : Yields IsLight p
+  pub light : AllGives IsLight p
 
 given : (effect : Effect) → IsLight effect → IsModest (Gives effect)
 given effect h = record { covered = λ memory base. covered_gives memory base 2 effect; light = h }
@@ -43,11 +44,11 @@ division_modest regs place dividend divisor = go (divisor == 0)
     go true = record { covered = λ memory base. covered_refuses memory base 2 8; light = tt }
     go false = given _ (store_light _ 4 place _ (omega arith))
 
-return_light : (regs : Regs) → Yields IsLight (procedure_return regs)
+return_light : (regs : Regs) → AllGives IsLight (procedure_return regs)
 unfolding procedure_return
 return_light regs = yields_bind (λ _. Unit {0}) IsLight (registers_returned regs) _ (yields_any (registers_returned regs)) (λ last _. plain_light last)
 
-subroutine_light : (regs : Regs) → Yields IsLight (subroutine_return regs)
+subroutine_light : (regs : Regs) → AllGives IsLight (subroutine_return regs)
 unfolding subroutine_return
 subroutine_light regs = yields_bind (λ _. Unit {0}) IsLight (pop_into regs 15) _ (yields_any (pop_into regs 15)) (λ last _. plain_light last)
 

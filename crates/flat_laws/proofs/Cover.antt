@@ -8,6 +8,7 @@ use Rattle.vm_facts.specs.declared.memory.MayWrite.TheVariants as tests
 use Rattle.user_vax.specs.declared.refused.Refused.{Refused}
 use Rattle.user_vax.specs.Program.{Program, Gives, Refuses, Reads, Tests, ◌>>=◌, run, after_read, after_test, ByteAccess, ReadOf, TestOf, accesses, rest_of_read, rest_of_test}
 use Rattle.flat_laws.proofs.Near.{IsAt, IsNear, near_left, near_right}
+use Rattle.flat_laws.proofs.Computations.{AllGives as Yields}
 
 -- Whatever is read, each access is near this start, and what is given is so.
 abbrev pub Within : {A : Type 0} → ℕ → (A → Type 0) → Program A → Type 0
@@ -22,13 +23,6 @@ within_bind start Q R (Gives x) f h k = k x h
 within_bind start Q R (Refuses signal) f h k = tt
 within_bind start Q R (Reads address next) f h k = (h.0, λ byte. within_bind start Q R (next byte) f (h.1 byte) k)
 within_bind start Q R (Tests address next) f h k = (h.0, within_bind start Q R next f h.1 k)
-
--- Whatever is read, what is given is so.
-abbrev pub Yields : {A : Type 0} → (A → Type 0) → Program A → Type 0
-Yields Q (Gives x) = Q x
-Yields Q (Refuses signal) = Unit {0}
-Yields Q (Reads address next) = (byte : ℕ) → Yields Q (next byte)
-Yields Q (Tests address next) = Yields Q next
 
 pub yields_bind : {A B : Type 0} (Q : A → Type 0) (R : B → Type 0) (p : Program A) (f : A → Program B) → Yields Q p → ((x : A) → Q x → Yields R (f x))
     → Yields R (p >>= f)

@@ -19,18 +19,15 @@ use Rattle.vax_code.specs.Table.{row_for, slot_in}
 use Rattle.vax_code.specs.Reading.{decoded}
 use Rattle.vax_code.specs.Grammar.{AreOctets, SpellsNumber, SpellsOnPc, SpellsBase, SpellsSpecifier, SpellsBranch, SpellsOperand, SpellsPlace, IsInstruction, BeginsWith}
 use Rattle.vax_code.proofs.Law.{begins}
-use Rattle.vax_code.proofs.Spelling.{octets_front}
+use Rattle.vax_code.proofs.Spelling.{octets_front, octets_rest}
+use Rattle.vax_code.proofs.Readers.{octets-append}
 use Rattle.user_vax.specs.Instruction.{on_decoded, fetch, execution_by, instruction}
 use Rattle.user_vax.specs.Operands.{register, past}
 use Rattle.user_vax.specs.Program.{Reads, run}
 use Rattle.kernel_model.specs.UPage.{AreRegs}
 use Rattle.flat_laws.specs.Longwords.{EffectFits, LeavesLongwords}
-use Rattle.flat_laws.proofs.Octets.{both_octets, index_octets}
+use Rattle.flat_laws.proofs.Octets.{index_octets}
 use Rattle.flat_laws.proofs.Leaving.{AllLeave, leave_bind, IsLongBase, IsLongOperand, execution_by_leaves, run_leaves}
-
-back_octets : (xs ys : List ℕ) → AreOctets (xs ++ ys) → AreOctets ys
-back_octets [] ys a = a
-back_octets (x ∷ xs) ys a = back_octets xs ys a.1
 
 -- a number of 1, 2 or 4 bytes is a longword
 number_long : (size : ℕ) (bs : List ℕ) → AreOctets bs → from_le_bytes (width_of size) bs < 2 ^ 32
@@ -98,9 +95,9 @@ whole_long : (bs : List ℕ) (instr : Instr) → IsInstruction bs instr → AreO
 whole_long bs instr w a =
     let o = subst AreOctets w.split a in
     let one = octets_front w.one (w.two ++ w.three) o.1 in
-    let rest = back_octets w.one (w.two ++ w.three) o.1 in
+    let rest = octets_rest w.one (w.two ++ w.three) o.1 in
     let two = octets_front w.two w.three rest in
-    let three = back_octets w.two w.three rest in
+    let three = octets_rest w.two w.three rest in
     let row : Row = w.row in
     let first = place_long (nat_lt 0 row.count) (is_branch (slot_in row 0).access) (slot_in row 0) w.first w.one refl w.spells_first one in
     let second = place_long (nat_lt 1 row.count) (is_branch (slot_in row 1).access) (slot_in row 1) w.second w.two refl w.spells_second two in
@@ -115,7 +112,7 @@ decoded_long bs instr a e =
 fetch_leaves : (more pc : ℕ) (bs : List ℕ) → AreOctets bs → AllLeave IsLong (fetch more pc bs)
 unfolding fetch
 fetch_leaves zero pc bs a = omega arith
-fetch_leaves (suc more) pc bs a = go (λ byte small. fetch_leaves more pc (bs ++ byte ∷ []) (both_octets bs (byte ∷ []) a (small, tt))) (decoded bs) refl
+fetch_leaves (suc more) pc bs a = go (λ byte small. fetch_leaves more pc (bs ++ byte ∷ []) (octets-append bs (byte ∷ []) a (small, tt))) (decoded bs) refl
   where
     go : ((byte : ℕ) → byte < 256 → AllLeave IsLong (fetch more pc (bs ++ byte ∷ []))) → (d : Decoded) → decoded bs ≡ d
         → AllLeave IsLong (on_decoded d (Reads (past pc (length bs)) (λ byte. fetch more pc (bs ++ byte ∷ []))))

@@ -34,36 +34,32 @@ EndsWith (e ∷ f ∷ es) Over = (is_end e ≡ false) × EndsWith (f ∷ es) Ove
 abbrev Stops : ℕ → Step → Type 0
 Stops pid step = EndsWith step.entries (can_step step.after pid ≡ false)
 
-stops_ended : (n : ℕ) (images : List NamedImage) (F : FlatState) (p : Process) (ws : List ByteWrite) (status : ℕ) → Only n F.processes
-    → Stops p.pid (ended_step images F p ws status)
-stops_ended n images F p ws status k = λ h. end_applied n images (apply_writes F p.pid ws) p.pid p.regs status (only_written n F p.pid ws k)
+module _ (n : ℕ) (images : List NamedImage) (F : FlatState) (p : Process) where
+  stops_ended : (ws : List ByteWrite) (status : ℕ) → Only n F.processes → Stops p.pid (ended_step images F p ws status)
+  stops_ended ws status k = λ h. end_applied n images (apply_writes F p.pid ws) p.pid p.regs status (only_written n F p.pid ws k)
 
-stops_replied : (n : ℕ) (images : List NamedImage) (F : FlatState) (p : Process) (call : SystemCall) (effect : Effect) (reply : Reply) → Only n F.processes
-    → Stops p.pid (replied_step images F p call effect reply)
-stops_replied n images F p call effect (replies.Writes []) k = λ h. absurd cc
-stops_replied n images F p call effect (replies.Writes (byte ∷ bytes)) k = (refl, (λ h. absurd cc))
-stops_replied n images F p call effect (replies.Exits status) k = stops_ended n images F p effect.writes status k
-stops_replied n images F p call effect _ k = λ h. absurd cc
+  stops_replied : (call : SystemCall) (effect : Effect) (reply : Reply) → Only n F.processes → Stops p.pid (replied_step images F p call effect reply)
+  stops_replied call effect (replies.Writes []) k = λ h. absurd cc
+  stops_replied call effect (replies.Writes (byte ∷ bytes)) k = (refl, (λ h. absurd cc))
+  stops_replied call effect (replies.Exits status) k = stops_ended effect.writes status k
+  stops_replied call effect _ k = λ h. absurd cc
 
-stops_called : (n : ℕ) (images : List NamedImage) (F : FlatState) (p : Process) (s : Space) (refused : Bool) (effect : Effect)
-    (call : Option SystemCall) → Only n F.processes
-    → Stops p.pid (called_step images F p s refused effect call)
-stops_called n images F p s refused effect None k = stops_ended n images F p effect.writes 12 k
-stops_called n images F p s refused effect (Some call) k = stops_replied n images F p call effect (reply_behind images F p s refused call effect) k
+  stops_called : (s : Space) (refused : Bool) (effect : Effect) (call : Option SystemCall) → Only n F.processes
+      → Stops p.pid (called_step images F p s refused effect call)
+  stops_called s refused effect None k = stops_ended effect.writes 12 k
+  stops_called s refused effect (Some call) k = stops_replied call effect (reply_behind images F p s refused call effect) k
 
-stops_behind : (n : ℕ) (images : List NamedImage) (F : FlatState) (p : Process) (s : Space) (refused : Bool) (effect : Effect)
-    (number : Option ℤ) → Only n F.processes
-    → Stops p.pid (step_behind images F p s refused effect number)
-stops_behind n images F p s refused effect None k = λ h. absurd cc
-stops_behind n images F p s refused effect (Some number) k = stops_called n images F p s refused effect (call_of number) k
+  stops_behind : (s : Space) (refused : Bool) (effect : Effect) (number : Option ℤ) → Only n F.processes
+      → Stops p.pid (step_behind images F p s refused effect number)
+  stops_behind s refused effect None k = λ h. absurd cc
+  stops_behind s refused effect (Some number) k = stops_called s refused effect (call_of number) k
 
-stops_of : (n : ℕ) (images : List NamedImage) (F : FlatState) (p : Process) (s : Space) (refused : Bool) (result : Result Effect Refused) → Only n F.processes
-    → Stops p.pid (step_of images F p s refused result)
-stops_of n images F p s refused (Ok effect) k = stops_behind n images F p s refused effect effect.call k
-stops_of n images F p s refused (Err (Miss a w)) k = tt
-stops_of n images F p s true (Err (Below a)) k = stops_ended n images F p [] 11 k
-stops_of n images F p s false (Err (Below a)) k = λ h. absurd cc
-stops_of n images F p s refused (Err (Signal number)) k = stops_ended n images F p [] number k
+  stops_of : (s : Space) (refused : Bool) (result : Result Effect Refused) → Only n F.processes → Stops p.pid (step_of images F p s refused result)
+  stops_of s refused (Ok effect) k = stops_behind s refused effect effect.call k
+  stops_of s refused (Err (Miss a w)) k = tt
+  stops_of s true (Err (Below a)) k = stops_ended [] 11 k
+  stops_of s false (Err (Below a)) k = λ h. absurd cc
+  stops_of s refused (Err (Signal number)) k = stops_ended [] number k
 
 stops_step : (n : ℕ) (A : Inputs) (F : FlatState) (pid : ℕ) (refused : Bool) → Only n F.processes → Stops n (flat_step A F pid refused)
 unfolding flat_step

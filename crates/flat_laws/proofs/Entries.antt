@@ -45,7 +45,7 @@ carry_is false false h = refl
 carry_is true false h = absurd cc
 carry_is false true h = absurd cc
 
-entry_is : (e f : Entry) → same_entry e f ≡ true → e ≡ f
+pub entry_is : (e f : Entry) → same_entry e f ≡ true → e ≡ f
 entry_is (entries.Ran a n) (entries.Ran b m) h =
     let parts = and_parts (a == b) (n == m) h in
     ap (λ (x : ℕ). entries.Ran x n) (eqb-true a b parts.0) ∙ ap (λ (x : ℕ). entries.Ran b x) (eqb-true n m parts.1)

@@ -94,32 +94,30 @@ evaluated_covered memory base slot regs address l = go slot.access slot.size l
     go accesses.Address size k = covered_gives memory base 1 _
     go accesses.Branch size k = covered_gives memory base 1 _
 
-through_covered : (memory : Answers) (base : ℕ) (slot : Slot) (regs : Regs) (b : Base) → slot.size ≤ 1024
-    → Covered memory base 2 (evaluation_through slot regs b)
-unfolding evaluation_through
-through_covered memory base slot regs b l =
-    covered_bind memory base 1 1 (address_of regs slot.size b) _ (address_covered memory base regs slot.size b) (λ found e. evaluated_covered memory base slot found.0 found.1 l)
+module _ (memory : Answers) (base : ℕ) (slot : Slot) (regs : Regs) where
+  through_covered : (b : Base) → slot.size ≤ 1024 → Covered memory base 2 (evaluation_through slot regs b)
+  unfolding evaluation_through
+  through_covered b l =
+      covered_bind memory base 1 1 (address_of regs slot.size b) _ (address_covered memory base regs slot.size b) (λ found e. evaluated_covered memory base slot found.0 found.1 l)
 
--- an operand reads a pointer, and what it points to
-operand_covered : (memory : Answers) (base : ℕ) (slot : Slot) (regs : Regs) (operand : Operand) → slot.size ≤ 1024
-    → Covered memory base 2 (evaluation slot regs operand)
-unfolding evaluation
-operand_covered memory base slot regs (operands.Deferred reg) l = through_covered memory base slot regs (bases.Deferred reg) l
-operand_covered memory base slot regs (operands.AutoDec reg) l = through_covered memory base slot regs (bases.AutoDec reg) l
-operand_covered memory base slot regs (operands.AutoInc reg) l = through_covered memory base slot regs (bases.AutoInc reg) l
-operand_covered memory base slot regs (operands.AutoIncDef reg) l = through_covered memory base slot regs (bases.AutoIncDef reg) l
-operand_covered memory base slot regs (operands.Absolute address) l = through_covered memory base slot regs (bases.Absolute address) l
-operand_covered memory base slot regs (operands.Disp reg by deferred) l = through_covered memory base slot regs (bases.Disp reg by deferred) l
-operand_covered memory base slot regs (operands.Indexed index b) l =
-    covered_bind memory base 1 1 (address_of regs slot.size b) _ (address_covered memory base regs slot.size b)
-    (λ found e. evaluated_covered memory base slot found.0 (past found.1 (slot.size * register found.0 index)) l)
-operand_covered memory base slot regs _ l = covered_gives memory base 2 _
+  -- an operand reads a pointer, and what it points to
+  operand_covered : (operand : Operand) → slot.size ≤ 1024 → Covered memory base 2 (evaluation slot regs operand)
+  unfolding evaluation
+  operand_covered (operands.Deferred reg) l = through_covered (bases.Deferred reg) l
+  operand_covered (operands.AutoDec reg) l = through_covered (bases.AutoDec reg) l
+  operand_covered (operands.AutoInc reg) l = through_covered (bases.AutoInc reg) l
+  operand_covered (operands.AutoIncDef reg) l = through_covered (bases.AutoIncDef reg) l
+  operand_covered (operands.Absolute address) l = through_covered (bases.Absolute address) l
+  operand_covered (operands.Disp reg by deferred) l = through_covered (bases.Disp reg by deferred) l
+  operand_covered (operands.Indexed index b) l =
+      covered_bind memory base 1 1 (address_of regs slot.size b) _ (address_covered memory base regs slot.size b)
+      (λ found e. evaluated_covered memory base slot found.0 (past found.1 (slot.size * register found.0 index)) l)
+  operand_covered _ l = covered_gives memory base 2 _
 
-literal_covered : (memory : Answers) (base : ℕ) (slot : Slot) (regs : Regs) (operand : Operand) → operand ≡ operands.Literal 0
-    → Covered memory base 0 (evaluation slot regs operand)
-unfolding evaluation
-literal_covered memory base slot regs operand e =
-    subst (λ (o : Operand). Covered memory base 0 (evaluation slot regs o)) (sym e) (covered_gives memory base 0 _)
+  literal_covered : (operand : Operand) → operand ≡ operands.Literal 0 → Covered memory base 0 (evaluation slot regs operand)
+  unfolding evaluation
+  literal_covered operand e =
+      subst (λ (o : Operand). Covered memory base 0 (evaluation slot regs o)) (sym e) (covered_gives memory base 0 _)
 
 slot_small : (row : Row) (place : ℕ) → (slot_in row place).size ≤ 1024
 slot_small row place = size_small (slot_in row place) _ refl

@@ -61,37 +61,35 @@ none_refused false _ = tt
 none_refused true (Does regs change) = none_unless (wants_space change) regs change refl
 none_refused true _ = tt
 
-replied_form : (images : List NamedImage) (F : FlatState) (p : Process) (s : Space) (refused : Bool) (call : SystemCall) (effect : Effect) (reply : Reply)
-    → ReplyFits (apply_writes F p.pid effect.writes) reply → NoneRefused refused reply
-    → Formed images F p s refused (replied_step images F p call effect reply)
-replied_form images F p s refused call effect (Does regs change) m n = record { after = refl; may = m; wants = λ z. wants_none images F s change (n z); suits = tt }
-replied_form images F p s refused call effect (Writes []) m n = record { after = refl; may = tt; wants = λ z. refl; suits = tt }
-replied_form images F p s refused call effect (Writes (byte ∷ bytes)) m n = record { after = refl; may = tt; wants = λ z. refl; suits = tt }
-replied_form images F p s refused call effect Waits m n = record { after = refl; may = tt; wants = λ z. refl; suits = refl }
-replied_form images F p s refused call effect _ m n = record { after = refl; may = tt; wants = λ z. refl; suits = tt }
+module _ (images : List NamedImage) (F : FlatState) (p : Process) (s : Space) where
+  replied_form : (refused : Bool) (call : SystemCall) (effect : Effect) (reply : Reply) → ReplyFits (apply_writes F p.pid effect.writes) reply
+      → NoneRefused refused reply → Formed images F p s refused (replied_step images F p call effect reply)
+  replied_form refused call effect (Does regs change) m n = record { after = refl; may = m; wants = λ z. wants_none images F s change (n z); suits = tt }
+  replied_form refused call effect (Writes []) m n = record { after = refl; may = tt; wants = λ z. refl; suits = tt }
+  replied_form refused call effect (Writes (byte ∷ bytes)) m n = record { after = refl; may = tt; wants = λ z. refl; suits = tt }
+  replied_form refused call effect Waits m n = record { after = refl; may = tt; wants = λ z. refl; suits = refl }
+  replied_form refused call effect _ m n = record { after = refl; may = tt; wants = λ z. refl; suits = tt }
 
-called_form : (images : List NamedImage) (F : FlatState) (p : Process) (s : Space) (refused : Bool) (effect : Effect) (o : Option SystemCall)
-    → IsNumbered F → Formed images F p s refused (called_step images F p s refused effect o)
-called_form images F p s refused effect None h = record { after = refl; may = tt; wants = λ z. refl; suits = tt }
-called_form images F p s refused effect (Some call) h =
-    replied_form images F p s refused call effect (reply_behind images F p s refused call effect)
-    (reply_fits images (apply_writes F p.pid effect.writes) (answers_of (puts s effect.writes)) (written_process p s effect.writes) (puts s effect.writes) call effect.regs refused
-    (subst (λ (ns : List ℕ). AllDistinct ns) (sym (pids_written F p.pid effect.writes)) h.pids))
-    (none_refused refused (Rattle.flat_model.specs.Calls.or_fault (Rattle.user_vax.specs.Program.run (answers_of (puts s effect.writes))
-    (Rattle.flat_model.specs.Calls.reply_of images (apply_writes F p.pid effect.writes) (written_process p s effect.writes) (puts s effect.writes) call effect.regs))))
+  called_form : (refused : Bool) (effect : Effect) (o : Option SystemCall)
+      → IsNumbered F → Formed images F p s refused (called_step images F p s refused effect o)
+  called_form refused effect None h = record { after = refl; may = tt; wants = λ z. refl; suits = tt }
+  called_form refused effect (Some call) h =
+      replied_form refused call effect (reply_behind images F p s refused call effect)
+      (reply_fits images (apply_writes F p.pid effect.writes) (answers_of (puts s effect.writes)) (written_process p s effect.writes) (puts s effect.writes) call effect.regs refused
+      (subst (λ (ns : List ℕ). AllDistinct ns) (sym (pids_written F p.pid effect.writes)) h.pids))
+      (none_refused refused (Rattle.flat_model.specs.Calls.or_fault (Rattle.user_vax.specs.Program.run (answers_of (puts s effect.writes))
+      (Rattle.flat_model.specs.Calls.reply_of images (apply_writes F p.pid effect.writes) (written_process p s effect.writes) (puts s effect.writes) call effect.regs))))
 
-behind_form : (images : List NamedImage) (F : FlatState) (p : Process) (s : Space) (refused : Bool) (effect : Effect) (o : Option ℤ) → IsNumbered F
-    → Formed images F p s refused (step_behind images F p s refused effect o)
-behind_form images F p s refused effect None h = record { after = refl; may = tt; wants = λ z. refl; suits = refl }
-behind_form images F p s refused effect (Some number) h = called_form images F p s refused effect (call_of number) h
+  behind_form : (refused : Bool) (effect : Effect) (o : Option ℤ) → IsNumbered F → Formed images F p s refused (step_behind images F p s refused effect o)
+  behind_form refused effect None h = record { after = refl; may = tt; wants = λ z. refl; suits = refl }
+  behind_form refused effect (Some number) h = called_form refused effect (call_of number) h
 
-of_form : (images : List NamedImage) (F : FlatState) (p : Process) (s : Space) (refused : Bool) (r : Result Effect Refused) → IsNumbered F
-    → Form images F p s refused (step_of images F p s refused r)
-of_form images F p s refused (Ok effect) h = Came (behind_form images F p s refused effect effect.call h)
-of_form images F p s refused (Err (Miss address write)) h = Missed refl
-of_form images F p s true (Err (Below address)) h = Came (record { after = refl; may = tt; wants = λ z. refl; suits = tt })
-of_form images F p s false (Err (Below address)) h = Came (record { after = refl; may = tt; wants = λ z. absurd cc; suits = tt })
-of_form images F p s refused (Err (Signal number)) h = Came (record { after = refl; may = tt; wants = λ z. refl; suits = tt })
+  of_form : (refused : Bool) (r : Result Effect Refused) → IsNumbered F → Form images F p s refused (step_of images F p s refused r)
+  of_form refused (Ok effect) h = Came (behind_form refused effect effect.call h)
+  of_form refused (Err (Miss address write)) h = Missed refl
+  of_form true (Err (Below address)) h = Came (record { after = refl; may = tt; wants = λ z. refl; suits = tt })
+  of_form false (Err (Below address)) h = Came (record { after = refl; may = tt; wants = λ z. absurd cc; suits = tt })
+  of_form refused (Err (Signal number)) h = Came (record { after = refl; may = tt; wants = λ z. refl; suits = tt })
 
 pub step_form : (A : Inputs) (F : FlatState) (pid : ℕ) (refused : Bool) (q : Process) (s : Space) → IsNumbered F → process_of F pid ≡ Some q
     → q.holding ≡ Holds s → Form A.images F q s refused (flat_step A F pid refused)

@@ -4,8 +4,9 @@ use Rattle.aout_image.specs.Image.{Loaded, judged_image, text_pages_of, image_da
 use Rattle.aout_image.proofs.Images.{IsFileOf, image_of-is}
 use Rattle.flat_state.specs.Flat.{NamedImage}
 use Rattle.vax_code.specs.Grammar.{AreOctets}
+use Rattle.vax_code.proofs.Readers.{octets-append}
 use Rattle.flat_laws.specs.Longwords.{ImageFits}
-use Rattle.flat_laws.proofs.Octets.{both_octets, take_octets, zero_octets}
+use Rattle.flat_laws.proofs.Octets.{take_octets, zero_octets}
 
 drop_octets : (n : ℕ) (xs : List ℕ) → AreOctets xs → AreOctets (drop n xs)
 drop_octets zero xs a = a
@@ -14,7 +15,7 @@ drop_octets (suc n) (x ∷ xs) a = drop_octets n xs a.1
 
 paged_octets : (pages given offset : ℕ) (xs : List ℕ) → AreOctets xs → AreOctets (in_pages pages (take given (drop offset xs)))
 paged_octets pages given offset xs a =
-    both_octets (take given (drop offset xs)) (replicate (1024 * pages - length (take given (drop offset xs))) 0)
+    octets-append (take given (drop offset xs)) (replicate (1024 * pages - length (take given (drop offset xs))) 0)
     (take_octets given (drop offset xs) (drop_octets offset xs a)) (zero_octets (1024 * pages - length (take given (drop offset xs))))
 
 pub file_fits : (named : NamedImage) (file : List ℕ) → judged_image file ≡ Ok named.image → AreOctets file → AreOctets named.name → ImageFits named

@@ -20,45 +20,44 @@ use Rattle.flat_laws.proofs.Fetched.{IsFetched, within_fetch, evaluations_covere
 use Rattle.flat_laws.proofs.Stack.{AreWrittenAt, within_tests, IsLight}
 use Rattle.flat_laws.proofs.Computing.{computation_modest}
 
-tested_covered : (memory : Answers) (base start : ℕ) (effect : Effect) → AreWrittenAt start effect.writes → Covered memory base 1 (tested_effect effect)
-unfolding tested_effect
-tested_covered memory base start effect h =
-    covered_bind memory base 1 0 (write_tests effect.writes) _ (within_one memory base start (λ _. Unit {0}) (write_tests effect.writes) (within_tests start effect.writes h))
-    (λ _ e. covered_gives memory base 0 effect)
+module _ (memory : Answers) (base : ℕ) where
+  tested_covered : (start : ℕ) (effect : Effect) → AreWrittenAt start effect.writes → Covered memory base 1 (tested_effect effect)
+  unfolding tested_effect
+  tested_covered start effect h =
+      covered_bind memory base 1 0 (write_tests effect.writes) _ (within_one memory base start (λ _. Unit {0}) (write_tests effect.writes) (within_tests start effect.writes h))
+      (λ _ e. covered_gives memory base 0 effect)
 
--- what an instruction other than a call computes, and the tests of its bytes
-modest_covered : (memory : Answers) (base : ℕ) (name : Name) (regs : Regs) (a b c : Evaluated) → is_chmk name ≡ false
-    → Covered memory base 3 (computation name regs a b c >>= tested_effect)
-modest_covered memory base name regs a b c other =
-    let modest = computation_modest name regs a b c other in
-    covered_bind memory base 2 1 (computation name regs a b c) tested_effect (modest.covered memory base) (λ effect e.
-    let light : IsLight effect = yields_ok memory IsLight (computation name regs a b c) effect modest.light e in
-    tested_covered memory base light.start effect light.near)
+  -- what an instruction other than a call computes, and the tests of its bytes
+  modest_covered : (name : Name) (regs : Regs) (a b c : Evaluated) → is_chmk name ≡ false
+      → Covered memory base 3 (computation name regs a b c >>= tested_effect)
+  modest_covered name regs a b c other =
+      let modest = computation_modest name regs a b c other in
+      covered_bind memory base 2 1 (computation name regs a b c) tested_effect (modest.covered memory base) (λ effect e.
+      let light : IsLight effect = yields_ok memory IsLight (computation name regs a b c) effect modest.light e in
+      tested_covered light.start effect light.near)
 
--- a call computes nothing of memory
-call_covered : (memory : Answers) (base : ℕ) (name : Name) (regs : Regs) (a b c : Evaluated) → is_chmk name ≡ true
-    → Covered memory base 0 (computation name regs a b c >>= tested_effect)
-unfolding computation tested_effect write_tests
-call_covered memory base names.Chmk regs a b c chmk = covered_gives memory base 0 _
-call_covered memory base _ regs a b c chmk = absurd cc
+  -- a call computes nothing of memory
+  call_covered : (name : Name) (regs : Regs) (a b c : Evaluated) → is_chmk name ≡ true → Covered memory base 0 (computation name regs a b c >>= tested_effect)
+  unfolding computation tested_effect write_tests
+  call_covered names.Chmk regs a b c chmk = covered_gives memory base 0 _
+  call_covered _ regs a b c chmk = absurd cc
 
-computed_covered : (memory : Answers) (base : ℕ) (name : Name) (regs : Regs) (a b c : Evaluated)
-    → Covered memory base 3 (computation name regs a b c >>= tested_effect)
-computed_covered memory base name regs a b c = go (is_chmk name) refl
-  where
-    go : (chmk : Bool) → is_chmk name ≡ chmk → Covered memory base 3 (computation name regs a b c >>= tested_effect)
-    go true e = covered_more memory base 0 3 _ (omega arith) (call_covered memory base name regs a b c e)
-    go false e = modest_covered memory base name regs a b c e
+  computed_covered : (name : Name) (regs : Regs) (a b c : Evaluated) → Covered memory base 3 (computation name regs a b c >>= tested_effect)
+  computed_covered name regs a b c = go (is_chmk name) refl
+    where
+      go : (chmk : Bool) → is_chmk name ≡ chmk → Covered memory base 3 (computation name regs a b c >>= tested_effect)
+      go true e = covered_more memory base 0 3 _ (omega arith) (call_covered name regs a b c e)
+      go false e = modest_covered name regs a b c e
 
-execution_covered : (memory : Answers) (base : ℕ) (row : Row) (regs : Regs) (instr : Instr) → Covered memory base 9 (execution row regs instr)
-unfolding execution
-execution_covered memory base row regs instr =
-    covered_bind memory base 6 3 (evaluations row regs instr) _ (evaluations_covered memory base row regs instr) (λ all e. computed_covered memory base row.name all.0 all.1 all.2 all.3)
+  execution_covered : (row : Row) (regs : Regs) (instr : Instr) → Covered memory base 9 (execution row regs instr)
+  unfolding execution
+  execution_covered row regs instr =
+      covered_bind memory base 6 3 (evaluations row regs instr) _ (evaluations_covered memory base row regs instr) (λ all e. computed_covered row.name all.0 all.1 all.2 all.3)
 
-by_covered : (memory : Answers) (base : ℕ) (row : Option Row) (regs : Regs) (instr : Instr) → Covered memory base 9 (execution_by row regs instr)
-unfolding execution_by
-by_covered memory base None regs instr = covered_refuses memory base 9 4
-by_covered memory base (Some row) regs instr = execution_covered memory base row (with_register regs 15 (past (register regs 15) instr.length)) instr
+  by_covered : (row : Option Row) (regs : Regs) (instr : Instr) → Covered memory base 9 (execution_by row regs instr)
+  unfolding execution_by
+  by_covered None regs instr = covered_refuses memory base 9 4
+  by_covered (Some row) regs instr = execution_covered row (with_register regs 15 (past (register regs 15) instr.length)) instr
 
 -- each access of an instruction is near PC or one of nine starts
 pub instruction_covered : (memory : Answers) (regs : Regs) → Covered memory (register regs 15) 9 (instruction regs)

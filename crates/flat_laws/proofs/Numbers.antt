@@ -68,40 +68,38 @@ writes_kept F of ws h = go (process_of F of) refl
 
 -- Steps.
 
-after_kept : (images : List NamedImage) (F : FlatState) (p : Process) (ws : List ByteWrite) (regs : Regs) (change : Change)
-    → NamesChild (apply_writes F p.pid ws) change → IsNumbered F
-    → IsNumbered (apply_change images (apply_writes F p.pid ws) p.pid regs change)
-after_kept images F p ws regs change fits h = change_kept images (apply_writes F p.pid ws) p.pid regs change fits (writes_kept F p.pid ws h)
+module _ (images : List NamedImage) (F : FlatState) (p : Process) where
+  after_kept : (ws : List ByteWrite) (regs : Regs) (change : Change) → NamesChild (apply_writes F p.pid ws) change → IsNumbered F
+      → IsNumbered (apply_change images (apply_writes F p.pid ws) p.pid regs change)
+  after_kept ws regs change fits h = change_kept images (apply_writes F p.pid ws) p.pid regs change fits (writes_kept F p.pid ws h)
 
-replied_kept : (images : List NamedImage) (F : FlatState) (p : Process) (call : SystemCall) (effect : Effect) (reply : Reply)
-    → ReplyFits (apply_writes F p.pid effect.writes) reply → IsNumbered F
-    → IsNumbered (replied_step images F p call effect reply).after
-replied_kept images F p call effect (replies.Does regs change) fits h = after_kept images F p effect.writes regs change fits h
-replied_kept images F p call effect replies.Waits fits h = after_kept images F p effect.writes p.regs Sleep tt h
-replied_kept images F p call effect (replies.Exits status) fits h = after_kept images F p effect.writes p.regs (End status) tt h
-replied_kept images F p call effect _ fits h = after_kept images F p effect.writes _ Keep tt h
+  replied_kept : (call : SystemCall) (effect : Effect) (reply : Reply) → ReplyFits (apply_writes F p.pid effect.writes) reply → IsNumbered F
+      → IsNumbered (replied_step images F p call effect reply).after
+  replied_kept call effect (replies.Does regs change) fits h = after_kept effect.writes regs change fits h
+  replied_kept call effect replies.Waits fits h = after_kept effect.writes p.regs Sleep tt h
+  replied_kept call effect (replies.Exits status) fits h = after_kept effect.writes p.regs (End status) tt h
+  replied_kept call effect _ fits h = after_kept effect.writes _ Keep tt h
 
-called_kept : (images : List NamedImage) (F : FlatState) (p : Process) (t : Space) (refused : Bool) (effect : Effect) (call : Option SystemCall)
-    → IsNumbered F → IsNumbered (called_step images F p t refused effect call).after
-called_kept images F p t refused effect None h = after_kept images F p effect.writes p.regs (End 12) tt h
-called_kept images F p t refused effect (Some call) h =
-    replied_kept images F p call effect (reply_behind images F p t refused call effect)
-    (reply_fits images (apply_writes F p.pid effect.writes) (answers_of (puts t effect.writes)) (written_process p t effect.writes) (puts t effect.writes) call effect.regs refused
-    (subst (λ (ns : List ℕ). AllDistinct ns) (sym (pids_written F p.pid effect.writes)) h.pids))
-    h
+  called_kept : (t : Space) (refused : Bool) (effect : Effect) (call : Option SystemCall)
+      → IsNumbered F → IsNumbered (called_step images F p t refused effect call).after
+  called_kept t refused effect None h = after_kept effect.writes p.regs (End 12) tt h
+  called_kept t refused effect (Some call) h =
+      replied_kept call effect (reply_behind images F p t refused call effect)
+      (reply_fits images (apply_writes F p.pid effect.writes) (answers_of (puts t effect.writes)) (written_process p t effect.writes) (puts t effect.writes) call effect.regs refused
+      (subst (λ (ns : List ℕ). AllDistinct ns) (sym (pids_written F p.pid effect.writes)) h.pids))
+      h
 
-behind_kept : (images : List NamedImage) (F : FlatState) (p : Process) (t : Space) (refused : Bool) (effect : Effect) (number : Option ℤ)
-    → IsNumbered F → IsNumbered (step_behind images F p t refused effect number).after
-behind_kept images F p t refused effect None h = after_kept images F p effect.writes effect.regs Keep tt h
-behind_kept images F p t refused effect (Some number) h = called_kept images F p t refused effect (call_of number) h
+  behind_kept : (t : Space) (refused : Bool) (effect : Effect) (number : Option ℤ)
+      → IsNumbered F → IsNumbered (step_behind images F p t refused effect number).after
+  behind_kept t refused effect None h = after_kept effect.writes effect.regs Keep tt h
+  behind_kept t refused effect (Some number) h = called_kept t refused effect (call_of number) h
 
-of_kept : (images : List NamedImage) (F : FlatState) (p : Process) (t : Space) (refused : Bool) (result : Result Effect Refusal) → IsNumbered F
-    → IsNumbered (step_of images F p t refused result).after
-of_kept images F p t refused (Ok effect) h = behind_kept images F p t refused effect effect.call h
-of_kept images F p t refused (Err (Miss a w)) h = h
-of_kept images F p t true (Err (Below a)) h = after_kept images F p [] p.regs (End 11) tt h
-of_kept images F p t false (Err (Below a)) h = after_kept images F p [] p.regs _ tt h
-of_kept images F p t refused (Err (Signal n)) h = after_kept images F p [] p.regs (End n) tt h
+  of_kept : (t : Space) (refused : Bool) (result : Result Effect Refusal) → IsNumbered F → IsNumbered (step_of images F p t refused result).after
+  of_kept t refused (Ok effect) h = behind_kept t refused effect effect.call h
+  of_kept t refused (Err (Miss a w)) h = h
+  of_kept t true (Err (Below a)) h = after_kept [] p.regs (End 11) tt h
+  of_kept t false (Err (Below a)) h = after_kept [] p.regs _ tt h
+  of_kept t refused (Err (Signal n)) h = after_kept [] p.regs (End n) tt h
 
 pub step_numbered : (A : Inputs) (F : FlatState) (of : ℕ) (refused : Bool) → IsNumbered F → IsNumbered (flat_step A F of refused).after
 unfolding flat_step

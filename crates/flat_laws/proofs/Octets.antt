@@ -8,11 +8,8 @@ use Rattle.flat_state.specs.Flat.{strings_of, in_longwords, string_area, strings
 use Rattle.flat_state.specs.Change.{resized_bytes}
 use Rattle.aout_image.specs.Image.{word_bytes}
 use Rattle.vax_code.specs.Grammar.{AreOctets}
+use Rattle.vax_code.proofs.Readers.{octets-append}
 use Rattle.flat_laws.specs.Longwords.{HasOctets, AreWritten}
-
-pub both_octets : (xs ys : List ℕ) → AreOctets xs → AreOctets ys → AreOctets (xs ++ ys)
-both_octets [] ys a b = b
-both_octets (x ∷ xs) ys a b = (a.0, both_octets xs ys a.1 b)
 
 pub take_octets : (n : ℕ) (xs : List ℕ) → AreOctets xs → AreOctets (take n xs)
 take_octets zero xs a = tt
@@ -36,7 +33,7 @@ index_octets (x ∷ xs) (suc i) a = index_octets xs i a.1
 -- Spaces.
 
 pub octets_resized : (pages : ℕ) (xs : List ℕ) → AreOctets xs → AreOctets (resized_bytes pages xs)
-octets_resized pages xs a = both_octets (take (1024 * pages) xs) (replicate (1024 * pages - length xs) 0) (take_octets (1024 * pages) xs a) (zero_octets (1024 * pages - length xs))
+octets_resized pages xs a = octets-append (take (1024 * pages) xs) (replicate (1024 * pages - length xs) 0) (take_octets (1024 * pages) xs a) (zero_octets (1024 * pages - length xs))
 
 put_octets : (s : Space) (spot : Spot) (byte : ℕ) → byte < 256 → HasOctets s → HasOctets (put_at s spot byte)
 put_octets s (spots.Data i) byte b o = record { text = o.text; «data» = set_octets s.data_bytes i byte b o.data; stack = o.stack }
@@ -55,7 +52,7 @@ word_octets n = (omega arith, (omega arith, (omega arith, (omega arith, tt))))
 pointer_octets : (arguments : List (List ℕ)) (address : ℕ) → AreOctets (pointers_from address arguments)
 pointer_octets [] address = tt
 pointer_octets (argument ∷ more) address =
-    both_octets (word_bytes address) (pointers_from (address + length argument + 1) more) (word_octets address) (pointer_octets more (address + length argument + 1))
+    octets-append (word_bytes address) (pointers_from (address + length argument + 1) more) (word_octets address) (pointer_octets more (address + length argument + 1))
 
 abbrev pub AreStrings : List (List ℕ) → Type 0
 AreStrings [] = Unit {0}
@@ -63,20 +60,20 @@ AreStrings (string ∷ strings) = AreOctets string × AreStrings strings
 
 strings_octets : (arguments : List (List ℕ)) → AreStrings arguments → AreOctets (strings_of arguments)
 strings_octets [] a = tt
-strings_octets (argument ∷ more) a = both_octets (argument ++ 0 ∷ []) (strings_of more) (both_octets argument (0 ∷ []) a.0 (omega arith, tt)) (strings_octets more a.1)
+strings_octets (argument ∷ more) a = octets-append (argument ++ 0 ∷ []) (strings_of more) (octets-append argument (0 ∷ []) a.0 (omega arith, tt)) (strings_octets more a.1)
 
 area_octets : (arguments : List (List ℕ)) → AreStrings arguments → AreOctets (argument_area arguments)
 unfolding argument_area
 area_octets arguments a =
     let front : List ℕ = word_bytes (length arguments) ++ pointers_from (strings_at arguments) arguments in
     let rest : ℕ = in_longwords (length (strings_of arguments)) - length (strings_of arguments) in
-    let strings = both_octets (strings_of arguments) (replicate rest 0) (strings_octets arguments a) (zero_octets rest) in
-    let one = both_octets (word_bytes (length arguments)) (pointers_from (strings_at arguments) arguments) (word_octets (length arguments)) (pointer_octets arguments (strings_at arguments)) in
-    let two = both_octets front (word_bytes 0) one (word_octets 0) in
-    let three = both_octets (front ++ word_bytes 0) (word_bytes 0) two (word_octets 0) in
-    let four = both_octets (front ++ word_bytes 0 ++ word_bytes 0) (string_area arguments) three strings in
-    both_octets (front ++ word_bytes 0 ++ word_bytes 0 ++ string_area arguments) (word_bytes 0) four (word_octets 0)
+    let strings = octets-append (strings_of arguments) (replicate rest 0) (strings_octets arguments a) (zero_octets rest) in
+    let one = octets-append (word_bytes (length arguments)) (pointers_from (strings_at arguments) arguments) (word_octets (length arguments)) (pointer_octets arguments (strings_at arguments)) in
+    let two = octets-append front (word_bytes 0) one (word_octets 0) in
+    let three = octets-append (front ++ word_bytes 0) (word_bytes 0) two (word_octets 0) in
+    let four = octets-append (front ++ word_bytes 0 ++ word_bytes 0) (string_area arguments) three strings in
+    octets-append (front ++ word_bytes 0 ++ word_bytes 0 ++ string_area arguments) (word_bytes 0) four (word_octets 0)
 
 pub start_page_octets : (arguments : List (List ℕ)) → AreStrings arguments → AreOctets (start_page arguments)
 start_page_octets arguments a =
-    both_octets (replicate (1024 - length (argument_area arguments)) 0) (argument_area arguments) (zero_octets (1024 - length (argument_area arguments))) (area_octets arguments a)
+    octets-append (replicate (1024 - length (argument_area arguments)) 0) (argument_area arguments) (zero_octets (1024 - length (argument_area arguments))) (area_octets arguments a)

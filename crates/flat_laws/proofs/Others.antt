@@ -127,43 +127,40 @@ pids_written F of ws = go (process_of F of)
 
 -- Steps.
 
-with_stays : (images : List NamedImage) (F : FlatState) (p : Process) (ws : List ByteWrite) (regs : Regs) (change : Change) (pid : ℕ) (s : Space)
-    → NamesChild (apply_writes F p.pid ws) change → p.pid ≢ pid → FoundHolding F.processes pid s
-    → FoundHolding (apply_change images (apply_writes F p.pid ws) p.pid regs change).processes pid s
-with_stays images F p ws regs change pid s fits other h =
-    change_stays images (apply_writes F p.pid ws) p.pid regs change pid s fits other (writes_stay F p.pid ws pid s other h)
+module _ (images : List NamedImage) (F : FlatState) (p : Process) where
+  with_stays : (ws : List ByteWrite) (regs : Regs) (change : Change) (pid : ℕ) (s : Space) → NamesChild (apply_writes F p.pid ws) change → p.pid ≢ pid
+      → FoundHolding F.processes pid s → FoundHolding (apply_change images (apply_writes F p.pid ws) p.pid regs change).processes pid s
+  with_stays ws regs change pid s fits other h =
+      change_stays images (apply_writes F p.pid ws) p.pid regs change pid s fits other (writes_stay F p.pid ws pid s other h)
 
-replied_stays : (images : List NamedImage) (F : FlatState) (p : Process) (call : SystemCall) (effect : Effect) (reply : Reply) (pid : ℕ) (s : Space)
-    → ReplyFits (apply_writes F p.pid effect.writes) reply → p.pid ≢ pid → FoundHolding F.processes pid s
-    → FoundHolding (replied_step images F p call effect reply).after.processes pid s
-replied_stays images F p call effect (replies.Does regs change) pid s fits other h = with_stays images F p effect.writes regs change pid s fits other h
-replied_stays images F p call effect replies.Waits pid s fits other h = with_stays images F p effect.writes p.regs Sleep pid s tt other h
-replied_stays images F p call effect (replies.Exits status) pid s fits other h = with_stays images F p effect.writes p.regs (End status) pid s tt other h
-replied_stays images F p call effect _ pid s fits other h = with_stays images F p effect.writes _ Keep pid s tt other h
+  replied_stays : (call : SystemCall) (effect : Effect) (reply : Reply) (pid : ℕ) (s : Space) → ReplyFits (apply_writes F p.pid effect.writes) reply
+      → p.pid ≢ pid → FoundHolding F.processes pid s → FoundHolding (replied_step images F p call effect reply).after.processes pid s
+  replied_stays call effect (replies.Does regs change) pid s fits other h = with_stays effect.writes regs change pid s fits other h
+  replied_stays call effect replies.Waits pid s fits other h = with_stays effect.writes p.regs Sleep pid s tt other h
+  replied_stays call effect (replies.Exits status) pid s fits other h = with_stays effect.writes p.regs (End status) pid s tt other h
+  replied_stays call effect _ pid s fits other h = with_stays effect.writes _ Keep pid s tt other h
 
-called_stays : (images : List NamedImage) (F : FlatState) (p : Process) (t : Space) (refused : Bool) (effect : Effect)
-    (call : Option SystemCall) (pid : ℕ) (s : Space)
-    → AllDistinct (pids_of F) → p.pid ≢ pid → FoundHolding F.processes pid s → FoundHolding (called_step images F p t refused effect call).after.processes pid s
-called_stays images F p t refused effect None pid s own other h = with_stays images F p effect.writes p.regs (End 12) pid s tt other h
-called_stays images F p t refused effect (Some call) pid s own other h =
-    replied_stays images F p call effect (reply_behind images F p t refused call effect) pid s
-    (reply_fits images (apply_writes F p.pid effect.writes) (answers_of (puts t effect.writes)) (written_process p t effect.writes) (puts t effect.writes) call effect.regs refused
-    (subst (λ (ns : List ℕ). AllDistinct ns) (sym (pids_written F p.pid effect.writes)) own))
-    other h
+  called_stays : (t : Space) (refused : Bool) (effect : Effect) (call : Option SystemCall) (pid : ℕ) (s : Space) → AllDistinct (pids_of F) → p.pid ≢ pid
+      → FoundHolding F.processes pid s → FoundHolding (called_step images F p t refused effect call).after.processes pid s
+  called_stays t refused effect None pid s own other h = with_stays effect.writes p.regs (End 12) pid s tt other h
+  called_stays t refused effect (Some call) pid s own other h =
+      replied_stays call effect (reply_behind images F p t refused call effect) pid s
+      (reply_fits images (apply_writes F p.pid effect.writes) (answers_of (puts t effect.writes)) (written_process p t effect.writes) (puts t effect.writes) call effect.regs refused
+      (subst (λ (ns : List ℕ). AllDistinct ns) (sym (pids_written F p.pid effect.writes)) own))
+      other h
 
-behind_stays : (images : List NamedImage) (F : FlatState) (p : Process) (t : Space) (refused : Bool) (effect : Effect) (number : Option ℤ) (pid : ℕ) (s : Space)
-    → AllDistinct (pids_of F) → p.pid ≢ pid → FoundHolding F.processes pid s
-    → FoundHolding (step_behind images F p t refused effect number).after.processes pid s
-behind_stays images F p t refused effect None pid s own other h = with_stays images F p effect.writes effect.regs Keep pid s tt other h
-behind_stays images F p t refused effect (Some number) pid s own other h = called_stays images F p t refused effect (call_of number) pid s own other h
+  behind_stays : (t : Space) (refused : Bool) (effect : Effect) (number : Option ℤ) (pid : ℕ) (s : Space) → AllDistinct (pids_of F) → p.pid ≢ pid
+      → FoundHolding F.processes pid s → FoundHolding (step_behind images F p t refused effect number).after.processes pid s
+  behind_stays t refused effect None pid s own other h = with_stays effect.writes effect.regs Keep pid s tt other h
+  behind_stays t refused effect (Some number) pid s own other h = called_stays t refused effect (call_of number) pid s own other h
 
-of_stays : (images : List NamedImage) (F : FlatState) (p : Process) (t : Space) (refused : Bool) (result : Result Effect Refused) (pid : ℕ) (s : Space)
-    → AllDistinct (pids_of F) → p.pid ≢ pid → FoundHolding F.processes pid s → FoundHolding (step_of images F p t refused result).after.processes pid s
-of_stays images F p t refused (Ok effect) pid s own other h = behind_stays images F p t refused effect effect.call pid s own other h
-of_stays images F p t refused (Err (Miss a w)) pid s own other h = h
-of_stays images F p t true (Err (Below a)) pid s own other h = with_stays images F p [] p.regs (End 11) pid s tt other h
-of_stays images F p t false (Err (Below a)) pid s own other h = with_stays images F p [] p.regs _ pid s tt other h
-of_stays images F p t refused (Err (Signal n)) pid s own other h = with_stays images F p [] p.regs (End n) pid s tt other h
+  of_stays : (t : Space) (refused : Bool) (result : Result Effect Refused) (pid : ℕ) (s : Space)
+      → AllDistinct (pids_of F) → p.pid ≢ pid → FoundHolding F.processes pid s → FoundHolding (step_of images F p t refused result).after.processes pid s
+  of_stays t refused (Ok effect) pid s own other h = behind_stays t refused effect effect.call pid s own other h
+  of_stays t refused (Err (Miss a w)) pid s own other h = h
+  of_stays t true (Err (Below a)) pid s own other h = with_stays [] p.regs (End 11) pid s tt other h
+  of_stays t false (Err (Below a)) pid s own other h = with_stays [] p.regs _ pid s tt other h
+  of_stays t refused (Err (Signal n)) pid s own other h = with_stays [] p.regs (End n) pid s tt other h
 
 step_stays : (A : Inputs) (F : FlatState) (of : ℕ) (refused : Bool) (pid : ℕ) (s : Space) → AllDistinct (pids_of F) → of ≢ pid
     → FoundHolding F.processes pid s → FoundHolding (flat_step A F of refused).after.processes pid s

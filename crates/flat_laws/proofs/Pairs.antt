@@ -20,34 +20,32 @@ start_same : (A B : Inputs) → B.images ≡ A.images → B.first ≡ A.first �
 start_same A B images first =
     ap (λ (named : List NamedImage). start_point record A { images = named; first = B.first }) images ∙ ap (λ (ns : List ℕ). start_point record A { first = ns }) first
 
-leads_first : (A B : Inputs) (journal other : List Entry) (p q : Point) → IsPair A B journal other p q
-    → flat_units A (Some (start_point A)) (acts_of journal) ≡ Some p
-leads_first A B journal other p q pair =
-    let one : IsSingle A journal p = pair.one in
-    sym (acts_lead A (units_of journal) (Some (start_point A))) ∙ one.runs
+module _ (A B : Inputs) (journal other : List Entry) (p q : Point) where
+  leads_first : IsPair A B journal other p q → flat_units A (Some (start_point A)) (acts_of journal) ≡ Some p
+  leads_first pair =
+      let one : IsSingle A journal p = pair.one in
+      sym (acts_lead A (units_of journal) (Some (start_point A))) ∙ one.runs
 
-leads_second : (A B : Inputs) (journal other : List Entry) (p q : Point) → IsPair A B journal other p q
-    → flat_units A (Some (start_point A)) (acts_of other) ≡ Some q
-leads_second A B journal other p q pair =
-    let two : IsSingle B other q = pair.two in
-    sym (acts_lead A (units_of other) (Some (start_point A))) ∙ sym (units_same A B (units_of other) (Some (start_point A)) pair.images)
-    ∙ ap (λ (point : Point). flat_units B (Some point) (units_of other)) (sym (start_same A B pair.images pair.first)) ∙ two.runs
+  leads_second : IsPair A B journal other p q → flat_units A (Some (start_point A)) (acts_of other) ≡ Some q
+  leads_second pair =
+      let two : IsSingle B other q = pair.two in
+      sym (acts_lead A (units_of other) (Some (start_point A))) ∙ sym (units_same A B (units_of other) (Some (start_point A)) pair.images)
+      ∙ ap (λ (point : Point). flat_units B (Some point) (units_of other)) (sym (start_same A B pair.images pair.first)) ∙ two.runs
 
-compare_runs : (A B : Inputs) (journal other : List Entry) (p q : Point) → IsPair A B journal other p q → Compared (acts_of journal) (acts_of other) p q
-compare_runs A B journal other p q pair =
-    let one : IsSingle A journal p = pair.one in
-    let two : IsSingle B other q = pair.two in
-    compare A (acts_of journal) (acts_of other) (start_point A) p q (only_started A.images A.first one.image one.first)
-    (plain_acts journal one.served one.childless) (plain_acts other two.served two.childless)
-    (leads_first A B journal other p q pair) (leads_second A B journal other p q pair)
+  compare_runs : IsPair A B journal other p q → Compared (acts_of journal) (acts_of other) p q
+  compare_runs pair =
+      let one : IsSingle A journal p = pair.one in
+      let two : IsSingle B other q = pair.two in
+      compare A (acts_of journal) (acts_of other) (start_point A) p q (only_started A.images A.first one.image one.first)
+      (plain_acts journal one.served one.childless) (plain_acts other two.served two.childless)
+      (leads_first pair) (leads_second pair)
 
-pub one_goes_on : (A B : Inputs) (journal other : List Entry) (p q : Point) → IsPair A B journal other p q
-    → Begins (acts_of journal) (acts_of other) ⊎ Begins (acts_of other) (acts_of journal)
-one_goes_on A B journal other p q pair = go (compare_runs A B journal other p q pair)
-  where
-    go : Compared (acts_of journal) (acts_of other) p q → Begins (acts_of journal) (acts_of other) ⊎ Begins (acts_of other) (acts_of journal)
-    go (First rest h k) = inl (rest, h)
-    go (Second rest h k) = inr (rest, h)
+  pub one_goes_on : IsPair A B journal other p q → Begins (acts_of journal) (acts_of other) ⊎ Begins (acts_of other) (acts_of journal)
+  one_goes_on pair = go (compare_runs pair)
+    where
+      go : Compared (acts_of journal) (acts_of other) p q → Begins (acts_of journal) (acts_of other) ⊎ Begins (acts_of other) (acts_of journal)
+      go (First rest h k) = inl (rest, h)
+      go (Second rest h k) = inr (rest, h)
 
 -- what is seen of the beginning of a list begins what is seen of it
 seen_begins : (journal other : List Entry) → Begins (acts_of journal) (acts_of other) → Begins (visible_of journal) (visible_of other)

@@ -321,30 +321,28 @@ answers_small s o address byte e = go (address_in s address) e
     go spots.Below k = absurd cc
     go spots.Outside k = absurd cc
 
-called_regs : (images : List NamedImage) (F : FlatState) (p : Process) (t : Space) (refused : Bool) (effect : Effect) (call : Option SystemCall)
-    → HasOctets t → RepliesFit images F p → AreRegs p.regs → EffectFits effect
-    → ProcessesFit (called_step images F p t refused effect call).after.processes
-called_regs images F p t refused effect None o f was h = after_regs images F p effect.writes p.regs (End 12) h.1 f was (omega arith)
-called_regs images F p t refused effect (Some call) o f was h =
-    replied_regs images F p call effect (reply_behind images F p t refused call effect) f was h
-    (reply_keeps images (apply_writes F p.pid effect.writes) (answers_of (puts t effect.writes)) (written_process p t effect.writes) (puts t effect.writes) call effect.regs refused
-    (answers_small (puts t effect.writes) (puts_octets effect.writes t h.1 o))
-    (fits_written images F p (written_process p t effect.writes) effect.writes h.1 refl refl f) h.0)
+module _ (images : List NamedImage) (F : FlatState) (p : Process) (t : Space) where
+  called_regs : (refused : Bool) (effect : Effect) (call : Option SystemCall) → HasOctets t → RepliesFit images F p → AreRegs p.regs → EffectFits effect
+      → ProcessesFit (called_step images F p t refused effect call).after.processes
+  called_regs refused effect None o f was h = after_regs images F p effect.writes p.regs (End 12) h.1 f was (omega arith)
+  called_regs refused effect (Some call) o f was h =
+      replied_regs images F p call effect (reply_behind images F p t refused call effect) f was h
+      (reply_keeps images (apply_writes F p.pid effect.writes) (answers_of (puts t effect.writes)) (written_process p t effect.writes) (puts t effect.writes) call effect.regs refused
+      (answers_small (puts t effect.writes) (puts_octets effect.writes t h.1 o))
+      (fits_written images F p (written_process p t effect.writes) effect.writes h.1 refl refl f) h.0)
 
-behind_regs : (images : List NamedImage) (F : FlatState) (p : Process) (t : Space) (refused : Bool) (effect : Effect) (number : Option ℤ)
-    → HasOctets t → RepliesFit images F p → AreRegs p.regs → EffectFits effect
-    → ProcessesFit (step_behind images F p t refused effect number).after.processes
-behind_regs images F p t refused effect None o f was h = after_regs images F p effect.writes effect.regs Keep h.1 f h.0 tt
-behind_regs images F p t refused effect (Some number) o f was h = called_regs images F p t refused effect (call_of number) o f was h
+  behind_regs : (refused : Bool) (effect : Effect) (number : Option ℤ) → HasOctets t → RepliesFit images F p → AreRegs p.regs → EffectFits effect
+      → ProcessesFit (step_behind images F p t refused effect number).after.processes
+  behind_regs refused effect None o f was h = after_regs images F p effect.writes effect.regs Keep h.1 f h.0 tt
+  behind_regs refused effect (Some number) o f was h = called_regs refused effect (call_of number) o f was h
 
-of_regs : (images : List NamedImage) (F : FlatState) (p : Process) (t : Space) (refused : Bool) (result : Result Effect Refusal) → HasOctets t
-    → RepliesFit images F p → AreRegs p.regs → LeavesLongwords result
-    → ProcessesFit (step_of images F p t refused result).after.processes
-of_regs images F p t refused (Ok effect) o f was h = behind_regs images F p t refused effect effect.call o f was h
-of_regs images F p t refused (Err (Miss a w)) o f was h = f.regs
-of_regs images F p t true (Err (Below a)) o f was h = after_regs images F p [] p.regs (End 11) tt f was (omega arith)
-of_regs images F p t false (Err (Below a)) o f was h = after_regs images F p [] p.regs _ tt f was tt
-of_regs images F p t refused (Err (Signal n)) o f was h = after_regs images F p [] p.regs (End n) tt f was h
+  of_regs : (refused : Bool) (result : Result Effect Refusal) → HasOctets t → RepliesFit images F p → AreRegs p.regs → LeavesLongwords result
+      → ProcessesFit (step_of images F p t refused result).after.processes
+  of_regs refused (Ok effect) o f was h = behind_regs refused effect effect.call o f was h
+  of_regs refused (Err (Miss a w)) o f was h = f.regs
+  of_regs true (Err (Below a)) o f was h = after_regs images F p [] p.regs (End 11) tt f was (omega arith)
+  of_regs false (Err (Below a)) o f was h = after_regs images F p [] p.regs _ tt f was tt
+  of_regs refused (Err (Signal n)) o f was h = after_regs images F p [] p.regs (End n) tt f was h
 
 pub step_regs : (A : Inputs) (F : FlatState) (pid : ℕ) (refused : Bool) → AllImages A.images → IsNumbered F → F.next_pid < 2 ^ 32 → ProcessesFit F.processes
     → ProcessesFit (flat_step A F pid refused).after.processes

@@ -34,7 +34,7 @@ use Rattle.flat_laws.proofs.Replying.{next_written, step_regs}
 -- The number of the next process.
 
 -- how many processes a change makes
-abbrev made : Change → ℕ
+abbrev pub made : Change → ℕ
 made (Fork child) = 1
 made (Lend child) = 1
 made _ = 0
@@ -71,7 +71,7 @@ after_next : (images : List NamedImage) (F : FlatState) (p : Process) (ws : List
     → (apply_change images (apply_writes F p.pid ws) p.pid regs change).next_pid ≤ F.next_pid + made change
 after_next images F p ws regs change = let a = change_next images (apply_writes F p.pid ws) p.pid regs change in let b = next_written F p.pid ws in omega arith
 
-made_one : (change : Change) → made change ≤ 1
+pub made_one : (change : Change) → made change ≤ 1
 made_one (Fork child) = omega arith
 made_one (Lend child) = omega arith
 made_one _ = omega arith

@@ -148,25 +148,24 @@ shown_after s ws pages (a ∷ list) h = (ap (is_shown pages) (access_after s ws 
 abbrev touched_of : List NamedImage → FlatState → Process → Space → List Page
 touched_of images F p s = distinct (filter_map (page_of_access s) (step_accesses images F p s))
 
-pub is_touched : (A : Inputs) (F : FlatState) (pid : ℕ) (p : Process) (s : Space) → process_of F pid ≡ Some p → is_ready p ≡ true
-    → p.holding ≡ Holds s → touched A F pid ≡ touched_of A.images F p s
-unfolding touched
-is_touched A F pid p s here ready holds =
-    ap (touched_if A.images F) here ∙ ap (λ (b : Bool). touched_by b A.images F p) ready ∙ ap (touched_in A.images F p) holds
+module _ (A : Inputs) (F : FlatState) (pid : ℕ) (p : Process) (s : Space) where
+  pub is_touched : process_of F pid ≡ Some p → is_ready p ≡ true → p.holding ≡ Holds s → touched A F pid ≡ touched_of A.images F p s
+  unfolding touched
+  is_touched here ready holds =
+      ap (touched_if A.images F) here ∙ ap (λ (b : Bool). touched_by b A.images F p) ready ∙ ap (touched_in A.images F p) holds
 
-steps_shown : (A : Inputs) (F : FlatState) (pid : ℕ) (p : Process) (s : Space) → process_of F pid ≡ Some p → is_ready p ≡ true → p.holding ≡ Holds s
-    → AreShown s (touched A F pid) (step_accesses A.images F p s)
-steps_shown A F pid p s here ready holds =
-    subst (λ (pages : List Page). AreShown s pages (step_accesses A.images F p s)) (sym (is_touched A F pid p s here ready holds))
-    (all_shown s (touched_of A.images F p s) (step_accesses A.images F p s) (λ q i. among_distinct q (filter_map (page_of_access s) (step_accesses A.images F p s)) i))
+  steps_shown : process_of F pid ≡ Some p → is_ready p ≡ true → p.holding ≡ Holds s → AreShown s (touched A F pid) (step_accesses A.images F p s)
+  steps_shown here ready holds =
+      subst (λ (pages : List Page). AreShown s pages (step_accesses A.images F p s)) (sym (is_touched here ready holds))
+      (all_shown s (touched_of A.images F p s) (step_accesses A.images F p s) (λ q i. among_distinct q (filter_map (page_of_access s) (step_accesses A.images F p s)) i))
 
-pub instruction_shown : (A : Inputs) (F : FlatState) (pid : ℕ) (p : Process) (s : Space) → process_of F pid ≡ Some p → is_ready p ≡ true
-    → p.holding ≡ Holds s → run (shown s (touched A F pid)) (instruction p.regs) ≡ instruction_in s p.regs
-unfolding step_accesses
-instruction_shown A F pid p s here ready holds =
-    same_run (shown s (touched A F pid)) (answers_of s) (instruction p.regs)
-    (alike s (touched A F pid) (accesses (answers_of s) (instruction p.regs))
-    (front_shown s (touched A F pid) (accesses (answers_of s) (instruction p.regs)) (accesses_after A.images F p s (instruction_in s p.regs)) (steps_shown A F pid p s here ready holds)))
+  pub instruction_shown : process_of F pid ≡ Some p → is_ready p ≡ true
+      → p.holding ≡ Holds s → run (shown s (touched A F pid)) (instruction p.regs) ≡ instruction_in s p.regs
+  unfolding step_accesses
+  instruction_shown here ready holds =
+      same_run (shown s (touched A F pid)) (answers_of s) (instruction p.regs)
+      (alike s (touched A F pid) (accesses (answers_of s) (instruction p.regs))
+      (front_shown s (touched A F pid) (accesses (answers_of s) (instruction p.regs)) (accesses_after A.images F p s (instruction_in s p.regs)) (steps_shown here ready holds)))
 
 abbrev reply_program : List NamedImage → FlatState → Process → Space → Effect → SystemCall → Program Reply
 reply_program images F p s effect call =
@@ -208,29 +207,28 @@ written_shown : (s : Space) (pages : List Page) (ws : List ByteWrite) → MayAll
 written_shown s pages [] h = tt
 written_shown s pages (w ∷ ws) h = (one_of s pages (address_in s w.address) h.0, written_shown s pages ws h.1)
 
-replied_writes : (images : List NamedImage) (F : FlatState) (p : Process) (call : SystemCall) (effect : Effect) (reply : Reply)
-    → (replied_step images F p call effect reply).writes ≡ effect.writes
-replied_writes images F p call effect (replies.Fails error) = refl
-replied_writes images F p call effect _ = refl
+module _ (images : List NamedImage) (F : FlatState) (p : Process) where
+  replied_writes : (call : SystemCall) (effect : Effect) (reply : Reply) → (replied_step images F p call effect reply).writes ≡ effect.writes
+  replied_writes call effect (replies.Fails error) = refl
+  replied_writes call effect _ = refl
 
-called_writes : (images : List NamedImage) (F : FlatState) (p : Process) (s : Space) (refused : Bool) (effect : Effect) (call : Option SystemCall)
-    → (called_step images F p s refused effect call).writes ≡ effect.writes
-called_writes images F p s refused effect None = refl
-called_writes images F p s refused effect (Some call) = replied_writes images F p call effect (reply_behind images F p s refused call effect)
+  called_writes : (s : Space) (refused : Bool) (effect : Effect) (call : Option SystemCall)
+      → (called_step images F p s refused effect call).writes ≡ effect.writes
+  called_writes s refused effect None = refl
+  called_writes s refused effect (Some call) = replied_writes call effect (reply_behind images F p s refused call effect)
 
-behind_writes : (images : List NamedImage) (F : FlatState) (p : Process) (s : Space) (refused : Bool) (effect : Effect) (number : Option ℤ)
-    → (step_behind images F p s refused effect number).writes ≡ effect.writes
-behind_writes images F p s refused effect None = refl
-behind_writes images F p s refused effect (Some number) = called_writes images F p s refused effect (call_of number)
+  behind_writes : (s : Space) (refused : Bool) (effect : Effect) (number : Option ℤ) → (step_behind images F p s refused effect number).writes ≡ effect.writes
+  behind_writes s refused effect None = refl
+  behind_writes s refused effect (Some number) = called_writes s refused effect (call_of number)
 
-step_writes : (images : List NamedImage) (F : FlatState) (p : Process) (s : Space) (refused : Bool) (pages : List Page) (result : Result Effect Refused)
-    → ((effect : Effect) → result ≡ Ok effect → AreOf s pages effect.writes) → AreOf s pages (step_of images F p s refused result).writes
-step_writes images F p s refused pages (Ok effect) h =
-    subst (λ (ws : List ByteWrite). AreOf s pages ws) (sym (behind_writes images F p s refused effect effect.call)) (h effect refl)
-step_writes images F p s refused pages (Err (Miss a w)) h = tt
-step_writes images F p s true pages (Err (Below a)) h = tt
-step_writes images F p s false pages (Err (Below a)) h = tt
-step_writes images F p s refused pages (Err (Signal n)) h = tt
+  step_writes : (s : Space) (refused : Bool) (pages : List Page) (result : Result Effect Refused)
+      → ((effect : Effect) → result ≡ Ok effect → AreOf s pages effect.writes) → AreOf s pages (step_of images F p s refused result).writes
+  step_writes s refused pages (Ok effect) h =
+      subst (λ (ws : List ByteWrite). AreOf s pages ws) (sym (behind_writes s refused effect effect.call)) (h effect refl)
+  step_writes s refused pages (Err (Miss a w)) h = tt
+  step_writes s true pages (Err (Below a)) h = tt
+  step_writes s false pages (Err (Below a)) h = tt
+  step_writes s refused pages (Err (Signal n)) h = tt
 
 is_step : (A : Inputs) (F : FlatState) (pid : ℕ) (p : Process) (s : Space) (refused : Bool) → process_of F pid ≡ Some p → p.holding ≡ Holds s
     → flat_step A F pid refused ≡ step_of A.images F p s refused (instruction_in s p.regs)

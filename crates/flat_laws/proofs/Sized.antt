@@ -29,7 +29,8 @@ use Rattle.flat_model.specs.Step.{step_of, step_behind, called_step, replied_ste
 use Rattle.flat_model.specs.Run.{Point, flat_run}
 use Rattle.flat_model.proofs.Coming.{run_keeps}
 use Rattle.flat_laws.specs.Whole.{EachWhole, ImageWhole, ImagesWhole, IsSized, HasSize, AllSized}
-use Rattle.flat_laws.proofs.Cover.{Yields, yields_bind, yields_any, yields_ok}
+use Rattle.flat_laws.proofs.Cover.{yields_bind, yields_any, yields_ok}
+use Rattle.flat_laws.proofs.Computations.{AllGives}
 
 -- Lists of processes.
 
@@ -184,11 +185,11 @@ starts_resizes : (found : ℕ × NamedImage) (arguments : Option (List (List ℕ
 starts_resizes found None = tt
 starts_resizes found (Some arguments) = tt
 
-execve_resizes : (argv : ℕ) (found : Option (ℕ × NamedImage)) → Yields ReplyResizes (execve_of argv found)
+execve_resizes : (argv : ℕ) (found : Option (ℕ × NamedImage)) → AllGives ReplyResizes (execve_of argv found)
 execve_resizes argv None = tt
 execve_resizes argv (Some found) = yields_bind (λ _. Unit {0}) ReplyResizes (arguments_at argv) _ (yields_any (arguments_at argv)) (λ arguments _. starts_resizes found arguments)
 
-written_resizes : (b : Bool) (buffer count : ℕ) → Yields ReplyResizes (written_to b buffer count)
+written_resizes : (b : Bool) (buffer count : ℕ) → AllGives ReplyResizes (written_to b buffer count)
 unfolding written_to
 written_resizes true buffer count = yields_bind (λ _. Unit {0}) ReplyResizes (bytes_from (min count write_limit) buffer) _ (yields_any (bytes_from (min count write_limit) buffer)) (λ bytes _. tt)
 written_resizes false buffer count = tt
@@ -199,7 +200,7 @@ wait_resizes (Some child) None regs = tt
 wait_resizes (Some child) (Some z) regs = tt
 
 all_resize : (images : List NamedImage) (F : FlatState) (p : Process) (s : Space) (call : SystemCall) (regs : Regs)
-    → Yields ReplyResizes (reply_of images F p s call regs)
+    → AllGives ReplyResizes (reply_of images F p s call regs)
 unfolding reply_of exit_reply write_reply break_reply execve_reply
 all_resize images F p s calls.Exit regs = yields_bind (λ _. Unit {0}) ReplyResizes (argument regs 1) _ (yields_any (argument regs 1)) (λ code _. tt)
 all_resize images F p s calls.Fork regs = (child_resizes (nat_lt (length F.processes) process_limit) regs F.next_pid).0
@@ -215,7 +216,7 @@ all_resize images F p s calls.Execve regs =
 all_resize images F p s calls.Vfork regs = (child_resizes (nat_lt (length F.processes) process_limit) regs F.next_pid).1
 all_resize images F p s calls.Wait regs = wait_resizes (find (λ q. q.parent == p.pid) F.processes) (find (is_zombie_child p.pid) F.processes) regs
 
-fault_resizes : (memory : Answers) (p : Program Reply) → Yields ReplyResizes p → ReplyResizes (or_fault (run memory p))
+fault_resizes : (memory : Answers) (p : Program Reply) → AllGives ReplyResizes p → ReplyResizes (or_fault (run memory p))
 fault_resizes memory p h = go (run memory p) refl
   where
     go : (result : Result Reply Refusal) → run memory p ≡ result → ReplyResizes (or_fault result)
@@ -236,44 +237,40 @@ refused_resizes true (replies.Exits status) h = tt
 
 -- Steps.
 
-after_sized : (images : List NamedImage) (F : FlatState) (p : Process) (ws : List ByteWrite) (regs : Regs) (change : Change) → ImagesWhole images
-    → MayResize change → AllSized F.processes
-    → AllSized (apply_change images (apply_writes F p.pid ws) p.pid regs change).processes
-after_sized images F p ws regs change w may h = change_sized images (apply_writes F p.pid ws) p.pid regs change w may (writes_sized F p.pid ws h)
+module _ (images : List NamedImage) (F : FlatState) (p : Process) where
+  after_sized : (ws : List ByteWrite) (regs : Regs) (change : Change) → ImagesWhole images → MayResize change → AllSized F.processes
+      → AllSized (apply_change images (apply_writes F p.pid ws) p.pid regs change).processes
+  after_sized ws regs change w may h = change_sized images (apply_writes F p.pid ws) p.pid regs change w may (writes_sized F p.pid ws h)
 
-replied_sized : (images : List NamedImage) (F : FlatState) (p : Process) (call : SystemCall) (effect : Effect) (reply : Reply) → ImagesWhole images
-    → ReplyResizes reply → AllSized F.processes
-    → AllSized (replied_step images F p call effect reply).after.processes
-replied_sized images F p call effect (replies.Does regs change) w fits h = after_sized images F p effect.writes regs change w fits h
-replied_sized images F p call effect replies.Waits w fits h = after_sized images F p effect.writes p.regs Sleep w tt h
-replied_sized images F p call effect (replies.Exits status) w fits h = after_sized images F p effect.writes p.regs (End status) w tt h
-replied_sized images F p call effect _ w fits h = after_sized images F p effect.writes _ Keep w tt h
+  replied_sized : (call : SystemCall) (effect : Effect) (reply : Reply) → ImagesWhole images → ReplyResizes reply → AllSized F.processes
+      → AllSized (replied_step images F p call effect reply).after.processes
+  replied_sized call effect (replies.Does regs change) w fits h = after_sized effect.writes regs change w fits h
+  replied_sized call effect replies.Waits w fits h = after_sized effect.writes p.regs Sleep w tt h
+  replied_sized call effect (replies.Exits status) w fits h = after_sized effect.writes p.regs (End status) w tt h
+  replied_sized call effect _ w fits h = after_sized effect.writes _ Keep w tt h
 
-called_sized : (images : List NamedImage) (F : FlatState) (p : Process) (t : Space) (refused : Bool) (effect : Effect) (call : Option SystemCall)
-    → ImagesWhole images → AllSized F.processes
-    → AllSized (called_step images F p t refused effect call).after.processes
-called_sized images F p t refused effect None w h = after_sized images F p effect.writes p.regs (End 12) w tt h
-called_sized images F p t refused effect (Some call) w h =
-    replied_sized images F p call effect (reply_behind images F p t refused call effect) w
-    (refused_resizes refused _ (fault_resizes (answers_of (puts t effect.writes))
-    (reply_of images (apply_writes F p.pid effect.writes) (written_process p t effect.writes) (puts t effect.writes) call effect.regs)
-    (all_resize images (apply_writes F p.pid effect.writes) (written_process p t effect.writes) (puts t effect.writes) call effect.regs)))
-    h
+  called_sized : (t : Space) (refused : Bool) (effect : Effect) (call : Option SystemCall) → ImagesWhole images → AllSized F.processes
+      → AllSized (called_step images F p t refused effect call).after.processes
+  called_sized t refused effect None w h = after_sized effect.writes p.regs (End 12) w tt h
+  called_sized t refused effect (Some call) w h =
+      replied_sized call effect (reply_behind images F p t refused call effect) w
+      (refused_resizes refused _ (fault_resizes (answers_of (puts t effect.writes))
+      (reply_of images (apply_writes F p.pid effect.writes) (written_process p t effect.writes) (puts t effect.writes) call effect.regs)
+      (all_resize images (apply_writes F p.pid effect.writes) (written_process p t effect.writes) (puts t effect.writes) call effect.regs)))
+      h
 
-behind_sized : (images : List NamedImage) (F : FlatState) (p : Process) (t : Space) (refused : Bool) (effect : Effect) (number : Option ℤ)
-    → ImagesWhole images → AllSized F.processes
-    → AllSized (step_behind images F p t refused effect number).after.processes
-behind_sized images F p t refused effect None w h = after_sized images F p effect.writes effect.regs Keep w tt h
-behind_sized images F p t refused effect (Some number) w h = called_sized images F p t refused effect (call_of number) w h
+  behind_sized : (t : Space) (refused : Bool) (effect : Effect) (number : Option ℤ) → ImagesWhole images → AllSized F.processes
+      → AllSized (step_behind images F p t refused effect number).after.processes
+  behind_sized t refused effect None w h = after_sized effect.writes effect.regs Keep w tt h
+  behind_sized t refused effect (Some number) w h = called_sized t refused effect (call_of number) w h
 
-of_sized : (images : List NamedImage) (F : FlatState) (p : Process) (t : Space) (refused : Bool) (result : Result Effect Refusal) → ImagesWhole images
-    → IsSized t → AllSized F.processes
-    → AllSized (step_of images F p t refused result).after.processes
-of_sized images F p t refused (Ok effect) w k h = behind_sized images F p t refused effect effect.call w h
-of_sized images F p t refused (Err (Miss a b)) w k h = h
-of_sized images F p t true (Err (Below a)) w k h = after_sized images F p [] p.regs (End 11) w tt h
-of_sized images F p t false (Err (Below a)) w k h = after_sized images F p [] p.regs _ w (let l = k.data_fits in omega arith) h
-of_sized images F p t refused (Err (Signal n)) w k h = after_sized images F p [] p.regs (End n) w tt h
+  of_sized : (t : Space) (refused : Bool) (result : Result Effect Refusal) → ImagesWhole images → IsSized t → AllSized F.processes
+      → AllSized (step_of images F p t refused result).after.processes
+  of_sized t refused (Ok effect) w k h = behind_sized t refused effect effect.call w h
+  of_sized t refused (Err (Miss a b)) w k h = h
+  of_sized t true (Err (Below a)) w k h = after_sized [] p.regs (End 11) w tt h
+  of_sized t false (Err (Below a)) w k h = after_sized [] p.regs _ w (let l = k.data_fits in omega arith) h
+  of_sized t refused (Err (Signal n)) w k h = after_sized [] p.regs (End n) w tt h
 
 pub step_sized : (A : Inputs) (F : FlatState) (pid : ℕ) (refused : Bool) → ImagesWhole A.images → AllSized F.processes
     → AllSized (flat_step A F pid refused).after.processes

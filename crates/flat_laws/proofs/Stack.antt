@@ -12,8 +12,9 @@ use Rattle.user_vax.specs.Effects.{Effect, registers_only, bytes_at, store_effec
 use Rattle.user_vax.specs.Frames.{bit, push_all, saved, frame, with_aligned_stack, with_frame, procedure_entry, procedure_call, restored, linkage, with_raised_stack, arguments_dropped, unwound, with_state_codes, procedure_return, registers_returned}
 use Rattle.user_vax.specs.Instruction.{write_tests}
 use Rattle.flat_laws.proofs.Near.{IsAt, at_self, at_past, at_more, IsFrom, from_back, from_less, from_pushed, at_pushed, from_aligned}
-use Rattle.flat_laws.proofs.Cover.{Within, within_bind, Yields, yields_bind, yields_any, Covered, within_one, covered_rebased, covered_gives, covered_refuses, covered_bind, covered_behind}
+use Rattle.flat_laws.proofs.Cover.{Within, within_bind, yields_bind, yields_any, Covered, within_one, covered_rebased, covered_gives, covered_refuses, covered_bind, covered_behind}
 use Rattle.flat_laws.proofs.Fetched.{within_number, number_covered}
+use Rattle.flat_laws.proofs.Computations.{AllGives}
 
 abbrev pub sp : Regs → ℕ
 sp regs = register regs 14
@@ -225,11 +226,11 @@ call_covered memory base before counted ap target =
     go mask false = covered_gives memory base 0 _
 
 pub call_light : (start least : ℕ) (before : Effect) (counted : Bool) (ap target : ℕ) → 71 ≤ least → MayPush start least before → before.call ≡ None
-    → Yields IsLight (procedure_call before counted ap target)
+    → AllGives IsLight (procedure_call before counted ap target)
 unfolding procedure_call
 call_light start least before counted ap target l h none =
     yields_bind (λ _. Unit {0}) IsLight (number_at 2 target) _ (yields_any (number_at 2 target)) (λ mask _. go mask _)
   where
-    go : (mask : ℕ) (b : Bool) → Yields IsLight (cond b (Refuses 4) (Gives (procedure_entry (with_frame before counted mask) ap target)))
+    go : (mask : ℕ) (b : Bool) → AllGives IsLight (cond b (Refuses 4) (Gives (procedure_entry (with_frame before counted mask) ap target)))
     go mask true = tt
     go mask false = record { start = start; near = frame_near start least before counted mask l h; call = frame_call before counted mask ∙ none }

@@ -28,47 +28,44 @@ use Rattle.flat_laws.proofs.Children.{Spares, reply_spares}
 use Rattle.flat_laws.proofs.Entries.{carry_is}
 
 -- the last of these entries is a fork's
-abbrev ends_in_fork : List Entry → Bool
+abbrev pub ends_in_fork : List Entry → Bool
 ends_in_fork [] = false
 ends_in_fork (e ∷ []) = is_fork e
 ends_in_fork (e ∷ f ∷ es) = ends_in_fork (f ∷ es)
 
 -- Steps.
 
-only_after : (n : ℕ) (images : List NamedImage) (F : FlatState) (pid : ℕ) (ws : List ByteWrite) (regs : Regs) (change : Change)
-    → BringsNone change → Only n F.processes
-    → Only n (apply_change images (apply_writes F pid ws) pid regs change).processes
-only_after n images F pid ws regs change none k = only_applied n images (apply_writes F pid ws) pid regs change none (only_written n F pid ws k)
+module _ (n : ℕ) (images : List NamedImage) (F : FlatState) where
+  only_after : (pid : ℕ) (ws : List ByteWrite) (regs : Regs) (change : Change) → BringsNone change → Only n F.processes
+      → Only n (apply_change images (apply_writes F pid ws) pid regs change).processes
+  only_after pid ws regs change none k = only_applied n images (apply_writes F pid ws) pid regs change none (only_written n F pid ws k)
 
-only_replied : (n : ℕ) (images : List NamedImage) (F : FlatState) (p : Process) (call : SystemCall) (effect : Effect) (reply : Reply)
-    → Spares call reply → Only n F.processes
-    → ends_in_fork (replied_step images F p call effect reply).entries ≡ false → Only n (replied_step images F p call effect reply).after.processes
-only_replied n images F p call effect (replies.Does regs change) spares k none = only_after n images F p.pid effect.writes regs change (spares none) k
-only_replied n images F p call effect replies.Waits spares k none = only_after n images F p.pid effect.writes p.regs Sleep tt k
-only_replied n images F p call effect (replies.Exits status) spares k none = only_after n images F p.pid effect.writes p.regs (End status) tt k
-only_replied n images F p call effect _ spares k none = only_after n images F p.pid effect.writes _ Keep tt k
+  only_replied : (p : Process) (call : SystemCall) (effect : Effect) (reply : Reply) → Spares call reply → Only n F.processes
+      → ends_in_fork (replied_step images F p call effect reply).entries ≡ false → Only n (replied_step images F p call effect reply).after.processes
+  only_replied p call effect (replies.Does regs change) spares k none = only_after p.pid effect.writes regs change (spares none) k
+  only_replied p call effect replies.Waits spares k none = only_after p.pid effect.writes p.regs Sleep tt k
+  only_replied p call effect (replies.Exits status) spares k none = only_after p.pid effect.writes p.regs (End status) tt k
+  only_replied p call effect _ spares k none = only_after p.pid effect.writes _ Keep tt k
 
-only_called : (n : ℕ) (images : List NamedImage) (F : FlatState) (p : Process) (s : Space) (refused : Bool) (effect : Effect)
-    (call : Option SystemCall) → Only n F.processes
-    → ends_in_fork (called_step images F p s refused effect call).entries ≡ false → Only n (called_step images F p s refused effect call).after.processes
-only_called n images F p s refused effect None k none = only_after n images F p.pid effect.writes p.regs (End 12) tt k
-only_called n images F p s refused effect (Some call) k none =
-    only_replied n images F p call effect (reply_behind images F p s refused call effect)
-    (reply_spares images (apply_writes F p.pid effect.writes) (answers_of (puts s effect.writes)) (written_process p s effect.writes) (puts s effect.writes) call effect.regs refused) k none
+  only_called : (p : Process) (s : Space) (refused : Bool) (effect : Effect) (call : Option SystemCall) → Only n F.processes
+      → ends_in_fork (called_step images F p s refused effect call).entries ≡ false → Only n (called_step images F p s refused effect call).after.processes
+  only_called p s refused effect None k none = only_after p.pid effect.writes p.regs (End 12) tt k
+  only_called p s refused effect (Some call) k none =
+      only_replied p call effect (reply_behind images F p s refused call effect)
+      (reply_spares images (apply_writes F p.pid effect.writes) (answers_of (puts s effect.writes)) (written_process p s effect.writes) (puts s effect.writes) call effect.regs refused) k none
 
-only_behind : (n : ℕ) (images : List NamedImage) (F : FlatState) (p : Process) (s : Space) (refused : Bool) (effect : Effect)
-    (number : Option ℤ) → Only n F.processes
-    → ends_in_fork (step_behind images F p s refused effect number).entries ≡ false → Only n (step_behind images F p s refused effect number).after.processes
-only_behind n images F p s refused effect None k none = only_after n images F p.pid effect.writes effect.regs Keep tt k
-only_behind n images F p s refused effect (Some number) k none = only_called n images F p s refused effect (call_of number) k none
+  only_behind : (p : Process) (s : Space) (refused : Bool) (effect : Effect) (number : Option ℤ) → Only n F.processes
+      → ends_in_fork (step_behind images F p s refused effect number).entries ≡ false → Only n (step_behind images F p s refused effect number).after.processes
+  only_behind p s refused effect None k none = only_after p.pid effect.writes effect.regs Keep tt k
+  only_behind p s refused effect (Some number) k none = only_called p s refused effect (call_of number) k none
 
-only_of : (n : ℕ) (images : List NamedImage) (F : FlatState) (p : Process) (s : Space) (refused : Bool) (result : Result Effect Refused) → Only n F.processes
-    → ends_in_fork (step_of images F p s refused result).entries ≡ false → Only n (step_of images F p s refused result).after.processes
-only_of n images F p s refused (Ok effect) k none = only_behind n images F p s refused effect effect.call k none
-only_of n images F p s refused (Err (Miss a w)) k none = k
-only_of n images F p s true (Err (Below a)) k none = only_after n images F p.pid [] p.regs (End 11) tt k
-only_of n images F p s false (Err (Below a)) k none = only_after n images F p.pid [] p.regs _ tt k
-only_of n images F p s refused (Err (Signal number)) k none = only_after n images F p.pid [] p.regs (End number) tt k
+  only_of : (p : Process) (s : Space) (refused : Bool) (result : Result Effect Refused) → Only n F.processes
+      → ends_in_fork (step_of images F p s refused result).entries ≡ false → Only n (step_of images F p s refused result).after.processes
+  only_of p s refused (Ok effect) k none = only_behind p s refused effect effect.call k none
+  only_of p s refused (Err (Miss a w)) k none = k
+  only_of p s true (Err (Below a)) k none = only_after p.pid [] p.regs (End 11) tt k
+  only_of p s false (Err (Below a)) k none = only_after p.pid [] p.regs _ tt k
+  only_of p s refused (Err (Signal number)) k none = only_after p.pid [] p.regs (End number) tt k
 
 only_stepped : (n : ℕ) (A : Inputs) (F : FlatState) (pid : ℕ) (refused : Bool) → Only n F.processes → ends_in_fork (flat_step A F pid refused).entries ≡ false
     → Only n (flat_step A F pid refused).after.processes
@@ -97,7 +94,7 @@ fork_same (entries.Call a n c r0 r1) _ h k = absurd cc
 fork_same _ f h k = refl
 
 -- where one entry is due, it is the last one of the step
-last_due : (last : Option Entry) (pid : ℕ) (es : List Entry) (e : Entry) → due last pid es ≡ e ∷ [] → ends_in_fork es ≡ is_fork e
+pub last_due : (last : Option Entry) (pid : ℕ) (es : List Entry) (e : Entry) → due last pid es ≡ e ∷ [] → ends_in_fork es ≡ is_fork e
 last_due (Some (entries.Out p bytes)) pid es e h = go (p == pid) h
   where
     less : (xs : List Entry) → behind_first xs ≡ e ∷ [] → ends_in_fork xs ≡ is_fork e

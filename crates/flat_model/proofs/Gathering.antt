@@ -8,6 +8,7 @@ use Rattle.user_vax.specs.declared.refused.Refused.{Refused}
 use Rattle.user_vax.specs.Program.{Program, Gives, Reads, ◌>>=◌, run, after_read}
 use Rattle.user_vax.specs.Operands.{past}
 use Rattle.user_vax.proofs.Runs.{then, run_bind}
+use Rattle.user_vax.proofs.Numbers.{past-past}
 use Rattle.flat_model.specs.Calls.{bytes_from, string_from, string_after, before}
 
 -- bytes that were read, and what the rest comes to
@@ -54,9 +55,6 @@ pub gathered_all : (memory : Answers) (bytes : List ℕ) (address : ℕ) → aft
 unfolding bytes_from
 gathered_all memory bytes address = ap (λ (x : List ℕ). Ok x) (append-nil bytes)
 
-pub past_one : (address index : ℕ) → past (past address index) 1 ≡ past address (index + 1)
-past_one address index = omega arith
-
 pub left_one : (count index : ℕ) → index < count → count - index ≡ suc (count - (index + 1))
 left_one count index below = omega arith
 
@@ -65,28 +63,27 @@ abbrev pub Gathers : Answers → ℕ → ℕ → ℕ → List ℕ → Type 0
 Gathers memory count address index bytes =
     run memory (bytes_from count address) ≡ after_bytes bytes (run memory (bytes_from (count - index) (past address index)))
 
-pub gathers_more : (memory : Answers) (count address index : ℕ) (bytes : List ℕ) (byte : ℕ) → Gathers memory count address index bytes → index < count
-    → run memory (byte_at (past address index)) ≡ Ok byte → Gathers memory count address (index + 1) (bytes ++ byte ∷ [])
-gathers_more memory count address index bytes byte h below e =
-    h
-    ∙ ap (λ (n : ℕ). after_bytes bytes (run memory (bytes_from n (past address index)))) (left_one count index below)
-    ∙ gathered_more memory bytes byte (count - (index + 1)) (past address index) e
-    ∙ ap (λ (a : ℕ). after_bytes (bytes ++ byte ∷ []) (run memory (bytes_from (count - (index + 1)) a))) (past_one address index)
+module _ (memory : Answers) (count address index : ℕ) (bytes : List ℕ) where
+  pub gathers_more : (byte : ℕ) → Gathers memory count address index bytes → index < count
+      → run memory (byte_at (past address index)) ≡ Ok byte → Gathers memory count address (index + 1) (bytes ++ byte ∷ [])
+  gathers_more byte h below e =
+      h
+      ∙ ap (λ (n : ℕ). after_bytes bytes (run memory (bytes_from n (past address index)))) (left_one count index below)
+      ∙ gathered_more memory bytes byte (count - (index + 1)) (past address index) e
+      ∙ ap (λ (a : ℕ). after_bytes (bytes ++ byte ∷ []) (run memory (bytes_from (count - (index + 1)) a))) (past-past address index)
 
-pub gathers_refused : (memory : Answers) (count address index : ℕ) (bytes : List ℕ) (refused : Refused) → Gathers memory count address index bytes
-    → index < count
-    → run memory (byte_at (past address index)) ≡ Err refused → run memory (bytes_from count address) ≡ Err refused
-gathers_refused memory count address index bytes refused h below e =
-    h
-    ∙ ap (λ (n : ℕ). after_bytes bytes (run memory (bytes_from n (past address index)))) (left_one count index below)
-    ∙ gathered_refused memory bytes (count - (index + 1)) (past address index) refused e
+  pub gathers_refused : (refused : Refused) → Gathers memory count address index bytes → index < count → run memory (byte_at (past address index)) ≡ Err refused
+      → run memory (bytes_from count address) ≡ Err refused
+  gathers_refused refused h below e =
+      h
+      ∙ ap (λ (n : ℕ). after_bytes bytes (run memory (bytes_from n (past address index)))) (left_one count index below)
+      ∙ gathered_refused memory bytes (count - (index + 1)) (past address index) refused e
 
-pub gathers_all : (memory : Answers) (count address index : ℕ) (bytes : List ℕ) → Gathers memory count address index bytes → count ≤ index
-    → run memory (bytes_from count address) ≡ Ok bytes
-gathers_all memory count address index bytes h above =
-    h
-    ∙ ap (λ (n : ℕ). after_bytes bytes (run memory (bytes_from n (past address index)))) (let e : count - index ≡ 0 = omega arith in e)
-    ∙ gathered_all memory bytes (past address index)
+  pub gathers_all : Gathers memory count address index bytes → count ≤ index → run memory (bytes_from count address) ≡ Ok bytes
+  gathers_all h above =
+      h
+      ∙ ap (λ (n : ℕ). after_bytes bytes (run memory (bytes_from n (past address index)))) (let e : count - index ≡ 0 = omega arith in e)
+      ∙ gathered_all memory bytes (past address index)
 
 -- A string that is read byte by byte.
 
@@ -139,7 +136,7 @@ spells_one memory limit address index bytes h below =
     h
     ∙ ap (λ (n : ℕ). after_string bytes (run memory (string_from n (past address index)))) (left_one limit index below)
     ∙ ap (after_string bytes) (string_one memory (limit - (index + 1)) (past address index))
-    ∙ ap (λ (a : ℕ). after_string bytes (then (run memory (byte_at (past address index))) (string_next memory (string_from (limit - (index + 1)) a)))) (past_one address index)
+    ∙ ap (λ (a : ℕ). after_string bytes (then (run memory (byte_at (past address index))) (string_next memory (string_from (limit - (index + 1)) a)))) (past-past address index)
 
 pub spells_more : (memory : Answers) (limit address index : ℕ) (bytes : List ℕ) (byte : ℕ) → Spells memory limit address index bytes → index < limit
     → run memory (byte_at (past address index)) ≡ Ok byte → (byte ≡ 0 → ⊥) → Spells memory limit address (index + 1) (bytes ++ byte ∷ [])

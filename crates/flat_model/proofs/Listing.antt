@@ -54,86 +54,82 @@ Lists memory limit address index front =
 abbrev pub rest_of : Answers → ℕ → ℕ → ℕ → Program (Option (List (List ℕ)))
 rest_of memory limit address index = arguments_from (limit - (index + 1)) (past address (4 * (index + 1)))
 
-lists_one : (memory : Answers) (limit address index : ℕ) (front : List (List ℕ)) → Lists memory limit address index front → index < limit
-    → run memory (arguments_from limit address)
-    ≡ after_arguments front (then (run memory (number_at 4 (past address (4 * index)))) (pointer_next memory (rest_of memory limit address index)))
-lists_one memory limit address index front h below =
-    h
-    ∙ ap (λ (n : ℕ). after_arguments front (run memory (arguments_from n (past address (4 * index))))) (left_one limit index below)
-    ∙ ap (after_arguments front) (one memory (limit - (index + 1)) (past address (4 * index)))
-    ∙ ap (λ (a : ℕ). after_arguments front (then (run memory (number_at 4 (past address (4 * index)))) (pointer_next memory (arguments_from (limit - (index + 1)) a)))) (past_four address index)
+module _ (memory : Answers) (limit address index : ℕ) (front : List (List ℕ)) where
+  lists_one : Lists memory limit address index front → index < limit
+      → run memory (arguments_from limit address)
+      ≡ after_arguments front (then (run memory (number_at 4 (past address (4 * index)))) (pointer_next memory (rest_of memory limit address index)))
+  lists_one h below =
+      h
+      ∙ ap (λ (n : ℕ). after_arguments front (run memory (arguments_from n (past address (4 * index))))) (left_one limit index below)
+      ∙ ap (after_arguments front) (one memory (limit - (index + 1)) (past address (4 * index)))
+      ∙ ap (λ (a : ℕ). after_arguments front (then (run memory (number_at 4 (past address (4 * index)))) (pointer_next memory (arguments_from (limit - (index + 1)) a)))) (past_four address index)
 
-pub lists_refused : (memory : Answers) (limit address index : ℕ) (front : List (List ℕ)) (refused : Refused) → Lists memory limit address index front
-    → index < limit
-    → run memory (number_at 4 (past address (4 * index))) ≡ Err refused → run memory (arguments_from limit address) ≡ Err refused
-lists_refused memory limit address index front refused h below e =
-    lists_one memory limit address index front h below
-    ∙ ap (λ (r : Result ℕ Refused). after_arguments front (then r (pointer_next memory (rest_of memory limit address index)))) e
+  pub lists_refused : (refused : Refused) → Lists memory limit address index front → index < limit
+      → run memory (number_at 4 (past address (4 * index))) ≡ Err refused → run memory (arguments_from limit address) ≡ Err refused
+  lists_refused refused h below e =
+      lists_one h below
+      ∙ ap (λ (r : Result ℕ Refused). after_arguments front (then r (pointer_next memory (rest_of memory limit address index)))) e
 
-pub lists_end : (memory : Answers) (limit address index : ℕ) (front : List (List ℕ)) → Lists memory limit address index front → index < limit
-    → run memory (number_at 4 (past address (4 * index))) ≡ Ok 0 → run memory (arguments_from limit address) ≡ Ok (Some front)
-lists_end memory limit address index front h below e =
-    lists_one memory limit address index front h below
-    ∙ ap (λ (r : Result ℕ Refused). after_arguments front (then r (pointer_next memory (rest_of memory limit address index)))) e
-    ∙ ap (λ (x : List (List ℕ)). Ok (Some x)) (append-nil front)
+  pub lists_end : Lists memory limit address index front → index < limit
+      → run memory (number_at 4 (past address (4 * index))) ≡ Ok 0 → run memory (arguments_from limit address) ≡ Ok (Some front)
+  lists_end h below e =
+      lists_one h below
+      ∙ ap (λ (r : Result ℕ Refused). after_arguments front (then r (pointer_next memory (rest_of memory limit address index)))) e
+      ∙ ap (λ (x : List (List ℕ)). Ok (Some x)) (append-nil front)
 
-lists_string : (memory : Answers) (limit address index : ℕ) (front : List (List ℕ)) (pointer : ℕ) → Lists memory limit address index front → index < limit
-    → run memory (number_at 4 (past address (4 * index))) ≡ Ok pointer → (pointer ≡ 0 → ⊥)
-    → run memory (arguments_from limit address)
-    ≡ after_arguments front (then (run memory (string_from string_limit pointer)) (string_next memory (rest_of memory limit address index)))
-lists_string memory limit address index front pointer h below e other =
-    lists_one memory limit address index front h below
-    ∙ ap (λ (r : Result ℕ Refused). after_arguments front (then r (pointer_next memory (rest_of memory limit address index)))) e
-    ∙ ap (after_arguments front) (pointed memory pointer (rest_of memory limit address index) other)
+  lists_string : (pointer : ℕ) → Lists memory limit address index front → index < limit
+      → run memory (number_at 4 (past address (4 * index))) ≡ Ok pointer → (pointer ≡ 0 → ⊥)
+      → run memory (arguments_from limit address)
+      ≡ after_arguments front (then (run memory (string_from string_limit pointer)) (string_next memory (rest_of memory limit address index)))
+  lists_string pointer h below e other =
+      lists_one h below
+      ∙ ap (λ (r : Result ℕ Refused). after_arguments front (then r (pointer_next memory (rest_of memory limit address index)))) e
+      ∙ ap (after_arguments front) (pointed memory pointer (rest_of memory limit address index) other)
 
-pub lists_string_refused : (memory : Answers) (limit address index : ℕ) (front : List (List ℕ)) (pointer : ℕ) (refused : Refused)
-    → Lists memory limit address index front → index < limit
-    → run memory (number_at 4 (past address (4 * index))) ≡ Ok pointer → (pointer ≡ 0 → ⊥) → run memory (string_from string_limit pointer) ≡ Err refused
-    → run memory (arguments_from limit address) ≡ Err refused
-lists_string_refused memory limit address index front pointer refused h below e other k =
-    lists_string memory limit address index front pointer h below e other
-    ∙ ap (λ (r : Result (Option (List ℕ)) Refused). after_arguments front (then r (string_next memory (rest_of memory limit address index)))) k
+  pub lists_string_refused : (pointer : ℕ) (refused : Refused) → Lists memory limit address index front → index < limit
+      → run memory (number_at 4 (past address (4 * index))) ≡ Ok pointer → (pointer ≡ 0 → ⊥) → run memory (string_from string_limit pointer) ≡ Err refused
+      → run memory (arguments_from limit address) ≡ Err refused
+  lists_string_refused pointer refused h below e other k =
+      lists_string pointer h below e other
+      ∙ ap (λ (r : Result (Option (List ℕ)) Refused). after_arguments front (then r (string_next memory (rest_of memory limit address index)))) k
 
-pub lists_long : (memory : Answers) (limit address index : ℕ) (front : List (List ℕ)) (pointer : ℕ) → Lists memory limit address index front → index < limit
-    → run memory (number_at 4 (past address (4 * index))) ≡ Ok pointer → (pointer ≡ 0 → ⊥) → run memory (string_from string_limit pointer) ≡ Ok None
-    → run memory (arguments_from limit address) ≡ Ok None
-lists_long memory limit address index front pointer h below e other k =
-    lists_string memory limit address index front pointer h below e other
-    ∙ ap (λ (r : Result (Option (List ℕ)) Refused). after_arguments front (then r (string_next memory (rest_of memory limit address index)))) k
+  pub lists_long : (pointer : ℕ) → Lists memory limit address index front → index < limit → run memory (number_at 4 (past address (4 * index))) ≡ Ok pointer
+      → (pointer ≡ 0 → ⊥) → run memory (string_from string_limit pointer) ≡ Ok None → run memory (arguments_from limit address) ≡ Ok None
+  lists_long pointer h below e other k =
+      lists_string pointer h below e other
+      ∙ ap (λ (r : Result (Option (List ℕ)) Refused). after_arguments front (then r (string_next memory (rest_of memory limit address index)))) k
 
-pub lists_more : (memory : Answers) (limit address index : ℕ) (front : List (List ℕ)) (pointer : ℕ) (string : List ℕ)
-    → Lists memory limit address index front → index < limit
-    → run memory (number_at 4 (past address (4 * index))) ≡ Ok pointer → (pointer ≡ 0 → ⊥) → run memory (string_from string_limit pointer) ≡ Ok (Some string)
-    → Lists memory limit address (index + 1) (front ++ string ∷ [])
-lists_more memory limit address index front pointer string h below e other k =
-    lists_string memory limit address index front pointer h below e other
-    ∙ ap (λ (r : Result (Option (List ℕ)) Refused). after_arguments front (then r (string_next memory (rest_of memory limit address index)))) k
-    ∙ ap (after_arguments front) (run_bind memory (rest_of memory limit address index) (λ (strings : Option (List (List ℕ))). Gives (before string strings)))
-    ∙ moved front string (run memory (rest_of memory limit address index))
+  pub lists_more : (pointer : ℕ) (string : List ℕ) → Lists memory limit address index front → index < limit
+      → run memory (number_at 4 (past address (4 * index))) ≡ Ok pointer → (pointer ≡ 0 → ⊥) → run memory (string_from string_limit pointer) ≡ Ok (Some string)
+      → Lists memory limit address (index + 1) (front ++ string ∷ [])
+  lists_more pointer string h below e other k =
+      lists_string pointer h below e other
+      ∙ ap (λ (r : Result (Option (List ℕ)) Refused). after_arguments front (then r (string_next memory (rest_of memory limit address index)))) k
+      ∙ ap (after_arguments front) (run_bind memory (rest_of memory limit address index) (λ (strings : Option (List (List ℕ))). Gives (before string strings)))
+      ∙ moved front string (run memory (rest_of memory limit address index))
 
--- after the last argument that may be, only a pointer 0 ends the list
-pub lists_last : (memory : Answers) (limit address index : ℕ) (front : List (List ℕ)) → Lists memory limit address index front → index ≡ limit
-    → run memory (arguments_from limit address)
-    ≡ after_arguments front (then (run memory (number_at 4 (past address (4 * limit)))) (λ pointer. run memory (last_pointer pointer)))
-lists_last memory limit address index front h end =
-    h
-    ∙ ap (λ (n : ℕ). after_arguments front (run memory (arguments_from n (past address (4 * index))))) (let e : limit - index ≡ 0 = omega arith in e)
-    ∙ ap (after_arguments front) (last memory (past address (4 * index)))
-    ∙ ap (λ (n : ℕ). after_arguments front (then (run memory (number_at 4 (past address (4 * n)))) (λ pointer. run memory (last_pointer pointer)))) end
+  -- after the last argument that may be, only a pointer 0 ends the list
+  pub lists_last : Lists memory limit address index front → index ≡ limit
+      → run memory (arguments_from limit address)
+      ≡ after_arguments front (then (run memory (number_at 4 (past address (4 * limit)))) (λ pointer. run memory (last_pointer pointer)))
+  lists_last h end =
+      h
+      ∙ ap (λ (n : ℕ). after_arguments front (run memory (arguments_from n (past address (4 * index))))) (let e : limit - index ≡ 0 = omega arith in e)
+      ∙ ap (after_arguments front) (last memory (past address (4 * index)))
+      ∙ ap (λ (n : ℕ). after_arguments front (then (run memory (number_at 4 (past address (4 * n)))) (λ pointer. run memory (last_pointer pointer)))) end
 
-pub last_refused : (memory : Answers) (limit address index : ℕ) (front : List (List ℕ)) (refused : Refused) → Lists memory limit address index front
-    → index ≡ limit
-    → run memory (number_at 4 (past address (4 * limit))) ≡ Err refused → run memory (arguments_from limit address) ≡ Err refused
-last_refused memory limit address index front refused h end e =
-    lists_last memory limit address index front h end
-    ∙ ap (λ (r : Result ℕ Refused). after_arguments front (then r (λ pointer. run memory (last_pointer pointer)))) e
+  pub last_refused : (refused : Refused) → Lists memory limit address index front → index ≡ limit
+      → run memory (number_at 4 (past address (4 * limit))) ≡ Err refused → run memory (arguments_from limit address) ≡ Err refused
+  last_refused refused h end e =
+      lists_last h end
+      ∙ ap (λ (r : Result ℕ Refused). after_arguments front (then r (λ pointer. run memory (last_pointer pointer)))) e
 
-pub last_end : (memory : Answers) (limit address index : ℕ) (front : List (List ℕ)) → Lists memory limit address index front → index ≡ limit
-    → run memory (number_at 4 (past address (4 * limit))) ≡ Ok 0 → run memory (arguments_from limit address) ≡ Ok (Some front)
-last_end memory limit address index front h end e =
-    lists_last memory limit address index front h end
-    ∙ ap (λ (r : Result ℕ Refused). after_arguments front (then r (λ pointer. run memory (last_pointer pointer)))) e
-    ∙ ap (λ (x : List (List ℕ)). Ok (Some x)) (append-nil front)
+  pub last_end : Lists memory limit address index front → index ≡ limit
+      → run memory (number_at 4 (past address (4 * limit))) ≡ Ok 0 → run memory (arguments_from limit address) ≡ Ok (Some front)
+  last_end h end e =
+      lists_last h end
+      ∙ ap (λ (r : Result ℕ Refused). after_arguments front (then r (λ pointer. run memory (last_pointer pointer)))) e
+      ∙ ap (λ (x : List (List ℕ)). Ok (Some x)) (append-nil front)
 
 more_than : (memory : Answers) (front : List (List ℕ)) (pointer : ℕ) → (pointer ≡ 0 → ⊥) → after_arguments front (run memory (last_pointer pointer)) ≡ Ok None
 more_than memory front zero h = absurd (h refl)

@@ -34,38 +34,34 @@ pub data Shape (pid : ℕ) (es : List Entry) : Type 0 where
   One : (e : Entry) → IsStepEnd pid e → es ≡ e ∷ [] → Shape pid es
   Two : (bytes : List ℕ) (n : ℕ) (c : Bool) (r0 r1 : ℕ) → es ≡ Out pid bytes ∷ Call pid n c r0 r1 ∷ [] → Shape pid es
 
-replied_shape : (images : List NamedImage) (F : FlatState) (p : Process) (call : SystemCall) (effect : Effect) (reply : Reply)
-    → Shape p.pid (replied_step images F p call effect reply).entries
-replied_shape images F p call effect (Fails error) = One _ refl refl
-replied_shape images F p call effect (Does regs change) = One _ refl refl
-replied_shape images F p call effect (Writes []) = One _ refl refl
-replied_shape images F p call effect (Writes (byte ∷ bytes)) = Two _ _ _ _ _ refl
-replied_shape images F p call effect Waits = One _ refl refl
-replied_shape images F p call effect (Exits status) = One _ refl refl
+module _ (images : List NamedImage) (F : FlatState) (p : Process) where
+  replied_shape : (call : SystemCall) (effect : Effect) (reply : Reply) → Shape p.pid (replied_step images F p call effect reply).entries
+  replied_shape call effect (Fails error) = One _ refl refl
+  replied_shape call effect (Does regs change) = One _ refl refl
+  replied_shape call effect (Writes []) = One _ refl refl
+  replied_shape call effect (Writes (byte ∷ bytes)) = Two _ _ _ _ _ refl
+  replied_shape call effect Waits = One _ refl refl
+  replied_shape call effect (Exits status) = One _ refl refl
 
-called_shape : (images : List NamedImage) (F : FlatState) (p : Process) (s : Space) (refused : Bool) (effect : Effect) (o : Option SystemCall)
-    → Shape p.pid (called_step images F p s refused effect o).entries
-called_shape images F p s refused effect None = One _ refl refl
-called_shape images F p s refused effect (Some call) = replied_shape images F p call effect (reply_behind images F p s refused call effect)
+  called_shape : (s : Space) (refused : Bool) (effect : Effect) (o : Option SystemCall) → Shape p.pid (called_step images F p s refused effect o).entries
+  called_shape s refused effect None = One _ refl refl
+  called_shape s refused effect (Some call) = replied_shape call effect (reply_behind images F p s refused call effect)
 
-behind_shape : (images : List NamedImage) (F : FlatState) (p : Process) (s : Space) (refused : Bool) (effect : Effect) (o : Option ℤ)
-    → Shape p.pid (step_behind images F p s refused effect o).entries
-behind_shape images F p s refused effect None = One _ refl refl
-behind_shape images F p s refused effect (Some number) = called_shape images F p s refused effect (call_of number)
+  behind_shape : (s : Space) (refused : Bool) (effect : Effect) (o : Option ℤ) → Shape p.pid (step_behind images F p s refused effect o).entries
+  behind_shape s refused effect None = One _ refl refl
+  behind_shape s refused effect (Some number) = called_shape s refused effect (call_of number)
 
-of_shape : (images : List NamedImage) (F : FlatState) (p : Process) (s : Space) (refused : Bool) (r : Result Effect Refused)
-    → Shape p.pid (step_of images F p s refused r).entries
-of_shape images F p s refused (Ok effect) = behind_shape images F p s refused effect effect.call
-of_shape images F p s refused (Err (Miss address write)) = Empty refl
-of_shape images F p s true (Err (Below address)) = One _ refl refl
-of_shape images F p s false (Err (Below address)) = One _ refl refl
-of_shape images F p s refused (Err (Signal number)) = One _ refl refl
+  of_shape : (s : Space) (refused : Bool) (r : Result Effect Refused) → Shape p.pid (step_of images F p s refused r).entries
+  of_shape s refused (Ok effect) = behind_shape s refused effect effect.call
+  of_shape s refused (Err (Miss address write)) = Empty refl
+  of_shape s true (Err (Below address)) = One _ refl refl
+  of_shape s false (Err (Below address)) = One _ refl refl
+  of_shape s refused (Err (Signal number)) = One _ refl refl
 
-holding_shape : (images : List NamedImage) (F : FlatState) (p : Process) (refused : Bool) (h : Holding)
-    → Shape p.pid (step_holding images F p refused h).entries
-holding_shape images F p refused (Holds s) = of_shape images F p s refused (instruction_in s p.regs)
-holding_shape images F p refused (Lends sid child) = Empty refl
-holding_shape images F p refused (Zombie status) = Empty refl
+  holding_shape : (refused : Bool) (h : Holding) → Shape p.pid (step_holding images F p refused h).entries
+  holding_shape refused (Holds s) = of_shape s refused (instruction_in s p.regs)
+  holding_shape refused (Lends sid child) = Empty refl
+  holding_shape refused (Zombie status) = Empty refl
 
 -- the process that is found has the number
 abbrev IsNumbered : ℕ → Option Process → Type 0
@@ -149,42 +145,40 @@ refused_outcome A F pid n = go (can_step F pid) n
 
 -- A step that writes asks for no pieces.
 
-replied_writes : (images : List NamedImage) (F : FlatState) (p : Process) (s : Space) (call : SystemCall) (effect : Effect) (reply : Reply) (pid : ℕ)
-    (bytes : List ℕ) (behind : List Entry)
-    → (replied_step images F p call effect reply).entries ≡ Out pid bytes ∷ behind
-    → change_wanted images F s (replied_step images F p call effect reply).change ≡ []
-replied_writes images F p s call effect (Fails error) pid bytes behind h = refl
-replied_writes images F p s call effect (Does regs change) pid bytes behind h = absurd cc
-replied_writes images F p s call effect (Writes written) pid bytes behind h = refl
-replied_writes images F p s call effect Waits pid bytes behind h = refl
-replied_writes images F p s call effect (Exits status) pid bytes behind h = refl
+module _ (images : List NamedImage) (F : FlatState) (p : Process) where
+  replied_writes : (s : Space) (call : SystemCall) (effect : Effect) (reply : Reply) (pid : ℕ) (bytes : List ℕ) (behind : List Entry)
+      → (replied_step images F p call effect reply).entries ≡ Out pid bytes ∷ behind
+      → change_wanted images F s (replied_step images F p call effect reply).change ≡ []
+  replied_writes s call effect (Fails error) pid bytes behind h = refl
+  replied_writes s call effect (Does regs change) pid bytes behind h = absurd cc
+  replied_writes s call effect (Writes written) pid bytes behind h = refl
+  replied_writes s call effect Waits pid bytes behind h = refl
+  replied_writes s call effect (Exits status) pid bytes behind h = refl
 
-called_writes : (images : List NamedImage) (F : FlatState) (p : Process) (s : Space) (effect : Effect) (o : Option SystemCall) (pid : ℕ)
-    (bytes : List ℕ) (behind : List Entry)
-    → (called_step images F p s false effect o).entries ≡ Out pid bytes ∷ behind
-    → change_wanted images F s (called_step images F p s false effect o).change ≡ []
-called_writes images F p s effect None pid bytes behind h = refl
-called_writes images F p s effect (Some call) pid bytes behind h = replied_writes images F p s call effect (reply_behind images F p s false call effect) pid bytes behind h
+  called_writes : (s : Space) (effect : Effect) (o : Option SystemCall) (pid : ℕ) (bytes : List ℕ) (behind : List Entry)
+      → (called_step images F p s false effect o).entries ≡ Out pid bytes ∷ behind
+      → change_wanted images F s (called_step images F p s false effect o).change ≡ []
+  called_writes s effect None pid bytes behind h = refl
+  called_writes s effect (Some call) pid bytes behind h = replied_writes s call effect (reply_behind images F p s false call effect) pid bytes behind h
 
-behind_writes : (images : List NamedImage) (F : FlatState) (p : Process) (s : Space) (effect : Effect) (o : Option ℤ) (pid : ℕ)
-    (bytes : List ℕ) (behind : List Entry)
-    → (step_behind images F p s false effect o).entries ≡ Out pid bytes ∷ behind
-    → change_wanted images F s (step_behind images F p s false effect o).change ≡ []
-behind_writes images F p s effect None pid bytes behind h = refl
-behind_writes images F p s effect (Some number) pid bytes behind h = called_writes images F p s effect (call_of number) pid bytes behind h
+  behind_writes : (s : Space) (effect : Effect) (o : Option ℤ) (pid : ℕ) (bytes : List ℕ) (behind : List Entry)
+      → (step_behind images F p s false effect o).entries ≡ Out pid bytes ∷ behind
+      → change_wanted images F s (step_behind images F p s false effect o).change ≡ []
+  behind_writes s effect None pid bytes behind h = refl
+  behind_writes s effect (Some number) pid bytes behind h = called_writes s effect (call_of number) pid bytes behind h
 
-of_writes : (images : List NamedImage) (F : FlatState) (p : Process) (s : Space) (r : Result Effect Refused) (pid : ℕ) (bytes : List ℕ) (behind : List Entry)
-    → (step_of images F p s false r).entries ≡ Out pid bytes ∷ behind → change_wanted images F s (step_of images F p s false r).change ≡ []
-of_writes images F p s (Ok effect) pid bytes behind h = behind_writes images F p s effect effect.call pid bytes behind h
-of_writes images F p s (Err (Miss address write)) pid bytes behind h = refl
-of_writes images F p s (Err (Below address)) pid bytes behind h = absurd cc
-of_writes images F p s (Err (Signal number)) pid bytes behind h = refl
+  of_writes : (s : Space) (r : Result Effect Refused) (pid : ℕ) (bytes : List ℕ) (behind : List Entry)
+      → (step_of images F p s false r).entries ≡ Out pid bytes ∷ behind → change_wanted images F s (step_of images F p s false r).change ≡ []
+  of_writes s (Ok effect) pid bytes behind h = behind_writes s effect effect.call pid bytes behind h
+  of_writes s (Err (Miss address write)) pid bytes behind h = refl
+  of_writes s (Err (Below address)) pid bytes behind h = absurd cc
+  of_writes s (Err (Signal number)) pid bytes behind h = refl
 
-holding_writes : (images : List NamedImage) (F : FlatState) (p : Process) (o : Holding) (pid : ℕ) (bytes : List ℕ) (behind : List Entry)
-    → (step_holding images F p false o).entries ≡ Out pid bytes ∷ behind → wanted_in images F (step_holding images F p false o).change o ≡ []
-holding_writes images F p (Holds s) pid bytes behind h = of_writes images F p s (instruction_in s p.regs) pid bytes behind h
-holding_writes images F p (Lends sid child) pid bytes behind h = refl
-holding_writes images F p (Zombie status) pid bytes behind h = refl
+  holding_writes : (o : Holding) (pid : ℕ) (bytes : List ℕ) (behind : List Entry)
+      → (step_holding images F p false o).entries ≡ Out pid bytes ∷ behind → wanted_in images F (step_holding images F p false o).change o ≡ []
+  holding_writes (Holds s) pid bytes behind h = of_writes s (instruction_in s p.regs) pid bytes behind h
+  holding_writes (Lends sid child) pid bytes behind h = refl
+  holding_writes (Zombie status) pid bytes behind h = refl
 
 if_writes : (images : List NamedImage) (F : FlatState) (o : Option Process) (pid : ℕ) (bytes : List ℕ) (behind : List Entry)
     → (step_if images F false o).entries ≡ Out pid bytes ∷ behind → wanted_if images F (step_if images F false o).change o ≡ []

@@ -32,24 +32,24 @@ images_one f image h = ap (λ (r : Result Loaded ℕ). named_as f.name r ++ []) 
 abbrev pub Searches : List NamedImage → List ℕ → ℕ → Type 0
 Searches images name place = image_named 1 images name ≡ image_named (place + 1) (drop place images) name
 
-search_one : (images : List NamedImage) (name : List ℕ) (place : ℕ) (d : NamedImage) → place < length images
-    → image_named (place + 1) (drop place images) name ≡ numbered_by (bytes_eq (get_or images place d).name name) (place + 1) (get_or images place d)
-    (image_named (suc (place + 1)) (drop (place + 1) images) name)
-unfolding image_named
-search_one images name place d below = ap (λ (x : List NamedImage). image_named (place + 1) x name) (drop_more images place d below)
+module _ (images : List NamedImage) (name : List ℕ) (place : ℕ) (d : NamedImage) where
+  search_one : place < length images
+      → image_named (place + 1) (drop place images) name ≡ numbered_by (bytes_eq (get_or images place d).name name) (place + 1) (get_or images place d)
+      (image_named (suc (place + 1)) (drop (place + 1) images) name)
+  unfolding image_named
+  search_one below = ap (λ (x : List NamedImage). image_named (place + 1) x name) (drop_more images place d below)
 
-pub search_more : (images : List NamedImage) (name : List ℕ) (place : ℕ) (d : NamedImage) → place < length images → Searches images name place
-    → bytes_eq (get_or images place d).name name ≡ false → Searches images name (place + 1)
-search_more images name place d below h e =
-    h ∙ search_one images name place d below
-    ∙ ap (λ (b : Bool). numbered_by b (place + 1) (get_or images place d) (image_named (suc (place + 1)) (drop (place + 1) images) name)) e
-    ∙ ap (λ (n : ℕ). image_named n (drop (place + 1) images) name) (let k : suc (place + 1) ≡ place + 1 + 1 = omega arith in k)
+  pub search_more : place < length images → Searches images name place → bytes_eq (get_or images place d).name name ≡ false → Searches images name (place + 1)
+  search_more below h e =
+      h ∙ search_one below
+      ∙ ap (λ (b : Bool). numbered_by b (place + 1) (get_or images place d) (image_named (suc (place + 1)) (drop (place + 1) images) name)) e
+      ∙ ap (λ (n : ℕ). image_named n (drop (place + 1) images) name) (let k : suc (place + 1) ≡ place + 1 + 1 = omega arith in k)
 
-pub search_found : (images : List NamedImage) (name : List ℕ) (place : ℕ) (d : NamedImage) → place < length images → Searches images name place
-    → bytes_eq (get_or images place d).name name ≡ true → image_named 1 images name ≡ Some (place + 1, get_or images place d)
-search_found images name place d below h e =
-    h ∙ search_one images name place d below
-    ∙ ap (λ (b : Bool). numbered_by b (place + 1) (get_or images place d) (image_named (suc (place + 1)) (drop (place + 1) images) name)) e
+  pub search_found : place < length images → Searches images name place
+      → bytes_eq (get_or images place d).name name ≡ true → image_named 1 images name ≡ Some (place + 1, get_or images place d)
+  search_found below h e =
+      h ∙ search_one below
+      ∙ ap (λ (b : Bool). numbered_by b (place + 1) (get_or images place d) (image_named (suc (place + 1)) (drop (place + 1) images) name)) e
 
 pub search_end : (images : List NamedImage) (name : List ℕ) (place : ℕ) → length images ≤ place → Searches images name place → image_named 1 images name ≡ None
 unfolding image_named

@@ -30,6 +30,7 @@ use Rattle.flat_model.specs.Instruction.{instruction_in}
 use Rattle.flat_model.specs.Calls.{call_of, reply_of, argument, exit_reply, break_reply, break_by, pages_up_to, stack_pages_of, data_limit, refusal_of}
 use Rattle.flat_model.specs.declared.calls.Reply.TheVariants.{Exits}
 use Rattle.std.proofs.lemmas.List.Elements.{filter_map-append}
+use Rattle.user_step.proofs.Trying.{missed as answer_missed}
 use Rattle.flat_state.proofs.PageLists.{left, AllAmong, among_kept, among_last, left_other, left_more, filter_both, filter_all}
 use Rattle.flat_state.specs.Change.{apply_writes}
 use Rattle.flat_model.specs.declared.calls.SystemCall.{SystemCall}
@@ -207,59 +208,45 @@ hit {A = A} s present p none = go (run (shown s present) p) none (paging s prese
 
 -- An instruction over present pages.
 
-answer_missed : (r : Result Effect Refused) (address : ℕ) (write : Bool) → answer_of r ≡ steps.Miss address write → r ≡ Err (Miss address write)
-answer_missed (Ok effect) address write h = go effect.call h
-  where
-    go : (o : Option ℤ) → answer_of_call o ≡ steps.Miss address write → Ok effect ≡ Err (Miss address write)
-    go None k = absurd cc
-    go (Some number) k = absurd cc
-answer_missed (Err (Miss a w)) address write h =
-    let first : a ≡ address = cc in
-    let second : w ≡ write = cc in
-    ap₂ (λ (x : ℕ) (y : Bool). Err (Miss x y)) first second
-answer_missed (Err (Falls a)) address write h = absurd cc
-answer_missed (Err (Signal number)) address write h = absurd cc
+module _ (s t : Space) (present left : List Page) (regs after : Regs) where
+  -- what an instruction that missed left: all as it was, and a page to be brought in
+  pub record Misses (address : ℕ) (write : Bool) : Type 0 where
+    pub space : t ≡ s
+    pub pages : left ≡ present
+    pub registers : after ≡ regs
+    pub brings : Brings s present address write (pages_of s (accesses (answers_of s) (instruction regs)))
 
--- what an instruction that missed left: all as it was, and a page to be brought in
-pub record Misses (s t : Space) (present left : List Page) (regs after : Regs) (address : ℕ) (write : Bool) : Type 0 where
-  pub space : t ≡ s
-  pub pages : left ≡ present
-  pub registers : after ≡ regs
-  pub brings : Brings s present address write (pages_of s (accesses (answers_of s) (instruction regs)))
+  pub missed_answer : (stepped : Stepped) (address : ℕ) (write : Bool) → stepped ≡ answer_of (run (shown s present) (instruction regs))
+      → after ≡ registers_after regs (run (shown s present) (instruction regs))
+      → WrotePresent present s (writes_of (run (shown s present) (instruction regs))) left t → stepped ≡ steps.Miss address write → Misses address write
+  missed_answer stepped address write answer registers wrote is =
+      let miss = answer_missed (run (shown s present) (instruction regs)) address write (sym answer ∙ is) in
+      record {
+        space = sym (subst (λ (r : Result Effect Refused). Wrote s (writes_of r) t) miss wrote.wrote);
+        pages = wrote.kept;
+        registers = registers ∙ ap (registers_after regs) miss;
+        brings = missed s present (instruction regs) address write miss;
+      }
 
-pub missed_answer : (s t : Space) (present left : List Page) (regs after : Regs) (stepped : Stepped) (address : ℕ) (write : Bool)
-    → stepped ≡ answer_of (run (shown s present) (instruction regs)) → after ≡ registers_after regs (run (shown s present) (instruction regs))
-    → WrotePresent present s (writes_of (run (shown s present) (instruction regs))) left t → stepped ≡ steps.Miss address write
-    → Misses s t present left regs after address write
-missed_answer s t present left regs after stepped address write answer registers wrote is =
-    let miss = answer_missed (run (shown s present) (instruction regs)) address write (sym answer ∙ is) in
-    record {
-      space = sym (subst (λ (r : Result Effect Refused). Wrote s (writes_of r) t) miss wrote.wrote);
-      pages = wrote.kept;
-      registers = registers ∙ ap (registers_after regs) miss;
-      brings = missed s present (instruction regs) address write miss;
-    }
+  -- what an instruction that didn't miss left: all as over the whole space, and the pages that it touches are there
+  pub record Hits (stepped : Stepped) : Type 0 where
+    pub answer : stepped ≡ answer_of (instruction_in s regs)
+    pub registers : after ≡ registers_after regs (instruction_in s regs)
+    pub space : t ≡ puts s (writes_of (instruction_in s regs))
+    pub pages : left ≡ gathered present (pages_of s (accesses (answers_of s) (instruction regs)))
 
--- what an instruction that didn't miss left: all as over the whole space, and the pages that it touches are there
-pub record Hits (s t : Space) (present left : List Page) (regs after : Regs) (stepped : Stepped) : Type 0 where
-  pub answer : stepped ≡ answer_of (instruction_in s regs)
-  pub registers : after ≡ registers_after regs (instruction_in s regs)
-  pub space : t ≡ puts s (writes_of (instruction_in s regs))
-  pub pages : left ≡ gathered present (pages_of s (accesses (answers_of s) (instruction regs)))
-
-pub hit_answer : (s t : Space) (present left : List Page) (regs after : Regs) (stepped : Stepped)
-    → stepped ≡ answer_of (run (shown s present) (instruction regs)) → after ≡ registers_after regs (run (shown s present) (instruction regs))
-    → WrotePresent present s (writes_of (run (shown s present) (instruction regs))) left t
-    → ((address : ℕ) (write : Bool) → stepped ≡ steps.Miss address write → ⊥)
-    → Hits s t present left regs after stepped
-hit_answer s t present left regs after stepped answer registers wrote none =
-    let whole = hit s present (instruction regs) (λ address write h. none address write (answer ∙ ap answer_of h)) in
-    record {
-      answer = answer ∙ ap answer_of whole.0;
-      registers = registers ∙ ap (registers_after regs) whole.0;
-      space = wrote_puts s t (writes_of (instruction_in s regs)) (subst (λ (r : Result Effect Refused). Wrote s (writes_of r) t) whole.0 wrote.wrote);
-      pages = wrote.kept ∙ sym whole.1;
-    }
+  pub hit_answer : (stepped : Stepped) → stepped ≡ answer_of (run (shown s present) (instruction regs))
+      → after ≡ registers_after regs (run (shown s present) (instruction regs))
+      → WrotePresent present s (writes_of (run (shown s present) (instruction regs))) left t
+      → ((address : ℕ) (write : Bool) → stepped ≡ steps.Miss address write → ⊥) → Hits stepped
+  hit_answer stepped answer registers wrote none =
+      let whole = hit s present (instruction regs) (λ address write h. none address write (answer ∙ ap answer_of h)) in
+      record {
+        answer = answer ∙ ap answer_of whole.0;
+        registers = registers ∙ ap (registers_after regs) whole.0;
+        space = wrote_puts s t (writes_of (instruction_in s regs)) (subst (λ (r : Result Effect Refused). Wrote s (writes_of r) t) whole.0 wrote.wrote);
+        pages = wrote.kept ∙ sym whole.1;
+      }
 
 -- the pages that an instruction touches
 abbrev pub instruction_pages : Space → Regs → List Page

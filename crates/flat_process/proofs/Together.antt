@@ -16,50 +16,50 @@ pub overwritten_length : (xs : List ℕ) (at : ℕ) (ys : List ℕ) → length (
 overwritten_length xs at [] = refl
 overwritten_length xs at (y ∷ ys) = overwritten_length (set xs at y) (at + 1) ys ∙ length-set xs at y
 
--- a space by the bytes of one segment, which lie together from an address on, as far as there is room
-record IsSegment (with_segment : List ℕ → Space) (make : ℕ → Spot) (count room a i : ℕ) : Type 0 where
-  puts : (xs : List ℕ) (x byte : ℕ) → put_at (with_segment xs) (make x) byte ≡ with_segment (set xs x byte)
-  may : (x : ℕ) → may_write_at (make x) ≡ tests.May
-  within : (xs : List ℕ) (x : ℕ) → x < length xs → IsWithin (with_segment xs) (make x)
-  beside : (xs : List ℕ) (j : ℕ) → length xs ≡ count → j < room → address_in (with_segment xs) (a + j) ≡ make (i + j)
-  low : a + room < 2 ^ 32
-  fits : i + room ≤ count
+module _ (with_segment : List ℕ → Space) (make : ℕ → Spot) (count room a i : ℕ) where
+  -- a space by the bytes of one segment, which lie together from an address on, as far as there is room
+  record IsSegment : Type 0 where
+    puts : (xs : List ℕ) (x byte : ℕ) → put_at (with_segment xs) (make x) byte ≡ with_segment (set xs x byte)
+    may : (x : ℕ) → may_write_at (make x) ≡ tests.May
+    within : (xs : List ℕ) (x : ℕ) → x < length xs → IsWithin (with_segment xs) (make x)
+    beside : (xs : List ℕ) (j : ℕ) → length xs ≡ count → j < room → address_in (with_segment xs) (a + j) ≡ make (i + j)
+    low : a + room < 2 ^ 32
+    fits : i + room ≤ count
 
-wrote_from : (with_segment : List ℕ → Space) (make : ℕ → Spot) (count room a i : ℕ) → IsSegment with_segment make count room a i
-    → (bytes : List ℕ) (j : ℕ) (xs : List ℕ) → length xs ≡ count → j + length bytes ≤ room
-    → Wrote (with_segment xs) (writes_from (a + j) bytes) (with_segment (overwritten xs (i + j) bytes))
-wrote_from with_segment make count room a i s [] j xs long few = refl
-wrote_from with_segment make count room a i s (byte ∷ bytes) j xs long few =
-    let near : j < room = omega (arith, few) in
-    let here : address_in (with_segment xs) (a + j) ≡ make (i + j) = s.beside xs j long near in
-    let low : a + room < 2 ^ 32 = s.low in
-    let fits : i + room ≤ count = s.fits in
-    let inside : i + j < length xs = omega (arith, near, fits, long) in
-    let put : MayPut (with_segment xs) (a + j) = record {
-      may = ap may_write_at here ∙ s.may (i + j);
-      within = subst (IsWithin (with_segment xs)) (sym here) (s.within xs (i + j) inside);
-    } in
-    let after : List ℕ = set xs (i + j) byte in
-    let one : put_in_space (with_segment xs) (record { address = a + j; byte = byte }) ≡ with_segment after =
-    ap (λ (p : Spot). put_at (with_segment xs) p byte) here ∙ s.puts xs (i + j) byte in
-    let next : (a + j + 1) % 2 ^ 32 ≡ a + suc j = omega (arith, low, near) in
-    let place : i + suc j ≡ i + j + 1 = omega arith in
-    let rest : Wrote (with_segment after) (writes_from (a + suc j) bytes) (with_segment (overwritten after (i + suc j) bytes)) =
-    wrote_from with_segment make count room a i s bytes (suc j) after (length-set xs (i + j) byte ∙ long) (omega (arith, few)) in (
-      put,
-      subst (λ (x : Space). Wrote x (writes_from ((a + j + 1) % 2 ^ 32) bytes) (with_segment (overwritten after (i + j + 1) bytes))) (sym one)
-          (subst (λ (x : ℕ). Wrote (with_segment after) (writes_from x bytes) (with_segment (overwritten after (i + j + 1) bytes))) (sym next)
-          (subst (λ (x : ℕ). Wrote (with_segment after) (writes_from (a + suc j) bytes) (with_segment (overwritten after x bytes))) place rest)),
-    )
+  wrote_from : IsSegment → (bytes : List ℕ) (j : ℕ) (xs : List ℕ) → length xs ≡ count → j + length bytes ≤ room
+      → Wrote (with_segment xs) (writes_from (a + j) bytes) (with_segment (overwritten xs (i + j) bytes))
+  wrote_from s [] j xs long few = refl
+  wrote_from s (byte ∷ bytes) j xs long few =
+      let near : j < room = omega (arith, few) in
+      let here : address_in (with_segment xs) (a + j) ≡ make (i + j) = s.beside xs j long near in
+      let low : a + room < 2 ^ 32 = s.low in
+      let fits : i + room ≤ count = s.fits in
+      let inside : i + j < length xs = omega (arith, near, fits, long) in
+      let put : MayPut (with_segment xs) (a + j) = record {
+        may = ap may_write_at here ∙ s.may (i + j);
+        within = subst (IsWithin (with_segment xs)) (sym here) (s.within xs (i + j) inside);
+      } in
+      let after : List ℕ = set xs (i + j) byte in
+      let one : put_in_space (with_segment xs) (record { address = a + j; byte = byte }) ≡ with_segment after =
+      ap (λ (p : Spot). put_at (with_segment xs) p byte) here ∙ s.puts xs (i + j) byte in
+      let next : (a + j + 1) % 2 ^ 32 ≡ a + suc j = omega (arith, low, near) in
+      let place : i + suc j ≡ i + j + 1 = omega arith in
+      let rest : Wrote (with_segment after) (writes_from (a + suc j) bytes) (with_segment (overwritten after (i + suc j) bytes)) =
+      wrote_from s bytes (suc j) after (length-set xs (i + j) byte ∙ long) (omega (arith, few)) in (
+        put,
+        subst (λ (x : Space). Wrote x (writes_from ((a + j + 1) % 2 ^ 32) bytes) (with_segment (overwritten after (i + j + 1) bytes))) (sym one)
+            (subst (λ (x : ℕ). Wrote (with_segment after) (writes_from x bytes) (with_segment (overwritten after (i + j + 1) bytes))) (sym next)
+            (subst (λ (x : ℕ). Wrote (with_segment after) (writes_from (a + suc j) bytes) (with_segment (overwritten after x bytes))) place rest)),
+      )
 
-wrote_all : (with_segment : List ℕ → Space) (make : ℕ → Spot) (count room a i : ℕ) → IsSegment with_segment make count room a i
-    → (bytes xs : List ℕ) → length xs ≡ count → length bytes ≤ room → Wrote (with_segment xs) (writes_from a bytes) (with_segment (overwritten xs i bytes))
-wrote_all with_segment make count room a i s bytes xs long few =
-    let first : a + 0 ≡ a = omega arith in
-    let place : i + 0 ≡ i = omega arith in
-    subst (λ (x : ℕ). Wrote (with_segment xs) (writes_from x bytes) (with_segment (overwritten xs i bytes))) first
-    (subst (λ (x : ℕ). Wrote (with_segment xs) (writes_from (a + 0) bytes) (with_segment (overwritten xs x bytes))) place
-    (wrote_from with_segment make count room a i s bytes 0 xs long (omega (arith, few))))
+  wrote_all : IsSegment
+      → (bytes xs : List ℕ) → length xs ≡ count → length bytes ≤ room → Wrote (with_segment xs) (writes_from a bytes) (with_segment (overwritten xs i bytes))
+  wrote_all s bytes xs long few =
+      let first : a + 0 ≡ a = omega arith in
+      let place : i + 0 ≡ i = omega arith in
+      subst (λ (x : ℕ). Wrote (with_segment xs) (writes_from x bytes) (with_segment (overwritten xs i bytes))) first
+      (subst (λ (x : ℕ). Wrote (with_segment xs) (writes_from (a + 0) bytes) (with_segment (overwritten xs x bytes))) place
+      (wrote_from s bytes 0 xs long (omega (arith, few))))
 
 module _ (s : Space) (sized : IsSized s) where
   pub data_together : (a i : ℕ) (bytes : List ℕ) → address_in s a ≡ Data i → length bytes ≤ length s.data_bytes - i

@@ -13,7 +13,7 @@ abbrev pub AllAmong : List Page → List Page → Type 0
 AllAmong pages [] = Unit {0}
 AllAmong pages (p ∷ ps) = (is_among p pages ≡ true) × AllAmong pages ps
 
-same_turned : (p q : Page) → same_page p q ≡ same_page q p
+pub same_turned : (p q : Page) → same_page p q ≡ same_page q p
 same_turned p q = go (same_page p q) (same_page q p) refl refl
   where
     go : (a b : Bool) → same_page p q ≡ a → same_page q p ≡ b → a ≡ b

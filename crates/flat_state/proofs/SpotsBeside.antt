@@ -5,7 +5,7 @@ use Rattle.flat_state.specs.declared.spot.Spot.TheVariants.{Text, Data, Stack}
 use Rattle.flat_state.specs.Space.{spot_by, spot_at, stack_top, stack_reach, stack_index}
 use Rattle.flat_state.proofs.Spots.{text_spot, data_spot, stack_spot, OfStack}
 
-by_stack_alone : (b c d e : Bool) (t a i : ℕ) → spot_by b c d e t a ≡ Stack i → (b ≡ false) × (c ≡ false)
+pub by_stack_alone : (b c d e : Bool) (t a i : ℕ) → spot_by b c d e t a ≡ Stack i → (b ≡ false) × (c ≡ false)
 by_stack_alone true c d e t a i h = cc
 by_stack_alone false true d e t a i h = cc
 by_stack_alone false false true e t a i h = (refl, refl)

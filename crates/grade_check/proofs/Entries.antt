@@ -1,5 +1,5 @@
 -- Entries that have the same numbers and bytes are one.
-use Rattle.std.proofs.Common.{◌≡◌, ◌↔◌, ℕ, ◌==◌, Bool, true, false, ◌&&◌, List, bytes_eq, refl, sym, ap, ◌∙◌, subst}
+use Rattle.std.proofs.Common.{◌≡◌, ◌↔◌, ℕ, ◌==◌, Bool, true, ◌&&◌, List, bytes_eq, refl, sym, ap, ◌∙◌, subst}
 use Rattle.std.proofs.lemmas.Slice.Eq.{bytes_eq-Decides}
 use Rattle.std.proofs.lemmas.Bool.{eq-eqb, eqb-true, and_parts}
 use Rattle.std.specs.Cmp.Derive.{both_true}
@@ -9,6 +9,7 @@ use Rattle.vm_facts.specs.declared.entry.Entry.TheVariants as entries
 use Rattle.flat_state.specs.PageNames.{same_page}
 use Rattle.flat_state.proofs.PageNames.{same_page_is, same_page_self}
 use Rattle.flat_model.specs.Run.{same_carry}
+use Rattle.run_model.proofs.Acting.{carry_self}
 use Rattle.flat_laws.proofs.Entries.{carry_is}
 use Rattle.grade_check.specs.Same.{is_one_entry}
 
@@ -55,10 +56,6 @@ are_one _ _ h = absurd cc
 
 number_self : (a : ℕ) → (a == a) ≡ true
 number_self a = eq-eqb a a refl
-
-carry_self : (c : Bool) → same_carry c c ≡ true
-carry_self true = refl
-carry_self false = refl
 
 two_self : (a n : ℕ) → (a == a && n == n) ≡ true
 two_self a n = both_true (number_self a) (number_self n)

@@ -7,7 +7,6 @@ use Rattle.vm_facts.specs.declared.event.Event.{Event}
 use Rattle.flat_state.specs.Flat.{Inputs}
 use Rattle.run_files.specs.declared.answers.Unread.{Unread}
 use Rattle.run_files.specs.declared.answers.Unread.TheVariants as unreads
-use Rattle.run_files.specs.Told.{whole_told}
 use Rattle.run_files.specs.ImageWords.{image_names, first_images}
 use Rattle.replay_check.specs.Images.{FlatFile}
 use Rattle.command_ending.specs.declared.fault.Fault.{Fault}
@@ -18,17 +17,15 @@ use Rattle.command_ending.proofs.Counting.{one_then}
 use Rattle.command_ending.proofs.Makings.{made_where, made_nothing}
 use Rattle.run_opening.specs.Schedules.{schedule_found, HasEvents, EndsSchedule}
 use Rattle.replay_command.specs.Reading.{HasEntries, EndsTranscript, FaultsBy, images_told}
+use Rattle.replay_command.proofs.Replays.{whole}
 use Rattle.question_command.specs.Reading.{Read as RunRead, HasSchedule}
 use Rattle.question_command.specs.Asking.{Subject, AreInputsOf}
 use Rattle.question_command.specs.InMemory.{inputs_with}
-use Rattle.question_command.proofs.Asked.{Counts, over_first, over_second, over_both}
+use Rattle.question_command.proofs.Asked.{Counts, over_first, over_second, over_both, over}
 use Rattle.grade_command.specs.declared.judging.Graded.{Graded}
 use Rattle.grade_command.specs.Telling.{EndsGrading}
 use Rattle.grade_command.specs.Reading.{TraceRead, trace_told, HasTexts}
 use Rattle.grade_command.specs.Command.{LacksGrade, EndsReading}
-
-abbrev whole : List ℕ → List NamedFile → Result (Option (List ℕ)) Unread
-whole name list = whole_told list name 67108864
 
 abbrev pub Ends : Subject → List ℕ → Option (List NamedFile) → Faults → Result Graded Fault → Type 0
 Ends subject trace holds f result = Made (EndsReading subject trace) (trace_told subject trace) holds f result
@@ -162,9 +159,6 @@ images_end subject trace holds c lines entries faults.NoMemory texts none view a
 images_end subject trace holds c lines entries _ texts none view answers by = absurd by
 
 -- The run.
-
-abbrev over : Subject → List FlatFile → List Event → Inputs
-over subject images lines = inputs_with subject.numbers images (first_images (image_names subject.words) subject.words) lines
 
 are_inputs : (subject : Subject) (lines : List Event) (entries : List Entry) (images : List FlatFile) (read : TraceRead)
     → HasRead lines entries (Ok images) read → AreInputsOf (over subject images lines) subject read.run

@@ -9,7 +9,7 @@ pub octets_of : (bytes : List ℕ) → ((i : ℕ) → Fits w8 (get_or bytes i 0)
 octets_of [] fits = tt
 octets_of (byte ∷ bytes) fits = (let low : Fits w8 byte = fits 0 in omega (arith, low), octets_of bytes (λ i. fits (suc i)))
 
-octets_behind : (files : List NamedFile) (file : NamedFile) → AreOctetFiles files → IsOctetFile file → AreOctetFiles (files ++ file ∷ [])
+pub octets_behind : (files : List NamedFile) (file : NamedFile) → AreOctetFiles files → IsOctetFile file → AreOctetFiles (files ++ file ∷ [])
 octets_behind [] file all one = (one, tt)
 octets_behind (f ∷ files) file all one = (all.0, octets_behind files file all.1 one)
 

@@ -5,7 +5,7 @@ use Rattle.std.proofs.lemmas.Option.{same_Some}
 use Rattle.vm_facts.specs.SwapImages.{SwapImage}
 use Rattle.io_edge.specs.Written.{Extends}
 
-some_is : (a b : List ℕ) → Some a ≡ Some b → a ≡ b
+pub some_is : (a b : List ℕ) → Some a ≡ Some b → a ≡ b
 some_is a b same = cc
 
 -- the length of what is told

@@ -1,15 +1,16 @@
 -- From the start of a run.
-use Rattle.std.proofs.Common.{◌≡◌, ℕ, ◌+◌, ◌≤◌, List, [], ◌∷◌, ◌++◌, length, Option, Some, None, refl, sym, ap, ◌∙◌, arith}
+use Rattle.std.proofs.Common.{◌≡◌, ◌≤◌, List, [], length, Option, Some, refl, sym, ap, ◌∙◌, arith}
 use Rattle.vm_facts.specs.SwapImages.{SwapImage}
 use Rattle.vm_facts.specs.declared.entry.Entry.{Entry}
 use Rattle.swap_book.specs.Holdings.{Holdings}
-use Rattle.flat_state.specs.Flat.{NamedImage, Inputs, image_numbered, start_if, start_processes}
+use Rattle.flat_state.specs.Flat.{Inputs}
 use Rattle.flat_state.specs.Journal.{appended}
 use Rattle.kernel_model.specs.Kernel.{Kernel}
 use Rattle.run_model.specs.State.{State, start}
 use Rattle.run_model.specs.Lawful.{Follows, IsLawful}
 use Rattle.run_model.specs.Swapped.{left_from, swap_left}
 use Rattle.run_model.proofs.After.{units_journal}
+use Rattle.run_laws.proofs.Sizing.{started_few}
 use Rattle.economy_laws.specs.Machine.{StandsAt}
 use Rattle.economy_laws.specs.RunLawsRunning.{CanRun}
 use Rattle.economy_laws.proofs.Lawful.{follows_state}
@@ -25,28 +26,17 @@ use Rattle.journal_laws.proofs.Stretches.{units_economical}
 
 -- Machines.
 
-pub leads_follow : (A : Inputs) (s t : State) (k l : Kernel) (image : SwapImage) (us : List Entry) (j : Option SwapImage) → Leads A s k image us t l j
-    → Follows A s us t
-leads_follow A s t k l image us j a = swaps_follow A us s t k l image a.behind a.makes
+module _ (A : Inputs) (s t : State) (k l : Kernel) (image : SwapImage) (us : List Entry) (j : Option SwapImage) where
+  pub leads_follow : Leads A s k image us t l j → Follows A s us t
+  leads_follow a = swaps_follow A us s t k l image a.behind a.makes
 
-pub leads_image : (A : Inputs) (s t : State) (k l : Kernel) (image : SwapImage) (us : List Entry) (j : Option SwapImage) → At A s k image
-    → (a : Leads A s k image us t l j) → a.behind ≡ left_from A s us image
-leads_image A s t k l image us j at a = images_left A us s t k l image a.behind at.fit at.run at.stands a.makes
+  pub leads_image : At A s k image → (a : Leads A s k image us t l j) → a.behind ≡ left_from A s us image
+  leads_image at a = images_left A us s t k l image a.behind at.fit at.run at.stands a.makes
 
-pub leads_told : (A : Inputs) (s t : State) (k l : Kernel) (image : SwapImage) (us : List Entry) (j : Option SwapImage) → At A s k image
-    → Leads A s k image us t l j → j ≡ Some (left_from A s us image)
-leads_told A s t k l image us j at a = a.told ∙ ap (λ (x : SwapImage). Some x) (leads_image A s t k l image us j at a)
+  pub leads_told : At A s k image → Leads A s k image us t l j → j ≡ Some (left_from A s us image)
+  leads_told at a = a.told ∙ ap (λ (x : SwapImage). Some x) (leads_image at a)
 
 -- The start.
-
--- there are no more processes at the start than were asked for
-pub few_started : (images : List NamedImage) (pid : ℕ) (first : List ℕ) → length (start_processes images pid first) ≤ length first
-few_started images pid [] = omega arith
-few_started images pid (n ∷ ns) = go (image_numbered images n) (few_started images (pid + 1) ns)
-  where
-    go : (o : Option NamedImage) → length (start_processes images (pid + 1) ns) ≤ length ns → length (start_if pid n o ++ start_processes images (pid + 1) ns) ≤ length (n ∷ ns)
-    go None h = omega arith
-    go (Some named) h = omega arith
 
 module _ (A : Inputs) (hs : Holdings) (us : List Entry) (t : State) (can : CanRun A hs) (f : Follows A (start A hs) us t) where
   pub journal_lawful : (t.journal ≡ appended [] us) × IsLawful A (appended [] us) t
@@ -59,7 +49,7 @@ module _ (A : Inputs) (hs : Holdings) (us : List Entry) (t : State) (can : CanRu
   journal_accounted = units_accounted A (start A hs) t us can.images (start_run A hs can) f
 
   pub journal_economical : length A.first ≤ 64 → Economy A (start A hs) us
-  journal_economical l = units_economical A (start A hs) t us can.images (start_run A hs can) f (let few = few_started A.images 1 A.first in omega (arith, few, l))
+  journal_economical l = units_economical A (start A hs) t us can.images (start_run A hs can) f (let few = started_few A.images 1 A.first in omega (arith, few, l))
 
 pub journal_image : (A : Inputs) (hs : Holdings) (t : State) (k l : Kernel) (image : SwapImage) (us : List Entry) (j : Option SwapImage) → CanRun A hs
     → StandsAt A (start A hs) k image.bytes

@@ -1,9 +1,10 @@
 -- Stretches among next units are short, few turns in a row count nothing, and writes are worth it.
-use Rattle.std.proofs.Common.{◌≡◌, ◌⊎◌, inl, inr, ℕ, ◌<◌, ◌≤◌, nat_lt, Bool, true, false, List, [], ◌∷◌, ◌++◌, length, Some, refl, sym, subst, arith}
+use Rattle.std.proofs.Common.{◌≡◌, inl, inr, ℕ, ◌≤◌, nat_lt, Bool, true, false, List, [], ◌∷◌, ◌++◌, length, Some, refl, sym, subst, arith}
 use Rattle.std.proofs.lemmas.Bool.Decides.{nat_tests}
 use Rattle.vm_facts.specs.declared.page.Page.{Page}
 use Rattle.vm_facts.specs.declared.entry.Entry.{Entry}
 use Rattle.vm_facts.specs.declared.entry.Entry.TheVariants as entries
+use Rattle.vm_facts.proofs.Tests.{cases_le}
 use Rattle.flat_state.specs.Flat.{Inputs, process_of}
 use Rattle.page_laws.proofs.Moves.Units.{unit_is}
 use Rattle.page_laws.proofs.Swapper.PuttingOut.{unit_case}
@@ -64,9 +65,6 @@ turn_lines A s p (Begins e k i) = turn_marked A s p i
 turns_none : (u : Entry) → ((p : ℕ) → u ≡ entries.Turn p → ⊥) → turns u ≡ 0
 turns_none (entries.Turn p) n = absurd (n p refl)
 turns_none _ n = refl
-
-cases_le : (a b : ℕ) → (a ≤ b) ⊎ (b < a)
-cases_le a b = grind arith
 
 few_idle : (A : Inputs) (us : List Entry) (s t : State) → ImagesFit A.images → IsRun A s → length s.point.flat.processes ≤ 64 → Follows A s us t
     → NoneCounts us → turns_of us ≤ 64

@@ -1,5 +1,5 @@
 -- What a part of a move that may come leaves of a placement.
-use Rattle.std.proofs.Common.{◌≡◌, inr, ℕ, zero, suc, ◌<◌, ◌≤◌, ◌==◌, Bool, true, false, cond, List, [], ◌∷◌, length, map, refl, sym, ap, subst, arith}
+use Rattle.std.proofs.Common.{◌≡◌, inr, ℕ, zero, suc, ◌<◌, ◌≤◌, Bool, true, List, [], length, map, refl, sym, ap, subst, arith}
 use Rattle.vm_facts.specs.declared.page.Page.{Page}
 use Rattle.vm_facts.specs.declared.page.Page.TheVariants.{Data, Stack, Text}
 use Rattle.vm_facts.specs.declared.page.PageState.{PageState}
@@ -7,7 +7,7 @@ use Rattle.vm_facts.specs.declared.page.PageState.TheVariants.{Valid, Invalid}
 use Rattle.vm_facts.specs.declared.entry.Entry.TheVariants as entries
 use Rattle.swap_book.specs.Holdings.{Holdings}
 use Rattle.flat_state.specs.PageNames.{number_of, pages_from}
-use Rattle.page_model.specs.Pages.{SpacePages, changed, with_data, with_stack, frame_of}
+use Rattle.page_model.specs.Pages.{with_data, with_stack, frame_of}
 use Rattle.page_model.specs.Placement.{Placement, space_number, state_of, mark_of, is_dirty, put}
 use Rattle.page_model.specs.Moves.{turn, launch_run, retire}
 use Rattle.page_model.specs.Hands.{expire_to}
@@ -29,7 +29,7 @@ use Rattle.page_laws.proofs.Bytes.Pages.{beside_still, keeps_at, turn_coupled, m
 use Rattle.page_laws.proofs.Bytes.Others.{put_steady}
 use Rattle.page_laws.proofs.Bytes.Runs.{put_step_coupled}
 use Rattle.kernel_laws.proofs.Machine.Shapes.{Shaped, put_shaped, put_step_shaped}
-use Rattle.kernel_laws.proofs.Sound.NumbersApart.{entry_numbers}
+use Rattle.kernel_laws.proofs.Sound.NumbersApart.{entry_numbers, changed_numbers}
 use Rattle.kernel_model.specs.declared.part.HandPart.{HandPart}
 use Rattle.kernel_model.specs.declared.part.HandPart.TheVariants as parts
 use Rattle.kernel_model.specs.HandParts.{IsIdle, WriteComes, FreeComes, PartComes, part_place}
@@ -46,16 +46,6 @@ pub record Parted (p q : Placement) : Type 0 where
   pub couples : (b : Bytes) → CouplesPages p b → CouplesPages q b
 
 -- `E`.
-
-changed_numbers : (n : ℕ) (change : SpacePages → SpacePages) → ((s : SpacePages) → space_number (change s) ≡ space_number s) → (ss : List SpacePages)
-    → map space_number (changed space_number n change ss) ≡ map space_number ss
-changed_numbers n change k [] = refl
-changed_numbers n change k (s ∷ ss) = go (space_number s == n) (changed_numbers n change k ss)
-  where
-    go : (b : Bool) → map space_number (changed space_number n change ss) ≡ map space_number ss
-        → map space_number (cond b (change s ∷ ss) (s ∷ changed space_number n change ss)) ≡ map space_number (s ∷ ss)
-    go true ih = ap (λ (m : ℕ). m ∷ map space_number ss) (k s)
-    go false ih = ap (λ (ms : List ℕ). space_number s ∷ ms) ih
 
 put_numbers : (p : Placement) (v : Page) (s : PageState) (m : Bool) → map space_number (put p v s m).spaces ≡ map space_number p.spaces
 put_numbers p (Data t v) s m = changed_numbers t (with_data v s m) (λ x. refl) p.spaces

@@ -70,7 +70,7 @@ next_placed s n m f image v x e set is l =
 
 -- The place of a page of text is one that an entry can say.
 
-frame_shown : (slots : List Token) (f : ℕ) (valid changed : Bool) → frame_of (state_shown slots (places.Frame f valid changed)) ≡ Some f
+pub frame_shown : (slots : List Token) (f : ℕ) (valid changed : Bool) → frame_of (state_shown slots (places.Frame f valid changed)) ≡ Some f
 frame_shown slots f true changed = refl
 frame_shown slots f false changed = go (is_away (slot_at slots f)) changed
   where

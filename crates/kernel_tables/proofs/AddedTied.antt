@@ -128,7 +128,7 @@ set_beside (y ∷ ts) (suc n) zero x d = refl
 set_beside (y ∷ ts) (suc n) (suc m) x d = set_beside ts n m x (λ e. d (ap suc e))
 
 -- the image of a space is one of the run's
-facts_number : (n image : ℕ) (more : List Image) (facts : Image) → facts_in n image more ≡ Some facts → (n ≤ image) × (image < n + length more)
+pub facts_number : (n image : ℕ) (more : List Image) (facts : Image) → facts_in n image more ≡ Some facts → (n ≤ image) × (image < n + length more)
 facts_number n image [] facts e = absurd cc
 facts_number n image (x ∷ more) facts e = elim (cases_eq n image) [
   | inl is ↦ (omega (arith, is), omega (arith, is))

@@ -50,22 +50,22 @@ head_above t f token page k e = above_zero t.free t.slots f k.core (not_away t f
 pub held_above : (t : Lists) (f : ℕ) (q : Page) → Known t → token_page (slot_at t.slots f) ≡ Some q → 0 < f
 held_above t f q k e = above_zero t.free t.slots f k.core (λ n. absurd (let z = sym (ap token_page n) ∙ e in cc))
 
-pub head_below : (t : Lists) (f : ℕ) (token : Frame) (page : Option Page) → slot_at t.slots f ≡ tokens.Free token page → f < length t.slots
-head_below t f token page e = below_length t.slots f (not_away t f token page e)
+module _ (t : Lists) (f : ℕ) (token : Frame) (page : Option Page) where
+  pub head_below : slot_at t.slots f ≡ tokens.Free token page → f < length t.slots
+  head_below e = below_length t.slots f (not_away t f token page e)
 
-pub head_page : (t : Lists) (f : ℕ) (token : Frame) (page : Option Page) → Known t → slot_at t.slots f ≡ tokens.Free token page
-    → page_of (placement_of t) f ≡ page
-head_page t f token page k e = held_at t f (head_above t f token page k e) (head_below t f token page e) ∙ ap (λ (x : Token). page_by x (flown_at t.flown f)) e
+  pub head_page : Known t → slot_at t.slots f ≡ tokens.Free token page → page_of (placement_of t) f ≡ page
+  head_page k e = held_at t f (head_above t f token page k e) (head_below e) ∙ ap (λ (x : Token). page_by x (flown_at t.flown f)) e
 
-pub head_listed : (t : Lists) (f : ℕ) (token : Frame) (page : Option Page) (rest : List ℕ) → Head t f token page rest → 0 < times f t.free
-head_listed t f token page rest h = subst (λ (fs : List ℕ). 0 < times f fs) (sym h.free) (let k = times_head f rest in omega arith)
+  pub head_listed : (rest : List ℕ) → Head t f token page rest → 0 < times f t.free
+  head_listed rest h = subst (λ (fs : List ℕ). 0 < times f fs) (sym h.free) (let k = times_head f rest in omega arith)
 
--- a free frame is in no transfer
-pub head_grounded : (t : Lists) (f : ℕ) (token : Frame) (page : Option Page) (rest : List ℕ) → Known t → Head t f token page rest → flown_at t.flown f ≡ None
-head_grounded t f token page rest k h =
-    let l = head_listed t f token page rest h in
-    let o : times f (placement_of t).free + times f (flying (parts_of (placement_of t).transfers)) + seated (placement_of t) f ≡ 1 = k.owns.once f (k.owns.frames f l) in
-    not_flown t.flown f (sym (ap (times f) k.numbers) ∙ omega arith)
+  -- a free frame is in no transfer
+  pub head_grounded : (rest : List ℕ) → Known t → Head t f token page rest → flown_at t.flown f ≡ None
+  head_grounded rest k h =
+      let l = head_listed rest h in
+      let o : times f (placement_of t).free + times f (flying (parts_of (placement_of t).transfers)) + seated (placement_of t) f ≡ 1 = k.owns.once f (k.owns.frames f l) in
+      not_flown t.flown f (sym (ap (times f) k.numbers) ∙ omega arith)
 
 -- a page that is there has an entry
 entry_of : (slots : List Token) (o : Option Place) (f : ℕ) → (slot_or (slot_shown slots) o).state ≡ Invalid f → (x : Place) × (o ≡ Some x)

@@ -10,8 +10,8 @@ use Rattle.kernel_tables.specs.Alike.{HasFewPages}
 use Rattle.kernel_tables.specs.Shown.{slot_shown, space_shown}
 use Rattle.kernel_tables.specs.View.{Lists, placement_of}
 use Rattle.kernel_tables.specs.Known.{Known}
-use Rattle.kernel_tables.proofs.Shows.{text_within}
-use Rattle.kernel_tables.proofs.UserFrames.{numbered_shown, map_length}
+use Rattle.kernel_tables.proofs.Shows.{text_within, length_map}
+use Rattle.kernel_tables.proofs.UserFrames.{numbered_shown}
 use Rattle.kernel_tables.proofs.ForkedSpaces.{space_of_number}
 
 module _ (t : Lists) (n : ℕ) (k : Known t) where
@@ -29,7 +29,7 @@ module _ (t : Lists) (n : ℕ) (k : Known t) where
           omega arith
       go (Some s) e =
           let size : length (data_in (numbered space_number n (map (space_shown t.slots) t.spaces))) ≡ length s.data =
-          ap (λ (p : Option SpacePages). length (data_in p)) (shown (Some s) e) ∙ map_length (slot_shown t.slots) s.data in
+          ap (λ (p : Option SpacePages). length (data_in p)) (shown (Some s) e) ∙ length_map (slot_shown t.slots) s.data in
           let few : length s.data ≤ 4096 = (space_of_number HasFewPages t.spaces n s k.tied.few_pages e).0.0 in
           omega arith
 
@@ -43,7 +43,7 @@ module _ (t : Lists) (n : ℕ) (k : Known t) where
           omega arith
       go (Some s) e =
           let size : length (stack_in (numbered space_number n (map (space_shown t.slots) t.spaces))) ≡ length s.stack =
-          ap (λ (p : Option SpacePages). length (stack_in p)) (shown (Some s) e) ∙ map_length (slot_shown t.slots) s.stack in
+          ap (λ (p : Option SpacePages). length (stack_in p)) (shown (Some s) e) ∙ length_map (slot_shown t.slots) s.stack in
           let few : length s.stack ≤ 512 = (space_of_number HasFewPages t.spaces n s k.tied.few_pages e).0.1 in
           omega arith
 

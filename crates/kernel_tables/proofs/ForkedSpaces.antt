@@ -32,11 +32,12 @@ use Rattle.kernel_tables.specs.Added.{with_space, IsFresh, IsNewSpace, AddedSpac
 use Rattle.kernel_tables.specs.Changing.{Forked}
 use Rattle.kernel_tables.specs.Forking.{forked, space_fills, with_forked, AreInRange}
 use Rattle.kernel_tables.proofs.Entries.{data_hit, stack_hit}
-use Rattle.kernel_tables.proofs.UserFrames.{map_length, numbered_shown, get_below}
+use Rattle.kernel_tables.proofs.UserFrames.{numbered_shown, get_below}
 use Rattle.kernel_tables.proofs.AddedPlace.{added_place, place_added}
 use Rattle.kernel_tables.proofs.AddedTied.{added_known}
 use Rattle.kernel_tables.proofs.AddedTables.{known_fills, added_lists}
 use Rattle.kernel_tables.proofs.Forks.{fork_starts_nothing, fork_whole, fork_once, entries_forked, fork_due}
+use Rattle.kernel_tables.proofs.Shows.{length_map}
 
 abbrev pages_by : ℕ → ℕ → List Slot → List Slot → SpacePages
 pages_by sid image data_pages stack_pages = record { sid = sid; image = image; data_pages = data_pages; stack_pages = stack_pages }
@@ -130,8 +131,8 @@ module _ (t : Lists) (parent : ℕ) (s : Places) (known : Known t) (found : numb
     above = above;
     facts_are = ap (λ (i : ℕ). facts_in 1 i t.facts) image ∙ parent_facts ∙ ap (λ (x : Image). Some x) (sym facts);
     few = (
-      let m = few.0 in let l = map_length forked s.data in omega arith,
-      let m = few.1 in let l = map_length forked s.stack in omega arith,
+      let m = few.0 in let l = length_map forked s.data in omega arith,
+      let m = few.1 in let l = length_map forked s.stack in omega arith,
     );
     fresh_data = λ v x e.
         let was = at_map forked s.data v x e in

@@ -41,45 +41,45 @@ pub set_taken : {A B : Type 0} (f : A → B) (xs : List A) (ys : List B) (v : �
 set_taken f xs ys v x at e =
     set_suc f xs ys v x at e ∙ ap (λ (k : ℕ). map f (take k xs) ++ drop k ys) (let z : suc v ≡ v + 1 = omega arith in z)
 
--- what is due of one page more
-fills_suc : (child parent : ℕ → Page) (n : ℕ) (xs : List Place) (v : ℕ) (x : Place) → slice_get xs v ≡ Some x
-    → copy_fills child parent n (take v xs) ++ copy_fill (child (n + v)) (parent (n + v)) x ≡ copy_fills child parent n (take (suc v) xs)
-fills_suc child parent n [] v x at = absurd cc
-fills_suc child parent n (z ∷ xs) zero x at =
-    ap (λ (k : ℕ). copy_fill (child k) (parent k) x) (let z : n + 0 ≡ n = omega arith in z)
-    ∙ ap (copy_fill (child n) (parent n)) (sym (same_Some z x at))
-    ∙ sym (append-nil (copy_fill (child n) (parent n) z))
-fills_suc child parent n (z ∷ xs) (suc v) x at =
-    append_assoc (copy_fill (child n) (parent n) z) (copy_fills child parent (n + 1) (take v xs)) (copy_fill (child (n + suc v)) (parent (n + suc v)) x)
-    ∙ ap (λ (ds : List DueFill). copy_fill (child n) (parent n) z ++ ds)
-    (ap (λ (k : ℕ). copy_fills child parent (n + 1) (take v xs) ++ copy_fill (child k) (parent k) x) (let z : n + suc v ≡ (n + 1) + v = omega arith in z)
-    ∙ fills_suc child parent (n + 1) xs v x at)
+module _ (child parent : ℕ → Page) where
+  -- what is due of one page more
+  fills_suc : (n : ℕ) (xs : List Place) (v : ℕ) (x : Place) → slice_get xs v ≡ Some x
+      → copy_fills child parent n (take v xs) ++ copy_fill (child (n + v)) (parent (n + v)) x ≡ copy_fills child parent n (take (suc v) xs)
+  fills_suc n [] v x at = absurd cc
+  fills_suc n (z ∷ xs) zero x at =
+      ap (λ (k : ℕ). copy_fill (child k) (parent k) x) (let z : n + 0 ≡ n = omega arith in z)
+      ∙ ap (copy_fill (child n) (parent n)) (sym (same_Some z x at))
+      ∙ sym (append-nil (copy_fill (child n) (parent n) z))
+  fills_suc n (z ∷ xs) (suc v) x at =
+      append_assoc (copy_fill (child n) (parent n) z) (copy_fills child parent (n + 1) (take v xs)) (copy_fill (child (n + suc v)) (parent (n + suc v)) x)
+      ∙ ap (λ (ds : List DueFill). copy_fill (child n) (parent n) z ++ ds)
+      (ap (λ (k : ℕ). copy_fills child parent (n + 1) (take v xs) ++ copy_fill (child k) (parent k) x) (let z : n + suc v ≡ (n + 1) + v = omega arith in z)
+      ∙ fills_suc (n + 1) xs v x at)
 
-pub fills_taken : (child parent : ℕ → Page) (xs : List Place) (v : ℕ) (x : Place) (before : List DueFill) → slice_get xs v ≡ Some x
-    → (before ++ copy_fills child parent 0 (take v xs)) ++ copy_fill (child v) (parent v) x ≡ before ++ copy_fills child parent 0 (take (v + 1) xs)
-fills_taken child parent xs v x before at =
-    append_assoc before (copy_fills child parent 0 (take v xs)) (copy_fill (child v) (parent v) x)
-    ∙ ap (λ (ds : List DueFill). before ++ ds)
-    (ap (λ (k : ℕ). copy_fills child parent 0 (take v xs) ++ copy_fill (child k) (parent k) x) (let z : v ≡ 0 + v = omega arith in z)
-    ∙ fills_suc child parent 0 xs v x at
-    ∙ ap (λ (k : ℕ). copy_fills child parent 0 (take k xs)) (let z : suc v ≡ v + 1 = omega arith in z))
+  pub fills_taken : (xs : List Place) (v : ℕ) (x : Place) (before : List DueFill) → slice_get xs v ≡ Some x
+      → (before ++ copy_fills child parent 0 (take v xs)) ++ copy_fill (child v) (parent v) x ≡ before ++ copy_fills child parent 0 (take (v + 1) xs)
+  fills_taken xs v x before at =
+      append_assoc before (copy_fills child parent 0 (take v xs)) (copy_fill (child v) (parent v) x)
+      ∙ ap (λ (ds : List DueFill). before ++ ds)
+      (ap (λ (k : ℕ). copy_fills child parent 0 (take v xs) ++ copy_fill (child k) (parent k) x) (let z : v ≡ 0 + v = omega arith in z)
+      ∙ fills_suc 0 xs v x at
+      ∙ ap (λ (k : ℕ). copy_fills child parent 0 (take k xs)) (let z : suc v ≡ v + 1 = omega arith in z))
 
--- What is due are copies.
+  -- What is due are copies.
 
-pub copies_start_nothing : (child parent : ℕ → Page) (v : ℕ) (xs : List Place) (more : List DueFill)
-    → starts_of (copy_fills child parent v xs ++ more) ≡ starts_of more
-copies_start_nothing child parent v [] more = refl
-copies_start_nothing child parent v (places.Zero ∷ xs) more = copies_start_nothing child parent (v + 1) xs more
-copies_start_nothing child parent v (places.Image w ∷ xs) more = copies_start_nothing child parent (v + 1) xs more
-copies_start_nothing child parent v (places.Swap ∷ xs) more = copies_start_nothing child parent (v + 1) xs more
-copies_start_nothing child parent v (places.Frame f valid changed ∷ xs) more = copies_start_nothing child parent (v + 1) xs more
+  pub copies_start_nothing : (v : ℕ) (xs : List Place) (more : List DueFill) → starts_of (copy_fills child parent v xs ++ more) ≡ starts_of more
+  copies_start_nothing v [] more = refl
+  copies_start_nothing v (places.Zero ∷ xs) more = copies_start_nothing (v + 1) xs more
+  copies_start_nothing v (places.Image w ∷ xs) more = copies_start_nothing (v + 1) xs more
+  copies_start_nothing v (places.Swap ∷ xs) more = copies_start_nothing (v + 1) xs more
+  copies_start_nothing v (places.Frame f valid changed ∷ xs) more = copies_start_nothing (v + 1) xs more
 
-copies_whole : (child parent : ℕ → Page) (v : ℕ) (xs : List Place) (more : List DueFill) → AreWhole more → AreWhole (copy_fills child parent v xs ++ more)
-copies_whole child parent v [] more h = h
-copies_whole child parent v (places.Zero ∷ xs) more h = copies_whole child parent (v + 1) xs more h
-copies_whole child parent v (places.Image w ∷ xs) more h = copies_whole child parent (v + 1) xs more h
-copies_whole child parent v (places.Swap ∷ xs) more h = (tt, copies_whole child parent (v + 1) xs more h)
-copies_whole child parent v (places.Frame f valid changed ∷ xs) more h = (tt, copies_whole child parent (v + 1) xs more h)
+  copies_whole : (v : ℕ) (xs : List Place) (more : List DueFill) → AreWhole more → AreWhole (copy_fills child parent v xs ++ more)
+  copies_whole v [] more h = h
+  copies_whole v (places.Zero ∷ xs) more h = copies_whole (v + 1) xs more h
+  copies_whole v (places.Image w ∷ xs) more h = copies_whole (v + 1) xs more h
+  copies_whole v (places.Swap ∷ xs) more h = (tt, copies_whole (v + 1) xs more h)
+  copies_whole v (places.Frame f valid changed ∷ xs) more h = (tt, copies_whole (v + 1) xs more h)
 
 abbrev pub pages_due : List DueFill → List Page
 pages_due ds = map due_page (map due_shown ds)

@@ -2,7 +2,6 @@
 use Rattle.std.proofs.Common.{◌≡◌, ℕ, Bool, true, List, [], ◌∷◌, ◌++◌, set, refl, sym, ap, ◌∙◌, subst, Option, None}
 use Rattle.std.proofs.lemmas.List.{length-set, get_or-set_other}
 use Rattle.vm_facts.specs.declared.page.Page.{Page}
-use Rattle.vm_facts.specs.declared.page.Page.TheVariants.{Text}
 use Rattle.vm_facts.specs.declared.entry.Entry.{Entry}
 use Rattle.vm_facts.specs.declared.entry.Entry.TheVariants as entries
 use Rattle.frame_state.specs.Frame.{Frame}
@@ -11,7 +10,6 @@ use Rattle.core_map.specs.declared.slot.Slot.TheVariants as tokens
 use Rattle.page_model.specs.Holdings.{Holdings}
 use Rattle.page_model.specs.Pages.{frame_of}
 use Rattle.page_model.specs.Placement.{Placement, IsThere, state_of}
-use Rattle.page_model.specs.Conditions.{IsShared}
 use Rattle.page_model.specs.PageBytes.{IsWritable}
 use Rattle.kernel_model.specs.Kernel.{Kernel, Proc, StartBytes, zero_step}
 use Rattle.kernel_tables.specs.declared.tables.Tables.{Tables}
@@ -44,39 +42,34 @@ kernel_ext a b e1 e2 e3 e4 e5 e6 e7 e8 e9 =
 
 -- The step of `Zero`.
 
-pub zeroing_rest : (t u v w : Tables) (token filling : Frame) (q : Page) → Zeroing t u v w token filling q
-    → w ≡ record t { core = v.core; spaces = v.spaces; fills = w.fills }
-zeroing_rest t u v w token filling q z =
-    z.finish.rest
-    ∙ ap (λ (x : Tables). record x { fills = w.fills }) z.seat.rest
-    ∙ ap (λ (x : Tables). record x { core = v.core; spaces = v.spaces; fills = w.fills }) z.took.rest
+module _ (t u v w : Tables) (token filling : Frame) (q : Page) where
+  pub zeroing_rest : Zeroing t u v w token filling q → w ≡ record t { core = v.core; spaces = v.spaces; fills = w.fills }
+  zeroing_rest z =
+      z.finish.rest
+      ∙ ap (λ (x : Tables). record x { fills = w.fills }) z.seat.rest
+      ∙ ap (λ (x : Tables). record x { core = v.core; spaces = v.spaces; fills = w.fills }) z.took.rest
 
-zeroing_head : (t u v w : Tables) (token filling : Frame) (q : Page) → Zeroing t u v w token filling q
-    → Head (lists_of t) token.number token (token_page (slot_at t.core.slots token.number)) u.core.free
-zeroing_head t u v w token filling q z = record { free = z.took.free; was = z.took.was }
+  zeroing_head : Zeroing t u v w token filling q → Head (lists_of t) token.number token (token_page (slot_at t.core.slots token.number)) u.core.free
+  zeroing_head z = record { free = z.took.free; was = z.took.was }
 
-pub zero_kernel : (t u v w : Tables) (token filling : Frame) (q : Page) (journal : List Entry) (stopped : Bool) → Zeroing t u v w token filling q
-    → kernel_by w (journal ++ entries.Zero q ∷ []) stopped ≡ zero_step (kernel_by t journal stopped) q
-zero_kernel t u v w token filling q journal stopped z =
-    let l = zeroing_lists t u v w token filling q z in
-    let r = zeroing_rest t u v w token filling q z in
-    let h = zeroing_head t u v w token filling q z in
-    let page = token_page (slot_at t.core.slots token.number) in
-    let bytes : filling.bytes ≡ first_bytes t.fills.items = ap (λ (x : Frame). x.bytes) z.bytes ∙ ap (λ (x : Tables). first_bytes x.fills.items) z.took.rest in
-    kernel_ext (kernel_by w (journal ++ entries.Zero q ∷ []) stopped) (zero_step (kernel_by t journal stopped) q)
-    (ap placement_of l ∙ zero_place (lists_of t) token.number token filling page u.core.free q z.known h (ap (λ (x : Frame). x.number) z.bytes) z.writable z.there z.first)
-    (ap (λ (x : Tables). x.book.holdings) r)
-    (ap (λ (x : Tables). Rattle.kernel_tables.specs.Machine.processes_of x.processes x.next_pid) r)
-    (ap (λ (x : Tables). x.next_pid) r)
-    (ap (λ (x : Tables). x.next_sid) r)
-    (ap (λ (x : Lists). starts_of x.fills) l ∙ starts_first t.fills.items q z.once z.first)
-    (ap frames_of l ∙ zero_frames (lists_of t) token.number token filling page u.core.free q z.known h (ap (λ (x : Frame). x.number) z.bytes) bytes z.first)
-    refl
-    refl
-
-pub writable_shared : (p : Placement) (q : Page) → IsWritable q → IsShared p q
-writable_shared p (Text i v) w = absurd w
-writable_shared p _ w = tt
+  pub zero_kernel : (journal : List Entry) (stopped : Bool) → Zeroing t u v w token filling q
+      → kernel_by w (journal ++ entries.Zero q ∷ []) stopped ≡ zero_step (kernel_by t journal stopped) q
+  zero_kernel journal stopped z =
+      let l = zeroing_lists t u v w token filling q z in
+      let r = zeroing_rest z in
+      let h = zeroing_head z in
+      let page = token_page (slot_at t.core.slots token.number) in
+      let bytes : filling.bytes ≡ first_bytes t.fills.items = ap (λ (x : Frame). x.bytes) z.bytes ∙ ap (λ (x : Tables). first_bytes x.fills.items) z.took.rest in
+      kernel_ext (kernel_by w (journal ++ entries.Zero q ∷ []) stopped) (zero_step (kernel_by t journal stopped) q)
+      (ap placement_of l ∙ zero_place (lists_of t) token.number token filling page u.core.free q z.known h (ap (λ (x : Frame). x.number) z.bytes) z.writable z.there z.first)
+      (ap (λ (x : Tables). x.book.holdings) r)
+      (ap (λ (x : Tables). Rattle.kernel_tables.specs.Machine.processes_of x.processes x.next_pid) r)
+      (ap (λ (x : Tables). x.next_pid) r)
+      (ap (λ (x : Tables). x.next_sid) r)
+      (ap (λ (x : Lists). starts_of x.fills) l ∙ starts_first t.fills.items q z.once z.first)
+      (ap frames_of l ∙ zero_frames (lists_of t) token.number token filling page u.core.free q z.known h (ap (λ (x : Frame). x.number) z.bytes) bytes z.first)
+      refl
+      refl
 
 pub zeroed_ties : (t : Lists) (f : ℕ) (page : Option Page) (rest : List ℕ) (filling : Frame) (q : Page) → Known t
     → token_page (slot_at t.slots f) ≡ page → IsWritable q → IsThere (placement_of t) q

@@ -15,6 +15,7 @@ use Rattle.flat_state.specs.Change.{with_results}
 use Rattle.kernel_model.specs.ChangeStep.{with_proc, without_proc, child_proc, is_ended, orphaned_procs, woken_procs, left_procs, life_of_proc}
 use Rattle.kernel_model.specs.Sound.{has_life, lives_in, lives as are_alive}
 use Rattle.kernel_model.specs.Unit.{has_lender}
+use Rattle.kernel_laws.proofs.Machine.Ends.{orphan, stays}
 use Rattle.kernel_tables.specs.declared.tables.Tables.{Tables}
 use Rattle.kernel_tables.specs.Alike.{lends_to_by, AreRecords}
 use Rattle.kernel_tables.specs.Machine.{life_shown, proc_shown, proc_of_record, processes_of, residence_by, residence_shown, residents_of}
@@ -205,12 +206,6 @@ none_woken t pid h f = has_processes t t _ _ refl
     refl h
 
 -- Orphans.
-
-abbrev stays : ℕ → Proc → Bool
-stays pid q = not ((q.parent == pid) && is_ended q.life)
-
-abbrev orphan : ℕ → Proc → Proc
-orphan pid q = record q { parent = cond (q.parent == pid) 0 q.parent }
 
 orphan_life : (q : Record) (l : RecordLife)
     → proc_of_record (left_life q l) ≡ kept_by (not (true && is_ended (life_shown l))) (record (proc_shown q) { parent = 0 })

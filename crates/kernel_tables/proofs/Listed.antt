@@ -154,7 +154,7 @@ process_is ps next pid h = go (find pid ps) (numbered pid_of pid (processes_of p
 
 -- Who lends.
 
-lends_shown : (pid : ℕ) (l : RecordLife) → lends_life pid (life_shown l) ≡ lends_to_by pid l
+pub lends_shown : (pid : ℕ) (l : RecordLife) → lends_life pid (life_shown l) ≡ lends_to_by pid l
 lends_shown pid lives.New = refl
 lends_shown pid _ = refl
 

@@ -13,7 +13,7 @@ use Rattle.kernel_model.specs.Kernel.{HoldsSpace, Proc}
 use Rattle.kernel_model.specs.ChangeStep.{life_of_proc}
 use Rattle.kernel_tables.specs.Machine.{life_shown, proc_shown, proc_of_record, processes_of}
 use Rattle.kernel_tables.specs.Lives.{space_by, space_of_record}
-use Rattle.kernel_tables.proofs.Records.{keeps_none, keeps_some, found_pid}
+use Rattle.kernel_tables.proofs.Records.{keeps_none, keeps_some, found_pid, some_is}
 
 abbrev pub pid_of : Proc → ℕ
 pid_of p = p.pid
@@ -23,9 +23,6 @@ hit n p ps e = grind (arith, nat_tests)
 
 pub miss : (n : ℕ) (p : Proc) (ps : List Proc) → p.pid ≢ n → numbered pid_of n (p ∷ ps) ≡ numbered pid_of n ps
 miss n p ps e = grind (arith, nat_tests)
-
-some_is : {A : Type 0} (a b : A) → Some a ≡ Some b → a ≡ b
-some_is a b e = cc
 
 -- the record of a process that the kernel has
 pub record HasRecord (ps : List Record) (pid : ℕ) (q : Proc) : Type 0 where

@@ -26,11 +26,11 @@ use Rattle.kernel_tables.specs.PlaceOf.{text_if, place_of, is_blank, is_zero_pla
 use Rattle.kernel_tables.specs.New.{AreSound}
 use Rattle.kernel_tables.specs.Known.{Known}
 use Rattle.kernel_tables.proofs.Entries.{data_hit, stack_hit}
-use Rattle.kernel_tables.proofs.Shows.{pages_hit, pages_miss, slot_or, data_shown, stack_shown, text_at, text_within, texts_shown, text_length}
+use Rattle.kernel_tables.proofs.Shows.{pages_hit, pages_miss, slot_or, data_shown, stack_shown, text_at, text_within, texts_shown, text_length, length_map}
 use Rattle.kernel_tables.proofs.Arrives.{data_there, stack_there}
 use Rattle.kernel_tables.proofs.Finds.{holding_none}
 use Rattle.kernel_tables.proofs.Rising.{found_entry, lost_entry, data_of_space, stack_of_space}
-use Rattle.kernel_tables.proofs.UserFrames.{numbered_shown, map_length, get_below}
+use Rattle.kernel_tables.proofs.UserFrames.{numbered_shown, get_below}
 
 -- what is so of a place that is found
 pub record TellsState (t : Lists) (q : Page) (o : Option Place) : Type 0 where
@@ -63,7 +63,7 @@ data_within t n v rising h = go (numbered (λ (s : Places). s.sid) n t.spaces) r
         let at : slice_get s.data v ≡ Some x.0 = sym (data_hit s n v (number_found t.spaces n s e)) ∙ sym (found_entry (Data n v) n (data_of_space n v) t.spaces s rising e) ∙ x.1 in
         let l = get_below s.data v x.0 at in
         let size : length (data_in (numbered space_number n (map (space_shown t.slots) t.spaces))) ≡ length s.data =
-        ap (λ (p : Option SpacePages). length (data_in p)) (numbered_shown t.slots t.spaces n ∙ ap (option_map (space_shown t.slots)) e) ∙ map_length (slot_shown t.slots) s.data in
+        ap (λ (p : Option SpacePages). length (data_in p)) (numbered_shown t.slots t.spaces n ∙ ap (option_map (space_shown t.slots)) e) ∙ length_map (slot_shown t.slots) s.data in
         omega arith
 
 stack_within : (t : Lists) (n v : ℕ) → AreRising (sids_of t.spaces) → IsSome (entry_in t.spaces (Stack n v)) → IsThere (placement_of t) (Stack n v)
@@ -76,7 +76,7 @@ stack_within t n v rising h = go (numbered (λ (s : Places). s.sid) n t.spaces) 
         let at : slice_get s.stack v ≡ Some x.0 = sym (stack_hit s n v (number_found t.spaces n s e)) ∙ sym (found_entry (Stack n v) n (stack_of_space n v) t.spaces s rising e) ∙ x.1 in
         let l = get_below s.stack v x.0 at in
         let size : length (stack_in (numbered space_number n (map (space_shown t.slots) t.spaces))) ≡ length s.stack =
-        ap (λ (p : Option SpacePages). length (stack_in p)) (numbered_shown t.slots t.spaces n ∙ ap (option_map (space_shown t.slots)) e) ∙ map_length (slot_shown t.slots) s.stack in
+        ap (λ (p : Option SpacePages). length (stack_in p)) (numbered_shown t.slots t.spaces n ∙ ap (option_map (space_shown t.slots)) e) ∙ length_map (slot_shown t.slots) s.stack in
         omega arith
 
 text_tells : (t : Lists) (image v : ℕ) (b : Bool) → ltb v (pages_in 1 image t.facts) ≡ b

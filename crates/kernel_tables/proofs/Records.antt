@@ -27,7 +27,7 @@ find_hit n p ps e = grind (arith, nat_tests)
 pub find_miss : (n : ℕ) (p : Record) (ps : List Record) → p.pid ≢ n → find n (p ∷ ps) ≡ find n ps
 find_miss n p ps e = grind (arith, nat_tests)
 
-some_is : {A : Type 0} (a b : A) → Some a ≡ Some b → a ≡ b
+pub some_is : {A : Type 0} (a b : A) → Some a ≡ Some b → a ≡ b
 some_is a b e = cc
 
 pub found_pid : (n : ℕ) (ps : List Record) (p : Record) → find n ps ≡ Some p → p.pid ≡ n

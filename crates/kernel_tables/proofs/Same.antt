@@ -2,7 +2,6 @@
 use Rattle.std.proofs.Common.{◌≡◌, ◌≢◌, inl, inr, ℕ, suc, List, [], ◌∷◌, length, map, get_or, Some, None, refl, sym, ap, ◌∙◌, subst, arith}
 use Rattle.std.proofs.lemmas.Bool.{cases_eq}
 use Rattle.std.proofs.lemmas.Bool.Decides.{nat_tests}
-use Rattle.vm_facts.specs.Lists.{times}
 use Rattle.page_model.specs.Pages.{Slot, no_slot, SpacePages, TextPages, numbered, data_in, stack_in, text_in}
 use Rattle.page_model.specs.Placement.{space_number, image_number}
 use Rattle.flat_state.specs.Numbers.{IsAbsent, AllDistinct}
@@ -27,9 +26,6 @@ hit n x xs e = grind (arith, nat_tests)
 
 miss : (n : ℕ) (x : SpacePages) (xs : List SpacePages) → x.sid ≢ n → numbered space_number n (x ∷ xs) ≡ numbered space_number n xs
 miss n x xs e = grind (arith, nat_tests)
-
-pub times_miss : (n m : ℕ) (xs : List ℕ) → m ≢ n → times n (m ∷ xs) ≡ times n xs
-times_miss n m xs e = grind (arith, nat_tests)
 
 pub absent : (n : ℕ) (xs : List SpacePages) → IsAbsent n (map space_number xs) → numbered space_number n xs ≡ None
 absent n [] z = refl

@@ -88,27 +88,24 @@ images_heads t w e sid = image_heads w.core.slots t.core.slots w.spaces t.spaces
 
 -- Sources stay where the images of the spaces do.
 
-one_still : (ns : List ImageNamed) (f g : ℕ → ℕ) (hs : Holdings) (size : ℕ) (q : Page) (x : From) → ((sid : ℕ) → g sid ≡ f sid)
-    → IsSourced ns f hs size q x → IsSourced ns g hs size q x
-one_still ns f g hs size q (froms.Swap block) e h = h
-one_still ns f g hs size (Data sid v) (froms.File id offset count) e h = subst (λ (i : ℕ). IsRangeOf (named_at ns i) false v id offset count) (sym (e sid)) h
-one_still ns f g hs size (Stack sid v) (froms.File id offset count) e h = h
-one_still ns f g hs size (Text i v) (froms.File id offset count) e h = h
+module _ (ns : List ImageNamed) (f g : ℕ → ℕ) (hs : Holdings) (size : ℕ) where
+  one_still : (q : Page) (x : From) → ((sid : ℕ) → g sid ≡ f sid) → IsSourced ns f hs size q x → IsSourced ns g hs size q x
+  one_still q (froms.Swap block) e h = h
+  one_still (Data sid v) (froms.File id offset count) e h = subst (λ (i : ℕ). IsRangeOf (named_at ns i) false v id offset count) (sym (e sid)) h
+  one_still (Stack sid v) (froms.File id offset count) e h = h
+  one_still (Text i v) (froms.File id offset count) e h = h
 
-pub parts_still : (ns : List ImageNamed) (f g : ℕ → ℕ) (hs : Holdings) (size : ℕ) (s : Source) (xs : List Inbound) → ((sid : ℕ) → g sid ≡ f sid)
-    → AreSourcedIn ns f hs size s xs → AreSourcedIn ns g hs size s xs
-parts_still ns f g hs size s [] e h = tt
-parts_still ns f g hs size s (x ∷ xs) e h = (h.0, one_still ns f g hs size x.page x.source e h.1, parts_still ns f g hs size s xs e h.2)
+  pub parts_still : (s : Source) (xs : List Inbound) → ((sid : ℕ) → g sid ≡ f sid) → AreSourcedIn ns f hs size s xs → AreSourcedIn ns g hs size s xs
+  parts_still s [] e h = tt
+  parts_still s (x ∷ xs) e h = (h.0, one_still x.page x.source e h.1, parts_still s xs e h.2)
 
-flight_still : (ns : List ImageNamed) (f g : ℕ → ℕ) (hs : Holdings) (size : ℕ) (t : Flight) → ((sid : ℕ) → g sid ≡ f sid)
-    → IsFlightSourced ns f hs size t → IsFlightSourced ns g hs size t
-flight_still ns f g hs size (flights.Read demanded parts) e h = parts_still ns f g hs size (source_shown parts.items) parts.items e h
-flight_still ns f g hs size (flights.Write parts) e h = h
+  flight_still : (t : Flight) → ((sid : ℕ) → g sid ≡ f sid) → IsFlightSourced ns f hs size t → IsFlightSourced ns g hs size t
+  flight_still (flights.Read demanded parts) e h = parts_still (source_shown parts.items) parts.items e h
+  flight_still (flights.Write parts) e h = h
 
-pub sourced_still : (ns : List ImageNamed) (f g : ℕ → ℕ) (hs : Holdings) (size : ℕ) (ts : List Flight) → ((sid : ℕ) → g sid ≡ f sid)
-    → AreSourced ns f hs size ts → AreSourced ns g hs size ts
-sourced_still ns f g hs size [] e h = tt
-sourced_still ns f g hs size (t ∷ ts) e h = (flight_still ns f g hs size t e h.0, sourced_still ns f g hs size ts e h.1)
+  pub sourced_still : (ts : List Flight) → ((sid : ℕ) → g sid ≡ f sid) → AreSourced ns f hs size ts → AreSourced ns g hs size ts
+  sourced_still [] e h = tt
+  sourced_still (t ∷ ts) e h = (flight_still t e h.0, sourced_still ts e h.1)
 
 pub sourced_more : (ns : List ImageNamed) (f : ℕ → ℕ) (hs : Holdings) (size : ℕ) (ts : List Flight) (x : Flight) → AreSourced ns f hs size ts
     → IsFlightSourced ns f hs size x → AreSourced ns f hs size (ts ++ x ∷ [])

@@ -30,7 +30,7 @@ use Rattle.kernel_tables.specs.Known.{Known}
 use Rattle.kernel_tables.specs.Machine.{Stands, lists_of, kernel_by}
 use Rattle.kernel_tables.specs.UserMemory.{bytes_of, text_len, data_len, stack_len, IsLaidOut, HasLengths, valid_frame, NamesFrames, IsOwnPage, IsHeld}
 use Rattle.kernel_tables.proofs.Entries.{data_hit, stack_hit, text_hit}
-use Rattle.kernel_tables.proofs.Shows.{slot_or, data_shown, stack_shown, texts_shown, text_length, text_at, text_within, sids_shown}
+use Rattle.kernel_tables.proofs.Shows.{slot_or, data_shown, stack_shown, texts_shown, text_length, text_at, text_within, sids_shown, length_map}
 use Rattle.kernel_tables.proofs.Rising.{found_none, found_here, found_entry, data_of_space, stack_of_space}
 use Rattle.kernel_tables.proofs.Held.{bytes_at, flown_numbers}
 use Rattle.kernel_tables.proofs.Touches.{in_frame}
@@ -105,10 +105,6 @@ pub get_within : (xs : List Place) (v : ℕ) → v < length xs → (x : Place) �
 get_within [] v l = absurd (omega arith)
 get_within (x ∷ xs) zero l = (x, refl)
 get_within (x ∷ xs) (suc v) l = get_within xs v (omega arith)
-
-pub map_length : {A B : Type 0} (g : A → B) (xs : List A) → length (map g xs) ≡ length xs
-map_length g [] = refl
-map_length g (x ∷ xs) = ap suc (map_length g xs)
 
 pub numbered_shown : (slots : List Token) (ss : List Places) (sid : ℕ)
     → numbered space_number sid (map (space_shown slots) ss) ≡ option_map (space_shown slots) (numbered (λ (s : Places). s.sid) sid ss)
@@ -197,9 +193,9 @@ module _ (t : Lists) (i : ℕ) (s : Places) (k : Known t) (rising : AreRising (s
         image_is = same ∙ sym (ap (λ (p : Placement). image_of p sid) place ∙ ap (image_of (placement_of t)) own ∙ image_shown);
         text_is = text ∙ sym (ap (λ (p : Placement). text_len p sid) place ∙ ap (text_len (placement_of t)) own ∙ text_shown);
         data_is = data_size ∙ sym (ap (λ (p : Placement). data_len p sid) place ∙ ap (data_len (placement_of t)) own ∙ ap (λ (o : Option SpacePages). 1024 * length (data_in o)) shown
-            ∙ ap (λ (n : ℕ). 1024 * n) (map_length (slot_shown t.slots) s.data));
+            ∙ ap (λ (n : ℕ). 1024 * n) (length_map (slot_shown t.slots) s.data));
         stack_is = stack_size ∙ sym (ap (λ (p : Placement). stack_len p sid) place ∙ ap (stack_len (placement_of t)) own ∙ ap (λ (o : Option SpacePages). 1024 * length (stack_in o)) shown
-            ∙ ap (λ (n : ℕ). 1024 * n) (map_length (slot_shown t.slots) s.stack));
+            ∙ ap (λ (n : ℕ). 1024 * n) (length_map (slot_shown t.slots) s.stack));
         low = low;
         high = high;
       }
@@ -212,10 +208,10 @@ get_below (y ∷ ys) (suc i) x e = let h = get_below ys i x e in omega arith
 
 -- each number is that of a space
 pub number_below : (p : Placement) (i sid : ℕ) → slice_get (map space_number p.spaces) i ≡ Some sid → i < length p.spaces
-number_below p i sid e = let h = get_below (map space_number p.spaces) i sid e in let l = map_length space_number p.spaces in omega arith
+number_below p i sid e = let h = get_below (map space_number p.spaces) i sid e in let l = length_map space_number p.spaces in omega arith
 
 pub space_below : (t : Lists) (i : ℕ) → i < length (placement_of t).spaces → i < length t.spaces
-space_below t i h = let l = map_length (space_shown t.slots) t.spaces in omega arith
+space_below t i h = let l = length_map (space_shown t.slots) t.spaces in omega arith
 
 pub own_home : (t : Lists) (i : ℕ) (q : Page) → IsWritable q → IsOwnPage (placement_of t) i q → IsHome t.spaces i q
 own_home t i (Data n v) w own = record {

@@ -30,12 +30,13 @@ use Rattle.kernel_tables.proofs.Stills.{images_heads, sourced_still}
 use Rattle.kernel_tables.proofs.Entries.{head_of, placed_heads}
 use Rattle.kernel_tables.proofs.Likes.{placed_alike, placed_filled, frame_fits}
 use Rattle.kernel_tables.proofs.Kept.{Ties, tied_still, still_there}
-use Rattle.kernel_tables.proofs.Kernels.{kernel_ext, writable_shared}
+use Rattle.kernel_tables.proofs.Kernels.{kernel_ext}
 use Rattle.kernel_tables.proofs.Touches.{InFrame, in_frame, written, write_place, write_frames}
 use Rattle.kernel_tables.proofs.Marks.{dirty_place, marks_placed, marks_here, alone_in, set_resident, resident_page, resident_mark}
 use Rattle.kernel_tables.proofs.Knows.{texts_here}
 use Rattle.kernel_tables.proofs.Comes.{shared_entry}
 use Rattle.kernel_laws.proofs.PageLawsMovesSteps.{page_in}
+use Rattle.kernel_laws.proofs.Kept.Pages.{writable_shared}
 
 pub marked_byte : (old one two : List Token) (f at byte : ℕ) → f < length old → one ≡ set old f (with_byte (slot_at old f) at byte)
     → two ≡ set one f (with_dirty (slot_at one f) true)

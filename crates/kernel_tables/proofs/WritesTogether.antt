@@ -142,22 +142,22 @@ pub record CameTo (t u : Tables) (q : Page) (f at : ℕ) (bytes : List ℕ) (j :
   pub stands : Stands u j b
   pub kernel : kernel_by u j b ≡ write_run (kernel_by t j b) q f at bytes
 
--- a page that can be written
-pub record CanWrite (t : Tables) (q : Page) (f : ℕ) (j : List Entry) (b : Bool) : Type 0 where
-  pub core : IsSoundMap t.core.free t.core.slots
-  pub stands : Stands t j b
-  pub valid : state_of (placement_of (lists_of t)) q ≡ Valid f
-  pub writable : IsWritable q
+module _ (t : Tables) (q : Page) (f : ℕ) where
+  -- a page that can be written
+  pub record CanWrite (j : List Entry) (b : Bool) : Type 0 where
+    pub core : IsSoundMap t.core.free t.core.slots
+    pub stands : Stands t j b
+    pub valid : state_of (placement_of (lists_of t)) q ≡ Valid f
+    pub writable : IsWritable q
 
-writing_one : (t : Tables) (q : Page) (f at byte : ℕ) (j : List Entry) (b : Bool) → CanWrite t q f j b → Writing t (with_one t q f at byte) q f at byte
-writing_one t q f at byte j b c = record { known = known_by t j b c.core c.stands; valid = c.valid; writable = c.writable; wrote = wrote_one t q f at byte }
+  writing_one : (at byte : ℕ) (j : List Entry) (b : Bool) → CanWrite j b → Writing t (with_one t q f at byte) q f at byte
+  writing_one at byte j b c = record { known = known_by t j b c.core c.stands; valid = c.valid; writable = c.writable; wrote = wrote_one t q f at byte }
 
-one_kernel : (t : Tables) (q : Page) (f at byte : ℕ) (j : List Entry) (b : Bool) → CanWrite t q f j b
-    → kernel_by (with_one t q f at byte) j b ≡ write_step (kernel_by t j b) q f at byte
-one_kernel t q f at byte j b c = write_kernel t (with_one t q f at byte) q f at byte j b (writing_one t q f at byte j b c)
+  one_kernel : (at byte : ℕ) (j : List Entry) (b : Bool) → CanWrite j b → kernel_by (with_one t q f at byte) j b ≡ write_step (kernel_by t j b) q f at byte
+  one_kernel at byte j b c = write_kernel t (with_one t q f at byte) q f at byte j b (writing_one at byte j b c)
 
-frame_below : (t : Tables) (q : Page) (f : ℕ) (j : List Entry) (b : Bool) → CanWrite t q f j b → InFrame (lists_of t) q f
-frame_below t q f j b c = in_frame (lists_of t) q f (known_by t j b c.core c.stands) c.valid
+  frame_below : (j : List Entry) (b : Bool) → CanWrite j b → InFrame (lists_of t) q f
+  frame_below j b c = in_frame (lists_of t) q f (known_by t j b c.core c.stands) c.valid
 
 can_again : (t : Tables) (q : Page) (f at byte : ℕ) (j : List Entry) (b : Bool) → CanWrite t q f j b → CanWrite (with_one t q f at byte) q f j b
 can_again t q f at byte j b c =

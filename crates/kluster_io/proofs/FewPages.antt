@@ -15,7 +15,7 @@ if_some : (b : Bool) (o : Option Place) → IsSome (if b then o else None) → I
 if_some true o e = e
 if_some false o e = absurd cc
 
-within : (ps : List Place) (v : ℕ) → IsSome (slice_get ps v) → v < length ps
+pub within : (ps : List Place) (v : ℕ) → IsSome (slice_get ps v) → v < length ps
 within ps v there = let x = some_of (slice_get ps v) there in slice_get_within ps v x.0 x.1
 
 -- a page that a space has is one of few of its segment

@@ -1,11 +1,9 @@
 -- Where pages may leave their frames the call may be made.
-use Rattle.std.proofs.Common.{◌≡◌, ◌≢◌, ℕ, zero, suc, ◌+◌, ◌-◌, ◌<◌, ◌≤◌, ◌==◌, nat_lt, nat_le, ◌&&◌, Bool, true, false, [], Option, None, refl, sym, ap, subst, arith}
+use Rattle.std.proofs.Common.{◌≡◌, ℕ, ◌<◌, ◌≤◌, ◌==◌, nat_lt, nat_le, ◌&&◌, Bool, true, false, [], None, refl, sym, subst, arith}
 use Rattle.std.proofs.lemmas.Bool.{eqb-true, and_parts}
 use Rattle.std.proofs.lemmas.Bool.Decides.{nat_tests}
 use Rattle.vm_facts.specs.declared.page.Page.{Page}
 use Rattle.vm_facts.specs.declared.page.Page.TheVariants.{Data, Stack, Text}
-use Rattle.vm_facts.specs.declared.page.PageState.{PageState}
-use Rattle.vm_facts.specs.declared.page.PageState.TheVariants.{Unfilled, Valid, Invalid, Coming, Going, OnSwap}
 use Rattle.flat_state.specs.PageNames.{number_of, beside, pages_from}
 use Rattle.page_model.specs.Placement.{Placement, state_of, is_dirty}
 use Rattle.page_model.specs.Runs.{is_seated, most_written}
@@ -13,14 +11,14 @@ use Rattle.page_model.specs.Conditions.{EachPage, HasSeat, IsShared}
 use Rattle.page_model.specs.PageBytes.{IsWritable}
 use Rattle.page_laws.proofs.Ownership.Runs.{seated_seat}
 use Rattle.machine_state.specs.Calls.{AreAlike, CanPush}
-use Rattle.paged_model.specs.declared.reason.Reason.{Reason}
 use Rattle.paged_model.specs.declared.reason.Reason.TheVariants as reasons
 use Rattle.paged_model.specs.Reasons.{unless, or_reason}
 use Rattle.paged_model.specs.Moves.{is_there, if_there, no_room, wrong_length, each_page, apart}
-use Rattle.paged_model.specs.Leaving.{unseated_by, unseated_if, unseated, put_along, put_reason_by}
+use Rattle.paged_model.specs.Leaving.{unseated_if, unseated, put_along, put_reason_by}
 use Rattle.paged_model.proofs.Reasoned.{or_none, unless_none}
 use Rattle.paged_model.proofs.There.{if_there_none}
 use Rattle.paged_model.proofs.Brought.{each_run, room_left}
+use Rattle.paged_model.proofs.PartReasons.{unseated_some}
 use Rattle.swapper.specs.Putting.{IsOfSegment}
 
 -- Pages of a space.
@@ -51,20 +49,12 @@ few_pages n e =
 
 -- Pages in frames off the free list.
 
-seat_none : (q : Page) (s : PageState) → unseated_by q s ≡ None → ⊥
-seat_none q (Invalid f) e = absurd cc
-seat_none q Unfilled e = absurd cc
-seat_none q (Valid f) e = absurd cc
-seat_none q (Coming f) e = absurd cc
-seat_none q (Going f) e = absurd cc
-seat_none q OnSwap e = absurd cc
-
 pub seat_true : (p : Placement) (q : Page) → unseated p q ≡ None → is_seated p q ≡ true
 seat_true p q e = go (is_seated p q) refl e
   where
     go : (b : Bool) → is_seated p q ≡ b → unseated_if p q b ≡ None → b ≡ true
     go true i x = refl
-    go false i x = absurd (seat_none q (state_of p q) x)
+    go false i x = absurd (unseated_some q (state_of p q) x)
 
 seat_of : (p : Placement) (q : Page) → unseated p q ≡ None → HasSeat p q
 seat_of p q e = seated_seat p q (seat_true p q e)
@@ -81,13 +71,6 @@ along_goes p q i e =
     let b = or_none (unseated p w) (or_reason (unless (is_dirty p w) (reasons.IsClean w)) (apart q w)) a.1 in
     let c = or_none (unless (is_dirty p w) (reasons.IsClean w)) (apart q w) b.1 in
     record { seat = seat_of p w b.0; dirty = unless_none (is_dirty p w) (reasons.IsClean w) c.0 }
-
--- the first of some pages, and those after it
-pub each_first : (q : Page) (reason : Page → Option Reason) (lo n : ℕ) → n ≢ 0
-    → each_page reason (pages_from q lo n) ≡ or_reason (reason (beside q lo)) (each_page reason (pages_from q (lo + 1) (n - 1)))
-each_first q reason lo zero some = absurd (some refl)
-each_first q reason lo (suc n) some =
-    let same : n ≡ suc n - 1 = omega arith in ap (λ (m : ℕ). or_reason (reason (beside q lo)) (each_page reason (pages_from q (lo + 1) m))) same
 
 one_from : (p : Placement) (q : Page) → HasSeat p q → EachPage (HasSeat p) (pages_from q (number_of q) 1)
 one_from p (Data sid v) h = (h, tt)

@@ -20,6 +20,7 @@ use Rattle.paged_model.specs.declared.reason.Reason.TheVariants as reasons
 use Rattle.paged_model.specs.Reasons.{unless, or_reason}
 use Rattle.paged_model.specs.Leaving.{may_not_go, still_seated, out_by, out_if, in_if}
 use Rattle.paged_model.proofs.Reasoned.{or_none, unless_none}
+use Rattle.paged_model.proofs.PartReasons.{not_true}
 use Rattle.move_judge.specs.Records.{IsRecord}
 use Rattle.move_judge.proofs.Recorded.{IsFlat, none_there, some_there, record_out}
 use Rattle.leave_judge.specs.Holders.{record_stays, HoldsRecord}
@@ -35,10 +36,6 @@ none_held l (Zombie status) e n = refl
 none_held lives.New (Holds s) e n = absurd cc
 none_held (lives.Lends lent child) (Holds s) e n = absurd cc
 none_held (lives.Zombie status) (Holds s) e n = absurd cc
-
-not_false : (b : Bool) → not b ≡ true → b ≡ false
-not_false true e = absurd cc
-not_false false e = refl
 
 not_held : (F : FlatState) (p : Placement) (pid : ℕ) (h : Holding) → holds_space h ≡ false → Some (reasons.HoldsNone pid) ≡ out_by F p pid h
 not_held F p pid (Holds s) e = absurd cc
@@ -91,7 +88,7 @@ out_can k pid sid p h there clear e =
       sid = sid;
       holds = held_in k pid sid p h;
       there = there;
-      resident = sym (record_out k pid sid p h.known h.holds) ∙ not_false p.out (unless_none (not p.out) (reasons.IsOut p.pid) b.1);
+      resident = sym (record_out k pid sid p h.known h.holds) ∙ not_true p.out (unless_none (not p.out) (reasons.IsOut p.pid) b.1);
       settled = unless_none (is_settled k.place sid) reasons.Unsettled c.0;
       empty = seated_none k.place first c.1;
     }

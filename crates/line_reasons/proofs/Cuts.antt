@@ -8,13 +8,11 @@ use Rattle.std.proofs.lemmas.Bool.Decides.{nat_tests}
 use Rattle.std.proofs.lemmas.List.{take_all, take_more, take-append-le, get_or-append_right}
 use Rattle.std.proofs.lemmas.List.Sums.{prefix_len_stops, split_at_first}
 use Rattle.run_text.specs.Pieces.{HasNo}
+use Rattle.run_text.proofs.LineEnds.{is_other}
 use Rattle.line_reasons.specs.Lines.{ends_in, text_in, word_by, word_in, rest_in}
 
-is_byte : (b c : ℕ) → (b == c) ≡ true → b ≡ c
+pub is_byte : (b c : ℕ) → (b == c) ≡ true → b ≡ c
 is_byte b c e = grind (arith, nat_tests)
-
-is_other : (b c : ℕ) → b ≢ c → (b == c) ≡ false
-is_other b c n = grind (arith, nat_tests)
 
 same_byte : (b c : ℕ) → b ≡ c → (b == c) ≡ true
 same_byte b c e = grind (arith, nat_tests)
@@ -85,10 +83,6 @@ any_not c (x ∷ xs) none = any_step (x == c) _ (is_other x c none.0) (any_not c
     any_step : (s t : Bool) → s ≡ false → t ≡ false → (s || t) ≡ false
     any_step true t a b = absurd cc
     any_step false t a b = b
-
-pub has_no_more : (c : ℕ) (xs ys : List ℕ) → HasNo c xs → HasNo c ys → HasNo c (xs ++ ys)
-has_no_more c [] ys a b = b
-has_no_more c (x ∷ xs) ys a b = (a.0, has_no_more c xs ys a.1 b)
 
 -- The first blank.
 

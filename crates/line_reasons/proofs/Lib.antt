@@ -1,9 +1,8 @@
 pub mod Cuts
 mod LineNumbers
 mod Lacking
-mod Joining
 mod ScheduleNumerals
 mod ScheduleRefusals
 mod Explained
 mod ReferenceNumerals
-mod ReferenceRefusals
+pub mod ReferenceRefusals

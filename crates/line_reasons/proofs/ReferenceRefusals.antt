@@ -2,7 +2,6 @@
 use Rattle.std.proofs.Common.{◌≡◌, ◌≢◌, ◌∙◌, inl, inr, ℕ, ◌^◌, ◌<◌, Bool, true, false, ◌||◌, is_none, List, [], ◌∷◌, ◌++◌, length, refl, sym, ap, subst, Option, Some, None, bytes_eq, codes, decimal, arith, lit<}
 use Rattle.std.specs.Prelude.{◌==◌, if◌then◌else◌}
 use Rattle.std.specs.Str.Parse.{AllDigits}
-use Rattle.std.proofs.lemmas.Bool.Decides.{nat_tests}
 use Rattle.std.proofs.lemmas.List.{append-nil}
 use Rattle.std.proofs.lemmas.Slice.Eq.{bytes_eq-Decides}
 use Rattle.std.proofs.lemmas.Str.Parse.{digit_from_value}
@@ -12,11 +11,13 @@ use Rattle.run_text.specs.Text.{parts}
 use Rattle.run_text.specs.Pieces.{HasNo}
 use Rattle.run_text.specs.Transcript.{AllBelow, page_numbers}
 use Rattle.run_text.proofs.Events.{digits_no}
-use Rattle.run_text.proofs.Words.{decimal_value}
+use Rattle.run_text.proofs.Words.{decimal_value, decimal_no_space}
+use Rattle.run_text.proofs.LineEnds.{is_other}
+use Rattle.run_text.proofs.WrittenLines.{no_both}
 use Rattle.reference_text.specs.Grammar.{IsReference, IsLineText, IsReferenceLine}
 use Rattle.line_reasons.specs.Lines.{ends_in, text_in, word_in, rest_in}
 use Rattle.line_reasons.specs.FirstReason.{or_else}
-use Rattle.line_reasons.proofs.Cuts.{ends_so, text_of, line_of, ends_not, any_not, has_no_more, text_cut, text_whole, word_before, rest_after, word_alone, rest_none}
+use Rattle.line_reasons.proofs.Cuts.{ends_so, text_of, line_of, ends_not, any_not, text_cut, text_whole, word_before, rest_after, word_alone, rest_none, is_byte}
 use Rattle.line_reasons.specs.declared.references.Argument.{Argument}
 use Rattle.line_reasons.specs.declared.references.Argument.TheVariants.{Owner, Place}
 use Rattle.line_reasons.specs.ReferenceReasons.{Why, CarriageReturn, Tab, NoReference, NotNumber, NoLineFeed, is_number, why_number, why_numbers, is_segment, why_reference, why_text, why_line, RefusedHaveReasons}
@@ -41,9 +42,6 @@ after true why x e = absurd cc
 after false why x e = e
 
 -- Numbers.
-
-no_blank : (n : ℕ) → n < 2 ^ 32 → HasNo 32 (decimal n)
-no_blank n small = digits_no 32 (decimal n) (lit< tt) (decimal_value n small).0.1
 
 -- a word without a reason is a number
 number_found : (argument : Argument) (word : List ℕ) → why_number argument word ≡ None → IsDecimal word
@@ -107,7 +105,7 @@ two_found rest e =
 last_follows : (argument : Argument) (n : ℕ) → n < 2 ^ 32 → why_numbers (argument ∷ []) (Some (decimal n)) ≡ None
 unfolding why_numbers
 last_follows argument n small =
-    let none = no_blank n small in
+    let none = decimal_no_space n small in
     ap (λ (x : List ℕ). or_else (why_number argument x) (why_numbers [] (rest_in (decimal n)))) (word_alone (decimal n) none)
     ∙ ap (λ (x : Option Why). or_else x (why_numbers [] (rest_in (decimal n)))) (number_passes argument (decimal n) n small refl)
     ∙ ap (λ (x : Option (List ℕ)). why_numbers [] x) (rest_none (decimal n) none)
@@ -115,7 +113,7 @@ last_follows argument n small =
 two_follow : (a b : ℕ) → a < 2 ^ 32 → b < 2 ^ 32 → why_numbers (Owner ∷ Place ∷ []) (Some (decimal a ++ 32 ∷ decimal b)) ≡ None
 unfolding why_numbers
 two_follow a b small_a small_b =
-    let none = no_blank a small_a in
+    let none = decimal_no_space a small_a in
     ap (λ (x : List ℕ). or_else (why_number Owner x) (why_numbers (Place ∷ []) (rest_in (decimal a ++ 32 ∷ decimal b)))) (word_before (decimal a) (decimal b) none)
     ∙ ap (λ (x : Option Why). or_else x (why_numbers (Place ∷ []) (rest_in (decimal a ++ 32 ∷ decimal b)))) (number_passes Owner (decimal a) a small_a refl)
     ∙ ap (λ (x : Option (List ℕ)). why_numbers (Place ∷ []) x) (rest_after (decimal a) (decimal b) none)
@@ -124,14 +122,14 @@ two_follow a b small_a small_b =
 -- The reference of a text.
 
 -- the first word and what follows make the text
-record Cuts (word : List ℕ) (rest : Option (List ℕ)) (text : List ℕ) : Type 0 where
-  whole : rest ≡ None → text ≡ word
-  cut : (more : List ℕ) → rest ≡ Some more → text ≡ word ++ 32 ∷ more
+pub record Cuts (word : List ℕ) (rest : Option (List ℕ)) (text : List ℕ) : Type 0 where
+  pub whole : rest ≡ None → text ≡ word
+  pub cut : (more : List ℕ) → rest ≡ Some more → text ≡ word ++ 32 ∷ more
 
-cuts_of : (text : List ℕ) → Cuts (word_in text) (rest_in text) text
+pub cuts_of : (text : List ℕ) → Cuts (word_in text) (rest_in text) text
 cuts_of text = record { whole = text_whole text; cut = λ more is. text_cut text more is }
 
-same_word : (word letter : List ℕ) → bytes_eq word letter ≡ true → word ≡ letter
+pub same_word : (word letter : List ℕ) → bytes_eq word letter ≡ true → word ≡ letter
 same_word word letter e = (bytes_eq-Decides word letter).0 e
 
 -- two numbers as a page has them
@@ -145,44 +143,36 @@ lettered letter word text rest two cuts is =
     ∙ ap (λ (w : List ℕ). w ++ 32 ∷ (decimal two.owner ++ 32 ∷ decimal two.place)) is
     ∙ page_text letter two.owner two.place
 
-page_by : (word text : List ℕ) (rest : Option (List ℕ)) (d s x : Bool) → bytes_eq word (codes "d") ≡ d → bytes_eq word (codes "s") ≡ s
-    → bytes_eq word (codes "x") ≡ x
-    → (d || (s || x)) ≡ true → Cuts word rest text → TwoFollow rest → (page : Page) × IsReference page text
-page_by word text rest true s x a b c one cuts two =
-    (Data two.owner two.place, ((two.small_owner, (two.small_place, tt)), inl (lettered 100 word text rest two cuts (same_word word (codes "d") a))))
-page_by word text rest false true x a b c one cuts two =
-    (Stack two.owner two.place, ((two.small_owner, (two.small_place, tt)), inl (lettered 115 word text rest two cuts (same_word word (codes "s") b))))
-page_by word text rest false false true a b c one cuts two =
-    (Text two.owner two.place, ((two.small_owner, (two.small_place, tt)), inl (lettered 120 word text rest two cuts (same_word word (codes "x") c))))
-page_by word text rest false false false a b c one cuts two = absurd cc
+module _ (word text : List ℕ) (rest : Option (List ℕ)) where
+  page_by : (d s x : Bool) → bytes_eq word (codes "d") ≡ d → bytes_eq word (codes "s") ≡ s → bytes_eq word (codes "x") ≡ x → (d || (s || x)) ≡ true
+      → Cuts word rest text → TwoFollow rest → (page : Page) × IsReference page text
+  page_by true s x a b c one cuts two =
+      (Data two.owner two.place, ((two.small_owner, (two.small_place, tt)), inl (lettered 100 word text rest two cuts (same_word word (codes "d") a))))
+  page_by false true x a b c one cuts two =
+      (Stack two.owner two.place, ((two.small_owner, (two.small_place, tt)), inl (lettered 115 word text rest two cuts (same_word word (codes "s") b))))
+  page_by false false true a b c one cuts two =
+      (Text two.owner two.place, ((two.small_owner, (two.small_place, tt)), inl (lettered 120 word text rest two cuts (same_word word (codes "x") c))))
+  page_by false false false a b c one cuts two = absurd cc
 
-page_found : (word text : List ℕ) (rest : Option (List ℕ)) → is_segment word ≡ true → Cuts word rest text → TwoFollow rest
-    → (page : Page) × IsReference page text
-unfolding is_segment
-page_found word text rest one cuts two = page_by word text rest _ _ _ refl refl refl one cuts two
+  page_found : is_segment word ≡ true → Cuts word rest text → TwoFollow rest → (page : Page) × IsReference page text
+  unfolding is_segment
+  page_found one cuts two = page_by _ _ _ refl refl refl one cuts two
 
-plain_found : (word text : List ℕ) (rest : Option (List ℕ)) → IsDecimal word → Cuts word rest text → why_numbers [] rest ≡ None
-    → (page : Page) × IsReference page text
-plain_found word text rest number cuts none =
-    (Data 0 number.value, ((lit< tt, (number.small, tt)), inr (number.value, refl, cuts.whole (nothing_follows rest none) ∙ number.is)))
+  plain_found : IsDecimal word → Cuts word rest text → why_numbers [] rest ≡ None → (page : Page) × IsReference page text
+  plain_found number cuts none =
+      (Data 0 number.value, ((lit< tt, (number.small, tt)), inr (number.value, refl, cuts.whole (nothing_follows rest none) ∙ number.is)))
 
-reference_by : (word text : List ℕ) (rest : Option (List ℕ)) (s n : Bool) → is_segment word ≡ s → is_number word ≡ n → Cuts word rest text
-    → (if s then why_numbers (Owner ∷ Place ∷ []) rest else (if n then why_numbers [] rest else Some (NoReference word))) ≡ None
-    → (page : Page) × IsReference page text
-reference_by word text rest true n a b cuts none = page_found word text rest a cuts (two_found rest none)
-reference_by word text rest false true a b cuts none = plain_found word text rest (number_read word b) cuts none
-reference_by word text rest false false a b cuts none = absurd cc
+  reference_by : (s n : Bool) → is_segment word ≡ s → is_number word ≡ n → Cuts word rest text
+      → (if s then why_numbers (Owner ∷ Place ∷ []) rest else (if n then why_numbers [] rest else Some (NoReference word))) ≡ None
+      → (page : Page) × IsReference page text
+  reference_by true n a b cuts none = page_found a cuts (two_found rest none)
+  reference_by false true a b cuts none = plain_found (number_read word b) cuts none
+  reference_by false false a b cuts none = absurd cc
 
 reference_found : (word text : List ℕ) (rest : Option (List ℕ)) → Cuts word rest text → why_reference word rest ≡ None → (page : Page) × IsReference page text
 unfolding why_reference
 reference_found [] text rest cuts none = absurd cc
 reference_found (b ∷ bs) text rest cuts none = reference_by (b ∷ bs) text rest _ _ refl refl cuts none
-
-is_byte : (b c : ℕ) → (b == c) ≡ true → b ≡ c
-is_byte b c e = grind (arith, nat_tests)
-
-is_other : (b c : ℕ) → b ≢ c → (b == c) ≡ false
-is_other b c n = grind (arith, nat_tests)
 
 text_by : (b : ℕ) (bs : List ℕ) (t : Bool) (x : Option Why) → (b == 35) ≡ t → (if t then None else x) ≡ None
     → (x ≡ None → (page : Page) × IsReference page (b ∷ bs)) → (read : Option Page) × IsLineText read (b ∷ bs)
@@ -205,18 +195,18 @@ line_found line none =
 -- The text of a reference.
 
 -- a text without a tab and a carriage return
-record IsClean (text : List ℕ) : Type 0 where
-  tab : HasNo 9 text
-  return : HasNo 13 text
+pub record IsClean (text : List ℕ) : Type 0 where
+  pub tab : HasNo 9 text
+  pub return : HasNo 13 text
 
 clean_number : (n : ℕ) → n < 2 ^ 32 → IsClean (decimal n)
 clean_number n small = record { tab = digits_no 9 (decimal n) (lit< tt) (decimal_value n small).0.1; return = digits_no 13 (decimal n) (lit< tt) (decimal_value n small).0.1 }
 
-clean_more : (b : ℕ) (text : List ℕ) → 13 < b → IsClean text → IsClean (b ∷ text)
+pub clean_more : (b : ℕ) (text : List ℕ) → 13 < b → IsClean text → IsClean (b ∷ text)
 clean_more b text high clean = record { tab = (λ e. omega arith, clean.tab); return = (λ e. omega arith, clean.return) }
 
-clean_both : (xs ys : List ℕ) → IsClean xs → IsClean ys → IsClean (xs ++ ys)
-clean_both xs ys a b = record { tab = has_no_more 9 xs ys a.tab b.tab; return = has_no_more 13 xs ys a.return b.return }
+pub clean_both : (xs ys : List ℕ) → IsClean xs → IsClean ys → IsClean (xs ++ ys)
+clean_both xs ys a b = record { tab = no_both 9 xs ys a.tab b.tab; return = no_both 13 xs ys a.return b.return }
 
 clean_by : (r s t : Bool) (a b : Why) (x : Option Why) → r ≡ false → s ≡ false → t ≡ false → x ≡ None
     → (if r then None else (if s then Some a else (if t then Some b else x))) ≡ None

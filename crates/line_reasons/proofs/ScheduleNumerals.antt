@@ -1,16 +1,13 @@
 -- The number that a word writes.
-use Rattle.std.proofs.Common.{◌≡◌, ℕ, ◌^◌, ◌<◌, ◌≤◌, true, List, length, ap, Some, Result, Ok, Err, arith, rules}
+use Rattle.std.proofs.Common.{◌≡◌, ℕ, ◌^◌, ◌<◌, ◌≤◌, true, List, length, ap, Some, Result, Ok, Err, arith}
 use Rattle.std.specs.Char.{is_ascii_digit}
 use Rattle.std.specs.List.{list_all}
 use Rattle.std.specs.Result.{result_ok}
 use Rattle.std.specs.Str.Parse.{ParsesUnsigned, digits_value}
 use Rattle.std.proofs.lemmas.Bool.{le-leb}
-use Rattle.std.proofs.lemmas.Str.Parse.{IsNumeralModel, numerals_by_value, parse_digits, digits_value_short}
+use Rattle.std.proofs.lemmas.Str.Parse.{parse_digits, digits_value_short}
+use Rattle.command_words.proofs.Numerals.{digits_alone}
 use Rattle.line_reasons.specs.Digits.{decimal_of}
-
--- digits alone are a numeral in decimal
-pub digits_alone : IsNumeralModel (λ word. list_all is_ascii_digit word ≡ true) (digits_value 10)
-digits_alone = numerals_by_value _ (search rules)
 
 -- one to eight digits are parsed as their number
 pub parsed : {E : Type 0} (word : List ℕ) (outcome : Result ℕ E) → ParsesUnsigned 32 10 word outcome

@@ -5,21 +5,21 @@ use Rattle.std.specs.List.{list_all}
 use Rattle.std.specs.Char.{is_ascii_digit}
 use Rattle.std.specs.Str.Parse.{digits_value}
 use Rattle.std.proofs.lemmas.Bool.{and_parts, and_from, leb-true, le-leb}
-use Rattle.std.proofs.lemmas.Slice.Eq.{bytes_eq-Decides}
 use Rattle.vm_facts.specs.declared.event.Event.{Event}
 use Rattle.vm_facts.specs.declared.event.Event.TheVariants.{Dispatch, Interrupt, Hands, Swapper, Audit}
 use Rattle.run_text.specs.Pieces.{HasNo}
 use Rattle.run_text.specs.Schedule.{Writes, IsEvent, IsEventLine}
 use Rattle.run_text.specs.declared.limits.TheConstants.{LAST_PROCESS, MOST_TURN, MOST_MOVES}
 use Rattle.run_text.proofs.Events.{digits_no}
+use Rattle.command_words.proofs.Numerals.{digits_alone}
 use Rattle.line_reasons.specs.declared.schedule.Argument.{Argument}
 use Rattle.line_reasons.specs.declared.schedule.Argument.TheVariants.{Process, Turn, Moves}
 use Rattle.line_reasons.specs.Lines.{ends_in, text_in, word_in, rest_in}
 use Rattle.line_reasons.specs.FirstReason.{or_else}
 use Rattle.line_reasons.specs.Digits.{decimal_of}
 use Rattle.line_reasons.specs.ScheduleReasons.{Why, OutOfRange, NoLineFeed, CarriageReturn, Tab, most_of, why_value, why_number, why_numbers, no_event, is_plain, why_event, why_text, why_line, RefusedHaveReasons}
-use Rattle.line_reasons.proofs.Cuts.{ends_so, text_of, line_of, ends_not, any_not, has_no_more, text_cut, text_whole, word_before, rest_after, word_alone, rest_none}
-use Rattle.line_reasons.proofs.ScheduleNumerals.{digits_alone}
+use Rattle.line_reasons.proofs.Cuts.{ends_so, text_of, line_of, ends_not, any_not, text_cut, text_whole, word_before, rest_after, word_alone, rest_none}
+use Rattle.line_reasons.proofs.ReferenceRefusals.{Cuts, cuts_of, same_word, IsClean, clean_more, clean_both}
 
 none_is : (x : Option Why) → is_none x ≡ true → x ≡ None
 none_is None e = refl
@@ -136,68 +136,53 @@ two_follow first second word other value n w v =
 
 -- The event of a text.
 
--- the first word and what follows make the text
-record Cuts (word : List ℕ) (rest : Option (List ℕ)) (text : List ℕ) : Type 0 where
-  whole : rest ≡ None → text ≡ word
-  cut : (more : List ℕ) → rest ≡ Some more → text ≡ word ++ 32 ∷ more
+module _ (word text : List ℕ) (rest : Option (List ℕ)) where
+  alone : (letter : List ℕ) → Cuts word rest text → bytes_eq word letter ≡ true → why_numbers [] rest ≡ None → text ≡ letter
+  alone letter cuts is none = cuts.whole (nothing_follows rest none) ∙ same_word word letter is
 
-cuts_of : (text : List ℕ) → Cuts (word_in text) (rest_in text) text
-cuts_of text = record { whole = text_whole text; cut = λ more is. text_cut text more is }
+  dispatched : Cuts word rest text → bytes_eq word (codes "d") ≡ true → why_numbers (Process ∷ Turn ∷ []) rest ≡ None → (e : Event) × IsEvent e text
+  dispatched cuts is none =
+      let one = number_follows Process (Turn ∷ []) rest none in
+      let two = number_follows Turn [] (rest_in one.text) one.more in
+      let p = word_in one.text in
+      let n = word_in two.text in
+      let whole : two.text ≡ n = text_whole two.text (nothing_follows (rest_in two.text) two.more) in
+      let text_is : text ≡ codes "d " ++ (p ++ (codes " " ++ n)) =
+      cuts.cut one.text one.is
+      ∙ ap (λ (w : List ℕ). w ++ 32 ∷ one.text) (same_word word (codes "d") is)
+      ∙ ap (λ (t : List ℕ). 100 ∷ 32 ∷ t) (text_cut one.text two.text two.is ∙ ap (λ (t : List ℕ). p ++ 32 ∷ t) whole) in
+      (Dispatch one.value two.value, (p, n, one.writes, two.writes, text_is))
 
-same_word : (word letter : List ℕ) → bytes_eq word letter ≡ true → word ≡ letter
-same_word word letter e = (bytes_eq-Decides word letter).0 e
+  moved : Cuts word rest text → bytes_eq word (codes "h") ≡ true → why_numbers (Moves ∷ []) rest ≡ None → (e : Event) × IsEvent e text
+  moved cuts is none =
+      let one = number_follows Moves [] rest none in
+      let n = word_in one.text in
+      let text_is : text ≡ codes "h " ++ n =
+      cuts.cut one.text one.is
+      ∙ ap (λ (w : List ℕ). w ++ 32 ∷ one.text) (same_word word (codes "h") is)
+      ∙ ap (λ (t : List ℕ). 104 ∷ 32 ∷ t) (text_whole one.text (nothing_follows (rest_in one.text) one.more)) in
+      (Hands one.value, (n, one.writes, text_is))
 
-alone : (word text : List ℕ) (rest : Option (List ℕ)) (letter : List ℕ) → Cuts word rest text → bytes_eq word letter ≡ true
-    → why_numbers [] rest ≡ None → text ≡ letter
-alone word text rest letter cuts is none = cuts.whole (nothing_follows rest none) ∙ same_word word letter is
+  plain_by : (i w m : Bool) → bytes_eq word (codes "i") ≡ i → bytes_eq word (codes "w") ≡ w → bytes_eq word (codes "m") ≡ m → (i || (w || m)) ≡ true
+      → Cuts word rest text → why_numbers [] rest ≡ None → (e : Event) × IsEvent e text
+  plain_by true w m a b d one cuts none = (Interrupt, alone (codes "i") cuts a none)
+  plain_by false true m a b d one cuts none = (Swapper, alone (codes "w") cuts b none)
+  plain_by false false true a b d one cuts none = (Audit, alone (codes "m") cuts d none)
+  plain_by false false false a b d one cuts none = absurd cc
 
-dispatched : (word text : List ℕ) (rest : Option (List ℕ)) → Cuts word rest text → bytes_eq word (codes "d") ≡ true
-    → why_numbers (Process ∷ Turn ∷ []) rest ≡ None → (e : Event) × IsEvent e text
-dispatched word text rest cuts is none =
-    let one = number_follows Process (Turn ∷ []) rest none in
-    let two = number_follows Turn [] (rest_in one.text) one.more in
-    let p = word_in one.text in
-    let n = word_in two.text in
-    let whole : two.text ≡ n = text_whole two.text (nothing_follows (rest_in two.text) two.more) in
-    let text_is : text ≡ codes "d " ++ (p ++ (codes " " ++ n)) =
-    cuts.cut one.text one.is
-    ∙ ap (λ (w : List ℕ). w ++ 32 ∷ one.text) (same_word word (codes "d") is)
-    ∙ ap (λ (t : List ℕ). 100 ∷ 32 ∷ t) (text_cut one.text two.text two.is ∙ ap (λ (t : List ℕ). p ++ 32 ∷ t) whole) in
-    (Dispatch one.value two.value, (p, n, one.writes, two.writes, text_is))
+  plain_told : is_plain word ≡ true → Cuts word rest text → why_numbers [] rest ≡ None → (e : Event) × IsEvent e text
+  unfolding is_plain
+  plain_told one cuts none = plain_by _ _ _ refl refl refl one cuts none
 
-moved : (word text : List ℕ) (rest : Option (List ℕ)) → Cuts word rest text → bytes_eq word (codes "h") ≡ true → why_numbers (Moves ∷ []) rest ≡ None
-    → (e : Event) × IsEvent e text
-moved word text rest cuts is none =
-    let one = number_follows Moves [] rest none in
-    let n = word_in one.text in
-    let text_is : text ≡ codes "h " ++ n =
-    cuts.cut one.text one.is
-    ∙ ap (λ (w : List ℕ). w ++ 32 ∷ one.text) (same_word word (codes "h") is)
-    ∙ ap (λ (t : List ℕ). 104 ∷ 32 ∷ t) (text_whole one.text (nothing_follows (rest_in one.text) one.more)) in
-    (Hands one.value, (n, one.writes, text_is))
-
-plain_by : (word text : List ℕ) (rest : Option (List ℕ)) (i w m : Bool) → bytes_eq word (codes "i") ≡ i → bytes_eq word (codes "w") ≡ w
-    → bytes_eq word (codes "m") ≡ m
-    → (i || (w || m)) ≡ true → Cuts word rest text → why_numbers [] rest ≡ None → (e : Event) × IsEvent e text
-plain_by word text rest true w m a b d one cuts none = (Interrupt, alone word text rest (codes "i") cuts a none)
-plain_by word text rest false true m a b d one cuts none = (Swapper, alone word text rest (codes "w") cuts b none)
-plain_by word text rest false false true a b d one cuts none = (Audit, alone word text rest (codes "m") cuts d none)
-plain_by word text rest false false false a b d one cuts none = absurd cc
-
-plain_told : (word text : List ℕ) (rest : Option (List ℕ)) → is_plain word ≡ true → Cuts word rest text → why_numbers [] rest ≡ None
-    → (e : Event) × IsEvent e text
-unfolding is_plain
-plain_told word text rest one cuts none = plain_by word text rest _ _ _ refl refl refl one cuts none
-
-event_by : (word text : List ℕ) (rest : Option (List ℕ)) (d h p : Bool) → bytes_eq word (codes "d") ≡ d → bytes_eq word (codes "h") ≡ h
-    → is_plain word ≡ p → Cuts word rest text
-    → (if d then why_numbers (Process ∷ Turn ∷ []) rest
-    else (if h then why_numbers (Moves ∷ []) rest else (if p then why_numbers [] rest else Some (no_event word)))) ≡ None
-    → (e : Event) × IsEvent e text
-event_by word text rest true h p a b q cuts none = dispatched word text rest cuts a none
-event_by word text rest false true p a b q cuts none = moved word text rest cuts b none
-event_by word text rest false false true a b q cuts none = plain_told word text rest q cuts none
-event_by word text rest false false false a b q cuts none = absurd cc
+  event_by : (d h p : Bool) → bytes_eq word (codes "d") ≡ d → bytes_eq word (codes "h") ≡ h
+      → is_plain word ≡ p → Cuts word rest text
+      → (if d then why_numbers (Process ∷ Turn ∷ []) rest
+      else (if h then why_numbers (Moves ∷ []) rest else (if p then why_numbers [] rest else Some (no_event word)))) ≡ None
+      → (e : Event) × IsEvent e text
+  event_by true h p a b q cuts none = dispatched cuts a none
+  event_by false true p a b q cuts none = moved cuts b none
+  event_by false false true a b q cuts none = plain_told q cuts none
+  event_by false false false a b q cuts none = absurd cc
 
 event_told : (word text : List ℕ) (rest : Option (List ℕ)) → Cuts word rest text → why_event word rest ≡ None → (e : Event) × IsEvent e text
 unfolding why_event
@@ -219,19 +204,8 @@ line_told line none =
 
 -- The text of an event.
 
--- a text of a letter and what follows has neither a tab nor a carriage return
-record IsClean (text : List ℕ) : Type 0 where
-  tab : HasNo 9 text
-  return : HasNo 13 text
-
 clean_number : (most : ℕ) (word : List ℕ) (value : ℕ) → Writes most word value → IsClean word
 clean_number most word value w = record { tab = digits_no_blank most word value 9 (lit< tt) w; return = digits_no_blank most word value 13 (lit< tt) w }
-
-clean_more : (b : ℕ) (text : List ℕ) → 13 < b → IsClean text → IsClean (b ∷ text)
-clean_more b text high clean = record { tab = (λ e. omega arith, clean.tab); return = (λ e. omega arith, clean.return) }
-
-clean_both : (xs ys : List ℕ) → IsClean xs → IsClean ys → IsClean (xs ++ ys)
-clean_both xs ys a b = record { tab = has_no_more 9 xs ys a.tab b.tab; return = has_no_more 13 xs ys a.return b.return }
 
 clean_none : IsClean []
 clean_none = record { tab = tt; return = tt }

@@ -1,7 +1,6 @@
 -- What the next step of a process at a call is.
-use Rattle.std.proofs.Common.{◌≡◌, ℕ, ◌+◌, ◌-◌, ◌*◌, ◌/◌, ◌%◌, ◌<◌, ◌==◌, Bool, true, false, nat_le, nat_lt, List, [], ◌∷◌, length, take, replicate, find, Option, Some, None, Result, Ok, pos, refl, sym, ap, ◌∙◌, subst, arith}
+use Rattle.std.proofs.Common.{◌≡◌, ℕ, ◌+◌, ◌-◌, ◌*◌, ◌/◌, ◌%◌, ◌<◌, ◌==◌, Bool, true, false, nat_le, nat_lt, List, [], ◌∷◌, length, find, Option, Some, None, Result, Ok, pos, refl, sym, ap, ◌∙◌, subst, arith}
 use Rattle.std.proofs.lemmas.Bool.{eqb-true}
-use Rattle.std.proofs.lemmas.List.{length-append, length-take, length-replicate}
 use Rattle.std.proofs.lemmas.Bool.Decides.{nat_tests}
 use Rattle.vm_facts.specs.declared.regs.Regs.{Regs}
 use Rattle.vm_facts.specs.declared.entry.Entry.TheVariants as entries
@@ -14,7 +13,7 @@ use Rattle.flat_state.specs.Space.{Space, spot_at, answers_of}
 use Rattle.flat_state.specs.Flat.{Process, FlatState, NamedImage, argument_area, start_page, start_regs}
 use Rattle.flat_state.specs.declared.change.Change.{Change}
 use Rattle.flat_state.specs.declared.change.Change.TheVariants.{Keep, Resize, Fork, Exec, Reap, Sleep, End}
-use Rattle.flat_state.specs.Change.{apply_writes, is_zombie_child, resized_bytes}
+use Rattle.flat_state.specs.Change.{apply_writes, is_zombie_child}
 use Rattle.flat_model.specs.declared.calls.Reply.{Reply}
 use Rattle.flat_model.specs.declared.calls.Reply.TheVariants as replies
 use Rattle.flat_model.specs.declared.calls.SystemCall.{SystemCall}
@@ -141,14 +140,6 @@ breaks images F pages p at few =
     (sym (x.is ∙ ap (λ (o : Result Reply Refused). replied_step images F p calls.Break (calling b 0x0b x.n x.z x.v x.c 17) (or_fault o))
     (break_done images (apply_writes F p.pid []) (written_process p (space_at pages W s) []) pages s.sid s.image s.data_bytes s.stack_bytes b 0x0b x.n x.z x.v x.c at.says few at.stack)))
     (did_of images F p calls.Break b 0x0b x.n x.z x.v x.c 17 0 (Resize pages 1))
-
--- so many pages are so many bytes
-pub resized_long : (pages : ℕ) (bytes : List ℕ) → length (resized_bytes pages bytes) ≡ 1024 * pages
-resized_long pages bytes =
-    let a = length-append (take (1024 * pages) bytes) (replicate (1024 * pages - length bytes) 0) in
-    let b = length-take (1024 * pages) bytes in
-    let c = length-replicate (1024 * pages - length bytes) (let z : ℕ = 0 in z) in
-    omega (arith, a, b, c)
 
 -- ---- fork
 

@@ -1,11 +1,12 @@
 -- The processes of the flat machine after a step of one of them.
-use Rattle.std.proofs.Common.{◌≡◌, ◌≢◌, ℕ, ◌==◌, Bool, true, false, cond, not, List, [], ◌∷◌, ◌++◌, map, filter, find, Option, Some, refl, sym, ap, ◌∙◌, subst, eq-eqb}
+use Rattle.std.proofs.Common.{◌≡◌, ◌≢◌, ℕ, ◌==◌, Bool, true, false, cond, not, List, [], ◌∷◌, ◌++◌, map, filter, find, Option, Some, refl, sym, ap, ◌∙◌}
 use Rattle.std.proofs.lemmas.Bool.{eqb-true}
 use Rattle.flat_state.specs.Space.{Space, puts}
 use Rattle.flat_state.specs.Flat.{Holding, Holds, Zombie, Process, FlatState, NamedImage, process_of, image_numbered, space_with}
 use Rattle.flat_state.specs.declared.change.Change.{Change}
 use Rattle.flat_state.specs.declared.change.Change.TheVariants.{Keep, Resize, Fork, Exec, Reap, Sleep, End}
 use Rattle.flat_state.specs.Change.{replaced_by, replaced, with_process, child_of, resized, entered, returned, given_back, is_zombie_child, without_parent, orphaned, awake, left, changed, apply_writes, apply_change}
+use Rattle.flat_state.proofs.Processes.{replaced_twice}
 use Rattle.flat_model.specs.Step.{Step}
 use Rattle.run_laws.proofs.Swaps.{applied}
 use Rattle.run_laws.proofs.Stepping.{wrote, wrote_process}
@@ -13,18 +14,6 @@ use Rattle.load_laws.proofs.Going.{gone_on}
 use Rattle.load_laws.proofs.Sleepers.{left_by}
 
 -- ---- replacing
-
-pub replaced_twice : (ps : List Process) (a b : Process) → a.pid ≡ b.pid → replaced (replaced ps a) b ≡ replaced ps b
-unfolding replaced
-replaced_twice [] a b e = refl
-replaced_twice (x ∷ xs) a b e =
-    subst (λ (n : ℕ). replaced (replaced_by (x.pid == n) a x xs (replaced xs a)) b ≡ replaced_by (x.pid == b.pid) b x xs (replaced xs b)) (sym e)
-    (go (x.pid == b.pid) refl (replaced_twice xs a b e))
-  where
-    go : (c : Bool) → (x.pid == b.pid) ≡ c → replaced (replaced xs a) b ≡ replaced xs b
-        → replaced (replaced_by c a x xs (replaced xs a)) b ≡ replaced_by c b x xs (replaced xs b)
-    go true k later = ap (λ (c : Bool). replaced_by c b a xs (replaced xs b)) (eq-eqb a.pid b.pid e)
-    go false k later = ap (λ (c : Bool). replaced_by c b x (replaced xs a) (replaced (replaced xs a) b)) k ∙ ap (λ (qs : List Process). x ∷ qs) later
 
 -- who takes his own place changes nothing
 pub replaced_self : (ps : List Process) (p : Process) → find (λ r. r.pid == p.pid) ps ≡ Some p → replaced ps p ≡ ps
@@ -101,50 +90,48 @@ with_is F p s S q e = replaced_twice F.processes (writer p s S) q (sym e)
 list_of : FlatState → List Process
 list_of F = F.processes
 
-pub kept_list : (images : List NamedImage) (F : FlatState) (pid : ℕ) (p : Process) (s : Space) (S : Step) → Steps images F pid p s S → S.change ≡ Keep
-    → (let G : FlatState = S.after in G.processes) ≡ replaced F.processes (gone_on p s S)
-unfolding list_of
-kept_list images F pid p s S h e = ap list_of (after_is images F pid p s S Keep h e) ∙ with_is F p s S (gone_on p s S) refl
+module _ (images : List NamedImage) (F : FlatState) (pid : ℕ) (p : Process) (s : Space) (S : Step) where
+  pub kept_list : Steps images F pid p s S → S.change ≡ Keep → (let G : FlatState = S.after in G.processes) ≡ replaced F.processes (gone_on p s S)
+  unfolding list_of
+  kept_list h e = ap list_of (after_is images F pid p s S Keep h e) ∙ with_is F p s S (gone_on p s S) refl
 
-pub slept_list : (images : List NamedImage) (F : FlatState) (pid : ℕ) (p : Process) (s : Space) (S : Step) → Steps images F pid p s S → S.change ≡ Sleep
-    → (let G : FlatState = S.after in G.processes) ≡ replaced F.processes (record (gone_on p s S) { asleep = true })
-unfolding list_of
-slept_list images F pid p s S h e = ap list_of (after_is images F pid p s S Sleep h e) ∙ with_is F p s S (record (gone_on p s S) { asleep = true }) refl
+  pub slept_list : Steps images F pid p s S → S.change ≡ Sleep
+      → (let G : FlatState = S.after in G.processes) ≡ replaced F.processes (record (gone_on p s S) { asleep = true })
+  unfolding list_of
+  slept_list h e = ap list_of (after_is images F pid p s S Sleep h e) ∙ with_is F p s S (record (gone_on p s S) { asleep = true }) refl
 
-pub resized_list : (images : List NamedImage) (F : FlatState) (pid : ℕ) (p : Process) (s : Space) (S : Step) (d t : ℕ) → Steps images F pid p s S
-    → S.change ≡ Resize d t
-    → (let G : FlatState = S.after in G.processes) ≡ replaced F.processes (record (gone_on p s S) { holding = Holds (resized (puts s S.writes) d t) })
-unfolding list_of
-resized_list images F pid p s S d t h e =
-    ap list_of (after_is images F pid p s S (Resize d t) h e) ∙ with_is F p s S (record (gone_on p s S) { holding = Holds (resized (puts s S.writes) d t) }) refl
+  pub resized_list : (d t : ℕ) → Steps images F pid p s S → S.change ≡ Resize d t
+      → (let G : FlatState = S.after in G.processes) ≡ replaced F.processes (record (gone_on p s S) { holding = Holds (resized (puts s S.writes) d t) })
+  unfolding list_of
+  resized_list d t h e =
+      ap list_of (after_is images F pid p s S (Resize d t) h e) ∙ with_is F p s S (record (gone_on p s S) { holding = Holds (resized (puts s S.writes) d t) }) refl
 
-pub forked_list : (images : List NamedImage) (F : FlatState) (pid : ℕ) (p : Process) (s : Space) (S : Step) (child : ℕ) → Steps images F pid p s S
-    → S.change ≡ Fork child
-    → (let G : FlatState = S.after in G.processes) ≡ replaced F.processes (gone_on p s S) ++ child_of (gone_on p s S) child
-    (record (puts s S.writes) { sid = F.next_sid }) ∷ []
-unfolding list_of
-forked_list images F pid p s S child h e =
-    ap list_of (after_is images F pid p s S (Fork child) h e)
-    ∙ ap (λ (qs : List Process). qs ++ child_of (gone_on p s S) child (record (puts s S.writes) { sid = F.next_sid }) ∷ []) (with_is F p s S (gone_on p s S) refl)
+  pub forked_list : (child : ℕ) → Steps images F pid p s S
+      → S.change ≡ Fork child
+      → (let G : FlatState = S.after in G.processes) ≡ replaced F.processes (gone_on p s S) ++ child_of (gone_on p s S) child
+      (record (puts s S.writes) { sid = F.next_sid }) ∷ []
+  unfolding list_of
+  forked_list child h e =
+      ap list_of (after_is images F pid p s S (Fork child) h e)
+      ∙ ap (λ (qs : List Process). qs ++ child_of (gone_on p s S) child (record (puts s S.writes) { sid = F.next_sid }) ∷ []) (with_is F p s S (gone_on p s S) refl)
 
-pub entered_list : (images : List NamedImage) (F : FlatState) (pid : ℕ) (p : Process) (s : Space) (S : Step) (image : ℕ) (named : NamedImage)
-    (top : List ℕ) → Steps images F pid p s S
-    → S.change ≡ Exec image top → image_numbered images image ≡ Some named
-    → (let G : FlatState = S.after in G.processes)
-    ≡ returned p.pid (puts s S.writes) (replaced F.processes (record (gone_on p s S) { holding = Holds (space_with F.next_sid image named.image top) }))
-unfolding list_of
-entered_list images F pid p s S image named top h e i =
-    ap list_of (after_is images F pid p s S (Exec image top) h e ∙ ap (λ (o : Option NamedImage). entered (written F p s S) (gone_on p s S) (puts s S.writes) image o top) i)
-    ∙ ap (returned p.pid (puts s S.writes)) (with_is F p s S (record (gone_on p s S) { holding = Holds (space_with F.next_sid image named.image top) }) refl)
+  pub entered_list : (image : ℕ) (named : NamedImage)
+      (top : List ℕ) → Steps images F pid p s S
+      → S.change ≡ Exec image top → image_numbered images image ≡ Some named
+      → (let G : FlatState = S.after in G.processes)
+      ≡ returned p.pid (puts s S.writes) (replaced F.processes (record (gone_on p s S) { holding = Holds (space_with F.next_sid image named.image top) }))
+  unfolding list_of
+  entered_list image named top h e i =
+      ap list_of (after_is images F pid p s S (Exec image top) h e ∙ ap (λ (o : Option NamedImage). entered (written F p s S) (gone_on p s S) (puts s S.writes) image o top) i)
+      ∙ ap (returned p.pid (puts s S.writes)) (with_is F p s S (record (gone_on p s S) { holding = Holds (space_with F.next_sid image named.image top) }) refl)
 
-pub reaped_list : (images : List NamedImage) (F : FlatState) (pid : ℕ) (p : Process) (s : Space) (S : Step) (child : ℕ) → Steps images F pid p s S
-    → S.change ≡ Reap child → p.pid ≢ child
-    → (let G : FlatState = S.after in G.processes) ≡ filter (λ r. not (r.pid == child)) (replaced F.processes (gone_on p s S))
-unfolding list_of
-reaped_list images F pid p s S child h e apart =
-    ap list_of (after_is images F pid p s S (Reap child) h e)
-    ∙ (replaced_sifted (replaced F.processes (writer p s S)) (gone_on p s S) child apart
-    ∙ ap (filter (λ r. not (r.pid == child))) (with_is F p s S (gone_on p s S) refl))
+  pub reaped_list : (child : ℕ) → Steps images F pid p s S → S.change ≡ Reap child → p.pid ≢ child
+      → (let G : FlatState = S.after in G.processes) ≡ filter (λ r. not (r.pid == child)) (replaced F.processes (gone_on p s S))
+  unfolding list_of
+  reaped_list child h e apart =
+      ap list_of (after_is images F pid p s S (Reap child) h e)
+      ∙ (replaced_sifted (replaced F.processes (writer p s S)) (gone_on p s S) child apart
+      ∙ ap (filter (λ r. not (r.pid == child))) (with_is F p s S (gone_on p s S) refl))
 
 -- the process as a zombie
 abbrev pub ghost_of : Process → Space → Step → ℕ → Process

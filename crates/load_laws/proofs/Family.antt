@@ -15,6 +15,7 @@ use Rattle.std.specs.Prelude.{slice_set}
 use Rattle.flat_state.specs.Change.{replaced, is_zombie, is_zombie_child, child_of, resized, awake, apply_writes}
 use Rattle.flat_state.specs.Numbers.{AllDistinct}
 use Rattle.flat_state.specs.Journal.{counted}
+use Rattle.flat_state.proofs.SpaceLaws.{length-resized_bytes}
 use Rattle.flat_model.specs.Step.{Step}
 use Rattle.flat_model.specs.Asked.{change_wanted}
 use Rattle.run_laws.proofs.Finding.{found_by_number, zombie_passes}
@@ -32,7 +33,7 @@ use Rattle.load_laws.proofs.Sleepers.{lives_for, has_live, AllAwaited, goes_more
 use Rattle.load_laws.proofs.Going.{gone_on, step_from, Kept, Alike, goes_to, after_rounds}
 use Rattle.load_laws.proofs.Going as going
 use Rattle.load_laws.proofs.Calling as calling
-use Rattle.load_laws.proofs.Calling.{Did, output_of, resized_long, fresh_bank, Waited, Slept, Reaped, Failed}
+use Rattle.load_laws.proofs.Calling.{Did, output_of, fresh_bank, Waited, Slept, Reaped, Failed}
 use Rattle.load_laws.proofs.Changing.{Steps, kept_list, slept_list, resized_list, forked_list, entered_list, reaped_list, ghost_of, ended_list, none_written}
 use Rattle.load_laws.proofs.Wanting.{Asks, resize_asks, fork_asks, exec_asks}
 
@@ -213,8 +214,8 @@ breaks_went pages stages images F pid p h steps =
       bank = record at.bank { r0 = 0 };
       holds = refl;
       text = z.text ∙ at.text;
-      size = resized_long pages (let x : Space = puts at.space S.writes in x.data_bytes);
-      stack = resized_long 1 (let x : Space = puts at.space S.writes in x.stack_bytes);
+      size = length-resized_bytes pages (let x : Space = puts at.space S.writes in x.data_bytes);
+      stack = length-resized_bytes 1 (let x : Space = puts at.space S.writes in x.stack_bytes);
       registers = d.regs;
       longwords = record { r3 = l.r3; r4 = l.r4; r5 = l.r5; ap = l.ap };
       says = tt;

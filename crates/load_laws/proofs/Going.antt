@@ -153,29 +153,27 @@ will_run images F pages p at awake =
     (code.w_will_run pages s.sid s.image s.data_bytes s.stack_bytes at.bank r.n r.z r.v r.c)
     (with_ap b 0xC0 l (omega arith)) (stored_is b.ap 0xC0 l.ap (omega arith)) awake
 
-pub will_write : (images : List NamedImage) (F : FlatState) (pages : ℕ) (t : LoadProgram) (p : Process) (at : IsAt pages (BeforeWrite t) p) → p.asleep ≡ false
-    → Kept images F pages p at.space (AtWrite t)
-will_write images F pages t p at awake =
-    let b : Bank = at.bank in let l : AreLongwords b = at.longwords in let s : Space = at.space in let r : Regs = p.regs in
-    kept_by images F pages (BeforeWrite t) (AtWrite t) p at (record b { ap = stored b.ap 0xA8 }) (record { text = refl; size = refl; first = λ h. absurd cc })
-    (code.will_write t pages s.sid s.image s.data_bytes s.stack_bytes at.bank r.n r.z r.v r.c)
-    (with_ap b 0xA8 l (omega arith)) (stored_is b.ap 0xA8 l.ap (omega arith)) awake
+module _ (images : List NamedImage) (F : FlatState) (pages : ℕ) (t : LoadProgram) (p : Process) where
+  pub will_write : (at : IsAt pages (BeforeWrite t) p) → p.asleep ≡ false → Kept images F pages p at.space (AtWrite t)
+  will_write at awake =
+      let b : Bank = at.bank in let l : AreLongwords b = at.longwords in let s : Space = at.space in let r : Regs = p.regs in
+      kept_by images F pages (BeforeWrite t) (AtWrite t) p at (record b { ap = stored b.ap 0xA8 }) (record { text = refl; size = refl; first = λ h. absurd cc })
+      (code.will_write t pages s.sid s.image s.data_bytes s.stack_bytes at.bank r.n r.z r.v r.c)
+      (with_ap b 0xA8 l (omega arith)) (stored_is b.ap 0xA8 l.ap (omega arith)) awake
 
-pub will_exit : (images : List NamedImage) (F : FlatState) (pages : ℕ) (t : LoadProgram) (p : Process) (at : IsAt pages (BeforeExit t) p) → p.asleep ≡ false
-    → Kept images F pages p at.space (AtExit t)
-will_exit images F pages t p at awake =
-    let b : Bank = at.bank in let l : AreLongwords b = at.longwords in let s : Space = at.space in let r : Regs = p.regs in
-    kept_by images F pages (BeforeExit t) (AtExit t) p at (record b { ap = stored b.ap 0xB8 }) (record { text = refl; size = refl; first = λ h. absurd cc })
-    (code.will_exit t pages s.sid s.image s.data_bytes s.stack_bytes at.bank r.n r.z r.v r.c)
-    (with_ap b 0xB8 l (omega arith)) (stored_is b.ap 0xB8 l.ap (omega arith)) awake
+  pub will_exit : (at : IsAt pages (BeforeExit t) p) → p.asleep ≡ false → Kept images F pages p at.space (AtExit t)
+  will_exit at awake =
+      let b : Bank = at.bank in let l : AreLongwords b = at.longwords in let s : Space = at.space in let r : Regs = p.regs in
+      kept_by images F pages (BeforeExit t) (AtExit t) p at (record b { ap = stored b.ap 0xB8 }) (record { text = refl; size = refl; first = λ h. absurd cc })
+      (code.will_exit t pages s.sid s.image s.data_bytes s.stack_bytes at.bank r.n r.z r.v r.c)
+      (with_ap b 0xB8 l (omega arith)) (stored_is b.ap 0xB8 l.ap (omega arith)) awake
 
-pub begins : (images : List NamedImage) (F : FlatState) (pages : ℕ) (t : LoadProgram) (p : Process) (at : IsAt pages (AtBegin t) p) → p.asleep ≡ false
-    → Kept images F pages p at.space (AtRound t 29)
-begins images F pages t p at awake =
-    let b : Bank = at.bank in let l : AreLongwords b = at.longwords in let s : Space = at.space in let r : Regs = p.regs in
-    kept_by images F pages (AtBegin t) (AtRound t 29) p at (record b { r3 = stored b.r3 30 }) (record { text = refl; size = refl; first = λ h. h })
-    (code.begins t pages s.sid s.image s.data_bytes s.stack_bytes at.bank r.n r.z r.v r.c)
-    (with_r3 b 30 l (omega arith)) (record { some = omega arith; counted = stored_is b.r3 30 l.r3 (omega arith) }) awake
+  pub begins : (at : IsAt pages (AtBegin t) p) → p.asleep ≡ false → Kept images F pages p at.space (AtRound t 29)
+  begins at awake =
+      let b : Bank = at.bank in let l : AreLongwords b = at.longwords in let s : Space = at.space in let r : Regs = p.regs in
+      kept_by images F pages (AtBegin t) (AtRound t 29) p at (record b { r3 = stored b.r3 30 }) (record { text = refl; size = refl; first = λ h. h })
+      (code.begins t pages s.sid s.image s.data_bytes s.stack_bytes at.bank r.n r.z r.v r.c)
+      (with_r3 b 30 l (omega arith)) (record { some = omega arith; counted = stored_is b.r3 30 l.r3 (omega arith) }) awake
 
 pub rounds : (images : List NamedImage) (F : FlatState) (pages : ℕ) (t : LoadProgram) (left : ℕ) (p : Process) (at : IsAt pages (AtRound t left) p)
     → p.asleep ≡ false → Kept images F pages p at.space (AtCount t left)

@@ -43,201 +43,178 @@ pub record Leaves (r : Result Effect Refused) (b : Bank) (pc : ℕ) (call : Opti
   pub c : Bool
   pub is : r ≡ Ok (record { regs = regs_of b pc n z v c; writes = []; call = call })
 
-pub w_will_break : (pages sid image : ℕ) (bytes stack : List ℕ) (b : Bank) (n z v c : Bool)
-    → Leaves (instruction_in (space_of pages W sid image bytes stack) (regs_of b 0x02 n z v c)) (record b { ap = stored b.ap 0xA0 }) 0x09 None
-unfolding space_of regs_of stored text_page w_bytes v_bytes spot_at bytes_at store_effect computation fetch evaluations write_tests tested_effect execution execution_by instruction
-    number_at address_of evaluation_at evaluation_through evaluation next_byte number_read next_signed next_displacement base_at indexed_at next_specifier next_operand with_count
-    operand_in_place next_operands
-    instruction_at decoded row_for all_rows
-w_will_break pages sid image bytes stack b n z v c = record { n = _; z = _; v = _; c = _; is = refl }
+module _ (pages sid image : ℕ) (bytes stack : List ℕ) (b : Bank) (n z v c : Bool) where
+  pub w_will_break : Leaves (instruction_in (space_of pages W sid image bytes stack) (regs_of b 0x02 n z v c)) (record b { ap = stored b.ap 0xA0 }) 0x09 None
+  unfolding space_of regs_of stored text_page w_bytes v_bytes spot_at bytes_at store_effect computation fetch evaluations write_tests tested_effect execution execution_by instruction
+      number_at address_of evaluation_at evaluation_through evaluation next_byte number_read next_signed next_displacement base_at indexed_at next_specifier next_operand with_count
+      operand_in_place next_operands
+      instruction_at decoded row_for all_rows
+  w_will_break = record { n = _; z = _; v = _; c = _; is = refl }
 
-pub w_breaks : (pages sid image : ℕ) (bytes stack : List ℕ) (b : Bank) (n z v c : Bool)
-    → Leaves (instruction_in (space_of pages W sid image bytes stack) (regs_of b 0x09 n z v c)) (b) 0x0b (Some (pos 17))
-unfolding space_of regs_of stored text_page w_bytes v_bytes spot_at bytes_at store_effect computation fetch evaluations write_tests tested_effect execution execution_by instruction
-    number_at address_of evaluation_at evaluation_through evaluation next_byte number_read next_signed next_displacement base_at indexed_at next_specifier next_operand with_count
-    operand_in_place next_operands
-    instruction_at decoded row_for all_rows
-w_breaks pages sid image bytes stack b n z v c = record { n = _; z = _; v = _; c = _; is = refl }
+  pub w_breaks : Leaves (instruction_in (space_of pages W sid image bytes stack) (regs_of b 0x09 n z v c)) (b) 0x0b (Some (pos 17))
+  unfolding space_of regs_of stored text_page w_bytes v_bytes spot_at bytes_at store_effect computation fetch evaluations write_tests tested_effect execution execution_by instruction
+      number_at address_of evaluation_at evaluation_through evaluation next_byte number_read next_signed next_displacement base_at indexed_at next_specifier next_operand with_count
+      operand_in_place next_operands
+      instruction_at decoded row_for all_rows
+  w_breaks = record { n = _; z = _; v = _; c = _; is = refl }
 
-pub w_forks : (pages sid image : ℕ) (bytes stack : List ℕ) (b : Bank) (n z v c : Bool)
-    → Leaves (instruction_in (space_of pages W sid image bytes stack) (regs_of b 0x0b n z v c)) (b) 0x0d (Some (pos 2))
-unfolding space_of regs_of stored text_page w_bytes v_bytes spot_at bytes_at store_effect computation fetch evaluations write_tests tested_effect execution execution_by instruction
-    number_at address_of evaluation_at evaluation_through evaluation next_byte number_read next_signed next_displacement base_at indexed_at next_specifier next_operand with_count
-    operand_in_place next_operands
-    instruction_at decoded row_for all_rows
-w_forks pages sid image bytes stack b n z v c = record { n = _; z = _; v = _; c = _; is = refl }
+  pub w_forks : Leaves (instruction_in (space_of pages W sid image bytes stack) (regs_of b 0x0b n z v c)) (b) 0x0d (Some (pos 2))
+  unfolding space_of regs_of stored text_page w_bytes v_bytes spot_at bytes_at store_effect computation fetch evaluations write_tests tested_effect execution execution_by instruction
+      number_at address_of evaluation_at evaluation_through evaluation next_byte number_read next_signed next_displacement base_at indexed_at next_specifier next_operand with_count
+      operand_in_place next_operands
+      instruction_at decoded row_for all_rows
+  w_forks = record { n = _; z = _; v = _; c = _; is = refl }
 
-pub w_waits : (pages sid image : ℕ) (bytes stack : List ℕ) (b : Bank) (n z v c : Bool)
-    → Leaves (instruction_in (space_of pages W sid image bytes stack) (regs_of b 0x30 n z v c)) (b) 0x34 (Some (pos 84))
-unfolding space_of regs_of stored text_page w_bytes v_bytes spot_at bytes_at store_effect computation fetch evaluations write_tests tested_effect execution execution_by instruction
-    number_at address_of evaluation_at evaluation_through evaluation next_byte number_read next_signed next_displacement base_at indexed_at next_specifier next_operand with_count
-    operand_in_place next_operands
-    instruction_at decoded row_for all_rows
-w_waits pages sid image bytes stack b n z v c = record { n = _; z = _; v = _; c = _; is = refl }
+  pub w_waits : Leaves (instruction_in (space_of pages W sid image bytes stack) (regs_of b 0x30 n z v c)) (b) 0x34 (Some (pos 84))
+  unfolding space_of regs_of stored text_page w_bytes v_bytes spot_at bytes_at store_effect computation fetch evaluations write_tests tested_effect execution execution_by instruction
+      number_at address_of evaluation_at evaluation_through evaluation next_byte number_read next_signed next_displacement base_at indexed_at next_specifier next_operand with_count
+      operand_in_place next_operands
+      instruction_at decoded row_for all_rows
+  w_waits = record { n = _; z = _; v = _; c = _; is = refl }
 
-pub w_will_run : (pages sid image : ℕ) (bytes stack : List ℕ) (b : Bank) (n z v c : Bool)
-    → Leaves (instruction_in (space_of pages W sid image bytes stack) (regs_of b 0x46 n z v c)) (record b { ap = stored b.ap 0xC0 }) 0x4d None
-unfolding space_of regs_of stored text_page w_bytes v_bytes spot_at bytes_at store_effect computation fetch evaluations write_tests tested_effect execution execution_by instruction
-    number_at address_of evaluation_at evaluation_through evaluation next_byte number_read next_signed next_displacement base_at indexed_at next_specifier next_operand with_count
-    operand_in_place next_operands
-    instruction_at decoded row_for all_rows
-w_will_run pages sid image bytes stack b n z v c = record { n = _; z = _; v = _; c = _; is = refl }
+  pub w_will_run : Leaves (instruction_in (space_of pages W sid image bytes stack) (regs_of b 0x46 n z v c)) (record b { ap = stored b.ap 0xC0 }) 0x4d None
+  unfolding space_of regs_of stored text_page w_bytes v_bytes spot_at bytes_at store_effect computation fetch evaluations write_tests tested_effect execution execution_by instruction
+      number_at address_of evaluation_at evaluation_through evaluation next_byte number_read next_signed next_displacement base_at indexed_at next_specifier next_operand with_count
+      operand_in_place next_operands
+      instruction_at decoded row_for all_rows
+  w_will_run = record { n = _; z = _; v = _; c = _; is = refl }
 
-pub w_runs : (pages sid image : ℕ) (bytes stack : List ℕ) (b : Bank) (n z v c : Bool)
-    → Leaves (instruction_in (space_of pages W sid image bytes stack) (regs_of b 0x4d n z v c)) (b) 0x4f (Some (pos 59))
-unfolding space_of regs_of stored text_page w_bytes v_bytes spot_at bytes_at store_effect computation fetch evaluations write_tests tested_effect execution execution_by instruction
-    number_at address_of evaluation_at evaluation_through evaluation next_byte number_read next_signed next_displacement base_at indexed_at next_specifier next_operand with_count
-    operand_in_place next_operands
-    instruction_at decoded row_for all_rows
-w_runs pages sid image bytes stack b n z v c = record { n = _; z = _; v = _; c = _; is = refl }
+  pub w_runs : Leaves (instruction_in (space_of pages W sid image bytes stack) (regs_of b 0x4d n z v c)) (b) 0x4f (Some (pos 59))
+  unfolding space_of regs_of stored text_page w_bytes v_bytes spot_at bytes_at store_effect computation fetch evaluations write_tests tested_effect execution execution_by instruction
+      number_at address_of evaluation_at evaluation_through evaluation next_byte number_read next_signed next_displacement base_at indexed_at next_specifier next_operand with_count
+      operand_in_place next_operands
+      instruction_at decoded row_for all_rows
+  w_runs = record { n = _; z = _; v = _; c = _; is = refl }
 
-pub w_begins : (pages sid image : ℕ) (bytes stack : List ℕ) (b : Bank) (n z v c : Bool)
-    → Leaves (instruction_in (space_of pages W sid image bytes stack) (regs_of b 0x10 n z v c)) (record b { r3 = stored b.r3 30 }) 0x13 None
-unfolding space_of regs_of stored text_page w_bytes v_bytes spot_at bytes_at store_effect computation fetch evaluations write_tests tested_effect execution execution_by instruction
-    number_at address_of evaluation_at evaluation_through evaluation next_byte number_read next_signed next_displacement base_at indexed_at next_specifier next_operand with_count
-    operand_in_place next_operands
-    instruction_at decoded row_for all_rows
-w_begins pages sid image bytes stack b n z v c = record { n = _; z = _; v = _; c = _; is = refl }
+  pub w_begins : Leaves (instruction_in (space_of pages W sid image bytes stack) (regs_of b 0x10 n z v c)) (record b { r3 = stored b.r3 30 }) 0x13 None
+  unfolding space_of regs_of stored text_page w_bytes v_bytes spot_at bytes_at store_effect computation fetch evaluations write_tests tested_effect execution execution_by instruction
+      number_at address_of evaluation_at evaluation_through evaluation next_byte number_read next_signed next_displacement base_at indexed_at next_specifier next_operand with_count
+      operand_in_place next_operands
+      instruction_at decoded row_for all_rows
+  w_begins = record { n = _; z = _; v = _; c = _; is = refl }
 
-pub w_rounds : (pages sid image : ℕ) (bytes stack : List ℕ) (b : Bank) (n z v c : Bool)
-    → Leaves (instruction_in (space_of pages W sid image bytes stack) (regs_of b 0x13 n z v c)) (record b { r4 = stored b.r4 0x400 }) 0x1a None
-unfolding space_of regs_of stored text_page w_bytes v_bytes spot_at bytes_at store_effect computation fetch evaluations write_tests tested_effect execution execution_by instruction
-    number_at address_of evaluation_at evaluation_through evaluation next_byte number_read next_signed next_displacement base_at indexed_at next_specifier next_operand with_count
-    operand_in_place next_operands
-    instruction_at decoded row_for all_rows
-w_rounds pages sid image bytes stack b n z v c = record { n = _; z = _; v = _; c = _; is = refl }
+  pub w_rounds : Leaves (instruction_in (space_of pages W sid image bytes stack) (regs_of b 0x13 n z v c)) (record b { r4 = stored b.r4 0x400 }) 0x1a None
+  unfolding space_of regs_of stored text_page w_bytes v_bytes spot_at bytes_at store_effect computation fetch evaluations write_tests tested_effect execution execution_by instruction
+      number_at address_of evaluation_at evaluation_through evaluation next_byte number_read next_signed next_displacement base_at indexed_at next_specifier next_operand with_count
+      operand_in_place next_operands
+      instruction_at decoded row_for all_rows
+  w_rounds = record { n = _; z = _; v = _; c = _; is = refl }
 
-pub w_loads : (pages sid image : ℕ) (bytes stack : List ℕ) (b : Bank) (n z v c : Bool)
-    → Leaves (instruction_in (space_of pages W sid image bytes stack) (regs_of b 0x1a n z v c))
-    (record b { r5 = stored b.r5 (from_le_bytes w32 (word_bytes pages)) }) 0x21 None
-unfolding space_of regs_of stored text_page w_bytes v_bytes spot_at bytes_at store_effect computation fetch evaluations write_tests tested_effect execution execution_by instruction
-    number_at address_of evaluation_at evaluation_through evaluation next_byte number_read next_signed next_displacement base_at indexed_at next_specifier next_operand with_count
-    operand_in_place next_operands
-    instruction_at decoded row_for all_rows
-w_loads pages sid image bytes stack b n z v c = record { n = _; z = _; v = _; c = _; is = refl }
+  pub w_loads : Leaves (instruction_in (space_of pages W sid image bytes stack) (regs_of b 0x1a n z v c))
+      (record b { r5 = stored b.r5 (from_le_bytes w32 (word_bytes pages)) }) 0x21 None
+  unfolding space_of regs_of stored text_page w_bytes v_bytes spot_at bytes_at store_effect computation fetch evaluations write_tests tested_effect execution execution_by instruction
+      number_at address_of evaluation_at evaluation_through evaluation next_byte number_read next_signed next_displacement base_at indexed_at next_specifier next_operand with_count
+      operand_in_place next_operands
+      instruction_at decoded row_for all_rows
+  w_loads = record { n = _; z = _; v = _; c = _; is = refl }
 
-pub w_will_write : (pages sid image : ℕ) (bytes stack : List ℕ) (b : Bank) (n z v c : Bool)
-    → Leaves (instruction_in (space_of pages W sid image bytes stack) (regs_of b 0x34 n z v c)) (record b { ap = stored b.ap 0xA8 }) 0x3b None
-unfolding space_of regs_of stored text_page w_bytes v_bytes spot_at bytes_at store_effect computation fetch evaluations write_tests tested_effect execution execution_by instruction
-    number_at address_of evaluation_at evaluation_through evaluation next_byte number_read next_signed next_displacement base_at indexed_at next_specifier next_operand with_count
-    operand_in_place next_operands
-    instruction_at decoded row_for all_rows
-w_will_write pages sid image bytes stack b n z v c = record { n = _; z = _; v = _; c = _; is = refl }
+  pub w_will_write : Leaves (instruction_in (space_of pages W sid image bytes stack) (regs_of b 0x34 n z v c)) (record b { ap = stored b.ap 0xA8 }) 0x3b None
+  unfolding space_of regs_of stored text_page w_bytes v_bytes spot_at bytes_at store_effect computation fetch evaluations write_tests tested_effect execution execution_by instruction
+      number_at address_of evaluation_at evaluation_through evaluation next_byte number_read next_signed next_displacement base_at indexed_at next_specifier next_operand with_count
+      operand_in_place next_operands
+      instruction_at decoded row_for all_rows
+  w_will_write = record { n = _; z = _; v = _; c = _; is = refl }
 
-pub w_writes : (pages sid image : ℕ) (bytes stack : List ℕ) (b : Bank) (n z v c : Bool)
-    → Leaves (instruction_in (space_of pages W sid image bytes stack) (regs_of b 0x3b n z v c)) (b) 0x3d (Some (pos 4))
-unfolding space_of regs_of stored text_page w_bytes v_bytes spot_at bytes_at store_effect computation fetch evaluations write_tests tested_effect execution execution_by instruction
-    number_at address_of evaluation_at evaluation_through evaluation next_byte number_read next_signed next_displacement base_at indexed_at next_specifier next_operand with_count
-    operand_in_place next_operands
-    instruction_at decoded row_for all_rows
-w_writes pages sid image bytes stack b n z v c = record { n = _; z = _; v = _; c = _; is = refl }
+  pub w_writes : Leaves (instruction_in (space_of pages W sid image bytes stack) (regs_of b 0x3b n z v c)) (b) 0x3d (Some (pos 4))
+  unfolding space_of regs_of stored text_page w_bytes v_bytes spot_at bytes_at store_effect computation fetch evaluations write_tests tested_effect execution execution_by instruction
+      number_at address_of evaluation_at evaluation_through evaluation next_byte number_read next_signed next_displacement base_at indexed_at next_specifier next_operand with_count
+      operand_in_place next_operands
+      instruction_at decoded row_for all_rows
+  w_writes = record { n = _; z = _; v = _; c = _; is = refl }
 
-pub w_will_exit : (pages sid image : ℕ) (bytes stack : List ℕ) (b : Bank) (n z v c : Bool)
-    → Leaves (instruction_in (space_of pages W sid image bytes stack) (regs_of b 0x3d n z v c)) (record b { ap = stored b.ap 0xB8 }) 0x44 None
-unfolding space_of regs_of stored text_page w_bytes v_bytes spot_at bytes_at store_effect computation fetch evaluations write_tests tested_effect execution execution_by instruction
-    number_at address_of evaluation_at evaluation_through evaluation next_byte number_read next_signed next_displacement base_at indexed_at next_specifier next_operand with_count
-    operand_in_place next_operands
-    instruction_at decoded row_for all_rows
-w_will_exit pages sid image bytes stack b n z v c = record { n = _; z = _; v = _; c = _; is = refl }
+  pub w_will_exit : Leaves (instruction_in (space_of pages W sid image bytes stack) (regs_of b 0x3d n z v c)) (record b { ap = stored b.ap 0xB8 }) 0x44 None
+  unfolding space_of regs_of stored text_page w_bytes v_bytes spot_at bytes_at store_effect computation fetch evaluations write_tests tested_effect execution execution_by instruction
+      number_at address_of evaluation_at evaluation_through evaluation next_byte number_read next_signed next_displacement base_at indexed_at next_specifier next_operand with_count
+      operand_in_place next_operands
+      instruction_at decoded row_for all_rows
+  w_will_exit = record { n = _; z = _; v = _; c = _; is = refl }
 
-pub w_exits : (pages sid image : ℕ) (bytes stack : List ℕ) (b : Bank) (n z v c : Bool)
-    → Leaves (instruction_in (space_of pages W sid image bytes stack) (regs_of b 0x44 n z v c)) (b) 0x46 (Some (pos 1))
-unfolding space_of regs_of stored text_page w_bytes v_bytes spot_at bytes_at store_effect computation fetch evaluations write_tests tested_effect execution execution_by instruction
-    number_at address_of evaluation_at evaluation_through evaluation next_byte number_read next_signed next_displacement base_at indexed_at next_specifier next_operand with_count
-    operand_in_place next_operands
-    instruction_at decoded row_for all_rows
-w_exits pages sid image bytes stack b n z v c = record { n = _; z = _; v = _; c = _; is = refl }
+  pub w_exits : Leaves (instruction_in (space_of pages W sid image bytes stack) (regs_of b 0x44 n z v c)) (b) 0x46 (Some (pos 1))
+  unfolding space_of regs_of stored text_page w_bytes v_bytes spot_at bytes_at store_effect computation fetch evaluations write_tests tested_effect execution execution_by instruction
+      number_at address_of evaluation_at evaluation_through evaluation next_byte number_read next_signed next_displacement base_at indexed_at next_specifier next_operand with_count
+      operand_in_place next_operands
+      instruction_at decoded row_for all_rows
+  w_exits = record { n = _; z = _; v = _; c = _; is = refl }
 
-pub w_moves : (pages sid image : ℕ) (bytes stack : List ℕ) (b : Bank) (n z v c : Bool)
-    → Leaves (instruction_in (space_of pages W sid image bytes stack) (regs_of b 0x23 n z v c))
-    (record b { r4 = stored b.r4 (let s : Sum = sum_of (b.r4 % 256 ^ 4) 0x400 in s.value) }) 0x2a None
-unfolding space_of regs_of stored text_page w_bytes v_bytes spot_at bytes_at store_effect computation fetch evaluations write_tests tested_effect execution execution_by instruction
-    number_at address_of evaluation_at evaluation_through evaluation next_byte number_read next_signed next_displacement base_at indexed_at next_specifier next_operand with_count
-    operand_in_place next_operands
-    instruction_at decoded row_for all_rows
-w_moves pages sid image bytes stack b n z v c = record { n = _; z = _; v = _; c = _; is = refl }
+  pub w_moves : Leaves (instruction_in (space_of pages W sid image bytes stack) (regs_of b 0x23 n z v c))
+      (record b { r4 = stored b.r4 (let s : Sum = sum_of (b.r4 % 256 ^ 4) 0x400 in s.value) }) 0x2a None
+  unfolding space_of regs_of stored text_page w_bytes v_bytes spot_at bytes_at store_effect computation fetch evaluations write_tests tested_effect execution execution_by instruction
+      number_at address_of evaluation_at evaluation_through evaluation next_byte number_read next_signed next_displacement base_at indexed_at next_specifier next_operand with_count
+      operand_in_place next_operands
+      instruction_at decoded row_for all_rows
+  w_moves = record { n = _; z = _; v = _; c = _; is = refl }
 
-pub v_begins : (pages sid image : ℕ) (bytes stack : List ℕ) (b : Bank) (n z v c : Bool)
-    → Leaves (instruction_in (space_of pages V sid image bytes stack) (regs_of b 0x2 n z v c)) (record b { r3 = stored b.r3 30 }) 0x5 None
-unfolding space_of regs_of stored text_page w_bytes v_bytes spot_at bytes_at store_effect computation fetch evaluations write_tests tested_effect execution execution_by instruction
-    number_at address_of evaluation_at evaluation_through evaluation next_byte number_read next_signed next_displacement base_at indexed_at next_specifier next_operand with_count
-    operand_in_place next_operands
-    instruction_at decoded row_for all_rows
-v_begins pages sid image bytes stack b n z v c = record { n = _; z = _; v = _; c = _; is = refl }
+  pub v_begins : Leaves (instruction_in (space_of pages V sid image bytes stack) (regs_of b 0x2 n z v c)) (record b { r3 = stored b.r3 30 }) 0x5 None
+  unfolding space_of regs_of stored text_page w_bytes v_bytes spot_at bytes_at store_effect computation fetch evaluations write_tests tested_effect execution execution_by instruction
+      number_at address_of evaluation_at evaluation_through evaluation next_byte number_read next_signed next_displacement base_at indexed_at next_specifier next_operand with_count
+      operand_in_place next_operands
+      instruction_at decoded row_for all_rows
+  v_begins = record { n = _; z = _; v = _; c = _; is = refl }
 
-pub v_rounds : (pages sid image : ℕ) (bytes stack : List ℕ) (b : Bank) (n z v c : Bool)
-    → Leaves (instruction_in (space_of pages V sid image bytes stack) (regs_of b 0x5 n z v c)) (record b { r4 = stored b.r4 0x400 }) 0xc None
-unfolding space_of regs_of stored text_page w_bytes v_bytes spot_at bytes_at store_effect computation fetch evaluations write_tests tested_effect execution execution_by instruction
-    number_at address_of evaluation_at evaluation_through evaluation next_byte number_read next_signed next_displacement base_at indexed_at next_specifier next_operand with_count
-    operand_in_place next_operands
-    instruction_at decoded row_for all_rows
-v_rounds pages sid image bytes stack b n z v c = record { n = _; z = _; v = _; c = _; is = refl }
+  pub v_rounds : Leaves (instruction_in (space_of pages V sid image bytes stack) (regs_of b 0x5 n z v c)) (record b { r4 = stored b.r4 0x400 }) 0xc None
+  unfolding space_of regs_of stored text_page w_bytes v_bytes spot_at bytes_at store_effect computation fetch evaluations write_tests tested_effect execution execution_by instruction
+      number_at address_of evaluation_at evaluation_through evaluation next_byte number_read next_signed next_displacement base_at indexed_at next_specifier next_operand with_count
+      operand_in_place next_operands
+      instruction_at decoded row_for all_rows
+  v_rounds = record { n = _; z = _; v = _; c = _; is = refl }
 
-pub v_loads : (pages sid image : ℕ) (bytes stack : List ℕ) (b : Bank) (n z v c : Bool)
-    → Leaves (instruction_in (space_of pages V sid image bytes stack) (regs_of b 0xc n z v c))
-    (record b { r5 = stored b.r5 (from_le_bytes w32 (word_bytes pages)) }) 0x13 None
-unfolding space_of regs_of stored text_page w_bytes v_bytes spot_at bytes_at store_effect computation fetch evaluations write_tests tested_effect execution execution_by instruction
-    number_at address_of evaluation_at evaluation_through evaluation next_byte number_read next_signed next_displacement base_at indexed_at next_specifier next_operand with_count
-    operand_in_place next_operands
-    instruction_at decoded row_for all_rows
-v_loads pages sid image bytes stack b n z v c = record { n = _; z = _; v = _; c = _; is = refl }
+  pub v_loads : Leaves (instruction_in (space_of pages V sid image bytes stack) (regs_of b 0xc n z v c))
+      (record b { r5 = stored b.r5 (from_le_bytes w32 (word_bytes pages)) }) 0x13 None
+  unfolding space_of regs_of stored text_page w_bytes v_bytes spot_at bytes_at store_effect computation fetch evaluations write_tests tested_effect execution execution_by instruction
+      number_at address_of evaluation_at evaluation_through evaluation next_byte number_read next_signed next_displacement base_at indexed_at next_specifier next_operand with_count
+      operand_in_place next_operands
+      instruction_at decoded row_for all_rows
+  v_loads = record { n = _; z = _; v = _; c = _; is = refl }
 
-pub v_will_write : (pages sid image : ℕ) (bytes stack : List ℕ) (b : Bank) (n z v c : Bool)
-    → Leaves (instruction_in (space_of pages V sid image bytes stack) (regs_of b 0x22 n z v c)) (record b { ap = stored b.ap 0xA8 }) 0x29 None
-unfolding space_of regs_of stored text_page w_bytes v_bytes spot_at bytes_at store_effect computation fetch evaluations write_tests tested_effect execution execution_by instruction
-    number_at address_of evaluation_at evaluation_through evaluation next_byte number_read next_signed next_displacement base_at indexed_at next_specifier next_operand with_count
-    operand_in_place next_operands
-    instruction_at decoded row_for all_rows
-v_will_write pages sid image bytes stack b n z v c = record { n = _; z = _; v = _; c = _; is = refl }
+  pub v_will_write : Leaves (instruction_in (space_of pages V sid image bytes stack) (regs_of b 0x22 n z v c)) (record b { ap = stored b.ap 0xA8 }) 0x29 None
+  unfolding space_of regs_of stored text_page w_bytes v_bytes spot_at bytes_at store_effect computation fetch evaluations write_tests tested_effect execution execution_by instruction
+      number_at address_of evaluation_at evaluation_through evaluation next_byte number_read next_signed next_displacement base_at indexed_at next_specifier next_operand with_count
+      operand_in_place next_operands
+      instruction_at decoded row_for all_rows
+  v_will_write = record { n = _; z = _; v = _; c = _; is = refl }
 
-pub v_writes : (pages sid image : ℕ) (bytes stack : List ℕ) (b : Bank) (n z v c : Bool)
-    → Leaves (instruction_in (space_of pages V sid image bytes stack) (regs_of b 0x29 n z v c)) (b) 0x2b (Some (pos 4))
-unfolding space_of regs_of stored text_page w_bytes v_bytes spot_at bytes_at store_effect computation fetch evaluations write_tests tested_effect execution execution_by instruction
-    number_at address_of evaluation_at evaluation_through evaluation next_byte number_read next_signed next_displacement base_at indexed_at next_specifier next_operand with_count
-    operand_in_place next_operands
-    instruction_at decoded row_for all_rows
-v_writes pages sid image bytes stack b n z v c = record { n = _; z = _; v = _; c = _; is = refl }
+  pub v_writes : Leaves (instruction_in (space_of pages V sid image bytes stack) (regs_of b 0x29 n z v c)) (b) 0x2b (Some (pos 4))
+  unfolding space_of regs_of stored text_page w_bytes v_bytes spot_at bytes_at store_effect computation fetch evaluations write_tests tested_effect execution execution_by instruction
+      number_at address_of evaluation_at evaluation_through evaluation next_byte number_read next_signed next_displacement base_at indexed_at next_specifier next_operand with_count
+      operand_in_place next_operands
+      instruction_at decoded row_for all_rows
+  v_writes = record { n = _; z = _; v = _; c = _; is = refl }
 
-pub v_will_exit : (pages sid image : ℕ) (bytes stack : List ℕ) (b : Bank) (n z v c : Bool)
-    → Leaves (instruction_in (space_of pages V sid image bytes stack) (regs_of b 0x2b n z v c)) (record b { ap = stored b.ap 0xB8 }) 0x32 None
-unfolding space_of regs_of stored text_page w_bytes v_bytes spot_at bytes_at store_effect computation fetch evaluations write_tests tested_effect execution execution_by instruction
-    number_at address_of evaluation_at evaluation_through evaluation next_byte number_read next_signed next_displacement base_at indexed_at next_specifier next_operand with_count
-    operand_in_place next_operands
-    instruction_at decoded row_for all_rows
-v_will_exit pages sid image bytes stack b n z v c = record { n = _; z = _; v = _; c = _; is = refl }
+  pub v_will_exit : Leaves (instruction_in (space_of pages V sid image bytes stack) (regs_of b 0x2b n z v c)) (record b { ap = stored b.ap 0xB8 }) 0x32 None
+  unfolding space_of regs_of stored text_page w_bytes v_bytes spot_at bytes_at store_effect computation fetch evaluations write_tests tested_effect execution execution_by instruction
+      number_at address_of evaluation_at evaluation_through evaluation next_byte number_read next_signed next_displacement base_at indexed_at next_specifier next_operand with_count
+      operand_in_place next_operands
+      instruction_at decoded row_for all_rows
+  v_will_exit = record { n = _; z = _; v = _; c = _; is = refl }
 
-pub v_exits : (pages sid image : ℕ) (bytes stack : List ℕ) (b : Bank) (n z v c : Bool)
-    → Leaves (instruction_in (space_of pages V sid image bytes stack) (regs_of b 0x32 n z v c)) (b) 0x34 (Some (pos 1))
-unfolding space_of regs_of stored text_page w_bytes v_bytes spot_at bytes_at store_effect computation fetch evaluations write_tests tested_effect execution execution_by instruction
-    number_at address_of evaluation_at evaluation_through evaluation next_byte number_read next_signed next_displacement base_at indexed_at next_specifier next_operand with_count
-    operand_in_place next_operands
-    instruction_at decoded row_for all_rows
-v_exits pages sid image bytes stack b n z v c = record { n = _; z = _; v = _; c = _; is = refl }
+  pub v_exits : Leaves (instruction_in (space_of pages V sid image bytes stack) (regs_of b 0x32 n z v c)) (b) 0x34 (Some (pos 1))
+  unfolding space_of regs_of stored text_page w_bytes v_bytes spot_at bytes_at store_effect computation fetch evaluations write_tests tested_effect execution execution_by instruction
+      number_at address_of evaluation_at evaluation_through evaluation next_byte number_read next_signed next_displacement base_at indexed_at next_specifier next_operand with_count
+      operand_in_place next_operands
+      instruction_at decoded row_for all_rows
+  v_exits = record { n = _; z = _; v = _; c = _; is = refl }
 
-pub v_moves : (pages sid image : ℕ) (bytes stack : List ℕ) (b : Bank) (n z v c : Bool)
-    → Leaves (instruction_in (space_of pages V sid image bytes stack) (regs_of b 0x15 n z v c))
-    (record b { r4 = stored b.r4 (let s : Sum = sum_of (b.r4 % 256 ^ 4) 0x400 in s.value) }) 0x1c None
-unfolding space_of regs_of stored text_page w_bytes v_bytes spot_at bytes_at store_effect computation fetch evaluations write_tests tested_effect execution execution_by instruction
-    number_at address_of evaluation_at evaluation_through evaluation next_byte number_read next_signed next_displacement base_at indexed_at next_specifier next_operand with_count
-    operand_in_place next_operands
-    instruction_at decoded row_for all_rows
-v_moves pages sid image bytes stack b n z v c = record { n = _; z = _; v = _; c = _; is = refl }
+  pub v_moves : Leaves (instruction_in (space_of pages V sid image bytes stack) (regs_of b 0x15 n z v c))
+      (record b { r4 = stored b.r4 (let s : Sum = sum_of (b.r4 % 256 ^ 4) 0x400 in s.value) }) 0x1c None
+  unfolding space_of regs_of stored text_page w_bytes v_bytes spot_at bytes_at store_effect computation fetch evaluations write_tests tested_effect execution execution_by instruction
+      number_at address_of evaluation_at evaluation_through evaluation next_byte number_read next_signed next_displacement base_at indexed_at next_specifier next_operand with_count
+      operand_in_place next_operands
+      instruction_at decoded row_for all_rows
+  v_moves = record { n = _; z = _; v = _; c = _; is = refl }
 
-pub w_parts_1 : (pages sid image : ℕ) (bytes stack : List ℕ) (b : Bank) (n z v c : Bool)
-    → Leaves (instruction_in (space_of pages W sid image bytes stack) (regs_of (record b { r1 = 1 }) 0x0d n z v c)) (record b { r1 = 1 }) 0x46 None
-unfolding space_of regs_of stored text_page w_bytes v_bytes spot_at bytes_at store_effect computation fetch evaluations write_tests tested_effect execution execution_by instruction
-    number_at address_of evaluation_at evaluation_through evaluation next_byte number_read next_signed next_displacement base_at indexed_at next_specifier next_operand with_count
-    operand_in_place next_operands
-    instruction_at decoded row_for all_rows
-w_parts_1 pages sid image bytes stack b n z v c = record { n = _; z = _; v = _; c = _; is = refl }
+  pub w_parts_1 : Leaves (instruction_in (space_of pages W sid image bytes stack) (regs_of (record b { r1 = 1 }) 0x0d n z v c)) (record b { r1 = 1 }) 0x46 None
+  unfolding space_of regs_of stored text_page w_bytes v_bytes spot_at bytes_at store_effect computation fetch evaluations write_tests tested_effect execution execution_by instruction
+      number_at address_of evaluation_at evaluation_through evaluation next_byte number_read next_signed next_displacement base_at indexed_at next_specifier next_operand with_count
+      operand_in_place next_operands
+      instruction_at decoded row_for all_rows
+  w_parts_1 = record { n = _; z = _; v = _; c = _; is = refl }
 
-pub w_parts_0 : (pages sid image : ℕ) (bytes stack : List ℕ) (b : Bank) (n z v c : Bool)
-    → Leaves (instruction_in (space_of pages W sid image bytes stack) (regs_of (record b { r1 = 0 }) 0x0d n z v c)) (record b { r1 = 0 }) 0x10 None
-unfolding space_of regs_of stored text_page w_bytes v_bytes spot_at bytes_at store_effect computation fetch evaluations write_tests tested_effect execution execution_by instruction
-    number_at address_of evaluation_at evaluation_through evaluation next_byte number_read next_signed next_displacement base_at indexed_at next_specifier next_operand with_count
-    operand_in_place next_operands
-    instruction_at decoded row_for all_rows
-w_parts_0 pages sid image bytes stack b n z v c = record { n = _; z = _; v = _; c = _; is = refl }
+  pub w_parts_0 : Leaves (instruction_in (space_of pages W sid image bytes stack) (regs_of (record b { r1 = 0 }) 0x0d n z v c)) (record b { r1 = 0 }) 0x10 None
+  unfolding space_of regs_of stored text_page w_bytes v_bytes spot_at bytes_at store_effect computation fetch evaluations write_tests tested_effect execution execution_by instruction
+      number_at address_of evaluation_at evaluation_through evaluation next_byte number_read next_signed next_displacement base_at indexed_at next_specifier next_operand with_count
+      operand_in_place next_operands
+      instruction_at decoded row_for all_rows
+  w_parts_0 = record { n = _; z = _; v = _; c = _; is = refl }
 
 -- ---- an index that goes down
 
@@ -248,85 +225,79 @@ counts_five b pc n z v c target sum = count_effect (regs_of b pc n z v c) (place
 pub counts_three : Bank → ℕ → Bool → Bool → Bool → Bool → ℕ → Sum → Effect
 counts_three b pc n z v c target sum = count_effect (regs_of b pc n z v c) (places.Register 3) sum (not (sum.n || sum.z)) target
 
-pub five_on : (b : Bank) (pc target : ℕ) (n z v c : Bool) (sum : Sum) → sum.n ≡ false → sum.z ≡ false
-    → Leaves (Ok (counts_five b pc n z v c target sum)) (record b { r5 = stored b.r5 sum.value }) target None
-unfolding counts_five regs_of stored store_effect
-five_on b pc target n z v c sum hn hz = go sum.n sum.z hn hz
-  where
-    go : (x y : Bool) → x ≡ false → y ≡ false
-        → Leaves (Ok (counts_five b pc n z v c target (record sum { n = x; z = y }))) (record b { r5 = stored b.r5 sum.value }) target None
-    go false false e f = record { n = _; z = _; v = _; c = _; is = refl }
-    go true y e f = absurd cc
-    go false true e f = absurd cc
+module _ (b : Bank) (pc target : ℕ) (n z v c : Bool) (sum : Sum) where
+  pub five_on : sum.n ≡ false → sum.z ≡ false → Leaves (Ok (counts_five b pc n z v c target sum)) (record b { r5 = stored b.r5 sum.value }) target None
+  unfolding counts_five regs_of stored store_effect
+  five_on hn hz = go sum.n sum.z hn hz
+    where
+      go : (x y : Bool) → x ≡ false → y ≡ false
+          → Leaves (Ok (counts_five b pc n z v c target (record sum { n = x; z = y }))) (record b { r5 = stored b.r5 sum.value }) target None
+      go false false e f = record { n = _; z = _; v = _; c = _; is = refl }
+      go true y e f = absurd cc
+      go false true e f = absurd cc
 
-pub five_off : (b : Bank) (pc target : ℕ) (n z v c : Bool) (sum : Sum) → sum.n ≡ false → sum.z ≡ true
-    → Leaves (Ok (counts_five b pc n z v c target sum)) (record b { r5 = stored b.r5 sum.value }) pc None
-unfolding counts_five regs_of stored store_effect
-five_off b pc target n z v c sum hn hz = go sum.n sum.z hn hz
-  where
-    go : (x y : Bool) → x ≡ false → y ≡ true
-        → Leaves (Ok (counts_five b pc n z v c target (record sum { n = x; z = y }))) (record b { r5 = stored b.r5 sum.value }) pc None
-    go false true e f = record { n = _; z = _; v = _; c = _; is = refl }
-    go true y e f = absurd cc
-    go false false e f = absurd cc
+  pub five_off : sum.n ≡ false → sum.z ≡ true → Leaves (Ok (counts_five b pc n z v c target sum)) (record b { r5 = stored b.r5 sum.value }) pc None
+  unfolding counts_five regs_of stored store_effect
+  five_off hn hz = go sum.n sum.z hn hz
+    where
+      go : (x y : Bool) → x ≡ false → y ≡ true
+          → Leaves (Ok (counts_five b pc n z v c target (record sum { n = x; z = y }))) (record b { r5 = stored b.r5 sum.value }) pc None
+      go false true e f = record { n = _; z = _; v = _; c = _; is = refl }
+      go true y e f = absurd cc
+      go false false e f = absurd cc
 
-pub three_on : (b : Bank) (pc target : ℕ) (n z v c : Bool) (sum : Sum) → sum.n ≡ false → sum.z ≡ false
-    → Leaves (Ok (counts_three b pc n z v c target sum)) (record b { r3 = stored b.r3 sum.value }) target None
-unfolding counts_three regs_of stored store_effect
-three_on b pc target n z v c sum hn hz = go sum.n sum.z hn hz
-  where
-    go : (x y : Bool) → x ≡ false → y ≡ false
-        → Leaves (Ok (counts_three b pc n z v c target (record sum { n = x; z = y }))) (record b { r3 = stored b.r3 sum.value }) target None
-    go false false e f = record { n = _; z = _; v = _; c = _; is = refl }
-    go true y e f = absurd cc
-    go false true e f = absurd cc
+  pub three_on : sum.n ≡ false → sum.z ≡ false → Leaves (Ok (counts_three b pc n z v c target sum)) (record b { r3 = stored b.r3 sum.value }) target None
+  unfolding counts_three regs_of stored store_effect
+  three_on hn hz = go sum.n sum.z hn hz
+    where
+      go : (x y : Bool) → x ≡ false → y ≡ false
+          → Leaves (Ok (counts_three b pc n z v c target (record sum { n = x; z = y }))) (record b { r3 = stored b.r3 sum.value }) target None
+      go false false e f = record { n = _; z = _; v = _; c = _; is = refl }
+      go true y e f = absurd cc
+      go false true e f = absurd cc
 
-pub three_off : (b : Bank) (pc target : ℕ) (n z v c : Bool) (sum : Sum) → sum.n ≡ false → sum.z ≡ true
-    → Leaves (Ok (counts_three b pc n z v c target sum)) (record b { r3 = stored b.r3 sum.value }) pc None
-unfolding counts_three regs_of stored store_effect
-three_off b pc target n z v c sum hn hz = go sum.n sum.z hn hz
-  where
-    go : (x y : Bool) → x ≡ false → y ≡ true
-        → Leaves (Ok (counts_three b pc n z v c target (record sum { n = x; z = y }))) (record b { r3 = stored b.r3 sum.value }) pc None
-    go false true e f = record { n = _; z = _; v = _; c = _; is = refl }
-    go true y e f = absurd cc
-    go false false e f = absurd cc
+  pub three_off : sum.n ≡ false → sum.z ≡ true → Leaves (Ok (counts_three b pc n z v c target sum)) (record b { r3 = stored b.r3 sum.value }) pc None
+  unfolding counts_three regs_of stored store_effect
+  three_off hn hz = go sum.n sum.z hn hz
+    where
+      go : (x y : Bool) → x ≡ false → y ≡ true
+          → Leaves (Ok (counts_three b pc n z v c target (record sum { n = x; z = y }))) (record b { r3 = stored b.r3 sum.value }) pc None
+      go false true e f = record { n = _; z = _; v = _; c = _; is = refl }
+      go true y e f = absurd cc
+      go false false e f = absurd cc
 
-pub w_closes : (pages sid image : ℕ) (bytes stack : List ℕ) (b : Bank) (n z v c : Bool)
-    → instruction_in (space_of pages W sid image bytes stack) (regs_of b 0x2a n z v c) ≡ Ok
-    (counts_five b 0x2d n z v c 0x21 (difference_of (b.r5 % 256 ^ 4) 1))
-unfolding counts_five space_of regs_of stored text_page w_bytes v_bytes spot_at bytes_at store_effect computation fetch evaluations write_tests tested_effect execution execution_by
-    instruction number_at address_of evaluation_at evaluation_through evaluation next_byte number_read next_signed next_displacement base_at indexed_at next_specifier next_operand
-    with_count operand_in_place
-    next_operands instruction_at decoded row_for all_rows
-w_closes pages sid image bytes stack b n z v c = refl
+module _ (pages sid image : ℕ) (bytes stack : List ℕ) (b : Bank) (n z v c : Bool) where
+  pub w_closes : instruction_in (space_of pages W sid image bytes stack) (regs_of b 0x2a n z v c) ≡ Ok
+      (counts_five b 0x2d n z v c 0x21 (difference_of (b.r5 % 256 ^ 4) 1))
+  unfolding counts_five space_of regs_of stored text_page w_bytes v_bytes spot_at bytes_at store_effect computation fetch evaluations write_tests tested_effect execution execution_by
+      instruction number_at address_of evaluation_at evaluation_through evaluation next_byte number_read next_signed next_displacement base_at indexed_at next_specifier next_operand
+      with_count operand_in_place
+      next_operands instruction_at decoded row_for all_rows
+  w_closes = refl
 
-pub w_repeats : (pages sid image : ℕ) (bytes stack : List ℕ) (b : Bank) (n z v c : Bool)
-    → instruction_in (space_of pages W sid image bytes stack) (regs_of b 0x2d n z v c) ≡ Ok
-    (counts_three b 0x30 n z v c 0x13 (difference_of (b.r3 % 256 ^ 4) 1))
-unfolding counts_three space_of regs_of stored text_page w_bytes v_bytes spot_at bytes_at store_effect computation fetch evaluations write_tests tested_effect execution execution_by
-    instruction number_at address_of evaluation_at evaluation_through evaluation next_byte number_read next_signed next_displacement base_at indexed_at next_specifier next_operand
-    with_count operand_in_place
-    next_operands instruction_at decoded row_for all_rows
-w_repeats pages sid image bytes stack b n z v c = refl
+  pub w_repeats : instruction_in (space_of pages W sid image bytes stack) (regs_of b 0x2d n z v c) ≡ Ok
+      (counts_three b 0x30 n z v c 0x13 (difference_of (b.r3 % 256 ^ 4) 1))
+  unfolding counts_three space_of regs_of stored text_page w_bytes v_bytes spot_at bytes_at store_effect computation fetch evaluations write_tests tested_effect execution execution_by
+      instruction number_at address_of evaluation_at evaluation_through evaluation next_byte number_read next_signed next_displacement base_at indexed_at next_specifier next_operand
+      with_count operand_in_place
+      next_operands instruction_at decoded row_for all_rows
+  w_repeats = refl
 
-pub v_closes : (pages sid image : ℕ) (bytes stack : List ℕ) (b : Bank) (n z v c : Bool)
-    → instruction_in (space_of pages V sid image bytes stack) (regs_of b 0x1c n z v c) ≡ Ok
-    (counts_five b 0x1f n z v c 0x13 (difference_of (b.r5 % 256 ^ 4) 1))
-unfolding counts_five space_of regs_of stored text_page w_bytes v_bytes spot_at bytes_at store_effect computation fetch evaluations write_tests tested_effect execution execution_by
-    instruction number_at address_of evaluation_at evaluation_through evaluation next_byte number_read next_signed next_displacement base_at indexed_at next_specifier next_operand
-    with_count operand_in_place
-    next_operands instruction_at decoded row_for all_rows
-v_closes pages sid image bytes stack b n z v c = refl
+  pub v_closes : instruction_in (space_of pages V sid image bytes stack) (regs_of b 0x1c n z v c) ≡ Ok
+      (counts_five b 0x1f n z v c 0x13 (difference_of (b.r5 % 256 ^ 4) 1))
+  unfolding counts_five space_of regs_of stored text_page w_bytes v_bytes spot_at bytes_at store_effect computation fetch evaluations write_tests tested_effect execution execution_by
+      instruction number_at address_of evaluation_at evaluation_through evaluation next_byte number_read next_signed next_displacement base_at indexed_at next_specifier next_operand
+      with_count operand_in_place
+      next_operands instruction_at decoded row_for all_rows
+  v_closes = refl
 
-pub v_repeats : (pages sid image : ℕ) (bytes stack : List ℕ) (b : Bank) (n z v c : Bool)
-    → instruction_in (space_of pages V sid image bytes stack) (regs_of b 0x1f n z v c) ≡ Ok
-    (counts_three b 0x22 n z v c 0x5 (difference_of (b.r3 % 256 ^ 4) 1))
-unfolding counts_three space_of regs_of stored text_page w_bytes v_bytes spot_at bytes_at store_effect computation fetch evaluations write_tests tested_effect execution execution_by
-    instruction number_at address_of evaluation_at evaluation_through evaluation next_byte number_read next_signed next_displacement base_at indexed_at next_specifier next_operand
-    with_count operand_in_place
-    next_operands instruction_at decoded row_for all_rows
-v_repeats pages sid image bytes stack b n z v c = refl
+  pub v_repeats : instruction_in (space_of pages V sid image bytes stack) (regs_of b 0x1f n z v c) ≡ Ok
+      (counts_three b 0x22 n z v c 0x5 (difference_of (b.r3 % 256 ^ 4) 1))
+  unfolding counts_three space_of regs_of stored text_page w_bytes v_bytes spot_at bytes_at store_effect computation fetch evaluations write_tests tested_effect execution execution_by
+      instruction number_at address_of evaluation_at evaluation_through evaluation next_byte number_read next_signed next_displacement base_at indexed_at next_specifier next_operand
+      with_count operand_in_place
+      next_operands instruction_at decoded row_for all_rows
+  v_repeats = refl
 
 -- ---- a page that is changed
 
@@ -381,41 +352,40 @@ altering b pc n z v c s w = go _ _ _ _ _ _ _ _ w.r0 w.r1 w.r2 w.r3 w.t0 w.t1 w.t
         y2 y3 = cc in
         subst (λ (r : Result Effect Refused). Alters r b pc b.r4) same (change_done b pc n z v c w.b0 w.b1 w.b2 w.b3)
 
-w_change_is : (pages sid image : ℕ) (bytes stack : List ℕ) (b : Bank) (n z v c : Bool)
-    → instruction_in (space_of pages W sid image bytes stack) (regs_of b 0x21 n z v c)
-    ≡ (let s : Space = space_of pages W sid image bytes stack in change_by b 0x23 n z v c ((answers_of s).read b.r4) ((answers_of s).read (past b.r4 1))
-    ((answers_of s).read (past (past b.r4 1) 1)) ((answers_of s).read (past (past (past b.r4 1) 1) 1))
-    ((answers_of s).may_write b.r4) ((answers_of s).may_write (past b.r4 1)) ((answers_of s).may_write (past (past b.r4 1) 1))
-    ((answers_of s).may_write (past (past (past b.r4 1) 1) 1)))
-unfolding change_by space_of regs_of stored text_page w_bytes v_bytes spot_at bytes_at store_effect computation fetch evaluations write_tests tested_effect execution execution_by
-    instruction number_at address_of evaluation_at evaluation_through evaluation next_byte number_read next_signed next_displacement base_at indexed_at next_specifier next_operand
-    with_count operand_in_place
-    next_operands instruction_at decoded row_for all_rows
-w_change_is pages sid image bytes stack b n z v c = refl
+module _ (pages sid image : ℕ) (bytes stack : List ℕ) (b : Bank) (n z v c : Bool) where
+  w_change_is : instruction_in (space_of pages W sid image bytes stack) (regs_of b 0x21 n z v c)
+      ≡ (let s : Space = space_of pages W sid image bytes stack in change_by b 0x23 n z v c ((answers_of s).read b.r4) ((answers_of s).read (past b.r4 1))
+      ((answers_of s).read (past (past b.r4 1) 1)) ((answers_of s).read (past (past (past b.r4 1) 1) 1))
+      ((answers_of s).may_write b.r4) ((answers_of s).may_write (past b.r4 1)) ((answers_of s).may_write (past (past b.r4 1) 1))
+      ((answers_of s).may_write (past (past (past b.r4 1) 1) 1)))
+  unfolding change_by space_of regs_of stored text_page w_bytes v_bytes spot_at bytes_at store_effect computation fetch evaluations write_tests tested_effect execution execution_by
+      instruction number_at address_of evaluation_at evaluation_through evaluation next_byte number_read next_signed next_displacement base_at indexed_at next_specifier next_operand
+      with_count operand_in_place
+      next_operands instruction_at decoded row_for all_rows
+  w_change_is = refl
 
-pub w_changes : (pages sid image : ℕ) (bytes stack : List ℕ) (b : Bank) (n z v c : Bool) → HasWord (space_of pages W sid image bytes stack) b.r4
-    → Alters (instruction_in (space_of pages W sid image bytes stack) (regs_of b 0x21 n z v c)) b 0x23 b.r4
-w_changes pages sid image bytes stack b n z v c w =
-    subst (λ (r : Result Effect Refused). Alters r b 0x23 b.r4) (sym (w_change_is pages sid image bytes stack b n z v c))
-    (altering b 0x23 n z v c (space_of pages W sid image bytes stack) w)
+  pub w_changes : HasWord (space_of pages W sid image bytes stack) b.r4
+      → Alters (instruction_in (space_of pages W sid image bytes stack) (regs_of b 0x21 n z v c)) b 0x23 b.r4
+  w_changes w =
+      subst (λ (r : Result Effect Refused). Alters r b 0x23 b.r4) (sym (w_change_is))
+      (altering b 0x23 n z v c (space_of pages W sid image bytes stack) w)
 
-v_change_is : (pages sid image : ℕ) (bytes stack : List ℕ) (b : Bank) (n z v c : Bool)
-    → instruction_in (space_of pages V sid image bytes stack) (regs_of b 0x13 n z v c)
-    ≡ (let s : Space = space_of pages V sid image bytes stack in change_by b 0x15 n z v c ((answers_of s).read b.r4) ((answers_of s).read (past b.r4 1))
-    ((answers_of s).read (past (past b.r4 1) 1)) ((answers_of s).read (past (past (past b.r4 1) 1) 1))
-    ((answers_of s).may_write b.r4) ((answers_of s).may_write (past b.r4 1)) ((answers_of s).may_write (past (past b.r4 1) 1))
-    ((answers_of s).may_write (past (past (past b.r4 1) 1) 1)))
-unfolding change_by space_of regs_of stored text_page w_bytes v_bytes spot_at bytes_at store_effect computation fetch evaluations write_tests tested_effect execution execution_by
-    instruction number_at address_of evaluation_at evaluation_through evaluation next_byte number_read next_signed next_displacement base_at indexed_at next_specifier next_operand
-    with_count operand_in_place
-    next_operands instruction_at decoded row_for all_rows
-v_change_is pages sid image bytes stack b n z v c = refl
+  v_change_is : instruction_in (space_of pages V sid image bytes stack) (regs_of b 0x13 n z v c)
+      ≡ (let s : Space = space_of pages V sid image bytes stack in change_by b 0x15 n z v c ((answers_of s).read b.r4) ((answers_of s).read (past b.r4 1))
+      ((answers_of s).read (past (past b.r4 1) 1)) ((answers_of s).read (past (past (past b.r4 1) 1) 1))
+      ((answers_of s).may_write b.r4) ((answers_of s).may_write (past b.r4 1)) ((answers_of s).may_write (past (past b.r4 1) 1))
+      ((answers_of s).may_write (past (past (past b.r4 1) 1) 1)))
+  unfolding change_by space_of regs_of stored text_page w_bytes v_bytes spot_at bytes_at store_effect computation fetch evaluations write_tests tested_effect execution execution_by
+      instruction number_at address_of evaluation_at evaluation_through evaluation next_byte number_read next_signed next_displacement base_at indexed_at next_specifier next_operand
+      with_count operand_in_place
+      next_operands instruction_at decoded row_for all_rows
+  v_change_is = refl
 
-pub v_changes : (pages sid image : ℕ) (bytes stack : List ℕ) (b : Bank) (n z v c : Bool) → HasWord (space_of pages V sid image bytes stack) b.r4
-    → Alters (instruction_in (space_of pages V sid image bytes stack) (regs_of b 0x13 n z v c)) b 0x15 b.r4
-v_changes pages sid image bytes stack b n z v c w =
-    subst (λ (r : Result Effect Refused). Alters r b 0x15 b.r4) (sym (v_change_is pages sid image bytes stack b n z v c))
-    (altering b 0x15 n z v c (space_of pages V sid image bytes stack) w)
+  pub v_changes : HasWord (space_of pages V sid image bytes stack) b.r4
+      → Alters (instruction_in (space_of pages V sid image bytes stack) (regs_of b 0x13 n z v c)) b 0x15 b.r4
+  v_changes w =
+      subst (λ (r : Result Effect Refused). Alters r b 0x15 b.r4) (sym (v_change_is))
+      (altering b 0x15 n z v c (space_of pages V sid image bytes stack) w)
 
 -- ---- by the program
 

@@ -44,6 +44,7 @@ use Rattle.run_laws.proofs.Others.{number_of_found}
 use Rattle.economy_laws.proofs.Sleeping.{Does, does}
 use Rattle.economy_laws.proofs.Counting.{counted_in}
 use Rattle.flat_laws.specs.Others.{is_refusal}
+use Rattle.run_laws.proofs.Units.{plain_holdings}
 use Rattle.load_maker.specs.RunCountsCounts.{output_length}
 use Rattle.load_laws.specs.Stages.{Stage, is_gone, IsAt, StandsAt, Lives, Ended}
 use Rattle.load_laws.specs.Left.{images_for, instructions_left, forks_left, ends_left, bytes_left, blocks_left, total}
@@ -122,51 +123,40 @@ pub record Spends (pages : ℕ) (old new : List Stage) (u : Entry) (before behin
   pub bytes : total bytes_left old + behind ≡ output_length u + (total bytes_left new + before)
   pub refused : is_refusal u ≡ false
 
-pub record Goes (pages : ℕ) (stages : List Stage) (s t : State) (u : Entry) : Type 0 where
-  pub now : List Stage
-  pub high : ℕ
-  pub stands : Stands pages now high t
-  pub spends : Spends pages stages now u (pending (let q : Point = s.point in q.last)) (pending (let q : Point = t.point in q.last))
+module _ (pages : ℕ) (stages : List Stage) where
+  pub record Goes (s t : State) (u : Entry) : Type 0 where
+    pub now : List Stage
+    pub high : ℕ
+    pub stands : Stands pages now high t
+    pub spends : Spends pages stages now u (pending (let q : Point = s.point in q.last)) (pending (let q : Point = t.point in q.last))
 
--- ---- a unit that is no flat entry
+  -- ---- a unit that is no flat entry
 
-plain_holdings : (A : Inputs) (s : State) (u : Entry) → process_of_entry u ≡ None → (after A s u).holdings ≡ s.holdings
-unfolding after
-plain_holdings A s (entries.Ran p n) e = absurd cc
-plain_holdings A s (entries.Out p bytes) e = absurd cc
-plain_holdings A s (entries.Grew p n) e = absurd cc
-plain_holdings A s (entries.Call p n c r0 r1) e = absurd cc
-plain_holdings A s (entries.Refused p) e = absurd cc
-plain_holdings A s (entries.Sleeps p) e = absurd cc
-plain_holdings A s (entries.Ended p n) e = absurd cc
-plain_holdings A s _ e = refl
+  plain_spends : (u : Entry) (n : ℕ) → process_of_entry u ≡ None → Spends pages stages stages u n n
+  plain_spends (entries.Ran p m) n e = absurd cc
+  plain_spends (entries.Out p bytes) n e = absurd cc
+  plain_spends (entries.Grew p m) n e = absurd cc
+  plain_spends (entries.Call p m c r0 r1) n e = absurd cc
+  plain_spends (entries.Refused p) n e = absurd cc
+  plain_spends (entries.Sleeps p) n e = absurd cc
+  plain_spends (entries.Ended p m) n e = absurd cc
+  plain_spends _ n e = record { instructions = omega arith; forks = omega arith; ends = omega arith; bytes = omega arith; refused = refl }
 
-plain_spends : (pages : ℕ) (stages : List Stage) (u : Entry) (n : ℕ) → process_of_entry u ≡ None → Spends pages stages stages u n n
-plain_spends pages stages (entries.Ran p m) n e = absurd cc
-plain_spends pages stages (entries.Out p bytes) n e = absurd cc
-plain_spends pages stages (entries.Grew p m) n e = absurd cc
-plain_spends pages stages (entries.Call p m c r0 r1) n e = absurd cc
-plain_spends pages stages (entries.Refused p) n e = absurd cc
-plain_spends pages stages (entries.Sleeps p) n e = absurd cc
-plain_spends pages stages (entries.Ended p m) n e = absurd cc
-plain_spends pages stages _ n e = record { instructions = omega arith; forks = omega arith; ends = omega arith; bytes = omega arith; refused = refl }
-
-plain_goes : (pages : ℕ) (stages : List Stage) (high : ℕ) (A : Inputs) (s : State) (u : Entry) → Stands pages stages high s → process_of_entry u ≡ None
-    → Goes pages stages s (after A s u) u
-plain_goes pages stages high A s u st e =
-    let same : (after A s u).point ≡ s.point = plain_point A s u e in
-    record {
-      now = stages;
-      high = high;
-      stands = record {
-        family = subst (λ (x : Point). Family pages stages (let F : FlatState = x.flat in F.processes)) (sym same) st.family;
-        few = st.few;
-        served = subst (λ (x : Point). (pid : ℕ) → is_refused x.last pid ≡ false) (sym same) st.served;
-        under = subst (AllUnder high) (sym (plain_holdings A s u e)) st.under;
-        room = st.room;
-      };
-      spends = subst (λ (x : Point). Spends pages stages stages u (pending (let q : Point = s.point in q.last)) (pending x.last)) (sym same) (plain_spends pages stages u _ e);
-    }
+  plain_goes : (high : ℕ) (A : Inputs) (s : State) (u : Entry) → Stands pages stages high s → process_of_entry u ≡ None → Goes s (after A s u) u
+  plain_goes high A s u st e =
+      let same : (after A s u).point ≡ s.point = plain_point A s u e in
+      record {
+        now = stages;
+        high = high;
+        stands = record {
+          family = subst (λ (x : Point). Family pages stages (let F : FlatState = x.flat in F.processes)) (sym same) st.family;
+          few = st.few;
+          served = subst (λ (x : Point). (pid : ℕ) → is_refused x.last pid ≡ false) (sym same) st.served;
+          under = subst (AllUnder high) (sym (plain_holdings A s u e)) st.under;
+          room = st.room;
+        };
+        spends = subst (λ (x : Point). Spends pages stages stages u (pending (let q : Point = s.point in q.last)) (pending x.last)) (sym same) (plain_spends u _ e);
+      }
 
 -- ---- the last flat entry, and what is due after it
 

@@ -267,48 +267,47 @@ zombies_out pid (p ∷ ps) = ((λ e. second (p.parent == pid) (is_zombie p.holdi
     second true false e = absurd cc
     second false b e = absurd cc
 
-pub record Ends (pid : ℕ) (ps : List Process) (p q : Process) : Type 0 where
-  pub found : find (λ r. r.pid == pid) ps ≡ Some p
-  pub number : q.pid ≡ pid
-  pub same : p.pid ≡ pid
-  pub awake : q.asleep ≡ false
-  pub own : AllDistinct (map (λ (r : Process). r.pid) ps)
-  pub awaited : AllAwaited ps ps
+module _ (pid : ℕ) (ps : List Process) (p q : Process) where
+  pub record Ends : Type 0 where
+    pub found : find (λ r. r.pid == pid) ps ≡ Some p
+    pub number : q.pid ≡ pid
+    pub same : p.pid ≡ pid
+    pub awake : q.asleep ≡ false
+    pub own : AllDistinct (map (λ (r : Process). r.pid) ps)
+    pub awaited : AllAwaited ps ps
 
-left_goes : (pid : ℕ) (ps : List Process) (p q : Process) → Ends pid ps p q → (n : ℕ) → n ≢ pid → n ≢ p.parent → GoesOn n ps (left_by pid ps q)
-left_goes pid ps p q e n a b h =
-    goes_mapped n (filter (λ r. not (is_zombie_child pid r)) (replaced ps q)) (without_parent pid) (λ x. live_parted n pid x a)
-    (goes_sifted n (replaced ps q) (λ r. not (is_zombie_child pid r)) (zombies_out pid (replaced ps q))
-    (goes_replaced n pid ps p q e.found (e.number ∙ sym e.same) (λ l. absurd (none l)) h))
-  where
-    none : lives_for n p ≡ true → ⊥
-    none l = b (sym (eqb-true p.parent n (and_parts (p.parent == n) (not (is_zombie p.holding)) l).0))
+  left_goes : Ends → (n : ℕ) → n ≢ pid → n ≢ p.parent → GoesOn n ps (left_by pid ps q)
+  left_goes e n a b h =
+      goes_mapped n (filter (λ r. not (is_zombie_child pid r)) (replaced ps q)) (without_parent pid) (λ x. live_parted n pid x a)
+      (goes_sifted n (replaced ps q) (λ r. not (is_zombie_child pid r)) (zombies_out pid (replaced ps q))
+      (goes_replaced n pid ps p q e.found (e.number ∙ sym e.same) (λ l. absurd (none l)) h))
+    where
+      none : lives_for n p ≡ true → ⊥
+      none l = b (sym (eqb-true p.parent n (and_parts (p.parent == n) (not (is_zombie p.holding)) l).0))
 
-left_but : (pid : ℕ) (ps : List Process) (p q : Process) → Ends pid ps p q → AwaitedBut p.parent (left_by pid ps q) (left_by pid ps q)
-left_but pid ps p q e =
-    but_parted p.parent pid (left_by pid ps q) (filter (λ r. not (is_zombie_child pid r)) (replaced ps q))
-    (but_sifted p.parent (left_by pid ps q) (replaced ps q) (λ r. not (is_zombie_child pid r))
-    (but_ended p.parent pid ps (left_by pid ps q) ps p q (left_goes pid ps p q e) e.own e.found e.number e.awake e.awaited))
+  left_but : Ends → AwaitedBut p.parent (left_by pid ps q) (left_by pid ps q)
+  left_but e =
+      but_parted p.parent pid (left_by pid ps q) (filter (λ r. not (is_zombie_child pid r)) (replaced ps q))
+      (but_sifted p.parent (left_by pid ps q) (replaced ps q) (λ r. not (is_zombie_child pid r))
+      (but_ended p.parent pid ps (left_by pid ps q) ps p q (left_goes e) e.own e.found e.number e.awake e.awaited))
 
--- where the process that ends has a parent, that one wakes
-pub awaited_left : (pid : ℕ) (ps : List Process) (p q : Process) → Ends pid ps p q
-    → AllAwaited (map (awake p.parent) (left_by pid ps q)) (map (awake p.parent) (left_by pid ps q))
-awaited_left pid ps p q e =
-    awaited_to (left_by pid ps q) (map (awake p.parent) (left_by pid ps q)) (map (awake p.parent) (left_by pid ps q)) (λ n. goes_mapped n (left_by pid ps q) (awake p.parent) (λ x l. l))
-    (but_roused p.parent (left_by pid ps q) (left_by pid ps q) (left_but pid ps p q e))
+  -- where the process that ends has a parent, that one wakes
+  pub awaited_left : Ends → AllAwaited (map (awake p.parent) (left_by pid ps q)) (map (awake p.parent) (left_by pid ps q))
+  awaited_left e =
+      awaited_to (left_by pid ps q) (map (awake p.parent) (left_by pid ps q)) (map (awake p.parent) (left_by pid ps q)) (λ n. goes_mapped n (left_by pid ps q) (awake p.parent) (λ x l. l))
+      (but_roused p.parent (left_by pid ps q) (left_by pid ps q) (left_but e))
 
--- where it has none, it goes: all of its number are zombies
-pub awaited_gone : (pid : ℕ) (ps : List Process) (p q : Process) → Ends pid ps p q → NoneZero ps → p.parent ≡ 0
-    → LeavesOut (λ r. not (r.pid == pid)) (left_by pid ps q)
-    → AllAwaited (filter (λ r. not (r.pid == pid)) (left_by pid ps q)) (filter (λ r. not (r.pid == pid)) (left_by pid ps q))
-awaited_gone pid ps p q e none orphan out =
-    awaited_to (left_by pid ps q) (filter (λ r. not (r.pid == pid)) (left_by pid ps q)) (filter (λ r. not (r.pid == pid)) (left_by pid ps q))
-    (λ n. goes_sifted n (left_by pid ps q) (λ r. not (r.pid == pid)) out)
-    (awaited_sifted (left_by pid ps q) (left_by pid ps q) (λ r. not (r.pid == pid))
-    (but_none (left_by pid ps q) (left_by pid ps q) zeros (subst (λ (m : ℕ). AwaitedBut m (left_by pid ps q) (left_by pid ps q)) orphan (left_but pid ps p q e))))
-  where
-    zeros : NoneZero (left_by pid ps q)
-    zeros = none_parted (filter (λ r. not (is_zombie_child pid r)) (replaced ps q)) pid (none_sifted (replaced ps q) (λ r. not (is_zombie_child pid r)) (none_replaced ps q none))
+  -- where it has none, it goes: all of its number are zombies
+  pub awaited_gone : Ends → NoneZero ps → p.parent ≡ 0 → LeavesOut (λ r. not (r.pid == pid)) (left_by pid ps q)
+      → AllAwaited (filter (λ r. not (r.pid == pid)) (left_by pid ps q)) (filter (λ r. not (r.pid == pid)) (left_by pid ps q))
+  awaited_gone e none orphan out =
+      awaited_to (left_by pid ps q) (filter (λ r. not (r.pid == pid)) (left_by pid ps q)) (filter (λ r. not (r.pid == pid)) (left_by pid ps q))
+      (λ n. goes_sifted n (left_by pid ps q) (λ r. not (r.pid == pid)) out)
+      (awaited_sifted (left_by pid ps q) (left_by pid ps q) (λ r. not (r.pid == pid))
+      (but_none (left_by pid ps q) (left_by pid ps q) zeros (subst (λ (m : ℕ). AwaitedBut m (left_by pid ps q) (left_by pid ps q)) orphan (left_but e))))
+    where
+      zeros : NoneZero (left_by pid ps q)
+      zeros = none_parted (filter (λ r. not (is_zombie_child pid r)) (replaced ps q)) pid (none_sifted (replaced ps q) (λ r. not (is_zombie_child pid r)) (none_replaced ps q none))
 
 -- ---- where all of a number are zombies
 

@@ -76,60 +76,58 @@ asked_none m s b h e r is = subst (λ (x : Book). RunsNow (booked m x m.tables.f
 pub standing_none : (m : Inside) (s : Standing) (b : Book) → standing_of m ≡ s → b ≡ m.tables.book → standing_of (booked m b m.tables.found) ≡ s
 standing_none m s b e is = ap (λ (x : Book). standing_of (booked m x m.tables.found)) is ∙ e
 
--- Where they are, they stand beside the holdings.
-pub record Asked (m : Inside) (s : Standing) (b : Book) (found : ℕ) (ws : List Wanted) (hs : Holdings) : Type 0 where
-  pub view_is : standing_of m ≡ s
-  pub whole : s.before ≡ s.kernel.holdings
-  pub placed : place_all m.tables.book.size m.tables.book.holdings ws ≡ Ok hs
-  pub book : b ≡ with_holdings m.tables.book hs
-  pub count : found ≡ length b.holdings - length m.tables.book.holdings
+module _ (m : Inside) (s : Standing) (b : Book) (found : ℕ) (ws : List Wanted) (hs : Holdings) where
+  -- Where they are, they stand beside the holdings.
+  pub record Asked : Type 0 where
+    pub view_is : standing_of m ≡ s
+    pub whole : s.before ≡ s.kernel.holdings
+    pub placed : place_all m.tables.book.size m.tables.book.holdings ws ≡ Ok hs
+    pub book : b ≡ with_holdings m.tables.book hs
+    pub count : found ≡ length b.holdings - length m.tables.book.holdings
 
-before_still : (m : Inside) (s : Standing) (b : Book) (found : ℕ) (ws : List Wanted) (hs : Holdings) → Asked m s b found ws hs
-    → take (length b.holdings - found) b.holdings ≡ m.tables.book.holdings
-before_still m s b found ws hs a =
-    ap (λ (n : ℕ). take (length b.holdings - n) b.holdings) a.count
-    ∙ ap (λ (x : Book). take (length x.holdings - (length x.holdings - length m.tables.book.holdings)) x.holdings) a.book
-    ∙ asked_before m.tables.book.size m.tables.book.holdings hs ws a.placed
+  before_still : Asked → take (length b.holdings - found) b.holdings ≡ m.tables.book.holdings
+  before_still a =
+      ap (λ (n : ℕ). take (length b.holdings - n) b.holdings) a.count
+      ∙ ap (λ (x : Book). take (length x.holdings - (length x.holdings - length m.tables.book.holdings)) x.holdings) a.book
+      ∙ asked_before m.tables.book.size m.tables.book.holdings hs ws a.placed
 
-pub asked_stands : (m : Inside) (s : Standing) (b : Book) (found : ℕ) (ws : List Wanted) (hs : Holdings) → Asked m s b found ws hs → RunsInside m
-    → s.kernel.stopped ≡ false → RunsNow (booked m b found)
-asked_stands m s b found ws hs a h r =
-    let n : RunsNow m = stands_now m s h a.view_is r in
-    let t : Tables = m.tables in
-    let whole : before_of t ≡ t.book.holdings = whole_now m s a.view_is a.whole in
-    let before : before_of t ≡ take (length b.holdings - found) b.holdings = whole ∙ sym (before_still m s b found ws hs a) in
-    let size : t.book.size ≡ b.size = ap (λ (x : Book). x.size) (sym a.book) in
-    record {
-      stands = record {
-        runs = subst (λ (x : ℕ). KernelRuns (record (kernel_by t m.journal.items m.stopped) { holdings = take (length b.holdings - found) b.holdings }) (lists_of t) x) size
-            (subst (λ (x : Holdings). KernelRuns (record (kernel_by t m.journal.items m.stopped) { holdings = x }) (lists_of t) t.book.size) before n.stands.runs);
-        ring = subst (λ (x : ℕ). AreSourced (images_of t) (image_at t) (take (length b.holdings - found) b.holdings) x t.ring) size
-            (subst (λ (x : Holdings). AreSourced (images_of t) (image_at t) x t.book.size t.ring) before n.stands.ring);
-        within = n.stands.within;
-        book = sym size ∙ n.stands.book;
-        found = record {
-          pieces = ws;
-          found = ap (λ (x : Holdings). place_all b.size x ws) (before_still m s b found ws hs a) ∙ ap (λ (x : ℕ). place_all x t.book.holdings ws) (sym size) ∙ a.placed
-              ∙ ap (λ (x : Book). let r : Result Holdings ℕ = Ok x.holdings in r) (sym a.book);
+  pub asked_stands : Asked → RunsInside m → s.kernel.stopped ≡ false → RunsNow (booked m b found)
+  asked_stands a h r =
+      let n : RunsNow m = stands_now m s h a.view_is r in
+      let t : Tables = m.tables in
+      let whole : before_of t ≡ t.book.holdings = whole_now m s a.view_is a.whole in
+      let before : before_of t ≡ take (length b.holdings - found) b.holdings = whole ∙ sym (before_still a) in
+      let size : t.book.size ≡ b.size = ap (λ (x : Book). x.size) (sym a.book) in
+      record {
+        stands = record {
+          runs = subst (λ (x : ℕ). KernelRuns (record (kernel_by t m.journal.items m.stopped) { holdings = take (length b.holdings - found) b.holdings }) (lists_of t) x) size
+              (subst (λ (x : Holdings). KernelRuns (record (kernel_by t m.journal.items m.stopped) { holdings = x }) (lists_of t) t.book.size) before n.stands.runs);
+          ring = subst (λ (x : ℕ). AreSourced (images_of t) (image_at t) (take (length b.holdings - found) b.holdings) x t.ring) size
+              (subst (λ (x : Holdings). AreSourced (images_of t) (image_at t) x t.book.size t.ring) before n.stands.ring);
+          within = n.stands.within;
+          book = sym size ∙ n.stands.book;
+          found = record {
+            pieces = ws;
+            found = ap (λ (x : Holdings). place_all b.size x ws) (before_still a) ∙ ap (λ (x : ℕ). place_all x t.book.holdings ws) (sym size) ∙ a.placed
+                ∙ ap (λ (x : Book). let r : Result Holdings ℕ = Ok x.holdings in r) (sym a.book);
+          };
+          records = n.stands.records;
+          named = n.stands.named;
+          numbers = n.stands.numbers;
         };
-        records = n.stands.records;
-        named = n.stands.named;
-        numbers = n.stands.numbers;
-      };
-      holders = record { spaces = n.holders.spaces; once = n.holders.once };
-      none_lost = n.none_lost;
-      room = n.room;
-    }
+        holders = record { spaces = n.holders.spaces; once = n.holders.once };
+        none_lost = n.none_lost;
+        room = n.room;
+      }
 
-pub asked_standing : (m : Inside) (s : Standing) (b : Book) (found : ℕ) (ws : List Wanted) (hs : Holdings) → Asked m s b found ws hs
-    → standing_of (booked m b found) ≡ record (standing_of m) { kernel = record (standing_of m).kernel { holdings = hs } }
-asked_standing m s b found ws hs a =
-    let t : Tables = m.tables in
-    let whole : before_of t ≡ t.book.holdings = whole_now m s a.view_is a.whole in
-    let before : take (length b.holdings - found) b.holdings ≡ before_of t = before_still m s b found ws hs a ∙ sym whole in
-    let k : Kernel = record (kernel_by t m.journal.items m.stopped) { holdings = hs } in
-    ap (λ (x : Book). record (standing_of m) { kernel = record (kernel_by t m.journal.items m.stopped) { holdings = x.holdings }; before = take (length b.holdings - found) b.holdings }) a.book
-    ∙ ap (λ (x : Holdings). record (standing_of m) { kernel = k; before = x }) before
+  pub asked_standing : Asked → standing_of (booked m b found) ≡ record (standing_of m) { kernel = record (standing_of m).kernel { holdings = hs } }
+  asked_standing a =
+      let t : Tables = m.tables in
+      let whole : before_of t ≡ t.book.holdings = whole_now m s a.view_is a.whole in
+      let before : take (length b.holdings - found) b.holdings ≡ before_of t = before_still a ∙ sym whole in
+      let k : Kernel = record (kernel_by t m.journal.items m.stopped) { holdings = hs } in
+      ap (λ (x : Book). record (standing_of m) { kernel = record (kernel_by t m.journal.items m.stopped) { holdings = x.holdings }; before = take (length b.holdings - found) b.holdings }) a.book
+      ∙ ap (λ (x : Holdings). record (standing_of m) { kernel = k; before = x }) before
 
 -- Where the entry that takes the pieces can't be made the machine has stopped, which is so too of the one before the pieces were found: there
 -- the journal had room.

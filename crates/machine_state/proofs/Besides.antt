@@ -75,25 +75,24 @@ writes_beside notes image o bytes =
 
 -- The end of a transfer.
 
-swap_part : (files : List ImageFile) (f : ℕ → ℕ) (hs : Holdings) (e : Errand) (xs : List Part) → of_swap (errand_asks files f hs e xs) ≡ swap_errand_asks hs e
-    xs
-swap_part files f hs Writes xs = let o = writes_of hs xs in o.swap
-swap_part files f hs (Reads FromSwap demanded) xs = let o = reads_of hs xs in o.swap
-swap_part files f hs (Reads FromFile demanded) xs = swap_of_files (fills_asked files f xs)
+module _ (files : List ImageFile) (f : ℕ → ℕ) (hs : Holdings) where
+  swap_part : (e : Errand) (xs : List Part) → of_swap (errand_asks files f hs e xs) ≡ swap_errand_asks hs e xs
+  swap_part Writes xs = let o = writes_of hs xs in o.swap
+  swap_part (Reads FromSwap demanded) xs = let o = reads_of hs xs in o.swap
+  swap_part (Reads FromFile demanded) xs = swap_of_files (fills_asked files f xs)
 
-file_part : (files : List ImageFile) (f : ℕ → ℕ) (hs : Holdings) (e : Errand) (xs : List Part) → of_files (errand_asks files f hs e xs) ≡ errand_asked files f
-    e xs
-file_part files f hs Writes xs = let o = writes_of hs xs in o.files
-file_part files f hs (Reads FromSwap demanded) xs = let o = reads_of hs xs in o.files
-file_part files f hs (Reads FromFile demanded) xs = files_of_files (fills_asked files f xs)
+  file_part : (e : Errand) (xs : List Part) → of_files (errand_asks files f hs e xs) ≡ errand_asked files f e xs
+  file_part Writes xs = let o = writes_of hs xs in o.files
+  file_part (Reads FromSwap demanded) xs = let o = reads_of hs xs in o.files
+  file_part (Reads FromFile demanded) xs = files_of_files (fills_asked files f xs)
 
-first_of_swap : (files : List ImageFile) (f : ℕ → ℕ) (hs : Holdings) (ts : List Transfer) → of_swap (first_asks files f hs ts) ≡ swap_oldest_asks hs ts
-first_of_swap files f hs [] = refl
-first_of_swap files f hs (t ∷ ts) = swap_part files f hs t.errand t.parts
+  first_of_swap : (ts : List Transfer) → of_swap (first_asks files f hs ts) ≡ swap_oldest_asks hs ts
+  first_of_swap [] = refl
+  first_of_swap (t ∷ ts) = swap_part t.errand t.parts
 
-first_of_files : (files : List ImageFile) (f : ℕ → ℕ) (hs : Holdings) (ts : List Transfer) → of_files (first_asks files f hs ts) ≡ oldest_asked files f ts
-first_of_files files f hs [] = refl
-first_of_files files f hs (t ∷ ts) = file_part files f hs t.errand t.parts
+  first_of_files : (ts : List Transfer) → of_files (first_asks files f hs ts) ≡ oldest_asked files f ts
+  first_of_files [] = refl
+  first_of_files (t ∷ ts) = file_part t.errand t.parts
 
 pub done_beside : (files : List ImageFile) (k : Kernel) (before after : Option SwapImage) (old new : FileNotes)
     → SwapDone k before after → new ≡ after_requests (oldest_asked files (image_of k.place) k.place.transfers) old

@@ -74,10 +74,10 @@ none_follows f ps next last none low = elim (cases_lt (last + 1) next) [
 
 -- The residence of a process among those of all.
 
-residence_hit : (pid : ℕ) (r : Residence) (rs : List Residence) → r.pid ≡ pid → swapper.residence_of (r ∷ rs) pid ≡ r
+pub residence_hit : (pid : ℕ) (r : Residence) (rs : List Residence) → r.pid ≡ pid → swapper.residence_of (r ∷ rs) pid ≡ r
 residence_hit pid r rs e = grind (arith, nat_tests)
 
-residence_miss : (pid : ℕ) (r : Residence) (rs : List Residence) → r.pid ≢ pid → swapper.residence_of (r ∷ rs) pid ≡ swapper.residence_of rs pid
+pub residence_miss : (pid : ℕ) (r : Residence) (rs : List Residence) → r.pid ≢ pid → swapper.residence_of (r ∷ rs) pid ≡ swapper.residence_of rs pid
 residence_miss pid r rs e = grind (arith, nat_tests)
 
 pub residence_over : (ps : List Record) (pid : ℕ) (r : Residence) (a k : ℕ) → a ≤ pid → pid < a + k → residence_shown (find pid ps) ≡ Some r

@@ -73,53 +73,49 @@ left_due (fills.Copy child from ∷ ds) q parent others o e =
 
 -- The step.
 
-pub record Copying (t u v w : Tables) (token copy : Frame) (q parent : Page) (f : ℕ) (others : List Due) : Type 0 where
-  pub known : Known (lists_of t)
-  pub took : TookFrame t u token
-  pub is : copy ≡ record { number = token.number; bytes = (token_of (slot_at t.core.slots f)).bytes }
-  pub seat : SeatedPage u v copy q true
-  pub finish : FinishedFill v w
-  pub writable : IsWritable q
-  pub there : IsThere (placement_of (lists_of t)) q
-  pub valid : state_of (placement_of (lists_of t)) parent ≡ Valid f
-  pub due : map due_shown t.fills.items ≡ CopyOf q parent ∷ others
-  pub once : DueOnce t.fills.items
+module _ (t u v w : Tables) (token copy : Frame) (q parent : Page) (f : ℕ) (others : List Due) where
+  pub record Copying : Type 0 where
+    pub known : Known (lists_of t)
+    pub took : TookFrame t u token
+    pub is : copy ≡ record { number = token.number; bytes = (token_of (slot_at t.core.slots f)).bytes }
+    pub seat : SeatedPage u v copy q true
+    pub finish : FinishedFill v w
+    pub writable : IsWritable q
+    pub there : IsThere (placement_of (lists_of t)) q
+    pub valid : state_of (placement_of (lists_of t)) parent ≡ Valid f
+    pub due : map due_shown t.fills.items ≡ CopyOf q parent ∷ others
+    pub once : DueOnce t.fills.items
 
-copying_lists : (t u v w : Tables) (token copy : Frame) (q parent : Page) (f : ℕ) (others : List Due) → Copying t u v w token copy q parent f others
-    → lists_of w ≡ zeroed (lists_of t) token.number (slot_page (slot_at t.core.slots token.number)) u.core.free copy q
-copying_lists t u v w token copy q parent f others z =
-    finished_lists v w z.finish
-    ∙ ap (λ (ds : List DueFill). record (lists_of v) { fills = drop 1 ds }) (ap (λ (x : Tables). x.fills.items) z.seat.rest ∙ ap (λ (x : Tables). x.fills.items) z.took.rest)
-    ∙ ap (λ (l : Lists). record l { fills = drop 1 t.fills.items }) (seated_lists u v copy q true z.seat ∙ ap (λ (l : Lists). seated_in l copy q true) (took_lists t u token z.took))
+  copying_lists : Copying → lists_of w ≡ zeroed (lists_of t) token.number (slot_page (slot_at t.core.slots token.number)) u.core.free copy q
+  copying_lists z =
+      finished_lists v w z.finish
+      ∙ ap (λ (ds : List DueFill). record (lists_of v) { fills = drop 1 ds }) (ap (λ (x : Tables). x.fills.items) z.seat.rest ∙ ap (λ (x : Tables). x.fills.items) z.took.rest)
+      ∙ ap (λ (l : Lists). record l { fills = drop 1 t.fills.items }) (seated_lists u v copy q true z.seat ∙ ap (λ (l : Lists). seated_in l copy q true) (took_lists t u token z.took))
 
-pub copying_rest : (t u v w : Tables) (token copy : Frame) (q parent : Page) (f : ℕ) (others : List Due)
-    → Copying t u v w token copy q parent f others → w ≡ record t { core = v.core; spaces = v.spaces; fills = w.fills }
-copying_rest t u v w token copy q parent f others z =
-    z.finish.rest
-    ∙ ap (λ (x : Tables). record x { fills = w.fills }) z.seat.rest
-    ∙ ap (λ (x : Tables). record x { core = v.core; spaces = v.spaces; fills = w.fills }) z.took.rest
+  pub copying_rest : Copying → w ≡ record t { core = v.core; spaces = v.spaces; fills = w.fills }
+  copying_rest z =
+      z.finish.rest
+      ∙ ap (λ (x : Tables). record x { fills = w.fills }) z.seat.rest
+      ∙ ap (λ (x : Tables). record x { core = v.core; spaces = v.spaces; fills = w.fills }) z.took.rest
 
-pub copy_ties : (t u v w : Tables) (token copy : Frame) (q parent : Page) (f : ℕ) (others : List Due) → Copying t u v w token copy q parent f others
-    → frame_of (state_of (placement_of (lists_of t)) q) ≡ None → Ties (lists_of t) (lists_of w)
-copy_ties t u v w token copy q parent f others z none =
-    subst (Ties (lists_of t)) (sym (copying_lists t u v w token copy q parent f others z))
-    (zeroed_ties (lists_of t) token.number (slot_page (slot_at t.core.slots token.number)) u.core.free copy q z.known refl z.writable z.there none)
+  pub copy_ties : Copying → frame_of (state_of (placement_of (lists_of t)) q) ≡ None → Ties (lists_of t) (lists_of w)
+  copy_ties z none =
+      subst (Ties (lists_of t)) (sym (copying_lists z))
+      (zeroed_ties (lists_of t) token.number (slot_page (slot_at t.core.slots token.number)) u.core.free copy q z.known refl z.writable z.there none)
 
--- the first free frame was taken
-copying_took : (t u v w : Tables) (token copy : Frame) (q parent : Page) (f : ℕ) (others : List Due) → Copying t u v w token copy q parent f others
-    → Took (lists_of t) (taken_frame (lists_of t) token.number (slot_page (slot_at t.core.slots token.number)) u.core.free) copy.number
-copying_took t u v w token copy q parent f others z =
-    let page = slot_page (slot_at t.core.slots token.number) in
-    let head : Head (lists_of t) token.number token page u.core.free = record { free = z.took.free; was = z.took.was } in
-    subst (Took (lists_of t) (taken_frame (lists_of t) token.number page u.core.free)) (sym (ap (λ (x : Frame). x.number) z.is)) (took_is (lists_of t) token.number token page u.core.free z.known head)
+  -- the first free frame was taken_frame
+  copying_took : Copying → Took (lists_of t) (taken_frame (lists_of t) token.number (slot_page (slot_at t.core.slots token.number)) u.core.free) copy.number
+  copying_took z =
+      let page = slot_page (slot_at t.core.slots token.number) in
+      let head : Head (lists_of t) token.number token page u.core.free = record { free = z.took.free; was = z.took.was } in
+      subst (Took (lists_of t) (taken_frame (lists_of t) token.number page u.core.free)) (sym (ap (λ (x : Frame). x.number) z.is)) (took_is (lists_of t) token.number token page u.core.free z.known head)
 
-copy_place : (t u v w : Tables) (token copy : Frame) (q parent : Page) (f : ℕ) (others : List Due) → Copying t u v w token copy q parent f others
-    → placement_of (lists_of w) ≡ filled (placement_of (lists_of t)) q
-copy_place t u v w token copy q parent f others z =
-    let l : Lists = taken_frame (lists_of t) token.number (slot_page (slot_at t.core.slots token.number)) u.core.free in
-    ap placement_of (copying_lists t u v w token copy q parent f others z)
-    ∙ ap (λ (p : Placement). record p { due = map due_shown (drop 1 t.fills.items) }) (fill_is (lists_of t) l copy q (copying_took t u v w token copy q parent f others z) z.writable z.there refl)
-    ∙ ap (λ (ds : List Due). record (fill (placement_of (lists_of t)) q) { due = ds }) (due_next t.fills.items q parent others z.due)
+  copy_place : Copying → placement_of (lists_of w) ≡ filled (placement_of (lists_of t)) q
+  copy_place z =
+      let l : Lists = taken_frame (lists_of t) token.number (slot_page (slot_at t.core.slots token.number)) u.core.free in
+      ap placement_of (copying_lists z)
+      ∙ ap (λ (p : Placement). record p { due = map due_shown (drop 1 t.fills.items) }) (fill_is (lists_of t) l copy q (copying_took z) z.writable z.there refl)
+      ∙ ap (λ (ds : List Due). record (fill (placement_of (lists_of t)) q) { due = ds }) (due_next t.fills.items q parent others z.due)
 
 -- the bytes of the parent's page
 copied_is : (t : Tables) (journal : List Entry) (stopped : Bool) (q parent : Page) (f : ℕ) (others : List Due) → Known (lists_of t)
@@ -165,7 +161,7 @@ copy_keeps size k q parent so can images image flat c =
     copy_coupled size k images image flat q q parent can.frame so (record { there = can.there; frameless = ap frame_of can.unfilled }) can.writable can.free can.unfilled
     (due_copied k.place.due q parent can.others can.first) can.valid c
 
-head_is : (fs : List ℕ) → 0 < length fs → (f : ℕ) × (rest : List ℕ) × (fs ≡ f ∷ rest)
+pub head_is : (fs : List ℕ) → 0 < length fs → (f : ℕ) × (rest : List ℕ) × (fs ≡ f ∷ rest)
 head_is [] l = absurd (omega arith)
 head_is (f ∷ rest) l = (f, rest, refl)
 

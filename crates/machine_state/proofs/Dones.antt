@@ -64,37 +64,37 @@ pub back_known : (t : Tables) (r : List Flight) (o n : Flight) → lists_of t �
     → Known (ending (record t { ring = r }) n)
 back_known t r o n e b k = ending_known (record t { ring = r }) o n (alike o n b) (subst Known e k)
 
--- What a call leaves.
-pub record Doing (t w : Tables) (r : List Flight) (o n : Flight) : Type 0 where
-  pub known : Known (lists_of t)
-  pub was : lists_of t ≡ ending (record t { ring = r }) o
-  pub back : IsBack o n
-  pub place : placement_of (lists_of w) ≡ done (placement_of (ending (record t { ring = r }) n))
-  pub all : LandedAll (record t { ring = r }) w (ending (record t { ring = r }) n)
+module _ (t w : Tables) (r : List Flight) (o n : Flight) where
+  -- What a call leaves.
+  pub record Doing : Type 0 where
+    pub known : Known (lists_of t)
+    pub was : lists_of t ≡ ending (record t { ring = r }) o
+    pub back : IsBack o n
+    pub place : placement_of (lists_of w) ≡ done (placement_of (ending (record t { ring = r }) n))
+    pub all : LandedAll (record t { ring = r }) w (ending (record t { ring = r }) n)
 
-done_place : (t w : Tables) (r : List Flight) (o n : Flight) → Doing t w r o n → placement_of (lists_of w) ≡ done (placement_of (lists_of t))
-done_place t w r o n d = d.place ∙ ap done (ending_place (record t { ring = r }) o n (alike o n d.back) ∙ sym (ap placement_of d.was))
+  done_place : Doing → placement_of (lists_of w) ≡ done (placement_of (lists_of t))
+  done_place d = d.place ∙ ap done (ending_place (record t { ring = r }) o n (alike o n d.back) ∙ sym (ap placement_of d.was))
 
-done_frames : (t w : Tables) (r : List Flight) (o n : Flight) → Doing t w r o n
-    → frames_of (lists_of w) ≡ landed (map transfer_shown t.ring) (brought n) (frames_of (lists_of t))
-done_frames t w r o n d =
-    d.all.frames ∙ ending_frames (record t { ring = r }) o n d.back (subst Known d.was d.known)
-    ∙ sym (ap (λ (l : Lists). landed l.transfers (brought n) (frames_of l)) d.was)
+  done_frames : Doing → frames_of (lists_of w) ≡ landed (map transfer_shown t.ring) (brought n) (frames_of (lists_of t))
+  done_frames d =
+      d.all.frames ∙ ending_frames (record t { ring = r }) o n d.back (subst Known d.was d.known)
+      ∙ sym (ap (λ (l : Lists). landed l.transfers (brought n) (frames_of l)) d.was)
 
-pub done_kernel : (t w : Tables) (r : List Flight) (o n : Flight) (journal : List Entry) (stopped : Bool) → Doing t w r o n
-    → kernel_by w (journal ++ entries.Done ∷ []) stopped ≡ done_step (kernel_by t journal stopped) (brought n)
-done_kernel t w r o n journal stopped d =
-    let rest = d.all.rest in
-    kernel_ext (kernel_by w (journal ++ entries.Done ∷ []) stopped) (done_step (kernel_by t journal stopped) (brought n))
-    (done_place t w r o n d)
-    (ap (λ (x : Tables). x.book.holdings) rest)
-    (ap (λ (x : Tables). Rattle.table_steps.specs.Machine.processes_of x.processes x.next_pid) rest)
-    (ap (λ (x : Tables). x.next_pid) rest)
-    (ap (λ (x : Tables). x.next_sid) rest)
-    (ap (λ (x : Tables). Rattle.table_steps.specs.View.starts_of x.fills.items) rest)
-    (done_frames t w r o n d)
-    refl
-    refl
+  pub done_kernel : (journal : List Entry) (stopped : Bool) → Doing
+      → kernel_by w (journal ++ entries.Done ∷ []) stopped ≡ done_step (kernel_by t journal stopped) (brought n)
+  done_kernel journal stopped d =
+      let rest = d.all.rest in
+      kernel_ext (kernel_by w (journal ++ entries.Done ∷ []) stopped) (done_step (kernel_by t journal stopped) (brought n))
+      (done_place d)
+      (ap (λ (x : Tables). x.book.holdings) rest)
+      (ap (λ (x : Tables). Rattle.table_steps.specs.Machine.processes_of x.processes x.next_pid) rest)
+      (ap (λ (x : Tables). x.next_pid) rest)
+      (ap (λ (x : Tables). x.next_sid) rest)
+      (ap (λ (x : Tables). Rattle.table_steps.specs.View.starts_of x.fills.items) rest)
+      (done_frames d)
+      refl
+      refl
 
 -- The bytes.
 

@@ -22,33 +22,17 @@ use Rattle.table_steps.specs.Tables.{Tables}
 use Rattle.machine_state.specs.declared.machine.Machine.TheInside.{Inside}
 use Rattle.table_steps.specs.Tied.{Tied}
 use Rattle.table_steps.specs.Sourced.{ImageNamed, AreNames, named_at, AreSourced}
-use Rattle.table_steps.specs.View.{Lists, placement_of, frames_of, starts_of}
+use Rattle.table_steps.specs.View.{placement_of, frames_of, starts_of}
 use Rattle.table_steps.specs.Machine.{Standing, KernelRuns, WereFound, lists_of, kernel_by, images_of, image_at, image_shown, before_of, processes_of, residents_of}
 use Rattle.machine_state.specs.Fields.{standing_of, HasRoom, RunsNow}
 use Rattle.table_steps.specs.Changing.{EnteredImage, started_place, processes_in, residents_in}
 use Rattle.machine_state.specs.Beginning.{StartedFirst, found_first, BeganFirst}
 use Rattle.table_steps.proofs.Kernels.{kernel_ext}
+use Rattle.table_steps.proofs.Moved.{tied_moved}
 use Rattle.machine_state.proofs.FirstBegins.{Before, same_number, new_first, same_named}
 use Rattle.machine_state.proofs.HoldingSteps.{begin_keeps}
 use Rattle.machine_state.proofs.Standings.{holders_by, all_before, found_none}
 use Rattle.machine_state.proofs.AddedRing.{ring_added, beside_ring}
-
--- who resides says nothing of the tie
-tied_still : (l : Lists) (rs : List Residence) → Tied l → Tied (record l { residents = rs })
-tied_still l rs k = record {
-  few_frames = k.few_frames;
-  few_images = k.few_images;
-  sound = k.sound;
-  small_texts = k.small_texts;
-  few_pages = k.few_pages;
-  shared = k.shared;
-  alike = k.alike;
-  filled = k.filled;
-  counted = k.counted;
-  marked = k.marked;
-  whole = k.whole;
-  once = k.once;
-}
 
 -- It began, with the pieces that were found.
 pub record Began (m : Inside) (pid image : ℕ) (facts : Image) (hs : Holdings) (u : Tables) : Type 0 where
@@ -122,54 +106,52 @@ began_kernel m pid image facts hs u b j s =
     refl
     refl
 
--- the pieces are those of the step
-began_pieces : (m : Inside) (pid image : ℕ) (facts : Image) (hs : Holdings) (u : Tables) (b : Began m pid image facts hs u)
-    → place_all m.tables.book.size m.tables.book.holdings (begin_asks (placement_of (lists_of m.tables)) m.tables.next_pid image b.began.named.facts) ≡ Ok hs
-began_pieces m pid image facts hs u b =
-    let t : Tables = m.tables in
-    let p : Placement = placement_of (lists_of t) in
-    ap (λ (x : Image). place_all t.book.size t.book.holdings (begin_asks p t.next_pid image x)) (same_named t.images.items image b.began.named facts b.began.is b.is)
-    ∙ ap (λ (n : ℕ). place_all t.book.size t.book.holdings (begin_asks p n image facts)) (sym b.before.may.next)
-    ∙ b.placed
+module _ (m : Inside) (pid image : ℕ) (facts : Image) (hs : Holdings) (u : Tables) where
+  -- the pieces are those of the step
+  began_pieces : (b : Began m pid image facts hs u)
+      → place_all m.tables.book.size m.tables.book.holdings (begin_asks (placement_of (lists_of m.tables)) m.tables.next_pid image b.began.named.facts) ≡ Ok hs
+  began_pieces b =
+      let t : Tables = m.tables in
+      let p : Placement = placement_of (lists_of t) in
+      ap (λ (x : Image). place_all t.book.size t.book.holdings (begin_asks p t.next_pid image x)) (same_named t.images.items image b.began.named facts b.began.is b.is)
+      ∙ ap (λ (n : ℕ). place_all t.book.size t.book.holdings (begin_asks p n image facts)) (sym b.before.may.next)
+      ∙ b.placed
 
--- The invariant.
+  -- The invariant.
 
-began_runs : (m : Inside) (pid image : ℕ) (facts : Image) (hs : Holdings) (u : Tables) (b : Began m pid image facts hs u) (s : Bool) → s ≡ m.stopped
-    → KernelRuns (kernel_by u m.journal.items s) (lists_of u) m.tables.book.size
-began_runs m pid image facts hs u b s same =
-    let t : Tables = m.tables in
-    let k : Kernel = kernel_by t m.journal.items m.stopped in
-    let size : ℕ = t.book.size in
-    let named : ImageNamed = b.began.named in
-    let number : t.next_sid ≡ t.next_pid = same_number m pid image b.before in
-    let r : KernelRuns k (lists_of t) size = b.before.runs in
-    let tied : Tied (lists_of u) =
-    subst Tied (sym (ap lists_of b.began.one_more.rest)) (tied_still (lists_of b.began.entered_in) (residents_of u.processes u.next_pid) b.began.entered.shows.known.tied) in
-    let runs : KernelRuns (begin_step k hs image named.name named.facts) (lists_of u) size = record {
-      sound = begin_sound size k hs image named.name named.facts r.sound r.numbered number (began_pieces m pid image facts hs u b);
-      numbered = begin_numbered k hs image named.name named.facts number r.numbered;
-      due = begins_due k hs image named.name named.facts r.numbered number r.due;
-      tied = tied;
-    } in
-    subst (λ (x : Bool). KernelRuns (kernel_by u m.journal.items x) (lists_of u) size) (sym same)
-    (subst (λ (x : Kernel). KernelRuns x (lists_of u) size) (sym (began_kernel m pid image facts hs u b m.journal.items m.stopped)) runs)
+  began_runs : (b : Began m pid image facts hs u) (s : Bool) → s ≡ m.stopped → KernelRuns (kernel_by u m.journal.items s) (lists_of u) m.tables.book.size
+  began_runs b s same =
+      let t : Tables = m.tables in
+      let k : Kernel = kernel_by t m.journal.items m.stopped in
+      let size : ℕ = t.book.size in
+      let named : ImageNamed = b.began.named in
+      let number : t.next_sid ≡ t.next_pid = same_number m pid image b.before in
+      let r : KernelRuns k (lists_of t) size = b.before.runs in
+      let tied : Tied (lists_of u) =
+      subst Tied (sym (ap lists_of b.began.one_more.rest)) (tied_moved (lists_of b.began.entered_in) (residents_of u.processes u.next_pid) b.began.entered.shows.known.tied) in
+      let runs : KernelRuns (begin_step k hs image named.name named.facts) (lists_of u) size = record {
+        sound = begin_sound size k hs image named.name named.facts r.sound r.numbered number (began_pieces b);
+        numbered = begin_numbered k hs image named.name named.facts number r.numbered;
+        due = begins_due k hs image named.name named.facts r.numbered number r.due;
+        tied = tied;
+      } in
+      subst (λ (x : Bool). KernelRuns (kernel_by u m.journal.items x) (lists_of u) size) (sym same)
+      (subst (λ (x : Kernel). KernelRuns x (lists_of u) size) (sym (began_kernel m pid image facts hs u b m.journal.items m.stopped)) runs)
 
--- spaces have the images that they had
-began_images : (m : Inside) (pid image : ℕ) (facts : Image) (hs : Holdings) (u : Tables) (b : Began m pid image facts hs u) (sid : ℕ) → sid ≢ m.tables.next_pid
-    → image_at u sid ≡ image_at m.tables sid
-began_images m pid image facts hs u b sid d =
-    ap (λ (p : Placement). image_of p sid) (began_place m pid image facts hs u b)
-    ∙ ap image_in (added_other sid (placement_of (lists_of m.tables)).spaces (new_pages m.tables.next_pid image b.began.named.facts) (λ e. d (sym e)))
+  -- spaces have the images that they had
+  began_images : (b : Began m pid image facts hs u) (sid : ℕ) → sid ≢ m.tables.next_pid → image_at u sid ≡ image_at m.tables sid
+  began_images b sid d =
+      ap (λ (p : Placement). image_of p sid) (began_place m pid image facts hs u b)
+      ∙ ap image_in (added_other sid (placement_of (lists_of m.tables)).spaces (new_pages m.tables.next_pid image b.began.named.facts) (λ e. d (sym e)))
 
-began_ring : (m : Inside) (pid image : ℕ) (facts : Image) (hs : Holdings) (u : Tables) (b : Began m pid image facts hs u)
-    → AreSourced (images_of m.tables) (image_at u) hs m.tables.book.size m.tables.ring
-began_ring m pid image facts hs u b =
-    let t : Tables = m.tables in
-    let p : Placement = placement_of (lists_of t) in
-    ring_added (images_of t) (image_at t) (image_at u) t.book.size t.next_pid t.book.holdings hs
-    (begin_asks p t.next_pid image b.began.named.facts) (began_pieces m pid image facts hs u b) (began_images m pid image facts hs u b) t.ring
-    (beside_ring p t.next_pid (new_first m pid image b.before) t.ring b.before.runs.sound.owner.frames.moves)
-    (subst (λ (xs : Holdings). AreSourced (images_of t) (image_at t) xs t.book.size t.ring) b.before.whole b.before.now.stands.ring)
+  began_ring : (b : Began m pid image facts hs u) → AreSourced (images_of m.tables) (image_at u) hs m.tables.book.size m.tables.ring
+  began_ring b =
+      let t : Tables = m.tables in
+      let p : Placement = placement_of (lists_of t) in
+      ring_added (images_of t) (image_at t) (image_at u) t.book.size t.next_pid t.book.holdings hs
+      (begin_asks p t.next_pid image b.began.named.facts) (began_pieces b) (began_images b) t.ring
+      (beside_ring p t.next_pid (new_first m pid image b.before) t.ring b.before.runs.sound.owner.frames.moves)
+      (subst (λ (xs : Holdings). AreSourced (images_of t) (image_at t) xs t.book.size t.ring) b.before.whole b.before.now.stands.ring)
 
 -- the machine with these tables, where no piece waits for an entry
 abbrev pub begun : Inside → Tables → Bool → Inside

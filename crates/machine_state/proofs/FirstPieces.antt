@@ -30,7 +30,7 @@ use Rattle.machine_state.specs.Beginning.{HoldsNone, MayLookFirst, LookedFirst}
 use Rattle.table_steps.proofs.Shows.{texts_shown, text_length}
 use Rattle.table_steps.proofs.AddedTied.{facts_pages}
 
-abbrev want : Owner → ℕ → Want
+abbrev pub want : Owner → ℕ → Want
 want owner blocks = record { owner = owner; blocks = blocks }
 
 -- what a first process wants beside the text
@@ -42,10 +42,10 @@ abbrev pub all_wants : ℕ → ℕ → Image → List Want
 all_wants pid image facts = want (owners.Text image) (2 * text_pages_of facts) ∷ own_wants pid facts
 
 -- an owner that holds nothing wants all its pieces
-none_held : (hs : Holdings) (owner : Owner) → lengths owner hs ≡ [] → length (of_owner owner hs) ≡ 0
+pub none_held : (hs : Holdings) (owner : Owner) → lengths owner hs ≡ [] → length (of_owner owner hs) ≡ 0
 none_held hs owner e = sym (length-map (of_owner owner hs) (λ (h : Held). h.length)) ∙ ap (λ (ns : List ℕ). length ns) e
 
-all_more : (hs : Holdings) (owner : Owner) (blocks : ℕ) → lengths owner hs ≡ [] → more_pieces hs owner blocks ≡ wanted owner (pieces_of owner blocks)
+pub all_more : (hs : Holdings) (owner : Owner) (blocks : ℕ) → lengths owner hs ≡ [] → more_pieces hs owner blocks ≡ wanted owner (pieces_of owner blocks)
 all_more hs owner blocks e = ap (λ (k : ℕ). wanted owner (drop k (pieces_of owner blocks))) (none_held hs owner e)
 
 own_asks : (p : Placement) (hs : Holdings) (pid image : ℕ) (facts : Image) → HoldsNone p hs pid image
@@ -109,7 +109,7 @@ can_own hs pid facts = record {
   each = (tt, (tt, (refl, tt)));
 }
 
-nil_of : {A : Type 0} (xs : List A) → length xs ≡ 0 → xs ≡ []
+pub nil_of : {A : Type 0} (xs : List A) → length xs ≡ 0 → xs ≡ []
 nil_of [] e = refl
 nil_of (x ∷ xs) e = absurd (omega (arith, e))
 
@@ -122,7 +122,7 @@ can_all p hs pid image facts h none = record {
 
 -- The calls.
 
-abbrev no_want : Want
+abbrev pub no_want : Want
 no_want = want (owners.Data 0) 0
 
 abbrev three_wants : ℕ → ℕ → Image → List Want

@@ -53,7 +53,7 @@ pub record IsPaged (k : Kernel) (x : Space) : Type 0 where
   pub there : numbered space_number x.sid k.place.spaces ≡ Some pages
   pub sized : IsSized x pages
 
-paged : (k : Kernel) (x : Space) (o : Option SpacePages) → numbered space_number x.sid k.place.spaces ≡ o → Fits (Some x) o → IsPaged k x
+pub paged : (k : Kernel) (x : Space) (o : Option SpacePages) → numbered space_number x.sid k.place.spaces ≡ o → Fits (Some x) o → IsPaged k x
 paged k x None e h = absurd h
 paged k x (Some y) e h = record { pages = y; there = e; sized = h }
 

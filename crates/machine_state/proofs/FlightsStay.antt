@@ -30,17 +30,20 @@ use Rattle.page_model.specs.Pages.{SpacePages, numbered, frame_of}
 use Rattle.page_model.specs.Placement.{Placement, Transfer, Source, Errand, Writes, Reads, Moving, moving, moving_state, parts_of}
 use Rattle.page_model.specs.Placement.{space_number, image_of, image_in, state_of, mark_of, sharers, new_pages, IsThere}
 use Rattle.page_model.specs.Moves.{drop_all}
-use Rattle.page_model.specs.Place.{Changing, place_change, sized, enter_image, give_up, give_up_unless, remove_space, leave_text, leave_text_by}
-use Rattle.page_model.specs.Place.{pages_of_space, pages_of_text, resize, facts_numbered}
+use Rattle.page_model.specs.Place.{Changing, place_change, enter_image, give_up, give_up_unless, remove_space, leave_text, leave_text_by}
+use Rattle.page_model.specs.Place.{pages_of_space, pages_of_text, facts_numbered}
 use Rattle.page_model.specs.Ownership.{Each, IsMoving, OwnsFrames, OneOwner, owner_of, block_of, needs_blocks, needs_blocks_by}
 use Rattle.table_steps.proofs.Local.{none_some}
-use Rattle.table_steps.proofs.PageLawsListsPages.{mapped, changed_same, changed_other}
 use Rattle.table_steps.proofs.Aside.{places_found}
 use Rattle.table_steps.proofs.Puts.{drop_all_kept, leave_all_kept}
 use Rattle.table_steps.proofs.PageLawsMovesSteps.{page_in, frame_of_moving}
-use Rattle.table_steps.proofs.PageLawsOwnershipChanges.{dropped_pages, added_other, removed_other, removed_same}
+use Rattle.table_steps.proofs.PageLawsOwnershipChanges.{added_other, removed_other, removed_same}
 use Rattle.kernel_model.specs.ChangeStep.{text_given_back, given_back_unless, holdings_after}
-use Rattle.table_steps.proofs.Shapes.{shape_in, Shaped, image_kept, shaped_by_puts}
+use Rattle.kernel_model.specs.Asks.{HasSpace}
+use Rattle.kernel_laws.proofs.Machine.Done.{some_of}
+use Rattle.kernel_laws.proofs.Machine.Breaks.{resized_image}
+use Rattle.kernel_laws.proofs.Machine.Gone.{none_kept}
+use Rattle.table_steps.proofs.Shapes.{Shaped, image_kept, shaped_by_puts}
 use Rattle.table_steps.proofs.Takes.{still_found}
 use Rattle.table_steps.specs.Sourced.{ImageNamed, IsOwnBlock, IsRangeOf, named_at, IsSourced, AreSourcedIn, AreOwnBlocks}
 use Rattle.table_steps.specs.Sourced.{AreSourced}
@@ -93,10 +96,6 @@ after_block c hs p q Sleep owner v block e = e
 after_block c hs p q (End status) owner v block e =
     unless_block c.borrowed hs c.sid (image_of p c.sid) _ owner v block (kept_block _ (owners.U c.pid) owner 0 v block e)
 
-some_of : {A : Type 0} (o : Option A) → IsSome o → (x : A) × (o ≡ Some x)
-some_of None h = absurd cc
-some_of (Some x) h = (x, refl)
-
 -- a block that a page has after it is the one that it had
 same_block : (o n : Option ℕ) (block : ℕ) → o ≡ Some block → IsSome n → ((x : ℕ) → n ≡ Some x → o ≡ Some x) → n ≡ Some block
 same_block o n block e h back =
@@ -125,17 +124,10 @@ moving_needs p q (Reads s d) f h = ap (λ (s : PageState). needs_blocks_by q s (
 
 -- Images. A space that is there before and after a change has its image still.
 
-abbrev IsSpace : Placement → ℕ → Type 0
-IsSpace p n = numbered space_number n p.spaces ≢ None
-
-no_shape : (o r : Option SpacePages) → shape_in r ≡ shape_in o → o ≡ None → r ≡ None
-no_shape o None e n = refl
-no_shape o (Some x) e n = absurd (let h : shape_in (Some x) ≡ shape_in None = e ∙ ap shape_in n in cc)
-
 -- by the space that goes
-left_image : (p q : Placement) (sid n : ℕ) → Shaped (remove_space p sid) q → IsSpace q n → image_of q n ≡ image_of p n
+left_image : (p q : Placement) (sid n : ℕ) → Shaped (remove_space p sid) q → HasSpace q n → image_of q n ≡ image_of p n
 left_image p q sid n s there = elim (cases_eq n sid) [
-  | inl e ↦ absurd (there (no_shape (numbered space_number n (remove_space p sid).spaces) (numbered space_number n q.spaces) (s.spaces n)
+  | inl e ↦ absurd (there (none_kept (numbered space_number n (remove_space p sid).spaces) (numbered space_number n q.spaces) (s.spaces n)
       (ap (λ (m : ℕ). numbered space_number m (remove_space p sid).spaces) e ∙ removed_same sid p.spaces)))
   | inr d ↦ image_kept (remove_space p sid) q s n ∙ ap image_in (removed_other sid n p.spaces d)
 ]
@@ -147,36 +139,16 @@ text_shaped p image = go (sharers p image)
     go zero = leave_all_kept shaped_by_puts (pages_of_text p image) p
     go (suc n) = leave_all_kept shaped_by_puts [] p
 
-give_up_image : (p : Placement) (sid n : ℕ) → IsSpace (give_up p sid) n → image_of (give_up p sid) n ≡ image_of p n
+give_up_image : (p : Placement) (sid n : ℕ) → HasSpace (give_up p sid) n → image_of (give_up p sid) n ≡ image_of p n
 give_up_image p sid n there =
     let d : Placement = drop_all p (pages_of_space p sid) in
     left_image d (give_up p sid) sid n (text_shaped (remove_space d sid) (image_of p sid)) there
     ∙ image_kept p d (drop_all_kept shaped_by_puts (pages_of_space p sid) p) n
 
-unless_image : (b : Bool) (p : Placement) (sid n : ℕ) → IsSpace (give_up_unless b p sid) n
+unless_image : (b : Bool) (p : Placement) (sid n : ℕ) → HasSpace (give_up_unless b p sid) n
     → image_of (give_up_unless b p sid) n ≡ image_of p n
 unless_image true p sid n there = refl
 unless_image false p sid n there = give_up_image p sid n there
-
-resize_image : (p : Placement) (sid d t n : ℕ) → image_of (resize p sid d t) n ≡ image_of p n
-resize_image p sid d t n = elim (cases_eq n sid) [
-  | inl e ↦ subst (λ (m : ℕ). image_of (resize p sid d t) m ≡ image_of p m) (sym e)
-      (ap image_in (changed_same space_number sid cut (λ x. refl) q.spaces) ∙ same (numbered space_number sid q.spaces) ∙ before sid)
-  | inr o ↦ ap image_in (changed_other space_number sid n cut (λ x. refl) o q.spaces) ∙ before n
-]
-  where
-    q : Placement
-    q = drop_all p (dropped_pages p sid d t)
-
-    cut : SpacePages → SpacePages
-    cut x = record x { data_pages = sized d x.data_pages; stack_pages = sized t x.stack_pages }
-
-    same : (o : Option SpacePages) → image_in (mapped cut o) ≡ image_in o
-    same None = refl
-    same (Some x) = refl
-
-    before : (m : ℕ) → image_of q m ≡ image_of p m
-    before m = image_kept p q (drop_all_kept shaped_by_puts (dropped_pages p sid d t) p) m
 
 enter_image_of : (p : Placement) (next image n : ℕ) (facts : Option Image) → next ≢ n
     → image_of (enter_image p next image facts) n ≡ image_of p n
@@ -184,10 +156,10 @@ enter_image_of p next image n None d = refl
 enter_image_of p next image n (Some facts) d = ap image_in (added_other n p.spaces (new_pages next image facts) d)
 
 image_stays : (c : Changing) (p : Placement) (change : Change) (n : ℕ) → c.next_sid ≢ n
-    → IsSpace (place_change c p change) n
+    → HasSpace (place_change c p change) n
     → image_of (place_change c p change) n ≡ image_of p n
 image_stays c p Keep n d there = refl
-image_stays c p (Resize x y) n d there = resize_image p c.sid x y n
+image_stays c p (Resize x y) n d there = resized_image p c.sid x y n
 image_stays c p (Fork child) n d there = ap image_in (added_other n p.spaces _ d)
 image_stays c p (Lend child) n d there = refl
 image_stays c p (Exec image top) n d there =
@@ -253,7 +225,7 @@ pub record Behind (c : Changing) (size : ℕ) (lives : ℕ → Bool) (p : Placem
   pub given : now ≡ holdings_after c hs p (place_change c p change) change
 
 -- a page that is there is of a space that is there
-data_space : (p : Placement) (sid v : ℕ) → IsThere p (Data sid v) → IsSpace p sid
+data_space : (p : Placement) (sid v : ℕ) → IsThere p (Data sid v) → HasSpace p sid
 data_space p sid v there none = absurd (let h : v < 0 = subst (λ (o : Option SpacePages). v < length (Rattle.page_model.specs.Pages.data_in o)) none there in omega arith)
 
 each_stays : (c : Changing) (size : ℕ) (lives : ℕ → Bool) (p : Placement) (change : Change)

@@ -34,7 +34,7 @@ use Rattle.kernel_model.specs.Numbers.{Numbered}
 use Rattle.kernel_model.specs.Coupled.{Coupled}
 use Rattle.kernel_model.specs.UPage.{u_page, regs_in}
 use Rattle.kernel_model.specs.Unit.{u_bytes, proc_of}
-use Rattle.table_steps.proofs.Swaps.{u_found, out_coupled, in_coupled_any}
+use Rattle.table_steps.proofs.Swaps.{out_coupled, in_coupled_any}
 use Rattle.table_steps.specs.Tables.{Tables}
 use Rattle.machine_state.specs.declared.machine.Machine.TheInside.{Inside}
 use Rattle.table_steps.specs.KernelTablesShown.{space_shown}
@@ -205,9 +205,6 @@ bytes_are t j b pid bytes l u =
 
 -- Blocks.
 
-pub block_there : (size : ℕ) (k : Kernel) (pid : ℕ) → Sound size k → lives_at k.processes pid ≡ true → IsSome (block_in k.holdings (owners.U pid) 0)
-block_there size k pid s a = u_found size k pid s a
-
 pub block_place : (size : ℕ) (k : Kernel) (pid block : ℕ) → Sound size k → block_in k.holdings (owners.U pid) 0 ≡ Some block
     → IsPlace size k.holdings (owners.U pid) block
 block_place size k pid block s e =
@@ -216,26 +213,25 @@ block_place size k pid block s e =
 
 -- The device.
 
-pub written : (k : Kernel) (pid block : ℕ) (bytes : List ℕ) (before after : Option SwapImage) → u_block k pid ≡ Some block
-    → bytes ≡ u_bytes k (proc_of k pid) → WritesPage before block bytes after → WritesU k pid before after
-written k pid block bytes None after e b h = h
-written k pid block bytes (Some image) after e b h =
-    h ∙ ap (λ (x : List ℕ). Some (page_written image block x)) b ∙ ap (λ (o : Option ℕ). Some (write_at image o (u_bytes k (proc_of k pid)))) (sym e)
+module _ (k : Kernel) (pid block : ℕ) where
+  pub written : (bytes : List ℕ) (before after : Option SwapImage) → u_block k pid ≡ Some block
+      → bytes ≡ u_bytes k (proc_of k pid) → WritesPage before block bytes after → WritesU k pid before after
+  written bytes None after e b h = h
+  written bytes (Some image) after e b h =
+      h ∙ ap (λ (x : List ℕ). Some (page_written image block x)) b ∙ ap (λ (o : Option ℕ). Some (write_at image o (u_bytes k (proc_of k pid)))) (sym e)
 
-pub u_asked : (k : Kernel) (pid block : ℕ) (before after : Option SwapImage) → u_block k pid ≡ Some block → ReadsPage before block after
-    → AsksU k pid before after
-u_asked k pid block None after e h = h
-u_asked k pid block (Some image) after e h = h ∙ ap (λ (o : Option ℕ). Some (read_at image o)) (sym e)
+  pub u_asked : (before after : Option SwapImage) → u_block k pid ≡ Some block → ReadsPage before block after → AsksU k pid before after
+  u_asked None after e h = h
+  u_asked (Some image) after e h = h ∙ ap (λ (o : Option ℕ). Some (read_at image o)) (sym e)
 
-pub u_spoiled : (k : Kernel) (pid block : ℕ) (before after : Option SwapImage) → u_block k pid ≡ Some block → SpoilsPage before block after
-    → SpoilsU k pid before after
-u_spoiled k pid block None after e h = h.2
-u_spoiled k pid block (Some image) after e h = (h.0, h.1, h.2 ∙ ap (λ (o : Option ℕ). Some (write_at image o h.0)) (sym e))
+  pub u_spoiled : (before after : Option SwapImage) → u_block k pid ≡ Some block → SpoilsPage before block after → SpoilsU k pid before after
+  u_spoiled None after e h = h.2
+  u_spoiled (Some image) after e h = (h.0, h.1, h.2 ∙ ap (λ (o : Option ℕ). Some (write_at image o h.0)) (sym e))
 
-pub read_regs : (k : Kernel) (pid block : ℕ) (bytes : List ℕ) (regs : Regs) (image : Option SwapImage) → u_block k pid ≡ Some block
-    → regs ≡ regs_in bytes → HoldsPage (bytes_told image) block bytes → AreStored k pid image regs
-read_regs k pid block bytes regs None e r h = tt
-read_regs k pid block bytes regs (Some image) e r h = r ∙ ap regs_in (h ∙ sym (ap (stored_at image.bytes) e))
+  pub read_regs : (bytes : List ℕ) (regs : Regs) (image : Option SwapImage) → u_block k pid ≡ Some block
+      → regs ≡ regs_in bytes → HoldsPage (bytes_told image) block bytes → AreStored k pid image regs
+  read_regs bytes regs None e r h = tt
+  read_regs bytes regs (Some image) e r h = r ∙ ap regs_in (h ∙ sym (ap (stored_at image.bytes) e))
 
 -- Coupling.
 

@@ -190,12 +190,12 @@ own_space (HoldsSpace sid) change m e = refl
 own_space (LendsSpace sid child) change m e = absurd m
 own_space (Ended status) change m e = absurd m
 
-facts_at : (ns : List ImageNamed) (i : ℕ) → i < length ns → (f : Image) × (slice_get (facts_named ns) i ≡ Some f)
+pub facts_at : (ns : List ImageNamed) (i : ℕ) → i < length ns → (f : Image) × (slice_get (facts_named ns) i ≡ Some f)
 facts_at [] i l = absurd (omega (arith, l))
 facts_at (x ∷ ns) zero l = (x.facts, refl)
 facts_at (x ∷ ns) (suc i) l = facts_at ns i (omega (arith, l))
 
-facts_there : (ns : List ImageNamed) (image : ℕ) → 0 < image → image ≤ length ns → (f : Image) × (facts_numbered (facts_named ns) image ≡ Some f)
+pub facts_there : (ns : List ImageNamed) (image : ℕ) → 0 < image → image ≤ length ns → (f : Image) × (facts_numbered (facts_named ns) image ≡ Some f)
 facts_there ns zero low high = absurd (omega (arith, low))
 facts_there ns (suc i) low high = facts_at ns i (omega (arith, high))
 

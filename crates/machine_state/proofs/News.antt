@@ -37,6 +37,7 @@ use Rattle.swap_book.specs.Holdings.{Holdings}
 use Rattle.swap_book.specs.declared.Held.{Held}
 use Rattle.vm_facts.specs.declared.params.Params.{Params}
 use Rattle.vm_facts.specs.declared.entry.Entry.{Entry}
+use Rattle.core_map.proofs.FreshLemmas.{no_page_fresh}
 use Rattle.table_steps.specs.Space.{Places}
 use Rattle.transfer_ring.specs.declared.transfer.Transfer.{Transfer as Flight}
 use Rattle.table_steps.specs.Tables.{Tables}
@@ -82,19 +83,8 @@ fresh_at (suc n) g a b = elim (cases_eq g (suc n)) [
   | inr d ↦ get_or_append_left (fresh_slots n) (tokens.Free (zero_frame (suc n)) None ∷ []) tokens.Away g (omega (arith, fresh_length n)) ∙ fresh_at n g a (omega arith)
 ]
 
-snoc_page : (xs : List Token) (s : Token) (f : ℕ) → token_page s ≡ None → token_page (slot_at xs f) ≡ None → token_page (slot_at (xs ++ s ∷ []) f) ≡ None
-snoc_page [] s zero a b = a
-snoc_page [] s (suc f) a b = refl
-snoc_page (x ∷ xs) s zero a b = b
-snoc_page (x ∷ xs) s (suc f) a b = snoc_page xs s f a b
-
-fresh_page : (n f : ℕ) → token_page (slot_at (fresh_slots n) f) ≡ None
-fresh_page zero zero = refl
-fresh_page zero (suc f) = refl
-fresh_page (suc n) f = snoc_page (fresh_slots n) (tokens.Free (zero_frame (suc n)) None) f refl (fresh_page n f)
-
 fresh_holding : (n : ℕ) (q : Page) → frame_holding (fresh_slots n) q ≡ None
-fresh_holding n q = holding_none (fresh_slots n) q (λ f e. absurd (let k = sym (fresh_page n f) ∙ e in cc))
+fresh_holding n q = holding_none (fresh_slots n) q (λ f e. absurd (let k = sym (no_page_fresh n f) ∙ e in cc))
 
 -- Lists that are the same all over.
 
@@ -181,7 +171,7 @@ new_runs facts frames size some few images sound = record {
     alike = tt;
     filled = tt;
     counted = λ i l m. none_shared i;
-    marked = λ f token q mark e. absurd (let x : None ≡ Some q = sym (fresh_page frames f) ∙ ap token_page e in cc);
+    marked = λ f token q mark e. absurd (let x : None ≡ Some q = sym (no_page_fresh frames f) ∙ ap token_page e in cc);
     whole = tt;
     once = tt;
   };

@@ -82,33 +82,31 @@ part_swap : (x : From) (old new : FileNotes) → source_of x ≡ FromSwap → As
 part_swap (froms.Swap block) old new kind h = h
 part_swap (froms.File id offset count) old new kind h = absurd cc
 
-parts_swap : (ns : List ImageNamed) (f : ℕ → ℕ) (hs : Holdings) (size : ℕ) (xs : List Inbound) (old new : FileNotes)
-    → AreSourcedIn ns f hs size FromSwap xs → AsksFiles xs old new → new ≡ old
-parts_swap ns f hs size [] old new r h = h
-parts_swap ns f hs size (x ∷ xs) old new r h = parts_swap ns f hs size xs h.0 new r.2 h.2 ∙ part_swap x.source old h.0 r.0 h.1
+module _ (ns : List ImageNamed) (f : ℕ → ℕ) (hs : Holdings) (size : ℕ) where
+  parts_swap : (xs : List Inbound) (old new : FileNotes) → AreSourcedIn ns f hs size FromSwap xs → AsksFiles xs old new → new ≡ old
+  parts_swap [] old new r h = h
+  parts_swap (x ∷ xs) old new r h = parts_swap xs h.0 new r.2 h.2 ∙ part_swap x.source old h.0 r.0 h.1
 
-some_swap : (ns : List ImageNamed) (f : ℕ → ℕ) (hs : Holdings) (size : ℕ) (xs : List Inbound) (old new : FileNotes)
-    → AreSourcedIn ns f hs size FromSwap xs → AsksSomeFiles xs old new → new ≡ old
-some_swap ns f hs size [] old new r h = absurd h
-some_swap ns f hs size (x ∷ xs) old new r (inl h) = part_swap x.source old new r.0 h
-some_swap ns f hs size (x ∷ xs) old new r (inr h) = some_swap ns f hs size xs h.0 new r.2 h.2 ∙ part_swap x.source old h.0 r.0 h.1
+  some_swap : (xs : List Inbound) (old new : FileNotes) → AreSourcedIn ns f hs size FromSwap xs → AsksSomeFiles xs old new → new ≡ old
+  some_swap [] old new r h = absurd h
+  some_swap (x ∷ xs) old new r (inl h) = part_swap x.source old new r.0 h
+  some_swap (x ∷ xs) old new r (inr h) = some_swap xs h.0 new r.2 h.2 ∙ part_swap x.source old h.0 r.0 h.1
 
--- Of either.
+  -- Of either.
 
-parts_noted : (ns : List ImageNamed) (f : ℕ → ℕ) (hs : Holdings) (size : ℕ) (s : Source) (demanded : Page) (xs : List Inbound) (old new : FileNotes)
-    → AreSourcedIn ns f hs size s xs → AsksFiles xs old new → new ≡ after_requests (errand_asked (files_named ns) f (Reads s demanded) (map in_part xs)) old
-parts_noted ns f hs size FromSwap demanded xs old new r h = parts_swap ns f hs size xs old new r h
-parts_noted ns f hs size FromFile demanded xs old new r h = parts_file ns f hs size xs old new r h
+  parts_noted : (s : Source) (demanded : Page) (xs : List Inbound) (old new : FileNotes)
+      → AreSourcedIn ns f hs size s xs → AsksFiles xs old new → new ≡ after_requests (errand_asked (files_named ns) f (Reads s demanded) (map in_part xs)) old
+  parts_noted FromSwap demanded xs old new r h = parts_swap xs old new r h
+  parts_noted FromFile demanded xs old new r h = parts_file ns f hs size xs old new r h
 
-kind_file : (ns : List ImageNamed) (f : ℕ → ℕ) (hs : Holdings) (size : ℕ) (s : Source) (xs : List Inbound) (old new : FileNotes)
-    → s ≡ FromFile → AreSourcedIn ns f hs size s xs → AsksSomeFiles xs old new → AskedUpTo (files_named ns) f (map in_part xs) old new
-kind_file ns f hs size FromSwap xs old new e r h = absurd cc
-kind_file ns f hs size FromFile xs old new e r h = some_file ns f hs size xs old new r h
+  kind_file : (s : Source) (xs : List Inbound) (old new : FileNotes)
+      → s ≡ FromFile → AreSourcedIn ns f hs size s xs → AsksSomeFiles xs old new → AskedUpTo (files_named ns) f (map in_part xs) old new
+  kind_file FromSwap xs old new e r h = absurd cc
+  kind_file FromFile xs old new e r h = some_file ns f hs size xs old new r h
 
-kind_swap : (ns : List ImageNamed) (f : ℕ → ℕ) (hs : Holdings) (size : ℕ) (s : Source) (xs : List Inbound) (old new : FileNotes)
-    → s ≡ FromSwap → AreSourcedIn ns f hs size s xs → AsksSomeFiles xs old new → new ≡ old
-kind_swap ns f hs size FromSwap xs old new e r h = some_swap ns f hs size xs old new r h
-kind_swap ns f hs size FromFile xs old new e r h = absurd cc
+  kind_swap : (s : Source) (xs : List Inbound) (old new : FileNotes) → s ≡ FromSwap → AreSourcedIn ns f hs size s xs → AsksSomeFiles xs old new → new ≡ old
+  kind_swap FromSwap xs old new e r h = some_swap xs old new r h
+  kind_swap FromFile xs old new e r h = absurd cc
 
 -- The oldest transfer.
 

@@ -149,27 +149,25 @@ none_of_source : (x : From) (new : Option SwapImage) → AsksSource x None new �
 none_of_source (froms.Swap block) new h = h
 none_of_source (froms.File id offset count) new h = h
 
-swap_asked : (ns : List ImageNamed) (f : ℕ → ℕ) (hs : Holdings) (size : ℕ) (image : SwapImage) (xs : List Inbound) (new : Option SwapImage)
-    → AreSourcedIn ns f hs size FromSwap xs → AsksParts xs (Some image) new
-    → new ≡ Some (with_requests (pages_asked hs SwapRead (map in_part xs)) image)
-swap_asked ns f hs size image [] new r h = h
-swap_asked ns f hs size image (x ∷ xs) new r h =
-    let next : SwapImage = read_at image (block_of hs x.page) in
-    let one : h.0 ≡ Some next = source_asked ns f hs size image x.page x.source h.0 r.0 r.1 h.1 in
-    swap_asked ns f hs size next xs new r.2 (subst (λ (i : Option SwapImage). AsksParts xs i new) one h.2)
-    ∙ ap (λ (i : SwapImage). Some i)
-    (sym (with_requests-append (asked_at SwapRead (block_of hs x.page)) (pages_asked hs SwapRead (map in_part xs)) image))
+module _ (ns : List ImageNamed) (f : ℕ → ℕ) (hs : Holdings) (size : ℕ) where
+  swap_asked : (image : SwapImage) (xs : List Inbound) (new : Option SwapImage) → AreSourcedIn ns f hs size FromSwap xs → AsksParts xs (Some image) new
+      → new ≡ Some (with_requests (pages_asked hs SwapRead (map in_part xs)) image)
+  swap_asked image [] new r h = h
+  swap_asked image (x ∷ xs) new r h =
+      let next : SwapImage = read_at image (block_of hs x.page) in
+      let one : h.0 ≡ Some next = source_asked ns f hs size image x.page x.source h.0 r.0 r.1 h.1 in
+      swap_asked next xs new r.2 (subst (λ (i : Option SwapImage). AsksParts xs i new) one h.2)
+      ∙ ap (λ (i : SwapImage). Some i)
+      (sym (with_requests-append (asked_at SwapRead (block_of hs x.page)) (pages_asked hs SwapRead (map in_part xs)) image))
 
-files_asked : (ns : List ImageNamed) (f : ℕ → ℕ) (hs : Holdings) (size : ℕ) (xs : List Inbound) (old new : Option SwapImage)
-    → AreSourcedIn ns f hs size FromFile xs → AsksParts xs old new → new ≡ old
-files_asked ns f hs size [] old new r h = h
-files_asked ns f hs size (x ∷ xs) old new r h = files_asked ns f hs size xs h.0 new r.2 h.2 ∙ source_unasked x.source old h.0 r.0 h.1
+  files_asked : (xs : List Inbound) (old new : Option SwapImage) → AreSourcedIn ns f hs size FromFile xs → AsksParts xs old new → new ≡ old
+  files_asked [] old new r h = h
+  files_asked (x ∷ xs) old new r h = files_asked xs h.0 new r.2 h.2 ∙ source_unasked x.source old h.0 r.0 h.1
 
-pub pages_asked_for : (ns : List ImageNamed) (f : ℕ → ℕ) (hs : Holdings) (size : ℕ) (s : Source) (demanded : Page) (image : SwapImage) (xs : List Inbound)
-    (new : Option SwapImage) → AreSourcedIn ns f hs size s xs → AsksParts xs (Some image) new
-    → new ≡ Some (with_requests (swap_errand_asks hs (Reads s demanded) (map in_part xs)) image)
-pages_asked_for ns f hs size FromSwap demanded image xs new r h = swap_asked ns f hs size image xs new r h
-pages_asked_for ns f hs size FromFile demanded image xs new r h = files_asked ns f hs size xs (Some image) new r h
+  pub pages_asked_for : (s : Source) (demanded : Page) (image : SwapImage) (xs : List Inbound) (new : Option SwapImage) → AreSourcedIn ns f hs size s xs
+      → AsksParts xs (Some image) new → new ≡ Some (with_requests (swap_errand_asks hs (Reads s demanded) (map in_part xs)) image)
+  pages_asked_for FromSwap demanded image xs new r h = swap_asked image xs new r h
+  pages_asked_for FromFile demanded image xs new r h = files_asked xs (Some image) new r h
 
 pub none_asked : (xs : List Inbound) (new : Option SwapImage) → AsksParts xs None new → new ≡ None
 none_asked [] new h = h

@@ -13,12 +13,12 @@ use Rattle.page_model.specs.Conditions.{CanPlace, EntryShared}
 use Rattle.page_model.specs.Dues.{NotDue, LeavesDue}
 use Rattle.kernel_model.specs.Kernel.{Kernel, zero_step, copy_step, plain_step, get_step, done_step}
 use Rattle.kernel_model.specs.Sound.{Sound}
+use Rattle.kernel_laws.proofs.Kept.Pages.{writable_shared}
 use Rattle.table_steps.proofs.Runs.{each_page_imp}
 use Rattle.table_steps.proofs.KernelLawsSoundSteps.{zero_sound, copy_sound, plain_sound, done_sound}
 use Rattle.table_steps.proofs.NumbersApart.{zero_numbered, copy_numbered, plain_numbered, done_numbered}
 use Rattle.table_steps.proofs.PageLawsDueEntries.{entry_due}
 use Rattle.table_steps.proofs.Gets.{reads_fresh}
-use Rattle.table_steps.proofs.Kernels.{writable_shared}
 use Rattle.table_steps.specs.Calls.{CanCopy}
 use Rattle.table_steps.specs.Conditions.{CanZero, CanBringIn}
 use Rattle.table_steps.specs.Machine.{KernelRuns}

@@ -1,5 +1,5 @@
 -- The step of `Zero` keeps the flat states that the machine stands for, and every other page.
-use Rattle.std.proofs.Common.{◌≡◌, ℕ, ◌<◌, Bool, cond, List, [], ◌∷◌, length, map, Some, refl, sym, ap, ◌∙◌, subst, arith}
+use Rattle.std.proofs.Common.{◌≡◌, ℕ, Bool, cond, List, [], ◌∷◌, map, Some, refl, sym, ap, ◌∙◌, subst}
 use Rattle.vm_facts.specs.declared.page.Page.{Page}
 use Rattle.page_model.specs.Pages.{frame_of}
 use Rattle.flat_state.specs.PageNames.{same_page}
@@ -18,6 +18,7 @@ use Rattle.table_steps.specs.DueFill.TheVariants as fills
 use Rattle.table_steps.specs.View.{due_shown, starts_of}
 use Rattle.table_steps.specs.Due.{IsFirstStart}
 use Rattle.table_steps.specs.Conditions.{CanZero, KeepsFlat, SameElsewhere}
+use Rattle.machine_state.proofs.Copying.{head_is}
 
 pub zero_keeps : (size : ℕ) (k : Kernel) (q : Page) (ds : List DueFill) → Sound size k → CanZero k.place q → k.place.due ≡ map due_shown ds
     → k.starts ≡ starts_of ds → KeepsFlat k (zero_step k q)
@@ -33,10 +34,6 @@ zero_keeps size k q ds so can due starts images image flat c = go ds due starts 
     go (fills.Start r bytes ∷ es) d s f = start_coupled size k images image flat q r so enter can.writable can.frame can.unfilled
         (ap (λ (x : List Due). due_of_page x q) d ∙ ap (λ (b : Bool). cond b (Some (Start r)) (due_of_page (map due_shown es) q)) (ap (λ (x : Page). same_page r x) (sym f) ∙ same_page_self r)) c
     go (fills.Copy child parent ∷ es) d s f = absurd f
-
-head_is : (fs : List ℕ) → 0 < length fs → (f : ℕ) × (rest : List ℕ) × (fs ≡ f ∷ rest)
-head_is [] l = absurd (omega arith)
-head_is (f ∷ rest) l = (f, rest, refl)
 
 pub zero_same : (size : ℕ) (k : Kernel) (q : Page) → Sound size k → CanZero k.place q → SameElsewhere k (zero_step k q) q
 zero_same size k q so can images image flat w n =

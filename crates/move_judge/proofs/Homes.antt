@@ -11,6 +11,7 @@ use Rattle.page_model.specs.Placement.{Placement, space_number, sharers, sharers
 use Rattle.page_model.specs.Conditions.{IsShared}
 use Rattle.page_laws.proofs.Lists.Pages.{numbered_hit, numbered_miss}
 use Rattle.machine_state.specs.Sharing.{IsSharer}
+use Rattle.clock_hands.proofs.Homes.{skips}
 
 absent_there : (n : ℕ) (ss : List SpacePages) (m : ℕ) (x : SpacePages) → IsAbsent n (map space_number ss) → numbered space_number m ss ≡ Some x → n ≢ m
 absent_there n [] m x a e h = absurd cc
@@ -18,9 +19,6 @@ absent_there n (s ∷ ss) m x a e h = elim (cases_eq s.sid m) [
   | inl i ↦ a.0 (i ∙ sym h)
   | inr d ↦ absent_there n ss m x a.1 (sym (numbered_miss space_number m s ss d) ∙ e) h
 ]
-
-shares_hit : (image : ℕ) (s : SpacePages) (ss : List SpacePages) → s.image ≢ image → sharers_in image (s ∷ ss) ≡ sharers_in image ss
-shares_hit image s ss n = grind (arith, nat_tests)
 
 record Sharer (image : ℕ) (ss : List SpacePages) : Type 0 where
   sid : ℕ
@@ -33,7 +31,7 @@ shared_by image [] d l = absurd (omega arith)
 shared_by image (s ∷ ss) d l = elim (cases_eq s.image image) [
   | inl e ↦ record { sid = s.sid; space = s; there = numbered_hit space_number s.sid s ss refl; shares = e }
   | inr n ↦
-      let h : Sharer image ss = shared_by image ss d.1 (let a = shares_hit image s ss n in omega arith) in
+      let h : Sharer image ss = shared_by image ss d.1 (let a = skips image s ss n in omega arith) in
       record {
         sid = h.sid;
         space = h.space;

@@ -12,7 +12,7 @@ use Rattle.page_model.specs.Holdings.{Holdings, is_in}
 use Rattle.page_model.specs.Book.{IsBook, IsApart}
 use Rattle.run_model.specs.Next.{blocks_held}
 use Rattle.owner_lines.specs.Owners.{word_if, gap_line, swap_line, swap_lines, piece_line, placed, rising, blocks_from}
-use Rattle.owner_lines.proofs.Rising.{Follow, follow_rising}
+use Rattle.owner_lines.proofs.Rising.{Follow, follow_rising, Each, each_rising, each_from}
 use Rattle.owner_laws.specs.Lines.{Extent, extent_text, blocks_told}
 use Rattle.owner_laws.specs.Told.{Tile, told_holder, holder_of, SwapTold}
 
@@ -52,10 +52,6 @@ spelled size b (h ∷ hs) =
     ∙ gap_then b h.start (row h ∷ extents_from size (h.start + h.length) hs)
 
 -- The rows follow one another.
-
-abbrev Each : (Held → Type 0) → Holdings → Type 0
-Each P [] = Unit {0}
-Each P (h ∷ hs) = P h × Each P hs
 
 abbrev Ends : ℕ → Held → Type 0
 Ends size h = h.start + h.length ≤ size
@@ -121,21 +117,6 @@ blocks_counted size b (h ∷ hs) =
     ∙ ap (λ (n : ℕ). h.length + n) (blocks_counted size (h.start + h.length) hs)
 
 -- The pieces by their first blocks are the pieces.
-
-each_placed : (P : Held → Type 0) (h : Held) (gs : Holdings) → P h → Each P gs → Each P (placed h gs)
-each_placed P h [] x k = (x, tt)
-each_placed P h (g ∷ gs) x k = elim (cases_Bool (ltb g.start h.start)) [
-  | inl low ↦ subst (λ (c : Bool). Each P (cond c (g ∷ placed h gs) (h ∷ g ∷ gs))) (sym low) (k.0, each_placed P h gs x k.1)
-  | inr high ↦ subst (λ (c : Bool). Each P (cond c (g ∷ placed h gs) (h ∷ g ∷ gs))) (sym high) (x, k)
-]
-
-each_rising : (P : Held → Type 0) (hs : Holdings) → Each P hs → Each P (rising hs)
-each_rising P [] k = tt
-each_rising P (h ∷ hs) k = each_placed P h (rising hs) k.0 (each_rising P hs k.1)
-
-each_from : (P : Held → Type 0) (hs : Holdings) → ((i : ℕ) (d : Held) → i < length hs → P (get_or hs i d)) → Each P hs
-each_from P [] k = tt
-each_from P (h ∷ hs) k = (k 0 h (omega arith), each_from P hs (λ i d l. k (suc i) d (omega arith)))
 
 either_first : (x y : Bool) (a b rest : Option Owner) → (x ≡ true → y ≡ true → ⊥) → cond x a (cond y b rest) ≡ cond y b (cond x a rest)
 either_first true true a b rest apart = absurd (apart refl refl)

@@ -11,6 +11,7 @@ use Rattle.page_model.specs.Placement.{Errand, Part, Transfer, Moving, Placement
 use Rattle.page_model.specs.Ownership.{Each, IsMoving}
 use Rattle.page_laws.proofs.Lists.Frames.{flying-append}
 use Rattle.owner_lines.specs.Owners.{carrier_from}
+use Rattle.owner_lines.proofs.Owning.{each_behind}
 use Rattle.owner_laws.specs.Told.{HasPart}
 
 -- no part is in the frame, or a page is
@@ -38,10 +39,6 @@ part_moves p f e q [] rest m h = absurd h
 part_moves p f e q (x ∷ xs) rest m (inl h) = ap (state_of p) (sym h.0) ∙ m.0 ∙ ap (moving_state e) h.1
 part_moves p f e q (x ∷ xs) rest m (inr h) = part_moves p f e q xs rest m.1 h
 
-rest_move : (p : Placement) (e : Errand) (xs : List Part) (rest : List Moving) → Each (IsMoving p) (map (moving e) xs ++ rest) → Each (IsMoving p) rest
-rest_move p e [] rest m = m
-rest_move p e (x ∷ xs) rest m = rest_move p e xs rest m.1
-
 -- the transfer of these that has a frame, where the first of them has number n
 pub record IsCarried (p : Placement) (n f : ℕ) (ts : List Transfer) : Type 0 where
   pub behind : ℕ
@@ -54,7 +51,7 @@ pub record IsCarried (p : Placement) (n f : ℕ) (ts : List Transfer) : Type 0 w
 
 pub carried : (p : Placement) (n f : ℕ) (ts : List Transfer) → Each (IsMoving p) (parts_of ts) → 0 < times f (flying (parts_of ts)) → IsCarried p n f ts
 carried p n f [] m h = absurd (omega arith)
-carried p n f (t ∷ ts) m h = go (search_parts f t.errand t.parts) (carried p (n + 1) f ts (rest_move p t.errand t.parts (parts_of ts) m))
+carried p n f (t ∷ ts) m h = go (search_parts f t.errand t.parts) (carried p (n + 1) f ts (each_behind p t.errand t.parts (parts_of ts) m))
   where
     go : Search f t.errand t.parts → (0 < times f (flying (parts_of ts)) → IsCarried p (n + 1) f ts) → IsCarried p n f (t ∷ ts)
     go (Nowhere none nobody) more =

@@ -9,17 +9,6 @@ use Rattle.page_model.specs.Frames.{count_up}
 
 -- Numbers that rise from one on.
 
-pub row_below : (f a n : ℕ) → f < a → times f (count_up a n) ≡ 0
-row_below f a zero l = refl
-row_below f a (suc n) l = times_other f a (count_up (a + 1) n) (λ e. absurd (omega arith)) ∙ row_below f (a + 1) n (omega arith)
-
-pub row_once : (f a n : ℕ) → a ≤ f → f < a + n → times f (count_up a n) ≡ 1
-row_once f a zero l m = absurd (omega arith)
-row_once f a (suc n) l m = elim (cases_eq f a) [
-  | inl e ↦ subst (λ (x : ℕ). times f (x ∷ count_up (a + 1) n) ≡ 1) e (let h = times_head f (count_up (a + 1) n) in let z = row_below f (a + 1) n (omega arith) in omega arith)
-  | inr d ↦ times_other f a (count_up (a + 1) n) (λ i. d (sym i)) ∙ row_once f (a + 1) n (omega arith) (omega arith)
-]
-
 pub row_above : (f a n : ℕ) → a + n ≤ f → times f (count_up a n) ≡ 0
 row_above f a zero l = refl
 row_above f a (suc n) l = times_other f a (count_up (a + 1) n) (λ e. absurd (omega arith)) ∙ row_above f (a + 1) n (omega arith)

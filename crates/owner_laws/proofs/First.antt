@@ -56,27 +56,25 @@ come_first journal more (x, rest, e) = (x ∷ rest, e)
 same_first : (journal more : List Entry) → more ≡ journal → ComeFirst journal more
 same_first journal more e = ([], e ∙ sym (append-nil journal))
 
-pub first_of_longer : (A : Inputs) (journal more : List Entry) (s t : State) → Reaches A journal s → Reaches A more t → HasWholeEntries A journal s
-    → length journal < length more → ComeFirst journal more
-first_of_longer A journal more s t a b whole long = elim (reach_apart A journal more s t a b whole) [
-  | behind h ↦ come_first journal more h
-  | same h at ↦ same_first journal more h
-  | before u next short ↦ absurd (let grown = unit_long more u in omega (arith, long, short, grown))
-]
+module _ (A : Inputs) (journal more : List Entry) (s t : State) where
+  pub first_of_longer : Reaches A journal s → Reaches A more t → HasWholeEntries A journal s → length journal < length more → ComeFirst journal more
+  first_of_longer a b whole long = elim (reach_apart A journal more s t a b whole) [
+    | behind h ↦ come_first journal more h
+    | same h at ↦ same_first journal more h
+    | before u next short ↦ absurd (let grown = unit_long more u in omega (arith, long, short, grown))
+  ]
 
-pub first_of_finished : (A : Inputs) (journal more : List Entry) (s t : State) → Reaches A journal s → Reaches A more t → HasWholeEntries A journal s
-    → next_unit A t ≡ None → ComeFirst journal more
-first_of_finished A journal more s t a b whole none = elim (reach_apart A journal more s t a b whole) [
-  | behind h ↦ come_first journal more h
-  | same h at ↦ same_first journal more h
-  | before u next short ↦ absurd (let no : Some u ≡ None = sym next ∙ none in cc)
-]
+  pub first_of_finished : Reaches A journal s → Reaches A more t → HasWholeEntries A journal s → next_unit A t ≡ None → ComeFirst journal more
+  first_of_finished a b whole none = elim (reach_apart A journal more s t a b whole) [
+    | behind h ↦ come_first journal more h
+    | same h at ↦ same_first journal more h
+    | before u next short ↦ absurd (let no : Some u ≡ None = sym next ∙ none in cc)
+  ]
 
-pub one_of_length : (A : Inputs) (journal more : List Entry) (s t : State) → Reaches A journal s → Reaches A more t → HasWholeEntries A journal s
-    → HasWholeEntries A more t
-    → length journal ≡ length more → (journal ≡ more) × (s ≡ t)
-one_of_length A journal more s t a b whole entire equal = elim (reach_apart A journal more s t a b whole) [
-  | behind h ↦ absurd (let long = behind_longer journal more h in omega (arith, long, equal))
-  | same h at ↦ (sym h, at)
-  | before u next short ↦ absurd (let grown = entire u next in omega (arith, grown, short, equal))
-]
+  pub one_of_length : Reaches A journal s → Reaches A more t → HasWholeEntries A journal s → HasWholeEntries A more t → length journal ≡ length more
+      → (journal ≡ more) × (s ≡ t)
+  one_of_length a b whole entire equal = elim (reach_apart A journal more s t a b whole) [
+    | behind h ↦ absurd (let long = behind_longer journal more h in omega (arith, long, equal))
+    | same h at ↦ (sym h, at)
+    | before u next short ↦ absurd (let grown = entire u next in omega (arith, grown, short, equal))
+  ]

@@ -16,6 +16,7 @@ use Rattle.page_model.specs.Frames.{count_up}
 use Rattle.page_model.specs.Pages.{frame_of}
 use Rattle.page_model.specs.Placement.{Errand, Writes, Reads, Placement, IsFrame, state_of, page_of, parts_of, flying, moving_state}
 use Rattle.page_model.specs.Ownership.{OwnsFrames, seats, seated, seated_of}
+use Rattle.page_laws.proofs.Moves.Steps.{frame_of_moving}
 use Rattle.owner_lines.specs.Owners.{carrier, is_unsaved, moved_text, used_by, used_text, free_place, owner_text, frame_line}
 use Rattle.owner_lines.specs.Carried.{is_write, carrying_word}
 use Rattle.owner_laws.specs.Lines.{Said, Free, Used, InTransfer, FrameLine, said_text, frame_text, frames_told, counted, free_one, used_one, moving_one}
@@ -38,10 +39,6 @@ listing n f (x ∷ xs) = elim (cases_eq x f) [
     further : (x ≡ f → ⊥) → Listing (n + 1) f xs → Listing n f (x ∷ xs)
     further ne (Off none nobody) = Off (ap (λ (b : Bool). cond b n (place_from (n + 1) f xs)) (ne_eqb x f ne) ∙ none) (times_other f x xs ne ∙ nobody)
     further ne (On i place at) = On (suc i) (ap (λ (b : Bool). cond b n (place_from (n + 1) f xs)) (ne_eqb x f ne) ∙ place ∙ (let z : n + 1 + i ≡ n + suc i = omega arith in z)) at
-
-pub moving_frame : (e : Errand) (f : ℕ) → frame_of (moving_state e f) ≡ Some f
-moving_frame Writes f = refl
-moving_frame (Reads source demanded) f = refl
 
 -- what is said of a frame, and that it is so
 record Found (p : Placement) (f : ℕ) : Type 0 where
@@ -102,7 +99,7 @@ module _ (p : Placement) (owns : OwnsFrames p) (f : ℕ) (w : IsFrame p f) where
   moved place off some =
       let once = owns.once f w in
       let c : IsCarried p 1 f p.transfers = carried p 1 f p.transfers owns.moves some in
-      let page : page_of p f ≡ Some c.page = owns.names c.page f (ap frame_of c.state ∙ moving_frame c.transfer.errand f) in
+      let page : page_of p f ≡ Some c.page = owns.names c.page f (ap frame_of c.state ∙ frame_of_moving c.transfer.errand f) in
       let next : 1 + c.behind ≡ suc c.behind = omega arith in
       record {
         said = InTransfer (is_write c.transfer.errand) (suc c.behind) c.page;

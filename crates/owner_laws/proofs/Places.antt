@@ -7,9 +7,10 @@ use Rattle.vm_facts.proofs.Lists.{times-append, times_head, times_other}
 use Rattle.page_model.specs.Frames.{count_up}
 use Rattle.page_model.specs.Placement.{Placement}
 use Rattle.page_model.specs.Ownership.{OwnsFrames}
+use Rattle.page_laws.proofs.Starts.{count_below, count_once}
 use Rattle.owner_laws.specs.Lines.{Said, Free, Used, InTransfer, FrameLine, place_told, places_told, frames_told}
 use Rattle.owner_laws.specs.Told.{in_place, IsSo, AreSo}
-use Rattle.owner_laws.proofs.Counting.{row_below, row_once, row_above, stands, same_place}
+use Rattle.owner_laws.proofs.Counting.{row_above, stands, same_place}
 
 same_one : (n k f g : ℕ) → n ≡ k → f ≡ g → times k (n ∷ []) ≡ times g (f ∷ [])
 same_one n k f g a b = subst (λ (y : ℕ). times y (n ∷ []) ≡ times g (f ∷ [])) a (subst (λ (y : ℕ). times n (n ∷ []) ≡ times y (f ∷ [])) b (times_head n [] ∙ sym (times_head f [])))
@@ -59,7 +60,7 @@ none_there p k (x ∷ xs) at so =
 
 pub places_once : (p : Placement) (xs : List FrameLine) → OwnsFrames p → frames_told xs ≡ count_up 1 (length p.holds) → AreSo p xs
     → (k : ℕ) → times k (places_told xs) ≡ times k (count_up 1 (length p.free))
-places_once p xs owns frames so zero = none_there p 0 xs refl so ∙ sym (row_below 0 1 (length p.free) (omega arith))
+places_once p xs owns frames so zero = none_there p 0 xs refl so ∙ sym (count_below 0 1 (length p.free) (omega arith))
 places_once p xs owns frames so (suc i) = elim ((slice_get_cases p.free i).1) [
   | inl there ↦
       let g = there.0 in
@@ -72,7 +73,7 @@ places_once p xs owns frames so (suc i) = elim ((slice_get_cases p.free i).1) [
       let short = there.1 in
       told_there p (suc i) g xs lone there.2 so
       ∙ ap (times g) frames
-      ∙ row_once g 1 (length p.holds) (omega (arith, low)) (omega (arith, high))
-      ∙ sym (row_once (suc i) 1 (length p.free) (omega arith) (omega (arith, short)))
+      ∙ count_once g 1 (length p.holds) (omega (arith, low)) (omega (arith, high))
+      ∙ sym (count_once (suc i) 1 (length p.free) (omega arith) (omega (arith, short)))
   | inr past ↦ let long = past.0 in none_there p (suc i) xs past.1 so ∙ sym (row_above (suc i) 1 (length p.free) (omega (arith, long)))
 ]

@@ -19,14 +19,10 @@ use Rattle.kernel_laws.proofs.Flat.Numbered.{absent_none}
 use Rattle.machine_state.specs.Machine.{Standing}
 use Rattle.run_model.specs.State.{State}
 use Rattle.run_text.specs.Text.{parts}
+use Rattle.kernel_laws.proofs.Flat.Lists.{pid_of}
+use Rattle.kernel_laws.proofs.Machine.Tables.{kept_pid}
 use Rattle.owner_lines.specs.Owners.{life_text, registers_text, process_line, process_lines, entries_line, hands_line, frame_lines, transfers_from, due_line, swap_lines, owners_text, owners_lines}
 use Rattle.owner_laws.specs.Account.{text_at, IsMachineAt}
-
-abbrev kept_pid : Proc → ℕ
-kept_pid p = p.pid
-
-abbrev pid_of : Process → ℕ
-pid_of q = q.pid
 
 -- the record of each process that is in has its registers
 abbrev Registered : Placement → List Proc → List Process → Type 0

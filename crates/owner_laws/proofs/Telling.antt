@@ -1,25 +1,24 @@
 -- The lines of all frames, and the whole text.
-use Rattle.std.proofs.Common.{◌≡◌, ℕ, zero, suc, ◌+◌, ◌-◌, ◌<◌, ◌≤◌, Bool, List, [], ◌∷◌, ◌++◌, length, Option, Some, None, refl, sym, ap, ◌∙◌, inl, inr, arith}
+use Rattle.std.proofs.Common.{◌≡◌, ℕ, suc, ◌+◌, ◌-◌, ◌<◌, Bool, List, [], ◌∷◌, ◌++◌, length, refl, sym, ap, ◌∙◌, arith}
 use Rattle.std.specs.List.{flat_map}
-use Rattle.std.proofs.lemmas.Bool.{cases_lt}
-use Rattle.std.proofs.lemmas.List.{get_or_past}
-use Rattle.vm_facts.specs.declared.page.Page.{Page}
 use Rattle.vm_facts.specs.declared.entry.Entry.TheVariants as noted
 use Rattle.vm_facts.specs.Lists.{times}
 use Rattle.page_model.specs.Holdings.{Holdings}
-use Rattle.page_model.specs.Frames.{count_up, at_frame}
+use Rattle.page_model.specs.Frames.{count_up}
 use Rattle.page_model.specs.Pages.{frame_of}
 use Rattle.page_model.specs.Placement.{Moving, Placement, IsFrame, parts_of, flying}
 use Rattle.page_model.specs.Ownership.{OwnsFrames, OneOwner}
 use Rattle.kernel_model.specs.Kernel.{Proc}
 use Rattle.run_model.specs.Next.{owners_of, blocks_held}
+use Rattle.page_laws.proofs.Starts.{count_once}
+use Rattle.page_laws.proofs.Moves.Steps.{frame_of_moving, frame_there}
 use Rattle.owner_lines.specs.Owners.{entries_line, hands_line, frame_lines, transfers_from, process_lines, due_line, swap_lines, owners_text}
 use Rattle.owner_laws.specs.Lines.{FrameLine, frame_text, counted, free_one, used_one, moving_one, blocks_told}
 use Rattle.owner_laws.specs.Told.{FramesTold}
 use Rattle.owner_laws.specs.Account.{OwnersTold}
-use Rattle.owner_laws.proofs.Counting.{row_once, row_length, each_once}
+use Rattle.owner_laws.proofs.Counting.{row_length, each_once}
 use Rattle.owner_laws.proofs.Carrying.{IsCarried, carried}
-use Rattle.owner_laws.proofs.Framing.{Lines, lines_of, moving_frame}
+use Rattle.owner_laws.proofs.Framing.{Lines, lines_of}
 use Rattle.owner_laws.proofs.Places.{places_once}
 use Rattle.owner_laws.proofs.Area.{area, area_spelled, area_told, area_counted}
 
@@ -39,19 +38,12 @@ frames_told_so p owns =
 
 -- The numbers of frames.
 
-frame_in : (xs : List (Option Page)) (f : ℕ) (q : Page) → at_frame xs f None ≡ Some q → (0 < f) × (f ≤ length xs)
-frame_in xs zero q e = absurd cc
-frame_in xs (suc n) q e = elim (cases_lt n (length xs)) [
-  | inl below ↦ (omega arith, omega (arith, below))
-  | inr past ↦ absurd (let none : None ≡ Some q = sym (get_or_past xs n None past) ∙ e in cc)
-]
-
 length_flying : (ms : List Moving) → length (flying ms) ≡ length ms
 length_flying [] = refl
 length_flying (m ∷ ms) = ap suc (length_flying ms)
 
 in_row : (p : Placement) (f : ℕ) → IsFrame p f → times f (count_up 1 (length p.holds)) ≡ 1
-in_row p f w = let low = w.0 in let high = w.1 in row_once f 1 (length p.holds) (omega (arith, low)) (omega (arith, high))
+in_row p f w = let low = w.0 in let high = w.1 in count_once f 1 (length p.holds) (omega (arith, low)) (omega (arith, high))
 
 frees : (p : Placement) → OwnsFrames p → (all : AllLines p) → length p.free ≡ counted free_one all.lines
 frees p owns all = sym (all.free ∙ each_once (count_up 1 (length p.holds)) p.free (λ f l. in_row p f (owns.frames f l)))
@@ -62,7 +54,7 @@ movings p owns all = sym (length_flying (parts_of p.transfers)) ∙ sym (all.mov
     once : (f : ℕ) → 0 < times f (flying (parts_of p.transfers)) → times f (count_up 1 (length p.holds)) ≡ 1
     once f l =
         let c : IsCarried p 1 f p.transfers = carried p 1 f p.transfers owns.moves l in
-        in_row p f (frame_in p.holds f c.page (owns.names c.page f (ap frame_of c.state ∙ moving_frame c.transfer.errand f)))
+        in_row p f (frame_there p.holds f c.page (owns.names c.page f (ap frame_of c.state ∙ frame_of_moving c.transfer.errand f)))
 
 numbered : (p : Placement) (hs : Holdings) (free used moving held : ℕ) → length p.free ≡ free
     → length p.holds - (length p.free + length (parts_of p.transfers)) ≡ used

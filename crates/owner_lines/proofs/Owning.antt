@@ -24,6 +24,7 @@ use Rattle.page_model.specs.Placement.{is_dirty as is_dirty_in, Errand, Writes, 
 use Rattle.page_model.specs.Ownership.{OwnsFrames, Each, IsMoving, is_marked_dirty, seats, seated, seated_of}
 use Rattle.page_laws.proofs.Lists.Frames.{flying-append}
 use Rattle.table_view.specs.Shown.{is_away}
+use Rattle.page_laws.proofs.Moves.Steps.{frame_of_moving}
 use Rattle.machine_state.specs.Showing.{ShowsCore}
 use Rattle.owner_lines.specs.declared.frames.Carried.{Carried}
 use Rattle.owner_lines.specs.Owners.{has_frame, carrier_from, carrier, is_unsaved, kept_text, used_by, used_text, free_text, free_place, owner_text}
@@ -104,7 +105,7 @@ moving_in p f e (x ∷ xs) rest q m h = elim (cases_Bool (eqb x.frame f)) [
   | inr miss ↦ moving_in p f e xs rest q m.1 (sym (ap (λ (b : Bool). cond b (Some x.page) (page_in f xs)) miss) ∙ h)
 ]
 
-each_behind : (p : Placement) (e : Errand) (xs : List Part) (rest : List Moving) → Each (IsMoving p) (map (moving e) xs ++ rest) → Each (IsMoving p) rest
+pub each_behind : (p : Placement) (e : Errand) (xs : List Part) (rest : List Moving) → Each (IsMoving p) (map (moving e) xs ++ rest) → Each (IsMoving p) rest
 each_behind p e [] rest m = m
 each_behind p e (x ∷ xs) rest m = each_behind p e xs rest m.1
 
@@ -158,10 +159,6 @@ carrier_found n f (t ∷ ts) = go (page_in f t.parts) refl (carrier_found (n + 1
     go (Some q) e rest =
         ap (λ (b : Bool). cond b n (carrier_from (n + 1) f ts)) (has_some f t q e)
         ∙ sym (ap (λ (o : Option Page). carried_number (carried_by n t.errand o (carried_from (n + 1) f ts))) e)
-
-moving_frame : (e : Errand) (f : ℕ) → frame_of (moving_state e f) ≡ Some f
-moving_frame Writes f = refl
-moving_frame (Reads source demanded) f = refl
 
 moved_state : (p : Placement) (f : ℕ) (q : Page) (e : Errand)
     → used_by p q (moving_state e f) ≡ carried_text (Some (let c : Carried = record { number = carrier p f; is_write = is_write e; page = q } in c))
@@ -236,7 +233,7 @@ module _ (p : Placement) (core : Frames) (owns : OwnsFrames p) (shows : ShowsCor
       go slots.Away is =
           let some : 0 < times f (flying (parts_of p.transfers)) = some_fly (times f (flying (parts_of p.transfers))) (sym (ap is_away is) ∙ shows.away f w) in
           let c : IsCarried p 1 f p.transfers = is_carried p 1 f p.transfers owns.moves some in
-          let page : page_of p f ≡ Some c.page = owns.names c.page f (ap frame_of c.state ∙ moving_frame c.errand f) in
+          let page : page_of p f ≡ Some c.page = owns.names c.page f (ap frame_of c.state ∙ frame_of_moving c.errand f) in
           off_list (ap listings is)
           ∙ ap (used_text p) page
           ∙ ap (used_by p c.page) c.state

@@ -79,18 +79,18 @@ abbrev pub Follow : ℕ → Holdings → Type 0
 Follow b [] = Unit {0}
 Follow b (h ∷ hs) = (b ≤ h.start) × (0 < h.length) × Follow (h.start + h.length) hs
 
-abbrev Each : (Held → Type 0) → Holdings → Type 0
+abbrev pub Each : (Held → Type 0) → Holdings → Type 0
 Each P [] = Unit {0}
 Each P (h ∷ hs) = P h × Each P hs
 
-each_placed : (P : Held → Type 0) (h : Held) (gs : Holdings) → P h → Each P gs → Each P (placed h gs)
+pub each_placed : (P : Held → Type 0) (h : Held) (gs : Holdings) → P h → Each P gs → Each P (placed h gs)
 each_placed P h [] x k = (x, tt)
 each_placed P h (g ∷ gs) x k = elim (cases_Bool (ltb g.start h.start)) [
   | inl low ↦ subst (λ (c : Bool). Each P (cond c (g ∷ placed h gs) (h ∷ g ∷ gs))) (sym low) (k.0, each_placed P h gs x k.1)
   | inr high ↦ subst (λ (c : Bool). Each P (cond c (g ∷ placed h gs) (h ∷ g ∷ gs))) (sym high) (x, k)
 ]
 
-each_rising : (P : Held → Type 0) (hs : Holdings) → Each P hs → Each P (rising hs)
+pub each_rising : (P : Held → Type 0) (hs : Holdings) → Each P hs → Each P (rising hs)
 each_rising P [] k = tt
 each_rising P (h ∷ hs) k = each_placed P h (rising hs) k.0 (each_rising P hs k.1)
 
@@ -113,7 +113,7 @@ follow_placed b h (g ∷ gs) f l some apart = elim (cases_Bool (ltb g.start h.st
       subst (λ (c : Bool). Follow b (cond c (g ∷ placed h gs) (h ∷ g ∷ gs))) (sym high) (l, some, (before, f.1, f.2))
 ]
 
-each_from : (P : Held → Type 0) (hs : Holdings) → ((i : ℕ) (d : Held) → i < length hs → P (get_or hs i d)) → Each P hs
+pub each_from : (P : Held → Type 0) (hs : Holdings) → ((i : ℕ) (d : Held) → i < length hs → P (get_or hs i d)) → Each P hs
 each_from P [] k = tt
 each_from P (h ∷ hs) k = (k 0 h (omega arith), each_from P hs (λ i d l. k (suc i) d (omega arith)))
 

@@ -138,7 +138,7 @@ done_less p n = go p.transfers refl
     go [] k = absurd (n k)
     go (t ∷ ts) k = let a = ap length (done_rest p t ts k) in let b = ap length k in omega arith
 
-done_lands : (p : Placement) (q : Page) → IsThere p q → (state_of (done p) q ≡ state_of p q) ⊎ Landed (state_of (done p) q)
+pub done_lands : (p : Placement) (q : Page) → IsThere p q → (state_of (done p) q ≡ state_of p q) ⊎ Landed (state_of (done p) q)
 done_lands p q there = done_cases (λ (r : Placement). (state_of r q ≡ state_of p q) ⊎ Landed (state_of r q)) p (inl refl)
     (λ t ts e. land_all_lands t.parts p t.errand ts q (state_of p q) there (inl refl))
 

@@ -82,11 +82,11 @@ no_page n (suc f) = go n f
     go (suc n) (suc f) = go n f
 
 -- numbers that rise from one on: none is below it, and each of them stands once
-count_below : (f a n : ℕ) → f < a → times f (count_up a n) ≡ 0
+pub count_below : (f a n : ℕ) → f < a → times f (count_up a n) ≡ 0
 count_below f a zero l = refl
 count_below f a (suc n) l = times_other f a (count_up (a + 1) n) (λ e. absurd (omega arith)) ∙ count_below f (a + 1) n (omega arith)
 
-count_once : (f a n : ℕ) → a ≤ f → f < a + n → times f (count_up a n) ≡ 1
+pub count_once : (f a n : ℕ) → a ≤ f → f < a + n → times f (count_up a n) ≡ 1
 count_once f a zero l m = absurd (omega arith)
 count_once f a (suc n) l m = elim (cases_eq f a) [
   | inl e ↦ subst (λ (x : ℕ). times f (x ∷ count_up (a + 1) n) ≡ 1) e (let h = times_head f (count_up (a + 1) n) in let z = count_below f (a + 1) n (omega arith) in omega arith)

@@ -187,7 +187,7 @@ faults_gives (Some r) m e = (r, refl, go r.victims e)
     go [] e = cc
     go (v ∷ vs) e = cc
 
-empty_cache : (n : ℕ) → IsCache n []
+pub empty_cache : (n : ℕ) → IsCache n []
 empty_cache n = record { once = λ q. omega arith; small = omega arith }
 
 -- Belady's victims have at most as many faults as any plan

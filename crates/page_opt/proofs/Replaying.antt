@@ -177,30 +177,30 @@ runs_step refs n i run o l e =
     ap (λ (ps : List ℕ). runs n (i + 1) ps (Some run)) (drop_more refs i 0 l) ∙
     ap (λ (x : Option Run). runs n (i + 1 + 1) (drop (i + 1) refs) x) e
 
-pub replays_next : (refs : List ℕ) (n i : ℕ) (victims : List Victim) (r s : Replay) (ok : Bool) → i < length refs → Replays refs n i victims r
-    → ((cache : List ℕ) → Tracks cache r.cache → Serving n (i + 1) (get_or refs i 0) cache r s ok) → ok ≡ true → Replays refs n (i + 1) victims s
-replays_next refs n i victims r s true l p step e =
-    let g = step p.cache p.tracks in
-    record {
-      cache = g.later;
-      tracks = g.tracks;
-      run =
-          ap (λ (o : Option Run). faults_of o) (sym (runs_step refs n i (run_of p.cache r) (Some (run_of g.later s)) l g.step)) ∙ p.run;
-      few = let f = p.few in let m = g.faults in omega arith;
-    }
-replays_next refs n i victims r s false l p step e = absurd (false≢true e)
+module _ (refs : List ℕ) (n i : ℕ) (victims : List Victim) (r : Replay) where
+  pub replays_next : (s : Replay) (ok : Bool) → i < length refs → Replays refs n i victims r
+      → ((cache : List ℕ) → Tracks cache r.cache → Serving n (i + 1) (get_or refs i 0) cache r s ok) → ok ≡ true → Replays refs n (i + 1) victims s
+  replays_next s true l p step e =
+      let g = step p.cache p.tracks in
+      record {
+        cache = g.later;
+        tracks = g.tracks;
+        run =
+            ap (λ (o : Option Run). faults_of o) (sym (runs_step refs n i (run_of p.cache r) (Some (run_of g.later s)) l g.step)) ∙ p.run;
+        few = let f = p.few in let m = g.faults in omega arith;
+      }
+  replays_next s false l p step e = absurd (false≢true e)
 
-pub replays_fail : (refs : List ℕ) (n i : ℕ) (victims : List Victim) (r s : Replay) (ok : Bool) → i < length refs → Replays refs n i victims r
-    → ((cache : List ℕ) → Tracks cache r.cache → Serving n (i + 1) (get_or refs i 0) cache r s ok) → ok ≡ false → None ≡ plan_faults refs n victims
-unfolding faults_of
-replays_fail refs n i victims r s true l p step e = absurd (true≢false e)
-replays_fail refs n i victims r s false l p step e =
-    ap (λ (o : Option Run). faults_of o) (sym (runs_none n (i + 1 + 1) (drop (i + 1) refs))) ∙
-    ap (λ (o : Option Run). faults_of o) (sym (runs_step refs n i (run_of p.cache r) None l (step p.cache p.tracks))) ∙
-    p.run
+  pub replays_fail : (s : Replay) (ok : Bool) → i < length refs → Replays refs n i victims r
+      → ((cache : List ℕ) → Tracks cache r.cache → Serving n (i + 1) (get_or refs i 0) cache r s ok) → ok ≡ false → None ≡ plan_faults refs n victims
+  unfolding faults_of
+  replays_fail s true l p step e = absurd (true≢false e)
+  replays_fail s false l p step e =
+      ap (λ (o : Option Run). faults_of o) (sym (runs_none n (i + 1 + 1) (drop (i + 1) refs))) ∙
+      ap (λ (o : Option Run). faults_of o) (sym (runs_step refs n i (run_of p.cache r) None l (step p.cache p.tracks))) ∙
+      p.run
 
-pub replays_end : (refs : List ℕ) (n i : ℕ) (victims : List Victim) (r : Replay) → length refs ≤ i → Replays refs n i victims r
-    → all_left r.victims.now r.faults ≡ plan_faults refs n victims
-unfolding runs faults_of
-replays_end refs n i victims r last p =
-    subst (λ (ps : List ℕ). faults_of (runs n (i + 1) ps (Some (run_of p.cache r))) ≡ plan_faults refs n victims) (drop_all i refs last) p.run
+  pub replays_end : length refs ≤ i → Replays refs n i victims r → all_left r.victims.now r.faults ≡ plan_faults refs n victims
+  unfolding runs faults_of
+  replays_end last p =
+      subst (λ (ps : List ℕ). faults_of (runs n (i + 1) ps (Some (run_of p.cache r))) ≡ plan_faults refs n victims) (drop_all i refs last) p.run

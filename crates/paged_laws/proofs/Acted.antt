@@ -1,5 +1,5 @@
 -- An entry of a process that may come is what the process does next.
-use Rattle.std.proofs.Common.{◌≡◌, ◌⊎◌, inl, inr, ℕ, ◌+◌, ◌≤◌, ◌==◌, max, nat_le, Bool, true, false, not, List, [], ◌∷◌, Option, Some, None, refl, sym, ap, ◌∙◌, subst, arith}
+use Rattle.std.proofs.Common.{◌≡◌, ◌⊎◌, inl, inr, ℕ, ◌+◌, ◌≤◌, ◌==◌, max, nat_le, true, false, not, List, [], ◌∷◌, Option, Some, None, refl, sym, ap, ◌∙◌, subst, arith}
 use Rattle.std.proofs.lemmas.Bool.Decides.{nat_tests}
 use Rattle.vm_facts.specs.declared.entry.Entry.{Entry}
 use Rattle.vm_facts.specs.declared.entry.Entry.TheVariants as entries
@@ -20,6 +20,7 @@ use Rattle.paged_model.specs.Steps.{other_begun, stuck, page_away, is_same, othe
 use Rattle.paged_model.specs.Runs.{paged_after, paged_state, unit_reason, units_reason, IsPagedRun}
 use Rattle.paged_model.proofs.Reasoned.{or_none, unless_none}
 use Rattle.paged_model.proofs.Fronts.{front_units}
+use Rattle.paged_model.proofs.PartReasons.{not_true}
 use Rattle.paged_laws.proofs.SameEntries.{same_is}
 
 -- what the conditions of a step come to
@@ -31,10 +32,6 @@ pub record Steps (A : Inputs) (s : State) (pid : ℕ) (u : Entry) : Type 0 where
   pub resident : is_out s.place pid ≡ false
   pub pages : page_away A s pid ≡ None
   pub does : other_act pid u (act A s pid) ≡ None
-
-not_true : (b : Bool) → not b ≡ true → b ≡ false
-not_true false e = refl
-not_true true e = absurd cc
 
 pub steps : (A : Inputs) (s : State) (pid : ℕ) (u : Entry) → step_reason A s pid u ≡ None → Steps A s pid u
 steps A s pid u e =

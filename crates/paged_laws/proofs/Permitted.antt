@@ -5,8 +5,7 @@ use Rattle.std.proofs.lemmas.Bool.{eqb-true}
 use Rattle.std.specs.Option.{is_some}
 use Rattle.vm_facts.specs.declared.page.Page.{Page}
 use Rattle.vm_facts.specs.declared.page.Page.TheVariants.{Data, Stack, Text}
-use Rattle.vm_facts.specs.declared.page.PageState.{PageState}
-use Rattle.vm_facts.specs.declared.page.PageState.TheVariants.{Unfilled, Valid, Invalid, Coming, Going, OnSwap}
+use Rattle.vm_facts.specs.declared.page.PageState.TheVariants.{Unfilled, OnSwap}
 use Rattle.vm_facts.specs.declared.entry.Entry.{Entry}
 use Rattle.vm_facts.specs.declared.entry.Entry.TheVariants as entries
 use Rattle.flat_state.specs.Flat.{Holding, Holds, Lends, Zombie, Process, FlatState, process_of, holds_space}
@@ -34,12 +33,13 @@ use Rattle.paged_model.specs.declared.reason.Reason.TheVariants as reasons
 use Rattle.paged_model.specs.Reasons.{unless, or_reason}
 use Rattle.paged_model.specs.Coming.{FirstStart, ZeroComes, CopyComes, GetComes, ReclaimComes}
 use Rattle.paged_model.specs.Moves.{is_there, if_there, no_room, due_first, wrong_length, each_page, apart, zero_reason, copy_reason, get_reason, reclaim_reason, write_room, hand_reason, done_reason}
-use Rattle.paged_model.specs.Leaving.{owner_stays, unseated_by, unseated_if, unseated, put_along, put_reason_by as put_by_reason, put_reason, out_by, out_if, out_reason}
+use Rattle.paged_model.specs.Leaving.{owner_stays, unseated_if, unseated, put_along, put_reason_by as put_by_reason, put_reason, out_by, out_if, out_reason}
 use Rattle.paged_model.proofs.Reasoned.{or_none, unless_none}
 use Rattle.paged_model.proofs.There.{if_there_none}
 use Rattle.paged_model.proofs.Comes.{zero_comes, reclaim_comes}
 use Rattle.paged_model.proofs.Brought.{each_run, room_left, get_comes}
 use Rattle.paged_model.proofs.Copied.{copy_comes}
+use Rattle.paged_model.proofs.PartReasons.{unseated_some}
 
 -- an entry that the placement allows, with which at most 16 transfers are in flight, and who leaves holds a space
 pub record Permitted (flat : FlatState) (locked : List Page) (at : ℕ) (p : Placement) (e : Entry) : Type 0 where
@@ -169,20 +169,12 @@ hand_permitted flat locked at p few e =
 
 -- `P`.
 
-seat_none : (w : Page) (s : PageState) → unseated_by w s ≡ None → ⊥
-seat_none w (Invalid f) e = absurd cc
-seat_none w Unfilled e = absurd cc
-seat_none w (Valid f) e = absurd cc
-seat_none w (Coming f) e = absurd cc
-seat_none w (Going f) e = absurd cc
-seat_none w OnSwap e = absurd cc
-
 seat_of : (p : Placement) (w : Page) → unseated p w ≡ None → HasSeat p w
 seat_of p w e = go (is_seated p w) refl e
   where
     go : (b : Bool) → is_seated p w ≡ b → unseated_if p w b ≡ None → HasSeat p w
     go true i x = seated_seat p w i
-    go false i x = absurd (seat_none w (state_of p w) x)
+    go false i x = absurd (unseated_some w (state_of p w) x)
 
 along_seat : (p : Placement) (q : Page) (i : ℕ) → put_along p q (beside q i) ≡ None → HasSeat p (beside q i)
 along_seat p q i e =

@@ -1,7 +1,6 @@
 -- The units by which the policy puts a process out: any policy may take them.
-use Rattle.std.proofs.Common.{◌≡◌, ◌≢◌, ℕ, zero, suc, ◌+◌, ◌<◌, ◌≤◌, ◌==◌, nat_lt, nat_le, Bool, true, false, cond, not, ◌&&◌, List, [], ◌∷◌, ◌++◌, map, flat_map, find, Option, Some, None, refl, sym, ap, ◌∙◌, subst, arith}
+use Rattle.std.proofs.Common.{◌≡◌, ◌≢◌, ℕ, zero, suc, ◌+◌, ◌<◌, ◌≤◌, ◌==◌, Bool, true, false, cond, not, ◌&&◌, List, [], ◌∷◌, ◌++◌, map, find, Option, Some, None, refl, sym, ap, ◌∙◌, subst, arith}
 use Rattle.std.proofs.lemmas.Bool.{eqb-true, and_parts}
-use Rattle.std.proofs.lemmas.Bool.Decides.{nat_tests}
 use Rattle.std.proofs.lemmas.Option.{same_Some}
 use Rattle.vm_facts.proofs.Tests.{eq_self}
 use Rattle.vm_facts.specs.declared.page.Page.{Page}
@@ -17,7 +16,7 @@ use Rattle.page_model.specs.Runs.{run_up, run_put, run_put_by, is_near, is_seate
 use Rattle.page_model.specs.Serve.{is_full}
 use Rattle.page_model.specs.Swapper.{is_out, is_settled, first_seated}
 use Rattle.page_model.specs.Conditions.{EachPage}
-use Rattle.page_laws.proofs.Lists.Runs.{run_up_in, run_each}
+use Rattle.page_laws.proofs.Lists.Runs.{run_up_in, run_each, each_page_append}
 use Rattle.page_laws.proofs.Ownership.Serve.{state_there}
 use Rattle.page_laws.proofs.Runs.Widest.{above_le}
 use Rattle.page_laws.proofs.Swapper.PuttingOut.{seated_first}
@@ -28,20 +27,12 @@ use Rattle.paged_model.specs.Reasons.{unless, or_reason}
 use Rattle.paged_model.specs.Moves.{is_there, if_there, due_first, wrong_length, each_page, apart, no_room}
 use Rattle.paged_model.specs.Leaving.{may_not_go, holds_it, holder_by, holder_stays, owner_stays, unseated_if, unseated, put_along, put_reason_by, put_reason, still_seated, out_by, out_if, out_reason}
 use Rattle.paged_model.proofs.Reasoned.{none_or, none_unless}
-use Rattle.paged_laws.proofs.Virtual.{both}
+use Rattle.paged_model.proofs.PartReasons.{right_length}
+use Rattle.kernel_laws.proofs.Flat.Lists.{held}
+use Rattle.kernel_laws.proofs.Sound.Begins.{differs}
 use Rattle.paged_laws.proofs.ReadRuns.{there_none, room_none, each_none, near_self, apart_none}
 
 -- The process that holds a space is found by it.
-
-differ_false : (a b : ℕ) → a ≢ b → (a == b) ≡ false
-differ_false a b n = go (a == b) refl
-  where
-    go : (t : Bool) → (a == b) ≡ t → t ≡ false
-    go false e = refl
-    go true e = absurd (n (eqb-true a b e))
-
-abbrev held : List Process → List Space
-held ps = flat_map (λ (q : Process). space_held q.holding) ps
 
 abbrev sids : List Space → List ℕ
 sids ss = map (λ (s : Space). s.sid) ss
@@ -76,7 +67,7 @@ held_found (x ∷ xs) pid q s d e h = go (x.pid == pid) e (held_found xs pid q s
     skip : (k : Holding) → find (λ (y : Process). y.pid == pid) xs ≡ Some q → AllDistinct (sids (space_held k ++ held xs))
         → (AllDistinct (sids (held xs)) → rest ≡ Some q) → cond (holds_it s.sid k) (Some x) rest ≡ Some q
     skip (Holds y) f b more =
-        ap (λ (t : Bool). cond t (Some x) rest) (differ_false y.sid s.sid (λ i. held_apart y.sid xs pid q s b.0 f h (sym i))) ∙ more b.1
+        ap (λ (t : Bool). cond t (Some x) rest) (differs y.sid s.sid (λ i. held_apart y.sid xs pid q s b.0 f h (sym i))) ∙ more b.1
     skip (Lends sid child) f b more = more b
     skip (Zombie status) f b more = more b
 
@@ -97,40 +88,40 @@ found_pid (x ∷ xs) pid q e = go (x.pid == pid) refl e (found_pid xs pid q)
     go true i k ih = ap (λ (y : Process). y.pid) (sym (same_Some x q k)) ∙ eqb-true x.pid pid i
     go false i k ih = ih k
 
--- who may go out: it is in, and didn't borrow
-record Leaves (F : FlatState) (p : Placement) (pid : ℕ) : Type 0 where
-  process : Process
-  space : Space
-  there : process_of F pid ≡ Some process
-  holds : process.holding ≡ Holds space
-  owns : is_borrower F.processes pid ≡ false
-  resident : is_out p pid ≡ false
+module _ (F : FlatState) (p : Placement) (pid : ℕ) where
+  -- who may go out: it is in, and didn't borrow
+  record Leaves : Type 0 where
+    process : Process
+    space : Space
+    there : process_of F pid ≡ Some process
+    holds : process.holding ≡ Holds space
+    owns : is_borrower F.processes pid ≡ false
+    resident : is_out p pid ≡ false
 
-leaves_of : (F : FlatState) (p : Placement) (pid : ℕ) → holds_some (process_of F pid) ≡ true → is_borrower F.processes pid ≡ false → is_out p pid ≡ false
-    → Leaves F p pid
-leaves_of F p pid h b o = go (process_of F pid) refl h
-  where
-    by : (q : Process) (k : Holding) → process_of F pid ≡ Some q → q.holding ≡ k → holds_space k ≡ true → Leaves F p pid
-    by q (Holds s) i j e = record { process = q; space = s; there = i; holds = j; owns = b; resident = o }
-    by q (Lends sid child) i j e = absurd cc
-    by q (Zombie status) i j e = absurd cc
+  leaves_of : holds_some (process_of F pid) ≡ true → is_borrower F.processes pid ≡ false → is_out p pid ≡ false → Leaves
+  leaves_of h b o = go (process_of F pid) refl h
+    where
+      by : (q : Process) (k : Holding) → process_of F pid ≡ Some q → q.holding ≡ k → holds_space k ≡ true → Leaves
+      by q (Holds s) i j e = record { process = q; space = s; there = i; holds = j; owns = b; resident = o }
+      by q (Lends sid child) i j e = absurd cc
+      by q (Zombie status) i j e = absurd cc
 
-    go : (x : Option Process) → process_of F pid ≡ x → holds_some x ≡ true → Leaves F p pid
-    go None i e = absurd cc
-    go (Some q) i e = by q q.holding i refl e
+      go : (x : Option Process) → process_of F pid ≡ x → holds_some x ≡ true → Leaves
+      go None i e = absurd cc
+      go (Some q) i e = by q q.holding i refl e
 
-may_none : (F : FlatState) (p : Placement) (pid : ℕ) → is_borrower F.processes pid ≡ false → is_out p pid ≡ false → may_not_go F p pid ≡ None
-may_none F p pid b o =
-    none_or (unless (not (is_borrower F.processes pid)) (reasons.Borrowed pid)) (unless (not (is_out p pid)) (reasons.IsOut pid))
-    (none_unless (not (is_borrower F.processes pid)) (reasons.Borrowed pid) (ap not b)) (none_unless (not (is_out p pid)) (reasons.IsOut pid) (ap not o))
+  may_none : is_borrower F.processes pid ≡ false → is_out p pid ≡ false → may_not_go F p pid ≡ None
+  may_none b o =
+      none_or (unless (not (is_borrower F.processes pid)) (reasons.Borrowed pid)) (unless (not (is_out p pid)) (reasons.IsOut pid))
+      (none_unless (not (is_borrower F.processes pid)) (reasons.Borrowed pid) (ap not b)) (none_unless (not (is_out p pid)) (reasons.IsOut pid) (ap not o))
 
-holder_none : (F : FlatState) (p : Placement) (pid : ℕ) (l : Leaves F p pid) → IsNumbered F → holder_stays F p l.space.sid ≡ None
-holder_none F p pid l nums =
-    ap (holder_by F p l.space.sid) (held_found F.processes pid l.process l.space nums.sids l.there l.holds)
-    ∙ ap (may_not_go F p) (found_pid F.processes pid l.process l.there) ∙ may_none F p pid l.owns l.resident
+  holder_none : (l : Leaves) → IsNumbered F → holder_stays F p l.space.sid ≡ None
+  holder_none l nums =
+      ap (holder_by F p l.space.sid) (held_found F.processes pid l.process l.space nums.sids l.there l.holds)
+      ∙ ap (may_not_go F p) (found_pid F.processes pid l.process l.there) ∙ may_none l.owns l.resident
 
-space_is : (F : FlatState) (p : Placement) (pid : ℕ) (l : Leaves F p pid) → space_of_process (process_of F pid) ≡ l.space.sid
-space_is F p pid l = ap space_of_process l.there ∙ ap space_of_holding l.holds
+  space_is : (l : Leaves) → space_of_process (process_of F pid) ≡ l.space.sid
+  space_is l = ap space_of_process l.there ∙ ap space_of_holding l.holds
 
 -- Pages of a space.
 
@@ -148,10 +139,6 @@ own_stack : (sid lo n : ℕ) → EachPage (IsOwn sid) (pages_from (Stack sid 0) 
 own_stack sid lo zero = tt
 own_stack sid lo (suc n) = (refl, own_stack sid (lo + 1) n)
 
-each_join : (P : Page → Type 0) (xs ys : List Page) → EachPage P xs → EachPage P ys → EachPage P (xs ++ ys)
-each_join P [] ys a b = b
-each_join P (x ∷ xs) ys a b = (a.0, each_join P xs ys a.1 b)
-
 first_each : (P : Page → Type 0) (p : Placement) (qs : List Page) (v : Page) → EachPage P qs → first_seated p qs ≡ Some v → P v
 first_each P p [] v a e = absurd cc
 first_each P p (q ∷ qs) v a e = go (is_seated p q) e (first_each P p qs v a.1)
@@ -163,7 +150,7 @@ first_each P p (q ∷ qs) v a e = go (is_seated p q) e (first_each P p qs v a.1)
 own_first : (p : Placement) (sid : ℕ) (v : Page) → first_seated p (pages_of_space p sid) ≡ Some v → IsOwn sid v
 own_first p sid v e =
     first_each (IsOwn sid) p (pages_of_space p sid) v
-    (each_join (IsOwn sid) (data_from sid 0 (data_count p sid)) (stack_from sid 0 (stack_count p sid)) (own_data sid 0 (data_count p sid)) (own_stack sid 0 (stack_count p sid))) e
+    (each_page_append (IsOwn sid) (data_from sid 0 (data_count p sid)) (stack_from sid 0 (stack_count p sid)) (own_data sid 0 (data_count p sid)) (own_stack sid 0 (stack_count p sid))) e
 
 owner_none : (F : FlatState) (p : Placement) (sid : ℕ) (v : Page) → IsOwn sid v → holder_stays F p sid ≡ None → owner_stays F p v ≡ None
 owner_none F p sid (Data s w) o e = ap (holder_stays F p) o ∙ e
@@ -180,11 +167,6 @@ along_none p q w s d n =
     there_none p w (or_reason (unseated p w) (or_reason (unless (is_dirty p w) (reasons.IsClean w)) (apart q w))) (seated_there p w s)
     (none_or (unseated p w) (or_reason (unless (is_dirty p w) (reasons.IsClean w)) (apart q w)) (ap (unseated_if p w) s)
     (none_or (unless (is_dirty p w) (reasons.IsClean w)) (apart q w) (none_unless (is_dirty p w) (reasons.IsClean w) d) n))
-
-short : (n : ℕ) → 0 < n → n ≤ 16 → wrong_length n ≡ None
-short n a b =
-    none_unless (nat_lt 0 n && nat_le n most_written) reasons.WrongLength
-    (both (nat_lt 0 n) (nat_le n most_written) (grind (arith, nat_tests)) (let x : nat_le n 16 ≡ true = grind (arith, nat_tests) in x))
 
 up_short : (passes : ℕ → Bool) (v : ℕ) → (run_up passes v most_written).n ≤ 16
 up_short passes v = let l = above_le passes v 15 in omega (arith, l)
@@ -216,7 +198,7 @@ put_none F p v clear owner s f =
     go true i e =
         subst (λ (b : Bool). or_reason (wrong_length (run_put_by p v b).n) (or_reason (unseated p v) (put_reason_by p v (run_put_by p v b).n b)) ≡ None) (sym i)
         (none_or (wrong_length (run_put_by p v true).n) (or_reason (unseated p v) (put_reason_by p v (run_put_by p v true).n true))
-        (short (run_put_by p v true).n (up_some passes (number_of v)) (up_short passes (number_of v)))
+        (right_length (run_put_by p v true).n (up_some passes (number_of v)) (up_short passes (number_of v)))
         (none_or (unseated p v) (put_reason_by p v (run_put_by p v true).n true) (ap (unseated_if p v) s)
         (none_or (each_page (put_along p v) (pages_from v (number_of v) (run_put_by p v true).n)) (no_room p)
         (each_none (put_along p v) (pages_from v (number_of v) (run_put_by p v true).n) (each i)) (room_none p e))))

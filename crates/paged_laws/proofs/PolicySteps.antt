@@ -1,24 +1,24 @@
 -- The entries of processes by the policy: any policy may take them.
-use Rattle.std.proofs.Common.{◌≡◌, ℕ, ◌+◌, ◌<◌, ◌≤◌, ◌==◌, max, nat_le, Bool, true, false, not, ◌&&◌, List, [], ◌∷◌, bytes_eq, Option, Some, None, refl, sym, ap, ◌∙◌, subst, arith}
+use Rattle.std.proofs.Common.{◌≡◌, ℕ, ◌+◌, ◌<◌, ◌≤◌, ◌==◌, max, nat_le, Bool, true, not, ◌&&◌, [], bytes_eq, Option, Some, None, refl, sym, ap, ◌∙◌, subst, arith}
 use Rattle.std.proofs.lemmas.Bool.Decides.{nat_tests}
 use Rattle.std.proofs.lemmas.Option.{same_Some}
 use Rattle.std.proofs.lemmas.Slice.Eq.{bytes_eq-Decides}
 use Rattle.vm_facts.proofs.Tests.{eq_self}
-use Rattle.vm_facts.specs.declared.page.Page.{Page}
 use Rattle.vm_facts.specs.declared.entry.Entry.{Entry}
 use Rattle.vm_facts.specs.declared.entry.Entry.TheVariants as entries
 use Rattle.flat_state.specs.Flat.{Process, Inputs, process_of, can_step, ready_if}
 use Rattle.flat_state.specs.Journal.{counted, IsUnit}
-use Rattle.page_model.specs.Placement.{Placement}
 use Rattle.page_model.specs.Swapper.{is_out}
 use Rattle.flat_model.specs.Run.{same_carry, process_of_entry}
 use Rattle.flat_model.specs.Touched.{touched}
 use Rattle.run_model.specs.declared.mark.Mark.{Mark}
 use Rattle.run_model.specs.State.{State}
-use Rattle.run_model.specs.Wanted.{running, AllValid, absent_by, first_absent}
+use Rattle.run_model.specs.Wanted.{running}
 use Rattle.run_model.specs.Act.{act}
 use Rattle.run_model.specs.Next.{next_unit}
 use Rattle.run_model.specs.Kinds.{ProcessRuns}
+use Rattle.run_model.proofs.Acting.{carry_self}
+use Rattle.run_model.proofs.Wanting.{all_present}
 use Rattle.run_laws.specs.Flowing.{Awaits, WaitsBy, Flows}
 use Rattle.run_laws.specs.Running.{IsRun, ReadyToStep}
 use Rattle.run_laws.proofs.Flows.{Acted, Settles, Refuses, Steps, acted, on_running, steps_own}
@@ -37,10 +37,6 @@ use Rattle.paged_laws.proofs.Virtual.{both, act_same}
 use Rattle.paged_laws.proofs.PolicyPages.{seen_as, IsHands, Fine, done_fine}
 
 -- An entry is the same as itself.
-
-carry_self : (c : Bool) → same_carry c c ≡ true
-carry_self true = refl
-carry_self false = refl
 
 same_self : (u : Entry) (pid : ℕ) → process_of_entry u ≡ Some pid → is_same u u ≡ true
 same_self (entries.Ran p n) pid e = both (p == p) (n == n) (eq_self p) (eq_self n)
@@ -96,10 +92,6 @@ other_none A s pid i w = go s.point.last w
     go (Some (entries.Out p bytes)) v = none_unless (p == pid) (reasons.Begun p) (one p v)
     go _ v = refl
 
-none_absent : (p : Placement) (qs : List Page) → AllValid p qs → first_absent p qs ≡ None
-none_absent p [] v = refl
-none_absent p (q ∷ qs) v = ap (λ (b : Bool). absent_by b q (first_absent p qs)) v.0 ∙ none_absent p qs v.1
-
 step_none : (A : Inputs) (s : State) (m : Mark) (pid : ℕ) (u : Entry) → WaitsBy A s s.point.last → next_unit A s ≡ Some u → act A s pid ≡ Some u
     → process_of_entry u ≡ Some pid → step_reason A (seen_as s m) pid u ≡ None
 step_none A s m pid u w h a e =
@@ -122,7 +114,7 @@ step_none A s m pid u w h a e =
     (none_or (unless (not (is_out s.place pid)) (reasons.IsOut pid)) (or_reason (page_away A v pid) (other_act pid u (act A v pid)))
     (none_unless (not (is_out s.place pid)) (reasons.IsOut pid) (ap not x.resident))
     (none_or (page_away A v pid) (other_act pid u (act A v pid))
-    (ap (away_by s.place) (none_absent s.place (touched A s.point.flat pid) x.pages))
+    (ap (away_by s.place) (all_present s.place (touched A s.point.flat pid) x.pages))
     (ap (other_act pid u) (act_same A s m pid ∙ a) ∙ act_self u pid e))))))
 
 process_none : (A : Inputs) (s : State) (u : Entry) (pid : ℕ) → process_of_entry u ≡ Some pid → step_reason A s pid u ≡ None → unit_reason A s u ≡ None

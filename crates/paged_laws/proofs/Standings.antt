@@ -1,5 +1,5 @@
 -- A machine with its bytes that stands at a state of a paged run stands at the next one, after the unit's own step.
-use Rattle.std.proofs.Common.{◌≡◌, inl, inr, ℕ, not, Bool, true, false, List, Option, Some, None, refl, sym, ap, ◌∙◌, subst}
+use Rattle.std.proofs.Common.{◌≡◌, inl, inr, ℕ, not, true, false, List, Option, Some, None, refl, sym, ap, ◌∙◌, subst}
 use Rattle.vm_facts.specs.declared.entry.Entry.{Entry}
 use Rattle.vm_facts.specs.declared.entry.Entry.TheVariants as entries
 use Rattle.flat_state.specs.Flat.{Holding, Holds, Lends, Zombie, Process, FlatState, Inputs, process_of}
@@ -30,6 +30,7 @@ use Rattle.paged_model.specs.Leaving.{may_not_go, still_seated, out_by, out_if, 
 use Rattle.paged_model.specs.Steps.{begun, step_reason}
 use Rattle.paged_model.specs.Runs.{paged_after, unit_reason}
 use Rattle.paged_model.proofs.Reasoned.{or_none, unless_none}
+use Rattle.paged_model.proofs.PartReasons.{not_true}
 use Rattle.paged_laws.specs.Paged.{Steady, under_dispatch, IsPaged}
 use Rattle.paged_laws.proofs.Acted.{Steps, steps}
 use Rattle.paged_laws.proofs.Awaiting.{unit_paged}
@@ -107,10 +108,6 @@ here A s k image reason at e = ap reason at.place ∙ e
 
 due_here : (A : Inputs) (s : State) (k : Kernel) (image : List ℕ) → IsPaged A s → StandsAt A s k image → DueStand k.place
 due_here A s k image x at = subst DueStand (sym at.place) x.steady.placed.dues
-
-not_true : (b : Bool) → not b ≡ true → b ≡ false
-not_true false e = refl
-not_true true e = absurd cc
 
 -- who goes out is in
 resident_of : (F : FlatState) (p : Placement) (pid : ℕ) → out_reason F p pid ≡ None → is_out p pid ≡ false

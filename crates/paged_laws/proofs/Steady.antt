@@ -77,42 +77,40 @@ never_refused p pid f = absurd cc
 never_out : (p pid : ℕ) (bytes : List ℕ) → may_follow (Some (entries.Out p bytes)) (entries.Refused pid) ≡ true → ⊥
 never_out p pid bytes f = absurd cc
 
--- a unit leaves the same under each mark
-pub same_point : (A : Inputs) (s : State) (m : Mark) (u : Entry) (pid : ℕ) → process_of_entry u ≡ Some pid
-    → (after A (record s { mark = m }) u).point ≡ (after A s u).point
-unfolding after
-same_point A s m (entries.Ran p n) pid e = refl
-same_point A s m (entries.Out p bytes) pid e = refl
-same_point A s m (entries.Grew p n) pid e = refl
-same_point A s m (entries.Call p n c r0 r1) pid e = refl
-same_point A s m (entries.Refused p) pid e = refl
-same_point A s m (entries.Sleeps p) pid e = refl
-same_point A s m (entries.Ended p n) pid e = refl
-same_point A s m _ pid e = absurd cc
+module _ (A : Inputs) (s : State) (m : Mark) where
+  -- a unit leaves the same under each mark
+  pub same_point : (u : Entry) (pid : ℕ) → process_of_entry u ≡ Some pid → (after A (record s { mark = m }) u).point ≡ (after A s u).point
+  unfolding after
+  same_point (entries.Ran p n) pid e = refl
+  same_point (entries.Out p bytes) pid e = refl
+  same_point (entries.Grew p n) pid e = refl
+  same_point (entries.Call p n c r0 r1) pid e = refl
+  same_point (entries.Refused p) pid e = refl
+  same_point (entries.Sleeps p) pid e = refl
+  same_point (entries.Ended p n) pid e = refl
+  same_point _ pid e = absurd cc
 
-pub same_place : (A : Inputs) (s : State) (m : Mark) (u : Entry) (pid : ℕ) → process_of_entry u ≡ Some pid
-    → (after A (record s { mark = m }) u).place ≡ (after A s u).place
-unfolding after
-same_place A s m (entries.Ran p n) pid e = refl
-same_place A s m (entries.Out p bytes) pid e = refl
-same_place A s m (entries.Grew p n) pid e = refl
-same_place A s m (entries.Call p n c r0 r1) pid e = refl
-same_place A s m (entries.Refused p) pid e = refl
-same_place A s m (entries.Sleeps p) pid e = refl
-same_place A s m (entries.Ended p n) pid e = refl
-same_place A s m _ pid e = absurd cc
+  pub same_place : (u : Entry) (pid : ℕ) → process_of_entry u ≡ Some pid → (after A (record s { mark = m }) u).place ≡ (after A s u).place
+  unfolding after
+  same_place (entries.Ran p n) pid e = refl
+  same_place (entries.Out p bytes) pid e = refl
+  same_place (entries.Grew p n) pid e = refl
+  same_place (entries.Call p n c r0 r1) pid e = refl
+  same_place (entries.Refused p) pid e = refl
+  same_place (entries.Sleeps p) pid e = refl
+  same_place (entries.Ended p n) pid e = refl
+  same_place _ pid e = absurd cc
 
-pub same_holdings : (A : Inputs) (s : State) (m : Mark) (u : Entry) (pid : ℕ) → process_of_entry u ≡ Some pid
-    → (after A (record s { mark = m }) u).holdings ≡ (after A s u).holdings
-unfolding after
-same_holdings A s m (entries.Ran p n) pid e = refl
-same_holdings A s m (entries.Out p bytes) pid e = refl
-same_holdings A s m (entries.Grew p n) pid e = refl
-same_holdings A s m (entries.Call p n c r0 r1) pid e = refl
-same_holdings A s m (entries.Refused p) pid e = refl
-same_holdings A s m (entries.Sleeps p) pid e = refl
-same_holdings A s m (entries.Ended p n) pid e = refl
-same_holdings A s m _ pid e = absurd cc
+  pub same_holdings : (u : Entry) (pid : ℕ) → process_of_entry u ≡ Some pid → (after A (record s { mark = m }) u).holdings ≡ (after A s u).holdings
+  unfolding after
+  same_holdings (entries.Ran p n) pid e = refl
+  same_holdings (entries.Out p bytes) pid e = refl
+  same_holdings (entries.Grew p n) pid e = refl
+  same_holdings (entries.Call p n c r0 r1) pid e = refl
+  same_holdings (entries.Refused p) pid e = refl
+  same_holdings (entries.Sleeps p) pid e = refl
+  same_holdings (entries.Ended p n) pid e = refl
+  same_holdings _ pid e = absurd cc
 
 module _ (A : Inputs) (s : State) (pid : ℕ) (u : Entry) (st : Steady A s) (e : step_reason A s pid u ≡ None) (own : process_of_entry u ≡ Some pid) where
   so : Steps A s pid u

@@ -52,25 +52,23 @@ trace_paged A s n (l ∷ ls) images x h =
     let g = good_line n (trace_line_reason A s l) (trace_misstep A (trace_line_after A s l) (n + 1) ls) h in
     trace_paged A (trace_line_after A s l) (n + 1) ls images (line_paged A s l images x g.0) g.1
 
-front_paged : (A : Inputs) (hs : Holdings) (ls : List Line) → CanRun A hs → first_trace_misstep A hs ls ≡ None
-    → IsPaged A (trace_state A (start A hs) ls)
-front_paged A hs ls c e =
-    trace_paged A (start A hs) 1 ls c.images (record { steady = run_steady A (start A hs) (start_run A hs c); awaits = tt }) e
+module _ (A : Inputs) (hs : Holdings) (ls : List Line) where
+  front_paged : CanRun A hs → first_trace_misstep A hs ls ≡ None → IsPaged A (trace_state A (start A hs) ls)
+  front_paged c e =
+      trace_paged A (start A hs) 1 ls c.images (record { steady = run_steady A (start A hs) (start_run A hs c); awaits = tt }) e
 
-pub trace_placed : (A : Inputs) (hs : Holdings) (ls : List Line) → CanRun A hs → first_trace_misstep A hs ls ≡ None
-    → PlacedAt A (trace_state A (start A hs) ls)
-trace_placed A hs ls c e =
-    let x : IsPaged A (trace_state A (start A hs) ls) = front_paged A hs ls c e in
-    let s : Steady A (trace_state A (start A hs) ls) = x.steady in
-    s.placed
+  pub trace_placed : CanRun A hs → first_trace_misstep A hs ls ≡ None → PlacedAt A (trace_state A (start A hs) ls)
+  trace_placed c e =
+      let x : IsPaged A (trace_state A (start A hs) ls) = front_paged c e in
+      let s : Steady A (trace_state A (start A hs) ls) = x.steady in
+      s.placed
 
-pub trace_owned : (A : Inputs) (hs : Holdings) (ls : List Line) → CanRun A hs → first_trace_misstep A hs ls ≡ None
-    → OwnedAt A (trace_state A (start A hs) ls)
-trace_owned A hs ls c e =
-    let s : State = trace_state A (start A hs) ls in
-    let p : PlacedAt A s = trace_placed A hs ls c e in
-    let so : Sound A.swap_blocks (machine_of s.point.flat s.place s.holdings) = p.sound in
-    so.owner
+  pub trace_owned : CanRun A hs → first_trace_misstep A hs ls ≡ None → OwnedAt A (trace_state A (start A hs) ls)
+  trace_owned c e =
+      let s : State = trace_state A (start A hs) ls in
+      let p : PlacedAt A s = trace_placed c e in
+      let so : Sound A.swap_blocks (machine_of s.point.flat s.place s.holdings) = p.sound in
+      so.owner
 
 -- What programs see.
 

@@ -132,7 +132,7 @@ record IsAmong (v lo n : ℕ) : Type 0 where
   low : lo ≤ v
   high : v < lo + n
 
-both_true : (a b : Bool) → (a && b) ≡ true → (a ≡ true) × (b ≡ true)
+pub both_true : (a b : Bool) → (a && b) ≡ true → (a ≡ true) × (b ≡ true)
 both_true true true e = (refl, refl)
 both_true true false e = absurd cc
 both_true false b e = absurd cc

@@ -23,7 +23,7 @@ use Rattle.paged_model.specs.Leaving.{unseated_by}
 use Rattle.paged_model.specs.Parts.{expire_by, expire_reason, busy_if, busy, write_along, write_reason, free_reason, part_reason}
 use Rattle.paged_model.proofs.Reasoned.{or_none, none_or, unless_none, none_unless}
 use Rattle.paged_model.proofs.There.{there_true, if_there_none}
-use Rattle.paged_model.proofs.Brought.{each_run, room_left}
+use Rattle.paged_model.proofs.Brought.{each_run, room_left, both_true}
 
 -- Words.
 
@@ -48,7 +48,7 @@ none_each reason P f (q ∷ qs) e = none_or (reason q) (each_page reason qs) (f 
 
 -- Idle pages.
 
-unseated_some : (q : Page) (s : PageState) → unseated_by q s ≡ None → ⊥
+pub unseated_some : (q : Page) (s : PageState) → unseated_by q s ≡ None → ⊥
 unseated_some q (Invalid f) e = absurd cc
 unseated_some q Unfilled e = absurd cc
 unseated_some q (Valid f) e = absurd cc
@@ -132,11 +132,6 @@ all_along : (p : Placement) (q : Page) (ws : List Page) → EachPage (IsIdle p) 
 all_along p q [] i d n = tt
 all_along p q (w ∷ ws) i d n = (record { idle = i.0; dirty = d.0; near = n.0 }, all_along p q ws i.1 d.1 n.1)
 
-both_true : (a b : Bool) → (a && b) ≡ true → (a ≡ true) × (b ≡ true)
-both_true true true e = (refl, refl)
-both_true true false e = absurd cc
-both_true false b e = absurd cc
-
 write_comes : (p : Placement) (q : Page) (n : ℕ) → write_reason p q n ≡ None → WriteComes p q n
 write_comes p q n e =
     let ws = pages_from q (number_of q) n in
@@ -154,7 +149,7 @@ write_comes p q n e =
       room = room_left p b.1;
     }
 
-right_length : (n : ℕ) → 0 < n → n ≤ 16 → wrong_length n ≡ None
+pub right_length : (n : ℕ) → 0 < n → n ≤ 16 → wrong_length n ≡ None
 right_length n l m =
     let a : nat_lt 0 n ≡ true = grind (arith, nat_tests) in
     let b : nat_le n 16 ≡ true = grind (arith, nat_tests) in
@@ -174,7 +169,7 @@ write_none p q n c =
 
 -- `F`.
 
-not_true : (b : Bool) → not b ≡ true → b ≡ false
+pub not_true : (b : Bool) → not b ≡ true → b ≡ false
 not_true false e = refl
 not_true true e = absurd cc
 

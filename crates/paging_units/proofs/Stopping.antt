@@ -35,7 +35,7 @@ plain_longer journal e p =
     let l = length-append journal (e ∷ []) in
     omega arith
 
-err_same : {A : Type 0} (s t : Stop) → (let r : Result A Stop = Err s in r) ≡ Err t → s ≡ t
+pub err_same : {A : Type 0} (s t : Stop) → (let r : Result A Stop = Err s in r) ≡ Err t → s ≡ t
 err_same s t e = cc
 
 -- a machine in which no pieces wait runs on after a call that stopped, as it was but for pieces that were found

@@ -1,5 +1,5 @@
 -- A break of the flat machine, by the sizes of the machine that stands for it.
-use Rattle.std.proofs.Common.{◌≡◌, ℕ, ◌-◌, ◌*◌, ◌/◌, List, length, Option, Some, None, Result, Ok, Err, refl, sym, ap, ◌∙◌, subst, arith}
+use Rattle.std.proofs.Common.{◌≡◌, ℕ, ◌-◌, ◌*◌, ◌/◌, List, length, Option, Some, Result, Ok, Err, refl, sym, ap, ◌∙◌, subst, arith}
 use Rattle.std.specs.Prelude.{nat_le}
 use Rattle.vm_facts.specs.Answers.{Answers}
 use Rattle.vm_facts.specs.declared.page.Page.TheVariants as pages
@@ -19,14 +19,10 @@ use Rattle.page_model.specs.Placement.{space_number, image_in, slots_of}
 use Rattle.kernel_model.specs.Kernel.{Kernel}
 use Rattle.kernel_model.specs.Sound.{TextFits}
 use Rattle.kernel_model.specs.Coupled.{SameTables, Fits, image_text}
-use Rattle.machine_state.proofs.FlatMemory.{IsPaged}
+use Rattle.machine_state.proofs.FlatMemory.{IsPaged, paged}
 use Rattle.machine_state.specs.UserMemory.{text_len}
 use Rattle.fault_fill.specs.Growth.{space_of_pid}
 use Rattle.proc_calls.specs.Sizing.{break_at, break_read, pages_to}
-
-paged : (k : Kernel) (x : Space) (o : Option SpacePages) → numbered space_number x.sid k.place.spaces ≡ o → Fits (Some x) o → IsPaged k x
-paged k x None e h = absurd h
-paged k x (Some y) e h = record { pages = y; there = e; sized = h }
 
 whole_pages : (n bytes : ℕ) → bytes ≡ 1024 * n → n ≡ bytes / 1024
 whole_pages n bytes e = omega (arith, e)

@@ -1,5 +1,5 @@
 -- The process that makes a call, and what its entries ask.
-use Rattle.std.proofs.Common.{◌≡◌, ℕ, true, false, List, [], Option, Some, None, refl, sym, ap, ◌∙◌, subst}
+use Rattle.std.proofs.Common.{◌≡◌, ℕ, true, false, [], Option, Some, None, refl, sym, ap, ◌∙◌, subst}
 use Rattle.std.specs.Prelude.{Result, Ok, Err, IsSome, IfOk, OnOk}
 use Rattle.vm_facts.specs.declared.regs.Regs.{Regs}
 use Rattle.vm_facts.specs.declared.entry.Entry.{Entry}
@@ -8,28 +8,20 @@ use Rattle.swap_book.specs.Placing.{place_all}
 use Rattle.flat_state.specs.declared.change.Change.{Change}
 use Rattle.flat_state.specs.declared.change.Change.TheVariants.{Keep, Reap, Sleep}
 use Rattle.kernel_model.specs.Kernel.{Life, HoldsSpace, Kernel, Proc}
-use Rattle.kernel_model.specs.Sound.{Sound, has_life, lives_in, lives}
+use Rattle.kernel_model.specs.Sound.{Sound, lives}
 use Rattle.kernel_model.specs.ChangeStep.{life_of_proc, with_proc, change_if, change_step}
 use Rattle.kernel_model.specs.Unit.{proc_of}
 use Rattle.machine_state.proofs.KernelLawsMachineProcesses.{with_at}
 use Rattle.page_model.specs.Pages.{numbered}
 use Rattle.machine_state.proofs.ProcessLists.{found_number}
 use Rattle.machine_state.proofs.Lives.{pid_of}
-use Rattle.proc_table.specs.declared.process.Proc.{Proc as Record}
-use Rattle.proc_table.specs.Records.{find}
-use Rattle.machine_state.specs.Alike.{AreRecords}
 use Rattle.machine_state.specs.Going.{CanGoOn}
-use Rattle.machine_state.specs.Machine.{Standing, proc_of_record, processes_of}
-use Rattle.machine_state.proofs.Listed.{process_is}
+use Rattle.machine_state.specs.Machine.{Standing}
 use Rattle.machine_state.specs.Calls.{life_in}
 use Rattle.machine_state.specs.Applying.{CanApply, IsEntryOf, MayAct, facts_named}
 use Rattle.machine_state.specs.UserMemory.{CanLend}
+use Rattle.fault_fill.proofs.GrownStacks.{lives_by}
 use Rattle.proc_calls.specs.Callers.{IsCaller}
-
--- its record shows it
-pub record_shown : (k : Kernel) (ps : List Record) (pid : ℕ) → k.processes ≡ processes_of ps k.next_pid → AreRecords ps k.next_pid
-    → proc_of k pid ≡ proc_of_record (find pid ps)
-record_shown k ps pid e h = ap (λ (qs : List Proc). numbered pid_of pid qs) e ∙ process_is ps k.next_pid pid h
 
 pub not_there : (o : Option Proc) → IsSome o → o ≡ None → ⊥
 not_there o s e = let t : IsSome o = s in cc
@@ -37,10 +29,6 @@ not_there o s e = let t : IsSome o = s in cc
 there_by : (o : Option Proc) (sid : ℕ) → life_of_proc o ≡ HoldsSpace sid → IsSome o
 there_by None sid e = absurd cc
 there_by (Some p) sid e = refl
-
-lives_by : (o : Option Proc) (sid : ℕ) → life_of_proc o ≡ HoldsSpace sid → lives_in o ≡ true
-lives_by None sid e = absurd cc
-lives_by (Some p) sid e = ap has_life e
 
 -- it is there, and lives
 pub caller_there : (k : Kernel) (pid : ℕ) → CanLend k pid → IsSome (proc_of k pid)

@@ -1,5 +1,5 @@
 -- What a fork asks of the machine, and what is so after its entry.
-use Rattle.std.proofs.Common.{◌≡◌, ℕ, ◌+◌, ◌*◌, Bool, true, false, List, [], ◌∷◌, ◌++◌, length, map, Option, Some, None, IsSome, refl, sym, ap, ◌∙◌, subst, arith}
+use Rattle.std.proofs.Common.{◌≡◌, ℕ, ◌+◌, ◌*◌, Bool, true, false, List, [], ◌∷◌, ◌++◌, length, Option, Some, None, IsSome, refl, sym, ap, ◌∙◌, subst, arith}
 use Rattle.std.specs.Prelude.{Result, Ok, Err, IfOk, OnOk, is_ok}
 use Rattle.std.proofs.lemmas.Bool.{ltb-true}
 use Rattle.vm_facts.specs.declared.page.Page.{Page}
@@ -22,8 +22,8 @@ use Rattle.flat_model.specs.Calls.{try_again, no_memory, replied, replied_both}
 use Rattle.flat_model.specs.declared.calls.SystemCall.{SystemCall}
 use Rattle.flat_model.specs.declared.calls.SystemCall.TheVariants as calls
 use Rattle.flat_model.specs.Step.{call_entry}
-use Rattle.page_model.specs.Pages.{Slot, SpacePages, numbered, data_in, stack_in}
-use Rattle.page_model.specs.Placement.{Due, Start, CopyOf, space_number, slots_of}
+use Rattle.page_model.specs.Pages.{Slot, SpacePages, data_in, stack_in}
+use Rattle.page_model.specs.Placement.{Due, Start, CopyOf, slots_of}
 use Rattle.page_model.specs.Place.{data_count, stack_count, copy_due, copies_from, fork_space}
 use Rattle.kernel_model.specs.Kernel.{Life, Proc, Kernel}
 use Rattle.kernel_model.specs.Sound.{Sound}
@@ -31,7 +31,6 @@ use Rattle.kernel_model.specs.Numbers.{Numbered}
 use Rattle.kernel_model.specs.Asks.{asked, HasSpace}
 use Rattle.kernel_model.specs.ChangeStep.{space_of_life, life_of_proc, change_if, change_step}
 use Rattle.kernel_model.specs.Unit.{proc_of}
-use Rattle.machine_state.proofs.Numbered.{absent_none, below_absent}
 use Rattle.machine_state.specs.Want.{Want}
 use Rattle.machine_state.specs.Going.{CanGoOn}
 use Rattle.machine_state.specs.Wants.{wanted_of}
@@ -39,6 +38,8 @@ use Rattle.machine_state.specs.Machine.{Standing}
 use Rattle.machine_state.specs.Applying.{CanApply, MayAct, facts_named}
 use Rattle.machine_state.specs.Conditions.{KeepsFlat}
 use Rattle.machine_state.specs.UserMemory.{CanLend}
+use Rattle.machine_state.proofs.HoldingSteps.{next_is_new}
+use Rattle.machine_state.proofs.FirstPieces.{all_more}
 use Rattle.fault_fill.specs.LastMoves.{last_moves}
 use Rattle.fault_fill.proofs.LastMoves.{last_of}
 use Rattle.fault_fill.specs.Growth.{space_of_pid, with_pieces}
@@ -49,20 +50,17 @@ use Rattle.proc_calls.specs.Making.{is_below_limit, finds_pieces, without_pieces
 use Rattle.proc_calls.specs.Copying.{in_space, AreCopiesFrom, HasCopied}
 use Rattle.proc_calls.specs.Forking.{fork_wants, HasNewSpace, ForkAnswered}
 use Rattle.proc_calls.proofs.Callers.{caller_there, caller_lives, sound_now}
-use Rattle.proc_calls.proofs.Makes.{no_u_page, all_pieces, u_want, u_asked, no_place, goes_on, has_child}
+use Rattle.proc_calls.proofs.Makes.{no_u_page, u_want, u_asked, no_place, goes_on, has_child}
 
 -- The next space has no number yet, and no pieces.
 
-new_space : (k : Kernel) → Numbered k → numbered space_number k.next_sid k.place.spaces ≡ None
-new_space k n = absent_none space_number k.next_sid k.place.spaces (below_absent k.next_sid (map space_number k.place.spaces) n.spaces_below)
-
 no_data : (size : ℕ) (k : Kernel) (hs : Holdings) → Sound size (record k { holdings = hs }) → Numbered k → lengths (owners.Data k.next_sid) hs ≡ []
 no_data size k hs s n =
-    s.owner.blocks.data_held k.next_sid ∙ ap (λ (x : Option SpacePages). pieces (2 * length (data_in x))) (new_space k n) ∙ no_pieces (owners.Data k.next_sid)
+    s.owner.blocks.data_held k.next_sid ∙ ap (λ (x : Option SpacePages). pieces (2 * length (data_in x))) (next_is_new k n) ∙ no_pieces (owners.Data k.next_sid)
 
 no_stack : (size : ℕ) (k : Kernel) (hs : Holdings) → Sound size (record k { holdings = hs }) → Numbered k → lengths (owners.Stack k.next_sid) hs ≡ []
 no_stack size k hs s n =
-    s.owner.blocks.stack_held k.next_sid ∙ ap (λ (x : Option SpacePages). pieces (2 * length (stack_in x))) (new_space k n) ∙ no_pieces (owners.Stack k.next_sid)
+    s.owner.blocks.stack_held k.next_sid ∙ ap (λ (x : Option SpacePages). pieces (2 * length (stack_in x))) (next_is_new k n) ∙ no_pieces (owners.Stack k.next_sid)
 
 -- The pieces of the child that are looked for are those that the change asks for.
 
@@ -87,9 +85,9 @@ module _ (k : Kernel) (size : ℕ) (s : Sound size k) (n : Numbered k) (parent :
   all_looked : wanted_of k.holdings (fork_wants k parent) ≡ data_pieces ++ (stack_pieces ++ wanted_of k.holdings (u_want k.next_pid ∷ []))
   all_looked =
       ap (λ (xs : List Wanted). xs ++ (more_pieces k.holdings (owners.Stack k.next_sid) (2 * stack_count k.place parent) ++ wanted_of k.holdings (u_want k.next_pid ∷ [])))
-      (all_pieces k.holdings (owners.Data k.next_sid) (2 * data_count k.place parent) (no_data size k k.holdings s n))
+      (all_more k.holdings (owners.Data k.next_sid) (2 * data_count k.place parent) (no_data size k k.holdings s n))
       ∙ ap (λ (xs : List Wanted). data_pieces ++ (xs ++ wanted_of k.holdings (u_want k.next_pid ∷ [])))
-      (all_pieces k.holdings (owners.Stack k.next_sid) (2 * stack_count k.place parent) (no_stack size k k.holdings s n))
+      (all_more k.holdings (owners.Stack k.next_sid) (2 * stack_count k.place parent) (no_stack size k k.holdings s n))
 
 pub fork_asks : (m : Standing) (pid child parent : ℕ) (ws : List Want) → ws ≡ fork_wants m.kernel parent → parent ≡ space_of_pid m.kernel pid
     → child ≡ m.kernel.next_pid → CanGoOn m

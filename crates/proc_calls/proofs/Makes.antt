@@ -1,17 +1,15 @@
 -- What a call that makes a process asks of the machine, and what is so after its entry.
-use Rattle.std.proofs.Common.{◌≡◌, ◌≢◌, inr, ℕ, ◌<◌, nat_lt, Bool, true, false, List, [], ◌∷◌, ◌++◌, length, drop, map, Option, Some, None, refl, sym, ap, ◌∙◌, subst}
+use Rattle.std.proofs.Common.{◌≡◌, ◌≢◌, inr, ℕ, ◌<◌, nat_lt, Bool, true, false, List, [], ◌∷◌, ◌++◌, length, map, Option, Some, None, refl, sym, ap, ◌∙◌, subst}
 use Rattle.std.specs.Prelude.{Result, Ok, Err, IfOk, OnOk, IfErr, is_ok}
 use Rattle.std.proofs.lemmas.Bool.{ltb-true}
-use Rattle.std.proofs.lemmas.List.{append-nil, length-map}
+use Rattle.std.proofs.lemmas.List.{append-nil}
 use Rattle.vm_facts.specs.declared.regs.Regs.{Regs}
 use Rattle.vm_facts.specs.declared.entry.Entry.{Entry}
 use Rattle.vm_facts.specs.declared.stop.Stop.{Stop}
 use Rattle.aout_image.specs.declared.Image.{Image}
-use Rattle.swap_book.specs.declared.Owner.{Owner}
 use Rattle.swap_book.specs.declared.Owner.TheVariants as owners
-use Rattle.swap_book.specs.declared.Held.{Held}
-use Rattle.swap_book.specs.Owners.{pieces_of, u_pieces}
-use Rattle.swap_book.specs.Holdings.{Holdings, of_owner, lengths}
+use Rattle.swap_book.specs.Owners.{u_pieces}
+use Rattle.swap_book.specs.Holdings.{Holdings, lengths}
 use Rattle.swap_book.specs.Placing.{Wanted, wanted, more_pieces, place_all}
 use Rattle.flat_state.specs.declared.change.Change.{Change}
 use Rattle.flat_state.specs.declared.change.Change.TheVariants.{Keep, Lend}
@@ -42,6 +40,7 @@ use Rattle.machine_state.specs.Performing.{IsAtBound, StopsForRoom}
 use Rattle.machine_state.specs.UserMemory.{CanLend}
 use Rattle.machine_state.proofs.Lives.{pid_of}
 use Rattle.proc_table.specs.declared.process.Proc.{Proc as Record}
+use Rattle.machine_state.proofs.FirstPieces.{all_more}
 use Rattle.vfork_pass.specs.Passed.{IsHolder, HasLent}
 use Rattle.fault_fill.specs.Growth.{with_pieces}
 use Rattle.proc_calls.specs.Callers.{IsCaller}
@@ -66,17 +65,11 @@ no_child k n = absent_none (λ (p : Proc). p.pid) k.next_pid k.processes (below_
 pub no_u_page : (size : ℕ) (k : Kernel) (hs : Holdings) → Sound size (record k { holdings = hs }) → Numbered k → lengths (owners.U k.next_pid) hs ≡ []
 no_u_page size k hs s n = s.owner.blocks.u_held k.next_pid ∙ ap (λ (b : Bool). u_pieces (u_blocks b)) (ap lives_in (no_child k n))
 
--- an owner that holds nothing wants all its pieces
-pub all_pieces : (hs : Holdings) (owner : Owner) (blocks : ℕ) → lengths owner hs ≡ [] → more_pieces hs owner blocks ≡ wanted owner (pieces_of owner blocks)
-all_pieces hs owner blocks e =
-    let none : length (of_owner owner hs) ≡ 0 = sym (length-map (of_owner owner hs) (λ (h : Held). h.length)) ∙ ap (λ (ns : List ℕ). length ns) e in
-    ap (λ (n : ℕ). wanted owner (drop n (pieces_of owner blocks))) none
-
 abbrev pub u_want : ℕ → Want
 u_want child = record { owner = owners.U child; blocks = 2 }
 
 pub u_asked : (hs : Holdings) (child : ℕ) → lengths (owners.U child) hs ≡ [] → wanted_of hs (u_want child ∷ []) ≡ wanted (owners.U child) (u_pieces 2)
-u_asked hs child e = append-nil (more_pieces hs (owners.U child) 2) ∙ all_pieces hs (owners.U child) 2 e
+u_asked hs child e = append-nil (more_pieces hs (owners.U child) 2) ∙ all_more hs (owners.U child) 2 e
 
 -- The entry.
 

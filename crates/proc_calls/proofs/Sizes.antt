@@ -43,6 +43,7 @@ use Rattle.machine_state.specs.UserMemory.{CanLend}
 use Rattle.machine_state.specs.Wants.{wanted_of, found_for}
 use Rattle.machine_state.specs.Want.{Want}
 use Rattle.fault_fill.specs.Growth.{space_of_pid, with_pieces}
+use Rattle.fault_fill.proofs.Touching.{same_size}
 use Rattle.proc_calls.specs.Callers.{IsCaller}
 use Rattle.proc_calls.specs.Sizing.{process_data_pages, process_stack_pages, break_at, pieces_found}
 use Rattle.proc_calls.specs.Leaving.{HasSettled}
@@ -50,15 +51,6 @@ use Rattle.proc_calls.proofs.Callers.{caller_lives}
 use Rattle.proc_calls.proofs.Leaving.{GoesOn, settled_goes, space_stays}
 
 -- The map of a space shows how many pages it has.
-
-same_count : (m n : ℕ) → ((v : ℕ) → v < m → v < n) → ((v : ℕ) → v < n → v < m) → m ≡ n
-same_count m n f g = elim (cases_lt m n) [
-  | inl below ↦ absurd (let z : m < m = g m below in omega arith)
-  | inr above ↦ elim (cases_lt n m) [
-    | inl under ↦ absurd (let z : n < n = f n under in omega arith)
-    | inr over ↦ omega (arith, above, over)
-  ]
-]
 
 module _ (p : Placement) (core : Frames) (s : Places) (shows : ShowsSpace p core s) where
   data_in : (v : ℕ) → v < length s.«data» → v < data_count p s.sid
@@ -73,7 +65,7 @@ module _ (p : Placement) (core : Frames) (s : Places) (shows : ShowsSpace p core
   ]
 
   data_shown : length s.«data» ≡ data_count p s.sid
-  data_shown = same_count (length s.«data») (data_count p s.sid) data_in data_only
+  data_shown = same_size (length s.«data») (data_count p s.sid) data_in data_only
 
   stack_in : (v : ℕ) → v < length s.stack → v < stack_count p s.sid
   stack_in v l =
@@ -87,7 +79,7 @@ module _ (p : Placement) (core : Frames) (s : Places) (shows : ShowsSpace p core
   ]
 
   stack_shown : length s.stack ≡ stack_count p s.sid
-  stack_shown = same_count (length s.stack) (stack_count p s.sid) stack_in stack_only
+  stack_shown = same_size (length s.stack) (stack_count p s.sid) stack_in stack_only
 
   text_in : (v : ℕ) → v < length s.text → v < length (slots_of p (pages.Text s.image 0))
   text_in v l =
@@ -101,7 +93,7 @@ module _ (p : Placement) (core : Frames) (s : Places) (shows : ShowsSpace p core
   ]
 
   text_shown : length s.text ≡ length (slots_of p (pages.Text s.image 0))
-  text_shown = same_count (length s.text) (length (slots_of p (pages.Text s.image 0))) text_in text_only
+  text_shown = same_size (length s.text) (length (slots_of p (pages.Text s.image 0))) text_in text_only
 
   pub data_counted : (sid : ℕ) → s.sid ≡ sid → length s.«data» ≡ data_count p sid
   data_counted sid e = data_shown ∙ ap (data_count p) e

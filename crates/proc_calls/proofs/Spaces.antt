@@ -1,6 +1,6 @@
 -- The pieces of the next space, in which an image starts.
 use Rattle.std.proofs.Common.{◌≡◌, ◌≢◌, inl, inr, ℕ, zero, suc, ◌+◌, ◌-◌, ◌*◌, ◌<◌, ◌≤◌, ◌==◌, Bool, true, false, List, [], ◌∷◌, ◌++◌, length, refl, sym, ap, ◌∙◌, subst, arith}
-use Rattle.std.specs.Prelude.{slice_index_or, Result, Ok, Err, IfOk, IfErr, is_ok, is_some, nat_lt, cond, map, drop, slice_get, Option, Some, None}
+use Rattle.std.specs.Prelude.{slice_index_or, Result, Ok, Err, IfOk, IfErr, is_ok, is_some, nat_lt, cond, map, slice_get, Option, Some, None}
 use Rattle.std.proofs.lemmas.Bool.{cases_eq, eq-eqb, ne_eqb, lt-ltb, ltb-true, ltb-false}
 use Rattle.std.proofs.lemmas.List.{append-nil, length-map}
 use Rattle.std.proofs.lemmas.Option.{same_Some}
@@ -12,10 +12,7 @@ use Rattle.vm_facts.specs.declared.page.Page.TheVariants.{Text}
 use Rattle.aout_image.specs.declared.Image.{Image}
 use Rattle.aout_image.specs.Image.{text_pages_of, image_data_pages}
 use Rattle.swap_dmap.specs.Chunks.{pieces, text_pieces}
-use Rattle.swap_book.specs.declared.Owner.{Owner}
 use Rattle.swap_book.specs.declared.Owner.TheVariants as owners
-use Rattle.swap_book.specs.declared.Held.{Held}
-use Rattle.swap_book.specs.Owners.{pieces_of}
 use Rattle.swap_book.specs.Holdings.{Holdings, of_owner, lengths}
 use Rattle.swap_book.specs.Placing.{Wanted, wanted, more_pieces, place_all}
 use Rattle.swap_book.proofs.OwnerLaws.{no_pieces}
@@ -40,6 +37,7 @@ use Rattle.machine_state.specs.Sourced.{ImageNamed, named_at}
 use Rattle.machine_state.specs.Applying.{facts_named}
 use Rattle.machine_state.specs.Sharing.{IsSharer}
 use Rattle.machine_state.specs.Wants.{CanAsk, wanted_of}
+use Rattle.machine_state.proofs.FirstPieces.{want, none_held, all_more, nil_of, no_want}
 use Rattle.proc_calls.specs.Starting.{image_wanted, image_found, wants_found, FindsBy, Finds, StopsFinding, is_shared, three_wants, AreNextWants}
 use Rattle.proc_calls.proofs.Callers.{sound_now}
 use Rattle.proc_calls.proofs.Starts.{IsReady, is_ready}
@@ -116,12 +114,6 @@ facts_of_named images (suc i) n e = facts_at images i n e
 
 -- What it wants.
 
-none_held : (hs : Holdings) (owner : Owner) → lengths owner hs ≡ [] → length (of_owner owner hs) ≡ 0
-none_held hs owner e = sym (length-map (of_owner owner hs) (λ (h : Held). h.length)) ∙ ap (λ (ns : List ℕ). length ns) e
-
-all_more : (hs : Holdings) (owner : Owner) (blocks : ℕ) → lengths owner hs ≡ [] → more_pieces hs owner blocks ≡ wanted owner (pieces_of owner blocks)
-all_more hs owner blocks e = ap (λ (k : ℕ). wanted owner (drop k (pieces_of owner blocks))) (none_held hs owner e)
-
 -- the next space holds nothing, nor does a text that nobody shares
 record HoldsNone (p : Placement) (hs : Holdings) (sid image : ℕ) : Type 0 where
   of_data : lengths (owners.Data sid) hs ≡ []
@@ -137,12 +129,6 @@ holds_none size k image s n =
       of_stack = o.stack_held k.next_sid ∙ ap (λ (x : Option SpacePages). pieces (2 * length (stack_in x))) new ∙ no_pieces (owners.Stack k.next_sid);
       of_text = λ z. o.text_held image ∙ ap (λ (n : ℕ). text_pieces_while n (2 * length (slots_of k.place (Text image 0)))) z;
     }
-
-abbrev want : Owner → ℕ → Want
-want owner blocks = record { owner = owner; blocks = blocks }
-
-abbrev no_want : Want
-no_want = want (owners.Data 0) 0
 
 abbrev pub all_asked : List Want → List Want
 all_asked rs = slice_index_or rs 0 no_want ∷ slice_index_or rs 1 no_want ∷ slice_index_or rs 2 no_want ∷ []
@@ -164,33 +150,28 @@ abbrev pieces_by : Placement → ℕ → ℕ → ℕ → Image → List Wanted
 pieces_by p n sid image facts =
     text_asked n image (2 * length (slots_of p (Text image 0))) ++ (wanted (owners.Data sid) (pieces (2 * image_data_pages facts)) ++ wanted (owners.Stack sid) (pieces 2))
 
-asks_shared : (p : Placement) (hs : Holdings) (sid image : ℕ) (facts : Image) → HoldsNone p hs sid image → 0 < sharers p image
-    → wanted_of hs (own_wants sid facts) ≡ image_pieces p sid image facts
-asks_shared p hs sid image facts h l = own_asks p hs sid image facts h ∙ go (sharers p image) refl l
-  where
-    go : (n : ℕ) → sharers p image ≡ n → 0 < n → pieces_by p 1 sid image facts ≡ pieces_by p (sharers p image) sid image facts
-    go zero e m = absurd (omega arith)
-    go (suc n) e m = ap (λ (k : ℕ). pieces_by p k sid image facts) (sym e)
+module _ (p : Placement) (hs : Holdings) (sid image : ℕ) (facts : Image) where
+  asks_shared : HoldsNone p hs sid image → 0 < sharers p image → wanted_of hs (own_wants sid facts) ≡ image_pieces p sid image facts
+  asks_shared h l = own_asks p hs sid image facts h ∙ go (sharers p image) refl l
+    where
+      go : (n : ℕ) → sharers p image ≡ n → 0 < n → pieces_by p 1 sid image facts ≡ pieces_by p (sharers p image) sid image facts
+      go zero e m = absurd (omega arith)
+      go (suc n) e m = ap (λ (k : ℕ). pieces_by p k sid image facts) (sym e)
 
-asks_first : (p : Placement) (hs : Holdings) (sid image : ℕ) (facts : Image) → HoldsNone p hs sid image → sharers p image ≡ 0
-    → text_pages_of facts ≡ length (slots_of p (Text image 0)) → wanted_of hs (three_wants sid image facts) ≡ image_pieces p sid image facts
-asks_first p hs sid image facts h none size =
-    let t : List Wanted = wanted (owners.Text image) (text_pieces (2 * length (slots_of p (Text image 0)))) in
-    ap (λ (l : List Wanted). l ++ wanted_of hs (own_wants sid facts))
-    (all_more hs (owners.Text image) (2 * text_pages_of facts) (h.of_text none) ∙ ap (λ (n : ℕ). wanted (owners.Text image) (text_pieces (2 * n))) size)
-    ∙ ap (λ (l : List Wanted). t ++ l) (own_asks p hs sid image facts h)
-    ∙ ap (λ (k : ℕ). pieces_by p k sid image facts) (sym none)
+  asks_first : HoldsNone p hs sid image → sharers p image ≡ 0
+      → text_pages_of facts ≡ length (slots_of p (Text image 0)) → wanted_of hs (three_wants sid image facts) ≡ image_pieces p sid image facts
+  asks_first h none size =
+      let t : List Wanted = wanted (owners.Text image) (text_pieces (2 * length (slots_of p (Text image 0)))) in
+      ap (λ (l : List Wanted). l ++ wanted_of hs (own_wants sid facts))
+      (all_more hs (owners.Text image) (2 * text_pages_of facts) (h.of_text none) ∙ ap (λ (n : ℕ). wanted (owners.Text image) (text_pieces (2 * n))) size)
+      ∙ ap (λ (l : List Wanted). t ++ l) (own_asks p hs sid image facts h)
+      ∙ ap (λ (k : ℕ). pieces_by p k sid image facts) (sym none)
 
-nil_of : {A : Type 0} (xs : List A) → length xs ≡ 0 → xs ≡ []
-nil_of [] e = refl
-nil_of (x ∷ xs) e = absurd (omega (arith, e))
-
-can_three : (p : Placement) (hs : Holdings) (sid image : ℕ) (facts : Image) → HoldsNone p hs sid image → sharers p image ≡ 0
-    → CanAsk hs (three_wants sid image facts)
-can_three p hs sid image facts h none = record {
-  differ = (((λ e. cc), ((λ e. cc), tt)), (((λ e. cc), tt), (tt, tt)));
-  each = ((mul-mod_right 2 (text_pages_of facts), nil_of (of_owner (owners.Text image) hs) (none_held hs (owners.Text image) (h.of_text none))), (tt, (tt, tt)));
-}
+  can_three : HoldsNone p hs sid image → sharers p image ≡ 0 → CanAsk hs (three_wants sid image facts)
+  can_three h none = record {
+    differ = (((λ e. cc), ((λ e. cc), tt)), (((λ e. cc), tt), (tt, tt)));
+    each = ((mul-mod_right 2 (text_pages_of facts), nil_of (of_owner (owners.Text image) hs) (none_held hs (owners.Text image) (h.of_text none))), (tt, (tt, tt)));
+  }
 
 module _ (m : Standing) (image : ℕ) (ws : List Want) (on : CanGoOn m) (next : AreNextWants m image ws) where
   none : HoldsNone m.kernel.place m.kernel.holdings m.kernel.next_sid image

@@ -1,6 +1,5 @@
 -- The new stack page of an image: what its fill asks of the machine, after the entry by which the image starts.
-use Rattle.std.proofs.Common.{◌≡◌, ℕ, zero, suc, ◌<◌, ◌≤◌, true, List, [], ◌∷◌, length, Option, Some, None, refl, sym, ap, ◌∙◌, subst, arith}
-use Rattle.std.specs.Prelude.{slice_get}
+use Rattle.std.proofs.Common.{◌≡◌, ℕ, ◌<◌, ◌≤◌, true, List, [], ◌∷◌, length, Option, Some, None, refl, sym, ap, ◌∙◌, subst}
 use Rattle.vm_facts.specs.SwapImages.{SwapImage}
 use Rattle.io_edge.specs.FileHolding.{NamedFile}
 use Rattle.vm_facts.specs.declared.page.Page.TheVariants.{Stack}
@@ -26,22 +25,13 @@ use Rattle.machine_state.specs.Applying.{CanApply, facts_named}
 use Rattle.fault_fill.specs.LastMoves.{last_moves}
 use Rattle.fault_fill.proofs.LastMoves.{last_of}
 use Rattle.kernel_model.specs.Unit.{proc_of}
+use Rattle.machine_state.proofs.HoldingSteps.{facts_there}
 use Rattle.proc_calls.specs.Answered.{Answered}
 use Rattle.proc_calls.specs.Filling.{IsStartFirst}
 use Rattle.proc_calls.specs.Starting.{image_found, LeavesFor}
 use Rattle.proc_calls.proofs.Starts.{is_ready}
 
 -- The header of an image that the machine has.
-
-header_at : (images : List ImageNamed) (place : ℕ) → place < length images → (facts : Image) × (slice_get (facts_named images) place ≡ Some facts)
-header_at [] place l = absurd (omega arith)
-header_at (n ∷ images) zero l = (n.facts, refl)
-header_at (n ∷ images) (suc place) l = header_at images place (omega arith)
-
-has_header : (images : List ImageNamed) (image : ℕ) → 0 < image → image ≤ length images
-    → (facts : Image) × (facts_numbered (facts_named images) image ≡ Some facts)
-has_header images zero l m = absurd (omega arith)
-has_header images (suc place) l m = header_at images place (omega arith)
 
 -- The kernel after the entry: the new page alone is due, and there are as many frames.
 
@@ -87,7 +77,7 @@ is_started old asked new pid image regs top holds before after above within left
     let r = is_ready old left.between pid holds before after left.left in
     let e : Entry = call_entry pid Execve regs in
     let images : asked.images ≡ old.images = ap (λ (s : Standing). s.images) left.step ∙ r.images in
-    let header = has_header asked.images image above (subst (λ (ns : List ImageNamed). image ≤ length ns) (sym images) within) in
+    let header = facts_there asked.images image above (subst (λ (ns : List ImageNamed). image ≤ length ns) (sym images) within) in
     let b : HasNewStack asked.kernel new.kernel e =
     subst (λ (l : Kernel). HasNewStack asked.kernel l e) (sym answer.step)
     (image_if (facts_named asked.images) asked.kernel regs e image top header.0 (proc_of asked.kernel pid) header.1 can.ready.alive) in

@@ -1,14 +1,11 @@
 -- A stretch after a stretch is one stretch.
-use Rattle.std.proofs.Common.{◌≡◌, ◌∙◌, ℕ, zero, suc, ◌+◌, List, [], ◌∷◌, ◌++◌, refl, sym, ap, subst, append-nil, append_assoc, arith}
-use Rattle.vm_facts.specs.Answers.{Answers, ByteWrite, put_byte, written}
+use Rattle.std.proofs.Common.{◌≡◌, ◌∙◌, ℕ, zero, suc, ◌+◌, List, [], ◌++◌, sym, ap, subst, append-nil, append_assoc, arith}
+use Rattle.vm_facts.specs.Answers.{Answers, ByteWrite, written}
 use Rattle.vm_facts.specs.declared.regs.Regs.{Regs}
 use Rattle.user_vax.specs.Program.{run}
 use Rattle.user_vax.specs.Instruction.{instruction, writes_of}
+use Rattle.user_vax.specs.ArrayMemory.{written-append}
 use Rattle.proc_run.specs.Stretch.{CarriesOn, Stretch}
-
-written_twice : (memory : Answers) (xs ys : List ByteWrite) → written memory (xs ++ ys) ≡ written (written memory xs) ys
-written_twice memory [] ys = refl
-written_twice memory (x ∷ xs) ys = written_twice (put_byte memory x) xs ys
 
 -- so many more
 abbrev further : ℕ → ℕ → ℕ
@@ -29,7 +26,7 @@ module _ (memory mid : Answers) (before between : Regs) (n : ℕ) (xs : List Byt
   counted (suc k) ys after h =
       let earlier : List ByteWrite = h.0 in
       let left : Regs = h.1 in
-      let same : written mid earlier ≡ written memory (xs ++ earlier) = ap (λ (m : Answers). written m earlier) is ∙ sym (written_twice memory xs earlier) in
+      let same : written mid earlier ≡ written memory (xs ++ earlier) = ap (λ (m : Answers). written m earlier) is ∙ sym (written-append memory xs earlier) in
       let later : (m : Answers) → List ByteWrite = λ m. writes_of (run m (instruction left)) in (
         xs ++ earlier,
         left,

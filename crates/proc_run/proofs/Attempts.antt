@@ -11,6 +11,7 @@ use Rattle.user_vax.specs.declared.refused.Refused.{Refused}
 use Rattle.user_vax.specs.declared.refused.Refused.TheVariants.{Miss, Below, Signal}
 use Rattle.user_vax.specs.declared.stepped.Stepped.{Stepped}
 use Rattle.user_vax.specs.declared.stepped.Stepped.TheVariants as steps
+use Rattle.user_step.proofs.Trying.{call_done}
 use Rattle.flat_state.specs.Space.{Space}
 use Rattle.flat_state.specs.Flat.{Process, Inputs}
 use Rattle.machine_state.specs.Going.{CanGoOn}
@@ -42,30 +43,20 @@ did_all (Err (Miss address write)) e = absurd cc
 did_all (Err (Below address)) e = absurd cc
 did_all (Err (Signal number)) e = absurd cc
 
-never_called : (o : Option ℤ) (s : Stepped) → answer_of_call o ≡ s → ((number : ℤ) → s ≢ steps.Call number) → s ≢ steps.Done → ⊥
-never_called None s e f g = g (sym e)
-never_called (Some number) s e f g = f number (sym e)
-
 pub called : (r : Result Effect Refused) (number : ℤ) → answer_of r ≡ steps.Call number → (effect : Effect) × (r ≡ Ok effect) × (effect.call ≡ Some number)
 called (Ok effect) number e = (effect, refl, some_called effect.call number e)
 called (Err (Miss address write)) number e = absurd cc
 called (Err (Below address)) number e = absurd cc
 called (Err (Signal signal)) number e = absurd cc
 
-pub missed : (r : Result Effect Refused) (address : ℕ) (write : Bool) → answer_of r ≡ steps.Miss address write → r ≡ Err (Miss address write)
-missed (Ok effect) address write e = absurd (never_called effect.call (steps.Miss address write) e (λ n z. absurd cc) (λ z. absurd cc))
-missed (Err (Miss a w)) address write e = cc
-missed (Err (Below a)) address write e = absurd cc
-missed (Err (Signal n)) address write e = absurd cc
-
 pub fell : (r : Result Effect Refused) (address : ℕ) → answer_of r ≡ steps.Below address → r ≡ Err (Below address)
-fell (Ok effect) address e = absurd (never_called effect.call (steps.Below address) e (λ n z. absurd cc) (λ z. absurd cc))
+fell (Ok effect) address e = absurd (call_done effect.call (steps.Below address) e (λ n z. absurd cc) (λ z. absurd cc))
 fell (Err (Miss a w)) address e = absurd cc
 fell (Err (Below a)) address e = cc
 fell (Err (Signal n)) address e = absurd cc
 
 pub signalled : (r : Result Effect Refused) (number : ℕ) → answer_of r ≡ steps.Signal number → r ≡ Err (Signal number)
-signalled (Ok effect) number e = absurd (never_called effect.call (steps.Signal number) e (λ n z. absurd cc) (λ z. absurd cc))
+signalled (Ok effect) number e = absurd (call_done effect.call (steps.Signal number) e (λ n z. absurd cc) (λ z. absurd cc))
 signalled (Err (Miss a w)) number e = absurd cc
 signalled (Err (Below a)) number e = absurd cc
 signalled (Err (Signal n)) number e = cc

@@ -17,6 +17,7 @@ use Rattle.run_model.specs.declared.mark.Mark.TheVariants as marks
 use Rattle.run_model.specs.Kinds.{ProcessRuns as Goes, GoesOn}
 use Rattle.run_model.specs.Next.{goes_on, turn_instructions, turn_unit, under, work, when}
 use Rattle.run_model.specs.State.{State}
+use Rattle.economy_laws.proofs.Turns.{all_three}
 use Rattle.touched_pages.specs.Serving.{At}
 use Rattle.touched_pages.specs.RunUnitsTouching.{RunsInSpace}
 use Rattle.proc_run.specs.Choosing.{is_space_holder, steps_by, may_run}
@@ -68,12 +69,6 @@ there F pid (Some p) e r = let h = held_there p.asleep p.holding r in (p, h.0, e
 
 -- It goes on while instructions are left.
 
-all_true : (c x y : Bool) → c ≡ true → x ≡ true → y ≡ true → (c && (x && y)) ≡ true
-all_true true true true e f g = refl
-all_true true true false e f g = absurd cc
-all_true true false y e f g = absurd cc
-all_true false x y e f g = absurd cc
-
 none_left : (c x y : Bool) → (x ≡ true → y ≡ true → ⊥) → (c && (x && y)) ≡ false
 none_left false x y h = refl
 none_left true false y h = refl
@@ -85,7 +80,7 @@ pub goes_true : (A : Inputs) (s : State) (pid more until : ℕ) → until ≡ mi
 goes_true A s pid more until e l c =
     let below : s.count < A.limit = omega (arith, e, l) in
     let short : s.count < more = omega (arith, e, l) in
-    all_true (flat_steps s.point.flat pid) (nat_lt s.count A.limit) (nat_lt s.count more) c (grind (arith, nat_tests)) (grind (arith, nat_tests))
+    all_three (flat_steps s.point.flat pid) (nat_lt s.count A.limit) (nat_lt s.count more) c (grind (arith, nat_tests)) (grind (arith, nat_tests))
 
 pub goes_false : (A : Inputs) (s : State) (pid more until : ℕ) → until ≡ min more A.limit → until ≤ s.count → goes_on A s pid more ≡ false
 goes_false A s pid more until e l =

@@ -27,6 +27,8 @@ use Rattle.kernel_model.specs.Unit.{proc_of}
 use Rattle.kernel_laws.proofs.Flat.Numbered.{numbered_map, has_number}
 use Rattle.kernel_laws.proofs.PageLawsListsPages.{mapped}
 use Rattle.std.specs.Option.{is_some}
+use Rattle.user_step.proofs.Trying.{missed}
+use Rattle.kernel_laws.proofs.Machine.Swaps.{with_regs_pid}
 use Rattle.machine_state.specs.Joined.{instructions_in, last_says}
 use Rattle.machine_state.specs.Machine.{Standing}
 use Rattle.machine_state.specs.UserMemory.{Wrote, kernel_answers, spot_in, write_spot, write_in, writes_in, AreWritten}
@@ -39,33 +41,31 @@ use Rattle.proc_run.specs.Calls.{own_answers}
 use Rattle.proc_run.specs.Choosing.{can_run, steps_by, may_run}
 use Rattle.proc_run.specs.Stretch.{CarriesOn, Stretch, StretchOf, MissesByte, RanOne, RanOn}
 use Rattle.proc_run.specs.declared.stretch.Missed.{Missed}
-use Rattle.proc_run.proofs.Attempts.{missed, no_room}
+use Rattle.proc_run.proofs.Attempts.{no_room}
 use Rattle.touched_pages.proofs.Covering.{writes_none}
 use Rattle.proc_run.proofs.Tried.{ran_advances, ran_goes_on}
 use Rattle.proc_run.proofs.Written.{writes_same}
 
 -- What an instruction writes may be written before or after it is counted.
 
-byte_apart : (k : Kernel) (pid : ℕ) (regs : Regs) (e : Entry) (q : Page) (s : PageState) (at byte : ℕ)
-    → write_by_state (ran_by k pid regs e) q s at byte ≡ ran_by (write_by_state k q s at byte) pid regs e
-byte_apart k pid regs e q (Valid f) at byte = refl
-byte_apart k pid regs e q Unfilled at byte = refl
-byte_apart k pid regs e q (Invalid f) at byte = refl
-byte_apart k pid regs e q (Coming f) at byte = refl
-byte_apart k pid regs e q (Going f) at byte = refl
-byte_apart k pid regs e q OnSwap at byte = refl
+module _ (k : Kernel) (pid : ℕ) (regs : Regs) (e : Entry) where
+  byte_apart : (q : Page) (s : PageState) (at byte : ℕ) → write_by_state (ran_by k pid regs e) q s at byte ≡ ran_by (write_by_state k q s at byte) pid regs e
+  byte_apart q (Valid f) at byte = refl
+  byte_apart q Unfilled at byte = refl
+  byte_apart q (Invalid f) at byte = refl
+  byte_apart q (Coming f) at byte = refl
+  byte_apart q (Going f) at byte = refl
+  byte_apart q OnSwap at byte = refl
 
-spot_apart : (k : Kernel) (pid : ℕ) (regs : Regs) (e : Entry) (sid : ℕ) (spot : Spot) (byte : ℕ)
-    → write_spot (ran_by k pid regs e) sid spot byte ≡ ran_by (write_spot k sid spot byte) pid regs e
-spot_apart k pid regs e sid (Text i) byte = refl
-spot_apart k pid regs e sid (Data i) byte = byte_apart k pid regs e (pages.Data sid (i / 1024)) (state_of k.place (pages.Data sid (i / 1024))) (i % 1024) byte
-spot_apart k pid regs e sid (Stack i) byte = byte_apart k pid regs e (pages.Stack sid (i / 1024)) (state_of k.place (pages.Stack sid (i / 1024))) (i % 1024) byte
-spot_apart k pid regs e sid Below byte = refl
-spot_apart k pid regs e sid Outside byte = refl
+  spot_apart : (sid : ℕ) (spot : Spot) (byte : ℕ) → write_spot (ran_by k pid regs e) sid spot byte ≡ ran_by (write_spot k sid spot byte) pid regs e
+  spot_apart sid (Text i) byte = refl
+  spot_apart sid (Data i) byte = byte_apart (pages.Data sid (i / 1024)) (state_of k.place (pages.Data sid (i / 1024))) (i % 1024) byte
+  spot_apart sid (Stack i) byte = byte_apart (pages.Stack sid (i / 1024)) (state_of k.place (pages.Stack sid (i / 1024))) (i % 1024) byte
+  spot_apart sid Below byte = refl
+  spot_apart sid Outside byte = refl
 
-one_apart : (k : Kernel) (pid : ℕ) (regs : Regs) (e : Entry) (sid : ℕ) (w : ByteWrite)
-    → write_in (ran_by k pid regs e) sid w ≡ ran_by (write_in k sid w) pid regs e
-one_apart k pid regs e sid w = spot_apart k pid regs e sid (spot_in k.place sid w.address) w.byte
+  one_apart : (sid : ℕ) (w : ByteWrite) → write_in (ran_by k pid regs e) sid w ≡ ran_by (write_in k sid w) pid regs e
+  one_apart sid w = spot_apart sid (spot_in k.place sid w.address) w.byte
 
 writes_apart : (k : Kernel) (pid : ℕ) (regs : Regs) (e : Entry) (sid : ℕ) (ws : List ByteWrite)
     → writes_in (ran_by k pid regs e) sid ws ≡ ran_by (writes_in k sid ws) pid regs e
@@ -126,15 +126,12 @@ life_mapped : (pid : ℕ) (regs : Regs) (o : Option Proc) → life_of_proc (mapp
 life_mapped pid regs None = refl
 life_mapped pid regs (Some p) = still (λ q. q.life) pid regs (λ q. refl) p
 
-number_still : (pid : ℕ) (regs : Regs) (p : Proc) → (with_regs pid regs p).pid ≡ p.pid
-number_still pid regs = still (λ q. q.pid) pid regs (λ q. refl)
-
 at_pid : List Proc → ℕ → Option Proc
 at_pid ps pid = numbered (λ (p : Proc). p.pid) pid ps
 
 put_at : (pid : ℕ) (regs : Regs) (ps : List Proc) → at_pid (map (with_regs pid regs) ps) pid ≡ mapped (with_regs pid regs) (at_pid ps pid)
 unfolding at_pid
-put_at pid regs ps = numbered_map (λ (p : Proc). p.pid) (with_regs pid regs) (number_still pid regs) pid ps
+put_at pid regs ps = numbered_map (λ (p : Proc). p.pid) (with_regs pid regs) (with_regs_pid pid regs) pid ps
 
 regs_put : (pid : ℕ) (regs : Regs) (ps : List Proc) → steps_by (at_pid ps pid) ≡ true → regs ≡ regs_by (mapped (with_regs pid regs) (at_pid ps pid))
 unfolding at_pid
@@ -188,7 +185,7 @@ module _ (old : Standing) (pid : ℕ) (regs : Regs) (clear : old.kernel.place.du
   can_at zero ws mid = both (steps_by (proc_of (after_writes ws) pid)) (not (is_out (after_writes ws).place pid)) (steps_written ws) (in_still ws)
   can_at (suc n) ws mid =
       both (steps_by (proc_of (at (suc n) ws mid).kernel pid)) (not (is_out (after_writes ws).place pid))
-      (ap steps_by (numbered_map (λ (p : Proc). p.pid) (with_regs pid mid) (number_still pid mid) pid (after_writes ws).processes)
+      (ap steps_by (numbered_map (λ (p : Proc). p.pid) (with_regs pid mid) (with_regs_pid pid mid) pid (after_writes ws).processes)
       ∙ steps_mapped pid mid (proc_of (after_writes ws) pid) ∙ steps_written ws)
       (in_still ws)
 
@@ -197,7 +194,7 @@ module _ (old : Standing) (pid : ℕ) (regs : Regs) (clear : old.kernel.place.du
   has_at zero ws mid e = e ∙ has ∙ sym (ap (λ (ps : List Proc). regs_by (numbered (λ (p : Proc). p.pid) pid ps)) (same ws).processes)
   has_at (suc n) ws mid e =
       regs_put pid mid (after_writes ws).processes (steps_written ws)
-      ∙ sym (ap regs_by (numbered_map (λ (p : Proc). p.pid) (with_regs pid mid) (number_still pid mid) pid (after_writes ws).processes))
+      ∙ sym (ap regs_by (numbered_map (λ (p : Proc). p.pid) (with_regs pid mid) (with_regs_pid pid mid) pid (after_writes ws).processes))
 
   space_still : (ws : List ByteWrite) → space_of_pid (after_writes ws) pid ≡ sid
   space_still ws = ap (λ (ps : List Proc). space_of_life (life_of_proc (numbered (λ (p : Proc). p.pid) pid ps))) (same ws).processes
@@ -205,7 +202,7 @@ module _ (old : Standing) (pid : ℕ) (regs : Regs) (clear : old.kernel.place.du
   space_at : (n : ℕ) (ws : List ByteWrite) (mid : Regs) → space_of_pid (at n ws mid).kernel pid ≡ sid
   space_at zero ws mid = space_still ws
   space_at (suc n) ws mid =
-      ap (λ (o : Option Proc). space_of_life (life_of_proc o)) (numbered_map (λ (p : Proc). p.pid) (with_regs pid mid) (number_still pid mid) pid (after_writes ws).processes)
+      ap (λ (o : Option Proc). space_of_life (life_of_proc o)) (numbered_map (λ (p : Proc). p.pid) (with_regs pid mid) (with_regs_pid pid mid) pid (after_writes ws).processes)
       ∙ ap space_of_life (life_mapped pid mid (proc_of (after_writes ws) pid)) ∙ space_still ws
 
   answers_at : (n : ℕ) (ws : List ByteWrite) (mid : Regs) → AreWritten old.kernel sid ws

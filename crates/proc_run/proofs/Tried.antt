@@ -14,6 +14,7 @@ use Rattle.user_vax.specs.Effects.{Effect}
 use Rattle.user_vax.specs.Instruction.{instruction, answer_of, registers_after, writes_of}
 use Rattle.user_vax.specs.declared.refused.Refused.{Refused}
 use Rattle.user_vax.specs.declared.stepped.Stepped.TheVariants as steps
+use Rattle.user_step.proofs.Trying.{missed}
 use Rattle.flat_state.specs.Journal.{append}
 use Rattle.flat_state.specs.Space.{Space}
 use Rattle.flat_state.specs.Flat.{Process, Inputs}
@@ -37,7 +38,7 @@ use Rattle.proc_run.specs.declared.advancing.Advance.{Advance}
 use Rattle.proc_run.specs.declared.advancing.Advance.TheVariants as advances
 use Rattle.proc_run.specs.Calls.{own_answers}
 use Rattle.proc_run.specs.Runs.{RunsAt, AdvancesTo, counts, HasRunner, WaitsAt}
-use Rattle.proc_run.proofs.Attempts.{did_all, missed, fell, signalled, RoomOnly, room_answers, room_regs, room_runs, room_goes_on}
+use Rattle.proc_run.proofs.Attempts.{did_all, fell, signalled, RoomOnly, room_answers, room_regs, room_runs, room_goes_on}
 use Rattle.proc_run.proofs.Steps.{waits_missed, waits_below, signal_led, signal_stops, instruction_led, instruction_stops}
 use Rattle.proc_run.proofs.Written.{writes_same, wrote_lends}
 

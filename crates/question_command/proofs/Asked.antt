@@ -119,7 +119,7 @@ images_end question subject holds c lines faults.NoMemory made view answers by =
 images_end question subject holds c lines _ made view answers by = absurd by
 
 -- the run's ending is the answer's
-abbrev over : Subject → List FlatFile → List Event → Inputs
+abbrev pub over : Subject → List FlatFile → List Event → Inputs
 over subject images lines = inputs_with subject.numbers images (first_images (image_names subject.words) subject.words) lines
 
 are_inputs : (subject : Subject) (lines : List Event) (images : List FlatFile) (read : Read) → HasRead lines (Ok images) read

@@ -1,22 +1,21 @@
 -- How a run came to its end: it is over, or its limit cut it.
-use Rattle.std.proofs.Common.{◌≡◌, ◌⊎◌, inl, inr, ℕ, ◌<◌, ◌≤◌, ◌==◌, ◌&&◌, not, Bool, true, false, cond, nat_lt, List, [], ◌∷◌, length, find, Option, Some, None, refl, sym, ap, ◌∙◌, subst, arith}
+use Rattle.std.proofs.Common.{◌≡◌, ◌⊎◌, inl, inr, ℕ, ◌<◌, ◌≤◌, ◌&&◌, not, Bool, true, false, cond, nat_lt, List, [], ◌∷◌, length, find, Option, Some, None, refl, sym, ap, ◌∙◌, subst, arith}
 use Rattle.std.proofs.lemmas.Bool.Decides.{nat_tests}
 use Rattle.vm_facts.specs.SwapImages.{SwapImage}
 use Rattle.vm_facts.specs.declared.entry.Entry.{Entry}
 use Rattle.vm_facts.specs.declared.event.Event.{Event}
 use Rattle.vm_facts.specs.declared.stop.Stop.TheVariants as stops
 use Rattle.io_edge.specs.FileHolding.{NamedFile}
-use Rattle.flat_state.specs.Flat.{Process, FlatState, Inputs, process_of, can_step, is_ready, ready_if}
+use Rattle.flat_state.specs.Flat.{Process, Inputs, can_step, is_ready}
 use Rattle.flat_state.specs.Numbers.{IsNumbered}
 use Rattle.flat_state.specs.Journal.{append}
 use Rattle.run_model.specs.State.{State}
 use Rattle.run_model.specs.Swapped.{swap_left}
 use Rattle.run_model.specs.Next.{or_else, pid_if, next_ready, next_turned, next_unit}
 use Rattle.run_laws.specs.Running.{IsRun, IsIdle}
-use Rattle.run_laws.proofs.Others.{number_of_found}
 use Rattle.run_laws.proofs.Turning.{turned_ready}
 use Rattle.run_laws.proofs.Wholes.{reached_run}
-use Rattle.run_laws.proofs.Finishing.{finished_ends}
+use Rattle.run_laws.proofs.Finishing.{finished_ends, none_ready}
 use Rattle.film_core.specs.Choosing.{turn_after}
 use Rattle.film_core.proofs.Ready.{turned_same}
 use Rattle.film_core.specs.Films.{Filming, FilmAt}
@@ -28,32 +27,6 @@ use Rattle.reference_commands.specs.InMemory.{HasHalted}
 use Rattle.question_command.specs.Filmed.{IsAtState}
 
 -- Where no process is found that can step, none can.
-
-none_passes : (test : Process → Bool) (ps : List Process) (pid : ℕ) (q : Process) → find test ps ≡ None → find (λ x. x.pid == pid) ps ≡ Some q → test q ≡ false
-none_passes test [] pid q n f = absurd cc
-none_passes test (x ∷ ps) pid q n f = go (none_passes test ps pid q) (test x) refl n (x.pid == pid) f
-  where
-    go : (find test ps ≡ None → find (λ y. y.pid == pid) ps ≡ Some q → test q ≡ false) → (a : Bool) → test x ≡ a → cond a (Some x) (find test ps) ≡ None → (b : Bool)
-        → cond b (Some x) (find (λ y. y.pid == pid) ps) ≡ Some q → test q ≡ false
-    go ih true e n b f = absurd cc
-    go ih false e n true f = ap test (let same : q ≡ x = cc in same) ∙ e
-    go ih false e n false f = ih n f
-
-none_ready : (F : FlatState) (pid : ℕ) → next_ready F 0 ≡ None → 0 < pid → can_step F pid ≡ false
-none_ready F pid n l = go (process_of F pid) refl
-  where
-    from : (o : Option Process) → pid_if o ≡ None → o ≡ None
-    from None e = refl
-    from (Some q) e = absurd cc
-
-    both : (a b : Bool) → b ≡ true → (a && b) ≡ false → a ≡ false
-    both true b e k = absurd (let z : true ≡ false = sym e ∙ k in cc)
-    both false b e k = refl
-
-    go : (o : Option Process) → process_of F pid ≡ o → ready_if o ≡ false
-    go None e = refl
-    go (Some q) e = both (is_ready q) (nat_lt 0 q.pid) (let i = number_of_found F.processes pid q e in let m : 0 < q.pid = omega (arith, i, l) in grind (arith, nat_tests))
-        (none_passes (λ x. is_ready x && nat_lt 0 x.pid) F.processes pid q (from (find (λ q. is_ready q && nat_lt 0 q.pid) F.processes) n) e)
 
 -- who is found has a number
 found_above : (ps : List Process) (p : ℕ) → pid_if (find (λ q. is_ready q && nat_lt 0 q.pid) ps) ≡ Some p → 0 < p

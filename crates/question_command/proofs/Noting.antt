@@ -5,12 +5,10 @@ use Rattle.std.proofs.lemmas.List.{length-append}
 use Rattle.std.proofs.lemmas.Option.{same_Some}
 use Rattle.vm_facts.specs.SwapImages.{SwapImage}
 use Rattle.vm_facts.specs.declared.entry.Entry.{Entry}
-use Rattle.vm_facts.specs.declared.entry.Entry.TheVariants as entries
 use Rattle.vm_facts.specs.declared.event.Event.{Event}
 use Rattle.vm_facts.specs.declared.stop.Stop.TheVariants as stops
 use Rattle.io_edge.specs.FileHolding.{NamedFile}
 use Rattle.flat_state.specs.Flat.{Inputs}
-use Rattle.flat_state.specs.Journal.{append, appended}
 use Rattle.page_model.specs.Holdings.{Holdings}
 use Rattle.page_model.specs.Placement.{Placement}
 use Rattle.kernel_model.specs.Kernel.{Kernel}
@@ -24,8 +22,8 @@ use Rattle.run_laws.specs.Running.{CanRun}
 use Rattle.run_laws.proofs.Machines.{swaps_follow}
 use Rattle.reference_commands.specs.Machines.{journal_entries}
 use Rattle.film_core.specs.Films.{Filming, FilmAt, FilmBegun, OneMore, FilmGoes}
+use Rattle.film_core.proofs.Begins.{none_made}
 use Rattle.owner_laws.specs.First.{ComeFirst}
-use Rattle.run_laws.proofs.LongerJournals.{units_long}
 use Rattle.owner_laws.proofs.First.{first_of_longer}
 use Rattle.run_stats.specs.declared.look.Look.{Look}
 use Rattle.run_stats.specs.declared.noting.Note.{Note}
@@ -51,18 +49,6 @@ looked_at A s f h i image at =
     same_look f.mark s.mark f.machine.kernel.place s.place f.machine.kernel.holdings s.holdings (sym at.mark) stands.place stands.holdings
 
 -- The start.
-
-one_made : (u : Entry) → length (append [] u) ≡ 1
-one_made (entries.Event line) = refl
-one_made _ = refl
-
-none_made : (units : List Entry) → appended [] units ≡ [] → units ≡ []
-none_made [] e = refl
-none_made (u ∷ us) e =
-    let long = units_long us (append [] u) in
-    let one = one_made u in
-    let none = ap length e in
-    absurd (omega (arith, long, one, none))
 
 pub counted_first : (A : Inputs) (f : Filming) (h : Option (List NamedFile)) (i : Option SwapImage) (image : SwapImage) → FilmBegun A f h i image
     → Counted A f h i (look_at_film f) []

@@ -4,21 +4,13 @@ use Rattle.std.proofs.lemmas.List.Elements.{filter-append}
 use Rattle.vm_facts.specs.declared.page.Page.{Page}
 use Rattle.flat_state.specs.PageNames.{same_page, is_among}
 use Rattle.flat_state.proofs.PageNames.{same_page_is, same_page_self}
+use Rattle.flat_state.proofs.PageLists.{same_turned}
 use Rattle.flat_model.specs.Touched.{distinct}
 use Rattle.reference_answers.specs.Keys.{with_page}
 
 -- all pages but one
 abbrev pub but : Page → List Page → List Page
 but p pages = filter (λ other. not (same_page p other)) pages
-
-pub same_page_turned : (p q : Page) → same_page p q ≡ same_page q p
-same_page_turned p q = by (same_page p q) (same_page q p) refl refl
-  where
-    by : (a b : Bool) → same_page p q ≡ a → same_page q p ≡ b → a ≡ b
-    by true true e f = refl
-    by false false e f = refl
-    by true false e f = absurd (true≢false (sym (same_page_self p) ∙ ap (λ r. same_page r p) (same_page_is p q e) ∙ f))
-    by false true e f = absurd (true≢false (sym (same_page_self q) ∙ ap (λ r. same_page r q) (same_page_is q p f) ∙ e))
 
 -- a page that is one of two isn't the other
 pub not_same : (p q e : Page) → same_page p q ≡ false → same_page p e ≡ true → same_page q e ≡ false
@@ -45,7 +37,7 @@ among_distinct q (p ∷ more) = by (same_page q p) refl (among_distinct q more)
   where
     by : (b : Bool) → same_page q p ≡ b → is_among q (distinct more) ≡ is_among q more → (b || is_among q (but p (distinct more))) ≡ (b || is_among q more)
     by true f rest = refl
-    by false f rest = among_but p q (distinct more) (same_page_turned p q ∙ f) ∙ rest
+    by false f rest = among_but p q (distinct more) (same_turned p q ∙ f) ∙ rest
 
 -- one page more, where it is the one that is left out, and where it is another
 but_same : (p q : Page) (pages : List Page) → same_page p q ≡ true → but p (pages ++ q ∷ []) ≡ but p pages
@@ -57,10 +49,10 @@ but_other p q pages e = filter-append _ pages (q ∷ []) ∙ ap (λ b. but p pag
 step : (p q : Page) (pages : List Page) (b m : Bool) → same_page q p ≡ b → is_among q pages ≡ m
     → p ∷ but p (cond m pages (pages ++ q ∷ [])) ≡ cond (b || is_among q (but p pages)) (p ∷ but p pages) (p ∷ but p pages ++ q ∷ [])
 step p q pages true true f g = refl
-step p q pages true false f g = ap (λ r. p ∷ r) (but_same p q pages (same_page_turned p q ∙ f))
-step p q pages false true f g = ap (λ c. cond c (p ∷ but p pages) (p ∷ but p pages ++ q ∷ [])) (sym (among_but p q pages (same_page_turned p q ∙ f) ∙ g))
+step p q pages true false f g = ap (λ r. p ∷ r) (but_same p q pages (same_turned p q ∙ f))
+step p q pages false true f g = ap (λ c. cond c (p ∷ but p pages) (p ∷ but p pages ++ q ∷ [])) (sym (among_but p q pages (same_turned p q ∙ f) ∙ g))
 step p q pages false false f g =
-    let apart = same_page_turned p q ∙ f in
+    let apart = same_turned p q ∙ f in
     ap (λ r. p ∷ r) (but_other p q pages apart) ∙ ap (λ c. cond c (p ∷ but p pages) (p ∷ but p pages ++ q ∷ [])) (sym (among_but p q pages apart ∙ g))
 
 -- the distinct pages of references and of one more

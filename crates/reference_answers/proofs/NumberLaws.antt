@@ -6,10 +6,11 @@ use Rattle.std.proofs.lemmas.Bool.Decides.{nat_tests}
 use Rattle.vm_facts.specs.declared.page.Page.{Page}
 use Rattle.flat_state.specs.PageNames.{same_page, is_among}
 use Rattle.flat_state.proofs.PageNames.{same_page_is, same_page_self}
+use Rattle.flat_state.proofs.PageLists.{same_turned}
 use Rattle.flat_model.specs.Touched.{distinct}
 use Rattle.reference_answers.specs.Keys.{with_page}
 use Rattle.reference_answers.specs.Numbers.{number_from, numbers_of}
-use Rattle.reference_answers.proofs.Members.{same_page_turned, among_distinct, distinct_more}
+use Rattle.reference_answers.proofs.Members.{among_distinct, distinct_more}
 
 place_kept : (q : Page) (pages more : List Page) → is_among q pages ≡ true → position_or_len (same_page q) (pages ++ more) ≡ position_or_len (same_page q) pages
 place_kept q [] more h = absurd (true≢false (sym h))
@@ -49,7 +50,7 @@ numbers_more refs q =
     ∙ ap (λ ns. ns ++ number_from 1 (with_page (distinct refs) q) q ∷ []) (numbers_kept q (distinct refs) refs (λ r m. among_distinct r refs ∙ m))
 
 same_as : (a b d : Page) → same_page a d ≡ true → same_page a b ≡ same_page b d
-same_as a b d e = ap (λ r. same_page r b) (same_page_is a d e) ∙ same_page_turned d b
+same_as a b d e = ap (λ r. same_page r b) (same_page_is a d e) ∙ same_turned d b
 
 not_first : (n : ℕ) → (0 == 1 + n) ≡ false
 not_first n = grind (arith, nat_tests)
@@ -67,7 +68,7 @@ place_apart a b (d ∷ ds) h = by (same_page a d) (same_page b d) refl refl (pla
         → (cond (not y) (1 + position_or_len (same_page b) ds) 0 == cond (not x) (1 + position_or_len (same_page a) ds) 0) ≡ same_page a b
     by true true f g rest = sym (same_as a b d f ∙ g)
     by true false f g rest = first_not (position_or_len (same_page b) ds) ∙ sym (same_as a b d f ∙ g)
-    by false true f g rest = not_first (position_or_len (same_page a) ds) ∙ sym (same_page_turned a b ∙ same_as b a d g ∙ f)
+    by false true f g rest = not_first (position_or_len (same_page a) ds) ∙ sym (same_turned a b ∙ same_as b a d g ∙ f)
     by false false f g rest = grind (arith, nat_tests, rest (ap (λ c. c || is_among a ds) (sym f) ∙ h))
 
 -- two pages have one number only where they are one page

@@ -4,6 +4,7 @@ use Rattle.std.proofs.lemmas.List.{map-append, take_more}
 use Rattle.io_edge.specs.FileHolding.{NamedFile}
 use Rattle.replay_check.specs.Images.{FlatFile}
 use Rattle.io_edge.specs.Octets.{IsOctetFile, AreOctetFiles}
+use Rattle.io_edge.proofs.OctetFiles.{octets_behind}
 use Rattle.reference_commands.specs.InMemory.{file_of}
 
 -- the files so far, and one more
@@ -13,10 +14,6 @@ pub files_more : {X : Type 0} (view : X → NamedFile) (images : List FlatFile) 
 files_more view images files files' file i d below is pushed so_far =
     ap (map view) pushed ∙ map-append view files (file ∷ []) ∙ ap (λ (xs : List NamedFile). xs ++ view file ∷ []) so_far ∙ ap (λ (x : NamedFile). map file_of (take i images) ++ x ∷ []) is
     ∙ sym (ap (map file_of) (take_more images i d below) ∙ map-append file_of (take i images) (get_or images i d ∷ []))
-
-octets_behind : (files : List NamedFile) (file : NamedFile) → AreOctetFiles files → IsOctetFile file → AreOctetFiles (files ++ file ∷ [])
-octets_behind [] file all one = (one, tt)
-octets_behind (f ∷ files) file all one = (all.0, octets_behind files file all.1 one)
 
 pub octets_more : {X : Type 0} (view : X → NamedFile) (files files' : List X) (file : X) → files' ≡ files ++ file ∷ [] → IsOctetFile (view file)
     → AreOctetFiles (map view files) → AreOctetFiles (map view files')

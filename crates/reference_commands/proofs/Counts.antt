@@ -9,11 +9,13 @@ use Rattle.kernel_model.specs.Start.{ImagesFit}
 use Rattle.flat_model.specs.Run.{Point, flat_entry, flat_units, flat_run, start_point}
 use Rattle.flat_model.specs.Touched.{touched}
 use Rattle.flat_model.proofs.Folds.{run_more}
+use Rattle.run_model.proofs.After.{count_of_units}
 use Rattle.flat_laws.specs.Whole.{ImagesWhole}
 use Rattle.flat_laws.proofs.Few.{touched_few}
 use Rattle.flat_laws.proofs.Sized.{run_sized, sized_whole}
 use Rattle.replay_check.specs.Verdicts.{touched_by_unit, references_from, references_of}
 use Rattle.replay_check.proofs.Running.{units_one}
+use Rattle.transcript_laws.proofs.Texts.{start_runs}
 
 -- images that fit their pages are whole
 pub images_whole : (images : List NamedImage) → ImagesFit images → ImagesWhole images
@@ -35,19 +37,6 @@ units_before _ us all = (tt, all)
 all_units : (journal : List Entry) → AllUnits (units_of journal)
 all_units [] = tt
 all_units (e ∷ journal) = units_before e (units_of journal) (all_units journal)
-
-repeated_count : (u : Entry) (n : ℕ) (us : List Entry) → instructions_of (repeated u n us) ≡ n * counted u + instructions_of us
-repeated_count u zero us = omega arith
-repeated_count u (suc n) us = let more = repeated_count u n us in omega arith
-
-count_before : (e : Entry) (us : List Entry) → instructions_of (units_with e us) ≡ counted e + instructions_of us
-count_before (Ran p n) us = let h = repeated_count (Ran p 1) n us in omega arith
-count_before (Hands n) us = let h = repeated_count (Hands 1) n us in omega arith
-count_before _ us = refl
-
-count_units : (journal : List Entry) → instructions_of (units_of journal) ≡ instructions_of journal
-count_units [] = refl
-count_units (e ∷ journal) = let h = count_units journal in let k = count_before e (units_of journal) in omega arith
 
 alone : (u : Entry) → IsUnit u → units_with u [] ≡ u ∷ []
 alone (Ran p n) is = subst (λ (k : ℕ). repeated (Ran p 1) k [] ≡ Ran p k ∷ []) (sym is) refl
@@ -89,11 +78,7 @@ units_few A done (u ∷ us) point whole all run =
     go later None is = joined (references_from A None us) (let none = ap length (none_from A us) in omega arith)
     go later (Some next) is = joined (references_from A (Some next) us) (later next is)
 
-starts : (A : Inputs) → flat_run A [] ≡ Some (start_point A)
-unfolding flat_units
-starts A = refl
-
 pub references_few : (A : Inputs) (journal : List Entry) → ImagesFit A.images → length (references_of A journal) ≤ 28 * instructions_of journal
 references_few A journal fit =
-    let few = units_few A [] (units_of journal) (start_point A) (images_whole A.images fit) (all_units journal) (starts A) in
-    omega (arith, few, count_units journal)
+    let few = units_few A [] (units_of journal) (start_point A) (images_whole A.images fit) (all_units journal) (start_runs A) in
+    omega (arith, few, count_of_units journal)

@@ -2,7 +2,6 @@ pub use Rattle.run_command.proofs.Found
 pub use Rattle.run_command.proofs.Openings
 pub use Rattle.run_command.proofs.Inputs
 pub use Rattle.run_command.proofs.Runs as RunCommandRuns
-pub mod Bytes
 pub mod Copies
 pub mod Counts
 pub mod Names

@@ -4,13 +4,14 @@ use Rattle.std.specs.Prelude.{All, position}
 use Rattle.std.specs.List.{filter, position_or_len}
 use Rattle.std.proofs.lemmas.Bool.{lt-ltb}
 use Rattle.std.proofs.lemmas.List.Elements.{All-head, All-tail}
-use Rattle.std.proofs.lemmas.Slice.Eq.{bytes_eq-Decides}
 use Rattle.io_edge.specs.FileHolding.{NamedFile, place_of, bytes_at}
 use Rattle.aout_image.specs.Image.{Loaded, judged_image}
 use Rattle.flat_state.specs.Flat.{NamedImage}
 use Rattle.run_files.specs.ImageWords.{name_in, distinct, image_names}
+use Rattle.run_files.proofs.ImageNames.{unlike}
 use Rattle.replay_check.specs.Images.{FlatFile, IsImageFile, named_as, images_of}
 use Rattle.command_ending.specs.Named.{Why, before}
+use Rattle.run_model.proofs.Acting.{bytes_self}
 use Rattle.run_opening.specs.Images.{named_image, image_found_at, image_found, images_found}
 use Rattle.reference_commands.specs.InMemory.{file_of, DiffersFrom, AllDiffer}
 
@@ -53,13 +54,6 @@ names_differ words = distinct_differ (map name_in words)
 
 -- A name is found at its place.
 
-unlike : (a b : List ℕ) → bytes_eq a b ≡ false → bytes_eq b a ≡ false
-unlike a b differs = go (bytes_eq b a) refl
-  where
-    go : (like : Bool) → bytes_eq b a ≡ like → bytes_eq b a ≡ false
-    go false is = is
-    go true is = absurd (let yes = (bytes_eq-Decides a b).1 (sym ((bytes_eq-Decides b a).0 is)) in let never : true ≡ false = sym yes ∙ differs in cc)
-
 abbrev names_of : List FlatFile → List (List ℕ)
 names_of images = map (λ (image : FlatFile). image.name) images
 
@@ -93,14 +87,11 @@ below_all (d ∷ done) image more = let below = below_all done image more in ome
 placed : (test : NamedFile → Bool) (files : List NamedFile) (k : ℕ) → position_or_len test files ≡ k → k < length files → position test files ≡ Some k
 placed test files k is below = rw is (rw (lt-ltb k (length files) below) refl)
 
-is_itself : (name : List ℕ) → bytes_eq name name ≡ true
-is_itself name = (bytes_eq-Decides name name).1 refl
-
 found_place : (done : List FlatFile) (image : FlatFile) (more : List FlatFile) → AllDiffer (names_of (done ++ image ∷ more))
     → place_of (map file_of (done ++ image ∷ more)) image.name ≡ Some (length done)
 found_place done image more all =
     placed (λ file. bytes_eq file.name image.name) (map file_of (done ++ image ∷ more)) (length done)
-    (first_at (λ file. bytes_eq file.name image.name) done image more (others_fail done image more all) (is_itself image.name))
+    (first_at (λ file. bytes_eq file.name image.name) done image more (others_fail done image more all) (bytes_self image.name))
     (below_all done image more)
 
 bytes_there : (done : List FlatFile) (image : FlatFile) (more : List FlatFile) → bytes_at (map file_of (done ++ image ∷ more)) (length done) ≡ image.bytes

@@ -154,7 +154,7 @@ pub lines_begun : (whole : List Line) (p : Past) (m : Standing) (holds : Option 
     → PastAt p m holds i A s image → AlongLines whole 0 p m holds i A s image
 lines_begun whole p m holds i A s image at = record { state = s; stands = record { image = image; at = at }; same = refl; leads = refl }
 
-first_line : (A : Inputs) (t : State) (n : ℕ) (l : Line) (ls : List Line)
+pub first_line : (A : Inputs) (t : State) (n : ℕ) (l : Line) (ls : List Line)
     → trace_misstep A t n (l ∷ ls) ≡ misstep_or n (trace_line_reason A t l) (trace_misstep A (trace_line_after A t l) (n + 1) ls)
 unfolding trace_misstep
 first_line A t n l ls = refl

@@ -6,7 +6,7 @@ mod Besides
 mod Told
 mod Goes
 mod Joining
-mod Along
+pub mod Along
 mod Staying
 mod MovesJudged
 mod Parting

@@ -1,5 +1,5 @@
 -- A machine that stands at a state of a paged run, and made a unit that may come, stands at the next one.
-use Rattle.std.proofs.Common.{◌≡◌, ℕ, ◌+◌, ◌==◌, Bool, true, false, not, ◌&&◌, cond, List, [], ◌∷◌, Option, Some, None, refl, sym, ap, ◌∙◌, subst}
+use Rattle.std.proofs.Common.{◌≡◌, ℕ, ◌+◌, ◌==◌, Bool, true, false, not, ◌&&◌, cond, List, [], Option, Some, None, refl, sym, ap, ◌∙◌, subst}
 use Rattle.std.proofs.lemmas.Bool.{eqb-true}
 use Rattle.vm_facts.specs.SwapImages.{SwapImage}
 use Rattle.vm_facts.specs.declared.entry.Entry.{Entry}
@@ -11,9 +11,8 @@ use Rattle.flat_state.specs.Flat.{Inputs, can_step}
 use Rattle.flat_state.specs.Journal.{counted, instructions_of, IsUnit}
 use Rattle.flat_state.proofs.Joins.{append_counted}
 use Rattle.flat_model.specs.Run.{Point, process_of_entry}
-use Rattle.page_model.specs.Placement.{Placement, Residence}
-use Rattle.page_model.specs.Pages.{changed}
-use Rattle.page_model.specs.Swapper.{residence_of, is_out}
+use Rattle.page_model.specs.Placement.{Placement}
+use Rattle.page_model.specs.Swapper.{is_out}
 use Rattle.kernel_model.specs.Coupled.{SameTables}
 use Rattle.kernel_model.specs.Kernel.{Kernel}
 use Rattle.machine_state.specs.Files.{AreRunImages}
@@ -39,6 +38,7 @@ use Rattle.paged_laws.proofs.Acted.{Steps as StepsBy, steps, act_is}
 use Rattle.paged_laws.proofs.Awaiting.{unit_paged}
 use Rattle.paged_laws.proofs.Standings.{unit_stands}
 use Rattle.paged_laws.proofs.Virtual.{can_of}
+use Rattle.step_units.proofs.Turning.{moved_in}
 use Rattle.step_judge.specs.Begun.{Begun}
 use Rattle.step_judge.specs.Choosing.{may_run}
 use Rattle.step_judge.specs.Rests.{begun_by}
@@ -50,19 +50,6 @@ use Rattle.repage_check.specs.Past.{lines_next, turn_out, mark_next, begun_next,
 use Rattle.repage_check.specs.Units.{StandsPast}
 
 -- Who comes in is in.
-
-moved_in : (rs : List Residence) (pid at : ℕ)
-    → (residence_of (changed (λ (r : Residence). r.pid) pid (λ (r : Residence). record r { out = false; since = at }) rs) pid).out ≡ false
-moved_in [] pid at = refl
-moved_in (r ∷ rs) pid at = go (r.pid == pid) refl (moved_in rs pid at)
-  where
-    tail : List Residence
-    tail = changed (λ (x : Residence). x.pid) pid (λ (x : Residence). record x { out = false; since = at }) rs
-
-    go : (c : Bool) → (r.pid == pid) ≡ c → (residence_of tail pid).out ≡ false
-        → (residence_of (cond c (record r { out = false; since = at } ∷ rs) (r ∷ tail)) pid).out ≡ false
-    go true e rest = ap (λ (b : Bool). (cond b (record r { out = false; since = at }) (residence_of rs pid)).out) e
-    go false e rest = ap (λ (b : Bool). (cond b r (residence_of tail pid)).out) e ∙ rest
 
 came_in : (A : Inputs) (s : State) (pid : ℕ) → is_out (after A s (entries.SwapIn pid)).place pid ≡ false
 unfolding after

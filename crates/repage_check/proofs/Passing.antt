@@ -7,11 +7,12 @@ use Rattle.vm_facts.specs.declared.entry.Entry.TheVariants as entries
 use Rattle.vm_facts.specs.declared.page.Page.{Page}
 use Rattle.vm_facts.specs.declared.regs.Regs.{Regs}
 use Rattle.io_edge.specs.FileHolding.{NamedFile}
-use Rattle.flat_state.specs.Flat.{Process, FlatState, Inputs, process_of, can_step, ready_if}
+use Rattle.flat_state.specs.Flat.{Process, FlatState, Inputs, can_step}
 use Rattle.flat_state.specs.Space.{Space}
-use Rattle.flat_model.specs.Touched.{touched, touched_if, touched_by}
+use Rattle.flat_model.specs.Touched.{touched}
 use Rattle.page_model.specs.Placement.{Placement, Due, Start, CopyOf}
 use Rattle.page_model.specs.Swapper.{is_out}
+use Rattle.flat_model.proofs.Idle.{idle_touches}
 use Rattle.machine_state.specs.Calls.{due_and_parent}
 use Rattle.machine_state.specs.Machine.{Standing}
 use Rattle.step_judge.specs.Callers.{regs_of}
@@ -109,15 +110,6 @@ turn_locked p m holds i A s image pid at clear e =
     clear_locked A s (due_there p m holds i A s image at clear)
     ∙ ap (λ (o : Option ℕ). before_absent s.place (touched_of A s.point.flat o)) (turn_runs s.mark pid (ap turn_of at.mark ∙ e))
 
--- who can't step touches none
-none_touched : (A : Inputs) (F : FlatState) (pid : ℕ) → can_step F pid ≡ false → touched A F pid ≡ []
-unfolding touched
-none_touched A F pid c = go (process_of F pid) c
-  where
-    go : (o : Option Process) → ready_if o ≡ false → touched_if A.images F o ≡ []
-    go None e = refl
-    go (Some q) e = ap (λ (b : Bool). touched_by b A.images F q) e
-
 not_both : (a b : Bool) → b ≡ false → (a && not b) ≡ false → a ≡ false
 not_both true false e f = absurd cc
 not_both true true e f = absurd cc
@@ -129,7 +121,7 @@ stuck_locked p m pid clear e f holds i A s image at =
     let in_now : is_out m.kernel.place pid ≡ false = ap (λ (y : Placement). is_out y pid) x.stands.place ∙ turn_in s.place s.mark pid (ap turn_of at.mark ∙ e) at.turn in
     let cannot : can_step s.point.flat pid ≡ false =
     steps_same m.kernel s.point.flat pid x.stands.keeps.coupled.tables ∙ not_both (steps_by _) (is_out m.kernel.place pid) in_now f in
-    sym (turn_locked p m holds i A s image pid at clear e ∙ ap (before_absent s.place) (none_touched A s.point.flat pid cannot))
+    sym (turn_locked p m holds i A s image pid at clear e ∙ ap (before_absent s.place) (idle_touches A s.point.flat pid cannot))
 
 -- Who can step does so as under a dispatch of one instruction, with a limit that allows for it.
 

@@ -7,11 +7,9 @@ use Rattle.flat_model.specs.Asked.{start_held}
 use Rattle.paged_model.specs.declared.line.Line.{Line}
 use Rattle.paged_model.specs.declared.reason.Misstep.{Misstep}
 use Rattle.paged_model.specs.Traces.{first_trace_misstep}
+use Rattle.run_laws.proofs.Acts.{ok_same}
 use Rattle.repage_check.specs.declared.checking.Verdict.TheVariants.{NoSpace, Paged, Not}
 use Rattle.repage_check.specs.Verdicts.{IsJudged}
-
-ok_is : (hs ks : Holdings) → (let r : Result Holdings ℕ = Ok hs in r) ≡ Ok ks → hs ≡ ks
-ok_is hs ks e = cc
 
 err_is : (p q : ℕ) → (let r : Result Holdings ℕ = Err p in r) ≡ Err q → p ≡ q
 err_is p q e = cc
@@ -41,7 +39,7 @@ module _ (A : Inputs) (ls : List Line) (hs : Holdings) (found : start_held A ≡
     misstep = λ misstep. (
       λ e. absurd cc,
       λ r.
-          let same : r.holdings ≡ hs = ok_is r.holdings hs (sym r.found ∙ found) in
+          let same : r.holdings ≡ hs = ok_same r.holdings hs (sym r.found ∙ found) in
           absurd (let z : None ≡ Some misstep = sym none ∙ ap (λ (x : Holdings). first_trace_misstep A x ls) (sym same) ∙ r.first in cc),
     );
     no_space = λ pid. (λ e. absurd cc, λ e. absurd (ok_err hs pid (sym found ∙ e)));
@@ -53,13 +51,13 @@ module _ (A : Inputs) (ls : List Line) (hs : Holdings) (found : start_held A ≡
     paged = (
       λ e. absurd cc,
       λ r.
-          let same : r.holdings ≡ hs = ok_is r.holdings hs (sym r.found ∙ found) in
+          let same : r.holdings ≡ hs = ok_same r.holdings hs (sym r.found ∙ found) in
           absurd (let z : Some misstep ≡ None = sym first ∙ ap (λ (x : Holdings). first_trace_misstep A x ls) (sym same) ∙ r.good in cc),
     );
     misstep = λ other. (
       λ e. record { holdings = hs; found = found; first = first ∙ ap Some (named misstep other e) },
       λ r.
-          let same : r.holdings ≡ hs = ok_is r.holdings hs (sym r.found ∙ found) in
+          let same : r.holdings ≡ hs = ok_same r.holdings hs (sym r.found ∙ found) in
           ap Not (same_Some misstep other (sym first ∙ ap (λ (x : Holdings). first_trace_misstep A x ls) (sym same) ∙ r.first)),
     );
     no_space = λ pid. (λ e. absurd cc, λ e. absurd (ok_err hs pid (sym found ∙ e)));

@@ -2,7 +2,6 @@
 use Rattle.std.proofs.Common.{◌≡◌, ℕ, zero, suc, ◌+◌, ◌-◌, ◌<◌, ◌≤◌, ◌^◌, Bool, List, [], ◌∷◌, length, map, take, slice_get, Option, Some, None, Result, Ok, Err, IfOk, refl, sym, ap, ◌∙◌, subst, arith}
 use Rattle.std.specs.Prelude.{nat_le, IfErr, All}
 use Rattle.std.proofs.lemmas.List.{length-map}
-use Rattle.std.proofs.lemmas.List.Elements.{All-head, All-tail}
 use Rattle.vm_facts.specs.SwapImages.{SwapImage}
 use Rattle.io_edge.specs.FileHolding.{NamedFile}
 use Rattle.swap_book.specs.Holdings.{Holdings}
@@ -25,6 +24,7 @@ use Rattle.repage_check.specs.Units.{StandsPast}
 use Rattle.repage_check.specs.At.{JudgedAt}
 use Rattle.command_ending.specs.declared.fault.Fault.{Fault}
 use Rattle.command_ending.specs.declared.fault.Fault.TheVariants as faults
+use Rattle.vm_core.proofs.Ending.{are_among}
 use Rattle.grade_command.specs.Naming.{shown_as}
 use Rattle.repage_check.specs.declared.checking.Verdict.TheVariants.{Paged}
 use Rattle.repage_check.specs.Verdicts.{HasMisstep, IsJudged}
@@ -72,16 +72,10 @@ module _ (A : Inputs) (ls : List Line) (m : Standing) (holds : Option (List Name
 
 -- The first processes are in images of the machine.
 
-among : (images : List ImageNamed) (ns : List ℕ) → All (λ (n : ℕ). (1 ≤ n) × (n ≤ length images)) ns → AreAmong images ns
-among images [] all = tt
-among images (n ∷ ns) all =
-    let h = All-head (λ (k : ℕ). (1 ≤ k) × (k ≤ length images)) n ns all in
-    (h.0, h.1, among images ns (All-tail (λ (k : ℕ). (1 ≤ k) × (k ≤ length images)) n ns all))
-
 pub numbers_among : (images : List ImageNamed) (opened : List OpenedImage) (count : ℕ) (ns : List ℕ) → images ≡ map shown_as opened → length opened ≡ count
     → All (λ (n : ℕ). (1 ≤ n) × (n ≤ count)) ns → AreAmong images ns
 numbers_among images opened count ns are many all =
-    among images ns (subst (λ (k : ℕ). All (λ (n : ℕ). (1 ≤ n) × (n ≤ k)) ns) (sym (ap length are ∙ length-map opened shown_as ∙ many)) all)
+    are_among images ns (subst (λ (k : ℕ). All (λ (n : ℕ). (1 ≤ n) × (n ≤ k)) ns) (sym (ap length are ∙ length-map opened shown_as ∙ many)) all)
 
 -- The first lines of a case.
 

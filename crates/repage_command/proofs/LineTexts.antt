@@ -5,7 +5,7 @@ use Rattle.std.proofs.lemmas.List.{append-nil}
 use Rattle.vm_facts.specs.declared.page.Page.{Page}
 use Rattle.vm_facts.specs.declared.page.Page.TheVariants.{Data, Stack, Text}
 use Rattle.run_text.specs.Text.{page_text, rest_of_line}
-use Rattle.repage_command.specs.Telling.{around_number}
+use Rattle.replay_command.specs.Explaining.{around_number}
 
 put_as : {E : Type 0} (r : Result (Unit {0}) E) (new old text other : List ℕ) → text ≡ other → OnOk r (new ≡ old ++ text) → OnOk r (new ≡ old ++ other)
 put_as (Ok u) new old text other same h = h ∙ ap (λ (t : List ℕ). old ++ t) same

@@ -9,6 +9,7 @@ use Rattle.paged_model.specs.declared.reason.Misstep.{Misstep}
 use Rattle.paged_model.specs.Runs.{misstep_or}
 use Rattle.paged_model.specs.Traces.{trace_line_reason, trace_line_after, trace_misstep}
 use Rattle.repage_check.specs.Moves.{moves_by, HaveFewAfter, HaveFewMoves}
+use Rattle.repage_check.proofs.Along.{first_line}
 
 -- the first lines of a trace count few moves where all of it does
 few_after : (n k : ℕ) (ls : List Line) → HaveFewAfter n ls → HaveFewAfter n (take k ls)
@@ -24,11 +25,6 @@ pub record IsWithin (A : Inputs) (s : State) (n : ℕ) (ls : List Line) (misstep
   pub least : n ≤ misstep.line
   pub most : misstep.line < n + length ls
   pub before : trace_misstep A s n (take (misstep.line - n) ls) ≡ None
-
-first_line : (A : Inputs) (t : State) (n : ℕ) (l : Line) (ls : List Line)
-    → trace_misstep A t n (l ∷ ls) ≡ misstep_or n (trace_line_reason A t l) (trace_misstep A (trace_line_after A t l) (n + 1) ls)
-unfolding trace_misstep
-first_line A t n l ls = refl
 
 no_line : (A : Inputs) (t : State) (n : ℕ) → trace_misstep A t n [] ≡ None
 unfolding trace_misstep

@@ -4,7 +4,6 @@ use Rattle.io_edge.specs.FileHolding.{NamedFile}
 use Rattle.run_files.specs.declared.answers.Unread.{Unread}
 use Rattle.run_files.specs.declared.answers.Unread.TheVariants as unreads
 use Rattle.run_files.specs.Answering.{Answers, CountsFault, IsOfAnyFile}
-use Rattle.run_files.specs.Told.{whole_told}
 use Rattle.run_files.specs.ImageWords.{image_names, first_images}
 use Rattle.run_text.specs.Lines.{lines_in, AreLines}
 use Rattle.trace_text.specs.Grammar.{IsTraceLine}
@@ -19,11 +18,9 @@ use Rattle.command_ending.proofs.Counting.{none_then, one_then}
 use Rattle.command_ending.proofs.Makings.{made_where, made_nothing, made_by}
 use Rattle.replay_command.specs.Reading.{Read, FaultsBy, images_told, read_of_transcript}
 use Rattle.replay_command.proofs.LastLines.{few_lines}
+use Rattle.replay_command.proofs.Replays.{whole}
 use Rattle.repage_command.specs.declared.reading.Case.{Case}
 use Rattle.repage_command.specs.Reading.{HasFew, EndsTrace, EndsBytes, EndsFew, LacksCase, EndsCase}
-
-abbrev whole : List ℕ → List NamedFile → Result (Option (List ℕ)) Unread
-whole name list = whole_told list name 67108864
 
 -- The bytes of a trace.
 
@@ -85,25 +82,25 @@ trace_fault name f (faults.BadTranscript n) read ends = ends
 trace_fault name f faults.TooLong read ends = ends
 trace_fault name f _ read ends = absurd ends
 
-pub trace_ends : (name : List ℕ) (words : List (List ℕ)) (holds : Option (List NamedFile)) (f : Faults) (fault : Fault)
-    → Made {E = Result (List Line) Fault} (EndsTrace name) (whole name) holds f (Err fault)
-    → Ends name words holds f (Err fault)
-trace_ends name words holds f fault made =
-    made_where (λ (read : Read). EndsTrace name read.transcript f (Err fault)) (EndsCase name words) (record { transcript = made.read; images = Ok [] })
-    (read_of_transcript name words) holds f (Err fault)
-    made.ends (λ list told. subst (λ (read : Result (Option (List ℕ)) Unread). EndsTrace name read f (Err fault)) (made.is_told list told) made.ends)
-    (trace_fault name f fault)
+module _ (name : List ℕ) (words : List (List ℕ)) (holds : Option (List NamedFile)) where
+  pub trace_ends : (f : Faults) (fault : Fault) → Made {E = Result (List Line) Fault} (EndsTrace name) (whole name) holds f (Err fault)
+      → Ends name words holds f (Err fault)
+  trace_ends f fault made =
+      made_where (λ (read : Read). EndsTrace name read.transcript f (Err fault)) (EndsCase name words) (record { transcript = made.read; images = Ok [] })
+      (read_of_transcript name words) holds f (Err fault)
+      made.ends (λ list told. subst (λ (read : Result (Option (List ℕ)) Unread). EndsTrace name read f (Err fault)) (made.is_told list told) made.ends)
+      (trace_fault name f fault)
 
-pub refused : (name : List ℕ) (words : List (List ℕ)) (holds : Option (List NamedFile)) (f : Faults) → Ends name words holds f (Err faults.NoMemory)
-refused name words holds f =
-    made_nothing (EndsCase name words) (record { transcript = Ok None; images = Ok [] }) (read_of_transcript name words) holds f (Err faults.NoMemory) (λ read. tt)
+  pub refused : (f : Faults) → Ends name words holds f (Err faults.NoMemory)
+  refused f =
+      made_nothing (EndsCase name words) (record { transcript = Ok None; images = Ok [] }) (read_of_transcript name words) holds f (Err faults.NoMemory) (λ read. tt)
 
--- The trace's lines were read, and this of the images.
-record Reads (name : List ℕ) (words : List (List ℕ)) (holds : Option (List NamedFile)) (ls : List Line) (images : Result (List FlatFile) Why) : Type 0 where
-  pub read : Result (Option (List ℕ)) Unread
-  pub has : HasFew read ls
-  pub transcript_told : (list : List NamedFile) → holds ≡ Some list → read ≡ whole name list
-  pub images_are : (list : List NamedFile) → holds ≡ Some list → images_told list (image_names words) ≡ images
+  -- The trace's lines were read, and this of the images.
+  record Reads (ls : List Line) (images : Result (List FlatFile) Why) : Type 0 where
+    pub read : Result (Option (List ℕ)) Unread
+    pub has : HasFew read ls
+    pub transcript_told : (list : List NamedFile) → holds ≡ Some list → read ≡ whole name list
+    pub images_are : (list : List NamedFile) → holds ≡ Some list → images_told list (image_names words) ≡ images
 
 record HasRead (ls : List Line) (images : Result (List FlatFile) Why) (read : Read) : Type 0 where
   pub has : HasFew read.transcript ls

@@ -10,14 +10,11 @@ use Rattle.paged_model.specs.declared.line.Line.{Line}
 use Rattle.paged_model.specs.declared.line.Line.TheVariants as lines
 use Rattle.paged_model.specs.declared.reason.Reason.{Reason}
 use Rattle.paged_model.specs.declared.reason.Reason.TheVariants as reasons
+use Rattle.replay_command.specs.Explaining.{around_number}
 
 -- the line of a run of so many lines
 abbrev pub paged_line : ℕ → List ℕ
 paged_line n = codes "paged run: " ++ decimal n ++ codes " entries\n"
-
--- a number between two texts
-abbrev pub around_number : List ℕ → ℕ → List ℕ → List ℕ
-around_number before n behind = before ++ decimal n ++ behind
 
 -- a page by its number, with the space or the image that has it
 abbrev pub page_words : Page → List ℕ

@@ -201,52 +201,51 @@ stepped_on A F G refused behind pages more e u us whole pid r is ends one none w
     (λ point flat. same ∙ sym (append-nil pages) ∙ ap (λ (l : List Page). pages ++ l) (sym (none point)))
     ))
 
-pub out_on : (A : Inputs) (F : FlatState) (refused : Option ℕ) (pages : List Page) (p : ℕ) (bytes : List ℕ) (us : List Entry) (whole : List Page)
-    → IsOnWay A F refused pages (entries.Out p bytes ∷ us) whole → IsOnWay A F None pages us whole
-out_on A F refused pages p bytes us whole h =
-    moved A F F refused None pages pages (entries.Out p bytes) us whole h
-    (λ next e. let s = stays A h.point p bytes next e in (s.0 ∙ h.flat, s.1)) (sym (append-nil pages))
+module _ (A : Inputs) (F : FlatState) (refused : Option ℕ) (pages : List Page) where
+  pub out_on : (p : ℕ) (bytes : List ℕ) (us : List Entry) (whole : List Page)
+      → IsOnWay A F refused pages (entries.Out p bytes ∷ us) whole → IsOnWay A F None pages us whole
+  out_on p bytes us whole h =
+      moved A F F refused None pages pages (entries.Out p bytes) us whole h
+      (λ next e. let s = stays A h.point p bytes next e in (s.0 ∙ h.flat, s.1)) (sym (append-nil pages))
 
-pub refused_on : (A : Inputs) (F : FlatState) (refused : Option ℕ) (pages : List Page) (p : ℕ) (us : List Entry) (whole : List Page)
-    → IsOnWay A F refused pages (entries.Refused p ∷ us) whole → IsOnWay A F (Some p) pages us whole
-refused_on A F refused pages p us whole h =
-    moved A F F refused (Some p) pages pages (entries.Refused p) us whole h
-    (λ next e.
-    let is = sym (came A h.point next p (entries.Refused p) refl e).leads in
-    (ap (λ (x : Point). x.flat) is ∙ h.flat, λ q. ap (λ (x : Point). is_refused x.last q) is))
-    (sym (append-nil pages))
+  pub refused_on : (p : ℕ) (us : List Entry) (whole : List Page)
+      → IsOnWay A F refused pages (entries.Refused p ∷ us) whole → IsOnWay A F (Some p) pages us whole
+  refused_on p us whole h =
+      moved A F F refused (Some p) pages pages (entries.Refused p) us whole h
+      (λ next e.
+      let is = sym (came A h.point next p (entries.Refused p) refl e).leads in
+      (ap (λ (x : Point). x.flat) is ∙ h.flat, λ q. ap (λ (x : Point). is_refused x.last q) is))
+      (sym (append-nil pages))
 
-one_skipped : (A : Inputs) (F : FlatState) (refused : Option ℕ) (pages : List Page) (u : Entry) (us : List Entry) (whole : List Page)
-    → ((point : Point) → flat_entry A point u ≡ Some point) → ((point : Point) → touched_by_unit A point u ≡ [])
-    → IsOnWay A F refused pages (u ∷ us) whole → IsOnWay A F refused pages us whole
-one_skipped A F refused pages u us whole same none h =
-    moved A F F refused refused pages pages u us whole h
-    (λ next e.
-    let is : h.point ≡ next = let k = same h.point in cc in
-    subst (λ (x : Point). (x.flat ≡ F) × ((q : ℕ) → is_refused x.last q ≡ is_this refused q)) is (h.flat, h.last))
-    (sym (append-nil pages) ∙ ap (λ (l : List Page). pages ++ l) (sym (none h.point)))
+  one_skipped : (u : Entry) (us : List Entry) (whole : List Page) → ((point : Point) → flat_entry A point u ≡ Some point)
+      → ((point : Point) → touched_by_unit A point u ≡ []) → IsOnWay A F refused pages (u ∷ us) whole → IsOnWay A F refused pages us whole
+  one_skipped u us whole same none h =
+      moved A F F refused refused pages pages u us whole h
+      (λ next e.
+      let is : h.point ≡ next = let k = same h.point in cc in
+      subst (λ (x : Point). (x.flat ≡ F) × ((q : ℕ) → is_refused x.last q ≡ is_this refused q)) is (h.flat, h.last))
+      (sym (append-nil pages) ∙ ap (λ (l : List Page). pages ++ l) (sym (none h.point)))
 
--- by an entry that no process made
-pub skip_on : (A : Inputs) (F : FlatState) (refused : Option ℕ) (pages : List Page) (e : Entry) (us : List Entry) (whole : List Page)
-    → ((p n : ℕ) → e ≡ entries.Ran p n → ⊥) → ((p : ℕ) (bytes : List ℕ) → e ≡ entries.Out p bytes → ⊥)
-    → ((p n : ℕ) → e ≡ entries.Grew p n → ⊥) → ((p n : ℕ) (carry : Bool) (r0 r1 : ℕ) → e ≡ entries.Call p n carry r0 r1 → ⊥)
-    → ((p : ℕ) → e ≡ entries.Refused p → ⊥)
-    → ((p : ℕ) → e ≡ entries.Sleeps p → ⊥) → ((p n : ℕ) → e ≡ entries.Ended p n → ⊥) → IsOnWay A F refused pages (units_with e us) whole
-    → IsOnWay A F refused pages us whole
-unfolding flat_entry
-skip_on A F refused pages (entries.Ran pid n) us whole ran out grew call held sleeps ended h = absurd (ran pid n refl)
-skip_on A F refused pages (entries.Out pid bytes) us whole ran out grew call held sleeps ended h = absurd (out pid bytes refl)
-skip_on A F refused pages (entries.Grew pid n) us whole ran out grew call held sleeps ended h = absurd (grew pid n refl)
-skip_on A F refused pages (entries.Call pid number carry r0 r1) us whole ran out grew call held sleeps ended h = absurd (call pid number carry r0 r1 refl)
-skip_on A F refused pages (entries.Refused pid) us whole ran out grew call held sleeps ended h = absurd (held pid refl)
-skip_on A F refused pages (entries.Sleeps pid) us whole ran out grew call held sleeps ended h = absurd (sleeps pid refl)
-skip_on A F refused pages (entries.Ended pid status) us whole ran out grew call held sleeps ended h = absurd (ended pid status refl)
-skip_on A F refused pages (entries.Hands n) us whole ran out grew call held sleeps ended h = go n h
-  where
-    go : (k : ℕ) → IsOnWay A F refused pages (repeated (entries.Hands 1) k us) whole → IsOnWay A F refused pages us whole
-    go zero m = m
-    go (suc k) m = go k (one_skipped A F refused pages (entries.Hands 1) (repeated (entries.Hands 1) k us) whole (λ point. refl) (λ point. refl) m)
-skip_on A F refused pages e us whole ran out grew call held sleeps ended h = one_skipped A F refused pages e us whole (λ point. refl) (λ point. refl) h
+  -- by an entry that no process made
+  pub skip_on : (e : Entry) (us : List Entry) (whole : List Page) → ((p n : ℕ) → e ≡ entries.Ran p n → ⊥)
+      → ((p : ℕ) (bytes : List ℕ) → e ≡ entries.Out p bytes → ⊥) → ((p n : ℕ) → e ≡ entries.Grew p n → ⊥)
+      → ((p n : ℕ) (carry : Bool) (r0 r1 : ℕ) → e ≡ entries.Call p n carry r0 r1 → ⊥) → ((p : ℕ) → e ≡ entries.Refused p → ⊥)
+      → ((p : ℕ) → e ≡ entries.Sleeps p → ⊥) → ((p n : ℕ) → e ≡ entries.Ended p n → ⊥) → IsOnWay A F refused pages (units_with e us) whole
+      → IsOnWay A F refused pages us whole
+  unfolding flat_entry
+  skip_on (entries.Ran pid n) us whole ran out grew call held sleeps ended h = absurd (ran pid n refl)
+  skip_on (entries.Out pid bytes) us whole ran out grew call held sleeps ended h = absurd (out pid bytes refl)
+  skip_on (entries.Grew pid n) us whole ran out grew call held sleeps ended h = absurd (grew pid n refl)
+  skip_on (entries.Call pid number carry r0 r1) us whole ran out grew call held sleeps ended h = absurd (call pid number carry r0 r1 refl)
+  skip_on (entries.Refused pid) us whole ran out grew call held sleeps ended h = absurd (held pid refl)
+  skip_on (entries.Sleeps pid) us whole ran out grew call held sleeps ended h = absurd (sleeps pid refl)
+  skip_on (entries.Ended pid status) us whole ran out grew call held sleeps ended h = absurd (ended pid status refl)
+  skip_on (entries.Hands n) us whole ran out grew call held sleeps ended h = go n h
+    where
+      go : (k : ℕ) → IsOnWay A F refused pages (repeated (entries.Hands 1) k us) whole → IsOnWay A F refused pages us whole
+      go zero m = m
+      go (suc k) m = go k (one_skipped (entries.Hands 1) (repeated (entries.Hands 1) k us) whole (λ point. refl) (λ point. refl) m)
+  skip_on e us whole ran out grew call held sleeps ended h = one_skipped e us whole (λ point. refl) (λ point. refl) h
 
 -- A `Ran` instruction by instruction.
 

@@ -116,19 +116,19 @@ one_verdict A point F G last new pid refused did taken other same at es after =
 
 -- Instructions that run.
 
-verdict_none : (A : Inputs) (F : FlatState) (last : Last) (o : Option Point) → IsVerdict A false F last o → o ≡ None
-verdict_none A F last None h = refl
-verdict_none A F last (Some point) h = absurd h
+module _ (A : Inputs) (F : FlatState) (last : Last) where
+  verdict_none : (o : Option Point) → IsVerdict A false F last o → o ≡ None
+  verdict_none None h = refl
+  verdict_none (Some point) h = absurd h
 
-verdict_some : (A : Inputs) (F : FlatState) (last : Last) (o : Option Point) → IsVerdict A true F last o → IsSome o
-verdict_some A F last None h = absurd h
-verdict_some A F last (Some point) h = refl
+  verdict_some : (o : Option Point) → IsVerdict A true F last o → IsSome o
+  verdict_some None h = absurd h
+  verdict_some (Some point) h = refl
 
-pub runs_all : (A : Inputs) (F : FlatState) (last : Last) (point : Point) (pid count ran : ℕ) → ran ≡ count
-    → IsVerdict A true F last (flat_units A (Some point) (units_with (entries.Ran pid ran) []))
-    → RunsOnly A point pid count ran
-runs_all A F last point pid count ran all h =
-    record { few = omega arith; runs = verdict_some A F last (flat_units A (Some point) (units_with (entries.Ran pid ran) [])) h; stops = λ less. absurd (omega arith) }
+  pub runs_all : (point : Point) (pid count ran : ℕ) → ran ≡ count → IsVerdict A true F last (flat_units A (Some point) (units_with (entries.Ran pid ran) []))
+      → RunsOnly A point pid count ran
+  runs_all point pid count ran all h =
+      record { few = omega arith; runs = verdict_some (flat_units A (Some point) (units_with (entries.Ran pid ran) [])) h; stops = λ less. absurd (omega arith) }
 
 pub runs_some : (A : Inputs) (F G : FlatState) (last new : Last) (point : Point) (pid count ran : ℕ) → ran ≤ count
     → IsVerdict A true F last (flat_units A (Some point) (units_with (entries.Ran pid ran) []))

@@ -81,21 +81,21 @@ find_first test from (suc n) (suc i) below this earlier =
 abbrev pub AreRuns : Inputs → List Entry → ℕ → Type 0
 AreRuns A entries n = (k : ℕ) → k ≤ n → is_run A (take k entries) ≡ true
 
-pub none_bad : (A : Inputs) (entries : List Entry) (n : ℕ) → length entries ≤ n → AreRuns A entries n → first_bad A entries ≡ None
-none_bad A entries n all runs =
-    find_none (λ (k : ℕ). not (is_run A (take k entries))) 0 (length entries + 1) (λ k low high. ap not (runs k (omega arith)))
+module _ (A : Inputs) (entries : List Entry) where
+  pub none_bad : (n : ℕ) → length entries ≤ n → AreRuns A entries n → first_bad A entries ≡ None
+  none_bad n all runs =
+      find_none (λ (k : ℕ). not (is_run A (take k entries))) 0 (length entries + 1) (λ k low high. ap not (runs k (omega arith)))
 
-pub first_one_bad : (A : Inputs) (entries : List Entry) (n : ℕ) → n < length entries → AreRuns A entries n → is_run A (take (n + 1) entries) ≡ false
-    → first_bad A entries ≡ Some (n + 1)
-first_one_bad A entries n below runs bad =
-    let e : 0 + (n + 1) ≡ n + 1 = omega arith in
-    find_first (λ (k : ℕ). not (is_run A (take k entries))) 0 (length entries + 1) (n + 1) (omega arith)
-    (ap (λ (k : ℕ). not (is_run A (take k entries))) e ∙ ap not bad) (λ k low high. ap not (runs k (omega arith)))
-    ∙ ap Some e
+  pub first_one_bad : (n : ℕ) → n < length entries → AreRuns A entries n → is_run A (take (n + 1) entries) ≡ false → first_bad A entries ≡ Some (n + 1)
+  first_one_bad n below runs bad =
+      let e : 0 + (n + 1) ≡ n + 1 = omega arith in
+      find_first (λ (k : ℕ). not (is_run A (take k entries))) 0 (length entries + 1) (n + 1) (omega arith)
+      (ap (λ (k : ℕ). not (is_run A (take k entries))) e ∙ ap not bad) (λ k low high. ap not (runs k (omega arith)))
+      ∙ ap Some e
 
-pub runs_none : (A : Inputs) (entries : List Entry) → is_run A [] ≡ true → AreRuns A entries 0
-runs_none A entries h zero few = h
-runs_none A entries h (suc k) few = absurd (omega arith)
+  pub runs_none : is_run A [] ≡ true → AreRuns A entries 0
+  runs_none h zero few = h
+  runs_none h (suc k) few = absurd (omega arith)
 
 -- the next of the first entries
 pub next_front : (entries : List Entry) (n : ℕ) (e : Entry) → n < length entries → e ≡ get_or entries n e → take n entries ++ e ∷ [] ≡ take (n + 1) entries

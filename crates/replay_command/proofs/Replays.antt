@@ -17,7 +17,7 @@ use Rattle.command_ending.proofs.Makings.{made_where, made_nothing}
 use Rattle.replay_command.specs.Reading.{Read, HasEntries, EndsTranscript, FaultsBy, images_told, read_of_transcript}
 use Rattle.replay_command.specs.Command.{EndsVerdict, EndsReplay}
 
-abbrev whole : List ℕ → List NamedFile → Result (Option (List ℕ)) Unread
+abbrev pub whole : List ℕ → List NamedFile → Result (Option (List ℕ)) Unread
 whole name list = whole_told list name 67108864
 
 -- the transcript's fault is that of the replay

@@ -19,6 +19,7 @@ use Rattle.run_opening.specs.Devices.{device_fault}
 use Rattle.run_opening.specs.Opening.{CountsAt}
 use Rattle.io_edge.specs.FileRequests.{no_notes}
 use Rattle.io_edge.specs.WithFiles.{image_with_files, with_files}
+use Rattle.run_opening.proofs.Openings.{IsShort}
 use Rattle.run_command.specs.Seen.{Seen}
 use Rattle.run_command.specs.Paired.{unfinished_of, IsRunFault, ReadsFail, WritesFail}
 use Rattle.run_command.specs.Machines.{journal_entries}
@@ -108,52 +109,52 @@ counts_starve seen A journal image after (Err fault) began lost c e = lost_ended
 other_fault : (pid : ℕ) → (let r : RunEnding = Err faults.NoMemory in r) ≡ Err (faults.NoSpace pid) → ⊥
 other_fault pid e = cc
 
--- the run of a machine, as it was written
-load_runs : (IsOf : Inputs → SwapImage → Type 0) (Starts : Inputs → Type 0) (number : ℕ) (seen : Seen) (status : ℕ) (journal : List Entry) (r : RunEnding)
-    → IsRunEnding r → length journal ≤ journal_entries → RunCaused seen journal r
-    → ((A : Inputs) → Starts A → (pid : ℕ) → r ≡ Err (faults.NoSpace pid) → start_held A ≡ Err pid)
-    → ((A : Inputs) (image : SwapImage) → IsOf A image → with_files no_notes seen.swap_before ≡ Some image
-    → RunEnded seen A journal image (with_files no_notes seen.swap_after) r)
-    → WritesCounts number journal r seen.written_before seen.written_after seen.sink_faults_before seen.sink_faults_after status
-    → LoadRuns IsOf Starts number seen status
-load_runs IsOf Starts number seen status journal r began within caused space ended (inl w) =
-    record { ending = r; journal = journal; writes = w; within = within; caused = caused; began = began; space = space; ended = ended }
-load_runs IsOf Starts number seen status journal r began within caused space ended (inr (lost, w)) = record {
-  ending = Err faults.NoMemory;
-  journal = journal;
-  writes = w;
-  within = within;
-  caused = counts_lost_caused seen journal r began lost caused;
-  began = tt;
-  space = λ A starts pid e. absurd (other_fault pid e);
-  ended = λ A image is told. counts_starve seen A journal image (with_files no_notes seen.swap_after) r began lost caused (ended A image is told);
-}
+module _ (IsOf : Inputs → SwapImage → Type 0) (Starts : Inputs → Type 0) (number : ℕ) (seen : Seen) (status : ℕ) where
+  -- the run of a machine, as it was written
+  load_runs : (journal : List Entry) (r : RunEnding)
+      → IsRunEnding r → length journal ≤ journal_entries → RunCaused seen journal r
+      → ((A : Inputs) → Starts A → (pid : ℕ) → r ≡ Err (faults.NoSpace pid) → start_held A ≡ Err pid)
+      → ((A : Inputs) (image : SwapImage) → IsOf A image → with_files no_notes seen.swap_before ≡ Some image
+      → RunEnded seen A journal image (with_files no_notes seen.swap_after) r)
+      → WritesCounts number journal r seen.written_before seen.written_after seen.sink_faults_before seen.sink_faults_after status
+      → LoadRuns IsOf Starts number seen status
+  load_runs journal r began within caused space ended (inl w) =
+      record { ending = r; journal = journal; writes = w; within = within; caused = caused; began = began; space = space; ended = ended }
+  load_runs journal r began within caused space ended (inr (lost, w)) = record {
+    ending = Err faults.NoMemory;
+    journal = journal;
+    writes = w;
+    within = within;
+    caused = counts_lost_caused seen journal r began lost caused;
+    began = tt;
+    space = λ A starts pid e. absurd (other_fault pid e);
+    ended = λ A image is told. counts_starve seen A journal image (with_files no_notes seen.swap_after) r began lost caused (ended A image is told);
+  }
 
-pub load_ran : (IsOf : Inputs → SwapImage → Type 0) (Starts : Inputs → Type 0) (number : ℕ) (seen : Seen) (status : ℕ) (journal : List Entry) (r : RunEnding)
-    → IfErr r IsRunFault → CountsFileFaults (stop_of (stopped_as (unfinished_of r))) 0 0
-    → NoFaults seen.faults
-    → ReadsFail r seen.reads → WritesFail r seen.writes → ((pid : ℕ) → r ≡ Err (faults.NoSpace pid) → journal ≡ [])
-    → ((pid : ℕ) → r ≡ Err (faults.NoSpace pid) → seen.swap_after ≡ seen.swap_before)
-    → (r ≡ Err faults.JournalFull → length journal ≡ journal_entries) → length journal ≤ journal_entries
-    → ((A : Inputs) → Starts A → (pid : ℕ) → r ≡ Err (faults.NoSpace pid) → start_held A ≡ Err pid)
-    → ((A : Inputs) (image : SwapImage) → IsOf A image → with_files no_notes seen.swap_before ≡ Some image
-    → RunEnds A journal image (unfinished_of r) (with_files no_notes seen.swap_after))
-    → WritesCounts number journal r seen.written_before seen.written_after seen.sink_faults_before seen.sink_faults_after status
-    → LoadRuns IsOf Starts number seen status
-load_ran IsOf Starts number seen status journal r kind pages files reads writes none same full within space ends w =
-    let began = files_hold r kind pages in
-    let caused = load_stops seen journal r began files reads writes none same full in
-    load_runs IsOf Starts number seen status journal r began within caused space
-    (λ A image is told. run_ended seen A journal image (with_files no_notes seen.swap_after) r kind caused (ends A image is told)) w
+  pub load_ran : (journal : List Entry) (r : RunEnding)
+      → IfErr r IsRunFault → CountsFileFaults (stop_of (stopped_as (unfinished_of r))) 0 0
+      → NoFaults seen.faults
+      → ReadsFail r seen.reads → WritesFail r seen.writes → ((pid : ℕ) → r ≡ Err (faults.NoSpace pid) → journal ≡ [])
+      → ((pid : ℕ) → r ≡ Err (faults.NoSpace pid) → seen.swap_after ≡ seen.swap_before)
+      → (r ≡ Err faults.JournalFull → length journal ≡ journal_entries) → length journal ≤ journal_entries
+      → ((A : Inputs) → Starts A → (pid : ℕ) → r ≡ Err (faults.NoSpace pid) → start_held A ≡ Err pid)
+      → ((A : Inputs) (image : SwapImage) → IsOf A image → with_files no_notes seen.swap_before ≡ Some image
+      → RunEnds A journal image (unfinished_of r) (with_files no_notes seen.swap_after))
+      → WritesCounts number journal r seen.written_before seen.written_after seen.sink_faults_before seen.sink_faults_after status
+      → LoadRuns IsOf Starts number seen status
+  load_ran journal r kind pages files reads writes none same full within space ends w =
+      let began = files_hold r kind pages in
+      let caused = load_stops seen journal r began files reads writes none same full in
+      load_runs journal r began within caused space
+      (λ A image is told. run_ended seen A journal image (with_files no_notes seen.swap_after) r kind caused (ends A image is told)) w
 
--- a machine that wasn't made
-pub load_unmade : (IsOf : Inputs → SwapImage → Type 0) (Starts : Inputs → Type 0) (number : ℕ) (seen : Seen) (status : ℕ)
-    → seen.swap_after ≡ seen.swap_before → NoneFaulted seen
-    → WritesCounts number [] (Err faults.NoMemory) seen.written_before seen.written_after seen.sink_faults_before seen.sink_faults_after status
-    → LoadRuns IsOf Starts number seen status
-load_unmade IsOf Starts number seen status same none w =
-    load_runs IsOf Starts number seen status [] (Err faults.NoMemory) tt (omega arith) none (λ A starts pid e. absurd (other_fault pid e))
-    (λ A image is told. (none, inl (refl, ap (with_files no_notes) same ∙ told))) w
+  -- a machine that wasn't made
+  pub load_unmade : seen.swap_after ≡ seen.swap_before → NoneFaulted seen
+      → WritesCounts number [] (Err faults.NoMemory) seen.written_before seen.written_after seen.sink_faults_before seen.sink_faults_after status
+      → LoadRuns IsOf Starts number seen status
+  load_unmade same none w =
+      load_runs [] (Err faults.NoMemory) tt (omega arith) none (λ A starts pid e. absurd (other_fault pid e))
+      (λ A image is told. (none, inl (refl, ap (with_files no_notes) same ∙ told))) w
 
 -- Loads.
 
@@ -225,11 +226,6 @@ loads_unmade number seen status same unasked none (inl w) =
       fits = load_fits number seen status [] (Err faults.NoMemory) w (inl unbegun) ends;
     }
 loads_unmade number seen status same unasked none (inr never) = absurd never.0
-
--- a device that is too short
-abbrev IsShort : Fault → Type 0
-IsShort (faults.ShortDevice device blocks needed) = Unit {0}
-IsShort _ = ⊥
 
 is_short : (zero_short one_short : Bool) (z zn o on : ℕ) (fault : Fault)
     → (if zero_short then Some (faults.ShortDevice 0 z zn) else (if one_short then Some (faults.ShortDevice 1 o on) else None)) ≡ Some fault → IsShort fault

@@ -137,76 +137,72 @@ opened_lacking IsOf opened traced seen status (inr (lost, writes)) same none = a
 
 -- The same for the words.
 
-caused_so : (request : Request) (seen : Seen) (es : List Entry) (r : RunEnding) → RunCaused seen es r → DevicesSuffice request.numbers.swap seen
-    → IsCaused request seen es r
-caused_so request seen es (Ok done) c d = (c, d)
-caused_so request seen es (Err FileFault) c d = inr (c, d)
-caused_so request seen es (Err (SwapReadFault device)) c d = (c, d)
-caused_so request seen es (Err (SwapWriteFault device)) c d = (c, d)
-caused_so request seen es (Err JournalFull) c d = (c, d)
-caused_so request seen es (Err NoMemory) c d = inr (c, d)
-caused_so request seen es (Err (NoSpace pid)) c d = (c, d)
-caused_so request seen es (Err _) c d = absurd c
+module _ (request : Request) (seen : Seen) where
+  caused_so : (es : List Entry) (r : RunEnding) → RunCaused seen es r → DevicesSuffice request.numbers.swap seen → IsCaused request seen es r
+  caused_so es (Ok done) c d = (c, d)
+  caused_so es (Err FileFault) c d = inr (c, d)
+  caused_so es (Err (SwapReadFault device)) c d = (c, d)
+  caused_so es (Err (SwapWriteFault device)) c d = (c, d)
+  caused_so es (Err JournalFull) c d = (c, d)
+  caused_so es (Err NoMemory) c d = inr (c, d)
+  caused_so es (Err (NoSpace pid)) c d = (c, d)
+  caused_so es (Err _) c d = absurd c
 
-judged_good : (request : Request) (seen : Seen) (files : List NamedFile) (es : List Entry) (r : RunEnding) → RunCaused seen es r → AllGood request seen files
-    → IsJudged request seen files r
-judged_good request seen files es (Ok done) c good = good
-judged_good request seen files es (Err FileFault) c good = inr (c.page, good)
-judged_good request seen files es (Err (SwapReadFault device)) c good = good
-judged_good request seen files es (Err (SwapWriteFault device)) c good = good
-judged_good request seen files es (Err JournalFull) c good = good
-judged_good request seen files es (Err NoMemory) c good = inr good
-judged_good request seen files es (Err (NoSpace pid)) c good = good
-judged_good request seen files es (Err _) c good = absurd c
+  judged_good : (files : List NamedFile) (es : List Entry) (r : RunEnding) → RunCaused seen es r → AllGood request seen files → IsJudged request seen files r
+  judged_good files es (Ok done) c good = good
+  judged_good files es (Err FileFault) c good = inr (c.page, good)
+  judged_good files es (Err (SwapReadFault device)) c good = good
+  judged_good files es (Err (SwapWriteFault device)) c good = good
+  judged_good files es (Err JournalFull) c good = good
+  judged_good files es (Err NoMemory) c good = inr good
+  judged_good files es (Err (NoSpace pid)) c good = good
+  judged_good files es (Err _) c good = absurd c
 
-told_so : (request : Request) (seen : Seen) (files : List NamedFile) (es : List Entry) (image : SwapImage) (r : RunEnding) → RunCaused seen es r
-    → AllGood request seen files
-    → RunOfWords request seen files es image r → EndsTold request seen files es image r
-told_so request seen files es image (Ok done) c good x = x
-told_so request seen files es image (Err FileFault) c good x = inr (c.page, good, x)
-told_so request seen files es image (Err (SwapReadFault device)) c good x = x
-told_so request seen files es image (Err (SwapWriteFault device)) c good x = x
-told_so request seen files es image (Err JournalFull) c good x = x
-told_so request seen files es image (Err NoMemory) c good x = inr x
-told_so request seen files es image (Err (NoSpace pid)) c good x = x
-told_so request seen files es image (Err _) c good x = absurd c
+  told_so : (files : List NamedFile) (es : List Entry) (image : SwapImage) (r : RunEnding) → RunCaused seen es r → AllGood request seen files
+      → RunOfWords request seen files es image r → EndsTold request seen files es image r
+  told_so files es image (Ok done) c good x = x
+  told_so files es image (Err FileFault) c good x = inr (c.page, good, x)
+  told_so files es image (Err (SwapReadFault device)) c good x = x
+  told_so files es image (Err (SwapWriteFault device)) c good x = x
+  told_so files es image (Err JournalFull) c good x = x
+  told_so files es image (Err NoMemory) c good x = inr x
+  told_so files es image (Err (NoSpace pid)) c good x = x
+  told_so files es image (Err _) c good x = absurd c
 
-of_words : (request : Request) (seen : Seen) (files : List NamedFile) (opening : Opening) (opened : FileNotes) (es : List Entry) (image : SwapImage)
-    (r : RunEnding)
-    → KnownOpening request files opening → AreAllowed request.numbers → HaveNumbers es
-    → AsksOpening request.schedule (image_names request.words) (Some files) (Ok opening) seen.notes_before opened
-    → RunEnded seen (inputs_of request files opening) es (image_with_files opened image) (stores_after seen) r → RunOfWords request seen files es image r
-of_words request seen files opening opened es image r known allowed numbers opens ended = record {
-  inputs = inputs_of request files opening;
-  asks = asks_for request files opening known;
-  opening = opening;
-  opened = opened;
-  opens = opens;
-  ended = ended;
-  replayed = ended_flat seen (inputs_of request files opening) es (image_with_files opened image) (stores_after seen) r allowed.most_limit numbers ended;
-}
+  of_words : (files : List NamedFile) (opening : Opening) (opened : FileNotes) (es : List Entry) (image : SwapImage) (r : RunEnding)
+      → KnownOpening request files opening → AreAllowed request.numbers → HaveNumbers es
+      → AsksOpening request.schedule (image_names request.words) (Some files) (Ok opening) seen.notes_before opened
+      → RunEnded seen (inputs_of request files opening) es (image_with_files opened image) (stores_after seen) r → RunOfWords request seen files es image r
+  of_words files opening opened es image r known allowed numbers opens ended = record {
+    inputs = inputs_of request files opening;
+    asks = asks_for request files opening known;
+    opening = opening;
+    opened = opened;
+    opens = opens;
+    ended = ended;
+    replayed = ended_flat seen (inputs_of request files opening) es (image_with_files opened image) (stores_after seen) r allowed.most_limit numbers ended;
+  }
 
-pub opened_words : (request : Request) (seen : Seen) (opening : Opening) (opened : FileNotes) (status : ℕ)
-    → RunsOpened (IsOfOpening request.numbers opening seen.files) opened request.traced seen status → AreAllowed request.numbers
-    → DevicesSuffice request.numbers.swap seen
-    → ((files : List NamedFile) → seen.files ≡ Some files → AllGood request seen files)
-    → ((files : List NamedFile) → seen.files ≡ Some files → KnownOpening request files opening)
-    → AsksOpening request.schedule (image_names request.words) seen.files (Ok opening) seen.notes_before opened
-    → ((image : SwapImage) → seen.swap_before ≡ Some image → 512 * request.numbers.swap ≤ length image.bytes) → Runs request seen status
-opened_words request seen opening opened status x allowed devices good known opens room = record {
-  ending = x.ending;
-  journal = x.journal;
-  writes = x.writes;
-  within = x.within;
-  caused = caused_so request seen x.journal x.ending x.caused devices;
-  judged = λ files told. judged_good request seen files x.journal x.ending x.caused (good files told);
-  told = λ files image told octets swap.
-      told_so request seen files x.journal image x.ending x.caused (good files told)
-      (of_words request seen files opening opened x.journal image x.ending (known files told) allowed x.numbers
-      (subst (λ (holds : Option (List NamedFile)). AsksOpening request.schedule (image_names request.words) holds (Ok opening) seen.notes_before opened) told opens)
-      (x.ended (inputs_of request files opening) (image_with_files opened image)
-      (is_asked_of request files opening (known files told) allowed (image_with_files opened image) seen.files told octets (room image swap)) (ap (with_files opened) swap)));
-}
+  pub opened_words : (opening : Opening) (opened : FileNotes) (status : ℕ)
+      → RunsOpened (IsOfOpening request.numbers opening seen.files) opened request.traced seen status → AreAllowed request.numbers
+      → DevicesSuffice request.numbers.swap seen → ((files : List NamedFile) → seen.files ≡ Some files → AllGood request seen files)
+      → ((files : List NamedFile) → seen.files ≡ Some files → KnownOpening request files opening)
+      → AsksOpening request.schedule (image_names request.words) seen.files (Ok opening) seen.notes_before opened
+      → ((image : SwapImage) → seen.swap_before ≡ Some image → 512 * request.numbers.swap ≤ length image.bytes) → Runs request seen status
+  opened_words opening opened status x allowed devices good known opens room = record {
+    ending = x.ending;
+    journal = x.journal;
+    writes = x.writes;
+    within = x.within;
+    caused = caused_so x.journal x.ending x.caused devices;
+    judged = λ files told. judged_good files x.journal x.ending x.caused (good files told);
+    told = λ files image told octets swap.
+        told_so files x.journal image x.ending x.caused (good files told)
+        (of_words files opening opened x.journal image x.ending (known files told) allowed x.numbers
+        (subst (λ (holds : Option (List NamedFile)). AsksOpening request.schedule (image_names request.words) holds (Ok opening) seen.notes_before opened) told opens)
+        (x.ended (inputs_of request files opening) (image_with_files opened image)
+        (is_asked_of request files opening (known files told) allowed (image_with_files opened image) seen.files told octets (room image swap)) (ap (with_files opened) swap)));
+  }
 
 -- What was not opened.
 

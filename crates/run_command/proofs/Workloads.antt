@@ -19,13 +19,14 @@ use Rattle.machine_state.specs.Sourced.{files_named}
 use Rattle.machine_state.specs.Files.{AreFiles, AreImages}
 use Rattle.vm_core.specs.Reading.{AreNamed}
 use Rattle.vm_core.specs.Longwords.{AllImages}
-use Rattle.vm_core.proofs.Octets.{both_octets, zero_octets}
+use Rattle.vm_core.proofs.Octets.{zero_octets}
 use Rattle.run_files.specs.ImageWords.{IsShortName}
 use Rattle.vm_core.specs.Files.{AreInputs}
 use Rattle.vm_core.proofs.Filing.{images_fit}
 use Rattle.vm_core.specs.FirstProcesses.{StartsFrom}
 use Rattle.vm_core.specs.RunEnds.{IsAskedOf}
 use Rattle.command_ending.specs.Named.{Why, before}
+use Rattle.vax_code.proofs.Readers.{octets-append}
 use Rattle.run_opening.specs.declared.images.OpenedImage.{OpenedImage}
 use Rattle.run_opening.specs.Images.{named_image, image_in, images_found, images_in, file_numbers, IsIn}
 use Rattle.load_maker.specs.Programs.{w_bytes, v_bytes}
@@ -57,20 +58,20 @@ w_octets pages =
     let front = take 28 (w_bytes 0) in
     let middle = take 132 (drop 32 (w_bytes 0)) in
     let back = drop 168 (w_bytes 0) in
-    both_octets front (word_bytes pages ++ (middle ++ (word_bytes (1024 + 1024 * pages) ++ back))) (all_octets front refl)
-    (both_octets (word_bytes pages) (middle ++ (word_bytes (1024 + 1024 * pages) ++ back)) (word_octets pages)
-    (both_octets middle (word_bytes (1024 + 1024 * pages) ++ back) (all_octets middle refl)
-    (both_octets (word_bytes (1024 + 1024 * pages)) back (word_octets (1024 + 1024 * pages)) (all_octets back refl))))
+    octets-append front (word_bytes pages ++ (middle ++ (word_bytes (1024 + 1024 * pages) ++ back))) (all_octets front refl)
+    (octets-append (word_bytes pages) (middle ++ (word_bytes (1024 + 1024 * pages) ++ back)) (word_octets pages)
+    (octets-append middle (word_bytes (1024 + 1024 * pages) ++ back) (all_octets middle refl)
+    (octets-append (word_bytes (1024 + 1024 * pages)) back (word_octets (1024 + 1024 * pages)) (all_octets back refl))))
 
 v_octets : (pages : ℕ) → AreOctets (v_bytes pages)
 unfolding v_bytes
 v_octets pages =
     let front = take 14 (v_bytes 0) in
     let back = drop 18 (v_bytes 0) in
-    both_octets front (word_bytes pages ++ back) (all_octets front refl) (both_octets (word_bytes pages) back (word_octets pages) (all_octets back refl))
+    octets-append front (word_bytes pages ++ back) (all_octets front refl) (octets-append (word_bytes pages) back (word_octets pages) (all_octets back refl))
 
 paged_octets : (bytes : List ℕ) → AreOctets bytes → AreOctets (in_pages 1 bytes)
-paged_octets bytes a = both_octets bytes (replicate (1024 * 1 - length bytes) 0) a (zero_octets (1024 * 1 - length bytes))
+paged_octets bytes a = octets-append bytes (replicate (1024 * 1 - length bytes) 0) a (zero_octets (1024 * 1 - length bytes))
 
 load_octets : (number : ℕ) → AllImages (load_inputs number).images
 unfolding load_images

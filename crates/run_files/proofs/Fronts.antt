@@ -11,6 +11,7 @@ use Rattle.io_edge.specs.FileHolding.{NamedFile, place_of, bytes_at, file_range,
 use Rattle.aout_image.specs.declared.Image.{Image}
 use Rattle.aout_image.specs.declared.Judged.TheVariants.{Is, NotImage as No}
 use Rattle.aout_image.specs.Image.{Loaded, judged_image, judged_of, file_length_of, is_paged, NeedsNoMore}
+use Rattle.aout_image.proofs.Images.{text_offset_at_least}
 use Rattle.run_files.specs.declared.answers.Unread.{Unread}
 use Rattle.run_files.specs.declared.answers.Unread.TheVariants.{Absent, NotImage, FileFault, NoMemory}
 use Rattle.run_files.specs.Answering.{Answers, CountsFault, CountsFaults, FailsInOrder, IsFailure, IsOfFoundFile}
@@ -180,13 +181,9 @@ front_of_header holds list id head told size held =
     let here : head ≡ file_range (bytes_at list id) 0 (length head) = subst (λ (h : Option (List NamedFile)). HoldsRange h id 0 head) told held in
     ap (λ (n : ℕ). take n (bytes_at list id)) (sym size) ∙ sym here
 
-text_above : (paged : Bool) → 32 ≤ (if paged then 1024 else 32)
-text_above true = omega arith
-text_above false = omega arith
-
 -- text and data stand after the header
 pub above_header : (image : Image) → 32 ≤ file_length_of image
-above_header image = let above = text_above (is_paged image.kind) in omega (arith, above)
+above_header image = let above = text_offset_at_least (is_paged image.kind) in omega (arith, above)
 
 pub at_least : (b : Bool) (n m k : ℕ) → n ≡ (if b then m else k) → 32 ≤ m → 32 ≤ k → 32 ≤ n
 at_least true n m k is first second = omega (arith, is, first)

@@ -43,7 +43,7 @@ words_more words i d below =
     ∙ map-append (λ (word : Bor (List ℕ)). word.now) (take i words) (get_or words i d ∷ [])
 
 -- a name among others
-unlike : (a b : List ℕ) → bytes_eq a b ≡ false → bytes_eq b a ≡ false
+pub unlike : (a b : List ℕ) → bytes_eq a b ≡ false → bytes_eq b a ≡ false
 unlike a b differs = go (bytes_eq b a) refl
   where
     go : (t : Bool) → bytes_eq b a ≡ t → bytes_eq b a ≡ false

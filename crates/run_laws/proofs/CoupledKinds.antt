@@ -56,31 +56,29 @@ served_none : (p : Placement) (q : Page) → serve_unit p q true ≡ None → (f
 served_none p q h = serving_cases (λ x. unit_of_serving x true ≡ None → (f : ℕ) × (state_of p q ≡ Valid f)) p q (λ f s k. (f, s)) (λ f s k. absurd cc)
     (λ f s k. absurd cc) (λ n l k. absurd cc) (λ f fs l s x k. absurd cc) (λ f fs l r b k. absurd cc) (λ f fs l r b k. absurd cc) h
 
-finish : (A : Inputs) (s : State) (k : Kernel) (image : List ℕ) (read : List (List ℕ)) → StandsAt A s k image read → Couples A s k image read entries.Done
-finish A s k image read x = goes_done A.swap_blocks k A.images image s.point.flat (locked A s) read x.machine
+module _ (A : Inputs) (s : State) (k : Kernel) (image : List ℕ) (read : List (List ℕ)) where
+  finish : StandsAt A s k image read → Couples A s k image read entries.Done
+  finish x = goes_done A.swap_blocks k A.images image s.point.flat (locked A s) read x.machine
 
-forced : (A : Inputs) (s : State) (k : Kernel) (image : List ℕ) (read : List (List ℕ)) → StandsAt A s k image read → (ts : List Transfer)
-    → Couples A s k image read (force_entry ts)
-forced A s k image read x [] = goes_hand A.swap_blocks k A.images image s.point.flat (locked A s) read x.machine
-forced A s k image read x (t ∷ ts) = finish A s k image read x
+  forced : StandsAt A s k image read → (ts : List Transfer) → Couples A s k image read (force_entry ts)
+  forced x [] = goes_hand A.swap_blocks k A.images image s.point.flat (locked A s) read x.machine
+  forced x (t ∷ ts) = finish x
 
-filled : (A : Inputs) (s : State) (k : Kernel) (image : List ℕ) (read : List (List ℕ)) (e : Entry) → StandsAt A s k image read
-    → (0 < length k.place.free → Couples A s k image read e) → Couples A s k image read (fill_unit s.place e)
-filled A s k image read e x make = subst (λ (p : Placement). Couples A s k image read (fill_unit p e)) x.same (go k.place.free refl)
-  where
-    go : (fr : List ℕ) → k.place.free ≡ fr → Couples A s k image read (fill_by k.place e fr)
-    go [] l = forced A s k image read x k.place.transfers
-    go (f ∷ fs) l = make (subst (λ (fr : List ℕ). 0 < length fr) (sym l) (omega arith))
+  filled : (e : Entry) → StandsAt A s k image read → (0 < length k.place.free → Couples A s k image read e) → Couples A s k image read (fill_unit s.place e)
+  filled e x make = subst (λ (p : Placement). Couples A s k image read (fill_unit p e)) x.same (go k.place.free refl)
+    where
+      go : (fr : List ℕ) → k.place.free ≡ fr → Couples A s k image read (fill_by k.place e fr)
+      go [] l = forced x k.place.transfers
+      go (f ∷ fs) l = make (subst (λ (fr : List ℕ). 0 < length fr) (sym l) (omega arith))
 
-served : (A : Inputs) (s : State) (k : Kernel) (image : List ℕ) (read : List (List ℕ)) (u : Entry) (q : Page) (now : Bool) → StandsAt A s k image read
-    → IsThere s.place q → NotDue s.place.due q
-    → serve_unit s.place q now ≡ Some u → Couples A s k image read u
-served A s k image read u q now x there n h =
-    let e = unit_is s.place q now u h in
-    subst (Couples A s k image read) (sym e.1)
-    (subst (λ (p : Placement). Couples A s k image read (serve_entry p q)) x.same
-    (serve_goes A.swap_blocks k A.images image s.point.flat (locked A s) read q x.machine
-    (subst (λ (p : Placement). IsThere p q) (sym x.same) there) (subst (λ (p : Placement). NotDue p.due q) (sym x.same) n) (ap (λ (p : Placement). is_valid (state_of p q)) x.same ∙ e.0)))
+  served : (u : Entry) (q : Page) (now : Bool) → StandsAt A s k image read → IsThere s.place q → NotDue s.place.due q → serve_unit s.place q now ≡ Some u
+      → Couples A s k image read u
+  served u q now x there n h =
+      let e = unit_is s.place q now u h in
+      subst (Couples A s k image read) (sym e.1)
+      (subst (λ (p : Placement). Couples A s k image read (serve_entry p q)) x.same
+      (serve_goes A.swap_blocks k A.images image s.point.flat (locked A s) read q x.machine
+      (subst (λ (p : Placement). IsThere p q) (sym x.same) there) (subst (λ (p : Placement). NotDue p.due q) (sym x.same) n) (ap (λ (p : Placement). is_valid (state_of p q)) x.same ∙ e.0)))
 
 -- what is due at the machine
 due_here : (A : Inputs) (s : State) (k : Kernel) (q : Page) (d : Due) (ds : List Due) → k.place ≡ s.place

@@ -55,84 +55,74 @@ pub record Goes (k : Kernel) (images : List NamedImage) (image : List ℕ) (flat
   pub stands : Stands images (page_step k locked read e) flat
   pub tokens : length (Kernel.frames (page_step k locked read e)) ≡ length k.frames
 
-pub goes_done : (size : ℕ) (k : Kernel) (images : List NamedImage) (image : List ℕ) (flat : FlatState) (locked : List Page) (read : List (List ℕ))
-    → Machine size k images image flat read → Goes k images image flat locked read entries.Done
-goes_done size k images image flat locked read x = let t = x.stands in record {
-  coupled = done_coupled_step size k images image flat read x.sound t.texts x.room x.are x.coupled;
-  stands = done_stands size images k flat read x.sound x.stands;
-  tokens = landed_length k.place.transfers read k.frames;
-}
+module _ (size : ℕ) (k : Kernel) (images : List NamedImage) (image : List ℕ) (flat : FlatState) (locked : List Page) (read : List (List ℕ)) where
+  pub goes_done : Machine size k images image flat read → Goes k images image flat locked read entries.Done
+  goes_done x = let t = x.stands in record {
+    coupled = done_coupled_step size k images image flat read x.sound t.texts x.room x.are x.coupled;
+    stands = done_stands size images k flat read x.sound x.stands;
+    tokens = landed_length k.place.transfers read k.frames;
+  }
 
-pub goes_hand : (size : ℕ) (k : Kernel) (images : List NamedImage) (image : List ℕ) (flat : FlatState) (locked : List Page) (read : List (List ℕ))
-    → Machine size k images image flat read
-    → Goes k images image flat locked read (entries.Hands 1)
-goes_hand size k images image flat locked read x = record {
-  coupled = hand_coupled_step size k images image flat locked x.sound x.coupled;
-  stands = hand_stands images k flat locked x.stands;
-  tokens = refl;
-}
+  pub goes_hand : Machine size k images image flat read → Goes k images image flat locked read (entries.Hands 1)
+  goes_hand x = record {
+    coupled = hand_coupled_step size k images image flat locked x.sound x.coupled;
+    stands = hand_stands images k flat locked x.stands;
+    tokens = refl;
+  }
 
-pub goes_put : (size : ℕ) (k : Kernel) (images : List NamedImage) (image : List ℕ) (flat : FlatState) (locked : List Page)
-    (read : List (List ℕ)) (q : Page) (n : ℕ)
-    → Machine size k images image flat read → HasSeat k.place q → EachPage (HasSeat k.place) (pages_from q (number_of q) n)
-    → Goes k images image flat locked read (entries.Put q n)
-goes_put size k images image flat locked read q n x h hs = record {
-  coupled = push_coupled_step size k images image flat q n x.sound h hs x.coupled;
-  stands = push_stands images k flat q n x.stands;
-  tokens = refl;
-}
+  pub goes_put : (q : Page) (n : ℕ) → Machine size k images image flat read → HasSeat k.place q → EachPage (HasSeat k.place) (pages_from q (number_of q) n)
+      → Goes k images image flat locked read (entries.Put q n)
+  goes_put q n x h hs = record {
+    coupled = push_coupled_step size k images image flat q n x.sound h hs x.coupled;
+    stands = push_stands images k flat q n x.stands;
+    tokens = refl;
+  }
 
-pub goes_start : (size : ℕ) (k : Kernel) (images : List NamedImage) (image : List ℕ) (flat : FlatState) (locked : List Page) (read : List (List ℕ)) (q r : Page)
-    → Machine size k images image flat read
-    → CanEnter k.place q → IsWritable q → 0 < length k.place.free
-    → state_of k.place q ≡ Unfilled → due_of_page k.place.due q ≡ Some (Start r) → Goes k images image flat locked read (entries.Zero q)
-goes_start size k images image flat locked read q r x c w some e d = record {
-  coupled = start_coupled size k images image flat q r x.sound c w some e d x.coupled;
-  stands = zero_stands images k flat q x.stands;
-  tokens = first_length k.place.free k.frames (Rattle.kernel_model.specs.Kernel.start_bytes k.starts q);
-}
+  pub goes_start : (q r : Page) → Machine size k images image flat read → CanEnter k.place q → IsWritable q → 0 < length k.place.free
+      → state_of k.place q ≡ Unfilled → due_of_page k.place.due q ≡ Some (Start r) → Goes k images image flat locked read (entries.Zero q)
+  goes_start q r x c w some e d = record {
+    coupled = start_coupled size k images image flat q r x.sound c w some e d x.coupled;
+    stands = zero_stands images k flat q x.stands;
+    tokens = first_length k.place.free k.frames (Rattle.kernel_model.specs.Kernel.start_bytes k.starts q);
+  }
 
-pub goes_copy : (size : ℕ) (k : Kernel) (images : List NamedImage) (image : List ℕ) (flat : FlatState) (locked : List Page) (read : List (List ℕ))
-    (q r parent : Page) (f : ℕ)
-    → Machine size k images image flat read → CanEnter k.place q → IsWritable q → 0 < length k.place.free
-    → state_of k.place q ≡ Unfilled → due_of_page k.place.due q ≡ Some (CopyOf r parent) → state_of k.place parent ≡ Valid f
-    → Goes k images image flat locked read (entries.Copy q)
-goes_copy size k images image flat locked read q r parent f x c w some e d v = record {
-  coupled = copy_coupled size k images image flat q r parent f x.sound c w some e d v x.coupled;
-  stands = copy_stands images k flat q r parent d x.stands;
-  tokens = first_length k.place.free k.frames (Rattle.kernel_model.specs.Kernel.copied_bytes k (due_of_page k.place.due q));
-}
+  pub goes_copy : (q r parent : Page) (f : ℕ) → Machine size k images image flat read → CanEnter k.place q → IsWritable q → 0 < length k.place.free
+      → state_of k.place q ≡ Unfilled → due_of_page k.place.due q ≡ Some (CopyOf r parent) → state_of k.place parent ≡ Valid f
+      → Goes k images image flat locked read (entries.Copy q)
+  goes_copy q r parent f x c w some e d v = record {
+    coupled = copy_coupled size k images image flat q r parent f x.sound c w some e d v x.coupled;
+    stands = copy_stands images k flat q r parent d x.stands;
+    tokens = first_length k.place.free k.frames (Rattle.kernel_model.specs.Kernel.copied_bytes k (due_of_page k.place.due q));
+  }
 
-pub serve_goes : (size : ℕ) (k : Kernel) (images : List NamedImage) (image : List ℕ) (flat : FlatState) (locked : List Page) (read : List (List ℕ)) (q : Page)
-    → Machine size k images image flat read
-    → IsThere k.place q → NotDue k.place.due q → is_valid (state_of k.place q) ≡ false
-    → Goes k images image flat locked read (serve_entry k.place q)
-serve_goes size k images image flat locked read q y there due nv = serving_cases (λ x. P (entry_of_serving x)) k.place q (λ f s. ends) (λ f s. reclaims)
-    (λ f s. ends) (λ n l. forcing_entry P (goes_hand size k images image flat locked read y) ends k.place.transfers) zeros (λ f fs l r b. ends) reads
-  where
-    P : Entry → Type 0
-    P e = Goes k images image flat locked read e
+  pub serve_goes : (q : Page) → Machine size k images image flat read → IsThere k.place q → NotDue k.place.due q → is_valid (state_of k.place q) ≡ false
+      → Goes k images image flat locked read (serve_entry k.place q)
+  serve_goes q y there due nv = serving_cases (λ x. P (entry_of_serving x)) k.place q (λ f s. ends) (λ f s. reclaims)
+      (λ f s. ends) (λ n l. forcing_entry P (goes_hand y) ends k.place.transfers) zeros (λ f fs l r b. ends) reads
+    where
+      P : Entry → Type 0
+      P e = Goes k images image flat locked read e
 
-    so : Sound size k
-    so = y.sound
+      so : Sound size k
+      so = y.sound
 
-    ends : P entries.Done
-    ends = goes_done size k images image flat locked read y
+      ends : P entries.Done
+      ends = goes_done y
 
-    reads : (f : ℕ) (fs : List ℕ) → k.place.free ≡ f ∷ fs → IsRead k.place q → is_full k.place ≡ false → P (read_entry k.place q)
-    reads f fs l r b = record {
-      coupled = read_coupled_step size k images image flat q so (record { there = there; frameless = read_frameless k.place q r }) (read_source k.place q due r) y.coupled;
-      stands = get_stands images k flat q (run_in k.place q).lo (run_in k.place q).n y.stands;
-      tokens = refl;
-    }
+      reads : (f : ℕ) (fs : List ℕ) → k.place.free ≡ f ∷ fs → IsRead k.place q → is_full k.place ≡ false → P (read_entry k.place q)
+      reads f fs l r b = record {
+        coupled = read_coupled_step size k images image flat q so (record { there = there; frameless = read_frameless k.place q r }) (read_source k.place q due r) y.coupled;
+        stands = get_stands images k flat q (run_in k.place q).lo (run_in k.place q).n y.stands;
+        tokens = refl;
+      }
 
-    zeros : (f : ℕ) (fs : List ℕ) → k.place.free ≡ f ∷ fs → state_of k.place q ≡ Unfilled → filling_of k.place q ≡ Zeros → P (entries.Zero q)
-    zeros f fs l e x = let t = y.stands in record {
-      coupled = zero_coupled size k images image flat q so t.starts (record { there = there; frameless = ap frame_of e }) (zeros_writable k.place q x)
-          (some_of k.place f fs l) e due x y.coupled;
-      stands = zero_stands images k flat q y.stands;
-      tokens = first_length k.place.free k.frames (Rattle.kernel_model.specs.Kernel.start_bytes k.starts q);
-    }
+      zeros : (f : ℕ) (fs : List ℕ) → k.place.free ≡ f ∷ fs → state_of k.place q ≡ Unfilled → filling_of k.place q ≡ Zeros → P (entries.Zero q)
+      zeros f fs l e x = let t = y.stands in record {
+        coupled = zero_coupled size k images image flat q so t.starts (record { there = there; frameless = ap frame_of e }) (zeros_writable k.place q x)
+            (some_of k.place f fs l) e due x y.coupled;
+        stands = zero_stands images k flat q y.stands;
+        tokens = first_length k.place.free k.frames (Rattle.kernel_model.specs.Kernel.start_bytes k.starts q);
+      }
 
-    reclaims : P (entries.Reclaim q)
-    reclaims = record { coupled = reclaim_coupled_step size k images image flat q so y.coupled; stands = reclaim_stands images k flat q y.stands; tokens = refl }
+      reclaims : P (entries.Reclaim q)
+      reclaims = record { coupled = reclaim_coupled_step size k images image flat q so y.coupled; stands = reclaim_stands images k flat q y.stands; tokens = refl }

@@ -183,33 +183,31 @@ all_execs images F p s calls.Wait regs = wait_execs images (find (λ q. q.parent
 
 -- Steps.
 
-replied_execs : (images : List NamedImage) (F : FlatState) (p : Process) (call : SystemCall) (effect : Effect) (reply : Reply)
-    → ReplyExecs images reply → EntersImage images (replied_step images F p call effect reply).change
-replied_execs images F p call effect (Does regs change) h = h
-replied_execs images F p call effect _ h = tt
+module _ (images : List NamedImage) (F : FlatState) (p : Process) where
+  replied_execs : (call : SystemCall) (effect : Effect) (reply : Reply)
+      → ReplyExecs images reply → EntersImage images (replied_step images F p call effect reply).change
+  replied_execs call effect (Does regs change) h = h
+  replied_execs call effect _ h = tt
 
-called_execs : (images : List NamedImage) (F : FlatState) (p : Process) (s : Space) (refused : Bool) (effect : Effect) (o : Option SystemCall)
-    → EntersImage images (called_step images F p s refused effect o).change
-called_execs images F p s refused effect None = tt
-called_execs images F p s refused effect (Some call) = replied_execs images F p call effect (reply_behind images F p s refused call effect)
-    (refused_gives (ReplyExecs images) refused
-    (or_fault (run (answers_of (puts s effect.writes)) (reply_of images (apply_writes F p.pid effect.writes) (written_process p s effect.writes) (puts s effect.writes) call effect.regs))) tt
-    (reply_gives (ReplyExecs images) (answers_of (puts s effect.writes))
-    (reply_of images (apply_writes F p.pid effect.writes) (written_process p s effect.writes) (puts s effect.writes) call effect.regs) tt
-    (all_execs images (apply_writes F p.pid effect.writes) (written_process p s effect.writes) (puts s effect.writes) call effect.regs)))
+  called_execs : (s : Space) (refused : Bool) (effect : Effect) (o : Option SystemCall) → EntersImage images (called_step images F p s refused effect o).change
+  called_execs s refused effect None = tt
+  called_execs s refused effect (Some call) = replied_execs call effect (reply_behind images F p s refused call effect)
+      (refused_gives (ReplyExecs images) refused
+      (or_fault (run (answers_of (puts s effect.writes)) (reply_of images (apply_writes F p.pid effect.writes) (written_process p s effect.writes) (puts s effect.writes) call effect.regs))) tt
+      (reply_gives (ReplyExecs images) (answers_of (puts s effect.writes))
+      (reply_of images (apply_writes F p.pid effect.writes) (written_process p s effect.writes) (puts s effect.writes) call effect.regs) tt
+      (all_execs images (apply_writes F p.pid effect.writes) (written_process p s effect.writes) (puts s effect.writes) call effect.regs)))
 
-behind_execs : (images : List NamedImage) (F : FlatState) (p : Process) (s : Space) (refused : Bool) (effect : Effect) (o : Option ℤ)
-    → EntersImage images (step_behind images F p s refused effect o).change
-behind_execs images F p s refused effect None = tt
-behind_execs images F p s refused effect (Some number) = called_execs images F p s refused effect (call_of number)
+  behind_execs : (s : Space) (refused : Bool) (effect : Effect) (o : Option ℤ) → EntersImage images (step_behind images F p s refused effect o).change
+  behind_execs s refused effect None = tt
+  behind_execs s refused effect (Some number) = called_execs s refused effect (call_of number)
 
-of_execs : (images : List NamedImage) (F : FlatState) (p : Process) (s : Space) (refused : Bool) (r : Result Effect Refused)
-    → EntersImage images (step_of images F p s refused r).change
-of_execs images F p s refused (Ok effect) = behind_execs images F p s refused effect effect.call
-of_execs images F p s refused (Err (Miss address write)) = tt
-of_execs images F p s true (Err (Below address)) = tt
-of_execs images F p s false (Err (Below address)) = tt
-of_execs images F p s refused (Err (Signal number)) = tt
+  of_execs : (s : Space) (refused : Bool) (r : Result Effect Refused) → EntersImage images (step_of images F p s refused r).change
+  of_execs s refused (Ok effect) = behind_execs s refused effect effect.call
+  of_execs s refused (Err (Miss address write)) = tt
+  of_execs s true (Err (Below address)) = tt
+  of_execs s false (Err (Below address)) = tt
+  of_execs s refused (Err (Signal number)) = tt
 
 pub execs_fit : (A : Inputs) → ExecsFit A
 unfolding flat_step

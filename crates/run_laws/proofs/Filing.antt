@@ -1,10 +1,10 @@
 -- Inputs that stand in files are as a run asks.
-use Rattle.std.proofs.Common.{◌≡◌, inl, inr, ℕ, zero, suc, ◌+◌, ◌-◌, ◌*◌, ◌<◌, ◌≤◌, min, Bool, true, false, List, [], ◌∷◌, length, take, drop, replicate, Some, Result, Ok, Err, refl, sym, ap, ◌∙◌, subst, arith, length-append}
+use Rattle.std.proofs.Common.{◌≡◌, inl, inr, ℕ, zero, suc, ◌+◌, ◌-◌, ◌*◌, ◌<◌, ◌≤◌, min, Bool, true, false, List, [], ◌∷◌, length, take, drop, Some, Result, Ok, Err, refl, sym, ap, ◌∙◌, subst, arith}
 use Rattle.std.specs.Prelude.{slice_get, if◌then◌else◌}
-use Rattle.std.proofs.lemmas.List.{length-replicate, length-take}
+use Rattle.std.proofs.lemmas.List.{length-take}
 use Rattle.aout_image.specs.declared.Image.{Image}
-use Rattle.aout_image.specs.Image.{IsSound, Loaded, loaded, judged_image, in_pages, text_pages_of, image_data_pages, text_given, data_given, text_offset, has_text_segment, pages_for, file_length_of, page_at}
-use Rattle.aout_image.proofs.Images.{IsFileOf, image_of-is, page_at-in_pages}
+use Rattle.aout_image.specs.Image.{IsSound, Loaded, loaded, judged_image, text_pages_of, image_data_pages, text_given, data_given, text_offset, has_text_segment, pages_for, file_length_of, page_at}
+use Rattle.aout_image.proofs.Images.{IsFileOf, image_of-is, page_at-in_pages, length-in_pages}
 use Rattle.swap_book.specs.Holdings.{Holdings}
 use Rattle.flat_state.specs.Flat.{NamedImage, Inputs, argument_area}
 use Rattle.page_model.specs.PageBytes.{zeros}
@@ -23,9 +23,6 @@ pages_hold n = omega arith
 pages_more : (n m : ℕ) → n ≤ 1024 * pages_for (n + m)
 pages_more n m = omega arith
 
-in_pages_length : (p : ℕ) (bytes : List ℕ) → length bytes ≤ 1024 * p → length (in_pages p bytes) ≡ 1024 * p
-in_pages_length p bytes l = length-append bytes (replicate (1024 * p - length bytes) 0) ∙ (let e = length-replicate {A = ℕ} (1024 * p - length bytes) 0 in omega arith)
-
 taken : (n o : ℕ) (bytes : List ℕ) → length (take n (drop o bytes)) ≤ n
 taken n o bytes = let a = length-take n (drop o bytes) in omega arith
 
@@ -41,10 +38,10 @@ loaded_fits : (image : Image) (bytes : List ℕ) → file_length_of image ≤ le
     → (length (loaded image bytes).text ≡ 1024 * text_pages_of image) × DataFits (loaded image bytes)
 unfolding loaded zeros
 loaded_fits image bytes whole = (
-  in_pages_length (text_pages_of image) (take (text_given image) (drop (text_offset image) bytes))
+  length-in_pages (text_pages_of image) (take (text_given image) (drop (text_offset image) bytes))
       (let a = taken (text_given image) (text_offset image) bytes in let b = pages_hold (text_given image) in omega arith),
   record {
-    size = in_pages_length (image_data_pages image) (take (data_given image) (drop (text_offset image + text_given image) bytes))
+    size = length-in_pages (image_data_pages image) (take (data_given image) (drop (text_offset image + text_given image) bytes))
         (let a = taken (data_given image) (text_offset image + text_given image) bytes in let b = pages_more (data_given image) image.bss_len in omega arith);
     rest = λ v past below. page_at-in_pages (text_offset image + text_given image) (data_given image) (image_data_pages image) v bytes (let s = given_sum image in omega (arith, whole))
         (pages_more (data_given image) image.bss_len) below

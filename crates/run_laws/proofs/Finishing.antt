@@ -42,7 +42,8 @@ use Rattle.run_laws.proofs.Wholes.{unit_ready, flat_or}
 -- No next unit.
 
 -- none of these passes
-none_passes : (test : Process → Bool) (ps : List Process) (pid : ℕ) (q : Process) → find test ps ≡ None → find (λ x. x.pid == pid) ps ≡ Some q → test q ≡ false
+pub none_passes : (test : Process → Bool) (ps : List Process) (pid : ℕ) (q : Process) → find test ps ≡ None → find (λ x. x.pid == pid) ps ≡ Some q
+    → test q ≡ false
 none_passes test [] pid q n f = absurd cc
 none_passes test (x ∷ ps) pid q n f = go (none_passes test ps pid q) (test x) refl n (x.pid == pid) f
   where
@@ -52,7 +53,7 @@ none_passes test (x ∷ ps) pid q n f = go (none_passes test ps pid q) (test x) 
     go ih false e n true f = ap test (let same : q ≡ x = cc in same) ∙ e
     go ih false e n false f = ih n f
 
-none_ready : (F : FlatState) (pid : ℕ) → next_ready F 0 ≡ None → 0 < pid → can_step F pid ≡ false
+pub none_ready : (F : FlatState) (pid : ℕ) → next_ready F 0 ≡ None → 0 < pid → can_step F pid ≡ false
 none_ready F pid n l = go (process_of F pid) refl
   where
     nobody : find (λ q. is_ready q && nat_lt 0 q.pid) F.processes ≡ None
@@ -123,29 +124,27 @@ never_misses s _ a w e = cc
 
 -- So each step of a process that can step has an entry.
 
-replied_some : (images : List NamedImage) (F : FlatState) (p : Process) (call : SystemCall) (effect : Effect) (reply : Reply)
-    → HasEntry (replied_step images F p call effect reply).entries
-replied_some images F p call effect (Writes []) = tt
-replied_some images F p call effect (Writes (byte ∷ bytes)) = tt
-replied_some images F p call effect _ = tt
+module _ (images : List NamedImage) (F : FlatState) (p : Process) where
+  replied_some : (call : SystemCall) (effect : Effect) (reply : Reply) → HasEntry (replied_step images F p call effect reply).entries
+  replied_some call effect (Writes []) = tt
+  replied_some call effect (Writes (byte ∷ bytes)) = tt
+  replied_some call effect _ = tt
 
-called_some : (images : List NamedImage) (F : FlatState) (p : Process) (s : Space) (refused : Bool) (effect : Effect) (o : Option SystemCall)
-    → HasEntry (called_step images F p s refused effect o).entries
-called_some images F p s refused effect None = tt
-called_some images F p s refused effect (Some call) = replied_some images F p call effect (reply_behind images F p s refused call effect)
+  called_some : (s : Space) (refused : Bool) (effect : Effect) (o : Option SystemCall) → HasEntry (called_step images F p s refused effect o).entries
+  called_some s refused effect None = tt
+  called_some s refused effect (Some call) = replied_some call effect (reply_behind images F p s refused call effect)
 
-behind_some : (images : List NamedImage) (F : FlatState) (p : Process) (s : Space) (refused : Bool) (effect : Effect) (o : Option ℤ)
-    → HasEntry (step_behind images F p s refused effect o).entries
-behind_some images F p s refused effect None = tt
-behind_some images F p s refused effect (Some number) = called_some images F p s refused effect (call_of number)
+  behind_some : (s : Space) (refused : Bool) (effect : Effect) (o : Option ℤ) → HasEntry (step_behind images F p s refused effect o).entries
+  behind_some s refused effect None = tt
+  behind_some s refused effect (Some number) = called_some s refused effect (call_of number)
 
-of_some : (images : List NamedImage) (F : FlatState) (p : Process) (s : Space) (refused : Bool) (r : Result Effect Refused)
-    → ((a : ℕ) (w : Bool) → r ≡ Err (Miss a w) → ⊥) → HasEntry (step_of images F p s refused r).entries
-of_some images F p s refused (Ok effect) n = behind_some images F p s refused effect effect.call
-of_some images F p s refused (Err (Miss a w)) n = absurd (n a w refl)
-of_some images F p s true (Err (Below address)) n = tt
-of_some images F p s false (Err (Below address)) n = tt
-of_some images F p s refused (Err (Signal number)) n = tt
+  of_some : (s : Space) (refused : Bool) (r : Result Effect Refused)
+      → ((a : ℕ) (w : Bool) → r ≡ Err (Miss a w) → ⊥) → HasEntry (step_of images F p s refused r).entries
+  of_some s refused (Ok effect) n = behind_some s refused effect effect.call
+  of_some s refused (Err (Miss a w)) n = absurd (n a w refl)
+  of_some s true (Err (Below address)) n = tt
+  of_some s false (Err (Below address)) n = tt
+  of_some s refused (Err (Signal number)) n = tt
 
 pub step_some : (A : Inputs) (F : FlatState) (pid : ℕ) (refused : Bool) → can_step F pid ≡ true → HasEntry (flat_step A F pid refused).entries
 unfolding flat_step

@@ -42,12 +42,12 @@ use Rattle.kernel_laws.proofs.Flat.Numbers.{changes_numbered}
 use Rattle.kernel_laws.proofs.Machine.Processes.{changing_with, Stepping, stepping}
 use Rattle.flat_laws.proofs.Asking.{own_space, shared_same, no_sharers, some_sharers, change_same}
 use Rattle.flat_model.specs.Asked.{is_shared, given_up}
-use Rattle.kernel_laws.proofs.Kept.Changes.{takes_next, may_reap, GivesBack, takes_none, back_ready}
+use Rattle.kernel_laws.proofs.Kept.Changes.{takes_next, may_reap, GivesBack, takes_none, back_ready, enters_own, ends_own}
 use Rattle.run_laws.specs.Standing.{Own}
 use Rattle.kernel_model.specs.Unit.{lender_among, passing_change}
 use Rattle.kernel_laws.proofs.Kept.Borrowed.{lender_is}
 use Rattle.run_laws.proofs.Changes.{given_same}
-use Rattle.run_laws.proofs.OwnChanges.{ReadyChange, keeps_place, keeps_holdings, own_false, end_false, own_told, own_kept, own_lands}
+use Rattle.run_laws.proofs.OwnChanges.{ReadyChange, keeps_place, keeps_holdings, own_told, own_kept, own_lands}
 use Rattle.run_laws.proofs.OwnChanges as own
 use Rattle.run_laws.proofs.BackChanges.{back_told, back_lands, asks_same}
 use Rattle.run_laws.proofs.BackChanges as back
@@ -96,7 +96,7 @@ own_coupled A k flat image before pid regs e q s b (Exec number top) c w o z y x
     let ow : OneOwner A.swap_blocks (lives k.processes) k.place before = so.owner in
     let i : ImageFits c.execs.0 = c.images number c.execs.0 c.execs.1 in
     exec_coupled_step A.swap_blocks before k A.images image flat pid regs e number top c.execs.0 q s so c.numbers st.out c.clear st.starts c.found_process c.holds
-    (w ∙ own_false b number top o) c.resident (settled_rests k.place s.sid ow.frames z) y c.execs.1 i.«data» c.execs.2 x.coupled
+    (w ∙ enters_own b number top o) c.resident (settled_rests k.place s.sid ow.frames z) y c.execs.1 i.«data» c.execs.2 x.coupled
 own_coupled A k flat image before pid regs e q s b (Reap child) c w o z y x =
     reap_coupled k A.images image flat pid regs e child c.may.1 q c.may.0 s c.numbers c.found_process c.holds c.resident c.may.2 c.may.3 x.coupled
 own_coupled A k flat image before pid regs e q s b Sleep c w o z y x = sleep_coupled k A.images image flat pid regs e q s c.numbers c.found_process c.holds c.resident x.coupled
@@ -104,7 +104,7 @@ own_coupled A k flat image before pid regs e q s b (End status) c w o z y x =
     let st : Stands A.images k flat = x.stands in
     let so : Sound A.swap_blocks k = found_none A flat k image before x c.pieces in
     let ow : OneOwner A.swap_blocks (lives k.processes) k.place k.holdings = so.owner in
-    end_coupled_step A.swap_blocks k A.images image flat pid regs e status q s so c.numbers st.out c.clear c.found_process c.holds (w ∙ end_false b status o)
+    end_coupled_step A.swap_blocks k A.images image flat pid regs e status q s so c.numbers st.out c.clear c.found_process c.holds (w ∙ ends_own b status o)
     (settled_rests k.place s.sid ow.frames z) y x.coupled
 
 pub own_landed : (A : Inputs) (k : Kernel) (flat : FlatState) (image : List ℕ) (before : Holdings) (pid : ℕ) (regs : Regs) (e : Entry) (q : Process) (s : Space)

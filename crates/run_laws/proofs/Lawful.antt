@@ -45,29 +45,26 @@ use Rattle.run_laws.proofs.Running.{run_on}
 
 -- Each next unit is a unit.
 
-replied_units : (images : List NamedImage) (F : FlatState) (p : Process) (call : SystemCall) (effect : Effect) (reply : Reply)
-    → AllUnits (replied_step images F p call effect reply).entries
-replied_units images F p call effect (Writes []) = (tt, tt)
-replied_units images F p call effect (Writes (byte ∷ bytes)) = (tt, (tt, tt))
-replied_units images F p call effect _ = (tt, tt)
+module _ (images : List NamedImage) (F : FlatState) (p : Process) where
+  replied_units : (call : SystemCall) (effect : Effect) (reply : Reply) → AllUnits (replied_step images F p call effect reply).entries
+  replied_units call effect (Writes []) = (tt, tt)
+  replied_units call effect (Writes (byte ∷ bytes)) = (tt, (tt, tt))
+  replied_units call effect _ = (tt, tt)
 
-called_units : (images : List NamedImage) (F : FlatState) (p : Process) (s : Space) (refused : Bool) (effect : Effect) (o : Option SystemCall)
-    → AllUnits (called_step images F p s refused effect o).entries
-called_units images F p s refused effect None = (tt, tt)
-called_units images F p s refused effect (Some call) = replied_units images F p call effect (reply_behind images F p s refused call effect)
+  called_units : (s : Space) (refused : Bool) (effect : Effect) (o : Option SystemCall) → AllUnits (called_step images F p s refused effect o).entries
+  called_units s refused effect None = (tt, tt)
+  called_units s refused effect (Some call) = replied_units call effect (reply_behind images F p s refused call effect)
 
-behind_units : (images : List NamedImage) (F : FlatState) (p : Process) (s : Space) (refused : Bool) (effect : Effect) (o : Option ℤ)
-    → AllUnits (step_behind images F p s refused effect o).entries
-behind_units images F p s refused effect None = (refl, tt)
-behind_units images F p s refused effect (Some number) = called_units images F p s refused effect (call_of number)
+  behind_units : (s : Space) (refused : Bool) (effect : Effect) (o : Option ℤ) → AllUnits (step_behind images F p s refused effect o).entries
+  behind_units s refused effect None = (refl, tt)
+  behind_units s refused effect (Some number) = called_units s refused effect (call_of number)
 
-of_units : (images : List NamedImage) (F : FlatState) (p : Process) (s : Space) (refused : Bool) (r : Result Effect Refused)
-    → AllUnits (step_of images F p s refused r).entries
-of_units images F p s refused (Ok effect) = behind_units images F p s refused effect effect.call
-of_units images F p s refused (Err (Miss address write)) = tt
-of_units images F p s true (Err (Below address)) = (tt, tt)
-of_units images F p s false (Err (Below address)) = (tt, tt)
-of_units images F p s refused (Err (Signal number)) = (tt, tt)
+  of_units : (s : Space) (refused : Bool) (r : Result Effect Refused) → AllUnits (step_of images F p s refused r).entries
+  of_units s refused (Ok effect) = behind_units s refused effect effect.call
+  of_units s refused (Err (Miss address write)) = tt
+  of_units s true (Err (Below address)) = (tt, tt)
+  of_units s false (Err (Below address)) = (tt, tt)
+  of_units s refused (Err (Signal number)) = (tt, tt)
 
 step_units : (A : Inputs) (F : FlatState) (pid : ℕ) (refused : Bool) → AllUnits (flat_step A F pid refused).entries
 unfolding flat_step

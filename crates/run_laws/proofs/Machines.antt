@@ -85,85 +85,76 @@ start_keeps A hs frames image c f room =
 
 -- Each kind of unit by itself.
 
-pub zero_keeps : (A : Inputs) (s : State) (k : Kernel) (image : List ℕ) (q : Page) → Next A s k image (entries.Zero q)
-    → StandsAt A (after A s (entries.Zero q)) (zero_step k q) image
-zero_keeps A s k image q x = unit_keeps A s k image [] (entries.Zero q) x tt
+module _ (A : Inputs) (s : State) (k : Kernel) (image : List ℕ) where
+  pub zero_keeps : (q : Page) → Next A s k image (entries.Zero q) → StandsAt A (after A s (entries.Zero q)) (zero_step k q) image
+  zero_keeps q x = unit_keeps A s k image [] (entries.Zero q) x tt
 
-pub copy_keeps : (A : Inputs) (s : State) (k : Kernel) (image : List ℕ) (q : Page) → Next A s k image (entries.Copy q)
-    → StandsAt A (after A s (entries.Copy q)) (copy_step k q) image
-copy_keeps A s k image q x = unit_keeps A s k image [] (entries.Copy q) x tt
+  pub copy_keeps : (q : Page) → Next A s k image (entries.Copy q) → StandsAt A (after A s (entries.Copy q)) (copy_step k q) image
+  copy_keeps q x = unit_keeps A s k image [] (entries.Copy q) x tt
 
-pub get_keeps : (A : Inputs) (s : State) (k : Kernel) (image : List ℕ) (q : Page) (lo n : ℕ) → Next A s k image (entries.Get q lo n)
-    → StandsAt A (after A s (entries.Get q lo n)) (get_step k q lo n) image
-get_keeps A s k image q lo n x = unit_keeps A s k image [] (entries.Get q lo n) x tt
+  pub get_keeps : (q : Page) (lo n : ℕ) → Next A s k image (entries.Get q lo n) → StandsAt A (after A s (entries.Get q lo n)) (get_step k q lo n) image
+  get_keeps q lo n x = unit_keeps A s k image [] (entries.Get q lo n) x tt
 
-pub reclaim_keeps : (A : Inputs) (s : State) (k : Kernel) (image : List ℕ) (q : Page) → Next A s k image (entries.Reclaim q)
-    → StandsAt A (after A s (entries.Reclaim q)) (reclaim_step k q) image
-reclaim_keeps A s k image q x = unit_keeps A s k image [] (entries.Reclaim q) x tt
+  pub reclaim_keeps : (q : Page) → Next A s k image (entries.Reclaim q) → StandsAt A (after A s (entries.Reclaim q)) (reclaim_step k q) image
+  reclaim_keeps q x = unit_keeps A s k image [] (entries.Reclaim q) x tt
 
-pub hands_keep : (A : Inputs) (s : State) (k : Kernel) (image : List ℕ) (n : ℕ) → Next A s k image (entries.Hands n)
-    → StandsAt A (after A s (entries.Hands n)) (plain_step k (locked A s) (entries.Hands n)) image
-hands_keep A s k image n x = unit_keeps A s k image [] (entries.Hands n) x tt
+  pub hands_keep : (n : ℕ) → Next A s k image (entries.Hands n) → StandsAt A (after A s (entries.Hands n)) (plain_step k (locked A s) (entries.Hands n)) image
+  hands_keep n x = unit_keeps A s k image [] (entries.Hands n) x tt
 
-pub put_keeps : (A : Inputs) (s : State) (k : Kernel) (image : List ℕ) (q : Page) (n : ℕ) → Next A s k image (entries.Put q n)
-    → StandsAt A (after A s (entries.Put q n)) (push_step k q n) image
-put_keeps A s k image q n x = unit_keeps A s k image [] (entries.Put q n) x tt
+  pub put_keeps : (q : Page) (n : ℕ) → Next A s k image (entries.Put q n) → StandsAt A (after A s (entries.Put q n)) (push_step k q n) image
+  put_keeps q n x = unit_keeps A s k image [] (entries.Put q n) x tt
 
-pub done_keeps : (A : Inputs) (s : State) (k : Kernel) (image : List ℕ) (read : List (List ℕ)) → Next A s k image entries.Done
-    → AreRead (beside_kernel k A.images image s.point.flat) k.place.transfers read
-    → StandsAt A (after A s entries.Done) (done_step k read) (image_after k image)
-done_keeps A s k image read x g = unit_keeps A s k image read entries.Done x g
+  pub done_keeps : (read : List (List ℕ)) → Next A s k image entries.Done → AreRead (beside_kernel k A.images image s.point.flat) k.place.transfers read
+      → StandsAt A (after A s entries.Done) (done_step k read) (image_after k image)
+  done_keeps read x g = unit_keeps A s k image read entries.Done x g
 
-pub out_keeps : (A : Inputs) (s : State) (k : Kernel) (image : List ℕ) (pid : ℕ) (p : Proc) → Next A s k image (entries.SwapOut pid)
-    → proc_of k pid ≡ Some p → AreRegs p.regs
-    → StandsAt A (after A s (entries.SwapOut pid)) (out_step k pid) (store_at image (block_in k.holdings (owners.U pid) 0) (u_bytes k (Some p)))
-out_keeps A s k image pid p x e are = subst (λ (o : Option Proc). StandsAt A (after A s (entries.SwapOut pid)) (out_step k pid) (store_at image (block_in k.holdings (owners.U pid) 0) (u_bytes k o))) e
-    (unit_keeps A s k image [] (entries.SwapOut pid) x (λ q f. subst (λ (y : Proc). AreRegs y.regs) (same_Some p q (sym e ∙ f)) are))
+  pub out_keeps : (pid : ℕ) (p : Proc) → Next A s k image (entries.SwapOut pid) → proc_of k pid ≡ Some p → AreRegs p.regs
+      → StandsAt A (after A s (entries.SwapOut pid)) (out_step k pid) (store_at image (block_in k.holdings (owners.U pid) 0) (u_bytes k (Some p)))
+  out_keeps pid p x e are = subst (λ (o : Option Proc). StandsAt A (after A s (entries.SwapOut pid)) (out_step k pid) (store_at image (block_in k.holdings (owners.U pid) 0) (u_bytes k o))) e
+      (unit_keeps A s k image [] (entries.SwapOut pid) x (λ q f. subst (λ (y : Proc). AreRegs y.regs) (same_Some p q (sym e ∙ f)) are))
 
-pub in_keeps : (A : Inputs) (s : State) (k : Kernel) (image : List ℕ) (pid : ℕ) → Next A s k image (entries.SwapIn pid)
-    → StandsAt A (after A s (entries.SwapIn pid)) (in_step k pid (regs_in (stored_at image (block_in k.holdings (owners.U pid) 0)))) image
-in_keeps A s k image pid x = unit_keeps A s k image [] (entries.SwapIn pid) x tt
+  pub in_keeps : (pid : ℕ) → Next A s k image (entries.SwapIn pid)
+      → StandsAt A (after A s (entries.SwapIn pid)) (in_step k pid (regs_in (stored_at image (block_in k.holdings (owners.U pid) 0)))) image
+  in_keeps pid x = unit_keeps A s k image [] (entries.SwapIn pid) x tt
 
-pub note_keeps : (A : Inputs) (s : State) (k : Kernel) (image : List ℕ) (u : Entry) → Next A s k image u → IsJournalEntry u
-    → StandsAt A (after A s u) (note_step k u) image
-note_keeps A s k image (entries.Event line) x n = unit_keeps A s k image [] (entries.Event line) x tt
-note_keeps A s k image (entries.Turn pid) x n = unit_keeps A s k image [] (entries.Turn pid) x tt
-note_keeps A s k image (entries.Out pid bytes) x n = unit_keeps A s k image [] (entries.Out pid bytes) x tt
-note_keeps A s k image (entries.Refused pid) x n = unit_keeps A s k image [] (entries.Refused pid) x tt
-note_keeps A s k image (entries.Owners a b c d) x n = unit_keeps A s k image [] (entries.Owners a b c d) x tt
-note_keeps A s k image _ x n = absurd n
+  pub note_keeps : (u : Entry) → Next A s k image u → IsJournalEntry u → StandsAt A (after A s u) (note_step k u) image
+  note_keeps (entries.Event line) x n = unit_keeps A s k image [] (entries.Event line) x tt
+  note_keeps (entries.Turn pid) x n = unit_keeps A s k image [] (entries.Turn pid) x tt
+  note_keeps (entries.Out pid bytes) x n = unit_keeps A s k image [] (entries.Out pid bytes) x tt
+  note_keeps (entries.Refused pid) x n = unit_keeps A s k image [] (entries.Refused pid) x tt
+  note_keeps (entries.Owners a b c d) x n = unit_keeps A s k image [] (entries.Owners a b c d) x tt
+  note_keeps _ x n = absurd n
 
-pub ran_keeps : (A : Inputs) (s : State) (k : Kernel) (image : List ℕ) (pid n : ℕ) → Next A s k image (entries.Ran pid n)
-    → StandsAt A (after A s (entries.Ran pid n)) (ran_step A s k pid n) image
-ran_keeps A s k image pid n x = unit_keeps A s k image [] (entries.Ran pid n) x tt
+module _ (A : Inputs) (s : State) (k : Kernel) (image : List ℕ) (pid : ℕ) where
+  pub ran_keeps : (n : ℕ) → Next A s k image (entries.Ran pid n) → StandsAt A (after A s (entries.Ran pid n)) (ran_step A s k pid n) image
+  ran_keeps n x = unit_keeps A s k image [] (entries.Ran pid n) x tt
 
-pub step_keeps : (A : Inputs) (s : State) (k : Kernel) (image : List ℕ) (pid : ℕ) (u : Entry) → Next A s k image u → Completes pid u
-    → StandsAt A (after A s u) (process_step A s k pid u) image
-step_keeps A s k image pid (entries.Grew p n) x c =
-    subst (λ (y : ℕ). StandsAt A (after A s (entries.Grew p n)) (process_step A s k y (entries.Grew p n)) image) c (unit_keeps A s k image [] (entries.Grew p n) x tt)
-step_keeps A s k image pid (entries.Call p n r r0 r1) x c =
-    subst (λ (y : ℕ). StandsAt A (after A s (entries.Call p n r r0 r1)) (process_step A s k y (entries.Call p n r r0 r1)) image) c (unit_keeps A s k image [] (entries.Call p n r r0 r1) x tt)
-step_keeps A s k image pid (entries.Sleeps p) x c =
-    subst (λ (y : ℕ). StandsAt A (after A s (entries.Sleeps p)) (process_step A s k y (entries.Sleeps p)) image) c (unit_keeps A s k image [] (entries.Sleeps p) x tt)
-step_keeps A s k image pid (entries.Ended p n) x c =
-    subst (λ (y : ℕ). StandsAt A (after A s (entries.Ended p n)) (process_step A s k y (entries.Ended p n)) image) c (unit_keeps A s k image [] (entries.Ended p n) x tt)
-step_keeps A s k image pid _ x c = absurd c
+  pub step_keeps : (u : Entry) → Next A s k image u → Completes pid u → StandsAt A (after A s u) (process_step A s k pid u) image
+  step_keeps (entries.Grew p n) x c =
+      subst (λ (y : ℕ). StandsAt A (after A s (entries.Grew p n)) (process_step A s k y (entries.Grew p n)) image) c (unit_keeps A s k image [] (entries.Grew p n) x tt)
+  step_keeps (entries.Call p n r r0 r1) x c =
+      subst (λ (y : ℕ). StandsAt A (after A s (entries.Call p n r r0 r1)) (process_step A s k y (entries.Call p n r r0 r1)) image) c (unit_keeps A s k image [] (entries.Call p n r r0 r1) x tt)
+  step_keeps (entries.Sleeps p) x c =
+      subst (λ (y : ℕ). StandsAt A (after A s (entries.Sleeps p)) (process_step A s k y (entries.Sleeps p)) image) c (unit_keeps A s k image [] (entries.Sleeps p) x tt)
+  step_keeps (entries.Ended p n) x c =
+      subst (λ (y : ℕ). StandsAt A (after A s (entries.Ended p n)) (process_step A s k y (entries.Ended p n)) image) c (unit_keeps A s k image [] (entries.Ended p n) x tt)
+  step_keeps _ x c = absurd c
 
--- in the middle of a step
-mid_keeps : (A : Inputs) (s : State) (k : Kernel) (image : List ℕ) (pid : ℕ) (u : Entry) → Next A s k image u → EndsStep pid u
-    → Mid A (apply_writes s.point.flat pid (step_at A s.point pid).writes) (written_step A s k pid) image
-    × Coupled (taken_step A s k pid) A.images image (apply_writes s.point.flat pid (step_at A s.point pid).writes)
-mid_keeps A s k image pid (entries.Ran p n) x c = mid_stands A s k image (entries.Ran p n) pid x.images (execs_fit A) x.run x.at x.next tt (ap (λ (y : ℕ). Some y) c)
-mid_keeps A s k image pid (entries.Grew p n) x c = mid_stands A s k image (entries.Grew p n) pid x.images (execs_fit A) x.run x.at x.next tt (ap (λ (y : ℕ). Some y) c)
-mid_keeps A s k image pid (entries.Call p n r r0 r1) x c = mid_stands A s k image (entries.Call p n r r0 r1) pid x.images (execs_fit A) x.run x.at x.next tt (ap (λ (y : ℕ). Some y) c)
-mid_keeps A s k image pid (entries.Sleeps p) x c = mid_stands A s k image (entries.Sleeps p) pid x.images (execs_fit A) x.run x.at x.next tt (ap (λ (y : ℕ). Some y) c)
-mid_keeps A s k image pid (entries.Ended p n) x c = mid_stands A s k image (entries.Ended p n) pid x.images (execs_fit A) x.run x.at x.next tt (ap (λ (y : ℕ). Some y) c)
-mid_keeps A s k image pid _ x c = absurd c
+  -- in the middle of a step
+  mid_keeps : (u : Entry) → Next A s k image u → EndsStep pid u
+      → Mid A (apply_writes s.point.flat pid (step_at A s.point pid).writes) (written_step A s k pid) image
+      × Coupled (taken_step A s k pid) A.images image (apply_writes s.point.flat pid (step_at A s.point pid).writes)
+  mid_keeps (entries.Ran p n) x c = mid_stands A s k image (entries.Ran p n) pid x.images (execs_fit A) x.run x.at x.next tt (ap (λ (y : ℕ). Some y) c)
+  mid_keeps (entries.Grew p n) x c = mid_stands A s k image (entries.Grew p n) pid x.images (execs_fit A) x.run x.at x.next tt (ap (λ (y : ℕ). Some y) c)
+  mid_keeps (entries.Call p n r r0 r1) x c = mid_stands A s k image (entries.Call p n r r0 r1) pid x.images (execs_fit A) x.run x.at x.next tt (ap (λ (y : ℕ). Some y) c)
+  mid_keeps (entries.Sleeps p) x c = mid_stands A s k image (entries.Sleeps p) pid x.images (execs_fit A) x.run x.at x.next tt (ap (λ (y : ℕ). Some y) c)
+  mid_keeps (entries.Ended p n) x c = mid_stands A s k image (entries.Ended p n) pid x.images (execs_fit A) x.run x.at x.next tt (ap (λ (y : ℕ). Some y) c)
+  mid_keeps _ x c = absurd c
 
-pub written_keeps : (A : Inputs) (s : State) (k : Kernel) (image : List ℕ) (pid : ℕ) (u : Entry) → Next A s k image u → EndsStep pid u
-    → Coupled (written_step A s k pid) A.images image (apply_writes s.point.flat pid (step_at A s.point pid).writes)
-written_keeps A s k image pid u x c = let m : Mid A (apply_writes s.point.flat pid (step_at A s.point pid).writes) (written_step A s k pid) image = (mid_keeps A s k image pid u x c).0 in m.coupled
+  pub written_keeps : (u : Entry) → Next A s k image u → EndsStep pid u
+      → Coupled (written_step A s k pid) A.images image (apply_writes s.point.flat pid (step_at A s.point pid).writes)
+  written_keeps u x c = let m : Mid A (apply_writes s.point.flat pid (step_at A s.point pid).writes) (written_step A s k pid) image = (mid_keeps u x c).0 in m.coupled
 
-pub taken_keeps : (A : Inputs) (s : State) (k : Kernel) (image : List ℕ) (pid : ℕ) (u : Entry) → Next A s k image u → EndsStep pid u
-    → Coupled (taken_step A s k pid) A.images image (apply_writes s.point.flat pid (step_at A s.point pid).writes)
-taken_keeps A s k image pid u x c = (mid_keeps A s k image pid u x c).1
+  pub taken_keeps : (u : Entry) → Next A s k image u → EndsStep pid u
+      → Coupled (taken_step A s k pid) A.images image (apply_writes s.point.flat pid (step_at A s.point pid).writes)
+  taken_keeps u x c = (mid_keeps u x c).1

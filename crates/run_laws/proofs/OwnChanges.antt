@@ -39,7 +39,7 @@ use Rattle.kernel_laws.proofs.Machine.Through.{keep_tables, sleep_tables, reap_t
 use Rattle.kernel_laws.proofs.Stands.Changes.{keep_stands, sleep_stands, reap_stands, resize_stands, fork_stands, lend_stands, exec_stands, end_stands}
 use Rattle.flat_laws.proofs.Asking.{own_space, shared_same, no_sharers, some_sharers, change_same}
 use Rattle.flat_model.specs.Asked.{is_shared, given_up, change_wanted}
-use Rattle.kernel_laws.proofs.Kept.Changes.{takes_next, may_reap, lend_lives}
+use Rattle.kernel_laws.proofs.Kept.Changes.{takes_next, may_reap, lend_lives, enters_own, ends_own}
 use Rattle.run_laws.specs.Standing.{machine_of, EachOnce, Placed, Own}
 use Rattle.kernel_model.specs.Invariant.{EntersImage}
 use Rattle.kernel_model.specs.Unit.{passing_change}
@@ -48,24 +48,16 @@ use Rattle.run_laws.proofs.Changes.{given_same, change_once}
 
 -- Who keeps a space does with it what the owner does.
 
-pub own_false : (b : Bool) (image : ℕ) (top : List ℕ) → Own b (Exec image top) → b ≡ false
-own_false true image top o = absurd o
-own_false false image top o = refl
-
-pub end_false : (b : Bool) (status : ℕ) → Own b (End status) → b ≡ false
-end_false true status o = absurd o
-end_false false status o = refl
-
 pub keeps_place : (c : Changing) (p : Placement) (change : Change) → Own c.borrowed change
     → place_change (record c { borrowed = false }) p change ≡ place_change c p change
-keeps_place c p (Exec image top) o = ap (λ (b : Bool). place_change (record c { borrowed = b }) p (Exec image top)) (sym (own_false c.borrowed image top o))
-keeps_place c p (End status) o = ap (λ (b : Bool). place_change (record c { borrowed = b }) p (End status)) (sym (end_false c.borrowed status o))
+keeps_place c p (Exec image top) o = ap (λ (b : Bool). place_change (record c { borrowed = b }) p (Exec image top)) (sym (enters_own c.borrowed image top o))
+keeps_place c p (End status) o = ap (λ (b : Bool). place_change (record c { borrowed = b }) p (End status)) (sym (ends_own c.borrowed status o))
 keeps_place c p _ o = refl
 
 pub keeps_holdings : (c : Changing) (hs : Holdings) (p q : Placement) (change : Change) → Own c.borrowed change
     → holdings_after c hs p q change ≡ holdings_after (record c { borrowed = false }) hs p q change
-keeps_holdings c hs p q (Exec image top) o = ap (λ (b : Bool). holdings_after (record c { borrowed = b }) hs p q (Exec image top)) (own_false c.borrowed image top o)
-keeps_holdings c hs p q (End status) o = ap (λ (b : Bool). holdings_after (record c { borrowed = b }) hs p q (End status)) (end_false c.borrowed status o)
+keeps_holdings c hs p q (Exec image top) o = ap (λ (b : Bool). holdings_after (record c { borrowed = b }) hs p q (Exec image top)) (enters_own c.borrowed image top o)
+keeps_holdings c hs p q (End status) o = ap (λ (b : Bool). holdings_after (record c { borrowed = b }) hs p q (End status)) (ends_own c.borrowed status o)
 keeps_holdings c hs p q _ o = refl
 
 -- Tables, and what stands beside them.
@@ -91,7 +83,7 @@ own_told A k flat pid regs e q s b (Lend child) fit nums f h w o out due m x t s
 own_told A k flat pid regs e q s b (Exec number top) fit nums f h w o out due m (named, im, whole) t st =
     let i : ImageFits named = fit number named im in
     record {
-      tables = exec_tables k A.images flat pid regs e number top named q s nums f h (w ∙ own_false b number top o) im i.«data» whole t;
+      tables = exec_tables k A.images flat pid regs e number top named q s nums f h (w ∙ enters_own b number top o) im i.«data» whole t;
       stands = exec_stands A.images k flat pid regs e number top named q s t due f h out im st;
     }
 own_told A k flat pid regs e q s b (Reap child) fit nums f h w o out due (z, status, fz, hz) x t st =
@@ -99,7 +91,7 @@ own_told A k flat pid regs e q s b (Reap child) fit nums f h w o out due (z, sta
 own_told A k flat pid regs e q s b Sleep fit nums f h w o out due m x t st =
     record { tables = sleep_tables k A.images flat pid regs e q s nums f h t; stands = sleep_stands A.images k flat pid regs e q s t f h out st }
 own_told A k flat pid regs e q s b (End status) fit nums f h w o out due m x t st =
-    record { tables = end_tables k A.images flat pid regs e status q s nums f h (w ∙ end_false b status o) t; stands = end_stands A.images k flat pid regs e status q s t f h st }
+    record { tables = end_tables k A.images flat pid regs e status q s nums f h (w ∙ ends_own b status o) t; stands = end_stands A.images k flat pid regs e status q s t f h st }
 
 -- What a process asks of its machine.
 

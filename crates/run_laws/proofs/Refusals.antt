@@ -20,39 +20,36 @@ abbrev pub HasEntry : List Entry → Type 0
 HasEntry [] = ⊥
 HasEntry (e ∷ es) = Unit {0}
 
-does_entry : (images : List NamedImage) (F : FlatState) (p : Process) (call : SystemCall) (effect : Effect) (b : Bool) (regs : Regs) (change : Change)
-    → HasEntry (replied_step images F p call effect (unless_refused b (Does regs change))).entries
-does_entry images F p call effect true regs change = tt
-does_entry images F p call effect false regs change = tt
+module _ (images : List NamedImage) (F : FlatState) (p : Process) where
+  does_entry : (call : SystemCall) (effect : Effect) (b : Bool) (regs : Regs) (change : Change)
+      → HasEntry (replied_step images F p call effect (unless_refused b (Does regs change))).entries
+  does_entry call effect true regs change = tt
+  does_entry call effect false regs change = tt
 
-replied_entry : (images : List NamedImage) (F : FlatState) (p : Process) (call : SystemCall) (effect : Effect) (reply : Reply)
-    → HasEntry (replied_step images F p call effect (refused_reply true reply)).entries
-replied_entry images F p call effect (Does regs change) = does_entry images F p call effect (wants_space change) regs change
-replied_entry images F p call effect (Writes []) = tt
-replied_entry images F p call effect (Writes (byte ∷ bytes)) = tt
-replied_entry images F p call effect _ = tt
+  replied_entry : (call : SystemCall) (effect : Effect) (reply : Reply) → HasEntry (replied_step images F p call effect (refused_reply true reply)).entries
+  replied_entry call effect (Does regs change) = does_entry call effect (wants_space change) regs change
+  replied_entry call effect (Writes []) = tt
+  replied_entry call effect (Writes (byte ∷ bytes)) = tt
+  replied_entry call effect _ = tt
 
-called_entry : (images : List NamedImage) (F : FlatState) (p : Process) (s : Space) (effect : Effect) (o : Option SystemCall)
-    → HasEntry (called_step images F p s true effect o).entries
-called_entry images F p s effect None = tt
-called_entry images F p s effect (Some call) = replied_entry images F p call effect (reply_behind images F p s false call effect)
+  called_entry : (s : Space) (effect : Effect) (o : Option SystemCall) → HasEntry (called_step images F p s true effect o).entries
+  called_entry s effect None = tt
+  called_entry s effect (Some call) = replied_entry call effect (reply_behind images F p s false call effect)
 
-behind_entry : (images : List NamedImage) (F : FlatState) (p : Process) (s : Space) (effect : Effect) (o : Option ℤ)
-    → HasEntry (step_behind images F p s true effect o).entries
-behind_entry images F p s effect None = tt
-behind_entry images F p s effect (Some number) = called_entry images F p s effect (call_of number)
+  behind_entry : (s : Space) (effect : Effect) (o : Option ℤ) → HasEntry (step_behind images F p s true effect o).entries
+  behind_entry s effect None = tt
+  behind_entry s effect (Some number) = called_entry s effect (call_of number)
 
-of_entry : (images : List NamedImage) (F : FlatState) (p : Process) (s : Space) (r : Result Effect Refused)
-    → (change_wanted images F s (step_of images F p s false r).change ≡ [] → ⊥) → HasEntry (step_of images F p s true r).entries
-of_entry images F p s (Ok effect) n = behind_entry images F p s effect effect.call
-of_entry images F p s (Err (Miss address write)) n = absurd (n refl)
-of_entry images F p s (Err (Below address)) n = tt
-of_entry images F p s (Err (Signal number)) n = tt
+  of_entry : (s : Space) (r : Result Effect Refused)
+      → (change_wanted images F s (step_of images F p s false r).change ≡ [] → ⊥) → HasEntry (step_of images F p s true r).entries
+  of_entry s (Ok effect) n = behind_entry s effect effect.call
+  of_entry s (Err (Miss address write)) n = absurd (n refl)
+  of_entry s (Err (Below address)) n = tt
+  of_entry s (Err (Signal number)) n = tt
 
-holding_entry : (images : List NamedImage) (F : FlatState) (p : Process) (h : Holding)
-    → (wanted_in images F (step_holding images F p false h).change h ≡ [] → ⊥) → HasEntry (step_holding images F p true h).entries
-holding_entry images F p (Holds s) n = of_entry images F p s (instruction_in s p.regs) n
-holding_entry images F p _ n = absurd (n refl)
+  holding_entry : (h : Holding) → (wanted_in images F (step_holding images F p false h).change h ≡ [] → ⊥) → HasEntry (step_holding images F p true h).entries
+  holding_entry (Holds s) n = of_entry s (instruction_in s p.regs) n
+  holding_entry _ n = absurd (n refl)
 
 if_entry : (images : List NamedImage) (F : FlatState) (o : Option Process) → (wanted_if images F (step_if images F false o).change o ≡ [] → ⊥)
     → HasEntry (step_if images F true o).entries

@@ -24,19 +24,19 @@ data First (q : Process) (qs : List Process) (pid : ℕ) (s : Space) (g : Regs) 
   Here : (q.pid == pid) ≡ true → q.holding ≡ Holds s → q.regs ≡ g → First q qs pid s g
   Behind : (q.pid == pid) ≡ false → FoundRegs qs pid s g → First q qs pid s g
 
-first_of : (q : Process) (qs : List Process) (pid : ℕ) (s : Space) (g : Regs) → FoundRegs (q ∷ qs) pid s g → First q qs pid s g
-first_of q qs pid s g h = go (q.pid == pid) refl h.here
-  where
-    go : (b : Bool) → (q.pid == pid) ≡ b → cond b (Some q) (find (λ r. r.pid == pid) qs) ≡ Some h.process → First q qs pid s g
-    go true e k = let same : q ≡ h.process = cc in Here e (ap (λ (r : Process). r.holding) same ∙ h.holds) (ap (λ (r : Process). r.regs) same ∙ h.regs)
-    go false e k = Behind e record { process = h.process; here = k; holds = h.holds; regs = h.regs }
+module _ (q : Process) (qs : List Process) (pid : ℕ) (s : Space) (g : Regs) where
+  first_of : FoundRegs (q ∷ qs) pid s g → First q qs pid s g
+  first_of h = go (q.pid == pid) refl h.here
+    where
+      go : (b : Bool) → (q.pid == pid) ≡ b → cond b (Some q) (find (λ r. r.pid == pid) qs) ≡ Some h.process → First q qs pid s g
+      go true e k = let same : q ≡ h.process = cc in Here e (ap (λ (r : Process). r.holding) same ∙ h.holds) (ap (λ (r : Process). r.regs) same ∙ h.regs)
+      go false e k = Behind e record { process = h.process; here = k; holds = h.holds; regs = h.regs }
 
-found_here : (q : Process) (qs : List Process) (pid : ℕ) (s : Space) (g : Regs) → (q.pid == pid) ≡ true → q.holding ≡ Holds s → q.regs ≡ g
-    → FoundRegs (q ∷ qs) pid s g
-found_here q qs pid s g e h x = record { process = q; here = ap (λ (b : Bool). cond b (Some q) (find (λ r. r.pid == pid) qs)) e; holds = h; regs = x }
+  found_here : (q.pid == pid) ≡ true → q.holding ≡ Holds s → q.regs ≡ g → FoundRegs (q ∷ qs) pid s g
+  found_here e h x = record { process = q; here = ap (λ (b : Bool). cond b (Some q) (find (λ r. r.pid == pid) qs)) e; holds = h; regs = x }
 
-found_behind : (q : Process) (qs : List Process) (pid : ℕ) (s : Space) (g : Regs) → (q.pid == pid) ≡ false → FoundRegs qs pid s g → FoundRegs (q ∷ qs) pid s g
-found_behind q qs pid s g e h = record { process = h.process; here = ap (λ (b : Bool). cond b (Some q) (find (λ r. r.pid == pid) qs)) e ∙ h.here; holds = h.holds; regs = h.regs }
+  found_behind : (q.pid == pid) ≡ false → FoundRegs qs pid s g → FoundRegs (q ∷ qs) pid s g
+  found_behind e h = record { process = h.process; here = ap (λ (b : Bool). cond b (Some q) (find (λ r. r.pid == pid) qs)) e ∙ h.here; holds = h.holds; regs = h.regs }
 
 -- another process in place of one of its number
 pub found_replaced : (qs : List Process) (p : Process) (pid : ℕ) (s : Space) (g : Regs) → p.pid ≢ pid → FoundRegs qs pid s g → FoundRegs (replaced qs p) pid s g

@@ -365,7 +365,7 @@ started_sized A pid (n ∷ ns) sz fit = go (image_numbered A.images n) refl (sta
     go None e ih = ih
     go (Some named) e ih = (record { data_size = images_sized A sz fit n named e; stack_size = (let i : ImageFits named = fit n named e in let l = whole named i.name in omega arith) }, ih)
 
-started_few : (images : List NamedImage) (pid : ℕ) (ns : List ℕ) → length (start_processes images pid ns) ≤ length ns
+pub started_few : (images : List NamedImage) (pid : ℕ) (ns : List ℕ) → length (start_processes images pid ns) ≤ length ns
 started_few images pid [] = omega arith
 started_few images pid (n ∷ ns) = go (image_numbered images n) (started_few images (pid + 1) ns)
   where

@@ -69,31 +69,31 @@ each_back : (P : Moving → Type 0) (xs ys : List Moving) → Each P (xs ++ ys) 
 each_back P [] ys e = e
 each_back P (x ∷ xs) ys e = each_back P xs ys e.1
 
-transfers_flat : (A : Inputs) (s : State) (k : Kernel) (image : List ℕ) (ts : List Transfer) → Coupled k A.images image s.point.flat
-    → Each (IsMoving k.place) (parts_of ts) → AllFlat A s k ts
-transfers_flat A s k image [] c m = tt
-transfers_flat A s k image (t ∷ ts) c m = (
-  by t.errand (each_front (IsMoving k.place) (map (moving t.errand) t.parts) (parts_of ts) m),
-  transfers_flat A s k image ts c (each_back (IsMoving k.place)
-      (map (moving t.errand) t.parts) (parts_of ts) m),
-)
-  where
-    by : (e : Errand) → Each (IsMoving k.place) (map (moving e) t.parts) → WritesFlat A s k e t.parts
-    by Writes m = parts_flat A s k image t.parts c m
-    by (Reads source demanded) m = tt
+module _ (A : Inputs) (s : State) (k : Kernel) (image : List ℕ) where
+  transfers_flat : (ts : List Transfer) → Coupled k A.images image s.point.flat → Each (IsMoving k.place) (parts_of ts) → AllFlat A s k ts
+  transfers_flat [] c m = tt
+  transfers_flat (t ∷ ts) c m = (
+    by t.errand (each_front (IsMoving k.place) (map (moving t.errand) t.parts) (parts_of ts) m),
+    transfers_flat ts c (each_back (IsMoving k.place)
+        (map (moving t.errand) t.parts) (parts_of ts) m),
+  )
+    where
+      by : (e : Errand) → Each (IsMoving k.place) (map (moving e) t.parts) → WritesFlat A s k e t.parts
+      by Writes m = parts_flat A s k image t.parts c m
+      by (Reads source demanded) m = tt
 
-moves_at : (A : Inputs) (s : State) (k : Kernel) (image : List ℕ) → StandsAt A s k image → Each (IsMoving k.place) (parts_of k.place.transfers)
-moves_at A s k image at =
-    let kp : Keeps A s.point.flat k image = at.keeps in
-    let so : Sound A.swap_blocks k = kp.sound in
-    let o : OneOwner A.swap_blocks (lives k.processes) k.place k.holdings = so.owner in
-    let f : OwnsFrames k.place = o.frames in
-    f.moves
+  moves_at : StandsAt A s k image → Each (IsMoving k.place) (parts_of k.place.transfers)
+  moves_at at =
+      let kp : Keeps A s.point.flat k image = at.keeps in
+      let so : Sound A.swap_blocks k = kp.sound in
+      let o : OneOwner A.swap_blocks (lives k.processes) k.place k.holdings = so.owner in
+      let f : OwnsFrames k.place = o.frames in
+      f.moves
 
-pub writes_flat : (A : Inputs) (s : State) (k : Kernel) (image : List ℕ) → StandsAt A s k image → AllFlat A s k s.place.transfers
-writes_flat A s k image at =
-    let kp : Keeps A s.point.flat k image = at.keeps in
-    subst (λ (p : Placement). AllFlat A s k p.transfers) at.place (transfers_flat A s k image k.place.transfers kp.coupled (moves_at A s k image at))
+  pub writes_flat : StandsAt A s k image → AllFlat A s k s.place.transfers
+  writes_flat at =
+      let kp : Keeps A s.point.flat k image = at.keeps in
+      subst (λ (p : Placement). AllFlat A s k p.transfers) at.place (transfers_flat k.place.transfers kp.coupled (moves_at at))
 
 -- The image after `Done`.
 

@@ -85,25 +85,24 @@ changed_texts images F p s (End status) x h t e =
     (each_left (Text images) (λ q. not (is_zombie_child p.pid q)) (returned p.pid s (replaced F.processes (record p { holding = Zombie status })))
     (text_returned images p.pid s (replaced F.processes (record p { holding = Zombie status })) t (each_replaced (Text images) F.processes (record p { holding = Zombie status }) e tt))))
 
-own_text : (images : List NamedImage) (F : FlatState) (pid : ℕ) (q : Process) (s : Space) → process_of F pid ≡ Some q → q.holding ≡ Holds s
-    → TextsHeld images F → IsText images s
-own_text images F pid q s f h e = subst (HasText images) h (found_process (Text images) F.processes pid q e f)
+module _ (images : List NamedImage) (F : FlatState) (pid : ℕ) where
+  own_text : (q : Process) (s : Space) → process_of F pid ≡ Some q → q.holding ≡ Holds s → TextsHeld images F → IsText images s
+  own_text q s f h e = subst (HasText images) h (found_process (Text images) F.processes pid q e f)
 
-pub change_texts : (images : List NamedImage) (F : FlatState) (pid : ℕ) (regs : Regs) (change : Change) (q : Process) (s : Space)
-    → process_of F pid ≡ Some q → q.holding ≡ Holds s
-    → EntersImage images change → TextsHeld images F → TextsHeld images (apply_change images F pid regs change)
-change_texts images F pid regs change q s f h x e =
-    subst (TextsHeld images) (sym (applied images F pid regs change q s f h)) (changed_texts images F (record q { regs = regs }) s change x h (own_text images F pid q s f h e) e)
+  pub change_texts : (regs : Regs) (change : Change) (q : Process) (s : Space) → process_of F pid ≡ Some q → q.holding ≡ Holds s → EntersImage images change
+      → TextsHeld images F → TextsHeld images (apply_change images F pid regs change)
+  change_texts regs change q s f h x e =
+      subst (TextsHeld images) (sym (applied images F pid regs change q s f h)) (changed_texts images F (record q { regs = regs }) s change x h (own_text q s f h e) e)
 
-pub write_texts : (images : List NamedImage) (F : FlatState) (pid : ℕ) (ws : List ByteWrite) (q : Process) (s : Space) → process_of F pid ≡ Some q
-    → q.holding ≡ Holds s → TextsHeld images F → TextsHeld images (apply_writes F pid ws)
-unfolding apply_writes
-write_texts images F pid ws q s f h e =
-    subst (λ (o : Option Process). TextsHeld images (wrote_if F ws o)) (sym f)
-    (subst (λ (x : Holding). TextsHeld images (wrote_by F q ws x)) (sym h)
-    (let t : IsText images s = own_text images F pid q s f h e in
-    let z : SameSpace s (puts s ws) = puts_same ws s in
-    each_replaced (Text images) F.processes (record q { holding = Holds (puts s ws) }) e (record { named = t.named; image = ap (image_numbered images) z.image ∙ t.image; same = z.text ∙ t.same })))
+  pub write_texts : (ws : List ByteWrite) (q : Process) (s : Space) → process_of F pid ≡ Some q
+      → q.holding ≡ Holds s → TextsHeld images F → TextsHeld images (apply_writes F pid ws)
+  unfolding apply_writes
+  write_texts ws q s f h e =
+      subst (λ (o : Option Process). TextsHeld images (wrote_if F ws o)) (sym f)
+      (subst (λ (x : Holding). TextsHeld images (wrote_by F q ws x)) (sym h)
+      (let t : IsText images s = own_text q s f h e in
+      let z : SameSpace s (puts s ws) = puts_same ws s in
+      each_replaced (Text images) F.processes (record q { holding = Holds (puts s ws) }) e (record { named = t.named; image = ap (image_numbered images) z.image ∙ t.image; same = z.text ∙ t.same })))
 
 -- at the start
 pub start_texts : (images : List NamedImage) (pid : ℕ) (first : List ℕ) → EachProcess (Text images) (start_processes images pid first)

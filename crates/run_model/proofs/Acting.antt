@@ -23,11 +23,11 @@ use Rattle.flat_model.proofs.StepEnds.{IsStepEnd, Shape, Empty, One, Two, step_s
 
 -- An entry is the same as itself.
 
-carry_self : (c : Bool) → same_carry c c ≡ true
+pub carry_self : (c : Bool) → same_carry c c ≡ true
 carry_self true = refl
 carry_self false = refl
 
-bytes_self : (bytes : List ℕ) → bytes_eq bytes bytes ≡ true
+pub bytes_self : (bytes : List ℕ) → bytes_eq bytes bytes ≡ true
 bytes_self bytes = (bytes_eq-Decides bytes bytes).1 refl
 
 end_self : (pid : ℕ) (e : Entry) → IsStepEnd pid e → same_entry e e ≡ true

@@ -47,7 +47,7 @@ repeated_none : (u : Entry) (n : ℕ) (us : List Entry) → counted u ≡ 0 → 
 repeated_none u zero us h = refl
 repeated_none u (suc n) us h = let k = repeated_none u n us h in omega arith
 
-with_count : (e : Entry) (us : List Entry) → instructions_of (units_with e us) ≡ counted e + instructions_of us
+pub with_count : (e : Entry) (us : List Entry) → instructions_of (units_with e us) ≡ counted e + instructions_of us
 with_count (Ran p n) us = repeated_count (Ran p 1) n us refl
 with_count (Hands n) us = let k = repeated_none (Hands 1) n us refl in omega arith
 with_count _ us = refl

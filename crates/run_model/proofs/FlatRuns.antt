@@ -72,16 +72,16 @@ held_is A s (u ∷ us) h =
 
 -- Of journals.
 
-pub run_flat : (A : Inputs) (hs : Holdings) (j : List Entry) (q : Point) → flat_run A j ≡ Some q → AllFlat A (start A hs) (units_of j)
-run_flat A hs j q h = units_flat A (start A hs) (units_of j) q h
+module _ (A : Inputs) (hs : Holdings) (j : List Entry) where
+  pub run_flat : (q : Point) → flat_run A j ≡ Some q → AllFlat A (start A hs) (units_of j)
+  run_flat q h = units_flat A (start A hs) (units_of j) q h
 
-pub run_point : (A : Inputs) (hs : Holdings) (j : List Entry) → AllFlat A (start A hs) (units_of j) → flat_run A j ≡ Some (state_at A hs j).point
-run_point A hs j h = flat_is A (start A hs) (units_of j) h
+  pub run_point : AllFlat A (start A hs) (units_of j) → flat_run A j ≡ Some (state_at A hs j).point
+  run_point h = flat_is A (start A hs) (units_of j) h
 
-pub run_held : (A : Inputs) (hs : Holdings) (j : List Entry) → start_held A ≡ Ok hs → AllFlat A (start A hs) (units_of j)
-    → held A j ≡ Ok (state_at A hs j).holdings
-run_held A hs j e h =
-    ap (held_from A j) e ∙ ap (λ (x : Holdings). Ok x) (held_is A (start A hs) (units_of j) h)
+  pub run_held : start_held A ≡ Ok hs → AllFlat A (start A hs) (units_of j) → held A j ≡ Ok (state_at A hs j).holdings
+  run_held e h =
+      ap (held_from A j) e ∙ ap (λ (x : Holdings). Ok x) (held_is A (start A hs) (units_of j) h)
 
 one_more : (A : Inputs) (o : Option Point) (u : Entry) (q : Point) → o ≡ Some q → flat_units A o (u ∷ []) ≡ flat_entry A q u
 unfolding flat_units

@@ -79,44 +79,43 @@ all_present p (r ∷ rs) h = ap (λ (b : Bool). absent_by b r (first_absent p rs
 
 -- States in which nothing is due.
 
-wanted_plain : (A : Inputs) (s : State) → s.place.due ≡ [] → wanted A s ≡ first_absent s.place (touched_next A s)
-wanted_plain A s h = ap (wanted_by A s) h
+module _ (A : Inputs) (s : State) where
+  wanted_plain : s.place.due ≡ [] → wanted A s ≡ first_absent s.place (touched_next A s)
+  wanted_plain h = ap (wanted_by A s) h
 
-locked_plain : (A : Inputs) (s : State) → s.place.due ≡ [] → locked A s ≡ before_absent s.place (touched_next A s)
-locked_plain A s h = ap (locked_by A s) h
+  locked_plain : s.place.due ≡ [] → locked A s ≡ before_absent s.place (touched_next A s)
+  locked_plain h = ap (locked_by A s) h
 
-pub wanted_splits : (A : Inputs) (s : State) (q : Page) → s.place.due ≡ [] → wanted A s ≡ Some q → Splits s.place (touched_next A s) (locked A s) q
-wanted_splits A s q d h =
-    subst (λ (x : List Page). Splits s.place (touched_next A s) x q) (sym (locked_plain A s d)) (split_absent s.place (touched_next A s) q (sym (wanted_plain A s d) ∙ h))
+  pub wanted_splits : (q : Page) → s.place.due ≡ [] → wanted A s ≡ Some q → Splits s.place (touched_next A s) (locked A s) q
+  wanted_splits q d h =
+      subst (λ (x : List Page). Splits s.place (touched_next A s) x q) (sym (locked_plain d)) (split_absent s.place (touched_next A s) q (sym (wanted_plain d) ∙ h))
 
-pub wanted_none : (A : Inputs) (s : State) → s.place.due ≡ [] → wanted A s ≡ None → AllValid s.place (touched_next A s)
-wanted_none A s d h = none_absent s.place (touched_next A s) (sym (wanted_plain A s d) ∙ h)
+  pub wanted_none : s.place.due ≡ [] → wanted A s ≡ None → AllValid s.place (touched_next A s)
+  wanted_none d h = none_absent s.place (touched_next A s) (sym (wanted_plain d) ∙ h)
 
-pub locked_all : (A : Inputs) (s : State) → s.place.due ≡ [] → wanted A s ≡ None → locked A s ≡ touched_next A s
-locked_all A s d h = locked_plain A s d ∙ all_before s.place (touched_next A s) (wanted_none A s d h)
+  pub locked_all : s.place.due ≡ [] → wanted A s ≡ None → locked A s ≡ touched_next A s
+  locked_all d h = locked_plain d ∙ all_before s.place (touched_next A s) (wanted_none d h)
 
-pub locked_valid : (A : Inputs) (s : State) → s.place.due ≡ [] → AllValid s.place (locked A s)
-locked_valid A s d = subst (AllValid s.place) (sym (locked_plain A s d)) (before_valid s.place (touched_next A s))
+  pub locked_valid : s.place.due ≡ [] → AllValid s.place (locked A s)
+  locked_valid d = subst (AllValid s.place) (sym (locked_plain d)) (before_valid s.place (touched_next A s))
 
-pub splits_wanted : (A : Inputs) (s : State) (before : List Page) (q : Page) → s.place.due ≡ [] → Splits s.place (touched_next A s) before q
-    → wanted A s ≡ Some q
-splits_wanted A s before q d h = wanted_plain A s d ∙ split_first s.place (touched_next A s) before q h
+  pub splits_wanted : (before : List Page) (q : Page) → s.place.due ≡ [] → Splits s.place (touched_next A s) before q → wanted A s ≡ Some q
+  splits_wanted before q d h = wanted_plain d ∙ split_first s.place (touched_next A s) before q h
 
-pub splits_locked : (A : Inputs) (s : State) (before : List Page) (q : Page) → s.place.due ≡ [] → Splits s.place (touched_next A s) before q
-    → locked A s ≡ before
-splits_locked A s before q d h = locked_plain A s d ∙ split_before s.place (touched_next A s) before q h
+  pub splits_locked : (before : List Page) (q : Page) → s.place.due ≡ [] → Splits s.place (touched_next A s) before q → locked A s ≡ before
+  splits_locked before q d h = locked_plain d ∙ split_before s.place (touched_next A s) before q h
 
-pub all_unwanted : (A : Inputs) (s : State) → s.place.due ≡ [] → AllValid s.place (touched_next A s) → wanted A s ≡ None
-all_unwanted A s d h = wanted_plain A s d ∙ all_present s.place (touched_next A s) h
+  pub all_unwanted : s.place.due ≡ [] → AllValid s.place (touched_next A s) → wanted A s ≡ None
+  all_unwanted d h = wanted_plain d ∙ all_present s.place (touched_next A s) h
 
--- A process that can't step.
+  -- A process that can't step.
 
-pub idle_acts : (A : Inputs) (s : State) (pid : ℕ) → can_step s.point.flat pid ≡ false → act A s pid ≡ None
-unfolding act
-idle_acts A s pid h = ap (λ (b : Bool). act_if b A s pid) h
+  pub idle_acts : (pid : ℕ) → can_step s.point.flat pid ≡ false → act A s pid ≡ None
+  unfolding act
+  idle_acts pid h = ap (λ (b : Bool). act_if b A s pid) h
 
-idle_next : (A : Inputs) (s : State) (pid : ℕ) → running s.mark ≡ Some pid → can_step s.point.flat pid ≡ false → touched_next A s ≡ []
-idle_next A s pid r h = ap (here.touched_of A s.point.flat) r ∙ idle_touches A s.point.flat pid h
+  idle_next : (pid : ℕ) → running s.mark ≡ Some pid → can_step s.point.flat pid ≡ false → touched_next A s ≡ []
+  idle_next pid r h = ap (here.touched_of A s.point.flat) r ∙ idle_touches A s.point.flat pid h
 
-pub idle_wants : (A : Inputs) (s : State) (pid : ℕ) → s.place.due ≡ [] → running s.mark ≡ Some pid → can_step s.point.flat pid ≡ false → wanted A s ≡ None
-idle_wants A s pid d r h = wanted_plain A s d ∙ ap (first_absent s.place) (idle_next A s pid r h)
+  pub idle_wants : (pid : ℕ) → s.place.due ≡ [] → running s.mark ≡ Some pid → can_step s.point.flat pid ≡ false → wanted A s ≡ None
+  idle_wants pid d r h = wanted_plain d ∙ ap (first_absent s.place) (idle_next pid r h)

@@ -92,7 +92,7 @@ images_end view a holds f g lines faults.NoMemory made start page answers counts
 images_end view a holds f g lines _ made start page answers counts kind = absurd kind
 
 -- a device's fault
-abbrev IsShort : Fault → Type 0
+abbrev pub IsShort : Fault → Type 0
 IsShort (faults.ShortDevice device blocks needed) = Unit {0}
 IsShort _ = ⊥
 

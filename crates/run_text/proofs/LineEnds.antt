@@ -9,7 +9,7 @@ use Rattle.run_text.specs.Pieces.{line_len, HasNo}
 is_byte : (b c : ℕ) → b ≡ c → (b == c) ≡ true
 is_byte b c e = grind (arith, nat_tests)
 
-is_other : (b c : ℕ) → b ≢ c → (b == c) ≡ false
+pub is_other : (b c : ℕ) → b ≢ c → (b == c) ≡ false
 is_other b c n = grind (arith, nat_tests)
 
 -- what is left at an index

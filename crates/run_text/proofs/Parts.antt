@@ -11,7 +11,7 @@ use Rattle.run_text.specs.Text.{part, parts, page_text, hex_text, rest_of_line, 
 use Rattle.run_text.specs.Transcript.{page_numbers, numbers_of, AllBelow, IsWithin}
 use Rattle.run_text.specs.EntryParts.{Body, Counted, Paged, Written, segment_of, letter_of, body_of, body_text, entry_text, page_alone, page_and_one, page_and_two, from_paged, entry_from, kind_of, kind_for}
 
-some_count : (n : ℕ) → 1 ≤ n → nat_lt 0 n ≡ true
+pub some_count : (n : ℕ) → 1 ≤ n → nat_lt 0 n ≡ true
 some_count n h = grind (arith, nat_tests)
 
 -- the text and the line's end make the line

@@ -38,7 +38,7 @@ no_zero_front ds (suc n) h e front =
     let same : get_or ds 0 0 ≡ get_or (decimal (suc n)) 0 0 = ap (λ (xs : List ℕ). get_or xs 0 0) e in
     absurd (omega arith)
 
-decimal_no_space : (n : ℕ) → n < 2 ^ 32 → HasNo 32 (decimal n)
+pub decimal_no_space : (n : ℕ) → n < 2 ^ 32 → HasNo 32 (decimal n)
 decimal_no_space n h = digits_no 32 (decimal n) (lit< tt) (decimal_value n h).0.1
 
 -- a word and what stands after it

@@ -34,7 +34,7 @@ line_before (b ∷ bs) rest h =
     ap (λ (t : Bool). begin_line t b (lines_in (bs ++ 10 ∷ rest))) (not_end b h.0) ∙ ap (λ (ls : List (List ℕ)). begin_line false b ls) (line_before bs rest h.1)
 
 -- an entry's text has no line feed
-no_both : (c : ℕ) (xs ys : List ℕ) → HasNo c xs → HasNo c ys → HasNo c (xs ++ ys)
+pub no_both : (c : ℕ) (xs ys : List ℕ) → HasNo c xs → HasNo c ys → HasNo c (xs ++ ys)
 no_both c [] ys h k = k
 no_both c (x ∷ xs) ys h k = (h.0, no_both c xs ys h.1 k)
 

@@ -12,18 +12,18 @@ use Rattle.run_model.specs.State.{State}
 use Rattle.run_model.specs.Act.{act, act_if, act_by, must_refuse, must_settle}
 
 -- by whether it is refused, and has to settle
-acts_by : (A : Inputs) (s : State) (pid : ℕ) (refused settling : Bool) → can_step s.point.flat pid ≡ true → must_refuse A s pid ≡ refused
+pub acts_by : (A : Inputs) (s : State) (pid : ℕ) (refused settling : Bool) → can_step s.point.flat pid ≡ true → must_refuse A s pid ≡ refused
     → must_settle A s pid ≡ settling
     → act A s pid ≡ act_by A s pid refused settling
 unfolding act
 acts_by A s pid refused settling c r t =
     ap (λ (b : Bool). act_if b A s pid) c ∙ ap (λ (b : Bool). act_by A s pid b (must_settle A s pid)) r ∙ ap (act_by A s pid refused) t
 
-between_refused : (o : Option Entry) (pid : ℕ) → IsBetween o → is_refused o pid ≡ false
+pub between_refused : (o : Option Entry) (pid : ℕ) → IsBetween o → is_refused o pid ≡ false
 between_refused (Some (entries.Refused p)) pid h = absurd h
 between_refused _ pid h = refl
 
-between_due : (o : Option Entry) (pid : ℕ) (es : List Entry) → IsBetween o → due o pid es ≡ es
+pub between_due : (o : Option Entry) (pid : ℕ) (es : List Entry) → IsBetween o → due o pid es ≡ es
 between_due (Some (entries.Out p bytes)) pid es h = absurd h
 between_due _ pid es h = refl
 
@@ -34,7 +34,7 @@ allowed A s pid f = ap (λ (b : Bool). not (is_refused s.point.last pid) && not 
     none true = refl
     none false = refl
 
-comes_first : (A : Inputs) (s : State) (pid : ℕ) (e : Entry) (es : List Entry) → can_step s.point.flat pid ≡ true → due_at A s.point pid ≡ e ∷ es
+pub comes_first : (A : Inputs) (s : State) (pid : ℕ) (e : Entry) (es : List Entry) → can_step s.point.flat pid ≡ true → due_at A s.point pid ≡ e ∷ es
     → next_of_step A s.point pid ≡ Some e
 comes_first A s pid e es c d = ap (λ (b : Bool). first_if b (due_at A s.point pid)) c ∙ ap (first_if true) d
 

@@ -204,7 +204,7 @@ asks_page k x e (TestOf b) address write page m h = go (may_write_spot k.place x
     go tests.Text i n = absurd cc
     go tests.Outside i n = absurd cc
 
-append_one : (xs ys zs : List ByteAccess) → (xs ++ ys) ++ zs ≡ xs ++ (ys ++ zs)
+pub append_one : (xs ys zs : List ByteAccess) → (xs ++ ys) ++ zs ≡ xs ++ (ys ++ zs)
 append_one [] ys zs = refl
 append_one (x ∷ xs) ys zs = ap (λ (list : List ByteAccess). x ∷ list) (append_one xs ys zs)
 
@@ -253,7 +253,7 @@ ready_at A s k image pid now p x list at r e hits =
     (subst (λ (y : Placement). AllValid y (filter_map (page_of_access x) list)) at.stands.place (pages_valid k x l.spots list hits)) in
     all_unwanted A s r.runs.clear (subst (AllValid s.place) (sym (runs_touch A s pid now p x r ∙ ap (λ (qs : List ByteAccess). distinct (filter_map (page_of_access x) qs)) e)) valid)
 
-append_none : (list : List ByteAccess) → list ++ [] ≡ list
+pub append_none : (list : List ByteAccess) → list ++ [] ≡ list
 append_none [] = refl
 append_none (a ∷ list) = ap (λ (others : List ByteAccess). a ∷ others) (append_none list)
 
@@ -297,7 +297,7 @@ missed memory flat q address write after c m =
       misses = ends.4;
     }
 
-hit_both : (memory : Answers) (xs ys : List ByteAccess) → AllHit memory xs → AllHit memory ys → AllHit memory (xs ++ ys)
+pub hit_both : (memory : Answers) (xs ys : List ByteAccess) → AllHit memory xs → AllHit memory ys → AllHit memory (xs ++ ys)
 hit_both memory [] ys h k = k
 hit_both memory (x ∷ xs) ys h k = (h.0, hit_both memory xs ys h.1 k)
 

@@ -107,7 +107,7 @@ goes_same A s t pid true (marks.Turn p since) e c h = (h.0, on)
         ∙ ap (λ (n : ℕ). can_step s.point.flat pid && (nat_lt n A.limit && nat_lt n (since + turn_instructions))) c ∙ h.1
 goes_same A s t pid now _ e c h = absurd h
 
-not_out : (p q : Placement) (pid : ℕ) → (is_out q pid ≡ true → is_out p pid ≡ true) → is_out p pid ≡ false → is_out q pid ≡ false
+pub not_out : (p q : Placement) (pid : ℕ) → (is_out q pid ≡ true → is_out p pid ≡ true) → is_out p pid ≡ false → is_out q pid ≡ false
 not_out p q pid f h = go (is_out q pid) refl
   where
     go : (b : Bool) → is_out q pid ≡ b → b ≡ false

@@ -77,31 +77,29 @@ unwritten : (A : Inputs) (s : State) (k : Kernel) (pid : ℕ) (step : Step) → 
 unwritten A s k pid step e w =
     ap (λ (x : Step). process_written k (process_of s.point.flat pid) x.writes) e ∙ ap (process_written k (process_of s.point.flat pid)) w ∙ none_written k (process_of s.point.flat pid)
 
-wanted_is : (A : Inputs) (s : State) (k : Kernel) (image : SwapImage) (pid : ℕ) (now : Bool) (p : Process) (x : Space) (change : Change) → At A s k image
-    → RunsInSpace A s pid now p x
-    → wanted_if A.images s.point.flat change (process_of s.point.flat pid) ≡ asked (facts_of A.images) k pid change
-wanted_is A s k image pid now p x change at r =
-    let keeps = at.stands.keeps in
-    ap (wanted_if A.images s.point.flat change) r.here ∙ ap (wanted_in A.images s.point.flat change) r.holds
-    ∙ sym (change_same A.images k s.point.flat pid p x change at.fit keeps.stands.texts keeps.numbered at.run.numbers keeps.coupled.tables r.here r.holds)
+module _ (A : Inputs) (s : State) (k : Kernel) (image : SwapImage) (pid : ℕ) where
+  pub wanted_is : (now : Bool) (p : Process) (x : Space) (change : Change) → At A s k image → RunsInSpace A s pid now p x
+      → wanted_if A.images s.point.flat change (process_of s.point.flat pid) ≡ asked (facts_of A.images) k pid change
+  wanted_is now p x change at r =
+      let keeps = at.stands.keeps in
+      ap (wanted_if A.images s.point.flat change) r.here ∙ ap (wanted_in A.images s.point.flat change) r.holds
+      ∙ sym (change_same A.images k s.point.flat pid p x change at.fit keeps.stands.texts keeps.numbered at.run.numbers keeps.coupled.tables r.here r.holds)
 
-taken : (A : Inputs) (s : State) (k : Kernel) (image : SwapImage) (pid : ℕ) (now : Bool) (p : Process) (x : Space) (step : Step) (found : Holdings)
-    → At A s k image → RunsInSpace A s pid now p x
-    → step_at A s.point pid ≡ step → step.writes ≡ [] → place_all A.swap_blocks k.holdings (asked (facts_of A.images) k pid step.change) ≡ Ok found
-    → taken_step A s k pid ≡ with_holdings k found
-taken A s k image pid now p x step found at r e w f =
-    ap (λ (l : Kernel). takes_step A l (wanted_if A.images s.point.flat (step_at A s.point pid).change (process_of s.point.flat pid))) (unwritten A s k pid step e w)
-    ∙ ap (λ (z : Step). takes_step A k (wanted_if A.images s.point.flat z.change (process_of s.point.flat pid))) e
-    ∙ ap (takes_step A k) (wanted_is A s k image pid now p x step.change at r)
-    ∙ ap (λ (o : Result Holdings ℕ). with_holdings k (or_before k.holdings o)) f
+  taken : (now : Bool) (p : Process) (x : Space) (step : Step) (found : Holdings) → At A s k image → RunsInSpace A s pid now p x → step_at A s.point pid ≡ step
+      → step.writes ≡ [] → place_all A.swap_blocks k.holdings (asked (facts_of A.images) k pid step.change) ≡ Ok found
+      → taken_step A s k pid ≡ with_holdings k found
+  taken now p x step found at r e w f =
+      ap (λ (l : Kernel). takes_step A l (wanted_if A.images s.point.flat (step_at A s.point pid).change (process_of s.point.flat pid))) (unwritten A s k pid step e w)
+      ∙ ap (λ (z : Step). takes_step A k (wanted_if A.images s.point.flat z.change (process_of s.point.flat pid))) e
+      ∙ ap (takes_step A k) (wanted_is now p x step.change at r)
+      ∙ ap (λ (o : Result Holdings ℕ). with_holdings k (or_before k.holdings o)) f
 
-made_is : (A : Inputs) (s : State) (k : Kernel) (image : SwapImage) (pid : ℕ) (u : Entry) → Completes pid u
-    → unit_step A s k image.bytes [] u ≡ process_step A s k pid u
-made_is A s k image pid (entries.Grew q pages) c = ap (λ (n : ℕ). process_step A s k n (entries.Grew q pages)) c
-made_is A s k image pid (entries.Call q number carry r0 r1) c = ap (λ (n : ℕ). process_step A s k n (entries.Call q number carry r0 r1)) c
-made_is A s k image pid (entries.Sleeps q) c = ap (λ (n : ℕ). process_step A s k n (entries.Sleeps q)) c
-made_is A s k image pid (entries.Ended q status) c = ap (λ (n : ℕ). process_step A s k n (entries.Ended q status)) c
-made_is A s k image pid _ c = absurd c
+  made_is : (u : Entry) → Completes pid u → unit_step A s k image.bytes [] u ≡ process_step A s k pid u
+  made_is (entries.Grew q pages) c = ap (λ (n : ℕ). process_step A s k n (entries.Grew q pages)) c
+  made_is (entries.Call q number carry r0 r1) c = ap (λ (n : ℕ). process_step A s k n (entries.Call q number carry r0 r1)) c
+  made_is (entries.Sleeps q) c = ap (λ (n : ℕ). process_step A s k n (entries.Sleeps q)) c
+  made_is (entries.Ended q status) c = ap (λ (n : ℕ). process_step A s k n (entries.Ended q status)) c
+  made_is _ c = absurd c
 
 by_unit : (A : Inputs) (s : State) (k l : Kernel) (image : SwapImage) (pid : ℕ) (u : Entry) → Completes pid u → l ≡ unit_step A s k image.bytes [] u
     → MadeAs A s k image u l (Some image)

@@ -27,6 +27,8 @@ use Rattle.run_model.specs.Wanted.{locked}
 use Rattle.run_model.specs.After.{after, completed, place_at}
 use Rattle.run_model.specs.Next.{when, or_else, due_unit, line_or_turn, turn_of, under, next_mark, next_unit, owners_entry, next_turned, last_turned}
 use Rattle.economy_laws.specs.Machine.{unit_swap, IsJournalEntry}
+use Rattle.economy_laws.proofs.Turns.{below}
+use Rattle.economy_laws.proofs.Turned.{under_turn}
 use Rattle.fault_fill.specs.Made.{Ground, MadeBy, Made}
 use Rattle.fault_fill.proofs.PagingUnitsUnits.{unit_place}
 use Rattle.run_units.specs.Leads.{HasImages, KeepsLocked, MadeAs, Leads}
@@ -37,31 +39,23 @@ use Rattle.run_units.proofs.Serving.{same_both}
 
 -- What comes under a mark, where nothing is due.
 
-under_next : (A : Inputs) (s : State) (u : Entry) → s.place.due ≡ [] → under A s s.mark ≡ Some u → next_unit A s ≡ Some u
-unfolding next_unit
-under_next A s u d h =
-    ap (λ (ds : List Due). or_else (due_unit s.place ds) (or_else (under A s s.mark) (next_mark A s))) d ∙ ap (λ (o : Option Entry). or_else o (next_mark A s)) h
-
 over_next : (A : Inputs) (s : State) (u : Entry) → s.place.due ≡ [] → under A s s.mark ≡ None → next_mark A s ≡ Some u → next_unit A s ≡ Some u
 unfolding next_unit
 over_next A s u d h n =
     ap (λ (ds : List Due). or_else (due_unit s.place ds) (or_else (under A s s.mark) (next_mark A s))) d ∙ ap (λ (o : Option Entry). or_else o (next_mark A s)) h ∙ n
 
 pub put_next : (A : Inputs) (s : State) (pid sid : ℕ) → PutsProcess s pid sid → next_unit A s ≡ Some (put_out_unit s.place pid sid)
-put_next A s pid sid h = under_next A s (put_out_unit s.place pid sid) h.clear (ap (under A s) h.mark ∙ ap (λ (n : ℕ). Some (put_out_unit s.place pid n)) h.own)
+put_next A s pid sid h = under_turn A s (put_out_unit s.place pid sid) h.clear (ap (under A s) h.mark ∙ ap (λ (n : ℕ). Some (put_out_unit s.place pid n)) h.own)
 
 pub line_asks : (A : Inputs) (s : State) → s.place.due ≡ []
     → ((pid : ℕ) → s.mark ≡ marks.BringIn pid → next_unit A s ≡ Some (entries.SwapIn pid))
     × (s.mark ≡ marks.Interrupt → next_unit A s ≡ Some entries.Done)
     × (s.mark ≡ marks.Audit → next_unit A s ≡ Some (owners_entry s))
 line_asks A s d = (
-  λ pid m. under_next A s (entries.SwapIn pid) d (ap (under A s) m),
-  λ m. under_next A s entries.Done d (ap (under A s) m),
-  λ m. under_next A s (owners_entry s) d (ap (under A s) m),
+  λ pid m. under_turn A s (entries.SwapIn pid) d (ap (under A s) m),
+  λ m. under_turn A s entries.Done d (ap (under A s) m),
+  λ m. under_turn A s (owners_entry s) d (ap (under A s) m),
 )
-
-is_below : (a b : ℕ) → a < b → nat_lt a b ≡ true
-is_below a b l = grind (arith, nat_tests)
 
 not_below : (a b : ℕ) → b ≡ a → nat_lt a b ≡ false
 not_below a b e = grind (arith, nat_tests)
@@ -70,33 +64,31 @@ pub line_comes : (A : Inputs) (s : State) → s.place.due ≡ [] → under A s s
     → next_unit A s ≡ Some (entries.Event (s.lines + 1))
 line_comes A s d o c l =
     over_next A s (entries.Event (s.lines + 1)) d o
-    (ap (λ (b : Bool). when b (line_or_turn s (nat_lt s.lines (length A.lines)))) (is_below s.count A.limit c) ∙ ap (line_or_turn s) (is_below s.lines (length A.lines) l))
+    (ap (λ (b : Bool). when b (line_or_turn s (nat_lt s.lines (length A.lines)))) (below s.count A.limit c) ∙ ap (line_or_turn s) (below s.lines (length A.lines) l))
 
 pub turn_comes : (A : Inputs) (s : State) (pid : ℕ) → s.place.due ≡ [] → under A s s.mark ≡ None → s.count < A.limit → length A.lines ≡ s.lines
     → next_turned s.point.flat (last_turned s.mark) ≡ Some pid → next_unit A s ≡ Some (entries.Turn pid)
 turn_comes A s pid d o c l t =
     over_next A s (entries.Turn pid) d o
-    (ap (λ (b : Bool). when b (line_or_turn s (nat_lt s.lines (length A.lines)))) (is_below s.count A.limit c) ∙ ap (line_or_turn s) (not_below s.lines (length A.lines) l) ∙ ap turn_of t)
+    (ap (λ (b : Bool). when b (line_or_turn s (nat_lt s.lines (length A.lines)))) (below s.count A.limit c) ∙ ap (line_or_turn s) (not_below s.lines (length A.lines) l) ∙ ap turn_of t)
 
 -- One unit.
 
-pub out_made : (A : Inputs) (s : State) (k l : Kernel) (image : SwapImage) (j : Option SwapImage) (pid : ℕ)
-    → ((p : Proc) → proc_of k pid ≡ Some p → AreRegs p.regs)
-    → l ≡ out_step k pid → WritesU k pid (Some image) j → MadeAs A s k image (entries.SwapOut pid) l j
-out_made A s k l image j pid r m w = record { read = []; given = r; made = m; told = w }
+module _ (A : Inputs) (s : State) (k l : Kernel) (image : SwapImage) where
+  pub out_made : (j : Option SwapImage) (pid : ℕ) → ((p : Proc) → proc_of k pid ≡ Some p → AreRegs p.regs) → l ≡ out_step k pid → WritesU k pid (Some image) j
+      → MadeAs A s k image (entries.SwapOut pid) l j
+  out_made j pid r m w = record { read = []; given = r; made = m; told = w }
 
-pub in_made : (A : Inputs) (s : State) (k l : Kernel) (image : SwapImage) (j : Option SwapImage) (pid : ℕ) → IsIn k l pid (Some image)
-    → AsksU k pid (Some image) j → MadeAs A s k image (entries.SwapIn pid) l j
-in_made A s k l image j pid h a = record { read = []; given = tt; made = h.step ∙ ap (in_step k pid) h.stored; told = a }
+  pub in_made : (j : Option SwapImage) (pid : ℕ) → IsIn k l pid (Some image) → AsksU k pid (Some image) j → MadeAs A s k image (entries.SwapIn pid) l j
+  in_made j pid h a = record { read = []; given = tt; made = h.step ∙ ap (in_step k pid) h.stored; told = a }
 
-pub note_made : (A : Inputs) (s : State) (k l : Kernel) (image : SwapImage) (u : Entry) → IsJournalEntry u → l ≡ note_step k u
-    → MadeAs A s k image u l (Some image)
-note_made A s k l image (entries.Event line) n m = record { read = []; given = tt; made = m; told = refl }
-note_made A s k l image (entries.Turn pid) n m = record { read = []; given = tt; made = m; told = refl }
-note_made A s k l image (entries.Out pid bytes) n m = record { read = []; given = tt; made = m; told = refl }
-note_made A s k l image (entries.Refused pid) n m = record { read = []; given = tt; made = m; told = refl }
-note_made A s k l image (entries.Owners free used moving held) n m = record { read = []; given = tt; made = m; told = refl }
-note_made A s k l image _ n m = absurd n
+  pub note_made : (u : Entry) → IsJournalEntry u → l ≡ note_step k u → MadeAs A s k image u l (Some image)
+  note_made (entries.Event line) n m = record { read = []; given = tt; made = m; told = refl }
+  note_made (entries.Turn pid) n m = record { read = []; given = tt; made = m; told = refl }
+  note_made (entries.Out pid bytes) n m = record { read = []; given = tt; made = m; told = refl }
+  note_made (entries.Refused pid) n m = record { read = []; given = tt; made = m; told = refl }
+  note_made (entries.Owners free used moving held) n m = record { read = []; given = tt; made = m; told = refl }
+  note_made _ n m = absurd n
 
 -- Putting out.
 

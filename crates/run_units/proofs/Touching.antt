@@ -29,6 +29,7 @@ use Rattle.kernel_model.specs.Kernel.{Kernel}
 use Rattle.machine_state.specs.UserMemory.{bytes_of, text_len, data_len, stack_len, spot_in, page_at_spot, page_in, read_by_state, read_page, read_spot, may_write_by, may_write_spot, kernel_answers}
 use Rattle.flat_model.specs.Touched.{page_read, page_tested, page_of_access, distinct}
 use Rattle.run_model.specs.Wanted.{AllValid}
+use Rattle.economy_laws.proofs.Extending.{filter_both as filter_append}
 
 -- Accesses that miss.
 
@@ -228,15 +229,6 @@ pub each_distinct : (P : Page → Type 0) (qs : List Page) → EachPage P qs →
 unfolding distinct
 each_distinct P [] h = tt
 each_distinct P (q ∷ qs) h = (h.0, each_filtered (λ other. not (same_page q other)) P (distinct qs) (each_distinct P qs h.1))
-
-filter_append : (test : Page → Bool) (xs ys : List Page) → filter test (xs ++ ys) ≡ filter test xs ++ filter test ys
-filter_append test [] ys = refl
-filter_append test (x ∷ xs) ys = go (filter_append test xs ys) (test x)
-  where
-    go : filter test (xs ++ ys) ≡ filter test xs ++ filter test ys → (b : Bool)
-        → cond b (x ∷ filter test (xs ++ ys)) (filter test (xs ++ ys)) ≡ cond b (x ∷ filter test xs) (filter test xs) ++ filter test ys
-    go e true = ap (λ (zs : List Page). x ∷ zs) e
-    go e false = e
 
 -- the pages before the first that isn't valid, that one, and others
 pub record Parts (p : Placement) (qs : List Page) (page : Page) : Type 0 where

@@ -8,9 +8,10 @@ use Rattle.asm_grammar.specs.declared.syntax.SourceLine.{SourceLine}
 use Rattle.asm_grammar.specs.declared.syntax.Definition.{Definition}
 use Rattle.vax_asm.specs.Encoding.{or_zero}
 use Rattle.vax_asm.specs.Lines.{items_in}
-use Rattle.vax_asm.specs.Program.{IsProgramOf, line_bytes, bounded, address_after, item_size, labels_of, definitions, bss_in, item_bss, first_of, bss_found, is_new, is_up_to, statement_bytes, optional_bytes}
+use Rattle.vax_asm.specs.Program.{IsProgramOf, line_bytes, bounded, address_after, labels_of, definitions, bss_in, item_bss, first_of, bss_found, is_new, is_up_to, statement_bytes, optional_bytes}
 use Rattle.vax_asm.proofs.Sizes.{behind_parts}
 use Rattle.vax_asm.proofs.Spelled.{some_if}
+use Rattle.vax_asm.proofs.Assembling.{address_append}
 
 -- a list is empty, or has a last one
 record HasLast (items : List (Option SourceLine)) : Type 0 where
@@ -25,10 +26,6 @@ last_of (item ∷ items) = go (last_of items)
     go : (items ≡ []) ⊎ HasLast items → ((item ∷ items) ≡ []) ⊎ HasLast (item ∷ items)
     go (inl empty) = inr (record { before = []; item = item; split = ap (λ (xs : List (Option SourceLine)). item ∷ xs) empty })
     go (inr last) = inr (record { before = item ∷ last.before; item = last.item; split = ap (λ (xs : List (Option SourceLine)). item ∷ xs) last.split })
-
-address_behind : (before : List (Option SourceLine)) (item : Option SourceLine) → address_after (before ++ item ∷ []) ≡ address_after before + item_size item
-address_behind [] item = omega arith
-address_behind (first ∷ before) item = let rest = address_behind before item in omega (arith, rest)
 
 within_limit : (fits : Bool) (bytes own : List ℕ) → (if fits then Some bytes else None) ≡ Some own → (fits ≡ true) × (bytes ≡ own)
 within_limit true bytes own e = (refl, cc)
@@ -60,7 +57,7 @@ program_limit source bytes bss program = go (last_of (items_in source))
     go (inr last) =
         let stands = program.each last.before last.item [] last.split in
         let few = line_limit (labels_of source) last.before last.item stands.own stands.own_bytes in
-        let sum = program.sized ∙ ap address_after last.split ∙ address_behind last.before last.item in
+        let sum = program.sized ∙ ap address_after last.split ∙ address_append last.before last.item in
         omega (arith, few, sum, stands.sized)
 
 -- ---- `.bss`

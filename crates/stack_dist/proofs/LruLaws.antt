@@ -7,7 +7,7 @@ use Rattle.std.proofs.lemmas.List.{take-take, take_more, length-take-le, take_al
 use Rattle.stack_dist.specs.Lru.{holds, faults_from, lru_faults, distinct_pages}
 use Rattle.vm_facts.specs.Lists.{without_first}
 use Rattle.stack_dist.specs.Tree.{total}
-use Rattle.stack_dist.proofs.TreeLaws.{total-take-le}
+use Rattle.stack_dist.proofs.TreeLaws.{total-take-le, choose}
 use Rattle.stack_dist.specs.Recency.{after, stack, place_in, hits_within, counted}
 
 -- ---- the list of at most n pages is the top of the stack
@@ -28,9 +28,6 @@ top_of_stack zero page pages = refl
 top_of_stack (suc m) page pages = ap (λ (t : List ℕ). page ∷ t) (take_without page pages m)
 
 -- ---- hits and faults make up the references
-
-pub choose : (b c : Bool) (x y : ℕ) → b ≡ c → (if b then x else y) ≡ (if c then x else y)
-choose b c x y e = ap (λ (t : Bool). if t then x else y) e
 
 hit_or_fault : (b : Bool) → (if b then 0 else 1) + (if b then 1 else 0) ≡ 1
 hit_or_fault true = refl

@@ -7,7 +7,8 @@ use Rattle.std.proofs.lemmas.List.{get_or-set_other, get_or_default, get_or_appe
 use Rattle.vm_facts.specs.Lists.{without_first}
 use Rattle.stack_dist.specs.Tree.{total}
 use Rattle.stack_dist.specs.Recency.{after, moved_by, AreLastPlaces, stack, place_in, marks, unmarked, marks_before, gaps, gapped, filled_before, padded, hits_within, counted}
-use Rattle.stack_dist.proofs.LruLaws.{place_here, place_later, place_below, page_at, suc_of, choose, ltb_suc, hit_counted, depths_counted, total-take-set, total-take-more, get-le-total, hits_within-le, after_more}
+use Rattle.stack_dist.proofs.LruLaws.{place_here, place_later, place_below, page_at, suc_of, ltb_suc, hit_counted, depths_counted, total-take-set, total-take-more, get-le-total, hits_within-le, after_more}
+use Rattle.stack_dist.proofs.TreeLaws.{choose}
 
 -- ---- a page as often as its mark says
 

@@ -135,7 +135,7 @@ below_top (suc fuel) node sums le some h = elim (cases_lt 1 node) [
 
 -- ---- the sum of the nodes from left up to right
 
-choose : (b c : Bool) (x y : ℕ) → b ≡ c → (if b then x else y) ≡ (if c then x else y)
+pub choose : (b c : Bool) (x y : ℕ) → b ≡ c → (if b then x else y) ≡ (if c then x else y)
 choose b c x y e = ap (λ (t : Bool). if t then x else y) e
 
 odd_is : (n count : ℕ) → n % 2 ≡ 1 → if_odd n count ≡ count

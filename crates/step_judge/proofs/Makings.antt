@@ -9,6 +9,7 @@ use Rattle.vm_facts.specs.declared.stop.Stop.TheVariants as stops
 use Rattle.io_edge.specs.FileHolding.{NamedFile}
 use Rattle.flat_state.specs.Flat.{Inputs}
 use Rattle.flat_state.specs.Journal.{join, append, appended, IsPlain}
+use Rattle.flat_state.proofs.Joins.{append_plain}
 use Rattle.kernel_model.specs.Kernel.{Kernel}
 use Rattle.flat_model.specs.Run.{process_of_entry}
 use Rattle.kernel_model.specs.Requests.{ImageFile}
@@ -47,11 +48,6 @@ use Rattle.step_judge.proofs.Dispatched.{run_then, at_then, machine_then, asks_o
 
 -- Journals.
 
-plain_append : (js : List Entry) (u : Entry) → IsPlain u → append js u ≡ js ++ u ∷ []
-plain_append js (entries.Ran q n) k = absurd k
-plain_append js (entries.Hands n) k = absurd k
-plain_append js _ k = refl
-
 join_plain : (u w : Entry) → IsPlain u → join u w ≡ u ∷ w ∷ []
 join_plain (entries.Ran q n) w k = absurd k
 join_plain (entries.Hands n) w k = absurd k
@@ -65,7 +61,7 @@ second js u w k = append_assoc js (u ∷ []) (w ∷ [])
 
 two_long : (js : List Entry) (u w : Entry) → IsPlain u → length (append (append js u) w) ≡ length js + 2
 two_long js u w k =
-    let whole = ap (λ (es : List Entry). length es) (ap (λ (es : List Entry). append es w) (plain_append js u k) ∙ second js u w k) in
+    let whole = ap (λ (es : List Entry). length es) (ap (λ (es : List Entry). append es w) (append_plain js u k) ∙ second js u w k) in
     let sum = length-append js (u ∷ w ∷ []) in
     omega (arith, whole, sum)
 
@@ -179,7 +175,7 @@ module _ (m : Standing) (n : ℕ) (b : Option Begun) (holds : Option (List Named
     one_unit (u ∷ []) t y some few =
         let h = y.makes in
         let does : act A s pid ≡ Some u = acts u h.0 in
-        let journal : l.journal ≡ m.kernel.journal ++ u ∷ [] = journal_of (u ∷ []) t y ∙ plain_append m.kernel.journal u (plain u does) in
+        let journal : l.journal ≡ m.kernel.journal ++ u ∷ [] = journal_of (u ∷ []) t y ∙ append_plain m.kernel.journal u (plain u does) in
         record {
           entry = u;
           acts = does;

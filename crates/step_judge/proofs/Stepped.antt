@@ -64,36 +64,33 @@ use Rattle.step_judge.proofs.Readying.{tables, whole, soon}
 
 -- What a machine that stands at such a state is.
 
-pub steady_of : (m : Standing) (n : ℕ) (b : Option Begun) (holds : Option (List NamedFile)) (i : Option SwapImage) (pid : ℕ)
-    → AtSome (ReadyAt m n b holds i pid) → CanGoOn m → last_moves m.kernel.journal ≤ 1000000 → IsSteady m
-steady_of m n b holds i pid (A, s, image, r) ready low =
-    let soon_at : SoonAt m n b holds i pid A s image = r.soon in
-    let at : JudgedAt m n b holds i A s image = soon_at.at in
-    let paged : IsPaged A s = at.paged in
-    let steady : Steady A s = paged.steady in
-    let placed : Placed A s.point.flat s.place s.holdings = steady.placed in
-    record {
-      ready = ready;
-      clear = ap (λ (p : Placement). p.due) at.stands.place ∙ soon_at.clear;
-      frames = subst (λ (p : Placement). 64 ≤ length p.holds) (sym at.stands.place) (let f = placed.frames in let e = at.enough in omega (arith, f, e));
-      low = low;
-    }
+module _ (m : Standing) (n : ℕ) (b : Option Begun) (holds : Option (List NamedFile)) (i : Option SwapImage) (pid : ℕ) where
+  pub steady_of : AtSome (ReadyAt m n b holds i pid) → CanGoOn m → last_moves m.kernel.journal ≤ 1000000 → IsSteady m
+  steady_of (A, s, image, r) ready low =
+      let soon_at : SoonAt m n b holds i pid A s image = r.soon in
+      let at : JudgedAt m n b holds i A s image = soon_at.at in
+      let paged : IsPaged A s = at.paged in
+      let steady : Steady A s = paged.steady in
+      let placed : Placed A s.point.flat s.place s.holdings = steady.placed in
+      record {
+        ready = ready;
+        clear = ap (λ (p : Placement). p.due) at.stands.place ∙ soon_at.clear;
+        frames = subst (λ (p : Placement). 64 ≤ length p.holds) (sym at.stands.place) (let f = placed.frames in let e = at.enough in omega (arith, f, e));
+        low = low;
+      }
 
-pub lends_of : (m : Standing) (n : ℕ) (b : Option Begun) (holds : Option (List NamedFile)) (i : Option SwapImage) (pid : ℕ)
-    → AtSome (ReadyAt m n b holds i pid) → CanGoOn m → last_moves m.kernel.journal ≤ 1000000 → CanLend m.kernel pid
-lends_of m n b holds i pid (A, s, image, r) ready low = lends_there m pid (steady_of m n b holds i pid (A, s, image, r) ready low) r.runs
+  pub lends_of : AtSome (ReadyAt m n b holds i pid) → CanGoOn m → last_moves m.kernel.journal ≤ 1000000 → CanLend m.kernel pid
+  lends_of (A, s, image, r) ready low = lends_there m pid (steady_of (A, s, image, r) ready low) r.runs
 
--- few instructions are counted
-pub few_of : (m : Standing) (n : ℕ) (b : Option Begun) (holds : Option (List NamedFile)) (i : Option SwapImage) (pid : ℕ)
-    → AtSome (ReadyAt m n b holds i pid) → n < 1000000
-few_of m n b holds i pid (A, s, image, r) =
-    let soon_at : SoonAt m n b holds i pid A s image = r.soon in
-    let at : JudgedAt m n b holds i A s image = soon_at.at in
-    let c = at.count in let f = soon_at.few in let l = at.limit in omega (arith, c, f, l)
+  -- few instructions are counted
+  pub few_of : AtSome (ReadyAt m n b holds i pid) → n < 1000000
+  few_of (A, s, image, r) =
+      let soon_at : SoonAt m n b holds i pid A s image = r.soon in
+      let at : JudgedAt m n b holds i A s image = soon_at.at in
+      let c = at.count in let f = soon_at.few in let l = at.limit in omega (arith, c, f, l)
 
-pub ready_of : (m : Standing) (n : ℕ) (b : Option Begun) (holds : Option (List NamedFile)) (i : Option SwapImage) (pid : ℕ)
-    → AtSome (ActsAt m n b holds i pid) → AtSome (ReadyAt m n b holds i pid)
-ready_of m n b holds i pid (A, s, image, x) = (A, s, image, x.ready)
+  pub ready_of : AtSome (ActsAt m n b holds i pid) → AtSome (ReadyAt m n b holds i pid)
+  ready_of (A, s, image, x) = (A, s, image, x.ready)
 
 -- A machine that is as it was, but for room for an instruction.
 

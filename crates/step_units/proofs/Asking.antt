@@ -32,8 +32,9 @@ use Rattle.run_units.proofs.Swapping.{line_asks, note_made}
 use Rattle.step_units.specs.Machines.{MachineAt}
 use Rattle.step_units.specs.Stepped.{StopLeads}
 use Rattle.step_units.specs.Lines.{IsOver, IsClear, LineLeads}
-use Rattle.step_units.proofs.Stopping.{one_longer, stops_by, stops_behind, note_stops}
+use Rattle.step_units.proofs.Stopping.{stops_by, stops_behind, note_stops}
 use Rattle.step_units.proofs.Beginning.{one_leads}
+use Rattle.step_units.proofs.Entering.{longer}
 
 -- The end of a transfer.
 
@@ -85,7 +86,7 @@ interrupt_stops A s old new holds image j stop at c m n x = record {
   by = stops_by A s old.kernel image stop new j (record {
     entry = entries.Done;
     next = (line_asks A s c.clear).1 (interrupts s m n);
-    full = λ is. (subst (λ (k : ℕ). k ≤ length old.kernel.journal) (sym (ap (λ p. p.journal) x.stopped.params)) (x.full.0 is).1, one_longer old.kernel.journal entries.Done);
+    full = λ is. (subst (λ (k : ℕ). k ≤ length old.kernel.journal) (sym (ap (λ p. p.journal) x.stopped.params)) (x.full.0 is).1, longer old.kernel.journal entries.Done);
     cause = x.cause;
     spoils = subst (λ (ns : List ImageNamed). SwapAfter (Err stop) (files_named ns) old.kernel (Some image) j) (sym x.stopped.images) x.image;
   });

@@ -10,7 +10,6 @@ use Rattle.swap_book.specs.Placing.{place_all, fits}
 use Rattle.flat_state.specs.Space.{Space}
 use Rattle.flat_state.specs.Flat.{Process, Inputs, process_of}
 use Rattle.flat_state.specs.Change.{is_borrower}
-use Rattle.flat_state.specs.declared.change.Change.{Change}
 use Rattle.page_model.specs.Place.{facts_of}
 use Rattle.kernel_model.specs.Kernel.{Kernel}
 use Rattle.kernel_model.specs.Asks.{asked}
@@ -18,25 +17,16 @@ use Rattle.kernel_model.specs.Unit.{has_lender}
 use Rattle.kernel_laws.proofs.Kept.Borrowed.{borrows_is}
 use Rattle.flat_model.specs.Step.{Step, flat_step}
 use Rattle.flat_model.specs.Run.{step_at, is_refused, due, behind_first, IsBetween}
-use Rattle.flat_model.specs.Asked.{wanted_if, wanted_in, asks_by, asks}
-use Rattle.run_units.proofs.FlatLawsAsking.{change_same}
+use Rattle.flat_model.specs.Asked.{wanted_if, asks_by, asks}
 use Rattle.run_model.specs.State.{State}
 use Rattle.run_model.specs.Act.{act, loses_pages, loses_in, loses_if, settled, step_loses, must_settle}
 use Rattle.run_units.proofs.Flows.{on_steps}
 use Rattle.run_units.specs.Serving.{At}
 use Rattle.run_units.specs.Touching.{RunsInSpace}
-use Rattle.run_units.proofs.Acting.{step_begins, step_refused, refused_comes, reply_comes}
+use Rattle.run_units.proofs.Acting.{step_begins, step_refused, refused_comes, reply_comes, between_refused}
+use Rattle.run_units.proofs.Stepping.{wanted_is}
 
 -- Pieces.
-
--- what a change of the process takes, as the flat machine and the kernel say it
-pub wanted_is : (A : Inputs) (s : State) (k : Kernel) (image : SwapImage) (pid : ℕ) (now : Bool) (p : Process) (x : Space) (change : Change)
-    → At A s k image → RunsInSpace A s pid now p x
-    → wanted_if A.images s.point.flat change (process_of s.point.flat pid) ≡ asked (facts_of A.images) k pid change
-wanted_is A s k image pid now p x change at r =
-    let keeps = at.stands.keeps in
-    ap (wanted_if A.images s.point.flat change) r.here ∙ ap (wanted_in A.images s.point.flat change) r.holds
-    ∙ sym (change_same A.images k s.point.flat pid p x change at.fit keeps.stands.texts keeps.numbered at.run.numbers keeps.coupled.tables r.here r.holds)
 
 pub asks_is : (A : Inputs) (s : State) (k : Kernel) (image : SwapImage) (pid : ℕ) (now : Bool) (p : Process) (x : Space) → At A s k image
     → RunsInSpace A s pid now p x
@@ -57,10 +47,6 @@ fits_is A s k image pid now p x step at r u i =
 
 -- Between two steps.
 
-pub unrefused : (o : Option Entry) (pid : ℕ) → IsBetween o → is_refused o pid ≡ false
-unrefused (Some (entries.Refused p)) pid h = absurd h
-unrefused _ pid h = refl
-
 pub whole_due : (o : Option Entry) (pid : ℕ) (es : List Entry) → IsBetween o → due o pid es ≡ es
 whole_due (Some (entries.Out p bytes)) pid es h = absurd h
 whole_due _ pid es h = refl
@@ -72,14 +58,14 @@ pub begins : (A : Inputs) (s : State) (k : Kernel) (image : SwapImage) (pid : �
     → place_all A.swap_blocks k.holdings (asked (facts_of A.images) k pid step.change) ≡ Ok found → must_settle A s pid ≡ false → act A s pid ≡ Some e
 begins A s k image pid now p x step e es found at r b i first f t =
     step_begins A s pid e es (on_steps A s s.mark pid now r.runs.on) b (ap (λ (z : Step). z.entries) i ∙ first)
-    (fits_is A s k image pid now p x step at r (unrefused s.point.last pid b) i ∙ ap is_ok f) t
+    (fits_is A s k image pid now p x step at r (between_refused s.point.last pid b) i ∙ ap is_ok f) t
 
 -- where they find none comes the entry that says so
 pub refuses : (A : Inputs) (s : State) (k : Kernel) (image : SwapImage) (pid : ℕ) (now : Bool) (p : Process) (x : Space) (step : Step)
     → At A s k image → RunsInSpace A s pid now p x → IsBetween s.point.last → step_at A s.point pid ≡ step
     → is_ok (place_all A.swap_blocks k.holdings (asked (facts_of A.images) k pid step.change)) ≡ false → act A s pid ≡ Some (entries.Refused pid)
 refuses A s k image pid now p x step at r b i f =
-    step_refused A s pid (on_steps A s s.mark pid now r.runs.on) b (fits_is A s k image pid now p x step at r (unrefused s.point.last pid b) i ∙ f)
+    step_refused A s pid (on_steps A s s.mark pid now r.runs.on) b (fits_is A s k image pid now p x step at r (between_refused s.point.last pid b) i ∙ f)
 
 -- After the refusal, and after bytes that went out.
 

@@ -139,7 +139,7 @@ KeepsDue (changes.Fork child) = ⊥
 KeepsDue (changes.Exec number top) = ⊥
 KeepsDue _ = Unit {0}
 
-place_due : (c : Changing) (p : Placement) (change : Change) → KeepsDue change
+pub place_due : (c : Changing) (p : Placement) (change : Change) → KeepsDue change
     → (place_change c p change).due ≡ p.due
 place_due c p changes.Keep h = refl
 place_due c p (changes.Resize d n) h =

@@ -49,10 +49,11 @@ use Rattle.run_units.proofs.RunLawsTouching.{found_process}
 use Rattle.run_units.specs.Settling.{IsLeaving}
 use Rattle.run_units.specs.Touching.{IsCalledFor}
 use Rattle.run_units.proofs.Stepping.{growth_counts, none_asked}
+use Rattle.run_units.proofs.Acting.{between_refused}
 use Rattle.step_units.specs.Machines.{RunsOn, MakesCall}
 use Rattle.step_units.specs.Sizing.{BreakIsMade, BreakStops}
 use Rattle.step_units.specs.Stepped.{StepLeads, CallLeads, StopLeads}
-use Rattle.step_units.proofs.Begun.{unrefused, whole_due}
+use Rattle.step_units.proofs.Begun.{whole_due}
 use Rattle.step_units.proofs.Entering.{IsOwn, headers, leads_then, stops_then}
 use Rattle.step_units.proofs.Halting.{stopped_here}
 use Rattle.step_units.proofs.PlainCalls.{asked_plainly}
@@ -208,7 +209,7 @@ module _ (A : Inputs) (s : State) (old : Standing) (holds : Option (List NamedFi
         let few : pages ≤ 4096 = let a = few_held in omega (arith, a, fewer) in
         let step : Step = replied_step A.images flat p system_calls.Break effect (Does after change) in
         is_leaving A s pid now p x step h.running called.unwanted
-        (none_refused A s k image pid now p x step h.machine.at h.running (unrefused s.point.last pid h.between) (step_is few) (ap is_ok (none_wanted (let a = fewer in omega (arith, a)))))
+        (none_refused A s k image pid now p x step h.machine.at h.running (between_refused s.point.last pid h.between) (step_is few) (ap is_ok (none_wanted (let a = fewer in omega (arith, a)))))
         (step_is few) (dropped_pages x (is_borrower flat.processes pid) pages (stack_held k pid) (let a = data_is in omega (arith, a, fewer)))
 
     settled_on : (between : Standing) (j : Option SwapImage) → pages < pages_held k pid → HasSettled old between (space_of_pid k pid) holds (Some image) j

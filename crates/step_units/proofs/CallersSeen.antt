@@ -1,9 +1,8 @@
 -- That a process may make a call, by its record.
-use Rattle.std.proofs.Common.{◌≡◌, ◌≢◌, inl, inr, ℕ, ◌-◌, false, List, [], ◌∷◌, Option, Some, None, refl, sym, ap, ◌∙◌, arith}
+use Rattle.std.proofs.Common.{◌≡◌, inl, inr, ℕ, ◌-◌, false, List, [], ◌∷◌, Option, Some, None, refl, sym, ap, ◌∙◌}
 use Rattle.std.specs.Prelude.{filter_map}
 use Rattle.std.specs.List.{range_with_len}
 use Rattle.std.proofs.lemmas.Bool.{cases_eq}
-use Rattle.std.proofs.lemmas.Bool.Decides.{nat_tests}
 use Rattle.std.proofs.lemmas.Option.{same_Some}
 use Rattle.proc_table.specs.declared.process.Proc.{Proc as Record}
 use Rattle.proc_table.specs.declared.process.Life.{Life as RecordLife}
@@ -22,6 +21,7 @@ use Rattle.proc_calls.proofs.Touching.{record_shown}
 use Rattle.proc_calls.specs.Callers.{IsCaller}
 use Rattle.kernel_model.specs.Kernel.{HoldsSpace}
 use Rattle.machine_state.specs.Calls.{life_in}
+use Rattle.machine_state.proofs.ByNumber.{residence_miss, residence_hit}
 
 -- A process whose record isn't out is in.
 
@@ -30,12 +30,6 @@ residence_out p lives.New r e = ap (λ (x : Residence). x.out) (sym (same_Some (
 residence_out p (lives.Holds sid) r e = ap (λ (x : Residence). x.out) (sym (same_Some (let x : Residence = record { pid = p.pid; out = p.out; since = p.since } in x) r e))
 residence_out p (lives.Lends sid child) r e = ap (λ (x : Residence). x.out) (sym (same_Some (let x : Residence = record { pid = p.pid; out = p.out; since = p.since } in x) r e))
 residence_out p (lives.Zombie status) r e = none_some r e
-
-first_hit : (n : ℕ) (r : Residence) (rs : List Residence) → r.pid ≡ n → swapper.residence_of (r ∷ rs) n ≡ r
-first_hit n r rs e = grind (arith, nat_tests)
-
-first_miss : (n : ℕ) (r : Residence) (rs : List Residence) → r.pid ≢ n → swapper.residence_of (r ∷ rs) n ≡ swapper.residence_of rs n
-first_miss n r rs e = grind (arith, nat_tests)
 
 is_in : (ns : List ℕ) (ps : List Record) (pid : ℕ) (p : Record) → find pid ps ≡ Some p → p.out ≡ false
     → (swapper.residence_of (filter_map (λ n. residence_shown (find n ps)) ns) pid).out ≡ false
@@ -52,8 +46,8 @@ is_in (n ∷ ns) ps pid p f o = go (residence_shown (find n ps)) refl (is_in ns 
         → (swapper.residence_of (filter_map (λ k. residence_shown (find k ps)) (n ∷ ns)) pid).out ≡ false
     go None e more = ap (λ (l : List Residence). (swapper.residence_of l pid).out) (keeps_none (λ k. residence_shown (find k ps)) n ns e) ∙ more
     go (Some r) e more = ap (λ (l : List Residence). (swapper.residence_of l pid).out) (keeps_some (λ k. residence_shown (find k ps)) n ns r e) ∙ elim (cases_eq r.pid pid) [
-      | inl h ↦ ap (λ (y : Residence). y.out) (first_hit pid r rs h) ∙ own r e h
-      | inr d ↦ ap (λ (y : Residence). y.out) (first_miss pid r rs d) ∙ more
+      | inl h ↦ ap (λ (y : Residence). y.out) (residence_hit pid r rs h) ∙ own r e h
+      | inr d ↦ ap (λ (y : Residence). y.out) (residence_miss pid r rs d) ∙ more
     ]
 
 pub is_caller : (m : Standing) (ps : List Record) (p : Record) (pid sid : ℕ) → CanGoOn m → m.kernel.place.due ≡ []

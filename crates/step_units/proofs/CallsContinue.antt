@@ -59,32 +59,31 @@ written_on old new pid call bytes regs c h =
     let o = out_on old h.between pid bytes c h.out in
     continues_both old h.between new 0 1 o.1 (entered_on h.between new pid regs (call_entry pid call regs) Keep o.0 tt tt h.answer)
 
-fails_on : (old new : Standing) (pid : ℕ) (call : SystemCall) (regs : Regs) (error : ℕ) (called : Called) → MayEnter old pid
-    → Replied old new pid call regs (Fails error) called → Continues old new (called_count called)
-fails_on old new pid call regs error called s h =
-    subst (λ (y : Called). Continues old new (called_count y)) (sym h.0)
-    (entered_on old new pid (replied regs true error) (call_entry pid call (replied regs true error)) Keep s tt tt h.1)
+module _ (old new : Standing) (pid : ℕ) (call : SystemCall) (regs : Regs) where
+  fails_on : (error : ℕ) (called : Called) → MayEnter old pid → Replied old new pid call regs (Fails error) called → Continues old new (called_count called)
+  fails_on error called s h =
+      subst (λ (y : Called). Continues old new (called_count y)) (sym h.0)
+      (entered_on old new pid (replied regs true error) (call_entry pid call (replied regs true error)) Keep s tt tt h.1)
 
-pub reply_continues : (old new : Standing) (pid : ℕ) (call : SystemCall) (regs : Regs) (reply : Reply) (called : Called) → IsCaller old pid → RepliesNone reply
-    → Replied old new pid call regs reply called → Continues old new (called_count called)
-reply_continues old new pid call regs (Fails error) called c n h = fails_on old new pid call regs error called (may_enter old pid c) h
-reply_continues old new pid call regs (Does after change) called c n h =
-    subst (λ (y : Called). Continues old new (called_count y)) (sym h.0) (entry_continues old new pid after (call_entry pid call after) change c tt n h.1)
-reply_continues old new pid call regs (Writes bytes) called c n h =
-    subst (λ (y : Called). Continues old new (called_count y)) (sym h.0) (written_on old new pid call bytes (replied regs false (length bytes)) c h.1)
-reply_continues old new pid call regs Waits called c n h =
-    subst (λ (y : Called). Continues old new (called_count y)) (sym h.0) (entry_continues old new pid (regs_of old.kernel pid) (entries.Sleeps pid) Sleep c tt tt h.1)
-reply_continues old new pid call regs (Exits status) called c n h = absurd h
+  pub reply_continues : (reply : Reply) (called : Called) → IsCaller old pid → RepliesNone reply
+      → Replied old new pid call regs reply called → Continues old new (called_count called)
+  reply_continues (Fails error) called c n h = fails_on error called (may_enter old pid c) h
+  reply_continues (Does after change) called c n h =
+      subst (λ (y : Called). Continues old new (called_count y)) (sym h.0) (entry_continues old new pid after (call_entry pid call after) change c tt n h.1)
+  reply_continues (Writes bytes) called c n h =
+      subst (λ (y : Called). Continues old new (called_count y)) (sym h.0) (written_on old new pid call bytes (replied regs false (length bytes)) c h.1)
+  reply_continues Waits called c n h =
+      subst (λ (y : Called). Continues old new (called_count y)) (sym h.0) (entry_continues old new pid (regs_of old.kernel pid) (entries.Sleeps pid) Sleep c tt tt h.1)
+  reply_continues (Exits status) called c n h = absurd h
 
-pub call_continues : (old new : Standing) (pid : ℕ) (call : SystemCall) (regs : Regs) (r : Result Reply Refused) (called : Called) → IsCaller old pid
-    → AnswersNone r
-    → Comes old new pid call regs r called → Continues old new (called_count called)
-call_continues old new pid call regs (Ok reply) called c n h = reply_continues old new pid call regs reply called c n h
-call_continues old new pid call regs (Err (Miss address write)) called c n h =
-    subst (λ (y : Called). Continues old new (called_count y)) (sym h.0)
-    (subst (λ (m : Standing). Continues old m 0) (sym h.1) (continues_self old c.clear))
-call_continues old new pid call regs (Err (Below address)) called c n h = reply_continues old new pid call regs (Fails bad_address) called c tt h
-call_continues old new pid call regs (Err (Signal number)) called c n h = reply_continues old new pid call regs (Fails bad_address) called c tt h
+  pub call_continues : (r : Result Reply Refused) (called : Called) → IsCaller old pid → AnswersNone r → Comes old new pid call regs r called
+      → Continues old new (called_count called)
+  call_continues (Ok reply) called c n h = reply_continues reply called c n h
+  call_continues (Err (Miss address write)) called c n h =
+      subst (λ (y : Called). Continues old new (called_count y)) (sym h.0)
+      (subst (λ (m : Standing). Continues old m 0) (sym h.1) (continues_self old c.clear))
+  call_continues (Err (Below address)) called c n h = reply_continues (Fails bad_address) called c tt h
+  call_continues (Err (Signal number)) called c n h = reply_continues (Fails bad_address) called c tt h
 
 -- A write and a wait.
 
@@ -230,34 +229,31 @@ break_on true old new pid regs pages stack called s h =
     (entered_on old new pid (replied regs false 0) (call_entry pid system_calls.Break (replied regs false 0)) (Resize pages stack) s tt tt h.1)
 break_on false old new pid regs pages stack called s h = fails_on old new pid system_calls.Break regs no_memory called s h
 
-grown_on : (old new : Standing) (pid : ℕ) (regs : Regs) (pages : ℕ) (called : Called) → IsCaller old pid → GrownData old new pid regs pages called
-    → Continues old new (called_count called)
-grown_on old new pid regs pages called c s =
-    from_found old new s.found (called_count called)
-    (break_on (nat_le pages data_limit) (with_pieces old s.found) new pid regs pages (process_stack_pages old.kernel pid) called
-    (found_enters old s.found pid (may_enter old pid c)) s.replied)
+module _ (old new : Standing) (pid : ℕ) (regs : Regs) (pages : ℕ) where
+  grown_on : (called : Called) → IsCaller old pid → GrownData old new pid regs pages called → Continues old new (called_count called)
+  grown_on called c s =
+      from_found old new s.found (called_count called)
+      (break_on (nat_le pages data_limit) (with_pieces old s.found) new pid regs pages (process_stack_pages old.kernel pid) called
+      (found_enters old s.found pid (may_enter old pid c)) s.replied)
 
-none_on : (old new : Standing) (pid : ℕ) (regs : Regs) (pages : ℕ) (called : Called) → IsCaller old pid → NoPieces old new pid regs pages called
-    → Continues old new (called_count called)
-none_on old new pid regs pages called c s =
-    behind_refusal old new pid (called_count called) (may_enter old pid c) (λ may. fails_on (without_pieces old pid) new pid system_calls.Break regs no_memory called may s.replied)
+  none_on : (called : Called) → IsCaller old pid → NoPieces old new pid regs pages called → Continues old new (called_count called)
+  none_on called c s =
+      behind_refusal old new pid (called_count called) (may_enter old pid c) (λ may. fails_on (without_pieces old pid) new pid system_calls.Break regs no_memory called may s.replied)
 
-cut_on : (old new : Standing) (pid : ℕ) (regs : Regs) (pages : ℕ) (holds : Option (List NamedFile)) (i j : Option SwapImage) (called : Called)
-    → IsCaller old pid
-    → CutData old new pid regs pages holds i j called → Continues old new (called_count called)
-cut_on old new pid regs pages holds i j called c s =
-    let l = left_settled old s.between pid holds i j c s.settled in
-    continues_from old s.between new (called_count called) l.on
-    (break_on (nat_le pages data_limit) s.between new pid regs pages (process_stack_pages old.kernel pid) called l.may s.replied)
+  cut_on : (holds : Option (List NamedFile)) (i j : Option SwapImage) (called : Called) → IsCaller old pid → CutData old new pid regs pages holds i j called
+      → Continues old new (called_count called)
+  cut_on holds i j called c s =
+      let l = left_settled old s.between pid holds i j c s.settled in
+      continues_from old s.between new (called_count called) l.on
+      (break_on (nat_le pages data_limit) s.between new pid regs pages (process_stack_pages old.kernel pid) called l.may s.replied)
 
-sized_on : (old new : Standing) (pid : ℕ) (regs : Regs) (pages : ℕ) (holds : Option (List NamedFile)) (i j : Option SwapImage) (called : Called)
-    → IsCaller old pid
-    → MovesEnd old new pid regs pages holds i j called → Continues old new (called_count called)
-sized_on old new pid regs pages holds i j called c (inl (inl s, e)) =
-    break_on (nat_le pages data_limit) old new pid regs pages (process_stack_pages old.kernel pid) called (may_enter old pid c) s.replied
-sized_on old new pid regs pages holds i j called c (inl (inr (inl s), e)) = grown_on old new pid regs pages called c s
-sized_on old new pid regs pages holds i j called c (inl (inr (inr s), e)) = none_on old new pid regs pages called c s
-sized_on old new pid regs pages holds i j called c (inr s) = cut_on old new pid regs pages holds i j called c s
+  sized_on : (holds : Option (List NamedFile)) (i j : Option SwapImage) (called : Called) → IsCaller old pid → MovesEnd old new pid regs pages holds i j called
+      → Continues old new (called_count called)
+  sized_on holds i j called c (inl (inl s, e)) =
+      break_on (nat_le pages data_limit) old new pid regs pages (process_stack_pages old.kernel pid) called (may_enter old pid c) s.replied
+  sized_on holds i j called c (inl (inr (inl s), e)) = grown_on called c s
+  sized_on holds i j called c (inl (inr (inr s), e)) = none_on called c s
+  sized_on holds i j called c (inr s) = cut_on holds i j called c s
 
 pub break_continues : (old new : Standing) (pid : ℕ) (regs : Regs) (r : Result ℕ Refused) (holds : Option (List NamedFile))
     (i j : Option SwapImage) (called : Called)

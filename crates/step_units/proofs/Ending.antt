@@ -43,10 +43,11 @@ use Rattle.machine_state.specs.UserMemory.{kernel_answers}
 use Rattle.swapper.specs.Stops.{StopsBefore}
 use Rattle.proc_calls.specs.declared.replying.Called.{Called}
 use Rattle.run_units.proofs.Computations.{AllGives, gives_any, run_gives}
+use Rattle.run_units.proofs.Acting.{between_refused}
 use Rattle.step_units.specs.Machines.{MachineAt, RunsOn, MakesCall}
 use Rattle.step_units.specs.Stepped.{StepLeads, StopLeads, CallLeads}
 use Rattle.step_units.specs.Leaving.{EndsWith}
-use Rattle.step_units.proofs.Begun.{unrefused, is_refused_by}
+use Rattle.step_units.proofs.Begun.{is_refused_by}
 use Rattle.step_units.proofs.Settles.{none_refused, refused_once}
 use Rattle.step_units.proofs.Behind.{change_due}
 use Rattle.step_units.proofs.Entering.{headers, completes, complete_leads, leads_then}
@@ -77,7 +78,7 @@ module _ (A : Inputs) (s : State) (old : Standing) (holds : Option (List NamedFi
 
   goes : must_refuse A s pid ≡ false
   goes = elim ends.begins [
-    | inl b ↦ none_refused A s old.kernel image pid now p x step m.at r (unrefused s.point.last pid b) ends.step (ap is_ok (none_asked A.swap_blocks old.kernel).0)
+    | inl b ↦ none_refused A s old.kernel image pid now p x step m.at r (between_refused s.point.last pid b) ends.step (ap is_ok (none_asked A.swap_blocks old.kernel).0)
     | inr e ↦ refused_once A s pid (is_refused_by s.point.last pid e)
   ]
 

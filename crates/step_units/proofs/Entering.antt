@@ -67,43 +67,41 @@ between_ends pid (entries.Refused q) c = absurd c
 between_ends pid (entries.Out q bytes) c = absurd c
 between_ends pid _ c = tt
 
--- the last entry of a step was made, and no page is due after it
-pub record IsComplete (A : Inputs) (s : State) (k l : Kernel) (image : SwapImage) (pid : ℕ) (e : Entry) : Type 0 where
-  pub leads : Leads A s k image (e ∷ []) (after A s e) l (Some image)
-  pub there : At A (after A s e) l image
-  pub clear : (after A s e).place.due ≡ []
-  pub between : IsBetween (after A s e).point.last
-  pub ends : StepEnds A s pid e (after A s e)
+module _ (A : Inputs) (s : State) (k l : Kernel) (image : SwapImage) (pid : ℕ) where
+  -- the last entry of a step was made, and no page is due after it
+  pub record IsComplete (e : Entry) : Type 0 where
+    pub leads : Leads A s k image (e ∷ []) (after A s e) l (Some image)
+    pub there : At A (after A s e) l image
+    pub clear : (after A s e).place.due ≡ []
+    pub between : IsBetween (after A s e).point.last
+    pub ends : StepEnds A s pid e (after A s e)
 
-pub completes : (A : Inputs) (s : State) (k l : Kernel) (image : SwapImage) (pid : ℕ) (now : Bool) (e : Entry) → At A s k image → ProcessRuns A s pid now
-    → wanted A s ≡ None → act A s pid ≡ Some e
-    → EndsStep pid e → due_at A s.point pid ≡ e ∷ [] → MadeAs A s k image e l (Some image) → l.place.due ≡ []
-    → IsComplete A s k l image pid e
-completes A s k l image pid now e at r w a c d m clear =
-    let t : State = after A s e in
-    let led : Leads A s k image (e ∷ []) t l (Some image) = entry_leads A s k l image pid now e r w a m in
-    let ends : StepEnds A s pid e t = step_ends A s pid e c d in
-    let there : At A t l image = leads_at A s t k l image image (e ∷ []) at led in
-    record {
-      leads = led;
-      there = there;
-      clear = ap (λ (p : Placement). p.due) (sym there.stands.place) ∙ clear;
-      between = subst IsBetween (sym ends.last) (between_ends pid e c);
-      ends = ends;
-    }
+  pub completes : (now : Bool) (e : Entry) → At A s k image → ProcessRuns A s pid now → wanted A s ≡ None → act A s pid ≡ Some e → EndsStep pid e
+      → due_at A s.point pid ≡ e ∷ [] → MadeAs A s k image e l (Some image) → l.place.due ≡ [] → IsComplete e
+  completes now e at r w a c d m clear =
+      let t : State = after A s e in
+      let led : Leads A s k image (e ∷ []) t l (Some image) = entry_leads A s k l image pid now e r w a m in
+      let ends : StepEnds A s pid e t = step_ends A s pid e c d in
+      let there : At A t l image = leads_at A s t k l image image (e ∷ []) at led in
+      record {
+        leads = led;
+        there = there;
+        clear = ap (λ (p : Placement). p.due) (sym there.stands.place) ∙ clear;
+        between = subst IsBetween (sym ends.last) (between_ends pid e c);
+        ends = ends;
+      }
 
-abbrev pub complete_leads : (A : Inputs) (s : State) (k l : Kernel) (image : SwapImage) (pid : ℕ) (e : Entry) → IsComplete A s k l image pid e
-    → StepLeads A s k image (counted e) l (Some image)
-complete_leads A s k l image pid e h = record {
-  units = e ∷ [];
-  state = after A s e;
-  leads = h.leads;
-  clear = h.clear;
-  between = h.between;
-  count = h.ends.count;
-  lines = h.ends.lines;
-  mark = h.ends.mark;
-}
+  abbrev pub complete_leads : (e : Entry) → IsComplete e → StepLeads A s k image (counted e) l (Some image)
+  complete_leads e h = record {
+    units = e ∷ [];
+    state = after A s e;
+    leads = h.leads;
+    clear = h.clear;
+    between = h.between;
+    count = h.ends.count;
+    lines = h.ends.lines;
+    mark = h.ends.mark;
+  }
 
 -- Units after others.
 
@@ -176,7 +174,7 @@ IsOwn (entries.Sleeps pid) = Unit {0}
 IsOwn (entries.Ended pid status) = Unit {0}
 IsOwn _ = ⊥
 
-longer : (journal : List Entry) (e : Entry) → length journal < length (journal ++ e ∷ [])
+pub longer : (journal : List Entry) (e : Entry) → length journal < length (journal ++ e ∷ [])
 longer journal e = let h = length-append journal (e ∷ []) in omega (arith, h)
 
 -- where the journal is at its bound

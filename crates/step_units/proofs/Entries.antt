@@ -1,5 +1,5 @@
 -- Machines that go on after entries.
-use Rattle.std.proofs.Common.{◌≡◌, ℕ, ◌/◌, ◌%◌, List, [], ◌∷◌, length, Option, Some, None, refl, sym, ap, ◌∙◌, subst, arith}
+use Rattle.std.proofs.Common.{◌≡◌, ℕ, ◌/◌, ◌%◌, List, [], ◌∷◌, Option, Some, None, refl, sym, ap, ◌∙◌, subst, arith}
 use Rattle.std.specs.Prelude.{IsSome}
 use Rattle.vm_facts.specs.Answers.{ByteWrite}
 use Rattle.vm_facts.specs.declared.page.Page.{Page}
@@ -12,7 +12,7 @@ use Rattle.vm_facts.specs.declared.entry.Entry.TheVariants as entries
 use Rattle.aout_image.specs.declared.Image.{Image}
 use Rattle.swap_book.specs.Holdings.{Holdings}
 use Rattle.flat_state.specs.declared.change.Change.{Change}
-use Rattle.flat_state.specs.Journal.{append, counted, instructions_of, IsPlain}
+use Rattle.flat_state.specs.Journal.{counted, instructions_of, IsPlain}
 use Rattle.flat_state.specs.declared.spot.Spot.{Spot}
 use Rattle.flat_state.specs.declared.spot.Spot.TheVariants.{Text, Data, Stack, Below, Outside}
 use Rattle.page_model.specs.Placement.{state_of}
@@ -27,11 +27,13 @@ use Rattle.proc_calls.specs.Answered.{Entered}
 use Rattle.proc_calls.specs.Callers.{IsCaller}
 use Rattle.proc_calls.specs.Growth.{with_pieces}
 use Rattle.proc_calls.proofs.Callers.{caller_there}
+use Rattle.proc_calls.proofs.Forks.{IsBehind}
 use Rattle.step_units.specs.Entries.{LeavesNone}
 use Rattle.step_units.specs.Ready.{CountsOn, Continues}
-use Rattle.step_units.proofs.Placements.{Keeps, keeps_self, keeps_both, touch_keeps, change_frames, change_due}
+use Rattle.step_units.proofs.Placements.{Keeps, keeps_self, keeps_both, touch_keeps, change_frames}
 use Rattle.step_units.proofs.Journals.{last_plain, last_ran, counts_one}
 use Rattle.step_units.proofs.Running.{entry_on}
+use Rattle.step_units.proofs.Behind.{place_due}
 
 -- Nothing is due, and the process is there.
 pub record MayEnter (m : Standing) (pid : ℕ) : Type 0 where
@@ -42,10 +44,6 @@ pub may_enter : (m : Standing) (pid : ℕ) → IsCaller m pid → MayEnter m pid
 may_enter m pid c = record { clear = c.clear; there = caller_there m.kernel pid c.lends }
 
 -- The kernel after its entry.
-
-pub record IsBehind (k l : Kernel) (e : Entry) : Type 0 where
-  pub frames : length l.place.holds ≡ length k.place.holds
-  pub journal : l.journal ≡ append k.journal e
 
 behind_by : (images : List Image) (k : Kernel) (regs : Regs) (e : Entry) (change : Change) (o : Option Proc) → IsSome o
     → IsBehind k (change_if images k regs e change o) e
@@ -58,39 +56,36 @@ behind_by images k regs e change (Some p) s = record {
 clear_by : (images : List Image) (k : Kernel) (regs : Regs) (e : Entry) (change : Change) (o : Option Proc) → LeavesNone change
     → (let l = change_if images k regs e change o in l.place.due ≡ k.place.due)
 clear_by images k regs e change None n = refl
-clear_by images k regs e change (Some p) n = change_due (changing_of images k p e) k.place change n
+clear_by images k regs e change (Some p) n = place_due (changing_of images k p e) k.place change n
 
-entered_behind : (old new : Standing) (pid : ℕ) (regs : Regs) (e : Entry) (change : Change) → IsSome (proc_of old.kernel pid)
-    → Entered old new pid regs e change → IsBehind old.kernel new.kernel e
-entered_behind old new pid regs e change s h =
-    subst (λ (l : Kernel). IsBehind old.kernel l e) (sym h.step) (behind_by (facts_named old.images) old.kernel regs e change (proc_of old.kernel pid) s)
+module _ (old new : Standing) (pid : ℕ) (regs : Regs) (e : Entry) (change : Change) where
+  entered_behind : IsSome (proc_of old.kernel pid) → Entered old new pid regs e change → IsBehind old.kernel new.kernel e
+  entered_behind s h =
+      subst (λ (l : Kernel). IsBehind old.kernel l e) (sym h.step) (behind_by (facts_named old.images) old.kernel regs e change (proc_of old.kernel pid) s)
 
--- The machine.
+  -- The machine.
 
--- where a process is there that made an entry, the machine runs on
-pub entered_runs : (old new : Standing) (pid : ℕ) (regs : Regs) (e : Entry) (change : Change) → IsSome (proc_of old.kernel pid)
-    → Entered old new pid regs e change → CountsOn old new (counted e)
-entered_runs old new pid regs e change s h =
-    let b = entered_behind old new pid regs e change s h in
-    record {
-      params = ap (λ (m : Standing). m.params) h.rest;
-      images = ap (λ (m : Standing). m.images) h.rest;
-      frames = b.frames;
-      counted = counts_one old.kernel.journal new.kernel.journal e b.journal;
-    }
+  -- where a process is there that made an entry, the machine runs on
+  pub entered_runs : IsSome (proc_of old.kernel pid) → Entered old new pid regs e change → CountsOn old new (counted e)
+  entered_runs s h =
+      let b = entered_behind s h in
+      record {
+        params = ap (λ (m : Standing). m.params) h.rest;
+        images = ap (λ (m : Standing). m.images) h.rest;
+        frames = b.frames;
+        counted = counts_one old.kernel.journal new.kernel.journal e b.journal;
+      }
 
--- it goes on
-pub entered_on : (old new : Standing) (pid : ℕ) (regs : Regs) (e : Entry) (change : Change) → MayEnter old pid → IsPlain e → LeavesNone change
-    → Entered old new pid regs e change → Continues old new (counted e)
-entered_on old new pid regs e change s plain n h =
-    let b = entered_behind old new pid regs e change s.there h in
-    entry_on old new e (record { params = ap (λ (m : Standing). m.params) h.rest; images = ap (λ (m : Standing). m.images) h.rest })
-    (ap (λ (l : Kernel). l.place.due) h.step ∙ clear_by (facts_named old.images) old.kernel regs e change (proc_of old.kernel pid) n ∙ s.clear)
-    b.frames b.journal (last_plain old.kernel.journal e plain)
+  -- it goes on
+  pub entered_on : MayEnter old pid → IsPlain e → LeavesNone change → Entered old new pid regs e change → Continues old new (counted e)
+  entered_on s plain n h =
+      let b = entered_behind s.there h in
+      entry_on old new e (record { params = ap (λ (m : Standing). m.params) h.rest; images = ap (λ (m : Standing). m.images) h.rest })
+      (ap (λ (l : Kernel). l.place.due) h.step ∙ clear_by (facts_named old.images) old.kernel regs e change (proc_of old.kernel pid) n ∙ s.clear)
+      b.frames b.journal (last_plain old.kernel.journal e plain)
 
-pub entry_continues : (old new : Standing) (pid : ℕ) (regs : Regs) (e : Entry) (change : Change) → IsCaller old pid → IsPlain e → LeavesNone change
-    → Entered old new pid regs e change → Continues old new (counted e)
-entry_continues old new pid regs e change c plain n h = entered_on old new pid regs e change (may_enter old pid c) plain n h
+  pub entry_continues : IsCaller old pid → IsPlain e → LeavesNone change → Entered old new pid regs e change → Continues old new (counted e)
+  entry_continues c plain n h = entered_on (may_enter old pid c) plain n h
 
 -- what goes on from a machine with the same but for its holdings goes on from it
 pub from_found : (old new : Standing) (found : Holdings) (n : ℕ) → Continues (with_pieces old found) new n → Continues old new n

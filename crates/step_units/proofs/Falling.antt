@@ -1,5 +1,5 @@
 -- An instruction that falls below its stack: growth, or its refusal, is what its process does next.
-use Rattle.std.proofs.Common.{◌≡◌, ℕ, ◌+◌, ◌≤◌, ◌&&◌, ◌||◌, nat_lt, not, Bool, true, false, List, [], ◌∷◌, length, Option, Some, Result, Err, refl, sym, ap, ◌∙◌, subst, arith}
+use Rattle.std.proofs.Common.{◌≡◌, ℕ, ◌+◌, ◌≤◌, ◌&&◌, ◌||◌, nat_lt, not, Bool, true, false, List, [], ◌∷◌, length, Option, Some, Result, Err, sym, ap, ◌∙◌, subst, arith}
 use Rattle.std.specs.Prelude.{is_ok}
 use Rattle.std.proofs.lemmas.Bool.Decides.{nat_tests}
 use Rattle.vm_facts.specs.SwapImages.{SwapImage}
@@ -23,7 +23,7 @@ use Rattle.flat_state.specs.Flat.{Holding, Process, FlatState, Inputs, process_o
 use Rattle.flat_state.specs.Space.{Space, stack_top, address_in}
 use Rattle.flat_model.specs.Asked.{asks}
 use Rattle.flat_model.specs.Calls.{stack_pages_of}
-use Rattle.flat_model.specs.Run.{step_at, is_refused, due, IsBetween}
+use Rattle.flat_model.specs.Run.{step_at, is_refused}
 use Rattle.flat_model.specs.Step.{Step, flat_step, step_of, grown_step, data_pages_of, pages_down_to}
 use Rattle.run_units.proofs.FlatLawsAsking.{step_same}
 use Rattle.page_model.specs.Placement.{image_of}
@@ -45,21 +45,13 @@ use Rattle.run_units.proofs.Flows.{on_steps, runs_next}
 use Rattle.run_units.proofs.Growing.{below_spot, spot_below}
 use Rattle.run_units.specs.Serving.{At}
 use Rattle.run_units.specs.Touching.{RunsInSpace, IsReadyFor, IsWhole}
-use Rattle.run_units.proofs.Acting.{step_begins, step_refused}
+use Rattle.run_units.proofs.Acting.{step_begins, step_refused, between_refused}
 use Rattle.run_units.proofs.Instructing.{hit_ready, same_spots}
 use Rattle.run_units.proofs.Stepping.{step_known, headers_agree, growth_counts}
 use Rattle.step_units.specs.Machines.{RunsOn}
 use Rattle.step_units.proofs.Serving.{same_space}
 
 -- An instruction that falls below the stack.
-
-pub refused_none : (o : Option Entry) (pid : ℕ) → IsBetween o → is_refused o pid ≡ false
-refused_none (Some (entries.Refused p)) pid h = absurd h
-refused_none _ pid h = refl
-
-pub due_all : (o : Option Entry) (pid : ℕ) (es : List Entry) → IsBetween o → due o pid es ≡ es
-due_all (Some (entries.Out p bytes)) pid es h = absurd h
-due_all _ pid es h = refl
 
 -- what is known of the process then
 pub record Falls (A : Inputs) (s : State) (m : Standing) (pid : ℕ) (p : Process) (x : Space) (address : ℕ) : Type 0 where
@@ -107,7 +99,7 @@ falls A s m holds image pid now p x address r e = record {
     ready = ready_for A s m.kernel image pid now p x (Err (Below address)) at i e tt
 
     unrefused : is_refused s.point.last pid ≡ false
-    unrefused = refused_none s.point.last pid r.between
+    unrefused = between_refused s.point.last pid r.between
 
     step : step_at A s.point pid ≡ grown_step A.images F p x address
     step = step_known A s pid now p x (Err (Below address)) i ready ∙ ap (λ (b : Bool). step_of A.images F p x b (Err (Below address))) unrefused

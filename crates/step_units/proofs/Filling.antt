@@ -1,5 +1,5 @@
 -- The page that is due first is filled by next units of a run.
-use Rattle.std.proofs.Common.{◌≡◌, inl, inr, ℕ, ◌<◌, List, [], ◌∷◌, ◌++◌, length, Option, Some, refl, sym, ap, ◌∙◌, subst, arith}
+use Rattle.std.proofs.Common.{◌≡◌, inl, inr, ℕ, ◌<◌, List, [], ◌∷◌, ◌++◌, length, Option, Some, refl, sym, ap, ◌∙◌, subst}
 use Rattle.vm_facts.specs.SwapImages.{SwapImage}
 use Rattle.vm_facts.specs.declared.page.Page.{Page}
 use Rattle.vm_facts.specs.declared.entry.Entry.{Entry}
@@ -21,6 +21,7 @@ use Rattle.run_model.specs.State.{State}
 use Rattle.run_model.specs.Wanted.{locked as locked_now}
 use Rattle.run_model.specs.After.{after, place_at}
 use Rattle.run_model.specs.Next.{next_unit}
+use Rattle.machine_state.proofs.Copying.{head_is}
 use Rattle.run_units.specs.Machine.{unit_swap}
 use Rattle.run_units.proofs.Marks.{IsFree, due_free}
 use Rattle.run_units.proofs.Allowed.{first_after}
@@ -90,17 +91,13 @@ fill_due : (locked : List Page) (at : ℕ) (p : Placement) (d : Due) → (place_
 fill_due locked at p (Start q) = refl
 fill_due locked at p (CopyOf q parent) = refl
 
-some_free : (fr : List ℕ) → 0 < length fr → (f : ℕ) × (rest : List ℕ) × (fr ≡ f ∷ rest)
-some_free [] h = absurd (omega (arith, h))
-some_free (f ∷ rest) h = (f, rest, refl)
-
 -- where a frame is free, the fill is next, and leads to where the others are due
 pub fill_leads : (A : Inputs) (s : State) (k : Kernel) (image : SwapImage) (d : Due) (ds : List Due) (locked : List Page) → At A s k image
     → s.place.due ≡ d ∷ ds
     → FillsFirst s.place s.place.due (fill_entry d) locked → 0 < length k.place.free → LeadsTo A s k image ds (fill_step k d) (Some image)
 fill_leads A s k image d ds locked at e first free =
     let u : Entry = fill_entry d in
-    let some = some_free k.place.free free in
+    let some = head_is k.place.free free in
     let next : next_unit A s ≡ Some u = fill_next A s u locked some.0 some.1 first (sym (ap (λ (p : Placement). p.free) at.stands.place) ∙ some.2) in
     let same : Paged A s u = fill_paged A s d (due_free s d ds e s.mark at.run.mark) in
     record {
@@ -163,7 +160,7 @@ fill_stops A s m roomy new holds image i j e locked stop at images first f h =
     let t : State = to.0.state in
     let behind : SwapImage = to.0.leads.behind in
     let here : roomy.kernel.place ≡ t.place = (led_at A s t m.kernel roomy.kernel image i f.units at to.0.leads).stands.place in
-    let some = some_free roomy.kernel.place.free f.free in
+    let some = head_is roomy.kernel.place.free f.free in
     let next : next_unit A t ≡ Some e = fill_next A t e locked some.0 some.1 to.1 (sym (ap (λ (p : Placement). p.free) here) ∙ some.2) in
     stops_then A s t m.kernel roomy.kernel image behind j f.units stop new (led_told A s t m.kernel roomy.kernel image i f.units to.0.leads)
     (stop_at A t roomy.kernel behind e stop new j next (subst (λ (o : Option SwapImage). StopsAt e roomy.kernel o stop new j) to.0.leads.told h))

@@ -146,36 +146,28 @@ forked_to A s old between holds image pid now p x effect runs makes h = go (is_b
         failed (ap (λ (m : Standing). m.images) y.answer.rest) (without_place A s old between holds image pid now p x effect system_calls.Fork (λ child. changes.Fork child) a b f y)
     go true true b f y = new_space A s old between holds image pid now p x effect a b y
 
-pub fork_made : (A : Inputs) (s : State) (old new : Standing) (holds : Option (List NamedFile)) (image : SwapImage) (behind : Option SwapImage) (pid : ℕ)
-    (now : Bool) (p : Process) (x : Space)
-    (effect : Effect)
-    → RunsOn A s old holds image pid now p x → MakesCall old p x effect system_calls.Fork → Forked old new pid effect.regs holds (Some image) behind
-    → StepLeads A s old.kernel image 1 new.kernel behind
-fork_made A s old new holds image behind pid now p x effect runs makes h =
-    let to : HasForked A s old h.between holds image = forked_to A s old h.between holds image pid now p x effect runs makes h.answer in
-    copied_behind A s to.state old h.between new holds image behind to.units to.images to.leads to.at to.last to.count to.lines to.mark h.copies
+module _ (A : Inputs) (s : State) (old new : Standing) (holds : Option (List NamedFile)) (image : SwapImage) (behind : Option SwapImage) (pid : ℕ)
+    (now : Bool) (p : Process) (x : Space) (effect : Effect) where
+  pub fork_made : RunsOn A s old holds image pid now p x → MakesCall old p x effect system_calls.Fork → Forked old new pid effect.regs holds (Some image) behind
+      → StepLeads A s old.kernel image 1 new.kernel behind
+  fork_made runs makes h =
+      let to : HasForked A s old h.between holds image = forked_to A s old h.between holds image pid now p x effect runs makes h.answer in
+      copied_behind A s to.state old h.between new holds image behind to.units to.images to.leads to.at to.last to.count to.lines to.mark h.copies
 
--- Stops.
+  -- Stops.
 
--- as a page is copied
-pub fork_stops_behind : (A : Inputs) (s : State) (old new : Standing) (holds : Option (List NamedFile)) (image : SwapImage) (behind : Option SwapImage)
-    (pid : ℕ)
-    (now : Bool) (p : Process) (x : Space)
-    (effect : Effect) (stop : Stop)
-    → RunsOn A s old holds image pid now p x → MakesCall old p x effect system_calls.Fork
-    → StopsOnce (λ m. ForkAnswered old m pid effect.regs) (λ m. StopsCopying m.kernel.place.due m new holds (Some image) behind stop)
-    → StopLeads A s old.kernel image stop new behind
-fork_stops_behind A s old new holds image behind pid now p x effect stop runs makes h =
-    let to : HasForked A s old h.reached holds image = forked_to A s old h.reached holds image pid now p x effect runs makes h.far in
-    stops_then A s to.state old.kernel h.reached.kernel image image behind to.units stop new to.leads
-    (copying_stops h.reached.kernel.place.due A to.state h.reached new holds image behind stop to.at to.images (ap (λ (q : Placement). q.due) (sym to.at.stands.place)) h.stops)
+  -- as a page is copied
+  pub fork_stops_behind : (stop : Stop) → RunsOn A s old holds image pid now p x → MakesCall old p x effect system_calls.Fork
+      → StopsOnce (λ m. ForkAnswered old m pid effect.regs) (λ m. StopsCopying m.kernel.place.due m new holds (Some image) behind stop)
+      → StopLeads A s old.kernel image stop new behind
+  fork_stops_behind stop runs makes h =
+      let to : HasForked A s old h.reached holds image = forked_to A s old h.reached holds image pid now p x effect runs makes h.far in
+      stops_then A s to.state old.kernel h.reached.kernel image image behind to.units stop new to.leads
+      (copying_stops h.reached.kernel.place.due A to.state h.reached new holds image behind stop to.at to.images (ap (λ (q : Placement). q.due) (sym to.at.stands.place)) h.stops)
 
-pub fork_stops : (A : Inputs) (s : State) (old new : Standing) (holds : Option (List NamedFile)) (image : SwapImage) (behind : Option SwapImage) (pid : ℕ)
-    (now : Bool) (p : Process) (x : Space)
-    (effect : Effect) (stop : Stop)
-    → RunsOn A s old holds image pid now p x → MakesCall old p x effect system_calls.Fork → StopsForking old new pid effect.regs holds (Some image) behind stop
-    → StopLeads A s old.kernel image stop new behind
-fork_stops A s old new holds image behind pid now p x effect stop runs makes (inl h) =
-    subst (λ (o : Option SwapImage). StopLeads A s old.kernel image stop new o) (sym h.1)
-    (making_stops A s old new holds image pid now p x effect system_calls.Fork (λ child. changes.Fork child) stop (asking A s old holds image pid now p x effect runs makes) h.0)
-fork_stops A s old new holds image behind pid now p x effect stop runs makes (inr h) = fork_stops_behind A s old new holds image behind pid now p x effect stop runs makes h
+  pub fork_stops : (stop : Stop) → RunsOn A s old holds image pid now p x → MakesCall old p x effect system_calls.Fork
+      → StopsForking old new pid effect.regs holds (Some image) behind stop → StopLeads A s old.kernel image stop new behind
+  fork_stops stop runs makes (inl h) =
+      subst (λ (o : Option SwapImage). StopLeads A s old.kernel image stop new o) (sym h.1)
+      (making_stops A s old new holds image pid now p x effect system_calls.Fork (λ child. changes.Fork child) stop (asking A s old holds image pid now p x effect runs makes) h.0)
+  fork_stops stop runs makes (inr h) = fork_stops_behind stop runs makes h

@@ -1,7 +1,6 @@
 -- Growth of a stack and its refusal are units of a run; after growth its process waits for the new page.
-use Rattle.std.proofs.Common.{◌≡◌, ◌⊎◌, inl, inr, ℕ, ◌+◌, ◌-◌, ◌<◌, ◌≤◌, ◌&&◌, nat_lt, Bool, true, false, List, [], ◌∷◌, ◌++◌, length, Option, Some, None, Ok, Err, refl, sym, ap, ◌∙◌, subst, arith}
+use Rattle.std.proofs.Common.{◌≡◌, ◌⊎◌, inl, inr, ℕ, ◌+◌, ◌-◌, ◌≤◌, ◌&&◌, nat_lt, Bool, true, false, List, [], ◌∷◌, ◌++◌, length, Option, Some, None, Ok, Err, refl, sym, ap, ◌∙◌, subst}
 use Rattle.std.specs.Prelude.{is_ok}
-use Rattle.std.proofs.lemmas.List.{length-append}
 use Rattle.vm_facts.specs.SwapImages.{SwapImage}
 use Rattle.io_edge.specs.FileHolding.{NamedFile}
 use Rattle.vm_facts.proofs.Tests.{eq_self}
@@ -43,6 +42,7 @@ use Rattle.run_model.specs.State.{State}
 use Rattle.run_model.specs.Wanted.{running, touched_next, wanted, AllValid}
 use Rattle.run_model.specs.declared.mark.Mark.{Mark}
 use Rattle.run_model.specs.declared.mark.Mark.TheVariants as marks
+use Rattle.economy_laws.proofs.Growth.{grown_process}
 use Rattle.run_units.proofs.Flows.{on_running, on_steps}
 use Rattle.run_units.proofs.Growing.{all_grown}
 use Rattle.run_units.proofs.Growth.{growth_touches}
@@ -54,12 +54,14 @@ use Rattle.run_units.specs.Stepping.{with_holdings, growth_to}
 use Rattle.run_units.specs.Touching.{RunsInSpace}
 use Rattle.run_units.proofs.Stepping.{step_known, growth_made, headers_agree}
 use Rattle.run_units.proofs.Units.{none_leads, first_leads, leads_at}
+use Rattle.run_units.proofs.Acting.{between_refused, between_due}
 use Rattle.step_units.specs.Machines.{RunsOn}
 use Rattle.step_units.specs.Running.{EndsUngrown}
 use Rattle.step_units.specs.Stepped.{StepLeads, MarkEnds, StopsNext, StopsBy, StopLeads}
-use Rattle.step_units.proofs.Falling.{refused_none, due_all, Falls, low, grown_first, growth_next, refusal_next}
-use Rattle.step_units.proofs.Grown.{grown_process, grown_ready, grown_sizes, touched_grown}
+use Rattle.step_units.proofs.Falling.{Falls, low, grown_first, growth_next, refusal_next}
+use Rattle.step_units.proofs.Grown.{grown_ready, grown_sizes, touched_grown}
 use Rattle.step_units.proofs.Serving.{WaitsFor, LeadsMore}
+use Rattle.step_units.proofs.Entering.{longer}
 
 -- A process that goes on as before, after an entry that counts no instruction.
 
@@ -228,12 +230,12 @@ growth_before A s old between holds image pid now p x address before r f same va
 
     made : MadeAs A s old.kernel image u between.kernel (Some image)
     made =
-        growth_made A s old.kernel between.kernel image pid now p x address g.process g.found at i f.ready (refused_none s.point.last pid r.between) g.there finds
+        growth_made A s old.kernel between.kernel image pid now p x address g.process g.found at i f.ready (between_refused s.point.last pid r.between) g.there finds
         (g.step ∙ ap (λ (fs : List Image). change_step fs (with_holdings old.kernel g.found) pid g.process.regs u (growth old.kernel pid (pages_down_to address))) headers
         ∙ ap (change_step (facts_of A.images) (with_holdings old.kernel g.found) pid g.process.regs u) change)
 
     b : Behind A s pid (pages_down_to address)
-    b = behind_growth A s pid (pages_down_to address) (due_all s.point.last pid (step_at A s.point pid).entries r.between ∙ grown_first A s old pid p x address f)
+    b = behind_growth A s pid (pages_down_to address) (between_due s.point.last pid (step_at A s.point pid).entries r.between ∙ grown_first A s old pid p x address f)
 
     h : Touches A s t pid
     h = all_grown A (growth_touches A) s pid (pages_down_to address) at.run next
@@ -325,9 +327,6 @@ grown_stops A s old between new holds image pid now before q stop j b d = record
 }
 
 -- Stops where growth, or its refusal, comes next.
-
-longer : (journal : List Entry) (u : Entry) → length journal < length (journal ++ u ∷ [])
-longer journal u = let k = length-append journal (u ∷ []) in omega arith
 
 -- neither is joined to another entry
 apart_next : (A : Inputs) (t : State) (k : Kernel) (image : SwapImage) (stop : Stop) (old new : Standing) (j : Option SwapImage) (pid n : ℕ) (u : Entry)

@@ -1,5 +1,5 @@
 -- After growth of its stack a process touches what it touched before, and next the page of the byte for which it grew.
-use Rattle.std.proofs.Common.{◌≡◌, ℕ, ◌+◌, ◌-◌, ◌*◌, ◌/◌, ◌≤◌, ◌&&◌, nat_lt, nat_le, Bool, true, false, List, [], ◌∷◌, ◌++◌, length, filter_map, append_assoc, Option, Some, None, Result, Err, if◌then◌else◌, refl, sym, ap, ◌∙◌, arith}
+use Rattle.std.proofs.Common.{◌≡◌, ℕ, ◌+◌, ◌-◌, ◌*◌, ◌/◌, ◌≤◌, ◌&&◌, nat_lt, nat_le, Bool, true, false, List, [], ◌∷◌, ◌++◌, length, filter_map, append_assoc, Option, Some, None, Err, if◌then◌else◌, refl, sym, ap, ◌∙◌, arith}
 use Rattle.std.specs.List.{cons_option}
 use Rattle.std.proofs.lemmas.Bool.Decides.{nat_tests}
 use Rattle.std.proofs.lemmas.List.{append-nil}
@@ -16,26 +16,23 @@ use Rattle.user_vax.specs.Effects.{Effect}
 use Rattle.user_vax.specs.Instruction.{instruction}
 use Rattle.user_vax.specs.Laws.{refusal, read_refusal, test_refusal, EndsRefused}
 use Rattle.user_vax.specs.Program.{Program, ByteAccess, ReadOf, TestOf, accesses}
-use Rattle.user_vax.specs.declared.refused.Refused.{Refused}
 use Rattle.user_vax.specs.declared.refused.Refused.TheVariants.{Below}
 use Rattle.user_vax.proofs.Order.{keeps_order}
 use Rattle.flat_state.specs.declared.spot.Spot.TheVariants as spots
-use Rattle.flat_state.specs.declared.change.Change.TheVariants.{Resize}
-use Rattle.flat_state.specs.Change.{with_process, changed_if, apply_change, wrote_by, wrote_if, apply_writes, resized_bytes, resized}
-use Rattle.flat_state.specs.Flat.{Holding, Holds, Process, FlatState, NamedImage, Inputs, holds_space, is_ready, process_of}
-use Rattle.flat_state.specs.PageNames.{same_page}
+use Rattle.flat_state.specs.Change.{resized_bytes, resized}
+use Rattle.flat_state.specs.Flat.{Holding, Holds, Process, FlatState, Inputs, holds_space, is_ready, process_of}
 use Rattle.flat_state.specs.Space.{Space, stack_top, stack_reach, stack_index, spot_by, spot_at, address_in, byte_at, may_write_at, answers_of}
 use Rattle.flat_state.proofs.SpaceLaws.{length-resized_bytes}
-use Rattle.run_units.proofs.Others.{number_of_found}
 use Rattle.run_units.proofs.Shown.{is_touched}
 use Rattle.flat_model.specs.Instruction.{instruction_in}
 use Rattle.flat_model.specs.Step.{data_pages_of, pages_down_to}
-use Rattle.flat_model.specs.Touched.{page_read, page_tested, page_of_access, accesses_after, step_accesses, distinct, touched}
+use Rattle.flat_model.specs.Touched.{page_read, page_tested, page_of_access, accesses_after, distinct, touched}
 use Rattle.kernel_model.specs.Coupled.{Fits}
 use Rattle.page_model.specs.Pages.{SpacePages}
-use Rattle.run_units.proofs.Extending.{NotSeen, distinct_more, Bigger, Reached, reached, grown_page}
+use Rattle.run_units.proofs.Extending.{distinct_more, Bigger, Reached, reached, grown_page}
 use Rattle.run_units.proofs.Growing.{below_spot}
-use Rattle.run_laws.proofs.Finding.{found_after}
+use Rattle.economy_laws.proofs.Extending.{kept_pages, kept_unseen}
+use Rattle.economy_laws.proofs.Growth.{refused_accesses, all_accesses}
 
 -- The byte for which the stack grew.
 
@@ -109,27 +106,6 @@ new_page x d a regs b e r =
 
 -- Its pages.
 
-abbrev Kept : Space → ℕ → ℕ → ℕ → ByteAccess → Type 0
-Kept s d t a y = (page_of_access (resized s d t) y ≡ page_of_access s y) × ((q : Page) → page_of_access s y ≡ Some q → same_page q (grown_page s a) ≡ false)
-
-abbrev AllKept : Space → ℕ → ℕ → ℕ → List ByteAccess → Type 0
-AllKept s d t a [] = Unit {0}
-AllKept s d t a (y ∷ ys) = Kept s d t a y × AllKept s d t a ys
-
-kept_pages : (s : Space) (d t a : ℕ) (ys : List ByteAccess) → AllKept s d t a ys
-    → filter_map (page_of_access (resized s d t)) ys ≡ filter_map (page_of_access s) ys
-kept_pages s d t a [] k = refl
-kept_pages s d t a (y ∷ ys) k =
-    ap (λ (o : Option Page). cons_option o (filter_map (page_of_access (resized s d t)) ys)) k.0.0 ∙ ap (cons_option (page_of_access s y)) (kept_pages s d t a ys k.1)
-
-kept_unseen : (s : Space) (d t a : ℕ) (ys : List ByteAccess) → AllKept s d t a ys → NotSeen (filter_map (page_of_access s) ys) (grown_page s a)
-kept_unseen s d t a [] k = tt
-kept_unseen s d t a (y ∷ ys) k = go (page_of_access s y) refl (kept_unseen s d t a ys k.1)
-  where
-    go : (o : Option Page) → page_of_access s y ≡ o → NotSeen (filter_map (page_of_access s) ys) (grown_page s a) → NotSeen (cons_option o (filter_map (page_of_access s) ys)) (grown_page s a)
-    go None e n = n
-    go (Some q) e n = (k.0.1 q e, n)
-
 -- the pages of the accesses before growth, and of those after it
 pages_grown : (s : Space) (d t a : ℕ) (p : Program Effect) (after : List ByteAccess) → Reached Effect s d t a p
     → (more : List Page) × (distinct (filter_map (page_of_access (resized s d t)) (accesses (answers_of (resized s d t)) p ++ after))
@@ -150,19 +126,6 @@ pages_grown s d t a p after r =
 
 -- The process.
 
--- once its stack has grown
-pub grown_process : (images : List NamedImage) (F : FlatState) (pid : ℕ) (q : Process) (s : Space) (regs : Regs) (d t : ℕ) → process_of F pid ≡ Some q
-    → q.holding ≡ Holds s
-    → process_of (apply_change images (apply_writes F pid []) pid regs (Resize d t)) pid ≡ Some (record q { regs = regs; holding = Holds (resized s d t) })
-unfolding apply_change apply_writes
-grown_process images F pid q s regs d t e h =
-    let n : q.pid ≡ pid = number_of_found F.processes pid q e in
-    let written : wrote_if F [] (process_of F pid) ≡ with_process F (record q { holding = Holds s }) = ap (wrote_if F []) e ∙ ap (wrote_by F q []) h in
-    let found : process_of (with_process F (record q { holding = Holds s })) pid ≡ Some (record q { holding = Holds s }) = found_after F pid q (record q { holding = Holds s }) e n in
-    ap (λ (G : FlatState). process_of (changed_if images G regs (Resize d t) (process_of G pid)) pid) written
-    ∙ ap (λ (o : Option Process). process_of (changed_if images (with_process F (record q { holding = Holds s })) regs (Resize d t) o) pid) found
-    ∙ found_after (with_process F (record q { holding = Holds s })) pid (record q { holding = Holds s }) (record q { regs = regs; holding = Holds (resized s d t) }) found n
-
 pub grown_ready : (p : Process) (x : Space) → is_ready p ≡ true → is_ready (record p { holding = Holds x }) ≡ true
 grown_ready p x h = go p.asleep p.holding h
   where
@@ -178,17 +141,6 @@ grown_sizes s (Some x) a f l =
     let d = f.data_size in
     let k = f.stack_size in
     record { paged = omega arith; data_pages = omega arith; stack_pages = omega arith; room = l; reach = omega arith }
-
-refused_accesses : (images : List NamedImage) (F : FlatState) (p : Process) (s : Space) (a : ℕ) → instruction_in s p.regs ≡ Err (Below a)
-    → step_accesses images F p s ≡ accesses (answers_of s) (instruction p.regs)
-unfolding step_accesses
-refused_accesses images F p s a e =
-    ap (λ (r : Result Effect Refused). accesses (answers_of s) (instruction p.regs) ++ accesses_after images F p s r) e ∙ append-nil (accesses (answers_of s) (instruction p.regs))
-
-all_accesses : (images : List NamedImage) (F : FlatState) (p : Process) (s : Space) → step_accesses images F p s
-    ≡ accesses (answers_of s) (instruction p.regs) ++ accesses_after images F p s (instruction_in s p.regs)
-unfolding step_accesses
-all_accesses images F p s = refl
 
 pub touched_grown : (A : Inputs) (F G : FlatState) (pid : ℕ) (p : Process) (x : Space) (d a : ℕ) → process_of F pid ≡ Some p → p.holding ≡ Holds x
     → is_ready p ≡ true

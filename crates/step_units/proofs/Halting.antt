@@ -16,30 +16,20 @@ use Rattle.page_model.specs.Swapper.{names_page, is_settled}
 use Rattle.machine_state.specs.Machine.{Standing}
 use Rattle.swapper.proofs.Stopping.{held_here}
 use Rattle.swapper.specs.Stops.{StopsBefore}
-use Rattle.flat_model.specs.Run.{due_at, first_if, entry_of_step as next_of_step}
+use Rattle.flat_model.specs.Run.{due_at}
 use Rattle.run_model.specs.State.{State}
 use Rattle.run_model.specs.Wanted.{wanted}
-use Rattle.run_model.specs.Act.{act, act_if, act_by, settled, settled_in, settled_if, step_loses, must_refuse, must_settle}
+use Rattle.run_model.specs.Act.{settled, settled_in, settled_if, step_loses, must_refuse, must_settle}
 use Rattle.run_model.specs.Next.{next_unit}
 use Rattle.run_units.proofs.Flows.{on_steps, runs_next}
 use Rattle.run_units.specs.Serving.{At}
 use Rattle.run_units.specs.Touching.{RunsInSpace}
 use Rattle.run_units.proofs.Units.{none_leads}
+use Rattle.run_units.proofs.Acting.{acts_by, comes_first}
 use Rattle.step_units.specs.Stepped.{StopsNext, StopsBy, StopLeads}
 use Rattle.step_units.proofs.Entering.{IsOwn, stopped_before}
 
 -- What comes next.
-
-acts_as : (A : Inputs) (s : State) (pid : ℕ) (refused waits : Bool) → can_step s.point.flat pid ≡ true → must_refuse A s pid ≡ refused
-    → must_settle A s pid ≡ waits
-    → act A s pid ≡ act_by A s pid refused waits
-unfolding act
-acts_as A s pid refused waits c r t =
-    ap (λ (b : Bool). act_if b A s pid) c ∙ ap (λ (b : Bool). act_by A s pid b (must_settle A s pid)) r ∙ ap (act_by A s pid refused) t
-
-first_comes : (A : Inputs) (s : State) (pid : ℕ) (e : Entry) (es : List Entry) → can_step s.point.flat pid ≡ true → due_at A s.point pid ≡ e ∷ es
-    → next_of_step A s.point pid ≡ Some e
-first_comes A s pid e es c d = ap (λ (b : Bool). first_if b (due_at A s.point pid)) c ∙ ap (first_if true) d
 
 -- Before the end of a transfer.
 
@@ -98,7 +88,7 @@ stopped_here A s old new image pid now p x e es stop at r w d own g = go (must_r
     can = on_steps A s s.mark pid now r.runs.on
 
     go : (refused waits : Bool) → must_refuse A s pid ≡ refused → must_settle A s pid ≡ waits → StopLeads A s old.kernel image stop new (Some image)
-    go true waits f t = stopped_before A s old new image pid now (entries.Refused pid) stop r.runs w (acts_as A s pid true waits can f t) tt g
+    go true waits f t = stopped_before A s old new image pid now (entries.Refused pid) stop r.runs w (acts_by A s pid true waits can f t) tt g
     go false true f t = record {
       units = [];
       state = s;
@@ -107,7 +97,7 @@ stopped_here A s old new image pid now p x e es stop at r w d own g = go (must_r
       leads = none_leads A s old.kernel image;
       journal = g.stopped.journal;
       held = held_here stop old new g.stopped g.whole g.cause g.full;
-      by = stops_done A s old new image stop (runs_next A s pid now entries.Done r.runs w (acts_as A s pid false true can f t))
+      by = stops_done A s old new image stop (runs_next A s pid now entries.Done r.runs w (acts_by A s pid false true can f t))
           (some_transfer old.kernel.place x.sid old.kernel.place.transfers refl (ap (λ (q : Placement). is_settled q x.sid) at.stands.place ∙ waits_for A s pid now p x r t)) g;
     }
-    go false false f t = stopped_before A s old new image pid now e stop r.runs w (acts_as A s pid false false can f t ∙ first_comes A s pid e es can d) own g
+    go false false f t = stopped_before A s old new image pid now e stop r.runs w (acts_by A s pid false false can f t ∙ comes_first A s pid e es can d) own g

@@ -30,7 +30,7 @@ led_at A s t k l image j us at led = leads_at A s t k l image led.behind us at (
 -- Stops.
 
 -- for want of memory no write spoils the swap image
-none_spoiled : (files : List ImageFile) (e : Entry) (k : Kernel) (i j : Option SwapImage) → SpoilsBy files e stops.NoMemory k i j → j ≡ i
+pub none_spoiled : (files : List ImageFile) (e : Entry) (k : Kernel) (i j : Option SwapImage) → SpoilsBy files e stops.NoMemory k i j → j ≡ i
 none_spoiled files entries.Done k i j h = h
 none_spoiled files (entries.SwapOut pid) k i j h = h
 none_spoiled files _ k i j h = h

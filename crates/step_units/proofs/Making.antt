@@ -70,41 +70,35 @@ pub told_by : (A : Inputs) (s : State) (old : Standing) (p : Process) (x : Space
 told_by A s old p x effect call change below b c =
     subst (λ (z : Bool). IsCalledFor A s p x call effect (Ok (child_by z effect.regs old.kernel.next_pid (own_change old change)))) b c
 
--- the step of the process, where there are fewer
-pub making_step : (A : Inputs) (s : State) (old : Standing) (holds : Option (List NamedFile)) (image : SwapImage) (pid : ℕ) (now : Bool) (p : Process)
-    (x : Space)
-    (effect : Effect) (call : SystemCall)
-    (change : ℕ → Change)
-    → Asking A s old holds image pid now p x effect call change → is_below_limit old.kernel ≡ true
-    → step_at A s.point pid ≡ replied_step A.images s.point.flat p call effect (Does (told_regs old effect) (own_change old change))
-making_step A s old holds image pid now p x effect call change a b =
-    called_step A s pid now p x effect call (Ok (Does (told_regs old effect) (own_change old change))) a.runs.running a.runs.between a.makes.names
-    (told_by A s old p x effect call change true b a.called)
+module _ (A : Inputs) (s : State) (old : Standing) (holds : Option (List NamedFile)) (image : SwapImage) (pid : ℕ) where
+  -- the step of the process, where there are fewer
+  pub making_step : (now : Bool) (p : Process) (x : Space) (effect : Effect) (call : SystemCall) (change : ℕ → Change)
+      → Asking A s old holds image pid now p x effect call change → is_below_limit old.kernel ≡ true
+      → step_at A s.point pid ≡ replied_step A.images s.point.flat p call effect (Does (told_regs old effect) (own_change old change))
+  making_step now p x effect call change a b =
+      called_step A s pid now p x effect call (Ok (Does (told_regs old effect) (own_change old change))) a.runs.running a.runs.between a.makes.names
+      (told_by A s old p x effect call change true b a.called)
 
--- what it asks for, of the machine and of the run
-pub same_pieces : (A : Inputs) (s : State) (old : Standing) (holds : Option (List NamedFile)) (image : SwapImage) (pid : ℕ) (change : Change)
-    → MachineAt A s old holds image
-    → place_all old.params.swap_blocks old.kernel.holdings (asked (facts_named old.images) old.kernel pid change)
-    ≡ place_all A.swap_blocks old.kernel.holdings (asked (facts_of A.images) old.kernel pid change)
-same_pieces A s old holds image pid change h =
-    ap (λ (n : ℕ). place_all n old.kernel.holdings (asked (facts_named old.images) old.kernel pid change)) h.blocks
-    ∙ ap (λ (fs : List Image). place_all A.swap_blocks old.kernel.holdings (asked fs old.kernel pid change)) (headers A s old holds image h)
+  -- what it asks for, of the machine and of the run
+  pub same_pieces : (change : Change)
+      → MachineAt A s old holds image
+      → place_all old.params.swap_blocks old.kernel.holdings (asked (facts_named old.images) old.kernel pid change)
+      ≡ place_all A.swap_blocks old.kernel.holdings (asked (facts_of A.images) old.kernel pid change)
+  same_pieces change h =
+      ap (λ (n : ℕ). place_all n old.kernel.holdings (asked (facts_named old.images) old.kernel pid change)) h.blocks
+      ∙ ap (λ (fs : List Image). place_all A.swap_blocks old.kernel.holdings (asked fs old.kernel pid change)) (headers A s old holds image h)
 
-none_found : (A : Inputs) (s : State) (old : Standing) (holds : Option (List NamedFile)) (image : SwapImage) (pid : ℕ) (change : ℕ → Change)
-    → MachineAt A s old holds image
-    → finds_pieces old pid (own_change old change) ≡ false
-    → is_ok (place_all A.swap_blocks old.kernel.holdings (asked (facts_of A.images) old.kernel pid (own_change old change))) ≡ false
-none_found A s old holds image pid change h f = ap (λ (o : Result Holdings ℕ). is_ok o) (sym (same_pieces A s old holds image pid (own_change old change) h)) ∙ f
+  none_found : (change : ℕ → Change) → MachineAt A s old holds image → finds_pieces old pid (own_change old change) ≡ false
+      → is_ok (place_all A.swap_blocks old.kernel.holdings (asked (facts_of A.images) old.kernel pid (own_change old change))) ≡ false
+  none_found change h f = ap (λ (o : Result Holdings ℕ). is_ok o) (sym (same_pieces (own_change old change) h)) ∙ f
 
--- its pieces found no place
-pub making_refused : (A : Inputs) (s : State) (old : Standing) (holds : Option (List NamedFile)) (image : SwapImage) (pid : ℕ) (now : Bool) (p : Process)
-    (x : Space) (effect : Effect)
-    (call : SystemCall) (change : ℕ → Change)
-    → Asking A s old holds image pid now p x effect call change → is_below_limit old.kernel ≡ true → finds_pieces old pid (own_change old change) ≡ false
-    → IsRefusal A s old holds image pid now p x
-making_refused A s old holds image pid now p x effect call change a b f =
-    call_refusal A s old holds image pid now p x effect call (child_answer true old effect change) (told_regs old effect) (own_change old change) a.runs a.makes.names
-    (told_by A s old p x effect call change true b a.called) refl (none_found A s old holds image pid change a.runs.machine f)
+  -- its pieces found no place
+  pub making_refused : (now : Bool) (p : Process) (x : Space) (effect : Effect) (call : SystemCall) (change : ℕ → Change)
+      → Asking A s old holds image pid now p x effect call change → is_below_limit old.kernel ≡ true → finds_pieces old pid (own_change old change) ≡ false
+      → IsRefusal A s old holds image pid now p x
+  making_refused now p x effect call change a b f =
+      call_refusal A s old holds image pid now p x effect call (child_answer true old effect change) (told_regs old effect) (own_change old change) a.runs a.makes.names
+      (told_by A s old p x effect call change true b a.called) refl (none_found change a.runs.machine f)
 
 -- The call fails, with no child.
 pub without_child : (A : Inputs) (s : State) (old new : Standing) (holds : Option (List NamedFile)) (image : SwapImage) (pid : ℕ) (now : Bool) (p : Process)

@@ -43,9 +43,10 @@ use Rattle.run_units.specs.Touching.{RunsInSpace, IsCalledFor}
 use Rattle.run_units.proofs.Units.{leads_at}
 use Rattle.run_units.proofs.Stepping.{none_asked}
 use Rattle.run_units.proofs.Swapping.{note_made}
+use Rattle.run_units.proofs.Acting.{between_refused}
 use Rattle.step_units.specs.Machines.{MachineAt, RunsOn}
 use Rattle.step_units.specs.Stepped.{StepLeads}
-use Rattle.step_units.proofs.Begun.{unrefused, whole_due, begins, out_due, out_unrefused, goes_on_behind, none_lost}
+use Rattle.step_units.proofs.Begun.{whole_due, begins, out_due, out_unrefused, goes_on_behind, none_lost}
 use Rattle.step_units.proofs.Behind.{StepWaits, output_waits, running_same, wanted_same}
 use Rattle.step_units.proofs.Entering.{entry_leads, complete_leads, entered, leads_then}
 use Rattle.step_units.proofs.Tables.{IsKept, is_kept}
@@ -126,7 +127,7 @@ outputs A s old between holds image pid now p x effect call r byte bytes h m c e
     let running : RunsInSpace A t pid now p x = running_same A s t u pid now p x w h.running in
     let step_is : step_at A t.point pid ≡ step =
     ap (λ (G : FlatState). flat_step A G pid (is_refused t.point.last pid)) w.flat
-    ∙ ap (flat_step A F pid) (out_unrefused t.point.last pid out_bytes w.last ∙ sym (unrefused s.point.last pid h.between)) ∙ is in
+    ∙ ap (flat_step A F pid) (out_unrefused t.point.last pid out_bytes w.last ∙ sym (between_refused s.point.last pid h.between)) ∙ is in
     record {
       leads = led;
       waits = w;

@@ -17,7 +17,6 @@ use Rattle.page_model.specs.Place.{due_after, put_step, place_entry, remove_spac
 use Rattle.page_model.specs.Reading.{read_errand}
 use Rattle.page_laws.proofs.Moves.Puts.{KeptByPuts, get_run_kept, reclaim_kept, put_step_kept, move_kept, moves_kept, done_kept, touch_kept, drop_all_kept, leave_all_kept, entry_kept}
 use Rattle.page_laws.proofs.Moves.Cases.{force_cases}
-use Rattle.step_units.specs.Entries.{LeavesNone}
 
 -- as many frames
 pub record SameFrames (p q : Placement) : Type 0 where
@@ -136,18 +135,6 @@ change_frames c p (changes.Exec image top) =
 change_frames c p (changes.Reap child) = refl
 change_frames c p changes.Sleep = refl
 change_frames c p (changes.End status) = let s = give_up_unless_keeps c.borrowed p c.sid in s.count
-
--- and what is due, where it makes nothing due
-pub change_due : (c : Changing) (p : Placement) (change : Change) → LeavesNone change
-    → (place_change c p change).due ≡ p.due
-change_due c p changes.Keep n = refl
-change_due c p (changes.Resize data_now stack_now) n = let s = resize_keeps p c.sid data_now stack_now in s.due
-change_due c p (changes.Fork child) n = absurd n
-change_due c p (changes.Lend child) n = refl
-change_due c p (changes.Exec image top) n = absurd n
-change_due c p (changes.Reap child) n = refl
-change_due c p changes.Sleep n = refl
-change_due c p (changes.End status) n = let s = give_up_unless_keeps c.borrowed p c.sid in s.due
 
 -- after an image nothing is due once the new stack page was filled
 entered_filled : (p : Placement) (sid image : ℕ) (o : Option Image) → p.due ≡ [] → due_after (enter_image p sid image o).due (Stack sid 0) ≡ []

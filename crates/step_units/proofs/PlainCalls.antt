@@ -53,48 +53,42 @@ asked_plainly A s old holds image pid now p x effect call h m =
     ap (run (kernel_answers old.kernel x.sid))
     (asked_here A s pid p x call effect h.running.here h.running.holds (calls_write_none (kernel_answers old.kernel x.sid) p.regs effect m.names.number m.made m.names.is_number))
 
-waits_run : (images : List NamedImage) (F : FlatState) (p : Process) (x : Space) (regs : Regs) (memory : Answers)
-    → run memory (reply_of images F p x system_calls.Wait regs) ≡ Ok (flat_wait F p.pid regs)
-unfolding reply_of
-waits_run images F p x regs memory = refl
+module _ (images : List NamedImage) (F : FlatState) (p : Process) (x : Space) (regs : Regs) (memory : Answers) where
+  waits_run : run memory (reply_of images F p x system_calls.Wait regs) ≡ Ok (flat_wait F p.pid regs)
+  unfolding reply_of
+  waits_run = refl
 
-numbers_run : (images : List NamedImage) (F : FlatState) (p : Process) (x : Space) (regs : Regs) (memory : Answers)
-    → run memory (reply_of images F p x system_calls.Getpid regs) ≡ Ok (Does (replied_both regs p.pid p.parent) changes.Keep)
-unfolding reply_of
-numbers_run images F p x regs memory = refl
+  numbers_run : run memory (reply_of images F p x system_calls.Getpid regs) ≡ Ok (Does (replied_both regs p.pid p.parent) changes.Keep)
+  unfolding reply_of
+  numbers_run = refl
 
-writes_run : (images : List NamedImage) (F : FlatState) (p : Process) (x : Space) (regs : Regs) (memory : Answers)
-    → run memory (reply_of images F p x system_calls.Write regs) ≡ run memory (write_reply regs)
-unfolding reply_of
-writes_run images F p x regs memory = refl
+  writes_run : run memory (reply_of images F p x system_calls.Write regs) ≡ run memory (write_reply regs)
+  unfolding reply_of
+  writes_run = refl
 
-wait_asked : (A : Inputs) (s : State) (old : Standing) (holds : Option (List NamedFile)) (image : SwapImage) (pid : ℕ) (now : Bool) (p : Process)
-    (x : Space) (effect : Effect)
-    → RunsOn A s old holds image pid now p x → MakesCall old p x effect system_calls.Wait
-    → run (kernel_answers old.kernel x.sid) (reply_asked A.images s.point.flat p x system_calls.Wait effect) ≡ Ok (wait_answer old.kernel pid effect.regs)
-wait_asked A s old holds image pid now p x effect h m =
-    let kept : IsKept old.kernel pid p x = is_kept A s old.kernel image pid now p x h.machine.at h.running in
-    asked_plainly A s old holds image pid now p x effect system_calls.Wait h m ∙ waits_run A.images s.point.flat p x effect.regs (kernel_answers old.kernel x.sid)
-    ∙ ap (λ (z : Reply). let r : Result Reply Refused = Ok z in r)
-    (ap (λ (n : ℕ). flat_wait s.point.flat n effect.regs) kept.number ∙ sym (wait_is old.kernel s.point.flat pid effect.regs h.machine.at.stands.keeps.coupled.tables))
+module _ (A : Inputs) (s : State) (old : Standing) (holds : Option (List NamedFile)) (image : SwapImage) (pid : ℕ) (now : Bool) (p : Process) (x : Space)
+    (effect : Effect) where
+  wait_asked : RunsOn A s old holds image pid now p x → MakesCall old p x effect system_calls.Wait
+      → run (kernel_answers old.kernel x.sid) (reply_asked A.images s.point.flat p x system_calls.Wait effect) ≡ Ok (wait_answer old.kernel pid effect.regs)
+  wait_asked h m =
+      let kept : IsKept old.kernel pid p x = is_kept A s old.kernel image pid now p x h.machine.at h.running in
+      asked_plainly A s old holds image pid now p x effect system_calls.Wait h m ∙ waits_run A.images s.point.flat p x effect.regs (kernel_answers old.kernel x.sid)
+      ∙ ap (λ (z : Reply). let r : Result Reply Refused = Ok z in r)
+      (ap (λ (n : ℕ). flat_wait s.point.flat n effect.regs) kept.number ∙ sym (wait_is old.kernel s.point.flat pid effect.regs h.machine.at.stands.keeps.coupled.tables))
 
-number_asked : (A : Inputs) (s : State) (old : Standing) (holds : Option (List NamedFile)) (image : SwapImage) (pid : ℕ) (now : Bool) (p : Process)
-    (x : Space) (effect : Effect)
-    → RunsOn A s old holds image pid now p x → MakesCall old p x effect system_calls.Getpid
-    → run (kernel_answers old.kernel x.sid) (reply_asked A.images s.point.flat p x system_calls.Getpid effect)
-    ≡ Ok (Does (replied_both effect.regs pid (parent_of old.kernel pid)) changes.Keep)
-number_asked A s old holds image pid now p x effect h m =
-    let kept : IsKept old.kernel pid p x = is_kept A s old.kernel image pid now p x h.machine.at h.running in
-    asked_plainly A s old holds image pid now p x effect system_calls.Getpid h m ∙ numbers_run A.images s.point.flat p x effect.regs (kernel_answers old.kernel x.sid)
-    ∙ ap₂ (λ (n parent : ℕ). let r : Result Reply Refused = Ok (Does (replied_both effect.regs n parent) changes.Keep) in r) kept.number (sym (parent_is old.kernel pid p x kept))
+  number_asked : RunsOn A s old holds image pid now p x → MakesCall old p x effect system_calls.Getpid
+      → run (kernel_answers old.kernel x.sid) (reply_asked A.images s.point.flat p x system_calls.Getpid effect)
+      ≡ Ok (Does (replied_both effect.regs pid (parent_of old.kernel pid)) changes.Keep)
+  number_asked h m =
+      let kept : IsKept old.kernel pid p x = is_kept A s old.kernel image pid now p x h.machine.at h.running in
+      asked_plainly A s old holds image pid now p x effect system_calls.Getpid h m ∙ numbers_run A.images s.point.flat p x effect.regs (kernel_answers old.kernel x.sid)
+      ∙ ap₂ (λ (n parent : ℕ). let r : Result Reply Refused = Ok (Does (replied_both effect.regs n parent) changes.Keep) in r) kept.number (sym (parent_is old.kernel pid p x kept))
 
-write_asked : (A : Inputs) (s : State) (old : Standing) (holds : Option (List NamedFile)) (image : SwapImage) (pid : ℕ) (now : Bool) (p : Process)
-    (x : Space) (effect : Effect)
-    → RunsOn A s old holds image pid now p x → MakesCall old p x effect system_calls.Write
-    → run (kernel_answers old.kernel x.sid) (reply_asked A.images s.point.flat p x system_calls.Write effect)
-    ≡ run (kernel_answers old.kernel x.sid) (write_reply effect.regs)
-write_asked A s old holds image pid now p x effect h m =
-    asked_plainly A s old holds image pid now p x effect system_calls.Write h m ∙ writes_run A.images s.point.flat p x effect.regs (kernel_answers old.kernel x.sid)
+  write_asked : RunsOn A s old holds image pid now p x → MakesCall old p x effect system_calls.Write
+      → run (kernel_answers old.kernel x.sid) (reply_asked A.images s.point.flat p x system_calls.Write effect)
+      ≡ run (kernel_answers old.kernel x.sid) (write_reply effect.regs)
+  write_asked h m =
+      asked_plainly A s old holds image pid now p x effect system_calls.Write h m ∙ writes_run A.images s.point.flat p x effect.regs (kernel_answers old.kernel x.sid)
 
 quiet_wait : (child ended : Option Proc) (regs : Regs) → IsQuiet (wait_by_records child ended regs)
 quiet_wait None ended regs = tt

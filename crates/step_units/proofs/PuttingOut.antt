@@ -241,41 +241,34 @@ out_comes A s old new holds image j pid sid at c fit m there o =
       unturned = more.unturned;
     }
 
-pub swapper_made : (A : Inputs) (s : State) (old new : Standing) (holds : Option (List NamedFile)) (image : SwapImage) (j : Option SwapImage) (t : Turned)
-    → MachineAt A s old holds image → IsClear s
-    → ProcessesFit s.point.flat.processes → s.mark ≡ swap_mark (swap_choice s.place (runners s.point.flat))
-    → choice_of t ≡ swap_choice old.kernel.place (runners_of old.kernel)
-    → Turns t old new holds (Some image) j → LineLeads A s old.kernel image new.kernel j
-swapper_made A s old new holds image j turns.Nothing at c fit m e t = nothing_made A s old new image j c (chosen_mark A s old holds image turns.Nothing at m e) t.0 t.1
-swapper_made A s old new holds image j (turns.In pid) at c fit m e t = in_comes A s old new image j pid c (chosen_mark A s old holds image (turns.In pid) at m e) t.0 t.2
-swapper_made A s old new holds image j (turns.Out pid) at c fit m e t =
-    out_comes A s old new holds image j pid t.0 at c fit (chosen_mark A s old holds image (turns.Out pid) at m e) t.1 t.2
+module _ (A : Inputs) (s : State) (old new : Standing) (holds : Option (List NamedFile)) (image : SwapImage) (j : Option SwapImage) where
+  pub swapper_made : (t : Turned) → MachineAt A s old holds image → IsClear s → ProcessesFit s.point.flat.processes
+      → s.mark ≡ swap_mark (swap_choice s.place (runners s.point.flat)) → choice_of t ≡ swap_choice old.kernel.place (runners_of old.kernel)
+      → Turns t old new holds (Some image) j → LineLeads A s old.kernel image new.kernel j
+  swapper_made turns.Nothing at c fit m e t = nothing_made A s old new image j c (chosen_mark A s old holds image turns.Nothing at m e) t.0 t.1
+  swapper_made (turns.In pid) at c fit m e t = in_comes A s old new image j pid c (chosen_mark A s old holds image (turns.In pid) at m e) t.0 t.2
+  swapper_made (turns.Out pid) at c fit m e t =
+      out_comes A s old new holds image j pid t.0 at c fit (chosen_mark A s old holds image (turns.Out pid) at m e) t.1 t.2
 
-pub out_stops : (A : Inputs) (s : State) (old new : Standing) (holds : Option (List NamedFile)) (image : SwapImage) (j : Option SwapImage)
-    (pid sid : ℕ) (stop : Stop)
-    → MachineAt A s old holds image → IsClear s → s.mark ≡ marks.PutOut pid → HoldsThere old.kernel pid sid
-    → StopsPutting pid sid old stop new holds (Some image) j
-    → StopLeads A s old.kernel image stop new j
-out_stops A s old new holds image j pid sid stop at c m there o =
-    let g : Ground = ground old holds [] in
-    let h : Holder s.point.flat pid sid = holder old.kernel s.point.flat pid sid at.at.stands.keeps.coupled.tables there.holds in
-    let led : LeadsPutting A s old.kernel image pid sid o.units o.at o.image =
-    putting o.units A g s old.kernel o.at image o.image pid sid (length old.kernel.journal) at.at at.images (puts_process s old.kernel pid sid c m h) o.leads.puts o.made in
-    let b : SwapImage = led.leads.behind in
-    let leads : Leads A s old.kernel image o.units led.state o.at (Some b) = subst (λ (z : Option SwapImage). Leads A s old.kernel image o.units led.state o.at z) led.leads.told led.leads in
-    let behind : At A led.state o.at b = leads_at A s led.state old.kernel o.at image b o.units at.at leads in
-    stops_behind A s led.state old.kernel o.at image b o.units stop new j o.there.entry leads
-    (put_next A led.state pid sid led.puts ∙ ap (λ (y : Placement). Some (put_out_unit y pid sid)) (sym behind.stands.place) ∙ o.there.next)
-    (subst (λ (z : Option SwapImage). StopsAt o.there.entry o.at z stop new j) led.leads.told o.there.stops)
+  pub out_stops : (pid sid : ℕ) (stop : Stop) → MachineAt A s old holds image → IsClear s → s.mark ≡ marks.PutOut pid → HoldsThere old.kernel pid sid
+      → StopsPutting pid sid old stop new holds (Some image) j → StopLeads A s old.kernel image stop new j
+  out_stops pid sid stop at c m there o =
+      let g : Ground = ground old holds [] in
+      let h : Holder s.point.flat pid sid = holder old.kernel s.point.flat pid sid at.at.stands.keeps.coupled.tables there.holds in
+      let led : LeadsPutting A s old.kernel image pid sid o.units o.at o.image =
+      putting o.units A g s old.kernel o.at image o.image pid sid (length old.kernel.journal) at.at at.images (puts_process s old.kernel pid sid c m h) o.leads.puts o.made in
+      let b : SwapImage = led.leads.behind in
+      let leads : Leads A s old.kernel image o.units led.state o.at (Some b) = subst (λ (z : Option SwapImage). Leads A s old.kernel image o.units led.state o.at z) led.leads.told led.leads in
+      let behind : At A led.state o.at b = leads_at A s led.state old.kernel o.at image b o.units at.at leads in
+      stops_behind A s led.state old.kernel o.at image b o.units stop new j o.there.entry leads
+      (put_next A led.state pid sid led.puts ∙ ap (λ (y : Placement). Some (put_out_unit y pid sid)) (sym behind.stands.place) ∙ o.there.next)
+      (subst (λ (z : Option SwapImage). StopsAt o.there.entry o.at z stop new j) led.leads.told o.there.stops)
 
-pub swapper_stops : (A : Inputs) (s : State) (old new : Standing) (holds : Option (List NamedFile)) (image : SwapImage) (j : Option SwapImage)
-    (t : Turned) (stop : Stop)
-    → MachineAt A s old holds image
-    → IsClear s → s.mark ≡ swap_mark (swap_choice s.place (runners s.point.flat)) → choice_of t ≡ swap_choice old.kernel.place (runners_of old.kernel)
-    → StopsTurning t old stop new holds (Some image) j
-    → StopLeads A s old.kernel image stop new j
-swapper_stops A s old new holds image j turns.Nothing stop at c m e x = absurd x
-swapper_stops A s old new holds image j (turns.In pid) stop at c m e x =
-    stops_here A s old.kernel image stop new j (entries.SwapIn pid) ((line_asks A s c.clear).0 pid (chosen_mark A s old holds image (turns.In pid) at m e)) x
-swapper_stops A s old new holds image j (turns.Out pid) stop at c m e x =
-    out_stops A s old new holds image j pid x.0 stop at c (chosen_mark A s old holds image (turns.Out pid) at m e) x.1 x.2
+  pub swapper_stops : (t : Turned) (stop : Stop) → MachineAt A s old holds image → IsClear s → s.mark ≡ swap_mark (swap_choice s.place (runners s.point.flat))
+      → choice_of t ≡ swap_choice old.kernel.place (runners_of old.kernel) → StopsTurning t old stop new holds (Some image) j
+      → StopLeads A s old.kernel image stop new j
+  swapper_stops turns.Nothing stop at c m e x = absurd x
+  swapper_stops (turns.In pid) stop at c m e x =
+      stops_here A s old.kernel image stop new j (entries.SwapIn pid) ((line_asks A s c.clear).0 pid (chosen_mark A s old holds image (turns.In pid) at m e)) x
+  swapper_stops (turns.Out pid) stop at c m e x =
+      out_stops pid x.0 stop at c (chosen_mark A s old holds image (turns.Out pid) at m e) x.1 x.2

@@ -58,63 +58,57 @@ IsQuietRead (Err refused) = Unit {0}
 
 -- What such a call comes to is the step.
 
-pub quiet_made : (A : Inputs) (s : State) (old new : Standing) (holds : Option (List NamedFile)) (image : SwapImage) (pid : ℕ) (now : Bool) (p : Process)
-    (x : Space) (effect : Effect) (call : SystemCall)
-    (r : Result Reply Refused) (reply : Reply) (called : Called)
-    → RunsOn A s old holds image pid now p x → IsCallOf effect call → IsCalledFor A s p x call effect r → or_fault r ≡ reply → IsQuiet reply
-    → Replied old new pid call effect.regs reply called → CallLeads A s old.kernel image x called new.kernel (Some image)
-quiet_made A s old new holds image pid now p x effect call r (Fails error) called h m c e q g =
-    subst (λ (z : Called). CallLeads A s old.kernel image x z new.kernel (Some image)) (sym g.0) (fails A s old new.kernel holds image pid now p x effect call r error h m c e g.1.step)
-quiet_made A s old new holds image pid now p x effect call r (Does after changes.Keep) called h m c e q g =
-    subst (λ (z : Called). CallLeads A s old.kernel image x z new.kernel (Some image)) (sym g.0)
-    (answers A s old new.kernel holds image pid now p x effect call r after changes.Keep old.kernel.holdings h m c (ap (replied_step A.images s.point.flat p call effect) e) tt tt refl
-    (none_asked A.swap_blocks old.kernel).0 g.1.step)
-quiet_made A s old new holds image pid now p x effect call r (Does after (changes.Reap child)) called h m c e q g =
-    subst (λ (z : Called). CallLeads A s old.kernel image x z new.kernel (Some image)) (sym g.0)
-    (answers A s old new.kernel holds image pid now p x effect call r after (changes.Reap child) old.kernel.holdings h m c (ap (replied_step A.images s.point.flat p call effect) e) tt tt refl
-    (none_asked A.swap_blocks old.kernel).0 g.1.step)
-quiet_made A s old new holds image pid now p x effect call r (Does after change) called h m c e q g = absurd q
-quiet_made A s old new holds image pid now p x effect call r (Writes []) called h m c e q g =
-    let answer : Answered old new pid call (replied effect.regs false 0) changes.Keep =
-    subst (λ (n : Standing). Answered n new pid call (replied effect.regs false 0) changes.Keep) g.1.out g.1.answer in
-    subst (λ (z : Called). CallLeads A s old.kernel image x z new.kernel (Some image)) (sym g.0)
-    (answers A s old new.kernel holds image pid now p x effect call r (replied effect.regs false 0) changes.Keep old.kernel.holdings h m c
-    (ap (replied_step A.images s.point.flat p call effect) e) tt tt refl (none_asked A.swap_blocks old.kernel).0 answer.step)
-quiet_made A s old new holds image pid now p x effect call r (Writes (byte ∷ bytes)) called h m c e q g =
-    subst (λ (z : Called). CallLeads A s old.kernel image x z new.kernel (Some image)) (sym g.0) (writes_out A s old new holds image pid now p x effect call r byte bytes h m c e g.1)
-quiet_made A s old new holds image pid now p x effect call r Waits called h m c e q g =
-    subst (λ (z : Called). CallLeads A s old.kernel image x z new.kernel (Some image)) (sym g.0) (sleeps A s old new.kernel holds image pid now p x effect call r h m c e g.1.step)
-quiet_made A s old new holds image pid now p x effect call r (Exits status) called h m c e q g = absurd q
+module _ (A : Inputs) (s : State) (old new : Standing) (holds : Option (List NamedFile)) (image : SwapImage) (pid : ℕ) (now : Bool) (p : Process) (x : Space)
+    (effect : Effect) (call : SystemCall) where
+  pub quiet_made : (r : Result Reply Refused) (reply : Reply) (called : Called)
+      → RunsOn A s old holds image pid now p x → IsCallOf effect call → IsCalledFor A s p x call effect r → or_fault r ≡ reply → IsQuiet reply
+      → Replied old new pid call effect.regs reply called → CallLeads A s old.kernel image x called new.kernel (Some image)
+  quiet_made r (Fails error) called h m c e q g =
+      subst (λ (z : Called). CallLeads A s old.kernel image x z new.kernel (Some image)) (sym g.0) (fails A s old new.kernel holds image pid now p x effect call r error h m c e g.1.step)
+  quiet_made r (Does after changes.Keep) called h m c e q g =
+      subst (λ (z : Called). CallLeads A s old.kernel image x z new.kernel (Some image)) (sym g.0)
+      (answers A s old new.kernel holds image pid now p x effect call r after changes.Keep old.kernel.holdings h m c (ap (replied_step A.images s.point.flat p call effect) e) tt tt refl
+      (none_asked A.swap_blocks old.kernel).0 g.1.step)
+  quiet_made r (Does after (changes.Reap child)) called h m c e q g =
+      subst (λ (z : Called). CallLeads A s old.kernel image x z new.kernel (Some image)) (sym g.0)
+      (answers A s old new.kernel holds image pid now p x effect call r after (changes.Reap child) old.kernel.holdings h m c (ap (replied_step A.images s.point.flat p call effect) e) tt tt refl
+      (none_asked A.swap_blocks old.kernel).0 g.1.step)
+  quiet_made r (Does after change) called h m c e q g = absurd q
+  quiet_made r (Writes []) called h m c e q g =
+      let answer : Answered old new pid call (replied effect.regs false 0) changes.Keep =
+      subst (λ (n : Standing). Answered n new pid call (replied effect.regs false 0) changes.Keep) g.1.out g.1.answer in
+      subst (λ (z : Called). CallLeads A s old.kernel image x z new.kernel (Some image)) (sym g.0)
+      (answers A s old new.kernel holds image pid now p x effect call r (replied effect.regs false 0) changes.Keep old.kernel.holdings h m c
+      (ap (replied_step A.images s.point.flat p call effect) e) tt tt refl (none_asked A.swap_blocks old.kernel).0 answer.step)
+  quiet_made r (Writes (byte ∷ bytes)) called h m c e q g =
+      subst (λ (z : Called). CallLeads A s old.kernel image x z new.kernel (Some image)) (sym g.0) (writes_out A s old new holds image pid now p x effect call r byte bytes h m c e g.1)
+  quiet_made r Waits called h m c e q g =
+      subst (λ (z : Called). CallLeads A s old.kernel image x z new.kernel (Some image)) (sym g.0) (sleeps A s old new.kernel holds image pid now p x effect call r h m c e g.1.step)
+  quiet_made r (Exits status) called h m c e q g = absurd q
 
--- where a byte misses nothing was done, and the process waits for its page
-missed : (A : Inputs) (s : State) (old new : Standing) (holds : Option (List NamedFile)) (image : SwapImage) (pid : ℕ) (now : Bool) (p : Process) (x : Space)
-    (effect : Effect) (call : SystemCall)
-    (address : ℕ) (write : Bool) (called : Called)
-    → RunsOn A s old holds image pid now p x → MakesCall old p x effect call
-    → run (kernel_answers old.kernel x.sid) (reply_asked A.images s.point.flat p x call effect) ≡ Err (Miss address write)
-    → Comes old new pid call effect.regs (Err (Miss address write)) called → CallLeads A s old.kernel image x called new.kernel (Some image)
-missed A s old new holds image pid now p x effect call address write called h m e g =
-    let reads : write ≡ false =
-    missed_read (kernel_answers old.kernel x.sid) (reply_asked A.images s.point.flat p x call effect) address write (call_reads A.images _ _ _ call effect.regs) e in
-    let wants : WantsPage A s old.kernel x address write = call_wanted A s old.kernel image pid now p x effect call address write h.machine.at h.running m.made m.names e in
-    subst (λ (z : Called). CallLeads A s old.kernel image x z new.kernel (Some image)) (sym g.0)
-    (ap (λ (n : Standing). n.kernel) g.1, refl, subst (WantsPage A s old.kernel x address) reads wants)
+  -- where a byte misses nothing was done, and the process waits for its page
+  missed : (address : ℕ) (write : Bool) (called : Called) → RunsOn A s old holds image pid now p x → MakesCall old p x effect call
+      → run (kernel_answers old.kernel x.sid) (reply_asked A.images s.point.flat p x call effect) ≡ Err (Miss address write)
+      → Comes old new pid call effect.regs (Err (Miss address write)) called → CallLeads A s old.kernel image x called new.kernel (Some image)
+  missed address write called h m e g =
+      let reads : write ≡ false =
+      missed_read (kernel_answers old.kernel x.sid) (reply_asked A.images s.point.flat p x call effect) address write (call_reads A.images _ _ _ call effect.regs) e in
+      let wants : WantsPage A s old.kernel x address write = call_wanted A s old.kernel image pid now p x effect call address write h.machine.at h.running m.made m.names e in
+      subst (λ (z : Called). CallLeads A s old.kernel image x z new.kernel (Some image)) (sym g.0)
+      (ap (λ (n : Standing). n.kernel) g.1, refl, subst (WantsPage A s old.kernel x address) reads wants)
 
-pub comes_made : (A : Inputs) (s : State) (old new : Standing) (holds : Option (List NamedFile)) (image : SwapImage) (pid : ℕ) (now : Bool) (p : Process)
-    (x : Space) (effect : Effect) (call : SystemCall)
-    (r : Result Reply Refused) (called : Called)
-    → RunsOn A s old holds image pid now p x → MakesCall old p x effect call
-    → run (kernel_answers old.kernel x.sid) (reply_asked A.images s.point.flat p x call effect) ≡ r → IsQuietRead r
-    → Comes old new pid call effect.regs r called → CallLeads A s old.kernel image x called new.kernel (Some image)
-comes_made A s old new holds image pid now p x effect call (Ok reply) called h m e q g =
-    quiet_made A s old new holds image pid now p x effect call (Ok reply) reply called h m.names (ready A s old holds image pid now p x effect call (Ok reply) h m e tt) refl q g
-comes_made A s old new holds image pid now p x effect call (Err (Miss address write)) called h m e q g = missed A s old new holds image pid now p x effect call address write called h m e g
-comes_made A s old new holds image pid now p x effect call (Err (Below address)) called h m e q g =
-    quiet_made A s old new holds image pid now p x effect call (Err (Below address)) (Fails bad_address) called h m.names
-    (ready A s old holds image pid now p x effect call (Err (Below address)) h m e tt) refl tt g
-comes_made A s old new holds image pid now p x effect call (Err (Signal number)) called h m e q g =
-    quiet_made A s old new holds image pid now p x effect call (Err (Signal number)) (Fails bad_address) called h m.names
-    (ready A s old holds image pid now p x effect call (Err (Signal number)) h m e tt) refl tt g
+  pub comes_made : (r : Result Reply Refused) (called : Called) → RunsOn A s old holds image pid now p x → MakesCall old p x effect call
+      → run (kernel_answers old.kernel x.sid) (reply_asked A.images s.point.flat p x call effect) ≡ r → IsQuietRead r
+      → Comes old new pid call effect.regs r called → CallLeads A s old.kernel image x called new.kernel (Some image)
+  comes_made (Ok reply) called h m e q g =
+      quiet_made (Ok reply) reply called h m.names (ready A s old holds image pid now p x effect call (Ok reply) h m e tt) refl q g
+  comes_made (Err (Miss address write)) called h m e q g = missed address write called h m e g
+  comes_made (Err (Below address)) called h m e q g =
+      quiet_made (Err (Below address)) (Fails bad_address) called h m.names
+      (ready A s old holds image pid now p x effect call (Err (Below address)) h m e tt) refl tt g
+  comes_made (Err (Signal number)) called h m e q g =
+      quiet_made (Err (Signal number)) (Fails bad_address) called h m.names
+      (ready A s old holds image pid now p x effect call (Err (Signal number)) h m e tt) refl tt g
 
 -- Where the run stops before the step's first entry.
 

@@ -55,53 +55,46 @@ pub record IsRefusal (A : Inputs) (s : State) (old : Standing) (holds : Option (
   pub running : RunsInSpace A (after A s (entries.Refused pid)) pid now p x
   pub unwanted : wanted A (after A s (entries.Refused pid)) ≡ None
 
--- any step whose pieces find no place
-pub refusal : (A : Inputs) (s : State) (old : Standing) (holds : Option (List NamedFile)) (image : SwapImage) (pid : ℕ) (now : Bool) (p : Process)
-    (x : Space) (step : Step)
-    → RunsOn A s old holds image pid now p x → wanted A s ≡ None → step_at A s.point pid ≡ step
-    → is_ok (place_all A.swap_blocks old.kernel.holdings (asked (facts_of A.images) old.kernel pid step.change)) ≡ false
-    → IsRefusal A s old holds image pid now p x
-refusal A s old holds image pid now p x step h w is f =
-    let k : Kernel = old.kernel in
-    let u : Entry = entries.Refused pid in
-    let l : Kernel = note_step k u in
-    let t : State = after A s u in
-    let led : Leads A s k image (u ∷ []) t l (Some image) =
-    entry_leads A s k l image pid now u h.running.runs w (refuses A s k image pid now p x step h.machine.at h.running h.between is f) (note_made A s k l image u tt refl) in
-    let waits : StepWaits A s u t = refusal_waits A s pid in
-    record {
-      leads = led;
-      waits = waits;
-      machine = record { at = leads_at A s t k l image image (u ∷ []) h.machine.at led; images = h.machine.images; blocks = h.machine.blocks };
-      running = running_same A s t u pid now p x waits h.running;
-      unwanted = wanted_same A s t u h.running.runs.clear waits ∙ w;
-    }
+module _ (A : Inputs) (s : State) (old : Standing) (holds : Option (List NamedFile)) (image : SwapImage) (pid : ℕ) (now : Bool) (p : Process) (x : Space) where
+  -- any step whose pieces find no place
+  pub refusal : (step : Step) → RunsOn A s old holds image pid now p x → wanted A s ≡ None → step_at A s.point pid ≡ step
+      → is_ok (place_all A.swap_blocks old.kernel.holdings (asked (facts_of A.images) old.kernel pid step.change)) ≡ false
+      → IsRefusal A s old holds image pid now p x
+  refusal step h w is f =
+      let k : Kernel = old.kernel in
+      let u : Entry = entries.Refused pid in
+      let l : Kernel = note_step k u in
+      let t : State = after A s u in
+      let led : Leads A s k image (u ∷ []) t l (Some image) =
+      entry_leads A s k l image pid now u h.running.runs w (refuses A s k image pid now p x step h.machine.at h.running h.between is f) (note_made A s k l image u tt refl) in
+      let waits : StepWaits A s u t = refusal_waits A s pid in
+      record {
+        leads = led;
+        waits = waits;
+        machine = record { at = leads_at A s t k l image image (u ∷ []) h.machine.at led; images = h.machine.images; blocks = h.machine.blocks };
+        running = running_same A s t u pid now p x waits h.running;
+        unwanted = wanted_same A s t u h.running.runs.clear waits ∙ w;
+      }
 
--- the pieces of a call
-pub call_refusal : (A : Inputs) (s : State) (old : Standing) (holds : Option (List NamedFile)) (image : SwapImage) (pid : ℕ) (now : Bool) (p : Process)
-    (x : Space)
-    (effect : Effect) (call : SystemCall)
-    (r : Result Reply Refused) (regs : Regs) (change : Change)
-    → RunsOn A s old holds image pid now p x → IsCallOf effect call → IsCalledFor A s p x call effect r → or_fault r ≡ Does regs change
-    → is_ok (place_all A.swap_blocks old.kernel.holdings (asked (facts_of A.images) old.kernel pid change)) ≡ false → IsRefusal A s old holds image pid now p x
-call_refusal A s old holds image pid now p x effect call r regs change h m c e f =
-    let step : Step = replied_step A.images s.point.flat p call effect (Does regs change) in
-    refusal A s old holds image pid now p x step h c.unwanted (called_step A s pid now p x effect call r h.running h.between m c ∙ ap (replied_step A.images s.point.flat p call effect) e) f
+  -- the pieces of a call
+  pub call_refusal : (effect : Effect) (call : SystemCall) (r : Result Reply Refused) (regs : Regs) (change : Change) → RunsOn A s old holds image pid now p x
+      → IsCallOf effect call → IsCalledFor A s p x call effect r → or_fault r ≡ Does regs change
+      → is_ok (place_all A.swap_blocks old.kernel.holdings (asked (facts_of A.images) old.kernel pid change)) ≡ false
+      → IsRefusal A s old holds image pid now p x
+  call_refusal effect call r regs change h m c e f =
+      let step : Step = replied_step A.images s.point.flat p call effect (Does regs change) in
+      refusal step h c.unwanted (called_step A s pid now p x effect call r h.running h.between m c ∙ ap (replied_step A.images s.point.flat p call effect) e) f
 
--- after it the step is the failure of the call
-pub failing_step : (A : Inputs) (s : State) (old : Standing) (holds : Option (List NamedFile)) (image : SwapImage) (pid : ℕ) (now : Bool) (p : Process)
-    (x : Space)
-    (effect : Effect) (call : SystemCall)
-    (r : Result Reply Refused) (regs : Regs) (change : Change)
-    → IsCallOf effect call → IsCalledFor A s p x call effect r → or_fault r ≡ Does regs change → wants_space change ≡ true
-    → IsRefusal A s old holds image pid now p x
-    → step_at A (after A s (entries.Refused pid)).point pid ≡ replied_step A.images s.point.flat p call effect (Fails no_memory)
-failing_step A s old holds image pid now p x effect call r regs change m c e wants h =
-    let t : State = after A s (entries.Refused pid) in
-    refused_step A t pid now p x effect call r h.running h.waits.last m (called_on A s t p x effect call r h.waits.flat h.unwanted c)
-    ∙ ap (λ (F : FlatState). replied_step A.images F p call effect (refused_reply true (or_fault r))) h.waits.flat
-    ∙ ap (λ (y : Reply). replied_step A.images s.point.flat p call effect (refused_reply true y)) e
-    ∙ ap (λ (b : Bool). replied_step A.images s.point.flat p call effect (unless_refused b (Does regs change))) wants
+  -- after it the step is the failure of the call
+  pub failing_step : (effect : Effect) (call : SystemCall) (r : Result Reply Refused) (regs : Regs) (change : Change) → IsCallOf effect call
+      → IsCalledFor A s p x call effect r → or_fault r ≡ Does regs change → wants_space change ≡ true → IsRefusal A s old holds image pid now p x
+      → step_at A (after A s (entries.Refused pid)).point pid ≡ replied_step A.images s.point.flat p call effect (Fails no_memory)
+  failing_step effect call r regs change m c e wants h =
+      let t : State = after A s (entries.Refused pid) in
+      refused_step A t pid now p x effect call r h.running h.waits.last m (called_on A s t p x effect call r h.waits.flat h.unwanted c)
+      ∙ ap (λ (F : FlatState). replied_step A.images F p call effect (refused_reply true (or_fault r))) h.waits.flat
+      ∙ ap (λ (y : Reply). replied_step A.images s.point.flat p call effect (refused_reply true y)) e
+      ∙ ap (λ (b : Bool). replied_step A.images s.point.flat p call effect (unless_refused b (Does regs change))) wants
 
 module _ (A : Inputs) (s : State) (old : Standing) (holds : Option (List NamedFile)) (image : SwapImage) (pid : ℕ) (now : Bool) (p : Process) (x : Space)
     (effect : Effect) (call : SystemCall)

@@ -39,9 +39,10 @@ use Rattle.run_units.specs.Stepping.{with_holdings, PassesNone}
 use Rattle.run_units.specs.Touching.{RunsInSpace, IsAnswered, IsCalledFor}
 use Rattle.run_units.proofs.Instructing.{call_ready}
 use Rattle.run_units.proofs.Stepping.{call_known, none_asked}
+use Rattle.run_units.proofs.Acting.{between_refused}
 use Rattle.step_units.specs.Machines.{RunsOn, MakesCall}
 use Rattle.step_units.specs.Stepped.{StepLeads}
-use Rattle.step_units.proofs.Begun.{unrefused, is_refused_by, none_lost}
+use Rattle.step_units.proofs.Begun.{is_refused_by, none_lost}
 use Rattle.step_units.proofs.Behind.{KeepsDue}
 use Rattle.step_units.proofs.Entering.{complete_leads, enters}
 
@@ -88,7 +89,7 @@ pub called_step : (A : Inputs) (s : State) (pid : ℕ) (now : Bool) (p : Process
     → step_at A s.point pid ≡ replied_step A.images s.point.flat p call effect (or_fault r)
 called_step A s pid now p x effect call r i b m h =
     call_known A s pid now p x effect call r i m h
-    ∙ ap (λ (z : Bool). replied_step A.images s.point.flat p call effect (refused_reply z (or_fault r))) (unrefused s.point.last pid b)
+    ∙ ap (λ (z : Bool). replied_step A.images s.point.flat p call effect (refused_reply z (or_fault r))) (between_refused s.point.last pid b)
 
 -- after the entry that says that its pieces found no place
 pub refused_step : (A : Inputs) (s : State) (pid : ℕ) (now : Bool) (p : Process) (x : Space) (effect : Effect) (call : SystemCall) (r : Result Reply Refused)
@@ -100,50 +101,42 @@ refused_step A s pid now p x effect call r i l m h =
 
 -- Answers.
 
--- A call that answers, and makes a change with which no space passes and behind which no page is due, is the step, where no space
--- has to settle.
-pub answers_settled : (A : Inputs) (s : State) (old : Standing) (l : Kernel) (holds : Option (List NamedFile)) (image : SwapImage) (pid : ℕ) (now : Bool)
-    (p : Process) (x : Space) (effect : Effect)
-    (call : SystemCall)
-    (r : Result Reply Refused) (after : Regs) (change : Change) (found : Holdings)
-    → RunsOn A s old holds image pid now p x → IsCallOf effect call → IsCalledFor A s p x call effect r
-    → replied_step A.images s.point.flat p call effect (or_fault r) ≡ replied_step A.images s.point.flat p call effect (Does after change)
-    → PassesNone change → KeepsDue change → must_settle A s pid ≡ false
-    → place_all A.swap_blocks old.kernel.holdings (asked (facts_of A.images) old.kernel pid change) ≡ Ok found
-    → l ≡ change_step (facts_named old.images) (with_holdings old.kernel found) pid after (call_entry pid call after) change
-    → StepLeads A s old.kernel image 1 l (Some image)
-answers_settled A s old l holds image pid now p x effect call r after change found h m c e passes dues settles f made =
-    let step : Step = replied_step A.images s.point.flat p call effect (Does after change) in
-    let is : step_at A s.point pid ≡ step = called_step A s pid now p x effect call r h.running h.between m c ∙ e in
-    let u : Entry = call_entry pid call after in
-    complete_leads A s old.kernel l image pid u
-    (enters A s old l holds image pid now p x step u found h c.unwanted settles refl is
-    (ap (λ (n : ℕ). call_entry n call after ∷ []) (found_at s.point.flat pid p h.running.here).0) c.writes passes dues f made)
+module _ (A : Inputs) (s : State) (old : Standing) (l : Kernel) (holds : Option (List NamedFile)) (image : SwapImage) (pid : ℕ) (now : Bool) (p : Process)
+    (x : Space) (effect : Effect) (call : SystemCall) (r : Result Reply Refused) where
+  -- A call that answers, and makes a change with which no space passes and behind which no page is due, is the step, where no space
+  -- has to settle.
+  pub answers_settled : (after : Regs) (change : Change) (found : Holdings) → RunsOn A s old holds image pid now p x → IsCallOf effect call
+      → IsCalledFor A s p x call effect r
+      → replied_step A.images s.point.flat p call effect (or_fault r) ≡ replied_step A.images s.point.flat p call effect (Does after change) → PassesNone change
+      → KeepsDue change → must_settle A s pid ≡ false → place_all A.swap_blocks old.kernel.holdings (asked (facts_of A.images) old.kernel pid change) ≡ Ok found
+      → l ≡ change_step (facts_named old.images) (with_holdings old.kernel found) pid after (call_entry pid call after) change
+      → StepLeads A s old.kernel image 1 l (Some image)
+  answers_settled after change found h m c e passes dues settles f made =
+      let step : Step = replied_step A.images s.point.flat p call effect (Does after change) in
+      let is : step_at A s.point pid ≡ step = called_step A s pid now p x effect call r h.running h.between m c ∙ e in
+      let u : Entry = call_entry pid call after in
+      complete_leads A s old.kernel l image pid u
+      (enters A s old l holds image pid now p x step u found h c.unwanted settles refl is
+      (ap (λ (n : ℕ). call_entry n call after ∷ []) (found_at s.point.flat pid p h.running.here).0) c.writes passes dues f made)
 
--- the same where the step gives up no space and drops no page
-pub answers : (A : Inputs) (s : State) (old : Standing) (l : Kernel) (holds : Option (List NamedFile)) (image : SwapImage) (pid : ℕ) (now : Bool) (p : Process)
-    (x : Space) (effect : Effect)
-    (call : SystemCall)
-    (r : Result Reply Refused) (after : Regs) (change : Change) (found : Holdings)
-    → RunsOn A s old holds image pid now p x → IsCallOf effect call → IsCalledFor A s p x call effect r
-    → replied_step A.images s.point.flat p call effect (or_fault r) ≡ replied_step A.images s.point.flat p call effect (Does after change)
-    → PassesNone change → KeepsDue change → loses_pages x (is_borrower s.point.flat.processes pid) change ≡ false
-    → place_all A.swap_blocks old.kernel.holdings (asked (facts_of A.images) old.kernel pid change) ≡ Ok found
-    → l ≡ change_step (facts_named old.images) (with_holdings old.kernel found) pid after (call_entry pid call after) change
-    → StepLeads A s old.kernel image 1 l (Some image)
-answers A s old l holds image pid now p x effect call r after change found h m c e passes dues loses f made =
-    answers_settled A s old l holds image pid now p x effect call r after change found h m c e passes dues
-    (none_lost A s pid now p x (replied_step A.images s.point.flat p call effect (Does after change)) h.running (called_step A s pid now p x effect call r h.running h.between m c ∙ e) loses) f made
+  -- the same where the step gives up no space and drops no page
+  pub answers : (after : Regs) (change : Change) (found : Holdings)
+      → RunsOn A s old holds image pid now p x → IsCallOf effect call → IsCalledFor A s p x call effect r
+      → replied_step A.images s.point.flat p call effect (or_fault r) ≡ replied_step A.images s.point.flat p call effect (Does after change)
+      → PassesNone change → KeepsDue change → loses_pages x (is_borrower s.point.flat.processes pid) change ≡ false
+      → place_all A.swap_blocks old.kernel.holdings (asked (facts_of A.images) old.kernel pid change) ≡ Ok found
+      → l ≡ change_step (facts_named old.images) (with_holdings old.kernel found) pid after (call_entry pid call after) change
+      → StepLeads A s old.kernel image 1 l (Some image)
+  answers after change found h m c e passes dues loses f made =
+      answers_settled after change found h m c e passes dues
+      (none_lost A s pid now p x (replied_step A.images s.point.flat p call effect (Does after change)) h.running (called_step A s pid now p x effect call r h.running h.between m c ∙ e) loses) f made
 
--- a call that fails
-pub fails : (A : Inputs) (s : State) (old : Standing) (l : Kernel) (holds : Option (List NamedFile)) (image : SwapImage) (pid : ℕ) (now : Bool) (p : Process)
-    (x : Space) (effect : Effect)
-    (call : SystemCall)
-    (r : Result Reply Refused) (error : ℕ)
-    → RunsOn A s old holds image pid now p x → IsCallOf effect call → IsCalledFor A s p x call effect r → or_fault r ≡ Fails error
-    → l ≡ change_step (facts_named old.images) old.kernel pid (replied effect.regs true error)
-    (call_entry pid call (replied effect.regs true error)) changes.Keep
-    → StepLeads A s old.kernel image 1 l (Some image)
-fails A s old l holds image pid now p x effect call r error h m c e made =
-    answers A s old l holds image pid now p x effect call r (replied effect.regs true error) changes.Keep old.kernel.holdings h m c
-    (ap (replied_step A.images s.point.flat p call effect) e) tt tt refl (none_asked A.swap_blocks old.kernel).0 made
+  -- a call that fails
+  pub fails : (error : ℕ)
+      → RunsOn A s old holds image pid now p x → IsCallOf effect call → IsCalledFor A s p x call effect r → or_fault r ≡ Fails error
+      → l ≡ change_step (facts_named old.images) old.kernel pid (replied effect.regs true error)
+      (call_entry pid call (replied effect.regs true error)) changes.Keep
+      → StepLeads A s old.kernel image 1 l (Some image)
+  fails error h m c e made =
+      answers (replied effect.regs true error) changes.Keep old.kernel.holdings h m c
+      (ap (replied_step A.images s.point.flat p call effect) e) tt tt refl (none_asked A.swap_blocks old.kernel).0 made

@@ -29,6 +29,7 @@ use Rattle.run_units.proofs.RunLawsStepping.{touched_out}
 use Rattle.run_units.specs.Stretch.{begins_stretch, IsClosing}
 use Rattle.run_units.proofs.Closing.{Closes, Fill, Bring, CopyIt, Serve, Act, In, closes, stays_closing, no_event}
 use Rattle.run_units.specs.Leads.{Leads}
+use Rattle.run_units.proofs.Serving.{not_out}
 
 -- Who leaves.
 
@@ -124,13 +125,6 @@ out_before A s (entries.SwapIn p) n f e = paging_out (locked A s) (place_at s (e
 out_before A s (entries.Owners a b m d) n f e = e
 
 -- Who is in stays in.
-
-not_out : (p q : Placement) (n : ℕ) → (is_out q n ≡ true → is_out p n ≡ true) → is_out p n ≡ false → is_out q n ≡ false
-not_out p q n f h = go (is_out q n) refl
-  where
-    go : (b : Bool) → is_out q n ≡ b → b ≡ false
-    go false e = refl
-    go true e = let k = sym h ∙ f e in cc
 
 all_stay_in : (A : Inputs) (us : List Entry) (s t : State) (k l : Kernel) (image behind : SwapImage) (pid n : ℕ) → IsClosing A s pid
     → MakesSwap A s k image us t l behind

@@ -3,7 +3,6 @@ use Rattle.std.proofs.Common.{◌≡◌, ℕ, ◌+◌, ◌<◌, ◌≤◌, Bool,
 use Rattle.vm_facts.specs.SwapImages.{SwapImage}
 use Rattle.io_edge.specs.FileHolding.{NamedFile}
 use Rattle.vm_facts.specs.declared.entry.Entry.{Entry}
-use Rattle.vm_facts.specs.declared.entry.Entry.TheVariants as entries
 use Rattle.vm_facts.specs.declared.page.Page.{Page}
 use Rattle.vm_facts.specs.declared.page.PageState.{PageState}
 use Rattle.vm_facts.specs.declared.page.PageState.TheVariants.{Unfilled, Valid, Invalid, Coming, Going, OnSwap}
@@ -17,11 +16,10 @@ use Rattle.page_model.specs.Serve.{serve_unit, is_full, Serving, serving_by, uni
 use Rattle.kernel_model.specs.Kernel.{Kernel}
 use Rattle.kernel_model.specs.ChangeStep.{space_of_life, life_of_proc}
 use Rattle.kernel_laws.proofs.Machine.Processes.{Stepping, stepping}
-use Rattle.kernel_model.specs.Requests.{ImageFile}
 use Rattle.machine_state.specs.Sourced.{files_named}
 use Rattle.machine_state.specs.Machine.{Standing}
 use Rattle.swapper.specs.Made.{Ground, ground}
-use Rattle.swapper.specs.Stops.{StopsAt, SpoilsBy}
+use Rattle.swapper.specs.Stops.{StopsAt}
 use Rattle.proc_calls.specs.Growth.{space_of_pid}
 use Rattle.proc_calls.specs.Serving.{ServesTo, StopsServing}
 use Rattle.proc_calls.specs.Touches.{TouchedAs, TouchedNow, StopsAtPage}
@@ -45,6 +43,7 @@ use Rattle.run_units.proofs.Units.{leads_at}
 use Rattle.step_units.specs.Machines.{MachineAt}
 use Rattle.step_units.specs.Stepped.{StepLeads, MarkEnds, StopsBy, StopLeads}
 use Rattle.page_laws.proofs.Moves.Cases.{frameless_not, serving_starved}
+use Rattle.step_units.proofs.Leading.{none_spoiled}
 
 -- The space that the machine has for a process is the one that the process holds.
 pub same_space : (A : Inputs) (s : State) (k : Kernel) (image : SwapImage) (pid : ℕ) (now : Bool) (p : Process) (x : Space) → At A s k image
@@ -206,17 +205,11 @@ page_leads_now A s old new holds image j pid before q answer w h = go answer h
 
 -- Stops.
 
--- for want of memory no unit changes the swap image
-unspoiled : (files : List ImageFile) (e : Entry) (k : Kernel) (i j : Option SwapImage) → SpoilsBy files e stops.NoMemory k i j → j ≡ i
-unspoiled files (entries.SwapOut pid) k i j h = h
-unspoiled files entries.Done k i j h = h
-unspoiled files _ k i j h = h
-
 -- a stop where a unit of the run comes next
 pub stops_by : (A : Inputs) (t : State) (k : Kernel) (behind : SwapImage) (stop : Stop) (entry : Entry) (new : Standing) (j : Option SwapImage)
     → next_unit A t ≡ Some entry
     → StopsAt entry k (Some behind) stop new j → StopsBy A t k behind stop new j
-stops_by A t k behind stops.NoMemory entry new j n s = unspoiled (files_named new.images) entry k (Some behind) j s.image
+stops_by A t k behind stops.NoMemory entry new j n s = none_spoiled (files_named new.images) entry k (Some behind) j s.image
 stops_by A t k behind stops.JournalFull entry new j n s = record { entry = entry; next = n; full = s.full.0; cause = s.cause; spoils = s.image }
 stops_by A t k behind stops.FileFault entry new j n s = record { entry = entry; next = n; full = s.full.0; cause = s.cause; spoils = s.image }
 stops_by A t k behind stops.SwapReadFault entry new j n s = record { entry = entry; next = n; full = s.full.0; cause = s.cause; spoils = s.image }

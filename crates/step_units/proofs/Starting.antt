@@ -1,22 +1,19 @@
 -- An execve whose pieces are found is the process's step.
-use Rattle.std.proofs.Common.{◌≡◌, ℕ, ◌*◌, List, [], ◌∷◌, ◌++◌, length, Option, Some, None, refl, sym, ap, ◌∙◌, inl, ◌+◌, Bool, true, false, Result, Ok, subst}
-use Rattle.vm_facts.specs.declared.page.Page.TheVariants.{Text, Stack}
+use Rattle.std.proofs.Common.{◌≡◌, ℕ, List, [], ◌∷◌, ◌++◌, Option, Some, refl, sym, ap, ◌∙◌, inl, ◌+◌, Bool, true, false, Result, Ok, subst}
+use Rattle.vm_facts.specs.declared.page.Page.TheVariants.{Stack}
 use Rattle.vm_facts.specs.declared.params.Params.{Params}
 use Rattle.aout_image.specs.declared.Image.{Image}
-use Rattle.aout_image.specs.Image.{image_data_pages}
-use Rattle.swap_dmap.specs.Chunks.{pieces}
-use Rattle.swap_book.specs.declared.Owner.TheVariants as owners
 use Rattle.swap_book.specs.Holdings.{Holdings}
-use Rattle.swap_book.specs.Placing.{Wanted, wanted, place_all}
-use Rattle.page_model.specs.Placement.{sharers, slots_of, Placement, Due, Start}
+use Rattle.swap_book.specs.Placing.{place_all}
+use Rattle.page_model.specs.Placement.{Placement, Due, Start}
 use Rattle.page_model.specs.Place.{facts_numbered, facts_of, space_of_process, enter_image, place_step}
 use Rattle.kernel_model.specs.Kernel.{Kernel}
-use Rattle.kernel_model.specs.Asks.{text_asked, image_asked, asked}
+use Rattle.kernel_model.specs.Asks.{image_asked, asked}
 use Rattle.machine_state.specs.Applying.{facts_named}
 use Rattle.machine_state.specs.Machine.{Standing}
 use Rattle.machine_state.specs.Sourced.{ImageNamed}
 use Rattle.proc_calls.specs.Starting.{image_wanted, image_found, LeavesFor, HasStarted}
-use Rattle.proc_calls.proofs.Starts.{StaysFor, IsReady}
+use Rattle.proc_calls.proofs.Starts.{IsReady}
 use Rattle.std.specs.Prelude.{is_ok}
 use Rattle.vm_facts.specs.SwapImages.{SwapImage}
 use Rattle.io_edge.specs.FileHolding.{NamedFile}
@@ -48,13 +45,14 @@ use Rattle.machine_state.specs.UserMemory.{kernel_answers}
 use Rattle.run_model.specs.State.{State}
 use Rattle.run_model.specs.After.{after, place_at, place_behind}
 use Rattle.run_model.specs.Snapshot.{pages_written}
+use Rattle.proc_calls.proofs.Spaces.{wanted_stays}
 use Rattle.run_units.proofs.Acts.{arrives}
 use Rattle.run_units.proofs.Execs.{execs_fit}
 use Rattle.run_units.specs.Leads.{MadeAs, Leads}
 use Rattle.run_units.specs.Stepping.{GivesBack, returned, with_holdings}
 use Rattle.run_units.specs.Touching.{IsCalledFor}
+use Rattle.run_units.proofs.Acting.{between_refused}
 use Rattle.step_units.specs.Machines.{RunsOn, MakesCall}
-use Rattle.step_units.proofs.Begun.{unrefused}
 use Rattle.step_units.proofs.Settles.{none_refused}
 use Rattle.step_units.proofs.Behind.{StepEnds, step_ends}
 use Rattle.step_units.proofs.Entering.{headers, entry_leads, leads_both}
@@ -62,24 +60,11 @@ use Rattle.step_units.proofs.Replying.{ready, called_step}
 use Rattle.step_units.proofs.Tables.{IsKept, is_kept}
 use Rattle.step_units.proofs.Leaving.{GivesUp, Left, has_left, step_stays, due_left, left_acts, left_made}
 
-asked_back : (k l : Kernel) (sid image : ℕ) (o : Option Image) → StaysFor k l → image_asked l.place sid image o ≡ image_asked k.place sid image o
-asked_back k l sid image None r = refl
-asked_back k l sid image (Some facts) r =
-    let rest : List Wanted = wanted (owners.Data sid) (pieces (2 * image_data_pages facts)) ++ wanted (owners.Stack sid) (pieces 2) in
-    ap (λ (n : ℕ). text_asked n image (2 * length (slots_of l.place (Text image 0))) ++ rest) (r.sharing image)
-    ∙ ap (λ (n : ℕ). text_asked (sharers k.place image) image (2 * n) ++ rest) (r.texts image)
-
-wanted_back : (m n : Standing) (image : ℕ) → IsReady m n → image_wanted n image ≡ image_wanted m image
-wanted_back m n image r =
-    ap (λ (ns : List ImageNamed). image_asked n.kernel.place n.kernel.next_sid image (facts_numbered (facts_named ns) image)) r.images
-    ∙ ap (λ (sid : ℕ). image_asked n.kernel.place sid image (facts_numbered (facts_named m.images) image)) r.kernel.number
-    ∙ asked_back m.kernel n.kernel m.kernel.next_sid image (facts_numbered (facts_named m.images) image) r.kernel
-
 pub found_back : (m n : Standing) (image : ℕ) → IsReady m n → image_found image n ≡ image_found image m
 found_back m n image r =
     ap (λ (p : Params). place_all p.swap_blocks n.kernel.holdings (image_wanted n image)) r.params
     ∙ ap (λ (hs : Holdings). place_all m.params.swap_blocks hs (image_wanted n image)) r.kernel.holdings
-    ∙ ap (place_all m.params.swap_blocks m.kernel.holdings) (wanted_back m n image r)
+    ∙ ap (place_all m.params.swap_blocks m.kernel.holdings) (wanted_stays m n image r)
 
 -- after a new image its stack page is due
 exec_due : (facts : List Image) (flat : FlatState) (pid at : ℕ) (written : List Page) (number : ℕ) (top : List ℕ) (q : Placement) (image : Image)
@@ -145,7 +130,7 @@ module _ (A : Inputs) (s : State) (old : Standing) (holds : Option (List NamedFi
     running = on.running;
     unwanted = exec_called.unwanted;
     fits =
-        none_refused A s old.kernel image pid now p x step on.machine.at on.running (unrefused s.point.last pid on.between) exec_step
+        none_refused A s old.kernel image pid now p x step on.machine.at on.running (between_refused s.point.last pid on.between) exec_step
         (ap (λ (r : Result Holdings ℕ). is_ok r) (sym (pieces_same A s old holds image pid number top on.machine)) ∙ ok);
     gives = subst (λ (z : Step). GivesBack z.change) (sym exec_step) tt;
   }

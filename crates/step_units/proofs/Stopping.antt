@@ -1,5 +1,5 @@
 -- Where a run stops, the unit that comes next is known.
-use Rattle.std.proofs.Common.{◌≡◌, ◌⊎◌, ℕ, ◌<◌, ◌≤◌, List, [], ◌∷◌, ◌++◌, length, Option, Some, refl, sym, ap, subst, arith, length-append}
+use Rattle.std.proofs.Common.{◌≡◌, ◌⊎◌, ℕ, ◌<◌, ◌≤◌, List, [], length, Option, Some, refl, sym, ap, subst}
 use Rattle.vm_facts.specs.SwapImages.{SwapImage}
 use Rattle.vm_facts.specs.declared.entry.Entry.{Entry}
 use Rattle.vm_facts.specs.declared.entry.Entry.TheVariants as entries
@@ -20,17 +20,14 @@ use Rattle.run_units.specs.Machine.{IsJournalEntry}
 use Rattle.run_units.specs.Leads.{Leads}
 use Rattle.run_units.proofs.Units.{none_leads}
 use Rattle.step_units.specs.Stepped.{StopsNext, StopsBy, StopLeads}
+use Rattle.step_units.proofs.Leading.{none_spoiled}
+use Rattle.step_units.proofs.Entering.{longer}
 
 -- At a unit that a call names.
 
-same_image : (files : List ImageFile) (e : Entry) (k : Kernel) (i j : Option SwapImage) → SpoilsBy files e stops.NoMemory k i j → j ≡ i
-same_image files entries.Done k i j h = h
-same_image files (entries.SwapOut pid) k i j h = h
-same_image files _ k i j h = h
-
 pub stops_by : (A : Inputs) (t : State) (k : Kernel) (image : SwapImage) (stop : Stop) (new : Standing) (j : Option SwapImage)
     → StopsNext A t k image stop new j → StopsBy A t k image stop new j
-stops_by A t k image stops.NoMemory new j n = same_image (files_named new.images) n.entry k (Some image) j n.spoils
+stops_by A t k image stops.NoMemory new j n = none_spoiled (files_named new.images) n.entry k (Some image) j n.spoils
 stops_by A t k image _ new j n = n
 
 -- units lead to where this one is next, and there the run stopped
@@ -54,15 +51,12 @@ stops_here A s k image stop new j e n at = stops_behind A s s k k image image []
 
 -- At an entry that goes into the journal alone.
 
-pub one_longer : (journal : List Entry) (e : Entry) → length journal < length (journal ++ e ∷ [])
-one_longer journal e = let n = length-append journal (e ∷ []) in omega arith
-
 note_longer : (e : Entry) (journal : List Entry) → IsJournalEntry e → length journal < length (append journal e)
-note_longer (entries.Event line) journal h = one_longer journal (entries.Event line)
-note_longer (entries.Turn pid) journal h = one_longer journal (entries.Turn pid)
-note_longer (entries.Out pid bytes) journal h = one_longer journal (entries.Out pid bytes)
-note_longer (entries.Refused pid) journal h = one_longer journal (entries.Refused pid)
-note_longer (entries.Owners free used moving held) journal h = one_longer journal (entries.Owners free used moving held)
+note_longer (entries.Event line) journal h = longer journal (entries.Event line)
+note_longer (entries.Turn pid) journal h = longer journal (entries.Turn pid)
+note_longer (entries.Out pid bytes) journal h = longer journal (entries.Out pid bytes)
+note_longer (entries.Refused pid) journal h = longer journal (entries.Refused pid)
+note_longer (entries.Owners free used moving held) journal h = longer journal (entries.Owners free used moving held)
 note_longer _ journal h = absurd h
 
 note_cause : (e : Entry) (stop : Stop) (ts : List Transfer) → IsJournalEntry e → (stop ≡ stops.JournalFull) ⊎ (stop ≡ stops.NoMemory) → CauseBy e stop ts

@@ -182,24 +182,23 @@ left_by : (lent : Bool) (old new : Standing) (pid : ℕ) (holds : Option (List N
 left_by true old new pid holds i j h = record { params = ap (λ (m : Standing). m.params) h.step; images = ap (λ (m : Standing). m.images) h.step }
 left_by false old new pid holds i j h = beside_same old new h.rest
 
-leaving_same : (old new : Standing) (pid : ℕ) (holds : Option (List NamedFile)) (i j : Option SwapImage) (stop : Stop) → StopsLeaving old new pid holds i j stop
-    → KeptAtStop old new stop
-leaving_same old new pid holds i j stop h = elim h [
-  | inl x ↦ settling_same old new _ holds i j stop x.1
-  | inr x ↦ before_same old new stop x.1
-]
+module _ (old new : Standing) (pid : ℕ) where
+  leaving_same : (holds : Option (List NamedFile)) (i j : Option SwapImage) (stop : Stop) → StopsLeaving old new pid holds i j stop → KeptAtStop old new stop
+  leaving_same holds i j stop h = elim h [
+    | inl x ↦ settling_same old new _ holds i j stop x.1
+    | inr x ↦ before_same old new stop x.1
+  ]
 
-pub alive_same : (old new : Standing) (pid : ℕ) (holds : Option (List NamedFile)) (i j : Option SwapImage) (stop : Stop) → StopsAlive old new pid holds i j stop
-    → KeptAtStop old new stop
-alive_same old new pid holds i j stop h = elim h [
-  | inl x ↦ leaving_same old new pid holds i j stop x
-  | inr x ↦ once_before old new stop (λ m. HasLeft old m pid holds i j) (λ m h. left_by _ old m pid holds i j h) x
-]
+  pub alive_same : (holds : Option (List NamedFile)) (i j : Option SwapImage) (stop : Stop) → StopsAlive old new pid holds i j stop → KeptAtStop old new stop
+  alive_same holds i j stop h = elim h [
+    | inl x ↦ leaving_same holds i j stop x
+    | inr x ↦ once_before old new stop (λ m. HasLeft old m pid holds i j) (λ m h. left_by _ old m pid holds i j h) x
+  ]
 
-pub exit_same : (old new : Standing) (pid : ℕ) (r : Result Reply Refused) (holds : Option (List NamedFile)) (i j : Option SwapImage) (stop : Stop)
-    → StopsExit old new pid r holds i j stop → KeptAtStop old new stop
-exit_same old new pid (Ok reply) holds i j stop h = alive_same old new pid holds i j stop h
-exit_same old new pid (Err refused) holds i j stop h = reading_same old new refused stop h.0
+  pub exit_same : (r : Result Reply Refused) (holds : Option (List NamedFile)) (i j : Option SwapImage) (stop : Stop)
+      → StopsExit old new pid r holds i j stop → KeptAtStop old new stop
+  exit_same (Ok reply) holds i j stop h = alive_same holds i j stop h
+  exit_same (Err refused) holds i j stop h = reading_same old new refused stop h.0
 
 -- Children.
 

@@ -1,6 +1,5 @@
 -- Turns begin, and a process that is out comes in for its turn.
-use Rattle.std.proofs.Common.{◌≡◌, ℕ, ◌+◌, ◌<◌, ◌&&◌, ◌==◌, nat_lt, Bool, true, false, cond, List, [], ◌∷◌, find, Option, Some, None, refl, sym, ap, ◌∙◌, subst, arith}
-use Rattle.std.proofs.lemmas.Bool.Decides.{nat_tests}
+use Rattle.std.proofs.Common.{◌≡◌, ℕ, ◌+◌, ◌<◌, ◌==◌, nat_lt, Bool, true, false, cond, List, [], ◌∷◌, find, Option, Some, None, refl, sym, ap, ◌∙◌, subst, arith}
 use Rattle.std.proofs.lemmas.Bool.{and_parts}
 use Rattle.vm_facts.specs.SwapImages.{SwapImage}
 use Rattle.vm_facts.specs.declared.entry.Entry.{Entry}
@@ -30,20 +29,12 @@ use Rattle.step_units.specs.Lines.{IsClear, TurnDue, TurnBegun, CameIn}
 use Rattle.step_units.proofs.Stopping.{stops_here}
 use Rattle.step_units.proofs.Beginning.{one_leads, next_turn}
 use Rattle.run_laws.proofs.Turning.{turned_ready}
-
-below : (a b : ℕ) → a < b → nat_lt a b ≡ true
-below a b e = grind (arith, nat_tests)
-
-all_so : (x y z : Bool) → x ≡ true → y ≡ true → z ≡ true → (x && (y && z)) ≡ true
-all_so true true true a b c = refl
-all_so false y z a b c = absurd cc
-all_so true false z a b c = absurd cc
-all_so true true false a b c = absurd cc
+use Rattle.economy_laws.proofs.Turns.{all_three, below}
 
 -- it goes on, where the limit isn't reached
 fresh_goes : (A : Inputs) (s : State) (pid : ℕ) → can_step s.point.flat pid ≡ true → s.count < A.limit → goes_on A s pid (s.count + turn_instructions) ≡ true
 fresh_goes A s pid steps l =
-    all_so (can_step s.point.flat pid) (nat_lt s.count A.limit) (nat_lt s.count (s.count + turn_instructions)) steps (below s.count A.limit l)
+    all_three (can_step s.point.flat pid) (nat_lt s.count A.limit) (nat_lt s.count (s.count + turn_instructions)) steps (below s.count A.limit l)
     (below s.count (s.count + turn_instructions) (omega arith))
 
 pub turn_begins : (A : Inputs) (s : State) (old : Standing) (l : Kernel) (holds : Option (List NamedFile)) (image : SwapImage) (pid : ℕ)
@@ -66,7 +57,7 @@ turn_begins A s old l holds image pid at d m =
 
 -- Coming in.
 
-moved_in : (rs : List Residence) (pid at : ℕ)
+pub moved_in : (rs : List Residence) (pid at : ℕ)
     → (residence_of (changed (λ (r : Residence). r.pid) pid (λ (r : Residence). record r { out = false; since = at }) rs) pid).out ≡ false
 moved_in [] pid at = refl
 moved_in (r ∷ rs) pid at = go (moved_in rs pid at) (r.pid == pid) refl

@@ -86,26 +86,26 @@ none_more size hs now owner blocks e l =
     let same : length (of_owner owner now) ≡ n = sym (count_is owner now) ∙ ap (λ (ns : List ℕ). length ns) is ∙ count_is owner hs in
     omega (arith, same)
 
-u_back : (size : ℕ) (hs now : List Held) (pid n : ℕ) → length (of_owner (U pid) hs) ≡ n → place_all size hs (more_pieces hs (U pid) 2) ≡ Ok now
-    → MayGiveBack (U pid) 2 (length (of_owner (U pid) hs)) now
-u_back size hs now pid zero is e = inl is
-u_back size hs now pid (suc n) is e = inr (none_more size hs now (U pid) 2 e (let one : length (u_pieces 2) ≡ 1 = refl in omega (arith, is, one)))
+module _ (size : ℕ) (hs now : List Held) where
+  u_back : (pid n : ℕ) → length (of_owner (U pid) hs) ≡ n → place_all size hs (more_pieces hs (U pid) 2) ≡ Ok now
+      → MayGiveBack (U pid) 2 (length (of_owner (U pid) hs)) now
+  u_back pid zero is e = inl is
+  u_back pid (suc n) is e = inr (none_more size hs now (U pid) 2 e (let one : length (u_pieces 2) ≡ 1 = refl in omega (arith, is, one)))
 
-chunks_back : (size : ℕ) (hs now : List Held) (owner : Owner) (blocks : ℕ) → pieces_of owner blocks ≡ pieces blocks
-    → place_all size hs (more_pieces hs owner blocks) ≡ Ok now
-    → (length (of_owner owner hs) < length (pieces blocks)) ⊎ (length (of_owner owner now) ≤ length (of_owner owner hs))
-chunks_back size hs now owner blocks is e = elim (cases_lt (length (of_owner owner hs)) (length (pieces blocks))) [
-  | inl few ↦ inl few
-  | inr all ↦ inr (none_more size hs now owner blocks e (subst (λ (ns : List ℕ). length ns ≤ length (of_owner owner hs)) (sym is) all))
-]
+  chunks_back : (owner : Owner) (blocks : ℕ) → pieces_of owner blocks ≡ pieces blocks → place_all size hs (more_pieces hs owner blocks) ≡ Ok now
+      → (length (of_owner owner hs) < length (pieces blocks)) ⊎ (length (of_owner owner now) ≤ length (of_owner owner hs))
+  chunks_back owner blocks is e = elim (cases_lt (length (of_owner owner hs)) (length (pieces blocks))) [
+    | inl few ↦ inl few
+    | inr all ↦ inr (none_more size hs now owner blocks e (subst (λ (ns : List ℕ). length ns ≤ length (of_owner owner hs)) (sym is) all))
+  ]
 
-pub may_give_back : (size : ℕ) (hs now : List Held) (owner : Owner) (blocks : ℕ) → CanGrow hs owner blocks
-    → place_all size hs (more_pieces hs owner blocks) ≡ Ok now → MayGiveBack owner blocks (length (of_owner owner hs)) now
-may_give_back size hs now (Data sid) blocks can e = chunks_back size hs now (Data sid) blocks refl e
-may_give_back size hs now (Stack sid) blocks can e = chunks_back size hs now (Stack sid) blocks refl e
-may_give_back size hs now (U pid) blocks can e =
-    u_back size hs now pid (length (of_owner (U pid) hs)) refl (subst (λ (b : ℕ). place_all size hs (more_pieces hs (U pid) b) ≡ Ok now) can e)
-may_give_back size hs now (Text image) blocks can e = inl (ap (λ (gs : List Held). length gs) can.1)
+  pub may_give_back : (owner : Owner) (blocks : ℕ) → CanGrow hs owner blocks
+      → place_all size hs (more_pieces hs owner blocks) ≡ Ok now → MayGiveBack owner blocks (length (of_owner owner hs)) now
+  may_give_back (Data sid) blocks can e = chunks_back (Data sid) blocks refl e
+  may_give_back (Stack sid) blocks can e = chunks_back (Stack sid) blocks refl e
+  may_give_back (U pid) blocks can e =
+      u_back pid (length (of_owner (U pid) hs)) refl (subst (λ (b : ℕ). place_all size hs (more_pieces hs (U pid) b) ≡ Ok now) can e)
+  may_give_back (Text image) blocks can e = inl (ap (λ (gs : List Held). length gs) can.1)
 
 -- The other owners hold what they held.
 
@@ -193,29 +193,27 @@ pub all_found : (r : Result Holdings ℕ) → answer_of r ≡ AllFound → (hs :
 all_found (Ok hs) e = (hs, refl)
 all_found (Err n) e = absurd cc
 
--- The first want was found, and the others were asked for after it.
-pub record Behind (b now later : Book) (w : Want) (ws : List Want) (keeps : Bool) (r : Result Bool NoMemory) : Type 0 where
-  pub hs : Holdings
-  pub found : growth_of b w.owner w.blocks ≡ Ok hs
-  pub now_is : now ≡ grown_book b (growth_of b w.owner w.blocks)
-  pub others : IsOther w.owner ws
-  pub answer : IfOk r (λ fits. fits ≡ fits_for now.size now.holdings ws)
-  pub book : OnOk r (later ≡ book_asked keeps now ws)
-  pub err : OnErr r (later ≡ now)
+module _ (b now later : Book) (w : Want) (ws : List Want) (keeps : Bool) where
+  -- The first want was found, and the others were asked for after it.
+  pub record Behind (r : Result Bool NoMemory) : Type 0 where
+    pub hs : Holdings
+    pub found : growth_of b w.owner w.blocks ≡ Ok hs
+    pub now_is : now ≡ grown_book b (growth_of b w.owner w.blocks)
+    pub others : IsOther w.owner ws
+    pub answer : IfOk r (λ fits. fits ≡ fits_for now.size now.holdings ws)
+    pub book : OnOk r (later ≡ book_asked keeps now ws)
+    pub err : OnErr r (later ≡ now)
 
-now_with : (b now later : Book) (w : Want) (ws : List Want) (keeps : Bool) (r : Result Bool NoMemory) (g : Behind b now later w ws keeps r)
-    → now ≡ with_holdings b g.hs
-now_with b now later w ws keeps r g = g.now_is ∙ ap (grown_book b) g.found
+  now_with : (r : Result Bool NoMemory) (g : Behind r) → now ≡ with_holdings b g.hs
+  now_with r g = g.now_is ∙ ap (grown_book b) g.found
 
-same_found : (b now later : Book) (w : Want) (ws : List Want) (keeps : Bool) (r : Result Bool NoMemory) → Behind b now later w ws keeps r
-    → found_for now.size now.holdings ws ≡ found_for b.size b.holdings (w ∷ ws)
-same_found b now later w ws keeps r g =
-    ap (λ (x : Book). found_for x.size x.holdings ws) (now_with b now later w ws keeps r g) ∙ sym (found_behind b.size b.holdings g.hs w ws (record { found = g.found }) g.others)
+  same_found : (r : Result Bool NoMemory) → Behind r → found_for now.size now.holdings ws ≡ found_for b.size b.holdings (w ∷ ws)
+  same_found r g =
+      ap (λ (x : Book). found_for x.size x.holdings ws) (now_with r g) ∙ sym (found_behind b.size b.holdings g.hs w ws (record { found = g.found }) g.others)
 
-pub behind_answer : (b now later : Book) (w : Want) (ws : List Want) (keeps : Bool) (r : Result Bool NoMemory) → Behind b now later w ws keeps r
-    → IfOk r (λ fits. fits ≡ fits_for b.size b.holdings (w ∷ ws))
-behind_answer b now later w ws keeps (Ok fits) g = g.answer ∙ ap (λ (x : Result Holdings ℕ). is_ok x) (same_found b now later w ws keeps (Ok fits) g)
-behind_answer b now later w ws keeps (Err e) g = tt
+  pub behind_answer : (r : Result Bool NoMemory) → Behind r → IfOk r (λ fits. fits ≡ fits_for b.size b.holdings (w ∷ ws))
+  behind_answer (Ok fits) g = g.answer ∙ ap (λ (x : Result Holdings ℕ). is_ok x) (same_found (Ok fits) g)
+  behind_answer (Err e) g = tt
 
 found_later : (b now : Book) (hs : Holdings) (x y : Result Holdings ℕ) → now ≡ with_holdings b hs → x ≡ y → true ≡ is_ok x → grown_book now x ≡ grown_book b y
 found_later b now hs (Ok gs) y e f t = ap (λ (z : Book). with_holdings z gs) e ∙ ap (grown_book b) f

@@ -88,16 +88,16 @@ module _ (test : Runner → Bool) (all : List Proc) (h : ℕ → Option Proc) wh
 
 -- Those above a pid, by the next pid.
 
-pub all_above : (test : Runner → Bool) (ps : List Record) (next : ℕ) → runners_above test ps next 0 ≡ filter test (runners_in (processes_of ps next))
-all_above test ps next = sym (runners_over test (processes_of ps next) (λ n. proc_of_record (find n ps)) (range_with_len 1 (next - 1)))
+module _ (test : Runner → Bool) (ps : List Record) (next : ℕ) where
+  pub all_above : runners_above test ps next 0 ≡ filter test (runners_in (processes_of ps next))
+  all_above = sym (runners_over test (processes_of ps next) (λ n. proc_of_record (find n ps)) (range_with_len 1 (next - 1)))
 
-pub above_next : (test : Runner → Bool) (ps : List Record) (next last pid : ℕ) → AreRecords ps next → Lowest (λ q. (last < q) × IsSome (find q ps)) (Some pid)
-    → runners_above test ps next last ≡ over (λ n. kept test (runner_from (processes_of ps next) (proc_of_record (find n ps)))) pid next
-above_next test ps next last pid h low = next_follows (λ o. kept test (runner_from (processes_of ps next) (proc_of_record o))) ps next last pid refl h low
+  pub above_next : (last pid : ℕ) → AreRecords ps next → Lowest (λ q. (last < q) × IsSome (find q ps)) (Some pid)
+      → runners_above test ps next last ≡ over (λ n. kept test (runner_from (processes_of ps next) (proc_of_record (find n ps)))) pid next
+  above_next last pid h low = next_follows (λ o. kept test (runner_from (processes_of ps next) (proc_of_record o))) ps next last pid refl h low
 
-pub above_none : (test : Runner → Bool) (ps : List Record) (next last : ℕ) → Lowest (λ q. (last < q) × IsSome (find q ps)) None
-    → runners_above test ps next last ≡ []
-above_none test ps next last low = none_follows (λ o. kept test (runner_from (processes_of ps next) (proc_of_record o))) ps next last refl low
+  pub above_none : (last : ℕ) → Lowest (λ q. (last < q) × IsSome (find q ps)) None → runners_above test ps next last ≡ []
+  above_none last low = none_follows (λ o. kept test (runner_from (processes_of ps next) (proc_of_record o))) ps next last refl low
 
 -- The one that is in or out longest.
 

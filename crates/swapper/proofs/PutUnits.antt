@@ -28,7 +28,7 @@ use Rattle.page_model.specs.Conditions.{EachPage}
 use Rattle.page_model.specs.Ownership.{OwnsFrames}
 use Rattle.page_model.specs.PageBytes.{IsWritable}
 use Rattle.page_laws.proofs.Lists.Local.{none_some}
-use Rattle.page_laws.proofs.Lists.Runs.{pages_from_each, run_each, run_up_in}
+use Rattle.page_laws.proofs.Lists.Runs.{pages_from_each, run_each, run_up_in, each_page_append}
 use Rattle.page_laws.proofs.Moves.Puts.{SameRest, rest_by_puts, done_kept, put_step_kept}
 use Rattle.page_laws.proofs.Ownership.Runs.{seated_seat}
 use Rattle.page_laws.proofs.Runs.Widest.{above_le}
@@ -56,7 +56,7 @@ use Rattle.paging_units.specs.Made.{Made, MakesUnit, Ground, ground}
 use Rattle.paging_units.specs.Stops.{StopsAt, SpoilsBy}
 use Rattle.paging_units.proofs.Units.{unit_place, unit_journal, unit_same, same_ground}
 use Rattle.paging_units.proofs.Keeping.{unit_shaped, keeps_both}
-use Rattle.paging_units.proofs.Stopping.{plain_longer, moved_left, stops_at_first, stops_after_unit}
+use Rattle.paging_units.proofs.Stopping.{plain_longer, moved_left, stops_at_first, stops_after_unit, err_same}
 use Rattle.swapper.specs.declared.Turned.TheVariants as turns
 use Rattle.swapper.specs.declared.putting_out.Step.{Step}
 use Rattle.swapper.specs.declared.putting_out.Step.TheVariants as steps
@@ -64,10 +64,6 @@ use Rattle.swapper.specs.Putting.{IsOfSegment, IsStep, IsNext, HoldsThere, PutOu
 use Rattle.swapper.specs.Turns.{Turns, KeepsTurn, StopsTurning}
 
 -- The first page in a frame off the free list.
-
-each_both : (P : Page → Type 0) (qs rs : List Page) → EachPage P qs → EachPage P rs → EachPage P (qs ++ rs)
-each_both P [] rs a b = b
-each_both P (q ∷ qs) rs a b = (a.0, each_both P qs rs a.1 b)
 
 first_each : (P : Page → Type 0) (p : Placement) (qs : List Page) (q : Page) → EachPage P qs → first_seated p qs ≡ Some q → P q
 first_each P p [] q a e = none_some q e
@@ -79,7 +75,7 @@ first_each P p (r ∷ qs) q a e = go (is_seated p r) e (first_each P p qs q a.1)
 
 pub first_own : (p : Placement) (sid : ℕ) (q : Page) → first_seated p (pages_of_space p sid) ≡ Some q → IsOfSegment sid q
 first_own p sid q e = first_each (IsOfSegment sid) p (pages_of_space p sid) q
-    (each_both (IsOfSegment sid) (data_from sid 0 (data_count p sid)) (stack_from sid 0 (stack_count p sid))
+    (each_page_append (IsOfSegment sid) (data_from sid 0 (data_count p sid)) (stack_from sid 0 (stack_count p sid))
     (pages_from_each (IsOfSegment sid) (Data sid 0) 0 (data_count p sid) (λ w l m. refl)) (pages_from_each (IsOfSegment sid) (Stack sid 0) 0 (stack_count p sid) (λ w l m. refl)))
     e
 
@@ -152,9 +148,6 @@ one_more journal e p = ap (λ (js : List Entry). length js) (append_plain journa
 
 beside_both : (a b c : Standing) → IsSameBeside a b → IsSameBeside b c → IsSameBeside a c
 beside_both a b c f g = record { params = g.params ∙ f.params; images = g.images ∙ f.images; before = g.before ∙ f.before }
-
-err_same : {A : Type 0} (s t : Stop) → (let r : Result A Stop = Err s in r) ≡ Err t → s ≡ t
-err_same s t e = cc
 
 -- What holds of the machine, for the next unit.
 

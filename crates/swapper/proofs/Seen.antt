@@ -19,6 +19,7 @@ use Rattle.page_model.specs.Place.{data_from, stack_from, data_count, stack_coun
 use Rattle.vm_facts.proofs.Tests.{eq_self}
 use Rattle.table_view.proofs.Segments.{beside_place}
 use Rattle.table_view.specs.Views.{IsNamedBy, ShowsPage, ShowsSpace}
+use Rattle.kluster_io.proofs.FewPages.{within}
 
 -- Whether a frame off the free list has the page, by the slot of its frame.
 
@@ -129,11 +130,6 @@ in_data s v = ap (λ (b : Bool). cond b (slice_get s.data v) None) (eq_self s.si
 
 in_stack : (s : Places) (v : ℕ) → place_in s (Stack s.sid v) ≡ slice_get s.stack v
 in_stack s v = ap (λ (b : Bool). cond b (slice_get s.stack v) None) (eq_self s.sid)
-
-within : (xs : List Place) (v : ℕ) → IsSome (slice_get xs v) → v < length xs
-within [] v s = absurd cc
-within (x ∷ xs) zero s = omega arith
-within (x ∷ xs) (suc v) s = let l = within xs v s in omega arith
 
 holds : (xs : List Place) (v : ℕ) → v < length xs → IsSome (slice_get xs v)
 holds [] v l = absurd (omega arith)

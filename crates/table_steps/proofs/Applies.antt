@@ -28,11 +28,11 @@ use Rattle.kernel_tables.specs.Changing.{processes_in, residents_in, process_in,
 use Rattle.kernel_tables.specs.Applying.{MayAct}
 use Rattle.table_steps.specs.Applied.{placement_in, MayGiveUp, MayLeave, LeftSpace, space_at, MayApply, Applied, AppliesAs}
 use Rattle.kernel_tables.proofs.Lives.{HasRecord, record_of}
-use Rattle.kernel_tables.proofs.UserFrames.{map_length}
 use Rattle.table_steps.proofs.ProcessLists.{OnlyOne, only_one, found_number}
 use Rattle.table_steps.proofs.Applied.{entered_place, keep_applied, sleep_applied, reap_applied, lend_applied, resize_applied}
 use Rattle.table_steps.proofs.Applied.{fork_applied, exec_new, exec_held, without_u, end_new, end_held}
 use Rattle.kernel_tables.proofs.Arrives.{get_within}
+use Rattle.kernel_tables.proofs.Shows.{length_map}
 
 -- The process and its space.
 
@@ -169,8 +169,8 @@ facts_there facts (suc place) l r = get_within facts place (omega arith)
 pub image_facts : (t : Tables) (pid image : ℕ) (top : List ℕ) → MayApply t pid (Exec image top)
     → (x : Image) × (facts_numbered (lists_of t).facts image ≡ Some x)
 image_facts t pid image top m =
-    let a = map_length (λ (n : Named). n.facts) t.images.items in
-    let b = map_length image_shown t.images.items in
+    let a = length_map (λ (n : Named). n.facts) t.images.items in
+    let b = length_map image_shown t.images.items in
     facts_there (lists_of t).facts image m.whole.0 (let l : image ≤ length (images_of t) = m.whole.1 in omega arith)
 
 module _ (t v : Tables) (pid image : ℕ) (top : List ℕ) (m : MayApply t pid (Exec image top)) (facts : Image) (known : facts_numbered (lists_of t).facts image ≡ Some facts)

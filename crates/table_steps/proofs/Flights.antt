@@ -1,5 +1,5 @@
 -- Pages in flight, and the tokens of their frames.
-use Rattle.std.proofs.Common.{◌≡◌, ◌≢◌, inl, inr, ℕ, ◌<◌, Bool, true, false, List, length, Option, Some, None, IsSome, refl, sym, ap, ◌∙◌, subst, arith}
+use Rattle.std.proofs.Common.{◌≡◌, ◌≢◌, inl, inr, ℕ, ◌<◌, Bool, true, false, List, length, Option, Some, refl, sym, ap, ◌∙◌, subst, arith}
 use Rattle.std.proofs.lemmas.Bool.{cases_eq}
 use Rattle.vm_facts.specs.declared.page.Page.{Page}
 use Rattle.vm_facts.specs.declared.page.Page.TheVariants.{Data, Stack, Text}
@@ -21,6 +21,7 @@ use Rattle.kernel_tables.specs.TableViewShown.{is_away, idle_state, state_shown}
 use Rattle.kernel_tables.specs.View.{Lists, text_place_by, placement_of}
 use Rattle.kernel_tables.specs.Known.{Known}
 use Rattle.text_table.specs.Texts.{is_saved, text_numbered}
+use Rattle.kernel_laws.proofs.Machine.Done.{some_of}
 use Rattle.kernel_tables.proofs.Shows.{slot_or, data_shown, stack_shown, text_at, text_within}
 use Rattle.kernel_tables.proofs.Held.{holds_length}
 use Rattle.kernel_tables.proofs.Knows.{held_named}
@@ -66,10 +67,6 @@ away_named slots (places.Frame g false c) e f h = go (is_away (slot_at slots g))
 away_is : (s : Token) → is_away s ≡ true → s ≡ tokens.Away
 away_is tokens.Away e = refl
 away_is _ e = absurd cc
-
-pub some_of : {A : Type 0} (o : Option A) → IsSome o → (x : A) × (o ≡ Some x)
-some_of None h = absurd cc
-some_of (Some x) h = (x, refl)
 
 pub record InFlight (t : Lists) (q : Page) (f : ℕ) : Type 0 where
   pub away : slot_at t.slots f ≡ tokens.Away

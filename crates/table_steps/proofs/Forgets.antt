@@ -29,6 +29,7 @@ use Rattle.page_laws.proofs.Lists.Local.{none_some}
 use Rattle.page_laws.proofs.Ownership.Spaces.{drop_other, drop_page_owner, drop_all_length, drop_rest}
 use Rattle.page_laws.proofs.Ownership.Changes.{each_at}
 use Rattle.page_laws.proofs.Blocks.Changes.{text_still, drop_all_frees, drop_all_sharers}
+use Rattle.kernel_laws.proofs.Kept.Pages.{writable_shared}
 use Rattle.kernel_tables.specs.declared.tables.Tables.{Tables}
 use Rattle.kernel_tables.specs.Shown.{filling_shown, entry_in, placed}
 use Rattle.kernel_tables.specs.TableViewShown.{is_away, idle_state, state_shown}
@@ -40,7 +41,7 @@ use Rattle.table_steps.specs.Forgotten.{ForgotPage}
 use Rattle.kernel_tables.specs.Changing.{Dropped}
 use Rattle.kernel_tables.proofs.Entries.{head_of, placed_heads}
 use Rattle.kernel_tables.proofs.Likes.{FitsPage, placed_alike, placed_filled}
-use Rattle.kernel_tables.proofs.Shows.{Moved, SameLists, segments_are, frames_set, head_sids, idle_frame}
+use Rattle.kernel_tables.proofs.Shows.{Moved, SameLists, segments_are, frames_set, head_sids}
 use Rattle.kernel_tables.proofs.Finds.{holding_set}
 use Rattle.kernel_tables.proofs.Held.{below_length, placement_ext}
 use Rattle.kernel_tables.proofs.Arrives.{page_shown, Arrives, arrives_moved, arrived}
@@ -52,8 +53,8 @@ use Rattle.kernel_tables.proofs.Knows.{held_named, texts_here, holds_not_away}
 use Rattle.table_steps.proofs.Residing.{entry_shown, seat_resides}
 use Rattle.table_steps.proofs.Reclaims.{held_is}
 use Rattle.kernel_tables.proofs.Stills.{images_heads}
+use Rattle.kernel_tables.proofs.AddedTexts.{frame_shown}
 use Rattle.table_steps.proofs.LeftPages.{pages_more}
-use Rattle.kernel_tables.proofs.Kernels.{writable_shared}
 
 abbrev forgotten : Lists → Page → ℕ → Frame → Lists
 forgotten t q f token = record t { slots = set t.slots f (tokens.Free token None); free = f ∷ without f t.free; spaces = map (placed q places.Zero) t.spaces }
@@ -78,10 +79,6 @@ shown_filling : (t : Lists) (q : Page) (x : Place) → IsWritable q → (page_sh
 shown_filling t (Text i v) x w = absurd w
 shown_filling t _ x w = refl
 
-frame_shown : (slots : List Token) (f : ℕ) (valid changed : Bool) → frame_of (state_shown slots (places.Frame f valid changed)) ≡ Some f
-frame_shown slots f true changed = refl
-frame_shown slots f false changed = idle_frame f (is_away (slot_at slots f)) changed
-
 -- what is asked of a page that is forgotten
 pub record MayForgetPage (t : Lists) (q : Page) : Type 0 where
   pub known : Known t
@@ -101,30 +98,28 @@ no_frame_zero p w o e = none_some w (o.names w 0 e)
 
 -- A page in a frame.
 
-in_frame : (t : Lists) (q : Page) (f : ℕ) (valid changed : Bool) → MayForgetPage t q → entry_in t.spaces q ≡ Some (places.Frame f valid changed)
-    → frame_of (state_of (placement_of t) q) ≡ Some f
-in_frame t q f valid changed m e =
-    let x : Place = places.Frame f valid changed in
-    ap (λ (s : Slot). frame_of s.state) (page_is t q x m e) ∙ ap frame_of (shown_state t q x m.writable) ∙ frame_shown t.slots f valid changed
+module _ (t : Lists) (q : Page) (f : ℕ) (valid changed : Bool) where
+  in_frame : MayForgetPage t q → entry_in t.spaces q ≡ Some (places.Frame f valid changed) → frame_of (state_of (placement_of t) q) ≡ Some f
+  in_frame m e =
+      let x : Place = places.Frame f valid changed in
+      ap (λ (s : Slot). frame_of s.state) (page_is t q x m e) ∙ ap frame_of (shown_state t q x m.writable) ∙ frame_shown t.slots f valid changed
 
--- the frame has it
-held_here : (t : Lists) (q : Page) (f : ℕ) (valid changed : Bool) → MayForgetPage t q → entry_in t.spaces q ≡ Some (places.Frame f valid changed)
-    → token_page (slot_at t.slots f) ≡ Some q
-held_here t q f valid changed m e =
-    go valid (ap (λ (s : Slot). s.state) (page_is t q (places.Frame f valid changed) m e) ∙ shown_state t q (places.Frame f valid changed) m.writable)
-  where
-    idle : (a c : Bool) → is_away (slot_at t.slots f) ≡ a → state_of (placement_of t) q ≡ idle_state f a c → token_page (slot_at t.slots f) ≡ Some q
-    idle false c a h = held_is t q f m.known h a
-    idle true true a h = absurd (subst AtRest h m.rests)
-    idle true false a h = absurd (subst AtRest h m.rests)
+  -- the frame has it
+  held_here : MayForgetPage t q → entry_in t.spaces q ≡ Some (places.Frame f valid changed) → token_page (slot_at t.slots f) ≡ Some q
+  held_here m e =
+      go valid (ap (λ (s : Slot). s.state) (page_is t q (places.Frame f valid changed) m e) ∙ shown_state t q (places.Frame f valid changed) m.writable)
+    where
+      idle : (a c : Bool) → is_away (slot_at t.slots f) ≡ a → state_of (placement_of t) q ≡ idle_state f a c → token_page (slot_at t.slots f) ≡ Some q
+      idle false c a h = held_is t q f m.known h a
+      idle true true a h = absurd (subst AtRest h m.rests)
+      idle true false a h = absurd (subst AtRest h m.rests)
 
-    go : (v : Bool) → state_of (placement_of t) q ≡ state_shown t.slots (places.Frame f v changed) → token_page (slot_at t.slots f) ≡ Some q
-    go true h = let r = seat_resides t q f m.known (record { state = inl h }) in ap token_page r.slot
-    go false h = idle (is_away (slot_at t.slots f)) changed refl h
+      go : (v : Bool) → state_of (placement_of t) q ≡ state_shown t.slots (places.Frame f v changed) → token_page (slot_at t.slots f) ≡ Some q
+      go true h = let r = seat_resides t q f m.known (record { state = inl h }) in ap token_page r.slot
+      go false h = idle (is_away (slot_at t.slots f)) changed refl h
 
-pub entry_held : (t : Lists) (q : Page) (f : ℕ) (valid changed : Bool) → MayForgetPage t q → entry_in t.spaces q ≡ Some (places.Frame f valid changed)
-    → slot_at t.slots f ≢ tokens.Away
-entry_held t q f valid changed m e = holds_not_away (slot_at t.slots f) q (held_here t q f valid changed m e)
+  pub entry_held : MayForgetPage t q → entry_in t.spaces q ≡ Some (places.Frame f valid changed) → slot_at t.slots f ≢ tokens.Away
+  entry_held m e = holds_not_away (slot_at t.slots f) q (held_here m e)
 
 token_bytes : (s : Token) (q : Page) (o : Option Flown) → token_page s ≡ Some q → (token_of s).bytes ≡ bytes_by s o
 token_bytes tokens.Away q o e = none_some q e

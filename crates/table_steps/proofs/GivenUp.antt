@@ -33,11 +33,12 @@ use Rattle.kernel_tables.specs.Gone.{without_space, sharing, LeftText, HasWholeT
 use Rattle.kernel_tables.specs.Changing.{Dropped, GaveUp}
 use Rattle.kernel_tables.proofs.Rising.{found_none}
 use Rattle.table_steps.proofs.Forgets.{all_dropped_rests}
-use Rattle.table_steps.proofs.WholeSpace.{stands_numbered, numbered_shown, data_rest, stack_rest}
+use Rattle.table_steps.proofs.WholeSpace.{stands_numbered, data_rest, stack_rest}
 use Rattle.table_steps.proofs.LeftPages.{rests}
 use Rattle.table_steps.proofs.LeftSpace.{Gives, gone_to, bytes_same, image_low, gives_pages}
 use Rattle.table_steps.proofs.GoneKnown.{map_then, texts_then, gone, shared_by, rest_sharers, place_is, then_same, known_then}
 use Rattle.kernel_tables.proofs.Removed.{none_shares, some_shares, sharers_gone}
+use Rattle.kernel_tables.proofs.UserFrames.{numbered_shown}
 
 -- a space that there is has its place among all
 pub space_there : (t : Lists) (sid : ℕ) → HasSpace (placement_of t) sid → IsAbsent sid (sids_of t.spaces) → ⊥

@@ -307,7 +307,7 @@ run_dirty p locked q d = run_each (λ r. is_dirty p r ≡ true) (λ w. goes_alon
     (λ w e. (and_parts (is_dirty p (beside q w)) (not (is_among (beside q w) locked))
     (and_parts (is_idle p (beside q w)) (is_dirty p (beside q w) && not (is_among (beside q w) locked)) (and_parts (goes_along p locked (beside q w)) (is_near q w) e).0).1).0)
 
-may_some : (p : Placement) (q : Page) (lo n : ℕ) → 0 < n → MayWriteRun p q lo n → MayPutOut p q lo n
+pub may_some : (p : Placement) (q : Page) (lo n : ℕ) → 0 < n → MayWriteRun p q lo n → MayPutOut p q lo n
 may_some p q lo zero l h = absurd (omega arith)
 may_some p q lo (suc m) l h = h
 

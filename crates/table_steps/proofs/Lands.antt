@@ -30,6 +30,7 @@ use Rattle.kernel_tables.proofs.Arrives.{page_shown, Arrives, arrives_moved, arr
 use Rattle.kernel_tables.proofs.Evicts.{frames_same}
 use Rattle.kernel_tables.proofs.Comes.{shared_entry}
 use Rattle.kernel_tables.proofs.Marks.{placed_mark}
+use Rattle.kernel_tables.proofs.Knows.{page_is_held}
 
 -- What is known of the page: its token is the first in flight, and comes into the map with the page and its bytes.
 pub record Landing (t : Lists) (q : Page) (f : ℕ) (token : Frame) (rest : List Flown) (x : Token) (place : Place) (texts : List SharedText) (s : PageState)
@@ -50,10 +51,6 @@ pub record Landing (t : Lists) (q : Page) (f : ℕ) (token : Frame) (rest : List
   pub filling : (y : Filling) → filling_behind s y ≡ Zeros
   pub shows : (free : List ℕ) (ts : List Transfer)
       → page_shown (landed t q f x place free texts ts rest) q place ≡ record { state = s; mark = m; filling = Zeros }
-
-held_by : (x : Token) (q : Page) (o : Option Flown) → token_page x ≡ Some q → page_by x o ≡ Some q
-held_by tokens.Away q o e = none_some q e
-held_by _ q o e = e
 
 pub land_is : (t : Lists) (q : Page) (f : ℕ) (token : Frame) (rest : List Flown) (x : Token) (place : Place) (texts : List SharedText) (s : PageState)
     (m : Bool) (free : List ℕ) (ts : List Transfer)
@@ -85,7 +82,7 @@ land_is t q f token rest x place texts s m free ts l =
     (ap (λ (k : ℕ). map (page_held n) (range_with_len 1 (k - 1))) (length-set t.slots f x)
     ∙ frames_same (page_held t) (page_held n) (range_with_len 1 (length t.slots - 1)) (λ g. elim (cases_eq g f) [
       | inl h ↦ subst (λ (k : ℕ). page_held n k ≡ page_held t k) (sym h)
-          (ap (λ (z : Token). page_by z (flown_at rest f)) (get_or-set_same t.slots f x tokens.Away l.below) ∙ held_by x q (flown_at rest f) l.holds
+          (ap (λ (z : Token). page_by z (flown_at rest f)) (get_or-set_same t.slots f x tokens.Away l.below) ∙ page_is_held x q (flown_at rest f) l.holds
           ∙ sym (ap (λ (z : Token). page_by z (flown_at t.flown f)) l.away
           ∙ ap Rattle.kernel_tables.specs.View.page_flown (ap (λ (fs : List Flown). flown_at fs f) l.first ∙ flown_hit y rest f l.number)))
       | inr d ↦ ap (λ (z : Token). page_by z (flown_at rest g)) (get_or-set_other t.slots f g x tokens.Away d)

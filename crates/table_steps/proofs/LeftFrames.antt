@@ -11,9 +11,8 @@ use Rattle.core_map.specs.declared.slot.Slot.TheVariants as tokens
 use Rattle.core_map.specs.declared.slot.Whose.TheVariants as owners
 use Rattle.core_map.specs.Slots.{slot_at, slot_page as token_page, token_of, slot_owner, listings}
 use Rattle.vm_facts.specs.Lists.{times}
-use Rattle.vm_facts.proofs.Lists.{times-append}
+use Rattle.vm_facts.proofs.Lists.{times-append, times_other}
 use Rattle.page_laws.proofs.Lists.Frames.{times_one}
-use Rattle.kernel_tables.proofs.Same.{times_miss}
 use Rattle.core_map.specs.Frames.{Frames}
 use Rattle.page_laws.proofs.Lists.Local.{none_some}
 use Rattle.flat_state.proofs.PageNames.{same_page_is, same_page_self}
@@ -180,7 +179,7 @@ left_listed map q h = left_cases AreListed map q h
           let now : listings (slot_at (set map.slots f x) g) ≡ 1 = ap listings (ap (slot_at (set map.slots f x)) i ∙ set_here map.slots f token page dirty x k) in
           omega arith
       | inr n ↦
-          let none : times g (f ∷ []) ≡ 0 = times_miss g f [] (λ i. n (sym i)) in
+          let none : times g (f ∷ []) ≡ 0 = times_other g f [] (λ i. n (sym i)) in
           let now : listings (slot_at (set map.slots f x) g) ≡ listings (slot_at map.slots g) = ap listings (get_or-set_other map.slots f g x tokens.Away n) in
           let was = h g in
           omega arith

@@ -33,11 +33,10 @@ use Rattle.kernel_tables.proofs.Same.{slots_ext, texts_ext}
 use Rattle.kernel_tables.proofs.Shows.{text_at, text_past, text_numbers, texts_differ, texts_shown, text_length, put_images}
 use Rattle.kernel_tables.proofs.Held.{placement_ext}
 use Rattle.kernel_tables.proofs.Evicts.{frames_same}
-use Rattle.table_steps.proofs.Settles.{facts_low}
 use Rattle.table_steps.proofs.LeftFrames.{SameFrames, same_away_at, same_held_at, same_bytes_at, same_found, holding_page}
 use Rattle.table_steps.proofs.LeftPages.{Rests, rest_slot, rest_state}
 use Rattle.kernel_tables.proofs.Removed.{each_rest, rest_shown, rest_entry, rest_like, first_entry, only_space, found_each, sharing_each}
-use Rattle.kernel_tables.proofs.AddedTied.{facts_pages}
+use Rattle.kernel_tables.proofs.AddedTied.{facts_pages, facts_number}
 
 -- Each frame has its token and its page as before, on the free list or off it: then an entry shows what it showed.
 
@@ -163,37 +162,36 @@ numbers_by_puts = record {
   puts = λ p v s m. put_images p v s m;
 }
 
--- The space that goes, whose image's text rests where nobody else shares it.
-pub record Gives (l : Lists) (sid : ℕ) (s : Places) : Type 0 where
-  pub known : Known l
-  pub there : numbered (λ (x : Places). x.sid) sid l.spaces ≡ Some s
-  pub whole : HasWholeText (without_space sid l.spaces) s.image
-  pub rest : sharing (without_space sid l.spaces) s.image ≡ None → (v : ℕ) → v < pages_in 1 s.image l.facts → Rests l (Text s.image v)
+module _ (l : Lists) (sid : ℕ) (s : Places) where
+  -- The space that goes, whose image's text rests where nobody else shares it.
+  pub record Gives : Type 0 where
+    pub known : Known l
+    pub there : numbered (λ (x : Places). x.sid) sid l.spaces ≡ Some s
+    pub whole : HasWholeText (without_space sid l.spaces) s.image
+    pub rest : sharing (without_space sid l.spaces) s.image ≡ None → (v : ℕ) → v < pages_in 1 s.image l.facts → Rests l (Text s.image v)
 
-pub image_low : (l : Lists) (sid : ℕ) (s : Places) → Known l → numbered (λ (x : Places). x.sid) sid l.spaces ≡ Some s
-    → (1 ≤ s.image) × (s.image ≤ 16)
-image_low l sid s k e =
-    let h = found_each (IsFilled l.facts) l.spaces sid s e k.tied.filled in
-    let b = facts_low 1 s.image l.facts s.facts h.0.facts_are in
-    let few = k.tied.few_images in
-    let x = b.0 in
-    let y = b.1 in
-    (omega arith, omega arith)
+  pub image_low : Known l → numbered (λ (x : Places). x.sid) sid l.spaces ≡ Some s → (1 ≤ s.image) × (s.image ≤ 16)
+  image_low k e =
+      let h = found_each (IsFilled l.facts) l.spaces sid s e k.tied.filled in
+      let b = facts_number 1 s.image l.facts s.facts h.0.facts_are in
+      let few = k.tied.few_images in
+      let x = b.0 in
+      let y = b.1 in
+      (omega arith, omega arith)
 
-pub gives_image : (l : Lists) (sid : ℕ) (s : Places) → Gives l sid s → (1 ≤ s.image) × (s.image ≤ 16)
-gives_image l sid s g = image_low l sid s g.known g.there
+  pub gives_image : Gives → (1 ≤ s.image) × (s.image ≤ 16)
+  gives_image g = image_low g.known g.there
 
-pub gives_pages : (l : Lists) (sid : ℕ) (s : Places) → Gives l sid s → pages_in 1 s.image l.facts ≡ text_pages_of s.facts
-gives_pages l sid s g = let h = found_each (IsFilled l.facts) l.spaces sid s g.there g.known.tied.filled in facts_pages 1 s.image l.facts s.facts h.0.facts_are
+  pub gives_pages : Gives → pages_in 1 s.image l.facts ≡ text_pages_of s.facts
+  gives_pages g = let h = found_each (IsFilled l.facts) l.spaces sid s g.there g.known.tied.filled in facts_pages 1 s.image l.facts s.facts h.0.facts_are
 
--- a page of another image's text has its entry yet
-pub other_entry : (l : Lists) (sid : ℕ) (s : Places) → Gives l sid s → (j v : ℕ) → j ≢ s.image
-    → entry_in (without_space sid l.spaces) (Text j v) ≡ entry_in l.spaces (Text j v)
-other_entry l sid s g j v n = rest_entry sid (Text j v) l.spaces (each_imp l.spaces (only_space l.spaces sid s g.known.differ g.there))
-  where
-    each_imp : (ss : List Places) → EachSpace (λ x. x.sid ≡ sid → x ≡ s) ss → EachSpace (λ x. x.sid ≡ sid → place_in x (Text j v) ≡ None) ss
-    each_imp [] h = tt
-    each_imp (x ∷ xs) h = ((λ e. text_miss x j v (λ k. n (k ∙ ap (λ (y : Places). y.image) (h.0 e)))), each_imp xs h.1)
+  -- a page of another image's text has its entry yet
+  pub other_entry : Gives → (j v : ℕ) → j ≢ s.image → entry_in (without_space sid l.spaces) (Text j v) ≡ entry_in l.spaces (Text j v)
+  other_entry g j v n = rest_entry sid (Text j v) l.spaces (each_imp l.spaces (only_space l.spaces sid s g.known.differ g.there))
+    where
+      each_imp : (ss : List Places) → EachSpace (λ x. x.sid ≡ sid → x ≡ s) ss → EachSpace (λ x. x.sid ≡ sid → place_in x (Text j v) ≡ None) ss
+      each_imp [] h = tt
+      each_imp (x ∷ xs) h = ((λ e. text_miss x j v (λ k. n (k ∙ ap (λ (y : Places). y.image) (h.0 e)))), each_imp xs h.1)
 
 -- and one of the image's own, where another space shares it
 pub own_entry : (l : Lists) (sid : ℕ) (s x : Places) → Gives l sid s → sharing (without_space sid l.spaces) s.image ≡ Some x → (v : ℕ)

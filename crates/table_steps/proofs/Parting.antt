@@ -1,5 +1,5 @@
 -- A part of a move of the hands: what the calls of the tables ask for it, and leave.
-use Rattle.std.proofs.Common.{◌≡◌, inl, ℕ, zero, suc, ◌<◌, Bool, false, List, map, sym, ap, ◌∙◌, subst, arith}
+use Rattle.std.proofs.Common.{◌≡◌, inl, ℕ, Bool, false, List, map, sym, ap, ◌∙◌, subst}
 use Rattle.vm_facts.specs.declared.page.Page.{Page}
 use Rattle.vm_facts.specs.declared.page.PageState.TheVariants.{Invalid}
 use Rattle.vax_pte.specs.declared.Place.{Place}
@@ -18,13 +18,13 @@ use Rattle.kernel_tables.specs.View.{Lists, placement_of, frames_of}
 use Rattle.kernel_tables.specs.Tied.{Tied}
 use Rattle.kernel_tables.specs.Known.{Known}
 use Rattle.kernel_tables.specs.Machine.{lists_of}
-use Rattle.kernel_tables.specs.Launches.{MayPutOut, MayWriteRun, MovedOn, put_out}
+use Rattle.kernel_tables.specs.Launches.{MayPutOut, MovedOn, put_out}
 use Rattle.kernel_tables.proofs.Entries.{head_of}
 use Rattle.kernel_tables.proofs.Stills.{images_heads}
 use Rattle.table_steps.proofs.Residing.{Resides, seat_resides}
 use Rattle.table_steps.proofs.Turning.{turn_is, turn_frames, turn_heads, turn_tied}
 use Rattle.table_steps.proofs.Puttings.{put_some}
-use Rattle.table_steps.proofs.Hands.{expiring}
+use Rattle.table_steps.proofs.Hands.{expiring, may_some}
 
 -- A page that is made invalid.
 
@@ -61,10 +61,6 @@ expired_moves t u q k c spaces rest =
     }
 
 -- Pages that are written, or a frame that is freed.
-
-may_some : (p : Placement) (q : Page) (lo n : ℕ) → 0 < n → MayWriteRun p q lo n → MayPutOut p q lo n
-may_some p q lo zero l h = absurd (omega arith)
-may_some p q lo (suc m) l h = h
 
 pub write_may : (p : Placement) (q : Page) (lo n : ℕ) → lo ≡ number_of q → WriteComes p q n → MayPutOut p q lo n
 write_may p q lo n e c = subst (λ (v : ℕ). MayPutOut p q v n) (sym e)

@@ -50,38 +50,38 @@ rest_ring t u w e r =
 
 -- The write of a run.
 
-pub record WroteRun (t u w : Tables) (ps : List Outbound) (x : Flight) (q : Page) (lo n : ℕ) : Type 0 where
-  pub place : placement_of (launching u ps) ≡ launch_all (placement_of (launching t [])) (pages_from q lo n)
-  pub frames : frames_of (launching u ps) ≡ frames_of (launching t [])
-  pub known : Known (launching u ps)
-  pub images : (sid : ℕ) → image_at u sid ≡ image_at t sid
-  pub rest : u ≡ record t { core = u.core; spaces = u.spaces }
-  pub ring_rest : w ≡ record u { ring = w.ring }
-  pub ring : w.ring ≡ u.ring ++ x ∷ []
-  pub shown : transfer_shown x ≡ record { errand = Writes; parts = map out_part ps }
-  pub flying : flown_in x ≡ map outbound_flown ps
-  pub own : IsOwnWrite t.book.holdings x
+module _ (t u w : Tables) (ps : List Outbound) (x : Flight) (q : Page) (lo n : ℕ) where
+  pub record WroteRun : Type 0 where
+    pub place : placement_of (launching u ps) ≡ launch_all (placement_of (launching t [])) (pages_from q lo n)
+    pub frames : frames_of (launching u ps) ≡ frames_of (launching t [])
+    pub known : Known (launching u ps)
+    pub images : (sid : ℕ) → image_at u sid ≡ image_at t sid
+    pub rest : u ≡ record t { core = u.core; spaces = u.spaces }
+    pub ring_rest : w ≡ record u { ring = w.ring }
+    pub ring : w.ring ≡ u.ring ++ x ∷ []
+    pub shown : transfer_shown x ≡ record { errand = Writes; parts = map out_part ps }
+    pub flying : flown_in x ≡ map outbound_flown ps
+    pub own : IsOwnWrite t.book.holdings x
 
-write_lists : (t u w : Tables) (ps : List Outbound) (x : Flight) (q : Page) (lo n : ℕ) → WroteRun t u w ps x q lo n → lists_of w ≡ launching u ps
-write_lists t u w ps x q lo n g =
-    ap lists_of g.ring_rest
-    ∙ ap (λ (ts : List Transfer). record (lists_of u) { transfers = ts; flown = flown w.ring })
-    (ap (map transfer_shown) g.ring ∙ map-append transfer_shown u.ring (x ∷ []) ∙ ap (λ (y : Transfer). map transfer_shown u.ring ++ y ∷ []) g.shown)
-    ∙ ap (λ (fs : List Flown). record (lists_of u) { transfers = map transfer_shown u.ring ++ record { errand = Writes; parts = map out_part ps } ∷ []; flown = fs })
-    (ap flown g.ring ∙ flown-append u.ring (x ∷ []) ∙ ap (λ (fs : List Flown). flown u.ring ++ fs) (append-nil (flown_in x) ∙ g.flying))
+  write_lists : WroteRun → lists_of w ≡ launching u ps
+  write_lists g =
+      ap lists_of g.ring_rest
+      ∙ ap (λ (ts : List Transfer). record (lists_of u) { transfers = ts; flown = flown w.ring })
+      (ap (map transfer_shown) g.ring ∙ map-append transfer_shown u.ring (x ∷ []) ∙ ap (λ (y : Transfer). map transfer_shown u.ring ++ y ∷ []) g.shown)
+      ∙ ap (λ (fs : List Flown). record (lists_of u) { transfers = map transfer_shown u.ring ++ record { errand = Writes; parts = map out_part ps } ∷ []; flown = fs })
+      (ap flown g.ring ∙ flown-append u.ring (x ∷ []) ∙ ap (λ (fs : List Flown). flown u.ring ++ fs) (append-nil (flown_in x) ∙ g.flying))
 
-pub wrote_run : (t u w : Tables) (ps : List Outbound) (x : Flight) (q : Page) (lo n : ℕ) → WroteRun t u w ps x q lo n
-    → MovedOn t w (launch_run (placement_of (lists_of t)) (pages_from q lo n))
-wrote_run t u w ps x q lo n g =
-    let is : lists_of w ≡ launching u ps = write_lists t u w ps x q lo n g in
-    record {
-      place = ap placement_of is ∙ g.place ∙ ap (λ (p : Placement). launch_all p (pages_from q lo n)) (begun_place t) ∙ launch_steps (placement_of (lists_of t)) (pages_from q lo n);
-      frames = ap frames_of is ∙ g.frames ∙ begun_frames t;
-      tied = subst Tied (sym is) g.known.tied;
-      images = λ sid. ap (λ (z : Tables). image_at z sid) g.ring_rest ∙ g.images sid;
-      ring = inr (x, g.ring ∙ ap (λ (z : Tables). z.ring ++ x ∷ []) g.rest, g.own);
-      rest = rest_ring t u w g.rest g.ring_rest;
-    }
+  pub wrote_run : WroteRun → MovedOn t w (launch_run (placement_of (lists_of t)) (pages_from q lo n))
+  wrote_run g =
+      let is : lists_of w ≡ launching u ps = write_lists g in
+      record {
+        place = ap placement_of is ∙ g.place ∙ ap (λ (p : Placement). launch_all p (pages_from q lo n)) (begun_place t) ∙ launch_steps (placement_of (lists_of t)) (pages_from q lo n);
+        frames = ap frames_of is ∙ g.frames ∙ begun_frames t;
+        tied = subst Tied (sym is) g.known.tied;
+        images = λ sid. ap (λ (z : Tables). image_at z sid) g.ring_rest ∙ g.images sid;
+        ring = inr (x, g.ring ∙ ap (λ (z : Tables). z.ring ++ x ∷ []) g.rest, g.own);
+        rest = rest_ring t u w g.rest g.ring_rest;
+      }
 
 -- Either of them.
 

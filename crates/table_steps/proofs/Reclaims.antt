@@ -45,7 +45,7 @@ use Rattle.kernel_tables.proofs.Comes.{shared_entry}
 use Rattle.kernel_tables.proofs.Kernels.{kernel_ext}
 use Rattle.kernel_tables.proofs.Marks.{placed_mark}
 use Rattle.text_table.specs.Texts.{Text as SharedText}
-use Rattle.table_steps.proofs.Flights.{some_of}
+use Rattle.kernel_laws.proofs.Machine.Done.{some_of}
 
 -- The entry of an invalid page.
 

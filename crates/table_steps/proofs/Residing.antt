@@ -21,6 +21,7 @@ use Rattle.page_laws.proofs.Lists.Local.{none_some}
 use Rattle.std.proofs.lemmas.Option.{same_Some}
 use Rattle.page_laws.proofs.Moves.Steps.{page_in, frame_in}
 use Rattle.page_laws.proofs.Ownership.Pages.{seated_alone, seated_frame}
+use Rattle.kernel_laws.proofs.Machine.Done.{some_of}
 use Rattle.kernel_tables.specs.Shown.{slot_shown, text_shown, entry_in}
 use Rattle.kernel_tables.specs.TableViewShown.{is_away, idle_state, state_shown}
 use Rattle.kernel_tables.specs.View.{Lists, text_place_by, flown_at, page_by, page_flown, page_held, placement_of}
@@ -31,7 +32,6 @@ use Rattle.kernel_tables.proofs.Held.{held_at, holds_length, not_flown, above_ze
 use Rattle.kernel_tables.proofs.Arrives.{page_shown}
 use Rattle.kernel_tables.proofs.Knows.{held_named}
 use Rattle.kernel_tables.proofs.Comes.{shared_entry}
-use Rattle.table_steps.proofs.Flights.{some_of}
 
 -- What an entry shows of its page.
 

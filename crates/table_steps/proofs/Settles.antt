@@ -20,12 +20,13 @@ use Rattle.page_model.specs.Swapper.{names_page, is_settled}
 use Rattle.vm_facts.specs.Pages.{is_of_space, is_of_text}
 use Rattle.kernel_tables.specs.declared.tables.Tables.{Tables}
 use Rattle.kernel_tables.specs.Shown.{space_shown}
-use Rattle.kernel_tables.specs.Alike.{EachSpace, IsFilled, facts_in}
+use Rattle.kernel_tables.specs.Alike.{EachSpace, IsFilled}
 use Rattle.kernel_tables.specs.Tied.{Tied}
 use Rattle.kernel_tables.specs.View.{in_part, out_part, transfer_shown, placement_of}
 use Rattle.kernel_tables.specs.Machine.{lists_of, image_at}
 use Rattle.kernel_tables.specs.Settled.{image_found}
 use Rattle.kernel_tables.proofs.Shows.{hit, miss}
+use Rattle.kernel_tables.proofs.AddedTied.{facts_number}
 
 or_assoc : (a b c : Bool) → ((a || b) || c) ≡ (a || (b || c))
 or_assoc true b c = refl
@@ -60,7 +61,7 @@ ring_names o test (t ∷ ts) h =
 
 -- The image of the space.
 
-abbrev or_zero : Option ℕ → ℕ
+abbrev pub or_zero : Option ℕ → ℕ
 or_zero None = 0
 or_zero (Some n) = n
 
@@ -83,24 +84,11 @@ found_image t sid i e = found_is t.core.slots t.spaces sid ∙ ap or_zero e
 pub lost_image : (t : Tables) (sid : ℕ) → image_found t.spaces sid ≡ None → image_at t sid ≡ 0
 lost_image t sid e = found_is t.core.slots t.spaces sid ∙ ap or_zero e
 
-pub facts_low : (n image : ℕ) (facts : List Image) (x : Image) → facts_in n image facts ≡ Some x → (n ≤ image) × (image < n + length facts)
-facts_low n image [] x e = absurd cc
-facts_low n image (y ∷ more) x e =
-    let skip : n ≢ image → facts_in n image (y ∷ more) ≡ facts_in (n + 1) image more = λ d. grind (arith, nat_tests) in
-    elim (cases_eq n image) [
-      | inl i ↦ (omega arith, omega arith)
-      | inr d ↦
-          let h = facts_low (n + 1) image more x (sym (skip d) ∙ e) in
-          let a = h.0 in
-          let b = h.1 in
-          (omega arith, omega arith)
-    ]
-
 found_low : (facts : List Image) (ss : List Places) (sid i : ℕ) → EachSpace (IsFilled facts) ss → image_found ss sid ≡ Some i → (1 ≤ i) × (i < 1 + length facts)
 found_low facts [] sid i h e = absurd cc
 found_low facts (s ∷ ss) sid i h e = elim (cases_eq s.sid sid) [
   | inl k ↦ let same : s.image ≡ i = (let x : Some s.image ≡ Some i = sym (found_hit s ss sid k) ∙ e in cc) in
-      subst (λ (n : ℕ). (1 ≤ n) × (n < 1 + length facts)) same (facts_low 1 s.image facts s.facts h.0.facts_are)
+      subst (λ (n : ℕ). (1 ≤ n) × (n < 1 + length facts)) same (facts_number 1 s.image facts s.facts h.0.facts_are)
   | inr d ↦ found_low facts ss sid i h.1 (sym (found_miss s ss sid d) ∙ e)
 ]
 
@@ -116,7 +104,7 @@ none_shares : (facts : List Image) (slots : List Token) (ss : List Places) → E
 none_shares facts slots [] h = refl
 none_shares facts slots (s ∷ ss) h =
     let skip : s.image ≢ 0 → sharers_in 0 (map (space_shown slots) (s ∷ ss)) ≡ sharers_in 0 (map (space_shown slots) ss) = λ d. grind (arith, nat_tests) in
-    let l = facts_low 1 s.image facts s.facts h.0.facts_are in
+    let l = facts_number 1 s.image facts s.facts h.0.facts_are in
     let a = l.0 in
     skip (omega arith) ∙ none_shares facts slots ss h.1
 

@@ -53,7 +53,8 @@ use Rattle.kernel_tables.proofs.Rising.{or_none, IsOfSpace, data_of_space, stack
 use Rattle.table_steps.proofs.Forgets.{all_dropped_rests, dropped_more}
 use Rattle.kernel_tables.proofs.ResizedMaps.{sizes_sids}
 use Rattle.table_steps.proofs.GivenUp.{sids_length}
-use Rattle.table_steps.proofs.WholeSpace.{dropped_numbers}
+use Rattle.table_steps.proofs.WholeSpace.{dropped_numbers, absent_at}
+use Rattle.table_steps.proofs.Settles.{or_zero}
 
 -- A segment.
 
@@ -119,11 +120,6 @@ by_image (suc n) (suc v) w (x ∷ xs) e = by_image n v w xs e
 sized_image : (n v w : ℕ) (xs : List Place) → slice_get (resized xs n) v ≡ Some (places.Image w) → slice_get xs v ≡ Some (places.Image w)
 sized_image n v w xs e = by_image n v w xs (sym (ap (λ (ys : List Place). slice_get ys v) (resized_is n xs)) ∙ e)
 
-apart_at : (n m i : ℕ) (ns : List ℕ) → IsAbsent n ns → slice_get ns i ≡ Some m → n ≢ m
-apart_at n m i [] h e k = absurd cc
-apart_at n m zero (k ∷ ns) h e i = h.0 (let same : k ≡ m = cc in same ∙ sym i)
-apart_at n m (suc i) (k ∷ ns) h e j = apart_at n m i ns h.1 e j
-
 changed_hit : (n : ℕ) (change : SpacePages → SpacePages) (x : SpacePages) (xs : List SpacePages) → x.sid ≡ n
     → changed space_number n change (x ∷ xs) ≡ change x ∷ xs
 changed_hit n change x xs e = grind (arith, nat_tests)
@@ -145,7 +141,7 @@ spaces_cut slots (x ∷ xs) zero sid d s h e =
     ap (λ (y : SpacePages). y ∷ map (space_shown slots) xs) (sizes_shown slots d s x) ∙ sym (changed_hit sid (cut d s) (space_shown slots x) (map (space_shown slots) xs) same)
 spaces_cut slots (x ∷ xs) (suc i) sid d s h e =
     ap (λ (ys : List SpacePages). space_shown slots x ∷ ys) (spaces_cut slots xs i sid d s h.1 e)
-    ∙ sym (changed_miss sid (cut d s) (space_shown slots x) (map (space_shown slots) xs) (apart_at x.sid sid i (sids_of xs) h.0 e))
+    ∙ sym (changed_miss sid (cut d s) (space_shown slots x) (map (space_shown slots) xs) (absent_at x.sid sid i (sids_of xs) h.0 e))
 
 -- text stays where it is
 text_stays : (ss : List Places) (i d s image v : ℕ) → entry_in (with_sizes_at ss i d s) (Text image v) ≡ entry_in ss (Text image v)
@@ -328,11 +324,6 @@ dropped_stands t u qs sid index d h =
     let k = sids_length t.spaces in
     record { in_range = omega arith; number = ap (λ (ns : List ℕ). slice_get ns index) e ∙ h.number }
 
--- how many pages of data and of stack it has
-abbrev count_in : Option ℕ → ℕ
-count_in None = 0
-count_in (Some n) = n
-
 counted : (slots : List Token) (ss : List Places) (i sid a b : ℕ) → AllDistinct (sids_of ss) → slice_get (sids_of ss) i ≡ Some sid
     → Some a ≡ option_map (λ (s : Places). length s.data) (slice_get ss i) → Some b ≡ option_map (λ (s : Places). length s.stack) (slice_get ss i)
     → (a ≡ length (data_in (numbered space_number sid (map (space_shown slots) ss))))
@@ -341,11 +332,11 @@ counted slots [] i sid a b h e k l = absurd cc
 counted slots (s ∷ ss) zero sid a b h e k l =
     let same : s.sid ≡ sid = cc in
     let found = hit sid (space_shown slots s) (map (space_shown slots) ss) same in (
-      ap count_in k ∙ sym (length_map (slot_shown slots) s.data) ∙ sym (ap (λ (o : Option SpacePages). length (data_in o)) found),
-      ap count_in l ∙ sym (length_map (slot_shown slots) s.stack) ∙ sym (ap (λ (o : Option SpacePages). length (stack_in o)) found),
+      ap or_zero k ∙ sym (length_map (slot_shown slots) s.data) ∙ sym (ap (λ (o : Option SpacePages). length (data_in o)) found),
+      ap or_zero l ∙ sym (length_map (slot_shown slots) s.stack) ∙ sym (ap (λ (o : Option SpacePages). length (stack_in o)) found),
     )
 counted slots (s ∷ ss) (suc i) sid a b h e k l =
-    let past = miss sid (space_shown slots s) (map (space_shown slots) ss) (apart_at s.sid sid i (sids_of ss) h.0 e) in
+    let past = miss sid (space_shown slots s) (map (space_shown slots) ss) (absent_at s.sid sid i (sids_of ss) h.0 e) in
     let rest = counted slots ss i sid a b h.1 e k l in
     (rest.0 ∙ sym (ap (λ (o : Option SpacePages). length (data_in o)) past), rest.1 ∙ sym (ap (λ (o : Option SpacePages). length (stack_in o)) past))
 
@@ -369,21 +360,19 @@ beside_stack : (sid v w lo n : ℕ) → pages_from (Stack sid v) lo n ≡ pages_
 beside_stack sid v w lo zero = refl
 beside_stack sid v w lo (suc n) = ap (λ (qs : List Page). Stack sid lo ∷ qs) (beside_stack sid v w (lo + 1) n)
 
-pub data_go : (t : Tables) (index sid d s a b : ℕ) → Sizing t index sid d s a b
-    → EachPage (IsThere (placement_of (lists_of t))) (pages_from (Data sid 0) d (a - d))
-data_go t index sid d s a b z = let e = (sizing_counts t index sid d s a b z).0 in pages_from_each (IsThere (placement_of (lists_of t))) (Data sid 0) d (a - d) (λ w l m. omega arith)
+module _ (t : Tables) (index sid d s a b : ℕ) where
+  pub data_go : Sizing t index sid d s a b → EachPage (IsThere (placement_of (lists_of t))) (pages_from (Data sid 0) d (a - d))
+  data_go z = let e = (sizing_counts t index sid d s a b z).0 in pages_from_each (IsThere (placement_of (lists_of t))) (Data sid 0) d (a - d) (λ w l m. omega arith)
 
-pub data_rest : (t : Tables) (index sid d s a b : ℕ) → Sizing t index sid d s a b
-    → EachPage (λ q. AtRest (state_of (placement_of (lists_of t)) q)) (pages_from (Data sid 0) d (a - d))
-data_rest t index sid d s a b z =
-    let e = (sizing_counts t index sid d s a b z).0 in
-    pages_from_each (λ q. AtRest (state_of (placement_of (lists_of t)) q)) (Data sid 0) d (a - d) (λ w l m. (z.settled (inl (omega arith))).data_rests w)
+  pub data_rest : Sizing t index sid d s a b → EachPage (λ q. AtRest (state_of (placement_of (lists_of t)) q)) (pages_from (Data sid 0) d (a - d))
+  data_rest z =
+      let e = (sizing_counts t index sid d s a b z).0 in
+      pages_from_each (λ q. AtRest (state_of (placement_of (lists_of t)) q)) (Data sid 0) d (a - d) (λ w l m. (z.settled (inl (omega arith))).data_rests w)
 
-stack_rest : (t : Tables) (index sid d s a b : ℕ) → Sizing t index sid d s a b
-    → EachPage (λ q. AtRest (state_of (placement_of (lists_of t)) q)) (pages_from (Stack sid 0) s (b - s))
-stack_rest t index sid d s a b z =
-    let e = (sizing_counts t index sid d s a b z).1 in
-    pages_from_each (λ q. AtRest (state_of (placement_of (lists_of t)) q)) (Stack sid 0) s (b - s) (λ w l m. (z.settled (inr (omega arith))).stack_rests w)
+  stack_rest : Sizing t index sid d s a b → EachPage (λ q. AtRest (state_of (placement_of (lists_of t)) q)) (pages_from (Stack sid 0) s (b - s))
+  stack_rest z =
+      let e = (sizing_counts t index sid d s a b z).1 in
+      pages_from_each (λ q. AtRest (state_of (placement_of (lists_of t)) q)) (Stack sid 0) s (b - s) (λ w l m. (z.settled (inr (omega arith))).stack_rests w)
 
 -- the pages of the stack, where others were dropped
 pub stack_go : (t u : Tables) (index sid d s a b : ℕ) (qs : List Page) → Sizing t index sid d s a b → Dropped t u qs

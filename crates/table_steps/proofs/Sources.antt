@@ -46,9 +46,10 @@ use Rattle.kernel_tables.specs.View.{Lists, pages_in, source_of, source_shown, t
 use Rattle.kernel_tables.specs.Machine.{lists_of, images_of, image_at, image_shown}
 use Rattle.kernel_tables.specs.Moves.{HasSource, AreFrom}
 use Rattle.kernel_tables.proofs.Rising.{IsOfSpace, data_of_space, stack_of_space, absent_entry, or_none}
-use Rattle.table_steps.proofs.Settles.{facts_low, found_hit, found_miss, found_image}
+use Rattle.table_steps.proofs.Settles.{found_hit, found_miss, found_image}
 use Rattle.kernel_tables.proofs.Shows.{slot_or, data_shown, stack_shown, text_at, text_within, pages_hit, pages_miss}
 use Rattle.kernel_tables.proofs.Stills.{parts_still}
+use Rattle.kernel_tables.proofs.AddedTied.{facts_number as facts_low}
 
 -- The images by their numbers.
 

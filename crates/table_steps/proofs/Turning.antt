@@ -36,64 +36,62 @@ use Rattle.core_map.specs.declared.slot.Slot.TheVariants as tokens
 use Rattle.kernel_tables.specs.Steps.{dirty_shown}
 use Rattle.frame_state.specs.Frame.{Frame}
 
--- What is known of such a step: its page has this place then, which shows this state and mark, and each frame holds
--- the page and the bytes that it held.
-pub record Turning (t n : Lists) (q : Page) (f : ℕ) (place : Place) (s : PageState) (m : Rattle.std.proofs.Common.Bool) : Type 0 where
-  pub known : Known t
-  pub shared : IsShared (placement_of t) q
-  pub named : frame_of (state_of (placement_of t) q) ≡ Some f
-  pub others : (g : ℕ) → g ≢ f → slot_at n.slots g ≡ slot_at t.slots g
-  pub count : length n.slots ≡ length t.slots
-  pub cached : (i v : ℕ) → Text i v ≢ q → frame_holding n.slots (Text i v) ≡ frame_holding t.slots (Text i v)
-  pub held : (g : ℕ) → page_held n g ≡ page_held t g
-  pub bytes : (g : ℕ) → bytes_held n g ≡ bytes_held t g
-  pub spaces : n.spaces ≡ map (placed q place) t.spaces
-  pub texts : n.texts ≡ t.texts
-  pub facts : n.facts ≡ t.facts
-  pub fills : n.fills ≡ t.fills
-  pub residents : n.residents ≡ t.residents
-  pub front : n.front ≡ t.front
-  pub back : n.back ≡ t.back
-  pub shows : page_shown n q place ≡ record { state = s; mark = m; filling = Zeros }
-  pub filling : (y : Filling) → filling_behind s y ≡ Zeros
-  pub marks : AreMarked t.slots t.spaces t.texts → (a : Frame) (r : Page) (mark : Rattle.std.proofs.Common.Bool)
-      → slot_at n.slots f ≡ tokens.Resident a r mark → (r ≡ q) × (mark ≡ placed_mark t.texts place q)
-  pub fits : FitsPage q place
+module _ (t n : Lists) (q : Page) (f : ℕ) (place : Place) (s : PageState) (m : Rattle.std.proofs.Common.Bool) where
+  -- What is known of such a step: its page has this place then, which shows this state and mark, and each frame holds
+  -- the page and the bytes that it held.
+  pub record Turning : Type 0 where
+    pub known : Known t
+    pub shared : IsShared (placement_of t) q
+    pub named : frame_of (state_of (placement_of t) q) ≡ Some f
+    pub others : (g : ℕ) → g ≢ f → slot_at n.slots g ≡ slot_at t.slots g
+    pub count : length n.slots ≡ length t.slots
+    pub cached : (i v : ℕ) → Text i v ≢ q → frame_holding n.slots (Text i v) ≡ frame_holding t.slots (Text i v)
+    pub held : (g : ℕ) → page_held n g ≡ page_held t g
+    pub bytes : (g : ℕ) → bytes_held n g ≡ bytes_held t g
+    pub spaces : n.spaces ≡ map (placed q place) t.spaces
+    pub texts : n.texts ≡ t.texts
+    pub facts : n.facts ≡ t.facts
+    pub fills : n.fills ≡ t.fills
+    pub residents : n.residents ≡ t.residents
+    pub front : n.front ≡ t.front
+    pub back : n.back ≡ t.back
+    pub shows : page_shown n q place ≡ record { state = s; mark = m; filling = Zeros }
+    pub filling : (y : Filling) → filling_behind s y ≡ Zeros
+    pub marks : AreMarked t.slots t.spaces t.texts → (a : Frame) (r : Page) (mark : Rattle.std.proofs.Common.Bool)
+        → slot_at n.slots f ≡ tokens.Resident a r mark → (r ≡ q) × (mark ≡ placed_mark t.texts place q)
+    pub fits : FitsPage q place
 
-pub turn_is : (t n : Lists) (q : Page) (f : ℕ) (place : Place) (s : PageState) (m : Rattle.std.proofs.Common.Bool) → Turning t n q f place s m
-    → placement_of n ≡ turn (placement_of t) q s m n.free n.transfers
-turn_is t n q f place s m d =
-    let p : Placement = placement_of t in
-    let holds : page_of p f ≡ Some q = d.known.owns.names q f d.named in
-    let there = page_in p q f d.named in
-    let a : Arrives t n q f place = record {
-      differ = d.known.differ;
-      apart = λ w x e. x (same_Some w q (sym (d.known.owns.names w f e) ∙ holds));
-      slots = d.others;
-      cached = d.cached;
-      spaces = d.spaces;
-      saved = λ i v x l. ap (λ (ts : List SharedText). is_saved (text_numbered ts i) v) d.texts;
-      facts = d.facts;
-      there = there;
-      entry = shared_entry t q d.known.tied d.shared there;
-    } in
-    let b : SameLists n (put p q s m) = segments_are t n q f s m (arrives_moved t n q f place a)
-    (record {
-      there = there;
-      slot = arrived t n q f place a ∙ d.shows ∙ ap (λ (z : Filling). let w : Slot = record { state = s; mark = m; filling = z } in w) (sym (d.filling (slot_of p q).filling));
-    }) in
-    placement_ext (placement_of n) (turn p q s m n.free n.transfers) b.spaces b.texts
-    (ap (λ (k : ℕ). map (page_held n) (range_with_len 1 (k - 1))) d.count ∙ frames_same (page_held t) (page_held n) (range_with_len 1 (length t.slots - 1)) d.held)
-    refl refl d.front d.back d.residents (ap (map due_shown) d.fills)
+  pub turn_is : Turning → placement_of n ≡ turn (placement_of t) q s m n.free n.transfers
+  turn_is d =
+      let p : Placement = placement_of t in
+      let holds : page_of p f ≡ Some q = d.known.owns.names q f d.named in
+      let there = page_in p q f d.named in
+      let a : Arrives t n q f place = record {
+        differ = d.known.differ;
+        apart = λ w x e. x (same_Some w q (sym (d.known.owns.names w f e) ∙ holds));
+        slots = d.others;
+        cached = d.cached;
+        spaces = d.spaces;
+        saved = λ i v x l. ap (λ (ts : List SharedText). is_saved (text_numbered ts i) v) d.texts;
+        facts = d.facts;
+        there = there;
+        entry = shared_entry t q d.known.tied d.shared there;
+      } in
+      let b : SameLists n (put p q s m) = segments_are t n q f s m (arrives_moved t n q f place a)
+      (record {
+        there = there;
+        slot = arrived t n q f place a ∙ d.shows ∙ ap (λ (z : Filling). let w : Slot = record { state = s; mark = m; filling = z } in w) (sym (d.filling (slot_of p q).filling));
+      }) in
+      placement_ext (placement_of n) (turn p q s m n.free n.transfers) b.spaces b.texts
+      (ap (λ (k : ℕ). map (page_held n) (range_with_len 1 (k - 1))) d.count ∙ frames_same (page_held t) (page_held n) (range_with_len 1 (length t.slots - 1)) d.held)
+      refl refl d.front d.back d.residents (ap (map due_shown) d.fills)
 
-pub turn_frames : (t n : Lists) (q : Page) (f : ℕ) (place : Place) (s : PageState) (m : Rattle.std.proofs.Common.Bool) → Turning t n q f place s m
-    → frames_of n ≡ frames_of t
-turn_frames t n q f place s m d =
-    ap (λ (k : ℕ). map (bytes_held n) (range_with_len 1 (k - 1))) d.count ∙ frames_same (bytes_held t) (bytes_held n) (range_with_len 1 (length t.slots - 1)) d.bytes
+  pub turn_frames : Turning → frames_of n ≡ frames_of t
+  turn_frames d =
+      ap (λ (k : ℕ). map (bytes_held n) (range_with_len 1 (k - 1))) d.count ∙ frames_same (bytes_held t) (bytes_held n) (range_with_len 1 (length t.slots - 1)) d.bytes
 
-pub turn_heads : (t n : Lists) (q : Page) (f : ℕ) (place : Place) (s : PageState) (m : Rattle.std.proofs.Common.Bool) → Turning t n q f place s m
-    → map head_of n.spaces ≡ map head_of t.spaces
-turn_heads t n q f place s m d = ap (map head_of) d.spaces ∙ placed_heads t.spaces q place
+  pub turn_heads : Turning → map head_of n.spaces ≡ map head_of t.spaces
+  turn_heads d = ap (map head_of) d.spaces ∙ placed_heads t.spaces q place
 
 pub turn_tied : (t n : Lists) (q : Page) (f : ℕ) (place : Place) (s : PageState) (m : Rattle.std.proofs.Common.Bool) → Turning t n q f place s m → Tied n
 turn_tied t n q f place s m d = tied_still t n (record {

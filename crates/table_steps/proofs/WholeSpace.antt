@@ -1,10 +1,8 @@
 -- All pages of a space are forgotten.
-use Rattle.std.proofs.Common.{◌≡◌, ◌≢◌, inl, inr, ℕ, zero, suc, ◌-◌, ◌<◌, List, [], ◌∷◌, ◌++◌, length, map, slice_get, option_map, Option, Some, None, refl, sym, ap, ◌∙◌, subst, arith}
-use Rattle.std.proofs.lemmas.Bool.{cases_eq}
+use Rattle.std.proofs.Common.{◌≡◌, ◌≢◌, ℕ, zero, suc, ◌-◌, ◌<◌, List, [], ◌∷◌, ◌++◌, length, map, slice_get, option_map, Option, Some, None, sym, ap, ◌∙◌, subst, arith}
 use Rattle.std.proofs.lemmas.Option.{same_Some}
 use Rattle.vm_facts.specs.declared.page.Page.{Page}
 use Rattle.vm_facts.specs.declared.page.Page.TheVariants.{Data, Stack}
-use Rattle.core_map.specs.declared.slot.Slot.{Slot as Token}
 use Rattle.space_map.specs.Space.{Places}
 use Rattle.flat_state.specs.Numbers.{IsAbsent, AllDistinct}
 use Rattle.flat_state.specs.PageNames.{pages_from}
@@ -25,11 +23,12 @@ use Rattle.kernel_tables.specs.Machine.{lists_of}
 use Rattle.kernel_tables.specs.Changing.{Dropped}
 use Rattle.kernel_tables.proofs.Same.{name_of, names_sids}
 use Rattle.kernel_tables.proofs.Shows.{sids_shown, length_map, put_names}
+use Rattle.kernel_tables.proofs.UserFrames.{numbered_shown}
 use Rattle.table_steps.proofs.Forgets.{dropped_more, all_dropped_rests}
 
 -- Which space stands there.
 
-absent_at : (n m i : ℕ) (ns : List ℕ) → IsAbsent n ns → slice_get ns i ≡ Some m → n ≢ m
+pub absent_at : (n m i : ℕ) (ns : List ℕ) → IsAbsent n ns → slice_get ns i ≡ Some m → n ≢ m
 absent_at n m i [] h e = absurd cc
 absent_at n m zero (k ∷ ns) h e = λ s. h.0 (let same : k ≡ m = cc in same ∙ sym s)
 absent_at n m (suc i) (k ∷ ns) h e = absent_at n m i ns h.1 e
@@ -39,15 +38,6 @@ pub stands_numbered : (ss : List Places) (sid i : ℕ) → AllDistinct (sids_of 
 stands_numbered [] sid i d e = absurd cc
 stands_numbered (s ∷ ss) sid zero d e = numbered_hit (λ (s : Places). s.sid) sid s ss cc
 stands_numbered (s ∷ ss) sid (suc i) d e = numbered_miss (λ (s : Places). s.sid) sid s ss (absent_at s.sid sid i (sids_of ss) d.0 e) ∙ stands_numbered ss sid i d.1 e
-
-pub numbered_shown : (slots : List Token) (ss : List Places) (sid : ℕ)
-    → numbered space_number sid (map (space_shown slots) ss) ≡ option_map (space_shown slots) (numbered (λ (s : Places). s.sid) sid ss)
-numbered_shown slots [] sid = refl
-numbered_shown slots (s ∷ ss) sid = elim (cases_eq s.sid sid) [
-  | inl e ↦ numbered_hit space_number sid (space_shown slots s) (map (space_shown slots) ss) e ∙ sym (ap (option_map (space_shown slots)) (numbered_hit (λ (s : Places). s.sid) sid s ss e))
-  | inr n ↦ numbered_miss space_number sid (space_shown slots s) (map (space_shown slots) ss) n ∙ numbered_shown slots ss sid
-      ∙ sym (ap (option_map (space_shown slots)) (numbered_miss (λ (s : Places). s.sid) sid s ss n))
-]
 
 pub stands_shown : (t : Lists) (sid i : ℕ) → AllDistinct (sids_of t.spaces) → StandsAt t.spaces sid i
     → numbered space_number sid (placement_of t).spaces ≡ option_map (space_shown t.slots) (slice_get t.spaces i)

@@ -1,8 +1,8 @@
 -- A placement that a core map and a space show.
-use Rattle.std.proofs.Common.{◌≡◌, ℕ, zero, suc, ◌<◌, ◌≤◌, ◌==◌, not, Bool, true, false, cond, List, [], ◌∷◌, length, map, get_or, slice_get, Option, Some, None, IsTrue, refl, sym, ap, ◌∙◌, subst, arith}
-use Rattle.std.proofs.lemmas.Bool.Decides.{nat_tests}
+use Rattle.std.proofs.Common.{◌≡◌, ℕ, zero, suc, ◌<◌, ◌≤◌, not, Bool, true, false, cond, List, [], ◌∷◌, length, map, get_or, slice_get, Option, Some, None, IsTrue, refl, sym, ap, ◌∙◌, subst, arith}
 use Rattle.vm_facts.specs.declared.page.Page.{Page}
 use Rattle.vm_facts.specs.declared.page.Page.TheVariants.{Data, Stack, Text}
+use Rattle.vm_facts.proofs.Tests.{eq_self}
 use Rattle.space_map.specs.Place.{Place}
 use Rattle.space_map.specs.Place.TheVariants as places
 use Rattle.core_map.specs.declared.slot.Slot.{Slot as Token}
@@ -79,9 +79,6 @@ double_not : (b : Bool) → not (not b) ≡ b
 double_not true = refl
 double_not false = refl
 
-same : (n : ℕ) → (n == n) ≡ true
-same n = grind (arith, nat_tests)
-
 not_past : (a m n : ℕ) → m ≡ n → n ≤ a → a < m → ⊥
 not_past a m n e f there = omega arith
 
@@ -103,21 +100,21 @@ shows p slots q make xs (Some place) e f st dm g =
 pages : (core : Frames) (s : Places) → ValidAreSeated core s → (q : Page) → IsNamedBy s q → ShowsPage (witness core s) core.slots q (place_in s q)
 pages core s h (Data sid v) e =
     subst (λ (x : ℕ). ShowsPage (witness core s) core.slots (Data x v) (place_in s (Data x v))) (sym e)
-    (let is : place_in s (Data s.sid v) ≡ slice_get s.data v = ap (λ (b : Bool). cond b (slice_get s.data v) None) (same s.sid) in
+    (let is : place_in s (Data s.sid v) ≡ slice_get s.data v = ap (λ (b : Bool). cond b (slice_get s.data v) None) (eq_self s.sid) in
     shows (witness core s) core.slots (Data s.sid v) (made core.slots) s.data (place_in s (Data s.sid v))
-    (ap (λ (b : Bool). data_in (cond b (Some (record { sid = s.sid; image = s.image; data_pages = map (made core.slots) s.data; stack_pages = map (made core.slots) s.stack })) None)) (same s.sid))
+    (ap (λ (b : Bool). data_in (cond b (Some (record { sid = s.sid; image = s.image; data_pages = map (made core.slots) s.data; stack_pages = map (made core.slots) s.stack })) None)) (eq_self s.sid))
     (subst (Found (made core.slots) s.data v) (sym is) (found (made core.slots) s.data v)) (λ place. refl) (λ place. refl) (h (Data s.sid v)))
 pages core s h (Stack sid v) e =
     subst (λ (x : ℕ). ShowsPage (witness core s) core.slots (Stack x v) (place_in s (Stack x v))) (sym e)
-    (let is : place_in s (Stack s.sid v) ≡ slice_get s.stack v = ap (λ (b : Bool). cond b (slice_get s.stack v) None) (same s.sid) in
+    (let is : place_in s (Stack s.sid v) ≡ slice_get s.stack v = ap (λ (b : Bool). cond b (slice_get s.stack v) None) (eq_self s.sid) in
     shows (witness core s) core.slots (Stack s.sid v) (made core.slots) s.stack (place_in s (Stack s.sid v))
-    (ap (λ (b : Bool). stack_in (cond b (Some (record { sid = s.sid; image = s.image; data_pages = map (made core.slots) s.data; stack_pages = map (made core.slots) s.stack })) None)) (same s.sid))
+    (ap (λ (b : Bool). stack_in (cond b (Some (record { sid = s.sid; image = s.image; data_pages = map (made core.slots) s.data; stack_pages = map (made core.slots) s.stack })) None)) (eq_self s.sid))
     (subst (Found (made core.slots) s.stack v) (sym is) (found (made core.slots) s.stack v)) (λ place. refl) (λ place. refl) (h (Stack s.sid v)))
 pages core s h (Text image v) e =
     subst (λ (x : ℕ). ShowsPage (witness core s) core.slots (Text x v) (place_in s (Text x v))) (sym e)
-    (let is : place_in s (Text s.image v) ≡ slice_get s.text v = ap (λ (b : Bool). cond b (slice_get s.text v) None) (same s.image) in
+    (let is : place_in s (Text s.image v) ≡ slice_get s.text v = ap (λ (b : Bool). cond b (slice_get s.text v) None) (eq_self s.image) in
     shows (witness core s) core.slots (Text s.image v) (text_made core.slots) s.text (place_in s (Text s.image v))
-    (ap (λ (b : Bool). text_in (cond b (Some (record { image = s.image; text_pages = map (text_made core.slots) s.text })) None)) (same s.image))
+    (ap (λ (b : Bool). text_in (cond b (Some (record { image = s.image; text_pages = map (text_made core.slots) s.text })) None)) (eq_self s.image))
     (subst (Found (text_made core.slots) s.text v) (sym is) (found (text_made core.slots) s.text v)) (λ place. refl) (λ place. double_not (mark core.slots place)) (h (Text s.image v)))
 
 pub is_shown : (core : Frames) (s : Places) → ValidAreSeated core s → ShowsSpace (witness core s) core s

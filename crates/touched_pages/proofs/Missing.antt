@@ -1,5 +1,5 @@
 -- The first byte that misses where some pages alone are shown is of the first touched page that is none of them.
-use Rattle.std.proofs.Common.{◌≡◌, ◌⊎◌, inl, inr, ℕ, ◌/◌, Bool, true, false, ◌||◌, List, [], ◌∷◌, ◌++◌, filter_map, Option, Some, None, Err, refl, sym, ap, ◌∙◌, subst}
+use Rattle.std.proofs.Common.{◌≡◌, ◌⊎◌, inl, inr, ℕ, ◌/◌, Bool, true, false, List, [], ◌∷◌, ◌++◌, filter_map, Option, Some, None, Err, refl, sym, ap, ◌∙◌, subst}
 use Rattle.std.specs.List.{cons_option}
 use Rattle.std.proofs.lemmas.List.Elements.{filter_map-append}
 use Rattle.vm_facts.specs.Answers.{Answers}
@@ -17,11 +17,10 @@ use Rattle.user_vax.specs.declared.refused.Refused.TheVariants.{Miss}
 use Rattle.user_vax.proofs.Order.{keeps_order, same_or_misses}
 use Rattle.flat_state.specs.declared.spot.Spot.{Spot}
 use Rattle.flat_state.specs.declared.spot.Spot.TheVariants as spots
-use Rattle.flat_state.specs.PageNames.{same_page, is_among}
-use Rattle.flat_state.proofs.PageNames.{same_page_is}
+use Rattle.flat_state.specs.PageNames.{is_among}
 use Rattle.flat_state.specs.Space.{Space, address_in, answers_of}
 use Rattle.page_model.specs.Pages.{is_valid}
-use Rattle.page_model.specs.Placement.{Placement, image_of, state_of}
+use Rattle.page_model.specs.Placement.{image_of, state_of}
 use Rattle.kernel_model.specs.Kernel.{Kernel}
 use Rattle.machine_state.specs.UserMemory.{spot_in, page_at_spot, page_in, read_spot, may_write_by, may_write_spot}
 use Rattle.flat_model.specs.Touched.{page_read, page_tested, page_of_access}
@@ -31,15 +30,8 @@ use Rattle.run_model.specs.Wanted.{AllValid}
 use Rattle.run_units.proofs.Touching.{IsHit, AllHit, NotMissed, all_hit, granted_hit, Missing, read_missing, test_missing, SameSpots}
 use Rattle.touched_pages.specs.Shown.{shown_in}
 use Rattle.flat_state.proofs.PageLists.{AllAmong}
-
--- a page of a list all of which are valid
-pub among_valid : (p : Placement) (ps : List Page) (q : Page) → AllValid p ps → is_among q ps ≡ true → is_valid (state_of p q) ≡ true
-among_valid p [] q v h = absurd cc
-among_valid p (r ∷ ps) q v h = go (λ k. among_valid p ps q v.1 k) (same_page q r) refl h
-  where
-    go : (is_among q ps ≡ true → is_valid (state_of p q) ≡ true) → (b : Bool) → same_page q r ≡ b → (b || is_among q ps) ≡ true → is_valid (state_of p q) ≡ true
-    go later true e k = ap (λ (o : Page). is_valid (state_of p o)) (same_page_is q r e) ∙ v.0
-    go later false e k = later k
+use Rattle.run_laws.proofs.Flows.{valid_among}
+use Rattle.run_units.proofs.Instructing.{append_one, hit_both, append_none}
 
 -- The page of an access.
 
@@ -134,7 +126,7 @@ not_shown ps (Some q) e = (q, refl, e)
 shown_valid : (k : Kernel) (x : Space) (ps : List Page) (o : Option Page) (spot : Spot) → AllValid k.place ps
     → is_shown ps (page_at_spot k.place x.sid spot) ≡ true → Missing k x o spot → ⊥
 shown_valid k x ps o spot v h m =
-    let valid : is_valid (state_of k.place m.page) ≡ true = among_valid k.place ps m.page v (shown_of ps (page_at_spot k.place x.sid spot) m.page m.of_spot h) in
+    let valid : is_valid (state_of k.place m.page) ≡ true = valid_among k.place ps m.page v (shown_of ps (page_at_spot k.place x.sid spot) m.page m.of_spot h) in
     let absent = m.absent in
     cc
 
@@ -216,18 +208,6 @@ next_at k x e ps list front rest last address write v whole hits miss =
       at = b.at;
     }
 
-append_parts : (xs ys zs : List ByteAccess) → (xs ++ ys) ++ zs ≡ xs ++ (ys ++ zs)
-append_parts [] ys zs = refl
-append_parts (x ∷ xs) ys zs = ap (λ (list : List ByteAccess). x ∷ list) (append_parts xs ys zs)
-
-pub append_none : (list : List ByteAccess) → list ++ [] ≡ list
-append_none [] = refl
-append_none (a ∷ list) = ap (λ (others : List ByteAccess). a ∷ others) (append_none list)
-
-pub hit_both : (memory : Answers) (xs ys : List ByteAccess) → AllHit memory xs → AllHit memory ys → AllHit memory (xs ++ ys)
-hit_both memory [] ys h k = k
-hit_both memory (x ∷ xs) ys h k = (h.0, hit_both memory xs ys h.1 k)
-
 -- a computation that misses, after accesses that don't, and before others
 pub program_misses : {B : Type 0} (k : Kernel) (x : Space) (e : SameSpots k x) (ps : List Page) (q : Program B) (before after : List ByteAccess)
     (address : ℕ) (write : Bool)
@@ -243,8 +223,8 @@ program_misses k x e ps q before after address write v c hits m =
     ] in
     next_at k x e ps (before ++ (accesses (answers_of x) q ++ after)) (before ++ ends.0) (more.0 ++ after) ends.1 address write v
     (ap (λ (list : List ByteAccess). before ++ (list ++ after)) (more.1 ∙ ap (λ (list : List ByteAccess). list ++ more.0) ends.2)
-    ∙ ap (λ (list : List ByteAccess). before ++ list) (append_parts (ends.0 ++ ends.1 ∷ []) more.0 after ∙ append_parts ends.0 (ends.1 ∷ []) (more.0 ++ after))
-    ∙ sym (append_parts before ends.0 (ends.1 ∷ (more.0 ++ after))))
+    ∙ ap (λ (list : List ByteAccess). before ++ list) (append_one (ends.0 ++ ends.1 ∷ []) more.0 after ∙ append_one ends.0 (ends.1 ∷ []) (more.0 ++ after))
+    ∙ sym (append_one before ends.0 (ends.1 ∷ (more.0 ++ after))))
     (hit_both memory before ends.0 hits (granted_hit memory ends.0 ends.3)) ends.4
 
 -- one that doesn't comes to the same over the flat memory, by accesses that don't

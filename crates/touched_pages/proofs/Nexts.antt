@@ -24,7 +24,8 @@ use Rattle.run_units.proofs.Calling.{calls_write_none}
 use Rattle.touched_pages.specs.Shown.{shown_in}
 use Rattle.touched_pages.specs.Missed.{missed_byte, missed_by_call, missed_behind_by, missed_behind}
 use Rattle.flat_state.proofs.PageLists.{AllAmong}
-use Rattle.touched_pages.proofs.Missing.{NextAt, hit_among, hit_both, append_none, program_misses, Whole, program_whole}
+use Rattle.run_units.proofs.Instructing.{hit_both, append_none}
+use Rattle.touched_pages.proofs.Missing.{NextAt, hit_among, program_misses, Whole, program_whole}
 
 -- what the first byte that misses says of accesses: it is of the first page that isn't shown; where none misses all are
 abbrev pub NextOf : Kernel → Space → List Page → List ByteAccess → Option ℕ → Type 0

@@ -6,7 +6,6 @@ use Rattle.std.proofs.lemmas.Bool.{cases_eq}
 use Rattle.std.proofs.lemmas.Bool.Decides.{nat_tests}
 use Rattle.vm_facts.specs.Answers.{Answers, ByteWrite, read_by, put_byte}
 use Rattle.vm_facts.specs.declared.memory.ByteRead.{ByteRead}
-use Rattle.vm_facts.specs.declared.memory.MayWrite.{MayWrite}
 use Rattle.vm_facts.specs.declared.memory.MayWrite.TheVariants as tests
 use Rattle.vm_facts.specs.declared.page.Page.{Page}
 use Rattle.vm_facts.specs.declared.page.Page.TheVariants as pages
@@ -26,6 +25,7 @@ use Rattle.machine_state.specs.UserMemory.{bytes_of, spot_in, page_at_spot, page
 use Rattle.machine_state.specs.UserMemoryLaws.{through_answers}
 use Rattle.machine_state.specs.Lent.{WroteThrough}
 use Rattle.user_step.specs.Slots.{may_where}
+use Rattle.user_step.proofs.Storing.{may_slot}
 use Rattle.flat_model.specs.Shown.{is_shown, read_where}
 use Rattle.touched_pages.specs.Shown.{only, shown_in, WroteShown}
 
@@ -73,15 +73,6 @@ spot_written k sid byte a (spots.Stack i) = page_written k (pages.Stack sid (i /
 spot_written k sid byte a spots.Below = refl
 spot_written k sid byte a spots.Outside = refl
 
--- A byte that may be written is of a page that is shown.
-may_shown : (b : Bool) (answer : MayWrite) → may_where b answer ≡ tests.May → b ≡ true
-may_shown true answer e = refl
-may_shown false tests.May e = absurd cc
-may_shown false tests.Miss e = absurd cc
-may_shown false tests.Below e = absurd cc
-may_shown false tests.Text e = absurd cc
-may_shown false tests.Outside e = absurd cc
-
 -- What is shown after such a write is what was shown, with the byte.
 only_put : (p : Placement) (sid : ℕ) (ps : List Page) (memory : Answers) (w : ByteWrite) → is_shown ps (page_in p sid w.address) ≡ true
     → only p sid ps (put_byte memory w) ≡ put_byte (only p sid ps memory) w
@@ -128,7 +119,7 @@ wrote_shown m n l k ps w h may = record {
       ∙ ap (λ (sid : ℕ). shown_in (write_in m.now.kernel l.sid w) sid ps) same
       ∙ written_shown m.now.kernel l.sid ps w
       (sym (ap (λ (x : Kernel). kernel_answers x l.sid) behind) ∙ sym (ap (λ (sid : ℕ). kernel_answers n.now.kernel sid) same) ∙ through_answers m n l k (w ∷ []) h)
-      (may_shown (is_shown ps (page_in m.now.kernel.place l.sid w.address)) ((kernel_answers m.now.kernel l.sid).may_write w.address) may);
+      (may_slot (is_shown ps (page_in m.now.kernel.place l.sid w.address)) ((kernel_answers m.now.kernel l.sid).may_write w.address) may);
 }
 
 -- Bytes that lie together in a page that is shown are read as they are.

@@ -1,8 +1,7 @@
 -- Texts that are, or are none, of a part.
-use Rattle.std.proofs.Common.{◌≡◌, ℕ, ◌≤◌, nat_lt, Bool, true, List, [], ◌∷◌, ◌++◌, length, refl, sym, ◌∙◌, ap, subst, arith, codes, append_assoc}
+use Rattle.std.proofs.Common.{◌≡◌, ℕ, ◌≤◌, Bool, List, [], ◌∷◌, ◌++◌, length, refl, sym, ◌∙◌, ap, subst, arith, codes, append_assoc}
 use Rattle.std.specs.Prelude.{if◌then◌else◌, Option, Some, None}
 use Rattle.std.proofs.lemmas.Option.{none-some}
-use Rattle.std.proofs.lemmas.Bool.Decides.{nat_tests}
 use Rattle.vm_facts.specs.declared.page.Page.{Page}
 use Rattle.vm_facts.specs.declared.page.Page.TheVariants.{Data, Stack, Text}
 use Rattle.kernel_model.specs.declared.part.HandPart.{HandPart}
@@ -11,6 +10,7 @@ use Rattle.run_text.specs.Text.{part, parts}
 use Rattle.run_text.specs.Transcript.{page_numbers, AllBelow}
 use Rattle.run_text.specs.EntryParts.{segment_of}
 use Rattle.run_text.proofs.Words.{parts_once}
+use Rattle.run_text.proofs.Parts.{some_count}
 use Rattle.trace_text.specs.Grammar.{part_line, part_numbers, IsPartWithin}
 use Rattle.trace_text.specs.PartFrom.{part_letter, part_page, part_text, part_from, HasPagePart, HasPart}
 
@@ -37,9 +37,6 @@ part_line_is (Frees (Stack sid v)) = refl
 part_line_is (Frees (Text image v)) = refl
 
 -- The part of its letter, its page's letter and its numbers.
-
-some_count : (n : ℕ) → 1 ≤ n → nat_lt 0 n ≡ true
-some_count n h = grind (arith, nat_tests)
 
 abbrev when_some : Page → ℕ → Bool → Option HandPart
 when_some q n t = if t then Some (Writes q n) else None
@@ -107,24 +104,24 @@ record SameCut (l segment m s : ℕ) (behind row : List ℕ) : Type 0 where
 same_cut : (l segment m s : ℕ) (behind row : List ℕ) → l ∷ 32 ∷ segment ∷ behind ≡ m ∷ 32 ∷ s ∷ row → SameCut l segment m s behind row
 same_cut l segment m s behind row e = record { letter = cc; page = cc; numbers = cc }
 
-cut_part_is : (l segment : ℕ) (behind text : List ℕ) (x : HandPart) → CutText l segment behind text → text ≡ part_text x
-    → SameCut l segment (part_letter x) (segment_of (part_page x)) behind (parts (part_numbers x))
-cut_part_is l segment behind text x c is =
-    same_cut l segment (part_letter x) (segment_of (part_page x)) behind (parts (part_numbers x)) (sym (cut_is l segment behind text c) ∙ is)
+module _ (l segment : ℕ) (behind text : List ℕ) where
+  cut_part_is : (x : HandPart) → CutText l segment behind text → text ≡ part_text x
+      → SameCut l segment (part_letter x) (segment_of (part_page x)) behind (parts (part_numbers x))
+  cut_part_is x c is =
+      same_cut l segment (part_letter x) (segment_of (part_page x)) behind (parts (part_numbers x)) (sym (cut_is l segment behind text c) ∙ is)
 
--- what stands behind the page's letter is the numbers of a part
-pub behind_numbers : (l segment : ℕ) (behind text : List ℕ) (x : HandPart) → CutText l segment behind text → text ≡ part_text x
-    → behind ≡ parts (part_numbers x)
-behind_numbers l segment behind text x c is = (cut_part_is l segment behind text x c is).numbers
+  -- what stands behind the page's letter is the numbers of a part
+  pub behind_numbers : (x : HandPart) → CutText l segment behind text → text ≡ part_text x → behind ≡ parts (part_numbers x)
+  behind_numbers x c is = (cut_part_is x c is).numbers
 
--- numbers of no part
-pub part_none : (l segment : ℕ) (behind text numbers : List ℕ) → CutText l segment behind text → behind ≡ parts numbers → AllBelow 4294967296 numbers
-    → None ≡ part_from l segment numbers → (x : HandPart) → IsPartWithin x → text ≡ part_text x → ⊥
-part_none l segment behind text numbers c read below none x h is =
-    let s : SameCut l segment (part_letter x) (segment_of (part_page x)) behind (parts (part_numbers x)) = cut_part_is l segment behind text x c is in
-    let same : numbers ≡ part_numbers x = parts_once numbers (part_numbers x) below h.0 (sym read ∙ s.numbers) in
-    none-some x (none ∙ ap (λ (k : ℕ). part_from k segment numbers) s.letter ∙ ap (λ (k : ℕ). part_from (part_letter x) k numbers) s.page
-    ∙ ap (λ (zs : List ℕ). part_from (part_letter x) (segment_of (part_page x)) zs) same ∙ part_back x h)
+  -- numbers of no part
+  pub part_none : (numbers : List ℕ) → CutText l segment behind text → behind ≡ parts numbers → AllBelow 4294967296 numbers
+      → None ≡ part_from l segment numbers → (x : HandPart) → IsPartWithin x → text ≡ part_text x → ⊥
+  part_none numbers c read below none x h is =
+      let s : SameCut l segment (part_letter x) (segment_of (part_page x)) behind (parts (part_numbers x)) = cut_part_is x c is in
+      let same : numbers ≡ part_numbers x = parts_once numbers (part_numbers x) below h.0 (sym read ∙ s.numbers) in
+      none-some x (none ∙ ap (λ (k : ℕ). part_from k segment numbers) s.letter ∙ ap (λ (k : ℕ). part_from (part_letter x) k numbers) s.page
+      ∙ ap (λ (zs : List ℕ). part_from (part_letter x) (segment_of (part_page x)) zs) same ∙ part_back x h)
 
 -- numbers of a part
 pub part_some : (l segment : ℕ) (behind text numbers : List ℕ) (x : HandPart) → CutText l segment behind text → behind ≡ parts numbers

@@ -11,7 +11,6 @@ use Rattle.run_text.proofs.WrittenLines.{rows_once, none_bad}
 use Rattle.replay_check.specs.Images.{FlatFile, images_of}
 use Rattle.replay_check.specs.Verdicts.{first_bad}
 use Rattle.transcript_laws.specs.Replayed.{entries_shown, BeginsWith, IsFlatText}
-use Rattle.transcript_laws.proofs.Replayed.{lines_few}
 use Rattle.command_ending.specs.declared.fault.Fault.TheVariants.{Absent, NotImage, FileFault, NoMemory, NotFlatRun, BadTranscript, TooLong}
 use Rattle.command_ending.specs.Ending.{Ending}
 use Rattle.command_ending.specs.Command.{Faults}
@@ -19,6 +18,7 @@ use Rattle.command_ending.specs.Named.{Why}
 use Rattle.replay_command.specs.LastLine.{without_fault_line}
 use Rattle.replay_command.specs.Reading.{Read, HasEntries, HasBadLine}
 use Rattle.replay_command.specs.Command.{run_line, IsJudged, LacksImage, EndsReplay}
+use Rattle.replay_command.proofs.LastLines.{few_lines}
 use Rattle.transcript_laws.specs.Accepting.{IsLastLine, ReadsText, IsAccepted}
 use Rattle.transcript_laws.proofs.Lines.{lines_left}
 
@@ -65,7 +65,7 @@ module _ (A : Inputs) (traced : Bool) (journal : List Entry) (line : List ℕ) (
   good n h =
       let ls = without_fault_line (lines_in (text_of traced journal ++ line)) in
       let bad : IsFirstBad IsEntryLine 4294967295 n ls = subst (λ (t : Result (Option (List ℕ)) Unread). HasBadLine t n) reads.text h in
-      let a = lines_few (text_of traced journal ++ line) in
+      let a = few_lines (text_of traced journal ++ line) in
       let b = shorter (lines_in (text_of traced journal ++ line)) in
       let c : length ls ≡ length (bad.before ++ bad.bad ∷ bad.after) = ap length bad.split in
       let d : length (bad.before ++ bad.bad ∷ bad.after) ≡ length bad.before + length (bad.bad ∷ bad.after) = length-append bad.before (bad.bad ∷ bad.after) in

@@ -38,7 +38,7 @@ last_goes [] line is = ap (λ (b : Bool). unless_fault b line) is
 last_goes (l ∷ []) line is = ap (λ (xs : List (List ℕ)). l ∷ xs) (last_goes [] line is)
 last_goes (l ∷ m ∷ ls) line is = ap (λ (xs : List (List ℕ)). l ∷ xs) (last_goes (m ∷ ls) line is)
 
-no_lines : lines_in [] ≡ []
+pub no_lines : lines_in [] ≡ []
 unfolding lines_in
 no_lines = refl
 

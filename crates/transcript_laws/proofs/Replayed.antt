@@ -1,16 +1,17 @@
 -- The text of a lawful journal is read as its entries, and none of them is bad.
-use Rattle.std.proofs.Common.{◌≡◌, ℕ, ◌+◌, ◌==◌, ◌<◌, ◌≤◌, ◌^◌, Bool, true, false, List, [], ◌∷◌, ◌++◌, length, None, refl, ap, ◌∙◌, arith, length-append}
+use Rattle.std.proofs.Common.{◌≡◌, ℕ, ◌+◌, ◌<◌, ◌^◌, Bool, true, false, List, [], ◌∷◌, ◌++◌, length, None, refl, ap, ◌∙◌, arith, length-append}
 use Rattle.vm_facts.specs.declared.entry.Entry.{Entry}
 use Rattle.flat_state.specs.Flat.{Inputs}
 use Rattle.run_model.specs.State.{State}
 use Rattle.run_model.specs.Lawful.{IsLawful}
 use Rattle.run_text.specs.Text.{lines_of, text_of}
-use Rattle.run_text.specs.Lines.{begin_line, lines_in}
+use Rattle.run_text.specs.Lines.{lines_in}
 use Rattle.run_text.specs.Transcript.{IsReadTranscript, IsRead}
 use Rattle.run_text.specs.declared.answers.Transcript.{Transcript}
 use Rattle.run_text.specs.declared.answers.Transcript.TheVariants.{Is, BadLine}
 use Rattle.run_text.proofs.WrittenLines.{IsSmallLine, written_is_read}
 use Rattle.replay_check.specs.Verdicts.{first_bad}
+use Rattle.replay_command.proofs.LastLines.{few_lines}
 use Rattle.transcript_laws.specs.Replayed.{entries_shown, IsTranscriptOf, IsAccepted}
 use Rattle.transcript_laws.proofs.Shown.{shown_run, shown_count, shown_within}
 use Rattle.transcript_laws.proofs.Fronts.{none_is_bad}
@@ -20,21 +21,10 @@ unfolding text_of
 text_lines true journal = refl
 text_lines false journal = refl
 
--- a text has no more lines than bytes
-begun_few : (b : Bool) (x : ℕ) (ls : List (List ℕ)) → length (begin_line b x ls) ≤ 1 + length ls
-begun_few true x ls = omega arith
-begun_few false x [] = omega arith
-begun_few false x (l ∷ ls) = omega arith
-
-pub lines_few : (bytes : List ℕ) → length (lines_in bytes) ≤ length bytes
-unfolding lines_in
-lines_few [] = omega arith
-lines_few (b ∷ bs) = let h = begun_few (b == 10) b (lines_in bs) in let k = lines_few bs in omega arith
-
 small_line : (bytes : List ℕ) (t : Transcript) → length bytes < 2 ^ 32 → IsReadTranscript bytes t → IsSmallLine t
 small_line bytes (Is entries) l r = tt
 small_line bytes (BadLine n) l r =
-    let a = lines_few bytes in
+    let a = few_lines bytes in
     let b : length (lines_in bytes) ≡ length (r.before ++ r.bad ∷ r.after) = ap length r.split in
     let c : length (r.before ++ r.bad ∷ r.after) ≡ length r.before + length (r.bad ∷ r.after) = length-append r.before (r.bad ∷ r.after) in
     let d = r.number in

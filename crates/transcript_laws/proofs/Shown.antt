@@ -5,9 +5,10 @@ use Rattle.vm_facts.specs.declared.entry.Entry.{Entry}
 use Rattle.vm_facts.specs.declared.entry.Entry.TheVariants.{Event, Turn, Ran, Out, Grew, Call, Refused, Sleeps, Ended, Zero, Get, Copy, Reclaim, Hands, Put, Done, SwapOut, SwapIn, Owners}
 use Rattle.flat_state.specs.Flat.{Inputs}
 use Rattle.flat_state.specs.Journal.{repeated, units_with, units_of, counted, instructions_of}
-use Rattle.flat_model.specs.Run.{Point, process_of_entry, flat_entry_by, flat_entry, flat_units, start_point, flat_run}
+use Rattle.flat_model.specs.Run.{Point, process_of_entry, flat_entry, flat_units, start_point, flat_run}
 use Rattle.run_text.specs.Text.{is_paging, unless, without_paging, join_ran, join_before, joined}
 use Rattle.run_text.specs.Transcript.{IsWithin, AreWithin}
+use Rattle.flat_model.proofs.Coming.{stands}
 use Rattle.transcript_laws.specs.Replayed.{entries_shown}
 
 -- Joined entries have the units and the count that they had.
@@ -55,10 +56,6 @@ units_first : (A : Inputs) (point : Point) (u : Entry) (us : List Entry) → fla
 unfolding flat_units
 units_first A point u us = refl
 
-passed : (A : Inputs) (point : Point) (u : Entry) → process_of_entry u ≡ None → flat_entry A point u ≡ Some point
-unfolding flat_entry
-passed A point u e = ap (λ (o : Option ℕ). flat_entry_by A point o u) e
-
 abbrev RunAlike : Inputs → List Entry → List Entry → Type 0
 RunAlike A us vs = (o : Option Point) → flat_units A o us ≡ flat_units A o vs
 
@@ -77,7 +74,7 @@ with_alike A e us vs h = unit_alike A e us vs h
 
 skipped : (A : Inputs) (u : Entry) (us : List Entry) → process_of_entry u ≡ None → RunAlike A us (u ∷ us)
 skipped A u us e None = units_none A us ∙ sym (units_none A (u ∷ us))
-skipped A u us e (Some point) = sym (units_first A point u us ∙ ap (λ (o : Option Point). flat_units A o us) (passed A point u e))
+skipped A u us e (Some point) = sym (units_first A point u us ∙ ap (λ (o : Option Point). flat_units A o us) (stands A point u e))
 
 hands_skipped : (A : Inputs) (n : ℕ) (us : List Entry) → RunAlike A us (repeated (Hands 1) n us)
 hands_skipped A zero us o = refl

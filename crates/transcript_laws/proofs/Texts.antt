@@ -52,7 +52,7 @@ text_flat A hs journal s traced can lawful limit numbers =
     }
 
 -- nothing was done, and nothing is written of it
-start_runs : (A : Inputs) → flat_run A [] ≡ Some (start_point A)
+pub start_runs : (A : Inputs) → flat_run A [] ≡ Some (start_point A)
 unfolding flat_units
 start_runs A = refl
 

@@ -19,6 +19,7 @@ use Rattle.user_vax.specs.Operands.{past, back}
 use Rattle.user_vax.specs.Effects.{bytes_at}
 use Rattle.user_vax.specs.Instruction.{fetch, write_tests}
 use Rattle.user_vax.proofs.Numbers.{past-past, past-none}
+use Rattle.vax_execute.proofs.Within.{past-back}
 use Rattle.user_step.specs.Fetching.{settled}
 use Rattle.user_step.specs.Code.{held_from, with_byte}
 use Rattle.user_step.proofs.Fetching.{fetched, unfetched}
@@ -96,9 +97,6 @@ pub tests_at : (memory : Answers) (size address value : ℕ) → address < 2 ^ 3
 tests_at memory size address value small may =
     ap (λ (a : ℕ). run memory (write_tests (bytes_at size a value))) (sym (past-none address small))
     ∙ tests_from memory size 0 size address value may (omega arith)
-
-past-back : (address from : ℕ) → address < 2 ^ 32 → from < 2 ^ 32 → past from (back address from) ≡ address
-past-back address from small low = grind arith
 
 -- bytes among those that lie together may be written, where these may
 pub tests_within : (memory : Answers) (size many from address value : ℕ) → MayAhead memory from many → address < 2 ^ 32 → from < 2 ^ 32

@@ -83,7 +83,7 @@ stay_more memory address count earlier here i below = go (cases_lt i count)
     go (inl less) = earlier i less
     go (inr least) = subst (λ (k : ℕ). memory.may_write ((address + k) % 2 ^ 32) ≢ May) (let same : count ≡ i = omega (arith, below, least) in same) here
 
-tests_same : (memory : Answers) (ws : List ByteWrite) → (written memory ws).may_write ≡ memory.may_write
+pub tests_same : (memory : Answers) (ws : List ByteWrite) → (written memory ws).may_write ≡ memory.may_write
 tests_same memory [] = refl
 tests_same memory (w ∷ ws) = tests_same (put_byte memory w) ws
 

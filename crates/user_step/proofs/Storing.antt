@@ -51,7 +51,7 @@ kept_slot (slot ∷ slots) w x = go (slot.address == w.address) (kept_slot slots
     go true later = ap (λ (c : Bool). slot.address == x || c) later
     go false later = ap (λ (c : Bool). slot.address == x || c) later
 
-may_slot : (b : Bool) (answer : MayWrite) → may_where b answer ≡ tests.May → b ≡ true
+pub may_slot : (b : Bool) (answer : MayWrite) → may_where b answer ≡ tests.May → b ≡ true
 may_slot true answer e = refl
 may_slot false tests.May e = absurd cc
 may_slot false tests.Miss e = absurd cc

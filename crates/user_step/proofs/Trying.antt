@@ -20,7 +20,7 @@ use Rattle.user_step.specs.Slots.{has_slot, byte_in, all_stored, read_over, may_
 
 -- What a step answers.
 
-call_done : (o : Option ℤ) (s : Stepped) → answer_of_call o ≡ s → ((number : ℤ) → s ≢ steps.Call number) → s ≢ steps.Done → ⊥
+pub call_done : (o : Option ℤ) (s : Stepped) → answer_of_call o ≡ s → ((number : ℤ) → s ≢ steps.Call number) → s ≢ steps.Done → ⊥
 call_done None s e f g = g (sym e)
 call_done (Some number) s e f g = f number (sym e)
 
@@ -30,7 +30,7 @@ done_ok (Err (Miss address write)) e = absurd cc
 done_ok (Err (Below address)) e = absurd cc
 done_ok (Err (Signal number)) e = absurd cc
 
-missed : (r : Result Effect Refused) (address : ℕ) (write : Bool) → answer_of r ≡ steps.Miss address write → r ≡ Err (Miss address write)
+pub missed : (r : Result Effect Refused) (address : ℕ) (write : Bool) → answer_of r ≡ steps.Miss address write → r ≡ Err (Miss address write)
 missed (Ok effect) address write e = absurd (call_done effect.call (steps.Miss address write) e (λ n z. absurd cc) (λ z. absurd cc))
 missed (Err (Miss a w)) address write e = cc
 missed (Err (Below a)) address write e = absurd cc

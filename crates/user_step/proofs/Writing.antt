@@ -1,6 +1,6 @@
 -- Tests and writes, one number after another.
 use Rattle.std.proofs.Common.{◌≡◌, ◌∙◌, List, [], ◌∷◌, ◌++◌, refl, ap, sym}
-use Rattle.vm_facts.specs.Answers.{Answers, ByteWrite, put_byte, written}
+use Rattle.vm_facts.specs.Answers.{Answers, ByteWrite}
 use Rattle.user_vax.specs.Program.{Program, Tests, ◌>>=◌, run}
 use Rattle.user_vax.specs.Instruction.{MayAll, write_tests}
 use Rattle.user_vax.proofs.Runs.{then, run_bind}
@@ -19,8 +19,3 @@ tests_append memory xs ys =
 pub may_along : (some other : Answers) (writes : List ByteWrite) → some.may_write ≡ other.may_write → MayAll some writes → MayAll other writes
 may_along some other [] e h = tt
 may_along some other (write ∷ writes) e h = (sym (ap (λ test. test write.address) e) ∙ h.0, may_along some other writes e h.1)
-
--- what was written leaves the tests as they were
-pub written_tests : (memory : Answers) (writes : List ByteWrite) → (written memory writes).may_write ≡ memory.may_write
-written_tests memory [] = refl
-written_tests memory (write ∷ writes) = written_tests (put_byte memory write) writes

@@ -102,32 +102,31 @@ bind_and : (o : Option ℕ) (f : ℕ → Option (List ℕ)) → (is_some o && is
 bind_and None f = refl
 bind_and (Some x) f = refl
 
-bits_first : (labels : List Definition) (from : ℕ) (slot : Slot) (target : Value)
-    → (is_some (bits_of_value labels 4 target) && is_some (target_bytes labels from slot target)) ≡ is_some (target_bytes labels from slot target)
-unfolding target_bytes
-bits_first labels from slot target =
-    bind_and (bits_of_value labels 4 target) (λ address. branch_bits slot.size (distance address (from + slot.size)) >>= λ bits. Some (to_le_bytes (width_of slot.size) bits))
+module _ (labels : List Definition) (from : ℕ) (slot : Slot) where
+  bits_first : (target : Value)
+      → (is_some (bits_of_value labels 4 target) && is_some (target_bytes labels from slot target)) ≡ is_some (target_bytes labels from slot target)
+  unfolding target_bytes
+  bits_first target =
+      bind_and (bits_of_value labels 4 target) (λ address. branch_bits slot.size (distance address (from + slot.size)) >>= λ bits. Some (to_le_bytes (width_of slot.size) bits))
 
-target_agrees : (labels : List Definition) (from : ℕ) (slot : Slot) (target : Value)
-    → is_none (target_reason labels from slot target) ≡ is_some (target_bytes labels from slot target)
-unfolding target_reason
-target_agrees labels from slot target =
-    or_none_is (value_reason labels 4 target) (unless (is_some (target_bytes labels from slot target)) reasons.BranchOutOfRange) ∙
-    ap (λ (t : Bool). t && is_none (unless (is_some (target_bytes labels from slot target)) reasons.BranchOutOfRange)) (value_agrees labels 4 target) ∙
-    ap (λ (t : Bool). is_some (bits_of_value labels 4 target) && t) (unless_is (is_some (target_bytes labels from slot target)) reasons.BranchOutOfRange) ∙
-    bits_first labels from slot target
+  target_agrees : (target : Value) → is_none (target_reason labels from slot target) ≡ is_some (target_bytes labels from slot target)
+  unfolding target_reason
+  target_agrees target =
+      or_none_is (value_reason labels 4 target) (unless (is_some (target_bytes labels from slot target)) reasons.BranchOutOfRange) ∙
+      ap (λ (t : Bool). t && is_none (unless (is_some (target_bytes labels from slot target)) reasons.BranchOutOfRange)) (value_agrees labels 4 target) ∙
+      ap (λ (t : Bool). is_some (bits_of_value labels 4 target) && t) (unless_is (is_some (target_bytes labels from slot target)) reasons.BranchOutOfRange) ∙
+      bits_first target
 
-branch_agrees : (labels : List Definition) (from : ℕ) (slot : Slot) (written : Written)
-    → is_none (branch_reason labels from slot written) ≡ is_some (branch_bytes labels from slot written)
-unfolding branch_reason branch_bytes
-branch_agrees labels from slot writtens.Absent = refl
-branch_agrees labels from slot (writtens.Literal number) = refl
-branch_agrees labels from slot (writtens.Register reg) = refl
-branch_agrees labels from slot (writtens.Immediate value) = refl
-branch_agrees labels from slot (writtens.Plain base) = refl
-branch_agrees labels from slot (writtens.Indexed index base) = refl
-branch_agrees labels from slot (writtens.Misindexed immediate) = refl
-branch_agrees labels from slot (writtens.Target target) = target_agrees labels from slot target
+  branch_agrees : (written : Written) → is_none (branch_reason labels from slot written) ≡ is_some (branch_bytes labels from slot written)
+  unfolding branch_reason branch_bytes
+  branch_agrees writtens.Absent = refl
+  branch_agrees (writtens.Literal number) = refl
+  branch_agrees (writtens.Register reg) = refl
+  branch_agrees (writtens.Immediate value) = refl
+  branch_agrees (writtens.Plain base) = refl
+  branch_agrees (writtens.Indexed index base) = refl
+  branch_agrees (writtens.Misindexed immediate) = refl
+  branch_agrees (writtens.Target target) = target_agrees target
 
 immediate_agrees : (labels : List Definition) (slot : Slot) (value : Value)
     → is_none (value_reason labels slot.size value) ≡ is_some (immediate_bytes labels slot value)

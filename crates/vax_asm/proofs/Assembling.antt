@@ -50,7 +50,8 @@ labels_step labels labels' at (suc left) size rest more item all e sized some ne
     append_assoc labels (item_definition at item) (definitions (at + item_size item) (take left (items_in more))) ∙
     ap (λ (l : List (Option SourceLine)). labels ++ definitions at (take (suc left) l)) (sym next) ∙ h
 
-address_append : (before : List (Option SourceLine)) (item : Option SourceLine) → address_after (before ++ item ∷ []) ≡ address_after before + item_size item
+pub address_append : (before : List (Option SourceLine)) (item : Option SourceLine)
+    → address_after (before ++ item ∷ []) ≡ address_after before + item_size item
 address_append [] item = omega arith
 address_append (x ∷ before) item = (let more : address_after (before ++ item ∷ []) ≡ address_after before + item_size item = address_append before item in
     sums (item_size x) (address_after (before ++ item ∷ [])) (address_after before) (item_size item) more)

@@ -135,23 +135,23 @@ absent_long row place (writtens.Indexed index base) bytes e = absurd (cc)
 absent_long row place (writtens.Misindexed immediate) bytes e = absurd (cc)
 absent_long row place (writtens.Target target) bytes e = absurd (cc)
 
-by_branch : (labels : List Definition) (from : ℕ) (row : Row) (place : ℕ) (written : Written) (bytes : List ℕ) (branch : Bool)
-    → (if branch then branch_bytes labels from (slot_in row place) written else specifier_bytes labels (slot_in row place) written) ≡ Some bytes
-    → length bytes ≡ operand_size row place written
-by_branch labels from row place written bytes true e = branch_long labels from row place written bytes e
-by_branch labels from row place written bytes false e = specifier_long labels row place written bytes e
+module _ (labels : List Definition) (from : ℕ) (row : Row) (place : ℕ) (written : Written) (bytes : List ℕ) where
+  by_branch : (branch : Bool)
+      → (if branch then branch_bytes labels from (slot_in row place) written else specifier_bytes labels (slot_in row place) written) ≡ Some bytes
+      → length bytes ≡ operand_size row place written
+  by_branch true e = branch_long labels from row place written bytes e
+  by_branch false e = specifier_long labels row place written bytes e
 
-by_place : (labels : List Definition) (from : ℕ) (row : Row) (place : ℕ) (written : Written) (bytes : List ℕ) (here : Bool)
-    → (if here then (if is_branch (slot_in row place).access then branch_bytes labels from (slot_in row place) written else specifier_bytes labels
-    (slot_in row place) written) else absent_bytes written) ≡ Some bytes
-    → length bytes ≡ operand_size row place written
-by_place labels from row place written bytes true e = by_branch labels from row place written bytes (is_branch (slot_in row place).access) e
-by_place labels from row place written bytes false e = absent_long row place written bytes e
+  by_place : (here : Bool)
+      → (if here then (if is_branch (slot_in row place).access then branch_bytes labels from (slot_in row place) written else specifier_bytes labels
+      (slot_in row place) written) else absent_bytes written) ≡ Some bytes
+      → length bytes ≡ operand_size row place written
+  by_place true e = by_branch (is_branch (slot_in row place).access) e
+  by_place false e = absent_long row place written bytes e
 
-pub operand_long : (labels : List Definition) (from : ℕ) (row : Row) (place : ℕ) (written : Written) (bytes : List ℕ)
-    → operand_bytes labels from row place written ≡ Some bytes → length bytes ≡ operand_size row place written
-unfolding operand_bytes
-operand_long labels from row place written bytes e = by_place labels from row place written bytes (nat_lt place row.count) e
+  pub operand_long : operand_bytes labels from row place written ≡ Some bytes → length bytes ≡ operand_size row place written
+  unfolding operand_bytes
+  operand_long e = by_place (nat_lt place row.count) e
 
 sentence_long : (labels : List Definition) (at : ℕ) (s : Sentence) (bytes : List ℕ) → sentence_bytes labels at s ≡ Some bytes → length bytes ≡ sentence_size s
 unfolding sentence_bytes sentence_size

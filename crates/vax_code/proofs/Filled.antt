@@ -86,7 +86,7 @@ read_filled bytes x row h listed chmk =
     let one : found.0.count ≡ 1 = one_operand first.0.0 found.0 here (ap (λ (r : Row). is_chmk r.name) same ∙ chmk) in
     operands_filled first.0.0 found.0 first.0.1 x one found.2
 
-decoding_read : (read : Read Instr) (instr : Instr) → decoding_of read ≡ decodings.Is instr → (rest : List ℕ) × (read ≡ Ok (instr, rest))
+pub decoding_read : (read : Read Instr) (instr : Instr) → decoding_of read ≡ decodings.Is instr → (rest : List ℕ) × (read ≡ Ok (instr, rest))
 decoding_read (Ok x) instr h = let same : x.0 ≡ instr = cc in (x.1, ap (λ (i : Instr). Ok (i, x.1)) same)
 decoding_read (Err Short) instr h = absurd cc
 decoding_read (Err Bad) instr h = absurd cc

@@ -10,13 +10,9 @@ use Rattle.vax_code.proofs.Readers.{parts, octets-append}
 use Rattle.vax_code.proofs.Reading.{instruction_reader}
 use Rattle.vax_code.proofs.Spelling.{instruction_spelled, octets_front}
 use Rattle.vax_code.proofs.Parsing.{instruction_read}
+use Rattle.vax_code.proofs.Filled.{decoding_read}
 
 -- ---- what a decoding says of the reading
-
-is_read : (read : Read Instr) (instr : Instr) → decoding_of read ≡ decodings.Is instr → (rest : List ℕ) × (read ≡ Ok (instr, rest))
-is_read (Ok x) instr h = let same : x.0 ≡ instr = cc in (x.1, ap (λ (i : Instr). Ok (i, x.1)) same)
-is_read (Err Short) instr h = absurd (cc)
-is_read (Err Bad) instr h = absurd (cc)
 
 is_short : (read : Read Instr) → decoding_of read ≡ decodings.NeedMore → read ≡ Err Short
 is_short (Ok x) h = absurd (cc)
@@ -33,7 +29,7 @@ is_bad (Err Bad) h = refl
 pub begins : (bytes : List ℕ) (instr : Instr) → AreOctets bytes → decoded bytes ≡ decodings.Is instr → BeginsWith bytes instr
 unfolding decoded
 begins bytes instr octets h =
-    let read = is_read (instruction_at bytes) instr h in
+    let read = decoding_read (instruction_at bytes) instr h in
     let front = instruction_reader.fronts bytes instr read.0 read.1 in
     record {
       front = front.0;
@@ -42,7 +38,7 @@ begins bytes instr octets h =
       whole = instruction_spelled front.0 instr (octets_front front.0 read.0 (subst (λ (l : List ℕ). AreOctets l) front.1 octets)) front.2;
     }
 
-begun : (bytes : List ℕ) (instr : Instr) → BeginsWith bytes instr → (rest : List ℕ) × (instruction_at bytes ≡ Ok (instr, rest))
+pub begun : (bytes : List ℕ) (instr : Instr) → BeginsWith bytes instr → (rest : List ℕ) × (instruction_at bytes ≡ Ok (instr, rest))
 begun bytes instr h =
     (h.rest, ap instruction_at h.split ∙ instruction_reader.extends h.front h.rest instr [] (instruction_read h.front instr h.whole))
 
@@ -124,7 +120,7 @@ exact bytes found octets e =
 pub decoded_extends : (bytes more : List ℕ) (instr : Instr) → decoded bytes ≡ decodings.Is instr → decoded (bytes ++ more) ≡ decodings.Is instr
 unfolding decoded
 decoded_extends bytes more instr h =
-    let read = is_read (instruction_at bytes) instr h in
+    let read = decoding_read (instruction_at bytes) instr h in
     ap decoding_of (instruction_reader.extends bytes more instr read.0 read.1)
 
 pub decoded_stuck : (bytes more : List ℕ) → decoded bytes ≡ decodings.Reserved → decoded (bytes ++ more) ≡ decodings.Reserved

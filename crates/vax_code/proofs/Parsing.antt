@@ -33,7 +33,7 @@ record BaseBegun (base : Base) (bytes : List ℕ) : Type 0 where
   pub free : (index : ℕ) → index < 15 → LeavesIndex index base → changes index mode reg ≡ false
   pub reads : base_at mode reg rest ≡ Ok (base, [])
 
-not_pc : (reg : ℕ) → reg < 15 → (reg == 15) ≡ false
+pub not_pc : (reg : ℕ) → reg < 15 → (reg == 15) ≡ false
 not_pc reg h = grind (arith, nat_tests)
 
 pc_free : (index : ℕ) → index < 15 → (15 == index) ≡ false

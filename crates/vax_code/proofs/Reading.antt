@@ -93,19 +93,18 @@ begins_place row place =
     begins_choice (nat_lt place row.count) (counted_completion [] (begins_operand (slot_in row place)))
     (begins_ok (record { operand = operands.Literal 0; size = 0 }))
 
-last_reader : (op : ℕ) (row : Row) (a b : Spelled) → IsReader (λ bytes. operand_in_place row 2 bytes >>= λ c. Ok (assembled op row a b c.0, c.1))
-last_reader op row a b = mapped (λ c. assembled op row a b c) (place_reader row 2)
+module _ (op : ℕ) (row : Row) (a : Spelled) where
+  last_reader : (b : Spelled) → IsReader (λ bytes. operand_in_place row 2 bytes >>= λ c. Ok (assembled op row a b c.0, c.1))
+  last_reader b = mapped (λ c. assembled op row a b c) (place_reader row 2)
 
-begins_last : (op : ℕ) (row : Row) (a b : Spelled) → Completion (λ bytes. operand_in_place row 2 bytes >>= λ c. Ok (assembled op row a b c.0, c.1)) []
-begins_last op row a b = begins_mapped (λ c. assembled op row a b c) (begins_place row 2)
+  begins_last : (b : Spelled) → Completion (λ bytes. operand_in_place row 2 bytes >>= λ c. Ok (assembled op row a b c.0, c.1)) []
+  begins_last b = begins_mapped (λ c. assembled op row a b c) (begins_place row 2)
 
-later_reader : (op : ℕ) (row : Row) (a : Spelled)
-    → IsReader (λ bytes. operand_in_place row 1 bytes >>= λ b. operand_in_place row 2 b.1 >>= λ c. Ok (assembled op row a b.0 c.0, c.1))
-later_reader op row a = bind_reader (place_reader row 1) (last_reader op row a) (begins_last op row a)
+  later_reader : IsReader (λ bytes. operand_in_place row 1 bytes >>= λ b. operand_in_place row 2 b.1 >>= λ c. Ok (assembled op row a b.0 c.0, c.1))
+  later_reader = bind_reader (place_reader row 1) (last_reader) (begins_last)
 
-begins_later : (op : ℕ) (row : Row) (a : Spelled)
-    → Completion (λ bytes. operand_in_place row 1 bytes >>= λ b. operand_in_place row 2 b.1 >>= λ c. Ok (assembled op row a b.0 c.0, c.1)) []
-begins_later op row a = joined [] (place_reader row 1) (begins_place row 1) (begins_last op row a)
+  begins_later : Completion (λ bytes. operand_in_place row 1 bytes >>= λ b. operand_in_place row 2 b.1 >>= λ c. Ok (assembled op row a b.0 c.0, c.1)) []
+  begins_later = joined [] (place_reader row 1) (begins_place row 1) (begins_last)
 
 pub operands_reader : (op : ℕ) (row : Row) → IsReader (next_operands op row)
 unfolding next_operands

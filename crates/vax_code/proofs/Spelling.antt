@@ -242,7 +242,7 @@ index_leaf slot mode reg tail operand base e f spells =
     subst (λ (o : Operand). SpellsSpecifier slot o (specifier mode reg ∷ tail)) (sym f)
     (subst (λ (m : ℕ). SpellsIndexed reg base (specifier m reg ∷ tail)) (sym e) spells)
 
-not_true : (a : Bool) → a ≡ false → IsTrue (not a)
+pub not_true : (a : Bool) → a ≡ false → IsTrue (not a)
 not_true true h = absurd (cc)
 not_true false h = refl
 
@@ -255,7 +255,7 @@ immediate_spelled slot mode reg tail operand test reads h =
     subst (λ (o : Operand). SpellsSpecifier slot o (specifier mode reg ∷ tail)) (sym number.2)
     (reads, number_leaf mode number.0 tail reg 8 slot.size (eqb-true mode 8 both.0) (eqb-true reg 15 both.1) (number_spelled slot.size number.0 tail number.1))
 
-of_base : (slot : Slot) (base : Base) (bytes : List ℕ) → SpellsBase base bytes → SpellsSpecifier slot (operand_of base) bytes
+pub of_base : (slot : Slot) (base : Base) (bytes : List ℕ) → SpellsBase base bytes → SpellsSpecifier slot (operand_of base) bytes
 of_base slot (bases.Deferred reg) bytes h = h
 of_base slot (bases.AutoDec reg) bytes h = h
 of_base slot (bases.AutoInc reg) bytes h = h
@@ -328,37 +328,36 @@ record Placed (row : Row) (place : ℕ) (found : Spelled) (bytes : List ℕ) : T
   pub sized : found ≡ spelled operand bytes
   pub spells : SpellsPlace (nat_lt place row.count) (slot_in row place) operand bytes
 
-counted_place : (row : Row) (place : ℕ) (bytes : List ℕ) (found : Spelled) → AreOctets bytes → nat_lt place row.count ≡ true
-    → with_count (next_operand (slot_in row place)) bytes ≡ Ok (found, []) → Placed row place found bytes
-counted_place row place bytes found octets is h =
-    let slot = slot_in row place in
-    let read = counted_parts (next_operand slot) bytes found [] h in
-    let none : List ℕ = [] in
-    let size : length bytes - length none ≡ length bytes = omega arith in
-    record {
-      operand = read.0;
-      sized = read.2 ∙ ap (λ (n : ℕ). with_size read.0 n) size;
-      spells = subst (λ (b : Bool). SpellsPlace b slot read.0 bytes) (sym is) (operand_spelled slot bytes read.0 octets read.1);
-    }
+module _ (row : Row) (place : ℕ) (bytes : List ℕ) (found : Spelled) where
+  counted_place : AreOctets bytes → nat_lt place row.count ≡ true
+      → with_count (next_operand (slot_in row place)) bytes ≡ Ok (found, []) → Placed row place found bytes
+  counted_place octets is h =
+      let slot = slot_in row place in
+      let read = counted_parts (next_operand slot) bytes found [] h in
+      let none : List ℕ = [] in
+      let size : length bytes - length none ≡ length bytes = omega arith in
+      record {
+        operand = read.0;
+        sized = read.2 ∙ ap (λ (n : ℕ). with_size read.0 n) size;
+        spells = subst (λ (b : Bool). SpellsPlace b slot read.0 bytes) (sym is) (operand_spelled slot bytes read.0 octets read.1);
+      }
 
-empty_place : (row : Row) (place : ℕ) (bytes : List ℕ) (found : Spelled) → nat_lt place row.count ≡ false
-    → (let read : Read Spelled = Ok (record { operand = operands.Literal 0; size = 0 }, bytes) in read) ≡ Ok (found, [])
-    → Placed row place found bytes
-empty_place row place bytes found is h =
-    let both = parts (record { operand = operands.Literal 0; size = 0 }) found bytes [] h in
-    record {
-      operand = operands.Literal 0;
-      sized = sym both.0 ∙ ap (λ (l : List ℕ). spelled (operands.Literal 0) l) (sym both.1);
-      spells = subst (λ (b : Bool). SpellsPlace b (slot_in row place) (operands.Literal 0) bytes) (sym is) (refl, both.1);
-    }
+  empty_place : nat_lt place row.count ≡ false
+      → (let read : Read Spelled = Ok (record { operand = operands.Literal 0; size = 0 }, bytes) in read) ≡ Ok (found, []) → Placed row place found bytes
+  empty_place is h =
+      let both = parts (record { operand = operands.Literal 0; size = 0 }) found bytes [] h in
+      record {
+        operand = operands.Literal 0;
+        sized = sym both.0 ∙ ap (λ (l : List ℕ). spelled (operands.Literal 0) l) (sym both.1);
+        spells = subst (λ (b : Bool). SpellsPlace b (slot_in row place) (operands.Literal 0) bytes) (sym is) (refl, both.1);
+      }
 
-place_spelled : (row : Row) (place : ℕ) (bytes : List ℕ) (found : Spelled) → AreOctets bytes → operand_in_place row place bytes ≡ Ok (found, [])
-    → Placed row place found bytes
-unfolding operand_in_place
-place_spelled row place bytes found octets h =
-    by_test (nat_lt place row.count) h
-    (λ is k. counted_place row place bytes found octets is k)
-    (λ is k. empty_place row place bytes found is k)
+  place_spelled : AreOctets bytes → operand_in_place row place bytes ≡ Ok (found, []) → Placed row place found bytes
+  unfolding operand_in_place
+  place_spelled octets h =
+      by_test (nat_lt place row.count) h
+      (λ is k. counted_place octets is k)
+      (λ is k. empty_place is k)
 
 -- the same of a front
 record Fronted (row : Row) (place : ℕ) (found : Spelled) (bytes rest : List ℕ) : Type 0 where
@@ -371,7 +370,7 @@ pub octets_front : (xs ys : List ℕ) → AreOctets (xs ++ ys) → AreOctets xs
 octets_front [] ys h = tt
 octets_front (x ∷ xs) ys h = (h.0, octets_front xs ys h.1)
 
-octets_rest : (xs ys : List ℕ) → AreOctets (xs ++ ys) → AreOctets ys
+pub octets_rest : (xs ys : List ℕ) → AreOctets (xs ++ ys) → AreOctets ys
 octets_rest [] ys h = h
 octets_rest (x ∷ xs) ys h = octets_rest xs ys h.1
 

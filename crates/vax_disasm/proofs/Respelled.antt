@@ -11,7 +11,7 @@ use Rattle.vax_code.specs.declared.table.Row.{Row}
 use Rattle.vax_code.specs.Table.{row_for, slot_in}
 use Rattle.vax_code.specs.Operands.{width_of, is_read, is_address, is_branch}
 use Rattle.vax_code.specs.Grammar.{AreOctets, specifier}
-use Rattle.vax_code.proofs.Spelling.{octets_front, halves as byte_halves}
+use Rattle.vax_code.proofs.Spelling.{octets_front, halves as byte_halves, octets_rest}
 use Rattle.vax_code.proofs.Rule.{row_of_op}
 use Rattle.asm_grammar.specs.Text.{◌>>=◌}
 use Rattle.asm_grammar.specs.Numbers.{signed}
@@ -73,10 +73,6 @@ octet : (xs : List ℕ) → AreOctets xs → (i : ℕ) → get_or xs i 0 < 256
 octet [] h i = omega arith
 octet (x ∷ xs) h zero = h.0
 octet (x ∷ xs) h (suc i) = octet xs h.1 i
-
-octets_back : (xs ys : List ℕ) → AreOctets (xs ++ ys) → AreOctets ys
-octets_back [] ys h = h
-octets_back (x ∷ xs) ys h = octets_back xs ys h.1
 
 length_zero : (x : ℕ) (xs : List ℕ) → length (x ∷ xs) ≡ 0 → ⊥
 length_zero x xs e = omega (arith, e)
@@ -314,48 +310,48 @@ from_six mode reg bytes =
     else (if mode == 8 then Some (places.AutoInc reg, bytes)
     else Some (places.AutoIncDef reg, bytes)))
 
-place_by_6 : (mode reg : ℕ) (bytes rest : List ℕ) (place : Place) → reg < 15 → 5 < mode → mode ≤ 9
-    → (((mode == 6) ≡ true) × (got (places.Deferred reg) bytes ≡ Some (place, rest))) ⊎ (((mode == 6) ≡ false) × ((if mode == 7 then got (places.AutoDec reg)
-    bytes else (if mode == 8 then Some (places.AutoInc reg, bytes) else Some (places.AutoIncDef reg, bytes))) ≡ Some (place, rest)))
-    → PlaceBack mode reg bytes rest place
-unfolding place_bytes
-place_by_6 mode reg bytes rest place small low high (inl p) =
-    mode_as 6 mode reg reg bytes rest place (size_is mode 6 p.0) refl (plain_back 6 reg bytes rest (places.Deferred reg) small refl small place p.1)
-place_by_6 mode reg bytes rest place small low high (inr p) =
-    place_by_7 mode reg bytes rest place small low high (is_not mode 6 p.0)
-    (pick (mode == 7) (Some (places.AutoDec reg, bytes)) (if mode == 8 then Some (places.AutoInc reg, bytes) else Some (places.AutoIncDef reg, bytes)) (place, rest) p.1)
+module _ (mode reg : ℕ) (bytes rest : List ℕ) (place : Place) where
+  place_by_6 : reg < 15 → 5 < mode → mode ≤ 9
+      → (((mode == 6) ≡ true) × (got (places.Deferred reg) bytes ≡ Some (place, rest))) ⊎ (((mode == 6) ≡ false) × ((if mode == 7 then got (places.AutoDec reg)
+      bytes else (if mode == 8 then Some (places.AutoInc reg, bytes) else Some (places.AutoIncDef reg, bytes))) ≡ Some (place, rest)))
+      → PlaceBack mode reg bytes rest place
+  unfolding place_bytes
+  place_by_6 small low high (inl p) =
+      mode_as 6 mode reg reg bytes rest place (size_is mode 6 p.0) refl (plain_back 6 reg bytes rest (places.Deferred reg) small refl small place p.1)
+  place_by_6 small low high (inr p) =
+      place_by_7 mode reg bytes rest place small low high (is_not mode 6 p.0)
+      (pick (mode == 7) (Some (places.AutoDec reg, bytes)) (if mode == 8 then Some (places.AutoInc reg, bytes) else Some (places.AutoIncDef reg, bytes)) (place, rest) p.1)
 
-place_by_9 : (mode reg : ℕ) (bytes rest : List ℕ) (place : Place) → reg < 16 → 5 < mode → mode ≤ 9 → AreOctets bytes
-    → ((((mode == 9) && (reg == 15)) ≡ true) × (absolute_shown bytes ≡ Some (place, rest)))
-    ⊎ ((((mode == 9) && (reg == 15)) ≡ false) × ((if reg == 15 then None else from_six mode reg bytes) ≡ Some (place, rest)))
-    → PlaceBack mode reg bytes rest place
-place_by_9 mode reg bytes rest place small low high octets (inl p) =
-    let tests = both (mode == 9) (reg == 15) p.0 in
-    mode_as 9 mode 15 reg bytes rest place (size_is mode 9 tests.0) (size_is reg 15 tests.1) (absolute_place bytes rest place octets p.1)
-place_by_9 mode reg bytes rest place small low high octets (inr p) =
-    let q = some_unless (reg == 15) (from_six mode reg bytes) (place, rest) p.1 in
-    let less : reg < 15 = (let c = is_not reg 15 q.0 in omega (arith, small, c)) in
-    place_by_6 mode reg bytes rest place less low high (pick (mode == 6) (Some (places.Deferred reg, bytes))
-    (if mode == 7 then Some (places.AutoDec reg, bytes) else (if mode == 8 then Some (places.AutoInc reg, bytes) else Some (places.AutoIncDef reg, bytes))) (place, rest) q.1)
+  place_by_9 : reg < 16 → 5 < mode → mode ≤ 9 → AreOctets bytes
+      → ((((mode == 9) && (reg == 15)) ≡ true) × (absolute_shown bytes ≡ Some (place, rest)))
+      ⊎ ((((mode == 9) && (reg == 15)) ≡ false) × ((if reg == 15 then None else from_six mode reg bytes) ≡ Some (place, rest)))
+      → PlaceBack mode reg bytes rest place
+  place_by_9 small low high octets (inl p) =
+      let tests = both (mode == 9) (reg == 15) p.0 in
+      mode_as 9 mode 15 reg bytes rest place (size_is mode 9 tests.0) (size_is reg 15 tests.1) (absolute_place bytes rest place octets p.1)
+  place_by_9 small low high octets (inr p) =
+      let q = some_unless (reg == 15) (from_six mode reg bytes) (place, rest) p.1 in
+      let less : reg < 15 = (let c = is_not reg 15 q.0 in omega (arith, small, c)) in
+      place_by_6 less low high (pick (mode == 6) (Some (places.Deferred reg, bytes))
+      (if mode == 7 then Some (places.AutoDec reg, bytes) else (if mode == 8 then Some (places.AutoInc reg, bytes) else Some (places.AutoIncDef reg, bytes))) (place, rest) q.1)
 
-place_by_high : (mode reg : ℕ) (bytes rest : List ℕ) (place : Place) → mode < 16 → reg < 16 → 5 < mode → AreOctets bytes
-    → ((nat_lt 9 mode ≡ true) × (displacement_shown mode reg bytes ≡ Some (place, rest))) ⊎ ((nat_lt 9 mode ≡ false)
-    × ((if (mode == 9) && (reg == 15) then absolute_shown bytes else (if reg == 15 then None else from_six mode reg bytes)) ≡ Some (place, rest)))
-    → PlaceBack mode reg bytes rest place
-place_by_high mode reg bytes rest place high small low octets (inl p) = displacement_place mode reg bytes rest place (lt_of 9 mode p.0) high small octets p.1
-place_by_high mode reg bytes rest place high small low octets (inr p) =
-    place_by_9 mode reg bytes rest place small low (ge_of 9 mode p.0) octets
-    (pick ((mode == 9) && (reg == 15)) (absolute_shown bytes) (if reg == 15 then None else from_six mode reg bytes) (place, rest) p.1)
+  place_by_high : mode < 16 → reg < 16 → 5 < mode → AreOctets bytes
+      → ((nat_lt 9 mode ≡ true) × (displacement_shown mode reg bytes ≡ Some (place, rest))) ⊎ ((nat_lt 9 mode ≡ false)
+      × ((if (mode == 9) && (reg == 15) then absolute_shown bytes else (if reg == 15 then None else from_six mode reg bytes)) ≡ Some (place, rest)))
+      → PlaceBack mode reg bytes rest place
+  place_by_high high small low octets (inl p) = displacement_place mode reg bytes rest place (lt_of 9 mode p.0) high small octets p.1
+  place_by_high high small low octets (inr p) =
+      place_by_9 small low (ge_of 9 mode p.0) octets
+      (pick ((mode == 9) && (reg == 15)) (absolute_shown bytes) (if reg == 15 then None else from_six mode reg bytes) (place, rest) p.1)
 
-place_back : (mode reg : ℕ) (bytes rest : List ℕ) (place : Place) → mode < 16 → reg < 16 → AreOctets bytes
-    → place_shown mode reg bytes ≡ Some (place, rest) → PlaceBack mode reg bytes rest place
-unfolding place_shown
-place_back mode reg bytes rest place high small octets e =
-    let after_low : Option (Place × List ℕ) =
-    if nat_lt 9 mode then displacement_shown mode reg bytes else (if (mode == 9) && (reg == 15) then absolute_shown bytes else (if reg == 15 then None else from_six mode reg bytes)) in
-    let p = some_unless (nat_lt mode 6) after_low (place, rest) e in
-    place_by_high mode reg bytes rest place high small (ge_of mode 6 p.0) octets
-    (pick (nat_lt 9 mode) (displacement_shown mode reg bytes) (if (mode == 9) && (reg == 15) then absolute_shown bytes else (if reg == 15 then None else from_six mode reg bytes)) (place, rest) p.1)
+  place_back : mode < 16 → reg < 16 → AreOctets bytes → place_shown mode reg bytes ≡ Some (place, rest) → PlaceBack mode reg bytes rest place
+  unfolding place_shown
+  place_back high small octets e =
+      let after_low : Option (Place × List ℕ) =
+      if nat_lt 9 mode then displacement_shown mode reg bytes else (if (mode == 9) && (reg == 15) then absolute_shown bytes else (if reg == 15 then None else from_six mode reg bytes)) in
+      let p = some_unless (nat_lt mode 6) after_low (place, rest) e in
+      place_by_high high small (ge_of mode 6 p.0) octets
+      (pick (nat_lt 9 mode) (displacement_shown mode reg bytes) (if (mode == 9) && (reg == 15) then absolute_shown bytes else (if reg == 15 then None else from_six mode reg bytes)) (place, rest) p.1)
 
 -- ---- operands
 
@@ -703,7 +699,7 @@ written_from : (row : Row) (place from from' : ℕ) (written : Written) (bytes :
 written_from row place from from' written bytes e h = subst (λ (f : ℕ). operand_bytes [] f row place written ≡ Some bytes) e h
 
 behind_front : (xs ys zs : List ℕ) → xs ≡ ys ++ zs → AreOctets xs → AreOctets zs
-behind_front xs ys zs e h = octets_back ys zs (subst (λ (l : List ℕ). AreOctets l) e h)
+behind_front xs ys zs e h = octets_rest ys zs (subst (λ (l : List ℕ). AreOctets l) e h)
 
 joined : (bytes one after_one two after_two three rest : List ℕ) → bytes ≡ one ++ after_one → after_one ≡ two ++ after_two → after_two ≡ three ++ rest
     → bytes ≡ (one ++ (two ++ three)) ++ rest

@@ -1,5 +1,5 @@
 -- Bytes are shown exactly where they are decoded.
-use Rattle.std.proofs.Common.{◌≡◌, ◌≢◌, ℕ, ◌+◌, ◌-◌, ◌/◌, ◌%◌, Bool, true, false, List, [], ◌∷◌, length, Option, Some, None, Ok, Err, refl, ◌∙◌, ap, subst}
+use Rattle.std.proofs.Common.{◌≡◌, ◌≢◌, ℕ, ◌+◌, ◌-◌, ◌/◌, ◌%◌, Bool, true, false, List, [], ◌∷◌, length, Option, Some, None, Ok, Err, refl, subst}
 use Rattle.std.specs.Prelude.{if◌then◌else◌, nat_lt, ◌==◌, ◌&&◌, ◌||◌}
 use Rattle.vax_code.specs.declared.table.Slot.{Slot}
 use Rattle.vax_code.specs.declared.table.Row.{Row}
@@ -10,10 +10,8 @@ use Rattle.vax_code.specs.Table.{row_for, slot_in}
 use Rattle.vax_code.specs.Operands.{is_read, is_address, is_branch}
 use Rattle.vax_code.specs.Reading
 use Rattle.vax_code.specs.Reading.{Read, next_byte, next_number, next_signed, next_displacement, base_at, indexed_at, next_specifier, next_operand, with_count, operand_in_place, next_operands, row_or_bad, instruction_at, decoding_of, decoded}
-use Rattle.vax_code.specs.Grammar.{AreOctets, BeginsWith}
-use Rattle.vax_code.proofs.Reading.{instruction_reader}
-use Rattle.vax_code.proofs.Parsing.{instruction_read}
-use Rattle.vax_code.proofs.Law.{begins}
+use Rattle.vax_code.specs.Grammar.{AreOctets}
+use Rattle.vax_code.proofs.Law.{begins, begun}
 use Rattle.asm_grammar.specs.declared.syntax.Sentence.{Sentence}
 use Rattle.asm_grammar.specs.Text.{◌>>=◌}
 use Rattle.vax_disasm.specs.Showing.{byte_shown, number_shown, size_of_mode, displacement_shown, absolute_shown, place_shown, indexed_shown, immediate_shown, specifier_shown, branch_shown, operand_shown, row_place_shown, operands_shown, sentence_shown}
@@ -143,10 +141,6 @@ same_instruction : (at : ℕ) (bytes : List ℕ) → Same (sentence_shown at byt
 unfolding sentence_shown instruction_at byte_shown next_byte
 same_instruction at [] = tt
 same_instruction at (op ∷ rest) = same_row (row_for op) _ _ (λ row. same_operands op row (at + 1) rest)
-
-begun : (bytes : List ℕ) (instr : Instr) → BeginsWith bytes instr → (rest : List ℕ) × (instruction_at bytes ≡ Ok (instr, rest))
-begun bytes instr h =
-    (h.rest, ap instruction_at h.split ∙ instruction_reader.extends h.front h.rest instr [] (instruction_read h.front instr h.whole))
 
 pub not_shown : (at : ℕ) (bytes : List ℕ) (instr : Instr) → AreOctets bytes → sentence_shown at bytes ≡ None → decoded bytes ≢ decodings.Is instr
 not_shown at bytes instr octets none h =

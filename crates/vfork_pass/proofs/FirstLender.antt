@@ -4,22 +4,14 @@ use Rattle.std.specs.Prelude.{filter_map}
 use Rattle.std.specs.List.{range_with_len}
 use Rattle.std.proofs.lemmas.Bool.{cases_eq, cases_lt}
 use Rattle.proc_table.specs.declared.process.Proc.{Proc as Record}
-use Rattle.proc_table.specs.declared.process.Life.{Life as RecordLife}
-use Rattle.proc_table.specs.declared.process.Life.TheVariants as lives
 use Rattle.proc_table.specs.Records.{find, Lowest}
 use Rattle.kernel_model.specs.Kernel.{Proc}
 use Rattle.kernel_model.specs.Unit.{lends_life, has_lender, lender_among}
-use Rattle.machine_state.specs.Alike.{lends_to_by}
+use Rattle.kernel_tables.proofs.Listed.{lends_shown}
 use Rattle.machine_state.specs.Machine.{life_shown, proc_shown, proc_of_record, processes_of}
 use Rattle.machine_state.proofs.Records.{keeps_none, keeps_some, found_pid}
 use Rattle.machine_state.proofs.Kin.{true_false}
 use Rattle.vfork_pass.specs.Lenders.{lends_in, IsLender}
-
-pub lends_shown : (pid : ℕ) (l : RecordLife) → lends_life pid (life_shown l) ≡ lends_to_by pid l
-lends_shown pid lives.New = refl
-lends_shown pid (lives.Holds sid) = refl
-lends_shown pid (lives.Lends sid child) = refl
-lends_shown pid (lives.Zombie status) = refl
 
 -- from this number on it is the first that lends
 pub record IsFirst (ps : List Record) (borrower a n : ℕ) : Type 0 where

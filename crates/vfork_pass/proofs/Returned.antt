@@ -13,6 +13,7 @@ use Rattle.kernel_model.specs.Kernel.{Life, HoldsSpace, LendsSpace, Proc, Kernel
 use Rattle.kernel_model.specs.ChangeStep.{space_of_life, life_of_proc, pass_from, passed_life, pass_step}
 use Rattle.kernel_model.specs.Sound.{has_life, lives_in, lives as are_alive}
 use Rattle.kernel_model.specs.Unit.{lends_life, has_lender, lender_among}
+use Rattle.kernel_tables.proofs.Listed.{lends_shown}
 use Rattle.machine_state.specs.Alike.{lends_to_by, lends_to, AreRecords}
 use Rattle.machine_state.specs.Applying.{MayPass}
 use Rattle.machine_state.specs.Calls.{life_in}
@@ -22,7 +23,7 @@ use Rattle.machine_state.proofs.Listed.{process_is}
 use Rattle.machine_state.proofs.Kin.{true_false}
 use Rattle.vfork_pass.specs.Lenders.{lends_in, IsLender}
 use Rattle.vfork_pass.specs.Passed.{IsHolder, HasGivenBack}
-use Rattle.vfork_pass.proofs.FirstLender.{lends_shown, first_over, first_is}
+use Rattle.vfork_pass.proofs.FirstLender.{first_over, first_is}
 use Rattle.vfork_pass.proofs.Lives.{gives, takes, stays, holds_some, holder_there, alive_there}
 
 -- what a record has that lends to this one

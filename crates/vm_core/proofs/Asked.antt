@@ -97,75 +97,70 @@ some_flight stops.FileFault [] h = absurd h
 some_flight stops.SwapReadFault [] h = absurd h
 some_flight stops.SwapWriteFault [] h = absurd h
 
-interrupt_ends : (old new : Standing) (holds : Option (List NamedFile)) (i j : Option SwapImage) (stop : Stop) → 0 < length old.kernel.place.transfers
-    → StopsEnding old new i j stop
-    → StopsFrom (LineAt old holds i events.Interrupt) old new j stop
-interrupt_ends old new holds i j stop some x A s image at =
-    interrupt_stops A s old new holds image j stop at.machine at.clear at.mark (subst (λ (ts : List Transfer). 0 < length ts) (some_still A s old holds i image at) some)
-    (subst (λ (o : Option SwapImage). StopsEnding old new o j stop) at.told x)
+module _ (old new : Standing) (holds : Option (List NamedFile)) (i j : Option SwapImage) where
+  interrupt_ends : (stop : Stop) → 0 < length old.kernel.place.transfers → StopsEnding old new i j stop
+      → StopsFrom (LineAt old holds i events.Interrupt) old new j stop
+  interrupt_ends stop some x A s image at =
+      interrupt_stops A s old new holds image j stop at.machine at.clear at.mark (subst (λ (ts : List Transfer). 0 < length ts) (some_still A s old holds i image at) some)
+      (subst (λ (o : Option SwapImage). StopsEnding old new o j stop) at.told x)
 
-pub interrupt_halts : (old new : Standing) (holds : Option (List NamedFile)) (i j : Option SwapImage) (stop : Stop) → old.before ≡ old.kernel.holdings
-    → HasStopped old new → (let r : Result Bool Stop = Err stop in StopsFor r old.kernel.place.transfers)
-    → (let r : Result Bool Stop = Err stop in
-    (r ≡ Err stops.JournalFull) ↔ ((0 < length old.kernel.place.transfers) × (old.params.journal ≤ length old.kernel.journal)))
-    → (let r : Result Bool Stop = Err stop in LosesFor r old new) → (let r : Result Bool Stop = Err stop in SwapAfter r (files_named old.images) old.kernel i j)
-    → StopsFrom (LineAt old holds i events.Interrupt) old new j stop
-interrupt_halts old new holds i j stop w h c f lost x =
-    interrupt_ends old new holds i j stop (some_flight stop old.kernel.place.transfers c)
-    (record {
-      stopped = h;
-      whole = w;
-      full = (λ e. f.0 (ap (λ (s : Stop). let r : Result Bool Stop = Err s in r) e), λ e. same_error {T = Bool} stop stops.JournalFull (f.1 e));
-      cause = c;
-      lost = lost;
-      image = x;
-    })
+  pub interrupt_halts : (stop : Stop) → old.before ≡ old.kernel.holdings
+      → HasStopped old new → (let r : Result Bool Stop = Err stop in StopsFor r old.kernel.place.transfers)
+      → (let r : Result Bool Stop = Err stop in
+      (r ≡ Err stops.JournalFull) ↔ ((0 < length old.kernel.place.transfers) × (old.params.journal ≤ length old.kernel.journal)))
+      → (let r : Result Bool Stop = Err stop in LosesFor r old new) → (let r : Result Bool Stop = Err stop in SwapAfter r (files_named old.images) old.kernel i j)
+      → StopsFrom (LineAt old holds i events.Interrupt) old new j stop
+  interrupt_halts stop w h c f lost x =
+      interrupt_ends stop (some_flight stop old.kernel.place.transfers c)
+      (record {
+        stopped = h;
+        whole = w;
+        full = (λ e. f.0 (ap (λ (s : Stop). let r : Result Bool Stop = Err s in r) e), λ e. same_error {T = Bool} stop stops.JournalFull (f.1 e));
+        cause = c;
+        lost = lost;
+        image = x;
+      })
 
--- Moves of the hands.
+  -- Moves of the hands.
 
-pub hands_make : (old new : Standing) (holds : Option (List NamedFile)) (i j : Option SwapImage) (n made : ℕ) → Moved n old new made holds i j
-    → LeadsFrom (LineAt old holds i (events.Hands n)) (λ A s image. LineLeads A s old.kernel image new.kernel j)
-hands_make old new holds i j n made m A s image at =
-    hands_made A s old new holds image j n made at.machine at.clear at.mark (subst (λ (o : Option SwapImage). Moved n old new made holds o j) at.told m)
+  pub hands_make : (n made : ℕ) → Moved n old new made holds i j
+      → LeadsFrom (LineAt old holds i (events.Hands n)) (λ A s image. LineLeads A s old.kernel image new.kernel j)
+  hands_make n made m A s image at =
+      hands_made A s old new holds image j n made at.machine at.clear at.mark (subst (λ (o : Option SwapImage). Moved n old new made holds o j) at.told m)
 
-pub hands_steady : (old new : Standing) (holds : Option (List NamedFile)) (i j : Option SwapImage) (n made : ℕ) → IsSteady old
-    → last_moves old.kernel.journal ≡ 0 → n ≤ 1000000 → Moved n old new made holds i j → CanGoOn new
-    → StaysSteady old new 0
-hands_steady old new holds i j n made s first few m ready =
-    moved_steady old new made s (moves_continue old new n made holds i j s.clear m) first (let most = m.most in omega arith) ready
+  pub hands_steady : (n made : ℕ) → IsSteady old → last_moves old.kernel.journal ≡ 0 → n ≤ 1000000 → Moved n old new made holds i j → CanGoOn new
+      → StaysSteady old new 0
+  hands_steady n made s first few m ready =
+      moved_steady old new made s (moves_continue old new n made holds i j s.clear m) first (let most = m.most in omega arith) ready
 
-pub hands_halt : (old new : Standing) (holds : Option (List NamedFile)) (i j : Option SwapImage) (n : ℕ) (stop : Stop) → StopsMoving n old stop new holds i j
-    → StopsFrom (LineAt old holds i (events.Hands n)) old new j stop
-hands_halt old new holds i j n stop x A s image at =
-    hands_stop A s old new holds image j n stop at.machine at.clear at.mark (subst (λ (o : Option SwapImage). StopsMoving n old stop new holds o j) at.told x)
+  pub hands_halt : (n : ℕ) (stop : Stop) → StopsMoving n old stop new holds i j → StopsFrom (LineAt old holds i (events.Hands n)) old new j stop
+  hands_halt n stop x A s image at =
+      hands_stop A s old new holds image j n stop at.machine at.clear at.mark (subst (λ (o : Option SwapImage). StopsMoving n old stop new holds o j) at.told x)
 
--- A turn of the swapper.
+  -- A turn of the swapper.
 
-pub swapper_makes : (old new : Standing) (holds : Option (List NamedFile)) (i j : Option SwapImage) (t : Turned)
-    → choice_of t ≡ swap_choice old.kernel.place (runners_of old.kernel) → Turns t old new holds i j
-    → LeadsFrom (LineAt old holds i events.Swapper) (λ A s image. LineLeads A s old.kernel image new.kernel j)
-swapper_makes old new holds i j t c x A s image at =
-    swapper_made A s old new holds image j t at.machine at.clear at.fit at.mark c (subst (λ (o : Option SwapImage). Turns t old new holds o j) at.told x)
+  pub swapper_makes : (t : Turned) → choice_of t ≡ swap_choice old.kernel.place (runners_of old.kernel) → Turns t old new holds i j
+      → LeadsFrom (LineAt old holds i events.Swapper) (λ A s image. LineLeads A s old.kernel image new.kernel j)
+  swapper_makes t c x A s image at =
+      swapper_made A s old new holds image j t at.machine at.clear at.fit at.mark c (subst (λ (o : Option SwapImage). Turns t old new holds o j) at.told x)
 
-pub swapper_steady : (old new : Standing) (holds : Option (List NamedFile)) (i j : Option SwapImage) (t : Turned) → IsSteady old
-    → Turns t old new holds i j → CanGoOn new → StaysSteady old new 0
-swapper_steady old new holds i j t s x ready = continues_steady old new 0 s (turn_continues t old new holds i j s.clear x) ready
+  pub swapper_steady : (t : Turned) → IsSteady old → Turns t old new holds i j → CanGoOn new → StaysSteady old new 0
+  swapper_steady t s x ready = continues_steady old new 0 s (turn_continues t old new holds i j s.clear x) ready
 
-pub swapper_halts : (old new : Standing) (holds : Option (List NamedFile)) (i j : Option SwapImage) (stop : Stop)
-    → ((t : Turned) × (choice_of t ≡ swap_choice old.kernel.place (runners_of old.kernel)) × StopsTurning t old stop new holds i j)
-    → StopsFrom (LineAt old holds i events.Swapper) old new j stop
-swapper_halts old new holds i j stop x A s image at =
-    swapper_stops A s old new holds image j x.0 stop at.machine at.clear at.mark x.1 (subst (λ (o : Option SwapImage). StopsTurning x.0 old stop new holds o j) at.told x.2)
+module _ (old new : Standing) (holds : Option (List NamedFile)) (i : Option SwapImage) where
+  pub swapper_halts : (j : Option SwapImage) (stop : Stop)
+      → ((t : Turned) × (choice_of t ≡ swap_choice old.kernel.place (runners_of old.kernel)) × StopsTurning t old stop new holds i j)
+      → StopsFrom (LineAt old holds i events.Swapper) old new j stop
+  swapper_halts j stop x A s image at =
+      swapper_stops A s old new holds image j x.0 stop at.machine at.clear at.mark x.1 (subst (λ (o : Option SwapImage). StopsTurning x.0 old stop new holds o j) at.told x.2)
 
--- Numbers of frames and blocks.
+  -- Numbers of frames and blocks.
 
-pub audit_makes : (old new : Standing) (holds : Option (List NamedFile)) (i : Option SwapImage)
-    → new.kernel ≡ note_step old.kernel (owners_of old.kernel.place old.kernel.holdings)
-    → LeadsFrom (LineAt old holds i events.Audit) (λ A s image. LineLeads A s old.kernel image new.kernel i)
-audit_makes old new holds i k A s image at =
-    subst (λ (o : Option SwapImage). LineLeads A s old.kernel image new.kernel o) (sym at.told) (audit_made A s old new.kernel holds image at.machine at.clear at.mark k)
+  pub audit_makes : new.kernel ≡ note_step old.kernel (owners_of old.kernel.place old.kernel.holdings)
+      → LeadsFrom (LineAt old holds i events.Audit) (λ A s image. LineLeads A s old.kernel image new.kernel i)
+  audit_makes k A s image at =
+      subst (λ (o : Option SwapImage). LineLeads A s old.kernel image new.kernel o) (sym at.told) (audit_made A s old new.kernel holds image at.machine at.clear at.mark k)
 
-pub audit_halts : (old new : Standing) (holds : Option (List NamedFile)) (i : Option SwapImage) (stop : Stop) → StopsBefore old new stop
-    → StopsFrom (LineAt old holds i events.Audit) old new i stop
-audit_halts old new holds i stop x A s image at =
-    subst (λ (o : Option SwapImage). StopLeads A s old.kernel image stop new o) (sym at.told) (audit_stops A s old new holds image stop at.machine at.clear at.mark x)
+  pub audit_halts : (stop : Stop) → StopsBefore old new stop → StopsFrom (LineAt old holds i events.Audit) old new i stop
+  audit_halts stop x A s image at =
+      subst (λ (o : Option SwapImage). StopLeads A s old.kernel image stop new o) (sym at.told) (audit_stops A s old new holds image stop at.machine at.clear at.mark x)

@@ -8,7 +8,7 @@ use Rattle.vm_facts.specs.declared.entry.Entry.TheVariants as entries
 use Rattle.vm_facts.specs.declared.stop.Stop.{Stop}
 use Rattle.io_edge.specs.FileHolding.{NamedFile}
 use Rattle.flat_state.specs.Flat.{Inputs}
-use Rattle.flat_state.specs.Journal.{counted, IsUnit}
+use Rattle.flat_state.specs.Journal.{counted}
 use Rattle.page_model.specs.Placement.{Due}
 use Rattle.machine_state.specs.Machine.{Standing}
 use Rattle.run_model.specs.State.{State}
@@ -18,6 +18,7 @@ use Rattle.run_model.specs.Lawful.{Follows}
 use Rattle.run_model.proofs.After.{after_count}
 use Rattle.run_laws.proofs.Lawful.{next_is_unit}
 use Rattle.run_laws.proofs.Machines.{swaps_follow}
+use Rattle.economy_laws.proofs.Finishing.Wholes.{counts_one}
 use Rattle.journal_laws.specs.Stretch.{turns_of, counts, NoneCounts}
 use Rattle.journal_laws.proofs.Idle.{count_most, few_turns}
 use Rattle.journal_laws.specs.Leads.{Leads}
@@ -33,12 +34,6 @@ use Rattle.vm_core.proofs.Accounts.{leads_accounted, leads_economical, leads_swa
 use Rattle.vm_core.proofs.Standing.{leads_to_stop}
 
 -- Units that count nothing.
-
-counts_one : (u : Entry) → IsUnit u → counts u ≡ true → counted u ≡ 1
-counts_one (entries.Ran p n) k e = k
-counts_one (entries.Call p n c r0 r1) k e = refl
-counts_one (entries.Ended p n) k e = refl
-counts_one _ k e = absurd cc
 
 counts_up : (A : Inputs) (us : List Entry) (s t : State) → Follows A s us t → s.count ≤ t.count
 counts_up A [] s t f = let e = ap (λ (x : State). x.count) f in omega arith

@@ -78,7 +78,8 @@ module _ (A : Inputs) (hs : Holdings) (can : CanRun A hs) (few : length A.first 
         ∙ ap (λ (es : List Entry). Some (swap_left A es image)) (sym lawful.0 ∙ sym stands.journal)
 
 -- no unit stops the run
-makes_run : (A : Inputs) (us : List Entry) (s t : State) (k l : Kernel) (image behind : SwapImage) → MakesSwap A s k image us t l behind → l.stopped ≡ k.stopped
+pub makes_run : (A : Inputs) (us : List Entry) (s t : State) (k l : Kernel) (image behind : SwapImage) → MakesSwap A s k image us t l behind
+    → l.stopped ≡ k.stopped
 makes_run A [] s t k l image behind m = sym (ap (λ (x : Kernel). x.stopped) m.1)
 makes_run A (u ∷ us) s t k l image behind m =
     makes_run A us (after A s u) t (unit_step A s k image.bytes m.1.0 u) l (unit_swap A k image u) behind m.1.2 ∙ unit_goes A s k image.bytes m.1.0 u

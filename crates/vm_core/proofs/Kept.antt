@@ -9,15 +9,11 @@ use Rattle.io_edge.specs.FileHolding.{NamedFile}
 use Rattle.machine_state.specs.Machine.{Standing}
 use Rattle.machine_state.specs.Conditions.{HasStopped}
 use Rattle.journal_laws.specs.Moved.{StopsMoving}
-use Rattle.journal_laws.specs.Stops.{StopsBefore}
 use Rattle.step_units.specs.Sizes.{KeptAtStop}
 use Rattle.swapper.specs.declared.Turned.TheVariants as turns
 use Rattle.swapper.specs.declared.Turned.{Turned}
 use Rattle.swapper.specs.Turns.{StopsTurning}
 use Rattle.step_units.proofs.StopsKeep.{kept_here, kept_at, kept_next}
-
-pub kept_noting : (old new : Standing) (stop : Stop) → StopsBefore old new stop → KeptAtStop old new stop
-kept_noting old new stop h = kept_here old new stop h.stopped h.full
 
 -- the end of the oldest transfer
 pub kept_ending : (old new : Standing) (stop : Stop) → HasStopped old new

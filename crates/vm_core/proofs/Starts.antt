@@ -12,12 +12,12 @@ use Rattle.run_laws.specs.Longwords.{ProcessesFit}
 use Rattle.run_laws.proofs.Registers.{start_regs_are}
 use Rattle.run_model.specs.State.{start}
 use Rattle.run_model.specs.Next.{under, last_turned}
+use Rattle.run_laws.proofs.Sizing.{started_few}
 use Rattle.journal_laws.specs.Serving.{At}
 use Rattle.vm_core.specs.FirstProcesses.{HasStarted}
 use Rattle.vm_core.specs.Leading.{IsTold, machine_at_start, StartLeads, StartStops}
 use Rattle.vm_core.proofs.Led.{stands_at_start}
 use Rattle.vm_core.specs.declared.first_processes.Started.{Started}
-use Rattle.journal_laws.proofs.Journals.{few_started}
 use Rattle.vm_core.specs.Cores.{Underway, InputsOf, StandsIn}
 use Rattle.vm_core.specs.Starting.{CoreStarted, StartsRun, StopsStartingRun}
 use Rattle.vm_core.proofs.Accounts.{leads_accounted, leads_economical, leads_swapped, stop_accounted}
@@ -27,7 +27,7 @@ use Rattle.vm_core.proofs.Standing.{inputs_on}
 -- no more processes start than were asked for
 start_crowd : (A : Inputs) (hs : Holdings) (numbers : List ℕ) → A.first ≡ numbers → length numbers ≤ 16 → length (start A hs).point.flat.processes ≤ 64
 start_crowd A hs numbers e few =
-    let most = few_started A.images 1 A.first in
+    let most = started_few A.images 1 A.first in
     let less : length A.first ≤ 16 = subst (λ (ns : List ℕ). length ns ≤ 16) (sym e) few in
     omega (arith, most, less)
 

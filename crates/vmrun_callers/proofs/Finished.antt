@@ -59,7 +59,7 @@ asked_written asked files zero_blocks one_blocks written faults status request i
     run_written request files zero_blocks one_blocks written faults status
     (subst (λ (a : Option Request). HeadlineInMemory a files zero_blocks one_blocks written faults status) is headline) zero
 
-same_images : (xs ys : List NamedImage) → ◌≡◌ {A = Result (List NamedImage) Why} (Ok xs) (Ok ys) → xs ≡ ys
+pub same_images : (xs ys : List NamedImage) → ◌≡◌ {A = Result (List NamedImage) Why} (Ok xs) (Ok ys) → xs ≡ ys
 same_images xs ys h = cc
 
 pair : (words : List (List ℕ)) (files others : List NamedFile) (traced also_traced : Bool) (written beside : Option (List ℕ))

@@ -1,5 +1,5 @@
 -- What is asked for is the run that was computed, and its journal is the computed one.
-use Rattle.std.proofs.Common.{◌≡◌, ◌⊎◌, inl, inr, ℕ, zero, suc, ◌+◌, ◌<◌, ◌≤◌, Bool, true, false, List, [], ◌∷◌, ◌++◌, length, map, Option, Some, None, Result, Ok, Err, refl, sym, ap, ◌∙◌, subst, arith}
+use Rattle.std.proofs.Common.{◌≡◌, ◌⊎◌, inl, inr, ℕ, zero, suc, ◌+◌, ◌<◌, ◌≤◌, Bool, false, List, [], ◌∷◌, ◌++◌, length, map, Option, Some, None, Result, Ok, Err, refl, sym, ap, ◌∙◌, subst, arith}
 use Rattle.std.specs.Prelude.{IfOk}
 use Rattle.std.specs.Fmt.{digits}
 use Rattle.vm_facts.specs.SwapImages.{SwapImage}
@@ -34,8 +34,9 @@ use Rattle.command_words.specs.Asked.{Asked, Run, Request, run_numbers, all_numb
 use Rattle.run_opening.specs.Devices.{device_fault}
 use Rattle.run_opening.specs.Images.{images_found, file_numbers}
 use Rattle.run_opening.specs.Opening.{FoundFiles, HasAll, found_told}
-use Rattle.page_laws.specs.Spans.{is_hands, ends_moving, adds, added}
-use Rattle.page_laws.proofs.Spanning.{adds_one, units_added}
+use Rattle.page_laws.specs.Spans.{is_hands, ends_moving, added}
+use Rattle.page_laws.proofs.Spanning.{units_added, adds_most}
+use Rattle.transcript_laws.proofs.Lines.{no_lines}
 use Rattle.vm_run.specs.RunCommandAsking.{AsksFor}
 use Rattle.vm_run.specs.Seen.{DeviceFailed}
 use Rattle.vm_run.specs.RunCommandEnds.{RunEnding, run_status, ending_line, Writing, IsCaused, IsJudged, EndsTold}
@@ -44,6 +45,7 @@ use Rattle.vm_run.specs.InMemory.{seen_of, blank_pair, RunsTold, DoesInMemory}
 use Rattle.vm_run.proofs.Found.{no_absent, no_bad_event, no_failed_image}
 use Rattle.place_vectors.proofs.WholeRuns.{more, units_from, hi_image, hi, hi_held, hi_units, hi_makes}
 use Rattle.vmrun_callers.specs.FirstRun.{first_words, first_files, six_lines, IsFirstRun, WritesSixLines, OutputFails, WantsMemory}
+use Rattle.vmrun_callers.proofs.Finished.{same_images}
 
 -- Units that follow.
 
@@ -77,14 +79,9 @@ module _ (A : Inputs) where
 
 -- a journal has no more entries than it has units
 
-adds_few : (moved : Bool) (u : Entry) → adds moved u ≤ 1
-adds_few true (entries.Hands n) = omega arith
-adds_few false (entries.Hands n) = omega arith
-adds_few moved u = let one = adds_one moved u refl in omega (arith, one)
-
 added_few : (moved : Bool) (us : List Entry) → added moved us ≤ length us
 added_few moved [] = omega arith
-added_few moved (u ∷ us) = let first = adds_few moved u in let rest = added_few (is_hands u) us in omega (arith, first, rest)
+added_few moved (u ∷ us) = let first = adds_most moved u in let rest = added_few (is_hands u) us in omega (arith, first, rest)
 
 few_entries : (us : List Entry) → length (appended [] us) ≤ length us
 few_entries us = let all = units_added [] us in let few = added_few (ends_moving []) us in omega (arith, all, few)
@@ -108,10 +105,6 @@ begins_hi : first_images (image_names names) names ≡ 1 ∷ []
 unfolding first_images image_names
 begins_hi = refl
 
-no_lines : lines_in [] ≡ []
-unfolding lines_in
-no_lines = refl
-
 -- an empty schedule has no events
 no_events : (events : List Event) → AreLines IsEventLine events (lines_in []) → events ≡ []
 no_events events are = go events (subst (λ (ls : List (List ℕ)). AreLines IsEventLine events ls) no_lines are)
@@ -129,9 +122,6 @@ found = found_told request.schedule request.words first_files
 -- all is found
 all_found : HasAll (found_told request.schedule request.words first_files)
 all_found = (([], (are_events, omega arith)), (hi_image ∷ [], found_hi))
-
-same_ok : (a b : List NamedImage) → ◌≡◌ {A = Result (List NamedImage) Rattle.command_ending.specs.Named.Why} (Ok a) (Ok b) → a ≡ b
-same_ok a b e = cc
 
 -- inputs are what their parts are
 
@@ -164,7 +154,7 @@ second_file = refl
 -- the words ask for the run that was computed, and for no other
 asks_hi : (A : Inputs) → AsksFor A request first_files → A ≡ hi
 asks_hi A asks =
-    let same : A.images ≡ hi_image ∷ [] = same_ok A.images (hi_image ∷ []) (sym asks.images ∙ found_hi) in
+    let same : A.images ≡ hi_image ∷ [] = same_images A.images (hi_image ∷ []) (sym asks.images ∙ found_hi) in
     inputs_are A same (asks.file_numbers ∙ ap (file_numbers first_files) same ∙ second_file) (asks.first ∙ begins_hi)
     (no_events A.lines asks.lines.0) asks.frames asks.blocks asks.limit
 

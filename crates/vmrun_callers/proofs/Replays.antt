@@ -8,6 +8,7 @@ use Rattle.vm_facts.specs.SwapImages.{SwapImage}
 use Rattle.vm_facts.specs.declared.entry.Entry.{Entry}
 use Rattle.io_edge.specs.Count.{Rose}
 use Rattle.io_edge.specs.FileHolding.{NamedFile, place_of}
+use Rattle.io_edge.specs.Told.{some_is}
 use Rattle.run_text.specs.Text.{text_of}
 use Rattle.run_text.specs.Lines.{lines_in, AreLines}
 use Rattle.run_files.specs.Told.{bytes_if}
@@ -24,6 +25,7 @@ use Rattle.transcript_laws.specs.Replayed.{entries_shown}
 use Rattle.transcript_laws.specs.Accepting.{ReadsText, IsAccepted}
 use Rattle.transcript_laws.proofs.Accepting.{are_accepted}
 use Rattle.transcript_laws.proofs.Images.{same_images}
+use Rattle.transcript_laws.proofs.Lines.{no_lines}
 use Rattle.vm_run.specs.Paired.{image_together}
 use Rattle.vm_run.specs.InMemory.{seen_of, blank_pair, CompletesTold, DoesInMemory}
 use Rattle.vmrun_callers.specs.Replayed.{replay_words, IsReplayed, FlatRun, TooLong, NoMemory, OutputFailed, RunIsReplayed}
@@ -117,10 +119,6 @@ as_many IsLine [] (l ∷ ls) are = absurd are
 as_many IsLine (e ∷ es) [] are = absurd are
 as_many IsLine (e ∷ es) (l ∷ ls) are = let rest = as_many IsLine es ls are.1 in omega (arith, rest)
 
-no_lines : lines_in [] ≡ []
-unfolding lines_in
-no_lines = refl
-
 module _ (traced : Bool) (words : List (List ℕ)) (files : List NamedFile) (written : Option (List ℕ)) (run : IsRunText words files traced written) where
   count : length (entries_shown traced run.journal) ≡ length (lines_in (text_of traced run.journal ++ []))
   count =
@@ -157,9 +155,6 @@ module _ (traced : Bool) (words : List (List ℕ)) (files : List NamedFile) (wri
           long_written (text_of traced run.journal ++ []) status after failed done.ending (ends_unread transcript words read told done.ending done.ends) done.writes (grind (arith, nat_tests))
 
 -- Both calls.
-
-some_is : (a b : List ℕ) → Some a ≡ Some b → a ≡ b
-some_is a b same = cc
 
 -- what a run wrote, handed over as a file, is replayed
 pub run_replayed : (words : List (List ℕ)) (files : List NamedFile) (zero_blocks one_blocks : ℕ) (zero one : Option SwapImage) (written : Option (List ℕ))

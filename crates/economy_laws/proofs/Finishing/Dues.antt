@@ -34,7 +34,7 @@ use Rattle.economy_laws.proofs.Left.{after_forced, after_served}
 use Rattle.economy_laws.proofs.Stretching.{source_of}
 use Rattle.economy_laws.proofs.Finishing.Stages.{Stage, finish_known, IsLasting, mark_lasts, stands}
 
-due_next : (A : Inputs) (s : State) (d : Due) (ds : List Due) → s.place.due ≡ d ∷ ds
+pub due_next : (A : Inputs) (s : State) (d : Due) (ds : List Due) → s.place.due ≡ d ∷ ds
     → next_unit A s ≡ or_else (due_unit s.place (d ∷ ds)) (or_else (under A s s.mark) (next_mark A s))
 unfolding next_unit
 due_next A s d ds e = ap (λ (x : List Due). or_else (due_unit s.place x) (or_else (under A s s.mark) (next_mark A s))) e

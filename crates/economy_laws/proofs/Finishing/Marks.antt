@@ -47,19 +47,19 @@ once_ends : (A : Inputs) (P : State → Type 0) (s : State) (u : Entry) → Stag
     → (after A s u).mark ≡ marks.Over → Finishes A s
 once_ends A P s u g p d e o = finish_known A P s u g p (under_next A s (Some u) d e) (λ b p2. over_ends A P (after A s u) g p2 o)
 
-done_mark : (A : Inputs) (s : State) → (after A s entries.Done).mark ≡ completed s.mark
+pub done_mark : (A : Inputs) (s : State) → (after A s entries.Done).mark ≡ completed s.mark
 unfolding after
 done_mark A s = refl
 
-moves_mark : (A : Inputs) (s : State) (n : ℕ) → (after A s (entries.Hands n)).mark ≡ moved_on n s.mark
+pub moves_mark : (A : Inputs) (s : State) (n : ℕ) → (after A s (entries.Hands n)).mark ≡ moved_on n s.mark
 unfolding after
 moves_mark A s n = refl
 
-in_mark : (A : Inputs) (s : State) (pid : ℕ) → (after A s (entries.SwapIn pid)).mark ≡ brought_in s.mark
+pub in_mark : (A : Inputs) (s : State) (pid : ℕ) → (after A s (entries.SwapIn pid)).mark ≡ brought_in s.mark
 unfolding after
 in_mark A s pid = refl
 
-notes_mark : (A : Inputs) (s : State) → (after A s (owners_entry s)).mark ≡ audited s.mark
+pub notes_mark : (A : Inputs) (s : State) → (after A s (owners_entry s)).mark ≡ audited s.mark
 unfolding after
 notes_mark A s = refl
 

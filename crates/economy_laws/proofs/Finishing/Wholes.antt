@@ -87,7 +87,7 @@ quiet_counts (entries.Call p n c r0 r1) e = absurd cc
 quiet_counts (entries.Ended p n) e = absurd cc
 quiet_counts _ e = (refl, refl)
 
-counts_one : (u : Entry) → IsUnit u → counts u ≡ true → counted u ≡ 1
+pub counts_one : (u : Entry) → IsUnit u → counts u ≡ true → counted u ≡ 1
 counts_one (entries.Ran p n) k e = k
 counts_one (entries.Call p n c r0 r1) k e = refl
 counts_one (entries.Ended p n) k e = refl

@@ -85,11 +85,11 @@ GivesBack (Exec image top) = Unit {0}
 GivesBack (End status) = Unit {0}
 GivesBack _ = ⊥
 
-enters_own : (b : Bool) (image : ℕ) (top : List ℕ) → KeepsSpace b (Exec image top) → b ≡ false
+pub enters_own : (b : Bool) (image : ℕ) (top : List ℕ) → KeepsSpace b (Exec image top) → b ≡ false
 enters_own true image top o = absurd o
 enters_own false image top o = refl
 
-ends_own : (b : Bool) (status : ℕ) → KeepsSpace b (End status) → b ≡ false
+pub ends_own : (b : Bool) (status : ℕ) → KeepsSpace b (End status) → b ≡ false
 ends_own true status o = absurd o
 ends_own false status o = refl
 

@@ -39,8 +39,8 @@ use Rattle.page_model.specs.Stored.{stored_at}
 use Rattle.kernel_model.specs.ChangeStep.{change_step}
 use Rattle.page_laws.proofs.Lists.Pages.{mapped, changed_same, changed_other, numbered_hit, numbered_miss}
 use Rattle.vm_facts.proofs.Swap.{before}
-use Rattle.page_laws.proofs.Ownership.Changes.{dropped_pages}
-use Rattle.page_laws.proofs.Bytes.Changes.{cut, length_sized, data_bound, stack_bound, resize_coupled}
+use Rattle.page_laws.proofs.Ownership.Changes.{dropped_pages, cut}
+use Rattle.page_laws.proofs.Bytes.Changes.{length_sized, data_bound, stack_bound, resize_coupled}
 use Rattle.kernel_laws.proofs.Flat.Lists.{pid_of, sid_of, replaced_at, replaced_not, HeldAt, held_at, held_own, held_other, held_now}
 use Rattle.kernel_laws.proofs.Machine.Shapes.{Shaped, fit_shaped, drop_all_shaped, image_kept, sizes_kept}
 use Rattle.kernel_laws.proofs.Machine.Moves.{u_stored}
@@ -94,7 +94,7 @@ cut_image : (d t : ℕ) (o : Option SpacePages) → image_in (mapped (cut d t) o
 cut_image d t None = refl
 cut_image d t (Some x) = refl
 
-resized_image : (p : Placement) (sid d t n : ℕ) → image_of (resize p sid d t) n ≡ image_of p n
+pub resized_image : (p : Placement) (sid d t n : ℕ) → image_of (resize p sid d t) n ≡ image_of p n
 resized_image p sid d t n =
     let now : image_of (resize p sid d t) n ≡ image_of (drop_all p (dropped_pages p sid d t)) n = elim (cases_eq n sid) [
       | inl e ↦ subst (λ (m : ℕ). image_of (resize p sid d t) m ≡ image_of (drop_all p (dropped_pages p sid d t)) m) (sym e)

@@ -72,33 +72,31 @@ pub some_of : {A : Type 0} (o : Option A) → IsSome o → (x : A) × (o ≡ Som
 some_of None e = absurd cc
 some_of (Some x) e = (x, refl)
 
-can_store : (size : ℕ) (k : Kernel) (images : List NamedImage) (image : List ℕ) (flat : FlatState) (x : Part) → Sound size k → TextFits images k.place
-    → Coupled k images image flat → state_of k.place x.page ≡ Going x.frame → CanStore k x
-can_store size k images image flat x so fits c e =
-    let o : OneOwner size (lives k.processes) k.place k.holdings = so.owner in
-    let needs : needs_blocks k.place x.page ≡ true =
-    ap (λ (s : Rattle.vm_facts.specs.declared.page.PageState.PageState). needs_blocks_by x.page s (mark_of k.place x.page)) e ∙ going_needs x.page x.frame (mark_of k.place x.page) in
-    let block : (b : ℕ) × (block_of k.holdings x.page ≡ Some b) = some_of (block_of k.holdings x.page) (places_found size (lives k.processes) k.place k.holdings x.page o needs) in
-    let there : IsThere k.place x.page = page_in k.place x.page x.frame (ap frame_of e) in
-    let here : (bytes_in (beside_kernel k images image flat) x.frame ≡ memory_of images flat x.page) × IfSaved (beside_kernel k images image flat) x.page (mark_of k.place x.page) =
-    keeps_at k.place (beside_kernel k images image flat) x.page (Going x.frame) c.pages there e in
-    record { block = block.0; found = block.1; whole = ap length here.0 ∙ memory_length k images flat x.page c.tables fits there }
+module _ (size : ℕ) (k : Kernel) (images : List NamedImage) (image : List ℕ) (flat : FlatState) where
+  can_store : (x : Part) → Sound size k → TextFits images k.place → Coupled k images image flat → state_of k.place x.page ≡ Going x.frame → CanStore k x
+  can_store x so fits c e =
+      let o : OneOwner size (lives k.processes) k.place k.holdings = so.owner in
+      let needs : needs_blocks k.place x.page ≡ true =
+      ap (λ (s : Rattle.vm_facts.specs.declared.page.PageState.PageState). needs_blocks_by x.page s (mark_of k.place x.page)) e ∙ going_needs x.page x.frame (mark_of k.place x.page) in
+      let block : (b : ℕ) × (block_of k.holdings x.page ≡ Some b) = some_of (block_of k.holdings x.page) (places_found size (lives k.processes) k.place k.holdings x.page o needs) in
+      let there : IsThere k.place x.page = page_in k.place x.page x.frame (ap frame_of e) in
+      let here : (bytes_in (beside_kernel k images image flat) x.frame ≡ memory_of images flat x.page) × IfSaved (beside_kernel k images image flat) x.page (mark_of k.place x.page) =
+      keeps_at k.place (beside_kernel k images image flat) x.page (Going x.frame) c.pages there e in
+      record { block = block.0; found = block.1; whole = ap length here.0 ∙ memory_length k images flat x.page c.tables fits there }
 
-all_store : (size : ℕ) (k : Kernel) (images : List NamedImage) (image : List ℕ) (flat : FlatState) (xs : List Part) → Sound size k
-    → TextFits images k.place → Coupled k images image flat
-    → Each (IsMoving k.place) (map (moving Writes) xs) → AllStore k xs
-all_store size k images image flat [] so fits c m = tt
-all_store size k images image flat (x ∷ xs) so fits c m = (can_store size k images image flat x so fits c m.0, all_store size k images image flat xs so fits c m.1)
+  all_store : (xs : List Part) → Sound size k → TextFits images k.place → Coupled k images image flat → Each (IsMoving k.place) (map (moving Writes) xs)
+      → AllStore k xs
+  all_store [] so fits c m = tt
+  all_store (x ∷ xs) so fits c m = (can_store x so fits c m.0, all_store xs so fits c m.1)
 
--- the pages that the oldest transfer writes have bytes and blocks
-pub oldest_store : (size : ℕ) (k : Kernel) (images : List NamedImage) (image : List ℕ) (flat : FlatState) (t : Transfer) (ts : List Transfer)
-    → Sound size k → TextFits images k.place
-    → Coupled k images image flat → k.place.transfers ≡ t ∷ ts → t.errand ≡ Writes → AllStore k t.parts
-oldest_store size k images image flat t ts so fits c h e =
-    let o : OneOwner size (lives k.processes) k.place k.holdings = so.owner in
-    let f : OwnsFrames k.place = o.frames in
-    all_store size k images image flat t.parts so fits c (subst (λ (x : Errand). Each (IsMoving k.place) (map (moving x) t.parts)) e
-    (each_front (IsMoving k.place) (map (moving t.errand) t.parts) (parts_of ts) (subst (λ (us : List Transfer). Each (IsMoving k.place) (parts_of us)) h f.moves)))
+  -- the pages that the oldest transfer writes have bytes and blocks
+  pub oldest_store : (t : Transfer) (ts : List Transfer) → Sound size k → TextFits images k.place → Coupled k images image flat → k.place.transfers ≡ t ∷ ts
+      → t.errand ≡ Writes → AllStore k t.parts
+  oldest_store t ts so fits c h e =
+      let o : OneOwner size (lives k.processes) k.place k.holdings = so.owner in
+      let f : OwnsFrames k.place = o.frames in
+      all_store t.parts so fits c (subst (λ (x : Errand). Each (IsMoving k.place) (map (moving x) t.parts)) e
+      (each_front (IsMoving k.place) (map (moving t.errand) t.parts) (parts_of ts) (subst (λ (us : List Transfer). Each (IsMoving k.place) (parts_of us)) h f.moves)))
 
 -- What else the image has.
 

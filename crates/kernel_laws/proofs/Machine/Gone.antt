@@ -52,7 +52,7 @@ pub record Gone (p q : Placement) (borrowed : Bool) (sid : ℕ) : Type 0 where
   pub residents : q.residents ≡ p.residents
   pub due : q.due ≡ p.due
 
-none_kept : (o r : Option SpacePages) → shape_in r ≡ shape_in o → o ≡ None → r ≡ None
+pub none_kept : (o r : Option SpacePages) → shape_in r ≡ shape_in o → o ≡ None → r ≡ None
 none_kept o None e h = refl
 none_kept None (Some x) e h = absurd cc
 none_kept (Some y) (Some x) e h = absurd cc

@@ -164,30 +164,28 @@ plain_coupled k images image flat locked e s pages c = paged_coupled k (plain_st
     (alike_coupled (plain_step k locked e).place (beside_kernel k images image flat) (beside_kernel (plain_step k locked e) images image flat)
     (λ w. record { frames = refl; swap = refl; file = file_same images k.place (plain_step k locked e).place s w; start = refl; memory = refl }) pages) c
 
-pub get_coupled_step : (size : ℕ) (k : Kernel) (images : List NamedImage) (image : List ℕ) (flat : FlatState) (q : Page) (lo n : ℕ) → Sound size k
-    → EachPage (CanEnter k.place) (pages_from q lo n)
-    → EachPage (ReadsFrom k.place (source_for (state_of k.place q)) q) (pages_from q lo n) → Coupled k images image flat
-    → Coupled (get_step k q lo n) images image flat
-get_coupled_step size k images image flat q lo n so c r cp =
-    let o : OneOwner size (lives k.processes) k.place k.holdings = so.owner in
-    plain_coupled k images image flat [] (entries.Get q lo n) (get_run_shaped k.place (read_errand k.place q) (pages_from q lo n))
-    (get_run_coupled k.place (source_for (state_of k.place q)) q (pages_from q lo n) (beside_kernel k images image flat) o.frames
-    (each_page_both (CanEnter k.place) (ReadsFrom k.place (source_for (state_of k.place q)) q) (Reading k.place (source_for (state_of k.place q)) q) (pages_from q lo n) c r
-    (λ v a d. record { enters = a; from = d }))
-    (pages_from_apart q lo n) cp.pages) cp
+module _ (size : ℕ) (k : Kernel) (images : List NamedImage) (image : List ℕ) (flat : FlatState) (q : Page) where
+  pub get_coupled_step : (lo n : ℕ) → Sound size k → EachPage (CanEnter k.place) (pages_from q lo n)
+      → EachPage (ReadsFrom k.place (source_for (state_of k.place q)) q) (pages_from q lo n) → Coupled k images image flat
+      → Coupled (get_step k q lo n) images image flat
+  get_coupled_step lo n so c r cp =
+      let o : OneOwner size (lives k.processes) k.place k.holdings = so.owner in
+      plain_coupled k images image flat [] (entries.Get q lo n) (get_run_shaped k.place (read_errand k.place q) (pages_from q lo n))
+      (get_run_coupled k.place (source_for (state_of k.place q)) q (pages_from q lo n) (beside_kernel k images image flat) o.frames
+      (each_page_both (CanEnter k.place) (ReadsFrom k.place (source_for (state_of k.place q)) q) (Reading k.place (source_for (state_of k.place q)) q) (pages_from q lo n) c r
+      (λ v a d. record { enters = a; from = d }))
+      (pages_from_apart q lo n) cp.pages) cp
 
--- The read of a page with its run.
-pub read_coupled_step : (size : ℕ) (k : Kernel) (images : List NamedImage) (image : List ℕ) (flat : FlatState) (q : Page) → Sound size k → CanEnter k.place q
-    → ReadsFrom k.place (source_for (state_of k.place q)) q q → Coupled k images image flat
-    → Coupled (get_step k q (run_in k.place q).lo (run_in k.place q).n) images image flat
-read_coupled_step size k images image flat q so c r cp =
-    get_coupled_step size k images image flat q (run_in k.place q).lo (run_in k.place q).n so (run_in_enters k.place q c) (run_in_reads k.place (beside_kernel k images image flat) q cp.pages r) cp
+  -- The read of a page with its run.
+  pub read_coupled_step : Sound size k → CanEnter k.place q → ReadsFrom k.place (source_for (state_of k.place q)) q q → Coupled k images image flat
+      → Coupled (get_step k q (run_in k.place q).lo (run_in k.place q).n) images image flat
+  read_coupled_step so c r cp =
+      get_coupled_step (run_in k.place q).lo (run_in k.place q).n so (run_in_enters k.place q c) (run_in_reads k.place (beside_kernel k images image flat) q cp.pages r) cp
 
-pub reclaim_coupled_step : (size : ℕ) (k : Kernel) (images : List NamedImage) (image : List ℕ) (flat : FlatState) (q : Page) → Sound size k
-    → Coupled k images image flat → Coupled (reclaim_step k q) images image flat
-reclaim_coupled_step size k images image flat q so cp =
-    let o : OneOwner size (lives k.processes) k.place k.holdings = so.owner in
-    plain_coupled k images image flat [] (entries.Reclaim q) (reclaim_shaped k.place q) (reclaim_coupled k.place q (beside_kernel k images image flat) o.frames cp.pages) cp
+  pub reclaim_coupled_step : Sound size k → Coupled k images image flat → Coupled (reclaim_step k q) images image flat
+  reclaim_coupled_step so cp =
+      let o : OneOwner size (lives k.processes) k.place k.holdings = so.owner in
+      plain_coupled k images image flat [] (entries.Reclaim q) (reclaim_shaped k.place q) (reclaim_coupled k.place q (beside_kernel k images image flat) o.frames cp.pages) cp
 
 moves_coupled : (n : ℕ) (p : Placement) (locked : List Page) (b : Bytes) → OwnsFrames p → CouplesPages p b → CouplesPages (hand_moves p locked n) b
 moves_coupled zero p locked b o k = k

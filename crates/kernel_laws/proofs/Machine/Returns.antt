@@ -99,49 +99,47 @@ passed_back (x ∷ ks) p m sid d o = ap (λ (y : Proc). y ∷ with_proc (map (pa
         ap (λ (y : Proc). let z : Proc = record y { life = HoldsSpace sid } in z) (o.0 (eqb-true x.pid m.pid f)) ∙ sym (ap (λ (t : Bool). cond t (record m { life = HoldsSpace sid }) x) f)
     go false false e f = sym (ap (λ (t : Bool). cond t (record m { life = HoldsSpace sid }) x) f)
 
--- The borrower and the lender in both tables.
-pub record Borrowing (k : Kernel) (flat : FlatState) (pid : ℕ) (q m : Process) (s : Space) : Type 0 where
-  pub step : Stepping k flat pid q s
-  pub lender : Proc
-  pub kept : numbered kept_pid m.pid k.processes ≡ Some lender
-  pub found : numbered pid_of m.pid flat.processes ≡ Some m
-  pub pid_is : lender.pid ≡ m.pid
-  pub outline : outline_kept lender ≡ outline_of m
-  pub life : lender.life ≡ LendsSpace s.sid pid
-  pub apart : m.pid ≢ q.pid
+module _ (k : Kernel) (flat : FlatState) (pid : ℕ) (q m : Process) (s : Space) where
+  -- The borrower and the lender in both tables.
+  pub record Borrowing : Type 0 where
+    pub step : Stepping k flat pid q s
+    pub lender : Proc
+    pub kept : numbered kept_pid m.pid k.processes ≡ Some lender
+    pub found : numbered pid_of m.pid flat.processes ≡ Some m
+    pub pid_is : lender.pid ≡ m.pid
+    pub outline : outline_kept lender ≡ outline_of m
+    pub life : lender.life ≡ LendsSpace s.sid pid
+    pub apart : m.pid ≢ q.pid
 
-pub borrowing : (k : Kernel) (flat : FlatState) (pid : ℕ) (q m : Process) (s : Space) → SameTables k flat → process_of flat pid ≡ Some q
-    → q.holding ≡ Holds s → IsLender flat pid s.sid m → Borrowing k flat pid q m s
-borrowing k flat pid q m s c f h a =
-    let differs : m ≡ q → ⊥ = λ i.
-    let j : Lends s.sid pid ≡ Holds s = sym a.holding ∙ ap (λ (x : Process). x.holding) i ∙ h in cc in
-    let g : Stepping k flat pid q s = stepping k flat pid q s c f h in
-    let at : numbered pid_of m.pid flat.processes ≡ Some m = sym (found_is flat.processes m.pid) ∙ a.found in
-    let p : (p : Proc) × (numbered kept_pid m.pid k.processes ≡ Some p) = kept_at k.processes flat.processes c.processes m.pid m at in
-    let o : outline_kept p.0 ≡ outline_of m = outline_at k.processes flat.processes c.processes m.pid p.0 m p.1 at in
-    record {
-      step = g;
-      lender = p.0;
-      kept = p.1;
-      found = at;
-      pid_is = has_number kept_pid m.pid k.processes p.0 p.1;
-      outline = o;
-      life = ap (λ (x : Outline). x.life) o ∙ ap life_of a.holding;
-      apart = λ i. differs (same_Some m q (sym at ∙ ap (λ (n : ℕ). numbered pid_of n flat.processes) (i ∙ g.pid_was) ∙ g.found));
-    }
+  pub borrowing : SameTables k flat → process_of flat pid ≡ Some q → q.holding ≡ Holds s → IsLender flat pid s.sid m → Borrowing
+  borrowing c f h a =
+      let differs : m ≡ q → ⊥ = λ i.
+      let j : Lends s.sid pid ≡ Holds s = sym a.holding ∙ ap (λ (x : Process). x.holding) i ∙ h in cc in
+      let g : Stepping k flat pid q s = stepping k flat pid q s c f h in
+      let at : numbered pid_of m.pid flat.processes ≡ Some m = sym (found_is flat.processes m.pid) ∙ a.found in
+      let p : (p : Proc) × (numbered kept_pid m.pid k.processes ≡ Some p) = kept_at k.processes flat.processes c.processes m.pid m at in
+      let o : outline_kept p.0 ≡ outline_of m = outline_at k.processes flat.processes c.processes m.pid p.0 m p.1 at in
+      record {
+        step = g;
+        lender = p.0;
+        kept = p.1;
+        found = at;
+        pid_is = has_number kept_pid m.pid k.processes p.0 p.1;
+        outline = o;
+        life = ap (λ (x : Outline). x.life) o ∙ ap life_of a.holding;
+        apart = λ i. differs (same_Some m q (sym at ∙ ap (λ (n : ℕ). numbered pid_of n flat.processes) (i ∙ g.pid_was) ∙ g.found));
+      }
 
--- the machine once the space went back: the borrower has none
-pub back_kernel : (k : Kernel) (flat : FlatState) (pid : ℕ) (q m : Process) (s : Space) → Borrowing k flat pid q m s
-    → pass_step k pid m.pid ≡ (let x : Kernel = record k { processes = map (passes s.sid pid m.pid) k.processes } in x)
-back_kernel k flat pid q m s a = let g : Stepping k flat pid q s = a.step in pass_is k pid m.pid g.proc a.lender (HoldsSpace s.sid) (LendsSpace s.sid pid) g.kept g.life a.kept a.life
+  -- the machine once the space went back: the borrower has none
+  pub back_kernel : Borrowing → pass_step k pid m.pid ≡ (let x : Kernel = record k { processes = map (passes s.sid pid m.pid) k.processes } in x)
+  back_kernel a = let g : Stepping k flat pid q s = a.step in pass_is k pid m.pid g.proc a.lender (HoldsSpace s.sid) (LendsSpace s.sid pid) g.kept g.life a.kept a.life
 
--- the borrower is there, with nothing
-pub back_proc : (k : Kernel) (flat : FlatState) (pid : ℕ) (q m : Process) (s : Space) (a : Borrowing k flat pid q m s)
-    → numbered kept_pid pid (map (passes s.sid pid m.pid) k.processes) ≡ Some (record a.step.proc { life = New })
-back_proc k flat pid q m s a =
-    let g : Stepping k flat pid q s = a.step in
-    numbered_map kept_pid (passes s.sid pid m.pid) (λ x. refl) pid k.processes ∙ ap (mapped (passes s.sid pid m.pid)) g.kept
-    ∙ ap (λ (b : Bool). Some (let z : Proc = record g.proc { life = cond b New (cond (g.proc.pid == m.pid) (HoldsSpace s.sid) g.proc.life) } in z)) (ap (λ (n : ℕ). n == pid) g.pid_is ∙ eq_self pid)
+  -- the borrower is there, with nothing
+  pub back_proc : (a : Borrowing) → numbered kept_pid pid (map (passes s.sid pid m.pid) k.processes) ≡ Some (record a.step.proc { life = New })
+  back_proc a =
+      let g : Stepping k flat pid q s = a.step in
+      numbered_map kept_pid (passes s.sid pid m.pid) (λ x. refl) pid k.processes ∙ ap (mapped (passes s.sid pid m.pid)) g.kept
+      ∙ ap (λ (b : Bool). Some (let z : Proc = record g.proc { life = cond b New (cond (g.proc.pid == m.pid) (HoldsSpace s.sid) g.proc.life) } in z)) (ap (λ (n : ℕ). n == pid) g.pid_is ∙ eq_self pid)
 
 -- the flat processes once the borrower gave way, and the lender has the space
 pub record Back (k : Kernel) (flat : FlatState) (pid : ℕ) (q m fp : Process) (kp : Proc) (s : Space) : Type 0 where

@@ -8,21 +8,18 @@ use Rattle.flat_state.specs.declared.change.Change.TheVariants.{Resize, Fork, Le
 use Rattle.page_model.specs.Pages.{SpacePages, numbered, changed, data_in, stack_in}
 use Rattle.page_model.specs.Placement.{Placement, Due, space_number, slots_of, sharers, sharers_in, image_of, image_in, new_pages}
 use Rattle.page_model.specs.Moves.{drop_all}
-use Rattle.page_model.specs.Place.{Changing, sized, resize, child_slot, fork_space, enter_space, enter_image, remove_space, pages_of_space, pages_of_text, leave_text, leave_text_by, give_up, give_up_unless, place_change, facts_numbered}
+use Rattle.page_model.specs.Place.{Changing, resize, child_slot, fork_space, enter_space, enter_image, remove_space, pages_of_space, pages_of_text, leave_text, leave_text_by, give_up, give_up_unless, place_change, facts_numbered}
 use Rattle.page_model.specs.Conditions.{IsNew, CanChange, HasImage, CanForget, MayForget}
 use Rattle.kernel_model.specs.ChangeStep.{holdings_after, given_back_unless}
 use Rattle.page_laws.proofs.Lists.Pages.{mapped, changed_same, changed_other, sharers_changed}
 use Rattle.page_laws.proofs.Ownership.Spaces.{drop_all_length}
-use Rattle.page_laws.proofs.Ownership.Changes.{dropped_pages, added_other, removed_other, removed_same}
+use Rattle.page_laws.proofs.Ownership.Changes.{dropped_pages, added_other, removed_other, removed_same, cut}
 use Rattle.page_laws.proofs.Blocks.Changes.{leave_text_length, leave_all_sharers, removed_sharers, drop_all_sharers, rest_of, rest_drop_all, sharers-append}
 use Rattle.page_laws.proofs.Bytes.Changes.{length_sized}
 use Rattle.kernel_laws.proofs.Pieces.GivenBack.{Fits, FitsBoth, Grows, Loses, Resizes, grows_fits, loses_fits, resizes_fits, less_u}
 use Rattle.aout_image.specs.declared.Image.{Image}
 
 -- Growth and break.
-
-abbrev cut : ℕ → ℕ → SpacePages → SpacePages
-cut d s x = record x { data_pages = sized d x.data_pages; stack_pages = sized s x.stack_pages }
 
 data_now : (d s : ℕ) (o : Option SpacePages)
     → (length (data_in (mapped (cut d s) o)) ≡ d) ⊎ ((length (data_in (mapped (cut d s) o)) ≡ 0) × (length (data_in o) ≡ 0))

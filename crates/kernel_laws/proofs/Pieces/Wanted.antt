@@ -21,7 +21,7 @@ use Rattle.flat_state.specs.declared.change.Change.TheVariants.{Keep, Resize, Fo
 use Rattle.page_model.specs.Pages.{Slot, SpacePages, numbered, changed, data_in, stack_in, with_data, with_stack, frame_of}
 use Rattle.page_model.specs.Placement.{Placement, Due, space_number, slots_of, state_of, put, sharers, sharers_in, image_of, image_in, new_pages}
 use Rattle.page_model.specs.Moves.{drop_at, drop_page, drop_all}
-use Rattle.page_model.specs.Place.{Changing, data_count, stack_count, sized, child_slot, resize, fork_space, enter_space, enter_image, give_up, give_up_unless, place_change, facts_numbered}
+use Rattle.page_model.specs.Place.{Changing, data_count, stack_count, child_slot, resize, fork_space, enter_space, enter_image, give_up, give_up_unless, place_change, facts_numbered}
 use Rattle.page_model.specs.Conditions.{IsNew, CanChange}
 use Rattle.page_model.specs.Ownership.{text_pieces_while, u_blocks}
 use Rattle.kernel_model.specs.Kernel.{Kernel, Proc, Life, New, HoldsSpace}
@@ -30,7 +30,7 @@ use Rattle.kernel_model.specs.ChangeStep.{changing_of, with_proc, without_proc, 
 use Rattle.kernel_model.specs.Taken.{wanted_lengths, AsksFor, MayChange}
 use Rattle.kernel_model.specs.Asks.{further, text_asked, image_asked, change_asks, HasSpace, IsUnused, OneEach, MayAsk, asked, WantsThese}
 use Rattle.page_laws.proofs.Lists.Pages.{mapped, changed_same}
-use Rattle.page_laws.proofs.Ownership.Changes.{dropped_pages, added_other, added_same}
+use Rattle.page_laws.proofs.Ownership.Changes.{dropped_pages, added_other, added_same, cut}
 use Rattle.page_laws.proofs.Blocks.Changes.{rest_of, sharers-append}
 use Rattle.page_laws.proofs.Bytes.Changes.{length_sized}
 use Rattle.page_laws.proofs.Bytes.Spaces.{map_length, unfilled_length}
@@ -251,9 +251,6 @@ absent_drop_all : (qs : List Page) (p : Placement) (sid : ℕ) → numbered spac
     → numbered space_number sid p.spaces ≡ None
 absent_drop_all [] p sid e = e
 absent_drop_all (v ∷ qs) p sid e = absent_drop p v sid (absent_drop_all qs (drop_page p v) sid e)
-
-abbrev cut : ℕ → ℕ → SpacePages → SpacePages
-cut d s x = record x { data_pages = sized d x.data_pages; stack_pages = sized s x.stack_pages }
 
 cut_there : (d s : ℕ) (o : Option SpacePages) → o ≢ None → (length (data_in (mapped (cut d s) o)) ≡ d) × (length (stack_in (mapped (cut d s) o)) ≡ s)
 cut_there d s None n = absurd (n refl)

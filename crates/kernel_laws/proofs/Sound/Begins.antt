@@ -31,7 +31,7 @@ use Rattle.kernel_laws.proofs.Pieces.Wanted.{lengths_both, lengths_own, lengths_
 use Rattle.kernel_laws.proofs.Sound.Changes.{HasTaken, taken_fits, taken_u, append_alive}
 use Rattle.kernel_laws.proofs.Sound.Allowed.{new_number}
 
-differs : (a b : ℕ) → a ≢ b → (a == b) ≡ false
+pub differs : (a b : ℕ) → a ≢ b → (a == b) ≡ false
 differs a b n = grind (arith, nat_tests)
 
 -- what is wanted is what each owner needs then

@@ -18,7 +18,7 @@ use Rattle.flat_state.specs.Flat.{cleared, start_regs}
 use Rattle.page_model.specs.Pages.{SpacePages, changed, with_data, with_stack}
 use Rattle.page_model.specs.Placement.{Placement, Transfer, Part, Errand, Writes, Reads, Source, Due, space_number, state_of, mark_of, is_dirty, page_of, put, spaces_with, sharers, image_of, new_pages}
 use Rattle.page_model.specs.Moves.{touch, drop_all}
-use Rattle.page_model.specs.Place.{Changing, filled, put_by, put_step, place_entry, sized, data_count, stack_count, data_from, stack_from, cut_space, resize, fork_space, enter_space, enter_image, remove_space, pages_of_space, pages_of_text, leave_text, leave_text_by, give_up, give_up_unless, place_change, facts_numbered}
+use Rattle.page_model.specs.Place.{Changing, filled, put_by, put_step, place_entry, data_count, stack_count, data_from, stack_from, cut_space, resize, fork_space, enter_space, enter_image, remove_space, pages_of_space, pages_of_text, leave_text, leave_text_by, give_up, give_up_unless, place_change, facts_numbered}
 use Rattle.flat_state.specs.Journal.{append}
 use Rattle.kernel_model.specs.Kernel.{New, HoldsSpace, Ended, Kernel, Proc, with_regs, plain_step, zero_step, copy_step, done_step, write_step, note_step, out_step, in_step}
 use Rattle.kernel_model.specs.ChangeStep.{changing_of, with_proc, without_proc, child_proc, is_ended, orphaned_procs, woken_procs, left_procs, procs_after, space_of_life, change_by, change_if, change_step, ran_by, pass_step, passed_life, life_of_proc}
@@ -28,7 +28,7 @@ use Rattle.kernel_model.specs.Sound.{lives}
 use Rattle.kernel_model.specs.Numbers.{EachResides, Numbered, TakesNext}
 use Rattle.page_model.specs.PuttingOut.{IsResident}
 use Rattle.page_laws.proofs.Moves.Puts.{KeptByPuts, entry_kept, touch_kept, drop_all_kept, leave_all_kept}
-use Rattle.page_laws.proofs.Ownership.Changes.{dropped_pages}
+use Rattle.page_laws.proofs.Ownership.Changes.{dropped_pages, cut}
 use Rattle.kernel_laws.proofs.Machine.Shapes.{Shaped, touch_shaped}
 use Rattle.kernel_laws.proofs.Sound.Steps.{pass_lives, proc_number}
 use Rattle.kernel_laws.proofs.Sound.Changes.{find, with_number}
@@ -41,7 +41,7 @@ use Rattle.kernel_laws.proofs.Machine.Swaps.{with_regs_pid}
 abbrev pub SameSpaces : Placement → Placement → Type 0
 SameSpaces p q = map space_number q.spaces ≡ map space_number p.spaces
 
-changed_numbers : (n : ℕ) (change : SpacePages → SpacePages) → ((s : SpacePages) → space_number (change s) ≡ space_number s) → (ss : List SpacePages)
+pub changed_numbers : (n : ℕ) (change : SpacePages → SpacePages) → ((s : SpacePages) → space_number (change s) ≡ space_number s) → (ss : List SpacePages)
     → map space_number (changed space_number n change ss) ≡ map space_number ss
 changed_numbers n change k [] = refl
 changed_numbers n change k (s ∷ ss) = go (space_number s == n) (changed_numbers n change k ss)
@@ -107,9 +107,6 @@ FineSpaces n p = Fine n (map space_number p.spaces)
 
 same_fine : (n : ℕ) (p q : Placement) → SameSpaces p q → FineSpaces n p → FineSpaces n q
 same_fine n p q s f = fine_as n (map space_number p.spaces) (map space_number q.spaces) s f
-
-abbrev cut : ℕ → ℕ → SpacePages → SpacePages
-cut d s x = record x { data_pages = sized d x.data_pages; stack_pages = sized s x.stack_pages }
 
 resize_numbers : (p : Placement) (sid d s : ℕ) → SameSpaces p (resize p sid d s)
 resize_numbers p sid d s = changed_numbers sid (cut d s) (λ x. refl) (drop_all p (dropped_pages p sid d s)).spaces ∙ drop_all_kept numbers_by_puts (dropped_pages p sid d s) p

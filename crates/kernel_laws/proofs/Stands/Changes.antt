@@ -119,60 +119,54 @@ write_stands images k flat pid q s w v f at fq hq st = subst (Stands images (wri
       held_holder flat.processes q (record q { holding = Holds (put_in_space s w) }) n (found_self flat pid q fq) refl,
     )) st)
 
--- An entry of a process, by the process of the machine.
-by_step : (images : List NamedImage) (k : Kernel) (flat : FlatState) (pid : ℕ) (regs : Regs) (e : Entry) (change : Change) (q : Process) (s : Space)
-    → SameTables k flat → process_of flat pid ≡ Some q → q.holding ≡ Holds s
-    → ((kp : Proc) → kp.pid ≡ pid
-    → Stands images (by_life (facts_of images) k kp (HoldsSpace s.sid) e change) (changed images flat (record q { regs = regs }) s change))
-    → Stands images (change_step (facts_of images) k pid regs e change) (apply_change images flat pid regs change)
-by_step images k flat pid regs e change q s t f h make =
-    let g : Stepping k flat pid q s = stepping k flat pid q s t f h in
-    subst (λ (x : Kernel). Stands images x (apply_change images flat pid regs change)) (sym (step_is (facts_of images) k pid regs e change g.proc (HoldsSpace s.sid) g.kept g.life))
-    (subst (Stands images (by_life (facts_of images) k (record g.proc { regs = regs }) (HoldsSpace s.sid) e change)) (sym (applied images flat pid regs change q s f h))
-    (make (record g.proc { regs = regs }) g.pid_is))
+module _ (images : List NamedImage) (k : Kernel) (flat : FlatState) (pid : ℕ) (regs : Regs) (e : Entry) where
+  -- An entry of a process, by the process of the machine.
+  by_step : (change : Change) (q : Process) (s : Space)
+      → SameTables k flat → process_of flat pid ≡ Some q → q.holding ≡ Holds s
+      → ((kp : Proc) → kp.pid ≡ pid
+      → Stands images (by_life (facts_of images) k kp (HoldsSpace s.sid) e change) (changed images flat (record q { regs = regs }) s change))
+      → Stands images (change_step (facts_of images) k pid regs e change) (apply_change images flat pid regs change)
+  by_step change q s t f h make =
+      let g : Stepping k flat pid q s = stepping k flat pid q s t f h in
+      subst (λ (x : Kernel). Stands images x (apply_change images flat pid regs change)) (sym (step_is (facts_of images) k pid regs e change g.proc (HoldsSpace s.sid) g.kept g.life))
+      (subst (Stands images (by_life (facts_of images) k (record g.proc { regs = regs }) (HoldsSpace s.sid) e change)) (sym (applied images flat pid regs change q s f h))
+      (make (record g.proc { regs = regs }) g.pid_is))
 
-pub keep_stands : (images : List NamedImage) (k : Kernel) (flat : FlatState) (pid : ℕ) (regs : Regs) (e : Entry) (q : Process) (s : Space)
-    → SameTables k flat → process_of flat pid ≡ Some q → q.holding ≡ Holds s → is_out k.place pid ≡ false
-    → Stands images k flat → Stands images (change_step (facts_of images) k pid regs e Keep) (apply_change images flat pid regs Keep)
-keep_stands images k flat pid regs e q s t f h out st = by_step images k flat pid regs e Keep q s t f h (λ kp i.
-    still_out images k (by_life (facts_of images) k kp (HoldsSpace s.sid) e Keep) flat (with_process flat (record q { regs = regs })) refl refl (λ i. refl)
-    (one_out k.place flat (record q { regs = regs }) pid ((found_at flat pid q f).0) out) st)
+  pub keep_stands : (q : Process) (s : Space) → SameTables k flat → process_of flat pid ≡ Some q → q.holding ≡ Holds s → is_out k.place pid ≡ false
+      → Stands images k flat → Stands images (change_step (facts_of images) k pid regs e Keep) (apply_change images flat pid regs Keep)
+  keep_stands q s t f h out st = by_step Keep q s t f h (λ kp i.
+      still_out images k (by_life (facts_of images) k kp (HoldsSpace s.sid) e Keep) flat (with_process flat (record q { regs = regs })) refl refl (λ i. refl)
+      (one_out k.place flat (record q { regs = regs }) pid ((found_at flat pid q f).0) out) st)
 
-pub sleep_stands : (images : List NamedImage) (k : Kernel) (flat : FlatState) (pid : ℕ) (regs : Regs) (e : Entry) (q : Process) (s : Space)
-    → SameTables k flat → process_of flat pid ≡ Some q
-    → q.holding ≡ Holds s → is_out k.place pid ≡ false
-    → Stands images k flat → Stands images (change_step (facts_of images) k pid regs e Sleep) (apply_change images flat pid regs Sleep)
-sleep_stands images k flat pid regs e q s t f h out st = by_step images k flat pid regs e Sleep q s t f h (λ kp i.
-    still_out images k (by_life (facts_of images) k kp (HoldsSpace s.sid) e Sleep) flat (with_process flat (record q { regs = regs; asleep = true })) refl refl (λ i. refl)
-    (one_out k.place flat (record q { regs = regs; asleep = true }) pid ((found_at flat pid q f).0) out) st)
+  pub sleep_stands : (q : Process) (s : Space) → SameTables k flat → process_of flat pid ≡ Some q → q.holding ≡ Holds s → is_out k.place pid ≡ false
+      → Stands images k flat → Stands images (change_step (facts_of images) k pid regs e Sleep) (apply_change images flat pid regs Sleep)
+  sleep_stands q s t f h out st = by_step Sleep q s t f h (λ kp i.
+      still_out images k (by_life (facts_of images) k kp (HoldsSpace s.sid) e Sleep) flat (with_process flat (record q { regs = regs; asleep = true })) refl refl (λ i. refl)
+      (one_out k.place flat (record q { regs = regs; asleep = true }) pid ((found_at flat pid q f).0) out) st)
 
-pub reap_stands : (images : List NamedImage) (k : Kernel) (flat : FlatState) (pid : ℕ) (regs : Regs) (e : Entry) (child status : ℕ) (q z : Process) (s : Space)
-    → SameTables k flat
-    → process_of flat pid ≡ Some q → q.holding ≡ Holds s → is_out k.place pid ≡ false → process_of flat child ≡ Some z
-    → z.holding ≡ Zombie status → Stands images k flat
-    → Stands images (change_step (facts_of images) k pid regs e (Reap child)) (apply_change images flat pid regs (Reap child))
-reap_stands images k flat pid regs e child status q z s t f h out fz hz st = by_step images k flat pid regs e (Reap child) q s t f h (λ kp i.
-    still_out images k (by_life (facts_of images) k kp (HoldsSpace s.sid) e (Reap child)) flat (with_process (without_process flat child) (record q { regs = regs })) refl refl (λ i. refl)
-    (λ n o. (
-      o,
-      λ y. held_replaced (filter (λ (x : Process). not (x.pid == child)) flat.processes) (record q { regs = regs }) n (λ j. not_out k.place pid n out o (j ∙ (found_at flat pid q f).0))
-          (ap holds_some (removed_not pid_of n child flat.processes (λ j. dead (ap (λ (m : ℕ). holds_some (numbered pid_of m flat.processes)) (sym j) ∙ y))) ∙ y),
-    )) st)
-  where
-    dead : Held flat.processes child → ⊥
-    dead y = let w : false ≡ true = sym (ap holds_some (sym (found_is flat.processes child) ∙ fz) ∙ ap holds_space hz) ∙ y in cc
+  pub reap_stands : (child status : ℕ) (q z : Process) (s : Space) → SameTables k flat → process_of flat pid ≡ Some q → q.holding ≡ Holds s
+      → is_out k.place pid ≡ false → process_of flat child ≡ Some z → z.holding ≡ Zombie status → Stands images k flat
+      → Stands images (change_step (facts_of images) k pid regs e (Reap child)) (apply_change images flat pid regs (Reap child))
+  reap_stands child status q z s t f h out fz hz st = by_step (Reap child) q s t f h (λ kp i.
+      still_out images k (by_life (facts_of images) k kp (HoldsSpace s.sid) e (Reap child)) flat (with_process (without_process flat child) (record q { regs = regs })) refl refl (λ i. refl)
+      (λ n o. (
+        o,
+        λ y. held_replaced (filter (λ (x : Process). not (x.pid == child)) flat.processes) (record q { regs = regs }) n (λ j. not_out k.place pid n out o (j ∙ (found_at flat pid q f).0))
+            (ap holds_some (removed_not pid_of n child flat.processes (λ j. dead (ap (λ (m : ℕ). holds_some (numbered pid_of m flat.processes)) (sym j) ∙ y))) ∙ y),
+      )) st)
+    where
+      dead : Held flat.processes child → ⊥
+      dead y = let w : false ≡ true = sym (ap holds_some (sym (found_is flat.processes child) ∙ fz) ∙ ap holds_space hz) ∙ y in cc
 
-pub resize_stands : (images : List NamedImage) (k : Kernel) (flat : FlatState) (pid : ℕ) (regs : Regs) (e : Entry) (d t : ℕ) (q : Process) (s : Space)
-    → SameTables k flat
-    → process_of flat pid ≡ Some q → q.holding ≡ Holds s → is_out k.place pid ≡ false
-    → Stands images k flat → Stands images (change_step (facts_of images) k pid regs e (Resize d t)) (apply_change images flat pid regs (Resize d t))
-resize_stands images k flat pid regs e d t q s tb f h out st = by_step images k flat pid regs e (Resize d t) q s tb f h (λ kp i.
-    let sh : Shaped k.place (drop_all k.place (dropped_pages k.place s.sid d t)) = drop_all_shaped (dropped_pages k.place s.sid d t) k.place in
-    still_out images k (by_life (facts_of images) k kp (HoldsSpace s.sid) e (Resize d t)) flat (with_process flat (record q { regs = regs; holding = Holds (resized s d t) })) refl
-    ((drop_all_rest (dropped_pages k.place s.sid d t) k.place).1)
-    (λ j. sizes_kept k.place (drop_all k.place (dropped_pages k.place s.sid d t)) sh (Text j 0))
-    (λ n o. one_out k.place flat (record q { regs = regs; holding = Holds (resized s d t) }) pid ((found_at flat pid q f).0) out n
-    (ap (λ (rs : List Residence). (residence_of rs n).out) (sym sh.residents) ∙ o)) st)
+  pub resize_stands : (d t : ℕ) (q : Process) (s : Space) → SameTables k flat → process_of flat pid ≡ Some q → q.holding ≡ Holds s → is_out k.place pid ≡ false
+      → Stands images k flat → Stands images (change_step (facts_of images) k pid regs e (Resize d t)) (apply_change images flat pid regs (Resize d t))
+  resize_stands d t q s tb f h out st = by_step (Resize d t) q s tb f h (λ kp i.
+      let sh : Shaped k.place (drop_all k.place (dropped_pages k.place s.sid d t)) = drop_all_shaped (dropped_pages k.place s.sid d t) k.place in
+      still_out images k (by_life (facts_of images) k kp (HoldsSpace s.sid) e (Resize d t)) flat (with_process flat (record q { regs = regs; holding = Holds (resized s d t) })) refl
+      ((drop_all_rest (dropped_pages k.place s.sid d t) k.place).1)
+      (λ j. sizes_kept k.place (drop_all k.place (dropped_pages k.place s.sid d t)) sh (Text j 0))
+      (λ n o. one_out k.place flat (record q { regs = regs; holding = Holds (resized s d t) }) pid ((found_at flat pid q f).0) out n
+      (ap (λ (rs : List Residence). (residence_of rs n).out) (sym sh.residents) ∙ o)) st)
 
 -- nothing is kept where nothing is due
 none_kept : (images : List NamedImage) (k : Kernel) (flat : FlatState) → k.place.due ≡ [] → Stands images k flat → (w : Page) → has_start k.starts w ≡ false

@@ -47,24 +47,23 @@ pub moves_due : (n : ℕ) (p : Placement) (locked : List Page) → (hand_moves p
 moves_due zero p locked = refl
 moves_due (suc n) p locked = let s : Stays p (hand_move p locked) = move_stays p locked in moves_due n (hand_move p locked) locked ∙ s.due
 
-pub note_stands : (images : List NamedImage) (k : Kernel) (flat : FlatState) (e : Entry) → Stands images k flat → Stands images (note_step k e) flat
-note_stands images k flat e s = stands_still images k (note_step k e) flat refl refl (shaped_self k.place) s
+module _ (images : List NamedImage) (k : Kernel) (flat : FlatState) where
+  pub note_stands : (e : Entry) → Stands images k flat → Stands images (note_step k e) flat
+  note_stands e s = stands_still images k (note_step k e) flat refl refl (shaped_self k.place) s
 
-pub get_stands : (images : List NamedImage) (k : Kernel) (flat : FlatState) (q : Page) (lo n : ℕ) → Stands images k flat
-    → Stands images (get_step k q lo n) flat
-get_stands images k flat q lo n s = stands_still images k (get_step k q lo n) flat refl (get_due_list k.place (read_errand k.place q) (pages_from q lo n))
-    (get_run_shaped k.place (read_errand k.place q) (pages_from q lo n)) s
+  pub get_stands : (q : Page) (lo n : ℕ) → Stands images k flat → Stands images (get_step k q lo n) flat
+  get_stands q lo n s = stands_still images k (get_step k q lo n) flat refl (get_due_list k.place (read_errand k.place q) (pages_from q lo n))
+      (get_run_shaped k.place (read_errand k.place q) (pages_from q lo n)) s
 
-pub reclaim_stands : (images : List NamedImage) (k : Kernel) (flat : FlatState) (q : Page) → Stands images k flat → Stands images (reclaim_step k q) flat
-reclaim_stands images k flat q s = stands_still images k (reclaim_step k q) flat refl (reclaim_due k.place q) (reclaim_shaped k.place q) s
+  pub reclaim_stands : (q : Page) → Stands images k flat → Stands images (reclaim_step k q) flat
+  reclaim_stands q s = stands_still images k (reclaim_step k q) flat refl (reclaim_due k.place q) (reclaim_shaped k.place q) s
 
-pub hand_stands : (images : List NamedImage) (k : Kernel) (flat : FlatState) (locked : List Page) → Stands images k flat
-    → Stands images (hand_step k locked) flat
-hand_stands images k flat locked s = stands_still images k (hand_step k locked) flat refl (moves_due 1 k.place locked) (moves_shaped 1 k.place locked) s
+  pub hand_stands : (locked : List Page) → Stands images k flat → Stands images (hand_step k locked) flat
+  hand_stands locked s = stands_still images k (hand_step k locked) flat refl (moves_due 1 k.place locked) (moves_shaped 1 k.place locked) s
 
-pub push_stands : (images : List NamedImage) (k : Kernel) (flat : FlatState) (q : Page) (n : ℕ) → Stands images k flat → Stands images (push_step k q n) flat
-push_stands images k flat q n s = let t : Steady k.place (put_step k.place q (pages_from q (number_of q) n)) = put_steady k.place q (pages_from q (number_of q) n) in
-    stands_still images k (push_step k q n) flat refl t.due (put_step_shaped k.place q (pages_from q (number_of q) n)) s
+  pub push_stands : (q : Page) (n : ℕ) → Stands images k flat → Stands images (push_step k q n) flat
+  push_stands q n s = let t : Steady k.place (put_step k.place q (pages_from q (number_of q) n)) = put_steady k.place q (pages_from q (number_of q) n) in
+      stands_still images k (push_step k q n) flat refl t.due (put_step_shaped k.place q (pages_from q (number_of q) n)) s
 
 pub done_stands : (size : ℕ) (images : List NamedImage) (k : Kernel) (flat : FlatState) (read : List (List ℕ)) → Sound size k → Stands images k flat
     → Stands images (done_step k read) flat

@@ -148,19 +148,17 @@ found_own size hs q book some = go (block_of hs q) refl some
     go None e s = absurd cc
     go (Some b) e s = record { first = b; found = e; own = apart.own (owner_of q) (number_of q) b e }
 
--- Each page on swap, in a transfer, and each saved text page, has its two blocks in its own owner's holding.
-pub needed_found : (size : ℕ) (lives : ℕ → Bool) (p : Placement) (hs : Holdings) → OwnsBlocks size lives p hs → TextAside p → (q : Page)
-    → needs_blocks p q ≡ true → HasBlocks size hs q
-needed_found size lives p hs o a q e = found_own size hs q o.book (has_blocks size lives p hs q o (needs_there p q e) (needs_shared p q a e))
+module _ (size : ℕ) (lives : ℕ → Bool) (p : Placement) (hs : Holdings) where
+  -- Each page on swap, in a transfer, and each saved text page, has its two blocks in its own owner's holding.
+  pub needed_found : OwnsBlocks size lives p hs → TextAside p → (q : Page) → needs_blocks p q ≡ true → HasBlocks size hs q
+  needed_found o a q e = found_own size hs q o.book (has_blocks size lives p hs q o (needs_there p q e) (needs_shared p q a e))
 
--- The frames, the blocks and the text have their owners, and so each page has the blocks that it needs.
-pub one_owner : (size : ℕ) (lives : ℕ → Bool) (p : Placement) (hs : Holdings) → OwnsFrames p → OwnsBlocks size lives p hs → TextAside p
-    → OneOwner size lives p hs
-one_owner size lives p hs f o a = record { frames = f; blocks = o; aside = a; places = needed_found size lives p hs o a }
+  -- The frames, the blocks and the text have their owners, and so each page has the blocks that it needs.
+  pub one_owner : OwnsFrames p → OwnsBlocks size lives p hs → TextAside p → OneOwner size lives p hs
+  one_owner f o a = record { frames = f; blocks = o; aside = a; places = needed_found o a }
 
-pub places_found : (size : ℕ) (lives : ℕ → Bool) (p : Placement) (hs : Holdings) (q : Page) → OneOwner size lives p hs → needs_blocks p q ≡ true
-    → IsSome (block_of hs q)
-places_found size lives p hs q o e = let b : HasBlocks size hs q = o.places q e in subst IsSome (sym b.found) refl
+  pub places_found : (q : Page) → OneOwner size lives p hs → needs_blocks p q ≡ true → IsSome (block_of hs q)
+  places_found q o e = let b : HasBlocks size hs q = o.places q e in subst IsSome (sym b.found) refl
 
 -- the same sizes and sharers, the same holdings
 pub blocks_still : (size : ℕ) (lives : ℕ → Bool) (p q : Placement) (hs : Holdings) → ((w : Page) → length (slots_of q w) ≡ length (slots_of p w))

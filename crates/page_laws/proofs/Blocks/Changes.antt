@@ -21,7 +21,7 @@ use Rattle.vm_facts.proofs.Lists.{times-append, times_head, times-without_other,
 use Rattle.page_laws.proofs.Lists.Pages.{page_cases, put_state, put_mark, put_other, put_length, put_sharers, sharers_changed}
 use Rattle.page_laws.proofs.Lists.Runs.{each_page_append, pages_from_each}
 use Rattle.page_laws.proofs.Ownership.Spaces.{drop_all_other}
-use Rattle.page_laws.proofs.Ownership.Changes.{dropped_pages}
+use Rattle.page_laws.proofs.Ownership.Changes.{dropped_pages, cut}
 use Rattle.aout_image.specs.declared.Image.{Image}
 
 -- the same texts, what was free free, and no image shared less
@@ -69,9 +69,6 @@ not_text : (sid d dn s sn image n : ℕ) → EachPage (λ r. Text image n ≢ r)
 not_text sid d dn s sn image n = each_page_append (λ r. Text image n ≢ r) (data_from sid d dn) (stack_from sid s sn)
     (pages_from_each (λ r. Text image n ≢ r) (Data sid d) d dn (λ w l m e. absurd cc))
     (pages_from_each (λ r. Text image n ≢ r) (Stack sid s) s sn (λ w l m e. absurd cc))
-
-abbrev cut : ℕ → ℕ → SpacePages → SpacePages
-cut d s x = record x { data_pages = Rattle.page_model.specs.Place.sized d x.data_pages; stack_pages = Rattle.page_model.specs.Place.sized s x.stack_pages }
 
 pub resize_aside : (p : Placement) (sid d s : ℕ) → TextAside p → TextAside (resize p sid d s)
 resize_aside p sid d s a = text_still p (resize p sid d s)

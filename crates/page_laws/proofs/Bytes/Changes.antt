@@ -13,7 +13,7 @@ use Rattle.page_model.specs.PageBytes.{zeros, Bytes, bytes_in, IsUnsaved, KeepsB
 use Rattle.page_laws.proofs.Lists.Pages.{mapped, changed_same, changed_other}
 use Rattle.page_laws.proofs.Lists.Runs.{each_page_append, pages_from_each}
 use Rattle.page_laws.proofs.Ownership.Spaces.{drop_all_other, drop_all_length}
-use Rattle.page_laws.proofs.Ownership.Changes.{dropped_pages, removed_other, removed_same}
+use Rattle.page_laws.proofs.Ownership.Changes.{dropped_pages, removed_other, removed_same, cut}
 use Rattle.page_laws.proofs.Bytes.Couples.{NoCopy, Unmoved, unmoved_keeps}
 
 -- each page that is there is as it was, or is right by itself
@@ -74,9 +74,6 @@ sized_new (suc n) zero [] l m = refl
 sized_new (suc n) (suc w) [] l m = sized_new n w [] (omega arith) (omega arith)
 sized_new (suc n) zero (x ∷ xs) l m = absurd (omega arith)
 sized_new (suc n) (suc w) (x ∷ xs) l m = sized_new n w xs (omega arith) (omega arith)
-
-abbrev pub cut : ℕ → ℕ → SpacePages → SpacePages
-cut d s x = record x { data_pages = sized d x.data_pages; stack_pages = sized s x.stack_pages }
 
 -- a new page, of zeros
 pub zero_keeps : (q : Placement) (c : Bytes) (w : Page) → slot_of q w ≡ unfilled Zeros → ((image v : ℕ) → w ≢ Text image v) → due_of_page q.due w ≡ None

@@ -57,15 +57,15 @@ pub record Unmoved (p q : Placement) (b c : Bytes) (w : Page) : Type 0 where
   pub memory : c.memory w ≡ b.memory w
   pub copied : ((parent : Page) → c.memory parent ≡ b.memory parent) ⊎ NoCopy (due_of_page q.due w)
 
-mark_same : (p q : Placement) (b c : Bytes) (w : Page) → Unmoved p q b c w → mark_of q w ≡ mark_of p w
-mark_same p q b c w u = ap (λ (x : Slot). x.mark) u.slot
+module _ (p q : Placement) (b c : Bytes) (w : Page) where
+  mark_same : Unmoved p q b c w → mark_of q w ≡ mark_of p w
+  mark_same u = ap (λ (x : Slot). x.mark) u.slot
 
-filling_same : (p q : Placement) (b c : Bytes) (w : Page) → Unmoved p q b c w → filling_of q w ≡ filling_of p w
-filling_same p q b c w u = ap (λ (x : Slot). filling_by w x.filling) u.slot
+  filling_same : Unmoved p q b c w → filling_of q w ≡ filling_of p w
+  filling_same u = ap (λ (x : Slot). filling_by w x.filling) u.slot
 
-in_frame_same : (p q : Placement) (b c : Bytes) (w : Page) (f : ℕ) → Unmoved p q b c w → frame_of (state_of p w) ≡ Some f
-    → IsInFrame b (is_dirty p w) f w → IsInFrame c (is_dirty q w) f w
-in_frame_same p q b c w f u e k = record { here = (u.frames f e).0 ∙ k.here ∙ sym u.memory; there = λ h. u.swap ∙ k.there (sym (ap (is_dirty_by w) (mark_same p q b c w u)) ∙ h) ∙ sym u.memory }
+  in_frame_same : (f : ℕ) → Unmoved p q b c w → frame_of (state_of p w) ≡ Some f → IsInFrame b (is_dirty p w) f w → IsInFrame c (is_dirty q w) f w
+  in_frame_same f u e k = record { here = (u.frames f e).0 ∙ k.here ∙ sym u.memory; there = λ h. u.swap ∙ k.there (sym (ap (is_dirty_by w) (mark_same u)) ∙ h) ∙ sym u.memory }
 
 saved_same : (b c : Bytes) (w : Page) (m : Bool) → c.swap w ≡ b.swap w → c.memory w ≡ b.memory w → IfSaved b w m → IfSaved c w m
 saved_same b c (Text image v) m s e k = λ h. s ∙ k h ∙ sym e

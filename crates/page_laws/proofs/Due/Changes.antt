@@ -27,6 +27,7 @@ use Rattle.page_laws.proofs.Bytes.Others.{touch_steady}
 use Rattle.page_laws.proofs.Due.Entries.{stays_due, resident_due}
 use Rattle.page_laws.proofs.Due.Spaces.{fork_due, enter_due}
 use Rattle.aout_image.specs.declared.Image.{Image}
+use Rattle.page_laws.proofs.Lists.Pages.{key_of}
 
 -- nothing is due
 pub none_due : (p : Placement) → p.due ≡ [] → DueStand p
@@ -38,15 +39,10 @@ touch_due p q = stays_due p (touch p q) (steady_stays p (touch p q) (touch_stead
 
 -- A space that goes leaves the pages of other spaces alone.
 
-abbrev space_in : Page → ℕ
-space_in (Data sid v) = sid
-space_in (Stack sid v) = sid
-space_in (Text image v) = image
-
-not_of_space : (w : Page) (sid dn sn : ℕ) → space_in w ≢ sid → EachPage (λ r. w ≢ r) (data_from sid 0 dn ++ stack_from sid 0 sn)
+not_of_space : (w : Page) (sid dn sn : ℕ) → key_of w ≢ sid → EachPage (λ r. w ≢ r) (data_from sid 0 dn ++ stack_from sid 0 sn)
 not_of_space w sid dn sn n = each_page_append (λ r. w ≢ r) (data_from sid 0 dn) (stack_from sid 0 sn)
-    (pages_from_each (λ r. w ≢ r) (Data sid 0) 0 dn (λ v l m e. n (ap space_in e)))
-    (pages_from_each (λ r. w ≢ r) (Stack sid 0) 0 sn (λ v l m e. n (ap space_in e)))
+    (pages_from_each (λ r. w ≢ r) (Data sid 0) 0 dn (λ v l m e. n (ap key_of e)))
+    (pages_from_each (λ r. w ≢ r) (Stack sid 0) 0 sn (λ v l m e. n (ap key_of e)))
 
 not_of_text : (w : Page) (image n : ℕ) → IsWritable w → EachPage (λ r. w ≢ r) (Rattle.flat_state.specs.PageNames.pages_from (Text image 0) 0 n)
 not_of_text (Data sid v) image n i = pages_from_each (λ r. Data sid v ≢ r) (Text image 0) 0 n (λ w l m e. absurd cc)
@@ -64,18 +60,18 @@ leave_text_other p image w i = go (sharers p image)
     go zero = leave_all_other (pages_of_text p image) p w (not_of_text w image (length (slots_of p (Text image 0))) i)
     go (suc n) = refl
 
-remove_slots : (p : Placement) (sid : ℕ) (w : Page) → IsWritable w → space_in w ≢ sid → slots_of (remove_space p sid) w ≡ slots_of p w
+remove_slots : (p : Placement) (sid : ℕ) (w : Page) → IsWritable w → key_of w ≢ sid → slots_of (remove_space p sid) w ≡ slots_of p w
 remove_slots p sid (Data t v) i n = ap data_in (removed_other sid t p.spaces n)
 remove_slots p sid (Stack t v) i n = ap stack_in (removed_other sid t p.spaces n)
 remove_slots p sid (Text j v) i n = absurd i
 
-pub give_up_slot : (p : Placement) (sid : ℕ) (w : Page) → IsWritable w → space_in w ≢ sid → slot_of (give_up p sid) w ≡ slot_of p w
+pub give_up_slot : (p : Placement) (sid : ℕ) (w : Page) → IsWritable w → key_of w ≢ sid → slot_of (give_up p sid) w ≡ slot_of p w
 give_up_slot p sid w i n =
     let d : Placement = drop_all p (pages_of_space p sid) in
     leave_text_other (remove_space d sid) (image_of p sid) w i ∙ ap (λ (xs : List Slot). get_or xs (number_of w) no_slot) (remove_slots d sid w i n)
     ∙ drop_all_other (pages_of_space p sid) p w (not_of_space w sid (data_count p sid) (stack_count p sid) n)
 
-pub give_up_length : (p : Placement) (sid : ℕ) (w : Page) → IsWritable w → space_in w ≢ sid → length (slots_of (give_up p sid) w) ≡ length (slots_of p w)
+pub give_up_length : (p : Placement) (sid : ℕ) (w : Page) → IsWritable w → key_of w ≢ sid → length (slots_of (give_up p sid) w) ≡ length (slots_of p w)
 give_up_length p sid w i n =
     let d : Placement = drop_all p (pages_of_space p sid) in
     leave_text_length (remove_space d sid) (image_of p sid) w ∙ ap length (remove_slots d sid w i n) ∙ drop_all_length (pages_of_space p sid) p w
@@ -99,10 +95,10 @@ unless_due false p sid = give_up_due p sid
 
 -- what is due of a space, and what it is copied from
 abbrev OfOthers : ℕ → Page → Due → Type 0
-OfOthers sid q (Start r) = space_in q ≢ sid
-OfOthers sid q (CopyOf r parent) = (space_in q ≢ sid) × (space_in parent ≢ sid)
+OfOthers sid q (Start r) = key_of q ≢ sid
+OfOthers sid q (CopyOf r parent) = (key_of q ≢ sid) × (key_of parent ≢ sid)
 
-page_other : (sid : ℕ) (q : Page) (d : Due) → OfOthers sid q d → space_in q ≢ sid
+page_other : (sid : ℕ) (q : Page) (d : Due) → OfOthers sid q d → key_of q ≢ sid
 page_other sid q (Start r) o = o
 page_other sid q (CopyOf r parent) o = o.0
 
@@ -115,7 +111,7 @@ pub given_due : (p : Placement) (sid : ℕ) → ((q : Page) (d : Due) → due_of
 given_due p sid o s q d e =
     let found : due_of_page p.due q ≡ Some d = ap (λ (ds : List Due). due_of_page ds q) (sym (give_up_due p sid)) ∙ e in
     let was : IsDue p q d = s q d found in
-    let other : space_in q ≢ sid = page_other sid q d (o q d found) in
+    let other : key_of q ≢ sid = page_other sid q d (o q d found) in
     let slot : slot_of (give_up p sid) q ≡ slot_of p q = give_up_slot p sid q was.writable other in
     record {
       writable = was.writable;
@@ -130,7 +126,7 @@ start_others sid next q d n e = go (same_page (Stack next 0) q) refl e
   where
     go : (b : Bool) → same_page (Stack next 0) q ≡ b → cond b (Some (Start (Stack next 0))) None ≡ Some d → OfOthers sid q d
     go false h k = none_some d k
-    go true h k = subst (OfOthers sid q) (same_Some (Start (Stack next 0)) d k) (subst (λ (x : Page). space_in x ≢ sid) (same_page_is (Stack next 0) q h) n)
+    go true h k = subst (OfOthers sid q) (same_Some (Start (Stack next 0)) d k) (subst (λ (x : Page). key_of x ≢ sid) (same_page_is (Stack next 0) q h) n)
 
 exec_due : (borrowed : Bool) (p : Placement) (next image sid : ℕ) (facts : Option Image) → p.due ≡ [] → IsNew p next → (borrowed ≡ false → next ≢ sid)
     → DueStand (give_up_unless borrowed (enter_image p next image facts) sid)

@@ -70,7 +70,7 @@ free_near p locked l = go p.free l
     go [] l = absurd (omega arith)
     go (f ∷ fs) l = refl
 
-far_parts_le : (p : Placement) (e : Errand) (xs : List Part) (more : ℕ) → far_parts p e xs more ≤ length p.holds + 4 + more
+pub far_parts_le : (p : Placement) (e : Errand) (xs : List Part) (more : ℕ) → far_parts p e xs more ≤ length p.holds + 4 + more
 far_parts_le p Writes (x ∷ xs) more = omega arith
 far_parts_le p Writes [] more = omega arith
 far_parts_le p (Reads source demanded) xs more = omega arith

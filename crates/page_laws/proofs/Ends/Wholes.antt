@@ -61,23 +61,23 @@ forced p locked o h r = forced_within (1 + far p locked) p locked o h r (omega a
 
 -- Serving.
 
-pub serve_shape : (p : Placement) (locked : List Page) (q : Page) → OwnsFrames p → SameShape p (serve_step p locked q)
-serve_shape p locked q o = serving_cases (λ x. SameShape p (after_serving p locked x)) p q (λ f s. record { sizes = λ w. refl; sharing = λ i. refl })
-    (λ f s. reclaim_kept shape_by_puts p q) (λ f s. done_kept shape_by_puts p)
-    (λ n e. let k : Stays p (force p locked) = force_stays p locked o in record { sizes = k.sizes; sharing = k.sharing })
-    (λ f fs e s x. filled_kept shape_by_puts (λ r ds. record { sizes = λ w. refl; sharing = λ i. refl }) p q) (λ f fs e r b. done_kept shape_by_puts p)
-    (λ f fs e r b. get_run_kept shape_by_puts p (read_errand p q) (pages_of_run q (run_in p q)))
+module _ (p : Placement) (locked : List Page) (q : Page) where
+  pub serve_shape : OwnsFrames p → SameShape p (serve_step p locked q)
+  serve_shape o = serving_cases (λ x. SameShape p (after_serving p locked x)) p q (λ f s. record { sizes = λ w. refl; sharing = λ i. refl })
+      (λ f s. reclaim_kept shape_by_puts p q) (λ f s. done_kept shape_by_puts p)
+      (λ n e. let k : Stays p (force p locked) = force_stays p locked o in record { sizes = k.sizes; sharing = k.sharing })
+      (λ f fs e s x. filled_kept shape_by_puts (λ r ds. record { sizes = λ w. refl; sharing = λ i. refl }) p q) (λ f fs e r b. done_kept shape_by_puts p)
+      (λ f fs e r b. get_run_kept shape_by_puts p (read_errand p q) (pages_of_run q (run_in p q)))
 
--- each segment is as long as before
-pub serve_sizes : (p : Placement) (locked : List Page) (q : Page) → OwnsFrames p → (w : Page)
-    → length (slots_of (serve_step p locked q) w) ≡ length (slots_of p w)
-serve_sizes p locked q o = let s = serve_shape p locked q o in s.sizes
+  -- each segment is as long as before
+  pub serve_sizes : OwnsFrames p → (w : Page) → length (slots_of (serve_step p locked q) w) ≡ length (slots_of p w)
+  serve_sizes o = let s = serve_shape o in s.sizes
 
-pub serve_room : (p : Placement) (locked : List Page) (q : Page) → OwnsFrames p → HasRoom p locked → HasRoom (serve_step p locked q) locked
-serve_room p locked q o r = room_still p (serve_step p locked q) locked (serve_frames p locked q o) r
+  pub serve_room : OwnsFrames p → HasRoom p locked → HasRoom (serve_step p locked q) locked
+  serve_room o r = room_still p (serve_step p locked q) locked (serve_frames p locked q o) r
 
-serve_there : (p : Placement) (locked : List Page) (q : Page) → OwnsFrames p → IsThere p q → IsThere (serve_step p locked q) q
-serve_there p locked q o there = subst (λ (n : ℕ). number_of q < n) (sym (serve_sizes p locked q o q)) there
+  serve_there : OwnsFrames p → IsThere p q → IsThere (serve_step p locked q) q
+  serve_there o there = subst (λ (n : ℕ). number_of q < n) (sym (serve_sizes o q)) there
 
 served_within : (n : ℕ) (p : Placement) (locked : List Page) (q : Page) → OwnsFrames p → HandsStand p → HasRoom p locked → IsThere p q
     → rank p locked q < n → EndsServing p locked q

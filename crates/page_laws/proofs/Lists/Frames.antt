@@ -13,7 +13,7 @@ times_one f = grind (arith, nat_tests)
 pub times_one_other : (f g : ℕ) → g ≢ f → times g (f ∷ []) ≡ 0
 times_one_other f g e = grind (arith, nat_tests)
 
-without_hit : (f : ℕ) (xs : List ℕ) → without f (f ∷ xs) ≡ without f xs
+pub without_hit : (f : ℕ) (xs : List ℕ) → without f (f ∷ xs) ≡ without f xs
 without_hit f xs = grind (arith, nat_tests)
 
 pub without_head : (f : ℕ) (xs : List ℕ) → times f (f ∷ xs) ≡ 1 → without f (f ∷ xs) ≡ xs

@@ -47,32 +47,32 @@ seated_same p q g (Some w) a b t s = ap (seated_of q g) b ∙ ap (λ (n : ℕ). 
 pub none_some : {A : Type 0} {C : Type 0} (a : A) → None ≡ Some a → C
 none_some a e = absurd cc
 
-not_tied : (p q : Placement) (v : Page) (f g : ℕ) (w : Page) → OwnsFrames p → Local p q v f → g ≢ f → page_of p g ≡ Some w → w ≢ v
-not_tied p q v f g w o l n e same = n (l.old_frame g (subst (λ (x : Page). frame_of (state_of p x) ≡ Some g) same (o.named g w e)))
+module _ (p q : Placement) (v : Page) (f : ℕ) where
+  not_tied : (g : ℕ) (w : Page) → OwnsFrames p → Local p q v f → g ≢ f → page_of p g ≡ Some w → w ≢ v
+  not_tied g w o l n e same = n (l.old_frame g (subst (λ (x : Page). frame_of (state_of p x) ≡ Some g) same (o.named g w e)))
 
-frame_was : (p q : Placement) (v : Page) (f : ℕ) → Local p q v f → (g : ℕ) → IsFrame q g → IsFrame p g
-frame_was p q v f l g b = (b.0, let s = l.frames in let k = b.1 in omega arith)
+  frame_was : Local p q v f → (g : ℕ) → IsFrame q g → IsFrame p g
+  frame_was l g b = (b.0, let s = l.frames in let k = b.1 in omega arith)
 
-frame_is : (p q : Placement) (v : Page) (f : ℕ) → Local p q v f → (g : ℕ) → IsFrame p g → IsFrame q g
-frame_is p q v f l g b = (b.0, let s = l.frames in let k = b.1 in omega arith)
+  frame_is : Local p q v f → (g : ℕ) → IsFrame p g → IsFrame q g
+  frame_is l g b = (b.0, let s = l.frames in let k = b.1 in omega arith)
 
-once_of : (p q : Placement) (v : Page) (f : ℕ) → OwnsFrames p → Local p q v f → Here q v f → (g : ℕ) → IsFrame q g
-    → times g q.free + times g (flying (parts_of q.transfers)) + seated q g ≡ 1
-once_of p q v f o l h g b = elim (cases_eq g f) [
-  | inl e ↦ subst (λ (x : ℕ). times x q.free + times x (flying (parts_of q.transfers)) + seated q x ≡ 1) (sym e) h.once
-  | inr n ↦
-      let same : seated q g ≡ seated p g = seated_same p q g (page_of p g) refl (l.other_pages g n) (l.other_free g n) (λ w e. other_state p q v f l w (not_tied p q v f g w o l n e)) in
-      let fr : times g q.free ≡ times g p.free = l.other_free g n in
-      let fl : times g (flying (parts_of q.transfers)) ≡ times g (flying (parts_of p.transfers)) = l.other_flying g n in
-      let was : times g p.free + times g (flying (parts_of p.transfers)) + seated p g ≡ 1 = o.once g (frame_was p q v f l g b) in
-      omega arith
-]
+  once_of : OwnsFrames p → Local p q v f → Here q v f → (g : ℕ) → IsFrame q g → times g q.free + times g (flying (parts_of q.transfers)) + seated q g ≡ 1
+  once_of o l h g b = elim (cases_eq g f) [
+    | inl e ↦ subst (λ (x : ℕ). times x q.free + times x (flying (parts_of q.transfers)) + seated q x ≡ 1) (sym e) h.once
+    | inr n ↦
+        let same : seated q g ≡ seated p g = seated_same p q g (page_of p g) refl (l.other_pages g n) (l.other_free g n) (λ w e. other_state p q v f l w (not_tied g w o l n e)) in
+        let fr : times g q.free ≡ times g p.free = l.other_free g n in
+        let fl : times g (flying (parts_of q.transfers)) ≡ times g (flying (parts_of p.transfers)) = l.other_flying g n in
+        let was : times g p.free + times g (flying (parts_of p.transfers)) + seated p g ≡ 1 = o.once g (frame_was l g b) in
+        omega arith
+  ]
 
-frames_of : (p q : Placement) (v : Page) (f : ℕ) → OwnsFrames p → Local p q v f → (g : ℕ) → 0 < times g q.free → IsFrame q g
-frames_of p q v f o l g b = elim (cases_eq g f) [
-  | inl e ↦ frame_is p q v f l g (subst (IsFrame p) (sym e) l.frame_in)
-  | inr n ↦ frame_is p q v f l g (o.frames g (subst (λ (x : ℕ). 0 < x) (l.other_free g n) b))
-]
+  frames_of : OwnsFrames p → Local p q v f → (g : ℕ) → 0 < times g q.free → IsFrame q g
+  frames_of o l g b = elim (cases_eq g f) [
+    | inl e ↦ frame_is l g (subst (IsFrame p) (sym e) l.frame_in)
+    | inr n ↦ frame_is l g (o.frames g (subst (λ (x : ℕ). 0 < x) (l.other_free g n) b))
+  ]
 
 names_of : (p q : Placement) (v : Page) (f : ℕ) → OwnsFrames p → Local p q v f → Here q v f → (w : Page) (g : ℕ) → frame_of (state_of q w) ≡ Some g
     → page_of q g ≡ Some w

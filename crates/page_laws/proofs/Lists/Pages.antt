@@ -11,7 +11,7 @@ use Rattle.page_model.specs.Placement.{Placement, slots_of, slot_of, state_of, m
 
 -- Two pages are one, or not.
 
-abbrev key_of : Page → ℕ
+abbrev pub key_of : Page → ℕ
 key_of (Data sid v) = sid
 key_of (Stack sid v) = sid
 key_of (Text image v) = image
@@ -177,27 +177,27 @@ slots_put p (Data sid v) s m = ap data_in (changed_same space_number sid (with_d
 slots_put p (Stack sid v) s m = ap stack_in (changed_same space_number sid (with_stack v s m) (λ x. refl) p.spaces) ∙ stack_with_stack v s m (numbered space_number sid p.spaces)
 slots_put p (Text image v) s m = ap text_in (changed_same image_number image (with_text v s m) (λ x. refl) p.texts) ∙ text_with_text v s m (numbered image_number image p.texts)
 
-pub put_same : (p : Placement) (q : Page) (s : PageState) (m : Bool) → IsThere p q
-    → slot_of (put p q s m) q ≡ record { state = s; mark = m; filling = filling_behind s (slot_of p q).filling }
-put_same p q s m l = ap (λ (xs : List Slot). get_or xs (number_of q) no_slot) (slots_put p q s m) ∙ change_same (slots_of p q) (number_of q) s m l
+module _ (p : Placement) (q : Page) (s : PageState) (m : Bool) where
+  pub put_same : IsThere p q → slot_of (put p q s m) q ≡ record { state = s; mark = m; filling = filling_behind s (slot_of p q).filling }
+  put_same l = ap (λ (xs : List Slot). get_or xs (number_of q) no_slot) (slots_put p q s m) ∙ change_same (slots_of p q) (number_of q) s m l
 
-pub put_state : (p : Placement) (q : Page) (s : PageState) (m : Bool) → IsThere p q → state_of (put p q s m) q ≡ s
-put_state p q s m l = ap (λ (x : Slot). x.state) (put_same p q s m l)
+  pub put_state : IsThere p q → state_of (put p q s m) q ≡ s
+  put_state l = ap (λ (x : Slot). x.state) (put_same l)
 
-pub put_mark : (p : Placement) (q : Page) (s : PageState) (m : Bool) → IsThere p q → mark_of (put p q s m) q ≡ m
-put_mark p q s m l = ap (λ (x : Slot). x.mark) (put_same p q s m l)
+  pub put_mark : IsThere p q → mark_of (put p q s m) q ≡ m
+  put_mark l = ap (λ (x : Slot). x.mark) (put_same l)
 
-pub put_other : (p : Placement) (q : Page) (s : PageState) (m : Bool) (r : Page) → r ≢ q → slot_of (put p q s m) r ≡ slot_of p r
-put_other p q s m r n = elim (put_at p q s m r) [
-  | inl e ↦ ap (λ (xs : List Slot). get_or xs (number_of r) no_slot) e
-  | inr e ↦ ap (λ (xs : List Slot). get_or xs (number_of r) no_slot) e.1 ∙ change_other (slots_of p r) (number_of q) (number_of r) s m (λ k. n (e.0 ∙ ap (beside q) k ∙ beside_self q))
-]
+  pub put_other : (r : Page) → r ≢ q → slot_of (put p q s m) r ≡ slot_of p r
+  put_other r n = elim (put_at p q s m r) [
+    | inl e ↦ ap (λ (xs : List Slot). get_or xs (number_of r) no_slot) e
+    | inr e ↦ ap (λ (xs : List Slot). get_or xs (number_of r) no_slot) e.1 ∙ change_other (slots_of p r) (number_of q) (number_of r) s m (λ k. n (e.0 ∙ ap (beside q) k ∙ beside_self q))
+  ]
 
-pub put_length : (p : Placement) (q : Page) (s : PageState) (m : Bool) (r : Page) → length (slots_of (put p q s m) r) ≡ length (slots_of p r)
-put_length p q s m r = elim (put_at p q s m r) [
-  | inl e ↦ ap length e
-  | inr e ↦ ap length e.1 ∙ length_change (slots_of p r) (number_of q) s m
-]
+  pub put_length : (r : Page) → length (slots_of (put p q s m) r) ≡ length (slots_of p r)
+  put_length r = elim (put_at p q s m r) [
+    | inl e ↦ ap length e
+    | inr e ↦ ap length e.1 ∙ length_change (slots_of p r) (number_of q) s m
+  ]
 
 -- a put keeps the images of spaces
 

@@ -34,19 +34,19 @@ of_begun : (p : Placement) (locked : List Page) (w : Page × Run) (o : Option Pa
 of_begun p locked w None e = absurd cc
 of_begun p locked w (Some v) e = by_begun p locked v w (is_dirty p v) e
 
-pub hand_begun : (p : Placement) (locked : List Page) (q : Page) (r : Run) → hand_run p locked ≡ Some (q, r)
-    → hand_move p locked ≡ advance (launch_run (expire p locked) (pages_of_run q r))
-hand_begun p locked q r e = ap advance (of_begun (expire p locked) locked (q, r) (taken (expire p locked) locked) e)
+module _ (p : Placement) (locked : List Page) where
+  pub hand_begun : (q : Page) (r : Run) → hand_run p locked ≡ Some (q, r) → hand_move p locked ≡ advance (launch_run (expire p locked) (pages_of_run q r))
+  hand_begun q r e = ap advance (of_begun (expire p locked) locked (q, r) (taken (expire p locked) locked) e)
 
--- where none is named, none begins
+  -- where none is named, none begins
 
-by_rests : (p : Placement) (locked : List Page) (v : Page) (d : Bool) → write_by p locked v d ≡ None → (sweep_by p locked v d).transfers ≡ p.transfers
-by_rests p locked v true e = absurd cc
-by_rests p locked v false e = retire_flies p v
+  by_rests : (v : Page) (d : Bool) → write_by p locked v d ≡ None → (sweep_by p locked v d).transfers ≡ p.transfers
+  by_rests v true e = absurd cc
+  by_rests v false e = retire_flies p v
 
-of_rests : (p : Placement) (locked : List Page) (o : Option Page) → write_taken p locked o ≡ None → (sweep_taken p locked o).transfers ≡ p.transfers
-of_rests p locked None e = refl
-of_rests p locked (Some v) e = by_rests p locked v (is_dirty p v) e
+  of_rests : (o : Option Page) → write_taken p locked o ≡ None → (sweep_taken p locked o).transfers ≡ p.transfers
+  of_rests None e = refl
+  of_rests (Some v) e = by_rests v (is_dirty p v) e
 
 pub hand_rests : (p : Placement) (locked : List Page) → hand_run p locked ≡ None → (hand_move p locked).transfers ≡ p.transfers
 hand_rests p locked e = of_rests (expire p locked) locked (taken (expire p locked) locked) e ∙ expire_transfers p locked

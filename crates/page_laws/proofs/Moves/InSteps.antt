@@ -1,6 +1,5 @@
 -- The moves of transfers as wholes are the same as their steps.
-use Rattle.std.proofs.Common.{◌≡◌, ℕ, ◌==◌, Bool, true, false, cond, List, [], ◌∷◌, ◌++◌, Option, Some, None, refl, sym, ap, ◌∙◌, subst, append_assoc}
-use Rattle.std.proofs.lemmas.Bool.{eq-eqb}
+use Rattle.std.proofs.Common.{◌≡◌, ℕ, ◌==◌, Bool, true, false, List, [], ◌∷◌, ◌++◌, Option, Some, None, refl, sym, ap, ◌∙◌, subst, append_assoc}
 use Rattle.std.proofs.lemmas.List.{append-nil}
 use Rattle.vm_facts.specs.declared.page.Page.{Page}
 use Rattle.vm_facts.specs.declared.page.PageState.{PageState}
@@ -11,6 +10,7 @@ use Rattle.page_model.specs.Placement.{Placement, Transfer, Part, Errand, Writes
 use Rattle.page_model.specs.Moves.{evict, evict_at, enter, turn, take_frame_at, take_frames, taken_parts, get_run, send, send_to, send_all, sent_part, sent_parts, launch_run, land, land_read, land_all, done, done_of}
 use Rattle.page_model.specs.Steps.{begin, join_last, get_at, get_all, launch_to, launch_all, land_then, land_all_then}
 use Rattle.page_laws.proofs.Moves.Steps.{EvictRest, evict_rest}
+use Rattle.page_laws.proofs.Lists.Frames.{without_hit}
 
 -- these transfers, and one with these pages as the youngest
 abbrev pub and_last : List Transfer → Errand → List Part → List Transfer
@@ -41,9 +41,6 @@ none_taken : (qs : List Page) → taken_parts qs [] ≡ []
 none_taken [] = refl
 none_taken (q ∷ qs) = refl
 
-without_self : (f : ℕ) (rest : List ℕ) → without f (f ∷ rest) ≡ without f rest
-without_self f rest = ap (λ (b : Bool). cond b (without f rest) (f ∷ without f rest)) (eq-eqb f f refl)
-
 get_all_steps : (qs : List Page) (p : Placement) (ts : List Transfer) (e : Errand) (xs : List Part)
     → get_all (record p { transfers = and_last ts e xs }) e qs ≡ record (take_frames p qs) { transfers = and_last ts e (xs ++ taken_parts qs p.free) }
 get_all_steps [] p ts e xs = ap (λ (ys : List Part). record p { transfers = and_last ts e ys }) (sym (append-nil xs))
@@ -60,7 +57,7 @@ get_all_steps (q ∷ qs) p ts e xs = go p.free refl (λ r ys. get_all_steps qs r
         ap (λ (r : Placement). get_all r e qs) (get_with p ts e xs q f rest) ∙ ih (take_frame_at p q (f ∷ rest)) (xs ++ x ∷ [])
         ∙ ap (λ (ys : List Part). record (take_frames (take_frame_at p q (f ∷ rest)) qs) { transfers = and_last ts e ys })
         (append_assoc xs (x ∷ []) (taken_parts qs (without f (evict p f).free))
-        ∙ ap (λ (fs : List ℕ). xs ++ x ∷ taken_parts qs fs) (ap (without f) (r.free ∙ k) ∙ without_self f rest))
+        ∙ ap (λ (fs : List ℕ). xs ++ x ∷ taken_parts qs fs) (ap (without f) (r.free ∙ k) ∙ without_hit f rest))
 
 -- Pages that join a read one after another are those that take the free frames in turn.
 pub get_steps : (p : Placement) (e : Errand) (qs : List Page) → get_all (begin p e) e qs ≡ get_run p e qs

@@ -88,48 +88,47 @@ moves_kept p q v ms r same h = all_imp (IsMoving p) (IsMoving q) ms h
 pub put_other_state : (p : Placement) (v : Page) (s : PageState) (m : Bool) (w : Page) → w ≢ v → state_of (put p v s m) w ≡ state_of p w
 put_other_state p v s m w n = ap (λ (x : Slot). x.state) (put_other p v s m w n)
 
--- A page that moves on with its frame: what has to be shown.
-pub record Turns (p : Placement) (v : Page) (f : ℕ) (s : PageState) (m : Bool) (free : List ℕ) (transfers : List Transfer) : Type 0 where
-  pub from : frame_of (state_of p v) ≡ Some f
-  pub to : frame_of s ≡ Some f
-  pub other_free : (g : ℕ) → g ≢ f → times g free ≡ times g p.free
-  pub other_flying : (g : ℕ) → g ≢ f → times g (flying (parts_of transfers)) ≡ times g (flying (parts_of p.transfers))
-  pub once : times f free + times f (flying (parts_of transfers)) + seats (times f free) s ≡ 1
-  pub listed : 0 < times f free → (s ≡ Invalid f) × (is_marked_dirty v m ≡ false)
-  pub dirty : is_marked_dirty v m ≡ true → may_be_dirty s ≡ true
-  pub moves : Each (IsMoving (put p v s m)) (parts_of transfers)
+module _ (p : Placement) (v : Page) (f : ℕ) (s : PageState) (m : Bool) (free : List ℕ) (transfers : List Transfer) where
+  -- A page that moves on with its frame: what has to be shown.
+  pub record Turns : Type 0 where
+    pub from : frame_of (state_of p v) ≡ Some f
+    pub to : frame_of s ≡ Some f
+    pub other_free : (g : ℕ) → g ≢ f → times g free ≡ times g p.free
+    pub other_flying : (g : ℕ) → g ≢ f → times g (flying (parts_of transfers)) ≡ times g (flying (parts_of p.transfers))
+    pub once : times f free + times f (flying (parts_of transfers)) + seats (times f free) s ≡ 1
+    pub listed : 0 < times f free → (s ≡ Invalid f) × (is_marked_dirty v m ≡ false)
+    pub dirty : is_marked_dirty v m ≡ true → may_be_dirty s ≡ true
+    pub moves : Each (IsMoving (put p v s m)) (parts_of transfers)
 
-pub turn_local : (p : Placement) (v : Page) (f : ℕ) (s : PageState) (m : Bool) (free : List ℕ) (transfers : List Transfer) → OwnsFrames p
-    → Turns p v f s m free transfers → Local p (turn p v s m free transfers) v f
-turn_local p v f s m free transfers o t = record {
-  sizes = put_length p v s m;
-  frames = refl;
-  frame_in = frame_in p v f (o.names v f t.from);
-  other_slots = put_other p v s m;
-  other_pages = λ g n. refl;
-  other_free = t.other_free;
-  other_flying = t.other_flying;
-  old_frame = λ g e. same_Some g f (sym e ∙ t.from);
-  old_page = λ w e. same_Some w v (sym e ∙ o.names v f t.from);
-}
+  pub turn_local : OwnsFrames p → Turns → Local p (turn p v s m free transfers) v f
+  turn_local o t = record {
+    sizes = put_length p v s m;
+    frames = refl;
+    frame_in = frame_in p v f (o.names v f t.from);
+    other_slots = put_other p v s m;
+    other_pages = λ g n. refl;
+    other_free = t.other_free;
+    other_flying = t.other_flying;
+    old_frame = λ g e. same_Some g f (sym e ∙ t.from);
+    old_page = λ w e. same_Some w v (sym e ∙ o.names v f t.from);
+  }
 
-pub turn_owner : (p : Placement) (v : Page) (f : ℕ) (s : PageState) (m : Bool) (free : List ℕ) (transfers : List Transfer) → OwnsFrames p
-    → Turns p v f s m free transfers → OwnsFrames (turn p v s m free transfers)
-turn_owner p v f s m free transfers o t =
-    let is : state_of (put p v s m) v ≡ s = put_state p v s m (page_in p v f t.from) in
-    let mark : mark_of (put p v s m) v ≡ m = put_mark p v s m (page_in p v f t.from) in
-    let page : page_of p f ≡ Some v = o.names v f t.from in
-    let here : Here (turn p v s m free transfers) v f = record {
-      joined = inl (ap frame_of is ∙ t.to, page);
-      once =
-          let a : seated (turn p v s m free transfers) f ≡ seats (times f free) s = ap (seated_of (turn p v s m free transfers) f) page ∙ ap (seats (times f free)) is in
-          let b = t.once in
-          omega arith;
-      listed = λ b e. let k = t.listed b in record { state = is ∙ k.0; clean = ap (is_marked_dirty v) mark ∙ k.1 };
-      moves = t.moves;
-      dirty = λ e. ap may_be_dirty is ∙ t.dirty (ap (is_marked_dirty v) (sym mark) ∙ e);
-    } in
-    local_owner p (turn p v s m free transfers) v f o (turn_local p v f s m free transfers o t) here
+  pub turn_owner : OwnsFrames p → Turns → OwnsFrames (turn p v s m free transfers)
+  turn_owner o t =
+      let is : state_of (put p v s m) v ≡ s = put_state p v s m (page_in p v f t.from) in
+      let mark : mark_of (put p v s m) v ≡ m = put_mark p v s m (page_in p v f t.from) in
+      let page : page_of p f ≡ Some v = o.names v f t.from in
+      let here : Here (turn p v s m free transfers) v f = record {
+        joined = inl (ap frame_of is ∙ t.to, page);
+        once =
+            let a : seated (turn p v s m free transfers) f ≡ seats (times f free) s = ap (seated_of (turn p v s m free transfers) f) page ∙ ap (seats (times f free)) is in
+            let b = t.once in
+            omega arith;
+        listed = λ b e. let k = t.listed b in record { state = is ∙ k.0; clean = ap (is_marked_dirty v) mark ∙ k.1 };
+        moves = t.moves;
+        dirty = λ e. ap may_be_dirty is ∙ t.dirty (ap (is_marked_dirty v) (sym mark) ∙ e);
+      } in
+      local_owner p (turn p v s m free transfers) v f o (turn_local o t) here
 
 -- A page that takes a free frame: what has to be shown.
 pub record Enters (p : Placement) (v : Page) (f : ℕ) (s : PageState) (m : Bool) (transfers : List Transfer) : Type 0 where

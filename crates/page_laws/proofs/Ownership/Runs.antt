@@ -155,68 +155,62 @@ put_step_owner p v qs o c cs a = go (is_dirty p v) refl
 
 -- The end of a transfer.
 
--- the oldest transfer lands its next page
-pub record Landing (p : Placement) (e : Errand) (x : Part) (rest : List Transfer) : Type 0 where
-  pub parts : parts_of p.transfers ≡ moving e x ∷ parts_of rest
+module _ (p : Placement) (e : Errand) (x : Part) (rest : List Transfer) where
+  -- the oldest transfer lands its next page
+  pub record Landing : Type 0 where
+    pub parts : parts_of p.transfers ≡ moving e x ∷ parts_of rest
 
-landing_moves : (p : Placement) (e : Errand) (x : Part) (rest : List Transfer) → OwnsFrames p → Landing p e x rest
-    → Each (IsMoving p) (moving e x ∷ parts_of rest)
-landing_moves p e x rest o l = subst (Each (IsMoving p)) l.parts o.moves
+  landing_moves : OwnsFrames p → Landing → Each (IsMoving p) (moving e x ∷ parts_of rest)
+  landing_moves o l = subst (Each (IsMoving p)) l.parts o.moves
 
-pub landing_state : (p : Placement) (e : Errand) (x : Part) (rest : List Transfer) → OwnsFrames p → Landing p e x rest
-    → state_of p x.page ≡ moving_state e x.frame
-landing_state p e x rest o l = (landing_moves p e x rest o l).0
+  pub landing_state : OwnsFrames p → Landing → state_of p x.page ≡ moving_state e x.frame
+  landing_state o l = (landing_moves o l).0
 
-pub landing_frame : (p : Placement) (e : Errand) (x : Part) (rest : List Transfer) → OwnsFrames p → Landing p e x rest
-    → frame_of (state_of p x.page) ≡ Some x.frame
-landing_frame p e x rest o l = ap frame_of (landing_state p e x rest o l) ∙ frame_of_moving e x.frame
+  pub landing_frame : OwnsFrames p → Landing → frame_of (state_of p x.page) ≡ Some x.frame
+  landing_frame o l = ap frame_of (landing_state o l) ∙ frame_of_moving e x.frame
 
--- its frame is in no other transfer, and off the free list
-pub landing_alone : (p : Placement) (e : Errand) (x : Part) (rest : List Transfer) → OwnsFrames p → Landing p e x rest
-    → (times x.frame p.free ≡ 0) × (times x.frame (flying (parts_of rest)) ≡ 0)
-landing_alone p e x rest o l =
-    let a = once_at p x.page x.frame o (landing_frame p e x rest o l) in
-    let b : times x.frame (flying (parts_of p.transfers)) ≡ 1 + times x.frame (flying (parts_of rest)) =
-    ap (λ (ms : List Moving). times x.frame (flying ms)) l.parts ∙ times_head x.frame (flying (parts_of rest)) in
-    (omega arith, omega arith)
+  -- its frame is in no other transfer, and off the free list
+  pub landing_alone : OwnsFrames p → Landing → (times x.frame p.free ≡ 0) × (times x.frame (flying (parts_of rest)) ≡ 0)
+  landing_alone o l =
+      let a = once_at p x.page x.frame o (landing_frame o l) in
+      let b : times x.frame (flying (parts_of p.transfers)) ≡ 1 + times x.frame (flying (parts_of rest)) =
+      ap (λ (ms : List Moving). times x.frame (flying ms)) l.parts ∙ times_head x.frame (flying (parts_of rest)) in
+      (omega arith, omega arith)
 
-land_moves : (p : Placement) (e : Errand) (x : Part) (rest : List Transfer) (s : PageState) (m : Bool) → OwnsFrames p → Landing p e x rest
-    → Each (IsMoving (put p x.page s m)) (parts_of rest)
-land_moves p e x rest s m o l = all_absent (IsMoving p) (IsMoving (put p x.page s m)) x.frame (parts_of rest) (landing_alone p e x rest o l).1 (landing_moves p e x rest o l).1
-    (λ y n k. put_other_state p x.page s m y.page
-    (λ h. n (same_Some y.frame x.frame (sym (frame_of_moving y.errand y.frame) ∙ ap frame_of (sym k) ∙ ap (λ (w : Page). frame_of (state_of p w)) h ∙ landing_frame p e x rest o l))) ∙ k)
+  land_moves : (s : PageState) (m : Bool) → OwnsFrames p → Landing → Each (IsMoving (put p x.page s m)) (parts_of rest)
+  land_moves s m o l = all_absent (IsMoving p) (IsMoving (put p x.page s m)) x.frame (parts_of rest) (landing_alone o l).1 (landing_moves o l).1
+      (λ y n k. put_other_state p x.page s m y.page
+      (λ h. n (same_Some y.frame x.frame (sym (frame_of_moving y.errand y.frame) ∙ ap frame_of (sym k) ∙ ap (λ (w : Page). frame_of (state_of p w)) h ∙ landing_frame o l))) ∙ k)
 
-other_landing : (p : Placement) (e : Errand) (x : Part) (rest : List Transfer) → Landing p e x rest → (g : ℕ) → g ≢ x.frame
-    → times g (flying (parts_of rest)) ≡ times g (flying (parts_of p.transfers))
-other_landing p e x rest l g n = sym (ap (λ (ms : List Moving). times g (flying ms)) l.parts ∙ times_other g x.frame (flying (parts_of rest)) (λ i. n (sym i)))
+  other_landing : Landing → (g : ℕ) → g ≢ x.frame → times g (flying (parts_of rest)) ≡ times g (flying (parts_of p.transfers))
+  other_landing l g n = sym (ap (λ (ms : List Moving). times g (flying ms)) l.parts ∙ times_other g x.frame (flying (parts_of rest)) (λ i. n (sym i)))
 
--- a page that lands goes to the tail of the free list
-pub tail_turns : (p : Placement) (e : Errand) (x : Part) (rest : List Transfer) (m : Bool) → OwnsFrames p → Landing p e x rest
-    → is_marked_dirty x.page m ≡ false → Turns p x.page x.frame (Invalid x.frame) m (p.free ++ x.frame ∷ []) rest
-tail_turns p e x rest m o l clean = record {
-  from = landing_frame p e x rest o l;
-  to = refl;
-  other_free = λ g n. let h = times-append g p.free (x.frame ∷ []) in let k = times_one_other x.frame g n in omega arith;
-  other_flying = other_landing p e x rest l;
-  once = let h = times-append x.frame p.free (x.frame ∷ []) in let k = times_one x.frame in let z = landing_alone p e x rest o l in omega (arith, z.0, z.1);
-  listed = λ b. (refl, clean);
-  dirty = λ h. refl;
-  moves = land_moves p e x rest (Invalid x.frame) m o l;
-}
+  -- a page that lands goes to the tail of the free list
+  pub tail_turns : (m : Bool) → OwnsFrames p → Landing
+      → is_marked_dirty x.page m ≡ false → Turns p x.page x.frame (Invalid x.frame) m (p.free ++ x.frame ∷ []) rest
+  tail_turns m o l clean = record {
+    from = landing_frame o l;
+    to = refl;
+    other_free = λ g n. let h = times-append g p.free (x.frame ∷ []) in let k = times_one_other x.frame g n in omega arith;
+    other_flying = other_landing l;
+    once = let h = times-append x.frame p.free (x.frame ∷ []) in let k = times_one x.frame in let z = landing_alone o l in omega (arith, z.0, z.1);
+    listed = λ b. (refl, clean);
+    dirty = λ h. refl;
+    moves = land_moves (Invalid x.frame) m o l;
+  }
 
--- a page that lands is valid
-pub valid_turns : (p : Placement) (e : Errand) (x : Part) (rest : List Transfer) (m : Bool) → OwnsFrames p → Landing p e x rest
-    → Turns p x.page x.frame (Valid x.frame) m p.free rest
-valid_turns p e x rest m o l = record {
-  from = landing_frame p e x rest o l;
-  to = refl;
-  other_free = λ g n. refl;
-  other_flying = other_landing p e x rest l;
-  once = let z = landing_alone p e x rest o l in omega (arith, z.0, z.1);
-  listed = λ b. absurd (let z = landing_alone p e x rest o l in omega (arith, z.0));
-  dirty = λ h. refl;
-  moves = land_moves p e x rest (Valid x.frame) m o l;
-}
+  -- a page that lands is valid
+  pub valid_turns : (m : Bool) → OwnsFrames p → Landing → Turns p x.page x.frame (Valid x.frame) m p.free rest
+  valid_turns m o l = record {
+    from = landing_frame o l;
+    to = refl;
+    other_free = λ g n. refl;
+    other_flying = other_landing l;
+    once = let z = landing_alone o l in omega (arith, z.0, z.1);
+    listed = λ b. absurd (let z = landing_alone o l in omega (arith, z.0));
+    dirty = λ h. refl;
+    moves = land_moves (Valid x.frame) m o l;
+  }
 
 pub written_clean : (v : Page) → is_marked_dirty v (written_mark v) ≡ false
 written_clean (Data sid n) = refl

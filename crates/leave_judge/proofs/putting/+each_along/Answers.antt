@@ -4,7 +4,7 @@ use Rattle.page_model.specs.Conditions.{IsShared}
 use Rattle.paged_model.specs.Moves.{each_page}
 use Rattle.paged_model.specs.Leaving.{put_along}
 use Rattle.move_judge.proofs.Chosen.{first_told, then_told}
-use Rattle.leave_judge.proofs.Puts.{each_first}
+use Rattle.move_judge.proofs.Alongside.{each_first}
 use Rattle.leave_judge.proofs.putting.+each_along.Goals as goal
 
 pub put_along-requires-clause-shared : goal.put_along-requires-clause-shared

@@ -3,7 +3,8 @@ use Rattle.std.proofs.Common.{◌≡◌, ◌≤◌, ◌∙◌, ℕ, List, length
 use Rattle.std.specs.Str.Parse.{ParsesUnsigned}
 use Rattle.std.proofs.lemmas.Str.{IsUtf8-from_ascii}
 use Rattle.std.proofs.lemmas.Fmt.{IsAscii-from_digits}
-use Rattle.line_reasons.proofs.ScheduleNumerals.{parsed, digits_alone}
+use Rattle.command_words.proofs.Numerals.{digits_alone}
+use Rattle.line_reasons.proofs.ScheduleNumerals.{parsed}
 use Rattle.line_reasons.proofs.digits.decimal_of.Goals as goal
 
 pub returns-in-Ok : goal.returns-in-Ok

@@ -1,4 +1,4 @@
-use Rattle.line_reasons.proofs.Joining.{joined}
+use Rattle.command_words.proofs.Joining.{joined}
 use Rattle.line_reasons.proofs.explaining_schedule.put_missing.Goals as goal
 
 pub returns : goal.returns

@@ -2,7 +2,8 @@ use Rattle.std.proofs.Common.{sym, ap, ◌∙◌}
 use Rattle.std.specs.Option.{option_copied}
 use Rattle.machine_state.specs.Machine.{proc_of_record}
 use Rattle.kernel_model.specs.Unit.{proc_of}
-use Rattle.proc_calls.proofs.Callers.{record_shown, not_there}
+use Rattle.fault_fill.proofs.Touching.{record_shown}
+use Rattle.proc_calls.proofs.Callers.{not_there}
 use Rattle.proc_calls.proofs.ending.is_borrower.Goals as goal
 
 pub unreachable-requires : goal.unreachable-requires

@@ -1,4 +1,4 @@
-use Rattle.reference_commands.proofs.Bytes.{octets_of}
+use Rattle.io_edge.proofs.OctetFiles.{octets_of}
 use Rattle.reference_commands.proofs.octets.are_octets.Goals as goal
 
 pub returns : goal.returns

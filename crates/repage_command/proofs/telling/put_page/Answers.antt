@@ -1,6 +1,7 @@
 use Rattle.std.proofs.Common.{◌≡◌, ◌++◌, codes, decimal, OnOk, sym, subst}
 use Rattle.vm_facts.specs.declared.page.Page.{Page}
-use Rattle.repage_command.specs.Telling.{around_number, page_words}
+use Rattle.replay_command.specs.Explaining.{around_number}
+use Rattle.repage_command.specs.Telling.{page_words}
 use Rattle.repage_command.proofs.LineTexts.{put_together}
 use Rattle.repage_command.proofs.telling.put_page.Goals as goal
 

@@ -1,7 +1,7 @@
 use Rattle.std.proofs.lemmas.Result.{on_ok_weaker}
 use Rattle.journal_laws.specs.Stops.{StopsBefore}
 use Rattle.step_units.specs.Sizes.{KeptAtStop}
-use Rattle.vm_core.proofs.Kept.{kept_noting}
+use Rattle.step_units.proofs.StopsKeep.{before_same}
 use Rattle.vm_core.proofs.Noting.{stops_noting, stops_weaker}
 use Rattle.vm_core.proofs.Steadying.{noted_first, noted_steady}
 use Rattle.vm_core.proofs.lines.note.Goals as goal
@@ -19,5 +19,5 @@ returns-clause-stops c = stops_noting c.note.result c.args.m.now c.note.new.self
 
 pub returns-clause-kept : goal.returns-clause-kept
 returns-clause-kept c =
-    stops_weaker c.note.result (StopsBefore c.args.m.now c.note.new.self) (KeptAtStop c.args.m.now c.note.new.self) (kept_noting c.args.m.now c.note.new.self)
+    stops_weaker c.note.result (StopsBefore c.args.m.now c.note.new.self) (KeptAtStop c.args.m.now c.note.new.self) (before_same c.args.m.now c.note.new.self)
     (stops_noting c.note.result c.args.m.now c.note.new.self c.requires.ready.whole c.note.ensures.stops)

@@ -2,6 +2,7 @@ use Rattle.std.proofs.Common.{◌+◌, false, List, [], ◌∷◌, ◌++◌, len
 use Rattle.vm_facts.specs.declared.entry.Entry.{Entry}
 use Rattle.vm_facts.specs.declared.entry.Entry.TheVariants as entries
 use Rattle.kernel_model.specs.Kernel.{Kernel, in_step}
+use Rattle.kernel_laws.proofs.Machine.Swaps.{u_found}
 use Rattle.table_steps.specs.Tables.{Tables}
 use Rattle.table_steps.specs.Machine.{Standing, kernel_by}
 use Rattle.table_steps.specs.Calls.{CanComeIn}
@@ -9,7 +10,7 @@ use Rattle.table_steps.specs.Swapping.{AreStored, AsksU, KeepsIn, IsIn}
 use Rattle.machine_state.proofs.Standings.{running, stands_now}
 use Rattle.machine_state.proofs.Stepping.{Stepped, stepped}
 use Rattle.table_steps.proofs.MovedRecords.{IsOutThere}
-use Rattle.machine_state.proofs.Goings.{Gone, with_records, in_is, gone_steps, block_there, block_place, u_asked, read_regs, in_keeps, entering, entering_alive, entering_lasts}
+use Rattle.machine_state.proofs.Goings.{Gone, with_records, in_is, gone_steps, block_place, u_asked, read_regs, in_keeps, entering, entering_alive, entering_lasts}
 use Rattle.table_steps.proofs.KernelLawsSoundSteps.{in_sound}
 use Rattle.table_steps.proofs.NumbersApart.{in_numbered}
 use Rattle.table_steps.proofs.PageLawsDueEntries.{entry_due}
@@ -25,7 +26,7 @@ u_block-block-requires u c =
     let can : CanComeIn k c.args.pid = subst (λ (s : Standing). CanComeIn s.kernel c.args.pid) (sym c.self.view_is) c.requires.can in
     let o : IsOutThere t.processes c.args.pid (Kernel.processes k) = entering t m.journal.items m.stopped c.args.pid can in
     let r = running m c.args.self.now c.self.invariant c.self.view_is c.requires.ready in
-    block_there t.book.size k c.args.pid r.sound (entering_alive t.processes c.args.pid (Kernel.processes k) o)
+    u_found t.book.size k c.args.pid r.sound (entering_alive t.processes c.args.pid (Kernel.processes k) o)
 
 pub read-requires : goal.read-requires
 read-requires u c =

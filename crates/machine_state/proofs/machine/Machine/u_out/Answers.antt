@@ -9,8 +9,9 @@ use Rattle.table_steps.specs.Calls.{CanGoOut}
 use Rattle.table_steps.specs.Swapping.{WritesU, SpoilsU, KeepsOut}
 use Rattle.machine_state.proofs.Standings.{running, stands_now}
 use Rattle.machine_state.proofs.Stepping.{Stepped, stepped}
-use Rattle.machine_state.proofs.Goings.{Gone, with_records, out_is, gone_steps, Leaving, leaving, leaving_alive, leaving_held, leaving_lasts, bytes_are, block_there, block_place, written, u_spoiled, out_keeps}
+use Rattle.machine_state.proofs.Goings.{Gone, with_records, out_is, gone_steps, Leaving, leaving, leaving_alive, leaving_held, leaving_lasts, bytes_are, block_place, written, u_spoiled, out_keeps}
 use Rattle.flat_state.specs.Flat.{cleared}
+use Rattle.kernel_laws.proofs.Machine.Swaps.{u_found}
 use Rattle.table_steps.proofs.KernelLawsSoundSteps.{out_sound}
 use Rattle.table_steps.proofs.NumbersApart.{out_numbered}
 use Rattle.table_steps.proofs.PageLawsDueEntries.{entry_due}
@@ -35,7 +36,7 @@ u_block-block-requires u c =
     let can : CanGoOut k c.args.pid = subst (λ (s : Standing). CanGoOut s.kernel c.args.pid) (sym c.self.view_is) c.requires.can in
     let l : Leaving t k c.args.pid = leaving t m.journal.items m.stopped c.args.pid can in
     let r = running m c.args.self.now c.self.invariant c.self.view_is c.requires.ready in
-    block_there t.book.size k c.args.pid r.sound (leaving_alive t k c.args.pid l)
+    u_found t.book.size k c.args.pid r.sound (leaving_alive t k c.args.pid l)
 
 pub write-requires : goal.write-requires
 write-requires u c =
