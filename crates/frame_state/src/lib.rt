@@ -76,13 +76,10 @@ impl Model for Cleaning {
     ghost view = { λ token. record { number = token.number; bytes = token.page.value } };
 }
 
-// The bytes of a page: all 1,024, as its type says.
-fn bytes_of(page: &[u8; 1024]) -> &[u8; 1024]
-    ensures value { result.now ≡ page.now }
-    ensures whole { length result.now ≡ 1024 }
-{
-    page
-}
+// A page has all of its 1,024 bytes, as its type says.
+fn is_whole(page: &[u8; 1024])
+    ensures { length page.now ≡ 1024 }
+{}
 
 impl Free {
     /// Makes a frame of zeros.
@@ -98,7 +95,7 @@ impl Free {
         ensures value { result ≡ self.now.number }
         ensures whole { length self.now.bytes ≡ 1024 }
     {
-        bytes_of(&self.page);
+        is_whole(&self.page);
         self.number
     }
 
@@ -139,7 +136,7 @@ impl Filling {
         ensures value { result ≡ self.now.number }
         ensures whole { length self.now.bytes ≡ 1024 }
     {
-        bytes_of(&self.page);
+        is_whole(&self.page);
         self.number
     }
 
@@ -157,7 +154,7 @@ impl Filling {
         ensures whole { length self.bytes ≡ 1024 }
     {
         let Filling { number, page } = self;
-        bytes_of(&page);
+        is_whole(&page);
         Resident { number, page }
     }
 
@@ -176,7 +173,7 @@ impl Resident {
         ensures value { result ≡ self.now.number }
         ensures whole { length self.now.bytes ≡ 1024 }
     {
-        bytes_of(&self.page);
+        is_whole(&self.page);
         self.number
     }
 
@@ -185,7 +182,8 @@ impl Resident {
         ensures value { result.now ≡ self.now.bytes }
         ensures whole { length result.now ≡ 1024 }
     {
-        bytes_of(&self.page)
+        is_whole(&self.page);
+        &self.page
     }
 
     /// Lends the bytes, to be changed.
@@ -219,7 +217,7 @@ impl Cleaning {
         ensures value { result ≡ self.now.number }
         ensures whole { length self.now.bytes ≡ 1024 }
     {
-        bytes_of(&self.page);
+        is_whole(&self.page);
         self.number
     }
 
@@ -228,7 +226,8 @@ impl Cleaning {
         ensures value { result.now ≡ self.now.bytes }
         ensures whole { length result.now ≡ 1024 }
     {
-        bytes_of(&self.page)
+        is_whole(&self.page);
+        &self.page
     }
 
     /// The write is done.
