@@ -1,6 +1,6 @@
 //! Moves of the clock's hands, and writes that begin. Pages leave their frames here, but the device may not be called
 //! yet. Pages that the hands pass over must stay.
-ghost use Rattle.std.specs.Prelude.{◌≡◌, ℕ, ◌+◌, ◌-◌, ◌<◌, ◌≤◌, ◌^◌, ◌++◌, [], length, true, Some, IsSome, IsTrue, IfOk};
+ghost use Rattle.std.specs.Prelude.{◌≡◌, ℕ, ◌+◌, ◌-◌, ◌<◌, ◌≤◌, ◌^◌, ◌++◌, [], length, true, Some, IsSome, IsTrue, IfOk, option_map};
 ghost use Rattle.std.specs.Vec.{vec_len, vec_capacity};
 ghost use Rattle.core_map.specs.Slots.{slot_at, slot_page as page_held, is_resident};
 ghost use Rattle.transfer_ring.specs.Sound.{outbound_pages};
@@ -13,9 +13,9 @@ ghost use Rattle.page_model.specs.Hands.{expire, sweep, hand_move, hand_run, bac
 ghost use Rattle.page_model.specs.Ownership.{block_of};
 ghost use Rattle.kernel_tables.specs.Calls.{IsRunOf};
 ghost use Rattle.kernel_tables.specs.Known.{Known};
-ghost use Rattle.kernel_tables.specs.Launches.{RetiredPage, LaunchedPage, launching, HaveOwnBlocks, MayLaunch, MayPutOut, HasBlocks, MovedOn, put_out, under, expired};
+ghost use Rattle.kernel_tables.specs.Launches.{RetiredPage, LaunchedPage, launching, HaveOwnBlocks, MayLaunch, MayPutOut, HasBlocks, MovedOn, put_out, under, expired, valid_named};
 ghost use Rattle.kernel_tables.specs.Machine.{lists_of, image_at};
-ghost use Rattle.kernel_tables.specs.Shown.{entry_in, is_frame, frame_named};
+ghost use Rattle.kernel_tables.specs.Shown.{entry_in, is_frame, frame_named, changed_named};
 ghost use Rattle.kernel_tables.specs.View.{placement_of, frames_of};
 
 use crate::landing;
@@ -138,17 +138,37 @@ pub fn put_out(tables: &mut Tables, parts: Vec<Outbound>, page: Page, lo: u32, n
     }
 }
 
-// The page that a resident frame holds, unless it is one of these, and whether it is valid.
-fn page_under(tables: &Tables, frame: u32, locked: &[Page]) -> Option<(Page, bool)>
-    ensures { result ≡ under (lists_of tables.now) locked.now frame }
+// The page that a resident frame holds, unless it is one of these.
+fn unlocked_page(tables: &Tables, frame: u32, locked: &[Page]) -> Option<Page>
+    ensures { under (lists_of tables.now) locked.now frame ≡ option_map (λ q. (q, valid_named (entry_in tables.now.spaces q))) result }
 {
     let Whose::Resident(page) = tables.core.owner(frame) else {
         return None;
     };
     if is_among(page, locked) {
-        return None;
+        None
+    } else {
+        Some(page)
     }
+}
+
+// The page that a resident frame holds, unless it is one of these, and whether it is valid.
+fn page_under(tables: &Tables, frame: u32, locked: &[Page]) -> Option<(Page, bool)>
+    ensures { result ≡ under (lists_of tables.now) locked.now frame }
+{
+    let page = unlocked_page(tables, frame, locked)?;
     Some((page, tables.spaces.is_valid(page)))
+}
+
+// Whether the entry of a page says that it is valid, and that it was changed, by one look.
+fn marks_of(tables: &Tables, page: Page) -> (bool, bool)
+    ensures valid { result.0 ≡ valid_named (entry_in tables.now.spaces page) }
+    ensures changed { result.1 ≡ changed_named (entry_in tables.now.spaces page) }
+{
+    match tables.spaces.entry(page) {
+        Some(Place::Frame { valid, changed, .. }) => (valid, changed),
+        _ => (false, false),
+    }
 }
 
 // The front hand makes the valid page of its frame invalid, unless it is one of these.
@@ -158,11 +178,15 @@ fn expire(tables: &mut Tables, locked: &[Page])
     ensures lists { lists_of tables.new ≡ expired (lists_of tables.old) locked.now }
     ensures rest { tables.new ≡ record tables.old { spaces = tables.new.spaces } }
 {
-    if let Some((page, true)) = page_under(tables, tables.front, locked) {
+    let Some(page) = unlocked_page(tables, tables.front, locked) else {
+        return;
+    };
+    let (valid, changed) = marks_of(tables, page);
+    if valid {
         let place = Place::Frame {
             f: tables.front,
             valid: false,
-            changed: tables.spaces.is_changed(page),
+            changed,
         };
         tables.spaces.set_places(page, place);
     }
