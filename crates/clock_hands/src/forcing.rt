@@ -5,9 +5,8 @@ ghost use Rattle.std.specs.Prelude.{◌≡◌, ◌<◌, ◌≤◌, ◌+◌, ◌^
 ghost use Rattle.page_model.specs.Serve.{force_entry};
 ghost use Rattle.page_model.specs.Rank.{HasRoom, far};
 ghost use Rattle.page_model.specs.Conditions.{Spares};
-ghost use Rattle.machine_state.specs.Going.{CanGoOn};
 ghost use Rattle.machine_state.specs.Done.{KeepsThrough};
-ghost use Rattle.machine_state.specs.Outside.{Asks, stop_of, TransfersPages};
+ghost use Rattle.machine_state.specs.Outside.{Asks, GoesOn};
 ghost use Rattle.paging_units.specs.Made.{ground, MakesUnit};
 ghost use Rattle.paging_units.specs.LastMoves.{last_moves};
 ghost use Rattle.paging_units.specs.Stops.{StopsAt};
@@ -39,8 +38,7 @@ fn force_once<F: Files, D: SwapDev>(
         m.new (stores F.Files D.SwapDev files.new swap.new)) }
     ensures params { m.new.params ≡ m.old.params }
     ensures images { m.new.images ≡ m.old.images }
-    ensures outside { TransfersPages F.Files D.SwapDev (stop_of result) files.old files.new swap.old swap.new }
-    ensures goes_on { OnOk result (CanGoOn m.new) }
+    ensures goes_on { GoesOn F.Files D.SwapDev result m.new files.old files.new swap.old swap.new }
 {
     if m.done(files, swap)? {
         return Ok(());
@@ -65,8 +63,7 @@ fn force_frame<F: Files, D: SwapDev>(
         (stores F.Files D.SwapDev files.new swap.new)) }
     ensures stopped { IfErr result (λ stop. StopsForcing locked.now m.old stop m.new (F.holds files.old) (stores F.Files D.SwapDev files.old swap.old)
         (stores F.Files D.SwapDev files.new swap.new)) }
-    ensures outside { TransfersPages F.Files D.SwapDev (stop_of result) files.old files.new swap.old swap.new }
-    ensures goes_on { OnOk result (CanGoOn m.new) }
+    ensures goes_on { GoesOn F.Files D.SwapDev result m.new files.old files.new swap.old swap.new }
 {
     while m.free_frames() == 0 {
         force_once(m, files, swap, locked)?;
@@ -97,8 +94,7 @@ pub fn make_room<F: Files, D: SwapDev>(
     ensures flights { OnOk result (length m.new.kernel.place.transfers ≤ length m.old.kernel.place.transfers) }
     ensures counted { OnOk result (last_moves m.new.kernel.journal ≤ last_moves m.old.kernel.journal + length m.old.kernel.place.holds) }
     ensures spares { OnOk result (Spares m.old.kernel.place m.new.kernel.place locked.now) }
-    ensures outside { TransfersPages F.Files D.SwapDev (stop_of result) files.old files.new swap.old swap.new }
-    ensures goes_on { OnOk result (CanGoOn m.new) }
+    ensures goes_on { GoesOn F.Files D.SwapDev result m.new files.old files.new swap.old swap.new }
 {
     force_frame(m, files, swap, locked)
 }

@@ -3,9 +3,9 @@
 ghost use Rattle.io_edge.specs.WithFiles.{stores};
 ghost use Rattle.std.specs.Prelude.{◌≡◌, ◌<◌, ◌+◌, ◌^◌, true, [], IfOk, OnOk, IfErr};
 ghost use Rattle.page_model.specs.Hands.{wants_moves};
-ghost use Rattle.machine_state.specs.Going.{CanGoOn, IsRunning};
+ghost use Rattle.machine_state.specs.Going.{IsRunning};
 ghost use Rattle.machine_state.specs.Done.{KeepsThrough};
-ghost use Rattle.machine_state.specs.Outside.{Asks, stop_of, TransfersPages};
+ghost use Rattle.machine_state.specs.Outside.{Asks, GoesOn};
 ghost use Rattle.run_model.specs.Next.{move_unit};
 ghost use Rattle.paging_units.specs.Made.{ground, MakesUnit};
 ghost use Rattle.paging_units.specs.LastMoves.{last_moves};
@@ -45,8 +45,7 @@ fn move_once<F: Files, D: SwapDev>(
         (stores F.Files D.SwapDev files.new swap.new)) }
     ensures params { m.new.params ≡ m.old.params }
     ensures images { m.new.images ≡ m.old.images }
-    ensures outside { TransfersPages F.Files D.SwapDev (stop_of result) files.old files.new swap.old swap.new }
-    ensures goes_on { OnOk result (CanGoOn m.new) }
+    ensures goes_on { GoesOn F.Files D.SwapDev result m.new files.old files.new swap.old swap.new }
 {
     let (lo, n) = next_write(m, &[]);
     if n > 0 && m.in_flight() == MOST_IN_FLIGHT {
@@ -73,8 +72,7 @@ pub fn move_hands<F: Files, D: SwapDev>(
         (stores F.Files D.SwapDev files.new swap.new)) }
     ensures stopped { IfErr result (λ stop. StopsMoving n m.old stop m.new (F.holds files.old) (stores F.Files D.SwapDev files.old swap.old)
         (stores F.Files D.SwapDev files.new swap.new)) }
-    ensures outside { TransfersPages F.Files D.SwapDev (stop_of result) files.old files.new swap.old swap.new }
-    ensures goes_on { OnOk result (CanGoOn m.new) }
+    ensures goes_on { GoesOn F.Files D.SwapDev result m.new files.old files.new swap.old swap.new }
 {
     let mut left = n;
     while left > 0 && wants_moves(m) {

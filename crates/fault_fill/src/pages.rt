@@ -1,9 +1,8 @@
 //! Serves a page unit by unit, with waiting or without. Each unit is the next one of the policy, so none may be added
 //! or left out.
 ghost use Rattle.io_edge.specs.WithFiles.{stores};
-ghost use Rattle.std.specs.Prelude.{◌≡◌, ◌≤◌, true, false, [], OnOk, MatchResult};
-ghost use Rattle.machine_state.specs.Going.{CanGoOn};
-ghost use Rattle.machine_state.specs.Outside.{Asks, stop_of, TransfersPages};
+ghost use Rattle.std.specs.Prelude.{◌≡◌, ◌≤◌, true, false, [], MatchResult};
+ghost use Rattle.machine_state.specs.Outside.{Asks, GoesOn};
 ghost use Rattle.page_model.specs.Rank.{HasRoom};
 ghost use Rattle.clock_hands.specs.LastMoves.{last_moves};
 ghost use Rattle.fault_fill.specs.Serving.{CanServe, StopsServing};
@@ -40,8 +39,7 @@ pub(crate) fn serve_on<F: Files, D: SwapDev>(
         (stores F.Files D.SwapDev files.new swap.new))
         (StopsServing false [] page m.old m.new (F.holds files.old) (stores F.Files D.SwapDev files.old swap.old)
         (stores F.Files D.SwapDev files.new swap.new)) }
-    ensures outside { TransfersPages F.Files D.SwapDev (stop_of result) files.old files.new swap.old swap.new }
-    ensures goes_on { OnOk result (CanGoOn m.new) }
+    ensures goes_on { GoesOn F.Files D.SwapDev result m.new files.old files.new swap.old swap.new }
 {
     let unit = match serve_unit(m, files, swap, page) {
         Ok(unit) => unit,
@@ -71,8 +69,7 @@ fn serve_further<F: Files, D: SwapDev>(
         (stores F.Files D.SwapDev files.new swap.new))
         (StopsServing true locked.now page m.old m.new (F.holds files.old) (stores F.Files D.SwapDev files.old swap.old)
         (stores F.Files D.SwapDev files.new swap.new)) }
-    ensures outside { TransfersPages F.Files D.SwapDev (stop_of result) files.old files.new swap.old swap.new }
-    ensures goes_on { OnOk result (CanGoOn m.new) }
+    ensures goes_on { GoesOn F.Files D.SwapDev result m.new files.old files.new swap.old swap.new }
 {
     let unit = match serve_unit(m, files, swap, page) {
         Ok(unit) => unit,
@@ -108,8 +105,7 @@ pub(crate) fn serve_now_on<F: Files, D: SwapDev>(
         (stores F.Files D.SwapDev files.new swap.new))
         (StopsServing true locked.now page m.old m.new (F.holds files.old) (stores F.Files D.SwapDev files.old swap.old)
         (stores F.Files D.SwapDev files.new swap.new)) }
-    ensures outside { TransfersPages F.Files D.SwapDev (stop_of result) files.old files.new swap.old swap.new }
-    ensures goes_on { OnOk result (CanGoOn m.new) }
+    ensures goes_on { GoesOn F.Files D.SwapDev result m.new files.old files.new swap.old swap.new }
 {
     let more = match serve_further(m, files, swap, page, locked) {
         Ok(more) => more,

@@ -10,7 +10,7 @@ ghost use Rattle.machine_state.specs.Machine.{proc_shown};
 ghost use Rattle.machine_state.specs.Showing.{IsShown};
 ghost use Rattle.machine_state.specs.Conditions.{HasStopped};
 ghost use Rattle.machine_state.specs.UserMemory.{CanLend};
-ghost use Rattle.machine_state.specs.Outside.{Asks, stop_of, TransfersPages};
+ghost use Rattle.machine_state.specs.Outside.{Asks, GoesOn};
 ghost use Rattle.clock_hands.specs.LastMoves.{last_moves};
 ghost use Rattle.kernel_model.specs.Unit.{proc_of};
 ghost use Rattle.fault_fill.specs.Growth.{space_of_pid, access_by, IsAsked, AsksGrowth, IsGrowth, GrowsBy};
@@ -176,8 +176,7 @@ pub fn serve<F: Files, D: SwapDev>(
         (stores F.Files D.SwapDev files.new swap.new))
         (AccessStops false [] (access_by m.old.kernel pid address write) pid m.old m.new (F.holds files.old) (stores F.Files D.SwapDev files.old swap.old)
         (stores F.Files D.SwapDev files.new swap.new)) }
-    ensures outside { TransfersPages F.Files D.SwapDev (stop_of result) files.old files.new swap.old swap.new }
-    ensures goes_on { OnOk result (CanGoOn m.new) }
+    ensures goes_on { GoesOn F.Files D.SwapDev result m.new files.old files.new swap.old swap.new }
 {
     match page_for(m, pid, address, write)? {
         Ok(page) => match serve_page(m, files, swap, page) {
@@ -214,8 +213,7 @@ pub fn serve_now<F: Files, D: SwapDev>(
         (stores F.Files D.SwapDev files.new swap.new))
         (AccessStops true locked.now (access_by m.old.kernel pid address write) pid m.old m.new (F.holds files.old)
         (stores F.Files D.SwapDev files.old swap.old) (stores F.Files D.SwapDev files.new swap.new)) }
-    ensures outside { TransfersPages F.Files D.SwapDev (stop_of result) files.old files.new swap.old swap.new }
-    ensures goes_on { OnOk result (CanGoOn m.new) }
+    ensures goes_on { GoesOn F.Files D.SwapDev result m.new files.old files.new swap.old swap.new }
 {
     match page_for(m, pid, address, write)? {
         Ok(page) => match serve_page_now(m, files, swap, page, locked) {

@@ -1,5 +1,5 @@
 -- What a call that moves pages does to the files and the swap device, by why it stopped, over bounds `F: Files` and `D: SwapDev`.
-use Rattle.std.specs.Prelude.{◌≡◌, ◌≤◌, ℕ, List, Option, Some, None, Result, Ok, Err}
+use Rattle.std.specs.Prelude.{◌≡◌, ◌≤◌, ℕ, List, Option, Some, None, Result, Ok, Err, OnOk}
 use Rattle.vm_facts.specs.declared.stop.Stop.{Stop}
 use Rattle.vm_facts.specs.declared.stop.Stop.TheVariants as stops
 use Rattle.io_edge.specs.Count.{Rose}
@@ -58,3 +58,9 @@ pub record IsBacked (m : Standing) (holds : Option (List NamedFile)) (blocks : �
 pub record Asks (m : Standing) (holds : Option (List NamedFile)) (blocks : ℕ) : Type 0 where
   pub ready : CanGoOn m
   pub backed : IsBacked m holds blocks
+
+-- what it leaves: what it did to files and device, and where it doesn't stop, what the next such call asks
+pub record GoesOn {A F D : Type 0} (f : FilesGhosts F) (d : SwapGhosts D) (result : Result A Stop) (next : Standing) (before after : F) (old new : D)
+    : Type 0 where
+  pub outside : TransfersPages f d (stop_of result) before after old new
+  pub asks : OnOk result (Asks next (f.holds after) (d.blocks new))

@@ -3,8 +3,7 @@
 ghost use Rattle.io_edge.specs.WithFiles.{stores};
 ghost use Rattle.std.specs.Prelude.{◌≡◌, ◌≤◌, ◌∷◌, [], OnOk, MatchResult};
 ghost use Rattle.page_model.specs.Rank.{HasRoom};
-ghost use Rattle.machine_state.specs.Going.{CanGoOn};
-ghost use Rattle.machine_state.specs.Outside.{Asks, stop_of, TransfersPages};
+ghost use Rattle.machine_state.specs.Outside.{Asks, GoesOn};
 ghost use Rattle.fault_fill.specs.LastMoves.{last_moves};
 ghost use Rattle.proc_calls.specs.Copying.{in_space, AreCopiesFrom, IsCopyFirst, CopiesPage, StopsPage, OnceCopied, CopiesAll, HasCopied, StopsCopying};
 
@@ -41,8 +40,7 @@ pub fn copy_page<F: Files, D: SwapDev>(
         (stores F.Files D.SwapDev files.new swap.new))
         (StopsPage child parent m.old m.new (F.holds files.old) (stores F.Files D.SwapDev files.old swap.old) (stores F.Files D.SwapDev files.new swap.new)) }
     ensures on { OnOk result (OnceCopied child m.old m.new) }
-    ensures outside { TransfersPages F.Files D.SwapDev (stop_of result) files.old files.new swap.old swap.new }
-    ensures goes_on { OnOk result (CanGoOn m.new) }
+    ensures goes_on { GoesOn F.Files D.SwapDev result m.new files.old files.new swap.old swap.new }
 {
     serve_page_now(m, files, swap, parent, &[parent])?;
     make_room(m, files, swap, &[parent])?;
@@ -65,8 +63,7 @@ pub fn copy_due<F: Files, D: SwapDev>(
         (StopsCopying m.old.kernel.place.due m.old m.new (F.holds files.old) (stores F.Files D.SwapDev files.old swap.old)
         (stores F.Files D.SwapDev files.new swap.new)) }
     ensures on { OnOk result (HasCopied m.old m.new) }
-    ensures outside { TransfersPages F.Files D.SwapDev (stop_of result) files.old files.new swap.old swap.new }
-    ensures goes_on { OnOk result (CanGoOn m.new) }
+    ensures goes_on { GoesOn F.Files D.SwapDev result m.new files.old files.new swap.old swap.new }
 {
     while let Some(child) = m.due() {
         copy_page(m, files, swap, child, page_in(parent, child))?;

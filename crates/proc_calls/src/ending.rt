@@ -8,7 +8,7 @@ ghost use Rattle.flat_model.specs.declared.calls.Reply.TheVariants.{Exits};
 ghost use Rattle.kernel_model.specs.Unit.{has_lender, lender_among, proc_of};
 ghost use Rattle.machine_state.specs.Going.{CanGoOn, IsRunning};
 ghost use Rattle.machine_state.specs.UserMemory.{CanLend, kernel_answers};
-ghost use Rattle.machine_state.specs.Outside.{IsBacked, stop_of, TransfersPages};
+ghost use Rattle.machine_state.specs.Outside.{IsBacked, GoesOn};
 ghost use Rattle.vfork_pass.specs.Passed.{HasGivenBack};
 ghost use Rattle.fault_fill.specs.Growth.{space_of_pid};
 ghost use Rattle.proc_calls.specs.Callers.{IsCaller};
@@ -63,8 +63,7 @@ pub fn leave_space<F: Files, D: SwapDev>(
         (has_lender m.old.kernel.processes pid ≡ true → HasGivenBack m.old.kernel m.new.kernel pid (lender_among m.old.kernel.processes pid)) }
     ensures stops { IfErr result (StopsLeaving m.old m.new pid (F.holds files.old) (stores F.Files D.SwapDev files.old swap.old)
         (stores F.Files D.SwapDev files.new swap.new)) }
-    ensures outside { TransfersPages F.Files D.SwapDev (stop_of result) files.old files.new swap.old swap.new }
-    ensures goes_on { OnOk result (CanGoOn m.new) }
+    ensures goes_on { GoesOn F.Files D.SwapDev result m.new files.old files.new swap.old swap.new }
 {
     if is_borrower(m, pid) {
         m.make_room()?;
@@ -89,8 +88,7 @@ pub fn end<F: Files, D: SwapDev>(
         (stores F.Files D.SwapDev files.new swap.new)) }
     ensures stops { IfErr result (StopsAlive m.old m.new pid (F.holds files.old) (stores F.Files D.SwapDev files.old swap.old)
         (stores F.Files D.SwapDev files.new swap.new)) }
-    ensures outside { TransfersPages F.Files D.SwapDev (stop_of result) files.old files.new swap.old swap.new }
-    ensures goes_on { OnOk result (CanGoOn m.new) }
+    ensures goes_on { GoesOn F.Files D.SwapDev result m.new files.old files.new swap.old swap.new }
 {
     let regs = process(m, pid).regs;
     leave_space(m, files, swap, pid)?;
@@ -116,8 +114,7 @@ pub fn kill<F: Files, D: SwapDev>(
         (stores F.Files D.SwapDev files.new swap.new)) }
     ensures stops { IfErr result (StopsAlive m.old m.new pid (F.holds files.old) (stores F.Files D.SwapDev files.old swap.old)
         (stores F.Files D.SwapDev files.new swap.new)) }
-    ensures outside { TransfersPages F.Files D.SwapDev (stop_of result) files.old files.new swap.old swap.new }
-    ensures goes_on { OnOk result (CanGoOn m.new) }
+    ensures goes_on { GoesOn F.Files D.SwapDev result m.new files.old files.new swap.old swap.new }
 {
     end(m, files, swap, pid, u32::from(signal))
 }
@@ -157,8 +154,7 @@ pub fn exit<F: Files, D: SwapDev>(
         (exit_reply regs.now)) (F.holds files.old) (stores F.Files D.SwapDev files.old swap.old) (stores F.Files D.SwapDev files.new swap.new) called) }
     ensures stops { IfErr result (StopsExit m.old m.new pid (run (kernel_answers m.old.kernel (space_of_pid m.old.kernel pid)) (exit_reply regs.now))
         (F.holds files.old) (stores F.Files D.SwapDev files.old swap.old) (stores F.Files D.SwapDev files.new swap.new)) }
-    ensures outside { TransfersPages F.Files D.SwapDev (stop_of result) files.old files.new swap.old swap.new }
-    ensures goes_on { OnOk result (CanGoOn m.new) }
+    ensures goes_on { GoesOn F.Files D.SwapDev result m.new files.old files.new swap.old swap.new }
 {
     match read_status(m, pid, regs) {
         Err(refused) => refuse(m, pid, SystemCall::Exit, regs, refused),

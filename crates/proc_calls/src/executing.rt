@@ -1,13 +1,13 @@
 //! The call `execve`: the process starts another image. Path and arguments are read whole before anything is done.
 ghost use Rattle.io_edge.specs.WithFiles.{stores};
-ghost use Rattle.std.specs.Prelude.{◌≡◌, List, [], length, IfOk, OnOk, IfErr};
+ghost use Rattle.std.specs.Prelude.{◌≡◌, List, [], length, IfOk, IfErr};
 ghost use Rattle.user_vax.specs.Program.{run};
 ghost use Rattle.flat_state.specs.Flat.{NamedImage};
 ghost use Rattle.flat_model.specs.Calls.{execve_reply};
 ghost use Rattle.page_model.specs.Rank.{HasRoom};
 ghost use Rattle.machine_state.specs.Going.{CanGoOn};
 ghost use Rattle.machine_state.specs.UserMemory.{CanLend, kernel_answers};
-ghost use Rattle.machine_state.specs.Outside.{IsBacked, stop_of, TransfersPages};
+ghost use Rattle.machine_state.specs.Outside.{IsBacked, GoesOn};
 ghost use Rattle.fault_fill.specs.Growth.{space_of_pid};
 ghost use Rattle.call_reads.specs.Reading.{AreNamed, StartsAs};
 ghost use Rattle.proc_calls.specs.Callers.{IsCaller};
@@ -62,8 +62,7 @@ pub fn execve<F: Files, D: SwapDev>(
     ensures stops { (known : List NamedImage) → AreNamed known m.old.images
         → IfErr result (StopsExec m.old m.new pid (execve_read known m.old pid regs.now) (F.holds files.old) (stores F.Files D.SwapDev files.old swap.old)
         (stores F.Files D.SwapDev files.new swap.new)) }
-    ensures outside { TransfersPages F.Files D.SwapDev (stop_of result) files.old files.new swap.old swap.new }
-    ensures goes_on { OnOk result (CanGoOn m.new) }
+    ensures goes_on { GoesOn F.Files D.SwapDev result m.new files.old files.new swap.old swap.new }
 {
     let asked = read_call(alloc, m, pid, regs);
     match or_stop(asked)? {

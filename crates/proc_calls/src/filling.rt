@@ -1,10 +1,9 @@
 //! The new stack page that is due first is filled; a frame is forced where none is free. It must be first among what
 //! is due.
 ghost use Rattle.io_edge.specs.WithFiles.{stores};
-ghost use Rattle.std.specs.Prelude.{◌≤◌, [], OnOk, MatchResult};
+ghost use Rattle.std.specs.Prelude.{◌≤◌, [], MatchResult};
 ghost use Rattle.page_model.specs.Rank.{HasRoom};
-ghost use Rattle.machine_state.specs.Going.{CanGoOn};
-ghost use Rattle.machine_state.specs.Outside.{Asks, stop_of, TransfersPages};
+ghost use Rattle.machine_state.specs.Outside.{Asks, GoesOn};
 ghost use Rattle.fault_fill.specs.LastMoves.{last_moves};
 ghost use Rattle.proc_calls.specs.Filling.{IsStartFirst, FillsStart, StopsStart};
 
@@ -28,8 +27,7 @@ pub fn fill_start<F: Files, D: SwapDev>(
     ensures filled { MatchResult result (λ u. FillsStart page m.old m.new (F.holds files.old) (stores F.Files D.SwapDev files.old swap.old)
         (stores F.Files D.SwapDev files.new swap.new))
         (StopsStart page m.old m.new (F.holds files.old) (stores F.Files D.SwapDev files.old swap.old) (stores F.Files D.SwapDev files.new swap.new)) }
-    ensures outside { TransfersPages F.Files D.SwapDev (stop_of result) files.old files.new swap.old swap.new }
-    ensures goes_on { OnOk result (CanGoOn m.new) }
+    ensures goes_on { GoesOn F.Files D.SwapDev result m.new files.old files.new swap.old swap.new }
 {
     make_room(m, files, swap, &[])?;
     m.fill_zero(page)

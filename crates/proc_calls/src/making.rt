@@ -8,7 +8,7 @@ ghost use Rattle.page_model.specs.Rank.{HasRoom};
 ghost use Rattle.flat_state.specs.declared.change.Change.TheVariants.{Fork as ForkOf, Lend as LendOf};
 ghost use Rattle.kernel_model.specs.Asks.{HasSpace};
 ghost use Rattle.machine_state.specs.Going.{CanGoOn, IsRunning};
-ghost use Rattle.machine_state.specs.Outside.{IsBacked, stop_of, TransfersPages};
+ghost use Rattle.machine_state.specs.Outside.{IsBacked, GoesOn};
 ghost use Rattle.fault_fill.specs.Growth.{space_of_pid};
 ghost use Rattle.proc_calls.specs.Callers.{IsCaller};
 ghost use Rattle.proc_calls.specs.Copying.{HasCopied};
@@ -126,8 +126,7 @@ pub fn fork<F: Files, D: SwapDev>(
     ensures on { OnOk result (HasCopied m.old m.new) }
     ensures stop { IfErr result (StopsForking m.old m.new pid regs.now (F.holds files.old) (stores F.Files D.SwapDev files.old swap.old)
         (stores F.Files D.SwapDev files.new swap.new)) }
-    ensures outside { TransfersPages F.Files D.SwapDev (stop_of result) files.old files.new swap.old swap.new }
-    ensures goes_on { OnOk result (CanGoOn m.new) }
+    ensures goes_on { GoesOn F.Files D.SwapDev result m.new files.old files.new swap.old swap.new }
 {
     let parent = space_of_pid(m, pid);
     let called = enter_fork(m, pid, parent, regs)?;

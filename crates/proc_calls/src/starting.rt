@@ -5,7 +5,7 @@ ghost use Rattle.page_model.specs.Rank.{HasRoom};
 ghost use Rattle.kernel_model.specs.Unit.{has_lender, lender_among};
 ghost use Rattle.machine_state.specs.Going.{CanGoOn, IsRunning};
 ghost use Rattle.machine_state.specs.Wants.{CanAsk};
-ghost use Rattle.machine_state.specs.Outside.{IsBacked, stop_of, TransfersPages};
+ghost use Rattle.machine_state.specs.Outside.{IsBacked, stop_of, TransfersPages, GoesOn};
 ghost use Rattle.vfork_pass.specs.Passed.{HasGivenBack};
 ghost use Rattle.proc_calls.specs.Callers.{IsCaller};
 ghost use Rattle.proc_calls.specs.Starting.{image_found, wants_found, is_shared, AreNextWants, Finds, Starts, StopsFinding, StopsImage};
@@ -122,8 +122,7 @@ pub fn start_image<F: Files, D: SwapDev>(
         (stores F.Files D.SwapDev files.new swap.new)) }
     ensures stops { IfErr result (StopsImage m.old m.new pid after.now image top (F.holds files.old) (stores F.Files D.SwapDev files.old swap.old)
         (stores F.Files D.SwapDev files.new swap.new)) }
-    ensures outside { TransfersPages F.Files D.SwapDev (stop_of result) files.old files.new swap.old swap.new }
-    ensures goes_on { OnOk result (CanGoOn m.new) }
+    ensures goes_on { GoesOn F.Files D.SwapDev result m.new files.old files.new swap.old swap.new }
 {
     let page = Page::Stack {
         sid: m.next_numbers().1,

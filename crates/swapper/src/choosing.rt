@@ -4,10 +4,10 @@ ghost use Rattle.std.specs.Prelude.{◌≡◌, [], OnOk, OnErr, IfOk, IfErr};
 ghost use Rattle.std.specs.List.{filter};
 ghost use Rattle.page_model.specs.Placement.{Placement};
 ghost use Rattle.page_model.specs.Swapper.{swap_choice, choice_of_out, brings, longest, may_come_in, may_go_out};
-ghost use Rattle.machine_state.specs.Going.{CanGoOn, IsRunning};
+ghost use Rattle.machine_state.specs.Going.{IsRunning};
 ghost use Rattle.machine_state.specs.Alike.{AreRecords};
 ghost use Rattle.machine_state.specs.Machine.{processes_of, residents_of};
-ghost use Rattle.machine_state.specs.Outside.{Asks, stop_of, TransfersPages};
+ghost use Rattle.machine_state.specs.Outside.{Asks, GoesOn};
 ghost use Rattle.swapper.specs.Runners.{runners_in, runners_of, HasResidents, choice_of, in_choice, out_choice};
 ghost use Rattle.swapper.specs.declared.Turned.{Turned as Chosen};
 ghost use Rattle.swapper.specs.Turns.{MayTurn, Turns, KeepsTurn, StopsTurning};
@@ -88,8 +88,7 @@ fn carry_out<F: Files, D: SwapDev>(
         (stores F.Files D.SwapDev files.new swap.new)) }
     ensures params_at_stop { OnErr result (m.new.params ≡ m.old.params) }
     ensures images_at_stop { OnErr result (m.new.images ≡ m.old.images) }
-    ensures outside { TransfersPages F.Files D.SwapDev (stop_of result) files.old files.new swap.old swap.new }
-    ensures goes_on { OnOk result (CanGoOn m.new) }
+    ensures goes_on { GoesOn F.Files D.SwapDev result m.new files.old files.new swap.old swap.new }
 {
     match chosen {
         Turned::In(pid) => swap_in(m, swap, pid),
@@ -117,8 +116,7 @@ pub fn turn<F: Files, D: SwapDev>(
         × StopsTurning t m.old stop m.new (F.holds files.old) (stores F.Files D.SwapDev files.old swap.old) (stores F.Files D.SwapDev files.new swap.new)) }
     ensures params_at_stop { OnErr result (m.new.params ≡ m.old.params) }
     ensures images_at_stop { OnErr result (m.new.images ≡ m.old.images) }
-    ensures outside { TransfersPages F.Files D.SwapDev (stop_of result) files.old files.new swap.old swap.new }
-    ensures goes_on { OnOk result (CanGoOn m.new) }
+    ensures goes_on { GoesOn F.Files D.SwapDev result m.new files.old files.new swap.old swap.new }
 {
     let chosen = choose(m);
     carry_out(m, files, swap, chosen)?;

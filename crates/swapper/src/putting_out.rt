@@ -18,7 +18,7 @@ ghost use Rattle.machine_state.specs.Conditions.{KeepsFlat};
 ghost use Rattle.machine_state.specs.Done.{KeepsThrough};
 ghost use Rattle.machine_state.specs.Settled.{IsSameBeside};
 ghost use Rattle.machine_state.specs.Swapping.{AsksU, IsIn, KeepsIn, KeepsOut};
-ghost use Rattle.machine_state.specs.Outside.{Asks, stop_of, MovesSwapPages, TransfersPages};
+ghost use Rattle.machine_state.specs.Outside.{Asks, stop_of, MovesSwapPages, GoesOn};
 ghost use Rattle.paging_units.specs.Made.{ground, MakesUnit};
 ghost use Rattle.paging_units.specs.Stops.{StopsAt};
 ghost use Rattle.swapper.specs.Putting.{HasView, IsOfSegment, IsStepFor, IsStep, IsNext, HoldsThere, PutOut, StopsPutting};
@@ -115,8 +115,7 @@ fn complete<F: Files, D: SwapDev>(m: &mut Machine, files: &mut F, swap: &mut D) 
         (stores F.Files D.SwapDev files.new swap.new)) }
     ensures params { m.new.params ≡ m.old.params }
     ensures images { m.new.images ≡ m.old.images }
-    ensures outside { TransfersPages F.Files D.SwapDev (stop_of result) files.old files.new swap.old swap.new }
-    ensures goes_on { OnOk result (CanGoOn m.new) }
+    ensures goes_on { GoesOn F.Files D.SwapDev result m.new files.old files.new swap.old swap.new }
 {
     m.done(files, swap)?;
     Ok(())
@@ -165,8 +164,7 @@ fn put_once<F: Files, D: SwapDev>(
         m.new (stores F.Files D.SwapDev files.new swap.new)) }
     ensures params { m.new.params ≡ m.old.params }
     ensures images { m.new.images ≡ m.old.images }
-    ensures outside { TransfersPages F.Files D.SwapDev (stop_of result) files.old files.new swap.old swap.new }
-    ensures goes_on { OnOk result (CanGoOn m.new) }
+    ensures goes_on { GoesOn F.Files D.SwapDev result m.new files.old files.new swap.old swap.new }
 {
     match step {
         Step::Wait => complete(m, files, swap),
@@ -212,8 +210,7 @@ fn put_all<F: Files, D: SwapDev>(
         (stores F.Files D.SwapDev files.new swap.new)) }
     ensures stopped { IfErr result (λ stop. StopsPutting pid sid m.old stop m.new (F.holds files.old) (stores F.Files D.SwapDev files.old swap.old)
         (stores F.Files D.SwapDev files.new swap.new)) }
-    ensures outside { TransfersPages F.Files D.SwapDev (stop_of result) files.old files.new swap.old swap.new }
-    ensures goes_on { OnOk result (CanGoOn m.new) }
+    ensures goes_on { GoesOn F.Files D.SwapDev result m.new files.old files.new swap.old swap.new }
 {
     while let Some(step) = next_step(m, sid) {
         put_once(m, files, swap, pid, sid, step)?;
@@ -254,8 +251,7 @@ pub fn swap_out<F: Files, D: SwapDev>(
     ensures stopped { IfErr result (λ stop. (sid : ℕ) × HoldsThere m.old.kernel pid sid
         × StopsPutting pid sid m.old stop m.new (F.holds files.old) (stores F.Files D.SwapDev files.old swap.old)
         (stores F.Files D.SwapDev files.new swap.new)) }
-    ensures outside { TransfersPages F.Files D.SwapDev (stop_of result) files.old files.new swap.old swap.new }
-    ensures goes_on { OnOk result (CanGoOn m.new) }
+    ensures goes_on { GoesOn F.Files D.SwapDev result m.new files.old files.new swap.old swap.new }
 {
     let sid = held_by(m, pid);
     put_all(m, files, swap, pid, sid)

@@ -4,7 +4,6 @@ use Rattle.std.proofs.lemmas.Result.{err_from_is_err_and}
 use Rattle.page_model.specs.Rank.{far}
 use Rattle.clock_hands.proofs.Forces.{none_free, falls_on, room_on, fits_on, forced_none, stops_here, forces_none, forces_one}
 use Rattle.machine_state.proofs.Transfers.{transfers_none, transfers_then}
-use Rattle.machine_state.proofs.Backing.{asks_on}
 use Rattle.clock_hands.proofs.forcing.force_frame.Goals as goal
 
 pub loop-m-init : goal.loop-m-init
@@ -32,13 +31,12 @@ loop-m-preserved g c =
     let none : now.kernel.place.free ≡ [] = none_free now.kernel.place.free (omega arith) in
     let falls : far next.kernel.place locked < far now.kernel.place locked = falls_on locked now next later h k s.owner.frames s.hands so.room none made in
     record {
-      asks = asks_on now next later latest (g.D.SwapDev.blocks c.loop-m.swap) (g.D.SwapDev.blocks c.force_once.new.swap)
-          made.beside c.in_ok-force_once.ensures.outside.files.holds c.in_ok-force_once.ensures.outside.swap.blocks c.in_ok-force_once.ensures.goes_on so.asks;
+      asks = c.in_ok-force_once.ensures.goes_on.asks;
       room = room_on locked now next later h k s.owner.frames so.room made;
       fits = fits_on locked now next later h k falls made so.fits;
-      so_far = forces_one locked c.args.m.now now next holds later latest (stores g.F.Files g.D.SwapDev c.args.files.now c.args.swap.now) h k c.in_ok-force_once.ensures.outside.files.holds
+      so_far = forces_one locked c.args.m.now now next holds later latest (stores g.F.Files g.D.SwapDev c.args.files.now c.args.swap.now) h k c.in_ok-force_once.ensures.goes_on.outside.files.holds
           s.owner.frames s.hands so.room none made c.in_ok-force_once.ensures.keeps so.so_far;
-      outside = transfers_then {stop = None} g.met.F.Files.leads_through g.met.D.SwapDev.leads_through so.outside c.in_ok-force_once.ensures.outside;
+      outside = transfers_then {stop = None} g.met.F.Files.leads_through g.met.D.SwapDev.leads_through so.outside c.in_ok-force_once.ensures.goes_on.outside;
     }
 
 pub loop-m-smaller : goal.loop-m-smaller

@@ -7,7 +7,6 @@ use Rattle.clock_hands.specs.Moved.{IsMoveOf}
 use Rattle.clock_hands.proofs.Moves.{stops_moving, move_flies, done_flies, move_last, done_last, moves_none, moves_one, moves_done, moves_all}
 use Rattle.clock_hands.proofs.moving.move_hands.Goals.{then-loop-left-test+else-wants_moves, else-loop-left-test}
 use Rattle.machine_state.proofs.Transfers.{transfers_none, transfers_then}
-use Rattle.machine_state.proofs.Backing.{asks_on}
 use Rattle.clock_hands.proofs.moving.move_hands.Goals as goal
 
 pub loop-left-init : goal.loop-left-init
@@ -34,13 +33,12 @@ loop-left-preserved-then-branch g c =
     let made = c.in_ok-move_once.ensures.made in
     let w : wants_moves now.kernel.place ≡ true = sym c.wants_moves.ensures ∙ c.if-wants_moves.true in
     record {
-      asks = asks_on now next later latest (g.D.SwapDev.blocks c.loop-left.swap) (g.D.SwapDev.blocks c.move_once.new.swap)
-          made.beside c.in_ok-move_once.ensures.outside.files.holds c.in_ok-move_once.ensures.outside.swap.blocks c.in_ok-move_once.ensures.goes_on so.asks;
+      asks = c.in_ok-move_once.ensures.goes_on.asks;
       few = let few = so.few in omega arith;
       fits = move_last left now next later h k some u made so.fits;
       so_far = moves_one c.args.n left c.args.m.now now next (g.F.Files.holds c.args.files.now) later latest (stores g.F.Files g.D.SwapDev c.args.files.now c.args.swap.now) h k
-          c.in_ok-move_once.ensures.outside.files.holds so.few some w made u c.in_ok-move_once.ensures.keeps so.so_far;
-      outside = transfers_then {stop = None} g.met.F.Files.leads_through g.met.D.SwapDev.leads_through so.outside c.in_ok-move_once.ensures.outside;
+          c.in_ok-move_once.ensures.goes_on.outside.files.holds so.few some w made u c.in_ok-move_once.ensures.keeps so.so_far;
+      outside = transfers_then {stop = None} g.met.F.Files.leads_through g.met.D.SwapDev.leads_through so.outside c.in_ok-move_once.ensures.goes_on.outside;
     }
 
 pub loop-left-preserved : goal.loop-left-preserved
@@ -58,13 +56,12 @@ loop-left-preserved g c =
     let made = c.in_ok-move_once.ensures.made in
     let w : wants_moves now.kernel.place ≡ true = sym c.wants_moves.ensures ∙ c.if-wants_moves.true in
     record {
-      asks = asks_on now next later latest (g.D.SwapDev.blocks c.loop-left.swap) (g.D.SwapDev.blocks c.move_once.new.swap)
-          made.beside c.in_ok-move_once.ensures.outside.files.holds c.in_ok-move_once.ensures.outside.swap.blocks c.in_ok-move_once.ensures.goes_on so.asks;
+      asks = c.in_ok-move_once.ensures.goes_on.asks;
       few = let few = so.few in omega arith;
       fits = done_last left now next later h k u made so.fits;
       so_far = moves_done c.args.n left c.args.m.now now next (g.F.Files.holds c.args.files.now) later latest (stores g.F.Files g.D.SwapDev c.args.files.now c.args.swap.now) h k
-          c.in_ok-move_once.ensures.outside.files.holds some w made u c.in_ok-move_once.ensures.keeps so.so_far;
-      outside = transfers_then {stop = None} g.met.F.Files.leads_through g.met.D.SwapDev.leads_through so.outside c.in_ok-move_once.ensures.outside;
+          c.in_ok-move_once.ensures.goes_on.outside.files.holds some w made u c.in_ok-move_once.ensures.keeps so.so_far;
+      outside = transfers_then {stop = None} g.met.F.Files.leads_through g.met.D.SwapDev.leads_through so.outside c.in_ok-move_once.ensures.goes_on.outside;
     }
 
 pub loop-left-smaller-then-branch : goal.loop-left-smaller-then-branch

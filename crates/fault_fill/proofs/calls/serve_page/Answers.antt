@@ -28,6 +28,5 @@ returns g c =
       few_at_stop = match_err serves stops c.serve_on.result (λ s m. stops_short false [] q old new holds i j s owner can.there m) made;
       low = match_ok serves stops c.serve_on.result (λ a m. calls_calm q old new holds i j m.0) made;
       stay = match_ok serves stops c.serve_on.result (λ a m. all_stay m.0.units old.kernel.place new.kernel.place q owner can m.0.leads) made;
-      outside = c.serve_on.ensures.outside;
       goes_on = c.serve_on.ensures.goes_on;
     }

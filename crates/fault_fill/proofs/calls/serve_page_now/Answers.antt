@@ -28,6 +28,5 @@ returns g c =
       few_at_stop = match_err serves stops c.serve_now_on.result (λ s m. stops_short true locked q old new holds i j s owner can.there m) made;
       low = match_ok serves stops c.serve_now_on.result (λ u m. calls_low locked q old new holds i j owner can m.0 m.1) made;
       spares = match_ok serves stops c.serve_now_on.result (λ u m. spared m.0.units old.kernel.place new.kernel.place locked q true owner can m.0.leads) made;
-      outside = c.serve_now_on.ensures.outside;
       goes_on = c.serve_now_on.ensures.goes_on;
     }

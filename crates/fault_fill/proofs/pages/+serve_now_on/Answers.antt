@@ -6,7 +6,6 @@ use Rattle.fault_fill.specs.Units.{GoesFurther, Further}
 use Rattle.fault_fill.specs.Answers.{ServesNow}
 use Rattle.fault_fill.proofs.Serving.{Behind, served_behind, rank_falls}
 use Rattle.fault_fill.proofs.Leading.{match_map, stops_later, served_now_later}
-use Rattle.machine_state.proofs.Backing.{asks_on}
 use Rattle.fault_fill.proofs.pages.+serve_now_on.Goals as goal
 
 pub serve_now_on-requires : goal.serve_now_on-requires
@@ -30,8 +29,7 @@ serve_now_on-requires g t c κs out =
         (
           out.1,
           (
-            asks_on old new holds _ _ _ f.serves.makes.beside c.in-Ok.ensures.outside.files.holds c.in-Ok.ensures.outside.swap.blocks c.in-Ok.ensures.goes_on
-                c.requires.asks,
+            c.in-Ok.ensures.goes_on.asks,
             (b.can, (b.room c.requires.room, f.low)),
           ),
         ),
@@ -53,6 +51,6 @@ returns-then-more-clause-served g t c =
     let f : Further locked q old next holds i h = subst (λ (b : Bool). GoesFurther b locked q old next holds i h) c.if-more.true c.in-Ok.ensures.made in
     match_map (λ u. ServesNow locked q next new later h j) (λ u. ServesNow locked q old new holds i j)
     (StopsServing true locked q next new later h j) (StopsServing true locked q old new holds i j) c.serve_now_on.result
-    (λ u m. served_now_later locked q old next new holds later i h j c.in-Ok.ensures.outside.files.holds f.serves m)
-    (λ stop m. stops_later true locked q old next new holds later i h j stop c.in-Ok.ensures.outside.files.holds f.serves m)
+    (λ u m. served_now_later locked q old next new holds later i h j c.in-Ok.ensures.goes_on.outside.files.holds f.serves m)
+    (λ stop m. stops_later true locked q old next new holds later i h j stop c.in-Ok.ensures.goes_on.outside.files.holds f.serves m)
     c.serve_now_on.ensures.served

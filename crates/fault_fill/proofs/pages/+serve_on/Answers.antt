@@ -8,7 +8,6 @@ use Rattle.fault_fill.specs.declared.pages.PageServed.{PageServed}
 use Rattle.fault_fill.specs.declared.unit.Unit.{Unit as Came}
 use Rattle.fault_fill.proofs.Serving.{near, Behind}
 use Rattle.fault_fill.proofs.Leading.{match_map, one_serves, stops_here, stops_later, unit_behind, unit_nearer, served_later}
-use Rattle.machine_state.proofs.Backing.{asks_on}
 use Rattle.fault_fill.proofs.pages.+serve_on.Goals as goal
 
 pub returns-in-Err-clause-served : goal.returns-in-Err-clause-served
@@ -36,7 +35,7 @@ serve_on-requires g t c κs out =
         (
           out.1,
           (
-            asks_on old new holds _ _ _ u.rest c.in-Ok.ensures.outside.files.holds c.in-Ok.ensures.outside.swap.blocks c.in-Ok.ensures.goes_on c.requires.asks,
+            c.in-Ok.ensures.goes_on.asks,
             b.can,
           ),
         ),
@@ -58,6 +57,6 @@ returns-in-Nearer-clause-served g t c =
     let s : ServesTo false [] q old next holds i h = one_serves false [] q old next holds i h c.requires.can (any false []) in
     match_map (λ (a : PageServed). ServesAs a q next new later h j) (λ (a : PageServed). ServesAs a q old new holds i j)
     (StopsServing false [] q next new later h j) (StopsServing false [] q old new holds i j) c.serve_on.result
-    (λ a m. served_later a q old next new holds later i h j c.in-Ok.ensures.outside.files.holds s m)
-    (λ stop m. stops_later false [] q old next new holds later i h j stop c.in-Ok.ensures.outside.files.holds s m)
+    (λ a m. served_later a q old next new holds later i h j c.in-Ok.ensures.goes_on.outside.files.holds s m)
+    (λ stop m. stops_later false [] q old next new holds later i h j stop c.in-Ok.ensures.goes_on.outside.files.holds s m)
     c.serve_on.ensures.served

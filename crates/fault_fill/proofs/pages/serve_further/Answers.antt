@@ -37,7 +37,7 @@ returns-in-Ok-finish-clause-made g c =
     end_further c.args.locked.now c.args.page c.args.m.now c.serve_unit.new.m c.finish.new.m (g.F.Files.holds c.args.files.now) (g.F.Files.holds c.serve_unit.new.files)
     (stores g.F.Files g.D.SwapDev c.args.files.now c.args.swap.now) (stores g.F.Files g.D.SwapDev c.serve_unit.new.files c.serve_unit.new.swap)
     (stores g.F.Files g.D.SwapDev c.finish.new.files c.finish.new.swap) _ c.in-Waits.is c.in-Ok.ensures.made
-    c.in-Ok.ensures.outside.files.holds c.requires.can c.in-Ok-finish.ensures.made
+    c.in-Ok.ensures.goes_on.outside.files.holds c.requires.can c.in-Ok-finish.ensures.made
 
 pub returns-in-Err-finish-clause-made : goal.returns-in-Err-finish-clause-made
 returns-in-Err-finish-clause-made g c =
@@ -50,11 +50,11 @@ returns-in-Ok-make_room-clause-made g c =
     room_further c.args.locked.now c.args.page c.args.m.now c.serve_unit.new.m c.make_room.new.m (g.F.Files.holds c.args.files.now) (g.F.Files.holds c.serve_unit.new.files)
     (stores g.F.Files g.D.SwapDev c.args.files.now c.args.swap.now) (stores g.F.Files g.D.SwapDev c.serve_unit.new.files c.serve_unit.new.swap)
     (stores g.F.Files g.D.SwapDev c.make_room.new.files c.make_room.new.swap) _ c.in-Starves.is c.in-Ok.ensures.made
-    c.in-Ok.ensures.outside.files.holds c.requires.asks.ready.running.sound.owner.frames c.in-Ok-make_room.ensures.forced c.in-Ok-make_room.ensures.keeps
+    c.in-Ok.ensures.goes_on.outside.files.holds c.requires.asks.ready.running.sound.owner.frames c.in-Ok-make_room.ensures.forced c.in-Ok-make_room.ensures.keeps
 
 pub returns-in-Err-make_room-clause-made : goal.returns-in-Err-make_room-clause-made
 returns-in-Err-make_room-clause-made g c =
     room_stops c.args.locked.now c.args.page c.args.m.now c.serve_unit.new.m c.make_room.new.m (g.F.Files.holds c.args.files.now) (g.F.Files.holds c.serve_unit.new.files)
     (stores g.F.Files g.D.SwapDev c.args.files.now c.args.swap.now) (stores g.F.Files g.D.SwapDev c.serve_unit.new.files c.serve_unit.new.swap)
     (stores g.F.Files g.D.SwapDev c.make_room.new.files c.make_room.new.swap) c.in-Err-make_room.stop _ c.in-Starves.is
-    c.in-Ok.ensures.made c.in-Ok.ensures.outside.files.holds c.requires.asks.ready.running.sound.owner.frames c.in-Err-make_room.ensures.stopped
+    c.in-Ok.ensures.made c.in-Ok.ensures.goes_on.outside.files.holds c.requires.asks.ready.running.sound.owner.frames c.in-Err-make_room.ensures.stopped

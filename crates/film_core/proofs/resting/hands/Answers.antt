@@ -26,7 +26,7 @@ pub returns-clause-on : goal.returns-clause-on
 returns-clause-on g c =
     hands_stay c.args.m.now c.move_hands.new.m c.args.left c.in_ok-move_hands.field-0 c.args.counted (g.F.Files.holds c.args.files.now) (stores g.F.Files g.D.SwapDev c.args.files.now c.args.swap.now)
     (stores g.F.Files g.D.SwapDev c.move_hands.new.files c.move_hands.new.swap)
-    c.requires.steady c.requires.counted c.in_ok-move_hands.ensures.moved c.in_ok-move_hands.ensures.goes_on
+    c.requires.steady c.requires.counted c.in_ok-move_hands.ensures.moved c.in_ok-move_hands.ensures.goes_on.asks.ready
 
 pub returns-in_err-move_hands-clause-stops : goal.returns-in_err-move_hands-clause-stops
 returns-in_err-move_hands-clause-stops g c =

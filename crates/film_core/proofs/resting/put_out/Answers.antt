@@ -32,7 +32,7 @@ returns-clause-on g c =
     steady_stays c.args.m.now c.swap_out.new.m c.args.counted c.requires.counted
     (swapper_steady c.args.m.now c.swap_out.new.m (g.F.Files.holds c.args.files.now) (stores g.F.Files g.D.SwapDev c.args.files.now c.args.swap.now)
     (stores g.F.Files g.D.SwapDev c.swap_out.new.files c.swap_out.new.swap)
-    (turns.Out c.args.pid) c.requires.steady c.in_ok-swap_out.ensures.put c.in_ok-swap_out.ensures.goes_on)
+    (turns.Out c.args.pid) c.requires.steady c.in_ok-swap_out.ensures.put c.in_ok-swap_out.ensures.goes_on.asks.ready)
 
 pub returns-in_err-swap_out-clause-stops : goal.returns-in_err-swap_out-clause-stops
 returns-in_err-swap_out-clause-stops g c =

@@ -5,7 +5,6 @@ use Rattle.proc_calls.specs.Copying.{AreCopiesFrom, IsCopyFirst, OnceCopied}
 use Rattle.proc_calls.proofs.Copies.{room_for}
 use Rattle.proc_calls.proofs.CopiedPages.{FirstOf, first_of, copy_first, list_first, others_due, stops_first, fewer_due, copies_none, copies_one, copies_all, copied_all}
 use Rattle.machine_state.proofs.Transfers.{transfers_none, transfers_then}
-use Rattle.machine_state.proofs.Backing.{backed_on}
 use Rattle.proc_calls.proofs.copying.copy_due.Goals as goal
 
 pub loop-child-init : goal.loop-child-init
@@ -65,11 +64,7 @@ loop-child-preserved g c =
     let f : FirstOf c.args.parent now.kernel.place.due child = first_of c.args.parent now.kernel.place.due child so.due (sym c.due.ensures ∙ c.in-Some.is) in
     let zero = on.last in
     record {
-      asks = record {
-        ready = c.in_ok-copy_page.ensures.goes_on;
-        backed = backed_on now next (g.F.Files.holds c.loop-child.files) _ _ _ on.params on.images c.in_ok-copy_page.ensures.outside.files.holds
-            c.in_ok-copy_page.ensures.outside.swap.blocks so.asks.backed;
-      };
+      asks = c.in_ok-copy_page.ensures.goes_on.asks;
       due = subst (AreCopiesFrom c.args.parent) (sym (others_due now.kernel.place next.kernel.place c.args.parent child f on.due)) f.rest;
       room = λ page. room_for now.kernel.place next.kernel.place page page on.frames (so.room page);
       low = omega (arith, zero);
@@ -77,8 +72,8 @@ loop-child-preserved g c =
           (stores g.F.Files g.D.SwapDev c.args.files.now c.args.swap.now) (stores g.F.Files g.D.SwapDev c.loop-child.files c.loop-child.swap)
           (stores g.F.Files g.D.SwapDev c.copy_page.new.files c.copy_page.new.swap)
           (list_first now.kernel.place c.args.parent child c.page_in.result c.page_in.ensures f) (others_due now.kernel.place next.kernel.place c.args.parent child f on.due)
-          c.in_ok-copy_page.ensures.outside.files.holds c.in_ok-copy_page.ensures.copied on so.so_far;
-      outside = transfers_then {stop = None} g.met.F.Files.leads_through g.met.D.SwapDev.leads_through so.outside c.in_ok-copy_page.ensures.outside;
+          c.in_ok-copy_page.ensures.goes_on.outside.files.holds c.in_ok-copy_page.ensures.copied on so.so_far;
+      outside = transfers_then {stop = None} g.met.F.Files.leads_through g.met.D.SwapDev.leads_through so.outside c.in_ok-copy_page.ensures.goes_on.outside;
     }
 
 pub returns-clause-copied : goal.returns-clause-copied

@@ -33,7 +33,7 @@ returns-in_err-make_room-clause-copied g c =
         stops = inl (forcing_stops c.args.parent c.serve_page_now.new.m c.make_room.new.m c.in_err-make_room.field-0.0 (g.F.Files.holds c.args.files.now)
             (g.F.Files.holds c.serve_page_now.new.files) (stores g.F.Files g.D.SwapDev c.serve_page_now.new.files c.serve_page_now.new.swap)
             (stores g.F.Files g.D.SwapDev c.make_room.new.files c.make_room.new.swap)
-            c.in_ok-serve_page_now.ensures.outside.files.holds c.in_err-make_room.ensures.stopped);
+            c.in_ok-serve_page_now.ensures.goes_on.outside.files.holds c.in_err-make_room.ensures.stopped);
       },
     ))
 
@@ -48,7 +48,7 @@ copy-requires-clause-can g c =
     (stores g.F.Files g.D.SwapDev c.args.files.now c.args.swap.now) h c.requires.asks.ready c.requires.first serves in
     let both = forced_stay c.args.parent c.args.m.now served roomy (g.F.Files.holds c.serve_page_now.new.files) h
     (stores g.F.Files g.D.SwapDev c.make_room.new.files c.make_room.new.swap) stay c.in_ok-make_room.ensures.forced in
-    can_copy served.kernel.place roomy.kernel.place c.args.child c.args.parent c.in_ok-make_room.ensures.goes_on.running.due
+    can_copy served.kernel.place roomy.kernel.place c.args.child c.args.parent c.in_ok-make_room.ensures.goes_on.asks.ready.running.due
     (first_stays c.args.m.now.kernel.place roomy.kernel.place c.args.child c.args.parent both.due c.requires.first)
     c.in_ok-make_room.ensures.spares serves.1 c.in_ok-make_room.ensures.forced.free
 
@@ -58,8 +58,8 @@ returns-clause-copied g c =
     let j = stores g.F.Files g.D.SwapDev c.make_room.new.files c.make_room.new.swap in
     copied_by c.copy.result c.args.child c.args.parent c.args.m.now c.serve_page_now.new.m roomy c.copy.new.self (g.F.Files.holds c.args.files.now)
     (g.F.Files.holds c.serve_page_now.new.files) (stores g.F.Files g.D.SwapDev c.args.files.now c.args.swap.now) (stores g.F.Files g.D.SwapDev c.serve_page_now.new.files c.serve_page_now.new.swap) j
-    c.in_ok-serve_page_now.ensures.outside.files.holds (c.in_ok-serve_page_now.ensures.served.0.serves, c.in_ok-serve_page_now.ensures.served.1)
-    c.in_ok-make_room.ensures.forced c.in_ok-make_room.ensures.keeps c.copy.ensures.performs c.copy.ensures.stops c.in_ok-make_room.ensures.goes_on.whole
+    c.in_ok-serve_page_now.ensures.goes_on.outside.files.holds (c.in_ok-serve_page_now.ensures.served.0.serves, c.in_ok-serve_page_now.ensures.served.1)
+    c.in_ok-make_room.ensures.forced c.in_ok-make_room.ensures.keeps c.copy.ensures.performs c.copy.ensures.stops c.in_ok-make_room.ensures.goes_on.asks.ready.whole
 
 pub returns-clause-on : goal.returns-clause-on
 returns-clause-on g c =

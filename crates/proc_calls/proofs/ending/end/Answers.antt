@@ -13,4 +13,4 @@ pub returns-clause-stops : goal.returns-clause-stops
 returns-clause-stops g c =
     once_left c.flat.result c.args.m.now c.leave_space.new.m c.flat.new.self c.args.pid (g.F.Files.holds c.args.files.now) (stores g.F.Files g.D.SwapDev c.args.files.now c.args.swap.now)
     (stores g.F.Files g.D.SwapDev c.leave_space.new.files c.leave_space.new.swap)
-    c.in_ok-leave_space.ensures.goes_on.whole c.in_ok-leave_space.ensures.left c.flat.ensures.stops
+    c.in_ok-leave_space.ensures.goes_on.asks.ready.whole c.in_ok-leave_space.ensures.left c.flat.ensures.stops

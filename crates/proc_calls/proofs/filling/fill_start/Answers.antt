@@ -13,12 +13,12 @@ pub fill_zero-requires-clause-can : goal.fill_zero-requires-clause-can
 fill_zero-requires-clause-can g c =
     can_fill c.args.page c.args.m.now c.make_room.new.m (g.F.Files.holds c.args.files.now) (stores g.F.Files g.D.SwapDev c.args.files.now c.args.swap.now)
     (stores g.F.Files g.D.SwapDev c.make_room.new.files c.make_room.new.swap)
-    c.requires.asks.ready c.in_ok-make_room.ensures.goes_on c.requires.first c.in_ok-make_room.ensures.forced
+    c.requires.asks.ready c.in_ok-make_room.ensures.goes_on.asks.ready c.requires.first c.in_ok-make_room.ensures.forced
 
 pub returns-clause-filled : goal.returns-clause-filled
 returns-clause-filled g c =
     let roomy = c.make_room.new.m in
     let j = stores g.F.Files g.D.SwapDev c.make_room.new.files c.make_room.new.swap in
     filled_by c.fill_zero.result c.args.page c.args.m.now roomy c.fill_zero.new.self (g.F.Files.holds c.args.files.now)
-    (g.F.Files.holds c.make_room.new.files) (stores g.F.Files g.D.SwapDev c.args.files.now c.args.swap.now) j c.in_ok-make_room.ensures.outside.files.holds
-    c.in_ok-make_room.ensures.forced c.in_ok-make_room.ensures.keeps c.fill_zero.ensures.performs c.fill_zero.ensures.stops c.in_ok-make_room.ensures.goes_on.whole
+    (g.F.Files.holds c.make_room.new.files) (stores g.F.Files g.D.SwapDev c.args.files.now c.args.swap.now) j c.in_ok-make_room.ensures.goes_on.outside.files.holds
+    c.in_ok-make_room.ensures.forced c.in_ok-make_room.ensures.keeps c.fill_zero.ensures.performs c.fill_zero.ensures.stops c.in_ok-make_room.ensures.goes_on.asks.ready.whole

@@ -48,4 +48,4 @@ returns-clause-stops g c =
     let n = c.leave_space.new.m in
     let left = subst (λ (x : Standing). HasLeft x n c.args.pid holds i j) c.in_ok-fits.ensures.same c.in_ok-leave_space.ensures.left in
     asked_alive c.ask-2.result (wants_found c.args.wants.now) c.args.m.now c.ask-2.new.self c.args.pid holds i j (sym c.in_ok-fits.ensures.answer ∙ c.if-not-branch.false)
-    (once_left c.ask-2.result c.args.m.now n c.ask-2.new.self c.args.pid holds i j c.in_ok-leave_space.ensures.goes_on.whole left c.ask-2.ensures.stops)
+    (once_left c.ask-2.result c.args.m.now n c.ask-2.new.self c.args.pid holds i j c.in_ok-leave_space.ensures.goes_on.asks.ready.whole left c.ask-2.ensures.stops)

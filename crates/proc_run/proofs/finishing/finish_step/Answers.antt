@@ -1,12 +1,13 @@
 use Rattle.io_edge.specs.WithFiles.{stores}
 use Rattle.std.proofs.Common.{◌≡◌, true, false, w32, FitsSigned, rules, sym, ap, ◌∙◌}
 use Rattle.std.proofs.lemmas.Int.{to_z-of_z}
-use Rattle.std.proofs.lemmas.Result.{err_from_is_err_and}
+use Rattle.std.proofs.lemmas.Result.{err_from_is_err_and, on_ok_weaker}
 use Rattle.flat_model.specs.Calls.{call_of, replied}
 use Rattle.proc_run.specs.Rests.{carry_of, r0_of}
 use Rattle.proc_run.proofs.Attempts.{call_made}
 use Rattle.proc_run.proofs.SoFar.{lends_there}
 use Rattle.proc_run.proofs.Finished.{begun_runs, begun_short, never_unnamed, never_else, answer_finishes, answer_stops, answer_counts, end_finishes, end_stopped, end_counts}
+use Rattle.machine_state.specs.Outside.{Asks}
 use Rattle.proc_run.proofs.finishing.finish_step.Goals as goal
 
 pub unreachable-requires : goal.unreachable-requires
@@ -84,7 +85,8 @@ returns-in-Below-clause-counts g c =
     end_counts c.args.m.now c.attempt.new.m c.kill.new.m c.in-Below.ensures.only c.pid_of-pid.result c.requires.steady
     (lends_there c.args.m.now c.pid_of-pid.result c.requires.steady c.in-Some.ensures.ready)
     (g.F.Files.holds c.args.files.now) (stores g.F.Files g.D.SwapDev c.args.files.now c.args.swap.now) (stores g.F.Files g.D.SwapDev c.kill.new.files c.kill.new.swap)
-    c.kill.result c.kill.ensures.ended c.kill.ensures.goes_on
+    c.kill.result c.kill.ensures.ended
+    (on_ok_weaker c.kill.result (λ (a : Asks c.kill.new.m (g.F.Files.holds c.kill.new.files) (g.D.SwapDev.blocks c.kill.new.swap)). a.ready) c.kill.ensures.goes_on.asks)
 
 -- Nothing else.
 

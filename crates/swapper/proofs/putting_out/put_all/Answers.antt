@@ -30,10 +30,10 @@ loop-step-preserved g c =
     let k = stores g.F.Files g.D.SwapDev c.put_once.new.files c.put_once.new.swap in
     record {
       puts = puts_on now next c.args.pid c.args.sid c.in-Some.step later h k s m latest (g.D.SwapDev.blocks c.loop-step.swap) (g.D.SwapDev.blocks c.put_once.new.swap)
-          c.in_ok-put_once.ensures.outside.files.holds c.in_ok-put_once.ensures.outside.swap.blocks c.in_ok-put_once.ensures.goes_on so.puts;
+          c.in_ok-put_once.ensures.goes_on.outside.files.holds c.in_ok-put_once.ensures.goes_on.outside.swap.blocks c.in_ok-put_once.ensures.goes_on.asks.ready so.puts;
       so_far = puts_one c.args.pid c.args.sid c.args.m.now now next c.in-Some.step (g.F.Files.holds c.args.files.now) later latest (stores g.F.Files g.D.SwapDev c.args.files.now c.args.swap.now) h k
-          c.in_ok-put_once.ensures.outside.files.holds s so.puts.resident m c.in_ok-put_once.ensures.keeps so.so_far;
-      outside = transfers_then {stop = None} g.met.F.Files.leads_through g.met.D.SwapDev.leads_through so.outside c.in_ok-put_once.ensures.outside;
+          c.in_ok-put_once.ensures.goes_on.outside.files.holds s so.puts.resident m c.in_ok-put_once.ensures.keeps so.so_far;
+      outside = transfers_then {stop = None} g.met.F.Files.leads_through g.met.D.SwapDev.leads_through so.outside c.in_ok-put_once.ensures.goes_on.outside;
     }
 
 pub loop-step-smaller : goal.loop-step-smaller

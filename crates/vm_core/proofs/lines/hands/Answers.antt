@@ -18,7 +18,7 @@ pub returns-clause-steady : goal.returns-clause-steady
 returns-clause-steady g c =
     hands_steady c.args.m.now c.move_hands.new.m (g.F.Files.holds c.args.files.now) (stores g.F.Files g.D.SwapDev c.args.files.now c.args.swap.now)
     (stores g.F.Files g.D.SwapDev c.move_hands.new.files c.move_hands.new.swap) c.args.count
-    c.in_ok-move_hands.field-0 c.requires.steady c.requires.first c.requires.few c.in_ok-move_hands.ensures.moved c.in_ok-move_hands.ensures.goes_on
+    c.in_ok-move_hands.field-0 c.requires.steady c.requires.first c.requires.few c.in_ok-move_hands.ensures.moved c.in_ok-move_hands.ensures.goes_on.asks.ready
 
 pub returns-in_err-move_hands-clause-stops : goal.returns-in_err-move_hands-clause-stops
 returns-in_err-move_hands-clause-stops g c =

@@ -18,7 +18,7 @@ pub returns-clause-steady : goal.returns-clause-steady
 returns-clause-steady g c =
     swapper_steady c.args.m.now c.turn.new.m (g.F.Files.holds c.args.files.now) (stores g.F.Files g.D.SwapDev c.args.files.now c.args.swap.now)
     (stores g.F.Files g.D.SwapDev c.turn.new.files c.turn.new.swap)
-    c.in_ok-turn.field-0 c.requires.steady c.in_ok-turn.ensures.did c.in_ok-turn.ensures.goes_on
+    c.in_ok-turn.field-0 c.requires.steady c.in_ok-turn.ensures.did c.in_ok-turn.ensures.goes_on.asks.ready
 
 pub returns-in_err-turn-clause-stops : goal.returns-in_err-turn-clause-stops
 returns-in_err-turn-clause-stops g c =
