@@ -97,6 +97,7 @@ fn zero(m: &mut Machine, page: Page) -> Result<(), Stop>
     requires blank { is_blank (state_of m.old.kernel.place page) (filling_of m.old.kernel.place page) ≡ true }
     requires free { 0 < length m.old.kernel.place.free }
     ensures made { MatchResult result (λ u. PlainMade page m.old m.new) (PlainStop page m.old m.new) }
+    ensures rest { OnOk result (m.new ≡ record m.old { kernel = m.new.kernel; room = None }) }
     ensures cause { OnErr result ((result ≡ Err Stop.JournalFull) ⊎ (result ≡ Err Stop.NoMemory)) }
     ensures goes_on { OnOk result (CanGoOn m.new) }
 {
@@ -112,6 +113,7 @@ fn read(m: &mut Machine, page: Page) -> Result<(), Stop>
     requires free { 0 < length m.old.kernel.place.free }
     requires few { length m.old.kernel.place.transfers < 16 }
     ensures made { MatchResult result (λ u. PlainMade page m.old m.new) (PlainStop page m.old m.new) }
+    ensures rest { OnOk result (m.new ≡ record m.old { kernel = m.new.kernel; room = None }) }
     ensures cause { OnErr result ((result ≡ Err Stop.JournalFull) ⊎ (result ≡ Err Stop.NoMemory)) }
     ensures goes_on { OnOk result (CanGoOn m.new) }
 {
@@ -125,6 +127,7 @@ fn revive(m: &mut Machine, page: Page, frame: u32) -> Result<(), Stop>
     requires can { CanServe m.old.kernel.place page }
     requires invalid { state_of m.old.kernel.place page ≡ Invalid frame }
     ensures made { MatchResult result (λ u. PlainMade page m.old m.new) (PlainStop page m.old m.new) }
+    ensures rest { OnOk result (m.new ≡ record m.old { kernel = m.new.kernel; room = None }) }
     ensures cause { OnErr result ((result ≡ Err Stop.JournalFull) ⊎ (result ≡ Err Stop.NoMemory)) }
     ensures goes_on { OnOk result (CanGoOn m.new) }
 {
