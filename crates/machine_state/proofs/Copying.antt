@@ -108,7 +108,8 @@ module _ (t u v w : Tables) (token copy : Frame) (q parent : Page) (f : ℕ) (ot
   copying_took z =
       let page = slot_page (slot_at t.core.slots token.number) in
       let head : Head (lists_of t) token.number token page u.core.free = record { free = z.took.free; was = z.took.was } in
-      subst (Took (lists_of t) (taken_frame (lists_of t) token.number page u.core.free)) (sym (ap (λ (x : Frame). x.number) z.is)) (took_is (lists_of t) token.number token page u.core.free z.known head)
+      subst (Took (lists_of t) (taken_frame (lists_of t) token.number page u.core.free)) (sym (ap (λ (x : Frame). x.number) z.is))
+      (took_is (lists_of t) token.number token page u.core.free z.known head)
 
   copy_place : Copying → placement_of (lists_of w) ≡ filled (placement_of (lists_of t)) q
   copy_place z =
