@@ -1,7 +1,7 @@
 -- Laws of images, which the contracts of the calls pass on.
-use Rattle.std.proofs.Common.{◌≡◌, ◌+◌, ◌-◌, ◌*◌, ◌/◌, ◌%◌, ◌^◌, ◌<◌, ◌≤◌, ◌==◌, ◌&&◌, ◌||◌, if◌then◌else◌, ℕ, Bool, true, false, not, nat_lt, min, List, ◌++◌, length, take, drop, replicate, get_or, Option, Some, None, Ok, IsTrue, refl, sym, ap, ◌∙◌, arith, subst, inl, inr}
+use Rattle.std.proofs.Common.{◌≡◌, ◌+◌, ◌-◌, ◌*◌, ◌/◌, ◌%◌, ◌^◌, ◌<◌, ◌≤◌, ◌==◌, ◌&&◌, if◌then◌else◌, ℕ, Bool, true, false, not, nat_lt, min, List, ◌++◌, length, take, drop, replicate, get_or, Option, Some, None, Ok, IsTrue, refl, sym, ap, ◌∙◌, arith, subst, inl, inr}
 use Rattle.std.proofs.lemmas.List.{get_or-take, get_or-drop, get_or_append_left, get_or-append_right, get_or-replicate, same_lists, length-take, length-take-le, drop-take, take-take, length-drop, length-append, length-replicate}
-use Rattle.std.proofs.lemmas.Bool.{cases_lt, eq-eqb, le-ltb, lt-ltb}
+use Rattle.std.proofs.lemmas.Bool.{cases_lt, eq-eqb, le-ltb, lt-ltb, or_parts, or_from}
 use Rattle.std.proofs.lemmas.Bool.Decides.{nat_tests}
 use Rattle.aout_image.specs.declared.Kind.{Kind}
 use Rattle.aout_image.specs.declared.Kind.TheVariants.{Impure, Shared, Paged}
@@ -52,17 +52,12 @@ both_of true true true h t = (refl, refl)
 both_of true false y h t = cc
 both_of true true false h t = cc
 
-pub neither_of : (x y : Bool) → (x || y) ≡ false → (x ≡ false) × (y ≡ false)
-neither_of false false h = (refl, refl)
-neither_of true y h = cc
-neither_of false true h = cc
-
 sound_from : (image : Image) → is_ragged image ≡ false → is_too_large image ≡ false → starts_outside image ≡ false → IsSound image
 sound_from image ragged large outside = record {
   whole_text = λ paged. let h = (both_of (is_paged image.kind) (image.text_len % 1024 == 0) (image.data_len % 1024 == 0) ragged paged).0 in grind (arith, nat_tests);
   whole_data = λ paged. let h = (both_of (is_paged image.kind) (image.text_len % 1024 == 0) (image.data_len % 1024 == 0) ragged paged).1 in grind (arith, nat_tests);
-  text_fits = let h = (neither_of (nat_lt 2048 (text_pages_of image)) (nat_lt 4096 (image_data_pages image)) large).0 in grind (arith, nat_tests);
-  data_fits = let h = (neither_of (nat_lt 2048 (text_pages_of image)) (nat_lt 4096 (image_data_pages image)) large).1 in grind (arith, nat_tests);
+  text_fits = let h = (or_parts (nat_lt 2048 (text_pages_of image)) (nat_lt 4096 (image_data_pages image)) large).0 in grind (arith, nat_tests);
+  data_fits = let h = (or_parts (nat_lt 2048 (text_pages_of image)) (nat_lt 4096 (image_data_pages image)) large).1 in grind (arith, nat_tests);
   starts_inside = grind (arith, nat_tests);
 }
 
@@ -292,11 +287,6 @@ not_ragged true true true f g = refl
 not_ragged true false y f g = let h = f refl in cc
 not_ragged true true false f g = let h = g refl in cc
 
-neither : (x y : Bool) → x ≡ false → y ≡ false → (x || y) ≡ false
-neither false false h k = refl
-neither true y h k = cc
-neither false true h k = cc
-
 none_of_four : (a b c d : Bool) (image : Image) → a ≡ false → b ≡ false → c ≡ false → d ≡ false
     → (if a then NotImage 3 else (if b then NotImage 4 else (if c then NotImage 5 else (if d then NotImage 6 else Is image)))) ≡ Is image
 none_of_four a b c d image p q r s = rw (p, q, r, s) refl
@@ -307,7 +297,7 @@ judged_facts-sound image len sound whole =
     none_of_four (is_ragged image) (is_too_large image) (is_cut_short image len) (starts_outside image) image
     (not_ragged (is_paged image.kind) (image.text_len % 1024 == 0) (image.data_len % 1024 == 0)
     (λ paged. eq-eqb (image.text_len % 1024) 0 (sound.whole_text paged)) (λ paged. eq-eqb (image.data_len % 1024) 0 (sound.whole_data paged)))
-    (neither (nat_lt 2048 (text_pages_of image)) (nat_lt 4096 (image_data_pages image)) (le-ltb _ _ sound.text_fits) (le-ltb _ _ sound.data_fits))
+    (or_from (nat_lt 2048 (text_pages_of image)) (nat_lt 4096 (image_data_pages image)) (le-ltb _ _ sound.text_fits) (le-ltb _ _ sound.data_fits))
     (le-ltb _ _ whole)
     (grind (arith, nat_tests, sound.starts_inside))
 

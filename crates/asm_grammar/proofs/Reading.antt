@@ -1,9 +1,10 @@
 -- A text of the grammar is read as what it says.
 use Rattle.std.proofs.Common.{◌≡◌, ℕ, ◌+◌, ◌≤◌, Bool, true, false, List, [], ◌∷◌, ◌++◌, length, Some, refl, ◌∙◌, ap, arith}
-use Rattle.std.specs.Prelude.{◌==◌, ◌&&◌, nat_le}
+use Rattle.std.specs.Prelude.{◌==◌, nat_le}
 use Rattle.std.specs.List.{list_all}
 use Rattle.std.specs.Str.Parse.{digits_value}
 use Rattle.std.proofs.lemmas.Bool.Decides.{nat_tests}
+use Rattle.std.proofs.lemmas.Bool.{and_right}
 use Rattle.asm_grammar.specs.Text.{◌>>=◌, Text, behind}
 use Rattle.asm_grammar.specs.Numbers.{is_digit, held, numeral_of, numeral_at, is_hexadecimal, magnitude_at, signed, signed_at, number_at}
 use Rattle.asm_grammar.specs.Values.{is_label_start, is_word_byte, label_of_word, label_at, value_label_at, value_number_at, value_at}
@@ -42,16 +43,12 @@ no_x byte h = grind (arith, nat_tests)
 digit_no_x : (byte : ℕ) → is_digit 10 byte ≡ true → (byte == 120) ≡ false
 digit_no_x byte h = grind (arith, nat_tests)
 
-and_false : (a b : Bool) → b ≡ false → (a && b) ≡ false
-and_false true b e = e
-and_false false b e = refl
-
 -- a decimal numeral doesn't begin with `0x`
 decimal_text : (digit : ℕ) (digits rest : List ℕ) → list_all (is_digit 10) digits ≡ true → Ends rest → is_hexadecimal (digit ∷ (digits ++ rest)) ≡ false
 decimal_text digit [] [] all ends = refl
-decimal_text digit [] (byte ∷ rest) all ends = and_false (digit == 48) (byte == 120) (no_x byte ends)
+decimal_text digit [] (byte ∷ rest) all ends = and_right (digit == 48) (byte == 120) (no_x byte ends)
 decimal_text digit (next ∷ digits) rest all ends =
-    and_false (digit == 48) (next == 120) (digit_no_x next (both (is_digit 10 next) (list_all (is_digit 10) digits) all).0)
+    and_right (digit == 48) (next == 120) (digit_no_x next (both (is_digit 10 next) (list_all (is_digit 10) digits) all).0)
 
 magnitude_read : (m : List ℕ) (magnitude : ℕ) (rest : List ℕ) → IsMagnitude m magnitude → Ends rest → magnitude_at (m ++ rest) ≡ Some (magnitude, rest)
 unfolding magnitude_at

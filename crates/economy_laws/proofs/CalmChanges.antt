@@ -1,6 +1,6 @@
 -- A clean page stays so through the changes of processes, but where its text is given back.
 use Rattle.std.proofs.Common.{◌≡◌, ◌≢◌, ◌⊎◌, inl, inr, ℕ, zero, suc, ◌-◌, ◌<◌, ◌≤◌, Bool, true, false, List, [], ◌∷◌, ◌++◌, length, get_or, map, Option, Some, None, refl, sym, ap, ◌∙◌, subst, arith}
-use Rattle.std.proofs.lemmas.Bool.{cases_eq}
+use Rattle.std.proofs.lemmas.Bool.{cases_eq, or_parts}
 use Rattle.flat_state.specs.Flat.{FlatState}
 use Rattle.vm_facts.specs.declared.page.Page.{Page}
 use Rattle.vm_facts.specs.declared.page.Page.TheVariants.{Data, Stack, Text}
@@ -22,7 +22,6 @@ use Rattle.page_laws.proofs.Due.Changes.{leave_all_other}
 use Rattle.run_laws.proofs.Sizes.{leave_text_sharers}
 use Rattle.economy_laws.proofs.Calm.{is_going, CalmSlot, Calm, put_calm, is_text}
 use Rattle.aout_image.specs.declared.Image.{Image}
-use Rattle.aout_image.proofs.Images.{neither_of}
 
 -- User writes.
 
@@ -55,7 +54,7 @@ Untouched qs w = (is_text w ≡ true) ⊎ (is_among w qs ≡ false)
 pub touch_all_calm : (qs : List Page) (p : Placement) (w : Page) → Untouched qs w → Calm p w → Calm (touch_all p qs) w
 touch_all_calm [] p w u c = c
 touch_all_calm (v ∷ qs) p w (inl t) c = touch_all_calm qs (touch p v) w (inl t) (touch_calm p v w (λ e. text_clean v (ap is_text (sym e) ∙ t)) c)
-touch_all_calm (v ∷ qs) p w (inr n) c = let k = neither_of (same_page w v) (is_among w qs) n in
+touch_all_calm (v ∷ qs) p w (inr n) c = let k = or_parts (same_page w v) (is_among w qs) n in
     touch_all_calm qs (touch p v) w (inr k.1) (touch_calm p v w (λ e. absurd (let z : true ≡ false = sym (same_page_self w) ∙ ap (same_page w) e ∙ k.0 in cc)) c)
 
 -- Pages that go.

@@ -1,7 +1,7 @@
 -- The records of the processes hold what they are to hold, once a process has come, has ended, or has passed its space.
 use Rattle.std.proofs.Common.{◌≡◌, ◌≢◌, inl, inr, ℕ, ◌+◌, ◌<◌, ◌≤◌, ◌==◌, Bool, true, false, List, Option, Some, None, refl, sym, ap, ◌∙◌, subst, arith}
 use Rattle.std.specs.List.{list_any}
-use Rattle.std.proofs.lemmas.Bool.{cases_eq}
+use Rattle.std.proofs.lemmas.Bool.{cases_eq, false_from_ne_true}
 use Rattle.std.proofs.lemmas.Option.{same_Some}
 use Rattle.proc_table.specs.declared.process.Proc.{Proc as Record}
 use Rattle.proc_table.specs.declared.process.Life.{Life as RecordLife}
@@ -25,15 +25,11 @@ alone_stands p q a b = record {
   holds = λ t. true_false p.borrowed t a.borrows;
 }
 
-none_by : (b : Bool) → (b ≡ true → ⊥) → b ≡ false
-none_by false h = refl
-none_by true h = absurd (h refl)
-
 pub zombie_alone : (ps : List Record) (next pid : ℕ) (p : Record) (status : ℕ) → AreRecords ps next → find pid ps ≡ Some p
     → p.state ≡ lives.Zombie status → IsAlone p
 zombie_alone ps next pid p status h f e = record {
   lends = λ n. ap (lends_to_by n) e;
-  borrows = none_by p.borrowed (λ t. subst HoldsBorrowed e (h.holds pid p f t));
+  borrows = false_from_ne_true p.borrowed (λ t. subst HoldsBorrowed e (h.holds pid p f t));
 }
 
 -- One more.

@@ -2,7 +2,7 @@
 use Rattle.std.proofs.Common.{◌≡◌, ◌≢◌, inl, inr, ℕ, zero, suc, ◌+◌, ◌-◌, ◌<◌, ◌≤◌, ◌==◌, Bool, true, false, not, ◌||◌, List, [], ◌∷◌, length, map, filter, Option, Some, None, refl, sym, ap, ◌∙◌, arith}
 use Rattle.std.specs.Prelude.{filter_map}
 use Rattle.std.specs.List.{range_with_len, list_any}
-use Rattle.std.proofs.lemmas.Bool.{cases_eq, ne_eqb}
+use Rattle.std.proofs.lemmas.Bool.{cases_eq, ne_eqb, or_right}
 use Rattle.std.proofs.lemmas.Option.{same_Some}
 use Rattle.vm_facts.proofs.Tests.{eq_self}
 use Rattle.proc_table.specs.declared.process.Proc.{Proc as Record}
@@ -158,17 +158,13 @@ pub lends_shown : (pid : ℕ) (l : RecordLife) → lends_life pid (life_shown l)
 lends_shown pid lives.New = refl
 lends_shown pid _ = refl
 
-or_so : (a b : Bool) → b ≡ true → (a || b) ≡ true
-or_so true b e = refl
-or_so false b e = e
-
 lender_there : (ps : List Proc) (pid k : ℕ) (q : Proc) → numbered pid_of k ps ≡ Some q → lends_life pid q.life ≡ true → has_lender ps pid ≡ true
 lender_there [] pid k q e l = none_some q e
 lender_there (p ∷ ps) pid k q e l = elim (cases_eq p.pid k) [
   | inl i ↦
       let is : p ≡ q = same_Some p q (sym (hit k p ps i) ∙ e) in
       ap (λ (b : Bool). b || has_lender ps pid) (ap (λ (x : Proc). lends_life pid x.life) is ∙ l)
-  | inr d ↦ or_so (lends_life pid p.life) (has_lender ps pid) (lender_there ps pid k q (sym (miss k p ps d) ∙ e) l)
+  | inr d ↦ or_right (lends_life pid p.life) (has_lender ps pid) (lender_there ps pid k q (sym (miss k p ps d) ∙ e) l)
 ]
 
 false_not : (b : Bool) → (b ≡ true → false ≡ true) → b ≡ false

@@ -2,7 +2,7 @@
 use Rattle.std.proofs.Common.{◌≡◌, ◌≢◌, ◌⊎◌, inl, inr, ℕ, ◌==◌, Bool, true, false, cond, ◌||◌, List, [], ◌∷◌, map, Option, Some, None, refl, sym, ap, ◌∙◌, subst, arith}
 use Rattle.std.specs.Prelude.{filter_map, ◌-◌}
 use Rattle.std.specs.List.{range_with_len, list_any}
-use Rattle.std.proofs.lemmas.Bool.{cases_eq, ne_eqb}
+use Rattle.std.proofs.lemmas.Bool.{cases_eq, ne_eqb, or_right}
 use Rattle.std.proofs.lemmas.Bool.Decides.{nat_tests}
 use Rattle.std.proofs.lemmas.Option.{same_Some}
 use Rattle.vm_facts.specs.declared.regs.Regs.{Regs}
@@ -47,10 +47,6 @@ shown_pid n ps p h = go (find n ps) refl h
 pub map_same : {A : Type 0} (xs : List A) → map (λ x. x) xs ≡ xs
 map_same [] = refl
 map_same (x ∷ xs) = ap (λ ys. x ∷ ys) (map_same xs)
-
-or_true : (a b : Bool) → b ≡ true → (a || b) ≡ true
-or_true true b h = refl
-or_true false b h = h
 
 -- Over any pids: what a change of one record makes of all that are shown, where `step` makes it of each.
 module _ {A : Type 0} (show : Option Record → Option A) (none : show None ≡ None) (step : A → A) (pid : ℕ) (old new : List Record) (others : (n : ℕ) → n ≢ pid → find n new ≡ find n old)
@@ -131,7 +127,7 @@ pub found_any : (f : Record → Bool) (ps : List Record) (n : ℕ) (p : Record) 
 found_any f [] n p e h = absurd cc
 found_any f (q ∷ qs) n p e h = elim (cases_eq q.pid n) [
   | inl i ↦ let same : q ≡ p = some_is q p (sym (find_hit n q qs i) ∙ e) in ap (λ (b : Bool). b || list_any f qs) (ap f same ∙ h)
-  | inr d ↦ or_true (f q) (list_any f qs) (found_any f qs n p (sym (find_miss n q qs d) ∙ e) h)
+  | inr d ↦ or_right (f q) (list_any f qs) (found_any f qs n p (sym (find_miss n q qs d) ∙ e) h)
 ]
 
 pub both_or_neither : (a b : Bool) → (a ≡ true → b ≡ true) → (b ≡ true → a ≡ true) → a ≡ b

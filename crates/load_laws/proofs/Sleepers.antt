@@ -2,7 +2,7 @@
 use Rattle.std.proofs.Common.{◌≡◌, ◌≢◌, ◌⊎◌, inl, inr, ℕ, ◌<◌, ◌==◌, Bool, true, false, cond, not, ◌&&◌, ◌||◌, List, [], ◌∷◌, ◌++◌, map, filter, find, Some, None, refl, sym, ap, ◌∙◌, subst, arith, eq-eqb}
 use Rattle.std.specs.Prelude.{if◌then◌else◌}
 use Rattle.std.proofs.lemmas.Bool.Decides.{nat_tests}
-use Rattle.std.proofs.lemmas.Bool.{eqb-true, and_parts}
+use Rattle.std.proofs.lemmas.Bool.{eqb-true, and_parts, or_left, or_right}
 use Rattle.flat_state.specs.Flat.{Process}
 use Rattle.flat_state.specs.Change.{replaced_by, replaced, is_zombie, is_zombie_child, without_parent, awake}
 use Rattle.flat_state.specs.Numbers.{IsAbsent, AllDistinct, AllLower}
@@ -27,14 +27,6 @@ or_split : (a b : Bool) → (a || b) ≡ true → (a ≡ true) ⊎ (b ≡ true)
 or_split true b h = inl refl
 or_split false b h = inr h
 
-or_first : (a b : Bool) → a ≡ true → (a || b) ≡ true
-or_first true b h = refl
-or_first false b h = absurd cc
-
-or_second : (a b : Bool) → b ≡ true → (a || b) ≡ true
-or_second true b h = refl
-or_second false b h = h
-
 -- ---- who lives goes on to live
 
 -- the children of this process that live in one list live in another
@@ -46,8 +38,8 @@ goes_more pid [] q h = absurd cc
 goes_more pid (x ∷ xs) q h = go (goes_more pid xs q) (or_split (lives_for pid x) (has_live pid xs) h)
   where
     go : GoesOn pid xs (xs ++ q ∷ []) → (lives_for pid x ≡ true) ⊎ (has_live pid xs ≡ true) → (lives_for pid x || has_live pid (xs ++ q ∷ [])) ≡ true
-    go later (inl e) = or_first (lives_for pid x) (has_live pid (xs ++ q ∷ [])) e
-    go later (inr e) = or_second (lives_for pid x) (has_live pid (xs ++ q ∷ [])) (later e)
+    go later (inl e) = or_left (lives_for pid x) (has_live pid (xs ++ q ∷ [])) e
+    go later (inr e) = or_right (lives_for pid x) (has_live pid (xs ++ q ∷ [])) (later e)
 
 pub goes_replaced : (n pid : ℕ) (ps : List Process) (p q : Process) → find (λ r. r.pid == pid) ps ≡ Some p → q.pid ≡ p.pid
     → (lives_for n p ≡ true → lives_for n q ≡ true) → GoesOn n ps (replaced ps q)
@@ -60,16 +52,16 @@ goes_replaced n pid (x ∷ xs) p q f number live h = go (λ z. goes_replaced n p
     at b e k = ap (λ (c : Bool). has_live n (replaced_by c q x xs (replaced xs q))) e ∙ k
 
     here : x ≡ p → (lives_for n x ≡ true) ⊎ (has_live n xs ≡ true) → has_live n (replaced_by (x.pid == q.pid) q x xs (replaced xs q)) ≡ true
-    here same (inl e) = at true (eq-eqb x.pid q.pid (ap (λ (r : Process). r.pid) same ∙ sym number)) (or_first (lives_for n q) (has_live n xs) (live (sym (ap (lives_for n) same) ∙ e)))
-    here same (inr e) = at true (eq-eqb x.pid q.pid (ap (λ (r : Process). r.pid) same ∙ sym number)) (or_second (lives_for n q) (has_live n xs) e)
+    here same (inl e) = at true (eq-eqb x.pid q.pid (ap (λ (r : Process). r.pid) same ∙ sym number)) (or_left (lives_for n q) (has_live n xs) (live (sym (ap (lives_for n) same) ∙ e)))
+    here same (inr e) = at true (eq-eqb x.pid q.pid (ap (λ (r : Process). r.pid) same ∙ sym number)) (or_right (lives_for n q) (has_live n xs) e)
 
     apart : (x.pid == pid) ≡ false → p.pid ≡ pid → (x.pid == q.pid) ≡ false
     apart e k = ap (λ (m : ℕ). x.pid == m) (number ∙ k) ∙ e
 
     behind : (x.pid == pid) ≡ false → p.pid ≡ pid → GoesOn n xs (replaced xs q) → (lives_for n x ≡ true) ⊎ (has_live n xs ≡ true)
         → has_live n (replaced_by (x.pid == q.pid) q x xs (replaced xs q)) ≡ true
-    behind e k later (inl z) = at false (apart e k) (or_first (lives_for n x) (has_live n (replaced xs q)) z)
-    behind e k later (inr z) = at false (apart e k) (or_second (lives_for n x) (has_live n (replaced xs q)) (later z))
+    behind e k later (inl z) = at false (apart e k) (or_left (lives_for n x) (has_live n (replaced xs q)) z)
+    behind e k later (inr z) = at false (apart e k) (or_right (lives_for n x) (has_live n (replaced xs q)) (later z))
 
     go : (find (λ r. r.pid == pid) xs ≡ Some p → GoesOn n xs (replaced xs q)) → (b : Bool) → (x.pid == pid) ≡ b
         → cond b (Some x) (find (λ r. r.pid == pid) xs) ≡ Some p
@@ -86,8 +78,8 @@ goes_sifted n (x ∷ xs) test out h = go (goes_sifted n xs test out.1) (test x) 
   where
     go : GoesOn n xs (filter test xs) → (b : Bool) → test x ≡ b → (lives_for n x ≡ true) ⊎ (has_live n xs ≡ true)
         → has_live n (cond b (x ∷ filter test xs) (filter test xs)) ≡ true
-    go later true e (inl z) = or_first (lives_for n x) (has_live n (filter test xs)) z
-    go later true e (inr z) = or_second (lives_for n x) (has_live n (filter test xs)) (later z)
+    go later true e (inl z) = or_left (lives_for n x) (has_live n (filter test xs)) z
+    go later true e (inr z) = or_right (lives_for n x) (has_live n (filter test xs)) (later z)
     go later false e (inl z) = absurd (live_no_zombie n x z (out.0 e))
     go later false e (inr z) = later z
 
@@ -97,8 +89,8 @@ goes_mapped n [] g keeps h = h
 goes_mapped n (x ∷ xs) g keeps h = go (goes_mapped n xs g keeps) (or_split (lives_for n x) (has_live n xs) h)
   where
     go : GoesOn n xs (map g xs) → (lives_for n x ≡ true) ⊎ (has_live n xs ≡ true) → (lives_for n (g x) || has_live n (map g xs)) ≡ true
-    go later (inl e) = or_first (lives_for n (g x)) (has_live n (map g xs)) (keeps x e)
-    go later (inr e) = or_second (lives_for n (g x)) (has_live n (map g xs)) (later e)
+    go later (inl e) = or_left (lives_for n (g x)) (has_live n (map g xs)) (keeps x e)
+    go later (inr e) = or_right (lives_for n (g x)) (has_live n (map g xs)) (later e)
 
 -- a child of another process has no other parent once a process parts from its children
 pub live_parted : (n pid : ℕ) (p : Process) → n ≢ pid → lives_for n p ≡ true → lives_for n (without_parent pid p) ≡ true

@@ -1,5 +1,5 @@
 -- How many pages of a cache pass a test, and what a page that leaves takes away.
-use Rattle.std.proofs.Common.{◌≡◌, ℕ, ◌+◌, ◌≤◌, Bool, true, false, cond, List, [], ◌∷◌, length, Some, None, refl, sym, ap, arith, inl, inr, ◌⊎◌}
+use Rattle.std.proofs.Common.{◌≡◌, ℕ, ◌+◌, ◌≤◌, Bool, true, false, cond, List, [], ◌∷◌, length, refl, sym, ap, arith, inl, inr, ◌⊎◌}
 use Rattle.std.specs.Prelude.{◌==◌, ◌||◌}
 use Rattle.std.proofs.lemmas.Bool.{cases_eq, cases_Bool, eq-eqb, ne_eqb, eqb-true, false≢true, or_cases, or_left, or_right, or_parts}
 use Rattle.page_opt.specs.Plans.{has}
@@ -9,10 +9,6 @@ use Rattle.page_opt.specs.Cache.{bit, tally, count_in}
 -- how many pages of the cache are among some references
 abbrev pub count : List ℕ → List ℕ → ℕ
 count xs = tally (λ q. has q xs)
-
-pub cond_some : {X : Type 0} (b : Bool) (x y : X) → cond b (Some x) None ≡ Some y → (b ≡ true) × (x ≡ y)
-cond_some true x y e = (refl, cc)
-cond_some false x y e = cc
 
 pub bit_le : (b : Bool) → bit b ≤ 1
 bit_le true = omega arith

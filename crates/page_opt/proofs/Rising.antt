@@ -2,9 +2,9 @@
 use Rattle.std.proofs.Common.{◌≡◌, ℕ, ◌+◌, ◌<◌, ◌≤◌, Bool, true, false, List, [], ◌∷◌, length, drop, Option, Some, None, refl, sym, ap, ◌∙◌, subst, arith, inl, inr, ◌⊎◌}
 use Rattle.std.specs.Prelude.{◌==◌, is_some}
 use Rattle.std.proofs.lemmas.Bool.{eqb-true, false≢true}
+use Rattle.std.proofs.lemmas.Option.{cond_some}
 use Rattle.page_opt.specs.declared.Victim.{Victim}
 use Rattle.page_opt.specs.Plans.{Run, has, due, left, entered, then, served, serve, runs, all_left, faults_of, plan_faults, IsPlan, Rises}
-use Rattle.page_opt.proofs.Counts.{cond_some}
 use Rattle.page_opt.proofs.Served.{with_page, entered_gives, left_gives, runs_none}
 
 rises_sooner : (from later end : ℕ) (vs : List Victim) → from ≤ later → Rises later vs end → Rises from vs end

@@ -1,10 +1,11 @@
 -- What a reference does to a run of any plan.
 use Rattle.std.proofs.Common.{◌≡◌, ℕ, ◌+◌, ◌<◌, ◌≤◌, Bool, true, false, nat_lt, List, [], ◌∷◌, length, drop, Option, Some, None, refl, sym, ap, subst, arith, inl, inr, ◌⊎◌}
 use Rattle.std.proofs.lemmas.Bool.{ltb-true}
+use Rattle.std.proofs.lemmas.Option.{cond_some}
 use Rattle.page_opt.specs.Plans.{Run, has, due, entered, left, then, served, serve, runs}
 use Rattle.vm_facts.specs.Lists.{without_first}
 use Rattle.page_opt.specs.Cache.{bit, count_in}
-use Rattle.page_opt.proofs.Counts.{count, cond_some, tally_le, has_times, hasnt_times, tally-without}
+use Rattle.page_opt.proofs.Counts.{count, tally_le, has_times, hasnt_times, tally-without}
 
 -- a hit
 pub record Hit (p : ℕ) (c d : Run) : Type 0 where

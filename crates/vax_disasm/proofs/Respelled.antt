@@ -6,6 +6,7 @@ use Rattle.std.proofs.Math.Nat.{mod-eq_of_lt}
 use Rattle.std.proofs.lemmas.Nat.{le_bytes_2, le_bytes_4}
 use Rattle.std.proofs.lemmas.List.{length-take-le, take-append-drop}
 use Rattle.std.proofs.lemmas.Bool.Decides.{nat_tests}
+use Rattle.std.proofs.lemmas.Bool.{or_parts}
 use Rattle.vax_code.specs.declared.table.Slot.{Slot}
 use Rattle.vax_code.specs.declared.table.Row.{Row}
 use Rattle.vax_code.specs.Table.{row_for, slot_in}
@@ -438,17 +439,13 @@ literal_back slot mode reg bytes rest written low small e =
       is_good = good_plain (16 * mode + reg) (omega arith);
     })
 
-either_false : (a b : Bool) → (a || b) ≡ false → (a ≡ false) × (b ≡ false)
-either_false true b e = absurd (cc)
-either_false false b e = (refl, e)
-
 register_back : (slot : Slot) (reg : ℕ) (bytes rest : List ℕ) (written : Written) → reg < 16
     → (if (reg == 15) || is_address slot.access then None else got (writtens.Register reg) bytes) ≡ Some (written, rest)
     → WrittenBack (specifier 5 reg ∷ bytes) rest (specifier_bytes [] slot written) (GoodSpecifier written)
 unfolding specifier_bytes
 register_back slot reg bytes rest written small e =
     let p = some_unless ((reg == 15) || is_address slot.access) (got (writtens.Register reg) bytes) (written, rest) e in
-    let tests = either_false (reg == 15) (is_address slot.access) p.0 in
+    let tests = or_parts (reg == 15) (is_address slot.access) p.0 in
     let same : (writtens.Register reg, bytes) ≡ (written, rest) = some_same _ _ p.1 in
     let less : reg < 15 = (let c = is_not reg 15 tests.0 in omega (arith, small, c)) in
     written_as (specifier 5 reg ∷ bytes) rest (specifier_bytes [] slot) GoodSpecifier (writtens.Register reg) written (ap (λ (x : Written × List ℕ). x.0) same) (record {

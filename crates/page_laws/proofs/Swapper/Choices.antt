@@ -1,7 +1,7 @@
 -- The swapper chooses as is said of it.
 use Rattle.std.proofs.Common.{◌≡◌, ◌⊎◌, inl, inr, ℕ, zero, suc, ◌+◌, ◌<◌, ◌≤◌, ◌==◌, nat_lt, nat_le, Bool, true, false, not, ◌&&◌, ◌||◌, cond, List, [], ◌∷◌, length, take, filter, Option, Some, None, refl, sym, ap, ◌∙◌, subst, arith}
 use Rattle.std.proofs.lemmas.Bool.Decides.{nat_tests}
-use Rattle.std.proofs.lemmas.Bool.{leb-true, not-true, and_parts}
+use Rattle.std.proofs.lemmas.Bool.{leb-true, not-true, and_parts, not_from_false}
 use Rattle.page_model.specs.Placement.{Placement}
 use Rattle.page_model.specs.Runs.{desired_free}
 use Rattle.page_model.specs.Swapper.{Runner, Choice, In, Out, Nothing, is_out, since, size_in_frames, is_longer, longest_of, longest, is_larger, ranked_in, ranked, may_come_in, may_go_out, sleepers, brings, puts_out, out_of, choice_of_out, choice_by, swap_choice}
@@ -94,18 +94,14 @@ longest_none p (x ∷ xs) y e o = none_some (longest_of p x xs) (sym e)
 
 -- Those that may come in, or go out.
 
-not_false : (b : Bool) → b ≡ false → not b ≡ true
-not_false true e = absurd cc
-not_false false e = refl
-
 may_from : (p : Placement) (x : Runner) → is_out p x.pid ≡ true → x.asleep ≡ false → may_come_in p x ≡ true
-may_from p x a b = ap (λ (c : Bool). c && not x.asleep) a ∙ not_false x.asleep b
+may_from p x a b = ap (λ (c : Bool). c && not x.asleep) a ∙ not_from_false x.asleep b
 
 may_parts : (p : Placement) (x : Runner) → may_go_out p x ≡ true → MayGo p x
 may_parts p x e = let k = and_parts (not (is_out p x.pid)) (not x.borrowed) e in record { resident = not-true (is_out p x.pid) k.0; own = not-true x.borrowed k.1 }
 
 parts_may : (p : Placement) (x : Runner) → MayGo p x → may_go_out p x ≡ true
-parts_may p x m = ap (λ (c : Bool). c && not x.borrowed) (not_false (is_out p x.pid) m.resident) ∙ not_false x.borrowed m.own
+parts_may p x m = ap (λ (c : Bool). c && not x.borrowed) (not_from_false (is_out p x.pid) m.resident) ∙ not_from_false x.borrowed m.own
 
 few_is : (a b : ℕ) → nat_le a b ≡ false → b < a
 few_is a b e = grind (arith, nat_tests)
