@@ -26,10 +26,10 @@ finish-requires-clause-some g c =
     came_to _ c.in-Some.served _ q old next holds i h c.in-Some.is c.in-Asleep.is c.in-Ok.ensures.made in
     subst (λ (s : Standing). 0 < length s.kernel.place.transfers) (sym waits.0.machine) (flying_some old.kernel.place q c.requires.asks.ready.running.sound.owner.frames waits.1.1)
 
-pub returns-in-None-clause-made : goal.returns-in-None-clause-made
-returns-in-None-clause-made g c =
+pub returns-in_default-clause-made : goal.returns-in_default-clause-made
+returns-in_default-clause-made g c =
     any_further c.args.locked.now c.args.page c.args.m.now c.serve_unit.new.m (g.F.Files.holds c.args.files.now) (stores g.F.Files g.D.SwapDev c.args.files.now c.args.swap.now)
-    (stores g.F.Files g.D.SwapDev c.serve_unit.new.files c.serve_unit.new.swap) _ c.in-None.is c.in-Ok.ensures.made c.requires.can
+    (stores g.F.Files g.D.SwapDev c.serve_unit.new.files c.serve_unit.new.swap) _ c.in_default.is c.in-Ok.ensures.made c.requires.can
 
 pub returns-in-Ok-finish-clause-made : goal.returns-in-Ok-finish-clause-made
 returns-in-Ok-finish-clause-made g c =
