@@ -1,5 +1,5 @@
 -- A frame that is forced serves a page that needs one.
-use Rattle.std.proofs.Common.{◌≡◌, ℕ, true, List, [], ◌∷◌, length, Option, None, ap, ◌∙◌, subst, arith}
+use Rattle.std.proofs.Common.{◌≡◌, ℕ, true, List, [], ◌∷◌, length, Option, Some, None, ap, ◌∙◌, subst, arith}
 use Rattle.vm_facts.specs.SwapImages.{SwapImage}
 use Rattle.vm_facts.specs.declared.page.Page.{Page}
 use Rattle.vm_facts.specs.declared.stop.Stop.{Stop}
@@ -16,8 +16,9 @@ use Rattle.machine_state.specs.Done.{KeepsThrough}
 use Rattle.clock_hands.specs.Forced.{Forced, StopsForcing}
 use Rattle.fault_fill.specs.Serving.{StopsServing}
 use Rattle.fault_fill.specs.Units.{NoneMade, NeedsFrame, ComesTo, Further}
-use Rattle.fault_fill.specs.declared.unit.Unit.{Unit as Came}
-use Rattle.fault_fill.specs.declared.unit.Unit.TheVariants as units
+use Rattle.fault_fill.specs.declared.served.Served.{Served}
+use Rattle.fault_fill.specs.declared.served.Served.TheVariants as served
+use Rattle.fault_fill.proofs.Leading.{came_to}
 use Rattle.fault_fill.proofs.Serving.{unit_forces, forces_serve, forces_some}
 
 -- a page that has no frame still has none after units that force one
@@ -28,10 +29,11 @@ still_frameless (e ∷ us) p r locked q o n h =
     let s : Stays p (force p locked) = force_stays p locked o in
     still_frameless us (force p locked) r locked q (force_owner p locked o) (s.frames q ∙ n) h.2
 
-pub room_further : (locked : List Page) (q : Page) (old next new : Standing) (holds later : Option (List NamedFile)) (i h j : Option SwapImage) (came : Came)
-    → came ≡ units.Starves → ComesTo came q old next holds i h → later ≡ holds → OwnsFrames old.kernel.place → Forced locked next new later h j
+pub room_further : (locked : List Page) (q : Page) (old next new : Standing) (holds later : Option (List NamedFile)) (i h j : Option SwapImage)
+    (came : Option Served) (answer : Served)
+    → came ≡ Some answer → answer ≡ served.NoFrame → ComesTo came q old next holds i h → later ≡ holds → OwnsFrames old.kernel.place → Forced locked next new later h j
     → KeepsThrough next new later h j → Further locked q old new holds i j
-room_further locked q old next new holds later i h j came is made e o f keeps = record {
+room_further locked q old next new holds later i h j came answer is same made e o f keeps = record {
   serves = record {
     units = d.units;
     leads = forces_serve d.units old.kernel.place new.kernel.place locked q o n.1.frameless d.forces;
@@ -43,7 +45,7 @@ room_further locked q old next new holds later i h j came is made e o f keeps = 
 }
   where
     n : NoneMade old next i h × NeedsFrame old.kernel.place q
-    n = subst (λ (x : Came). ComesTo x q old next holds i h) is made
+    n = came_to came answer served.NoFrame q old next holds i h is same made
 
     d : Forced locked old new holds i j
     d =
@@ -56,10 +58,10 @@ room_further locked q old next new holds later i h j came is made e o f keeps = 
         (subst (λ (x : Option SwapImage). KeepsThrough next new holds x j) n.0.image (subst (λ (x : Option (List NamedFile)). KeepsThrough next new x h j) e keeps))
 
 pub room_stops : (locked : List Page) (q : Page) (old next new : Standing) (holds later : Option (List NamedFile)) (i h j : Option SwapImage)
-    (stop : Stop) (came : Came)
-    → came ≡ units.Starves → ComesTo came q old next holds i h → later ≡ holds → OwnsFrames old.kernel.place → StopsForcing locked next stop new later h j
+    (stop : Stop) (came : Option Served) (answer : Served)
+    → came ≡ Some answer → answer ≡ served.NoFrame → ComesTo came q old next holds i h → later ≡ holds → OwnsFrames old.kernel.place → StopsForcing locked next stop new later h j
     → StopsServing true locked q old new holds i j stop
-room_stops locked q old next new holds later i h j stop came is made e o f = record {
+room_stops locked q old next new holds later i h j stop came answer is same made e o f = record {
   units = d.units;
   at = d.at;
   image = d.image;
@@ -75,7 +77,7 @@ room_stops locked q old next new holds later i h j stop came is made e o f = rec
 }
   where
     n : NoneMade old next i h × NeedsFrame old.kernel.place q
-    n = subst (λ (x : Came). ComesTo x q old next holds i h) is made
+    n = came_to came answer served.NoFrame q old next holds i h is same made
 
     d : StopsForcing locked old stop new holds i j
     d =

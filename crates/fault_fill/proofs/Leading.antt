@@ -30,11 +30,10 @@ use Rattle.clock_hands.proofs.PagingUnitsUnits.{served_place, unit_journal, made
 use Rattle.clock_hands.proofs.Keeping.{made_shaped, keeps_flat, keeps_both}
 use Rattle.clock_hands.proofs.Units.{made_on}
 use Rattle.fault_fill.specs.Serving.{CanServe, UnitMade, UnitStops, ServesTo, StopsServing}
-use Rattle.fault_fill.specs.Units.{AnyUnit, PlainMade, PlainStop, EndMade, EndStops, NoneMade, ComesTo, is_flying, Further}
+use Rattle.fault_fill.specs.Units.{AnyUnit, PlainMade, PlainStop, EndMade, EndStops, NoneMade, IsAnswer, ComesTo, Further}
 use Rattle.fault_fill.specs.Answers.{ServesAs, ServesNow}
-use Rattle.fault_fill.specs.declared.pages.PageServed.{PageServed}
-use Rattle.fault_fill.specs.declared.unit.Unit.{Unit as Came}
-use Rattle.fault_fill.specs.declared.unit.Unit.TheVariants as units
+use Rattle.fault_fill.specs.declared.served.Served.{Served}
+use Rattle.fault_fill.specs.declared.served.Served.TheVariants as served
 use Rattle.fault_fill.proofs.Serving.{serves_append, Behind, served_behind, near, near_falls, calm_unit, unit_waits}
 
 pub match_map : {A E : Type 0} (P Q : A → Type 0) (R S : E → Type 0) (r : Result A E) → ((x : A) → P x → Q x) → ((e : E) → R e → S e)
@@ -145,6 +144,16 @@ one_serves now locked q old new holds before after c u = record {
   keeps = u.keeps;
 }
 
+-- none of them
+serves_none : (now : Bool) (locked : List Page) (q : Page) (old : Standing) (holds : Option (List NamedFile)) (i : Option SwapImage)
+    → ServesTo now locked q old old holds i i
+serves_none now locked q old holds i = record {
+  units = [];
+  leads = refl;
+  makes = record { made = (refl, refl); beside = record { params = refl; images = refl; before = refl } };
+  keeps = λ images flat are fit told. told;
+}
+
 pub both_serve : (now : Bool) (locked : List Page) (q : Page) (old next new : Standing) (holds later : Option (List NamedFile)) (a b c : Option SwapImage)
     → later ≡ holds
     → ServesTo now locked q old next holds a b → ServesTo now locked q next new later b c → ServesTo now locked q old new holds a c
@@ -192,7 +201,7 @@ unit_nearer q old new holds before after o c u =
     (sym (served_place (ground old holds []) q false u.entry old.kernel new.kernel before u.next u.made))
     (near_falls old.kernel.place q u.entry o c.there u.next)
 
-pub served_later : (answer : PageServed) (q : Page) (old next new : Standing) (holds later : Option (List NamedFile)) (a b c : Option SwapImage) → later ≡ holds
+pub served_later : (answer : Served) (q : Page) (old next new : Standing) (holds later : Option (List NamedFile)) (a b c : Option SwapImage) → later ≡ holds
     → ServesTo false [] q old next holds a b → ServesAs answer q next new later b c → ServesAs answer q old new holds a c
 served_later answer q old next new holds later a b c e s t = (both_serve false [] q old next new holds later a b c e s t.0, t.1)
 
@@ -218,14 +227,28 @@ unit_further locked q old new holds before after c u z = record {
 }
 
 pub any_further : (locked : List Page) (q : Page) (old new : Standing) (holds : Option (List NamedFile)) (before after : Option SwapImage)
-    (came : Came) → came ≡ units.Nearer → ComesTo came q old new holds before after → CanServe old.kernel.place q → Further locked q old new holds before after
+    (came : Option Served) → came ≡ None → ComesTo came q old new holds before after → CanServe old.kernel.place q → Further locked q old new holds before after
 any_further locked q old new holds before after came is made c =
-    let any : AnyUnit q old new holds before after = subst (λ (x : Came). ComesTo x q old new holds before after) is made in
+    let any : AnyUnit q old new holds before after = subst (λ (x : Option Served). ComesTo x q old new holds before after) is made in
     let u : UnitMade true locked q old new holds before after = any true locked in
     let v : UnitMade false locked q old new holds before after = any false locked in
     let same : v.entry ≡ u.entry = (unit_is old.kernel.place q false v.entry v.next).1 ∙ sym (unit_is old.kernel.place q true u.entry u.next).1 in
     unit_further locked q old new holds before after c u
     (subst (λ (e : Entry). last_moves (append old.kernel.journal e) ≡ 0) same (calm_unit old.kernel.place q v.entry old.kernel.journal v.next))
+
+-- Where no unit was made.
+
+pub came_to : (came : Option Served) (answer what : Served) (q : Page) (old new : Standing) (holds : Option (List NamedFile)) (i j : Option SwapImage)
+    → came ≡ Some answer → answer ≡ what → ComesTo came q old new holds i j → NoneMade old new i j × IsAnswer what old.kernel.place q
+came_to came answer what q old new holds i j is same made =
+    subst (λ (a : Served). NoneMade old new i j × IsAnswer a old.kernel.place q) same (subst (λ (x : Option Served). ComesTo x q old new holds i j) is made)
+
+pub none_serves : (came : Option Served) (answer : Served) (q : Page) (old new : Standing) (holds : Option (List NamedFile)) (i j : Option SwapImage)
+    → came ≡ Some answer → ComesTo came q old new holds i j → ServesAs answer q old new holds i j
+none_serves came answer q old new holds i j is made =
+    let n : NoneMade old new i j × IsAnswer answer old.kernel.place q = came_to came answer answer q old new holds i j is refl made in
+    subst (λ (s : Standing). ServesAs answer q old s holds i j) (sym n.0.machine)
+    (subst (λ (x : Option SwapImage). ServesAs answer q old old holds i x) (sym n.0.image) (serves_none false [] q old holds i, n.1))
 
 -- nothing was done before
 pub end_same : (old next new : Standing) (holds later : Option (List NamedFile)) (i h j : Option SwapImage) → NoneMade old next i h → later ≡ holds
@@ -239,23 +262,24 @@ pub stop_same : (old next new : Standing) (i h j : Option SwapImage) (stop : Sto
 stop_same old next new i h j stop n m =
     subst (λ (s : Standing). EndStops s new i j stop) n.machine (subst (λ (x : Option SwapImage). EndStops next new x j stop) n.image m)
 
-pub end_further : (locked : List Page) (q : Page) (old next new : Standing) (holds later : Option (List NamedFile)) (i h j : Option SwapImage) (came : Came)
-    → came ≡ units.Waits → ComesTo came q old next holds i h → later ≡ holds → CanServe old.kernel.place q → EndMade next new later h j
+pub end_further : (locked : List Page) (q : Page) (old next new : Standing) (holds later : Option (List NamedFile)) (i h j : Option SwapImage)
+    (came : Option Served) (answer : Served) (r : Page)
+    → came ≡ Some answer → answer ≡ served.Asleep r → ComesTo came q old next holds i h → later ≡ holds → CanServe old.kernel.place q → EndMade next new later h j
     → Further locked q old new holds i j
-end_further locked q old next new holds later i h j came is made e c m =
+end_further locked q old next new holds later i h j came answer r is same made e c m =
     unit_further locked q old new holds i j c
-    (record { entry = entries.Done; next = unit_waits old.kernel.place q w.1; made = d.done; told = d.told; rest = d.rest; keeps = d.keeps })
+    (record { entry = entries.Done; next = unit_waits old.kernel.place q w.1.1; made = d.done; told = d.told; rest = d.rest; keeps = d.keeps })
     (last_done old.kernel.journal)
   where
-    w : NoneMade old next i h × (is_flying (state_of old.kernel.place q) ≡ true)
-    w = subst (λ (x : Came). ComesTo x q old next holds i h) is made
+    w : NoneMade old next i h × IsAnswer (served.Asleep r) old.kernel.place q
+    w = came_to came answer (served.Asleep r) q old next holds i h is same made
 
     d : EndMade old new holds i j
     d = end_same old next new holds later i h j w.0 e m
 
 pub end_stops_now : (locked : List Page) (q : Page) (old next new : Standing) (holds : Option (List NamedFile)) (i h j : Option SwapImage)
-    (stop : Stop) (came : Came)
-    → came ≡ units.Waits → ComesTo came q old next holds i h → EndStops next new h j stop → StopsServing true locked q old new holds i j stop
-end_stops_now locked q old next new holds i h j stop came is made m =
-    let w : NoneMade old next i h × (is_flying (state_of old.kernel.place q) ≡ true) = subst (λ (x : Came). ComesTo x q old next holds i h) is made in
-    stops_here true locked q old new holds i j stop (end_stops true q old new i j stop (unit_waits old.kernel.place q w.1) (stop_same old next new i h j stop w.0 m))
+    (stop : Stop) (came : Option Served) (answer : Served) (r : Page)
+    → came ≡ Some answer → answer ≡ served.Asleep r → ComesTo came q old next holds i h → EndStops next new h j stop → StopsServing true locked q old new holds i j stop
+end_stops_now locked q old next new holds i h j stop came answer r is same made m =
+    let w : NoneMade old next i h × IsAnswer (served.Asleep r) old.kernel.place q = came_to came answer (served.Asleep r) q old next holds i h is same made in
+    stops_here true locked q old new holds i j stop (end_stops true q old new i j stop (unit_waits old.kernel.place q w.1.1) (stop_same old next new i h j stop w.0 m))

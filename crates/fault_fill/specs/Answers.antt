@@ -8,15 +8,8 @@ use Rattle.page_model.specs.Placement.{Placement, state_of}
 use Rattle.clock_hands.specs.Spans.{takings}
 use Rattle.machine_state.specs.Machine.{Standing}
 use Rattle.fault_fill.specs.Serving.{ServesTo}
-use Rattle.fault_fill.specs.Units.{is_flying, NeedsFrame}
-use Rattle.fault_fill.specs.declared.pages.PageServed.{PageServed}
-use Rattle.fault_fill.specs.declared.pages.PageServed.TheVariants as page_served
-
--- the answer, by the page's state at the end: valid, in flight, or with no frame while none is free
-abbrev pub IsAnswer : PageServed → Placement → Page → Type 0
-IsAnswer page_served.Valid p q = is_valid (state_of p q) ≡ true
-IsAnswer (page_served.Asleep r) p q = (r ≡ q) × (is_flying (state_of p q) ≡ true)
-IsAnswer page_served.NoFrame p q = NeedsFrame p q
+use Rattle.fault_fill.specs.Units.{IsAnswer}
+use Rattle.fault_fill.specs.declared.served.Served.{Served}
 
 -- served so, and at most one unit takes frames for the page: a fill with zeros or a read
 pub record TakesOnce (now : Bool) (locked : List Page) (q : Page) (old new : Standing) (holds : Option (List NamedFile))
@@ -25,7 +18,7 @@ pub record TakesOnce (now : Bool) (locked : List Page) (q : Page) (old new : Sta
   pub takes : takings serves.units ≤ 1
 
 -- units of serving lead to where the answer is so
-abbrev pub ServesAs : PageServed → Page → Standing → Standing → Option (List NamedFile) → Option SwapImage → Option SwapImage → Type 0
+abbrev pub ServesAs : Served → Page → Standing → Standing → Option (List NamedFile) → Option SwapImage → Option SwapImage → Type 0
 ServesAs answer q old new holds before after = ServesTo false [] q old new holds before after × IsAnswer answer new.kernel.place q
 
 -- units of serving, for which waiting is allowed, lead to where the page is valid
@@ -33,7 +26,7 @@ abbrev pub ServesNow : List Page → Page → Standing → Standing → Option (
 ServesNow locked q old new holds before after = ServesTo true locked q old new holds before after × (is_valid (state_of new.kernel.place q) ≡ true)
 
 -- the page was served as far as that needs no waiting
-abbrev pub ServedAs : PageServed → Page → Standing → Standing → Option (List NamedFile) → Option SwapImage → Option SwapImage → Type 0
+abbrev pub ServedAs : Served → Page → Standing → Standing → Option (List NamedFile) → Option SwapImage → Option SwapImage → Type 0
 ServedAs answer q old new holds before after = TakesOnce false [] q old new holds before after × IsAnswer answer new.kernel.place q
 
 -- the page was served until it is valid

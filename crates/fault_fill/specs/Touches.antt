@@ -16,10 +16,8 @@ use Rattle.fault_fill.specs.Units.{NoneMade}
 use Rattle.fault_fill.specs.Growth.{Grown, GrowthRefused}
 use Rattle.fault_fill.specs.declared.access.Access.{Access}
 use Rattle.fault_fill.specs.declared.access.Access.TheVariants as accesses
-use Rattle.fault_fill.specs.declared.pages.PageServed.{PageServed}
-use Rattle.fault_fill.specs.declared.pages.PageServed.TheVariants as page_served
-use Rattle.fault_fill.specs.declared.touch.Served.{Served}
-use Rattle.fault_fill.specs.declared.touch.Served.TheVariants as served
+use Rattle.fault_fill.specs.declared.served.Served.{Served}
+use Rattle.fault_fill.specs.declared.served.Served.TheVariants as served
 
 -- The page of an access.
 
@@ -49,7 +47,7 @@ ReadyIf (Err answer) old new = Unit {0}
 -- Answers.
 
 -- the page was served, in few entries; other valid pages stay valid
-pub record PageComes (answer : PageServed) (q : Page) (old new : Standing) (holds : Option (List NamedFile)) (before after : Option SwapImage) : Type 0 where
+pub record TouchedAs (answer : Served) (q : Page) (old new : Standing) (holds : Option (List NamedFile)) (before after : Option SwapImage) : Type 0 where
   pub serves : ServedAs answer q old new holds before after
   pub few : IsShort q old new
   pub low : last_moves new.kernel.journal ≤ last_moves old.kernel.journal
@@ -62,15 +60,7 @@ pub record PageComesNow (locked : List Page) (q : Page) (old new : Standing) (ho
   pub low : last_moves new.kernel.journal ≤ last_moves old.kernel.journal
   pub spares : Spares old.kernel.place new.kernel.place locked
 
--- what the answer says of the page of an access
-abbrev pub TouchedAs : Served → Page → Standing → Standing → Option (List NamedFile) → Option SwapImage → Option SwapImage → Type 0
-TouchedAs served.Valid q old new holds before after = PageComes page_served.Valid q old new holds before after
-TouchedAs (served.Asleep r) q old new holds before after = PageComes (page_served.Asleep r) q old new holds before after
-TouchedAs served.NoFrame q old new holds before after = PageComes page_served.NoFrame q old new holds before after
-TouchedAs served.NoSpace q old new holds before after = ⊥
-TouchedAs (served.Signal signal) q old new holds before after = ⊥
-
--- and of one that is served until it is valid
+-- what the answer says of such a page
 abbrev pub TouchedNow : List Page → Served → Page → Standing → Standing → Option (List NamedFile) → Option SwapImage → Option SwapImage → Type 0
 TouchedNow locked served.Valid q old new holds before after = PageComesNow locked q old new holds before after
 TouchedNow locked _ q old new holds before after = ⊥

@@ -1,5 +1,5 @@
 -- What one unit of serving comes to, whether waiting is allowed or not.
-use Rattle.std.specs.Prelude.{◌≡◌, ℕ, ◌<◌, ◌≤◌, Bool, true, false, List, [], length, Option, None}
+use Rattle.std.specs.Prelude.{◌≡◌, ℕ, ◌<◌, ◌≤◌, Bool, true, false, List, [], length, Option, Some, None}
 use Rattle.vm_facts.specs.SwapImages.{SwapImage}
 use Rattle.vm_facts.specs.declared.page.Page.{Page}
 use Rattle.vm_facts.specs.declared.page.PageState.{PageState}
@@ -16,8 +16,8 @@ use Rattle.machine_state.specs.Settled.{IsSameBeside}
 use Rattle.clock_hands.specs.Stops.{StopsAt}
 use Rattle.clock_hands.specs.LastMoves.{last_moves}
 use Rattle.fault_fill.specs.Serving.{UnitMade, UnitStops, ServesTo}
-use Rattle.fault_fill.specs.declared.unit.Unit.{Unit as Came}
-use Rattle.fault_fill.specs.declared.unit.Unit.TheVariants as came
+use Rattle.fault_fill.specs.declared.served.Served.{Served}
+use Rattle.fault_fill.specs.declared.served.Served.TheVariants as served
 
 -- a read or a write of the page is in flight
 abbrev pub is_flying : PageState → Bool
@@ -64,12 +64,18 @@ pub record NoneMade (old new : Standing) (before after : Option SwapImage) : Typ
   pub machine : new ≡ old
   pub image : after ≡ before
 
--- by what it came to
-abbrev pub ComesTo : Came → Page → Standing → Standing → Option (List NamedFile) → Option SwapImage → Option SwapImage → Type 0
-ComesTo came.Served q old new holds before after = NoneMade old new before after × (is_valid (state_of old.kernel.place q) ≡ true)
-ComesTo came.Nearer q old new holds before after = AnyUnit q old new holds before after
-ComesTo came.Waits q old new holds before after = NoneMade old new before after × (is_flying (state_of old.kernel.place q) ≡ true)
-ComesTo came.Starves q old new holds before after = NoneMade old new before after × NeedsFrame old.kernel.place q
+-- the answer, by the page's state: valid, in flight, or with no frame while none is free; an access alone is answered otherwise
+abbrev pub IsAnswer : Served → Placement → Page → Type 0
+IsAnswer served.Valid p q = is_valid (state_of p q) ≡ true
+IsAnswer (served.Asleep r) p q = (r ≡ q) × (is_flying (state_of p q) ≡ true)
+IsAnswer served.NoFrame p q = NeedsFrame p q
+IsAnswer served.NoSpace p q = ⊥
+IsAnswer (served.Signal signal) p q = ⊥
+
+-- a unit was made, or nothing was done and this is the answer
+abbrev pub ComesTo : Option Served → Page → Standing → Standing → Option (List NamedFile) → Option SwapImage → Option SwapImage → Type 0
+ComesTo None q old new holds before after = AnyUnit q old new holds before after
+ComesTo (Some answer) q old new holds before after = NoneMade old new before after × IsAnswer answer old.kernel.place q
 
 -- Where a call that serves the page now came to: further, by some units, after which a last entry that counts moves of the
 -- hands counts few where no frame is free; or it did nothing, since the page is valid.

@@ -9,7 +9,8 @@ ghost use Rattle.clock_hands.specs.LastMoves.{last_moves};
 ghost use Rattle.fault_fill.specs.Serving.{CanServe, StopsServing};
 ghost use Rattle.fault_fill.specs.Answers.{ServedAs, ServedNow, IsShort, AllStayValid};
 
-use crate::pages::{PageServed, serve_now_on, serve_on};
+use crate::pages::{serve_now_on, serve_on};
+use crate::served::Served;
 use io_edge::{Files, SwapDev};
 use machine_state::Machine;
 use vm_facts::{Page, Stop};
@@ -21,7 +22,7 @@ pub fn serve_page<F: Files, D: SwapDev>(
     files: &mut F,
     swap: &mut D,
     page: Page,
-) -> Result<PageServed, Stop>
+) -> Result<Served, Stop>
     requires asks { Asks m.old (F.holds files.old) (D.blocks swap.old) }
     requires can { CanServe m.old.kernel.place page }
     ensures served { MatchResult result (λ answer. ServedAs answer page m.old m.new (F.holds files.old) (stores F.Files D.SwapDev files.old swap.old)

@@ -5,11 +5,12 @@
 mod access;
 mod calls;
 mod pages;
+mod served;
 mod touch;
 mod unit;
 
 pub use access::{Access, access_in};
 pub use calls::{serve_page, serve_page_now};
 pub use clock_hands;
-pub use pages::PageServed;
-pub use touch::{Served, serve, serve_now};
+pub use served::Served;
+pub use touch::{serve, serve_now};

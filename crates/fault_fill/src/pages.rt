@@ -9,22 +9,12 @@ ghost use Rattle.fault_fill.specs.Serving.{CanServe, StopsServing};
 ghost use Rattle.fault_fill.specs.Units.{GoesFurther};
 ghost use Rattle.fault_fill.specs.Answers.{ServesAs, ServesNow};
 
-use crate::unit::{Unit, finish, serve_unit};
+use crate::served::Served;
+use crate::unit::{finish, serve_unit};
 use clock_hands::make_room;
 use io_edge::{Files, SwapDev};
 use machine_state::Machine;
 use vm_facts::{Page, Stop};
-
-/// What serving a page comes to.
-#[derive(Clone, Copy, Debug, PartialEq, Eq, Drop)]
-pub enum PageServed {
-    /// The page is valid.
-    Valid,
-    /// A read or a write of the page is in flight.
-    Asleep(Page),
-    /// The page has no frame, and none is free.
-    NoFrame,
-}
 
 // Serves a page as far as that needs no waiting.
 pub(crate) fn serve_on<F: Files, D: SwapDev>(
@@ -32,7 +22,7 @@ pub(crate) fn serve_on<F: Files, D: SwapDev>(
     files: &mut F,
     swap: &mut D,
     page: Page,
-) -> Result<PageServed, Stop>
+) -> Result<Served, Stop>
     requires asks { Asks m.old (F.holds files.old) (D.blocks swap.old) }
     requires can { CanServe m.old.kernel.place page }
     ensures served { MatchResult result (λ answer. ServesAs answer page m.old m.new (F.holds files.old) (stores F.Files D.SwapDev files.old swap.old)
@@ -46,10 +36,8 @@ pub(crate) fn serve_on<F: Files, D: SwapDev>(
         Err(stop) => return Err(stop),
     };
     match unit {
-        Unit::Served => Ok(PageServed::Valid),
-        Unit::Nearer => serve_on(m, files, swap, page),
-        Unit::Waits => Ok(PageServed::Asleep(page)),
-        Unit::Starves => Ok(PageServed::NoFrame),
+        Some(served) => Ok(served),
+        None => serve_on(m, files, swap, page),
     }
 }
 
@@ -75,17 +63,20 @@ fn serve_further<F: Files, D: SwapDev>(
         Ok(unit) => unit,
         Err(stop) => return Err(stop),
     };
-    match unit {
-        Unit::Served => Ok(false),
-        Unit::Nearer => Ok(true),
-        Unit::Waits => match finish(m, files, swap) {
+    let Some(served) = unit else {
+        return Ok(true);
+    };
+    match served {
+        Served::Valid => Ok(false),
+        Served::Asleep(_) => match finish(m, files, swap) {
             Ok(()) => Ok(true),
             Err(stop) => Err(stop),
         },
-        Unit::Starves => match make_room(m, files, swap, locked) {
+        Served::NoFrame => match make_room(m, files, swap, locked) {
             Ok(()) => Ok(true),
             Err(stop) => Err(stop),
         },
+        Served::NoSpace | Served::Signal(_) => unreachable!(),
     }
 }
 

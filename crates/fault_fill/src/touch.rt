@@ -18,7 +18,7 @@ ghost use Rattle.fault_fill.specs.Touches.{Reaches, ReadyIf, TouchedAs, TouchedN
 
 use crate::access::{Access, access_in};
 use crate::calls::{serve_page, serve_page_now};
-use crate::pages::PageServed;
+use crate::served::Served;
 use flat_state::Change;
 use io_edge::{Files, SwapDev};
 use machine_state::{Machine, Want};
@@ -26,21 +26,6 @@ use proc_table::{Life, Proc};
 use space_map::SpaceMap;
 use swap_book::Owner;
 use vm_facts::{Entry, Page, Stop};
-
-/// What serving an access comes to.
-#[derive(Clone, Copy, Debug, PartialEq, Eq, Drop)]
-pub enum Served {
-    /// The page is valid, and the access is allowed.
-    Valid,
-    /// A read or a write of the page is in flight.
-    Asleep(Page),
-    /// The page must be filled, and no frame is free.
-    NoFrame,
-    /// The stack must grow, and its pieces find no place.
-    NoSpace,
-    /// The access is refused, and ends the process with this signal.
-    Signal(u8),
-}
 
 // The record of a process.
 fn process(m: &Machine, pid: u32) -> Proc
@@ -179,12 +164,7 @@ pub fn serve<F: Files, D: SwapDev>(
     ensures goes_on { GoesOn F.Files D.SwapDev result m.new files.old files.new swap.old swap.new }
 {
     match page_for(m, pid, address, write)? {
-        Ok(page) => match serve_page(m, files, swap, page) {
-            Ok(PageServed::Valid) => Ok(Served::Valid),
-            Ok(PageServed::Asleep(page)) => Ok(Served::Asleep(page)),
-            Ok(PageServed::NoFrame) => Ok(Served::NoFrame),
-            Err(stop) => Err(stop),
-        },
+        Ok(page) => serve_page(m, files, swap, page),
         Err(served) => Ok(served),
     }
 }

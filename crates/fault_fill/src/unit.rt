@@ -19,23 +19,12 @@ ghost use Rattle.fault_fill.specs.Homes.{IsHome};
 ghost use Rattle.fault_fill.specs.Serving.{CanServe};
 ghost use Rattle.fault_fill.specs.Units.{PlainMade, PlainStop, AnyUnit, AnyStop, EndMade, EndStops, ComesTo};
 
+use crate::served::Served;
 use clock_hands::kluster_io::pick_in;
 use io_edge::{Files, SwapDev};
 use machine_state::Machine;
 use space_map::SpaceMap;
 use vm_facts::{MOST_IN_FLIGHT, Page, PageState, Stop};
-
-// What a unit of serving a page comes to.
-pub(crate) enum Unit {
-    // The page is valid.
-    Served,
-    // One step nearer.
-    Nearer,
-    // It waits for a transfer of the page.
-    Waits,
-    // It waits for a free frame.
-    Starves,
-}
 
 // The space that has a page of its own, or the lowest one that shares the page's text.
 fn home_of(m: &Machine, page: Page) -> u32
@@ -177,13 +166,14 @@ fn fill<F: Files, D: SwapDev>(
     read(m, page)
 }
 
-// One unit of serving a page that needs no waiting.
+// One unit of serving a page that needs no waiting: none is answered then. Where there is no such unit nothing is done,
+// and the answer is what serving the page comes to.
 pub(crate) fn serve_unit<F: Files, D: SwapDev>(
     m: &mut Machine,
     files: &mut F,
     swap: &mut D,
     page: Page,
-) -> Result<Unit, Stop>
+) -> Result<Option<Served>, Stop>
     requires asks { Asks m.old (F.holds files.old) (D.blocks swap.old) }
     requires can { CanServe m.old.kernel.place page }
     ensures made { MatchResult result (λ u. ComesTo u page m.old m.new (F.holds files.old) (stores F.Files D.SwapDev files.old swap.old)
@@ -192,16 +182,18 @@ pub(crate) fn serve_unit<F: Files, D: SwapDev>(
     ensures goes_on { GoesOn F.Files D.SwapDev result m.new files.old files.new swap.old swap.new }
 {
     match m.state_of(page) {
-        Some(PageState::Valid(_)) => return Ok(Unit::Served),
+        Some(PageState::Valid(_)) => return Ok(Some(Served::Valid)),
         Some(PageState::Invalid(frame)) => revive(m, page, frame)?,
-        Some(PageState::Coming(_) | PageState::Going(_)) => return Ok(Unit::Waits),
+        Some(PageState::Coming(_) | PageState::Going(_)) => {
+            return Ok(Some(Served::Asleep(page)));
+        }
         Some(PageState::Unfilled | PageState::OnSwap) => {
             if m.free_frames() == 0 {
-                return Ok(Unit::Starves);
+                return Ok(Some(Served::NoFrame));
             }
             fill(m, files, swap, page)?;
         }
         None => unreachable!(),
     }
-    Ok(Unit::Nearer)
+    Ok(None)
 }

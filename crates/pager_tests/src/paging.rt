@@ -21,7 +21,7 @@ use aout_image::{Image, Kind};
 use io_edge::{Files, MemFiles, MemSink, MemSwap, Moved, SwapDev};
 use machine_state::{Machine, Named};
 use proc_calls::clock_hands::{make_room, move_hands};
-use proc_calls::fault_fill::{PageServed, serve_page, serve_page_now};
+use proc_calls::fault_fill::{Served, serve_page, serve_page_now};
 use run_text::write_text;
 use std::alloc::{AllocError, Global};
 use std::process::Abort;
@@ -317,7 +317,7 @@ fn begin_read(
 {
     see_served(rt, m, page);
     let came = serve_page(m, files, swap, page).expect(rt, "a read that begins");
-    assert!(rt; matches!(came, PageServed::Asleep(_)));
+    assert!(rt; matches!(came, Served::Asleep(_)));
 }
 
 // Begins the reads of the first pages of data, so many.

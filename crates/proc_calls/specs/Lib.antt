@@ -7,8 +7,7 @@ pub use Rattle.fault_fill.specs.Serving
 pub use Rattle.fault_fill.specs.Touches
 pub use Rattle.fault_fill.specs.Units
 pub use Rattle.fault_fill.specs.declared.access.Access as FaultFillAccessAccess
-pub use Rattle.fault_fill.specs.declared.pages.PageServed
-pub use Rattle.fault_fill.specs.declared.touch.Served as FaultFillTouchServed
+pub use Rattle.fault_fill.specs.declared.served.Served
 pub use Rattle.page_laws.specs.Spans
 pub use Rattle.vfork_pass.specs.Passed
 pub use Rattle.call_reads.specs.Reading

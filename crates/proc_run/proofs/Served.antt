@@ -18,8 +18,8 @@ use Rattle.step_units.specs.Growth.{access_by}
 use Rattle.step_units.specs.FaultFillAccessAccess.{Access}
 use Rattle.step_units.specs.FaultFillAccessAccess.TheVariants as accesses
 use Rattle.step_units.specs.Touches.{TouchedAs, TouchedNow, AccessComes, AccessStops}
-use Rattle.step_units.specs.FaultFillTouchServed.{Served}
-use Rattle.step_units.specs.FaultFillTouchServed.TheVariants as served
+use Rattle.step_units.specs.Served.{Served}
+use Rattle.step_units.specs.Served.TheVariants as served
 use Rattle.step_units.specs.Callers.{IsCaller}
 use Rattle.step_units.specs.ProcCallsLeaving.{HasEnded, StopsAlive}
 use Rattle.run_model.specs.State.{State}
@@ -146,7 +146,7 @@ ends_there : (now : Bool) (old new : Standing) (pid address : ℕ) (write : Bool
 ends_there true old new pid address write holds i j answer e h c =
     access_ends (λ came q from. TouchedNow h.pages came q from new holds i j) (access_by old.kernel pid address write) answer pid old new i j (λ q m number x. x) (λ q m x. x) e h.comes c
 ends_there false old new pid address write holds i j answer e h c =
-    access_ends (λ came q from. TouchedAs came q from new holds i j) (access_by old.kernel pid address write) answer pid old new i j (λ q m number x. x) (λ q m x. x) e h c
+    access_ends (λ came q from. TouchedAs came q from new holds i j) (access_by old.kernel pid address write) answer pid old new i j (λ q m number x. x.serves.1) (λ q m x. x.serves.1) e h c
 
 -- what serving leads to, where the process doesn't end
 pub advances_valid : (now : Bool) (A : Inputs) (s : State) (old mid : Standing) (holds : Option (List NamedFile)) (i j : Option SwapImage) (image : SwapImage)

@@ -11,7 +11,7 @@ use Rattle.machine_state.specs.Machine.{Standing}
 use Rattle.machine_state.specs.Conditions.{HasStopped}
 use Rattle.step_units.specs.Growth.{access_by}
 use Rattle.step_units.specs.Touches.{TouchedAs, TouchedNow, AccessComes, AccessStops}
-use Rattle.step_units.specs.FaultFillTouchServed.{Served}
+use Rattle.step_units.specs.Served.{Served}
 use Rattle.run_model.specs.State.{State}
 use Rattle.run_model.specs.Wanted.{locked}
 use Rattle.proc_run.specs.Runs.{RunsAt}

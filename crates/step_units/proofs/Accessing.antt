@@ -14,8 +14,8 @@ use Rattle.proc_calls.specs.Growth.{access_to, access_by}
 use Rattle.proc_calls.specs.Touches.{TouchedAs, TouchedNow, GrownFirst, AccessComes, AccessStops, StopsAtPage}
 use Rattle.proc_calls.specs.FaultFillAccessAccess.{Access}
 use Rattle.proc_calls.specs.FaultFillAccessAccess.TheVariants as accesses
-use Rattle.proc_calls.specs.FaultFillTouchServed.{Served}
-use Rattle.proc_calls.specs.FaultFillTouchServed.TheVariants as served
+use Rattle.proc_calls.specs.Served.{Served}
+use Rattle.proc_calls.specs.Served.TheVariants as served
 use Rattle.run_model.specs.After.{after}
 use Rattle.run_model.specs.State.{State}
 use Rattle.run_model.specs.Wanted.{touched_next, AllValid, locked_by, locked}

@@ -9,12 +9,10 @@ use Rattle.machine_state.specs.Machine.{Standing}
 use Rattle.swapper.specs.Made.{ground}
 use Rattle.proc_calls.specs.FaultFillAccessAccess.{Access}
 use Rattle.proc_calls.specs.FaultFillAccessAccess.TheVariants as accesses
-use Rattle.proc_calls.specs.PageServed.{PageServed}
-use Rattle.proc_calls.specs.PageServed.TheVariants as page_served
-use Rattle.proc_calls.specs.FaultFillTouchServed.{Served}
-use Rattle.proc_calls.specs.FaultFillTouchServed.TheVariants as served
+use Rattle.proc_calls.specs.Served.{Served}
+use Rattle.proc_calls.specs.Served.TheVariants as served
 use Rattle.proc_calls.specs.Growth.{growth, Grown}
-use Rattle.proc_calls.specs.Touches.{PageComes, PageComesNow, TouchedAs, TouchedNow, GrownFirst, AccessComes}
+use Rattle.proc_calls.specs.Touches.{PageComesNow, TouchedAs, TouchedNow, GrownFirst, AccessComes}
 use Rattle.proc_calls.specs.Callers.{IsCaller}
 use Rattle.step_units.specs.Ready.{Continues}
 use Rattle.step_units.proofs.Running.{continues_self, continues_both, units_continue}
@@ -22,9 +20,9 @@ use Rattle.step_units.proofs.Entries.{found_continues, note_continues}
 
 -- A page.
 
-page_on : (answer : PageServed) (q : Page) (old new : Standing) (holds : Option (List NamedFile)) (i j : Option SwapImage) → old.kernel.place.due ≡ []
-    → PageComes answer q old new holds i j → Continues old new 0
-page_on answer q old new holds i j r p =
+touched_on : (answer : Served) (q : Page) (old new : Standing) (holds : Option (List NamedFile)) (i j : Option SwapImage) → old.kernel.place.due ≡ []
+    → TouchedAs answer q old new holds i j → Continues old new 0
+touched_on answer q old new holds i j r p =
     units_continue (ground old holds []) p.serves.0.serves.units old new i j r p.serves.0.serves.makes p.low
 
 page_now_on : (locked : List Page) (q : Page) (old new : Standing) (holds : Option (List NamedFile)) (i j : Option SwapImage) → old.kernel.place.due ≡ []
@@ -32,14 +30,6 @@ page_now_on : (locked : List Page) (q : Page) (old new : Standing) (holds : Opti
     → Continues old new 0
 page_now_on locked q old new holds i j r p =
     units_continue (ground old holds locked) p.serves.0.serves.units old new i j r p.serves.0.serves.makes p.low
-
-touched_on : (answer : Served) (q : Page) (old new : Standing) (holds : Option (List NamedFile)) (i j : Option SwapImage) → old.kernel.place.due ≡ []
-    → TouchedAs answer q old new holds i j → Continues old new 0
-touched_on served.Valid q old new holds i j r h = page_on page_served.Valid q old new holds i j r h
-touched_on (served.Asleep p) q old new holds i j r h = page_on (page_served.Asleep p) q old new holds i j r h
-touched_on served.NoFrame q old new holds i j r h = page_on page_served.NoFrame q old new holds i j r h
-touched_on served.NoSpace q old new holds i j r h = absurd h
-touched_on (served.Signal signal) q old new holds i j r h = absurd h
 
 touched_now_on : (locked : List Page) (answer : Served) (q : Page) (old new : Standing) (holds : Option (List NamedFile)) (i j : Option SwapImage)
     → old.kernel.place.due ≡ [] → TouchedNow locked answer q old new holds i j → Continues old new 0

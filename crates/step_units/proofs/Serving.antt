@@ -24,8 +24,8 @@ use Rattle.proc_calls.specs.Growth.{space_of_pid}
 use Rattle.proc_calls.specs.Serving.{ServesTo, StopsServing}
 use Rattle.proc_calls.specs.Touches.{TouchedAs, TouchedNow, StopsAtPage}
 use Rattle.proc_calls.specs.Units.{is_flying, NeedsFrame}
-use Rattle.proc_calls.specs.FaultFillTouchServed.{Served as Touch}
-use Rattle.proc_calls.specs.FaultFillTouchServed.TheVariants as served
+use Rattle.proc_calls.specs.Served.{Served as Touch}
+use Rattle.proc_calls.specs.Served.TheVariants as served
 use Rattle.run_model.specs.State.{State}
 use Rattle.run_model.specs.Wanted.{touched_next, AllValid, locked_by, locked, Splits}
 use Rattle.run_model.specs.Snapshot.{before_absent}
@@ -184,8 +184,8 @@ page_leads A s old new holds image j pid before q answer w h = go answer h
     go served.NoFrame c =
         let t = c.serves.0.serves in
         ends_mark A (ground old holds []) s old.kernel new.kernel image j pid before q t.units w.machine.at w.between (done t) (starved_waits new.kernel.place q c.serves.1)
-    go served.NoSpace c = absurd c
-    go (served.Signal number) c = absurd c
+    go served.NoSpace c = absurd c.serves.1
+    go (served.Signal number) c = absurd c.serves.1
 
 pub page_leads_now : (A : Inputs) (s : State) (old new : Standing) (holds : Option (List NamedFile)) (image : SwapImage) (j : Option SwapImage) (pid : ℕ)
     (before : List Page) (q : Page) (answer : Touch)

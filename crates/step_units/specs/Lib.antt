@@ -1,7 +1,7 @@
 pub use Rattle.proc_calls.specs.Growth
 pub use Rattle.proc_calls.specs.Touches
 pub use Rattle.proc_calls.specs.FaultFillAccessAccess
-pub use Rattle.proc_calls.specs.FaultFillTouchServed
+pub use Rattle.proc_calls.specs.Served
 pub use Rattle.swapper.specs.LastMoves
 pub use Rattle.swapper.specs.Stops
 pub use Rattle.proc_calls.specs.Answered

@@ -5,7 +5,7 @@ use Rattle.vm_facts.specs.declared.page.Page.{Page}
 use Rattle.io_edge.specs.FileHolding.{NamedFile}
 use Rattle.machine_state.specs.Machine.{Standing}
 use Rattle.proc_calls.specs.FaultFillAccessAccess.{Access}
-use Rattle.proc_calls.specs.FaultFillTouchServed.{Served}
+use Rattle.proc_calls.specs.Served.{Served}
 use Rattle.proc_calls.specs.Touches.{TouchedAs, TouchedNow, AccessComes}
 use Rattle.proc_calls.specs.Callers.{IsCaller}
 use Rattle.step_units.specs.Ready.{Continues}

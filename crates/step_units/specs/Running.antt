@@ -15,8 +15,8 @@ use Rattle.kernel_model.specs.Kernel.{Kernel}
 use Rattle.kernel_model.specs.ChangeStep.{ran_by}
 use Rattle.machine_state.specs.Machine.{Standing}
 use Rattle.machine_state.specs.UserMemory.{kernel_answers, writes_in}
-use Rattle.proc_calls.specs.FaultFillTouchServed.{Served}
-use Rattle.proc_calls.specs.FaultFillTouchServed.TheVariants as served
+use Rattle.proc_calls.specs.Served.{Served}
+use Rattle.proc_calls.specs.Served.TheVariants as served
 use Rattle.proc_calls.specs.Growth.{access_by}
 use Rattle.proc_calls.specs.Touches.{TouchedAs, TouchedNow, AccessComes, AccessStops}
 use Rattle.run_model.specs.State.{State}

@@ -3,7 +3,7 @@ use Rattle.std.proofs.Common.{[], false}
 use Rattle.vm_facts.specs.declared.stop.Stop.{Stop}
 use Rattle.fault_fill.specs.Serving.{StopsServing}
 use Rattle.fault_fill.specs.Answers.{ServesAs, ServedAs}
-use Rattle.fault_fill.specs.declared.pages.PageServed.{PageServed}
+use Rattle.fault_fill.specs.declared.served.Served.{Served}
 use Rattle.fault_fill.proofs.Leading.{match_map}
 use Rattle.fault_fill.proofs.Bounds.{match_ok, match_err, calls_calm, serves_short, serves_takings, stops_short, all_stay}
 use Rattle.fault_fill.proofs.calls.serve_page.Goals as goal
@@ -18,7 +18,7 @@ returns g c =
     let j = stores g.F.Files g.D.SwapDev c.serve_on.new.files c.serve_on.new.swap in
     let owner = c.requires.asks.ready.running.sound.owner.frames in
     let can = c.requires.can in
-    let serves = λ (a : PageServed). ServesAs a q old new holds i j in
+    let serves = λ (a : Served). ServesAs a q old new holds i j in
     let stops = λ (s : Stop). StopsServing false [] q old new holds i j s in
     let made = c.serve_on.ensures.served in
     record {

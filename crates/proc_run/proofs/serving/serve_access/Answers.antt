@@ -1,7 +1,7 @@
 use Rattle.io_edge.specs.WithFiles.{stores}
 use Rattle.std.proofs.Common.{inr, inl, sym, subst}
 use Rattle.std.proofs.lemmas.Result.{err_from_is_err_and}
-use Rattle.step_units.specs.FaultFillTouchServed.{Served}
+use Rattle.step_units.specs.Served.{Served}
 use Rattle.step_units.specs.Callers.{IsCaller}
 use Rattle.step_units.specs.ProcCallsLeaving.{HasEnded, StopsAlive}
 use Rattle.step_units.proofs.Running.{continues_both}
