@@ -10,7 +10,7 @@ use Rattle.vm_facts.specs.declared.entry.Entry.TheVariants as entries
 use Rattle.vm_facts.specs.declared.params.Params.{Params}
 use Rattle.io_edge.specs.FileHolding.{NamedFile}
 use Rattle.flat_state.specs.Journal.{append}
-use Rattle.page_model.specs.Placement.{Placement, Transfer, state_of}
+use Rattle.page_model.specs.Placement.{Placement, Transfer}
 use Rattle.page_laws.proofs.Moves.Units.{unit_is}
 use Rattle.clock_hands.specs.LastMoves.{last_moves}
 use Rattle.clock_hands.proofs.LastMoves.{last_done}
