@@ -4,7 +4,7 @@ pub use Rattle.paging_units.proofs.Stopping
 pub use Rattle.paging_units.proofs.Units as PagingUnitsUnits
 pub mod Seen
 pub mod PutUnits
-mod PutStops
+pub mod Leaving
 pub mod Holders
 pub mod HeldSpaces
 pub mod Numbers

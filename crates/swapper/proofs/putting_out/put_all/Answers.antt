@@ -5,6 +5,7 @@ use Rattle.machine_state.specs.Swapping.{KeepsOut}
 use Rattle.machine_state.proofs.Besides.{out_kept_beside}
 use Rattle.swapper.specs.Putting.{IsStep, IsNext}
 use Rattle.swapper.proofs.PutUnits.{puts_on, falls_on, stops_here, holder_resides, if_err, puts_none, puts_one}
+use Rattle.swapper.proofs.Leaving.{left_outside, left_asks}
 use Rattle.machine_state.proofs.Transfers.{transfers_none, transfers_then}
 use Rattle.swapper.proofs.putting_out.put_all.Goals as goal
 
@@ -54,8 +55,7 @@ returns-in_err-put_once-clause-stopped g c =
     let j = stores g.F.Files g.D.SwapDev c.put_once.new.files c.put_once.new.swap in
     let here = if_err c.put_once.result
     (λ stop s. so.so_far.stops stop new j (stops_here c.args.pid c.args.sid now stop new (g.F.Files.holds c.loop-step.files)
-    (stores g.F.Files g.D.SwapDev c.loop-step.files c.loop-step.swap) j so.puts.resident
-    c.put_once.ensures.params c.put_once.ensures.images s)) c.put_once.ensures.stopped in
+    (stores g.F.Files g.D.SwapDev c.loop-step.files c.loop-step.swap) j so.puts.resident s)) c.put_once.ensures.stopped in
     search (here, rules)
 
 pub returns-clause-put : goal.returns-clause-put
@@ -79,3 +79,14 @@ returns-clause-stopped g c =
     let so = c.loop-step.invariant in
     if_err c.leave.result (λ stop. so.so_far.stops stop c.leave.new.m (stores g.F.Files g.D.SwapDev c.loop-step.files c.leave.new.swap))
     (c.leave.ensures.stopped (g.F.Files.notes c.loop-step.files) (g.F.Files.holds c.loop-step.files))
+
+pub returns-clause-goes_on : goal.returns-clause-goes_on
+returns-clause-goes_on g c =
+    let so = c.loop-step.invariant in
+    let beside = on_ok_weaker c.leave.result (λ put. put.beside) (c.leave.ensures.put (g.F.Files.notes c.loop-step.files) (g.F.Files.holds c.loop-step.files)) in
+    record {
+      outside = left_outside g.F.Files g.D.SwapDev c.leave.result c.args.files.now c.loop-step.files c.args.swap.now c.loop-step.swap c.leave.new.swap
+          g.met.F.Files.leads_through g.met.D.SwapDev.leads_through (g.met.F.Files.leads_nowhere c.loop-step.files) so.outside c.leave.ensures.outside c.leave.ensures.cause;
+      asks = left_asks c.leave.result c.loop-step.m c.leave.new.m (g.F.Files.holds c.loop-step.files) (g.D.SwapDev.blocks c.loop-step.swap)
+          (g.D.SwapDev.blocks c.leave.new.swap) c.leave.ensures.outside.blocks so.puts.asks beside c.leave.ensures.goes_on;
+    }
