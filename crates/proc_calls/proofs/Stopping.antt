@@ -98,7 +98,7 @@ lent_stops stop m new pid holds i e w s = inr (e, stops_before {A = Unit {0}} m 
 starved : (m new : Standing) → new ≡ m → HasStopped m new
 starved m new e = subst (HasStopped m) (sym e) (record { journal = refl; params = refl; images = refl; full = λ h. refl; held = λ h. refl })
 
-starved_before : (m new : Standing) (stop : Stop) → new ≡ m → m.before ≡ m.kernel.holdings → stop ≡ stops.NoMemory → StopsBefore m new stop
+pub starved_before : (m new : Standing) (stop : Stop) → new ≡ m → m.before ≡ m.kernel.holdings → stop ≡ stops.NoMemory → StopsBefore m new stop
 starved_before m new stop e w c = record {
   stopped = starved m new e;
   whole = w;
