@@ -76,7 +76,7 @@ abbrev pub StopsRefused : Standing → Standing → Refused → Stop → Type 0
 StopsRefused old new (Miss address write) stop = StopsBefore old new stop × (stop ≡ stops.NoMemory)
 StopsRefused old new _ stop = StopsBefore old new stop
 
--- The run stops in a call by what it reads: so as follows from that, or where a byte was refused, with the swap image as it was there.
+-- By what a call reads the run stops so, with the swap image before and after; or where a byte was refused, with the image as it was.
 abbrev pub StopsReading : {A : Type 0} → Result A Refused → (A → Option SwapImage → Option SwapImage → Stop → Type 0) → Standing → Standing
     → Option SwapImage → Option SwapImage → Stop → Type 0
 StopsReading (Ok read) Stops old new i j stop = Stops read i j stop
