@@ -23,11 +23,11 @@ use Rattle.machine_state.specs.Machine.{Standing}
 use Rattle.machine_state.specs.Done.{KeepsThrough}
 use Rattle.paging_units.specs.Made.{ground, MakesUnit}
 use Rattle.paging_units.specs.LastMoves.{last_moves}
-use Rattle.paging_units.specs.Stops.{StopsAt}
+use Rattle.paging_units.specs.Stops.{StopsAt, StopsWhile}
 use Rattle.paging_units.proofs.Units.{unit_journal, forced_place, made_journal, makes_none, makes_first, makes_on}
 use Rattle.paging_units.proofs.LastMoves.{last_done, last_more}
 use Rattle.paging_units.proofs.Stopping.{stops_at_first, stops_after_unit}
-use Rattle.clock_hands.specs.Forced.{Forced, StillForcing, StopsForcing}
+use Rattle.clock_hands.specs.Forced.{Forced, StillForcing, forcing_frame}
 use Rattle.clock_hands.proofs.Units.{keeps_on}
 
 pub none_free : (free : List ℕ) → length free ≤ 0 → free ≡ []
@@ -118,19 +118,16 @@ forced_first locked old next new holds later i h j e o s r n m f =
     }
 
 pub stops_here : (locked : List Page) (old : Standing) (stop : Stop) (new : Standing) (holds : Option (List NamedFile)) (i j : Option SwapImage)
-    → old.kernel.place.free ≡ [] → new.params ≡ old.params → new.images ≡ old.images
-    → StopsAt (force_entry old.kernel.place.transfers) old.kernel i stop new j → StopsForcing locked old stop new holds i j
-stops_here locked old stop new holds i j n a b s =
-    stops_at_first (ground old holds locked) (StillForcing locked old.kernel.place) (λ p. Some (force_entry p.transfers)) old new i j stop
-    (record { forces = refl; none = n }) (record { entry = force_entry old.kernel.place.transfers; next = refl; stops = s; params = a; images = b })
+    → old.kernel.place.free ≡ [] → StopsAt (force_entry old.kernel.place.transfers) old new i j stop → StopsWhile (forcing_frame locked) old new holds i j stop
+stops_here locked old stop new holds i j n s =
+    stops_at_first (forcing_frame locked) (force_entry old.kernel.place.transfers) old new holds i j stop (record { forces = refl; none = n }) refl s
 
 pub stops_first : (locked : List Page) (old next : Standing) (stop : Stop) (new : Standing) (holds later : Option (List NamedFile)) (i h j : Option SwapImage)
     → later ≡ holds → old.kernel.place.free ≡ []
-    → MakesUnit (ground old holds locked) (force_entry old.kernel.place.transfers) old next i h → StopsForcing locked next stop new later h j
-    → StopsForcing locked old stop new holds i j
+    → MakesUnit (ground old holds locked) (force_entry old.kernel.place.transfers) old next i h → StopsWhile (forcing_frame locked) next new later h j stop
+    → StopsWhile (forcing_frame locked) old new holds i j stop
 stops_first locked old next stop new holds later i h j e n m f =
-    stops_after_unit (StillForcing locked old.kernel.place) (StillForcing locked next.kernel.place) (λ p. Some (force_entry p.transfers))
-    (force_entry old.kernel.place.transfers) old next new holds later locked i h j stop e m
+    stops_after_unit (forcing_frame locked) (forcing_frame locked) (force_entry old.kernel.place.transfers) old next new holds later i h j stop e refl refl m
     (λ us k s. record {
       forces = (n, refl, subst (λ (p : Placement). Forces us p locked k.place) (forced_place (ground old holds locked) old.kernel next.kernel i m.made) s.forces);
       none = s.none;
@@ -156,11 +153,11 @@ forced_few locked old new holds i j o f =
     omega arith
 
 pub stopped_few : (locked : List Page) (old : Standing) (stop : Stop) (new : Standing) (holds : Option (List NamedFile)) (i j : Option SwapImage)
-    → OwnsFrames old.kernel.place → StopsForcing locked old stop new holds i j
+    → OwnsFrames old.kernel.place → StopsWhile (forcing_frame locked) old new holds i j stop
     → length new.kernel.journal ≤ length old.kernel.journal + length old.kernel.place.transfers + 2
 stopped_few locked old stop new holds i j o f =
     let few = few_units old.kernel.place f.at.place locked old.kernel.journal f.units o f.leads.forces in
-    let same = ap (λ (js : List Entry). length js) (f.there.stops.journal ∙ made_journal (ground old holds locked) f.units old.kernel f.at i f.image f.made) in
+    let same = ap (λ (js : List Entry). length js) (f.stops.journal ∙ made_journal (ground old holds locked) f.units old.kernel f.at i f.image f.made) in
     omega arith
 
 pub forced_flights : (locked : List Page) (old new : Standing) (holds : Option (List NamedFile)) (i j : Option SwapImage) → OwnsFrames old.kernel.place
@@ -191,7 +188,7 @@ forced_spares locked old new holds i j o f = units_spare f.units old.kernel.plac
 
 pub record ForcesSoFar (locked : List Page) (old now : Standing) (holds later : Option (List NamedFile)) (i h : Option SwapImage) : Type 0 where
   pub more : (new : Standing) (j : Option SwapImage) → Forced locked now new later h j → Forced locked old new holds i j
-  pub stops : (stop : Stop) (new : Standing) (j : Option SwapImage) → StopsForcing locked now stop new later h j → StopsForcing locked old stop new holds i j
+  pub stops : (stop : Stop) (new : Standing) (j : Option SwapImage) → StopsWhile (forcing_frame locked) now new later h j stop → StopsWhile (forcing_frame locked) old new holds i j stop
   pub keeps : (new : Standing) (j : Option SwapImage) → KeepsThrough now new later h j → KeepsThrough old new holds i j
 
 pub forces_none : (locked : List Page) (old : Standing) (holds : Option (List NamedFile)) (i : Option SwapImage) → ForcesSoFar locked old old holds holds i i

@@ -25,11 +25,11 @@ use Rattle.run_model.specs.Next.{move_by, move_unit}
 use Rattle.machine_state.specs.Done.{sources, IsDone, KeepsThrough}
 use Rattle.paging_units.specs.Made.{ground, MadeBy, MakesUnit}
 use Rattle.paging_units.specs.LastMoves.{last_moves}
-use Rattle.paging_units.specs.Stops.{StopsAt}
+use Rattle.paging_units.specs.Stops.{StopsAt, StopsWhile}
 use Rattle.paging_units.proofs.Units.{unit_place, unit_journal, makes_none, makes_first, makes_on}
 use Rattle.paging_units.proofs.LastMoves.{last_done, last_more}
 use Rattle.paging_units.proofs.Stopping.{stops_at_first, stops_after_unit}
-use Rattle.clock_hands.specs.Moved.{Moves, IsMoveOf, Moved, StillMoving, StopsMoving}
+use Rattle.clock_hands.specs.Moved.{Moves, IsMoveOf, Moved, StillMoving, moving_hands}
 use Rattle.clock_hands.proofs.Units.{keeps_on}
 
 -- the hands move where no write begins, or where there is room for it
@@ -119,10 +119,9 @@ module _ (n : ℕ) (old next new : Standing) (holds later : Option (List NamedFi
     fewer = f.fewer;
   }
 
-  pub stops_by_move : (stop : Stop) → IsMoveOf (move_unit old.kernel.place []) true → StopsMoving (n - 1) next stop new later h j → StopsMoving n old stop new holds i j
+  pub stops_by_move : (stop : Stop) → IsMoveOf (move_unit old.kernel.place []) true → StopsWhile (moving_hands (n - 1)) next new later h j stop → StopsWhile (moving_hands n) old new holds i j stop
   stops_by_move stop k f =
-      stops_after_unit (StillMoving n old.kernel.place) (StillMoving (n - 1) next.kernel.place) (λ p. Some (move_unit p []))
-      (move_unit old.kernel.place []) old next new holds later [] i h j stop same_files m
+      stops_after_unit (moving_hands n) (moving_hands (n - 1)) (move_unit old.kernel.place []) old next new holds later i h j stop same_files refl refl m
       (λ us l s. record {
         moves = moves_first e true n (n - 1) us old next l.place holds i h k refl (less k) some wants m s.moves;
         left = (let a = one k in let b = s.left in omega arith);
@@ -130,10 +129,9 @@ module _ (n : ℕ) (old next new : Standing) (holds later : Option (List NamedFi
       })
       f
 
-  pub stops_by_done : (stop : Stop) → IsMoveOf (move_unit old.kernel.place []) false → StopsMoving n next stop new later h j → StopsMoving n old stop new holds i j
+  pub stops_by_done : (stop : Stop) → IsMoveOf (move_unit old.kernel.place []) false → StopsWhile (moving_hands n) next new later h j stop → StopsWhile (moving_hands n) old new holds i j stop
   stops_by_done stop k f =
-      stops_after_unit (StillMoving n old.kernel.place) (StillMoving n next.kernel.place) (λ p. Some (move_unit p []))
-      (move_unit old.kernel.place []) old next new holds later [] i h j stop same_files m
+      stops_after_unit (moving_hands n) (moving_hands n) (move_unit old.kernel.place []) old next new holds later i h j stop same_files refl refl m
       (λ us l s. record {
         moves = moves_first e false n n us old next l.place holds i h k refl (same k) some wants m s.moves;
         left = (let a = none k in let b = s.left in omega arith);
@@ -142,11 +140,9 @@ module _ (n : ℕ) (old next new : Standing) (holds later : Option (List NamedFi
       f
 
 pub stops_moving : (n : ℕ) (old : Standing) (stop : Stop) (new : Standing) (holds : Option (List NamedFile)) (i j : Option SwapImage) → 0 < n
-    → wants_moves old.kernel.place ≡ true → new.params ≡ old.params → new.images ≡ old.images
-    → StopsAt (move_unit old.kernel.place []) old.kernel i stop new j → StopsMoving n old stop new holds i j
-stops_moving n old stop new holds i j l w a b s =
-    stops_at_first (ground old holds []) (StillMoving n old.kernel.place) (λ p. Some (move_unit p [])) old new i j stop
-    (record { moves = refl; left = l; wants = w }) (record { entry = move_unit old.kernel.place []; next = refl; stops = s; params = a; images = b })
+    → wants_moves old.kernel.place ≡ true → StopsAt (move_unit old.kernel.place []) old new i j stop → StopsWhile (moving_hands n) old new holds i j stop
+stops_moving n old stop new holds i j l w s =
+    stops_at_first (moving_hands n) (move_unit old.kernel.place []) old new holds i j stop (record { moves = refl; left = l; wants = w }) refl s
 
 -- What a unit leaves for the next.
 
@@ -191,7 +187,7 @@ done_last n old next holds i h k m l =
 
 pub record MovesSoFar (n left : ℕ) (old now : Standing) (holds later : Option (List NamedFile)) (i h : Option SwapImage) : Type 0 where
   pub more : (new : Standing) (j : Option SwapImage) (made : ℕ) → Moved left now new made later h j → Moved n old new (n - left + made) holds i j
-  pub stops : (stop : Stop) (new : Standing) (j : Option SwapImage) → StopsMoving left now stop new later h j → StopsMoving n old stop new holds i j
+  pub stops : (stop : Stop) (new : Standing) (j : Option SwapImage) → StopsWhile (moving_hands left) now new later h j stop → StopsWhile (moving_hands n) old new holds i j stop
   pub keeps : (new : Standing) (j : Option SwapImage) → KeepsThrough now new later h j → KeepsThrough old new holds i j
 
 none_moved : (n made : ℕ) → made ≡ n - n + made

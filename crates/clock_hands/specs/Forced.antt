@@ -1,9 +1,8 @@
--- How a frame is forced: the units that are made, until one is free or the machine stops.
+-- How a frame is forced: the units that are made, until one is free.
 use Rattle.std.specs.Prelude.{◌≡◌, ℕ, ◌<◌, ◌≤◌, List, [], length, Option, Some}
 use Rattle.vm_facts.specs.SwapImages.{SwapImage}
 use Rattle.vm_facts.specs.declared.page.Page.{Page}
 use Rattle.vm_facts.specs.declared.entry.Entry.{Entry}
-use Rattle.vm_facts.specs.declared.stop.Stop.{Stop}
 use Rattle.io_edge.specs.FileHolding.{NamedFile}
 use Rattle.page_model.specs.Placement.{Placement}
 use Rattle.page_model.specs.Serve.{Forces, force_entry}
@@ -11,7 +10,7 @@ use Rattle.page_laws.specs.Spans.{moves_of}
 use Rattle.kernel_model.specs.Kernel.{Kernel}
 use Rattle.machine_state.specs.Machine.{Standing}
 use Rattle.paging_units.specs.Made.{ground, Makes}
-use Rattle.paging_units.specs.Stops.{StopsAmong}
+use Rattle.paging_units.specs.Stops.{Work}
 
 -- The call makes the units that force a frame, each where none is free, and a frame is free at the end. The swap images,
 -- where they are told, are those before and after it, and the files those that it reads from.
@@ -28,7 +27,6 @@ pub record StillForcing (locked : List Page) (p : Placement) (us : List Entry) (
   pub forces : Forces us p locked k.place
   pub none : k.place.free ≡ []
 
--- the call stops while it forces a frame
-abbrev pub StopsForcing : List Page → Standing → Stop → Standing → Option (List NamedFile) → Option SwapImage → Option SwapImage → Type 0
-StopsForcing locked old stop new holds i j =
-    StopsAmong (ground old holds locked) (StillForcing locked old.kernel.place) (λ p. Some (force_entry p.transfers)) old new i j stop
+-- the work of forcing a frame by hands that pass over these pages
+abbrev pub forcing_frame : List Page → Work
+forcing_frame locked = record { locked = locked; Unfinished = λ k. StillForcing locked k.place; next = λ p. Some (force_entry p.transfers) }

@@ -3,7 +3,6 @@ use Rattle.std.specs.Prelude.{◌≡◌, ℕ, ◌-◌, ◌<◌, ◌≤◌, Bool,
 use Rattle.vm_facts.specs.SwapImages.{SwapImage}
 use Rattle.vm_facts.specs.declared.entry.Entry.{Entry}
 use Rattle.vm_facts.specs.declared.entry.Entry.TheVariants as entries
-use Rattle.vm_facts.specs.declared.stop.Stop.{Stop}
 use Rattle.io_edge.specs.FileHolding.{NamedFile}
 use Rattle.page_model.specs.Placement.{Placement}
 use Rattle.page_model.specs.Hands.{wants_moves}
@@ -13,7 +12,7 @@ use Rattle.machine_state.specs.Machine.{Standing}
 use Rattle.page_laws.specs.Spans.{moves, moves_of}
 use Rattle.run_model.specs.Next.{move_unit}
 use Rattle.paging_units.specs.Made.{ground, Makes}
-use Rattle.paging_units.specs.Stops.{StopsAmong}
+use Rattle.paging_units.specs.Stops.{Work}
 
 -- Of so many moves that are asked for, these units are made: while some are left and fewer than a quarter of the frames
 -- are free, the unit that the policy names for a move; the end of a transfer counts for no move.
@@ -42,7 +41,6 @@ pub record StillMoving (n : ℕ) (p : Placement) (us : List Entry) (k : Kernel) 
   pub left : moves_of us < n
   pub wants : wants_moves k.place ≡ true
 
--- the call stops while it moves the hands
-abbrev pub StopsMoving : ℕ → Standing → Stop → Standing → Option (List NamedFile) → Option SwapImage → Option SwapImage → Type 0
-StopsMoving n old stop new holds i j =
-    StopsAmong (ground old holds []) (StillMoving n old.kernel.place) (λ p. Some (move_unit p [])) old new i j stop
+-- the work of so many moves of the hands
+abbrev pub moving_hands : ℕ → Work
+moving_hands n = record { locked = []; Unfinished = λ k. StillMoving n k.place; next = λ p. Some (move_unit p []) }

@@ -9,8 +9,8 @@ ghost use Rattle.machine_state.specs.Done.{KeepsThrough};
 ghost use Rattle.machine_state.specs.Outside.{Asks, GoesOn};
 ghost use Rattle.paging_units.specs.Made.{ground, MakesUnit};
 ghost use Rattle.paging_units.specs.LastMoves.{last_moves};
-ghost use Rattle.paging_units.specs.Stops.{StopsAt};
-ghost use Rattle.clock_hands.specs.Forced.{Forced, StopsForcing};
+ghost use Rattle.paging_units.specs.Stops.{StopsAt, StopsWhile};
+ghost use Rattle.clock_hands.specs.Forced.{Forced, forcing_frame};
 
 use crate::looking::next_write;
 use io_edge::{Files, SwapDev};
@@ -34,10 +34,8 @@ fn force_once<F: Files, D: SwapDev>(
         (stores F.Files D.SwapDev files.old swap.old) (stores F.Files D.SwapDev files.new swap.new)) }
     ensures keeps { OnOk result (KeepsThrough m.old m.new (F.holds files.old) (stores F.Files D.SwapDev files.old swap.old)
         (stores F.Files D.SwapDev files.new swap.new)) }
-    ensures stopped { IfErr result (λ stop. StopsAt (force_entry m.old.kernel.place.transfers) m.old.kernel (stores F.Files D.SwapDev files.old swap.old) stop
-        m.new (stores F.Files D.SwapDev files.new swap.new)) }
-    ensures params { m.new.params ≡ m.old.params }
-    ensures images { m.new.images ≡ m.old.images }
+    ensures stopped { IfErr result (StopsAt (force_entry m.old.kernel.place.transfers) m.old m.new (stores F.Files D.SwapDev files.old swap.old)
+        (stores F.Files D.SwapDev files.new swap.new)) }
     ensures goes_on { GoesOn F.Files D.SwapDev result m.new files.old files.new swap.old swap.new }
 {
     if m.done(files, swap)? {
@@ -61,7 +59,7 @@ fn force_frame<F: Files, D: SwapDev>(
         (stores F.Files D.SwapDev files.new swap.new)) }
     ensures keeps { OnOk result (KeepsThrough m.old m.new (F.holds files.old) (stores F.Files D.SwapDev files.old swap.old)
         (stores F.Files D.SwapDev files.new swap.new)) }
-    ensures stopped { IfErr result (λ stop. StopsForcing locked.now m.old stop m.new (F.holds files.old) (stores F.Files D.SwapDev files.old swap.old)
+    ensures stopped { IfErr result (StopsWhile (forcing_frame locked.now) m.old m.new (F.holds files.old) (stores F.Files D.SwapDev files.old swap.old)
         (stores F.Files D.SwapDev files.new swap.new)) }
     ensures goes_on { GoesOn F.Files D.SwapDev result m.new files.old files.new swap.old swap.new }
 {
@@ -86,7 +84,7 @@ pub fn make_room<F: Files, D: SwapDev>(
         (stores F.Files D.SwapDev files.new swap.new)) }
     ensures keeps { OnOk result (KeepsThrough m.old m.new (F.holds files.old) (stores F.Files D.SwapDev files.old swap.old)
         (stores F.Files D.SwapDev files.new swap.new)) }
-    ensures stopped { IfErr result (λ stop. StopsForcing locked.now m.old stop m.new (F.holds files.old) (stores F.Files D.SwapDev files.old swap.old)
+    ensures stopped { IfErr result (StopsWhile (forcing_frame locked.now) m.old m.new (F.holds files.old) (stores F.Files D.SwapDev files.old swap.old)
         (stores F.Files D.SwapDev files.new swap.new)) }
     ensures few { OnOk result
         (length m.new.kernel.journal + length m.new.kernel.place.transfers ≤ length m.old.kernel.journal + length m.old.kernel.place.transfers + 2) }

@@ -9,8 +9,8 @@ ghost use Rattle.machine_state.specs.Outside.{Asks, GoesOn};
 ghost use Rattle.run_model.specs.Next.{move_unit};
 ghost use Rattle.paging_units.specs.Made.{ground, MakesUnit};
 ghost use Rattle.paging_units.specs.LastMoves.{last_moves};
-ghost use Rattle.paging_units.specs.Stops.{StopsAt};
-ghost use Rattle.clock_hands.specs.Moved.{Moved, StopsMoving, IsMoveOf};
+ghost use Rattle.paging_units.specs.Stops.{StopsAt, StopsWhile};
+ghost use Rattle.clock_hands.specs.Moved.{Moved, moving_hands, IsMoveOf};
 
 use crate::looking::next_write;
 use io_edge::{Files, SwapDev};
@@ -41,10 +41,8 @@ fn move_once<F: Files, D: SwapDev>(
     ensures moved { IfOk result (λ moved. IsMoveOf (move_unit m.old.kernel.place []) moved) }
     ensures keeps { OnOk result (KeepsThrough m.old m.new (F.holds files.old) (stores F.Files D.SwapDev files.old swap.old)
         (stores F.Files D.SwapDev files.new swap.new)) }
-    ensures stopped { IfErr result (λ stop. StopsAt (move_unit m.old.kernel.place []) m.old.kernel (stores F.Files D.SwapDev files.old swap.old) stop m.new
+    ensures stopped { IfErr result (StopsAt (move_unit m.old.kernel.place []) m.old m.new (stores F.Files D.SwapDev files.old swap.old)
         (stores F.Files D.SwapDev files.new swap.new)) }
-    ensures params { m.new.params ≡ m.old.params }
-    ensures images { m.new.images ≡ m.old.images }
     ensures goes_on { GoesOn F.Files D.SwapDev result m.new files.old files.new swap.old swap.new }
 {
     let (lo, n) = next_write(m, &[]);
@@ -70,7 +68,7 @@ pub fn move_hands<F: Files, D: SwapDev>(
         (stores F.Files D.SwapDev files.new swap.new)) }
     ensures keeps { OnOk result (KeepsThrough m.old m.new (F.holds files.old) (stores F.Files D.SwapDev files.old swap.old)
         (stores F.Files D.SwapDev files.new swap.new)) }
-    ensures stopped { IfErr result (λ stop. StopsMoving n m.old stop m.new (F.holds files.old) (stores F.Files D.SwapDev files.old swap.old)
+    ensures stopped { IfErr result (StopsWhile (moving_hands n) m.old m.new (F.holds files.old) (stores F.Files D.SwapDev files.old swap.old)
         (stores F.Files D.SwapDev files.new swap.new)) }
     ensures goes_on { GoesOn F.Files D.SwapDev result m.new files.old files.new swap.old swap.new }
 {

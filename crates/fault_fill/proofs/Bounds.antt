@@ -33,7 +33,8 @@ use Rattle.clock_hands.specs.LastMoves.{last_moves}
 use Rattle.clock_hands.specs.Made.{ground}
 use Rattle.clock_hands.proofs.LastMoves.{last_of}
 use Rattle.clock_hands.proofs.PagingUnitsUnits.{made_journal}
-use Rattle.fault_fill.specs.Serving.{CanServe, ServesTo, StopsServing}
+use Rattle.clock_hands.specs.Stops.{StopsWhile}
+use Rattle.fault_fill.specs.Serving.{CanServe, ServesTo, serving_page}
 use Rattle.fault_fill.specs.Answers.{AllStayValid, IsShort}
 use Rattle.fault_fill.proofs.Serving.{still_served, calm_unit}
 
@@ -64,14 +65,14 @@ module _ (now : Bool) (locked : List Page) (q : Page) (old new : Standing) (hold
       served_short false s.units old.kernel.place new.kernel.place locked q now o there s.leads in
       k.taken
 
-  pub stops_short : (stop : Stop) → OwnsFrames old.kernel.place → IsThere old.kernel.place q → StopsServing now locked q old new holds i j stop
+  pub stops_short : (stop : Stop) → OwnsFrames old.kernel.place → IsThere old.kernel.place q → StopsWhile (serving_page now locked q) old new holds i j stop
       → length new.kernel.journal ≤ length old.kernel.journal + length old.kernel.place.transfers + 5
   stops_short stop o there s =
       let k : short.Served false s.units s.at.place q (length old.kernel.place.transfers + 5) 0 (length old.kernel.place.transfers) 1 (length s.units) =
       served_short false s.units old.kernel.place s.at.place locked q now o there s.leads in
       let a = units_added_false old.kernel.journal s.units in
       let b = ap (λ (es : List Entry). length es) (made_journal (ground old holds locked) s.units old.kernel s.at i s.image s.made) in
-      let c = ap (λ (es : List Entry). length es) s.there.stops.journal in
+      let c = ap (λ (es : List Entry). length es) s.stops.journal in
       let f = k.few in
       omega arith
 

@@ -13,8 +13,9 @@ use Rattle.page_laws.proofs.Moves.Stays.{Stays, force_stays}
 use Rattle.page_laws.proofs.Ownership.Serve.{force_owner}
 use Rattle.machine_state.specs.Machine.{Standing}
 use Rattle.machine_state.specs.Done.{KeepsThrough}
-use Rattle.clock_hands.specs.Forced.{Forced, StopsForcing}
-use Rattle.fault_fill.specs.Serving.{StopsServing}
+use Rattle.clock_hands.specs.Stops.{StopsWhile}
+use Rattle.clock_hands.specs.Forced.{Forced, forcing_frame}
+use Rattle.fault_fill.specs.Serving.{serving_page}
 use Rattle.fault_fill.specs.Units.{NoneMade, NeedsFrame, ComesTo, Further}
 use Rattle.fault_fill.specs.declared.served.Served.{Served}
 use Rattle.fault_fill.specs.declared.served.Served.TheVariants as served
@@ -59,27 +60,24 @@ room_further locked q old next new holds later i h j came answer is same made e 
 
 pub room_stops : (locked : List Page) (q : Page) (old next new : Standing) (holds later : Option (List NamedFile)) (i h j : Option SwapImage)
     (stop : Stop) (came : Option Served) (answer : Served)
-    → came ≡ Some answer → answer ≡ served.NoFrame → ComesTo came q old next holds i h → later ≡ holds → OwnsFrames old.kernel.place → StopsForcing locked next stop new later h j
-    → StopsServing true locked q old new holds i j stop
+    → came ≡ Some answer → answer ≡ served.NoFrame → ComesTo came q old next holds i h → later ≡ holds → OwnsFrames old.kernel.place → StopsWhile (forcing_frame locked) next new later h j stop
+    → StopsWhile (serving_page true locked q) old new holds i j stop
 room_stops locked q old next new holds later i h j stop came answer is same made e o f = record {
   units = d.units;
   at = d.at;
   image = d.image;
   leads = forces_serve d.units old.kernel.place d.at.place locked q o n.1.frameless d.leads.forces;
   made = d.made;
-  there = record {
-    entry = d.there.entry;
-    next = unit_forces d.at.place q (still_frameless d.units old.kernel.place d.at.place locked q o n.1.frameless d.leads.forces) d.leads.none ∙ d.there.next;
-    stops = d.there.stops;
-    params = d.there.params;
-    images = d.there.images;
-  };
+  entry = d.entry;
+  next = unit_forces d.at.place q (still_frameless d.units old.kernel.place d.at.place locked q o n.1.frameless d.leads.forces) d.leads.none ∙ d.next;
+  stops = d.stops;
 }
   where
     n : NoneMade old next i h × NeedsFrame old.kernel.place q
     n = came_to came answer served.NoFrame q old next holds i h is same made
 
-    d : StopsForcing locked old stop new holds i j
+    d : StopsWhile (forcing_frame locked) old new holds i j stop
     d =
-        subst (λ (s : Standing). StopsForcing locked s stop new holds i j) n.0.machine
-        (subst (λ (x : Option SwapImage). StopsForcing locked next stop new holds x j) n.0.image (subst (λ (x : Option (List NamedFile)). StopsForcing locked next stop new x h j) e f))
+        subst (λ (s : Standing). StopsWhile (forcing_frame locked) s new holds i j stop) n.0.machine
+        (subst (λ (x : Option SwapImage). StopsWhile (forcing_frame locked) next new holds x j stop) n.0.image
+        (subst (λ (x : Option (List NamedFile)). StopsWhile (forcing_frame locked) next new x h j stop) e f))

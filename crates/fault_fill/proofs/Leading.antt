@@ -24,13 +24,13 @@ use Rattle.machine_state.specs.Conditions.{HasStopped, KeepsFlat}
 use Rattle.machine_state.specs.Performing.{IsAtBound, Performs, StopsForRoom}
 use Rattle.machine_state.proofs.Settling.{beside_done}
 use Rattle.clock_hands.specs.Made.{Ground, ground, MadeBy, ImageBy}
-use Rattle.clock_hands.specs.Stops.{CauseBy, SpoilsBy}
+use Rattle.clock_hands.specs.Stops.{CauseBy, SpoilsBy, StopsWhile, StopsAt}
 use Rattle.clock_hands.proofs.Stopping.{held_here, next_later, stops_at_first}
 use Rattle.clock_hands.proofs.PagingUnitsUnits.{served_place, unit_journal, made_append, made_one, makes_both, makes_on}
 use Rattle.clock_hands.proofs.Keeping.{made_shaped, keeps_flat, keeps_both}
 use Rattle.clock_hands.proofs.Units.{made_on}
-use Rattle.fault_fill.specs.Serving.{CanServe, UnitMade, UnitStops, ServesTo, StopsServing}
-use Rattle.fault_fill.specs.Units.{AnyUnit, PlainMade, PlainStop, EndMade, EndStops, NoneMade, IsAnswer, ComesTo, Further}
+use Rattle.fault_fill.specs.Serving.{CanServe, UnitMade, UnitStops, ServesTo, serving_page}
+use Rattle.fault_fill.specs.Units.{AnyUnit, PlainMade, PlainStop, EndMade, NoneMade, IsAnswer, ComesTo, Further}
 use Rattle.fault_fill.specs.Answers.{ServesAs, ServesNow}
 use Rattle.fault_fill.specs.declared.served.Served.{Served}
 use Rattle.fault_fill.specs.declared.served.Served.TheVariants as served
@@ -91,9 +91,9 @@ plain_stops {A} q e old new stop next causes spoils plain has whole cause full =
     full = full_same {A = A} stop new old (length (append old.kernel.journal e)) has.params (plain_longer old.kernel.journal e plain) full;
     cause = causes stop old.kernel.place.transfers (cause_same {A = A} stop cause);
     image = spoils image;
+    params = has.params;
+    images = has.images;
   };
-  params = has.params;
-  images = has.images;
 }
 
 -- an entry of a step that calls no device, and is never joined to the last one
@@ -130,8 +130,8 @@ pub end_unit : (now : Bool) (locked : List Page) (q : Page) (old new : Standing)
 end_unit now locked q old new holds before after next m = record { entry = entries.Done; next = next; made = m.done; told = m.told; rest = m.rest; keeps = m.keeps }
 
 pub end_stops : (now : Bool) (q : Page) (old new : Standing) (before after : Option SwapImage) (stop : Stop)
-    → serve_unit old.kernel.place q now ≡ Some entries.Done → EndStops old new before after stop → UnitStops now q old new before after stop
-end_stops now q old new before after stop next m = record { entry = entries.Done; next = next; stops = m.at; params = m.params; images = m.images }
+    → serve_unit old.kernel.place q now ≡ Some entries.Done → StopsAt entries.Done old new before after stop → UnitStops now q old new before after stop
+end_stops now q old new before after stop next m = record { entry = entries.Done; next = next; stops = m }
 
 -- Units in order.
 
@@ -166,14 +166,14 @@ both_serve now locked q old next new holds later a b c e s t = record {
 
 pub stops_here : (now : Bool) (locked : List Page) (q : Page) (old new : Standing) (holds : Option (List NamedFile))
     (before after : Option SwapImage) (stop : Stop)
-    → UnitStops now q old new before after stop → StopsServing now locked q old new holds before after stop
+    → UnitStops now q old new before after stop → StopsWhile (serving_page now locked q) old new holds before after stop
 stops_here now locked q old new holds before after stop u =
-    stops_at_first (ground old holds locked) (λ us k. Serves us old.kernel.place locked q now k.place) (λ p. serve_unit p q now) old new before after stop refl u
+    stops_at_first (serving_page now locked q) u.entry old new holds before after stop refl u.next u.stops
 
 pub stops_later : (now : Bool) (locked : List Page) (q : Page) (old next new : Standing) (holds later : Option (List NamedFile))
     (a b c : Option SwapImage) (stop : Stop)
     → later ≡ holds
-    → ServesTo now locked q old next holds a b → StopsServing now locked q next new later b c stop → StopsServing now locked q old new holds a c stop
+    → ServesTo now locked q old next holds a b → StopsWhile (serving_page now locked q) next new later b c stop → StopsWhile (serving_page now locked q) old new holds a c stop
 stops_later now locked q old next new holds later a b c stop e s t = record {
   units = s.units ++ t.units;
   at = t.at;
@@ -181,7 +181,9 @@ stops_later now locked q old next new holds later a b c stop e s t = record {
   leads = serves_append s.units t.units old.kernel.place next.kernel.place t.at.place locked q now s.leads t.leads;
   made = made_append (ground old holds locked) s.units t.units old.kernel next.kernel t.at a b t.image s.makes.made
       (made_on t.units old next holds later locked next.kernel t.at b t.image e s.makes.beside t.made);
-  there = next_later (serve_unit t.at.place q now) t.at old next new t.image c stop s.makes.beside t.there;
+  entry = t.entry;
+  next = t.next;
+  stops = next_later t.entry t.at old next new t.image c stop s.makes.beside t.stops;
 }
 
 -- After a unit.
@@ -257,10 +259,10 @@ end_same old next new holds later i h j n e m =
     subst (λ (s : Standing). EndMade s new holds i j) n.machine
     (subst (λ (x : Option SwapImage). EndMade next new holds x j) n.image (subst (λ (x : Option (List NamedFile)). EndMade next new x h j) e m))
 
-pub stop_same : (old next new : Standing) (i h j : Option SwapImage) (stop : Stop) → NoneMade old next i h → EndStops next new h j stop
-    → EndStops old new i j stop
+pub stop_same : (old next new : Standing) (i h j : Option SwapImage) (stop : Stop) → NoneMade old next i h → StopsAt entries.Done next new h j stop
+    → StopsAt entries.Done old new i j stop
 stop_same old next new i h j stop n m =
-    subst (λ (s : Standing). EndStops s new i j stop) n.machine (subst (λ (x : Option SwapImage). EndStops next new x j stop) n.image m)
+    subst (λ (s : Standing). StopsAt entries.Done s new i j stop) n.machine (subst (λ (x : Option SwapImage). StopsAt entries.Done next new x j stop) n.image m)
 
 pub end_further : (locked : List Page) (q : Page) (old next new : Standing) (holds later : Option (List NamedFile)) (i h j : Option SwapImage)
     (came : Option Served) (answer : Served) (r : Page)
@@ -279,7 +281,7 @@ end_further locked q old next new holds later i h j came answer r is same made e
 
 pub end_stops_now : (locked : List Page) (q : Page) (old next new : Standing) (holds : Option (List NamedFile)) (i h j : Option SwapImage)
     (stop : Stop) (came : Option Served) (answer : Served) (r : Page)
-    → came ≡ Some answer → answer ≡ served.Asleep r → ComesTo came q old next holds i h → EndStops next new h j stop → StopsServing true locked q old new holds i j stop
+    → came ≡ Some answer → answer ≡ served.Asleep r → ComesTo came q old next holds i h → StopsAt entries.Done next new h j stop → StopsWhile (serving_page true locked q) old new holds i j stop
 end_stops_now locked q old next new holds i h j stop came answer r is same made m =
     let w : NoneMade old next i h × IsAnswer (served.Asleep r) old.kernel.place q = came_to came answer (served.Asleep r) q old next holds i h is same made in
     stops_here true locked q old new holds i j stop (end_stops true q old new i j stop (unit_waits old.kernel.place q w.1.1) (stop_same old next new i h j stop w.0 m))

@@ -6,31 +6,38 @@ use Rattle.vm_facts.specs.declared.page.Page.TheVariants as page_names
 use Rattle.vm_facts.specs.declared.stop.Stop.{Stop}
 use Rattle.io_edge.specs.FileHolding.{NamedFile}
 use Rattle.machine_state.specs.Machine.{Standing}
-use Rattle.fault_fill.specs.Serving.{StopsServing}
+use Rattle.clock_hands.specs.Stops.{StopsWhile}
+use Rattle.fault_fill.specs.Serving.{serving_page}
 use Rattle.clock_hands.specs.LastMoves.{last_moves}
 use Rattle.fault_fill.specs.Answers.{ServedAs, IsShort, AllStayValid}
-use Rattle.fault_fill.specs.Touches.{Reaches, TouchedAs, GrownFirst, AccessComes, StopsAtPage, AccessStops}
+use Rattle.fault_fill.specs.Touches.{Reaches, TouchedAs, GrownFirst, AccessComes, AccessStops}
 use Rattle.fault_fill.specs.declared.access.Access.{Access}
 use Rattle.fault_fill.specs.declared.access.Access.TheVariants as accesses
 use Rattle.fault_fill.specs.declared.served.Served.{Served}
 use Rattle.fault_fill.specs.declared.served.Served.TheVariants as served
 
+-- a stop while the page is served, after few entries
+abbrev AtPage : Bool → List Page → Page → Standing → Standing → Option (List NamedFile) → Option SwapImage → Option SwapImage → Stop → Type 0
+AtPage now locked q old new holds before after stop =
+    StopsWhile (serving_page now locked q) old new holds before after stop
+    × (length new.kernel.journal ≤ length old.kernel.journal + length old.kernel.place.transfers + 5)
+
 reached_stops : (now : Bool) (locked : List Page) (access : Access) (q : Page) (pid : ℕ) (old mid new : Standing) (holds : Option (List NamedFile))
     (i j : Option SwapImage) (stop : Stop)
-    → Reaches access (Ok q) pid old mid → StopsAtPage now locked q mid new holds i j stop → AccessStops now locked access pid old new holds i j stop
+    → Reaches access (Ok q) pid old mid → AtPage now locked q mid new holds i j stop → AccessStops now locked access pid old new holds i j stop
 reached_stops now locked (accesses.Page p) q pid old mid new holds i j stop r s =
-    subst (λ (m : Standing). StopsAtPage now locked p m new holds i j stop) r.1 (subst (λ (w : Page). StopsAtPage now locked w mid new holds i j stop) r.0 s)
+    subst (λ (m : Standing). AtPage now locked p m new holds i j stop) r.1 (subst (λ (w : Page). AtPage now locked w mid new holds i j stop) r.0 s)
 reached_stops now locked (accesses.Refused signal) q pid old mid new holds i j stop r s = absurd r
 reached_stops now locked (accesses.Growth sid pages) q pid old mid new holds i j stop r s =
-    inr (record { between = mid; grown = r.1; behind = subst (λ (w : Page). StopsAtPage now locked w mid new holds i j stop) r.0 s })
+    inr (record { between = mid; grown = r.1; behind = subst (λ (w : Page). AtPage now locked w mid new holds i j stop) r.0 s })
 
 -- the page for which the stack grew where it had to
 pub page_stops : (now : Bool) (locked : List Page) (access : Access) (page : Result Page Served) (q : Page) (pid : ℕ) (old mid new : Standing)
     (holds : Option (List NamedFile)) (i j : Option SwapImage) (stop : Stop)
-    → page ≡ Ok q → Reaches access page pid old mid → StopsServing now locked q mid new holds i j stop
+    → page ≡ Ok q → Reaches access page pid old mid → StopsWhile (serving_page now locked q) mid new holds i j stop
     → length new.kernel.journal ≤ length mid.kernel.journal + length mid.kernel.place.transfers + 5 → AccessStops now locked access pid old new holds i j stop
 page_stops now locked access page q pid old mid new holds i j stop e r s few =
-    reached_stops now locked access q pid old mid new holds i j stop (subst (λ (x : Result Page Served). Reaches access x pid old mid) e r) (record { serving = s; few = few })
+    reached_stops now locked access q pid old mid new holds i j stop (subst (λ (x : Result Page Served). Reaches access x pid old mid) e r) ((s, few))
 
 reached_comes : (access : Access) (q : Page) (pid : ℕ) (old mid new : Standing) (holds : Option (List NamedFile)) (i j : Option SwapImage) (answer : Served)
     → Reaches access (Ok q) pid old mid → TouchedAs answer q mid new holds i j
@@ -56,7 +63,7 @@ reached_comes (accesses.Growth sid pages) q pid old mid new holds i j answer r s
 pub page_comes : (access : Access) (page : Result Page Served) (q : Page) (pid : ℕ) (old mid new : Standing) (holds : Option (List NamedFile))
     (i j : Option SwapImage) (r : Result Served Stop)
     → page ≡ Ok q → Reaches access page pid old mid
-    → MatchResult r (λ a. ServedAs a q mid new holds i j) (StopsServing false [] q mid new holds i j) → OnOk r (IsShort q mid new)
+    → MatchResult r (λ a. ServedAs a q mid new holds i j) (StopsWhile (serving_page false [] q) mid new holds i j) → OnOk r (IsShort q mid new)
     → OnErr r (length new.kernel.journal ≤ length mid.kernel.journal + length mid.kernel.place.transfers + 5)
     → OnOk r (last_moves new.kernel.journal ≤ last_moves mid.kernel.journal) → OnOk r (AllStayValid mid.kernel.place new.kernel.place)
     → MatchResult r (λ a. AccessComes (λ came w from. TouchedAs came w from new holds i j) access a pid old new i j)

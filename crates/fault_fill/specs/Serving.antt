@@ -15,7 +15,7 @@ use Rattle.machine_state.specs.PlaceOf.{is_blank}
 use Rattle.machine_state.specs.Done.{KeepsThrough}
 use Rattle.machine_state.specs.Settled.{IsSameBeside}
 use Rattle.clock_hands.specs.Made.{ground, MadeBy, ImageBy, Makes}
-use Rattle.clock_hands.specs.Stops.{StopsAtNext, StopsAmong}
+use Rattle.clock_hands.specs.Stops.{StopsAt, Work}
 
 -- A page that is there, of text that a space shares where it is text, and not due. Another page may be due, unless this
 -- one has to be filled with zeros.
@@ -36,8 +36,10 @@ pub record UnitMade (now : Bool) (locked : List Page) (q : Page) (old new : Stan
   pub keeps : KeepsThrough old new holds before after
 
 -- the run stopped where that unit comes next
-abbrev pub UnitStops : Bool → Page → Standing → Standing → Option SwapImage → Option SwapImage → Stop → Type 0
-UnitStops now q old new before after stop = StopsAtNext (serve_unit old.kernel.place q now) old.kernel old new before after stop
+pub record UnitStops (now : Bool) (q : Page) (old new : Standing) (before after : Option SwapImage) (stop : Stop) : Type 0 where
+  pub entry : Entry
+  pub next : serve_unit old.kernel.place q now ≡ Some entry
+  pub stops : StopsAt entry old new before after stop
 
 -- Units of serving the page, one after another, lead from the one machine and swap image to the other, and the flat states
 -- for which the machine stood stay so.
@@ -48,7 +50,10 @@ pub record ServesTo (now : Bool) (locked : List Page) (q : Page) (old new : Stan
   pub makes : Makes (ground old holds locked) units old new before after
   pub keeps : KeepsThrough old new holds before after
 
--- units of serving the page were made, and the run stopped where the next one comes
-abbrev pub StopsServing : Bool → List Page → Page → Standing → Standing → Option (List NamedFile) → Option SwapImage → Option SwapImage → Stop → Type 0
-StopsServing now locked q old new holds before after stop =
-    StopsAmong (ground old holds locked) (λ us k. Serves us old.kernel.place locked q now k.place) (λ p. serve_unit p q now) old new before after stop
+-- the work of serving the page, by hands that pass over these
+abbrev pub serving_page : Bool → List Page → Page → Work
+serving_page now locked q = record {
+  locked = locked;
+  Unfinished = λ k us l. Serves us k.place locked q now l.place;
+  next = λ p. serve_unit p q now;
+}

@@ -7,10 +7,10 @@ use Rattle.vm_facts.specs.declared.stop.Stop.{Stop}
 use Rattle.io_edge.specs.FileHolding.{NamedFile}
 use Rattle.page_model.specs.Conditions.{Spares}
 use Rattle.clock_hands.specs.LastMoves.{last_moves}
-use Rattle.clock_hands.specs.Stops.{StopsBefore}
+use Rattle.clock_hands.specs.Stops.{StopsBefore, StopsWhile}
 use Rattle.machine_state.specs.Going.{CanGoOn}
 use Rattle.machine_state.specs.Machine.{Standing}
-use Rattle.fault_fill.specs.Serving.{CanServe, StopsServing}
+use Rattle.fault_fill.specs.Serving.{CanServe, serving_page}
 use Rattle.fault_fill.specs.Answers.{ServedAs, ServedNow, IsShort, AllStayValid}
 use Rattle.fault_fill.specs.Units.{NoneMade}
 use Rattle.fault_fill.specs.Growth.{Grown, GrowthRefused}
@@ -86,16 +86,14 @@ AccessComes Touched (accesses.Growth sid pages) answer pid old new before after 
 
 -- Stops.
 
--- the run stopped while the page was served, after few entries
-pub record StopsAtPage (now : Bool) (locked : List Page) (q : Page) (old new : Standing) (holds : Option (List NamedFile)) (before after : Option SwapImage)
-    (stop : Stop) : Type 0 where
-  pub serving : StopsServing now locked q old new holds before after stop
-  pub few : length new.kernel.journal ≤ length old.kernel.journal + length old.kernel.place.transfers + 5
-
--- A refused access never stops the run. Where the stack has to grow, the run stops before growth or its refusal, or once it grew.
+-- The run stops while the page is served, after few entries. A refused access never stops it. Where the stack has to grow, it stops before
+-- growth or its refusal, or once it grew.
 abbrev pub AccessStops : Bool → List Page → Access → ℕ → Standing → Standing → Option (List NamedFile) → Option SwapImage → Option SwapImage → Stop → Type 0
-AccessStops now locked (accesses.Page q) pid old new holds before after stop = StopsAtPage now locked q old new holds before after stop
+AccessStops now locked (accesses.Page q) pid old new holds before after stop =
+    StopsWhile (serving_page now locked q) old new holds before after stop
+    × (length new.kernel.journal ≤ length old.kernel.journal + length old.kernel.place.transfers + 5)
 AccessStops now locked (accesses.Refused signal) pid old new holds before after stop = ⊥
 AccessStops now locked (accesses.Growth sid pages) pid old new holds before after stop =
     (StopsBefore old new stop × (after ≡ before))
-    ⊎ GrownFirst old pid pages (λ between. StopsAtPage now locked (page_names.Stack sid (pages - 1)) between new holds before after stop)
+    ⊎ GrownFirst old pid pages (λ between. StopsWhile (serving_page now locked (page_names.Stack sid (pages - 1))) between new holds before after stop
+    × (length new.kernel.journal ≤ length between.kernel.journal + length between.kernel.place.transfers + 5))

@@ -13,7 +13,6 @@ use Rattle.machine_state.specs.Machine.{Standing}
 use Rattle.machine_state.specs.Sourced.{files_named}
 use Rattle.machine_state.specs.Done.{sources, IsDone, ImageAfter, KeepsThrough}
 use Rattle.machine_state.specs.Settled.{IsSameBeside}
-use Rattle.clock_hands.specs.Stops.{StopsAt}
 use Rattle.clock_hands.specs.LastMoves.{last_moves}
 use Rattle.fault_fill.specs.Serving.{UnitMade, UnitStops, ServesTo}
 use Rattle.fault_fill.specs.declared.served.Served.{Served}
@@ -52,12 +51,6 @@ pub record EndMade (old new : Standing) (holds : Option (List NamedFile)) (befor
   pub told : ImageAfter (files_named old.images) old.kernel before after
   pub rest : IsSameBeside old new
   pub keeps : KeepsThrough old new holds before after
-
--- the run stopped at the end of the oldest transfer
-pub record EndStops (old new : Standing) (before after : Option SwapImage) (stop : Stop) : Type 0 where
-  pub at : StopsAt entries.Done old.kernel before stop new after
-  pub params : new.params ≡ old.params
-  pub images : new.images ≡ old.images
 
 -- nothing was done
 pub record NoneMade (old new : Standing) (before after : Option SwapImage) : Type 0 where

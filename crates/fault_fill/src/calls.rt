@@ -6,7 +6,8 @@ ghost use Rattle.page_model.specs.Conditions.{Spares};
 ghost use Rattle.page_model.specs.Rank.{HasRoom};
 ghost use Rattle.machine_state.specs.Outside.{Asks, GoesOn};
 ghost use Rattle.clock_hands.specs.LastMoves.{last_moves};
-ghost use Rattle.fault_fill.specs.Serving.{CanServe, StopsServing};
+ghost use Rattle.clock_hands.specs.Stops.{StopsWhile};
+ghost use Rattle.fault_fill.specs.Serving.{CanServe, serving_page};
 ghost use Rattle.fault_fill.specs.Answers.{ServedAs, ServedNow, IsShort, AllStayValid};
 
 use crate::pages::{serve_now_on, serve_on};
@@ -27,7 +28,7 @@ pub fn serve_page<F: Files, D: SwapDev>(
     requires can { CanServe m.old.kernel.place page }
     ensures served { MatchResult result (λ answer. ServedAs answer page m.old m.new (F.holds files.old) (stores F.Files D.SwapDev files.old swap.old)
         (stores F.Files D.SwapDev files.new swap.new))
-        (StopsServing false [] page m.old m.new (F.holds files.old) (stores F.Files D.SwapDev files.old swap.old)
+        (StopsWhile (serving_page false [] page) m.old m.new (F.holds files.old) (stores F.Files D.SwapDev files.old swap.old)
         (stores F.Files D.SwapDev files.new swap.new)) }
     ensures few { OnOk result (IsShort page m.old m.new) }
     ensures few_at_stop { OnErr result (length m.new.kernel.journal ≤ length m.old.kernel.journal + length m.old.kernel.place.transfers + 5) }
@@ -53,7 +54,7 @@ pub fn serve_page_now<F: Files, D: SwapDev>(
     requires low { last_moves m.old.kernel.journal ≤ 1000000 }
     ensures served { MatchResult result (λ u. ServedNow locked.now page m.old m.new (F.holds files.old) (stores F.Files D.SwapDev files.old swap.old)
         (stores F.Files D.SwapDev files.new swap.new))
-        (StopsServing true locked.now page m.old m.new (F.holds files.old) (stores F.Files D.SwapDev files.old swap.old)
+        (StopsWhile (serving_page true locked.now page) m.old m.new (F.holds files.old) (stores F.Files D.SwapDev files.old swap.old)
         (stores F.Files D.SwapDev files.new swap.new)) }
     ensures few { OnOk result (IsShort page m.old m.new) }
     ensures few_at_stop { OnErr result (length m.new.kernel.journal ≤ length m.old.kernel.journal + length m.old.kernel.place.transfers + 5) }

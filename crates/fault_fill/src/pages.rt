@@ -5,7 +5,8 @@ ghost use Rattle.std.specs.Prelude.{◌≡◌, ◌≤◌, true, false, [], Match
 ghost use Rattle.machine_state.specs.Outside.{Asks, GoesOn};
 ghost use Rattle.page_model.specs.Rank.{HasRoom};
 ghost use Rattle.clock_hands.specs.LastMoves.{last_moves};
-ghost use Rattle.fault_fill.specs.Serving.{CanServe, StopsServing};
+ghost use Rattle.clock_hands.specs.Stops.{StopsWhile};
+ghost use Rattle.fault_fill.specs.Serving.{CanServe, serving_page};
 ghost use Rattle.fault_fill.specs.Units.{GoesFurther};
 ghost use Rattle.fault_fill.specs.Answers.{ServesAs, ServesNow};
 
@@ -27,7 +28,7 @@ pub(crate) fn serve_on<F: Files, D: SwapDev>(
     requires can { CanServe m.old.kernel.place page }
     ensures served { MatchResult result (λ answer. ServesAs answer page m.old m.new (F.holds files.old) (stores F.Files D.SwapDev files.old swap.old)
         (stores F.Files D.SwapDev files.new swap.new))
-        (StopsServing false [] page m.old m.new (F.holds files.old) (stores F.Files D.SwapDev files.old swap.old)
+        (StopsWhile (serving_page false [] page) m.old m.new (F.holds files.old) (stores F.Files D.SwapDev files.old swap.old)
         (stores F.Files D.SwapDev files.new swap.new)) }
     ensures goes_on { GoesOn F.Files D.SwapDev result m.new files.old files.new swap.old swap.new }
 {
@@ -55,7 +56,7 @@ fn serve_further<F: Files, D: SwapDev>(
     requires low { m.old.kernel.place.free ≡ [] → last_moves m.old.kernel.journal ≤ 1000000 }
     ensures made { MatchResult result (λ more. GoesFurther more locked.now page m.old m.new (F.holds files.old) (stores F.Files D.SwapDev files.old swap.old)
         (stores F.Files D.SwapDev files.new swap.new))
-        (StopsServing true locked.now page m.old m.new (F.holds files.old) (stores F.Files D.SwapDev files.old swap.old)
+        (StopsWhile (serving_page true locked.now page) m.old m.new (F.holds files.old) (stores F.Files D.SwapDev files.old swap.old)
         (stores F.Files D.SwapDev files.new swap.new)) }
     ensures goes_on { GoesOn F.Files D.SwapDev result m.new files.old files.new swap.old swap.new }
 {
@@ -94,7 +95,7 @@ pub(crate) fn serve_now_on<F: Files, D: SwapDev>(
     requires low { m.old.kernel.place.free ≡ [] → last_moves m.old.kernel.journal ≤ 1000000 }
     ensures served { MatchResult result (λ u. ServesNow locked.now page m.old m.new (F.holds files.old) (stores F.Files D.SwapDev files.old swap.old)
         (stores F.Files D.SwapDev files.new swap.new))
-        (StopsServing true locked.now page m.old m.new (F.holds files.old) (stores F.Files D.SwapDev files.old swap.old)
+        (StopsWhile (serving_page true locked.now page) m.old m.new (F.holds files.old) (stores F.Files D.SwapDev files.old swap.old)
         (stores F.Files D.SwapDev files.new swap.new)) }
     ensures goes_on { GoesOn F.Files D.SwapDev result m.new files.old files.new swap.old swap.new }
 {

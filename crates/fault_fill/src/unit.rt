@@ -7,6 +7,7 @@ ghost use Rattle.page_model.specs.Pages.{frame_of};
 ghost use Rattle.page_model.specs.Placement.{IsThere, state_of, filling_of};
 ghost use Rattle.page_model.specs.Conditions.{IsShared};
 ghost use Rattle.flat_state.specs.PageNames.{number_of};
+ghost use Rattle.vm_facts.specs.declared.entry.Entry.TheVariants as entries;
 ghost use Rattle.vm_facts.specs.declared.page.PageState.TheVariants.{Invalid};
 ghost use Rattle.page_model.specs.Runs.{run_in, spare_frames};
 ghost use Rattle.kernel_model.specs.Asks.{HasSpace};
@@ -15,9 +16,10 @@ ghost use Rattle.machine_state.specs.Views.{IsNamedBy, ShowsSpace};
 ghost use Rattle.machine_state.specs.Showing.{ShowsCore};
 ghost use Rattle.machine_state.specs.PlaceOf.{is_blank};
 ghost use Rattle.machine_state.specs.Outside.{Asks, GoesOn};
+ghost use Rattle.clock_hands.specs.Stops.{StopsAt};
 ghost use Rattle.fault_fill.specs.Homes.{IsHome};
 ghost use Rattle.fault_fill.specs.Serving.{CanServe};
-ghost use Rattle.fault_fill.specs.Units.{PlainMade, PlainStop, AnyUnit, AnyStop, EndMade, EndStops, ComesTo};
+ghost use Rattle.fault_fill.specs.Units.{PlainMade, PlainStop, AnyUnit, AnyStop, EndMade, ComesTo};
 
 use crate::served::Served;
 use clock_hands::kluster_io::pick_in;
@@ -133,7 +135,7 @@ pub(crate) fn finish<F: Files, D: SwapDev>(
     requires some { 0 < length m.old.kernel.place.transfers }
     ensures made { MatchResult result (λ u. EndMade m.old m.new (F.holds files.old) (stores F.Files D.SwapDev files.old swap.old)
         (stores F.Files D.SwapDev files.new swap.new))
-        (EndStops m.old m.new (stores F.Files D.SwapDev files.old swap.old) (stores F.Files D.SwapDev files.new swap.new)) }
+        (StopsAt entries.Done m.old m.new (stores F.Files D.SwapDev files.old swap.old) (stores F.Files D.SwapDev files.new swap.new)) }
     ensures goes_on { GoesOn F.Files D.SwapDev result m.new files.old files.new swap.old swap.new }
 {
     m.done(files, swap)?;

@@ -20,10 +20,10 @@ use Rattle.run_model.proofs.After.{after_journal, units_journal}
 use Rattle.run_laws.proofs.Lawful.{follows_state}
 use Rattle.journal_laws.proofs.Journals.{leads_follow}
 use Rattle.journal_laws.proofs.Units.{none_leads}
-use Rattle.step_units.specs.Stepped.{LeadsFrom}
+use Rattle.step_units.specs.Stepped.{LeadsFrom, StopsFrom}
 use Rattle.vm_core.specs.Cores.{StandsIn}
 use Rattle.vm_core.specs.Schedules.{HaveFewMoves}
-use Rattle.film_core.specs.Films.{Filming, FilmAt, IsFilming, OneMore, FilmGoes, IsInOrder, StopsElse, FilmsAt}
+use Rattle.film_core.specs.Films.{Filming, FilmAt, IsFilming, OneMore, FilmGoes, IsInOrder, FilmsAt}
 use Rattle.film_core.specs.Marks.{mark_behind, lines_behind, last_entry}
 use Rattle.film_core.specs.Ways.{IsReached}
 use Rattle.film_core.specs.Entries.{FullAt, EntryMade, caught_up}
@@ -168,8 +168,8 @@ film_goes old new m ended lines holds i j on few ready f c A s image are at =
 
 pub film_stops : (old : Filming) (new : Filming) (lines : List Event) (holds : Option (List NamedFile)) (i j : Option SwapImage) (stop : Stop)
     → old.over ≡ false
-    → StopsElse (FullAt old.machine old.mark lines old.lines old.counted holds i) old.machine new.machine j stop
-    → StopsElse (FilmsAt old lines holds i) old.machine new.machine j stop
+    → (stop ≡ stops.JournalFull → ⊥) × StopsFrom (FullAt old.machine old.mark lines old.lines old.counted holds i) old.machine new.machine j stop
+    → (stop ≡ stops.JournalFull → ⊥) × StopsFrom (FilmsAt old lines holds i) old.machine new.machine j stop
 film_stops old new lines holds i j stop on f = (f.0, λ A s image at. f.1 A s image (film_full A s old lines holds i image at.0 on at.1))
 
 -- the count fits
@@ -186,7 +186,7 @@ film_fits old m ended lines holds i j on x f e is =
 
 -- no memory is found before a unit
 pub starved_film : (old : Filming) (lines : List Event) (holds : Option (List NamedFile)) (i : Option SwapImage)
-    → StopsElse (FilmsAt old lines holds i) old.machine old.machine i stops.NoMemory
+    → (stops.NoMemory ≡ stops.JournalFull → ⊥) × StopsFrom (FilmsAt old lines holds i) old.machine old.machine i stops.NoMemory
 starved_film old lines holds i = (
   (λ e. cc),
   λ A s image at. record {

@@ -33,7 +33,6 @@ use Rattle.film_core.specs.Ways.{GoesAt, RunsOut, EndsRunning}
 use Rattle.film_core.proofs.Composing.{stands_then, leads_run}
 use Rattle.run_laws.proofs.LongerJournals.{Behind, goes_behind, behind_longer}
 use Rattle.film_core.specs.Entries.{FullAt, EntryMade}
-use Rattle.film_core.specs.Films.{StopsElse}
 
 -- The journal of a machine has room for one entry more.
 
@@ -163,7 +162,7 @@ module _ (old mid new : Standing) (mark : Mark) (lines : List Event) (taken coun
       }
 
   pub other_stops : (stop : Stop) → (stop ≡ stops.JournalFull → ⊥) → StopsFrom (GoesAt mid mark lines taken counted holds i) mid new j stop
-      → StopsElse (FullAt old mark lines taken counted holds i) old new j stop
+      → (stop ≡ stops.JournalFull → ⊥) × StopsFrom (FullAt old mark lines taken counted holds i) old new j stop
   other_stops stop other f = (
     other,
     λ A s image full.

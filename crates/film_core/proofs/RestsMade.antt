@@ -18,13 +18,13 @@ use Rattle.run_model.specs.declared.mark.Mark.TheVariants as marks
 use Rattle.run_model.specs.State.{State}
 use Rattle.run_model.specs.Next.{under, goes_on, turn_instructions, turn_unit, when, last_turned}
 use Rattle.journal_laws.specs.Leads.{Leads}
-use Rattle.journal_laws.specs.Moved.{Moved, StopsMoving}
-use Rattle.journal_laws.specs.Stops.{StopsAt}
+use Rattle.journal_laws.specs.Moved.{Moved, moving_hands}
+use Rattle.journal_laws.specs.Stops.{StopsAt, StopsWhile}
 use Rattle.run_units.proofs.Swapping.{line_asks}
 use Rattle.step_units.specs.Stepped.{StopLeads, LeadsFrom, StopsFrom}
 use Rattle.step_units.specs.Lines.{LineLeads}
 use Rattle.step_units.proofs.LinesContinue.{moves_continue}
-use Rattle.swapper.specs.Putting.{HoldsThere, PutOut, StopsPutting}
+use Rattle.swapper.specs.Putting.{HoldsThere, PutOut, putting_out}
 use Rattle.step_units.proofs.Asking.{hands_made, hands_stop}
 use Rattle.step_units.proofs.Finding.{interrupt_waits}
 use Rattle.step_units.proofs.PuttingOut.{in_comes, out_comes, out_stops}
@@ -250,10 +250,11 @@ hands_rest old new left made counted holds i j m A s image at =
     (hands_made A s old new holds image j left made at.stands.machine at.clear at.mark (subst (λ (o : Option SwapImage). Moved left old new made holds o j) at.stands.told m))
 
 pub hands_stops : (old new : Standing) (left counted : ℕ) (holds : Option (List NamedFile)) (i j : Option SwapImage) (stop : Stop)
-    → StopsMoving left old stop new holds i j
+    → StopsWhile (moving_hands left) old new holds i j stop
     → StopsFrom (RestAt old (marks.Hands left) counted holds i) old new j stop
 hands_stops old new left counted holds i j stop x A s image at =
-    hands_stop A s old new holds image j left stop at.stands.machine at.clear at.mark (subst (λ (o : Option SwapImage). StopsMoving left old stop new holds o j) at.stands.told x)
+    hands_stop A s old new holds image j left stop at.stands.machine at.clear at.mark
+    (subst (λ (o : Option SwapImage). StopsWhile (moving_hands left) old new holds o j stop) at.stands.told x)
 
 pub hands_stay : (old new : Standing) (left made counted : ℕ) (holds : Option (List NamedFile)) (i j : Option SwapImage) → IsSteady old
     → instructions_of old.kernel.journal ≡ counted
@@ -288,11 +289,11 @@ bring_rests old new pid counted holds i j is asks A s image at =
     (subst (λ (o : Option SwapImage). AsksU old.kernel pid o j) at.stands.told asks))
 
 pub bring_stops : (old new : Standing) (pid counted : ℕ) (holds : Option (List NamedFile)) (i j : Option SwapImage) (stop : Stop)
-    → StopsAt (entries.SwapIn pid) old.kernel i stop new j
+    → StopsAt (entries.SwapIn pid) old new i j stop
     → StopsFrom (RestAt old (marks.BringIn pid) counted holds i) old new j stop
 bring_stops old new pid counted holds i j stop x A s image at =
-    stops_here A s old.kernel image stop new j (entries.SwapIn pid) ((line_asks A s at.clear.clear).0 pid at.mark)
-    (subst (λ (o : Option SwapImage). StopsAt (entries.SwapIn pid) old.kernel o stop new j) at.stands.told x)
+    stops_here A s old image stop new j (entries.SwapIn pid) ((line_asks A s at.clear.clear).0 pid at.mark)
+    (subst (λ (o : Option SwapImage). StopsAt (entries.SwapIn pid) old new o j stop) at.stands.told x)
 
 pub put_rests : (old new : Standing) (pid sid counted : ℕ) (holds : Option (List NamedFile)) (i j : Option SwapImage) → HoldsThere old.kernel pid sid
     → PutOut pid sid old new holds i j
@@ -304,6 +305,7 @@ put_rests old new pid sid counted holds i j there o A s image at =
 
 pub put_stops : (old new : Standing) (pid sid counted : ℕ) (holds : Option (List NamedFile)) (i j : Option SwapImage) (stop : Stop)
     → HoldsThere old.kernel pid sid
-    → StopsPutting pid sid old stop new holds i j → StopsFrom (RestAt old (marks.PutOut pid) counted holds i) old new j stop
+    → StopsWhile (putting_out pid sid) old new holds i j stop → StopsFrom (RestAt old (marks.PutOut pid) counted holds i) old new j stop
 put_stops old new pid sid counted holds i j stop there x A s image at =
-    out_stops A s old new holds image j pid sid stop at.stands.machine at.clear at.mark there (subst (λ (o : Option SwapImage). StopsPutting pid sid old stop new holds o j) at.stands.told x)
+    out_stops A s old new holds image j pid sid stop at.stands.machine at.clear at.mark there
+    (subst (λ (o : Option SwapImage). StopsWhile (putting_out pid sid) old new holds o j stop) at.stands.told x)

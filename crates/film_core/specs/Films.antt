@@ -4,8 +4,6 @@ use Rattle.vm_facts.specs.SwapImages.{SwapImage}
 use Rattle.vm_facts.specs.declared.entry.Entry.{Entry}
 use Rattle.vm_facts.specs.declared.event.Event.{Event}
 use Rattle.vm_facts.specs.declared.params.Params.{Params}
-use Rattle.vm_facts.specs.declared.stop.Stop.{Stop}
-use Rattle.vm_facts.specs.declared.stop.Stop.TheVariants as stops
 use Rattle.io_edge.specs.FileHolding.{NamedFile}
 use Rattle.flat_state.specs.Flat.{Inputs}
 use Rattle.flat_state.specs.Journal.{append}
@@ -20,7 +18,6 @@ use Rattle.vm_core.specs.FirstProcesses.{IsNew}
 use Rattle.vm_core.specs.Cores.{StandsIn}
 use Rattle.vm_core.specs.Lawful.{IsJournalOf}
 use Rattle.vm_core.specs.RunEnds.{IsAskedOf}
-use Rattle.step_units.specs.Stepped.{StopsFrom}
 
 -- What contracts see of a film: its machine, how many lines of the schedule were taken, the last mark, how many instructions were
 -- counted, and whether the run is over.
@@ -102,10 +99,6 @@ pub record OneMore (A : Inputs) (s : State) (old new : Filming) (holds : Option 
 abbrev pub FilmGoes : Filming → Filming → List Event → Option (List NamedFile) → Option SwapImage → Option SwapImage → Type 0
 FilmGoes old new lines holds i j =
     (A : Inputs) (s : State) (image : SwapImage) → A.lines ≡ lines → FilmAt A s old holds i image → OneMore A s old new holds image j
-
--- The run stopped on the way from each state at which this is so, for another cause than a full journal.
-abbrev pub StopsElse : (Inputs → State → SwapImage → Type 0) → Standing → Standing → Option SwapImage → Stop → Type 0
-StopsElse IsAt old new j stop = (stop ≡ stops.JournalFull → ⊥) × StopsFrom IsAt old new j stop
 
 -- the film stands at a state of a run with these lines
 abbrev pub FilmsAt : Filming → List Event → Option (List NamedFile) → Option SwapImage → Inputs → State → SwapImage → Type 0

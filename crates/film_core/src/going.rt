@@ -13,7 +13,7 @@ ghost use Rattle.step_units.specs.Stepped.{AtSome, LeadsFrom, StopsFrom};
 ghost use Rattle.vm_core.specs.Choosing.{turn_after};
 ghost use Rattle.vm_core.specs.Runs.{IsSteady};
 ghost use Rattle.vm_core.specs.Schedules.{HaveFewMoves};
-ghost use Rattle.film_core.specs.Films.{IsFilming, FilmGoes, one_wider, StopsElse, FilmsAt};
+ghost use Rattle.film_core.specs.Films.{IsFilming, FilmGoes, one_wider, FilmsAt};
 ghost use Rattle.film_core.specs.Marks.{last_entry};
 ghost use Rattle.film_core.specs.Ways.{MayNote, StaysOn, EndsRunning, RestDone, OverAt, PastAt, OverBeforeTurn, RunsOut, RoundAt, UnderAt, GoesAt};
 ghost use Rattle.film_core.specs.Entries.{caught_up, FullAt, EntryMade};
@@ -309,8 +309,9 @@ fn one_entry<F: Files, D: SwapDev>(
     requires count { length lines.now < 2 ^ 32 }
     ensures made { IfOk result (λ over. LeadsFrom (FullAt m.old mark lines.now taken counted (F.holds files.old) (stores F.Files D.SwapDev files.old swap.old))
         (EntryMade m.old m.new over (F.holds files.old) (stores F.Files D.SwapDev files.new swap.new))) }
-    ensures stops { IfErr result (StopsElse (FullAt m.old mark lines.now taken counted (F.holds files.old) (stores F.Files D.SwapDev files.old swap.old))
-        m.old m.new (stores F.Files D.SwapDev files.new swap.new)) }
+    ensures stops { IfErr result (λ stop. (stop ≡ Stop.JournalFull → ⊥)
+        × StopsFrom (FullAt m.old mark lines.now taken counted (F.holds files.old) (stores F.Files D.SwapDev files.old swap.old)) m.old m.new
+        (stores F.Files D.SwapDev files.new swap.new) stop) }
     ensures params { OnOk result (m.new.params ≡ one_wider m.old.params) }
     ensures images { OnOk result (m.new.images ≡ m.old.images) }
     ensures outside { TransfersPages F.Files D.SwapDev (stop_of result) files.old files.new swap.old swap.new }
@@ -363,9 +364,9 @@ impl Film {
         requires backed { IsBacked self.old.machine (F.holds files.old) (D.blocks swap.old) }
         ensures goes { OnOk result (FilmGoes self.old self.new lines.now (F.holds files.old) (stores F.Files D.SwapDev files.old swap.old)
             (stores F.Files D.SwapDev files.new swap.new)) }
-        ensures stops { IfErr result
-            (StopsElse (FilmsAt self.old lines.now (F.holds files.old) (stores F.Files D.SwapDev files.old swap.old)) self.old.machine self.new.machine
-            (stores F.Files D.SwapDev files.new swap.new)) }
+        ensures stops { IfErr result (λ stop. (stop ≡ Stop.JournalFull → ⊥)
+            × StopsFrom (FilmsAt self.old lines.now (F.holds files.old) (stores F.Files D.SwapDev files.old swap.old)) self.old.machine self.new.machine
+            (stores F.Files D.SwapDev files.new swap.new) stop) }
         ensures params { OnOk result (self.new.machine.params ≡ one_wider self.old.machine.params) }
         ensures images { OnOk result (self.new.machine.images ≡ self.old.machine.images) }
         ensures outside { TransfersPages F.Files D.SwapDev (stop_of result) files.old files.new swap.old swap.new }

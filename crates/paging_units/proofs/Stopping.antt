@@ -25,7 +25,7 @@ use Rattle.machine_state.specs.Settled.{IsSameBeside}
 use Rattle.machine_state.specs.Joined.{IsFullFor}
 use Rattle.machine_state.specs.Performing.{IsAtBound, StopsForRoom}
 use Rattle.paging_units.specs.Made.{Ground, ground, Made, MakesUnit}
-use Rattle.paging_units.specs.Stops.{CauseBy, SpoilsBy, StopsAt, StopsAtNext, StopsAmong, StaysPut, StaysStarved, StopsPut, StopsLess, LeftBy}
+use Rattle.paging_units.specs.Stops.{CauseBy, SpoilsBy, PlaceLeft, StoppedByFault, StopsAt, Work, StopsWhile, StaysPut, StaysStarved, LeftBy}
 use Rattle.paging_units.proofs.Units.{same_ground}
 
 -- an entry that is never joined makes the journal longer
@@ -65,19 +65,21 @@ held_here stop old new s w cause full = elim cause [
 ]
 
 -- where the oldest transfer is lost
-pub stops_less : (old new : Standing) → old.before ≡ old.kernel.holdings → HasLostOldest old new → StopsLess old.kernel new
-stops_less old new w l = record {
+pub stops_less : (stop : Stop) (old new : Standing) → old.before ≡ old.kernel.holdings → HasLostOldest old new
+    → PlaceLeft stop old.kernel.place new.kernel.place → StoppedByFault stop old.kernel new
+stops_less stop old new w l place = record {
   stopped = ap (λ (k : Kernel). k.stopped) l.kernel;
-  place = l.place;
+  place = place;
   holdings = l.before ∙ w;
   processes = ap (λ (k : Kernel). map outline_kept k.processes) l.kernel;
 }
 
 -- where a u page failed
-pub stops_put : (old new : Standing) → old.before ≡ old.kernel.holdings → HasFailed old new → StopsPut old.kernel new
-stops_put old new w l = record {
+pub stops_put : (stop : Stop) (old new : Standing) → old.before ≡ old.kernel.holdings → HasFailed old new
+    → (new.kernel.place ≡ old.kernel.place → PlaceLeft stop old.kernel.place new.kernel.place) → StoppedByFault stop old.kernel new
+stops_put stop old new w l place = record {
   stopped = ap (λ (k : Kernel). k.stopped) l.kernel;
-  place = ap (λ (k : Kernel). k.place) l.kernel;
+  place = place (ap (λ (k : Kernel). k.place) l.kernel);
   holdings = l.before ∙ w;
   processes = ap (λ (k : Kernel). map outline_kept k.processes) l.kernel;
 }
@@ -88,9 +90,9 @@ pub ending_left : (stop : Stop) (old new : Standing) → HasStopped old new → 
     → LosesFor (Err stop) old new → LeftBy stop old.kernel new
 ending_left stops.JournalFull old new s w full lost = full_here old new s w (full refl)
 ending_left stops.NoMemory old new s w full lost = λ running. inl (stays_starved old new s w running)
-ending_left stops.FileFault old new s w full lost = stops_less old new w lost
-ending_left stops.SwapReadFault old new s w full lost = inl (stops_less old new w lost)
-ending_left stops.SwapWriteFault old new s w full lost = inl (stops_less old new w lost)
+ending_left stops.FileFault old new s w full lost = stops_less stops.FileFault old new w lost lost.place
+ending_left stops.SwapReadFault old new s w full lost = stops_less stops.SwapReadFault old new w lost (inl lost.place)
+ending_left stops.SwapWriteFault old new s w full lost = stops_less stops.SwapWriteFault old new w lost (inl lost.place)
 
 -- at the writing or the reading of a u page
 pub moved_left : (stop : Stop) (old new : Standing) → HasStopped old new → old.before ≡ old.kernel.holdings
@@ -99,8 +101,8 @@ pub moved_left : (stop : Stop) (old new : Standing) → HasStopped old new → o
 moved_left stops.JournalFull old new s w full never failed = full_here old new s w (full refl)
 moved_left stops.NoMemory old new s w full never failed = λ running. inl (stays_starved old new s w running)
 moved_left stops.FileFault old new s w full never failed = absurd (never refl)
-moved_left stops.SwapReadFault old new s w full never failed = inr (stops_put old new w failed)
-moved_left stops.SwapWriteFault old new s w full never failed = inr (stops_put old new w failed)
+moved_left stops.SwapReadFault old new s w full never failed = stops_put stops.SwapReadFault old new w failed (λ e. inr e)
+moved_left stops.SwapWriteFault old new s w full never failed = stops_put stops.SwapWriteFault old new w failed (λ e. inr e)
 
 err_cause : {A : Type 0} (stop : Stop) → (let r : Result A Stop = Err stop in (r ≡ Err stops.JournalFull) ⊎ (r ≡ Err stops.NoMemory))
     → (stop ≡ stops.JournalFull) ⊎ (stop ≡ stops.NoMemory)
@@ -114,7 +116,7 @@ pub call_stops : {A : Type 0} (r : Result A Stop) (e : Entry) (old new : Standin
     → ((stop : Stop) → (stop ≡ stops.JournalFull) ⊎ (stop ≡ stops.NoMemory) → CauseBy e stop old.kernel.place.transfers)
     → ((stop : Stop) → SpoilsBy (files_named new.images) e stop old.kernel i i)
     → StopsForRoom (IsFullFor old.kernel.journal old.params.journal e) r old new → old.before ≡ old.kernel.holdings
-    → IfErr r (λ stop. StopsAt e old.kernel i stop new i)
+    → IfErr r (StopsAt e old new i i)
 call_stops (Ok x) e old new i cause image s w = tt
 call_stops {A} (Err stop) e old new i cause image s w =
     let same : new.params ≡ old.params = s.stop.params in
@@ -129,6 +131,8 @@ call_stops {A} (Err stop) e old new i cause image s w =
       );
       cause = cause stop (err_cause {A = A} stop s.cause);
       image = image stop;
+      params = s.stop.params;
+      images = s.stop.images;
     }
 
 -- for an entry that is never joined, it is enough that the journal is at its bound
@@ -161,7 +165,7 @@ pub done_stops : (stop : Stop) (old new : Standing) (i j : Option SwapImage) →
     → (((let r : Result Bool Stop = Err stop in r) ≡ Err stops.JournalFull)
     ↔ ((0 < length old.kernel.place.transfers) × (old.params.journal ≤ length old.kernel.journal)))
     → LosesFor (Err stop) old new → SwapAfter (Err stop) (files_named old.images) old.kernel i j
-    → old.before ≡ old.kernel.holdings → StopsAt entries.Done old.kernel i stop new j
+    → old.before ≡ old.kernel.holdings → StopsAt entries.Done old new i j stop
 done_stops stop old new i j s c full lost image w = record {
   journal = s.journal;
   held = ending_left stop old new s w (λ h. (full.0 (ap (λ (t : Stop). let r : Result Bool Stop = Err t in r) h)).1) lost;
@@ -175,32 +179,36 @@ done_stops stop old new i j s c full lost image w = record {
   );
   cause = c;
   image = subst (λ (ns : List ImageNamed). SwapAfter (Err stop) (files_named ns) old.kernel i j) (sym s.images) image;
+  params = s.params;
+  images = s.images;
 }
 
--- a stop where some unit comes next, after a part of the call that left its sizes and images
-pub next_later : (coming : Option Entry) (k : Kernel) (old between new : Standing) (i j : Option SwapImage) (stop : Stop) → IsSameBeside old between
-    → StopsAtNext coming k between new i j stop → StopsAtNext coming k old new i j stop
-next_later coming k old between new i j stop b s = record {
-  entry = s.entry;
-  next = s.next;
-  stops = s.stops;
+-- a stop where a unit comes next in a kernel, after a part of the call that left the sizes and images
+pub next_later : (e : Entry) (k : Kernel) (old between new : Standing) (i j : Option SwapImage) (stop : Stop) → IsSameBeside old between
+    → StopsAt e (record between { kernel = k }) new i j stop → StopsAt e (record old { kernel = k }) new i j stop
+next_later e k old between new i j stop b s = record {
+  journal = s.journal;
+  held = s.held;
+  full = s.full;
+  cause = s.cause;
+  image = s.image;
   params = s.params ∙ b.params;
   images = s.images ∙ b.images;
 }
 
 -- a call that stops where its first unit comes next
-pub stops_at_first : (g : Ground) (Leads : List Entry → Kernel → Type 0) (next_at : Placement → Option Entry) (old new : Standing)
-    (i j : Option SwapImage) (stop : Stop)
-    → Leads [] old.kernel → StopsAtNext (next_at old.kernel.place) old.kernel old new i j stop → StopsAmong g Leads next_at old new i j stop
-stops_at_first g Leads next_at old new i j stop leads there =
-    record { units = []; at = old.kernel; image = i; made = (refl, refl); leads = leads; there = there }
+pub stops_at_first : (work : Work) (e : Entry) (old new : Standing) (holds : Option (List NamedFile)) (i j : Option SwapImage) (stop : Stop)
+    → work.Unfinished old.kernel [] old.kernel → work.next old.kernel.place ≡ Some e → StopsAt e old new i j stop → StopsWhile work old new holds i j stop
+stops_at_first work e old new holds i j stop leads next stops =
+    record { units = []; at = old.kernel; image = i; made = (refl, refl); leads = leads; entry = e; next = next; stops = stops }
 
--- a unit, and then a call that stops on its way
-pub stops_after_unit : (Leads Later : List Entry → Kernel → Type 0) (next_at : Placement → Option Entry) (e : Entry) (old between new : Standing)
-    (holds later : Option (List NamedFile)) (locked : List Page) (i h j : Option SwapImage) (stop : Stop) → later ≡ holds
-    → MakesUnit (ground old holds locked) e old between i h → ((us : List Entry) (k : Kernel) → Later us k → Leads (e ∷ us) k)
-    → StopsAmong (ground between later locked) Later next_at between new h j stop → StopsAmong (ground old holds locked) Leads next_at old new i j stop
-stops_after_unit Leads Later next_at e old between new holds later locked i h j stop same m on f = record {
+-- a unit, and then a call that stops on its way with what is left of the work
+pub stops_after_unit : (work rest : Work) (e : Entry) (old between new : Standing) (holds later : Option (List NamedFile)) (i h j : Option SwapImage)
+    (stop : Stop) → later ≡ holds → rest.locked ≡ work.locked → rest.next ≡ work.next
+    → MakesUnit (ground old holds work.locked) e old between i h
+    → ((us : List Entry) (k : Kernel) → rest.Unfinished between.kernel us k → work.Unfinished old.kernel (e ∷ us) k)
+    → StopsWhile rest between new later h j stop → StopsWhile work old new holds i j stop
+stops_after_unit work rest e old between new holds later i h j stop same locks nexts m on f = record {
   units = e ∷ f.units;
   at = f.at;
   image = f.image;
@@ -209,10 +217,13 @@ stops_after_unit Leads Later next_at e old between new holds later locked i h j 
     image = h;
     made = m.made;
     told = m.told;
-    rest = subst (λ (g : Ground). Made g f.units between.kernel h f.at f.image) (same_ground old between holds later locked same m.beside) f.made;
+    rest = subst (λ (g : Ground). Made g f.units between.kernel h f.at f.image) (same_ground old between holds later work.locked same m.beside)
+        (subst (λ (locked : List Page). Made (ground between later locked) f.units between.kernel h f.at f.image) locks f.made);
   };
   leads = on f.units f.at f.leads;
-  there = next_later (next_at f.at.place) f.at old between new f.image j stop m.beside f.there;
+  entry = f.entry;
+  next = subst (λ (next_at : Placement → Option Entry). next_at f.at.place ≡ Some f.entry) nexts f.next;
+  stops = next_later f.entry f.at old between new f.image j stop m.beside f.stops;
 }
 
 -- where no transfer is in flight the end of none leaves the image

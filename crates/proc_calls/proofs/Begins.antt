@@ -1,11 +1,12 @@
 -- A process that has left its space may start an image, once its pieces are found.
-use Rattle.std.proofs.Common.{◌≡◌, ◌<◌, ◌≤◌, ℕ, Bool, true, false, List, length, Option, refl, sym, ap, ◌∙◌, subst, inl, inr}
+use Rattle.std.proofs.Common.{◌≡◌, ◌<◌, ◌≤◌, ℕ, Bool, true, false, List, [], length, Option, refl, sym, ap, ◌∙◌, subst, inl, inr}
 use Rattle.std.specs.Prelude.{Result, Ok, Err, IfOk, OnOk, IfErr}
 use Rattle.vm_facts.specs.SwapImages.{SwapImage}
 use Rattle.io_edge.specs.FileHolding.{NamedFile}
 use Rattle.vm_facts.specs.declared.page.Page.{Page}
 use Rattle.vm_facts.specs.declared.page.Page.TheVariants.{Stack}
 use Rattle.vm_facts.specs.declared.regs.Regs.{Regs}
+use Rattle.vm_facts.specs.declared.entry.Entry.TheVariants as entries
 use Rattle.vm_facts.specs.declared.stop.Stop.{Stop}
 use Rattle.vm_facts.specs.declared.stop.Stop.TheVariants as stops
 use Rattle.user_vax.specs.declared.refused.Refused.{Refused}
@@ -35,10 +36,10 @@ use Rattle.vfork_pass.specs.Passed.{HasGivenBack}
 use Rattle.proc_calls.specs.declared.replying.Called.{Called}
 use Rattle.proc_calls.specs.declared.replying.Called.TheVariants as calls
 use Rattle.proc_calls.specs.Callers.{IsCaller}
-use Rattle.proc_calls.specs.Answered.{Answered}
-use Rattle.proc_calls.specs.Filling.{StopsStart}
+use Rattle.proc_calls.specs.Answered.{Answered, StopsReading}
+use Rattle.proc_calls.specs.Filling.{StopsFilling}
 use Rattle.proc_calls.specs.Leaving.{HasSettled, HasLeftBy}
-use Rattle.proc_calls.specs.Starting.{image_wanted, image_found, LeavesFor, FindsBy, Finds, Starts, ExecComes, StopsImage, StopsExec}
+use Rattle.proc_calls.specs.Starting.{image_wanted, image_found, LeavesFor, FindsBy, Finds, Starts, ExecComes, StopsExec}
 use Rattle.proc_calls.proofs.Callers.{caller_lives}
 use Rattle.machine_state.proofs.Asked.{stopped_found}
 use Rattle.fault_fill.specs.Growth.{space_of_pid, with_pieces}
@@ -164,7 +165,7 @@ pub reply_stops : (stop : Stop) (fits : Bool) (m asked new : Standing) (pid imag
     (holds : Option (List NamedFile)) (i j : Option SwapImage)
     → fits ≡ true → Finds (image_found image) fits m asked pid holds i j → m.before ≡ m.kernel.holdings
     → length asked.kernel.journal < asked.params.journal → (let r : Result Called Stop = Err stop in StopsForRoom (IsAtBound asked) r asked new)
-    → StopsImage m new pid after image top holds i j stop
+    → StopsExec m new pid (Does after (Exec image top)) holds i j stop
 reply_stops stop fits m asked new pid image after top holds i j e f w room s =
     let l : LeavesFor (image_found image) m asked pid holds i j = found_of fits true m asked pid image holds i j e f in
     let r = is_ready m l.between pid holds i j l.left in
@@ -183,23 +184,24 @@ reply_stops stop fits m asked new pid image after top holds i j e f w room s =
 pub fill_stops : (stop : Stop) (fits : Bool) (m asked between new : Standing) (pid image : ℕ) (after : Regs) (top : List ℕ) (page : Page)
     (holds later : Option (List NamedFile)) (i told j : Option SwapImage)
     → later ≡ holds → fits ≡ true → page ≡ Stack m.kernel.next_sid 0 → Finds (image_found image) fits m asked pid holds i told
-    → Answered asked between pid Execve after (Exec image top) → StopsStart page between new later told j stop
-    → StopsImage m new pid after image top holds i j stop
+    → Answered asked between pid Execve after (Exec image top) → StopsFilling (entries.Zero page) [] between new later told j stop
+    → StopsExec m new pid (Does after (Exec image top)) holds i j stop
 fill_stops stop fits m asked between new pid image after top page holds later i told j same e is f a s =
     inr (
       told,
       record {
         reached = between;
         far = record { asked = asked; finds = found_of fits true m asked pid image holds i told e f; answer = a };
-        stops = subst (λ (q : Page). StopsStart q between new holds told j stop) is (subst (λ (h : Option (List NamedFile)). StopsStart page between new h told j stop) same s);
+        stops = subst (λ (q : Page). StopsFilling (entries.Zero q) [] between new holds told j stop) is
+            (subst (λ (h : Option (List NamedFile)). StopsFilling (entries.Zero page) [] between new h told j stop) same s);
       },
     )
 
 pub exec_stops : (r : Result Called Stop) (old m new : Standing) (pid image : ℕ) (after : Regs) (top : List ℕ) (asked : Result Reply Refused)
     (holds : Option (List NamedFile)) (i j : Option SwapImage)
-    → m ≡ old → asked ≡ Ok (Does after (Exec image top)) → IfErr r (StopsImage m new pid after image top holds i j)
-    → IfErr r (StopsExec old new pid asked holds i j)
+    → m ≡ old → asked ≡ Ok (Does after (Exec image top)) → IfErr r (StopsExec m new pid (Does after (Exec image top)) holds i j)
+    → IfErr r (StopsReading asked (λ reply. StopsExec old new pid reply holds) old new i j)
 exec_stops (Ok called) old m new pid image after top asked holds i j same e s = tt
 exec_stops (Err stop) old m new pid image after top asked holds i j same e s =
-    subst (λ (a : Result Reply Refused). StopsExec old new pid a holds i j stop) (sym e)
-    (subst (λ (x : Standing). StopsImage x new pid after image top holds i j stop) same s)
+    subst (λ (a : Result Reply Refused). StopsReading a (λ reply. StopsExec old new pid reply holds) old new i j stop) (sym e)
+    (subst (λ (x : Standing). StopsExec x new pid (Does after (Exec image top)) holds i j stop) same s)

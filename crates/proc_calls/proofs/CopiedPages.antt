@@ -17,10 +17,10 @@ use Rattle.machine_state.specs.Performing.{IsAtBound, Performs, StopsForRoom}
 use Rattle.machine_state.specs.Done.{KeepsThrough}
 use Rattle.fault_fill.specs.LastMoves.{last_moves}
 use Rattle.fault_fill.specs.Made.{ground}
-use Rattle.fault_fill.specs.Stops.{StopsAt}
+use Rattle.fault_fill.specs.Stops.{StopsAt, StopsWhile}
 use Rattle.fault_fill.proofs.Keeping.{made_shaped, keeps_flat, keeps_both}
 use Rattle.fault_fill.proofs.Stopping.{call_stops, plain_room}
-use Rattle.fault_fill.specs.Forced.{Forced, StopsForcing}
+use Rattle.fault_fill.specs.Forced.{Forced, forcing_frame}
 use Rattle.fault_fill.specs.Answers.{ServesNow}
 use Rattle.proc_calls.specs.Copying.{in_space, AreCopiesFrom, IsCopyFirst, CopiesPage, StopsPage, OnceCopied, CopiesAll, HasCopied, StopsCopying}
 use Rattle.proc_calls.proofs.Copies.{Stay, stay_both, serves_stay, forces_stay, can_serve, filled_frames, last_copy, first_gone}
@@ -55,8 +55,8 @@ same_files : (parent : Page) (served roomy : Standing) (holds later : Option (Li
 same_files parent served roomy holds later h j e f = subst (λ (x : Option (List NamedFile)). Forced (parent ∷ []) served roomy x h j) e f
 
 pub forcing_stops : (parent : Page) (served new : Standing) (stop : Stop) (holds later : Option (List NamedFile)) (h j : Option SwapImage) → later ≡ holds
-    → StopsForcing (parent ∷ []) served stop new later h j → StopsForcing (parent ∷ []) served stop new holds h j
-forcing_stops parent served new stop holds later h j e f = subst (λ (x : Option (List NamedFile)). StopsForcing (parent ∷ []) served stop new x h j) e f
+    → StopsWhile (forcing_frame (parent ∷ [])) served new later h j stop → StopsWhile (forcing_frame (parent ∷ [])) served new holds h j stop
+forcing_stops parent served new stop holds later h j e f = subst (λ (x : Option (List NamedFile)). StopsWhile (forcing_frame (parent ∷ [])) served new x h j stop) e f
 
 pub copied_by : {Alike : Kernel → Kernel → Type 0} (r : Result (Unit {0}) Stop) (child parent : Page) (old served roomy new : Standing)
     (holds later : Option (List NamedFile)) (i h j : Option SwapImage) → later ≡ holds → ServesNow (parent ∷ []) parent old served holds i h
@@ -75,7 +75,7 @@ copied_by (Ok x) child parent old served roomy new holds later i h j e s f keeps
       (keeps_flat roomy new later j p.keeps));
 }
 copied_by (Err stop) child parent old served roomy new holds later i h j e s f keeps p room whole =
-    let at : StopsAt (entries.Copy child) roomy.kernel j stop new j =
+    let at : StopsAt (entries.Copy child) roomy new j j stop =
     call_stops {A = Unit {0}} (Err stop) (entries.Copy child) roomy new j (λ x h. h) (λ x. refl)
     (plain_room {A = Unit {0}} (Err stop) (entries.Copy child) roomy new tt room) whole in
     inr (
@@ -83,7 +83,7 @@ copied_by (Err stop) child parent old served roomy new holds later i h j e s f k
       record {
         reached = served;
         far = s;
-        stops = inr (record { reached = roomy; far = same_files parent served roomy holds later h j e f; stops = (at, room.stop.params, room.stop.images) });
+        stops = inr (record { reached = roomy; far = same_files parent served roomy holds later h j e f; stops = at });
       },
     )
 

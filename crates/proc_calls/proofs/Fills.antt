@@ -26,7 +26,7 @@ use Rattle.fault_fill.specs.Stops.{StopsAt}
 use Rattle.fault_fill.proofs.Keeping.{made_shaped, keeps_flat, keeps_both}
 use Rattle.fault_fill.proofs.Stopping.{call_stops, plain_room}
 use Rattle.fault_fill.specs.Forced.{Forced}
-use Rattle.proc_calls.specs.Filling.{IsStartFirst, FillsStart, StopsStart}
+use Rattle.proc_calls.specs.Filling.{IsStartFirst, FillsStart, StopsFilling}
 
 -- what is due stays as a frame is forced
 due_stays : (us : List Entry) (p r : Placement) (locked : List Page) → OwnsFrames p → Forces us p locked r → r.due ≡ p.due
@@ -54,7 +54,7 @@ can_fill page old roomy holds i j on later s f =
 pub filled_by : {Alike : Kernel → Kernel → Type 0} (r : Result (Unit {0}) Stop) (page : Page) (old roomy new : Standing) (holds later : Option (List NamedFile))
     (i j : Option SwapImage) → later ≡ holds → Forced [] old roomy holds i j → KeepsThrough old roomy holds i j
     → Performs (zero_step roomy.kernel page) Alike r roomy new → StopsForRoom (IsAtBound roomy) r roomy new → roomy.before ≡ roomy.kernel.holdings
-    → MatchResult r (λ x. FillsStart page old new holds i j) (StopsStart page old new holds i j)
+    → MatchResult r (λ x. FillsStart page old new holds i j) (StopsFilling (entries.Zero page) [] old new holds i j)
 filled_by (Ok x) page old roomy new holds later i j e f keeps p s whole = record {
   roomy = roomy;
   forces = f;
@@ -63,7 +63,7 @@ filled_by (Ok x) page old roomy new holds later i j e f keeps p s whole = record
       (keeps_flat roomy new later j p.keeps);
 }
 filled_by (Err stop) page old roomy new holds later i j e f keeps p s whole =
-    let at : StopsAt (entries.Zero page) roomy.kernel j stop new j =
+    let at : StopsAt (entries.Zero page) roomy new j j stop =
     call_stops {A = Unit {0}} (Err stop) (entries.Zero page) roomy new j (λ x h. h) (λ x. refl)
     (plain_room {A = Unit {0}} (Err stop) (entries.Zero page) roomy new tt s) whole in
-    inr (record { reached = roomy; far = f; stops = (at, s.stop.params, s.stop.images) })
+    inr (record { reached = roomy; far = f; stops = at })

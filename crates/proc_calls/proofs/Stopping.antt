@@ -17,9 +17,10 @@ use Rattle.machine_state.specs.Performing.{IsAtBound, StopsForRoom}
 use Rattle.machine_state.proofs.Asked.{stopped_found}
 use Rattle.fault_fill.specs.Stops.{StopsBefore}
 use Rattle.fault_fill.specs.Growth.{space_of_pid, with_pieces}
+use Rattle.proc_calls.specs.Answered.{StopsReading}
 use Rattle.proc_calls.specs.Leaving.{HasSettled, HasLeftBy, HasLeft, StopsLeaving, StopsAlive}
 use Rattle.proc_calls.specs.Starting.{StopsFinding}
-use Rattle.proc_calls.specs.Writing.{StopsOut}
+use Rattle.proc_calls.specs.Writing.{bytes_of, StopsOut}
 use Rattle.proc_calls.specs.Sizing.{process_data_pages, StopsPlain, StopsBreaking}
 
 same_stop : {A : Type 0} (s t : Stop) → (let r : Result A Stop = Err s in r) ≡ Err t → s ≡ t
@@ -97,7 +98,7 @@ lent_stops stop m new pid holds i e w s = inr (e, stops_before {A = Unit {0}} m 
 starved : (m new : Standing) → new ≡ m → HasStopped m new
 starved m new e = subst (HasStopped m) (sym e) (record { journal = refl; params = refl; images = refl; full = λ h. refl; held = λ h. refl })
 
-starved_before : (m new : Standing) (stop : Stop) → new ≡ m → m.before ≡ m.kernel.holdings → stop ≡ stops.NoMemory → StopsBefore m new stop
+pub starved_before : (m new : Standing) (stop : Stop) → new ≡ m → m.before ≡ m.kernel.holdings → stop ≡ stops.NoMemory → StopsBefore m new stop
 starved_before m new stop e w c = record {
   stopped = starved m new e;
   whole = w;
@@ -105,12 +106,13 @@ starved_before m new stop e w c = record {
   full = λ h. absurd (let z : stops.NoMemory ≡ stops.JournalFull = sym c ∙ h in cc);
 }
 
-pub out_starved : (m new : Standing) (pid : ℕ) (read : Result Reply Refused) (stop : Stop) → new ≡ m → m.before ≡ m.kernel.holdings → stop ≡ stops.NoMemory
-    → StopsOut m new pid read stop
-out_starved m new pid (Ok reply) stop e w c = record { reached = m; far = inl refl; stops = starved_before m new stop e w c }
-out_starved m new pid (Err (Miss address write)) stop e w c = (starved m new e, c, w)
-out_starved m new pid (Err (Below address)) stop e w c = starved_before m new stop e w c
-out_starved m new pid (Err (Signal number)) stop e w c = starved_before m new stop e w c
+pub out_starved : (m new : Standing) (pid : ℕ) (read : Result Reply Refused) (image : Option SwapImage) (stop : Stop) → new ≡ m
+    → m.before ≡ m.kernel.holdings → stop ≡ stops.NoMemory
+    → StopsReading read (λ reply before after. StopsOut m new pid (bytes_of reply)) m new image image stop
+out_starved m new pid (Ok reply) image stop e w c = record { reached = m; far = inl refl; stops = starved_before m new stop e w c }
+out_starved m new pid (Err (Miss address write)) image stop e w c = ((starved_before m new stop e w c, c), refl)
+out_starved m new pid (Err (Below address)) image stop e w c = (starved_before m new stop e w c, refl)
+out_starved m new pid (Err (Signal number)) image stop e w c = (starved_before m new stop e w c, refl)
 
 -- Where pieces are asked for.
 

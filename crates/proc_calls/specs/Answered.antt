@@ -1,5 +1,6 @@
 -- What becomes of the machine by any call: a reply, a sleep, an end, or a byte that misses.
-use Rattle.std.specs.Prelude.{◌≡◌, ℕ, true, false, List, [], ◌∷◌, length, None, Result, Ok, Err}
+use Rattle.std.specs.Prelude.{◌≡◌, ℕ, true, false, List, [], ◌∷◌, length, Option, None, Result, Ok, Err}
+use Rattle.vm_facts.specs.SwapImages.{SwapImage}
 use Rattle.vm_facts.specs.declared.regs.Regs.{Regs}
 use Rattle.vm_facts.specs.declared.entry.Entry.{Entry}
 use Rattle.vm_facts.specs.declared.entry.Entry.TheVariants as entries
@@ -17,7 +18,6 @@ use Rattle.flat_model.specs.Step.{call_entry}
 use Rattle.kernel_model.specs.ChangeStep.{change_step}
 use Rattle.machine_state.specs.Machine.{Standing}
 use Rattle.machine_state.specs.Applying.{ChangesWhole, facts_named}
-use Rattle.machine_state.specs.Conditions.{HasStopped}
 use Rattle.fault_fill.specs.Stops.{StopsBefore}
 use Rattle.proc_calls.specs.Callers.{regs_of}
 use Rattle.proc_calls.specs.declared.replying.Called.{Called}
@@ -70,9 +70,14 @@ pub record StopsOnce (Far There : Standing → Type 0) : Type 0 where
   pub far : Far reached
   pub stops : There reached
 
--- The run stops where a byte that a call reads is refused: only for want of memory where the byte's page isn't valid, since no entry
--- comes then, and else before the entry that says that it is a fault.
-abbrev pub StopsReading : Standing → Standing → Refused → Stop → Type 0
-StopsReading old new (Miss address write) stop = HasStopped old new × (stop ≡ stops.NoMemory) × (old.before ≡ old.kernel.holdings)
-StopsReading old new (Below address) stop = StopsBefore old new stop
-StopsReading old new (Signal number) stop = StopsBefore old new stop
+-- The run stops where a byte that a call reads is refused, before the entry that says that it is a fault: only for want of memory where
+-- the byte's page isn't valid, since no entry comes then.
+abbrev pub StopsRefused : Standing → Standing → Refused → Stop → Type 0
+StopsRefused old new (Miss address write) stop = StopsBefore old new stop × (stop ≡ stops.NoMemory)
+StopsRefused old new _ stop = StopsBefore old new stop
+
+-- By what a call reads the run stops so, with the swap image before and after; or where a byte was refused, with the image as it was.
+abbrev pub StopsReading : {A : Type 0} → Result A Refused → (A → Option SwapImage → Option SwapImage → Stop → Type 0) → Standing → Standing
+    → Option SwapImage → Option SwapImage → Stop → Type 0
+StopsReading (Ok read) Stops old new i j stop = Stops read i j stop
+StopsReading (Err refused) Stops old new i j stop = StopsRefused old new refused stop × (j ≡ i)

@@ -13,7 +13,8 @@ use Rattle.machine_state.specs.Machine.{Standing}
 use Rattle.machine_state.specs.Done.{KeepsThrough}
 use Rattle.fault_fill.specs.LastMoves.{last_moves}
 use Rattle.fault_fill.specs.Forced.{Forced}
-use Rattle.fault_fill.specs.Serving.{StopsServing}
+use Rattle.fault_fill.specs.Stops.{StopsWhile}
+use Rattle.fault_fill.specs.Serving.{serving_page}
 use Rattle.fault_fill.specs.Answers.{ServesNow}
 use Rattle.proc_calls.specs.Answered.{StopsOnce}
 use Rattle.proc_calls.specs.Filling.{StopsFilling}
@@ -49,7 +50,7 @@ pub record CopiesPage (child parent : Page) (old new : Standing) (holds : Option
 -- The run stops as the parent's page is served, or once it was, as the child's page takes a frame.
 abbrev pub StopsPage : Page → Page → Standing → Standing → Option (List NamedFile) → Option SwapImage → Option SwapImage → Stop → Type 0
 StopsPage child parent old new holds before after stop =
-    StopsServing true (parent ∷ []) parent old new holds before after stop
+    StopsWhile (serving_page true (parent ∷ []) parent) old new holds before after stop
     ⊎ ((told : Option SwapImage)
     × StopsOnce (λ m. ServesNow (parent ∷ []) parent old m holds before told) (λ m. StopsFilling (Copy child) (parent ∷ []) m new holds told after stop))
 

@@ -3,15 +3,14 @@ use Rattle.std.specs.Prelude.{◌≡◌, ◌⊎◌, ℕ, List, [], ◌∷◌, Op
 use Rattle.vm_facts.specs.SwapImages.{SwapImage}
 use Rattle.vm_facts.specs.declared.page.Page.{Page}
 use Rattle.vm_facts.specs.declared.entry.Entry.{Entry}
-use Rattle.vm_facts.specs.declared.entry.Entry.TheVariants.{Zero}
 use Rattle.vm_facts.specs.declared.stop.Stop.{Stop}
 use Rattle.io_edge.specs.FileHolding.{NamedFile}
 use Rattle.page_model.specs.Placement.{Placement, Due, Start}
 use Rattle.kernel_model.specs.Kernel.{zero_step}
 use Rattle.machine_state.specs.Machine.{Standing}
 use Rattle.machine_state.specs.Done.{KeepsThrough}
-use Rattle.fault_fill.specs.Stops.{StopsAt}
-use Rattle.fault_fill.specs.Forced.{Forced, StopsForcing}
+use Rattle.fault_fill.specs.Stops.{StopsAt, StopsWhile}
+use Rattle.fault_fill.specs.Forced.{Forced, forcing_frame}
 use Rattle.proc_calls.specs.Answered.{StopsOnce}
 
 -- a new stack page is due first
@@ -27,14 +26,8 @@ pub record FillsStart (page : Page) (old new : Standing) (holds : Option (List N
   pub fills : new ≡ record roomy { kernel = zero_step roomy.kernel page; room = None }
   pub keeps : KeepsThrough old new holds before after
 
--- The run stops as a frame is forced by hands that pass over these pages, or once it was, at the entry of the page that takes it,
--- with the sizes and images of before.
+-- The run stops as a frame is forced by hands that pass over these pages, or once it was, at the entry of the page that takes it.
 abbrev pub StopsFilling : Entry → List Page → Standing → Standing → Option (List NamedFile) → Option SwapImage → Option SwapImage → Stop → Type 0
 StopsFilling e locked old new holds before after stop =
-    StopsForcing locked old stop new holds before after
-    ⊎ StopsOnce (λ m. Forced locked old m holds before after)
-    (λ m. StopsAt e m.kernel after stop new after × (new.params ≡ m.params) × (new.images ≡ m.images))
-
--- it stops so as the new stack page is filled
-abbrev pub StopsStart : Page → Standing → Standing → Option (List NamedFile) → Option SwapImage → Option SwapImage → Stop → Type 0
-StopsStart page old new holds before after stop = StopsFilling (Zero page) [] old new holds before after stop
+    StopsWhile (forcing_frame locked) old new holds before after stop
+    ⊎ StopsOnce (λ m. Forced locked old m holds before after) (λ m. StopsAt e m new after after stop)

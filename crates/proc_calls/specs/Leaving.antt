@@ -18,7 +18,7 @@ use Rattle.machine_state.specs.Done.{sources, KeepsThrough}
 use Rattle.fault_fill.specs.Stops.{StopsBefore}
 use Rattle.fault_fill.specs.Growth.{space_of_pid}
 use Rattle.proc_calls.specs.Callers.{regs_of}
-use Rattle.proc_calls.specs.Answered.{Entered, Comes, StopsReading, StopsOnce}
+use Rattle.proc_calls.specs.Answered.{Entered, Comes, StopsOnce}
 use Rattle.proc_calls.specs.declared.replying.Called.{Called}
 use Rattle.proc_calls.specs.declared.replying.Called.TheVariants as calls
 
@@ -76,8 +76,3 @@ abbrev pub StopsAlive : Standing → Standing → ℕ → Option (List NamedFile
 StopsAlive old new pid holds before after stop =
     StopsLeaving old new pid holds before after stop
     ⊎ StopsOnce (λ m. HasLeft old m pid holds before after) (λ m. StopsBefore m new stop)
-
--- an exit stops so, or where its argument is refused
-abbrev pub StopsExit : Standing → Standing → ℕ → Result Reply Refused → Option (List NamedFile) → Option SwapImage → Option SwapImage → Stop → Type 0
-StopsExit old new pid (Ok reply) holds before after stop = StopsAlive old new pid holds before after stop
-StopsExit old new pid (Err refused) holds before after stop = StopsReading old new refused stop × (after ≡ before)

@@ -23,7 +23,7 @@ use Rattle.machine_state.specs.Settled.{StopsSettling}
 use Rattle.machine_state.specs.UserMemory.{text_len}
 use Rattle.fault_fill.specs.Stops.{StopsBefore}
 use Rattle.fault_fill.specs.Growth.{space_of_pid, with_pieces}
-use Rattle.proc_calls.specs.Answered.{Replied, Comes, StopsReading, StopsOnce}
+use Rattle.proc_calls.specs.Answered.{Replied, Comes, StopsOnce}
 use Rattle.proc_calls.specs.Leaving.{HasSettled}
 use Rattle.proc_calls.specs.Making.{without_pieces}
 use Rattle.proc_calls.specs.declared.replying.Called.{Called}
@@ -127,8 +127,3 @@ StopsBreaking old new pid pages holds before after stop =
     ⊎ ((pages < process_data_pages old.kernel pid)
     × (StopsSettling (space_of_pid old.kernel pid) old new holds before after stop
     ⊎ StopsOnce (λ m. HasSettled old m (space_of_pid old.kernel pid) holds before after) (λ m. StopsBefore m new stop)))
-
--- by what the argument reads as
-abbrev pub StopsBreak : Standing → Standing → ℕ → Result ℕ Refused → Option (List NamedFile) → Option SwapImage → Option SwapImage → Stop → Type 0
-StopsBreak old new pid (Ok address) holds before after stop = StopsBreaking old new pid (pages_to old.kernel pid address) holds before after stop
-StopsBreak old new pid (Err refused) holds before after stop = StopsReading old new refused stop × (after ≡ before)

@@ -4,6 +4,7 @@ use Rattle.vm_facts.specs.SwapImages.{SwapImage}
 use Rattle.io_edge.specs.FileHolding.{NamedFile}
 use Rattle.vm_facts.specs.declared.regs.Regs.{Regs}
 use Rattle.vm_facts.specs.declared.page.Page.TheVariants.{Stack}
+use Rattle.vm_facts.specs.declared.entry.Entry.TheVariants as entries
 use Rattle.vm_facts.specs.declared.stop.Stop.{Stop}
 use Rattle.user_vax.specs.Program.{run}
 use Rattle.user_vax.specs.declared.refused.Refused.{Refused}
@@ -32,9 +33,9 @@ use Rattle.fault_fill.specs.Stops.{StopsBefore}
 use Rattle.fault_fill.specs.Growth.{space_of_pid, with_pieces}
 use Rattle.proc_calls.specs.declared.replying.Called.{Called}
 use Rattle.proc_calls.specs.declared.replying.Called.TheVariants as calls
-use Rattle.proc_calls.specs.Answered.{Answered, Comes, StopsOnce, StopsReading}
+use Rattle.proc_calls.specs.Answered.{Answered, Comes, StopsOnce}
 use Rattle.proc_calls.specs.Leaving.{HasLeft, StopsAlive}
-use Rattle.proc_calls.specs.Filling.{FillsStart, StopsStart}
+use Rattle.proc_calls.specs.Filling.{FillsStart, StopsFilling}
 use Rattle.proc_calls.specs.Making.{without_pieces, IsRefused}
 
 -- The pieces.
@@ -143,17 +144,12 @@ abbrev pub StopsFinding : (Standing → Result Holdings ℕ) → Standing → St
 StopsFinding pieces old new pid holds before after stop =
     (StopsBefore old new stop × (after ≡ before)) ⊎ ((is_ok (pieces old) ≡ true) × StopsAlive old new pid holds before after stop)
 
--- as the pieces of the image are found, or after the entry that says that they find no place, or once the call has answered, as the
--- new stack page is filled
-abbrev pub StopsImage : Standing → Standing → ℕ → Regs → ℕ → List ℕ → Option (List NamedFile) → Option SwapImage → Option SwapImage → Stop → Type 0
-StopsImage old new pid after image top holds before behind stop =
+-- By the reply: an execve that starts an image stops as its pieces are found, or after the entry that says that they find no place, or
+-- once the call has answered, as the new stack page is filled; and any other before its entry.
+abbrev pub StopsExec : Standing → Standing → ℕ → Reply → Option (List NamedFile) → Option SwapImage → Option SwapImage → Stop → Type 0
+StopsExec old new pid (Does after (Exec image top)) holds before behind stop =
     (StopsFinding (image_found image) old new pid holds before behind stop
     ⊎ ((is_ok (image_found image old) ≡ false) × StopsBefore (without_pieces old pid) new stop × (behind ≡ before)))
     ⊎ ((told : Option SwapImage) × StopsOnce (λ m. HasStarted old m pid after image top holds before told)
-    (λ m. StopsStart (Stack old.kernel.next_sid 0) m new holds told behind stop))
-
--- by what the reads come to
-abbrev pub StopsExec : Standing → Standing → ℕ → Result Reply Refused → Option (List NamedFile) → Option SwapImage → Option SwapImage → Stop → Type 0
-StopsExec old new pid (Ok (Does after (Exec image top))) holds before behind stop = StopsImage old new pid after image top holds before behind stop
-StopsExec old new pid (Ok reply) holds before behind stop = StopsBefore old new stop × (behind ≡ before)
-StopsExec old new pid (Err refused) holds before behind stop = StopsReading old new refused stop × (behind ≡ before)
+    (λ m. StopsFilling (entries.Zero (Stack old.kernel.next_sid 0)) [] m new holds told behind stop))
+StopsExec old new pid reply holds before behind stop = StopsBefore old new stop × (behind ≡ before)

@@ -7,7 +7,7 @@ use Rattle.flat_model.specs.declared.calls.Reply.TheVariants.{Fails, Does, Write
 use Rattle.flat_model.specs.Calls.{write_limit}
 use Rattle.machine_state.specs.Machine.{Standing}
 use Rattle.fault_fill.specs.Stops.{StopsBefore}
-use Rattle.proc_calls.specs.Answered.{GoneOut, StopsOnce, StopsReading}
+use Rattle.proc_calls.specs.Answered.{GoneOut, StopsOnce}
 
 -- an error, or no more bytes than one write may have
 abbrev pub IsWrite : Reply → Type 0
@@ -22,12 +22,11 @@ abbrev pub IsWriteReply : Result Reply Refused → Type 0
 IsWriteReply (Ok reply) = IsWrite reply
 IsWriteReply (Err refused) = Unit {0}
 
--- with the bytes of a reply, where it writes any
-abbrev pub bytes_of : Result Reply Refused → List ℕ
-bytes_of (Ok (Writes bytes)) = bytes
+-- the bytes of a reply, where it writes any
+abbrev pub bytes_of : Reply → List ℕ
+bytes_of (Writes bytes) = bytes
 bytes_of _ = []
 
--- By what it reads, the write stops before the bytes that go out, or after them, before the call's own entry.
-abbrev pub StopsOut : Standing → Standing → ℕ → Result Reply Refused → Stop → Type 0
-StopsOut old new pid (Ok reply) stop = StopsOnce (λ m. (m ≡ old) ⊎ GoneOut old m pid (bytes_of (Ok reply))) (λ m. StopsBefore m new stop)
-StopsOut old new pid (Err refused) stop = StopsReading old new refused stop
+-- a write stops before its bytes go out, or after them, before the call's own entry
+abbrev pub StopsOut : Standing → Standing → ℕ → List ℕ → Stop → Type 0
+StopsOut old new pid bytes stop = StopsOnce (λ m. (m ≡ old) ⊎ GoneOut old m pid bytes) (λ m. StopsBefore m new stop)

@@ -11,8 +11,9 @@ ghost use Rattle.machine_state.specs.UserMemory.{CanLend, kernel_answers};
 ghost use Rattle.machine_state.specs.Outside.{IsBacked, GoesOn};
 ghost use Rattle.vfork_pass.specs.Passed.{HasGivenBack};
 ghost use Rattle.fault_fill.specs.Growth.{space_of_pid};
+ghost use Rattle.proc_calls.specs.Answered.{StopsReading};
 ghost use Rattle.proc_calls.specs.Callers.{IsCaller};
-ghost use Rattle.proc_calls.specs.Leaving.{HasLeft, HasEnded, IsExit, ExitComes, StopsLeaving, StopsAlive, StopsExit};
+ghost use Rattle.proc_calls.specs.Leaving.{HasLeft, HasEnded, IsExit, ExitComes, StopsLeaving, StopsAlive};
 
 use crate::replying::{Called, process, refuse};
 use flat_model::{Asked, Reply, SystemCall, exit_reply};
@@ -152,8 +153,9 @@ pub fn exit<F: Files, D: SwapDev>(
     requires backed { IsBacked m.old (F.holds files.old) (D.blocks swap.old) }
     ensures comes { IfOk result (λ called. ExitComes m.old m.new pid regs.now (run (kernel_answers m.old.kernel (space_of_pid m.old.kernel pid))
         (exit_reply regs.now)) (F.holds files.old) (stores F.Files D.SwapDev files.old swap.old) (stores F.Files D.SwapDev files.new swap.new) called) }
-    ensures stops { IfErr result (StopsExit m.old m.new pid (run (kernel_answers m.old.kernel (space_of_pid m.old.kernel pid)) (exit_reply regs.now))
-        (F.holds files.old) (stores F.Files D.SwapDev files.old swap.old) (stores F.Files D.SwapDev files.new swap.new)) }
+    ensures stops { IfErr result (StopsReading (run (kernel_answers m.old.kernel (space_of_pid m.old.kernel pid)) (exit_reply regs.now))
+        (λ reply. StopsAlive m.old m.new pid (F.holds files.old)) m.old m.new
+        (stores F.Files D.SwapDev files.old swap.old) (stores F.Files D.SwapDev files.new swap.new)) }
     ensures goes_on { GoesOn F.Files D.SwapDev result m.new files.old files.new swap.old swap.new }
 {
     match read_status(m, pid, regs) {

@@ -10,6 +10,7 @@ ghost use Rattle.machine_state.specs.UserMemory.{CanLend, kernel_answers};
 ghost use Rattle.machine_state.specs.Outside.{IsBacked, GoesOn};
 ghost use Rattle.fault_fill.specs.Growth.{space_of_pid};
 ghost use Rattle.call_reads.specs.Reading.{AreNamed, StartsAs};
+ghost use Rattle.proc_calls.specs.Answered.{StopsReading};
 ghost use Rattle.proc_calls.specs.Callers.{IsCaller};
 ghost use Rattle.proc_calls.specs.Starting.{IsImageOf, execve_read, ExecComes, StopsExec};
 
@@ -60,8 +61,8 @@ pub fn execve<F: Files, D: SwapDev>(
         → IfOk result (ExecComes m.old m.new pid regs.now (execve_read known m.old pid regs.now) (F.holds files.old)
         (stores F.Files D.SwapDev files.old swap.old) (stores F.Files D.SwapDev files.new swap.new)) }
     ensures stops { (known : List NamedImage) → AreNamed known m.old.images
-        → IfErr result (StopsExec m.old m.new pid (execve_read known m.old pid regs.now) (F.holds files.old) (stores F.Files D.SwapDev files.old swap.old)
-        (stores F.Files D.SwapDev files.new swap.new)) }
+        → IfErr result (StopsReading (execve_read known m.old pid regs.now) (λ reply. StopsExec m.old m.new pid reply (F.holds files.old)) m.old m.new
+        (stores F.Files D.SwapDev files.old swap.old) (stores F.Files D.SwapDev files.new swap.new)) }
     ensures goes_on { GoesOn F.Files D.SwapDev result m.new files.old files.new swap.old swap.new }
 {
     let asked = read_call(alloc, m, pid, regs);

@@ -5,7 +5,8 @@ ghost use Rattle.std.specs.Prelude.{◌≤◌, [], MatchResult};
 ghost use Rattle.page_model.specs.Rank.{HasRoom};
 ghost use Rattle.machine_state.specs.Outside.{Asks, GoesOn};
 ghost use Rattle.fault_fill.specs.LastMoves.{last_moves};
-ghost use Rattle.proc_calls.specs.Filling.{IsStartFirst, FillsStart, StopsStart};
+ghost use Rattle.vm_facts.specs.declared.entry.Entry.TheVariants as entries;
+ghost use Rattle.proc_calls.specs.Filling.{IsStartFirst, FillsStart, StopsFilling};
 
 use fault_fill::clock_hands::make_room;
 use io_edge::{Files, SwapDev};
@@ -26,7 +27,8 @@ pub fn fill_start<F: Files, D: SwapDev>(
     requires low { last_moves m.old.kernel.journal ≤ 1000000 }
     ensures filled { MatchResult result (λ u. FillsStart page m.old m.new (F.holds files.old) (stores F.Files D.SwapDev files.old swap.old)
         (stores F.Files D.SwapDev files.new swap.new))
-        (StopsStart page m.old m.new (F.holds files.old) (stores F.Files D.SwapDev files.old swap.old) (stores F.Files D.SwapDev files.new swap.new)) }
+        (StopsFilling (entries.Zero page) [] m.old m.new (F.holds files.old) (stores F.Files D.SwapDev files.old swap.old)
+        (stores F.Files D.SwapDev files.new swap.new)) }
     ensures goes_on { GoesOn F.Files D.SwapDev result m.new files.old files.new swap.old swap.new }
 {
     make_room(m, files, swap, &[])?;

@@ -10,7 +10,7 @@ ghost use Rattle.machine_state.specs.Machine.{proc_shown};
 ghost use Rattle.machine_state.specs.Applying.{CanApply};
 ghost use Rattle.fault_fill.specs.Stops.{StopsBefore};
 ghost use Rattle.kernel_model.specs.Unit.{proc_of};
-ghost use Rattle.proc_calls.specs.Answered.{Answered, Replied, Comes, StopsReading};
+ghost use Rattle.proc_calls.specs.Answered.{Answered, Replied, Comes, StopsRefused};
 ghost use Rattle.proc_calls.specs.Callers.{IsCaller};
 
 use flat_model::{EFAULT, ENOMEM, SystemCall};
@@ -124,7 +124,7 @@ pub fn refuse(
 ) -> Result<Called, Stop>
     requires calls { IsCaller m.old pid }
     ensures comes { IfOk result (Comes m.old m.new pid call regs.now (Err refused)) }
-    ensures stops { IfErr result (StopsReading m.old m.new refused) }
+    ensures stops { IfErr result (StopsRefused m.old m.new refused) }
     ensures goes_on { OnOk result (CanGoOn m.new) }
 {
     match refused {

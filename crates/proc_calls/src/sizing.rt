@@ -16,9 +16,9 @@ ghost use Rattle.machine_state.specs.Applying.{CanApply};
 ghost use Rattle.machine_state.specs.UserMemory.{CanLend, kernel_answers};
 ghost use Rattle.machine_state.specs.Outside.{IsBacked, GoesOn};
 ghost use Rattle.fault_fill.specs.Growth.{space_of_pid};
-ghost use Rattle.proc_calls.specs.Answered.{Replied};
+ghost use Rattle.proc_calls.specs.Answered.{Replied, StopsReading};
 ghost use Rattle.proc_calls.specs.Callers.{IsCaller};
-ghost use Rattle.proc_calls.specs.Sizing.{process_data_pages, process_stack_pages, pages_to, Grows, CutData, MovesEnd, BreakComes, StopsPlain, StopsBreaking, StopsBreak};
+ghost use Rattle.proc_calls.specs.Sizing.{process_data_pages, process_stack_pages, pages_to, Grows, CutData, MovesEnd, BreakComes, StopsPlain, StopsBreaking};
 
 use crate::replying::{Called, fail, process, refuse, replied_one, reply};
 use flat_model::{Asked, DATA_LIMIT, ENOMEM, SystemCall, argument};
@@ -195,8 +195,9 @@ pub fn brk<F: Files, D: SwapDev>(
     requires backed { IsBacked m.old (F.holds files.old) (D.blocks swap.old) }
     ensures comes { IfOk result (BreakComes m.old m.new pid regs.now (run (kernel_answers m.old.kernel (space_of_pid m.old.kernel pid)) (argument regs.now 1))
         (F.holds files.old) (stores F.Files D.SwapDev files.old swap.old) (stores F.Files D.SwapDev files.new swap.new)) }
-    ensures stops { IfErr result (StopsBreak m.old m.new pid (run (kernel_answers m.old.kernel (space_of_pid m.old.kernel pid)) (argument regs.now 1))
-        (F.holds files.old) (stores F.Files D.SwapDev files.old swap.old) (stores F.Files D.SwapDev files.new swap.new)) }
+    ensures stops { IfErr result (StopsReading (run (kernel_answers m.old.kernel (space_of_pid m.old.kernel pid)) (argument regs.now 1))
+        (λ address. StopsBreaking m.old m.new pid (pages_to m.old.kernel pid address) (F.holds files.old)) m.old m.new
+        (stores F.Files D.SwapDev files.old swap.old) (stores F.Files D.SwapDev files.new swap.new)) }
     ensures goes_on { GoesOn F.Files D.SwapDev result m.new files.old files.new swap.old swap.new }
 {
     match read_address(m, pid, regs) {

@@ -7,8 +7,10 @@ ghost use Rattle.machine_state.specs.Going.{CanGoOn, IsRunning};
 ghost use Rattle.machine_state.specs.Wants.{CanAsk};
 ghost use Rattle.machine_state.specs.Outside.{IsBacked, stop_of, TransfersPages, GoesOn};
 ghost use Rattle.vfork_pass.specs.Passed.{HasGivenBack};
+ghost use Rattle.flat_state.specs.declared.change.Change.TheVariants.{Exec};
+ghost use Rattle.flat_model.specs.declared.calls.Reply.TheVariants.{Does};
 ghost use Rattle.proc_calls.specs.Callers.{IsCaller};
-ghost use Rattle.proc_calls.specs.Starting.{image_found, wants_found, is_shared, AreNextWants, Finds, Starts, StopsFinding, StopsImage};
+ghost use Rattle.proc_calls.specs.Starting.{image_found, wants_found, is_shared, AreNextWants, Finds, Starts, StopsFinding, StopsExec};
 
 use crate::ending::leave_space;
 use crate::filling::fill_start;
@@ -120,8 +122,8 @@ pub fn start_image<F: Files, D: SwapDev>(
     ensures ready { IfOk result (λ called. called ≡ Called.Ready) }
     ensures starts { OnOk result (Starts m.old m.new pid regs.now after.now image top (F.holds files.old) (stores F.Files D.SwapDev files.old swap.old)
         (stores F.Files D.SwapDev files.new swap.new)) }
-    ensures stops { IfErr result (StopsImage m.old m.new pid after.now image top (F.holds files.old) (stores F.Files D.SwapDev files.old swap.old)
-        (stores F.Files D.SwapDev files.new swap.new)) }
+    ensures stops { IfErr result (StopsExec m.old m.new pid (Does after.now (Exec image top)) (F.holds files.old)
+        (stores F.Files D.SwapDev files.old swap.old) (stores F.Files D.SwapDev files.new swap.new)) }
     ensures goes_on { GoesOn F.Files D.SwapDev result m.new files.old files.new swap.old swap.new }
 {
     let page = Page::Stack {

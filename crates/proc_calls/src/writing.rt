@@ -1,6 +1,7 @@
 //! The call `write`: bytes go into the journal. No output may be written here; that is done from the journal, once
 //! the run has ended.
-ghost use Rattle.std.specs.Prelude.{◌≡◌, ◌⊎◌, ◌≤◌, length, IfOk, OnOk, IfErr, OnErr, Ok, Err};
+ghost use Rattle.std.specs.Prelude.{◌≡◌, ◌⊎◌, ◌≤◌, length, Option, IfOk, OnOk, IfErr, OnErr, Err};
+ghost use Rattle.vm_facts.specs.SwapImages.{SwapImage};
 ghost use Rattle.user_vax.specs.Program.{run};
 ghost use Rattle.flat_model.specs.Calls.{write_limit, write_reply};
 ghost use Rattle.flat_model.specs.declared.calls.Reply.TheVariants.{Writes};
@@ -9,9 +10,9 @@ ghost use Rattle.machine_state.specs.Going.{CanGoOn};
 ghost use Rattle.machine_state.specs.Conditions.{HasStopped};
 ghost use Rattle.machine_state.specs.UserMemory.{CanLend, kernel_answers};
 ghost use Rattle.fault_fill.specs.Growth.{space_of_pid};
-ghost use Rattle.proc_calls.specs.Answered.{GoneOut, Replied, Comes};
+ghost use Rattle.proc_calls.specs.Answered.{GoneOut, Replied, Comes, StopsReading};
 ghost use Rattle.proc_calls.specs.Callers.{IsCaller};
-ghost use Rattle.proc_calls.specs.Writing.{IsWrite, StopsOut};
+ghost use Rattle.proc_calls.specs.Writing.{IsWrite, bytes_of, StopsOut};
 
 use crate::replying::{Called, fail, process, refuse, replied_one, reply};
 use flat_model::{Asked, Reply, SystemCall, write_reply};
@@ -41,7 +42,7 @@ fn put_out(m: &mut Machine, pid: u32, regs: &Regs, bytes: Bytes) -> Result<Calle
     requires calls { IsCaller m.old pid }
     requires few { length bytes ≤ write_limit }
     ensures replied { IfOk result (Replied m.old m.new pid Write regs.now (Writes bytes)) }
-    ensures stop { IfErr result (StopsOut m.old m.new pid (Ok (Writes bytes))) }
+    ensures stop { IfErr result (StopsOut m.old m.new pid bytes) }
     ensures goes_on { OnOk result (CanGoOn m.new) }
 {
     let count = bytes.as_slice().len() as u32;
@@ -75,7 +76,7 @@ fn answer(m: &mut Machine, pid: u32, regs: &Regs, reply: Reply) -> Result<Called
     requires calls { IsCaller m.old pid }
     requires writes { IsWrite reply }
     ensures replied { IfOk result (Replied m.old m.new pid Write regs.now reply) }
-    ensures stop { IfErr result (StopsOut m.old m.new pid (Ok reply)) }
+    ensures stop { IfErr result (StopsOut m.old m.new pid (bytes_of reply)) }
     ensures goes_on { OnOk result (CanGoOn m.new) }
 {
     match reply {
@@ -90,7 +91,9 @@ pub fn write(alloc: Global, m: &mut Machine, pid: u32, regs: &Regs) -> Result<Ca
     requires calls { IsCaller m.old pid }
     ensures comes { IfOk result
         (Comes m.old m.new pid Write regs.now (run (kernel_answers m.old.kernel (space_of_pid m.old.kernel pid)) (write_reply regs.now))) }
-    ensures stop { IfErr result (StopsOut m.old m.new pid (run (kernel_answers m.old.kernel (space_of_pid m.old.kernel pid)) (write_reply regs.now))) }
+    ensures stop { (image : Option SwapImage)
+        → IfErr result (StopsReading (run (kernel_answers m.old.kernel (space_of_pid m.old.kernel pid)) (write_reply regs.now))
+        (λ reply before after. StopsOut m.old m.new pid (bytes_of reply)) m.old m.new image image) }
     ensures goes_on { OnOk result (CanGoOn m.new) }
 {
     let asked = read_bytes(alloc, m, pid, regs);

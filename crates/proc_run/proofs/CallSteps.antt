@@ -15,12 +15,12 @@ use Rattle.machine_state.specs.Machine.{Standing}
 use Rattle.machine_state.specs.UserMemory.{kernel_answers}
 use Rattle.step_units.specs.Called.{Called}
 use Rattle.step_units.specs.Called.TheVariants as calls
-use Rattle.step_units.specs.Answered.{Comes}
-use Rattle.step_units.specs.ProcCallsLeaving.{ExitComes, StopsExit}
+use Rattle.step_units.specs.Answered.{Comes, StopsReading}
+use Rattle.step_units.specs.ProcCallsLeaving.{ExitComes, StopsAlive}
 use Rattle.step_units.specs.Reading.{AreNamed}
-use Rattle.step_units.specs.ProcCallsSizing.{BreakComes, StopsBreak}
+use Rattle.step_units.specs.ProcCallsSizing.{BreakComes, StopsBreaking, pages_to}
 use Rattle.step_units.specs.Starting.{ExecComes, StopsExec}
-use Rattle.step_units.specs.Writing.{StopsOut}
+use Rattle.step_units.specs.Writing.{StopsOut, bytes_of}
 use Rattle.run_model.specs.State.{State}
 use Rattle.step_units.specs.Machines.{RunsOn, MakesCall}
 use Rattle.step_units.specs.Stepped.{CallLeads, StopLeads}
@@ -75,17 +75,17 @@ module _ (A : Inputs) (s : State) (old new : Standing) (holds : Option (List Nam
       → StopLeads A s old.kernel image stop new j
   call_stops system_calls.Exit j stop m h =
       exit_stops A s old new holds image j pid now p x effect on m stop refused_stops
-      (subst (λ (a : Answers). StopsExit old new pid (run a (exit_reply effect.regs)) holds (Some image) j stop) own h)
+      (subst (λ (a : Answers). StopsReading (run a (exit_reply effect.regs)) (λ reply. StopsAlive old new pid holds) old new (Some image) j stop) own h)
   call_stops system_calls.Fork j stop m h = fork_stops A s old new holds image j pid now p x effect stop on m h
   call_stops system_calls.Write j stop m h =
       stop_told stop j h.1 (write_stops A s old new holds image pid now p x effect stop on m
-      (subst (λ (a : Answers). StopsOut old new pid (run a (write_reply effect.regs)) stop) own h.0))
+      (subst (λ (a : Answers). StopsReading (run a (write_reply effect.regs)) (λ reply before after. StopsOut old new pid (bytes_of reply)) old new (Some image) (Some image) stop) own h.0))
   call_stops system_calls.Break j stop m h =
       break_stops A s old new holds image j pid now p x effect stop on m
-      (subst (λ (a : Answers). StopsBreak old new pid (run a (argument effect.regs 1)) holds (Some image) j stop) own h)
+      (subst (λ (a : Answers). StopsReading (run a (argument effect.regs 1)) (λ address. StopsBreaking old new pid (pages_to old.kernel pid address) holds) old new (Some image) j stop) own h)
   call_stops system_calls.Getpid j stop m h = stop_told stop j h.1 (plain_stops A s old new holds image pid now p x effect system_calls.Getpid stop on m tt h.0)
   call_stops system_calls.Execve j stop m h =
       exec_stops A s old holds image pid now p x effect on m new j stop refused_stops
-      (subst (λ (a : Answers). StopsExec old new pid (run a (execve_reply A.images effect.regs)) holds (Some image) j stop) own (h A.images named))
+      (subst (λ (a : Answers). StopsReading (run a (execve_reply A.images effect.regs)) (λ reply. StopsExec old new pid reply holds) old new (Some image) j stop) own (h A.images named))
   call_stops system_calls.Vfork j stop m h = stop_told stop j h.1 (vfork_stops A s old new holds image pid now p x effect stop on m h.0)
   call_stops system_calls.Wait j stop m h = stop_told stop j h.1 (plain_stops A s old new holds image pid now p x effect system_calls.Wait stop on m tt h.0)

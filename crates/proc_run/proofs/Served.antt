@@ -85,12 +85,12 @@ pub served_stops : (now : Bool) (A : Inputs) (s : State) (old new : Standing) (h
     (address : ℕ) (write : Bool) (before : List Page) (stop : Stop) → RunsAt A s old holds i image pid now p x → WaitsForPage A s old p x address write before
     → StopsServed now old new pid address write holds i j stop → StopLeads A s old.kernel image stop new j
 served_stops true A s old new holds i j image pid p x address write before stop r w h = elim h [
-  | inl o ↦ subst (λ (z : Option SwapImage). StopLeads A s old.kernel image stop new z) (sym (o.image ∙ r.told)) (stopped_short A s old new image stop o.stopped o.cause o.whole)
+  | inl o ↦ subst (λ (z : Option SwapImage). StopLeads A s old.kernel image stop new z) (sym (o.2 ∙ r.told)) (stopped_short A s old new image stop o.0.stopped o.1 o.0.whole)
   | inr n ↦ (
-      let same = n.kept A s image p x r ∙ kept A s old new holds i j image pid true p x address write before r w in
+      let same = n.1 A s image p x r ∙ kept A s old new holds i j image pid true p x address write before r w in
       access_stops A s old new holds image j pid true p x address write before before stop (λ e. refl) r.on w
       (subst (λ (o : Option SwapImage). AccessStops true before (access_by old.kernel pid address write) pid old new holds o j stop) r.told
-      (subst (λ (qs : List Page). AccessStops true qs (access_by old.kernel pid address write) pid old new holds i j stop) same n.stops)))
+      (subst (λ (qs : List Page). AccessStops true qs (access_by old.kernel pid address write) pid old new holds i j stop) same n.2)))
 ]
 served_stops false A s old new holds i j image pid p x address write before stop r w h =
     access_stops A s old new holds image j pid false p x address write before [] stop (λ e. absurd cc) r.on w
@@ -247,8 +247,5 @@ pub brought_stops : (r : Result Served Stop) (old mid new : Standing) (pid addre
     → mid ≡ old
     → AreLocked old holds i pid pages → Brought mid new pid address write holds i j pages r → IfErr r (StopsServed true old new pid address write holds i j)
 brought_stops (Ok answer) old mid new pid address write holds i j pages e k h = tt
-brought_stops (Err stop) old mid new pid address write holds i j pages e k h = inr (record {
-  pages = pages;
-  kept = k;
-  stops = subst (λ (m : Standing). AccessStops true pages (access_by m.kernel pid address write) pid m new holds i j stop) e h;
-})
+brought_stops (Err stop) old mid new pid address write holds i j pages e k h =
+    inr (pages, k, subst (λ (m : Standing). AccessStops true pages (access_by m.kernel pid address write) pid m new holds i j stop) e h)

@@ -14,7 +14,7 @@ use Rattle.machine_state.specs.Machine.{Standing}
 use Rattle.step_units.specs.Growth.{access_by}
 use Rattle.step_units.specs.Ready.{Continues}
 use Rattle.step_units.specs.Sizes.{SameSizes, KeptAtStop}
-use Rattle.step_units.proofs.StopsKeep.{kept_through, starved_here, before_same, access_same, exit_same, making_same, forking_same, exec_same, break_same, written_same}
+use Rattle.step_units.proofs.StopsKeep.{kept_through, before_same, access_same, exit_same, making_same, forking_same, exec_same, break_same, written_same}
 use Rattle.proc_run.specs.Calls.{own_answers, CallStops}
 use Rattle.proc_run.specs.Serving.{StopsServed}
 use Rattle.proc_run.proofs.Attempts.{RoomOnly}
@@ -24,7 +24,7 @@ pub call_same : (call : SystemCall) (old new : Standing) (pid : ℕ) (regs : Reg
     → CallStops call old new pid regs holds i j stop → KeptAtStop old new stop
 call_same system_calls.Exit old new pid regs holds i j stop h = exit_same old new pid (run (own_answers old pid) (exit_reply regs)) holds i j stop h
 call_same system_calls.Fork old new pid regs holds i j stop h = forking_same old new pid regs holds i j stop h
-call_same system_calls.Write old new pid regs holds i j stop h = written_same old new pid (run (own_answers old pid) (write_reply regs)) stop h.0
+call_same system_calls.Write old new pid regs holds i j stop h = written_same old new pid (run (own_answers old pid) (write_reply regs)) i stop h.0
 call_same system_calls.Break old new pid regs holds i j stop h = break_same old new pid (run (own_answers old pid) (argument regs 1)) holds i j stop h
 call_same system_calls.Getpid old new pid regs holds i j stop h = before_same old new stop h.0
 call_same system_calls.Execve old new pid regs holds i j stop h =
@@ -35,8 +35,8 @@ call_same system_calls.Wait old new pid regs holds i j stop h = before_same old 
 pub served_same : (now : Bool) (old new : Standing) (pid address : ℕ) (write : Bool) (holds : Option (List NamedFile)) (i j : Option SwapImage) (stop : Stop)
     → StopsServed now old new pid address write holds i j stop → KeptAtStop old new stop
 served_same true old new pid address write holds i j stop h = elim h [
-  | inl x ↦ starved_here old new stop x.stopped x.cause
-  | inr x ↦ access_same true x.pages (access_by old.kernel pid address write) pid old new holds i j stop x.stops
+  | inl x ↦ before_same old new stop x.0
+  | inr x ↦ access_same true x.0 (access_by old.kernel pid address write) pid old new holds i j stop x.2
 ]
 served_same false old new pid address write holds i j stop h = access_same false [] (access_by old.kernel pid address write) pid old new holds i j stop h
 

@@ -19,17 +19,17 @@ use Rattle.machine_state.specs.UserMemory.{kernel_answers}
 use Rattle.step_units.specs.Stops.{StopsBefore}
 use Rattle.step_units.specs.Called.{Called}
 use Rattle.step_units.specs.Called.TheVariants as calls
-use Rattle.step_units.specs.Answered.{Replied, Comes}
+use Rattle.step_units.specs.Answered.{Replied, Comes, StopsReading}
 use Rattle.step_units.specs.Callers.{parent_of}
 use Rattle.step_units.specs.Copying.{HasCopied}
 use Rattle.step_units.specs.Forking.{Forked, StopsForking}
-use Rattle.step_units.specs.ProcCallsLeaving.{ExitComes, StopsExit}
+use Rattle.step_units.specs.ProcCallsLeaving.{ExitComes, StopsAlive}
 use Rattle.step_units.specs.ProcCallsMaking.{Vforked, StopsMaking}
 use Rattle.step_units.specs.Reading.{AreNamed}
-use Rattle.step_units.specs.ProcCallsSizing.{BreakComes, StopsBreak}
+use Rattle.step_units.specs.ProcCallsSizing.{BreakComes, StopsBreaking, pages_to}
 use Rattle.step_units.specs.Starting.{ExecComes, StopsExec}
 use Rattle.step_units.specs.Waiting.{wait_answer}
-use Rattle.step_units.specs.Writing.{StopsOut}
+use Rattle.step_units.specs.Writing.{StopsOut, bytes_of}
 use Rattle.step_units.specs.Growth.{space_of_pid}
 
 -- what a process reads of its space, over the frames
@@ -57,13 +57,18 @@ CallComes system_calls.Wait old new pid regs holds i j called = Replied old new 
 
 -- where the run stops in a call, by which one it is
 abbrev pub CallStops : SystemCall → Standing → Standing → ℕ → Regs → Option (List NamedFile) → Option SwapImage → Option SwapImage → Stop → Type 0
-CallStops system_calls.Exit old new pid regs holds i j stop = StopsExit old new pid (run (own_answers old pid) (exit_reply regs)) holds i j stop
+CallStops system_calls.Exit old new pid regs holds i j stop =
+    StopsReading (run (own_answers old pid) (exit_reply regs)) (λ reply. StopsAlive old new pid holds) old new i j stop
 CallStops system_calls.Fork old new pid regs holds i j stop = StopsForking old new pid regs holds i j stop
-CallStops system_calls.Write old new pid regs holds i j stop = StopsOut old new pid (run (own_answers old pid) (write_reply regs)) stop × (j ≡ i)
-CallStops system_calls.Break old new pid regs holds i j stop = StopsBreak old new pid (run (own_answers old pid) (argument regs 1)) holds i j stop
+CallStops system_calls.Write old new pid regs holds i j stop =
+    StopsReading (run (own_answers old pid) (write_reply regs)) (λ reply before after. StopsOut old new pid (bytes_of reply)) old new i i stop × (j ≡ i)
+CallStops system_calls.Break old new pid regs holds i j stop =
+    StopsReading (run (own_answers old pid) (argument regs 1)) (λ address. StopsBreaking old new pid (pages_to old.kernel pid address) holds) old new i j stop
 CallStops system_calls.Getpid old new pid regs holds i j stop = StopsBefore old new stop × (j ≡ i)
 CallStops system_calls.Execve old new pid regs holds i j stop =
-    (known : List NamedImage) → AreNamed known old.images → StopsExec old new pid (run (own_answers old pid) (execve_reply known regs)) holds i j stop
+    (known : List NamedImage)
+    → AreNamed known old.images
+    → StopsReading (run (own_answers old pid) (execve_reply known regs)) (λ reply. StopsExec old new pid reply holds) old new i j stop
 CallStops system_calls.Vfork old new pid regs holds i j stop = StopsMaking old new pid (Lend old.kernel.next_pid) stop × (j ≡ i)
 CallStops system_calls.Wait old new pid regs holds i j stop = StopsBefore old new stop × (j ≡ i)
 

@@ -8,7 +8,7 @@ use Rattle.vm_facts.specs.declared.stop.Stop.TheVariants as stops
 use Rattle.flat_state.specs.Space.{Space}
 use Rattle.flat_state.specs.Flat.{Process, Inputs}
 use Rattle.machine_state.specs.Machine.{Standing}
-use Rattle.machine_state.specs.Conditions.{HasStopped}
+use Rattle.step_units.specs.Stops.{StopsBefore}
 use Rattle.step_units.specs.Growth.{access_by}
 use Rattle.step_units.specs.Touches.{TouchedAs, TouchedNow, AccessComes, AccessStops}
 use Rattle.step_units.specs.Served.{Served}
@@ -34,23 +34,11 @@ ServedBy true old new pid address write holds i j answer = ServedNow old new pid
 ServedBy false old new pid address write holds i j answer =
     AccessComes (λ came q from. TouchedAs came q from new holds i j) (access_by old.kernel pid address write) answer pid old new i j
 
--- Stops.
-
--- as it is served until its page is valid
-pub record StopsServedNow (old new : Standing) (pid address : ℕ) (write : Bool) (holds : Option (List NamedFile)) (i j : Option SwapImage)
-    (stop : Stop) : Type 0 where
-  pub pages : List Page
-  pub kept : AreLocked old holds i pid pages
-  pub stops : AccessStops true pages (access_by old.kernel pid address write) pid old new holds i j stop
-
--- for want of memory before any unit
-pub record StopsAtOnce (old new : Standing) (i j : Option SwapImage) (stop : Stop) : Type 0 where
-  pub stopped : HasStopped old new
-  pub whole : old.before ≡ old.kernel.holdings
-  pub cause : stop ≡ stops.NoMemory
-  pub image : j ≡ i
-
--- by whether it is served by waiting
+-- The run stops for want of memory before any unit, or as the page is served until it is valid, by hands that pass over what the run keeps;
+-- or as it is served without waiting.
 abbrev pub StopsServed : Bool → Standing → Standing → ℕ → ℕ → Bool → Option (List NamedFile) → Option SwapImage → Option SwapImage → Stop → Type 0
-StopsServed true old new pid address write holds i j stop = StopsAtOnce old new i j stop ⊎ StopsServedNow old new pid address write holds i j stop
+StopsServed true old new pid address write holds i j stop =
+    (StopsBefore old new stop × (stop ≡ stops.NoMemory) × (j ≡ i))
+    ⊎ ((pages : List Page) × AreLocked old holds i pid pages
+    × AccessStops true pages (access_by old.kernel pid address write) pid old new holds i j stop)
 StopsServed false old new pid address write holds i j stop = AccessStops false [] (access_by old.kernel pid address write) pid old new holds i j stop

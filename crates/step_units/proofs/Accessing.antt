@@ -1,5 +1,5 @@
 -- What serving an access leads to: that of its page, or growth of the stack first.
-use Rattle.std.proofs.Common.{◌≡◌, inl, inr, ℕ, ◌-◌, Bool, true, false, List, [], length, Option, Some, ap, ◌∙◌, subst, arith}
+use Rattle.std.proofs.Common.{◌≡◌, inl, inr, ℕ, ◌+◌, ◌-◌, ◌≤◌, Bool, true, false, List, [], length, Option, Some, ap, ◌∙◌, subst, arith}
 use Rattle.vm_facts.specs.SwapImages.{SwapImage}
 use Rattle.io_edge.specs.FileHolding.{NamedFile}
 use Rattle.vm_facts.specs.declared.page.Page.{Page}
@@ -11,7 +11,9 @@ use Rattle.flat_model.specs.Step.{pages_down_to}
 use Rattle.kernel_model.specs.Kernel.{Kernel}
 use Rattle.machine_state.specs.Machine.{Standing}
 use Rattle.proc_calls.specs.Growth.{access_to, access_by}
-use Rattle.proc_calls.specs.Touches.{TouchedAs, TouchedNow, GrownFirst, AccessComes, AccessStops, StopsAtPage}
+use Rattle.swapper.specs.Stops.{StopsWhile}
+use Rattle.proc_calls.specs.Serving.{serving_page}
+use Rattle.proc_calls.specs.Touches.{TouchedAs, TouchedNow, GrownFirst, AccessComes, AccessStops}
 use Rattle.proc_calls.specs.FaultFillAccessAccess.{Access}
 use Rattle.proc_calls.specs.FaultFillAccessAccess.TheVariants as accesses
 use Rattle.proc_calls.specs.Served.{Served}
@@ -170,7 +172,9 @@ access_stops A s old new holds image j pid now p x address write before kept sto
     let asked : access_by old.kernel pid address write ≡ accesses.Page w.0.page = same_access A s old holds image pid now p x address write r ∙ w.0.asks in
     let waits : WaitsFor A s old holds image pid now before w.0.page =
     subst (λ (qs : List Page). WaitsFor A s old holds image pid now qs w.0.page) w.1 (waits_for A s old holds image pid now p x address write r w.0) in
-    page_stops A s old new holds image j pid now before kept w.0.page stop waits k (subst (λ (a : Access). AccessStops now kept a pid old new holds (Some image) j stop) asked h)
+    page_stops A s old new holds image j pid now before kept w.0.page stop waits k
+    (let page : AccessStops now kept (accesses.Page w.0.page) pid old new holds (Some image) j stop =
+    subst (λ (a : Access). AccessStops now kept a pid old new holds (Some image) j stop) asked h in page.0)
 access_stops A s old new holds image j pid now p x address write before kept stop k r (inr w) h = elim whole [
   | inl g ↦ growth_stops A s old new holds image j pid now p x address stop r f g.0 g.1
   | inr g ↦ grown g
@@ -188,9 +192,11 @@ access_stops A s old new holds image j pid now p x address write before kept sto
     whole : AccessStops now kept (accesses.Growth x.sid n) pid old new holds (Some image) j stop
     whole = subst (λ (a : Access). AccessStops now kept a pid old new holds (Some image) j stop) asked h
 
-    grown : GrownFirst old pid n (λ between. StopsAtPage now kept (pages.Stack x.sid (n - 1)) between new holds (Some image) j stop) → StopLeads A s old.kernel image stop new j
+    grown : GrownFirst old pid n (λ between. StopsWhile (serving_page now kept (pages.Stack x.sid (n - 1))) between new holds (Some image) j stop
+        × (length new.kernel.journal ≤ length between.kernel.journal + length between.kernel.place.transfers + 5))
+        → StopLeads A s old.kernel image stop new j
     grown g =
         let b : GrownBefore A s old g.between holds image pid now before (pages.Stack x.sid (n - 1)) =
         growth_before A s old g.between holds image pid now p x address before r f w.2 w.3 g.grown in
         grown_stops A s old g.between new holds image pid now before (pages.Stack x.sid (n - 1)) stop j b
-        (page_stops A (after A s b.entry) g.between new holds image j pid now before kept (pages.Stack x.sid (n - 1)) stop b.waits k g.behind)
+        (page_stops A (after A s b.entry) g.between new holds image j pid now before kept (pages.Stack x.sid (n - 1)) stop b.waits k g.behind.0)

@@ -16,8 +16,8 @@ use Rattle.machine_state.specs.Sourced.{ImageNamed, files_named}
 use Rattle.machine_state.specs.Done.{sources, IsDone, ImageAfter, SwapAfter, StopsEnding}
 use Rattle.swapper.proofs.Stopping.{ending_left}
 use Rattle.swapper.specs.Made.{ground}
-use Rattle.swapper.specs.Stops.{StopsAt, StopsBefore}
-use Rattle.proc_calls.specs.Moved.{Moved, StopsMoving}
+use Rattle.swapper.specs.Stops.{StopsAt, StopsBefore, StopsWhile}
+use Rattle.proc_calls.specs.Moved.{Moved, moving_hands}
 use Rattle.proc_calls.specs.Spans.{moves_of}
 use Rattle.run_model.specs.declared.mark.Mark.{Mark}
 use Rattle.run_model.specs.declared.mark.Mark.TheVariants as marks
@@ -122,16 +122,16 @@ pub hands_stop : (A : Inputs) (s : State) (old new : Standing) (holds : Option (
     (stop : Stop)
     → MachineAt A s old holds image
     → IsClear s
-    → s.mark ≡ marks.Hands n → StopsMoving n old stop new holds (Some image) j → StopLeads A s old.kernel image stop new j
+    → s.mark ≡ marks.Hands n → StopsWhile (moving_hands n) old new holds (Some image) j stop → StopLeads A s old.kernel image stop new j
 hands_stop A s old new holds image j n stop at c m h =
     let asks : AsksMoves s n = record { mark = m; clear = c.clear } in
     let led : LeadsMoving A s old.kernel image n h.units h.at h.image = moving h.units A (ground old holds []) s old.kernel h.at image h.image n at.at at.images refl asks h.leads.moves h.made in
     let leads = subst (λ (o : Option SwapImage). Leads A s old.kernel image h.units led.state h.at o) led.leads.told led.leads in
     let behind = leads_at A s led.state old.kernel h.at image led.leads.behind h.units at.at leads in
-    stops_behind A s led.state old.kernel h.at image led.leads.behind h.units stop new j h.there.entry leads
+    stops_behind A s led.state old.kernel (record old { kernel = h.at }) image led.leads.behind h.units stop new j h.entry leads
     (move_next A led.state (n - moves_of h.units) led.asks (let l = h.leads.left in omega (arith, l)) (ap wants_moves (sym behind.stands.place) ∙ h.leads.wants)
-    ∙ ap (λ (p : Placement). Some (move_unit p [])) (sym behind.stands.place) ∙ h.there.next)
-    (subst (λ (o : Option SwapImage). StopsAt h.there.entry h.at o stop new j) led.leads.told h.there.stops)
+    ∙ ap (λ (p : Placement). Some (move_unit p [])) (sym behind.stands.place) ∙ h.next)
+    (subst (λ (o : Option SwapImage). StopsAt h.entry (record old { kernel = h.at }) new o j stop) led.leads.told h.stops)
 
 -- Numbers.
 

@@ -36,10 +36,10 @@ use Rattle.flat_model.specs.Calls.{argument, break_by, data_limit, no_memory, re
 use Rattle.flat_model.specs.Step.{Step, data_pages_of, call_entry, reply_asked, replied_step}
 use Rattle.flat_model.specs.Run.{Point, step_at, due_at, IsBetween}
 use Rattle.proc_calls.specs.declared.replying.Called.{Called}
-use Rattle.proc_calls.specs.Answered.{Replied, StopsOnce}
+use Rattle.proc_calls.specs.Answered.{Replied, StopsOnce, StopsReading}
 use Rattle.proc_calls.specs.Growth.{space_of_pid, with_pieces}
 use Rattle.proc_calls.specs.Leaving.{HasSettled}
-use Rattle.proc_calls.specs.Sizing.{process_data_pages as pages_held, process_stack_pages as stack_held, pages_to, data_sized, break_at, break_read, SameData, GrownData, NoPieces, CutData, Plain, MovesEnd, BreakComes, StopsPlain, StopsBreaking, StopsBreak}
+use Rattle.proc_calls.specs.Sizing.{process_data_pages as pages_held, process_stack_pages as stack_held, pages_to, data_sized, break_at, break_read, SameData, GrownData, NoPieces, CutData, Plain, MovesEnd, BreakComes, StopsPlain, StopsBreaking}
 use Rattle.proc_calls.proofs.Sizes.{replies as sized_reply, fails as sized_failure, none_asked as none_sized}
 use Rattle.proc_calls.proofs.Breaks.{break_flat}
 use Rattle.run_model.specs.State.{State}
@@ -301,7 +301,8 @@ module _ (A : Inputs) (s : State) (old : Standing) (holds : Option (List NamedFi
       subst (λ (o : Option SwapImage). CallLeads A s k image x c new.kernel o) (sym g.1)
       (comes_made A s old new holds image pid now p x effect system_calls.Break (Err refused) c h m (asked_is ∙ ap (break_read k pid effect.regs) e) tt g.0)
 
-  stops_at : (new : Standing) (j : Option SwapImage) (stop : Stop) (o : Result ℕ Refused) → run memory (argument effect.regs 1) ≡ o → StopsBreak old new pid o holds (Some image) j stop
+  stops_at : (new : Standing) (j : Option SwapImage) (stop : Stop) (o : Result ℕ Refused) → run memory (argument effect.regs 1) ≡ o
+      → StopsReading o (λ address. StopsBreaking old new pid (pages_to old.kernel pid address) holds) old new (Some image) j stop
       → StopLeads A s k image stop new j
   stops_at new j stop (Ok address) e g = stops_moving address e new j stop g
   stops_at new j stop (Err refused) e g =

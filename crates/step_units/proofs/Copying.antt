@@ -15,9 +15,9 @@ use Rattle.machine_state.specs.Machine.{Standing}
 use Rattle.machine_state.specs.Sourced.{ImageNamed}
 use Rattle.machine_state.specs.Files.{AreRunImages}
 use Rattle.swapper.specs.Made.{ground}
-use Rattle.swapper.specs.Stops.{StopsAt}
+use Rattle.swapper.specs.Stops.{StopsAt, StopsWhile}
 use Rattle.proc_calls.specs.Forced.{Forced}
-use Rattle.proc_calls.specs.Serving.{StopsServing}
+use Rattle.proc_calls.specs.Serving.{serving_page}
 use Rattle.proc_calls.specs.Answers.{ServesNow}
 use Rattle.proc_calls.specs.Answered.{StopsOnce}
 use Rattle.proc_calls.specs.Copying.{CopiesPage, StopsPage, CopiesAll, StopsCopying}
@@ -114,7 +114,7 @@ all_copied (CopyOf child parent ∷ ds) A s old new holds image j at images d c 
 serving_stops : (A : Inputs) (s : State) (m new : Standing) (holds : Option (List NamedFile)) (image : SwapImage) (j : Option SwapImage) (child parent : Page)
     (ds : List Due) (stop : Stop)
     → At A s m.kernel image → AreRunImages m.images holds A → s.place.due ≡ CopyOf child parent ∷ ds
-    → StopsServing true (parent ∷ []) parent m new holds (Some image) j stop
+    → StopsWhile (serving_page true (parent ∷ []) parent) m new holds (Some image) j stop
     → StopLeads A s m.kernel image stop new j
 serving_stops A s m new holds image j child parent ds stop at images d h =
     let led : LeadsDue A s m.kernel image h.units h.at h.image =
@@ -122,11 +122,11 @@ serving_stops A s m new holds image j child parent ds stop at images d h =
     let t : State = led.state in
     let behind : SwapImage = led.leads.behind in
     let here : h.at.place ≡ t.place = (led_at A s t m.kernel h.at image h.image h.units at led.leads).stands.place in
-    let u : Entry = h.there.entry in
+    let u : Entry = h.entry in
     let next : next_unit A t ≡ Some u =
-    brought_next A t child parent ds u (led.due ∙ d) (subst (λ (p : Placement). serve_unit p parent true ≡ Some u) here h.there.next) in
+    brought_next A t child parent ds u (led.due ∙ d) (subst (λ (p : Placement). serve_unit p parent true ≡ Some u) here h.next) in
     stops_then A s t m.kernel h.at image behind j h.units stop new (led_told A s t m.kernel h.at image h.image h.units led.leads)
-    (stop_at A t h.at behind u stop new j next (subst (λ (o : Option SwapImage). StopsAt u h.at o stop new j) led.leads.told h.there.stops))
+    (stop_at A t (record m { kernel = h.at }) behind u stop new j next (subst (λ (o : Option SwapImage). StopsAt u (record m { kernel = h.at }) new o j stop) led.leads.told h.stops))
 
 behind_stops : (A : Inputs) (s : State) (old new : Standing) (holds : Option (List NamedFile)) (image : SwapImage) (told j : Option SwapImage)
     (child parent : Page)

@@ -21,9 +21,9 @@ use Rattle.kernel_model.specs.ChangeStep.{change_step}
 use Rattle.kernel_model.specs.Unit.{has_lender}
 use Rattle.machine_state.specs.Applying.{facts_named}
 use Rattle.machine_state.specs.Machine.{Standing}
-use Rattle.proc_calls.specs.Answered.{Entered, StopsOnce}
+use Rattle.proc_calls.specs.Answered.{Entered, StopsOnce, StopsReading}
 use Rattle.proc_calls.specs.Callers.{regs_of}
-use Rattle.proc_calls.specs.Leaving.{HasLeft, HasEnded, StopsAlive, IsExit, ExitComes, StopsExit}
+use Rattle.proc_calls.specs.Leaving.{HasLeft, HasEnded, StopsAlive, IsExit, ExitComes}
 use Rattle.run_model.specs.State.{State}
 use Rattle.run_model.specs.Act.{must_refuse}
 use Rattle.run_units.specs.Leads.{MadeAs}
@@ -171,7 +171,8 @@ module _ (A : Inputs) (s : State) (old new : Standing) (holds : Option (List Nam
           subst (λ (o : Option SwapImage). CallLeads A s old.kernel image x called new.kernel o) (sym c.1)
           (refusal A s old new holds image pid now p x effect system_calls.Exit refused called on makes (asked_is ∙ e) c.0)
 
-  pub exit_stops : (stop : Stop) → RefusedCallStops → StopsExit old new pid (run memory (exit_reply effect.regs)) holds (Some image) behind stop
+  pub exit_stops : (stop : Stop) → RefusedCallStops
+      → StopsReading (run memory (exit_reply effect.regs)) (λ reply. StopsAlive old new pid holds) old new (Some image) behind stop
       → StopLeads A s old.kernel image stop new behind
   exit_stops stop refusal h = go (run memory (exit_reply effect.regs)) refl h
     where
@@ -182,7 +183,8 @@ module _ (A : Inputs) (s : State) (old new : Standing) (holds : Option (List Nam
       ends (Writes out) i e c = absurd i
       ends Waits i e c = absurd i
 
-      go : (r : Result Reply Refused) → run memory (exit_reply effect.regs) ≡ r → StopsExit old new pid r holds (Some image) behind stop → StopLeads A s old.kernel image stop new behind
+      go : (r : Result Reply Refused) → run memory (exit_reply effect.regs) ≡ r
+          → StopsReading r (λ reply. StopsAlive old new pid holds) old new (Some image) behind stop → StopLeads A s old.kernel image stop new behind
       go (Ok reply) e c = ends reply (run_gives IsExit memory (exit_reply effect.regs) reply (exit_gives effect.regs) e) e c
       go (Err refused) e c =
           subst (λ (o : Option SwapImage). StopLeads A s old.kernel image stop new o) (sym c.1)

@@ -9,7 +9,7 @@ use Rattle.page_model.specs.Placement.{Due, Start}
 use Rattle.kernel_model.specs.Kernel.{Kernel}
 use Rattle.machine_state.specs.Files.{AreRunImages}
 use Rattle.machine_state.specs.Machine.{Standing}
-use Rattle.proc_calls.specs.Filling.{FillsStart, StopsStart}
+use Rattle.proc_calls.specs.Filling.{FillsStart, StopsFilling}
 use Rattle.run_model.specs.State.{State}
 use Rattle.run_units.specs.Filling.{FillsFirst}
 use Rattle.run_units.specs.Serving.{At}
@@ -34,7 +34,7 @@ use Rattle.flat_model.specs.Step.{Step, call_entry, answered_step}
 use Rattle.machine_state.specs.UserMemory.{kernel_answers}
 use Rattle.swapper.specs.Stops.{StopsBefore}
 use Rattle.proc_calls.specs.declared.replying.Called.{Called}
-use Rattle.proc_calls.specs.Answered.{StopsOnce}
+use Rattle.proc_calls.specs.Answered.{StopsOnce, StopsReading}
 use Rattle.proc_calls.specs.Leaving.{HasLeft, StopsAlive}
 use Rattle.proc_calls.specs.Making.{without_pieces}
 use Rattle.proc_calls.specs.Starting.{image_found, HasStarted, StartsBy, ExecComes, StopsFinding, StopsExec}
@@ -66,7 +66,7 @@ module _ (A : Inputs) (s : State) (m : Standing) (holds : Option (List NamedFile
       (forced_fill A s m h.roomy holds image j (Start page) [] [] at images first (start_first s page first) h.forces)
 
   -- the run stops as a frame is forced, or at the fill
-  pub start_stops : (new : Standing) (j : Option SwapImage) (stop : Stop) → StopsStart page m new holds (Some image) j stop
+  pub start_stops : (new : Standing) (j : Option SwapImage) (stop : Stop) → StopsFilling (entries.Zero page) [] m new holds (Some image) j stop
       → StopLeads A s m.kernel image stop new j
   start_stops new j stop h = filling_stops A s m new holds image j (entries.Zero page) [] stop at images (start_first s page first) h
 
@@ -137,13 +137,15 @@ module _ (A : Inputs) (s : State) (old : Standing) (holds : Option (List NamedFi
           mark = f.same.mark ∙ i.mark;
         }
 
-    filled_stops : (between new : Standing) (told j : Option SwapImage) (stop : Stop) → Imaged between told → StopsStart page between new holds told j stop → StopLeads A s old.kernel image stop new j
+    filled_stops : (between new : Standing) (told j : Option SwapImage) (stop : Stop) → Imaged between told
+        → StopsFilling (entries.Zero page) [] between new holds told j stop → StopLeads A s old.kernel image stop new j
     filled_stops between new told j stop i h =
         let bytes : SwapImage = i.leads.behind in
         let at : At A i.state between.kernel bytes = led_at A s i.state old.kernel between.kernel image told i.units on.machine.at i.leads in
         stops_then A s i.state old.kernel between.kernel image bytes j i.units stop new
         (led_told A s i.state old.kernel between.kernel image told i.units i.leads)
-        (start_stops A i.state between holds bytes page at i.images i.due new j stop (subst (λ (o : Option SwapImage). StopsStart page between new holds o j stop) i.leads.told h))
+        (start_stops A i.state between holds bytes page at i.images i.due new j stop
+        (subst (λ (o : Option SwapImage). StopsFilling (entries.Zero page) [] between new holds o j stop) i.leads.told h))
 
     -- its pieces find no place
     no_pieces : is_ok (image_found number old) ≡ false → IsRefusal A s old holds image pid now p x
@@ -194,7 +196,7 @@ module _ (A : Inputs) (s : State) (old : Standing) (holds : Option (List NamedFi
         (no_pieces none) new stop h)
 
     behind_stops : (new : Standing) (told j : Option SwapImage) (stop : Stop)
-        → StopsOnce (λ m. HasStarted old m pid after_regs number top holds (Some image) told) (λ m. StopsStart page m new holds told j stop)
+        → StopsOnce (λ m. HasStarted old m pid after_regs number top holds (Some image) told) (λ m. StopsFilling (entries.Zero page) [] m new holds told j stop)
         → StopLeads A s old.kernel image stop new j
     behind_stops new told j stop h =
         let start : HasStarted old h.reached pid after_regs number top holds (Some image) told = h.far in
@@ -204,7 +206,7 @@ module _ (A : Inputs) (s : State) (old : Standing) (holds : Option (List NamedFi
         filled_stops h.reached new told j stop (imaged A s old holds image pid now p x effect on makes after_regs number top reads h.reached told ok h.far) h.stops
 
     pub starts_stop : (new : Standing) (j : Option SwapImage) (stop : Stop)
-        → StopsExec old new pid (Ok (Does after_regs (changes.Exec number top))) holds (Some image) j stop
+        → StopsExec old new pid (Does after_regs (changes.Exec number top)) holds (Some image) j stop
         → StopLeads A s old.kernel image stop new j
     starts_stop new j stop h = elim h [
       | inl y ↦ elim y [ inl z ↦ finding_stops new j stop z | inr z ↦ without_stops new j stop z.0 z.1 z.2 ]
@@ -239,10 +241,11 @@ module _ (A : Inputs) (s : State) (old : Standing) (holds : Option (List NamedFi
           (unread A s old new holds image pid now p x effect Execve refused called on makes (ap (run memory) (exec_asked A.images s.point.flat p x effect) ∙ e) c.0)
 
   pub exec_stops : (new : Standing) (j : Option SwapImage) (stop : Stop) → RefusedCallStops
-      → StopsExec old new pid (run memory (execve_reply A.images effect.regs)) holds (Some image) j stop → StopLeads A s old.kernel image stop new j
+      → StopsReading (run memory (execve_reply A.images effect.regs)) (λ reply. StopsExec old new pid reply holds) old new (Some image) j stop
+      → StopLeads A s old.kernel image stop new j
   exec_stops new j stop unread h = go (run memory (execve_reply A.images effect.regs)) refl h
     where
-      by : (reply : Reply) → IsStart reply → run memory (execve_reply A.images effect.regs) ≡ Ok reply → StopsExec old new pid (Ok reply) holds (Some image) j stop
+      by : (reply : Reply) → IsStart reply → run memory (execve_reply A.images effect.regs) ≡ Ok reply → StopsExec old new pid reply holds (Some image) j stop
           → StopLeads A s old.kernel image stop new j
       by (Does regs (changes.Exec number top)) i e c = starts_stop regs number top e new j stop c
       by (Fails error) i e c =
@@ -256,7 +259,8 @@ module _ (A : Inputs) (s : State) (old : Standing) (holds : Option (List NamedFi
           ∙ ap (λ (n : ℕ). call_entry n Execve (replied effect.regs true error) ∷ []) kept.number) tt c.0)
       by _ i e c = absurd i
 
-      go : (r : Result Reply Refused) → run memory (execve_reply A.images effect.regs) ≡ r → StopsExec old new pid r holds (Some image) j stop → StopLeads A s old.kernel image stop new j
+      go : (r : Result Reply Refused) → run memory (execve_reply A.images effect.regs) ≡ r
+          → StopsReading r (λ reply. StopsExec old new pid reply holds) old new (Some image) j stop → StopLeads A s old.kernel image stop new j
       go (Ok reply) e c = by reply (run_gives IsStart memory (execve_reply A.images effect.regs) reply (exec_replies A.images effect.regs) e) e c
       go (Err refused) e c =
           subst (λ (o : Option SwapImage). StopLeads A s old.kernel image stop new o) (sym c.1)

@@ -14,8 +14,8 @@ use Rattle.kernel_model.specs.Kernel.{Kernel, zero_step, copy_step}
 use Rattle.machine_state.specs.Machine.{Standing}
 use Rattle.machine_state.specs.Files.{AreRunImages}
 use Rattle.swapper.specs.Made.{ground, Made}
-use Rattle.swapper.specs.Stops.{StopsAt}
-use Rattle.proc_calls.specs.Forced.{Forced, StopsForcing}
+use Rattle.swapper.specs.Stops.{StopsAt, StopsWhile}
+use Rattle.proc_calls.specs.Forced.{Forced, forcing_frame}
 use Rattle.proc_calls.specs.Filling.{StopsFilling}
 use Rattle.run_model.specs.State.{State}
 use Rattle.run_model.specs.Wanted.{locked as locked_now}
@@ -137,24 +137,24 @@ forced_fill A s m roomy holds image j d ds locked at images e first f =
 
 forcing_stops : (A : Inputs) (s : State) (m new : Standing) (holds : Option (List NamedFile)) (image : SwapImage) (j : Option SwapImage) (e : Entry)
     (locked : List Page) (stop : Stop)
-    → At A s m.kernel image → AreRunImages m.images holds A → FillsFirst s.place s.place.due e locked → StopsForcing locked m stop new holds (Some image) j
+    → At A s m.kernel image → AreRunImages m.images holds A → FillsFirst s.place s.place.due e locked → StopsWhile (forcing_frame locked) m new holds (Some image) j stop
     → StopLeads A s m.kernel image stop new j
 forcing_stops A s m new holds image j e locked stop at images first h =
     let to = forced_to A s m h.at holds image h.image e locked h.units at images first h.leads.forces h.made in
     let t : State = to.0.state in
     let behind : SwapImage = to.0.leads.behind in
     let here : h.at.place ≡ t.place = (led_at A s t m.kernel h.at image h.image h.units at to.0.leads).stands.place in
-    let u : Entry = h.there.entry in
+    let u : Entry = h.entry in
     let next : next_unit A t ≡ Some u =
     forced_next A t e locked to.1 (sym (ap (λ (p : Placement). p.free) here) ∙ h.leads.none) ∙ ap (λ (p : Placement). Some (force_entry p.transfers)) (sym here)
-    ∙ h.there.next in
+    ∙ h.next in
     stops_then A s t m.kernel h.at image behind j h.units stop new (led_told A s t m.kernel h.at image h.image h.units to.0.leads)
-    (stop_at A t h.at behind u stop new j next (subst (λ (o : Option SwapImage). StopsAt u h.at o stop new j) to.0.leads.told h.there.stops))
+    (stop_at A t (record m { kernel = h.at }) behind u stop new j next (subst (λ (o : Option SwapImage). StopsAt u (record m { kernel = h.at }) new o j stop) to.0.leads.told h.stops))
 
 fill_stops : (A : Inputs) (s : State) (m roomy new : Standing) (holds : Option (List NamedFile)) (image : SwapImage) (i j : Option SwapImage) (e : Entry)
     (locked : List Page) (stop : Stop)
     → At A s m.kernel image → AreRunImages m.images holds A → FillsFirst s.place s.place.due e locked → Forced locked m roomy holds (Some image) i
-    → StopsAt e roomy.kernel i stop new j → StopLeads A s m.kernel image stop new j
+    → StopsAt e roomy new i j stop → StopLeads A s m.kernel image stop new j
 fill_stops A s m roomy new holds image i j e locked stop at images first f h =
     let to = forced_to A s m roomy.kernel holds image i e locked f.units at images first f.forces f.makes.made in
     let t : State = to.0.state in
@@ -163,7 +163,7 @@ fill_stops A s m roomy new holds image i j e locked stop at images first f h =
     let some = head_is roomy.kernel.place.free f.free in
     let next : next_unit A t ≡ Some e = fill_next A t e locked some.0 some.1 to.1 (sym (ap (λ (p : Placement). p.free) here) ∙ some.2) in
     stops_then A s t m.kernel roomy.kernel image behind j f.units stop new (led_told A s t m.kernel roomy.kernel image i f.units to.0.leads)
-    (stop_at A t roomy.kernel behind e stop new j next (subst (λ (o : Option SwapImage). StopsAt e roomy.kernel o stop new j) to.0.leads.told h))
+    (stop_at A t roomy behind e stop new j next (subst (λ (o : Option SwapImage). StopsAt e roomy new o j stop) to.0.leads.told h))
 
 pub filling_stops : (A : Inputs) (s : State) (m new : Standing) (holds : Option (List NamedFile)) (image : SwapImage) (j : Option SwapImage) (e : Entry)
     (locked : List Page) (stop : Stop)
@@ -171,5 +171,5 @@ pub filling_stops : (A : Inputs) (s : State) (m new : Standing) (holds : Option 
     → StopsFilling e locked m new holds (Some image) j stop → StopLeads A s m.kernel image stop new j
 filling_stops A s m new holds image j e locked stop at images first h = elim h [
   | inl x ↦ forcing_stops A s m new holds image j e locked stop at images first x
-  | inr x ↦ fill_stops A s m x.reached new holds image j j e locked stop at images first x.far x.stops.0
+  | inr x ↦ fill_stops A s m x.reached new holds image j j e locked stop at images first x.far x.stops
 ]

@@ -36,25 +36,25 @@ none_spoiled files (entries.SwapOut pid) k i j h = h
 none_spoiled files _ k i j h = h
 
 -- a machine that stopped where a unit comes that is the run's next one
-pub stop_by : (A : Inputs) (t : State) (k : Kernel) (image : SwapImage) (e : Entry) (stop : Stop) (new : Standing) (j : Option SwapImage)
-    → next_unit A t ≡ Some e → StopsAt e k (Some image) stop new j
-    → StopsBy A t k image stop new j
-stop_by A t k image e stops.NoMemory new j n h = none_spoiled (files_named new.images) e k (Some image) j h.image
-stop_by A t k image e stops.JournalFull new j n h = record { entry = e; next = n; full = h.full.0; cause = h.cause; spoils = h.image }
-stop_by A t k image e stops.FileFault new j n h = record { entry = e; next = n; full = h.full.0; cause = h.cause; spoils = h.image }
-stop_by A t k image e stops.SwapReadFault new j n h = record { entry = e; next = n; full = h.full.0; cause = h.cause; spoils = h.image }
-stop_by A t k image e stops.SwapWriteFault new j n h = record { entry = e; next = n; full = h.full.0; cause = h.cause; spoils = h.image }
+pub stop_by : (A : Inputs) (t : State) (m : Standing) (image : SwapImage) (e : Entry) (stop : Stop) (new : Standing) (j : Option SwapImage)
+    → next_unit A t ≡ Some e → StopsAt e m new (Some image) j stop
+    → StopsBy A t m.kernel image stop new j
+stop_by A t m image e stops.NoMemory new j n h = none_spoiled (files_named new.images) e m.kernel (Some image) j h.image
+stop_by A t m image e stops.JournalFull new j n h = record { entry = e; next = n; full = h.full.0; cause = h.cause; spoils = h.image }
+stop_by A t m image e stops.FileFault new j n h = record { entry = e; next = n; full = h.full.0; cause = h.cause; spoils = h.image }
+stop_by A t m image e stops.SwapReadFault new j n h = record { entry = e; next = n; full = h.full.0; cause = h.cause; spoils = h.image }
+stop_by A t m image e stops.SwapWriteFault new j n h = record { entry = e; next = n; full = h.full.0; cause = h.cause; spoils = h.image }
 
-pub stop_at : (A : Inputs) (t : State) (k : Kernel) (image : SwapImage) (e : Entry) (stop : Stop) (new : Standing) (j : Option SwapImage)
-    → next_unit A t ≡ Some e → StopsAt e k (Some image) stop new j
-    → StopLeads A t k image stop new j
-stop_at A t k image e stop new j n h = record {
+pub stop_at : (A : Inputs) (t : State) (m : Standing) (image : SwapImage) (e : Entry) (stop : Stop) (new : Standing) (j : Option SwapImage)
+    → next_unit A t ≡ Some e → StopsAt e m new (Some image) j stop
+    → StopLeads A t m.kernel image stop new j
+stop_at A t m image e stop new j n h = record {
   units = [];
   state = t;
-  kernel = k;
+  kernel = m.kernel;
   behind = image;
-  leads = none_leads A t k image;
+  leads = none_leads A t m.kernel image;
   journal = h.journal;
   held = h.held;
-  by = stop_by A t k image e stop new j n h;
+  by = stop_by A t m image e stop new j n h;
 }

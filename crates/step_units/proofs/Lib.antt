@@ -1,6 +1,7 @@
 pub use Rattle.swapper.proofs.Stopping as PagingUnitsStopping
 pub use Rattle.proc_calls.proofs.CopiedPages
 pub use Rattle.proc_calls.proofs.Waits
+pub use Rattle.proc_calls.proofs.Stopping as ProcCallsStopping
 pub use Rattle.swapper.proofs.Numbers
 pub mod CallersSeen
 pub mod Placements

@@ -26,12 +26,12 @@ use Rattle.kernel_laws.proofs.Machine.Tables.{kept_pid, outlines_at, outline_at}
 use Rattle.kernel_laws.proofs.Machine.Swaps.{found_at}
 use Rattle.flat_model.specs.Run.{Point, IsBetween}
 use Rattle.swapper.specs.Made.{Ground, ground, MadeBy, Made}
-use Rattle.swapper.specs.Stops.{StopsAt}
+use Rattle.swapper.specs.Stops.{StopsAt, StopsWhile}
 use Rattle.swapper.proofs.PagingUnitsUnits.{unit_place}
 use Rattle.swapper.specs.declared.Turned.{Turned}
 use Rattle.swapper.specs.declared.Turned.TheVariants as turns
 use Rattle.swapper.specs.Runners.{runners_of, choice_of}
-use Rattle.swapper.specs.Putting.{HoldsThere, PutOut, StopsPutting}
+use Rattle.swapper.specs.Putting.{HoldsThere, PutOut, putting_out}
 use Rattle.swapper.specs.Turns.{Turns, StopsTurning}
 use Rattle.run_units.specs.Longwords.{ProcessesFit}
 use Rattle.run_model.specs.declared.mark.Mark.{Mark}
@@ -251,7 +251,7 @@ module _ (A : Inputs) (s : State) (old new : Standing) (holds : Option (List Nam
       out_comes A s old new holds image j pid t.0 at c fit (chosen_mark A s old holds image (turns.Out pid) at m e) t.1 t.2
 
   pub out_stops : (pid sid : ℕ) (stop : Stop) → MachineAt A s old holds image → IsClear s → s.mark ≡ marks.PutOut pid → HoldsThere old.kernel pid sid
-      → StopsPutting pid sid old stop new holds (Some image) j → StopLeads A s old.kernel image stop new j
+      → StopsWhile (putting_out pid sid) old new holds (Some image) j stop → StopLeads A s old.kernel image stop new j
   out_stops pid sid stop at c m there o =
       let g : Ground = ground old holds [] in
       let h : Holder s.point.flat pid sid = holder old.kernel s.point.flat pid sid at.at.stands.keeps.coupled.tables there.holds in
@@ -260,15 +260,15 @@ module _ (A : Inputs) (s : State) (old new : Standing) (holds : Option (List Nam
       let b : SwapImage = led.leads.behind in
       let leads : Leads A s old.kernel image o.units led.state o.at (Some b) = subst (λ (z : Option SwapImage). Leads A s old.kernel image o.units led.state o.at z) led.leads.told led.leads in
       let behind : At A led.state o.at b = leads_at A s led.state old.kernel o.at image b o.units at.at leads in
-      stops_behind A s led.state old.kernel o.at image b o.units stop new j o.there.entry leads
-      (put_next A led.state pid sid led.puts ∙ ap (λ (y : Placement). Some (put_out_unit y pid sid)) (sym behind.stands.place) ∙ o.there.next)
-      (subst (λ (z : Option SwapImage). StopsAt o.there.entry o.at z stop new j) led.leads.told o.there.stops)
+      stops_behind A s led.state old.kernel (record old { kernel = o.at }) image b o.units stop new j o.entry leads
+      (put_next A led.state pid sid led.puts ∙ ap (λ (y : Placement). Some (put_out_unit y pid sid)) (sym behind.stands.place) ∙ o.next)
+      (subst (λ (z : Option SwapImage). StopsAt o.entry (record old { kernel = o.at }) new z j stop) led.leads.told o.stops)
 
   pub swapper_stops : (t : Turned) (stop : Stop) → MachineAt A s old holds image → IsClear s → s.mark ≡ swap_mark (swap_choice s.place (runners s.point.flat))
-      → choice_of t ≡ swap_choice old.kernel.place (runners_of old.kernel) → StopsTurning t old stop new holds (Some image) j
+      → choice_of t ≡ swap_choice old.kernel.place (runners_of old.kernel) → StopsTurning t old new holds (Some image) j stop
       → StopLeads A s old.kernel image stop new j
   swapper_stops turns.Nothing stop at c m e x = absurd x
   swapper_stops (turns.In pid) stop at c m e x =
-      stops_here A s old.kernel image stop new j (entries.SwapIn pid) ((line_asks A s c.clear).0 pid (chosen_mark A s old holds image (turns.In pid) at m e)) x
+      stops_here A s old image stop new j (entries.SwapIn pid) ((line_asks A s c.clear).0 pid (chosen_mark A s old holds image (turns.In pid) at m e)) x
   swapper_stops (turns.Out pid) stop at c m e x =
       out_stops pid x.0 stop at c (chosen_mark A s old holds image (turns.Out pid) at m e) x.1 x.2

@@ -26,7 +26,7 @@ use Rattle.flat_model.specs.Calls.{bad_address, or_fault, replied}
 use Rattle.flat_model.specs.Step.{Step, reply_asked, replied_step}
 use Rattle.flat_model.specs.Run.{step_at}
 use Rattle.proc_calls.specs.declared.replying.Called.{Called}
-use Rattle.proc_calls.specs.Answered.{Answered, Replied, Comes, StopsReading}
+use Rattle.proc_calls.specs.Answered.{Answered, Replied, Comes, StopsRefused}
 use Rattle.run_units.specs.Shown.{IsCallOf}
 use Rattle.run_model.specs.State.{State}
 use Rattle.run_model.specs.Act.{loses_pages}
@@ -153,8 +153,8 @@ pub stops_reading : (A : Inputs) (s : State) (old new : Standing) (holds : Optio
     (refused : Refused) (stop : Stop)
     → RunsOn A s old holds image pid now p x → MakesCall old p x effect call
     → run (kernel_answers old.kernel x.sid) (reply_asked A.images s.point.flat p x call effect) ≡ Err refused
-    → StopsReading old new refused stop → StopLeads A s old.kernel image stop new (Some image)
-stops_reading A s old new holds image pid now p x effect call (Miss address write) stop h m e g = stopped_short A s old new image stop g.0 g.1 g.2
+    → StopsRefused old new refused stop → StopLeads A s old.kernel image stop new (Some image)
+stops_reading A s old new holds image pid now p x effect call (Miss address write) stop h m e g = stopped_short A s old new image stop g.0.stopped g.1 g.0.whole
 stops_reading A s old new holds image pid now p x effect call (Below address) stop h m e g =
     stops_quiet A s old new holds image pid now p x effect call (Err (Below address)) stop h m.names (ready A s old holds image pid now p x effect call (Err (Below address)) h m e tt) tt g
 stops_reading A s old new holds image pid now p x effect call (Signal number) stop h m e g =

@@ -19,10 +19,10 @@ use Rattle.kernel_laws.proofs.Machine.Processes.{Stepping, stepping}
 use Rattle.machine_state.specs.Sourced.{files_named}
 use Rattle.machine_state.specs.Machine.{Standing}
 use Rattle.swapper.specs.Made.{Ground, ground}
-use Rattle.swapper.specs.Stops.{StopsAt}
+use Rattle.swapper.specs.Stops.{StopsAt, StopsWhile}
 use Rattle.proc_calls.specs.Growth.{space_of_pid}
-use Rattle.proc_calls.specs.Serving.{ServesTo, StopsServing}
-use Rattle.proc_calls.specs.Touches.{TouchedAs, TouchedNow, StopsAtPage}
+use Rattle.proc_calls.specs.Serving.{ServesTo, serving_page}
+use Rattle.proc_calls.specs.Touches.{TouchedAs, TouchedNow}
 use Rattle.proc_calls.specs.Units.{is_flying, NeedsFrame}
 use Rattle.proc_calls.specs.Served.{Served as Touch}
 use Rattle.proc_calls.specs.Served.TheVariants as served
@@ -206,38 +206,38 @@ page_leads_now A s old new holds image j pid before q answer w h = go answer h
 -- Stops.
 
 -- a stop where a unit of the run comes next
-pub stops_by : (A : Inputs) (t : State) (k : Kernel) (behind : SwapImage) (stop : Stop) (entry : Entry) (new : Standing) (j : Option SwapImage)
+pub stops_by : (A : Inputs) (t : State) (m : Standing) (behind : SwapImage) (stop : Stop) (entry : Entry) (new : Standing) (j : Option SwapImage)
     → next_unit A t ≡ Some entry
-    → StopsAt entry k (Some behind) stop new j → StopsBy A t k behind stop new j
-stops_by A t k behind stops.NoMemory entry new j n s = none_spoiled (files_named new.images) entry k (Some behind) j s.image
-stops_by A t k behind stops.JournalFull entry new j n s = record { entry = entry; next = n; full = s.full.0; cause = s.cause; spoils = s.image }
-stops_by A t k behind stops.FileFault entry new j n s = record { entry = entry; next = n; full = s.full.0; cause = s.cause; spoils = s.image }
-stops_by A t k behind stops.SwapReadFault entry new j n s = record { entry = entry; next = n; full = s.full.0; cause = s.cause; spoils = s.image }
-stops_by A t k behind stops.SwapWriteFault entry new j n s = record { entry = entry; next = n; full = s.full.0; cause = s.cause; spoils = s.image }
+    → StopsAt entry m new (Some behind) j stop → StopsBy A t m.kernel behind stop new j
+stops_by A t m behind stops.NoMemory entry new j n s = none_spoiled (files_named new.images) entry m.kernel (Some behind) j s.image
+stops_by A t m behind stops.JournalFull entry new j n s = record { entry = entry; next = n; full = s.full.0; cause = s.cause; spoils = s.image }
+stops_by A t m behind stops.FileFault entry new j n s = record { entry = entry; next = n; full = s.full.0; cause = s.cause; spoils = s.image }
+stops_by A t m behind stops.SwapReadFault entry new j n s = record { entry = entry; next = n; full = s.full.0; cause = s.cause; spoils = s.image }
+stops_by A t m behind stops.SwapWriteFault entry new j n s = record { entry = entry; next = n; full = s.full.0; cause = s.cause; spoils = s.image }
 
 pub page_stops : (A : Inputs) (s : State) (old new : Standing) (holds : Option (List NamedFile)) (image : SwapImage) (j : Option SwapImage) (pid : ℕ)
     (now : Bool)
     (before kept : List Page) (q : Page)
-    (stop : Stop) → WaitsFor A s old holds image pid now before q → (now ≡ true → kept ≡ before) → StopsAtPage now kept q old new holds (Some image) j stop
+    (stop : Stop) → WaitsFor A s old holds image pid now before q → (now ≡ true → kept ≡ before)
+    → StopsWhile (serving_page now kept q) old new holds (Some image) j stop
     → StopLeads A s old.kernel image stop new j
-page_stops A s old new holds image j pid now before kept q stop w f c =
+page_stops A s old new holds image j pid now before kept q stop w f d =
     let g : Ground = ground old holds kept in
-    let d : StopsServing now kept q old new holds (Some image) j stop = c.serving in
     let v : ServingLeads A g s old.kernel image pid now before q d.units d.at d.image =
     served d.units A g s old.kernel d.at image d.image pid now before q w.machine.at (waiting A s old holds image pid now before kept q w f) d.leads d.made in
     let led : Leads A s old.kernel image d.units v.state d.at (Some v.leads.behind) =
     subst (λ (o : Option SwapImage). Leads A s old.kernel image d.units v.state d.at o) v.leads.told v.leads in
     let here : d.at.place ≡ v.state.place = (leads_at A s v.state old.kernel d.at image v.leads.behind d.units w.machine.at led).stands.place in
-    let next : next_unit A v.state ≡ Some d.there.entry =
-    served_next A g v.state pid now before q d.there.entry v.waiting (subst (λ (x : Placement). serve_unit x q now ≡ Some d.there.entry) here d.there.next) in
+    let next : next_unit A v.state ≡ Some d.entry =
+    served_next A g v.state pid now before q d.entry v.waiting (subst (λ (x : Placement). serve_unit x q now ≡ Some d.entry) here d.next) in
     record {
       units = d.units;
       state = v.state;
       kernel = d.at;
       behind = v.leads.behind;
       leads = led;
-      journal = d.there.stops.journal;
-      held = d.there.stops.held;
-      by = stops_by A v.state d.at v.leads.behind stop d.there.entry new j next
-          (subst (λ (o : Option SwapImage). StopsAt d.there.entry d.at o stop new j) v.leads.told d.there.stops);
+      journal = d.stops.journal;
+      held = d.stops.held;
+      by = stops_by A v.state (record old { kernel = d.at }) v.leads.behind stop d.entry new j next
+          (subst (λ (o : Option SwapImage). StopsAt d.entry (record old { kernel = d.at }) new o j stop) v.leads.told d.stops);
     }

@@ -31,23 +31,23 @@ stops_by A t k image stops.NoMemory new j n = none_spoiled (files_named new.imag
 stops_by A t k image _ new j n = n
 
 -- units lead to where this one is next, and there the run stopped
-pub stops_behind : (A : Inputs) (s t : State) (k l : Kernel) (image behind : SwapImage) (us : List Entry) (stop : Stop) (new : Standing)
+pub stops_behind : (A : Inputs) (s t : State) (k : Kernel) (m : Standing) (image behind : SwapImage) (us : List Entry) (stop : Stop) (new : Standing)
     (j : Option SwapImage) (e : Entry)
-    → Leads A s k image us t l (Some behind) → next_unit A t ≡ Some e → StopsAt e l (Some behind) stop new j → StopLeads A s k image stop new j
-stops_behind A s t k l image behind us stop new j e leads n at = record {
+    → Leads A s k image us t m.kernel (Some behind) → next_unit A t ≡ Some e → StopsAt e m new (Some behind) j stop → StopLeads A s k image stop new j
+stops_behind A s t k m image behind us stop new j e leads n at = record {
   units = us;
   state = t;
-  kernel = l;
+  kernel = m.kernel;
   behind = behind;
   leads = leads;
   journal = at.journal;
   held = at.held;
-  by = stops_by A t l behind stop new j (record { entry = e; next = n; full = at.full.0; cause = at.cause; spoils = at.image });
+  by = stops_by A t m.kernel behind stop new j (record { entry = e; next = n; full = at.full.0; cause = at.cause; spoils = at.image });
 }
 
-pub stops_here : (A : Inputs) (s : State) (k : Kernel) (image : SwapImage) (stop : Stop) (new : Standing) (j : Option SwapImage) (e : Entry)
-    → next_unit A s ≡ Some e → StopsAt e k (Some image) stop new j → StopLeads A s k image stop new j
-stops_here A s k image stop new j e n at = stops_behind A s s k k image image [] stop new j e (none_leads A s k image) n at
+pub stops_here : (A : Inputs) (s : State) (m : Standing) (image : SwapImage) (stop : Stop) (new : Standing) (j : Option SwapImage) (e : Entry)
+    → next_unit A s ≡ Some e → StopsAt e m new (Some image) j stop → StopLeads A s m.kernel image stop new j
+stops_here A s m image stop new j e n at = stops_behind A s s m.kernel m image image [] stop new j e (none_leads A s m.kernel image) n at
 
 -- At an entry that goes into the journal alone.
 

@@ -23,21 +23,21 @@ use Rattle.page_model.specs.Placement.{Due, Start, CopyOf}
 use Rattle.machine_state.specs.Conditions.{HasStopped}
 use Rattle.machine_state.specs.Machine.{Standing}
 use Rattle.machine_state.specs.Settled.{IsSameBeside, StopsSettling}
-use Rattle.swapper.specs.Stops.{StopsAt, StopsAtNext, StopsBefore}
-use Rattle.proc_calls.specs.Forced.{Forced, StopsForcing}
-use Rattle.proc_calls.specs.Serving.{StopsServing}
+use Rattle.swapper.specs.Stops.{StopsAt, StopsBefore, StopsWhile, Work}
+use Rattle.proc_calls.specs.Forced.{Forced, forcing_frame}
+use Rattle.proc_calls.specs.Serving.{serving_page}
 use Rattle.proc_calls.specs.Touches.{AccessStops}
 use Rattle.proc_calls.specs.FaultFillAccessAccess.{Access}
 use Rattle.proc_calls.specs.FaultFillAccessAccess.TheVariants as accesses
-use Rattle.proc_calls.specs.Answered.{Entered, GoneOut, StopsOnce, StopsReading}
+use Rattle.proc_calls.specs.Answered.{Entered, GoneOut, StopsOnce, StopsRefused, StopsReading}
 use Rattle.proc_calls.specs.Growth.{space_of_pid}
 use Rattle.proc_calls.specs.Copying.{CopiesPage, StopsPage, StopsCopying}
-use Rattle.proc_calls.specs.Filling.{StopsStart, StopsFilling}
+use Rattle.proc_calls.specs.Filling.{StopsFilling}
 use Rattle.proc_calls.specs.Forking.{HasNewSpace, ForkAnswered, StopsForking}
-use Rattle.proc_calls.specs.Leaving.{HasSettled, HasLeftBy, HasLeft, StopsLeaving, StopsAlive, StopsExit}
+use Rattle.proc_calls.specs.Leaving.{HasSettled, HasLeftBy, HasLeft, StopsLeaving, StopsAlive}
 use Rattle.proc_calls.specs.Making.{without_pieces, FindsNone, MakesChildBy, StopsMaking}
-use Rattle.proc_calls.specs.Sizing.{StopsPlain, StopsBreaking, StopsBreak}
-use Rattle.proc_calls.specs.Starting.{image_found, HasStarted, LeavesFor, StopsFinding, StopsImage, StopsExec}
+use Rattle.proc_calls.specs.Sizing.{StopsPlain, StopsBreaking, pages_to}
+use Rattle.proc_calls.specs.Starting.{image_found, HasStarted, LeavesFor, StopsFinding, StopsExec}
 use Rattle.proc_calls.specs.Writing.{bytes_of, StopsOut}
 use Rattle.step_units.specs.Sizes.{SameSizes, KeptAtStop}
 
@@ -68,17 +68,18 @@ kept_here old new stop h full = record {
 }
 
 -- a stop at a unit
-pub kept_at : (e : Entry) (k : Kernel) (i j : Option SwapImage) (old new : Standing) (stop : Stop) → new.params ≡ old.params → new.images ≡ old.images
-    → StopsAt e k i stop new j → KeptAtStop old new stop
-kept_at e k i j old new stop params images at = record {
-  sizes = record { params = params; images = images };
+pub kept_at : (e : Entry) (old new : Standing) (i j : Option SwapImage) (stop : Stop) → StopsAt e old new i j stop → KeptAtStop old new stop
+kept_at e old new i j stop at = record {
+  sizes = record { params = at.params; images = at.images };
   full = λ f. subst (λ (x : List Entry). new.params.journal ≤ length x) (sym at.journal) (at.full.0 f).0;
 }
 
--- a stop where some unit comes next
-pub kept_next : (coming : Option Entry) (k : Kernel) (i j : Option SwapImage) (old new : Standing) (stop : Stop) → StopsAtNext coming k old new i j stop
-    → KeptAtStop old new stop
-kept_next coming k i j old new stop s = kept_at s.entry k i j old new stop s.params s.images s.stops
+-- a stop on the way
+pub kept_while : (work : Work) (old new : Standing) (holds : Option (List NamedFile)) (i j : Option SwapImage) (stop : Stop)
+    → StopsWhile work old new holds i j stop → KeptAtStop old new stop
+kept_while work old new holds i j stop s =
+    let kept = kept_at s.entry (record old { kernel = s.at }) new s.image j stop s.stops in
+    record { sizes = record { params = kept.sizes.params; images = kept.sizes.images }; full = kept.full }
 
 pub before_same : (old new : Standing) (stop : Stop) → StopsBefore old new stop → KeptAtStop old new stop
 before_same old new stop h = kept_here old new stop h.stopped h.full
@@ -99,11 +100,8 @@ out_same old new pid (byte ∷ bytes) h = record { params = ap (λ (m : Standing
 pub never_full : (stop : Stop) (P : Type 0) → stop ≡ stops.NoMemory → stop ≡ stops.JournalFull → P
 never_full stop P e f = absurd (let z : stops.NoMemory ≡ stops.JournalFull = sym e ∙ f in cc)
 
-pub starved_here : (old new : Standing) (stop : Stop) → HasStopped old new → stop ≡ stops.NoMemory → KeptAtStop old new stop
-starved_here old new stop h e = kept_here old new stop h (λ f. never_full stop (old.params.journal ≤ length old.kernel.journal) e f)
-
-reading_same : (old new : Standing) (refused : Refused) (stop : Stop) → StopsReading old new refused stop → KeptAtStop old new stop
-reading_same old new (Miss address write) stop h = starved_here old new stop h.0 h.1
+reading_same : (old new : Standing) (refused : Refused) (stop : Stop) → StopsRefused old new refused stop → KeptAtStop old new stop
+reading_same old new (Miss address write) stop h = before_same old new stop h.0
 reading_same old new (Below address) stop h = before_same old new stop h
 reading_same old new (Signal number) stop h = before_same old new stop h
 
@@ -118,31 +116,18 @@ forced_same : (locked : List Page) (old new : Standing) (holds : Option (List Na
     → Forced locked old new holds i j → SameSizes old new
 forced_same locked old new holds i j h = beside_same old new h.makes.beside
 
-forcing_same : (locked : List Page) (old new : Standing) (holds : Option (List NamedFile)) (i j : Option SwapImage) (stop : Stop)
-    → StopsForcing locked old stop new holds i j → KeptAtStop old new stop
-forcing_same locked old new holds i j stop h = kept_next _ h.at h.image j old new stop h.there
-
-serving_same : (now : Bool) (locked : List Page) (q : Page) (old new : Standing) (holds : Option (List NamedFile)) (i j : Option SwapImage) (stop : Stop)
-    → StopsServing now locked q old new holds i j stop
-    → KeptAtStop old new stop
-serving_same now locked q old new holds i j stop h = kept_next _ h.at h.image j old new stop h.there
-
-filling_same : (e : Entry) (locked : List Page) (old new : Standing) (holds : Option (List NamedFile)) (i j : Option SwapImage) (stop : Stop)
+pub filling_same : (e : Entry) (locked : List Page) (old new : Standing) (holds : Option (List NamedFile)) (i j : Option SwapImage) (stop : Stop)
     → StopsFilling e locked old new holds i j stop → KeptAtStop old new stop
 filling_same e locked old new holds i j stop h = elim h [
-  | inl x ↦ forcing_same locked old new holds i j stop x
+  | inl x ↦ kept_while (forcing_frame locked) old new holds i j stop x
   | inr x ↦ kept_through old x.reached new stop (forced_same locked old x.reached holds i j x.far)
-      (kept_at e x.reached.kernel j j x.reached new stop x.stops.1 x.stops.2 x.stops.0)
+      (kept_at e x.reached new j j stop x.stops)
 ]
-
-pub start_same : (page : Page) (old new : Standing) (holds : Option (List NamedFile)) (i j : Option SwapImage) (stop : Stop)
-    → StopsStart page old new holds i j stop → KeptAtStop old new stop
-start_same page old new holds i j stop h = filling_same (entries.Zero page) [] old new holds i j stop h
 
 pub page_same : (child parent : Page) (old new : Standing) (holds : Option (List NamedFile)) (i j : Option SwapImage) (stop : Stop)
     → StopsPage child parent old new holds i j stop → KeptAtStop old new stop
 page_same child parent old new holds i j stop h = elim h [
-  | inl x ↦ serving_same true (parent ∷ []) parent old new holds i j stop x
+  | inl x ↦ kept_while (serving_page true (parent ∷ []) parent) old new holds i j stop x
   | inr x ↦ kept_through old x.1.reached new stop (beside_same old x.1.reached x.1.far.0.makes.beside)
       (filling_same (entries.Copy child) (parent ∷ []) x.1.reached new holds x.0 j stop x.1.stops)
 ]
@@ -167,12 +152,12 @@ copying_same (CopyOf child parent ∷ ds) old new holds i j stop h = elim h [
 pub access_same : (now : Bool) (locked : List Page) (access : Access) (pid : ℕ) (old new : Standing) (holds : Option (List NamedFile))
     (i j : Option SwapImage) (stop : Stop)
     → AccessStops now locked access pid old new holds i j stop → KeptAtStop old new stop
-access_same now locked (accesses.Page q) pid old new holds i j stop h = serving_same now locked q old new holds i j stop h.serving
+access_same now locked (accesses.Page q) pid old new holds i j stop h = kept_while (serving_page now locked q) old new holds i j stop h.0
 access_same now locked (accesses.Refused signal) pid old new holds i j stop h = absurd h
 access_same now locked (accesses.Growth sid pages) pid old new holds i j stop h = elim h [
   | inl x ↦ before_same old new stop x.0
   | inr x ↦ kept_through old x.between new stop (record { params = ap (λ (m : Standing). m.params) x.grown.rest; images = ap (λ (m : Standing). m.images) x.grown.rest })
-      (serving_same now locked _ x.between new holds i j stop x.behind.serving)
+      (kept_while _ x.between new holds i j stop x.behind.0)
 ]
 
 -- Ends.
@@ -196,7 +181,7 @@ module _ (old new : Standing) (pid : ℕ) where
   ]
 
   pub exit_same : (r : Result Reply Refused) (holds : Option (List NamedFile)) (i j : Option SwapImage) (stop : Stop)
-      → StopsExit old new pid r holds i j stop → KeptAtStop old new stop
+      → StopsReading r (λ reply. StopsAlive old new pid holds) old new i j stop → KeptAtStop old new stop
   exit_same (Ok reply) holds i j stop h = alive_same holds i j stop h
   exit_same (Err refused) holds i j stop h = reading_same old new refused stop h.0
 
@@ -254,7 +239,7 @@ started_same : (old new : Standing) (pid : ℕ) (after : Regs) (image : ℕ) (to
 started_same old new pid after image top holds i j h = same_through old h.asked new (leaves_same (image_found image) old h.asked pid holds i j h.finds) (entered_same h.asked new pid _ _ _ h.answer)
 
 image_same : (old new : Standing) (pid : ℕ) (after : Regs) (image : ℕ) (top : List ℕ) (holds : Option (List NamedFile)) (i j : Option SwapImage) (stop : Stop)
-    → StopsImage old new pid after image top holds i j stop
+    → StopsExec old new pid (Does after (Exec image top)) holds i j stop
     → KeptAtStop old new stop
 image_same old new pid after image top holds i j stop h = elim h [
   | inl x ↦ elim x [
@@ -262,11 +247,11 @@ image_same old new pid after image top holds i j stop h = elim h [
     | inr y ↦ kept_through old (without_pieces old pid) new stop (same_without old pid) (before_same (without_pieces old pid) new stop y.1)
   ]
   | inr x ↦ kept_through old x.1.reached new stop (started_same old x.1.reached pid after image top holds i x.0 x.1.far)
-      (start_same _ x.1.reached new holds x.0 j stop x.1.stops)
+      (filling_same _ [] x.1.reached new holds x.0 j stop x.1.stops)
 ]
 
 pub exec_same : (old new : Standing) (pid : ℕ) (r : Result Reply Refused) (holds : Option (List NamedFile)) (i j : Option SwapImage) (stop : Stop)
-    → StopsExec old new pid r holds i j stop → KeptAtStop old new stop
+    → StopsReading r (λ reply. StopsExec old new pid reply holds) old new i j stop → KeptAtStop old new stop
 exec_same old new pid (Ok (Does after (Exec image top))) holds i j stop h = image_same old new pid after image top holds i j stop h
 exec_same old new pid (Ok reply) holds i j stop h = before_same old new stop h.0
 exec_same old new pid (Err refused) holds i j stop h = reading_same old new refused stop h.0
@@ -290,14 +275,15 @@ moving_same old new pid pages holds i j stop h = elim h [
 ]
 
 pub break_same : (old new : Standing) (pid : ℕ) (r : Result ℕ Refused) (holds : Option (List NamedFile)) (i j : Option SwapImage) (stop : Stop)
-    → StopsBreak old new pid r holds i j stop → KeptAtStop old new stop
+    → StopsReading r (λ address. StopsBreaking old new pid (pages_to old.kernel pid address) holds) old new i j stop → KeptAtStop old new stop
 break_same old new pid (Ok address) holds i j stop h = moving_same old new pid _ holds i j stop h
 break_same old new pid (Err refused) holds i j stop h = reading_same old new refused stop h.0
 
-pub written_same : (old new : Standing) (pid : ℕ) (r : Result Reply Refused) (stop : Stop) → StopsOut old new pid r stop → KeptAtStop old new stop
-written_same old new pid (Ok reply) stop h =
-    once_before old new stop (λ m. (m ≡ old) ⊎ GoneOut old m pid (bytes_of (Ok reply))) (λ m f. elim f [
+pub written_same : (old new : Standing) (pid : ℕ) (r : Result Reply Refused) (i : Option SwapImage) (stop : Stop)
+    → StopsReading r (λ reply before after. StopsOut old new pid (bytes_of reply)) old new i i stop → KeptAtStop old new stop
+written_same old new pid (Ok reply) i stop h =
+    once_before old new stop (λ m. (m ≡ old) ⊎ GoneOut old m pid (bytes_of reply)) (λ m f. elim f [
       | inl e ↦ equal_same old m e
-      | inr g ↦ out_same old m pid (bytes_of (Ok reply)) g
+      | inr g ↦ out_same old m pid (bytes_of reply) g
     ]) h
-written_same old new pid (Err refused) stop h = reading_same old new refused stop h
+written_same old new pid (Err refused) i stop h = reading_same old new refused stop h.0

@@ -103,6 +103,6 @@ pub coming_in_stops : (A : Inputs) (s : State) (old new : Standing) (holds : Opt
     (pid since : ℕ) (stop : Stop)
     → MachineAt A s old holds image
     → IsClear s → s.mark ≡ marks.Turn pid since → goes_on A s pid (since + turn_instructions) ≡ true → is_out s.place pid ≡ true
-    → StopsAt (entries.SwapIn pid) old.kernel (Some image) stop new j → StopLeads A s old.kernel image stop new j
+    → StopsAt (entries.SwapIn pid) old new (Some image) j stop → StopLeads A s old.kernel image stop new j
 coming_in_stops A s old new holds image j pid since stop at c m g o x =
-    stops_here A s old.kernel image stop new j (entries.SwapIn pid) (comes_next A s pid since c m g o) x
+    stops_here A s old image stop new j (entries.SwapIn pid) (comes_next A s pid since c m g o) x

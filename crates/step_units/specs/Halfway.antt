@@ -10,8 +10,8 @@ use Rattle.kernel_model.specs.Kernel.{Kernel}
 use Rattle.machine_state.specs.Calls.{CanComeIn}
 use Rattle.machine_state.specs.Machine.{Standing}
 use Rattle.machine_state.specs.Swapping.{AsksU, IsIn}
-use Rattle.swapper.specs.Stops.{StopsAt}
-use Rattle.swapper.specs.Putting.{HoldsThere, PutOut, StopsPutting}
+use Rattle.swapper.specs.Stops.{StopsAt, StopsWhile}
+use Rattle.swapper.specs.Putting.{HoldsThere, PutOut, putting_out}
 use Rattle.run_model.specs.declared.mark.Mark.TheVariants as marks
 use Rattle.run_model.specs.State.{State}
 use Rattle.run_model.specs.After.{interrupt_mark}
@@ -53,7 +53,7 @@ abbrev pub PuttingStops : Type 0
 PuttingStops =
     (A : Inputs) (s : State) (old new : Standing) (holds : Option (List NamedFile)) (image : SwapImage) (j : Option SwapImage) (pid sid : ℕ) (stop : Stop)
     → MachineAt A s old holds image → IsClear s → s.mark ≡ marks.PutOut pid → HoldsThere old.kernel pid sid
-    → StopsPutting pid sid old stop new holds (Some image) j → StopLeads A s old.kernel image stop new j
+    → StopsWhile (putting_out pid sid) old new holds (Some image) j stop → StopLeads A s old.kernel image stop new j
 
 -- so is the unit that brings one in
 abbrev pub BringingIsMade : Type 0
@@ -65,4 +65,4 @@ BringingIsMade =
 abbrev pub BringingStops : Type 0
 BringingStops =
     (A : Inputs) (s : State) (old new : Standing) (image : SwapImage) (j : Option SwapImage) (pid : ℕ) (stop : Stop) → IsClear s
-    → s.mark ≡ marks.BringIn pid → StopsAt (entries.SwapIn pid) old.kernel (Some image) stop new j → StopLeads A s old.kernel image stop new j
+    → s.mark ≡ marks.BringIn pid → StopsAt (entries.SwapIn pid) old new (Some image) j stop → StopLeads A s old.kernel image stop new j

@@ -16,8 +16,9 @@ use Rattle.flat_model.specs.Step.{ended_step}
 use Rattle.flat_model.specs.Run.{step_at, IsBetween}
 use Rattle.machine_state.specs.Machine.{Standing}
 use Rattle.machine_state.specs.UserMemory.{kernel_answers}
+use Rattle.proc_calls.specs.Answered.{StopsReading}
 use Rattle.proc_calls.specs.declared.replying.Called.{Called}
-use Rattle.proc_calls.specs.Leaving.{HasEnded, ExitComes, StopsAlive, StopsExit}
+use Rattle.proc_calls.specs.Leaving.{HasEnded, ExitComes, StopsAlive}
 use Rattle.proc_calls.specs.Starting.{ExecComes, StopsExec}
 use Rattle.run_model.specs.State.{State}
 use Rattle.run_model.specs.Wanted.{wanted}
@@ -82,7 +83,8 @@ ExitStops =
     (p : Process) (x : Space) (effect : Effect)
     (stop : Stop)
     → RunsOn A s old holds image pid now p x → MakesCall old p x effect system_calls.Exit
-    → StopsExit old new pid (run (kernel_answers old.kernel x.sid) (exit_reply effect.regs)) holds (Some image) behind stop
+    → StopsReading (run (kernel_answers old.kernel x.sid) (exit_reply effect.regs)) (λ reply. StopsAlive old new pid holds) old new (Some image) behind
+    stop
     → StopLeads A s old.kernel image stop new behind
 
 -- New images.
@@ -104,5 +106,6 @@ ExecStops =
     (p : Process) (x : Space) (effect : Effect)
     (stop : Stop)
     → RunsOn A s old holds image pid now p x → MakesCall old p x effect system_calls.Execve
-    → StopsExec old new pid (run (kernel_answers old.kernel x.sid) (execve_reply A.images effect.regs)) holds (Some image) behind stop
+    → StopsReading (run (kernel_answers old.kernel x.sid) (execve_reply A.images effect.regs)) (λ reply. StopsExec old new pid reply holds) old new
+    (Some image) behind stop
     → StopLeads A s old.kernel image stop new behind

@@ -13,8 +13,8 @@ use Rattle.machine_state.specs.Machine.{Standing}
 use Rattle.machine_state.specs.Sourced.{files_named}
 use Rattle.machine_state.specs.Done.{sources, IsDone, ImageAfter, StopsEnding}
 use Rattle.machine_state.specs.Swapping.{AsksU, IsIn}
-use Rattle.swapper.specs.Stops.{StopsAt, StopsBefore}
-use Rattle.proc_calls.specs.Moved.{Moved, StopsMoving}
+use Rattle.swapper.specs.Stops.{StopsAt, StopsBefore, StopsWhile}
+use Rattle.proc_calls.specs.Moved.{Moved, moving_hands}
 use Rattle.swapper.specs.declared.Turned.{Turned}
 use Rattle.swapper.specs.Runners.{runners_of, choice_of}
 use Rattle.swapper.specs.Turns.{Turns, StopsTurning}
@@ -114,7 +114,7 @@ abbrev pub HandsStop : Type 0
 HandsStop =
     (A : Inputs) (s : State) (old new : Standing) (holds : Option (List NamedFile)) (image : SwapImage) (j : Option SwapImage) (n : ℕ) (stop : Stop)
     → MachineAt A s old holds image → IsClear s
-    → s.mark ≡ marks.Hands n → StopsMoving n old stop new holds (Some image) j → StopLeads A s old.kernel image stop new j
+    → s.mark ≡ marks.Hands n → StopsWhile (moving_hands n) old new holds (Some image) j stop → StopLeads A s old.kernel image stop new j
 
 -- the swapper has a turn
 abbrev pub SwapperIsMade : Type 0
@@ -131,7 +131,7 @@ SwapperStops =
     (A : Inputs) (s : State) (old new : Standing) (holds : Option (List NamedFile)) (image : SwapImage) (j : Option SwapImage) (t : Turned) (stop : Stop)
     → MachineAt A s old holds image → IsClear s
     → s.mark ≡ swap_mark (swap_choice s.place (runners s.point.flat)) → choice_of t ≡ swap_choice old.kernel.place (runners_of old.kernel)
-    → StopsTurning t old stop new holds (Some image) j → StopLeads A s old.kernel image stop new j
+    → StopsTurning t old new holds (Some image) j stop → StopLeads A s old.kernel image stop new j
 
 -- the numbers of frames and blocks are noted
 abbrev pub AuditIsMade : Type 0
@@ -208,4 +208,4 @@ ComingInStops =
     (A : Inputs) (s : State) (old new : Standing) (holds : Option (List NamedFile)) (image : SwapImage) (j : Option SwapImage) (pid since : ℕ) (stop : Stop)
     → MachineAt A s old holds image → IsClear s
     → s.mark ≡ marks.Turn pid since → goes_on A s pid (since + turn_instructions) ≡ true → is_out s.place pid ≡ true
-    → StopsAt (entries.SwapIn pid) old.kernel (Some image) stop new j → StopLeads A s old.kernel image stop new j
+    → StopsAt (entries.SwapIn pid) old new (Some image) j stop → StopLeads A s old.kernel image stop new j

@@ -19,9 +19,9 @@ use Rattle.machine_state.specs.UserMemory.{kernel_answers}
 use Rattle.swapper.specs.Stops.{StopsBefore}
 use Rattle.proc_calls.specs.declared.replying.Called.{Called}
 use Rattle.proc_calls.specs.Callers.{parent_of}
-use Rattle.proc_calls.specs.Answered.{Replied, Comes, StopsReading}
+use Rattle.proc_calls.specs.Answered.{Replied, Comes, StopsRefused, StopsReading}
 use Rattle.proc_calls.specs.Waiting.{wait_answer}
-use Rattle.proc_calls.specs.Writing.{StopsOut}
+use Rattle.proc_calls.specs.Writing.{bytes_of, StopsOut}
 use Rattle.run_model.specs.State.{State}
 use Rattle.step_units.specs.Machines.{RunsOn, MakesCall}
 use Rattle.step_units.specs.Stepped.{CallLeads, StopLeads}
@@ -88,7 +88,7 @@ RefusedCallStops =
     (refused : Refused) (stop : Stop)
     → RunsOn A s old holds image pid now p x → MakesCall old p x effect call
     → run (kernel_answers old.kernel x.sid) (reply_asked A.images s.point.flat p x call effect) ≡ Err refused
-    → StopsReading old new refused stop → StopLeads A s old.kernel image stop new (Some image)
+    → StopsRefused old new refused stop → StopLeads A s old.kernel image stop new (Some image)
 
 -- where a write stops, by what it reads
 abbrev pub WriteStops : Type 0
@@ -96,4 +96,6 @@ WriteStops =
     (A : Inputs) (s : State) (old new : Standing) (holds : Option (List NamedFile)) (image : SwapImage) (pid : ℕ) (now : Bool) (p : Process) (x : Space)
     (effect : Effect) (stop : Stop)
     → RunsOn A s old holds image pid now p x → MakesCall old p x effect system_calls.Write
-    → StopsOut old new pid (run (kernel_answers old.kernel x.sid) (write_reply effect.regs)) stop → StopLeads A s old.kernel image stop new (Some image)
+    → StopsReading (run (kernel_answers old.kernel x.sid) (write_reply effect.regs)) (λ reply before after. StopsOut old new pid (bytes_of reply)) old new
+    (Some image) (Some image) stop
+    → StopLeads A s old.kernel image stop new (Some image)

@@ -11,8 +11,9 @@ use Rattle.flat_model.specs.Calls.{argument}
 use Rattle.flat_model.specs.declared.calls.SystemCall.TheVariants as system_calls
 use Rattle.machine_state.specs.Machine.{Standing}
 use Rattle.machine_state.specs.UserMemory.{kernel_answers}
+use Rattle.proc_calls.specs.Answered.{StopsReading}
 use Rattle.proc_calls.specs.declared.replying.Called.{Called}
-use Rattle.proc_calls.specs.Sizing.{BreakComes, StopsBreak}
+use Rattle.proc_calls.specs.Sizing.{BreakComes, StopsBreaking, pages_to}
 use Rattle.run_model.specs.State.{State}
 use Rattle.step_units.specs.Machines.{RunsOn, MakesCall}
 use Rattle.step_units.specs.Stepped.{CallLeads, StopLeads}
@@ -34,5 +35,7 @@ BreakStops =
     (p : Process) (x : Space) (effect : Effect)
     (stop : Stop)
     → RunsOn A s old holds image pid now p x → MakesCall old p x effect system_calls.Break
-    → StopsBreak old new pid (run (kernel_answers old.kernel x.sid) (argument effect.regs 1)) holds (Some image) behind stop
+    → StopsReading (run (kernel_answers old.kernel x.sid) (argument effect.regs 1))
+    (λ address. StopsBreaking old new pid (pages_to old.kernel pid address) holds)
+    old new (Some image) behind stop
     → StopLeads A s old.kernel image stop new behind

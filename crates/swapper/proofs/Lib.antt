@@ -5,7 +5,6 @@ pub use Rattle.paging_units.proofs.Units as PagingUnitsUnits
 pub mod Seen
 pub mod PutUnits
 pub mod Leaving
-mod PutStops
 pub mod Holders
 pub mod HeldSpaces
 pub mod Numbers

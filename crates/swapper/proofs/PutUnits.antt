@@ -14,6 +14,8 @@ use Rattle.vm_facts.specs.declared.stop.Stop.TheVariants as stops
 use Rattle.io_edge.specs.FileHolding.{NamedFile}
 use Rattle.io_edge.specs.FileRequests.{FileNotes}
 use Rattle.io_edge.specs.WithFiles.{with_files}
+use Rattle.io_edge.specs.declared.files.Files.{Ghosts as FilesGhosts}
+use Rattle.io_edge.specs.declared.swap_dev.SwapDev.{Ghosts as SwapGhosts}
 use Rattle.flat_state.specs.Journal.{append, IsPlain}
 use Rattle.flat_state.specs.PageNames.{number_of, beside, pages_from}
 use Rattle.flat_state.proofs.Joins.{append_plain}
@@ -50,17 +52,18 @@ use Rattle.machine_state.specs.Failing.{FailsFor}
 use Rattle.machine_state.specs.Swapping.{IsIn, WritesU, AsksU, SwapBehind, KeepsIn}
 use Rattle.machine_state.specs.Sourced.{files_named}
 use Rattle.machine_state.proofs.Besides.{behind_beside, in_beside, asks_beside, in_kept_beside}
-use Rattle.machine_state.specs.Outside.{Asks}
+use Rattle.machine_state.specs.Outside.{Asks, stop_of, TransfersPages}
 use Rattle.machine_state.proofs.Backing.{asks_on}
+use Rattle.machine_state.proofs.Transfers.{transfers_none}
 use Rattle.paging_units.specs.Made.{Made, MakesUnit, Ground, ground}
-use Rattle.paging_units.specs.Stops.{StopsAt, SpoilsBy}
+use Rattle.paging_units.specs.Stops.{StopsAt, SpoilsBy, StopsWhile}
 use Rattle.paging_units.proofs.Units.{unit_place, unit_journal, unit_same, same_ground}
 use Rattle.paging_units.proofs.Keeping.{unit_shaped, keeps_both}
 use Rattle.paging_units.proofs.Stopping.{plain_longer, moved_left, stops_at_first, stops_after_unit, err_same}
 use Rattle.swapper.specs.declared.Turned.TheVariants as turns
 use Rattle.swapper.specs.declared.putting_out.Step.{Step}
 use Rattle.swapper.specs.declared.putting_out.Step.TheVariants as steps
-use Rattle.swapper.specs.Putting.{IsOfSegment, IsStep, IsNext, HoldsThere, PutOut, StillPutting, StopsPutting}
+use Rattle.swapper.specs.Putting.{IsOfSegment, IsStep, IsNext, HoldsThere, PutOut, StillPutting, putting_out}
 use Rattle.swapper.specs.Turns.{Turns, KeepsTurn, StopsTurning}
 
 -- The first page in a frame off the free list.
@@ -220,17 +223,14 @@ module _ (old next : Standing) (pid sid : ℕ) (step : Step) (holds : Option (Li
   }
 
   pub stops_first : (later : Option (List NamedFile)) (stop : Stop) (new : Standing) (j : Option SwapImage) → later ≡ holds → is_out old.kernel.place pid ≡ false
-      → StopsPutting pid sid next stop new later h j → StopsPutting pid sid old stop new holds i j
+      → StopsWhile (putting_out pid sid) next new later h j stop → StopsWhile (putting_out pid sid) old new holds i j stop
   stops_first later stop new j q n f =
-      stops_after_unit (StillPutting pid sid old.kernel) (StillPutting pid sid next.kernel) (λ p. Some (put_out_unit p pid sid))
-      e old next new holds later [] i h j stop q m (λ us l s. record { puts = puts_first us l.place n s.puts; still = s.still }) f
+      stops_after_unit (putting_out pid sid) (putting_out pid sid) e old next new holds later i h j stop q refl refl m (λ us l s. record { puts = puts_first us l.place n s.puts; still = s.still }) f
 
 pub stops_here : (pid sid : ℕ) (old : Standing) (stop : Stop) (new : Standing) (holds : Option (List NamedFile)) (i j : Option SwapImage)
-    → is_out old.kernel.place pid ≡ false → new.params ≡ old.params → new.images ≡ old.images
-    → StopsAt (put_out_unit old.kernel.place pid sid) old.kernel i stop new j → StopsPutting pid sid old stop new holds i j
-stops_here pid sid old stop new holds i j n a b s =
-    stops_at_first (ground old holds []) (StillPutting pid sid old.kernel) (λ p. Some (put_out_unit p pid sid)) old new i j stop
-    (record { puts = refl; still = n }) (record { entry = put_out_unit old.kernel.place pid sid; next = refl; stops = s; params = a; images = b })
+    → is_out old.kernel.place pid ≡ false → StopsAt (put_out_unit old.kernel.place pid sid) old new i j stop → StopsWhile (putting_out pid sid) old new holds i j stop
+stops_here pid sid old stop new holds i j n s =
+    stops_at_first (putting_out pid sid) (put_out_unit old.kernel.place pid sid) old new holds i j stop (record { puts = refl; still = n }) refl s
 
 -- The last unit.
 
@@ -305,10 +305,10 @@ pub out_stops : (pid sid : ℕ) (old new : Standing) (holds : Option (List Named
     → is_out old.kernel.place pid ≡ false → IsNext old.kernel.place sid None
     → OnErr r (HasStopped old new) → OnErr r ((r ≡ Err stops.JournalFull) ⊎ ((r ≡ Err stops.NoMemory) ⊎ (r ≡ Err stops.SwapWriteFault)))
     → ((r ≡ Err stops.JournalFull) ↔ (old.params.journal ≤ length old.kernel.journal)) → FailsFor r old new → OnErr r (SwapBehind r old.kernel pid i j)
-    → old.before ≡ old.kernel.holdings → IfErr r (λ stop. StopsPutting pid sid old stop new holds i j)
+    → old.before ≡ old.kernel.holdings → IfErr r (λ stop. StopsWhile (putting_out pid sid) old new holds i j stop)
 out_stops pid sid old new holds i j (Ok x) n l s c f failed b w = tt
 out_stops pid sid old new holds i j (Err stop) n l s c f failed b w =
-    stops_here pid sid old stop new holds i j n s.params s.images (subst (λ (e : Entry). StopsAt e old.kernel i stop new j) (sym (last_unit old.kernel.place pid sid l)) (record {
+    stops_here pid sid old stop new holds i j n (subst (λ (e : Entry). StopsAt e old new i j stop) (sym (last_unit old.kernel.place pid sid l)) (record {
       journal = s.journal;
       held = moved_left stop old new s w (λ h. f.0 (ap (λ (t : Stop). let z : Result (Unit {0}) Stop = Err t in z) h)) (never_file stop stops.SwapWriteFault (λ e. cc) c) failed;
       full = subst (λ (p : Params). (stop ≡ stops.JournalFull) ↔ ((p.journal ≤ length old.kernel.journal) × (length old.kernel.journal < length (append old.kernel.journal (entries.SwapOut pid)))))
@@ -316,6 +316,8 @@ out_stops pid sid old new holds i j (Err stop) n l s c f failed b w =
           (ok_is {A = Unit {0}} (Err stop) old.params.journal old.kernel.journal pid stop stops.JournalFull refl f);
       cause = u_cause stop stops.SwapWriteFault c;
       image = spoils stop b;
+      params = s.params;
+      images = s.images;
     }))
   where
     spoils : (stop : Stop) → (let z : Result (Unit {0}) Stop = Err stop in SwapBehind z old.kernel pid i j) → SpoilsBy (files_named new.images) (entries.SwapOut pid) stop old.kernel i j
@@ -338,7 +340,7 @@ in_is limit journal pid s f = (
 pub in_stops : (pid : ℕ) (old new : Standing) (i j : Option SwapImage) (r : Result (Unit {0}) Stop)
     → OnErr r (HasStopped old new) → OnErr r ((r ≡ Err stops.JournalFull) ⊎ ((r ≡ Err stops.NoMemory) ⊎ (r ≡ Err stops.SwapReadFault)))
     → ((r ≡ Err stops.JournalFull) ↔ (old.params.journal ≤ length old.kernel.journal)) → FailsFor r old new → OnErr r (SwapBehind r old.kernel pid i j)
-    → old.before ≡ old.kernel.holdings → IfErr r (λ stop. StopsAt (entries.SwapIn pid) old.kernel i stop new j)
+    → old.before ≡ old.kernel.holdings → IfErr r (λ stop. StopsAt (entries.SwapIn pid) old new i j stop)
 in_stops pid old new i j (Ok x) s c f failed b w = tt
 in_stops pid old new i j (Err stop) s c f failed b w = record {
   journal = s.journal;
@@ -348,6 +350,8 @@ in_stops pid old new i j (Err stop) s c f failed b w = record {
       (in_is old.params.journal old.kernel.journal pid stop f);
   cause = u_cause stop stops.SwapReadFault c;
   image = spoils stop b;
+  params = s.params;
+  images = s.images;
 }
   where
     spoils : (stop : Stop) → (let z : Result (Unit {0}) Stop = Err stop in SwapBehind z old.kernel pid i j) → SpoilsBy (files_named new.images) (entries.SwapIn pid) stop old.kernel i j
@@ -358,14 +362,16 @@ in_stops pid old new i j (Err stop) s c f failed b w = record {
     spoils stops.SwapWriteFault b = b
 
 -- What is so of it and of the device alone is so with the files beside that.
-pub in_stops_beside : (pid : ℕ) (k : Kernel) (i j : Option SwapImage) (stop : Stop) (new : Standing) (notes : FileNotes)
-    → StopsAt (entries.SwapIn pid) k i stop new j → StopsAt (entries.SwapIn pid) k (with_files notes i) stop new (with_files notes j)
-in_stops_beside pid k i j stop new notes s = record {
+pub in_stops_beside : (pid : ℕ) (old : Standing) (i j : Option SwapImage) (stop : Stop) (new : Standing) (notes : FileNotes)
+    → StopsAt (entries.SwapIn pid) old new i j stop → StopsAt (entries.SwapIn pid) old new (with_files notes i) (with_files notes j) stop
+in_stops_beside pid old i j stop new notes s = record {
   journal = s.journal;
   held = s.held;
   full = s.full;
   cause = s.cause;
-  image = behind_beside {A = Bool} (Err stop) k pid i j notes s.image;
+  image = behind_beside {A = Bool} (Err stop) old.kernel pid i j notes s.image;
+  params = s.params;
+  images = s.images;
 }
 
 -- What is known of an answer, weakened.
@@ -382,7 +388,7 @@ if_err (Err e) f h = f e h
 
 pub record PutsSoFar (pid sid : ℕ) (old now : Standing) (holds later : Option (List NamedFile)) (i h : Option SwapImage) : Type 0 where
   pub more : (new : Standing) (j : Option SwapImage) → PutOut pid sid now new later h j → PutOut pid sid old new holds i j
-  pub stops : (stop : Stop) (new : Standing) (j : Option SwapImage) → StopsPutting pid sid now stop new later h j → StopsPutting pid sid old stop new holds i j
+  pub stops : (stop : Stop) (new : Standing) (j : Option SwapImage) → StopsWhile (putting_out pid sid) now new later h j stop → StopsWhile (putting_out pid sid) old new holds i j stop
   pub keeps : (new : Standing) (j : Option SwapImage) → KeepsThrough now new later h j → KeepsThrough old new holds i j
 
 pub puts_none : (pid sid : ℕ) (old : Standing) (holds : Option (List NamedFile)) (i : Option SwapImage) → PutsSoFar pid sid old old holds holds i i
@@ -413,7 +419,23 @@ in_keeps_turn (Ok x) pid old new holds i j notes h = in_kept_beside old.kernel n
 in_keeps_turn (Err stop) pid old new holds i j notes h = h
 
 pub in_stops_turn : (r : Result (Unit {0}) Stop) (pid : ℕ) (old new : Standing) (holds : Option (List NamedFile)) (i j : Option SwapImage) (notes : FileNotes)
-    → IfErr r (λ stop. StopsAt (entries.SwapIn pid) old.kernel i stop new j)
-    → IfErr r (λ stop. StopsTurning (turns.In pid) old stop new holds (with_files notes i) (with_files notes j))
+    → IfErr r (λ stop. StopsAt (entries.SwapIn pid) old new i j stop)
+    → IfErr r (λ stop. StopsTurning (turns.In pid) old new holds (with_files notes i) (with_files notes j) stop)
 in_stops_turn (Ok x) pid old new holds i j notes h = h
-in_stops_turn (Err stop) pid old new holds i j notes h = in_stops_beside pid old.kernel i j stop new notes h
+in_stops_turn (Err stop) pid old new holds i j notes h = in_stops_beside pid old i j stop new notes h
+
+-- What a call leaves that asks no device.
+
+pub none_asked : {F D : Type 0} {f : FilesGhosts F} {d : SwapGhosts D} (r : Result (Unit {0}) Stop) (x : F) (u : D) → ((x : F) → f.leads x x)
+    → ((u : D) → d.leads u u) → OnErr r ((r ≡ Err stops.JournalFull) ⊎ (r ≡ Err stops.NoMemory)) → TransfersPages f d (stop_of r) x x u u
+none_asked (Ok a) x u files swap c = transfers_none files swap x u
+none_asked {f = f} {d = d} (Err stop) x u files swap c = elim c [
+  | inl h ↦ subst (λ (s : Stop). TransfersPages f d (Some s) x x u u) (sym (err_same {A = Unit {0}} stop stops.JournalFull h)) (record {
+    files = record { leads = files x; holds = refl; open_faults = refl; page_faults = refl };
+    swap = record { leads = swap u; blocks = refl; read_faults = refl; write_faults = refl };
+  })
+  | inr h ↦ subst (λ (s : Stop). TransfersPages f d (Some s) x x u u) (sym (err_same {A = Unit {0}} stop stops.NoMemory h)) (record {
+    files = record { leads = files x; holds = refl; open_faults = refl; page_faults = refl };
+    swap = record { leads = swap u; blocks = refl; read_faults = refl; write_faults = refl };
+  })
+]

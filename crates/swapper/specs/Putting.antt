@@ -5,7 +5,6 @@ use Rattle.vm_facts.specs.declared.page.Page.{Page}
 use Rattle.vm_facts.specs.declared.page.Page.TheVariants.{Data, Stack, Text}
 use Rattle.vm_facts.specs.declared.entry.Entry.{Entry}
 use Rattle.vm_facts.specs.declared.entry.Entry.TheVariants as entries
-use Rattle.vm_facts.specs.declared.stop.Stop.{Stop}
 use Rattle.io_edge.specs.FileHolding.{NamedFile}
 use Rattle.core_map.specs.Frames.{Frames}
 use Rattle.space_map.specs.Space.{Places}
@@ -25,7 +24,7 @@ use Rattle.machine_state.specs.Settled.{IsSameBeside}
 use Rattle.machine_state.specs.Calls.{life_in}
 use Rattle.machine_state.specs.Swapping.{WritesU}
 use Rattle.paging_units.specs.Made.{Made, ground}
-use Rattle.paging_units.specs.Stops.{StopsAmong}
+use Rattle.paging_units.specs.Stops.{Work}
 use Rattle.swapper.specs.declared.putting_out.Step.{Step}
 use Rattle.swapper.specs.declared.putting_out.Step.TheVariants as steps
 
@@ -79,7 +78,6 @@ pub record StillPutting (pid sid : ℕ) (k : Kernel) (us : List Entry) (l : Kern
   pub puts : PutsOut us (length k.journal) k.place pid sid l.place
   pub still : is_out l.place pid ≡ false
 
--- the call stops while it puts the process out
-abbrev pub StopsPutting : ℕ → ℕ → Standing → Stop → Standing → Option (List NamedFile) → Option SwapImage → Option SwapImage → Type 0
-StopsPutting pid sid old stop new holds i j =
-    StopsAmong (ground old holds []) (StillPutting pid sid old.kernel) (λ p. Some (put_out_unit p pid sid)) old new i j stop
+-- the work of putting the process out
+abbrev pub putting_out : ℕ → ℕ → Work
+putting_out pid sid = record { locked = []; Unfinished = StillPutting pid sid; next = λ p. Some (put_out_unit p pid sid) }

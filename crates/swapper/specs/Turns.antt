@@ -11,10 +11,10 @@ use Rattle.machine_state.specs.Machine.{Standing}
 use Rattle.machine_state.specs.Settled.{IsSameBeside}
 use Rattle.machine_state.specs.Done.{KeepsThrough}
 use Rattle.machine_state.specs.Swapping.{IsIn, AsksU, KeepsIn}
-use Rattle.paging_units.specs.Stops.{StopsAt}
+use Rattle.paging_units.specs.Stops.{StopsAt, StopsWhile}
 use Rattle.swapper.specs.declared.Turned.{Turned}
 use Rattle.swapper.specs.declared.Turned.TheVariants as turns
-use Rattle.swapper.specs.Putting.{HoldsThere, PutOut, StopsPutting}
+use Rattle.swapper.specs.Putting.{HoldsThere, PutOut, putting_out}
 
 -- who comes in is out; who goes out is in, and holds a space of its own
 abbrev pub MayTurn : Kernel → Turned → Type 0
@@ -36,7 +36,7 @@ KeepsTurn (turns.In pid) old new holds i j = KeepsIn old.kernel new.kernel pid i
 KeepsTurn (turns.Out pid) old new holds i j = KeepsThrough old new holds i j
 
 -- the turn stops at a unit of what it was to do
-abbrev pub StopsTurning : Turned → Standing → Stop → Standing → Option (List NamedFile) → Option SwapImage → Option SwapImage → Type 0
-StopsTurning turns.Nothing old stop new holds i j = ⊥
-StopsTurning (turns.In pid) old stop new holds i j = StopsAt (entries.SwapIn pid) old.kernel i stop new j
-StopsTurning (turns.Out pid) old stop new holds i j = (sid : ℕ) × HoldsThere old.kernel pid sid × StopsPutting pid sid old stop new holds i j
+abbrev pub StopsTurning : Turned → Standing → Standing → Option (List NamedFile) → Option SwapImage → Option SwapImage → Stop → Type 0
+StopsTurning turns.Nothing old new holds i j stop = ⊥
+StopsTurning (turns.In pid) old new holds i j stop = StopsAt (entries.SwapIn pid) old new i j stop
+StopsTurning (turns.Out pid) old new holds i j stop = (sid : ℕ) × HoldsThere old.kernel pid sid × StopsWhile (putting_out pid sid) old new holds i j stop

@@ -84,10 +84,8 @@ fn carry_out<F: Files, D: SwapDev>(
         (stores F.Files D.SwapDev files.new swap.new)) }
     ensures keeps { OnOk result (KeepsTurn chosen m.old m.new (F.holds files.old) (stores F.Files D.SwapDev files.old swap.old)
         (stores F.Files D.SwapDev files.new swap.new)) }
-    ensures stopped { IfErr result (λ stop. StopsTurning chosen m.old stop m.new (F.holds files.old) (stores F.Files D.SwapDev files.old swap.old)
+    ensures stopped { IfErr result (StopsTurning chosen m.old m.new (F.holds files.old) (stores F.Files D.SwapDev files.old swap.old)
         (stores F.Files D.SwapDev files.new swap.new)) }
-    ensures params_at_stop { OnErr result (m.new.params ≡ m.old.params) }
-    ensures images_at_stop { OnErr result (m.new.images ≡ m.old.images) }
     ensures goes_on { GoesOn F.Files D.SwapDev result m.new files.old files.new swap.old swap.new }
 {
     match chosen {
@@ -113,9 +111,7 @@ pub fn turn<F: Files, D: SwapDev>(
     ensures keeps { IfOk result (λ t. KeepsTurn t m.old m.new (F.holds files.old) (stores F.Files D.SwapDev files.old swap.old)
         (stores F.Files D.SwapDev files.new swap.new)) }
     ensures stopped { IfErr result (λ stop. (t : Chosen) × (choice_of t ≡ swap_choice m.old.kernel.place (runners_of m.old.kernel))
-        × StopsTurning t m.old stop m.new (F.holds files.old) (stores F.Files D.SwapDev files.old swap.old) (stores F.Files D.SwapDev files.new swap.new)) }
-    ensures params_at_stop { OnErr result (m.new.params ≡ m.old.params) }
-    ensures images_at_stop { OnErr result (m.new.images ≡ m.old.images) }
+        × StopsTurning t m.old m.new (F.holds files.old) (stores F.Files D.SwapDev files.old swap.old) (stores F.Files D.SwapDev files.new swap.new) stop) }
     ensures goes_on { GoesOn F.Files D.SwapDev result m.new files.old files.new swap.old swap.new }
 {
     let chosen = choose(m);

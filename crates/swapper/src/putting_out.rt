@@ -20,8 +20,8 @@ ghost use Rattle.machine_state.specs.Settled.{IsSameBeside};
 ghost use Rattle.machine_state.specs.Swapping.{AsksU, IsIn, KeepsIn, KeepsOut};
 ghost use Rattle.machine_state.specs.Outside.{Asks, stop_of, MovesSwapPages, GoesOn};
 ghost use Rattle.paging_units.specs.Made.{ground, MakesUnit};
-ghost use Rattle.paging_units.specs.Stops.{StopsAt};
-ghost use Rattle.swapper.specs.Putting.{HasView, IsOfSegment, IsStepFor, IsStep, IsNext, HoldsThere, PutOut, StopsPutting};
+ghost use Rattle.paging_units.specs.Stops.{StopsAt, StopsWhile};
+ghost use Rattle.swapper.specs.Putting.{HasView, IsOfSegment, IsStepFor, IsStep, IsNext, HoldsThere, PutOut, putting_out};
 
 use crate::seats::{first_seated, is_dirty};
 use io_edge::{Files, SwapDev};
@@ -111,10 +111,8 @@ fn complete<F: Files, D: SwapDev>(m: &mut Machine, files: &mut F, swap: &mut D) 
         (stores F.Files D.SwapDev files.new swap.new)) }
     ensures keeps { OnOk result (KeepsThrough m.old m.new (F.holds files.old) (stores F.Files D.SwapDev files.old swap.old)
         (stores F.Files D.SwapDev files.new swap.new)) }
-    ensures stopped { IfErr result (λ stop. StopsAt entries.Done m.old.kernel (stores F.Files D.SwapDev files.old swap.old) stop m.new
+    ensures stopped { IfErr result (StopsAt entries.Done m.old m.new (stores F.Files D.SwapDev files.old swap.old)
         (stores F.Files D.SwapDev files.new swap.new)) }
-    ensures params { m.new.params ≡ m.old.params }
-    ensures images { m.new.images ≡ m.old.images }
     ensures goes_on { GoesOn F.Files D.SwapDev result m.new files.old files.new swap.old swap.new }
 {
     m.done(files, swap)?;
@@ -133,9 +131,7 @@ fn put_page(m: &mut Machine, sid: u32, page: Page) -> Result<(), Stop>
         → OnOk result (MakesUnit (ground m.old holds []) (entries.Put page (run_put m.old.kernel.place page).n) m.old m.new i i) }
     ensures keeps { OnOk result (KeepsFlat m.old.kernel m.new.kernel) }
     ensures stopped { (i : Option SwapImage)
-        → IfErr result (λ stop. StopsAt (entries.Put page (run_put m.old.kernel.place page).n) m.old.kernel i stop m.new i) }
-    ensures params { m.new.params ≡ m.old.params }
-    ensures images { m.new.images ≡ m.old.images }
+        → IfErr result (StopsAt (entries.Put page (run_put m.old.kernel.place page).n) m.old m.new i i) }
     ensures cause { OnErr result ((result ≡ Err Stop.JournalFull) ⊎ (result ≡ Err Stop.NoMemory)) }
     ensures goes_on { OnOk result (CanGoOn m.new) }
 {
@@ -160,10 +156,8 @@ fn put_once<F: Files, D: SwapDev>(
         (stores F.Files D.SwapDev files.old swap.old) (stores F.Files D.SwapDev files.new swap.new)) }
     ensures keeps { OnOk result (KeepsThrough m.old m.new (F.holds files.old) (stores F.Files D.SwapDev files.old swap.old)
         (stores F.Files D.SwapDev files.new swap.new)) }
-    ensures stopped { IfErr result (λ stop. StopsAt (put_out_unit m.old.kernel.place _pid sid) m.old.kernel (stores F.Files D.SwapDev files.old swap.old) stop
-        m.new (stores F.Files D.SwapDev files.new swap.new)) }
-    ensures params { m.new.params ≡ m.old.params }
-    ensures images { m.new.images ≡ m.old.images }
+    ensures stopped { IfErr result (StopsAt (put_out_unit m.old.kernel.place _pid sid) m.old m.new (stores F.Files D.SwapDev files.old swap.old)
+        (stores F.Files D.SwapDev files.new swap.new)) }
     ensures goes_on { GoesOn F.Files D.SwapDev result m.new files.old files.new swap.old swap.new }
 {
     match step {
@@ -184,7 +178,7 @@ fn leave<D: SwapDev>(m: &mut Machine, swap: &mut D, pid: u32, sid: u32) -> Resul
         (PutOut pid sid m.old m.new holds (with_files notes (D.image swap.old)) (with_files notes (D.image swap.new))) }
     ensures keeps { OnOk result (KeepsOut m.old.kernel m.new.kernel (D.image swap.old) (D.image swap.new)) }
     ensures stopped { (notes : FileNotes) (holds : Option (List NamedFile))
-        → IfErr result (λ stop. StopsPutting pid sid m.old stop m.new holds (with_files notes (D.image swap.old)) (with_files notes (D.image swap.new))) }
+        → IfErr result (StopsWhile (putting_out pid sid) m.old m.new holds (with_files notes (D.image swap.old)) (with_files notes (D.image swap.new))) }
     ensures cause { OnErr result ((result ≡ Err Stop.JournalFull) ⊎ ((result ≡ Err Stop.NoMemory) ⊎ (result ≡ Err Stop.SwapWriteFault))) }
     ensures outside { MovesSwapPages D.SwapDev (stop_of result) swap.old swap.new }
     ensures goes_on { OnOk result (CanGoOn m.new) }
@@ -208,7 +202,7 @@ fn put_all<F: Files, D: SwapDev>(
         (stores F.Files D.SwapDev files.new swap.new)) }
     ensures keeps { OnOk result (KeepsThrough m.old m.new (F.holds files.old) (stores F.Files D.SwapDev files.old swap.old)
         (stores F.Files D.SwapDev files.new swap.new)) }
-    ensures stopped { IfErr result (λ stop. StopsPutting pid sid m.old stop m.new (F.holds files.old) (stores F.Files D.SwapDev files.old swap.old)
+    ensures stopped { IfErr result (StopsWhile (putting_out pid sid) m.old m.new (F.holds files.old) (stores F.Files D.SwapDev files.old swap.old)
         (stores F.Files D.SwapDev files.new swap.new)) }
     ensures goes_on { GoesOn F.Files D.SwapDev result m.new files.old files.new swap.old swap.new }
 {
@@ -249,8 +243,8 @@ pub fn swap_out<F: Files, D: SwapDev>(
     ensures keeps { OnOk result (KeepsThrough m.old m.new (F.holds files.old) (stores F.Files D.SwapDev files.old swap.old)
         (stores F.Files D.SwapDev files.new swap.new)) }
     ensures stopped { IfErr result (λ stop. (sid : ℕ) × HoldsThere m.old.kernel pid sid
-        × StopsPutting pid sid m.old stop m.new (F.holds files.old) (stores F.Files D.SwapDev files.old swap.old)
-        (stores F.Files D.SwapDev files.new swap.new)) }
+        × StopsWhile (putting_out pid sid) m.old m.new (F.holds files.old) (stores F.Files D.SwapDev files.old swap.old)
+        (stores F.Files D.SwapDev files.new swap.new) stop) }
     ensures goes_on { GoesOn F.Files D.SwapDev result m.new files.old files.new swap.old swap.new }
 {
     let sid = held_by(m, pid);
@@ -266,9 +260,7 @@ pub fn swap_in<D: SwapDev>(m: &mut Machine, swap: &mut D, pid: u32) -> Result<()
     ensures beside { OnOk result (IsSameBeside m.old m.new) }
     ensures keeps { OnOk result (KeepsIn m.old.kernel m.new.kernel pid (D.image swap.old) (D.image swap.new)) }
     ensures asked { OnOk result (AsksU m.old.kernel pid (D.image swap.old) (D.image swap.new)) }
-    ensures stopped { IfErr result (λ stop. StopsAt (entries.SwapIn pid) m.old.kernel (D.image swap.old) stop m.new (D.image swap.new)) }
-    ensures params { m.new.params ≡ m.old.params }
-    ensures images { m.new.images ≡ m.old.images }
+    ensures stopped { IfErr result (StopsAt (entries.SwapIn pid) m.old m.new (D.image swap.old) (D.image swap.new)) }
     ensures cause { OnErr result ((result ≡ Err Stop.JournalFull) ⊎ ((result ≡ Err Stop.NoMemory) ⊎ (result ≡ Err Stop.SwapReadFault))) }
     ensures outside { MovesSwapPages D.SwapDev (stop_of result) swap.old swap.new }
     ensures goes_on { OnOk result (CanGoOn m.new) }

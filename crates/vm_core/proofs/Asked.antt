@@ -17,8 +17,8 @@ use Rattle.machine_state.specs.Sourced.{files_named}
 use Rattle.machine_state.specs.Conditions.{HasStopped}
 use Rattle.machine_state.specs.Failing.{LosesFor}
 use Rattle.machine_state.specs.Done.{sources, IsDone, ImageAfter, StopsFor, SwapAfter, StopsEnding}
-use Rattle.journal_laws.specs.Stops.{StopsBefore}
-use Rattle.journal_laws.specs.Moved.{Moved, StopsMoving}
+use Rattle.journal_laws.specs.Stops.{StopsBefore, StopsWhile}
+use Rattle.journal_laws.specs.Moved.{Moved, moving_hands}
 use Rattle.swapper.specs.declared.Turned.{Turned}
 use Rattle.swapper.specs.Runners.{runners_of, choice_of}
 use Rattle.swapper.specs.Turns.{Turns, StopsTurning}
@@ -133,9 +133,9 @@ module _ (old new : Standing) (holds : Option (List NamedFile)) (i j : Option Sw
   hands_steady n made s first few m ready =
       moved_steady old new made s (moves_continue old new n made holds i j s.clear m) first (let most = m.most in omega arith) ready
 
-  pub hands_halt : (n : ℕ) (stop : Stop) → StopsMoving n old stop new holds i j → StopsFrom (LineAt old holds i (events.Hands n)) old new j stop
+  pub hands_halt : (n : ℕ) (stop : Stop) → StopsWhile (moving_hands n) old new holds i j stop → StopsFrom (LineAt old holds i (events.Hands n)) old new j stop
   hands_halt n stop x A s image at =
-      hands_stop A s old new holds image j n stop at.machine at.clear at.mark (subst (λ (o : Option SwapImage). StopsMoving n old stop new holds o j) at.told x)
+      hands_stop A s old new holds image j n stop at.machine at.clear at.mark (subst (λ (o : Option SwapImage). StopsWhile (moving_hands n) old new holds o j stop) at.told x)
 
   -- A turn of the swapper.
 
@@ -149,10 +149,10 @@ module _ (old new : Standing) (holds : Option (List NamedFile)) (i j : Option Sw
 
 module _ (old new : Standing) (holds : Option (List NamedFile)) (i : Option SwapImage) where
   pub swapper_halts : (j : Option SwapImage) (stop : Stop)
-      → ((t : Turned) × (choice_of t ≡ swap_choice old.kernel.place (runners_of old.kernel)) × StopsTurning t old stop new holds i j)
+      → ((t : Turned) × (choice_of t ≡ swap_choice old.kernel.place (runners_of old.kernel)) × StopsTurning t old new holds i j stop)
       → StopsFrom (LineAt old holds i events.Swapper) old new j stop
   swapper_halts j stop x A s image at =
-      swapper_stops A s old new holds image j x.0 stop at.machine at.clear at.mark x.1 (subst (λ (o : Option SwapImage). StopsTurning x.0 old stop new holds o j) at.told x.2)
+      swapper_stops A s old new holds image j x.0 stop at.machine at.clear at.mark x.1 (subst (λ (o : Option SwapImage). StopsTurning x.0 old new holds o j stop) at.told x.2)
 
   -- Numbers of frames and blocks.
 

@@ -20,14 +20,14 @@ use Rattle.machine_state.specs.Files.{AreRunImages}
 use Rattle.machine_state.specs.Machine.{Standing}
 use Rattle.machine_state.specs.Sourced.{ImageNamed}
 use Rattle.step_units.specs.Copying.{IsCopyFirst, CopiesPage, StopsPage, OnceCopied}
-use Rattle.step_units.specs.Filling.{IsStartFirst, FillsStart, StopsStart}
+use Rattle.step_units.specs.Filling.{IsStartFirst, FillsStart, StopsFilling}
 use Rattle.swapper.specs.LastMoves.{last_moves}
 use Rattle.step_units.specs.Ready.{CountsOn, RunsDue, Continues}
 use Rattle.step_units.specs.Sizes.{KeptAtStop}
 use Rattle.step_units.proofs.LinesContinue.{fill_continues}
 use Rattle.step_units.proofs.Running.{runs_self, runs_both, continues}
 use Rattle.step_units.proofs.SpacesContinue.{page_counts}
-use Rattle.step_units.proofs.StopsKeep.{kept_through, start_same, page_same}
+use Rattle.step_units.proofs.StopsKeep.{kept_through, filling_same, page_same}
 use Rattle.run_model.specs.State.{State}
 use Rattle.step_units.specs.RunUnitsFilling.{FillsFirst}
 use Rattle.step_units.specs.Machines.{MachineAt}
@@ -96,7 +96,7 @@ copy_fills r page parent o old new holds i j e m on =
 
 pub start_fills : {A : Type 0} (r : Result A Stop) (page : Page) (o : Option Page) (old new : Standing) (holds : Option (List NamedFile))
     (i j : Option SwapImage) → o ≡ None
-    → MatchResult r (λ x. FillsStart page old new holds i j) (StopsStart page old new holds i j)
+    → MatchResult r (λ x. FillsStart page old new holds i j) (StopsFilling (entries.Zero page) [] old new holds i j)
     → MatchResult r (λ x. FillsDue (due_of page o) old new holds i j) (StopsDue (due_of page o) old new holds i j)
 start_fills r page o old new holds i j e m =
     subst (λ (x : Option Page). MatchResult r (λ y. FillsDue (due_of page x) old new holds i j) (StopsDue (due_of page x) old new holds i j)) (sym e) m
@@ -119,7 +119,7 @@ due_filled (CopyOf q parent) ds old next holds i j e f =
 
 stop_keeps : (d : Due) (old new : Standing) (holds : Option (List NamedFile)) (i j : Option SwapImage) (stop : Stop) → StopsDue d old new holds i j stop
     → KeptAtStop old new stop
-stop_keeps (Start q) old new holds i j stop f = start_same q old new holds i j stop f
+stop_keeps (Start q) old new holds i j stop f = filling_same (entries.Zero q) [] old new holds i j stop f
 stop_keeps (CopyOf q parent) old new holds i j stop f = page_same q parent old new holds i j stop f
 
 -- Its units are next units.
@@ -138,7 +138,7 @@ due_leads (CopyOf q parent) ds A s old next holds image j at e f = page_copied A
 
 start_stops : (A : Inputs) (s : State) (old new : Standing) (holds : Option (List NamedFile)) (image : SwapImage) (j : Option SwapImage) (page : Page)
     (ds : List Due) (stop : Stop) → MachineAt A s old holds image
-    → s.place.due ≡ Start page ∷ ds → StopsStart page old new holds (Some image) j stop → StopLeads A s old.kernel image stop new j
+    → s.place.due ≡ Start page ∷ ds → StopsFilling (entries.Zero page) [] old new holds (Some image) j stop → StopLeads A s old.kernel image stop new j
 start_stops A s old new holds image j page ds stop at e f =
     filling_stops A s old new holds image j (entries.Zero page) [] stop at.at at.images (start_first s page ds e) f
 

@@ -22,7 +22,7 @@ use Rattle.machine_state.specs.Done.{SpoilsAll, SpoilsFirst as SpoilsTransfers, 
 use Rattle.machine_state.specs.Sourced.{files_named}
 use Rattle.machine_state.specs.Machine.{Standing}
 use Rattle.machine_state.specs.Failing.{LosesOldest}
-use Rattle.journal_laws.specs.Stops.{CauseBy, SpoilsBy, StaysPut, StaysStarved, StaysReturned, StopsLess, StopsPut, LeftBy}
+use Rattle.journal_laws.specs.Stops.{CauseBy, SpoilsBy, StaysPut, StaysStarved, StaysReturned, StoppedByFault, LeftBy}
 use Rattle.run_model.specs.State.{State, start}
 use Rattle.run_model.specs.After.{after}
 use Rattle.run_model.specs.Next.{next_unit}
@@ -349,25 +349,26 @@ module _ (A : Inputs) (hs : Holdings) (can : CanRun A hs) (few : length A.first 
         returned = g.2;
       }
 
-      less : StopsLess x.kernel new → LessThere x.state new
-      less h = record {
+      less : (c : Stop) → StoppedByFault c x.kernel new → LosesOldest x.kernel.place new.kernel.place → LessThere x.state new
+      less c h place = record {
         stopped = h.stopped;
-        place = subst (λ (p : Placement). LosesOldest p new.kernel.place) stands_so.place h.place;
+        place = subst (λ (p : Placement). LosesOldest p new.kernel.place) stands_so.place place;
         holdings = h.holdings ∙ stands_so.holdings;
         processes = h.processes ∙ stands_so.keeps.coupled.tables.processes;
       }
 
-      put : StopsPut x.kernel new → StoppedThere x.state new
-      put h = record {
+      put : (c : Stop) → StoppedByFault c x.kernel new → new.kernel.place ≡ x.kernel.place → StoppedThere x.state new
+      put c h place = record {
         stopped = h.stopped;
-        place = h.place ∙ stands_so.place;
+        place = place ∙ stands_so.place;
         holdings = h.holdings ∙ stands_so.holdings;
         processes = h.processes ∙ stands_so.keeps.coupled.tables.processes;
       }
 
-      failed : StopsLess x.kernel new ⊎ StopsPut x.kernel new → LessThere x.state new ⊎ StoppedThere x.state new
-      failed (inl h) = inl (less h)
-      failed (inr h) = inr (put h)
+      failed : (c : Stop) → StoppedByFault c x.kernel new → LosesOldest x.kernel.place new.kernel.place ⊎ (new.kernel.place ≡ x.kernel.place)
+          → LessThere x.state new ⊎ StoppedThere x.state new
+      failed c h (inl place) = inl (less c h place)
+      failed c h (inr place) = inr (put c h place)
 
       starved : new.kernel.stopped ≡ false → StaysStarved x.kernel new ⊎ StaysReturned x.kernel new
           → StarvedThere A x.state new (swap_left A new.kernel.journal image) ⊎ ReturnedThere A x.state new (swap_left A new.kernel.journal image)
@@ -378,9 +379,9 @@ module _ (A : Inputs) (hs : Holdings) (can : CanRun A hs) (few : length A.first 
           → LeftThere A c x.state new (swap_left A new.kernel.journal image)
       by stops.JournalFull h runs = stays h
       by stops.NoMemory h runs = starved (runs refl) (h (runs refl ∙ sym run))
-      by stops.FileFault h runs = less h
-      by stops.SwapReadFault h runs = failed h
-      by stops.SwapWriteFault h runs = failed h
+      by stops.FileFault h runs = less stops.FileFault h h.place
+      by stops.SwapReadFault h runs = failed stops.SwapReadFault h h.place
+      by stops.SwapWriteFault h runs = failed stops.SwapWriteFault h h.place
 
   pub starved_run : j ≡ Some x.behind → RunStarved A new.kernel.journal image j
   starved_run e = record { state = x.state; made = made_so; left = e ∙ ap (λ (b : SwapImage). Some b) behind_is }

@@ -92,11 +92,11 @@ in_comes old new pid counted since holds i j o is params images asks A s image a
         omega arith
 
 pub in_stops : (old new : Standing) (pid counted since : ℕ) (holds : Option (List NamedFile)) (i j : Option SwapImage) (stop : Stop)
-    → is_out old.kernel.place pid ≡ true → StopsAt (entries.SwapIn pid) old.kernel i stop new j
+    → is_out old.kernel.place pid ≡ true → StopsAt (entries.SwapIn pid) old new i j stop
     → StopsFrom (TurnAt old holds i counted since pid) old new j stop
 in_stops old new pid counted since holds i j stop o x A s image at =
     coming_in_stops A s old new holds image j pid since stop at.stands.machine at.clear at.mark at.on (out_there A s old holds i image counted since pid at o)
-    (subst (λ (y : Option SwapImage). StopsAt (entries.SwapIn pid) old.kernel y stop new j) at.stands.told x)
+    (subst (λ (y : Option SwapImage). StopsAt (entries.SwapIn pid) old new y j stop) at.stands.told x)
 
 -- The entry of a turn.
 

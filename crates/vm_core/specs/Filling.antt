@@ -1,13 +1,14 @@
 -- What is due is filled: a new stack page with its bytes, a page of a child by a copy.
-use Rattle.std.specs.Prelude.{◌≡◌, ℕ, List, ◌∷◌, Option, Some, None}
+use Rattle.std.specs.Prelude.{◌≡◌, ℕ, List, [], ◌∷◌, Option, Some, None}
 use Rattle.vm_facts.specs.SwapImages.{SwapImage}
 use Rattle.vm_facts.specs.declared.page.Page.{Page}
+use Rattle.vm_facts.specs.declared.entry.Entry.TheVariants as entries
 use Rattle.vm_facts.specs.declared.stop.Stop.{Stop}
 use Rattle.io_edge.specs.FileHolding.{NamedFile}
 use Rattle.page_model.specs.Placement.{Placement, Due, Start, CopyOf}
 use Rattle.machine_state.specs.Machine.{Standing}
 use Rattle.step_units.specs.Copying.{CopiesPage, StopsPage, OnceCopied}
-use Rattle.step_units.specs.Filling.{FillsStart, StopsStart}
+use Rattle.step_units.specs.Filling.{FillsStart, StopsFilling}
 
 -- what is due of a page, by its parent's page, where it is to be copied from one
 abbrev pub due_of : Page → Option Page → Due
@@ -26,5 +27,5 @@ FillsDue (CopyOf q parent) old new holds before after = CopiesPage q parent old 
 
 -- or the run stops there
 abbrev pub StopsDue : Due → Standing → Standing → Option (List NamedFile) → Option SwapImage → Option SwapImage → Stop → Type 0
-StopsDue (Start q) old new holds before after stop = StopsStart q old new holds before after stop
+StopsDue (Start q) old new holds before after stop = StopsFilling (entries.Zero q) [] old new holds before after stop
 StopsDue (CopyOf q parent) old new holds before after stop = StopsPage q parent old new holds before after stop

@@ -60,7 +60,6 @@ returns-in_err-force_once-clause-stopped g c =
     let j = stores g.F.Files g.D.SwapDev c.force_once.new.files c.force_once.new.swap in
     rw (p.1, p.2) (so.so_far.stops stop new j
     (stops_here c.args.locked.now now stop new (g.F.Files.holds c.loop-m.files) (stores g.F.Files g.D.SwapDev c.loop-m.files c.loop-m.swap) j none
-    c.in_err-force_once.ensures.params c.in_err-force_once.ensures.images
     c.in_err-force_once.ensures.stopped))
 
 pub returns-clause-forced : goal.returns-clause-forced

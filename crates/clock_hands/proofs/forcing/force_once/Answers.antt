@@ -68,7 +68,7 @@ returns-clause-stopped g c =
     let idle : old.kernel.place.transfers ≡ [] = c.in_ok-done.ensures.idle.0 no in
     let image : j ≡ i = image_idle (files_named old.images) old.kernel i j idle c.in_ok-done.ensures.swapped in
     let whole : here.before ≡ here.kernel.holdings = subst (λ (s : Standing). s.before ≡ s.kernel.holdings) (sym same) c.requires.asks.ready.whole in
-    subst (λ (x : Option SwapImage). IfErr c.hand.result (λ stop. StopsAt (force_entry old.kernel.place.transfers) old.kernel i stop new x)) (sym image)
-    (subst (λ (u : Entry). IfErr c.hand.result (λ stop. StopsAt u old.kernel i stop new i)) (sym (ap force_entry idle))
-    (subst (λ (s : Standing). IfErr c.hand.result (λ stop. StopsAt (entries.Hands 1) s.kernel i stop new i)) same
+    subst (λ (x : Option SwapImage). IfErr c.hand.result (λ stop. StopsAt (force_entry old.kernel.place.transfers) old new i x stop)) (sym image)
+    (subst (λ (u : Entry). IfErr c.hand.result (λ stop. StopsAt u old new i i stop)) (sym (ap force_entry idle))
+    (subst (λ (s : Standing). IfErr c.hand.result (λ stop. StopsAt (entries.Hands 1) s new i i stop)) same
     (call_stops c.hand.result (entries.Hands 1) here new i (λ s h. h) (λ s. refl) c.hand.ensures.stops whole)))

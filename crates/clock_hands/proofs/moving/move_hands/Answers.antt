@@ -107,8 +107,7 @@ returns-in_err-move_once-clause-stopped g c =
     let j = stores g.F.Files g.D.SwapDev c.move_once.new.files c.move_once.new.swap in
     rw (p.1, p.2) (so.so_far.stops stop new j
     (stops_moving c.loop-left.left now stop new (g.F.Files.holds c.loop-left.files) (stores g.F.Files g.D.SwapDev c.loop-left.files c.loop-left.swap) j
-    (omega arith) w c.in_err-move_once.ensures.params c.in_err-move_once.ensures.images
-    c.in_err-move_once.ensures.stopped))
+    (omega arith) w c.in_err-move_once.ensures.stopped))
 
 pub returns-clause-moved : goal.returns-clause-moved
 returns-clause-moved g c =

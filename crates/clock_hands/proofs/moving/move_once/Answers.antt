@@ -30,8 +30,8 @@ returns-in_err-hand-clause-stopped g c =
     let i = stores g.F.Files g.D.SwapDev c.args.files.now c.args.swap.now in
     let stops = call_stops c.hand.result (entries.Hands 1) old c.hand.new.self i (λ s h. h) (λ s. refl) c.hand.ensures.stops c.requires.asks.ready.whole in
     let p = err_from_is_err_and c.from_residual-in_err-hand.result c.from_residual-in_err-hand.ensures.1 in
-    rw (p.1, p.2) (subst (λ (u : Entry). StopsAt u old.kernel i c.in_err-hand.field-0.0 c.hand.new.self i) (sym unit)
-    (IfErr-at_err (λ s. StopsAt (entries.Hands 1) old.kernel i s c.hand.new.self i) c.in_err-hand.was stops))
+    rw (p.1, p.2) (subst (λ (u : Entry). StopsAt u old c.hand.new.self i i c.in_err-hand.field-0.0) (sym unit)
+    (IfErr-at_err (λ s. StopsAt (entries.Hands 1) old c.hand.new.self i i s) c.in_err-hand.was stops))
 
 pub returns-clause-moved : goal.returns-clause-moved
 returns-clause-moved g c =

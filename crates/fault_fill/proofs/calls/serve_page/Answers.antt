@@ -1,7 +1,8 @@
 use Rattle.io_edge.specs.WithFiles.{stores}
 use Rattle.std.proofs.Common.{[], false}
 use Rattle.vm_facts.specs.declared.stop.Stop.{Stop}
-use Rattle.fault_fill.specs.Serving.{StopsServing}
+use Rattle.clock_hands.specs.Stops.{StopsWhile}
+use Rattle.fault_fill.specs.Serving.{serving_page}
 use Rattle.fault_fill.specs.Answers.{ServesAs, ServedAs}
 use Rattle.fault_fill.specs.declared.served.Served.{Served}
 use Rattle.fault_fill.proofs.Leading.{match_map}
@@ -19,7 +20,7 @@ returns g c =
     let owner = c.requires.asks.ready.running.sound.owner.frames in
     let can = c.requires.can in
     let serves = λ (a : Served). ServesAs a q old new holds i j in
-    let stops = λ (s : Stop). StopsServing false [] q old new holds i j s in
+    let stops = λ (s : Stop). StopsWhile (serving_page false [] q) old new holds i j s in
     let made = c.serve_on.ensures.served in
     record {
       served = match_map serves (λ a. ServedAs a q old new holds i j) stops stops c.serve_on.result

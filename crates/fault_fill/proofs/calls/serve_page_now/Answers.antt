@@ -1,7 +1,8 @@
 use Rattle.io_edge.specs.WithFiles.{stores}
 use Rattle.std.proofs.Common.{true}
 use Rattle.vm_facts.specs.declared.stop.Stop.{Stop}
-use Rattle.fault_fill.specs.Serving.{StopsServing}
+use Rattle.clock_hands.specs.Stops.{StopsWhile}
+use Rattle.fault_fill.specs.Serving.{serving_page}
 use Rattle.fault_fill.specs.Answers.{ServesNow, ServedNow}
 use Rattle.fault_fill.proofs.Leading.{match_map}
 use Rattle.fault_fill.proofs.Bounds.{match_ok, match_err, calls_low, serves_short, serves_takings, stops_short, spared}
@@ -19,7 +20,7 @@ returns g c =
     let can = c.requires.can in
     let locked = c.args.locked.now in
     let serves = λ (u : Unit {0}). ServesNow locked q old new holds i j in
-    let stops = λ (s : Stop). StopsServing true locked q old new holds i j s in
+    let stops = λ (s : Stop). StopsWhile (serving_page true locked q) old new holds i j s in
     let made = c.serve_now_on.ensures.served in
     record {
       served = match_map serves (λ u. ServedNow locked q old new holds i j) stops stops c.serve_now_on.result

@@ -1,7 +1,8 @@
 use Rattle.io_edge.specs.WithFiles.{stores}
 use Rattle.std.proofs.Common.{◌+◌, ◌≤◌, Bool, true, length, subst, arith}
 use Rattle.page_model.specs.Rank.{rank}
-use Rattle.fault_fill.specs.Serving.{StopsServing}
+use Rattle.clock_hands.specs.Stops.{StopsWhile}
+use Rattle.fault_fill.specs.Serving.{serving_page}
 use Rattle.fault_fill.specs.Units.{GoesFurther, Further}
 use Rattle.fault_fill.specs.Answers.{ServesNow}
 use Rattle.fault_fill.proofs.Serving.{Behind, served_behind, rank_falls}
@@ -50,7 +51,7 @@ returns-then-more-clause-served g t c =
     let j = stores g.F.Files g.D.SwapDev c.serve_now_on.new.files c.serve_now_on.new.swap in
     let f : Further locked q old next holds i h = subst (λ (b : Bool). GoesFurther b locked q old next holds i h) c.if-more.true c.in-Ok.ensures.made in
     match_map (λ u. ServesNow locked q next new later h j) (λ u. ServesNow locked q old new holds i j)
-    (StopsServing true locked q next new later h j) (StopsServing true locked q old new holds i j) c.serve_now_on.result
+    (StopsWhile (serving_page true locked q) next new later h j) (StopsWhile (serving_page true locked q) old new holds i j) c.serve_now_on.result
     (λ u m. served_now_later locked q old next new holds later i h j c.in-Ok.ensures.goes_on.outside.files.holds f.serves m)
     (λ stop m. stops_later true locked q old next new holds later i h j stop c.in-Ok.ensures.goes_on.outside.files.holds f.serves m)
     c.serve_now_on.ensures.served

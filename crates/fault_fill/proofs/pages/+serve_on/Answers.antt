@@ -1,7 +1,8 @@
 use Rattle.io_edge.specs.WithFiles.{stores}
 use Rattle.std.proofs.Common.{◌<◌, [], false, Option, subst, arith}
 use Rattle.page_model.specs.Ownership.{OwnsFrames}
-use Rattle.fault_fill.specs.Serving.{UnitMade, ServesTo, StopsServing}
+use Rattle.clock_hands.specs.Stops.{StopsWhile}
+use Rattle.fault_fill.specs.Serving.{UnitMade, ServesTo, serving_page}
 use Rattle.fault_fill.specs.Units.{ComesTo, AnyUnit}
 use Rattle.fault_fill.specs.Answers.{ServesAs}
 use Rattle.fault_fill.specs.declared.served.Served.{Served}
@@ -61,7 +62,7 @@ returns-in-None-clause-served g t c =
     let any : AnyUnit q old next holds i h = subst (λ (u : Option Served). ComesTo u q old next holds i h) c.in-None.is c.in-Ok.ensures.made in
     let s : ServesTo false [] q old next holds i h = one_serves false [] q old next holds i h c.requires.can (any false []) in
     match_map (λ (a : Served). ServesAs a q next new later h j) (λ (a : Served). ServesAs a q old new holds i j)
-    (StopsServing false [] q next new later h j) (StopsServing false [] q old new holds i j) c.serve_on.result
+    (StopsWhile (serving_page false [] q) next new later h j) (StopsWhile (serving_page false [] q) old new holds i j) c.serve_on.result
     (λ a m. served_later a q old next new holds later i h j c.in-Ok.ensures.goes_on.outside.files.holds s m)
     (λ stop m. stops_later false [] q old next new holds later i h j stop c.in-Ok.ensures.goes_on.outside.files.holds s m)
     c.serve_on.ensures.served

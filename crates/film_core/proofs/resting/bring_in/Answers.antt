@@ -41,7 +41,7 @@ returns-in_err-swap_in-clause-stops g c =
     let stop = c.in_err-swap_in.field-0.0 in
     stops_on c.from_residual.result stop (StopsFrom (RestAt old (marks.BringIn c.args.pid) c.args.counted holds i) old new j) c.from_residual.ensures.1
     (bring_stops old new c.args.pid c.args.counted holds i j stop
-    (in_stops_beside c.args.pid old.kernel (g.D.SwapDev.image c.args.swap.now) (g.D.SwapDev.image c.swap_in.new.swap) stop new (g.F.Files.notes c.args.files.now) c.in_err-swap_in.ensures.stopped))
+    (in_stops_beside c.args.pid old (g.D.SwapDev.image c.args.swap.now) (g.D.SwapDev.image c.swap_in.new.swap) stop new (g.F.Files.notes c.args.files.now) c.in_err-swap_in.ensures.stopped))
 
 pub returns-in_err-swap_in-clause-kept : goal.returns-in_err-swap_in-clause-kept
 returns-in_err-swap_in-clause-kept g c =
@@ -49,5 +49,5 @@ returns-in_err-swap_in-clause-kept g c =
     let new = c.swap_in.new.m in
     let stop = c.in_err-swap_in.field-0.0 in
     stops_on c.from_residual.result stop (KeptAtStop old new) c.from_residual.ensures.1
-    (kept_at (entries.SwapIn c.args.pid) old.kernel (g.D.SwapDev.image c.args.swap.now) (g.D.SwapDev.image c.swap_in.new.swap) old new stop c.swap_in.ensures.params c.swap_in.ensures.images
+    (kept_at (entries.SwapIn c.args.pid) old new (g.D.SwapDev.image c.args.swap.now) (g.D.SwapDev.image c.swap_in.new.swap) stop
     c.in_err-swap_in.ensures.stopped)

@@ -54,4 +54,4 @@ returns-in_err-swap_out-clause-kept g c =
     let x = c.in_err-swap_out.ensures.stopped in
     stops_on c.from_residual.result stop (KeptAtStop old new) c.from_residual.ensures.1
     (kept_turning old new (g.F.Files.holds c.args.files.now) (stores g.F.Files g.D.SwapDev c.args.files.now c.args.swap.now) (stores g.F.Files g.D.SwapDev c.swap_out.new.files c.swap_out.new.swap)
-    (turns.Out c.args.pid) stop x.2.there.params x.2.there.images x)
+    (turns.Out c.args.pid) stop x)

@@ -3,7 +3,8 @@ use Rattle.std.proofs.Common.{ℕ, sym, ◌∙◌, subst}
 use Rattle.std.specs.Prelude.{Result, IfOk, IfErr}
 use Rattle.user_vax.specs.declared.refused.Refused.{Refused}
 use Rattle.machine_state.specs.Machine.{Standing}
-use Rattle.proc_calls.specs.Sizing.{pages_to, MovesEnd, BreakComes, StopsBreaking, StopsBreak}
+use Rattle.proc_calls.specs.Answered.{StopsReading}
+use Rattle.proc_calls.specs.Sizing.{pages_to, MovesEnd, BreakComes, StopsBreaking}
 use Rattle.proc_calls.proofs.sizing.brk.Goals as goal
 
 pub returns-in-Ok-clause-comes : goal.returns-in-Ok-clause-comes
@@ -29,5 +30,5 @@ returns-in-Ok-clause-stops g c =
     let moving =
     subst (λ (x : Standing). IfErr c.move_end.result (StopsBreaking x n c.args.pid (pages_to x.kernel c.args.pid c.in-Ok.address) holds i j))
     c.read_address.ensures.same c.move_end.ensures.stops in
-    subst (λ (r : Result ℕ Refused). IfErr c.move_end.result (StopsBreak m n c.args.pid r holds i j))
+    subst (λ (r : Result ℕ Refused). IfErr c.move_end.result (StopsReading r (λ address. StopsBreaking m n c.args.pid (pages_to m.kernel c.args.pid address) holds) m n i j))
     (sym c.in-Ok.is ∙ c.read_address.ensures.value) moving

@@ -24,9 +24,9 @@ answer-requires-clause-writes c =
     (may_write (kernel_answers c.args.m.now.kernel (space_of_pid c.args.m.now.kernel c.args.pid)) c.args.regs.now c.in_ok-refused.field-0 asked)
 
 pub returns-in_err-refused-clause-stop : goal.returns-in_err-refused-clause-stop
-returns-in_err-refused-clause-stop c =
+returns-in_err-refused-clause-stop c = λ image.
     let cause : c.in_err-refused.field-0.0 ≡ stops.NoMemory = let e = c.in_err-refused.ensures.cause in cc in
     let p = err_from_is_err_and c.from_residual.result c.from_residual.ensures.1 in
     rw (p.1, p.2)
     (out_starved c.args.m.now c.read_bytes-asked.new.m c.args.pid (run (kernel_answers c.args.m.now.kernel (space_of_pid c.args.m.now.kernel c.args.pid)) (write_reply c.args.regs.now))
-    c.in_err-refused.field-0.0 c.read_bytes-asked.ensures.same c.requires.calls.ready.whole cause)
+    image c.in_err-refused.field-0.0 c.read_bytes-asked.ensures.same c.requires.calls.ready.whole cause)

@@ -1,7 +1,21 @@
 use Rattle.io_edge.specs.WithFiles.{stores}
+use Rattle.std.proofs.Common.{◌≡◌, inl, refl}
+use Rattle.std.proofs.lemmas.Result.{err_from_is_err_and}
+use Rattle.vm_facts.specs.declared.stop.Stop.TheVariants as stops
+use Rattle.step_units.proofs.ProcCallsStopping.{starved_before}
 use Rattle.proc_run.proofs.Served.{brought, brought_stops}
 use Rattle.proc_run.proofs.Runs.{kept}
 use Rattle.proc_run.proofs.serving.bring_in.Goals as goal
+
+pub returns-in_err-touched-clause-stops : goal.returns-in_err-touched-clause-stops
+returns-in_err-touched-clause-stops g c =
+    let cause : c.in_err-touched.field-0.0 ≡ stops.NoMemory = let e = c.in_err-touched.ensures.cause in cc in
+    let p = err_from_is_err_and c.from_residual.result c.from_residual.ensures.1 in
+    rw (p.1, p.2) (inl (
+      starved_before c.args.m.now c.touched_before-touched.new.m c.in_err-touched.field-0.0 c.touched_before-touched.ensures.same c.requires.steady.ready.whole cause,
+      cause,
+      refl,
+    ))
 
 pub returns-clause-served : goal.returns-clause-served
 returns-clause-served g c =

@@ -15,4 +15,4 @@ returns-clause-brings c = in_comes
 
 pub returns-clause-bringing_stops : goal.returns-clause-bringing_stops
 returns-clause-bringing_stops c A s old new image j pid stop clear m x =
-    stops_here A s old.kernel image stop new j (entries.SwapIn pid) ((line_asks A s clear.clear).0 pid m) x
+    stops_here A s old image stop new j (entries.SwapIn pid) ((line_asks A s clear.clear).0 pid m) x

@@ -3,18 +3,7 @@ use Rattle.std.proofs.Common.{OnOk, IfErr, sym, subst}
 use Rattle.swapper.specs.declared.Turned.{Turned}
 use Rattle.swapper.specs.Turns.{Turns, KeepsTurn, StopsTurning}
 use Rattle.swapper.proofs.PutUnits.{in_turns, in_keeps_turn, in_stops_turn}
-use Rattle.swapper.proofs.PutStops.{params_put, images_put}
 use Rattle.swapper.proofs.choosing.carry_out.Goals as goal
-
-pub returns-in-Out-clause-params_at_stop : goal.returns-in-Out-clause-params_at_stop
-returns-in-Out-clause-params_at_stop g c =
-    params_put c.swap_out.result c.args.m.now c.swap_out.new.m c.in-Out.pid (g.F.Files.holds c.args.files.now) (stores g.F.Files g.D.SwapDev c.args.files.now c.args.swap.now)
-    (stores g.F.Files g.D.SwapDev c.swap_out.new.files c.swap_out.new.swap) c.swap_out.ensures.stopped
-
-pub returns-in-Out-clause-images_at_stop : goal.returns-in-Out-clause-images_at_stop
-returns-in-Out-clause-images_at_stop g c =
-    images_put c.swap_out.result c.args.m.now c.swap_out.new.m c.in-Out.pid (g.F.Files.holds c.args.files.now) (stores g.F.Files g.D.SwapDev c.args.files.now c.args.swap.now)
-    (stores g.F.Files g.D.SwapDev c.swap_out.new.files c.swap_out.new.swap) c.swap_out.ensures.stopped
 
 pub returns-in-In-clause-did : goal.returns-in-In-clause-did
 returns-in-In-clause-did g c =
@@ -35,7 +24,7 @@ returns-in-In-clause-keeps g c =
 pub returns-in-In-clause-stopped : goal.returns-in-In-clause-stopped
 returns-in-In-clause-stopped g c =
     let holds = g.F.Files.holds c.args.files.now in
-    subst (λ (t : Turned). IfErr c.swap_in.result (λ stop. StopsTurning t c.args.m.now stop c.swap_in.new.m holds (stores g.F.Files g.D.SwapDev c.args.files.now c.args.swap.now)
+    subst (λ (t : Turned). IfErr c.swap_in.result (StopsTurning t c.args.m.now c.swap_in.new.m holds (stores g.F.Files g.D.SwapDev c.args.files.now c.args.swap.now)
     (stores g.F.Files g.D.SwapDev c.args.files.now c.swap_in.new.swap))) (sym c.in-In.is)
     (in_stops_turn c.swap_in.result c.in-In.pid c.args.m.now c.swap_in.new.m holds (g.D.SwapDev.image c.args.swap.now) (g.D.SwapDev.image c.swap_in.new.swap) (g.F.Files.notes c.args.files.now)
     c.swap_in.ensures.stopped)

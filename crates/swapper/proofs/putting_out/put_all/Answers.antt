@@ -55,8 +55,7 @@ returns-in_err-put_once-clause-stopped g c =
     let j = stores g.F.Files g.D.SwapDev c.put_once.new.files c.put_once.new.swap in
     let here = if_err c.put_once.result
     (λ stop s. so.so_far.stops stop new j (stops_here c.args.pid c.args.sid now stop new (g.F.Files.holds c.loop-step.files)
-    (stores g.F.Files g.D.SwapDev c.loop-step.files c.loop-step.swap) j so.puts.resident
-    c.put_once.ensures.params c.put_once.ensures.images s)) c.put_once.ensures.stopped in
+    (stores g.F.Files g.D.SwapDev c.loop-step.files c.loop-step.swap) j so.puts.resident s)) c.put_once.ensures.stopped in
     search (here, rules)
 
 pub returns-clause-put : goal.returns-clause-put

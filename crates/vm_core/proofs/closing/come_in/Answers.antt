@@ -26,7 +26,7 @@ returns-clause-comes g c = λ (counted since : ℕ).
     (stores g.F.Files g.D.SwapDev c.args.files.now c.swap_in.new.swap)
     (c.is_out.ensures.out c.if-not-is_out.false)
     (in_beside c.args.m.now.kernel c.swap_in.new.m.kernel c.args.pid (g.D.SwapDev.image c.args.swap.now) (g.F.Files.notes c.args.files.now) c.in_ok-swap_in.ensures.step)
-    c.swap_in.ensures.params c.swap_in.ensures.images
+    c.in_ok-swap_in.ensures.beside.params c.in_ok-swap_in.ensures.beside.images
     (asks_beside c.args.m.now.kernel c.args.pid (g.D.SwapDev.image c.args.swap.now) (g.D.SwapDev.image c.swap_in.new.swap) (g.F.Files.notes c.args.files.now) c.in_ok-swap_in.ensures.asked)
 
 pub returns-clause-steady : goal.returns-clause-steady
@@ -43,7 +43,7 @@ returns-in_err-swap_in-clause-stops g c =
     let j = stores g.F.Files g.D.SwapDev c.args.files.now c.swap_in.new.swap in
     stops_on c.from_residual.result c.in_err-swap_in.field-0.0 (λ stop. (counted since : ℕ) → StopsFrom (TurnAt old holds i counted since c.args.pid) old new j stop) c.from_residual.ensures.1
     (λ counted since. in_stops old new c.args.pid counted since holds i j c.in_err-swap_in.field-0.0 (c.is_out.ensures.out c.if-not-is_out.false)
-    (in_stops_beside c.args.pid old.kernel (g.D.SwapDev.image c.args.swap.now) (g.D.SwapDev.image c.swap_in.new.swap) c.in_err-swap_in.field-0.0 new
+    (in_stops_beside c.args.pid old (g.D.SwapDev.image c.args.swap.now) (g.D.SwapDev.image c.swap_in.new.swap) c.in_err-swap_in.field-0.0 new
     (g.F.Files.notes c.args.files.now) c.in_err-swap_in.ensures.stopped))
 
 pub returns-in_err-swap_in-clause-kept : goal.returns-in_err-swap_in-clause-kept
@@ -51,5 +51,5 @@ returns-in_err-swap_in-clause-kept g c =
     let old = c.args.m.now in
     let new = c.swap_in.new.m in
     stops_on c.from_residual.result c.in_err-swap_in.field-0.0 (KeptAtStop old new) c.from_residual.ensures.1
-    (kept_at (entries.SwapIn c.args.pid) old.kernel (g.D.SwapDev.image c.args.swap.now) (g.D.SwapDev.image c.swap_in.new.swap) old new c.in_err-swap_in.field-0.0
-    c.swap_in.ensures.params c.swap_in.ensures.images c.in_err-swap_in.ensures.stopped)
+    (kept_at (entries.SwapIn c.args.pid) old new (g.D.SwapDev.image c.args.swap.now) (g.D.SwapDev.image c.swap_in.new.swap) c.in_err-swap_in.field-0.0
+    c.in_err-swap_in.ensures.stopped)

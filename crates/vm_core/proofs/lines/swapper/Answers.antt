@@ -33,4 +33,4 @@ returns-in_err-turn-clause-kept g c =
     stops_on c.from_residual.result c.in_err-turn.field-0.0 (KeptAtStop c.args.m.now c.turn.new.m) c.from_residual.ensures.1
     (kept_turning c.args.m.now c.turn.new.m (g.F.Files.holds c.args.files.now) (stores g.F.Files g.D.SwapDev c.args.files.now c.args.swap.now)
     (stores g.F.Files g.D.SwapDev c.turn.new.files c.turn.new.swap) c.in_err-turn.ensures.stopped.0 c.in_err-turn.field-0.0
-    c.in_err-turn.ensures.params_at_stop c.in_err-turn.ensures.images_at_stop c.in_err-turn.ensures.stopped.2)
+    c.in_err-turn.ensures.stopped.2)

@@ -1,8 +1,10 @@
 use Rattle.io_edge.specs.WithFiles.{stores}
 use Rattle.std.proofs.Common.{◌≡◌, false, sym, ap, ◌∙◌, subst}
+use Rattle.vm_facts.specs.declared.stop.Stop.TheVariants as stops
 use Rattle.machine_state.specs.Machine.{Standing}
 use Rattle.vm_core.proofs.Noting.{stops_on}
-use Rattle.film_core.specs.Films.{Filming, IsFilming, FilmGoes, one_wider, StopsElse, FilmsAt}
+use Rattle.step_units.specs.Stepped.{StopsFrom}
+use Rattle.film_core.specs.Films.{Filming, IsFilming, FilmGoes, one_wider, FilmsAt}
 use Rattle.film_core.proofs.Entered.{starved_film, film_stops, film_fits, film_goes, film_machine}
 use Rattle.film_core.proofs.film.Film.go_on.Goals as goal
 
@@ -18,8 +20,11 @@ returns-in_err-self-inside-clause-stops g c =
     let j = stores g.F.Files g.D.SwapDev c.one_entry.new.files c.one_entry.new.swap in
     let stop = c.in_err-self-inside.field-0.0 in
     let on : f.over ≡ false = ap (λ (x : Filming). x.over) c.self.view_is ∙ c.requires.more in
-    stops_on c.from_residual.result stop (StopsElse (FilmsAt c.args.self.now c.args.lines.now holds i) c.args.self.now.machine new.machine j) c.from_residual.ensures.1
-    (subst (λ (x : Filming). StopsElse (FilmsAt x c.args.lines.now holds i) x.machine new.machine j stop) c.self.view_is
+    stops_on c.from_residual.result stop
+    (λ s. (s ≡ stops.JournalFull → ⊥) × StopsFrom (FilmsAt c.args.self.now c.args.lines.now holds i) c.args.self.now.machine new.machine j s)
+    c.from_residual.ensures.1
+    (subst (λ (x : Filming). (stop ≡ stops.JournalFull → ⊥) × StopsFrom (FilmsAt x c.args.lines.now holds i) x.machine new.machine j stop)
+    c.self.view_is
     (film_stops f new c.args.lines.now holds i j stop on c.in_err-self-inside.ensures.stops))
 
 pub catch_up-requires-clause-few : goal.catch_up-requires-clause-few
