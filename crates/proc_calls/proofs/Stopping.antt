@@ -20,7 +20,7 @@ use Rattle.fault_fill.specs.Growth.{space_of_pid, with_pieces}
 use Rattle.proc_calls.specs.Answered.{StopsReading}
 use Rattle.proc_calls.specs.Leaving.{HasSettled, HasLeftBy, HasLeft, StopsLeaving, StopsAlive}
 use Rattle.proc_calls.specs.Starting.{StopsFinding}
-use Rattle.proc_calls.specs.Writing.{bytes_of, StopsOut}
+use Rattle.proc_calls.specs.Writing.{reply_bytes, StopsOut}
 use Rattle.proc_calls.specs.Sizing.{process_data_pages, StopsPlain, StopsBreaking}
 
 same_stop : {A : Type 0} (s t : Stop) → (let r : Result A Stop = Err s in r) ≡ Err t → s ≡ t
@@ -108,7 +108,7 @@ starved_before m new stop e w c = record {
 
 pub out_starved : (m new : Standing) (pid : ℕ) (read : Result Reply Refused) (image : Option SwapImage) (stop : Stop) → new ≡ m
     → m.before ≡ m.kernel.holdings → stop ≡ stops.NoMemory
-    → StopsReading read (λ reply before after. StopsOut m new pid (bytes_of reply)) m new image image stop
+    → StopsReading read (λ reply before after. StopsOut m new pid (reply_bytes reply)) m new image image stop
 out_starved m new pid (Ok reply) image stop e w c = record { reached = m; far = inl refl; stops = starved_before m new stop e w c }
 out_starved m new pid (Err (Miss address write)) image stop e w c = ((starved_before m new stop e w c, c), refl)
 out_starved m new pid (Err (Below address)) image stop e w c = (starved_before m new stop e w c, refl)

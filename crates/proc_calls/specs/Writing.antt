@@ -23,9 +23,9 @@ IsWriteReply (Ok reply) = IsWrite reply
 IsWriteReply (Err refused) = Unit {0}
 
 -- the bytes of a reply, where it writes any
-abbrev pub bytes_of : Reply → List ℕ
-bytes_of (Writes bytes) = bytes
-bytes_of _ = []
+abbrev pub reply_bytes : Reply → List ℕ
+reply_bytes (Writes bytes) = bytes
+reply_bytes _ = []
 
 -- a write stops before its bytes go out, or after them, before the call's own entry
 abbrev pub StopsOut : Standing → Standing → ℕ → List ℕ → Stop → Type 0

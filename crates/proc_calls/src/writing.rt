@@ -12,7 +12,7 @@ ghost use Rattle.machine_state.specs.UserMemory.{CanLend, kernel_answers};
 ghost use Rattle.fault_fill.specs.Growth.{space_of_pid};
 ghost use Rattle.proc_calls.specs.Answered.{GoneOut, Replied, Comes, StopsReading};
 ghost use Rattle.proc_calls.specs.Callers.{IsCaller};
-ghost use Rattle.proc_calls.specs.Writing.{IsWrite, bytes_of, StopsOut};
+ghost use Rattle.proc_calls.specs.Writing.{IsWrite, reply_bytes, StopsOut};
 
 use crate::replying::{Called, fail, process, refuse, replied_one, reply};
 use flat_model::{Asked, Reply, SystemCall, write_reply};
@@ -76,7 +76,7 @@ fn answer(m: &mut Machine, pid: u32, regs: &Regs, reply: Reply) -> Result<Called
     requires calls { IsCaller m.old pid }
     requires writes { IsWrite reply }
     ensures replied { IfOk result (Replied m.old m.new pid Write regs.now reply) }
-    ensures stop { IfErr result (StopsOut m.old m.new pid (bytes_of reply)) }
+    ensures stop { IfErr result (StopsOut m.old m.new pid (reply_bytes reply)) }
     ensures goes_on { OnOk result (CanGoOn m.new) }
 {
     match reply {
@@ -93,7 +93,7 @@ pub fn write(alloc: Global, m: &mut Machine, pid: u32, regs: &Regs) -> Result<Ca
         (Comes m.old m.new pid Write regs.now (run (kernel_answers m.old.kernel (space_of_pid m.old.kernel pid)) (write_reply regs.now))) }
     ensures stop { (image : Option SwapImage)
         → IfErr result (StopsReading (run (kernel_answers m.old.kernel (space_of_pid m.old.kernel pid)) (write_reply regs.now))
-        (λ reply before after. StopsOut m.old m.new pid (bytes_of reply)) m.old m.new image image) }
+        (λ reply before after. StopsOut m.old m.new pid (reply_bytes reply)) m.old m.new image image) }
     ensures goes_on { OnOk result (CanGoOn m.new) }
 {
     let asked = read_bytes(alloc, m, pid, regs);

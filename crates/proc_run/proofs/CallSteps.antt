@@ -20,7 +20,7 @@ use Rattle.step_units.specs.ProcCallsLeaving.{ExitComes, StopsAlive}
 use Rattle.step_units.specs.Reading.{AreNamed}
 use Rattle.step_units.specs.ProcCallsSizing.{BreakComes, StopsBreaking, pages_to}
 use Rattle.step_units.specs.Starting.{ExecComes, StopsExec}
-use Rattle.step_units.specs.Writing.{StopsOut, bytes_of}
+use Rattle.step_units.specs.Writing.{StopsOut, reply_bytes}
 use Rattle.run_model.specs.State.{State}
 use Rattle.step_units.specs.Machines.{RunsOn, MakesCall}
 use Rattle.step_units.specs.Stepped.{CallLeads, StopLeads}
@@ -79,7 +79,7 @@ module _ (A : Inputs) (s : State) (old new : Standing) (holds : Option (List Nam
   call_stops system_calls.Fork j stop m h = fork_stops A s old new holds image j pid now p x effect stop on m h
   call_stops system_calls.Write j stop m h =
       stop_told stop j h.1 (write_stops A s old new holds image pid now p x effect stop on m
-      (subst (λ (a : Answers). StopsReading (run a (write_reply effect.regs)) (λ reply before after. StopsOut old new pid (bytes_of reply)) old new (Some image) (Some image) stop) own h.0))
+      (subst (λ (a : Answers). StopsReading (run a (write_reply effect.regs)) (λ reply before after. StopsOut old new pid (reply_bytes reply)) old new (Some image) (Some image) stop) own h.0))
   call_stops system_calls.Break j stop m h =
       break_stops A s old new holds image j pid now p x effect stop on m
       (subst (λ (a : Answers). StopsReading (run a (argument effect.regs 1)) (λ address. StopsBreaking old new pid (pages_to old.kernel pid address) holds) old new (Some image) j stop) own h)

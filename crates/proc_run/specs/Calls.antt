@@ -29,7 +29,7 @@ use Rattle.step_units.specs.Reading.{AreNamed}
 use Rattle.step_units.specs.ProcCallsSizing.{BreakComes, StopsBreaking, pages_to}
 use Rattle.step_units.specs.Starting.{ExecComes, StopsExec}
 use Rattle.step_units.specs.Waiting.{wait_answer}
-use Rattle.step_units.specs.Writing.{StopsOut, bytes_of}
+use Rattle.step_units.specs.Writing.{StopsOut, reply_bytes}
 use Rattle.step_units.specs.Growth.{space_of_pid}
 
 -- what a process reads of its space, over the frames
@@ -61,7 +61,7 @@ CallStops system_calls.Exit old new pid regs holds i j stop =
     StopsReading (run (own_answers old pid) (exit_reply regs)) (λ reply. StopsAlive old new pid holds) old new i j stop
 CallStops system_calls.Fork old new pid regs holds i j stop = StopsForking old new pid regs holds i j stop
 CallStops system_calls.Write old new pid regs holds i j stop =
-    StopsReading (run (own_answers old pid) (write_reply regs)) (λ reply before after. StopsOut old new pid (bytes_of reply)) old new i i stop × (j ≡ i)
+    StopsReading (run (own_answers old pid) (write_reply regs)) (λ reply before after. StopsOut old new pid (reply_bytes reply)) old new i i stop × (j ≡ i)
 CallStops system_calls.Break old new pid regs holds i j stop =
     StopsReading (run (own_answers old pid) (argument regs 1)) (λ address. StopsBreaking old new pid (pages_to old.kernel pid address) holds) old new i j stop
 CallStops system_calls.Getpid old new pid regs holds i j stop = StopsBefore old new stop × (j ≡ i)

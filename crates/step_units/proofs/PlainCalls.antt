@@ -26,7 +26,7 @@ use Rattle.flat_model.specs.Step.{call_entry, reply_asked, replied_step}
 use Rattle.proc_calls.specs.Answered.{GoneOut, StopsReading}
 use Rattle.proc_calls.specs.Callers.{parent_of}
 use Rattle.proc_calls.specs.Waiting.{wait_by_records, wait_answer}
-use Rattle.proc_calls.specs.Writing.{IsWriteReply, StopsOut, bytes_of}
+use Rattle.proc_calls.specs.Writing.{IsWriteReply, StopsOut, reply_bytes}
 use Rattle.proc_calls.proofs.Writes.{may_write}
 use Rattle.run_units.specs.Shown.{IsCallOf}
 use Rattle.run_model.specs.State.{State}
@@ -146,13 +146,13 @@ stops_writing : (A : Inputs) (s : State) (old new : Standing) (holds : Option (L
     (x : Space) (effect : Effect)
     (reply : Reply) (stop : Stop)
     → RunsOn A s old holds image pid now p x → IsCallOf effect system_calls.Write → IsCalledFor A s p x system_calls.Write effect (Ok reply) → IsQuiet reply
-    → StopsOut old new pid (bytes_of reply) stop → StopLeads A s old.kernel image stop new (Some image)
+    → StopsOut old new pid (reply_bytes reply) stop → StopLeads A s old.kernel image stop new (Some image)
 stops_writing A s old new holds image pid now p x effect reply stop h m c q g = go reply refl g.far
   where
     first : g.reached ≡ old → StopLeads A s old.kernel image stop new (Some image)
     first e = stops_quiet A s old new holds image pid now p x effect system_calls.Write (Ok reply) stop h m c q (subst (λ (n : Standing). StopsBefore n new stop) e g.stops)
 
-    go : (y : Reply) → reply ≡ y → (g.reached ≡ old) ⊎ GoneOut old g.reached pid (bytes_of y) → StopLeads A s old.kernel image stop new (Some image)
+    go : (y : Reply) → reply ≡ y → (g.reached ≡ old) ⊎ GoneOut old g.reached pid (reply_bytes y) → StopLeads A s old.kernel image stop new (Some image)
     go y e (inl same) = first same
     go (Fails error) e (inr out) = first out
     go (Does regs change) e (inr out) = first out
@@ -175,7 +175,7 @@ write_stops A s old new holds image pid now p x effect stop h m g =
     (quiet_write (run memory (write_reply effect.regs)) (may_write memory effect.regs (run memory (write_reply effect.regs)) refl)) g
   where
     go : (r : Result Reply Refused) → run (kernel_answers old.kernel x.sid) (reply_asked A.images s.point.flat p x system_calls.Write effect) ≡ r → IsQuietRead r
-        → StopsReading r (λ reply before after. StopsOut old new pid (bytes_of reply)) old new (Some image) (Some image) stop
+        → StopsReading r (λ reply before after. StopsOut old new pid (reply_bytes reply)) old new (Some image) (Some image) stop
         → StopLeads A s old.kernel image stop new (Some image)
     go (Ok reply) e q y =
         stops_writing A s old new holds image pid now p x effect reply stop h m.names (ready A s old holds image pid now p x effect system_calls.Write (Ok reply) h m e tt) q y

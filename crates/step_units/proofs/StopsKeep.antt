@@ -38,7 +38,7 @@ use Rattle.proc_calls.specs.Leaving.{HasSettled, HasLeftBy, HasLeft, StopsLeavin
 use Rattle.proc_calls.specs.Making.{without_pieces, FindsNone, MakesChildBy, StopsMaking}
 use Rattle.proc_calls.specs.Sizing.{StopsPlain, StopsBreaking, pages_to}
 use Rattle.proc_calls.specs.Starting.{image_found, HasStarted, LeavesFor, StopsFinding, StopsExec}
-use Rattle.proc_calls.specs.Writing.{bytes_of, StopsOut}
+use Rattle.proc_calls.specs.Writing.{reply_bytes, StopsOut}
 use Rattle.step_units.specs.Sizes.{SameSizes, KeptAtStop}
 
 pub same_through : (a b c : Standing) → SameSizes a b → SameSizes b c → SameSizes a c
@@ -280,10 +280,10 @@ break_same old new pid (Ok address) holds i j stop h = moving_same old new pid _
 break_same old new pid (Err refused) holds i j stop h = reading_same old new refused stop h.0
 
 pub written_same : (old new : Standing) (pid : ℕ) (r : Result Reply Refused) (i : Option SwapImage) (stop : Stop)
-    → StopsReading r (λ reply before after. StopsOut old new pid (bytes_of reply)) old new i i stop → KeptAtStop old new stop
+    → StopsReading r (λ reply before after. StopsOut old new pid (reply_bytes reply)) old new i i stop → KeptAtStop old new stop
 written_same old new pid (Ok reply) i stop h =
-    once_before old new stop (λ m. (m ≡ old) ⊎ GoneOut old m pid (bytes_of reply)) (λ m f. elim f [
+    once_before old new stop (λ m. (m ≡ old) ⊎ GoneOut old m pid (reply_bytes reply)) (λ m f. elim f [
       | inl e ↦ equal_same old m e
-      | inr g ↦ out_same old m pid (bytes_of reply) g
+      | inr g ↦ out_same old m pid (reply_bytes reply) g
     ]) h
 written_same old new pid (Err refused) i stop h = reading_same old new refused stop h.0

@@ -21,7 +21,7 @@ use Rattle.proc_calls.specs.declared.replying.Called.{Called}
 use Rattle.proc_calls.specs.Callers.{parent_of}
 use Rattle.proc_calls.specs.Answered.{Replied, Comes, StopsRefused, StopsReading}
 use Rattle.proc_calls.specs.Waiting.{wait_answer}
-use Rattle.proc_calls.specs.Writing.{bytes_of, StopsOut}
+use Rattle.proc_calls.specs.Writing.{reply_bytes, StopsOut}
 use Rattle.run_model.specs.State.{State}
 use Rattle.step_units.specs.Machines.{RunsOn, MakesCall}
 use Rattle.step_units.specs.Stepped.{CallLeads, StopLeads}
@@ -96,6 +96,6 @@ WriteStops =
     (A : Inputs) (s : State) (old new : Standing) (holds : Option (List NamedFile)) (image : SwapImage) (pid : ℕ) (now : Bool) (p : Process) (x : Space)
     (effect : Effect) (stop : Stop)
     → RunsOn A s old holds image pid now p x → MakesCall old p x effect system_calls.Write
-    → StopsReading (run (kernel_answers old.kernel x.sid) (write_reply effect.regs)) (λ reply before after. StopsOut old new pid (bytes_of reply)) old new
+    → StopsReading (run (kernel_answers old.kernel x.sid) (write_reply effect.regs)) (λ reply before after. StopsOut old new pid (reply_bytes reply)) old new
     (Some image) (Some image) stop
     → StopLeads A s old.kernel image stop new (Some image)
