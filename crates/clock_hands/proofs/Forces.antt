@@ -1,5 +1,5 @@
 -- Forcing a frame, unit by unit.
-use Rattle.std.proofs.Common.{◌≡◌, ℕ, ◌+◌, ◌<◌, ◌≤◌, ◌^◌, false, List, [], ◌∷◌, length, Option, Some, refl, sym, ap, ◌∙◌, subst, arith}
+use Rattle.std.proofs.Common.{◌≡◌, ℕ, ◌+◌, ◌<◌, ◌≤◌, ◌^◌, false, List, [], ◌∷◌, length, Option, refl, sym, ap, ◌∙◌, subst, arith}
 use Rattle.vm_facts.specs.SwapImages.{SwapImage}
 use Rattle.vm_facts.specs.declared.page.Page.{Page}
 use Rattle.vm_facts.specs.declared.entry.Entry.{Entry}
@@ -27,7 +27,7 @@ use Rattle.paging_units.specs.Stops.{StopsAt, StopsWhile}
 use Rattle.paging_units.proofs.Units.{unit_journal, forced_place, made_journal, makes_none, makes_first, makes_on}
 use Rattle.paging_units.proofs.LastMoves.{last_done, last_more}
 use Rattle.paging_units.proofs.Stopping.{stops_at_first, stops_after_unit}
-use Rattle.clock_hands.specs.Forced.{Forced, StillForcing, forcing_frame}
+use Rattle.clock_hands.specs.Forced.{Forced, forcing_frame}
 use Rattle.clock_hands.proofs.Units.{keeps_on}
 
 pub none_free : (free : List ℕ) → length free ≤ 0 → free ≡ []

@@ -29,7 +29,7 @@ use Rattle.paging_units.specs.Stops.{StopsAt, StopsWhile}
 use Rattle.paging_units.proofs.Units.{unit_place, unit_journal, makes_none, makes_first, makes_on}
 use Rattle.paging_units.proofs.LastMoves.{last_done, last_more}
 use Rattle.paging_units.proofs.Stopping.{stops_at_first, stops_after_unit}
-use Rattle.clock_hands.specs.Moved.{Moves, IsMoveOf, Moved, StillMoving, moving_hands}
+use Rattle.clock_hands.specs.Moved.{Moves, IsMoveOf, Moved, moving_hands}
 use Rattle.clock_hands.proofs.Units.{keeps_on}
 
 -- the hands move where no write begins, or where there is room for it

@@ -13,7 +13,6 @@ use Rattle.io_edge.specs.FileHolding.{NamedFile}
 use Rattle.user_vax.specs.declared.refused.Refused.{Refused}
 use Rattle.user_vax.specs.declared.refused.Refused.TheVariants.{Miss, Below, Signal}
 use Rattle.swap_book.specs.Holdings.{Holdings}
-use Rattle.kernel_model.specs.Kernel.{Kernel}
 use Rattle.flat_state.specs.declared.change.Change.{Change}
 use Rattle.flat_state.specs.declared.change.Change.TheVariants.{Exec}
 use Rattle.flat_model.specs.declared.calls.SystemCall.{SystemCall}

@@ -63,7 +63,7 @@ use Rattle.paging_units.proofs.Stopping.{plain_longer, moved_left, stops_at_firs
 use Rattle.swapper.specs.declared.Turned.TheVariants as turns
 use Rattle.swapper.specs.declared.putting_out.Step.{Step}
 use Rattle.swapper.specs.declared.putting_out.Step.TheVariants as steps
-use Rattle.swapper.specs.Putting.{IsOfSegment, IsStep, IsNext, HoldsThere, PutOut, StillPutting, putting_out}
+use Rattle.swapper.specs.Putting.{IsOfSegment, IsStep, IsNext, HoldsThere, PutOut, putting_out}
 use Rattle.swapper.specs.Turns.{Turns, KeepsTurn, StopsTurning}
 
 -- The first page in a frame off the free list.

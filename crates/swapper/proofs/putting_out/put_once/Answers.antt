@@ -2,7 +2,6 @@ use Rattle.io_edge.specs.WithFiles.{stores}
 use Rattle.std.proofs.Common.{IfErr, None, OnOk, [], refl, sym, subst}
 use Rattle.std.proofs.lemmas.Result.{on_ok_weaker}
 use Rattle.vm_facts.specs.declared.entry.Entry.{Entry}
-use Rattle.vm_facts.specs.declared.stop.Stop.{Stop}
 use Rattle.paging_units.specs.Made.{ground, MakesUnit}
 use Rattle.paging_units.specs.Stops.{StopsAt}
 use Rattle.paging_units.proofs.Keeping.{keeps_flat}
