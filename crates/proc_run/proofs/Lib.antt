@@ -10,6 +10,7 @@ pub mod CallSteps
 pub mod CallsMissed
 pub mod CallsGoOn
 pub mod Made
+mod WriteHalts
 pub mod Served
 pub mod Marks
 pub mod SoFar
